@@ -2,5 +2,9 @@
 #![tactic(auto)]
 
 mod bytes;
+mod item;
+mod segment;
 
 pub use bytes::Bytes;
+pub use item::Item;
+pub use segment::Segment;

@@ -1,0 +1,9 @@
+pub mod Table
+pub mod Numbers
+pub mod Sequences
+pub mod Placed
+pub mod Plain
+pub mod Written
+pub mod Woven
+pub mod Bounds
+pub mod Texts

@@ -1,0 +1,34 @@
+-- What is printed. Each line ends with a newline.
+use Rattle.std.specs.Prelude.{ℕ, List, ◌++◌, codes, Option, Some, None}
+use Rattle.std.specs.Fmt.{decimal}
+
+-- a bound, or `none`
+abbrev pub bound_text : Option ℕ → List ℕ
+bound_text None = codes "none"
+bound_text (Some bound) = decimal bound
+
+-- the line about an output: bytes of code, entries, pieces, bytes of a half, and the bounds in steps
+abbrev pub transform_line : ℕ → ℕ → ℕ → ℕ → ℕ → Option ℕ → List ℕ
+transform_line code entries pieces half register word =
+    codes "code " ++ (decimal code ++ (codes " bytes, entries " ++ (decimal entries ++ (codes ", pieces " ++ (decimal pieces
+    ++ (codes ", half " ++ (decimal half ++ (codes ", register bound " ++ (decimal register ++ (codes ", word bound " ++ (bound_text word
+    ++ codes "\n")))))))))))
+
+abbrev pub usage_line : List ℕ
+usage_line = codes "usage: not built yet\n"
+
+abbrev pub read_fault_line : List ℕ
+read_fault_line = codes "read fault\n"
+
+-- the greatest size of a loaded file, in bytes
+abbrev pub load_limit : ℕ
+load_limit = 67108864
+
+abbrev pub load_limit_line : List ℕ
+load_limit_line = codes "limit L1: over 67108864\n"
+
+abbrev pub magic_line : List ℕ
+magic_line = codes "refused E1: magic\n"
+
+abbrev pub not_built_line : List ℕ
+not_built_line = codes "refused E0: not built yet\n"
