@@ -102,14 +102,22 @@ pub record IsPlain (file : List ℕ) : Type 0 where
   pub ascend : (k : ℕ) → k + 1 < e_phnum file → p_vaddr file k + p_memsz file k ≤ p_vaddr file (k + 1)
 
 -- ---- first files
+-- ADDI or ADD
+abbrev pub IsSum : Ins → Type 0
+IsSum i = (i.kind ≡ Addi) ⊎ (i.kind ≡ Add)
+
+-- no register above x13
+pub record IsLow (i : Ins) : Type 0 where
+  pub rd : i.rd ≤ 13
+  pub rs1 : i.rs1 ≤ 13
+  pub rs2 : i.rs2 ≤ 13
+
 -- a word of ADDI or ADD that names no register above x13
 pub record IsStraight (word : ℕ) : Type 0 where
   pub instruction : Ins
   pub decodes : decode_of word ≡ Some instruction
-  pub kind : (instruction.kind ≡ Addi) ⊎ (instruction.kind ≡ Add)
-  pub rd : instruction.rd ≤ 13
-  pub rs1 : instruction.rs1 ≤ 13
-  pub rs2 : instruction.rs2 ≤ 13
+  pub sum : IsSum instruction
+  pub low : IsLow instruction
 
 -- 1 to 17 words, of which the last is ECALL and every other is straight
 pub record IsStraightCode (words : List ℕ) : Type 0 where

@@ -7,12 +7,18 @@ abbrev pub bound_text : Option ℕ → List ℕ
 bound_text None = codes "none"
 bound_text (Some bound) = decimal bound
 
--- the line about an output: bytes of code, entries, pieces, bytes of a half, and the bounds in steps
+-- bytes of code, entries, pieces, bytes of a half
+abbrev pub sizes_text : ℕ → ℕ → ℕ → ℕ → List ℕ
+sizes_text code entries pieces half =
+    codes "code " ++ (decimal code ++ (codes " bytes, entries " ++ (decimal entries ++ (codes ", pieces " ++ (decimal pieces ++ (codes ", half " ++ decimal half))))))
+
+-- the bounds of a register and of a word, in steps
+abbrev pub bounds_text : ℕ → Option ℕ → List ℕ
+bounds_text register word = codes "register bound " ++ (decimal register ++ (codes ", word bound " ++ bound_text word))
+
+-- the line about an output
 abbrev pub transform_line : ℕ → ℕ → ℕ → ℕ → ℕ → Option ℕ → List ℕ
-transform_line code entries pieces half register word =
-    codes "code " ++ (decimal code ++ (codes " bytes, entries " ++ (decimal entries ++ (codes ", pieces " ++ (decimal pieces
-    ++ (codes ", half " ++ (decimal half ++ (codes ", register bound " ++ (decimal register ++ (codes ", word bound " ++ (bound_text word
-    ++ codes "\n")))))))))))
+transform_line code entries pieces half register word = sizes_text code entries pieces half ++ (codes ", " ++ (bounds_text register word ++ codes "\n"))
 
 abbrev pub usage_line : List ℕ
 usage_line = codes "usage: not built yet\n"

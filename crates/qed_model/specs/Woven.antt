@@ -1,5 +1,5 @@
 -- What is woven from a first file.
-use Rattle.std.specs.Prelude.{◌≡◌, ℕ, ◌+◌, ◌*◌, ◌^◌, ◌<◌, List, [], ◌∷◌, ◌++◌, length, All}
+use Rattle.std.specs.Prelude.{◌≡◌, ℕ, ◌+◌, ◌*◌, ◌^◌, ◌<◌, List, [], ◌∷◌, ◌++◌, length, slice_index}
 use Rattle.rv_isa.specs.declared.ins.Ins.{Ins}
 use Rattle.qed_model.specs.declared.segment.Segment.{Segment}
 use Rattle.qed_model.specs.Numbers.{words_of, bytes_of}
@@ -35,6 +35,6 @@ pub record Woven (input output : List ℕ) : Type 0 where
   pub body : List Ins
   pub source : Decode (words_of (segment_bytes input 0)) (body ++ ecall ∷ [])
   pub words : List ℕ
-  pub small : All (λ word. word < 2 ^ 32) words
+  pub small : (k : ℕ) → slice_index words k < 2 ^ 32
   pub code : Decode words (placed code_base (woven_items 1 half [] image_base (body ∷ [])))
   pub file : output ≡ plain_file code_base 0 (woven_segments (segment_bytes input 0) words)

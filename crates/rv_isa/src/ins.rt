@@ -1,6 +1,9 @@
 // Instructions.
+ghost use Rattle.std.specs.Prelude.{◌≡◌};
+ghost use Rattle.rv_isa.specs.Kind.{class_of, writes_rd, reads_rs1, reads_rs2, has_immediate};
+ghost use Rattle.rv_isa.specs.Ins.{nop, named, writes, reads};
 
-use crate::{Kind, Reg};
+use crate::{Class, Kind, Reg};
 
 /// An instruction. A field that the kind's format does not have is 0.
 #[derive(Clone, Copy, Debug, PartialEq, Eq)]
@@ -15,4 +18,165 @@ pub struct Ins {
     pub rs2: Reg,
     /// The immediate, in the unit of bytes where it is an offset.
     pub imm: i64,
+}
+
+/// The register where the instruction has the field, None for x0.
+fn named(has_field: bool, r: Reg) -> Option<Reg>
+    ensures { result ≡ named has_field r }
+{
+    if has_field && r.number() != 0 {
+        Some(r)
+    } else {
+        None
+    }
+}
+
+impl Ins {
+    /// `addi x0, x0, 0`, the instruction that changes nothing but the pc (RISC-V unprivileged
+    /// manual, "NOP Instruction").
+    pub fn nop() -> Ins
+        ensures { result ≡ nop }
+    {
+        let zero = Reg::new(0).unwrap();
+        Ins {
+            kind: Kind::Addi,
+            rd: zero,
+            rs1: zero,
+            rs2: zero,
+            imm: 0,
+        }
+    }
+
+    /// The register that the instruction writes. It is None where that is x0, where the format has
+    /// no rd, and for FENCE.
+    pub fn writes(&self) -> Option<Reg>
+        ensures { result ≡ writes self.now }
+    {
+        named(self.writes_rd(), self.rd)
+    }
+
+    /// The registers that the instruction reads: rs1 and rs2. Each is None where it is x0, where
+    /// the format does not have it, and for FENCE.
+    pub fn reads(&self) -> (Option<Reg>, Option<Reg>)
+        ensures { result ≡ reads self.now }
+    {
+        (
+            named(self.reads_rs1(), self.rs1),
+            named(self.reads_rs2(), self.rs2),
+        )
+    }
+
+    /// What the instruction does, by its kind.
+    pub fn class(&self) -> Class
+        ensures { result ≡ class_of self.now.kind }
+    {
+        match self.kind {
+            Kind::Illegal => Class::Illegal,
+            Kind::Jal => Class::Jump,
+            Kind::Jalr => Class::JumpReg,
+            Kind::Beq | Kind::Bne | Kind::Blt | Kind::Bge | Kind::Bltu | Kind::Bgeu =>
+                Class::Branch,
+            Kind::Lb | Kind::Lh | Kind::Lw | Kind::Ld | Kind::Lbu | Kind::Lhu | Kind::Lwu => {
+                Class::Load
+            }
+            Kind::Sb | Kind::Sh | Kind::Sw | Kind::Sd => Class::Store,
+            Kind::Fence => Class::Fence,
+            Kind::Ecall => Class::End,
+            Kind::Ebreak => Class::Break,
+            _ => Class::Compute,
+        }
+    }
+
+    fn writes_rd(&self) -> bool
+        ensures { result ≡ writes_rd (class_of self.now.kind) }
+    {
+        match self.class() {
+            Class::Compute | Class::Load | Class::Jump | Class::JumpReg => true,
+            _ => false,
+        }
+    }
+
+    fn reads_rs1(&self) -> bool
+        ensures { result ≡ reads_rs1 (class_of self.now.kind) self.now.kind }
+    {
+        match self.class() {
+            Class::Compute => !matches!(self.kind, Kind::Lui | Kind::Auipc),
+            Class::Load | Class::Store | Class::Branch | Class::JumpReg => true,
+            _ => false,
+        }
+    }
+
+    fn reads_rs2(&self) -> bool
+        ensures { result ≡ reads_rs2 (class_of self.now.kind) self.now.kind }
+    {
+        match self.class() {
+            Class::Compute => !self.has_immediate(),
+            Class::Store | Class::Branch => true,
+            _ => false,
+        }
+    }
+
+    fn has_immediate(&self) -> bool
+        ensures { result ≡ has_immediate self.now.kind }
+    {
+        match self.kind {
+            Kind::Lui | Kind::Auipc => true,
+            Kind::Addi | Kind::Slti | Kind::Sltiu | Kind::Xori | Kind::Ori | Kind::Andi => true,
+            Kind::Slli | Kind::Srli | Kind::Srai => true,
+            Kind::Addiw | Kind::Slliw | Kind::Srliw | Kind::Sraiw => true,
+            _ => false,
+        }
+    }
+}
+
+#[cfg(test)]
+mod tests {
+    use super::*;
+    use std::test::Fail;
+
+    #[test]
+    fn registers_of_each_class(rt: HostRuntime) -> Result<(), Fail> {
+        let rd = Reg::new(1).ok_or("a register")?;
+        let rs1 = Reg::new(2).ok_or("a register")?;
+        let rs2 = Reg::new(3).ok_or("a register")?;
+        for (kind, class, writes, reads) in [
+            (Kind::Illegal, Class::Illegal, None, (None, None)),
+            (Kind::Lui, Class::Compute, Some(rd), (None, None)),
+            (Kind::Slliw, Class::Compute, Some(rd), (Some(rs1), None)),
+            (
+                Kind::Mulhsu,
+                Class::Compute,
+                Some(rd),
+                (Some(rs1), Some(rs2)),
+            ),
+            (Kind::Lwu, Class::Load, Some(rd), (Some(rs1), None)),
+            (Kind::Sb, Class::Store, None, (Some(rs1), Some(rs2))),
+            (Kind::Bgeu, Class::Branch, None, (Some(rs1), Some(rs2))),
+            (Kind::Jal, Class::Jump, Some(rd), (None, None)),
+            (Kind::Jalr, Class::JumpReg, Some(rd), (Some(rs1), None)),
+            (Kind::Fence, Class::Fence, None, (None, None)),
+            (Kind::Ecall, Class::End, None, (None, None)),
+            (Kind::Ebreak, Class::Break, None, (None, None)),
+        ] {
+            let ins = Ins {
+                kind,
+                rd,
+                rs1,
+                rs2,
+                imm: 0,
+            };
+            assert_eq!(rt; ins.class(), class, "{kind:?}");
+            assert_eq!(rt; ins.writes(), writes, "{kind:?}");
+            assert_eq!(rt; ins.reads(), reads, "{kind:?}");
+        }
+        Ok(())
+    }
+
+    #[test]
+    fn nop_names_no_register(rt: HostRuntime) {
+        let nop = Ins::nop();
+        assert_eq!(rt; (nop.kind, nop.imm), (Kind::Addi, 0));
+        assert_eq!(rt; nop.writes(), None);
+        assert_eq!(rt; nop.reads(), (None, None));
+    }
 }

@@ -1,11 +1,19 @@
-//! Registers and instructions of RV64IM: the registers by number, the kinds of instruction, and an
-//! instruction as its kind and fields.
+//! The registers and instructions of RV64IM, and the numbers that the registers hold.
+//!
+//! Says which registers an instruction writes and reads and which class it is of, and gets and
+//! sets the fields of an instruction's word.
 #![tactic(auto)]
 
+mod class;
+mod field;
 mod ins;
 mod kind;
 mod reg;
+mod regs;
 
+pub use class::Class;
+pub use field::Field;
 pub use ins::Ins;
 pub use kind::Kind;
 pub use reg::Reg;
+pub use regs::Regs;

@@ -3,7 +3,7 @@ ghost use Rattle.std.specs.Prelude.{◌≡◌, ◌≢◌, ◌+◌, ◌<◌, ◌�
 
 use std::marker::Model;
 
-/// A register, by its number from 0 to 31.
+/// A register, by its number from 0 to 31: x0 to x31.
 #[derive(Clone, Copy, Debug, PartialEq, Eq)]
 pub struct Reg {
     number: u8,
@@ -27,7 +27,11 @@ impl Reg {
         ensures known { IsSome result ↔ (n < 32) }
         ensures value { IfSome result (λ r. r ≡ n) }
     {
-        if n < 32 { Some(Reg { number: n }) } else { None }
+        if n < 32 {
+            Some(Reg { number: n })
+        } else {
+            None
+        }
     }
 
     /// The register's number, from 0 to 31.
@@ -51,5 +55,25 @@ impl Reg {
                 number: self.number + 16,
             }
         }
+    }
+}
+
+#[cfg(test)]
+mod tests {
+    use super::*;
+    use std::test::Fail;
+
+    #[test]
+    fn numbers_and_pairs(rt: HostRuntime) -> Result<(), Fail> {
+        assert_eq!(rt; Reg::new(32), None);
+        for n in [0, 31] {
+            assert_eq!(rt; Reg::new(n).ok_or("a register")?.number(), n);
+        }
+        for (n, pair) in [(0, 0), (1, 17), (13, 29)] {
+            let r = Reg::new(n).ok_or("a register")?;
+            assert!(rt; r.number() <= 13);
+            assert_eq!(rt; r.pair().number(), pair, "at {n}");
+        }
+        Ok(())
     }
 }

@@ -1,0 +1,4 @@
+pub mod Field
+pub mod Ins
+pub mod Kind
+pub mod Regs
