@@ -4,3 +4,8 @@ pub mod Encode
 pub mod Link
 pub mod Written
 pub mod Transform
+pub mod Words
+pub mod Codes
+pub mod Fault
+pub mod Answer
+pub mod Ends

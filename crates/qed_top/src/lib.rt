@@ -1,13 +1,20 @@
-//! The whole program as one call over a shelf of files and a sink of text.
+//! The whole program as one call over a shelf of files and a sink of text: it decides what the words and the files call
+//! for, and then stores and prints that. Its contract says why each answer comes, and what was stored and printed.
 #![tactic(auto)]
 
+mod answer;
 mod decode;
 mod encode;
+mod fault;
 mod first;
 mod link;
-mod weave;
 mod numbers;
 mod read;
+mod status;
 mod text;
 mod transform;
+mod weave;
+mod words;
 mod write;
+
+pub use status::Status;

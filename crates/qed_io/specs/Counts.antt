@@ -1,0 +1,18 @@
+-- Counts of faults.
+use Rattle.std.specs.Prelude.{ℕ, ◌+◌, ◌-◌, ◌^◌, ◌≤◌, min, List}
+
+-- one more, up to the last value of a counter
+abbrev pub counted : ℕ → ℕ
+counted n = min (n + 1) (2 ^ 64 - 1)
+
+-- the count of a counter rose in the call, or stands at the counter's last value
+abbrev pub Rose : ℕ → ℕ → Type 0
+Rose before now = counted before ≤ now
+
+-- no name's count fell
+abbrev pub NoneFell : (List ℕ → ℕ) → (List ℕ → ℕ) → Type 0
+NoneFell before now = (name : List ℕ) → before name ≤ now name
+
+-- the count of a name rose
+abbrev pub RoseAt : (List ℕ → ℕ) → (List ℕ → ℕ) → List ℕ → Type 0
+RoseAt before now name = Rose (before name) (now name)

@@ -1,0 +1,22 @@
+//! Where files are kept and where text is written: two traits that say what a call did and when it may fail, each with
+//! an implementation for the machine, one in memory that fails as it is told, and one in memory that never fails.
+#![tactic(auto)]
+
+mod dir_shelf;
+mod memory_shelf;
+mod memory_sink;
+mod never;
+mod shelf;
+mod sink;
+mod std_sink;
+mod stored_files;
+#[cfg(test)]
+mod tests;
+
+pub use dir_shelf::DirShelf;
+pub use memory_shelf::MemoryShelf;
+pub use memory_sink::MemorySink;
+pub use never::{NeverShelf, NeverSink};
+pub use shelf::{LoadError, Shelf, StoreError};
+pub use sink::{Sink, WriteError, put_all};
+pub use std_sink::StdSink;

@@ -1,0 +1,142 @@
+// What each call answers with ample memory, and what the proofs are told nothing of.
+ghost use Rattle.std.specs.Prelude.{Some};
+
+use crate::{
+    DirShelf, LoadError, MemoryShelf, MemorySink, NeverShelf, NeverSink, Shelf, Sink, StdSink,
+    StoreError, WriteError, put_all,
+};
+use std::fs;
+use std::test::Fail;
+
+#[test]
+fn memory_shelf_stores_as_planned(rt: HostRuntime) -> Result<(), Fail> {
+    let cases: [(Option<u64>, &[u8]); 4] = [
+        (None, b"old"),
+        (Some(0), b""),
+        (Some(2), b"ne"),
+        (Some(9), b"newer"),
+    ];
+    for (keep, left) in cases {
+        let mut shelf = MemoryShelf::new(rt.alloc());
+        shelf.put_file("a", b"old")?;
+        shelf.fail_call(1, keep)?;
+        shelf.store("b", b"other")?;
+        assert_eq!(rt; shelf.store("a", b"newer"), Err(StoreError::Failed));
+        assert_eq!(rt; shelf.file("a"), Some(left), "keep {keep:?}");
+        assert_eq!(rt; shelf.file("b"), Some(b"other".as_slice()));
+    }
+    Ok(())
+}
+
+#[test]
+fn memory_shelf_loads_as_planned(rt: HostRuntime) -> Result<(), Fail> {
+    let alloc = rt.alloc();
+    let mut shelf = MemoryShelf::new(alloc);
+    shelf.put_file("a", b"one")?;
+    shelf.fail_call(1, None)?;
+    assert_eq!(rt; shelf.load(alloc, "a", 3)?.as_slice(), b"one".as_slice());
+    assert_eq!(rt; shelf.load(alloc, "a", 3).err(), Some(LoadError::Failed));
+    assert_eq!(rt; shelf.load(alloc, "a", 2).err(), Some(LoadError::TooLong));
+    assert_eq!(rt; shelf.load(alloc, "b", 3).err(), Some(LoadError::Failed));
+    Ok(())
+}
+
+#[test]
+fn memory_sink_fails_as_planned(rt: HostRuntime) -> Result<(), Fail> {
+    let mut sink = MemorySink::new(rt.alloc());
+    sink.fail_call(1)?;
+    put_all(&mut sink, b"ab")?;
+    assert_eq!(rt; put_all(&mut sink, b"cd"), Err(WriteError::Failed));
+    assert_eq!(rt; sink.write(b"ef"), Ok(2));
+    assert_eq!(rt; sink.bytes(), b"abef".as_slice());
+    Ok(())
+}
+
+#[test]
+fn never_fails(rt: HostRuntime) -> Result<(), Fail> {
+    let alloc = rt.alloc();
+    let mut shelf = NeverShelf::new(alloc);
+    shelf.put_file("a", b"one")?;
+    shelf.store("b", b"two")?;
+    assert_eq!(rt; shelf.file("a"), Some(b"one".as_slice()));
+    assert_eq!(rt; shelf.load(alloc, "b", 3)?.as_slice(), b"two".as_slice());
+    assert_eq!(rt; shelf.load(alloc, "b", 2).err(), Some(LoadError::TooLong));
+    assert_eq!(rt; shelf.load(alloc, "absent", 0)?.as_slice(), b"".as_slice());
+
+    let mut sink = NeverSink::new(alloc);
+    put_all(&mut sink, b"text")?;
+    assert_eq!(rt; sink.bytes(), b"text".as_slice());
+
+    // By the constant counts alone no call fails.
+    let loaded = shelf.load(alloc, "a", 3).err();
+    prove!(loaded != Some(LoadError::Failed));
+    let stored = shelf.store("a", b"three");
+    prove!(stored != Err(StoreError::Failed));
+    let put = put_all(&mut sink, b"more");
+    prove!(put != Err(WriteError::Failed));
+    Ok(())
+}
+
+// A sink that takes one byte of each piece.
+#[derive(Drop)]
+struct OneByOne {
+    taken: Vec<u8>,
+}
+
+impl Sink for OneByOne {
+    ghost written = { λ s. Some s.taken.items };
+
+    ghost faults = { λ _. 0 };
+
+    fn write(&mut self, piece: &[u8]) -> Result<usize, WriteError> {
+        if piece.is_empty() {
+            return Ok(0);
+        }
+        self.taken.extend_from_slice(&piece[..1])?;
+        Ok(1)
+    }
+}
+
+#[test]
+fn puts_all_byte_by_byte(rt: HostRuntime) -> Result<(), Fail> {
+    let mut sink = OneByOne {
+        taken: Vec::new(rt.alloc()),
+    };
+    put_all(&mut sink, b"one at a time")?;
+    put_all(&mut sink, b"")?;
+    assert_eq!(rt; sink.taken.as_slice(), b"one at a time".as_slice());
+    Ok(())
+}
+
+#[test]
+fn dir_shelf_keeps_files(rt: HostRuntime) -> Result<(), Fail> {
+    let alloc = rt.alloc();
+    let mut shelf = DirShelf::new(alloc, &rt);
+    let name = "qed_io_kept.bin";
+    shelf.store(name, b"longer")?;
+    shelf.store(name, b"\x00kept")?;
+    assert_eq!(rt;
+        shelf.load(alloc, name, 5)?.as_slice(),
+        b"\x00kept".as_slice()
+    );
+    assert_eq!(rt;
+        shelf.load(alloc, name, u64::MAX)?.as_slice(),
+        b"\x00kept".as_slice()
+    );
+    assert_eq!(rt; shelf.load(alloc, name, 4).err(), Some(LoadError::TooLong));
+    fs::remove_file(&rt, name)?;
+    assert_eq!(rt; shelf.load(alloc, name, 5).err(), Some(LoadError::Failed));
+    assert_eq!(rt;
+        shelf.store("no such folder/a", b""),
+        Err(StoreError::Failed)
+    );
+    Ok(())
+}
+
+#[test]
+fn std_sink_prints(rt: HostRuntime) -> Result<(), Fail> {
+    let mut sink = StdSink::new(&rt);
+    put_all(&mut sink, b"printed\n")?;
+    assert_eq!(rt; sink.write(b""), Ok(0));
+    Ok(())
+}

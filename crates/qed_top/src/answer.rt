@@ -1,0 +1,65 @@
+// Answers: what is stored and printed, and the status that goes with it.
+ghost use Rattle.std.specs.Prelude.{◌≡◌, ◌⊎◌, ◌≤◌, OnOk, IsErrOf};
+ghost use Rattle.std.specs.Io.KnownBytes.{Appends};
+ghost use Rattle.qed_io.specs.Counts.{Rose, RoseAt, NoneFell};
+ghost use Rattle.qed_io.specs.Sink.{AppendsPart};
+ghost use Rattle.qed_top.specs.Answer.{FilesAfter, FilesInPart, StoreRose};
+
+use crate::fault::Fault;
+use crate::status::Status;
+use qed_io::{Shelf, Sink, put_all};
+use qed_model::Bytes;
+
+/// A file to be stored.
+#[derive(Debug, Drop)]
+pub struct Stored<'a> {
+    pub name: &'a str,
+    pub bytes: Bytes,
+}
+
+/// What a command answers.
+#[derive(Debug, Drop)]
+pub struct Answer<'a> {
+    pub status: Status,
+    pub text: Bytes,
+    pub stored: Option<Stored<'a>>,
+}
+
+/// Stores the file of an answer, if it has one.
+fn store_file<S: Shelf>(stored: &Option<Stored<'_>>, shelf: &mut S) -> Result<(), Fault>
+    ensures ok { OnOk result (FilesAfter stored.now (S.files shelf.old) (S.files shelf.new)) }
+    ensures store { IsErrOf result Fault.Store → StoreRose stored.now (RoseAt (S.store_faults shelf.old) (S.store_faults shelf.new)) }
+    ensures part { IsErrOf result Fault.Store → FilesInPart stored.now (S.files shelf.old) (S.files shelf.new) }
+    ensures memory { IsErrOf result Fault.Memory → S.files shelf.new ≡ S.files shelf.old }
+    ensures print { IsErrOf result Fault.Print → ⊥ }
+    ensures loads { NoneFell (S.load_faults shelf.old) (S.load_faults shelf.new) }
+{
+    if let Some(file) = stored {
+        shelf.store(file.name, file.bytes.as_slice())?;
+    }
+    Ok(())
+}
+
+/// Stores and prints what an answer says.
+pub fn carry_out<S: Shelf, K: Sink>(
+    answer: &Answer<'_>,
+    shelf: &mut S,
+    out: &mut K,
+) -> Result<(), Fault>
+    ensures files { OnOk result (FilesAfter answer.now.stored (S.files shelf.old) (S.files shelf.new)) }
+    ensures text { OnOk result (Appends (K.written out.old) (K.written out.new) answer.now.text) }
+    ensures print { IsErrOf result Fault.Print → Rose (K.faults out.old) (K.faults out.new) }
+    ensures print_files { IsErrOf result Fault.Print → FilesAfter answer.now.stored (S.files shelf.old) (S.files shelf.new) }
+    ensures print_text { IsErrOf result Fault.Print → AppendsPart (K.written out.old) (K.written out.new) answer.now.text }
+    ensures store { IsErrOf result Fault.Store → StoreRose answer.now.stored (RoseAt (S.store_faults shelf.old) (S.store_faults shelf.new)) }
+    ensures store_files { IsErrOf result Fault.Store → FilesInPart answer.now.stored (S.files shelf.old) (S.files shelf.new) }
+    ensures store_text { IsErrOf result Fault.Store → K.written out.new ≡ K.written out.old }
+    ensures memory { IsErrOf result Fault.Memory →
+        ((S.files shelf.new ≡ S.files shelf.old) × (K.written out.new ≡ K.written out.old))
+        ⊎ (FilesAfter answer.now.stored (S.files shelf.old) (S.files shelf.new) × AppendsPart (K.written out.old) (K.written out.new) answer.now.text) }
+    ensures loads { NoneFell (S.load_faults shelf.old) (S.load_faults shelf.new) }
+{
+    store_file(&answer.stored, shelf)?;
+    put_all(out, answer.text.as_slice())?;
+    Ok(())
+}
