@@ -12,29 +12,37 @@ use Rattle.qed_top.specs.declared.answer.Answer.{Answer}
 use Rattle.qed_top.specs.declared.status.Status.{Status}
 use Rattle.qed_top.specs.declared.status.Status.TheVariants.{Done, Usage, Refused, Limit, ReadFault}
 
--- usage: the words are those of no command
-pub record IsUsage (answer : Answer) : Type 0 where
-  pub status : answer.status ≡ Usage
-  pub text : answer.text ≡ usage_line
+-- an answer that stores nothing
+pub record IsPlain (wanted : Status) (line : List ℕ) (answer : Answer) : Type 0 where
+  pub status : answer.status ≡ wanted
+  pub text : answer.text ≡ line
   pub stored : answer.stored ≡ None
 
 -- a read fault: the count of failed loads of IN rose
 pub record IsReadFault (rose : Type 0) (answer : Answer) : Type 0 where
   pub cause : rose
-  pub text : answer.text ≡ read_fault_line
-  pub stored : answer.stored ≡ None
+  pub plain : IsPlain ReadFault read_fault_line answer
 
 -- a limit: IN has too many bytes
 pub record IsLimit (bytes : List ℕ) (answer : Answer) : Type 0 where
   pub cause : load_limit < length bytes
-  pub text : answer.text ≡ load_limit_line
-  pub stored : answer.stored ≡ None
+  pub plain : IsPlain Limit load_limit_line answer
 
--- E1: IN has no magic. E0: it has, and is no first file
+-- E1: IN has no magic
+pub record IsNoElf (bytes : List ℕ) (answer : Answer) : Type 0 where
+  pub cause : HasMagic bytes → ⊥
+  pub plain : IsPlain Refused magic_line answer
+
+-- E0: IN has the magic, and is no first file
+pub record IsNotBuilt (bytes : List ℕ) (answer : Answer) : Type 0 where
+  pub magic : HasMagic bytes
+  pub cause : IsFirst bytes → ⊥
+  pub plain : IsPlain Refused not_built_line answer
+
+-- a refusal, of a file within the limit
 pub record IsRefused (bytes : List ℕ) (answer : Answer) : Type 0 where
   pub within : length bytes ≤ load_limit
-  pub cause : ((HasMagic bytes → ⊥) × (answer.text ≡ magic_line)) ⊎ (HasMagic bytes × (IsFirst bytes → ⊥) × (answer.text ≡ not_built_line))
-  pub stored : answer.stored ≡ None
+  pub reason : IsNoElf bytes answer ⊎ IsNotBuilt bytes answer
 
 -- the bounds of an output without data words, and the line about it
 abbrev pub default_piece : ℕ
@@ -43,14 +51,23 @@ default_piece = piece_bound default_most default_round
 abbrev pub done_line : ℕ → List ℕ
 done_line code_bytes = transform_line code_bytes 1 1 half (register_bound default_piece) (word_bound 0 default_round default_piece)
 
--- done: IN is a first file, and what is woven from it is stored as OUT
+-- the file is stored as OUT, and the line about it is printed
+pub record Delivers (file output : List ℕ) (code_bytes : ℕ) (answer : Answer) : Type 0 where
+  pub status : answer.status ≡ Done
+  pub stored : IsSomeAnd answer.stored (λ s. (s.name.now ≡ output) × (s.bytes ≡ file))
+  pub text : answer.text ≡ done_line code_bytes
+
+-- done: IN is a first file, and what is woven from it is delivered
 pub record IsDone (bytes output : List ℕ) (answer : Answer) : Type 0 where
   pub within : length bytes ≤ load_limit
   pub first : IsFirst bytes
   pub file : List ℕ
   pub woven : Woven bytes file
-  pub stored : IsSomeAnd answer.stored (λ s. (s.name.now ≡ output) × (s.bytes ≡ file))
-  pub text : answer.text ≡ done_line (4 * length woven.words)
+  pub delivers : Delivers file output (4 * length woven.words) answer
+
+-- one of the two that depend on the bytes of IN alone
+abbrev pub RefusesOrDoes : List ℕ → List ℕ → Answer → Type 0
+RefusesOrDoes bytes output answer = IsRefused bytes answer ⊎ IsDone bytes output answer
 
 -- `transform IN OUT`, by the status; `rose` says that the count of failed loads of IN rose
 abbrev pub TransformMeans : Status → List ℕ → List ℕ → Type 0 → Answer → Type 0
@@ -63,7 +80,7 @@ TransformMeans _ bytes output rose answer = ⊥
 -- what the words call for over these files; `rose` holds of a name whose count of failed loads rose
 abbrev pub IsMeant : List (List ℕ) → Files → (List ℕ → Type 0) → Answer → Type 0
 IsMeant words files rose answer =
-    MatchOption (transform_names words) (IsUsage answer) (λ names. TransformMeans answer.status (file_bytes files names.0) names.1 (rose names.0) answer)
+    MatchOption (transform_names words) (IsPlain Usage usage_line answer) (λ names. TransformMeans answer.status (file_bytes files names.0) names.1 (rose names.0) answer)
 
 -- ---- what an answer does to the files
 abbrev pub with_stored : Option Stored → Files → Files

@@ -11,10 +11,11 @@ use Rattle.qed_top.specs.declared.answer.Answer.{Answer}
 use Rattle.qed_top.specs.declared.status.Status.{Status}
 use Rattle.qed_top.specs.declared.status.Status.TheVariants.{Done, Usage, Refused, Limit, ReadFault, WriteFault, Memory}
 
--- the files that are told; where nothing is told, some files
-abbrev pub OfFiles : Option Files → (Files → Type 0) → Type 0
-OfFiles (Some files) P = P files
-OfFiles None P = (files : Files) × P files
+-- of the files that are told; where nothing is told, of some files
+pub record OverFiles (told : Option Files) (Holds : Files → Type 0) : Type 0 where
+  pub files : Files
+  pub same : IfSome told (λ f. f ≡ files)
+  pub holds : Holds files
 
 -- one call: its words, the files at its start, the files that the shelf tells before and after, the bytes that the sink
 -- tells before and after, and which counts rose in it

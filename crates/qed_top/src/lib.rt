@@ -3,6 +3,7 @@
 #![tactic(auto)]
 
 mod answer;
+mod decide;
 mod decode;
 mod encode;
 mod fault;

@@ -1,0 +1,143 @@
+// What the words and the files call for.
+ghost use Rattle.std.specs.Prelude.{◌≡◌, ◌≤◌, None, IfOk, length};
+ghost use Rattle.qed_io.specs.Counts.{RoseAt, NoneFell};
+ghost use Rattle.qed_io.specs.Files.{file_bytes};
+ghost use Rattle.qed_model.specs.Texts.{load_limit};
+ghost use Rattle.qed_top.specs.Words.{texts};
+ghost use Rattle.qed_top.specs.Answer.{IsPlain, Delivers, IsMeant, TransformMeans, RefusesOrDoes, done_line};
+ghost use Rattle.qed_top.specs.Ends.{OverFiles};
+
+use crate::answer::{Answer, Stored};
+use crate::status::Status;
+use crate::text::{Bounds, Sizes, transform_text};
+use crate::transform::{HALF, TransformError, Transformed, transform};
+use crate::words::read_transform;
+use qed_io::{LoadError, Shelf};
+use qed_model::Bytes;
+use std::alloc::{AllocError, Global};
+
+/// The greatest size of a loaded file, in bytes.
+const LOAD_LIMIT: u64 = 67_108_864;
+
+/// The greatest number of instructions in a piece, and of data words in a visit.
+const INST_MAX: u64 = 16;
+const ROUND: u64 = 1;
+
+/// An answer that stores nothing.
+fn plain<'a>(alloc: Global, status: Status, text: &[u8]) -> Result<Answer<'a>, AllocError>
+    ensures { IfOk result (IsPlain status text.now) }
+{
+    Ok(Answer {
+        status,
+        text: Bytes::copied(alloc, text)?,
+        stored: None,
+    })
+}
+
+/// The line about an output with this much new code.
+fn done_text(alloc: Global, code: u64) -> Result<Bytes, AllocError>
+    ensures { IfOk result (λ text. text ≡ done_line code) }
+{
+    let sizes = Sizes {
+        code,
+        entries: 1,
+        pieces: 1,
+        half: u64::from(HALF),
+    };
+    let bounds = Bounds {
+        register: 32 + 2 * (30 + 5 * INST_MAX + 10 * ROUND),
+        word: None,
+    };
+    let text = transform_text(alloc, sizes, bounds)?;
+    Ok(Bytes::of(text.into_bytes()))
+}
+
+/// What `transform` answers for an output.
+fn answer_done<'a>(
+    alloc: Global,
+    made: Transformed,
+    output: &'a str,
+) -> Result<Answer<'a>, AllocError>
+    ensures { IfOk result (Delivers made.file output.now made.code_bytes) }
+{
+    let text = done_text(alloc, made.code_bytes)?;
+    Ok(Answer {
+        status: Status::Done,
+        text,
+        stored: Some(Stored {
+            name: output,
+            bytes: made.file,
+        }),
+    })
+}
+
+/// What `transform` answers over the bytes of its input.
+fn answer_transform<'a>(
+    alloc: Global,
+    bytes: &[u8],
+    output: &'a str,
+) -> Result<Answer<'a>, AllocError>
+    requires { length bytes.now ≤ load_limit }
+    ensures { IfOk result (λ answer. RefusesOrDoes bytes.now output.now answer) }
+{
+    let answer = match transform(alloc, bytes) {
+        Ok(made) => answer_done(alloc, made, output)?,
+        Err(TransformError::Magic) => plain(alloc, Status::Refused, b"refused E1: magic\n")?,
+        Err(TransformError::NotBuilt) => {
+            plain(alloc, Status::Refused, b"refused E0: not built yet\n")?
+        }
+        Err(TransformError::Memory) => return Err(AllocError),
+    };
+    Ok(answer)
+}
+
+/// What `transform` answers over the files.
+fn decide_transform<'a, S: Shelf>(
+    alloc: Global,
+    input: &str,
+    output: &'a str,
+    shelf: &mut S,
+) -> Result<Answer<'a>, AllocError>
+    ensures meant { IfOk result (λ answer. OverFiles (S.files shelf.old) (λ files.
+        TransformMeans answer.status (file_bytes files input.now) output.now (RoseAt (S.load_faults shelf.old) (S.load_faults shelf.new) input.now) answer)) }
+    ensures files { S.files shelf.new ≡ S.files shelf.old }
+    ensures stores { NoneFell (S.store_faults shelf.old) (S.store_faults shelf.new) }
+{
+    match shelf.load(alloc, input, LOAD_LIMIT) {
+        Ok(bytes) => {
+            let answer = answer_transform(alloc, bytes.as_slice(), output)?;
+            Ok(answer)
+        }
+        Err(LoadError::Failed) => {
+            let answer = plain(alloc, Status::ReadFault, b"read fault\n")?;
+            Ok(answer)
+        }
+        Err(LoadError::TooLong) => {
+            let answer = plain(alloc, Status::Limit, b"limit L1: over 67108864\n")?;
+            Ok(answer)
+        }
+        Err(LoadError::Memory) => Err(AllocError),
+    }
+}
+
+/// What the words and the files call for.
+pub fn decide<'a, S: Shelf>(
+    alloc: Global,
+    words: &'a [String],
+    shelf: &mut S,
+) -> Result<Answer<'a>, AllocError>
+    ensures meant { IfOk result (λ answer. OverFiles (S.files shelf.old) (λ files. IsMeant (texts words.now) files (RoseAt (S.load_faults shelf.old) (S.load_faults shelf.new)) answer)) }
+    ensures files { S.files shelf.new ≡ S.files shelf.old }
+    ensures stores { NoneFell (S.store_faults shelf.old) (S.store_faults shelf.new) }
+{
+    match read_transform(words) {
+        Some(names) => {
+            let answer = decide_transform(alloc, names.input, names.output, shelf)?;
+            Ok(answer)
+        }
+        None => {
+            let answer = plain(alloc, Status::Usage, b"usage: not built yet\n")?;
+            Ok(answer)
+        }
+    }
+}
