@@ -105,7 +105,7 @@ impl<R: Files + Drop> Shelf for DirShelf<R> {
     {
         if write_file(&self.machine, name, bytes).is_err() {
             self.faults = self.faults.saturating_add(1);
-            // Part of the file may be written by now, so that want of memory is no reason to say that none is.
+            // A part of the file may be written by now, which `Memory` would deny, whatever the machine's error was.
             return Err(StoreError::Failed);
         }
         Ok(())

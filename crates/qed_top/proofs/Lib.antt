@@ -3,3 +3,4 @@ pub mod LowBits
 pub mod FirstFiles
 pub mod Writable
 pub mod Meanings
+pub mod Endings

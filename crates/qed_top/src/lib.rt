@@ -13,9 +13,11 @@ mod numbers;
 mod read;
 mod status;
 mod text;
+mod top;
 mod transform;
 mod weave;
 mod words;
 mod write;
 
 pub use status::Status;
+pub use top::qed;
