@@ -1,6 +1,2 @@
-pub mod Decoding
-pub mod LowBits
-pub mod FirstFiles
-pub mod Writable
 pub mod Meanings
 pub mod Endings

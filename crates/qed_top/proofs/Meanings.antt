@@ -10,7 +10,7 @@ use Rattle.qed_io.specs.Files.{Files, file_bytes}
 use Rattle.qed_model.specs.Plain.{HasMagic, IsFirst}
 use Rattle.qed_model.specs.Texts.{load_limit, read_fault_line, load_limit_line, usage_line, magic_line, not_built_line}
 use Rattle.qed_top.specs.Words.{transform_names}
-use Rattle.qed_top.specs.Transform.{Transforms}
+use Rattle.transform.specs.Transform.{Transforms}
 use Rattle.qed_top.specs.Answer.{IsPlain, IsReadFault, IsLimit, IsRefused, IsDone, Delivers, RefusesOrDoes, TransformMeans, IsMeant}
 use Rattle.qed_top.specs.Ends.{OverFiles}
 use Rattle.qed_top.specs.declared.answer.Answer.{Answer}

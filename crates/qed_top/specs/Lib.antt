@@ -1,9 +1,3 @@
-pub mod Numbers
-pub mod Read
-pub mod Encode
-pub mod Link
-pub mod Written
-pub mod Transform
 pub mod Words
 pub mod Codes
 pub mod Fault

@@ -10,11 +10,11 @@ ghost use Rattle.qed_top.specs.Ends.{OverFiles};
 use crate::answer::{Answer, Stored};
 use crate::status::Status;
 use crate::text::{Bounds, Sizes, transform_text};
-use crate::transform::{HALF, TransformError, Transformed, transform};
 use crate::words::read_transform;
 use qed_io::{LoadError, Shelf};
 use qed_model::Bytes;
 use std::alloc::{AllocError, Global};
+use transform::{HALF, TransformError, Transformed, transform};
 
 /// The greatest size of a loaded file, in bytes.
 const LOAD_LIMIT: u64 = 67_108_864;

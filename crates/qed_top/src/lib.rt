@@ -4,20 +4,11 @@
 
 mod answer;
 mod decide;
-mod decode;
-mod encode;
 mod fault;
-mod first;
-mod link;
-mod numbers;
-mod read;
 mod status;
 mod text;
 mod top;
-mod transform;
-mod weave;
 mod words;
-mod write;
 
 pub use status::Status;
 pub use top::qed;

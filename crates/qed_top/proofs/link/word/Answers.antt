@@ -1,7 +1,0 @@
-use Rattle.std.proofs.Common.{◌∙◌, sym, true, ◌≡◌}
-use Rattle.std.proofs.lemmas.Bool.{and_parts}
-use Rattle.qed_model.proofs.Tables.{decode_encode}
-use Rattle.qed_top.proofs.link.word.Goals as goal
-
-pub returns-clause-decode : goal.returns-clause-decode
-returns-clause-decode c = (decode_encode _ _ (sym (c.in-Some.ensures (and_parts _ _ c.requires).0))).1

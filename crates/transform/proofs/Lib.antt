@@ -1,0 +1,4 @@
+pub mod Decoding
+pub mod LowBits
+pub mod FirstFiles
+pub mod Writable

@@ -1,0 +1,17 @@
+//! From the bytes of a test to those of its output: reads the file, weaves the new code, lays it out and writes the file.
+//!
+//! It takes first files so far: one executable segment of straight code. Its contract says that an output is woven from
+//! its input, word for word, and exactly when a file is refused.
+#![tactic(auto)]
+
+mod decode;
+mod encode;
+mod first;
+mod link;
+mod numbers;
+mod read;
+mod output;
+mod weave;
+mod write;
+
+pub use output::{HALF, TransformError, Transformed, transform};
