@@ -2,14 +2,15 @@
 #![tactic(auto)]
 
 use qed_io::{DirShelf, StdSink};
-use qed_top::qed;
+use qed_top::{Status, qed};
 use std::alloc::Global;
 use std::env;
+use std::io::{self, ErrorKind};
 use std::process::ExitCode;
 use std::rt::Env;
 
 /// The words after the program's name.
-fn words<R: Env + Alloc<A = Global>>(rt: &R) -> std::io::Result<Vec<String>> {
+fn words<R: Env + Alloc<A = Global>>(rt: &R) -> io::Result<Vec<String>> {
     let mut words = Vec::new(rt.alloc());
     for word in env::args(rt)?.skip(1) {
         words.push(word)?;
@@ -19,9 +20,12 @@ fn words<R: Env + Alloc<A = Global>>(rt: &R) -> std::io::Result<Vec<String>> {
 
 fn main(rt: HostRuntime) -> ExitCode {
     let alloc = rt.alloc();
-    // Words that cannot be read are those of no command.
     let words = match words(&rt) {
         Ok(words) => words,
+        Err(error) if error.kind() == ErrorKind::OutOfMemory => {
+            return ExitCode::from(Status::Memory.code());
+        }
+        // Words that cannot be read are those of no command.
         Err(_) => Vec::new(alloc),
     };
     let mut shelf = DirShelf::new(alloc, &rt);

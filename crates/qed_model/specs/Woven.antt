@@ -8,7 +8,7 @@ use Rattle.qed_model.specs.Placed.{placed, Decode}
 use Rattle.qed_model.specs.Plain.{segment_bytes}
 use Rattle.qed_model.specs.Written.{plain_file}
 
--- where the image of a first file begins, rounded down to a page, and where it ends at the latest
+-- where the image of a first file begins, rounded down to a page
 abbrev pub image_base : ℕ
 image_base = 0x10000
 

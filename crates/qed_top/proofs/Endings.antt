@@ -8,7 +8,7 @@ use Rattle.qed_io.specs.Counts.{Rose, RoseAt, NoneFell}
 use Rattle.qed_model.specs.Plain.{IsFirst}
 use Rattle.qed_model.specs.Texts.{load_limit, usage_line}
 use Rattle.qed_top.specs.Words.{transform_names}
-use Rattle.qed_top.specs.Answer.{IsMeant, TransformMeans, IsPlain, IsNoElf, IsNotBuilt, FilesAfter, FilesInPart, StoreRose}
+use Rattle.qed_top.specs.Answer.{IsMeant, TransformMeans, PrintsOnly, IsNoElf, IsNotBuilt, FilesAfter, FilesInPart, StoreRose}
 use Rattle.qed_top.specs.Ends.{OverFiles, Call, Did, StoppedInPrint, StoppedInStore, Unchanged, EndsOver, Ends, Decided, too_long, refused, done, Decides, NoFault, IsComplete}
 use Rattle.qed_top.specs.declared.answer.Answer.{Answer}
 use Rattle.qed_top.specs.declared.answer.Stored.{Stored}
@@ -39,8 +39,8 @@ transform_later StepsSpent bytes output rose later h answer m = m
 
 meant_by_names_later :
     (names : Option (List ℕ × List ℕ)) (files : Files) (rose later : List ℕ → Type 0) → ((name : List ℕ) → rose name → later name) → (answer : Answer)
-    → MatchOption names (IsPlain Usage usage_line answer) (λ n. TransformMeans answer.status (file_bytes files n.0) n.1 (rose n.0) answer)
-    → MatchOption names (IsPlain Usage usage_line answer) (λ n. TransformMeans answer.status (file_bytes files n.0) n.1 (later n.0) answer)
+    → MatchOption names (PrintsOnly Usage usage_line answer) (λ n. TransformMeans answer.status (file_bytes files n.0) n.1 (rose n.0) answer)
+    → MatchOption names (PrintsOnly Usage usage_line answer) (λ n. TransformMeans answer.status (file_bytes files n.0) n.1 (later n.0) answer)
 meant_by_names_later None files rose later h answer m = m
 meant_by_names_later (Some n) files rose later h answer m = transform_later answer.status (file_bytes files n.0) n.1 (rose n.0) (later n.0) (h n.0) answer m
 
@@ -66,7 +66,7 @@ transform_printed Fired bytes output rose answer m = tt
 transform_printed Trapped bytes output rose answer m = tt
 transform_printed StepsSpent bytes output rose answer m = tt
 
-printed_by_names : (names : Option (List ℕ × List ℕ)) (files : Files) (rose : List ℕ → Type 0) (answer : Answer) → MatchOption names (IsPlain Usage usage_line answer) (λ n. TransformMeans answer.status (file_bytes files n.0) n.1 (rose n.0) answer) → Printed answer.status
+printed_by_names : (names : Option (List ℕ × List ℕ)) (files : Files) (rose : List ℕ → Type 0) (answer : Answer) → MatchOption names (PrintsOnly Usage usage_line answer) (λ n. TransformMeans answer.status (file_bytes files n.0) n.1 (rose n.0) answer) → Printed answer.status
 printed_by_names None files rose answer m = subst Printed (sym m.status) tt
 printed_by_names (Some n) files rose answer m = transform_printed answer.status (file_bytes files n.0) n.1 (rose n.0) answer m
 
@@ -112,10 +112,6 @@ pub no_memory_soon : (call : Call) → call.new ≡ call.old → call.now ≡ ca
 no_memory_soon call stored text = always call.old (λ files. EndsOver call files Memory) (λ files. inl (record { stored = stored; printed = text }))
 
 -- ---- what can be expected
-over_told : (told : Option Files) (P : Files → Type 0) → OverFiles told P → IfSome told P
-over_told None P o = tt
-over_told (Some f) P o = subst P (sym o.same) o.holds
-
 -- a file has one status
 unique : (bytes : List ℕ) (s t : Status) → Decided bytes s → Decided bytes t → s ≡ t
 unique bytes s t (too_long a) (too_long b) = refl
@@ -151,7 +147,7 @@ transform_decided StepsSpent bytes output rose answer calm m = absurd m
 -- where no load of IN failed, what is meant has the status that is decided
 decided_by_names :
     (names : Option (List ℕ × List ℕ)) (files : Files) (rose : List ℕ → Type 0) (answer : Answer) → IfSome names (λ n. rose n.0 → ⊥)
-    → MatchOption names (IsPlain Usage usage_line answer) (λ n. TransformMeans answer.status (file_bytes files n.0) n.1 (rose n.0) answer)
+    → MatchOption names (PrintsOnly Usage usage_line answer) (λ n. TransformMeans answer.status (file_bytes files n.0) n.1 (rose n.0) answer)
     → MatchOption names (answer.status ≡ Usage) (λ n. Decided (file_bytes files n.0) answer.status)
 decided_by_names None files rose answer calm m = m.status
 decided_by_names (Some n) files rose answer calm m = transform_decided answer.status (file_bytes files n.0) n.1 (rose n.0) answer calm m
@@ -182,7 +178,7 @@ transform_store StepsSpent bytes output rose stores answer m r = absurd m
 
 store_by_names :
     (names : Option (List ℕ × List ℕ)) (files : Files) (rose stores : List ℕ → Type 0) (answer : Answer) → IfSome names (λ n. stores n.1 → ⊥)
-    → MatchOption names (IsPlain Usage usage_line answer) (λ n. TransformMeans answer.status (file_bytes files n.0) n.1 (rose n.0) answer) → StoreRose answer.stored stores → ⊥
+    → MatchOption names (PrintsOnly Usage usage_line answer) (λ n. TransformMeans answer.status (file_bytes files n.0) n.1 (rose n.0) answer) → StoreRose answer.stored stores → ⊥
 store_by_names None files rose stores answer calm m r = none_stored answer stores m.stored r
 store_by_names (Some n) files rose stores answer calm m r = calm (transform_store answer.status (file_bytes files n.0) n.1 (rose n.0) stores answer m r)
 
@@ -208,8 +204,8 @@ ends_decided call files StepsSpent decided calm e d = did_decided call files Ste
 
 pub ends_complete : (call : Call) (status : Status) → Ends call status → IsComplete call status
 ends_complete call status e calm =
-    over_told call.old (λ files. (decided : Status) → Decides call.words files decided → (status ≡ decided) ⊎ (status ≡ Memory))
-    (over_map call.old (λ files. EndsOver call files status) (λ files. (decided : Status) → Decides call.words files decided → (status ≡ decided) ⊎ (status ≡ Memory)) (λ files o decided d. ends_decided call files status decided calm o d) e)
+    over_map call.old (λ files. EndsOver call files status) (λ files. (decided : Status) → Decides call.words files decided → (status ≡ decided) ⊎ (status ≡ Memory))
+    (λ files o decided d. ends_decided call files status decided calm o d) e
 
 -- ---- after an answer was decided and carried out
 pub record Ended (call : Call) (status : Status) : Type 0 where

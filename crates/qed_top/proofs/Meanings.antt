@@ -11,7 +11,7 @@ use Rattle.qed_model.specs.Plain.{HasMagic, IsFirst}
 use Rattle.qed_model.specs.Texts.{load_limit, read_fault_line, load_limit_line, usage_line, magic_line, not_built_line}
 use Rattle.qed_top.specs.Words.{transform_names}
 use Rattle.transform.specs.Transform.{Transforms}
-use Rattle.qed_top.specs.Answer.{IsPlain, IsReadFault, IsLimit, IsRefused, IsDone, Delivers, RefusesOrDoes, TransformMeans, IsMeant}
+use Rattle.qed_top.specs.Answer.{PrintsOnly, IsReadFault, IsLimit, IsRefused, IsDone, Delivers, RefusesOrDoes, TransformMeans, IsMeant}
 use Rattle.qed_top.specs.Ends.{OverFiles}
 use Rattle.qed_top.specs.declared.answer.Answer.{Answer}
 use Rattle.qed_top.specs.declared.status.Status.{Status}
@@ -56,7 +56,7 @@ over_bytes told name output bytes rose answer loaded meant =
     (told_or told (λ f. bytes ≡ file_bytes f name) (insert empty name bytes) (sym same) loaded)
 
 -- the load failed
-pub over_fault : (told : Option Files) (name output : List ℕ) (rose : Type 0) (answer : Answer) → rose → IsPlain ReadFault read_fault_line answer → OverFiles told (λ f. TransformMeans answer.status (file_bytes f name) output rose answer)
+pub over_fault : (told : Option Files) (name output : List ℕ) (rose : Type 0) (answer : Answer) → rose → PrintsOnly ReadFault read_fault_line answer → OverFiles told (λ f. TransformMeans answer.status (file_bytes f name) output rose answer)
 over_fault told name output rose answer cause plain =
     always told (λ f. TransformMeans answer.status (file_bytes f name) output rose answer) (λ f. means ReadFault (file_bytes f name) output rose answer plain.status (record { cause = cause; plain = plain }))
 
@@ -64,7 +64,7 @@ over_fault told name output rose answer cause plain =
 long_file : (name : List ℕ) (limit : ℕ) → limit < length (file_bytes (insert empty name (replicate (limit + 1) 0)) name)
 long_file name limit = rw (file_bytes-insert empty name (replicate (limit + 1) 0), length-replicate) (omega arith)
 
-pub over_limit : (told : Option Files) (name output : List ℕ) (rose : Type 0) (answer : Answer) → IfSome told (λ f. load_limit < length (file_bytes f name)) → IsPlain Limit load_limit_line answer → OverFiles told (λ f. TransformMeans answer.status (file_bytes f name) output rose answer)
+pub over_limit : (told : Option Files) (name output : List ℕ) (rose : Type 0) (answer : Answer) → IfSome told (λ f. load_limit < length (file_bytes f name)) → PrintsOnly Limit load_limit_line answer → OverFiles told (λ f. TransformMeans answer.status (file_bytes f name) output rose answer)
 over_limit told name output rose answer cause plain =
     over_map told (λ f. load_limit < length (file_bytes f name)) (λ f. TransformMeans answer.status (file_bytes f name) output rose answer)
     (λ f long. means Limit (file_bytes f name) output rose answer plain.status (record { cause = long; plain = plain }))
@@ -75,7 +75,7 @@ pub over_names : (told : Option Files) (words : List (List ℕ)) (input output :
 over_names told words input output rose answer e o =
     over_map told (λ f. TransformMeans answer.status (file_bytes f input) output (rose input) answer) (λ f. IsMeant words f rose answer) (λ f m. rw e m) o
 
-pub over_usage : (told : Option Files) (words : List (List ℕ)) (rose : List ℕ → Type 0) (answer : Answer) → transform_names words ≡ None → IsPlain Usage usage_line answer → OverFiles told (λ f. IsMeant words f rose answer)
+pub over_usage : (told : Option Files) (words : List (List ℕ)) (rose : List ℕ → Type 0) (answer : Answer) → transform_names words ≡ None → PrintsOnly Usage usage_line answer → OverFiles told (λ f. IsMeant words f rose answer)
 over_usage told words rose answer e plain = always told (λ f. IsMeant words f rose answer) (λ f. rw e plain)
 
 -- an output was made
@@ -83,8 +83,8 @@ pub does : (bytes output file : List ℕ) (code_bytes : ℕ) (answer : Answer) �
 does bytes output file code_bytes answer within made delivers =
     inr (record { within = within; first = made.first; file = file; woven = made.woven; delivers = subst (λ (n : ℕ). Delivers file output n answer) made.size delivers })
 
-pub no_elf : (bytes output : List ℕ) (answer : Answer) → length bytes ≤ load_limit → (HasMagic bytes → ⊥) → IsPlain Refused magic_line answer → RefusesOrDoes bytes output answer
+pub no_elf : (bytes output : List ℕ) (answer : Answer) → length bytes ≤ load_limit → (HasMagic bytes → ⊥) → PrintsOnly Refused magic_line answer → RefusesOrDoes bytes output answer
 no_elf bytes output answer within cause plain = inl (record { within = within; reason = inl (record { cause = cause; plain = plain }) })
 
-pub not_built : (bytes output : List ℕ) (answer : Answer) → length bytes ≤ load_limit → HasMagic bytes → (IsFirst bytes → ⊥) → IsPlain Refused not_built_line answer → RefusesOrDoes bytes output answer
+pub not_built : (bytes output : List ℕ) (answer : Answer) → length bytes ≤ load_limit → HasMagic bytes → (IsFirst bytes → ⊥) → PrintsOnly Refused not_built_line answer → RefusesOrDoes bytes output answer
 not_built bytes output answer within magic cause plain = inl (record { within = within; reason = inr (record { magic = magic; cause = cause; plain = plain }) })

@@ -13,7 +13,7 @@ use Rattle.qed_top.specs.declared.status.Status.{Status}
 use Rattle.qed_top.specs.declared.status.Status.TheVariants.{Done, Usage, Refused, Limit, ReadFault}
 
 -- an answer that stores nothing
-pub record IsPlain (wanted : Status) (line : List ℕ) (answer : Answer) : Type 0 where
+pub record PrintsOnly (wanted : Status) (line : List ℕ) (answer : Answer) : Type 0 where
   pub status : answer.status ≡ wanted
   pub text : answer.text ≡ line
   pub stored : answer.stored ≡ None
@@ -21,23 +21,23 @@ pub record IsPlain (wanted : Status) (line : List ℕ) (answer : Answer) : Type 
 -- a read fault: the count of failed loads of IN rose
 pub record IsReadFault (rose : Type 0) (answer : Answer) : Type 0 where
   pub cause : rose
-  pub plain : IsPlain ReadFault read_fault_line answer
+  pub plain : PrintsOnly ReadFault read_fault_line answer
 
 -- a limit: IN has too many bytes
 pub record IsLimit (bytes : List ℕ) (answer : Answer) : Type 0 where
   pub cause : load_limit < length bytes
-  pub plain : IsPlain Limit load_limit_line answer
+  pub plain : PrintsOnly Limit load_limit_line answer
 
 -- E1: IN has no magic
 pub record IsNoElf (bytes : List ℕ) (answer : Answer) : Type 0 where
   pub cause : HasMagic bytes → ⊥
-  pub plain : IsPlain Refused magic_line answer
+  pub plain : PrintsOnly Refused magic_line answer
 
 -- E0: IN has the magic, and is no first file
 pub record IsNotBuilt (bytes : List ℕ) (answer : Answer) : Type 0 where
   pub magic : HasMagic bytes
   pub cause : IsFirst bytes → ⊥
-  pub plain : IsPlain Refused not_built_line answer
+  pub plain : PrintsOnly Refused not_built_line answer
 
 -- a refusal, of a file within the limit
 pub record IsRefused (bytes : List ℕ) (answer : Answer) : Type 0 where
@@ -80,7 +80,7 @@ TransformMeans _ bytes output rose answer = ⊥
 -- what the words call for over these files; `rose` holds of a name whose count of failed loads rose
 abbrev pub IsMeant : List (List ℕ) → Files → (List ℕ → Type 0) → Answer → Type 0
 IsMeant words files rose answer =
-    MatchOption (transform_names words) (IsPlain Usage usage_line answer) (λ names. TransformMeans answer.status (file_bytes files names.0) names.1 (rose names.0) answer)
+    MatchOption (transform_names words) (PrintsOnly Usage usage_line answer) (λ names. TransformMeans answer.status (file_bytes files names.0) names.1 (rose names.0) answer)
 
 -- ---- what an answer does to the files
 abbrev pub with_stored : Option Stored → Files → Files

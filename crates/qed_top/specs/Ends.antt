@@ -85,4 +85,4 @@ pub record NoFault (call : Call) : Type 0 where
 
 -- with no fault the status is the one that is decided, or there was no memory
 abbrev pub IsComplete : Call → Status → Type 0
-IsComplete call status = NoFault call → IfSome call.old (λ files. (decided : Status) → Decides call.words files decided → (status ≡ decided) ⊎ (status ≡ Memory))
+IsComplete call status = NoFault call → OverFiles call.old (λ files. (decided : Status) → Decides call.words files decided → (status ≡ decided) ⊎ (status ≡ Memory))

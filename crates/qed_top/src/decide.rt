@@ -4,7 +4,7 @@ ghost use Rattle.qed_io.specs.Counts.{RoseAt, NoneFell};
 ghost use Rattle.qed_io.specs.Files.{file_bytes};
 ghost use Rattle.qed_model.specs.Texts.{load_limit};
 ghost use Rattle.qed_top.specs.Words.{texts};
-ghost use Rattle.qed_top.specs.Answer.{IsPlain, Delivers, IsMeant, TransformMeans, RefusesOrDoes, done_line};
+ghost use Rattle.qed_top.specs.Answer.{PrintsOnly, Delivers, IsMeant, TransformMeans, RefusesOrDoes, done_line};
 ghost use Rattle.qed_top.specs.Ends.{OverFiles};
 
 use crate::answer::{Answer, Stored};
@@ -25,7 +25,7 @@ const ROUND: u64 = 1;
 
 /// An answer that stores nothing.
 fn plain<'a>(alloc: Global, status: Status, text: &[u8]) -> Result<Answer<'a>, AllocError>
-    ensures { IfOk result (IsPlain status text.now) }
+    ensures { IfOk result (PrintsOnly status text.now) }
 {
     Ok(Answer {
         status,

@@ -9,8 +9,8 @@ mod encode;
 mod first;
 mod link;
 mod numbers;
-mod read;
 mod output;
+mod read;
 mod weave;
 mod write;
 
