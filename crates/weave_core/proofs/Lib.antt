@@ -1,0 +1,15 @@
+pub mod Rows
+pub mod Words
+pub mod Access
+pub mod Source
+pub mod Body
+pub mod Leaves
+pub mod Branch
+pub mod Sets
+pub mod Visit
+pub mod Rounds
+pub mod Indirect
+pub mod Trace
+pub mod Prologue
+pub mod Values
+pub mod Planned
