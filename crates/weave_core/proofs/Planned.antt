@@ -19,7 +19,7 @@ use Rattle.qed_model.proofs.Steps.{fetched_aligned}
 use Rattle.weave_core.specs.World.{World, AllBelow}
 use Rattle.weave_core.specs.Blocks.{Round, BlockAt, Piece, Leaves}
 use Rattle.weave_core.specs.WovenIn.{WovenIn}
-use Rattle.weave_core.specs.Plan.{Fits, leads, AllGood, all_items, Describes, Plan, PlanKept}
+use Rattle.weave_core.specs.Plan.{Fits, leads, AllGood, all_items, straight, without_data, Describes, Plan, PlanKept}
 use Rattle.weave_core.proofs.Values.{kept}
 use Rattle.weave_core.proofs.Rounds.{visits_of}
 
@@ -129,12 +129,10 @@ pub plan_kept : PlanKept
 plan_kept f g w most round blocks p = kept f g w (leads blocks) most round (10 * round.count) (visits_of w round p.rounds) (woven_of f g w most round blocks p) (30 + 5 * most + 10 * round.count) (omega arith)
 
 -- ---- one straight block that ends in ECALL, without data
-pub straight_kept : (f g : File) (base d : ℕ) (fits : Fits f g base d []) (entry : ℕ → ℕ) (most : ℕ) (is : List Ins) (e : Ins) → class_of e.kind ≡ class.End → Piece (world f g base d [] fits entry) most f.entry is → fetched_at (memory_of f.segments) f.ranges (f.entry + 4 * length is) ≡ Known e → f.entry < 2 ^ 64 → Reads (fetched_at (memory_of g.segments) g.ranges) entry g.entry (all_items d [] f.entry (record { count = 0; from = 0; to = 0 }) (record { start = f.entry; body = is ∷ []; end = Stops e } ∷ [])) → Kept f g (piece_bound most 0)
-straight_kept f g base d fits entry most is e c piece known low r =
-    let w = world f g base d [] fits entry in
-    let round : Round = record { count = 0; from = 0; to = 0 } in
-    let b : Block = record { start = f.entry; body = is ∷ []; end = Stops e } in
-    plan_kept f g (world f g base d [] fits entry) most (record { count = 0; from = 0; to = 0 }) (record { start = f.entry; body = is ∷ []; end = Stops e } ∷ [])
+-- its visits have no items, whatever their number is
+pub straight_kept_in : (f g : File) (base d : ℕ) (fits : Fits f g base d []) (entry : ℕ → ℕ) (most count : ℕ) (is : List Ins) (e : Ins) → class_of e.kind ≡ class.End → Piece (world f g base d [] fits entry) most f.entry is → fetched_at (memory_of f.segments) f.ranges (f.entry + 4 * length is) ≡ Known e → f.entry < 2 ^ 64 → Reads (fetched_at (memory_of g.segments) g.ranges) entry g.entry (all_items d [] f.entry (without_data count) (straight f.entry is e ∷ [])) → Kept f g (piece_bound most count)
+straight_kept_in f g base d fits entry most count is e c piece known low r =
+    plan_kept f g (world f g base d [] fits entry) most (without_data count) (straight f.entry is e ∷ [])
     (record {
       world = describes f g base d [] fits entry;
       words = r;
@@ -142,9 +140,13 @@ straight_kept f g base d fits entry most is e c piece known low r =
       begins = first (f.entry == f.entry) (eq-eqb f.entry f.entry refl);
       rounds = inl (refl, refl);
     }) where
-      ends : (k : Class) → k ≡ class.End → Leaves k (world f g base d [] fits entry) (leads (record { start = f.entry; body = is ∷ []; end = Stops e } ∷ [])) e (f.entry + 4 * length is)
+      ends : (k : Class) → k ≡ class.End → Leaves k (world f g base d [] fits entry) (leads (straight f.entry is e ∷ [])) e (f.entry + 4 * length is)
       ends class.End c = tt
       ends k c = absurd (cc)
 
       first : (b : Bool) → b ≡ true → (b || false) ≡ true
       first b h = rw h refl
+
+-- the same without a visited word
+pub straight_kept : (f g : File) (base d : ℕ) (fits : Fits f g base d []) (entry : ℕ → ℕ) (most : ℕ) (is : List Ins) (e : Ins) → class_of e.kind ≡ class.End → Piece (world f g base d [] fits entry) most f.entry is → fetched_at (memory_of f.segments) f.ranges (f.entry + 4 * length is) ≡ Known e → f.entry < 2 ^ 64 → Reads (fetched_at (memory_of g.segments) g.ranges) entry g.entry (all_items d [] f.entry (record { count = 0; from = 0; to = 0 }) (record { start = f.entry; body = is ∷ []; end = Stops e } ∷ [])) → Kept f g (piece_bound most 0)
+straight_kept f g base d fits entry most is e c piece known low r = straight_kept_in f g base d fits entry most 0 is e c piece known low r

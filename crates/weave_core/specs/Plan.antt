@@ -8,7 +8,7 @@ use Rattle.qed_model.specs.Halves.{Layout}
 use Rattle.qed_model.specs.Kept.{File, memory_of, Kept}
 use Rattle.qed_model.specs.Bounds.{piece_bound}
 use Rattle.qed_model.specs.declared.item.Item.{Item}
-use Rattle.qed_model.specs.Weave.{Reads, Block, all_entries, prologue, stub}
+use Rattle.qed_model.specs.Weave.{Reads, Block, Stops, all_entries, prologue, stub}
 use Rattle.weave_core.specs.World.{World, IsFixed, AllBelow, GoodSpans, InSpans}
 use Rattle.weave_core.specs.Blocks.{Pieces, Full, Round}
 use Rattle.weave_core.specs.Promise.{Rounds}
@@ -46,6 +46,14 @@ AllGood w leader most (b ∷ bs) = GoodBlock w leader most b × AllGood w leader
 -- the new code: the prologue, the entries one after the other, and the stub
 abbrev pub all_items : ℕ → List (ℕ × ℕ) → ℕ → Round → List Block → List Item
 all_items d spans start round blocks = prologue d spans start ++ (all_entries round.count round.from round.to blocks ++ stub)
+
+-- one straight block in one piece, which ends with the instruction e
+abbrev pub straight : ℕ → List Ins → Ins → Block
+straight start is e = record { start = start; body = is ∷ []; end = Stops e }
+
+-- any number of visited words, where there is no data range
+abbrev pub without_data : ℕ → Round
+without_data count = record { count = count; from = 0; to = 0 }
 
 -- ---- the promise over a plan
 -- the world is that of the two files
