@@ -58,9 +58,11 @@ grants-weaker need m k a (suc n) h g = let p = and_parts _ _ g in and_from _ _ (
 
 -- ---- the row of a store in the original half
 module _ (base d : ℕ) (f g : Memory) (u s s' : State) (i : Ins) (lay : Layout base d f g) (t : Twice base d f g u s s') (low1 : i.rs1 ≤ 13) (low2 : i.rs2 ≤ 13) where
+  -- both states touch the same address
   pub same_place : place i u ≡ place i s
   same_place = ap (λ x. (x + imm i) % 2 ^ 64) (t.originals i.rs1 low1)
 
+  -- the bytes that the store touches
   abbrev width : ℕ
   width = width_of i.kind
 
@@ -72,18 +74,23 @@ module _ (base d : ℕ) (f g : Memory) (u s s' : State) (i : Ins) (lay : Layout 
     allowed : (q : ℕ) → allows (λ c. c.write) (get s.memory q) ≡ true → allows (λ c. c.write) (get u.memory q) ≡ true
     allowed q e = allows-flags _ (get u.memory q) (get g q) (t.output.flags q) ∙ lay.writes q (sym (allows-flags _ (get s.memory q) (get f q) (t.input.flags q)) ∙ e)
 
+    -- the output is granted what the input is
     pub output_granted : grants (λ c. c.write) u.memory at width ≡ true
     output_granted = grants-weaker (λ c. c.write) s.memory u.memory at width allowed granted
 
+    -- the output behind the store
     abbrev pub stored_u : State
     stored_u = stored (put u.memory at width (reg s i.rs2)) (next_pc u) u
 
+    -- the input behind the store
     abbrev pub stored_s : State
     stored_s = stored (put s.memory at width (reg s i.rs2)) (next_pc s) s
 
+    -- a byte of the input is mapped in its state
     in_s : (q : ℕ) → is_some (get f q) ≡ true → is_some (get s.memory q) ≡ true
     in_s q e = some-flags _ _ (t.input.flags q) ∙ e
 
+    -- a byte of the output is mapped in its state
     in_u : (q : ℕ) → is_some (get g q) ≡ true → is_some (get u.memory q) ≡ true
     in_u q e = some-flags _ _ (t.output.flags q) ∙ e
 
@@ -94,6 +101,7 @@ module _ (base d : ℕ) (f g : Memory) (u s s' : State) (i : Ins) (lay : Layout 
       not_mapped true e = absurd (let x = lay.high q e in omega (arith, x))
       not_mapped false e = e
 
+    -- after the store both states still agree, and the duplicate half stays
     pub store_row : Twice base d f g stored_u stored_s s'
     store_row = record {
       output = record { flags = λ q. flags-put u.memory at width (reg s i.rs2) q ∙ t.output.flags q; regs = t.output.regs; zero_reg = t.output.zero_reg };

@@ -32,6 +32,7 @@ pub step-compute : (s : State) (i : Ins) → s.outcome ≡ Going → next s ≡ 
 unfolding execute
 step-compute s i g n c = step-class s i class.Compute g n c
 
+-- what is fetched passed both tests
 passed : (a b : Bool) (x : Fetched) (i : Ins) → cond (a && b) x Refused ≡ Known i → (a ≡ true) × (b ≡ true)
 passed true true x i e = (refl, refl)
 passed true false x i e = absurd (cc)
@@ -87,10 +88,12 @@ step-guard s q g n =
     step-class s (guard q) class.Branch g n refl ∙ rw grain refl
 
 -- ---- accesses that are granted
+-- a load that is granted
 pub step-load : (s : State) (i : Ins) → s.outcome ≡ Going → next s ≡ Known i → class_of i.kind ≡ class.Load → grants (λ f. f.read) s.memory (place i s) (width_of i.kind) ≡ true → step s ≡ moved (set_reg i.rd (loaded i.kind (number s.memory (place i s) (width_of i.kind))) s.regs) (next_pc s) s
 unfolding execute
 step-load s i g n c ok = step-class s i class.Load g n c ∙ rw ok refl
 
+-- a store that is granted
 pub step-store : (s : State) (i : Ins) → s.outcome ≡ Going → next s ≡ Known i → class_of i.kind ≡ class.Store → grants (λ c. c.write) s.memory (place i s) (width_of i.kind) ≡ true → step s ≡ stored (put s.memory (place i s) (width_of i.kind) (reg s i.rs2)) (next_pc s) s
 unfolding execute
 step-store s i go n c g = step-class s i class.Store go n c ∙ rw g refl

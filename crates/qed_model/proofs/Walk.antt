@@ -65,6 +65,7 @@ guard_walk c s q o h low e =
 abbrev pub constant : ℕ → ℕ → ℕ → List Ins
 constant a r v = ins Auipc r 0 0 (upper_part (distance_between a v)) ∷ ins Addi r r 0 (distance_between a v -ℤ upper_part (distance_between a v)) ∷ []
 
+-- the two parts of a distance add up to it
 back : (d u : ℤ) → u +ℤ (d -ℤ u) ≡ d
 back d u = omega (arith, ints)
 

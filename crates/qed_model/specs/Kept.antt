@@ -38,6 +38,7 @@ pub record AreRegs (regs : List ℕ) : Type 0 where
   pub count : length regs ≡ 32
   pub fit : (r : ℕ) → slice_index regs r < 2 ^ 64
 
+-- all registers 0
 abbrev pub zeros : List ℕ
 zeros = replicate 32 0
 
@@ -49,10 +50,12 @@ after_input f n = run (start f zeros) n
 abbrev pub after_output : File → List ℕ → ℕ → State
 after_output g regs n = run (start g regs) n
 
+-- whether a run stopped by a trap
 abbrev pub is_trapped : Outcome → Bool
 is_trapped (Trapped c pc) = true
 is_trapped _ = false
 
+-- the run goes on, has ended, or a check fired
 abbrev pub NotTrapped : State → Type 0
 NotTrapped s = is_trapped s.outcome ≡ false
 

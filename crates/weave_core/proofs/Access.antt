@@ -31,6 +31,7 @@ use Rattle.weave_core.specs.World.{World, Quiet, Halved, IsFixed, OutsideAll, Al
 use Rattle.weave_core.proofs.Rows.{At, Led, led_none, led_on, led_more, signed_other, quiet_as, pc_four, compute_walk, halved_original, halved_pair, halved_free, pair_value}
 use Rattle.weave_core.proofs.Words.{free_30, guard_row}
 
+-- an access touches 8 bytes at most
 width_le : (k : Kind) → width_of k ≤ 8
 width_le Lb = omega arith
 width_le Lbu = omega arith
@@ -44,6 +45,7 @@ width_le Sw = omega arith
 width_le k = omega arith
 
 -- ---- a store keeps the code
+-- what is fetched depends on the bytes below 2^64 alone
 same_fetch_low : (m n : Memory) (ranges : List (ℕ × ℕ)) (a : ℕ) → ((q : ℕ) → flags_at m q ≡ flags_at n q) → ((q : ℕ) → q < 2 ^ 64 → allows (λ f. f.execute) (get m q) ≡ true → get m q ≡ get n q) → fetched_at m ranges a ≡ fetched_at n ranges a
 unfolding fetched_at byte_at
 same_fetch_low m n ranges a flags cells =
@@ -56,11 +58,13 @@ same_fetch_low m n ranges a flags cells =
       shifted true false g g' d e h = refl
       shifted false r g g' d e h = refl
 
+-- a store that is granted leaves the code as it is, since no byte may be written and executed
 pub over_stored : (c : ℕ → Fetched) (m : Memory) (s : State) (a n v p : ℕ) → IsFixed m → a < 2 ^ 64 → ((q : ℕ) → flags_at s.memory q ≡ flags_at m q) → grants (λ f. f.write) s.memory a n ≡ true → Over c s → Over c (stored (put s.memory a n v) p s)
 over_stored c m s a n v p fixed ha flags g o = record {
   going = o.going;
   code = λ b. same_fetch_low (put s.memory a n v) s.memory s.ranges b (flags-put s.memory a n v) (λ q l x. get-put_outside s.memory a n v q (apart q l x)) ∙ o.code b;
 } where
+  -- a byte that may be executed is not touched
   apart : (q : ℕ) → q < 2 ^ 64 → allows (λ f. f.execute) (get (put s.memory a n v) q) ≡ true → n ≤ offset a q
   apart q l x =
       ⊎_elim
@@ -73,38 +77,46 @@ over_stored c m s a n v p fixed ha flags g o = record {
       (λ out. out)
       (cases_lt (offset a q) n)
 
+-- a store keeps permissions and registers
 pub flagged_stored : (m : Memory) (s : State) (a n v p : ℕ) → Flagged m s → Flagged m (stored (put s.memory a n v) p s)
 flagged_stored m s a n v p f = record { flags = λ q. flags-put s.memory a n v q ∙ f.flags q; regs = f.regs; zero_reg = f.zero_reg }
 
 -- ---- an access that does not trap is granted
+-- a step that does not trap was granted
 granted_of : (b : Bool) (x y : State) → is_trapped y.outcome ≡ true → NotTrapped (cond b x y) → b ≡ true
 granted_of true x y t h = refl
 granted_of false x y t h = absurd (false≢true (sym h ∙ t))
 
+-- a load that does not trap was granted
 pub load_granted : (s : State) (i : Ins) → s.outcome ≡ Going → next s ≡ Known i → class_of i.kind ≡ class.Load → NotTrapped (step s) → grants (λ f. f.read) s.memory (place i s) (width_of i.kind) ≡ true
 unfolding execute
 load_granted s i g n c h = granted_of (grants (λ f. f.read) s.memory (place i s) (width_of i.kind)) _ (trapped (cause.Load (place i s)) s) refl (subst NotTrapped (step-class s i class.Load g n c) h)
 
+-- and so was a store
 pub store_granted : (s : State) (i : Ins) → s.outcome ≡ Going → next s ≡ Known i → class_of i.kind ≡ class.Store → NotTrapped (step s) → grants (λ f. f.write) s.memory (place i s) (width_of i.kind) ≡ true
 unfolding execute
 store_granted s i g n c h = granted_of (grants (λ f. f.write) s.memory (place i s) (width_of i.kind)) _ (trapped (cause.Store (place i s)) s) refl (subst NotTrapped (step-class s i class.Store g n c) h)
 
+-- an address behind the ranges is outside of each
 pub beyond : (spans : List (ℕ × ℕ)) (top q : ℕ) → AllBelow spans top → top ≤ q → OutsideAll spans q
 beyond [] top q b h = tt
 beyond (r ∷ rs) top q b h = (inr (omega (arith, b.0)), beyond rs top q b.1 h)
 
 module _ (w : World) where
+  -- a load of the output
   pub load_walk : (u : State) (i : Ins) → Over w.code u → w.code u.pc ≡ Known i → class_of i.kind ≡ class.Load → grants (λ f. f.read) u.memory (place i u) (width_of i.kind) ≡ true → MissesAs class.Load w.spans i u → Walk (Quiet w.spans) u 1 (moved (set_reg i.rd (loaded i.kind (number u.memory (place i u) (width_of i.kind))) u.regs) (u.pc + 4) u)
   load_walk u i o h c g m =
       walk_one (Quiet w.spans) u _ (quiet_as w u i class.Load o h c (λ e. absurd (cc)) (λ e. absurd (cc)) m)
       (step-load u i o.going (known_at w.code u i o h) c g ∙ ap (λ p. moved (set_reg i.rd (loaded i.kind (number u.memory (place i u) (width_of i.kind))) u.regs) p u) (pc_four w u i h))
 
+  -- a store of the output
   pub store_walk : (u : State) (i : Ins) → Over w.code u → w.code u.pc ≡ Known i → class_of i.kind ≡ class.Store → grants (λ f. f.write) u.memory (place i u) (width_of i.kind) ≡ true → MissesAs class.Store w.spans i u → Walk (Quiet w.spans) u 1 (stored (put u.memory (place i u) (width_of i.kind) (reg u i.rs2)) (u.pc + 4) u)
   store_walk u i o h c g m =
       walk_one (Quiet w.spans) u _ (quiet_as w u i class.Store o h c (λ e. absurd (cc)) (λ e. absurd (cc)) m)
       (step-store u i o.going (known_at w.code u i o h) c g ∙ ap (λ p. stored (put u.memory (place i u) (width_of i.kind) (reg u i.rs2)) p u) (pc_four w u i h))
 
   -- ---- the original half
+  -- an access of an original base has the input's address
   same_place : (u s s' : State) (i : Ins) → Halved w u s s' → i.rs1 ≤ 13 → place i u ≡ place i s
   same_place u s s' i t h = ap (λ x. (x + imm i) % 2 ^ 64) (t.originals i.rs1 h)
 
@@ -112,9 +124,11 @@ module _ (w : World) where
   mapped_in : (need : Flags → Bool) (s : State) (a n j : ℕ) → Flagged w.input s → grants need s.memory a n ≡ true → j < n → is_some (get w.input (wrap (a + j))) ≡ true
   mapped_in need s a n j f g h = some_of_allows need _ (sym (allows-flags need _ _ (f.flags (wrap (a + j)))) ∙ grants_at need s.memory a n j g h)
 
+  -- the output may read what the input may
   read_granted : (u s s' : State) (a n : ℕ) → Halved w u s s' → grants (λ f. f.read) s.memory a n ≡ true → grants (λ f. f.read) u.memory a n ≡ true
   read_granted u s s' a n t g = grants-weaker (λ f. f.read) s.memory u.memory a n (λ q e. allows-flags _ (get u.memory q) (get w.output q) (t.output.flags q) ∙ w.layout.reads q (sym (allows-flags _ (get s.memory q) (get w.input q) (t.input.flags q)) ∙ e)) g
 
+  -- the load itself, behind its guard
   load_at : (u s s' : State) (i : Ins) (rest : List Item) → At w u (Plain i ∷ rest) s s' → class_of i.kind ≡ class.Load → i.rd ≤ 13 → i.rs1 ≤ 13 → s.outcome ≡ Going → next s ≡ Known i → grants (λ f. f.read) s.memory (place i s) (width_of i.kind) ≡ true → Led w u 1 1 rest (step s) s'
   load_at u s s' i rest a c hd h1 go n g =
       let k = width_of i.kind in
@@ -133,15 +147,18 @@ module _ (w : World) where
         at = record { over = over_moved w.code u (set_reg i.rd v u.regs) (u.pc + 4) a.over; reads = a.reads.1; halved = rw (step-load s i go n c g) t };
       }
 
+  -- the original part of a load: the guard of the base, and the load
   pub original_load : (u s s' : State) (i : Ins) (rest : List Item) → At w u ((guard i.rs1 ++ (Plain i ∷ [])) ++ rest) s s' → class_of i.kind ≡ class.Load → i.rd ≤ 13 → i.rs1 ≤ 13 → s.outcome ≡ Going → next s ≡ Known i → NotTrapped (step s) → reg s i.rs1 ≡ reg s' i.rs1 → Led w u 1 2 rest (step s) s'
   original_load u s s' i rest a c hd h1 go n calm same =
       let a1 : At w u (guard i.rs1 ++ (Plain i ∷ rest)) s s' = subst (λ l. At w u l s s') (append_assoc (guard i.rs1) (Plain i ∷ []) rest) a in
       led_on w u 0 1 1 1 (Plain i ∷ rest) rest s s' (step s) s' (guard_row w u i.rs1 (Plain i ∷ rest) s s' a1 h1 same)
       (λ x b. load_at x s s' i rest b c hd h1 go n (load_granted s i go n c calm))
 
+  -- the halves without the cursor and the unmapped bytes
   twice_of : (u s s' : State) → Halved w u s s' → Twice w.base w.distance w.input w.output u s s'
   twice_of u s s' t = record { output = t.output; input = t.input; shadow = t.shadow; originals = t.originals; pairs = t.pairs; distance = t.distance; bytes = t.bytes; mirror_bytes = t.mirror_bytes; fixed = t.fixed }
 
+  -- an address of a range stands in the original half
   span_within : (spans : List (ℕ × ℕ)) (base top q : ℕ) → GoodSpans base spans → AllBelow spans top → InSpans spans q → (base ≤ q) × (q < top)
   span_within [] base top q g b h = absurd h
   span_within (r ∷ rs) base top q g b h = ⊎_elim (λ x. let l = g.0.low in (omega (arith, l, x.0), omega (arith, b.0, x.1))) (λ x. span_within rs base top q g.1 b.1 x) h
@@ -159,6 +176,7 @@ module _ (w : World) where
           by true e = absurd (let x = w.layout.high q e in omega (arith, x))
           by false e = e
 
+  -- the store itself, behind its guards
   store_at : (u s s' : State) (i : Ins) (rest : List Item) → At w u (Plain i ∷ rest) s s' → class_of i.kind ≡ class.Store → i.rs1 ≤ 13 → i.rs2 ≤ 13 → s.outcome ≡ Going → next s ≡ Known i → grants (λ f. f.write) s.memory (place i s) (width_of i.kind) ≡ true → Led w u 1 1 rest (step s) s'
   store_at u s s' i rest a c h1 h2 go n g =
       let k = width_of i.kind in
@@ -198,6 +216,7 @@ module _ (w : World) where
           spare = far;
         }
 
+  -- the guards of both source registers
   pub guards_of_row : (u s s' : State) (i : Ins) (rest : List Item) → At w u (guards_of i ++ rest) s s' → i.rs1 ≤ 13 → i.rs2 ≤ 13 → reg s i.rs1 ≡ reg s' i.rs1 → reg s i.rs2 ≡ reg s' i.rs2 → Led w u 0 2 rest s s'
   guards_of_row u s s' i rest a h1 h2 e1 e2 =
       let second = cond (i.rs2 == i.rs1) [] (guard i.rs2) in
@@ -207,6 +226,7 @@ module _ (w : World) where
         maybe true x b = led_more w x 0 0 0 1 rest s s' (omega arith) (omega arith) (led_none w x rest s s' b)
         maybe false x b = guard_row w x i.rs2 rest s s' b h2 e2
 
+  -- the original part of a store: the guards of base and value, and the store
   pub original_store : (u s s' : State) (i : Ins) (rest : List Item) → At w u ((guards_of i ++ (Plain i ∷ [])) ++ rest) s s' → class_of i.kind ≡ class.Store → i.rs1 ≤ 13 → i.rs2 ≤ 13 → s.outcome ≡ Going → next s ≡ Known i → NotTrapped (step s) → reg s i.rs1 ≡ reg s' i.rs1 → reg s i.rs2 ≡ reg s' i.rs2 → Led w u 1 3 rest (step s) s'
   original_store u s s' i rest a c h1 h2 go n calm e1 e2 =
       let a1 : At w u (guards_of i ++ (Plain i ∷ rest)) s s' = subst (λ l. At w u l s s') (append_assoc (guards_of i) (Plain i ∷ []) rest) a in
@@ -218,6 +238,7 @@ module _ (w : World) where
   abbrev raised : State → Ins → State → State
   raised u i s' = moved (set_reg 30 ((reg s' i.rs1 + w.distance) % 2 ^ 64) u.regs) (u.pc + 4) u
 
+  -- the word that makes the base of the mirrored access
   base_walk : (u s s' : State) (i : Ins) (rest : List Item) → At w u (Plain (ins Add 30 (pair i.rs1) 14 (pos 0)) ∷ rest) s s' → i.rs1 ≤ 13 → Walk (Quiet w.spans) u 1 (raised u i s')
   unfolding result value
   base_walk u s s' i rest a h =
@@ -233,23 +254,29 @@ module _ (w : World) where
         regroup x y z e = omega arith
 
   module _ (s' : State) (a n : ℕ) (need : Flags → Bool) (fl : Flagged w.input s') (g : grants need s'.memory a n ≡ true) where
+    -- the mirrored address
     abbrev b : ℕ
     b = wrap (a + w.distance)
 
+    -- each byte of the access is mapped by the input
     mapped : (j : ℕ) → j < n → is_some (get w.input (wrap (a + j))) ≡ true
     mapped j h = mapped_in need s' a n j fl g h
 
+    -- and its mirror byte is at the distance above it
     up : (j : ℕ) → j < n → wrap (b + j) ≡ wrap (a + j) + w.distance
     up j h = mirror_byte w.base w.distance a j w.layout.top (w.layout.low _ (mapped j h)) (w.layout.high _ (mapped j h))
 
+    -- which is outside of the data ranges
     above : (j : ℕ) → j < n → OutsideAll w.spans (wrap (b + j))
     above j h = let l = w.layout.low _ (mapped j h) in let e = up j h in beyond w.spans (w.base + w.distance) (wrap (b + j)) w.spans_low (omega (arith, l, e))
 
+    -- the mirrored access is granted
     raised_granted : (u s : State) → Halved w u s s' → ((q : ℕ) → allows need (get w.input q) ≡ true → allows need (get w.output (q + w.distance)) ≡ true) → grants need u.memory b n ≡ true
     raised_granted u s t ok = grants_from need u.memory b n (λ j h.
         ap (λ q. allows need (get u.memory q)) (up j h) ∙ allows-flags need _ _ (t.output.flags (wrap (a + j) + w.distance))
         ∙ ok (wrap (a + j)) (sym (allows-flags need _ _ (fl.flags (wrap (a + j)))) ∙ grants_at need s'.memory a n j g h))
 
+    -- the number at the mirrored address is the shadow's
     raised_number : (u s : State) → Halved w u s s' → number u.memory b n ≡ number s'.memory a n
     raised_number u s t = same_number_at u.memory s'.memory b a n (λ j h. ap (byte_at u.memory) (up j h) ∙ t.mirror_bytes (wrap (a + j)) (mapped j h))
 
@@ -280,6 +307,7 @@ module _ (w : World) where
         (λ far. far)
         (cases_lt (offset b (r + w.distance)) n)
 
+  -- the mirror part of a load
   pub mirror_load : (u s s' : State) (i : Ins) (rest : List Item) → At w u (Plain (ins Add 30 (pair i.rs1) 14 (pos 0)) ∷ Plain (ins i.kind (pair i.rd) 30 0 i.imm) ∷ rest) s s' → class_of i.kind ≡ class.Load → i.rd ≤ 13 → i.rs1 ≤ 13 → s'.outcome ≡ Going → next s' ≡ Known i → NotTrapped (step s') → Led w u 2 2 rest s (step s')
   mirror_load u s s' i rest a c hd h1 go n calm =
       let g = load_granted s' i go n c calm in
@@ -304,6 +332,7 @@ module _ (w : World) where
         at = record { over = over_moved w.code u (set_reg (pair i.rd) v x.regs) (u.pc + 4 + 4) a.over; reads = a.reads.1.1; halved = rw (step-load s' i go n c g) t };
       }
 
+  -- the mirror part of a store
   pub mirror_store : (u s s' : State) (i : Ins) (rest : List Item) → At w u (Plain (ins Add 30 (pair i.rs1) 14 (pos 0)) ∷ Plain (ins i.kind 0 30 (pair i.rs2) i.imm) ∷ rest) s s' → class_of i.kind ≡ class.Store → i.rs1 ≤ 13 → i.rs2 ≤ 13 → s'.outcome ≡ Going → next s' ≡ Known i → NotTrapped (step s') → Led w u 2 2 rest s (step s')
   mirror_store u s s' i rest a c h1 h2 go n calm =
       let g = store_granted s' i go n c calm in

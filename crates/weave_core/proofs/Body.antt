@@ -21,6 +21,7 @@ use Rattle.weave_core.proofs.Words.{original_compute, mirror_compute, original_a
 use Rattle.weave_core.proofs.Access.{original_load, original_store, mirror_load, mirror_store}
 use Rattle.weave_core.proofs.Source.{Sourced, body_step, not_trapped_front, Steady, steady_on}
 
+-- AUIPC alone is
 auipc_is : (k : Kind) → is_auipc k ≡ true → k ≡ Auipc
 auipc_is Auipc e = refl
 auipc_is k e = absurd (false≢true e)
@@ -31,6 +32,7 @@ SameUses class.Load i s s' = reg s i.rs1 ≡ reg s' i.rs1
 SameUses class.Store i s s' = (reg s i.rs1 ≡ reg s' i.rs1) × (reg s i.rs2 ≡ reg s' i.rs2)
 SameUses _ i s s' = Unit {0}
 
+-- a clean instruction uses registers that are equal in both views
 same_uses : (c : Class) (ws : ℕ → Bool) (i : Ins) (s s' : State) → Clean c ws i → Steady ws s s' → SameUses c i s s'
 same_uses class.Load ws i s s' c st = st i.rs1 c
 same_uses class.Store ws i s s' c st = (st i.rs1 c.0, st i.rs2 c.1)
@@ -38,6 +40,7 @@ same_uses c ws i s s' k st = tt
 
 module _ (w : World) where
   -- ---- one instruction
+  -- the original part of an instruction other than AUIPC
   original_as_row : (c : Class) (u s s' : State) (i : Ins) (rest : List Item) → class_of i.kind ≡ c → IsBody c → FitsPiece i → is_auipc i.kind ≡ false → At w u (original_as c i s.pc ++ rest) s s' → Sourced w s → w.source s.pc ≡ Known i → NotTrapped (step s) → SameUses c i s s' → Led w u 1 3 rest (step s) s'
   original_as_row class.Compute u s s' i rest e b f n a so h calm same = led_more w u 1 1 1 3 rest (step s) s' (omega arith) (omega arith) (original_compute w u s s' i rest a e n f.rd f.rs1 f.rs2 so.over.going (known_at w.source s i so.over h))
   original_as_row class.Fence u s s' i rest e b f n a so h calm same = led_more w u 1 1 1 3 rest (step s) s' (omega arith) (omega arith) (original_fence w u s s' i rest a e so.over.going (known_at w.source s i so.over h))
@@ -45,6 +48,7 @@ module _ (w : World) where
   original_as_row class.Store u s s' i rest e b f n a so h calm same = original_store w u s s' i rest a e f.rs1 f.rs2 so.over.going (known_at w.source s i so.over h) calm same.0 same.1
   original_as_row c u s s' i rest e b f n a so h calm same = absurd b
 
+  -- the original part of an instruction, in at most three steps
   pub original_row : (u s s' : State) (i : Ins) (rest : List Item) → FitsPiece i → At w u (original i s.pc ++ rest) s s' → Sourced w s → w.source s.pc ≡ Known i → NotTrapped (step s) → SameUses (class_of i.kind) i s s' → Led w u 1 3 rest (step s) s'
   original_row u s s' i rest f a so h calm same =
       elim (is_auipc i.kind) as (λ b. is_auipc i.kind ≡ b → At w u (cond b (Constant i.rd (target i s.pc) ∷ []) (original_as (class_of i.kind) i s.pc) ++ rest) s s' → Led w u 1 3 rest (step s) s') [
@@ -52,6 +56,7 @@ module _ (w : World) where
         | false ↦ λ e x. original_as_row (class_of i.kind) u s s' i rest refl f.body f e x so h calm same
       ] refl a
 
+  -- the mirror part of an instruction other than AUIPC
   mirrored_as_row : (c : Class) (u s s' : State) (i : Ins) (rest : List Item) → class_of i.kind ≡ c → IsBody c → FitsPiece i → is_auipc i.kind ≡ false → At w u (mirror_as c i s'.pc ++ rest) s s' → Sourced w s' → w.source s'.pc ≡ Known i → NotTrapped (step s') → Led w u 0 2 rest s (step s')
   mirrored_as_row class.Compute u s s' i rest e b f n a so h calm = led_more w u 1 1 0 2 rest s (step s') (omega arith) (omega arith) (mirror_compute w u s s' i rest a e n f.rd f.rs1 f.rs2 so.over.going (known_at w.source s' i so.over h))
   mirrored_as_row class.Fence u s s' i rest e b f n a so h calm = led_more w u 0 0 0 2 rest s (step s') (omega arith) (omega arith) (mirror_fence w u s s' i rest a e so.over.going (known_at w.source s' i so.over h))
@@ -59,6 +64,7 @@ module _ (w : World) where
   mirrored_as_row class.Store u s s' i rest e b f n a so h calm = led_more w u 2 2 0 2 rest s (step s') (omega arith) (omega arith) (mirror_store w u s s' i rest a e f.rs1 f.rs2 so.over.going (known_at w.source s' i so.over h) calm)
   mirrored_as_row c u s s' i rest e b f n a so h calm = absurd b
 
+  -- the mirror part of an instruction, in at most two steps
   pub mirrored_row : (u s s' : State) (i : Ins) (rest : List Item) → FitsPiece i → At w u (mirrored i s'.pc ++ rest) s s' → Sourced w s' → w.source s'.pc ≡ Known i → NotTrapped (step s') → Led w u 0 2 rest s (step s')
   mirrored_row u s s' i rest f a so h calm =
       elim (is_auipc i.kind) as (λ b. is_auipc i.kind ≡ b → At w u (cond b (Constant (pair i.rd) (target i s'.pc) ∷ []) (mirror_as (class_of i.kind) i s'.pc) ++ rest) s s' → Led w u 0 2 rest s (step s')) [
@@ -83,6 +89,7 @@ module _ (w : World) where
       (led_on w u 1 3 n (3 * n) tail last (step s) s' (run (step s) n) s' first
       (λ x b. originals_row is n (with_written i ws) x (step s) s' rest (omega arith) f.1 c.1 (steady_on w ws s s' (step s) i m st) (subst (λ p. At w x (each original is p ++ rest) (step s) s') (sym m.pc) b) m.sourced (subst (λ p. HasAt w.source p is) (sym m.pc) h.1) calm))
 
+  -- all mirror parts of a piece
   pub mirrors_row : (is : List Ins) (u s s' : State) (rest : List Item) → AllFit is → At w u (each mirrored is s'.pc ++ rest) s s' → Sourced w s' → HasAt w.source s'.pc is → NotTrapped (run s' (length is)) → Led w u 0 (2 * length is) rest s (run s' (length is))
   unfolding run
   mirrors_row [] u s s' rest f a so h calm = led_none w u rest s s' a
@@ -101,6 +108,7 @@ module _ (w : World) where
   pub record Visits (r : Round) (cost : ℕ) : Type 0 where
     pub row : (u s : State) (rest : List Item) → At w u (visit r.count r.from r.to ++ rest) s s → Led w u 0 cost rest s s
 
+  -- a whole piece: all original parts, all mirror parts, the comparison and the visits
   pub piece_row : (r : Round) (cost most : ℕ) (is : List Ins) (u s : State) (rest : List Item) → Visits r cost → Piece w most s.pc is → At w u (piece r.count r.from r.to is s.pc ++ rest) s s → Sourced w s → NotTrapped (run s (length is)) → Led w u (length is) (5 * length is + 13 + cost) rest (run s (length is)) (run s (length is))
   piece_row r cost most is u s rest v p a so calm =
       let n = length is in

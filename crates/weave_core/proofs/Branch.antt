@@ -28,6 +28,7 @@ use Rattle.weave_core.proofs.Source.{Sourced}
 use Rattle.weave_core.proofs.Leaves.{Lands, jumped_to, jumped_grain, step-branch, branch_taken, branch_passed, jump_walk, go_walk}
 
 -- ---- words that change the pc alone
+-- in at most so many steps to the same state with another pc, before the rest
 pub record Passes (w : World) (u : State) (most : ℕ) (rest : List Item) : Type 0 where
   pub steps : ℕ
   pub pc : ℕ
@@ -36,17 +37,21 @@ pub record Passes (w : World) (u : State) (most : ℕ) (rest : List Item) : Type
   pub reads : Reads w.code w.entry pc rest
 
 module _ (w : World) where
+  -- no step
   pass_none : (u : State) (rest : List Item) → Reads w.code w.entry u.pc rest → Passes w u 0 rest
   pass_none u rest h = record { steps = 0; pc = u.pc; within = omega arith; walk = walk_none (Quiet w.spans) u; reads = h }
 
+  -- the bound may be wider
   pass_more : (u : State) (l m : ℕ) (rest : List Item) → l ≤ m → Passes w u l rest → Passes w u m rest
   pass_more u l m rest h p = record { steps = p.steps; pc = p.pc; within = omega (arith, p.within); walk = p.walk; reads = p.reads }
 
+  -- one after another
   pass_on : (u : State) (l m : ℕ) (mid rest : List Item) → Passes w u l mid → ((p : ℕ) → Reads w.code w.entry p mid → Passes w (moved u.regs p u) m rest) → Passes w u (l + m) rest
   pass_on u l m mid rest a f =
       let b = f a.pc a.reads in
       record { steps = a.steps + b.steps; pc = b.pc; within = omega (arith, a.within, b.within); walk = walk_on (Quiet w.spans) u (moved u.regs a.pc u) _ a.steps b.steps a.walk b.walk; reads = b.reads }
 
+  -- a guard of equal registers
   pub guard_pass : (u : State) (q : ℕ) (rest : List Item) → Over w.code u → Reads w.code w.entry u.pc (guard q ++ rest) → (1 ≤ q → reg u q ≡ reg u (q + 16)) → Passes w u 1 rest
   guard_pass u q rest o h same =
       elim (q == 0) as (λ b. (q == 0) ≡ b → Reads w.code w.entry u.pc (cond b [] (Plain (ins Beq 0 q (q + 16) (pos 8)) ∷ ebreak ∷ []) ++ rest) → Passes w u 1 rest) [
@@ -65,6 +70,7 @@ module _ (w : World) where
               reads = subst (λ n. Reads w.code w.entry n rest) p x.1.1;
             }
 
+  -- the guards of both source registers
   pub guards_of_pass : (u : State) (i : Ins) (rest : List Item) → Over w.code u → Reads w.code w.entry u.pc (guards_of i ++ rest) → (1 ≤ i.rs1 → reg u i.rs1 ≡ reg u (i.rs1 + 16)) → (1 ≤ i.rs2 → reg u i.rs2 ≡ reg u (i.rs2 + 16)) → Passes w u 2 rest
   guards_of_pass u i rest o h e1 e2 =
       let second = cond (i.rs2 == i.rs1) [] (guard i.rs2) in
@@ -79,15 +85,18 @@ module _ (w : World) where
   own_pair u s q t h one = t.originals q h ∙ sym (t.pairs q one h)
 
   -- ---- the input's branch
+  -- where the branch goes to
   abbrev pub branch_to : Bool → Ins → State → ℕ
   branch_to b i s = cond b (target i s.pc) (next_pc s)
 
+  -- what a branch of the input does, where its test gives b
   pub record Branches (s : State) (i : Ins) (b : Bool) : Type 0 where
     pub test : holds i.kind (reg s i.rs1) (reg s i.rs2) ≡ b
     pub is : step s ≡ moved s.regs (branch_to b i s) s
     pub sourced : Sourced w (step s)
     pub pc : (step s).pc ≡ branch_to b i s
 
+  -- a branch whose test is known
   branch_as : (b : Bool) (s : State) (i : Ins) → Sourced w s → w.source s.pc ≡ Known i → class_of i.kind ≡ class.Branch → NotTrapped (step s) → holds i.kind (reg s i.rs1) (reg s i.rs2) ≡ b → Branches s i b
   branch_as b s i so h c calm e =
       let t = target i s.pc in
@@ -100,10 +109,12 @@ module _ (w : World) where
         ends true n = jumped_to s.regs (target i s.pc) s (jumped_grain s.regs (target i s.pc) s n)
         ends false n = refl
 
+  -- any branch
   pub branch_step : (s : State) (i : Ins) → Sourced w s → w.source s.pc ≡ Known i → class_of i.kind ≡ class.Branch → NotTrapped (step s) → Branches s i (holds i.kind (reg s i.rs1) (reg s i.rs2))
   branch_step s i so h c calm = branch_as (holds i.kind (reg s i.rs1) (reg s i.rs2)) s i so h c calm refl
 
   -- ---- the output: the signature by the pairs
+  -- the words behind the choice of the signature
   abbrev pub second_part : Ins → ℕ → List Item
   second_part i at = guards_of i ++ (Plain (ins i.kind 0 i.rs1 i.rs2 (pos 8)) ∷ Go ((at + 4) % 2 ^ 64) ∷ Go (target i at) ∷ [])
 
@@ -117,9 +128,11 @@ module _ (w : World) where
     pub at : At w to (second_part i s.pc) (step s) (step s)
     pub sign : reg to 16 ≡ branch_to b i s
 
+  -- the new signature changes neither half
   turned : (b : Bool) (u s : State) (i : Ins) (v p : ℕ) → Halved w u s s → step s ≡ moved s.regs v s → Halved w (moved (set_reg 16 v u.regs) p u) (step s) (step s)
   turned b u s i v p t e = subst (λ x. Halved w (moved (set_reg 16 v u.regs) p u) x x) (sym e) (halved_views w (moved (set_reg 16 v u.regs) p u) s s v v (halved_free w u s s 16 v p free_16 t))
 
+  -- the branch on the pairs chooses the signature
   pub turn_row : (b : Bool) (u s : State) (i : Ins) → At w u (leave_as class.Branch i s.pc) s s → class_of i.kind ≡ class.Branch → i.rs1 ≤ 13 → i.rs2 ≤ 13 → Branches s i b → Turns u s i b
   turn_row true u s i a c h1 h2 br =
       let k = ins i.kind 0 (pair i.rs1) (pair i.rs2) (pos 16) in
@@ -183,6 +196,7 @@ module _ (w : World) where
         stands = record { over = over_moved w.code x x.regs (w.entry t) o; halved = halved_moved w x s s (w.entry t) h; pc = ap w.entry (sym e); sign = sign ∙ sym e; leads = ap leader e ∙ l };
       }
 
+  -- the branch on the originals chooses the way to the entry that the signature names
   pub turn_go : (b : Bool) (leader : ℕ → Bool) (most : ℕ) (round : Round) (x s : State) (i : Ins) → BlockAt w leader most round (branch_to b i s) → leader (branch_to b i s) ≡ true → At w x (second_part i s.pc) (step s) (step s) → reg x 16 ≡ branch_to b i s → class_of i.kind ≡ class.Branch → i.rs1 ≤ 13 → i.rs2 ≤ 13 → Branches s i b → Lands w leader x 1 4 (step s)
   turn_go b leader most round x s i bl l a sign c h1 h2 br =
       let k = ins i.kind 0 i.rs1 i.rs2 (pos 8) in

@@ -36,6 +36,7 @@ use Rattle.weave_core.proofs.Branch.{guard_pass, own_pair}
 use Rattle.weave_core.proofs.Sets.{writes, writes_out, writes_long, AllTemps, Sets, halved_writes, sets_on, sets_compute, sets_load, sets_const}
 use Rattle.weave_core.proofs.Visit.{add_result, place_at}
 
+-- what ADDI gives
 addi_value : (u : State) (r a x z : ℕ) (n : ℤ) → reg u a ≡ x → (x + wrapped n) % 2 ^ 64 ≡ z → result Addi (ins Addi r a 0 n) u ≡ z
 unfolding result value
 addi_value u r a x z n e g = rw e g
@@ -44,28 +45,34 @@ addi_value u r a x z n e g = rw e g
 even : (x : ℕ) → x < 2 ^ 64 → bit_and x (wrapped (neg_ℤ (pos 2))) ≡ x / 2 * 2
 even x h = and_high_mask 64 1 (omega arith) x h
 
+-- what ANDI with -2 gives
 andi_value : (u : State) (r x : ℕ) → reg u r ≡ x → x < 2 ^ 64 → result Andi (ins Andi r r 0 (neg_ℤ (pos 2))) u ≡ x / 2 * 2
 unfolding result value
 andi_value u r x e h = ap (λ y. bit_and y (wrapped (neg_ℤ (pos 2)))) e ∙ even x h
 
+-- JALR
 step-jump_reg : (s : State) (i : Ins) → s.outcome ≡ Going → next s ≡ Known i → class_of i.kind ≡ class.JumpReg → step s ≡ jumped (set_reg i.rd (next_pc s) s.regs) ((reg s i.rs1 + imm i) % 2 ^ 64 / 2 * 2) s
 unfolding execute
 step-jump_reg s i g n c = step-class s i class.JumpReg g n c
 
+-- equal cells have equal bytes
 same_byte : (m n : Memory) (q : ℕ) → get m q ≡ get n q → byte_at m q ≡ byte_at n q
 unfolding byte_at
 same_byte m n q e = ap byte_in e
 
 -- ---- the input's jump
+-- the target of a JALR
 abbrev pub aim : State → Ins → ℕ
 aim s i = (reg s i.rs1 + imm i) % 2 ^ 64 / 2 * 2
 
+-- what a JALR of the input does
 pub record Leaps (w : World) (s : State) (i : Ins) : Type 0 where
   pub is : step s ≡ moved (set_reg i.rd (next_pc s) s.regs) (aim s i) s
   pub grain : aim s i % 4 ≡ 0
   pub sourced : Sourced w (step s)
   pub pc : (step s).pc ≡ aim s i
 
+-- a JALR that does not trap
 pub leap_step : (w : World) (s : State) (i : Ins) → Sourced w s → w.source s.pc ≡ Known i → class_of i.kind ≡ class.JumpReg → NotTrapped (step s) → Leaps w s i
 leap_step w s i so h c calm =
     let j = step-jump_reg s i so.over.going (known_at w.source s i so.over h) c in
@@ -76,23 +83,28 @@ leap_step w s i so h c calm =
     record { is = is; grain = g; sourced = subst (Sourced w) (sym is) so'; pc = ap (λ x. x.pc) is }
 
 -- ---- the return address
+-- the registers with the return address in rd and in its pair
 abbrev linked : ℕ → ℕ → List ℕ → List ℕ
 linked r v l = set_reg (pair r) v (set_reg r v l)
 
+-- x14 to x16, x30 and x31 stay
 linked_out : (r v q : ℕ) (l : List ℕ) → r ≤ 13 → (14 ≤ q) → (q ≤ 16) ⊎ (30 ≤ q) → slice_index (linked r v l) q ≡ slice_index l q
 linked_out zero v q l h lo hi = refl
 linked_out (suc r) v q l h lo hi =
     slice_index-set_reg_other (set_reg (suc r) v l) (suc r + 16) v q (λ e. ⊎_elim (λ x. absurd (omega arith)) (λ x. absurd (omega arith)) hi)
     ∙ slice_index-set_reg_other l (suc r) v q (λ e. absurd (omega arith))
 
+-- there are as many
 linked_long : (r v : ℕ) (l : List ℕ) → length (linked r v l) ≡ length l
 linked_long r v l = length-set_reg (set_reg r v l) (pair r) v ∙ length-set_reg l r v
 
+-- the words of the return address
 record Links (w : World) (u : State) (rest : List Item) (regs : List ℕ) : Type 0 where
   steps : ℕ
   within : steps ≤ 4
   sets : Sets w u steps rest regs
 
+-- they set rd and its pair
 links_sets : (w : World) (r v : ℕ) (u : State) (rest : List Item) → Over w.code u → Reads w.code w.entry u.pc (cond (r == 0) [] (Constant r v ∷ Constant (pair r) v ∷ []) ++ rest) → v < 2 ^ 64 → r ≤ 13 → length u.regs ≡ 32 → Links w u rest (linked r v u.regs)
 links_sets w zero v u rest o h hv hr long = record { steps = 0; within = omega arith; sets = record { pc = u.pc; walk = walk_none (Quiet w.spans) u; reads = h } }
 links_sets w (suc r) v u rest o h hv hr long =
@@ -105,6 +117,7 @@ links_sets w (suc r) v u rest o h hv hr long =
       sets = sets_on w u 2 2 (Constant (pair (suc r)) v ∷ rest) rest r1 (linked (suc r) v u.regs) (sets_const w u (suc r) v (Constant (pair (suc r)) v ∷ rest) o h1 hv (omega arith) (const_signed w u (suc r) v (Constant (pair (suc r)) v ∷ rest) o h1 (λ e. absurd (omega arith)))) (λ p k. sets_const w (moved r1 p u) (pair (suc r)) v rest (over_moved w.code u r1 p o) k hv (omega (arith, length-set_reg u.regs (suc r) v, long)) (const_signed w (moved r1 p u) (pair (suc r)) v rest (over_moved w.code u r1 p o) k (λ e. absurd (omega arith))));
     }
 
+-- the words that look the target up in the table and jump
 abbrev pub look_up : List Item
 look_up = Plain (ins Add 31 30 14 (pos 0)) ∷ Plain (ins Add 31 31 14 (pos 0)) ∷ Plain (ins Lw 30 31 0 (pos 0)) ∷ Plain (ins Add 30 30 31 (pos 0)) ∷ Plain (ins Jalr 0 30 0 (pos 0)) ∷ []
 
@@ -129,6 +142,7 @@ module _ (w : World) where
       sets_on w u 1 1 (Plain j ∷ rest) rest r1 (set_reg r (y / 2 * 2) r1) (sets_compute w u (ins Addi r b 0 n) y (Plain j ∷ rest) o h refl (λ e. absurd (cc)) (addi_value u r b x y n e refl))
       (λ p k. sets_compute w (moved r1 p u) j (y / 2 * 2) rest (over_moved w.code u r1 p o) k refl (λ e. absurd (cc)) (andi_value (moved r1 p u) r y (slice_index-set_reg_same u.regs r y pr (omega (arith, long))) (omega arith)))
 
+  -- the pairs give the signature, the originals the target, and rd the return address
   pub aim_row : (u s : State) (i : Ins) → At w u (leave_as class.JumpReg i s.pc) s s → i.rd ≤ 13 → i.rs1 ≤ 13 → Leaps w s i → Aimed w u s i
   aim_row u s i a hd h1 lp =
       let t = a.halved in
@@ -163,7 +177,7 @@ module _ (w : World) where
       let t5 : Halved w (moved (linked i.rd v r2) l.sets.pc u) (moved (set_reg i.rd v s.regs) g s) (moved (set_reg i.rd v s.regs) g s) = halved_pair w (moved (set_reg i.rd v r2) s2.pc u) (moved (set_reg i.rd v s.regs) g s) s i.rd v l.sets.pc g hd t4 in
       let at16 : slice_index r2 16 ≡ g = slice_index-set_reg_other (set_reg 30 y r1) 30 g 16 (λ e. absurd (omega arith)) ∙ slice_index-set_reg_other r1 30 y 16 (λ e. absurd (omega arith)) ∙ slice_index-set_reg_same (set_reg 16 y u.regs) 16 g (omega arith) (omega (arith, length-set_reg u.regs 16 y, long)) in
       let at30 : slice_index r2 30 ≡ g = slice_index-set_reg_same (set_reg 30 y r1) 30 g (omega arith) (omega (arith, length-set_reg r1 30 y, long1)) in
-      let walk = walk_on (Quiet w.spans) u x1 _ 2 (gp.steps + (2 + l.steps)) s1.walk (walk_on (Quiet w.spans) x1 x2 _ gp.steps (2 + l.steps) gp.walk (walk_on (Quiet w.spans) x2 x3 _ 2 l.steps s2.walk l.sets.walk)) in
+      let walk = walk_on (Quiet w.spans) u x1 (moved (linked i.rd v r2) l.sets.pc u) 2 (gp.steps + (2 + l.steps)) s1.walk (walk_on (Quiet w.spans) x1 x2 (moved (linked i.rd v r2) l.sets.pc u) gp.steps (2 + l.steps) gp.walk (walk_on (Quiet w.spans) x2 x3 (moved (linked i.rd v r2) l.sets.pc u) 2 l.steps s2.walk l.sets.walk)) in
       record {
         steps = 2 + (gp.steps + (2 + l.steps));
         regs = linked i.rd v r2;
@@ -185,27 +199,35 @@ module _ (w : World) where
     abbrev d : ℕ
     d = w.distance
 
+    -- the word that the table has for the target
     abbrev word : ℕ
     word = loaded Lw (number x.memory (a + 2 * d) 4)
 
+    -- its address does not wrap
     here : (j : ℕ) → j < 4 → wrap (a + 2 * d + j) ≡ a + 2 * d + j
     here j l = omega (arith, tb.low)
 
+    -- the table may be read
     table_reads : grants (λ f. f.read) x.memory (a + 2 * d) 4 ≡ true
     table_reads = grants_from (λ f. f.read) x.memory (a + 2 * d) 4 (λ j l. ap (λ q. allows (λ f. f.read) (get x.memory q)) (here j l) ∙ allows-flags (λ f. f.read) _ _ (h.output.flags (a + 2 * d + j)) ∙ tb.reads j l)
 
+    -- the table is as in the file
     table_same : number x.memory (a + 2 * d) 4 ≡ number w.output (a + 2 * d) 4
     table_same = same_number x.memory w.output (a + 2 * d) 4 (λ j l. let e = here j l in same_byte x.memory w.output (wrap (a + 2 * d + j)) (h.fixed (wrap (a + 2 * d + j)) (omega (arith, e, tb.from)) (omega arith)))
 
+    -- the word leads to the entry
     table_word : (word + (a + 2 * d)) % 2 ^ 64 ≡ w.entry a
     table_word = ap (λ z. (loaded Lw z + (a + 2 * d)) % 2 ^ 64) table_same ∙ tb.leads
 
+    -- the temporaries behind the look-up
     abbrev found : List (ℕ × ℕ)
     found = (31, a + d) ∷ (31, a + 2 * d) ∷ (30, word) ∷ (30, w.entry a) ∷ []
 
+    -- the last word, a JALR
     abbrev leap : List Item
     leap = Plain (ins Jalr 0 30 0 (pos 0)) ∷ []
 
+    -- the look-up
     find : Reads w.code w.entry x.pc look_up → Sets w x 4 leap (writes found x.regs)
     find r =
         let long = h.output.regs in
@@ -234,6 +256,7 @@ module _ (w : World) where
         let g31 : reg x3 31 ≡ a + 2 * d = slice_index-set_reg_other r2 30 word 31 (λ e. absurd (omega arith)) ∙ f31 in
         sets_compute w x3 (ins Add 30 30 31 (pos 0)) (w.entry a) leap (over_moved w.code x r3 p3 o) k3 refl (λ e. absurd (cc)) (add_result x3 30 30 31 word (a + 2 * d) (w.entry a) g30 g31 table_word))))
 
+    -- the look-up leads to the entry of the target
     pub leap_row : (leader : ℕ → Bool) (most : ℕ) (round : Round) → BlockAt w leader most round a → leader a ≡ true → t.pc ≡ a → reg x 16 ≡ a → Reads w.code w.entry x.pc look_up → Lands w leader x 5 5 t
     leap_row leader most round b l e sign r =
         let f = find r in

@@ -30,6 +30,7 @@ use Rattle.weave_core.proofs.Words.{free_30, free_16, const_walk, const_signed, 
 use Rattle.weave_core.proofs.Source.{Sourced}
 
 -- ---- jumps and branches
+-- a jump to a multiple of 4
 pub jumped_to : (regs : List ℕ) (t : ℕ) (s : State) → t % 4 ≡ 0 → jumped regs t s ≡ moved regs t s
 unfolding jumped
 jumped_to regs t s h = let e : (t % 4 == 0) ≡ true = eq-eqb _ _ h in rw e refl
@@ -43,18 +44,22 @@ jumped_grain regs t s h =
       | false ↦ λ e x. absurd (false≢true (sym x))
     ] refl h
 
+-- a branch
 pub step-branch : (s : State) (i : Ins) → s.outcome ≡ Going → next s ≡ Known i → class_of i.kind ≡ class.Branch → step s ≡ cond (holds i.kind (reg s i.rs1) (reg s i.rs2)) (jumped s.regs ((s.pc + imm i) % 2 ^ 64) s) (moved s.regs (next_pc s) s)
 unfolding execute
 step-branch s i g n c = step-class s i class.Branch g n c
 
+-- JAL
 pub step-jump : (s : State) (i : Ins) → s.outcome ≡ Going → next s ≡ Known i → class_of i.kind ≡ class.Jump → step s ≡ jumped (set_reg i.rd (next_pc s) s.regs) ((s.pc + imm i) % 2 ^ 64) s
 unfolding execute
 step-jump s i g n c = step-class s i class.Jump g n c
 
+-- ECALL
 pub step-end : (s : State) (i : Ins) → s.outcome ≡ Going → next s ≡ Known i → class_of i.kind ≡ class.End → step s ≡ stopped Ended s
 unfolding execute
 step-end s i g n c = step-class s i class.End g n c
 
+-- the zero word traps
 pub step-illegal : (s : State) (i : Ins) → s.outcome ≡ Going → next s ≡ Known i → class_of i.kind ≡ class.Illegal → NotTrapped (step s) → ⊥
 unfolding execute
 step-illegal s i g n c h = let x : NotTrapped (trapped (cause.Word 0) s) = subst NotTrapped (step-class s i class.Illegal g n c) h in false≢true (sym x)
@@ -65,12 +70,14 @@ step-none s Refused g n lacks h = false≢true (sym h)
 step-none s (Unknown x) g n lacks h = false≢true (sym h)
 step-none s (Known i) g n lacks h = lacks i refl
 
+-- a state of the input where no instruction stands traps in its next step
 pub no_code : (w : World) (s : State) → Sourced w s → ((i : Ins) → w.source s.pc ≡ Known i → ⊥) → NotTrapped (step s) → ⊥
 unfolding step
 no_code w s so lacks h =
     let e : step_at s.outcome s ≡ act (w.source s.pc) s = ap (λ o. step_at o s) so.over.going ∙ ap (λ f. act f s) (so.over.code s.pc) in
     step-none s (w.source s.pc) so.over.going (so.over.code s.pc) lacks (subst NotTrapped e h)
 
+-- BEQ is taken where both are equal
 pub equal_holds : (a b : ℕ) → a ≡ b → holds Beq a b ≡ true
 unfolding holds
 equal_holds a b e = eq-eqb a b e
@@ -89,6 +96,7 @@ same_entry p a b hp ha hb e f =
       sums x y u v e f = omega (arith, ints)
 
 -- ---- at an entry
+-- u is at the entry of the pc of s, with its values in both halves and its signature in x16
 pub record Stands (w : World) (leader : ℕ → Bool) (u s : State) : Type 0 where
   pub over : Over w.code u
   pub halved : Halved w u s s
@@ -106,11 +114,13 @@ pub record Lands (w : World) (leader : ℕ → Bool) (u : State) (least most : �
   pub stands : Stands w leader to s
 
 module _ (w : World) where
+  -- a branch of the output that is taken
   pub branch_taken : (u : State) (i : Ins) (t : ℕ) → Over w.code u → w.code u.pc ≡ Known i → class_of i.kind ≡ class.Branch → holds i.kind (reg u i.rs1) (reg u i.rs2) ≡ true → (u.pc + imm i) % 2 ^ 64 ≡ t → t % 4 ≡ 0 → Walk (Quiet w.spans) u 1 (moved u.regs t u)
   branch_taken u i t o h c taken e g =
       walk_one (Quiet w.spans) u _ (quiet_as w u i class.Branch o h c (λ e. absurd (cc)) (λ e. absurd (cc)) tt)
       (step-branch u i o.going (known_at w.code u i o h) c ∙ ap (λ b. cond b (jumped u.regs ((u.pc + imm i) % 2 ^ 64) u) (moved u.regs (next_pc u) u)) taken ∙ ap (λ p. jumped u.regs p u) e ∙ jumped_to u.regs t u g)
 
+  -- and one that is not
   pub branch_passed : (u : State) (i : Ins) → Over w.code u → w.code u.pc ≡ Known i → class_of i.kind ≡ class.Branch → holds i.kind (reg u i.rs1) (reg u i.rs2) ≡ false → Walk (Quiet w.spans) u 1 (moved u.regs (u.pc + 4) u)
   branch_passed u i o h c lacks =
       walk_one (Quiet w.spans) u _ (quiet_as w u i class.Branch o h c (λ e. absurd (cc)) (λ e. absurd (cc)) tt)
@@ -122,12 +132,14 @@ module _ (w : World) where
       walk_one (Quiet w.spans) u _ (quiet_as w u i class.Jump o h c (λ e. absurd (cc)) (λ e. absurd (cc)) tt)
       (step-jump u i o.going (known_at w.code u i o h) c ∙ ap (λ r. jumped (set_reg r (next_pc u) u.regs) ((u.pc + imm i) % 2 ^ 64) u) z ∙ ap (λ p. jumped u.regs p u) e ∙ jumped_to u.regs t u g)
 
+  -- a jump to an entry
   pub go_walk : (u : State) (t : ℕ) (rest : List Item) → Over w.code u → Reads w.code w.entry u.pc (Go t ∷ rest) → w.entry t < 2 ^ 64 → w.entry t % 4 ≡ 0 → Walk (Quiet w.spans) u 1 (moved u.regs (w.entry t) u)
   go_walk u t rest o h low g =
       let i = ins Jal 0 0 0 (distance_between u.pc (w.entry t)) in
       jump_walk u i (w.entry t) o h.0 refl refl (difference u.pc (w.entry t) (omega (arith, w.low u.pc i h.0)) low) g
 
   -- ---- the entry of a block
+  -- the check of the signature passes
   pub enter_row : (u s : State) (rest : List Item) → Over w.code u → Halved w u s s → reg u 16 ≡ s.pc → s.pc < 2 ^ 64 → Reads w.code w.entry u.pc (enter s.pc ++ rest) → Led w u 3 3 rest s s
   enter_row u s rest o t sign low h =
       let a = s.pc in
@@ -153,6 +165,7 @@ module _ (w : World) where
         same a b e = equal_holds a b e
 
   -- ---- to the next entry
+  -- the signature is set, and the jump leads to the entry
   pub go_row : (leader : ℕ → Bool) (most : ℕ) (round : Round) (u s : State) (t : ℕ) (rest : List Item) → BlockAt w leader most round t → leader t ≡ true → s.pc ≡ t → At w u (go_on t ++ rest) s s → Lands w leader u 3 3 s
   go_row leader most round u s t rest b l e a =
       let x = moved (set_reg 16 t u.regs) (u.pc + 8) u in
@@ -176,6 +189,7 @@ module _ (w : World) where
       }
 
   -- ---- the return address of a jump
+  -- the return address in rd and in its pair
   pub links_as : (r v p : ℕ) (u s : State) (rest : List Item) → At w u (cond (r == 0) [] (Constant r v ∷ Constant (pair r) v ∷ []) ++ rest) s s → v < 2 ^ 64 → r ≤ 13 → Led w u 0 4 rest (moved (set_reg r v s.regs) p s) (moved (set_reg r v s.regs) p s)
   links_as zero v p u s rest a hv h =
       let t = moved s.regs p s in
@@ -193,6 +207,7 @@ module _ (w : World) where
     pub sourced : Sourced w (step s)
     pub pc : (step s).pc ≡ target i s.pc
 
+  -- a JAL of the input goes to pc + immediate
   pub jump_step : (s : State) (i : Ins) → Sourced w s → w.source s.pc ≡ Known i → class_of i.kind ≡ class.Jump → NotTrapped (step s) → Jumps s i
   jump_step s i so h c calm =
       let known = known_at w.source s i so.over h in
@@ -203,6 +218,7 @@ module _ (w : World) where
       let so' : Sourced w (moved (set_reg i.rd (next_pc s) s.regs) t s) = record { over = over_moved w.source s (set_reg i.rd (next_pc s) s.regs) t so.over; flagged = flagged_set w.input s i.rd (next_pc s) t so.flagged } in
       record { is = is; sourced = subst (Sourced w) (sym is) so'; pc = ap (λ x. x.pc) is }
 
+  -- the return address of a JAL
   pub links_row : (u s : State) (i : Ins) (rest : List Item) → At w u (links i s.pc ++ rest) s s → i.rd ≤ 13 → Jumps s i → Led w u 0 4 rest (step s) (step s)
   links_row u s i rest a h j = subst (λ t. Led w u 0 4 rest t t) (sym j.is) (links_as i.rd (next_pc s) (target i s.pc) u s rest a (omega arith) h)
 
@@ -223,5 +239,6 @@ module _ (w : World) where
     spare = t.spare;
   }
 
+  -- ECALL ends the output
   pub end_walk : (u : State) (i : Ins) → Over w.code u → w.code u.pc ≡ Known i → class_of i.kind ≡ class.End → Walk (Quiet w.spans) u 1 (stopped Ended u)
   end_walk u i o h c = walk_one (Quiet w.spans) u _ (quiet_as w u i class.End o h c (λ e. absurd (cc)) (λ e. absurd (cc)) tt) (step-end u i o.going (known_at w.code u i o h) c)

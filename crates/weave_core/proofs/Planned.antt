@@ -2,7 +2,7 @@
 use Rattle.std.proofs.Common.{◌≡◌, ℕ, ◌+◌, ◌*◌, ◌%◌, ◌^◌, ◌<◌, ◌≤◌, inl, ⊎_elim, Bool, true, false, cond, List, [], ◌∷◌, ◌++◌, length, refl, sym, subst, arith}
 use Rattle.std.proofs.lemmas.Bool.{eqb-true, false≢true, and_parts, or_cases, leb-true, eq-eqb}
 use Rattle.std.proofs.lemmas.List.{append_assoc}
-use Rattle.std.specs.Prelude.{◌-◌, ◌==◌, ◌&&◌, ◌||◌}
+use Rattle.std.specs.Prelude.{◌-◌, ◌==◌, ◌&&◌, ◌||◌, nat_le}
 use Rattle.rv_isa.specs.declared.ins.Ins.{Ins}
 use Rattle.rv_isa.specs.declared.class.Class.{Class}
 use Rattle.rv_isa.specs.Kind.{class_of}
@@ -24,15 +24,21 @@ use Rattle.weave_core.proofs.Values.{kept}
 use Rattle.weave_core.proofs.Rounds.{visits_of}
 
 -- ---- what is fetched stands in a range
+-- what is fetched passed the test of the ranges
 ranged : (a b g : Bool) (x : Fetched) (i : Ins) → cond (a && (b && g)) x Refused ≡ Known i → b ≡ true
 ranged true true g x i e = refl
 ranged true false g x i e = absurd (cc)
 ranged false b g x i e = absurd (cc)
 
+-- a word of a range ends with it
+below_one : (r : ℕ × ℕ) (a top : ℕ) → r.1 ≤ top → (nat_le r.0 a && nat_le (a + 4) r.1) ≡ true → a + 4 ≤ top
+below_one r a top b x = let h = leb-true (a + 4) r.1 (and_parts (nat_le r.0 a) (nat_le (a + 4) r.1) x).1 in omega (arith, h, b)
+
 below_top : (ranges : List (ℕ × ℕ)) (a top : ℕ) → AllBelow ranges top → in_range a ranges ≡ true → a + 4 ≤ top
 below_top [] a top b e = absurd (false≢true e)
-below_top (r ∷ rs) a top b e = ⊎_elim (λ x. let h = leb-true (a + 4) r.1 (and_parts _ _ x).1 in omega (arith, h, b.0)) (λ x. below_top rs a top b.1 x) (or_cases _ _ e)
+below_top (r ∷ rs) a top b e = ⊎_elim (λ x. below_one r a top b.0 x) (λ x. below_top rs a top b.1 x) (or_cases _ _ e)
 
+-- so an instruction that is fetched stands below 2^63
 pub fetched_low : (m : Memory) (ranges : List (ℕ × ℕ)) (a : ℕ) (i : Ins) → AllBelow ranges (2 ^ 63 - 4) → fetched_at m ranges a ≡ Known i → a + 8 ≤ 2 ^ 63
 unfolding fetched_at
 fetched_low m ranges a i b e =
@@ -40,6 +46,7 @@ fetched_low m ranges a i b e =
     omega (arith, h)
 
 -- ---- lists of items
+-- the front of a list stands there
 reads_front : (c : ℕ → Fetched) (e : ℕ → ℕ) (a : ℕ) (xs ys : List Item) → Reads c e a (xs ++ ys) → Reads c e a xs
 reads_front c e a [] ys r = tt
 reads_front c e a (Mark m ∷ xs) ys r = (r.0, reads_front c e a xs ys r.1)
@@ -56,6 +63,7 @@ reads_rest c e a (Constant k v ∷ xs) ys r = reads_rest c e (a + 8) xs ys r.2
 reads_rest c e a (Go t ∷ xs) ys r = reads_rest c e (a + 4) xs ys r.1
 
 module _ (f g : File) (base d : ℕ) (spans : List (ℕ × ℕ)) (fits : Fits f g base d spans) (entry : ℕ → ℕ) where
+  -- the world of the two files
   abbrev pub world : World
   world = record {
     base = base;
@@ -77,13 +85,16 @@ module _ (f g : File) (base d : ℕ) (spans : List (ℕ × ℕ)) (fits : Fits f 
     span_reads = fits.span_reads;
   }
 
+  -- it is theirs
   pub describes : Describes f g world
   describes = record { input = refl; output = refl; input_code = λ a. refl; output_code = λ a. refl; bytes = fits.bytes; mirror_bytes = fits.mirror_bytes; spare = fits.spare }
 
 module _ (w : World) (most : ℕ) (round : Round) (leader : ℕ → Bool) where
+  -- the items of a block
   abbrev items : Block → List Item
   items b = entry_items round.count round.from round.to b
 
+  -- and of several
   abbrev all : List Block → List Item
   all bs = all_entries round.count round.from round.to bs
 
@@ -108,6 +119,7 @@ module _ (w : World) (most : ℕ) (round : Round) (leader : ℕ → Bool) where
       (λ x. block_at bs next.0 a rest next.1 good.1 x)
       (or_cases (b.start == a) (leads bs a) e)
 
+-- a plan is woven
 pub woven_of : (f g : File) (w : World) (most : ℕ) (round : Round) (blocks : List Block) → Plan f g w most round blocks → WovenIn f g w (leads blocks) most round
 woven_of f g w most round blocks p =
     let last = all_entries round.count round.from round.to blocks ++ stub in
@@ -125,6 +137,7 @@ woven_of f g w most round blocks p =
       blocks = λ a h. block_at w most round (leads blocks) blocks next.0 a stub next.1 p.good h;
     }
 
+-- so it keeps the values
 pub plan_kept : PlanKept
 plan_kept f g w most round blocks p = kept f g w (leads blocks) most round (10 * round.count) (visits_of w round p.rounds) (woven_of f g w most round blocks p) (30 + 5 * most + 10 * round.count) (omega arith)
 

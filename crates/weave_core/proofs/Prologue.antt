@@ -24,22 +24,26 @@ use Rattle.weave_core.proofs.Rows.{At, signed_other, compute_walk}
 use Rattle.weave_core.proofs.Words.{const_walk, const_signed}
 use Rattle.weave_core.proofs.Source.{Sourced}
 use Rattle.weave_core.proofs.Leaves.{Lands, go_row}
+use Rattle.weave_core.proofs.Sets.{Sets, sets_on}
 
 -- n registers from a on are set to 0
 abbrev zeroed : ℕ → ℕ → List ℕ → List ℕ
 zeroed a zero regs = regs
 zeroed a (suc n) regs = zeroed (a + 1) n (set_reg a 0 regs)
 
+-- there are as many registers
 long_zeroed : (n a : ℕ) (regs : List ℕ) → length (zeroed a n regs) ≡ length regs
 long_zeroed zero a regs = refl
 long_zeroed (suc n) a regs = long_zeroed n (a + 1) (set_reg a 0 regs) ∙ length-set_reg regs a 0
 
+-- the others stay
 zeroed_out : (n a r : ℕ) (regs : List ℕ) → (r < a) ⊎ (a + n ≤ r) → slice_index (zeroed a n regs) r ≡ slice_index regs r
 zeroed_out zero a r regs h = refl
 zeroed_out (suc n) a r regs h =
     zeroed_out n (a + 1) r (set_reg a 0 regs) (⊎_elim (λ l. inl (omega arith)) (λ l. inr (omega arith)) h)
     ∙ slice_index-set_reg_other regs a 0 r (λ e. ⊎_elim (λ l. absurd (omega arith)) (λ l. absurd (omega arith)) h)
 
+-- those are 0
 zeroed_in : (n a r : ℕ) (regs : List ℕ) → 0 < a → a ≤ r → r < a + n → r < length regs → slice_index (zeroed a n regs) r ≡ 0
 zeroed_in zero a r regs p l h k = absurd (omega arith)
 zeroed_in (suc n) a r regs p l h k =
@@ -48,20 +52,13 @@ zeroed_in (suc n) a r regs p l h k =
     (λ ne. zeroed_in n (a + 1) r (set_reg a 0 regs) (omega arith) (omega (arith, ne)) (omega arith) (omega (arith, length-set_reg regs a 0)))
     (cases_eq r a)
 
--- in n steps to the same state with these registers, before the rest
-record Sets (w : World) (u : State) (n : ℕ) (rest : List Item) (regs : List ℕ) : Type 0 where
-  pc : ℕ
-  walk : Walk (Quiet w.spans) u n (moved regs pc u)
-  reads : Reads w.code w.entry pc rest
-
 module _ (w : World) where
-  sets_on : (u : State) (m n : ℕ) (mid rest : List Item) (regs regs' : List ℕ) → Sets w u m mid regs → ((p : ℕ) → Reads w.code w.entry p mid → Sets w (moved regs p u) n rest regs') → Sets w u (m + n) rest regs'
-  sets_on u m n mid rest regs regs' a f = let b = f a.pc a.reads in record { pc = b.pc; walk = walk_on (Quiet w.spans) u (moved regs a.pc u) _ m n a.walk b.walk; reads = b.reads }
-
+  -- what the word gives
   zero_value : (u : State) (a : ℕ) → reg u 0 ≡ 0 → result Addi (ins Addi a 0 0 (pos 0)) u ≡ 0
   unfolding result value
   zero_value u a e = rw e refl
 
+  -- n words, each of which sets a register to 0
   zero_walk : (n a : ℕ) (u : State) (rest : List Item) → Over w.code u → reg u 0 ≡ 0 → Reads w.code w.entry u.pc (zero_from a n ++ rest) → Sets w u n rest (zeroed a n u.regs)
   zero_walk zero a u rest o z h = record { pc = u.pc; walk = walk_none (Quiet w.spans) u; reads = h }
   zero_walk (suc n) a u rest o z h =
@@ -73,10 +70,12 @@ module _ (w : World) where
       let e : 1 + n ≡ suc n = omega arith in
       record { pc = b.pc; walk = subst (λ k. Walk (Quiet w.spans) u k (moved (zeroed a (suc n) u.regs) b.pc u)) e (walk_on (Quiet w.spans) u x _ 1 n one b.walk); reads = b.reads }
 
+  -- what LUI gives
   lui_value : (u : State) (d : ℕ) → d < 2 ^ 64 → result Lui (ins Lui 14 0 0 (pos d)) u ≡ d
   unfolding result
   lui_value u d h = omega arith
 
+  -- LUI sets x14
   lui_walk : (u : State) (d : ℕ) (rest : List Item) → d < 2 ^ 64 → Over w.code u → Reads w.code w.entry u.pc (Plain (ins Lui 14 0 0 (pos d)) ∷ rest) → Sets w u 1 rest (set_reg 14 d u.regs)
   lui_walk u d rest l o h =
       record { pc = u.pc + 4; walk = subst (λ v. Walk (Quiet w.spans) u 1 (moved (set_reg 14 v u.regs) (u.pc + 4) u)) (lui_value u d l) (compute_walk w u (ins Lui 14 0 0 (pos d)) o h.0 refl (signed_other w u (ins Lui 14 0 0 (pos d)) o h.0 (λ e z. absurd (cc)))); reads = h.1 }
@@ -85,42 +84,50 @@ module _ (w : World) where
   abbrev first_regs : ℕ → List ℕ → List ℕ
   first_regs d regs = set_reg 14 d (zeroed 17 13 (zeroed 1 13 regs))
 
+  -- the 27 words up to the distance
   first_walk : (u : State) (rest : List Item) → Over w.code u → reg u 0 ≡ 0 → w.distance < 2 ^ 64 → Reads w.code w.entry u.pc (zero_from 1 13 ++ (zero_from 17 13 ++ (Plain (ins Lui 14 0 0 (pos w.distance)) ∷ rest))) → Sets w u 27 rest (first_regs w.distance u.regs)
   first_walk u rest o z l h =
       let last = Plain (ins Lui 14 0 0 (pos w.distance)) ∷ rest in
       let r1 = zeroed 1 13 u.regs in
       let r2 = zeroed 17 13 r1 in
       let z1 : slice_index r1 0 ≡ 0 = zeroed_out 13 1 0 u.regs (inl (omega arith)) ∙ z in
-      sets_on u 13 14 (zero_from 17 13 ++ last) rest r1 (first_regs w.distance u.regs) (zero_walk 13 1 u (zero_from 17 13 ++ last) o z h) (λ p k.
-      sets_on (moved r1 p u) 13 1 last rest r2 (first_regs w.distance u.regs) (zero_walk 13 17 (moved r1 p u) last (over_moved w.code u r1 p o) z1 k) (λ q j.
+      sets_on w u 13 14 (zero_from 17 13 ++ last) rest r1 (first_regs w.distance u.regs) (zero_walk 13 1 u (zero_from 17 13 ++ last) o z h) (λ p k.
+      sets_on w (moved r1 p u) 13 1 last rest r2 (first_regs w.distance u.regs) (zero_walk 13 17 (moved r1 p u) last (over_moved w.code u r1 p o) z1 k) (λ q j.
       lui_walk (moved r2 q u) w.distance rest l (over_moved w.code u r2 q o) j))
 
+-- each of the zeros is 0
 zeros_zero : (n r : ℕ) → slice_index (replicate n 0) r ≡ 0
 zeros_zero zero r = refl
 zeros_zero (suc n) zero = refl
 zeros_zero (suc n) (suc r) = zeros_zero n r
 
+-- each register of the input is 0 at first
 start_zero : (r : ℕ) → slice_index (slice_set zeros 0 0) r ≡ 0
 start_zero r = zeros_zero 32 r
 
 -- registers behind the first words
 module _ (d : ℕ) (regs : List ℕ) (long : length regs ≡ 32) (z : slice_index regs 0 ≡ 0) where
+  -- the registers
   abbrev rs : List ℕ
   rs = set_reg 14 d (zeroed 17 13 (zeroed 1 13 regs))
 
+  -- there are 32
   rs_long : length rs ≡ 32
   rs_long = length-set_reg (zeroed 17 13 (zeroed 1 13 regs)) 14 d ∙ long_zeroed 13 17 (zeroed 1 13 regs) ∙ long_zeroed 13 1 regs ∙ long
 
+  -- the originals are 0
   rs_low : (r : ℕ) → r ≤ 13 → slice_index rs r ≡ 0
   rs_low r h =
       slice_index-set_reg_other (zeroed 17 13 (zeroed 1 13 regs)) 14 d r (λ e. absurd (omega arith)) ∙ zeroed_out 13 17 r (zeroed 1 13 regs) (inl (omega arith))
       ∙ ⊎_elim (λ e. zeroed_out 13 1 r regs (inl (omega arith)) ∙ ap (slice_index regs) e ∙ z) (λ ne. zeroed_in 13 1 r regs (omega arith) (omega (arith, ne)) (omega arith) (omega arith)) (cases_eq r 0)
 
+  -- the pairs are 0
   rs_high : (r : ℕ) → 1 ≤ r → r ≤ 13 → slice_index rs (r + 16) ≡ 0
   rs_high r one h =
       slice_index-set_reg_other (zeroed 17 13 (zeroed 1 13 regs)) 14 d (r + 16) (λ e. absurd (omega arith))
       ∙ zeroed_in 13 17 (r + 16) (zeroed 1 13 regs) (omega arith) (omega arith) (omega arith) (omega (arith, long_zeroed 13 1 regs))
 
+  -- x14 is the distance
   rs_distance : slice_index rs 14 ≡ d
   rs_distance = slice_index-set_reg_same (zeroed 17 13 (zeroed 1 13 regs)) 14 d (omega arith) (omega (arith, long_zeroed 13 17 (zeroed 1 13 regs), long_zeroed 13 1 regs))
 
@@ -129,20 +136,25 @@ abbrev count : List (ℕ × ℕ) → ℕ
 count [] = 0
 count (r ∷ more) = 1
 
+-- it is 1 at most
 count_le : (spans : List (ℕ × ℕ)) → count spans ≤ 1
 count_le [] = omega arith
 count_le (r ∷ more) = omega arith
 
 module _ (f g : File) (w : World) (leader : ℕ → Bool) (most : ℕ) (round : Round) (wo : WovenIn f g w leader most round) (regs : List ℕ) (are : AreRegs regs) where
+  -- the output at first
   abbrev u0 : State
   u0 = start g regs
 
+  -- the input at first
   abbrev s0 : State
   s0 = start f zeros
 
+  -- the output has 32 registers
   long0 : length (slice_set regs 0 0) ≡ 32
   long0 = length-set regs 0 0 ∙ are.count
 
+  -- its x0 is 0
   zero0 : slice_index (slice_set regs 0 0) 0 ≡ 0
   zero0 = set_first regs where
     set_first : (xs : List ℕ) → slice_index (slice_set xs 0 0) 0 ≡ 0
@@ -154,39 +166,49 @@ module _ (f g : File) (w : World) (leader : ℕ → Bool) (most : ℕ) (round : 
   last_regs [] l = l
   last_regs (r ∷ more) l = set_reg 15 r.0 l
 
+  -- the cursor's words
   cursor_walk : (spans : List (ℕ × ℕ)) (u : State) (rest : List Item) → Over w.code u → AllBelow spans (w.base + w.distance) → GoodSpans w.base spans → length u.regs ≡ 32 → Reads w.code w.entry u.pc (cursor spans ++ rest) → Sets w u (2 * count spans) rest (last_regs spans u.regs)
   cursor_walk [] u rest o b gs long h = record { pc = u.pc; walk = walk_none (Quiet w.spans) u; reads = h }
   cursor_walk (r ∷ more) u rest o b gs long h = record { pc = u.pc + 8; walk = const_walk w u 15 r.0 rest o h (let x = gs.0.some in omega (arith, x, b.0, w.layout.top)) (omega (arith, long)) (const_signed w u 15 r.0 rest o h (λ e. absurd (omega arith))); reads = h.2 }
 
+  -- they set x15 alone
   last_other : (spans : List (ℕ × ℕ)) (l : List ℕ) (q : ℕ) → (q ≡ 15 → ⊥) → slice_index (last_regs spans l) q ≡ slice_index l q
   last_other [] l q h = refl
   last_other (r ∷ more) l q h = slice_index-set_reg_other l 15 r.0 q h
 
+  -- there are as many registers
   last_long : (spans : List (ℕ × ℕ)) (l : List ℕ) → length (last_regs spans l) ≡ length l
   last_long [] l = refl
   last_long (r ∷ more) l = length-set_reg l 15 r.0
 
+  -- the cursor is at the first data word
   last_cursor : (spans : List (ℕ × ℕ)) (l : List ℕ) → GoodSpans w.base spans → length l ≡ 32 → IsCursor spans (slice_index (last_regs spans l) 15)
   last_cursor [] l gs long = tt
   last_cursor (r ∷ more) l gs long =
       let e : slice_index (set_reg 15 r.0 l) 15 ≡ r.0 = slice_index-set_reg_same l 15 r.0 (omega arith) (omega (arith, long)) in
       subst (IsWord r) (sym e) (gs.0.start, omega arith, gs.0.some)
 
+  -- the input has its own permissions
   input_flagged : Flagged w.input s0
   input_flagged = record { flags = λ q. ap (λ m. flags_at m q) wo.input; regs = length-set zeros 0 0; zero_reg = start_zero 0 }
 
+  -- and so has the output
   pub output_flagged : Flagged w.output u0
   output_flagged = record { flags = λ q. ap (λ m. flags_at m q) wo.output; regs = long0; zero_reg = zero0 }
 
+  -- the registers behind the distance
   abbrev first : List ℕ
   first = rs w.distance u0.regs long0 zero0
 
+  -- and behind the cursor
   abbrev final : List ℕ
   final = last_regs w.spans first
 
+  -- they differ in x15 alone
   final_at : (q : ℕ) → (q ≡ 15 → ⊥) → slice_index final q ≡ slice_index first q
   final_at q h = last_other w.spans first q h
 
+  -- both halves have the input's first values
   first_halved : (p : ℕ) → Halved w (moved final p u0) s0 s0
   first_halved p = record {
     output = record { flags = λ q. ap (λ m. flags_at m q) wo.output; regs = last_long w.spans first ∙ rs_long w.distance u0.regs long0 zero0; zero_reg = final_at 0 (λ e. absurd (omega arith)) ∙ rs_low w.distance u0.regs long0 zero0 0 (omega arith) };
@@ -202,9 +224,11 @@ module _ (f g : File) (w : World) (leader : ℕ → Bool) (most : ℕ) (round : 
     spare = λ q h e. ap (λ m. byte_at m q) wo.output ∙ wo.spare q h e ∙ sym (ap (λ m. byte_at m (q + w.distance)) wo.output);
   }
 
+  -- the input is over its code
   pub first_sourced : Sourced w s0
   first_sourced = record { over = record { going = refl; code = wo.input_code }; flagged = input_flagged }
 
+  -- the prologue leads to the first entry, in at most 32 steps
   pub prologue_row : Lands w leader u0 1 32 s0
   prologue_row =
       let rest = cursor w.spans ++ go_on f.entry in

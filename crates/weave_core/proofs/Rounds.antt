@@ -12,6 +12,7 @@ use Rattle.weave_core.proofs.Rows.{At, Led, led_none, led_more}
 use Rattle.weave_core.proofs.Body.{Visits}
 use Rattle.weave_core.proofs.Visit.{good, times_row}
 
+-- the visits of a piece take at most 10 steps each
 pub visits_of : (w : World) (r : Round) → Rounds w r → Visits w r (10 * r.count)
 visits_of w r h = record { row = λ u s rest a. ⊎_elim (λ x. none x.1 u s rest a) (λ x. some x u s rest a) h } where
   none : r.from ≡ r.to → (u s : State) (rest : List Item) → At w u (visit r.count r.from r.to ++ rest) s s → Led w u 0 (10 * r.count) rest s s

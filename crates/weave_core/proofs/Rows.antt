@@ -51,14 +51,17 @@ pair_other regs (suc k) v q h l = slice_index-set_reg_other regs (suc k + 16) v 
 abbrev pub IsFree : ℕ → Type 0
 IsFree r = ((q : ℕ) → q ≤ 15 → q ≡ r → ⊥) × ((q : ℕ) → 1 ≤ q → q ≤ 13 → q + 16 ≡ r → ⊥)
 
+-- a write to a register keeps permissions, the number of registers and x0
 pub flagged_set : (m : Memory) (s : State) (r v p : ℕ) → Flagged m s → Flagged m (moved (set_reg r v s.regs) p s)
 flagged_set m s r v p f = record { flags = f.flags; regs = length-set_reg s.regs r v ∙ f.regs; zero_reg = slice_index-set_reg_zero s.regs r v ∙ f.zero_reg }
 
+-- and so does another pc
 pub flagged_moved : (m : Memory) (s : State) (p : ℕ) → Flagged m s → Flagged m (moved s.regs p s)
 flagged_moved m s p f = record { flags = f.flags; regs = f.regs; zero_reg = f.zero_reg }
 
 module _ (w : World) where
   -- ---- what changes of registers do to the halves
+  -- the same number in an original and in the input
   pub halved_original : (u s s' : State) (r v p p' : ℕ) → r ≤ 13 → Halved w u s s' → Halved w (moved (set_reg r v u.regs) p u) (moved (set_reg r v s.regs) p' s) s'
   halved_original u s s' r v p p' h t = record {
     output = flagged_set w.output u r v p t.output;
@@ -74,6 +77,7 @@ module _ (w : World) where
     spare = t.spare;
   }
 
+  -- the same number in a pair and in the shadow of the input
   pub halved_pair : (u s s' : State) (r v p p' : ℕ) → r ≤ 13 → Halved w u s s' → Halved w (moved (set_reg (pair r) v u.regs) p u) s (moved (set_reg r v s'.regs) p' s')
   halved_pair u s s' r v p p' h t = record {
     output = flagged_set w.output u (pair r) v p t.output;
@@ -89,6 +93,7 @@ module _ (w : World) where
     spare = t.spare;
   }
 
+  -- a number in a free register
   pub halved_free : (u s s' : State) (r v p : ℕ) → IsFree r → Halved w u s s' → Halved w (moved (set_reg r v u.regs) p u) s s'
   halved_free u s s' r v p free t = record {
     output = flagged_set w.output u r v p t.output;
@@ -120,6 +125,7 @@ module _ (w : World) where
     spare = t.spare;
   }
 
+  -- another pc of the output
   pub halved_moved : (u s s' : State) (p : ℕ) → Halved w u s s' → Halved w (moved u.regs p u) s s'
   halved_moved u s s' p t = record {
     output = flagged_moved w.output u p t.output;
@@ -151,11 +157,13 @@ module _ (w : World) where
     spare = t.spare;
   }
 
+  -- a pair has the value of the shadow, also for x0
   pub pair_value : (u s s' : State) (r : ℕ) → Halved w u s s' → r ≤ 13 → reg u (pair r) ≡ reg s' r
   pair_value u s s' zero t h = t.output.zero_reg ∙ sym t.shadow.zero_reg
   pair_value u s s' (suc r) t h = t.pairs (suc r) (omega arith) h
 
 -- ---- a state before items, and where they lead
+-- u goes on over the code, the items stand at its pc, and it holds s and s'
 pub record At (w : World) (u : State) (rest : List Item) (s s' : State) : Type 0 where
   pub over : Over w.code u
   pub reads : Reads w.code w.entry u.pc rest
@@ -171,21 +179,26 @@ pub record Led (w : World) (u : State) (least most : ℕ) (rest : List Item) (s 
   pub at : At w to rest s s'
 
 module _ (w : World) where
+  -- no step
   pub led_none : (u : State) (rest : List Item) (s s' : State) → At w u rest s s' → Led w u 0 0 rest s s'
   led_none u rest s s' a = record { steps = 0; to = u; at_least = omega arith; within = omega arith; walk = walk_none (Quiet w.spans) u; at = a }
 
+  -- one row after another
   pub led_on : (u : State) (l m l' m' : ℕ) (mid rest : List Item) (s s' t t' : State) → Led w u l m mid s s' → ((x : State) → At w x mid s s' → Led w x l' m' rest t t') → Led w u (l + l') (m + m') rest t t'
   led_on u l m l' m' mid rest s s' t t' a f =
       let b = f a.to a.at in
       record { steps = a.steps + b.steps; to = b.to; at_least = omega (arith, a.at_least, b.at_least); within = omega (arith, a.within, b.within); walk = walk_on (Quiet w.spans) u a.to b.to a.steps b.steps a.walk b.walk; at = b.at }
 
+  -- the bounds may be wider
   pub led_more : (u : State) (l m l' m' : ℕ) (rest : List Item) (s s' : State) → l' ≤ l → m ≤ m' → Led w u l m rest s s' → Led w u l' m' rest s s'
   led_more u l m l' m' rest s s' h k a = record { steps = a.steps; to = a.to; at_least = omega (arith, a.at_least); within = omega (arith, a.within); walk = a.walk; at = a.at }
 
   -- ---- one computing word
+  -- what stands at the pc misses the ranges, where the instruction does
   known_is : (f : Fetched) (i : Ins) (k : Class) (u : State) → f ≡ Known i → class_of i.kind ≡ k → MissesAs k w.spans i u → Misses f w.spans u
   known_is f i k u e c m = subst (λ f. Misses f w.spans u) (sym e) (subst (λ k. MissesAs k w.spans i u) (sym c) m)
 
+  -- an instruction of another class is no EBREAK
   not_break : (i : Ins) (k : Class) → class_of i.kind ≡ k → (k ≡ class.Break → ⊥) → Known i ≡ ebreak → ⊥
   not_break i k c ne e = ne (sym c ∙ is_break i e) where
     is_break : (i : Ins) → Known i ≡ ebreak → class_of i.kind ≡ class.Break
@@ -199,17 +212,21 @@ module _ (w : World) where
       let k : i ≡ ins Auipc 30 0 0 (upper_part (distance_between u.pc a)) = cc in
       absurd (ne (ap (λ (j : Ins). j.kind) k) (ap (λ (j : Ins). j.rd) k))
 
+  -- a state before an instruction other than EBREAK is quiet
   quiet_signed : (u : State) (i : Ins) (k : Class) → Over w.code u → w.code u.pc ≡ Known i → class_of i.kind ≡ k → (k ≡ class.Break → ⊥) → MissesAs k w.spans i u → Signed u → Quiet w.spans u
   quiet_signed u i k o h c ne m sg =
       let n = known_at w.code u i o h in
       record { going = o.going; calm = λ e. not_break i k c ne (sym n ∙ e); misses = known_is (next u) i k u n c m; signed = sg }
 
+  -- the same before an instruction that does not compute, which begins no entry
   pub quiet_as : (u : State) (i : Ins) (k : Class) → Over w.code u → w.code u.pc ≡ Known i → class_of i.kind ≡ k → (k ≡ class.Break → ⊥) → (k ≡ class.Compute → ⊥) → MissesAs k w.spans i u → Quiet w.spans u
   quiet_as u i k o h c ne nc m = quiet_signed u i k o h c ne m (signed_other u i o h (λ e z. nc (sym c ∙ ap class_of e)))
 
+  -- the pc does not wrap
   pub pc_four : (u : State) (i : Ins) → w.code u.pc ≡ Known i → (u.pc + 4) % 2 ^ 64 ≡ u.pc + 4
   pc_four u i h = omega (arith, w.low u.pc i h)
 
+  -- a computing word sets its register
   pub compute_walk : (u : State) (i : Ins) → Over w.code u → w.code u.pc ≡ Known i → class_of i.kind ≡ class.Compute → Signed u → Walk (Quiet w.spans) u 1 (moved (set_reg i.rd (result i.kind i u) u.regs) (u.pc + 4) u)
   compute_walk u i o h c sg =
       walk_one (Quiet w.spans) u _ (quiet_signed u i class.Compute o h c (λ e. absurd (cc)) tt sg)

@@ -36,10 +36,12 @@ pub record Traced (w : World) (s u : State) (n bound : ℕ) : Type 0 where
   pub halved : Halved w to (run s n) shadow
   pub ends : ((to.outcome ≡ Going) × ((run s n).outcome ≡ Going) × (n ≤ steps)) ⊎ ((to.outcome ≡ Ended) × ((run s n).outcome ≡ Ended))
 
+-- a state that has ended stays
 pub step-ended : (s : State) → s.outcome ≡ Ended → step s ≡ s
 unfolding step
 step-ended s e = ap (λ o. step_at o s) e
 
+-- for any number of steps
 pub run-ended : (n : ℕ) (s : State) → s.outcome ≡ Ended → run s n ≡ s
 unfolding run
 run-ended zero s e = refl
@@ -74,6 +76,7 @@ module _ (w : World) where
         t.ends;
   }
 
+  -- a walk before the trace
   pub traced_first : (s u x : State) (n m most bound : ℕ) → Walk (Quiet w.spans) u m x → m ≤ most → Traced w s x n bound → Traced w s u n (most + bound)
   traced_first s u x n m most bound a l t = record {
     steps = m + t.steps;
@@ -85,23 +88,28 @@ module _ (w : World) where
     ends = ⊎_elim (λ e. inl (e.0, e.1, omega (arith, e.2))) (λ e. inr e) t.ends;
   }
 
+  -- the bound may be wider
   pub traced_more : (s u : State) (n b b' : ℕ) → b ≤ b' → Traced w s u n b → Traced w s u n b'
   traced_more s u n b b' h t = record { steps = t.steps; to = t.to; shadow = t.shadow; within = omega (arith, t.within); walk = t.walk; halved = t.halved; ends = t.ends }
 
+-- 1 where the end is an instruction
 abbrev pub stops : End → ℕ
 stops Falls = 0
 stops (Stops i) = 1
 
+-- a block has at least one instruction
 pub full_pos : (p : List Ins) (ps : List (List Ins)) (e : End) → Full (p ∷ ps) e → 1 ≤ body_length (p ∷ ps) + stops e
 full_pos p [] Falls f = omega (arith, f)
 full_pos p [] (Stops i) f = omega arith
 full_pos p (q ∷ ps) e f = omega (arith, f.0)
 
+-- and so have the pieces behind the first
 pub full_rest : (p : List Ins) (ps : List (List Ins)) (e : End) → Full (p ∷ ps) e → Full ps e
 full_rest p [] e f = tt
 full_rest p (q ∷ ps) e f = f.1
 
 module _ (w : World) (leader : ℕ → Bool) (most : ℕ) (round : Round) (cost : ℕ) (visits : Visits w round cost) (blocks : (a : ℕ) → leader a ≡ true → BlockAt w leader most round a) (bound : ℕ) (wide : 30 + 5 * most + cost ≤ bound) where
+  -- the most steps of a piece
   abbrev per_piece : ℕ
   per_piece = 5 * most + 13 + cost
 
@@ -111,14 +119,17 @@ module _ (w : World) (leader : ℕ → Bool) (most : ℕ) (round : Round) (cost 
   need [] (Stops i) n = 14 + n * bound
   need (p ∷ ps) e n = 14 + per_piece + n * bound
 
+  -- a product by the bound
   times_le : (a b : ℕ) → a ≤ b → a * bound ≤ b * bound
   times_le a b h = mul-le-mul_right bound h
 
+  -- a piece pays for its own steps
   need_step : (p : List Ins) (ps : List (List Ins)) (e : End) (m : ℕ) → Full (p ∷ ps) e → per_piece + need ps e m ≤ need (p ∷ ps) e (length p + m)
   need_step p [] Falls m f = let h = times_le (m + 1) (length p + m) (omega (arith, f)) in omega (arith, h)
   need_step p [] (Stops i) m f = let h = times_le m (length p + m) (omega arith) in omega (arith, h)
   need_step p (q ∷ ps) e m f = let h = times_le (m + 1) (length p + m) (omega (arith, f.0)) in omega (arith, h)
 
+  -- the items of the pieces and of the leave
   abbrev items : List (List Ins) → End → ℕ → List Item
   items ps e a = pieces round.count round.from round.to ps a ++ leave e (a + 4 * body_length ps)
 
@@ -127,6 +138,7 @@ module _ (w : World) (leader : ℕ → Bool) (most : ℕ) (round : Round) (cost 
   Again fuel = (s u : State) (n : ℕ) → n ≤ fuel → Stands w leader u s → Sourced w s → NotTrapped (run s n) → Traced w s u n ((n + 1) * bound)
 
   -- ---- leaves
+  -- the block falls to the next address
   fall_trace : (fuel : ℕ) → Again fuel → (s u : State) (n : ℕ) (rest : List Item) → n ≤ fuel → At w u (go_on s.pc ++ rest) s s → Sourced w s → Goes w leader s.pc → NotTrapped (run s n) → Traced w s u n (14 + (n + 1) * bound)
   unfolding run
   fall_trace fuel again s u zero rest l a so g calm = traced_stop w s u 0 0 _ (go_on s.pc ++ rest) s (led_none w u (go_on s.pc ++ rest) s s a) so.over.going (omega arith)
@@ -139,6 +151,7 @@ module _ (w : World) (leader : ℕ → Bool) (most : ℕ) (round : Round) (cost 
       (λ lacks. absurd (no_code w s so lacks (not_trapped_front n (step s) calm)))
       g
 
+  -- it ends with a JAL
   jump_trace : (fuel : ℕ) → Again fuel → (s u : State) (n : ℕ) (i : Ins) → n ≤ fuel → At w u (links i s.pc ++ go_on (target i s.pc)) s s → Sourced w s → w.source s.pc ≡ Known i → class_of i.kind ≡ class.Jump → i.rd ≤ 13 → Goes w leader (target i s.pc) → NotTrapped (run s (suc n)) → Traced w s u (suc n) (14 + suc n * bound)
   unfolding run
   jump_trace fuel again s u n i l a so h c small g calm =
@@ -163,6 +176,7 @@ module _ (w : World) (leader : ℕ → Bool) (most : ℕ) (round : Round) (cost 
             let x = led_on w u 0 4 2 2 (go_on t) (Go t ∷ []) (step s) (step s) (step s) (step s) r (λ y b. const_free w y 16 t (Go t ∷ []) (step s) (step s) b (omega arith) (omega arith) (λ e. absurd (omega arith)) free_16) in
             traced_stop w s u 1 6 (14 + 1 * bound) (Go t ∷ []) (step s) (led_more w u 2 6 1 6 (Go t ∷ []) (step s) (step s) (omega arith) (omega arith) x) so'.over.going (omega arith)
 
+  -- with a branch
   branch_trace : (fuel : ℕ) → Again fuel → (s u : State) (n : ℕ) (i : Ins) → n ≤ fuel → At w u (leave_as class.Branch i s.pc) s s → Sourced w s → w.source s.pc ≡ Known i → class_of i.kind ≡ class.Branch → i.rs1 ≤ 13 → i.rs2 ≤ 13 → Goes w leader (target i s.pc) → Goes w leader ((s.pc + 4) % 2 ^ 64) → NotTrapped (run s (suc n)) → Traced w s u (suc n) (14 + suc n * bound)
   unfolding run
   branch_trace fuel again s u n i l a so h c h1 h2 g g' calm =
@@ -191,6 +205,7 @@ module _ (w : World) (leader : ℕ → Bool) (most : ℕ) (round : Round) (cost 
             let x : Led w u 1 4 rest (step s) (step s) = record { steps = r.steps; to = r.to; at_least = r.at_least; within = r.within; walk = r.walk; at = r.at } in
             traced_stop w s u 1 4 (14 + 1 * bound) rest (step s) x so'.over.going (omega arith)
 
+  -- with a JALR
   leap_trace : (fuel : ℕ) → Again fuel → (s u : State) (n : ℕ) (i : Ins) → n ≤ fuel → At w u (leave_as class.JumpReg i s.pc) s s → Sourced w s → w.source s.pc ≡ Known i → class_of i.kind ≡ class.JumpReg → i.rd ≤ 13 → i.rs1 ≤ 13 → ((a : ℕ) → a % 4 ≡ 0 → Goes w leader a) → ((a : ℕ) → leader a ≡ true → TableAt w a) → NotTrapped (run s (suc n)) → Traced w s u (suc n) (14 + suc n * bound)
   unfolding run
   leap_trace fuel again s u n i l a so h c hd h1 g table calm =
@@ -215,6 +230,7 @@ module _ (w : World) (leader : ℕ → Bool) (most : ℕ) (round : Round) (cost 
             let x : Led w u 1 9 look_up (step s) (step s) = record { steps = r.steps; to = moved r.regs r.sets.pc u; at_least = r.at_least; within = r.within; walk = r.sets.walk; at = record { over = over_moved w.code u r.regs r.sets.pc a.over; reads = r.sets.reads; halved = r.halved } } in
             traced_stop w s u 1 9 (14 + 1 * bound) look_up (step s) x so'.over.going (omega arith)
 
+  -- with an ECALL
   end_trace : (s u : State) (n : ℕ) (i : Ins) (rest : List Item) → At w u (Plain i ∷ rest) s s → Sourced w s → w.source s.pc ≡ Known i → class_of i.kind ≡ class.End → Traced w s u (suc n) (14 + suc n * bound)
   unfolding run
   end_trace s u n i rest a so h c =
@@ -230,6 +246,7 @@ module _ (w : World) (leader : ℕ → Bool) (most : ℕ) (round : Round) (cost 
         ends = inr (refl, ap (λ x. x.outcome) stays);
       }
 
+  -- with any instruction
   stop_trace : (c : Class) (fuel : ℕ) → Again fuel → (s u : State) (n : ℕ) (i : Ins) → class_of i.kind ≡ c → n ≤ fuel → At w u (leave_as c i s.pc) s s → Sourced w s → w.source s.pc ≡ Known i → Leaves c w leader i s.pc → NotTrapped (run s (suc n)) → Traced w s u (suc n) (14 + suc n * bound)
   unfolding run
   stop_trace class.End fuel again s u n i c l a so h v calm = end_trace s u n i [] a so h c
@@ -239,6 +256,7 @@ module _ (w : World) (leader : ℕ → Bool) (most : ℕ) (round : Round) (cost 
   stop_trace class.JumpReg fuel again s u n i c l a so h v calm = leap_trace fuel again s u n i l a so h c v.0 v.1 v.2 v.3 calm
   stop_trace k fuel again s u n i c l a so h v calm = absurd v
 
+  -- any leave
   leave_trace : (fuel : ℕ) → Again fuel → (e : End) (s u : State) (n : ℕ) → n ≤ fuel + stops e → At w u (leave e s.pc) s s → Sourced w s → Ends w leader e s.pc → NotTrapped (run s n) → Traced w s u n (need [] e n)
   unfolding run
   leave_trace fuel again Falls s u n l a so g calm = fall_trace fuel again s u n [] (omega arith) a so g calm
@@ -257,6 +275,7 @@ module _ (w : World) (leader : ℕ → Bool) (most : ℕ) (round : Round) (cost 
       let x = source_run w p n s (omega arith) q.fits so q.has calm in
       traced_stop w s u n (3 * n) (14 + per_piece + n * bound) _ s r x.sourced.over.going (omega (arith, q.short))
 
+  -- from before some pieces to their leave
   tail_trace : (fuel : ℕ) → Again fuel → (ps : List (List Ins)) (e : End) (s u : State) (n : ℕ) → n ≤ fuel + (body_length ps + stops e) → At w u (items ps e s.pc) s s → Sourced w s → Pieces w leader most ps e s.pc → Full ps e → NotTrapped (run s n) → Traced w s u n (need ps e n)
   tail_trace fuel again [] e s u n l a so q f calm =
       let z : s.pc + 4 * 0 ≡ s.pc = omega arith in
@@ -286,6 +305,7 @@ module _ (w : World) (leader : ℕ → Bool) (most : ℕ) (round : Round) (cost 
             subst (λ j. Traced w s u j (need (p ∷ ps) e j)) (sym is) big
 
   -- ---- a block
+  -- a block, from its entry on
   block_trace : (fuel : ℕ) → Again fuel → (s u : State) (n : ℕ) → n ≤ suc fuel → Stands w leader u s → Sourced w s → NotTrapped (run s n) → Traced w s u n ((n + 1) * bound)
   block_trace fuel again s u n l st so calm =
       let b = blocks s.pc st.leads in
@@ -301,10 +321,12 @@ module _ (w : World) (leader : ℕ → Bool) (most : ℕ) (round : Round) (cost 
       traced_more w s u n (3 + need (p ∷ ps) b.end n) ((n + 1) * bound) (omega arith)
       (traced_first w s u r.to n r.steps 3 (need (p ∷ ps) b.end n) r.walk r.within more)
 
+  -- no step of the input
   here : (s u : State) (rest : List Item) → Stands w leader u s → Sourced w s → Traced w s u 0 ((0 + 1) * bound)
   unfolding run
   here s u rest st so = record { steps = 0; to = u; shadow = s; within = omega arith; walk = walk_none (Quiet w.spans) u; halved = st.halved; ends = inl (st.over.going, so.over.going, omega arith) }
 
+  -- the trace of any number of steps, from an entry on
   pub trace : (fuel : ℕ) → Again fuel
   trace zero s u n l st so calm = let z : n ≡ 0 = omega arith in subst (λ k. Traced w s u k ((k + 1) * bound)) (sym z) (here s u [] st so)
   trace (suc fuel) s u n l st so calm = block_trace fuel (trace fuel) s u n l st so calm

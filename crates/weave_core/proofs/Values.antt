@@ -15,6 +15,7 @@ use Rattle.weave_core.proofs.Body.{Visits}
 use Rattle.weave_core.proofs.Trace.{trace, run-ended}
 use Rattle.weave_core.proofs.Prologue.{prologue_row, first_sourced}
 
+-- an outcome is not two
 going_ended : (o : Outcome) → o ≡ Going → o ≡ Ended → ⊥
 going_ended o e h = absurd (cc)
 
@@ -37,6 +38,7 @@ module _ (f g : File) (w : World) (leader : ℕ → Bool) (most : ℕ) (round : 
       pub halved : Halved w to (after_input f n) shadow
       pub ends : ((to.outcome ≡ Going) × ((after_input f n).outcome ≡ Going) × (n < steps)) ⊎ ((to.outcome ≡ Ended) × ((after_input f n).outcome ≡ Ended))
 
+    -- the prologue, and the trace from the first entry
     pub whole : Whole
     whole =
         let p = prologue_row f g w leader most round wo regs are in
@@ -52,12 +54,14 @@ module _ (f g : File) (w : World) (leader : ℕ → Bool) (most : ℕ) (round : 
           ends = ⊎_elim (λ e. inl (e.0, e.1, omega (arith, e.2, p.at_least))) (λ e. inr e) t.ends;
         }
 
+    -- the halves, as the promise says it
     halves_of : Whole → (u : State) → Halved w u (after_input f n) whole.shadow → Halves f (after_input f n) u
     halves_of x u t = record {
       regs = λ r one h. t.originals r h;
       bytes = λ q e. t.bytes q (ap (λ m. is_some (get m q)) (sym wo.input) ∙ e);
     }
 
+    -- the first part of the promise
     kept_at : KeptAt f g bound n regs
     kept_at =
         let e = whole.walk.ends in
@@ -76,12 +80,14 @@ module _ (f g : File) (w : World) (leader : ℕ → Bool) (most : ℕ) (round : 
     going_at : (u : State) → u.outcome ≡ Going → (u.outcome ≢ Fired) × (NotTrapped u) × (u.outcome ≡ Ended → ((after_input f n).outcome ≡ Ended) × Halves f (after_input f n) u)
     going_at u e = (going_fired u.outcome e, ap is_trapped e, λ h. absurd (going_ended u.outcome e h))
 
+    -- a state of the whole trace
     later : (k : ℕ) → k ≡ n → (u : State) → u ≡ after_output g regs k → (u.outcome ≢ Fired) × (NotTrapped u) × (u.outcome ≡ Ended → ((after_input f n).outcome ≡ Ended) × Halves f (after_input f n) u) → Unalarmed f g n regs
     later k e u is h =
         let x : u ≡ after_output g regs n = is ∙ ap (after_output g regs) e in
         let at = subst (λ v. (v.outcome ≢ Fired) × (NotTrapped v) × (v.outcome ≡ Ended → ((after_input f n).outcome ≡ Ended) × Halves f (after_input f n) v)) x h in
         record { no_check = at.0; no_trap = at.1; ended = at.2 }
 
+    -- the second part
     unalarmed : Unalarmed f g n regs
     unalarmed =
         ⊎_elim
@@ -97,6 +103,7 @@ module _ (f g : File) (w : World) (leader : ℕ → Bool) (most : ℕ) (round : 
         whole.ends)
         (cases_lt n whole.steps)
 
+  -- both parts
   pub kept : Kept f g bound
   kept = record {
     values = λ regs n are calm. kept_at regs are n calm;

@@ -27,18 +27,22 @@ use Rattle.weave_core.proofs.Words.{const_signed}
 use Rattle.weave_core.proofs.Leaves.{branch_taken, branch_passed}
 use Rattle.weave_core.proofs.Sets.{writes, writes_out, writes_long, AllTemps, Sets, halved_writes, sets_on, sets_compute, sets_load, sets_const, sets_equal}
 
+-- BNE is taken where both differ
 differ_holds : (a b : ℕ) → (a ≡ b → ⊥) → holds Bne a b ≡ true
 unfolding holds
 differ_holds a b h = rw (ne_eqb a b h) refl
 
+-- and not where they are equal
 same_holds : (a b : ℕ) → a ≡ b → holds Bne a b ≡ false
 unfolding holds
 same_holds a b h = rw (eq-eqb a b h) refl
 
+-- what ADD gives
 pub add_result : (u : State) (r a b x y z : ℕ) → reg u a ≡ x → reg u b ≡ y → (x + y) % 2 ^ 64 ≡ z → result Add (ins Add r a b (pos 0)) u ≡ z
 unfolding result value
 add_result u r a b x y z e f g = rw (e, f) g
 
+-- what ADDI gives
 addi_result : (u : State) (r a n x z : ℕ) → reg u a ≡ x → (x + n % 2 ^ 64) % 2 ^ 64 ≡ z → result Addi (ins Addi r a 0 (pos n)) u ≡ z
 unfolding result value
 addi_result u r a n x z e g = rw e g
@@ -58,21 +62,27 @@ place_at u i r x e z f h =
       small x h = omega arith
 
 module _ (w : World) (from to : ℕ) (one : w.spans ≡ (from, to) ∷ []) where
+  -- the range is good
   pub good : GoodSpan w.base (from, to)
   good = (subst (GoodSpans w.base) one w.spans_good).0
 
+  -- it ends with the original half
   high : to ≤ w.base + w.distance
   high = (subst (λ l. AllBelow l (w.base + w.distance)) one w.spans_low).0
 
+  -- the cursor is at a word of the range
   word_of_cursor : (u s s' : State) → Halved w u s s' → IsWord (from, to) (reg u 15)
   word_of_cursor u s s' t = subst (λ l. IsCursor l (reg u 15)) one t.cursor
 
+  -- and the other way round
   cursor_of : (x : ℕ) → IsWord (from, to) x → IsCursor w.spans x
   cursor_of x h = subst (λ l. IsCursor l x) (sym one) h
 
+  -- the range alone
   in_span : (q : ℕ) → from ≤ q → q < to → InSpans w.spans q
   in_span q l h = subst (λ k. InSpans k q) (sym one) (inl (l, h))
 
+  -- a byte of the range and its duplicate are equal where both views are one
   byte_same : (u s : State) (q : ℕ) → Halved w u s s → InSpans w.spans q → byte_at u.memory q ≡ byte_at u.memory (q + w.distance)
   byte_same u s q t h = by (is_some (get w.input q)) refl where
     by : (b : Bool) → is_some (get w.input q) ≡ b → byte_at u.memory q ≡ byte_at u.memory (q + w.distance)
@@ -81,42 +91,55 @@ module _ (w : World) (from to : ℕ) (one : w.spans ≡ (from, to) ∷ []) where
 
   -- the word under the cursor, and its duplicate
   module _ (u s : State) (t : Halved w u s s) where
+    -- the cursor
     abbrev c : ℕ
     c = reg u 15
 
+    -- it is at a word
     word : IsWord (from, to) (reg u 15)
     word = word_of_cursor u s s t
 
+    -- its bytes do not wrap
     here : (j : ℕ) → j < 8 → wrap (c + j) ≡ c + j
     here j h = omega (arith, word.2, high, w.layout.top)
 
+    -- nor those of the duplicate
     there : (j : ℕ) → j < 8 → wrap (c + w.distance + j) ≡ c + j + w.distance
     there j h = omega (arith, word.2, high, w.layout.top)
 
+    -- they are in the range
     inside : (j : ℕ) → j < 8 → InSpans w.spans (c + j)
     inside j h = in_span (c + j) (omega (arith, word.1)) (omega (arith, word.2))
 
+    -- the word may be read
     reads_word : grants (λ f. f.read) u.memory c 8 ≡ true
     reads_word = grants_from (λ f. f.read) u.memory c 8 (λ j h. ap (λ q. allows (λ f. f.read) (get u.memory q)) (here j h) ∙ allows-flags (λ f. f.read) _ _ (t.output.flags (c + j)) ∙ (w.span_reads (c + j) (inside j h)).0)
 
+    -- and its duplicate
     reads_copy : grants (λ f. f.read) u.memory (c + w.distance) 8 ≡ true
     reads_copy = grants_from (λ f. f.read) u.memory (c + w.distance) 8 (λ j h. ap (λ q. allows (λ f. f.read) (get u.memory q)) (there j h) ∙ allows-flags (λ f. f.read) _ _ (t.output.flags (c + j + w.distance)) ∙ (w.span_reads (c + j) (inside j h)).1)
 
+    -- both are equal
     same_word : number u.memory (c + w.distance) 8 ≡ number u.memory c 8
     same_word = same_number_at u.memory u.memory (c + w.distance) c 8 (λ j h. ap (byte_at u.memory) (there j h) ∙ sym (byte_same u s (c + j) t (inside j h)) ∙ sym (ap (byte_at u.memory) (here j h)))
 
+    -- the duplicate is outside of the range
     copy_outside : (j : ℕ) → j < 8 → OutsideAll w.spans (wrap (c + w.distance + j))
     copy_outside j h = let e = there j h in beyond w.spans (w.base + w.distance) (wrap (c + w.distance + j)) w.spans_low (omega (arith, e, word.1, good.low))
 
+  -- the load of the word
   abbrev i_word : Ins
   i_word = ins Ld 30 15 0 (pos 0)
 
+  -- the load of the duplicate
   abbrev i_copy : Ins
   i_copy = ins Ld 31 31 0 (pos 0)
 
+  -- the words behind the comparison
   abbrev next_words : List Item → List Item
   next_words rest = Plain (ins Addi 15 15 0 (pos 8)) ∷ Constant 30 to ∷ Plain (ins Bne 0 15 30 (pos 12)) ∷ Constant 15 from ∷ rest
 
+  -- the word's number
   abbrev v_of : State → ℕ
   v_of u = loaded Ld (number u.memory (reg u 15) 8)
 
@@ -124,6 +147,7 @@ module _ (w : World) (from to : ℕ) (one : w.spans ≡ (from, to) ∷ []) where
   abbrev seen : State → List (ℕ × ℕ)
   seen u = (30, v_of u) ∷ (31, reg u 15 + w.distance) ∷ (31, v_of u) ∷ []
 
+  -- both are loaded and compared
   look : (u s : State) (rest : List Item) → At w u (visit_word from to ++ rest) s s → Sets w u 4 (next_words rest) (writes (seen u) u.regs)
   look u s rest a =
       let t = a.halved in
@@ -174,33 +198,43 @@ module _ (w : World) (from to : ℕ) (one : w.spans ≡ (from, to) ∷ []) where
       sets_on w x 1 2 tail1 tail2 r1 r2 s1 (λ p2 h2. sets_const w (moved r1 p2 u) 30 to tail2 (over_moved w.code u r1 p2 o) h2 (omega (arith, high, w.layout.top)) (omega (arith, length-set_reg regs 15 (k + 8), long)) (λ b l q. not_entry (fetched_at u.memory u.ranges (p2 + 8)) (o.code (p2 + 8) ∙ h2.2.0) q.2))
 
   module _ (u s : State) (rest : List Item) (a : At w u (visit_word from to ++ rest) s s) where
+    -- what all words set
     abbrev all_seen : List (ℕ × ℕ)
     all_seen = (30, v_of u) ∷ (31, reg u 15 + w.distance) ∷ (31, v_of u) ∷ (15, reg u 15 + 8) ∷ (30, to) ∷ []
 
+    -- the branch and the constant that leads back to the first word
     abbrev tail_back : List Item
     tail_back = Plain (ins Bne 0 15 30 (pos 12)) ∷ Constant 15 from ∷ rest
 
+    -- the branch
     abbrev i_back : Ins
     i_back = ins Bne 0 15 30 (pos 12)
 
+    -- the registers behind the cursor's words
     abbrev regs5 : List ℕ
     regs5 = writes all_seen u.regs
 
+    -- and before the constant
     abbrev regs4 : List ℕ
     regs4 = set_reg 15 (reg u 15 + 8) (writes (seen u) u.regs)
 
+    -- there are 32
     long4 : length regs4 ≡ 32
     long4 = length-set_reg (writes (seen u) u.regs) 15 (reg u 15 + 8) ∙ writes_long (seen u) u.regs ∙ a.halved.output.regs
 
+    -- the cursor is 8 further
     at15 : slice_index regs5 15 ≡ reg u 15 + 8
     at15 = slice_index-set_reg_other regs4 30 to 15 (λ e. absurd (omega arith)) ∙ slice_index-set_reg_same (writes (seen u) u.regs) 15 (reg u 15 + 8) (omega arith) (omega (arith, writes_long (seen u) u.regs, a.halved.output.regs))
 
+    -- x30 has the end of the range
     at30 : slice_index regs5 30 ≡ to
     at30 = slice_index-set_reg_same regs4 30 to (omega arith) (omega (arith, long4))
 
+    -- temporaries alone were set
     temps : AllTemps all_seen
     temps = ((omega arith, λ h. omega arith), ((omega arith, λ h. omega arith), ((omega arith, λ h. omega arith), ((omega arith, λ h. omega arith), ((omega arith, λ h. omega arith), tt)))))
 
+    -- not at the end the cursor goes on
     along : Sets w u 4 (next_words rest) (writes (seen u) u.regs) → (n : Sets w (moved (writes (seen u) u.regs) (look u s rest a).pc u) 3 tail_back regs5) → Walk (Quiet w.spans) u 7 (moved regs5 n.pc u) → (reg u 15 + 8 ≡ to → ⊥) → Led w u 0 10 rest s s
     along l n both ne =
         let wd = word u s a.halved in
@@ -220,6 +254,7 @@ module _ (w : World) (from to : ℕ) (one : w.spans ≡ (from, to) ∷ []) where
           at = record { over = over_moved w.code u regs5 (n.pc + 4 + 8) a.over; reads = n.reads.1.2; halved = halved_writes w u s s all_seen (n.pc + 4 + 8) temps (subst (IsCursor w.spans) (sym at15) (cursor_of (reg u 15 + 8) word8)) a.halved };
         }
 
+    -- at the end it goes back to the first word
     around : Sets w u 4 (next_words rest) (writes (seen u) u.regs) → (n : Sets w (moved (writes (seen u) u.regs) (look u s rest a).pc u) 3 tail_back regs5) → Walk (Quiet w.spans) u 7 (moved regs5 n.pc u) → reg u 15 + 8 ≡ to → Led w u 0 10 rest s s
     around l n both e =
         let y = moved regs5 n.pc u in
@@ -242,6 +277,7 @@ module _ (w : World) (from to : ℕ) (one : w.spans ≡ (from, to) ∷ []) where
           at = record { over = over_moved w.code u (set_reg 15 from regs5) c.pc a.over; reads = c.reads; halved = halved_writes w u s s ys c.pc temps' (subst (IsCursor w.spans) (sym at) (cursor_of from first)) a.halved };
         }
 
+  -- one visited word, in at most 10 steps
   pub visit_word_row : (u s : State) (rest : List Item) → At w u (visit_word from to ++ rest) s s → Led w u 0 10 rest s s
   visit_word_row u s rest a =
       let t = a.halved in
@@ -255,6 +291,7 @@ module _ (w : World) (from to : ℕ) (one : w.spans ≡ (from, to) ∷ []) where
       let both = walk_on (Quiet w.spans) u (moved r3 l.pc u) _ 4 3 l.walk n.walk in
       ⊎_elim (λ e. around u s rest a l n both e) (λ ne. along u s rest a l n both ne) (cases_eq (k + 8) to)
 
+  -- several of them
   pub times_row : (n : ℕ) (u s : State) (rest : List Item) → At w u (times n (visit_word from to) ++ rest) s s → Led w u 0 (10 * n) rest s s
   times_row zero u s rest a = led_none w u rest s s a
   times_row (suc n) u s rest a =

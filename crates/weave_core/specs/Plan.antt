@@ -14,6 +14,7 @@ use Rattle.weave_core.specs.Blocks.{Pieces, Full, Round}
 use Rattle.weave_core.specs.Promise.{Rounds}
 
 -- ---- facts on the two files alone
+-- the two files fit together: where their bytes stand, what may be written and executed, and the equal bytes of both halves at the start
 pub record Fits (f g : File) (base d : ℕ) (spans : List (ℕ × ℕ)) : Type 0 where
   pub layout : Layout base d (memory_of f.segments) (memory_of g.segments)
   pub input_fixed : IsFixed (memory_of f.segments)
@@ -33,12 +34,14 @@ abbrev pub leads : List Block → ℕ → Bool
 leads [] a = false
 leads (b ∷ bs) a = (b.start == a) || leads bs a
 
+-- a block of the input: its pieces, of which there is one at least, and its end
 pub record GoodBlock (w : World) (leader : ℕ → Bool) (most : ℕ) (b : Block) : Type 0 where
   pub low : b.start < 2 ^ 64
   pub pieces : Pieces w leader most b.body b.end b.start
   pub some : (p : List Ins) × (ps : List (List Ins)) × (b.body ≡ p ∷ ps)
   pub full : Full b.body b.end
 
+-- each of the blocks is good
 abbrev pub AllGood : World → (ℕ → Bool) → ℕ → List Block → Type 0
 AllGood w leader most [] = Unit {0}
 AllGood w leader most (b ∷ bs) = GoodBlock w leader most b × AllGood w leader most bs
@@ -66,6 +69,7 @@ pub record Describes (f g : File) (w : World) : Type 0 where
   pub mirror_bytes : (q : ℕ) → is_some (get w.input q) ≡ true → byte_at w.output (q + w.distance) ≡ byte_at w.input q
   pub spare : (q : ℕ) → InSpans w.spans q → is_some (get w.input q) ≡ false → byte_at w.output q ≡ byte_at w.output (q + w.distance)
 
+-- the new code of g reads as the items of the blocks, whose leaders are their first addresses; the entry point is a leader
 pub record Plan (f g : File) (w : World) (most : ℕ) (round : Round) (blocks : List Block) : Type 0 where
   pub world : Describes f g w
   pub words : Reads w.code w.entry g.entry (all_items w.distance w.spans f.entry round blocks)
@@ -73,5 +77,6 @@ pub record Plan (f g : File) (w : World) (most : ℕ) (round : Round) (blocks : 
   pub begins : leads blocks f.entry ≡ true
   pub rounds : Rounds w round
 
+-- any plan keeps the values
 abbrev pub PlanKept : Type 0
 PlanKept = (f g : File) (w : World) (most : ℕ) (round : Round) (blocks : List Block) → Plan f g w most round blocks → Kept f g (piece_bound most round.count)

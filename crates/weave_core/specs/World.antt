@@ -15,10 +15,12 @@ use Rattle.qed_model.specs.Halves.{Layout, Flagged}
 use Rattle.qed_model.specs.Placed.{distance_between, upper_part}
 
 -- ---- data ranges
+-- an address outside of each range
 abbrev pub OutsideAll : List (ℕ × ℕ) → ℕ → Type 0
 OutsideAll [] q = Unit {0}
 OutsideAll (r ∷ rs) q = Outside r.0 r.1 q × OutsideAll rs q
 
+-- each range ends at `top` at the latest
 abbrev pub AllBelow : List (ℕ × ℕ) → ℕ → Type 0
 AllBelow [] top = Unit {0}
 AllBelow (r ∷ rs) top = (r.1 ≤ top) × AllBelow rs top
@@ -36,20 +38,24 @@ abbrev pub IsCursor : List (ℕ × ℕ) → ℕ → Type 0
 IsCursor [] x = Unit {0}
 IsCursor (r ∷ rs) x = IsWord r x
 
+-- an address of one of the ranges
 abbrev pub InSpans : List (ℕ × ℕ) → ℕ → Type 0
 InSpans [] q = ⊥
 InSpans (r ∷ rs) q = ((r.0 ≤ q) × (q < r.1)) ⊎ InSpans rs q
 
+-- a range of some aligned words, from the base on
 pub record GoodSpan (base : ℕ) (r : ℕ × ℕ) : Type 0 where
   pub start : r.0 % 8 ≡ 0
   pub stop : r.1 % 8 ≡ 0
   pub some : r.0 + 8 ≤ r.1
   pub low : base ≤ r.0
 
+-- each range is good
 abbrev pub GoodSpans : ℕ → List (ℕ × ℕ) → Type 0
 GoodSpans base [] = Unit {0}
 GoodSpans base (r ∷ rs) = GoodSpan base r × GoodSpans base rs
 
+-- the memories of both files, the code of both as a function of the address, and where each input address has its entry
 pub record World : Type 0 where
   pub base : ℕ
   pub distance : ℕ
@@ -74,11 +80,13 @@ pub record World : Type 0 where
   pub span_reads : (q : ℕ) → InSpans spans q → (allows (λ c. c.read) (get output q) ≡ true) × (allows (λ c. c.read) (get output (q + distance)) ≡ true)
 
 -- ---- what is said of each state on the way
+-- an access with a base from x16 on touches no byte of the ranges, and a load with the base x15 reads the word at the cursor
 abbrev pub MissesAs : Class → List (ℕ × ℕ) → Ins → State → Type 0
 MissesAs class.Load ds i u = (16 ≤ i.rs1 → (j : ℕ) → j < width_of i.kind → OutsideAll ds (wrap (place i u + j))) × (i.rs1 ≡ 15 → IsCursor ds (place i u))
 MissesAs class.Store ds i u = 16 ≤ i.rs1 → (j : ℕ) → j < width_of i.kind → OutsideAll ds (wrap (place i u + j))
 MissesAs _ ds i u = Unit {0}
 
+-- the same of what stands at the pc
 abbrev pub Misses : Fetched → List (ℕ × ℕ) → State → Type 0
 Misses Refused ds u = Unit {0}
 Misses (Unknown w) ds u = Unit {0}

@@ -8,6 +8,7 @@ use Rattle.qed_model.specs.Weave.{Reads, prologue}
 use Rattle.weave_core.specs.World.{World, InSpans}
 use Rattle.weave_core.specs.Blocks.{Round, BlockAt}
 
+-- the world is that of the files f and g; both halves begin with the bytes of f; the new code begins with the prologue, and each leader has its entry
 pub record WovenIn (f g : File) (w : World) (leader : ℕ → Bool) (most : ℕ) (round : Round) : Type 0 where
   pub input : memory_of f.segments ≡ w.input
   pub output : memory_of g.segments ≡ w.output
