@@ -1,16 +1,16 @@
 -- Runs over code that stands: a guard, and the two words of a constant (RISC-V unprivileged manual, AUIPC and ADDI).
-use Rattle.std.proofs.Common.{◌≡◌, ℕ, zero, suc, ◌+◌, ◌-◌, ◌*◌, ◌%◌, ◌^◌, ◌<◌, false, List, [], ◌∷◌, ◌++◌, length, refl, sym, ap, ◌∙◌, subst, arith}
-use Rattle.std.proofs.lemmas.Bool.{eq-eqb, ne_eqb}
+use Rattle.std.proofs.Common.{◌≡◌, ℕ, zero, suc, ◌+◌, ◌%◌, ◌^◌, ◌<◌, List, [], ◌∷◌, length, refl, sym, ap, ◌∙◌, arith}
+use Rattle.std.proofs.lemmas.Bool.{eq-eqb}
 use Rattle.std.proofs.lemmas.Int.{ints}
 use Rattle.std.proofs.lemmas.List.{set-set}
-use Rattle.std.specs.Prelude.{◌==◌, pos, ℤ, ◌+ℤ◌, ◌-ℤ◌, ◌*ℤ◌, slice_index, slice_set}
+use Rattle.std.specs.Prelude.{pos, ℤ, ◌+ℤ◌, ◌-ℤ◌, slice_index, slice_set}
 use Rattle.rv_isa.specs.declared.ins.Ins.{Ins}
 use Rattle.rv_isa.specs.declared.kind.Kind.TheVariants.{Auipc, Addi, Ebreak}
 use Rattle.rv_isa.specs.Regs.{set_reg}
 use Rattle.rv_isa.proofs.RegsLaws.{slice_index-set_reg_same}
-use Rattle.qed_model.specs.Table.{ins, signed}
+use Rattle.qed_model.specs.Table.{ins}
 use Rattle.qed_model.specs.declared.machine.Outcome.TheVariants.{Going}
-use Rattle.qed_model.specs.Values.{wrapped, floor_shift, value}
+use Rattle.qed_model.specs.Values.{wrapped, value}
 use Rattle.qed_model.specs.Machine.{State, reg, moved, result, Fetched, Known, HasAt, fetched_at, next, step, run}
 use Rattle.qed_model.specs.Placed.{distance_between, upper_part}
 use Rattle.qed_model.proofs.Steps.{step-compute, guard, step-guard}

@@ -32,6 +32,7 @@ module _ (P : State → Type 0) where
         subst P (sym there) (b.each (k - m) (omega arith)))
         (cases_lt k m);
   }
+
 -- the same for a weaker property
 pub walk_weaker : (P Q : State → Type 0) (s t : State) (n : ℕ) → ((x : State) → P x → Q x) → Walk P s n t → Walk Q s n t
 walk_weaker P Q s t n f w = record { ends = w.ends; each = λ k h. f _ (w.each k h) }

@@ -1,10 +1,10 @@
 -- The code sequences of a test that is one straight block.
-use Rattle.std.specs.Prelude.{ℕ, zero, suc, ◌+◌, ◌==◌, cond, List, [], ◌∷◌, ◌++◌, map, pos}
+use Rattle.std.specs.Prelude.{ℕ, List, [], ◌∷◌, ◌++◌, map, pos}
 use Rattle.std.specs.List.{flat_map}
-use Rattle.rv_isa.specs.declared.kind.Kind.TheVariants.{Addi, Add, Lui, Ld, Beq, Bne, Ecall, Ebreak, Illegal}
+use Rattle.rv_isa.specs.declared.kind.Kind.TheVariants.{Addi, Lui, Ecall}
 use Rattle.rv_isa.specs.declared.ins.Ins.{Ins}
 use Rattle.qed_model.specs.declared.item.Item.{Item}
-use Rattle.qed_model.specs.declared.item.Item.TheVariants.{Mark, Plain, Constant, Go}
+use Rattle.qed_model.specs.declared.item.Item.TheVariants.{Plain}
 use Rattle.qed_model.specs.Table.{ins}
 pub use Rattle.qed_model.specs.Weave.{pair, renamed, ebreak, guard, enter, go_on, times, cursor, stub}
 use Rattle.qed_model.specs.Weave.{visit_word}

@@ -12,7 +12,7 @@ use Rattle.qed_model.specs.Machine.{Known, HasAt}
 use Rattle.qed_model.specs.Weave.{Reads, End, Falls, Stops, entry_items, target}
 use Rattle.weave_core.specs.World.{World}
 
--- the instructions of a piece
+-- the classes of the instructions of a body
 abbrev pub IsBody : Class → Type 0
 IsBody class.Compute = Unit {0}
 IsBody class.Fence = Unit {0}
@@ -39,7 +39,7 @@ Clean class.Load ws i = ws i.rs1 ≡ false
 Clean class.Store ws i = (ws i.rs1 ≡ false) × (ws i.rs2 ≡ false)
 Clean _ ws i = Unit {0}
 
--- and the register that an instruction writes
+-- the register that an instruction writes joins those that were written
 abbrev pub with_written : Ins → (ℕ → Bool) → ℕ → Bool
 with_written i ws r = ws r || (not (r == 0) && (r == i.rd))
 
@@ -66,14 +66,15 @@ Full (p ∷ q ∷ ps) e = (1 ≤ length p) × Full (q ∷ ps) e
 abbrev pub Goes : World → (ℕ → Bool) → ℕ → Type 0
 Goes w leader a = (leader a ≡ true) ⊎ ((i : Ins) → w.source a ≡ Known i → ⊥)
 
--- the table leads from an input address to its entry
+-- the table leads from an input address a to its entry: it has at a + 2D the distance to the entry, in 32 bits
 pub record TableAt (w : World) (a : ℕ) : Type 0 where
   pub from : w.base ≤ a
   pub low : a + 2 * w.distance + 4 ≤ 2 ^ 63
   pub reads : (j : ℕ) → j < 4 → allows (λ c. c.read) (get w.output (a + 2 * w.distance + j)) ≡ true
   pub leads : (loaded Lw (number w.output (a + 2 * w.distance) 4) + (a + 2 * w.distance)) % 2 ^ 64 ≡ w.entry a
 
--- what the leave of an instruction asks for, by its class: where it goes to is a leader or no code, and a JALR finds each leader in the table
+-- what the leave of an instruction asks for, by its class: where it goes to is a leader or no code, and a JALR finds each leader
+-- in the table
 abbrev pub Leaves : Class → World → (ℕ → Bool) → Ins → ℕ → Type 0
 Leaves class.End w leader i at = Unit {0}
 Leaves class.Illegal w leader i at = Unit {0}
@@ -92,7 +93,7 @@ abbrev pub Pieces : World → (ℕ → Bool) → ℕ → List (List Ins) → End
 Pieces w leader most [] e at = Ends w leader e at
 Pieces w leader most (p ∷ ps) e at = Piece w most at p × Pieces w leader most ps e (at + 4 * length p)
 
--- how a data word is visited
+-- the visits behind each piece: how many data words, and the data range
 pub record Round : Type 0 where
   pub count : ℕ
   pub from : ℕ

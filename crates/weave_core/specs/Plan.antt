@@ -14,7 +14,8 @@ use Rattle.weave_core.specs.Blocks.{Pieces, Full, Round}
 use Rattle.weave_core.specs.Promise.{Rounds}
 
 -- ---- facts on the two files alone
--- the two files fit together: where their bytes stand, what may be written and executed, and the equal bytes of both halves at the start
+-- the two files fit together: where their bytes stand, what may be written and executed, and the equal bytes of both halves at
+-- the start
 pub record Fits (f g : File) (base d : ℕ) (spans : List (ℕ × ℕ)) : Type 0 where
   pub layout : Layout base d (memory_of f.segments) (memory_of g.segments)
   pub input_fixed : IsFixed (memory_of f.segments)

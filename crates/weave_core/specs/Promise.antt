@@ -1,5 +1,5 @@
 -- The promise: where a file was woven from another, the input's values are kept.
-use Rattle.std.specs.Prelude.{◌≡◌, ℕ, ◌⊎◌, Bool, true, [], ◌∷◌}
+use Rattle.std.specs.Prelude.{◌≡◌, ℕ, ◌⊎◌, Bool, [], ◌∷◌}
 use Rattle.qed_model.specs.Kept.{File, Kept}
 use Rattle.qed_model.specs.Bounds.{piece_bound}
 use Rattle.weave_core.specs.World.{World}

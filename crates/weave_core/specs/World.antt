@@ -25,7 +25,7 @@ abbrev pub AllBelow : List (ℕ × ℕ) → ℕ → Type 0
 AllBelow [] top = Unit {0}
 AllBelow (r ∷ rs) top = (r.1 ≤ top) × AllBelow rs top
 
--- what no byte of a memory is
+-- no byte of a memory may be both written and executed
 abbrev pub IsFixed : Memory → Type 0
 IsFixed m = (q : ℕ) → allows (λ c. c.write) (get m q) ≡ true → allows (λ c. c.execute) (get m q) ≡ false
 
@@ -62,15 +62,16 @@ pub record World : Type 0 where
   pub input : Memory
   pub output : Memory
   pub layout : Layout base distance input output
-  -- what stands at each address of the input's and the output's code
+  -- what stands at each address of the input and of the output
   pub source : ℕ → Fetched
   pub code : ℕ → Fetched
-  -- the place of an input address
+  -- where an input address has its entry
   pub entry : ℕ → ℕ
+  -- code stands below 2^63, on its grain
   pub low : (a : ℕ) (i : Ins) → code a ≡ Known i → a + 8 ≤ 2 ^ 63
   pub grain : (a : ℕ) (i : Ins) → code a ≡ Known i → a % 4 ≡ 0
   pub source_low : (a : ℕ) (i : Ins) → source a ≡ Known i → a + 8 ≤ 2 ^ 63
-  -- no byte may be written and executed
+  -- code stays what it is
   pub input_fixed : IsFixed input
   pub output_fixed : IsFixed output
   -- the data ranges of the original half
@@ -101,14 +102,17 @@ Enters u a =
 abbrev pub Signed : State → Type 0
 Signed u = (a : ℕ) → a < 2 ^ 64 → Enters u a → reg u 16 ≡ a
 
--- the state goes on, no EBREAK is next, and no access by a temporary touches the data of the original half
+-- the state goes on, no EBREAK is next, no access by a temporary touches the data of the original half, and an entry is reached
+-- with its own signature
 pub record Quiet (ds : List (ℕ × ℕ)) (u : State) : Type 0 where
   pub going : u.outcome ≡ Going
   pub calm : next u ≡ ebreak → ⊥
   pub misses : Misses (next u) ds u
   pub signed : Signed u
 
--- ---- u has in the original half the values of s, and in the duplicate half those of s'
+-- ---- the halves along the way
+-- u has in the original half the values of s, and in the duplicate half those of s'; between an original part and its mirror part
+-- these are two states of the input's run
 pub record Halved (w : World) (u s s' : State) : Type 0 where
   pub output : Flagged w.output u
   pub input : Flagged w.input s
