@@ -13,3 +13,5 @@ pub mod Trace
 pub mod Prologue
 pub mod Values
 pub mod Planned
+pub mod Placing
+pub mod Straight
