@@ -15,3 +15,4 @@ pub mod Values
 pub mod Planned
 pub mod Placing
 pub mod Straight
+pub mod FirstFits
