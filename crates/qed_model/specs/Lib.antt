@@ -1,7 +1,13 @@
 pub mod Table
 pub mod Numbers
-pub mod Sequences
 pub mod Placed
+pub mod Memory
+pub mod Values
+pub mod Machine
+pub mod Halves
+pub mod Kept
+pub mod Weave
+pub mod Sequences
 pub mod Plain
 pub mod Written
 pub mod Woven

@@ -3,8 +3,10 @@
 
 mod bytes;
 mod item;
+mod machine;
 mod segment;
 
 pub use bytes::Bytes;
 pub use item::Item;
+pub use machine::{Cause, Outcome};
 pub use segment::Segment;

@@ -1,0 +1,5 @@
+pub mod World
+pub mod Blocks
+pub mod WovenIn
+pub mod Promise
+pub mod Plan
