@@ -28,7 +28,7 @@ module _ (entry flags count : ℕ) (rest file : List ℕ) (is : file ≡ fields_
   phnum_read h = header_field 15 56 (omega arith) refl (omega arith)
 
   pub header_read : 1 ≤ count → count ≤ 3 → IsPlainHeader file
-  header_read some few = 
+  header_read some few =
     let many = phnum_read (omega arith) in
     record {
       magic = record {
@@ -68,7 +68,10 @@ length-program_headers at (s ∷ segments) =
 
 pub length-segments_bytes : (at : ℕ) (segments : List Segment) → at + length (segments_bytes at segments) ≡ end_from at segments
 length-segments_bytes at [] = omega arith
-length-segments_bytes at (s ∷ segments) = ?
+length-segments_bytes at (s ∷ segments) =
+    let next = offset_from at s.address + length s.bytes in
+    let rest = length-segments_bytes next segments in
+    simp (length-append, length-replicate) (omega (arith, rest))
 
 -- the parts of a list of segments stand one behind the other
 pub program_headers-append : (at : ℕ) (before after : List Segment) → program_headers at (before ++ after) ≡ program_headers at before ++ program_headers (end_from at before) after
@@ -83,3 +86,117 @@ segments_bytes-append at [] after = refl
 segments_bytes-append at (s ∷ before) after =
     let next = offset_from at s.address + length s.bytes in
     simp append_assoc (ap (λ bytes. replicate (offset_from at s.address - at) 0 ++ (s.bytes ++ bytes)) (segments_bytes-append next before after))
+
+-- ---- one segment of a written file
+-- what a program header says of a segment at an offset fits its fields
+pub record Fits (s : Segment) (offset : ℕ) : Type 0 where
+  pub kind : s.kind < 2 ^ 32
+  pub flags : s.flags < 2 ^ 32
+  pub address : s.address < 2 ^ 64
+  pub memory : s.memory < 2 ^ 64
+  pub end : offset + length s.bytes < 2 ^ 64
+
+module _ (k offset : ℕ) (s : Segment) (front rest file : List ℕ) (is : file ≡ front ++ (fields_bytes (program_fields s offset) ++ rest))
+    (at : length front ≡ 64 + 56 * k) (fits : Fits s offset) where
+  program_field : (j at : ℕ) → j < 8 → 64 + 56 * k + size_before j (program_fields s offset) ≡ at
+      → value_at j (program_fields s offset) < 256 ^ size_at j (program_fields s offset)
+      → field at (size_at j (program_fields s offset)) file ≡ value_at j (program_fields s offset)
+  program_field j place lt e h = field-fields_bytes j place file front (program_fields s offset) rest is lt (omega arith) h
+
+  pub type_read : p_type file k ≡ s.kind
+  type_read = program_field 0 (64 + 56 * k) (omega arith) (omega arith) (omega arith)
+
+  pub permissions_read : p_flags file k ≡ s.flags
+  permissions_read = program_field 1 (68 + 56 * k) (omega arith) (omega arith) (omega arith)
+
+  pub offset_read : p_offset file k ≡ offset
+  offset_read = program_field 2 (72 + 56 * k) (omega arith) (omega arith) (omega arith)
+
+  pub address_read : p_vaddr file k ≡ s.address
+  address_read = program_field 3 (80 + 56 * k) (omega arith) (omega arith) (omega arith)
+
+  pub filesz_read : p_filesz file k ≡ length s.bytes
+  filesz_read = program_field 5 (96 + 56 * k) (omega arith) (omega arith) (omega arith)
+
+  pub memsz_read : p_memsz file k ≡ s.memory
+  memsz_read = program_field 6 (104 + 56 * k) (omega arith) (omega arith) (omega arith)
+
+-- a file with a segment's bytes at an offset, which its program header names
+pub segment_bytes-read : (k offset : ℕ) (bytes front rest file : List ℕ) → file ≡ front ++ (bytes ++ rest) → length front ≡ offset
+    → p_offset file k ≡ offset → p_filesz file k ≡ length bytes → segment_bytes file k ≡ bytes
+segment_bytes-read k offset bytes front rest file is at o n =
+    ap (λ size. take size (drop (p_offset file k) file)) n ∙ ap (λ from. take (length bytes) (drop from file)) o
+    ∙ ap (take (length bytes)) (ap (drop offset) is ∙ drop_at front (bytes ++ rest) offset at) ∙ take_at bytes rest (length bytes) refl
+
+-- what is read of segment k, whose bytes stand at `place`
+pub record IsRead (file : List ℕ) (k place : ℕ) (s : Segment) : Type 0 where
+  pub kind : p_type file k ≡ s.kind
+  pub flags : p_flags file k ≡ s.flags
+  pub offset : p_offset file k ≡ place
+  pub address : p_vaddr file k ≡ s.address
+  pub size : p_filesz file k ≡ length s.bytes
+  pub memory : p_memsz file k ≡ s.memory
+  pub bytes : segment_bytes file k ≡ s.bytes
+  pub table : 64 + 56 * (k + 1) ≤ length file
+  pub inside : place + length s.bytes ≤ length file
+
+segment_parts : (k place : ℕ) (s : Segment) (front rest ahead behind file : List ℕ) → file ≡ front ++ (fields_bytes (program_fields s place) ++ rest)
+    → length front ≡ 64 + 56 * k → file ≡ ahead ++ (s.bytes ++ behind) → length ahead ≡ place → Fits s place → IsRead file k place s
+segment_parts k place s front rest ahead behind file header at body from fits =
+    let o = offset_read k place s front rest file header at fits in
+    let n = filesz_read k place s front rest file header at fits in
+    record {
+      kind = type_read k place s front rest file header at fits;
+      flags = permissions_read k place s front rest file header at fits;
+      offset = o;
+      address = address_read k place s front rest file header at fits;
+      size = n;
+      memory = memsz_read k place s front rest file header at fits;
+      bytes = segment_bytes-read k place s.bytes ahead behind file body from o n;
+      table = omega (arith, ap length header, length-append front (fields_bytes (program_fields s place) ++ rest), length-append (fields_bytes (program_fields s place)) rest, length-program s place);
+      inside = omega (arith, ap length body, length-append ahead (s.bytes ++ behind), length-append s.bytes behind);
+    }
+
+-- the file in its parts, split at a program header and at a segment's bytes
+split_header : (h before program after bytes : List ℕ) → h ++ ((before ++ (program ++ after)) ++ bytes) ≡ (h ++ before) ++ (program ++ (after ++ bytes))
+split_header h before program after bytes = simp append_assoc
+
+split_bytes : (h programs before zeros bytes after : List ℕ) → h ++ (programs ++ (before ++ (zeros ++ (bytes ++ after)))) ≡ (((h ++ programs) ++ before) ++ zeros) ++ (bytes ++ after)
+split_bytes h programs before zeros bytes after = simp append_assoc
+
+-- what stands in front of a segment's bytes
+front_of : (h programs before zeros : List ℕ) (count here place : ℕ) → length h ≡ 64 → length programs ≡ 56 * count
+    → 64 + 56 * count + length before ≡ here → length zeros ≡ place - here → here ≤ place → length (((h ++ programs) ++ before) ++ zeros) ≡ place
+front_of h programs before zeros count here place a b c d le = simp length-append (omega arith)
+
+-- where the segment behind `before` stands, in a file of `count` segments
+abbrev pub place_of : ℕ → List Segment → Segment → ℕ
+place_of count before s = offset_from (end_from (64 + 56 * count) before) s.address
+
+-- each segment of a plain file reads back
+pub segment_read : (entry flags : ℕ) (before after : List Segment) (s : Segment) (file : List ℕ) → file ≡ plain_file entry flags (before ++ s ∷ after)
+    → Fits s (place_of (length (before ++ s ∷ after)) before s) → IsRead file (length before) (place_of (length (before ++ s ∷ after)) before s) s
+segment_read entry flags before after s file is fits =
+    let count : ℕ = length (before ++ s ∷ after) in
+    let start : ℕ = 64 + 56 * count in
+    let here : ℕ = end_from start before in
+    let place : ℕ = offset_from here s.address in
+    let next : ℕ = place + length s.bytes in
+    let h : List ℕ = fields_bytes (header_fields entry flags count) in
+    let programs : List ℕ = program_headers start (before ++ s ∷ after) in
+    let all : List ℕ = segments_bytes start (before ++ s ∷ after) in
+    let first : List ℕ = program_headers start before in
+    let last : List ℕ = program_headers next after in
+    let under : List ℕ = segments_bytes start before in
+    let zeros : List ℕ = replicate (place - here) 0 in
+    let above : List ℕ = segments_bytes next after in
+    let header : file ≡ (h ++ first) ++ (fields_bytes (program_fields s place) ++ (last ++ all)) =
+    is ∙ ap (λ bytes. h ++ (bytes ++ all)) (program_headers-append start before (s ∷ after)) ∙ split_header h first (fields_bytes (program_fields s place)) last all in
+    let body : file ≡ (((h ++ programs) ++ under) ++ zeros) ++ (s.bytes ++ above) =
+    is ∙ ap (λ bytes. h ++ (programs ++ bytes)) (segments_bytes-append start before (s ∷ after)) ∙ split_bytes h programs under zeros s.bytes above in
+    let at : length (h ++ first) ≡ 64 + 56 * length before =
+    length-append h first ∙ rw (length-header entry flags count, length-program_headers start before) refl in
+    let ahead : length (((h ++ programs) ++ under) ++ zeros) ≡ place =
+    front_of h programs under zeros count here place (length-header entry flags count) (length-program_headers start (before ++ s ∷ after)) (length-segments_bytes start before)
+    (length-replicate (place - here) 0) (omega arith) in
+    segment_parts (length before) place s (h ++ first) (last ++ all) (((h ++ programs) ++ under) ++ zeros) above file header at body ahead fits
