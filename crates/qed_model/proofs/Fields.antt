@@ -1,13 +1,14 @@
 -- Numbers that were written as bytes read back.
-use Rattle.std.proofs.Common.{◌≡◌, ℕ, zero, suc, ◌+◌, ◌-◌, ◌*◌, ◌^◌, ◌<◌, ◌≤◌, List, [], ◌∷◌, ◌++◌, length, drop, refl, ap, sym, ◌∙◌, arith, length-append}
+use Rattle.std.proofs.Common.{◌≡◌, ℕ, zero, suc, ◌+◌, ◌*◌, ◌^◌, ◌<◌, List, [], ◌∷◌, ◌++◌, length, drop, refl, ap, sym, ◌∙◌, arith, length-append}
 use Rattle.std.specs.Prelude.{slice_index}
-use Rattle.std.proofs.lemmas.List.{append_assoc, append-nil, drop_at, get_or-drop}
+use Rattle.std.proofs.lemmas.List.{append_assoc, drop_at, get_or-drop}
 use Rattle.byteorder.specs.Numbers.{little_number-reads_back, length-bytes_low_first}
 use Rattle.byteorder.specs.Endian.{little_number}
 use Rattle.qed_model.specs.Numbers.{field, number_bytes, words_of, bytes_of}
 use Rattle.qed_model.specs.Written.{fields_bytes}
 
 -- ---- one number
+-- a number has as many bytes as it is written in
 pub length-number_bytes : (n v : ℕ) → length (number_bytes n v) ≡ n
 unfolding number_bytes
 length-number_bytes n v = length-bytes_low_first 0 n v
@@ -26,6 +27,7 @@ slice_index-field at file =
     omega (arith, byte)
 
 -- ---- words
+-- a word has four bytes
 pub length-bytes_of : (words : List ℕ) → length (bytes_of words) ≡ 4 * length words
 length-bytes_of [] = refl
 length-bytes_of (w ∷ words) = simp length-append (omega (arith, length-number_bytes 4 w, length-bytes_of words))
@@ -40,17 +42,19 @@ words_of-bytes_of (w ∷ words) h =
     cc
 
 -- ---- fields
--- the bytes of the fields before field j, the size of field j and its value
+-- the bytes before field j
 abbrev pub size_before : ℕ → List (ℕ × ℕ) → ℕ
 size_before j [] = 0
 size_before zero (f ∷ fs) = 0
 size_before (suc j) (f ∷ fs) = f.0 + size_before j fs
 
+-- the size of field j in bytes
 abbrev pub size_at : ℕ → List (ℕ × ℕ) → ℕ
 size_at j [] = 0
 size_at zero (f ∷ fs) = f.0
 size_at (suc j) (f ∷ fs) = size_at j fs
 
+-- the value of field j
 abbrev pub value_at : ℕ → List (ℕ × ℕ) → ℕ
 value_at j [] = 0
 value_at zero (f ∷ fs) = f.1
@@ -61,6 +65,7 @@ abbrev pub size_of : List (ℕ × ℕ) → ℕ
 size_of [] = 0
 size_of (f ∷ fs) = f.0 + size_of fs
 
+-- fields have the bytes of their sizes
 pub length-fields_bytes : (fs : List (ℕ × ℕ)) → length (fields_bytes fs) ≡ size_of fs
 length-fields_bytes [] = refl
 length-fields_bytes (f ∷ fs) = length-append (number_bytes f.0 f.1) (fields_bytes fs) ∙ rw (length-number_bytes f.0 f.1, length-fields_bytes fs) refl

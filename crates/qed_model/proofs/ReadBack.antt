@@ -1,6 +1,5 @@
 -- The file that is woven reads back: it is plain, and its three segments are those that were written.
 use Rattle.std.proofs.Common.{◌≡◌, ℕ, zero, suc, ◌+◌, ◌*◌, ◌^◌, ◌<◌, ◌≤◌, List, [], ◌∷◌, ◌++◌, length, refl, ◌∙◌, arith}
-use Rattle.qed_model.specs.declared.segment.Segment.{Segment}
 use Rattle.qed_model.specs.Numbers.{bytes_of}
 use Rattle.qed_model.specs.Plain.{IsPlain, IsPlainHeader, IsPlainSegment, e_entry, e_flags, e_phnum, p_type, p_flags, p_offset, p_vaddr, p_filesz, p_memsz, segment_bytes}
 use Rattle.qed_model.specs.Written.{plain_file, program_headers, segments_bytes}
@@ -80,12 +79,14 @@ three_plain file a b c pa pb pc oa ob oc sa sb sc na nb nc header count first se
 
 module _ (source words file : List ℕ) (is : file ≡ plain_file code_base 0 (woven_segments source words)) (some : 1 ≤ length source) (small : length source ≤ 68)
     (any : 1 ≤ length words) (few : length words ≤ 200) where
+  -- the source in place
   first_loaded : IsLoaded file 0 4 0x1000 0x10000 (length source) source
   first_loaded =
       loaded 0 4 0x10000 0x1000 0x1000 (length source) file source refl refl
       (segment_read code_base 0 [] (load 4 (image_base + half) source ∷ load 5 code_base (bytes_of words) ∷ []) (load 4 image_base source) file is
       (record { kind = omega arith; flags = omega arith; address = omega arith; memory = omega arith; end = omega arith }))
 
+  -- the source in the duplicate half
   second_loaded : IsLoaded file 1 4 0x2000 0x11000 (length source) source
   second_loaded =
       let before = load 4 image_base source ∷ [] in
@@ -94,6 +95,7 @@ module _ (source words file : List ℕ) (is : file ≡ plain_file code_base 0 (w
       (segment_read code_base 0 before (load 5 code_base (bytes_of words) ∷ []) (load 4 (image_base + half) source) file is
       (record { kind = omega arith; flags = omega arith; address = omega arith; memory = omega arith; end = omega arith }))
 
+  -- the new code
   code_loaded : IsLoaded file 2 5 0x3000 0x13000 (4 * length words) (bytes_of words)
   code_loaded =
       let before = load 4 image_base source ∷ load 4 (image_base + half) source ∷ [] in
