@@ -9,6 +9,7 @@ pub mod Kept
 pub mod Weave
 pub mod Sequences
 pub mod Plain
+pub mod Loaded
 pub mod Written
 pub mod Woven
 pub mod Bounds

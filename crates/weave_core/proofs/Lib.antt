@@ -16,3 +16,4 @@ pub mod Planned
 pub mod Placing
 pub mod Straight
 pub mod FirstFits
+pub mod LoadedFirst
