@@ -16,3 +16,5 @@ pub mod Planned
 pub mod Placing
 pub mod Straight
 pub mod FirstFits
+pub mod FirstKept
+mod Example
