@@ -1,15 +1,18 @@
 -- The two files of a test in one segment without data: its bytes stand in both halves, and the new code behind them.
-use Rattle.std.proofs.Common.{◌≡◌, ℕ, ◌+◌, ◌-◌, ◌^◌, ◌<◌, ◌≤◌, ◌⊎◌, inl, inr, ⊎_elim, Bool, true, false, List, [], ◌∷◌, ◌++◌, length, is_some, refl, sym, ap, ◌∙◌, subst, arith}
+use Rattle.std.proofs.Common.{◌≡◌, ℕ, ◌+◌, ◌-◌, ◌<◌, ◌≤◌, inr, ⊎_elim, true, false, List, [], ◌∷◌, ◌++◌, length, is_some, refl, sym, ap, ◌∙◌, subst, arith}
 use Rattle.std.proofs.lemmas.Bool.{false≢true}
 use Rattle.std.proofs.lemmas.List.{append-nil}
-use Rattle.std.specs.Prelude.{replicate}
+use Rattle.std.specs.Prelude.{replicate, slice_index}
 use Rattle.std.specs.FinMap.{get, find}
 use Rattle.std.specs.Ordering.{nat_cmp}
 use Rattle.qed_model.specs.Memory.{Flags, Cell, allows, byte_in, byte_at, cells_from}
+use Rattle.qed_model.specs.Numbers.{words_of}
+use Rattle.qed_model.specs.Machine.{fetched_at}
 use Rattle.qed_model.specs.Kept.{LoadSegment, File, memory_of, cells_of}
 use Rattle.qed_model.proofs.CellsLaws.{some_in, in_some, flags_in, in_allows, byte_is, find_front, find_skip, none_in, either_allows, get_memory, whole_cells, byte_of_cell}
 use Rattle.qed_model.proofs.HalvesLaws.{some_of_allows}
 use Rattle.weave_core.specs.Plan.{Fits}
+use Rattle.weave_core.proofs.Placing.{FetchesAt, fetches_words}
 
 -- ---- the memories
 module _ (bs cs : List ℕ) (fi fo fc : Flags) where
@@ -143,3 +146,29 @@ module _ (bs cs : List ℕ) (short : length bs ≤ 4096) (room : length cs ≤ 1
     mirror_bytes = λ q e. byte_of_cell (memory_of (first_output bs cs).segments) (q + 4096) ∙ ap byte_in (g_get (q + 4096)) ∙ same_high bs cs executable readable executable short q (to_find q e) ∙ sym (byte_of_cell (memory_of (first_input bs).segments) q ∙ ap byte_in (f_get q));
     spare = λ q h e. absurd h;
   }
+
+  -- the input's bytes may be executed, and so may the new code's
+  pub input_byte : (i : ℕ) → i < length bs → byte_at (memory_of (first_input bs).segments) (65536 + i) ≡ slice_index bs i
+  input_byte i h = byte_of_cell (memory_of (first_input bs).segments) (65536 + i) ∙ ap byte_in (f_get (65536 + i)) ∙ byte_is bs 65536 i executable
+
+  pub input_runs : (i : ℕ) → i < length bs → allows (λ f. f.execute) (get (memory_of (first_input bs).segments) (65536 + i)) ≡ true
+  input_runs i h = ap (allows (λ f. f.execute)) (f_get (65536 + i)) ∙ in_allows (λ f. f.execute) bs 65536 (65536 + i) executable (in_some bs 65536 (65536 + i) executable (omega arith) (omega (arith, h))) refl
+
+  -- the new code stands behind both halves
+  code_found : (i : ℕ) → find nat_cmp (77824 + i) (mg bs cs executable readable executable) ≡ find nat_cmp (77824 + i) (cells_from 77824 executable cs)
+  code_found i =
+      find_skip (cells_from 65536 readable bs) (cells_from 69632 readable bs ++ cells_from 77824 executable cs) (77824 + i) (none_in bs 65536 (77824 + i) readable (inr (omega (arith, short))))
+      ∙ find_skip (cells_from 69632 readable bs) (cells_from 77824 executable cs) (77824 + i) (none_in bs 69632 (77824 + i) readable (inr (omega (arith, short))))
+
+  pub output_byte : (i : ℕ) → i < length cs → byte_at (memory_of (first_output bs cs).segments) (77824 + i) ≡ slice_index cs i
+  output_byte i h = byte_of_cell (memory_of (first_output bs cs).segments) (77824 + i) ∙ ap byte_in (g_get (77824 + i) ∙ code_found i) ∙ byte_is cs 77824 i executable
+
+  pub output_runs : (i : ℕ) → i < length cs → allows (λ f. f.execute) (get (memory_of (first_output bs cs).segments) (77824 + i)) ≡ true
+  output_runs i h = ap (allows (λ f. f.execute)) (g_get (77824 + i) ∙ code_found i) ∙ in_allows (λ f. f.execute) cs 77824 (77824 + i) executable (in_some cs 77824 (77824 + i) executable (omega arith) (omega (arith, h))) refl
+
+  -- both are fetched as their words
+  pub input_fetches : FetchesAt (fetched_at (memory_of (first_input bs).segments) (first_input bs).ranges) 65536 (words_of bs)
+  input_fetches = fetches_words (memory_of (first_input bs).segments) 65536 (65536 + length bs) 65536 bs refl (omega arith) (omega arith) (omega (arith, short)) input_byte input_runs
+
+  pub output_fetches : FetchesAt (fetched_at (memory_of (first_output bs cs).segments) (first_output bs cs).ranges) 77824 (words_of cs)
+  output_fetches = fetches_words (memory_of (first_output bs cs).segments) 77824 (77824 + length cs) 77824 cs refl (omega arith) (omega arith) (omega (arith, room)) output_byte output_runs

@@ -17,3 +17,5 @@ pub mod Placing
 pub mod Straight
 pub mod FirstFits
 pub mod LoadedFirst
+pub mod FirstKept
+mod Example

@@ -1,14 +1,18 @@
 -- Code that has the instructions of items in their places reads as the items.
 use Rattle.std.proofs.Common.{◌≡◌, ℕ, ◌+◌, ◌-◌, Bool, true, false, cond, List, [], ◌∷◌, ◌++◌, map, Some, None, refl, ap, ◌∙◌, subst, arith}
-use Rattle.std.specs.Prelude.{◌==◌, unwrap_or}
-use Rattle.std.proofs.lemmas.Bool.{eqb-true, eq-eqb, ne_eqb}
+use Rattle.std.specs.Prelude.{◌*◌, ◌%◌, ◌^◌, ◌<◌, ◌≤◌, ◌==◌, nat_le, suc, length, slice_index, unwrap_or}
+use Rattle.std.specs.FinMap.{get}
+use Rattle.std.proofs.lemmas.Bool.{eqb-true, eq-eqb, ne_eqb, le-leb}
 use Rattle.rv_isa.specs.declared.ins.Ins.{Ins}
 use Rattle.qed_model.specs.declared.item.Item.{Item}
 use Rattle.qed_model.specs.declared.item.Item.TheVariants.{Mark, Plain, Constant, Go}
 use Rattle.qed_model.specs.Table.{decode_of}
-use Rattle.qed_model.specs.Machine.{Fetched, known_or, HasAt}
+use Rattle.qed_model.specs.Memory.{Memory, wrap, allows, byte_at, number, grants}
+use Rattle.qed_model.specs.Numbers.{words_of}
+use Rattle.qed_model.specs.Machine.{Fetched, known_or, fetched_at, HasAt}
 use Rattle.qed_model.specs.Placed.{sum_of_sizes, mark_from, entry_of, instructions_from, placed, Decode}
 use Rattle.qed_model.specs.Weave.{Reads}
+use Rattle.qed_model.proofs.MemoryLaws.{grants_from}
 
 -- ---- marks
 -- no item is a mark
@@ -124,3 +128,49 @@ has_decoded c a (w ∷ ws) (i ∷ is) d h =
     let first : decode_of w ≡ Some i = cc in
     let rest : map decode_of ws ≡ map Some is = cc in
     (h.0 ∙ ap (known_or w) first, has_decoded c (a + 4) ws is rest h.1)
+
+-- the front of a list of instructions stands there
+pub has_front : (c : ℕ → Fetched) (a : ℕ) (xs ys : List Ins) → HasAt c a (xs ++ ys) → HasAt c a xs
+has_front c a [] ys h = tt
+has_front c a (x ∷ xs) ys h = (h.0, has_front c (a + 4) xs ys h.1)
+
+-- and the rest behind it
+pub has_back : (c : ℕ → Fetched) (a : ℕ) (xs ys : List Ins) → HasAt c a (xs ++ ys) → HasAt c (a + 4 * length xs) ys
+has_back c a [] ys h = let e : a ≡ a + 0 = omega arith in subst (λ n. HasAt c n ys) e h
+has_back c a (x ∷ xs) ys h = let e : a + 4 + 4 * length xs ≡ a + 4 * length (x ∷ xs) = omega arith in subst (λ n. HasAt c n ys) e (has_back c (a + 4) xs ys h.1)
+
+-- ---- words in memory
+-- the word of four bytes, the lowest first
+abbrev word_from : ℕ → ℕ → ℕ → ℕ → ℕ
+word_from b0 b1 b2 b3 = b0 + 256 * (b1 + 256 * (b2 + 256 * (b3 + 256 * 0)))
+
+-- four bytes that may be executed are fetched as a word
+fetches_word : (m : Memory) (lo hi a b0 b1 b2 b3 : ℕ) → a % 4 ≡ 0 → lo ≤ a → a + 4 ≤ hi → hi ≤ 2 ^ 64 → byte_at m a ≡ b0 → byte_at m (a + 1) ≡ b1 → byte_at m (a + 2) ≡ b2 → byte_at m (a + 3) ≡ b3 → ((i : ℕ) → i < 4 → allows (λ f. f.execute) (get m (a + i)) ≡ true) → fetched_at m ((lo, hi) ∷ []) a ≡ known_or (word_from b0 b1 b2 b3) (decode_of (word_from b0 b1 b2 b3))
+unfolding fetched_at number
+fetches_word m lo hi a b0 b1 b2 b3 grain low high top e0 e1 e2 e3 runs =
+    let w0 : wrap a ≡ a = omega arith in
+    let w1 : wrap (a + 1) ≡ a + 1 = omega arith in
+    let w2 : wrap (a + 1 + 1) ≡ a + 2 = omega arith in
+    let w3 : wrap (a + 1 + 1 + 1) ≡ a + 3 = omega arith in
+    let num : number m a 4 ≡ word_from b0 b1 b2 b3 = rw (w0, w1, w2, w3, e0, e1, e2, e3) refl in
+    let granted : grants (λ f. f.execute) m a 4 ≡ true = grants_from (λ f. f.execute) m a 4 (λ i h. let w : wrap (a + i) ≡ a + i = omega arith in rw w (runs i h)) in
+    let t0 : (a % 4 == 0) ≡ true = eq-eqb (a % 4) 0 grain in
+    let t1 : nat_le lo a ≡ true = le-leb lo a low in
+    let t2 : nat_le (a + 4) hi ≡ true = le-leb (a + 4) hi high in
+    rw (t0, t1, t2, granted, num) refl
+
+-- bytes that may be executed are fetched as their words
+pub fetches_words : (m : Memory) (lo hi a : ℕ) (ds : List ℕ) → a % 4 ≡ 0 → lo ≤ a → a + length ds ≤ hi → hi ≤ 2 ^ 64 → ((i : ℕ) → i < length ds → byte_at m (a + i) ≡ slice_index ds i) → ((i : ℕ) → i < length ds → allows (λ f. f.execute) (get m (a + i)) ≡ true) → FetchesAt (fetched_at m ((lo, hi) ∷ [])) a (words_of ds)
+fetches_words m lo hi a [] grain low high top is runs = tt
+fetches_words m lo hi a (b0 ∷ []) grain low high top is runs = tt
+fetches_words m lo hi a (b0 ∷ b1 ∷ []) grain low high top is runs = tt
+fetches_words m lo hi a (b0 ∷ b1 ∷ b2 ∷ []) grain low high top is runs = tt
+fetches_words m lo hi a (b0 ∷ b1 ∷ b2 ∷ b3 ∷ ds) grain low high top is runs =
+    let e0 : a + 0 ≡ a = omega arith in (
+      fetches_word m lo hi a b0 b1 b2 b3 grain low (omega (arith, high)) top (rw e0 at (is 0 (omega arith))) (is 1 (omega arith)) (is 2 (omega arith)) (is 3 (omega arith)) (λ i h. runs i (omega (arith, h))),
+      fetches_words m lo hi (a + 4) ds (omega (arith, grain)) (omega (arith, low)) (omega (arith, high)) top
+          (λ i h. let e : a + 4 + i ≡ a + (i + 4) = omega arith in rw e (is (i + 4) (omega (arith, h)) ∙ behind b0 b1 b2 b3 ds i))
+          (λ i h. let e : a + 4 + i ≡ a + (i + 4) = omega arith in rw e (runs (i + 4) (omega (arith, h)))),
+    ) where
+      behind : (b0 b1 b2 b3 : ℕ) (ds : List ℕ) (i : ℕ) → slice_index (b0 ∷ b1 ∷ b2 ∷ b3 ∷ ds) (i + 4) ≡ slice_index ds i
+      behind b0 b1 b2 b3 ds i = let e : i + 4 ≡ suc (suc (suc (suc i))) = omega arith in rw e refl
