@@ -81,7 +81,7 @@ over_usage told words rose answer e plain = always told (λ f. IsMeant words f r
 -- an output was made
 pub does : (bytes output file : List ℕ) (code_bytes : ℕ) (answer : Answer) → length bytes ≤ load_limit → Transforms bytes file code_bytes → Delivers file output code_bytes answer → RefusesOrDoes bytes output answer
 does bytes output file code_bytes answer within made delivers =
-    inr (record { within = within; first = made.first; file = file; woven = made.woven; delivers = subst (λ (n : ℕ). Delivers file output n answer) made.size delivers })
+    inr (record { within = within; first = made.first; file = file; woven = made.woven; kept = made.kept; delivers = subst (λ (n : ℕ). Delivers file output n answer) made.size delivers })
 
 pub no_elf : (bytes output : List ℕ) (answer : Answer) → length bytes ≤ load_limit → (HasMagic bytes → ⊥) → PrintsOnly Refused magic_line answer → RefusesOrDoes bytes output answer
 no_elf bytes output answer within cause plain = inl (record { within = within; reason = inl (record { cause = cause; plain = plain }) })

@@ -4,6 +4,8 @@ use Rattle.std.specs.FinMap.{insert}
 use Rattle.qed_io.specs.Files.{Files, file_bytes, StoredInPart}
 use Rattle.qed_model.specs.Plain.{HasMagic, IsFirst}
 use Rattle.qed_model.specs.Woven.{Woven, half}
+use Rattle.qed_model.specs.Kept.{Kept}
+use Rattle.qed_model.specs.Loaded.{loaded}
 use Rattle.qed_model.specs.Bounds.{piece_bound, register_bound, word_bound, default_most, default_round}
 use Rattle.qed_model.specs.Texts.{transform_line, usage_line, read_fault_line, load_limit, load_limit_line, magic_line, not_built_line}
 use Rattle.qed_top.specs.Words.{transform_names}
@@ -57,12 +59,13 @@ pub record Delivers (file output : List ℕ) (code_bytes : ℕ) (answer : Answer
   pub stored : IsSomeAnd answer.stored (λ s. (s.name.now ≡ output) × (s.bytes ≡ file))
   pub text : answer.text ≡ done_line code_bytes
 
--- done: IN is a first file, and what is woven from it is delivered
+-- done: IN is a first file, what is woven from it is delivered, and the runs of that have the values of the runs of IN
 pub record IsDone (bytes output : List ℕ) (answer : Answer) : Type 0 where
   pub within : length bytes ≤ load_limit
   pub first : IsFirst bytes
   pub file : List ℕ
   pub woven : Woven bytes file
+  pub kept : Kept (loaded bytes) (loaded file) default_piece
   pub delivers : Delivers file output (4 * length woven.words) answer
 
 -- one of the two that depend on the bytes of IN alone

@@ -20,7 +20,7 @@ length-words_of (a ∷ b ∷ []) = refl
 length-words_of (a ∷ b ∷ c ∷ []) = refl
 length-words_of (a ∷ b ∷ c ∷ d ∷ rest) = omega (arith, length-words_of rest)
 
-length-segment : (file : List ℕ) → p_offset file 0 + p_filesz file 0 ≤ length file → length (segment_bytes file 0) ≡ p_filesz file 0
+pub length-segment : (file : List ℕ) → p_offset file 0 + p_filesz file 0 ≤ length file → length (segment_bytes file 0) ≡ p_filesz file 0
 length-segment file h = simp (length-take, length-drop) (omega arith)
 
 -- ---- the header

@@ -15,7 +15,7 @@ use Rattle.qed_model.specs.Sequences.{pair, renamed, ecall, original, mirrored, 
 use Rattle.qed_model.specs.Placed.{sum_of_sizes, instructions_from, entry_of, placed, Decode}
 use Rattle.qed_model.specs.Plain.{IsSum, IsLow}
 use Rattle.qed_model.specs.Woven.{image_base, half, code_base, woven_segments}
-use Rattle.qed_model.specs.Numbers.{bytes_of, number_bytes}
+use Rattle.qed_model.proofs.Fields.{length-bytes_of}
 use Rattle.qed_model.proofs.Placing.{instructions_from-append, instructions_from-originals, instructions_from-mirrored}
 use Rattle.transform.specs.Read.{IsSource}
 use Rattle.transform.specs.Encode.{is_built, is_writable}
@@ -157,17 +157,17 @@ few_words body words h d =
     let same : length words ≡ length (placed code_base items) = simp length-map at (ap length d) in
     omega (arith, same, length-instructions_from (entry_of code_base items) code_base items, length-woven body)
 
+-- there is some word
+pub some_words : (body : List Ins) (words : List ℕ) → Decode words (placed code_base (woven_items 1 half [] image_base (body ∷ []))) → 1 ≤ length words
+some_words body [] d = absurd (cc)
+some_words body (w ∷ words) d = omega arith
+
 -- ---- words and segments
 pub push_word : (words : List ℕ) (w : ℕ) → AreWords words → w < 2 ^ 32 → AreWords (words ++ w ∷ [])
 push_word [] w all h zero = h
 push_word [] w all h (suc k) = omega arith
 push_word (x ∷ xs) w all h zero = all 0
 push_word (x ∷ xs) w all h (suc k) = push_word xs w (λ j. all (suc j)) h k
-
-length-bytes_of : (words : List ℕ) → length (bytes_of words) ≡ 4 * length words
-unfolding number_bytes
-length-bytes_of [] = refl
-length-bytes_of (w ∷ words) = omega (arith, length-bytes_of words)
 
 pub small_segments : (source words : List ℕ) → length source ≤ 68 → length words ≤ 200 → All IsSmall (woven_segments source words)
 small_segments source words s w zero d h = omega arith
