@@ -1,17 +1,17 @@
 //! Devices that fail.
 
 use crate::command::run;
-use crate::first_file::{TWO_SUMS, first_file};
-use crate::outputs::{TWO_SUMS_LINE, two_sums_output};
+use crate::transformations::TWO_SUMS;
 use qed_io::{MemoryShelf, MemorySink};
 use std::test::Fail;
 
-/// What fails, and what is left of a call that is else good.
+/// One call that fails where all else is good, how the program then ends, and what is left.
 #[derive(Clone, Copy, Debug)]
-struct Case {
+struct FaultCase {
     name: &'static str,
-    /// The numbers of the calls that fail: the load is 0 and the store is 1 on the shelf, and the one write is 0.
+    /// The call of the shelf that fails: 0 is the load, and 1 the store.
     shelf_call: Option<u64>,
+    /// The write that fails.
     sink_call: Option<u64>,
     /// How many bytes a store that fails leaves.
     keep: Option<u64>,
@@ -21,8 +21,8 @@ struct Case {
     left: Option<usize>,
 }
 
-const CASES: [Case; 5] = [
-    Case {
+const FAULTS: [FaultCase; 4] = [
+    FaultCase {
         name: "the load fails",
         shelf_call: Some(0),
         sink_call: None,
@@ -31,7 +31,7 @@ const CASES: [Case; 5] = [
         printed: "read fault\n",
         left: None,
     },
-    Case {
+    FaultCase {
         name: "the store fails and leaves ten bytes",
         shelf_call: Some(1),
         sink_call: None,
@@ -40,7 +40,7 @@ const CASES: [Case; 5] = [
         printed: "",
         left: Some(10),
     },
-    Case {
+    FaultCase {
         name: "the store fails and leaves no file",
         shelf_call: Some(1),
         sink_call: None,
@@ -49,22 +49,13 @@ const CASES: [Case; 5] = [
         printed: "",
         left: None,
     },
-    Case {
+    FaultCase {
         name: "the write fails",
         shelf_call: None,
         sink_call: Some(0),
         keep: None,
         code: 6,
         printed: "",
-        left: Some(12_552),
-    },
-    Case {
-        name: "calls fail that are not made",
-        shelf_call: Some(2),
-        sink_call: Some(1),
-        keep: None,
-        code: 0,
-        printed: TWO_SUMS_LINE,
         left: Some(12_552),
     },
 ];
@@ -77,12 +68,12 @@ fn first_bytes(bytes: &[u8], count: usize) -> &[u8] {
 #[test]
 fn each_fault_is_told(rt: HostRuntime) -> Result<(), Fail> {
     let alloc = rt.alloc();
-    let source = first_file(alloc, &TWO_SUMS)?;
-    let output = two_sums_output(alloc)?;
-    for case in CASES {
+    let input = TWO_SUMS.input(alloc)?;
+    let output = TWO_SUMS.output(alloc)?;
+    for case in FAULTS {
         let name = case.name;
         let mut shelf = MemoryShelf::new(alloc);
-        shelf.put_file("in", &source)?;
+        shelf.put_file("in", &input)?;
         if let Some(call) = case.shelf_call {
             shelf.fail_call(call, case.keep)?;
         }
@@ -95,7 +86,7 @@ fn each_fault_is_told(rt: HostRuntime) -> Result<(), Fail> {
         assert_eq!(rt; out.bytes(), case.printed.as_bytes(), "{name}");
         let left = case.left.map(|count| first_bytes(&output, count));
         assert_eq!(rt; shelf.file("out"), left, "{name}");
-        assert_eq!(rt; shelf.file("in"), Some(source.as_slice()), "{name}");
+        assert_eq!(rt; shelf.file("in"), Some(input.as_slice()), "{name}");
     }
     Ok(())
 }

@@ -8,12 +8,14 @@ mod elf;
 #[cfg(test)]
 mod faults;
 #[cfg(test)]
-mod first_file;
+mod inputs;
 #[cfg(test)]
 mod limits;
 #[cfg(test)]
 mod outputs;
 #[cfg(test)]
 mod refusals;
+#[cfg(test)]
+mod transformations;
 #[cfg(test)]
 mod usage;

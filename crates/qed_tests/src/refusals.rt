@@ -2,13 +2,25 @@
 
 use crate::command::run;
 use crate::elf::{Elf, Part, READ, READ_EXECUTE, READ_WRITE};
-use crate::first_file::{CODE_OFFSET, ECALL, ENTRY, first_file};
+use crate::inputs::{CODE_OFFSET, ECALL, ENTRY, first_file};
 use qed_io::{MemoryShelf, MemorySink};
 use std::alloc::{Alloc, Global};
 use std::process::Abort;
 use std::test::Fail;
 
-/// A file that is refused for its code, which does more than add, or does not end with its only ECALL.
+/// What is printed about an ELF file that is not taken yet.
+const NOT_BUILT: &str = "refused E0: not built yet\n";
+
+/// What is printed about a file that does not begin like an ELF file.
+const NO_MAGIC: &str = "refused E1: magic\n";
+
+/// `addi x5,x0,1`.
+const SET_X5: u32 = 0x00100293;
+
+/// `ebreak`.
+const EBREAK: u32 = 0x00100073;
+
+/// A file that is refused for its code: it is not at most 16 sums on x0 to x13 and then its only ECALL.
 #[derive(Clone, Copy, Debug)]
 struct CodeCase {
     name: &'static str,
@@ -18,62 +30,48 @@ struct CodeCase {
 const CODES: [CodeCase; 10] = [
     CodeCase {
         name: "sub",
-        words: &[0x4073_02b3, ECALL],
+        words: &[0x407302b3, ECALL],
     },
     CodeCase {
         name: "x14 is written",
-        words: &[0x0000_0733, ECALL],
+        words: &[0x00000733, ECALL],
     },
     CodeCase {
         name: "eighteen words",
         words: &[
-            0x0e44_0313,
-            0x00d3_06b3,
-            0x0053_05b3,
-            0x0021_8333,
-            0xf771_8113,
-            0xdd54_8693,
-            0x5681_0013,
-            0x0054_84b3,
-            0x0086_85b3,
-            0x00b5_0533,
-            0x48e6_0693,
-            0x7680_8313,
-            0x0011_8033,
-            0x0011_03b3,
-            0x8010_8013,
-            0x0050_8433,
-            0x0036_80b3,
-            ECALL,
+            0x0e440313, 0x00d306b3, 0x005305b3, 0x00218333, 0xf7718113, 0xdd548693, 0x56810013,
+            0x005484b3, 0x008685b3, 0x00b50533, 0x48e60693, 0x76808313, 0x00118033, 0x001103b3,
+            0x80108013, 0x00508433, 0x003680b3, ECALL,
         ],
     },
     CodeCase {
         name: "no ECALL",
-        words: &[0x0010_0293],
+        words: &[SET_X5],
     },
     CodeCase {
         name: "an ECALL inside",
-        words: &[ECALL, 0x0010_0293, ECALL],
+        words: &[ECALL, SET_X5, ECALL],
     },
     CodeCase {
         name: "an EBREAK",
-        words: &[0x0010_0293, 0x0010_0073],
+        words: &[SET_X5, EBREAK],
     },
     CodeCase {
         name: "the word zero",
-        words: &[0x0010_0293, 0x0000_0000],
+        words: &[SET_X5, 0x00000000],
     },
     CodeCase {
         name: "a word of ones",
-        words: &[0x0010_0293, 0xffff_ffff],
+        words: &[SET_X5, 0xffffffff],
     },
     CodeCase {
+        // A branch over the next two words, which `jal x0,-8` goes back to.
         name: "a branch and a jump",
-        words: &[0x0000_0663, 0x0000_0013, ECALL, 0xff9f_f06f],
+        words: &[0x00000663, 0x00000013, ECALL, 0xff9ff06f],
     },
     CodeCase {
         name: "a jump to itself",
-        words: &[0x0000_006f],
+        words: &[0x0000006f],
     },
 ];
 
@@ -153,13 +151,13 @@ const HEADERS: [HeaderCase; 6] = [
                     flags: READ_EXECUTE,
                     address: 0x20000,
                     offset: 0xf0,
-                    words: &[0x0010_0093, 0x0010_8113, ECALL],
+                    words: &[0x00100093, 0x00108113, ECALL],
                 },
                 Part {
                     flags: READ_WRITE,
                     address: 0x30000,
                     offset: 0xfc,
-                    words: &[0x0302_0100, 0x0706_0504, 0x0b0a_0908, 0x0f0e_0d0c],
+                    words: &[0x03020100, 0x07060504, 0x0b0a0908, 0x0f0e0d0c],
                 },
             ],
         },
@@ -187,17 +185,18 @@ const HEADERS: [HeaderCase; 6] = [
     },
 ];
 
-/// A program header is cut, or the code, or the magic.
+/// A good file of which the last bytes are missing.
 #[derive(Clone, Copy, Debug)]
 struct CutCase {
     words: &'static [u32],
+    /// How many bytes are left.
     keep: usize,
     printed: &'static str,
 }
 
 const CUTS: [CutCase; 3] = [
     CutCase {
-        words: &[0x0070_0513, ECALL],
+        words: &[0x00700513, ECALL],
         keep: 127,
         printed: NOT_BUILT,
     },
@@ -212,10 +211,6 @@ const CUTS: [CutCase; 3] = [
         printed: NO_MAGIC,
     },
 ];
-
-const NOT_BUILT: &str = "refused E0: not built yet\n";
-
-const NO_MAGIC: &str = "refused E1: magic\n";
 
 /// Asserts that a file is refused with this text, and that nothing is stored.
 fn assert_refused<R: Abort + Alloc<A = Global>>(

@@ -1,7 +1,7 @@
 //! Words that are those of no command.
 
 use crate::command::run;
-use crate::first_file::{TWO_SUMS, first_file};
+use crate::transformations::TWO_SUMS;
 use qed_io::{MemoryShelf, MemorySink};
 use std::test::Fail;
 
@@ -18,10 +18,10 @@ const LINES: [&[&str]; 7] = [
 #[test]
 fn other_words_are_no_command(rt: HostRuntime) -> Result<(), Fail> {
     let alloc = rt.alloc();
-    let source = first_file(alloc, &TWO_SUMS)?;
+    let input = TWO_SUMS.input(alloc)?;
     for line in LINES {
         let mut shelf = MemoryShelf::new(alloc);
-        shelf.put_file("a", &source)?;
+        shelf.put_file("a", &input)?;
         let mut out = MemorySink::new(alloc);
         let status = run(alloc, line, &mut shelf, &mut out)?;
         assert_eq!(rt; status.code(), 2, "{line:?}");
@@ -30,7 +30,7 @@ fn other_words_are_no_command(rt: HostRuntime) -> Result<(), Fail> {
             b"usage: not built yet\n".as_slice(),
             "{line:?}"
         );
-        assert_eq!(rt; shelf.file("a"), Some(source.as_slice()), "{line:?}");
+        assert_eq!(rt; shelf.file("a"), Some(input.as_slice()), "{line:?}");
         for name in ["", "b", "c", "-b"] {
             assert!(rt; shelf.file(name).is_none(), "{name} after {line:?}");
         }
