@@ -1,0 +1,29 @@
+//! Inputs of one segment, which most cases have.
+
+use crate::elf::{Elf, Part, READ_EXECUTE};
+use std::alloc::Global;
+use std::test::Fail;
+
+/// The address of the code, and of its first instruction.
+pub const ENTRY: u64 = 0x10000;
+
+/// The offset of the code, right behind one program header.
+pub const CODE_OFFSET: u64 = 0x78;
+
+/// `ecall`, with which a good input ends.
+pub const ECALL: u32 = 0x0000_0073;
+
+/// The file with this code as its only segment.
+pub fn first_file(alloc: Global, words: &[u32]) -> Result<Vec<u8>, Fail> {
+    Elf {
+        entry: ENTRY,
+        flags: 0,
+        parts: &[Part {
+            flags: READ_EXECUTE,
+            address: ENTRY,
+            offset: CODE_OFFSET,
+            words,
+        }],
+    }
+    .bytes(alloc)
+}

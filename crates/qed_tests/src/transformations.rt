@@ -1,0 +1,168 @@
+//! Inputs that are transformed, and the outputs that they have.
+//!
+//! The words of the new code were made by an independent program from the written rules, and not by this one. Of an
+//! output they can be read by `od -A x -t x4 -j 0x3000 OUT`, and as instructions by
+//! `objdump -D -b binary -m riscv:rv64 --start-address=0x3000 OUT`.
+
+use crate::elf::{Elf, Part, READ, READ_EXECUTE};
+use crate::inputs::{ECALL, ENTRY, first_file};
+use std::alloc::{AllocError, Global};
+use std::test::Fail;
+
+/// How each new code begins, up to the first of the original words.
+const BEGIN: [u32; 34] = [
+    // x1 to x13 and their pairs x17 to x29 are set to 0.
+    0x00000093, 0x00000113, 0x00000193, 0x00000213, 0x00000293, 0x00000313, 0x00000393, 0x00000413,
+    0x00000493, 0x00000513, 0x00000593, 0x00000613, 0x00000693, 0x00000893, 0x00000913, 0x00000993,
+    0x00000a13, 0x00000a93, 0x00000b13, 0x00000b93, 0x00000c13, 0x00000c93, 0x00000d13, 0x00000d93,
+    0x00000e13, 0x00000e93,
+    // x14 gets the distance of the halves, and x16 the address of the entry.
+    0x00001737, 0xffffd817, 0xf9480813,
+    // A jump to the next word, which is the entry.
+    0x0040006f,
+    // x30 gets the address of the entry, and an EBREAK follows unless x16 equals it.
+    0xffffdf17, 0xf88f0f13, 0x01e80463, 0x00100073,
+];
+
+/// How each new code ends, behind the mirrored words.
+const END: [u32; 28] = [
+    // An EBREAK for each of x1 to x13, unless it equals its pair.
+    0x01108463, 0x00100073, 0x01210463, 0x00100073, 0x01318463, 0x00100073, 0x01420463, 0x00100073,
+    0x01528463, 0x00100073, 0x01630463, 0x00100073, 0x01738463, 0x00100073, 0x01840463, 0x00100073,
+    0x01948463, 0x00100073, 0x01a50463, 0x00100073, 0x01b58463, 0x00100073, 0x01c60463, 0x00100073,
+    0x01d68463, 0x00100073,
+    // An ECALL, and the word zero.
+    0x00000073, 0x00000000,
+];
+
+/// An input, and what is particular to its output.
+#[derive(Clone, Copy, Debug)]
+pub struct Transformation {
+    pub name: &'static str,
+    /// The input's words but the last, which is an ECALL.
+    body: &'static [u32],
+    /// The same words on the pairs of their registers.
+    mirrored: &'static [u32],
+    /// The size of the new code, in bytes.
+    code_bytes: u64,
+}
+
+/// `addi x10,x0,7` and `add x11,x10,x10`.
+pub const TWO_SUMS: Transformation = Transformation {
+    name: "two sums",
+    body: &[0x00700513, 0x00a505b3],
+    mirrored: &[0x00700d13, 0x01ad0db3],
+    code_bytes: 264,
+};
+
+pub const TRANSFORMATIONS: [Transformation; 6] = [
+    TWO_SUMS,
+    Transformation {
+        name: "no sum",
+        body: &[],
+        mirrored: &[],
+        code_bytes: 248,
+    },
+    Transformation {
+        name: "x0 is written",
+        body: &[0x00518013, 0x00000033],
+        mirrored: &[0x00598013, 0x00000033],
+        code_bytes: 264,
+    },
+    Transformation {
+        name: "negative numbers",
+        body: &[0xfff00293, 0x80028313, 0x006283b3],
+        mirrored: &[0xfff00a93, 0x800a8b13, 0x016a8bb3],
+        code_bytes: 272,
+    },
+    Transformation {
+        name: "sixteen words",
+        body: &[
+            0x7d740213, 0x004385b3, 0x008080b3, 0xcdd28613, 0x00a00333, 0x20a48413, 0x7e448293,
+            0x00d083b3, 0xa1438213, 0x64220593, 0x31a50313, 0xd6028393, 0x003003b3, 0x00358133,
+            0xa9438693,
+        ],
+        mirrored: &[
+            0x7d7c0a13, 0x014b8db3, 0x018888b3, 0xcdda8e13, 0x01a00b33, 0x20ac8c13, 0x7e4c8a93,
+            0x01d88bb3, 0xa14b8a13, 0x642a0d93, 0x31ad0b13, 0xd60a8b93, 0x01300bb3, 0x013d8933,
+            0xa94b8e93,
+        ],
+        code_bytes: 368,
+    },
+    Transformation {
+        name: "seventeen words",
+        body: &[
+            0x98b30113, 0x3b308413, 0x00018433, 0xfb308313, 0xbf600313, 0x00950533, 0x006484b3,
+            0xc4200193, 0xbc440113, 0x00a68433, 0xe0348493, 0xa0258413, 0x007184b3, 0x00560333,
+            0x19728393, 0xfcf58113,
+        ],
+        mirrored: &[
+            0x98bb0913, 0x3b388c13, 0x00098c33, 0xfb388b13, 0xbf600b13, 0x019d0d33, 0x016c8cb3,
+            0xc4200993, 0xbc4c0913, 0x01ae8c33, 0xe03c8c93, 0xa02d8c13, 0x01798cb3, 0x015e0b33,
+            0x197a8b93, 0xfcfd8913,
+        ],
+        code_bytes: 376,
+    },
+];
+
+fn joined(alloc: Global, parts: &[&[u32]]) -> Result<Vec<u32>, AllocError> {
+    let mut words = Vec::new(alloc);
+    for part in parts {
+        words.extend_from_slice(part)?;
+    }
+    Ok(words)
+}
+
+/// The output for an input's words: the input in both halves, and the new code.
+fn output_file(alloc: Global, input: &[u32], code: &[u32]) -> Result<Vec<u8>, Fail> {
+    Elf {
+        entry: 0x13000,
+        flags: 0,
+        parts: &[
+            Part {
+                flags: READ,
+                address: ENTRY,
+                offset: 0x1000,
+                words: input,
+            },
+            Part {
+                flags: READ,
+                address: 0x11000,
+                offset: 0x2000,
+                words: input,
+            },
+            Part {
+                flags: READ_EXECUTE,
+                address: 0x13000,
+                offset: 0x3000,
+                words: code,
+            },
+        ],
+    }
+    .bytes(alloc)
+}
+
+impl Transformation {
+    fn input_words(&self, alloc: Global) -> Result<Vec<u32>, AllocError> {
+        joined(alloc, &[self.body, &[ECALL]])
+    }
+
+    /// The input.
+    pub fn input(&self, alloc: Global) -> Result<Vec<u8>, Fail> {
+        first_file(alloc, &self.input_words(alloc)?)
+    }
+
+    /// The output.
+    pub fn output(&self, alloc: Global) -> Result<Vec<u8>, Fail> {
+        let code = joined(alloc, &[&BEGIN, self.body, self.mirrored, &END])?;
+        output_file(alloc, &self.input_words(alloc)?, &code)
+    }
+
+    /// What is printed about the output.
+    pub fn printed(&self, alloc: Global) -> Result<String, AllocError> {
+        let size = self.code_bytes;
+        format!(in alloc;
+            "code {size} bytes, entries 1, pieces 1, half 4096, register bound 272, word bound none\n"
+        )
+    }
+}
