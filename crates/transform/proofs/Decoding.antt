@@ -1,5 +1,5 @@
 -- The rows ADDI and ADD.
-use Rattle.std.proofs.Common.{◌≡◌, ℕ, ◌+◌, ◌-◌, ◌^◌, ◌<◌, ◌≤◌, ◌⊎◌, inl, inr, true, Some, ap, subst, sym, ◌∙◌, refl, arith, List, [], ◌∷◌, ◌++◌, map, take, length, get_or}
+use Rattle.std.proofs.Common.{◌≡◌, ℕ, ◌+◌, ◌-◌, ◌^◌, ◌<◌, ◌≤◌, inl, inr, true, Some, ap, subst, sym, ◌∙◌, refl, arith, List, [], ◌∷◌, ◌++◌, map, take, length, get_or}
 use Rattle.std.specs.Prelude.{bit_and, is_some, All}
 use Rattle.std.proofs.lemmas.Bool.{eqb-true, eq-eqb}
 use Rattle.std.proofs.lemmas.List.{map-append, take_more, get_or-take, take_all}
@@ -71,20 +71,20 @@ pub straight_code :
     (words front : List ℕ) (body : List Ins) → IsEnded words → front ≡ take (length words - 1) words → map Some body ≡ map decode_of front
     → ((k : ℕ) → k < length words - 1 → IsStraight (get_or front k 0)) → All IsSource body → IsStraightCode words × Decode words (body ++ ecall ∷ []) × All IsSource body
 straight_code words front body ended is decoded straight source = (
-    record {
-      some = ended.some;
-      few = ended.few;
-      body = λ k h. let lt : k < length words - 1 = omega arith in subst IsStraight (ap (λ xs. get_or xs k 0) is ∙ get_or-take (length words - 1) words k 0 lt) (straight k lt);
-      end = rw ended.end ecall_word;
-    },
-    ap (map decode_of) (with_last words ended.some)
-    ∙ map-append decode_of (take (length words - 1) words) (get_or words (length words - 1) 0 ∷ [])
-    ∙ ap (λ xs. map decode_of xs ++ decode_of (get_or words (length words - 1) 0) ∷ []) (sym is)
-    ∙ ap (λ xs. xs ++ decode_of (get_or words (length words - 1) 0) ∷ []) (sym decoded)
-    ∙ ap (λ x. map Some body ++ decode_of x ∷ []) ended.end
-    ∙ ap (λ x. map Some body ++ x ∷ []) ecall_word
-    ∙ sym (map-append Some body (ecall ∷ [])),
-    source,
+  record {
+    some = ended.some;
+    few = ended.few;
+    body = λ k h. let lt : k < length words - 1 = omega arith in subst IsStraight (ap (λ xs. get_or xs k 0) is ∙ get_or-take (length words - 1) words k 0 lt) (straight k lt);
+    end = rw ended.end ecall_word;
+  },
+  ap (map decode_of) (with_last words ended.some)
+      ∙ map-append decode_of (take (length words - 1) words) (get_or words (length words - 1) 0 ∷ [])
+      ∙ ap (λ xs. map decode_of xs ++ decode_of (get_or words (length words - 1) 0) ∷ []) (sym is)
+      ∙ ap (λ xs. xs ++ decode_of (get_or words (length words - 1) 0) ∷ []) (sym decoded)
+      ∙ ap (λ x. map Some body ++ decode_of x ∷ []) ended.end
+      ∙ ap (λ x. map Some body ++ x ∷ []) ecall_word
+      ∙ sym (map-append Some body (ecall ∷ [])),
+  source,
 )
 
 pub not_straight : (words front : List ℕ) (k : ℕ) → front ≡ take (length words - 1) words → k < length words - 1 → (IsStraight (get_or front k 0) → ⊥) → IsStraightCode words → ⊥

@@ -1,15 +1,12 @@
 -- A first file is one whose magic, headers and code were tested.
-use Rattle.std.proofs.Common.{◌≡◌, ℕ, zero, suc, ◌+◌, ◌-◌, ◌*◌, ◌%◌, ◌<◌, ◌≤◌, List, [], ◌∷◌, ◌++◌, length, take, drop, min, refl, ap, sym, ◌∙◌, subst, arith, length-take, length-drop, Some, map, length-append}
+use Rattle.std.proofs.Common.{◌≡◌, ℕ, zero, suc, ◌+◌, ◌*◌, ◌%◌, ◌<◌, ◌≤◌, List, [], ◌∷◌, ◌++◌, length, refl, ap, arith, length-take, length-drop, length-append}
 use Rattle.std.proofs.lemmas.List.{length-map}
-use Rattle.std.specs.Prelude.{slice_index}
 use Rattle.rv_isa.specs.declared.ins.Ins.{Ins}
-use Rattle.qed_model.specs.Table.{decode_of}
 use Rattle.qed_model.specs.Numbers.{words_of}
 use Rattle.qed_model.specs.Sequences.{ecall}
 use Rattle.qed_model.specs.Placed.{Decode}
-use Rattle.qed_model.specs.Plain.{HasMagic, IsPlainHeader, IsPlainSegment, IsPlain, IsStraightCode, IsFirst, segment_bytes, e_phnum, p_vaddr, p_memsz, p_filesz, p_offset}
-use Rattle.transform.specs.declared.read.Header.{Header}
-use Rattle.transform.specs.Read.{header_of, first_header, IsFirstHeader, IsFirstSegment, HasFirstHeaders}
+use Rattle.qed_model.specs.Plain.{HasMagic, IsPlainHeader, IsPlainSegment, IsStraightCode, IsFirst, segment_bytes, e_phnum, p_filesz, p_offset}
+use Rattle.transform.specs.Read.{IsFirstHeader, IsFirstSegment, HasFirstHeaders}
 
 -- ---- sizes
 -- bytes have a quarter as many words

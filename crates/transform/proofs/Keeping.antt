@@ -1,14 +1,11 @@
 -- What is woven from a first file keeps its values.
-use Rattle.std.proofs.Common.{◌≡◌, ℕ, ◌+◌, ◌*◌, ◌<◌, ◌≤◌, inl, inr, ⊎_elim, false, List, [], ◌∷◌, ◌++◌, map, length, All, refl, sym, ap, ◌∙◌, subst, arith, zero, suc}
-use Rattle.std.proofs.lemmas.List.{length-map}
+use Rattle.std.proofs.Common.{◌≡◌, ℕ, ◌≤◌, ⊎_elim, List, [], ◌∷◌, ◌++◌, length, All, sym, ap, subst, arith, suc}
 use Rattle.rv_isa.specs.declared.ins.Ins.{Ins}
-use Rattle.rv_isa.specs.declared.kind.Kind.TheVariants.{Addi, Add}
-use Rattle.rv_isa.specs.declared.class.Class.TheVariants as class
 use Rattle.rv_isa.specs.Kind.{class_of}
 use Rattle.qed_model.specs.Numbers.{words_of, bytes_of}
 use Rattle.qed_model.specs.Sequences.{ecall, woven_items}
 use Rattle.qed_model.specs.Placed.{placed, Decode}
-use Rattle.qed_model.specs.Plain.{IsFirst, IsSum, IsLow, segment_bytes}
+use Rattle.qed_model.specs.Plain.{IsFirst, IsSum, segment_bytes}
 use Rattle.qed_model.specs.Written.{plain_file}
 use Rattle.qed_model.specs.Woven.{image_base, half, code_base, woven_segments}
 use Rattle.qed_model.specs.Weave.{is_auipc}
@@ -17,7 +14,7 @@ use Rattle.qed_model.specs.Loaded.{loaded}
 use Rattle.qed_model.specs.Bounds.{piece_bound}
 use Rattle.qed_model.proofs.Fields.{words_of-bytes_of, length-bytes_of}
 use Rattle.weave_core.proofs.FirstFits.{first_input, first_output}
-use Rattle.weave_core.proofs.FirstKept.{Low, AllLow, first_kept}
+use Rattle.weave_core.proofs.FirstKept.{AllLow, first_kept}
 use Rattle.weave_core.proofs.Straight.{Computes, AllCompute}
 use Rattle.weave_core.proofs.LoadedFirst.{loaded_input, loaded_output}
 use Rattle.transform.specs.Read.{IsSource}

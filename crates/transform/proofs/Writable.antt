@@ -1,5 +1,5 @@
 -- What is woven from instructions that were read has words, and its constants are near.
-use Rattle.std.proofs.Common.{◌≡◌, ℕ, zero, suc, ◌+◌, ◌*◌, ◌^◌, ◌<◌, ◌≤◌, ◌⊎◌, inl, inr, Bool, true, false, cond, ◌&&◌, List, [], ◌∷◌, ◌++◌, map, length, get_or, refl, ap, sym, ◌∙◌, subst, arith, length-append}
+use Rattle.std.proofs.Common.{◌≡◌, ℕ, zero, suc, ◌+◌, ◌*◌, ◌^◌, ◌<◌, ◌≤◌, inl, inr, Bool, true, false, ◌&&◌, List, [], ◌∷◌, ◌++◌, map, length, refl, ap, sym, ◌∙◌, arith, length-append}
 use Rattle.std.specs.Prelude.{ℤ, ◌==◌, is_some, All}
 use Rattle.std.specs.List.{list_all, flat_map}
 use Rattle.std.proofs.lemmas.Bool.{and_parts, eqb-true, lt-ltb}
@@ -10,8 +10,8 @@ use Rattle.rv_isa.specs.declared.kind.Kind.TheVariants.{Addi, Add}
 use Rattle.rv_isa.specs.declared.ins.Ins.{Ins}
 use Rattle.qed_model.specs.declared.item.Item.{Item}
 use Rattle.qed_model.specs.declared.item.Item.TheVariants.{Mark, Plain, Constant, Go}
-use Rattle.qed_model.specs.Table.{ins, is_reg, fits_signed, is_zero, some_if, word_of, encode_of}
-use Rattle.qed_model.specs.Sequences.{pair, renamed, ecall, original, mirrored, compare, piece, enter, prologue, stub, entry, woven_items}
+use Rattle.qed_model.specs.Table.{ins, is_reg, is_zero, some_if, word_of, encode_of}
+use Rattle.qed_model.specs.Sequences.{pair, renamed, ecall, original, mirrored, compare, piece, enter, prologue, stub, woven_items}
 use Rattle.qed_model.specs.Placed.{sum_of_sizes, instructions_from, entry_of, placed, Decode}
 use Rattle.qed_model.specs.Plain.{IsSum, IsLow}
 use Rattle.qed_model.specs.Woven.{image_base, half, code_base, woven_segments}

@@ -7,7 +7,9 @@ use rv_isa::{Ins, Kind, Reg};
 
 /// The lowest bits of rd, rs1 and rs2 in a word.
 const RD: u32 = 0x0000_0080;
+
 const RS1: u32 = 0x0000_8000;
+
 const RS2: u32 = 0x0010_0000;
 
 /// Whether this is a signed number of so many bits.
@@ -118,7 +120,11 @@ fn encode_n(word: u32, ins: &Ins) -> Option<u32>
     ensures { result ≡ word_of N word ins.now }
 {
     let fields = number(ins.rd) + number(ins.rs1) + number(ins.rs2);
-    if fields == 0 && ins.imm == 0 { Some(word) } else { None }
+    if fields == 0 && ins.imm == 0 {
+        Some(word)
+    } else {
+        None
+    }
 }
 
 /// The word of an instruction, if it is one of the kinds that are built.

@@ -20,6 +20,7 @@ use std::alloc::{AllocError, Global};
 
 /// Where the image of a first file begins, and the distance of the halves, in bytes.
 const IMAGE_BASE: u64 = 0x10000;
+
 pub const HALF: u32 = 0x1000;
 
 /// Where the new code begins: behind both halves and the room of the table.
@@ -27,6 +28,7 @@ const CODE_BASE: u64 = 0x13000;
 
 /// The permissions of a segment that is read, and of one that is read and executed.
 const READ: u32 = 4;
+
 const READ_EXECUTE: u32 = 5;
 
 /// Why a file is not transformed.
@@ -88,7 +90,11 @@ fn woven_parts(alloc: Global, source: &[u8], words: &[u32]) -> Result<[Segment; 
     let code = Bytes::of(bytes_of(alloc, words)?);
     Ok([
         segment(READ, IMAGE_BASE, Bytes::copied(alloc, source)?),
-        segment(READ, IMAGE_BASE + u64::from(HALF), Bytes::copied(alloc, source)?),
+        segment(
+            READ,
+            IMAGE_BASE + u64::from(HALF),
+            Bytes::copied(alloc, source)?,
+        ),
         segment(READ_EXECUTE, CODE_BASE, code),
     ])
 }

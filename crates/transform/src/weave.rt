@@ -11,11 +11,14 @@ use std::alloc::{AllocError, Global};
 
 /// x1 to x13, and their pairs.
 const ORIGINALS: [u8; 13] = [1, 2, 3, 4, 5, 6, 7, 8, 9, 10, 11, 12, 13];
+
 const PAIRS: [u8; 13] = [17, 18, 19, 20, 21, 22, 23, 24, 25, 26, 27, 28, 29];
 
 /// The signature, the distance of the halves, and a temporary.
 const SIGNATURE: u8 = 16;
+
 const DISTANCE: u8 = 14;
+
 const TEMPORARY: u8 = 30;
 
 fn register(number: u8) -> Reg

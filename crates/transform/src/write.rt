@@ -10,6 +10,7 @@ use std::alloc::{AllocError, Global};
 
 /// The bytes of a header and of a program header (ELF gABI).
 const HEADER_SIZE: u64 = 64;
+
 const PROGRAM_HEADER_SIZE: u64 = 56;
 
 /// The alignment of segments, in bytes.
@@ -46,11 +47,7 @@ fn push_header(file: &mut Vec<u8>, entry: u64, flags: u32, count: u16) -> Result
 }
 
 /// Appends the program header (ELF gABI, program header) of a segment whose bytes stand at an offset.
-fn push_program_header(
-    file: &mut Vec<u8>,
-    segment: &Segment,
-    offset: u64,
-) -> Result<(), AllocError>
+fn push_program_header(file: &mut Vec<u8>, segment: &Segment, offset: u64) -> Result<(), AllocError>
     ensures { OnOk result (file.new.items ≡ file.old.items ++ fields_bytes (program_fields segment.now offset)) }
 {
     push_numbers(
@@ -98,11 +95,7 @@ fn push_program_headers(
 }
 
 /// Appends the bytes of segments, with zeros before each up to its offset.
-fn push_segments(
-    file: &mut Vec<u8>,
-    segments: &[Segment],
-    start: u64,
-) -> Result<(), AllocError>
+fn push_segments(file: &mut Vec<u8>, segments: &[Segment], start: u64) -> Result<(), AllocError>
     requires few { length segments.now ≤ 8 }
     requires small { All IsSmall segments.now }
     requires start { start < 2 ^ 32 }

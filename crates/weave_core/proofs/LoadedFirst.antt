@@ -1,6 +1,6 @@
 -- What the headers of a first file and of its output describe.
-use Rattle.std.proofs.Common.{◌≡◌, ℕ, ◌+◌, ◌≤◌, List, [], ◌∷◌, length, refl, sym, ap, ◌∙◌, subst, arith, take, drop, length-take, length-drop}
-use Rattle.qed_model.specs.Kept.{LoadSegment, File}
+use Rattle.std.proofs.Common.{◌≡◌, ℕ, ◌+◌, ◌≤◌, List, [], ◌∷◌, length, refl, sym, ap, ◌∙◌, arith, take, drop, length-take, length-drop}
+use Rattle.qed_model.specs.Kept.{LoadSegment}
 use Rattle.qed_model.specs.Plain.{IsFirst, e_entry, e_phnum, p_flags, p_vaddr, p_memsz, p_offset, p_filesz, segment_bytes}
 use Rattle.qed_model.specs.Loaded.{flags_of, segment_at, segments_from, loaded_from, loaded}
 use Rattle.qed_model.specs.Numbers.{bytes_of}

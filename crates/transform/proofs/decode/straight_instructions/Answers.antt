@@ -1,4 +1,4 @@
-use Rattle.std.proofs.Common.{refl, ◌<◌, ◌≤◌, ◌-◌, ◌∙◌, ap, sym, subst, length, map, take, get_or, arith, below_more, ◌≡◌, Some, ◌++◌, ◌∷◌, []}
+use Rattle.std.proofs.Common.{refl, ◌∙◌, ap, map, arith, below_more, Some}
 use Rattle.std.proofs.lemmas.List.{take_all}
 use Rattle.std.proofs.lemmas.Bool.{false≢true}
 use Rattle.qed_model.specs.Table.{decode_of}

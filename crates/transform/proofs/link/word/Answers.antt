@@ -1,4 +1,4 @@
-use Rattle.std.proofs.Common.{◌∙◌, sym, true, ◌≡◌}
+use Rattle.std.proofs.Common.{sym}
 use Rattle.std.proofs.lemmas.Bool.{and_parts}
 use Rattle.qed_model.proofs.Tables.{decode_encode}
 use Rattle.transform.proofs.link.word.Goals as goal

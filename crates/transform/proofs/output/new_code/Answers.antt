@@ -1,6 +1,6 @@
 use Rattle.std.proofs.Common.{◌∙◌, ap, map, Some}
 use Rattle.qed_model.specs.Placed.{placed}
-use Rattle.transform.proofs.Writable.{placed_writable, woven_near, length-woven, few_words}
+use Rattle.transform.proofs.Writable.{placed_writable, woven_near, few_words}
 use Rattle.transform.proofs.output.new_code.Goals as goal
 
 pub link-requires-clause-near : goal.link-requires-clause-near

@@ -13,9 +13,9 @@ returns-clause-done c =
     let made = c.in_ok-words.ensures in
     let code = made.decode ∙ ap (λ body. map Some (placed code_base (woven_items 1 half [] image_base (body ∷ [])))) c.deref.ensures.value in
     let file =
-        c.of.ensures ∙ c.in_ok-file.ensures
-        ∙ ap (λ source. plain_file code_base 0 (woven_segments source c.deref-2.result.now)) found.1
-        ∙ ap (λ words. plain_file code_base 0 (woven_segments (segment_bytes c.args.bytes.now 0) words)) c.deref-2.ensures.value in
+    c.of.ensures ∙ c.in_ok-file.ensures
+    ∙ ap (λ source. plain_file code_base 0 (woven_segments source c.deref-2.result.now)) found.1
+    ∙ ap (λ words. plain_file code_base 0 (woven_segments (segment_bytes c.args.bytes.now 0) words)) c.deref-2.ensures.value in
     record {
       first = found.0;
       woven = record {
