@@ -67,6 +67,7 @@ is_mapped f q = is_some (get (memory_of f.segments) q)
 -- the output's state has the input's values in x1 to x13 and at each byte that the input maps
 pub record Halves (f : File) (s u : State) : Type 0 where
   pub regs : (r : ℕ) → 1 ≤ r → r ≤ 13 → reg u r ≡ reg s r
+  pub mapped : (q : ℕ) → is_mapped f q ≡ true → is_some (get u.memory q) ≡ true
   pub bytes : (q : ℕ) → is_mapped f q ≡ true → byte_at u.memory q ≡ byte_at s.memory q
 
 -- ---- the promise

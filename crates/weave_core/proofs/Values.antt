@@ -6,6 +6,7 @@ use Rattle.qed_model.specs.declared.machine.Outcome.{Outcome}
 use Rattle.qed_model.specs.declared.machine.Outcome.TheVariants.{Going, Ended, Fired}
 use Rattle.qed_model.specs.Machine.{State, run}
 use Rattle.qed_model.specs.Kept.{File, start, zeros, AreRegs, after_input, after_output, is_trapped, NotTrapped, Halves, KeptAt, Quiet as Unalarmed, Kept}
+use Rattle.qed_model.proofs.HalvesLaws.{some-flags}
 use Rattle.qed_model.proofs.Walk.{run-more}
 use Rattle.qed_model.proofs.Walked.{Walk, walk_on}
 use Rattle.weave_core.specs.World.{World, Quiet, Halved}
@@ -58,6 +59,7 @@ module _ (f g : File) (w : World) (leader : ℕ → Bool) (most : ℕ) (round : 
     halves_of : Whole → (u : State) → Halved w u (after_input f n) whole.shadow → Halves f (after_input f n) u
     halves_of x u t = record {
       regs = λ r one h. t.originals r h;
+      mapped = λ q e. some-flags _ _ (t.output.flags q) ∙ w.layout.mapped q (ap (λ m. is_some (get m q)) (sym wo.input) ∙ e);
       bytes = λ q e. t.bytes q (ap (λ m. is_some (get m q)) (sym wo.input) ∙ e);
     }
 

@@ -1,8 +1,8 @@
 //! What the woven code does: a test whose new code reads as the entries of its blocks keeps the values of its input, and no
 //! check fires.
 //!
-//! Definitions and laws alone. The laws speak of two files, of blocks with any number of pieces, of each kind of instruction,
-//! and of at most one data range.
+//! Definitions and laws alone. The laws speak of two files, of blocks with any number of pieces, of each kind of instruction
+//! but EBREAK, and of at most one data range.
 #![tactic(auto)]
 
 ghost use Rattle.weave_core.specs.Promise.{ValuesKept};
