@@ -1,15 +1,15 @@
 -- From what was decided and carried out to how the call ends.
-use Rattle.std.proofs.Common.{◌≡◌, ◌≤◌, ◌<◌, ◌+◌, ℕ, List, length, Option, None, Some, IfSome, ◌⊎◌, inl, inr, refl, ap, sym, ◌∙◌, subst, arith}
+use Rattle.std.proofs.Common.{◌≡◌, ℕ, List, Option, None, Some, IfSome, ◌⊎◌, inl, inr, refl, sym, ◌∙◌, subst, arith}
 use Rattle.std.specs.Prelude.{MatchOption, IsSomeAnd}
 use Rattle.std.specs.Io.KnownBytes.{Appends}
 use Rattle.qed_io.specs.Sink.{AppendsPart}
 use Rattle.qed_io.specs.Files.{Files, file_bytes}
-use Rattle.qed_io.specs.Counts.{Rose, RoseAt, NoneFell}
+use Rattle.qed_io.specs.Counts.{RoseAt, NoneFell}
 use Rattle.qed_model.specs.Plain.{IsFirst}
-use Rattle.qed_model.specs.Texts.{load_limit, usage_line}
+use Rattle.qed_model.specs.Texts.{usage_line}
 use Rattle.qed_top.specs.Words.{transform_names}
 use Rattle.qed_top.specs.Answer.{IsMeant, TransformMeans, PrintsOnly, IsNoElf, IsNotBuilt, FilesAfter, FilesInPart, StoreRose}
-use Rattle.qed_top.specs.Ends.{OverFiles, Call, Did, StoppedInPrint, StoppedInStore, Unchanged, EndsOver, Ends, Decided, too_long, refused, done, Decides, NoFault, IsComplete}
+use Rattle.qed_top.specs.Ends.{OverFiles, Call, Did, EndsOver, Ends, Decided, too_long, refused, done, Decides, NoFault, IsComplete}
 use Rattle.qed_top.specs.declared.answer.Answer.{Answer}
 use Rattle.qed_top.specs.declared.answer.Stored.{Stored}
 use Rattle.qed_top.specs.declared.status.Status.{Status}

@@ -1,9 +1,8 @@
 -- From what was read and made to what is meant.
-use Rattle.std.proofs.Common.{◌≡◌, ◌≤◌, ◌<◌, ◌+◌, ◌*◌, ℕ, List, [], length, Option, None, Some, IfSome, ◌⊎◌, inl, inr, refl, ap, sym, ◌∙◌, subst, arith}
-use Rattle.std.specs.Prelude.{MatchOption, replicate, unwrap_or, cond}
-use Rattle.std.specs.Ordering.{nat_cmp, eq_by_cmp}
+use Rattle.std.proofs.Common.{◌≡◌, ◌≤◌, ◌<◌, ◌+◌, ℕ, List, [], length, Option, None, Some, IfSome, inl, inr, refl, ap, sym, ◌∙◌, subst, arith}
+use Rattle.std.specs.Prelude.{replicate, unwrap_or, cond}
 use Rattle.std.specs.Cmp.{eq_by_cmp_equiv}
-use Rattle.std.specs.Cmp.Lexicographic.{slice_cmp, nat_list_cmp_total}
+use Rattle.std.specs.Cmp.Lexicographic.{nat_list_cmp_total}
 use Rattle.std.specs.FinMap.{empty, get, insert, get-insert}
 use Rattle.std.proofs.lemmas.List.{length-replicate}
 use Rattle.qed_io.specs.Files.{Files, file_bytes}
@@ -11,7 +10,7 @@ use Rattle.qed_model.specs.Plain.{HasMagic, IsFirst}
 use Rattle.qed_model.specs.Texts.{load_limit, read_fault_line, load_limit_line, usage_line, magic_line, not_built_line}
 use Rattle.qed_top.specs.Words.{transform_names}
 use Rattle.transform.specs.Transform.{Transforms}
-use Rattle.qed_top.specs.Answer.{PrintsOnly, IsReadFault, IsLimit, IsRefused, IsDone, Delivers, RefusesOrDoes, TransformMeans, IsMeant}
+use Rattle.qed_top.specs.Answer.{PrintsOnly, IsRefused, Delivers, RefusesOrDoes, TransformMeans, IsMeant}
 use Rattle.qed_top.specs.Ends.{OverFiles}
 use Rattle.qed_top.specs.declared.answer.Answer.{Answer}
 use Rattle.qed_top.specs.declared.status.Status.{Status}

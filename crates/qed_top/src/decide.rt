@@ -19,8 +19,10 @@ use transform::{HALF, TransformError, Transformed, transform};
 /// The greatest size of a loaded file, in bytes.
 const LOAD_LIMIT: u64 = 67_108_864;
 
-/// The greatest number of instructions in a piece, and of data words in a visit.
+/// The greatest number of instructions in a piece.
 const INST_MAX: u64 = 16;
+
+/// The number of data words in a visit.
 const ROUND: u64 = 1;
 
 /// An answer that stores nothing.

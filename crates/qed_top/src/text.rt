@@ -26,7 +26,10 @@ impl fmt::Display for Sizes {
             pieces,
             half,
         } = *self;
-        write!(f, "code {code} bytes, entries {entries}, pieces {pieces}, half {half}")
+        write!(
+            f,
+            "code {code} bytes, entries {entries}, pieces {pieces}, half {half}"
+        )
     }
 }
 

@@ -10,6 +10,6 @@ returns c =
       | in-Ok+in_ok-answer-in-Ok w ↦ rw w.answer-is (does _ _ _ _ _ within w.in-Ok.ensures.done w.in_ok-answer-in-Ok.ensures)
       | in-Err-Magic+in_ok-answer-in-Err-Magic w ↦ rw w.answer-is (no_elf _ _ _ within (w.in-Err-Magic.ensures.magic (ap Err w.in-Err-Magic.field-0-is)) w.in_ok-answer-in-Err-Magic.ensures)
       | in-Err-NotBuilt+in_ok-answer-in-Err-NotBuilt w ↦
-      let is = ap Err w.in-Err-NotBuilt.field-0-is in
-      rw w.answer-is (not_built _ _ _ within (w.in-Err-NotBuilt.ensures.not_built_magic is) (w.in-Err-NotBuilt.ensures.not_built is) w.in_ok-answer-in-Err-NotBuilt.ensures)
+          let is = ap Err w.in-Err-NotBuilt.field-0-is in
+          rw w.answer-is (not_built _ _ _ within (w.in-Err-NotBuilt.ensures.not_built_magic is) (w.in-Err-NotBuilt.ensures.not_built is) w.in_ok-answer-in-Err-NotBuilt.ensures)
     ]

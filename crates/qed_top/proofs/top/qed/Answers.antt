@@ -13,8 +13,8 @@ returns-in-Ok-carry_out g c =
     let end = c.carry_out.new.shelf in
     let did = c.in-Ok-carry_out.ensures in
     let e = done_ended (texts c.args.words.now) (shelf.files start) (shelf.files decided) (shelf.files end) (shelf.load_faults start) (shelf.load_faults decided) (shelf.load_faults end)
-        (shelf.store_faults start) (shelf.store_faults decided) (shelf.store_faults end) (sink.written c.args.out.now) (sink.written c.carry_out.new.out)
-        (Rose (sink.faults c.args.out.now) (sink.faults c.carry_out.new.out)) c.in-Ok.answer c.in-Ok.ensures.files c.in-Ok.ensures.meant did.loads c.in-Ok.ensures.stores did.files did.text
+    (shelf.store_faults start) (shelf.store_faults decided) (shelf.store_faults end) (sink.written c.args.out.now) (sink.written c.carry_out.new.out)
+    (Rose (sink.faults c.args.out.now) (sink.faults c.carry_out.new.out)) c.in-Ok.answer c.in-Ok.ensures.files c.in-Ok.ensures.meant did.loads c.in-Ok.ensures.stores did.files did.text
     in
     record { ends = e.ends; complete = e.complete }
 
@@ -27,8 +27,8 @@ returns-in-Err-Print g c =
     let end = c.carry_out.new.shelf in
     let did = c.in-Err-Print.ensures in
     let e = print_ended (texts c.args.words.now) (shelf.files start) (shelf.files decided) (shelf.files end) (shelf.load_faults start) (shelf.load_faults decided) (shelf.load_faults end)
-        (shelf.store_faults start) (shelf.store_faults decided) (shelf.store_faults end) (sink.written c.args.out.now) (sink.written c.carry_out.new.out)
-        (Rose (sink.faults c.args.out.now) (sink.faults c.carry_out.new.out)) c.in-Ok.answer c.in-Ok.ensures.files c.in-Ok.ensures.meant did.loads c.in-Ok.ensures.stores (did.print_files (ap Err c.in-Err-Print.field-0-is)) (did.print_text (ap Err c.in-Err-Print.field-0-is)) (did.print (ap Err c.in-Err-Print.field-0-is))
+    (shelf.store_faults start) (shelf.store_faults decided) (shelf.store_faults end) (sink.written c.args.out.now) (sink.written c.carry_out.new.out)
+    (Rose (sink.faults c.args.out.now) (sink.faults c.carry_out.new.out)) c.in-Ok.answer c.in-Ok.ensures.files c.in-Ok.ensures.meant did.loads c.in-Ok.ensures.stores (did.print_files (ap Err c.in-Err-Print.field-0-is)) (did.print_text (ap Err c.in-Err-Print.field-0-is)) (did.print (ap Err c.in-Err-Print.field-0-is))
     in
     record { ends = e.ends; complete = e.complete }
 
@@ -41,8 +41,8 @@ returns-in-Err-Store g c =
     let end = c.carry_out.new.shelf in
     let did = c.in-Err-Store.ensures in
     let e = store_ended (texts c.args.words.now) (shelf.files start) (shelf.files decided) (shelf.files end) (shelf.load_faults start) (shelf.load_faults decided) (shelf.load_faults end)
-        (shelf.store_faults start) (shelf.store_faults decided) (shelf.store_faults end) (sink.written c.args.out.now) (sink.written c.carry_out.new.out)
-        (Rose (sink.faults c.args.out.now) (sink.faults c.carry_out.new.out)) c.in-Ok.answer c.in-Ok.ensures.files c.in-Ok.ensures.meant did.loads c.in-Ok.ensures.stores (did.store (ap Err c.in-Err-Store.field-0-is)) (did.store_files (ap Err c.in-Err-Store.field-0-is)) (did.store_text (ap Err c.in-Err-Store.field-0-is))
+    (shelf.store_faults start) (shelf.store_faults decided) (shelf.store_faults end) (sink.written c.args.out.now) (sink.written c.carry_out.new.out)
+    (Rose (sink.faults c.args.out.now) (sink.faults c.carry_out.new.out)) c.in-Ok.answer c.in-Ok.ensures.files c.in-Ok.ensures.meant did.loads c.in-Ok.ensures.stores (did.store (ap Err c.in-Err-Store.field-0-is)) (did.store_files (ap Err c.in-Err-Store.field-0-is)) (did.store_text (ap Err c.in-Err-Store.field-0-is))
     in
     record { ends = e.ends; complete = e.complete }
 
@@ -55,8 +55,8 @@ returns-in-Ok g c =
     let end = c.carry_out.new.shelf in
     let did = c.in-Err-Memory.ensures in
     let e = memory_ended (texts c.args.words.now) (shelf.files start) (shelf.files decided) (shelf.files end) (shelf.load_faults start) (shelf.load_faults decided) (shelf.load_faults end)
-        (shelf.store_faults start) (shelf.store_faults decided) (shelf.store_faults end) (sink.written c.args.out.now) (sink.written c.carry_out.new.out)
-        (Rose (sink.faults c.args.out.now) (sink.faults c.carry_out.new.out)) c.in-Ok.answer c.in-Ok.ensures.files c.in-Ok.ensures.meant did.loads c.in-Ok.ensures.stores (did.memory (ap Err c.in-Err-Memory.field-0-is))
+    (shelf.store_faults start) (shelf.store_faults decided) (shelf.store_faults end) (sink.written c.args.out.now) (sink.written c.carry_out.new.out)
+    (Rose (sink.faults c.args.out.now) (sink.faults c.carry_out.new.out)) c.in-Ok.answer c.in-Ok.ensures.files c.in-Ok.ensures.meant did.loads c.in-Ok.ensures.stores (did.memory (ap Err c.in-Err-Memory.field-0-is))
     in
     record { ends = e.ends; complete = e.complete }
 
@@ -67,7 +67,7 @@ returns g c =
     let start = c.args.shelf.now in
     let decided = c.decide.new.shelf in
     let e = soon_ended (texts c.args.words.now) (shelf.files start) (shelf.files decided) (shelf.load_faults start) (shelf.load_faults decided)
-        (shelf.store_faults start) (shelf.store_faults decided) (sink.written c.args.out.now) (sink.written c.args.out.now)
-        (Rose (sink.faults c.args.out.now) (sink.faults c.args.out.now)) c.in-Err.ensures.files refl
+    (shelf.store_faults start) (shelf.store_faults decided) (sink.written c.args.out.now) (sink.written c.args.out.now)
+    (Rose (sink.faults c.args.out.now) (sink.faults c.args.out.now)) c.in-Err.ensures.files refl
     in
     record { ends = e.ends; complete = e.complete }
