@@ -1,0 +1,4 @@
+pub mod SegmentLaws
+pub mod NumberLaws
+pub mod OverlapLaws
+pub mod WholeLaws

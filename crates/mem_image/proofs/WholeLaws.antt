@@ -1,0 +1,229 @@
+-- Accesses whose bytes all lie in one segment.
+use Rattle.std.proofs.Common.{◌≡◌, ℕ, zero, suc, ◌+◌, ◌-◌, ◌*◌, ◌^◌, ◌<◌, ◌≤◌, Bool, true, false, List, [], ◌∷◌, length, Some, None, refl, sym, ap, ◌∙◌, arith, add-one, set, length-set, get_or}
+use Rattle.std.proofs.Math.Nat.{pow-suc, pow-le-pow_right}
+use Rattle.std.specs.Prelude.{slice_index}
+use Rattle.std.proofs.lemmas.Bool.{leb-true, ltb-true, and_parts, and_from, le-leb, lt-ltb}
+use Rattle.qed_model.specs.Memory.{byte_of}
+use Rattle.qed_model.specs.Kept.{LoadSegment}
+use Rattle.std.specs.Prelude.{slice_get, map}
+use Rattle.std.specs.FinMap.{get}
+use Rattle.std.proofs.lemmas.List.{set-set}
+use Rattle.qed_model.specs.Memory.{Flags, Memory, wrap, allows, grants, number, poked, put}
+use Rattle.qed_model.specs.Kept.{memory_of}
+use Rattle.qed_model.proofs.MemoryLaws.{grants_from, put_none, put-more}
+use Rattle.qed_model.proofs.CellsLaws.{byte_of_cell}
+use Rattle.mem_image.specs.Segments.{cell_of, within, has_all, number_in, with_byte_at, with_bytes_at, AllFit, IsWholeAt}
+use Rattle.mem_image.specs.Access.{allowed_number}
+use Rattle.mem_image.specs.Overlap.{filled, AreApart, AreSound}
+use Rattle.mem_image.proofs.SegmentLaws.{stands_at, IsWhole, get-memory_of, cell_in-first, memory_of-set, all_fit-set, none_past}
+use Rattle.mem_image.proofs.OverlapLaws.{all_fit-filled}
+
+-- ---- a number from the bytes of a list
+-- the highest t of w bytes from place i on were read, and make v
+pub record Gathered (bs : List ℕ) (i w t v : ℕ) : Type 0 where
+  pub is : v ≡ number_in bs (i + (w - t)) t
+  pub small : v < 256 ^ t
+
+pub gathered_none : (bs : List ℕ) (i w : ℕ) → Gathered bs i w 0 0
+unfolding number_in
+gathered_none bs i w = record { is = refl; small = omega arith }
+
+number_in-more : (bs : List ℕ) (x y t v b : ℕ) → y ≡ x + 1 → v ≡ number_in bs y t → b ≡ slice_index bs x → 256 * v + b ≡ number_in bs x (suc t)
+unfolding number_in
+number_in-more bs x y t v b e n h = rw (h, n, e) (omega arith)
+
+pub gathered_more : (bs : List ℕ) (i w t v b : ℕ) → Gathered bs i w t v → t < w → b ≡ slice_index bs (i + (w - 1 - t)) → b < 256 → Gathered bs i w (t + 1) (256 * v + b)
+gathered_more bs i w t v b h l e k =
+    let place : w - 1 - t ≡ w - suc t = omega arith in
+    let above : i + (w - t) ≡ i + (w - suc t) + 1 = omega arith in
+    let here : b ≡ slice_index bs (i + (w - suc t)) = rw place at e in
+    let power : 256 ^ suc t ≡ 256 ^ t * 256 = pow-suc 256 t in
+    let s = h.small in
+    rw add-one (record {
+      is = number_in-more bs (i + (w - suc t)) (i + (w - t)) t v b above h.is here;
+      small = omega (arith, power, s);
+    })
+
+-- one byte more fits 64 bits
+pub gathered_fits : (bs : List ℕ) (i w t v : ℕ) → Gathered bs i w t v → t < w → w ≤ 8 → 256 * v + 255 < 2 ^ 64
+gathered_fits bs i w t v h l k = let top : 256 ^ t ≤ 256 ^ 7 = pow-le-pow_right {n = 256} (omega arith) {i = t} {j = 7} (omega arith) in let s = h.small in omega (arith, top, s)
+
+pub gathered_all : (bs : List ℕ) (i w t v : ℕ) → Gathered bs i w t v → t ≡ w → (v ≡ number_in bs i w) × (v < 256 ^ w)
+gathered_all bs i w t v h e = let from : i + (w - t) ≡ i = omega arith in (rw (from, e) at h.is, rw e at h.small)
+
+-- ---- the addresses of a segment
+pub spans : (s : LoadSegment) (a n : ℕ) → has_all s a n ≡ true → (s.address ≤ a) × (a + n ≤ s.address + s.size)
+spans s a n h =
+    let p = and_parts _ _ h in
+    let q = and_parts _ _ p.0 in
+    let low = leb-true _ _ q.0 in
+    let near = ltb-true _ _ q.1 in
+    let room = leb-true _ _ p.1 in
+    (low, omega (arith, low, near, room))
+
+pub within_span : (s : LoadSegment) (a n q : ℕ) → s.address ≤ a → a + n ≤ s.address + s.size → a ≤ q → q < a + n → within s q ≡ true
+within_span s a n q low room above below = and_from _ _ (le-leb s.address q (omega arith)) (lt-ltb (q - s.address) s.size (omega arith))
+
+-- ---- several bytes are written
+pub address-with_bytes : (s : LoadSegment) (a n v : ℕ) → (with_bytes_at s a n v).address ≡ s.address
+unfolding with_bytes_at
+address-with_bytes s a zero v = refl
+address-with_bytes s a (suc n) v = address-with_bytes s a n v
+
+pub size-with_bytes : (s : LoadSegment) (a n v : ℕ) → (with_bytes_at s a n v).size ≡ s.size
+unfolding with_bytes_at
+size-with_bytes s a zero v = refl
+size-with_bytes s a (suc n) v = size-with_bytes s a n v
+
+pub length-with_bytes : (s : LoadSegment) (a n v : ℕ) → length (with_bytes_at s a n v).bytes ≡ length s.bytes
+unfolding with_bytes_at
+length-with_bytes s a zero v = refl
+length-with_bytes s a (suc n) v = length-set _ _ _ ∙ length-with_bytes s a n v
+
+pub within-with_bytes : (s : LoadSegment) (a n v q : ℕ) → within (with_bytes_at s a n v) q ≡ within s q
+within-with_bytes s a n v q = rw (address-with_bytes s a n v, size-with_bytes s a n v) refl
+
+-- nothing, and one byte more
+pub with_bytes-none : (s : LoadSegment) (a v : ℕ) → with_bytes_at s a 0 v ≡ s
+unfolding with_bytes_at
+with_bytes-none s a v = refl
+
+pub with_bytes-more : (s : LoadSegment) (a n v : ℕ) → with_byte_at (with_bytes_at s a n v) (a + n) (byte_of v n) ≡ with_bytes_at s a (n + 1) v
+unfolding with_bytes_at
+with_bytes-more s a n v = rw add-one refl
+
+-- ---- segments that share nothing
+-- an address has one segment
+pub before_apart : (ss : List LoadSegment) (k : ℕ) (s : LoadSegment) (q : ℕ) → AreApart ss → slice_get ss k ≡ Some s → within s q ≡ true → (j : ℕ) (p : LoadSegment) → j < k → slice_get ss j ≡ Some p → within p q ≡ false
+before_apart ss k s q apart at w j p h e = by (within p q) refl where
+  by : (b : Bool) → within p q ≡ b → within p q ≡ false
+  by true x = absurd (apart j k (record { order = h; first = p; second = s; first_at = e; second_at = at; share = record { address = q; first = x; second = w } }))
+  by false x = x
+
+-- each segment has one of the same addresses at its place in another list
+abbrev pub SameShapes : List LoadSegment → List LoadSegment → Type 0
+SameShapes ts ss = (i : ℕ) (x : LoadSegment) → slice_get ts i ≡ Some x → (y : LoadSegment) × ((slice_get ss i ≡ Some y) × ((q : ℕ) → within x q ≡ within y q))
+
+pub apart_shapes : (ts ss : List LoadSegment) → SameShapes ts ss → AreApart ss → AreApart ts
+apart_shapes ts ss same apart i j o =
+    let x = same i o.first o.first_at in
+    let y = same j o.second o.second_at in
+    apart i j (record { order = o.order; first = x.0; second = y.0; first_at = x.1.0; second_at = y.1.0; share = record { address = o.share.address; first = sym (x.1.1 o.share.address) ∙ o.share.first; second = sym (y.1.1 o.share.address) ∙ o.share.second } })
+
+shapes-set : (ss : List LoadSegment) (k : ℕ) (s t : LoadSegment) → slice_get ss k ≡ Some s → ((q : ℕ) → within t q ≡ within s q) → SameShapes (set ss k t) ss
+shapes-set [] k s t e w i x h = absurd (cc)
+shapes-set (z ∷ zs) zero s t e w zero x h = let is : t ≡ x = cc in (s, (e, λ q. ap (λ r. within r q) (sym is) ∙ w q))
+shapes-set (z ∷ zs) zero s t e w (suc i) x h = (x, (h, λ q. refl))
+shapes-set (z ∷ zs) (suc k) s t e w zero x h = (x, (h, λ q. refl))
+shapes-set (z ∷ zs) (suc k) s t e w (suc i) x h = shapes-set zs k s t e w i x h
+
+shapes-filled : (ss : List LoadSegment) → SameShapes (map filled ss) ss
+shapes-filled [] i x h = absurd (cc)
+shapes-filled (z ∷ zs) zero x h = let is : filled z ≡ x = cc in (z, (refl, λ q. ap (λ r. within r q) (sym is)))
+shapes-filled (z ∷ zs) (suc i) x h = shapes-filled zs i x h
+
+pub sound-filled : (ss : List LoadSegment) → AllFit ss → AreApart ss → AreSound (map filled ss)
+sound-filled ss fit apart = record { fit = all_fit-filled ss fit; apart = apart_shapes (map filled ss) ss (shapes-filled ss) apart }
+
+pub sound-set : (ss : List LoadSegment) (k : ℕ) (s t : LoadSegment) → AreSound ss → slice_get ss k ≡ Some s → t.address ≡ s.address → t.size ≡ s.size → length t.bytes ≡ length s.bytes → AreSound (set ss k t)
+sound-set ss k s t h e a z l = record { fit = all_fit-set ss k s t h.fit e a z l; apart = apart_shapes (set ss k t) ss (shapes-set ss k s t e (λ q. rw (a, z) refl)) h.apart }
+
+pub sound-byte : (ss : List LoadSegment) (k : ℕ) (s : LoadSegment) (a v : ℕ) → AreSound ss → slice_get ss k ≡ Some s → AreSound (set ss k (with_byte_at s a v))
+sound-byte ss k s a v h e = sound-set ss k s (with_byte_at s a v) h e refl refl (length-set _ _ _)
+
+pub sound-bytes : (ss : List LoadSegment) (k : ℕ) (s : LoadSegment) (a n v : ℕ) → AreSound ss → slice_get ss k ≡ Some s → AreSound (set ss k (with_bytes_at s a n v))
+sound-bytes ss k s a n v h e = sound-set ss k s (with_bytes_at s a n v) h e (address-with_bytes s a n v) (size-with_bytes s a n v) (length-with_bytes s a n v)
+
+-- ---- a look-up in the segment
+-- the segment ends at 2^64 or before
+pub ends : (ss : List LoadSegment) (k : ℕ) (s : LoadSegment) → AllFit ss → slice_get ss k ≡ Some s → s.address + s.size ≤ 2 ^ 64
+ends [] k s f e = absurd (cc)
+ends (x ∷ xs) zero s f e = let is : x ≡ s = cc in rw is at f.0.1
+ends (x ∷ xs) (suc k) s f e = ends xs k s f.1 e
+
+get_whole : (ss : List LoadSegment) (k : ℕ) (s : LoadSegment) (q : ℕ) → AreSound ss → slice_get ss k ≡ Some s → within s q ≡ true → get (memory_of ss) q ≡ Some (cell_of s q)
+get_whole ss k s q h e w = get-memory_of ss q h.fit ∙ cell_in-first ss q k s e w (before_apart ss k s q h.apart e w)
+
+number_whole : (ss : List LoadSegment) (k : ℕ) (s : LoadSegment) (a n : ℕ) → AreSound ss → slice_get ss k ≡ Some s → s.address ≤ a → a + n ≤ s.address + s.size → number (memory_of ss) a n ≡ number_in s.bytes (a - s.address) n
+unfolding number number_in
+number_whole ss k s a zero h e low room = refl
+number_whole ss k s a (suc n) h e low room =
+    let end = ends ss k s h.fit e in
+    let same : wrap a ≡ a = omega arith in
+    let w = within_span s a (suc n) a low room (omega arith) (omega arith) in
+    let next : a + 1 - s.address ≡ a - s.address + 1 = omega arith in
+    rw (same, byte_of_cell (memory_of ss) a, get_whole ss k s a h e w, number_whole ss k s (a + 1) n h e (omega arith) (omega arith), next) refl
+
+allows_whole : (need : Flags → Bool) (ss : List LoadSegment) (k : ℕ) (s : LoadSegment) (q : ℕ) → AreSound ss → slice_get ss k ≡ Some s → within s q ≡ true → allows need (get (memory_of ss) q) ≡ need s.flags
+allows_whole need ss k s q h e w = ap (allows need) (get_whole ss k s q h e w)
+
+granted_whole : (need : Flags → Bool) (ss : List LoadSegment) (k : ℕ) (s : LoadSegment) (a n : ℕ) → AreSound ss → slice_get ss k ≡ Some s → s.address ≤ a → a + n ≤ s.address + s.size → need s.flags ≡ true → grants need (memory_of ss) a n ≡ true
+granted_whole need ss k s a n h e low room t =
+    let end = ends ss k s h.fit e in
+    grants_from need (memory_of ss) a n (λ i l. let same : wrap (a + i) ≡ a + i = omega arith in rw same (allows_whole need ss k s (a + i) h e (within_span s a n (a + i) low room (omega arith) (omega arith)) ∙ t))
+
+refused_whole : (need : Flags → Bool) (ss : List LoadSegment) (k : ℕ) (s : LoadSegment) (a n : ℕ) → AreSound ss → slice_get ss k ≡ Some s → s.address ≤ a → a + suc n ≤ s.address + s.size → need s.flags ≡ false → grants need (memory_of ss) a (suc n) ≡ false
+unfolding grants
+refused_whole need ss k s a n h e low room t =
+    let end = ends ss k s h.fit e in
+    let same : wrap a ≡ a = omega arith in
+    rw (same, allows_whole need ss k s a h e (within_span s a (suc n) a low room (omega arith) (omega arith)), t) refl
+
+-- ---- the same, by what the code knows
+-- the segment that the code reads at the place that was found
+pub here_whole : (ss l : List LoadSegment) (a n k : ℕ) (s : LoadSegment) → l ≡ ss → IsWholeAt l a n k → k < length l → s ≡ get_or ss k s → (slice_get ss k ≡ Some s) × (has_all s a n ≡ true)
+here_whole ss l a n k s e h below read =
+    let stands : slice_get ss k ≡ Some h.segment = rw e at h.stands in
+    let inside : k < length ss = rw e at below in
+    let here = stands_at ss k s inside read in
+    let is : h.segment ≡ s = cc in
+    (here, rw is at h.has)
+
+pub whole_granted : (need : Flags → Bool) (ss : List LoadSegment) (k : ℕ) (s : LoadSegment) (a n : ℕ) → AreSound ss → slice_get ss k ≡ Some s → has_all s a n ≡ true → need s.flags ≡ true → grants need (memory_of ss) a n ≡ true
+whole_granted need ss k s a n h e w t = let room = spans s a n w in granted_whole need ss k s a n h e room.0 room.1 t
+
+pub whole_refused : (need : Flags → Bool) (ss : List LoadSegment) (k : ℕ) (s : LoadSegment) (a n : ℕ) → AreSound ss → slice_get ss k ≡ Some s → has_all s a n ≡ true → 0 < n → need s.flags ≡ false → grants need (memory_of ss) a n ≡ false
+whole_refused need ss k s a zero h e w l t = absurd (omega arith)
+whole_refused need ss k s a (suc n) h e w l t = let room = spans s a (suc n) w in refused_whole need ss k s a n h e room.0 room.1 t
+
+pub whole_number : (ss : List LoadSegment) (k : ℕ) (s : LoadSegment) (a n : ℕ) → AreSound ss → slice_get ss k ≡ Some s → has_all s a n ≡ true → number_in s.bytes (a - s.address) n ≡ number (memory_of ss) a n
+whole_number ss k s a n h e w = let room = spans s a n w in sym (number_whole ss k s a n h e room.0 room.1)
+
+-- ---- several bytes of the segment are written
+set_none : (ss : List LoadSegment) (k : ℕ) (s : LoadSegment) → slice_get ss k ≡ Some s → set ss k s ≡ ss
+set_none [] k s e = refl
+set_none (x ∷ xs) zero s e = let is : x ≡ s = cc in rw is refl
+set_none (x ∷ xs) (suc k) s e = ap (λ r. x ∷ r) (set_none xs k s e)
+
+there_set : (ss : List LoadSegment) (k : ℕ) (s t : LoadSegment) → slice_get ss k ≡ Some s → slice_get (set ss k t) k ≡ Some t
+there_set [] k s t e = absurd (cc)
+there_set (x ∷ xs) zero s t e = refl
+there_set (x ∷ xs) (suc k) s t e = there_set xs k s t e
+
+put_whole : (ss : List LoadSegment) (k : ℕ) (s : LoadSegment) (a n v : ℕ) → AreSound ss → slice_get ss k ≡ Some s → IsWhole s → s.address ≤ a → a + n ≤ s.address + s.size → memory_of (set ss k (with_bytes_at s a n v)) ≡ put (memory_of ss) a n v
+unfolding with_bytes_at
+put_whole ss k s a zero v h e whole low room = ap memory_of (set_none ss k s e) ∙ sym (put_none (memory_of ss) a v)
+put_whole ss k s a (suc n) v h e whole low room =
+    let t : LoadSegment = with_bytes_at s a n v in
+    let sound : AreSound (set ss k (with_bytes_at s a n v)) = sound-bytes ss k s a n v h e in
+    let there : slice_get (set ss k (with_bytes_at s a n v)) k ≡ Some (with_bytes_at s a n v) = there_set ss k s (with_bytes_at s a n v) e in
+    let full : IsWhole (with_bytes_at s a n v) = length-with_bytes s a n v ∙ whole ∙ sym (size-with_bytes s a n v) in
+    let inside : within (with_bytes_at s a n v) (a + n) ≡ true = within-with_bytes s a n v (a + n) ∙ within_span s a (suc n) (a + n) low room (omega arith) (omega arith) in
+    let end = ends ss k s h.fit e in
+    let same : a + n ≡ wrap (a + n) = omega arith in
+    ap memory_of (sym (set-set ss k (with_bytes_at s a n v) (with_byte_at (with_bytes_at s a n v) (a + n) (byte_of v n))))
+    ∙ memory_of-set (set ss k (with_bytes_at s a n v)) k (with_bytes_at s a n v) (a + n) (byte_of v n) sound.fit there full inside (before_apart (set ss k (with_bytes_at s a n v)) k (with_bytes_at s a n v) (a + n) sound.apart there inside)
+    ∙ ap (poked (a + n) (byte_of v n)) (put_whole ss k s a n v h e whole low (omega arith))
+    ∙ ap (λ q. poked q (byte_of v n) (put (memory_of ss) a n v)) same
+    ∙ put-more (memory_of ss) a n v (omega arith) (omega arith) (λ q l. none_past ss q h.fit l)
+    ∙ rw add-one refl
+
+pub whole_put : (ss : List LoadSegment) (k : ℕ) (s : LoadSegment) (a n v : ℕ) → AreSound ss → slice_get ss k ≡ Some s → IsWhole s → has_all s a n ≡ true → memory_of (set ss k (with_bytes_at s a n v)) ≡ put (memory_of ss) a n v
+whole_put ss k s a n v h e whole w = let room = spans s a n w in put_whole ss k s a n v h e whole room.0 room.1
+
+-- ---- what is answered
+pub refused_number : (need : Flags → Bool) (m : Memory) (a n : ℕ) → grants need m a n ≡ false → None ≡ allowed_number need m a n
+refused_number need m a n e = rw e refl
+
+pub granted_number : (need : Flags → Bool) (m : Memory) (a n v : ℕ) → grants need m a n ≡ true → v ≡ number m a n → Some v ≡ allowed_number need m a n
+granted_number need m a n v e is = rw (e, is) refl

@@ -1,0 +1,6 @@
+use Rattle.std.proofs.Common.{◌≡◌}
+use Rattle.qed_model.specs.Memory.{put}
+use Rattle.mem_image.proofs.image.Image.put.Given as goal
+
+abbrev pub invariant-loop-i : goal.invariant-loop-i
+invariant-loop-i l = l.self ≡ put l.fn.self l.address l.i l.value

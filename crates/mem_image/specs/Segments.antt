@@ -1,0 +1,60 @@
+-- Segments in memory, address by address.
+use Rattle.std.specs.Prelude.{◌≡◌, ℕ, zero, suc, ◌+◌, ◌-◌, ◌*◌, ◌^◌, ◌<◌, ◌≤◌, ◌&&◌, Bool, true, false, cond, nat_le, nat_lt, List, [], ◌∷◌, length, slice_index, slice_get, slice_set, Option, Some, None}
+use Rattle.std.specs.FinMap.{get}
+use Rattle.qed_model.specs.Memory.{Cell, Memory, byte_of}
+use Rattle.qed_model.specs.Kept.{LoadSegment}
+
+-- the segment has the address
+abbrev pub within : LoadSegment → ℕ → Bool
+within s q = nat_le s.address q && nat_lt (q - s.address) s.size
+
+-- what it has there: a byte of the file, or 0 behind them
+abbrev pub cell_of : LoadSegment → ℕ → Cell
+cell_of s q = record { byte = slice_index s.bytes (q - s.address); flags = s.flags }
+
+-- the cell at an address, in the first segment that has it
+abbrev pub cell_in : List LoadSegment → ℕ → Option Cell
+cell_in [] q = None
+cell_in (s ∷ ss) q = cond (within s q) (Some (cell_of s q)) (cell_in ss q)
+
+-- the segment has no more bytes in the file than in memory, and does not go past 2^64
+abbrev pub Fits : LoadSegment → Type 0
+Fits s = (length s.bytes ≤ s.size) × (s.address + s.size ≤ 2 ^ 64)
+
+abbrev pub AllFit : List LoadSegment → Type 0
+AllFit [] = Unit {0}
+AllFit (s ∷ ss) = Fits s × AllFit ss
+
+-- the segment at place k is the first that has the address
+pub record IsFirst (ss : List LoadSegment) (q k : ℕ) : Type 0 where
+  pub found : (s : LoadSegment) × ((slice_get ss k ≡ Some s) × (within s q ≡ true))
+  pub before : (j : ℕ) (s : LoadSegment) → j < k → slice_get ss j ≡ Some s → within s q ≡ false
+
+-- the memory has at the address what the segment has there
+pub record Holds (m : Memory) (s : LoadSegment) (q : ℕ) : Type 0 where
+  pub cell : get m q ≡ Some (cell_of s q)
+  pub inside : within s q ≡ true
+
+-- the segment with another byte at an address
+abbrev pub with_byte_at : LoadSegment → ℕ → ℕ → LoadSegment
+with_byte_at s a v = record { address = s.address; size = s.size; flags = s.flags; bytes = slice_set s.bytes (a - s.address) v }
+
+-- the segment has each of the n addresses from a on
+abbrev pub has_all : LoadSegment → ℕ → ℕ → Bool
+has_all s a n = within s a && nat_le n (s.size - (a - s.address))
+
+-- the segment at place k has each of the n addresses from a on
+pub record IsWholeAt (ss : List LoadSegment) (a n k : ℕ) : Type 0 where
+  pub segment : LoadSegment
+  pub stands : slice_get ss k ≡ Some segment
+  pub has : has_all segment a n ≡ true
+
+-- the little-endian number of n bytes from place i on
+unfoldable pub number_in : List ℕ → ℕ → ℕ → ℕ
+number_in bs i zero = 0
+number_in bs i (suc n) = slice_index bs i + 256 * number_in bs (i + 1) n
+
+-- the segment with the low n bytes of v from a on
+unfoldable pub with_bytes_at : LoadSegment → ℕ → ℕ → ℕ → LoadSegment
+with_bytes_at s a zero v = s
+with_bytes_at s a (suc n) v = with_byte_at (with_bytes_at s a n v) (a + n) (byte_of v n)

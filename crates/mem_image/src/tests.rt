@@ -1,0 +1,122 @@
+// Each public call on a small image.
+ghost use Rattle.std.specs.Prelude.{◌+◌, ◌^◌, ◌≤◌, length, IfOk};
+ghost use Rattle.mem_image.specs.Overlap.{segment_of};
+ghost use Rattle.mem_image.specs.Segments.{Fits};
+
+use crate::{Image, ImageError, SegmentSpec};
+use qed_model::Bytes;
+use std::alloc::{AllocError, Global};
+use std::test::Fail;
+
+const READ_EXECUTE: u32 = 5;
+
+const READ_WRITE: u32 = 6;
+
+fn spec(
+    alloc: Global,
+    address: u64,
+    memory: u64,
+    flags: u32,
+    bytes: &[u8],
+) -> Result<SegmentSpec, AllocError>
+    requires bytes { length bytes.now ≤ memory }
+    requires end { address + memory ≤ 2 ^ 64 }
+    ensures { IfOk result (λ spec. Fits (segment_of spec)) }
+{
+    Ok(SegmentSpec {
+        address,
+        memory,
+        flags,
+        bytes: Bytes::copied(alloc, bytes)?,
+    })
+}
+
+/// Code, data, and data on both sides of the end of the addresses.
+fn image(alloc: Global) -> Result<Image, ImageError> {
+    let specs = [
+        spec(alloc, 0x1000, 8, READ_EXECUTE, &[0x78, 0x56, 0x34, 0x12])?,
+        spec(alloc, 0x2000, 8, READ_WRITE, &[1, 2, 3])?,
+        spec(
+            alloc,
+            0xffff_ffff_ffff_fffc,
+            4,
+            READ_WRITE,
+            &[0xaa, 0xbb, 0xcc, 0xdd],
+        )?,
+        spec(alloc, 0, 4, READ_WRITE, &[0x11, 0x22, 0x33, 0x44])?,
+    ];
+    Image::make(alloc, &specs)
+}
+
+#[test]
+fn bytes_are_read_with_their_permission(rt: HostRuntime) -> Result<(), Fail> {
+    let image = image(rt.alloc())?;
+    assert_eq!(rt; image.read(0x1000, 4), Some(0x1234_5678));
+    assert_eq!(rt; image.read(0x1003, 2), Some(0x12));
+    assert_eq!(rt; image.read(0x1004, 8), None);
+    assert_eq!(rt; image.fetch(0x1000), Some(0x1234_5678));
+    assert_eq!(rt; image.fetch(0x2000), None);
+    assert_eq!(rt; image.peek(0x2002), Some(3));
+    assert_eq!(rt; image.peek(0x2008), None);
+    Ok(())
+}
+
+#[test]
+fn addresses_wrap(rt: HostRuntime) -> Result<(), Fail> {
+    let mut image = image(rt.alloc())?;
+    assert_eq!(rt; image.read(0xffff_ffff_ffff_fffe, 4), Some(0x2211_ddcc));
+    assert!(rt; image.write(0xffff_ffff_ffff_ffff, 2, 0x7788));
+    assert_eq!(rt; image.peek(0xffff_ffff_ffff_ffff), Some(0x88));
+    assert_eq!(rt; image.peek(0), Some(0x77));
+    Ok(())
+}
+
+#[test]
+fn bytes_are_written_with_their_permission(rt: HostRuntime) -> Result<(), Fail> {
+    let mut image = image(rt.alloc())?;
+    assert!(rt; image.write(0x2004, 4, 0xdead_beef_cafe_babe));
+    assert_eq!(rt; image.read(0x2000, 8), Some(0xcafe_babe_0003_0201));
+    assert!(rt; !image.write(0x2006, 4, 0));
+    assert!(rt; !image.write(0x1000, 1, 0));
+    assert_eq!(rt; image.read(0x2000, 8), Some(0xcafe_babe_0003_0201));
+    assert_eq!(rt; image.read(0x1000, 1), Some(0x78));
+    Ok(())
+}
+
+#[test]
+fn mapped_bytes_are_poked(rt: HostRuntime) -> Result<(), Fail> {
+    let alloc = rt.alloc();
+    let mut image = image(alloc)?;
+    let before = image.copy(alloc)?;
+    image.poke(0x1004, 0x0102_0304_0506_0708);
+    assert_eq!(rt; image.read(0x1000, 8), Some(0x0506_0708_1234_5678));
+    assert_eq!(rt; image.peek(0x1008), None);
+    assert_eq!(rt; before.read(0x1000, 8), Some(0x1234_5678));
+    Ok(())
+}
+
+#[test]
+fn the_least_pair_is_told(rt: HostRuntime) -> Result<(), Fail> {
+    let alloc = rt.alloc();
+    let specs = [
+        spec(alloc, 0x10, 0x10, READ_WRITE, &[])?,
+        spec(alloc, 0x30, 0x10, READ_WRITE, &[])?,
+        spec(alloc, 0x3f, 0x11, READ_WRITE, &[])?,
+        spec(alloc, 0x18, 0, READ_WRITE, &[])?,
+        spec(alloc, 0x1f, 0x12, READ_WRITE, &[])?,
+    ];
+    assert!(rt; matches!(Image::make(alloc, &specs), Err(ImageError::Overlap(0, 4))));
+    Ok(())
+}
+
+#[test]
+fn neighbours_share_nothing(rt: HostRuntime) -> Result<(), Fail> {
+    let alloc = rt.alloc();
+    let specs = [
+        spec(alloc, 0x40, 0x10, READ_WRITE, &[])?,
+        spec(alloc, 0x48, 0, READ_WRITE, &[])?,
+        spec(alloc, 0x30, 0x10, READ_WRITE, &[])?,
+    ];
+    assert!(rt; Image::make(alloc, &specs).is_ok());
+    Ok(())
+}

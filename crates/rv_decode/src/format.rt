@@ -1,0 +1,168 @@
+// The fields of a word in each format (RISC-V unprivileged manual, "Base Instruction Formats" and
+// "Immediate Encoding Variants"): rd in bits 7 to 11, rs1 in 15 to 19, rs2 in 20 to 24.
+ghost use Rattle.std.specs.Prelude.{◌≡◌, ◌^◌, ◌<◌, ◌≤◌};
+ghost use Rattle.qed_model.specs.Table.{R, I, H, G, S, B, U, J, N, ins_of, signed as signed_of};
+
+use rv_isa::{Field, Ins, Kind, Reg};
+
+/// The register of five bits.
+fn register(bits: u32) -> Reg
+    requires { bits < 32 }
+    ensures { result ≡ bits }
+{
+    match Reg::new(bits as u8) {
+        Some(register) => register,
+        None => unreachable!(),
+    }
+}
+
+/// The signed number that stands in the low bits of a word.
+fn signed(width: u32, bits: u32) -> i64
+    requires some { 1 ≤ width }
+    requires most { width ≤ 32 }
+    requires fits { bits < 2 ^ width }
+    ensures { result ≡ signed_of width bits }
+{
+    let half = 1u64 << (width - 1);
+    if u64::from(bits) < half {
+        i64::from(bits)
+    } else {
+        i64::from(bits) - (2 * half) as i64
+    }
+}
+
+/// Format R: three registers.
+#[tactic(auto, unfolding(qed_model::specs::Table::ins_of))]
+pub fn register_format(kind: Kind, word: u32) -> Ins
+    ensures { result ≡ ins_of R kind word }
+{
+    Ins {
+        kind,
+        rd: register(Field::<7, 5>::get(word)),
+        rs1: register(Field::<15, 5>::get(word)),
+        rs2: register(Field::<20, 5>::get(word)),
+        imm: 0,
+    }
+}
+
+/// Format I: a signed number of 12 bits.
+#[tactic(auto, unfolding(qed_model::specs::Table::ins_of))]
+pub fn immediate_format(kind: Kind, word: u32) -> Ins
+    ensures { result ≡ ins_of I kind word }
+{
+    Ins {
+        kind,
+        rd: register(Field::<7, 5>::get(word)),
+        rs1: register(Field::<15, 5>::get(word)),
+        rs2: register(0),
+        imm: signed(12, Field::<20, 12>::get(word)),
+    }
+}
+
+/// Format I with a shift amount of 6 bits.
+#[tactic(auto, unfolding(qed_model::specs::Table::ins_of))]
+pub fn shift_format(kind: Kind, word: u32) -> Ins
+    ensures { result ≡ ins_of H kind word }
+{
+    Ins {
+        kind,
+        rd: register(Field::<7, 5>::get(word)),
+        rs1: register(Field::<15, 5>::get(word)),
+        rs2: register(0),
+        imm: i64::from(Field::<20, 6>::get(word)),
+    }
+}
+
+/// Format I with a shift amount of 5 bits.
+#[tactic(auto, unfolding(qed_model::specs::Table::ins_of))]
+pub fn word_shift_format(kind: Kind, word: u32) -> Ins
+    ensures { result ≡ ins_of G kind word }
+{
+    Ins {
+        kind,
+        rd: register(Field::<7, 5>::get(word)),
+        rs1: register(Field::<15, 5>::get(word)),
+        rs2: register(0),
+        imm: i64::from(Field::<20, 5>::get(word)),
+    }
+}
+
+/// Format S: a signed number of 12 bits in two places.
+#[tactic(auto, unfolding(qed_model::specs::Table::ins_of))]
+pub fn store_format(kind: Kind, word: u32) -> Ins
+    ensures { result ≡ ins_of S kind word }
+{
+    let bits = (Field::<25, 7>::get(word) << 5) + Field::<7, 5>::get(word);
+    Ins {
+        kind,
+        rd: register(0),
+        rs1: register(Field::<15, 5>::get(word)),
+        rs2: register(Field::<20, 5>::get(word)),
+        imm: signed(12, bits),
+    }
+}
+
+/// Format B: a signed, even number of 13 bits in four places.
+#[tactic(auto, unfolding(qed_model::specs::Table::ins_of))]
+pub fn branch_format(kind: Kind, word: u32) -> Ins
+    ensures { result ≡ ins_of B kind word }
+{
+    let bits = (Field::<31, 1>::get(word) << 12)
+        + (Field::<7, 1>::get(word) << 11)
+        + (Field::<25, 6>::get(word) << 5)
+        + (Field::<8, 4>::get(word) << 1);
+    Ins {
+        kind,
+        rd: register(0),
+        rs1: register(Field::<15, 5>::get(word)),
+        rs2: register(Field::<20, 5>::get(word)),
+        imm: signed(13, bits),
+    }
+}
+
+/// Format U: the upper 20 of 32 bits.
+#[tactic(auto, unfolding(qed_model::specs::Table::ins_of))]
+pub fn upper_format(kind: Kind, word: u32) -> Ins
+    ensures { result ≡ ins_of U kind word }
+{
+    Ins {
+        kind,
+        rd: register(Field::<7, 5>::get(word)),
+        rs1: register(0),
+        rs2: register(0),
+        imm: signed(32, Field::<12, 20>::get(word) << 12),
+    }
+}
+
+/// Format J: a signed, even number of 21 bits in four places.
+#[tactic(auto, unfolding(qed_model::specs::Table::ins_of))]
+pub fn jump_format(kind: Kind, word: u32) -> Ins
+    ensures { result ≡ ins_of J kind word }
+{
+    let bits = (Field::<31, 1>::get(word) << 20)
+        + (Field::<12, 8>::get(word) << 12)
+        + (Field::<20, 1>::get(word) << 11)
+        + (Field::<21, 10>::get(word) << 1);
+    Ins {
+        kind,
+        rd: register(Field::<7, 5>::get(word)),
+        rs1: register(0),
+        rs2: register(0),
+        imm: signed(21, bits),
+    }
+}
+
+/// No fields.
+#[tactic(auto, unfolding(qed_model::specs::Table::ins_of))]
+pub fn no_fields(kind: Kind, word: u32) -> Ins
+    ensures { result ≡ ins_of N kind word }
+{
+    let _ = word;
+    Ins {
+        kind,
+        rd: register(0),
+        rs1: register(0),
+        rs2: register(0),
+        imm: 0,
+    }
+}
