@@ -5,7 +5,7 @@ use qed_top::{Status, qed};
 use std::alloc::{AllocError, Global};
 
 /// How the program ends on the words of a command line.
-pub fn run<S: Shelf, K: Sink>(
+pub(crate) fn run<S: Shelf, K: Sink>(
     alloc: Global,
     line: &[&str],
     shelf: &mut S,

@@ -80,7 +80,7 @@ impl Elf<'_> {
     }
 
     /// The bytes of the file, with zeros between its parts.
-    pub fn bytes(&self, alloc: Global) -> Result<Vec<u8>, Fail> {
+    pub(crate) fn bytes(&self, alloc: Global) -> Result<Vec<u8>, Fail> {
         let mut file = Vec::new(alloc);
         self.push_header(&mut file)?;
         for part in self.parts {

@@ -14,7 +14,7 @@ pub const CODE_OFFSET: u64 = 0x78;
 pub const ECALL: u32 = 0x0000_0073;
 
 /// The file with this code as its only segment.
-pub fn first_file(alloc: Global, words: &[u32]) -> Result<Vec<u8>, Fail> {
+pub(crate) fn first_file(alloc: Global, words: &[u32]) -> Result<Vec<u8>, Fail> {
     Elf {
         entry: ENTRY,
         flags: 0,

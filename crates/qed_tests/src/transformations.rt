@@ -148,18 +148,18 @@ impl Transformation {
     }
 
     /// The input.
-    pub fn input(&self, alloc: Global) -> Result<Vec<u8>, Fail> {
+    pub(crate) fn input(&self, alloc: Global) -> Result<Vec<u8>, Fail> {
         first_file(alloc, &self.input_words(alloc)?)
     }
 
     /// The output.
-    pub fn output(&self, alloc: Global) -> Result<Vec<u8>, Fail> {
+    pub(crate) fn output(&self, alloc: Global) -> Result<Vec<u8>, Fail> {
         let code = joined(alloc, &[&BEGIN, self.body, self.mirrored, &END])?;
         output_file(alloc, &self.input_words(alloc)?, &code)
     }
 
     /// What is printed about the output.
-    pub fn printed(&self, alloc: Global) -> Result<String, AllocError> {
+    pub(crate) fn printed(&self, alloc: Global) -> Result<String, AllocError> {
         let size = self.code_bytes;
         format!(in alloc;
             "code {size} bytes, entries 1, pieces 1, half 4096, register bound 272, word bound none\n"
