@@ -4,7 +4,7 @@ ghost use Rattle.mem_image.specs.Overlap.{segment_of};
 ghost use Rattle.mem_image.specs.Segments.{Fits};
 
 use crate::{Image, ImageError, SegmentSpec};
-use qed_model::Bytes;
+use elf_types::Bytes;
 use std::alloc::{AllocError, Global};
 use std::test::Fail;
 

@@ -4,7 +4,7 @@ ghost use Rattle.qed_io.specs.Counts.{NoneFell, counted};
 ghost use Rattle.qed_io.specs.Shelf.{Loads, Stores};
 
 use crate::{LoadError, Shelf, StoreError};
-use qed_model::Bytes;
+use elf_types::Bytes;
 use std::alloc::Global;
 use std::io::{Error, ErrorKind, Read, Write};
 use std::marker::Model;

@@ -8,7 +8,7 @@ ghost use Rattle.qed_io.specs.Memory.{planned, files_left};
 
 use crate::stored_files::StoredFiles;
 use crate::{LoadError, Shelf, StoreError};
-use qed_model::Bytes;
+use elf_types::Bytes;
 use std::alloc::{AllocError, Global};
 use std::marker::Model;
 

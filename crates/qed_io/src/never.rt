@@ -6,7 +6,7 @@ ghost use Rattle.qed_io.specs.Files.{Files};
 
 use crate::stored_files::StoredFiles;
 use crate::{LoadError, Shelf, Sink, StoreError, WriteError};
-use qed_model::Bytes;
+use elf_types::Bytes;
 use std::alloc::{AllocError, Global};
 use std::marker::Model;
 

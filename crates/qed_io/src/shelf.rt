@@ -6,7 +6,7 @@ ghost use Rattle.qed_io.specs.Files.{Files};
 ghost use Rattle.qed_io.specs.Counts.{NoneFell};
 ghost use Rattle.qed_io.specs.Shelf.{Loads, Stores};
 
-use qed_model::Bytes;
+use elf_types::Bytes;
 use std::alloc::{AllocError, Global};
 use thiserror::Error;
 

@@ -1,7 +1,7 @@
 -- A plain file that was written, read: its header, and the program header and the bytes of each segment.
 use Rattle.std.proofs.Common.{◌≡◌, ℕ, ◌+◌, ◌-◌, ◌*◌, ◌^◌, ◌<◌, ◌≤◌, List, [], ◌∷◌, ◌++◌, length, take, drop, replicate, refl, ap, sym, ◌∙◌, arith, length-append}
 use Rattle.std.proofs.lemmas.List.{append_assoc, drop_at, take_at, length-replicate}
-use Rattle.qed_model.specs.declared.segment.Segment.{Segment}
+use Rattle.elf_types.specs.declared.file.Segment.{Segment}
 use Rattle.qed_model.specs.Numbers.{field}
 use Rattle.qed_model.specs.Plain.{IsPlainHeader, e_entry, e_flags, e_phnum, p_type, p_flags, p_offset, p_vaddr, p_filesz, p_memsz, segment_bytes}
 use Rattle.qed_model.specs.Written.{fields_bytes, header_fields, program_fields, offset_from, program_headers, segments_bytes, plain_file}

@@ -1,7 +1,7 @@
 -- What is woven from a first file.
 use Rattle.std.specs.Prelude.{◌≡◌, ℕ, ◌+◌, ◌*◌, ◌^◌, ◌<◌, List, [], ◌∷◌, ◌++◌, length, slice_index}
 use Rattle.rv_isa.specs.declared.ins.Ins.{Ins}
-use Rattle.qed_model.specs.declared.segment.Segment.{Segment}
+use Rattle.elf_types.specs.declared.file.Segment.{Segment}
 use Rattle.qed_model.specs.Numbers.{words_of, bytes_of}
 use Rattle.qed_model.specs.Sequences.{ecall, woven_items}
 use Rattle.qed_model.specs.Placed.{placed, Decode}

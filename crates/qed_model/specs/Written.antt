@@ -1,6 +1,6 @@
 -- The bytes of a plain file that is written.
 use Rattle.std.specs.Prelude.{ℕ, ◌+◌, ◌-◌, ◌*◌, ◌%◌, List, [], ◌∷◌, ◌++◌, length, replicate}
-use Rattle.qed_model.specs.declared.segment.Segment.{Segment}
+use Rattle.elf_types.specs.declared.file.Segment.{Segment}
 use Rattle.qed_model.specs.Numbers.{number_bytes}
 
 -- fields one after the other, each by its size in bytes and its value

@@ -8,7 +8,7 @@ ghost use Rattle.qed_top.specs.Answer.{FilesAfter, FilesInPart, StoreRose};
 use crate::fault::Fault;
 use crate::status::Status;
 use qed_io::{Shelf, Sink, put_all};
-use qed_model::Bytes;
+use elf_types::Bytes;
 
 /// A file to be stored.
 #[derive(Debug, Drop)]

@@ -12,7 +12,7 @@ use crate::status::Status;
 use crate::text::{Bounds, Sizes, transform_text};
 use crate::words::read_transform;
 use qed_io::{LoadError, Shelf};
-use qed_model::Bytes;
+use elf_types::Bytes;
 use std::alloc::{AllocError, Global};
 use transform::{HALF, TransformError, Transformed, transform};
 

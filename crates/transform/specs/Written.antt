@@ -1,6 +1,6 @@
 -- What is asked of segments that are written.
 use Rattle.std.specs.Prelude.{◌<◌, ◌^◌, length}
-use Rattle.qed_model.specs.declared.segment.Segment.{Segment}
+use Rattle.elf_types.specs.declared.file.Segment.{Segment}
 
 -- few enough bytes that no offset of a few segments wraps
 abbrev pub IsSmall : Segment → Type 0

@@ -14,7 +14,7 @@ use crate::link::link;
 use crate::read::has_magic;
 use crate::weave::woven;
 use crate::write::{bytes_of, write_plain};
-use qed_model::{Bytes, Segment};
+use elf_types::{Bytes, Segment};
 use rv_isa::Ins;
 use std::alloc::{AllocError, Global};
 

@@ -5,7 +5,7 @@ ghost use Rattle.qed_model.specs.Written.{fields_bytes, header_fields, program_f
 ghost use Rattle.transform.specs.Written.{IsSmall};
 
 use crate::numbers::{Number, push_numbers};
-use qed_model::Segment;
+use elf_types::Segment;
 use std::alloc::{AllocError, Global};
 
 /// The bytes of a header and of a program header (ELF gABI).
