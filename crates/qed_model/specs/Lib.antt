@@ -6,10 +6,13 @@ pub mod Values
 pub mod Machine
 pub mod Halves
 pub mod Kept
+pub mod Progress
+pub mod Struck
 pub mod Weave
 pub mod Sequences
 pub mod Plain
 pub mod Loaded
+pub mod LoadedFile
 pub mod Written
 pub mod Woven
 pub mod Bounds
