@@ -8,8 +8,7 @@ mod machine;
 mod range;
 mod start;
 
-
 pub use machine::Machine;
 
-
-
+#[cfg(test)]
+mod tests;

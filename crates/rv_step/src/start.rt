@@ -95,10 +95,7 @@ fn ranges_of_sections(
 }
 
 /// The executable segments that have bytes in memory.
-fn ranges_of_segments(
-    alloc: Global,
-    segments: &[SegmentSpec],
-) -> Result<Vec<CodeRange>, AllocError>
+fn ranges_of_segments(alloc: Global, segments: &[SegmentSpec]) -> Result<Vec<CodeRange>, AllocError>
     ensures { IfOk result (λ ranges. spans ranges.items ≡ segment_ranges (segments_of segments.now)) }
 {
     let mut ranges = Vec::new(alloc);
