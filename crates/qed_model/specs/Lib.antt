@@ -1,5 +1,6 @@
 pub mod Table
 pub mod Numbers
+pub mod Below
 pub mod Placed
 pub mod Memory
 pub mod Values
@@ -10,6 +11,10 @@ pub mod Weave
 pub mod Sequences
 pub mod Plain
 pub mod Loaded
+pub mod ElfFields
+pub mod ElfRules
+pub mod ElfRefusals
+pub mod ElfFile
 pub mod Written
 pub mod Woven
 pub mod Bounds
