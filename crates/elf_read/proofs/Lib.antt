@@ -1,1 +1,1 @@
-mod LastZero
+pub mod LastZero

@@ -33,7 +33,11 @@ pub fn sum_of<F: Fn(u64) -> u64>(n: u64, f: &F) -> u128
 }
 
 /// What is made at each number below n, in order.
-pub fn list_of<T: Drop, F: Fn(u64) -> Result<T, AllocError>>(alloc: Global, n: u64, make: &F) -> Result<Vec<T>, AllocError>
+pub fn list_of<T: Drop, F: Fn(u64) -> Result<T, AllocError>>(
+    alloc: Global,
+    n: u64,
+    make: &F,
+) -> Result<Vec<T>, AllocError>
     requires { (i : ℕ) → i < n → F.pre make.now i }
     ensures { (g : ℕ → T) → ((i : ℕ) (r : _) → i < n → F.post make.now i r → IfOk r (λ x. x ≡ g i)) → IfOk result (λ v. v.items ≡ each n g) }
 {

@@ -40,7 +40,10 @@ fn symbol_name_bytes(file: &Parts) -> u128
         Some(i) => {
             let strings = symbol_strings(file, i);
             let size = file.section(i).size;
-            sum_of(size / 24, &|j| symbol_name(file, &strings, i, j).len() as u64)
+            sum_of(
+                size / 24,
+                &|j| symbol_name(file, &strings, i, j).len() as u64,
+            )
         }
     }
 }
@@ -53,7 +56,10 @@ fn counted_bytes(file: &Parts) -> u128
 {
     let strings = section_strings(file);
     let segments = sum_of(file.tables().phnum(), &|i| file_size(file.program(i)));
-    let sections = sum_of(file.tables().shnum(), &|i| section_name(file, &strings, i).len() as u64);
+    let sections = sum_of(
+        file.tables().shnum(),
+        &|i| section_name(file, &strings, i).len() as u64,
+    );
     let symbols = symbol_name_bytes(file);
     segments + sections + symbols
 }

@@ -67,7 +67,13 @@ fn segment(file: &Parts, alloc: Global, i: u64) -> Result<Segment, AllocError>
 }
 
 #[tactic(auto, unfolding(qed_model::specs::ElfFile::symbol_of))]
-fn symbol(file: &Parts, strings: &Strings, alloc: Global, i: u64, j: u64) -> Result<Symbol, AllocError>
+fn symbol(
+    file: &Parts,
+    strings: &Strings,
+    alloc: Global,
+    i: u64,
+    j: u64,
+) -> Result<Symbol, AllocError>
     requires below { i < e_shnum file.now }
     requires kind { (section_header file.now i).kind ≡ 2 }
     requires names { strings.now ≡ strings_of file.now (section_header file.now i) }
@@ -108,14 +114,22 @@ impl<'a> Sound<'a> {
     fn segments(&self, alloc: Global) -> Result<Vec<Segment>, AllocError>
         ensures { IfOk result (λ v. v.items ≡ each (e_phnum self.now) (segment_of self.now)) }
     {
-        list_of(alloc, self.parts.tables().phnum(), &|i| segment(&self.parts, alloc, i))
+        list_of(
+            alloc,
+            self.parts.tables().phnum(),
+            &|i| segment(&self.parts, alloc, i),
+        )
     }
 
     fn sections(&self, alloc: Global) -> Result<Vec<Section>, AllocError>
         ensures { IfOk result (λ v. v.items ≡ each (e_shnum self.now) (section_of self.now)) }
     {
         let strings = section_strings(&self.parts);
-        list_of(alloc, self.parts.tables().shnum(), &|i| section(&self.parts, &strings, alloc, i))
+        list_of(
+            alloc,
+            self.parts.tables().shnum(),
+            &|i| section(&self.parts, &strings, alloc, i),
+        )
     }
 
     fn symbols(&self, alloc: Global) -> Result<Vec<Symbol>, AllocError>
@@ -126,7 +140,11 @@ impl<'a> Sound<'a> {
             Some(i) => {
                 let strings = symbol_strings(&self.parts, i);
                 let size = self.parts.section(i).size;
-                list_of(alloc, size / 24, &|j| symbol(&self.parts, &strings, alloc, i, j))
+                list_of(
+                    alloc,
+                    size / 24,
+                    &|j| symbol(&self.parts, &strings, alloc, i, j),
+                )
             }
         }
     }

@@ -70,7 +70,10 @@ fn rela_fault(file: &Parts, table: Option<u64>, count: u64, i: u64) -> Option<u6
         return Some(0);
     }
     let entries = file.section_bytes(s);
-    first_of(s.size / 24, &|k| u64::from(rela_at(entries, k).symbol) >= count)
+    first_of(
+        s.size / 24,
+        &|k| u64::from(rela_at(entries, k).symbol) >= count,
+    )
 }
 
 /// Whether each counted section of relocations has entries, and each of these a symbol.
@@ -80,7 +83,10 @@ pub fn check_rela_shape(file: &Parts) -> Result<(), ElfError>
 {
     let table = symbol_table(file);
     let count = symbol_count(file);
-    match first_of(file.tables().shnum(), &|i| rela_fault(file, table, count, i).is_some()) {
+    match first_of(
+        file.tables().shnum(),
+        &|i| rela_fault(file, table, count, i).is_some(),
+    ) {
         Some(i) => match rela_fault(file, table, count, i) {
             Some(k) => Err(ElfError::RelaShape(i, k)),
             None => Ok(()),
@@ -90,7 +96,12 @@ pub fn check_rela_shape(file: &Parts) -> Result<(), ElfError>
 }
 
 #[tactic(auto, unfolding(qed_model::specs::ElfFile::relas_of))]
-fn append_relas(file: &Parts, table: Option<u64>, out: &mut Vec<Rela>, i: u64) -> Result<(), AllocError>
+fn append_relas(
+    file: &Parts,
+    table: Option<u64>,
+    out: &mut Vec<Rela>,
+    i: u64,
+) -> Result<(), AllocError>
     requires below { i < e_shnum file.now }
     requires symbols { table ≡ symbol_table file.now }
     ensures { OnOk result (out.new.items ≡ out.old.items ++ relas_of file.now (section_header file.now i)) }

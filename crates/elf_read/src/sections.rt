@@ -46,7 +46,10 @@ pub fn check_section_shape(file: &Parts) -> Result<(), ElfError>
     ensures { result ≡ section_shape_rule file.now }
 {
     let strings = section_strings(file);
-    match first_of(file.tables().shnum(), &|i| is_section_misshapen(file, &strings, i)) {
+    match first_of(
+        file.tables().shnum(),
+        &|i| is_section_misshapen(file, &strings, i),
+    ) {
         Some(i) => Err(ElfError::SectionShape(i)),
         None => Ok(()),
     }

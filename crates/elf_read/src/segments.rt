@@ -43,7 +43,10 @@ fn overlapped(file: &Parts, i: u64) -> Option<u64>
     ensures { result ≡ overlapped file.now i }
 {
     let p = file.program(i);
-    first_of(file.tables().phnum(), &|j| i < j && do_overlap(p, file.program(j)))
+    first_of(
+        file.tables().phnum(),
+        &|j| i < j && do_overlap(p, file.program(j)),
+    )
 }
 
 /// Whether no two segments share a byte of memory.

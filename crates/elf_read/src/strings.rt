@@ -39,10 +39,14 @@ impl<'a> Strings<'a> {
     pub fn new(bytes: &'a [u8]) -> Strings<'a>
         ensures { result ≡ bytes.now }
     {
-        Strings { bytes, end: zeros_end(bytes) }
+        Strings {
+            bytes,
+            end: zeros_end(bytes),
+        }
     }
 
     /// Whether a name has no end. This takes the same time for each name.
+    #[tactic(auto, using(crate::proofs::LastZero::unended_past))]
     pub fn is_unended(&self, place: u32) -> bool
         ensures { result ≡ is_unended self.now place }
     {

@@ -53,7 +53,10 @@ fn check_symbols(file: &Parts, i: u64) -> Result<(), ElfError>
     }
     let strings = Strings::new(file.section_bytes(linked));
     let table = file.section_bytes(s);
-    match first_of(s.size / 24, &|j| j > 0 && strings.is_unended(entry_at(table, j).name)) {
+    match first_of(
+        s.size / 24,
+        &|j| j > 0 && strings.is_unended(entry_at(table, j).name),
+    ) {
         Some(j) => Err(ElfError::SymbolShape(j)),
         None => Ok(()),
     }

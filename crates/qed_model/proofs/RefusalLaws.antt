@@ -1,5 +1,5 @@
 -- What a refusal says of a file: the fault that it names is there.
-use Rattle.std.proofs.Common.{◌≡◌, ◌≢◌, ◌⊎◌, ℕ, zero, suc, ◌+◌, ◌-◌, ◌*◌, ◌/◌, ◌^◌, ◌<◌, ◌≤◌, ◌&&◌, ◌||◌, not, min, Bool, true, false, cond, ltb, leb, eqb, length, List, [], ◌∷◌, Option, Some, None, Result, Ok, Err, refl, sym, ap, subst, ◌∙◌, inl, inr, arith}
+use Rattle.std.proofs.Common.{◌≡◌, ◌≢◌, ◌⊎◌, ℕ, ◌-◌, ◌/◌, ◌^◌, ◌<◌, ◌≤◌, ◌&&◌, ◌||◌, not, min, Bool, true, false, cond, ltb, leb, eqb, length, List, [], ◌∷◌, Option, Some, None, Ok, Err, refl, subst, inl, inr, arith}
 use Rattle.std.specs.Option.{is_some}
 use Rattle.std.proofs.lemmas.Bool.Decides.{nat_tests}
 use Rattle.elf_types.specs.declared.error.ElfError.{ElfError}
@@ -8,10 +8,10 @@ use Rattle.elf_types.specs.declared.error.Part.TheVariants as part
 use Rattle.elf_types.specs.declared.records.SectionHeader.{SectionHeader}
 use Rattle.qed_model.specs.Below.{first, IsFirstBelow}
 use Rattle.qed_model.specs.Numbers.{field}
-use Rattle.qed_model.specs.Plain.{HasMagic, e_type, e_machine, e_version, e_ehsize, e_phentsize, e_phoff, e_shoff, e_phnum, e_shnum}
+use Rattle.qed_model.specs.Plain.{e_type, e_machine, e_version, e_ehsize, e_phentsize, e_shoff, e_phnum, e_shnum}
 use Rattle.qed_model.specs.ElfFields.{HasTables, e_class, e_encoding, e_ident_version, e_shentsize, e_shstrndx, program_header, section_header, rela_entry}
-use Rattle.qed_model.specs.ElfRules.{Check, refuse, refuse_found, refuse_found_at, first_refusal, HasParts, is_segment_outside, is_section_outside, segment_place_rule, section_place_rule, magic_rule, header_rule, class_rule, encoding_rule, version_rule, file_type_rule, machine_rule, has_header_shape, header_shape_rule, header_rules, program_table_rule, section_table_rule, is_misshapen, segment_shape_rule, do_overlap, overlapped, segment_overlap_rule, is_section_misshapen, section_shape_rule, has_entries, has_strings, is_misnamed, symbol_table, symbols_rule, rule_at, symbol_shape_rule, is_counted, symbol_count, section_bytes, rela_fault, rela_shape_rule, counted_bytes, section_count_rule, byte_count_rule, table_rules, part_rules, verdict}
-use Rattle.qed_model.specs.ElfRefusals.{HasHeaderShape, IsFirstOverlap, IsFirstSymbolFault, IsFirstRelaFault, HasFault, IsRefused}
+use Rattle.qed_model.specs.ElfRules.{Check, refuse, refuse_found, refuse_found_at, first_refusal, HasParts, is_segment_outside, is_section_outside, segment_place_rule, section_place_rule, magic_rule, header_rule, class_rule, encoding_rule, version_rule, file_type_rule, machine_rule, header_shape_rule, header_rules, program_table_rule, section_table_rule, is_misshapen, segment_shape_rule, do_overlap, overlapped, segment_overlap_rule, is_section_misshapen, section_shape_rule, has_entries, has_strings, is_misnamed, symbol_table, symbols_rule, rule_at, symbol_shape_rule, is_counted, symbol_count, section_bytes, rela_fault, rela_shape_rule, counted_bytes, section_count_rule, byte_count_rule, table_rules, part_rules, verdict}
+use Rattle.qed_model.specs.ElfRefusals.{HasFault, IsRefused}
 use Rattle.qed_model.proofs.BelowLaws.{each_fails, first_least}
 
 none_found : (e : ℕ → ElfError) (o : Option ℕ) → refuse_found e o ≡ Ok tt → o ≡ None
@@ -165,10 +165,10 @@ segment_overlap_says file = found_at_says file error.SegmentOverlap (overlapped 
     record {
       pair = first_least (e_phnum file) (λ k. ltb i k && do_overlap (program_header file i) (program_header file k)) j two;
       least = λ h k hi hk lt.
-        let none = none_of (overlapped file h) (least.least h hi) in
-        let both = each_fails (e_phnum file) (λ q. ltb h q && do_overlap (program_header file h) (program_header file q)) none k lt in
-        let so : ltb h k ≡ true = grind (arith, nat_tests) in
-        rw so at both;
+          let none = none_of (overlapped file h) (least.least h hi) in
+          let both = each_fails (e_phnum file) (λ q. ltb h q && do_overlap (program_header file h) (program_header file q)) none k lt in
+          let so : ltb h k ≡ true = grind (arith, nat_tests) in
+          rw so at both;
     })
 
 section_shape_says : (file : List ℕ) → Says file (section_shape_rule file)

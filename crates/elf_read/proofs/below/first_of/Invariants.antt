@@ -1,4 +1,4 @@
-use Rattle.std.proofs.Common.{◌≡◌, ◌<◌, ℕ, false}
+use Rattle.std.proofs.Common.{◌<◌, ℕ, false}
 use Rattle.elf_read.proofs.below.first_of.Given as goal
 
 abbrev pub invariant-loop-i : goal.invariant-loop-i
