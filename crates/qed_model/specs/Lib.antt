@@ -1,5 +1,6 @@
 pub mod Table
 pub mod Numbers
+pub mod Below
 pub mod Placed
 pub mod Memory
 pub mod Values
@@ -13,6 +14,10 @@ pub mod Sequences
 pub mod Plain
 pub mod Loaded
 pub mod LoadedFile
+pub mod ElfFields
+pub mod ElfRules
+pub mod ElfRefusals
+pub mod ElfFile
 pub mod Written
 pub mod Woven
 pub mod Bounds

@@ -1,0 +1,8 @@
+use Rattle.std.proofs.Common.{◌≡◌}
+use Rattle.qed_model.specs.Below.{gather}
+use Rattle.qed_model.specs.ElfFields.{section_header}
+use Rattle.qed_model.specs.ElfFile.{relas_of}
+use Rattle.elf_read.proofs.relas.relas.Given as goal
+
+abbrev pub invariant-loop-i : goal.invariant-loop-i
+invariant-loop-i l = l.out.items ≡ gather l.i (λ i. relas_of l.file (section_header l.file i))

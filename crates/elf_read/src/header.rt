@@ -1,0 +1,131 @@
+// The rules on the header.
+ghost use Rattle.std.specs.Prelude.{◌≡◌, ◌≤◌, ◌<◌, length, OnOk};
+ghost use Rattle.qed_model.specs.Plain.{e_shnum};
+ghost use Rattle.qed_model.specs.ElfFields.{e_shstrndx};
+ghost use Rattle.qed_model.specs.ElfRules.{magic_rule, header_rule, class_rule, encoding_rule, version_rule, file_type_rule, machine_rule, header_shape_rule, header_rules};
+
+use crate::fields::{u16_at, u32_at, u64_at};
+use elf_types::{ElfError, Part};
+
+#[tactic(auto, unfolding(qed_model::specs::ElfRules::magic_rule))]
+fn check_magic(bytes: &[u8]) -> Result<(), ElfError>
+    ensures { result ≡ magic_rule bytes.now }
+{
+    if bytes.len() < 4 || u32_at(bytes, 0) != 0x464c_457f {
+        return Err(ElfError::Magic);
+    }
+    Ok(())
+}
+
+#[tactic(auto, unfolding(qed_model::specs::ElfRules::header_rule))]
+fn check_room(bytes: &[u8]) -> Result<(), ElfError>
+    ensures gives { result ≡ header_rule bytes.now }
+    ensures room { OnOk result (64 ≤ length bytes.now) }
+{
+    if bytes.len() < 64 {
+        return Err(ElfError::OutOfFile(Part::Header));
+    }
+    Ok(())
+}
+
+#[tactic(auto, unfolding(qed_model::specs::ElfRules::class_rule))]
+fn check_class(bytes: &[u8]) -> Result<(), ElfError>
+    requires { 64 ≤ length bytes.now }
+    ensures { result ≡ class_rule bytes.now }
+{
+    let class = bytes[4];
+    if class != 2 {
+        return Err(ElfError::Class(class));
+    }
+    Ok(())
+}
+
+#[tactic(auto, unfolding(qed_model::specs::ElfRules::encoding_rule))]
+fn check_encoding(bytes: &[u8]) -> Result<(), ElfError>
+    requires { 64 ≤ length bytes.now }
+    ensures { result ≡ encoding_rule bytes.now }
+{
+    let encoding = bytes[5];
+    if encoding != 1 {
+        return Err(ElfError::Encoding(encoding));
+    }
+    Ok(())
+}
+
+#[tactic(auto, unfolding(qed_model::specs::ElfRules::version_rule))]
+fn check_version(bytes: &[u8]) -> Result<(), ElfError>
+    requires { 64 ≤ length bytes.now }
+    ensures { result ≡ version_rule bytes.now }
+{
+    let ident = bytes[6];
+    if ident != 1 {
+        return Err(ElfError::Version(u32::from(ident)));
+    }
+    let version = u32_at(bytes, 20);
+    if version != 1 {
+        return Err(ElfError::Version(version));
+    }
+    Ok(())
+}
+
+#[tactic(auto, unfolding(qed_model::specs::ElfRules::file_type_rule))]
+fn check_file_type(bytes: &[u8]) -> Result<(), ElfError>
+    requires { 64 ≤ length bytes.now }
+    ensures { result ≡ file_type_rule bytes.now }
+{
+    let kind = u16_at(bytes, 16);
+    if kind != 2 {
+        return Err(ElfError::FileType(kind));
+    }
+    Ok(())
+}
+
+#[tactic(auto, unfolding(qed_model::specs::ElfRules::machine_rule))]
+fn check_machine(bytes: &[u8]) -> Result<(), ElfError>
+    requires { 64 ≤ length bytes.now }
+    ensures { result ≡ machine_rule bytes.now }
+{
+    let machine = u16_at(bytes, 18);
+    if machine != 243 {
+        return Err(ElfError::Machine(machine));
+    }
+    Ok(())
+}
+
+#[tactic(auto, unfolding(qed_model::specs::ElfRules::header_shape_rule))]
+fn check_shape(bytes: &[u8]) -> Result<(), ElfError>
+    requires { 64 ≤ length bytes.now }
+    ensures gives { result ≡ header_shape_rule bytes.now }
+    ensures names { OnOk result (0 < e_shnum bytes.now → e_shstrndx bytes.now < e_shnum bytes.now) }
+{
+    let phnum = u16_at(bytes, 56);
+    let shnum = u16_at(bytes, 60);
+    let holds = u16_at(bytes, 52) == 64
+        && (phnum == 0 || u16_at(bytes, 54) == 56)
+        && (shnum == 0 || u16_at(bytes, 58) == 64)
+        && phnum != 0xffff
+        && (shnum > 0 || u64_at(bytes, 40) == 0)
+        && (shnum == 0 || u16_at(bytes, 62) < shnum);
+    if !holds {
+        return Err(ElfError::HeaderShape);
+    }
+    Ok(())
+}
+
+/// All rules on the header, in order.
+#[tactic(auto, unfolding(qed_model::specs::ElfRules::header_rules))]
+pub fn check_header(bytes: &[u8]) -> Result<(), ElfError>
+    ensures gives { result ≡ header_rules bytes.now }
+    ensures room { OnOk result (64 ≤ length bytes.now) }
+    ensures names { OnOk result (0 < e_shnum bytes.now → e_shstrndx bytes.now < e_shnum bytes.now) }
+{
+    check_magic(bytes)?;
+    check_room(bytes)?;
+    check_class(bytes)?;
+    check_encoding(bytes)?;
+    check_version(bytes)?;
+    check_file_type(bytes)?;
+    check_machine(bytes)?;
+    check_shape(bytes)?;
+    Ok(())
+}

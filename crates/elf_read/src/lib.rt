@@ -1,0 +1,18 @@
+//! Reads ELF64 executables for RISC-V. A file is taken where no rule refuses it; otherwise the first rule that does is named,
+//! with its place. All rules are tested before anything is copied, and the tests take no memory.
+#![tactic(auto)]
+
+mod below;
+mod fields;
+mod header;
+mod limits;
+mod parts;
+mod read;
+mod relas;
+mod sections;
+mod segments;
+mod strings;
+mod symbols;
+mod tables;
+
+pub use read::read_elf;

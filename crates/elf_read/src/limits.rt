@@ -1,0 +1,79 @@
+// The limits on a file.
+ghost use Rattle.std.specs.Prelude.{◌≡◌, ◌<◌, ◌^◌, IfSome};
+ghost use Rattle.qed_model.specs.Plain.{e_shnum};
+ghost use Rattle.qed_model.specs.ElfFields.{section_header};
+ghost use Rattle.qed_model.specs.ElfRules.{symbol_table, section_count_rule, symbol_name_bytes, counted_bytes, byte_count_rule};
+
+use crate::below::sum_of;
+use crate::parts::Parts;
+use crate::sections::{section_name, section_strings};
+use crate::segments::file_size;
+use crate::symbols::{symbol_name, symbol_strings, symbol_table};
+use elf_types::ElfError;
+
+/// The greatest number of sections.
+const MOST_SECTIONS: u64 = 4096;
+
+/// The greatest number of bytes of segments and names.
+const MOST_BYTES: u128 = 1_073_741_824;
+
+/// Whether there are few enough sections.
+#[tactic(auto, unfolding(qed_model::specs::ElfRules::section_count_rule))]
+pub fn check_section_count(file: &Parts) -> Result<(), ElfError>
+    ensures { result ≡ section_count_rule file.now }
+{
+    let count = file.tables().shnum();
+    if count > MOST_SECTIONS {
+        return Err(ElfError::TooManySections(count));
+    }
+    Ok(())
+}
+
+// The bytes of the symbols' names.
+fn symbol_name_bytes(file: &Parts) -> u128
+    requires { IfSome (symbol_table file.now) (λ i. (section_header file.now i).link < e_shnum file.now) }
+    ensures gives { result ≡ symbol_name_bytes file.now (symbol_table file.now) }
+    ensures small { result < 2 ^ 126 }
+{
+    match symbol_table(file) {
+        None => 0,
+        Some(i) => {
+            let strings = symbol_strings(file, i);
+            let size = file.section(i).size;
+            sum_of(
+                size / 24,
+                &|j| symbol_name(file, &strings, i, j).len() as u64,
+            )
+        }
+    }
+}
+
+// The bytes of segments and names.
+#[tactic(auto, unfolding(qed_model::specs::ElfRules::counted_bytes))]
+fn counted_bytes(file: &Parts) -> u128
+    requires { IfSome (symbol_table file.now) (λ i. (section_header file.now i).link < e_shnum file.now) }
+    ensures { result ≡ counted_bytes file.now }
+{
+    let strings = section_strings(file);
+    let segments = sum_of(file.tables().phnum(), &|i| file_size(file.program(i)));
+    let sections = sum_of(
+        file.tables().shnum(),
+        &|i| section_name(file, &strings, i).len() as u64,
+    );
+    let symbols = symbol_name_bytes(file);
+    segments + sections + symbols
+}
+
+/// Whether there are few enough bytes of segments and names.
+#[tactic(auto, unfolding(qed_model::specs::ElfRules::byte_count_rule))]
+pub fn check_byte_count(file: &Parts) -> Result<(), ElfError>
+    requires { IfSome (symbol_table file.now) (λ i. (section_header file.now i).link < e_shnum file.now) }
+    ensures { result ≡ byte_count_rule file.now }
+{
+    let count = counted_bytes(file);
+    if count > MOST_BYTES {
+        let most = u128::from(u64::MAX);
+        return Err(ElfError::TooManyBytes(count.min(most) as u64));
+    }
+    Ok(())
+}

@@ -1,0 +1,93 @@
+// A file whose parts lie in it.
+ghost use Rattle.std.specs.Prelude.{◌≡◌, ◌≢◌, ◌<◌, false, length, List, ℕ, Ok, Err, IfOk, IfErr, OnOk};
+ghost use Rattle.qed_model.specs.Plain.{e_phnum, e_shnum};
+ghost use Rattle.qed_model.specs.ElfFields.{program_header, section_header};
+ghost use Rattle.qed_model.specs.ElfRules.{HasParts, part_rules, is_segment_outside, is_section_outside, section_bytes};
+ghost use Rattle.qed_model.specs.ElfFile.{load_bytes};
+
+use crate::tables::Tables;
+use elf_types::{ElfError, ProgramHeader, SectionHeader};
+use std::marker::Model;
+
+/// The bytes of a file whose parts lie in it.
+#[derive(Drop)]
+pub struct Parts<'a> {
+    tables: Tables<'a>,
+}
+
+impl<'a> Model for Parts<'a> {
+    ghost Value = { List ℕ };
+
+    ghost view = { λ p. p.tables };
+
+    ghost invariant = { λ p. HasParts p.tables };
+}
+
+impl<'a> Parts<'a> {
+    /// The file, where header, tables, segments and sections lie in it.
+    #[tactic(auto, unfolding(qed_model::specs::ElfRules::part_rules), using(qed_model::proofs::RefusalLaws::are_inside))]
+    pub fn new(bytes: &'a [u8]) -> Result<Parts<'a>, ElfError>
+        ensures same { IfOk result (λ p. p ≡ bytes.now) }
+        ensures accepted { OnOk result (part_rules bytes.now ≡ Ok tt) }
+        ensures refused { IfErr result (λ e. part_rules bytes.now ≡ Err e) }
+    {
+        let tables = Tables::new(bytes)?;
+        tables.check_segments()?;
+        tables.check_sections()?;
+        Ok(Parts { tables })
+    }
+
+    /// The header and the tables.
+    pub fn tables(&self) -> &Tables<'a>
+        ensures { result.now ≡ self.now }
+    {
+        &self.tables
+    }
+
+    /// A program header, whose segment lies in the file.
+    pub fn program(&self, i: u64) -> ProgramHeader
+        requires { i < e_phnum self.now }
+        ensures gives { result ≡ program_header self.now i }
+        ensures inside { is_segment_outside self.now result ≡ false }
+    {
+        self.tables.program(i)
+    }
+
+    /// A section header, whose section lies in the file.
+    pub fn section(&self, i: u64) -> SectionHeader
+        requires { i < e_shnum self.now }
+        ensures gives { result ≡ section_header self.now i }
+        ensures inside { is_section_outside self.now result ≡ false }
+    {
+        self.tables.section(i)
+    }
+
+    /// The bytes of a segment; where it is not PT_LOAD there are none.
+    #[tactic(auto, unfolding(qed_model::specs::ElfFile::load_bytes, qed_model::specs::ElfRules::is_segment_outside))]
+    pub fn load_bytes(&self, p: ProgramHeader) -> &'a [u8]
+        requires { is_segment_outside self.now p ≡ false }
+        ensures { result.now ≡ load_bytes self.now p }
+    {
+        if p.kind != 1 || p.filesz == 0 {
+            return &[];
+        }
+        let start = p.offset as usize;
+        let bytes = self.tables.bytes();
+        &bytes[start..start + p.filesz as usize]
+    }
+
+    /// The bytes of a section; where its type is SHT_NULL or SHT_NOBITS there are none.
+    #[tactic(auto, unfolding(qed_model::specs::ElfRules::section_bytes, qed_model::specs::ElfRules::is_section_outside))]
+    pub fn section_bytes(&self, s: SectionHeader) -> &'a [u8]
+        requires { is_section_outside self.now s ≡ false }
+        ensures gives { result.now ≡ section_bytes self.now s }
+        ensures whole { s.kind ≢ 0 → s.kind ≢ 8 → length result.now ≡ s.size }
+    {
+        if s.kind == 0 || s.kind == 8 || s.size == 0 {
+            return &[];
+        }
+        let start = s.offset as usize;
+        let bytes = self.tables.bytes();
+        &bytes[start..start + s.size as usize]
+    }
+}

@@ -1,0 +1,181 @@
+// The file that bytes are.
+ghost use Rattle.std.specs.Prelude.{◌≡◌, ◌<◌, ◌/◌, ◌⊎◌, length, List, ℕ, Ok, Err, Some, IfOk, IfErr, IfSome, OnOk};
+ghost use Rattle.elf_types.specs.declared.error.ElfError.TheVariants as error;
+ghost use Rattle.qed_model.specs.Below.{each, gather};
+ghost use Rattle.qed_model.specs.Plain.{e_phnum, e_shnum};
+ghost use Rattle.qed_model.specs.ElfFields.{section_header};
+ghost use Rattle.qed_model.specs.ElfRules.{section_strings, strings_of, symbol_table, verdict};
+ghost use Rattle.qed_model.specs.ElfFile.{File, segment_of, section_of, symbol_of, symbols_at, relas_of};
+ghost use Rattle.qed_model.specs.ElfRefusals.{IsRefused};
+ghost use Rattle.elf_read.specs.Sound.{HasLinks};
+
+use crate::below::list_of;
+use crate::limits::{check_byte_count, check_section_count};
+use crate::parts::Parts;
+use crate::relas::{check_rela_shape, relas};
+use crate::sections::{check_section_shape, section_name, section_strings};
+use crate::segments::{check_segment_overlap, check_segment_shape};
+use crate::strings::Strings;
+use crate::symbols::{check_symbol_shape, symbol_entry, symbol_name, symbol_strings, symbol_table};
+use elf_types::{Bytes, ElfError, ElfFile, Listed, Section, Segment, Symbol};
+use std::alloc::{AllocError, Global};
+use std::marker::Model;
+
+/// The bytes of a file that no rule refuses.
+#[derive(Drop)]
+struct Sound<'a> {
+    parts: Parts<'a>,
+}
+
+impl<'a> Model for Sound<'a> {
+    ghost Value = { List ℕ };
+
+    ghost view = { λ s. s.parts };
+
+    ghost invariant = { λ s. HasLinks s.parts };
+}
+
+#[tactic(auto, unfolding(qed_model::specs::ElfFile::section_of))]
+fn section(file: &Parts, strings: &Strings, alloc: Global, i: u64) -> Result<Section, AllocError>
+    requires below { i < e_shnum file.now }
+    requires names { strings.now ≡ section_strings file.now }
+    ensures { IfOk result (λ x. x ≡ section_of file.now i) }
+{
+    let s = file.section(i);
+    Ok(Section {
+        name: Bytes::copied(alloc, section_name(file, strings, i))?,
+        kind: s.kind,
+        flags: s.flags,
+        address: s.addr,
+        size: s.size,
+    })
+}
+
+#[tactic(auto, unfolding(qed_model::specs::ElfFile::segment_of))]
+fn segment(file: &Parts, alloc: Global, i: u64) -> Result<Segment, AllocError>
+    requires { i < e_phnum file.now }
+    ensures { IfOk result (λ x. x ≡ segment_of file.now i) }
+{
+    let p = file.program(i);
+    Ok(Segment {
+        kind: p.kind,
+        flags: p.flags,
+        address: p.vaddr,
+        memory: p.memsz,
+        bytes: Bytes::copied(alloc, file.load_bytes(p))?,
+    })
+}
+
+#[tactic(auto, unfolding(qed_model::specs::ElfFile::symbol_of))]
+fn symbol(
+    file: &Parts,
+    strings: &Strings,
+    alloc: Global,
+    i: u64,
+    j: u64,
+) -> Result<Symbol, AllocError>
+    requires below { i < e_shnum file.now }
+    requires kind { (section_header file.now i).kind ≡ 2 }
+    requires names { strings.now ≡ strings_of file.now (section_header file.now i) }
+    requires entry { j < (section_header file.now i).size / 24 }
+    ensures { IfOk result (λ x. x ≡ symbol_of file.now (section_header file.now i) j) }
+{
+    let e = symbol_entry(file, i, j);
+    Ok(Symbol {
+        name: Bytes::copied(alloc, symbol_name(file, strings, i, j))?,
+        value: e.value,
+        size: e.size,
+        kind: e.info % 16,
+        binding: e.info / 16,
+        other: e.other,
+        index: e.index,
+    })
+}
+
+impl<'a> Sound<'a> {
+    /// The file, where no rule refuses it.
+    #[tactic(auto, unfolding(qed_model::specs::ElfRules::verdict))]
+    fn new(bytes: &'a [u8]) -> Result<Sound<'a>, ElfError>
+        ensures same { IfOk result (λ s. s ≡ bytes.now) }
+        ensures accepted { OnOk result (verdict bytes.now ≡ Ok tt) }
+        ensures refused { IfErr result (λ e. verdict bytes.now ≡ Err e) }
+    {
+        let parts = Parts::new(bytes)?;
+        check_segment_shape(&parts)?;
+        check_segment_overlap(&parts)?;
+        check_section_shape(&parts)?;
+        check_symbol_shape(&parts)?;
+        check_rela_shape(&parts)?;
+        check_section_count(&parts)?;
+        check_byte_count(&parts)?;
+        Ok(Sound { parts })
+    }
+
+    fn segments(&self, alloc: Global) -> Result<Vec<Segment>, AllocError>
+        ensures { IfOk result (λ v. v.items ≡ each (e_phnum self.now) (segment_of self.now)) }
+    {
+        list_of(
+            alloc,
+            self.parts.tables().phnum(),
+            &|i| segment(&self.parts, alloc, i),
+        )
+    }
+
+    fn sections(&self, alloc: Global) -> Result<Vec<Section>, AllocError>
+        ensures { IfOk result (λ v. v.items ≡ each (e_shnum self.now) (section_of self.now)) }
+    {
+        let strings = section_strings(&self.parts);
+        list_of(
+            alloc,
+            self.parts.tables().shnum(),
+            &|i| section(&self.parts, &strings, alloc, i),
+        )
+    }
+
+    fn symbols(&self, alloc: Global) -> Result<Vec<Symbol>, AllocError>
+        ensures { IfOk result (λ v. v.items ≡ symbols_at self.now (symbol_table self.now)) }
+    {
+        match symbol_table(&self.parts) {
+            None => Ok(Vec::new(alloc)),
+            Some(i) => {
+                let strings = symbol_strings(&self.parts, i);
+                let size = self.parts.section(i).size;
+                list_of(
+                    alloc,
+                    size / 24,
+                    &|j| symbol(&self.parts, &strings, alloc, i, j),
+                )
+            }
+        }
+    }
+
+    fn file(&self, alloc: Global) -> Result<ElfFile, AllocError>
+        requires { verdict self.now ≡ Ok tt }
+        ensures { IfOk result (λ f. File self.now f) }
+    {
+        Ok(ElfFile {
+            entry: self.parts.tables().entry(),
+            flags: self.parts.tables().flags(),
+            segments: Listed::of(self.segments(alloc)?),
+            sections: Listed::of(self.sections(alloc)?),
+            symbols: Listed::of(self.symbols(alloc)?),
+            relas: Listed::of(relas(&self.parts, alloc)?),
+        })
+    }
+}
+
+/// The file that bytes are (ELF gABI, RISC-V ELF psABI), or the first rule that refuses them. The rules are those of
+/// `ElfError`, in its order, each over the whole file before the next. A refusal takes no memory.
+///
+/// # Errors
+///
+/// `Memory` where no rule refuses the bytes, and there is no memory for the copy. Each other error comes exactly where
+/// it is the first that holds.
+#[tactic(auto, using(qed_model::proofs::RefusalLaws::refused))]
+pub fn read_elf(alloc: Global, bytes: &[u8]) -> Result<ElfFile, ElfError>
+    ensures read { IfOk result (λ f. File bytes.now f) }
+    ensures refused { IfErr result (λ e. IsRefused bytes.now e ⊎ ((e ≡ error.Memory) × (verdict bytes.now ≡ Ok tt))) }
+{
+    let sound = Sound::new(bytes)?;
+    Ok(sound.file(alloc)?)
+}

@@ -1,0 +1,129 @@
+// The rule on relocations, and the relocations.
+ghost use Rattle.std.specs.Prelude.{◌≡◌, ◌<◌, ◌+◌, ◌*◌, ◌≤◌, ◌++◌, length, IfOk, OnOk};
+ghost use Rattle.qed_model.specs.Below.{gather};
+ghost use Rattle.qed_model.specs.Plain.{e_shnum};
+ghost use Rattle.qed_model.specs.ElfFields.{section_header, rela_entry};
+ghost use Rattle.qed_model.specs.ElfRules.{symbol_table, symbol_count, is_counted, rela_fault, rela_shape_rule};
+ghost use Rattle.qed_model.specs.ElfFile.{relas_of};
+
+use crate::below::first_of;
+use crate::fields::u64_at;
+use crate::parts::Parts;
+use crate::symbols::symbol_table;
+use elf_types::{ElfError, Rela, SectionHeader};
+use std::alloc::{AllocError, Global};
+
+#[tactic(auto, unfolding(qed_model::specs::ElfFields::rela_entry))]
+fn rela_at(table: &[u8], k: u64) -> Rela
+    requires { 24 * k + 24 ≤ length table.now }
+    ensures { result ≡ rela_entry table.now k }
+{
+    let at = 24 * k as usize;
+    let info = u64_at(table, at + 8);
+    Rela {
+        place: u64_at(table, at),
+        kind: (info % (1 << 32)) as u32,
+        symbol: (info / (1 << 32)) as u32,
+        addend: u64_at(table, at + 16).cast_signed(),
+    }
+}
+
+// Whether the entries of a section are read: relocations of a section in memory, against the symbol table.
+fn is_counted(file: &Parts, table: Option<u64>, s: SectionHeader) -> bool
+    requires { table ≡ symbol_table file.now }
+    ensures { result ≡ is_counted file.now s }
+{
+    if s.kind != 4 || u64::from(s.info) >= file.tables().shnum() {
+        return false;
+    }
+    if file.section(u64::from(s.info)).flags / 2 % 2 != 1 {
+        return false;
+    }
+    match table {
+        Some(i) => i == u64::from(s.link),
+        None => false,
+    }
+}
+
+#[tactic(auto, unfolding(qed_model::specs::ElfRules::symbol_count))]
+fn symbol_count(file: &Parts) -> u64
+    ensures { result ≡ symbol_count file.now }
+{
+    match symbol_table(file) {
+        Some(i) => file.section(i).size / 24,
+        None => 0,
+    }
+}
+
+#[tactic(auto, unfolding(qed_model::specs::ElfRules::rela_fault))]
+fn rela_fault(file: &Parts, table: Option<u64>, count: u64, i: u64) -> Option<u64>
+    requires below { i < e_shnum file.now }
+    requires symbols { table ≡ symbol_table file.now }
+    requires count { count ≡ symbol_count file.now }
+    ensures { result ≡ rela_fault file.now (section_header file.now i) }
+{
+    let s = file.section(i);
+    if !is_counted(file, table, s) {
+        return None;
+    }
+    if s.entsize != 24 || s.size % 24 != 0 {
+        return Some(0);
+    }
+    let entries = file.section_bytes(s);
+    first_of(
+        s.size / 24,
+        &|k| u64::from(rela_at(entries, k).symbol) >= count,
+    )
+}
+
+/// Whether each counted section of relocations has entries, and each of these a symbol.
+#[tactic(auto, unfolding(qed_model::specs::ElfRules::rela_shape_rule))]
+pub fn check_rela_shape(file: &Parts) -> Result<(), ElfError>
+    ensures { result ≡ rela_shape_rule file.now }
+{
+    let table = symbol_table(file);
+    let count = symbol_count(file);
+    match first_of(
+        file.tables().shnum(),
+        &|i| rela_fault(file, table, count, i).is_some(),
+    ) {
+        Some(i) => match rela_fault(file, table, count, i) {
+            Some(k) => Err(ElfError::RelaShape(i, k)),
+            None => Ok(()),
+        },
+        None => Ok(()),
+    }
+}
+
+#[tactic(auto, unfolding(qed_model::specs::ElfFile::relas_of))]
+fn append_relas(
+    file: &Parts,
+    table: Option<u64>,
+    out: &mut Vec<Rela>,
+    i: u64,
+) -> Result<(), AllocError>
+    requires below { i < e_shnum file.now }
+    requires symbols { table ≡ symbol_table file.now }
+    ensures { OnOk result (out.new.items ≡ out.old.items ++ relas_of file.now (section_header file.now i)) }
+{
+    let s = file.section(i);
+    if is_counted(file, table, s) {
+        let entries = file.section_bytes(s);
+        for k in 0..s.size / 24 {
+            out.push(rela_at(entries, k))?;
+        }
+    }
+    Ok(())
+}
+
+/// The relocations of the counted sections, in order.
+pub fn relas(file: &Parts, alloc: Global) -> Result<Vec<Rela>, AllocError>
+    ensures { IfOk result (λ v. v.items ≡ gather (e_shnum file.now) (λ i. relas_of file.now (section_header file.now i))) }
+{
+    let table = symbol_table(file);
+    let mut out = Vec::new(alloc);
+    for i in 0..file.tables().shnum() {
+        append_relas(file, table, &mut out, i)?;
+    }
+    Ok(out)
+}

@@ -1,0 +1,71 @@
+// The rules on segments.
+ghost use Rattle.std.specs.Prelude.{◌≡◌, ◌<◌};
+ghost use Rattle.qed_model.specs.Plain.{e_phnum};
+ghost use Rattle.qed_model.specs.ElfRules.{is_misshapen, segment_shape_rule, do_overlap, overlapped, segment_overlap_rule, file_size};
+
+use crate::below::first_of;
+use crate::parts::Parts;
+use elf_types::{ElfError, ProgramHeader};
+
+#[tactic(auto, unfolding(qed_model::specs::ElfRules::is_misshapen))]
+fn is_misshapen(p: ProgramHeader) -> bool
+    ensures { result ≡ is_misshapen p }
+{
+    p.kind == 1 && (p.filesz > p.memsz || u128::from(p.vaddr) + u128::from(p.memsz) > 1 << 64)
+}
+
+/// Whether each segment has no more bytes in the file than in memory, and ends at 2^64 or before.
+#[tactic(auto, unfolding(qed_model::specs::ElfRules::segment_shape_rule))]
+pub fn check_segment_shape(file: &Parts) -> Result<(), ElfError>
+    ensures { result ≡ segment_shape_rule file.now }
+{
+    match first_of(file.tables().phnum(), &|i| is_misshapen(file.program(i))) {
+        Some(i) => Err(ElfError::SegmentShape(i)),
+        None => Ok(()),
+    }
+}
+
+#[tactic(auto, unfolding(qed_model::specs::ElfRules::do_overlap))]
+fn do_overlap(p: ProgramHeader, q: ProgramHeader) -> bool
+    ensures { result ≡ do_overlap p q }
+{
+    p.kind == 1
+        && q.kind == 1
+        && p.memsz > 0
+        && q.memsz > 0
+        && u128::from(p.vaddr) < u128::from(q.vaddr) + u128::from(q.memsz)
+        && u128::from(q.vaddr) < u128::from(p.vaddr) + u128::from(p.memsz)
+}
+
+#[tactic(auto, unfolding(qed_model::specs::ElfRules::overlapped))]
+fn overlapped(file: &Parts, i: u64) -> Option<u64>
+    requires { i < e_phnum file.now }
+    ensures { result ≡ overlapped file.now i }
+{
+    let p = file.program(i);
+    first_of(
+        file.tables().phnum(),
+        &|j| i < j && do_overlap(p, file.program(j)),
+    )
+}
+
+/// Whether no two segments share a byte of memory.
+#[tactic(auto, unfolding(qed_model::specs::ElfRules::segment_overlap_rule))]
+pub fn check_segment_overlap(file: &Parts) -> Result<(), ElfError>
+    ensures { result ≡ segment_overlap_rule file.now }
+{
+    match first_of(file.tables().phnum(), &|i| overlapped(file, i).is_some()) {
+        Some(i) => match overlapped(file, i) {
+            Some(j) => Err(ElfError::SegmentOverlap(i, j)),
+            None => Ok(()),
+        },
+        None => Ok(()),
+    }
+}
+
+/// The bytes that a segment has in the file; where it is not PT_LOAD there are none.
+pub fn file_size(p: ProgramHeader) -> u64
+    ensures { result ≡ file_size p }
+{
+    if p.kind == 1 { p.filesz } else { 0 }
+}

@@ -1,0 +1,114 @@
+// The rule on symbols, and their table.
+ghost use Rattle.std.specs.Prelude.{◌≡◌, ◌<◌, ◌+◌, ◌*◌, ◌/◌, ◌≤◌, length, IfSome, OnOk};
+ghost use Rattle.qed_model.specs.Plain.{e_shnum};
+ghost use Rattle.qed_model.specs.ElfFields.{section_header, symbol_entry};
+ghost use Rattle.qed_model.specs.ElfRules.{symbol_table, section_bytes, strings_of, symbols_rule, symbol_shape_rule, symbol_name};
+
+use crate::below::first_of;
+use crate::fields::{u16_at, u32_at, u64_at};
+use crate::parts::Parts;
+use crate::strings::Strings;
+use elf_types::{ElfError, SymbolEntry};
+
+#[tactic(auto, unfolding(qed_model::specs::ElfFields::symbol_entry))]
+fn entry_at(table: &[u8], j: u64) -> SymbolEntry
+    requires { 24 * j + 24 ≤ length table.now }
+    ensures { result ≡ symbol_entry table.now j }
+{
+    let at = 24 * j as usize;
+    SymbolEntry {
+        name: u32_at(table, at),
+        info: table[at + 4],
+        other: table[at + 5],
+        index: u16_at(table, at + 6),
+        value: u64_at(table, at + 8),
+        size: u64_at(table, at + 16),
+    }
+}
+
+/// The number of the first symbol table.
+#[tactic(auto, unfolding(qed_model::specs::ElfRules::symbol_table))]
+pub fn symbol_table(file: &Parts) -> Option<u64>
+    ensures found { result ≡ symbol_table file.now }
+    ensures below { IfSome result (λ i. i < e_shnum file.now) }
+    ensures kind { IfSome result (λ i. (section_header file.now i).kind ≡ 2) }
+{
+    first_of(file.tables().shnum(), &|i| file.section(i).kind == 2)
+}
+
+#[tactic(auto, unfolding(qed_model::specs::ElfRules::symbols_rule, qed_model::specs::ElfRules::is_misnamed, qed_model::specs::ElfRules::strings_of))]
+fn check_symbols(file: &Parts, i: u64) -> Result<(), ElfError>
+    requires below { i < e_shnum file.now }
+    requires kind { (section_header file.now i).kind ≡ 2 }
+    ensures gives { result ≡ symbols_rule file.now (section_header file.now i) }
+    ensures links { OnOk result ((section_header file.now i).link < e_shnum file.now) }
+{
+    let s = file.section(i);
+    if s.entsize != 24 || s.size % 24 != 0 || u64::from(s.link) >= file.tables().shnum() {
+        return Err(ElfError::SymbolShape(0));
+    }
+    let linked = file.section(u64::from(s.link));
+    if linked.kind != 3 {
+        return Err(ElfError::SymbolShape(0));
+    }
+    let strings = Strings::new(file.section_bytes(linked));
+    let table = file.section_bytes(s);
+    match first_of(
+        s.size / 24,
+        &|j| j > 0 && strings.is_unended(entry_at(table, j).name),
+    ) {
+        Some(j) => Err(ElfError::SymbolShape(j)),
+        None => Ok(()),
+    }
+}
+
+/// Whether the first symbol table has entries and a string table, and each symbol a name.
+#[tactic(auto, unfolding(qed_model::specs::ElfRules::symbol_shape_rule))]
+pub fn check_symbol_shape(file: &Parts) -> Result<(), ElfError>
+    ensures gives { result ≡ symbol_shape_rule file.now }
+    ensures links { OnOk result (IfSome (symbol_table file.now) (λ i. (section_header file.now i).link < e_shnum file.now)) }
+{
+    match symbol_table(file) {
+        Some(i) => {
+            check_symbols(file, i)?;
+            Ok(())
+        }
+        None => Ok(()),
+    }
+}
+
+/// An entry of the symbol table at a number.
+pub fn symbol_entry(file: &Parts, i: u64, j: u64) -> SymbolEntry
+    requires below { i < e_shnum file.now }
+    requires kind { (section_header file.now i).kind ≡ 2 }
+    requires entry { j < (section_header file.now i).size / 24 }
+    ensures { result ≡ symbol_entry (section_bytes file.now (section_header file.now i)) j }
+{
+    entry_at(file.section_bytes(file.section(i)), j)
+}
+
+/// The string table of the symbol table at a number.
+#[tactic(auto, unfolding(qed_model::specs::ElfRules::strings_of))]
+pub fn symbol_strings<'a>(file: &Parts<'a>, i: u64) -> Strings<'a>
+    requires below { i < e_shnum file.now }
+    requires link { (section_header file.now i).link < e_shnum file.now }
+    ensures { result ≡ strings_of file.now (section_header file.now i) }
+{
+    let s = file.section(i);
+    Strings::new(file.section_bytes(file.section(u64::from(s.link))))
+}
+
+/// The name of a symbol of the table at a number; that of the null symbol is empty.
+#[tactic(auto, unfolding(qed_model::specs::ElfRules::symbol_name))]
+pub fn symbol_name<'a>(file: &Parts<'a>, strings: &Strings<'a>, i: u64, j: u64) -> &'a [u8]
+    requires below { i < e_shnum file.now }
+    requires kind { (section_header file.now i).kind ≡ 2 }
+    requires names { strings.now ≡ strings_of file.now (section_header file.now i) }
+    requires entry { j < (section_header file.now i).size / 24 }
+    ensures { result.now ≡ symbol_name file.now (section_header file.now i) j }
+{
+    if j == 0 {
+        return &[];
+    }
+    strings.name(symbol_entry(file, i, j).name)
+}

@@ -1,0 +1,168 @@
+// A file whose header and tables lie in it.
+ghost use Rattle.std.specs.Prelude.{◌≡◌, ◌<◌, List, ℕ, Ok, Err, IfOk, IfErr, OnOk};
+ghost use Rattle.qed_model.specs.Plain.{e_entry, e_flags, e_phnum, e_shnum};
+ghost use Rattle.qed_model.specs.ElfFields.{e_shstrndx, program_header, section_header, HasTables};
+ghost use Rattle.qed_model.specs.ElfRules.{table_rules, is_past, is_segment_outside, segment_place_rule, is_section_outside, section_place_rule};
+
+use crate::below::first_of;
+use crate::fields::{u16_at, u32_at, u64_at};
+use crate::header::check_header;
+use elf_types::{ElfError, Part, ProgramHeader, SectionHeader};
+use std::marker::Model;
+
+/// The bytes of a file whose header and tables lie in it.
+#[derive(Drop)]
+pub struct Tables<'a> {
+    bytes: &'a [u8],
+}
+
+impl<'a> Model for Tables<'a> {
+    ghost Value = { List ℕ };
+
+    ghost view = { λ t. t.bytes.now };
+
+    ghost invariant = { λ t. HasTables t.bytes.now };
+}
+
+impl<'a> Tables<'a> {
+    /// The file, where its header and tables are as they should.
+    #[tactic(auto, unfolding(qed_model::specs::ElfRules::table_rules, qed_model::specs::ElfRules::program_table_rule, qed_model::specs::ElfRules::section_table_rule))]
+    pub fn new(bytes: &'a [u8]) -> Result<Tables<'a>, ElfError>
+        ensures same { IfOk result (λ t. t ≡ bytes.now) }
+        ensures accepted { OnOk result (table_rules bytes.now ≡ Ok tt) }
+        ensures refused { IfErr result (λ e. table_rules bytes.now ≡ Err e) }
+    {
+        check_header(bytes)?;
+        let len = bytes.len() as u128;
+        let phnum = u128::from(u16_at(bytes, 56));
+        if phnum > 0 && u128::from(u64_at(bytes, 32)) + 56 * phnum > len {
+            return Err(ElfError::OutOfFile(Part::ProgramTable));
+        }
+        let shnum = u128::from(u16_at(bytes, 60));
+        if shnum > 0 && u128::from(u64_at(bytes, 40)) + 64 * shnum > len {
+            return Err(ElfError::OutOfFile(Part::SectionTable));
+        }
+        Ok(Tables { bytes })
+    }
+
+    pub fn bytes(&self) -> &'a [u8]
+        ensures { result.now ≡ self.now }
+    {
+        self.bytes
+    }
+
+    pub fn entry(&self) -> u64
+        ensures { result ≡ e_entry self.now }
+    {
+        u64_at(self.bytes, 24)
+    }
+
+    pub fn flags(&self) -> u32
+        ensures { result ≡ e_flags self.now }
+    {
+        u32_at(self.bytes, 48)
+    }
+
+    /// The number of program headers.
+    pub fn phnum(&self) -> u64
+        ensures gives { result ≡ e_phnum self.now }
+        ensures small { result < 65536 }
+    {
+        u64::from(u16_at(self.bytes, 56))
+    }
+
+    /// The number of section headers.
+    pub fn shnum(&self) -> u64
+        ensures gives { result ≡ e_shnum self.now }
+        ensures small { result < 65536 }
+    {
+        u64::from(u16_at(self.bytes, 60))
+    }
+
+    /// The number of the section with the names of the sections, or 0.
+    pub fn shstrndx(&self) -> u64
+        ensures gives { result ≡ e_shstrndx self.now }
+        ensures below { 0 < e_shnum self.now → result < e_shnum self.now }
+    {
+        u64::from(u16_at(self.bytes, 62))
+    }
+
+    /// A program header.
+    #[tactic(auto, unfolding(qed_model::specs::ElfFields::program_header))]
+    pub fn program(&self, i: u64) -> ProgramHeader
+        requires { i < e_phnum self.now }
+        ensures { result ≡ program_header self.now i }
+    {
+        let at = u64_at(self.bytes, 32) as usize + 56 * i as usize;
+        ProgramHeader {
+            kind: u32_at(self.bytes, at),
+            flags: u32_at(self.bytes, at + 4),
+            offset: u64_at(self.bytes, at + 8),
+            vaddr: u64_at(self.bytes, at + 16),
+            filesz: u64_at(self.bytes, at + 32),
+            memsz: u64_at(self.bytes, at + 40),
+        }
+    }
+
+    /// A section header.
+    #[tactic(auto, unfolding(qed_model::specs::ElfFields::section_header))]
+    pub fn section(&self, i: u64) -> SectionHeader
+        requires { i < e_shnum self.now }
+        ensures { result ≡ section_header self.now i }
+    {
+        let at = u64_at(self.bytes, 40) as usize + 64 * i as usize;
+        SectionHeader {
+            name: u32_at(self.bytes, at),
+            kind: u32_at(self.bytes, at + 4),
+            flags: u64_at(self.bytes, at + 8),
+            addr: u64_at(self.bytes, at + 16),
+            offset: u64_at(self.bytes, at + 24),
+            size: u64_at(self.bytes, at + 32),
+            link: u32_at(self.bytes, at + 40),
+            info: u32_at(self.bytes, at + 44),
+            entsize: u64_at(self.bytes, at + 56),
+        }
+    }
+
+    fn is_past(&self, place: u64, size: u64) -> bool
+        ensures { result ≡ is_past self.now place size }
+    {
+        u128::from(place) + u128::from(size) > self.bytes.len() as u128
+    }
+
+    #[tactic(auto, unfolding(qed_model::specs::ElfRules::is_segment_outside))]
+    fn is_segment_outside(&self, p: ProgramHeader) -> bool
+        ensures { result ≡ is_segment_outside self.now p }
+    {
+        p.kind == 1 && p.filesz > 0 && self.is_past(p.offset, p.filesz)
+    }
+
+    /// Whether the segments lie in the file.
+    #[tactic(auto, unfolding(qed_model::specs::ElfRules::segment_place_rule))]
+    pub fn check_segments(&self) -> Result<(), ElfError>
+        ensures { result ≡ segment_place_rule self.now }
+    {
+        match first_of(self.phnum(), &|i| self.is_segment_outside(self.program(i))) {
+            Some(i) => Err(ElfError::OutOfFile(Part::Segment(i))),
+            None => Ok(()),
+        }
+    }
+
+    #[tactic(auto, unfolding(qed_model::specs::ElfRules::is_section_outside))]
+    fn is_section_outside(&self, s: SectionHeader) -> bool
+        ensures { result ≡ is_section_outside self.now s }
+    {
+        s.kind != 0 && s.kind != 8 && s.size > 0 && self.is_past(s.offset, s.size)
+    }
+
+    /// Whether the sections lie in the file.
+    #[tactic(auto, unfolding(qed_model::specs::ElfRules::section_place_rule))]
+    pub fn check_sections(&self) -> Result<(), ElfError>
+        ensures { result ≡ section_place_rule self.now }
+    {
+        match first_of(self.shnum(), &|i| self.is_section_outside(self.section(i))) {
+            Some(i) => Err(ElfError::OutOfFile(Part::Section(i))),
+            None => Ok(()),
+        }
+    }
+}
