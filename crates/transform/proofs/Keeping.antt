@@ -13,8 +13,8 @@ use Rattle.qed_model.specs.Kept.{Kept}
 use Rattle.qed_model.specs.Loaded.{loaded}
 use Rattle.qed_model.specs.Bounds.{piece_bound}
 use Rattle.qed_model.proofs.Fields.{words_of-bytes_of, length-bytes_of}
-use Rattle.weave_core.proofs.FirstFits.{first_input, first_output}
-use Rattle.weave_core.proofs.FirstKept.{AllLow, first_kept}
+use Rattle.weave_core.proofs.SegmentKept.{AllLow}
+use Rattle.weave_core.proofs.FirstKept.{first_input, first_output, first_kept}
 use Rattle.weave_core.proofs.Straight.{Computes, AllCompute}
 use Rattle.weave_core.proofs.LoadedFirst.{loaded_input, loaded_output}
 use Rattle.transform.specs.Read.{IsSource}
