@@ -1,5 +1,5 @@
 -- Items that have their places have words, where their constants are near the code and the code is short enough for its jumps.
-use Rattle.std.proofs.Common.{◌≡◌, ℕ, ◌+◌, ◌-◌, ◌*◌, ◌%◌, ◌^◌, ◌<◌, ◌≤◌, Bool, true, false, cond, ◌&&◌, List, [], ◌∷◌, map, length, Option, Some, None, refl, sym, ap, ◌∙◌, subst, arith}
+use Rattle.std.proofs.Common.{◌≡◌, ℕ, ◌+◌, ◌-◌, ◌*◌, ◌%◌, ◌^◌, ◌<◌, ◌≤◌, Bool, true, false, cond, ◌&&◌, List, [], ◌∷◌, ◌++◌, map, length, Option, Some, None, refl, sym, ap, ◌∙◌, subst, arith}
 use Rattle.std.specs.Prelude.{◌==◌, nat_lt, nat_le, unwrap_or}
 use Rattle.std.specs.List.{list_all}
 use Rattle.std.proofs.lemmas.Bool.{and_from, and_parts, leb-true, ltb-true, lt-ltb}
@@ -20,6 +20,14 @@ grain_of_sizes (Mark a ∷ items) = omega (arith, grain_of_sizes items)
 grain_of_sizes (Plain i ∷ items) = omega (arith, grain_of_sizes items)
 grain_of_sizes (Constant r c ∷ items) = omega (arith, grain_of_sizes items)
 grain_of_sizes (Go a ∷ items) = omega (arith, grain_of_sizes items)
+
+-- two lists take the room of both
+pub size-append : (xs ys : List Item) → sum_of_sizes (xs ++ ys) ≡ sum_of_sizes xs + sum_of_sizes ys
+size-append [] ys = omega arith
+size-append (Mark a ∷ xs) ys = omega (arith, size-append xs ys)
+size-append (Plain i ∷ xs) ys = omega (arith, size-append xs ys)
+size-append (Constant r c ∷ xs) ys = omega (arith, size-append xs ys)
+size-append (Go a ∷ xs) ys = omega (arith, size-append xs ys)
 
 -- each instruction of items has four bytes
 pub size-instructions_from : (to : ℕ → ℕ) (at : ℕ) (items : List Item) → 4 * length (instructions_from to at items) ≡ sum_of_sizes items

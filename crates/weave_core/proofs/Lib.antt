@@ -17,6 +17,8 @@ pub mod Placing
 pub mod Straight
 pub mod SegmentFits
 pub mod SegmentKept
+pub mod StraightWords
+pub mod SegmentPlaces
 pub mod FirstKept
 pub mod LoadedFirst
 mod Example

@@ -111,6 +111,25 @@ segment_input e size segments = record { entry = e; ranges = (e, e + size) ∷ [
 abbrev pub segment_output : LoadSegment → ℕ → ℕ → List ℕ → File
 segment_output s d c cs = record { entry = c; ranges = (c, c + length cs) ∷ []; segments = copied s.address s ∷ copied (s.address + d) s ∷ code_segment c cs ∷ [] }
 
+-- a file whose segments have the cells of one segment, and which has one code range, is such an input
+pub record IsSegmentInput (f : File) (s : LoadSegment) (e size : ℕ) : Type 0 where
+  pub entry : f.entry ≡ e
+  pub ranges : f.ranges ≡ (e, e + size) ∷ []
+  pub cells : cells_of f.segments ≡ cells_of (s ∷ [])
+
+-- a file with these segments and one code range is such an output
+pub record IsSegmentOutput (g : File) (s : LoadSegment) (d c : ℕ) (cs : List ℕ) : Type 0 where
+  pub entry : g.entry ≡ c
+  pub ranges : g.ranges ≡ (c, c + length cs) ∷ []
+  pub segments : g.segments ≡ copied s.address s ∷ copied (s.address + d) s ∷ code_segment c cs ∷ []
+
+-- they are equal to these
+pub segment_input_is : (f : File) (s : LoadSegment) (e size : ℕ) → IsSegmentInput f s e size → f ≡ segment_input e size f.segments
+segment_input_is f s e size h = λ i. record { entry = h.entry i; ranges = h.ranges i; segments = f.segments }
+
+pub segment_output_is : (g : File) (s : LoadSegment) (d c : ℕ) (cs : List ℕ) → IsSegmentOutput g s d c cs → g ≡ segment_output s d c cs
+segment_output_is g s d c cs h = λ i. record { entry = h.entry i; ranges = h.ranges i; segments = h.segments i }
+
 -- where the segment, the halves and the new code stand; the segment is code and is not written
 pub record IsSpaced (s : LoadSegment) (base d c : ℕ) (cs : List ℕ) : Type 0 where
   pub executes : s.flags.execute ≡ true

@@ -6,12 +6,12 @@ use Rattle.qed_model.specs.Machine.{fetched_at, HasAt}
 use Rattle.qed_model.specs.Placed.{entry_of, placed, Decode}
 use Rattle.qed_model.specs.Sequences.{ecall, woven_items}
 use Rattle.qed_model.specs.Weave.{Reads}
-use Rattle.qed_model.specs.Kept.{LoadSegment, memory_of, cells_of, Kept}
+use Rattle.qed_model.specs.Kept.{LoadSegment, File, memory_of, cells_of, Kept}
 use Rattle.qed_model.specs.Bounds.{piece_bound}
 use Rattle.weave_core.specs.Blocks.{IsBody, AllFit, Clean, with_written, IsRun}
 use Rattle.weave_core.proofs.Placing.{reads_placed, has_decoded, has_front, has_back}
 use Rattle.weave_core.proofs.Straight.{AllCompute, straight_items, straight_distinct}
-use Rattle.weave_core.proofs.SegmentFits.{segment_input, segment_output, IsSpaced, IsCodeRange, range_bytes, segment_fits, input_fetches, output_fetches}
+use Rattle.weave_core.proofs.SegmentFits.{segment_input, segment_output, IsSegmentInput, IsSegmentOutput, segment_input_is, segment_output_is, IsSpaced, IsCodeRange, range_bytes, segment_fits, input_fetches, output_fetches}
 use Rattle.weave_core.proofs.Planned.{straight_kept_in}
 
 -- an instruction with no register above x13
@@ -52,3 +52,12 @@ segment_kept s segments e size base d c cs most count is one spaced range low co
     (has_back x e is (ecall ∷ []) all).0
     (omega (arith, range.end, spaced.high, spaced.top))
     (subst (Reads y (entry_of c items) c) (straight_items d e count is computes) (reads_placed y c items (straight_distinct d e count is) new))
+
+-- the same of any two files that are such an input and such an output
+pub files_kept :
+    (f g : File) (s : LoadSegment) (e size base d c : ℕ) (cs : List ℕ) (most count : ℕ) (is : List Ins) → IsSegmentInput f s e size → IsSegmentOutput g s d c cs → IsSpaced s base d c cs → IsCodeRange s e size
+    → AllLow is → AllCompute is → length is ≤ most → Decode (words_of (range_bytes s e size)) (is ++ ecall ∷ []) → Decode (words_of cs) (placed c (woven_items count d [] e (is ∷ []))) → Kept f g (piece_bound most count)
+files_kept f g s e size base d c cs most count is input output spaced range low computes few source code =
+    let kept = segment_kept s f.segments e size base d c cs most count is input.cells spaced range low computes few source code in
+    subst (λ h. Kept h g (piece_bound most count)) (sym (segment_input_is f s e size input))
+    (subst (λ h. Kept (segment_input e size f.segments) h (piece_bound most count)) (sym (segment_output_is g s d c cs output)) kept)

@@ -1,0 +1,44 @@
+-- A segment of 1 to 65536 bytes below 2^31: where its halves and the new code stand, and that the new code has words.
+use Rattle.std.proofs.Common.{◌≡◌, ℕ, ◌+◌, ◌*◌, ◌%◌, ◌^◌, ◌<◌, ◌≤◌, true, false, List, [], ◌∷◌, length, refl, arith}
+use Rattle.std.specs.List.{list_all}
+use Rattle.rv_isa.specs.declared.ins.Ins.{Ins}
+use Rattle.qed_model.specs.Kept.{LoadSegment}
+use Rattle.qed_model.specs.Placed.{placed}
+use Rattle.qed_model.specs.Sequences.{woven_items}
+use Rattle.qed_model.proofs.Pages.{page_of, IsPages, laid}
+use Rattle.qed_model.proofs.Reach.{has_word}
+use Rattle.weave_core.proofs.SegmentFits.{IsSpaced, IsCodeRange}
+use Rattle.weave_core.proofs.SegmentKept.{AllLow}
+use Rattle.weave_core.proofs.StraightWords.{woven_words}
+
+-- a segment that is code, is not written, has 1 to 65536 bytes of memory and begins below 2^31
+pub record IsSmallCode (s : LoadSegment) : Type 0 where
+  pub executes : s.flags.execute ≡ true
+  pub unwritten : s.flags.write ≡ false
+  pub sized : length s.bytes ≤ s.size
+  pub some : 1 ≤ s.size
+  pub few : s.size ≤ 65536
+  pub low : s.address < 2 ^ 31
+
+module _ (s : LoadSegment) (d : ℕ) (small : IsSmallCode s) (pages : IsPages s.address s.size d) where
+  -- the halves and the new code are apart
+  pub segment_spaced : (cs : List ℕ) → length cs ≤ 134217728 → IsSpaced s (page_of s.address) d (page_of s.address + 3 * d) cs
+  segment_spaced cs room =
+      let l = laid s.address s.size d small.some small.few small.low pages in
+      record {
+        executes = small.executes;
+        unwritten = small.unwritten;
+        sized = small.sized;
+        low = l.low;
+        high = l.high;
+        code = refl;
+        grain = omega (arith, l.code_grain);
+        top = l.top;
+        end = omega (arith, l.code, room);
+      }
+
+  -- the new code has words
+  pub segment_words : (count e size : ℕ) (is : List Ins) → IsCodeRange s e size → length is ≤ 65536 → AllLow is → list_all has_word is ≡ true → list_all has_word (placed (page_of s.address + 3 * d) (woven_items count d [] e (is ∷ []))) ≡ true
+  segment_words count e size is range few low words =
+      let l = laid s.address s.size d small.some small.few small.low pages in
+      woven_words (page_of s.address + 3 * d) count d e is (omega (arith, l.code_grain)) l.grain (omega (arith, l.most)) (omega (arith, l.most, l.low, range.begin, few)) (omega (arith, l.high, range.end)) (omega (arith, few)) (omega (arith, l.code, few)) (omega (arith, l.code, l.high, range.end)) low words
