@@ -5,6 +5,7 @@ use Rattle.std.specs.List.{list_all}
 use Rattle.std.proofs.lemmas.Bool.{and_from, and_parts, leb-true, ltb-true, lt-ltb}
 use Rattle.std.proofs.lemmas.List.{length-map}
 use Rattle.rv_isa.specs.declared.ins.Ins.{Ins}
+use Rattle.rv_isa.specs.declared.kind.Kind.{Kind}
 use Rattle.rv_isa.specs.declared.kind.Kind.TheVariants.{Auipc, Addi, Jal}
 use Rattle.qed_model.specs.declared.item.Item.{Item}
 use Rattle.qed_model.specs.declared.item.Item.TheVariants.{Mark, Plain, Constant, Go}
@@ -131,3 +132,19 @@ below-placeable low high bound (Constant r v ∷ items) h p =
     let most = leb-true v high (and_parts (nat_le low v) (nat_le v high) (and_parts (is_reg r) (nat_le low v && nat_le v high) q.0).1).1 in
     and_from _ _ (lt-ltb v bound (omega (arith, most, h))) (below-placeable low high bound items h q.1)
 below-placeable low high bound (Go a ∷ items) h p = below-placeable low high bound items h p
+
+-- ---- kinds
+-- an instruction whose kind passes a test; every other item passes
+abbrev pub is_of_kinds : (Kind → Bool) → Item → Bool
+is_of_kinds p (Plain i) = p i.kind
+is_of_kinds p (Mark a) = true
+is_of_kinds p (Constant r v) = true
+is_of_kinds p (Go a) = true
+
+-- where AUIPC, ADDI and JAL pass it, each instruction of the items does
+pub kinds_from : (p : Kind → Bool) → p Auipc ≡ true → p Addi ≡ true → p Jal ≡ true → (to : ℕ → ℕ) (at : ℕ) (items : List Item) → list_all (is_of_kinds p) items ≡ true → list_all (λ i. p i.kind) (instructions_from to at items) ≡ true
+kinds_from p auipc addi jal to at [] h = refl
+kinds_from p auipc addi jal to at (Mark a ∷ items) h = kinds_from p auipc addi jal to at items h
+kinds_from p auipc addi jal to at (Plain i ∷ items) h = let q = and_parts (p i.kind) (list_all (is_of_kinds p) items) h in and_from _ _ q.0 (kinds_from p auipc addi jal to (at + 4) items q.1)
+kinds_from p auipc addi jal to at (Constant r v ∷ items) h = and_from _ _ auipc (and_from _ _ addi (kinds_from p auipc addi jal to (at + 8) items h))
+kinds_from p auipc addi jal to at (Go a ∷ items) h = and_from _ _ jal (kinds_from p auipc addi jal to (at + 4) items h)

@@ -2,8 +2,8 @@
 -- them.
 use Rattle.std.proofs.Common.{◌≡◌, ℕ, ◌+◌, ◌-◌, ◌*◌, ◌%◌, ◌^◌, ◌<◌, ◌≤◌, inr, ⊎_elim, true, false, List, [], ◌∷◌, ◌++◌, length, take, drop, is_some, refl, sym, ap, ◌∙◌, subst, arith, length-take, length-drop, get_or-take, get_or-drop}
 use Rattle.std.proofs.lemmas.Bool.{false≢true}
-use Rattle.std.proofs.lemmas.List.{append-nil}
-use Rattle.std.specs.Prelude.{slice_index}
+use Rattle.std.proofs.lemmas.List.{append-nil, drop-append-le, take-append-le}
+use Rattle.std.specs.Prelude.{slice_index, replicate}
 use Rattle.std.specs.FinMap.{get, find}
 use Rattle.std.specs.Ordering.{nat_cmp}
 use Rattle.qed_model.specs.Memory.{Flags, Cell, allows, byte_in, byte_at, cells_from}
@@ -151,6 +151,13 @@ pub record IsCodeRange (s : LoadSegment) (e size : ℕ) : Type 0 where
 -- the bytes of the code range
 abbrev pub range_bytes : LoadSegment → ℕ → ℕ → List ℕ
 range_bytes s e size = take size (drop (e - s.address) (image s))
+
+-- where they are all in the file, they are of its bytes
+pub range_in_file : (s : LoadSegment) (e size : ℕ) → e - s.address + size ≤ length s.bytes → range_bytes s e size ≡ take size (drop (e - s.address) s.bytes)
+range_in_file s e size h =
+    let k = e - s.address in
+    let zeros : List ℕ = replicate (s.size - length s.bytes) 0 in
+    ap (take size) (drop-append-le k s.bytes zeros (omega arith)) ∙ take-append-le size (drop k s.bytes) zeros (omega (arith, length-drop k s.bytes))
 
 -- the zeros behind the new code, and the end of the list, add nothing
 output_cells : (s : LoadSegment) (d c : ℕ) (cs : List ℕ) → cells_of (segment_output s d c cs).segments ≡ mg s.address d c (image s) cs s.flags (not_executed s.flags) executable

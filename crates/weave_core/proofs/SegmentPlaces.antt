@@ -9,7 +9,7 @@ use Rattle.qed_model.proofs.Pages.{page_of, IsPages, laid}
 use Rattle.qed_model.proofs.Reach.{has_word}
 use Rattle.weave_core.proofs.SegmentFits.{IsSpaced, IsCodeRange}
 use Rattle.weave_core.proofs.SegmentKept.{AllLow}
-use Rattle.weave_core.proofs.StraightWords.{woven_words}
+use Rattle.weave_core.proofs.StraightWords.{IsNearby}
 
 -- a segment that is code, is not written, has 1 to 65536 bytes of memory and begins below 2^31
 pub record IsSmallCode (s : LoadSegment) : Type 0 where
@@ -37,8 +37,17 @@ module _ (s : LoadSegment) (d : ℕ) (small : IsSmallCode s) (pages : IsPages s.
         end = omega (arith, l.code, room);
       }
 
-  -- the new code has words
-  pub segment_words : (count e size : ℕ) (is : List Ins) → IsCodeRange s e size → length is ≤ 65536 → AllLow is → list_all has_word is ≡ true → list_all has_word (placed (page_of s.address + 3 * d) (woven_items count d [] e (is ∷ []))) ≡ true
-  segment_words count e size is range few low words =
+  -- and the entry is near the new code
+  pub segment_nearby : (e size many : ℕ) → IsCodeRange s e size → many ≤ 65536 → IsNearby (page_of s.address + 3 * d) d e many
+  segment_nearby e size many range few =
       let l = laid s.address s.size d small.some small.few small.low pages in
-      woven_words (page_of s.address + 3 * d) count d e is (omega (arith, l.code_grain)) l.grain (omega (arith, l.most)) (omega (arith, l.most, l.low, range.begin, few)) (omega (arith, l.high, range.end)) (omega (arith, few)) (omega (arith, l.code, few)) (omega (arith, l.code, l.high, range.end)) low words
+      record {
+        grain = omega (arith, l.code_grain);
+        pages = l.grain;
+        small = omega (arith, l.most);
+        below = omega (arith, l.most, l.low, range.begin, few);
+        above = omega (arith, l.high, range.end);
+        short = omega (arith, few);
+        code = omega (arith, l.code, few);
+        entry = omega (arith, l.code, l.high, range.end);
+      }

@@ -5,16 +5,17 @@ use Rattle.std.specs.List.{list_all, flat_map}
 use Rattle.std.proofs.lemmas.Bool.{and_from, and_parts, le-leb}
 use Rattle.std.proofs.lemmas.List.{append-nil, length-map}
 use Rattle.std.proofs.lemmas.List.Folds.{list_all-append, list_all-map}
-use Rattle.rv_isa.specs.declared.kind.Kind.TheVariants.{Lui}
+use Rattle.rv_isa.specs.declared.kind.Kind.{Kind}
+use Rattle.rv_isa.specs.declared.kind.Kind.TheVariants.{Illegal, Lui, Auipc, Addi, Beq, Ebreak, Ecall, Jal}
 use Rattle.rv_isa.specs.declared.ins.Ins.{Ins}
 use Rattle.qed_model.specs.declared.item.Item.{Item}
 use Rattle.qed_model.specs.declared.item.Item.TheVariants.{Plain}
 use Rattle.qed_model.specs.Table.{ins, word_of, encode_of}
-use Rattle.qed_model.specs.Placed.{sum_of_sizes, placed, Decode}
+use Rattle.qed_model.specs.Placed.{sum_of_sizes, entry_of, placed, Decode}
 use Rattle.qed_model.specs.Sequences.{renamed, ecall, clear, originals, pairs, original, mirrored, compare, piece, enter, entry, go_on, prologue, stub, woven_items}
 use Rattle.qed_model.proofs.Reach.{has_word, lui_word}
 use Rattle.qed_model.proofs.MirrorWords.{renamed_word}
-use Rattle.qed_model.proofs.PlacedWords.{size-append, size-decoded, is_placeable, IsReach, placed_words, is_below, below-placeable}
+use Rattle.qed_model.proofs.PlacedWords.{size-append, size-decoded, is_placeable, IsReach, placed_words, is_below, below-placeable, is_of_kinds, kinds_from}
 use Rattle.weave_core.proofs.SegmentKept.{AllLow}
 
 -- ---- lists
@@ -106,14 +107,57 @@ pub length-woven : (count d e : ℕ) (is : List Ins) → length (woven_items cou
 length-woven count d e is = simp (length-append, length-map) (omega arith)
 
 -- ---- the whole
--- the new code that stands from `base` on has words, where the entry is within 2^31 - 2048 bytes of it
-pub woven_words : (base count d e : ℕ) (is : List Ins) → base % 4 ≡ 0 → d % 4096 ≡ 0 → d < 2 ^ 31 → base + 248 + 8 * length is ≤ e + 2147481600 → e ≤ base + 2147481599 → 8 * length is < 1048328 → base + 248 + 8 * length is < 2 ^ 62 → e < 2 ^ 62 → AllLow is → list_all has_word is ≡ true → list_all has_word (placed base (woven_items count d [] e (is ∷ []))) ≡ true
-woven_words base count d e is grain pages small below above short code entry l w =
-    let items = woven_items count d [] e (is ∷ []) in
-    let size = size-woven count d e is in
-    placed_words base e e items (record { grain = grain; short = omega (arith, size, short); below = omega (arith, size, below); above = above; code = omega (arith, size, code); constants = entry }) (omega (arith, size))
-    (woven_placeable e e e (omega arith) (omega arith) count d is pages small l w)
+-- the new code of `many` instructions stands from `base` on; the entry e is within 2^31 - 2048 bytes of it, and d is a distance
+-- that LUI takes
+pub record IsNearby (base d e many : ℕ) : Type 0 where
+  pub grain : base % 4 ≡ 0
+  pub pages : d % 4096 ≡ 0
+  pub small : d < 2 ^ 31
+  pub below : base + 248 + 8 * many ≤ e + 2147481600
+  pub above : e ≤ base + 2147481599
+  pub short : 8 * many < 1048328
+  pub code : base + 248 + 8 * many < 2 ^ 62
+  pub entry : e < 2 ^ 62
 
--- its constants are below any bound of the entry
-pub woven_below : (bound count d e : ℕ) (is : List Ins) → e < bound → d % 4096 ≡ 0 → d < 2 ^ 31 → AllLow is → list_all has_word is ≡ true → list_all (is_below bound) (woven_items count d [] e (is ∷ [])) ≡ true
-woven_below bound count d e is h g s l w = below-placeable e e bound (woven_items count d [] e (is ∷ [])) h (woven_placeable e e e (omega arith) (omega arith) count d is g s l w)
+module _ (base count d e : ℕ) (is : List Ins) (nearby : IsNearby base d e (length is)) (low : AllLow is) (words : list_all has_word is ≡ true) where
+  -- the only constant is the entry
+  pub only_entry : list_all (is_placeable e e) (woven_items count d [] e (is ∷ [])) ≡ true
+  only_entry = woven_placeable e e e (omega arith) (omega arith) count d is nearby.pages nearby.small low words
+
+  -- so the instructions of the new code have words
+  pub woven_words : list_all has_word (placed base (woven_items count d [] e (is ∷ []))) ≡ true
+  woven_words =
+      let items = woven_items count d [] e (is ∷ []) in
+      let size = size-woven count d e is in
+      placed_words base e e items
+      (record {
+        grain = nearby.grain;
+        short = omega (arith, size, nearby.short);
+        below = omega (arith, size, nearby.below);
+        above = nearby.above;
+        code = omega (arith, size, nearby.code);
+        constants = nearby.entry;
+      })
+      (omega (arith, size))
+      only_entry
+
+  -- and its constants are below 2^62
+  pub woven_below : list_all (is_below (2 ^ 62)) (woven_items count d [] e (is ∷ [])) ≡ true
+  woven_below = below-placeable e e (2 ^ 62) (woven_items count d [] e (is ∷ [])) nearby.entry only_entry
+
+-- the kinds of the new code's words are those of the source, of the prologue, of guards, constants and jumps, and of the ends
+pub woven_kinds :
+    (p : Kind → Bool) (base count d e : ℕ) (is : List Ins) → p Addi ≡ true → p Lui ≡ true → p Auipc ≡ true → p Jal ≡ true → p Beq ≡ true → p Ebreak ≡ true → p Ecall ≡ true → p Illegal ≡ true → list_all (λ i. p i.kind) is ≡ true
+    → list_all (λ i. p i.kind) (placed base (woven_items count d [] e (is ∷ []))) ≡ true
+woven_kinds p base count d e is addi lui auipc jal beq ebreak ecalls illegal all =
+    let q = is_of_kinds p in
+    let body = flat_map (piece count []) (is ∷ []) in
+    let guards : list_all q compare ≡ true = rw (beq, ebreak) refl in
+    let parts : list_all q (piece count [] is) ≡ true =
+    two q (map original is) (map mirrored is ++ (compare ++ [])) (list_all-map q original is ∙ all) (two q (map mirrored is) (compare ++ []) (list_all-map q mirrored is ∙ all) (two q compare [] guards refl)) in
+    let begin : list_all q (prologue d [] e) ≡ true = rw (addi, lui) refl in
+    let begins : list_all q (enter e) ≡ true = rw (beq, ebreak) refl in
+    let stops : list_all q (Plain ecall ∷ []) ≡ true = rw ecalls refl in
+    let last : list_all q stub ≡ true = rw illegal refl in
+    kinds_from p auipc addi jal (entry_of base (woven_items count d [] e (is ∷ []))) base (woven_items count d [] e (is ∷ []))
+    (two q (prologue d [] e) (entry count [] e (is ∷ []) ++ stub) begin (two q (entry count [] e (is ∷ [])) stub (two q (enter e) (body ++ (Plain ecall ∷ [])) begins (two q body (Plain ecall ∷ []) (two q (piece count [] is) [] parts refl) stops)) last))
