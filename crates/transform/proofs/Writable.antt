@@ -1,5 +1,5 @@
 -- What is woven from instructions that were read has words, and its constants are near.
-use Rattle.std.proofs.Common.{◌≡◌, ℕ, zero, suc, ◌+◌, ◌*◌, ◌^◌, ◌<◌, ◌≤◌, inl, inr, ⊎_elim, Bool, true, ◌&&◌, List, [], ◌∷◌, ◌++◌, length, refl, ap, ◌∙◌, arith}
+use Rattle.std.proofs.Common.{◌≡◌, ℕ, zero, suc, ◌^◌, ◌<◌, ◌≤◌, ⊎_elim, true, List, [], ◌∷◌, ◌++◌, length, refl, ap, arith}
 use Rattle.std.specs.Prelude.{All}
 use Rattle.std.specs.List.{list_all}
 use Rattle.std.proofs.lemmas.Bool.{and_from, and_parts}
@@ -8,7 +8,6 @@ use Rattle.qed_model.specs.declared.item.Item.{Item}
 use Rattle.qed_model.specs.declared.item.Item.TheVariants.{Mark, Plain, Constant, Go}
 use Rattle.qed_model.specs.Sequences.{woven_items}
 use Rattle.qed_model.specs.Placed.{placed, Decode}
-use Rattle.qed_model.specs.Plain.{IsSum}
 use Rattle.qed_model.specs.Woven.{image_base, half, code_base, woven_segments}
 use Rattle.qed_model.proofs.Fields.{length-bytes_of}
 use Rattle.qed_model.proofs.Reach.{has_word}

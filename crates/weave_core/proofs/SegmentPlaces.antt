@@ -1,14 +1,8 @@
 -- A segment of 1 to 65536 bytes below 2^31: where its halves and the new code stand, and that the new code has words.
-use Rattle.std.proofs.Common.{◌≡◌, ℕ, ◌+◌, ◌*◌, ◌%◌, ◌^◌, ◌<◌, ◌≤◌, true, false, List, [], ◌∷◌, length, refl, arith}
-use Rattle.std.specs.List.{list_all}
-use Rattle.rv_isa.specs.declared.ins.Ins.{Ins}
+use Rattle.std.proofs.Common.{◌≡◌, ℕ, ◌+◌, ◌*◌, ◌^◌, ◌<◌, ◌≤◌, true, false, List, length, refl, arith}
 use Rattle.qed_model.specs.Kept.{LoadSegment}
-use Rattle.qed_model.specs.Placed.{placed}
-use Rattle.qed_model.specs.Sequences.{woven_items}
 use Rattle.qed_model.proofs.Pages.{page_of, IsPages, laid}
-use Rattle.qed_model.proofs.Reach.{has_word}
 use Rattle.weave_core.proofs.SegmentFits.{IsSpaced, IsCodeRange}
-use Rattle.weave_core.proofs.SegmentKept.{AllLow}
 use Rattle.weave_core.proofs.StraightWords.{IsNearby}
 
 -- a segment that is code, is not written, has 1 to 65536 bytes of memory and begins below 2^31

@@ -1,21 +1,20 @@
 -- What is woven from one straight block has words, wherever it stands, where the entry is near enough.
-use Rattle.std.proofs.Common.{◌≡◌, ℕ, ◌+◌, ◌*◌, ◌%◌, ◌^◌, ◌<◌, ◌≤◌, Bool, true, ◌&&◌, List, [], ◌∷◌, ◌++◌, map, length, refl, ap, ◌∙◌, arith, length-append}
-use Rattle.std.specs.Prelude.{pos, nat_le, nat_lt}
+use Rattle.std.proofs.Common.{◌≡◌, ℕ, ◌+◌, ◌*◌, ◌%◌, ◌^◌, ◌<◌, ◌≤◌, Bool, true, ◌&&◌, List, [], ◌∷◌, ◌++◌, map, length, refl, ◌∙◌, arith, length-append}
+use Rattle.std.specs.Prelude.{pos, nat_le}
 use Rattle.std.specs.List.{list_all, flat_map}
 use Rattle.std.proofs.lemmas.Bool.{and_from, and_parts, le-leb}
-use Rattle.std.proofs.lemmas.List.{append-nil, length-map}
+use Rattle.std.proofs.lemmas.List.{length-map}
 use Rattle.std.proofs.lemmas.List.Folds.{list_all-append, list_all-map}
 use Rattle.rv_isa.specs.declared.kind.Kind.{Kind}
 use Rattle.rv_isa.specs.declared.kind.Kind.TheVariants.{Illegal, Lui, Auipc, Addi, Beq, Ebreak, Ecall, Jal}
 use Rattle.rv_isa.specs.declared.ins.Ins.{Ins}
-use Rattle.qed_model.specs.declared.item.Item.{Item}
 use Rattle.qed_model.specs.declared.item.Item.TheVariants.{Plain}
 use Rattle.qed_model.specs.Table.{ins, word_of, encode_of}
 use Rattle.qed_model.specs.Placed.{sum_of_sizes, entry_of, placed, Decode}
-use Rattle.qed_model.specs.Sequences.{renamed, ecall, clear, originals, pairs, original, mirrored, compare, piece, enter, entry, go_on, prologue, stub, woven_items}
+use Rattle.qed_model.specs.Sequences.{ecall, clear, originals, pairs, original, mirrored, compare, piece, enter, entry, go_on, prologue, stub, woven_items}
 use Rattle.qed_model.proofs.Reach.{has_word, lui_word}
 use Rattle.qed_model.proofs.MirrorWords.{renamed_word}
-use Rattle.qed_model.proofs.PlacedWords.{size-append, size-decoded, is_placeable, IsReach, placed_words, is_below, below-placeable, is_of_kinds, kinds_from}
+use Rattle.qed_model.proofs.PlacedWords.{size-append, size-decoded, is_placeable, placed_words, is_below, below-placeable, is_of_kinds, kinds_from}
 use Rattle.weave_core.proofs.SegmentKept.{AllLow}
 
 -- ---- lists
