@@ -3,6 +3,7 @@
 
 mod item;
 mod machine;
+mod rows;
 
 pub use item::Item;
 pub use machine::{Cause, Outcome};
