@@ -4,6 +4,7 @@
 mod change;
 mod item;
 mod machine;
+mod rows;
 
 pub use change::Place;
 pub use item::Item;
