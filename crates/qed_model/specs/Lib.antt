@@ -22,3 +22,5 @@ pub mod Written
 pub mod Woven
 pub mod Bounds
 pub mod Texts
+pub mod RunTexts
+pub mod ErrorTexts
