@@ -1,5 +1,5 @@
 // What is printed where a file is refused.
-ghost use Rattle.std.specs.Prelude.{◌≡◌, Some, IfOk, string_bytes};
+ghost use Rattle.std.specs.Prelude.{◌≡◌, ◌≢◌, Some, IfOk, OnOk, string_bytes};
 ghost use Rattle.qed_model.specs.ErrorTexts.{part_line, error_line, memory_limit_line};
 
 use elf_types::{Bytes, ElfError, Part};
@@ -20,7 +20,8 @@ fn part_text(alloc: Global, part: Part) -> Result<String, AllocError>
 
 /// The line about a fault of the header.
 fn header_text(alloc: Global, error: ElfError) -> Result<String, AllocError>
-    ensures { IfOk result (λ text. string_bytes text ≡ error_line error) }
+    ensures text { IfOk result (λ text. string_bytes text ≡ error_line error) }
+    ensures memory { OnOk result (error ≢ ElfError.Memory) }
 {
     match error {
         ElfError::Magic => format!(in alloc; "refused E1: magic\n"),
@@ -46,7 +47,8 @@ fn header_text(alloc: Global, error: ElfError) -> Result<String, AllocError>
 
 /// The line about a file that is not read. Want of memory has none, and is answered as such.
 pub fn error_text(alloc: Global, error: ElfError) -> Result<Bytes, AllocError>
-    ensures { IfOk result (λ text. text ≡ error_line error) }
+    ensures text { IfOk result (λ text. text ≡ error_line error) }
+    ensures memory { OnOk result (error ≢ ElfError.Memory) }
 {
     let text = header_text(alloc, error)?;
     Ok(Bytes::of(text.into_bytes()))
