@@ -93,16 +93,18 @@ fn linked(alloc: Global) -> Result<Vec<u8>, AllocError> {
 fn a_linked_program_is_read(rt: HostRuntime) -> Result<(), Fail> {
     let alloc = rt.alloc();
     let bytes = linked(alloc)?;
-    let file = read_elf(alloc, &bytes)?;
+    let bytes = bytes.as_slice();
+    assert!(rt; bytes.len() >= 0x108);
+    let front = &bytes[..0x108];
+    let file = read_elf(alloc, bytes)?;
     assert_eq!(rt; file.entry, 0x8000_0000);
     assert_eq!(rt; file.flags, 0);
-    assert!(rt; bytes.len() >= 0x108);
     expect_segments(
         &rt,
         file.segments.as_slice(),
         &[
             (0x7000_0003, 4, 0, 0, b""),
-            (1, 5, 0x7fff_ff10, 0x108, &bytes[..0x108]),
+            (1, 5, 0x7fff_ff10, 0x108, front),
             (1, 6, 0x8000_2000, 16, b"\x05\0\0\0\0\0\0\0"),
         ],
     );
