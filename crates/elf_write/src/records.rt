@@ -9,13 +9,13 @@ use elf_types::{OutFile, SectionHeader, Segment, SymbolEntry};
 use std::alloc::AllocError;
 
 /// The sizes of records, in bytes.
-pub const HEADER_SIZE: u16 = 64;
+pub const HEADER_SIZE: u128 = 64;
 
-pub const PROGRAM_HEADER_SIZE: u16 = 56;
+pub const PROGRAM_HEADER_SIZE: u128 = 56;
 
-pub const SECTION_HEADER_SIZE: u16 = 64;
+pub const SECTION_HEADER_SIZE: u128 = 64;
 
-pub const SYMBOL_SIZE: u64 = 24;
+pub const SYMBOL_SIZE: u128 = 24;
 
 /// The alignment of segments, in bytes.
 pub const PAGE: u64 = 4096;
@@ -45,13 +45,13 @@ pub fn push_header(
             Number::Half(243),
             Number::Word(1),
             Number::Long(file.entry),
-            Number::Long(u64::from(HEADER_SIZE)),
+            Number::Long(64),
             Number::Long(headers),
             Number::Word(file.flags),
-            Number::Half(HEADER_SIZE),
-            Number::Half(PROGRAM_HEADER_SIZE),
+            Number::Half(64),
+            Number::Half(56),
             Number::Half(segments),
-            Number::Half(SECTION_HEADER_SIZE),
+            Number::Half(64),
             Number::Half(sections + 4),
             Number::Half(sections + 3),
         ],

@@ -56,7 +56,7 @@ fn offset_in(section: &OutSection, segments: &[Segment], start: u64) -> u64
 /// The bytes of the sections' own.
 pub fn own_size(sections: &[OutSection]) -> u128
     ensures value { result ≡ length (own_bytes sections.now) }
-    ensures bound { result < 2 ^ 125 }
+    ensures bound { result < 2 ^ 122 }
 {
     let mut size: u128 = 0;
     for section in sections {
@@ -68,7 +68,7 @@ pub fn own_size(sections: &[OutSection]) -> u128
 /// The bytes of the sections' names, each with its zero byte.
 pub fn names_size(sections: &[OutSection]) -> u128
     ensures value { result ≡ length (names_bytes (map (λ x. x.name) sections.now)) }
-    ensures bound { result < 2 ^ 125 }
+    ensures bound { result < 2 ^ 122 }
 {
     let mut size: u128 = 0;
     for section in sections {

@@ -22,7 +22,7 @@ pub fn offset_from(at: u128, address: u64) -> u128
 pub fn end_from(start: u128, segments: &[Segment]) -> u128
     requires { start < 2 ^ 64 }
     ensures value { result ≡ segments_end start segments.now }
-    ensures bound { result < 2 ^ 126 }
+    ensures bound { result < 2 ^ 122 }
 {
     let mut at = start;
     for segment in segments {

@@ -13,7 +13,7 @@ const NULL: SymbolEntry = SymbolEntry { name: 0, info: 0, other: 0, index: 0, va
 /// The bytes of the symbols' names, each with its zero byte.
 pub fn names_size(symbols: &[Symbol]) -> u128
     ensures value { result ≡ length (names_bytes (symbol_names symbols.now)) }
-    ensures bound { result < 2 ^ 125 }
+    ensures bound { result < 2 ^ 122 }
 {
     let mut size: u128 = 0;
     for symbol in symbols {

@@ -154,23 +154,23 @@ abbrev pub start_of : OutFile → ℕ
 start_of f = 64 + 56 * length f.segments
 
 -- behind the segments
-abbrev pub own_place : OutFile → ℕ
+unfoldable pub own_place : OutFile → ℕ
 own_place f = end_from (start_of f) f.segments
 
 -- the symbol table
-abbrev pub symbols_place : OutFile → ℕ
+unfoldable pub symbols_place : OutFile → ℕ
 symbols_place f = aligned (own_place f + length (own_bytes f.sections))
 
 -- its string table
-abbrev pub strings_place : OutFile → ℕ
+unfoldable pub strings_place : OutFile → ℕ
 strings_place f = symbols_place f + 24 * (1 + length f.symbols)
 
 -- the names of the sections
-abbrev pub names_place : OutFile → ℕ
+unfoldable pub names_place : OutFile → ℕ
 names_place f = strings_place f + length (string_table (symbol_names f.symbols))
 
 -- the section headers
-abbrev pub headers_place : OutFile → ℕ
+unfoldable pub headers_place : OutFile → ℕ
 headers_place f = aligned (names_place f + length (string_table (section_names f.sections)))
 
 -- ---- the whole
