@@ -8,7 +8,8 @@ use Rattle.elf_types.specs.declared.output.OutSection.{OutSection}
 use Rattle.elf_types.specs.declared.records.SectionHeader.{SectionHeader}
 use Rattle.elf_types.specs.declared.records.SymbolEntry.{SymbolEntry}
 use Rattle.qed_model.specs.Written.{fields_bytes, program_headers, segments_bytes, end_from}
-use Rattle.qed_model.specs.Layout.{aligned, names_bytes, string_table, symbol_names, section_names, table_names, symbol_fields, symbol_bytes, symbols_bytes, entries_from, entries_of, own_bytes, section_fields, header_bytes, headers_bytes, headers_from, headers_of, file_fields, start_of, own_place, symbols_place, strings_place, names_place, headers_place, tables_bytes, written}
+use Rattle.qed_model.specs.Layout.{aligned, names_bytes, string_table, symbol_names, section_names, table_names, symbol_fields, symbol_bytes, symbols_bytes, entries_from, entries_of, own_bytes, section_fields, header_bytes, headers_bytes, headers_from, headers_of, table_headers, file_fields, start_of, own_place, symbols_place, strings_place, names_place, headers_place, tables_bytes, written}
+use Rattle.elf_write.specs.Places.{EndsWithin}
 use Rattle.qed_model.proofs.Fields.{length-fields_bytes}
 use Rattle.qed_model.proofs.PlainFiles.{length-program_headers, length-segments_bytes}
 
@@ -44,10 +45,15 @@ length-headers_from start segments name own (x ∷ sections) =
 
 -- the null section, the given ones and three tables
 pub length-headers_of : (f : OutFile) → length (headers_of f) ≡ length f.sections + 4
-unfolding headers_of
+unfolding headers_of table_headers
 length-headers_of f =
-    let given = headers_from (start_of f) f.segments 1 (own_place f) f.sections in
-    simp length-append (omega (arith, length-headers_from (start_of f) f.segments 1 (own_place f) f.sections))
+    let given : List SectionHeader = headers_from (start_of f) f.segments 1 (own_place f) f.sections in
+    omega (arith, length-append given (table_headers f), length-headers_from (start_of f) f.segments 1 (own_place f) f.sections)
+
+-- headers in two lists
+pub headers_bytes-append : (xs ys : List SectionHeader) → headers_bytes (xs ++ ys) ≡ headers_bytes xs ++ headers_bytes ys
+headers_bytes-append [] ys = refl
+headers_bytes-append (x ∷ xs) ys = ap (λ (t : List ℕ). header_bytes x ++ t) (headers_bytes-append xs ys) ∙ sym (append_assoc (header_bytes x) (headers_bytes xs) (headers_bytes ys))
 
 -- ---- names
 -- names in two lists
@@ -109,3 +115,21 @@ length-written f =
     let is = laid_out f in
     omega (arith, length_of_four header programs segments (tables_bytes f), length-file_fields f.entry f.flags (length f.segments) (headers_place f) (length f.sections),
       length-program_headers (start_of f) f.segments, length-segments_bytes (start_of f) f.segments, length-tables_bytes f, is.own)
+
+-- the parts of a file that is not too long lie within that bound
+pub ends_within : (n : ℕ) (f : OutFile) → length (written f) ≤ n → EndsWithin n f
+ends_within n f h =
+    let is = laid_out f in
+    let long = length-written f in
+    let named = length-section_names f.sections in
+    record {
+      segments = omega (arith, is.own, is.symbols, is.strings, is.names, is.headers);
+      own = is.symbols;
+      symbols = omega (arith, is.strings, is.names, is.headers);
+      strings = omega (arith, is.names, is.headers);
+      strings_size = omega (arith, is.names, is.headers);
+      names = omega (arith, is.headers);
+      names_size = omega (arith, is.headers);
+      names_end = is.headers;
+      headers = omega arith;
+    }

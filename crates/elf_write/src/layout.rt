@@ -1,6 +1,7 @@
 // Where the parts of the file stand.
 ghost use Rattle.std.specs.Prelude.{◌≡◌, ◌+◌, ◌^◌, ◌<◌};
-ghost use Rattle.qed_model.specs.Layout.{aligned as aligned_to_8, start_of, own_place, symbols_place, strings_place, names_place, headers_place};
+ghost use Rattle.qed_model.specs.Layout.{aligned as aligned_to_8};
+ghost use Rattle.elf_write.specs.Places.{ArePlaces};
 
 use crate::records::{HEADER_SIZE, PROGRAM_HEADER_SIZE, SYMBOL_SIZE};
 use crate::segments::end_from;
@@ -17,12 +18,16 @@ pub struct Places {
     pub start: u128,
     /// The own bytes of sections.
     pub own: u128,
+    /// The end of those bytes.
+    pub own_end: u128,
     /// The symbol table.
     pub symbols: u128,
     /// The names of symbols.
     pub strings: u128,
     /// The names of sections.
     pub names: u128,
+    /// The end of those names.
+    pub names_end: u128,
     /// The section headers.
     pub headers: u128,
 }
@@ -39,12 +44,7 @@ fn aligned(at: u128) -> u128
 /// The places of a file's parts.
 #[tactic(auto, unfolding(qed_model::specs::Layout::own_place, qed_model::specs::Layout::symbols_place, qed_model::specs::Layout::strings_place, qed_model::specs::Layout::names_place, qed_model::specs::Layout::headers_place))]
 pub fn places_of(file: &OutFile) -> Places
-    ensures start { result.start ≡ start_of file.now }
-    ensures own { result.own ≡ own_place file.now }
-    ensures symbols { result.symbols ≡ symbols_place file.now }
-    ensures strings { result.strings ≡ strings_place file.now }
-    ensures names { result.names ≡ names_place file.now }
-    ensures headers { result.headers ≡ headers_place file.now }
+    ensures places { ArePlaces file.now result }
     ensures bound { result.headers < 2 ^ 127 }
 {
     let sections = file.sections.as_slice();
@@ -52,9 +52,11 @@ pub fn places_of(file: &OutFile) -> Places
     let segments = file.segments.as_slice();
     let start = HEADER_SIZE + PROGRAM_HEADER_SIZE * segments.len() as u128;
     let own = end_from(start, segments);
-    let table = aligned(own + sections::own_size(sections));
+    let own_end = own + sections::own_size(sections);
+    let table = aligned(own_end);
     let strings = table + SYMBOL_SIZE * (1 + symbols.len() as u128);
     let names = strings + 1 + symbols::names_size(symbols);
-    let headers = aligned(names + 1 + sections::names_size(sections) + TABLE_NAMES_SIZE);
-    Places { start, own, symbols: table, strings, names, headers }
+    let names_end = names + 1 + sections::names_size(sections) + TABLE_NAMES_SIZE;
+    let headers = aligned(names_end);
+    Places { start, own, own_end, symbols: table, strings, names, names_end, headers }
 }

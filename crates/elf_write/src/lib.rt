@@ -4,10 +4,11 @@
 
 mod layout;
 mod numbers;
+mod parts;
 mod records;
 mod sections;
 mod segments;
 mod symbols;
 mod write;
 
-// pub use write::{file_size, write_elf};
+pub use write::{file_size, write_elf};

@@ -174,16 +174,18 @@ unfoldable pub headers_place : OutFile → ℕ
 headers_place f = aligned (names_place f + length (string_table (section_names f.sections)))
 
 -- ---- the whole
--- the null section, the given sections, and the three tables that are added: ".symtab", whose strings are the next section's, ".strtab" and ".shstrtab"
-unfoldable pub headers_of : OutFile → List SectionHeader
-headers_of f =
-    let names = length (string_table (map (λ s. s.name) f.sections)) in
-    null_header
-    ∷ (headers_from (start_of f) f.segments 1 (own_place f) f.sections
-    ++ (table_header names 2 (symbols_place f) (24 * (1 + length f.symbols)) (length f.sections + 2) (first_global 1 f.symbols) 24
+-- the three tables that are added: ".symtab", whose strings are the next section's, ".strtab" and ".shstrtab"
+unfoldable pub table_headers : OutFile → List SectionHeader
+table_headers f =
+    let names = length (string_table (map (λ x. x.name) f.sections)) in
+    table_header names 2 (symbols_place f) (24 * (1 + length f.symbols)) (length f.sections + 2) (first_global 1 f.symbols) 24
     ∷ table_header (names + 8) 3 (strings_place f) (length (string_table (symbol_names f.symbols))) 0 0 0
     ∷ table_header (names + 16) 3 (names_place f) (length (string_table (section_names f.sections))) 0 0 0
-    ∷ []))
+    ∷ []
+
+-- the null section, the given sections, and the tables that are added
+unfoldable pub headers_of : OutFile → List SectionHeader
+headers_of f = null_header ∷ (headers_from (start_of f) f.segments 1 (own_place f) f.sections ++ table_headers f)
 
 -- magic, class, encoding, version, padding; type, machine, version, entry, phoff, shoff, flags; ehsize, phentsize, phnum;
 -- shentsize, shnum, shstrndx
