@@ -26,13 +26,20 @@ string_table names = (0 ∷ []) ++ names_bytes names
 abbrev pub symbol_names : List Symbol → List (List ℕ)
 symbol_names symbols = map (λ s. s.name) symbols
 
--- ".symtab", ".strtab" and ".shstrtab"
+-- ".symtab"
+abbrev pub symtab_name : List ℕ
+symtab_name = 46 ∷ 115 ∷ 121 ∷ 109 ∷ 116 ∷ 97 ∷ 98 ∷ []
+
+-- ".strtab"
+abbrev pub strtab_name : List ℕ
+strtab_name = 46 ∷ 115 ∷ 116 ∷ 114 ∷ 116 ∷ 97 ∷ 98 ∷ []
+
+-- ".shstrtab"
+abbrev pub shstrtab_name : List ℕ
+shstrtab_name = 46 ∷ 115 ∷ 104 ∷ 115 ∷ 116 ∷ 114 ∷ 116 ∷ 97 ∷ 98 ∷ []
+
 abbrev pub table_names : List (List ℕ)
-table_names =
-    (46 ∷ 115 ∷ 121 ∷ 109 ∷ 116 ∷ 97 ∷ 98 ∷ [])
-    ∷ (46 ∷ 115 ∷ 116 ∷ 114 ∷ 116 ∷ 97 ∷ 98 ∷ [])
-    ∷ (46 ∷ 115 ∷ 104 ∷ 115 ∷ 116 ∷ 114 ∷ 116 ∷ 97 ∷ 98 ∷ [])
-    ∷ []
+table_names = symtab_name ∷ strtab_name ∷ shstrtab_name ∷ []
 
 -- the names of the given sections, and then those of the three tables
 abbrev pub section_names : List OutSection → List (List ℕ)

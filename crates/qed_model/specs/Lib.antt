@@ -17,6 +17,7 @@ pub mod ElfRefusals
 pub mod ElfFile
 pub mod Written
 pub mod Layout
+pub mod FileRead
 pub mod Woven
 pub mod Bounds
 pub mod Texts
