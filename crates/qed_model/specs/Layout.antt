@@ -181,14 +181,25 @@ unfoldable pub headers_place : OutFile → ℕ
 headers_place f = aligned (names_place f + length (string_table (section_names f.sections)))
 
 -- ---- the whole
--- the three tables that are added: ".symtab", whose strings are the next section's, ".strtab" and ".shstrtab"
+-- where the names of the tables begin, behind those of the given sections
+abbrev pub table_names_at : OutFile → ℕ
+table_names_at f = length (string_table (map (λ x. x.name) f.sections))
+
+-- ".symtab": its strings are those of the next section; its info is the number of the first symbol that is not STB_LOCAL
+abbrev pub symtab_header : OutFile → SectionHeader
+symtab_header f =
+    table_header (table_names_at f) 2 (symbols_place f) (24 * (1 + length f.symbols)) (length f.sections + 2) (first_global 1 f.symbols) 24
+
+-- ".strtab"
+abbrev pub strtab_header : OutFile → SectionHeader
+strtab_header f = table_header (table_names_at f + 8) 3 (strings_place f) (length (string_table (symbol_names f.symbols))) 0 0 0
+
+-- ".shstrtab"
+abbrev pub shstrtab_header : OutFile → SectionHeader
+shstrtab_header f = table_header (table_names_at f + 16) 3 (names_place f) (length (string_table (section_names f.sections))) 0 0 0
+
 unfoldable pub table_headers : OutFile → List SectionHeader
-table_headers f =
-    let names = length (string_table (map (λ x. x.name) f.sections)) in
-    table_header names 2 (symbols_place f) (24 * (1 + length f.symbols)) (length f.sections + 2) (first_global 1 f.symbols) 24
-    ∷ table_header (names + 8) 3 (strings_place f) (length (string_table (symbol_names f.symbols))) 0 0 0
-    ∷ table_header (names + 16) 3 (names_place f) (length (string_table (section_names f.sections))) 0 0 0
-    ∷ []
+table_headers f = symtab_header f ∷ strtab_header f ∷ shstrtab_header f ∷ []
 
 -- the null section, the given sections, and the tables that are added
 unfoldable pub headers_of : OutFile → List SectionHeader
