@@ -44,7 +44,11 @@ each_listed h g (x ∷ xs) l =
     let rest = each_listed h (λ i. g (i + 1)) xs (lists_tail g x xs l) in
     each_cons (length xs) (λ i. h (g i)) ∙ rw (head, rest) refl
 
-pub sum_cons : (n : ℕ) (f : ℕ → ℕ) → sum_below (suc n) f ≡ f 0 + sum_below n (λ i. f (i + 1))
+pub sum_same : (n : ℕ) (g h : ℕ → ℕ) → ((i : ℕ) → i < n → g i ≡ h i) → sum_below n g ≡ sum_below n h
+sum_same zero g h same = refl
+sum_same (suc n) g h same = rw (sum_same n g h (λ i lt. same i (omega arith)), same n (omega arith)) refl
+
+sum_cons : (n : ℕ) (f : ℕ → ℕ) → sum_below (suc n) f ≡ f 0 + sum_below n (λ i. f (i + 1))
 sum_cons zero f = omega arith
 sum_cons (suc n) f =
     let h = sum_cons n f in

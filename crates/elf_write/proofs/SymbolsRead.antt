@@ -17,7 +17,7 @@ use Rattle.qed_model.proofs.BelowLaws.{first_none}
 use Rattle.elf_write.specs.Widths.{SymbolFits}
 use Rattle.elf_write.proofs.Sizes.{length-entries_from}
 use Rattle.elf_write.proofs.Stands.{Stands, stands_whole}
-use Rattle.elf_write.proofs.Listing.{Lists, lists_tail, each_same, each_cons, each_listed, sum_cons, sum_listed, total, total-map}
+use Rattle.elf_write.proofs.Listing.{Lists, lists_tail, each_same, each_cons, each_listed, sum_same, sum_listed, total, total-map}
 use Rattle.elf_write.proofs.NamesRead.{NameRead, first_name, other_names, empty_read, names_stand}
 use Rattle.elf_write.proofs.RecordsRead.{EntryFits, entries_read}
 use Rattle.elf_write.proofs.SegmentsRead.{all_head, all_tail}
@@ -161,10 +161,6 @@ same_symbols f file t =
     let table : List ℕ = symbols_bytes (entries_of f.symbols) in
     each_same (length (entries_of f.symbols)) (symbol_of file (symtab_header f)) (λ j. symbol_shown strings (symbol_entry table j)) (one_symbol f file t)
     ∙ each_listed (symbol_shown strings) (symbol_entry table) (entries_of f.symbols) t.lists ∙ t.read.shown_are
-
-sum_same : (n : ℕ) (g h : ℕ → ℕ) → ((i : ℕ) → i < n → g i ≡ h i) → sum_below n g ≡ sum_below n h
-sum_same zero g h same = refl
-sum_same (suc n) g h same = rw (sum_same n g h (λ i lt. same i (omega arith)), same n (omega arith)) refl
 
 name_of_symbol : (file : List ℕ) (s : SectionHeader) (j : ℕ) → symbol_name file s j ≡ (symbol_of file s j).name
 unfolding symbol_of

@@ -28,10 +28,10 @@ given_headers f = headers_from (start_of f) f.segments 1 (own_place f) f.section
 abbrev pub front_headers : OutFile → List SectionHeader
 front_headers f = null_header ∷ given_headers f
 
-abbrev last_headers : OutFile → List SectionHeader
+abbrev pub last_headers : OutFile → List SectionHeader
 last_headers f = symtab_header f ∷ strtab_header f ∷ shstrtab_header f ∷ []
 
-headers_are : (f : OutFile) → headers_of f ≡ front_headers f ++ last_headers f
+pub headers_are : (f : OutFile) → headers_of f ≡ front_headers f ++ last_headers f
 unfolding headers_of table_headers
 headers_are f = refl
 
