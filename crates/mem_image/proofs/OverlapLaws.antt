@@ -1,15 +1,15 @@
 -- Segments that share a byte, and segments with all their bytes written out.
-use Rattle.std.proofs.Common.{◌≡◌, ℕ, ◌+◌, ◌-◌, ◌<◌, ◌≤◌, inl, inr, ⊎_elim, true, List, [], ◌∷◌, length, map, Some, refl, sym, ap, ◌∙◌, arith, get_or}
-use Rattle.std.specs.Prelude.{nat_lt, slice_get}
+use Rattle.std.proofs.Common.{◌≡◌, ℕ, zero, suc, ◌+◌, ◌-◌, ◌<◌, ◌≤◌, inl, inr, ⊎_elim, true, List, [], ◌∷◌, length, map, Some, refl, sym, ap, ◌∙◌, arith, get_or}
+use Rattle.std.specs.Prelude.{nat_lt, nat_le, slice_get}
 use Rattle.std.specs.Option.{option_map}
-use Rattle.std.proofs.lemmas.Bool.{and_from, le-leb, lt-ltb, cases_lt}
+use Rattle.std.proofs.lemmas.Bool.{and_from, and_parts, le-leb, lt-ltb, leb-true, ltb-true, cases_lt}
 use Rattle.std.proofs.lemmas.Option.{slice_get-get_or, slice_get_within, slice_get-map}
 use Rattle.std.proofs.lemmas.List.{length-map}
 use Rattle.qed_model.proofs.MemoryLaws.{same_memory}
 use Rattle.qed_model.specs.Kept.{LoadSegment, memory_of}
 use Rattle.mem_image.specs.declared.spec.SegmentSpec.{SegmentSpec}
 use Rattle.mem_image.specs.Segments.{cell_in, AllFit}
-use Rattle.mem_image.specs.Overlap.{segment_of, segments_of, filled, Share, Overlaps, IsNext, IsLeast}
+use Rattle.mem_image.specs.Overlap.{segment_of, segments_of, filled, Share, Overlaps, IsNext, IsLeast, AreApart, Ascends}
 use Rattle.mem_image.proofs.SegmentLaws.{index_zeros, length_zeros, get-memory_of}
 
 -- ---- two segments
@@ -92,3 +92,33 @@ cell_in-filled (s ∷ ss) q = rw (cell_in-filled ss q, index_zeros s.bytes (s.si
 -- the memory stays
 pub memory_of-filled : (ss : List LoadSegment) → AllFit ss → memory_of (map filled ss) ≡ memory_of ss
 memory_of-filled ss h = same_memory _ _ (λ q. get-memory_of (map filled ss) q (all_fit-filled ss h) ∙ cell_in-filled ss q ∙ sym (get-memory_of ss q h))
+
+-- ---- segments that ascend
+-- the segment at a place begins at the bound or behind it
+begins : (lo k : ℕ) (ss : List LoadSegment) (t : LoadSegment) → Ascends lo ss → slice_get ss k ≡ Some t → lo ≤ t.address
+begins lo k [] t h e = absurd (cc)
+begins lo zero (s ∷ ss) t h e = let is : s ≡ t = cc in rw is at h.0
+begins lo (suc k) (s ∷ ss) t h e = let l = begins (s.address + s.size) k ss t h.1 e in omega (arith, l, h.0)
+
+-- a segment that begins behind another shares no byte with it
+behind : (s t : LoadSegment) → s.address + s.size ≤ t.address → Share s t → ⊥
+behind s t h share =
+    let x = and_parts (nat_le s.address share.address) (nat_lt (share.address - s.address) s.size) share.first in
+    let y = and_parts (nat_le t.address share.address) (nat_lt (share.address - t.address) t.size) share.second in
+    let low = leb-true s.address share.address x.0 in
+    let near = ltb-true (share.address - s.address) s.size x.1 in
+    let high = leb-true t.address share.address y.0 in
+    omega (arith, h, low, near, high)
+
+-- no two of them share a byte
+pub ascends-apart : (lo : ℕ) (ss : List LoadSegment) → Ascends lo ss → AreApart ss
+ascends-apart lo [] h i j o = let e = o.first_at in absurd (cc)
+ascends-apart lo (s ∷ ss) h zero zero o = let l = o.order in absurd (omega arith)
+ascends-apart lo (s ∷ ss) h zero (suc j) o =
+    let e = o.first_at in
+    let is : s ≡ o.first = cc in
+    behind o.first o.second (rw is at (begins (s.address + s.size) j ss o.second h.1 o.second_at)) o.share
+ascends-apart lo (s ∷ ss) h (suc i) zero o = let l = o.order in absurd (omega arith)
+ascends-apart lo (s ∷ ss) h (suc i) (suc j) o =
+    let l = o.order in
+    ascends-apart (s.address + s.size) ss h.1 i j (record { order = omega arith; first = o.first; second = o.second; first_at = o.first_at; second_at = o.second_at; share = o.share })

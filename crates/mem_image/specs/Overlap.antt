@@ -1,5 +1,5 @@
 -- Segments of a list that share a byte.
-use Rattle.std.specs.Prelude.{◌≡◌, ℕ, ◌-◌, ◌<◌, ◌≤◌, ◌⊎◌, true, List, map, length, replicate, slice_get, Some, ◌++◌}
+use Rattle.std.specs.Prelude.{◌≡◌, ℕ, ◌+◌, ◌-◌, ◌<◌, ◌≤◌, ◌⊎◌, true, List, [], ◌∷◌, map, length, replicate, slice_get, Some, ◌++◌}
 use Rattle.qed_model.specs.Kept.{LoadSegment}
 use Rattle.qed_model.specs.Loaded.{flags_of}
 use Rattle.mem_image.specs.declared.spec.SegmentSpec.{SegmentSpec}
@@ -46,6 +46,11 @@ pub record IsNext (ss : List LoadSegment) (i j : ℕ) : Type 0 where
 -- no two share a byte
 abbrev pub AreApart : List LoadSegment → Type 0
 AreApart ss = (i j : ℕ) → Overlaps ss i j → ⊥
+
+-- each segment begins behind the one before it, the first at the bound or behind it
+abbrev pub Ascends : ℕ → List LoadSegment → Type 0
+Ascends lo [] = Unit {0}
+Ascends lo (s ∷ ss) = (lo ≤ s.address) × Ascends (s.address + s.size) ss
 
 -- segments that an image keeps
 pub record AreSound (ss : List LoadSegment) : Type 0 where

@@ -55,7 +55,8 @@ impl Image {
     /// or 8.
     pub fn read(&self, address: u64, width: u64) -> Option<u64>
         requires { IsWidth width }
-        ensures { result ≡ allowed_number (λ f. f.read) self.now address width }
+        ensures number { result ≡ allowed_number (λ f. f.read) self.now address width }
+        ensures small { IfSome result (λ n. n < 256 ^ width) }
     {
         self.number(Access::Read, address, width)
     }

@@ -7,10 +7,13 @@ pub mod Values
 pub mod Machine
 pub mod Halves
 pub mod Kept
+pub mod Progress
+pub mod Struck
 pub mod Weave
 pub mod Sequences
 pub mod Plain
 pub mod Loaded
+pub mod LoadedFile
 pub mod ElfFields
 pub mod ElfRules
 pub mod ElfRefusals
@@ -21,3 +24,5 @@ pub mod FileRead
 pub mod Woven
 pub mod Bounds
 pub mod Texts
+pub mod RunTexts
+pub mod ErrorTexts

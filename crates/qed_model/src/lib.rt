@@ -1,8 +1,11 @@
 //! The definitions of qed, over plain data, and the types that several crates share.
 #![tactic(auto)]
 
+mod change;
 mod item;
 mod machine;
+mod rows;
 
+pub use change::Place;
 pub use item::Item;
 pub use machine::{Cause, Outcome};

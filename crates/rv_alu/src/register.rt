@@ -1,6 +1,8 @@
-// Sums, shifts and comparisons of whole registers.
-ghost use Rattle.std.specs.Prelude.{◌≡◌, ℕ, ◌+◌, ◌-◌, ◌*◌, ◌/◌, ◌%◌, ◌^◌, int_lt};
-ghost use Rattle.qed_model.specs.Values.{wrapped, floor_shift, s64};
+// Sums, shifts, tests and logic of whole registers.
+ghost use Rattle.std.specs.Prelude.{◌≡◌, ℕ, ◌+◌, ◌-◌, ◌*◌, ◌/◌, ◌%◌, ◌^◌, int_lt, nat_lt, bit_and, bit_or, bit_xor};
+ghost use Rattle.qed_model.specs.Values.{wrapped, floor_shift, s64, from_test};
+
+use crate::compare::{below, less};
 
 /// The sum modulo 2^64.
 pub(crate) fn add(a: u64, b: u64) -> u64
@@ -37,9 +39,37 @@ pub(crate) fn sra(a: u64, b: u64) -> u64
     (a.cast_signed() >> (b & 63)).cast_unsigned()
 }
 
-/// Whether a is less than b, both read as signed.
-pub(crate) fn less(a: u64, b: u64) -> bool
-    ensures { result ≡ int_lt (s64 a) (s64 b) }
+/// 1 where a is less than b, both read as signed, else 0.
+pub(crate) fn slt(a: u64, b: u64) -> u64
+    ensures { result ≡ from_test (int_lt (s64 a) (s64 b)) }
 {
-    a.cast_signed() < b.cast_signed()
+    u64::from(less(a, b))
+}
+
+/// 1 where a is less than b, else 0.
+pub(crate) fn sltu(a: u64, b: u64) -> u64
+    ensures { result ≡ from_test (nat_lt a b) }
+{
+    u64::from(below(a, b))
+}
+
+/// Each bit is set where those of a and b differ.
+pub(crate) fn xor(a: u64, b: u64) -> u64
+    ensures { result ≡ bit_xor a b }
+{
+    a ^ b
+}
+
+/// Each bit is set where that of a or of b is.
+pub(crate) fn or(a: u64, b: u64) -> u64
+    ensures { result ≡ bit_or a b }
+{
+    a | b
+}
+
+/// Each bit is set where those of a and b are.
+pub(crate) fn and(a: u64, b: u64) -> u64
+    ensures { result ≡ bit_and a b }
+{
+    a & b
 }

@@ -1,12 +1,24 @@
-// The rows of the instruction table that compute, and those that compare.
+// What the computing rows of the instruction table compute, and when its branches are taken.
 ghost use Rattle.std.specs.Prelude.{◌≡◌};
 ghost use Rattle.qed_model.specs.Values.{value, holds};
 
+use crate::compare::{below, equal, less, not_below, not_less, unequal};
 use crate::divide::{div, divu, rem, remu};
 use crate::multiply::{mul, mulh, mulhsu, mulhu};
-use crate::register::{add, less, sll, sra, srl, sub};
+use crate::register::{add, and, or, sll, slt, sltu, sra, srl, sub, xor};
 use crate::word::{addw, divuw, divw, mulw, remuw, remw, sllw, sraw, srlw, subw};
+use qed_model::rows;
 use rv_isa::Kind;
+
+// What the row of the kind says of two operands, and `other` where it is not among these rows.
+macro_rules! by_row {
+    ($kind:ident $a:ident $b:ident $other:literal; $($row:ident $format:ident $mask:literal $match:literal $value:ident,)*) => {
+        match $kind {
+            $(Kind::$row => $value($a, $b),)*
+            _ => $other,
+        }
+    };
+}
 
 /// What an instruction of a computing kind writes to rd, by the listings of RV64I and of the M
 /// extension (RISC-V unprivileged manual). a is the number in rs1; b is the number in rs2, or the
@@ -16,37 +28,7 @@ use rv_isa::Kind;
 pub fn compute(kind: Kind, a: u64, b: u64) -> u64
     ensures { result ≡ value kind a b }
 {
-    match kind {
-        Kind::Add | Kind::Addi => add(a, b),
-        Kind::Sub => sub(a, b),
-        Kind::Slt | Kind::Slti => u64::from(less(a, b)),
-        Kind::Sltu | Kind::Sltiu => u64::from(a < b),
-        Kind::Xor | Kind::Xori => a ^ b,
-        Kind::Or | Kind::Ori => a | b,
-        Kind::And | Kind::Andi => a & b,
-        Kind::Sll | Kind::Slli => sll(a, b),
-        Kind::Srl | Kind::Srli => srl(a, b),
-        Kind::Sra | Kind::Srai => sra(a, b),
-        Kind::Addw | Kind::Addiw => addw(a, b),
-        Kind::Subw => subw(a, b),
-        Kind::Sllw | Kind::Slliw => sllw(a, b),
-        Kind::Srlw | Kind::Srliw => srlw(a, b),
-        Kind::Sraw | Kind::Sraiw => sraw(a, b),
-        Kind::Mul => mul(a, b),
-        Kind::Mulh => mulh(a, b),
-        Kind::Mulhsu => mulhsu(a, b),
-        Kind::Mulhu => mulhu(a, b),
-        Kind::Div => div(a, b),
-        Kind::Divu => divu(a, b),
-        Kind::Rem => rem(a, b),
-        Kind::Remu => remu(a, b),
-        Kind::Mulw => mulw(a, b),
-        Kind::Divw => divw(a, b),
-        Kind::Divuw => divuw(a, b),
-        Kind::Remw => remw(a, b),
-        Kind::Remuw => remuw(a, b),
-        _ => 0,
-    }
+    rows!(immediate shift register word multiply => by_row kind a b 0)
 }
 
 /// Whether a branch is taken, a being the number in rs1 and b the number in rs2 (RISC-V
@@ -55,15 +37,7 @@ pub fn compute(kind: Kind, a: u64, b: u64) -> u64
 pub fn taken(kind: Kind, a: u64, b: u64) -> bool
     ensures { result ≡ holds kind a b }
 {
-    match kind {
-        Kind::Beq => a == b,
-        Kind::Bne => a != b,
-        Kind::Blt => less(a, b),
-        Kind::Bge => !less(a, b),
-        Kind::Bltu => a < b,
-        Kind::Bgeu => a >= b,
-        _ => false,
-    }
+    rows!(branch => by_row kind a b false)
 }
 
 #[cfg(test)]

@@ -116,7 +116,9 @@ impl Ins {
         }
     }
 
-    fn has_immediate(&self) -> bool
+    /// Whether a computing instruction has an immediate in the place of rs2. False for the other
+    /// classes.
+    pub fn has_immediate(&self) -> bool
         ensures { result ≡ has_immediate self.now.kind }
     {
         match self.kind {

@@ -8,6 +8,7 @@ mod class;
 mod field;
 mod ins;
 mod kind;
+mod operation;
 mod reg;
 mod regs;
 
@@ -15,5 +16,6 @@ pub use class::Class;
 pub use field::Field;
 pub use ins::Ins;
 pub use kind::Kind;
+pub use operation::Operation;
 pub use reg::Reg;
 pub use regs::Regs;

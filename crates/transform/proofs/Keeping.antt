@@ -13,29 +13,22 @@ use Rattle.qed_model.specs.Kept.{Kept}
 use Rattle.qed_model.specs.Loaded.{loaded}
 use Rattle.qed_model.specs.Bounds.{piece_bound}
 use Rattle.qed_model.proofs.Fields.{words_of-bytes_of, length-bytes_of}
-use Rattle.weave_core.proofs.FirstFits.{first_input, first_output}
-use Rattle.weave_core.proofs.FirstKept.{AllLow, first_kept}
+use Rattle.weave_core.proofs.FirstKept.{first_input, first_output, first_kept}
 use Rattle.weave_core.proofs.Straight.{Computes, AllCompute}
 use Rattle.weave_core.proofs.LoadedFirst.{loaded_input, loaded_output}
 use Rattle.transform.specs.Read.{IsSource}
 use Rattle.transform.specs.Transform.{AreWords}
 use Rattle.transform.proofs.FirstFiles.{length-segment}
-use Rattle.transform.proofs.Writable.{few_words, some_words}
+use Rattle.transform.proofs.Writable.{all_low, few_words, some_words}
 
 -- ADDI and ADD compute
 sum_computes : (i : Ins) → IsSum i → Computes i
 sum_computes i s = ⊎_elim (λ e. record { class = ap class_of e; other = ap is_auipc e }) (λ e. record { class = ap class_of e; other = ap is_auipc e }) s
 
--- what is read computes, on low registers
+-- what is read computes
 all_compute : (is : List Ins) → All IsSource is → AllCompute is
 all_compute [] a = tt
 all_compute (i ∷ is) a = (sum_computes i (a 0 i (omega arith)).sum, all_compute is (λ k d h. a (suc k) d (omega (arith, h))))
-
-all_low : (is : List Ins) → All IsSource is → AllLow is
-all_low [] a = tt
-all_low (i ∷ is) a =
-    let low = (a 0 i (omega arith)).low in
-    (record { rd = low.rd; rs1 = low.rs1; rs2 = low.rs2 }, all_low is (λ k d h. a (suc k) d (omega (arith, h))))
 
 -- the output that is written for a first file keeps its values
 pub keeps : (input output : List ℕ) (body : List Ins) (words : List ℕ) → IsFirst input → length (segment_bytes input 0) ≤ 68 → All IsSource body → length body ≤ 16 → Decode (words_of (segment_bytes input 0)) (body ++ ecall ∷ []) → AreWords words → Decode words (placed code_base (woven_items 1 half [] image_base (body ∷ []))) → output ≡ plain_file code_base 0 (woven_segments (segment_bytes input 0) words) → Kept (loaded input) (loaded output) (piece_bound 16 1)

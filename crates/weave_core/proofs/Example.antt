@@ -23,8 +23,7 @@ use Rattle.qed_model.specs.Kept.{File, memory_of, start, zeros, after_input, aft
 use Rattle.qed_model.specs.Bounds.{piece_bound}
 use Rattle.qed_model.proofs.Steps.{step-known}
 use Rattle.weave_core.proofs.Placing.{has_decoded}
-use Rattle.weave_core.proofs.FirstFits.{first_input, first_output, input_fetches, output_fetches}
-use Rattle.weave_core.proofs.FirstKept.{first_kept}
+use Rattle.weave_core.proofs.FirstKept.{first_input, first_output, input_is_fetched, output_is_fetched, first_kept}
 
 -- ---- the words
 -- how each new code begins: x1 to x13 and their pairs are set to 0, x14 gets the distance of the halves and x16 the address of
@@ -183,7 +182,7 @@ module _ (bs cs : List ℕ) (is : List Ins) (short : length bs ≤ 4096) (room :
   input_run n simple =
       let m = memory_of (first_input bs).segments in
       let r = (first_input bs).ranges in
-      run_is m r 65536 (is ++ ecall ∷ []) (has_decoded (fetched_at m r) 65536 (words_of bs) (is ++ ecall ∷ []) source (input_fetches bs cs short room)) n (start (first_input bs) zeros) simple refl refl
+      run_is m r 65536 (is ++ ecall ∷ []) (has_decoded (fetched_at m r) 65536 (words_of bs) (is ++ ecall ∷ []) source (input_is_fetched bs cs short room)) n (start (first_input bs) zeros) simple refl refl
 
   abbrev new_code : List Ins
   new_code = placed 77824 (woven_items 1 4096 [] 65536 (is ∷ []))
@@ -192,7 +191,7 @@ module _ (bs cs : List ℕ) (is : List Ins) (short : length bs ≤ 4096) (room :
   output_run n simple =
       let m = memory_of (first_output bs cs).segments in
       let r = (first_output bs cs).ranges in
-      run_is m r 77824 new_code (has_decoded (fetched_at m r) 77824 (words_of cs) new_code code (output_fetches bs cs short room)) n (start (first_output bs cs) zeros) simple refl refl
+      run_is m r 77824 new_code (has_decoded (fetched_at m r) 77824 (words_of cs) new_code code (output_is_fetched bs cs short room)) n (start (first_output bs cs) zeros) simple refl refl
 
 -- a state of a run that has left the memory of a file as it was
 abbrev state_of : File → List ℕ → ℕ → Outcome → State

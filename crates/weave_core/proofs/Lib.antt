@@ -15,7 +15,10 @@ pub mod Values
 pub mod Planned
 pub mod Placing
 pub mod Straight
-pub mod FirstFits
-pub mod LoadedFirst
+pub mod SegmentFits
+pub mod SegmentKept
+pub mod StraightWords
+pub mod SegmentPlaces
 pub mod FirstKept
+pub mod LoadedFirst
 mod Example

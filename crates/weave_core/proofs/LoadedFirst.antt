@@ -8,7 +8,8 @@ use Rattle.qed_model.specs.Written.{plain_file}
 use Rattle.qed_model.specs.Woven.{code_base, woven_segments}
 use Rattle.qed_model.proofs.Fields.{length-bytes_of}
 use Rattle.qed_model.proofs.ReadBack.{read_back}
-use Rattle.weave_core.proofs.FirstFits.{whole, readable, executable, first_input, first_output}
+use Rattle.weave_core.proofs.SegmentFits.{executable}
+use Rattle.weave_core.proofs.FirstKept.{whole, readable, first_input, first_output}
 
 -- a segment whose header was read
 segment_is : (file : List ℕ) (k a n p : ℕ) (bytes : List ℕ) → p_vaddr file k ≡ a → p_memsz file k ≡ n → p_flags file k ≡ p → segment_bytes file k ≡ bytes → segment_at file k ≡ record { address = a; size = n; flags = flags_of p; bytes = bytes }

@@ -1,0 +1,46 @@
+-- Runs of a machine: one step more, and none where it does not go on.
+use Rattle.std.proofs.Common.{◌≡◌, ◌≢◌, ℕ, zero, suc, ◌+◌, ◌-◌, ◌<◌, false, refl, sym, ap, ◌∙◌, subst, arith}
+use Rattle.qed_model.specs.declared.machine.Outcome.{Outcome}
+use Rattle.qed_model.specs.declared.machine.Outcome.TheVariants.{Going, Ended, Fired, Trapped}
+use Rattle.qed_model.specs.Machine.{State, step, step_at}
+use Rattle.qed_model.specs.Progress.{Progress, advanced, steps_after, progress}
+use Rattle.rv_step.specs.Known.{goes_on}
+
+stays_at : (o : Outcome) (s : State) → goes_on o ≡ false → step_at o s ≡ s
+stays_at Going s h = absurd (cc)
+stays_at Ended s h = refl
+stays_at Fired s h = refl
+stays_at (Trapped c pc) s h = refl
+
+as_many : (o : Outcome) (n : ℕ) → goes_on o ≡ false → steps_after o n ≡ n
+as_many Going n h = absurd (cc)
+as_many Ended n h = refl
+as_many Fired n h = refl
+as_many (Trapped c pc) n h = refl
+
+stays_step : (s : State) → goes_on s.outcome ≡ false → step s ≡ s
+unfolding step
+stays_step s h = stays_at s.outcome s h
+
+-- a machine that does not go on stays as it is
+stays : (p : Progress) → goes_on p.state.outcome ≡ false → advanced p ≡ p
+unfolding advanced
+stays p h = ap (λ s. record { state = s; steps = steps_after p.state.outcome p.steps }) (stays_step p.state h) ∙ ap (λ n. record { state = p.state; steps = n }) (as_many p.state.outcome p.steps h)
+
+pub stays_long : (p : Progress) (n : ℕ) → goes_on p.state.outcome ≡ false → progress p n ≡ p
+unfolding progress
+stays_long p zero h = refl
+stays_long p (suc n) h = ap (λ q. progress q n) (stays p h) ∙ stays_long p n h
+
+-- no step is left
+pub none_left : (p : Progress) (n k : ℕ) → n - k ≡ 0 → progress p (n - k) ≡ p
+unfolding progress
+none_left p n k h = ap (progress p) h
+
+one_step : (p : Progress) (n : ℕ) → progress p (suc n) ≡ progress (advanced p) n
+unfolding progress
+one_step p n = refl
+
+-- one step of those that are left
+pub one_less : (p : Progress) (n k : ℕ) → k < n → progress p (n - k) ≡ progress (advanced p) (n - (k + 1))
+one_less p n k h = let e : n - k ≡ suc (n - (k + 1)) = omega (arith, h) in ap (progress p) e ∙ one_step p (n - (k + 1))

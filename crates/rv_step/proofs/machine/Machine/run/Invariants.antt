@@ -1,0 +1,7 @@
+use Rattle.std.proofs.Common.{◌≡◌, ◌-◌}
+use Rattle.qed_model.specs.Progress.{progress}
+use Rattle.rv_step.proofs.machine.Machine.run.Given as goal
+
+-- the steps that are left lead to the same end
+abbrev pub invariant-loop : goal.invariant-loop
+invariant-loop l = progress l.self (l.n - l.counter) ≡ progress l.initial.self l.n

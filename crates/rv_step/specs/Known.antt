@@ -1,0 +1,49 @@
+-- What stands at an address, and what a strike makes of a machine.
+use Rattle.std.specs.Prelude.{ℕ, ◌+◌, ◌%◌, ◌==◌, ◌&&◌, Bool, true, false, cond, Option, None, Some}
+use Rattle.rv_isa.specs.declared.ins.Ins.{Ins}
+use Rattle.qed_model.specs.Memory.{grants, number}
+use Rattle.qed_model.specs.Machine.{State, Fetched, Refused, Unknown, Known, fetched_at, in_range}
+use Rattle.qed_model.specs.declared.change.Place.{Place}
+use Rattle.qed_model.specs.declared.machine.Outcome.{Outcome}
+use Rattle.qed_model.specs.declared.machine.Outcome.TheVariants.{Going, Ended, Fired, Trapped}
+use Rattle.qed_model.specs.Table.{Format, R}
+use Rattle.qed_model.specs.Progress.{Progress}
+use Rattle.qed_model.specs.Struck.{struck}
+
+-- the instruction, where one was fetched
+abbrev pub instruction_of : Fetched → Option Ins
+instruction_of Refused = None
+instruction_of (Unknown w) = None
+instruction_of (Known i) = Some i
+
+-- the instruction at an address
+abbrev pub known_at : State → ℕ → Option Ins
+known_at s a = instruction_of (fetched_at s.memory s.ranges a)
+
+-- an aligned address, of whose four bytes each lies in one code range and may be executed
+abbrev pub is_code : State → ℕ → Bool
+is_code s a = (a % 4 == 0) && (in_range a s.ranges && grants (λ f. f.execute) s.memory a 4)
+
+-- the word at such an address
+abbrev pub word_at : State → ℕ → Option ℕ
+word_at s a = cond (is_code s a) (Some (number s.memory a 4)) None
+
+-- a strike is no step
+abbrev pub struck_progress : Place → ℕ → Progress → Progress
+struck_progress p x m = record { state = struck p x m.state; steps = m.steps }
+
+-- another state, and as many steps
+abbrev pub at_state : State → Progress → Progress
+at_state s m = record { state = s; steps = m.steps }
+
+-- the format whose second operand is a register
+abbrev pub is_register_format : Format → Bool
+is_register_format R = true
+is_register_format _ = false
+
+-- whether a step does anything
+abbrev pub goes_on : Outcome → Bool
+goes_on Going = true
+goes_on Ended = false
+goes_on Fired = false
+goes_on (Trapped c pc) = false

@@ -1,0 +1,155 @@
+// The machine, from outside.
+ghost use Rattle.std.specs.Prelude.{◌≡◌, ◌+◌, ◌%◌, ◌^◌, ◌<◌, cond, length, map, slice_set, slice_index, IfOk, Some, None};
+ghost use Rattle.std.specs.Option.{option_map};
+ghost use Rattle.std.specs.FinMap.{get};
+ghost use Rattle.qed_model.specs.Kept.{start};
+ghost use Rattle.qed_model.specs.LoadedFile.{load_segments, loaded_file};
+ghost use Rattle.qed_model.specs.Machine.{reg, fetched_at};
+ghost use Rattle.qed_model.specs.Progress.{advanced, begun, progress};
+ghost use Rattle.qed_model.specs.Struck.{struck};
+ghost use Rattle.mem_image.specs.Overlap.{AreApart};
+ghost use Rattle.mem_image.specs.Segments.{AllFit};
+ghost use Rattle.rv_step.specs.Known.{goes_on, known_at, struck_progress};
+
+use crate::range::CodeRange;
+use elf_types::ElfFile;
+use mem_image::Image;
+use qed_model::{Outcome, Place};
+use rv_isa::{Ins, Reg, Regs};
+use std::alloc::{AllocError, Global};
+use std::marker::Model;
+
+/// A machine: one hart of RV64IM with its memory. Addresses are in bytes.
+#[derive(Debug, Drop)]
+pub struct Machine {
+    pub(crate) regs: Regs,
+    pub(crate) pc: u64,
+    pub(crate) image: Image,
+    pub(crate) ranges: Vec<CodeRange>,
+    pub(crate) outcome: Outcome,
+    pub(crate) steps: u64,
+}
+
+impl Model for Machine {
+    ghost use Rattle.qed_model.specs.Progress.{Progress};
+    ghost use Rattle.rv_step.specs.Codes.{progress_code};
+    ghost use Rattle.rv_step.specs.Ranges.{spans};
+
+    ghost Value = { Progress };
+
+    ghost coded = { progress_code };
+
+    ghost view = { λ m. record { state = record { regs = m.regs; pc = m.pc; memory = m.image; ranges = spans m.ranges.items; outcome = m.outcome }; steps = m.steps } };
+}
+
+impl Machine {
+    /// One step, as far as the machine goes on, and how it stands then (RISC-V unprivileged manual, RV64I and the M
+    /// extension). A step that ends, fires or traps changes nothing but the outcome, and is counted.
+    #[tactic(auto, unfolding(qed_model::specs::Machine::step, qed_model::specs::Progress::advanced))]
+    pub fn step(&mut self) -> Outcome
+        ensures step { self.new ≡ advanced self.old }
+        ensures outcome { result ≡ self.new.state.outcome }
+    {
+        if self.goes_on() {
+            self.advance();
+            self.steps = self.steps.saturating_add(1);
+        }
+        self.outcome
+    }
+
+    /// Whether the machine has not stopped.
+    fn goes_on(&self) -> bool
+        ensures { result ≡ goes_on self.now.state.outcome }
+    {
+        matches!(self.outcome, Outcome::Going)
+    }
+
+    /// As many steps as the number says, and how the machine stands then.
+    pub fn run(&mut self, n: u64) -> Outcome
+        ensures run { self.new ≡ progress self.old n }
+        ensures outcome { result ≡ self.new.state.outcome }
+    {
+        for _ in 0..n {
+            if !self.goes_on() {
+                return self.outcome;
+            }
+            self.step();
+        }
+        self.outcome
+    }
+
+    /// The number that a register holds.
+    pub fn reg(&self, r: Reg) -> u64
+        ensures { result ≡ reg self.now.state r }
+    {
+        self.regs.get(r)
+    }
+
+    /// The address of the next instruction.
+    pub fn pc(&self) -> u64
+        ensures { result ≡ self.now.state.pc }
+    {
+        self.pc
+    }
+
+    /// How many steps were made while the machine went on. It stays at 2^64 - 1.
+    pub fn steps(&self) -> u64
+        ensures { result ≡ self.now.steps }
+    {
+        self.steps
+    }
+
+    /// Whether the machine goes on, or how it stopped.
+    pub fn outcome(&self) -> Outcome
+        ensures { result ≡ self.now.state.outcome }
+    {
+        self.outcome
+    }
+
+    /// The instruction at the pc, or None where no code may be executed there or the word is no instruction.
+    pub fn next(&self) -> Option<Ins>
+        ensures { result ≡ known_at self.now.state self.now.state.pc }
+    {
+        self.known(self.pc)
+    }
+
+    /// The instruction that stands this many bytes behind the pc, modulo 2^64, or None as in `next`.
+    pub fn ahead(&self, offset: u64) -> Option<Ins>
+        ensures { result ≡ known_at self.now.state ((self.now.state.pc + offset) % 2 ^ 64) }
+    {
+        self.known(self.pc.wrapping_add(offset))
+    }
+
+    /// The byte at an address, or None where it is not mapped.
+    pub fn byte(&self, address: u64) -> Option<u8>
+        ensures { result ≡ option_map (λ c. c.byte) (get self.now.state.memory address) }
+    {
+        self.image.peek(address)
+    }
+
+    /// Gives a register other than x0 another number, or each of eight bytes that is mapped its byte of the number,
+    /// little endian and whatever its permission.
+    #[tactic(auto, unfolding(qed_model::specs::Struck::struck))]
+    pub fn strike(&mut self, place: &Place, value: u64)
+        ensures { self.new ≡ struck_progress place.now value self.old }
+    {
+        match *place {
+            Place::Reg(r) => self.regs.set(r, value),
+            Place::Word(address) => self.image.poke(address, value),
+        }
+    }
+
+    /// An equal machine.
+    pub fn copy(&self, alloc: Global) -> Result<Machine, AllocError>
+        ensures { IfOk result (λ machine. machine ≡ self.now) }
+    {
+        Ok(Machine {
+            regs: self.regs,
+            pc: self.pc,
+            image: self.image.copy(alloc)?,
+            ranges: Vec::from_slice(alloc, &self.ranges)?,
+            outcome: self.outcome,
+            steps: self.steps,
+        })
+    }
+}
