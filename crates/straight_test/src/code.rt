@@ -30,7 +30,7 @@ fn is_ecall(word: u32) -> bool
     ensures { IsTrue result ↔ (decode_of word ≡ Some ecall) }
 {
     match decode(word) {
-        Some(instruction) => instruction.kind == Kind::Ecall,
+        Some(instruction) => matches!(instruction.kind, Kind::Ecall),
         None => false,
     }
 }
