@@ -1,3 +1,5 @@
 pub mod Image
 pub mod Places
 pub mod Named
+pub mod Bodies
+pub mod Parts

@@ -71,8 +71,10 @@ fn straight_instructions(alloc: Global, words: &[u32]) -> Result<Option<Vec<Ins>
     if !is_ecall(*last) {
         return Ok(None);
     }
-    let body = sums(alloc, front)?;
-    Ok(body)
+    match sums(alloc, front)? {
+        Some(body) => Ok(Some(body)),
+        None => Ok(None),
+    }
 }
 
 /// The instructions of the code before the ECALL, where it is ADDI and ADD with an ECALL behind them.

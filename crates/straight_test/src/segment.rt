@@ -1,5 +1,5 @@
 // The one segment of a straight test.
-ghost use Rattle.std.specs.Prelude.{◌≡◌, ◌↔◌, ◌+◌, ◌≤◌, [], ◌∷◌, IfOk, IsTrue, MatchOption};
+ghost use Rattle.std.specs.Prelude.{◌≡◌, ◌↔◌, ◌+◌, ◌≤◌, [], ◌∷◌, IfOk, IsTrue, MatchOption, slice_index};
 ghost use Rattle.elf_types.specs.declared.file.Segment.{Segment as ElfSegment};
 ghost use Rattle.qed_model.specs.LoadedFile.{load_segment};
 ghost use Rattle.qed_model.specs.Admission.{is_in_image, image_segments};
@@ -57,17 +57,33 @@ pub fn is_small_segment(segment: &Segment) -> bool
         && segment.address < ADDRESS_END
 }
 
-/// So many bytes of a segment from an address in it on: those of the file, then zeros.
-pub fn loaded_bytes(alloc: Global, segment: &Segment, at: u64, size: u64) -> Result<Vec<u8>, AllocError>
+/// The byte at a place, 0 behind the last.
+fn byte_at(bytes: &[u8], place: usize) -> u8
+    ensures { result ≡ slice_index bytes.now place }
+{
+    if place < bytes.len() {
+        bytes[place]
+    } else {
+        0
+    }
+}
+
+/// So many bytes of a small segment from an address in it on: those of the file, then zeros.
+pub fn loaded_bytes(
+    alloc: Global,
+    segment: &Segment,
+    at: u64,
+    size: u64,
+) -> Result<Vec<u8>, AllocError>
+    requires few { segment.now.memory ≤ 65536 }
     requires begin { segment.now.address ≤ at }
     requires end { at + size ≤ segment.now.address + segment.now.memory }
     ensures { IfOk result (λ bytes. bytes.items ≡ loaded_bytes (load_segment segment.now) at size) }
 {
     let skipped = at - segment.address;
-    let file = segment.bytes.as_slice();
     let mut bytes = Vec::new(alloc);
     for k in 0..size {
-        let byte = file.get((skipped + k) as usize).copied().unwrap_or(0);
+        let byte = byte_at(segment.bytes.as_slice(), (skipped + k) as usize);
         bytes.push(byte)?;
     }
     Ok(bytes)

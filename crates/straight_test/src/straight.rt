@@ -96,7 +96,7 @@ pub fn read_straight(alloc: Global, file: &ElfFile) -> Result<Option<StraightTes
     if range.size > MAX_CODE {
         return Ok(None);
     }
-    let code = loaded_bytes(alloc, segment, range.start, range.size)?;
+    let code = loaded_bytes(alloc, segment, file.entry, range.size)?;
     match read_code(alloc, &code)? {
         Some(body) => Ok(Some(StraightTest {
             segment,
