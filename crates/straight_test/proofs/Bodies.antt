@@ -91,6 +91,16 @@ with_last words h =
     let all : length words ≤ length words - 1 + 1 = omega arith in
     sym (take_all (length words - 1 + 1) words all) ∙ take_more words (length words - 1) 0 lt
 
+-- the instructions of one word more
+pub decoded_more : (words : List ℕ) (body : List Ins) (i : Ins) (k : ℕ) → map decode_of (take k words) ≡ map Some body → k < length words → decode_of (get_or words k 0) ≡ Some i → map decode_of (take (k + 1) words) ≡ map Some (body ++ i ∷ [])
+decoded_more words body i k e lt d =
+    ap (map decode_of) (take_more words k 0 lt)
+    ∙ map-append decode_of (take k words) (get_or words k 0 ∷ [])
+    ∙ ap (λ xs. xs ++ decode_of (get_or words k 0) ∷ []) e
+    ∙ ap (λ x. map Some body ++ x ∷ []) d
+    ∙ sym (map-append Some body (i ∷ []))
+
+-- they are those of all words
 pub body_from : (words : List ℕ) (body : List Ins) → 1 ≤ length words → decode_of (get_or words (length words - 1) 0) ≡ Some ecall → Decode (take (length words - 1) words) body → All IsSum body → IsStraightBody words body
 body_from words body some end front sums = record {
   code =

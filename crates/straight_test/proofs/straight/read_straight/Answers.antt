@@ -21,7 +21,7 @@ pub returns-in-Some-2 : goal.returns-in-Some-2
 returns-in-Some-2 c =
     let found = rw c.in-Some-2.is at c.in_ok-body.ensures in
     let bytes = c.deref-2.ensures.value ∙ c.in_ok-code.ensures in
-    (refl, made c.args.file.now c.in-Some.segment.now c.in-Some.range.size c.in-Some-2.body.items c.in-Some.ensures.1 c.if-range-gt-MAX_CODE.false (subst (λ bs. IsStraightBody (words_of bs) c.in-Some-2.body.items) bytes found))
+    (refl, made c.args.file.now c.in-Some.segment.now c.in-Some.range.size c.in-Some-2.body.items c.in-Some.ensures.1 c.if-range-gt-MAX_CODE.false (subst (λ bs. IsStraightBody (words_of bs) c.in-Some-2.body.items) bytes found.0), found.1)
 
 pub returns : goal.returns
 returns c =
