@@ -1,5 +1,5 @@
 -- When a file is a straight test: its form, and its code.
-use Rattle.std.proofs.Common.{◌≡◌, ℕ, ◌+◌, ◌-◌, ◌*◌, ◌%◌, ◌<◌, ◌≤◌, true, false, List, [], ◌∷◌, ◌++◌, length, refl, sym, ap, ◌∙◌, subst, arith}
+use Rattle.std.proofs.Common.{◌≡◌, ℕ, ◌+◌, ◌-◌, ◌*◌, ◌%◌, ◌^◌, ◌<◌, ◌≤◌, All, true, false, List, [], ◌∷◌, ◌++◌, length, refl, sym, ap, ◌∙◌, subst, arith}
 use Rattle.elf_types.specs.declared.file.Segment.{Segment}
 use Rattle.elf_types.specs.declared.file.ElfFile.{ElfFile}
 use Rattle.rv_isa.specs.declared.ins.Ins.{Ins}
@@ -7,8 +7,8 @@ use Rattle.qed_model.specs.Numbers.{words_of}
 use Rattle.qed_model.specs.LoadedFile.{load_segment, load_segments, loaded_file}
 use Rattle.qed_model.specs.Admission.{is_code_address, is_named_in, image_segments}
 use Rattle.qed_model.specs.StraightTest.{loaded_bytes, StraightParts, IsMadeOf, IsStraightTest}
-use Rattle.straight_test.specs.Code.{IsStraightBody}
-use Rattle.straight_test.specs.Shape.{IsShaped, parts}
+use Rattle.straight_test.specs.Code.{HasWord, IsStraightBody}
+use Rattle.straight_test.specs.Shape.{IsRead, IsShaped, parts}
 use Rattle.straight_test.proofs.Places.{IsCodePlace, code_place}
 use Rattle.straight_test.proofs.Named.{alone_from, alone_to}
 use Rattle.straight_test.proofs.Bodies.{length-loaded, length-words_of, length-straight}
@@ -61,6 +61,18 @@ shaped f p h = record {
 -- and such code
 pub straight_body : (f : ElfFile) (p : StraightParts) → IsMadeOf f p → IsStraightBody (code_words p.segment f.entry p.size) p.body
 straight_body f p h = record { code = h.code; sums = h.sums }
+
+-- so the addresses of its instructions do not wrap
+pub code_room : (f : ElfFile) (p : StraightParts) → IsMadeOf f p → f.entry + 4 * length p.body < 2 ^ 64
+code_room f p h =
+    let place = made_place f p h in
+    omega (arith, size_is p.segment f.entry p.size p.body place (straight_body f p h), place.end, h.few, h.low)
+
+-- what is read of a file of the form with such code
+pub is_read : (f : ElfFile) (s : Segment) (size : ℕ) (body : List Ins) → IsShaped f s size → size ≤ 68 → IsStraightBody (code_words s f.entry size) body → All HasWord body → IsRead f f.entry (parts s size body)
+is_read f s size body h few code words =
+    let parts_are = made f s size body h few code in
+    record { entry = refl; made = parts_are; words = words; room = code_room f (parts s size body) parts_are }
 
 -- ---- no straight test
 -- one item is that of an equal list

@@ -1,15 +1,13 @@
 // Straight tests.
-ghost use Rattle.std.specs.Prelude.{◌≡◌, ◌↔◌, ◌+◌, ◌*◌, ◌^◌, ◌<◌, ◌≤◌, ◌++◌, ◌∷◌, [], List, ℕ, IfOk, IsTrue, MatchOption, All, length};
+ghost use Rattle.std.specs.Prelude.{◌≡◌, ◌↔◌, ◌+◌, ◌*◌, ◌^◌, ◌<◌, ◌≤◌, ◌++◌, ◌∷◌, [], List, ℕ, IfOk, IsTrue, MatchOption, length};
 ghost use Rattle.elf_types.specs.declared.file.Segment.{Segment as ElfSegment};
 ghost use Rattle.rv_isa.specs.declared.ins.Ins.{Ins as Instruction};
 ghost use Rattle.qed_model.specs.Sequences.{ecall};
-ghost use Rattle.qed_model.specs.LoadedFile.{loaded_file, load_segment};
-ghost use Rattle.qed_model.specs.Numbers.{words_of};
+ghost use Rattle.qed_model.specs.LoadedFile.{loaded_file};
 ghost use Rattle.qed_model.specs.Admission.{register_half, code_from, high_register, if_high};
-ghost use Rattle.qed_model.specs.StraightTest.{IsStraightTest, IsMadeOf, loaded_bytes};
+ghost use Rattle.qed_model.specs.StraightTest.{IsStraightTest};
 ghost use Rattle.straight_test.specs.Ranges.{spans};
-ghost use Rattle.straight_test.specs.Code.{HasWord};
-ghost use Rattle.straight_test.specs.Shape.{IsAdmitted, IsShaped, parts};
+ghost use Rattle.straight_test.specs.Shape.{IsAdmitted, IsRead, IsShaped, parts};
 
 use crate::code::read_code;
 use crate::leaders::names_other;
@@ -88,7 +86,7 @@ fn shape<'a>(file: &'a ElfFile, ranges: &[CodeRange]) -> Option<(&'a Segment, Co
 
 /// What a straight test is made of, None exactly where the file is none.
 pub fn read_straight(alloc: Global, file: &ElfFile) -> Result<Option<StraightTest<'_>>, AllocError>
-    ensures { IfOk result (λ found. MatchOption found (IsStraightTest file.now → ⊥) (λ t. (t.entry ≡ file.now.entry) × IsMadeOf file.now (parts t.segment.now t.size t.body.items) × All HasWord t.body.items)) }
+    ensures { IfOk result (λ found. MatchOption found (IsStraightTest file.now → ⊥) (λ t. IsRead file.now t.entry (parts t.segment.now t.size t.body.items))) }
 {
     let ranges = code_ranges(alloc, file.segments.as_slice(), file.sections.as_slice())?;
     let Some((segment, range)) = shape(file, &ranges) else {
