@@ -59,10 +59,11 @@ other_is_code e size a h =
     let p = and_parts (a % 4 == 0) (nat_lt e a && nat_lt (a - e) size) h in
     let q = and_parts (nat_lt e a) (nat_lt (a - e) size) p.1 in
     let low : e < a = ltb-true e a q.0 in
-    let high : a - e < size = ltb-true (a - e) size q.1 in
-    (and_from (a % 4 == 0) ((nat_le e a && nat_lt a (e + size)) || false) p.0
-     (or_left (nat_le e a && nat_lt a (e + size)) false (and_from (nat_le e a) (nat_lt a (e + size)) (le-leb e a (omega (arith, low))) (lt-ltb a (e + size) (omega (arith, low, high))))),
-     λ z. absurd (omega (arith, low, z)))
+    let high : a - e < size = ltb-true (a - e) size q.1 in (
+      and_from (a % 4 == 0) ((nat_le e a && nat_lt a (e + size)) || false) p.0
+          (or_left (nat_le e a && nat_lt a (e + size)) false (and_from (nat_le e a) (nat_lt a (e + size)) (le-leb e a (omega (arith, low))) (lt-ltb a (e + size) (omega (arith, low, high))))),
+      λ z. absurd (omega (arith, low, z)),
+    )
 
 or_false : (b : Bool) → (b || false) ≡ true → b ≡ true
 or_false true e = refl

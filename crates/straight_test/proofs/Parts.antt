@@ -105,7 +105,7 @@ no_code f s size h none t =
     let length = same_size f t.parts.segment s t.parts.size size g h in
     none t.parts.body
     (subst (λ n. IsStraightBody (code_words s f.entry n) t.parts.body) length
-     (subst (λ r. IsStraightBody (code_words r f.entry t.parts.size) t.parts.body) segment (straight_body f t.parts t.made)))
+    (subst (λ r. IsStraightBody (code_words r f.entry t.parts.size) t.parts.body) segment (straight_body f t.parts t.made)))
 
 -- nor where it has too many
 pub too_long : (f : ElfFile) (s : Segment) (size : ℕ) → IsShaped f s size → 68 < size → IsStraightTest f → ⊥
