@@ -115,12 +115,13 @@ fn changed(alloc: Global, change: Change) -> Result<Vec<u8>, Fail> {
 fn other_files_are_not_run(rt: HostRuntime) -> Result<(), Fail> {
     let alloc = rt.alloc();
     for case in CASES {
+        let printed = case.printed;
         let mut shelf = MemoryShelf::new(alloc);
         shelf.put_file("a", &changed(alloc, case.change)?)?;
         let mut out = MemorySink::new(alloc);
         let status = run(alloc, &["run", "a"], &mut shelf, &mut out)?;
-        assert_eq!(rt; out.bytes(), case.printed.as_bytes(), "{case:?}");
-        assert_eq!(rt; status.code(), case.status, "{case:?}");
+        assert_eq!(rt; out.bytes(), printed.as_bytes(), "{printed}");
+        assert_eq!(rt; status.code(), case.status, "{printed}");
     }
     Ok(())
 }
