@@ -170,11 +170,11 @@ impl Machine {
     {
         let before = self.reg(ins.rd);
         let target = Jumping.act(ins, self.pc, &mut self.regs);
-        if target % 4 == 0 {
-            self.pc = target;
-        } else {
+        if target % 4 != 0 {
             self.regs.set(ins.rd, before);
             self.trap(Cause::Target(target));
+        } else {
+            self.pc = target;
         }
     }
 }
