@@ -1,11 +1,11 @@
 -- When a file is a straight test: its form, and its code.
-use Rattle.std.proofs.Common.{◌≡◌, ℕ, ◌+◌, ◌-◌, ◌*◌, ◌%◌, ◌^◌, ◌<◌, ◌≤◌, All, true, false, List, [], ◌∷◌, ◌++◌, length, refl, sym, ap, ◌∙◌, subst, arith}
+use Rattle.std.proofs.Common.{◌≡◌, ℕ, ◌+◌, ◌*◌, ◌^◌, ◌<◌, ◌≤◌, All, true, List, [], ◌∷◌, length, refl, sym, ap, ◌∙◌, subst, arith}
 use Rattle.elf_types.specs.declared.file.Segment.{Segment}
 use Rattle.elf_types.specs.declared.file.ElfFile.{ElfFile}
 use Rattle.rv_isa.specs.declared.ins.Ins.{Ins}
 use Rattle.qed_model.specs.Numbers.{words_of}
-use Rattle.qed_model.specs.LoadedFile.{load_segment, load_segments, loaded_file}
-use Rattle.qed_model.specs.Admission.{is_code_address, is_named_in, image_segments}
+use Rattle.qed_model.specs.LoadedFile.{load_segment}
+use Rattle.qed_model.specs.Admission.{is_code_address, is_named_in}
 use Rattle.qed_model.specs.StraightTest.{loaded_bytes, StraightParts, IsMadeOf, IsStraightTest}
 use Rattle.straight_test.specs.Code.{HasWord, IsStraightBody}
 use Rattle.straight_test.specs.Shape.{IsRead, IsShaped, parts}
