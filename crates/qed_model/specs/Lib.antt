@@ -21,6 +21,10 @@ pub mod ElfFile
 pub mod Admission
 pub mod StraightTest
 pub mod Written
+pub mod Layout
+pub mod FileRead
 pub mod Woven
 pub mod Bounds
 pub mod Texts
+pub mod RunTexts
+pub mod ErrorTexts

@@ -1,0 +1,41 @@
+// The whole file.
+ghost use Rattle.std.specs.Prelude.{◌≡◌, IfOk, length};
+ghost use Rattle.qed_model.specs.ElfFile.{File};
+ghost use Rattle.qed_model.specs.FileRead.{file_read};
+ghost use Rattle.qed_model.specs.Layout.{IsWritable, written};
+
+use crate::layout::places_of;
+use crate::parts::{push_front, push_tables};
+use crate::records::SECTION_HEADER_SIZE;
+use elf_types::{Bytes, OutFile};
+use std::alloc::{AllocError, Global};
+
+/// How many bytes the file has that `write_elf` writes. Nothing is written, and no memory is taken. It is told of any
+/// file, and `write_elf` can be called where it is at most 1,073,741,824, with the other conditions.
+pub fn file_size(file: &OutFile) -> u128
+    ensures { result ≡ length (written file.now) }
+{
+    let headers = file.sections.as_slice().len() as u128 + 4;
+    places_of(file).headers + SECTION_HEADER_SIZE * headers
+}
+
+/// The bytes of a file (ELF gABI): the header, the program headers, the segments, the bytes of the sections that are not
+/// in memory, the symbol table with the null symbol first, the names of the symbols, the names of the sections, and the
+/// section headers, with those of `.symtab`, `.strtab` and `.shstrtab` last. Gaps are 0.
+///
+/// What is asked of the file is `IsWritable`. In short: PT_LOAD segments in ascending order that share no byte; sections
+/// in memory inside the file bytes of a segment, others with their own bytes; names without a zero byte; STB_LOCAL symbols
+/// first; at most 4,000 segments, 4,000 sections and 1,073,741,824 bytes in all.
+///
+/// The only error is want of memory.
+pub fn write_elf(alloc: Global, file: &OutFile) -> Result<Bytes, AllocError>
+    requires { IsWritable file.now }
+    ensures written { IfOk result (λ bytes. bytes ≡ written file.now) }
+    ensures reads_back { IfOk result (λ bytes. File bytes (file_read file.now)) }
+{
+    let places = places_of(file);
+    let mut out = Vec::new(alloc);
+    push_front(&mut out, file, &places)?;
+    push_tables(&mut out, file, &places)?;
+    Ok(Bytes::of(out))
+}
