@@ -4,7 +4,7 @@ use Rattle.std.proofs.lemmas.List.{append_assoc, drop_at, take_at, length-replic
 use Rattle.elf_types.specs.declared.file.Segment.{Segment}
 use Rattle.qed_model.specs.Numbers.{field}
 use Rattle.qed_model.specs.Plain.{IsPlainHeader, e_entry, e_flags, e_phnum, p_type, p_flags, p_offset, p_vaddr, p_filesz, p_memsz, segment_bytes}
-use Rattle.qed_model.specs.Written.{fields_bytes, header_fields, program_fields, offset_from, program_headers, segments_bytes, plain_file}
+use Rattle.qed_model.specs.Written.{fields_bytes, header_fields, program_fields, offset_from, end_from, program_headers, segments_bytes, plain_file}
 use Rattle.qed_model.proofs.Fields.{slice_index-field, length-fields_bytes, field-fields_bytes, size_before, size_at, value_at}
 
 -- ---- the header
@@ -56,11 +56,6 @@ module _ (entry flags count : ℕ) (rest file : List ℕ) (is : file ≡ fields_
       }
 
 -- ---- where the segments stand
--- the end of segments whose bytes are sought from the offset `at` on
-abbrev pub end_from : ℕ → List Segment → ℕ
-end_from at [] = at
-end_from at (s ∷ segments) = end_from (offset_from at s.address + length s.bytes) segments
-
 -- a program header has 56 bytes
 pub length-program : (s : Segment) (offset : ℕ) → length (fields_bytes (program_fields s offset)) ≡ 56
 length-program s offset = length-fields_bytes (program_fields s offset)

@@ -19,6 +19,7 @@ pub mod ElfRules
 pub mod ElfRefusals
 pub mod ElfFile
 pub mod Written
+pub mod Layout
 pub mod Woven
 pub mod Bounds
 pub mod Texts

@@ -25,7 +25,12 @@ program_fields s offset =
 abbrev pub offset_from : ℕ → ℕ → ℕ
 offset_from at address = at + (address % 4096 + 4096 - at % 4096) % 4096
 
--- the program headers of segments whose bytes are sought from the offset `at` on
+-- the end of segments whose bytes are sought from the offset `at` on
+abbrev pub end_from : ℕ → List Segment → ℕ
+end_from at [] = at
+end_from at (s ∷ segments) = end_from (offset_from at s.address + length s.bytes) segments
+
+-- their program headers
 abbrev pub program_headers : ℕ → List Segment → List ℕ
 program_headers at [] = []
 program_headers at (s ∷ segments) =

@@ -1,0 +1,135 @@
+-- How long the parts of the file are.
+use Rattle.std.proofs.Common.{◌≡◌, ℕ, ◌+◌, ◌-◌, ◌*◌, ◌≤◌, List, [], ◌∷◌, ◌++◌, length, map, replicate, refl, sym, ◌∙◌, ap, arith, append_assoc, length-append}
+use Rattle.std.proofs.lemmas.List.{length-replicate}
+use Rattle.elf_types.specs.declared.file.Segment.{Segment}
+use Rattle.elf_types.specs.declared.file.Symbol.{Symbol}
+use Rattle.elf_types.specs.declared.output.OutFile.{OutFile}
+use Rattle.elf_types.specs.declared.output.OutSection.{OutSection}
+use Rattle.elf_types.specs.declared.records.SectionHeader.{SectionHeader}
+use Rattle.elf_types.specs.declared.records.SymbolEntry.{SymbolEntry}
+use Rattle.qed_model.specs.Written.{fields_bytes, program_headers, segments_bytes, end_from}
+use Rattle.qed_model.specs.Layout.{aligned, names_bytes, string_table, symbol_names, section_names, table_names, symbol_fields, symbol_bytes, symbols_bytes, entries_from, entries_of, own_bytes, section_fields, header_bytes, headers_bytes, headers_from, headers_of, table_headers, file_fields, start_of, own_place, symbols_place, strings_place, names_place, headers_place, tables_bytes, written}
+use Rattle.elf_write.specs.Places.{EndsWithin}
+use Rattle.qed_model.proofs.Fields.{length-fields_bytes}
+use Rattle.qed_model.proofs.PlainFiles.{length-program_headers, length-segments_bytes}
+
+-- ---- records
+pub length-symbol_bytes : (e : SymbolEntry) → length (symbol_bytes e) ≡ 24
+unfolding symbol_bytes
+length-symbol_bytes e = length-fields_bytes (symbol_fields e)
+
+pub length-header_bytes : (h : SectionHeader) → length (header_bytes h) ≡ 64
+unfolding header_bytes
+length-header_bytes h = length-fields_bytes (section_fields h)
+
+pub length-file_fields : (entry flags segments headers sections : ℕ) → length (fields_bytes (file_fields entry flags segments headers sections)) ≡ 64
+length-file_fields entry flags segments headers sections = length-fields_bytes (file_fields entry flags segments headers sections)
+
+-- ---- tables
+pub length-symbols_bytes : (entries : List SymbolEntry) → length (symbols_bytes entries) ≡ 24 * length entries
+length-symbols_bytes [] = refl
+length-symbols_bytes (e ∷ entries) = omega (arith, length-append (symbol_bytes e) (symbols_bytes entries), length-symbol_bytes e, length-symbols_bytes entries)
+
+pub length-headers_bytes : (headers : List SectionHeader) → length (headers_bytes headers) ≡ 64 * length headers
+length-headers_bytes [] = refl
+length-headers_bytes (h ∷ headers) = omega (arith, length-append (header_bytes h) (headers_bytes headers), length-header_bytes h, length-headers_bytes headers)
+
+pub length-entries_from : (name : ℕ) (symbols : List Symbol) → length (entries_from name symbols) ≡ length symbols
+length-entries_from name [] = refl
+length-entries_from name (s ∷ symbols) = omega (arith, length-entries_from (name + length s.name + 1) symbols)
+
+pub length-headers_from : (start : ℕ) (segments : List Segment) (name own : ℕ) (sections : List OutSection) → length (headers_from start segments name own sections) ≡ length sections
+length-headers_from start segments name own [] = refl
+length-headers_from start segments name own (x ∷ sections) =
+    omega (arith, length-headers_from start segments (name + length x.name + 1) (own + length x.bytes) sections)
+
+-- the null section, the given ones and three tables
+pub length-headers_of : (f : OutFile) → length (headers_of f) ≡ length f.sections + 4
+unfolding headers_of table_headers
+length-headers_of f =
+    let given : List SectionHeader = headers_from (start_of f) f.segments 1 (own_place f) f.sections in
+    omega (arith, length-append given (table_headers f), length-headers_from (start_of f) f.segments 1 (own_place f) f.sections)
+
+-- headers in two lists
+pub headers_bytes-append : (xs ys : List SectionHeader) → headers_bytes (xs ++ ys) ≡ headers_bytes xs ++ headers_bytes ys
+headers_bytes-append [] ys = refl
+headers_bytes-append (x ∷ xs) ys = ap (λ (t : List ℕ). header_bytes x ++ t) (headers_bytes-append xs ys) ∙ sym (append_assoc (header_bytes x) (headers_bytes xs) (headers_bytes ys))
+
+-- ---- names
+-- names in two lists
+pub names_bytes-append : (xs ys : List (List ℕ)) → names_bytes (xs ++ ys) ≡ names_bytes xs ++ names_bytes ys
+names_bytes-append [] ys = refl
+names_bytes-append (x ∷ xs) ys = ap (λ (t : List ℕ). (x ++ 0 ∷ []) ++ t) (names_bytes-append xs ys) ∙ sym (append_assoc (x ++ 0 ∷ []) (names_bytes xs) (names_bytes ys))
+
+-- the names of the three tables have 26 bytes, and a zero byte stands before all names
+pub length-section_names : (sections : List OutSection) → length (string_table (section_names sections)) ≡ length (names_bytes (map (λ x. x.name) sections)) + 27
+length-section_names sections =
+    let given : List ℕ = names_bytes (map (λ x. x.name) sections) in
+    let tables : List ℕ = names_bytes table_names in
+    omega (arith, ap length (names_bytes-append (map (λ x. x.name) sections) table_names), length-append given tables)
+
+-- ---- places
+-- the length of seven parts
+length_of_seven : (a b c d e f g : List ℕ) → length (a ++ (b ++ (c ++ (d ++ (e ++ (f ++ g))))))
+    ≡ length a + length b + length c + length d + length e + length f + length g
+length_of_seven a b c d e f g = simp length-append (omega arith)
+
+length_of_four : (a b c d : List ℕ) → length (a ++ (b ++ (c ++ d))) ≡ length a + length b + length c + length d
+length_of_four a b c d = simp length-append (omega arith)
+
+-- each part stands behind the ones before it
+pub record IsLaidOut (f : OutFile) : Type 0 where
+  pub own : end_from (start_of f) f.segments ≡ own_place f
+  pub symbols : own_place f + length (own_bytes f.sections) ≤ symbols_place f
+  pub strings : symbols_place f + 24 * (1 + length f.symbols) ≡ strings_place f
+  pub names : strings_place f + length (string_table (symbol_names f.symbols)) ≡ names_place f
+  pub headers : names_place f + length (string_table (section_names f.sections)) ≤ headers_place f
+
+pub laid_out : (f : OutFile) → IsLaidOut f
+unfolding own_place symbols_place strings_place names_place headers_place
+laid_out f = record { own = refl; symbols = omega arith; strings = refl; names = refl; headers = omega arith }
+
+-- the parts behind the segments, as far as the section headers, and those
+pub length-tables_bytes : (f : OutFile) → own_place f + length (tables_bytes f) ≡ headers_place f + 64 * (length f.sections + 4)
+unfolding tables_bytes
+length-tables_bytes f =
+    let is = laid_out f in
+    let own : List ℕ = own_bytes f.sections in
+    let entries : List ℕ = symbols_bytes (entries_of f.symbols) in
+    let strings : List ℕ = string_table (symbol_names f.symbols) in
+    let names : List ℕ = string_table (section_names f.sections) in
+    let headers : List ℕ = headers_bytes (headers_of f) in
+    let before : ℕ = symbols_place f - (own_place f + length own) in
+    let behind : ℕ = headers_place f - (names_place f + length names) in
+    let all = length_of_seven own (replicate before 0) entries strings names (replicate behind 0) headers in
+    omega (arith, all, is.symbols, is.strings, is.names, is.headers, length-replicate {A = ℕ} before 0, length-replicate {A = ℕ} behind 0, length-symbols_bytes (entries_of f.symbols),
+      length-entries_from 1 f.symbols, length-headers_bytes (headers_of f), length-headers_of f)
+
+-- a file ends behind its section headers
+pub length-written : (f : OutFile) → length (written f) ≡ headers_place f + 64 * (length f.sections + 4)
+unfolding written
+length-written f =
+    let header : List ℕ = fields_bytes (file_fields f.entry f.flags (length f.segments) (headers_place f) (length f.sections)) in
+    let programs : List ℕ = program_headers (start_of f) f.segments in
+    let segments : List ℕ = segments_bytes (start_of f) f.segments in
+    let is = laid_out f in
+    omega (arith, length_of_four header programs segments (tables_bytes f), length-file_fields f.entry f.flags (length f.segments) (headers_place f) (length f.sections),
+      length-program_headers (start_of f) f.segments, length-segments_bytes (start_of f) f.segments, length-tables_bytes f, is.own)
+
+-- the parts of a file that is not too long lie within that bound
+pub ends_within : (n : ℕ) (f : OutFile) → length (written f) ≤ n → EndsWithin n f
+ends_within n f h =
+    let is = laid_out f in
+    let long = length-written f in
+    let named = length-section_names f.sections in
+    record {
+      segments = omega (arith, is.own, is.symbols, is.strings, is.names, is.headers);
+      own = is.symbols;
+      symbols = omega (arith, is.strings, is.names, is.headers);
+      strings = omega (arith, is.names, is.headers);
+      strings_size = omega (arith, is.names, is.headers);
+      names = omega (arith, is.headers);
+      names_size = omega (arith, is.headers);
+      names_end = is.headers;
+      headers = omega arith;
+    }

@@ -1,0 +1,151 @@
+// The parts of the file, one behind the other.
+ghost use Rattle.std.specs.Prelude.{◌≡◌, ◌+◌, ◌-◌, ◌*◌, ◌^◌, ◌<◌, ◌≤◌, ◌++◌, OnOk, IfOk, All, length, replicate, [], ◌∷◌, map};
+ghost use Rattle.qed_model.specs.Written.{fields_bytes, program_headers, segments_bytes};
+ghost use Rattle.qed_model.specs.Layout.{IsSymbol, file_fields, names_bytes, string_table, symbol_names, section_names, table_names, symbols_bytes, entries_of, own_bytes, header_bytes, headers_bytes, headers_of, table_headers, table_header as header_of_table, headers_place, names_place, own_place, symbols_place, start_of, tables_bytes};
+ghost use Rattle.elf_write.specs.Widths.{SegmentFits, SectionFits, SymbolFits};
+ghost use Rattle.elf_write.specs.Places.{ArePlaces, EndsWithin};
+
+use crate::layout::{Places, TABLE_NAMES_SIZE};
+use crate::numbers::push_zeros;
+use crate::records::{push_header, push_section_header};
+use crate::sections::{push_given_headers, push_own_bytes, push_section_names};
+use crate::segments::{push_program_headers, push_segments};
+use crate::symbols::{first_global, push_name, push_symbol_names, push_symbol_table};
+use elf_types::{OutFile, SectionHeader};
+use std::alloc::AllocError;
+
+/// The types of the tables that are added.
+const SHT_SYMTAB: u32 = 2;
+
+const SHT_STRTAB: u32 = 3;
+
+/// The header of the null section.
+const NULL: SectionHeader =
+    SectionHeader { name: 0, kind: 0, flags: 0, addr: 0, offset: 0, size: 0, link: 0, info: 0, entsize: 0 };
+
+/// Appends the header, the program headers and the bytes of the segments.
+pub fn push_front(out: &mut Vec<u8>, file: &OutFile, places: &Places) -> Result<(), AllocError>
+    requires places { ArePlaces file.now places.now }
+    requires size { EndsWithin 1073741824 file.now }
+    requires few_segments { length file.now.segments ≤ 4000 }
+    requires few_sections { length file.now.sections ≤ 4000 }
+    ensures bytes { OnOk result (out.new.items ≡ out.old.items ++ (fields_bytes (file_fields file.now.entry file.now.flags (length file.now.segments) (headers_place file.now) (length file.now.sections)) ++ (program_headers (start_of file.now) file.now.segments ++ segments_bytes (start_of file.now) file.now.segments))) }
+    ensures fits { OnOk result (All SegmentFits file.now.segments) }
+{
+    let segments = file.segments.as_slice();
+    let sections = file.sections.as_slice();
+    let start = places.start as u64;
+    push_header(out, file, segments.len() as u16, places.headers as u64, sections.len() as u16)?;
+    push_program_headers(out, segments, start)?;
+    push_segments(out, segments, start)?;
+    Ok(())
+}
+
+/// Appends the sections' own bytes, and behind them the symbol table.
+fn push_own_and_symbols(out: &mut Vec<u8>, file: &OutFile, places: &Places) -> Result<(), AllocError>
+    requires places { ArePlaces file.now places.now }
+    requires size { EndsWithin 1073741824 file.now }
+    requires symbols { All IsSymbol file.now.symbols }
+    ensures bytes { OnOk result (out.new.items ≡ out.old.items ++ (own_bytes file.now.sections ++ (replicate (symbols_place file.now - (own_place file.now + length (own_bytes file.now.sections))) 0 ++ symbols_bytes (entries_of file.now.symbols)))) }
+    ensures fits { OnOk result (All SymbolFits file.now.symbols) }
+{
+    push_own_bytes(out, file.sections.as_slice())?;
+    push_zeros(out, (places.symbols - places.own_end) as u64)?;
+    push_symbol_table(out, file.symbols.as_slice())
+}
+
+/// Appends both string tables: the names of the symbols, and those of the sections.
+fn push_names(out: &mut Vec<u8>, file: &OutFile) -> Result<(), AllocError>
+    ensures { OnOk result (out.new.items ≡ out.old.items ++ (string_table (symbol_names file.now.symbols) ++ string_table (section_names file.now.sections))) }
+{
+    out.push(0)?;
+    push_symbol_names(out, file.symbols.as_slice())?;
+    out.push(0)?;
+    push_section_names(out, file.sections.as_slice())?;
+    push_table_names(out)?;
+    Ok(())
+}
+
+/// Appends the names of the tables that are added.
+fn push_table_names(out: &mut Vec<u8>) -> Result<(), AllocError>
+    ensures { OnOk result (out.new.items ≡ out.old.items ++ names_bytes table_names) }
+{
+    push_name(out, b".symtab")?;
+    push_name(out, b".strtab")?;
+    push_name(out, b".shstrtab")
+}
+
+/// Appends the section headers: the null section, the given ones, and the tables that are added.
+fn push_headers(out: &mut Vec<u8>, file: &OutFile, places: &Places) -> Result<(), AllocError>
+    requires places { ArePlaces file.now places.now }
+    requires size { EndsWithin 1073741824 file.now }
+    requires few_sections { length file.now.sections ≤ 4000 }
+    ensures bytes { OnOk result (out.new.items ≡ out.old.items ++ headers_bytes (headers_of file.now)) }
+    ensures fits { OnOk result (All SectionFits file.now.sections) }
+{
+    push_section_header(out, NULL)?;
+    push_given_headers(
+        out,
+        file.sections.as_slice(),
+        file.segments.as_slice(),
+        places.start as u64,
+        places.own as u64,
+    )?;
+    push_table_headers(out, file, places)?;
+    Ok(())
+}
+
+/// Appends the headers of the tables that are added.
+fn push_table_headers(out: &mut Vec<u8>, file: &OutFile, places: &Places) -> Result<(), AllocError>
+    requires places { ArePlaces file.now places.now }
+    requires size { EndsWithin 1073741824 file.now }
+    requires few_sections { length file.now.sections ≤ 4000 }
+    ensures { OnOk result (out.new.items ≡ out.old.items ++ headers_bytes (table_headers file.now)) }
+{
+    let sections = file.sections.as_slice().len() as u32;
+    let name = (places.names_end - places.names - TABLE_NAMES_SIZE) as u32;
+    let symtab = table_header(name, SHT_SYMTAB, places.symbols, places.strings);
+    push_section_header(
+        out,
+        SectionHeader { link: sections + 2, info: first_global(file.symbols.as_slice()) as u32, entsize: 24, ..symtab },
+    )?;
+    push_section_header(out, table_header(name + 8, SHT_STRTAB, places.strings, places.names))?;
+    push_section_header(out, table_header(name + 16, SHT_STRTAB, places.names, places.names_end))?;
+    Ok(())
+}
+
+/// The header of a table that stands from one place of the file to another.
+fn table_header(name: u32, kind: u32, from: u128, to: u128) -> SectionHeader
+    requires from { from ≤ to }
+    requires to { to < 2 ^ 64 }
+    ensures { result ≡ header_of_table name kind from (to - from) 0 0 0 }
+{
+    SectionHeader {
+        name,
+        kind,
+        flags: 0,
+        addr: 0,
+        offset: from as u64,
+        size: (to - from) as u64,
+        link: 0,
+        info: 0,
+        entsize: 0,
+    }
+}
+
+/// Appends what stands behind the segments.
+pub fn push_tables(out: &mut Vec<u8>, file: &OutFile, places: &Places) -> Result<(), AllocError>
+    requires places { ArePlaces file.now places.now }
+    requires size { EndsWithin 1073741824 file.now }
+    requires few_sections { length file.now.sections ≤ 4000 }
+    requires symbols { All IsSymbol file.now.symbols }
+    ensures bytes { OnOk result (out.new.items ≡ out.old.items ++ tables_bytes file.now) }
+    ensures symbols_fit { OnOk result (All SymbolFits file.now.symbols) }
+    ensures sections_fit { OnOk result (All SectionFits file.now.sections) }
+{
+    push_own_and_symbols(out, file, places)?;
+    push_names(out, file)?;
+    push_zeros(out, (places.headers - places.names_end) as u64)?;
+    push_headers(out, file, places)?;
+    Ok(())
+}

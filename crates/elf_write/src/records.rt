@@ -1,0 +1,135 @@
+// The records of the file's tables (ELF gABI): header, program header, symbol, section header.
+ghost use Rattle.std.specs.Prelude.{◌≡◌, ◌+◌, ◌^◌, ◌<◌, ◌≤◌, ◌++◌, OnOk, length};
+ghost use Rattle.qed_model.specs.Written.{fields_bytes, program_fields};
+ghost use Rattle.elf_write.specs.Widths.{SegmentFits};
+ghost use Rattle.qed_model.specs.Layout.{file_fields, symbol_bytes, header_bytes, alignment as alignment_of};
+
+use crate::numbers::{Number, push_numbers};
+use elf_types::{OutFile, SectionHeader, Segment, SymbolEntry};
+use std::alloc::AllocError;
+
+/// The sizes of records, in bytes.
+pub const HEADER_SIZE: u128 = 64;
+
+pub const PROGRAM_HEADER_SIZE: u128 = 56;
+
+pub const SECTION_HEADER_SIZE: u128 = 64;
+
+pub const SYMBOL_SIZE: u128 = 24;
+
+/// The alignment of segments, in bytes.
+pub const PAGE: u64 = 4096;
+
+/// Appends the header of a file with so many program headers and given sections, whose section headers stand at an
+/// offset.
+pub fn push_header(
+    out: &mut Vec<u8>,
+    file: &OutFile,
+    segments: u16,
+    headers: u64,
+    sections: u16,
+) -> Result<(), AllocError>
+    requires { sections ≤ 4000 }
+    ensures { OnOk result (out.new.items ≡ out.old.items ++ fields_bytes (file_fields file.now.entry file.now.flags segments headers sections)) }
+{
+    push_numbers(
+        out,
+        &[
+            Number::Word(0x464c_457f),
+            Number::Byte(2),
+            Number::Byte(1),
+            Number::Byte(1),
+            Number::Byte(0),
+            Number::Long(0),
+            Number::Half(2),
+            Number::Half(243),
+            Number::Word(1),
+            Number::Long(file.entry),
+            Number::Long(64),
+            Number::Long(headers),
+            Number::Word(file.flags),
+            Number::Half(64),
+            Number::Half(56),
+            Number::Half(segments),
+            Number::Half(64),
+            Number::Half(sections + 4),
+            Number::Half(sections + 3),
+        ],
+    )
+}
+
+/// Appends the program header of a segment whose bytes stand at an offset.
+pub fn push_program_header(
+    out: &mut Vec<u8>,
+    segment: &Segment,
+    offset: u64,
+) -> Result<(), AllocError>
+    ensures bytes { OnOk result (out.new.items ≡ out.old.items ++ fields_bytes (program_fields segment.now offset)) }
+    ensures fits { OnOk result (SegmentFits segment.now) }
+{
+    let (flags, address, memory) = (segment.flags, segment.address, segment.memory);
+    push_numbers(
+        out,
+        &[
+            Number::Word(segment.kind),
+            Number::Word(flags),
+            Number::Long(offset),
+            Number::Long(address),
+            Number::Long(address),
+            Number::Long(segment.bytes.as_slice().len() as u64),
+            Number::Long(memory),
+            Number::Long(PAGE),
+        ],
+    )
+}
+
+/// Appends an entry of the symbol table.
+#[tactic(auto, unfolding(qed_model::specs::Layout::symbol_bytes))]
+pub fn push_symbol_entry(out: &mut Vec<u8>, entry: SymbolEntry) -> Result<(), AllocError>
+    ensures { OnOk result (out.new.items ≡ out.old.items ++ symbol_bytes entry) }
+{
+    push_numbers(
+        out,
+        &[
+            Number::Word(entry.name),
+            Number::Byte(entry.info),
+            Number::Byte(entry.other),
+            Number::Half(entry.index),
+            Number::Long(entry.value),
+            Number::Long(entry.size),
+        ],
+    )
+}
+
+/// The alignment that the header of a section of this type tells, in bytes.
+fn alignment(kind: u32) -> u64
+    ensures { result ≡ alignment_of kind }
+{
+    match kind {
+        0 => 0,
+        2 => 8,
+        _ => 1,
+    }
+}
+
+/// Appends a section header.
+#[tactic(auto, unfolding(qed_model::specs::Layout::header_bytes))]
+pub fn push_section_header(out: &mut Vec<u8>, header: SectionHeader) -> Result<(), AllocError>
+    ensures { OnOk result (out.new.items ≡ out.old.items ++ header_bytes header) }
+{
+    push_numbers(
+        out,
+        &[
+            Number::Word(header.name),
+            Number::Word(header.kind),
+            Number::Long(header.flags),
+            Number::Long(header.addr),
+            Number::Long(header.offset),
+            Number::Long(header.size),
+            Number::Word(header.link),
+            Number::Word(header.info),
+            Number::Long(alignment(header.kind)),
+            Number::Long(header.entsize),
+        ],
+    )
+}

@@ -1,0 +1,160 @@
+// The sections' own bytes, their headers and their names.
+ghost use Rattle.std.specs.Prelude.{◌≡◌, ℕ, ◌+◌, ◌^◌, ◌<◌, ◌≤◌, ◌++◌, OnOk, All, length, map, if◌then◌else◌};
+ghost use Rattle.std.specs.Bool.{OnTrue};
+ghost use Rattle.qed_model.specs.Written.{end_from};
+ghost use Rattle.qed_model.specs.Layout.{names_bytes, own_bytes, is_in_memory as has_alloc, is_inside as lies_inside, offset_in as offset_inside, header_bytes, header_with, headers_bytes, headers_from};
+ghost use Rattle.elf_write.specs.Widths.{SectionFits};
+
+use crate::records::push_section_header;
+use crate::segments::offset_from;
+use crate::symbols::push_name;
+use elf_types::{OutSection, SectionHeader, Segment};
+use std::alloc::AllocError;
+
+/// The flag of a section that is in memory.
+const SHF_ALLOC: u64 = 2;
+
+/// The type of the given sections.
+const SHT_PROGBITS: u32 = 1;
+
+fn is_in_memory(section: &OutSection) -> bool
+    ensures { result ≡ has_alloc section.now }
+{
+    section.flags / SHF_ALLOC % 2 == 1
+}
+
+/// Whether the section lies inside the file bytes of the segment.
+fn is_inside(section: &OutSection, segment: &Segment) -> bool
+    ensures value { result ≡ lies_inside section.now segment.now }
+    ensures near { OnTrue result (section.now.address ≤ segment.now.address + length segment.now.bytes) }
+{
+    let (address, first) = (section.address, segment.address);
+    let end = u128::from(address) + u128::from(section.size);
+    let segment_end = u128::from(first) + segment.bytes.as_slice().len() as u128;
+    first <= address && end <= segment_end
+}
+
+/// Where a section stands in the file that lies inside the file bytes of a segment. Those bytes are sought from the
+/// offset `start` on.
+#[tactic(auto, using(crate::proofs::Places::end_from_above))]
+fn offset_in(section: &OutSection, segments: &[Segment], start: u64) -> u64
+    requires { end_from start segments.now ≤ 1073741824 }
+    ensures { result ≡ offset_inside start segments.now section.now }
+{
+    let mut at = start;
+    for segment in segments {
+        let offset = offset_from(u128::from(at), segment.address) as u64;
+        let end = offset + segment.bytes.as_slice().len() as u64;
+        if is_inside(section, segment) {
+            return offset + (section.address - segment.address);
+        }
+        at = end;
+    }
+    0
+}
+
+/// The bytes of the sections' own.
+pub fn own_size(sections: &[OutSection]) -> u128
+    ensures value { result ≡ length (own_bytes sections.now) }
+    ensures bound { result < 2 ^ 122 }
+{
+    let mut size: u128 = 0;
+    for section in sections {
+        size += section.bytes.as_slice().len() as u128;
+    }
+    size
+}
+
+/// The bytes of the sections' names, each with its zero byte.
+pub fn names_size(sections: &[OutSection]) -> u128
+    ensures value { result ≡ length (names_bytes (map (λ x. x.name) sections.now)) }
+    ensures bound { result < 2 ^ 122 }
+{
+    let mut size: u128 = 0;
+    for section in sections {
+        size += section.name.as_slice().len() as u128 + 1;
+    }
+    size
+}
+
+/// Appends the sections' own bytes.
+pub fn push_own_bytes(out: &mut Vec<u8>, sections: &[OutSection]) -> Result<(), AllocError>
+    ensures { OnOk result (out.new.items ≡ out.old.items ++ own_bytes sections.now) }
+{
+    for section in sections {
+        out.extend_from_slice(section.bytes.as_slice())?;
+    }
+    Ok(())
+}
+
+/// Appends the names of the sections, each with a zero byte.
+pub fn push_section_names(out: &mut Vec<u8>, sections: &[OutSection]) -> Result<(), AllocError>
+    ensures { OnOk result (out.new.items ≡ out.old.items ++ names_bytes (map (λ x. x.name) sections.now)) }
+{
+    for section in sections {
+        push_name(out, section.name.as_slice())?;
+    }
+    Ok(())
+}
+
+/// Appends the header of a section whose name begins at the offset `name` of the names and whose bytes stand at an
+/// offset of the file.
+fn push_given_header(
+    out: &mut Vec<u8>,
+    section: &OutSection,
+    name: u32,
+    offset: u64,
+) -> Result<(), AllocError>
+    ensures bytes { OnOk result (out.new.items ≡ out.old.items ++ header_bytes (header_with name offset section.now)) }
+    ensures fits { OnOk result (SectionFits section.now) }
+{
+    let (flags, addr, size) = (section.flags, section.address, section.size);
+    push_section_header(
+        out,
+        SectionHeader {
+            name,
+            kind: SHT_PROGBITS,
+            flags,
+            addr,
+            offset,
+            size,
+            link: 0,
+            info: 0,
+            entsize: 0,
+        },
+    )
+}
+
+/// Where the bytes of a section stand: in a segment, or at the offset `own`.
+fn offset_of(section: &OutSection, segments: &[Segment], start: u64, own: u64) -> u64
+    requires { end_from start segments.now ≤ 1073741824 }
+    ensures { result ≡ (if has_alloc section.now then offset_inside start segments.now section.now else own) }
+{
+    if is_in_memory(section) { offset_in(section, segments, start) } else { own }
+}
+
+/// Appends the headers of the given sections, whose own bytes stand from the offset `first` on. The bytes of the
+/// segments are sought from the offset `start` on.
+pub fn push_given_headers(
+    out: &mut Vec<u8>,
+    sections: &[OutSection],
+    segments: &[Segment],
+    start: u64,
+    first: u64,
+) -> Result<(), AllocError>
+    requires segments { end_from start segments.now ≤ 1073741824 }
+    requires names { length (names_bytes (map (λ x. x.name) sections.now)) ≤ 1073741824 }
+    requires own { first + length (own_bytes sections.now) ≤ 1073741824 }
+    ensures bytes { OnOk result (out.new.items ≡ out.old.items ++ headers_bytes (headers_from start segments.now 1 first sections.now)) }
+    ensures fits { OnOk result (All SectionFits sections.now) }
+{
+    let mut name: u32 = 1;
+    let mut own = first;
+    for section in sections {
+        let offset = offset_of(section, segments, start, own);
+        push_given_header(out, section, name, offset)?;
+        name += section.name.as_slice().len() as u32 + 1;
+        own += section.bytes.as_slice().len() as u64;
+    }
+    Ok(())
+}
