@@ -20,6 +20,7 @@ pub mod ElfRefusals
 pub mod ElfFile
 pub mod Written
 pub mod Layout
+pub mod Output
 pub mod Woven
 pub mod Bounds
 pub mod Texts

@@ -1,5 +1,1 @@
-pub mod Decoding
-pub mod LowBits
-pub mod FirstFiles
-pub mod Writable
-pub mod Keeping
+pub mod Words

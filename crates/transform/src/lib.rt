@@ -4,14 +4,5 @@
 //! its input, word for word, and exactly when a file is refused.
 #![tactic(auto)]
 
-mod decode;
-mod encode;
-mod first;
 mod link;
-mod numbers;
-mod output;
-mod read;
 mod weave;
-mod write;
-
-pub use output::{HALF, TransformError, Transformed, transform};
