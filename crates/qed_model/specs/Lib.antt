@@ -18,6 +18,8 @@ pub mod ElfFields
 pub mod ElfRules
 pub mod ElfRefusals
 pub mod ElfFile
+pub mod Admission
+pub mod StraightTest
 pub mod Written
 pub mod Layout
 pub mod Output
