@@ -1,5 +1,5 @@
 -- What the output file holds: segments, sections and symbols, made of those of the input. Names and numbers are those of the ELF gABI.
-use Rattle.std.specs.Prelude.{ℕ, ◌+◌, ◌*◌, ◌/◌, ◌==◌, Bool, nat_lt, nat_le, ◌&&◌, ◌||◌, not, if◌then◌else◌, Option, Some, None, List, [], ◌∷◌, ◌++◌, length, map, codes}
+use Rattle.std.specs.Prelude.{ℕ, ◌+◌, ◌-◌, ◌*◌, ◌/◌, ◌==◌, min, max, Bool, true, false, nat_lt, nat_le, ◌&&◌, ◌||◌, not, if◌then◌else◌, Option, Some, None, List, [], ◌∷◌, ◌++◌, length, map, codes}
 use Rattle.std.specs.List.{filter}
 use Rattle.elf_types.specs.declared.file.ElfFile.{ElfFile}
 use Rattle.elf_types.specs.declared.file.Segment.{Segment}
@@ -8,15 +8,33 @@ use Rattle.elf_types.specs.declared.output.OutFile.{OutFile}
 use Rattle.elf_types.specs.declared.output.OutSection.{OutSection}
 use Rattle.qed_model.specs.declared.plan.EntryRow.{EntryRow}
 use Rattle.qed_model.specs.Numbers.{number_bytes}
+use Rattle.qed_model.specs.Admission.{image_segments}
+
+-- ---- places
+-- the least address of segments
+abbrev pub low_of : List Segment → ℕ
+low_of [] = 0
+low_of (s ∷ []) = s.address
+low_of (s ∷ t ∷ segments) = min s.address (low_of (t ∷ segments))
+
+-- the greatest end of segments
+abbrev pub high_of : List Segment → ℕ
+high_of [] = 0
+high_of (s ∷ segments) = max (s.address + s.memory) (high_of segments)
+
+-- where an image begins, rounded down to a multiple of 4096
+abbrev pub base_of : List Segment → ℕ
+base_of image = low_of image / 4096 * 4096
+
+-- the distance of the halves: the least multiple of 4096 that leads from there to the end of the image, or behind it
+abbrev pub distance_of : List Segment → ℕ
+distance_of image = (high_of image - base_of image + 4095) / 4096 * 4096
+
+-- the new code stands behind both halves and the room of the table
+abbrev pub code_base : List Segment → ℕ
+code_base image = base_of image + 3 * distance_of image
 
 -- ---- segments
--- PT_LOAD, with bytes in memory
-abbrev pub is_image : Segment → Bool
-is_image s = s.kind == 1 && nat_lt 0 s.memory
-
-abbrev pub image_segments : List Segment → List Segment
-image_segments segments = filter is_image segments
-
 -- the segment without PF_X, whose value is 1, at a distance from its place
 abbrev pub copied : ℕ → Segment → Segment
 copied distance s = record { kind = s.kind; flags = s.flags / 2 * 2; address = s.address + distance; memory = s.memory; bytes = s.bytes }
@@ -29,8 +47,8 @@ abbrev pub code_segment : ℕ → List ℕ → Segment
 code_segment at code = record { kind = 1; flags = 5; address = at; memory = length code; bytes = code }
 
 -- the input's image in both halves, and the new code
-abbrev pub out_segments : ℕ → ℕ → List ℕ → List Segment → List Segment
-out_segments distance at code segments = copies 0 (image_segments segments) ++ (copies distance (image_segments segments) ++ code_segment at code ∷ [])
+abbrev pub out_segments : List Segment → List ℕ → List Segment
+out_segments image code = copies 0 image ++ (copies (distance_of image) image ++ code_segment (code_base image) code ∷ [])
 
 -- ---- sections
 -- over the new code, with SHF_ALLOC and SHF_EXECINSTR
@@ -78,19 +96,24 @@ out_symbol rows s = at_entry s (if is_of_code s then entry_at rows s.value else 
 abbrev pub is_local : Symbol → Bool
 is_local s = s.binding == 0
 
--- those of STB_LOCAL come first; each group keeps its order
+-- the symbols that are STB_LOCAL, or those that are not, in their order
+abbrev pub symbol_group : Bool → List EntryRow → List Symbol → List Symbol
+symbol_group local rows symbols = map (out_symbol rows) (filter (λ s. is_kept s && (if local then is_local s else not (is_local s))) symbols)
+
+-- those that are STB_LOCAL come first
 abbrev pub out_symbols : List EntryRow → List Symbol → List Symbol
-out_symbols rows symbols =
-    map (out_symbol rows) (filter (λ s. is_kept s && is_local s) symbols)
-    ++ map (out_symbol rows) (filter (λ s. is_kept s && not (is_local s)) symbols)
+out_symbols rows symbols = symbol_group true rows symbols ++ symbol_group false rows symbols
 
 -- ---- the file
--- of an input, with the distance of the halves, the address of the new code, its entries and its bytes
-abbrev pub out_file : ElfFile → ℕ → ℕ → List EntryRow → List ℕ → OutFile
-out_file f distance at rows code = record {
-  entry = at;
+-- of an input with this image, with the entries and the bytes of the new code
+abbrev pub out_file_of : ElfFile → List Segment → List EntryRow → List ℕ → OutFile
+out_file_of f image rows code = record {
+  entry = code_base image;
   flags = f.flags;
-  segments = out_segments distance at code f.segments;
-  sections = out_sections at code rows;
+  segments = out_segments image code;
+  sections = out_sections (code_base image) code rows;
   symbols = out_symbols rows f.symbols;
 }
+
+abbrev pub out_file : ElfFile → List EntryRow → List ℕ → OutFile
+out_file f rows code = out_file_of f (image_segments f.segments) rows code
