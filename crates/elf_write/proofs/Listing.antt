@@ -44,6 +44,10 @@ each_listed h g (x ∷ xs) l =
     let rest = each_listed h (λ i. g (i + 1)) xs (lists_tail g x xs l) in
     each_cons (length xs) (λ i. h (g i)) ∙ rw (head, rest) refl
 
+pub sum_same : (n : ℕ) (g h : ℕ → ℕ) → ((i : ℕ) → i < n → g i ≡ h i) → sum_below n g ≡ sum_below n h
+sum_same zero g h same = refl
+sum_same (suc n) g h same = rw (sum_same n g h (λ i lt. same i (omega arith)), same n (omega arith)) refl
+
 sum_cons : (n : ℕ) (f : ℕ → ℕ) → sum_below (suc n) f ≡ f 0 + sum_below n (λ i. f (i + 1))
 sum_cons zero f = omega arith
 sum_cons (suc n) f =
@@ -55,6 +59,10 @@ sum_cons (suc n) f =
 abbrev pub total : {X : Type 0} → (X → ℕ) → List X → ℕ
 total h [] = 0
 total h (x ∷ xs) = h x + total h xs
+
+pub total-map : {X Y : Type 0} (g : X → Y) (h : Y → ℕ) (xs : List X) → total (λ x. h (g x)) xs ≡ total h (map g xs)
+total-map g h [] = refl
+total-map g h (x ∷ xs) = ap (λ n. h (g x) + n) (total-map g h xs)
 
 -- and of each record of a table
 pub sum_listed : {X : Type 0} (h : X → ℕ) (g : ℕ → X) (xs : List X) → Lists g xs → sum_below (length xs) (λ i. h (g i)) ≡ total h xs

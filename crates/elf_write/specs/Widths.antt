@@ -1,7 +1,8 @@
 -- What the types of the fields say of their numbers.
-use Rattle.std.specs.Prelude.{ℕ, ◌^◌, ◌<◌}
+use Rattle.std.specs.Prelude.{ℕ, ◌^◌, ◌<◌, All}
 use Rattle.elf_types.specs.declared.file.Segment.{Segment}
 use Rattle.elf_types.specs.declared.file.Symbol.{Symbol}
+use Rattle.elf_types.specs.declared.output.OutFile.{OutFile}
 use Rattle.elf_types.specs.declared.output.OutSection.{OutSection}
 
 pub record SegmentFits (s : Segment) : Type 0 where
@@ -19,3 +20,14 @@ pub record SymbolFits (s : Symbol) : Type 0 where
   pub size : s.size < 2 ^ 64
   pub other : s.other < 2 ^ 8
   pub index : s.index < 2 ^ 16
+
+-- of the header and the program headers
+pub record FrontFits (f : OutFile) : Type 0 where
+  pub entry : f.entry < 2 ^ 64
+  pub flags : f.flags < 2 ^ 32
+  pub segments : All SegmentFits f.segments
+
+-- of the tables behind the segments
+pub record TablesFit (f : OutFile) : Type 0 where
+  pub sections : All SectionFits f.sections
+  pub symbols : All SymbolFits f.symbols

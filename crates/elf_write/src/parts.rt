@@ -2,7 +2,7 @@
 ghost use Rattle.std.specs.Prelude.{◌≡◌, ◌+◌, ◌-◌, ◌*◌, ◌^◌, ◌<◌, ◌≤◌, ◌++◌, OnOk, IfOk, All, length, replicate, [], ◌∷◌, map};
 ghost use Rattle.qed_model.specs.Written.{fields_bytes, program_headers, segments_bytes};
 ghost use Rattle.qed_model.specs.Layout.{IsSymbol, file_fields, names_bytes, string_table, symbol_names, section_names, table_names, symbols_bytes, entries_of, own_bytes, header_bytes, headers_bytes, headers_of, table_headers, table_header as header_of_table, headers_place, names_place, own_place, symbols_place, start_of, tables_bytes};
-ghost use Rattle.elf_write.specs.Widths.{SegmentFits, SectionFits, SymbolFits};
+ghost use Rattle.elf_write.specs.Widths.{FrontFits, SectionFits, SymbolFits, TablesFit};
 ghost use Rattle.elf_write.specs.Places.{ArePlaces, EndsWithin};
 
 use crate::layout::{Places, TABLE_NAMES_SIZE};
@@ -30,12 +30,20 @@ pub fn push_front(out: &mut Vec<u8>, file: &OutFile, places: &Places) -> Result<
     requires few_segments { length file.now.segments ≤ 4000 }
     requires few_sections { length file.now.sections ≤ 4000 }
     ensures bytes { OnOk result (out.new.items ≡ out.old.items ++ (fields_bytes (file_fields file.now.entry file.now.flags (length file.now.segments) (headers_place file.now) (length file.now.sections)) ++ (program_headers (start_of file.now) file.now.segments ++ segments_bytes (start_of file.now) file.now.segments))) }
-    ensures fits { OnOk result (All SegmentFits file.now.segments) }
+    ensures fits { OnOk result (FrontFits file.now) }
 {
     let segments = file.segments.as_slice();
     let sections = file.sections.as_slice();
     let start = places.start as u64;
-    push_header(out, file, segments.len() as u16, places.headers as u64, sections.len() as u16)?;
+    let (entry, flags) = (file.entry, file.flags);
+    push_header(
+        out,
+        entry,
+        flags,
+        segments.len() as u16,
+        places.headers as u64,
+        sections.len() as u16,
+    )?;
     push_program_headers(out, segments, start)?;
     push_segments(out, segments, start)?;
     Ok(())
@@ -140,8 +148,7 @@ pub fn push_tables(out: &mut Vec<u8>, file: &OutFile, places: &Places) -> Result
     requires few_sections { length file.now.sections ≤ 4000 }
     requires symbols { All IsSymbol file.now.symbols }
     ensures bytes { OnOk result (out.new.items ≡ out.old.items ++ tables_bytes file.now) }
-    ensures symbols_fit { OnOk result (All SymbolFits file.now.symbols) }
-    ensures sections_fit { OnOk result (All SectionFits file.now.sections) }
+    ensures fits { OnOk result (TablesFit file.now) }
 {
     push_own_and_symbols(out, file, places)?;
     push_names(out, file)?;

@@ -5,7 +5,7 @@ ghost use Rattle.elf_write.specs.Widths.{SegmentFits};
 ghost use Rattle.qed_model.specs.Layout.{file_fields, symbol_bytes, header_bytes, alignment as alignment_of};
 
 use crate::numbers::{Number, push_numbers};
-use elf_types::{OutFile, SectionHeader, Segment, SymbolEntry};
+use elf_types::{SectionHeader, Segment, SymbolEntry};
 use std::alloc::AllocError;
 
 /// The sizes of records, in bytes.
@@ -24,13 +24,15 @@ pub const PAGE: u64 = 4096;
 /// offset.
 pub fn push_header(
     out: &mut Vec<u8>,
-    file: &OutFile,
+    entry: u64,
+    flags: u32,
     segments: u16,
     headers: u64,
     sections: u16,
 ) -> Result<(), AllocError>
     requires { sections ≤ 4000 }
-    ensures { OnOk result (out.new.items ≡ out.old.items ++ fields_bytes (file_fields file.now.entry file.now.flags segments headers sections)) }
+    ensures bytes { OnOk result (out.new.items ≡ out.old.items ++ fields_bytes (file_fields entry flags segments headers sections)) }
+    ensures fits { (entry < 2 ^ 64) × (flags < 2 ^ 32) }
 {
     push_numbers(
         out,
@@ -44,10 +46,10 @@ pub fn push_header(
             Number::Half(2),
             Number::Half(243),
             Number::Word(1),
-            Number::Long(file.entry),
+            Number::Long(entry),
             Number::Long(64),
             Number::Long(headers),
-            Number::Word(file.flags),
+            Number::Word(flags),
             Number::Half(64),
             Number::Half(56),
             Number::Half(segments),

@@ -1,6 +1,8 @@
 // The whole file.
 ghost use Rattle.std.specs.Prelude.{◌≡◌, ◌+◌, ◌-◌, ◌*◌, ◌^◌, ◌<◌, ◌≤◌, ◌++◌, OnOk, IfOk, All, length, replicate};
 ghost use Rattle.qed_model.specs.Written.{fields_bytes, program_headers, segments_bytes};
+ghost use Rattle.qed_model.specs.ElfFile.{File};
+ghost use Rattle.qed_model.specs.FileRead.{file_read};
 ghost use Rattle.qed_model.specs.Layout.{IsWritable, written};
 
 use crate::layout::places_of;
@@ -21,6 +23,7 @@ pub fn file_size(file: &OutFile) -> u128
 pub fn write_elf(alloc: Global, file: &OutFile) -> Result<Bytes, AllocError>
     requires { IsWritable file.now }
     ensures written { IfOk result (λ bytes. bytes ≡ written file.now) }
+    ensures reads_back { IfOk result (λ bytes. File bytes (file_read file.now)) }
 {
     let places = places_of(file);
     let mut out = Vec::new(alloc);

@@ -23,6 +23,7 @@ pub mod StraightTest
 pub mod Written
 pub mod Layout
 pub mod Output
+pub mod FileRead
 pub mod Woven
 pub mod Bounds
 pub mod Texts

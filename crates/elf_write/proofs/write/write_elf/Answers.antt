@@ -1,8 +1,11 @@
-use Rattle.std.proofs.Common.{◌≡◌, ◌++◌, ◌∙◌, ℕ, List, [], refl, length, append_assoc}
+use Rattle.std.proofs.Common.{◌≡◌, ◌++◌, ◌∙◌, ℕ, List, [], length, append_assoc, subst, sym}
+use Rattle.qed_model.specs.ElfFile.{File}
+use Rattle.qed_model.specs.FileRead.{file_read}
 use Rattle.qed_model.specs.Written.{fields_bytes, program_headers, segments_bytes}
 use Rattle.qed_model.specs.Layout.{written, file_fields, start_of, headers_place, tables_bytes}
 use Rattle.elf_write.proofs.Sizes.{ends_within}
 use Rattle.elf_write.proofs.Joined.{joined_two}
+use Rattle.elf_write.proofs.WholeRead.{reads_back}
 use Rattle.elf_write.proofs.write.write_elf.Goals as goal
 
 pub push_front-requires-clause-size : goal.push_front-requires-clause-size
@@ -22,6 +25,9 @@ returns c =
     let header = fields_bytes (file_fields f.entry f.flags (length f.segments) (headers_place f) (length f.sections)) in
     let programs = program_headers (start_of f) f.segments in
     let segments = segments_bytes (start_of f) f.segments in
-    let front : c.push_front.new.out.items ≡ [] ++ (header ++ (programs ++ segments)) =
-    rw c.new-out.ensures.items at c.in_ok-push_front.ensures.bytes in
-    record { written = c.of.ensures ∙ joined_two [] _ _ (header ++ (programs ++ segments)) (tables_bytes f) front c.in_ok-push_tables.ensures.bytes ∙ split header programs segments (tables_bytes f) }
+    let front : c.push_front.new.out.items ≡ [] ++ (header ++ (programs ++ segments)) = rw c.new-out.ensures.items at c.in_ok-push_front.ensures.bytes in
+    let same = c.of.ensures ∙ joined_two [] _ _ (header ++ (programs ++ segments)) (tables_bytes f) front c.in_ok-push_tables.ensures.bytes ∙ split header programs segments (tables_bytes f) in
+    let first = c.in_ok-push_front.ensures.fits in
+    let last = c.in_ok-push_tables.ensures.fits in
+    let back : File (written f) (file_read f) = reads_back f c.requires first.entry first.flags first.segments last.sections last.symbols in
+    record { written = same; reads_back = subst (λ (bytes : List ℕ). File bytes (file_read f)) (sym same) back }

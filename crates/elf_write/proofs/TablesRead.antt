@@ -1,0 +1,171 @@
+-- The section headers of a file that was written, as a whole: the tables that are added, and what the rules ask of sections.
+use Rattle.std.proofs.Common.{◌≡◌, ◌≢◌, ℕ, zero, suc, ◌+◌, ◌-◌, ◌*◌, ◌/◌, ◌%◌, ◌^◌, ◌<◌, ◌≤◌, ◌&&◌, ◌||◌, not, Bool, true, false, cond, ltb, leb, eqb, List, [], ◌∷◌, ◌++◌, length, map, take, drop, get_or, Option, None, Some, Ok, refl, sym, ap, subst, ◌∙◌, arith, inl, inr, length-append, add-one}
+use Rattle.std.specs.Prelude.{All}
+use Rattle.std.proofs.lemmas.Bool.{cases_lt, le-ltb}
+use Rattle.std.proofs.lemmas.Bool.Decides.{nat_tests}
+use Rattle.std.proofs.lemmas.List.{get_or-append-add, get_or_append_left}
+use Rattle.std.proofs.lemmas.List.Elements.{All-cons, All-nil, All-append}
+use Rattle.elf_types.specs.declared.file.Section.{Section}
+use Rattle.elf_types.specs.declared.output.OutFile.{OutFile}
+use Rattle.elf_types.specs.declared.records.SectionHeader.{SectionHeader}
+use Rattle.qed_model.specs.Below.{first}
+use Rattle.qed_model.specs.Plain.{e_shnum}
+use Rattle.qed_model.specs.ElfFields.{e_shstrndx, section_header}
+use Rattle.qed_model.specs.ElfRules.{is_alloc, is_strings, names_header, is_unended, is_section_outside, section_place_rule, section_bytes, is_section_misshapen, section_shape_rule, section_strings, symbol_table}
+use Rattle.qed_model.specs.Layout.{string_table, symbol_names, section_names, symbols_bytes, entries_of, start_of, own_place, symbols_place, strings_place, names_place, table_header, null_header, headers_from, symtab_header, strtab_header, shstrtab_header, table_headers, headers_of, IsWritable}
+use Rattle.qed_model.proofs.BelowLaws.{first_found, first_none}
+use Rattle.elf_write.proofs.Sizes.{laid_out, length-headers_of, length-headers_from, length-symbols_bytes, length-entries_from}
+use Rattle.elf_write.proofs.Stands.{Stands, stands_slice, stands_within}
+use Rattle.elf_write.proofs.Listing.{Lists, none_passes}
+use Rattle.elf_write.proofs.HeaderRead.{HeaderRead, PartsStand}
+use Rattle.elf_write.proofs.SectionsRead.{EndsIn, NoWrap, IsGiven, IsEnded}
+
+-- ---- the headers in order
+abbrev pub given_headers : OutFile → List SectionHeader
+given_headers f = headers_from (start_of f) f.segments 1 (own_place f) f.sections
+
+-- the null section and the given ones
+abbrev pub front_headers : OutFile → List SectionHeader
+front_headers f = null_header ∷ given_headers f
+
+abbrev pub last_headers : OutFile → List SectionHeader
+last_headers f = symtab_header f ∷ strtab_header f ∷ shstrtab_header f ∷ []
+
+pub headers_are : (f : OutFile) → headers_of f ≡ front_headers f ++ last_headers f
+unfolding headers_of table_headers
+headers_are f = refl
+
+-- what holds of each of them
+pub all_headers : (P : SectionHeader → Type 0) (f : OutFile) → P null_header → All P (given_headers f) → P (symtab_header f) → P (strtab_header f) → P (shstrtab_header f) → All P (headers_of f)
+all_headers P f null given symtab strtab shstrtab =
+    let last = All-cons P (symtab_header f) (strtab_header f ∷ shstrtab_header f ∷ []) symtab
+        (All-cons P (strtab_header f) (shstrtab_header f ∷ []) strtab (All-cons P (shstrtab_header f) [] shstrtab (All-nil P))) in
+    subst (All P) (sym (headers_are f)) (All-append P (front_headers f) (last_headers f) (All-cons P null_header (given_headers f) null given) last)
+
+-- ---- what is known of a file
+pub record Known (f : OutFile) (file : List ℕ) : Type 0 where
+  pub header : HeaderRead f file
+  pub parts : PartsStand f file
+  pub headers : Lists (section_header file) (headers_of f)
+
+-- header k behind the null section and the given ones
+behind : (f : OutFile) (file : List ℕ) → Known f file → (k : ℕ) → k < 3 → section_header file (length f.sections + 1 + k) ≡ get_or (last_headers f) k (section_header file (length f.sections + 1 + k))
+behind f file known k lt =
+    let i : ℕ = length f.sections + 1 + k in
+    let long = length-headers_from (start_of f) f.segments 1 (own_place f) f.sections in
+    let e : length (front_headers f) + k ≡ i = omega (arith, long) in
+    let d : SectionHeader = section_header file i in
+    known.headers.at i (omega (arith, length-headers_of f)) ∙ ap (λ (xs : List SectionHeader). get_or xs i d) (headers_are f)
+    ∙ ap (λ (j : ℕ). get_or (front_headers f ++ last_headers f) j d) (sym e) ∙ get_or-append-add (front_headers f) (last_headers f) k d
+
+pub symtab_at : (f : OutFile) (file : List ℕ) → Known f file → section_header file (length f.sections + 1) ≡ symtab_header f
+symtab_at f file known = ap (section_header file) (omega arith) ∙ behind f file known 0 (omega arith)
+
+pub strtab_at : (f : OutFile) (file : List ℕ) → Known f file → section_header file (length f.sections + 2) ≡ strtab_header f
+strtab_at f file known = ap (section_header file) (omega arith) ∙ behind f file known 1 (omega arith)
+
+pub shstrtab_at : (f : OutFile) (file : List ℕ) → Known f file → section_header file (length f.sections + 3) ≡ shstrtab_header f
+shstrtab_at f file known = ap (section_header file) (omega arith) ∙ behind f file known 2 (omega arith)
+
+-- ---- the bytes of the tables
+table_bytes : (file : List ℕ) (name kind at size : ℕ) (xs : List ℕ) (link info entsize : ℕ) → eqb kind 0 ≡ false → eqb kind 8 ≡ false → size ≡ length xs → 0 < length xs → Stands file at xs
+    → section_bytes file (table_header name kind at size link info entsize) ≡ xs
+unfolding section_bytes
+table_bytes file name kind at size xs link info entsize a b e some s =
+    let test : ltb 0 (length xs) ≡ true = grind (arith, nat_tests) in
+    rw (a, b, e, test) (stands_slice xs s)
+
+pub entries_are : (f : OutFile) (file : List ℕ) → Known f file → section_bytes file (symtab_header f) ≡ symbols_bytes (entries_of f.symbols)
+entries_are f file known =
+    let long : 24 * (1 + length f.symbols) ≡ length (symbols_bytes (entries_of f.symbols)) = omega (arith, length-symbols_bytes (entries_of f.symbols), length-entries_from 1 f.symbols) in
+    table_bytes file _ 2 (symbols_place f) (24 * (1 + length f.symbols)) (symbols_bytes (entries_of f.symbols)) _ _ 24 refl refl long (omega (arith, long)) known.parts.symbols
+
+pub strings_are : (f : OutFile) (file : List ℕ) → Known f file → section_bytes file (strtab_header f) ≡ string_table (symbol_names f.symbols)
+strings_are f file known = table_bytes file _ 3 (strings_place f) _ (string_table (symbol_names f.symbols)) 0 0 0 refl refl refl (omega arith) known.parts.strings
+
+pub names_are : (f : OutFile) (file : List ℕ) → Known f file → section_bytes file (shstrtab_header f) ≡ string_table (section_names f.sections)
+names_are f file known = table_bytes file _ 3 (names_place f) _ (string_table (section_names f.sections)) 0 0 0 refl refl refl (omega arith) known.parts.names
+
+-- the section with the names is the last
+pub last_names : (f : OutFile) (file : List ℕ) → Known f file → section_header file (e_shstrndx file) ≡ shstrtab_header f
+last_names f file known = ap (section_header file) known.header.shstrndx ∙ shstrtab_at f file known
+
+-- there is one
+pub has_names : (f : OutFile) (file : List ℕ) → Known f file → eqb (e_shstrndx file) 0 ≡ false
+has_names f file known = rw known.header.shstrndx (grind (arith, nat_tests))
+
+pub section_strings-are : (f : OutFile) (file : List ℕ) → Known f file → section_strings file ≡ string_table (section_names f.sections)
+unfolding section_strings
+section_strings-are f file known = rw (has_names f file known, last_names f file known) (names_are f file known)
+
+-- ---- the rules on sections
+and_false : (b : Bool) → (b && false) ≡ false
+and_false true = refl
+and_false false = refl
+
+outside_not : (file : List ℕ) (h : SectionHeader) → EndsIn (length file) h → is_section_outside file h ≡ false
+unfolding is_section_outside
+outside_not file h e =
+    let short : ltb (length file) (h.offset + h.size) ≡ false = le-ltb _ _ e in
+    rw short (and_false _)
+
+pub place_passes : (f : OutFile) (file : List ℕ) → Known f file → All (EndsIn (length file)) (headers_of f) → section_place_rule file ≡ Ok tt
+unfolding section_place_rule
+place_passes f file known ends =
+    let many : e_shnum file ≡ length (headers_of f) = omega (arith, known.header.shnum, length-headers_of f) in
+    let none = none_passes (is_section_outside file) (section_header file) (headers_of f) known.headers (λ k d lt. outside_not file (get_or (headers_of f) k d) (ends k d lt)) in
+    rw (many, none) refl
+
+-- three tests that all fail
+three_fail : (a b c : Bool) → a ≡ false → b ≡ false → c ≡ false → (a || b || c) ≡ false
+three_fail a b c ha hb hc = rw (ha, hb, hc) refl
+
+third_fails : (a b c : Bool) → c ≡ false → (a && b && c) ≡ false
+third_fails a b c h = rw h (and_false (a && b))
+
+-- the last test fails where the one before it passes
+last_fails : (a b c : Bool) → (b ≡ true → c ≡ false) → (a && b && c) ≡ false
+last_fails a true c h = rw (h refl) (and_false (a && true))
+last_fails a false c h = rw (and_false a) refl
+
+same_number : (a b : ℕ) → eqb a b ≡ true → a ≡ b
+same_number a b t = grind (arith, nat_tests)
+
+shaped : (f : OutFile) (file : List ℕ) → Known f file → All NoWrap (headers_of f) → All (IsEnded (string_table (section_names f.sections))) (headers_of f) → (i : ℕ) → i < length (headers_of f)
+    → is_section_misshapen file i ≡ false
+unfolding is_section_misshapen
+shaped f file known wrap ended i lt =
+    let d : SectionHeader = section_header file i in
+    let is = known.headers.at i lt in
+    let one : NoWrap d = subst NoWrap (sym is) (wrap i d lt) in
+    let three : IsEnded (string_table (section_names f.sections)) d = subst (IsEnded (string_table (section_names f.sections))) (sym is) (ended i d lt) in
+    let table = ap (section_bytes file) (last_names f file known) ∙ names_are f file known in
+    three_fail _ _ _ one
+    (last_fails _ (eqb i (e_shstrndx file)) (not (is_strings d)) (λ t.
+      let here : d ≡ shstrtab_header f = ap (section_header file) (same_number i (e_shstrndx file) t) ∙ last_names f file known in
+      rw here refl))
+    (third_fails (not (eqb (e_shstrndx file) 0)) (is_strings (names_header file)) _ (ap (λ (t : List ℕ). is_unended t d.name) table ∙ three))
+
+pub shape_passes : (f : OutFile) (file : List ℕ) → Known f file → All NoWrap (headers_of f) → All (IsEnded (string_table (section_names f.sections))) (headers_of f) → section_shape_rule file ≡ Ok tt
+unfolding section_shape_rule
+shape_passes f file known wrap ended =
+    let many : e_shnum file ≡ length (headers_of f) = omega (arith, known.header.shnum, length-headers_of f) in
+    let none = first_none (length (headers_of f)) (is_section_misshapen file) (shaped f file known wrap ended) in
+    rw (many, none) refl
+
+-- ---- the symbol table
+front_kind : (f : OutFile) → All IsGiven (given_headers f) → All (λ h. eqb h.kind 2 ≡ false) (front_headers f)
+front_kind f given = All-cons (λ h. eqb h.kind 2 ≡ false) null_header (given_headers f) refl (λ k d lt. rw (given k d lt) refl)
+
+pub symbol_table-is : (f : OutFile) (file : List ℕ) → Known f file → All IsGiven (given_headers f) → symbol_table file ≡ Some (length f.sections + 1)
+unfolding symbol_table
+symbol_table-is f file known given =
+    let n : ℕ = length f.sections + 1 in
+    let long = length-headers_from (start_of f) f.segments 1 (own_place f) f.sections in
+    first_found (e_shnum file) (λ i. eqb (section_header file i).kind 2) n (omega (arith, known.header.shnum)) (rw (symtab_at f file known) refl)
+    (λ j lt.
+      let d : SectionHeader = section_header file j in
+      let lf : j < length (front_headers f) = omega (arith, long) in
+      let here : d ≡ get_or (front_headers f) j d = known.headers.at j (omega (arith, length-headers_of f)) ∙ ap (λ (xs : List SectionHeader). get_or xs j d) (headers_are f)
+          ∙ get_or_append_left (front_headers f) (last_headers f) d j lf in
+      ap (λ (h : SectionHeader). eqb h.kind 2) here ∙ front_kind f given j d lf)
