@@ -1,5 +1,5 @@
 -- What is woven from a straight test: the output file, word for word, and what is told of it.
-use Rattle.std.specs.Prelude.{◌≡◌, ℕ, ◌*◌, ◌^◌, ◌<◌, List, [], ◌∷◌, length, slice_index}
+use Rattle.std.specs.Prelude.{◌++◌, Option, None, ◌≡◌, ℕ, ◌*◌, ◌^◌, ◌<◌, List, [], ◌∷◌, length, slice_index}
 use Rattle.rv_isa.specs.declared.ins.Ins.{Ins}
 use Rattle.elf_types.specs.declared.file.ElfFile.{ElfFile}
 use Rattle.elf_types.specs.declared.output.OutFile.{OutFile}
@@ -7,11 +7,11 @@ use Rattle.qed_model.specs.declared.item.Item.{Item}
 use Rattle.qed_model.specs.declared.plan.EntryRow.{EntryRow}
 use Rattle.qed_model.specs.declared.plan.Plan.{Plan}
 use Rattle.qed_model.specs.Numbers.{bytes_of}
-use Rattle.qed_model.specs.Sequences.{woven_items}
+use Rattle.qed_model.specs.Sequences.{ecall, woven_items}
 use Rattle.qed_model.specs.Placed.{placed, rows_from, Decode}
 use Rattle.qed_model.specs.ElfFile.{File}
 use Rattle.qed_model.specs.Layout.{written}
-use Rattle.qed_model.specs.Admission.{image_segments}
+use Rattle.qed_model.specs.Admission.{image_segments, register_half, code_from}
 use Rattle.qed_model.specs.StraightTest.{StraightParts, IsMadeOf}
 use Rattle.qed_model.specs.Output.{base_of, distance_of, code_base, out_file}
 use Rattle.qed_model.specs.Bounds.{piece_bound, register_bound, word_bound, default_most, default_round}
@@ -34,15 +34,26 @@ pub record IsNewCode (f : ElfFile) (body : List Ins) (words : List ℕ) : Type 0
 abbrev pub woven_file : ElfFile → List Ins → List ℕ → OutFile
 woven_file f body words = out_file f (new_entries f body) (bytes_of words)
 
--- the input is a straight test, and the output the file with its new code
-pub record Woven (input output : List ℕ) : Type 0 where
+-- the first register above x13 that a test names, with the address of its instruction
+abbrev pub high_register_of : ElfFile → List Ins → Option (ℕ × ℕ)
+high_register_of f body = register_half (code_from f.entry (body ++ ecall ∷ []))
+
+-- the input is a straight test that keeps to x0 to x13, and this the file with its new code
+pub record WovenFile (input : List ℕ) (out : OutFile) : Type 0 where
   pub file : ElfFile
   pub read : File input file
   pub parts : StraightParts
   pub made : IsMadeOf file parts
+  pub low : high_register_of file parts.body ≡ None
   pub words : List ℕ
   pub code : IsNewCode file parts.body words
-  pub bytes : output ≡ written (woven_file file parts.body words)
+  pub woven : out ≡ woven_file file parts.body words
+
+-- the output is that file, written
+pub record Woven (input output : List ℕ) : Type 0 where
+  pub out : OutFile
+  pub file : WovenFile input out
+  pub bytes : output ≡ written out
 
 -- what is told of that file: there is no data word, and one piece, which begins at the entry
 abbrev pub woven_plan : ElfFile → List Ins → List ℕ → Plan

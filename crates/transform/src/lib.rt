@@ -4,6 +4,8 @@
 //! have the values of the input's, and exactly when a file is refused.
 #![tactic(auto)]
 
+mod code;
+mod error;
 mod link;
 mod places;
 mod sections;
