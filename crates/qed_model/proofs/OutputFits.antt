@@ -1,7 +1,7 @@
 -- The output file can be written, where its image is one small segment and the file is not too long.
-use Rattle.std.proofs.Common.{◌≡◌, ◌≢◌, ℕ, zero, suc, ◌+◌, ◌-◌, ◌*◌, ◌/◌, ◌^◌, ◌<◌, ◌≤◌, Bool, true, false, cond, ◌&&◌, ◌||◌, not, ◌==◌, List, [], ◌∷◌, ◌++◌, length, map, max, Option, Some, None, refl, sym, ap, ◌∙◌, subst, arith, length-append, add-zero}
+use Rattle.std.proofs.Common.{◌≡◌, ◌≢◌, ℕ, ◌+◌, ◌*◌, ◌/◌, ◌^◌, ◌<◌, ◌≤◌, Bool, true, false, cond, ◌&&◌, ◌||◌, not, ◌==◌, List, [], ◌∷◌, ◌++◌, length, Option, Some, None, refl, sym, ap, ◌∙◌, subst, arith, length-append}
 use Rattle.std.specs.Prelude.{All, AllPairs, nat_lt, nat_le, codes, IsTrue}
-use Rattle.std.specs.List.{filter, list_all, list_any, flat_map}
+use Rattle.std.specs.List.{filter, list_all}
 use Rattle.std.proofs.Math.Bool.{and-false}
 use Rattle.std.proofs.lemmas.Bool.{and_parts, and_from, ltb-true, le-ltb, le-leb, eqb-true, eq-eqb, false≢true}
 use Rattle.std.proofs.lemmas.List.Elements.{All-nil, All-cons, All-head, All-tail, All-append, All-map, All-filter, filter_passes}
@@ -13,8 +13,8 @@ use Rattle.elf_types.specs.declared.output.OutSection.{OutSection}
 use Rattle.qed_model.specs.declared.plan.EntryRow.{EntryRow}
 use Rattle.qed_model.specs.Numbers.{number_bytes}
 use Rattle.qed_model.specs.Admission.{is_in_image, image_segments}
-use Rattle.qed_model.specs.Layout.{written, IsLoadable, do_share, IsName, IsPlaced, is_in_memory, is_inside, IsSymbol, null_symbol, IsWritable}
-use Rattle.qed_model.specs.Output.{base_of, distance_of, code_base, copied, code_segment, out_segments, text_section, row_bytes, map_bytes, map_section, out_sections, is_kept, is_local, entry_at, is_of_code, valued, at_entry, out_symbol, symbol_group, out_symbols, out_file_of, out_file}
+use Rattle.qed_model.specs.Layout.{written, IsLoadable, do_share, IsName, IsPlaced, is_inside, IsSymbol, null_symbol, IsWritable}
+use Rattle.qed_model.specs.Output.{base_of, distance_of, code_base, copied, code_segment, out_segments, text_section, row_bytes, map_bytes, map_section, is_kept, is_local, entry_at, is_of_code, at_entry, out_symbol, symbol_group, out_symbols, out_file_of, out_file}
 use Rattle.qed_model.proofs.Fields.{length-number_bytes}
 use Rattle.qed_model.proofs.Pages.{page_of, pages_over, IsPages, pages_are}
 use Rattle.qed_model.proofs.ReadFacts.{IsReadFile}

@@ -1,18 +1,16 @@
 -- What is true of a file that was read: no segment has more bytes in the file than in memory, names have no zero byte, and the types and
 -- bindings of symbols have four bits.
-use Rattle.std.proofs.Common.{◌≡◌, ◌≢◌, ℕ, zero, suc, ◌+◌, ◌-◌, ◌*◌, ◌/◌, ◌%◌, ◌<◌, ◌≤◌, Bool, true, false, cond, ◌&&◌, ◌||◌, ◌==◌, List, [], ◌∷◌, ◌++◌, length, take, drop, get_or, Option, Some, None, Ok, Err, refl, sym, ap, ◌∙◌, subst, arith, length-take, get_or-take, get_or-drop}
+use Rattle.std.proofs.Common.{◌≡◌, ◌≢◌, ℕ, zero, suc, ◌+◌, ◌-◌, ◌*◌, ◌/◌, ◌<◌, ◌≤◌, Bool, true, false, cond, ◌&&◌, ◌||◌, ◌==◌, List, [], ◌∷◌, length, take, drop, get_or, Option, Some, None, Ok, Err, refl, sym, ◌∙◌, subst, arith, length-take, get_or-take, get_or-drop}
 use Rattle.std.specs.Prelude.{All, slice_index, nat_lt}
 use Rattle.std.specs.Option.{unwrap_or}
-use Rattle.std.proofs.lemmas.Bool.{ltb-false, eqb-true, eq-eqb, false≢true}
+use Rattle.std.proofs.lemmas.Bool.{ltb-false, eq-eqb, false≢true}
 use Rattle.std.proofs.lemmas.List.Elements.{All-nil, All-push}
 use Rattle.elf_types.specs.declared.error.ElfError.{ElfError}
 use Rattle.elf_types.specs.declared.file.ElfFile.{ElfFile}
-use Rattle.elf_types.specs.declared.file.Segment.{Segment}
 use Rattle.elf_types.specs.declared.file.Symbol.{Symbol}
-use Rattle.elf_types.specs.declared.records.ProgramHeader.{ProgramHeader}
 use Rattle.elf_types.specs.declared.records.SectionHeader.{SectionHeader}
-use Rattle.qed_model.specs.Below.{first, each, IsFirstBelow}
-use Rattle.qed_model.specs.Plain.{e_phnum, e_shnum}
+use Rattle.qed_model.specs.Below.{each}
+use Rattle.qed_model.specs.Plain.{e_phnum}
 use Rattle.qed_model.specs.ElfFields.{program_header, section_header, symbol_entry}
 use Rattle.qed_model.specs.ElfRules.{Check, first_refusal, refuse_found, is_load, is_misshapen, part_rules, segment_shape_rule, segment_overlap_rule, section_shape_rule, symbol_shape_rule, rela_shape_rule, section_count_rule, byte_count_rule, name_length, name_at, has_bytes, section_bytes, strings_of, symbol_name, symbol_table, verdict}
 use Rattle.qed_model.specs.ElfFile.{File, load_bytes, segment_of, symbol_of, symbols_at}
@@ -107,6 +105,10 @@ taken_bytes true n k file h = record { fit = λ i. by i } where
   by : (i : ℕ) → get_or (take n (drop k file)) i 0 < 256
   by i = part (drop k file) n i (λ j. subst (λ x. x < 256) (sym (get_or-drop k file j 0)) (h.fit (k + j)))
 
+segment_bytes : (file : List ℕ) (i : ℕ) → AreBytes file → AreBytes (segment_of file i).bytes
+unfolding segment_of load_bytes
+segment_bytes file i h = let p = program_header file i in taken_bytes (is_load p) p.filesz p.offset file h
+
 symbol_is : (file : List ℕ) (s : SectionHeader) (j : ℕ) → AreBytes file → IsSymbol (symbol_of file s j)
 unfolding symbol_of symbol_entry section_bytes
 symbol_is file s j h =
@@ -117,6 +119,7 @@ symbol_is file s j h =
 -- ---- the file
 pub record IsReadFile (f : ElfFile) : Type 0 where
   pub sized : All (λ s. length s.bytes ≤ s.memory) f.segments
+  pub bytes : All (λ s. AreBytes s.bytes) f.segments
   pub symbols : All IsSymbol f.symbols
   pub names : All (λ s. IsName s.name) f.symbols
 
@@ -127,6 +130,7 @@ all_symbols P file h (Some i) = All-each P ((section_header file i).size / 24) (
 pub read_facts : (file : List ℕ) (f : ElfFile) → AreBytes file → File file f → IsReadFile f
 read_facts file f bytes r = record {
   sized = subst (All (λ s. length s.bytes ≤ s.memory)) (sym r.segments) (All-each (λ s. length s.bytes ≤ s.memory) (e_phnum file) (segment_of file) (λ j l. sized_segment file j (well_shaped file r.accepted j l)));
+  bytes = subst (All (λ s. AreBytes s.bytes)) (sym r.segments) (All-each (λ s. AreBytes s.bytes) (e_phnum file) (segment_of file) (λ j l. segment_bytes file j bytes));
   symbols = subst (All IsSymbol) (sym r.symbols) (all_symbols IsSymbol file (λ s j. symbol_is file s j bytes) (symbol_table file));
   names = subst (All (λ s. IsName s.name)) (sym r.symbols) (all_symbols (λ s. IsName s.name) file (symbol_name_is file) (symbol_table file));
 }
