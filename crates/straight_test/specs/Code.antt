@@ -1,10 +1,14 @@
 -- The words of straight code.
-use Rattle.std.specs.Prelude.{◌≡◌, ℕ, ◌<◌, All, Some, List, [], ◌∷◌, ◌++◌, length, slice_index}
+use Rattle.std.specs.Prelude.{◌≡◌, ℕ, ◌<◌, All, Some, is_some, true, List, [], ◌∷◌, ◌++◌, length, slice_index}
 use Rattle.rv_isa.specs.declared.ins.Ins.{Ins}
-use Rattle.qed_model.specs.Table.{decode_of}
+use Rattle.qed_model.specs.Table.{decode_of, encode_of}
 use Rattle.qed_model.specs.Placed.{Decode}
 use Rattle.qed_model.specs.Sequences.{ecall}
 use Rattle.qed_model.specs.Plain.{IsSum}
+
+-- an instruction that has a word
+abbrev pub HasWord : Ins → Type 0
+HasWord i = is_some (encode_of i) ≡ true
 
 -- a word that is neither ADDI nor ADD
 abbrev pub IsNoSum : ℕ → Type 0

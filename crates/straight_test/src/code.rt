@@ -6,7 +6,7 @@ ghost use Rattle.qed_model.specs.Numbers.{words_of};
 ghost use Rattle.qed_model.specs.Sequences.{ecall};
 ghost use Rattle.qed_model.specs.Placed.{Decode};
 ghost use Rattle.qed_model.specs.Plain.{IsSum};
-ghost use Rattle.straight_test.specs.Code.{HasNoSum, IsNoSum, IsStraightBody};
+ghost use Rattle.straight_test.specs.Code.{HasNoSum, HasWord, IsNoSum, IsStraightBody};
 
 use byteorder::{ByteOrder, LittleEndian};
 use rv_decode::decode;
@@ -30,14 +30,14 @@ fn is_ecall(word: u32) -> bool
     ensures { IsTrue result ↔ (decode_of word ≡ Some ecall) }
 {
     match decode(word) {
-        Some(instruction) => instruction.kind == Kind::Ecall,
+        Some(instruction) => matches!(instruction.kind, Kind::Ecall),
         None => false,
     }
 }
 
 /// The instruction of a word of ADDI or ADD.
 fn sum_instruction(word: u32) -> Option<Ins>
-    ensures { MatchOption result (IsNoSum word) (λ i. (decode_of word ≡ Some i) × IsSum i) }
+    ensures { MatchOption result (IsNoSum word) (λ i. (decode_of word ≡ Some i) × IsSum i × HasWord i) }
 {
     let instruction = decode(word)?;
     match instruction.kind {
@@ -49,7 +49,7 @@ fn sum_instruction(word: u32) -> Option<Ins>
 
 /// The instructions of words of ADDI and ADD, None where one of them is of another kind.
 fn sums(alloc: Global, words: &[u32]) -> Result<Option<Vec<Ins>>, AllocError>
-    ensures { IfOk result (λ found. MatchOption found (HasNoSum words.now) (λ body. Decode words.now body.items × All IsSum body.items)) }
+    ensures { IfOk result (λ found. MatchOption found (HasNoSum words.now) (λ body. Decode words.now body.items × All IsSum body.items × All HasWord body.items)) }
 {
     let mut body = Vec::new(alloc);
     for word in words {
@@ -63,7 +63,7 @@ fn sums(alloc: Global, words: &[u32]) -> Result<Option<Vec<Ins>>, AllocError>
 
 /// The instructions before the ECALL, where the last word is ECALL and every other is ADDI or ADD.
 fn straight_instructions(alloc: Global, words: &[u32]) -> Result<Option<Vec<Ins>>, AllocError>
-    ensures { IfOk result (λ found. MatchOption found ((body : List Instruction) → IsStraightBody words.now body → ⊥) (λ body. IsStraightBody words.now body.items)) }
+    ensures { IfOk result (λ found. MatchOption found ((body : List Instruction) → IsStraightBody words.now body → ⊥) (λ body. IsStraightBody words.now body.items × All HasWord body.items)) }
 {
     let [front @ .., last] = words else {
         return Ok(None);
@@ -71,13 +71,15 @@ fn straight_instructions(alloc: Global, words: &[u32]) -> Result<Option<Vec<Ins>
     if !is_ecall(*last) {
         return Ok(None);
     }
-    let body = sums(alloc, front)?;
-    Ok(body)
+    match sums(alloc, front)? {
+        Some(body) => Ok(Some(body)),
+        None => Ok(None),
+    }
 }
 
 /// The instructions of the code before the ECALL, where it is ADDI and ADD with an ECALL behind them.
 pub fn read_code(alloc: Global, code: &[u8]) -> Result<Option<Vec<Ins>>, AllocError>
-    ensures { IfOk result (λ found. MatchOption found ((body : List Instruction) → IsStraightBody (words_of code.now) body → ⊥) (λ body. IsStraightBody (words_of code.now) body.items)) }
+    ensures { IfOk result (λ found. MatchOption found ((body : List Instruction) → IsStraightBody (words_of code.now) body → ⊥) (λ body. IsStraightBody (words_of code.now) body.items × All HasWord body.items)) }
 {
     let words = read_words(alloc, code)?;
     let body = straight_instructions(alloc, &words)?;
