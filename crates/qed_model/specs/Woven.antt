@@ -2,6 +2,7 @@
 use Rattle.std.specs.Prelude.{◌++◌, Option, None, ◌≡◌, ℕ, ◌*◌, ◌^◌, ◌<◌, List, [], ◌∷◌, length, slice_index}
 use Rattle.rv_isa.specs.declared.ins.Ins.{Ins}
 use Rattle.elf_types.specs.declared.file.ElfFile.{ElfFile}
+use Rattle.elf_types.specs.declared.file.Segment.{Segment}
 use Rattle.elf_types.specs.declared.output.OutFile.{OutFile}
 use Rattle.qed_model.specs.declared.item.Item.{Item}
 use Rattle.qed_model.specs.declared.plan.EntryRow.{EntryRow}
@@ -55,17 +56,21 @@ pub record Woven (input output : List ℕ) : Type 0 where
   pub file : WovenFile input out
   pub bytes : output ≡ written out
 
--- what is told of that file: there is no data word, and one piece, which begins at the entry
-abbrev pub woven_plan : ElfFile → List Ins → List ℕ → Plan
-woven_plan f body words =
+-- what is told of a file: its image, its entry, how many instructions its one piece has, the entries and the size of its new
+-- code; there is no data word
+abbrev pub plan_of : List Segment → ℕ → ℕ → List EntryRow → ℕ → Plan
+plan_of image entry count rows size =
     let piece = piece_bound default_most default_round in
     record {
-      base = base_of (image_segments f.segments);
-      distance = distance_of (image_segments f.segments);
+      base = base_of image;
+      distance = distance_of image;
       words = 0;
-      code_bytes = 4 * length words;
-      entries = new_entries f body;
-      pieces = record { entry = f.entry; first = f.entry; length = length body } ∷ [];
+      code_bytes = size;
+      entries = rows;
+      pieces = record { entry = entry; first = entry; length = count } ∷ [];
       span = record { start = 0; end = 0 };
       bounds = record { piece = piece; register = register_bound piece; word = word_bound 0 default_round piece };
     }
+
+abbrev pub woven_plan : ElfFile → List Ins → List ℕ → Plan
+woven_plan f body words = plan_of (image_segments f.segments) f.entry (length body) (new_entries f body) (4 * length words)

@@ -7,6 +7,7 @@
 mod code;
 mod error;
 mod link;
+mod output;
 mod places;
 mod sections;
 mod segments;
