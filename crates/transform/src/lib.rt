@@ -12,4 +12,8 @@ mod places;
 mod sections;
 mod segments;
 mod symbols;
+mod transform;
 mod weave;
+
+pub use error::{AdmitError, TransformError};
+pub use transform::{Transformed, transform};
