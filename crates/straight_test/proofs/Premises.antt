@@ -47,10 +47,6 @@ module _ (f : ElfFile) (p : StraightParts) (made : IsMadeOf f p) where
   pub code_size : p.size ≡ 4 * length p.body + 4
   code_size = size_is p.segment f.entry p.size p.body (made_place f p made) (straight_body f p made)
 
-  -- so its addresses do not wrap
-  pub code_room : f.entry + 4 * length p.body < 2 ^ 64
-  code_room = let place = made_place f p made in omega (arith, code_size, place.end, made.few, made.low)
-
   -- its words are the instructions, as they are to be decoded
   pub code_decodes : Decode (words_of (range_bytes (load_segment p.segment) f.entry p.size)) (p.body ++ ecall ∷ [])
   code_decodes = made.code
