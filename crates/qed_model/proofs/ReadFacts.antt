@@ -105,10 +105,6 @@ taken_bytes true n k file h = record { fit = λ i. by i } where
   by : (i : ℕ) → get_or (take n (drop k file)) i 0 < 256
   by i = part (drop k file) n i (λ j. subst (λ x. x < 256) (sym (get_or-drop k file j 0)) (h.fit (k + j)))
 
-segment_bytes : (file : List ℕ) (i : ℕ) → AreBytes file → AreBytes (segment_of file i).bytes
-unfolding segment_of load_bytes
-segment_bytes file i h = let p = program_header file i in taken_bytes (is_load p) p.filesz p.offset file h
-
 symbol_is : (file : List ℕ) (s : SectionHeader) (j : ℕ) → AreBytes file → IsSymbol (symbol_of file s j)
 unfolding symbol_of symbol_entry section_bytes
 symbol_is file s j h =
@@ -119,7 +115,6 @@ symbol_is file s j h =
 -- ---- the file
 pub record IsReadFile (f : ElfFile) : Type 0 where
   pub sized : All (λ s. length s.bytes ≤ s.memory) f.segments
-  pub bytes : All (λ s. AreBytes s.bytes) f.segments
   pub symbols : All IsSymbol f.symbols
   pub names : All (λ s. IsName s.name) f.symbols
 
@@ -130,7 +125,6 @@ all_symbols P file h (Some i) = All-each P ((section_header file i).size / 24) (
 pub read_facts : (file : List ℕ) (f : ElfFile) → AreBytes file → File file f → IsReadFile f
 read_facts file f bytes r = record {
   sized = subst (All (λ s. length s.bytes ≤ s.memory)) (sym r.segments) (All-each (λ s. length s.bytes ≤ s.memory) (e_phnum file) (segment_of file) (λ j l. sized_segment file j (well_shaped file r.accepted j l)));
-  bytes = subst (All (λ s. AreBytes s.bytes)) (sym r.segments) (All-each (λ s. AreBytes s.bytes) (e_phnum file) (segment_of file) (λ j l. segment_bytes file j bytes));
   symbols = subst (All IsSymbol) (sym r.symbols) (all_symbols IsSymbol file (λ s j. symbol_is file s j bytes) (symbol_table file));
   names = subst (All (λ s. IsName s.name)) (sym r.symbols) (all_symbols (λ s. IsName s.name) file (symbol_name_is file) (symbol_table file));
 }

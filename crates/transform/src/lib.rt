@@ -12,8 +12,8 @@ mod places;
 mod sections;
 mod segments;
 mod symbols;
-mod transform;
 mod weave;
+mod whole;
 
 pub use error::{AdmitError, TransformError};
-pub use transform::{Transformed, transform};
+pub use whole::{Transformed, transform};
