@@ -101,8 +101,8 @@ module _ (f : ElfFile) (p : StraightParts) (made : IsMadeOf f p) (low : high_reg
       record {
         entry = refl;
         ranges =
-        ap (λ ls. code_ranges ls g.sections) segments
-        ∙ range_is (moved s.address (load_segment s)) (moved (s.address + distance_of (s ∷ [])) (load_segment s)) (code_base (s ∷ [])) cs rows (out_file_of f (s ∷ []) rows cs) (omega (arith, some, length-bytes_of words));
+            ap (λ ls. code_ranges ls g.sections) segments
+            ∙ range_is (moved s.address (load_segment s)) (moved (s.address + distance_of (s ∷ [])) (load_segment s)) (code_base (s ∷ [])) cs rows (out_file_of f (s ∷ []) rows cs) (omega (arith, some, length-bytes_of words));
         segments = segments;
       }
 

@@ -75,8 +75,8 @@ module _ (f : ElfFile) (parts : StraightParts) (made : IsMadeOf f parts) (p : Pl
       record {
         small = small;
         code =
-        subst (λ at. Decode words (placed at (new_items f body))) is_code
-        (subst (λ d. Decode words (placed p.code (woven_items 1 d [] f.entry (body ∷ [])))) is_distance code);
+            subst (λ at. Decode words (placed at (new_items f body))) is_code
+            (subst (λ d. Decode words (placed p.code (woven_items 1 d [] f.entry (body ∷ [])))) is_distance code);
       }
 
   -- and so are the entries
@@ -97,7 +97,7 @@ module _ (f : ElfFile) (parts : StraightParts) (made : IsMadeOf f parts) (p : Pl
         code = code_is body words small code;
         file = file ∙ ap (λ image. out_file_of f image rows (bytes_of words)) (sym made.image) ∙ ap (λ rows. out_file_of f (image_segments f.segments) rows (bytes_of words)) same;
         told =
-        told (s ∷ []) are
-        ∙ ap (λ image. plan_of image f.entry (length body) rows (4 * length words)) (sym made.image)
-        ∙ ap (λ rows. plan_of (image_segments f.segments) f.entry (length body) rows (4 * length words)) same;
+            told (s ∷ []) are
+            ∙ ap (λ image. plan_of image f.entry (length body) rows (4 * length words)) (sym made.image)
+            ∙ ap (λ rows. plan_of (image_segments f.segments) f.entry (length body) rows (4 * length words)) same;
       }

@@ -51,6 +51,6 @@ returns c =
     woven_from f (parts t.segment.now t.size t.body.items) c.requires.made p c.places_of-places.ensures t.body.items code.words.items code.entries.items c.in_ok-out.out plan made.words decode entries
     c.in_ok-out.ensures
     (λ (image : List Segment) (are : ArePlaces image p).
-        c.in_ok-plan.ensures image are
-        ∙ ap (λ e. plan_of image e c.len.result code.entries.items (4 * length code.words.items)) c.requires.entry
-        ∙ ap (λ n. plan_of image f.entry n code.entries.items (4 * length code.words.items)) (c.len.ensures ∙ t.body.ok.0))
+    c.in_ok-plan.ensures image are
+    ∙ ap (λ e. plan_of image e c.len.result code.entries.items (4 * length code.words.items)) c.requires.entry
+    ∙ ap (λ n. plan_of image f.entry n code.entries.items (4 * length code.words.items)) (c.len.ensures ∙ t.body.ok.0))
