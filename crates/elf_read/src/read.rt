@@ -6,7 +6,7 @@ ghost use Rattle.qed_model.specs.Plain.{e_phnum, e_shnum};
 ghost use Rattle.qed_model.specs.ElfFields.{section_header};
 ghost use Rattle.qed_model.specs.ElfRules.{section_strings, strings_of, symbol_table, verdict};
 ghost use Rattle.qed_model.specs.ElfFile.{File, segment_of, section_of, symbol_of, symbols_at, relas_of};
-ghost use Rattle.qed_model.specs.ElfRefusals.{IsRefused};
+ghost use Rattle.qed_model.specs.ElfRefusals.{IsAccepted, IsRefused};
 ghost use Rattle.elf_read.specs.Sound.{HasLinks};
 
 use crate::below::list_of;
@@ -171,9 +171,10 @@ impl<'a> Sound<'a> {
 ///
 /// `Memory` where no rule refuses the bytes, and there is no memory for the copy. Each other error comes exactly where
 /// it is the first that holds.
-#[tactic(auto, using(qed_model::proofs::RefusalLaws::refused))]
+#[tactic(auto, using(qed_model::proofs::RefusalLaws::refused, qed_model::proofs::AcceptanceLaws::accepted))]
 pub fn read_elf(alloc: Global, bytes: &[u8]) -> Result<ElfFile, ElfError>
     ensures read { IfOk result (λ f. File bytes.now f) }
+    ensures accepted { OnOk result (IsAccepted bytes.now) }
     ensures refused { IfErr result (λ e. IsRefused bytes.now e ⊎ ((e ≡ error.Memory) × (verdict bytes.now ≡ Ok tt))) }
 {
     let sound = Sound::new(bytes)?;

@@ -34,6 +34,32 @@ fn zeros_end(bytes: &[u8]) -> u64
     end
 }
 
+// How many bytes a name has, where it has an end.
+#[tactic(auto, unfolding(qed_model::specs::ElfRules::name_length))]
+fn name_length(bytes: &[u8], place: u32) -> Option<u64>
+    ensures gives { result ≡ name_length bytes.now place }
+    ensures below { IfSome result (λ n. place + n < length bytes.now) }
+{
+    let left = bytes.len().saturating_sub(place as usize);
+    first_of(left as u64, &|k| bytes[place as usize + k as usize] == 0)
+}
+
+#[tactic(auto, unfolding(qed_model::specs::ElfRules::name_at))]
+fn name_at(bytes: &[u8], place: u32) -> &[u8]
+    ensures { result.now ≡ name_at bytes.now place }
+{
+    if place == 0 {
+        return &[];
+    }
+    match name_length(bytes, place) {
+        Some(length) => {
+            let start = place as usize;
+            &bytes[start..start + length as usize]
+        }
+        None => &[],
+    }
+}
+
 impl<'a> Strings<'a> {
     /// The string table that these bytes are.
     pub fn new(bytes: &'a [u8]) -> Strings<'a>
@@ -53,31 +79,10 @@ impl<'a> Strings<'a> {
         place != 0 && u64::from(place) >= self.end
     }
 
-    /// How many bytes a name has, where it has an end.
-    #[tactic(auto, unfolding(qed_model::specs::ElfRules::name_length))]
-    fn name_length(&self, place: u32) -> Option<u64>
-        ensures gives { result ≡ name_length self.now place }
-        ensures below { IfSome result (λ n. place + n < length self.now) }
-    {
-        let bytes = self.bytes;
-        let left = bytes.len().saturating_sub(place as usize);
-        first_of(left as u64, &|k| bytes[place as usize + k as usize] == 0)
-    }
-
     /// The name at a place; the one at place 0, and one without an end, is empty.
-    #[tactic(auto, unfolding(qed_model::specs::ElfRules::name_at))]
     pub fn name(&self, place: u32) -> &'a [u8]
         ensures { result.now ≡ name_at self.now place }
     {
-        if place == 0 {
-            return &[];
-        }
-        match self.name_length(place) {
-            Some(length) => {
-                let start = place as usize;
-                &self.bytes[start..start + length as usize]
-            }
-            None => &[],
-        }
+        name_at(self.bytes, place)
     }
 }

@@ -117,7 +117,7 @@ impl Change {
 }
 
 /// The example with some changes.
-pub fn changed(alloc: Global, changes: &[Change]) -> Result<Vec<u8>, AllocError> {
+pub(crate) fn changed(alloc: Global, changes: &[Change]) -> Result<Vec<u8>, AllocError> {
     let mut file = example(alloc)?;
     for change in changes {
         change.make(&mut file);

@@ -36,9 +36,30 @@ pub const NAMES: &[u8] = b"\0.text\0.data\0.rela.text\0.bss\0.symtab\0.strtab\0.
 
 /// Code, data with 8 more bytes in memory, and a note.
 pub const PROGRAMS: [ProgramHeader; 3] = [
-    ProgramHeader { kind: 1, flags: 5, offset: TEXT_AT, vaddr: 0x10000, filesz: 16, memsz: 16 },
-    ProgramHeader { kind: 1, flags: 6, offset: DATA_AT, vaddr: 0x20000, filesz: 8, memsz: 16 },
-    ProgramHeader { kind: 4, flags: 4, offset: DATA_AT, vaddr: 0, filesz: 8, memsz: 0 },
+    ProgramHeader {
+        kind: 1,
+        flags: 5,
+        offset: TEXT_AT,
+        vaddr: 0x10000,
+        filesz: 16,
+        memsz: 16,
+    },
+    ProgramHeader {
+        kind: 1,
+        flags: 6,
+        offset: DATA_AT,
+        vaddr: 0x20000,
+        filesz: 8,
+        memsz: 16,
+    },
+    ProgramHeader {
+        kind: 4,
+        flags: 4,
+        offset: DATA_AT,
+        vaddr: 0,
+        filesz: 8,
+        memsz: 0,
+    },
 ];
 
 /// A section without a name, in no memory.
@@ -56,27 +77,119 @@ const SECTION: SectionHeader = SectionHeader {
 
 pub const SECTIONS: [SectionHeader; 8] = [
     SECTION,
-    SectionHeader { name: 1, kind: 1, flags: 6, addr: 0x10000, offset: TEXT_AT, size: 16, ..SECTION },
-    SectionHeader { name: 7, kind: 1, flags: 3, addr: 0x20000, offset: DATA_AT, size: 8, ..SECTION },
-    SectionHeader { name: 13, kind: 4, offset: RELAS_AT, size: 48, link: 5, info: 1, entsize: 24, ..SECTION },
-    SectionHeader { name: 24, kind: 8, flags: 3, addr: 0x20008, offset: 0x118, size: 8, ..SECTION },
-    SectionHeader { name: 29, kind: 2, offset: SYMBOLS_AT, size: 96, link: 6, info: 2, entsize: 24, ..SECTION },
-    SectionHeader { name: 37, kind: 3, offset: STRINGS_AT, size: 13, ..SECTION },
-    SectionHeader { name: 45, kind: 3, offset: NAMES_AT, size: 55, ..SECTION },
+    SectionHeader {
+        name: 1,
+        kind: 1,
+        flags: 6,
+        addr: 0x10000,
+        offset: TEXT_AT,
+        size: 16,
+        ..SECTION
+    },
+    SectionHeader {
+        name: 7,
+        kind: 1,
+        flags: 3,
+        addr: 0x20000,
+        offset: DATA_AT,
+        size: 8,
+        ..SECTION
+    },
+    SectionHeader {
+        name: 13,
+        kind: 4,
+        offset: RELAS_AT,
+        size: 48,
+        link: 5,
+        info: 1,
+        entsize: 24,
+        ..SECTION
+    },
+    SectionHeader {
+        name: 24,
+        kind: 8,
+        flags: 3,
+        addr: 0x20008,
+        offset: 0x118,
+        size: 8,
+        ..SECTION
+    },
+    SectionHeader {
+        name: 29,
+        kind: 2,
+        offset: SYMBOLS_AT,
+        size: 96,
+        link: 6,
+        info: 2,
+        entsize: 24,
+        ..SECTION
+    },
+    SectionHeader {
+        name: 37,
+        kind: 3,
+        offset: STRINGS_AT,
+        size: 13,
+        ..SECTION
+    },
+    SectionHeader {
+        name: 45,
+        kind: 3,
+        offset: NAMES_AT,
+        size: 55,
+        ..SECTION
+    },
 ];
 
 /// The null symbol, a global function, a local label and a global object.
 pub const SYMBOLS: [SymbolEntry; 4] = [
-    SymbolEntry { name: 0, info: 0, other: 0, index: 0, value: 0, size: 0 },
-    SymbolEntry { name: 1, info: 0x12, other: 0, index: 1, value: 0x10000, size: 16 },
-    SymbolEntry { name: 6, info: 0x00, other: 2, index: 1, value: 0x10008, size: 0 },
-    SymbolEntry { name: 11, info: 0x11, other: 0, index: 0xfff1, value: 0x20000, size: 8 },
+    SymbolEntry {
+        name: 0,
+        info: 0,
+        other: 0,
+        index: 0,
+        value: 0,
+        size: 0,
+    },
+    SymbolEntry {
+        name: 1,
+        info: 0x12,
+        other: 0,
+        index: 1,
+        value: 0x10000,
+        size: 16,
+    },
+    SymbolEntry {
+        name: 6,
+        info: 0x00,
+        other: 2,
+        index: 1,
+        value: 0x10008,
+        size: 0,
+    },
+    SymbolEntry {
+        name: 11,
+        info: 0x11,
+        other: 0,
+        index: 0xfff1,
+        value: 0x20000,
+        size: 8,
+    },
 ];
 
 /// A call, and a branch to the label.
 pub const RELAS: [Rela; 2] = [
-    Rela { place: 0x10000, kind: 18, symbol: 1, addend: -4 },
-    Rela { place: 0x10004, kind: 16, symbol: 2, addend: 8 },
+    Rela {
+        place: 0x10000,
+        kind: 18,
+        symbol: 1,
+        addend: -4,
+    },
+    Rela {
+        place: 0x10004,
+        kind: 16,
+        symbol: 2,
+        addend: 8,
+    },
 ];
 
 fn push_halves(file: &mut Vec<u8>, halves: &[u16]) -> Result<(), AllocError> {
@@ -169,7 +282,7 @@ fn push_sections(file: &mut Vec<u8>) -> Result<(), AllocError> {
 }
 
 /// The bytes of the file, with zeros between its parts.
-pub fn example(alloc: Global) -> Result<Vec<u8>, AllocError> {
+pub(crate) fn example(alloc: Global) -> Result<Vec<u8>, AllocError> {
     let mut file = Vec::new(alloc);
     push_front(&mut file)?;
     file.resize(TEXT_AT as usize, 0)?;

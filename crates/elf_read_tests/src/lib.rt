@@ -8,6 +8,8 @@ mod example;
 #[cfg(test)]
 mod limits;
 #[cfg(test)]
+mod linked;
+#[cfg(test)]
 mod reading;
 #[cfg(test)]
 mod refusals;

@@ -18,14 +18,20 @@ pub type SymbolRow<'a> = (&'a [u8], u64, u64, u8, u8, u8, u16);
 pub fn expect_segments(rt: &impl Abort, segments: &[Segment], want: &[SegmentRow]) {
     assert_eq!(rt; segments.len(), want.len());
     for (s, row) in segments.iter().zip(want) {
-        assert_eq!(rt; (s.kind, s.flags, s.address, s.memory, s.bytes.as_slice()), *row);
+        assert_eq!(rt;
+            (s.kind, s.flags, s.address, s.memory, s.bytes.as_slice()),
+            *row
+        );
     }
 }
 
 pub fn expect_sections(rt: &impl Abort, sections: &[Section], want: &[SectionRow]) {
     assert_eq!(rt; sections.len(), want.len());
     for (s, row) in sections.iter().zip(want) {
-        assert_eq!(rt; (s.name.as_slice(), s.kind, s.flags, s.address, s.size), *row);
+        assert_eq!(rt;
+            (s.name.as_slice(), s.kind, s.flags, s.address, s.size),
+            *row
+        );
     }
 }
 
@@ -33,7 +39,10 @@ pub fn expect_symbols(rt: &impl Abort, symbols: &[Symbol], want: &[SymbolRow]) {
     assert_eq!(rt; symbols.len(), want.len());
     for (s, row) in symbols.iter().zip(want) {
         let name = s.name.as_slice();
-        assert_eq!(rt; (name, s.value, s.size, s.kind, s.binding, s.other, s.index), *row);
+        assert_eq!(rt;
+            (name, s.value, s.size, s.kind, s.binding, s.other, s.index),
+            *row
+        );
     }
 }
 
@@ -46,7 +55,11 @@ fn the_example_is_read(rt: HostRuntime) -> Result<(), Fail> {
     expect_segments(
         &rt,
         file.segments.as_slice(),
-        &[(1, 5, 0x10000, 16, &TEXT), (1, 6, 0x20000, 16, &DATA), (4, 4, 0, 0, b"")],
+        &[
+            (1, 5, 0x10000, 16, &TEXT),
+            (1, 6, 0x20000, 16, &DATA),
+            (4, 4, 0, 0, b""),
+        ],
     );
     expect_sections(
         &rt,

@@ -1,17 +1,16 @@
 -- The header that was written, read, and where the parts of the file stand.
-use Rattle.std.proofs.Common.{◌≡◌, ℕ, ◌+◌, ◌-◌, ◌*◌, ◌^◌, ◌<◌, ◌≤◌, List, [], ◌∷◌, ◌++◌, length, replicate, refl, sym, ap, ◌∙◌, arith}
+use Rattle.std.proofs.Common.{◌≡◌, ℕ, ◌+◌, ◌-◌, ◌^◌, ◌<◌, ◌≤◌, List, [], ◌++◌, length, replicate, refl, ◌∙◌, arith}
 use Rattle.std.proofs.lemmas.List.{length-replicate}
-use Rattle.std.specs.Prelude.{slice_index}
 use Rattle.elf_types.specs.declared.output.OutFile.{OutFile}
 use Rattle.qed_model.specs.Numbers.{field}
 use Rattle.qed_model.specs.Plain.{e_type, e_machine, e_version, e_entry, e_phoff, e_shoff, e_flags, e_ehsize, e_phentsize, e_phnum, e_shnum}
 use Rattle.qed_model.specs.ElfFields.{e_class, e_encoding, e_ident_version, e_shentsize, e_shstrndx}
-use Rattle.qed_model.specs.Written.{fields_bytes, program_headers, segments_bytes, end_from}
+use Rattle.qed_model.specs.Written.{fields_bytes, program_headers, segments_bytes}
 use Rattle.qed_model.specs.Layout.{own_bytes, symbols_bytes, entries_of, string_table, symbol_names, section_names, headers_bytes, headers_of, file_fields, start_of, own_place, symbols_place, strings_place, names_place, headers_place, tables_bytes, written}
 use Rattle.qed_model.proofs.Fields.{slice_index-field, field-fields_bytes, size_before, size_at, value_at}
 use Rattle.qed_model.proofs.PlainFiles.{length-program_headers, length-segments_bytes}
-use Rattle.elf_write.proofs.Sizes.{IsLaidOut, laid_out, length-file_fields, length-symbols_bytes, length-entries_from}
-use Rattle.elf_write.proofs.Stands.{Stands, stands_whole, stands_left, stands_right, stands_at}
+use Rattle.elf_write.proofs.Sizes.{laid_out, length-file_fields, length-symbols_bytes, length-entries_from}
+use Rattle.elf_write.proofs.Stands.{Stands, stands_whole, stands_left, stands_right}
 
 -- ---- the header
 pub record HeaderRead (f : OutFile) (file : List ℕ) : Type 0 where
@@ -93,7 +92,7 @@ tables_stand f file s programs segments =
     let s1 = stands_right (own_place f + length own) own (before ++ (entries ++ (strings ++ (names ++ (behind ++ headers))))) refl all in
     let s2 = stands_right (symbols_place f) before (entries ++ (strings ++ (names ++ (behind ++ headers)))) (omega (arith, long, is.symbols)) s1 in
     let s3 = stands_right (strings_place f) entries (strings ++ (names ++ (behind ++ headers)))
-        (omega (arith, is.strings, length-symbols_bytes (entries_of f.symbols), length-entries_from 1 f.symbols)) s2 in
+    (omega (arith, is.strings, length-symbols_bytes (entries_of f.symbols), length-entries_from 1 f.symbols)) s2 in
     let s4 = stands_right (names_place f) strings (names ++ (behind ++ headers)) is.names s3 in
     let s5 = stands_right (names_place f + length names) names (behind ++ headers) refl s4 in
     let s6 = stands_right (headers_place f) behind headers (omega (arith, after, is.headers)) s5 in

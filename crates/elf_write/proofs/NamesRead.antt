@@ -1,10 +1,7 @@
 -- Names of a string table that was written, read.
-use Rattle.std.proofs.Common.{◌≡◌, ◌≢◌, ℕ, zero, suc, ◌+◌, ◌-◌, ◌<◌, ◌≤◌, Bool, true, false, cond, eqb, not, List, [], ◌∷◌, ◌++◌, length, take, drop, get_or, map, Option, Some, None, refl, sym, ap, ◌∙◌, arith, length-append}
-use Rattle.std.specs.Prelude.{All}
-use Rattle.std.specs.Option.{is_some, unwrap_or}
+use Rattle.std.proofs.Common.{◌≡◌, ◌≢◌, ℕ, zero, suc, ◌+◌, ◌-◌, ◌<◌, false, eqb, List, [], ◌∷◌, ◌++◌, length, get_or, Some, refl, ◌∙◌, arith, length-append}
 use Rattle.std.proofs.lemmas.Bool.Decides.{nat_tests}
 use Rattle.std.proofs.lemmas.List.{get_or_append_left, get_or_at}
-use Rattle.qed_model.specs.Below.{first}
 use Rattle.qed_model.specs.ElfRules.{name_length, name_at, is_unended}
 use Rattle.qed_model.specs.Layout.{IsName, names_bytes, string_table}
 use Rattle.qed_model.proofs.BelowLaws.{first_found}
@@ -27,8 +24,8 @@ length_read table at name is s =
     let last : get_or table (at + length name) 0 ≡ 0 = stands_item (name ++ 0 ∷ []) (length name) 0 (omega (arith, long)) s ∙ get_or_at name 0 [] 0 (length name) refl in
     first_found (length table - at) (λ k. eqb (get_or table (at + k) 0) 0) (length name) (omega (arith, within, long)) (rw last refl)
     (λ k lt.
-      let e : get_or table (at + k) 0 ≡ get_or name k 0 = stands_item (name ++ 0 ∷ []) k 0 (omega (arith, long)) s ∙ get_or_append_left name (0 ∷ []) 0 k lt in
-      rw e (differs (get_or name k 0) (is k 0 lt)))
+    let e : get_or table (at + k) 0 ≡ get_or name k 0 = stands_item (name ++ 0 ∷ []) k 0 (omega (arith, long)) s ∙ get_or_append_left name (0 ∷ []) 0 k lt in
+    rw e (differs (get_or name k 0) (is k 0 lt)))
 
 -- a name with its zero byte behind the first byte of the table
 pub name_read : (table : List ℕ) (at : ℕ) (name : List ℕ) → 0 < at → IsName name → Stands table at (name ++ 0 ∷ []) → NameRead table at name

@@ -1,5 +1,5 @@
 -- Records that stand in a file, read.
-use Rattle.std.proofs.Common.{◌≡◌, ℕ, zero, suc, ◌+◌, ◌*◌, ◌^◌, ◌<◌, ◌≤◌, List, [], ◌∷◌, ◌++◌, length, get_or, refl, sym, ap, subst, ◌∙◌, arith}
+use Rattle.std.proofs.Common.{◌≡◌, ℕ, zero, suc, ◌+◌, ◌*◌, ◌^◌, ◌<◌, List, [], ◌∷◌, ◌++◌, length, get_or, refl, ap, ◌∙◌, arith}
 use Rattle.std.specs.Prelude.{All, slice_index}
 use Rattle.elf_types.specs.declared.file.Segment.{Segment}
 use Rattle.elf_types.specs.declared.records.ProgramHeader.{ProgramHeader}

@@ -1,6 +1,6 @@
 -- The section headers that were written: their numbers fit, and what each of them says.
-use Rattle.std.proofs.Common.{◌≡◌, ℕ, zero, suc, ◌+◌, ◌-◌, ◌*◌, ◌^◌, ◌<◌, ◌≤◌, ◌&&◌, ◌||◌, not, Bool, true, false, cond, ltb, leb, eqb, List, [], ◌∷◌, ◌++◌, length, map, take, drop, get_or, None, Ok, refl, sym, ap, subst, ◌∙◌, arith, inl, inr, length-append, append_assoc}
-use Rattle.std.specs.Prelude.{All, IsTrue}
+use Rattle.std.proofs.Common.{◌≡◌, ℕ, ◌+◌, ◌-◌, ◌^◌, ◌<◌, ◌≤◌, ◌&&◌, ◌||◌, Bool, true, false, cond, ltb, leb, List, [], ◌∷◌, ◌++◌, length, map, refl, ap, subst, arith, length-append}
+use Rattle.std.specs.Prelude.{All}
 use Rattle.std.specs.List.{list_any}
 use Rattle.std.proofs.lemmas.Bool.{le-ltb}
 use Rattle.std.proofs.lemmas.Bool.Decides.{nat_tests}
@@ -16,8 +16,7 @@ use Rattle.qed_model.specs.FileRead.{section_read}
 use Rattle.elf_write.specs.Widths.{SectionFits}
 use Rattle.elf_write.proofs.Places.{end_from_above}
 use Rattle.elf_write.proofs.Stands.{Stands}
-use Rattle.elf_write.proofs.Listing.{total}
-use Rattle.elf_write.proofs.NamesRead.{NameRead, first_name, other_names}
+use Rattle.elf_write.proofs.NamesRead.{first_name, other_names}
 use Rattle.elf_write.proofs.RecordsRead.{HeaderFits}
 use Rattle.elf_write.proofs.SegmentsRead.{all_head, all_tail}
 
@@ -42,7 +41,7 @@ offset_ends at (s ∷ segments) x t =
     let next : ℕ = offset_from at s.address + length s.bytes in
     let above = end_from_above next segments in
     elim (is_inside x s) as (λ b. is_inside x s ≡ b → (b || list_any (is_inside x) segments) ≡ true
-        → cond b (offset_from at s.address + (x.address - s.address)) (offset_in next segments x) + x.size ≤ end_from next segments) [
+    → cond b (offset_from at s.address + (x.address - s.address)) (offset_in next segments x) + x.size ≤ end_from next segments) [
       | true ↦ λ e h. let i = inside_is x s e in omega (arith, i.above, i.below, above)
       | false ↦ λ e h. offset_ends next segments x h
     ] refl t
@@ -101,7 +100,7 @@ given_fit start segments name own (x ∷ sections) fits end names owned =
       entsize = omega arith;
     })
     (given_fit start segments (name + length x.name + 1) (own + length x.bytes) sections (all_tail SectionFits x sections fits) end
-      (omega (arith, both_names, one_name)) (omega (arith, both_bytes)))
+    (omega (arith, both_names, one_name)) (omega (arith, both_bytes)))
 
 -- a section ends within n bytes
 abbrev pub EndsIn : ℕ → SectionHeader → Type 0
@@ -177,7 +176,7 @@ given_read table start segments name own (x ∷ sections) more above are s =
     let others : List (List ℕ) = map (λ x. x.name) sections ++ more in
     let one = first_name table name x.name others above (all_head (λ x. IsName x.name) x sections are) s in
     let rest = given_read table start segments (name + length x.name + 1) (own + length x.bytes) sections more (omega arith) (all_tail (λ x. IsName x.name) x sections are)
-        (other_names table name x.name others s) in
+    (other_names table name x.name others s) in
     let head : shown table (header_with name (offset_at start segments own x) x) ≡ section_read x = ap (with_name x) one.is in
     record {
       shown_are = rw (head, rest.shown_are) refl;

@@ -1,9 +1,8 @@
 -- The segments that were written, read.
-use Rattle.std.proofs.Common.{◌≡◌, ℕ, zero, suc, ◌+◌, ◌-◌, ◌*◌, ◌^◌, ◌<◌, ◌≤◌, ◌&&◌, ◌||◌, Bool, true, false, cond, ltb, eqb, List, [], ◌∷◌, ◌++◌, length, map, take, drop, get_or, replicate, None, Ok, refl, sym, ap, subst, ◌∙◌, arith, inl, inr, length-append}
+use Rattle.std.proofs.Common.{◌≡◌, ℕ, zero, suc, ◌+◌, ◌-◌, ◌^◌, ◌<◌, ◌≤◌, ◌&&◌, Bool, true, false, cond, ltb, eqb, List, [], ◌∷◌, ◌++◌, length, map, take, drop, get_or, replicate, None, Ok, refl, sym, ap, subst, ◌∙◌, arith, inl, inr}
 use Rattle.std.specs.Prelude.{All, AllPairs}
 use Rattle.std.specs.Option.{is_some}
 use Rattle.std.proofs.lemmas.Bool.{cases_lt, le-ltb}
-use Rattle.std.proofs.lemmas.Bool.Decides.{nat_tests}
 use Rattle.std.proofs.lemmas.List.{length-replicate}
 use Rattle.std.proofs.lemmas.List.Elements.{All-cons, All-nil}
 use Rattle.elf_types.specs.declared.file.Segment.{Segment}
@@ -175,8 +174,8 @@ alone : (file : List ℕ) (at i : ℕ) (segments : List Segment) → e_phnum fil
 unfolding overlapped
 alone file at i segments n lists pairs li =
     first_none (e_phnum file) (λ j. ltb i j && do_overlap (program_header file i) (program_header file j)) (λ j lt.
-      elim (cases_lt i j) [
-        | inl before ↦
+    elim (cases_lt i j) [
+      | inl before ↦
           let lj : j < length segments = omega (arith, n) in
           let e : Segment = segment_of file i in
           let many = length-programs_from at segments in
@@ -186,8 +185,8 @@ alone file at i segments n lists pairs li =
           let hq = subst (λ (x : ProgramHeader). IsHeaderOf x (get_or segments j e)) (sym q) (header_of at j segments (program_header file j) e lj) in
           let none = apart (program_header file i) (program_header file j) (get_or segments i e) (get_or segments j e) hp hq (pairs i j e before lj) in
           rw none (and_false (ltb i j))
-        | inr after ↦ let e : ltb i j ≡ false = le-ltb _ _ after in rw e refl
-      ])
+      | inr after ↦ let e : ltb i j ≡ false = le-ltb _ _ after in rw e refl
+    ])
 
 each_is : (file : List ℕ) (n : ℕ) → each n (segment_of file) ≡ each n (λ i. described file (program_header file i))
 each_is file n = each_same n (segment_of file) (λ i. described file (program_header file i)) (λ i lt. segment_of-described file i)

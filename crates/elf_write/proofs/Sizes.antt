@@ -8,7 +8,7 @@ use Rattle.elf_types.specs.declared.output.OutSection.{OutSection}
 use Rattle.elf_types.specs.declared.records.SectionHeader.{SectionHeader}
 use Rattle.elf_types.specs.declared.records.SymbolEntry.{SymbolEntry}
 use Rattle.qed_model.specs.Written.{fields_bytes, program_headers, segments_bytes, end_from}
-use Rattle.qed_model.specs.Layout.{aligned, names_bytes, string_table, symbol_names, section_names, table_names, symbol_fields, symbol_bytes, symbols_bytes, entries_from, entries_of, own_bytes, section_fields, header_bytes, headers_bytes, headers_from, headers_of, table_headers, file_fields, start_of, own_place, symbols_place, strings_place, names_place, headers_place, tables_bytes, written}
+use Rattle.qed_model.specs.Layout.{names_bytes, string_table, symbol_names, section_names, table_names, symbol_fields, symbol_bytes, symbols_bytes, entries_from, entries_of, own_bytes, section_fields, header_bytes, headers_bytes, headers_from, headers_of, table_headers, file_fields, start_of, own_place, symbols_place, strings_place, names_place, headers_place, tables_bytes, written}
 use Rattle.elf_write.specs.Places.{EndsWithin}
 use Rattle.qed_model.proofs.Fields.{length-fields_bytes}
 use Rattle.qed_model.proofs.PlainFiles.{length-program_headers, length-segments_bytes}
@@ -102,8 +102,20 @@ length-tables_bytes f =
     let before : ℕ = symbols_place f - (own_place f + length own) in
     let behind : ℕ = headers_place f - (names_place f + length names) in
     let all = length_of_seven own (replicate before 0) entries strings names (replicate behind 0) headers in
-    omega (arith, all, is.symbols, is.strings, is.names, is.headers, length-replicate {A = ℕ} before 0, length-replicate {A = ℕ} behind 0, length-symbols_bytes (entries_of f.symbols),
-      length-entries_from 1 f.symbols, length-headers_bytes (headers_of f), length-headers_of f)
+    omega (
+      arith,
+      all,
+      is.symbols,
+      is.strings,
+      is.names,
+      is.headers,
+      length-replicate {A = ℕ} before 0,
+      length-replicate {A = ℕ} behind 0,
+      length-symbols_bytes (entries_of f.symbols),
+      length-entries_from 1 f.symbols,
+      length-headers_bytes (headers_of f),
+      length-headers_of f,
+    )
 
 -- a file ends behind its section headers
 pub length-written : (f : OutFile) → length (written f) ≡ headers_place f + 64 * (length f.sections + 4)
@@ -113,8 +125,15 @@ length-written f =
     let programs : List ℕ = program_headers (start_of f) f.segments in
     let segments : List ℕ = segments_bytes (start_of f) f.segments in
     let is = laid_out f in
-    omega (arith, length_of_four header programs segments (tables_bytes f), length-file_fields f.entry f.flags (length f.segments) (headers_place f) (length f.sections),
-      length-program_headers (start_of f) f.segments, length-segments_bytes (start_of f) f.segments, length-tables_bytes f, is.own)
+    omega (
+      arith,
+      length_of_four header programs segments (tables_bytes f),
+      length-file_fields f.entry f.flags (length f.segments) (headers_place f) (length f.sections),
+      length-program_headers (start_of f) f.segments,
+      length-segments_bytes (start_of f) f.segments,
+      length-tables_bytes f,
+      is.own,
+    )
 
 -- the parts of a file that is not too long lie within that bound
 pub ends_within : (n : ℕ) (f : OutFile) → length (written f) ≤ n → EndsWithin n f

@@ -1,5 +1,5 @@
 -- Bytes that stand at an offset of others.
-use Rattle.std.proofs.Common.{◌≡◌, ℕ, zero, suc, ◌+◌, ◌*◌, ◌^◌, ◌<◌, ◌≤◌, List, [], ◌∷◌, ◌++◌, length, take, drop, get_or, refl, sym, ap, subst, ◌∙◌, append_assoc, arith, length-append}
+use Rattle.std.proofs.Common.{◌≡◌, ℕ, ◌+◌, ◌^◌, ◌<◌, ◌≤◌, List, [], ◌∷◌, ◌++◌, length, take, drop, get_or, refl, sym, ap, subst, ◌∙◌, append_assoc, arith, length-append}
 use Rattle.std.proofs.lemmas.List.{take_at, drop_at, get_or-drop, get_or_append_left, append-nil}
 use Rattle.qed_model.specs.Numbers.{field, number_bytes}
 use Rattle.qed_model.specs.Written.{fields_bytes}
@@ -66,7 +66,8 @@ AllRead file at k (f ∷ fs) = (field (at + k) f.0 file ≡ f.1) × AllRead file
 pub stands_fields : {file : List ℕ} (at k place : ℕ) (fs : List (ℕ × ℕ)) → place ≡ at + k → AllFit fs → Stands file place (fields_bytes fs) → AllRead file at k fs
 stands_fields at k place [] e fits s = tt
 stands_fields at k place (f ∷ fs) e fits s =
-    let first = stands_number f.0 f.1 fits.0 (stands_left (number_bytes f.0 f.1) (fields_bytes fs) s) in
-    (rw (← e) first,
-     stands_fields at (k + f.0) (place + f.0) fs (omega (arith, e)) fits.1
-       (stands_right (place + f.0) (number_bytes f.0 f.1) (fields_bytes fs) (ap (λ n. place + n) (length-number_bytes f.0 f.1)) s))
+    let first = stands_number f.0 f.1 fits.0 (stands_left (number_bytes f.0 f.1) (fields_bytes fs) s) in (
+      rw (← e) first,
+      stands_fields at (k + f.0) (place + f.0) fs (omega (arith, e)) fits.1
+          (stands_right (place + f.0) (number_bytes f.0 f.1) (fields_bytes fs) (ap (λ n. place + n) (length-number_bytes f.0 f.1)) s),
+    )

@@ -1,5 +1,5 @@
 -- The symbols that were written, read.
-use Rattle.std.proofs.Common.{◌≡◌, ◌≢◌, ℕ, zero, suc, ◌+◌, ◌-◌, ◌*◌, ◌/◌, ◌%◌, ◌^◌, ◌<◌, ◌≤◌, ◌&&◌, ◌||◌, not, Bool, true, false, cond, ltb, leb, eqb, List, [], ◌∷◌, ◌++◌, length, map, take, drop, get_or, Option, None, Some, Ok, refl, sym, ap, subst, ◌∙◌, arith, inl, inr, length-append, zero-add}
+use Rattle.std.proofs.Common.{◌≡◌, ℕ, zero, suc, ◌+◌, ◌*◌, ◌/◌, ◌%◌, ◌^◌, ◌<◌, ◌&&◌, Bool, true, false, ltb, eqb, List, [], ◌∷◌, ◌++◌, length, map, Some, Ok, refl, sym, ap, subst, ◌∙◌, arith, length-append, zero-add}
 use Rattle.std.specs.Prelude.{All}
 use Rattle.std.proofs.lemmas.Bool.Decides.{nat_tests}
 use Rattle.std.proofs.lemmas.List.Elements.{All-cons, All-nil}
@@ -7,18 +7,18 @@ use Rattle.elf_types.specs.declared.file.Symbol.{Symbol}
 use Rattle.elf_types.specs.declared.output.OutFile.{OutFile}
 use Rattle.elf_types.specs.declared.records.SectionHeader.{SectionHeader}
 use Rattle.elf_types.specs.declared.records.SymbolEntry.{SymbolEntry}
-use Rattle.qed_model.specs.Below.{first, sum_below, each}
+use Rattle.qed_model.specs.Below.{sum_below, each}
 use Rattle.qed_model.specs.Plain.{e_shnum}
-use Rattle.qed_model.specs.ElfFields.{section_header, symbol_entry}
-use Rattle.qed_model.specs.ElfRules.{is_strings, is_unended, name_at, section_bytes, has_entries, has_strings, strings_of, is_misnamed, symbols_rule, symbol_shape_rule, symbol_table, symbol_name, symbol_name_bytes}
+use Rattle.qed_model.specs.ElfFields.{symbol_entry}
+use Rattle.qed_model.specs.ElfRules.{is_unended, name_at, section_bytes, strings_of, is_misnamed, symbols_rule, symbol_shape_rule, symbol_table, symbol_name, symbol_name_bytes}
 use Rattle.qed_model.specs.ElfFile.{symbol_of, symbols_at}
-use Rattle.qed_model.specs.Layout.{string_table, symbol_names, names_bytes, symbols_bytes, entry_with, entries_from, null_entry, entries_of, symtab_header, strtab_header, null_symbol, IsName, IsSymbol}
+use Rattle.qed_model.specs.Layout.{string_table, symbol_names, names_bytes, symbols_bytes, entry_with, entries_from, null_entry, entries_of, symtab_header, null_symbol, IsName, IsSymbol}
 use Rattle.qed_model.proofs.BelowLaws.{first_none}
 use Rattle.elf_write.specs.Widths.{SymbolFits}
 use Rattle.elf_write.proofs.Sizes.{length-entries_from}
 use Rattle.elf_write.proofs.Stands.{Stands, stands_whole}
-use Rattle.elf_write.proofs.Listing.{Lists, lists_tail, each_same, each_cons, each_listed, sum_same, sum_listed, total, total-map}
-use Rattle.elf_write.proofs.NamesRead.{NameRead, first_name, other_names, empty_read, names_stand}
+use Rattle.elf_write.proofs.Listing.{Lists, each_same, each_listed, sum_same, sum_listed, total, total-map}
+use Rattle.elf_write.proofs.NamesRead.{first_name, other_names, empty_read, names_stand}
 use Rattle.elf_write.proofs.RecordsRead.{EntryFits, entries_read}
 use Rattle.elf_write.proofs.SegmentsRead.{all_head, all_tail}
 use Rattle.elf_write.proofs.TablesRead.{Known, symtab_at, strtab_at, strings_are, entries_are}
@@ -73,7 +73,7 @@ entries_shown table name (x ∷ symbols) above are names s =
     let others : List (List ℕ) = symbol_names symbols in
     let one = first_name table name x.name others above (all_head (λ s. IsName s.name) x symbols names) s in
     let rest = entries_shown table (name + length x.name + 1) symbols (omega arith) (all_tail IsSymbol x symbols are) (all_tail (λ s. IsName s.name) x symbols names)
-        (other_names table name x.name others s) in
+    (other_names table name x.name others s) in
     let head = one_shown table name x (all_head IsSymbol x symbols are) one.is in
     record {
       shown_are = rw (head, rest.shown_are) refl;
@@ -129,8 +129,8 @@ named f file t j lt =
     let strings : List ℕ = string_table (symbol_names f.symbols) in
     let one : HasEnd strings d = subst (HasEnd strings) (sym (t.lists.at j lt)) (t.read.ended j d lt) in
     let same : is_unended (strings_of file (symtab_header f)) (symbol_entry (section_bytes file (symtab_header f)) j).name ≡ false =
-        ap (λ (xs : List ℕ). is_unended xs (symbol_entry (section_bytes file (symtab_header f)) j).name) t.strings
-        ∙ ap (λ (xs : List ℕ). is_unended strings (symbol_entry xs j).name) t.entries ∙ one in
+    ap (λ (xs : List ℕ). is_unended xs (symbol_entry (section_bytes file (symtab_header f)) j).name) t.strings
+    ∙ ap (λ (xs : List ℕ). is_unended strings (symbol_entry xs j).name) t.entries ∙ one in
     rw same (and_false (ltb 0 j))
 
 shape : (f : OutFile) (file : List ℕ) → Known f file → TableKnown f file → symbols_rule file (symtab_header f) ≡ Ok tt
@@ -172,7 +172,7 @@ name_bytes f file t =
     let table : List ℕ = symbols_bytes (entries_of f.symbols) in
     let size : SymbolEntry → ℕ = λ e. length (symbol_shown strings e).name in
     sum_same (length (entries_of f.symbols)) (λ j. length (symbol_name file (symtab_header f) j)) (λ j. size (symbol_entry table j))
-      (λ j lt. ap length (name_of_symbol file (symtab_header f) j) ∙ ap (λ (s : Symbol). length s.name) (one_symbol f file t j lt))
+    (λ j lt. ap length (name_of_symbol file (symtab_header f) j) ∙ ap (λ (s : Symbol). length s.name) (one_symbol f file t j lt))
     ∙ sum_listed size (symbol_entry table) (entries_of f.symbols) t.lists
     ∙ total-map (symbol_shown strings) (λ s. length s.name) (entries_of f.symbols)
     ∙ ap (total (λ (s : Symbol). length s.name)) t.read.shown_are

@@ -1,21 +1,19 @@
 -- The section headers of a file that was written, as a whole: the tables that are added, and what the rules ask of sections.
-use Rattle.std.proofs.Common.{◌≡◌, ◌≢◌, ℕ, zero, suc, ◌+◌, ◌-◌, ◌*◌, ◌/◌, ◌%◌, ◌^◌, ◌<◌, ◌≤◌, ◌&&◌, ◌||◌, not, Bool, true, false, cond, ltb, leb, eqb, List, [], ◌∷◌, ◌++◌, length, map, take, drop, get_or, Option, None, Some, Ok, refl, sym, ap, subst, ◌∙◌, arith, inl, inr, length-append, add-one}
+use Rattle.std.proofs.Common.{◌≡◌, ℕ, ◌+◌, ◌*◌, ◌<◌, ◌&&◌, ◌||◌, not, Bool, true, false, ltb, eqb, List, [], ◌∷◌, ◌++◌, length, get_or, Some, Ok, refl, sym, ap, subst, ◌∙◌, arith}
 use Rattle.std.specs.Prelude.{All}
-use Rattle.std.proofs.lemmas.Bool.{cases_lt, le-ltb}
+use Rattle.std.proofs.lemmas.Bool.{le-ltb}
 use Rattle.std.proofs.lemmas.Bool.Decides.{nat_tests}
 use Rattle.std.proofs.lemmas.List.{get_or-append-add, get_or_append_left}
 use Rattle.std.proofs.lemmas.List.Elements.{All-cons, All-nil, All-append}
-use Rattle.elf_types.specs.declared.file.Section.{Section}
 use Rattle.elf_types.specs.declared.output.OutFile.{OutFile}
 use Rattle.elf_types.specs.declared.records.SectionHeader.{SectionHeader}
-use Rattle.qed_model.specs.Below.{first}
 use Rattle.qed_model.specs.Plain.{e_shnum}
 use Rattle.qed_model.specs.ElfFields.{e_shstrndx, section_header}
-use Rattle.qed_model.specs.ElfRules.{is_alloc, is_strings, names_header, is_unended, is_section_outside, section_place_rule, section_bytes, is_section_misshapen, section_shape_rule, section_strings, symbol_table}
-use Rattle.qed_model.specs.Layout.{string_table, symbol_names, section_names, symbols_bytes, entries_of, start_of, own_place, symbols_place, strings_place, names_place, table_header, null_header, headers_from, symtab_header, strtab_header, shstrtab_header, table_headers, headers_of, IsWritable}
+use Rattle.qed_model.specs.ElfRules.{is_strings, names_header, is_unended, is_section_outside, section_place_rule, section_bytes, is_section_misshapen, section_shape_rule, section_strings, symbol_table}
+use Rattle.qed_model.specs.Layout.{string_table, symbol_names, section_names, symbols_bytes, entries_of, start_of, own_place, symbols_place, strings_place, names_place, table_header, null_header, headers_from, symtab_header, strtab_header, shstrtab_header, table_headers, headers_of}
 use Rattle.qed_model.proofs.BelowLaws.{first_found, first_none}
-use Rattle.elf_write.proofs.Sizes.{laid_out, length-headers_of, length-headers_from, length-symbols_bytes, length-entries_from}
-use Rattle.elf_write.proofs.Stands.{Stands, stands_slice, stands_within}
+use Rattle.elf_write.proofs.Sizes.{length-headers_of, length-headers_from, length-symbols_bytes, length-entries_from}
+use Rattle.elf_write.proofs.Stands.{Stands, stands_slice}
 use Rattle.elf_write.proofs.Listing.{Lists, none_passes}
 use Rattle.elf_write.proofs.HeaderRead.{HeaderRead, PartsStand}
 use Rattle.elf_write.proofs.SectionsRead.{EndsIn, NoWrap, IsGiven, IsEnded}
@@ -39,7 +37,7 @@ headers_are f = refl
 pub all_headers : (P : SectionHeader → Type 0) (f : OutFile) → P null_header → All P (given_headers f) → P (symtab_header f) → P (strtab_header f) → P (shstrtab_header f) → All P (headers_of f)
 all_headers P f null given symtab strtab shstrtab =
     let last = All-cons P (symtab_header f) (strtab_header f ∷ shstrtab_header f ∷ []) symtab
-        (All-cons P (strtab_header f) (shstrtab_header f ∷ []) strtab (All-cons P (shstrtab_header f) [] shstrtab (All-nil P))) in
+    (All-cons P (strtab_header f) (shstrtab_header f ∷ []) strtab (All-cons P (shstrtab_header f) [] shstrtab (All-nil P))) in
     subst (All P) (sym (headers_are f)) (All-append P (front_headers f) (last_headers f) (All-cons P null_header (given_headers f) null given) last)
 
 -- ---- what is known of a file
@@ -142,8 +140,8 @@ shaped f file known wrap ended i lt =
     let table = ap (section_bytes file) (last_names f file known) ∙ names_are f file known in
     three_fail _ _ _ one
     (last_fails _ (eqb i (e_shstrndx file)) (not (is_strings d)) (λ t.
-      let here : d ≡ shstrtab_header f = ap (section_header file) (same_number i (e_shstrndx file) t) ∙ last_names f file known in
-      rw here refl))
+    let here : d ≡ shstrtab_header f = ap (section_header file) (same_number i (e_shstrndx file) t) ∙ last_names f file known in
+    rw here refl))
     (third_fails (not (eqb (e_shstrndx file) 0)) (is_strings (names_header file)) _ (ap (λ (t : List ℕ). is_unended t d.name) table ∙ three))
 
 pub shape_passes : (f : OutFile) (file : List ℕ) → Known f file → All NoWrap (headers_of f) → All (IsEnded (string_table (section_names f.sections))) (headers_of f) → section_shape_rule file ≡ Ok tt
@@ -164,8 +162,8 @@ symbol_table-is f file known given =
     let long = length-headers_from (start_of f) f.segments 1 (own_place f) f.sections in
     first_found (e_shnum file) (λ i. eqb (section_header file i).kind 2) n (omega (arith, known.header.shnum)) (rw (symtab_at f file known) refl)
     (λ j lt.
-      let d : SectionHeader = section_header file j in
-      let lf : j < length (front_headers f) = omega (arith, long) in
-      let here : d ≡ get_or (front_headers f) j d = known.headers.at j (omega (arith, length-headers_of f)) ∙ ap (λ (xs : List SectionHeader). get_or xs j d) (headers_are f)
-          ∙ get_or_append_left (front_headers f) (last_headers f) d j lf in
-      ap (λ (h : SectionHeader). eqb h.kind 2) here ∙ front_kind f given j d lf)
+    let d : SectionHeader = section_header file j in
+    let lf : j < length (front_headers f) = omega (arith, long) in
+    let here : d ≡ get_or (front_headers f) j d = known.headers.at j (omega (arith, length-headers_of f)) ∙ ap (λ (xs : List SectionHeader). get_or xs j d) (headers_are f)
+    ∙ get_or_append_left (front_headers f) (last_headers f) d j lf in
+    ap (λ (h : SectionHeader). eqb h.kind 2) here ∙ front_kind f given j d lf)

@@ -1,39 +1,35 @@
 -- The file that was written, read: no rule refuses it, and its parts are those that were given.
-use Rattle.std.proofs.Common.{◌≡◌, ◌≢◌, ℕ, zero, suc, ◌+◌, ◌-◌, ◌*◌, ◌/◌, ◌%◌, ◌^◌, ◌<◌, ◌≤◌, ◌&&◌, ◌||◌, not, Bool, true, false, cond, ltb, leb, eqb, List, [], ◌∷◌, ◌++◌, length, map, take, drop, get_or, Option, None, Some, Ok, refl, sym, ap, subst, ◌∙◌, arith, inl, inr, length-append}
+use Rattle.std.proofs.Common.{◌≡◌, ◌≢◌, ℕ, zero, suc, ◌+◌, ◌*◌, ◌^◌, ◌<◌, ◌≤◌, ◌&&◌, ◌||◌, Bool, true, false, cond, ltb, eqb, List, [], ◌∷◌, ◌++◌, length, map, get_or, None, Ok, refl, sym, ap, ◌∙◌, arith, length-append}
 use Rattle.std.specs.Prelude.{All}
 use Rattle.std.specs.Option.{is_some}
 use Rattle.std.proofs.lemmas.Bool.{le-ltb}
 use Rattle.std.proofs.lemmas.Bool.Decides.{nat_tests}
 use Rattle.std.proofs.lemmas.List.{map-append}
 use Rattle.std.proofs.lemmas.List.Elements.{All-cons, All-nil}
-use Rattle.elf_types.specs.declared.file.ElfFile.{ElfFile}
 use Rattle.elf_types.specs.declared.file.Section.{Section}
 use Rattle.elf_types.specs.declared.file.Symbol.{Symbol}
 use Rattle.elf_types.specs.declared.output.OutFile.{OutFile}
 use Rattle.elf_types.specs.declared.output.OutSection.{OutSection}
-use Rattle.elf_types.specs.declared.records.ProgramHeader.{ProgramHeader}
 use Rattle.elf_types.specs.declared.records.SectionHeader.{SectionHeader}
-use Rattle.qed_model.specs.Below.{first, sum_below, each, gather}
-use Rattle.qed_model.specs.Numbers.{field}
+use Rattle.qed_model.specs.Below.{sum_below, each, gather}
 use Rattle.qed_model.specs.Plain.{e_phoff, e_shoff, e_phnum, e_shnum}
-use Rattle.qed_model.specs.ElfFields.{program_header, section_header, e_shstrndx}
-use Rattle.qed_model.specs.ElfRules.{magic_rule, header_rule, class_rule, encoding_rule, version_rule, file_type_rule, machine_rule, header_shape_rule, header_rules, program_table_rule, section_table_rule, table_rules, part_rules, section_place_rule, section_shape_rule, section_strings, section_name, symbol_table, symbol_name_bytes, symbol_shape_rule, rela_fault, rela_shape_rule, section_count_rule, file_size, counted_bytes, byte_count_rule, verdict, name_at}
+use Rattle.qed_model.specs.ElfFields.{program_header, section_header}
+use Rattle.qed_model.specs.ElfRules.{magic_rule, header_rule, class_rule, encoding_rule, version_rule, file_type_rule, machine_rule, header_shape_rule, header_rules, program_table_rule, section_table_rule, table_rules, part_rules, section_strings, section_name, symbol_table, symbol_name_bytes, rela_fault, rela_shape_rule, section_count_rule, file_size, counted_bytes, byte_count_rule, verdict}
 use Rattle.qed_model.specs.ElfFile.{section_of, relas_of, File}
-use Rattle.qed_model.specs.Written.{fields_bytes, program_headers, segments_bytes, end_from}
-use Rattle.qed_model.specs.Layout.{IsWritable, IsName, names_bytes, string_table, symbol_names, section_names, table_names, symtab_name, strtab_name, shstrtab_name, entries_of, first_global, own_bytes, headers_bytes, headers_of, headers_from, null_header, symtab_header, strtab_header, shstrtab_header, file_fields, start_of, own_place, symbols_place, strings_place, names_place, headers_place, tables_bytes, written}
+use Rattle.qed_model.specs.Written.{program_headers}
+use Rattle.qed_model.specs.Layout.{IsWritable, IsName, names_bytes, string_table, symbol_names, section_names, table_names, symtab_name, strtab_name, shstrtab_name, first_global, headers_bytes, headers_of, null_header, symtab_header, strtab_header, shstrtab_header, start_of, own_place, headers_place, written}
 use Rattle.qed_model.specs.FileRead.{null_section, section_read, tables_read, file_read}
 use Rattle.qed_model.proofs.PlainFiles.{length-program_headers}
-use Rattle.elf_write.specs.Places.{EndsWithin}
 use Rattle.elf_write.specs.Widths.{SegmentFits, SectionFits, SymbolFits}
 use Rattle.elf_write.proofs.Sizes.{ends_within, laid_out, length-written, length-headers_of, length-section_names}
 use Rattle.elf_write.proofs.Stands.{Stands, stands_at, stands_within}
-use Rattle.elf_write.proofs.Listing.{Lists, none_passes, each_same, each_listed, sum_listed, sum_same, total, total-map, gather_nothing}
+use Rattle.elf_write.proofs.Listing.{none_passes, each_same, each_listed, sum_listed, sum_same, total, total-map, gather_nothing}
 use Rattle.elf_write.proofs.NamesRead.{NameRead, empty_read, first_name, other_names, names_stand}
-use Rattle.elf_write.proofs.RecordsRead.{HeaderFits, headers_read, programs_from, programs_read}
-use Rattle.elf_write.proofs.HeaderRead.{HeaderRead, header_read, PartsStand, parts_stand}
+use Rattle.elf_write.proofs.RecordsRead.{HeaderFits, headers_read, programs_read}
+use Rattle.elf_write.proofs.HeaderRead.{HeaderRead, header_read, parts_stand}
 use Rattle.elf_write.proofs.SegmentsRead.{bytes_stand, programs_fit, SegmentsPass, segments_pass}
-use Rattle.elf_write.proofs.SectionsRead.{given_fit, EndsIn, given_end, NoWrap, given_wrap_not, IsGiven, given_kind, shown, IsEnded, GivenRead, given_read, names_behind}
-use Rattle.elf_write.proofs.TablesRead.{given_headers, front_headers, last_headers, headers_are, all_headers, Known, place_passes, shape_passes, symbol_table-is, section_strings-are}
+use Rattle.elf_write.proofs.SectionsRead.{given_fit, EndsIn, given_end, NoWrap, given_wrap_not, given_kind, shown, IsEnded, given_read, names_behind}
+use Rattle.elf_write.proofs.TablesRead.{front_headers, last_headers, headers_are, all_headers, Known, place_passes, shape_passes, symbol_table-is, section_strings-are}
 use Rattle.elf_write.proofs.SymbolsRead.{all_entries_fit, SymbolsRead, symbols_read}
 
 -- ---- the header
@@ -86,9 +82,9 @@ tables_named f table s =
     let at : ℕ = length (string_table (map (λ x. x.name) f.sections)) in
     let one : Stands table at (names_bytes table_names) = stands_at at (names_bytes table_names) (omega arith) (names_behind table 1 f.sections table_names s) in
     let two : Stands table (at + 8) (names_bytes (strtab_name ∷ shstrtab_name ∷ [])) = stands_at (at + 8) (names_bytes (strtab_name ∷ shstrtab_name ∷ [])) (omega arith)
-        (other_names table at symtab_name (strtab_name ∷ shstrtab_name ∷ []) one) in
+    (other_names table at symtab_name (strtab_name ∷ shstrtab_name ∷ []) one) in
     let three : Stands table (at + 16) (names_bytes (shstrtab_name ∷ [])) = stands_at (at + 16) (names_bytes (shstrtab_name ∷ [])) (omega arith)
-        (other_names table (at + 8) strtab_name (shstrtab_name ∷ []) two) in
+    (other_names table (at + 8) strtab_name (shstrtab_name ∷ []) two) in
     record {
       symtab = first_name table at symtab_name (strtab_name ∷ shstrtab_name ∷ []) (omega arith) (named_by symtab_name refl) one;
       strtab = first_name table (at + 8) strtab_name (shstrtab_name ∷ []) (omega arith) (named_by strtab_name refl) two;
@@ -112,16 +108,37 @@ headers_fit f w fits =
     (record { name = omega arith; kind = omega arith; flags = omega arith; addr = omega arith; offset = omega arith; size = omega arith; link = omega arith; info = omega arith; entsize = omega arith })
     (given_fit (start_of f) f.segments 1 (own_place f) f.sections fits (omega (arith, n.segments)) (omega (arith, n.names_size)) (omega (arith, n.own, n.symbols)))
     (record {
-      name = omega (arith, n.names_size); kind = omega arith; flags = omega arith; addr = omega arith; offset = omega (arith, n.symbols); size = omega (arith, is.strings, n.strings);
-      link = omega (arith, w.few_sections); info = omega (arith, global, is.strings, n.strings); entsize = omega arith;
+      name = omega (arith, n.names_size);
+      kind = omega arith;
+      flags = omega arith;
+      addr = omega arith;
+      offset = omega (arith, n.symbols);
+      size = omega (arith, is.strings, n.strings);
+      link = omega (arith, w.few_sections);
+      info = omega (arith, global, is.strings, n.strings);
+      entsize = omega arith;
     })
     (record {
-      name = omega (arith, n.names_size); kind = omega arith; flags = omega arith; addr = omega arith; offset = omega (arith, n.strings); size = omega (arith, n.strings_size);
-      link = omega arith; info = omega arith; entsize = omega arith;
+      name = omega (arith, n.names_size);
+      kind = omega arith;
+      flags = omega arith;
+      addr = omega arith;
+      offset = omega (arith, n.strings);
+      size = omega (arith, n.strings_size);
+      link = omega arith;
+      info = omega arith;
+      entsize = omega arith;
     })
     (record {
-      name = omega (arith, n.names_size); kind = omega arith; flags = omega arith; addr = omega arith; offset = omega (arith, n.names); size = omega (arith, named, n.names_size);
-      link = omega arith; info = omega arith; entsize = omega arith;
+      name = omega (arith, n.names_size);
+      kind = omega arith;
+      flags = omega arith;
+      addr = omega arith;
+      offset = omega (arith, n.names);
+      size = omega (arith, named, n.names_size);
+      link = omega arith;
+      info = omega arith;
+      entsize = omega arith;
     })
 
 headers_end : (f : OutFile) → IsWritable f → All (EndsIn (length (written f))) (headers_of f)
@@ -131,7 +148,7 @@ headers_end f w =
     let long = length-written f in
     all_headers (EndsIn (length (written f))) f (omega arith)
     (given_end (length (written f)) (start_of f) f.segments 1 (own_place f) f.sections w.sections
-      (omega (arith, long, is.own, is.symbols, is.strings, is.names, is.headers)) (omega (arith, long, is.symbols, is.strings, is.names, is.headers)))
+    (omega (arith, long, is.own, is.symbols, is.strings, is.names, is.headers)) (omega (arith, long, is.symbols, is.strings, is.names, is.headers)))
     (omega (arith, long, is.strings, is.names, is.headers))
     (omega (arith, long, is.names, is.headers))
     (omega (arith, long, is.headers))
@@ -196,7 +213,7 @@ unfolding rela_shape_rule
 relas_pass f file known =
     let many : e_shnum file ≡ length (headers_of f) = omega (arith, known.header.shnum, length-headers_of f) in
     let none = none_passes (λ h. is_some (rela_fault file h)) (section_header file) (headers_of f) known.headers
-        (λ k d lt. ap is_some (rela_none file (get_or (headers_of f) k d) (no_relocations f k d lt))) in
+    (λ k d lt. ap is_some (rela_none file (get_or (headers_of f) k d) (no_relocations f k d lt))) in
     rw (many, none) refl
 
 no_relas : (file : List ℕ) (h : SectionHeader) → eqb h.kind 4 ≡ false → relas_of file h ≡ []
@@ -206,9 +223,9 @@ no_relas file h e = rw e refl
 relas_are : (f : OutFile) (file : List ℕ) → Known f file → gather (e_shnum file) (λ i. relas_of file (section_header file i)) ≡ []
 relas_are f file known =
     gather_nothing (e_shnum file) (λ i. relas_of file (section_header file i)) (λ i lt.
-      let d : SectionHeader = section_header file i in
-      let l : i < length (headers_of f) = omega (arith, known.header.shnum, length-headers_of f) in
-      no_relas file d (ap (λ (h : SectionHeader). eqb h.kind 4) (known.headers.at i l) ∙ no_relocations f i d l))
+    let d : SectionHeader = section_header file i in
+    let l : i < length (headers_of f) = omega (arith, known.header.shnum, length-headers_of f) in
+    no_relas file d (ap (λ (h : SectionHeader). eqb h.kind 4) (known.headers.at i l) ∙ no_relocations f i d l))
 
 few_sections : (f : OutFile) (file : List ℕ) → Known f file → length f.sections ≤ 4000 → section_count_rule file ≡ Ok tt
 unfolding section_count_rule
@@ -228,7 +245,7 @@ sections_are f file known read =
     let many : e_shnum file ≡ length (headers_of f) = omega (arith, known.header.shnum, length-headers_of f) in
     ap (λ (n : ℕ). each n (section_of file)) many
     ∙ each_same (length (headers_of f)) (section_of file) (λ i. shown table (section_header file i))
-      (λ i lt. section_shown file i ∙ ap (λ (t : List ℕ). shown t (section_header file i)) (section_strings-are f file known))
+    (λ i lt. section_shown file i ∙ ap (λ (t : List ℕ). shown t (section_header file i)) (section_strings-are f file known))
     ∙ each_listed (shown table) (section_header file) (headers_of f) known.headers ∙ read.shown_are
 
 name_of_section : (file : List ℕ) (i : ℕ) → section_name file i ≡ (section_of file i).name
@@ -243,8 +260,8 @@ section_sum f file known read =
     let many : e_shnum file ≡ length (headers_of f) = omega (arith, known.header.shnum, length-headers_of f) in
     ap (λ (n : ℕ). sum_below n (λ i. length (section_name file i))) many
     ∙ sum_same (length (headers_of f)) (λ i. length (section_name file i)) (λ i. size (section_header file i))
-      (λ i lt. ap length (name_of_section file i) ∙ ap (λ (s : Section). length s.name) (section_shown file i)
-        ∙ ap (λ (t : List ℕ). length (shown t (section_header file i)).name) (section_strings-are f file known))
+    (λ i lt. ap length (name_of_section file i) ∙ ap (λ (s : Section). length s.name) (section_shown file i)
+    ∙ ap (λ (t : List ℕ). length (shown t (section_header file i)).name) (section_strings-are f file known))
     ∙ sum_listed size (section_header file) (headers_of f) known.headers
     ∙ total-map (shown table) (λ s. length s.name) (headers_of f)
     ∙ ap (total (λ (s : Section). length s.name)) read.shown_are
@@ -260,8 +277,8 @@ few_bytes f file known read segments symbols small =
     let names = section_name_bytes f in
     let strings = symbol_name_sizes f.symbols in
     let few : ltb 1073741824
-        (sum_below (e_phnum file) (λ i. file_size (program_header file i)) + sum_below (e_shnum file) (λ i. length (section_name file i)) + symbol_name_bytes file (symbol_table file)) ≡ false =
-        le-ltb _ _ (omega (arith, one, two, names, strings, symbols.bytes, is.symbols, is.strings, is.names, is.headers)) in
+    (sum_below (e_phnum file) (λ i. file_size (program_header file i)) + sum_below (e_shnum file) (λ i. length (section_name file i)) + symbol_name_bytes file (symbol_table file)) ≡ false =
+    le-ltb _ _ (omega (arith, one, two, names, strings, symbols.bytes, is.symbols, is.strings, is.names, is.headers)) in
     rw few refl
 
 -- ---- the whole
@@ -285,7 +302,7 @@ segments_of : (f : OutFile) → IsWritable f → Known f (written f) → All Seg
 segments_of f w known fits =
     let n = ends_within 1073741824 f w.size in
     let programs = programs_read (written f) (start_of f) f.segments (programs_fit (start_of f) f.segments w.segments fits (omega (arith, n.segments)))
-        (stands_at (e_phoff (written f)) (program_headers (start_of f) f.segments) (sym known.header.phoff) known.parts.programs) in
+    (stands_at (e_phoff (written f)) (program_headers (start_of f) f.segments) (sym known.header.phoff) known.parts.programs) in
     segments_pass (written f) (start_of f) f.segments known.header.phnum programs (bytes_stand (written f) (start_of f) f.segments known.parts.segments) w.segments w.apart
 
 symbols_of : (f : OutFile) → IsWritable f → Known f (written f) → All SymbolFits f.symbols → SymbolsRead f (written f)

@@ -1,3 +1,4 @@
 pub mod Numbers
 pub mod Widths
 pub mod Places
+pub mod Parts

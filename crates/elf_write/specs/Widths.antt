@@ -1,5 +1,5 @@
 -- What the types of the fields say of their numbers.
-use Rattle.std.specs.Prelude.{ℕ, ◌^◌, ◌<◌, All}
+use Rattle.std.specs.Prelude.{◌^◌, ◌<◌, All}
 use Rattle.elf_types.specs.declared.file.Segment.{Segment}
 use Rattle.elf_types.specs.declared.file.Symbol.{Symbol}
 use Rattle.elf_types.specs.declared.output.OutFile.{OutFile}

@@ -58,5 +58,14 @@ pub fn places_of(file: &OutFile) -> Places
     let names = strings + 1 + symbols::names_size(symbols);
     let names_end = names + 1 + sections::names_size(sections) + TABLE_NAMES_SIZE;
     let headers = aligned(names_end);
-    Places { start, own, own_end, symbols: table, strings, names, names_end, headers }
+    Places {
+        start,
+        own,
+        own_end,
+        symbols: table,
+        strings,
+        names,
+        names_end,
+        headers,
+    }
 }

@@ -1,7 +1,7 @@
 // The parts of the file, one behind the other.
-ghost use Rattle.std.specs.Prelude.{◌≡◌, ◌+◌, ◌-◌, ◌*◌, ◌^◌, ◌<◌, ◌≤◌, ◌++◌, OnOk, IfOk, All, length, replicate, [], ◌∷◌, map};
-ghost use Rattle.qed_model.specs.Written.{fields_bytes, program_headers, segments_bytes};
-ghost use Rattle.qed_model.specs.Layout.{IsSymbol, file_fields, names_bytes, string_table, symbol_names, section_names, table_names, symbols_bytes, entries_of, own_bytes, header_bytes, headers_bytes, headers_of, table_headers, table_header as header_of_table, headers_place, names_place, own_place, symbols_place, start_of, tables_bytes};
+ghost use Rattle.std.specs.Prelude.{◌≡◌, ◌-◌, ◌^◌, ◌<◌, ◌≤◌, ◌++◌, OnOk, All, length};
+ghost use Rattle.qed_model.specs.Layout.{IsSymbol, names_bytes, table_names, headers_bytes, headers_of, table_headers, table_header as header_of_table, tables_bytes};
+ghost use Rattle.elf_write.specs.Parts.{front_bytes, own_and_symbols, names_of};
 ghost use Rattle.elf_write.specs.Widths.{FrontFits, SectionFits, SymbolFits, TablesFit};
 ghost use Rattle.elf_write.specs.Places.{ArePlaces, EndsWithin};
 
@@ -20,8 +20,17 @@ const SHT_SYMTAB: u32 = 2;
 const SHT_STRTAB: u32 = 3;
 
 /// The header of the null section.
-const NULL: SectionHeader =
-    SectionHeader { name: 0, kind: 0, flags: 0, addr: 0, offset: 0, size: 0, link: 0, info: 0, entsize: 0 };
+const NULL: SectionHeader = SectionHeader {
+    name: 0,
+    kind: 0,
+    flags: 0,
+    addr: 0,
+    offset: 0,
+    size: 0,
+    link: 0,
+    info: 0,
+    entsize: 0,
+};
 
 /// Appends the header, the program headers and the bytes of the segments.
 pub fn push_front(out: &mut Vec<u8>, file: &OutFile, places: &Places) -> Result<(), AllocError>
@@ -29,7 +38,7 @@ pub fn push_front(out: &mut Vec<u8>, file: &OutFile, places: &Places) -> Result<
     requires size { EndsWithin 1073741824 file.now }
     requires few_segments { length file.now.segments ≤ 4000 }
     requires few_sections { length file.now.sections ≤ 4000 }
-    ensures bytes { OnOk result (out.new.items ≡ out.old.items ++ (fields_bytes (file_fields file.now.entry file.now.flags (length file.now.segments) (headers_place file.now) (length file.now.sections)) ++ (program_headers (start_of file.now) file.now.segments ++ segments_bytes (start_of file.now) file.now.segments))) }
+    ensures bytes { OnOk result (out.new.items ≡ out.old.items ++ front_bytes file.now) }
     ensures fits { OnOk result (FrontFits file.now) }
 {
     let segments = file.segments.as_slice();
@@ -50,11 +59,15 @@ pub fn push_front(out: &mut Vec<u8>, file: &OutFile, places: &Places) -> Result<
 }
 
 /// Appends the sections' own bytes, and behind them the symbol table.
-fn push_own_and_symbols(out: &mut Vec<u8>, file: &OutFile, places: &Places) -> Result<(), AllocError>
+fn push_own_and_symbols(
+    out: &mut Vec<u8>,
+    file: &OutFile,
+    places: &Places,
+) -> Result<(), AllocError>
     requires places { ArePlaces file.now places.now }
     requires size { EndsWithin 1073741824 file.now }
     requires symbols { All IsSymbol file.now.symbols }
-    ensures bytes { OnOk result (out.new.items ≡ out.old.items ++ (own_bytes file.now.sections ++ (replicate (symbols_place file.now - (own_place file.now + length (own_bytes file.now.sections))) 0 ++ symbols_bytes (entries_of file.now.symbols)))) }
+    ensures bytes { OnOk result (out.new.items ≡ out.old.items ++ own_and_symbols file.now) }
     ensures fits { OnOk result (All SymbolFits file.now.symbols) }
 {
     push_own_bytes(out, file.sections.as_slice())?;
@@ -64,7 +77,7 @@ fn push_own_and_symbols(out: &mut Vec<u8>, file: &OutFile, places: &Places) -> R
 
 /// Appends both string tables: the names of the symbols, and those of the sections.
 fn push_names(out: &mut Vec<u8>, file: &OutFile) -> Result<(), AllocError>
-    ensures { OnOk result (out.new.items ≡ out.old.items ++ (string_table (symbol_names file.now.symbols) ++ string_table (section_names file.now.sections))) }
+    ensures { OnOk result (out.new.items ≡ out.old.items ++ names_of file.now) }
 {
     out.push(0)?;
     push_symbol_names(out, file.symbols.as_slice())?;
@@ -115,10 +128,21 @@ fn push_table_headers(out: &mut Vec<u8>, file: &OutFile, places: &Places) -> Res
     let symtab = table_header(name, SHT_SYMTAB, places.symbols, places.strings);
     push_section_header(
         out,
-        SectionHeader { link: sections + 2, info: first_global(file.symbols.as_slice()) as u32, entsize: 24, ..symtab },
+        SectionHeader {
+            link: sections + 2,
+            info: first_global(file.symbols.as_slice()) as u32,
+            entsize: 24,
+            ..symtab
+        },
     )?;
-    push_section_header(out, table_header(name + 8, SHT_STRTAB, places.strings, places.names))?;
-    push_section_header(out, table_header(name + 16, SHT_STRTAB, places.names, places.names_end))?;
+    push_section_header(
+        out,
+        table_header(name + 8, SHT_STRTAB, places.strings, places.names),
+    )?;
+    push_section_header(
+        out,
+        table_header(name + 16, SHT_STRTAB, places.names, places.names_end),
+    )?;
     Ok(())
 }
 

@@ -130,7 +130,11 @@ fn offset_of(section: &OutSection, segments: &[Segment], start: u64, own: u64) -
     requires { end_from start segments.now ≤ 1073741824 }
     ensures { result ≡ (if has_alloc section.now then offset_inside start segments.now section.now else own) }
 {
-    if is_in_memory(section) { offset_in(section, segments, start) } else { own }
+    if is_in_memory(section) {
+        offset_in(section, segments, start)
+    } else {
+        own
+    }
 }
 
 /// Appends the headers of the given sections, whose own bytes stand from the offset `first` on. The bytes of the

@@ -53,11 +53,7 @@ pub fn push_program_headers(
 
 /// Appends the bytes of segments, with zeros before each up to its offset.
 #[tactic(auto, using(crate::proofs::Places::end_from_above))]
-pub fn push_segments(
-    out: &mut Vec<u8>,
-    segments: &[Segment],
-    start: u64,
-) -> Result<(), AllocError>
+pub fn push_segments(out: &mut Vec<u8>, segments: &[Segment], start: u64) -> Result<(), AllocError>
     requires { segments_end start segments.now ≤ 1073741824 }
     ensures { OnOk result (out.new.items ≡ out.old.items ++ segments_bytes start segments.now) }
 {

@@ -8,7 +8,14 @@ use elf_types::{Symbol, SymbolEntry};
 use std::alloc::AllocError;
 
 /// The entry of the null symbol.
-const NULL: SymbolEntry = SymbolEntry { name: 0, info: 0, other: 0, index: 0, value: 0, size: 0 };
+const NULL: SymbolEntry = SymbolEntry {
+    name: 0,
+    info: 0,
+    other: 0,
+    index: 0,
+    value: 0,
+    size: 0,
+};
 
 /// The bytes of the symbols' names, each with its zero byte.
 pub fn names_size(symbols: &[Symbol]) -> u128
@@ -30,7 +37,17 @@ fn push_symbol(out: &mut Vec<u8>, symbol: &Symbol, name: u32) -> Result<(), Allo
 {
     let (value, size, other, index) = (symbol.value, symbol.size, symbol.other, symbol.index);
     let info = 16 * symbol.binding + symbol.kind;
-    push_symbol_entry(out, SymbolEntry { name, info, other, index, value, size })
+    push_symbol_entry(
+        out,
+        SymbolEntry {
+            name,
+            info,
+            other,
+            index,
+            value,
+            size,
+        },
+    )
 }
 
 /// Appends the entries of symbols, of which the first has its name at the offset 1 of the string table.

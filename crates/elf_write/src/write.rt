@@ -1,6 +1,5 @@
 // The whole file.
-ghost use Rattle.std.specs.Prelude.{◌≡◌, ◌+◌, ◌-◌, ◌*◌, ◌^◌, ◌<◌, ◌≤◌, ◌++◌, OnOk, IfOk, All, length, replicate};
-ghost use Rattle.qed_model.specs.Written.{fields_bytes, program_headers, segments_bytes};
+ghost use Rattle.std.specs.Prelude.{◌≡◌, IfOk, length};
 ghost use Rattle.qed_model.specs.ElfFile.{File};
 ghost use Rattle.qed_model.specs.FileRead.{file_read};
 ghost use Rattle.qed_model.specs.Layout.{IsWritable, written};
@@ -11,7 +10,8 @@ use crate::records::SECTION_HEADER_SIZE;
 use elf_types::{Bytes, OutFile};
 use std::alloc::{AllocError, Global};
 
-/// How many bytes the file has that is written, without writing it.
+/// How many bytes the file has that `write_elf` writes. Nothing is written, and no memory is taken. It is told of any
+/// file, and `write_elf` can be called where it is at most 1,073,741,824, with the other conditions.
 pub fn file_size(file: &OutFile) -> u128
     ensures { result ≡ length (written file.now) }
 {
@@ -19,7 +19,15 @@ pub fn file_size(file: &OutFile) -> u128
     places_of(file).headers + SECTION_HEADER_SIZE * headers
 }
 
-/// Writes a file.
+/// The bytes of a file (ELF gABI): the header, the program headers, the segments, the bytes of the sections that are not
+/// in memory, the symbol table with the null symbol first, the names of the symbols, the names of the sections, and the
+/// section headers, with those of `.symtab`, `.strtab` and `.shstrtab` last. Gaps are 0.
+///
+/// What is asked of the file is `IsWritable`. In short: PT_LOAD segments in ascending order that share no byte; sections
+/// in memory inside the file bytes of a segment, others with their own bytes; names without a zero byte; STB_LOCAL symbols
+/// first; at most 4,000 segments, 4,000 sections and 1,073,741,824 bytes in all.
+///
+/// The only error is want of memory.
 pub fn write_elf(alloc: Global, file: &OutFile) -> Result<Bytes, AllocError>
     requires { IsWritable file.now }
     ensures written { IfOk result (λ bytes. bytes ≡ written file.now) }

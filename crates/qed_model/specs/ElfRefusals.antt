@@ -1,10 +1,11 @@
 -- Why a file is refused, in sentences on its bytes: what is true of a file that a rule refuses.
-use Rattle.std.specs.Prelude.{◌≡◌, ◌≢◌, ◌⊎◌, ℕ, ◌+◌, ◌-◌, ◌*◌, ◌/◌, ◌^◌, ◌<◌, nat_lt, nat_le, min, false, true, ◌&&◌, Some, Err, List, length}
+use Rattle.std.specs.Prelude.{◌≡◌, ◌≢◌, ◌⊎◌, ℕ, ◌+◌, ◌-◌, ◌*◌, ◌/◌, ◌^◌, ◌<◌, ◌≤◌, nat_lt, nat_le, min, false, true, ◌&&◌, Some, Err, List, length}
 use Rattle.std.specs.Option.{is_some}
 use Rattle.elf_types.specs.declared.error.ElfError.{ElfError}
 use Rattle.elf_types.specs.declared.error.ElfError.TheVariants as error
 use Rattle.elf_types.specs.declared.error.Part.{Part}
 use Rattle.elf_types.specs.declared.error.Part.TheVariants as part
+use Rattle.elf_types.specs.declared.records.SectionHeader.{SectionHeader}
 use Rattle.qed_model.specs.Below.{IsFirstBelow}
 use Rattle.qed_model.specs.Plain.{HasMagic, e_type, e_machine, e_version, e_phoff, e_shoff, e_ehsize, e_phentsize, e_phnum, e_shnum}
 use Rattle.qed_model.specs.ElfFields.{e_class, e_encoding, e_ident_version, e_shentsize, e_shstrndx, program_header, section_header, rela_entry}
@@ -79,3 +80,37 @@ HasFault file error.Memory = ⊥
 pub record IsRefused (file : List ℕ) (e : ElfError) : Type 0 where
   pub first : verdict file ≡ Err e
   pub fault : HasFault file e
+
+-- ---- a file that no rule refuses
+-- a symbol table has entries and a string table, and each of its names has an end
+pub record AreSymbols (file : List ℕ) (s : SectionHeader) : Type 0 where
+  pub shape : has_entries s && has_strings file s ≡ true
+  pub names : (j : ℕ) → j < s.size / 24 → is_misnamed file s j ≡ false
+
+-- a table of relocations has entries, and each of them a symbol
+pub record AreRelas (file : List ℕ) (s : SectionHeader) : Type 0 where
+  pub shape : has_entries s ≡ true
+  pub symbols : (k : ℕ) → k < s.size / 24 → (rela_entry (section_bytes file s) k).symbol < symbol_count file
+
+-- none of the faults is in the file
+pub record IsAccepted (file : List ℕ) : Type 0 where
+  pub magic : HasMagic file
+  pub room : 64 ≤ length file
+  pub class : e_class file ≡ 2
+  pub encoding : e_encoding file ≡ 1
+  pub ident_version : e_ident_version file ≡ 1
+  pub version : e_version file ≡ 1
+  pub type : e_type file ≡ 2
+  pub machine : e_machine file ≡ 243
+  pub shape : HasHeaderShape file
+  pub program_table : 0 < e_phnum file → e_phoff file + 56 * e_phnum file ≤ length file
+  pub section_table : 0 < e_shnum file → e_shoff file + 64 * e_shnum file ≤ length file
+  pub segments_inside : (i : ℕ) → i < e_phnum file → is_segment_outside file (program_header file i) ≡ false
+  pub sections_inside : (i : ℕ) → i < e_shnum file → is_section_outside file (section_header file i) ≡ false
+  pub segment_shapes : (i : ℕ) → i < e_phnum file → is_misshapen (program_header file i) ≡ false
+  pub apart : (i j : ℕ) → i < j → j < e_phnum file → do_overlap (program_header file i) (program_header file j) ≡ false
+  pub section_shapes : (i : ℕ) → i < e_shnum file → is_section_misshapen file i ≡ false
+  pub symbols : (i : ℕ) → symbol_table file ≡ Some i → AreSymbols file (section_header file i)
+  pub relas : (i : ℕ) → i < e_shnum file → is_counted file (section_header file i) ≡ true → AreRelas file (section_header file i)
+  pub few_sections : e_shnum file ≤ 4096
+  pub few_bytes : counted_bytes file ≤ 1_073_741_824

@@ -27,3 +27,5 @@ pub mod FileRead
 pub mod Woven
 pub mod Bounds
 pub mod Texts
+pub mod RunTexts
+pub mod ErrorTexts

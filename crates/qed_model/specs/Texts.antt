@@ -33,6 +33,13 @@ load_limit = 67108864
 abbrev pub load_limit_line : List ℕ
 load_limit_line = codes "limit L1: over 67108864\n"
 
+-- the same for a file to be run
+abbrev pub run_load_limit : ℕ
+run_load_limit = 536870912
+
+abbrev pub run_load_limit_line : List ℕ
+run_load_limit_line = codes "limit L1: over 536870912\n"
+
 abbrev pub magic_line : List ℕ
 magic_line = codes "refused E1: magic\n"
 

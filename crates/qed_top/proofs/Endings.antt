@@ -1,15 +1,22 @@
 -- From what was decided and carried out to how the call ends.
-use Rattle.std.proofs.Common.{◌≡◌, ℕ, List, Option, None, Some, IfSome, ◌⊎◌, inl, inr, refl, sym, ◌∙◌, subst, arith}
+use Rattle.std.proofs.Common.{◌≡◌, ◌≤◌, ◌<◌, ℕ, List, Option, None, Some, Ok, Err, IfSome, ◌⊎◌, inl, inr, refl, sym, ap, ◌∙◌, subst, arith}
 use Rattle.std.specs.Prelude.{MatchOption, IsSomeAnd}
 use Rattle.std.specs.Io.KnownBytes.{Appends}
 use Rattle.qed_io.specs.Sink.{AppendsPart}
 use Rattle.qed_io.specs.Files.{Files, file_bytes}
 use Rattle.qed_io.specs.Counts.{RoseAt, NoneFell}
-use Rattle.qed_model.specs.Plain.{IsFirst}
-use Rattle.qed_model.specs.Texts.{usage_line}
-use Rattle.qed_top.specs.Words.{transform_names}
-use Rattle.qed_top.specs.Answer.{IsMeant, TransformMeans, PrintsOnly, IsNoElf, IsNotBuilt, FilesAfter, FilesInPart, StoreRose}
-use Rattle.qed_top.specs.Ends.{OverFiles, Call, Did, EndsOver, Ends, Decided, too_long, refused, done, Decides, NoFault, IsComplete}
+use Rattle.elf_types.specs.declared.file.ElfFile.{ElfFile}
+use Rattle.elf_types.specs.declared.error.ElfError.{ElfError}
+use Rattle.elf_types.specs.declared.error.ElfError.TheVariants as error
+use Rattle.qed_model.specs.declared.machine.Outcome.{Outcome}
+use Rattle.qed_model.specs.declared.machine.Outcome.TheVariants as outcome
+use Rattle.qed_model.specs.ElfFile.{File}
+use Rattle.qed_model.specs.ElfRefusals.{IsRefused}
+use Rattle.qed_model.specs.Texts.{usage_line, load_limit, load_limit_line, run_load_limit, run_load_limit_line}
+use Rattle.qed_top.specs.Words.{Asked, Transform, Run, asked, read_name, stored_name}
+use Rattle.qed_top.specs.Answer.{PrintsOnly, error_status, Transforms, no_elf, not_built, done, memory_bytes, outcome_status, run_of, Runs, unread, too_large, ran, Means, read_fault, too_long, within, CommandMeans, IsMeant, FilesAfter, FilesInPart, StoreRose}
+use Rattle.qed_top.specs.Ends.{OverFiles, Call, Did, EndsOver, Ends, TransformDecides, RunDecides, Decided, CommandDecides, Decides, NoFault, IsComplete}
+use Rattle.qed_top.specs.Ends as decide
 use Rattle.qed_top.specs.declared.answer.Answer.{Answer}
 use Rattle.qed_top.specs.declared.answer.Stored.{Stored}
 use Rattle.qed_top.specs.declared.status.Status.{Status}
@@ -25,53 +32,84 @@ pub rose_since : (before middle now : List ℕ → ℕ) → NoneFell before midd
 rose_since before middle now kept name rose = omega (arith, kept name)
 
 -- ---- what is meant
-transform_later : (status : Status) (bytes output : List ℕ) (rose later : Type 0) → (rose → later) → (answer : Answer) → TransformMeans status bytes output rose answer → TransformMeans status bytes output later answer
-transform_later ReadFault bytes output rose later h answer m = record { cause = h m.cause; plain = m.plain }
-transform_later Limit bytes output rose later h answer m = m
-transform_later Refused bytes output rose later h answer m = m
-transform_later Done bytes output rose later h answer m = m
-transform_later Usage bytes output rose later h answer m = m
-transform_later WriteFault bytes output rose later h answer m = m
-transform_later Memory bytes output rose later h answer m = m
-transform_later Fired bytes output rose later h answer m = m
-transform_later Trapped bytes output rose later h answer m = m
-transform_later StepsSpent bytes output rose later h answer m = m
+means_later : (limit : ℕ) (line bytes : List ℕ) (rose later W : Type 0) (answer : Answer) → (rose → later) → Means limit line bytes rose W answer → Means limit line bytes later W answer
+means_later limit line bytes rose later W answer h (read_fault r) = read_fault (record { cause = h r.cause; plain = r.plain })
+means_later limit line bytes rose later W answer h (too_long t) = too_long t
+means_later limit line bytes rose later W answer h (within small w) = within small w
 
-meant_by_names_later :
-    (names : Option (List ℕ × List ℕ)) (files : Files) (rose later : List ℕ → Type 0) → ((name : List ℕ) → rose name → later name) → (answer : Answer)
-    → MatchOption names (PrintsOnly Usage usage_line answer) (λ n. TransformMeans answer.status (file_bytes files n.0) n.1 (rose n.0) answer)
-    → MatchOption names (PrintsOnly Usage usage_line answer) (λ n. TransformMeans answer.status (file_bytes files n.0) n.1 (later n.0) answer)
-meant_by_names_later None files rose later h answer m = m
-meant_by_names_later (Some n) files rose later h answer m = transform_later answer.status (file_bytes files n.0) n.1 (rose n.0) (later n.0) (h n.0) answer m
+command_later : (command : Asked) (files : Files) (rose later : List ℕ → Type 0) → ((name : List ℕ) → rose name → later name) → (answer : Answer) → CommandMeans command files rose answer → CommandMeans command files later answer
+command_later (Transform input output) files rose later h answer m = means_later load_limit load_limit_line (file_bytes files input) (rose input) (later input) (Transforms (file_bytes files input) output answer) answer (h input) m
+command_later (Run file) files rose later h answer m = means_later run_load_limit run_load_limit_line (file_bytes files file) (rose file) (later file) (Runs (file_bytes files file) answer) answer (h file) m
+
+meant_by_command_later :
+    (command : Option Asked) (files : Files) (rose later : List ℕ → Type 0) → ((name : List ℕ) → rose name → later name) → (answer : Answer)
+    → MatchOption command (PrintsOnly Usage usage_line answer) (λ c. CommandMeans c files rose answer)
+    → MatchOption command (PrintsOnly Usage usage_line answer) (λ c. CommandMeans c files later answer)
+meant_by_command_later None files rose later h answer m = m
+meant_by_command_later (Some c) files rose later h answer m = command_later c files rose later h answer m
 
 -- what is meant stays so when more counts have risen
 pub meant_later : (words : List (List ℕ)) (files : Files) (rose later : List ℕ → Type 0) → ((name : List ℕ) → rose name → later name) → (answer : Answer) → IsMeant words files rose answer → IsMeant words files later answer
-meant_later words files rose later h answer m = meant_by_names_later (transform_names words) files rose later h answer m
+meant_later words files rose later h answer m = meant_by_command_later (asked words) files rose later h answer m
 
--- the status of what is meant is one of the five
+-- the status of what is meant is one that goes with a text
 abbrev Printed : Status → Type 0
 Printed WriteFault = ⊥
 Printed Memory = ⊥
 Printed _ = Unit {0}
 
-transform_printed : (status : Status) (bytes output : List ℕ) (rose : Type 0) (answer : Answer) → TransformMeans status bytes output rose answer → Printed status
-transform_printed ReadFault bytes output rose answer m = tt
-transform_printed Limit bytes output rose answer m = tt
-transform_printed Refused bytes output rose answer m = tt
-transform_printed Done bytes output rose answer m = tt
-transform_printed Usage bytes output rose answer m = tt
-transform_printed WriteFault bytes output rose answer m = m
-transform_printed Memory bytes output rose answer m = m
-transform_printed Fired bytes output rose answer m = tt
-transform_printed Trapped bytes output rose answer m = tt
-transform_printed StepsSpent bytes output rose answer m = tt
+error_printed : (e : ElfError) → Printed (error_status e)
+error_printed error.Magic = tt
+error_printed (error.Class n) = tt
+error_printed (error.Encoding n) = tt
+error_printed (error.Version n) = tt
+error_printed (error.FileType n) = tt
+error_printed (error.Machine n) = tt
+error_printed error.HeaderShape = tt
+error_printed (error.OutOfFile p) = tt
+error_printed (error.SegmentShape i) = tt
+error_printed (error.SegmentOverlap i j) = tt
+error_printed (error.SectionShape i) = tt
+error_printed (error.SymbolShape j) = tt
+error_printed (error.RelaShape i j) = tt
+error_printed (error.TooManySections n) = tt
+error_printed (error.TooManyBytes n) = tt
+error_printed error.Memory = tt
 
-printed_by_names : (names : Option (List ℕ × List ℕ)) (files : Files) (rose : List ℕ → Type 0) (answer : Answer) → MatchOption names (PrintsOnly Usage usage_line answer) (λ n. TransformMeans answer.status (file_bytes files n.0) n.1 (rose n.0) answer) → Printed answer.status
-printed_by_names None files rose answer m = subst Printed (sym m.status) tt
-printed_by_names (Some n) files rose answer m = transform_printed answer.status (file_bytes files n.0) n.1 (rose n.0) answer m
+outcome_printed : (o : Outcome) → Printed (outcome_status o)
+outcome_printed outcome.Going = tt
+outcome_printed outcome.Ended = tt
+outcome_printed outcome.Fired = tt
+outcome_printed (outcome.Trapped c pc) = tt
+
+prints : (status : Status) (answer : Answer) → Printed status → answer.status ≡ status → Printed answer.status
+prints status answer p e = subst Printed (sym e) p
+
+transforms_printed : (bytes output : List ℕ) (answer : Answer) → Transforms bytes output answer → Printed answer.status
+transforms_printed bytes output answer (no_elf n) = prints Refused answer tt n.plain.status
+transforms_printed bytes output answer (not_built n) = prints Refused answer tt n.plain.status
+transforms_printed bytes output answer (done d) = prints Done answer tt d.delivers.status
+
+runs_printed : (bytes : List ℕ) (answer : Answer) → Runs bytes answer → Printed answer.status
+runs_printed bytes answer (unread u) = prints (error_status u.error) answer (error_printed u.error) u.plain.status
+runs_printed bytes answer (too_large t) = prints Limit answer tt t.plain.status
+runs_printed bytes answer (ran r) = prints (outcome_status (run_of r.file).state.outcome) answer (outcome_printed (run_of r.file).state.outcome) r.plain.status
+
+means_printed : (limit : ℕ) (line bytes : List ℕ) (rose W : Type 0) (answer : Answer) → (W → Printed answer.status) → Means limit line bytes rose W answer → Printed answer.status
+means_printed limit line bytes rose W answer h (read_fault r) = prints ReadFault answer tt r.plain.status
+means_printed limit line bytes rose W answer h (too_long t) = prints Limit answer tt t.plain.status
+means_printed limit line bytes rose W answer h (within small w) = h w
+
+command_printed : (command : Asked) (files : Files) (rose : List ℕ → Type 0) (answer : Answer) → CommandMeans command files rose answer → Printed answer.status
+command_printed (Transform input output) files rose answer m = means_printed load_limit load_limit_line (file_bytes files input) (rose input) (Transforms (file_bytes files input) output answer) answer (transforms_printed (file_bytes files input) output answer) m
+command_printed (Run file) files rose answer m = means_printed run_load_limit run_load_limit_line (file_bytes files file) (rose file) (Runs (file_bytes files file) answer) answer (runs_printed (file_bytes files file) answer) m
+
+printed_by_command : (command : Option Asked) (files : Files) (rose : List ℕ → Type 0) (answer : Answer) → MatchOption command (PrintsOnly Usage usage_line answer) (λ c. CommandMeans c files rose answer) → Printed answer.status
+printed_by_command None files rose answer m = prints Usage answer tt m.status
+printed_by_command (Some c) files rose answer m = command_printed c files rose answer m
 
 printed : (words : List (List ℕ)) (files : Files) (rose : List ℕ → Type 0) (answer : Answer) → IsMeant words files rose answer → Printed answer.status
-printed words files rose answer m = printed_by_names (transform_names words) files rose answer m
+printed words files rose answer m = printed_by_command (asked words) files rose answer m
 
 -- what was done ends the call with the answer's status
 did_ends : (call : Call) (files : Files) (status : Status) → Printed status → Did call files status → EndsOver call files status
@@ -113,44 +151,87 @@ no_memory_soon call stored text = always call.old (λ files. EndsOver call files
 
 -- ---- what can be expected
 -- a file has one status
-unique : (bytes : List ℕ) (s t : Status) → Decided bytes s → Decided bytes t → s ≡ t
-unique bytes s t (too_long a) (too_long b) = refl
-unique bytes s t (too_long a) (refused b n) = absurd (omega (arith, a, b))
-unique bytes s t (too_long a) (done b f) = absurd (omega (arith, a, b))
-unique bytes s t (refused a n) (too_long b) = absurd (omega (arith, a, b))
-unique bytes s t (refused a n) (refused b m) = refl
-unique bytes s t (refused a n) (done b f) = absurd (n f)
-unique bytes s t (done a f) (too_long b) = absurd (omega (arith, a, b))
-unique bytes s t (done a f) (refused b n) = absurd (n f)
-unique bytes s t (done a f) (done b g) = refl
+transform_unique : (bytes : List ℕ) (s t : Status) → TransformDecides bytes s → TransformDecides bytes t → s ≡ t
+transform_unique bytes s t (decide.refused n a) (decide.refused m b) = a ∙ sym b
+transform_unique bytes s t (decide.refused n a) (decide.done f b) = absurd (n f)
+transform_unique bytes s t (decide.done f a) (decide.refused n b) = absurd (n f)
+transform_unique bytes s t (decide.done f a) (decide.done g b) = a ∙ sym b
 
-decides_same : (names : Option (List ℕ × List ℕ)) (files : Files) (s t : Status) → MatchOption names (s ≡ Usage) (λ n. Decided (file_bytes files n.0) s) → MatchOption names (t ≡ Usage) (λ n. Decided (file_bytes files n.0) t) → s ≡ t
+-- bytes are one file
+same_file : (bytes : List ℕ) (f g : ElfFile) → File bytes f → File bytes g → f ≡ g
+same_file bytes f g x y =
+    let entry : f.entry ≡ g.entry = x.entry ∙ sym y.entry in
+    let flags : f.flags ≡ g.flags = x.flags ∙ sym y.flags in
+    let segments : f.segments ≡ g.segments = x.segments ∙ sym y.segments in
+    let sections : f.sections ≡ g.sections = x.sections ∙ sym y.sections in
+    let symbols : f.symbols ≡ g.symbols = x.symbols ∙ sym y.symbols in
+    let relas : f.relas ≡ g.relas = x.relas ∙ sym y.relas in
+    ap (λ a. record { entry = a; flags = f.flags; segments = f.segments; sections = f.sections; symbols = f.symbols; relas = f.relas }) entry
+    ∙ ap (λ a. record { entry = g.entry; flags = a; segments = f.segments; sections = f.sections; symbols = f.symbols; relas = f.relas }) flags
+    ∙ ap (λ a. record { entry = g.entry; flags = g.flags; segments = a; sections = f.sections; symbols = f.symbols; relas = f.relas }) segments
+    ∙ ap (λ a. record { entry = g.entry; flags = g.flags; segments = g.segments; sections = a; symbols = f.symbols; relas = f.relas }) sections
+    ∙ ap (λ a. record { entry = g.entry; flags = g.flags; segments = g.segments; sections = g.sections; symbols = a; relas = f.relas }) symbols
+    ∙ ap (λ a. record { entry = g.entry; flags = g.flags; segments = g.segments; sections = g.sections; symbols = g.symbols; relas = a }) relas
+
+-- bytes are refused by one rule
+same_refusal : (bytes : List ℕ) (a b : ElfError) → IsRefused bytes a → IsRefused bytes b → a ≡ b
+same_refusal bytes a b x y = let p = x.first in let q = y.first in cc
+
+-- bytes that are refused are no file
+not_both : (bytes : List ℕ) (e : ElfError) (f : ElfFile) → IsRefused bytes e → File bytes f → ⊥
+not_both bytes e f x y = let p = x.first in let q = y.accepted in let Clash : Ok tt ≡ Err e = sym q ∙ p in absurd (cc)
+
+run_unique : (bytes : List ℕ) (s t : Status) → RunDecides bytes s → RunDecides bytes t → s ≡ t
+run_unique bytes s t (decide.unread e x a) (decide.unread d y b) = a ∙ ap error_status (same_refusal bytes e d x y) ∙ sym b
+run_unique bytes s t (decide.unread e x a) (decide.too_large g y l b) = absurd (not_both bytes e g x y)
+run_unique bytes s t (decide.unread e x a) (decide.ran g y l b) = absurd (not_both bytes e g x y)
+run_unique bytes s t (decide.too_large f x k a) (decide.unread d y b) = absurd (not_both bytes d f y x)
+run_unique bytes s t (decide.too_large f x k a) (decide.too_large g y l b) = a ∙ sym b
+run_unique bytes s t (decide.too_large f x k a) (decide.ran g y l b) = let same = ap (λ h. memory_bytes h.segments) (same_file bytes f g x y) in absurd (omega (arith, k, l, same))
+run_unique bytes s t (decide.ran f x k a) (decide.unread d y b) = absurd (not_both bytes d f y x)
+run_unique bytes s t (decide.ran f x k a) (decide.too_large g y l b) = let same = ap (λ h. memory_bytes h.segments) (same_file bytes f g x y) in absurd (omega (arith, k, l, same))
+run_unique bytes s t (decide.ran f x k a) (decide.ran g y l b) = a ∙ ap (λ h. outcome_status (run_of h).state.outcome) (same_file bytes f g x y) ∙ sym b
+
+unique : (limit : ℕ) (bytes : List ℕ) (V W : Type 0) (s t : Status) → (V → W → s ≡ t) → Decided limit bytes V s → Decided limit bytes W t → s ≡ t
+unique limit bytes V W s t h (decide.too_long l a) (decide.too_long m b) = a ∙ sym b
+unique limit bytes V W s t h (decide.too_long l a) (decide.within m w) = absurd (omega (arith, l, m))
+unique limit bytes V W s t h (decide.within l v) (decide.too_long m b) = absurd (omega (arith, l, m))
+unique limit bytes V W s t h (decide.within l v) (decide.within m w) = h v w
+
+command_same : (command : Asked) (files : Files) (s t : Status) → CommandDecides command files s → CommandDecides command files t → s ≡ t
+command_same (Transform input output) files s t a b = unique load_limit (file_bytes files input) (TransformDecides (file_bytes files input) s) (TransformDecides (file_bytes files input) t) s t (transform_unique (file_bytes files input) s t) a b
+command_same (Run file) files s t a b = unique run_load_limit (file_bytes files file) (RunDecides (file_bytes files file) s) (RunDecides (file_bytes files file) t) s t (run_unique (file_bytes files file) s t) a b
+
+decides_same : (command : Option Asked) (files : Files) (s t : Status) → MatchOption command (s ≡ Usage) (λ c. CommandDecides c files s) → MatchOption command (t ≡ Usage) (λ c. CommandDecides c files t) → s ≡ t
 decides_same None files s t a b = a ∙ sym b
-decides_same (Some n) files s t a b = unique (file_bytes files n.0) s t a b
+decides_same (Some c) files s t a b = command_same c files s t a b
 
-not_first : (bytes : List ℕ) (answer : Answer) → IsNoElf bytes answer ⊎ IsNotBuilt bytes answer → IsFirst bytes → ⊥
-not_first bytes answer (inl n) f = n.cause f.plain.header.magic
-not_first bytes answer (inr n) f = n.cause f
+-- what is meant has the status that is decided, where no load failed
+transforms_decided : (bytes output : List ℕ) (answer : Answer) → Transforms bytes output answer → TransformDecides bytes answer.status
+transforms_decided bytes output answer (no_elf n) = decide.refused (λ f. n.cause f.plain.header.magic) n.plain.status
+transforms_decided bytes output answer (not_built n) = decide.refused n.cause n.plain.status
+transforms_decided bytes output answer (done d) = decide.done d.first d.delivers.status
 
-transform_decided : (status : Status) (bytes output : List ℕ) (rose : Type 0) (answer : Answer) → (rose → ⊥) → TransformMeans status bytes output rose answer → Decided bytes status
-transform_decided ReadFault bytes output rose answer calm m = absurd (calm m.cause)
-transform_decided Limit bytes output rose answer calm m = too_long m.cause
-transform_decided Refused bytes output rose answer calm m = refused m.within (not_first bytes answer m.reason)
-transform_decided Done bytes output rose answer calm m = done m.within m.first
-transform_decided Usage bytes output rose answer calm m = absurd m
-transform_decided WriteFault bytes output rose answer calm m = absurd m
-transform_decided Memory bytes output rose answer calm m = absurd m
-transform_decided Fired bytes output rose answer calm m = absurd m
-transform_decided Trapped bytes output rose answer calm m = absurd m
-transform_decided StepsSpent bytes output rose answer calm m = absurd m
+runs_decided : (bytes : List ℕ) (answer : Answer) → Runs bytes answer → RunDecides bytes answer.status
+runs_decided bytes answer (unread u) = decide.unread u.error u.cause u.plain.status
+runs_decided bytes answer (too_large t) = decide.too_large t.file t.read t.cause t.plain.status
+runs_decided bytes answer (ran r) = decide.ran r.file r.read r.small r.plain.status
 
--- where no load of IN failed, what is meant has the status that is decided
-decided_by_names :
-    (names : Option (List ℕ × List ℕ)) (files : Files) (rose : List ℕ → Type 0) (answer : Answer) → IfSome names (λ n. rose n.0 → ⊥)
-    → MatchOption names (PrintsOnly Usage usage_line answer) (λ n. TransformMeans answer.status (file_bytes files n.0) n.1 (rose n.0) answer)
-    → MatchOption names (answer.status ≡ Usage) (λ n. Decided (file_bytes files n.0) answer.status)
-decided_by_names None files rose answer calm m = m.status
-decided_by_names (Some n) files rose answer calm m = transform_decided answer.status (file_bytes files n.0) n.1 (rose n.0) answer calm m
+means_decided : (limit : ℕ) (line bytes : List ℕ) (rose V W : Type 0) (answer : Answer) → (V → W) → (rose → ⊥) → Means limit line bytes rose V answer → Decided limit bytes W answer.status
+means_decided limit line bytes rose V W answer h calm (read_fault r) = absurd (calm r.cause)
+means_decided limit line bytes rose V W answer h calm (too_long t) = decide.too_long t.cause t.plain.status
+means_decided limit line bytes rose V W answer h calm (within small v) = decide.within small (h v)
+
+command_decided : (command : Asked) (files : Files) (rose : List ℕ → Type 0) (answer : Answer) → (rose (read_name command) → ⊥) → CommandMeans command files rose answer → CommandDecides command files answer.status
+command_decided (Transform input output) files rose answer calm m = means_decided load_limit load_limit_line (file_bytes files input) (rose input) (Transforms (file_bytes files input) output answer) (TransformDecides (file_bytes files input) answer.status) answer (transforms_decided (file_bytes files input) output answer) calm m
+command_decided (Run file) files rose answer calm m = means_decided run_load_limit run_load_limit_line (file_bytes files file) (rose file) (Runs (file_bytes files file) answer) (RunDecides (file_bytes files file) answer.status) answer (runs_decided (file_bytes files file) answer) calm m
+
+decided_by_command :
+    (command : Option Asked) (files : Files) (rose : List ℕ → Type 0) (answer : Answer) → IfSome command (λ c. rose (read_name c) → ⊥)
+    → MatchOption command (PrintsOnly Usage usage_line answer) (λ c. CommandMeans c files rose answer)
+    → MatchOption command (answer.status ≡ Usage) (λ c. CommandDecides c files answer.status)
+decided_by_command None files rose answer calm m = m.status
+decided_by_command (Some c) files rose answer calm m = command_decided c files rose answer calm m
 
 -- a failed store is one of OUT
 none_stored : (answer : Answer) (rose : List ℕ → Type 0) → answer.stored ≡ None → StoreRose answer.stored rose → ⊥
@@ -160,35 +241,38 @@ stored_as : (stored : Option Stored) (rose : List ℕ → Type 0) (output file :
 stored_as None rose output file s r = absurd r
 stored_as (Some s) rose output file e r = subst rose e.0 r
 
-plain_refusal : (bytes : List ℕ) (answer : Answer) → IsNoElf bytes answer ⊎ IsNotBuilt bytes answer → answer.stored ≡ None
-plain_refusal bytes answer (inl n) = n.plain.stored
-plain_refusal bytes answer (inr n) = n.plain.stored
+transforms_store : (bytes output : List ℕ) (stores : List ℕ → Type 0) (answer : Answer) → (stores output → ⊥) → Transforms bytes output answer → StoreRose answer.stored stores → ⊥
+transforms_store bytes output stores answer calm (no_elf n) r = none_stored answer stores n.plain.stored r
+transforms_store bytes output stores answer calm (not_built n) r = none_stored answer stores n.plain.stored r
+transforms_store bytes output stores answer calm (done d) r = calm (stored_as answer.stored stores output d.file d.delivers.stored r)
 
-transform_store : (status : Status) (bytes output : List ℕ) (rose : Type 0) (stores : List ℕ → Type 0) (answer : Answer) → TransformMeans status bytes output rose answer → StoreRose answer.stored stores → stores output
-transform_store ReadFault bytes output rose stores answer m r = absurd (none_stored answer stores m.plain.stored r)
-transform_store Limit bytes output rose stores answer m r = absurd (none_stored answer stores m.plain.stored r)
-transform_store Refused bytes output rose stores answer m r = absurd (none_stored answer stores (plain_refusal bytes answer m.reason) r)
-transform_store Done bytes output rose stores answer m r = stored_as answer.stored stores output m.file m.delivers.stored r
-transform_store Usage bytes output rose stores answer m r = absurd m
-transform_store WriteFault bytes output rose stores answer m r = absurd m
-transform_store Memory bytes output rose stores answer m r = absurd m
-transform_store Fired bytes output rose stores answer m r = absurd m
-transform_store Trapped bytes output rose stores answer m r = absurd m
-transform_store StepsSpent bytes output rose stores answer m r = absurd m
+runs_store : (bytes : List ℕ) (stores : List ℕ → Type 0) (answer : Answer) → Runs bytes answer → StoreRose answer.stored stores → ⊥
+runs_store bytes stores answer (unread u) r = none_stored answer stores u.plain.stored r
+runs_store bytes stores answer (too_large t) r = none_stored answer stores t.plain.stored r
+runs_store bytes stores answer (ran x) r = none_stored answer stores x.plain.stored r
 
-store_by_names :
-    (names : Option (List ℕ × List ℕ)) (files : Files) (rose stores : List ℕ → Type 0) (answer : Answer) → IfSome names (λ n. stores n.1 → ⊥)
-    → MatchOption names (PrintsOnly Usage usage_line answer) (λ n. TransformMeans answer.status (file_bytes files n.0) n.1 (rose n.0) answer) → StoreRose answer.stored stores → ⊥
-store_by_names None files rose stores answer calm m r = none_stored answer stores m.stored r
-store_by_names (Some n) files rose stores answer calm m r = calm (transform_store answer.status (file_bytes files n.0) n.1 (rose n.0) stores answer m r)
+means_store : (limit : ℕ) (line bytes : List ℕ) (rose W : Type 0) (stores : List ℕ → Type 0) (answer : Answer) → (W → StoreRose answer.stored stores → ⊥) → Means limit line bytes rose W answer → StoreRose answer.stored stores → ⊥
+means_store limit line bytes rose W stores answer h (read_fault f) r = none_stored answer stores f.plain.stored r
+means_store limit line bytes rose W stores answer h (too_long t) r = none_stored answer stores t.plain.stored r
+means_store limit line bytes rose W stores answer h (within small w) r = h w r
+
+command_store : (command : Asked) (files : Files) (rose stores : List ℕ → Type 0) (answer : Answer) → IfSome (stored_name command) (λ name. stores name → ⊥) → CommandMeans command files rose answer → StoreRose answer.stored stores → ⊥
+command_store (Transform input output) files rose stores answer calm m = means_store load_limit load_limit_line (file_bytes files input) (rose input) (Transforms (file_bytes files input) output answer) stores answer (transforms_store (file_bytes files input) output stores answer calm) m
+command_store (Run file) files rose stores answer calm m = means_store run_load_limit run_load_limit_line (file_bytes files file) (rose file) (Runs (file_bytes files file) answer) stores answer (runs_store (file_bytes files file) stores answer) m
+
+store_by_command :
+    (command : Option Asked) (files : Files) (rose stores : List ℕ → Type 0) (answer : Answer) → IfSome command (λ c. IfSome (stored_name c) (λ name. stores name → ⊥))
+    → MatchOption command (PrintsOnly Usage usage_line answer) (λ c. CommandMeans c files rose answer) → StoreRose answer.stored stores → ⊥
+store_by_command None files rose stores answer calm m r = none_stored answer stores m.stored r
+store_by_command (Some c) files rose stores answer calm m r = command_store c files rose stores answer calm m r
 
 did_decided : (call : Call) (files : Files) (status decided : Status) → NoFault call → Did call files status → Decides call.words files decided → (status ≡ decided) ⊎ (status ≡ Memory)
 did_decided call files status decided calm d e =
-    inl (sym d.same_status ∙ decides_same (transform_names call.words) files d.answer.status decided (decided_by_names (transform_names call.words) files call.load_rose d.answer calm.load d.meant) e)
+    inl (sym d.same_status ∙ decides_same (asked call.words) files d.answer.status decided (decided_by_command (asked call.words) files call.load_rose d.answer calm.load d.meant) e)
 
 write_decided : (call : Call) (files : Files) → NoFault call → EndsOver call files WriteFault → ⊥
 write_decided call files calm (inl p) = calm.sink p.0
-write_decided call files calm (inr p) = store_by_names (transform_names call.words) files call.load_rose call.store_rose p.answer calm.store p.meant p.cause
+write_decided call files calm (inr p) = store_by_command (asked call.words) files call.load_rose call.store_rose p.answer calm.store p.meant p.cause
 
 ends_decided : (call : Call) (files : Files) (status decided : Status) → NoFault call → EndsOver call files status → Decides call.words files decided → (status ≡ decided) ⊎ (status ≡ Memory)
 ends_decided call files WriteFault decided calm e d = absurd (write_decided call files calm e)

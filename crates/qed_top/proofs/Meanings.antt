@@ -1,20 +1,33 @@
 -- From what was read and made to what is meant.
-use Rattle.std.proofs.Common.{◌≡◌, ◌≤◌, ◌<◌, ◌+◌, ℕ, List, [], length, Option, None, Some, IfSome, inl, inr, refl, ap, sym, ◌∙◌, subst, arith}
-use Rattle.std.specs.Prelude.{replicate, unwrap_or, cond}
+use Rattle.std.proofs.Common.{◌≡◌, ◌⊎◌, ◌≤◌, ◌<◌, ◌+◌, ℕ, List, [], length, Option, None, Some, IfSome, inl, inr, refl, ap, sym, ◌∙◌, subst, arith}
+use Rattle.std.specs.Prelude.{MatchOption, replicate, unwrap_or, cond}
 use Rattle.std.specs.Cmp.{eq_by_cmp_equiv}
 use Rattle.std.specs.Cmp.Lexicographic.{nat_list_cmp_total}
 use Rattle.std.specs.FinMap.{empty, get, insert, get-insert}
 use Rattle.std.proofs.lemmas.List.{length-replicate}
 use Rattle.qed_io.specs.Files.{Files, file_bytes}
+use Rattle.elf_types.specs.declared.file.ElfFile.{ElfFile}
+use Rattle.elf_types.specs.declared.error.ElfError.{ElfError}
+use Rattle.elf_types.specs.declared.error.ElfError.TheVariants as error
 use Rattle.qed_model.specs.Plain.{HasMagic, IsFirst}
-use Rattle.qed_model.specs.Texts.{load_limit, read_fault_line, load_limit_line, usage_line, magic_line, not_built_line}
-use Rattle.qed_top.specs.Words.{transform_names}
-use Rattle.transform.specs.Transform.{Transforms}
-use Rattle.qed_top.specs.Answer.{PrintsOnly, IsRefused, Delivers, RefusesOrDoes, TransformMeans, IsMeant}
+use Rattle.qed_model.specs.ElfFile.{File}
+use Rattle.qed_model.specs.ElfRefusals.{IsRefused}
+use Rattle.qed_model.specs.Texts.{read_fault_line, usage_line, magic_line, not_built_line}
+use Rattle.qed_model.specs.ErrorTexts.{error_line}
+use Rattle.qed_model.specs.RunTexts.{run_lines}
+use Rattle.qed_model.specs.Kept.{start, zeros}
+use Rattle.qed_model.specs.LoadedFile.{loaded_file}
+use Rattle.qed_model.specs.Progress.{Progress, progress, begun}
+use Rattle.qed_model.specs.declared.machine.Outcome.{Outcome}
+use Rattle.qed_top.specs.Words.{Asked, asked}
+use Rattle.transform.specs.Transform as Made
+use Rattle.qed_top.specs.Answer.{PrintsOnly, Delivers, Transforms, no_elf, not_built, done, Runs, unread, too_large, ran, Means, read_fault, too_long, within, CommandMeans, IsMeant, error_status, memory_bytes, memory_limit, default_steps, outcome_status, run_of}
+use Rattle.qed_top.specs.Run.{FileRuns}
+use Rattle.qed_top.specs.Run as run
 use Rattle.qed_top.specs.Ends.{OverFiles}
 use Rattle.qed_top.specs.declared.answer.Answer.{Answer}
 use Rattle.qed_top.specs.declared.status.Status.{Status}
-use Rattle.qed_top.specs.declared.status.Status.TheVariants.{Done, Usage, Refused, Limit, ReadFault}
+use Rattle.qed_top.specs.declared.status.Status.TheVariants.{Usage, Refused, Limit, ReadFault}
 
 -- ---- files
 -- what holds of each file system holds of the one that is told
@@ -36,54 +49,69 @@ file_bytes-insert files name bytes =
     ∙ ap (λ b. unwrap_or (cond b (Some bytes) (get files name)) []) ((eq_by_cmp_equiv nat_list_cmp_total).refl name)
 
 -- ---- meanings
-means : (status : Status) (bytes output : List ℕ) (rose : Type 0) (answer : Answer) → answer.status ≡ status → TransformMeans status bytes output rose answer → TransformMeans answer.status bytes output rose answer
-means status bytes output rose answer e m = subst (λ (s : Status). TransformMeans s bytes output rose answer) (sym e) m
+-- what a command with a limit means over the bytes under a name; W says what it answers over bytes within the limit
+module _ (told : Option Files) (name : List ℕ) (limit : ℕ) (line : List ℕ) (rose : Type 0) (W : List ℕ → Type 0) (answer : Answer) where
+  abbrev pub OverCommand : Type 0
+  OverCommand = OverFiles told (λ f. Means limit line (file_bytes f name) rose (W (file_bytes f name)) answer)
 
-refused_status : (bytes : List ℕ) (answer : Answer) → IsRefused bytes answer → answer.status ≡ Refused
-refused_status bytes answer r = elim r.reason [ inl n ↦ n.plain.status | inr n ↦ n.plain.status ]
+  -- the bytes were loaded
+  pub over_bytes : (bytes : List ℕ) → IfSome told (λ f. bytes ≡ file_bytes f name) → length bytes ≤ limit → W bytes → OverCommand
+  over_bytes bytes loaded small meant =
+      let same = file_bytes-insert empty name bytes in
+      over_map told (λ f. bytes ≡ file_bytes f name) (λ f. Means limit line (file_bytes f name) rose (W (file_bytes f name)) answer)
+      (λ f e. subst (λ (b : List ℕ). Means limit line b rose (W b) answer) e (within small meant))
+      (told_or told (λ f. bytes ≡ file_bytes f name) (insert empty name bytes) (sym same) loaded)
 
-of_bytes : (bytes output : List ℕ) (rose : Type 0) (answer : Answer) → RefusesOrDoes bytes output answer → TransformMeans answer.status bytes output rose answer
-of_bytes bytes output rose answer (inl r) = means Refused bytes output rose answer (refused_status bytes answer r) r
-of_bytes bytes output rose answer (inr d) = means Done bytes output rose answer d.delivers.status d
+  -- the load failed
+  pub over_fault : rose → PrintsOnly ReadFault read_fault_line answer → OverCommand
+  over_fault cause plain = always told (λ f. Means limit line (file_bytes f name) rose (W (file_bytes f name)) answer) (λ f. read_fault (record { cause = cause; plain = plain }))
 
--- the bytes were loaded
-pub over_bytes : (told : Option Files) (name output bytes : List ℕ) (rose : Type 0) (answer : Answer) → IfSome told (λ f. bytes ≡ file_bytes f name) → RefusesOrDoes bytes output answer → OverFiles told (λ f. TransformMeans answer.status (file_bytes f name) output rose answer)
-over_bytes told name output bytes rose answer loaded meant =
-    let same = file_bytes-insert empty name bytes in
-    over_map told (λ f. bytes ≡ file_bytes f name) (λ f. TransformMeans answer.status (file_bytes f name) output rose answer)
-    (λ f e. subst (λ (b : List ℕ). TransformMeans answer.status b output rose answer) e (of_bytes bytes output rose answer meant))
-    (told_or told (λ f. bytes ≡ file_bytes f name) (insert empty name bytes) (sym same) loaded)
+  -- the file is too long
+  long_file : limit < length (file_bytes (insert empty name (replicate (limit + 1) 0)) name)
+  long_file = rw (file_bytes-insert empty name (replicate (limit + 1) 0), length-replicate) (omega arith)
 
--- the load failed
-pub over_fault : (told : Option Files) (name output : List ℕ) (rose : Type 0) (answer : Answer) → rose → PrintsOnly ReadFault read_fault_line answer → OverFiles told (λ f. TransformMeans answer.status (file_bytes f name) output rose answer)
-over_fault told name output rose answer cause plain =
-    always told (λ f. TransformMeans answer.status (file_bytes f name) output rose answer) (λ f. means ReadFault (file_bytes f name) output rose answer plain.status (record { cause = cause; plain = plain }))
-
--- the file is too long
-long_file : (name : List ℕ) (limit : ℕ) → limit < length (file_bytes (insert empty name (replicate (limit + 1) 0)) name)
-long_file name limit = rw (file_bytes-insert empty name (replicate (limit + 1) 0), length-replicate) (omega arith)
-
-pub over_limit : (told : Option Files) (name output : List ℕ) (rose : Type 0) (answer : Answer) → IfSome told (λ f. load_limit < length (file_bytes f name)) → PrintsOnly Limit load_limit_line answer → OverFiles told (λ f. TransformMeans answer.status (file_bytes f name) output rose answer)
-over_limit told name output rose answer cause plain =
-    over_map told (λ f. load_limit < length (file_bytes f name)) (λ f. TransformMeans answer.status (file_bytes f name) output rose answer)
-    (λ f long. means Limit (file_bytes f name) output rose answer plain.status (record { cause = long; plain = plain }))
-    (told_or told (λ f. load_limit < length (file_bytes f name)) (insert empty name (replicate (load_limit + 1) 0)) (long_file name load_limit) cause)
+  pub over_limit : IfSome told (λ f. limit < length (file_bytes f name)) → PrintsOnly Limit line answer → OverCommand
+  over_limit cause plain =
+      over_map told (λ f. limit < length (file_bytes f name)) (λ f. Means limit line (file_bytes f name) rose (W (file_bytes f name)) answer)
+      (λ f long. too_long (record { cause = long; plain = plain }))
+      (told_or told (λ f. limit < length (file_bytes f name)) (insert empty name (replicate (limit + 1) 0)) long_file cause)
 
 -- the words are those of a command, or of none
-pub over_names : (told : Option Files) (words : List (List ℕ)) (input output : List ℕ) (rose : List ℕ → Type 0) (answer : Answer) → transform_names words ≡ Some (input, output) → OverFiles told (λ f. TransformMeans answer.status (file_bytes f input) output (rose input) answer) → OverFiles told (λ f. IsMeant words f rose answer)
-over_names told words input output rose answer e o =
-    over_map told (λ f. TransformMeans answer.status (file_bytes f input) output (rose input) answer) (λ f. IsMeant words f rose answer) (λ f m. rw e m) o
+pub over_command : (told : Option Files) (words : List (List ℕ)) (command : Asked) (rose : List ℕ → Type 0) (answer : Answer) → asked words ≡ Some command → OverFiles told (λ f. CommandMeans command f rose answer) → OverFiles told (λ f. IsMeant words f rose answer)
+over_command told words command rose answer e o =
+    over_map told (λ f. CommandMeans command f rose answer) (λ f. IsMeant words f rose answer)
+    (λ f m. subst (λ (o : Option Asked). MatchOption o (PrintsOnly Usage usage_line answer) (λ c. CommandMeans c f rose answer)) (sym e) m) o
 
-pub over_usage : (told : Option Files) (words : List (List ℕ)) (rose : List ℕ → Type 0) (answer : Answer) → transform_names words ≡ None → PrintsOnly Usage usage_line answer → OverFiles told (λ f. IsMeant words f rose answer)
-over_usage told words rose answer e plain = always told (λ f. IsMeant words f rose answer) (λ f. rw e plain)
+pub over_usage : (told : Option Files) (words : List (List ℕ)) (rose : List ℕ → Type 0) (answer : Answer) → asked words ≡ None → PrintsOnly Usage usage_line answer → OverFiles told (λ f. IsMeant words f rose answer)
+over_usage told words rose answer e plain = always told (λ f. IsMeant words f rose answer) (λ f. subst (λ (o : Option Asked). MatchOption o (PrintsOnly Usage usage_line answer) (λ c. CommandMeans c f rose answer)) (sym e) plain)
 
--- an output was made
-pub does : (bytes output file : List ℕ) (code_bytes : ℕ) (answer : Answer) → length bytes ≤ load_limit → Transforms bytes file code_bytes → Delivers file output code_bytes answer → RefusesOrDoes bytes output answer
-does bytes output file code_bytes answer within made delivers =
-    inr (record { within = within; first = made.first; file = file; woven = made.woven; kept = made.kept; delivers = subst (λ (n : ℕ). Delivers file output n answer) made.size delivers })
+-- ---- `transform`
+pub does : (bytes output file : List ℕ) (code_bytes : ℕ) (answer : Answer) → Made.Transforms bytes file code_bytes → Delivers file output code_bytes answer → Transforms bytes output answer
+does bytes output file code_bytes answer made delivers =
+    done (record { first = made.first; file = file; woven = made.woven; kept = made.kept; delivers = subst (λ (n : ℕ). Delivers file output n answer) made.size delivers })
 
-pub no_elf : (bytes output : List ℕ) (answer : Answer) → length bytes ≤ load_limit → (HasMagic bytes → ⊥) → PrintsOnly Refused magic_line answer → RefusesOrDoes bytes output answer
-no_elf bytes output answer within cause plain = inl (record { within = within; reason = inl (record { cause = cause; plain = plain }) })
+pub has_no_magic : (bytes output : List ℕ) (answer : Answer) → (HasMagic bytes → ⊥) → PrintsOnly Refused magic_line answer → Transforms bytes output answer
+has_no_magic bytes output answer cause plain = no_elf (record { cause = cause; plain = plain })
 
-pub not_built : (bytes output : List ℕ) (answer : Answer) → length bytes ≤ load_limit → HasMagic bytes → (IsFirst bytes → ⊥) → PrintsOnly Refused not_built_line answer → RefusesOrDoes bytes output answer
-not_built bytes output answer within magic cause plain = inl (record { within = within; reason = inr (record { magic = magic; cause = cause; plain = plain }) })
+pub is_not_built : (bytes output : List ℕ) (answer : Answer) → HasMagic bytes → (IsFirst bytes → ⊥) → PrintsOnly Refused not_built_line answer → Transforms bytes output answer
+is_not_built bytes output answer magic cause plain = not_built (record { magic = magic; cause = cause; plain = plain })
+
+-- ---- `run`
+pub file_runs : (bytes : List ℕ) (f : ElfFile) (answer : Answer) → File bytes f → FileRuns f answer → Runs bytes answer
+file_runs bytes f answer read (run.too_large cause plain) = too_large (record { file = f; read = read; cause = cause; plain = plain })
+file_runs bytes f answer read (run.ran small plain) = ran (record { file = f; read = read; small = small; plain = plain })
+
+-- the machine of a file that is small enough was run
+pub was_run : (f : ElfFile) (size : ℕ) (machine ended : Progress) (o : Outcome) (text : List ℕ) (s : Status) (answer : Answer) → size ≡ memory_bytes f.segments → size ≤ memory_limit → machine ≡ begun (start (loaded_file f) zeros) → ended ≡ progress machine default_steps → o ≡ ended.state.outcome → text ≡ run_lines ended → s ≡ outcome_status o → PrintsOnly s text answer → FileRuns f answer
+was_run f size machine ended o text s answer same small begins ends how lines status plain =
+    let is : ended ≡ run_of f = ends ∙ ap (λ m. progress m default_steps) begins in
+    run.ran (omega (arith, same, small)) (record {
+      status = plain.status ∙ status ∙ ap outcome_status (how ∙ ap (λ p. p.state.outcome) is);
+      text = plain.text ∙ lines ∙ ap run_lines is;
+      stored = plain.stored;
+    })
+
+-- a file that is not read, but for want of memory
+pub is_unread : (bytes : List ℕ) (e : ElfError) (answer : Answer) (Other : Type 0) → IsRefused bytes e ⊎ ((e ≡ error.Memory) × Other) → (e ≡ error.Memory → ⊥) → PrintsOnly (error_status e) (error_line e) answer → Runs bytes answer
+is_unread bytes e answer Other (inl cause) some plain = unread (record { error = e; cause = cause; plain = plain })
+is_unread bytes e answer Other (inr want) some plain = absurd (some want.0)

@@ -1,18 +1,30 @@
 -- What the words and the files call for.
-use Rattle.std.specs.Prelude.{◌≡◌, ◌⊎◌, ◌<◌, ◌≤◌, ℕ, ◌*◌, List, length, Option, None, Some, MatchOption, IfSome, IsSomeAnd}
+use Rattle.std.specs.Prelude.{◌≡◌, ◌⊎◌, ◌<◌, ◌≤◌, ℕ, ◌+◌, ◌*◌, cond, ◌==◌, List, [], ◌∷◌, length, Option, None, Some, MatchOption, IfSome, IsSomeAnd}
 use Rattle.std.specs.FinMap.{insert}
 use Rattle.qed_io.specs.Files.{Files, file_bytes, StoredInPart}
+use Rattle.elf_types.specs.declared.file.Segment.{Segment}
+use Rattle.elf_types.specs.declared.file.ElfFile.{ElfFile}
+use Rattle.elf_types.specs.declared.error.ElfError.{ElfError}
+use Rattle.elf_types.specs.declared.error.ElfError.TheVariants as error
+use Rattle.qed_model.specs.declared.machine.Outcome.{Outcome}
+use Rattle.qed_model.specs.declared.machine.Outcome.TheVariants as outcome
 use Rattle.qed_model.specs.Plain.{HasMagic, IsFirst}
+use Rattle.qed_model.specs.ElfFile.{File}
+use Rattle.qed_model.specs.ElfRefusals.{IsRefused}
 use Rattle.qed_model.specs.Woven.{Woven, half}
-use Rattle.qed_model.specs.Kept.{Kept}
+use Rattle.qed_model.specs.Kept.{Kept, start, zeros}
+use Rattle.qed_model.specs.Progress.{Progress, progress, begun}
 use Rattle.qed_model.specs.Loaded.{loaded}
+use Rattle.qed_model.specs.LoadedFile.{loaded_file}
 use Rattle.qed_model.specs.Bounds.{piece_bound, register_bound, word_bound, default_most, default_round}
-use Rattle.qed_model.specs.Texts.{transform_line, usage_line, read_fault_line, load_limit, load_limit_line, magic_line, not_built_line}
-use Rattle.qed_top.specs.Words.{transform_names}
+use Rattle.qed_model.specs.Texts.{transform_line, usage_line, read_fault_line, load_limit, load_limit_line, run_load_limit, run_load_limit_line, magic_line, not_built_line}
+use Rattle.qed_model.specs.RunTexts.{run_lines}
+use Rattle.qed_model.specs.ErrorTexts.{error_line, memory_limit_line}
+use Rattle.qed_top.specs.Words.{Asked, Transform, Run, asked}
 use Rattle.qed_top.specs.declared.answer.Stored.{Stored}
 use Rattle.qed_top.specs.declared.answer.Answer.{Answer}
 use Rattle.qed_top.specs.declared.status.Status.{Status}
-use Rattle.qed_top.specs.declared.status.Status.TheVariants.{Done, Usage, Refused, Limit, ReadFault}
+use Rattle.qed_top.specs.declared.status.Status.TheVariants.{Done, Usage, Refused, Limit, ReadFault, Fired, Trapped, StepsSpent}
 
 -- an answer that stores nothing
 pub record PrintsOnly (wanted : Status) (line : List ℕ) (answer : Answer) : Type 0 where
@@ -20,16 +32,30 @@ pub record PrintsOnly (wanted : Status) (line : List ℕ) (answer : Answer) : Ty
   pub text : answer.text ≡ line
   pub stored : answer.stored ≡ None
 
--- a read fault: the count of failed loads of IN rose
+-- a read fault: the count of failed loads of the file rose
 pub record IsReadFault (rose : Type 0) (answer : Answer) : Type 0 where
   pub cause : rose
   pub plain : PrintsOnly ReadFault read_fault_line answer
 
--- a limit: IN has too many bytes
-pub record IsLimit (bytes : List ℕ) (answer : Answer) : Type 0 where
-  pub cause : load_limit < length bytes
-  pub plain : PrintsOnly Limit load_limit_line answer
+-- L1: the file has too many bytes
+pub record IsTooLong (limit : ℕ) (line bytes : List ℕ) (answer : Answer) : Type 0 where
+  pub cause : limit < length bytes
+  pub plain : PrintsOnly Limit line answer
 
+-- ---- files that are not read
+-- L5 and L10 are limits, all other rules refuse
+abbrev pub error_status : ElfError → Status
+error_status (error.TooManySections n) = Limit
+error_status (error.TooManyBytes n) = Limit
+error_status _ = Refused
+
+-- E1 to E13, L5 or L10: the first rule that refuses the bytes, with its place or number
+pub record IsUnread (bytes : List ℕ) (answer : Answer) : Type 0 where
+  pub error : ElfError
+  pub cause : IsRefused bytes error
+  pub plain : PrintsOnly (error_status error) (error_line error) answer
+
+-- ---- `transform`
 -- E1: IN has no magic
 pub record IsNoElf (bytes : List ℕ) (answer : Answer) : Type 0 where
   pub cause : HasMagic bytes → ⊥
@@ -40,11 +66,6 @@ pub record IsNotBuilt (bytes : List ℕ) (answer : Answer) : Type 0 where
   pub magic : HasMagic bytes
   pub cause : IsFirst bytes → ⊥
   pub plain : PrintsOnly Refused not_built_line answer
-
--- a refusal, of a file within the limit
-pub record IsRefused (bytes : List ℕ) (answer : Answer) : Type 0 where
-  pub within : length bytes ≤ load_limit
-  pub reason : IsNoElf bytes answer ⊎ IsNotBuilt bytes answer
 
 -- the bounds of an output without data words, and the line about it
 abbrev pub default_piece : ℕ
@@ -61,29 +82,79 @@ pub record Delivers (file output : List ℕ) (code_bytes : ℕ) (answer : Answer
 
 -- done: IN is a first file, what is woven from it is delivered, and the runs of that have the values of the runs of IN
 pub record IsDone (bytes output : List ℕ) (answer : Answer) : Type 0 where
-  pub within : length bytes ≤ load_limit
   pub first : IsFirst bytes
   pub file : List ℕ
   pub woven : Woven bytes file
   pub kept : Kept (loaded bytes) (loaded file) default_piece
   pub delivers : Delivers file output (4 * length woven.words) answer
 
--- one of the two that depend on the bytes of IN alone
-abbrev pub RefusesOrDoes : List ℕ → List ℕ → Answer → Type 0
-RefusesOrDoes bytes output answer = IsRefused bytes answer ⊎ IsDone bytes output answer
+-- what `transform IN OUT` answers over the bytes of IN, which are within the limit
+pub data Transforms (bytes output : List ℕ) (answer : Answer) : Type 0 where
+  no_elf : IsNoElf bytes answer → Transforms bytes output answer
+  not_built : IsNotBuilt bytes answer → Transforms bytes output answer
+  done : IsDone bytes output answer → Transforms bytes output answer
 
--- `transform IN OUT`, by the status; `rose` says that the count of failed loads of IN rose
-abbrev pub TransformMeans : Status → List ℕ → List ℕ → Type 0 → Answer → Type 0
-TransformMeans ReadFault bytes output rose answer = IsReadFault rose answer
-TransformMeans Limit bytes output rose answer = IsLimit bytes answer
-TransformMeans Refused bytes output rose answer = IsRefused bytes answer
-TransformMeans Done bytes output rose answer = IsDone bytes output answer
-TransformMeans _ bytes output rose answer = ⊥
+-- ---- `run`
+-- the memory sizes of the PT_LOAD segments together
+abbrev pub memory_bytes : List Segment → ℕ
+memory_bytes [] = 0
+memory_bytes (s ∷ segments) = cond (s.kind == 1) s.memory 0 + memory_bytes segments
+
+-- how many of them can be run
+abbrev pub memory_limit : ℕ
+memory_limit = 268435456
+
+-- L6: the segments have too many bytes in memory
+pub record IsTooLarge (bytes : List ℕ) (answer : Answer) : Type 0 where
+  pub file : ElfFile
+  pub read : File bytes file
+  pub cause : memory_limit < memory_bytes file.segments
+  pub plain : PrintsOnly Limit (memory_limit_line (memory_bytes file.segments)) answer
+
+-- how many steps `run` makes
+abbrev pub default_steps : ℕ
+default_steps = 1000000
+
+-- the run of a file from all registers 0
+abbrev pub run_of : ElfFile → Progress
+run_of file = progress (begun (start (loaded_file file) zeros)) default_steps
+
+-- the status that goes with the end of a run
+abbrev pub outcome_status : Outcome → Status
+outcome_status outcome.Ended = Done
+outcome_status outcome.Fired = Fired
+outcome_status (outcome.Trapped c pc) = Trapped
+outcome_status outcome.Going = StepsSpent
+
+-- the file was run
+pub record HasRun (bytes : List ℕ) (answer : Answer) : Type 0 where
+  pub file : ElfFile
+  pub read : File bytes file
+  pub small : memory_bytes file.segments ≤ memory_limit
+  pub plain : PrintsOnly (outcome_status (run_of file).state.outcome) (run_lines (run_of file)) answer
+
+-- what `run FILE` answers over the bytes of FILE, which are within the limit
+pub data Runs (bytes : List ℕ) (answer : Answer) : Type 0 where
+  unread : IsUnread bytes answer → Runs bytes answer
+  too_large : IsTooLarge bytes answer → Runs bytes answer
+  ran : HasRun bytes answer → Runs bytes answer
+
+-- ---- both
+-- what a command answers over the bytes of its file, of which it takes so many; `rose` says that the count of failed loads of the
+-- file rose
+pub data Means (limit : ℕ) (line bytes : List ℕ) (rose : Type 0) (Within : Type 0) (answer : Answer) : Type 0 where
+  read_fault : IsReadFault rose answer → Means limit line bytes rose Within answer
+  too_long : IsTooLong limit line bytes answer → Means limit line bytes rose Within answer
+  within : length bytes ≤ limit → Within → Means limit line bytes rose Within answer
+
+abbrev pub CommandMeans : Asked → Files → (List ℕ → Type 0) → Answer → Type 0
+CommandMeans (Transform input output) files rose answer =
+    Means load_limit load_limit_line (file_bytes files input) (rose input) (Transforms (file_bytes files input) output answer) answer
+CommandMeans (Run file) files rose answer = Means run_load_limit run_load_limit_line (file_bytes files file) (rose file) (Runs (file_bytes files file) answer) answer
 
 -- what the words call for over these files; `rose` holds of a name whose count of failed loads rose
 abbrev pub IsMeant : List (List ℕ) → Files → (List ℕ → Type 0) → Answer → Type 0
-IsMeant words files rose answer =
-    MatchOption (transform_names words) (PrintsOnly Usage usage_line answer) (λ names. TransformMeans answer.status (file_bytes files names.0) names.1 (rose names.0) answer)
+IsMeant words files rose answer = MatchOption (asked words) (PrintsOnly Usage usage_line answer) (λ command. CommandMeans command files rose answer)
 
 -- ---- what an answer does to the files
 abbrev pub with_stored : Option Stored → Files → Files

@@ -3,10 +3,14 @@ use Rattle.std.specs.Prelude.{◌≡◌, ◌⊎◌, ◌<◌, ◌≤◌, ℕ, Lis
 use Rattle.std.specs.Io.KnownBytes.{Appends}
 use Rattle.qed_io.specs.Files.{Files, file_bytes}
 use Rattle.qed_io.specs.Sink.{AppendsPart}
+use Rattle.elf_types.specs.declared.file.ElfFile.{ElfFile}
+use Rattle.elf_types.specs.declared.error.ElfError.{ElfError}
 use Rattle.qed_model.specs.Plain.{IsFirst}
-use Rattle.qed_model.specs.Texts.{load_limit}
-use Rattle.qed_top.specs.Words.{transform_names}
-use Rattle.qed_top.specs.Answer.{IsMeant, FilesAfter, FilesInPart, StoreRose}
+use Rattle.qed_model.specs.ElfFile.{File}
+use Rattle.qed_model.specs.ElfRefusals.{IsRefused}
+use Rattle.qed_model.specs.Texts.{load_limit, run_load_limit}
+use Rattle.qed_top.specs.Words.{Asked, Transform, Run, asked, read_name, stored_name}
+use Rattle.qed_top.specs.Answer.{IsMeant, FilesAfter, FilesInPart, StoreRose, error_status, memory_bytes, memory_limit, outcome_status, run_of}
 use Rattle.qed_top.specs.declared.answer.Answer.{Answer}
 use Rattle.qed_top.specs.declared.status.Status.{Status}
 use Rattle.qed_top.specs.declared.status.Status.TheVariants.{Done, Usage, Refused, Limit, WriteFault, Memory}
@@ -67,21 +71,35 @@ abbrev pub Ends : Call → Status → Type 0
 Ends call status = OverFiles call.old (λ files. EndsOver call files status)
 
 -- ---- what can be expected
--- the status of `transform` over the bytes of IN
-pub data Decided (bytes : List ℕ) : Status → Type 0 where
-  too_long : load_limit < length bytes → Decided bytes Limit
-  refused : length bytes ≤ load_limit → (IsFirst bytes → ⊥) → Decided bytes Refused
-  done : length bytes ≤ load_limit → IsFirst bytes → Decided bytes Done
+-- the status of `transform` over bytes within the limit, by what is true of them
+pub data TransformDecides (bytes : List ℕ) (status : Status) : Type 0 where
+  refused : (IsFirst bytes → ⊥) → status ≡ Refused → TransformDecides bytes status
+  done : IsFirst bytes → status ≡ Done → TransformDecides bytes status
+
+-- the same of `run`
+pub data RunDecides (bytes : List ℕ) (status : Status) : Type 0 where
+  unread : (e : ElfError) → IsRefused bytes e → status ≡ error_status e → RunDecides bytes status
+  too_large : (f : ElfFile) → File bytes f → memory_limit < memory_bytes f.segments → status ≡ Limit → RunDecides bytes status
+  ran : (f : ElfFile) → File bytes f → memory_bytes f.segments ≤ memory_limit → status ≡ outcome_status (run_of f).state.outcome → RunDecides bytes status
+
+-- the status of a command over the bytes of its file, of which it takes so many
+pub data Decided (limit : ℕ) (bytes : List ℕ) (Within : Type 0) (status : Status) : Type 0 where
+  too_long : limit < length bytes → status ≡ Limit → Decided limit bytes Within status
+  within : length bytes ≤ limit → Within → Decided limit bytes Within status
+
+abbrev pub CommandDecides : Asked → Files → Status → Type 0
+CommandDecides (Transform input output) files status = Decided load_limit (file_bytes files input) (TransformDecides (file_bytes files input) status) status
+CommandDecides (Run file) files status = Decided run_load_limit (file_bytes files file) (RunDecides (file_bytes files file) status) status
 
 -- the status that the words and the files decide
 abbrev pub Decides : List (List ℕ) → Files → Status → Type 0
-Decides words files status = MatchOption (transform_names words) (status ≡ Usage) (λ names. Decided (file_bytes files names.0) status)
+Decides words files status = MatchOption (asked words) (status ≡ Usage) (λ command. CommandDecides command files status)
 
--- neither the count of the sink rose, nor that of loads of IN, nor that of stores of OUT
+-- neither the count of the sink rose, nor that of loads of the file that is read, nor that of stores of the one that is stored
 pub record NoFault (call : Call) : Type 0 where
   pub sink : call.sink_rose → ⊥
-  pub load : IfSome (transform_names call.words) (λ names. call.load_rose names.0 → ⊥)
-  pub store : IfSome (transform_names call.words) (λ names. call.store_rose names.1 → ⊥)
+  pub load : IfSome (asked call.words) (λ command. call.load_rose (read_name command) → ⊥)
+  pub store : IfSome (asked call.words) (λ command. IfSome (stored_name command) (λ name. call.store_rose name → ⊥))
 
 -- with no fault the status is the one that is decided, or there was no memory
 abbrev pub IsComplete : Call → Status → Type 0

@@ -12,8 +12,24 @@ abbrev pub is_name : List ℕ → Bool
 is_name [] = false
 is_name (first ∷ rest) = not (first == 45)
 
--- the names IN and OUT, where the words are `transform IN OUT`
-abbrev pub transform_names : List (List ℕ) → Option (List ℕ × List ℕ)
-transform_names (command ∷ input ∷ output ∷ []) =
-    if bytes_eq command (codes "transform") && is_name input && is_name output then Some (input, output) else None
-transform_names _ = None
+-- a command with the names of its files: IN and OUT, or FILE
+pub data Asked : Type 0 where
+  Transform : List ℕ → List ℕ → Asked
+  Run : List ℕ → Asked
+
+-- the command that the words ask for: `transform IN OUT` or `run FILE`
+abbrev pub asked : List (List ℕ) → Option Asked
+asked (command ∷ file ∷ []) = if bytes_eq command (codes "run") && is_name file then Some (Run file) else None
+asked (command ∷ input ∷ output ∷ []) =
+    if bytes_eq command (codes "transform") && is_name input && is_name output then Some (Transform input output) else None
+asked _ = None
+
+-- the name of the file that is read
+abbrev pub read_name : Asked → List ℕ
+read_name (Transform input output) = input
+read_name (Run file) = file
+
+-- the name of the file that is stored, where there is one
+abbrev pub stored_name : Asked → Option (List ℕ)
+stored_name (Transform input output) = Some output
+stored_name (Run file) = None

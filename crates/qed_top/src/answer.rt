@@ -1,14 +1,17 @@
 // Answers: what is stored and printed, and the status that goes with it.
-ghost use Rattle.std.specs.Prelude.{◌≡◌, ◌⊎◌, ◌≤◌, OnOk, IsErrOf};
+ghost use Rattle.std.specs.Prelude.{◌≡◌, ◌≢◌, ◌⊎◌, ◌≤◌, IfOk, OnOk, IsErrOf};
 ghost use Rattle.std.specs.Io.KnownBytes.{Appends};
 ghost use Rattle.qed_io.specs.Counts.{Rose, RoseAt, NoneFell};
 ghost use Rattle.qed_io.specs.Sink.{AppendsPart};
-ghost use Rattle.qed_top.specs.Answer.{FilesAfter, FilesInPart, StoreRose};
+ghost use Rattle.qed_model.specs.ErrorTexts.{error_line};
+ghost use Rattle.qed_top.specs.Answer.{error_status, PrintsOnly, FilesAfter, FilesInPart, StoreRose};
 
 use crate::fault::Fault;
 use crate::status::Status;
+use elf_types::{Bytes, ElfError};
 use qed_io::{Shelf, Sink, put_all};
-use elf_types::Bytes;
+use report::error_text;
+use std::alloc::{AllocError, Global};
 
 /// A file to be stored.
 #[derive(Debug, Drop)]
@@ -23,6 +26,44 @@ pub struct Answer<'a> {
     pub status: Status,
     pub text: Bytes,
     pub stored: Option<Stored<'a>>,
+}
+
+/// An answer that stores nothing.
+pub fn plain<'a>(status: Status, text: Bytes) -> Answer<'a>
+    ensures { PrintsOnly status text result }
+{
+    Answer {
+        status,
+        text,
+        stored: None,
+    }
+}
+
+/// An answer that stores nothing, with a line that is known.
+pub fn line<'a>(alloc: Global, status: Status, text: &[u8]) -> Result<Answer<'a>, AllocError>
+    ensures { IfOk result (PrintsOnly status text.now) }
+{
+    let text = Bytes::copied(alloc, text)?;
+    Ok(plain(status, text))
+}
+
+/// The status that goes with a file that is not read.
+fn status_of(error: ElfError) -> Status
+    ensures { result ≡ error_status error }
+{
+    match error {
+        ElfError::TooManySections(_) | ElfError::TooManyBytes(_) => Status::Limit,
+        _ => Status::Refused,
+    }
+}
+
+/// The answer for a file that is not read. Want of memory is answered as such.
+pub fn unread<'a>(alloc: Global, error: ElfError) -> Result<Answer<'a>, AllocError>
+    ensures answer { IfOk result (PrintsOnly (error_status error) (error_line error)) }
+    ensures memory { OnOk result (error ≢ ElfError.Memory) }
+{
+    let text = error_text(alloc, error)?;
+    Ok(plain(status_of(error), text))
 }
 
 /// Stores the file of an answer, if it has one.

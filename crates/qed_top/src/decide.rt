@@ -1,40 +1,31 @@
 // What the words and the files call for.
-ghost use Rattle.std.specs.Prelude.{◌≡◌, ◌≤◌, None, IfOk, length};
+ghost use Rattle.std.specs.Prelude.{◌≡◌, IfOk};
 ghost use Rattle.qed_io.specs.Counts.{RoseAt, NoneFell};
-ghost use Rattle.qed_io.specs.Files.{file_bytes};
-ghost use Rattle.qed_model.specs.Texts.{load_limit};
-ghost use Rattle.qed_top.specs.Words.{texts};
-ghost use Rattle.qed_top.specs.Answer.{PrintsOnly, Delivers, IsMeant, TransformMeans, RefusesOrDoes, done_line};
+ghost use Rattle.qed_top.specs.Words.{Transform, Run, texts};
+ghost use Rattle.qed_top.specs.Answer.{CommandMeans, Delivers, IsMeant, Transforms, done_line};
 ghost use Rattle.qed_top.specs.Ends.{OverFiles};
 
-use crate::answer::{Answer, Stored};
+use crate::answer::{Answer, Stored, line};
+use crate::run::answer_run;
 use crate::status::Status;
-use crate::text::{Bounds, Sizes, transform_text};
-use crate::words::read_transform;
-use qed_io::{LoadError, Shelf};
+use crate::words::{Command, read_command};
 use elf_types::Bytes;
+use qed_io::{LoadError, Shelf};
+use report::{Bounds, Sizes, transform_text};
 use std::alloc::{AllocError, Global};
 use transform::{HALF, TransformError, Transformed, transform};
 
-/// The greatest size of a loaded file, in bytes.
+/// The greatest size of a file to be transformed, in bytes.
 const LOAD_LIMIT: u64 = 67_108_864;
+
+/// The greatest size of a file to be run, in bytes.
+const RUN_LOAD_LIMIT: u64 = 536_870_912;
 
 /// The greatest number of instructions in a piece.
 const INST_MAX: u64 = 16;
 
 /// The number of data words in a visit.
 const ROUND: u64 = 1;
-
-/// An answer that stores nothing.
-fn plain<'a>(alloc: Global, status: Status, text: &[u8]) -> Result<Answer<'a>, AllocError>
-    ensures { IfOk result (PrintsOnly status text.now) }
-{
-    Ok(Answer {
-        status,
-        text: Bytes::copied(alloc, text)?,
-        stored: None,
-    })
-}
 
 /// The line about an output with this much new code.
 fn done_text(alloc: Global, code: u64) -> Result<Bytes, AllocError>
@@ -79,14 +70,13 @@ fn answer_transform<'a>(
     bytes: &[u8],
     output: &'a str,
 ) -> Result<Answer<'a>, AllocError>
-    requires { length bytes.now ≤ load_limit }
-    ensures { IfOk result (λ answer. RefusesOrDoes bytes.now output.now answer) }
+    ensures { IfOk result (λ answer. Transforms bytes.now output.now answer) }
 {
     let answer = match transform(alloc, bytes) {
         Ok(made) => answer_done(alloc, made, output)?,
-        Err(TransformError::Magic) => plain(alloc, Status::Refused, b"refused E1: magic\n")?,
+        Err(TransformError::Magic) => line(alloc, Status::Refused, b"refused E1: magic\n")?,
         Err(TransformError::NotBuilt) => {
-            plain(alloc, Status::Refused, b"refused E0: not built yet\n")?
+            line(alloc, Status::Refused, b"refused E0: not built yet\n")?
         }
         Err(TransformError::Memory) => return Err(AllocError),
     };
@@ -101,7 +91,7 @@ fn decide_transform<'a, S: Shelf>(
     shelf: &mut S,
 ) -> Result<Answer<'a>, AllocError>
     ensures meant { IfOk result (λ answer. OverFiles (S.files shelf.old) (λ files.
-        TransformMeans answer.status (file_bytes files input.now) output.now (RoseAt (S.load_faults shelf.old) (S.load_faults shelf.new) input.now) answer)) }
+        CommandMeans (Transform input.now output.now) files (RoseAt (S.load_faults shelf.old) (S.load_faults shelf.new)) answer)) }
     ensures files { S.files shelf.new ≡ S.files shelf.old }
     ensures stores { NoneFell (S.store_faults shelf.old) (S.store_faults shelf.new) }
 {
@@ -111,11 +101,39 @@ fn decide_transform<'a, S: Shelf>(
             Ok(answer)
         }
         Err(LoadError::Failed) => {
-            let answer = plain(alloc, Status::ReadFault, b"read fault\n")?;
+            let answer = line(alloc, Status::ReadFault, b"read fault\n")?;
             Ok(answer)
         }
         Err(LoadError::TooLong) => {
-            let answer = plain(alloc, Status::Limit, b"limit L1: over 67108864\n")?;
+            let answer = line(alloc, Status::Limit, b"limit L1: over 67108864\n")?;
+            Ok(answer)
+        }
+        Err(LoadError::Memory) => Err(AllocError),
+    }
+}
+
+/// What `run` answers over the files.
+fn decide_run<'a, S: Shelf>(
+    alloc: Global,
+    file: &str,
+    shelf: &mut S,
+) -> Result<Answer<'a>, AllocError>
+    ensures meant { IfOk result (λ answer. OverFiles (S.files shelf.old) (λ files.
+        CommandMeans (Run file.now) files (RoseAt (S.load_faults shelf.old) (S.load_faults shelf.new)) answer)) }
+    ensures files { S.files shelf.new ≡ S.files shelf.old }
+    ensures stores { NoneFell (S.store_faults shelf.old) (S.store_faults shelf.new) }
+{
+    match shelf.load(alloc, file, RUN_LOAD_LIMIT) {
+        Ok(bytes) => {
+            let answer = answer_run(alloc, bytes.as_slice())?;
+            Ok(answer)
+        }
+        Err(LoadError::Failed) => {
+            let answer = line(alloc, Status::ReadFault, b"read fault\n")?;
+            Ok(answer)
+        }
+        Err(LoadError::TooLong) => {
+            let answer = line(alloc, Status::Limit, b"limit L1: over 536870912\n")?;
             Ok(answer)
         }
         Err(LoadError::Memory) => Err(AllocError),
@@ -132,13 +150,17 @@ pub fn decide<'a, S: Shelf>(
     ensures files { S.files shelf.new ≡ S.files shelf.old }
     ensures stores { NoneFell (S.store_faults shelf.old) (S.store_faults shelf.new) }
 {
-    match read_transform(words) {
-        Some(names) => {
-            let answer = decide_transform(alloc, names.input, names.output, shelf)?;
+    match read_command(words) {
+        Some(Command::Transform { input, output }) => {
+            let answer = decide_transform(alloc, input, output, shelf)?;
+            Ok(answer)
+        }
+        Some(Command::Run { file }) => {
+            let answer = decide_run(alloc, file, shelf)?;
             Ok(answer)
         }
         None => {
-            let answer = plain(alloc, Status::Usage, b"usage: not built yet\n")?;
+            let answer = line(alloc, Status::Usage, b"usage: not built yet\n")?;
             Ok(answer)
         }
     }

@@ -5,8 +5,8 @@
 mod answer;
 mod decide;
 mod fault;
+mod run;
 mod status;
-mod text;
 mod top;
 mod words;
 

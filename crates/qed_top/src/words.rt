@@ -1,12 +1,15 @@
 // The words of the command line.
 ghost use Rattle.std.specs.Prelude.{◌≡◌, None, Some, MatchOption};
-ghost use Rattle.qed_top.specs.Words.{is_name as is_name_of, texts, transform_names};
+ghost use Rattle.qed_top.specs.Words.{is_name as is_name_of, texts, asked};
+ghost use Rattle.qed_top.specs.Commands.{asked_by};
 
-/// The files of `transform IN OUT`.
+/// A command with the names of its files.
 #[derive(Clone, Copy, Debug)]
-pub struct TransformNames<'a> {
-    pub input: &'a str,
-    pub output: &'a str,
+pub enum Command<'a> {
+    /// `transform IN OUT`
+    Transform { input: &'a str, output: &'a str },
+    /// `run FILE`
+    Run { file: &'a str },
 }
 
 /// Whether a word is a file's name.
@@ -19,20 +22,23 @@ fn is_name(word: &str) -> bool
     }
 }
 
-/// The files of `transform IN OUT`, None where the words are others.
-pub fn read_transform(words: &[String]) -> Option<TransformNames<'_>>
-    ensures { MatchOption result (transform_names (texts words.now) ≡ None) (λ names. transform_names (texts words.now) ≡ Some (names.input.now, names.output.now)) }
+/// The command that the words ask for, None where they ask for none.
+pub fn read_command(words: &[String]) -> Option<Command<'_>>
+    ensures { MatchOption result (asked (texts words.now) ≡ None) (λ command. asked (texts words.now) ≡ Some (asked_by command)) }
 {
     match words {
+        [command, file] => {
+            let file = file.as_str();
+            if command.as_str() == "run" && is_name(file) {
+                Some(Command::Run { file })
+            } else {
+                None
+            }
+        }
         [command, input, output] => {
-            if command.as_str() == "transform"
-                && is_name(input.as_str())
-                && is_name(output.as_str())
-            {
-                Some(TransformNames {
-                    input: input.as_str(),
-                    output: output.as_str(),
-                })
+            let (input, output) = (input.as_str(), output.as_str());
+            if command.as_str() == "transform" && is_name(input) && is_name(output) {
+                Some(Command::Transform { input, output })
             } else {
                 None
             }

@@ -39,6 +39,3 @@ pub fn taken(kind: Kind, a: u64, b: u64) -> bool
 {
     rows!(branch => by_row kind a b false)
 }
-
-#[cfg(test)]
-mod tests;

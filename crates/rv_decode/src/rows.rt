@@ -1,5 +1,5 @@
 // The instruction of a word among the rows of each group.
-ghost use Rattle.std.specs.Prelude.{◌≡◌};
+ghost use Rattle.std.specs.Prelude.{◌≡◌, ◌++◌};
 ghost use Rattle.qed_model.specs.Table.{scan, decode_of, system_kinds, upper_kinds, branch_kinds, load_kinds, store_kinds, immediate_kinds, shift_kinds, register_kinds, word_kinds, multiply_kinds};
 
 use crate::format::{
@@ -91,32 +91,20 @@ pub fn multiply_row(word: u32) -> Option<Ins>
     rows!(multiply => first_row word)
 }
 
-/// The instruction of a word among all rows.
-#[tactic(auto, unfolding(qed_model::specs::Table::decode_of))]
-pub fn any_row(word: u32) -> Option<Ins>
-    ensures { result ≡ decode_of word }
+/// The instruction of a word among computations with an immediate, shifts among them.
+fn with_immediate(word: u32) -> Option<Ins>
+    ensures { result ≡ scan (immediate_kinds ++ shift_kinds) word }
 {
-    if let Some(ins) = system_row(word) {
-        return Some(ins);
-    }
-    if let Some(ins) = upper_row(word) {
-        return Some(ins);
-    }
-    if let Some(ins) = branch_row(word) {
-        return Some(ins);
-    }
-    if let Some(ins) = load_row(word) {
-        return Some(ins);
-    }
-    if let Some(ins) = store_row(word) {
-        return Some(ins);
-    }
     if let Some(ins) = immediate_row(word) {
         return Some(ins);
     }
-    if let Some(ins) = shift_row(word) {
-        return Some(ins);
-    }
+    shift_row(word)
+}
+
+/// The instruction of a word among computations with two registers, the M extension among them.
+fn with_registers(word: u32) -> Option<Ins>
+    ensures { result ≡ scan (register_kinds ++ (word_kinds ++ multiply_kinds)) word }
+{
     if let Some(ins) = register_row(word) {
         return Some(ins);
     }
@@ -124,4 +112,21 @@ pub fn any_row(word: u32) -> Option<Ins>
         return Some(ins);
     }
     multiply_row(word)
+}
+
+/// The instruction of a word among all rows. The opcode, which stands in the low seven bits, says
+/// which groups can have it ("RV32/64G Instruction Set Listings" of the manual).
+#[tactic(auto, using(crate::proofs::Opcodes::by_opcode))]
+pub fn any_row(word: u32) -> Option<Ins>
+    ensures { result ≡ decode_of word }
+{
+    match word & 0x7f {
+        0x03 => load_row(word),
+        0x0f | 0x17 | 0x37 | 0x67 | 0x6f => upper_row(word),
+        0x13 | 0x1b => with_immediate(word),
+        0x23 => store_row(word),
+        0x33 | 0x3b => with_registers(word),
+        0x63 => branch_row(word),
+        _ => system_row(word),
+    }
 }

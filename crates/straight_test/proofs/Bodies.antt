@@ -1,5 +1,5 @@
 -- The bytes, the words and the instructions of straight code.
-use Rattle.std.proofs.Common.{◌≡◌, ℕ, suc, zero, ◌+◌, ◌-◌, ◌*◌, ◌%◌, ◌<◌, ◌≤◌, true, Some, List, [], ◌∷◌, ◌++◌, map, take, drop, length, get_or, All, refl, sym, ap, ◌∙◌, subst, ⊎_elim, ◌⊎◌, inl, inr, arith, length-append, length-take, length-drop, get_or-take, get_or-drop}
+use Rattle.std.proofs.Common.{◌≡◌, ℕ, suc, zero, ◌+◌, ◌-◌, ◌*◌, ◌%◌, ◌<◌, ◌≤◌, true, Some, List, [], ◌∷◌, ◌++◌, map, take, drop, length, get_or, All, refl, sym, ap, ◌∙◌, subst, ⊎_elim, arith, length-append, length-take, length-drop, get_or-take, get_or-drop}
 use Rattle.std.specs.Prelude.{replicate}
 use Rattle.std.proofs.lemmas.List.{map-append, take_more, take_all, length-map, length-replicate, get_or_append_left, get_or-append_right, get_or-replicate, get_or_past}
 use Rattle.std.proofs.lemmas.Bool.{cases_lt}
@@ -26,8 +26,8 @@ loaded_more l a k lt =
     let room : k < length (drop (a - l.address) (l.bytes ++ zeros)) = omega (arith, lt, long, length-drop (a - l.address) (l.bytes ++ zeros)) in
     let front = λ (h : a - l.address + k < length l.bytes). get_or_append_left l.bytes zeros 0 (a - l.address + k) h in
     let behind = λ (h : length l.bytes ≤ a - l.address + k).
-        let in_zeros : a - l.address + k - length l.bytes < l.size - length l.bytes = omega (arith, h, lt) in
-        get_or-append_right l.bytes zeros (length l.bytes) (a - l.address + k) 0 refl h ∙ get_or-replicate (l.size - length l.bytes) (a - l.address + k - length l.bytes) 0 0 in_zeros ∙ sym (get_or_past l.bytes (a - l.address + k) 0 h) in
+    let in_zeros : a - l.address + k - length l.bytes < l.size - length l.bytes = omega (arith, h, lt) in
+    get_or-append_right l.bytes zeros (length l.bytes) (a - l.address + k) 0 refl h ∙ get_or-replicate (l.size - length l.bytes) (a - l.address + k - length l.bytes) 0 0 in_zeros ∙ sym (get_or_past l.bytes (a - l.address + k) 0 h) in
     let same : get_or (l.bytes ++ zeros) (a - l.address + k) 0 ≡ get_or l.bytes (a - l.address + k) 0 = ⊎_elim front behind (cases_lt (a - l.address + k) (length l.bytes)) in
     take_more (drop (a - l.address) (l.bytes ++ zeros)) k 0 room
     ∙ ap (λ b. loaded_bytes l a k ++ b ∷ []) (get_or-drop (a - l.address) (l.bytes ++ zeros) k 0 ∙ same)

@@ -1,8 +1,8 @@
 -- What a straight test gives to the proof that its values are kept.
-use Rattle.std.proofs.Common.{◌≡◌, ℕ, suc, zero, ◌+◌, ◌*◌, ◌^◌, ◌<◌, ◌≤◌, Bool, true, false, cond, Option, Some, None, List, [], ◌∷◌, ◌++◌, map, drop, length, All, refl, sym, ap, ◌∙◌, subst, ⊎_elim, inl, inr, ◌⊎◌, arith}
+use Rattle.std.proofs.Common.{◌≡◌, ℕ, suc, zero, ◌+◌, ◌*◌, ◌≤◌, Bool, true, false, cond, Option, Some, None, List, [], ◌∷◌, ◌++◌, map, drop, length, All, refl, ap, ◌∙◌, subst, ⊎_elim, arith}
 use Rattle.std.specs.Prelude.{◌==◌, ◌&&◌, nat_lt}
 use Rattle.std.specs.Option.{option_map, option_or}
-use Rattle.std.proofs.lemmas.Bool.{ltb-false, cases_Bool}
+use Rattle.std.proofs.lemmas.Bool.{ltb-false}
 use Rattle.elf_types.specs.declared.file.Segment.{Segment}
 use Rattle.elf_types.specs.declared.file.ElfFile.{ElfFile}
 use Rattle.rv_isa.specs.declared.ins.Ins.{Ins}
@@ -24,7 +24,7 @@ use Rattle.weave_core.proofs.SegmentKept.{Low, AllLow}
 use Rattle.weave_core.proofs.SegmentPlaces.{IsSmallCode}
 use Rattle.weave_core.proofs.Straight.{Computes, AllCompute}
 use Rattle.straight_test.proofs.Image.{loaded_image, cells_of-image}
-use Rattle.straight_test.proofs.Places.{IsCodePlace, image_some}
+use Rattle.straight_test.proofs.Places.{image_some}
 use Rattle.straight_test.proofs.Bodies.{addi_rs2}
 use Rattle.straight_test.proofs.Parts.{made_place, size_is, straight_body}
 

@@ -1,9 +1,9 @@
-use Rattle.std.proofs.Common.{◌≡◌, ◌+◌, ◌*◌, ◌∙◌, ℕ, List, ap, arith, length, map}
+use Rattle.std.proofs.Common.{◌≡◌, ◌+◌, ◌*◌, ◌∙◌, List, ap, arith, length, map}
 use Rattle.elf_types.specs.declared.file.Segment.{Segment}
 use Rattle.elf_types.specs.declared.file.Symbol.{Symbol}
 use Rattle.elf_types.specs.declared.output.OutSection.{OutSection}
 use Rattle.qed_model.specs.Written.{end_from}
-use Rattle.qed_model.specs.Layout.{own_place, symbols_place, strings_place, names_place, headers_place, start_of, aligned, own_bytes, names_bytes, symbol_names, string_table, section_names}
+use Rattle.qed_model.specs.Layout.{own_place, symbols_place, strings_place, names_place, headers_place, aligned, own_bytes, names_bytes, symbol_names, string_table, section_names}
 use Rattle.elf_write.proofs.Sizes.{length-section_names}
 use Rattle.elf_write.proofs.layout.places_of.Goals as goal
 
@@ -22,7 +22,7 @@ returns-clause-places c =
     let own_end : c.end_from-own.result + c.own_size.result ≡ own_place f + length (own_bytes f.sections) = omega (arith, owned) in
     let table : c.aligned-table.result ≡ symbols_place f = c.aligned-table.ensures.value ∙ ap aligned own_end in
     let names_end : c.aligned-table.result + 24 * (1 + length c.as_slice-symbols.result.now) + 1 + c.names_size.result + 1 + c.names_size-2.result + 26
-        ≡ names_place f + length (string_table (section_names f.sections)) = omega (arith, long, symbols, strings, named) in
+    ≡ names_place f + length (string_table (section_names f.sections)) = omega (arith, long, symbols, strings, named) in
     record {
       start = omega (arith, segments);
       own = own;

@@ -1,6 +1,6 @@
 use Rattle.std.proofs.Common.{◌≡◌, ◌+◌, ◌*◌, ◌-◌, ◌∙◌, ℕ, refl, ap, length, map, arith}
 use Rattle.elf_types.specs.declared.records.SectionHeader.{SectionHeader}
-use Rattle.qed_model.specs.Layout.{table_headers, table_header, string_table, symbol_names, section_names}
+use Rattle.qed_model.specs.Layout.{table_headers, string_table, symbol_names, section_names}
 use Rattle.elf_write.proofs.Sizes.{laid_out, length-section_names}
 use Rattle.elf_write.proofs.Joined.{joined_headers, same_table}
 use Rattle.elf_write.proofs.parts.push_table_headers.Goals as goal
@@ -44,7 +44,7 @@ returns c =
     let last : c.args.places.now.names_end - c.args.places.now.names ≡ length (string_table (section_names f.sections)) = omega arith in
     let count : length c.as_slice.result.now + 2 ≡ length f.sections + 2 = omega (arith, ap length c.as_slice.ensures) in
     joined_headers c.args.out.now.items _ _ _ _ _ _ _ _ _ c.in_ok-push_section_header.ensures c.in_ok-push_section_header-2.ensures c.in_ok-push_section_header-3.ensures
-      (ap (λ (h : SectionHeader). linked h (length c.as_slice.result.now + 2) c.first_global.result) c.table_header-symtab.ensures
-        ∙ same_table _ _ 2 _ _ _ _ _ _ _ _ 24 name c.requires.places.symbols symbols count (rw c.as_slice-2.ensures at c.first_global.ensures.value))
-      (c.table_header.ensures ∙ same_table _ _ 3 _ _ _ _ 0 0 0 0 0 (ap (λ n. n + 8) name) c.requires.places.strings strings refl refl)
-      (c.table_header-2.ensures ∙ same_table _ _ 3 _ _ _ _ 0 0 0 0 0 (ap (λ n. n + 16) name) c.requires.places.names last refl refl)
+    (ap (λ (h : SectionHeader). linked h (length c.as_slice.result.now + 2) c.first_global.result) c.table_header-symtab.ensures
+    ∙ same_table _ _ 2 _ _ _ _ _ _ _ _ 24 name c.requires.places.symbols symbols count (rw c.as_slice-2.ensures at c.first_global.ensures.value))
+    (c.table_header.ensures ∙ same_table _ _ 3 _ _ _ _ 0 0 0 0 0 (ap (λ n. n + 8) name) c.requires.places.strings strings refl refl)
+    (c.table_header-2.ensures ∙ same_table _ _ 3 _ _ _ _ 0 0 0 0 0 (ap (λ n. n + 16) name) c.requires.places.names last refl refl)

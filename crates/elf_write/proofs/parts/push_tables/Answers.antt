@@ -1,4 +1,4 @@
-use Rattle.std.proofs.Common.{◌≡◌, ◌++◌, ◌-◌, ◌+◌, ◌∙◌, ℕ, List, ap, sym, length, replicate, append_assoc}
+use Rattle.std.proofs.Common.{◌≡◌, ◌++◌, ◌-◌, ◌+◌, ◌∙◌, ℕ, List, length, replicate, append_assoc}
 use Rattle.qed_model.specs.Layout.{tables_bytes, own_bytes, symbols_bytes, entries_of, string_table, symbol_names, section_names, headers_bytes, headers_of, own_place, symbols_place, names_place, headers_place}
 use Rattle.elf_write.proofs.Joined.{joined_four}
 use Rattle.elf_write.proofs.parts.push_tables.Goals as goal
@@ -21,5 +21,5 @@ returns-clause-bytes c =
     let zeros : c.push_zeros.new.file.items ≡ c.push_names.new.out.items ++ behind =
     rw (c.requires.places.headers, c.requires.places.names_end) at c.in_ok-push_zeros.ensures in
     joined_four c.args.out.now.items _ _ _ _ (own ++ (before ++ entries)) (strings ++ names) behind (headers_bytes (headers_of f))
-      c.in_ok-push_own_and_symbols.ensures.bytes c.in_ok-push_names.ensures zeros c.in_ok-push_headers.ensures.bytes
+    c.in_ok-push_own_and_symbols.ensures.bytes c.in_ok-push_names.ensures zeros c.in_ok-push_headers.ensures.bytes
     ∙ split c.args.out.now.items own before entries strings names behind (headers_bytes (headers_of f))

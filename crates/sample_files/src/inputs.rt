@@ -1,8 +1,7 @@
-//! Inputs of one segment, which most cases have.
+// Files of one segment, which most cases have.
 
-use crate::elf::{Elf, Part, READ_EXECUTE};
-use std::alloc::Global;
-use std::test::Fail;
+use crate::elf::{Elf, Part, READ_EXECUTE, Tables};
+use std::alloc::{AllocError, Global};
 
 /// The address of the code, and of its first instruction.
 pub const ENTRY: u64 = 0x10000;
@@ -13,8 +12,8 @@ pub const CODE_OFFSET: u64 = 0x78;
 /// `ecall`, with which a good input ends.
 pub const ECALL: u32 = 0x0000_0073;
 
-/// The file with this code as its only segment.
-pub(crate) fn first_file(alloc: Global, words: &[u32]) -> Result<Vec<u8>, Fail> {
+/// The file with this code as its only segment, and without sections.
+pub fn first_file(alloc: Global, words: &[u32]) -> Result<Vec<u8>, AllocError> {
     Elf {
         entry: ENTRY,
         flags: 0,
@@ -24,6 +23,8 @@ pub(crate) fn first_file(alloc: Global, words: &[u32]) -> Result<Vec<u8>, Fail> 
             offset: CODE_OFFSET,
             words,
         }],
+        chunks: &[],
+        tables: Tables::NONE,
     }
     .bytes(alloc)
 }

@@ -1,0 +1,9 @@
+//! Tests of the writer of ELF files.
+#![tactic(auto)]
+
+#[cfg(test)]
+mod example;
+#[cfg(test)]
+mod expected;
+#[cfg(test)]
+mod writing;

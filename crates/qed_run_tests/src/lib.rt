@@ -1,0 +1,11 @@
+//! Tests of `run` as one call, over files and a sink in memory.
+#![tactic(auto)]
+
+#[cfg(test)]
+mod command;
+#[cfg(test)]
+mod expected;
+#[cfg(test)]
+mod refusals;
+#[cfg(test)]
+mod runs;

@@ -1,0 +1,7 @@
+use Rattle.std.proofs.Common.{◌≡◌, ◌-◌, ◌++◌}
+use Rattle.qed_model.specs.RunTexts.{outcome_line, register_lines}
+use Rattle.report.proofs.run.run_text.Given as goal
+
+-- the lines so far
+abbrev pub invariant-loop-number : goal.invariant-loop-number
+invariant-loop-number l = l.text.items ≡ outcome_line l.machine ++ register_lines l.machine.state (l.number - 1)

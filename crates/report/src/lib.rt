@@ -1,0 +1,11 @@
+//! The printed texts, each exactly as the definitions have it.
+#![tactic(auto)]
+
+mod errors;
+mod hex;
+mod run;
+mod transform;
+
+pub use errors::{error_text, memory_limit_text};
+pub use run::run_text;
+pub use transform::{Bounds, Sizes, transform_text};

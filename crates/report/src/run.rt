@@ -1,0 +1,94 @@
+// What is printed about a run.
+ghost use Rattle.std.specs.Prelude.{◌≡◌, ◌<◌, Some, IfOk, string_bytes};
+ghost use Rattle.qed_model.specs.RunTexts.{cause_text, outcome_text, outcome_line, register_line, run_lines};
+
+use crate::hex::{Hex, HexWord};
+use elf_types::Bytes;
+use qed_model::{Cause, Outcome};
+use rv_isa::Reg;
+use rv_step::Machine;
+use std::alloc::{AllocError, Global};
+use std::fmt;
+
+/// Why a step trapped, as `load 0x0000000000000000`.
+#[derive(Clone, Copy, Debug)]
+struct CauseText(Cause);
+
+impl fmt::Display for CauseText {
+    ghost output = { λ c. Some (cause_text c.0) };
+
+    fn fmt<W: fmt::Write>(&self, f: &mut fmt::Formatter<W>) -> fmt::Result {
+        match self.0 {
+            Cause::Fetch => write!(f, "fetch"),
+            Cause::Word(word) => {
+                let word = HexWord(word);
+                write!(f, "word {word}")
+            }
+            Cause::Load(address) => {
+                let address = Hex(address);
+                write!(f, "load {address}")
+            }
+            Cause::Store(address) => {
+                let address = Hex(address);
+                write!(f, "store {address}")
+            }
+            Cause::Target(address) => {
+                let address = Hex(address);
+                write!(f, "target {address}")
+            }
+        }
+    }
+}
+
+/// How a run stands.
+#[derive(Clone, Copy, Debug)]
+struct OutcomeText(Outcome);
+
+impl fmt::Display for OutcomeText {
+    ghost output = { λ o. Some (outcome_text o.0) };
+
+    fn fmt<W: fmt::Write>(&self, f: &mut fmt::Formatter<W>) -> fmt::Result {
+        match self.0 {
+            Outcome::Going => write!(f, "going"),
+            Outcome::Ended => write!(f, "ended"),
+            Outcome::Fired => write!(f, "fired"),
+            Outcome::Trapped(cause, _) => {
+                let cause = CauseText(cause);
+                write!(f, "trapped {cause}")
+            }
+        }
+    }
+}
+
+/// The first line about a run.
+fn outcome_text(alloc: Global, machine: &Machine) -> Result<String, AllocError>
+    ensures { IfOk result (λ text. string_bytes text ≡ outcome_line machine.now) }
+{
+    let outcome = OutcomeText(machine.outcome());
+    let steps = machine.steps();
+    let pc = Hex(machine.pc());
+    format!(in alloc; "{outcome} after {steps} steps at {pc}\n")
+}
+
+/// The line about a register.
+fn register_text(alloc: Global, machine: &Machine, number: u8) -> Result<String, AllocError>
+    requires { number < 32 }
+    ensures { IfOk result (λ text. string_bytes text ≡ register_line machine.now.state number) }
+{
+    let register = Reg::new(number).unwrap();
+    let value = Hex(machine.reg(register));
+    format!(in alloc; "x{number} {value}\n")
+}
+
+/// What is printed about a run: how it stands, after how many steps, at which pc, and then the registers x1 to x31,
+/// a line each.
+pub fn run_text(alloc: Global, machine: &Machine) -> Result<Bytes, AllocError>
+    ensures { IfOk result (λ text. text ≡ run_lines machine.now) }
+{
+    let mut text = outcome_text(alloc, machine)?.into_bytes();
+    for number in 1..32 {
+        let line = register_text(alloc, machine, number)?;
+        text.extend_from_slice(line.as_bytes())?;
+    }
+    Ok(Bytes::of(text))
+}

@@ -1,0 +1,170 @@
+// ELF64 files for RISC-V, from a description of what differs between them.
+
+use std::alloc::{AllocError, Global};
+
+/// The permissions of a segment.
+pub const READ: u32 = 4;
+
+pub const READ_EXECUTE: u32 = 5;
+
+pub const READ_WRITE: u32 = 6;
+
+/// A PT_LOAD segment with all its bytes in the file.
+#[derive(Clone, Copy, Debug)]
+pub struct Part<'a> {
+    pub flags: u32,
+    pub address: u64,
+    /// Where its bytes begin in the file.
+    pub offset: u64,
+    pub words: &'a [u32],
+}
+
+/// Bytes that stand somewhere in the file.
+#[derive(Clone, Copy, Debug)]
+pub struct Chunk {
+    pub offset: u64,
+    pub bytes: &'static [u8],
+}
+
+/// A section header (ELF gABI), with all its fields.
+#[derive(Clone, Copy, Debug)]
+pub struct SectionRow {
+    pub name: u32,
+    pub kind: u32,
+    pub flags: u64,
+    pub address: u64,
+    pub offset: u64,
+    pub size: u64,
+    pub link: u32,
+    pub info: u32,
+    pub align: u64,
+    pub entry_size: u64,
+}
+
+/// The section headers, where they begin, and the number of the section with their names.
+#[derive(Clone, Copy, Debug)]
+pub struct Tables {
+    pub sections: &'static [SectionRow],
+    pub offset: u64,
+    pub names: u16,
+}
+
+impl Tables {
+    /// No section header.
+    pub const NONE: Tables = Tables {
+        sections: &[],
+        offset: 0,
+        names: 0,
+    };
+}
+
+/// A file: segments, then other bytes, then section headers, each behind the ones before it.
+#[derive(Clone, Copy, Debug)]
+pub struct Elf<'a> {
+    pub entry: u64,
+    pub flags: u32,
+    pub parts: &'a [Part<'a>],
+    pub chunks: &'static [Chunk],
+    pub tables: Tables,
+}
+
+fn push_halves(file: &mut Vec<u8>, halves: &[u16]) -> Result<(), AllocError> {
+    for half in halves {
+        file.extend_from_slice(&half.to_le_bytes())?;
+    }
+    Ok(())
+}
+
+fn push_words(file: &mut Vec<u8>, words: &[u32]) -> Result<(), AllocError> {
+    for word in words {
+        file.extend_from_slice(&word.to_le_bytes())?;
+    }
+    Ok(())
+}
+
+fn push_longs(file: &mut Vec<u8>, longs: &[u64]) -> Result<(), AllocError> {
+    for long in longs {
+        file.extend_from_slice(&long.to_le_bytes())?;
+    }
+    Ok(())
+}
+
+/// The size of some words, in bytes.
+fn size_of_words(words: &[u32]) -> u64 {
+    4 * words.len() as u64
+}
+
+impl Part<'_> {
+    fn push_header(&self, file: &mut Vec<u8>) -> Result<(), AllocError> {
+        let size = size_of_words(self.words);
+        push_words(file, &[1, self.flags])?;
+        push_longs(file, &[self.offset, self.address, self.address])?;
+        push_longs(file, &[size, size, 4096])
+    }
+}
+
+impl SectionRow {
+    fn push(&self, file: &mut Vec<u8>) -> Result<(), AllocError> {
+        push_words(file, &[self.name, self.kind])?;
+        push_longs(file, &[self.flags, self.address, self.offset, self.size])?;
+        push_words(file, &[self.link, self.info])?;
+        push_longs(file, &[self.align, self.entry_size])
+    }
+}
+
+/// The low 16 bits of a number.
+fn half(x: usize) -> u16 {
+    (x & 0xffff) as u16
+}
+
+impl Elf<'_> {
+    fn push_header(&self, file: &mut Vec<u8>) -> Result<(), AllocError> {
+        file.extend_from_slice(b"\x7fELF")?;
+        // 64 bits, the low byte first, version 1, and no ABI of an operating system.
+        file.extend_from_slice(&[2, 1, 1, 0, 0, 0, 0, 0, 0, 0, 0, 0])?;
+        // An executable for RISC-V, version 1.
+        push_halves(file, &[2, 243])?;
+        push_words(file, &[1])?;
+        // The program headers stand right behind this header.
+        push_longs(file, &[self.entry, 64, self.tables.offset])?;
+        push_words(file, &[self.flags])?;
+        let sections = half(self.tables.sections.len());
+        let section_size = if sections == 0 { 0 } else { 64 };
+        push_halves(file, &[64, 56, half(self.parts.len())])?;
+        push_halves(file, &[section_size, sections, self.tables.names])
+    }
+
+    fn push_parts(&self, file: &mut Vec<u8>) -> Result<(), AllocError> {
+        for part in self.parts {
+            file.resize(part.offset as usize, 0)?;
+            push_words(file, part.words)?;
+        }
+        Ok(())
+    }
+
+    fn push_chunks(&self, file: &mut Vec<u8>) -> Result<(), AllocError> {
+        for chunk in self.chunks {
+            file.resize(chunk.offset as usize, 0)?;
+            file.extend_from_slice(chunk.bytes)?;
+        }
+        Ok(())
+    }
+
+    /// The bytes of the file, with zeros between its parts.
+    pub fn bytes(&self, alloc: Global) -> Result<Vec<u8>, AllocError> {
+        let mut file = Vec::new(alloc);
+        self.push_header(&mut file)?;
+        for part in self.parts {
+            part.push_header(&mut file)?;
+        }
+        self.push_parts(&mut file)?;
+        self.push_chunks(&mut file)?;
+        if self.tables.offset > 0 {
+            file.resize(self.tables.offset as usize, 0)?;
+        }
+        for section in self.tables.sections {
+            section.push(&mut file)?;
+        }
+        Ok(file)
+    }
+}
