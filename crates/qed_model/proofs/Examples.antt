@@ -6,7 +6,6 @@ use Rattle.rv_isa.specs.declared.kind.Kind.TheVariants.{Addi, Add}
 use Rattle.qed_model.specs.Table.{ins, ins_of, decode_of}
 use Rattle.qed_model.specs.Sequences.{ecall, woven_items}
 use Rattle.qed_model.specs.Placed.{placed, Decode}
-use Rattle.qed_model.specs.Woven.{image_base, half, code_base}
 
 -- addi x10, x0, 7; add x11, x10, x10; ecall
 two_sums : List Ins
@@ -28,7 +27,7 @@ two_sums_source : Decode (0x00700513 ∷ 0x00a505b3 ∷ 0x00000073 ∷ []) (two_
 unfolding two_sums decode_of ins_of
 two_sums_source = refl
 
-two_sums_code : Decode two_sums_words (placed code_base (woven_items 1 half [] image_base (two_sums ∷ [])))
+two_sums_code : Decode two_sums_words (placed 0x13000 (woven_items 1 0x1000 [] 0x10000 (two_sums ∷ [])))
 unfolding two_sums decode_of ins_of
 two_sums_code = refl
 
@@ -44,6 +43,6 @@ ecall_words =
     0x01840463 ∷ 0x00100073 ∷ 0x01948463 ∷ 0x00100073 ∷ 0x01a50463 ∷ 0x00100073 ∷ 0x01b58463 ∷ 0x00100073 ∷
     0x01c60463 ∷ 0x00100073 ∷ 0x01d68463 ∷ 0x00100073 ∷ 0x00000073 ∷ 0x00000000 ∷ []
 
-ecall_code : Decode ecall_words (placed code_base (woven_items 1 half [] image_base ([] ∷ [])))
+ecall_code : Decode ecall_words (placed 0x13000 (woven_items 1 0x1000 [] 0x10000 ([] ∷ [])))
 unfolding decode_of ins_of
 ecall_code = refl

@@ -22,6 +22,7 @@ pub mod Admission
 pub mod StraightTest
 pub mod Written
 pub mod Layout
+pub mod Output
 pub mod FileRead
 pub mod Woven
 pub mod Bounds

@@ -4,6 +4,7 @@ use Rattle.rv_isa.specs.declared.kind.Kind.TheVariants.{Addi, Auipc, Jal}
 use Rattle.rv_isa.specs.declared.ins.Ins.{Ins}
 use Rattle.qed_model.specs.declared.item.Item.{Item}
 use Rattle.qed_model.specs.declared.item.Item.TheVariants.{Mark, Plain, Constant, Go}
+use Rattle.qed_model.specs.declared.plan.EntryRow.{EntryRow}
 use Rattle.qed_model.specs.Table.{ins, signed, decode_of}
 
 -- the bytes that an item takes
@@ -28,6 +29,14 @@ mark_from at (Go t ∷ items) a = mark_from (at + 4) items a
 -- the entry of an input address; without a mark the last word, which is the stub
 abbrev pub entry_of : ℕ → List Item → ℕ → ℕ
 entry_of base items a = unwrap_or (mark_from base items a) (base + sum_of_sizes items - 4)
+
+-- the entries that are marked among items that stand from an address on
+abbrev pub rows_from : ℕ → List Item → List EntryRow
+rows_from at [] = []
+rows_from at (Mark a ∷ items) = record { input = a; output = at } ∷ rows_from at items
+rows_from at (Plain i ∷ items) = rows_from (at + 4) items
+rows_from at (Constant r c ∷ items) = rows_from (at + 8) items
+rows_from at (Go t ∷ items) = rows_from (at + 4) items
 
 -- the distance from one address to another, modulo 2^64 and read as signed
 abbrev pub distance_between : ℕ → ℕ → ℤ

@@ -1,40 +1,76 @@
--- What is woven from a first file.
-use Rattle.std.specs.Prelude.{◌≡◌, ℕ, ◌+◌, ◌*◌, ◌^◌, ◌<◌, List, [], ◌∷◌, ◌++◌, length, slice_index}
+-- What is woven from a straight test: the output file, word for word, and what is told of it.
+use Rattle.std.specs.Prelude.{◌++◌, Option, None, ◌≡◌, ℕ, ◌*◌, ◌^◌, ◌<◌, List, [], ◌∷◌, length, slice_index}
 use Rattle.rv_isa.specs.declared.ins.Ins.{Ins}
+use Rattle.elf_types.specs.declared.file.ElfFile.{ElfFile}
 use Rattle.elf_types.specs.declared.file.Segment.{Segment}
-use Rattle.qed_model.specs.Numbers.{words_of, bytes_of}
+use Rattle.elf_types.specs.declared.output.OutFile.{OutFile}
+use Rattle.qed_model.specs.declared.item.Item.{Item}
+use Rattle.qed_model.specs.declared.plan.EntryRow.{EntryRow}
+use Rattle.qed_model.specs.declared.plan.Plan.{Plan}
+use Rattle.qed_model.specs.Numbers.{bytes_of}
 use Rattle.qed_model.specs.Sequences.{ecall, woven_items}
-use Rattle.qed_model.specs.Placed.{placed, Decode}
-use Rattle.qed_model.specs.Plain.{segment_bytes}
-use Rattle.qed_model.specs.Written.{plain_file}
+use Rattle.qed_model.specs.Placed.{placed, rows_from, Decode}
+use Rattle.qed_model.specs.ElfFile.{File}
+use Rattle.qed_model.specs.Layout.{written}
+use Rattle.qed_model.specs.Admission.{image_segments, register_half, code_from}
+use Rattle.qed_model.specs.StraightTest.{StraightParts, IsMadeOf}
+use Rattle.qed_model.specs.Output.{base_of, distance_of, code_base, out_file}
+use Rattle.qed_model.specs.Bounds.{piece_bound, register_bound, word_bound, default_most, default_round}
 
--- where the image of a first file begins, rounded down to a page
-abbrev pub image_base : ℕ
-image_base = 0x10000
+-- the items of the new code: the prologue, the entry of the input's body in one piece, and the stub; a body of at most 16
+-- instructions is one piece
+abbrev pub new_items : ElfFile → List Ins → List Item
+new_items f body = woven_items default_round (distance_of (image_segments f.segments)) [] f.entry (body ∷ [])
 
--- the distance of the halves: the least multiple of 4096 that reaches the image's end
-abbrev pub half : ℕ
-half = 0x1000
+-- the new addresses of the entries
+abbrev pub new_entries : ElfFile → List Ins → List EntryRow
+new_entries f body = rows_from (code_base (image_segments f.segments)) (new_items f body)
 
--- the new code stands behind both halves and the room of the table
-abbrev pub code_base : ℕ
-code_base = image_base + 3 * half
-
--- a PT_LOAD segment with all its bytes in the file
-abbrev pub load : ℕ → ℕ → List ℕ → Segment
-load flags address bytes = record { kind = 1; flags = flags; address = address; memory = length bytes; bytes = bytes }
-
--- the input's segment without PF_X in place and in the duplicate half, and the new code
-abbrev pub woven_segments : List ℕ → List ℕ → List Segment
-woven_segments source words =
-    load 4 image_base source ∷ load 4 (image_base + half) source ∷ load 5 code_base (bytes_of words) ∷ []
-
--- the output is the plain file whose new code decodes to the prologue, the entry of the input's body in one piece, and the
--- stub; a body of at most 16 instructions is one piece
-pub record Woven (input output : List ℕ) : Type 0 where
-  pub body : List Ins
-  pub source : Decode (words_of (segment_bytes input 0)) (body ++ ecall ∷ [])
-  pub words : List ℕ
+-- words below 2^32, which decode to the items in their places
+pub record IsNewCode (f : ElfFile) (body : List Ins) (words : List ℕ) : Type 0 where
   pub small : (k : ℕ) → slice_index words k < 2 ^ 32
-  pub code : Decode words (placed code_base (woven_items 1 half [] image_base (body ∷ [])))
-  pub file : output ≡ plain_file code_base 0 (woven_segments (segment_bytes input 0) words)
+  pub code : Decode words (placed (code_base (image_segments f.segments)) (new_items f body))
+
+-- the file that these words are written in
+abbrev pub woven_file : ElfFile → List Ins → List ℕ → OutFile
+woven_file f body words = out_file f (new_entries f body) (bytes_of words)
+
+-- the first register above x13 that a test names, with the address of its instruction
+abbrev pub high_register_of : ElfFile → List Ins → Option (ℕ × ℕ)
+high_register_of f body = register_half (code_from f.entry (body ++ ecall ∷ []))
+
+-- the input is a straight test that keeps to x0 to x13, and this the file with its new code
+pub record WovenFile (input : List ℕ) (out : OutFile) : Type 0 where
+  pub file : ElfFile
+  pub read : File input file
+  pub parts : StraightParts
+  pub made : IsMadeOf file parts
+  pub low : high_register_of file parts.body ≡ None
+  pub words : List ℕ
+  pub code : IsNewCode file parts.body words
+  pub woven : out ≡ woven_file file parts.body words
+
+-- the output is that file, written
+pub record Woven (input output : List ℕ) : Type 0 where
+  pub out : OutFile
+  pub file : WovenFile input out
+  pub bytes : output ≡ written out
+
+-- what is told of a file: its image, its entry, how many instructions its one piece has, the entries and the size of its new
+-- code; there is no data word
+abbrev pub plan_of : List Segment → ℕ → ℕ → List EntryRow → ℕ → Plan
+plan_of image entry count rows size =
+    let piece = piece_bound default_most default_round in
+    record {
+      base = base_of image;
+      distance = distance_of image;
+      words = 0;
+      code_bytes = size;
+      entries = rows;
+      pieces = record { entry = entry; first = entry; length = count } ∷ [];
+      span = record { start = 0; end = 0 };
+      bounds = record { piece = piece; register = register_bound piece; word = word_bound 0 default_round piece };
+    }
+
+abbrev pub woven_plan : ElfFile → List Ins → List ℕ → Plan
+woven_plan f body words = plan_of (image_segments f.segments) f.entry (length body) (new_entries f body) (4 * length words)

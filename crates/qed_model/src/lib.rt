@@ -4,8 +4,10 @@
 mod change;
 mod item;
 mod machine;
+mod plan;
 mod rows;
 
 pub use change::Place;
 pub use item::Item;
 pub use machine::{Cause, Outcome};
+pub use plan::{Bounds, EntryRow, PieceRow, Plan, Range};

@@ -1,5 +1,5 @@
-pub mod Decoding
-pub mod LowBits
-pub mod FirstFiles
-pub mod Writable
+pub mod Words
+pub mod NewCode
+pub mod Making
 pub mod Keeping
+pub mod Promises

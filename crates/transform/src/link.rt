@@ -1,14 +1,12 @@
 // From items to words: each item gets its place, and each word is written.
-ghost use Rattle.std.specs.Prelude.{◌≡◌, ◌+◌, ◌*◌, ◌^◌, ◌<◌, ◌≤◌, ◌++◌, [], ◌∷◌, true, OnOk, IfOk, MatchOption, All, length, Some, pos, negsuc, ◌≤ℤ◌, unwrap_or};
+ghost use Rattle.std.specs.Prelude.{◌≡◌, ◌+◌, ◌*◌, ◌^◌, ◌<◌, ◌≤◌, [], ◌∷◌, true, IfOk, length, Some, pos, negsuc, ◌≤ℤ◌};
 ghost use Rattle.std.specs.List.{list_all};
 ghost use Rattle.qed_model.specs.Table.{ins, decode_of};
-ghost use Rattle.qed_model.specs.Placed.{size_of, sum_of_sizes, mark_from, entry_of, distance_between as distance_of, upper_part as upper_of, lower_part as lower_of, instructions_from, placed, Decode};
-ghost use Rattle.transform.specs.Encode.{is_writable};
-ghost use Rattle.transform.specs.Link.{is_near};
-ghost use Rattle.transform.specs.Transform.{AreWords};
+ghost use Rattle.qed_model.specs.Placed.{size_of, sum_of_sizes, mark_from, entry_of, rows_from, distance_between as distance_of, upper_part as upper_of, lower_part as lower_of, placed, Decode};
+ghost use Rattle.transform.specs.Link.{is_near, is_encoded, AreWords};
 
-use crate::encode::encode;
-use qed_model::Item;
+use qed_model::{EntryRow, Item};
+use rv_encode::encode;
 use rv_isa::{Ins, Kind, Reg};
 use std::alloc::{AllocError, Global};
 
@@ -142,7 +140,7 @@ fn lay_out(alloc: Global, items: &[Item], base: u64) -> Result<Vec<Ins>, AllocEr
 
 /// The word of an instruction that has one.
 fn word(ins: &Ins) -> u32
-    requires { is_writable ins.now ≡ true }
+    requires { is_encoded ins.now ≡ true }
     ensures decode { decode_of result ≡ Some ins.now }
     ensures bound { result < 2 ^ 32 }
 {
@@ -153,9 +151,9 @@ fn word(ins: &Ins) -> u32
 }
 
 /// The words of instructions that each have one.
-#[tactic(auto, using(crate::proofs::Writable::push_word))]
+#[tactic(auto, using(crate::proofs::Words::push_word))]
 fn encode_all(alloc: Global, instructions: &[Ins]) -> Result<Vec<u32>, AllocError>
-    requires { list_all is_writable instructions.now ≡ true }
+    requires { list_all is_encoded instructions.now ≡ true }
     ensures decode { IfOk result (λ words. Decode words.items instructions.now) }
     ensures words { IfOk result (λ words. AreWords words.items) }
 {
@@ -166,15 +164,43 @@ fn encode_all(alloc: Global, instructions: &[Ins]) -> Result<Vec<u32>, AllocErro
     Ok(words)
 }
 
-/// The words of the items, which stand from `base` on.
-pub fn link(alloc: Global, items: &[Item], base: u64) -> Result<Vec<u32>, AllocError>
+/// The entries that are marked among the items, which stand from `base` on.
+fn entries(alloc: Global, items: &[Item], base: u64) -> Result<Vec<EntryRow>, AllocError>
+    requires { base + 8 * length items.now < 2 ^ 62 }
+    ensures { IfOk result (λ rows. rows.items ≡ rows_from base items.now) }
+{
+    let mut rows = Vec::new(alloc);
+    let mut at = base;
+    for item in items {
+        if let Item::Mark(input) = *item {
+            rows.push(EntryRow { input, output: at })?;
+        }
+        at += size(item);
+    }
+    Ok(rows)
+}
+
+/// Code that has its place: its words, and where its entries are.
+#[derive(Debug, Drop)]
+pub struct Linked {
+    pub words: Vec<u32>,
+    pub entries: Vec<EntryRow>,
+}
+
+/// The code of the items, which stand from `base` on.
+pub fn link(alloc: Global, items: &[Item], base: u64) -> Result<Linked, AllocError>
     requires room { base + 8 * length items.now < 2 ^ 62 }
     requires some { 4 ≤ base }
     requires near { list_all is_near items.now ≡ true }
-    requires writable { list_all is_writable (placed base items.now) ≡ true }
-    ensures decode { IfOk result (λ words. Decode words.items (placed base items.now)) }
-    ensures words { IfOk result (λ words. AreWords words.items) }
+    requires encoded { list_all is_encoded (placed base items.now) ≡ true }
+    ensures decode { IfOk result (λ code. Decode code.words.items (placed base items.now)) }
+    ensures words { IfOk result (λ code. AreWords code.words.items) }
+    ensures entries { IfOk result (λ code. code.entries.items ≡ rows_from base items.now) }
 {
     let instructions = lay_out(alloc, items, base)?;
-    encode_all(alloc, &instructions)
+    let words = encode_all(alloc, &instructions)?;
+    Ok(Linked {
+        words,
+        entries: entries(alloc, items, base)?,
+    })
 }

@@ -20,5 +20,4 @@ pub mod SegmentKept
 pub mod StraightWords
 pub mod SegmentPlaces
 pub mod FirstKept
-pub mod LoadedFirst
 mod Example

@@ -1,9 +1,0 @@
-use Rattle.std.proofs.Common.{◌≡◌, ◌++◌, drop, map}
-use Rattle.qed_model.specs.Written.{fields_bytes}
-use Rattle.transform.specs.Numbers.{size_and_value}
-use Rattle.transform.proofs.numbers.push_numbers.Given as goal
-
--- the file so far and the numbers that are left make the whole
-abbrev pub invariant-loop-number : goal.invariant-loop-number
-invariant-loop-number l =
-    l.file.items ++ fields_bytes (map size_and_value (drop l.number-index l.numbers)) ≡ l.initial.file.items ++ fields_bytes (map size_and_value l.numbers)
