@@ -1,18 +1,17 @@
 -- What is true of a file that was read: no segment has more bytes in the file than in memory, names have no zero byte, and the types and
 -- bindings of symbols have four bits.
-use Rattle.std.proofs.Common.{◌≡◌, ◌≢◌, ℕ, zero, suc, ◌+◌, ◌-◌, ◌*◌, ◌/◌, ◌<◌, ◌≤◌, Bool, true, false, cond, ◌&&◌, ◌||◌, ◌==◌, List, [], ◌∷◌, length, take, drop, get_or, Option, Some, None, Ok, Err, refl, sym, ◌∙◌, subst, arith, length-take, get_or-take, get_or-drop}
+use Rattle.std.proofs.Common.{◌≡◌, ◌≢◌, ℕ, zero, suc, ◌+◌, ◌-◌, ◌*◌, ◌/◌, ◌<◌, ◌≤◌, Bool, true, false, cond, ◌&&◌, ◌||◌, ◌==◌, List, [], ◌∷◌, length, take, drop, get_or, Option, Some, None, refl, sym, ◌∙◌, subst, arith, length-take, get_or-take, get_or-drop}
 use Rattle.std.specs.Prelude.{All, slice_index, nat_lt}
 use Rattle.std.specs.Option.{unwrap_or}
 use Rattle.std.proofs.lemmas.Bool.{ltb-false, eq-eqb, false≢true}
 use Rattle.std.proofs.lemmas.List.Elements.{All-nil, All-push}
-use Rattle.elf_types.specs.declared.error.ElfError.{ElfError}
 use Rattle.elf_types.specs.declared.file.ElfFile.{ElfFile}
 use Rattle.elf_types.specs.declared.file.Symbol.{Symbol}
 use Rattle.elf_types.specs.declared.records.SectionHeader.{SectionHeader}
 use Rattle.qed_model.specs.Below.{each}
 use Rattle.qed_model.specs.Plain.{e_phnum}
 use Rattle.qed_model.specs.ElfFields.{program_header, section_header, symbol_entry}
-use Rattle.qed_model.specs.ElfRules.{Check, first_refusal, refuse_found, is_load, is_misshapen, part_rules, segment_shape_rule, segment_overlap_rule, section_shape_rule, symbol_shape_rule, rela_shape_rule, section_count_rule, byte_count_rule, name_length, name_at, has_bytes, section_bytes, strings_of, symbol_name, symbol_table, verdict}
+use Rattle.qed_model.specs.ElfRules.{is_load, is_misshapen, name_length, name_at, has_bytes, section_bytes, strings_of, symbol_name, symbol_table}
 use Rattle.qed_model.specs.ElfFile.{File, load_bytes, segment_of, symbol_of, symbols_at}
 use Rattle.qed_model.specs.Layout.{IsName, IsSymbol}
 use Rattle.qed_model.proofs.BelowLaws.{first_least}
