@@ -216,11 +216,11 @@ module _ (f : ElfFile) (read : IsReadFile f) (rows : List EntryRow) (code : List
         apart = disjoint s small code short;
         few_segments = omega arith;
         sections =
-        All-cons (IsPlaced segments) (text_section c code) (map_section rows ∷ []) (text_placed s small code short)
-        (All-cons (IsPlaced segments) (map_section rows) [] (map_placed segments rows) (All-nil (IsPlaced segments)));
+            All-cons (IsPlaced segments) (text_section c code) (map_section rows ∷ []) (text_placed s small code short)
+            (All-cons (IsPlaced segments) (map_section rows) [] (map_placed segments rows) (All-nil (IsPlaced segments)));
         section_names =
-        All-cons (λ (x : OutSection). IsName x.name) (text_section c code) (map_section rows ∷ []) (name_test (codes ".qed.text") refl)
-        (All-cons (λ (x : OutSection). IsName x.name) (map_section rows) [] (name_test (codes ".qed.map") refl) (All-nil (λ (x : OutSection). IsName x.name)));
+            All-cons (λ (x : OutSection). IsName x.name) (text_section c code) (map_section rows ∷ []) (name_test (codes ".qed.text") refl)
+            (All-cons (λ (x : OutSection). IsName x.name) (map_section rows) [] (name_test (codes ".qed.map") refl) (All-nil (λ (x : OutSection). IsName x.name)));
         few_sections = omega arith;
         symbols = symbols_fit rows f.symbols read.symbols;
         symbol_names = names_fit rows f.symbols read.names;

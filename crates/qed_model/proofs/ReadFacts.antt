@@ -1,21 +1,21 @@
 -- What is true of a file that was read: no segment has more bytes in the file than in memory, names have no zero byte, and the types and
 -- bindings of symbols have four bits.
-use Rattle.std.proofs.Common.{◌≡◌, ◌≢◌, ℕ, zero, suc, ◌+◌, ◌-◌, ◌*◌, ◌/◌, ◌<◌, ◌≤◌, Bool, true, false, cond, ◌&&◌, ◌||◌, ◌==◌, List, [], ◌∷◌, length, take, drop, get_or, Option, Some, None, Ok, Err, refl, sym, ◌∙◌, subst, arith, length-take, get_or-take, get_or-drop}
+use Rattle.std.proofs.Common.{◌≡◌, ◌≢◌, ℕ, zero, suc, ◌+◌, ◌-◌, ◌*◌, ◌/◌, ◌<◌, ◌≤◌, Bool, true, false, cond, ◌&&◌, ◌||◌, ◌==◌, List, [], ◌∷◌, length, take, drop, get_or, Option, Some, None, refl, sym, ◌∙◌, subst, arith, length-take, get_or-take, get_or-drop}
 use Rattle.std.specs.Prelude.{All, slice_index, nat_lt}
 use Rattle.std.specs.Option.{unwrap_or}
 use Rattle.std.proofs.lemmas.Bool.{ltb-false, eq-eqb, false≢true}
 use Rattle.std.proofs.lemmas.List.Elements.{All-nil, All-push}
-use Rattle.elf_types.specs.declared.error.ElfError.{ElfError}
 use Rattle.elf_types.specs.declared.file.ElfFile.{ElfFile}
 use Rattle.elf_types.specs.declared.file.Symbol.{Symbol}
 use Rattle.elf_types.specs.declared.records.SectionHeader.{SectionHeader}
 use Rattle.qed_model.specs.Below.{each}
 use Rattle.qed_model.specs.Plain.{e_phnum}
 use Rattle.qed_model.specs.ElfFields.{program_header, section_header, symbol_entry}
-use Rattle.qed_model.specs.ElfRules.{Check, first_refusal, refuse_found, is_load, is_misshapen, part_rules, segment_shape_rule, segment_overlap_rule, section_shape_rule, symbol_shape_rule, rela_shape_rule, section_count_rule, byte_count_rule, name_length, name_at, has_bytes, section_bytes, strings_of, symbol_name, symbol_table, verdict}
+use Rattle.qed_model.specs.ElfRules.{is_load, is_misshapen, name_length, name_at, has_bytes, section_bytes, strings_of, symbol_name, symbol_table}
 use Rattle.qed_model.specs.ElfFile.{File, load_bytes, segment_of, symbol_of, symbols_at}
 use Rattle.qed_model.specs.Layout.{IsName, IsSymbol}
-use Rattle.qed_model.proofs.BelowLaws.{each_fails, first_least}
+use Rattle.qed_model.proofs.BelowLaws.{first_least}
+use Rattle.qed_model.proofs.AcceptanceLaws.{accepted}
 
 -- bytes
 pub record AreBytes (bytes : List ℕ) : Type 0 where
@@ -28,33 +28,7 @@ All-each P zero f h = All-nil P
 All-each P (suc n) f h = All-push P (each n f) (f n) (All-each P n f (λ j l. h j (omega arith))) (h n (omega arith))
 
 -- ---- segments
--- the first rule passes, and so do the others
-one_passes : (x : Check) (rules : List Check) → first_refusal (x ∷ rules) ≡ Ok tt → (x ≡ Ok tt) × (first_refusal rules ≡ Ok tt)
-one_passes (Ok u) rules e = (refl, e)
-one_passes (Err x) rules e = absurd cc
-
-none_found : (e : ℕ → ElfError) (o : Option ℕ) → refuse_found e o ≡ Ok tt → o ≡ None
-none_found e None h = refl
-none_found e (Some i) h = absurd cc
-
-shape_passes : (file : List ℕ) → verdict file ≡ Ok tt → segment_shape_rule file ≡ Ok tt
-unfolding verdict
-shape_passes file e =
-    let rest : List Check =
-    segment_overlap_rule file
-    ∷ section_shape_rule file
-    ∷ symbol_shape_rule file
-    ∷ rela_shape_rule file
-    ∷ section_count_rule file
-    ∷ byte_count_rule file
-    ∷ [] in
-    (one_passes (segment_shape_rule file) rest (one_passes (part_rules file) (segment_shape_rule file ∷ rest) e).1).0
-
-well_shaped : (file : List ℕ) → verdict file ≡ Ok tt → (i : ℕ) → i < e_phnum file → is_misshapen (program_header file i) ≡ false
-unfolding segment_shape_rule
-well_shaped file e i h = each_fails (e_phnum file) (λ i. is_misshapen (program_header file i)) (none_found _ _ (shape_passes file e)) i h
-
--- so a segment has no more bytes than memory
+-- a segment has no more bytes than memory
 few_bytes : (load more wraps : Bool) (memory size : ℕ) (bytes : List ℕ) → nat_lt memory size ≡ more → (load && (more || wraps)) ≡ false → length (cond load (take size bytes) []) ≤ memory
 few_bytes false more wraps memory size bytes e h = omega arith
 few_bytes true true wraps memory size bytes e h = absurd cc
@@ -124,7 +98,7 @@ all_symbols P file h (Some i) = All-each P ((section_header file i).size / 24) (
 
 pub read_facts : (file : List ℕ) (f : ElfFile) → AreBytes file → File file f → IsReadFile f
 read_facts file f bytes r = record {
-  sized = subst (All (λ s. length s.bytes ≤ s.memory)) (sym r.segments) (All-each (λ s. length s.bytes ≤ s.memory) (e_phnum file) (segment_of file) (λ j l. sized_segment file j (well_shaped file r.accepted j l)));
+  sized = subst (All (λ s. length s.bytes ≤ s.memory)) (sym r.segments) (All-each (λ s. length s.bytes ≤ s.memory) (e_phnum file) (segment_of file) (λ j l. sized_segment file j ((accepted file r.accepted).segment_shapes j l)));
   symbols = subst (All IsSymbol) (sym r.symbols) (all_symbols IsSymbol file (λ s j. symbol_is file s j bytes) (symbol_table file));
   names = subst (All (λ s. IsName s.name)) (sym r.symbols) (all_symbols (λ s. IsName s.name) file (symbol_name_is file) (symbol_table file));
 }

@@ -1,28 +1,24 @@
 -- What is woven from a straight test keeps its values.
-use Rattle.std.proofs.Common.{◌≡◌, ℕ, zero, suc, ◌+◌, ◌*◌, ◌/◌, ◌%◌, ◌^◌, ◌<◌, ◌≤◌, Bool, true, false, cond, ◌&&◌, ◌||◌, ◌==◌, List, [], ◌∷◌, ◌++◌, length, map, Some, None, refl, sym, ap, ◌∙◌, subst, arith, All}
-use Rattle.std.specs.Prelude.{nat_lt, nat_le}
+use Rattle.std.proofs.Common.{◌≡◌, ℕ, ◌+◌, ◌*◌, ◌/◌, ◌%◌, ◌≤◌, Bool, true, false, cond, ◌||◌, ◌==◌, List, [], ◌∷◌, ◌++◌, length, map, None, refl, sym, ap, ◌∙◌, subst, arith, All}
+use Rattle.std.specs.Prelude.{nat_le}
 use Rattle.std.proofs.lemmas.Bool.{lt-ltb, le-leb, and_from}
 use Rattle.std.proofs.lemmas.List.Elements.{All-head, All-tail}
 use Rattle.elf_types.specs.declared.file.ElfFile.{ElfFile}
-use Rattle.elf_types.specs.declared.file.Section.{Section}
 use Rattle.elf_types.specs.declared.file.Segment.{Segment}
 use Rattle.elf_types.specs.declared.output.OutFile.{OutFile}
 use Rattle.qed_model.specs.declared.plan.EntryRow.{EntryRow}
 use Rattle.qed_model.specs.Numbers.{words_of, bytes_of}
-use Rattle.qed_model.specs.Memory.{Flags}
 use Rattle.qed_model.specs.Placed.{placed, Decode}
 use Rattle.qed_model.specs.Sequences.{woven_items}
-use Rattle.qed_model.specs.Admission.{image_segments}
 use Rattle.qed_model.specs.Loaded.{flags_of}
-use Rattle.qed_model.specs.LoadedFile.{load_segment, load_segments, lies_in_code, lies_in_any, section_ranges, code_ranges, loaded_file}
+use Rattle.qed_model.specs.LoadedFile.{load_segment, load_segments, lies_in_code, lies_in_any, code_ranges, loaded_file}
 use Rattle.qed_model.specs.Kept.{LoadSegment, Kept}
 use Rattle.qed_model.specs.FileRead.{null_section, section_read, tables_read, file_read}
-use Rattle.qed_model.specs.Output.{distance_of, code_base, copied, code_segment, out_segments, text_section, out_sections, out_file_of, out_file}
+use Rattle.qed_model.specs.Output.{distance_of, code_base, copied, out_segments, text_section, out_sections, out_file_of}
 use Rattle.qed_model.specs.StraightTest.{StraightParts, IsMadeOf}
 use Rattle.qed_model.specs.Woven.{high_register_of, IsNewCode, new_entries, woven_file}
 use Rattle.qed_model.specs.Bounds.{piece_bound}
 use Rattle.qed_model.proofs.Fields.{words_of-bytes_of, length-bytes_of}
-use Rattle.qed_model.proofs.Pages.{page_of}
 use Rattle.qed_model.proofs.OutputFits.{distance_pages}
 use Rattle.qed_model.proofs.SegmentCells.{AllSized}
 use Rattle.weave_core.proofs.SegmentFits.{not_executed, copied as moved, code_segment as code_of, IsSegmentOutput}

@@ -1,5 +1,5 @@
 -- What is made of a straight test is the file with its new code.
-use Rattle.std.proofs.Common.{◌≡◌, ℕ, ◌+◌, ◌*◌, ◌%◌, ◌^◌, ◌<◌, ◌≤◌, List, [], ◌∷◌, length, refl, sym, ap, ◌∙◌, subst, arith}
+use Rattle.std.proofs.Common.{◌≡◌, ℕ, ◌+◌, ◌*◌, ◌^◌, ◌<◌, ◌≤◌, List, [], ◌∷◌, length, sym, ap, ◌∙◌, subst, arith}
 use Rattle.rv_isa.specs.declared.ins.Ins.{Ins}
 use Rattle.elf_types.specs.declared.file.ElfFile.{ElfFile}
 use Rattle.elf_types.specs.declared.file.Segment.{Segment}
@@ -12,10 +12,9 @@ use Rattle.qed_model.specs.Numbers.{bytes_of}
 use Rattle.qed_model.specs.Sequences.{woven_items}
 use Rattle.qed_model.specs.Placed.{placed, rows_from, Decode}
 use Rattle.qed_model.specs.Admission.{image_segments}
-use Rattle.qed_model.specs.LoadedFile.{load_segment}
 use Rattle.qed_model.specs.Output.{distance_of, code_base, out_file_of}
 use Rattle.qed_model.specs.StraightTest.{StraightParts, IsMadeOf}
-use Rattle.qed_model.specs.Woven.{IsNewCode, new_items, new_entries, woven_file, plan_of, woven_plan}
+use Rattle.qed_model.specs.Woven.{IsNewCode, new_items, new_entries, plan_of}
 use Rattle.qed_model.proofs.OutputFits.{distance_pages}
 use Rattle.qed_model.proofs.Pages.{laid}
 use Rattle.weave_core.proofs.StraightWords.{length-decoded, length-woven}
@@ -23,7 +22,7 @@ use Rattle.straight_test.proofs.Premises.{code_range}
 use Rattle.straight_test.proofs.Places.{image_some}
 use Rattle.transform.specs.declared.places.Places.{Places}
 use Rattle.transform.specs.Link.{AreWords}
-use Rattle.transform.specs.Code.{IsLowBody, IsNear}
+use Rattle.transform.specs.Code.{IsNear}
 use Rattle.transform.specs.Places.{ArePlaces}
 use Rattle.transform.specs.Transform.{IsWovenFrom}
 

@@ -1,5 +1,5 @@
 -- A straight test that keeps to x0 to x13, and what is woven from it: it can be written, and all that is promised holds.
-use Rattle.std.proofs.Common.{◌≡◌, ℕ, suc, ◌+◌, ◌*◌, ◌^◌, ◌<◌, ◌≤◌, true, List, [], ◌∷◌, ◌++◌, length, None, refl, sym, ap, ◌∙◌, subst, arith, All}
+use Rattle.std.proofs.Common.{◌≡◌, ℕ, ◌≤◌, true, List, [], ◌∷◌, ◌++◌, length, None, refl, sym, ap, subst, arith, All}
 use Rattle.std.specs.List.{list_all}
 use Rattle.std.proofs.lemmas.Bool.{and_from}
 use Rattle.std.proofs.lemmas.List.Elements.{All-nil, All-cons, All-head, All-tail}
@@ -15,7 +15,7 @@ use Rattle.qed_model.specs.ElfFile.{File}
 use Rattle.qed_model.specs.FileRead.{file_read}
 use Rattle.qed_model.specs.Layout.{written, IsWritable}
 use Rattle.qed_model.specs.LoadedFile.{loaded_file}
-use Rattle.qed_model.specs.Output.{distance_of, code_base, out_file}
+use Rattle.qed_model.specs.Output.{distance_of, code_base}
 use Rattle.qed_model.specs.StraightTest.{StraightParts}
 use Rattle.qed_model.specs.Woven.{high_register_of, new_entries, woven_file, WovenFile}
 use Rattle.qed_model.specs.Kept.{Kept}

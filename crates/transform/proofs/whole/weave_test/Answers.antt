@@ -1,4 +1,4 @@
-use Rattle.std.proofs.Common.{◌≡◌, ◌∙◌, ◌*◌, ◌≤◌, List, [], ◌∷◌, sym, ap, length, map, Some, arith}
+use Rattle.std.proofs.Common.{◌≡◌, ◌∙◌, ◌*◌, ◌≤◌, List, [], ◌∷◌, ap, length, map, Some, arith}
 use Rattle.elf_types.specs.declared.file.Segment.{Segment}
 use Rattle.straight_test.specs.Shape.{parts}
 use Rattle.qed_model.specs.Sequences.{woven_items}
