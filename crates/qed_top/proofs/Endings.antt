@@ -28,7 +28,9 @@ use Rattle.qed_top.specs.declared.answer.Answer.{Answer}
 use Rattle.qed_top.specs.declared.answer.Stored.{Stored}
 use Rattle.qed_top.specs.declared.status.Status.{Status}
 use Rattle.qed_top.specs.declared.status.Status.TheVariants.{Done, Usage, Refused, Limit, ReadFault, WriteFault, Memory, Fired, Trapped, StepsSpent}
-use Rattle.qed_top.proofs.Outputs.{same_file, same_refusal, not_both, same_out, is_straight, is_low}
+use Rattle.qed_model.proofs.ReadFacts.{one_file}
+use Rattle.transform.proofs.OneWoven.{one_woven}
+use Rattle.qed_top.proofs.Outputs.{same_refusal, not_both, is_straight, is_low}
 use Rattle.qed_top.proofs.Meanings.{always, over_map}
 
 -- ---- counts
@@ -171,7 +173,7 @@ data Settled (bytes : List ℕ) (s : Status) : Type 0 where
   other : (f : ElfFile) → File bytes f → (IsStraightTest f → ⊥) → s ≡ Refused → Settled bytes s
   high : (f : ElfFile) → File bytes f → (p : StraightParts) → IsMadeOf f p → (x : ℕ × ℕ) → high_register_of f p.body ≡ Some x → s ≡ Refused → Settled bytes s
   large : (out : OutFile) → WovenFile bytes out → (IsWithin out → ⊥) → s ≡ Limit → Settled bytes s
-  small : (out : OutFile) → WovenFile bytes out → IsWithin out → s ≡ Done → Settled bytes s
+  fits : (out : OutFile) → WovenFile bytes out → IsWithin out → s ≡ Done → Settled bytes s
 
 settled_by : (bytes : List ℕ) (s : Status) (e : TransformError) → HasCause bytes e → e ≢ transform.Memory → s ≡ refusal_status e → Settled bytes s
 settled_by bytes s (transform.Elf e) c k a = no_file e c a
@@ -184,13 +186,13 @@ settled_by bytes s transform.Memory c k a = absurd (k refl)
 
 settled : (bytes : List ℕ) (s : Status) → TransformDecides bytes s → Settled bytes s
 settled bytes s (decide.refused e c k a) = settled_by bytes s e c k a
-settled bytes s (decide.done out w i a) = small out w i a
+settled bytes s (decide.done out w i a) = fits out w i a
 
 same_test : (bytes : List ℕ) (f g : ElfFile) (p : StraightParts) → File bytes f → File bytes g → IsMadeOf g p → IsStraightTest f
-same_test bytes f g p x y made = subst IsStraightTest (same_file bytes g f y x) (record { parts = p; made = made })
+same_test bytes f g p x y made = subst IsStraightTest (one_file bytes g f y x) (record { parts = p; made = made })
 
 too_large_or : (bytes : List ℕ) (out second : OutFile) → WovenFile bytes out → WovenFile bytes second → (IsWithin out → ⊥) → IsWithin second → ⊥
-too_large_or bytes out second x y no yes = no (subst IsWithin (same_out bytes second out y x) yes)
+too_large_or bytes out second x y over fit = over (subst IsWithin (one_woven bytes second out y x) fit)
 
 -- a file has one status
 settled_unique : (bytes : List ℕ) (s t : Status) → Settled bytes s → Settled bytes t → s ≡ t
@@ -198,27 +200,27 @@ settled_unique bytes s t (no_file e x a) (no_file d y b) = a ∙ ap error_status
 settled_unique bytes s t (no_file e x a) (other g y m b) = absurd (not_both bytes e g x y)
 settled_unique bytes s t (no_file e x a) (high g y q made z n b) = absurd (not_both bytes e g x y)
 settled_unique bytes s t (no_file e x a) (large out w m b) = absurd (not_both bytes e w.file x w.read)
-settled_unique bytes s t (no_file e x a) (small out w m b) = absurd (not_both bytes e w.file x w.read)
+settled_unique bytes s t (no_file e x a) (fits out w m b) = absurd (not_both bytes e w.file x w.read)
 settled_unique bytes s t (other f x n a) (no_file d y b) = absurd (not_both bytes d f y x)
 settled_unique bytes s t (other f x n a) (other g y m b) = a ∙ sym b
 settled_unique bytes s t (other f x n a) (high g y q made z m b) = a ∙ sym b
 settled_unique bytes s t (other f x n a) (large out w m b) = absurd (n (is_straight bytes f out x w))
-settled_unique bytes s t (other f x n a) (small out w m b) = absurd (n (is_straight bytes f out x w))
+settled_unique bytes s t (other f x n a) (fits out w m b) = absurd (n (is_straight bytes f out x w))
 settled_unique bytes s t (high f x p made z n a) (no_file d y b) = absurd (not_both bytes d f y x)
 settled_unique bytes s t (high f x p made z n a) (other g y m b) = a ∙ sym b
 settled_unique bytes s t (high f x p made z n a) (high g y q also u m b) = a ∙ sym b
 settled_unique bytes s t (high f x p made z n a) (large out w m b) = absurd (is_low bytes f p z out x made n w)
-settled_unique bytes s t (high f x p made z n a) (small out w m b) = absurd (is_low bytes f p z out x made n w)
+settled_unique bytes s t (high f x p made z n a) (fits out w m b) = absurd (is_low bytes f p z out x made n w)
 settled_unique bytes s t (large out w n a) (no_file d y b) = absurd (not_both bytes d w.file y w.read)
 settled_unique bytes s t (large out w n a) (other g y m b) = absurd (m (is_straight bytes g out y w))
 settled_unique bytes s t (large out w n a) (high g y q also u m b) = absurd (is_low bytes g q u out y also m w)
 settled_unique bytes s t (large out w n a) (large second v m b) = a ∙ sym b
-settled_unique bytes s t (large out w n a) (small second v m b) = absurd (too_large_or bytes out second w v n m)
-settled_unique bytes s t (small out w n a) (no_file d y b) = absurd (not_both bytes d w.file y w.read)
-settled_unique bytes s t (small out w n a) (other g y m b) = absurd (m (is_straight bytes g out y w))
-settled_unique bytes s t (small out w n a) (high g y q also u m b) = absurd (is_low bytes g q u out y also m w)
-settled_unique bytes s t (small out w n a) (large second v m b) = absurd (too_large_or bytes second out v w m n)
-settled_unique bytes s t (small out w n a) (small second v m b) = a ∙ sym b
+settled_unique bytes s t (large out w n a) (fits second v m b) = absurd (too_large_or bytes out second w v n m)
+settled_unique bytes s t (fits out w n a) (no_file d y b) = absurd (not_both bytes d w.file y w.read)
+settled_unique bytes s t (fits out w n a) (other g y m b) = absurd (m (is_straight bytes g out y w))
+settled_unique bytes s t (fits out w n a) (high g y q also u m b) = absurd (is_low bytes g q u out y also m w)
+settled_unique bytes s t (fits out w n a) (large second v m b) = absurd (too_large_or bytes second out v w m n)
+settled_unique bytes s t (fits out w n a) (fits second v m b) = a ∙ sym b
 
 transform_unique : (bytes : List ℕ) (s t : Status) → TransformDecides bytes s → TransformDecides bytes t → s ≡ t
 transform_unique bytes s t x y = settled_unique bytes s t (settled bytes s x) (settled bytes t y)
@@ -229,10 +231,10 @@ run_unique bytes s t (decide.unread e x a) (decide.too_large g y l b) = absurd (
 run_unique bytes s t (decide.unread e x a) (decide.ran g y l b) = absurd (not_both bytes e g x y)
 run_unique bytes s t (decide.too_large f x k a) (decide.unread d y b) = absurd (not_both bytes d f y x)
 run_unique bytes s t (decide.too_large f x k a) (decide.too_large g y l b) = a ∙ sym b
-run_unique bytes s t (decide.too_large f x k a) (decide.ran g y l b) = let same = ap (λ h. memory_bytes h.segments) (same_file bytes f g x y) in absurd (omega (arith, k, l, same))
+run_unique bytes s t (decide.too_large f x k a) (decide.ran g y l b) = let same = ap (λ h. memory_bytes h.segments) (one_file bytes f g x y) in absurd (omega (arith, k, l, same))
 run_unique bytes s t (decide.ran f x k a) (decide.unread d y b) = absurd (not_both bytes d f y x)
-run_unique bytes s t (decide.ran f x k a) (decide.too_large g y l b) = let same = ap (λ h. memory_bytes h.segments) (same_file bytes f g x y) in absurd (omega (arith, k, l, same))
-run_unique bytes s t (decide.ran f x k a) (decide.ran g y l b) = a ∙ ap (λ h. outcome_status (run_of h).state.outcome) (same_file bytes f g x y) ∙ sym b
+run_unique bytes s t (decide.ran f x k a) (decide.too_large g y l b) = let same = ap (λ h. memory_bytes h.segments) (one_file bytes f g x y) in absurd (omega (arith, k, l, same))
+run_unique bytes s t (decide.ran f x k a) (decide.ran g y l b) = a ∙ ap (λ h. outcome_status (run_of h).state.outcome) (one_file bytes f g x y) ∙ sym b
 
 unique : (limit : ℕ) (bytes : List ℕ) (V W : Type 0) (s t : Status) → (V → W → s ≡ t) → Decided limit bytes V s → Decided limit bytes W t → s ≡ t
 unique limit bytes V W s t h (decide.too_long l a) (decide.too_long m b) = a ∙ sym b

@@ -43,29 +43,31 @@ fn answer_done<'a>(
 }
 
 /// The line about a file that is not transformed.
-fn refusal_text(alloc: Global, error: TransformError) -> Result<Bytes, AllocError>
-    ensures text { IfOk result (λ text. text ≡ refusal_line error) }
-    ensures memory { OnOk result (error ≢ TransformError.Memory) }
+fn refusal_text(alloc: Global, error: &TransformError) -> Result<Bytes, AllocError>
+    ensures text { IfOk result (λ text. text ≡ refusal_line error.now) }
+    ensures memory { OnOk result (error.now ≢ TransformError.Memory) }
 {
     match error {
-        TransformError::Elf(error) => Ok(error_text(alloc, error)?),
+        TransformError::Elf(unread) => Ok(error_text(alloc, *unread)?),
         TransformError::NotBuilt => Ok(Bytes::copied(alloc, b"refused E0: not built yet\n")?),
         TransformError::Admit(AdmitError::RegisterHalf(at, register)) => {
-            Ok(high_register_text(alloc, at, register)?)
+            Ok(high_register_text(alloc, *at, *register)?)
         }
-        TransformError::TooManySegments(n) => Ok(segment_limit_text(alloc, n)?),
-        TransformError::FileTooLong(n) => Ok(size_limit_text(alloc, n)?),
-        TransformError::Admit(AdmitError::Memory) | TransformError::Memory => Err(AllocError),
+        TransformError::Admit(AdmitError::Memory) => Err(AllocError),
+        TransformError::TooManySegments(n) => Ok(segment_limit_text(alloc, *n)?),
+        TransformError::FileTooLong(n) => Ok(size_limit_text(alloc, *n)?),
+        TransformError::Memory => Err(AllocError),
     }
 }
 
 /// The status that goes with a file that is not transformed.
-fn refusal_status_of(error: TransformError) -> Status
-    ensures { result ≡ refusal_status error }
+fn refusal_status_of(error: &TransformError) -> Status
+    ensures { result ≡ refusal_status error.now }
 {
     match error {
-        TransformError::Elf(error) => status_of(error),
-        TransformError::TooManySegments(_) | TransformError::FileTooLong(_) => Status::Limit,
+        TransformError::Elf(unread) => status_of(*unread),
+        TransformError::TooManySegments(_) => Status::Limit,
+        TransformError::FileTooLong(_) => Status::Limit,
         _ => Status::Refused,
     }
 }
@@ -84,8 +86,9 @@ fn answer_transform<'a>(
             Ok(answer)
         }
         Err(error) => {
-            let text = refusal_text(alloc, error)?;
-            Ok(plain(refusal_status_of(error), text))
+            let text = refusal_text(alloc, &error)?;
+            let status = refusal_status_of(&error);
+            Ok(plain(status, text))
         }
     }
 }
