@@ -1,9 +1,9 @@
 -- The PT_LOAD segments of a file that was read fit into memory, and share no byte.
-use Rattle.std.proofs.Common.{◌≡◌, ℕ, zero, suc, ◌+◌, ◌-◌, ◌<◌, ◌≤◌, ◌^◌, ◌&&◌, ◌||◌, Bool, true, false, cond, List, [], ◌∷◌, ◌++◌, length, Option, Some, None, Ok, Err, take, drop, refl, sym, ap, ◌∙◌, subst, arith, ⊎_elim}
+use Rattle.std.proofs.Common.{◌≡◌, ℕ, zero, suc, ◌+◌, ◌-◌, ◌<◌, ◌≤◌, ◌^◌, ◌&&◌, true, false, cond, List, [], ◌∷◌, ◌++◌, length, Option, Some, None, Ok, Err, take, drop, refl, sym, ap, ◌∙◌, subst, arith, ⊎_elim}
 use Rattle.std.specs.Prelude.{nat_lt, nat_le, ◌==◌, slice_get, if◌then◌else◌}
 use Rattle.std.specs.Option.{is_some}
 use Rattle.std.proofs.lemmas.List.{length-take}
-use Rattle.std.proofs.lemmas.Bool.{eqb-true, eq-eqb, and_parts, and_from, leb-true, ltb-true, lt-ltb, false≢true, cases_lt}
+use Rattle.std.proofs.lemmas.Bool.{eqb-true, and_parts, and_from, leb-true, ltb-true, lt-ltb, false≢true, cases_lt}
 use Rattle.std.proofs.lemmas.Bool.Decides.{nat_tests}
 use Rattle.elf_types.specs.declared.file.Segment.{Segment}
 use Rattle.elf_types.specs.declared.file.ElfFile.{ElfFile}
@@ -13,13 +13,13 @@ use Rattle.elf_types.specs.declared.records.ProgramHeader.{ProgramHeader}
 use Rattle.qed_model.specs.Below.{first, each}
 use Rattle.qed_model.specs.Plain.{e_phnum}
 use Rattle.qed_model.specs.ElfFields.{program_header}
-use Rattle.qed_model.specs.ElfRules.{Check, refuse_found, refuse_found_at, first_refusal, is_load, is_misshapen, segment_shape_rule, do_overlap, overlapped, segment_overlap_rule, section_shape_rule, symbol_shape_rule, rela_shape_rule, section_count_rule, byte_count_rule, part_rules, verdict}
+use Rattle.qed_model.specs.ElfRules.{Check, refuse_found, refuse_found_at, first_refusal, is_misshapen, segment_shape_rule, do_overlap, overlapped, segment_overlap_rule, section_shape_rule, symbol_shape_rule, rela_shape_rule, section_count_rule, byte_count_rule, part_rules, verdict}
 use Rattle.qed_model.specs.ElfFile.{File, segment_of, load_bytes}
 use Rattle.qed_model.specs.Kept.{LoadSegment}
 use Rattle.qed_model.specs.LoadedFile.{load_segment, load_segments}
 use Rattle.qed_model.proofs.BelowLaws.{each_fails, first_least, length-each}
-use Rattle.mem_image.specs.Segments.{Fits, AllFit, within}
-use Rattle.mem_image.specs.Overlap.{Share, Overlaps, AreApart}
+use Rattle.mem_image.specs.Segments.{Fits, AllFit}
+use Rattle.mem_image.specs.Overlap.{Share, AreApart}
 
 -- ---- the segments that are loaded, by their places
 -- where each of them fits, all do

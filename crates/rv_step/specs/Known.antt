@@ -1,5 +1,5 @@
 -- What stands at an address, and what a strike makes of a machine.
-use Rattle.std.specs.Prelude.{ℕ, ◌+◌, ◌%◌, ◌==◌, ◌&&◌, Bool, true, false, cond, Option, None, Some}
+use Rattle.std.specs.Prelude.{ℕ, ◌%◌, ◌==◌, ◌&&◌, Bool, true, false, cond, Option, None, Some}
 use Rattle.rv_isa.specs.declared.ins.Ins.{Ins}
 use Rattle.qed_model.specs.Memory.{grants, number}
 use Rattle.qed_model.specs.Machine.{State, Fetched, Refused, Unknown, Known, fetched_at, in_range}
