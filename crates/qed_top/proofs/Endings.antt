@@ -1,5 +1,5 @@
 -- From what was decided and carried out to how the call ends.
-use Rattle.std.proofs.Common.{◌≡◌, ◌≤◌, ◌<◌, ℕ, List, Option, None, Some, Ok, Err, IfSome, ◌⊎◌, inl, inr, refl, sym, ap, ◌∙◌, subst, arith}
+use Rattle.std.proofs.Common.{◌≡◌, ◌≢◌, ◌≤◌, ◌<◌, ℕ, List, Option, None, Some, Ok, Err, IfSome, ◌⊎◌, inl, inr, refl, sym, ap, ◌∙◌, subst, arith}
 use Rattle.std.specs.Prelude.{MatchOption, IsSomeAnd}
 use Rattle.std.specs.Io.KnownBytes.{Appends}
 use Rattle.qed_io.specs.Sink.{AppendsPart}
@@ -12,15 +12,23 @@ use Rattle.qed_model.specs.declared.machine.Outcome.{Outcome}
 use Rattle.qed_model.specs.declared.machine.Outcome.TheVariants as outcome
 use Rattle.qed_model.specs.ElfFile.{File}
 use Rattle.qed_model.specs.ElfRefusals.{IsRefused}
+use Rattle.elf_types.specs.declared.output.OutFile.{OutFile}
+use Rattle.qed_model.specs.StraightTest.{StraightParts, IsMadeOf, IsStraightTest}
+use Rattle.qed_model.specs.Woven.{high_register_of, WovenFile}
+use Rattle.transform.specs.declared.error.TransformError.{TransformError}
+use Rattle.transform.specs.declared.error.TransformError.TheVariants as transform
+use Rattle.transform.specs.declared.error.AdmitError.TheVariants as admit
+use Rattle.transform.specs.Transform.{HasCause, IsWithin}
 use Rattle.qed_model.specs.Texts.{usage_line, load_limit, load_limit_line, run_load_limit, run_load_limit_line}
 use Rattle.qed_top.specs.Words.{Asked, Transform, Run, asked, read_name, stored_name}
-use Rattle.qed_top.specs.Answer.{PrintsOnly, error_status, Transforms, no_elf, not_built, done, memory_bytes, outcome_status, run_of, Runs, unread, too_large, ran, Means, read_fault, too_long, within, CommandMeans, IsMeant, FilesAfter, FilesInPart, StoreRose}
+use Rattle.qed_top.specs.Answer.{PrintsOnly, error_status, Transforms, refused, done, refusal_status, memory_bytes, outcome_status, run_of, Runs, unread, too_large, ran, Means, read_fault, too_long, within, CommandMeans, IsMeant, FilesAfter, FilesInPart, StoreRose}
 use Rattle.qed_top.specs.Ends.{OverFiles, Call, Did, EndsOver, Ends, TransformDecides, RunDecides, Decided, CommandDecides, Decides, NoFault, IsComplete}
 use Rattle.qed_top.specs.Ends as decide
 use Rattle.qed_top.specs.declared.answer.Answer.{Answer}
 use Rattle.qed_top.specs.declared.answer.Stored.{Stored}
 use Rattle.qed_top.specs.declared.status.Status.{Status}
 use Rattle.qed_top.specs.declared.status.Status.TheVariants.{Done, Usage, Refused, Limit, ReadFault, WriteFault, Memory, Fired, Trapped, StepsSpent}
+use Rattle.qed_top.proofs.Outputs.{same_file, same_refusal, not_both, same_out, is_straight, is_low}
 use Rattle.qed_top.proofs.Meanings.{always, over_map}
 
 -- ---- counts
@@ -85,9 +93,16 @@ outcome_printed (outcome.Trapped c pc) = tt
 prints : (status : Status) (answer : Answer) → Printed status → answer.status ≡ status → Printed answer.status
 prints status answer p e = subst Printed (sym e) p
 
+refusal_printed : (e : TransformError) → Printed (refusal_status e)
+refusal_printed (transform.Elf e) = error_printed e
+refusal_printed transform.NotBuilt = tt
+refusal_printed (transform.Admit e) = tt
+refusal_printed (transform.TooManySegments n) = tt
+refusal_printed (transform.FileTooLong n) = tt
+refusal_printed transform.Memory = tt
+
 transforms_printed : (bytes output : List ℕ) (answer : Answer) → Transforms bytes output answer → Printed answer.status
-transforms_printed bytes output answer (no_elf n) = prints Refused answer tt n.plain.status
-transforms_printed bytes output answer (not_built n) = prints Refused answer tt n.plain.status
+transforms_printed bytes output answer (refused r) = prints (refusal_status r.error) answer (refusal_printed r.error) r.plain.status
 transforms_printed bytes output answer (done d) = prints Done answer tt d.delivers.status
 
 runs_printed : (bytes : List ℕ) (answer : Answer) → Runs bytes answer → Printed answer.status
@@ -150,36 +165,63 @@ pub no_memory_soon : (call : Call) → call.new ≡ call.old → call.now ≡ ca
 no_memory_soon call stored text = always call.old (λ files. EndsOver call files Memory) (λ files. inl (record { stored = stored; printed = text }))
 
 -- ---- what can be expected
+-- what decides the status of `transform`, by the file that the bytes are
+data Settled (bytes : List ℕ) (s : Status) : Type 0 where
+  no_file : (e : ElfError) → IsRefused bytes e → s ≡ error_status e → Settled bytes s
+  other : (f : ElfFile) → File bytes f → (IsStraightTest f → ⊥) → s ≡ Refused → Settled bytes s
+  high : (f : ElfFile) → File bytes f → (p : StraightParts) → IsMadeOf f p → (x : ℕ × ℕ) → high_register_of f p.body ≡ Some x → s ≡ Refused → Settled bytes s
+  large : (out : OutFile) → WovenFile bytes out → (IsWithin out → ⊥) → s ≡ Limit → Settled bytes s
+  small : (out : OutFile) → WovenFile bytes out → IsWithin out → s ≡ Done → Settled bytes s
+
+settled_by : (bytes : List ℕ) (s : Status) (e : TransformError) → HasCause bytes e → e ≢ transform.Memory → s ≡ refusal_status e → Settled bytes s
+settled_by bytes s (transform.Elf e) c k a = no_file e c a
+settled_by bytes s transform.NotBuilt c k a = other c.file c.read c.other a
+settled_by bytes s (transform.Admit (admit.RegisterHalf at register)) c k a = high c.file c.read c.parts c.made (at, register) c.first a
+settled_by bytes s (transform.Admit admit.Memory) c k a = absurd c
+settled_by bytes s (transform.TooManySegments n) c k a = let over = c.over in let count = c.count in large c.out c.file (λ w. let most = w.segments in absurd (omega (arith, over, count, most))) a
+settled_by bytes s (transform.FileTooLong n) c k a = let over = c.over in let size = c.size in large c.out c.file (λ w. let most = w.size in absurd (omega (arith, over, size, most))) a
+settled_by bytes s transform.Memory c k a = absurd (k refl)
+
+settled : (bytes : List ℕ) (s : Status) → TransformDecides bytes s → Settled bytes s
+settled bytes s (decide.refused e c k a) = settled_by bytes s e c k a
+settled bytes s (decide.done out w i a) = small out w i a
+
+same_test : (bytes : List ℕ) (f g : ElfFile) (p : StraightParts) → File bytes f → File bytes g → IsMadeOf g p → IsStraightTest f
+same_test bytes f g p x y made = subst IsStraightTest (same_file bytes g f y x) (record { parts = p; made = made })
+
+too_large_or : (bytes : List ℕ) (out second : OutFile) → WovenFile bytes out → WovenFile bytes second → (IsWithin out → ⊥) → IsWithin second → ⊥
+too_large_or bytes out second x y no yes = no (subst IsWithin (same_out bytes second out y x) yes)
+
 -- a file has one status
+settled_unique : (bytes : List ℕ) (s t : Status) → Settled bytes s → Settled bytes t → s ≡ t
+settled_unique bytes s t (no_file e x a) (no_file d y b) = a ∙ ap error_status (same_refusal bytes e d x y) ∙ sym b
+settled_unique bytes s t (no_file e x a) (other g y m b) = absurd (not_both bytes e g x y)
+settled_unique bytes s t (no_file e x a) (high g y q made z n b) = absurd (not_both bytes e g x y)
+settled_unique bytes s t (no_file e x a) (large out w m b) = absurd (not_both bytes e w.file x w.read)
+settled_unique bytes s t (no_file e x a) (small out w m b) = absurd (not_both bytes e w.file x w.read)
+settled_unique bytes s t (other f x n a) (no_file d y b) = absurd (not_both bytes d f y x)
+settled_unique bytes s t (other f x n a) (other g y m b) = a ∙ sym b
+settled_unique bytes s t (other f x n a) (high g y q made z m b) = a ∙ sym b
+settled_unique bytes s t (other f x n a) (large out w m b) = absurd (n (is_straight bytes f out x w))
+settled_unique bytes s t (other f x n a) (small out w m b) = absurd (n (is_straight bytes f out x w))
+settled_unique bytes s t (high f x p made z n a) (no_file d y b) = absurd (not_both bytes d f y x)
+settled_unique bytes s t (high f x p made z n a) (other g y m b) = a ∙ sym b
+settled_unique bytes s t (high f x p made z n a) (high g y q also u m b) = a ∙ sym b
+settled_unique bytes s t (high f x p made z n a) (large out w m b) = absurd (is_low bytes f p z out x made n w)
+settled_unique bytes s t (high f x p made z n a) (small out w m b) = absurd (is_low bytes f p z out x made n w)
+settled_unique bytes s t (large out w n a) (no_file d y b) = absurd (not_both bytes d w.file y w.read)
+settled_unique bytes s t (large out w n a) (other g y m b) = absurd (m (is_straight bytes g out y w))
+settled_unique bytes s t (large out w n a) (high g y q also u m b) = absurd (is_low bytes g q u out y also m w)
+settled_unique bytes s t (large out w n a) (large second v m b) = a ∙ sym b
+settled_unique bytes s t (large out w n a) (small second v m b) = absurd (too_large_or bytes out second w v n m)
+settled_unique bytes s t (small out w n a) (no_file d y b) = absurd (not_both bytes d w.file y w.read)
+settled_unique bytes s t (small out w n a) (other g y m b) = absurd (m (is_straight bytes g out y w))
+settled_unique bytes s t (small out w n a) (high g y q also u m b) = absurd (is_low bytes g q u out y also m w)
+settled_unique bytes s t (small out w n a) (large second v m b) = absurd (too_large_or bytes second out v w m n)
+settled_unique bytes s t (small out w n a) (small second v m b) = a ∙ sym b
+
 transform_unique : (bytes : List ℕ) (s t : Status) → TransformDecides bytes s → TransformDecides bytes t → s ≡ t
-transform_unique bytes s t (decide.refused n a) (decide.refused m b) = a ∙ sym b
-transform_unique bytes s t (decide.refused n a) (decide.done f b) = absurd (n f)
-transform_unique bytes s t (decide.done f a) (decide.refused n b) = absurd (n f)
-transform_unique bytes s t (decide.done f a) (decide.done g b) = a ∙ sym b
-
--- bytes are one file
-same_file : (bytes : List ℕ) (f g : ElfFile) → File bytes f → File bytes g → f ≡ g
-same_file bytes f g x y =
-    let entry : f.entry ≡ g.entry = x.entry ∙ sym y.entry in
-    let flags : f.flags ≡ g.flags = x.flags ∙ sym y.flags in
-    let segments : f.segments ≡ g.segments = x.segments ∙ sym y.segments in
-    let sections : f.sections ≡ g.sections = x.sections ∙ sym y.sections in
-    let symbols : f.symbols ≡ g.symbols = x.symbols ∙ sym y.symbols in
-    let relas : f.relas ≡ g.relas = x.relas ∙ sym y.relas in
-    ap (λ a. record { entry = a; flags = f.flags; segments = f.segments; sections = f.sections; symbols = f.symbols; relas = f.relas }) entry
-    ∙ ap (λ a. record { entry = g.entry; flags = a; segments = f.segments; sections = f.sections; symbols = f.symbols; relas = f.relas }) flags
-    ∙ ap (λ a. record { entry = g.entry; flags = g.flags; segments = a; sections = f.sections; symbols = f.symbols; relas = f.relas }) segments
-    ∙ ap (λ a. record { entry = g.entry; flags = g.flags; segments = g.segments; sections = a; symbols = f.symbols; relas = f.relas }) sections
-    ∙ ap (λ a. record { entry = g.entry; flags = g.flags; segments = g.segments; sections = g.sections; symbols = a; relas = f.relas }) symbols
-    ∙ ap (λ a. record { entry = g.entry; flags = g.flags; segments = g.segments; sections = g.sections; symbols = g.symbols; relas = a }) relas
-
--- bytes are refused by one rule
-same_refusal : (bytes : List ℕ) (a b : ElfError) → IsRefused bytes a → IsRefused bytes b → a ≡ b
-same_refusal bytes a b x y = let p = x.first in let q = y.first in cc
-
--- bytes that are refused are no file
-not_both : (bytes : List ℕ) (e : ElfError) (f : ElfFile) → IsRefused bytes e → File bytes f → ⊥
-not_both bytes e f x y = let p = x.first in let q = y.accepted in let Clash : Ok tt ≡ Err e = sym q ∙ p in absurd (cc)
+transform_unique bytes s t x y = settled_unique bytes s t (settled bytes s x) (settled bytes t y)
 
 run_unique : (bytes : List ℕ) (s t : Status) → RunDecides bytes s → RunDecides bytes t → s ≡ t
 run_unique bytes s t (decide.unread e x a) (decide.unread d y b) = a ∙ ap error_status (same_refusal bytes e d x y) ∙ sym b
@@ -208,9 +250,8 @@ decides_same (Some c) files s t a b = command_same c files s t a b
 
 -- what is meant has the status that is decided, where no load failed
 transforms_decided : (bytes output : List ℕ) (answer : Answer) → Transforms bytes output answer → TransformDecides bytes answer.status
-transforms_decided bytes output answer (no_elf n) = decide.refused (λ f. n.cause f.plain.header.magic) n.plain.status
-transforms_decided bytes output answer (not_built n) = decide.refused n.cause n.plain.status
-transforms_decided bytes output answer (done d) = decide.done d.first d.delivers.status
+transforms_decided bytes output answer (refused r) = decide.refused r.error r.cause r.known r.plain.status
+transforms_decided bytes output answer (done d) = decide.done d.made.woven.out d.made.woven.file d.made.within d.delivers.status
 
 runs_decided : (bytes : List ℕ) (answer : Answer) → Runs bytes answer → RunDecides bytes answer.status
 runs_decided bytes answer (unread u) = decide.unread u.error u.cause u.plain.status
@@ -242,8 +283,7 @@ stored_as None rose output file s r = absurd r
 stored_as (Some s) rose output file e r = subst rose e.0 r
 
 transforms_store : (bytes output : List ℕ) (stores : List ℕ → Type 0) (answer : Answer) → (stores output → ⊥) → Transforms bytes output answer → StoreRose answer.stored stores → ⊥
-transforms_store bytes output stores answer calm (no_elf n) r = none_stored answer stores n.plain.stored r
-transforms_store bytes output stores answer calm (not_built n) r = none_stored answer stores n.plain.stored r
+transforms_store bytes output stores answer calm (refused x) r = none_stored answer stores x.plain.stored r
 transforms_store bytes output stores answer calm (done d) r = calm (stored_as answer.stored stores output d.file d.delivers.stored r)
 
 runs_store : (bytes : List ℕ) (stores : List ℕ → Type 0) (answer : Answer) → Runs bytes answer → StoreRose answer.stored stores → ⊥

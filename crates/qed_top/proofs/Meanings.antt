@@ -1,5 +1,5 @@
 -- From what was read and made to what is meant.
-use Rattle.std.proofs.Common.{◌≡◌, ◌⊎◌, ◌≤◌, ◌<◌, ◌+◌, ℕ, List, [], length, Option, None, Some, IfSome, inl, inr, refl, ap, sym, ◌∙◌, subst, arith}
+use Rattle.std.proofs.Common.{◌≡◌, ◌≢◌, ◌⊎◌, ◌≤◌, ◌<◌, ◌+◌, ℕ, List, [], length, Option, None, Some, IfSome, inl, inr, refl, ap, sym, ◌∙◌, subst, arith}
 use Rattle.std.specs.Prelude.{MatchOption, replicate, unwrap_or, cond}
 use Rattle.std.specs.Cmp.{eq_by_cmp_equiv}
 use Rattle.std.specs.Cmp.Lexicographic.{nat_list_cmp_total}
@@ -9,10 +9,12 @@ use Rattle.qed_io.specs.Files.{Files, file_bytes}
 use Rattle.elf_types.specs.declared.file.ElfFile.{ElfFile}
 use Rattle.elf_types.specs.declared.error.ElfError.{ElfError}
 use Rattle.elf_types.specs.declared.error.ElfError.TheVariants as error
-use Rattle.qed_model.specs.Plain.{HasMagic, IsFirst}
+use Rattle.qed_model.specs.declared.plan.Plan.{Plan}
+use Rattle.transform.specs.declared.error.TransformError.{TransformError}
+use Rattle.transform.specs.declared.error.TransformError.TheVariants as transform
 use Rattle.qed_model.specs.ElfFile.{File}
 use Rattle.qed_model.specs.ElfRefusals.{IsRefused}
-use Rattle.qed_model.specs.Texts.{read_fault_line, usage_line, magic_line, not_built_line}
+use Rattle.qed_model.specs.Texts.{read_fault_line, usage_line}
 use Rattle.qed_model.specs.ErrorTexts.{error_line}
 use Rattle.qed_model.specs.RunTexts.{run_lines}
 use Rattle.qed_model.specs.Kept.{start, zeros}
@@ -21,13 +23,13 @@ use Rattle.qed_model.specs.Progress.{Progress, progress, begun}
 use Rattle.qed_model.specs.declared.machine.Outcome.{Outcome}
 use Rattle.qed_top.specs.Words.{Asked, asked}
 use Rattle.transform.specs.Transform as Made
-use Rattle.qed_top.specs.Answer.{PrintsOnly, Delivers, Transforms, no_elf, not_built, done, Runs, unread, too_large, ran, Means, read_fault, too_long, within, CommandMeans, IsMeant, error_status, memory_bytes, memory_limit, default_steps, outcome_status, run_of}
+use Rattle.qed_top.specs.Answer.{PrintsOnly, Delivers, Transforms, refused, done, refusal_status, refusal_line, Runs, unread, too_large, ran, Means, read_fault, too_long, within, CommandMeans, IsMeant, error_status, memory_bytes, memory_limit, default_steps, outcome_status, run_of}
 use Rattle.qed_top.specs.Run.{FileRuns}
 use Rattle.qed_top.specs.Run as run
 use Rattle.qed_top.specs.Ends.{OverFiles}
 use Rattle.qed_top.specs.declared.answer.Answer.{Answer}
 use Rattle.qed_top.specs.declared.status.Status.{Status}
-use Rattle.qed_top.specs.declared.status.Status.TheVariants.{Usage, Refused, Limit, ReadFault}
+use Rattle.qed_top.specs.declared.status.Status.TheVariants.{Usage, Limit, ReadFault}
 
 -- ---- files
 -- what holds of each file system holds of the one that is told
@@ -86,15 +88,11 @@ pub over_usage : (told : Option Files) (words : List (List ℕ)) (rose : List �
 over_usage told words rose answer e plain = always told (λ f. IsMeant words f rose answer) (λ f. subst (λ (o : Option Asked). MatchOption o (PrintsOnly Usage usage_line answer) (λ c. CommandMeans c f rose answer)) (sym e) plain)
 
 -- ---- `transform`
-pub does : (bytes output file : List ℕ) (code_bytes : ℕ) (answer : Answer) → Made.Transforms bytes file code_bytes → Delivers file output code_bytes answer → Transforms bytes output answer
-does bytes output file code_bytes answer made delivers =
-    done (record { first = made.first; file = file; woven = made.woven; kept = made.kept; delivers = subst (λ (n : ℕ). Delivers file output n answer) made.size delivers })
+pub is_done : (bytes output file : List ℕ) (plan : Plan) (answer : Answer) → Made.Transforms bytes file plan → Delivers file output plan answer → Transforms bytes output answer
+is_done bytes output file plan answer made delivers = done (record { file = file; plan = plan; made = made; delivers = delivers })
 
-pub has_no_magic : (bytes output : List ℕ) (answer : Answer) → (HasMagic bytes → ⊥) → PrintsOnly Refused magic_line answer → Transforms bytes output answer
-has_no_magic bytes output answer cause plain = no_elf (record { cause = cause; plain = plain })
-
-pub is_not_built : (bytes output : List ℕ) (answer : Answer) → HasMagic bytes → (IsFirst bytes → ⊥) → PrintsOnly Refused not_built_line answer → Transforms bytes output answer
-is_not_built bytes output answer magic cause plain = not_built (record { magic = magic; cause = cause; plain = plain })
+pub is_refused : (bytes output : List ℕ) (e : TransformError) (answer : Answer) → Made.HasCause bytes e → e ≢ transform.Memory → PrintsOnly (refusal_status e) (refusal_line e) answer → Transforms bytes output answer
+is_refused bytes output e answer cause known plain = refused (record { error = e; cause = cause; known = known; plain = plain })
 
 -- ---- `run`
 pub file_runs : (bytes : List ℕ) (f : ElfFile) (answer : Answer) → File bytes f → FileRuns f answer → Runs bytes answer

@@ -1,5 +1,5 @@
 -- What the words and the files call for.
-use Rattle.std.specs.Prelude.{◌≡◌, ◌⊎◌, ◌<◌, ◌≤◌, ℕ, ◌+◌, ◌*◌, cond, ◌==◌, List, [], ◌∷◌, length, Option, None, Some, MatchOption, IfSome, IsSomeAnd}
+use Rattle.std.specs.Prelude.{◌≡◌, ◌≢◌, ◌<◌, ◌≤◌, ℕ, ◌+◌, cond, ◌==◌, List, [], ◌∷◌, length, Option, None, Some, MatchOption, IfSome, IsSomeAnd}
 use Rattle.std.specs.FinMap.{insert}
 use Rattle.qed_io.specs.Files.{Files, file_bytes, StoredInPart}
 use Rattle.elf_types.specs.declared.file.Segment.{Segment}
@@ -8,18 +8,20 @@ use Rattle.elf_types.specs.declared.error.ElfError.{ElfError}
 use Rattle.elf_types.specs.declared.error.ElfError.TheVariants as error
 use Rattle.qed_model.specs.declared.machine.Outcome.{Outcome}
 use Rattle.qed_model.specs.declared.machine.Outcome.TheVariants as outcome
-use Rattle.qed_model.specs.Plain.{HasMagic, IsFirst}
 use Rattle.qed_model.specs.ElfFile.{File}
-use Rattle.qed_model.specs.ElfRefusals.{IsRefused}
-use Rattle.qed_model.specs.Woven.{Woven, half}
-use Rattle.qed_model.specs.Kept.{Kept, start, zeros}
+use Rattle.qed_model.specs.ElfRefusals as Refusals
+use Rattle.qed_model.specs.declared.plan.Plan.{Plan}
+use Rattle.qed_model.specs.Kept.{start, zeros}
 use Rattle.qed_model.specs.Progress.{Progress, progress, begun}
-use Rattle.qed_model.specs.Loaded.{loaded}
 use Rattle.qed_model.specs.LoadedFile.{loaded_file}
-use Rattle.qed_model.specs.Bounds.{piece_bound, register_bound, word_bound, default_most, default_round}
-use Rattle.qed_model.specs.Texts.{transform_line, usage_line, read_fault_line, load_limit, load_limit_line, run_load_limit, run_load_limit_line, magic_line, not_built_line}
+use Rattle.qed_model.specs.Texts.{plan_line, usage_line, read_fault_line, load_limit, load_limit_line, run_load_limit, run_load_limit_line, not_built_line}
 use Rattle.qed_model.specs.RunTexts.{run_lines}
-use Rattle.qed_model.specs.ErrorTexts.{error_line, memory_limit_line}
+use Rattle.qed_model.specs.ErrorTexts.{error_line, memory_limit_line, high_register_line, segment_limit_line, size_limit_line}
+use Rattle.transform.specs.declared.error.TransformError.{TransformError}
+use Rattle.transform.specs.declared.error.TransformError.TheVariants as transform
+use Rattle.transform.specs.declared.error.AdmitError.TheVariants as admit
+use Rattle.transform.specs.Transform.{HasCause}
+use Rattle.transform.specs.Transform as Made
 use Rattle.qed_top.specs.Words.{Asked, Transform, Run, asked}
 use Rattle.qed_top.specs.declared.answer.Stored.{Stored}
 use Rattle.qed_top.specs.declared.answer.Answer.{Answer}
@@ -52,46 +54,52 @@ error_status _ = Refused
 -- E1 to E13, L5 or L10: the first rule that refuses the bytes, with its place or number
 pub record IsUnread (bytes : List ℕ) (answer : Answer) : Type 0 where
   pub error : ElfError
-  pub cause : IsRefused bytes error
+  pub cause : Refusals.IsRefused bytes error
   pub plain : PrintsOnly (error_status error) (error_line error) answer
 
 -- ---- `transform`
--- E1: IN has no magic
-pub record IsNoElf (bytes : List ℕ) (answer : Answer) : Type 0 where
-  pub cause : HasMagic bytes → ⊥
-  pub plain : PrintsOnly Refused magic_line answer
+-- the status that goes with an error of the transformation, and its line
+abbrev pub refusal_status : TransformError → Status
+refusal_status (transform.Elf e) = error_status e
+refusal_status transform.NotBuilt = Refused
+refusal_status (transform.Admit e) = Refused
+refusal_status (transform.TooManySegments n) = Limit
+refusal_status (transform.FileTooLong n) = Limit
+refusal_status transform.Memory = Refused
 
--- E0: IN has the magic, and is no first file
-pub record IsNotBuilt (bytes : List ℕ) (answer : Answer) : Type 0 where
-  pub magic : HasMagic bytes
-  pub cause : IsFirst bytes → ⊥
-  pub plain : PrintsOnly Refused not_built_line answer
+abbrev pub refusal_line : TransformError → List ℕ
+refusal_line (transform.Elf e) = error_line e
+refusal_line transform.NotBuilt = not_built_line
+refusal_line (transform.Admit (admit.RegisterHalf at register)) = high_register_line at register
+refusal_line (transform.Admit admit.Memory) = []
+refusal_line (transform.TooManySegments n) = segment_limit_line n
+refusal_line (transform.FileTooLong n) = size_limit_line n
+refusal_line transform.Memory = []
 
--- the bounds of an output without data words, and the line about it
-abbrev pub default_piece : ℕ
-default_piece = piece_bound default_most default_round
-
-abbrev pub done_line : ℕ → List ℕ
-done_line code_bytes = transform_line code_bytes 1 1 half (register_bound default_piece) (word_bound 0 default_round default_piece)
+-- IN is not transformed: it is not read (E1 to E13, L5, L10), it is no straight test (E0), it names a register above x13 (A7), or
+-- its output would be too large (L8, L9). The first of these holds, with its place or number.
+pub record IsRefused (bytes : List ℕ) (answer : Answer) : Type 0 where
+  pub error : TransformError
+  pub cause : HasCause bytes error
+  pub known : error ≢ transform.Memory
+  pub plain : PrintsOnly (refusal_status error) (refusal_line error) answer
 
 -- the file is stored as OUT, and the line about it is printed
-pub record Delivers (file output : List ℕ) (code_bytes : ℕ) (answer : Answer) : Type 0 where
+pub record Delivers (file output : List ℕ) (plan : Plan) (answer : Answer) : Type 0 where
   pub status : answer.status ≡ Done
   pub stored : IsSomeAnd answer.stored (λ s. (s.name.now ≡ output) × (s.bytes ≡ file))
-  pub text : answer.text ≡ done_line code_bytes
+  pub text : answer.text ≡ plan_line plan
 
--- done: IN is a first file, what is woven from it is delivered, and the runs of that have the values of the runs of IN
+-- done: what is woven from IN is delivered, its plan is told, and its runs have the values of the runs of IN
 pub record IsDone (bytes output : List ℕ) (answer : Answer) : Type 0 where
-  pub first : IsFirst bytes
   pub file : List ℕ
-  pub woven : Woven bytes file
-  pub kept : Kept (loaded bytes) (loaded file) default_piece
-  pub delivers : Delivers file output (4 * length woven.words) answer
+  pub plan : Plan
+  pub made : Made.Transforms bytes file plan
+  pub delivers : Delivers file output plan answer
 
 -- what `transform IN OUT` answers over the bytes of IN, which are within the limit
 pub data Transforms (bytes output : List ℕ) (answer : Answer) : Type 0 where
-  no_elf : IsNoElf bytes answer → Transforms bytes output answer
-  not_built : IsNotBuilt bytes answer → Transforms bytes output answer
+  refused : IsRefused bytes answer → Transforms bytes output answer
   done : IsDone bytes output answer → Transforms bytes output answer
 
 -- ---- `run`

@@ -1,16 +1,20 @@
 -- How the top call ends.
-use Rattle.std.specs.Prelude.{◌≡◌, ◌⊎◌, ◌<◌, ◌≤◌, ℕ, List, length, Option, MatchOption, IfSome}
+use Rattle.std.specs.Prelude.{◌≡◌, ◌≢◌, ◌⊎◌, ◌<◌, ◌≤◌, ℕ, List, length, Option, MatchOption, IfSome}
 use Rattle.std.specs.Io.KnownBytes.{Appends}
 use Rattle.qed_io.specs.Files.{Files, file_bytes}
 use Rattle.qed_io.specs.Sink.{AppendsPart}
 use Rattle.elf_types.specs.declared.file.ElfFile.{ElfFile}
 use Rattle.elf_types.specs.declared.error.ElfError.{ElfError}
-use Rattle.qed_model.specs.Plain.{IsFirst}
+use Rattle.elf_types.specs.declared.output.OutFile.{OutFile}
+use Rattle.transform.specs.declared.error.TransformError.{TransformError}
+use Rattle.transform.specs.declared.error.TransformError.TheVariants as transform
+use Rattle.transform.specs.Transform.{HasCause, IsWithin}
+use Rattle.qed_model.specs.Woven.{WovenFile}
 use Rattle.qed_model.specs.ElfFile.{File}
 use Rattle.qed_model.specs.ElfRefusals.{IsRefused}
 use Rattle.qed_model.specs.Texts.{load_limit, run_load_limit}
 use Rattle.qed_top.specs.Words.{Asked, Transform, Run, asked, read_name, stored_name}
-use Rattle.qed_top.specs.Answer.{IsMeant, FilesAfter, FilesInPart, StoreRose, error_status, memory_bytes, memory_limit, outcome_status, run_of}
+use Rattle.qed_top.specs.Answer.{IsMeant, FilesAfter, FilesInPart, StoreRose, error_status, refusal_status, memory_bytes, memory_limit, outcome_status, run_of}
 use Rattle.qed_top.specs.declared.answer.Answer.{Answer}
 use Rattle.qed_top.specs.declared.status.Status.{Status}
 use Rattle.qed_top.specs.declared.status.Status.TheVariants.{Done, Usage, Refused, Limit, WriteFault, Memory}
@@ -73,8 +77,8 @@ Ends call status = OverFiles call.old (λ files. EndsOver call files status)
 -- ---- what can be expected
 -- the status of `transform` over bytes within the limit, by what is true of them
 pub data TransformDecides (bytes : List ℕ) (status : Status) : Type 0 where
-  refused : (IsFirst bytes → ⊥) → status ≡ Refused → TransformDecides bytes status
-  done : IsFirst bytes → status ≡ Done → TransformDecides bytes status
+  refused : (e : TransformError) → HasCause bytes e → e ≢ transform.Memory → status ≡ refusal_status e → TransformDecides bytes status
+  done : (out : OutFile) → WovenFile bytes out → IsWithin out → status ≡ Done → TransformDecides bytes status
 
 -- the same of `run`
 pub data RunDecides (bytes : List ℕ) (status : Status) : Type 0 where

@@ -48,7 +48,7 @@ pub fn line<'a>(alloc: Global, status: Status, text: &[u8]) -> Result<Answer<'a>
 }
 
 /// The status that goes with a file that is not read.
-fn status_of(error: ElfError) -> Status
+pub fn status_of(error: ElfError) -> Status
     ensures { result ≡ error_status error }
 {
     match error {

@@ -1,19 +1,21 @@
 // What the words and the files call for.
-ghost use Rattle.std.specs.Prelude.{◌≡◌, IfOk};
+ghost use Rattle.std.specs.Prelude.{◌≡◌, ◌≢◌, IfOk, OnOk};
 ghost use Rattle.qed_io.specs.Counts.{RoseAt, NoneFell};
 ghost use Rattle.qed_top.specs.Words.{Transform, Run, texts};
-ghost use Rattle.qed_top.specs.Answer.{CommandMeans, Delivers, IsMeant, Transforms, done_line};
+ghost use Rattle.qed_top.specs.Answer.{CommandMeans, Delivers, IsMeant, Transforms, refusal_line, refusal_status};
 ghost use Rattle.qed_top.specs.Ends.{OverFiles};
 
-use crate::answer::{Answer, Stored, line};
+use crate::answer::{Answer, Stored, line, plain, status_of};
 use crate::run::answer_run;
 use crate::status::Status;
 use crate::words::{Command, read_command};
 use elf_types::Bytes;
 use qed_io::{LoadError, Shelf};
-use report::{Bounds, Sizes, transform_text};
+use report::{
+    error_text, high_register_text, segment_limit_text, size_limit_text, transform_text,
+};
 use std::alloc::{AllocError, Global};
-use transform::{HALF, TransformError, Transformed, transform};
+use transform::{AdmitError, TransformError, Transformed, transform};
 
 /// The greatest size of a file to be transformed, in bytes.
 const LOAD_LIMIT: u64 = 67_108_864;
@@ -21,39 +23,15 @@ const LOAD_LIMIT: u64 = 67_108_864;
 /// The greatest size of a file to be run, in bytes.
 const RUN_LOAD_LIMIT: u64 = 536_870_912;
 
-/// The greatest number of instructions in a piece.
-const INST_MAX: u64 = 16;
-
-/// The number of data words in a visit.
-const ROUND: u64 = 1;
-
-/// The line about an output with this much new code.
-fn done_text(alloc: Global, code: u64) -> Result<Bytes, AllocError>
-    ensures { IfOk result (λ text. text ≡ done_line code) }
-{
-    let sizes = Sizes {
-        code,
-        entries: 1,
-        pieces: 1,
-        half: u64::from(HALF),
-    };
-    let bounds = Bounds {
-        register: 32 + 2 * (30 + 5 * INST_MAX + 10 * ROUND),
-        word: None,
-    };
-    let text = transform_text(alloc, sizes, bounds)?;
-    Ok(Bytes::of(text.into_bytes()))
-}
-
 /// What `transform` answers for an output.
 fn answer_done<'a>(
     alloc: Global,
     made: Transformed,
     output: &'a str,
 ) -> Result<Answer<'a>, AllocError>
-    ensures { IfOk result (Delivers made.file output.now made.code_bytes) }
+    ensures { IfOk result (Delivers made.file output.now made.plan) }
 {
-    let text = done_text(alloc, made.code_bytes)?;
+    let text = transform_text(alloc, &made.plan)?;
     Ok(Answer {
         status: Status::Done,
         text,
@@ -64,6 +42,34 @@ fn answer_done<'a>(
     })
 }
 
+/// The line about a file that is not transformed.
+fn refusal_text(alloc: Global, error: TransformError) -> Result<Bytes, AllocError>
+    ensures text { IfOk result (λ text. text ≡ refusal_line error) }
+    ensures memory { OnOk result (error ≢ TransformError.Memory) }
+{
+    match error {
+        TransformError::Elf(error) => Ok(error_text(alloc, error)?),
+        TransformError::NotBuilt => Ok(Bytes::copied(alloc, b"refused E0: not built yet\n")?),
+        TransformError::Admit(AdmitError::RegisterHalf(at, register)) => {
+            Ok(high_register_text(alloc, at, register)?)
+        }
+        TransformError::TooManySegments(n) => Ok(segment_limit_text(alloc, n)?),
+        TransformError::FileTooLong(n) => Ok(size_limit_text(alloc, n)?),
+        TransformError::Admit(AdmitError::Memory) | TransformError::Memory => Err(AllocError),
+    }
+}
+
+/// The status that goes with a file that is not transformed.
+fn refusal_status_of(error: TransformError) -> Status
+    ensures { result ≡ refusal_status error }
+{
+    match error {
+        TransformError::Elf(error) => status_of(error),
+        TransformError::TooManySegments(_) | TransformError::FileTooLong(_) => Status::Limit,
+        _ => Status::Refused,
+    }
+}
+
 /// What `transform` answers over the bytes of its input.
 fn answer_transform<'a>(
     alloc: Global,
@@ -72,15 +78,16 @@ fn answer_transform<'a>(
 ) -> Result<Answer<'a>, AllocError>
     ensures { IfOk result (λ answer. Transforms bytes.now output.now answer) }
 {
-    let answer = match transform(alloc, bytes) {
-        Ok(made) => answer_done(alloc, made, output)?,
-        Err(TransformError::Magic) => line(alloc, Status::Refused, b"refused E1: magic\n")?,
-        Err(TransformError::NotBuilt) => {
-            line(alloc, Status::Refused, b"refused E0: not built yet\n")?
+    match transform(alloc, bytes) {
+        Ok(made) => {
+            let answer = answer_done(alloc, made, output)?;
+            Ok(answer)
         }
-        Err(TransformError::Memory) => return Err(AllocError),
-    };
-    Ok(answer)
+        Err(error) => {
+            let text = refusal_text(alloc, error)?;
+            Ok(plain(refusal_status_of(error), text))
+        }
+    }
 }
 
 /// What `transform` answers over the files.

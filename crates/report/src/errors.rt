@@ -1,8 +1,10 @@
 // What is printed where a file is refused.
 ghost use Rattle.std.specs.Prelude.{◌≡◌, ◌≢◌, Some, IfOk, OnOk, string_bytes};
-ghost use Rattle.qed_model.specs.ErrorTexts.{part_line, error_line, memory_limit_line};
+ghost use Rattle.qed_model.specs.ErrorTexts.{part_line, error_line, memory_limit_line, high_register_line, segment_limit_line, size_limit_line};
 
+use crate::hex::Hex;
 use elf_types::{Bytes, ElfError, Part};
+use rv_isa::Reg;
 use std::alloc::{AllocError, Global};
 
 /// The line about a part that ends past the end of its file.
@@ -59,5 +61,31 @@ pub fn memory_limit_text(alloc: Global, bytes: u128) -> Result<Bytes, AllocError
     ensures { IfOk result (λ text. text ≡ memory_limit_line bytes) }
 {
     let text = format!(in alloc; "limit L6: {bytes} over 268435456\n")?;
+    Ok(Bytes::of(text.into_bytes()))
+}
+
+/// The line about the first register above x13 that a test names, in the instruction at an address.
+pub fn high_register_text(alloc: Global, at: u64, register: Reg) -> Result<Bytes, AllocError>
+    ensures { IfOk result (λ text. text ≡ high_register_line at register) }
+{
+    let at = Hex(at);
+    let register = register.number();
+    let text = format!(in alloc; "refused A7: address {at}, register {register}\n")?;
+    Ok(Bytes::of(text.into_bytes()))
+}
+
+/// The line about an output that has this many segments, too many to be written.
+pub fn segment_limit_text(alloc: Global, segments: u64) -> Result<Bytes, AllocError>
+    ensures { IfOk result (λ text. text ≡ segment_limit_line segments) }
+{
+    let text = format!(in alloc; "limit L8: {segments} over 4000\n")?;
+    Ok(Bytes::of(text.into_bytes()))
+}
+
+/// The line about an output that has this many bytes, too many to be written.
+pub fn size_limit_text(alloc: Global, bytes: u128) -> Result<Bytes, AllocError>
+    ensures { IfOk result (λ text. text ≡ size_limit_line bytes) }
+{
+    let text = format!(in alloc; "limit L9: {bytes} over 536870912\n")?;
     Ok(Bytes::of(text.into_bytes()))
 }

@@ -6,6 +6,8 @@ mod hex;
 mod run;
 mod transform;
 
-pub use errors::{error_text, memory_limit_text};
+pub use errors::{
+    error_text, high_register_text, memory_limit_text, segment_limit_text, size_limit_text,
+};
 pub use run::run_text;
-pub use transform::{Bounds, Sizes, transform_text};
+pub use transform::transform_text;

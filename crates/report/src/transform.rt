@@ -1,13 +1,15 @@
 // What is printed about an output.
-ghost use Rattle.std.specs.Prelude.{◌≡◌, Some, IfOk, string_bytes};
-ghost use Rattle.qed_model.specs.Texts.{bound_text, sizes_text, bounds_text, transform_line};
+ghost use Rattle.std.specs.Prelude.{◌≡◌, Some, IfOk};
+ghost use Rattle.qed_model.specs.Texts.{sizes_text, bounds_text, plan_line};
 
+use elf_types::Bytes;
+use qed_model::Plan;
 use std::alloc::{AllocError, Global};
 use std::fmt;
 
 /// The sizes of an output, printed as `code N bytes, entries E, pieces P, half D`.
 #[derive(Clone, Copy, Debug)]
-pub struct Sizes {
+struct Sizes {
     /// The new code, in bytes.
     pub code: u64,
     pub entries: u64,
@@ -36,16 +38,16 @@ impl fmt::Display for Sizes {
 /// The bounds of an output in steps, printed as `register bound R, word bound B`. The word bound is None where there is
 /// no data word.
 #[derive(Clone, Copy, Debug)]
-pub struct Bounds {
+struct BoundsText {
     pub register: u64,
     pub word: Option<u64>,
 }
 
-impl fmt::Display for Bounds {
+impl fmt::Display for BoundsText {
     ghost output = { λ b. Some (bounds_text b.register b.word) };
 
     fn fmt<W: fmt::Write>(&self, f: &mut fmt::Formatter<W>) -> fmt::Result {
-        let Bounds { register, word } = *self;
+        let BoundsText { register, word } = *self;
         match word {
             Some(word) => write!(f, "register bound {register}, word bound {word}"),
             None => write!(f, "register bound {register}, word bound none"),
@@ -53,9 +55,20 @@ impl fmt::Display for Bounds {
     }
 }
 
-/// The line about an output.
-pub fn transform_text(alloc: Global, sizes: Sizes, bounds: Bounds) -> Result<String, AllocError>
-    ensures { IfOk result (λ text. string_bytes text ≡ transform_line sizes.code sizes.entries sizes.pieces sizes.half bounds.register bounds.word) }
+/// The line about an output, by what is told of it.
+pub fn transform_text(alloc: Global, plan: &Plan) -> Result<Bytes, AllocError>
+    ensures { IfOk result (λ text. text ≡ plan_line plan.now) }
 {
-    format!(in alloc; "{sizes}, {bounds}\n")
+    let sizes = Sizes {
+        code: plan.code_bytes,
+        entries: plan.entries.as_slice().len() as u64,
+        pieces: plan.pieces.as_slice().len() as u64,
+        half: plan.distance,
+    };
+    let bounds = BoundsText {
+        register: plan.bounds.register,
+        word: plan.bounds.word,
+    };
+    let text = format!(in alloc; "{sizes}, {bounds}\n")?;
+    Ok(Bytes::of(text.into_bytes()))
 }

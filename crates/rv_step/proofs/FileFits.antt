@@ -196,15 +196,15 @@ module _ (file : List ℕ) (f : ElfFile) (read : File file f) where
 
   pub file_fits : AllFit (load_segments f.segments)
   file_fits = all_fit f.segments (λ k s e h.
-    let t = at_place k s e in
-    subst (λ x. Fits (load_segment x)) (sym t.1) (segment_fits file k (header_kind k s t.1 h) (well_shaped file (on_segments file read.accepted).shape k t.0)))
+      let t = at_place k s e in
+      subst (λ x. Fits (load_segment x)) (sym t.1) (segment_fits file k (header_kind k s t.1 h) (well_shaped file (on_segments file read.accepted).shape k t.0)))
 
   pub file_apart : AreApart (load_segments f.segments)
   file_apart = apart f.segments (λ i j s t l e g h k share.
-    let x = at_place i s e in
-    let y = at_place j t g in
-    let p = header_kind i s x.1 h in
-    let q = header_kind j t y.1 k in
-    let both = share_overlaps file i j p q (subst (λ b. Share (load_segment (segment_of file i)) (load_segment b)) y.1 (subst (λ a. Share (load_segment a) (load_segment t)) x.1 share)) in
-    let none = no_overlap file i j (not_overlapped file (on_segments file read.accepted).overlap i x.0) y.0 in
-    false≢true (sym none ∙ and_from (nat_lt i j) _ (lt-ltb i j l) both))
+      let x = at_place i s e in
+      let y = at_place j t g in
+      let p = header_kind i s x.1 h in
+      let q = header_kind j t y.1 k in
+      let both = share_overlaps file i j p q (subst (λ b. Share (load_segment (segment_of file i)) (load_segment b)) y.1 (subst (λ a. Share (load_segment a) (load_segment t)) x.1 share)) in
+      let none = no_overlap file i j (not_overlapped file (on_segments file read.accepted).overlap i x.0) y.0 in
+      false≢true (sym none ∙ and_from (nat_lt i j) _ (lt-ltb i j l) both))

@@ -6,7 +6,6 @@ use Rattle.qed_model.specs.Machine.{State, Fetched, Refused, Unknown, Known, fet
 use Rattle.qed_model.specs.declared.change.Place.{Place}
 use Rattle.qed_model.specs.declared.machine.Outcome.{Outcome}
 use Rattle.qed_model.specs.declared.machine.Outcome.TheVariants.{Going, Ended, Fired, Trapped}
-use Rattle.qed_model.specs.Table.{Format, R}
 use Rattle.qed_model.specs.Progress.{Progress}
 use Rattle.qed_model.specs.Struck.{struck}
 
@@ -35,11 +34,6 @@ struck_progress p x m = record { state = struck p x m.state; steps = m.steps }
 -- another state, and as many steps
 abbrev pub at_state : State → Progress → Progress
 at_state s m = record { state = s; steps = m.steps }
-
--- the format whose second operand is a register
-abbrev pub is_register_format : Format → Bool
-is_register_format R = true
-is_register_format _ = false
 
 -- whether a step does anything
 abbrev pub goes_on : Outcome → Bool

@@ -3,39 +3,17 @@ ghost use Rattle.std.specs.Prelude.{◌≡◌, ◌+◌, ◌%◌, ◌^◌, ◌==�
 ghost use Rattle.rv_isa.specs.Kind.{class_of};
 ghost use Rattle.rv_isa.specs.Regs.{set_reg};
 ghost use Rattle.rv_isa.specs.declared.class.Class.TheVariants as class;
-ghost use Rattle.qed_model.specs.Machine.{act, execute, imm, jumped, moved, next, next_pc, result as value_of, second as second_of, stopped, trapped, place as place_of};
-ghost use Rattle.qed_model.specs.Table.{row_of};
-ghost use Rattle.rv_step.specs.Known.{known_at, word_at, at_state, is_register_format};
+ghost use Rattle.qed_model.specs.Machine.{act, execute, moved, next, next_pc, stopped, trapped, place as place_of};
+ghost use Rattle.rv_alu.specs.Steps.{IsComputing, IsBranching, IsJumping, IsPassing};
+ghost use Rattle.rv_step.specs.Known.{known_at, word_at, at_state};
 
 use crate::loads::{extended, width};
 use crate::machine::Machine;
 use crate::range::any_has_word;
 use qed_model::{Cause, Outcome};
-use rv_alu::{compute, taken};
+use rv_alu::{Branching, Computing, Jumping, Passing};
 use rv_decode::decode;
-use rv_isa::{Class, Ins, Kind, Reg};
-
-/// Whether the second operand of the kind is the register rs2 (RISC-V unprivileged manual, "Base Instruction Formats").
-fn has_register(kind: Kind) -> bool
-    ensures { result ≡ is_register_format (row_of kind).format }
-{
-    match kind {
-        Kind::Add | Kind::Sub | Kind::Sll | Kind::Slt | Kind::Sltu => true,
-        Kind::Xor | Kind::Srl | Kind::Sra | Kind::Or | Kind::And => true,
-        Kind::Addw | Kind::Subw | Kind::Sllw | Kind::Srlw | Kind::Sraw => true,
-        Kind::Mul | Kind::Mulh | Kind::Mulhsu | Kind::Mulhu => true,
-        Kind::Div | Kind::Divu | Kind::Rem | Kind::Remu => true,
-        Kind::Mulw | Kind::Divw | Kind::Divuw | Kind::Remw | Kind::Remuw => true,
-        _ => false,
-    }
-}
-
-/// The immediate modulo 2^64.
-fn immediate(ins: &Ins) -> u64
-    ensures { result ≡ imm ins.now }
-{
-    ins.imm.cast_unsigned()
-}
+use rv_isa::{Class, Ins, Operation, Reg};
 
 impl Machine {
     /// The word at an address where code may be executed, else None.
@@ -103,56 +81,46 @@ impl Machine {
         self.go_on();
     }
 
-    /// One instruction, by its class.
+    /// One instruction, by its class. The pc is a multiple of 4, as it is where an instruction was fetched.
     #[tactic(auto, unfolding(qed_model::specs::Machine::execute))]
     fn execute(&mut self, ins: &Ins)
+        requires { self.old.state.pc % 4 ≡ 0 }
         ensures { self.new ≡ at_state (execute (class_of ins.now.kind) ins.now self.old.state) self.old }
     {
         match ins.class() {
-            Class::Compute => {
-                let value = self.computed(ins);
-                self.set(ins.rd, value);
-            }
+            Class::Compute => self.compute(ins),
             Class::Load => self.load(ins),
             Class::Store => self.store(ins),
             Class::Branch => self.branch(ins),
-            Class::Jump => self.jump(ins),
-            Class::JumpReg => self.jump_to_register(ins),
-            Class::Fence => self.go_on(),
+            Class::Jump | Class::JumpReg => self.jump(ins),
+            Class::Fence => self.pass(ins),
             Class::End => self.stop(Outcome::Ended),
             Class::Break => self.stop(Outcome::Fired),
             Class::Illegal => self.trap(Cause::Word(0)),
         }
     }
 
-    /// What a computing instruction writes to rd.
-    #[tactic(auto, unfolding(qed_model::specs::Machine::result))]
-    fn computed(&self, ins: &Ins) -> u64
-        ensures { result ≡ value_of ins.now.kind ins.now self.now.state }
+    /// A computing instruction.
+    fn compute(&mut self, ins: &Ins)
+        requires { IsComputing (class_of ins.now.kind) }
+        ensures { self.new ≡ at_state (execute (class_of ins.now.kind) ins.now self.old.state) self.old }
     {
-        match ins.kind {
-            Kind::Lui => immediate(ins),
-            Kind::Auipc => self.pc.wrapping_add(immediate(ins)),
-            kind => compute(kind, self.reg(ins.rs1), self.second(ins)),
-        }
+        self.pc = Computing.act(ins, self.pc, &mut self.regs);
     }
 
-    /// The second operand: the register rs2, or the immediate.
-    fn second(&self, ins: &Ins) -> u64
-        ensures { result ≡ second_of (row_of ins.now.kind).format ins.now self.now.state }
+    /// FENCE.
+    fn pass(&mut self, ins: &Ins)
+        requires { IsPassing (class_of ins.now.kind) }
+        ensures { self.new ≡ at_state (execute (class_of ins.now.kind) ins.now self.old.state) self.old }
     {
-        if has_register(ins.kind) {
-            self.reg(ins.rs2)
-        } else {
-            immediate(ins)
-        }
+        self.pc = Passing.act(ins, self.pc, &mut self.regs);
     }
 
     /// The address that a load or a store touches first.
     fn place(&self, ins: &Ins) -> u64
         ensures { result ≡ place_of ins.now self.now.state }
     {
-        self.reg(ins.rs1).wrapping_add(immediate(ins))
+        self.reg(ins.rs1).wrapping_add(ins.imm.cast_unsigned())
     }
 
     /// A load.
@@ -181,56 +149,32 @@ impl Machine {
         }
     }
 
-    /// Goes to the target of a jump, where it is a multiple of 4.
-    #[tactic(auto, unfolding(qed_model::specs::Machine::jumped))]
-    fn go_to(&mut self, target: u64) -> bool
-        ensures yes { result ≡ (target % 4 == 0) }
-        ensures gone { self.new ≡ at_state (jumped self.old.state.regs target self.old.state) self.old }
-    {
-        if target % 4 != 0 {
-            self.trap(Cause::Target(target));
-            return false;
-        }
-        self.pc = target;
-        true
-    }
-
-    /// A branch.
-    #[tactic(auto, unfolding(qed_model::specs::Machine::execute))]
+    /// A branch. Only a target that is taken can be off the grain of 4.
     fn branch(&mut self, ins: &Ins)
-        ensures { self.new ≡ at_state (execute class.Branch ins.now self.old.state) self.old }
+        requires class { IsBranching (class_of ins.now.kind) }
+        requires grain { self.old.state.pc % 4 ≡ 0 }
+        ensures { self.new ≡ at_state (execute (class_of ins.now.kind) ins.now self.old.state) self.old }
     {
-        if taken(ins.kind, self.reg(ins.rs1), self.reg(ins.rs2)) {
-            self.go_to(self.pc.wrapping_add(immediate(ins)));
+        let target = Branching.act(ins, self.pc, &mut self.regs);
+        if target % 4 == 0 {
+            self.pc = target;
         } else {
-            self.go_on();
+            self.trap(Cause::Target(target));
         }
     }
 
-    /// A jump by JAL or JALR, which writes the address of the next word to rd.
-    #[tactic(auto, unfolding(qed_model::specs::Machine::jumped))]
-    fn link_to(&mut self, rd: Reg, target: u64)
-        ensures { self.new ≡ at_state (jumped (set_reg rd (next_pc self.old.state) self.old.state.regs) target self.old.state) self.old }
-    {
-        let link = self.pc.wrapping_add(4);
-        if self.go_to(target) {
-            self.regs.set(rd, link);
-        }
-    }
-
-    /// JAL.
-    #[tactic(auto, unfolding(qed_model::specs::Machine::execute))]
+    /// JAL or JALR. A target off the grain of 4 leaves the register that was to hold the link.
     fn jump(&mut self, ins: &Ins)
-        ensures { self.new ≡ at_state (execute class.Jump ins.now self.old.state) self.old }
+        requires { IsJumping (class_of ins.now.kind) }
+        ensures { self.new ≡ at_state (execute (class_of ins.now.kind) ins.now self.old.state) self.old }
     {
-        self.link_to(ins.rd, self.pc.wrapping_add(immediate(ins)));
-    }
-
-    /// JALR, whose target has bit 0 cleared.
-    #[tactic(auto, unfolding(qed_model::specs::Machine::execute))]
-    fn jump_to_register(&mut self, ins: &Ins)
-        ensures { self.new ≡ at_state (execute class.JumpReg ins.now self.old.state) self.old }
-    {
-        self.link_to(ins.rd, self.place(ins) & !1);
+        let before = self.reg(ins.rd);
+        let target = Jumping.act(ins, self.pc, &mut self.regs);
+        if target % 4 != 0 {
+            self.regs.set(ins.rd, before);
+            self.trap(Cause::Target(target));
+        } else {
+            self.pc = target;
+        }
     }
 }

@@ -2,7 +2,7 @@ use Rattle.std.proofs.Common.{◌≡◌, Some, None, sym, ap, ◌∙◌}
 use Rattle.qed_model.specs.Table.{decode_of}
 use Rattle.qed_model.specs.Machine.{act, fetched_at, known_or}
 use Rattle.rv_step.specs.Known.{word_at, at_state}
-use Rattle.rv_step.proofs.Fetching.{fetched_none, fetched_some}
+use Rattle.rv_step.proofs.Fetching.{fetched_none, fetched_some, fetched_grain}
 use Rattle.rv_step.proofs.machine.Machine.advance.Goals as goal
 
 pub returns-in_default : goal.returns-in_default
@@ -20,6 +20,12 @@ returns-in_default-decode c =
     let some : word_at m.state m.state.pc ≡ Some w = ap (word_at m.state) (sym at) ∙ sym c.word.ensures ∙ c.in-Some.is in
     let none : decode_of w ≡ None = sym c.decode.ensures.instruction ∙ c.in_default-decode.is in
     c.trap-in_default-decode.ensures ∙ sym (ap (λ f. at_state (act f m.state) m) (fetched_some m.state m.state.pc w some ∙ ap (known_or w) none))
+
+pub execute-requires : goal.execute-requires
+execute-requires c =
+    let m = c.args.self.now in
+    let at : c.self.inside.pc ≡ m.state.pc = ap (λ p. p.state.pc) c.self.view_is in
+    fetched_grain m.state m.state.pc c.in-Some.word (ap (word_at m.state) (sym at) ∙ sym c.word.ensures ∙ c.in-Some.is)
 
 pub returns : goal.returns
 returns c =
