@@ -1,6 +1,6 @@
 -- What is known of a file that no rule refuses.
 use Rattle.std.specs.Prelude.{ℕ, ◌<◌, List, IfSome}
-use Rattle.qed_model.specs.Plain.{e_shnum}
+use Rattle.qed_model.specs.ElfHeader.{e_shnum}
 use Rattle.qed_model.specs.ElfFields.{section_header}
 use Rattle.qed_model.specs.ElfRules.{symbol_table}
 

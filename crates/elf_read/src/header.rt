@@ -1,6 +1,6 @@
 // The rules on the header.
 ghost use Rattle.std.specs.Prelude.{◌≡◌, ◌≤◌, ◌<◌, length, OnOk};
-ghost use Rattle.qed_model.specs.Plain.{e_shnum};
+ghost use Rattle.qed_model.specs.ElfHeader.{e_shnum};
 ghost use Rattle.qed_model.specs.ElfFields.{e_shstrndx};
 ghost use Rattle.qed_model.specs.ElfRules.{magic_rule, header_rule, class_rule, encoding_rule, version_rule, file_type_rule, machine_rule, header_shape_rule, header_rules};
 

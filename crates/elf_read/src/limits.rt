@@ -1,6 +1,6 @@
 // The limits on a file.
 ghost use Rattle.std.specs.Prelude.{◌≡◌, ◌<◌, ◌^◌, IfSome};
-ghost use Rattle.qed_model.specs.Plain.{e_shnum};
+ghost use Rattle.qed_model.specs.ElfHeader.{e_shnum};
 ghost use Rattle.qed_model.specs.ElfFields.{section_header};
 ghost use Rattle.qed_model.specs.ElfRules.{symbol_table, section_count_rule, symbol_name_bytes, counted_bytes, byte_count_rule};
 

@@ -1,6 +1,6 @@
 // A file whose parts lie in it.
 ghost use Rattle.std.specs.Prelude.{◌≡◌, ◌≢◌, ◌<◌, false, length, List, ℕ, Ok, Err, IfOk, IfErr, OnOk};
-ghost use Rattle.qed_model.specs.Plain.{e_phnum, e_shnum};
+ghost use Rattle.qed_model.specs.ElfHeader.{e_phnum, e_shnum};
 ghost use Rattle.qed_model.specs.ElfFields.{program_header, section_header};
 ghost use Rattle.qed_model.specs.ElfRules.{HasParts, part_rules, is_segment_outside, is_section_outside, section_bytes};
 ghost use Rattle.qed_model.specs.ElfFile.{load_bytes};

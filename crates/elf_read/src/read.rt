@@ -2,7 +2,7 @@
 ghost use Rattle.std.specs.Prelude.{◌≡◌, ◌<◌, ◌/◌, ◌⊎◌, length, List, ℕ, Ok, Err, Some, IfOk, IfErr, IfSome, OnOk};
 ghost use Rattle.elf_types.specs.declared.error.ElfError.TheVariants as error;
 ghost use Rattle.qed_model.specs.Below.{each, gather};
-ghost use Rattle.qed_model.specs.Plain.{e_phnum, e_shnum};
+ghost use Rattle.qed_model.specs.ElfHeader.{e_phnum, e_shnum};
 ghost use Rattle.qed_model.specs.ElfFields.{section_header};
 ghost use Rattle.qed_model.specs.ElfRules.{section_strings, strings_of, symbol_table, verdict};
 ghost use Rattle.qed_model.specs.ElfFile.{File, segment_of, section_of, symbol_of, symbols_at, relas_of};

@@ -1,7 +1,7 @@
 // The rule on relocations, and the relocations.
 ghost use Rattle.std.specs.Prelude.{◌≡◌, ◌<◌, ◌+◌, ◌*◌, ◌≤◌, ◌++◌, length, IfOk, OnOk};
 ghost use Rattle.qed_model.specs.Below.{gather};
-ghost use Rattle.qed_model.specs.Plain.{e_shnum};
+ghost use Rattle.qed_model.specs.ElfHeader.{e_shnum};
 ghost use Rattle.qed_model.specs.ElfFields.{section_header, rela_entry};
 ghost use Rattle.qed_model.specs.ElfRules.{symbol_table, symbol_count, is_counted, rela_fault, rela_shape_rule};
 ghost use Rattle.qed_model.specs.ElfFile.{relas_of};

@@ -1,6 +1,6 @@
 // The rule on sections, and their names.
 ghost use Rattle.std.specs.Prelude.{◌≡◌, ◌<◌};
-ghost use Rattle.qed_model.specs.Plain.{e_shnum};
+ghost use Rattle.qed_model.specs.ElfHeader.{e_shnum};
 ghost use Rattle.qed_model.specs.ElfRules.{section_strings, section_name, is_section_misshapen, section_shape_rule};
 
 use crate::below::first_of;

@@ -1,6 +1,6 @@
 // The rules on segments.
 ghost use Rattle.std.specs.Prelude.{◌≡◌, ◌<◌};
-ghost use Rattle.qed_model.specs.Plain.{e_phnum};
+ghost use Rattle.qed_model.specs.ElfHeader.{e_phnum};
 ghost use Rattle.qed_model.specs.ElfRules.{is_misshapen, segment_shape_rule, do_overlap, overlapped, segment_overlap_rule, file_size};
 
 use crate::below::first_of;

@@ -1,6 +1,6 @@
 // The rule on symbols, and their table.
 ghost use Rattle.std.specs.Prelude.{◌≡◌, ◌<◌, ◌+◌, ◌*◌, ◌/◌, ◌≤◌, length, IfSome, OnOk};
-ghost use Rattle.qed_model.specs.Plain.{e_shnum};
+ghost use Rattle.qed_model.specs.ElfHeader.{e_shnum};
 ghost use Rattle.qed_model.specs.ElfFields.{section_header, symbol_entry};
 ghost use Rattle.qed_model.specs.ElfRules.{symbol_table, section_bytes, strings_of, symbols_rule, symbol_shape_rule, symbol_name};
 

@@ -1,6 +1,6 @@
 // A file whose header and tables lie in it.
 ghost use Rattle.std.specs.Prelude.{◌≡◌, ◌<◌, List, ℕ, Ok, Err, IfOk, IfErr, OnOk};
-ghost use Rattle.qed_model.specs.Plain.{e_entry, e_flags, e_phnum, e_shnum};
+ghost use Rattle.qed_model.specs.ElfHeader.{e_entry, e_flags, e_phnum, e_shnum};
 ghost use Rattle.qed_model.specs.ElfFields.{e_shstrndx, program_header, section_header, HasTables};
 ghost use Rattle.qed_model.specs.ElfRules.{table_rules, is_past, is_segment_outside, segment_place_rule, is_section_outside, section_place_rule};
 

@@ -8,7 +8,7 @@ use Rattle.elf_types.specs.declared.output.OutFile.{OutFile}
 use Rattle.elf_types.specs.declared.records.SectionHeader.{SectionHeader}
 use Rattle.elf_types.specs.declared.records.SymbolEntry.{SymbolEntry}
 use Rattle.qed_model.specs.Below.{sum_below, each}
-use Rattle.qed_model.specs.Plain.{e_shnum}
+use Rattle.qed_model.specs.ElfHeader.{e_shnum}
 use Rattle.qed_model.specs.ElfFields.{symbol_entry}
 use Rattle.qed_model.specs.ElfRules.{is_unended, name_at, section_bytes, strings_of, is_misnamed, symbols_rule, symbol_shape_rule, symbol_table, symbol_name, symbol_name_bytes}
 use Rattle.qed_model.specs.ElfFile.{symbol_of, symbols_at}

@@ -9,7 +9,7 @@ use Rattle.elf_types.specs.declared.file.ElfFile.{ElfFile}
 use Rattle.elf_types.specs.declared.file.Symbol.{Symbol}
 use Rattle.elf_types.specs.declared.records.SectionHeader.{SectionHeader}
 use Rattle.qed_model.specs.Below.{each}
-use Rattle.qed_model.specs.Plain.{e_phnum}
+use Rattle.qed_model.specs.ElfHeader.{e_phnum}
 use Rattle.qed_model.specs.ElfFields.{program_header, section_header, symbol_entry}
 use Rattle.qed_model.specs.ElfRules.{is_load, is_misshapen, name_length, name_at, has_bytes, section_bytes, strings_of, symbol_name, symbol_table}
 use Rattle.qed_model.specs.ElfFile.{File, load_bytes, segment_of, symbol_of, symbols_at}

@@ -11,7 +11,8 @@ pub mod Progress
 pub mod Struck
 pub mod Weave
 pub mod Sequences
-pub mod Plain
+pub mod ElfHeader
+pub mod Sums
 pub mod Loaded
 pub mod LoadedFile
 pub mod ElfFields

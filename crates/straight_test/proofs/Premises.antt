@@ -13,7 +13,7 @@ use Rattle.qed_model.specs.Numbers.{words_of}
 use Rattle.qed_model.specs.Placed.{Decode}
 use Rattle.qed_model.specs.Sequences.{ecall}
 use Rattle.qed_model.specs.Weave.{is_auipc}
-use Rattle.qed_model.specs.Plain.{IsSum}
+use Rattle.qed_model.specs.Sums.{IsSum}
 use Rattle.qed_model.specs.Kept.{LoadSegment, cells_of}
 use Rattle.qed_model.specs.LoadedFile.{load_segment, load_segments, loaded_file}
 use Rattle.qed_model.specs.Admission.{image_segments, if_high, high_register, register_half, code_from}

@@ -8,7 +8,7 @@ use Rattle.qed_model.specs.declared.item.Item.{Item}
 use Rattle.qed_model.specs.declared.item.Item.TheVariants.{Mark, Plain, Constant, Go}
 use Rattle.qed_model.specs.Sequences.{woven_items}
 use Rattle.qed_model.specs.Placed.{placed}
-use Rattle.qed_model.specs.Plain.{IsLow}
+use Rattle.qed_model.specs.Sums.{IsLow}
 use Rattle.qed_model.proofs.PlacedWords.{is_below}
 use Rattle.weave_core.proofs.SegmentKept.{AllLow}
 use Rattle.weave_core.proofs.StraightWords.{IsNearby, length-woven, woven_words, woven_below}

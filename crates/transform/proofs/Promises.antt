@@ -9,7 +9,7 @@ use Rattle.elf_types.specs.declared.output.OutFile.{OutFile}
 use Rattle.qed_model.specs.declared.plan.Plan.{Plan}
 use Rattle.qed_model.specs.Numbers.{bytes_of}
 use Rattle.qed_model.specs.Sequences.{ecall}
-use Rattle.qed_model.specs.Plain.{IsLow}
+use Rattle.qed_model.specs.Sums.{IsLow}
 use Rattle.qed_model.specs.Admission.{image_segments, register_half, code_from}
 use Rattle.qed_model.specs.ElfFile.{File}
 use Rattle.qed_model.specs.FileRead.{file_read}
