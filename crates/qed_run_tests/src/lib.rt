@@ -6,6 +6,8 @@ mod command;
 #[cfg(test)]
 mod expected;
 #[cfg(test)]
+mod outputs;
+#[cfg(test)]
 mod refusals;
 #[cfg(test)]
 mod runs;

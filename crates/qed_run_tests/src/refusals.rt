@@ -2,7 +2,7 @@
 
 use crate::command::run;
 use qed_io::{MemoryShelf, MemorySink};
-use sample_files::{CODE_OFFSET, ECALL, ENTRY, Elf, Part, READ_EXECUTE, Tables, first_file};
+use sample_files::{CODE_OFFSET, ECALL, ENTRY, Elf, LOAD, Part, READ_EXECUTE, Tables, first_file};
 use std::alloc::Global;
 use std::test::Fail;
 
@@ -68,17 +68,19 @@ const CASES: [Case; 7] = [
 ];
 
 /// Two segments that share a word.
-const OVERLAP: Elf<'static> = Elf {
+const OVERLAP: Elf<'static, 'static> = Elf {
     entry: ENTRY,
     flags: 0,
     parts: &[
         Part {
+            kind: LOAD,
             flags: READ_EXECUTE,
             address: ENTRY,
             offset: CODE_OFFSET + 56,
             words: &[ECALL, ECALL],
         },
         Part {
+            kind: LOAD,
             flags: READ_EXECUTE,
             address: ENTRY + 4,
             offset: CODE_OFFSET + 64,

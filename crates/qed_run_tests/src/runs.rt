@@ -4,7 +4,7 @@ use crate::command::run;
 use crate::expected::text;
 use qed_io::{MemoryShelf, MemorySink};
 use sample_files::{
-    CODE_OFFSET, ECALL, ENTRY, Elf, Part, READ, READ_EXECUTE, READ_WRITE, Tables, first_file,
+    CODE_OFFSET, ECALL, ENTRY, Elf, LOAD, Part, READ, READ_EXECUTE, READ_WRITE, Tables, first_file,
 };
 use std::test::Fail;
 
@@ -178,17 +178,18 @@ const CODES: [CodeCase; 16] = [
 #[derive(Clone, Copy, Debug)]
 struct FileCase {
     name: &'static str,
-    file: Elf<'static>,
+    file: Elf<'static, 'static>,
     first: &'static str,
     registers: &'static [(u64, u64)],
     status: u8,
 }
 
 /// A file of one segment with an ECALL.
-const ONE: Elf<'static> = Elf {
+const ONE: Elf<'static, 'static> = Elf {
     entry: ENTRY,
     flags: 0,
     parts: &[Part {
+        kind: LOAD,
         flags: READ_EXECUTE,
         address: ENTRY,
         offset: CODE_OFFSET,
@@ -230,6 +231,7 @@ const FILES: [FileCase; 6] = [
         name: "the segment is not executable",
         file: Elf {
             parts: &[Part {
+                kind: LOAD,
                 flags: READ,
                 address: ENTRY,
                 offset: CODE_OFFSET,
@@ -246,6 +248,7 @@ const FILES: [FileCase; 6] = [
         name: "a load at 0",
         file: Elf {
             parts: &[Part {
+                kind: LOAD,
                 flags: READ_EXECUTE,
                 address: ENTRY,
                 offset: CODE_OFFSET,
@@ -263,12 +266,14 @@ const FILES: [FileCase; 6] = [
         file: Elf {
             parts: &[
                 Part {
+                    kind: LOAD,
                     flags: READ_EXECUTE,
                     address: ENTRY,
                     offset: 0xb0,
                     words: &[0x0002_0437, 0x0004_3483, 0x0094_8533, 0x00a4_3023, ECALL],
                 },
                 Part {
+                    kind: LOAD,
                     flags: READ_WRITE,
                     address: 0x20000,
                     offset: 0xc8,

@@ -56,7 +56,7 @@ const FAULTS: [FaultCase; 4] = [
         keep: None,
         code: 6,
         printed: "",
-        left: Some(12_552),
+        left: Some(13_024),
     },
 ];
 

@@ -4,11 +4,7 @@
 #[cfg(test)]
 mod command;
 #[cfg(test)]
-mod elf;
-#[cfg(test)]
 mod faults;
-#[cfg(test)]
-mod inputs;
 #[cfg(test)]
 mod limits;
 #[cfg(test)]

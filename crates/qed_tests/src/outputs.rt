@@ -1,7 +1,7 @@
 //! Inputs that are transformed: each byte of what is stored and printed.
 
 use crate::command::run;
-use crate::transformations::{TRANSFORMATIONS, TWO_SUMS};
+use crate::transformations::{TRANSFORMATIONS, TWO_SUMS, linked};
 use qed_io::{MemoryShelf, MemorySink};
 use std::test::Fail;
 
@@ -30,7 +30,7 @@ fn an_output_may_replace_its_input(rt: HostRuntime) -> Result<(), Fail> {
     let alloc = rt.alloc();
     let output = TWO_SUMS.output(alloc)?;
     let mut shelf = MemoryShelf::new(alloc);
-    shelf.put_file("a", &TWO_SUMS.input(alloc)?)?;
+    shelf.put_file("a", &linked(alloc)?)?;
     let mut out = MemorySink::new(alloc);
     let status = run(alloc, &["transform", "a", "a"], &mut shelf, &mut out)?;
     assert_eq!(rt; status.code(), 0);

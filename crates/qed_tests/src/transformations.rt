@@ -4,10 +4,10 @@
 //! output they can be read by `od -A x -t x4 -j 0x3000 OUT`, and as instructions by
 //! `objdump -D -b binary -m riscv:rv64 --start-address=0x3000 OUT`.
 
-use crate::elf::{Elf, Part, READ, READ_EXECUTE};
-use crate::inputs::{ECALL, ENTRY, first_file};
+use sample_files::{
+    Chunk, ECALL, ENTRY, Elf, LOAD, NOTE, Part, READ, READ_EXECUTE, SectionRow, Tables, first_file,
+};
 use std::alloc::{AllocError, Global};
-use std::test::Fail;
 
 /// How each new code begins, up to the first of the original words.
 const BEGIN: [u32; 34] = [
@@ -113,31 +113,130 @@ fn joined(alloc: Global, parts: &[&[u32]]) -> Result<Vec<u32>, AllocError> {
     Ok(words)
 }
 
-/// The output for an input's words: the input in both halves, and the new code.
-fn output_file(alloc: Global, input: &[u32], code: &[u32]) -> Result<Vec<u8>, Fail> {
+/// A section header with all fields 0.
+const SECTION: SectionRow = SectionRow {
+    name: 0,
+    kind: 0,
+    flags: 0,
+    address: 0,
+    offset: 0,
+    size: 0,
+    link: 0,
+    info: 0,
+    align: 0,
+    entry_size: 0,
+};
+
+/// The names of the output's sections, at 1, 11, 20, 28 and 36.
+const NAMES: &[u8] = b"\0.qed.text\0.qed.map\0.symtab\0.strtab\0.shstrtab\0";
+
+/// The one row of `.qed.map`: the input's entry, and its new address.
+const MAP: [u8; 16] = [0, 0, 1, 0, 0, 0, 0, 0, 0x78, 0x30, 1, 0, 0, 0, 0, 0];
+
+/// The section headers of an output without symbols, whose new code stands at the offset 0x3000 and has this size. Behind
+/// it stand the map, the null symbol, an empty string table, and the names.
+fn section_rows(size: u64) -> [SectionRow; 6] {
+    let end = 0x3000 + (size & 0xffff);
+    [
+        SECTION,
+        SectionRow {
+            name: 1,
+            kind: 1,
+            flags: 6,
+            address: 0x13000,
+            offset: 0x3000,
+            size,
+            align: 1,
+            ..SECTION
+        },
+        SectionRow {
+            name: 11,
+            kind: 1,
+            offset: end,
+            size: 16,
+            align: 1,
+            ..SECTION
+        },
+        SectionRow {
+            name: 20,
+            kind: 2,
+            offset: end + 16,
+            size: 24,
+            link: 4,
+            info: 1,
+            align: 8,
+            entry_size: 24,
+            ..SECTION
+        },
+        SectionRow {
+            name: 28,
+            kind: 3,
+            offset: end + 40,
+            size: 1,
+            align: 1,
+            ..SECTION
+        },
+        SectionRow {
+            name: 36,
+            kind: 3,
+            offset: end + 41,
+            size: 46,
+            align: 1,
+            ..SECTION
+        },
+    ]
+}
+
+/// The output for an input's words: the input in both halves, the new code, and the tables.
+fn output_file(
+    alloc: Global,
+    input: &[u32],
+    code: &[u32],
+    size: u64,
+) -> Result<Vec<u8>, AllocError> {
+    let end = 0x3000 + (size & 0xffff);
+    let sections = section_rows(size);
     Elf {
         entry: 0x13000,
         flags: 0,
         parts: &[
             Part {
+                kind: LOAD,
                 flags: READ,
                 address: ENTRY,
                 offset: 0x1000,
                 words: input,
             },
             Part {
+                kind: LOAD,
                 flags: READ,
                 address: 0x11000,
                 offset: 0x2000,
                 words: input,
             },
             Part {
+                kind: LOAD,
                 flags: READ_EXECUTE,
                 address: 0x13000,
                 offset: 0x3000,
                 words: code,
             },
         ],
+        chunks: &[
+            Chunk {
+                offset: end,
+                bytes: &MAP,
+            },
+            Chunk {
+                offset: end + 41,
+                bytes: NAMES,
+            },
+        ],
+        tables: Tables {
+            sections: &sections,
+            offset: end + 88,
+            names: 5,
+        },
     }
     .bytes(alloc)
 }
@@ -148,14 +247,14 @@ impl Transformation {
     }
 
     /// The input.
-    pub(crate) fn input(&self, alloc: Global) -> Result<Vec<u8>, Fail> {
+    pub(crate) fn input(&self, alloc: Global) -> Result<Vec<u8>, AllocError> {
         first_file(alloc, &self.input_words(alloc)?)
     }
 
     /// The output.
-    pub(crate) fn output(&self, alloc: Global) -> Result<Vec<u8>, Fail> {
+    pub(crate) fn output(&self, alloc: Global) -> Result<Vec<u8>, AllocError> {
         let code = joined(alloc, &[&BEGIN, self.body, self.mirrored, &END])?;
-        output_file(alloc, &self.input_words(alloc)?, &code)
+        output_file(alloc, &self.input_words(alloc)?, &code, self.code_bytes)
     }
 
     /// What is printed about the output.
@@ -165,4 +264,69 @@ impl Transformation {
             "code {size} bytes, entries 1, pieces 1, half 4096, register bound 272, word bound none\n"
         )
     }
+}
+
+/// The names of the sections of a linked file, at 1, 7 and 25.
+const LINKED_NAMES: &[u8] = b"\0.text\0.riscv.attributes\0.shstrtab\0";
+
+/// The input of `TWO_SUMS` as a linker leaves it: with a PT_NOTE header, a section over its code, and an attributes section.
+pub(crate) fn linked(alloc: Global) -> Result<Vec<u8>, AllocError> {
+    Elf {
+        entry: ENTRY,
+        flags: 0,
+        parts: &[
+            Part {
+                kind: NOTE,
+                flags: READ,
+                address: 0,
+                offset: 0xb0,
+                words: &[0],
+            },
+            Part {
+                kind: LOAD,
+                flags: READ_EXECUTE,
+                address: ENTRY,
+                offset: 0xb4,
+                words: &[0x00700513, 0x00a505b3, ECALL],
+            },
+        ],
+        chunks: &[Chunk {
+            offset: 0xc0,
+            bytes: LINKED_NAMES,
+        }],
+        tables: Tables {
+            sections: &[
+                SECTION,
+                SectionRow {
+                    name: 1,
+                    kind: 1,
+                    flags: 6,
+                    address: ENTRY,
+                    offset: 0xb4,
+                    size: 12,
+                    align: 4,
+                    ..SECTION
+                },
+                SectionRow {
+                    name: 7,
+                    kind: 0x7000_0003,
+                    offset: 0xb0,
+                    size: 4,
+                    align: 1,
+                    ..SECTION
+                },
+                SectionRow {
+                    name: 25,
+                    kind: 3,
+                    offset: 0xc0,
+                    size: 35,
+                    align: 1,
+                    ..SECTION
+                },
+            ],
+            offset: 0xe8,
+            names: 3,
+        },
+    }
+    .bytes(alloc)
 }

@@ -5,14 +5,17 @@ use crate::transformations::TWO_SUMS;
 use qed_io::{MemoryShelf, MemorySink};
 use std::test::Fail;
 
-const LINES: [&[&str]; 7] = [
+const LINES: [&[&str]; 10] = [
     &[],
     &["transform", "a"],
     &["transform", "a", "b", "c"],
     &["Transform", "a", "b"],
     &["transform", "", "b"],
     &["transform", "a", "-b"],
-    &["run", "a"],
+    &["run"],
+    &["run", "a", "b"],
+    &["run", ""],
+    &["run", "-a"],
 ];
 
 #[test]

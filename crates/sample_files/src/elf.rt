@@ -9,9 +9,15 @@ pub const READ_EXECUTE: u32 = 5;
 
 pub const READ_WRITE: u32 = 6;
 
-/// A PT_LOAD segment with all its bytes in the file.
+/// The types of program headers: PT_LOAD and PT_NOTE.
+pub const LOAD: u32 = 1;
+
+pub const NOTE: u32 = 4;
+
+/// A program header with bytes in the file, as many as in memory.
 #[derive(Clone, Copy, Debug)]
 pub struct Part<'a> {
+    pub kind: u32,
     pub flags: u32,
     pub address: u64,
     /// Where its bytes begin in the file.
@@ -21,9 +27,9 @@ pub struct Part<'a> {
 
 /// Bytes that stand somewhere in the file.
 #[derive(Clone, Copy, Debug)]
-pub struct Chunk {
+pub struct Chunk<'b> {
     pub offset: u64,
-    pub bytes: &'static [u8],
+    pub bytes: &'b [u8],
 }
 
 /// A section header (ELF gABI), with all its fields.
@@ -43,15 +49,15 @@ pub struct SectionRow {
 
 /// The section headers, where they begin, and the number of the section with their names.
 #[derive(Clone, Copy, Debug)]
-pub struct Tables {
-    pub sections: &'static [SectionRow],
+pub struct Tables<'b> {
+    pub sections: &'b [SectionRow],
     pub offset: u64,
     pub names: u16,
 }
 
-impl Tables {
+impl Tables<'_> {
     /// No section header.
-    pub const NONE: Tables = Tables {
+    pub const NONE: Tables<'static> = Tables {
         sections: &[],
         offset: 0,
         names: 0,
@@ -60,12 +66,12 @@ impl Tables {
 
 /// A file: segments, then other bytes, then section headers, each behind the ones before it.
 #[derive(Clone, Copy, Debug)]
-pub struct Elf<'a> {
+pub struct Elf<'a, 'b> {
     pub entry: u64,
     pub flags: u32,
     pub parts: &'a [Part<'a>],
-    pub chunks: &'static [Chunk],
-    pub tables: Tables,
+    pub chunks: &'b [Chunk<'b>],
+    pub tables: Tables<'b>,
 }
 
 fn push_halves(file: &mut Vec<u8>, halves: &[u16]) -> Result<(), AllocError> {
@@ -97,7 +103,7 @@ fn size_of_words(words: &[u32]) -> u64 {
 impl Part<'_> {
     fn push_header(&self, file: &mut Vec<u8>) -> Result<(), AllocError> {
         let size = size_of_words(self.words);
-        push_words(file, &[1, self.flags])?;
+        push_words(file, &[self.kind, self.flags])?;
         push_longs(file, &[self.offset, self.address, self.address])?;
         push_longs(file, &[size, size, 4096])
     }
@@ -117,7 +123,7 @@ fn half(x: usize) -> u16 {
     (x & 0xffff) as u16
 }
 
-impl Elf<'_> {
+impl Elf<'_, '_> {
     fn push_header(&self, file: &mut Vec<u8>) -> Result<(), AllocError> {
         file.extend_from_slice(b"\x7fELF")?;
         // 64 bits, the low byte first, version 1, and no ABI of an operating system.

@@ -1,6 +1,6 @@
 // Files of one segment, which most cases have.
 
-use crate::elf::{Elf, Part, READ_EXECUTE, Tables};
+use crate::elf::{Elf, LOAD, Part, READ_EXECUTE, Tables};
 use std::alloc::{AllocError, Global};
 
 /// The address of the code, and of its first instruction.
@@ -18,6 +18,7 @@ pub fn first_file(alloc: Global, words: &[u32]) -> Result<Vec<u8>, AllocError> {
         entry: ENTRY,
         flags: 0,
         parts: &[Part {
+            kind: LOAD,
             flags: READ_EXECUTE,
             address: ENTRY,
             offset: CODE_OFFSET,
