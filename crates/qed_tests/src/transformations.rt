@@ -188,10 +188,10 @@ fn section_rows(size: u64) -> [SectionRow; 6] {
 }
 
 /// The output for an input's words: the input in both halves, the new code, and the tables.
-fn output_file(
+fn output_file<'x>(
     alloc: Global,
-    input: &[u32],
-    code: &[u32],
+    input: &'x [u32],
+    code: &'x [u32],
     size: u64,
 ) -> Result<Vec<u8>, AllocError> {
     let end = 0x3000 + (size & 0xffff);

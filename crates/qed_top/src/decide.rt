@@ -11,9 +11,7 @@ use crate::status::Status;
 use crate::words::{Command, read_command};
 use elf_types::Bytes;
 use qed_io::{LoadError, Shelf};
-use report::{
-    error_text, high_register_text, segment_limit_text, size_limit_text, transform_text,
-};
+use report::{error_text, high_register_text, segment_limit_text, size_limit_text, transform_text};
 use std::alloc::{AllocError, Global};
 use transform::{AdmitError, TransformError, Transformed, transform};
 
