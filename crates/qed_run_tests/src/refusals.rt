@@ -2,7 +2,7 @@
 
 use crate::command::run;
 use qed_io::{MemoryShelf, MemorySink};
-use sample_files::{CODE_OFFSET, ECALL, ENTRY, Elf, LOAD, Part, READ_EXECUTE, Tables, first_file};
+use sample_files::{CODE_OFFSET, ECALL, ENTRY, Elf, LOAD, Part, READ_EXECUTE, first_file};
 use std::alloc::Global;
 use std::test::Fail;
 
@@ -68,7 +68,7 @@ const CASES: [Case; 7] = [
 ];
 
 /// Two segments that share a word.
-const OVERLAP: Elf<'static, 'static> = Elf {
+const OVERLAP: Elf<'static> = Elf {
     entry: ENTRY,
     flags: 0,
     parts: &[
@@ -87,8 +87,6 @@ const OVERLAP: Elf<'static, 'static> = Elf {
             words: &[ECALL],
         },
     ],
-    chunks: &[],
-    tables: Tables::NONE,
 };
 
 /// The file with its bytes from a place on replaced.

@@ -4,7 +4,7 @@ use crate::command::run;
 use crate::expected::text;
 use qed_io::{MemoryShelf, MemorySink};
 use sample_files::{
-    CODE_OFFSET, ECALL, ENTRY, Elf, LOAD, Part, READ, READ_EXECUTE, READ_WRITE, Tables, first_file,
+    CODE_OFFSET, ECALL, ENTRY, Elf, LOAD, Part, READ, READ_EXECUTE, READ_WRITE, first_file,
 };
 use std::test::Fail;
 
@@ -178,14 +178,14 @@ const CODES: [CodeCase; 16] = [
 #[derive(Clone, Copy, Debug)]
 struct FileCase {
     name: &'static str,
-    file: Elf<'static, 'static>,
+    file: Elf<'static>,
     first: &'static str,
     registers: &'static [(u64, u64)],
     status: u8,
 }
 
 /// A file of one segment with an ECALL.
-const ONE: Elf<'static, 'static> = Elf {
+const ONE: Elf<'static> = Elf {
     entry: ENTRY,
     flags: 0,
     parts: &[Part {
@@ -195,8 +195,6 @@ const ONE: Elf<'static, 'static> = Elf {
         offset: CODE_OFFSET,
         words: &[ECALL, ECALL],
     }],
-    chunks: &[],
-    tables: Tables::NONE,
 };
 
 const FILES: [FileCase; 6] = [

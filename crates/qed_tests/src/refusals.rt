@@ -2,9 +2,7 @@
 
 use crate::command::run;
 use qed_io::{MemoryShelf, MemorySink};
-use sample_files::{
-    CODE_OFFSET, ECALL, ENTRY, Elf, LOAD, Part, READ, READ_EXECUTE, Tables, first_file,
-};
+use sample_files::{CODE_OFFSET, ECALL, ENTRY, Elf, LOAD, Part, READ, READ_EXECUTE, first_file};
 use std::alloc::{Alloc, Global};
 use std::process::Abort;
 use std::test::Fail;
@@ -70,7 +68,7 @@ const CODES: [CodeCase; 9] = [
 ];
 
 /// A file of one segment with two words.
-const ONE: Elf<'static, 'static> = Elf {
+const ONE: Elf<'static> = Elf {
     entry: ENTRY,
     flags: 0,
     parts: &[Part {
@@ -80,14 +78,12 @@ const ONE: Elf<'static, 'static> = Elf {
         offset: CODE_OFFSET,
         words: &[SET_X5, ECALL],
     }],
-    chunks: &[],
-    tables: Tables::NONE,
 };
 
 /// A file that is refused for its header or its segments.
 #[derive(Clone, Copy, Debug)]
 struct HeaderCase {
-    file: Elf<'static, 'static>,
+    file: Elf<'static>,
     printed: &'static str,
 }
 

@@ -5,7 +5,7 @@
 //! `objdump -D -b binary -m riscv:rv64 --start-address=0x3000 OUT`.
 
 use sample_files::{
-    Chunk, ECALL, ENTRY, Elf, LOAD, NOTE, Part, READ, READ_EXECUTE, SectionRow, Tables, first_file,
+    ECALL, ENTRY, Elf, LOAD, NOTE, Part, READ, READ_EXECUTE, SectionRow, Tables, first_file,
 };
 use std::alloc::{AllocError, Global};
 
@@ -131,7 +131,7 @@ const SECTION: SectionRow = SectionRow {
 const NAMES: &[u8] = b"\0.qed.text\0.qed.map\0.symtab\0.strtab\0.shstrtab\0";
 
 /// The one row of `.qed.map`: the input's entry, and its new address.
-const MAP: [u8; 16] = [0, 0, 1, 0, 0, 0, 0, 0, 0x78, 0x30, 1, 0, 0, 0, 0, 0];
+const MAP: &[u8] = &[0, 0, 1, 0, 0, 0, 0, 0, 0x78, 0x30, 1, 0, 0, 0, 0, 0];
 
 /// The section headers of an output without symbols, whose new code stands at the offset 0x3000 and has this size. Behind
 /// it stand the map, the null symbol, an empty string table, and the names.
@@ -187,6 +187,14 @@ fn section_rows(size: u64) -> [SectionRow; 6] {
     ]
 }
 
+/// What stands behind the new code: the map, the null symbol, an empty string table, and the names.
+fn tail(alloc: Global) -> Result<Vec<u8>, AllocError> {
+    let mut tail = Vec::from_slice(alloc, MAP)?;
+    tail.resize(41, 0)?;
+    tail.extend_from_slice(NAMES)?;
+    Ok(tail)
+}
+
 /// The output for an input's words: the input in both halves, the new code, and the tables.
 fn output_file<'x>(
     alloc: Global,
@@ -194,9 +202,12 @@ fn output_file<'x>(
     code: &'x [u32],
     size: u64,
 ) -> Result<Vec<u8>, AllocError> {
-    let end = 0x3000 + (size & 0xffff);
-    let sections = section_rows(size);
-    Elf {
+    let tables = Tables {
+        offset: 0x3058 + (size & 0xffff),
+        count: 6,
+        names: 5,
+    };
+    let file = Elf {
         entry: 0x13000,
         flags: 0,
         parts: &[
@@ -222,23 +233,8 @@ fn output_file<'x>(
                 words: code,
             },
         ],
-        chunks: &[
-            Chunk {
-                offset: end,
-                bytes: &MAP,
-            },
-            Chunk {
-                offset: end + 41,
-                bytes: NAMES,
-            },
-        ],
-        tables: Tables {
-            sections: &sections,
-            offset: end + 88,
-            names: 5,
-        },
-    }
-    .bytes(alloc)
+    };
+    file.bytes_with_sections(alloc, &tail(alloc)?, tables, &section_rows(size))
 }
 
 impl Transformation {
@@ -269,64 +265,65 @@ impl Transformation {
 /// The names of the sections of a linked file, at 1, 7 and 25.
 const LINKED_NAMES: &[u8] = b"\0.text\0.riscv.attributes\0.shstrtab\0";
 
+/// The sections of a linked file: its code, its attributes, and their names.
+const LINKED_SECTIONS: [SectionRow; 4] = [
+    SECTION,
+    SectionRow {
+        name: 1,
+        kind: 1,
+        flags: 6,
+        address: ENTRY,
+        offset: 0xb4,
+        size: 12,
+        align: 4,
+        ..SECTION
+    },
+    SectionRow {
+        name: 7,
+        kind: 0x7000_0003,
+        offset: 0xb0,
+        size: 4,
+        align: 1,
+        ..SECTION
+    },
+    SectionRow {
+        name: 25,
+        kind: 3,
+        offset: 0xc0,
+        size: 35,
+        align: 1,
+        ..SECTION
+    },
+];
+
 /// The input of `TWO_SUMS` as a linker leaves it: with a PT_NOTE header, a section over its code, and an attributes section.
-pub(crate) fn linked(alloc: Global) -> Result<Vec<u8>, AllocError> {
-    Elf {
-        entry: ENTRY,
-        flags: 0,
-        parts: &[
-            Part {
-                kind: NOTE,
-                flags: READ,
-                address: 0,
-                offset: 0xb0,
-                words: &[0],
-            },
-            Part {
-                kind: LOAD,
-                flags: READ_EXECUTE,
-                address: ENTRY,
-                offset: 0xb4,
-                words: &[0x00700513, 0x00a505b3, ECALL],
-            },
-        ],
-        chunks: &[Chunk {
-            offset: 0xc0,
-            bytes: LINKED_NAMES,
-        }],
-        tables: Tables {
-            sections: &[
-                SECTION,
-                SectionRow {
-                    name: 1,
-                    kind: 1,
-                    flags: 6,
-                    address: ENTRY,
-                    offset: 0xb4,
-                    size: 12,
-                    align: 4,
-                    ..SECTION
-                },
-                SectionRow {
-                    name: 7,
-                    kind: 0x7000_0003,
-                    offset: 0xb0,
-                    size: 4,
-                    align: 1,
-                    ..SECTION
-                },
-                SectionRow {
-                    name: 25,
-                    kind: 3,
-                    offset: 0xc0,
-                    size: 35,
-                    align: 1,
-                    ..SECTION
-                },
-            ],
-            offset: 0xe8,
-            names: 3,
+const LINKED: Elf<'static> = Elf {
+    entry: ENTRY,
+    flags: 0,
+    parts: &[
+        Part {
+            kind: NOTE,
+            flags: READ,
+            address: 0,
+            offset: 0xb0,
+            words: &[0],
         },
-    }
-    .bytes(alloc)
+        Part {
+            kind: LOAD,
+            flags: READ_EXECUTE,
+            address: ENTRY,
+            offset: 0xb4,
+            words: &[0x00700513, 0x00a505b3, ECALL],
+        },
+    ],
+};
+
+/// The bytes of that file.
+pub(crate) fn linked(alloc: Global) -> Result<Vec<u8>, AllocError> {
+    let tables = Tables {
+        offset: 0xe8,
+        count: 4,
+        names: 3,
+    };
+    LINKED.bytes_with_sections(alloc, LINKED_NAMES, tables, &LINKED_SECTIONS)
 }

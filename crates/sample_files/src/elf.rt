@@ -25,13 +25,6 @@ pub struct Part<'a> {
     pub words: &'a [u32],
 }
 
-/// Bytes that stand somewhere in the file.
-#[derive(Clone, Copy, Debug)]
-pub struct Chunk<'b> {
-    pub offset: u64,
-    pub bytes: &'b [u8],
-}
-
 /// A section header (ELF gABI), with all its fields.
 #[derive(Clone, Copy, Debug)]
 pub struct SectionRow {
@@ -47,31 +40,27 @@ pub struct SectionRow {
     pub entry_size: u64,
 }
 
-/// The section headers, where they begin, and the number of the section with their names.
+/// Where the section headers begin, how many they are, and the number of the one with their names.
 #[derive(Clone, Copy, Debug)]
-pub struct Tables<'b> {
-    pub sections: &'b [SectionRow],
+pub struct Tables {
     pub offset: u64,
+    pub count: u16,
     pub names: u16,
 }
 
-impl Tables<'_> {
-    /// No section header.
-    pub const NONE: Tables<'static> = Tables {
-        sections: &[],
-        offset: 0,
-        names: 0,
-    };
-}
+/// No section headers.
+const NO_TABLES: Tables = Tables {
+    offset: 0,
+    count: 0,
+    names: 0,
+};
 
-/// A file: segments, then other bytes, then section headers, each behind the ones before it.
+/// A file of segments, each behind the ones before it.
 #[derive(Clone, Copy, Debug)]
-pub struct Elf<'a, 'b> {
+pub struct Elf<'a> {
     pub entry: u64,
     pub flags: u32,
     pub parts: &'a [Part<'a>],
-    pub chunks: &'b [Chunk<'b>],
-    pub tables: Tables<'b>,
 }
 
 fn push_halves(file: &mut Vec<u8>, halves: &[u16]) -> Result<(), AllocError> {
@@ -123,8 +112,8 @@ fn half(x: usize) -> u16 {
     (x & 0xffff) as u16
 }
 
-impl Elf<'_, '_> {
-    fn push_header(&self, file: &mut Vec<u8>) -> Result<(), AllocError> {
+impl Elf<'_> {
+    fn push_header(&self, file: &mut Vec<u8>, tables: Tables) -> Result<(), AllocError> {
         file.extend_from_slice(b"\x7fELF")?;
         // 64 bits, the low byte first, version 1, and no ABI of an operating system.
         file.extend_from_slice(&[2, 1, 1, 0, 0, 0, 0, 0, 0, 0, 0, 0])?;
@@ -132,15 +121,17 @@ impl Elf<'_, '_> {
         push_halves(file, &[2, 243])?;
         push_words(file, &[1])?;
         // The program headers stand right behind this header.
-        push_longs(file, &[self.entry, 64, self.tables.offset])?;
+        push_longs(file, &[self.entry, 64, tables.offset])?;
         push_words(file, &[self.flags])?;
-        let sections = half(self.tables.sections.len());
-        let section_size = if sections == 0 { 0 } else { 64 };
+        let section_size = if tables.count == 0 { 0 } else { 64 };
         push_halves(file, &[64, 56, half(self.parts.len())])?;
-        push_halves(file, &[section_size, sections, self.tables.names])
+        push_halves(file, &[section_size, tables.count, tables.names])
     }
 
     fn push_parts(&self, file: &mut Vec<u8>) -> Result<(), AllocError> {
+        for part in self.parts {
+            part.push_header(file)?;
+        }
         for part in self.parts {
             file.resize(part.offset as usize, 0)?;
             push_words(file, part.words)?;
@@ -148,27 +139,28 @@ impl Elf<'_, '_> {
         Ok(())
     }
 
-    fn push_chunks(&self, file: &mut Vec<u8>) -> Result<(), AllocError> {
-        for chunk in self.chunks {
-            file.resize(chunk.offset as usize, 0)?;
-            file.extend_from_slice(chunk.bytes)?;
-        }
-        Ok(())
-    }
-
-    /// The bytes of the file, with zeros between its parts.
+    /// The bytes of the file, with zeros between its parts and without sections.
     pub fn bytes(&self, alloc: Global) -> Result<Vec<u8>, AllocError> {
         let mut file = Vec::new(alloc);
-        self.push_header(&mut file)?;
-        for part in self.parts {
-            part.push_header(&mut file)?;
-        }
+        self.push_header(&mut file, NO_TABLES)?;
         self.push_parts(&mut file)?;
-        self.push_chunks(&mut file)?;
-        if self.tables.offset > 0 {
-            file.resize(self.tables.offset as usize, 0)?;
-        }
-        for section in self.tables.sections {
+        Ok(file)
+    }
+
+    /// The same with other bytes right behind the last segment, and section headers at their offset.
+    pub fn bytes_with_sections(
+        &self,
+        alloc: Global,
+        tail: &[u8],
+        tables: Tables,
+        sections: &[SectionRow],
+    ) -> Result<Vec<u8>, AllocError> {
+        let mut file = Vec::new(alloc);
+        self.push_header(&mut file, tables)?;
+        self.push_parts(&mut file)?;
+        file.extend_from_slice(tail)?;
+        file.resize(tables.offset as usize, 0)?;
+        for section in sections {
             section.push(&mut file)?;
         }
         Ok(file)

@@ -1,6 +1,6 @@
 // Files of one segment, which most cases have.
 
-use crate::elf::{Elf, LOAD, Part, READ_EXECUTE, Tables};
+use crate::elf::{Elf, LOAD, Part, READ_EXECUTE};
 use std::alloc::{AllocError, Global};
 
 /// The address of the code, and of its first instruction.
@@ -24,8 +24,6 @@ pub fn first_file(alloc: Global, words: &[u32]) -> Result<Vec<u8>, AllocError> {
             offset: CODE_OFFSET,
             words,
         }],
-        chunks: &[],
-        tables: Tables::NONE,
     }
     .bytes(alloc)
 }

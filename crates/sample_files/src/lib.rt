@@ -4,5 +4,5 @@
 mod elf;
 mod inputs;
 
-pub use elf::{Chunk, Elf, LOAD, NOTE, Part, READ, READ_EXECUTE, READ_WRITE, SectionRow, Tables};
+pub use elf::{Elf, LOAD, NOTE, Part, READ, READ_EXECUTE, READ_WRITE, SectionRow, Tables};
 pub use inputs::{CODE_OFFSET, ECALL, ENTRY, first_file};
