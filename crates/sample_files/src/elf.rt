@@ -1,4 +1,5 @@
 // ELF64 files for RISC-V, from a description of what differs between them.
+ghost use Rattle.std.specs.Prelude.{◌≡◌, ◌+◌, ◌*◌, ◌≤◌, OnOk, IfOk, length};
 
 use std::alloc::{AllocError, Global};
 
@@ -63,21 +64,27 @@ pub struct Elf<'a> {
     pub parts: &'a [Part<'a>],
 }
 
-fn push_halves(file: &mut Vec<u8>, halves: &[u16]) -> Result<(), AllocError> {
+fn push_halves(file: &mut Vec<u8>, halves: &[u16]) -> Result<(), AllocError>
+    ensures { OnOk result (length file.new.items ≡ length file.old.items + 2 * length halves.now) }
+{
     for half in halves {
         file.extend_from_slice(&half.to_le_bytes())?;
     }
     Ok(())
 }
 
-fn push_words(file: &mut Vec<u8>, words: &[u32]) -> Result<(), AllocError> {
+fn push_words(file: &mut Vec<u8>, words: &[u32]) -> Result<(), AllocError>
+    ensures { OnOk result (length file.new.items ≡ length file.old.items + 4 * length words.now) }
+{
     for word in words {
         file.extend_from_slice(&word.to_le_bytes())?;
     }
     Ok(())
 }
 
-fn push_longs(file: &mut Vec<u8>, longs: &[u64]) -> Result<(), AllocError> {
+fn push_longs(file: &mut Vec<u8>, longs: &[u64]) -> Result<(), AllocError>
+    ensures { OnOk result (length file.new.items ≡ length file.old.items + 8 * length longs.now) }
+{
     for long in longs {
         file.extend_from_slice(&long.to_le_bytes())?;
     }
@@ -90,7 +97,9 @@ fn size_of_words(words: &[u32]) -> u64 {
 }
 
 impl Part<'_> {
-    fn push_header(&self, file: &mut Vec<u8>) -> Result<(), AllocError> {
+    fn push_header(&self, file: &mut Vec<u8>) -> Result<(), AllocError>
+        ensures { OnOk result (length file.new.items ≡ length file.old.items + 56) }
+    {
         let size = size_of_words(self.words);
         push_words(file, &[self.kind, self.flags])?;
         push_longs(file, &[self.offset, self.address, self.address])?;
@@ -99,12 +108,34 @@ impl Part<'_> {
 }
 
 impl SectionRow {
-    fn push(&self, file: &mut Vec<u8>) -> Result<(), AllocError> {
+    fn push(&self, file: &mut Vec<u8>) -> Result<(), AllocError>
+        ensures { OnOk result (length file.new.items ≡ length file.old.items + 64) }
+    {
         push_words(file, &[self.name, self.kind])?;
         push_longs(file, &[self.flags, self.address, self.offset, self.size])?;
         push_words(file, &[self.link, self.info])?;
         push_longs(file, &[self.align, self.entry_size])
     }
+}
+
+fn push_sections(file: &mut Vec<u8>, sections: &[SectionRow]) -> Result<(), AllocError>
+    ensures { OnOk result (length file.new.items ≡ length file.old.items + 64 * length sections.now) }
+{
+    for section in sections {
+        section.push(file)?;
+    }
+    Ok(())
+}
+
+/// Appends zeros up to an offset, where the file does not reach it.
+fn pad_to(file: &mut Vec<u8>, offset: u64) -> Result<(), AllocError>
+    ensures { OnOk result (length file.old.items ≤ length file.new.items) }
+{
+    let size = offset as usize;
+    if file.len() < size {
+        file.resize(size, 0)?;
+    }
+    Ok(())
 }
 
 /// The low 16 bits of a number.
@@ -113,7 +144,9 @@ fn half(x: usize) -> u16 {
 }
 
 impl Elf<'_> {
-    fn push_header(&self, file: &mut Vec<u8>, tables: Tables) -> Result<(), AllocError> {
+    fn push_header(&self, file: &mut Vec<u8>, tables: Tables) -> Result<(), AllocError>
+        ensures { OnOk result (length file.new.items ≡ length file.old.items + 64) }
+    {
         file.extend_from_slice(b"\x7fELF")?;
         // 64 bits, the low byte first, version 1, and no ABI of an operating system.
         file.extend_from_slice(&[2, 1, 1, 0, 0, 0, 0, 0, 0, 0, 0, 0])?;
@@ -128,21 +161,33 @@ impl Elf<'_> {
         push_halves(file, &[section_size, tables.count, tables.names])
     }
 
-    fn push_parts(&self, file: &mut Vec<u8>) -> Result<(), AllocError> {
+    fn push_programs(&self, file: &mut Vec<u8>) -> Result<(), AllocError>
+        ensures { OnOk result (length file.new.items ≡ length file.old.items + 56 * length self.now.parts.now) }
+    {
         for part in self.parts {
             part.push_header(file)?;
         }
+        Ok(())
+    }
+
+    fn push_parts(&self, file: &mut Vec<u8>) -> Result<(), AllocError>
+        ensures { OnOk result (length file.old.items ≤ length file.new.items) }
+    {
         for part in self.parts {
-            file.resize(part.offset as usize, 0)?;
+            pad_to(file, part.offset)?;
             push_words(file, part.words)?;
         }
         Ok(())
     }
 
-    /// The bytes of the file, with zeros between its parts and without sections.
-    pub fn bytes(&self, alloc: Global) -> Result<Vec<u8>, AllocError> {
+    /// The bytes of the file, with zeros between its parts and without sections: its header, a program header for each
+    /// part, and the parts.
+    pub fn bytes(&self, alloc: Global) -> Result<Vec<u8>, AllocError>
+        ensures { IfOk result (λ file. 64 + 56 * length self.now.parts.now ≤ length file.items) }
+    {
         let mut file = Vec::new(alloc);
         self.push_header(&mut file, NO_TABLES)?;
+        self.push_programs(&mut file)?;
         self.push_parts(&mut file)?;
         Ok(file)
     }
@@ -154,15 +199,16 @@ impl Elf<'_> {
         tail: &[u8],
         tables: Tables,
         sections: &[SectionRow],
-    ) -> Result<Vec<u8>, AllocError> {
+    ) -> Result<Vec<u8>, AllocError>
+        ensures { IfOk result (λ file. 64 + 56 * length self.now.parts.now + 64 * length sections.now ≤ length file.items) }
+    {
         let mut file = Vec::new(alloc);
         self.push_header(&mut file, tables)?;
+        self.push_programs(&mut file)?;
         self.push_parts(&mut file)?;
         file.extend_from_slice(tail)?;
-        file.resize(tables.offset as usize, 0)?;
-        for section in sections {
-            section.push(&mut file)?;
-        }
+        pad_to(&mut file, tables.offset)?;
+        push_sections(&mut file, sections)?;
         Ok(file)
     }
 }

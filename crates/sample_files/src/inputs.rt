@@ -1,4 +1,5 @@
 // Files of one segment, which most cases have.
+ghost use Rattle.std.specs.Prelude.{◌≤◌, IfOk, length};
 
 use crate::elf::{Elf, LOAD, Part, READ_EXECUTE};
 use std::alloc::{AllocError, Global};
@@ -13,8 +14,10 @@ pub const CODE_OFFSET: u64 = 0x78;
 pub const ECALL: u32 = 0x0000_0073;
 
 /// The file with this code as its only segment, and without sections.
-pub fn first_file(alloc: Global, words: &[u32]) -> Result<Vec<u8>, AllocError> {
-    Elf {
+pub fn first_file(alloc: Global, words: &[u32]) -> Result<Vec<u8>, AllocError>
+    ensures { IfOk result (λ file. 120 ≤ length file.items) }
+{
+    let elf = Elf {
         entry: ENTRY,
         flags: 0,
         parts: &[Part {
@@ -24,6 +27,7 @@ pub fn first_file(alloc: Global, words: &[u32]) -> Result<Vec<u8>, AllocError> {
             offset: CODE_OFFSET,
             words,
         }],
-    }
-    .bytes(alloc)
+    };
+    let file = elf.bytes(alloc)?;
+    Ok(file)
 }
