@@ -1,13 +1,13 @@
 // The rules on the header.
 ghost use Rattle.std.specs.Prelude.{◌≡◌, ◌≤◌, ◌<◌, length, OnOk};
-ghost use Rattle.qed_model.specs.ElfHeader.{e_shnum};
-ghost use Rattle.qed_model.specs.ElfFields.{e_shstrndx};
-ghost use Rattle.qed_model.specs.ElfRules.{magic_rule, header_rule, class_rule, encoding_rule, version_rule, file_type_rule, machine_rule, header_shape_rule, header_rules};
+ghost use Rattle.qed_model.specs.Elf.Header.{e_shnum};
+ghost use Rattle.qed_model.specs.Elf.Fields.{e_shstrndx};
+ghost use Rattle.qed_model.specs.Elf.Rules.{magic_rule, header_rule, class_rule, encoding_rule, version_rule, file_type_rule, machine_rule, header_shape_rule, header_rules};
 
 use crate::fields::{u16_at, u32_at, u64_at};
 use elf_types::{ElfError, Part};
 
-#[tactic(auto, unfolding(qed_model::specs::ElfRules::magic_rule))]
+#[tactic(auto, unfolding(qed_model::specs::Elf::Rules::magic_rule))]
 fn check_magic(bytes: &[u8]) -> Result<(), ElfError>
     ensures { result ≡ magic_rule bytes.now }
 {
@@ -17,7 +17,7 @@ fn check_magic(bytes: &[u8]) -> Result<(), ElfError>
     Ok(())
 }
 
-#[tactic(auto, unfolding(qed_model::specs::ElfRules::header_rule))]
+#[tactic(auto, unfolding(qed_model::specs::Elf::Rules::header_rule))]
 fn check_room(bytes: &[u8]) -> Result<(), ElfError>
     ensures gives { result ≡ header_rule bytes.now }
     ensures room { OnOk result (64 ≤ length bytes.now) }
@@ -28,7 +28,7 @@ fn check_room(bytes: &[u8]) -> Result<(), ElfError>
     Ok(())
 }
 
-#[tactic(auto, unfolding(qed_model::specs::ElfRules::class_rule))]
+#[tactic(auto, unfolding(qed_model::specs::Elf::Rules::class_rule))]
 fn check_class(bytes: &[u8]) -> Result<(), ElfError>
     requires { 64 ≤ length bytes.now }
     ensures { result ≡ class_rule bytes.now }
@@ -40,7 +40,7 @@ fn check_class(bytes: &[u8]) -> Result<(), ElfError>
     Ok(())
 }
 
-#[tactic(auto, unfolding(qed_model::specs::ElfRules::encoding_rule))]
+#[tactic(auto, unfolding(qed_model::specs::Elf::Rules::encoding_rule))]
 fn check_encoding(bytes: &[u8]) -> Result<(), ElfError>
     requires { 64 ≤ length bytes.now }
     ensures { result ≡ encoding_rule bytes.now }
@@ -52,7 +52,7 @@ fn check_encoding(bytes: &[u8]) -> Result<(), ElfError>
     Ok(())
 }
 
-#[tactic(auto, unfolding(qed_model::specs::ElfRules::version_rule))]
+#[tactic(auto, unfolding(qed_model::specs::Elf::Rules::version_rule))]
 fn check_version(bytes: &[u8]) -> Result<(), ElfError>
     requires { 64 ≤ length bytes.now }
     ensures { result ≡ version_rule bytes.now }
@@ -68,7 +68,7 @@ fn check_version(bytes: &[u8]) -> Result<(), ElfError>
     Ok(())
 }
 
-#[tactic(auto, unfolding(qed_model::specs::ElfRules::file_type_rule))]
+#[tactic(auto, unfolding(qed_model::specs::Elf::Rules::file_type_rule))]
 fn check_file_type(bytes: &[u8]) -> Result<(), ElfError>
     requires { 64 ≤ length bytes.now }
     ensures { result ≡ file_type_rule bytes.now }
@@ -80,7 +80,7 @@ fn check_file_type(bytes: &[u8]) -> Result<(), ElfError>
     Ok(())
 }
 
-#[tactic(auto, unfolding(qed_model::specs::ElfRules::machine_rule))]
+#[tactic(auto, unfolding(qed_model::specs::Elf::Rules::machine_rule))]
 fn check_machine(bytes: &[u8]) -> Result<(), ElfError>
     requires { 64 ≤ length bytes.now }
     ensures { result ≡ machine_rule bytes.now }
@@ -92,7 +92,7 @@ fn check_machine(bytes: &[u8]) -> Result<(), ElfError>
     Ok(())
 }
 
-#[tactic(auto, unfolding(qed_model::specs::ElfRules::header_shape_rule))]
+#[tactic(auto, unfolding(qed_model::specs::Elf::Rules::header_shape_rule))]
 fn check_shape(bytes: &[u8]) -> Result<(), ElfError>
     requires { 64 ≤ length bytes.now }
     ensures gives { result ≡ header_shape_rule bytes.now }
@@ -113,7 +113,7 @@ fn check_shape(bytes: &[u8]) -> Result<(), ElfError>
 }
 
 /// All rules on the header, in order.
-#[tactic(auto, unfolding(qed_model::specs::ElfRules::header_rules))]
+#[tactic(auto, unfolding(qed_model::specs::Elf::Rules::header_rules))]
 pub fn check_header(bytes: &[u8]) -> Result<(), ElfError>
     ensures gives { result ≡ header_rules bytes.now }
     ensures room { OnOk result (64 ≤ length bytes.now) }

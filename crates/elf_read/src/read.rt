@@ -2,11 +2,11 @@
 ghost use Rattle.std.specs.Prelude.{◌≡◌, ◌<◌, ◌/◌, ◌⊎◌, length, List, ℕ, Ok, Err, Some, IfOk, IfErr, IfSome, OnOk};
 ghost use Rattle.elf_types.specs.declared.error.ElfError.TheVariants as error;
 ghost use Rattle.qed_model.specs.Below.{each, gather};
-ghost use Rattle.qed_model.specs.ElfHeader.{e_phnum, e_shnum};
-ghost use Rattle.qed_model.specs.ElfFields.{section_header};
-ghost use Rattle.qed_model.specs.ElfRules.{section_strings, strings_of, symbol_table, verdict};
-ghost use Rattle.qed_model.specs.ElfFile.{File, segment_of, section_of, symbol_of, symbols_at, relas_of};
-ghost use Rattle.qed_model.specs.ElfRefusals.{IsAccepted, IsRefused};
+ghost use Rattle.qed_model.specs.Elf.Header.{e_phnum, e_shnum};
+ghost use Rattle.qed_model.specs.Elf.Fields.{section_header};
+ghost use Rattle.qed_model.specs.Elf.Rules.{section_strings, strings_of, symbol_table, verdict};
+ghost use Rattle.qed_model.specs.Elf.File.{File, segment_of, section_of, symbol_of, symbols_at, relas_of};
+ghost use Rattle.qed_model.specs.Elf.Refusals.{IsAccepted, IsRefused};
 ghost use Rattle.elf_read.specs.Sound.{HasLinks};
 
 use crate::below::list_of;
@@ -35,7 +35,7 @@ impl<'a> Model for Sound<'a> {
     ghost invariant = { λ s. HasLinks s.parts };
 }
 
-#[tactic(auto, unfolding(qed_model::specs::ElfFile::section_of))]
+#[tactic(auto, unfolding(qed_model::specs::Elf::File::section_of))]
 fn section(file: &Parts, strings: &Strings, alloc: Global, i: u64) -> Result<Section, AllocError>
     requires below { i < e_shnum file.now }
     requires names { strings.now ≡ section_strings file.now }
@@ -51,7 +51,7 @@ fn section(file: &Parts, strings: &Strings, alloc: Global, i: u64) -> Result<Sec
     })
 }
 
-#[tactic(auto, unfolding(qed_model::specs::ElfFile::segment_of))]
+#[tactic(auto, unfolding(qed_model::specs::Elf::File::segment_of))]
 fn segment(file: &Parts, alloc: Global, i: u64) -> Result<Segment, AllocError>
     requires { i < e_phnum file.now }
     ensures { IfOk result (λ x. x ≡ segment_of file.now i) }
@@ -66,7 +66,7 @@ fn segment(file: &Parts, alloc: Global, i: u64) -> Result<Segment, AllocError>
     })
 }
 
-#[tactic(auto, unfolding(qed_model::specs::ElfFile::symbol_of))]
+#[tactic(auto, unfolding(qed_model::specs::Elf::File::symbol_of))]
 fn symbol(
     file: &Parts,
     strings: &Strings,
@@ -94,7 +94,7 @@ fn symbol(
 
 impl<'a> Sound<'a> {
     /// The file, where no rule refuses it.
-    #[tactic(auto, unfolding(qed_model::specs::ElfRules::verdict))]
+    #[tactic(auto, unfolding(qed_model::specs::Elf::Rules::verdict))]
     fn new(bytes: &'a [u8]) -> Result<Sound<'a>, ElfError>
         ensures same { IfOk result (λ s. s ≡ bytes.now) }
         ensures accepted { OnOk result (verdict bytes.now ≡ Ok tt) }

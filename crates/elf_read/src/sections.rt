@@ -1,7 +1,7 @@
 // The rule on sections, and their names.
 ghost use Rattle.std.specs.Prelude.{◌≡◌, ◌<◌};
-ghost use Rattle.qed_model.specs.ElfHeader.{e_shnum};
-ghost use Rattle.qed_model.specs.ElfRules.{section_strings, section_name, is_section_misshapen, section_shape_rule};
+ghost use Rattle.qed_model.specs.Elf.Header.{e_shnum};
+ghost use Rattle.qed_model.specs.Elf.Rules.{section_strings, section_name, is_section_misshapen, section_shape_rule};
 
 use crate::below::first_of;
 use crate::parts::Parts;
@@ -9,7 +9,7 @@ use crate::strings::Strings;
 use elf_types::ElfError;
 
 /// The string table of the sections.
-#[tactic(auto, unfolding(qed_model::specs::ElfRules::section_strings))]
+#[tactic(auto, unfolding(qed_model::specs::Elf::Rules::section_strings))]
 pub fn section_strings<'a>(file: &Parts<'a>) -> Strings<'a>
     ensures { 0 < e_shnum file.now → result ≡ section_strings file.now }
 {
@@ -20,7 +20,7 @@ pub fn section_strings<'a>(file: &Parts<'a>) -> Strings<'a>
     Strings::new(file.section_bytes(file.section(at)))
 }
 
-#[tactic(auto, unfolding(qed_model::specs::ElfRules::is_section_misshapen, qed_model::specs::ElfRules::section_strings))]
+#[tactic(auto, unfolding(qed_model::specs::Elf::Rules::is_section_misshapen, qed_model::specs::Elf::Rules::section_strings))]
 fn is_section_misshapen(file: &Parts, strings: &Strings, i: u64) -> bool
     requires below { i < e_shnum file.now }
     requires names { strings.now ≡ section_strings file.now }
@@ -41,7 +41,7 @@ fn is_section_misshapen(file: &Parts, strings: &Strings, i: u64) -> bool
 }
 
 /// Whether each section ends at 2^64 or before and has a name, where the file names sections.
-#[tactic(auto, unfolding(qed_model::specs::ElfRules::section_shape_rule))]
+#[tactic(auto, unfolding(qed_model::specs::Elf::Rules::section_shape_rule))]
 pub fn check_section_shape(file: &Parts) -> Result<(), ElfError>
     ensures { result ≡ section_shape_rule file.now }
 {
@@ -56,7 +56,7 @@ pub fn check_section_shape(file: &Parts) -> Result<(), ElfError>
 }
 
 /// The name of a section; where the file names no sections it is empty.
-#[tactic(auto, unfolding(qed_model::specs::ElfRules::section_name))]
+#[tactic(auto, unfolding(qed_model::specs::Elf::Rules::section_name))]
 pub fn section_name<'a>(file: &Parts<'a>, strings: &Strings<'a>, i: u64) -> &'a [u8]
     requires below { i < e_shnum file.now }
     requires names { strings.now ≡ section_strings file.now }

@@ -1,13 +1,13 @@
 // The rules on segments.
 ghost use Rattle.std.specs.Prelude.{◌≡◌, ◌<◌};
-ghost use Rattle.qed_model.specs.ElfHeader.{e_phnum};
-ghost use Rattle.qed_model.specs.ElfRules.{is_misshapen, segment_shape_rule, do_overlap, overlapped, segment_overlap_rule, file_size};
+ghost use Rattle.qed_model.specs.Elf.Header.{e_phnum};
+ghost use Rattle.qed_model.specs.Elf.Rules.{is_misshapen, segment_shape_rule, do_overlap, overlapped, segment_overlap_rule, file_size};
 
 use crate::below::first_of;
 use crate::parts::Parts;
 use elf_types::{ElfError, ProgramHeader};
 
-#[tactic(auto, unfolding(qed_model::specs::ElfRules::is_misshapen))]
+#[tactic(auto, unfolding(qed_model::specs::Elf::Rules::is_misshapen))]
 fn is_misshapen(p: ProgramHeader) -> bool
     ensures { result ≡ is_misshapen p }
 {
@@ -15,7 +15,7 @@ fn is_misshapen(p: ProgramHeader) -> bool
 }
 
 /// Whether each segment has no more bytes in the file than in memory, and ends at 2^64 or before.
-#[tactic(auto, unfolding(qed_model::specs::ElfRules::segment_shape_rule))]
+#[tactic(auto, unfolding(qed_model::specs::Elf::Rules::segment_shape_rule))]
 pub fn check_segment_shape(file: &Parts) -> Result<(), ElfError>
     ensures { result ≡ segment_shape_rule file.now }
 {
@@ -25,7 +25,7 @@ pub fn check_segment_shape(file: &Parts) -> Result<(), ElfError>
     }
 }
 
-#[tactic(auto, unfolding(qed_model::specs::ElfRules::do_overlap))]
+#[tactic(auto, unfolding(qed_model::specs::Elf::Rules::do_overlap))]
 fn do_overlap(p: ProgramHeader, q: ProgramHeader) -> bool
     ensures { result ≡ do_overlap p q }
 {
@@ -37,7 +37,7 @@ fn do_overlap(p: ProgramHeader, q: ProgramHeader) -> bool
         && u128::from(q.vaddr) < u128::from(p.vaddr) + u128::from(p.memsz)
 }
 
-#[tactic(auto, unfolding(qed_model::specs::ElfRules::overlapped))]
+#[tactic(auto, unfolding(qed_model::specs::Elf::Rules::overlapped))]
 fn overlapped(file: &Parts, i: u64) -> Option<u64>
     requires { i < e_phnum file.now }
     ensures { result ≡ overlapped file.now i }
@@ -50,7 +50,7 @@ fn overlapped(file: &Parts, i: u64) -> Option<u64>
 }
 
 /// Whether no two segments share a byte of memory.
-#[tactic(auto, unfolding(qed_model::specs::ElfRules::segment_overlap_rule))]
+#[tactic(auto, unfolding(qed_model::specs::Elf::Rules::segment_overlap_rule))]
 pub fn check_segment_overlap(file: &Parts) -> Result<(), ElfError>
     ensures { result ≡ segment_overlap_rule file.now }
 {

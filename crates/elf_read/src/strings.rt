@@ -1,6 +1,6 @@
 // String tables.
 ghost use Rattle.std.specs.Prelude.{◌≡◌, ◌+◌, ◌<◌, List, ℕ, length, IfSome};
-ghost use Rattle.qed_model.specs.ElfRules.{name_length, name_at, is_unended};
+ghost use Rattle.qed_model.specs.Elf.Rules.{name_length, name_at, is_unended};
 ghost use Rattle.elf_read.specs.Strings.{IsLastZero};
 
 use crate::below::first_of;
@@ -35,7 +35,7 @@ fn zeros_end(bytes: &[u8]) -> u64
 }
 
 // How many bytes a name has, where it has an end.
-#[tactic(auto, unfolding(qed_model::specs::ElfRules::name_length))]
+#[tactic(auto, unfolding(qed_model::specs::Elf::Rules::name_length))]
 fn name_length(bytes: &[u8], place: u32) -> Option<u64>
     ensures gives { result ≡ name_length bytes.now place }
     ensures below { IfSome result (λ n. place + n < length bytes.now) }
@@ -44,7 +44,7 @@ fn name_length(bytes: &[u8], place: u32) -> Option<u64>
     first_of(left as u64, &|k| bytes[place as usize + k as usize] == 0)
 }
 
-#[tactic(auto, unfolding(qed_model::specs::ElfRules::name_at))]
+#[tactic(auto, unfolding(qed_model::specs::Elf::Rules::name_at))]
 fn name_at(bytes: &[u8], place: u32) -> &[u8]
     ensures { result.now ≡ name_at bytes.now place }
 {

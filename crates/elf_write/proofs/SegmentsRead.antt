@@ -8,12 +8,12 @@ use Rattle.std.proofs.lemmas.List.Elements.{All-cons, All-nil}
 use Rattle.elf_types.specs.declared.file.Segment.{Segment}
 use Rattle.elf_types.specs.declared.records.ProgramHeader.{ProgramHeader}
 use Rattle.qed_model.specs.Below.{first, sum_below, each}
-use Rattle.qed_model.specs.ElfHeader.{e_phnum}
-use Rattle.qed_model.specs.ElfFields.{program_header}
-use Rattle.qed_model.specs.ElfRules.{is_load, is_segment_outside, segment_place_rule, is_misshapen, segment_shape_rule, do_overlap, overlapped, segment_overlap_rule, file_size}
-use Rattle.qed_model.specs.ElfFile.{load_bytes, segment_of}
-use Rattle.qed_model.specs.Written.{segments_bytes, offset_from, end_from}
-use Rattle.qed_model.specs.Layout.{IsLoadable, do_share}
+use Rattle.qed_model.specs.Elf.Header.{e_phnum}
+use Rattle.qed_model.specs.Elf.Fields.{program_header}
+use Rattle.qed_model.specs.Elf.Rules.{is_load, is_segment_outside, segment_place_rule, is_misshapen, segment_shape_rule, do_overlap, overlapped, segment_overlap_rule, file_size}
+use Rattle.qed_model.specs.Elf.File.{load_bytes, segment_of}
+use Rattle.qed_model.specs.Elf.Written.{segments_bytes, offset_from, end_from}
+use Rattle.qed_model.specs.Elf.Layout.{IsLoadable, do_share}
 use Rattle.qed_model.proofs.BelowLaws.{first_none}
 use Rattle.elf_write.specs.Widths.{SegmentFits}
 use Rattle.elf_write.proofs.Places.{end_from_above}

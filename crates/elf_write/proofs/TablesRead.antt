@@ -7,10 +7,10 @@ use Rattle.std.proofs.lemmas.List.{get_or-append-add, get_or_append_left}
 use Rattle.std.proofs.lemmas.List.Elements.{All-cons, All-nil, All-append}
 use Rattle.elf_types.specs.declared.output.OutFile.{OutFile}
 use Rattle.elf_types.specs.declared.records.SectionHeader.{SectionHeader}
-use Rattle.qed_model.specs.ElfHeader.{e_shnum}
-use Rattle.qed_model.specs.ElfFields.{e_shstrndx, section_header}
-use Rattle.qed_model.specs.ElfRules.{is_strings, names_header, is_unended, is_section_outside, section_place_rule, section_bytes, is_section_misshapen, section_shape_rule, section_strings, symbol_table}
-use Rattle.qed_model.specs.Layout.{string_table, symbol_names, section_names, symbols_bytes, entries_of, start_of, own_place, symbols_place, strings_place, names_place, table_header, null_header, headers_from, symtab_header, strtab_header, shstrtab_header, table_headers, headers_of}
+use Rattle.qed_model.specs.Elf.Header.{e_shnum}
+use Rattle.qed_model.specs.Elf.Fields.{e_shstrndx, section_header}
+use Rattle.qed_model.specs.Elf.Rules.{is_strings, names_header, is_unended, is_section_outside, section_place_rule, section_bytes, is_section_misshapen, section_shape_rule, section_strings, symbol_table}
+use Rattle.qed_model.specs.Elf.Layout.{string_table, symbol_names, section_names, symbols_bytes, entries_of, start_of, own_place, symbols_place, strings_place, names_place, table_header, null_header, headers_from, symtab_header, strtab_header, shstrtab_header, table_headers, headers_of}
 use Rattle.qed_model.proofs.BelowLaws.{first_found, first_none}
 use Rattle.elf_write.proofs.Sizes.{length-headers_of, length-headers_from, length-symbols_bytes, length-entries_from}
 use Rattle.elf_write.proofs.Stands.{Stands, stands_slice}

@@ -12,13 +12,13 @@ use Rattle.elf_types.specs.declared.output.OutFile.{OutFile}
 use Rattle.elf_types.specs.declared.output.OutSection.{OutSection}
 use Rattle.elf_types.specs.declared.records.SectionHeader.{SectionHeader}
 use Rattle.qed_model.specs.Below.{sum_below, each, gather}
-use Rattle.qed_model.specs.ElfHeader.{e_phoff, e_shoff, e_phnum, e_shnum}
-use Rattle.qed_model.specs.ElfFields.{program_header, section_header}
-use Rattle.qed_model.specs.ElfRules.{magic_rule, header_rule, class_rule, encoding_rule, version_rule, file_type_rule, machine_rule, header_shape_rule, header_rules, program_table_rule, section_table_rule, table_rules, part_rules, section_strings, section_name, symbol_table, symbol_name_bytes, rela_fault, rela_shape_rule, section_count_rule, file_size, counted_bytes, byte_count_rule, verdict}
-use Rattle.qed_model.specs.ElfFile.{section_of, relas_of, File}
-use Rattle.qed_model.specs.Written.{program_headers}
-use Rattle.qed_model.specs.Layout.{IsWritable, IsName, names_bytes, string_table, symbol_names, section_names, table_names, symtab_name, strtab_name, shstrtab_name, first_global, headers_bytes, headers_of, null_header, symtab_header, strtab_header, shstrtab_header, start_of, own_place, headers_place, written}
-use Rattle.qed_model.specs.FileRead.{null_section, section_read, tables_read, file_read}
+use Rattle.qed_model.specs.Elf.Header.{e_phoff, e_shoff, e_phnum, e_shnum}
+use Rattle.qed_model.specs.Elf.Fields.{program_header, section_header}
+use Rattle.qed_model.specs.Elf.Rules.{magic_rule, header_rule, class_rule, encoding_rule, version_rule, file_type_rule, machine_rule, header_shape_rule, header_rules, program_table_rule, section_table_rule, table_rules, part_rules, section_strings, section_name, symbol_table, symbol_name_bytes, rela_fault, rela_shape_rule, section_count_rule, file_size, counted_bytes, byte_count_rule, verdict}
+use Rattle.qed_model.specs.Elf.File.{section_of, relas_of, File}
+use Rattle.qed_model.specs.Elf.Written.{program_headers}
+use Rattle.qed_model.specs.Elf.Layout.{IsWritable, IsName, names_bytes, string_table, symbol_names, section_names, table_names, symtab_name, strtab_name, shstrtab_name, first_global, headers_bytes, headers_of, null_header, symtab_header, strtab_header, shstrtab_header, start_of, own_place, headers_place, written}
+use Rattle.qed_model.specs.Elf.FileRead.{null_section, section_read, tables_read, file_read}
 use Rattle.qed_model.proofs.ProgramHeaders.{length-program_headers}
 use Rattle.elf_write.specs.Widths.{SegmentFits, SectionFits, SymbolFits}
 use Rattle.elf_write.proofs.Sizes.{ends_within, laid_out, length-written, length-headers_of, length-section_names}

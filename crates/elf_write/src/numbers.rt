@@ -1,6 +1,6 @@
 // Little-endian numbers in bytes.
 ghost use Rattle.std.specs.Prelude.{◌≡◌, ◌++◌, OnOk, map, replicate, [], ◌∷◌};
-ghost use Rattle.qed_model.specs.Written.{fields_bytes};
+ghost use Rattle.qed_model.specs.Elf.Written.{fields_bytes};
 ghost use Rattle.elf_write.specs.Numbers.{size_and_value};
 
 use byteorder::{ByteOrder, LittleEndian};

@@ -1,8 +1,8 @@
 // The records of the file's tables (ELF gABI): header, program header, symbol, section header.
 ghost use Rattle.std.specs.Prelude.{◌≡◌, ◌+◌, ◌^◌, ◌<◌, ◌≤◌, ◌++◌, OnOk, length};
-ghost use Rattle.qed_model.specs.Written.{fields_bytes, program_fields};
+ghost use Rattle.qed_model.specs.Elf.Written.{fields_bytes, program_fields};
 ghost use Rattle.elf_write.specs.Widths.{SegmentFits};
-ghost use Rattle.qed_model.specs.Layout.{file_fields, symbol_bytes, header_bytes, alignment as alignment_of};
+ghost use Rattle.qed_model.specs.Elf.Layout.{file_fields, symbol_bytes, header_bytes, alignment as alignment_of};
 
 use crate::numbers::{Number, push_numbers};
 use elf_types::{SectionHeader, Segment, SymbolEntry};
@@ -86,7 +86,7 @@ pub fn push_program_header(
 }
 
 /// Appends an entry of the symbol table.
-#[tactic(auto, unfolding(qed_model::specs::Layout::symbol_bytes))]
+#[tactic(auto, unfolding(qed_model::specs::Elf::Layout::symbol_bytes))]
 pub fn push_symbol_entry(out: &mut Vec<u8>, entry: SymbolEntry) -> Result<(), AllocError>
     ensures { OnOk result (out.new.items ≡ out.old.items ++ symbol_bytes entry) }
 {
@@ -115,7 +115,7 @@ fn alignment(kind: u32) -> u64
 }
 
 /// Appends a section header.
-#[tactic(auto, unfolding(qed_model::specs::Layout::header_bytes))]
+#[tactic(auto, unfolding(qed_model::specs::Elf::Layout::header_bytes))]
 pub fn push_section_header(out: &mut Vec<u8>, header: SectionHeader) -> Result<(), AllocError>
     ensures { OnOk result (out.new.items ≡ out.old.items ++ header_bytes header) }
 {

@@ -1,8 +1,8 @@
 // The sections' own bytes, their headers and their names.
 ghost use Rattle.std.specs.Prelude.{◌≡◌, ℕ, ◌+◌, ◌^◌, ◌<◌, ◌≤◌, ◌++◌, OnOk, All, length, map, if◌then◌else◌};
 ghost use Rattle.std.specs.Bool.{OnTrue};
-ghost use Rattle.qed_model.specs.Written.{end_from};
-ghost use Rattle.qed_model.specs.Layout.{names_bytes, own_bytes, is_in_memory as has_alloc, is_inside as lies_inside, offset_in as offset_inside, header_bytes, header_with, headers_bytes, headers_from};
+ghost use Rattle.qed_model.specs.Elf.Written.{end_from};
+ghost use Rattle.qed_model.specs.Elf.Layout.{names_bytes, own_bytes, is_in_memory as has_alloc, is_inside as lies_inside, offset_in as offset_inside, header_bytes, header_with, headers_bytes, headers_from};
 ghost use Rattle.elf_write.specs.Widths.{SectionFits};
 
 use crate::records::push_section_header;

@@ -1,8 +1,8 @@
 // The whole file.
 ghost use Rattle.std.specs.Prelude.{◌≡◌, IfOk, length};
-ghost use Rattle.qed_model.specs.ElfFile.{File};
-ghost use Rattle.qed_model.specs.FileRead.{file_read};
-ghost use Rattle.qed_model.specs.Layout.{IsWritable, written};
+ghost use Rattle.qed_model.specs.Elf.File.{File};
+ghost use Rattle.qed_model.specs.Elf.FileRead.{file_read};
+ghost use Rattle.qed_model.specs.Elf.Layout.{IsWritable, written};
 
 use crate::layout::places_of;
 use crate::parts::{push_front, push_tables};

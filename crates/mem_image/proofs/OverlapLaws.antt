@@ -6,7 +6,7 @@ use Rattle.std.proofs.lemmas.Bool.{and_from, and_parts, le-leb, lt-ltb, leb-true
 use Rattle.std.proofs.lemmas.Option.{slice_get-get_or, slice_get_within, slice_get-map}
 use Rattle.std.proofs.lemmas.List.{length-map}
 use Rattle.qed_model.proofs.MemoryLaws.{same_memory}
-use Rattle.qed_model.specs.Kept.{LoadSegment, memory_of}
+use Rattle.qed_model.specs.Machine.Program.{LoadSegment, memory_of}
 use Rattle.mem_image.specs.declared.spec.SegmentSpec.{SegmentSpec}
 use Rattle.mem_image.specs.Segments.{cell_in, AllFit}
 use Rattle.mem_image.specs.Overlap.{segment_of, segments_of, filled, Share, Overlaps, IsNext, IsLeast, AreApart, Ascends}

@@ -1,15 +1,12 @@
 -- Accesses whose bytes all lie in one segment.
 use Rattle.std.proofs.Common.{◌≡◌, ℕ, zero, suc, ◌+◌, ◌-◌, ◌*◌, ◌^◌, ◌<◌, ◌≤◌, Bool, true, false, List, [], ◌∷◌, length, Some, None, refl, sym, ap, ◌∙◌, arith, add-one, set, length-set, get_or}
 use Rattle.std.proofs.Math.Nat.{pow-suc, pow-le-pow_right}
-use Rattle.std.specs.Prelude.{slice_index}
+use Rattle.std.specs.Prelude.{slice_index, slice_get, map}
 use Rattle.std.proofs.lemmas.Bool.{leb-true, ltb-true, and_parts, and_from, le-leb, lt-ltb}
-use Rattle.qed_model.specs.Memory.{byte_of}
-use Rattle.qed_model.specs.Kept.{LoadSegment}
-use Rattle.std.specs.Prelude.{slice_get, map}
+use Rattle.qed_model.specs.Machine.Memory.{byte_of, Flags, Memory, wrap, allows, grants, number, poked, put}
+use Rattle.qed_model.specs.Machine.Program.{LoadSegment, memory_of}
 use Rattle.std.specs.FinMap.{get}
 use Rattle.std.proofs.lemmas.List.{set-set}
-use Rattle.qed_model.specs.Memory.{Flags, Memory, wrap, allows, grants, number, poked, put}
-use Rattle.qed_model.specs.Kept.{memory_of}
 use Rattle.qed_model.proofs.MemoryLaws.{grants_from, put_none, put-more}
 use Rattle.qed_model.proofs.CellsLaws.{byte_of_cell}
 use Rattle.mem_image.specs.Segments.{cell_of, within, has_all, number_in, with_byte_at, with_bytes_at, AllFit, IsWholeAt}

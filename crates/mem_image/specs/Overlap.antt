@@ -1,7 +1,7 @@
 -- Segments of a list that share a byte.
 use Rattle.std.specs.Prelude.{◌≡◌, ℕ, ◌+◌, ◌-◌, ◌<◌, ◌≤◌, ◌⊎◌, true, List, [], ◌∷◌, map, length, replicate, slice_get, Some, ◌++◌}
-use Rattle.qed_model.specs.Kept.{LoadSegment}
-use Rattle.qed_model.specs.Loaded.{flags_of}
+use Rattle.qed_model.specs.Machine.Program.{LoadSegment}
+use Rattle.qed_model.specs.Machine.Memory.{flags_of}
 use Rattle.mem_image.specs.declared.spec.SegmentSpec.{SegmentSpec}
 use Rattle.mem_image.specs.declared.spec.ImageError.{ImageError}
 use Rattle.mem_image.specs.declared.spec.ImageError.TheVariants.{Overlap, Memory}

@@ -28,7 +28,7 @@ pub struct Held {
 
 impl Model for Held {
     ghost use Rattle.std.specs.Prelude.{length};
-    ghost use Rattle.qed_model.specs.Kept.{LoadSegment};
+    ghost use Rattle.qed_model.specs.Machine.Program.{LoadSegment};
 
     ghost Value = { LoadSegment };
 

@@ -2,8 +2,8 @@
 ghost use Rattle.std.specs.Prelude.{◌≡◌, ℕ, ◌<◌, ◌≤◌, ◌^◌, cond, length, map, IfOk, IfErr, IfNone, IfSome, Some, None};
 ghost use Rattle.std.specs.Option.{option_map};
 ghost use Rattle.std.specs.FinMap.{get};
-ghost use Rattle.qed_model.specs.Memory.{grants, poked, put};
-ghost use Rattle.qed_model.specs.Kept.{memory_of};
+ghost use Rattle.qed_model.specs.Machine.Memory.{grants, poked, put};
+ghost use Rattle.qed_model.specs.Machine.Program.{memory_of};
 ghost use Rattle.mem_image.specs.Overlap.{segments_of, filled, AreApart, Explains};
 ghost use Rattle.mem_image.specs.Access.{needs, allowed_byte, allowed_number, IsWidth};
 ghost use Rattle.mem_image.specs.Segments.{cell_in, AllFit, IsFirst, IsWholeAt, Holds};
@@ -21,8 +21,8 @@ pub struct Image {
 }
 
 impl Model for Image {
-    ghost use Rattle.qed_model.specs.Memory.{Memory, memory_code};
-    ghost use Rattle.qed_model.specs.Kept.{memory_of};
+    ghost use Rattle.qed_model.specs.Machine.Memory.{Memory, memory_code};
+    ghost use Rattle.qed_model.specs.Machine.Program.{memory_of};
 
     ghost Value = { Memory };
 

@@ -10,16 +10,16 @@ use Rattle.elf_types.specs.declared.error.ElfError.{ElfError}
 use Rattle.elf_types.specs.declared.error.ElfError.TheVariants as error
 use Rattle.qed_model.specs.declared.machine.Outcome.{Outcome}
 use Rattle.qed_model.specs.declared.machine.Outcome.TheVariants as outcome
-use Rattle.qed_model.specs.ElfFile.{File}
-use Rattle.qed_model.specs.ElfRefusals.{IsRefused}
+use Rattle.qed_model.specs.Elf.File.{File}
+use Rattle.qed_model.specs.Elf.Refusals.{IsRefused}
 use Rattle.elf_types.specs.declared.output.OutFile.{OutFile}
-use Rattle.qed_model.specs.StraightTest.{StraightParts, IsMadeOf, IsStraightTest}
-use Rattle.qed_model.specs.Woven.{high_register_of, WovenFile}
+use Rattle.qed_model.specs.Admission.StraightTest.{StraightParts, IsMadeOf, IsStraightTest}
+use Rattle.qed_model.specs.Weave.StraightWoven.{high_register_of, WovenFile}
 use Rattle.transform.specs.declared.error.TransformError.{TransformError}
 use Rattle.transform.specs.declared.error.TransformError.TheVariants as transform
 use Rattle.transform.specs.declared.error.AdmitError.TheVariants as admit
 use Rattle.transform.specs.Transform.{HasCause, IsWithin}
-use Rattle.qed_model.specs.Texts.{usage_line, load_limit, load_limit_line, run_load_limit, run_load_limit_line}
+use Rattle.qed_model.specs.Text.Plan.{usage_line, load_limit, load_limit_line, run_load_limit, run_load_limit_line}
 use Rattle.qed_top.specs.Words.{Asked, Transform, Run, asked, read_name, stored_name}
 use Rattle.qed_top.specs.Answer.{PrintsOnly, error_status, Transforms, refused, done, refusal_status, memory_bytes, outcome_status, run_of, Runs, unread, too_large, ran, Means, read_fault, too_long, within, CommandMeans, IsMeant, FilesAfter, FilesInPart, StoreRose}
 use Rattle.qed_top.specs.Ends.{OverFiles, Call, Did, EndsOver, Ends, TransformDecides, RunDecides, Decided, CommandDecides, Decides, NoFault, IsComplete}

@@ -12,14 +12,14 @@ use Rattle.elf_types.specs.declared.error.ElfError.TheVariants as error
 use Rattle.qed_model.specs.declared.plan.Plan.{Plan}
 use Rattle.transform.specs.declared.error.TransformError.{TransformError}
 use Rattle.transform.specs.declared.error.TransformError.TheVariants as transform
-use Rattle.qed_model.specs.ElfFile.{File}
-use Rattle.qed_model.specs.ElfRefusals.{IsRefused}
-use Rattle.qed_model.specs.Texts.{read_fault_line, usage_line}
-use Rattle.qed_model.specs.ErrorTexts.{error_line}
-use Rattle.qed_model.specs.RunTexts.{run_lines}
-use Rattle.qed_model.specs.Kept.{start, zeros}
-use Rattle.qed_model.specs.LoadedFile.{loaded_file}
-use Rattle.qed_model.specs.Progress.{Progress, progress, begun}
+use Rattle.qed_model.specs.Elf.File.{File}
+use Rattle.qed_model.specs.Elf.Refusals.{IsRefused}
+use Rattle.qed_model.specs.Text.Plan.{read_fault_line, usage_line}
+use Rattle.qed_model.specs.Text.Errors.{error_line}
+use Rattle.qed_model.specs.Text.Run.{run_lines}
+use Rattle.qed_model.specs.Machine.Program.{start, zeros}
+use Rattle.qed_model.specs.Machine.Loading.{loaded_file}
+use Rattle.qed_model.specs.Machine.Progress.{Progress, progress, begun}
 use Rattle.qed_model.specs.declared.machine.Outcome.{Outcome}
 use Rattle.qed_top.specs.Words.{Asked, asked}
 use Rattle.transform.specs.Transform as Made

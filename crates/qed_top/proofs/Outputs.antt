@@ -3,10 +3,10 @@ use Rattle.std.proofs.Common.{◌≡◌, ℕ, List, None, Some, Ok, Err, ap, sym
 use Rattle.elf_types.specs.declared.file.ElfFile.{ElfFile}
 use Rattle.elf_types.specs.declared.output.OutFile.{OutFile}
 use Rattle.elf_types.specs.declared.error.ElfError.{ElfError}
-use Rattle.qed_model.specs.ElfFile.{File}
-use Rattle.qed_model.specs.ElfRefusals.{IsRefused}
-use Rattle.qed_model.specs.StraightTest.{StraightParts, IsMadeOf, IsStraightTest}
-use Rattle.qed_model.specs.Woven.{high_register_of, WovenFile}
+use Rattle.qed_model.specs.Elf.File.{File}
+use Rattle.qed_model.specs.Elf.Refusals.{IsRefused}
+use Rattle.qed_model.specs.Admission.StraightTest.{StraightParts, IsMadeOf, IsStraightTest}
+use Rattle.qed_model.specs.Weave.StraightWoven.{high_register_of, WovenFile}
 use Rattle.qed_model.proofs.ReadFacts.{one_file}
 use Rattle.straight_test.proofs.Parts.{parts_only}
 

@@ -8,15 +8,15 @@ use Rattle.elf_types.specs.declared.error.ElfError.{ElfError}
 use Rattle.elf_types.specs.declared.error.ElfError.TheVariants as error
 use Rattle.qed_model.specs.declared.machine.Outcome.{Outcome}
 use Rattle.qed_model.specs.declared.machine.Outcome.TheVariants as outcome
-use Rattle.qed_model.specs.ElfFile.{File}
-use Rattle.qed_model.specs.ElfRefusals as Refusals
+use Rattle.qed_model.specs.Elf.File.{File}
+use Rattle.qed_model.specs.Elf.Refusals as Refusals
 use Rattle.qed_model.specs.declared.plan.Plan.{Plan}
-use Rattle.qed_model.specs.Kept.{start, zeros}
-use Rattle.qed_model.specs.Progress.{Progress, progress, begun}
-use Rattle.qed_model.specs.LoadedFile.{loaded_file}
-use Rattle.qed_model.specs.Texts.{plan_line, usage_line, read_fault_line, load_limit, load_limit_line, run_load_limit, run_load_limit_line, not_built_line}
-use Rattle.qed_model.specs.RunTexts.{run_lines}
-use Rattle.qed_model.specs.ErrorTexts.{error_line, memory_limit_line, high_register_line, segment_limit_line, size_limit_line}
+use Rattle.qed_model.specs.Machine.Program.{start, zeros}
+use Rattle.qed_model.specs.Machine.Progress.{Progress, progress, begun}
+use Rattle.qed_model.specs.Machine.Loading.{loaded_file}
+use Rattle.qed_model.specs.Text.Plan.{plan_line, usage_line, read_fault_line, load_limit, load_limit_line, run_load_limit, run_load_limit_line, not_built_line}
+use Rattle.qed_model.specs.Text.Run.{run_lines}
+use Rattle.qed_model.specs.Text.Errors.{error_line, memory_limit_line, high_register_line, segment_limit_line, size_limit_line}
 use Rattle.transform.specs.declared.error.TransformError.{TransformError}
 use Rattle.transform.specs.declared.error.TransformError.TheVariants as transform
 use Rattle.transform.specs.declared.error.AdmitError.TheVariants as admit

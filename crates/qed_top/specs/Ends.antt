@@ -9,10 +9,10 @@ use Rattle.elf_types.specs.declared.output.OutFile.{OutFile}
 use Rattle.transform.specs.declared.error.TransformError.{TransformError}
 use Rattle.transform.specs.declared.error.TransformError.TheVariants as transform
 use Rattle.transform.specs.Transform.{HasCause, IsWithin}
-use Rattle.qed_model.specs.Woven.{WovenFile}
-use Rattle.qed_model.specs.ElfFile.{File}
-use Rattle.qed_model.specs.ElfRefusals.{IsRefused}
-use Rattle.qed_model.specs.Texts.{load_limit, run_load_limit}
+use Rattle.qed_model.specs.Weave.StraightWoven.{WovenFile}
+use Rattle.qed_model.specs.Elf.File.{File}
+use Rattle.qed_model.specs.Elf.Refusals.{IsRefused}
+use Rattle.qed_model.specs.Text.Plan.{load_limit, run_load_limit}
 use Rattle.qed_top.specs.Words.{Asked, Transform, Run, asked, read_name, stored_name}
 use Rattle.qed_top.specs.Answer.{IsMeant, FilesAfter, FilesInPart, StoreRose, error_status, refusal_status, memory_bytes, memory_limit, outcome_status, run_of}
 use Rattle.qed_top.specs.declared.answer.Answer.{Answer}

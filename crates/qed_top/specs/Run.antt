@@ -1,8 +1,8 @@
 -- What `run` answers for a file that was read.
 use Rattle.std.specs.Prelude.{◌<◌, ◌≤◌}
 use Rattle.elf_types.specs.declared.file.ElfFile.{ElfFile}
-use Rattle.qed_model.specs.RunTexts.{run_lines}
-use Rattle.qed_model.specs.ErrorTexts.{memory_limit_line}
+use Rattle.qed_model.specs.Text.Run.{run_lines}
+use Rattle.qed_model.specs.Text.Errors.{memory_limit_line}
 use Rattle.qed_top.specs.Answer.{PrintsOnly, memory_bytes, memory_limit, outcome_status, run_of}
 use Rattle.qed_top.specs.declared.answer.Answer.{Answer}
 use Rattle.qed_top.specs.declared.status.Status.TheVariants.{Limit}

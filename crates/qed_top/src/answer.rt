@@ -3,7 +3,7 @@ ghost use Rattle.std.specs.Prelude.{◌≡◌, ◌≢◌, ◌⊎◌, ◌≤◌, 
 ghost use Rattle.std.specs.Io.KnownBytes.{Appends};
 ghost use Rattle.qed_io.specs.Counts.{Rose, RoseAt, NoneFell};
 ghost use Rattle.qed_io.specs.Sink.{AppendsPart};
-ghost use Rattle.qed_model.specs.ErrorTexts.{error_line};
+ghost use Rattle.qed_model.specs.Text.Errors.{error_line};
 ghost use Rattle.qed_top.specs.Answer.{error_status, PrintsOnly, FilesAfter, FilesInPart, StoreRose};
 
 use crate::fault::Fault;

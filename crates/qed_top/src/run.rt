@@ -1,6 +1,6 @@
 // What `run` answers.
 ghost use Rattle.std.specs.Prelude.{◌≡◌, ◌*◌, ◌^◌, ◌≤◌, IfOk, length};
-ghost use Rattle.qed_model.specs.LoadedFile.{load_segments};
+ghost use Rattle.qed_model.specs.Machine.Loading.{load_segments};
 ghost use Rattle.mem_image.specs.Segments.{AllFit};
 ghost use Rattle.mem_image.specs.Overlap.{AreApart};
 ghost use Rattle.qed_top.specs.Answer.{memory_bytes, outcome_status, run_of, Runs};

@@ -1,8 +1,8 @@
 -- The lines of registers, one by one.
 use Rattle.std.proofs.Common.{◌≡◌, ℕ, suc, ◌+◌, ◌-◌, ◌≤◌, List, ◌++◌, refl, sym, ap, ◌∙◌, arith, append_assoc}
 use Rattle.std.proofs.lemmas.List.{append-nil}
-use Rattle.qed_model.specs.Machine.{State}
-use Rattle.qed_model.specs.RunTexts.{register_line, register_lines}
+use Rattle.qed_model.specs.Machine.Step.{State}
+use Rattle.qed_model.specs.Text.Run.{register_line, register_lines}
 
 -- no line yet
 pub no_lines : (xs : List ℕ) (s : State) → xs ++ register_lines s 0 ≡ xs

@@ -1,6 +1,6 @@
 // What is printed about a run.
 ghost use Rattle.std.specs.Prelude.{◌≡◌, ◌<◌, Some, IfOk, string_bytes};
-ghost use Rattle.qed_model.specs.RunTexts.{cause_text, outcome_text, outcome_line, register_line, run_lines};
+ghost use Rattle.qed_model.specs.Text.Run.{cause_text, outcome_text, outcome_line, register_line, run_lines};
 
 use crate::hex::{Hex, HexWord};
 use elf_types::Bytes;

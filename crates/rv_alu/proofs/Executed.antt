@@ -9,13 +9,13 @@ use Rattle.rv_isa.specs.declared.kind.Kind.TheVariants.{Lui, Auipc, Jal, Jalr}
 use Rattle.rv_isa.specs.declared.ins.Ins.{Ins}
 use Rattle.rv_isa.specs.Kind.{class_of}
 use Rattle.rv_isa.specs.Regs.{set_reg}
-use Rattle.qed_model.specs.Values.{holds}
-use Rattle.qed_model.specs.Machine.{State, reg, result, next_pc, moved, jumped, execute}
-use Rattle.rv_alu.specs.Steps.{bare, following, linked, target, branched, landing, landed, IsComputing, IsBranching, IsJumping, IsPassing}
+use Rattle.qed_model.specs.Machine.Values.{holds}
+use Rattle.qed_model.specs.Machine.Step.{State, reg, result, next_pc, moved, jumped, execute, target, computed_value}
+use Rattle.rv_alu.specs.Steps.{bare, following, linked, branched, landing, landed, IsComputing, IsBranching, IsJumping, IsPassing}
 
 -- the number that is written comes of the registers and the pc alone
 result-bare : (k : Kind) (i : Ins) (s : State) → result k i s ≡ result k i (bare s.regs s.pc)
-unfolding result
+unfolding computed_value
 result-bare Lui i s = refl
 result-bare Auipc i s = refl
 result-bare k i s = refl

@@ -8,17 +8,17 @@ use Rattle.rv_isa.specs.declared.kind.Kind.TheVariants.{Lui, Auipc, Jalr}
 use Rattle.rv_isa.specs.declared.ins.Ins.{Ins}
 use Rattle.rv_isa.specs.Kind.{class_of, writes_rd, reads_rs1, reads_rs2, has_immediate}
 use Rattle.rv_isa.specs.Ins.{writes}
-use Rattle.rv_isa.specs.Operation.{AreRegs, Reads, pair, renamed_by, Frame, Sources, Mirror}
+use Rattle.rv_isa.specs.Operation.{AreRegs, ReadsRegister, pair, renamed_by, Frame, Sources, Mirror}
 use Rattle.rv_isa.proofs.OperationLaws.{same_rs1, same_rs2, set_frame, set_same, some-named, pair-above, pair-lt}
 use Rattle.qed_model.proofs.EachKind.{each_kind}
-use Rattle.qed_model.specs.Table.{Format, R, row_of}
-use Rattle.qed_model.specs.Machine.{second, result}
+use Rattle.qed_model.specs.Machine.Table.{Format, R, row_of}
+use Rattle.qed_model.specs.Machine.Step.{second, result, computed_value}
 use Rattle.rv_alu.specs.Steps.{bare, following, computed, same, linked, branched, landing, landed, IsComputing, IsBranching, IsJumping, IsPassing}
 
 -- ---- what is read
 -- the sources of an instruction on other registers are those of the instruction
 abbrev SameSources : (ℕ → ℕ) → Ins → List ℕ → List ℕ → Type 0
-SameSources f i regs others = (r : ℕ) → Reads i r → slice_index others (f r) ≡ slice_index regs r
+SameSources f i regs others = (r : ℕ) → ReadsRegister i r → slice_index others (f r) ≡ slice_index regs r
 
 module _ (f : ℕ → ℕ) (z : f 0 ≡ 0) (i : Ins) (pc : ℕ) (regs others : List ℕ) (a : AreRegs regs) (b : AreRegs others) (s : SameSources f i regs others) where
   rs1 : (c : Class) → class_of i.kind ≡ c → reads_rs1 c i.kind ≡ true → slice_index others (f i.rs1) ≡ slice_index regs i.rs1
@@ -49,7 +49,7 @@ operand R f i pc regs others h = h refl
 operand g f i pc regs others h = refl
 
 result-same : (k : Kind) (f : ℕ → ℕ) (i : Ins) (pc : ℕ) (regs others : List ℕ) → (reads_rs1 class.Compute k ≡ true → slice_index others (f i.rs1) ≡ slice_index regs i.rs1) → second (row_of k).format (renamed_by f i) (bare others pc) ≡ second (row_of k).format i (bare regs pc) → result k (renamed_by f i) (bare others pc) ≡ result k i (bare regs pc)
-unfolding result
+unfolding computed_value
 result-same Lui f i pc regs others h g = refl
 result-same Auipc f i pc regs others h g = refl
 result-same k f i pc regs others h g = rw (h refl, g) refl

@@ -8,8 +8,8 @@ use Rattle.rv_isa.specs.declared.kind.Kind.TheVariants.{Jalr}
 use Rattle.rv_isa.specs.declared.ins.Ins.{Ins}
 use Rattle.rv_isa.specs.Regs.{set_reg}
 use Rattle.qed_model.specs.declared.machine.Outcome.TheVariants.{Going}
-use Rattle.qed_model.specs.Values.{holds}
-use Rattle.qed_model.specs.Machine.{State, imm, result}
+use Rattle.qed_model.specs.Machine.Values.{holds}
+use Rattle.qed_model.specs.Machine.Step.{State, imm, result}
 
 -- a machine with these registers and this pc, and no memory
 abbrev pub bare : List ℕ → ℕ → State
@@ -30,10 +30,6 @@ same i pc regs = regs
 -- the registers after a jump: rd has the address behind it
 abbrev pub linked : Ins → ℕ → List ℕ → List ℕ
 linked i pc regs = set_reg i.rd ((pc + 4) % 2 ^ 64) regs
-
--- pc + immediate
-abbrev pub target : Ins → ℕ → ℕ
-target i pc = (pc + imm i) % 2 ^ 64
 
 -- where a branch goes: to the next word, where it is not taken
 abbrev pub branched : Ins → ℕ → List ℕ → ℕ

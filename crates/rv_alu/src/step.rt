@@ -2,9 +2,9 @@
 ghost use Rattle.std.specs.Prelude.{◌≡◌, ℕ, ◌+◌, ◌%◌, ◌^◌};
 ghost use Rattle.rv_isa.specs.Kind.{class_of};
 ghost use Rattle.rv_isa.specs.declared.class.Class.TheVariants as class;
-ghost use Rattle.qed_model.specs.Table.{row_of};
-ghost use Rattle.qed_model.specs.Machine.{State, imm, moved, jumped, execute, result as result_of, second as second_of};
-ghost use Rattle.rv_alu.specs.Steps.{bare, following, computed, same, linked, branched, landed, target as target_of, IsComputing, IsBranching, IsJumping, IsPassing};
+ghost use Rattle.qed_model.specs.Machine.Table.{row_of};
+ghost use Rattle.qed_model.specs.Machine.Step.{State, imm, moved, jumped, execute, result as result_of, second as second_of, target as target_of};
+ghost use Rattle.rv_alu.specs.Steps.{bare, following, computed, same, linked, branched, landed, IsComputing, IsBranching, IsJumping, IsPassing};
 
 use crate::{compute, taken};
 use rv_isa::{Ins, Kind, Operation, Regs};
@@ -42,7 +42,7 @@ fn second(ins: &Ins, pc: u64, regs: &Regs) -> u64
 }
 
 /// What a computing instruction writes to rd.
-#[tactic(auto, unfolding(qed_model::specs::Machine::result))]
+#[tactic(auto, unfolding(qed_model::specs::Machine::Step::computed_value))]
 fn number(ins: &Ins, pc: u64, regs: &Regs) -> u64
     requires { class_of ins.now.kind ≡ class.Compute }
     ensures { result ≡ result_of ins.now.kind ins.now (bare regs.now pc) }
@@ -83,8 +83,8 @@ fn landing(ins: &Ins, pc: u64, regs: &Regs) -> u64
 }
 
 impl Operation for Computing {
-    ghost use Rattle.rv_alu.specs.Steps.{computed, following, IsComputing};
-    ghost use Rattle.rv_alu.specs.Laws.{computing_frame, computing_sources, computing_mirror};
+    ghost use Rattle.rv_alu.specs.Steps.{computed, following, IsComputing, same, branched, IsBranching, linked, landed, IsJumping, IsPassing};
+    ghost use Rattle.rv_alu.specs.Laws.{computing_frame, computing_sources, computing_mirror, branching_frame, branching_sources, branching_mirror, jumping_frame, jumping_sources, jumping_mirror, passing_frame, passing_sources, passing_mirror};
 
     ghost is_for = { IsComputing };
 
@@ -116,8 +116,6 @@ impl Operation for Computing {
 }
 
 impl Operation for Branching {
-    ghost use Rattle.rv_alu.specs.Steps.{same, branched, IsBranching};
-    ghost use Rattle.rv_alu.specs.Laws.{branching_frame, branching_sources, branching_mirror};
 
     ghost is_for = { IsBranching };
 
@@ -148,8 +146,6 @@ impl Operation for Branching {
 }
 
 impl Operation for Jumping {
-    ghost use Rattle.rv_alu.specs.Steps.{linked, landed, IsJumping};
-    ghost use Rattle.rv_alu.specs.Laws.{jumping_frame, jumping_sources, jumping_mirror};
 
     ghost is_for = { IsJumping };
 
@@ -183,8 +179,6 @@ impl Operation for Jumping {
 }
 
 impl Operation for Passing {
-    ghost use Rattle.rv_alu.specs.Steps.{same, following, IsPassing};
-    ghost use Rattle.rv_alu.specs.Laws.{passing_frame, passing_sources, passing_mirror};
 
     ghost is_for = { IsPassing };
 

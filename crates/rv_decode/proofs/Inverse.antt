@@ -2,7 +2,7 @@
 use Rattle.std.proofs.Common.{◌≡◌, ℕ, ◌^◌, ◌<◌, sym, ◌∙◌}
 use Rattle.std.specs.Prelude.{◌↔◌, Option, Some}
 use Rattle.rv_isa.specs.declared.ins.Ins.{Ins}
-use Rattle.qed_model.specs.Table.{decode_of, encode_of}
+use Rattle.qed_model.specs.Machine.Table.{decode_of, encode_of}
 use Rattle.qed_model.proofs.Tables.{encode_decode, decode_encode}
 
 -- what decodes to an instruction is the word of that instruction, and no other

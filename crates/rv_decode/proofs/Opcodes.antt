@@ -5,7 +5,7 @@ use Rattle.std.proofs.lemmas.Nat.{and_assoc}
 use Rattle.std.specs.Prelude.{◌==◌, bit_and, not}
 use Rattle.std.specs.List.{list_all}
 use Rattle.rv_isa.specs.declared.kind.Kind.{Kind}
-use Rattle.qed_model.specs.Table.{Format, R, I, H, G, S, B, U, J, N, mask_of, row_of, fits, ins_of, scan, decode_of, system_kinds, upper_kinds, branch_kinds, load_kinds, store_kinds, immediate_kinds, shift_kinds, register_kinds, word_kinds, multiply_kinds}
+use Rattle.qed_model.specs.Machine.Table.{Format, R, I, H, G, S, B, U, J, N, mask_of, row_of, fits, ins_of, scan, decode_of, system_kinds, upper_kinds, branch_kinds, load_kinds, store_kinds, immediate_kinds, shift_kinds, register_kinds, word_kinds, multiply_kinds}
 
 abbrev opcode : Kind → ℕ
 opcode k = bit_and (row_of k).match 0x7f

@@ -1,7 +1,7 @@
 // The fields of a word in each format (RISC-V unprivileged manual, "Base Instruction Formats" and
 // "Immediate Encoding Variants"): rd in bits 7 to 11, rs1 in 15 to 19, rs2 in 20 to 24.
 ghost use Rattle.std.specs.Prelude.{◌≡◌, ◌^◌, ◌<◌, ◌≤◌};
-ghost use Rattle.qed_model.specs.Table.{R, I, H, G, S, B, U, J, N, ins_of, signed as signed_of};
+ghost use Rattle.qed_model.specs.Machine.Table.{R, I, H, G, S, B, U, J, N, ins_of, signed as signed_of};
 
 use rv_isa::{Field, Ins, Kind, Reg};
 
@@ -32,7 +32,7 @@ fn signed(width: u32, bits: u32) -> i64
 }
 
 /// Format R: three registers.
-#[tactic(auto, unfolding(qed_model::specs::Table::ins_of))]
+#[tactic(auto, unfolding(qed_model::specs::Machine::Table::ins_of))]
 pub fn register_format(kind: Kind, word: u32) -> Ins
     ensures { result ≡ ins_of R kind word }
 {
@@ -46,7 +46,7 @@ pub fn register_format(kind: Kind, word: u32) -> Ins
 }
 
 /// Format I: a signed number of 12 bits.
-#[tactic(auto, unfolding(qed_model::specs::Table::ins_of))]
+#[tactic(auto, unfolding(qed_model::specs::Machine::Table::ins_of))]
 pub fn immediate_format(kind: Kind, word: u32) -> Ins
     ensures { result ≡ ins_of I kind word }
 {
@@ -60,7 +60,7 @@ pub fn immediate_format(kind: Kind, word: u32) -> Ins
 }
 
 /// Format I with a shift amount of 6 bits.
-#[tactic(auto, unfolding(qed_model::specs::Table::ins_of))]
+#[tactic(auto, unfolding(qed_model::specs::Machine::Table::ins_of))]
 pub fn shift_format(kind: Kind, word: u32) -> Ins
     ensures { result ≡ ins_of H kind word }
 {
@@ -74,7 +74,7 @@ pub fn shift_format(kind: Kind, word: u32) -> Ins
 }
 
 /// Format I with a shift amount of 5 bits.
-#[tactic(auto, unfolding(qed_model::specs::Table::ins_of))]
+#[tactic(auto, unfolding(qed_model::specs::Machine::Table::ins_of))]
 pub fn word_shift_format(kind: Kind, word: u32) -> Ins
     ensures { result ≡ ins_of G kind word }
 {
@@ -88,7 +88,7 @@ pub fn word_shift_format(kind: Kind, word: u32) -> Ins
 }
 
 /// Format S: a signed number of 12 bits in two places.
-#[tactic(auto, unfolding(qed_model::specs::Table::ins_of))]
+#[tactic(auto, unfolding(qed_model::specs::Machine::Table::ins_of))]
 pub fn store_format(kind: Kind, word: u32) -> Ins
     ensures { result ≡ ins_of S kind word }
 {
@@ -103,7 +103,7 @@ pub fn store_format(kind: Kind, word: u32) -> Ins
 }
 
 /// Format B: a signed, even number of 13 bits in four places.
-#[tactic(auto, unfolding(qed_model::specs::Table::ins_of))]
+#[tactic(auto, unfolding(qed_model::specs::Machine::Table::ins_of))]
 pub fn branch_format(kind: Kind, word: u32) -> Ins
     ensures { result ≡ ins_of B kind word }
 {
@@ -121,7 +121,7 @@ pub fn branch_format(kind: Kind, word: u32) -> Ins
 }
 
 /// Format U: the upper 20 of 32 bits.
-#[tactic(auto, unfolding(qed_model::specs::Table::ins_of))]
+#[tactic(auto, unfolding(qed_model::specs::Machine::Table::ins_of))]
 pub fn upper_format(kind: Kind, word: u32) -> Ins
     ensures { result ≡ ins_of U kind word }
 {
@@ -135,7 +135,7 @@ pub fn upper_format(kind: Kind, word: u32) -> Ins
 }
 
 /// Format J: a signed, even number of 21 bits in four places.
-#[tactic(auto, unfolding(qed_model::specs::Table::ins_of))]
+#[tactic(auto, unfolding(qed_model::specs::Machine::Table::ins_of))]
 pub fn jump_format(kind: Kind, word: u32) -> Ins
     ensures { result ≡ ins_of J kind word }
 {
@@ -153,7 +153,7 @@ pub fn jump_format(kind: Kind, word: u32) -> Ins
 }
 
 /// No fields.
-#[tactic(auto, unfolding(qed_model::specs::Table::ins_of))]
+#[tactic(auto, unfolding(qed_model::specs::Machine::Table::ins_of))]
 pub fn no_fields(kind: Kind, word: u32) -> Ins
     ensures { result ≡ ins_of N kind word }
 {

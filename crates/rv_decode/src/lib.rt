@@ -8,7 +8,7 @@ mod format;
 mod rows;
 
 ghost use Rattle.std.specs.Prelude.{◌≡◌, ◌↔◌, Some};
-ghost use Rattle.qed_model.specs.Table.{decode_of, encode_of};
+ghost use Rattle.qed_model.specs.Machine.Table.{decode_of, encode_of};
 ghost use Rattle.rv_isa.specs.declared.ins.Ins.{Ins};
 
 use rows::any_row;

@@ -1,6 +1,6 @@
 // The instruction of a word among the rows of each group.
 ghost use Rattle.std.specs.Prelude.{◌≡◌, ◌++◌};
-ghost use Rattle.qed_model.specs.Table.{scan, decode_of, system_kinds, upper_kinds, branch_kinds, load_kinds, store_kinds, immediate_kinds, shift_kinds, register_kinds, word_kinds, multiply_kinds};
+ghost use Rattle.qed_model.specs.Machine.Table.{scan, decode_of, system_kinds, upper_kinds, branch_kinds, load_kinds, store_kinds, immediate_kinds, shift_kinds, register_kinds, word_kinds, multiply_kinds};
 
 use crate::format::{
     branch_format, immediate_format, jump_format, no_fields, register_format, shift_format,

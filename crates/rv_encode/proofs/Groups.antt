@@ -1,7 +1,7 @@
 -- Each kind is in one of the groups.
 use Rattle.std.proofs.Common.{List, [], ◌∷◌, ◌++◌, inl, inr}
 use Rattle.rv_isa.specs.declared.kind.Kind.{Kind}
-use Rattle.qed_model.specs.Table.{system_kinds, upper_kinds, branch_kinds, load_kinds, store_kinds, immediate_kinds, shift_kinds, register_kinds, word_kinds, multiply_kinds}
+use Rattle.qed_model.specs.Machine.Table.{system_kinds, upper_kinds, branch_kinds, load_kinds, store_kinds, immediate_kinds, shift_kinds, register_kinds, word_kinds, multiply_kinds}
 use Rattle.qed_model.proofs.EachKind.{Has, has_kind}
 use Rattle.rv_encode.specs.Rows.{Among}
 

@@ -3,7 +3,7 @@
 // 15, rs2 from 20, and the immediate. None where the immediate is out of its range or off its
 // grain, or where a field that the format does not have is not 0.
 ghost use Rattle.std.specs.Prelude.{◌≡◌, ◌<◌, ◌≤◌};
-ghost use Rattle.qed_model.specs.Table.{R, I, H, G, S, B, U, J, N, word_of};
+ghost use Rattle.qed_model.specs.Machine.Table.{R, I, H, G, S, B, U, J, N, word_of};
 
 use crate::immediate::{fits_below, fits_signed, to_bits};
 use rv_isa::{Field, Ins, Reg};
@@ -16,7 +16,7 @@ fn number(register: Reg) -> u32
 }
 
 /// Format R: three registers.
-#[tactic(auto, unfolding(qed_model::specs::Table::word_of))]
+#[tactic(auto, unfolding(qed_model::specs::Machine::Table::word_of))]
 pub fn register_format(fixed: u32, ins: &Ins) -> Option<u32>
     requires { fixed ≤ 0xfe00_707f }
     ensures { result ≡ word_of R fixed ins.now }
@@ -28,7 +28,7 @@ pub fn register_format(fixed: u32, ins: &Ins) -> Option<u32>
 }
 
 /// Format I: a signed number of 12 bits.
-#[tactic(auto, unfolding(qed_model::specs::Table::word_of))]
+#[tactic(auto, unfolding(qed_model::specs::Machine::Table::word_of))]
 pub fn immediate_format(fixed: u32, ins: &Ins) -> Option<u32>
     requires { fixed ≤ 0x0000_707f }
     ensures { result ≡ word_of I fixed ins.now }
@@ -41,7 +41,7 @@ pub fn immediate_format(fixed: u32, ins: &Ins) -> Option<u32>
 }
 
 /// Format I with a shift amount of 6 bits.
-#[tactic(auto, unfolding(qed_model::specs::Table::word_of))]
+#[tactic(auto, unfolding(qed_model::specs::Machine::Table::word_of))]
 pub fn shift_format(fixed: u32, ins: &Ins) -> Option<u32>
     requires { fixed ≤ 0xfc00_707f }
     ensures { result ≡ word_of H fixed ins.now }
@@ -54,7 +54,7 @@ pub fn shift_format(fixed: u32, ins: &Ins) -> Option<u32>
 }
 
 /// Format I with a shift amount of 5 bits.
-#[tactic(auto, unfolding(qed_model::specs::Table::word_of))]
+#[tactic(auto, unfolding(qed_model::specs::Machine::Table::word_of))]
 pub fn word_shift_format(fixed: u32, ins: &Ins) -> Option<u32>
     requires { fixed ≤ 0xfe00_707f }
     ensures { result ≡ word_of G fixed ins.now }
@@ -67,7 +67,7 @@ pub fn word_shift_format(fixed: u32, ins: &Ins) -> Option<u32>
 }
 
 /// Format S: a signed number of 12 bits in two places.
-#[tactic(auto, unfolding(qed_model::specs::Table::word_of))]
+#[tactic(auto, unfolding(qed_model::specs::Machine::Table::word_of))]
 pub fn store_format(fixed: u32, ins: &Ins) -> Option<u32>
     requires { fixed ≤ 0x0000_707f }
     ensures { result ≡ word_of S fixed ins.now }
@@ -82,7 +82,7 @@ pub fn store_format(fixed: u32, ins: &Ins) -> Option<u32>
 }
 
 /// Format B: a signed, even number of 13 bits in four places.
-#[tactic(auto, unfolding(qed_model::specs::Table::word_of))]
+#[tactic(auto, unfolding(qed_model::specs::Machine::Table::word_of))]
 pub fn branch_format(fixed: u32, ins: &Ins) -> Option<u32>
     requires { fixed ≤ 0x0000_707f }
     ensures { result ≡ word_of B fixed ins.now }
@@ -101,7 +101,7 @@ pub fn branch_format(fixed: u32, ins: &Ins) -> Option<u32>
 }
 
 /// Format U: the upper 20 of 32 bits.
-#[tactic(auto, unfolding(qed_model::specs::Table::word_of))]
+#[tactic(auto, unfolding(qed_model::specs::Machine::Table::word_of))]
 pub fn upper_format(fixed: u32, ins: &Ins) -> Option<u32>
     requires { fixed ≤ 0x0000_007f }
     ensures { result ≡ word_of U fixed ins.now }
@@ -118,7 +118,7 @@ pub fn upper_format(fixed: u32, ins: &Ins) -> Option<u32>
 }
 
 /// Format J: a signed, even number of 21 bits in four places.
-#[tactic(auto, unfolding(qed_model::specs::Table::word_of))]
+#[tactic(auto, unfolding(qed_model::specs::Machine::Table::word_of))]
 pub fn jump_format(fixed: u32, ins: &Ins) -> Option<u32>
     requires { fixed ≤ 0x0000_007f }
     ensures { result ≡ word_of J fixed ins.now }
@@ -137,7 +137,7 @@ pub fn jump_format(fixed: u32, ins: &Ins) -> Option<u32>
 }
 
 /// No fields: each is 0.
-#[tactic(auto, unfolding(qed_model::specs::Table::word_of))]
+#[tactic(auto, unfolding(qed_model::specs::Machine::Table::word_of))]
 pub fn no_fields(fixed: u32, ins: &Ins) -> Option<u32>
     ensures { result ≡ word_of N fixed ins.now }
 {

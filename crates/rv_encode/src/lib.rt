@@ -9,7 +9,7 @@ mod immediate;
 mod rows;
 
 ghost use Rattle.std.specs.Prelude.{◌≡◌, ◌↔◌, ◌<◌, ◌^◌, ℕ, Some};
-ghost use Rattle.qed_model.specs.Table.{decode_of, encode_of};
+ghost use Rattle.qed_model.specs.Machine.Table.{decode_of, encode_of};
 
 use rows::any_row;
 use rv_isa::Ins;

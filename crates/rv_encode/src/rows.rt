@@ -1,7 +1,7 @@
 // The word of an instruction by the rows of each group. The function of a group gives None for a
 // kind of another group, and Some(None) for an instruction of the group that has no word.
 ghost use Rattle.std.specs.Prelude.{◌≡◌, MatchOption};
-ghost use Rattle.qed_model.specs.Table.{encode_of, system_kinds, upper_kinds, branch_kinds, load_kinds, store_kinds, immediate_kinds, shift_kinds, register_kinds, word_kinds, multiply_kinds};
+ghost use Rattle.qed_model.specs.Machine.Table.{encode_of, system_kinds, upper_kinds, branch_kinds, load_kinds, store_kinds, immediate_kinds, shift_kinds, register_kinds, word_kinds, multiply_kinds};
 ghost use Rattle.rv_encode.specs.Rows.{Among};
 
 use crate::format::{
@@ -22,7 +22,7 @@ macro_rules! row_of_kind {
 }
 
 /// `Illegal`, ECALL and EBREAK.
-#[tactic(auto, unfolding(qed_model::specs::Table::encode_of))]
+#[tactic(auto, unfolding(qed_model::specs::Machine::Table::encode_of))]
 pub fn system_row(ins: &Ins) -> Option<Option<u32>>
     ensures { MatchOption result (Among system_kinds ins.now.kind → ⊥) (λ word. word ≡ encode_of ins.now) }
 {
@@ -30,7 +30,7 @@ pub fn system_row(ins: &Ins) -> Option<Option<u32>>
 }
 
 /// LUI, AUIPC, JAL, JALR and FENCE.
-#[tactic(auto, unfolding(qed_model::specs::Table::encode_of))]
+#[tactic(auto, unfolding(qed_model::specs::Machine::Table::encode_of))]
 pub fn upper_row(ins: &Ins) -> Option<Option<u32>>
     ensures { MatchOption result (Among upper_kinds ins.now.kind → ⊥) (λ word. word ≡ encode_of ins.now) }
 {
@@ -38,7 +38,7 @@ pub fn upper_row(ins: &Ins) -> Option<Option<u32>>
 }
 
 /// Branches.
-#[tactic(auto, unfolding(qed_model::specs::Table::encode_of))]
+#[tactic(auto, unfolding(qed_model::specs::Machine::Table::encode_of))]
 pub fn branch_row(ins: &Ins) -> Option<Option<u32>>
     ensures { MatchOption result (Among branch_kinds ins.now.kind → ⊥) (λ word. word ≡ encode_of ins.now) }
 {
@@ -46,7 +46,7 @@ pub fn branch_row(ins: &Ins) -> Option<Option<u32>>
 }
 
 /// Loads.
-#[tactic(auto, unfolding(qed_model::specs::Table::encode_of))]
+#[tactic(auto, unfolding(qed_model::specs::Machine::Table::encode_of))]
 pub fn load_row(ins: &Ins) -> Option<Option<u32>>
     ensures { MatchOption result (Among load_kinds ins.now.kind → ⊥) (λ word. word ≡ encode_of ins.now) }
 {
@@ -54,7 +54,7 @@ pub fn load_row(ins: &Ins) -> Option<Option<u32>>
 }
 
 /// Stores.
-#[tactic(auto, unfolding(qed_model::specs::Table::encode_of))]
+#[tactic(auto, unfolding(qed_model::specs::Machine::Table::encode_of))]
 pub fn store_row(ins: &Ins) -> Option<Option<u32>>
     ensures { MatchOption result (Among store_kinds ins.now.kind → ⊥) (λ word. word ≡ encode_of ins.now) }
 {
@@ -62,7 +62,7 @@ pub fn store_row(ins: &Ins) -> Option<Option<u32>>
 }
 
 /// Computations with an immediate.
-#[tactic(auto, unfolding(qed_model::specs::Table::encode_of))]
+#[tactic(auto, unfolding(qed_model::specs::Machine::Table::encode_of))]
 pub fn immediate_row(ins: &Ins) -> Option<Option<u32>>
     ensures { MatchOption result (Among immediate_kinds ins.now.kind → ⊥) (λ word. word ≡ encode_of ins.now) }
 {
@@ -70,7 +70,7 @@ pub fn immediate_row(ins: &Ins) -> Option<Option<u32>>
 }
 
 /// Shifts by an immediate.
-#[tactic(auto, unfolding(qed_model::specs::Table::encode_of))]
+#[tactic(auto, unfolding(qed_model::specs::Machine::Table::encode_of))]
 pub fn shift_row(ins: &Ins) -> Option<Option<u32>>
     ensures { MatchOption result (Among shift_kinds ins.now.kind → ⊥) (λ word. word ≡ encode_of ins.now) }
 {
@@ -78,7 +78,7 @@ pub fn shift_row(ins: &Ins) -> Option<Option<u32>>
 }
 
 /// Computations with two registers.
-#[tactic(auto, unfolding(qed_model::specs::Table::encode_of))]
+#[tactic(auto, unfolding(qed_model::specs::Machine::Table::encode_of))]
 pub fn register_row(ins: &Ins) -> Option<Option<u32>>
     ensures { MatchOption result (Among register_kinds ins.now.kind → ⊥) (λ word. word ≡ encode_of ins.now) }
 {
@@ -86,7 +86,7 @@ pub fn register_row(ins: &Ins) -> Option<Option<u32>>
 }
 
 /// Computations with two registers on 32 bits.
-#[tactic(auto, unfolding(qed_model::specs::Table::encode_of))]
+#[tactic(auto, unfolding(qed_model::specs::Machine::Table::encode_of))]
 pub fn word_row(ins: &Ins) -> Option<Option<u32>>
     ensures { MatchOption result (Among word_kinds ins.now.kind → ⊥) (λ word. word ≡ encode_of ins.now) }
 {
@@ -94,7 +94,7 @@ pub fn word_row(ins: &Ins) -> Option<Option<u32>>
 }
 
 /// The M extension.
-#[tactic(auto, unfolding(qed_model::specs::Table::encode_of))]
+#[tactic(auto, unfolding(qed_model::specs::Machine::Table::encode_of))]
 pub fn multiply_row(ins: &Ins) -> Option<Option<u32>>
     ensures { MatchOption result (Among multiply_kinds ins.now.kind → ⊥) (λ word. word ≡ encode_of ins.now) }
 {

@@ -5,7 +5,7 @@ use Rattle.rv_isa.specs.declared.ins.Ins.{Ins}
 use Rattle.rv_isa.specs.Kind.{class_of, writes_rd, reads_rs1, reads_rs2}
 use Rattle.rv_isa.specs.Ins.{named, writes}
 use Rattle.rv_isa.specs.Regs.{set_reg}
-use Rattle.rv_isa.specs.Operation.{AreRegs, Reads, pair}
+use Rattle.rv_isa.specs.Operation.{AreRegs, ReadsRegister, pair}
 use Rattle.rv_isa.proofs.RegsLaws.{slice_index-set_reg_same, slice_index-set_reg_other, length-set_reg}
 
 -- a register with the field is named, and a named register is the one of the field
@@ -26,10 +26,10 @@ module _ (f : ℕ → ℕ) (regs others : List ℕ) (i : Ins) where
   at zero z a b h = ap (slice_index others) z ∙ b.first ∙ sym a.first
   at (suc r) z a b h = h (omega arith)
 
-  pub same_rs1 : f 0 ≡ 0 → AreRegs regs → AreRegs others → ((r : ℕ) → Reads i r → slice_index others (f r) ≡ slice_index regs r) → reads_rs1 (class_of i.kind) i.kind ≡ true → slice_index others (f i.rs1) ≡ slice_index regs i.rs1
+  pub same_rs1 : f 0 ≡ 0 → AreRegs regs → AreRegs others → ((r : ℕ) → ReadsRegister i r → slice_index others (f r) ≡ slice_index regs r) → reads_rs1 (class_of i.kind) i.kind ≡ true → slice_index others (f i.rs1) ≡ slice_index regs i.rs1
   same_rs1 z a b same e = at i.rs1 z a b (λ p. same i.rs1 (inl (named-some _ i.rs1 e p)))
 
-  pub same_rs2 : f 0 ≡ 0 → AreRegs regs → AreRegs others → ((r : ℕ) → Reads i r → slice_index others (f r) ≡ slice_index regs r) → reads_rs2 (class_of i.kind) i.kind ≡ true → slice_index others (f i.rs2) ≡ slice_index regs i.rs2
+  pub same_rs2 : f 0 ≡ 0 → AreRegs regs → AreRegs others → ((r : ℕ) → ReadsRegister i r → slice_index others (f r) ≡ slice_index regs r) → reads_rs2 (class_of i.kind) i.kind ≡ true → slice_index others (f i.rs2) ≡ slice_index regs i.rs2
   same_rs2 z a b same e = at i.rs2 z a b (λ p. same i.rs2 (inr (named-some _ i.rs2 e p)))
 
 -- ---- what is written

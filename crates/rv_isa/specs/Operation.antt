@@ -11,8 +11,8 @@ pub record AreRegs (regs : List ℕ) : Type 0 where
   pub first : slice_index regs 0 ≡ 0
 
 -- an instruction reads a register; x0 is none
-abbrev pub Reads : Ins → ℕ → Type 0
-Reads i r = ((reads i).0 ≡ Some r) ⊎ ((reads i).1 ≡ Some r)
+abbrev pub ReadsRegister : Ins → ℕ → Type 0
+ReadsRegister i r = ((reads i).0 ≡ Some r) ⊎ ((reads i).1 ≡ Some r)
 
 -- the register that holds the duplicate of x0 to x13
 abbrev pub pair : ℕ → ℕ
@@ -46,7 +46,7 @@ Frame for registers =
 abbrev pub Sources : (Class → Type 0) → (Ins → ℕ → List ℕ → List ℕ) → (Ins → ℕ → List ℕ → ℕ) → Type 0
 Sources for registers next =
     (i : Ins) (pc : ℕ) (regs others : List ℕ) → for (class_of i.kind) → i.rd < 32 → AreRegs regs → AreRegs others →
-    ((r : ℕ) → Reads i r → slice_index others r ≡ slice_index regs r) →
+    ((r : ℕ) → ReadsRegister i r → slice_index others r ≡ slice_index regs r) →
     (next i pc others ≡ next i pc regs) × ((r : ℕ) → writes i ≡ Some r → slice_index (registers i pc others) r ≡ slice_index (registers i pc regs) r)
 
 -- where the pairs of the registers that are read equal these, the renamed instruction has the same next pc, and gives the pair what
@@ -54,5 +54,5 @@ Sources for registers next =
 abbrev pub Mirror : (Class → Type 0) → (Ins → ℕ → List ℕ → List ℕ) → (Ins → ℕ → List ℕ → ℕ) → Type 0
 Mirror for registers next =
     (i : Ins) (pc : ℕ) (regs others : List ℕ) → for (class_of i.kind) → HasPairs i → AreRegs regs → AreRegs others →
-    ((r : ℕ) → Reads i r → slice_index others (pair r) ≡ slice_index regs r) →
+    ((r : ℕ) → ReadsRegister i r → slice_index others (pair r) ≡ slice_index regs r) →
     (next (renamed i) pc others ≡ next i pc regs) × ((r : ℕ) → writes i ≡ Some r → slice_index (registers (renamed i) pc others) (pair r) ≡ slice_index (registers i pc regs) r)

@@ -2,8 +2,8 @@
 use Rattle.std.proofs.Common.{◌≡◌, ℕ, zero, suc, ◌+◌, ◌-◌, ◌<◌, false, refl, ap, ◌∙◌, arith}
 use Rattle.qed_model.specs.declared.machine.Outcome.{Outcome}
 use Rattle.qed_model.specs.declared.machine.Outcome.TheVariants.{Going, Ended, Fired, Trapped}
-use Rattle.qed_model.specs.Machine.{State, step, step_at}
-use Rattle.qed_model.specs.Progress.{Progress, advanced, steps_after, progress}
+use Rattle.qed_model.specs.Machine.Step.{State, step, step_at}
+use Rattle.qed_model.specs.Machine.Progress.{Progress, advanced, steps_after, progress}
 use Rattle.rv_step.specs.Known.{goes_on}
 
 stays_at : (o : Outcome) (s : State) → goes_on o ≡ false → step_at o s ≡ s

@@ -1,13 +1,13 @@
 -- What stands at an address, and what a strike makes of a machine.
 use Rattle.std.specs.Prelude.{ℕ, ◌%◌, ◌==◌, ◌&&◌, Bool, true, false, cond, Option, None, Some}
 use Rattle.rv_isa.specs.declared.ins.Ins.{Ins}
-use Rattle.qed_model.specs.Memory.{grants, number}
-use Rattle.qed_model.specs.Machine.{State, Fetched, Refused, Unknown, Known, fetched_at, in_range}
+use Rattle.qed_model.specs.Machine.Memory.{grants, number}
+use Rattle.qed_model.specs.Machine.Step.{State, Fetched, Refused, Unknown, Known, fetched_at, in_range}
 use Rattle.qed_model.specs.declared.change.Place.{Place}
 use Rattle.qed_model.specs.declared.machine.Outcome.{Outcome}
 use Rattle.qed_model.specs.declared.machine.Outcome.TheVariants.{Going, Ended, Fired, Trapped}
-use Rattle.qed_model.specs.Progress.{Progress}
-use Rattle.qed_model.specs.Struck.{struck}
+use Rattle.qed_model.specs.Machine.Progress.{Progress}
+use Rattle.qed_model.specs.Machine.Struck.{struck}
 
 -- the instruction, where one was fetched
 abbrev pub instruction_of : Fetched → Option Ins

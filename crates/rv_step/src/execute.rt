@@ -3,7 +3,7 @@ ghost use Rattle.std.specs.Prelude.{◌≡◌, ◌+◌, ◌%◌, ◌^◌, ◌==�
 ghost use Rattle.rv_isa.specs.Kind.{class_of};
 ghost use Rattle.rv_isa.specs.Regs.{set_reg};
 ghost use Rattle.rv_isa.specs.declared.class.Class.TheVariants as class;
-ghost use Rattle.qed_model.specs.Machine.{act, execute, moved, next, next_pc, stopped, trapped, place as place_of};
+ghost use Rattle.qed_model.specs.Machine.Step.{act, execute, moved, next, next_pc, stopped, trapped, place as place_of};
 ghost use Rattle.rv_alu.specs.Steps.{IsComputing, IsBranching, IsJumping, IsPassing};
 ghost use Rattle.rv_step.specs.Known.{known_at, word_at, at_state};
 
@@ -27,7 +27,7 @@ impl Machine {
     }
 
     /// The instruction at an address, or None where no code may be executed there or the word is no instruction.
-    #[tactic(auto, unfolding(qed_model::specs::Machine::fetched_at))]
+    #[tactic(auto, unfolding(qed_model::specs::Machine::Step::fetched_at))]
     pub(crate) fn known(&self, address: u64) -> Option<Ins>
         ensures { result ≡ known_at self.now.state address }
     {
@@ -82,7 +82,7 @@ impl Machine {
     }
 
     /// One instruction, by its class. The pc is a multiple of 4, as it is where an instruction was fetched.
-    #[tactic(auto, unfolding(qed_model::specs::Machine::execute))]
+    #[tactic(auto, unfolding(qed_model::specs::Machine::Step::execute))]
     fn execute(&mut self, ins: &Ins)
         requires { self.old.state.pc % 4 ≡ 0 }
         ensures { self.new ≡ at_state (execute (class_of ins.now.kind) ins.now self.old.state) self.old }
@@ -124,7 +124,7 @@ impl Machine {
     }
 
     /// A load.
-    #[tactic(auto, unfolding(qed_model::specs::Machine::execute))]
+    #[tactic(auto, unfolding(qed_model::specs::Machine::Step::execute))]
     fn load(&mut self, ins: &Ins)
         ensures { self.new ≡ at_state (execute class.Load ins.now self.old.state) self.old }
     {
@@ -136,7 +136,7 @@ impl Machine {
     }
 
     /// A store.
-    #[tactic(auto, unfolding(qed_model::specs::Machine::execute))]
+    #[tactic(auto, unfolding(qed_model::specs::Machine::Step::execute))]
     fn store(&mut self, ins: &Ins)
         ensures { self.new ≡ at_state (execute class.Store ins.now self.old.state) self.old }
     {

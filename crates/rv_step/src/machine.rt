@@ -2,11 +2,11 @@
 ghost use Rattle.std.specs.Prelude.{◌≡◌, ◌+◌, ◌%◌, ◌^◌, ◌<◌, cond, length, map, slice_set, slice_index, IfOk, Some, None};
 ghost use Rattle.std.specs.Option.{option_map};
 ghost use Rattle.std.specs.FinMap.{get};
-ghost use Rattle.qed_model.specs.Kept.{start};
-ghost use Rattle.qed_model.specs.LoadedFile.{load_segments, loaded_file};
-ghost use Rattle.qed_model.specs.Machine.{reg, fetched_at};
-ghost use Rattle.qed_model.specs.Progress.{advanced, begun, progress};
-ghost use Rattle.qed_model.specs.Struck.{struck};
+ghost use Rattle.qed_model.specs.Machine.Program.{start};
+ghost use Rattle.qed_model.specs.Machine.Loading.{load_segments, loaded_file};
+ghost use Rattle.qed_model.specs.Machine.Step.{reg, fetched_at};
+ghost use Rattle.qed_model.specs.Machine.Progress.{advanced, begun, progress};
+ghost use Rattle.qed_model.specs.Machine.Struck.{struck};
 ghost use Rattle.mem_image.specs.Overlap.{AreApart};
 ghost use Rattle.mem_image.specs.Segments.{AllFit};
 ghost use Rattle.rv_step.specs.Known.{goes_on, known_at, struck_progress};
@@ -31,7 +31,7 @@ pub struct Machine {
 }
 
 impl Model for Machine {
-    ghost use Rattle.qed_model.specs.Progress.{Progress};
+    ghost use Rattle.qed_model.specs.Machine.Progress.{Progress};
     ghost use Rattle.rv_step.specs.Codes.{progress_code};
     ghost use Rattle.rv_step.specs.Ranges.{spans};
 
@@ -45,7 +45,7 @@ impl Model for Machine {
 impl Machine {
     /// One step, as far as the machine goes on, and how it stands then (RISC-V unprivileged manual, RV64I and the M
     /// extension). A step that ends, fires or traps changes nothing but the outcome, and is counted.
-    #[tactic(auto, unfolding(qed_model::specs::Machine::step, qed_model::specs::Progress::advanced))]
+    #[tactic(auto, unfolding(qed_model::specs::Machine::Step::step, qed_model::specs::Machine::Progress::advanced))]
     pub fn step(&mut self) -> Outcome
         ensures step { self.new ≡ advanced self.old }
         ensures outcome { result ≡ self.new.state.outcome }
@@ -129,7 +129,7 @@ impl Machine {
 
     /// Gives a register other than x0 another number, or each of eight bytes that is mapped its byte of the number,
     /// little endian and whatever its permission.
-    #[tactic(auto, unfolding(qed_model::specs::Struck::struck))]
+    #[tactic(auto, unfolding(qed_model::specs::Machine::Struck::struck))]
     pub fn strike(&mut self, place: &Place, value: u64)
         ensures { self.new ≡ struck_progress place.now value self.old }
     {

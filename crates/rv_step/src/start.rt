@@ -1,9 +1,9 @@
 // The machine that a file starts in.
 ghost use Rattle.std.specs.Prelude.{◌≡◌, ◌++◌, IfOk, true, false, OnOk};
 ghost use Rattle.elf_types.specs.declared.file.Segment.{Segment as ElfSegment};
-ghost use Rattle.qed_model.specs.Kept.{start};
-ghost use Rattle.qed_model.specs.LoadedFile.{load_segments, loaded_file, code_ranges, is_code_section, lies_in_code, lies_in_any, section_ranges, segment_ranges};
-ghost use Rattle.qed_model.specs.Progress.{begun};
+ghost use Rattle.qed_model.specs.Machine.Program.{start};
+ghost use Rattle.qed_model.specs.Machine.Loading.{load_segments, loaded_file, code_ranges, is_code_section, lies_in_code, lies_in_any, section_ranges, segment_ranges};
+ghost use Rattle.qed_model.specs.Machine.Progress.{begun};
 ghost use Rattle.mem_image.specs.Overlap.{segment_of, segments_of, AreApart};
 ghost use Rattle.mem_image.specs.Segments.{AllFit};
 ghost use Rattle.rv_step.specs.Ranges.{spans};

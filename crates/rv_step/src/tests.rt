@@ -1,6 +1,6 @@
 // Small programs, with the ends that the manual gives them.
 ghost use Rattle.std.specs.Prelude.{◌≡◌, ◌≤◌, ◌∷◌, [], length, IfOk};
-ghost use Rattle.qed_model.specs.LoadedFile.{load_segments};
+ghost use Rattle.qed_model.specs.Machine.Loading.{load_segments};
 ghost use Rattle.mem_image.specs.Overlap.{AreApart};
 ghost use Rattle.mem_image.specs.Segments.{AllFit};
 

@@ -1,6 +1,6 @@
 use Rattle.std.proofs.Common.{◌≡◌, ℕ, ◌<◌, Some, false}
 use Rattle.std.specs.Prelude.{slice_get}
-use Rattle.qed_model.specs.Kept.{LoadSegment}
+use Rattle.qed_model.specs.Machine.Program.{LoadSegment}
 use Rattle.mem_image.specs.Segments.{within}
 use Rattle.mem_image.proofs.image.first_with.Given as goal
 

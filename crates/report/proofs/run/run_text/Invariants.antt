@@ -1,5 +1,5 @@
 use Rattle.std.proofs.Common.{◌≡◌, ◌-◌, ◌++◌}
-use Rattle.qed_model.specs.RunTexts.{outcome_line, register_lines}
+use Rattle.qed_model.specs.Text.Run.{outcome_line, register_lines}
 use Rattle.report.proofs.run.run_text.Given as goal
 
 -- the lines so far

@@ -1,5 +1,5 @@
 use Rattle.std.proofs.Common.{◌+◌, sym, ap, ◌∙◌, arith}
-use Rattle.qed_model.specs.Memory.{byte_of}
+use Rattle.qed_model.specs.Machine.Memory.{byte_of}
 use Rattle.mem_image.specs.Segments.{within, with_byte_at}
 use Rattle.mem_image.proofs.NumberLaws.{low_byte}
 use Rattle.mem_image.proofs.WholeLaws.{spans, within_span, within-with_bytes, with_bytes-none, with_bytes-more}

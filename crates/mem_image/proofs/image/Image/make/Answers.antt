@@ -1,5 +1,5 @@
 use Rattle.std.proofs.Common.{ap, ◌∙◌}
-use Rattle.qed_model.specs.Kept.{memory_of}
+use Rattle.qed_model.specs.Machine.Program.{memory_of}
 use Rattle.mem_image.specs.Overlap.{segments_of}
 use Rattle.mem_image.proofs.OverlapLaws.{memory_of-filled}
 use Rattle.mem_image.proofs.WholeLaws.{sound-filled}

@@ -1,5 +1,5 @@
 use Rattle.std.proofs.Common.{sym, ap, ◌∙◌}
-use Rattle.qed_model.specs.Memory.{grants, number}
+use Rattle.qed_model.specs.Machine.Memory.{grants, number}
 use Rattle.mem_image.specs.Access.{needs}
 use Rattle.mem_image.proofs.WholeLaws.{here_whole, whole_granted, whole_refused, whole_number, refused_number, granted_number}
 use Rattle.mem_image.proofs.image.Image.number.Goals as goal

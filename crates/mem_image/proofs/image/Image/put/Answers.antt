@@ -1,6 +1,6 @@
 use Rattle.std.proofs.Common.{◌+◌, sym, ap, ◌∙◌, arith}
 use Rattle.std.specs.FinMap.{get}
-use Rattle.qed_model.specs.Memory.{poked, wrap, byte_of}
+use Rattle.qed_model.specs.Machine.Memory.{poked, wrap, byte_of}
 use Rattle.qed_model.proofs.MemoryLaws.{put_none, put-more}
 use Rattle.mem_image.proofs.SegmentLaws.{none_past}
 use Rattle.mem_image.proofs.NumberLaws.{low_byte}

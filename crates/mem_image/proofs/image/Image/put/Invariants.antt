@@ -1,5 +1,5 @@
 use Rattle.std.proofs.Common.{◌≡◌}
-use Rattle.qed_model.specs.Memory.{put}
+use Rattle.qed_model.specs.Machine.Memory.{put}
 use Rattle.mem_image.proofs.image.Image.put.Given as goal
 
 abbrev pub invariant-loop-i : goal.invariant-loop-i

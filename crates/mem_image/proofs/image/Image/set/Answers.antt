@@ -1,7 +1,7 @@
 use Rattle.std.proofs.Common.{sym, ap, ◌∙◌, set}
-use Rattle.qed_model.specs.Memory.{poked}
+use Rattle.qed_model.specs.Machine.Memory.{poked}
 use Rattle.mem_image.specs.Segments.{IsFirst, with_byte_at}
-use Rattle.qed_model.specs.Kept.{memory_of}
+use Rattle.qed_model.specs.Machine.Program.{memory_of}
 use Rattle.mem_image.proofs.SegmentLaws.{first_is, memory_of-set, memory_of-missing}
 use Rattle.mem_image.specs.Overlap.{AreSound}
 use Rattle.mem_image.proofs.WholeLaws.{sound-byte}

@@ -1,6 +1,6 @@
 use Rattle.std.proofs.Common.{◌<◌, sym, ap, ◌∙◌, set, arith}
-use Rattle.qed_model.specs.Memory.{grants, put}
-use Rattle.qed_model.specs.Kept.{memory_of}
+use Rattle.qed_model.specs.Machine.Memory.{grants, put}
+use Rattle.qed_model.specs.Machine.Program.{memory_of}
 use Rattle.mem_image.specs.Segments.{IsWholeAt, with_bytes_at}
 use Rattle.mem_image.specs.Overlap.{AreSound}
 use Rattle.mem_image.proofs.WholeLaws.{here_whole, whole_granted, whole_refused, whole_put, sound-bytes, spans, ends}

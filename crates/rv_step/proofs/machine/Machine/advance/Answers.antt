@@ -1,6 +1,6 @@
 use Rattle.std.proofs.Common.{◌≡◌, Some, None, sym, ap, ◌∙◌}
-use Rattle.qed_model.specs.Table.{decode_of}
-use Rattle.qed_model.specs.Machine.{act, known_or}
+use Rattle.qed_model.specs.Machine.Table.{decode_of}
+use Rattle.qed_model.specs.Machine.Step.{act, known_or}
 use Rattle.rv_step.specs.Known.{word_at, at_state}
 use Rattle.rv_step.proofs.Fetching.{fetched_none, fetched_some, fetched_grain}
 use Rattle.rv_step.proofs.machine.Machine.advance.Goals as goal

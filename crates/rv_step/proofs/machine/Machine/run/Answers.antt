@@ -1,5 +1,5 @@
 use Rattle.std.proofs.Common.{◌+◌, ◌-◌, sym, ap, ◌∙◌, arith}
-use Rattle.qed_model.specs.Progress.{progress}
+use Rattle.qed_model.specs.Machine.Progress.{progress}
 use Rattle.rv_step.proofs.Running.{stays_long, none_left, one_less}
 use Rattle.rv_step.proofs.machine.Machine.run.Goals as goal
 

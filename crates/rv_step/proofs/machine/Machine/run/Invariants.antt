@@ -1,5 +1,5 @@
 use Rattle.std.proofs.Common.{◌≡◌, ◌-◌}
-use Rattle.qed_model.specs.Progress.{progress}
+use Rattle.qed_model.specs.Machine.Progress.{progress}
 use Rattle.rv_step.proofs.machine.Machine.run.Given as goal
 
 -- the steps that are left lead to the same end

@@ -1,0 +1,86 @@
+-- The data of a test: which segments have it, and the ranges of aligned words that they make up. Ranges are by their first address
+-- and the one behind their last. The form is this project's own.
+use Rattle.std.specs.Prelude.{◌≡◌, ℕ, ◌+◌, ◌-◌, ◌*◌, ◌/◌, ◌%◌, ◌<◌, ◌==◌, Bool, nat_lt, nat_le, ◌&&◌, ◌||◌, not, min, max, cond, List, [], ◌∷◌, map, filter, flat_map, All, AllPairs}
+use Rattle.std.specs.List.{list_any}
+use Rattle.elf_types.specs.declared.file.Segment.{Segment}
+use Rattle.qed_model.specs.declared.range.Range.{Range}
+use Rattle.qed_model.specs.Below.{each}
+
+-- a range by its first address and the one behind its last
+abbrev pub range_of : Range → ℕ × ℕ
+range_of r = (r.start, r.end)
+
+-- ---- data segments, among those of the image
+-- PF_W
+abbrev pub is_written : Segment → Bool
+is_written s = s.flags / 2 % 2 == 1
+
+-- PF_X
+abbrev pub is_executed : Segment → Bool
+is_executed s = s.flags % 2 == 1
+
+-- its addresses, rounded out to multiples of 8
+abbrev pub rounded : Segment → ℕ × ℕ
+rounded s = (s.address / 8 * 8, (s.address + s.memory + 7) / 8 * 8)
+
+-- two ranges have an address in common
+abbrev pub do_meet : ℕ × ℕ → ℕ × ℕ → Bool
+do_meet r t = nat_lt r.0 t.1 && nat_lt t.0 r.1
+
+-- it shares an aligned word of 8 bytes with a segment that is executed
+abbrev pub meets_code : List Segment → Segment → Bool
+meets_code image s = list_any (λ t. is_executed t && do_meet (rounded s) (rounded t)) image
+
+-- it is written; or it is only read, and shares no aligned word with code
+abbrev pub is_data : List Segment → Segment → Bool
+is_data image s = is_written s || (not (is_executed s) && not (meets_code image s))
+
+abbrev pub data_segments : List Segment → List Segment
+data_segments image = filter (is_data image) image
+
+-- ---- data ranges
+-- an address of a range
+abbrev pub is_in : ℕ × ℕ → ℕ → Bool
+is_in r q = nat_le r.0 q && nat_lt q r.1
+
+-- an address of one of some ranges
+abbrev pub is_in_any : List (ℕ × ℕ) → ℕ → Bool
+is_in_any rs q = list_any (λ r. is_in r q) rs
+
+-- the data segments, rounded out
+abbrev pub data_parts : List Segment → List (ℕ × ℕ)
+data_parts image = map rounded (data_segments image)
+
+-- the ranges ascend, each has some address, and there is a gap between any two; together they have the addresses of the parts. So
+-- parts that touch or overlap are joined
+pub record AreJoined (parts ranges : List (ℕ × ℕ)) : Type 0 where
+  pub some : All (λ r. r.0 < r.1) ranges
+  pub gaps : AllPairs (λ r t. r.1 < t.0) ranges
+  pub same : (q : ℕ) → is_in_any ranges q ≡ is_in_any parts q
+
+-- a range among such ranges, joined with those that it touches or overlaps
+abbrev pub join : ℕ × ℕ → List (ℕ × ℕ) → List (ℕ × ℕ)
+join r [] = r ∷ []
+join r (t ∷ ts) = cond (nat_lt r.1 t.0) (r ∷ t ∷ ts) (cond (nat_lt t.1 r.0) (t ∷ join r ts) (join (min r.0 t.0, max r.1 t.1) ts))
+
+abbrev pub joined : List (ℕ × ℕ) → List (ℕ × ℕ)
+joined [] = []
+joined (r ∷ rs) = join r (joined rs)
+
+-- the data ranges of an image; N is how many they are
+abbrev pub data_ranges : List Segment → List (ℕ × ℕ)
+data_ranges image = joined (data_parts image)
+
+-- ---- data words
+-- the aligned words of a range, in ascending order
+abbrev pub words_in : ℕ × ℕ → List ℕ
+words_in r = each ((r.1 - r.0) / 8) (λ k. r.0 + 8 * k)
+
+-- the data words of ranges, in ascending order; the cursor goes over them in this order
+abbrev pub data_words : List (ℕ × ℕ) → List ℕ
+data_words ranges = flat_map words_in ranges
+
+-- how many they are, W
+abbrev pub word_count : List (ℕ × ℕ) → ℕ
+word_count [] = 0
+word_count (r ∷ rs) = (r.1 - r.0) / 8 + word_count rs

@@ -1,0 +1,56 @@
+-- Leaders: the code addresses at which blocks begin (this project's profile).
+use Rattle.std.specs.Prelude.{◌≡◌, ℕ, ◌+◌, Bool, true, false, Some}
+use Rattle.elf_types.specs.declared.file.ElfFile.{ElfFile}
+use Rattle.rv_isa.specs.declared.ins.Ins.{Ins}
+use Rattle.rv_isa.specs.declared.class.Class.{Class}
+use Rattle.rv_isa.specs.Kind.{class_of}
+use Rattle.rv_isa.specs.declared.class.Class.TheVariants as class
+use Rattle.qed_model.specs.Machine.Step.{target}
+use Rattle.qed_model.specs.Admission.Terms.{is_named_in}
+use Rattle.qed_model.specs.Admission.CodeWords.{is_code, instruction_at}
+
+-- JAL and branches, whose target is known
+abbrev pub has_target : Class → Bool
+has_target class.Jump = true
+has_target class.Branch = true
+has_target _ = false
+
+-- the ends of blocks: branches, JAL, JALR, ECALL and the zero word
+abbrev pub is_end : Class → Bool
+is_end class.Branch = true
+is_end class.Jump = true
+is_end class.JumpReg = true
+is_end class.End = true
+is_end class.Illegal = true
+is_end _ = false
+
+-- JALR
+abbrev pub is_indirect : Class → Bool
+is_indirect class.JumpReg = true
+is_indirect _ = false
+
+-- at a code address stands an instruction of such a class
+pub record Stands (f : ElfFile) (of : Class → Bool) (a : ℕ) : Type 0 where
+  pub instruction : Ins
+  pub stands : instruction_at f a ≡ Some instruction
+  pub class : of (class_of instruction.kind) ≡ true
+
+-- what makes an address the first of a block
+pub data Begins (f : ElfFile) (a : ℕ) : Type 0 where
+  -- the entry point
+  Entry : a ≡ f.entry → Begins f a
+  -- the target of a JAL or a branch
+  Target : (i : ℕ) (s : Stands f has_target i) → a ≡ target s.instruction i → Begins f a
+  -- the address after an end
+  After : (i : ℕ) → Stands f is_end i → a ≡ i + 4 → Begins f a
+  -- a symbol or a relocation names it
+  Named : is_named_in f a ≡ true → Begins f a
+
+-- a leader
+pub record IsLeader (f : ElfFile) (a : ℕ) : Type 0 where
+  pub code : is_code f a ≡ true
+  pub begins : Begins f a
+
+-- some code word is a JALR, so that each code address has an entry
+abbrev pub HasIndirect : ElfFile → Type 0
+HasIndirect f = (a : ℕ) × Stands f is_indirect a

@@ -1,0 +1,115 @@
+-- Rules by which tests are admitted, and what names a code address: sentences on the segments, sections, symbols and relocations of
+-- a file that was read. Sums are over whole numbers and do not wrap. Code ranges are those of `code_ranges`, each by its first address
+-- and the one behind its last.
+use Rattle.std.specs.Prelude.{ℕ, ◌+◌, ◌-◌, ◌%◌, ◌^◌, ◌==◌, ◌&&◌, ◌||◌, not, nat_lt, nat_le, if◌then◌else◌, Bool, Option, Some, None, List, [], ◌∷◌, filter, slice_get}
+use Rattle.std.specs.List.{list_any}
+use Rattle.std.specs.Option.{option_map, option_or}
+use Rattle.elf_types.specs.declared.file.Segment.{Segment}
+use Rattle.elf_types.specs.declared.file.Section.{Section}
+use Rattle.elf_types.specs.declared.file.Symbol.{Symbol}
+use Rattle.elf_types.specs.declared.file.Rela.{Rela}
+use Rattle.elf_types.specs.declared.file.ElfFile.{ElfFile}
+use Rattle.rv_isa.specs.declared.ins.Ins.{Ins}
+use Rattle.rv_isa.specs.Ins.{writes, reads}
+use Rattle.qed_model.specs.Machine.Values.{wrapped}
+use Rattle.qed_model.specs.Machine.Program.{LoadSegment}
+use Rattle.qed_model.specs.Elf.Rules.{is_at}
+use Rattle.qed_model.specs.Machine.Loading.{is_code_section, lies_in_code, code_ranges}
+
+-- ---- the image
+-- a segment of type PT_LOAD that has bytes in memory (ELF gABI, program header)
+abbrev pub is_in_image : Segment → Bool
+is_in_image s = s.kind == 1 && nat_lt 0 s.memory
+
+-- the segments that make up the image, in order
+abbrev pub image_segments : List Segment → List Segment
+image_segments ss = filter is_in_image ss
+
+-- ---- A1: compressed code
+-- EF_RISCV_RVC, bit 0 of the flags (RISC-V psABI, file header)
+abbrev pub is_compressed : ElfFile → Bool
+is_compressed f = f.flags % 2 == 1
+
+-- ---- A2: dynamic linking
+-- PT_DYNAMIC or PT_INTERP (ELF gABI, program header)
+abbrev pub is_dynamic_segment : Segment → Bool
+is_dynamic_segment s = s.kind == 2 || s.kind == 3
+
+-- a program header is of such a type
+abbrev pub is_dynamic : List Segment → Bool
+is_dynamic ss = list_any is_dynamic_segment ss
+
+-- ---- A5: the shape of code
+-- a section that has bytes and a segment have a byte in common
+abbrev pub shares : Section → LoadSegment → Bool
+shares s l = nat_lt 0 l.size && (nat_lt s.address (l.address + l.size) && nat_lt l.address (s.address + s.size))
+
+-- the section shares a byte with the segment, which is executable, and is not wholly inside it
+abbrev pub is_cut_by : Section → LoadSegment → Bool
+is_cut_by s l = l.flags.execute && (shares s l && not (lies_in_code s l))
+
+-- an executable section that has bytes is cut by a segment
+abbrev pub is_cut : List LoadSegment → Section → Bool
+is_cut ls s = is_code_section s && list_any (is_cut_by s) ls
+
+-- the start or the size of a range is not a multiple of 4
+abbrev pub is_ragged : ℕ × ℕ → Bool
+is_ragged r = not (r.0 % 4 == 0) || not ((r.1 - r.0) % 4 == 0)
+
+-- an executable section is cut by a segment, or a code range is ragged
+abbrev pub is_misshapen_code : List LoadSegment → List Section → Bool
+is_misshapen_code ls ss = list_any (is_cut ls) ss || list_any is_ragged (code_ranges ls ss)
+
+-- ---- code addresses, and what names them
+-- a multiple of 4 in a code range
+abbrev pub is_code_address : List (ℕ × ℕ) → ℕ → Bool
+is_code_address rs a = a % 4 == 0 && list_any (λ r. nat_le r.0 a && nat_lt a r.1) rs
+
+-- a defined symbol of type STT_FUNC or STT_NOTYPE (ELF gABI, symbol table); an undefined one has section number 0
+abbrev pub is_code_symbol : Symbol → Bool
+is_code_symbol s = not (s.index == 0) && (s.kind == 2 || s.kind == 0)
+
+-- the value of such a symbol is the address
+abbrev pub is_named : List Symbol → ℕ → Bool
+is_named ss a = list_any (λ s. is_code_symbol s && s.value == a) ss
+
+-- the types of relocations that may hold a code address (RISC-V psABI, relocations): 32, 64, BRANCH, JAL, CALL, CALL_PLT,
+-- PCREL_HI20, HI20, LO12_I and LO12_S
+abbrev pub code_relocations : List ℕ
+code_relocations = 1 ∷ 2 ∷ 16 ∷ 17 ∷ 18 ∷ 19 ∷ 23 ∷ 26 ∷ 27 ∷ 28 ∷ []
+
+abbrev pub is_code_relocation : Rela → Bool
+is_code_relocation r = list_any (λ k. k == r.kind) code_relocations
+
+-- S + A modulo 2^64, where S is the value of the symbol and A the addend
+abbrev pub relocated : List Symbol → Rela → Option ℕ
+relocated ss r = option_map (λ s. (s.value + wrapped r.addend) % 2 ^ 64) (slice_get ss r.symbol)
+
+-- S + A of a relocation of such a type is the address
+abbrev pub is_relocated : List Symbol → List Rela → ℕ → Bool
+is_relocated ss rs a = list_any (λ r. is_code_relocation r && is_at (relocated ss r) a) rs
+
+-- a symbol or a relocation names the address, which is thus a leader where it is a code address
+abbrev pub is_named_in : ElfFile → ℕ → Bool
+is_named_in f a = is_named f.symbols a || is_relocated f.symbols f.relas a
+
+-- ---- A7: registers above x13
+-- the register, where it is above x13
+abbrev pub if_high : Option ℕ → Option ℕ
+if_high None = None
+if_high (Some r) = if nat_lt 13 r then Some r else None
+
+-- the first register above x13 that an instruction writes or reads, in the order rd, rs1, rs2
+abbrev pub high_register : Ins → Option ℕ
+high_register i = option_or (if_high (writes i)) (option_or (if_high (reads i).0) (if_high (reads i).1))
+
+-- the least address of an instruction that writes or reads a register above x13, and the first such register; the code is in
+-- ascending order of its addresses
+abbrev pub register_half : List (ℕ × Ins) → Option (ℕ × ℕ)
+register_half [] = None
+register_half (c ∷ cs) = option_or (option_map (λ r. (c.0, r)) (high_register c.1)) (register_half cs)
+
+-- instructions that stand one behind the other, each with its address
+abbrev pub code_from : ℕ → List Ins → List (ℕ × Ins)
+code_from a [] = []
+code_from a (i ∷ is) = (a, i) ∷ code_from (a + 4) is

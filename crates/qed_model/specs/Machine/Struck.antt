@@ -1,0 +1,13 @@
+-- States with one change.
+use Rattle.std.specs.Prelude.{ℕ}
+use Rattle.rv_isa.specs.Regs.{set_reg}
+use Rattle.qed_model.specs.declared.change.Place.{Place}
+use Rattle.qed_model.specs.declared.change.Place.TheVariants.{Reg, Word}
+use Rattle.qed_model.specs.Machine.Memory.{put}
+use Rattle.qed_model.specs.Machine.Step.{State}
+
+-- a register other than x0 gets the number; of a word each byte that is mapped gets its byte of the number, little endian,
+-- whatever its permission; all else stays
+unfoldable pub struck : Place → ℕ → State → State
+struck (Reg r) x s = record { regs = set_reg r x s.regs; pc = s.pc; memory = s.memory; ranges = s.ranges; outcome = s.outcome }
+struck (Word a) x s = record { regs = s.regs; pc = s.pc; memory = put s.memory a 8 x; ranges = s.ranges; outcome = s.outcome }

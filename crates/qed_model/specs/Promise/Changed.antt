@@ -1,0 +1,71 @@
+-- Runs with changes.
+use Rattle.std.specs.Prelude.{◌≡◌, ℕ, zero, suc, ◌+◌, ◌%◌, ◌<◌, ◌≤◌, ◌⊎◌, Bool, true, false, cond, ◌||◌, ◌==◌, List, [], ◌∷◌}
+use Rattle.qed_model.specs.declared.change.Place.{Place}
+use Rattle.qed_model.specs.declared.change.Place.TheVariants.{Reg, Word}
+use Rattle.qed_model.specs.declared.change.Change.{Change}
+use Rattle.qed_model.specs.declared.machine.Outcome.{Outcome}
+use Rattle.qed_model.specs.declared.machine.Outcome.TheVariants.{Going, Ended, Fired, Trapped}
+use Rattle.qed_model.specs.Machine.Step.{State, reg, step}
+use Rattle.qed_model.specs.Machine.Memory.{number}
+use Rattle.qed_model.specs.Machine.Struck.{struck}
+
+-- ---- the changed run
+-- a state with an outcome after a change: one that does not go on is not changed
+abbrev pub changed_as : Outcome → Change → State → State
+changed_as Going c s = struck c.place c.value s
+changed_as Ended c s = s
+changed_as Fired c s = s
+changed_as (Trapped cause pc) c s = s
+
+-- a state after a change
+abbrev pub changed : Change → State → State
+changed c s = changed_as s.outcome c s
+
+-- the changes of a list whose step is n, in the order of the list
+unfoldable pub with_changes : List Change → ℕ → State → State
+with_changes [] n s = s
+with_changes (c ∷ cs) n s = with_changes cs n (cond (c.step == n) (changed c s) s)
+
+-- the state after n steps, where the changes of each number of steps up to n were made when so many had been made
+unfoldable pub changed_run : State → List Change → ℕ → State
+changed_run s cs zero = with_changes cs 0 s
+changed_run s cs (suc n) = with_changes cs (suc n) (step (changed_run s cs n))
+
+-- ---- lists of changes
+-- steps do not fall
+abbrev pub Ordered : List Change → Type 0
+Ordered [] = Unit {0}
+Ordered (c ∷ []) = Unit {0}
+Ordered (c ∷ d ∷ cs) = (c.step ≤ d.step) × Ordered (d ∷ cs)
+
+-- the step of the last change; 0 where there is none
+abbrev pub last_step : List Change → ℕ
+last_step [] = 0
+last_step (c ∷ []) = c.step
+last_step (c ∷ d ∷ cs) = last_step (d ∷ cs)
+
+-- a place is a word
+abbrev pub is_word : Place → Bool
+is_word (Reg r) = false
+is_word (Word a) = true
+
+-- some place is a word
+abbrev pub has_word : List Change → Bool
+has_word [] = false
+has_word (c ∷ cs) = is_word c.place || has_word cs
+
+-- ---- what is original
+-- a data word: eight aligned bytes of one of the data ranges
+abbrev pub IsDataWord : List (ℕ × ℕ) → ℕ → Type 0
+IsDataWord [] a = ⊥
+IsDataWord (r ∷ rs) a = ((a % 8 ≡ 0) × (r.0 ≤ a) × (a + 8 ≤ r.1)) ⊎ IsDataWord rs a
+
+-- x1 to x13, and the data words
+abbrev pub IsOriginal : List (ℕ × ℕ) → Place → Type 0
+IsOriginal spans (Reg r) = (1 ≤ r) × (r ≤ 13)
+IsOriginal spans (Word a) = IsDataWord spans a
+
+-- two states of the output have the same values in the original half
+pub record SameOriginal (spans : List (ℕ × ℕ)) (u v : State) : Type 0 where
+  pub regs : (r : ℕ) → 1 ≤ r → r ≤ 13 → reg u r ≡ reg v r
+  pub words : (a : ℕ) → IsDataWord spans a → number u.memory a 8 ≡ number v.memory a 8

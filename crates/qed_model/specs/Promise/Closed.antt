@@ -1,0 +1,60 @@
+-- Where a register is closed: between its guard and the use that the guard checks (this project's profile). There a wrong value may
+-- reach memory or a branch before any check; everywhere else a register is open.
+use Rattle.std.specs.Prelude.{◌≡◌, ℕ, ◌+◌, ◌%◌, ◌^◌, Bool, true, false, not, ◌&&◌, ◌||◌, nat_le, ◌==◌, ℤ, pos, negsuc}
+use Rattle.rv_isa.specs.declared.kind.Kind.{Kind}
+use Rattle.rv_isa.specs.declared.kind.Kind.TheVariants.{Addi, Beq}
+use Rattle.rv_isa.specs.declared.ins.Ins.{Ins}
+use Rattle.rv_isa.specs.declared.class.Class.{Class}
+use Rattle.rv_isa.specs.declared.class.Class.TheVariants as class
+use Rattle.rv_isa.specs.Kind.{class_of}
+use Rattle.qed_model.specs.declared.change.Place.{Place}
+use Rattle.qed_model.specs.declared.change.Place.TheVariants.{Reg, Word}
+use Rattle.qed_model.specs.Machine.Step.{State, Fetched, Known, fetched_at}
+
+-- the kind is ADDI
+abbrev pub is_addi : Kind → Bool
+is_addi Addi = true
+is_addi _ = false
+
+-- the kind is BEQ
+abbrev pub is_beq : Kind → Bool
+is_beq Beq = true
+is_beq _ = false
+
+-- an instruction of a class uses a register: as the base of an access, as a stored value, in a branch on x0 to x13, or where ADDI
+-- takes it into x30
+abbrev pub uses_as : Class → ℕ → Ins → Bool
+uses_as class.Load r i = i.rs1 == r
+uses_as class.Store r i = (i.rs1 == r) || (i.rs2 == r)
+uses_as class.Branch r i = nat_le i.rs1 13 && (nat_le i.rs2 13 && ((i.rs1 == r) || (i.rs2 == r)))
+uses_as class.Compute r i = is_addi i.kind && ((i.rd == 30) && (i.rs1 == r))
+uses_as _ r i = false
+
+-- what was fetched is a use of the register
+unfoldable pub uses : ℕ → Fetched → Bool
+uses r (Known i) = uses_as (class_of i.kind) r i
+uses r _ = false
+
+-- the immediate of a guard
+abbrev pub is_eight : ℤ → Bool
+is_eight (pos n) = n == 8
+is_eight (negsuc n) = false
+
+-- what was fetched compares another of x1 to x13 with its pair, and skips the next word where they are equal
+unfoldable pub guards_other : ℕ → Fetched → Bool
+guards_other r (Known i) = is_beq i.kind && ((i.rs2 == i.rs1 + 16) && (is_eight i.imm && (not (i.rs1 == r) && (nat_le 1 i.rs1 && nat_le i.rs1 13))))
+guards_other r _ = false
+
+-- a register is closed at an address of the code: it is one of x1 to x13, and used there, or used behind the guard of another
+-- that stands there
+abbrev pub closed_at : (ℕ → Fetched) → ℕ → ℕ → Bool
+closed_at code a r = (nat_le 1 r && nat_le r 13) && (uses r (code a) || (guards_other r (code a) && uses r (code ((a + 8) % 2 ^ 64))))
+
+-- a register is closed in a state
+abbrev pub is_closed : State → ℕ → Bool
+is_closed s r = closed_at (λ a. fetched_at s.memory s.ranges a) s.pc r
+
+-- a place is open in a state; a word always is
+abbrev pub IsOpen : State → Place → Type 0
+IsOpen s (Reg r) = is_closed s r ≡ false
+IsOpen s (Word a) = Unit {0}

@@ -1,0 +1,58 @@
+-- What is promised of the input's run and the output's run: the input's values are kept, and no check fires.
+use Rattle.std.specs.Prelude.{◌≡◌, ◌≢◌, ℕ, ◌+◌, ◌-◌, ◌*◌, ◌^◌, ◌<◌, ◌≤◌, ◌↔◌, Bool, true, false, List, [], ◌∷◌, ◌++◌, length, replicate, slice_set, slice_index, is_some}
+use Rattle.std.specs.FinMap.{get}
+use Rattle.qed_model.specs.declared.machine.Outcome.{Outcome}
+use Rattle.qed_model.specs.declared.machine.Outcome.TheVariants.{Going, Ended, Fired, Trapped}
+use Rattle.qed_model.specs.Machine.Step.{State, reg, run}
+use Rattle.qed_model.specs.Machine.Memory.{byte_at}
+use Rattle.qed_model.specs.Machine.Program.{Program, memory_of, start, zeros, AreStartRegs}
+
+-- the input starts with all registers 0
+abbrev pub after_input : Program → ℕ → State
+after_input f n = run (start f zeros) n
+
+-- the output starts with any registers
+abbrev pub after_output : Program → List ℕ → ℕ → State
+after_output g regs n = run (start g regs) n
+
+-- whether a run stopped by a trap
+abbrev pub is_trapped : Outcome → Bool
+is_trapped (Trapped c pc) = true
+is_trapped _ = false
+
+-- the run goes on, has ended, or a check fired
+abbrev pub NotTrapped : State → Type 0
+NotTrapped s = is_trapped s.outcome ≡ false
+
+-- ---- the halves
+-- the input has a byte at the address
+abbrev pub is_mapped : Program → ℕ → Bool
+is_mapped f q = is_some (get (memory_of f.segments) q)
+
+-- the output's state has the input's values in x1 to x13 and at each byte that the input maps
+pub record Halves (f : Program) (s u : State) : Type 0 where
+  pub regs : (r : ℕ) → 1 ≤ r → r ≤ 13 → reg u r ≡ reg s r
+  pub mapped : (q : ℕ) → is_mapped f q ≡ true → is_some (get u.memory q) ≡ true
+  pub bytes : (q : ℕ) → is_mapped f q ≡ true → byte_at u.memory q ≡ byte_at s.memory q
+
+-- ---- the promise
+-- after some steps of the output, within the bound, it has the values that the input has after n steps; it has ended exactly
+-- where the input has
+pub record Preserved (f g : Program) (first bound n : ℕ) (regs : List ℕ) : Type 0 where
+  pub steps : ℕ
+  pub within : steps ≤ first + (n + 1) * bound
+  pub halves : Halves f (after_input f n) (after_output g regs steps)
+  pub ends : ((after_output g regs steps).outcome ≡ Ended) ↔ ((after_input f n).outcome ≡ Ended)
+
+-- after m steps of the output no check has fired and nothing has trapped; where it has ended, the input has ended too, with
+-- the same values
+pub record NoFalseAlarm (f g : Program) (m : ℕ) (regs : List ℕ) : Type 0 where
+  pub no_check : (after_output g regs m).outcome ≢ Fired
+  pub no_trap : NotTrapped (after_output g regs m)
+  pub ended : (after_output g regs m).outcome ≡ Ended → ((after_input f m).outcome ≡ Ended) × Halves f (after_input f m) (after_output g regs m)
+
+-- both, for any registers of the output's start, and as far as the input's run does not trap; `first` is the bound of what runs
+-- first, and `bound` that of a piece, in steps
+pub record Kept (f g : Program) (first bound : ℕ) : Type 0 where
+  pub values : (regs : List ℕ) (n : ℕ) → AreStartRegs regs → NotTrapped (after_input f n) → Preserved f g first bound n regs
+  pub quiet : (regs : List ℕ) (m : ℕ) → AreStartRegs regs → NotTrapped (after_input f m) → NoFalseAlarm f g m regs

@@ -1,0 +1,29 @@
+-- What is promised of jumps that land wrong: an entry that is reached with the signature of another one fires.
+use Rattle.std.specs.Prelude.{◌≡◌, ◌≢◌, ℕ, ◌≤◌, ◌⊎◌, List, [], ◌∷◌}
+use Rattle.qed_model.specs.declared.machine.Outcome.TheVariants.{Going, Fired}
+use Rattle.qed_model.specs.declared.plan.EntryRow.{EntryRow}
+use Rattle.qed_model.specs.Machine.Step.{State, moved, run}
+use Rattle.qed_model.specs.Promise.Kept.{after_input, after_output, NotTrapped}
+use Rattle.qed_model.specs.Machine.Program.{Program, AreStartRegs}
+
+-- the input address a has its entry at e
+abbrev pub IsEntry : List EntryRow → ℕ → ℕ → Type 0
+IsEntry [] a e = ⊥
+IsEntry (row ∷ rows) a e = ((row.input ≡ a) × (row.output ≡ e)) ⊎ IsEntry rows a e
+
+-- within so many steps a check has fired
+pub record Fires (most : ℕ) (s : State) : Type 0 where
+  pub steps : ℕ
+  pub within : steps ≤ most
+  pub fired : (run s steps).outcome ≡ Fired
+
+-- another pc alone
+abbrev pub placed_at : ℕ → State → State
+placed_at pc s = moved s.regs pc s
+
+-- for any registers of the output's start, and as far as the input's run does not trap: where the output stands at the entry of an
+-- address, the same state at the entry of another fires within 4 steps
+pub record Landed (f g : Program) (entries : List EntryRow) : Type 0 where
+  pub fires :
+      (regs : List ℕ) (t a c here there : ℕ) → AreStartRegs regs → NotTrapped (after_input f t) → IsEntry entries a here → IsEntry entries c there → a ≢ c
+      → (after_output g regs t).outcome ≡ Going → (after_output g regs t).pc ≡ here → Fires 4 (placed_at there (after_output g regs t))

@@ -1,0 +1,4 @@
+-- What is printed.
+pub mod Plan
+pub mod Run
+pub mod Errors

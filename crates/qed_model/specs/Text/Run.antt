@@ -1,0 +1,51 @@
+-- What is printed about a run. Each line ends with a newline.
+use Rattle.std.specs.Prelude.{ℕ, zero, suc, ◌-◌, ◌^◌, List, [], ◌++◌, codes, false}
+use Rattle.std.specs.Fmt.{decimal, digits, padded_integral, format_spec}
+use Rattle.qed_model.specs.declared.machine.Cause.{Cause}
+use Rattle.qed_model.specs.declared.machine.Cause.TheVariants.{Fetch, Word, Load, Store, Target}
+use Rattle.qed_model.specs.declared.machine.Outcome.{Outcome}
+use Rattle.qed_model.specs.declared.machine.Outcome.TheVariants.{Going, Ended, Fired, Trapped}
+use Rattle.qed_model.specs.Machine.Step.{State, reg}
+use Rattle.qed_model.specs.Machine.Progress.{Progress}
+
+-- at least so many lower-case hexadecimal digits, with zeros in front
+abbrev pub hex_digits : ℕ → ℕ → List ℕ
+hex_digits count x = padded_integral (format_spec 32 0 4 count (2 ^ 64 - 1)) false [] (digits 16 false x)
+
+-- `0x` and 16 digits
+abbrev pub hex_text : ℕ → List ℕ
+hex_text x = codes "0x" ++ hex_digits 16 x
+
+-- `0x` and 8 digits
+abbrev pub word_text : ℕ → List ℕ
+word_text x = codes "0x" ++ hex_digits 8 x
+
+abbrev pub cause_text : Cause → List ℕ
+cause_text Fetch = codes "fetch"
+cause_text (Word w) = codes "word " ++ word_text w
+cause_text (Load a) = codes "load " ++ hex_text a
+cause_text (Store a) = codes "store " ++ hex_text a
+cause_text (Target a) = codes "target " ++ hex_text a
+
+abbrev pub outcome_text : Outcome → List ℕ
+outcome_text Going = codes "going"
+outcome_text Ended = codes "ended"
+outcome_text Fired = codes "fired"
+outcome_text (Trapped c pc) = codes "trapped " ++ cause_text c
+
+-- how the run stands, after how many steps, at which pc
+abbrev pub outcome_line : Progress → List ℕ
+outcome_line p = outcome_text p.state.outcome ++ (codes " after " ++ (decimal p.steps ++ (codes " steps at " ++ (hex_text p.state.pc ++ codes "\n"))))
+
+-- a register and its number
+abbrev pub register_line : State → ℕ → List ℕ
+register_line s r = codes "x" ++ (decimal r ++ (codes " " ++ (hex_text (reg s r) ++ codes "\n")))
+
+-- the registers x1 to xn
+unfoldable pub register_lines : State → ℕ → List ℕ
+register_lines s zero = []
+register_lines s (suc n) = register_lines s n ++ register_line s (suc n)
+
+-- a run: its outcome, and the registers x1 to x31
+abbrev pub run_lines : Progress → List ℕ
+run_lines p = outcome_line p ++ register_lines p.state 31

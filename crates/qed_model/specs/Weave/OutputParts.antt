@@ -1,0 +1,121 @@
+-- What the output file holds: segments, sections and symbols, made of those of the input. Names and numbers are those of the ELF gABI.
+use Rattle.std.specs.Prelude.{ℕ, ◌+◌, ◌-◌, ◌*◌, ◌/◌, ◌==◌, min, max, Bool, true, false, nat_lt, nat_le, ◌&&◌, ◌||◌, not, if◌then◌else◌, Option, Some, None, List, [], ◌∷◌, ◌++◌, length, map, codes}
+use Rattle.std.specs.List.{filter, flat_map}
+use Rattle.elf_types.specs.declared.file.ElfFile.{ElfFile}
+use Rattle.elf_types.specs.declared.file.Segment.{Segment}
+use Rattle.elf_types.specs.declared.file.Symbol.{Symbol}
+use Rattle.elf_types.specs.declared.output.OutFile.{OutFile}
+use Rattle.elf_types.specs.declared.output.OutSection.{OutSection}
+use Rattle.qed_model.specs.declared.plan.EntryRow.{EntryRow}
+use Rattle.qed_model.specs.Numbers.{number_bytes}
+use Rattle.qed_model.specs.Admission.Terms.{image_segments}
+
+-- ---- places
+-- the least address of segments
+abbrev pub low_of : List Segment → ℕ
+low_of [] = 0
+low_of (s ∷ []) = s.address
+low_of (s ∷ t ∷ segments) = min s.address (low_of (t ∷ segments))
+
+-- the greatest end of segments
+abbrev pub high_of : List Segment → ℕ
+high_of [] = 0
+high_of (s ∷ segments) = max (s.address + s.memory) (high_of segments)
+
+-- where an image begins, rounded down to a multiple of 4096
+abbrev pub base_of : List Segment → ℕ
+base_of image = low_of image / 4096 * 4096
+
+-- the distance of the halves: the least multiple of 4096 that leads from there to the end of the image, or behind it
+abbrev pub distance_of : List Segment → ℕ
+distance_of image = (high_of image - base_of image + 4095) / 4096 * 4096
+
+-- the new code stands behind both halves and the room of the table
+abbrev pub code_base : List Segment → ℕ
+code_base image = base_of image + 3 * distance_of image
+
+-- ---- segments
+-- the segment without PF_X, whose value is 1, at a distance from its place
+abbrev pub copied : ℕ → Segment → Segment
+copied distance s = record { kind = s.kind; flags = s.flags / 2 * 2; address = s.address + distance; memory = s.memory; bytes = s.bytes }
+
+abbrev pub copies : ℕ → List Segment → List Segment
+copies distance segments = map (copied distance) segments
+
+-- PT_LOAD with PF_R and PF_X, and all its bytes in the file
+abbrev pub code_segment : ℕ → List ℕ → Segment
+code_segment at code = record { kind = 1; flags = 5; address = at; memory = length code; bytes = code }
+
+-- the input's image in both halves, and the new code
+abbrev pub out_segments : List Segment → List ℕ → List Segment
+out_segments image code = copies 0 image ++ (copies (distance_of image) image ++ code_segment (code_base image) code ∷ [])
+
+-- ---- sections
+-- over the new code, with SHF_ALLOC and SHF_EXECINSTR
+abbrev pub text_section : ℕ → List ℕ → OutSection
+text_section at code = record { name = codes ".qed.text"; flags = 6; address = at; size = length code; bytes = [] }
+
+-- the input address and the new address of an entry, 8 bytes each
+unfoldable pub row_bytes : EntryRow → List ℕ
+row_bytes row = number_bytes 8 row.input ++ number_bytes 8 row.output
+
+abbrev pub map_bytes : List EntryRow → List ℕ
+map_bytes rows = flat_map row_bytes rows
+
+abbrev pub map_section : List EntryRow → OutSection
+map_section rows = record { name = codes ".qed.map"; flags = 0; address = 0; size = 16 * length rows; bytes = map_bytes rows }
+
+abbrev pub out_sections : ℕ → List ℕ → List EntryRow → List OutSection
+out_sections at code rows = text_section at code ∷ map_section rows ∷ []
+
+-- ---- symbols
+-- named and defined, of type STT_NOTYPE, STT_OBJECT or STT_FUNC
+abbrev pub is_kept : Symbol → Bool
+is_kept s = nat_lt 0 (length s.name) && (not (s.index == 0) && nat_le s.kind 2)
+
+-- STT_NOTYPE or STT_FUNC
+abbrev pub is_of_code : Symbol → Bool
+is_of_code s = s.kind == 0 || s.kind == 2
+
+-- the new address of an input address that has an entry
+abbrev pub entry_at : List EntryRow → ℕ → Option ℕ
+entry_at [] a = None
+entry_at (row ∷ rows) a = if row.input == a then Some row.output else entry_at rows a
+
+-- the symbol with a value and a size, and SHN_ABS as its section
+abbrev pub valued : Symbol → ℕ → ℕ → Symbol
+valued s value size = record { name = s.name; value = value; size = size; kind = s.kind; binding = s.binding; other = s.other; index = 0xfff1 }
+
+-- the symbol at its new address, where it has one
+abbrev pub at_entry : Symbol → Option ℕ → Symbol
+at_entry s None = valued s s.value s.size
+at_entry s (Some a) = valued s a 0
+
+abbrev pub out_symbol : List EntryRow → Symbol → Symbol
+out_symbol rows s = at_entry s (if is_of_code s then entry_at rows s.value else None)
+
+-- STB_LOCAL
+abbrev pub is_local : Symbol → Bool
+is_local s = s.binding == 0
+
+-- the symbols that are STB_LOCAL, or those that are not, in their order
+abbrev pub symbol_group : Bool → List EntryRow → List Symbol → List Symbol
+symbol_group local rows symbols = map (out_symbol rows) (filter (λ s. is_kept s && (if local then is_local s else not (is_local s))) symbols)
+
+-- those that are STB_LOCAL come first
+abbrev pub out_symbols : List EntryRow → List Symbol → List Symbol
+out_symbols rows symbols = symbol_group true rows symbols ++ symbol_group false rows symbols
+
+-- ---- the file
+-- of an input with this image, with the entries and the bytes of the new code
+abbrev pub out_file_of : ElfFile → List Segment → List EntryRow → List ℕ → OutFile
+out_file_of f image rows code = record {
+  entry = code_base image;
+  flags = f.flags;
+  segments = out_segments image code;
+  sections = out_sections (code_base image) code rows;
+  symbols = out_symbols rows f.symbols;
+}
+
+abbrev pub out_file : ElfFile → List EntryRow → List ℕ → OutFile
+out_file f rows code = out_file_of f (image_segments f.segments) rows code

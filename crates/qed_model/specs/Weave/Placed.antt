@@ -1,0 +1,84 @@
+-- Items that have their places: each is one or two instructions, which know where they stand. In the far form of the code a jump to
+-- an entry is two.
+use Rattle.std.specs.Prelude.{◌≡◌, ℕ, ◌+◌, ◌-◌, ◌/◌, ◌%◌, ◌^◌, Bool, true, false, ◌==◌, cond, List, [], ◌∷◌, ◌++◌, map, Option, Some, None, unwrap_or, ℤ, pos, negsuc, ◌+ℤ◌, ◌-ℤ◌, ◌*ℤ◌}
+use Rattle.rv_isa.specs.declared.kind.Kind.TheVariants.{Addi, Auipc, Jal, Jalr}
+use Rattle.rv_isa.specs.declared.ins.Ins.{Ins}
+use Rattle.qed_model.specs.declared.item.Item.{Item}
+use Rattle.qed_model.specs.declared.item.Item.TheVariants.{Mark, Plain, Constant, Go}
+use Rattle.qed_model.specs.declared.plan.EntryRow.{EntryRow}
+use Rattle.qed_model.specs.Machine.Table.{ins, signed, decode_of}
+
+-- ---- jumps to entries
+-- the bytes of a jump to an entry: one word in the near form, two in the far form
+abbrev pub go_size : Bool → ℕ
+go_size false = 4
+go_size true = 8
+
+-- the bytes that an item takes
+abbrev pub size_of : Bool → Item → ℕ
+size_of far (Mark a) = 0
+size_of far (Plain i) = 4
+size_of far (Constant r c) = 8
+size_of far (Go a) = go_size far
+
+abbrev pub sum_of_sizes : Bool → List Item → ℕ
+sum_of_sizes far [] = 0
+sum_of_sizes far (item ∷ items) = size_of far item + sum_of_sizes far items
+
+-- the address of the mark of an input address among items that stand from an address on
+abbrev pub mark_from : Bool → ℕ → List Item → ℕ → Option ℕ
+mark_from far at [] a = None
+mark_from far at (Mark m ∷ items) a = cond (m == a) (Some at) (mark_from far at items a)
+mark_from far at (Plain i ∷ items) a = mark_from far (at + 4) items a
+mark_from far at (Constant r c ∷ items) a = mark_from far (at + 8) items a
+mark_from far at (Go t ∷ items) a = mark_from far (at + go_size far) items a
+
+-- the entry of an input address; without a mark the last word, which is the stub
+abbrev pub entry_of : Bool → ℕ → List Item → ℕ → ℕ
+entry_of far base items a = unwrap_or (mark_from far base items a) (base + sum_of_sizes far items - 4)
+
+-- the entries that are marked among items that stand from an address on
+abbrev pub rows_from : Bool → ℕ → List Item → List EntryRow
+rows_from far at [] = []
+rows_from far at (Mark a ∷ items) = record { input = a; output = at } ∷ rows_from far at items
+rows_from far at (Plain i ∷ items) = rows_from far (at + 4) items
+rows_from far at (Constant r c ∷ items) = rows_from far (at + 8) items
+rows_from far at (Go t ∷ items) = rows_from far (at + go_size far) items
+
+-- the distance from one address to another, modulo 2^64 and read as signed
+abbrev pub distance_between : ℕ → ℕ → ℤ
+distance_between from to = signed 64 ((to + (2 ^ 64 - from)) % 2 ^ 64)
+
+-- z divided by 4096, rounded down
+abbrev pub pages_below : ℤ → ℤ
+pages_below (pos x) = pos (x / 4096)
+pages_below (negsuc x) = negsuc (x / 4096)
+
+-- the part of a distance that AUIPC adds, a multiple of 4096, and the part that ADDI adds, from -2048 to 2047
+abbrev pub upper_part : ℤ → ℤ
+upper_part d = pages_below (d +ℤ pos 2048) *ℤ pos 4096
+
+abbrev pub lower_part : ℤ → ℤ
+lower_part d = d -ℤ upper_part d
+
+-- the words of a jump from one address to another; those of the far form change x30
+abbrev pub go_words : Bool → ℕ → ℕ → List Ins
+go_words false at to = ins Jal 0 0 0 (distance_between at to) ∷ []
+go_words true at to = ins Auipc 30 0 0 (upper_part (distance_between at to)) ∷ ins Jalr 0 30 0 (lower_part (distance_between at to)) ∷ []
+
+-- the instructions of the items, from an address on, where an input address has its entry
+abbrev pub instructions_from : Bool → (ℕ → ℕ) → ℕ → List Item → List Ins
+instructions_from far entry at [] = []
+instructions_from far entry at (Mark a ∷ items) = instructions_from far entry at items
+instructions_from far entry at (Plain i ∷ items) = i ∷ instructions_from far entry (at + 4) items
+instructions_from far entry at (Constant r c ∷ items) =
+    ins Auipc r 0 0 (upper_part (distance_between at c)) ∷ ins Addi r r 0 (lower_part (distance_between at c)) ∷ instructions_from far entry (at + 8) items
+instructions_from far entry at (Go a ∷ items) = go_words far at (entry a) ++ instructions_from far entry (at + go_size far) items
+
+-- the instructions of items that stand from `base` on
+abbrev pub placed : Bool → ℕ → List Item → List Ins
+placed far base items = instructions_from far (entry_of far base items) base items
+
+-- the words decode to the instructions, one for one
+abbrev pub Decode : List ℕ → List Ins → Type 0
+Decode words instructions = map decode_of words ≡ map Some instructions

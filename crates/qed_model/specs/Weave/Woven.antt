@@ -1,0 +1,112 @@
+-- What is woven from a test: the output file, word for word, and what is told of it.
+use Rattle.std.specs.Prelude.{◌≡◌, ℕ, ◌*◌, ◌^◌, ◌<◌, ◌≤◌, nat_lt, Bool, false, cond, List, [], ◌∷◌, ◌++◌, length, map, slice_index}
+use Rattle.rv_isa.specs.declared.ins.Ins.{Ins}
+use Rattle.elf_types.specs.declared.file.ElfFile.{ElfFile}
+use Rattle.elf_types.specs.declared.output.OutFile.{OutFile}
+use Rattle.qed_model.specs.declared.item.Item.{Item}
+use Rattle.qed_model.specs.declared.options.Options.{Options}
+use Rattle.qed_model.specs.declared.plan.EntryRow.{EntryRow}
+use Rattle.qed_model.specs.declared.plan.Plan.{Plan}
+use Rattle.qed_model.specs.declared.bounds.Shape.{Shape}
+use Rattle.qed_model.specs.Numbers.{bytes_of}
+use Rattle.qed_model.specs.Weave.Sequences.{Form, Block, mirrored, prologue, all_entries, stub}
+use Rattle.qed_model.specs.Weave.Diverse.{diverse}
+use Rattle.qed_model.specs.Weave.Placed.{Decode, sum_of_sizes, rows_from, placed}
+use Rattle.qed_model.specs.Elf.File.{File}
+use Rattle.qed_model.specs.Elf.Layout.{written}
+use Rattle.qed_model.specs.Weave.OutputParts.{base_of}
+use Rattle.qed_model.specs.Admission.DataRanges.{range_of, data_ranges, word_count}
+use Rattle.qed_model.specs.Weave.Places.{image_of, half_of, code_place}
+use Rattle.qed_model.specs.Admission.Refusals.{IsAdmitted}
+use Rattle.qed_model.specs.Weave.Blocks.{AreBlocks}
+use Rattle.qed_model.specs.Weave.OutputFile.{has_table, file_of, piece_rows}
+use Rattle.qed_model.specs.Weave.Bounds.{cost_of, bounds_of}
+
+-- ---- the new code
+-- the mirror part of an instruction: the same on the pairs, or where it is asked for of other kinds
+abbrev pub mirror_of : Bool → Ins → ℕ → List Item
+mirror_of other = cond other diverse mirrored
+
+-- what it depends on besides the blocks, in the near or in the far form
+abbrev pub form_of : ElfFile → Options → Bool → Form
+form_of f o far = record { spans = data_ranges (image_of f); round = o.round; far = far; sweep = o.sweep; mirror = mirror_of o.diverse; cost = cost_of o.diverse }
+
+-- its items: the prologue, the entries one after the other, and the stub
+abbrev pub items_in : ElfFile → Options → Bool → List Block → List Item
+items_in f o far blocks = prologue (half_of o.half (image_of f)) (data_ranges (image_of f)) f.entry ++ (all_entries (form_of f o far) blocks ++ stub)
+
+-- the near form is taken where it has at most 1,048,576 bytes
+abbrev pub is_far_code : ElfFile → Options → List Block → Bool
+is_far_code f o blocks = nat_lt 1_048_576 (sum_of_sizes false (items_in f o false blocks))
+
+abbrev pub new_items : ElfFile → Options → List Block → List Item
+new_items f o blocks = items_in f o (is_far_code f o blocks) blocks
+
+-- how many bytes it has
+abbrev pub code_size : ElfFile → Options → List Block → ℕ
+code_size f o blocks = sum_of_sizes (is_far_code f o blocks) (new_items f o blocks)
+
+-- the new addresses of the entries
+abbrev pub new_entries : ElfFile → Options → List Block → List EntryRow
+new_entries f o blocks = rows_from (is_far_code f o blocks) (code_place o.half (image_of f)) (new_items f o blocks)
+
+-- words below 2^32, which decode to the items in their places
+pub record IsNewCode (f : ElfFile) (o : Options) (blocks : List Block) (words : List ℕ) : Type 0 where
+  pub small : (k : ℕ) → slice_index words k < 2 ^ 32
+  pub code : Decode words (placed (is_far_code f o blocks) (code_place o.half (image_of f)) (new_items f o blocks))
+
+-- ---- the file
+-- in which these words are written
+abbrev pub woven_file : ElfFile → Options → List Block → List ℕ → OutFile
+woven_file f o blocks words = file_of f o.half (has_table blocks) (new_entries f o blocks) (bytes_of words)
+
+-- the input is admitted, these are its blocks, and this is the file with its new code
+pub record WovenFile (input : List ℕ) (o : Options) (out : OutFile) : Type 0 where
+  pub file : ElfFile
+  pub read : File input file
+  pub admitted : IsAdmitted file o
+  pub blocks : List Block
+  pub are : AreBlocks file o.inst_max blocks
+  pub words : List ℕ
+  pub code : IsNewCode file o blocks words
+  pub woven : out ≡ woven_file file o blocks words
+
+-- the output is that file, written
+pub record Woven (input : List ℕ) (o : Options) (output : List ℕ) : Type 0 where
+  pub out : OutFile
+  pub file : WovenFile input o out
+  pub bytes : output ≡ written out
+
+-- an input has one output
+abbrev pub InputHasOneOutput : Type 0
+InputHasOneOutput = (input : List ℕ) (o : Options) (a b : List ℕ) → Woven input o a → Woven input o b → a ≡ b
+
+-- the new code has at most 67,108,864 bytes, and the output at most 4,000 segments and 536,870,912 bytes
+pub record IsWithin (f : ElfFile) (o : Options) (blocks : List Block) (out : OutFile) : Type 0 where
+  pub code : code_size f o blocks ≤ 67_108_864
+  pub segments : length out.segments ≤ 4000
+  pub size : length (written out) ≤ 536_870_912
+
+-- ---- what is told of it
+-- what the bounds depend on
+abbrev pub shape_of : ElfFile → Options → Bool → Shape
+shape_of f o far = record {
+  words = word_count (data_ranges (image_of f));
+  ranges = length (data_ranges (image_of f));
+  round = o.round;
+  inst_max = o.inst_max;
+  far = far;
+  sweep = o.sweep;
+  diverse = o.diverse;
+}
+
+-- the places, the data words, the size of the new code, its entries and pieces, and the bounds
+pub record IsToldOf (f : ElfFile) (o : Options) (blocks : List Block) (plan : Plan) : Type 0 where
+  pub base : plan.base ≡ base_of (image_of f)
+  pub distance : plan.distance ≡ half_of o.half (image_of f)
+  pub words : plan.words ≡ word_count (data_ranges (image_of f))
+  pub code_bytes : plan.code_bytes ≡ code_size f o blocks
+  pub entries : plan.entries ≡ new_entries f o blocks
+  pub pieces : plan.pieces ≡ piece_rows blocks
+  pub span : map range_of plan.span ≡ data_ranges (image_of f)
+  pub bounds : plan.bounds ≡ bounds_of (shape_of f o (is_far_code f o blocks))

@@ -1,0 +1,33 @@
+// The bounds of an output, and what they depend on.
+
+/// What the bounds depend on.
+#[derive(Clone, Copy, Debug, PartialEq, Eq)]
+pub struct Shape {
+    /// How many data words there are.
+    pub words: u64,
+    /// How many data ranges there are.
+    pub ranges: u64,
+    /// How many data words are visited behind each piece.
+    pub round: u64,
+    /// The greatest number of instructions in a piece.
+    pub inst_max: u64,
+    /// The new code has the far form, in which a jump to an entry has two words.
+    pub far: bool,
+    /// All data words and registers are compared before the end.
+    pub sweep: bool,
+    /// The mirror part of most computing instructions is of other kinds than the instruction.
+    pub diverse: bool,
+}
+
+/// The bounds, in steps.
+#[derive(Clone, Copy, Debug, PartialEq, Eq)]
+pub struct Bounds {
+    /// The longest piece, with its entry and its leave.
+    pub piece: u64,
+    /// Until a change of a register is seen, or gone.
+    pub register: u64,
+    /// The same for a data word; None where there is no data word.
+    pub word: Option<u64>,
+    /// What runs before the first entry, and what runs before the end.
+    pub start: u64,
+}

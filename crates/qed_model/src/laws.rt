@@ -1,0 +1,13 @@
+// What the definitions say of each other.
+ghost use Rattle.qed_model.specs.Admission.Refusals.{AdmissionHasOneAnswer};
+ghost use Rattle.qed_model.specs.Weave.Woven.{InputHasOneOutput};
+
+/// A file that was read is admitted exactly where no rule holds, and is refused by one rule, at one place.
+pub fn admission_has_one_answer()
+    ensures { AdmissionHasOneAnswer }
+{}
+
+/// With the same options the same bytes have one output.
+pub fn input_has_one_output()
+    ensures { InputHasOneOutput }
+{}
