@@ -1,4 +1,4 @@
-// What the definitions say of each other.
+//! What the definitions say of each other.
 ghost use Rattle.qed_model.specs.Admission.Refusals.{AdmissionHasOneAnswer};
 ghost use Rattle.qed_model.specs.Weave.Woven.{InputHasOneOutput};
 
