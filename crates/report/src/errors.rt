@@ -1,4 +1,4 @@
-// What is printed where a file is refused.
+//! What is printed where a file is refused.
 ghost use Rattle.std.specs.Prelude.{◌≡◌, ◌≢◌, Some, IfOk, OnOk, string_bytes};
 ghost use Rattle.qed_model.specs.Text.Errors.{part_line, error_line, memory_limit_line, high_register_line, segment_limit_line, size_limit_line};
 

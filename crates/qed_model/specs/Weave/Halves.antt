@@ -26,7 +26,7 @@ pub record Flagged (m : Memory) (s : State) : Type 0 where
   pub zero_reg : reg s 0 ≡ 0
 
 -- u has in the original half the values of s, and in the duplicate half those of s'
-pub record Twice (base d : ℕ) (f g : Memory) (u s s' : State) : Type 0 where
+pub record HalvesHold (base d : ℕ) (f g : Memory) (u s s' : State) : Type 0 where
   pub output : Flagged g u
   pub input : Flagged f s
   pub shadow : Flagged f s'
