@@ -16,7 +16,7 @@ use Rattle.qed_model.specs.Admission.Rules.{passes_at, is_writable_code, is_miss
 use Rattle.qed_model.specs.Admission.Refusals.{IsAdmitted, HasTooManyWords}
 use Rattle.qed_model.specs.Weave.Placed.{distance_between}
 use Rattle.qed_model.specs.Weave.OutputParts.{base_of, high_of, distance_of}
-use Rattle.qed_model.specs.Weave.Places.{image_of, half_of, code_place}
+use Rattle.qed_model.specs.Weave.Places.{AreSound, image_of, half_of, code_place}
 
 -- ---- computed tests
 either_way : (C : Type 0) (b : Bool) → (b ≡ true → C) → (b ≡ false → C) → C
@@ -35,9 +35,19 @@ none_passes test [] e i = refl
 none_passes test (x ∷ xs) e zero = (neither (test x) (list_any test xs) e).0
 none_passes test (x ∷ xs) e (suc i) = none_passes test xs (neither (test x) (list_any test xs) e).1 i
 
--- the options where none is given
+-- ---- options
+-- where none is given, and with the sweep alone
+abbrev pub options : Bool → Options
+options sweep = record { inst_min = 4; inst_max = 16; round = 1; half = None; sweep = sweep; diverse = false }
+
 abbrev pub defaults : Options
-defaults = record { inst_min = 4; inst_max = 16; round = 1; half = None; sweep = false; diverse = false }
+defaults = options false
+
+abbrev pub swept : Options
+swept = options true
+
+pub sound : (sweep : Bool) → AreSound (options sweep)
+sound sweep = record { some = omega arith; room = omega arith; most = omega arith; visits = omega arith; few_visits = omega arith; half = tt }
 
 -- ---- the code
 -- the instructions stand one behind the other from an address on

@@ -15,7 +15,7 @@ use Rattle.qed_model.specs.Weave.Woven.{code_size, new_entries, shape_of, is_far
 use Rattle.qed_model.specs.Weave.Bounds.{bounds_of}
 use Rattle.qed_model.proofs.ExampleCode as code
 use Rattle.qed_model.proofs.ExampleBlocks as made
-use Rattle.qed_model.proofs.ExampleCode.{IsCodeOf, defaults}
+use Rattle.qed_model.proofs.ExampleCode.{IsCodeOf, defaults, swept}
 use Rattle.qed_model.proofs.StoreFile.{store}
 
 -- ---- its instructions
@@ -43,6 +43,10 @@ known = record { range = refl; grain = refl; stand = (refl, (refl, (refl, (refl,
 
 pub store_admitted : IsAdmitted store defaults
 store_admitted = code.admitted store 0x10000 all known refl defaults refl refl (omega arith) (omega arith) (omega arith) (omega arith)
+
+-- and with the sweep
+pub store_swept_admitted : IsAdmitted store swept
+store_swept_admitted = code.admitted store 0x10000 all known refl swept refl refl (omega arith) (omega arith) (omega arith) (omega arith)
 
 -- ---- its block: runs of 1, 2 and 1 instructions
 abbrev pub store_blocks : List Block
