@@ -1,6 +1,5 @@
 -- The promises on changes hold of a known file, a test with a data word: all of their premises are met.
 use Rattle.std.proofs.Common.{ℕ, List, [], ◌∷◌, Some, refl}
-use Rattle.qed_model.specs.declared.bounds.Bounds.{Bounds}
 use Rattle.qed_model.specs.Promise.Caught.{Caught}
 use Rattle.qed_model.specs.Promise.Clean.{Clean}
 use Rattle.qed_model.proofs.ExampleCode.{defaults, swept}

@@ -1,7 +1,5 @@
 -- The promises hold of a known file, a test with a data word: all of their premises are met.
-use Rattle.std.proofs.Common.{◌≡◌, ℕ, ◌<◌, ◌≤◌, Bool, true, false, List, [], ◌∷◌, Some, refl, arith}
-use Rattle.elf_types.specs.declared.output.OutFile.{OutFile}
-use Rattle.qed_model.specs.declared.options.Options.{Options}
+use Rattle.std.proofs.Common.{ℕ, true, false, List, [], ◌∷◌, Some, refl, arith}
 use Rattle.qed_model.specs.declared.plan.Plan.{Plan}
 use Rattle.qed_model.specs.Elf.FileRead.{file_read}
 use Rattle.qed_model.specs.Machine.Loading.{loaded_file}
