@@ -1,0 +1,21 @@
+-- The promises on changes hold of a known file, a test with a data word: all of their premises are met.
+use Rattle.std.proofs.Common.{ℕ, List, [], ◌∷◌, Some, refl}
+use Rattle.qed_model.specs.Promise.Caught.{Caught}
+use Rattle.qed_model.specs.Promise.Clean.{Clean}
+use Rattle.qed_model.proofs.ExampleCode.{defaults, swept}
+use Rattle.qed_model.proofs.StoreFile.{store_bytes, store}
+use Rattle.qed_model.proofs.StoreExample.{store_blocks}
+use Rattle.weave_core.proofs.StoreKept.{store_words, swept_words, store_input, store_output, swept_output, store_plan, store_told}
+use Rattle.lockstep.proofs.Tests.{tests_caught, tests_clean}
+
+-- its data word
+abbrev spans : List (ℕ × ℕ)
+spans = (0x20000, 0x20008) ∷ []
+
+-- a change of a register is caught within 272 steps, one of the data word within 392
+store_caught : Caught store_input store_output spans (record { piece = 120; register = 272; word = Some 392; start = 32 })
+store_caught = tests_caught store_bytes store defaults store_blocks store_words.0 store_plan store_words.1 store_told
+
+-- with the sweep no change is silent at the end that was made before the last 24 steps
+store_clean : Clean store_input swept_output spans 24
+store_clean = tests_clean store_bytes store swept store_blocks swept_words.0 swept_words.1 refl
