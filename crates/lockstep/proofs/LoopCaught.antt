@@ -68,7 +68,9 @@ fetched : (a : ℕ) (i : Ins) → instruction_at 0x13000 loop_new_code a ≡ Som
 fetched a i e = found (fetched_at (memory_of loop_output.segments) loop_output.ranges) 0x13000 loop_new_code a i loop_stand e
 
 -- whether x5 is closed in a state of the output, by the word there and the one behind the next
-closed_there : (s : State) (a : ℕ) (i j : Ins) → s.memory ≡ memory_of loop_output.segments → s.ranges ≡ loop_output.ranges → s.pc ≡ a → instruction_at 0x13000 loop_new_code a ≡ Some i → instruction_at 0x13000 loop_new_code ((a + 8) % 2 ^ 64) ≡ Some j
+closed_there :
+    (s : State) (a : ℕ) (i j : Ins) → s.memory ≡ memory_of loop_output.segments → s.ranges ≡ loop_output.ranges → s.pc ≡ a
+    → instruction_at 0x13000 loop_new_code a ≡ Some i → instruction_at 0x13000 loop_new_code ((a + 8) % 2 ^ 64) ≡ Some j
     → is_closed s 5 ≡ (uses 5 (Known i) || (guards_other 5 (Known i) && uses 5 (Known j)))
 closed_there s a i j m r p here behind =
     let code : (b : ℕ) (k : Ins) → instruction_at 0x13000 loop_new_code b ≡ Some k → fetched_at s.memory s.ranges b ≡ Known k = λ b k e. ap (λ x. fetched_at x s.ranges b) m ∙ ap (λ x. fetched_at (memory_of loop_output.segments) x b) r ∙ fetched b k e in

@@ -187,7 +187,9 @@ module _ (f : ElfFile) (from : ℕ) (code : List Ins) (known : IsCodeOf f from c
     abbrev is_block : Bool
     is_block = is_begun start && (no_end (whole runs) && is_closed start (whole runs))
 
-    block_of : (end : End) → is_block ≡ true → StopsAt f end (length (whole runs)) stop → IsLeaderBlock f most (record { start = start; body = all_pieces most runs; end = end })
+    block_of :
+        (end : End) → is_block ≡ true → StopsAt f end (length (whole runs)) stop
+        → IsLeaderBlock f most (record { start = start; body = all_pieces most runs; end = end })
     block_of end e stops =
         let p = and_parts (is_begun start) (no_end (whole runs) && is_closed start (whole runs)) e in
         let q = and_parts (no_end (whole runs)) (is_closed start (whole runs)) p.1 in
@@ -201,7 +203,9 @@ module _ (f : ElfFile) (from : ℕ) (code : List Ins) (known : IsCodeOf f from c
         }
 
     -- one that stops at an end
-    pub stopping : is_block && (is_end (class_of i.kind) && (length (whole runs) == 0 || not (is_begun stop))) ≡ true → IsLeaderBlock f most (record { start = start; body = all_pieces most runs; end = Stops i })
+    pub stopping :
+        is_block && (is_end (class_of i.kind) && (length (whole runs) == 0 || not (is_begun stop))) ≡ true
+        → IsLeaderBlock f most (record { start = start; body = all_pieces most runs; end = Stops i })
     stopping e =
         let p = and_parts is_block (is_end (class_of i.kind) && (length (whole runs) == 0 || not (is_begun stop))) e in
         let q = and_parts (is_end (class_of i.kind)) (length (whole runs) == 0 || not (is_begun stop)) p.1 in
@@ -209,7 +213,9 @@ module _ (f : ElfFile) (from : ℕ) (code : List Ins) (known : IsCodeOf f from c
         (stands_next, q.0, ⊎_elim (λ z. inl (eqb-true (length (whole runs)) 0 z)) (λ n. inr (no_leader stop (not-true (is_begun stop) n))) (or_cases (length (whole runs) == 0) (not (is_begun stop)) q.1))
 
     -- one that falls to the next leader
-    pub falling : is_block && (nat_le 1 (length (whole runs)) && is_begun stop) ≡ true → IsLeaderBlock f most (record { start = start; body = all_pieces most runs; end = Falls })
+    pub falling :
+        is_block && (nat_le 1 (length (whole runs)) && is_begun stop) ≡ true
+        → IsLeaderBlock f most (record { start = start; body = all_pieces most runs; end = Falls })
     falling e =
         let p = and_parts is_block (nat_le 1 (length (whole runs)) && is_begun stop) e in
         let q = and_parts (nat_le 1 (length (whole runs))) (is_begun stop) p.1 in
@@ -222,7 +228,10 @@ module _ (f : ElfFile) (from : ℕ) (code : List Ins) (known : IsCodeOf f from c
   indirect_in (i ∷ is) b s e =
       ⊎_elim (λ x. (b, record { instruction = i; stands = s.0; class = x })) (λ r. indirect_in is (b + 4) s.1 r) (or_cases (is_indirect (class_of i.kind)) (has_indirect is) e)
 
-  pub other : (front : List Ins) (i : Ins) (rest : List Ins) → code ≡ front ++ i ∷ rest → has_indirect code && (is_end (class_of i.kind) && not (is_begun (from + 4 * length front))) ≡ true → IsOtherBlock f (record { start = from + 4 * length front; body = [] ∷ []; end = Stops i })
+  pub other :
+      (front : List Ins) (i : Ins) (rest : List Ins) → code ≡ front ++ i ∷ rest
+      → has_indirect code && (is_end (class_of i.kind) && not (is_begun (from + 4 * length front))) ≡ true
+      → IsOtherBlock f (record { start = from + 4 * length front; body = [] ∷ []; end = Stops i })
   other front i rest split e =
       let p = and_parts (has_indirect code) (is_end (class_of i.kind) && not (is_begun (from + 4 * length front))) e in
       let q = and_parts (is_end (class_of i.kind)) (not (is_begun (from + 4 * length front))) p.1 in
@@ -247,7 +256,9 @@ module _ (f : ElfFile) (from : ℕ) (code : List Ins) (known : IsCodeOf f from c
   abbrev pub is_served : List Block → ℕ → Bool
   is_served blocks a = begins_at blocks a || not (is_begun a || has_indirect code)
 
-  pub are_blocks : (most : ℕ) (blocks : List Block) → do_ascend blocks ≡ true → each_at (λ a i. is_served blocks a) from code ≡ true → Every (λ b. IsLeaderBlock f most b ⊎ IsOtherBlock f b) blocks → AreBlocks f most blocks
+  pub are_blocks :
+      (most : ℕ) (blocks : List Block) → do_ascend blocks ≡ true → each_at (λ a i. is_served blocks a) from code ≡ true
+      → Every (λ b. IsLeaderBlock f most b ⊎ IsOtherBlock f b) blocks → AreBlocks f most blocks
   are_blocks most blocks ascend served every = record {
     ascend = pairs_all (λ (b c : Block). b.start < c.start) blocks (ascends blocks ascend);
     each = every_all (λ b. IsLeaderBlock f most b ⊎ IsOtherBlock f b) blocks every;

@@ -165,7 +165,9 @@ module _ (f : ElfFile) (from : ℕ) (code : List Ins) (known : IsCodeOf f from c
 
   module _ (fine : each_at is_fine from code ≡ true) where
     -- so is what is asked of the instruction at each address
-    asked : {A : Type 0} (of : ℕ → Option Ins → A) (x : A) → ((a : ℕ) → of a None ≡ x) → ((a : ℕ) (i : Ins) → is_fine a i ≡ true → of a (Some i) ≡ x) → (a : ℕ) → of a (instruction_at f a) ≡ x
+    asked :
+        {A : Type 0} (of : ℕ → Option Ins → A) (x : A) → ((a : ℕ) → of a None ≡ x) → ((a : ℕ) (i : Ins) → is_fine a i ≡ true → of a (Some i) ≡ x)
+        → (a : ℕ) → of a (instruction_at f a) ≡ x
     asked of x none some a =
         either_way (of a (instruction_at f a) ≡ x) (is_code f a)
         (λ e. let y = at_code a e in ap (of a) y.stands ∙ some a y.instruction (passes_each is_fine a y.instruction from code fine y.among))
@@ -178,7 +180,9 @@ module _ (f : ElfFile) (from : ℕ) (code : List Ins) (known : IsCodeOf f from c
         (λ e. ap (λ b. b && is_none (decode_of (word_at f a))) e)
 
     -- the two halves of the test
-    fine_parts : (a : ℕ) (i : Ins) → is_fine a i ≡ true → (high_register i ≡ None) × (is_ebreak i.kind ≡ false) × (is_upper i.kind && is_far (distance_between (base_of (image_of f)) (target i a)) ≡ false)
+    fine_parts :
+        (a : ℕ) (i : Ins) → is_fine a i ≡ true
+        → (high_register i ≡ None) × (is_ebreak i.kind ≡ false) × (is_upper i.kind && is_far (distance_between (base_of (image_of f)) (target i a)) ≡ false)
     fine_parts a i e =
         let far = is_upper i.kind && is_far (distance_between (base_of (image_of f)) (target i a)) in
         let p = and_parts (is_none (high_register i)) (not (is_ebreak i.kind || far)) e in
@@ -186,7 +190,10 @@ module _ (f : ElfFile) (from : ℕ) (code : List Ins) (known : IsCodeOf f from c
         (none_of (high_register i) p.0, q.0, q.1)
 
     -- the file is admitted
-    pub admitted : (o : Options) → is_refused ≡ false → is_code f f.entry ≡ true → length code ≤ 262144 → high_of (image_of f) ≤ base_of (image_of f) + half_of o.half (image_of f) → distance_of (image_of f) ≤ 67108864 → code_place o.half (image_of f) + 134217728 ≤ 2 ^ 63 → IsAdmitted f o
+    pub admitted :
+        (o : Options) → is_refused ≡ false → is_code f f.entry ≡ true → length code ≤ 262144
+        → high_of (image_of f) ≤ base_of (image_of f) + half_of o.half (image_of f) → distance_of (image_of f) ≤ 67108864
+        → code_place o.half (image_of f) + 134217728 ≤ 2 ^ 63 → IsAdmitted f o
     admitted o e entry few half span top =
         let a = neither _ _ e in
         let b = neither _ _ a.1 in

@@ -1,3 +1,4 @@
 pub mod Outputs
 pub mod Meanings
 pub mod Endings
+pub mod Headlines

@@ -5,3 +5,4 @@ pub mod Fault
 pub mod Answer
 pub mod Ends
 pub mod Run
+pub mod Headline

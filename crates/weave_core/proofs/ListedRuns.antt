@@ -91,7 +91,9 @@ going _ e = absurd (cc)
 
 -- where the instructions stand in the code, the run is that of the list
 module _ (m : Memory) (ranges : List (ℕ × ℕ)) (base : ℕ) (is : List Ins) (stand : HasAt (fetched_at m ranges) base is) where
-  step_is : (x : Option Ins) (s : State) → instruction_at base is s.pc ≡ x → is_going s.outcome ≡ true → is_simple_at x ≡ true → s.memory ≡ m → s.ranges ≡ ranges → (step s ≡ go_at x s) × SameCode (go_at x s) s
+  step_is :
+      (x : Option Ins) (s : State) → instruction_at base is s.pc ≡ x → is_going s.outcome ≡ true → is_simple_at x ≡ true → s.memory ≡ m
+      → s.ranges ≡ ranges → (step s ≡ go_at x s) × SameCode (go_at x s) s
   step_is None s e g p n r = absurd (cc)
   step_is (Some i) s e g p n r =
       let here : next s ≡ Known i = ap (λ m. fetched_at m s.ranges s.pc) n ∙ ap (λ r. fetched_at m r s.pc) r ∙ found (fetched_at m ranges) base is s.pc i stand e in

@@ -78,7 +78,9 @@ input_run n simple = run_is (memory_of loop_input.segments) loop_input.ranges 0x
 pub loop_stand : HasAt (fetched_at (memory_of loop_output.segments) loop_output.ranges) 0x13000 loop_new_code
 loop_stand = kept.stand loop defaults (sound false) loads loop_admitted loop_blocks loop_are loop_words.0 loop_words.1.code loop_words.1.few
 
-pub output_run : (n : ℕ) → is_simple_run 0x13000 loop_new_code n (start loop_output zeros) ≡ true → after_output loop_output zeros n ≡ go 0x13000 loop_new_code n (start loop_output zeros)
+pub output_run :
+    (n : ℕ) → is_simple_run 0x13000 loop_new_code n (start loop_output zeros) ≡ true
+    → after_output loop_output zeros n ≡ go 0x13000 loop_new_code n (start loop_output zeros)
 output_run n simple = run_is (memory_of loop_output.segments) loop_output.ranges 0x13000 loop_new_code loop_stand n (start loop_output zeros) simple refl refl
 
 -- ---- the runs
