@@ -12,7 +12,7 @@ use Rattle.transform.specs.declared.error.TransformError.{TransformError}
 use Rattle.transform.specs.declared.error.TransformError.TheVariants as transform
 use Rattle.qed_top.specs.Words.{Asked, Transform, Run, asked}
 use Rattle.qed_top.specs.Answer.{PrintsOnly, error_status, refusal_status, IsDone, Transforms, refused, done, Means, read_fault, too_long, within, CommandMeans, IsMeant, FilesAfter}
-use Rattle.qed_top.specs.Ends.{OverFiles, Call, Did, EndsOver, Ends}
+use Rattle.qed_top.specs.Ends.{OverFiles, Call, load_rose, Did, EndsOver, Ends}
 use Rattle.qed_top.specs.Headline.{IsPromised, IsDelivered, HoldsHeadline}
 use Rattle.qed_top.specs.declared.answer.Answer.{Answer}
 use Rattle.qed_top.specs.declared.answer.Stored.{Stored}
@@ -96,8 +96,8 @@ module _ (call : Call) (files : Files) (input output : List ℕ) where
 
   delivered_of : asked call.words ≡ Some (Transform input output) → EndsOver call files Done → IsDelivered call files input output
   delivered_of is did =
-      let m = meant_of call.words files call.load_rose did.answer input output is did.meant in
-      let d = within_of (file_bytes files input) output (call.load_rose input) did.answer did.same_status m in
+      let m = meant_of call.words files (load_rose call) did.answer input output is did.meant in
+      let d = within_of (file_bytes files input) output (load_rose call input) did.answer did.same_status m in
       record {
         file = d.file;
         line = did.answer.text;

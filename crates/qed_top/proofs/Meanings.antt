@@ -79,19 +79,27 @@ module _ (told : Option Files) (name : List ℕ) (limit : ℕ) (line : List ℕ)
       (told_or told (λ f. limit < length (file_bytes f name)) (insert empty name (replicate (limit + 1) 0)) long_file cause)
 
 -- the words are those of a command, or of none
-pub over_command : (told : Option Files) (words : List (List ℕ)) (command : Asked) (rose : List ℕ → Type 0) (answer : Answer) → asked words ≡ Some command → OverFiles told (λ f. CommandMeans command f rose answer) → OverFiles told (λ f. IsMeant words f rose answer)
+pub over_command :
+    (told : Option Files) (words : List (List ℕ)) (command : Asked) (rose : List ℕ → Type 0) (answer : Answer) → asked words ≡ Some command
+    → OverFiles told (λ f. CommandMeans command f rose answer) → OverFiles told (λ f. IsMeant words f rose answer)
 over_command told words command rose answer e o =
     over_map told (λ f. CommandMeans command f rose answer) (λ f. IsMeant words f rose answer)
     (λ f m. subst (λ (o : Option Asked). MatchOption o (PrintsOnly Usage usage_line answer) (λ c. CommandMeans c f rose answer)) (sym e) m) o
 
-pub over_usage : (told : Option Files) (words : List (List ℕ)) (rose : List ℕ → Type 0) (answer : Answer) → asked words ≡ None → PrintsOnly Usage usage_line answer → OverFiles told (λ f. IsMeant words f rose answer)
+pub over_usage :
+    (told : Option Files) (words : List (List ℕ)) (rose : List ℕ → Type 0) (answer : Answer) → asked words ≡ None → PrintsOnly Usage usage_line answer
+    → OverFiles told (λ f. IsMeant words f rose answer)
 over_usage told words rose answer e plain = always told (λ f. IsMeant words f rose answer) (λ f. subst (λ (o : Option Asked). MatchOption o (PrintsOnly Usage usage_line answer) (λ c. CommandMeans c f rose answer)) (sym e) plain)
 
 -- ---- `transform`
-pub is_done : (bytes output file : List ℕ) (plan : Plan) (answer : Answer) → Made.Transforms bytes file plan → Delivers file output plan answer → Transforms bytes output answer
+pub is_done :
+    (bytes output file : List ℕ) (plan : Plan) (answer : Answer) → Made.Transforms bytes file plan → Delivers file output plan answer
+    → Transforms bytes output answer
 is_done bytes output file plan answer made delivers = done (record { file = file; plan = plan; made = made; delivers = delivers })
 
-pub is_refused : (bytes output : List ℕ) (e : TransformError) (answer : Answer) → Made.HasCause bytes e → e ≢ transform.Memory → PrintsOnly (refusal_status e) (refusal_line e) answer → Transforms bytes output answer
+pub is_refused :
+    (bytes output : List ℕ) (e : TransformError) (answer : Answer) → Made.HasCause bytes e → e ≢ transform.Memory
+    → PrintsOnly (refusal_status e) (refusal_line e) answer → Transforms bytes output answer
 is_refused bytes output e answer cause known plain = refused (record { error = e; cause = cause; known = known; plain = plain })
 
 -- ---- `run`
@@ -100,7 +108,10 @@ file_runs bytes f answer read (run.too_large cause plain) = too_large (record { 
 file_runs bytes f answer read (run.ran small plain) = ran (record { file = f; read = read; small = small; plain = plain })
 
 -- the machine of a file that is small enough was run
-pub was_run : (f : ElfFile) (size : ℕ) (machine ended : Progress) (o : Outcome) (text : List ℕ) (s : Status) (answer : Answer) → size ≡ memory_bytes f.segments → size ≤ memory_limit → machine ≡ begun (start (loaded_file f) zeros) → ended ≡ progress machine default_steps → o ≡ ended.state.outcome → text ≡ run_lines ended → s ≡ outcome_status o → PrintsOnly s text answer → FileRuns f answer
+pub was_run :
+    (f : ElfFile) (size : ℕ) (machine ended : Progress) (o : Outcome) (text : List ℕ) (s : Status) (answer : Answer) → size ≡ memory_bytes f.segments
+    → size ≤ memory_limit → machine ≡ begun (start (loaded_file f) zeros) → ended ≡ progress machine default_steps → o ≡ ended.state.outcome
+    → text ≡ run_lines ended → s ≡ outcome_status o → PrintsOnly s text answer → FileRuns f answer
 was_run f size machine ended o text s answer same small begins ends how lines status plain =
     let is : ended ≡ run_of f = ends ∙ ap (λ m. progress m default_steps) begins in
     run.ran (omega (arith, same, small)) (record {
@@ -110,6 +121,8 @@ was_run f size machine ended o text s answer same small begins ends how lines st
     })
 
 -- a file that is not read, but for want of memory
-pub is_unread : (bytes : List ℕ) (e : ElfError) (answer : Answer) (Other : Type 0) → IsRefused bytes e ⊎ ((e ≡ error.Memory) × Other) → (e ≡ error.Memory → ⊥) → PrintsOnly (error_status e) (error_line e) answer → Runs bytes answer
+pub is_unread :
+    (bytes : List ℕ) (e : ElfError) (answer : Answer) (Other : Type 0) → IsRefused bytes e ⊎ ((e ≡ error.Memory) × Other) → (e ≡ error.Memory → ⊥)
+    → PrintsOnly (error_status e) (error_line e) answer → Runs bytes answer
 is_unread bytes e answer Other (inl cause) some plain = unread (record { error = e; cause = cause; plain = plain })
 is_unread bytes e answer Other (inr want) some plain = absurd (some want.0)

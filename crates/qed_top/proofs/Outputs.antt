@@ -29,7 +29,9 @@ no_register f p q x a b some none =
     absurd (cc)
 
 -- and names no register above x13
-pub is_low : (bytes : List ℕ) (f : ElfFile) (p : StraightParts) (x : ℕ × ℕ) (out : OutFile) → File bytes f → IsMadeOf f p → high_register_of f p.body ≡ Some x → WovenFile bytes out → ⊥
+pub is_low :
+    (bytes : List ℕ) (f : ElfFile) (p : StraightParts) (x : ℕ × ℕ) (out : OutFile) → File bytes f → IsMadeOf f p → high_register_of f p.body ≡ Some x
+    → WovenFile bytes out → ⊥
 is_low bytes f p x out read made some w =
     let same = one_file bytes w.file f w.read read in
     no_register f p w.parts x made (subst (λ (h : ElfFile). IsMadeOf h w.parts) same w.made) some (ap (λ (h : ElfFile). high_register_of h w.parts.body) (sym same) ∙ w.low)

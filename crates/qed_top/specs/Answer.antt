@@ -1,7 +1,8 @@
 -- What the words and the files call for.
-use Rattle.std.specs.Prelude.{◌≡◌, ◌≢◌, ◌<◌, ◌≤◌, ℕ, ◌+◌, cond, ◌==◌, List, [], ◌∷◌, length, Option, None, Some, MatchOption, IfSome, IsSomeAnd}
+use Rattle.std.specs.Prelude.{◌≡◌, ◌≢◌, ◌⊎◌, ◌<◌, ◌≤◌, ℕ, ◌+◌, cond, ◌==◌, List, [], ◌∷◌, length, Option, None, Some, MatchOption, IfSome, IsSomeAnd}
 use Rattle.std.specs.FinMap.{insert}
 use Rattle.qed_io.specs.Files.{Files, file_bytes, StoredInPart}
+use Rattle.qed_io.specs.Counts.{NoneChanged}
 use Rattle.elf_types.specs.declared.file.Segment.{Segment}
 use Rattle.elf_types.specs.declared.file.ElfFile.{ElfFile}
 use Rattle.elf_types.specs.declared.error.ElfError.{ElfError}
@@ -182,3 +183,13 @@ FilesInPart (Some s) old new = IfSome old (λ files. IsSomeAnd new (StoredInPart
 abbrev pub StoreRose : Option Stored → (List ℕ → Type 0) → Type 0
 StoreRose None rose = ⊥
 StoreRose (Some s) rose = rose s.name.now
+
+-- ---- counts of faults
+-- no count of the shelf's faults changed
+pub record ShelfSteady (load_before load_now store_before store_now : List ℕ → ℕ) : Type 0 where
+  pub load : NoneChanged load_before load_now
+  pub store : NoneChanged store_before store_now
+
+-- no count of the shelf's faults changed, or the answer tells of a read fault
+abbrev pub SteadyOrReadFault : Type 0 → Answer → Type 0
+SteadyOrReadFault Steady answer = Steady ⊎ PrintsOnly ReadFault read_fault_line answer

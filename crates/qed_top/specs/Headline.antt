@@ -12,7 +12,7 @@ use Rattle.qed_model.specs.Promise.Kept.{Kept}
 use Rattle.qed_model.specs.Promise.Caught.{Caught}
 use Rattle.qed_model.specs.Text.Plan.{plan_line}
 use Rattle.qed_top.specs.Words.{Transform, asked}
-use Rattle.qed_top.specs.Ends.{OverFiles, Call}
+use Rattle.qed_top.specs.Ends.{OverFiles, Call, Ends, IsComplete}
 use Rattle.qed_top.specs.declared.status.Status.{Status}
 use Rattle.qed_top.specs.declared.status.Status.TheVariants.{Done}
 
@@ -42,3 +42,10 @@ abbrev pub HoldsHeadline : Call → Status → Type 0
 HoldsHeadline call status =
     (input output : List ℕ) → asked call.words ≡ Some (Transform input output) → status ≡ Done
     → OverFiles call.old (λ files. IsDelivered call files input output)
+
+-- all that is said of a call that answers this status: its headline, why the status comes with what was stored and printed, and which
+-- status comes where there is no fault
+pub record Answers (call : Call) (status : Status) : Type 0 where
+  pub headline : HoldsHeadline call status
+  pub ends : Ends call status
+  pub complete : IsComplete call status

@@ -1,8 +1,8 @@
-// What the words and the files call for.
-ghost use Rattle.std.specs.Prelude.{◌≡◌, ◌≢◌, IfOk, OnOk};
+//! What the words and the files call for.
+ghost use Rattle.std.specs.Prelude.{◌≡◌, ◌≢◌, IfOk, OnOk, OnErr};
 ghost use Rattle.qed_io.specs.Counts.{RoseAt, NoneFell};
 ghost use Rattle.qed_top.specs.Words.{Transform, Run, texts};
-ghost use Rattle.qed_top.specs.Answer.{CommandMeans, Delivers, IsMeant, Transforms, refusal_line, refusal_status};
+ghost use Rattle.qed_top.specs.Answer.{CommandMeans, Delivers, IsMeant, ShelfSteady, SteadyOrReadFault, Transforms, refusal_line, refusal_status};
 ghost use Rattle.qed_top.specs.Ends.{OverFiles};
 
 use crate::answer::{Answer, Stored, line, plain, status_of};
@@ -102,16 +102,17 @@ fn decide_transform<'a, S: Shelf>(
         CommandMeans (Transform input.now output.now) files (RoseAt (S.load_faults shelf.old) (S.load_faults shelf.new)) answer)) }
     ensures files { S.files shelf.new ≡ S.files shelf.old }
     ensures stores { NoneFell (S.store_faults shelf.old) (S.store_faults shelf.new) }
+    ensures steady { IfOk result (SteadyOrReadFault (ShelfSteady (S.load_faults shelf.old) (S.load_faults shelf.new) (S.store_faults shelf.old) (S.store_faults shelf.new))) }
+    ensures memory { OnErr result (ShelfSteady (S.load_faults shelf.old) (S.load_faults shelf.new) (S.store_faults shelf.old) (S.store_faults shelf.new)) }
 {
+    // Made before the load, so that want of memory comes before a fault and not in its place.
+    let fault = line(alloc, Status::ReadFault, b"read fault\n")?;
     match shelf.load(alloc, input, LOAD_LIMIT) {
         Ok(bytes) => {
             let answer = answer_transform(alloc, bytes.as_slice(), output)?;
             Ok(answer)
         }
-        Err(LoadError::Failed) => {
-            let answer = line(alloc, Status::ReadFault, b"read fault\n")?;
-            Ok(answer)
-        }
+        Err(LoadError::Failed) => Ok(fault),
         Err(LoadError::TooLong) => {
             let answer = line(alloc, Status::Limit, b"limit L1: over 67108864\n")?;
             Ok(answer)
@@ -130,16 +131,17 @@ fn decide_run<'a, S: Shelf>(
         CommandMeans (Run file.now) files (RoseAt (S.load_faults shelf.old) (S.load_faults shelf.new)) answer)) }
     ensures files { S.files shelf.new ≡ S.files shelf.old }
     ensures stores { NoneFell (S.store_faults shelf.old) (S.store_faults shelf.new) }
+    ensures steady { IfOk result (SteadyOrReadFault (ShelfSteady (S.load_faults shelf.old) (S.load_faults shelf.new) (S.store_faults shelf.old) (S.store_faults shelf.new))) }
+    ensures memory { OnErr result (ShelfSteady (S.load_faults shelf.old) (S.load_faults shelf.new) (S.store_faults shelf.old) (S.store_faults shelf.new)) }
 {
+    // Made before the load, so that want of memory comes before a fault and not in its place.
+    let fault = line(alloc, Status::ReadFault, b"read fault\n")?;
     match shelf.load(alloc, file, RUN_LOAD_LIMIT) {
         Ok(bytes) => {
             let answer = answer_run(alloc, bytes.as_slice())?;
             Ok(answer)
         }
-        Err(LoadError::Failed) => {
-            let answer = line(alloc, Status::ReadFault, b"read fault\n")?;
-            Ok(answer)
-        }
+        Err(LoadError::Failed) => Ok(fault),
         Err(LoadError::TooLong) => {
             let answer = line(alloc, Status::Limit, b"limit L1: over 536870912\n")?;
             Ok(answer)
@@ -148,7 +150,7 @@ fn decide_run<'a, S: Shelf>(
     }
 }
 
-/// What the words and the files call for.
+///! What the words and the files call for.
 pub fn decide<'a, S: Shelf>(
     alloc: Global,
     words: &'a [String],
@@ -157,6 +159,8 @@ pub fn decide<'a, S: Shelf>(
     ensures meant { IfOk result (λ answer. OverFiles (S.files shelf.old) (λ files. IsMeant (texts words.now) files (RoseAt (S.load_faults shelf.old) (S.load_faults shelf.new)) answer)) }
     ensures files { S.files shelf.new ≡ S.files shelf.old }
     ensures stores { NoneFell (S.store_faults shelf.old) (S.store_faults shelf.new) }
+    ensures steady { IfOk result (SteadyOrReadFault (ShelfSteady (S.load_faults shelf.old) (S.load_faults shelf.new) (S.store_faults shelf.old) (S.store_faults shelf.new))) }
+    ensures memory { OnErr result (ShelfSteady (S.load_faults shelf.old) (S.load_faults shelf.new) (S.store_faults shelf.old) (S.store_faults shelf.new)) }
 {
     match read_command(words) {
         Some(Command::Transform { input, output }) => {

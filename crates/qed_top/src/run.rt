@@ -1,4 +1,4 @@
-// What `run` answers.
+//! What `run` answers.
 ghost use Rattle.std.specs.Prelude.{◌≡◌, ◌*◌, ◌^◌, ◌≤◌, IfOk, length};
 ghost use Rattle.qed_model.specs.Machine.Loading.{load_segments};
 ghost use Rattle.mem_image.specs.Segments.{AllFit};
