@@ -10,12 +10,7 @@ use crate::sections::{section_name, section_strings};
 use crate::segments::file_size;
 use crate::symbols::{symbol_name, symbol_strings, symbol_table};
 use elf_types::ElfError;
-
-/// The greatest number of sections.
-const MOST_SECTIONS: u64 = 4096;
-
-/// The greatest number of bytes of segments and names.
-const MOST_BYTES: u128 = 1_073_741_824;
+use qed_model::limits::{MAX_COUNTED_BYTES, MAX_SECTIONS};
 
 /// Whether there are few enough sections.
 #[tactic(auto, unfolding(qed_model::specs::Elf::Rules::section_count_rule))]
@@ -23,7 +18,7 @@ pub fn check_section_count(file: &Parts) -> Result<(), ElfError>
     ensures { result ≡ section_count_rule file.now }
 {
     let count = file.tables().shnum();
-    if count > MOST_SECTIONS {
+    if count > MAX_SECTIONS {
         return Err(ElfError::TooManySections(count));
     }
     Ok(())
@@ -71,7 +66,7 @@ pub fn check_byte_count(file: &Parts) -> Result<(), ElfError>
     ensures { result ≡ byte_count_rule file.now }
 {
     let count = counted_bytes(file);
-    if count > MOST_BYTES {
+    if count > u128::from(MAX_COUNTED_BYTES) {
         let most = u128::from(u64::MAX);
         return Err(ElfError::TooManyBytes(count.min(most) as u64));
     }

@@ -1,5 +1,8 @@
 // The parts of the file, one behind the other.
 ghost use Rattle.std.specs.Prelude.{◌≡◌, ◌-◌, ◌^◌, ◌<◌, ◌≤◌, ◌++◌, OnOk, All, length};
+ghost use Rattle.qed_model.specs.declared.limits.TheConstants.{MAX_OUTPUT_SECTIONS};
+ghost use Rattle.qed_model.specs.declared.limits.Limit.TheVariants as limit;
+ghost use Rattle.qed_model.specs.Limits.{limit_of};
 ghost use Rattle.qed_model.specs.Elf.Layout.{IsSymbol, names_bytes, table_names, headers_bytes, headers_of, table_headers, table_header as header_of_table, tables_bytes};
 ghost use Rattle.elf_write.specs.Parts.{front_bytes, own_and_symbols, names_of};
 ghost use Rattle.elf_write.specs.Widths.{FrontFits, SectionFits, SymbolFits, TablesFit};
@@ -35,9 +38,9 @@ const NULL: SectionHeader = SectionHeader {
 /// Appends the header, the program headers and the bytes of the segments.
 pub fn push_front(out: &mut Vec<u8>, file: &OutFile, places: &Places) -> Result<(), AllocError>
     requires places { ArePlaces file.now places.now }
-    requires size { EndsWithin 1073741824 file.now }
-    requires few_segments { length file.now.segments ≤ 4000 }
-    requires few_sections { length file.now.sections ≤ 4000 }
+    requires size { EndsWithin (limit_of limit.CountedBytes) file.now }
+    requires few_segments { length file.now.segments ≤ limit_of limit.OutputSegments }
+    requires few_sections { length file.now.sections ≤ MAX_OUTPUT_SECTIONS }
     ensures bytes { OnOk result (out.new.items ≡ out.old.items ++ front_bytes file.now) }
     ensures fits { OnOk result (FrontFits file.now) }
 {
@@ -65,7 +68,7 @@ fn push_own_and_symbols(
     places: &Places,
 ) -> Result<(), AllocError>
     requires places { ArePlaces file.now places.now }
-    requires size { EndsWithin 1073741824 file.now }
+    requires size { EndsWithin (limit_of limit.CountedBytes) file.now }
     requires symbols { All IsSymbol file.now.symbols }
     ensures bytes { OnOk result (out.new.items ≡ out.old.items ++ own_and_symbols file.now) }
     ensures fits { OnOk result (All SymbolFits file.now.symbols) }
@@ -99,8 +102,8 @@ fn push_table_names(out: &mut Vec<u8>) -> Result<(), AllocError>
 /// Appends the section headers: the null section, the given ones, and the tables that are added.
 fn push_headers(out: &mut Vec<u8>, file: &OutFile, places: &Places) -> Result<(), AllocError>
     requires places { ArePlaces file.now places.now }
-    requires size { EndsWithin 1073741824 file.now }
-    requires few_sections { length file.now.sections ≤ 4000 }
+    requires size { EndsWithin (limit_of limit.CountedBytes) file.now }
+    requires few_sections { length file.now.sections ≤ MAX_OUTPUT_SECTIONS }
     ensures bytes { OnOk result (out.new.items ≡ out.old.items ++ headers_bytes (headers_of file.now)) }
     ensures fits { OnOk result (All SectionFits file.now.sections) }
 {
@@ -119,8 +122,8 @@ fn push_headers(out: &mut Vec<u8>, file: &OutFile, places: &Places) -> Result<()
 /// Appends the headers of the tables that are added.
 fn push_table_headers(out: &mut Vec<u8>, file: &OutFile, places: &Places) -> Result<(), AllocError>
     requires places { ArePlaces file.now places.now }
-    requires size { EndsWithin 1073741824 file.now }
-    requires few_sections { length file.now.sections ≤ 4000 }
+    requires size { EndsWithin (limit_of limit.CountedBytes) file.now }
+    requires few_sections { length file.now.sections ≤ MAX_OUTPUT_SECTIONS }
     ensures { OnOk result (out.new.items ≡ out.old.items ++ headers_bytes (table_headers file.now)) }
 {
     let sections = file.sections.as_slice().len() as u32;
@@ -168,8 +171,8 @@ fn table_header(name: u32, kind: u32, from: u128, to: u128) -> SectionHeader
 /// Appends what stands behind the segments.
 pub fn push_tables(out: &mut Vec<u8>, file: &OutFile, places: &Places) -> Result<(), AllocError>
     requires places { ArePlaces file.now places.now }
-    requires size { EndsWithin 1073741824 file.now }
-    requires few_sections { length file.now.sections ≤ 4000 }
+    requires size { EndsWithin (limit_of limit.CountedBytes) file.now }
+    requires few_sections { length file.now.sections ≤ MAX_OUTPUT_SECTIONS }
     requires symbols { All IsSymbol file.now.symbols }
     ensures bytes { OnOk result (out.new.items ≡ out.old.items ++ tables_bytes file.now) }
     ensures fits { OnOk result (TablesFit file.now) }

@@ -1,5 +1,6 @@
 // The records of the file's tables (ELF gABI): header, program header, symbol, section header.
 ghost use Rattle.std.specs.Prelude.{◌≡◌, ◌+◌, ◌^◌, ◌<◌, ◌≤◌, ◌++◌, OnOk, length};
+ghost use Rattle.qed_model.specs.declared.limits.TheConstants.{MAX_OUTPUT_SECTIONS};
 ghost use Rattle.qed_model.specs.Elf.Written.{fields_bytes, program_fields};
 ghost use Rattle.elf_write.specs.Widths.{SegmentFits};
 ghost use Rattle.qed_model.specs.Elf.Layout.{file_fields, symbol_bytes, header_bytes, alignment as alignment_of};
@@ -30,7 +31,7 @@ pub fn push_header(
     headers: u64,
     sections: u16,
 ) -> Result<(), AllocError>
-    requires { sections ≤ 4000 }
+    requires { sections ≤ MAX_OUTPUT_SECTIONS }
     ensures bytes { OnOk result (out.new.items ≡ out.old.items ++ fields_bytes (file_fields entry flags segments headers sections)) }
     ensures fits { (entry < 2 ^ 64) × (flags < 2 ^ 32) }
 {

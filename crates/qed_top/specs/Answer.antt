@@ -17,7 +17,9 @@ use Rattle.qed_model.specs.Machine.Progress.{Progress, progress, begun}
 use Rattle.qed_model.specs.Machine.Loading.{loaded_file}
 use Rattle.qed_model.specs.Text.Plan.{plan_line, usage_line, read_fault_line, load_limit, load_limit_line, run_load_limit, run_load_limit_line, not_built_line}
 use Rattle.qed_model.specs.Text.Run.{run_lines}
-use Rattle.qed_model.specs.Text.Errors.{error_line, memory_limit_line, high_register_line, segment_limit_line, size_limit_line}
+use Rattle.qed_model.specs.Limits.{limit_of}
+use Rattle.qed_model.specs.declared.limits.Limit.TheVariants as limit
+use Rattle.qed_model.specs.Text.Errors.{error_line, limit_line, high_register_line}
 use Rattle.transform.specs.declared.error.TransformError.{TransformError}
 use Rattle.transform.specs.declared.error.TransformError.TheVariants as transform
 use Rattle.transform.specs.declared.error.AdmitError.TheVariants as admit
@@ -73,8 +75,8 @@ refusal_line (transform.Elf e) = error_line e
 refusal_line transform.NotBuilt = not_built_line
 refusal_line (transform.Admit (admit.RegisterHalf at register)) = high_register_line at register
 refusal_line (transform.Admit admit.Memory) = []
-refusal_line (transform.TooManySegments n) = segment_limit_line n
-refusal_line (transform.FileTooLong n) = size_limit_line n
+refusal_line (transform.TooManySegments n) = limit_line limit.OutputSegments n
+refusal_line (transform.FileTooLong n) = limit_line limit.OutputBytes n
 refusal_line transform.Memory = []
 
 -- IN is not transformed: it is not read (E1 to E13, L5, L10), it is no straight test (E0), it names a register above x13 (A7), or
@@ -111,14 +113,14 @@ memory_bytes (s ∷ segments) = cond (s.kind == 1) s.memory 0 + memory_bytes seg
 
 -- how many of them can be run
 abbrev pub memory_limit : ℕ
-memory_limit = 268435456
+memory_limit = limit_of limit.MemoryBytes
 
 -- L6: the segments have too many bytes in memory
 pub record IsTooLarge (bytes : List ℕ) (answer : Answer) : Type 0 where
   pub file : ElfFile
   pub read : File bytes file
   pub cause : memory_limit < memory_bytes file.segments
-  pub plain : PrintsOnly Limit (memory_limit_line (memory_bytes file.segments)) answer
+  pub plain : PrintsOnly Limit (limit_line limit.MemoryBytes (memory_bytes file.segments)) answer
 
 -- how many steps `run` makes
 abbrev pub default_steps : ℕ

@@ -3,14 +3,15 @@ ghost use Rattle.std.specs.Prelude.{◌≡◌, ◌≢◌, ◌⊎◌, ◌≤◌, 
 ghost use Rattle.std.specs.Io.KnownBytes.{Appends};
 ghost use Rattle.qed_io.specs.Counts.{Rose, RoseAt, NoneFell};
 ghost use Rattle.qed_io.specs.Sink.{AppendsPart};
-ghost use Rattle.qed_model.specs.Text.Errors.{error_line};
+ghost use Rattle.qed_model.specs.Text.Errors.{error_line, limit_line};
 ghost use Rattle.qed_top.specs.Answer.{error_status, PrintsOnly, FilesAfter, FilesInPart, StoreRose, ShelfSteady};
 
 use crate::fault::Fault;
 use crate::status::Status;
 use elf_types::{Bytes, ElfError};
 use qed_io::{Shelf, Sink, put_all};
-use report::error_text;
+use qed_model::Limit;
+use report::{error_text, limit_text};
 use std::alloc::{AllocError, Global};
 
 /// A file to be stored.
@@ -45,6 +46,14 @@ pub fn line<'a>(alloc: Global, status: Status, text: &[u8]) -> Result<Answer<'a>
 {
     let text = Bytes::copied(alloc, text)?;
     Ok(plain(status, text))
+}
+
+/// The answer where a number is above a limit.
+pub fn above_limit<'a>(alloc: Global, limit: Limit, count: u128) -> Result<Answer<'a>, AllocError>
+    ensures { IfOk result (PrintsOnly Status.Limit (limit_line limit count)) }
+{
+    let text = limit_text(alloc, limit, count)?;
+    Ok(plain(Status::Limit, text))
 }
 
 /// The status that goes with a file that is not read.

@@ -6,17 +6,15 @@ ghost use Rattle.mem_image.specs.Overlap.{AreApart};
 ghost use Rattle.qed_top.specs.Answer.{memory_bytes, outcome_status, run_of, Runs};
 ghost use Rattle.qed_top.specs.Run.{FileRuns};
 
-use crate::answer::{Answer, plain, unread};
+use crate::answer::{Answer, above_limit, plain, unread};
 use crate::status::Status;
 use elf_read::read_elf;
 use elf_types::{ElfError, ElfFile, Segment};
-use qed_model::Outcome;
-use report::{memory_limit_text, run_text};
+use qed_model::limits::MAX_MEMORY_BYTES;
+use qed_model::{Limit, Outcome};
+use report::run_text;
 use rv_step::Machine;
 use std::alloc::{AllocError, Global};
-
-/// How many bytes of memory the segments of a file to be run may have.
-const MEMORY_LIMIT: u128 = 268_435_456;
 
 /// How many steps are made.
 const STEPS: u64 = 1_000_000;
@@ -56,9 +54,9 @@ fn answer_file<'a>(alloc: Global, file: &ElfFile) -> Result<Answer<'a>, AllocErr
     ensures { IfOk result (FileRuns file.now) }
 {
     let size = memory_size(file.segments.as_slice());
-    if size > MEMORY_LIMIT {
-        let text = memory_limit_text(alloc, size)?;
-        return Ok(plain(Status::Limit, text));
+    if size > u128::from(MAX_MEMORY_BYTES) {
+        let answer = above_limit(alloc, Limit::MemoryBytes, size)?;
+        return Ok(answer);
     }
     let mut machine = Machine::start(alloc, file, &[0; 32])?;
     let outcome = machine.run(STEPS);

@@ -7,6 +7,9 @@ use Rattle.elf_types.specs.declared.output.OutFile.{OutFile}
 use Rattle.elf_types.specs.declared.output.OutSection.{OutSection}
 use Rattle.elf_types.specs.declared.records.SectionHeader.{SectionHeader}
 use Rattle.elf_types.specs.declared.records.SymbolEntry.{SymbolEntry}
+use Rattle.qed_model.specs.declared.limits.Limit.TheVariants as limit
+use Rattle.qed_model.specs.declared.limits.TheConstants.{MAX_OUTPUT_SECTIONS}
+use Rattle.qed_model.specs.Limits.{limit_of}
 use Rattle.qed_model.specs.Elf.Written.{fields_bytes, offset_from, end_from, program_headers, segments_bytes}
 
 -- the next multiple of 8
@@ -269,13 +272,13 @@ pub record IsWritable (f : OutFile) : Type 0 where
   pub segments : All IsLoadable f.segments
   pub ascend : AllPairs (λ s t. s.address ≤ t.address) f.segments
   pub apart : AllPairs (λ s t. do_share s t ≡ false) f.segments
-  pub few_segments : length f.segments ≤ 4000
+  pub few_segments : length f.segments ≤ limit_of limit.OutputSegments
   pub sections : All (IsPlaced f.segments) f.sections
   pub section_names : All (λ x. IsName x.name) f.sections
-  pub few_sections : length f.sections ≤ 4000
+  pub few_sections : length f.sections ≤ MAX_OUTPUT_SECTIONS
   pub symbols : All IsSymbol f.symbols
   pub symbol_names : All (λ s. IsName s.name) f.symbols
   pub not_null : All (λ s. s ≢ null_symbol) f.symbols
   -- no symbol of another binding comes before one of STB_LOCAL
   pub locals_first : AllPairs (λ s t. t.binding ≡ 0 → s.binding ≡ 0) f.symbols
-  pub size : length (written f) ≤ 1073741824
+  pub size : length (written f) ≤ limit_of limit.CountedBytes

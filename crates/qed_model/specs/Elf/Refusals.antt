@@ -6,6 +6,8 @@ use Rattle.elf_types.specs.declared.error.ElfError.TheVariants as error
 use Rattle.elf_types.specs.declared.error.Part.{Part}
 use Rattle.elf_types.specs.declared.error.Part.TheVariants as part
 use Rattle.elf_types.specs.declared.records.SectionHeader.{SectionHeader}
+use Rattle.qed_model.specs.declared.limits.Limit.TheVariants as limit
+use Rattle.qed_model.specs.Limits.{limit_of}
 use Rattle.qed_model.specs.Below.{IsFirstBelow}
 use Rattle.qed_model.specs.Elf.Header.{HasMagic, e_type, e_machine, e_version, e_phoff, e_shoff, e_ehsize, e_phentsize, e_phnum, e_shnum}
 use Rattle.qed_model.specs.Elf.Fields.{e_class, e_encoding, e_ident_version, e_shentsize, e_shstrndx, program_header, section_header, rela_entry}
@@ -72,8 +74,8 @@ HasFault file (error.SegmentOverlap i j) = IsFirstOverlap file i j
 HasFault file (error.SectionShape i) = IsFirstBelow (e_shnum file) (is_section_misshapen file) i
 HasFault file (error.SymbolShape j) = IsFirstSymbolFault file j
 HasFault file (error.RelaShape i k) = IsFirstRelaFault file i k
-HasFault file (error.TooManySections count) = (count ≡ e_shnum file) × (4096 < count)
-HasFault file (error.TooManyBytes count) = (count ≡ min (counted_bytes file) (2 ^ 64 - 1)) × (1_073_741_824 < counted_bytes file)
+HasFault file (error.TooManySections count) = (count ≡ e_shnum file) × (limit_of limit.Sections < count)
+HasFault file (error.TooManyBytes count) = (count ≡ min (counted_bytes file) (2 ^ 64 - 1)) × (limit_of limit.CountedBytes < counted_bytes file)
 HasFault file error.Memory = ⊥
 
 -- the error names the first rule that refuses the file, and its fault is in the file
@@ -112,5 +114,5 @@ pub record IsAccepted (file : List ℕ) : Type 0 where
   pub section_shapes : (i : ℕ) → i < e_shnum file → is_section_misshapen file i ≡ false
   pub symbols : (i : ℕ) → symbol_table file ≡ Some i → AreSymbols file (section_header file i)
   pub relas : (i : ℕ) → i < e_shnum file → is_counted file (section_header file i) ≡ true → AreRelas file (section_header file i)
-  pub few_sections : e_shnum file ≤ 4096
-  pub few_bytes : counted_bytes file ≤ 1_073_741_824
+  pub few_sections : e_shnum file ≤ limit_of limit.Sections
+  pub few_bytes : counted_bytes file ≤ limit_of limit.CountedBytes

@@ -6,6 +6,8 @@ use Rattle.elf_types.specs.declared.error.ElfError.TheVariants as error
 use Rattle.elf_types.specs.declared.error.Part.TheVariants as part
 use Rattle.elf_types.specs.declared.records.ProgramHeader.{ProgramHeader}
 use Rattle.elf_types.specs.declared.records.SectionHeader.{SectionHeader}
+use Rattle.qed_model.specs.declared.limits.Limit.TheVariants as limit
+use Rattle.qed_model.specs.Limits.{limit_of}
 use Rattle.qed_model.specs.Below.{first, sum_below}
 use Rattle.qed_model.specs.Numbers.{field}
 use Rattle.qed_model.specs.Elf.Header.{e_type, e_machine, e_version, e_phoff, e_shoff, e_ehsize, e_phentsize, e_phnum, e_shnum}
@@ -279,7 +281,7 @@ rela_shape_rule file = refuse_found_at error.RelaShape (λ i. rela_fault file (s
 
 -- more than 4,096 sections
 unfoldable pub section_count_rule : List ℕ → Check
-section_count_rule file = refuse (error.TooManySections (e_shnum file)) (nat_lt 4096 (e_shnum file))
+section_count_rule file = refuse (error.TooManySections (e_shnum file)) (nat_lt (limit_of limit.Sections) (e_shnum file))
 
 -- the bytes of a segment in the file
 abbrev pub file_size : ProgramHeader → ℕ
@@ -297,9 +299,9 @@ counted_bytes file =
     + sum_below (e_shnum file) (λ i. length (section_name file i))
     + symbol_name_bytes file (symbol_table file)
 
--- more than 1,073,741,824 bytes; the count is given up to 2^64 - 1
+-- more than the limit; the count is given up to 2^64 - 1
 unfoldable pub byte_count_rule : List ℕ → Check
-byte_count_rule file = refuse (error.TooManyBytes (min (counted_bytes file) (2 ^ 64 - 1))) (nat_lt 1_073_741_824 (counted_bytes file))
+byte_count_rule file = refuse (error.TooManyBytes (min (counted_bytes file) (2 ^ 64 - 1))) (nat_lt (limit_of limit.CountedBytes) (counted_bytes file))
 
 -- ---- all rules, in order
 

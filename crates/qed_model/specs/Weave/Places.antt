@@ -2,6 +2,7 @@
 use Rattle.std.specs.Prelude.{◌≡◌, ℕ, ◌+◌, ◌*◌, ◌%◌, ◌≤◌, Option, unwrap_or, IfSome, List}
 use Rattle.elf_types.specs.declared.file.Segment.{Segment}
 use Rattle.elf_types.specs.declared.file.ElfFile.{ElfFile}
+use Rattle.qed_model.specs.declared.limits.TheConstants.{MAX_HALF}
 use Rattle.qed_model.specs.declared.options.Options.{Options}
 use Rattle.qed_model.specs.Admission.Terms.{image_segments}
 use Rattle.qed_model.specs.Weave.OutputParts.{base_of, distance_of}
@@ -13,7 +14,7 @@ pub record AreSound (o : Options) : Type 0 where
   pub most : o.inst_max ≤ 1024
   pub visits : 1 ≤ o.round
   pub few_visits : o.round ≤ 1024
-  pub half : IfSome o.half (λ h. (h % 4096 ≡ 0) × (4096 ≤ h) × (h ≤ 536_870_912))
+  pub half : IfSome o.half (λ h. (h % 4096 ≡ 0) × (4096 ≤ h) × (h ≤ MAX_HALF))
 
 -- the segments of a file that are its image
 abbrev pub image_of : ElfFile → List Segment
