@@ -15,7 +15,7 @@ use Rattle.qed_model.specs.Weave.Woven.{code_size, new_entries, shape_of, is_far
 use Rattle.qed_model.specs.Weave.Bounds.{bounds_of}
 use Rattle.qed_model.proofs.ExampleCode as code
 use Rattle.qed_model.proofs.ExampleBlocks as made
-use Rattle.qed_model.proofs.ExampleCode.{IsCodeOf, defaults}
+use Rattle.qed_model.proofs.ExampleCode.{IsCodeOf, defaults, swept}
 use Rattle.qed_model.proofs.LoopFile.{loop}
 
 -- ---- its instructions
@@ -40,6 +40,10 @@ loop_known = record { range = refl; grain = refl; stand = (refl, (refl, (refl, (
 
 pub loop_admitted : IsAdmitted loop defaults
 loop_admitted = code.admitted loop 0x10000 loop_code loop_known refl defaults refl refl (omega arith) (omega arith) (omega arith) (omega arith)
+
+-- and with the sweep
+pub loop_swept_admitted : IsAdmitted loop swept
+loop_swept_admitted = code.admitted loop 0x10000 loop_code loop_known refl swept refl refl (omega arith) (omega arith) (omega arith) (omega arith)
 
 -- ---- its blocks: the first falls to the target of the branch, and an ECALL stands behind it
 abbrev pub loop_blocks : List Block

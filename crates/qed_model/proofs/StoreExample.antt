@@ -19,41 +19,41 @@ use Rattle.qed_model.proofs.ExampleCode.{IsCodeOf, defaults, swept}
 use Rattle.qed_model.proofs.StoreFile.{store}
 
 -- ---- its instructions
-abbrev lui : Ins
+abbrev pub lui : Ins
 lui = ins Lui 8 0 0 (pos 0x20000)
 
-abbrev ld : Ins
+abbrev pub ld : Ins
 ld = ins Ld 9 8 0 (pos 0)
 
-abbrev add : Ins
+abbrev pub add : Ins
 add = ins Add 10 9 9 (pos 0)
 
-abbrev sd : Ins
+abbrev pub sd : Ins
 sd = ins Sd 0 8 10 (pos 0)
 
-abbrev ecall : Ins
+abbrev pub ecall : Ins
 ecall = ins Ecall 0 0 0 (pos 0)
 
-abbrev all : List Ins
-all = lui ∷ ld ∷ add ∷ sd ∷ ecall ∷ []
+abbrev pub store_code : List Ins
+store_code = lui ∷ ld ∷ add ∷ sd ∷ ecall ∷ []
 
-known : IsCodeOf store 0x10000 all
+pub store_known : IsCodeOf store 0x10000 store_code
 unfolding number_among decode_of ins_of
-known = record { range = refl; grain = refl; stand = (refl, (refl, (refl, (refl, (refl, tt))))) }
+store_known = record { range = refl; grain = refl; stand = (refl, (refl, (refl, (refl, (refl, tt))))) }
 
 pub store_admitted : IsAdmitted store defaults
-store_admitted = code.admitted store 0x10000 all known refl defaults refl refl (omega arith) (omega arith) (omega arith) (omega arith)
+store_admitted = code.admitted store 0x10000 store_code store_known refl defaults refl refl (omega arith) (omega arith) (omega arith) (omega arith)
 
 -- and with the sweep
 pub store_swept_admitted : IsAdmitted store swept
-store_swept_admitted = code.admitted store 0x10000 all known refl swept refl refl (omega arith) (omega arith) (omega arith) (omega arith)
+store_swept_admitted = code.admitted store 0x10000 store_code store_known refl swept refl refl (omega arith) (omega arith) (omega arith) (omega arith)
 
 -- ---- its block: runs of 1, 2 and 1 instructions
 abbrev pub store_blocks : List Block
 store_blocks = record { start = 0x10000; body = (lui ∷ []) ∷ (ld ∷ add ∷ []) ∷ (sd ∷ []) ∷ []; end = Stops ecall } ∷ []
 
 pub store_are : AreBlocks store 16 store_blocks
-store_are = made.are_blocks store 0x10000 all known 16 store_blocks refl refl (inl (made.stopping store 0x10000 all known 16 [] ((lui ∷ []) ∷ (ld ∷ add ∷ []) ∷ (sd ∷ []) ∷ []) ecall [] refl refl refl), tt)
+store_are = made.are_blocks store 0x10000 store_code store_known 16 store_blocks refl refl (inl (made.stopping store 0x10000 store_code store_known 16 [] ((lui ∷ []) ∷ (ld ∷ add ∷ []) ∷ (sd ∷ []) ∷ []) ecall [] refl refl refl), tt)
 
 -- ---- its numbers
 size : code_size store defaults store_blocks ≡ 660
