@@ -16,9 +16,9 @@ use Rattle.qed_model.specs.Promise.Closed.{is_closed, uses, guards_other}
 use Rattle.qed_model.specs.Promise.Kept.{after_output}
 use Rattle.qed_model.proofs.ExampleCode.{defaults}
 use Rattle.qed_model.proofs.LoopFile.{loop_bytes, loop}
-use Rattle.qed_model.proofs.LoopExample.{loop_blocks}
+use Rattle.qed_model.proofs.LoopExample.{loop_plan, loop_told, loop_blocks}
 use Rattle.weave_core.proofs.ListedRuns.{are_zeros, state_of}
-use Rattle.weave_core.proofs.LoopKept.{loop_words, loop_input, loop_output, loop_plan, loop_told, loop_new_code, loop_stand, output_run, input_ended}
+use Rattle.weave_core.proofs.LoopKept.{loop_words, loop_input, loop_output, loop_new_code, loop_stand, output_run, input_ended}
 use Rattle.lockstep.proofs.ListedChanges.{changed_go, closed_there}
 use Rattle.lockstep.proofs.Tests.{tests_caught}
 

@@ -10,8 +10,8 @@ use Rattle.qed_model.specs.Promise.Caught.{Caught, Settles}
 use Rattle.qed_model.specs.Promise.Clean.{Clean}
 use Rattle.qed_model.proofs.ExampleCode.{defaults, swept}
 use Rattle.qed_model.proofs.StoreFile.{store_bytes, store}
-use Rattle.qed_model.proofs.StoreExample.{store_blocks}
-use Rattle.weave_core.proofs.StoreKept.{store_words, swept_words, store_input, store_output, swept_output, store_plan, store_told}
+use Rattle.qed_model.proofs.StoreExample.{store_plan, store_told, store_blocks}
+use Rattle.weave_core.proofs.StoreKept.{store_words, swept_words, store_input, store_output, swept_output}
 use Rattle.weave_core.proofs.ListedRuns.{are_zeros}
 use Rattle.weave_core.proofs.StoreRun.{store_calm}
 use Rattle.lockstep.proofs.Tests.{tests_caught, tests_clean}

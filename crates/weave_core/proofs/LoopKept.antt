@@ -1,8 +1,7 @@
 -- A known file, a test with a loop: the promise holds of it, and its run and that of its output are worked out on the definitions.
-use Rattle.std.proofs.Common.{◌≡◌, inl, inr, ℕ, ◌+◌, ◌-◌, ◌≤◌, true, false, List, [], ◌∷◌, None, refl, sym, ap, ◌∙◌, arith}
+use Rattle.std.proofs.Common.{◌≡◌, inl, inr, ℕ, ◌+◌, ◌-◌, ◌≤◌, true, false, List, [], ◌∷◌, refl, sym, ap, ◌∙◌, arith}
 use Rattle.rv_isa.specs.declared.ins.Ins.{Ins}
 use Rattle.qed_model.specs.declared.machine.Outcome.TheVariants.{Going, Ended}
-use Rattle.qed_model.specs.declared.plan.Plan.{Plan}
 use Rattle.qed_model.specs.Elf.FileRead.{file_read}
 use Rattle.qed_model.specs.Machine.Loading.{load_segments, loaded_file}
 use Rattle.qed_model.specs.Machine.Program.{Program, memory_of, start, zeros}
@@ -11,11 +10,11 @@ use Rattle.qed_model.specs.Machine.Values.{value, holds}
 use Rattle.qed_model.specs.Promise.Kept.{Halves, Kept, after_input, after_output, is_trapped, NotTrapped}
 use Rattle.qed_model.specs.Promise.Landed.{Landed, Fires, placed_at}
 use Rattle.qed_model.specs.Weave.Placed.{placed}
-use Rattle.qed_model.specs.Weave.Woven.{woven_file, new_items, IsToldOf}
+use Rattle.qed_model.specs.Weave.Woven.{woven_file, new_items}
 use Rattle.qed_model.proofs.ExampleCode.{defaults, sound}
 use Rattle.qed_model.proofs.Fetches.{IsShapely}
 use Rattle.qed_model.proofs.LoopFile.{loop_bytes, loop, loop_read, loop_fit}
-use Rattle.qed_model.proofs.LoopExample.{loop_code, loop_known, loop_admitted, loop_blocks, loop_are}
+use Rattle.qed_model.proofs.LoopExample.{loop_plan, loop_told, loop_code, loop_known, loop_admitted, loop_blocks, loop_are}
 use Rattle.qed_model.proofs.RangeSegments.{AreLoads}
 use Rattle.qed_model.proofs.ReadLoads.{read_loads}
 use Rattle.qed_model.proofs.Walk.{run-more}
@@ -34,21 +33,6 @@ loop_input = loaded_file loop
 
 abbrev pub loop_output : Program
 loop_output = loaded_file (file_read (woven_file loop defaults loop_blocks loop_words.0))
-
-abbrev pub loop_plan : Plan
-loop_plan = record {
-  base = 0x10000;
-  distance = 0x1000;
-  words = 0;
-  code_bytes = 560;
-  entries = record { input = 0x10000; output = 0x13078 } ∷ record { input = 0x10004; output = 0x13104 } ∷ record { input = 0x1000c; output = 0x131b0 } ∷ [];
-  pieces = record { entry = 0x10000; first = 0x10000; length = 1 } ∷ record { entry = 0x10004; first = 0x10004; length = 1 } ∷ record { entry = 0x1000c; first = 0x1000c; length = 0 } ∷ [];
-  span = [];
-  bounds = record { piece = 120; register = 272; word = None; start = 32 };
-}
-
-pub loop_told : IsToldOf loop defaults loop_blocks loop_plan
-loop_told = record { base = refl; distance = refl; words = refl; code_bytes = refl; entries = refl; pieces = refl; span = refl; bounds = refl }
 
 loop_kept : Kept loop_input loop_output 32 120
 loop_kept = tests_kept loop_bytes loop defaults loop_blocks loop_words.0 loop_plan loop_words.1 loop_told
