@@ -26,10 +26,6 @@ pub neither : (a b : Bool) → (a || b) ≡ false → (a ≡ false) × (b ≡ fa
 neither true b e = absurd (false≢true (sym e))
 neither false b e = (refl, e)
 
-pub is_false : (b : Bool) → not b ≡ true → b ≡ false
-is_false true e = absurd (false≢true e)
-is_false false e = refl
-
 none_passes : {A : Type 0} (test : A → Bool) (xs : List A) → list_any test xs ≡ false → (i : ℕ) → passes_at test (slice_get xs i) ≡ false
 none_passes test [] e i = refl
 none_passes test (x ∷ xs) e zero = (neither (test x) (list_any test xs) e).0

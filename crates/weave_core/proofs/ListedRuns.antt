@@ -1,5 +1,5 @@
 -- Runs that are worked out over a list of instructions: of code without loads and stores, whose instructions are known.
-use Rattle.std.proofs.Common.{◌≡◌, ℕ, zero, suc, ◌+◌, ◌%◌, ◌^◌, Bool, true, false, cond, ◌&&◌, List, [], ◌∷◌, Option, Some, None, refl, sym, ap, ◌∙◌}
+use Rattle.std.proofs.Common.{◌≡◌, ℕ, zero, suc, ◌+◌, ◌%◌, ◌^◌, Bool, true, false, cond, ◌&&◌, List, [], ◌∷◌, Option, Some, None, refl, sym, ap, ◌∙◌, arith}
 use Rattle.std.specs.Prelude.{◌==◌}
 use Rattle.std.proofs.lemmas.Bool.{eqb-true, and_parts}
 use Rattle.rv_isa.specs.declared.ins.Ins.{Ins}
@@ -13,8 +13,17 @@ use Rattle.qed_model.specs.declared.machine.Cause.TheVariants as cause
 use Rattle.qed_model.specs.Machine.Memory.{Memory}
 use Rattle.qed_model.specs.Machine.Values.{holds}
 use Rattle.qed_model.specs.Machine.Step.{State, reg, moved, imm, next_pc, Fetched, Known, HasAt, fetched_at, next, jumped, execute, trapped, step, run}
-use Rattle.qed_model.specs.Machine.Program.{Program, memory_of}
+use Rattle.qed_model.specs.Machine.Program.{Program, AreStartRegs, memory_of, zeros}
+use Rattle.elf_types.specs.declared.file.ElfFile.{ElfFile}
+use Rattle.qed_model.specs.Machine.Loading.{loaded_file}
+use Rattle.qed_model.proofs.ExampleCode.{StandFrom}
+use Rattle.qed_model.proofs.ExampleFile.{are_bytes}
+use Rattle.qed_model.proofs.Fetches.{IsShapely, known_instruction}
 use Rattle.qed_model.proofs.Steps.{step-known}
+
+-- a start from registers 0
+pub are_zeros : AreStartRegs zeros
+are_zeros = record { count = refl; fit = λ r. let b = are_bytes zeros refl r in omega (arith, b) }
 
 -- the instruction at an address, of some that stand one after the other
 abbrev pub instruction_at : ℕ → List Ins → ℕ → Option Ins
@@ -112,3 +121,8 @@ module _ (m : Memory) (ranges : List (ℕ × ℕ)) (base : ℕ) (is : List Ins) 
 -- a state of a run that has left the memory of a file as it was
 abbrev pub state_of : Program → List ℕ → ℕ → Outcome → State
 state_of f regs pc outcome = record { regs = regs; pc = pc; memory = memory_of f.segments; ranges = f.ranges; outcome = outcome }
+
+-- the code of a file whose instructions are known
+pub has_code : (f : ElfFile) → IsShapely f → (a : ℕ) (is : List Ins) → StandFrom f a is → HasAt (fetched_at (memory_of (loaded_file f).segments) (loaded_file f).ranges) a is
+has_code f h a [] s = tt
+has_code f h a (i ∷ is) s = (known_instruction f h a i s.0, has_code f h (a + 4) is s.1)

@@ -1,28 +1,25 @@
 -- A known file, a test with a loop: the promise holds of it, and its run and that of its output are worked out on the definitions.
-use Rattle.std.proofs.Common.{◌≡◌, inl, inr, ℕ, ◌+◌, ◌-◌, ◌≤◌, true, false, List, [], ◌∷◌, None, refl, sym, ap, ◌∙◌, arith}
-use Rattle.elf_types.specs.declared.file.ElfFile.{ElfFile}
+use Rattle.std.proofs.Common.{◌≡◌, inl, inr, ℕ, ◌+◌, ◌-◌, ◌≤◌, true, false, List, [], ◌∷◌, refl, sym, ap, ◌∙◌, arith}
 use Rattle.rv_isa.specs.declared.ins.Ins.{Ins}
 use Rattle.qed_model.specs.declared.machine.Outcome.TheVariants.{Going, Ended}
-use Rattle.qed_model.specs.declared.plan.Plan.{Plan}
 use Rattle.qed_model.specs.Elf.FileRead.{file_read}
 use Rattle.qed_model.specs.Machine.Loading.{load_segments, loaded_file}
-use Rattle.qed_model.specs.Machine.Program.{Program, AreStartRegs, memory_of, start, zeros}
+use Rattle.qed_model.specs.Machine.Program.{Program, memory_of, start, zeros}
 use Rattle.qed_model.specs.Machine.Step.{HasAt, fetched_at, execute, jumped, computed_value}
 use Rattle.qed_model.specs.Machine.Values.{value, holds}
 use Rattle.qed_model.specs.Promise.Kept.{Halves, Kept, after_input, after_output, is_trapped, NotTrapped}
 use Rattle.qed_model.specs.Promise.Landed.{Landed, Fires, placed_at}
 use Rattle.qed_model.specs.Weave.Placed.{placed}
-use Rattle.qed_model.specs.Weave.Woven.{woven_file, new_items, IsToldOf}
-use Rattle.qed_model.proofs.ExampleCode.{StandFrom, defaults, sound}
-use Rattle.qed_model.proofs.ExampleFile.{are_bytes}
-use Rattle.qed_model.proofs.Fetches.{IsShapely, known_instruction}
+use Rattle.qed_model.specs.Weave.Woven.{woven_file, new_items}
+use Rattle.qed_model.proofs.ExampleCode.{defaults, sound}
+use Rattle.qed_model.proofs.Fetches.{IsShapely}
 use Rattle.qed_model.proofs.LoopFile.{loop_bytes, loop, loop_read, loop_fit}
-use Rattle.qed_model.proofs.LoopExample.{loop_code, loop_known, loop_admitted, loop_blocks, loop_are}
+use Rattle.qed_model.proofs.LoopExample.{loop_plan, loop_told, loop_code, loop_known, loop_admitted, loop_blocks, loop_are}
 use Rattle.qed_model.proofs.RangeSegments.{AreLoads}
 use Rattle.qed_model.proofs.ReadLoads.{read_loads}
 use Rattle.qed_model.proofs.Walk.{run-more}
 use Rattle.weave_core.specs.Tests.{IsWovenTest}
-use Rattle.weave_core.proofs.ListedRuns.{is_simple_run, go, run_is, state_of}
+use Rattle.weave_core.proofs.ListedRuns.{are_zeros, has_code, is_simple_run, go, run_is, state_of}
 use Rattle.weave_core.proofs.TestKept as kept
 use Rattle.weave_core.proofs.Tests.{tests_have_words, tests_kept, tests_landed}
 use Rattle.weave_core.proofs.Trace.{run-ended}
@@ -37,21 +34,6 @@ loop_input = loaded_file loop
 abbrev pub loop_output : Program
 loop_output = loaded_file (file_read (woven_file loop defaults loop_blocks loop_words.0))
 
-abbrev pub loop_plan : Plan
-loop_plan = record {
-  base = 0x10000;
-  distance = 0x1000;
-  words = 0;
-  code_bytes = 560;
-  entries = record { input = 0x10000; output = 0x13078 } ∷ record { input = 0x10004; output = 0x13104 } ∷ record { input = 0x1000c; output = 0x131b0 } ∷ [];
-  pieces = record { entry = 0x10000; first = 0x10000; length = 1 } ∷ record { entry = 0x10004; first = 0x10004; length = 1 } ∷ record { entry = 0x1000c; first = 0x1000c; length = 0 } ∷ [];
-  span = [];
-  bounds = record { piece = 120; register = 272; word = None; start = 32 };
-}
-
-pub loop_told : IsToldOf loop defaults loop_blocks loop_plan
-loop_told = record { base = refl; distance = refl; words = refl; code_bytes = refl; entries = refl; pieces = refl; span = refl; bounds = refl }
-
 loop_kept : Kept loop_input loop_output 32 120
 loop_kept = tests_kept loop_bytes loop defaults loop_blocks loop_words.0 loop_plan loop_words.1 loop_told
 
@@ -59,15 +41,11 @@ loop_landed : Landed loop_input loop_output loop_plan.entries
 loop_landed = tests_landed loop_bytes loop defaults loop_blocks loop_words.0 loop_words.1
 
 -- ---- what stands where
-loads : AreLoads (load_segments loop.segments)
-loads = read_loads loop_bytes loop (record { fit = loop_fit }) loop_read
+pub loop_loads : AreLoads (load_segments loop.segments)
+loop_loads = read_loads loop_bytes loop (record { fit = loop_fit }) loop_read
 
 shape : IsShapely loop
-shape = record { loads = loads; sections = loop_admitted.sections; segments = loop_admitted.segments }
-
-has_code : (f : ElfFile) → IsShapely f → (a : ℕ) (is : List Ins) → StandFrom f a is → HasAt (fetched_at (memory_of (loaded_file f).segments) (loaded_file f).ranges) a is
-has_code f h a [] s = tt
-has_code f h a (i ∷ is) s = (known_instruction f h a i s.0, has_code f h (a + 4) is s.1)
+shape = record { loads = loop_loads; sections = loop_admitted.sections; segments = loop_admitted.segments }
 
 abbrev pub loop_new_code : List Ins
 loop_new_code = placed false 0x13000 (new_items loop defaults loop_blocks)
@@ -76,7 +54,7 @@ input_run : (n : ℕ) → is_simple_run 0x10000 loop_code n (start loop_input ze
 input_run n simple = run_is (memory_of loop_input.segments) loop_input.ranges 0x10000 loop_code (has_code loop shape 0x10000 loop_code loop_known.stand) n (start loop_input zeros) simple refl refl
 
 pub loop_stand : HasAt (fetched_at (memory_of loop_output.segments) loop_output.ranges) 0x13000 loop_new_code
-loop_stand = kept.stand loop defaults (sound false) loads loop_admitted loop_blocks loop_are loop_words.0 loop_words.1.code loop_words.1.few
+loop_stand = kept.stand loop defaults (sound false) loop_loads loop_admitted loop_blocks loop_are loop_words.0 loop_words.1.code loop_words.1.few
 
 pub output_run :
     (n : ℕ) → is_simple_run 0x13000 loop_new_code n (start loop_output zeros) ≡ true
@@ -105,9 +83,6 @@ unfolding execute jumped computed_value value holds
 output_goes_on = ap (λ s. s.outcome) (output_run 116 refl)
 
 -- ---- the promises at work
-pub are_zeros : AreStartRegs zeros
-are_zeros = record { count = refl; fit = λ r. let b = are_bytes zeros refl r in omega (arith, b) }
-
 -- the input stays as it ended
 pub input_ended : (n : ℕ) → 6 ≤ n → NotTrapped (after_input loop_input n)
 input_ended n l =

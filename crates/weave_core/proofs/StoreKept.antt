@@ -1,15 +1,14 @@
 -- The promises hold of a known file, a test with a data word: all of their premises are met.
-use Rattle.std.proofs.Common.{ℕ, true, false, List, [], ◌∷◌, Some, refl, arith}
-use Rattle.qed_model.specs.declared.plan.Plan.{Plan}
+use Rattle.std.proofs.Common.{ℕ, true, false, List, arith}
 use Rattle.qed_model.specs.Elf.FileRead.{file_read}
 use Rattle.qed_model.specs.Machine.Loading.{loaded_file}
 use Rattle.qed_model.specs.Machine.Program.{Program}
 use Rattle.qed_model.specs.Promise.Kept.{Kept}
 use Rattle.qed_model.specs.Promise.Landed.{Landed}
-use Rattle.qed_model.specs.Weave.Woven.{woven_file, IsToldOf}
+use Rattle.qed_model.specs.Weave.Woven.{woven_file}
 use Rattle.qed_model.proofs.ExampleCode.{defaults, swept, sound}
 use Rattle.qed_model.proofs.StoreFile.{store_bytes, store, store_read, store_fit}
-use Rattle.qed_model.proofs.StoreExample.{store_admitted, store_swept_admitted, store_blocks, store_are}
+use Rattle.qed_model.proofs.StoreExample.{store_plan, store_told, store_admitted, store_swept_admitted, store_blocks, store_are}
 use Rattle.weave_core.specs.Tests.{IsWovenTest}
 use Rattle.weave_core.proofs.Tests.{tests_have_words, tests_kept, tests_landed}
 
@@ -29,22 +28,6 @@ store_output = loaded_file (file_read (woven_file store defaults store_blocks st
 
 abbrev pub swept_output : Program
 swept_output = loaded_file (file_read (woven_file store swept store_blocks swept_words.0))
-
--- ---- what is told of the output
-abbrev pub store_plan : Plan
-store_plan = record {
-  base = 0x10000;
-  distance = 0x11000;
-  words = 1;
-  code_bytes = 660;
-  entries = record { input = 0x10000; output = 0x43080 } ∷ [];
-  pieces = record { entry = 0x10000; first = 0x10000; length = 1 } ∷ record { entry = 0x10000; first = 0x10004; length = 2 } ∷ record { entry = 0x10000; first = 0x1000c; length = 1 } ∷ [];
-  span = record { start = 0x20000; end = 0x20008 } ∷ [];
-  bounds = record { piece = 120; register = 272; word = Some 392; start = 32 };
-}
-
-pub store_told : IsToldOf store defaults store_blocks store_plan
-store_told = record { base = refl; distance = refl; words = refl; code_bytes = refl; entries = refl; pieces = refl; span = refl; bounds = refl }
 
 -- ---- the promises
 -- the values are kept: 32 steps come first, and 120 are those of a piece
