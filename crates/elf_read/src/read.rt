@@ -1,4 +1,4 @@
-// The file that bytes are.
+//! The file that bytes are.
 ghost use Rattle.std.specs.Prelude.{◌≡◌, ◌<◌, ◌/◌, ◌⊎◌, length, List, ℕ, Ok, Err, Some, IfOk, IfErr, IfSome, OnOk};
 ghost use Rattle.elf_types.specs.declared.error.ElfError.TheVariants as error;
 ghost use Rattle.qed_model.specs.Below.{each, gather};
@@ -17,6 +17,7 @@ use crate::sections::{check_section_shape, section_name, section_strings};
 use crate::segments::{check_segment_overlap, check_segment_shape};
 use crate::strings::Strings;
 use crate::symbols::{check_symbol_shape, symbol_entry, symbol_name, symbol_strings, symbol_table};
+use elf_types::abi::{SHT_SYMTAB, SYM_SIZE};
 use elf_types::{Bytes, ElfError, ElfFile, Listed, Section, Segment, Symbol};
 use std::alloc::{AllocError, Global};
 use std::marker::Model;
@@ -75,7 +76,7 @@ fn symbol(
     j: u64,
 ) -> Result<Symbol, AllocError>
     requires below { i < e_shnum file.now }
-    requires kind { (section_header file.now i).kind ≡ 2 }
+    requires kind { (section_header file.now i).kind ≡ SHT_SYMTAB }
     requires names { strings.now ≡ strings_of file.now (section_header file.now i) }
     requires entry { j < (section_header file.now i).size / 24 }
     ensures { IfOk result (λ x. x ≡ symbol_of file.now (section_header file.now i) j) }
@@ -142,7 +143,7 @@ impl<'a> Sound<'a> {
                 let size = self.parts.section(i).size;
                 list_of(
                     alloc,
-                    size / 24,
+                    size / SYM_SIZE,
                     &|j| symbol(&self.parts, &strings, alloc, i, j),
                 )
             }

@@ -3,6 +3,7 @@
 //! RISC-V ELF psABI.
 #![tactic(auto)]
 
+pub mod abi;
 mod bytes;
 mod error;
 mod file;

@@ -1,4 +1,4 @@
-// Program headers and the bytes of segments.
+//! Program headers and the bytes of segments.
 ghost use Rattle.std.specs.Prelude.{◌≡◌, ◌+◌, ◌^◌, ◌<◌, ◌≤◌, ◌++◌, OnOk, All};
 ghost use Rattle.qed_model.specs.Elf.Written.{offset_from as least_offset, end_from as segments_end, program_headers, segments_bytes};
 ghost use Rattle.elf_write.specs.Widths.{SegmentFits};

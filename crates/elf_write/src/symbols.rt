@@ -1,4 +1,4 @@
-// The symbol table and its string table.
+//! The symbol table and its string table.
 ghost use Rattle.std.specs.Prelude.{◌≡◌, ℕ, ◌+◌, ◌^◌, ◌<◌, ◌≤◌, ◌++◌, OnOk, All, length, [], ◌∷◌};
 ghost use Rattle.qed_model.specs.Elf.Layout.{names_bytes, symbol_names, symbols_bytes, entry_with, entries_from, entries_of, first_global as first_global_from, IsSymbol};
 ghost use Rattle.elf_write.specs.Widths.{SymbolFits};
@@ -102,7 +102,7 @@ pub fn first_global(symbols: &[Symbol]) -> u64
 {
     let mut number = 1;
     for symbol in symbols {
-        if symbol.binding != 0 {
+        if !symbol.is_local() {
             return number;
         }
         number += 1;

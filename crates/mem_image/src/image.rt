@@ -1,4 +1,4 @@
-// The memory of a machine.
+//! The memory of a machine.
 ghost use Rattle.std.specs.Prelude.{◌≡◌, ℕ, ◌<◌, ◌≤◌, ◌^◌, cond, length, map, IfOk, IfErr, IfNone, IfSome, Some, None};
 ghost use Rattle.std.specs.Option.{option_map};
 ghost use Rattle.std.specs.FinMap.{get};
@@ -188,6 +188,7 @@ impl Image {
         requires { width ≤ 8 }
         ensures { self.new ≡ put self.old address width value }
     {
+        // The segments are read here, so that a proof knows what holds of them.
         let _ = &self.segments;
         for i in 0..width {
             self.set(address.wrapping_add(i), ((value >> (8 * i)) & 0xff) as u8);

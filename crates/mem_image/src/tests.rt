@@ -1,4 +1,4 @@
-// Each public call on a small image.
+//! Each public call on a small image.
 ghost use Rattle.std.specs.Prelude.{◌+◌, ◌^◌, ◌≤◌, length, IfOk};
 ghost use Rattle.mem_image.specs.Overlap.{segment_of};
 ghost use Rattle.mem_image.specs.Segments.{Fits};

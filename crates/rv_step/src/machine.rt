@@ -1,4 +1,4 @@
-// The machine, from outside.
+//! The machine, from outside.
 ghost use Rattle.std.specs.Prelude.{◌≡◌, ◌+◌, ◌%◌, ◌^◌, ◌<◌, cond, length, map, slice_set, slice_index, IfOk, Some, None};
 ghost use Rattle.std.specs.Option.{option_map};
 ghost use Rattle.std.specs.FinMap.{get};

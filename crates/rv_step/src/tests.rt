@@ -1,4 +1,4 @@
-// Small programs, with the ends that the manual gives them.
+//! Small programs, with the ends that the manual gives them.
 ghost use Rattle.std.specs.Prelude.{◌≡◌, ◌≤◌, ◌∷◌, [], length, IfOk};
 ghost use Rattle.qed_model.specs.Machine.Loading.{load_segments};
 ghost use Rattle.mem_image.specs.Overlap.{AreApart};

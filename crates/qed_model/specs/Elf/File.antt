@@ -7,14 +7,15 @@ use Rattle.elf_types.specs.declared.file.Symbol.{Symbol}
 use Rattle.elf_types.specs.declared.file.Rela.{Rela}
 use Rattle.elf_types.specs.declared.records.ProgramHeader.{ProgramHeader}
 use Rattle.elf_types.specs.declared.records.SectionHeader.{SectionHeader}
+use Rattle.elf_types.specs.Abi.{is_load}
 use Rattle.qed_model.specs.Below.{each, gather}
 use Rattle.qed_model.specs.Elf.Header.{e_entry, e_flags, e_phnum, e_shnum}
 use Rattle.qed_model.specs.Elf.Fields.{program_header, section_header, symbol_entry, rela_entry}
-use Rattle.qed_model.specs.Elf.Rules.{is_load, section_bytes, section_name, symbol_name, symbol_table, is_counted, verdict}
+use Rattle.qed_model.specs.Elf.Rules.{section_bytes, section_name, symbol_name, symbol_table, is_counted, verdict}
 
 -- the bytes of a segment; where it is not PT_LOAD there are none
 unfoldable pub load_bytes : List ℕ → ProgramHeader → List ℕ
-load_bytes file p = if is_load p then take p.filesz (drop p.offset file) else []
+load_bytes file p = if is_load p.kind then take p.filesz (drop p.offset file) else []
 
 -- what program header i describes
 unfoldable pub segment_of : List ℕ → ℕ → Segment

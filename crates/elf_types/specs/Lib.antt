@@ -1,0 +1,4 @@
+pub mod Abi
+pub mod Segment
+pub mod Section
+pub mod Symbol
