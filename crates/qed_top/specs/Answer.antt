@@ -7,6 +7,7 @@ use Rattle.elf_types.specs.declared.file.Segment.{Segment}
 use Rattle.elf_types.specs.declared.file.ElfFile.{ElfFile}
 use Rattle.elf_types.specs.declared.error.ElfError.{ElfError}
 use Rattle.elf_types.specs.declared.error.ElfError.TheVariants as error
+use Rattle.elf_types.specs.Abi.{is_load}
 use Rattle.qed_model.specs.declared.machine.Outcome.{Outcome}
 use Rattle.qed_model.specs.declared.machine.Outcome.TheVariants as outcome
 use Rattle.qed_model.specs.Elf.File.{File}
@@ -107,7 +108,7 @@ pub data Transforms (bytes output : List ℕ) (answer : Answer) : Type 0 where
 -- the memory sizes of the PT_LOAD segments together
 abbrev pub memory_bytes : List Segment → ℕ
 memory_bytes [] = 0
-memory_bytes (s ∷ segments) = cond (s.kind == 1) s.memory 0 + memory_bytes segments
+memory_bytes (s ∷ segments) = cond (is_load s.kind) s.memory 0 + memory_bytes segments
 
 -- how many of them can be run
 abbrev pub memory_limit : ℕ

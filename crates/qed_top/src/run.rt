@@ -21,16 +21,13 @@ const MEMORY_LIMIT: u128 = 268_435_456;
 /// How many steps are made.
 const STEPS: u64 = 1_000_000;
 
-/// The type of a segment that is loaded (ELF gABI, program header).
-const PT_LOAD: u32 = 1;
-
 /// The memory sizes of the PT_LOAD segments together, in bytes.
 fn memory_size(segments: &[Segment]) -> u128
     ensures { result ≡ memory_bytes segments.now }
 {
     let mut size = 0;
     for segment in segments {
-        if segment.kind == PT_LOAD {
+        if segment.is_load() {
             size += u128::from(segment.memory);
         }
     }
