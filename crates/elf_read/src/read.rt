@@ -4,8 +4,8 @@ ghost use Rattle.elf_types.specs.declared.error.ElfError.TheVariants as error;
 ghost use Rattle.qed_model.specs.Below.{each, gather};
 ghost use Rattle.qed_model.specs.Elf.Header.{e_phnum, e_shnum};
 ghost use Rattle.qed_model.specs.Elf.Fields.{section_header};
-ghost use Rattle.qed_model.specs.Elf.Rules.{section_strings, strings_of, symbol_table, verdict};
-ghost use Rattle.qed_model.specs.Elf.File.{File, segment_of, section_of, symbol_of, symbols_at, relas_of};
+ghost use Rattle.qed_model.specs.Elf.Rules.{section_strings, strings_of, symbol_table, verdict, read_verdict};
+ghost use Rattle.qed_model.specs.Elf.File.{File, segment_of, section_of, symbol_of, symbols_at, relas_of, WithinReadLimits, IsReadAs};
 ghost use Rattle.qed_model.specs.Elf.Refusals.{IsAccepted, IsRefused};
 ghost use Rattle.elf_read.specs.Sound.{HasLinks};
 
@@ -94,12 +94,13 @@ fn symbol(
 }
 
 impl<'a> Sound<'a> {
-    /// The file, where no rule refuses it.
-    #[tactic(auto, unfolding(qed_model::specs::Elf::Rules::verdict))]
+    /// The file, where no rule refuses it and it is within the limits.
+    #[tactic(auto, unfolding(qed_model::specs::Elf::Rules::verdict, qed_model::specs::Elf::Rules::read_verdict))]
     fn new(bytes: &'a [u8]) -> Result<Sound<'a>, ElfError>
         ensures same { IfOk result (λ s. s ≡ bytes.now) }
-        ensures accepted { OnOk result (verdict bytes.now ≡ Ok tt) }
-        ensures refused { IfErr result (λ e. verdict bytes.now ≡ Err e) }
+        ensures rules { OnOk result (verdict bytes.now ≡ Ok tt) }
+        ensures limits { OnOk result (read_verdict bytes.now ≡ Ok tt) }
+        ensures refused { IfErr result (λ e. read_verdict bytes.now ≡ Err e) }
     {
         let parts = Parts::new(bytes)?;
         check_segment_shape(&parts)?;
@@ -165,18 +166,19 @@ impl<'a> Sound<'a> {
     }
 }
 
-/// The file that bytes are (ELF gABI, RISC-V ELF psABI), or the first rule that refuses them. The rules are those of
-/// `ElfError`, in its order, each over the whole file before the next. A refusal takes no memory.
+/// The file that bytes are (ELF gABI, RISC-V ELF psABI), where it is within the limits of the reader; or the first rule
+/// that refuses them, or else the first limit that they exceed. Rules and limits are those of `ElfError`, in its order,
+/// each over the whole file before the next. A refusal takes no memory.
 ///
 /// # Errors
 ///
-/// `Memory` where no rule refuses the bytes, and there is no memory for the copy. Each other error comes exactly where
+/// `Memory` where no rule refuses the bytes, they are within the limits, and there is no memory for the copy. Each other error comes exactly where
 /// it is the first that holds.
 #[tactic(auto, using(qed_model::proofs::RefusalLaws::refused, qed_model::proofs::AcceptanceLaws::accepted))]
 pub fn read_elf(alloc: Global, bytes: &[u8]) -> Result<ElfFile, ElfError>
-    ensures read { IfOk result (λ f. File bytes.now f) }
+    ensures read { IfOk result (λ f. IsReadAs bytes.now f) }
     ensures accepted { OnOk result (IsAccepted bytes.now) }
-    ensures refused { IfErr result (λ e. IsRefused bytes.now e ⊎ ((e ≡ error.Memory) × (verdict bytes.now ≡ Ok tt))) }
+    ensures refused { IfErr result (λ e. IsRefused bytes.now e ⊎ ((e ≡ error.Memory) × (read_verdict bytes.now ≡ Ok tt))) }
 {
     let sound = Sound::new(bytes)?;
     Ok(sound.file(alloc)?)

@@ -1,6 +1,6 @@
 //! The whole file.
 ghost use Rattle.std.specs.Prelude.{◌≡◌, IfOk, length};
-ghost use Rattle.qed_model.specs.Elf.File.{File};
+ghost use Rattle.qed_model.specs.Elf.File.{IsReadAs};
 ghost use Rattle.qed_model.specs.Elf.FileRead.{file_read};
 ghost use Rattle.qed_model.specs.Elf.Layout.{IsWritable, written};
 
@@ -31,7 +31,7 @@ pub fn file_size(file: &OutFile) -> u128
 pub fn write_elf(alloc: Global, file: &OutFile) -> Result<Bytes, AllocError>
     requires { IsWritable file.now }
     ensures written { IfOk result (λ bytes. bytes ≡ written file.now) }
-    ensures reads_back { IfOk result (λ bytes. File bytes (file_read file.now)) }
+    ensures reads_back { IfOk result (λ bytes. IsReadAs bytes (file_read file.now)) }
 {
     let places = places_of(file);
     let mut out = Vec::new(alloc);

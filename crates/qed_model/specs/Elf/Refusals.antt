@@ -10,7 +10,7 @@ use Rattle.elf_types.specs.declared.abi.TheConstants.{ELFCLASS64, ELFDATA2LSB, E
 use Rattle.qed_model.specs.Below.{IsFirstBelow}
 use Rattle.qed_model.specs.Elf.Header.{HasMagic, e_type, e_machine, e_version, e_phoff, e_shoff, e_ehsize, e_phentsize, e_phnum, e_shnum}
 use Rattle.qed_model.specs.Elf.Fields.{e_class, e_encoding, e_ident_version, e_shentsize, e_shstrndx, program_header, section_header, rela_entry}
-use Rattle.qed_model.specs.Elf.Rules.{is_segment_outside, is_section_outside, is_misshapen, do_overlap, is_section_misshapen, is_misnamed, has_entries, has_strings, is_counted, section_bytes, symbol_table, symbol_count, rela_fault, counted_bytes, verdict}
+use Rattle.qed_model.specs.Elf.Rules.{is_segment_outside, is_section_outside, is_misshapen, do_overlap, is_section_misshapen, is_misnamed, has_entries, has_strings, is_counted, section_bytes, symbol_table, symbol_count, rela_fault, counted_bytes, read_verdict}
 
 -- the header has the sizes of ELF64, and its numbers are not extended
 pub record HasHeaderShape (file : List ℕ) : Type 0 where
@@ -77,9 +77,9 @@ HasFault file (error.TooManySections count) = (count ≡ e_shnum file) × (4096 
 HasFault file (error.TooManyBytes count) = (count ≡ min (counted_bytes file) (2 ^ 64 - 1)) × (1_073_741_824 < counted_bytes file)
 HasFault file error.Memory = ⊥
 
--- the error names the first rule that refuses the file, and its fault is in the file
+-- the error names the first rule that refuses the file, or else the first limit that it exceeds, and its fault is in the file
 pub record IsRefused (file : List ℕ) (e : ElfError) : Type 0 where
-  pub first : verdict file ≡ Err e
+  pub first : read_verdict file ≡ Err e
   pub fault : HasFault file e
 
 -- ---- a file that no rule refuses
@@ -93,7 +93,7 @@ pub record AreRelas (file : List ℕ) (s : SectionHeader) : Type 0 where
   pub shape : has_entries s ≡ true
   pub symbols : (k : ℕ) → k < s.size / 24 → (rela_entry (section_bytes file s) k).symbol < symbol_count file
 
--- none of the faults is in the file
+-- none of the faults is in the file; the limits of the reader stand beside it
 pub record IsAccepted (file : List ℕ) : Type 0 where
   pub magic : HasMagic file
   pub room : 64 ≤ length file
@@ -113,5 +113,3 @@ pub record IsAccepted (file : List ℕ) : Type 0 where
   pub section_shapes : (i : ℕ) → i < e_shnum file → is_section_misshapen file i ≡ false
   pub symbols : (i : ℕ) → symbol_table file ≡ Some i → AreSymbols file (section_header file i)
   pub relas : (i : ℕ) → i < e_shnum file → is_counted file (section_header file i) ≡ true → AreRelas file (section_header file i)
-  pub few_sections : e_shnum file ≤ 4096
-  pub few_bytes : counted_bytes file ≤ 1_073_741_824

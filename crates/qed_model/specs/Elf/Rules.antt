@@ -262,7 +262,7 @@ rela_fault file s =
 unfoldable pub rela_shape_rule : List ℕ → Check
 rela_shape_rule file = refuse_found_at error.RelaShape (λ i. rela_fault file (section_header file i)) (first (e_shnum file) (λ i. is_some (rela_fault file (section_header file i))))
 
--- ---- limits
+-- ---- limits of the reader, beside the rules
 
 -- more than 4,096 sections
 unfoldable pub section_count_rule : List ℕ → Check
@@ -298,7 +298,7 @@ table_rules file = first_refusal (header_rules file ∷ program_table_rule file 
 unfoldable pub part_rules : List ℕ → Check
 part_rules file = first_refusal (table_rules file ∷ segment_place_rule file ∷ section_place_rule file ∷ [])
 
--- the first rule that refuses a file, or Ok where none does
+-- the first rule that refuses a file, E1 to E13, or Ok where none does
 unfoldable pub verdict : List ℕ → Check
 verdict file =
     first_refusal
@@ -308,6 +308,8 @@ verdict file =
     ∷ section_shape_rule file
     ∷ symbol_shape_rule file
     ∷ rela_shape_rule file
-    ∷ section_count_rule file
-    ∷ byte_count_rule file
     ∷ [])
+
+-- what the reader says of a file: the first rule that refuses it, or else the first limit that it exceeds, L5 and L10
+unfoldable pub read_verdict : List ℕ → Check
+read_verdict file = first_refusal (verdict file ∷ section_count_rule file ∷ byte_count_rule file ∷ [])
