@@ -10,7 +10,7 @@ use Rattle.elf_types.specs.declared.error.ElfError.TheVariants as error
 use Rattle.elf_types.specs.Abi.{is_load}
 use Rattle.qed_model.specs.declared.machine.Outcome.{Outcome}
 use Rattle.qed_model.specs.declared.machine.Outcome.TheVariants as outcome
-use Rattle.qed_model.specs.Elf.File.{File}
+use Rattle.qed_model.specs.Elf.File.{IsReadAs}
 use Rattle.qed_model.specs.Elf.Refusals as Refusals
 use Rattle.qed_model.specs.declared.plan.Plan.{Plan}
 use Rattle.qed_model.specs.Machine.Program.{start, zeros}
@@ -117,7 +117,7 @@ memory_limit = 268435456
 -- L6: the segments have too many bytes in memory
 pub record IsTooLarge (bytes : List ℕ) (answer : Answer) : Type 0 where
   pub file : ElfFile
-  pub read : File bytes file
+  pub read : IsReadAs bytes file
   pub cause : memory_limit < memory_bytes file.segments
   pub plain : PrintsOnly Limit (memory_limit_line (memory_bytes file.segments)) answer
 
@@ -139,7 +139,7 @@ outcome_status outcome.Going = StepsSpent
 -- the file was run
 pub record HasRun (bytes : List ℕ) (answer : Answer) : Type 0 where
   pub file : ElfFile
-  pub read : File bytes file
+  pub read : IsReadAs bytes file
   pub small : memory_bytes file.segments ≤ memory_limit
   pub plain : PrintsOnly (outcome_status (run_of file).state.outcome) (run_lines (run_of file)) answer
 
