@@ -1,4 +1,4 @@
-// The limits on a file.
+//! The limits on a file.
 ghost use Rattle.std.specs.Prelude.{◌≡◌, ◌<◌, ◌^◌, IfSome};
 ghost use Rattle.qed_model.specs.Elf.Header.{e_shnum};
 ghost use Rattle.qed_model.specs.Elf.Fields.{section_header};
@@ -10,6 +10,7 @@ use crate::sections::{section_name, section_strings};
 use crate::segments::file_size;
 use crate::symbols::{symbol_name, symbol_strings, symbol_table};
 use elf_types::ElfError;
+use elf_types::abi::SYM_SIZE;
 use qed_model::limits::{MAX_COUNTED_BYTES, MAX_SECTIONS};
 
 /// Whether there are few enough sections.
@@ -36,7 +37,7 @@ fn symbol_name_bytes(file: &Parts) -> u128
             let strings = symbol_strings(file, i);
             let size = file.section(i).size;
             sum_of(
-                size / 24,
+                size / SYM_SIZE,
                 &|j| symbol_name(file, &strings, i, j).len() as u64,
             )
         }

@@ -1,4 +1,4 @@
-// The parts of the file, one behind the other.
+//! The parts of the file, one behind the other.
 ghost use Rattle.std.specs.Prelude.{◌≡◌, ◌-◌, ◌^◌, ◌<◌, ◌≤◌, ◌++◌, OnOk, All, length};
 ghost use Rattle.qed_model.specs.declared.limits.TheConstants.{MAX_OUTPUT_SECTIONS};
 ghost use Rattle.qed_model.specs.declared.limits.Limit.TheVariants as limit;
@@ -14,18 +14,14 @@ use crate::records::{push_header, push_section_header};
 use crate::sections::{push_given_headers, push_own_bytes, push_section_names};
 use crate::segments::{push_program_headers, push_segments};
 use crate::symbols::{first_global, push_name, push_symbol_names, push_symbol_table};
+use elf_types::abi::{SHT_NULL, SHT_STRTAB, SHT_SYMTAB, SYM_SIZE};
 use elf_types::{OutFile, SectionHeader};
 use std::alloc::AllocError;
-
-/// The types of the tables that are added.
-const SHT_SYMTAB: u32 = 2;
-
-const SHT_STRTAB: u32 = 3;
 
 /// The header of the null section.
 const NULL: SectionHeader = SectionHeader {
     name: 0,
-    kind: 0,
+    kind: SHT_NULL,
     flags: 0,
     addr: 0,
     offset: 0,
@@ -134,7 +130,7 @@ fn push_table_headers(out: &mut Vec<u8>, file: &OutFile, places: &Places) -> Res
         SectionHeader {
             link: sections + 2,
             info: first_global(file.symbols.as_slice()) as u32,
-            entsize: 24,
+            entsize: SYM_SIZE,
             ..symtab
         },
     )?;

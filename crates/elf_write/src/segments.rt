@@ -1,4 +1,4 @@
-// Program headers and the bytes of segments.
+//! Program headers and the bytes of segments.
 ghost use Rattle.std.specs.Prelude.{◌≡◌, ◌+◌, ◌^◌, ◌<◌, ◌≤◌, ◌++◌, OnOk, All};
 ghost use Rattle.qed_model.specs.declared.limits.Limit.TheVariants as limit;
 ghost use Rattle.qed_model.specs.Limits.{limit_of};

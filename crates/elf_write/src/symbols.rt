@@ -1,4 +1,4 @@
-// The symbol table and its string table.
+//! The symbol table and its string table.
 ghost use Rattle.std.specs.Prelude.{◌≡◌, ℕ, ◌+◌, ◌^◌, ◌<◌, ◌≤◌, ◌++◌, OnOk, All, length, [], ◌∷◌};
 ghost use Rattle.qed_model.specs.declared.limits.Limit.TheVariants as limit;
 ghost use Rattle.qed_model.specs.Limits.{limit_of};
@@ -104,7 +104,7 @@ pub fn first_global(symbols: &[Symbol]) -> u64
 {
     let mut number = 1;
     for symbol in symbols {
-        if symbol.binding != 0 {
+        if !symbol.is_local() {
             return number;
         }
         number += 1;

@@ -10,7 +10,7 @@ use Rattle.elf_types.specs.declared.error.ElfError.{ElfError}
 use Rattle.elf_types.specs.declared.error.ElfError.TheVariants as error
 use Rattle.qed_model.specs.declared.machine.Outcome.{Outcome}
 use Rattle.qed_model.specs.declared.machine.Outcome.TheVariants as outcome
-use Rattle.qed_model.specs.Elf.File.{File}
+use Rattle.qed_model.specs.Elf.File.{IsReadAs}
 use Rattle.qed_model.specs.Elf.Refusals.{IsRefused}
 use Rattle.elf_types.specs.declared.output.OutFile.{OutFile}
 use Rattle.qed_model.specs.Admission.StraightTest.{StraightParts, IsMadeOf, IsStraightTest}
@@ -211,8 +211,8 @@ no_memory_soon call stored text shelf sink =
 -- what decides the status of `transform`, by the file that the bytes are
 data Settled (bytes : List ℕ) (s : Status) : Type 0 where
   no_file : (e : ElfError) → IsRefused bytes e → s ≡ error_status e → Settled bytes s
-  other : (f : ElfFile) → File bytes f → (IsStraightTest f → ⊥) → s ≡ Refused → Settled bytes s
-  high : (f : ElfFile) → File bytes f → (p : StraightParts) → IsMadeOf f p → (x : ℕ × ℕ) → high_register_of f p.body ≡ Some x → s ≡ Refused → Settled bytes s
+  other : (f : ElfFile) → IsReadAs bytes f → (IsStraightTest f → ⊥) → s ≡ Refused → Settled bytes s
+  high : (f : ElfFile) → IsReadAs bytes f → (p : StraightParts) → IsMadeOf f p → (x : ℕ × ℕ) → high_register_of f p.body ≡ Some x → s ≡ Refused → Settled bytes s
   large : (out : OutFile) → WovenFile bytes out → (IsWithin out → ⊥) → s ≡ Limit → Settled bytes s
   fits : (out : OutFile) → WovenFile bytes out → IsWithin out → s ≡ Done → Settled bytes s
 
@@ -229,8 +229,8 @@ settled : (bytes : List ℕ) (s : Status) → TransformDecides bytes s → Settl
 settled bytes s (decide.refused e c k a) = settled_by bytes s e c k a
 settled bytes s (decide.done out w i a) = fits out w i a
 
-same_test : (bytes : List ℕ) (f g : ElfFile) (p : StraightParts) → File bytes f → File bytes g → IsMadeOf g p → IsStraightTest f
-same_test bytes f g p x y made = subst IsStraightTest (one_file bytes g f y x) (record { parts = p; made = made })
+same_test : (bytes : List ℕ) (f g : ElfFile) (p : StraightParts) → IsReadAs bytes f → IsReadAs bytes g → IsMadeOf g p → IsStraightTest f
+same_test bytes f g p x y made = subst IsStraightTest (one_file bytes g f y.file x.file) (record { parts = p; made = made })
 
 too_large_or : (bytes : List ℕ) (out second : OutFile) → WovenFile bytes out → WovenFile bytes second → (IsWithin out → ⊥) → IsWithin second → ⊥
 too_large_or bytes out second x y over fit = over (subst IsWithin (one_woven bytes second out y x) fit)
@@ -272,10 +272,10 @@ run_unique bytes s t (decide.unread e x a) (decide.too_large g y l b) = absurd (
 run_unique bytes s t (decide.unread e x a) (decide.ran g y l b) = absurd (not_both bytes e g x y)
 run_unique bytes s t (decide.too_large f x k a) (decide.unread d y b) = absurd (not_both bytes d f y x)
 run_unique bytes s t (decide.too_large f x k a) (decide.too_large g y l b) = a ∙ sym b
-run_unique bytes s t (decide.too_large f x k a) (decide.ran g y l b) = let same = ap (λ h. memory_bytes h.segments) (one_file bytes f g x y) in absurd (omega (arith, k, l, same))
+run_unique bytes s t (decide.too_large f x k a) (decide.ran g y l b) = let same = ap (λ h. memory_bytes h.segments) (one_file bytes f g x.file y.file) in absurd (omega (arith, k, l, same))
 run_unique bytes s t (decide.ran f x k a) (decide.unread d y b) = absurd (not_both bytes d f y x)
-run_unique bytes s t (decide.ran f x k a) (decide.too_large g y l b) = let same = ap (λ h. memory_bytes h.segments) (one_file bytes f g x y) in absurd (omega (arith, k, l, same))
-run_unique bytes s t (decide.ran f x k a) (decide.ran g y l b) = a ∙ ap (λ h. outcome_status (run_of h).state.outcome) (one_file bytes f g x y) ∙ sym b
+run_unique bytes s t (decide.ran f x k a) (decide.too_large g y l b) = let same = ap (λ h. memory_bytes h.segments) (one_file bytes f g x.file y.file) in absurd (omega (arith, k, l, same))
+run_unique bytes s t (decide.ran f x k a) (decide.ran g y l b) = a ∙ ap (λ h. outcome_status (run_of h).state.outcome) (one_file bytes f g x.file y.file) ∙ sym b
 
 unique : (limit : ℕ) (bytes : List ℕ) (V W : Type 0) (s t : Status) → (V → W → s ≡ t) → Decided limit bytes V s → Decided limit bytes W t → s ≡ t
 unique limit bytes V W s t h (decide.too_long l a) (decide.too_long m b) = a ∙ sym b

@@ -12,7 +12,7 @@ use Rattle.elf_types.specs.declared.error.ElfError.TheVariants as error
 use Rattle.qed_model.specs.declared.plan.Plan.{Plan}
 use Rattle.transform.specs.declared.error.TransformError.{TransformError}
 use Rattle.transform.specs.declared.error.TransformError.TheVariants as transform
-use Rattle.qed_model.specs.Elf.File.{File}
+use Rattle.qed_model.specs.Elf.File.{IsReadAs}
 use Rattle.qed_model.specs.Elf.Refusals.{IsRefused}
 use Rattle.qed_model.specs.Text.Plan.{read_fault_line, usage_line}
 use Rattle.qed_model.specs.Text.Errors.{error_line}
@@ -103,7 +103,7 @@ pub is_refused :
 is_refused bytes output e answer cause known plain = refused (record { error = e; cause = cause; known = known; plain = plain })
 
 -- ---- `run`
-pub file_runs : (bytes : List ℕ) (f : ElfFile) (answer : Answer) → File bytes f → FileRuns f answer → Runs bytes answer
+pub file_runs : (bytes : List ℕ) (f : ElfFile) (answer : Answer) → IsReadAs bytes f → FileRuns f answer → Runs bytes answer
 file_runs bytes f answer read (run.too_large cause plain) = too_large (record { file = f; read = read; cause = cause; plain = plain })
 file_runs bytes f answer read (run.ran small plain) = ran (record { file = f; read = read; small = small; plain = plain })
 

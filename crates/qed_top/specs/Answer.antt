@@ -7,9 +7,10 @@ use Rattle.elf_types.specs.declared.file.Segment.{Segment}
 use Rattle.elf_types.specs.declared.file.ElfFile.{ElfFile}
 use Rattle.elf_types.specs.declared.error.ElfError.{ElfError}
 use Rattle.elf_types.specs.declared.error.ElfError.TheVariants as error
+use Rattle.elf_types.specs.Abi.{is_load}
 use Rattle.qed_model.specs.declared.machine.Outcome.{Outcome}
 use Rattle.qed_model.specs.declared.machine.Outcome.TheVariants as outcome
-use Rattle.qed_model.specs.Elf.File.{File}
+use Rattle.qed_model.specs.Elf.File.{IsReadAs}
 use Rattle.qed_model.specs.Elf.Refusals as Refusals
 use Rattle.qed_model.specs.declared.plan.Plan.{Plan}
 use Rattle.qed_model.specs.Machine.Program.{start, zeros}
@@ -109,7 +110,7 @@ pub data Transforms (bytes output : List ℕ) (answer : Answer) : Type 0 where
 -- the memory sizes of the PT_LOAD segments together
 abbrev pub memory_bytes : List Segment → ℕ
 memory_bytes [] = 0
-memory_bytes (s ∷ segments) = cond (s.kind == 1) s.memory 0 + memory_bytes segments
+memory_bytes (s ∷ segments) = cond (is_load s.kind) s.memory 0 + memory_bytes segments
 
 -- how many of them can be run
 abbrev pub memory_limit : ℕ
@@ -118,7 +119,7 @@ memory_limit = limit_of limit.MemoryBytes
 -- L6: the segments have too many bytes in memory
 pub record IsTooLarge (bytes : List ℕ) (answer : Answer) : Type 0 where
   pub file : ElfFile
-  pub read : File bytes file
+  pub read : IsReadAs bytes file
   pub cause : memory_limit < memory_bytes file.segments
   pub plain : PrintsOnly Limit (limit_line limit.MemoryBytes (memory_bytes file.segments)) answer
 
@@ -140,7 +141,7 @@ outcome_status outcome.Going = StepsSpent
 -- the file was run
 pub record HasRun (bytes : List ℕ) (answer : Answer) : Type 0 where
   pub file : ElfFile
-  pub read : File bytes file
+  pub read : IsReadAs bytes file
   pub small : memory_bytes file.segments ≤ memory_limit
   pub plain : PrintsOnly (outcome_status (run_of file).state.outcome) (run_lines (run_of file)) answer
 

@@ -11,7 +11,7 @@ use Rattle.transform.specs.declared.error.TransformError.{TransformError}
 use Rattle.transform.specs.declared.error.TransformError.TheVariants as transform
 use Rattle.transform.specs.Transform.{HasCause, IsWithin}
 use Rattle.qed_model.specs.Weave.StraightWoven.{WovenFile}
-use Rattle.qed_model.specs.Elf.File.{File}
+use Rattle.qed_model.specs.Elf.File.{IsReadAs}
 use Rattle.qed_model.specs.Elf.Refusals.{IsRefused}
 use Rattle.qed_model.specs.Text.Plan.{load_limit, run_load_limit}
 use Rattle.qed_top.specs.Words.{Asked, Transform, Run, asked, read_name, stored_name}
@@ -113,8 +113,8 @@ pub data TransformDecides (bytes : List ℕ) (status : Status) : Type 0 where
 -- the same of `run`
 pub data RunDecides (bytes : List ℕ) (status : Status) : Type 0 where
   unread : (e : ElfError) → IsRefused bytes e → status ≡ error_status e → RunDecides bytes status
-  too_large : (f : ElfFile) → File bytes f → memory_limit < memory_bytes f.segments → status ≡ Limit → RunDecides bytes status
-  ran : (f : ElfFile) → File bytes f → memory_bytes f.segments ≤ memory_limit → status ≡ outcome_status (run_of f).state.outcome → RunDecides bytes status
+  too_large : (f : ElfFile) → IsReadAs bytes f → memory_limit < memory_bytes f.segments → status ≡ Limit → RunDecides bytes status
+  ran : (f : ElfFile) → IsReadAs bytes f → memory_bytes f.segments ≤ memory_limit → status ≡ outcome_status (run_of f).state.outcome → RunDecides bytes status
 
 -- the status of a command over the bytes of its file, of which it takes so many
 pub data Decided (limit : ℕ) (bytes : List ℕ) (Within : Type 0) (status : Status) : Type 0 where

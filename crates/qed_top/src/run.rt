@@ -1,8 +1,7 @@
 //! What `run` answers.
 ghost use Rattle.std.specs.Prelude.{◌≡◌, ◌*◌, ◌^◌, ◌≤◌, IfOk, length};
 ghost use Rattle.qed_model.specs.Machine.Loading.{load_segments};
-ghost use Rattle.mem_image.specs.Segments.{AllFit};
-ghost use Rattle.mem_image.specs.Overlap.{AreApart};
+ghost use Rattle.qed_model.specs.Machine.Apart.{AllFitMemory, AreApart};
 ghost use Rattle.qed_top.specs.Answer.{memory_bytes, outcome_status, run_of, Runs};
 ghost use Rattle.qed_top.specs.Run.{FileRuns};
 
@@ -19,16 +18,13 @@ use std::alloc::{AllocError, Global};
 /// How many steps are made.
 const STEPS: u64 = 1_000_000;
 
-/// The type of a segment that is loaded (ELF gABI, program header).
-const PT_LOAD: u32 = 1;
-
 /// The memory sizes of the PT_LOAD segments together, in bytes.
 fn memory_size(segments: &[Segment]) -> u128
     ensures { result ≡ memory_bytes segments.now }
 {
     let mut size = 0;
     for segment in segments {
-        if segment.kind == PT_LOAD {
+        if segment.is_load() {
             size += u128::from(segment.memory);
         }
     }
@@ -49,7 +45,7 @@ fn status_of(outcome: Outcome) -> Status
 
 /// What `run` answers for a file that was read.
 fn answer_file<'a>(alloc: Global, file: &ElfFile) -> Result<Answer<'a>, AllocError>
-    requires fit { AllFit (load_segments file.now.segments) }
+    requires fit { AllFitMemory (load_segments file.now.segments) }
     requires apart { AreApart (load_segments file.now.segments) }
     ensures { IfOk result (FileRuns file.now) }
 {
