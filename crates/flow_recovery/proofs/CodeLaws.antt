@@ -18,7 +18,7 @@ pub among_contains : {A : Type 0} (xs : List A) (x : A) → Among x xs → Conta
 among_contains [] x m = absurd m
 among_contains (y ∷ ys) x m = ⊎_elim (λ e. (0, omega arith, sym e)) (λ r. let p = among_contains ys x r in (suc p.0, omega (arith, p.1), p.2)) m
 
-at_place : {A : Type 0} (xs : List A) (x : A) (k : ℕ) → k < length xs → get_or xs k x ≡ x → Among x xs
+pub at_place : {A : Type 0} (xs : List A) (x : A) (k : ℕ) → k < length xs → get_or xs k x ≡ x → Among x xs
 at_place [] x k lt e = absurd (omega (arith, lt))
 at_place (y ∷ ys) x zero lt e = inl (sym e)
 at_place (y ∷ ys) x (suc k) lt e = inr (at_place ys x k (omega (arith, lt)) e)
