@@ -8,6 +8,8 @@ use Rattle.elf_types.specs.declared.file.Rela.{Rela}
 use Rattle.elf_types.specs.declared.records.ProgramHeader.{ProgramHeader}
 use Rattle.elf_types.specs.declared.records.SectionHeader.{SectionHeader}
 use Rattle.elf_types.specs.Abi.{is_load}
+use Rattle.qed_model.specs.declared.limits.Limit.TheVariants as limit
+use Rattle.qed_model.specs.Limits.{limit_of}
 use Rattle.qed_model.specs.Below.{each, gather}
 use Rattle.qed_model.specs.Elf.Header.{e_entry, e_flags, e_phnum, e_shnum}
 use Rattle.qed_model.specs.Elf.Fields.{program_header, section_header, symbol_entry, rela_entry}
@@ -56,8 +58,8 @@ pub record File (file : List ℕ) (f : ElfFile) : Type 0 where
 
 -- L5 and L10: at most 4,096 sections, and at most 1,073,741,824 bytes of segments and names
 pub record WithinReadLimits (file : List ℕ) : Type 0 where
-  pub sections : e_shnum file ≤ 4096
-  pub bytes : counted_bytes file ≤ 1_073_741_824
+  pub sections : e_shnum file ≤ limit_of limit.Sections
+  pub bytes : counted_bytes file ≤ limit_of limit.CountedBytes
 
 -- the bytes are the file, and within the limits of the reader
 pub record IsReadAs (bytes : List ℕ) (f : ElfFile) : Type 0 where
