@@ -3,7 +3,7 @@ use Rattle.std.proofs.Common.{◌≡◌, ℕ, zero, suc, ◌+◌, ◌-◌, ◌<�
 use Rattle.std.proofs.lemmas.List.{take_all, drop_all, append-nil, append_assoc}
 use Rattle.qed_model.specs.declared.test.CodeWord.{CodeWord}
 use Rattle.block_list.specs.declared.block.CodeBlock.{CodeBlock}
-use Rattle.block_list.specs.Built.{first_at, IsShort, Begun, AddsBlock, Built}
+use Rattle.block_list.specs.Built.{first_at, IsLong, IsShort, Begun, AddsBlock, Built}
 
 -- the rest of words, as a slice of them
 pub rest_is : (words : List CodeWord) (at : ℕ) → take (length words - at) (drop at words) ≡ drop at words
@@ -23,19 +23,35 @@ head_of (x ∷ xs) zero lt = record { word = x; is = refl }
 head_of (x ∷ xs) (suc at) lt = head_later x xs at (head_of xs at (omega (arith, lt)))
 
 module _ (leads : ℕ → Bool) (indirect : Bool) (most : ℕ) where
-  -- a block of a word at no leader, where each address has a block
-  short_begun : (t s : Bool) (w : CodeWord) (ws : List CodeWord) (b : CodeBlock) → t ≡ false → s ≡ true → IsShort w b → Begun t s leads most (w ∷ ws) (b ∷ [])
-  short_begun true s w ws b e i h = absurd (cc)
-  short_begun false false w ws b e i h = absurd (cc)
-  short_begun false true w ws b e i h = record { block = b; is = refl; holds = h }
+  -- what begins with the first word, by what is known there
+  begun_long : (t s : Bool) (w : CodeWord) (ws : List CodeWord) (b : CodeBlock) → t ≡ true → IsLong leads most (w ∷ ws) b → Begun t s leads most (w ∷ ws) (b ∷ [])
+  begun_long true s w ws b e h = record { block = b; is = refl; holds = h }
+  begun_long false s w ws b e h = absurd (cc)
 
+  begun_short : (t s : Bool) (w : CodeWord) (ws : List CodeWord) (b : CodeBlock) → t ≡ false → s ≡ true → IsShort w b → Begun t s leads most (w ∷ ws) (b ∷ [])
+  begun_short true s w ws b e i h = absurd (cc)
+  begun_short false false w ws b e i h = absurd (cc)
+  begun_short false true w ws b e i h = record { block = b; is = refl; holds = h }
+
+  begun_none : (t s : Bool) (w : CodeWord) (ws : List CodeWord) → t ≡ false → s ≡ false → Begun t s leads most (w ∷ ws) []
+  begun_none true s w ws e i = absurd (cc)
+  begun_none false true w ws e i = absurd (cc)
+  begun_none false false w ws e i = refl
+
+  -- a block at a leader
+  pub adds_long : (words : List CodeWord) (w : CodeWord) (b : CodeBlock) (old new : List CodeBlock) → 1 ≤ length words → leads (get_or words 0 w).at ≡ true → IsLong leads most words b → new ≡ old ++ b ∷ [] → AddsBlock leads indirect most words old new
+  adds_long [] w b old new some e h n = absurd (omega (arith, some))
+  adds_long (x ∷ xs) w b old new some e h n = record { added = b ∷ []; new_is = n; begun = begun_long (leads x.at) indirect x xs b e h }
+
+  -- one at no leader, where each code address has a block
   pub adds_short : (words : List CodeWord) (w v : CodeWord) (b : CodeBlock) (old new : List CodeBlock) → 1 ≤ length words → leads (get_or words 0 w).at ≡ false → v ≡ get_or words 0 v → indirect ≡ true → IsShort v b → new ≡ old ++ b ∷ [] → AddsBlock leads indirect most words old new
   adds_short [] w v b old new some e q i h n = absurd (omega (arith, some))
-  adds_short (x ∷ xs) w v b old new some e q i h n = record {
-    added = b ∷ [];
-    new_is = n;
-    begun = short_begun (leads x.at) indirect x xs b e i (subst (λ y. IsShort y b) q h);
-  }
+  adds_short (x ∷ xs) w v b old new some e q i h n = record { added = b ∷ []; new_is = n; begun = begun_short (leads x.at) indirect x xs b e i (subst (λ y. IsShort y b) q h) }
+
+  -- none
+  pub adds_none : (words : List CodeWord) (w : CodeWord) (old : List CodeBlock) → 1 ≤ length words → leads (get_or words 0 w).at ≡ false → indirect ≡ false → AddsBlock leads indirect most words old old
+  adds_none [] w old some e i = absurd (omega (arith, some))
+  adds_none (x ∷ xs) w old some e i = record { added = []; new_is = sym (append-nil old); begun = begun_none (leads x.at) indirect x xs e i }
 
   -- with no rest these are all
   pub all_built : (words : List CodeWord) (at : ℕ) (done : List CodeBlock) → length words ≤ at → ((later : List CodeBlock) → Built leads indirect most (drop at words) later → Built leads indirect most words (done ++ later)) → Built leads indirect most words done

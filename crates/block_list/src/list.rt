@@ -1,11 +1,11 @@
 //! The list of the blocks.
-ghost use Rattle.std.specs.Prelude.{◌≡◌, ◌≤◌, IfOk, OnOk, length, map};
+ghost use Rattle.std.specs.Prelude.{◌≡◌, ℕ, ◌+◌, ◌≤◌, All, IfOk, OnOk, length, map};
 ghost use Rattle.flow_recovery.specs.Sets.{holds};
 ghost use Rattle.flow_recovery.specs.Leaders.{IsCodeOf};
 ghost use Rattle.qed_model.specs.Weave.Blocks.{AreBlocks};
 ghost use Rattle.qed_model.specs.Weave.Places.{AreSound};
 ghost use Rattle.block_list.specs.Built.{IsLong, IsShort, AddsBlock, Built};
-ghost use Rattle.block_list.specs.Listed.{block_of};
+ghost use Rattle.block_list.specs.Listed.{block_of, IsWithin};
 
 use crate::block::{Blocks, CodeBlock};
 use crate::bodies::{body_extent, ends};
@@ -111,7 +111,8 @@ pub(crate) fn list(
 }
 
 /// The blocks of the file, of which `test` has the entry and the code, in ascending order: that of each leader, and where the
-/// code has a JALR that of each other code address.
+/// code has a JALR that of each other code address. The lengths of a block's pieces add up to that of its body, and where all
+/// words of the code end at `top` or below, so do the bodies.
 pub fn blocks(
     alloc: Global,
     test: &Test,
@@ -120,7 +121,8 @@ pub fn blocks(
 ) -> Result<Blocks, AllocError>
     requires code { IsCodeOf file.now test.now }
     requires sound { AreSound options.now }
-    ensures { IfOk result (λ blocks. AreBlocks file.now options.now.inst_max (map block_of blocks)) }
+    ensures exact { IfOk result (λ blocks. AreBlocks file.now options.now.inst_max (map block_of blocks)) }
+    ensures within { IfOk result (λ blocks. (top : ℕ) → All (λ c. c.at + 4 ≤ top) test.now.code → All (IsWithin top) blocks) }
 {
     let leaders = leaders(alloc, test, file)?;
     let indirect = has_indirect(test);

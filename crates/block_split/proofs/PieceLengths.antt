@@ -1,6 +1,7 @@
 -- From runs to the lengths of pieces.
-use Rattle.std.proofs.Common.{◌≡◌, ℕ, zero, suc, ◌+◌, ◌-◌, ◌<◌, ◌≤◌, true, false, List, [], ◌∷◌, ◌++◌, length, take, drop, map, refl, sym, ap, ◌∙◌, subst, arith, length-drop, ◌&&◌}
-use Rattle.std.specs.Prelude.{flat_map, ◌==◌}
+use Rattle.std.proofs.Common.{◌≡◌, ℕ, zero, suc, ◌+◌, ◌-◌, ◌<◌, ◌≤◌, true, false, List, [], ◌∷◌, ◌++◌, length, take, drop, map, refl, sym, ap, ◌∙◌, subst, arith, length-append, length-drop, ◌&&◌}
+use Rattle.std.specs.Prelude.{flat_map, sum, ◌==◌}
+use Rattle.std.proofs.lemmas.List.Sums.{sum_by-cons}
 use Rattle.std.proofs.Math.Seq.{take-append_seam, drop-append_seam}
 use Rattle.std.proofs.lemmas.List.{map-append, take_all, take-append-drop, append_assoc, drop-drop, length-take-le, drop_all, append-nil}
 use Rattle.rv_isa.specs.declared.ins.Ins.{Ins}
@@ -39,11 +40,19 @@ divided_pieces (p ∷ ps) =
     let back : drop (length p) (p ++ whole ps) ≡ whole ps = drop-append_seam p (whole ps) in
     ap (λ x. x ∷ divided (map length ps) (drop (length p) (p ++ whole ps))) front ∙ ap (λ x. p ∷ divided (map length ps) x) back ∙ ap (λ x. p ∷ x) (divided_pieces ps)
 
+total_lengths_of : (ps : List (List Ins)) → sum (map length ps) ≡ length (whole ps)
+total_lengths_of [] = refl
+total_lengths_of (p ∷ ps) = sum_by-cons (λ n. n) (length p) (map length ps) ∙ ap (λ n. length p + n) (total_lengths_of ps) ∙ sym (length-append p (whole ps))
+
 -- pieces of which these are the lengths
 by_pieces : (most : ℕ) (body : List Ins) (lengths : List ℕ) (ps : List (List Ins)) → 1 ≤ most → ArePieces most body ps → lengths ≡ map length ps → AreLengths most body lengths
 by_pieces most body lengths ps h p l =
     let e : divided lengths body ≡ ps = ap (λ ns. divided ns body) l ∙ ap (divided (map length ps)) (sym (pieces_whole most body ps h p)) ∙ divided_pieces ps in
-    record { pieces = subst (ArePieces most body) (sym e) p; exact = l ∙ ap (map length) (sym e) }
+    record {
+      pieces = subst (ArePieces most body) (sym e) p;
+      exact = l ∙ ap (map length) (sym e);
+      total = ap sum l ∙ total_lengths_of ps ∙ ap length (pieces_whole most body ps h p);
+    }
 
 by_runs : (most : ℕ) (body : List Ins) (lengths : List ℕ) (runs : List (List Ins)) → 1 ≤ most → 1 ≤ length body → whole runs ≡ body → AreRuns runs → lengths ≡ flat_map (λ run. run_lengths most (length run)) runs → AreLengths most body lengths
 by_runs most body lengths [] h k e r l = let z : 0 ≡ length body = ap length e in absurd (omega (arith, k, z))

@@ -1,5 +1,5 @@
 -- The lengths of the pieces of a body.
-use Rattle.std.specs.Prelude.{◌≡◌, ℕ, ◌+◌, ◌<◌, ◌≤◌, Bool, true, false, List, [], ◌∷◌, length, take, flat_map, map}
+use Rattle.std.specs.Prelude.{◌≡◌, ℕ, ◌+◌, ◌<◌, ◌≤◌, Bool, true, false, List, [], ◌∷◌, length, take, flat_map, map, sum}
 use Rattle.rv_isa.specs.declared.ins.Ins.{Ins}
 use Rattle.qed_model.specs.Weave.Pieces.{is_run, and_written, AreRuns, run_lengths, divided, whole, ArePieces}
 
@@ -24,7 +24,8 @@ pub record MakeUp (most : ℕ) (body : List Ins) (lengths : List ℕ) : Type 0 w
   pub longest : AreRuns runs
   pub lengths_are : lengths ≡ flat_map (λ run. run_lengths most (length run)) runs
 
--- the body divided into lists of these lengths is its pieces, and these are all their lengths
+-- the body divided into lists of these lengths is its pieces, these are all their lengths, and they make up the body
 pub record AreLengths (most : ℕ) (body : List Ins) (lengths : List ℕ) : Type 0 where
   pub pieces : ArePieces most body (divided lengths body)
   pub exact : lengths ≡ map length (divided lengths body)
+  pub total : sum lengths ≡ length body

@@ -23,6 +23,15 @@ at_place [] x k lt e = absurd (omega (arith, lt))
 at_place (y ∷ ys) x zero lt e = inl (sym e)
 at_place (y ∷ ys) x (suc k) lt e = inr (at_place ys x k (omega (arith, lt)) e)
 
+-- ---- where an instruction stands is a code address
+code_of : (f : ElfFile) (a : ℕ) (i : Ins) (b : Bool) → is_code f a ≡ b → (if b then decode_of (word_at f a) else None) ≡ Some i → is_code f a ≡ true
+code_of f a i true e h = e
+code_of f a i false e h = absurd (cc)
+
+pub standing_code : (f : ElfFile) (a : ℕ) (i : Ins) → instruction_at f a ≡ Some i → is_code f a ≡ true
+standing_code f a i h = code_of f a i (is_code f a) refl h
+
+-- ---- words
 module _ (f : ElfFile) (code : List CodeWord) (words : AreCodeWords f code) where
   -- a word stands at a code address
   pub word_code : (c : CodeWord) → Among c code → is_code f c.at ≡ true
@@ -47,10 +56,6 @@ module _ (f : ElfFile) (code : List CodeWord) (words : AreCodeWords f code) wher
       record { word = s.source; among = s.among; at = s.is }
 
   -- where an instruction stands, it is that of a word
-  code_of : (a : ℕ) (i : Ins) (b : Bool) → is_code f a ≡ b → (if b then decode_of (word_at f a) else None) ≡ Some i → is_code f a ≡ true
-  code_of a i true e h = e
-  code_of a i false e h = absurd (cc)
-
   pub record WordOf (of : Class → Bool) (a : ℕ) (i : Ins) : Type 0 where
     pub word : CodeWord
     pub among : Among word code
@@ -60,7 +65,7 @@ module _ (f : ElfFile) (code : List CodeWord) (words : AreCodeWords f code) wher
 
   pub standing_word : (of : Class → Bool) (a : ℕ) (s : Stands f of a) → WordOf of a s.instruction
   standing_word of a s =
-      let w = code_word a (code_of a s.instruction (is_code f a) refl s.stands) in
+      let w = code_word a (standing_code f a s.instruction s.stands) in
       let both : Some s.instruction ≡ Some w.word.ins = sym s.stands ∙ ap (instruction_at f) w.at ∙ word_stands w.word w.among in
       let same : s.instruction ≡ w.word.ins = cc in
       record { word = w.word; among = w.among; at = w.at; instruction = same; class = ap (λ (i : Ins). of (class_of i.kind)) (sym same) ∙ s.class }
