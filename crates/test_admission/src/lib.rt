@@ -1,0 +1,7 @@
+//! Which tests are admitted. The rules are tested in their order, each over the whole file before the next, and the first that
+//! holds is the answer; a test of which none holds is told by its code, its data and its places.
+#![tactic(auto)]
+
+mod header;
+
+pub use header::check_header;
