@@ -1,1 +1,3 @@
 pub mod OrderLaws
+pub mod Firsts
+pub mod ShapeLaws

@@ -99,3 +99,7 @@ passes_top_address f o p x = record { none = by } where
   by : (d : AdmitError) → place_of d < 15 → HasFault f o d → ⊥
   by (error.TopAddress i) lt h = x i h
   by d lt h = p.none d (omega (arith, lt)) h
+
+-- ---- where the next rule holds
+pub refused : (f : ElfFile) (o : Options) (n : ℕ) (e : AdmitError) → PassesBelow f o n → place_of e ≡ n → HasFault f o e → IsRefusedBy f o e
+refused f o n e p is h = record { fault = h; first = λ d lt x. p.none d (omega (arith, lt, is)) x }

@@ -3,5 +3,7 @@
 #![tactic(auto)]
 
 mod header;
+mod shape;
 
 pub use header::check_header;
+pub use shape::check_shape;
