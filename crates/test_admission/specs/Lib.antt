@@ -1,3 +1,5 @@
 pub mod Read
 pub mod Order
 pub mod Shape
+pub mod Spans
+pub mod DataSpans
