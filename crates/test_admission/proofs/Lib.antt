@@ -4,3 +4,4 @@ pub mod ShapeLaws
 pub mod Joining
 pub mod Meeting
 pub mod DataLaws
+pub mod PlacesLaws

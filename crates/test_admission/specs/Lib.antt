@@ -3,3 +3,4 @@ pub mod Order
 pub mod Shape
 pub mod Spans
 pub mod DataSpans
+pub mod Places

@@ -4,10 +4,12 @@
 
 mod data_ranges;
 mod header;
+mod places;
 mod shape;
 mod spans;
 
 pub use data_ranges::{DataSpans, check_data, data_spans};
 pub use header::check_header;
+pub use places::{ImagePlaces, check_half, check_span, check_top, image_places};
 pub use shape::check_shape;
 pub use spans::Span;
