@@ -5,3 +5,5 @@ pub mod Joining
 pub mod Meeting
 pub mod DataLaws
 pub mod PlacesLaws
+pub mod Reading
+pub mod Cutting

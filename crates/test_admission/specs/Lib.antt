@@ -4,3 +4,4 @@ pub mod Shape
 pub mod Spans
 pub mod DataSpans
 pub mod Places
+pub mod Stretches

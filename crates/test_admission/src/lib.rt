@@ -7,6 +7,7 @@ mod header;
 mod places;
 mod shape;
 mod spans;
+mod stretches;
 
 pub use data_ranges::{DataSpans, check_data, data_spans};
 pub use header::check_header;
