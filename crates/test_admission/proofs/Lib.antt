@@ -7,3 +7,6 @@ pub mod DataLaws
 pub mod PlacesLaws
 pub mod Reading
 pub mod Cutting
+pub mod Far
+pub mod FirstFault
+pub mod Faulting

@@ -5,3 +5,4 @@ pub mod Spans
 pub mod DataSpans
 pub mod Places
 pub mod Stretches
+pub mod Faults

@@ -23,6 +23,10 @@ part_of s = record { start = s.start; size = s.size; bytes = s.bytes.now }
 abbrev pub parts_of : List Stretch → List Part
 parts_of ss = map part_of ss
 
+-- no stretch ends past 2^64
+abbrev pub AllFit : List Stretch → Type 0
+AllFit ss = All (λ s. s.start + s.size ≤ 2 ^ 64) ss
+
 -- by its first address and the one behind its last
 abbrev pub span_of : Part → ℕ × ℕ
 span_of p = (p.start, p.start + p.size)

@@ -3,14 +3,18 @@
 #![tactic(auto)]
 
 mod data_ranges;
+mod faults;
 mod header;
 mod places;
+mod rules;
 mod shape;
 mod spans;
 mod stretches;
 
 pub use data_ranges::{DataSpans, check_data, data_spans};
+pub use faults::check_code;
 pub use header::check_header;
 pub use places::{ImagePlaces, check_half, check_span, check_top, image_places};
 pub use shape::check_shape;
 pub use spans::Span;
+pub use stretches::{Stretch, code_stretches};
