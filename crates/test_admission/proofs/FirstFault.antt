@@ -7,7 +7,7 @@ use Rattle.rv_isa.specs.declared.kind.Kind.TheVariants.{Illegal}
 use Rattle.qed_model.specs.Machine.Table.{ins, ins_of, decode_of}
 use Rattle.std.specs.Prelude.{pos}
 use Rattle.qed_model.specs.Below.{first}
-use Rattle.qed_model.proofs.BelowLaws.{first_found, first_none, first_least}
+use Rattle.qed_model.proofs.BelowLaws.{first_found, first_none, first_least, each_fails}
 use Rattle.test_admission.specs.declared.rules.CodeRule.{CodeRule}
 use Rattle.test_admission.specs.declared.rules.CodeRule.TheVariants as rule
 use Rattle.test_admission.specs.Stretches.{Part}
@@ -50,6 +50,21 @@ pub none_in : (r : CodeRule) (p : Part) (k : ℕ) → filled p ≤ k → ((j : �
 none_in r p k le none =
     ap (option_map (word_of p)) (sym (first_none (p.size / 4) (faults_at r p)
     (λ j lt. ⊎_elim (none j) (λ more. empty_passes r p j (omega (arith, le, lt, more))) (cases_lt j k))))
+
+-- where none of a part is at fault, each word passes
+none_case : (p : Part) (o : Option ℕ) → option_map (word_of p) o ≡ None → o ≡ None
+none_case p None e = refl
+none_case p (Some k) e = absurd (cc)
+
+pub each_passes : (r : CodeRule) (p : Part) (k : ℕ) → first_in r p ≡ None → k < p.size / 4 → faults_at r p k ≡ false
+each_passes r p k e lt = each_fails (p.size / 4) (faults_at r p) (none_case p (first (p.size / 4) (faults_at r p)) e) k lt
+
+-- and where none of parts is, none of the first and none of the others
+pub none_split : (r : CodeRule) (p : Part) (ps : List Part) → first_among r (p ∷ ps) ≡ None → (first_in r p ≡ None) × (first_among r ps ≡ None)
+none_split r p ps e = by (first_in r p) refl e where
+  by : (o : Option (ℕ × ℕ)) → first_in r p ≡ o → option_or o (first_among r ps) ≡ None → (first_in r p ≡ None) × (first_among r ps ≡ None)
+  by None x g = (x, g)
+  by (Some d) x g = absurd (cc)
 
 -- ---- what is found is at fault
 record Hit (r : CodeRule) (c : ℕ × ℕ) : Type 0 where

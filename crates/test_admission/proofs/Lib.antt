@@ -10,3 +10,4 @@ pub mod Cutting
 pub mod Far
 pub mod FirstFault
 pub mod Faulting
+pub mod Listing

@@ -6,3 +6,4 @@ pub mod DataSpans
 pub mod Places
 pub mod Stretches
 pub mod Faults
+pub mod Words

@@ -10,6 +10,7 @@ mod rules;
 mod shape;
 mod spans;
 mod stretches;
+mod words;
 
 pub use data_ranges::{DataSpans, check_data, data_spans};
 pub use faults::check_code;
@@ -18,3 +19,4 @@ pub use places::{ImagePlaces, check_half, check_span, check_top, image_places};
 pub use shape::check_shape;
 pub use spans::Span;
 pub use stretches::{Stretch, code_stretches};
+pub use words::{check_words, code_words};

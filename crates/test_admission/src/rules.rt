@@ -1,5 +1,5 @@
 //! The rules on a code word: an instruction, registers up to x13, no breakpoint, no constant out of reach.
-ghost use Rattle.std.specs.Prelude.{◌≡◌, ◌+◌, ◌*◌, ◌<◌, ◌&&◌, length, slice_index};
+ghost use Rattle.std.specs.Prelude.{◌≡◌, ◌+◌, ◌*◌, ◌^◌, ◌<◌, ◌&&◌, slice_index};
 ghost use Rattle.qed_model.specs.Machine.Table.{decode_of};
 ghost use Rattle.qed_model.specs.Machine.Step.{target};
 ghost use Rattle.qed_model.specs.Weave.Placed.{distance_between};
@@ -94,7 +94,7 @@ fn byte_at(bytes: &[u8], place: usize) -> u8
 
 /// The word from one of some bytes on, where zeros follow them.
 pub fn word_in(bytes: &[u8], place: usize) -> u32
-    requires { place < length bytes.now }
+    requires { place + 3 < 2 ^ 64 }
     ensures { result ≡ word_in bytes.now place }
 {
     let first = byte_at(bytes, place);
