@@ -6,7 +6,7 @@ use Rattle.qed_model.specs.declared.admit.AdmitError.TheVariants as error
 use Rattle.qed_model.specs.declared.options.Options.{Options}
 use Rattle.qed_model.specs.Admission.Refusals.{HasFault, place_of, IsRefusedBy, IsAdmitted}
 use Rattle.qed_model.proofs.AdmissionLaws.{admitted_of}
-use Rattle.test_admission.specs.Order.{PassesBelow}
+use Rattle.test_admission.specs.Order.{PassesBelow, IsCauseOf}
 
 -- no rule comes before the first
 pub passes_none : (f : ElfFile) (o : Options) → PassesBelow f o 1
@@ -103,3 +103,16 @@ passes_top_address f o p x = record { none = by } where
 -- ---- where the next rule holds
 pub refused : (f : ElfFile) (o : Options) (n : ℕ) (e : AdmitError) → PassesBelow f o n → place_of e ≡ n → HasFault f o e → IsRefusedBy f o e
 refused f o n e p is h = record { fault = h; first = λ d lt x. p.none d (omega (arith, lt, is)) x }
+
+-- ---- all of them
+pub admitted : (f : ElfFile) (o : Options) → PassesBelow f o 15 → IsAdmitted f o
+admitted f o p = admitted_of f o by where
+  by : (e : AdmitError) → HasFault f o e → ⊥
+  by error.Memory h = h
+  by e h = p.none e (omega arith) h
+
+pub cause_of : (f : ElfFile) (o : Options) (e : AdmitError) → IsRefusedBy f o e → IsCauseOf f o e
+cause_of f o e h = record { rule = λ n. h }
+
+pub cause_memory : (f : ElfFile) (o : Options) (e : AdmitError) → e ≡ error.Memory → IsCauseOf f o e
+cause_memory f o e h = record { rule = λ n. absurd (n h) }

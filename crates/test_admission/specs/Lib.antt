@@ -7,3 +7,5 @@ pub mod Places
 pub mod Stretches
 pub mod Faults
 pub mod Words
+pub mod Checked
+pub mod Made

@@ -2,9 +2,11 @@
 //! holds is the answer; a test of which none holds is told by its code, its data and its places.
 #![tactic(auto)]
 
+mod check;
 mod data_ranges;
 mod faults;
 mod header;
+mod made;
 mod places;
 mod rules;
 mod shape;
