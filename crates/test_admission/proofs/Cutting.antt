@@ -1,9 +1,9 @@
 -- The code ranges of a file of the right shape, in ascending order and cut, are its code.
-use Rattle.std.proofs.Common.{◌≡◌, ◌⊎◌, inl, inr, ⊎_elim, ℕ, zero, suc, ◌+◌, ◌-◌, ◌*◌, ◌/◌, ◌%◌, ◌^◌, ◌<◌, ◌≤◌, max, min, Bool, true, false, cond, ◌&&◌, ◌||◌, not, List, [], ◌∷◌, length, get_or, refl, sym, ap, ◌∙◌, subst, arith}
-use Rattle.std.specs.Prelude.{nat_lt, nat_le, ◌==◌, All, map, slice_get, slice_index}
+use Rattle.std.proofs.Common.{◌≡◌, ◌⊎◌, inl, inr, ⊎_elim, ℕ, suc, ◌+◌, ◌-◌, ◌/◌, ◌%◌, ◌^◌, ◌<◌, ◌≤◌, max, Bool, true, false, cond, ◌&&◌, ◌||◌, not, List, [], ◌∷◌, length, get_or, refl, sym, ap, ◌∙◌, subst, arith}
+use Rattle.std.specs.Prelude.{nat_lt, nat_le, ◌==◌, All, map}
 use Rattle.std.specs.List.{list_any}
 use Rattle.std.specs.List.Sorted.{IsPermutation, IsNonDecreasingBy}
-use Rattle.std.proofs.lemmas.Bool.{ltb-true, ltb-false, lt-ltb, leb-true, eqb-true, eqb-false, eq-eqb, and_parts, and_from, or_cases, false≢true, cases_lt}
+use Rattle.std.proofs.lemmas.Bool.{ltb-true, ltb-false, leb-true, eqb-true, and_parts, or_cases, false≢true, cases_lt}
 use Rattle.std.proofs.lemmas.Bool.Decides.{nat_tests}
 use Rattle.std.proofs.lemmas.List.Elements.{All-nil, All-cons, All-head, All-tail}
 use Rattle.std.proofs.lemmas.List.Sorted.{All-permutation, list_any-IsPermutation}
@@ -12,19 +12,19 @@ use Rattle.elf_types.specs.declared.file.Section.{Section}
 use Rattle.elf_types.specs.declared.file.ElfFile.{ElfFile}
 use Rattle.qed_model.specs.Machine.Memory.{flags_of}
 use Rattle.qed_model.specs.Machine.Program.{LoadSegment}
-use Rattle.qed_model.specs.Machine.Loading.{load_segment, load_segments, is_code_section, lies_in_code, lies_in_any, section_ranges, segment_ranges, first_some, code_ranges}
+use Rattle.qed_model.specs.Machine.Loading.{load_segment, load_segments, is_code_section, lies_in_code, lies_in_any, section_ranges, segment_ranges, first_some}
 use Rattle.qed_model.specs.Machine.Cells.{byte_among}
-use Rattle.qed_model.specs.Admission.Terms.{is_in_image, is_ragged, is_cut}
+use Rattle.qed_model.specs.Admission.Terms.{is_ragged, is_cut}
 use Rattle.qed_model.specs.Admission.DataRanges.{is_in, is_in_any, is_executed}
 use Rattle.qed_model.specs.Admission.Rules.{passes_at, is_misshapen_section, is_misshapen_segment, is_empty, section_range, segment_range}
 use Rattle.qed_model.specs.Admission.CodeWords.{loads_of, ranges_of}
-use Rattle.qed_model.proofs.Among.{Among, among-map, place_of}
+use Rattle.qed_model.proofs.Among.{Among, place_of}
 use Rattle.qed_model.proofs.ImageLaws.{among_load}
 use Rattle.qed_model.proofs.ReadLoads.{all_among}
 use Rattle.test_admission.specs.declared.stretches.Stretch.{Stretch}
 use Rattle.test_admission.specs.Read.{AreRead}
 use Rattle.test_admission.specs.Shape.{IsShaped}
-use Rattle.test_admission.specs.Stretches.{Part, part_of, parts_of, span_of, rest_of, Reads, has_code, whole_part, whole_parts, trimmed, cut, Follow, AreCodeOf}
+use Rattle.test_admission.specs.Stretches.{Part, part_of, parts_of, span_of, Reads, has_code, whole_part, whole_parts, trimmed, cut, Follow, AreCodeOf}
 use Rattle.test_admission.proofs.Reading.{index-rest_of, reads_of}
 
 -- ---- the segments of code whole
@@ -65,12 +65,12 @@ not_ragged r e = by (r.0 % 4 == 0) ((r.1 - r.0) % 4 == 0) refl refl e where
   by false b h g x = absurd (false≢true (sym x))
 
 -- a section that is a code range
-record SectionOf (ls : List LoadSegment) (ss : List Section) (r : ℕ × ℕ) : Type 0 where
-  section : Section
-  among : Among section ss
-  code : is_code_section section ≡ true
-  lies : lies_in_any section ls ≡ true
-  is : r ≡ section_range section
+pub record SectionOf (ls : List LoadSegment) (ss : List Section) (r : ℕ × ℕ) : Type 0 where
+  pub section : Section
+  pub among : Among section ss
+  pub code : is_code_section section ≡ true
+  pub lies : lies_in_any section ls ≡ true
+  pub is : r ≡ section_range section
 
 section_later : (ls : List LoadSegment) (s : Section) (ss : List Section) (r : ℕ × ℕ) → SectionOf ls ss r → SectionOf ls (s ∷ ss) r
 section_later ls s ss r o = record { section = o.section; among = inr o.among; code = o.code; lies = o.lies; is = o.is }
@@ -79,7 +79,7 @@ section_step : (ls : List LoadSegment) (s : Section) (ss : List Section) (r : �
 section_step ls s ss r rec true e m = ⊎_elim (λ d. let p = and_parts (is_code_section s) (lies_in_any s ls) e in record { section = s; among = inl refl; code = p.0; lies = p.1; is = d }) (λ k. section_later ls s ss r (rec k)) m
 section_step ls s ss r rec false e m = section_later ls s ss r (rec m)
 
-section_of : (ls : List LoadSegment) (ss : List Section) (r : ℕ × ℕ) → Among r (section_ranges ls ss) → SectionOf ls ss r
+pub section_of : (ls : List LoadSegment) (ss : List Section) (r : ℕ × ℕ) → Among r (section_ranges ls ss) → SectionOf ls ss r
 section_of ls [] r m = absurd m
 section_of ls (s ∷ ss) r m = section_step ls s ss r (section_of ls ss r) (is_code_section s && lies_in_any s ls) refl m
 
@@ -98,11 +98,11 @@ lies_fit (l ∷ ls) s h e =
     (or_cases (lies_in_code s l) (lies_in_any s ls) e)
 
 -- a segment that is a code range
-record SegmentOf (ss : List Segment) (r : ℕ × ℕ) : Type 0 where
-  segment : Segment
-  among : Among segment ss
-  code : has_code segment ≡ true
-  is : r ≡ segment_range segment
+pub record SegmentOf (ss : List Segment) (r : ℕ × ℕ) : Type 0 where
+  pub segment : Segment
+  pub among : Among segment ss
+  pub code : has_code segment ≡ true
+  pub is : r ≡ segment_range segment
 
 segment_later : (s : Segment) (ss : List Segment) (r : ℕ × ℕ) → SegmentOf ss r → SegmentOf (s ∷ ss) r
 segment_later s ss r o = record { segment = o.segment; among = inr o.among; code = o.code; is = o.is }
@@ -111,7 +111,7 @@ segment_step : (s : Segment) (ss : List Segment) (r : ℕ × ℕ) → (Among r (
 segment_step s ss r rec true e m = ⊎_elim (λ d. record { segment = s; among = inl refl; code = e; is = d }) (λ k. segment_later s ss r (rec k)) m
 segment_step s ss r rec false e m = segment_later s ss r (rec m)
 
-segment_of : (ss : List Segment) (r : ℕ × ℕ) → Among r (map span_of (whole_parts ss)) → SegmentOf ss r
+pub segment_of : (ss : List Segment) (r : ℕ × ℕ) → Among r (map span_of (whole_parts ss)) → SegmentOf ss r
 segment_of [] r m = absurd m
 segment_of (s ∷ ss) r m = segment_step s ss r (segment_of ss r) (has_code s) refl m
 

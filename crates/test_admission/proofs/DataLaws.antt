@@ -1,8 +1,8 @@
 -- Which segments are data, by joined ranges; and the rule on them.
-use Rattle.std.proofs.Common.{◌≡◌, ◌⊎◌, inl, inr, ⊎_elim, ℕ, zero, suc, ◌+◌, ◌*◌, ◌/◌, ◌<◌, ◌≤◌, max, Bool, true, false, cond, ◌&&◌, ◌||◌, not, List, [], ◌∷◌, length, refl, sym, ap, ◌∙◌, subst, arith}
-use Rattle.std.specs.Prelude.{nat_lt, nat_le, map, filter, slice_get}
+use Rattle.std.proofs.Common.{◌≡◌, ⊎_elim, ℕ, ◌+◌, ◌<◌, max, Bool, true, false, cond, ◌&&◌, ◌||◌, List, [], ◌∷◌, length, refl, sym, ap, ◌∙◌, subst, arith}
+use Rattle.std.specs.Prelude.{nat_lt, map, filter, slice_get}
 use Rattle.std.specs.List.{list_any}
-use Rattle.std.proofs.lemmas.Bool.{ltb-true, lt-ltb, and_from, and_parts, false≢true}
+use Rattle.std.proofs.lemmas.Bool.{ltb-true, lt-ltb, and_from, and_parts}
 use Rattle.elf_types.specs.declared.file.Segment.{Segment}
 use Rattle.elf_types.specs.declared.file.ElfFile.{ElfFile}
 use Rattle.qed_model.specs.declared.admit.AdmitError.TheVariants as error
@@ -13,10 +13,10 @@ use Rattle.qed_model.specs.Admission.Rules.{passes_at, is_mixed}
 use Rattle.qed_model.specs.Admission.Refusals.{IsFirstOf, IsRefusedBy}
 use Rattle.qed_model.specs.Weave.Places.{image_of}
 use Rattle.qed_model.proofs.Among.{Among, passing, any_passing}
-use Rattle.qed_model.proofs.DataRangesLaws.{Spaced, AllSome, AllRoom, in_from, in_parts, in_any-joined, spaced-joined, spaced_from}
+use Rattle.qed_model.proofs.DataRangesLaws.{Spaced, AllSome, AllRoom, in_from, in_parts, in_any-joined, spaced-joined}
 use Rattle.qed_model.proofs.ImageLaws.{image_room}
 use Rattle.test_admission.specs.declared.spans.Span.{Span}
-use Rattle.test_admission.specs.Spans.{bounds_of, all_bounds}
+use Rattle.test_admission.specs.Spans.{all_bounds}
 use Rattle.test_admission.specs.DataSpans.{code_parts, AreCode}
 use Rattle.test_admission.specs.Order.{PassesBelow}
 use Rattle.test_admission.proofs.Firsts.{none_at, none_first}

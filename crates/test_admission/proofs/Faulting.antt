@@ -1,8 +1,8 @@
 -- The first word of the code of a file that is at fault is the least address at fault.
-use Rattle.std.proofs.Common.{◌≡◌, ◌⊎◌, inl, inr, ⊎_elim, ℕ, zero, suc, ◌+◌, ◌-◌, ◌*◌, ◌/◌, ◌%◌, ◌^◌, ◌<◌, ◌≤◌, Bool, true, false, cond, ◌&&◌, ◌||◌, List, [], ◌∷◌, length, Option, Some, None, refl, sym, ap, ◌∙◌, subst, arith}
-use Rattle.std.specs.Prelude.{slice_index, map, nat_lt, nat_le, ◌==◌, is_some, All}
+use Rattle.std.proofs.Common.{◌≡◌, ⊎_elim, ℕ, ◌+◌, ◌-◌, ◌*◌, ◌/◌, ◌%◌, ◌^◌, ◌<◌, ◌≤◌, Bool, true, false, cond, ◌&&◌, ◌||◌, List, [], ◌∷◌, Option, Some, None, refl, sym, ap, ◌∙◌, subst, arith}
+use Rattle.std.specs.Prelude.{map, ◌==◌, is_some, All}
 use Rattle.std.specs.Option.{option_map, option_or}
-use Rattle.std.proofs.lemmas.Bool.{cases_lt, false≢true, and_parts, and_from, eqb-true, eq-eqb, or_cases}
+use Rattle.std.proofs.lemmas.Bool.{false≢true, and_parts, and_from, eqb-true, eq-eqb, or_cases}
 use Rattle.std.proofs.lemmas.List.Elements.{All-nil, All-cons, All-head, All-tail}
 use Rattle.elf_types.specs.declared.file.ElfFile.{ElfFile}
 use Rattle.rv_isa.specs.declared.ins.Ins.{Ins}
@@ -20,7 +20,7 @@ use Rattle.qed_model.specs.Weave.Places.{image_of}
 use Rattle.qed_model.specs.Admission.DataRanges.{is_in, is_in_any}
 use Rattle.qed_model.specs.Admission.CodeWords.{loads_of, ranges_of, is_code, word_at, instruction_at}
 use Rattle.qed_model.specs.Admission.Rules.{passes_at, high_in, high_at, is_unknown, is_breakpoint, is_far_constant, is_ebreak, is_upper, is_far}
-use Rattle.qed_model.specs.Admission.Refusals.{IsLeast, HasFault, IsRefusedBy}
+use Rattle.qed_model.specs.Admission.Refusals.{IsLeast, IsRefusedBy}
 use Rattle.qed_model.proofs.BelowLaws.{first_least, each_fails}
 use Rattle.qed_model.proofs.DataRangesLaws.{in_parts, in_from}
 use Rattle.test_admission.specs.declared.rules.CodeRule.{CodeRule}

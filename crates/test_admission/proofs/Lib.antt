@@ -11,3 +11,5 @@ pub mod Far
 pub mod FirstFault
 pub mod Faulting
 pub mod Listing
+pub mod Ends
+pub mod ReadFiles

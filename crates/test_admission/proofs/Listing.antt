@@ -1,17 +1,17 @@
 -- The words of the code of a file are at its code addresses, in ascending order.
-use Rattle.std.proofs.Common.{◌≡◌, ◌⊎◌, inl, inr, ⊎_elim, ℕ, zero, suc, ◌+◌, ◌-◌, ◌*◌, ◌/◌, ◌%◌, ◌^◌, ◌<◌, ◌≤◌, Bool, true, false, ◌&&◌, ◌||◌, List, [], ◌∷◌, ◌++◌, length, get_or, drop, None, Some, refl, sym, ap, ◌∙◌, subst, arith, append_assoc, add-one, drop-cons}
-use Rattle.std.specs.Prelude.{map, ◌==◌, All, AllPairs, Contains, ◌↔◌}
+use Rattle.std.proofs.Common.{◌≡◌, inl, inr, ⊎_elim, ℕ, zero, suc, ◌+◌, ◌-◌, ◌*◌, ◌/◌, ◌%◌, ◌^◌, ◌<◌, ◌≤◌, Bool, true, false, ◌||◌, List, [], ◌∷◌, ◌++◌, length, get_or, drop, None, Some, refl, sym, ap, ◌∙◌, subst, arith, append_assoc, add-one, drop-cons}
+use Rattle.std.specs.Prelude.{map, ◌==◌, All, AllPairs, Contains}
 use Rattle.std.proofs.lemmas.Bool.{and_parts, and_from, eqb-true, eq-eqb, or_cases, false≢true, cases_lt}
 use Rattle.std.proofs.lemmas.List.{length-append}
-use Rattle.std.proofs.lemmas.List.Elements.{All-nil, All-cons, All-head, All-tail, All-push}
+use Rattle.std.proofs.lemmas.List.Elements.{All-nil, All-cons, All-head, All-tail, All-push, All-append}
 use Rattle.elf_types.specs.declared.file.ElfFile.{ElfFile}
 use Rattle.qed_model.specs.declared.admit.AdmitError.TheVariants as error
 use Rattle.qed_model.specs.declared.options.Options.{Options}
 use Rattle.qed_model.specs.declared.test.CodeWord.{CodeWord}
 use Rattle.qed_model.specs.Machine.Table.{decode_of}
 use Rattle.qed_model.specs.Admission.DataRanges.{is_in, is_in_any}
-use Rattle.qed_model.specs.Admission.CodeWords.{loads_of, ranges_of, is_code, word_at, AreCodeAddresses}
-use Rattle.qed_model.specs.Admission.Refusals.{HasTooManyWords, IsRefusedBy}
+use Rattle.qed_model.specs.Admission.CodeWords.{loads_of, ranges_of, word_at, AreCodeAddresses}
+use Rattle.qed_model.specs.Admission.Refusals.{IsRefusedBy}
 use Rattle.qed_model.specs.Admission.Test.{IsCodeWord, AreCodeWords}
 use Rattle.qed_model.proofs.Among.{Among, among-left, among-right, among-either}
 use Rattle.qed_model.proofs.DataRangesLaws.{in_parts, in_from}
@@ -20,7 +20,7 @@ use Rattle.test_admission.specs.declared.rules.CodeRule.TheVariants as rule
 use Rattle.test_admission.specs.declared.stretches.Stretch.{Stretch}
 use Rattle.test_admission.specs.Order.{PassesBelow}
 use Rattle.test_admission.specs.Stretches.{Part, part_of, parts_of, span_of, Reads, Follow, AreCodeOf}
-use Rattle.test_admission.specs.Faults.{word_in, word_of, first_among}
+use Rattle.test_admission.specs.Faults.{word_of, first_among}
 use Rattle.test_admission.specs.Words.{words_from, words_in, words_among, word_total, pair_of, pairs_of, IsDecoded}
 use Rattle.test_admission.proofs.OrderLaws.{passes_code_words, refused}
 use Rattle.test_admission.proofs.Reading.{among_contains}
@@ -207,3 +207,29 @@ stretch_step code i d old more all lt e h =
 
 pub known_step : (code : List Stretch) (i : ℕ) (d : Stretch) → i < length code → first_among rule.Unknown (parts_of (drop i code)) ≡ None → first_among rule.Unknown (parts_of (drop (i + 1) code)) ≡ None
 known_step code i d lt h = (none_split rule.Unknown (part_of (get_or code i d)) (parts_of (drop (i + 1) code)) (sym (ap (first_among rule.Unknown) (rest_parts code i d lt)) ∙ h)).1
+
+-- ---- the words of a list are those of the file
+words_right : (f : ElfFile) (p : Part) (k n : ℕ) → Reads (loads_of f) p → k + n ≤ p.size / 4 → All (λ c. c.1 ≡ word_at f c.0) (words_from p k n)
+words_right f p k zero r l = All-nil (λ c. c.1 ≡ word_at f c.0)
+words_right f p k (suc n) r l = All-cons (λ c. c.1 ≡ word_at f c.0) (word_of p k) (words_from p (k + 1) n) (part_word (loads_of f) p k r (omega (arith, l))) (words_right f p (k + 1) n r (omega (arith, l)))
+
+all_right : (f : ElfFile) (ps : List Part) → All (Reads (loads_of f)) ps → All (λ c. c.1 ≡ word_at f c.0) (words_among ps)
+all_right f [] h = All-nil (λ c. c.1 ≡ word_at f c.0)
+all_right f (p ∷ ps) h = All-append (λ c. c.1 ≡ word_at f c.0) (words_in p) (words_among ps) (words_right f p 0 (p.size / 4) (All-head (Reads (loads_of f)) p ps h) (omega arith)) (all_right f ps (All-tail (Reads (loads_of f)) p ps h))
+
+firsts_of : (cs : List CodeWord) → map (λ c. c.at) cs ≡ firsts (pairs_of cs)
+firsts_of [] = refl
+firsts_of (c ∷ cs) = ap (λ zs. c.at ∷ zs) (firsts_of cs)
+
+each_word : (f : ElfFile) (cs : List CodeWord) → All IsDecoded cs → All (λ c. c.1 ≡ word_at f c.0) (pairs_of cs) → All (IsCodeWord f) cs
+each_word f [] d h = All-nil (IsCodeWord f)
+each_word f (c ∷ cs) d h =
+    All-cons (IsCodeWord f) c cs
+    (record { word = All-head (λ x. x.1 ≡ word_at f x.0) (pair_of c) (pairs_of cs) h; instruction = (All-head IsDecoded c cs d).instruction })
+    (each_word f cs (All-tail IsDecoded c cs d) (All-tail (λ x. x.1 ≡ word_at f x.0) (pair_of c) (pairs_of cs) h))
+
+pub are_words : (f : ElfFile) (ps : List Part) (cs : List CodeWord) → AreCodeOf f ps → pairs_of cs ≡ words_among ps → All IsDecoded cs → AreCodeWords f cs
+are_words f ps cs code e d = record {
+  addresses = subst (AreCodeAddresses f) (sym (firsts_of cs ∙ ap firsts e)) (are_addresses f ps code);
+  each = each_word f cs d (subst (All (λ c. c.1 ≡ word_at f c.0)) (sym e) (all_right f ps code.read));
+}

@@ -1,16 +1,13 @@
 -- Which of joined ranges a range meets.
-use Rattle.std.proofs.Common.{◌≡◌, ◌⊎◌, inl, inr, ⊎_elim, ℕ, zero, suc, ◌+◌, ◌<◌, ◌≤◌, max, Bool, true, false, cond, ◌&&◌, ◌||◌, List, [], ◌∷◌, length, get_or, refl, sym, ap, ◌∙◌, subst, arith}
-use Rattle.std.specs.Prelude.{nat_lt, nat_le, All, AllPairs, map}
+use Rattle.std.proofs.Common.{◌≡◌, ◌⊎◌, inl, inr, ⊎_elim, ℕ, zero, suc, ◌<◌, ◌≤◌, Bool, true, false, ◌||◌, List, [], ◌∷◌, length, get_or, refl, sym, ap, ◌∙◌, subst, arith}
+use Rattle.std.specs.Prelude.{nat_lt, nat_le}
 use Rattle.std.specs.List.{list_any}
 use Rattle.std.specs.List.Sorted.{IsPartitionedBy, IsPartitionPoint}
-use Rattle.std.proofs.lemmas.Bool.{leb-true, leb-false, ltb-true, ltb-false, le-leb, lt-ltb, and_from, and_parts, false≢true, cases_lt}
+use Rattle.std.proofs.lemmas.Bool.{leb-true, leb-false, ltb-true, ltb-false, le-leb, lt-ltb, and_from, cases_lt}
 use Rattle.std.proofs.lemmas.Bool.Decides.{nat_tests}
-use Rattle.std.proofs.lemmas.List.Elements.{All-nil, All-cons, All-head, All-tail}
-use Rattle.qed_model.specs.Admission.DataRanges.{is_in, is_in_any, do_meet}
-use Rattle.qed_model.proofs.Among.{Among, passing, any_passing}
-use Rattle.qed_model.proofs.DataRangesLaws.{Spaced, AllSome, in_from, in_parts}
+use Rattle.qed_model.specs.Admission.DataRanges.{do_meet}
 use Rattle.test_admission.specs.declared.spans.Span.{Span}
-use Rattle.test_admission.specs.Spans.{bounds_of, all_bounds, HaveSome, AreSpaced}
+use Rattle.test_admission.specs.Spans.{bounds_of, all_bounds, AreSpaced}
 
 same_default : (xs : List Span) (n : ℕ) (x y : Span) → n < length xs → get_or xs n x ≡ get_or xs n y
 same_default [] n x y l = absurd (omega (arith, l))

@@ -1,7 +1,6 @@
 -- The least address of an image, one segment more.
-use Rattle.std.proofs.Common.{◌≡◌, ℕ, min, List, [], ◌∷◌, Option, Some, None, refl, arith}
+use Rattle.std.proofs.Common.{◌≡◌, ℕ, List, [], ◌∷◌, Option, Some, None, refl, arith}
 use Rattle.elf_types.specs.declared.file.Segment.{Segment}
-use Rattle.qed_model.specs.Weave.OutputParts.{low_of}
 use Rattle.test_admission.specs.Places.{lower, least}
 
 pub least_step : (o : Option ℕ) (s : Segment) (ss : List Segment) → least (Some (lower o s.address)) ss ≡ least o (s ∷ ss)

@@ -1,18 +1,18 @@
 -- The bytes of a segment are those of the image.
-use Rattle.std.proofs.Common.{◌≡◌, ◌⊎◌, inl, inr, ⊎_elim, ℕ, zero, suc, ◌+◌, ◌-◌, ◌*◌, ◌<◌, ◌≤◌, min, Bool, true, false, cond, ◌&&◌, List, [], ◌∷◌, length, get_or, drop, refl, sym, ap, ◌∙◌, subst, arith, get_or-drop}
-use Rattle.std.specs.Prelude.{nat_le, nat_lt, slice_index, Contains, slice_get, Some}
-use Rattle.std.proofs.lemmas.Bool.{and_parts, leb-true, ltb-true, eq-eqb, cases_lt}
+use Rattle.std.proofs.Common.{◌≡◌, inl, inr, ⊎_elim, ℕ, zero, suc, ◌+◌, ◌-◌, ◌<◌, ◌≤◌, min, true, List, [], ◌∷◌, length, get_or, refl, sym, ap, ◌∙◌, arith, get_or-drop}
+use Rattle.std.specs.Prelude.{slice_index, Contains}
+use Rattle.std.proofs.lemmas.Bool.{and_parts, leb-true, cases_lt}
 use Rattle.elf_types.specs.declared.file.Segment.{Segment}
 use Rattle.elf_types.specs.declared.file.Section.{Section}
 use Rattle.qed_model.specs.Machine.Memory.{byte_in}
 use Rattle.qed_model.specs.Machine.Program.{LoadSegment}
 use Rattle.qed_model.specs.Machine.Loading.{load_segment, load_segments, lies_in_code}
-use Rattle.qed_model.specs.Machine.Cells.{has, cell_at, cell_among, byte_among}
-use Rattle.qed_model.proofs.Among.{Among, PlaceOf, place_of}
+use Rattle.qed_model.specs.Machine.Cells.{has, cell_at, byte_among}
+use Rattle.qed_model.proofs.Among.{Among, place_of}
 use Rattle.qed_model.proofs.CellsAmong.{has_from, among_agreed}
 use Rattle.qed_model.proofs.ImageLaws.{among_load}
 use Rattle.test_admission.specs.Read.{AreRead}
-use Rattle.test_admission.specs.Stretches.{Part, Reads, rest_of}
+use Rattle.test_admission.specs.Stretches.{Reads, rest_of}
 
 -- a member by its place is one
 among_at : {A : Type 0} (xs : List A) (x : A) (k : ℕ) → k < length xs → get_or xs k x ≡ x → Among x xs

@@ -1,14 +1,13 @@
 -- The rules on the entry and on the shape of code, in their order.
-use Rattle.std.proofs.Common.{◌≡◌, ◌⊎◌, inl, inr, ⊎_elim, ℕ, ◌<◌, Bool, true, false, List, length, refl, sym, ap, ◌∙◌, arith}
+use Rattle.std.proofs.Common.{◌≡◌, inl, inr, ⊎_elim, ℕ, ◌<◌, true, false, length, refl, sym, ap, ◌∙◌}
 use Rattle.std.specs.Prelude.{slice_get}
 use Rattle.std.proofs.lemmas.Bool.{false≢true}
 use Rattle.elf_types.specs.declared.file.ElfFile.{ElfFile}
 use Rattle.qed_model.specs.declared.admit.AdmitError.TheVariants as error
 use Rattle.qed_model.specs.declared.options.Options.{Options}
-use Rattle.qed_model.specs.Admission.Terms.{is_code_address}
-use Rattle.qed_model.specs.Admission.CodeWords.{loads_of, ranges_of, is_code}
+use Rattle.qed_model.specs.Admission.CodeWords.{loads_of, is_code}
 use Rattle.qed_model.specs.Admission.Rules.{passes_at, is_misshapen_section, is_misshapen_segment}
-use Rattle.qed_model.specs.Admission.Refusals.{IsFirstOf, IsMisshapen, HasFault, IsRefusedBy}
+use Rattle.qed_model.specs.Admission.Refusals.{IsFirstOf, IsRefusedBy}
 use Rattle.test_admission.specs.Order.{PassesBelow}
 use Rattle.test_admission.specs.Shape.{IsShaped}
 use Rattle.test_admission.proofs.Firsts.{none_at, none_first}

@@ -9,3 +9,4 @@ pub mod Faults
 pub mod Words
 pub mod Checked
 pub mod Made
+pub mod Admit

@@ -1,5 +1,5 @@
 -- What is listed of a file that was admitted.
-use Rattle.std.specs.Prelude.{ℕ, ◌+◌, ◌^◌, ◌<◌, List, All}
+use Rattle.std.specs.Prelude.{◌+◌, ◌^◌, ◌<◌, List, All}
 use Rattle.code_ranges.specs.declared.range.CodeRange.{CodeRange}
 use Rattle.test_admission.specs.declared.spans.Span.{Span}
 

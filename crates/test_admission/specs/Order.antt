@@ -1,5 +1,5 @@
 -- The rules in their order: how far none of them holds, and what an error says.
-use Rattle.std.specs.Prelude.{◌≡◌, ◌≢◌, ℕ, ◌<◌}
+use Rattle.std.specs.Prelude.{◌≢◌, ℕ, ◌<◌}
 use Rattle.elf_types.specs.declared.file.ElfFile.{ElfFile}
 use Rattle.qed_model.specs.declared.options.Options.{Options}
 use Rattle.qed_model.specs.declared.admit.AdmitError.{AdmitError}

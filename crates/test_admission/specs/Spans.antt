@@ -1,5 +1,5 @@
 -- Ranges of addresses that are sorted and joined.
-use Rattle.std.specs.Prelude.{◌≡◌, ℕ, ◌<◌, Bool, nat_le, cond, max, List, [], ◌∷◌, map, All, AllPairs}
+use Rattle.std.specs.Prelude.{ℕ, ◌<◌, nat_le, cond, max, List, [], ◌∷◌, map, All, AllPairs}
 use Rattle.test_admission.specs.declared.spans.Span.{Span}
 
 -- a range by its first address and the one behind its last

@@ -1,23 +1,26 @@
 //! A test that was admitted, as it is told.
-ghost use Rattle.std.specs.Prelude.{◌≡◌, ◌++◌, map, IfOk, MatchResult};
+ghost use Rattle.std.specs.Prelude.{◌≡◌, ◌++◌, None, map, IfOk};
 ghost use Rattle.qed_model.specs.Admission.Terms.{image_segments};
-ghost use Rattle.qed_model.specs.Admission.CodeWords.{loads_of};
 ghost use Rattle.qed_model.specs.Admission.DataRanges.{range_of};
-ghost use Rattle.qed_model.specs.Admission.Refusals.{IsAdmitted};
-ghost use Rattle.qed_model.specs.Admission.Test.{IsTestOf};
+ghost use Rattle.qed_model.specs.Admission.Test.{AreCodeWords, IsTestOf};
 ghost use Rattle.qed_model.specs.Weave.Places.{AreSound};
 ghost use Rattle.code_ranges.specs.Ranges.{spans};
 ghost use Rattle.test_admission.specs.Checked.{IsChecked};
 ghost use Rattle.test_admission.specs.Made.{RangesEnd, SpansEnd};
-ghost use Rattle.test_admission.specs.Order.{IsCauseOf};
-ghost use Rattle.test_admission.specs.Read.{AreRead};
+ghost use Rattle.test_admission.specs.declared.rules.CodeRule.TheVariants as rule;
+ghost use Rattle.test_admission.specs.Faults.{first_among};
+ghost use Rattle.test_admission.specs.Stretches.{parts_of, AreCodeOf};
 ghost use Rattle.test_admission.specs.Spans.{all_bounds};
 
+use crate::check::TestParts;
 use crate::data_ranges::is_in_image;
+use crate::places::distance;
 use crate::spans::Span;
+use crate::stretches::Stretch;
+use crate::words::code_words;
 use code_ranges::CodeRange;
-use elf_types::{Bytes, Listed, Segment, Segments};
-use qed_model::{Range, Ranges};
+use elf_types::{Bytes, ElfFile, Listed, Segment, Segments};
+use qed_model::{CodeWords, Options, Range, Ranges, Test};
 use std::alloc::{AllocError, Global};
 
 /// Code ranges by their ends.
@@ -74,4 +77,42 @@ fn image(alloc: Global, segments: &[Segment]) -> Result<Segments, AllocError>
         }
     }
     Ok(Listed::of(image))
+}
+
+/// All code words of a file.
+fn word_list(alloc: Global, file: &ElfFile, code: &[Stretch<'_>]) -> Result<CodeWords, AllocError>
+    requires code { AreCodeOf file.now (parts_of code.now) }
+    requires known { first_among rule.Unknown (parts_of code.now) ≡ None }
+    ensures { IfOk result (AreCodeWords file.now) }
+{
+    let words = code_words(alloc, code)?;
+    Ok(Listed::of(words))
+}
+
+/// What is told of a file that was admitted.
+pub fn make_test(
+    alloc: Global,
+    file: &ElfFile,
+    options: &Options,
+    parts: &TestParts<'_>,
+) -> Result<Test, AllocError>
+    requires sound { AreSound options.now }
+    requires parts { IsChecked file.now options.now parts.now }
+    ensures { IfOk result (IsTestOf file.now options.now) }
+{
+    let ranges = code_list(alloc, &parts.ranges)?;
+    let code = word_list(alloc, file, &parts.code)?;
+    let span = data_list(alloc, &parts.spans.ranges)?;
+    let segments = image(alloc, file.segments.as_slice())?;
+    Ok(Test {
+        entry: file.entry,
+        ranges,
+        code,
+        base: parts.places.base,
+        distance: distance(options, &parts.places) as u64,
+        low: parts.places.low,
+        high: parts.places.high as u64,
+        span,
+        segments,
+    })
 }

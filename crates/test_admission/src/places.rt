@@ -130,7 +130,7 @@ pub fn check_span(file: &ElfFile, options: &Options, places: &ImagePlaces) -> Re
 }
 
 /// The distance of the halves, in bytes.
-fn distance(options: &Options, places: &ImagePlaces) -> u128
+pub fn distance(options: &Options, places: &ImagePlaces) -> u128
     requires sound { AreSound options.now }
     requires small { places.now.span ≤ 67_108_864 }
     ensures half { (f : File) → ArePlacesOf f places.now → result ≡ half_of options.now.half (image_of f) }

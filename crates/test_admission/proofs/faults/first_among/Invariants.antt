@@ -1,5 +1,4 @@
 use Rattle.std.proofs.Common.{◌≡◌, drop}
-use Rattle.std.specs.Prelude.{List}
 use Rattle.test_admission.specs.Stretches.{parts_of}
 use Rattle.test_admission.specs.Faults.{first_among}
 use Rattle.test_admission.proofs.faults.first_among.Given as goal

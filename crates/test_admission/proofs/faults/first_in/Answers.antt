@@ -1,6 +1,5 @@
-use Rattle.std.proofs.Common.{◌≡◌, ◌≤◌, sym, ◌∙◌, arith}
+use Rattle.std.proofs.Common.{sym, ◌∙◌, arith}
 use Rattle.test_admission.specs.Stretches.{part_of}
-use Rattle.test_admission.specs.Faults.{filled}
 use Rattle.test_admission.proofs.FirstFault.{found_word, passed_word, none_in}
 use Rattle.test_admission.proofs.faults.first_in.Goals as goal
 

@@ -1,4 +1,4 @@
-use Rattle.std.proofs.Common.{◌≡◌, ◌+◌, ◌*◌, ◌<◌, ◌≤◌, arith}
+use Rattle.std.proofs.Common.{arith}
 use Rattle.test_admission.specs.Stretches.{parts_of}
 use Rattle.test_admission.proofs.Listing.{few_words, refused_words, passes_words}
 use Rattle.test_admission.proofs.words.check_words.Goals as goal
