@@ -1,0 +1,86 @@
+-- Which segments are data, by joined ranges; and the rule on them.
+use Rattle.std.proofs.Common.{◌≡◌, ⊎_elim, ℕ, ◌+◌, ◌<◌, max, Bool, true, false, cond, ◌&&◌, ◌||◌, List, [], ◌∷◌, length, refl, sym, ap, ◌∙◌, subst, arith}
+use Rattle.std.specs.Prelude.{nat_lt, map, filter, slice_get}
+use Rattle.std.specs.List.{list_any}
+use Rattle.std.proofs.lemmas.Bool.{ltb-true, lt-ltb, and_from, and_parts}
+use Rattle.elf_types.specs.declared.file.Segment.{Segment}
+use Rattle.elf_types.specs.declared.file.ElfFile.{ElfFile}
+use Rattle.qed_model.specs.declared.admit.AdmitError.TheVariants as error
+use Rattle.qed_model.specs.declared.options.Options.{Options}
+use Rattle.qed_model.specs.Admission.Terms.{image_segments}
+use Rattle.qed_model.specs.Admission.DataRanges.{is_executed, rounded, do_meet, meets_code, is_in, is_in_any, joined}
+use Rattle.qed_model.specs.Admission.Rules.{passes_at, is_mixed}
+use Rattle.qed_model.specs.Admission.Refusals.{IsFirstOf, IsRefusedBy}
+use Rattle.qed_model.specs.Weave.Places.{image_of}
+use Rattle.qed_model.proofs.Among.{Among, passing, any_passing}
+use Rattle.qed_model.proofs.DataRangesLaws.{Spaced, AllSome, AllRoom, in_from, in_parts, in_any-joined, spaced-joined}
+use Rattle.qed_model.proofs.ImageLaws.{image_room}
+use Rattle.test_admission.specs.declared.spans.Span.{Span}
+use Rattle.test_admission.specs.Spans.{all_bounds}
+use Rattle.test_admission.specs.DataSpans.{code_parts, AreCode}
+use Rattle.test_admission.specs.Order.{PassesBelow}
+use Rattle.test_admission.proofs.Firsts.{none_at, none_first}
+use Rattle.test_admission.proofs.OrderLaws.{passes_data_mixed, refused}
+
+-- ---- ranges that have an address in common with one of some
+some_of : (rs : List (ℕ × ℕ)) (t : ℕ × ℕ) → AllSome rs → Among t rs → t.0 < t.1
+some_of [] t h m = absurd m
+some_of (r ∷ rs) t h m = ⊎_elim (λ e. subst (λ x. x.0 < x.1) (sym e) h.0) (λ k. some_of rs t h.1 k) m
+
+meets_through : (r : ℕ × ℕ) (rs ts : List (ℕ × ℕ)) → r.0 < r.1 → AllSome rs → ((q : ℕ) → is_in_any rs q ≡ is_in_any ts q) → list_any (do_meet r) rs ≡ true → list_any (do_meet r) ts ≡ true
+meets_through r rs ts some all same h =
+    let p = passing (do_meet r) rs h in
+    let m = p.member in
+    let d = and_parts (nat_lt r.0 m.1) (nat_lt m.0 r.1) p.passes in
+    let a = ltb-true r.0 m.1 d.0 in
+    let b = ltb-true m.0 r.1 d.1 in
+    let l = some_of rs m all p.among in
+    let q = max r.0 m.0 in
+    let here : is_in_any rs q ≡ true = any_passing (λ x. is_in x q) m rs p.among (in_from m q (omega arith) (omega (arith, a, l))) in
+    let n = passing (λ x. is_in x q) ts (sym (same q) ∙ here) in
+    let i = in_parts n.member q n.passes in
+    any_passing (do_meet r) n.member ts n.among (and_from (nat_lt r.0 n.member.1) (nat_lt n.member.0 r.1) (lt-ltb r.0 n.member.1 (omega (arith, i.1))) (lt-ltb n.member.0 r.1 (omega (arith, i.0, b, some))))
+
+both : (a b : Bool) → (a ≡ true → b ≡ true) → (b ≡ true → a ≡ true) → a ≡ b
+both true b f g = sym (f refl)
+both false true f g = g refl
+both false false f g = refl
+
+meets_same : (r : ℕ × ℕ) (rs ts : List (ℕ × ℕ)) → r.0 < r.1 → AllSome rs → AllSome ts → ((q : ℕ) → is_in_any rs q ≡ is_in_any ts q) → list_any (do_meet r) rs ≡ list_any (do_meet r) ts
+meets_same r rs ts some a b same = both _ _ (meets_through r rs ts some a same) (meets_through r ts rs some b (λ q. sym (same q)))
+
+-- ---- code
+executed_parts : (r : ℕ × ℕ) (image : List Segment) → list_any (λ t. is_executed t && do_meet r (rounded t)) image ≡ list_any (do_meet r) (code_parts image)
+executed_parts r [] = refl
+executed_parts r (s ∷ ss) =
+    elim (is_executed s) as (λ b. ((b && do_meet r (rounded s)) || list_any (λ t. is_executed t && do_meet r (rounded t)) ss) ≡ list_any (do_meet r) (map rounded (cond b (s ∷ filter is_executed ss) (filter is_executed ss)))) [
+      | true ↦ ap (λ b. do_meet r (rounded s) || b) (executed_parts r ss)
+      | false ↦ executed_parts r ss
+    ]
+
+some_code : (image : List Segment) → AllRoom image → AllSome (code_parts image)
+some_code [] h = tt
+some_code (s ∷ ss) h = elim (is_executed s) as (λ b. AllSome (map rounded (cond b (s ∷ filter is_executed ss) (filter is_executed ss)))) [ true ↦ (omega (arith, h.0), some_code ss h.1) | false ↦ some_code ss h.1 ]
+
+some_joined : (rs : List (ℕ × ℕ)) → AllSome rs → AllSome (joined rs)
+some_joined rs h = of 0 (joined rs) (spaced-joined rs h) where
+  of : (low : ℕ) (ts : List (ℕ × ℕ)) → Spaced low ts → AllSome ts
+  of low [] s = tt
+  of low (t ∷ ts) s = (s.1, of (t.1 + 1) ts s.2)
+
+-- a segment shares a word with code where it meets a joined range of code
+pub meets_joined : (ss : List Segment) (code : List Span) (s : Segment) → AreCode (image_segments ss) code → 0 < s.memory → list_any (do_meet (rounded s)) (all_bounds code) ≡ meets_code (image_segments ss) s
+meets_joined ss code s h room =
+    let image = image_segments ss in
+    let some = some_code image (image_room ss) in
+    ap (list_any (do_meet (rounded s))) h.ranges
+    ∙ meets_same (rounded s) (joined (code_parts image)) (code_parts image) (omega (arith, room)) (some_joined (code_parts image) some) some (λ q. in_any-joined q (code_parts image) some)
+    ∙ sym (executed_parts (rounded s) image)
+
+-- ---- the rule
+module _ (f : ElfFile) (passed : (o : Options) → PassesBelow f o 10) where
+  pub refused_mixed : (i : ℕ) → IsFirstOf f.segments (is_mixed (image_of f)) i → (o : Options) → IsRefusedBy f o (error.DataMixed i)
+  refused_mixed i s o = refused f o 10 (error.DataMixed i) (passed o) refl s
+
+  pub passes_data : ((k : ℕ) → k < length f.segments → passes_at (is_mixed (image_of f)) (slice_get f.segments k) ≡ false) → (o : Options) → PassesBelow f o 11
+  passes_data none o = passes_data_mixed f o (passed o) (λ i h. none_first (is_mixed (image_of f)) f.segments (none_at (is_mixed (image_of f)) f.segments none) i h)

@@ -1,0 +1,89 @@
+-- The first word of a part that is at fault; words without a byte of the file are at fault by no rule.
+use Rattle.std.proofs.Common.{◌≡◌, ⊎_elim, ℕ, zero, suc, ◌+◌, ◌*◌, ◌/◌, ◌<◌, ◌≤◌, true, false, List, [], ◌∷◌, length, Option, Some, None, refl, sym, ap, ◌∙◌, arith}
+use Rattle.std.specs.Prelude.{slice_index}
+use Rattle.std.specs.Option.{option_map, option_or}
+use Rattle.std.proofs.lemmas.Bool.{cases_lt}
+use Rattle.rv_isa.specs.declared.kind.Kind.TheVariants.{Illegal}
+use Rattle.qed_model.specs.Machine.Table.{ins, ins_of, decode_of}
+use Rattle.std.specs.Prelude.{pos}
+use Rattle.qed_model.specs.Below.{first}
+use Rattle.qed_model.proofs.BelowLaws.{first_found, first_none, first_least, each_fails}
+use Rattle.test_admission.specs.declared.rules.CodeRule.{CodeRule}
+use Rattle.test_admission.specs.declared.rules.CodeRule.TheVariants as rule
+use Rattle.test_admission.specs.Stretches.{Part}
+use Rattle.test_admission.specs.Faults.{faults, is_at_fault, word_in, faults_at, word_of, filled, first_in, first_among}
+
+-- ---- the zero word
+zero_decoded : decode_of 0 ≡ Some (ins Illegal 0 0 0 (pos 0))
+unfolding decode_of ins_of
+zero_decoded = refl
+
+zero_passes : (r : CodeRule) (a : ℕ) → faults r a (Some (ins Illegal 0 0 0 (pos 0))) ≡ false
+zero_passes rule.Unknown a = refl
+zero_passes rule.Registers a = refl
+zero_passes rule.Breakpoint a = refl
+zero_passes (rule.Constant base) a = refl
+
+past : (bs : List ℕ) (k : ℕ) → length bs ≤ k → slice_index bs k ≡ 0
+past [] k h = refl
+past (b ∷ bs) zero h = absurd (omega (arith, h))
+past (b ∷ bs) (suc k) h = past bs k (omega (arith, h))
+
+zero_word : (bs : List ℕ) (k : ℕ) → length bs ≤ k → word_in bs k ≡ 0
+zero_word bs k h = rw (past bs k h, past bs (k + 1) (omega (arith, h)), past bs (k + 2) (omega (arith, h)), past bs (k + 3) (omega (arith, h))) refl
+
+pub empty_passes : (r : CodeRule) (p : Part) (k : ℕ) → length p.bytes ≤ 4 * k → faults_at r p k ≡ false
+empty_passes r p k h = ap (is_at_fault r (p.start + 4 * k)) (zero_word p.bytes (4 * k) h) ∙ ap (faults r (p.start + 4 * k)) zero_decoded ∙ zero_passes r (p.start + 4 * k)
+
+-- ---- what a loop over the words finds
+found_in : (r : CodeRule) (p : Part) (k : ℕ) → k < filled p → faults_at r p k ≡ true → ((j : ℕ) → j < k → faults_at r p j ≡ false) → Some (p.start + 4 * k, word_in p.bytes (4 * k)) ≡ first_in r p
+found_in r p k lt h before = ap (option_map (word_of p)) (sym (first_found (p.size / 4) (faults_at r p) k (omega (arith, lt)) h before))
+
+-- the same of a word that was read
+pub found_word : (r : CodeRule) (p : Part) (k n word : ℕ) → word ≡ word_in p.bytes (4 * k) → k < n → n ≡ filled p → is_at_fault r (p.start + 4 * k) word ≡ true → ((j : ℕ) → j < k → faults_at r p j ≡ false) → Some (p.start + 4 * k, word) ≡ first_in r p
+found_word r p k n word is lt e h before = ap (λ x. Some (p.start + 4 * k, x)) is ∙ found_in r p k (omega (arith, lt, e)) (sym (ap (is_at_fault r (p.start + 4 * k)) is) ∙ h) before
+
+pub passed_word : (r : CodeRule) (p : Part) (k word : ℕ) → word ≡ word_in p.bytes (4 * k) → is_at_fault r (p.start + 4 * k) word ≡ false → ((j : ℕ) → j < k → faults_at r p j ≡ false) → (j : ℕ) → j < k + 1 → faults_at r p j ≡ false
+passed_word r p k word is h before j lt = ⊎_elim (before j) (λ le. let e : k ≡ j = omega (arith, le, lt) in ap (faults_at r p) (sym e) ∙ sym (ap (is_at_fault r (p.start + 4 * k)) is) ∙ h) (cases_lt j k)
+
+pub none_in : (r : CodeRule) (p : Part) (k : ℕ) → filled p ≤ k → ((j : ℕ) → j < k → faults_at r p j ≡ false) → None ≡ first_in r p
+none_in r p k le none =
+    ap (option_map (word_of p)) (sym (first_none (p.size / 4) (faults_at r p)
+    (λ j lt. ⊎_elim (none j) (λ more. empty_passes r p j (omega (arith, le, lt, more))) (cases_lt j k))))
+
+-- where none of a part is at fault, each word passes
+none_case : (p : Part) (o : Option ℕ) → option_map (word_of p) o ≡ None → o ≡ None
+none_case p None e = refl
+none_case p (Some k) e = absurd (cc)
+
+pub each_passes : (r : CodeRule) (p : Part) (k : ℕ) → first_in r p ≡ None → k < p.size / 4 → faults_at r p k ≡ false
+each_passes r p k e lt = each_fails (p.size / 4) (faults_at r p) (none_case p (first (p.size / 4) (faults_at r p)) e) k lt
+
+-- and where none of parts is, none of the first and none of the others
+pub none_split : (r : CodeRule) (p : Part) (ps : List Part) → first_among r (p ∷ ps) ≡ None → (first_in r p ≡ None) × (first_among r ps ≡ None)
+none_split r p ps e = by (first_in r p) refl e where
+  by : (o : Option (ℕ × ℕ)) → first_in r p ≡ o → option_or o (first_among r ps) ≡ None → (first_in r p ≡ None) × (first_among r ps ≡ None)
+  by None x g = (x, g)
+  by (Some d) x g = absurd (cc)
+
+-- ---- what is found is at fault
+record Hit (r : CodeRule) (c : ℕ × ℕ) : Type 0 where
+  at_fault : is_at_fault r c.0 c.1 ≡ true
+
+hit_in : (r : CodeRule) (p : Part) (c : ℕ × ℕ) (o : Option ℕ) → first (p.size / 4) (faults_at r p) ≡ o → option_map (word_of p) o ≡ Some c → Hit r c
+hit_in r p c None e h = absurd (cc)
+hit_in r p c (Some k) e h =
+    let f = first_least (p.size / 4) (faults_at r p) k e in
+    let a : p.start + 4 * k ≡ c.0 = cc in
+    let w : word_in p.bytes (4 * k) ≡ c.1 = cc in
+    record { at_fault = sym (ap (λ x. is_at_fault r x (word_in p.bytes (4 * k))) a ∙ ap (is_at_fault r c.0) w) ∙ f.passes }
+
+hit_among : (r : CodeRule) (ps : List Part) (c : ℕ × ℕ) → first_among r ps ≡ Some c → Hit r c
+hit_among r [] c h = absurd (cc)
+hit_among r (p ∷ ps) c h = by (first_in r p) refl h (hit_in r p c (first (p.size / 4) (faults_at r p)) refl) (hit_among r ps c) where
+  by : (o : Option (ℕ × ℕ)) → first_in r p ≡ o → option_or o (first_among r ps) ≡ Some c → (first_in r p ≡ Some c → Hit r c) → (first_among r ps ≡ Some c → Hit r c) → Hit r c
+  by None e x here rest = rest x
+  by (Some d) e x here rest = here (e ∙ x)
+
+pub found_at_fault : (r : CodeRule) (ps : List Part) (a word : ℕ) → first_among r ps ≡ Some (a, word) → is_at_fault r a word ≡ true
+found_at_fault r ps a word h = (hit_among r ps (a, word) h).at_fault

@@ -1,0 +1,117 @@
+-- Sorted ranges that are joined from the front are the joined ranges.
+use Rattle.std.proofs.Common.{◌≡◌, ℕ, zero, suc, ◌+◌, ◌<◌, ◌≤◌, max, Bool, true, false, cond, ◌&&◌, ◌||◌, List, [], ◌∷◌, length, get_or, refl, sym, ap, ◌∙◌, arith}
+use Rattle.std.specs.Prelude.{nat_lt, nat_le, All, AllPairs}
+use Rattle.std.specs.List.{list_any}
+use Rattle.std.specs.List.Sorted.{IsPermutation, IsNonDecreasingBy}
+use Rattle.std.proofs.lemmas.Bool.{leb-true, leb-false}
+use Rattle.std.proofs.lemmas.Bool.Decides.{nat_tests}
+use Rattle.std.proofs.lemmas.List.Elements.{All-nil, All-cons, All-head, All-tail}
+use Rattle.std.proofs.lemmas.List.Sorted.{All-permutation, list_any-IsPermutation}
+use Rattle.qed_model.specs.Admission.DataRanges.{is_in, is_in_any, joined}
+use Rattle.qed_model.proofs.DataRangesLaws.{Spaced, AllSome, spaced-joined, in_any-joined, same_ranges}
+use Rattle.test_admission.specs.declared.spans.Span.{Span}
+use Rattle.test_admission.specs.Spans.{bounds_of, all_bounds, glue, glued, HaveSome, AreSpaced}
+
+-- ---- ranges in the order of their starts
+-- each begins at the start of the one before it, or behind it, and has some address
+abbrev pub Starts : ℕ → List (ℕ × ℕ) → Type 0
+Starts low [] = Unit {0}
+Starts low (r ∷ rs) = (low ≤ r.0) × (r.0 < r.1) × Starts r.0 rs
+
+starts_lower : (low l : ℕ) (rs : List (ℕ × ℕ)) → l ≤ low → Starts low rs → Starts l rs
+starts_lower low l [] h s = tt
+starts_lower low l (r ∷ rs) h s = (omega (arith, h, s.0), s.1, s.2)
+
+spaced-glue : (low : ℕ) (r : ℕ × ℕ) (ts : List (ℕ × ℕ)) → low ≤ r.0 → r.0 < r.1 → Starts r.0 ts → Spaced low (glue r ts)
+spaced-glue low r [] l s h = (l, s, tt)
+spaced-glue low r (t ∷ ts) l s h =
+    elim (nat_le t.0 r.1) as (λ b. nat_le t.0 r.1 ≡ b → Spaced low (cond b (glue (r.0, max r.1 t.1) ts) (r ∷ glue t ts))) [
+      | true ↦ λ e. spaced-glue low (r.0, max r.1 t.1) ts l (omega (arith, s)) (starts_lower t.0 r.0 ts h.0 h.2)
+      | false ↦ λ e. let lt = leb-false t.0 r.1 e in (l, s, spaced-glue (r.1 + 1) t ts (omega (arith, lt)) h.1 h.2)
+    ] refl
+
+or_assoc : (a b c : Bool) → ((a || b) || c) ≡ (a || (b || c))
+or_assoc true b c = refl
+or_assoc false b c = refl
+
+one_range_of : (a b c d q : ℕ) → a < b → c < d → a ≤ c → c ≤ b → (nat_le a q && nat_lt q (max b d)) ≡ ((nat_le a q && nat_lt q b) || (nat_le c q && nat_lt q d))
+one_range_of a b c d q x y u v = grind (arith, nat_tests)
+
+in_any-glue : (q : ℕ) (r : ℕ × ℕ) (ts : List (ℕ × ℕ)) → r.0 < r.1 → Starts r.0 ts → is_in_any (glue r ts) q ≡ (is_in r q || is_in_any ts q)
+in_any-glue q r [] s h = refl
+in_any-glue q r (t ∷ ts) s h =
+    elim (nat_le t.0 r.1) as (λ b. nat_le t.0 r.1 ≡ b → is_in_any (cond b (glue (r.0, max r.1 t.1) ts) (r ∷ glue t ts)) q ≡ (is_in r q || (is_in t q || is_in_any ts q))) [
+      | true ↦ λ e.
+          in_any-glue q (r.0, max r.1 t.1) ts (omega (arith, s)) (starts_lower t.0 r.0 ts h.0 h.2)
+          ∙ ap (λ b. b || is_in_any ts q) (one_range_of r.0 r.1 t.0 t.1 q s h.1 h.0 (leb-true t.0 r.1 e))
+          ∙ or_assoc (is_in r q) (is_in t q) (is_in_any ts q)
+      | false ↦ λ e. ap (λ b. is_in r q || b) (in_any-glue q t ts h.1 h.2)
+    ] refl
+
+spaced-glued : (rs : List (ℕ × ℕ)) → Starts 0 rs → Spaced 0 (glued rs)
+spaced-glued [] h = tt
+spaced-glued (r ∷ rs) h = spaced-glue 0 r rs (omega arith) h.1 h.2
+
+in_any-glued : (q : ℕ) (rs : List (ℕ × ℕ)) → Starts 0 rs → is_in_any (glued rs) q ≡ is_in_any rs q
+in_any-glued q [] h = refl
+in_any-glued q (r ∷ rs) h = in_any-glue q r rs h.1 h.2
+
+-- ---- a sort
+-- the addresses are those of the ranges, in whatever order
+any_bounds : (q : ℕ) (ss : List Span) → is_in_any (all_bounds ss) q ≡ list_any (λ s. is_in (bounds_of s) q) ss
+any_bounds q [] = refl
+any_bounds q (s ∷ ss) = ap (λ b. is_in (bounds_of s) q || b) (any_bounds q ss)
+
+pub some_bounds : (ss : List Span) → HaveSome ss → AllSome (all_bounds ss)
+some_bounds [] h = tt
+some_bounds (s ∷ ss) h = (All-head (λ t. t.start < t.end) s ss h, some_bounds ss (All-tail (λ t. t.start < t.end) s ss h))
+
+starts_from : (low : ℕ) (ss : List Span) → ((d : Span) → 0 < length ss → low ≤ (get_or ss 0 d).start) → IsNonDecreasingBy (λ s. s.start) ss → HaveSome ss → Starts low (all_bounds ss)
+starts_from low [] l up h = tt
+starts_from low (s ∷ ss) l up h = (
+  l s (omega arith),
+  All-head (λ t. t.start < t.end) s ss h,
+  starts_from s.start ss
+      (λ d lt. up 0 1 d (omega arith) (omega (arith, lt)))
+      (λ i j d le lt. up (suc i) (suc j) d (omega (arith, le)) (omega (arith, lt)))
+      (All-tail (λ t. t.start < t.end) s ss h),
+)
+
+-- ---- spaced ranges
+have_some : (low : ℕ) (ss : List Span) → Spaced low (all_bounds ss) → HaveSome ss
+have_some low [] h = All-nil (λ s. s.start < s.end)
+have_some low (s ∷ ss) h = All-cons (λ t. t.start < t.end) s ss h.1 (have_some (s.end + 1) ss h.2)
+
+all_from : (low l : ℕ) (ss : List Span) → l ≤ low → Spaced low (all_bounds ss) → All (λ s. l ≤ s.start) ss
+all_from low l [] le h = All-nil (λ s. l ≤ s.start)
+all_from low l (s ∷ ss) le h = All-cons (λ t. l ≤ t.start) s ss (omega (arith, le, h.0)) (all_from (s.end + 1) l ss (omega (arith, le, h.0, h.1)) h.2)
+
+gap_pair : (s : Span) (ss : List Span) → All (λ t. s.end + 1 ≤ t.start) ss → AllPairs (λ t u. t.end < u.start) ss → (i j : ℕ) (d : Span) → i < j → j < length (s ∷ ss) → (get_or (s ∷ ss) i d).end < (get_or (s ∷ ss) j d).start
+gap_pair s ss h rest i zero d lt le = absurd (omega (arith, lt))
+gap_pair s ss h rest zero (suc j) d lt le = let p = h j d (omega (arith, le)) in omega (arith, p)
+gap_pair s ss h rest (suc i) (suc j) d lt le = rest i j d (omega (arith, lt)) (omega (arith, le))
+
+have_gaps : (low : ℕ) (ss : List Span) → Spaced low (all_bounds ss) → AllPairs (λ s t. s.end < t.start) ss
+have_gaps low [] h = λ i j d lt le. absurd (omega (arith, le))
+have_gaps low (s ∷ ss) h = gap_pair s ss (all_from (s.end + 1) (s.end + 1) ss (omega arith) h.2) (have_gaps (s.end + 1) ss h.2)
+
+pub are_spaced : (ss : List Span) → Spaced 0 (all_bounds ss) → AreSpaced ss
+are_spaced ss h = record { some = have_some 0 ss h; gaps = have_gaps 0 ss h }
+
+-- ---- so sorting and joining from the front give the joined ranges
+module _ (xs ys : List Span) (some : HaveSome xs) (moved : IsPermutation xs ys) (up : IsNonDecreasingBy (λ s. s.start) ys) where
+  starts : Starts 0 (all_bounds ys)
+  starts = starts_from 0 ys (λ d lt. omega arith) up (All-permutation (λ s. s.start < s.end) xs ys moved some)
+
+  pub glued_spaced : Spaced 0 (glued (all_bounds ys))
+  glued_spaced = spaced-glued (all_bounds ys) starts
+
+  pub glued_joined : glued (all_bounds ys) ≡ joined (all_bounds xs)
+  glued_joined =
+      same_ranges 0 0 (glued (all_bounds ys)) (joined (all_bounds xs)) glued_spaced (spaced-joined (all_bounds xs) (some_bounds xs some))
+      (λ q.
+      in_any-glued q (all_bounds ys) starts
+      ∙ any_bounds q ys
+      ∙ sym (list_any-IsPermutation (λ s. is_in (bounds_of s) q) xs ys moved)
+      ∙ sym (any_bounds q xs)
+      ∙ sym (in_any-joined q (all_bounds xs) (some_bounds xs some)))

@@ -1,0 +1,15 @@
+pub mod OrderLaws
+pub mod Firsts
+pub mod ShapeLaws
+pub mod Joining
+pub mod Meeting
+pub mod DataLaws
+pub mod PlacesLaws
+pub mod Reading
+pub mod Cutting
+pub mod Far
+pub mod FirstFault
+pub mod Faulting
+pub mod Listing
+pub mod Ends
+pub mod ReadFiles

@@ -1,0 +1,31 @@
+use Rattle.std.proofs.Common.{sym}
+use Rattle.test_admission.specs.Stretches.{parts_of}
+use Rattle.test_admission.proofs.Faulting.{follow_fit, refused_unknown, refused_high, refused_break, refused_far, passes_code}
+use Rattle.test_admission.proofs.faults.check_code.Goals as goal
+
+pub first_among-requires : goal.first_among-requires
+first_among-requires c = follow_fit 0 c.args.code.now c.requires.code.follow
+
+pub first_high-requires : goal.first_high-requires
+first_high-requires c = follow_fit 0 c.args.code.now c.requires.code.follow
+
+pub first_among-requires-2 : goal.first_among-requires-2
+first_among-requires-2 c = follow_fit 0 c.args.code.now c.requires.code.follow
+
+pub first_among-requires-3 : goal.first_among-requires-3
+first_among-requires-3 c = follow_fit 0 c.args.code.now c.requires.code.follow
+
+pub returns-in-Some-clause-order : goal.returns-in-Some-clause-order
+returns-in-Some-clause-order c = refused_unknown c.args.file.now (parts_of c.args.code.now) c.requires.code c.requires.passed c.in-Some.address c.in-Some.word (sym c.in-Some.ensures)
+
+pub returns-in-Some-first_high-clause-order : goal.returns-in-Some-first_high-clause-order
+returns-in-Some-first_high-clause-order c = refused_high c.args.file.now (parts_of c.args.code.now) c.requires.code c.requires.passed (sym c.in_default.ensures) c.in-Some-first_high.error c.in-Some-first_high.ensures
+
+pub returns-in-Some-first_among-clause-order : goal.returns-in-Some-first_among-clause-order
+returns-in-Some-first_among-clause-order c = refused_break c.args.file.now (parts_of c.args.code.now) c.requires.code c.requires.passed (sym c.in_default.ensures) c.in_default-first_high.ensures c.in-Some-first_among.address _ (sym c.in-Some-first_among.ensures)
+
+pub returns-in-Some-first_among-2-clause-order : goal.returns-in-Some-first_among-2-clause-order
+returns-in-Some-first_among-2-clause-order c = refused_far c.args.file.now (parts_of c.args.code.now) c.requires.code c.requires.passed (sym c.in_default.ensures) c.in_default-first_high.ensures (sym c.in_default-first_among.ensures) c.args.base c.in-Some-first_among-2.address _ c.requires.base (sym c.in-Some-first_among-2.ensures)
+
+pub returns-clause-order : goal.returns-clause-order
+returns-clause-order c = passes_code c.args.file.now (parts_of c.args.code.now) c.requires.code c.requires.passed (sym c.in_default.ensures) c.in_default-first_high.ensures (sym c.in_default-first_among.ensures) c.args.base c.requires.base (sym c.in_default-first_among-2.ensures)

@@ -1,0 +1,14 @@
+use Rattle.std.proofs.Common.{subst, sym}
+use Rattle.qed_model.specs.Admission.Test.{AreCodeWords}
+use Rattle.test_admission.specs.Stretches.{parts_of}
+use Rattle.test_admission.proofs.Faulting.{follow_fit}
+use Rattle.test_admission.proofs.Listing.{are_words}
+use Rattle.test_admission.proofs.made.word_list.Goals as goal
+
+pub code_words-requires-clause-fits : goal.code_words-requires-clause-fits
+code_words-requires-clause-fits c = follow_fit 0 c.args.code.now c.requires.code.follow
+
+pub returns : goal.returns
+returns c =
+    let h = are_words c.args.file.now (parts_of c.args.code.now) c.in_ok-words.words.items c.requires.code c.in_ok-words.ensures.words c.in_ok-words.ensures.decoded in
+    subst (AreCodeWords c.args.file.now) (sym c.of.ensures) h

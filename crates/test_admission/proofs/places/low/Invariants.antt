@@ -1,0 +1,9 @@
+use Rattle.std.proofs.Common.{◌≡◌, drop}
+use Rattle.qed_model.specs.Admission.Terms.{image_segments}
+use Rattle.qed_model.specs.Weave.OutputParts.{low_of}
+use Rattle.test_admission.specs.Places.{least}
+use Rattle.test_admission.proofs.places.low.Given as goal
+
+-- the least so far and the rest give the least of all
+abbrev pub invariant-loop-segment : goal.invariant-loop-segment
+invariant-loop-segment l = least l.low (image_segments (drop l.segment-index l.segments)) ≡ low_of (image_segments l.segments)

@@ -1,0 +1,24 @@
+-- What is known of a file when all rules and limits have been tested.
+use Rattle.std.specs.Prelude.{◌≡◌, ◌≤◌, None}
+use Rattle.elf_types.specs.declared.file.ElfFile.{ElfFile}
+use Rattle.qed_model.specs.declared.options.Options.{Options}
+use Rattle.qed_model.specs.Admission.CodeWords.{ranges_of}
+use Rattle.qed_model.specs.Admission.Refusals.{IsAdmitted}
+use Rattle.qed_model.specs.Weave.Places.{image_of}
+use Rattle.code_ranges.specs.Ranges.{spans}
+use Rattle.test_admission.specs.declared.check.TestParts.{TestParts}
+use Rattle.test_admission.specs.declared.rules.CodeRule.TheVariants as rule
+use Rattle.test_admission.specs.DataSpans.{IsDataOf}
+use Rattle.test_admission.specs.Faults.{first_among}
+use Rattle.test_admission.specs.Places.{ArePlacesOf}
+use Rattle.test_admission.specs.Stretches.{parts_of, AreCodeOf}
+
+-- the file is admitted, and these are its parts
+pub record IsChecked (f : ElfFile) (o : Options) (c : TestParts) : Type 0 where
+  pub admitted : IsAdmitted f o
+  pub ranges : spans c.ranges.items ≡ ranges_of f
+  pub code : AreCodeOf f (parts_of c.code.items)
+  pub known : first_among rule.Unknown (parts_of c.code.items) ≡ None
+  pub places : ArePlacesOf f c.places
+  pub small : c.places.span ≤ 67_108_864
+  pub spans : IsDataOf (image_of f) c.spans

@@ -1,0 +1,12 @@
+pub mod Read
+pub mod Order
+pub mod Shape
+pub mod Spans
+pub mod DataSpans
+pub mod Places
+pub mod Stretches
+pub mod Faults
+pub mod Words
+pub mod Checked
+pub mod Made
+pub mod Admit

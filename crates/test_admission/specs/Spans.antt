@@ -1,0 +1,28 @@
+-- Ranges of addresses that are sorted and joined.
+use Rattle.std.specs.Prelude.{ℕ, ◌<◌, nat_le, cond, max, List, [], ◌∷◌, map, All, AllPairs}
+use Rattle.test_admission.specs.declared.spans.Span.{Span}
+
+-- a range by its first address and the one behind its last
+abbrev pub bounds_of : Span → ℕ × ℕ
+bounds_of s = (s.start, s.end)
+
+abbrev pub all_bounds : List Span → List (ℕ × ℕ)
+all_bounds ss = map bounds_of ss
+
+-- a range joined with those behind it, which begin no earlier, as long as they touch or overlap it
+abbrev pub glue : ℕ × ℕ → List (ℕ × ℕ) → List (ℕ × ℕ)
+glue r [] = r ∷ []
+glue r (t ∷ ts) = cond (nat_le t.0 r.1) (glue (r.0, max r.1 t.1) ts) (r ∷ glue t ts)
+
+abbrev pub glued : List (ℕ × ℕ) → List (ℕ × ℕ)
+glued [] = []
+glued (r ∷ rs) = glue r rs
+
+-- each range has some address
+abbrev pub HaveSome : List Span → Type 0
+HaveSome ss = All (λ s. s.start < s.end) ss
+
+-- ranges ascend with a gap between any two, and each has some address
+pub record AreSpaced (ss : List Span) : Type 0 where
+  pub some : HaveSome ss
+  pub gaps : AllPairs (λ s t. s.end < t.start) ss

@@ -1,0 +1,78 @@
+-- The code of a file in stretches, each in one segment.
+use Rattle.std.specs.Prelude.{◌≡◌, ℕ, ◌+◌, ◌-◌, ◌%◌, ◌^◌, ◌<◌, ◌≤◌, nat_lt, ◌==◌, ◌&&◌, Bool, cond, min, max, List, [], ◌∷◌, map, drop, length, slice_index, All}
+use Rattle.elf_types.specs.declared.file.Section.{Section}
+use Rattle.elf_types.specs.declared.file.Segment.{Segment}
+use Rattle.elf_types.specs.declared.file.ElfFile.{ElfFile}
+use Rattle.qed_model.specs.Machine.Memory.{flags_of}
+use Rattle.qed_model.specs.Machine.Loading.{is_code_section, lies_in_any}
+use Rattle.qed_model.specs.Machine.Program.{LoadSegment}
+use Rattle.qed_model.specs.Machine.Cells.{byte_among}
+use Rattle.qed_model.specs.Admission.DataRanges.{is_in_any}
+use Rattle.qed_model.specs.Admission.CodeWords.{loads_of, ranges_of}
+use Rattle.test_admission.specs.declared.stretches.Stretch.{Stretch}
+
+-- a stretch as plain data
+pub record Part : Type 0 where
+  pub start : ℕ
+  pub size : ℕ
+  pub bytes : List ℕ
+
+abbrev pub part_of : Stretch → Part
+part_of s = record { start = s.start; size = s.size; bytes = s.bytes.now }
+
+abbrev pub parts_of : List Stretch → List Part
+parts_of ss = map part_of ss
+
+-- no stretch ends past 2^64
+abbrev pub AllFit : List Stretch → Type 0
+AllFit ss = All (λ s. s.start + s.size ≤ 2 ^ 64) ss
+
+-- by its first address and the one behind its last
+abbrev pub span_of : Part → ℕ × ℕ
+span_of p = (p.start, p.start + p.size)
+
+-- bytes from one of them on
+abbrev pub rest_of : ℕ → List ℕ → List ℕ
+rest_of n bytes = drop (min n (length bytes)) bytes
+
+-- its bytes are those of the image, where zeros follow them
+pub record Reads (ls : List LoadSegment) (p : Part) : Type 0 where
+  pub bytes : (k : ℕ) → k < p.size → slice_index p.bytes k ≡ byte_among ls (p.start + k)
+
+-- whether a section is a code range
+pub record IsRange (ls : List LoadSegment) (s : Section) (found : Bool) : Type 0 where
+  pub is : (is_code_section s && lies_in_any s ls) ≡ found
+
+-- a segment is loaded, is executable and has bytes in memory
+abbrev pub has_code : Segment → Bool
+has_code s = s.kind == 1 && ((flags_of s.flags).execute && nat_lt 0 s.memory)
+
+-- such segments whole
+abbrev pub whole_part : Segment → Part
+whole_part s = record { start = s.address; size = s.memory; bytes = rest_of (s.address - s.address) s.bytes }
+
+abbrev pub whole_parts : List Segment → List Part
+whole_parts [] = []
+whole_parts (s ∷ ss) = cond (has_code s) (whole_part s ∷ whole_parts ss) (whole_parts ss)
+
+-- ---- cut, so that none has an address of another
+-- what a part has from an address on, or all of it where it begins behind that
+abbrev pub trimmed : ℕ → Part → Part
+trimmed done p = record { start = max done p.start; size = p.start + p.size - max done p.start; bytes = rest_of (max done p.start - p.start) p.bytes }
+
+-- parts in the order of their starts, without what is done
+abbrev pub cut : ℕ → List Part → List Part
+cut done [] = []
+cut done (p ∷ ps) = cond (nat_lt done (p.start + p.size)) (trimmed done p ∷ cut (p.start + p.size) ps) (cut done ps)
+
+-- ---- the code of a file
+-- each part begins behind the one before it, and has whole words at multiples of 4
+abbrev pub Follow : ℕ → List Part → Type 0
+Follow low [] = Unit {0}
+Follow low (p ∷ ps) = (low ≤ p.start) × (0 < p.size) × (p.start % 4 ≡ 0) × (p.size % 4 ≡ 0) × (p.start + p.size ≤ 2 ^ 64) × Follow (p.start + p.size) ps
+
+-- the parts are all code of the file, in ascending order
+pub record AreCodeOf (f : ElfFile) (ps : List Part) : Type 0 where
+  pub follow : Follow 0 ps
+  pub read : All (Reads (loads_of f)) ps
+  pub same : (q : ℕ) → is_in_any (map span_of ps) q ≡ is_in_any (ranges_of f) q

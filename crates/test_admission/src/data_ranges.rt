@@ -1,0 +1,169 @@
+//! The data ranges, and the rule on segments that share a word with them.
+ghost use Rattle.std.specs.Prelude.{◌≡◌, ℕ, ◌<◌, ◌++◌, false, length, slice_get, map, filter, IfOk, List, MatchOption, MatchResult};
+ghost use Rattle.elf_types.specs.declared.file.Segment.{Segment as ElfSegment};
+ghost use Rattle.qed_model.specs.declared.options.Options.{Options};
+ghost use Rattle.qed_model.specs.Admission.Terms.{is_in_image, image_segments};
+ghost use Rattle.qed_model.specs.Admission.DataRanges.{is_written, is_executed, rounded, meets_code, is_data, data_parts};
+ghost use Rattle.qed_model.specs.Admission.Rules.{is_mixed, segment_range, passes_at};
+ghost use Rattle.qed_model.specs.Admission.Refusals.{IsFirstOf, IsRefusedBy};
+ghost use Rattle.qed_model.specs.Weave.Places.{image_of};
+ghost use Rattle.test_admission.specs.Spans.{bounds_of, all_bounds, HaveSome, AreSpaced};
+ghost use Rattle.test_admission.specs.DataSpans.{code_parts, AreCode, IsDataOf};
+ghost use Rattle.test_admission.specs.Order.{PassesBelow};
+
+use crate::spans::{Span, joined, meets};
+use elf_types::{ElfFile, Segment};
+use qed_model::AdmitError;
+use std::alloc::{AllocError, Global};
+
+/// The type of a segment that is loaded (ELF gABI, program header).
+const LOAD: u32 = 1;
+
+/// The aligned words of code, and the data ranges, each joined and in ascending order.
+#[derive(Debug, Drop)]
+pub struct DataSpans {
+    /// The segments that are executed, rounded out to multiples of 8.
+    pub code: Vec<Span>,
+    pub ranges: Vec<Span>,
+}
+
+/// Whether a segment is part of the image.
+pub fn is_in_image(segment: &Segment) -> bool
+    ensures { result ≡ is_in_image segment.now }
+{
+    segment.kind == LOAD && segment.memory > 0
+}
+
+fn is_written(segment: &Segment) -> bool
+    ensures { result ≡ is_written segment.now }
+{
+    segment.flags / 2 % 2 == 1
+}
+
+fn is_executed(segment: &Segment) -> bool
+    ensures { result ≡ is_executed segment.now }
+{
+    segment.flags % 2 == 1
+}
+
+/// The addresses of a segment.
+fn whole(segment: &Segment) -> Span
+    ensures { bounds_of result ≡ segment_range segment.now }
+{
+    Span {
+        start: segment.address,
+        end: u128::from(segment.address) + u128::from(segment.memory),
+    }
+}
+
+/// The addresses of a segment, rounded out to multiples of 8.
+fn rounded(segment: &Segment) -> Span
+    ensures { bounds_of result ≡ rounded segment.now }
+{
+    let end = u128::from(segment.address) + u128::from(segment.memory);
+    Span {
+        start: segment.address / 8 * 8,
+        end: (end + 7) / 8 * 8,
+    }
+}
+
+/// The segments of the image that are executed, rounded out.
+fn code_parts(alloc: Global, segments: &[Segment]) -> Result<Vec<Span>, AllocError>
+    ensures parts { IfOk result (λ parts. all_bounds parts.items ≡ code_parts (image_segments segments.now)) }
+    ensures some { IfOk result (λ parts. HaveSome parts.items) }
+{
+    let mut parts = Vec::new(alloc);
+    for segment in segments {
+        if is_in_image(segment) && is_executed(segment) {
+            parts.push(rounded(segment))?;
+        }
+    }
+    Ok(parts)
+}
+
+/// Whether a segment of the image shares an aligned word of 8 bytes with the code of the image.
+fn meets_code(code: &[Span], segment: &Segment) -> bool
+    requires spaced { AreSpaced code.now }
+    requires room { 0 < segment.now.memory }
+    ensures { (ss : List ElfSegment) → AreCode (image_segments ss) code.now → result ≡ meets_code (image_segments ss) segment.now }
+{
+    meets(code, rounded(segment))
+}
+
+/// Whether a segment of the image is one of data, given the code of the image.
+fn is_data(code: &[Span], segment: &Segment) -> bool
+    requires spaced { AreSpaced code.now }
+    requires room { 0 < segment.now.memory }
+    ensures { (ss : List ElfSegment) → AreCode (image_segments ss) code.now → result ≡ is_data (image_segments ss) segment.now }
+{
+    is_written(segment) || !is_executed(segment) && !meets_code(code, segment)
+}
+
+/// The data segments, rounded out.
+fn data_parts(alloc: Global, segments: &[Segment], code: &[Span]) -> Result<Vec<Span>, AllocError>
+    requires { AreCode (image_segments segments.now) code.now }
+    ensures parts { IfOk result (λ parts. all_bounds parts.items ≡ data_parts (image_segments segments.now)) }
+    ensures some { IfOk result (λ parts. HaveSome parts.items) }
+{
+    let mut parts = Vec::new(alloc);
+    for segment in segments {
+        if is_in_image(segment) && is_data(code, segment) {
+            parts.push(rounded(segment))?;
+        }
+    }
+    Ok(parts)
+}
+
+/// The code of the image, rounded out, and its data ranges.
+pub fn data_spans(alloc: Global, file: &ElfFile) -> Result<DataSpans, AllocError>
+    ensures { IfOk result (λ spans. IsDataOf (image_of file.now) spans) }
+{
+    let segments = file.segments.as_slice();
+    let code = joined(alloc, code_parts(alloc, segments)?)?;
+    let ranges = joined(alloc, data_parts(alloc, segments, &code)?)?;
+    Ok(DataSpans { code, ranges })
+}
+
+/// Whether a segment of the image is not one of data, and has a byte in a data range.
+fn is_mixed(spans: &DataSpans, segment: &Segment) -> bool
+    requires code { AreSpaced spans.now.code.items }
+    requires ranges { AreSpaced spans.now.ranges.items }
+    ensures { (ss : List ElfSegment) → IsDataOf (image_segments ss) spans.now → result ≡ is_mixed (image_segments ss) segment.now }
+{
+    is_in_image(segment) && !is_data(&spans.code, segment) && meets(&spans.ranges, whole(segment))
+}
+
+/// The number of the first such segment.
+fn first_mixed(segments: &[Segment], spans: &DataSpans) -> Option<usize>
+    requires { IsDataOf (image_segments segments.now) spans.now }
+    ensures { MatchOption result ((k : ℕ) → k < length segments.now → passes_at (is_mixed (image_segments segments.now)) (slice_get segments.now k) ≡ false) (λ i. IsFirstOf segments.now (is_mixed (image_segments segments.now)) i) }
+{
+    let mut number = 0;
+    for segment in segments {
+        if is_mixed(spans, segment) {
+            return Some(number);
+        }
+        number += 1;
+    }
+    None
+}
+
+/// The number of the first segment of a file that has a byte in a data range and is not one of data.
+fn mixed_segment(file: &ElfFile, spans: &DataSpans) -> Option<usize>
+    requires { IsDataOf (image_of file.now) spans.now }
+    ensures { MatchOption result ((k : ℕ) → k < length file.now.segments → passes_at (is_mixed (image_of file.now)) (slice_get file.now.segments k) ≡ false) (λ i. IsFirstOf file.now.segments (is_mixed (image_of file.now)) i) }
+{
+    first_mixed(file.segments.as_slice(), spans)
+}
+
+/// Tests the rule on segments that share a word with data, behind those on code.
+pub fn check_data(file: &ElfFile, spans: &DataSpans) -> Result<(), AdmitError>
+    requires spans { IsDataOf (image_of file.now) spans.now }
+    requires passed { (o : Options) → PassesBelow file.now o 10 }
+    ensures { MatchResult result (λ _. (o : Options) → PassesBelow file.now o 11) (λ e. (o : Options) → IsRefusedBy file.now o e) }
+{
+    match mixed_segment(file, spans) {
+        Some(number) => Err(AdmitError::DataMixed(number as u64)),
+        None => Ok(()),
+    }
+}

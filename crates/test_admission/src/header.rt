@@ -1,0 +1,84 @@
+//! The rules on compressed code, dynamic linking and segments that are both written and executed.
+ghost use Rattle.std.specs.Prelude.{◌≡◌, ℕ, ◌<◌, false, length, slice_get, MatchOption, MatchResult};
+ghost use Rattle.std.specs.List.{list_any};
+ghost use Rattle.qed_model.specs.declared.options.Options.{Options};
+ghost use Rattle.qed_model.specs.Admission.Terms.{is_compressed, is_dynamic, is_dynamic_segment};
+ghost use Rattle.qed_model.specs.Admission.Rules.{is_writable_code, passes_at};
+ghost use Rattle.qed_model.specs.Admission.Refusals.{IsFirstOf, IsRefusedBy};
+ghost use Rattle.test_admission.specs.Order.{PassesBelow};
+
+use elf_types::{ElfFile, Segment};
+use qed_model::AdmitError;
+
+/// Types of program headers (ELF gABI, program header).
+const LOAD: u32 = 1;
+
+const DYNAMIC: u32 = 2;
+
+const INTERP: u32 = 3;
+
+/// Whether the header says that the code is compressed (RISC-V psABI, file header).
+fn is_compressed(file: &ElfFile) -> bool
+    ensures { result ≡ is_compressed file.now }
+{
+    file.flags % 2 == 1
+}
+
+fn is_dynamic_segment(segment: &Segment) -> bool
+    ensures { result ≡ is_dynamic_segment segment.now }
+{
+    segment.kind == DYNAMIC || segment.kind == INTERP
+}
+
+/// Whether a program header asks for dynamic linking.
+fn is_dynamic(segments: &[Segment]) -> bool
+    ensures { result ≡ is_dynamic segments.now }
+{
+    for segment in segments {
+        if is_dynamic_segment(segment) {
+            return true;
+        }
+    }
+    false
+}
+
+/// Whether a segment of the image is both written and executed.
+fn is_writable_code(segment: &Segment) -> bool
+    ensures { result ≡ is_writable_code segment.now }
+{
+    segment.kind == LOAD
+        && segment.memory > 0
+        && segment.flags / 2 % 2 == 1
+        && segment.flags % 2 == 1
+}
+
+/// The number of the first such segment.
+fn first_writable_code(segments: &[Segment]) -> Option<usize>
+    ensures { MatchOption result ((k : ℕ) → k < length segments.now → passes_at is_writable_code (slice_get segments.now k) ≡ false) (λ i. IsFirstOf segments.now is_writable_code i) }
+{
+    let mut number = 0;
+    for segment in segments {
+        if is_writable_code(segment) {
+            return Some(number);
+        }
+        number += 1;
+    }
+    None
+}
+
+/// Tests the first three rules.
+pub fn check_header(file: &ElfFile) -> Result<(), AdmitError>
+    ensures { MatchResult result (λ _. (o : Options) → PassesBelow file.now o 4) (λ e. (o : Options) → IsRefusedBy file.now o e) }
+{
+    if is_compressed(file) {
+        return Err(AdmitError::Compressed);
+    }
+    let segments = file.segments.as_slice();
+    if is_dynamic(segments) {
+        return Err(AdmitError::Dynamic);
+    }
+    match first_writable_code(segments) {
+        Some(number) => Err(AdmitError::WritableCode(number as u64)),
+        None => Ok(()),
+    }
+}

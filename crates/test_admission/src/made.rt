@@ -1,0 +1,118 @@
+//! A test that was admitted, as it is told.
+ghost use Rattle.std.specs.Prelude.{◌≡◌, ◌++◌, None, map, IfOk};
+ghost use Rattle.qed_model.specs.Admission.Terms.{image_segments};
+ghost use Rattle.qed_model.specs.Admission.DataRanges.{range_of};
+ghost use Rattle.qed_model.specs.Admission.Test.{AreCodeWords, IsTestOf};
+ghost use Rattle.qed_model.specs.Weave.Places.{AreSound};
+ghost use Rattle.code_ranges.specs.Ranges.{spans};
+ghost use Rattle.test_admission.specs.Checked.{IsChecked};
+ghost use Rattle.test_admission.specs.Made.{RangesEnd, SpansEnd};
+ghost use Rattle.test_admission.specs.declared.rules.CodeRule.TheVariants as rule;
+ghost use Rattle.test_admission.specs.Faults.{first_among};
+ghost use Rattle.test_admission.specs.Stretches.{parts_of, AreCodeOf};
+ghost use Rattle.test_admission.specs.Spans.{all_bounds};
+
+use crate::check::TestParts;
+use crate::data_ranges::is_in_image;
+use crate::places::distance;
+use crate::spans::Span;
+use crate::stretches::Stretch;
+use crate::words::code_words;
+use code_ranges::CodeRange;
+use elf_types::{Bytes, ElfFile, Listed, Segment, Segments};
+use qed_model::{CodeWords, Options, Range, Ranges, Test};
+use std::alloc::{AllocError, Global};
+
+/// Code ranges by their ends.
+fn code_list(alloc: Global, ranges: &[CodeRange]) -> Result<Ranges, AllocError>
+    requires { RangesEnd ranges.now }
+    ensures { IfOk result (λ list. map range_of list ≡ spans ranges.now) }
+{
+    let mut list = Vec::new(alloc);
+    for range in ranges {
+        list.push(Range {
+            start: range.start,
+            end: range.start + range.size,
+        })?;
+    }
+    Ok(Listed::of(list))
+}
+
+/// Data ranges by their ends.
+fn data_list(alloc: Global, spans: &[Span]) -> Result<Ranges, AllocError>
+    requires { SpansEnd spans.now }
+    ensures { IfOk result (λ list. map range_of list ≡ all_bounds spans.now) }
+{
+    let mut list = Vec::new(alloc);
+    for span in spans {
+        list.push(Range {
+            start: span.start,
+            end: span.end as u64,
+        })?;
+    }
+    Ok(Listed::of(list))
+}
+
+/// A copy of a segment.
+fn copied(alloc: Global, segment: &Segment) -> Result<Segment, AllocError>
+    ensures { IfOk result (λ copy. copy ≡ segment.now) }
+{
+    Ok(Segment {
+        kind: segment.kind,
+        flags: segment.flags,
+        address: segment.address,
+        memory: segment.memory,
+        bytes: Bytes::copied(alloc, segment.bytes.as_slice())?,
+    })
+}
+
+/// The segments of the image.
+fn image(alloc: Global, segments: &[Segment]) -> Result<Segments, AllocError>
+    ensures { IfOk result (λ image. image ≡ image_segments segments.now) }
+{
+    let mut image = Vec::new(alloc);
+    for segment in segments {
+        if is_in_image(segment) {
+            image.push(copied(alloc, segment)?)?;
+        }
+    }
+    Ok(Listed::of(image))
+}
+
+/// All code words of a file.
+fn word_list(alloc: Global, file: &ElfFile, code: &[Stretch<'_>]) -> Result<CodeWords, AllocError>
+    requires code { AreCodeOf file.now (parts_of code.now) }
+    requires known { first_among rule.Unknown (parts_of code.now) ≡ None }
+    ensures { IfOk result (AreCodeWords file.now) }
+{
+    let words = code_words(alloc, code)?;
+    Ok(Listed::of(words))
+}
+
+/// What is told of a file that was admitted.
+pub fn make_test(
+    alloc: Global,
+    file: &ElfFile,
+    options: &Options,
+    parts: &TestParts<'_>,
+) -> Result<Test, AllocError>
+    requires sound { AreSound options.now }
+    requires parts { IsChecked file.now options.now parts.now }
+    ensures { IfOk result (IsTestOf file.now options.now) }
+{
+    let ranges = code_list(alloc, &parts.ranges)?;
+    let code = word_list(alloc, file, &parts.code)?;
+    let span = data_list(alloc, &parts.spans.ranges)?;
+    let segments = image(alloc, file.segments.as_slice())?;
+    Ok(Test {
+        entry: file.entry,
+        ranges,
+        code,
+        base: parts.places.base,
+        distance: distance(options, &parts.places) as u64,
+        low: parts.places.low,
+        high: parts.places.high as u64,
+        span,
+        segments,
+    })
+}

@@ -1,0 +1,151 @@
+//! The rules on the entry and on the shape of code.
+ghost use Rattle.std.specs.Prelude.{◌≡◌, ℕ, ◌<◌, false, ◌&&◌, ◌||◌, not, ◌==◌, ◌+◌, length, slice_get, MatchOption, MatchResult, OnOk};
+ghost use Rattle.std.specs.List.{list_any};
+ghost use Rattle.qed_model.specs.declared.options.Options.{Options};
+ghost use Rattle.qed_model.specs.Machine.Loading.{load_segment, load_segments, section_ranges};
+ghost use Rattle.qed_model.specs.Admission.Terms.{shares, is_cut_by, is_cut, is_ragged};
+ghost use Rattle.qed_model.specs.Admission.CodeWords.{ranges_of, loads_of};
+ghost use Rattle.qed_model.specs.Admission.Rules.{is_misshapen_section, is_misshapen_segment, is_empty, passes_at};
+ghost use Rattle.qed_model.specs.Admission.Refusals.{IsFirstOf, IsRefusedBy};
+ghost use Rattle.code_ranges.specs.Ranges.{spans};
+ghost use Rattle.test_admission.specs.Order.{PassesBelow};
+ghost use Rattle.test_admission.specs.Shape.{IsShaped, is_ragged_code};
+
+use code_ranges::{CodeRange, is_code_address, is_code_section, lies_in, lies_in_any};
+use elf_types::{ElfFile, Section, Segment};
+use qed_model::AdmitError;
+
+/// The type of a segment that is loaded, and its flag for code (ELF gABI, program header): PT_LOAD and PF_X.
+const LOAD: u32 = 1;
+
+const EXECUTE: u32 = 1;
+
+/// Whether a section that has bytes and a segment have a byte in common.
+fn shares(section: &Section, segment: &Segment) -> bool
+    ensures { result ≡ shares section.now (load_segment segment.now) }
+{
+    segment.memory > 0
+        && u128::from(section.address) < u128::from(segment.address) + u128::from(segment.memory)
+        && u128::from(segment.address) < u128::from(section.address) + u128::from(section.size)
+}
+
+fn is_cut_by(section: &Section, segment: &Segment) -> bool
+    ensures { result ≡ is_cut_by section.now (load_segment segment.now) }
+{
+    segment.flags % 2 == EXECUTE && shares(section, segment) && !lies_in(section, segment)
+}
+
+fn is_cut_by_any(section: &Section, segments: &[Segment]) -> bool
+    ensures { result ≡ list_any (is_cut_by section.now) (load_segments segments.now) }
+{
+    for segment in segments {
+        if segment.kind == LOAD && is_cut_by(section, segment) {
+            return true;
+        }
+    }
+    false
+}
+
+/// Whether the start or the size of a range is not a multiple of 4.
+fn is_ragged(start: u64, size: u64) -> bool
+    ensures { result ≡ is_ragged (start, start + size) }
+{
+    start % 4 != 0 || size % 4 != 0
+}
+
+/// Whether a section of code is cut by an executable segment, or is a ragged code range.
+fn is_misshapen_section(segments: &[Segment], section: &Section) -> bool
+    ensures { result ≡ is_misshapen_section (load_segments segments.now) section.now }
+{
+    is_code_section(section)
+        && (is_cut_by_any(section, segments)
+            || lies_in_any(section, segments) && is_ragged(section.address, section.size))
+}
+
+/// The number of the first such section of a list.
+fn first_among(segments: &[Segment], sections: &[Section]) -> Option<usize>
+    ensures { MatchOption result ((k : ℕ) → k < length sections.now → passes_at (is_misshapen_section (load_segments segments.now)) (slice_get sections.now k) ≡ false) (λ i. IsFirstOf sections.now (is_misshapen_section (load_segments segments.now)) i) }
+{
+    let mut number = 0;
+    for section in sections {
+        if is_misshapen_section(segments, section) {
+            return Some(number);
+        }
+        number += 1;
+    }
+    None
+}
+
+/// The number of the first section of a file that is misshapen.
+fn first_misshapen_section(file: &ElfFile) -> Option<usize>
+    ensures { MatchOption result ((k : ℕ) → k < length file.now.sections → passes_at (is_misshapen_section (loads_of file.now)) (slice_get file.now.sections k) ≡ false) (λ i. IsFirstOf file.now.sections (is_misshapen_section (loads_of file.now)) i) }
+{
+    first_among(file.segments.as_slice(), file.sections.as_slice())
+}
+
+/// Whether no section is a code range.
+fn has_no_section(segments: &[Segment], sections: &[Section]) -> bool
+    ensures { result ≡ is_empty (section_ranges (load_segments segments.now) sections.now) }
+{
+    for section in sections {
+        if is_code_section(section) && lies_in_any(section, segments) {
+            return false;
+        }
+    }
+    true
+}
+
+/// Whether a segment is executable and has bytes in memory, and its start or size is not a multiple of 4.
+fn is_ragged_segment(segment: &Segment) -> bool
+    ensures { result ≡ is_ragged_code segment.now }
+{
+    segment.kind == LOAD
+        && segment.memory > 0
+        && segment.flags % 2 == EXECUTE
+        && is_ragged(segment.address, segment.memory)
+}
+
+/// The number of the first such segment.
+fn first_ragged_segment(segments: &[Segment]) -> Option<usize>
+    ensures { MatchOption result ((k : ℕ) → k < length segments.now → passes_at is_ragged_code (slice_get segments.now k) ≡ false) (λ i. IsFirstOf segments.now is_ragged_code i) }
+{
+    let mut number = 0;
+    for segment in segments {
+        if is_ragged_segment(segment) {
+            return Some(number);
+        }
+        number += 1;
+    }
+    None
+}
+
+/// The number of the first segment that is a ragged code range.
+fn first_misshapen_segment(file: &ElfFile) -> Option<usize>
+    ensures { MatchOption result ((k : ℕ) → k < length file.now.segments → passes_at (is_misshapen_segment file.now) (slice_get file.now.segments k) ≡ false) (λ i. IsFirstOf file.now.segments (is_misshapen_segment file.now) i) }
+{
+    let segments = file.segments.as_slice();
+    if has_no_section(segments, file.sections.as_slice()) {
+        first_ragged_segment(segments)
+    } else {
+        None
+    }
+}
+
+/// Tests the rules on the entry and on the shape of code, behind the first three.
+pub fn check_shape(file: &ElfFile, ranges: &[CodeRange]) -> Result<(), AdmitError>
+    requires ranges { spans ranges.now ≡ ranges_of file.now }
+    requires passed { (o : Options) → PassesBelow file.now o 4 }
+    ensures order { MatchResult result (λ _. (o : Options) → PassesBelow file.now o 6) (λ e. (o : Options) → IsRefusedBy file.now o e) }
+    ensures shaped { OnOk result (IsShaped file.now) }
+{
+    if !is_code_address(ranges, file.entry) {
+        return Err(AdmitError::NoCode(file.entry));
+    }
+    if let Some(number) = first_misshapen_section(file) {
+        return Err(AdmitError::CodeShape(number as u64));
+    }
+    if let Some(number) = first_misshapen_segment(file) {
+        return Err(AdmitError::CodeShape(number as u64));
+    }
+    Ok(())
+}

@@ -1,0 +1,82 @@
+//! How many code words there are, and the list of them.
+ghost use Rattle.std.specs.Prelude.{◌≡◌, ◌+◌, ◌++◌, ◌^◌, ◌<◌, ◌≤◌, None, All, IfOk, OnOk, MatchResult};
+ghost use Rattle.qed_model.specs.Admission.Refusals.{IsRefusedBy};
+ghost use Rattle.test_admission.specs.declared.rules.CodeRule.TheVariants as rule;
+ghost use Rattle.test_admission.specs.Faults.{first_in, first_among};
+ghost use Rattle.test_admission.specs.Order.{PassesBelow};
+ghost use Rattle.test_admission.specs.Stretches.{part_of, parts_of, AllFit, AreCodeOf};
+ghost use Rattle.test_admission.specs.Words.{words_in, words_among, word_total, pairs_of, IsDecoded};
+
+use crate::rules::word_in;
+use crate::stretches::Stretch;
+use elf_types::ElfFile;
+use qed_model::{AdmitError, CodeWord, Options};
+use rv_decode::decode;
+use std::alloc::{AllocError, Global};
+
+/// The greatest number of code words.
+const MOST_WORDS: u64 = 1_048_576;
+
+/// How many code words there are.
+fn word_count(code: &[Stretch<'_>]) -> u64
+    requires { word_total (parts_of code.now) < 2 ^ 64 }
+    ensures { result ≡ word_total (parts_of code.now) }
+{
+    let mut count = 0;
+    for stretch in code {
+        count += stretch.size / 4;
+    }
+    count
+}
+
+/// Tests the limit on code words, behind that on the image. Each address counts once.
+pub fn check_words(
+    file: &ElfFile,
+    options: &Options,
+    code: &[Stretch<'_>],
+) -> Result<(), AdmitError>
+    requires code { AreCodeOf file.now (parts_of code.now) }
+    requires passed { PassesBelow file.now options.now 13 }
+    ensures { MatchResult result (λ _. PassesBelow file.now options.now 14) (λ e. IsRefusedBy file.now options.now e) }
+{
+    let count = word_count(code);
+    if count > MOST_WORDS {
+        return Err(AdmitError::CodeWords(count));
+    }
+    Ok(())
+}
+
+/// Appends the words of a stretch.
+fn push_words(words: &mut Vec<CodeWord>, stretch: &Stretch<'_>) -> Result<(), AllocError>
+    requires fits { stretch.now.start + stretch.now.size ≤ 2 ^ 64 }
+    requires known { first_in rule.Unknown (part_of stretch.now) ≡ None }
+    ensures words { OnOk result (pairs_of words.new.items ≡ pairs_of words.old.items ++ words_in (part_of stretch.now)) }
+    ensures decoded { OnOk result (All IsDecoded words.old.items → All IsDecoded words.new.items) }
+{
+    for number in 0..stretch.size / 4 {
+        let word = word_in(stretch.bytes, (4 * number) as usize);
+        let Some(ins) = decode(word) else {
+            unreachable!();
+        };
+        words.push(CodeWord {
+            at: stretch.start + 4 * number,
+            word,
+            ins,
+        })?;
+    }
+    Ok(())
+}
+
+/// All words of the code, in ascending order.
+pub fn code_words(alloc: Global, code: &[Stretch<'_>]) -> Result<Vec<CodeWord>, AllocError>
+    requires fits { AllFit code.now }
+    requires known { first_among rule.Unknown (parts_of code.now) ≡ None }
+    ensures words { IfOk result (λ words. pairs_of words.items ≡ words_among (parts_of code.now)) }
+    ensures decoded { IfOk result (λ words. All IsDecoded words.items) }
+{
+    let mut words = Vec::new(alloc);
+    for stretch in code {
+        push_words(&mut words, stretch)?;
+    }
+    Ok(words)
+}
