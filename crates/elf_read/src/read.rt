@@ -7,6 +7,8 @@ ghost use Rattle.qed_model.specs.Elf.Fields.{section_header};
 ghost use Rattle.qed_model.specs.Elf.Rules.{section_strings, strings_of, symbol_table, verdict, read_verdict};
 ghost use Rattle.qed_model.specs.Elf.File.{File, segment_of, section_of, symbol_of, symbols_at, relas_of, WithinReadLimits, IsReadAs};
 ghost use Rattle.qed_model.specs.Elf.Refusals.{IsAccepted, IsRefused};
+ghost use Rattle.qed_model.specs.Machine.Loading.{load_segments};
+ghost use Rattle.qed_model.specs.Machine.Apart.{AllFitMemory, AreApart};
 ghost use Rattle.elf_read.specs.Sound.{HasLinks};
 
 use crate::below::list_of;
@@ -174,10 +176,12 @@ impl<'a> Sound<'a> {
 ///
 /// `Memory` where no rule refuses the bytes, they are within the limits, and there is no memory for the copy. Each other error comes exactly where
 /// it is the first that holds.
-#[tactic(auto, using(qed_model::proofs::RefusalLaws::refused, qed_model::proofs::AcceptanceLaws::accepted))]
+#[tactic(auto, using(qed_model::proofs::RefusalLaws::refused, qed_model::proofs::AcceptanceLaws::accepted, qed_model::proofs::LoadsApart::file_fits))]
 pub fn read_elf(alloc: Global, bytes: &[u8]) -> Result<ElfFile, ElfError>
     ensures read { IfOk result (λ f. IsReadAs bytes.now f) }
     ensures accepted { OnOk result (IsAccepted bytes.now) }
+    ensures fit { IfOk result (λ f. AllFitMemory (load_segments f.segments)) }
+    ensures apart { IfOk result (λ f. AreApart (load_segments f.segments)) }
     ensures refused { IfErr result (λ e. IsRefused bytes.now e ⊎ ((e ≡ error.Memory) × (read_verdict bytes.now ≡ Ok tt))) }
 {
     let sound = Sound::new(bytes)?;

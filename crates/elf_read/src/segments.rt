@@ -5,7 +5,7 @@ ghost use Rattle.qed_model.specs.Elf.Rules.{is_misshapen, segment_shape_rule, do
 
 use crate::below::first_of;
 use crate::parts::Parts;
-use elf_types::{ElfError, ProgramHeader};
+use elf_types::{ElfError, ProgramHeader, share_byte};
 
 #[tactic(auto, unfolding(qed_model::specs::Elf::Rules::is_misshapen))]
 fn is_misshapen(p: ProgramHeader) -> bool
@@ -29,12 +29,7 @@ pub fn check_segment_shape(file: &Parts) -> Result<(), ElfError>
 fn do_overlap(p: ProgramHeader, q: ProgramHeader) -> bool
     ensures { result ≡ do_overlap p q }
 {
-    p.is_load()
-        && q.is_load()
-        && p.memsz > 0
-        && q.memsz > 0
-        && u128::from(p.vaddr) < u128::from(q.vaddr) + u128::from(q.memsz)
-        && u128::from(q.vaddr) < u128::from(p.vaddr) + u128::from(p.memsz)
+    p.is_load() && q.is_load() && share_byte(p.vaddr, p.memsz, q.vaddr, q.memsz)
 }
 
 #[tactic(auto, unfolding(qed_model::specs::Elf::Rules::overlapped))]

@@ -2,3 +2,4 @@ pub mod Abi
 pub mod Segment
 pub mod Section
 pub mod Symbol
+pub mod Overlap

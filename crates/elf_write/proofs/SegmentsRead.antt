@@ -139,15 +139,15 @@ header_of at i [] d e lt = absurd (omega arith)
 header_of at zero (s ∷ segments) d e lt = record { vaddr = refl; memsz = refl }
 header_of at (suc i) (s ∷ segments) d e lt = header_of (offset_from at s.address + length s.bytes) i segments d e (omega arith)
 
-regrouped : (a b c d e f : Bool) → (c && d && e && f) ≡ false → (a && b && c && d && e && f) ≡ false
-regrouped true true c d e f h = h
-regrouped true false c d e f h = refl
-regrouped false b c d e f h = refl
+regrouped : (a b c : Bool) → c ≡ false → (a && b && c) ≡ false
+regrouped true true c h = h
+regrouped true false c h = refl
+regrouped false b c h = refl
 
 apart : (p q : ProgramHeader) (s t : Segment) → IsHeaderOf p s → IsHeaderOf q t → do_share s t ≡ false → do_overlap p q ≡ false
 unfolding do_overlap
 apart p q s t hp hq none =
-    let grouped = regrouped (is_load p.kind) (is_load q.kind) (ltb 0 s.memory) (ltb 0 t.memory) (ltb s.address (t.address + t.memory)) (ltb t.address (s.address + s.memory)) in
+    let grouped = regrouped (is_load p.kind) (is_load q.kind) (do_share s t) in
     rw (hp.vaddr, hp.memsz, hq.vaddr, hq.memsz) (grouped none)
 
 at_most : (b : Bool) (n : ℕ) → cond b n 0 ≤ n

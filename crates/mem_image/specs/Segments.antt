@@ -17,14 +17,6 @@ abbrev pub cell_in : List LoadSegment → ℕ → Option Cell
 cell_in [] q = None
 cell_in (s ∷ ss) q = cond (within s q) (Some (cell_of s q)) (cell_in ss q)
 
--- the segment has no more bytes in the file than in memory, and does not go past 2^64
-abbrev pub Fits : LoadSegment → Type 0
-Fits s = (length s.bytes ≤ s.size) × (s.address + s.size ≤ 2 ^ 64)
-
-abbrev pub AllFit : List LoadSegment → Type 0
-AllFit [] = Unit {0}
-AllFit (s ∷ ss) = Fits s × AllFit ss
-
 -- the segment at place k is the first that has the address
 pub record IsFirst (ss : List LoadSegment) (q k : ℕ) : Type 0 where
   pub found : (s : LoadSegment) × ((slice_get ss k ≡ Some s) × (within s q ≡ true))

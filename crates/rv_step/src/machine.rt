@@ -7,8 +7,7 @@ ghost use Rattle.qed_model.specs.Machine.Loading.{load_segments, loaded_file};
 ghost use Rattle.qed_model.specs.Machine.Step.{reg, fetched_at};
 ghost use Rattle.qed_model.specs.Machine.Progress.{advanced, begun, progress};
 ghost use Rattle.qed_model.specs.Machine.Struck.{struck};
-ghost use Rattle.mem_image.specs.Overlap.{AreApart};
-ghost use Rattle.mem_image.specs.Segments.{AllFit};
+ghost use Rattle.qed_model.specs.Machine.Apart.{AllFitMemory, AreApart};
 ghost use Rattle.rv_step.specs.Known.{goes_on, known_at, struck_progress};
 
 use crate::range::CodeRange;

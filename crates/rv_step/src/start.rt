@@ -4,8 +4,8 @@ ghost use Rattle.elf_types.specs.declared.file.Segment.{Segment as ElfSegment};
 ghost use Rattle.qed_model.specs.Machine.Program.{start};
 ghost use Rattle.qed_model.specs.Machine.Loading.{load_segments, loaded_file, code_ranges, lies_in_code, lies_in_any, section_ranges, segment_ranges};
 ghost use Rattle.qed_model.specs.Machine.Progress.{begun};
-ghost use Rattle.mem_image.specs.Overlap.{segment_of, segments_of, AreApart};
-ghost use Rattle.mem_image.specs.Segments.{AllFit};
+ghost use Rattle.mem_image.specs.Overlap.{segment_of, segments_of};
+ghost use Rattle.qed_model.specs.Machine.Apart.{AllFitMemory, AreApart};
 ghost use Rattle.rv_step.specs.Ranges.{spans};
 
 use crate::machine::Machine;
@@ -115,7 +115,7 @@ impl Machine {
     ///
     /// No two PT_LOAD segments share a byte, none ends past 2^64, and each has at most `memory` bytes.
     pub fn start(alloc: Global, file: &ElfFile, regs: &[u64; 32]) -> Result<Machine, AllocError>
-        requires fit { AllFit (load_segments file.now.segments) }
+        requires fit { AllFitMemory (load_segments file.now.segments) }
         requires apart { AreApart (load_segments file.now.segments) }
         ensures { IfOk result (λ machine. machine ≡ begun (start (loaded_file file.now) regs.now)) }
     {

@@ -10,6 +10,7 @@ use Rattle.elf_types.specs.declared.records.SymbolEntry.{SymbolEntry}
 use Rattle.elf_types.specs.declared.abi.TheConstants.{ELFMAG, ELFCLASS64, ELFDATA2LSB, EV_CURRENT, ET_EXEC, EM_RISCV, EHDR_SIZE, PHDR_SIZE, SHDR_SIZE, PT_LOAD, SHT_NULL, SHT_PROGBITS, SHT_SYMTAB, SHT_STRTAB}
 use Rattle.elf_types.specs.Abi.{has_alloc}
 use Rattle.elf_types.specs.Symbol.{is_local}
+use Rattle.elf_types.specs.Overlap.{share_byte}
 use Rattle.qed_model.specs.Elf.Written.{fields_bytes, offset_from, end_from, program_headers, segments_bytes}
 
 -- the next multiple of 8
@@ -248,7 +249,7 @@ pub record IsLoadable (s : Segment) : Type 0 where
 
 -- both segments have bytes in memory, and share one
 abbrev pub do_share : Segment → Segment → Bool
-do_share s t = nat_lt 0 s.memory && nat_lt 0 t.memory && nat_lt s.address (t.address + t.memory) && nat_lt t.address (s.address + s.memory)
+do_share s t = share_byte s.address s.memory t.address t.memory
 
 -- no byte of the name is 0
 abbrev pub IsName : List ℕ → Type 0

@@ -9,6 +9,7 @@ use Rattle.elf_types.specs.declared.records.SectionHeader.{SectionHeader}
 use Rattle.elf_types.specs.declared.abi.TheConstants.{ELFMAG, ELFCLASS64, ELFDATA2LSB, EV_CURRENT, ET_EXEC, EM_RISCV, PN_XNUM, EHDR_SIZE, PHDR_SIZE, SHDR_SIZE}
 use Rattle.elf_types.specs.Abi.{is_load, has_alloc, is_symbol_table, is_string_table, is_rela_table}
 pub use Rattle.elf_types.specs.Section.{has_bytes}
+use Rattle.elf_types.specs.Overlap.{share_byte}
 use Rattle.qed_model.specs.Below.{first, sum_below}
 use Rattle.qed_model.specs.Numbers.{field}
 use Rattle.qed_model.specs.Elf.Header.{e_type, e_machine, e_version, e_phoff, e_shoff, e_ehsize, e_phentsize, e_phnum, e_shnum}
@@ -145,9 +146,7 @@ segment_shape_rule file = refuse_found error.SegmentShape (first (e_phnum file) 
 
 -- two segments share a byte of memory
 unfoldable pub do_overlap : ProgramHeader → ProgramHeader → Bool
-do_overlap p q =
-    is_load p.kind && is_load q.kind && nat_lt 0 p.memsz && nat_lt 0 q.memsz
-    && nat_lt p.vaddr (q.vaddr + q.memsz) && nat_lt q.vaddr (p.vaddr + p.memsz)
+do_overlap p q = is_load p.kind && is_load q.kind && share_byte p.vaddr p.memsz q.vaddr q.memsz
 
 -- the first segment behind segment i that shares a byte with it
 unfoldable pub overlapped : List ℕ → ℕ → Option ℕ
