@@ -1,0 +1,98 @@
+//! The code ranges of a file.
+ghost use Rattle.std.specs.Prelude.{◌≡◌, ◌++◌, IfOk};
+ghost use Rattle.qed_model.specs.Machine.Loading.{load_segment, load_segments, is_code_section, lies_in_code, lies_in_any, section_ranges, segment_ranges, code_ranges};
+ghost use Rattle.qed_model.specs.Admission.CodeWords.{ranges_of};
+ghost use Rattle.code_ranges.specs.Ranges.{spans};
+
+use crate::range::CodeRange;
+use elf_types::{ElfFile, Section, Segment};
+use std::alloc::{AllocError, Global};
+
+/// The type of a segment that is loaded (ELF gABI, program header).
+const LOAD: u32 = 1;
+
+/// Flags of sections and of segments with code (ELF gABI): SHF_ALLOC, SHF_EXECINSTR and PF_X.
+const ALLOC: u64 = 2;
+
+const EXECINSTR: u64 = 4;
+
+const EXECUTE: u32 = 1;
+
+/// Whether a section is one of code, with some bytes.
+pub fn is_code_section(section: &Section) -> bool
+    ensures { result ≡ is_code_section section.now }
+{
+    section.flags / ALLOC % 2 == 1 && section.flags / EXECINSTR % 2 == 1 && section.size > 0
+}
+
+/// Whether a section lies wholly inside a segment, which is executable.
+pub fn lies_in(section: &Section, segment: &Segment) -> bool
+    ensures { result ≡ lies_in_code section.now (load_segment segment.now) }
+{
+    segment.flags % 2 == EXECUTE
+        && segment.address <= section.address
+        && u128::from(section.address) + u128::from(section.size)
+            <= u128::from(segment.address) + u128::from(segment.memory)
+}
+
+/// Whether a section lies wholly inside one executable segment of type PT_LOAD.
+pub fn lies_in_any(section: &Section, segments: &[Segment]) -> bool
+    ensures { result ≡ lies_in_any section.now (load_segments segments.now) }
+{
+    for segment in segments {
+        if segment.kind == LOAD && lies_in(section, segment) {
+            return true;
+        }
+    }
+    false
+}
+
+/// The sections of code that lie wholly inside an executable segment.
+fn ranges_of_sections(
+    alloc: Global,
+    segments: &[Segment],
+    sections: &[Section],
+) -> Result<Vec<CodeRange>, AllocError>
+    ensures { IfOk result (λ ranges. spans ranges.items ≡ section_ranges (load_segments segments.now) sections.now) }
+{
+    let mut ranges = Vec::new(alloc);
+    for section in sections {
+        if is_code_section(section) && lies_in_any(section, segments) {
+            ranges.push(CodeRange {
+                start: section.address,
+                size: section.size,
+            })?;
+        }
+    }
+    Ok(ranges)
+}
+
+/// The executable segments of type PT_LOAD that have bytes in memory.
+fn ranges_of_segments(alloc: Global, segments: &[Segment]) -> Result<Vec<CodeRange>, AllocError>
+    ensures { IfOk result (λ ranges. spans ranges.items ≡ segment_ranges (load_segments segments.now)) }
+{
+    let mut ranges = Vec::new(alloc);
+    for segment in segments {
+        if segment.kind == LOAD && segment.flags % 2 == EXECUTE && segment.memory > 0 {
+            ranges.push(CodeRange {
+                start: segment.address,
+                size: segment.memory,
+            })?;
+        }
+    }
+    Ok(ranges)
+}
+
+/// The code ranges of a file, in the order of their sections, or, where no section is one, in the order of their
+/// segments.
+pub fn code_ranges(alloc: Global, file: &ElfFile) -> Result<Vec<CodeRange>, AllocError>
+    ensures { IfOk result (λ ranges. spans ranges.items ≡ ranges_of file.now) }
+{
+    let segments = file.segments.as_slice();
+    let found = ranges_of_sections(alloc, segments, file.sections.as_slice())?;
+    if !found.is_empty() {
+        return Ok(found);
+    }
+    let whole = ranges_of_segments(alloc, segments)?;
+    Ok(whole)
+}
