@@ -10,7 +10,7 @@ ghost use Rattle.qed_model.specs.Machine.Struck.{struck};
 ghost use Rattle.qed_model.specs.Machine.Apart.{AllFitMemory, AreApart};
 ghost use Rattle.rv_step.specs.Known.{goes_on, known_at, struck_progress};
 
-use crate::range::CodeRange;
+use code_ranges::CodeRange;
 use elf_types::ElfFile;
 use mem_image::Image;
 use qed_model::{Outcome, Place};
@@ -32,7 +32,7 @@ pub struct Machine {
 impl Model for Machine {
     ghost use Rattle.qed_model.specs.Machine.Progress.{Progress};
     ghost use Rattle.rv_step.specs.Codes.{progress_code};
-    ghost use Rattle.rv_step.specs.Ranges.{spans};
+    ghost use Rattle.code_ranges.specs.Ranges.{spans};
 
     ghost Value = { Progress };
 
