@@ -3,7 +3,7 @@ ghost use Rattle.std.specs.Prelude.{◌≡◌, ℕ, ◌+◌, ◌≤◌, All, IfO
 ghost use Rattle.flow_recovery.specs.Sets.{holds};
 ghost use Rattle.flow_recovery.specs.Leaders.{IsCodeOf};
 ghost use Rattle.qed_model.specs.Weave.Blocks.{AreBlocks};
-ghost use Rattle.qed_model.specs.Weave.Places.{AreSound};
+ghost use Rattle.qed_model.specs.Weave.Places.{AreSoundOptions};
 ghost use Rattle.block_list.specs.Built.{IsLong, IsShort, AddsBlock, Built};
 ghost use Rattle.block_list.specs.Listed.{block_of, IsWithin};
 
@@ -32,7 +32,7 @@ fn long_block(
     options: &Options,
 ) -> Result<CodeBlock, AllocError>
     requires some { 1 ≤ length words.now }
-    requires sound { AreSound options.now }
+    requires sound { AreSoundOptions options.now }
     ensures { IfOk result (IsLong (holds leaders.now) options.now.inst_max words.now) }
 {
     let found = body_extent(words, leaders);
@@ -80,7 +80,7 @@ fn push_block(
     options: &Options,
 ) -> Result<(), AllocError>
     requires some { 1 ≤ length words.now }
-    requires sound { AreSound options.now }
+    requires sound { AreSoundOptions options.now }
     ensures { OnOk result (AddsBlock (holds leaders.now) indirect options.now.inst_max words.now blocks.old.items blocks.new.items) }
 {
     let alloc = *blocks.allocator();
@@ -100,7 +100,7 @@ pub(crate) fn list(
     indirect: bool,
     options: &Options,
 ) -> Result<Vec<CodeBlock>, AllocError>
-    requires { AreSound options.now }
+    requires { AreSoundOptions options.now }
     ensures { IfOk result (λ blocks. Built (holds leaders.now) indirect options.now.inst_max words.now blocks.items) }
 {
     let mut blocks = Vec::new(alloc);
@@ -120,7 +120,7 @@ pub fn blocks(
     options: &Options,
 ) -> Result<Blocks, AllocError>
     requires code { IsCodeOf file.now test.now }
-    requires sound { AreSound options.now }
+    requires sound { AreSoundOptions options.now }
     ensures exact { IfOk result (λ blocks. AreBlocks file.now options.now.inst_max (map block_of blocks)) }
     ensures within { IfOk result (λ blocks. (top : ℕ) → All (λ c. c.at + 4 ≤ top) test.now.code → All (IsWithin top) blocks) }
 {

@@ -12,11 +12,12 @@ use Rattle.qed_model.specs.Machine.Table.{decode_of}
 use Rattle.qed_model.specs.Machine.Step.{target}
 use Rattle.qed_model.specs.Admission.Terms.{is_compressed, is_dynamic, is_code_address, high_register}
 use Rattle.qed_model.specs.Admission.CodeWords.{loads_of, ranges_of, is_code, word_at, instruction_at}
-use Rattle.qed_model.specs.Admission.Rules.{passes_at, is_writable_code, is_misshapen_section, is_misshapen_segment, is_unknown, high_in, is_ebreak, is_upper, is_far, is_mixed}
+use Rattle.qed_model.specs.Admission.Rules.{passes_at, is_writable_code, is_misshapen_section, is_misshapen_segment, is_unknown, high_in, is_ebreak, is_far, is_mixed}
+use Rattle.qed_model.specs.Weave.Sequences.{is_auipc}
 use Rattle.qed_model.specs.Admission.Refusals.{IsAdmitted, HasTooManyWords}
 use Rattle.qed_model.specs.Weave.Placed.{distance_between}
 use Rattle.qed_model.specs.Weave.OutputParts.{base_of, high_of, distance_of}
-use Rattle.qed_model.specs.Weave.Places.{AreSound, image_of, half_of, code_place}
+use Rattle.qed_model.specs.Weave.Places.{AreSoundOptions, image_of, half_of, code_place}
 
 -- ---- computed tests
 either_way : (C : Type 0) (b : Bool) → (b ≡ true → C) → (b ≡ false → C) → C
@@ -42,7 +43,7 @@ defaults = options false
 abbrev pub swept : Options
 swept = options true
 
-pub sound : (sweep : Bool) → AreSound (options sweep)
+pub sound : (sweep : Bool) → AreSoundOptions (options sweep)
 sound sweep = record { some = omega arith; room = omega arith; most = omega arith; visits = omega arith; few_visits = omega arith; half = tt }
 
 -- ---- the code
@@ -143,7 +144,7 @@ module _ (f : ElfFile) (from : ℕ) (code : List Ins) (known : IsCodeOf f from c
   -- ---- no rule refuses it
   -- what an instruction has to pass: no register above x13, no EBREAK, no AUIPC that is out of reach of the base
   abbrev pub is_fine : ℕ → Ins → Bool
-  is_fine a i = is_none (high_register i) && not (is_ebreak i.kind || is_upper i.kind && is_far (distance_between (base_of (image_of f)) (target i a)))
+  is_fine a i = is_none (high_register i) && not (is_ebreak i.kind || is_auipc i.kind && is_far (distance_between (base_of (image_of f)) (target i a)))
 
   -- and the segments and sections: that none of these rules holds
   abbrev pub is_refused : Bool
@@ -178,9 +179,9 @@ module _ (f : ElfFile) (from : ℕ) (code : List Ins) (known : IsCodeOf f from c
     -- the two halves of the test
     fine_parts :
         (a : ℕ) (i : Ins) → is_fine a i ≡ true
-        → (high_register i ≡ None) × (is_ebreak i.kind ≡ false) × (is_upper i.kind && is_far (distance_between (base_of (image_of f)) (target i a)) ≡ false)
+        → (high_register i ≡ None) × (is_ebreak i.kind ≡ false) × (is_auipc i.kind && is_far (distance_between (base_of (image_of f)) (target i a)) ≡ false)
     fine_parts a i e =
-        let far = is_upper i.kind && is_far (distance_between (base_of (image_of f)) (target i a)) in
+        let far = is_auipc i.kind && is_far (distance_between (base_of (image_of f)) (target i a)) in
         let p = and_parts (is_none (high_register i)) (not (is_ebreak i.kind || far)) e in
         let q = neither (is_ebreak i.kind) far (not-true (is_ebreak i.kind || far) p.1) in
         (none_of (high_register i) p.0, q.0, q.1)
@@ -206,7 +207,7 @@ module _ (f : ElfFile) (from : ℕ) (code : List Ins) (known : IsCodeOf f from c
           known = λ q l. no_unknown q;
           low = λ q l. asked (λ a i. high_in i) None (λ a. refl) (λ a i h. (fine_parts a i h).0) q;
           unbroken = λ q l. asked (λ a i. passes_at (λ (j : Ins). is_ebreak j.kind) i) false (λ a. refl) (λ a i h. (fine_parts a i h).1) q;
-          near = λ q l. asked (λ a i. passes_at (λ (j : Ins). is_upper j.kind && is_far (distance_between (base_of (image_of f)) (target j a))) i) false (λ a. refl) (λ a i h. (fine_parts a i h).2) q;
+          near = λ q l. asked (λ a i. passes_at (λ (j : Ins). is_auipc j.kind && is_far (distance_between (base_of (image_of f)) (target j a))) i) false (λ a. refl) (λ a i h. (fine_parts a i h).2) q;
           unmixed = none_passes (is_mixed (image_of f)) f.segments g.1;
           half = half;
           span = span;

@@ -8,7 +8,7 @@ use Rattle.qed_model.specs.Admission.Terms.{image_segments}
 use Rattle.qed_model.specs.Weave.OutputParts.{base_of, distance_of}
 
 -- options with which files are transformed
-pub record AreSound (o : Options) : Type 0 where
+pub record AreSoundOptions (o : Options) : Type 0 where
   pub some : 1 ≤ o.inst_min
   pub room : 2 * o.inst_min ≤ o.inst_max + 1
   pub most : o.inst_max ≤ 1024
