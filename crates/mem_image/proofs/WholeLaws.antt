@@ -47,9 +47,6 @@ gathered_more bs i w t v b h l e k =
 pub gathered_fits : (bs : List ℕ) (i w t v : ℕ) → Gathered bs i w t v → t < w → w ≤ 8 → 256 * v + 255 < 2 ^ 64
 gathered_fits bs i w t v h l k = let top : 256 ^ t ≤ 256 ^ 7 = pow-le-pow_right {n = 256} (omega arith) {i = t} {j = 7} (omega arith) in let s = h.small in omega (arith, top, s)
 
-pub gathered_all : (bs : List ℕ) (i w t v : ℕ) → Gathered bs i w t v → t ≡ w → (v ≡ number_in bs i w) × (v < 256 ^ w)
-gathered_all bs i w t v h e = let from : i + (w - t) ≡ i = omega arith in (rw (from, e) at h.is, rw e at h.small)
-
 -- ---- the addresses of a segment
 pub spans : (s : LoadSegment) (a n : ℕ) → has_all s a n ≡ true → (s.address ≤ a) × (a + n ≤ s.address + s.size)
 spans s a n h =

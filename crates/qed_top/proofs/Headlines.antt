@@ -89,8 +89,8 @@ module _ (call : Call) (files : Files) (input output : List ℕ) where
     reads_test = d.made.woven.file.read;
     reads_program = d.made.reads;
     woven = d.made.woven;
-    kept = d.made.kept d.made.woven.file.file (file_read d.made.woven.out) d.made.woven.file.read d.made.reads;
-    caught = d.made.caught d.made.woven.file.file (file_read d.made.woven.out) d.made.woven.file.read d.made.reads;
+    kept = d.made.kept d.made.woven.file.file (file_read d.made.woven.out) d.made.woven.file.read.file d.made.reads.file;
+    caught = d.made.caught d.made.woven.file.file (file_read d.made.woven.out) d.made.woven.file.read.file d.made.reads.file;
     told = d.delivers.text;
   }
 

@@ -5,7 +5,7 @@ use Rattle.std.specs.Io.KnownBytes.{Appends}
 use Rattle.elf_types.specs.declared.file.ElfFile.{ElfFile}
 use Rattle.qed_io.specs.Files.{Files, file_bytes}
 use Rattle.qed_model.specs.declared.plan.Plan.{Plan}
-use Rattle.qed_model.specs.Elf.File.{File}
+use Rattle.qed_model.specs.Elf.File.{IsReadAs}
 use Rattle.qed_model.specs.Machine.Loading.{loaded_file}
 use Rattle.qed_model.specs.Weave.StraightWoven.{Woven}
 use Rattle.qed_model.specs.Promise.Kept.{Kept}
@@ -22,8 +22,8 @@ pub record IsPromised (input output line : List ℕ) : Type 0 where
   pub test : ElfFile
   pub program : ElfFile
   pub plan : Plan
-  pub reads_test : File input test
-  pub reads_program : File output program
+  pub reads_test : IsReadAs input test
+  pub reads_program : IsReadAs output program
   pub woven : Woven input output
   pub kept : Kept (loaded_file test) (loaded_file program) plan.bounds.start plan.bounds.piece
   pub caught : Caught (loaded_file test) (loaded_file program) [] plan.bounds
