@@ -3,7 +3,7 @@
 
 ghost use Rattle.std.specs.Prelude.{◌≡◌, map, IfOk, OnErr};
 ghost use Rattle.qed_top.specs.Words.{texts};
-ghost use Rattle.qed_top.specs.Ends.{Ends, IsComplete};
+ghost use Rattle.qed_top.specs.Headline.{Answers};
 
 use qed_io::{Shelf, Sink};
 use qed_top::{Status, qed};
@@ -29,16 +29,7 @@ pub fn run<S: Shelf, K: Sink>(
     shelf: &mut S,
     out: &mut K,
 ) -> Result<Status, AllocError>
-    ensures ends { IfOk result (Ends (record {
-      words = map (λ word. word.now) line.now;
-      old = S.files shelf.old;
-      new = S.files shelf.new;
-      was = K.written out.old;
-      now = K.written out.new;
-      before = record { load = S.load_faults shelf.old; store = S.store_faults shelf.old; sink = K.faults out.old };
-      after = record { load = S.load_faults shelf.new; store = S.store_faults shelf.new; sink = K.faults out.new };
-    })) }
-    ensures complete { IfOk result (IsComplete (record {
+    ensures made { IfOk result (Answers (record {
       words = map (λ word. word.now) line.now;
       old = S.files shelf.old;
       new = S.files shelf.new;
