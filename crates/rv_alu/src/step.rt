@@ -82,8 +82,8 @@ fn landing(ins: &Ins, pc: u64, regs: &Regs) -> u64
 }
 
 impl Operation for Computing {
-    ghost use Rattle.rv_alu.specs.Steps.{computed, following, IsComputing, same, branched, IsBranching, linked, landed, IsJumping, IsPassing};
-    ghost use Rattle.rv_alu.specs.Laws.{computing_frame, computing_sources, computing_mirror, branching_frame, branching_sources, branching_mirror, jumping_frame, jumping_sources, jumping_mirror, passing_frame, passing_sources, passing_mirror};
+    ghost use Rattle.rv_alu.specs.Steps.{computed, following, IsComputing};
+    ghost use Rattle.rv_alu.specs.Laws.{computing_frame, computing_sources, computing_mirror};
 
     ghost is_for = { IsComputing };
 
@@ -115,6 +115,8 @@ impl Operation for Computing {
 }
 
 impl Operation for Branching {
+    ghost use Rattle.rv_alu.specs.Steps.{same, branched, IsBranching};
+    ghost use Rattle.rv_alu.specs.Laws.{branching_frame, branching_sources, branching_mirror};
 
     ghost is_for = { IsBranching };
 
@@ -145,6 +147,8 @@ impl Operation for Branching {
 }
 
 impl Operation for Jumping {
+    ghost use Rattle.rv_alu.specs.Steps.{linked, landed, IsJumping};
+    ghost use Rattle.rv_alu.specs.Laws.{jumping_frame, jumping_sources, jumping_mirror};
 
     ghost is_for = { IsJumping };
 
@@ -178,6 +182,8 @@ impl Operation for Jumping {
 }
 
 impl Operation for Passing {
+    ghost use Rattle.rv_alu.specs.Steps.{same, following, IsPassing};
+    ghost use Rattle.rv_alu.specs.Laws.{passing_frame, passing_sources, passing_mirror};
 
     ghost is_for = { IsPassing };
 
