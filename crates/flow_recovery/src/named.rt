@@ -10,23 +10,11 @@ use elf_types::{Rela, Symbol};
 use std::alloc::AllocError;
 use std::collections::BTreeSet;
 
-/// Types of symbols (ELF gABI, symbol table).
-const NOTYPE: u8 = 0;
-
-const FUNC: u8 = 2;
-
-/// Whether a symbol may name code: it is defined, and of type STT_FUNC or STT_NOTYPE.
-fn is_code_symbol(symbol: &Symbol) -> bool
-    ensures { result ≡ is_code_symbol symbol.now }
-{
-    symbol.index != 0 && (symbol.kind == FUNC || symbol.kind == NOTYPE)
-}
-
 /// Adds the value of a symbol of code.
 fn add_symbol(set: &mut BTreeSet<u64>, symbol: &Symbol) -> Result<(), AllocError>
     ensures { OnOk result (Adds set.old set.new (λ a. is_code_symbol symbol.now && symbol.now.value == a)) }
 {
-    if is_code_symbol(symbol) {
+    if symbol.is_code() {
         add(set, symbol.value)?;
     }
     Ok(())
