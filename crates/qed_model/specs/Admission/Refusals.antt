@@ -1,5 +1,5 @@
 -- Why a test is not admitted, in sentences on its segments, its sections and its code, and the order of the rules.
-use Rattle.std.specs.Prelude.{◌≡◌, ◌⊎◌, ℕ, ◌+◌, ◌*◌, ◌^◌, ◌<◌, ◌≤◌, is_some, Some, None, IfSome, Bool, true, false, List, length, slice_get}
+use Rattle.std.specs.Prelude.{◌≡◌, ◌⊎◌, ℕ, ◌+◌, ◌^◌, ◌<◌, ◌≤◌, is_some, Some, None, Bool, true, false, List, length, slice_get}
 use Rattle.elf_types.specs.declared.file.ElfFile.{ElfFile}
 use Rattle.qed_model.specs.declared.limits.Limit.TheVariants as limit
 use Rattle.qed_model.specs.declared.limits.TheConstants.{CODE_ROOM}

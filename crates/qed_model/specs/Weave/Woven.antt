@@ -1,5 +1,5 @@
 -- What is woven from a test: the output file, word for word, and what is told of it.
-use Rattle.std.specs.Prelude.{◌≡◌, ℕ, ◌*◌, ◌^◌, ◌<◌, ◌≤◌, nat_lt, Bool, false, cond, List, [], ◌∷◌, ◌++◌, length, map, slice_index}
+use Rattle.std.specs.Prelude.{◌≡◌, ℕ, ◌^◌, ◌<◌, ◌≤◌, nat_lt, Bool, false, cond, List, ◌++◌, length, map, slice_index}
 use Rattle.rv_isa.specs.declared.ins.Ins.{Ins}
 use Rattle.elf_types.specs.declared.file.ElfFile.{ElfFile}
 use Rattle.elf_types.specs.declared.output.OutFile.{OutFile}
