@@ -1,14 +1,14 @@
 -- Segments that share a byte, and segments with all their bytes written out.
-use Rattle.std.proofs.Common.{◌≡◌, ℕ, zero, suc, ◌+◌, ◌-◌, ◌<◌, ◌≤◌, inl, inr, ⊎_elim, true, List, [], ◌∷◌, length, map, Some, refl, sym, ap, ◌∙◌, arith, get_or}
-use Rattle.std.specs.Prelude.{nat_lt, nat_le, slice_get}
+use Rattle.std.proofs.Common.{◌≡◌, ℕ, ◌+◌, ◌-◌, ◌<◌, ◌≤◌, inl, inr, ⊎_elim, true, List, [], ◌∷◌, length, map, Some, refl, sym, ap, ◌∙◌, arith, get_or}
+use Rattle.std.specs.Prelude.{slice_get}
 use Rattle.std.specs.Option.{option_map}
-use Rattle.std.proofs.lemmas.Bool.{and_from, and_parts, le-leb, lt-ltb, leb-true, ltb-true, cases_lt}
+use Rattle.std.proofs.lemmas.Bool.{cases_lt}
 use Rattle.std.proofs.lemmas.Option.{slice_get-get_or, slice_get_within, slice_get-map}
 use Rattle.std.proofs.lemmas.List.{length-map}
 use Rattle.qed_model.proofs.MemoryLaws.{same_memory}
 use Rattle.qed_model.specs.Machine.Program.{LoadSegment, memory_of}
 use Rattle.mem_image.specs.declared.spec.SegmentSpec.{SegmentSpec}
-use Rattle.qed_model.specs.Machine.Apart.{AllFitMemory, share, Overlaps, AreApart}
+use Rattle.qed_model.specs.Machine.Apart.{AllFitMemory, share, Overlaps}
 use Rattle.mem_image.specs.Segments.{cell_in}
 use Rattle.mem_image.specs.Overlap.{segment_of, segments_of, filled, IsNext, IsLeast}
 use Rattle.mem_image.proofs.SegmentLaws.{index_zeros, length_zeros, get-memory_of}

@@ -1,5 +1,5 @@
 -- Segments in memory, address by address.
-use Rattle.std.specs.Prelude.{◌≡◌, ℕ, zero, suc, ◌+◌, ◌-◌, ◌*◌, ◌^◌, ◌<◌, ◌≤◌, ◌&&◌, Bool, true, false, cond, nat_le, nat_lt, List, [], ◌∷◌, length, slice_index, slice_get, slice_set, Option, Some, None}
+use Rattle.std.specs.Prelude.{◌≡◌, ℕ, zero, suc, ◌+◌, ◌-◌, ◌*◌, ◌<◌, ◌&&◌, Bool, true, false, cond, nat_le, nat_lt, List, [], ◌∷◌, slice_index, slice_get, slice_set, Option, Some, None}
 use Rattle.std.specs.FinMap.{get}
 use Rattle.qed_model.specs.Machine.Memory.{Cell, Memory, byte_of}
 use Rattle.qed_model.specs.Machine.Program.{LoadSegment}

@@ -21,8 +21,8 @@ use Rattle.transform.specs.declared.error.AdmitError.TheVariants as admit
 use Rattle.transform.specs.Transform.{HasCause, IsWithin}
 use Rattle.qed_model.specs.Text.Plan.{usage_line, load_limit, load_limit_line, run_load_limit, run_load_limit_line}
 use Rattle.qed_top.specs.Words.{Asked, Transform, Run, asked, read_name, stored_name}
-use Rattle.qed_top.specs.Answer.{PrintsOnly, error_status, Transforms, refused, done, refusal_status, memory_bytes, outcome_status, run_of, Runs, unread, too_large, ran, Means, read_fault, too_long, within, CommandMeans, IsMeant, FilesAfter, FilesInPart, StoreRose, ShelfSteady, SteadyOrReadFault}
-use Rattle.qed_top.specs.Ends.{OverFiles, Call, load_rose, store_rose, sink_rose, KeepsShelf, StoppedForMemory, Did, EndsOver, Ends, TransformDecides, RunDecides, Decided, CommandDecides, Decides, NoFault, IsComplete}
+use Rattle.qed_top.specs.Answer.{PrintsOnly, error_status, Transforms, refused, done, refusal_status, memory_bytes, outcome_status, run_of, Runs, unread, too_large, ran, CallsFor, read_fault, too_long, within, CommandCallsFor, WordsCallFor, FilesAfter, FilesInPart, StoreRose, ShelfSteady, SteadyOrReadFault}
+use Rattle.qed_top.specs.Ends.{OverFiles, Call, load_rose, store_rose, sink_rose, KeepsShelf, StoppedForMemory, IsAnswered, EndsOver, Ends, TransformDecides, RunDecides, Decided, CommandDecides, Decides, NoFault, IsComplete}
 use Rattle.qed_top.specs.Ends as decide
 use Rattle.qed_top.specs.declared.answer.Answer.{Answer}
 use Rattle.qed_top.specs.declared.answer.Stored.{Stored}
@@ -45,29 +45,29 @@ rose_since before middle now kept name rose = omega (arith, kept name)
 
 -- ---- what is meant
 means_later :
-    (limit : ℕ) (line bytes : List ℕ) (rose later W : Type 0) (answer : Answer) → (rose → later) → Means limit line bytes rose W answer
-    → Means limit line bytes later W answer
+    (limit : ℕ) (line bytes : List ℕ) (rose later W : Type 0) (answer : Answer) → (rose → later) → CallsFor limit line bytes rose W answer
+    → CallsFor limit line bytes later W answer
 means_later limit line bytes rose later W answer h (read_fault r) = read_fault (record { cause = h r.cause; plain = r.plain })
 means_later limit line bytes rose later W answer h (too_long t) = too_long t
 means_later limit line bytes rose later W answer h (within small w) = within small w
 
 command_later :
     (command : Asked) (files : Files) (rose later : List ℕ → Type 0) → ((name : List ℕ) → rose name → later name) → (answer : Answer)
-    → CommandMeans command files rose answer → CommandMeans command files later answer
+    → CommandCallsFor command files rose answer → CommandCallsFor command files later answer
 command_later (Transform input output) files rose later h answer m = means_later load_limit load_limit_line (file_bytes files input) (rose input) (later input) (Transforms (file_bytes files input) output answer) answer (h input) m
 command_later (Run file) files rose later h answer m = means_later run_load_limit run_load_limit_line (file_bytes files file) (rose file) (later file) (Runs (file_bytes files file) answer) answer (h file) m
 
 meant_by_command_later :
     (command : Option Asked) (files : Files) (rose later : List ℕ → Type 0) → ((name : List ℕ) → rose name → later name) → (answer : Answer)
-    → MatchOption command (PrintsOnly Usage usage_line answer) (λ c. CommandMeans c files rose answer)
-    → MatchOption command (PrintsOnly Usage usage_line answer) (λ c. CommandMeans c files later answer)
+    → MatchOption command (PrintsOnly Usage usage_line answer) (λ c. CommandCallsFor c files rose answer)
+    → MatchOption command (PrintsOnly Usage usage_line answer) (λ c. CommandCallsFor c files later answer)
 meant_by_command_later None files rose later h answer m = m
 meant_by_command_later (Some c) files rose later h answer m = command_later c files rose later h answer m
 
 -- what is meant stays so when more counts have risen
 pub meant_later :
     (words : List (List ℕ)) (files : Files) (rose later : List ℕ → Type 0) → ((name : List ℕ) → rose name → later name) → (answer : Answer)
-    → IsMeant words files rose answer → IsMeant words files later answer
+    → WordsCallFor words files rose answer → WordsCallFor words files later answer
 meant_later words files rose later h answer m = meant_by_command_later (asked words) files rose later h answer m
 
 -- the status of what is meant is one that goes with a text
@@ -121,27 +121,27 @@ runs_printed bytes answer (too_large t) = prints Limit answer tt t.plain.status
 runs_printed bytes answer (ran r) = prints (outcome_status (run_of r.file).state.outcome) answer (outcome_printed (run_of r.file).state.outcome) r.plain.status
 
 means_printed :
-    (limit : ℕ) (line bytes : List ℕ) (rose W : Type 0) (answer : Answer) → (W → Printed answer.status) → Means limit line bytes rose W answer
+    (limit : ℕ) (line bytes : List ℕ) (rose W : Type 0) (answer : Answer) → (W → Printed answer.status) → CallsFor limit line bytes rose W answer
     → Printed answer.status
 means_printed limit line bytes rose W answer h (read_fault r) = prints ReadFault answer tt r.plain.status
 means_printed limit line bytes rose W answer h (too_long t) = prints Limit answer tt t.plain.status
 means_printed limit line bytes rose W answer h (within small w) = h w
 
-command_printed : (command : Asked) (files : Files) (rose : List ℕ → Type 0) (answer : Answer) → CommandMeans command files rose answer → Printed answer.status
+command_printed : (command : Asked) (files : Files) (rose : List ℕ → Type 0) (answer : Answer) → CommandCallsFor command files rose answer → Printed answer.status
 command_printed (Transform input output) files rose answer m = means_printed load_limit load_limit_line (file_bytes files input) (rose input) (Transforms (file_bytes files input) output answer) answer (transforms_printed (file_bytes files input) output answer) m
 command_printed (Run file) files rose answer m = means_printed run_load_limit run_load_limit_line (file_bytes files file) (rose file) (Runs (file_bytes files file) answer) answer (runs_printed (file_bytes files file) answer) m
 
 printed_by_command :
     (command : Option Asked) (files : Files) (rose : List ℕ → Type 0) (answer : Answer)
-    → MatchOption command (PrintsOnly Usage usage_line answer) (λ c. CommandMeans c files rose answer) → Printed answer.status
+    → MatchOption command (PrintsOnly Usage usage_line answer) (λ c. CommandCallsFor c files rose answer) → Printed answer.status
 printed_by_command None files rose answer m = prints Usage answer tt m.status
 printed_by_command (Some c) files rose answer m = command_printed c files rose answer m
 
-printed : (words : List (List ℕ)) (files : Files) (rose : List ℕ → Type 0) (answer : Answer) → IsMeant words files rose answer → Printed answer.status
+printed : (words : List (List ℕ)) (files : Files) (rose : List ℕ → Type 0) (answer : Answer) → WordsCallFor words files rose answer → Printed answer.status
 printed words files rose answer m = printed_by_command (asked words) files rose answer m
 
 -- what was done ends the call with the answer's status
-did_ends : (call : Call) (files : Files) (status : Status) → Printed status → Did call files status → EndsOver call files status
+did_ends : (call : Call) (files : Files) (status : Status) → Printed status → IsAnswered call files status → EndsOver call files status
 did_ends call files Done p d = d
 did_ends call files Usage p d = d
 did_ends call files Refused p d = d
@@ -155,24 +155,24 @@ did_ends call files StepsSpent p d = d
 
 -- ---- how the call ends
 pub all_done :
-    (call : Call) (answer : Answer) → OverFiles call.old (λ files. IsMeant call.words files (load_rose call) answer)
+    (call : Call) (answer : Answer) → OverFiles call.old (λ files. WordsCallFor call.words files (load_rose call) answer)
     → FilesAfter answer.stored call.old call.new → Appends call.was call.now answer.text → Ends call answer.status
 all_done call answer meant stored text =
-    over_map call.old (λ files. IsMeant call.words files (load_rose call) answer) (λ files. EndsOver call files answer.status)
+    over_map call.old (λ files. WordsCallFor call.words files (load_rose call) answer) (λ files. EndsOver call files answer.status)
     (λ files m. did_ends call files answer.status (printed call.words files (load_rose call) answer m) (record { answer = answer; meant = m; same_status = refl; stored = stored; printed = text })) meant
 
 pub print_failed :
-    (call : Call) (answer : Answer) → OverFiles call.old (λ files. IsMeant call.words files (load_rose call) answer)
+    (call : Call) (answer : Answer) → OverFiles call.old (λ files. WordsCallFor call.words files (load_rose call) answer)
     → FilesAfter answer.stored call.old call.new → AppendsPart call.was call.now answer.text → sink_rose call → Ends call WriteFault
 print_failed call answer meant stored text rose =
-    over_map call.old (λ files. IsMeant call.words files (load_rose call) answer) (λ files. EndsOver call files WriteFault)
+    over_map call.old (λ files. WordsCallFor call.words files (load_rose call) answer) (λ files. EndsOver call files WriteFault)
     (λ files m. inl (rose, record { answer = answer; meant = m; stored = stored; printed = text })) meant
 
 pub store_failed :
-    (call : Call) (answer : Answer) → OverFiles call.old (λ files. IsMeant call.words files (load_rose call) answer)
+    (call : Call) (answer : Answer) → OverFiles call.old (λ files. WordsCallFor call.words files (load_rose call) answer)
     → StoreRose answer.stored (store_rose call) → FilesInPart answer.stored call.old call.new → call.now ≡ call.was → Ends call WriteFault
 store_failed call answer meant cause stored text =
-    over_map call.old (λ files. IsMeant call.words files (load_rose call) answer) (λ files. EndsOver call files WriteFault)
+    over_map call.old (λ files. WordsCallFor call.words files (load_rose call) answer) (λ files. EndsOver call files WriteFault)
     (λ files m. inr (record { answer = answer; meant = m; cause = cause; stored = stored; printed = text })) meant
 
 -- an answer that stores a file tells of no read fault
@@ -190,13 +190,13 @@ StoppedShort call answer =
     (IsSome answer.stored × (call.new ≡ call.old) × (call.now ≡ call.was)) ⊎ (FilesAfter answer.stored call.old call.new × AppendsPart call.was call.now answer.text)
 
 pub no_memory_late :
-    (call : Call) (answer : Answer) → OverFiles call.old (λ files. IsMeant call.words files (load_rose call) answer)
+    (call : Call) (answer : Answer) → OverFiles call.old (λ files. WordsCallFor call.words files (load_rose call) answer)
     → SteadyOrReadFault (KeepsShelf call) answer → call.after.sink ≡ call.before.sink → StoppedShort call answer → Ends call Memory
 no_memory_late call answer meant steady sink (inl same) =
-    over_map call.old (λ files. IsMeant call.words files (load_rose call) answer) (λ files. EndsOver call files Memory)
+    over_map call.old (λ files. WordsCallFor call.words files (load_rose call) answer) (λ files. EndsOver call files Memory)
     (λ files m. inl (record { stored = same.1; printed = same.2; shelf = steady_store (KeepsShelf call) answer steady same.0; sink = sink })) meant
 no_memory_late call answer meant steady sink (inr part) =
-    over_map call.old (λ files. IsMeant call.words files (load_rose call) answer) (λ files. EndsOver call files Memory)
+    over_map call.old (λ files. WordsCallFor call.words files (load_rose call) answer) (λ files. EndsOver call files Memory)
     (λ files m. inr (record {
       stopped = record { answer = answer; meant = m; stored = part.0; printed = part.1 };
       shelf = steady_other (KeepsShelf call) answer steady;
@@ -304,7 +304,7 @@ runs_decided bytes answer (too_large t) = decide.too_large t.file t.read t.cause
 runs_decided bytes answer (ran r) = decide.ran r.file r.read r.small r.plain.status
 
 means_decided :
-    (limit : ℕ) (line bytes : List ℕ) (rose V W : Type 0) (answer : Answer) → (V → W) → (rose → ⊥) → Means limit line bytes rose V answer
+    (limit : ℕ) (line bytes : List ℕ) (rose V W : Type 0) (answer : Answer) → (V → W) → (rose → ⊥) → CallsFor limit line bytes rose V answer
     → Decided limit bytes W answer.status
 means_decided limit line bytes rose V W answer h calm (read_fault r) = absurd (calm r.cause)
 means_decided limit line bytes rose V W answer h calm (too_long t) = decide.too_long t.cause t.plain.status
@@ -312,13 +312,13 @@ means_decided limit line bytes rose V W answer h calm (within small v) = decide.
 
 command_decided :
     (command : Asked) (files : Files) (rose : List ℕ → Type 0) (answer : Answer) → (rose (read_name command) → ⊥)
-    → CommandMeans command files rose answer → CommandDecides command files answer.status
+    → CommandCallsFor command files rose answer → CommandDecides command files answer.status
 command_decided (Transform input output) files rose answer calm m = means_decided load_limit load_limit_line (file_bytes files input) (rose input) (Transforms (file_bytes files input) output answer) (TransformDecides (file_bytes files input) answer.status) answer (transforms_decided (file_bytes files input) output answer) calm m
 command_decided (Run file) files rose answer calm m = means_decided run_load_limit run_load_limit_line (file_bytes files file) (rose file) (Runs (file_bytes files file) answer) (RunDecides (file_bytes files file) answer.status) answer (runs_decided (file_bytes files file) answer) calm m
 
 decided_by_command :
     (command : Option Asked) (files : Files) (rose : List ℕ → Type 0) (answer : Answer) → IfSome command (λ c. rose (read_name c) → ⊥)
-    → MatchOption command (PrintsOnly Usage usage_line answer) (λ c. CommandMeans c files rose answer)
+    → MatchOption command (PrintsOnly Usage usage_line answer) (λ c. CommandCallsFor c files rose answer)
     → MatchOption command (answer.status ≡ Usage) (λ c. CommandDecides c files answer.status)
 decided_by_command None files rose answer calm m = m.status
 decided_by_command (Some c) files rose answer calm m = command_decided c files rose answer calm m
@@ -346,25 +346,25 @@ runs_store bytes stores answer (ran x) r = none_stored answer stores x.plain.sto
 
 means_store :
     (limit : ℕ) (line bytes : List ℕ) (rose W : Type 0) (stores : List ℕ → Type 0) (answer : Answer) → (W → StoreRose answer.stored stores → ⊥)
-    → Means limit line bytes rose W answer → StoreRose answer.stored stores → ⊥
+    → CallsFor limit line bytes rose W answer → StoreRose answer.stored stores → ⊥
 means_store limit line bytes rose W stores answer h (read_fault f) r = none_stored answer stores f.plain.stored r
 means_store limit line bytes rose W stores answer h (too_long t) r = none_stored answer stores t.plain.stored r
 means_store limit line bytes rose W stores answer h (within small w) r = h w r
 
 command_store :
     (command : Asked) (files : Files) (rose stores : List ℕ → Type 0) (answer : Answer) → IfSome (stored_name command) (λ name. stores name → ⊥)
-    → CommandMeans command files rose answer → StoreRose answer.stored stores → ⊥
+    → CommandCallsFor command files rose answer → StoreRose answer.stored stores → ⊥
 command_store (Transform input output) files rose stores answer calm m = means_store load_limit load_limit_line (file_bytes files input) (rose input) (Transforms (file_bytes files input) output answer) stores answer (transforms_store (file_bytes files input) output stores answer calm) m
 command_store (Run file) files rose stores answer calm m = means_store run_load_limit run_load_limit_line (file_bytes files file) (rose file) (Runs (file_bytes files file) answer) stores answer (runs_store (file_bytes files file) stores answer) m
 
 store_by_command :
     (command : Option Asked) (files : Files) (rose stores : List ℕ → Type 0) (answer : Answer) → IfSome command (λ c. IfSome (stored_name c) (λ name. stores name → ⊥))
-    → MatchOption command (PrintsOnly Usage usage_line answer) (λ c. CommandMeans c files rose answer) → StoreRose answer.stored stores → ⊥
+    → MatchOption command (PrintsOnly Usage usage_line answer) (λ c. CommandCallsFor c files rose answer) → StoreRose answer.stored stores → ⊥
 store_by_command None files rose stores answer calm m r = none_stored answer stores m.stored r
 store_by_command (Some c) files rose stores answer calm m r = command_store c files rose stores answer calm m r
 
 did_decided :
-    (call : Call) (files : Files) (status decided : Status) → NoFault call → Did call files status → Decides call.words files decided
+    (call : Call) (files : Files) (status decided : Status) → NoFault call → IsAnswered call files status → Decides call.words files decided
     → (status ≡ decided) ⊎ (status ≡ Memory)
 did_decided call files status decided calm d e =
     inl (sym d.same_status ∙ decides_same (asked call.words) files d.answer.status decided (decided_by_command (asked call.words) files (load_rose call) d.answer calm.load d.meant) e)
@@ -419,9 +419,9 @@ steady_then :
 steady_then l0 l1 l2 s0 s1 s2 answer (inl a) b = inl (steady_both l0 l1 l2 s0 s1 s2 a b)
 steady_then l0 l1 l2 s0 s1 s2 answer (inr plain) b = inr plain
 
-module _ (words : List (List ℕ)) (old middle new : Option Files) (l0 l1 l2 s0 s1 s2 : List ℕ → ℕ) (was now : Option (List ℕ)) (k0 k2 : ℕ) (answer : Answer) (same : middle ≡ old) (meant : OverFiles old (λ f. IsMeant words f (RoseAt l0 l1) answer)) (loads : NoneFell l1 l2) (stores : NoneFell s0 s1) where
-  later : OverFiles old (λ f. IsMeant words f (RoseAt l0 l2) answer)
-  later = over_map old (λ f. IsMeant words f (RoseAt l0 l1) answer) (λ f. IsMeant words f (RoseAt l0 l2) answer) (λ f m. meant_later words f (RoseAt l0 l1) (RoseAt l0 l2) (rose_later l0 l1 l2 loads) answer m) meant
+module _ (words : List (List ℕ)) (old middle new : Option Files) (l0 l1 l2 s0 s1 s2 : List ℕ → ℕ) (was now : Option (List ℕ)) (k0 k2 : ℕ) (answer : Answer) (same : middle ≡ old) (meant : OverFiles old (λ f. WordsCallFor words f (RoseAt l0 l1) answer)) (loads : NoneFell l1 l2) (stores : NoneFell s0 s1) where
+  later : OverFiles old (λ f. WordsCallFor words f (RoseAt l0 l2) answer)
+  later = over_map old (λ f. WordsCallFor words f (RoseAt l0 l1) answer) (λ f. WordsCallFor words f (RoseAt l0 l2) answer) (λ f m. meant_later words f (RoseAt l0 l1) (RoseAt l0 l2) (rose_later l0 l1 l2 loads) answer m) meant
 
   since : (stored : Option Stored) → StoreRose stored (RoseAt s1 s2) → StoreRose stored (RoseAt s0 s2)
   since None r = r

@@ -11,8 +11,8 @@ use Rattle.qed_model.specs.Text.Plan.{usage_line, load_limit, load_limit_line}
 use Rattle.transform.specs.declared.error.TransformError.{TransformError}
 use Rattle.transform.specs.declared.error.TransformError.TheVariants as transform
 use Rattle.qed_top.specs.Words.{Asked, Transform, Run, asked}
-use Rattle.qed_top.specs.Answer.{PrintsOnly, error_status, refusal_status, IsDone, Transforms, refused, done, Means, read_fault, too_long, within, CommandMeans, IsMeant, FilesAfter}
-use Rattle.qed_top.specs.Ends.{OverFiles, Call, load_rose, Did, EndsOver, Ends}
+use Rattle.qed_top.specs.Answer.{PrintsOnly, error_status, refusal_status, IsDone, Transforms, refused, done, CallsFor, read_fault, too_long, within, CommandCallsFor, WordsCallFor, FilesAfter}
+use Rattle.qed_top.specs.Ends.{OverFiles, Call, load_rose, IsAnswered, EndsOver, Ends}
 use Rattle.qed_top.specs.Headline.{IsPromised, IsDelivered, HoldsHeadline}
 use Rattle.qed_top.specs.declared.answer.Answer.{Answer}
 use Rattle.qed_top.specs.declared.answer.Stored.{Stored}
@@ -60,7 +60,7 @@ no_limit answer is was = absurd (cc)
 
 within_of :
     (bytes output : List ℕ) (rose : Type 0) (answer : Answer) → answer.status ≡ Done
-    → Means load_limit load_limit_line bytes rose (Transforms bytes output answer) answer → IsDone bytes output answer
+    → CallsFor load_limit load_limit_line bytes rose (Transforms bytes output answer) answer → IsDone bytes output answer
 within_of bytes output rose answer is (read_fault f) = absurd (no_fault answer is f.plain.status)
 within_of bytes output rose answer is (too_long t) = absurd (no_limit answer is t.plain.status)
 within_of bytes output rose answer is (within small t) = done_of bytes output answer is t
@@ -68,9 +68,9 @@ within_of bytes output rose answer is (within small t) = done_of bytes output an
 -- the words are those of `transform`
 meant_of :
     (words : List (List ℕ)) (files : Files) (rose : List ℕ → Type 0) (answer : Answer) (input output : List ℕ) → asked words ≡ Some (Transform input output)
-    → IsMeant words files rose answer → CommandMeans (Transform input output) files rose answer
+    → WordsCallFor words files rose answer → CommandCallsFor (Transform input output) files rose answer
 meant_of words files rose answer input output is m =
-    subst (λ (command : Option Asked). MatchOption command (PrintsOnly Usage usage_line answer) (λ c. CommandMeans c files rose answer)) is m
+    subst (λ (command : Option Asked). MatchOption command (PrintsOnly Usage usage_line answer) (λ c. CommandCallsFor c files rose answer)) is m
 
 -- ---- what was stored
 stored_of :

@@ -154,19 +154,19 @@ pub data Runs (bytes : List ℕ) (answer : Answer) : Type 0 where
 -- ---- both
 -- what a command answers over the bytes of its file, of which it takes so many; `rose` says that the count of failed loads of the
 -- file rose
-pub data Means (limit : ℕ) (line bytes : List ℕ) (rose : Type 0) (Within : Type 0) (answer : Answer) : Type 0 where
-  read_fault : IsReadFault rose answer → Means limit line bytes rose Within answer
-  too_long : IsTooLong limit line bytes answer → Means limit line bytes rose Within answer
-  within : length bytes ≤ limit → Within → Means limit line bytes rose Within answer
+pub data CallsFor (limit : ℕ) (line bytes : List ℕ) (rose : Type 0) (Within : Type 0) (answer : Answer) : Type 0 where
+  read_fault : IsReadFault rose answer → CallsFor limit line bytes rose Within answer
+  too_long : IsTooLong limit line bytes answer → CallsFor limit line bytes rose Within answer
+  within : length bytes ≤ limit → Within → CallsFor limit line bytes rose Within answer
 
-abbrev pub CommandMeans : Asked → Files → (List ℕ → Type 0) → Answer → Type 0
-CommandMeans (Transform input output) files rose answer =
-    Means load_limit load_limit_line (file_bytes files input) (rose input) (Transforms (file_bytes files input) output answer) answer
-CommandMeans (Run file) files rose answer = Means run_load_limit run_load_limit_line (file_bytes files file) (rose file) (Runs (file_bytes files file) answer) answer
+abbrev pub CommandCallsFor : Asked → Files → (List ℕ → Type 0) → Answer → Type 0
+CommandCallsFor (Transform input output) files rose answer =
+    CallsFor load_limit load_limit_line (file_bytes files input) (rose input) (Transforms (file_bytes files input) output answer) answer
+CommandCallsFor (Run file) files rose answer = CallsFor run_load_limit run_load_limit_line (file_bytes files file) (rose file) (Runs (file_bytes files file) answer) answer
 
 -- what the words call for over these files; `rose` holds of a name whose count of failed loads rose
-abbrev pub IsMeant : List (List ℕ) → Files → (List ℕ → Type 0) → Answer → Type 0
-IsMeant words files rose answer = MatchOption (asked words) (PrintsOnly Usage usage_line answer) (λ command. CommandMeans command files rose answer)
+abbrev pub WordsCallFor : List (List ℕ) → Files → (List ℕ → Type 0) → Answer → Type 0
+WordsCallFor words files rose answer = MatchOption (asked words) (PrintsOnly Usage usage_line answer) (λ command. CommandCallsFor command files rose answer)
 
 -- ---- what an answer does to the files
 abbrev pub with_stored : Option Stored → Files → Files

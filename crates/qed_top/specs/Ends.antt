@@ -15,7 +15,7 @@ use Rattle.qed_model.specs.Elf.File.{IsReadAs}
 use Rattle.qed_model.specs.Elf.Refusals.{IsRefused}
 use Rattle.qed_model.specs.Text.Plan.{load_limit, run_load_limit}
 use Rattle.qed_top.specs.Words.{Asked, Transform, Run, asked, read_name, stored_name}
-use Rattle.qed_top.specs.Answer.{IsMeant, FilesAfter, FilesInPart, StoreRose, ShelfSteady, error_status, refusal_status, memory_bytes, memory_limit, outcome_status, run_of}
+use Rattle.qed_top.specs.Answer.{WordsCallFor, FilesAfter, FilesInPart, StoreRose, ShelfSteady, error_status, refusal_status, memory_bytes, memory_limit, outcome_status, run_of}
 use Rattle.qed_top.specs.declared.answer.Answer.{Answer}
 use Rattle.qed_top.specs.declared.status.Status.{Status}
 use Rattle.qed_top.specs.declared.status.Status.TheVariants.{Done, Usage, Refused, Limit, ReadFault, WriteFault, Memory}
@@ -60,9 +60,9 @@ abbrev pub KeepsShelf : Call → Type 0
 KeepsShelf call = ShelfSteady call.before.load call.after.load call.before.store call.after.store
 
 -- what is meant over these files was stored and printed, and the status is the one that goes with it
-pub record Did (call : Call) (files : Files) (status : Status) : Type 0 where
+pub record IsAnswered (call : Call) (files : Files) (status : Status) : Type 0 where
   pub answer : Answer
-  pub meant : IsMeant call.words files (load_rose call) answer
+  pub meant : WordsCallFor call.words files (load_rose call) answer
   pub same_status : answer.status ≡ status
   pub stored : FilesAfter answer.stored call.old call.new
   pub printed : Appends call.was call.now answer.text
@@ -70,14 +70,14 @@ pub record Did (call : Call) (files : Files) (status : Status) : Type 0 where
 -- what is meant was stored, and the print stopped before its end
 pub record StoppedInPrint (call : Call) (files : Files) : Type 0 where
   pub answer : Answer
-  pub meant : IsMeant call.words files (load_rose call) answer
+  pub meant : WordsCallFor call.words files (load_rose call) answer
   pub stored : FilesAfter answer.stored call.old call.new
   pub printed : AppendsPart call.was call.now answer.text
 
 -- the store of what is meant failed, and nothing was printed
 pub record StoppedInStore (call : Call) (files : Files) : Type 0 where
   pub answer : Answer
-  pub meant : IsMeant call.words files (load_rose call) answer
+  pub meant : WordsCallFor call.words files (load_rose call) answer
   pub cause : StoreRose answer.stored (store_rose call)
   pub stored : FilesInPart answer.stored call.old call.new
   pub printed : call.now ≡ call.was
@@ -99,7 +99,7 @@ pub record StoppedForMemory (call : Call) (files : Files) : Type 0 where
 abbrev pub EndsOver : Call → Files → Status → Type 0
 EndsOver call files WriteFault = (sink_rose call × StoppedInPrint call files) ⊎ StoppedInStore call files
 EndsOver call files Memory = Unchanged call ⊎ StoppedForMemory call files
-EndsOver call files status = Did call files status
+EndsOver call files status = IsAnswered call files status
 
 abbrev pub Ends : Call → Status → Type 0
 Ends call status = OverFiles call.old (λ files. EndsOver call files status)

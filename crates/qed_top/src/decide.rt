@@ -2,7 +2,7 @@
 ghost use Rattle.std.specs.Prelude.{◌≡◌, ◌≢◌, IfOk, OnOk, OnErr};
 ghost use Rattle.qed_io.specs.Counts.{RoseAt, NoneFell};
 ghost use Rattle.qed_top.specs.Words.{Transform, Run, texts};
-ghost use Rattle.qed_top.specs.Answer.{CommandMeans, Delivers, IsMeant, ShelfSteady, SteadyOrReadFault, Transforms, refusal_line, refusal_status};
+ghost use Rattle.qed_top.specs.Answer.{CommandCallsFor, Delivers, WordsCallFor, ShelfSteady, SteadyOrReadFault, Transforms, refusal_line, refusal_status};
 ghost use Rattle.qed_top.specs.Ends.{OverFiles};
 
 use crate::answer::{Answer, Stored, above_limit, line, plain, status_of};
@@ -99,7 +99,7 @@ fn decide_transform<'a, S: Shelf>(
     shelf: &mut S,
 ) -> Result<Answer<'a>, AllocError>
     ensures meant { IfOk result (λ answer. OverFiles (S.files shelf.old) (λ files.
-        CommandMeans (Transform input.now output.now) files (RoseAt (S.load_faults shelf.old) (S.load_faults shelf.new)) answer)) }
+        CommandCallsFor (Transform input.now output.now) files (RoseAt (S.load_faults shelf.old) (S.load_faults shelf.new)) answer)) }
     ensures files { S.files shelf.new ≡ S.files shelf.old }
     ensures stores { NoneFell (S.store_faults shelf.old) (S.store_faults shelf.new) }
     ensures steady { IfOk result (SteadyOrReadFault (ShelfSteady (S.load_faults shelf.old) (S.load_faults shelf.new) (S.store_faults shelf.old) (S.store_faults shelf.new))) }
@@ -128,7 +128,7 @@ fn decide_run<'a, S: Shelf>(
     shelf: &mut S,
 ) -> Result<Answer<'a>, AllocError>
     ensures meant { IfOk result (λ answer. OverFiles (S.files shelf.old) (λ files.
-        CommandMeans (Run file.now) files (RoseAt (S.load_faults shelf.old) (S.load_faults shelf.new)) answer)) }
+        CommandCallsFor (Run file.now) files (RoseAt (S.load_faults shelf.old) (S.load_faults shelf.new)) answer)) }
     ensures files { S.files shelf.new ≡ S.files shelf.old }
     ensures stores { NoneFell (S.store_faults shelf.old) (S.store_faults shelf.new) }
     ensures steady { IfOk result (SteadyOrReadFault (ShelfSteady (S.load_faults shelf.old) (S.load_faults shelf.new) (S.store_faults shelf.old) (S.store_faults shelf.new))) }
@@ -156,7 +156,7 @@ pub fn decide<'a, S: Shelf>(
     words: &'a [String],
     shelf: &mut S,
 ) -> Result<Answer<'a>, AllocError>
-    ensures meant { IfOk result (λ answer. OverFiles (S.files shelf.old) (λ files. IsMeant (texts words.now) files (RoseAt (S.load_faults shelf.old) (S.load_faults shelf.new)) answer)) }
+    ensures meant { IfOk result (λ answer. OverFiles (S.files shelf.old) (λ files. WordsCallFor (texts words.now) files (RoseAt (S.load_faults shelf.old) (S.load_faults shelf.new)) answer)) }
     ensures files { S.files shelf.new ≡ S.files shelf.old }
     ensures stores { NoneFell (S.store_faults shelf.old) (S.store_faults shelf.new) }
     ensures steady { IfOk result (SteadyOrReadFault (ShelfSteady (S.load_faults shelf.old) (S.load_faults shelf.new) (S.store_faults shelf.old) (S.store_faults shelf.new))) }
