@@ -1,0 +1,16 @@
+-- What the law refuses: an original part alone.
+use Rattle.std.specs.Prelude.{[], pos}
+use Rattle.rv_isa.specs.declared.kind.Kind.TheVariants.{Ld}
+use Rattle.rv_isa.specs.declared.ins.Ins.{Ins}
+use Rattle.qed_model.specs.Machine.Table.{ins}
+use Rattle.passes.specs.Pass.{Lockstep}
+use Rattle.eddi_dup.specs.Parts.{bare}
+use Rattle.eddi_dup.specs.Laws.{any}
+
+-- ld x1, 0(x2)
+abbrev pub some_load : Ins
+some_load = ins Ld 1 2 0 (pos 0)
+
+-- without a comparison of its base it does not keep lockstep
+abbrev pub GuardsNeeded : Type 0
+GuardsNeeded = Lockstep any [] (bare some_load 0) → ⊥

@@ -1,0 +1,107 @@
+//! The mirror part of an instruction.
+ghost use Rattle.std.specs.Prelude.{◌≡◌, ◌≤◌, [], ◌∷◌, pos};
+ghost use Rattle.rv_isa.specs.declared.kind.Kind.TheVariants.{Add};
+ghost use Rattle.qed_model.specs.Machine.Table.{ins as ins_of};
+ghost use Rattle.rv_isa.specs.Operation.{pair as pair_of, renamed as renamed_of};
+
+use crate::register::target;
+use passes::{Emit, Pass, plain, register};
+use qed_model::Item;
+use rv_isa::{Class, Ins, Kind};
+use std::alloc::AllocError;
+
+/// The same on the pairs, where an access goes to the duplicate half.
+#[derive(Clone, Copy, Drop)]
+pub struct Mirrored;
+
+/// The instruction on the pairs of its registers.
+fn on_pairs(ins: &Ins) -> Item
+    requires rd { ins.now.rd ≤ 13 }
+    requires rs1 { ins.now.rs1 ≤ 13 }
+    requires rs2 { ins.now.rs2 ≤ 13 }
+    ensures { result ≡ Item.Plain (renamed_of ins.now) }
+{
+    plain(
+        ins.kind,
+        ins.rd.pair(),
+        ins.rs1.pair(),
+        ins.rs2.pair(),
+        ins.imm,
+    )
+}
+
+/// A load from the duplicate half.
+fn load_pair(ins: &Ins) -> [Item; 2]
+    requires rd { ins.now.rd ≤ 13 }
+    requires rs1 { ins.now.rs1 ≤ 13 }
+    ensures { result ≡ Item.Plain (ins_of Add 30 (pair_of ins.now.rs1) 14 (pos 0)) ∷ Item.Plain (ins_of ins.now.kind (pair_of ins.now.rd) 30 0 ins.now.imm) ∷ [] }
+{
+    let base = register(30);
+    [
+        plain(Kind::Add, base, ins.rs1.pair(), register(14), 0),
+        plain(ins.kind, ins.rd.pair(), base, register(0), ins.imm),
+    ]
+}
+
+/// A store to the duplicate half.
+fn store_pair(ins: &Ins) -> [Item; 2]
+    requires rs1 { ins.now.rs1 ≤ 13 }
+    requires rs2 { ins.now.rs2 ≤ 13 }
+    ensures { result ≡ Item.Plain (ins_of Add 30 (pair_of ins.now.rs1) 14 (pos 0)) ∷ Item.Plain (ins_of ins.now.kind 0 30 (pair_of ins.now.rs2) ins.now.imm) ∷ [] }
+{
+    let base = register(30);
+    [
+        plain(Kind::Add, base, ins.rs1.pair(), register(14), 0),
+        plain(ins.kind, register(0), base, ins.rs2.pair(), ins.imm),
+    ]
+}
+
+impl Pass for Mirrored {
+    ghost use Rattle.std.specs.Prelude.{[]};
+    ghost use Rattle.weave_core.specs.Blocks.{FitsPiece};
+    ghost use Rattle.qed_model.specs.Machine.Step.{step};
+    ghost use Rattle.qed_model.specs.Weave.Sequences.{mirrored};
+    ghost use Rattle.passes.specs.Pass.{Does, same};
+    ghost use Rattle.eddi_dup.specs.Parts.{Runs};
+    ghost use Rattle.eddi_dup.specs.Laws.{any, quiet_mirrored, honest_mirrored, lockstep_mirrored};
+
+    ghost is_for = { λ p i at. FitsPiece i };
+
+    ghost suits = { λ p. any };
+
+    ghost items = { λ p i at. mirrored i at };
+
+    ghost uses = { λ p i. [] };
+
+    ghost cost = { λ p i. 2 };
+
+    ghost needs = { λ p i at w v. Runs w i at v.shadow };
+
+    ghost gives = { λ p i at w. Does same step 0 };
+
+    ghost leaves = { λ p i at w v n z. ⊥ };
+
+    fn emit(&self, ins: &Ins, at: u64, out: &mut Emit) -> Result<(), AllocError> {
+        if ins.kind == Kind::Auipc {
+            return out.put(&[Item::Constant(ins.rd.pair(), target(ins, at))]);
+        }
+        match ins.class() {
+            Class::Compute => out.put(&[on_pairs(ins)]),
+            Class::Load => out.put(&load_pair(ins)),
+            Class::Store => out.put(&store_pair(ins)),
+            Class::Fence => Ok(()),
+            Class::Branch => unreachable!(),
+            Class::Jump => unreachable!(),
+            Class::JumpReg => unreachable!(),
+            Class::End => unreachable!(),
+            Class::Break => unreachable!(),
+            Class::Illegal => unreachable!(),
+        }
+    }
+
+    ghost quiet = { λ p i at f. quiet_mirrored i at f };
+
+    ghost honest = { λ p i at f. honest_mirrored i at f };
+
+    ghost lockstep = { λ p i at f. lockstep_mirrored i at f };
+}

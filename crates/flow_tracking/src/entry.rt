@@ -1,0 +1,52 @@
+//! The entry of a block.
+ghost use Rattle.std.specs.Prelude.{◌≡◌};
+
+use passes::{Emit, Pass, plain, register};
+use qed_model::Item;
+use rv_isa::{Ins, Kind};
+use std::alloc::AllocError;
+
+/// Begins the entry of the input address, and fires where the signature is another. It looks at no
+/// instruction.
+#[derive(Clone, Copy, Drop)]
+pub struct Entry;
+
+impl Pass for Entry {
+    ghost use Rattle.std.specs.Prelude.{[]};
+    ghost use Rattle.qed_model.specs.Weave.Sequences.{enter};
+    ghost use Rattle.passes.specs.Pass.{Does, same};
+    ghost use Rattle.flow_tracking.specs.Leaving.{Enters};
+    ghost use Rattle.flow_tracking.specs.Laws.{any, quiet_enter, honest_entry, lockstep_enter};
+
+    ghost is_for = { λ p i at. Unit {0} };
+
+    ghost suits = { λ p. any };
+
+    ghost items = { λ p i at. enter at };
+
+    ghost uses = { λ p i. [] };
+
+    ghost cost = { λ p i. 3 };
+
+    ghost needs = { λ p i at w. Enters w at };
+
+    ghost gives = { λ p i at w. Does same same 3 };
+
+    ghost leaves = { λ p i at w v n z. ⊥ };
+
+    fn emit(&self, _ins: &Ins, at: u64, out: &mut Emit) -> Result<(), AllocError> {
+        let zero = register(0);
+        out.put(&[
+            Item::Mark(at),
+            Item::Constant(register(30), at),
+            plain(Kind::Beq, zero, register(16), register(30), 8),
+            plain(Kind::Ebreak, zero, zero, zero, 0),
+        ])
+    }
+
+    ghost quiet = { λ p i at f. quiet_enter at };
+
+    ghost honest = { λ p i at f. honest_entry at };
+
+    ghost lockstep = { λ p i at f. lockstep_enter at };
+}

@@ -1,0 +1,65 @@
+-- The laws of mirror parts of other kinds.
+use Rattle.std.proofs.Common.{◌≡◌, ℕ, ◌-◌, Bool, true, List, [], ◌∷◌, ◌++◌, refl, sym, subst}
+use Rattle.std.specs.List.{list_all}
+use Rattle.std.proofs.lemmas.Bool.{and_parts}
+use Rattle.rv_isa.specs.declared.ins.Ins.{Ins}
+use Rattle.rv_isa.specs.declared.class.Class.{Class}
+use Rattle.rv_isa.specs.declared.class.Class.TheVariants as class
+use Rattle.rv_isa.specs.Kind.{class_of}
+use Rattle.qed_model.specs.declared.item.Item.TheVariants.{Plain}
+use Rattle.qed_model.specs.Machine.Step.{step}
+use Rattle.qed_model.specs.Weave.Diverse.{Part, part_word, part_items, parts_of, diverse_as, diverse}
+use Rattle.qed_model.proofs.DiverseWorth.{fine_part}
+use Rattle.qed_model.proofs.DiverseRows.{all_fine}
+use Rattle.weave_core.specs.Blocks.{IsBody as InBody, FitsPiece}
+use Rattle.weave_core.specs.Rows.{At, spent}
+use Rattle.weave_core.specs.KindItems.{IsBodyWord, body_computes, body_loads, body_stores, body_fences}
+use Rattle.weave_core.proofs.Diverse.{operates_class, diverse_row}
+use Rattle.weave_core.proofs.DiverseFit.{diverse_mirrors_fit}
+use Rattle.weave_core.proofs.Landing.{straight_lands}
+use Rattle.passes.specs.Honest.{HonestItems}
+use Rattle.passes.specs.Pass.{Does, same, Quiet, Honest, Lockstep}
+use Rattle.passes.specs.Compose.{leads_led, honest_items_then, honest_items_none}
+use Rattle.passes.proofs.HonestWords.{honest_on}
+use Rattle.eddi_dup.specs.Parts.{Runs}
+use Rattle.eddi_dup.specs.Laws.{honest_mirrored}
+
+-- every form of the code suits
+abbrev pub any : Bool → Type 0
+any far = Unit {0}
+
+-- ---- Quiet
+pub quiet_diverse : (i : Ins) (at : ℕ) → FitsPiece i → Quiet any (diverse i at) (λ w v. Runs w i at v.shadow) (λ w. Does same step 0) (λ w v n z. ⊥) (8 - spent i)
+quiet_diverse i at f = record {
+  leads = λ w v rest s st r. leads_led w v 0 (8 - spent i) rest same step (diverse_row w v.now v.original v.shadow i rest f (subst (λ p. At w v.now (diverse i p ++ rest) v.original v.shadow) (sym r.here) st) r.sourced r.known r.calm);
+}
+
+-- ---- Honest
+module _ (far : Bool) where
+  honest_parts : (i : Ins) (ps : List Part) → list_all fine_part ps ≡ true → HonestItems far (part_items i ps)
+  honest_parts i [] e = honest_items_none far
+  honest_parts i (p ∷ ps) e =
+      let x = and_parts _ _ e in
+      let y = and_parts _ _ x.0 in
+      honest_items_then far (Plain (part_word i p) ∷ []) (part_items i ps) (honest_on far (part_word i p) class.Compute (operates_class p.kind y.0) tt) (honest_parts i ps x.1)
+
+  honest_as : (i : Ins) (at : ℕ) (ps : List Part) → FitsPiece i → list_all fine_part ps ≡ true → HonestItems far (diverse_as ps i at)
+  honest_as i at [] f e = (honest_mirrored i at f).honest far tt
+  honest_as i at (p ∷ ps) f e = honest_parts i (p ∷ ps) e
+
+pub honest_diverse : (i : Ins) (at : ℕ) → FitsPiece i → Honest any (diverse i at)
+honest_diverse i at f = record { honest = λ far s. honest_as far i at (parts_of i.kind i.imm) f (all_fine i.kind i.imm) }
+
+-- ---- Lockstep
+body_as : (c : Class) (i : Ins) → class_of i.kind ≡ c → InBody c → IsBodyWord i
+body_as class.Compute i e b = body_computes e
+body_as class.Load i e b = body_loads e
+body_as class.Store i e b = body_stores e
+body_as class.Fence i e b = body_fences e
+body_as c i e b = absurd b
+
+pub lockstep_diverse : (i : Ins) (at : ℕ) → FitsPiece i → Lockstep any [] (diverse i at)
+lockstep_diverse i at f = let b = body_as (class_of i.kind) i refl f.body in record {
+  locks = λ far s. (diverse_mirrors_fit far).fit i at f.low b;
+  lands = λ far s. straight_lands far (diverse i at) ((diverse_mirrors_fit far).straight i at f.low b);
+}

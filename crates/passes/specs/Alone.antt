@@ -1,0 +1,34 @@
+-- What it means that a pass is honest: of its words a check alone leads to an EBREAK, and only where it finds a difference.
+use Rattle.std.specs.Prelude.{◌≡◌, ℕ, ◌+◌, ◌*◌, ◌^◌, ◌<◌, ◌≤◌, Bool, List, length}
+use Rattle.rv_isa.specs.declared.ins.Ins.{Ins}
+use Rattle.rv_isa.specs.declared.class.Class.TheVariants as class
+use Rattle.rv_isa.specs.Kind.{class_of}
+use Rattle.qed_model.specs.declared.machine.Outcome.TheVariants.{Going}
+use Rattle.qed_model.specs.declared.item.Item.{Item}
+use Rattle.qed_model.specs.Machine.Step.{State, reg, Fetched, Known, HasAt, step, ebreak}
+use Rattle.qed_model.specs.Weave.Placed.{instructions_from}
+use Rattle.qed_model.specs.Machine.Walks.{Over}
+use Rattle.weave_core.specs.Lock.{VisitWords}
+use Rattle.passes.specs.Honest.{NoBreak, EntryWords, CalmEntries, HonestItems}
+
+-- a register and its pair differ, a word and its duplicate, which were just loaded, or the signature and the entry
+pub data Differs (c : ℕ → Fetched) (s : State) : Type 0 where
+  pair_differs : (q : ℕ) → 1 ≤ q → q ≤ 13 → (reg s q ≡ reg s (q + 16) → ⊥) → Differs c s
+  word_differs : (b : ℕ) → s.pc ≡ b + 12 → VisitWords c b → (reg s 30 ≡ reg s 31 → ⊥) → Differs c s
+  sign_differs : (b t : ℕ) → s.pc ≡ b + 8 → EntryWords c b t → (reg s 16 ≡ reg s 30 → ⊥) → Differs c s
+
+-- a state, whatever it holds, that goes on at word k of the items, which is no EBREAK; a JALR leads to none
+pub record Inside (far : Bool) (items : List Item) (c : ℕ → Fetched) (entry : ℕ → ℕ) (a k : ℕ) (s : State) : Type 0 where
+  pub over : Over c s
+  pub words : HasAt c a (instructions_from far entry a items)
+  pub near : a + 4 * length (instructions_from far entry a items) + 64 < 2 ^ 64
+  pub behind : NoBreak c (a + 4 * length (instructions_from far entry a items))
+  pub entries : CalmEntries c entry
+  pub at : s.pc ≡ a + 4 * k
+  pub inside : k < length (instructions_from far entry a items)
+  pub calm : NoBreak c s.pc
+  pub leaps : (i : Ins) → c s.pc ≡ Known i → class_of i.kind ≡ class.JumpReg → NoBreak c (step s).pc
+
+-- if its next step leads to an EBREAK, something differs
+abbrev pub ChecksAlone : Type 0
+ChecksAlone = (far : Bool) (items : List Item) → HonestItems far items → (c : ℕ → Fetched) (entry : ℕ → ℕ) (a k : ℕ) (s : State) → Inside far items c entry a k s → (step s).outcome ≡ Going → c (step s).pc ≡ ebreak → Differs c s
