@@ -10,7 +10,7 @@ use thiserror::Error;
 
 /// Why bytes are not admitted.
 #[derive(Clone, Copy, Debug, Error, PartialEq, Eq)]
-pub enum TestError {
+pub(crate) enum TestError {
     #[error("not read: {0}")]
     Elf(ElfError),
     #[error("not admitted: {0}")]
@@ -38,12 +38,16 @@ fn options(half: Option<u64>) -> Options
 }
 
 /// The test that bytes are, with the half that is asked for.
-pub fn admit_half(alloc: Global, bytes: &[u8], half: Option<u64>) -> Result<Test, TestError> {
+pub(crate) fn admit_half(
+    alloc: Global,
+    bytes: &[u8],
+    half: Option<u64>,
+) -> Result<Test, TestError> {
     admit_bytes(alloc, bytes, &options(half))
 }
 
 /// The test that bytes are, with these options.
-pub fn admit_bytes(alloc: Global, bytes: &[u8], options: &Options) -> Result<Test, TestError>
+pub(crate) fn admit_bytes(alloc: Global, bytes: &[u8], options: &Options) -> Result<Test, TestError>
     requires { AreSound options.now }
 {
     let file = match read_elf(alloc, bytes) {

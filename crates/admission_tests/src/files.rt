@@ -4,15 +4,15 @@ use std::alloc::{AllocError, Global};
 
 /// A program header: its type, flags, address and size in memory, and the words that the file has.
 #[derive(Clone, Copy, Debug)]
-pub struct Load<'a>(pub u32, pub u32, pub u64, pub u64, pub &'a [u32]);
+pub(crate) struct Load<'a>(pub u32, pub u32, pub u64, pub u64, pub &'a [u32]);
 
 /// A section without bytes in the file: its flags, address and size.
 #[derive(Clone, Copy, Debug)]
-pub struct Part(pub u64, pub u64, pub u64);
+pub(crate) struct Part(pub u64, pub u64, pub u64);
 
 /// A file: its entry, flags, program headers, and the sections behind the null section.
 #[derive(Clone, Copy, Debug)]
-pub struct File<'a> {
+pub(crate) struct File<'a> {
     pub entry: u64,
     pub flags: u32,
     pub loads: &'a [Load<'a>],
@@ -96,7 +96,7 @@ fn push_loads(bytes: &mut Vec<u8>, loads: &[Load<'_>], offset: u64) -> Result<()
 }
 
 /// The bytes of a file: its header, program headers and section headers, and then the bytes of its segments.
-pub fn file_bytes(alloc: Global, file: &File<'_>) -> Result<Vec<u8>, AllocError> {
+pub(crate) fn file_bytes(alloc: Global, file: &File<'_>) -> Result<Vec<u8>, AllocError> {
     let mut bytes = Vec::new(alloc);
     push_header(&mut bytes, file)?;
     let sections = if file.parts.is_empty() {

@@ -3,10 +3,6 @@
 
 mod admitted;
 mod files;
-
-pub use admitted::{TestError, admit_bytes, admit_half};
-pub use files::{File, Load, Part, file_bytes};
-
 #[cfg(test)]
 mod rules;
 #[cfg(test)]
