@@ -8,28 +8,18 @@ use crate::range::CodeRange;
 use elf_types::{ElfFile, Section, Segment};
 use std::alloc::{AllocError, Global};
 
-/// The type of a segment that is loaded (ELF gABI, program header).
-const LOAD: u32 = 1;
-
-/// Flags of sections and of segments with code (ELF gABI): SHF_ALLOC, SHF_EXECINSTR and PF_X.
-const ALLOC: u64 = 2;
-
-const EXECINSTR: u64 = 4;
-
-const EXECUTE: u32 = 1;
-
 /// Whether a section is one of code, with some bytes.
 pub fn is_code_section(section: &Section) -> bool
     ensures { result ≡ is_code_section section.now }
 {
-    section.flags / ALLOC % 2 == 1 && section.flags / EXECINSTR % 2 == 1 && section.size > 0
+    section.is_code()
 }
 
 /// Whether a section lies wholly inside a segment, which is executable.
 pub fn lies_in(section: &Section, segment: &Segment) -> bool
     ensures { result ≡ lies_in_code section.now (load_segment segment.now) }
 {
-    segment.flags % 2 == EXECUTE
+    segment.is_executable()
         && segment.address <= section.address
         && u128::from(section.address) + u128::from(section.size)
             <= u128::from(segment.address) + u128::from(segment.memory)
@@ -40,7 +30,7 @@ pub fn lies_in_any(section: &Section, segments: &[Segment]) -> bool
     ensures { result ≡ lies_in_any section.now (load_segments segments.now) }
 {
     for segment in segments {
-        if segment.kind == LOAD && lies_in(section, segment) {
+        if segment.is_load() && lies_in(section, segment) {
             return true;
         }
     }
@@ -73,7 +63,7 @@ fn ranges_of_segments(alloc: Global, segments: &[Segment]) -> Result<Vec<CodeRan
 {
     let mut ranges = Vec::new(alloc);
     for segment in segments {
-        if segment.kind == LOAD && segment.flags % 2 == EXECUTE && segment.memory > 0 {
+        if segment.is_in_image() && segment.is_executable() {
             ranges.push(CodeRange {
                 start: segment.address,
                 size: segment.memory,

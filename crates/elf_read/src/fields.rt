@@ -1,4 +1,4 @@
-// Little-endian numbers in bytes.
+//! Little-endian numbers in bytes.
 ghost use Rattle.std.specs.Prelude.{◌≡◌, ◌+◌, ◌≤◌, length};
 ghost use Rattle.qed_model.specs.Numbers.{field};
 

@@ -1,17 +1,21 @@
-// The rules on the header.
+//! The rules on the header.
 ghost use Rattle.std.specs.Prelude.{◌≡◌, ◌≤◌, ◌<◌, length, OnOk};
 ghost use Rattle.qed_model.specs.Elf.Header.{e_shnum};
 ghost use Rattle.qed_model.specs.Elf.Fields.{e_shstrndx};
 ghost use Rattle.qed_model.specs.Elf.Rules.{magic_rule, header_rule, class_rule, encoding_rule, version_rule, file_type_rule, machine_rule, header_shape_rule, header_rules};
 
 use crate::fields::{u16_at, u32_at, u64_at};
+use elf_types::abi::{
+    EHDR_SIZE, ELFCLASS64, ELFDATA2LSB, ELFMAG, EM_RISCV, ET_EXEC, EV_CURRENT, PHDR_SIZE, PN_XNUM,
+    SHDR_SIZE,
+};
 use elf_types::{ElfError, Part};
 
 #[tactic(auto, unfolding(qed_model::specs::Elf::Rules::magic_rule))]
 fn check_magic(bytes: &[u8]) -> Result<(), ElfError>
     ensures { result ≡ magic_rule bytes.now }
 {
-    if bytes.len() < 4 || u32_at(bytes, 0) != 0x464c_457f {
+    if bytes.len() < 4 || u32_at(bytes, 0) != ELFMAG {
         return Err(ElfError::Magic);
     }
     Ok(())
@@ -34,7 +38,7 @@ fn check_class(bytes: &[u8]) -> Result<(), ElfError>
     ensures { result ≡ class_rule bytes.now }
 {
     let class = bytes[4];
-    if class != 2 {
+    if class != ELFCLASS64 {
         return Err(ElfError::Class(class));
     }
     Ok(())
@@ -46,7 +50,7 @@ fn check_encoding(bytes: &[u8]) -> Result<(), ElfError>
     ensures { result ≡ encoding_rule bytes.now }
 {
     let encoding = bytes[5];
-    if encoding != 1 {
+    if encoding != ELFDATA2LSB {
         return Err(ElfError::Encoding(encoding));
     }
     Ok(())
@@ -58,11 +62,11 @@ fn check_version(bytes: &[u8]) -> Result<(), ElfError>
     ensures { result ≡ version_rule bytes.now }
 {
     let ident = bytes[6];
-    if ident != 1 {
+    if ident != EV_CURRENT {
         return Err(ElfError::Version(u32::from(ident)));
     }
     let version = u32_at(bytes, 20);
-    if version != 1 {
+    if version != u32::from(EV_CURRENT) {
         return Err(ElfError::Version(version));
     }
     Ok(())
@@ -74,7 +78,7 @@ fn check_file_type(bytes: &[u8]) -> Result<(), ElfError>
     ensures { result ≡ file_type_rule bytes.now }
 {
     let kind = u16_at(bytes, 16);
-    if kind != 2 {
+    if kind != ET_EXEC {
         return Err(ElfError::FileType(kind));
     }
     Ok(())
@@ -86,7 +90,7 @@ fn check_machine(bytes: &[u8]) -> Result<(), ElfError>
     ensures { result ≡ machine_rule bytes.now }
 {
     let machine = u16_at(bytes, 18);
-    if machine != 243 {
+    if machine != EM_RISCV {
         return Err(ElfError::Machine(machine));
     }
     Ok(())
@@ -100,10 +104,10 @@ fn check_shape(bytes: &[u8]) -> Result<(), ElfError>
 {
     let phnum = u16_at(bytes, 56);
     let shnum = u16_at(bytes, 60);
-    let holds = u16_at(bytes, 52) == 64
-        && (phnum == 0 || u16_at(bytes, 54) == 56)
-        && (shnum == 0 || u16_at(bytes, 58) == 64)
-        && phnum != 0xffff
+    let holds = u16_at(bytes, 52) == EHDR_SIZE
+        && (phnum == 0 || u16_at(bytes, 54) == PHDR_SIZE)
+        && (shnum == 0 || u16_at(bytes, 58) == SHDR_SIZE)
+        && phnum != PN_XNUM
         && (shnum > 0 || u64_at(bytes, 40) == 0)
         && (shnum == 0 || u16_at(bytes, 62) < shnum);
     if !holds {

@@ -1,4 +1,4 @@
-// The limits on a file.
+//! The limits on a file.
 ghost use Rattle.std.specs.Prelude.{◌≡◌, ◌<◌, ◌^◌, IfSome};
 ghost use Rattle.qed_model.specs.Elf.Header.{e_shnum};
 ghost use Rattle.qed_model.specs.Elf.Fields.{section_header};
@@ -10,12 +10,8 @@ use crate::sections::{section_name, section_strings};
 use crate::segments::file_size;
 use crate::symbols::{symbol_name, symbol_strings, symbol_table};
 use elf_types::ElfError;
-
-/// The greatest number of sections.
-const MOST_SECTIONS: u64 = 4096;
-
-/// The greatest number of bytes of segments and names.
-const MOST_BYTES: u128 = 1_073_741_824;
+use elf_types::abi::SYM_SIZE;
+use qed_model::limits::{MAX_COUNTED_BYTES, MAX_SECTIONS};
 
 /// Whether there are few enough sections.
 #[tactic(auto, unfolding(qed_model::specs::Elf::Rules::section_count_rule))]
@@ -23,7 +19,7 @@ pub fn check_section_count(file: &Parts) -> Result<(), ElfError>
     ensures { result ≡ section_count_rule file.now }
 {
     let count = file.tables().shnum();
-    if count > MOST_SECTIONS {
+    if count > MAX_SECTIONS {
         return Err(ElfError::TooManySections(count));
     }
     Ok(())
@@ -41,7 +37,7 @@ fn symbol_name_bytes(file: &Parts) -> u128
             let strings = symbol_strings(file, i);
             let size = file.section(i).size;
             sum_of(
-                size / 24,
+                size / SYM_SIZE,
                 &|j| symbol_name(file, &strings, i, j).len() as u64,
             )
         }
@@ -71,7 +67,7 @@ pub fn check_byte_count(file: &Parts) -> Result<(), ElfError>
     ensures { result ≡ byte_count_rule file.now }
 {
     let count = counted_bytes(file);
-    if count > MOST_BYTES {
+    if count > u128::from(MAX_COUNTED_BYTES) {
         let most = u128::from(u64::MAX);
         return Err(ElfError::TooManyBytes(count.min(most) as u64));
     }

@@ -1,5 +1,6 @@
-// A file whose parts lie in it.
-ghost use Rattle.std.specs.Prelude.{◌≡◌, ◌≢◌, ◌<◌, false, length, List, ℕ, Ok, Err, IfOk, IfErr, OnOk};
+//! A file whose parts lie in it.
+ghost use Rattle.std.specs.Prelude.{◌≡◌, ◌<◌, false, true, length, List, ℕ, Ok, Err, IfOk, IfErr, OnOk};
+ghost use Rattle.elf_types.specs.Section.{has_bytes};
 ghost use Rattle.qed_model.specs.Elf.Header.{e_phnum, e_shnum};
 ghost use Rattle.qed_model.specs.Elf.Fields.{program_header, section_header};
 ghost use Rattle.qed_model.specs.Elf.Rules.{HasParts, part_rules, is_segment_outside, is_section_outside, section_bytes};
@@ -62,13 +63,13 @@ impl<'a> Parts<'a> {
         self.tables.section(i)
     }
 
-    /// The bytes of a segment; where it is not PT_LOAD there are none.
+    /// The bytes of a segment; where it is not `PT_LOAD` there are none.
     #[tactic(auto, unfolding(qed_model::specs::Elf::File::load_bytes, qed_model::specs::Elf::Rules::is_segment_outside))]
     pub fn load_bytes(&self, p: ProgramHeader) -> &'a [u8]
         requires { is_segment_outside self.now p ≡ false }
         ensures { result.now ≡ load_bytes self.now p }
     {
-        if p.kind != 1 || p.filesz == 0 {
+        if !p.is_load() || p.filesz == 0 {
             return &[];
         }
         let start = p.offset as usize;
@@ -76,14 +77,14 @@ impl<'a> Parts<'a> {
         &bytes[start..start + p.filesz as usize]
     }
 
-    /// The bytes of a section; where its type is SHT_NULL or SHT_NOBITS there are none.
+    /// The bytes of a section; where its type is `SHT_NULL` or `SHT_NOBITS` there are none.
     #[tactic(auto, unfolding(qed_model::specs::Elf::Rules::section_bytes, qed_model::specs::Elf::Rules::is_section_outside))]
     pub fn section_bytes(&self, s: SectionHeader) -> &'a [u8]
         requires { is_section_outside self.now s ≡ false }
         ensures gives { result.now ≡ section_bytes self.now s }
-        ensures whole { s.kind ≢ 0 → s.kind ≢ 8 → length result.now ≡ s.size }
+        ensures whole { has_bytes s ≡ true → length result.now ≡ s.size }
     {
-        if s.kind == 0 || s.kind == 8 || s.size == 0 {
+        if !s.has_bytes() {
             return &[];
         }
         let start = s.offset as usize;

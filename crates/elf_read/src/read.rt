@@ -1,12 +1,14 @@
-// The file that bytes are.
+//! The file that bytes are.
 ghost use Rattle.std.specs.Prelude.{◌≡◌, ◌<◌, ◌/◌, ◌⊎◌, length, List, ℕ, Ok, Err, Some, IfOk, IfErr, IfSome, OnOk};
 ghost use Rattle.elf_types.specs.declared.error.ElfError.TheVariants as error;
 ghost use Rattle.qed_model.specs.Below.{each, gather};
 ghost use Rattle.qed_model.specs.Elf.Header.{e_phnum, e_shnum};
 ghost use Rattle.qed_model.specs.Elf.Fields.{section_header};
-ghost use Rattle.qed_model.specs.Elf.Rules.{section_strings, strings_of, symbol_table, verdict};
-ghost use Rattle.qed_model.specs.Elf.File.{File, segment_of, section_of, symbol_of, symbols_at, relas_of};
+ghost use Rattle.qed_model.specs.Elf.Rules.{section_strings, strings_of, symbol_table, verdict, read_verdict};
+ghost use Rattle.qed_model.specs.Elf.File.{File, segment_of, section_of, symbol_of, symbols_at, relas_of, WithinReadLimits, IsReadAs};
 ghost use Rattle.qed_model.specs.Elf.Refusals.{IsAccepted, IsRefused};
+ghost use Rattle.qed_model.specs.Machine.Loading.{load_segments};
+ghost use Rattle.qed_model.specs.Machine.Apart.{AllFitMemory, AreApart};
 ghost use Rattle.elf_read.specs.Sound.{HasLinks};
 
 use crate::below::list_of;
@@ -17,6 +19,7 @@ use crate::sections::{check_section_shape, section_name, section_strings};
 use crate::segments::{check_segment_overlap, check_segment_shape};
 use crate::strings::Strings;
 use crate::symbols::{check_symbol_shape, symbol_entry, symbol_name, symbol_strings, symbol_table};
+use elf_types::abi::{SHT_SYMTAB, SYM_SIZE};
 use elf_types::{Bytes, ElfError, ElfFile, Listed, Section, Segment, Symbol};
 use std::alloc::{AllocError, Global};
 use std::marker::Model;
@@ -75,7 +78,7 @@ fn symbol(
     j: u64,
 ) -> Result<Symbol, AllocError>
     requires below { i < e_shnum file.now }
-    requires kind { (section_header file.now i).kind ≡ 2 }
+    requires kind { (section_header file.now i).kind ≡ SHT_SYMTAB }
     requires names { strings.now ≡ strings_of file.now (section_header file.now i) }
     requires entry { j < (section_header file.now i).size / 24 }
     ensures { IfOk result (λ x. x ≡ symbol_of file.now (section_header file.now i) j) }
@@ -93,12 +96,13 @@ fn symbol(
 }
 
 impl<'a> Sound<'a> {
-    /// The file, where no rule refuses it.
-    #[tactic(auto, unfolding(qed_model::specs::Elf::Rules::verdict))]
+    /// The file, where no rule refuses it and it is within the limits.
+    #[tactic(auto, unfolding(qed_model::specs::Elf::Rules::verdict, qed_model::specs::Elf::Rules::read_verdict))]
     fn new(bytes: &'a [u8]) -> Result<Sound<'a>, ElfError>
         ensures same { IfOk result (λ s. s ≡ bytes.now) }
-        ensures accepted { OnOk result (verdict bytes.now ≡ Ok tt) }
-        ensures refused { IfErr result (λ e. verdict bytes.now ≡ Err e) }
+        ensures rules { OnOk result (verdict bytes.now ≡ Ok tt) }
+        ensures limits { OnOk result (read_verdict bytes.now ≡ Ok tt) }
+        ensures refused { IfErr result (λ e. read_verdict bytes.now ≡ Err e) }
     {
         let parts = Parts::new(bytes)?;
         check_segment_shape(&parts)?;
@@ -142,7 +146,7 @@ impl<'a> Sound<'a> {
                 let size = self.parts.section(i).size;
                 list_of(
                     alloc,
-                    size / 24,
+                    size / SYM_SIZE,
                     &|j| symbol(&self.parts, &strings, alloc, i, j),
                 )
             }
@@ -164,18 +168,21 @@ impl<'a> Sound<'a> {
     }
 }
 
-/// The file that bytes are (ELF gABI, RISC-V ELF psABI), or the first rule that refuses them. The rules are those of
-/// `ElfError`, in its order, each over the whole file before the next. A refusal takes no memory.
+/// The file that bytes are (ELF gABI, RISC-V ELF psABI), where it is within the limits of the reader; or the first rule
+/// that refuses them, or else the first limit that they exceed. Rules and limits are those of `ElfError`, in its order,
+/// each over the whole file before the next. A refusal takes no memory.
 ///
 /// # Errors
 ///
-/// `Memory` where no rule refuses the bytes, and there is no memory for the copy. Each other error comes exactly where
+/// `Memory` where no rule refuses the bytes, they are within the limits, and there is no memory for the copy. Each other error comes exactly where
 /// it is the first that holds.
-#[tactic(auto, using(qed_model::proofs::RefusalLaws::refused, qed_model::proofs::AcceptanceLaws::accepted))]
+#[tactic(auto, using(qed_model::proofs::RefusalLaws::refused, qed_model::proofs::AcceptanceLaws::accepted, qed_model::proofs::LoadsApart::file_fits))]
 pub fn read_elf(alloc: Global, bytes: &[u8]) -> Result<ElfFile, ElfError>
-    ensures read { IfOk result (λ f. File bytes.now f) }
+    ensures read { IfOk result (λ f. IsReadAs bytes.now f) }
     ensures accepted { OnOk result (IsAccepted bytes.now) }
-    ensures refused { IfErr result (λ e. IsRefused bytes.now e ⊎ ((e ≡ error.Memory) × (verdict bytes.now ≡ Ok tt))) }
+    ensures fit { IfOk result (λ f. AllFitMemory (load_segments f.segments)) }
+    ensures apart { IfOk result (λ f. AreApart (load_segments f.segments)) }
+    ensures refused { IfErr result (λ e. IsRefused bytes.now e ⊎ ((e ≡ error.Memory) × (read_verdict bytes.now ≡ Ok tt))) }
 {
     let sound = Sound::new(bytes)?;
     Ok(sound.file(alloc)?)

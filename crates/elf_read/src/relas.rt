@@ -1,4 +1,4 @@
-// The rule on relocations, and the relocations.
+//! The rule on relocations, and the relocations.
 ghost use Rattle.std.specs.Prelude.{◌≡◌, ◌<◌, ◌+◌, ◌*◌, ◌≤◌, ◌++◌, length, IfOk, OnOk};
 ghost use Rattle.qed_model.specs.Below.{gather};
 ghost use Rattle.qed_model.specs.Elf.Header.{e_shnum};
@@ -10,6 +10,7 @@ use crate::below::first_of;
 use crate::fields::u64_at;
 use crate::parts::Parts;
 use crate::symbols::symbol_table;
+use elf_types::abi::{RELA_SIZE, SYM_SIZE};
 use elf_types::{ElfError, Rela, SectionHeader};
 use std::alloc::{AllocError, Global};
 
@@ -18,7 +19,7 @@ fn rela_at(table: &[u8], k: u64) -> Rela
     requires { 24 * k + 24 ≤ length table.now }
     ensures { result ≡ rela_entry table.now k }
 {
-    let at = 24 * k as usize;
+    let at = RELA_SIZE as usize * k as usize;
     let info = u64_at(table, at + 8);
     Rela {
         place: u64_at(table, at),
@@ -33,10 +34,10 @@ fn is_counted(file: &Parts, table: Option<u64>, s: SectionHeader) -> bool
     requires { table ≡ symbol_table file.now }
     ensures { result ≡ is_counted file.now s }
 {
-    if s.kind != 4 || u64::from(s.info) >= file.tables().shnum() {
+    if !s.is_rela_table() || u64::from(s.info) >= file.tables().shnum() {
         return false;
     }
-    if file.section(u64::from(s.info)).flags / 2 % 2 != 1 {
+    if !file.section(u64::from(s.info)).is_allocated() {
         return false;
     }
     match table {
@@ -50,7 +51,7 @@ fn symbol_count(file: &Parts) -> u64
     ensures { result ≡ symbol_count file.now }
 {
     match symbol_table(file) {
-        Some(i) => file.section(i).size / 24,
+        Some(i) => file.section(i).size / SYM_SIZE,
         None => 0,
     }
 }
@@ -66,12 +67,12 @@ fn rela_fault(file: &Parts, table: Option<u64>, count: u64, i: u64) -> Option<u6
     if !is_counted(file, table, s) {
         return None;
     }
-    if s.entsize != 24 || s.size % 24 != 0 {
+    if s.entsize != RELA_SIZE || s.size % RELA_SIZE != 0 {
         return Some(0);
     }
     let entries = file.section_bytes(s);
     first_of(
-        s.size / 24,
+        s.size / RELA_SIZE,
         &|k| u64::from(rela_at(entries, k).symbol) >= count,
     )
 }
@@ -109,7 +110,7 @@ fn append_relas(
     let s = file.section(i);
     if is_counted(file, table, s) {
         let entries = file.section_bytes(s);
-        for k in 0..s.size / 24 {
+        for k in 0..s.size / RELA_SIZE {
             out.push(rela_at(entries, k))?;
         }
     }

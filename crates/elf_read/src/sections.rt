@@ -1,4 +1,4 @@
-// The rule on sections, and their names.
+//! The rule on sections, and their names.
 ghost use Rattle.std.specs.Prelude.{◌≡◌, ◌<◌};
 ghost use Rattle.qed_model.specs.Elf.Header.{e_shnum};
 ghost use Rattle.qed_model.specs.Elf.Rules.{section_strings, section_name, is_section_misshapen, section_shape_rule};
@@ -27,14 +27,14 @@ fn is_section_misshapen(file: &Parts, strings: &Strings, i: u64) -> bool
     ensures { result ≡ is_section_misshapen file.now i }
 {
     let s = file.section(i);
-    if s.flags / 2 % 2 == 1 && u128::from(s.addr) + u128::from(s.size) > 1 << 64 {
+    if s.is_allocated() && u128::from(s.addr) + u128::from(s.size) > 1 << 64 {
         return true;
     }
     let at = file.tables().shstrndx();
     if at == 0 {
         return false;
     }
-    if file.section(at).kind != 3 {
+    if !file.section(at).is_string_table() {
         return i == at;
     }
     strings.is_unended(s.name)

@@ -1,17 +1,17 @@
-// The rules on segments.
+//! The rules on segments.
 ghost use Rattle.std.specs.Prelude.{◌≡◌, ◌<◌};
 ghost use Rattle.qed_model.specs.Elf.Header.{e_phnum};
 ghost use Rattle.qed_model.specs.Elf.Rules.{is_misshapen, segment_shape_rule, do_overlap, overlapped, segment_overlap_rule, file_size};
 
 use crate::below::first_of;
 use crate::parts::Parts;
-use elf_types::{ElfError, ProgramHeader};
+use elf_types::{ElfError, ProgramHeader, share_byte};
 
 #[tactic(auto, unfolding(qed_model::specs::Elf::Rules::is_misshapen))]
 fn is_misshapen(p: ProgramHeader) -> bool
     ensures { result ≡ is_misshapen p }
 {
-    p.kind == 1 && (p.filesz > p.memsz || u128::from(p.vaddr) + u128::from(p.memsz) > 1 << 64)
+    p.is_load() && (p.filesz > p.memsz || u128::from(p.vaddr) + u128::from(p.memsz) > 1 << 64)
 }
 
 /// Whether each segment has no more bytes in the file than in memory, and ends at 2^64 or before.
@@ -29,12 +29,7 @@ pub fn check_segment_shape(file: &Parts) -> Result<(), ElfError>
 fn do_overlap(p: ProgramHeader, q: ProgramHeader) -> bool
     ensures { result ≡ do_overlap p q }
 {
-    p.kind == 1
-        && q.kind == 1
-        && p.memsz > 0
-        && q.memsz > 0
-        && u128::from(p.vaddr) < u128::from(q.vaddr) + u128::from(q.memsz)
-        && u128::from(q.vaddr) < u128::from(p.vaddr) + u128::from(p.memsz)
+    p.is_load() && q.is_load() && share_byte(p.vaddr, p.memsz, q.vaddr, q.memsz)
 }
 
 #[tactic(auto, unfolding(qed_model::specs::Elf::Rules::overlapped))]
@@ -63,9 +58,9 @@ pub fn check_segment_overlap(file: &Parts) -> Result<(), ElfError>
     }
 }
 
-/// The bytes that a segment has in the file; where it is not PT_LOAD there are none.
+/// The bytes that a segment has in the file; where it is not `PT_LOAD` there are none.
 pub fn file_size(p: ProgramHeader) -> u64
     ensures { result ≡ file_size p }
 {
-    if p.kind == 1 { p.filesz } else { 0 }
+    if p.is_load() { p.filesz } else { 0 }
 }

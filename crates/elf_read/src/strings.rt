@@ -1,4 +1,4 @@
-// String tables.
+//! String tables.
 ghost use Rattle.std.specs.Prelude.{◌≡◌, ◌+◌, ◌<◌, List, ℕ, length, IfSome};
 ghost use Rattle.qed_model.specs.Elf.Rules.{name_length, name_at, is_unended};
 ghost use Rattle.elf_read.specs.Strings.{IsLastZero};

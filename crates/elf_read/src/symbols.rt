@@ -1,4 +1,4 @@
-// The rule on symbols, and their table.
+//! The rule on symbols, and their table.
 ghost use Rattle.std.specs.Prelude.{◌≡◌, ◌<◌, ◌+◌, ◌*◌, ◌/◌, ◌≤◌, length, IfSome, OnOk};
 ghost use Rattle.qed_model.specs.Elf.Header.{e_shnum};
 ghost use Rattle.qed_model.specs.Elf.Fields.{section_header, symbol_entry};
@@ -8,6 +8,7 @@ use crate::below::first_of;
 use crate::fields::{u16_at, u32_at, u64_at};
 use crate::parts::Parts;
 use crate::strings::Strings;
+use elf_types::abi::{SHT_SYMTAB, SYM_SIZE};
 use elf_types::{ElfError, SymbolEntry};
 
 #[tactic(auto, unfolding(qed_model::specs::Elf::Fields::symbol_entry))]
@@ -15,7 +16,7 @@ fn entry_at(table: &[u8], j: u64) -> SymbolEntry
     requires { 24 * j + 24 ≤ length table.now }
     ensures { result ≡ symbol_entry table.now j }
 {
-    let at = 24 * j as usize;
+    let at = SYM_SIZE as usize * j as usize;
     SymbolEntry {
         name: u32_at(table, at),
         info: table[at + 4],
@@ -31,30 +32,36 @@ fn entry_at(table: &[u8], j: u64) -> SymbolEntry
 pub fn symbol_table(file: &Parts) -> Option<u64>
     ensures found { result ≡ symbol_table file.now }
     ensures below { IfSome result (λ i. i < e_shnum file.now) }
-    ensures kind { IfSome result (λ i. (section_header file.now i).kind ≡ 2) }
+    ensures kind { IfSome result (λ i. (section_header file.now i).kind ≡ SHT_SYMTAB) }
 {
-    first_of(file.tables().shnum(), &|i| file.section(i).kind == 2)
+    first_of(
+        file.tables().shnum(),
+        &|i| file.section(i).is_symbol_table(),
+    )
 }
 
 #[tactic(auto, unfolding(qed_model::specs::Elf::Rules::symbols_rule, qed_model::specs::Elf::Rules::is_misnamed, qed_model::specs::Elf::Rules::strings_of))]
 fn check_symbols(file: &Parts, i: u64) -> Result<(), ElfError>
     requires below { i < e_shnum file.now }
-    requires kind { (section_header file.now i).kind ≡ 2 }
+    requires kind { (section_header file.now i).kind ≡ SHT_SYMTAB }
     ensures gives { result ≡ symbols_rule file.now (section_header file.now i) }
     ensures links { OnOk result ((section_header file.now i).link < e_shnum file.now) }
 {
     let s = file.section(i);
-    if s.entsize != 24 || s.size % 24 != 0 || u64::from(s.link) >= file.tables().shnum() {
+    if s.entsize != SYM_SIZE
+        || s.size % SYM_SIZE != 0
+        || u64::from(s.link) >= file.tables().shnum()
+    {
         return Err(ElfError::SymbolShape(0));
     }
     let linked = file.section(u64::from(s.link));
-    if linked.kind != 3 {
+    if !linked.is_string_table() {
         return Err(ElfError::SymbolShape(0));
     }
     let strings = Strings::new(file.section_bytes(linked));
     let table = file.section_bytes(s);
     match first_of(
-        s.size / 24,
+        s.size / SYM_SIZE,
         &|j| j > 0 && strings.is_unended(entry_at(table, j).name),
     ) {
         Some(j) => Err(ElfError::SymbolShape(j)),
@@ -80,7 +87,7 @@ pub fn check_symbol_shape(file: &Parts) -> Result<(), ElfError>
 /// An entry of the symbol table at a number.
 pub fn symbol_entry(file: &Parts, i: u64, j: u64) -> SymbolEntry
     requires below { i < e_shnum file.now }
-    requires kind { (section_header file.now i).kind ≡ 2 }
+    requires kind { (section_header file.now i).kind ≡ SHT_SYMTAB }
     requires entry { j < (section_header file.now i).size / 24 }
     ensures { result ≡ symbol_entry (section_bytes file.now (section_header file.now i)) j }
 {
@@ -102,7 +109,7 @@ pub fn symbol_strings<'a>(file: &Parts<'a>, i: u64) -> Strings<'a>
 #[tactic(auto, unfolding(qed_model::specs::Elf::Rules::symbol_name))]
 pub fn symbol_name<'a>(file: &Parts<'a>, strings: &Strings<'a>, i: u64, j: u64) -> &'a [u8]
     requires below { i < e_shnum file.now }
-    requires kind { (section_header file.now i).kind ≡ 2 }
+    requires kind { (section_header file.now i).kind ≡ SHT_SYMTAB }
     requires names { strings.now ≡ strings_of file.now (section_header file.now i) }
     requires entry { j < (section_header file.now i).size / 24 }
     ensures { result.now ≡ symbol_name file.now (section_header file.now i) j }

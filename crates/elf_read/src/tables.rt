@@ -1,4 +1,4 @@
-// A file whose header and tables lie in it.
+//! A file whose header and tables lie in it.
 ghost use Rattle.std.specs.Prelude.{◌≡◌, ◌<◌, List, ℕ, Ok, Err, IfOk, IfErr, OnOk};
 ghost use Rattle.qed_model.specs.Elf.Header.{e_entry, e_flags, e_phnum, e_shnum};
 ghost use Rattle.qed_model.specs.Elf.Fields.{e_shstrndx, program_header, section_header, HasTables};
@@ -7,6 +7,7 @@ ghost use Rattle.qed_model.specs.Elf.Rules.{table_rules, is_past, is_segment_out
 use crate::below::first_of;
 use crate::fields::{u16_at, u32_at, u64_at};
 use crate::header::check_header;
+use elf_types::abi::{PHDR_SIZE, SHDR_SIZE};
 use elf_types::{ElfError, Part, ProgramHeader, SectionHeader};
 use std::marker::Model;
 
@@ -35,11 +36,11 @@ impl<'a> Tables<'a> {
         check_header(bytes)?;
         let len = bytes.len() as u128;
         let phnum = u128::from(u16_at(bytes, 56));
-        if phnum > 0 && u128::from(u64_at(bytes, 32)) + 56 * phnum > len {
+        if phnum > 0 && u128::from(u64_at(bytes, 32)) + u128::from(PHDR_SIZE) * phnum > len {
             return Err(ElfError::OutOfFile(Part::ProgramTable));
         }
         let shnum = u128::from(u16_at(bytes, 60));
-        if shnum > 0 && u128::from(u64_at(bytes, 40)) + 64 * shnum > len {
+        if shnum > 0 && u128::from(u64_at(bytes, 40)) + u128::from(SHDR_SIZE) * shnum > len {
             return Err(ElfError::OutOfFile(Part::SectionTable));
         }
         Ok(Tables { bytes })
@@ -93,7 +94,7 @@ impl<'a> Tables<'a> {
         requires { i < e_phnum self.now }
         ensures { result ≡ program_header self.now i }
     {
-        let at = u64_at(self.bytes, 32) as usize + 56 * i as usize;
+        let at = u64_at(self.bytes, 32) as usize + usize::from(PHDR_SIZE) * i as usize;
         ProgramHeader {
             kind: u32_at(self.bytes, at),
             flags: u32_at(self.bytes, at + 4),
@@ -110,7 +111,7 @@ impl<'a> Tables<'a> {
         requires { i < e_shnum self.now }
         ensures { result ≡ section_header self.now i }
     {
-        let at = u64_at(self.bytes, 40) as usize + 64 * i as usize;
+        let at = u64_at(self.bytes, 40) as usize + usize::from(SHDR_SIZE) * i as usize;
         SectionHeader {
             name: u32_at(self.bytes, at),
             kind: u32_at(self.bytes, at + 4),
@@ -134,7 +135,7 @@ impl<'a> Tables<'a> {
     fn is_segment_outside(&self, p: ProgramHeader) -> bool
         ensures { result ≡ is_segment_outside self.now p }
     {
-        p.kind == 1 && p.filesz > 0 && self.is_past(p.offset, p.filesz)
+        p.is_load() && p.filesz > 0 && self.is_past(p.offset, p.filesz)
     }
 
     /// Whether the segments lie in the file.
@@ -152,7 +153,7 @@ impl<'a> Tables<'a> {
     fn is_section_outside(&self, s: SectionHeader) -> bool
         ensures { result ≡ is_section_outside self.now s }
     {
-        s.kind != 0 && s.kind != 8 && s.size > 0 && self.is_past(s.offset, s.size)
+        s.has_bytes() && self.is_past(s.offset, s.size)
     }
 
     /// Whether the sections lie in the file.

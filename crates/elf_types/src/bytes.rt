@@ -1,4 +1,4 @@
-// Bytes.
+//! Bytes.
 ghost use Rattle.std.specs.Prelude.{◌≡◌, List, ℕ, IfOk};
 
 use std::alloc::{AllocError, Global};

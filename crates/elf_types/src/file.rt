@@ -1,13 +1,22 @@
-// What a file holds.
+//! What a file holds.
+ghost use Rattle.std.specs.Prelude.{◌≡◌};
+ghost use Rattle.elf_types.specs.Abi.{has_compressed, is_load, may_execute, may_write, may_read, has_alloc, has_instructions};
+ghost use Rattle.elf_types.specs.Segment.{is_in_image, is_dynamic_segment, segment_end};
+ghost use Rattle.elf_types.specs.Section.{is_code_section};
+ghost use Rattle.elf_types.specs.Symbol.{is_defined, may_name_code, is_local, is_code_symbol};
 
+use crate::abi::{
+    EF_RISCV_RVC, PF_R, PF_W, PF_X, PT_DYNAMIC, PT_INTERP, PT_LOAD, SHF_ALLOC, SHF_EXECINSTR,
+    SHN_UNDEF, STB_LOCAL, STT_FUNC, STT_NOTYPE,
+};
 use crate::{Bytes, Listed};
 
 /// A segment, as its program header describes it (ELF gABI, program header).
 #[derive(Debug, Drop)]
 pub struct Segment {
-    /// The type, 1 for PT_LOAD.
+    /// The type, as `PT_LOAD` (`abi`).
     pub kind: u32,
-    /// The permissions: 1 for PF_X, 2 for PF_W, 4 for PF_R.
+    /// The permissions: `PF_X`, `PF_W` and `PF_R`.
     pub flags: u32,
     /// The address of the first byte in memory.
     pub address: u64,
@@ -18,19 +27,98 @@ pub struct Segment {
     pub bytes: Bytes,
 }
 
+impl Segment {
+    /// Whether the segment is loaded (`PT_LOAD`).
+    pub fn is_load(&self) -> bool
+        ensures { result ≡ is_load self.now.kind }
+    {
+        self.kind == PT_LOAD
+    }
+
+    /// Whether the segment is loaded and has bytes in memory.
+    pub fn is_in_image(&self) -> bool
+        ensures { result ≡ is_in_image self.now }
+    {
+        self.is_load() && self.memory > 0
+    }
+
+    /// Whether the segment asks for dynamic linking (`PT_DYNAMIC`, `PT_INTERP`).
+    pub fn is_dynamic(&self) -> bool
+        ensures { result ≡ is_dynamic_segment self.now }
+    {
+        self.kind == PT_DYNAMIC || self.kind == PT_INTERP
+    }
+
+    /// Whether the segment may be read.
+    #[tactic(auto, using(crate::proofs::Flags::has_bit_2))]
+    pub fn is_readable(&self) -> bool
+        ensures { result ≡ may_read self.now.flags }
+    {
+        self.flags & PF_R != 0
+    }
+
+    /// Whether the segment may be written.
+    #[tactic(auto, using(crate::proofs::Flags::has_bit_1))]
+    pub fn is_writable(&self) -> bool
+        ensures { result ≡ may_write self.now.flags }
+    {
+        self.flags & PF_W != 0
+    }
+
+    /// Whether the segment may be executed.
+    #[tactic(auto, using(crate::proofs::Flags::has_bit_0))]
+    pub fn is_executable(&self) -> bool
+        ensures { result ≡ may_execute self.now.flags }
+    {
+        self.flags & PF_X != 0
+    }
+
+    /// The address behind the last byte in memory; it may be 2^64 or more.
+    pub fn end(&self) -> u128
+        ensures { result ≡ segment_end self.now }
+    {
+        u128::from(self.address) + u128::from(self.memory)
+    }
+}
+
 /// A section, as its header describes it (ELF gABI, section header).
 #[derive(Debug, Drop)]
 pub struct Section {
     /// The name, empty where the file names no section.
     pub name: Bytes,
-    /// The type, as 1 for SHT_PROGBITS, 2 for SHT_SYMTAB, 3 for SHT_STRTAB, 4 for SHT_RELA, 8 for SHT_NOBITS.
+    /// The type, as `SHT_PROGBITS` or `SHT_NOBITS`.
     pub kind: u32,
-    /// 1 for SHF_WRITE, 2 for SHF_ALLOC, 4 for SHF_EXECINSTR.
+    /// `SHF_WRITE`, `SHF_ALLOC`, `SHF_EXECINSTR` and others.
     pub flags: u64,
     /// The address of its first byte in memory, where it has SHF_ALLOC.
     pub address: u64,
     /// The size, in bytes.
     pub size: u64,
+}
+
+impl Section {
+    /// Whether the section is in memory when the program runs.
+    #[tactic(auto, using(crate::proofs::Flags::has_bit_1))]
+    pub fn is_allocated(&self) -> bool
+        ensures { result ≡ has_alloc self.now.flags }
+    {
+        self.flags & SHF_ALLOC != 0
+    }
+
+    /// Whether the section has instructions.
+    #[tactic(auto, using(crate::proofs::Flags::has_bit_2))]
+    pub fn has_instructions(&self) -> bool
+        ensures { result ≡ has_instructions self.now.flags }
+    {
+        self.flags & SHF_EXECINSTR != 0
+    }
+
+    /// Whether the section is one of code: in memory, with instructions, and not empty.
+    pub fn is_code(&self) -> bool
+        ensures { result ≡ is_code_section self.now }
+    {
+        self.is_allocated() && self.has_instructions() && self.size > 0
+    }
 }
 
 /// A symbol (ELF gABI, symbol table).
@@ -41,14 +129,44 @@ pub struct Symbol {
     pub value: u64,
     /// The size of what it names, in bytes.
     pub size: u64,
-    /// The type, below 16: 0 for STT_NOTYPE, 1 for STT_OBJECT, 2 for STT_FUNC.
+    /// The type, below 16: `STT_NOTYPE`, `STT_OBJECT`, `STT_FUNC` and others.
     pub kind: u8,
-    /// Below 16: 0 for STB_LOCAL, 1 for STB_GLOBAL.
+    /// The binding, below 16: `STB_LOCAL`, `STB_GLOBAL` and others.
     pub binding: u8,
     /// The visibility.
     pub other: u8,
-    /// The number of its section; 0 for an undefined symbol, 0xfff1 for SHN_ABS.
+    /// The number of its section: `SHN_UNDEF` where it is not defined, `SHN_ABS` where its value is absolute.
     pub index: u16,
+}
+
+impl Symbol {
+    /// Whether the symbol is defined.
+    pub fn is_defined(&self) -> bool
+        ensures { result ≡ is_defined self.now }
+    {
+        self.index != SHN_UNDEF
+    }
+
+    /// Whether the symbol's value may be the address of code, by its type.
+    pub fn may_name_code(&self) -> bool
+        ensures { result ≡ may_name_code self.now }
+    {
+        self.kind == STT_FUNC || self.kind == STT_NOTYPE
+    }
+
+    /// Whether the symbol is defined and may name code.
+    pub fn is_code(&self) -> bool
+        ensures { result ≡ is_code_symbol self.now }
+    {
+        self.is_defined() && self.may_name_code()
+    }
+
+    /// Whether the symbol is seen in its object file alone.
+    pub fn is_local(&self) -> bool
+        ensures { result ≡ is_local self.now }
+    {
+        self.binding == STB_LOCAL
+    }
 }
 
 /// A relocation with an addend (ELF gABI, relocation).
@@ -80,7 +198,7 @@ pub type Relas = Listed<Rela>;
 pub struct ElfFile {
     /// The address of the first instruction.
     pub entry: u64,
-    /// The flags of the header: bit 0 is EF_RISCV_RVC.
+    /// The flags of the header, as `EF_RISCV_RVC`.
     pub flags: u32,
     /// One segment for each program header.
     pub segments: Segments,
@@ -90,4 +208,14 @@ pub struct ElfFile {
     pub symbols: Symbols,
     /// The relocations of sections that are loaded, against that symbol table.
     pub relas: Relas,
+}
+
+impl ElfFile {
+    /// Whether the code may have compressed instructions (RISC-V ELF psABI, file header).
+    #[tactic(auto, using(crate::proofs::Flags::has_bit_0))]
+    pub fn is_compressed(&self) -> bool
+        ensures { result ≡ has_compressed self.now.flags }
+    {
+        self.flags & EF_RISCV_RVC != 0
+    }
 }

@@ -3,11 +3,13 @@
 //! RISC-V ELF psABI.
 #![tactic(auto)]
 
+pub mod abi;
 mod bytes;
 mod error;
 mod file;
 mod listed;
 mod output;
+mod overlap;
 mod records;
 
 pub use bytes::Bytes;
@@ -15,4 +17,5 @@ pub use error::{ElfError, Part};
 pub use file::{ElfFile, Rela, Relas, Section, Sections, Segment, Segments, Symbol, Symbols};
 pub use listed::Listed;
 pub use output::{OutFile, OutSection, OutSections};
+pub use overlap::share_byte;
 pub use records::{ProgramHeader, SectionHeader, SymbolEntry};

@@ -1,4 +1,4 @@
-// Lists.
+//! Lists.
 ghost use Rattle.std.specs.Prelude.{◌≡◌, List};
 
 use std::marker::Model;

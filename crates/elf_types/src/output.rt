@@ -1,13 +1,16 @@
-// What a file is written from.
+//! What a file is written from.
+ghost use Rattle.std.specs.Prelude.{◌≡◌};
+ghost use Rattle.elf_types.specs.Abi.{has_alloc};
 
+use crate::abi::SHF_ALLOC;
 use crate::{Bytes, Listed, Segments, Symbols};
 
-/// A section of a file that is written, of type SHT_PROGBITS.
+/// A section of a file that is written, of type `SHT_PROGBITS`.
 #[derive(Debug, Drop)]
 pub struct OutSection {
     /// The name, without a zero byte.
     pub name: Bytes,
-    /// As in a section header: 1 for SHF_WRITE, 2 for SHF_ALLOC, 4 for SHF_EXECINSTR.
+    /// As in a section header: `SHF_WRITE`, `SHF_ALLOC`, `SHF_EXECINSTR` and others.
     pub flags: u64,
     /// The address of its first byte in memory, where it has SHF_ALLOC.
     pub address: u64,
@@ -15,6 +18,16 @@ pub struct OutSection {
     pub size: u64,
     /// Its own bytes. A section with SHF_ALLOC has none, and lies in the bytes of a segment.
     pub bytes: Bytes,
+}
+
+impl OutSection {
+    /// Whether the section is in memory when the program runs.
+    #[tactic(auto, using(crate::proofs::Flags::has_bit_1))]
+    pub fn is_allocated(&self) -> bool
+        ensures { result ≡ has_alloc self.now.flags }
+    {
+        self.flags & SHF_ALLOC != 0
+    }
 }
 
 /// Sections in the order in which they are written.

@@ -9,7 +9,8 @@ use Rattle.elf_types.specs.declared.file.Segment.{Segment}
 use Rattle.elf_types.specs.declared.file.Section.{Section}
 use Rattle.elf_types.specs.declared.output.OutSection.{OutSection}
 use Rattle.elf_types.specs.declared.records.SectionHeader.{SectionHeader}
-use Rattle.qed_model.specs.Elf.Rules.{is_alloc, name_at, is_unended}
+use Rattle.elf_types.specs.Abi.{has_alloc}
+use Rattle.qed_model.specs.Elf.Rules.{name_at, is_unended}
 use Rattle.qed_model.specs.Elf.Written.{offset_from, end_from}
 use Rattle.qed_model.specs.Elf.Layout.{IsLoadable, IsPlaced, IsName, names_bytes, is_in_memory, is_inside, offset_in, own_bytes, header_with, headers_from}
 use Rattle.qed_model.specs.Elf.FileRead.{section_read}
@@ -125,7 +126,7 @@ given_end n start segments name own (x ∷ sections) placed end owned =
 
 -- a section that is not in memory beyond 2^64
 abbrev pub NoWrap : SectionHeader → Type 0
-NoWrap h = (is_alloc h && ltb (2 ^ 64) (h.addr + h.size)) ≡ false
+NoWrap h = (has_alloc h.flags && ltb (2 ^ 64) (h.addr + h.size)) ≡ false
 
 one_wraps_not : (segments : List Segment) (name offset : ℕ) (x : OutSection) → All IsLoadable segments → IsPlaced segments x → NoWrap (header_with name offset x)
 one_wraps_not segments name offset x loadable is =

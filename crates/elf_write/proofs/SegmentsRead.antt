@@ -7,10 +7,11 @@ use Rattle.std.proofs.lemmas.List.{length-replicate}
 use Rattle.std.proofs.lemmas.List.Elements.{All-cons, All-nil}
 use Rattle.elf_types.specs.declared.file.Segment.{Segment}
 use Rattle.elf_types.specs.declared.records.ProgramHeader.{ProgramHeader}
+use Rattle.elf_types.specs.Abi.{is_load}
 use Rattle.qed_model.specs.Below.{first, sum_below, each}
 use Rattle.qed_model.specs.Elf.Header.{e_phnum}
 use Rattle.qed_model.specs.Elf.Fields.{program_header}
-use Rattle.qed_model.specs.Elf.Rules.{is_load, is_segment_outside, segment_place_rule, is_misshapen, segment_shape_rule, do_overlap, overlapped, segment_overlap_rule, file_size}
+use Rattle.qed_model.specs.Elf.Rules.{is_segment_outside, segment_place_rule, is_misshapen, segment_shape_rule, do_overlap, overlapped, segment_overlap_rule, file_size}
 use Rattle.qed_model.specs.Elf.File.{load_bytes, segment_of}
 use Rattle.qed_model.specs.Elf.Written.{segments_bytes, offset_from, end_from}
 use Rattle.qed_model.specs.Elf.Layout.{IsLoadable, do_share}
@@ -138,15 +139,15 @@ header_of at i [] d e lt = absurd (omega arith)
 header_of at zero (s ∷ segments) d e lt = record { vaddr = refl; memsz = refl }
 header_of at (suc i) (s ∷ segments) d e lt = header_of (offset_from at s.address + length s.bytes) i segments d e (omega arith)
 
-regrouped : (a b c d e f : Bool) → (c && d && e && f) ≡ false → (a && b && c && d && e && f) ≡ false
-regrouped true true c d e f h = h
-regrouped true false c d e f h = refl
-regrouped false b c d e f h = refl
+regrouped : (a b c : Bool) → c ≡ false → (a && b && c) ≡ false
+regrouped true true c h = h
+regrouped true false c h = refl
+regrouped false b c h = refl
 
 apart : (p q : ProgramHeader) (s t : Segment) → IsHeaderOf p s → IsHeaderOf q t → do_share s t ≡ false → do_overlap p q ≡ false
 unfolding do_overlap
 apart p q s t hp hq none =
-    let grouped = regrouped (is_load p) (is_load q) (ltb 0 s.memory) (ltb 0 t.memory) (ltb s.address (t.address + t.memory)) (ltb t.address (s.address + s.memory)) in
+    let grouped = regrouped (is_load p.kind) (is_load q.kind) (do_share s t) in
     rw (hp.vaddr, hp.memsz, hq.vaddr, hq.memsz) (grouped none)
 
 at_most : (b : Bool) (n : ℕ) → cond b n 0 ≤ n

@@ -7,9 +7,10 @@ use Rattle.std.proofs.lemmas.List.{get_or-append-add, get_or_append_left}
 use Rattle.std.proofs.lemmas.List.Elements.{All-cons, All-nil, All-append}
 use Rattle.elf_types.specs.declared.output.OutFile.{OutFile}
 use Rattle.elf_types.specs.declared.records.SectionHeader.{SectionHeader}
+use Rattle.elf_types.specs.Abi.{is_string_table}
 use Rattle.qed_model.specs.Elf.Header.{e_shnum}
 use Rattle.qed_model.specs.Elf.Fields.{e_shstrndx, section_header}
-use Rattle.qed_model.specs.Elf.Rules.{is_strings, names_header, is_unended, is_section_outside, section_place_rule, section_bytes, is_section_misshapen, section_shape_rule, section_strings, symbol_table}
+use Rattle.qed_model.specs.Elf.Rules.{names_header, is_unended, is_section_outside, section_place_rule, section_bytes, is_section_misshapen, section_shape_rule, section_strings, symbol_table}
 use Rattle.qed_model.specs.Elf.Layout.{string_table, symbol_names, section_names, symbols_bytes, entries_of, start_of, own_place, symbols_place, strings_place, names_place, table_header, null_header, headers_from, symtab_header, strtab_header, shstrtab_header, table_headers, headers_of}
 use Rattle.qed_model.proofs.BelowLaws.{first_found, first_none}
 use Rattle.elf_write.proofs.Sizes.{length-headers_of, length-headers_from, length-symbols_bytes, length-entries_from}
@@ -139,10 +140,10 @@ shaped f file known wrap ended i lt =
     let three : IsEnded (string_table (section_names f.sections)) d = subst (IsEnded (string_table (section_names f.sections))) (sym is) (ended i d lt) in
     let table = ap (section_bytes file) (last_names f file known) ∙ names_are f file known in
     three_fail _ _ _ one
-    (last_fails _ (eqb i (e_shstrndx file)) (not (is_strings d)) (λ t.
+    (last_fails _ (eqb i (e_shstrndx file)) (not (is_string_table d.kind)) (λ t.
     let here : d ≡ shstrtab_header f = ap (section_header file) (same_number i (e_shstrndx file) t) ∙ last_names f file known in
     rw here refl))
-    (third_fails (not (eqb (e_shstrndx file) 0)) (is_strings (names_header file)) _ (ap (λ (t : List ℕ). is_unended t d.name) table ∙ three))
+    (third_fails (not (eqb (e_shstrndx file) 0)) (is_string_table (names_header file).kind) _ (ap (λ (t : List ℕ). is_unended t d.name) table ∙ three))
 
 pub shape_passes : (f : OutFile) (file : List ℕ) → Known f file → All NoWrap (headers_of f) → All (IsEnded (string_table (section_names f.sections))) (headers_of f) → section_shape_rule file ≡ Ok tt
 unfolding section_shape_rule

@@ -14,8 +14,8 @@ use Rattle.elf_types.specs.declared.records.SectionHeader.{SectionHeader}
 use Rattle.qed_model.specs.Below.{sum_below, each, gather}
 use Rattle.qed_model.specs.Elf.Header.{e_phoff, e_shoff, e_phnum, e_shnum}
 use Rattle.qed_model.specs.Elf.Fields.{program_header, section_header}
-use Rattle.qed_model.specs.Elf.Rules.{magic_rule, header_rule, class_rule, encoding_rule, version_rule, file_type_rule, machine_rule, header_shape_rule, header_rules, program_table_rule, section_table_rule, table_rules, part_rules, section_strings, section_name, symbol_table, symbol_name_bytes, rela_fault, rela_shape_rule, section_count_rule, file_size, counted_bytes, byte_count_rule, verdict}
-use Rattle.qed_model.specs.Elf.File.{section_of, relas_of, File}
+use Rattle.qed_model.specs.Elf.Rules.{magic_rule, header_rule, class_rule, encoding_rule, version_rule, file_type_rule, machine_rule, header_shape_rule, header_rules, program_table_rule, section_table_rule, table_rules, part_rules, section_strings, section_name, rela_fault, rela_shape_rule, file_size, counted_bytes, verdict}
+use Rattle.qed_model.specs.Elf.File.{section_of, relas_of, WithinReadLimits, IsReadAs}
 use Rattle.qed_model.specs.Elf.Written.{program_headers}
 use Rattle.qed_model.specs.Elf.Layout.{IsWritable, IsName, names_bytes, string_table, symbol_names, section_names, table_names, symtab_name, strtab_name, shstrtab_name, first_global, headers_bytes, headers_of, null_header, symtab_header, strtab_header, shstrtab_header, start_of, own_place, headers_place, written}
 use Rattle.qed_model.specs.Elf.FileRead.{null_section, section_read, tables_read, file_read}
@@ -227,11 +227,8 @@ relas_are f file known =
     let l : i < length (headers_of f) = omega (arith, known.header.shnum, length-headers_of f) in
     no_relas file d (ap (λ (h : SectionHeader). eqb h.kind 4) (known.headers.at i l) ∙ no_relocations f i d l))
 
-few_sections : (f : OutFile) (file : List ℕ) → Known f file → length f.sections ≤ 4000 → section_count_rule file ≡ Ok tt
-unfolding section_count_rule
-few_sections f file known few =
-    let small : ltb 4096 (length f.sections + 4) ≡ false = le-ltb _ _ (omega arith) in
-    rw (known.header.shnum, small) refl
+few_sections : (f : OutFile) (file : List ℕ) → Known f file → length f.sections ≤ 4000 → e_shnum file ≤ 4096
+few_sections f file known few = omega (arith, known.header.shnum)
 
 -- ---- the sections
 section_shown : (file : List ℕ) (i : ℕ) → section_of file i ≡ shown (section_strings file) (section_header file i)
@@ -268,18 +265,15 @@ section_sum f file known read =
 
 -- ---- the counted bytes
 few_bytes : (f : OutFile) (file : List ℕ) → Known f file → HeadersRead f (string_table (section_names f.sections)) → SegmentsPass file (start_of f) f.segments → SymbolsRead f file
-    → headers_place f ≤ 1073741824 → byte_count_rule file ≡ Ok tt
-unfolding byte_count_rule counted_bytes
+    → headers_place f ≤ 1073741824 → counted_bytes file ≤ 1073741824
+unfolding counted_bytes
 few_bytes f file known read segments symbols small =
     let is = laid_out f in
     let one : sum_below (e_phnum file) (λ i. file_size (program_header file i)) ≤ own_place f = omega (arith, segments.bytes, is.own) in
     let two = section_sum f file known read in
     let names = section_name_bytes f in
     let strings = symbol_name_sizes f.symbols in
-    let few : ltb 1073741824
-    (sum_below (e_phnum file) (λ i. file_size (program_header file i)) + sum_below (e_shnum file) (λ i. length (section_name file i)) + symbol_name_bytes file (symbol_table file)) ≡ false =
-    le-ltb _ _ (omega (arith, one, two, names, strings, symbols.bytes, is.symbols, is.strings, is.names, is.headers)) in
-    rw few refl
+    omega (arith, one, two, names, strings, symbols.bytes, is.symbols, is.strings, is.names, is.headers)
 
 -- ---- the whole
 header_of_written : (f : OutFile) → IsWritable f → f.entry < 2 ^ 64 → f.flags < 2 ^ 32 → HeaderRead f (written f)
@@ -326,24 +320,33 @@ passes f w known read segments symbols =
     let place = place_passes f file known (headers_end f w) in
     let shape = shape_passes f file known (headers_wrap_not f w) read.ended in
     let relas = relas_pass f file known in
-    let count = few_sections f file known w.few_sections in
-    let bytes = few_bytes f file known read segments symbols n.headers in
-    rw (tables, segments.place, place, segments.shape, segments.overlap, shape, symbols.shape, relas, count, bytes) refl
+    rw (tables, segments.place, place, segments.shape, segments.overlap, shape, symbols.shape, relas) refl
+
+-- it is within the limits of the reader
+within :
+    (f : OutFile) → IsWritable f → Known f (written f) → HeadersRead f (string_table (section_names f.sections)) → SegmentsPass (written f) (start_of f) f.segments
+    → SymbolsRead f (written f) → WithinReadLimits (written f)
+within f w known read segments symbols =
+    let n = ends_within 1073741824 f w.size in
+    record { sections = few_sections f (written f) known w.few_sections; bytes = few_bytes f (written f) known read segments symbols n.headers }
 
 -- the file that was written is read as the one that was given
 pub reads_back : (f : OutFile) → IsWritable f → f.entry < 2 ^ 64 → f.flags < 2 ^ 32 → All SegmentFits f.segments → All SectionFits f.sections → All SymbolFits f.symbols
-    → File (written f) (file_read f)
+    → IsReadAs (written f) (file_read f)
 reads_back f w he hf segments_fit sections_fit symbols_fit =
     let known = known_of f w he hf sections_fit in
     let read = headers_shown f (string_table (section_names f.sections)) w (names_stand (section_names f.sections)) in
     let segments = segments_of f w known segments_fit in
     let symbols = symbols_of f w known symbols_fit in
     record {
-      accepted = passes f w known read segments symbols;
-      entry = sym known.header.entry;
-      flags = sym known.header.flags;
-      segments = sym segments.are;
-      sections = sym (sections_are f (written f) known read);
-      symbols = sym symbols.are;
-      relas = sym (relas_are f (written f) known);
+      file = record {
+        accepted = passes f w known read segments symbols;
+        entry = sym known.header.entry;
+        flags = sym known.header.flags;
+        segments = sym segments.are;
+        sections = sym (sections_are f (written f) known read);
+        symbols = sym symbols.are;
+        relas = sym (relas_are f (written f) known);
+      };
+      within = within f w known read segments symbols;
     }

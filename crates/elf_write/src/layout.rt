@@ -1,12 +1,12 @@
-// Where the parts of the file stand.
+//! Where the parts of the file stand.
 ghost use Rattle.std.specs.Prelude.{◌≡◌, ◌+◌, ◌^◌, ◌<◌};
 ghost use Rattle.qed_model.specs.Elf.Layout.{aligned as aligned_to_8};
 ghost use Rattle.elf_write.specs.Places.{ArePlaces};
 
-use crate::records::{HEADER_SIZE, PROGRAM_HEADER_SIZE, SYMBOL_SIZE};
 use crate::segments::end_from;
 use crate::{sections, symbols};
 use elf_types::OutFile;
+use elf_types::abi::{EHDR_SIZE, PHDR_SIZE, SYM_SIZE};
 
 /// The bytes of the names ".symtab", ".strtab" and ".shstrtab" with their zero bytes.
 pub const TABLE_NAMES_SIZE: u128 = 26;
@@ -50,11 +50,11 @@ pub fn places_of(file: &OutFile) -> Places
     let sections = file.sections.as_slice();
     let symbols = file.symbols.as_slice();
     let segments = file.segments.as_slice();
-    let start = HEADER_SIZE + PROGRAM_HEADER_SIZE * segments.len() as u128;
+    let start = EHDR_SIZE as u128 + PHDR_SIZE as u128 * segments.len() as u128;
     let own = end_from(start, segments);
     let own_end = own + sections::own_size(sections);
     let table = aligned(own_end);
-    let strings = table + SYMBOL_SIZE * (1 + symbols.len() as u128);
+    let strings = table + SYM_SIZE as u128 * (1 + symbols.len() as u128);
     let names = strings + 1 + symbols::names_size(symbols);
     let names_end = names + 1 + sections::names_size(sections) + TABLE_NAMES_SIZE;
     let headers = aligned(names_end);

@@ -1,4 +1,4 @@
-// Little-endian numbers in bytes.
+//! Little-endian numbers in bytes.
 ghost use Rattle.std.specs.Prelude.{◌≡◌, ◌++◌, OnOk, map, replicate, [], ◌∷◌};
 ghost use Rattle.qed_model.specs.Elf.Written.{fields_bytes};
 ghost use Rattle.elf_write.specs.Numbers.{size_and_value};

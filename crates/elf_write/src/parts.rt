@@ -1,5 +1,8 @@
-// The parts of the file, one behind the other.
+//! The parts of the file, one behind the other.
 ghost use Rattle.std.specs.Prelude.{◌≡◌, ◌-◌, ◌^◌, ◌<◌, ◌≤◌, ◌++◌, OnOk, All, length};
+ghost use Rattle.qed_model.specs.declared.limits.TheConstants.{MAX_OUTPUT_SECTIONS};
+ghost use Rattle.qed_model.specs.declared.limits.Limit.TheVariants as limit;
+ghost use Rattle.qed_model.specs.Limits.{limit_of};
 ghost use Rattle.qed_model.specs.Elf.Layout.{IsSymbol, names_bytes, table_names, headers_bytes, headers_of, table_headers, table_header as header_of_table, tables_bytes};
 ghost use Rattle.elf_write.specs.Parts.{front_bytes, own_and_symbols, names_of};
 ghost use Rattle.elf_write.specs.Widths.{FrontFits, SectionFits, SymbolFits, TablesFit};
@@ -11,18 +14,14 @@ use crate::records::{push_header, push_section_header};
 use crate::sections::{push_given_headers, push_own_bytes, push_section_names};
 use crate::segments::{push_program_headers, push_segments};
 use crate::symbols::{first_global, push_name, push_symbol_names, push_symbol_table};
+use elf_types::abi::{SHT_NULL, SHT_STRTAB, SHT_SYMTAB, SYM_SIZE};
 use elf_types::{OutFile, SectionHeader};
 use std::alloc::AllocError;
-
-/// The types of the tables that are added.
-const SHT_SYMTAB: u32 = 2;
-
-const SHT_STRTAB: u32 = 3;
 
 /// The header of the null section.
 const NULL: SectionHeader = SectionHeader {
     name: 0,
-    kind: 0,
+    kind: SHT_NULL,
     flags: 0,
     addr: 0,
     offset: 0,
@@ -35,9 +34,9 @@ const NULL: SectionHeader = SectionHeader {
 /// Appends the header, the program headers and the bytes of the segments.
 pub fn push_front(out: &mut Vec<u8>, file: &OutFile, places: &Places) -> Result<(), AllocError>
     requires places { ArePlaces file.now places.now }
-    requires size { EndsWithin 1073741824 file.now }
-    requires few_segments { length file.now.segments ≤ 4000 }
-    requires few_sections { length file.now.sections ≤ 4000 }
+    requires size { EndsWithin (limit_of limit.CountedBytes) file.now }
+    requires few_segments { length file.now.segments ≤ limit_of limit.OutputSegments }
+    requires few_sections { length file.now.sections ≤ MAX_OUTPUT_SECTIONS }
     ensures bytes { OnOk result (out.new.items ≡ out.old.items ++ front_bytes file.now) }
     ensures fits { OnOk result (FrontFits file.now) }
 {
@@ -65,7 +64,7 @@ fn push_own_and_symbols(
     places: &Places,
 ) -> Result<(), AllocError>
     requires places { ArePlaces file.now places.now }
-    requires size { EndsWithin 1073741824 file.now }
+    requires size { EndsWithin (limit_of limit.CountedBytes) file.now }
     requires symbols { All IsSymbol file.now.symbols }
     ensures bytes { OnOk result (out.new.items ≡ out.old.items ++ own_and_symbols file.now) }
     ensures fits { OnOk result (All SymbolFits file.now.symbols) }
@@ -99,8 +98,8 @@ fn push_table_names(out: &mut Vec<u8>) -> Result<(), AllocError>
 /// Appends the section headers: the null section, the given ones, and the tables that are added.
 fn push_headers(out: &mut Vec<u8>, file: &OutFile, places: &Places) -> Result<(), AllocError>
     requires places { ArePlaces file.now places.now }
-    requires size { EndsWithin 1073741824 file.now }
-    requires few_sections { length file.now.sections ≤ 4000 }
+    requires size { EndsWithin (limit_of limit.CountedBytes) file.now }
+    requires few_sections { length file.now.sections ≤ MAX_OUTPUT_SECTIONS }
     ensures bytes { OnOk result (out.new.items ≡ out.old.items ++ headers_bytes (headers_of file.now)) }
     ensures fits { OnOk result (All SectionFits file.now.sections) }
 {
@@ -119,8 +118,8 @@ fn push_headers(out: &mut Vec<u8>, file: &OutFile, places: &Places) -> Result<()
 /// Appends the headers of the tables that are added.
 fn push_table_headers(out: &mut Vec<u8>, file: &OutFile, places: &Places) -> Result<(), AllocError>
     requires places { ArePlaces file.now places.now }
-    requires size { EndsWithin 1073741824 file.now }
-    requires few_sections { length file.now.sections ≤ 4000 }
+    requires size { EndsWithin (limit_of limit.CountedBytes) file.now }
+    requires few_sections { length file.now.sections ≤ MAX_OUTPUT_SECTIONS }
     ensures { OnOk result (out.new.items ≡ out.old.items ++ headers_bytes (table_headers file.now)) }
 {
     let sections = file.sections.as_slice().len() as u32;
@@ -131,7 +130,7 @@ fn push_table_headers(out: &mut Vec<u8>, file: &OutFile, places: &Places) -> Res
         SectionHeader {
             link: sections + 2,
             info: first_global(file.symbols.as_slice()) as u32,
-            entsize: 24,
+            entsize: SYM_SIZE,
             ..symtab
         },
     )?;
@@ -168,8 +167,8 @@ fn table_header(name: u32, kind: u32, from: u128, to: u128) -> SectionHeader
 /// Appends what stands behind the segments.
 pub fn push_tables(out: &mut Vec<u8>, file: &OutFile, places: &Places) -> Result<(), AllocError>
     requires places { ArePlaces file.now places.now }
-    requires size { EndsWithin 1073741824 file.now }
-    requires few_sections { length file.now.sections ≤ 4000 }
+    requires size { EndsWithin (limit_of limit.CountedBytes) file.now }
+    requires few_sections { length file.now.sections ≤ MAX_OUTPUT_SECTIONS }
     requires symbols { All IsSymbol file.now.symbols }
     ensures bytes { OnOk result (out.new.items ≡ out.old.items ++ tables_bytes file.now) }
     ensures fits { OnOk result (TablesFit file.now) }

@@ -1,21 +1,17 @@
-// The records of the file's tables (ELF gABI): header, program header, symbol, section header.
+//! The records of the file's tables (ELF gABI): header, program header, symbol, section header.
 ghost use Rattle.std.specs.Prelude.{◌≡◌, ◌+◌, ◌^◌, ◌<◌, ◌≤◌, ◌++◌, OnOk, length};
+ghost use Rattle.qed_model.specs.declared.limits.TheConstants.{MAX_OUTPUT_SECTIONS};
 ghost use Rattle.qed_model.specs.Elf.Written.{fields_bytes, program_fields};
 ghost use Rattle.elf_write.specs.Widths.{SegmentFits};
 ghost use Rattle.qed_model.specs.Elf.Layout.{file_fields, symbol_bytes, header_bytes, alignment as alignment_of};
 
 use crate::numbers::{Number, push_numbers};
+use elf_types::abi::{
+    EHDR_SIZE, ELFCLASS64, ELFDATA2LSB, ELFMAG, EM_RISCV, ET_EXEC, EV_CURRENT, PHDR_SIZE,
+    SHDR_SIZE, SHT_NULL, SHT_SYMTAB,
+};
 use elf_types::{SectionHeader, Segment, SymbolEntry};
 use std::alloc::AllocError;
-
-/// The sizes of records, in bytes.
-pub const HEADER_SIZE: u128 = 64;
-
-pub const PROGRAM_HEADER_SIZE: u128 = 56;
-
-pub const SECTION_HEADER_SIZE: u128 = 64;
-
-pub const SYMBOL_SIZE: u128 = 24;
 
 /// The alignment of segments, in bytes.
 pub const PAGE: u64 = 4096;
@@ -30,30 +26,30 @@ pub fn push_header(
     headers: u64,
     sections: u16,
 ) -> Result<(), AllocError>
-    requires { sections ≤ 4000 }
+    requires { sections ≤ MAX_OUTPUT_SECTIONS }
     ensures bytes { OnOk result (out.new.items ≡ out.old.items ++ fields_bytes (file_fields entry flags segments headers sections)) }
     ensures fits { (entry < 2 ^ 64) × (flags < 2 ^ 32) }
 {
     push_numbers(
         out,
         &[
-            Number::Word(0x464c_457f),
-            Number::Byte(2),
-            Number::Byte(1),
-            Number::Byte(1),
+            Number::Word(ELFMAG),
+            Number::Byte(ELFCLASS64),
+            Number::Byte(ELFDATA2LSB),
+            Number::Byte(EV_CURRENT),
             Number::Byte(0),
             Number::Long(0),
-            Number::Half(2),
-            Number::Half(243),
-            Number::Word(1),
+            Number::Half(ET_EXEC),
+            Number::Half(EM_RISCV),
+            Number::Word(u32::from(EV_CURRENT)),
             Number::Long(entry),
-            Number::Long(64),
+            Number::Long(u64::from(EHDR_SIZE)),
             Number::Long(headers),
             Number::Word(flags),
-            Number::Half(64),
-            Number::Half(56),
+            Number::Half(EHDR_SIZE),
+            Number::Half(PHDR_SIZE),
             Number::Half(segments),
-            Number::Half(64),
+            Number::Half(SHDR_SIZE),
             Number::Half(sections + 4),
             Number::Half(sections + 3),
         ],
@@ -108,8 +104,8 @@ fn alignment(kind: u32) -> u64
     ensures { result ≡ alignment_of kind }
 {
     match kind {
-        0 => 0,
-        2 => 8,
+        SHT_NULL => 0,
+        SHT_SYMTAB => 8,
         _ => 1,
     }
 }

@@ -1,27 +1,19 @@
-// The sections' own bytes, their headers and their names.
+//! The sections' own bytes, their headers and their names.
 ghost use Rattle.std.specs.Prelude.{◌≡◌, ℕ, ◌+◌, ◌^◌, ◌<◌, ◌≤◌, ◌++◌, OnOk, All, length, map, if◌then◌else◌};
 ghost use Rattle.std.specs.Bool.{OnTrue};
+ghost use Rattle.qed_model.specs.declared.limits.Limit.TheVariants as limit;
+ghost use Rattle.qed_model.specs.Limits.{limit_of};
+ghost use Rattle.elf_types.specs.Abi.{has_alloc};
 ghost use Rattle.qed_model.specs.Elf.Written.{end_from};
-ghost use Rattle.qed_model.specs.Elf.Layout.{names_bytes, own_bytes, is_in_memory as has_alloc, is_inside as lies_inside, offset_in as offset_inside, header_bytes, header_with, headers_bytes, headers_from};
+ghost use Rattle.qed_model.specs.Elf.Layout.{names_bytes, own_bytes, is_inside as lies_inside, offset_in as offset_inside, header_bytes, header_with, headers_bytes, headers_from};
 ghost use Rattle.elf_write.specs.Widths.{SectionFits};
 
 use crate::records::push_section_header;
 use crate::segments::offset_from;
 use crate::symbols::push_name;
+use elf_types::abi::SHT_PROGBITS;
 use elf_types::{OutSection, SectionHeader, Segment};
 use std::alloc::AllocError;
-
-/// The flag of a section that is in memory.
-const SHF_ALLOC: u64 = 2;
-
-/// The type of the given sections.
-const SHT_PROGBITS: u32 = 1;
-
-fn is_in_memory(section: &OutSection) -> bool
-    ensures { result ≡ has_alloc section.now }
-{
-    section.flags / SHF_ALLOC % 2 == 1
-}
 
 /// Whether the section lies inside the file bytes of the segment.
 fn is_inside(section: &OutSection, segment: &Segment) -> bool
@@ -38,7 +30,7 @@ fn is_inside(section: &OutSection, segment: &Segment) -> bool
 /// offset `start` on.
 #[tactic(auto, using(crate::proofs::Places::end_from_above))]
 fn offset_in(section: &OutSection, segments: &[Segment], start: u64) -> u64
-    requires { end_from start segments.now ≤ 1073741824 }
+    requires { end_from start segments.now ≤ limit_of limit.CountedBytes }
     ensures { result ≡ offset_inside start segments.now section.now }
 {
     let mut at = start;
@@ -127,10 +119,10 @@ fn push_given_header(
 
 /// Where the bytes of a section stand: in a segment, or at the offset `own`.
 fn offset_of(section: &OutSection, segments: &[Segment], start: u64, own: u64) -> u64
-    requires { end_from start segments.now ≤ 1073741824 }
-    ensures { result ≡ (if has_alloc section.now then offset_inside start segments.now section.now else own) }
+    requires { end_from start segments.now ≤ limit_of limit.CountedBytes }
+    ensures { result ≡ (if has_alloc section.now.flags then offset_inside start segments.now section.now else own) }
 {
-    if is_in_memory(section) {
+    if section.is_allocated() {
         offset_in(section, segments, start)
     } else {
         own
@@ -146,9 +138,9 @@ pub fn push_given_headers(
     start: u64,
     first: u64,
 ) -> Result<(), AllocError>
-    requires segments { end_from start segments.now ≤ 1073741824 }
-    requires names { length (names_bytes (map (λ x. x.name) sections.now)) ≤ 1073741824 }
-    requires own { first + length (own_bytes sections.now) ≤ 1073741824 }
+    requires segments { end_from start segments.now ≤ limit_of limit.CountedBytes }
+    requires names { length (names_bytes (map (λ x. x.name) sections.now)) ≤ limit_of limit.CountedBytes }
+    requires own { first + length (own_bytes sections.now) ≤ limit_of limit.CountedBytes }
     ensures bytes { OnOk result (out.new.items ≡ out.old.items ++ headers_bytes (headers_from start segments.now 1 first sections.now)) }
     ensures fits { OnOk result (All SectionFits sections.now) }
 {

@@ -1,5 +1,7 @@
-// Program headers and the bytes of segments.
+//! Program headers and the bytes of segments.
 ghost use Rattle.std.specs.Prelude.{◌≡◌, ◌+◌, ◌^◌, ◌<◌, ◌≤◌, ◌++◌, OnOk, All};
+ghost use Rattle.qed_model.specs.declared.limits.Limit.TheVariants as limit;
+ghost use Rattle.qed_model.specs.Limits.{limit_of};
 ghost use Rattle.qed_model.specs.Elf.Written.{offset_from as least_offset, end_from as segments_end, program_headers, segments_bytes};
 ghost use Rattle.elf_write.specs.Widths.{SegmentFits};
 
@@ -38,7 +40,7 @@ pub fn push_program_headers(
     segments: &[Segment],
     start: u64,
 ) -> Result<(), AllocError>
-    requires { segments_end start segments.now ≤ 1073741824 }
+    requires { segments_end start segments.now ≤ limit_of limit.CountedBytes }
     ensures bytes { OnOk result (out.new.items ≡ out.old.items ++ program_headers start segments.now) }
     ensures fits { OnOk result (All SegmentFits segments.now) }
 {
@@ -54,7 +56,7 @@ pub fn push_program_headers(
 /// Appends the bytes of segments, with zeros before each up to its offset.
 #[tactic(auto, using(crate::proofs::Places::end_from_above))]
 pub fn push_segments(out: &mut Vec<u8>, segments: &[Segment], start: u64) -> Result<(), AllocError>
-    requires { segments_end start segments.now ≤ 1073741824 }
+    requires { segments_end start segments.now ≤ limit_of limit.CountedBytes }
     ensures { OnOk result (out.new.items ≡ out.old.items ++ segments_bytes start segments.now) }
 {
     let mut at = start;

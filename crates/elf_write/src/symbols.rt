@@ -1,5 +1,7 @@
-// The symbol table and its string table.
+//! The symbol table and its string table.
 ghost use Rattle.std.specs.Prelude.{◌≡◌, ℕ, ◌+◌, ◌^◌, ◌<◌, ◌≤◌, ◌++◌, OnOk, All, length, [], ◌∷◌};
+ghost use Rattle.qed_model.specs.declared.limits.Limit.TheVariants as limit;
+ghost use Rattle.qed_model.specs.Limits.{limit_of};
 ghost use Rattle.qed_model.specs.Elf.Layout.{names_bytes, symbol_names, symbols_bytes, entry_with, entries_from, entries_of, first_global as first_global_from, IsSymbol};
 ghost use Rattle.elf_write.specs.Widths.{SymbolFits};
 
@@ -53,7 +55,7 @@ fn push_symbol(out: &mut Vec<u8>, symbol: &Symbol, name: u32) -> Result<(), Allo
 /// Appends the entries of symbols, of which the first has its name at the offset 1 of the string table.
 fn push_symbols(out: &mut Vec<u8>, symbols: &[Symbol]) -> Result<(), AllocError>
     requires symbols { All IsSymbol symbols.now }
-    requires size { length (names_bytes (symbol_names symbols.now)) ≤ 1073741824 }
+    requires size { length (names_bytes (symbol_names symbols.now)) ≤ limit_of limit.CountedBytes }
     ensures bytes { OnOk result (out.new.items ≡ out.old.items ++ symbols_bytes (entries_from 1 symbols.now)) }
     ensures fits { OnOk result (All SymbolFits symbols.now) }
 {
@@ -68,7 +70,7 @@ fn push_symbols(out: &mut Vec<u8>, symbols: &[Symbol]) -> Result<(), AllocError>
 /// Appends the null symbol and the given ones.
 pub fn push_symbol_table(out: &mut Vec<u8>, symbols: &[Symbol]) -> Result<(), AllocError>
     requires symbols { All IsSymbol symbols.now }
-    requires size { length (names_bytes (symbol_names symbols.now)) ≤ 1073741824 }
+    requires size { length (names_bytes (symbol_names symbols.now)) ≤ limit_of limit.CountedBytes }
     ensures bytes { OnOk result (out.new.items ≡ out.old.items ++ symbols_bytes (entries_of symbols.now)) }
     ensures fits { OnOk result (All SymbolFits symbols.now) }
 {
@@ -102,7 +104,7 @@ pub fn first_global(symbols: &[Symbol]) -> u64
 {
     let mut number = 1;
     for symbol in symbols {
-        if symbol.binding != 0 {
+        if !symbol.is_local() {
             return number;
         }
         number += 1;

@@ -1,12 +1,12 @@
-// The whole file.
+//! The whole file.
 ghost use Rattle.std.specs.Prelude.{◌≡◌, IfOk, length};
-ghost use Rattle.qed_model.specs.Elf.File.{File};
+ghost use Rattle.qed_model.specs.Elf.File.{IsReadAs};
 ghost use Rattle.qed_model.specs.Elf.FileRead.{file_read};
 ghost use Rattle.qed_model.specs.Elf.Layout.{IsWritable, written};
 
 use crate::layout::places_of;
 use crate::parts::{push_front, push_tables};
-use crate::records::SECTION_HEADER_SIZE;
+use elf_types::abi::SHDR_SIZE;
 use elf_types::{Bytes, OutFile};
 use std::alloc::{AllocError, Global};
 
@@ -16,7 +16,7 @@ pub fn file_size(file: &OutFile) -> u128
     ensures { result ≡ length (written file.now) }
 {
     let headers = file.sections.as_slice().len() as u128 + 4;
-    places_of(file).headers + SECTION_HEADER_SIZE * headers
+    places_of(file).headers + SHDR_SIZE as u128 * headers
 }
 
 /// The bytes of a file (ELF gABI): the header, the program headers, the segments, the bytes of the sections that are not
@@ -31,7 +31,7 @@ pub fn file_size(file: &OutFile) -> u128
 pub fn write_elf(alloc: Global, file: &OutFile) -> Result<Bytes, AllocError>
     requires { IsWritable file.now }
     ensures written { IfOk result (λ bytes. bytes ≡ written file.now) }
-    ensures reads_back { IfOk result (λ bytes. File bytes (file_read file.now)) }
+    ensures reads_back { IfOk result (λ bytes. IsReadAs bytes (file_read file.now)) }
 {
     let places = places_of(file);
     let mut out = Vec::new(alloc);

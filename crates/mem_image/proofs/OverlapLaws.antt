@@ -1,35 +1,24 @@
 -- Segments that share a byte, and segments with all their bytes written out.
-use Rattle.std.proofs.Common.{◌≡◌, ℕ, zero, suc, ◌+◌, ◌-◌, ◌<◌, ◌≤◌, inl, inr, ⊎_elim, true, List, [], ◌∷◌, length, map, Some, refl, sym, ap, ◌∙◌, arith, get_or}
-use Rattle.std.specs.Prelude.{nat_lt, nat_le, slice_get}
+use Rattle.std.proofs.Common.{◌≡◌, ℕ, ◌+◌, ◌-◌, ◌<◌, ◌≤◌, inl, inr, ⊎_elim, true, List, [], ◌∷◌, length, map, Some, refl, sym, ap, ◌∙◌, arith, get_or}
+use Rattle.std.specs.Prelude.{slice_get}
 use Rattle.std.specs.Option.{option_map}
-use Rattle.std.proofs.lemmas.Bool.{and_from, and_parts, le-leb, lt-ltb, leb-true, ltb-true, cases_lt}
+use Rattle.std.proofs.lemmas.Bool.{cases_lt}
 use Rattle.std.proofs.lemmas.Option.{slice_get-get_or, slice_get_within, slice_get-map}
 use Rattle.std.proofs.lemmas.List.{length-map}
 use Rattle.qed_model.proofs.MemoryLaws.{same_memory}
 use Rattle.qed_model.specs.Machine.Program.{LoadSegment, memory_of}
 use Rattle.mem_image.specs.declared.spec.SegmentSpec.{SegmentSpec}
-use Rattle.mem_image.specs.Segments.{cell_in, AllFit}
-use Rattle.mem_image.specs.Overlap.{segment_of, segments_of, filled, Share, Overlaps, IsNext, IsLeast, AreApart, Ascends}
+use Rattle.qed_model.specs.Machine.Apart.{AllFitMemory, share, Overlaps}
+use Rattle.mem_image.specs.Segments.{cell_in}
+use Rattle.mem_image.specs.Overlap.{segment_of, segments_of, filled, IsNext, IsLeast}
 use Rattle.mem_image.proofs.SegmentLaws.{index_zeros, length_zeros, get-memory_of}
-
--- ---- two segments
--- the first byte of the later one is in both
-pub share_from : (s t : LoadSegment) → s.address ≤ t.address → 0 < t.size → nat_lt (t.address - s.address) s.size ≡ true → Share s t
-share_from s t le some near = record {
-  address = t.address;
-  first = and_from _ _ (le-leb _ _ le) near;
-  second = and_from _ _ (le-leb t.address t.address (omega arith)) (lt-ltb (t.address - t.address) t.size (omega arith));
-}
-
-pub share_swap : (s t : LoadSegment) → Share t s → Share s t
-share_swap s t h = record { address = h.address; first = h.second; second = h.first }
 
 -- ---- two places of the list
 -- the segment at a place that the code reads
 segment_there : (specs : List SegmentSpec) (i : ℕ) (a : SegmentSpec) → i < length specs → a ≡ get_or specs i a → slice_get (segments_of specs) i ≡ Some (segment_of a)
 segment_there specs i a h e = slice_get-map segment_of specs i ∙ ap (option_map segment_of) (slice_get-get_or specs i a h ∙ ap Some (sym e))
 
-pub pair_overlaps : (specs : List SegmentSpec) (i j : ℕ) (a b : SegmentSpec) → i < length specs → j < length specs → a ≡ get_or specs i a → b ≡ get_or specs j b → i < j → Share (segment_of a) (segment_of b) → Overlaps (segments_of specs) i j
+pub pair_overlaps : (specs : List SegmentSpec) (i j : ℕ) (a b : SegmentSpec) → i < length specs → j < length specs → a ≡ get_or specs i a → b ≡ get_or specs j b → i < j → share (segment_of a) (segment_of b) ≡ true → Overlaps (segments_of specs) i j
 pair_overlaps specs i j a b hi hj ea eb order share = record {
   order = order;
   first = segment_of a;
@@ -39,7 +28,7 @@ pair_overlaps specs i j a b hi hj ea eb order share = record {
   share = share;
 }
 
-pub pair_share : (specs : List SegmentSpec) (i j : ℕ) (a b : SegmentSpec) → i < length specs → j < length specs → a ≡ get_or specs i a → b ≡ get_or specs j b → Overlaps (segments_of specs) i j → Share (segment_of a) (segment_of b)
+pub pair_share : (specs : List SegmentSpec) (i j : ℕ) (a b : SegmentSpec) → i < length specs → j < length specs → a ≡ get_or specs i a → b ≡ get_or specs j b → Overlaps (segments_of specs) i j → share (segment_of a) (segment_of b) ≡ true
 pair_share specs i j a b hi hj ea eb o =
     let x = segment_there specs i a hi ea in
     let y = segment_there specs j b hj eb in
@@ -47,7 +36,7 @@ pair_share specs i j a b hi hj ea eb o =
     let q = o.second_at in
     let f : o.first ≡ segment_of a = cc in
     let g : o.second ≡ segment_of b = cc in
-    record { address = o.share.address; first = rw f at o.share.first; second = rw g at o.share.second }
+    rw (f, g) at o.share
 
 -- places behind number i, one more
 pub next_more : (ss : List LoadSegment) (i j : ℕ) → ((k : ℕ) → k < j → Overlaps ss i k → ⊥) → (Overlaps ss i j → ⊥) → (k : ℕ) → k < j + 1 → Overlaps ss i k → ⊥
@@ -81,7 +70,7 @@ pair_least ss i j before next = record {
 }
 
 -- ---- all bytes written out
-pub all_fit-filled : (ss : List LoadSegment) → AllFit ss → AllFit (map filled ss)
+pub all_fit-filled : (ss : List LoadSegment) → AllFitMemory ss → AllFitMemory (map filled ss)
 all_fit-filled [] h = tt
 all_fit-filled (s ∷ ss) h = let e = length_zeros s.bytes s.size h.0.0 in ((omega (arith, e), h.0.1), all_fit-filled ss h.1)
 
@@ -90,35 +79,5 @@ cell_in-filled [] q = refl
 cell_in-filled (s ∷ ss) q = rw (cell_in-filled ss q, index_zeros s.bytes (s.size - length s.bytes) (q - s.address)) refl
 
 -- the memory stays
-pub memory_of-filled : (ss : List LoadSegment) → AllFit ss → memory_of (map filled ss) ≡ memory_of ss
+pub memory_of-filled : (ss : List LoadSegment) → AllFitMemory ss → memory_of (map filled ss) ≡ memory_of ss
 memory_of-filled ss h = same_memory _ _ (λ q. get-memory_of (map filled ss) q (all_fit-filled ss h) ∙ cell_in-filled ss q ∙ sym (get-memory_of ss q h))
-
--- ---- segments that ascend
--- the segment at a place begins at the bound or behind it
-begins : (lo k : ℕ) (ss : List LoadSegment) (t : LoadSegment) → Ascends lo ss → slice_get ss k ≡ Some t → lo ≤ t.address
-begins lo k [] t h e = absurd (cc)
-begins lo zero (s ∷ ss) t h e = let is : s ≡ t = cc in rw is at h.0
-begins lo (suc k) (s ∷ ss) t h e = let l = begins (s.address + s.size) k ss t h.1 e in omega (arith, l, h.0)
-
--- a segment that begins behind another shares no byte with it
-behind : (s t : LoadSegment) → s.address + s.size ≤ t.address → Share s t → ⊥
-behind s t h share =
-    let x = and_parts (nat_le s.address share.address) (nat_lt (share.address - s.address) s.size) share.first in
-    let y = and_parts (nat_le t.address share.address) (nat_lt (share.address - t.address) t.size) share.second in
-    let low = leb-true s.address share.address x.0 in
-    let near = ltb-true (share.address - s.address) s.size x.1 in
-    let high = leb-true t.address share.address y.0 in
-    omega (arith, h, low, near, high)
-
--- no two of them share a byte
-pub ascends-apart : (lo : ℕ) (ss : List LoadSegment) → Ascends lo ss → AreApart ss
-ascends-apart lo [] h i j o = let e = o.first_at in absurd (cc)
-ascends-apart lo (s ∷ ss) h zero zero o = let l = o.order in absurd (omega arith)
-ascends-apart lo (s ∷ ss) h zero (suc j) o =
-    let e = o.first_at in
-    let is : s ≡ o.first = cc in
-    behind o.first o.second (rw is at (begins (s.address + s.size) j ss o.second h.1 o.second_at)) o.share
-ascends-apart lo (s ∷ ss) h (suc i) zero o = let l = o.order in absurd (omega arith)
-ascends-apart lo (s ∷ ss) h (suc i) (suc j) o =
-    let l = o.order in
-    ascends-apart (s.address + s.size) ss h.1 i j (record { order = omega arith; first = o.first; second = o.second; first_at = o.first_at; second_at = o.second_at; share = o.share })

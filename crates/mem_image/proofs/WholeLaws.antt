@@ -3,15 +3,17 @@ use Rattle.std.proofs.Common.{◌≡◌, ℕ, zero, suc, ◌+◌, ◌-◌, ◌*�
 use Rattle.std.proofs.Math.Nat.{pow-suc, pow-le-pow_right}
 use Rattle.std.specs.Prelude.{slice_index, slice_get, map}
 use Rattle.std.proofs.lemmas.Bool.{leb-true, ltb-true, and_parts, and_from, le-leb, lt-ltb}
+use Rattle.std.proofs.lemmas.Bool.Decides.{nat_tests}
 use Rattle.qed_model.specs.Machine.Memory.{byte_of, Flags, Memory, wrap, allows, grants, number, poked, put}
 use Rattle.qed_model.specs.Machine.Program.{LoadSegment, memory_of}
 use Rattle.std.specs.FinMap.{get}
 use Rattle.std.proofs.lemmas.List.{set-set}
 use Rattle.qed_model.proofs.MemoryLaws.{grants_from, put_none, put-more}
 use Rattle.qed_model.proofs.CellsLaws.{byte_of_cell}
-use Rattle.mem_image.specs.Segments.{cell_of, within, has_all, number_in, with_byte_at, with_bytes_at, AllFit, IsWholeAt}
+use Rattle.qed_model.specs.Machine.Apart.{share, AllFitMemory, AreApart}
+use Rattle.mem_image.specs.Segments.{cell_of, within, has_all, number_in, with_byte_at, with_bytes_at, IsWholeAt}
 use Rattle.mem_image.specs.Access.{allowed_number}
-use Rattle.mem_image.specs.Overlap.{filled, AreApart, AreSound}
+use Rattle.mem_image.specs.Overlap.{filled, AreSound}
 use Rattle.mem_image.proofs.SegmentLaws.{stands_at, IsWhole, get-memory_of, cell_in-first, memory_of-set, all_fit-set, none_past}
 use Rattle.mem_image.proofs.OverlapLaws.{all_fit-filled}
 
@@ -44,9 +46,6 @@ gathered_more bs i w t v b h l e k =
 -- one byte more fits 64 bits
 pub gathered_fits : (bs : List ℕ) (i w t v : ℕ) → Gathered bs i w t v → t < w → w ≤ 8 → 256 * v + 255 < 2 ^ 64
 gathered_fits bs i w t v h l k = let top : 256 ^ t ≤ 256 ^ 7 = pow-le-pow_right {n = 256} (omega arith) {i = t} {j = 7} (omega arith) in let s = h.small in omega (arith, top, s)
-
-pub gathered_all : (bs : List ℕ) (i w t v : ℕ) → Gathered bs i w t v → t ≡ w → (v ≡ number_in bs i w) × (v < 256 ^ w)
-gathered_all bs i w t v h e = let from : i + (w - t) ≡ i = omega arith in (rw (from, e) at h.is, rw e at h.small)
 
 -- ---- the addresses of a segment
 pub spans : (s : LoadSegment) (a n : ℕ) → has_all s a n ≡ true → (s.address ≤ a) × (a + n ≤ s.address + s.size)
@@ -90,40 +89,47 @@ unfolding with_bytes_at
 with_bytes-more s a n v = rw add-one refl
 
 -- ---- segments that share nothing
+-- two segments with an address in common share a byte
+shared : (s t : LoadSegment) (q : ℕ) → within s q ≡ true → within t q ≡ true → share s t ≡ true
+shared s t q x y = grind (arith, nat_tests)
+
 -- an address has one segment
 pub before_apart : (ss : List LoadSegment) (k : ℕ) (s : LoadSegment) (q : ℕ) → AreApart ss → slice_get ss k ≡ Some s → within s q ≡ true → (j : ℕ) (p : LoadSegment) → j < k → slice_get ss j ≡ Some p → within p q ≡ false
 before_apart ss k s q apart at w j p h e = by (within p q) refl where
   by : (b : Bool) → within p q ≡ b → within p q ≡ false
-  by true x = absurd (apart j k (record { order = h; first = p; second = s; first_at = e; second_at = at; share = record { address = q; first = x; second = w } }))
+  by true x = absurd (apart j k (record { order = h; first = p; second = s; first_at = e; second_at = at; share = shared p s q x w }))
   by false x = x
 
--- each segment has one of the same addresses at its place in another list
+-- each segment has one with the same place and size in memory at its place in another list
 abbrev pub SameShapes : List LoadSegment → List LoadSegment → Type 0
-SameShapes ts ss = (i : ℕ) (x : LoadSegment) → slice_get ts i ≡ Some x → (y : LoadSegment) × ((slice_get ss i ≡ Some y) × ((q : ℕ) → within x q ≡ within y q))
+SameShapes ts ss = (i : ℕ) (x : LoadSegment) → slice_get ts i ≡ Some x → (y : LoadSegment) × ((slice_get ss i ≡ Some y) × ((x.address ≡ y.address) × (x.size ≡ y.size)))
+
+same_share : (s t u v : LoadSegment) → s.address ≡ t.address → s.size ≡ t.size → u.address ≡ v.address → u.size ≡ v.size → share s u ≡ true → share t v ≡ true
+same_share s t u v a b c d h = rw (a, b, c, d) at h
 
 pub apart_shapes : (ts ss : List LoadSegment) → SameShapes ts ss → AreApart ss → AreApart ts
 apart_shapes ts ss same apart i j o =
     let x = same i o.first o.first_at in
     let y = same j o.second o.second_at in
-    apart i j (record { order = o.order; first = x.0; second = y.0; first_at = x.1.0; second_at = y.1.0; share = record { address = o.share.address; first = sym (x.1.1 o.share.address) ∙ o.share.first; second = sym (y.1.1 o.share.address) ∙ o.share.second } })
+    apart i j (record { order = o.order; first = x.0; second = y.0; first_at = x.1.0; second_at = y.1.0; share = same_share o.first x.0 o.second y.0 x.1.1.0 x.1.1.1 y.1.1.0 y.1.1.1 o.share })
 
-shapes-set : (ss : List LoadSegment) (k : ℕ) (s t : LoadSegment) → slice_get ss k ≡ Some s → ((q : ℕ) → within t q ≡ within s q) → SameShapes (set ss k t) ss
+shapes-set : (ss : List LoadSegment) (k : ℕ) (s t : LoadSegment) → slice_get ss k ≡ Some s → (t.address ≡ s.address) × (t.size ≡ s.size) → SameShapes (set ss k t) ss
 shapes-set [] k s t e w i x h = absurd (cc)
-shapes-set (z ∷ zs) zero s t e w zero x h = let is : t ≡ x = cc in (s, (e, λ q. ap (λ r. within r q) (sym is) ∙ w q))
-shapes-set (z ∷ zs) zero s t e w (suc i) x h = (x, (h, λ q. refl))
-shapes-set (z ∷ zs) (suc k) s t e w zero x h = (x, (h, λ q. refl))
+shapes-set (z ∷ zs) zero s t e w zero x h = let is : t ≡ x = cc in (s, (e, (ap (λ r. r.address) (sym is) ∙ w.0, ap (λ r. r.size) (sym is) ∙ w.1)))
+shapes-set (z ∷ zs) zero s t e w (suc i) x h = (x, (h, (refl, refl)))
+shapes-set (z ∷ zs) (suc k) s t e w zero x h = (x, (h, (refl, refl)))
 shapes-set (z ∷ zs) (suc k) s t e w (suc i) x h = shapes-set zs k s t e w i x h
 
 shapes-filled : (ss : List LoadSegment) → SameShapes (map filled ss) ss
 shapes-filled [] i x h = absurd (cc)
-shapes-filled (z ∷ zs) zero x h = let is : filled z ≡ x = cc in (z, (refl, λ q. ap (λ r. within r q) (sym is)))
+shapes-filled (z ∷ zs) zero x h = let is : filled z ≡ x = cc in (z, (refl, (ap (λ r. r.address) (sym is), ap (λ r. r.size) (sym is))))
 shapes-filled (z ∷ zs) (suc i) x h = shapes-filled zs i x h
 
-pub sound-filled : (ss : List LoadSegment) → AllFit ss → AreApart ss → AreSound (map filled ss)
+pub sound-filled : (ss : List LoadSegment) → AllFitMemory ss → AreApart ss → AreSound (map filled ss)
 sound-filled ss fit apart = record { fit = all_fit-filled ss fit; apart = apart_shapes (map filled ss) ss (shapes-filled ss) apart }
 
 pub sound-set : (ss : List LoadSegment) (k : ℕ) (s t : LoadSegment) → AreSound ss → slice_get ss k ≡ Some s → t.address ≡ s.address → t.size ≡ s.size → length t.bytes ≡ length s.bytes → AreSound (set ss k t)
-sound-set ss k s t h e a z l = record { fit = all_fit-set ss k s t h.fit e a z l; apart = apart_shapes (set ss k t) ss (shapes-set ss k s t e (λ q. rw (a, z) refl)) h.apart }
+sound-set ss k s t h e a z l = record { fit = all_fit-set ss k s t h.fit e a z l; apart = apart_shapes (set ss k t) ss (shapes-set ss k s t e (a, z)) h.apart }
 
 pub sound-byte : (ss : List LoadSegment) (k : ℕ) (s : LoadSegment) (a v : ℕ) → AreSound ss → slice_get ss k ≡ Some s → AreSound (set ss k (with_byte_at s a v))
 sound-byte ss k s a v h e = sound-set ss k s (with_byte_at s a v) h e refl refl (length-set _ _ _)
@@ -133,7 +139,7 @@ sound-bytes ss k s a n v h e = sound-set ss k s (with_bytes_at s a n v) h e (add
 
 -- ---- a look-up in the segment
 -- the segment ends at 2^64 or before
-pub ends : (ss : List LoadSegment) (k : ℕ) (s : LoadSegment) → AllFit ss → slice_get ss k ≡ Some s → s.address + s.size ≤ 2 ^ 64
+pub ends : (ss : List LoadSegment) (k : ℕ) (s : LoadSegment) → AllFitMemory ss → slice_get ss k ≡ Some s → s.address + s.size ≤ 2 ^ 64
 ends [] k s f e = absurd (cc)
 ends (x ∷ xs) zero s f e = let is : x ≡ s = cc in rw is at f.0.1
 ends (x ∷ xs) (suc k) s f e = ends xs k s f.1 e

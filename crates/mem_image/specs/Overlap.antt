@@ -1,11 +1,11 @@
 -- Segments of a list that share a byte.
-use Rattle.std.specs.Prelude.{◌≡◌, ℕ, ◌+◌, ◌-◌, ◌<◌, ◌≤◌, ◌⊎◌, true, List, [], ◌∷◌, map, length, replicate, slice_get, Some, ◌++◌}
+use Rattle.std.specs.Prelude.{◌≡◌, ℕ, ◌-◌, ◌<◌, ◌≤◌, ◌⊎◌, List, map, length, replicate, ◌++◌}
 use Rattle.qed_model.specs.Machine.Program.{LoadSegment}
 use Rattle.qed_model.specs.Machine.Memory.{flags_of}
 use Rattle.mem_image.specs.declared.spec.SegmentSpec.{SegmentSpec}
 use Rattle.mem_image.specs.declared.spec.ImageError.{ImageError}
 use Rattle.mem_image.specs.declared.spec.ImageError.TheVariants.{Overlap, Memory}
-use Rattle.mem_image.specs.Segments.{within, AllFit}
+use Rattle.qed_model.specs.Machine.Apart.{AllFitMemory, Overlaps, AreApart}
 
 -- a segment as plain data
 abbrev pub segment_of : SegmentSpec → LoadSegment
@@ -18,21 +18,6 @@ segments_of specs = map segment_of specs
 abbrev pub filled : LoadSegment → LoadSegment
 filled s = record { address = s.address; size = s.size; flags = s.flags; bytes = s.bytes ++ replicate (s.size - length s.bytes) 0 }
 
--- two segments have an address in common
-pub record Share (s t : LoadSegment) : Type 0 where
-  pub address : ℕ
-  pub first : within s address ≡ true
-  pub second : within t address ≡ true
-
--- numbers i and j of the list, i before j, share a byte
-pub record Overlaps (ss : List LoadSegment) (i j : ℕ) : Type 0 where
-  pub order : i < j
-  pub first : LoadSegment
-  pub second : LoadSegment
-  pub first_at : slice_get ss i ≡ Some first
-  pub second_at : slice_get ss j ≡ Some second
-  pub share : Share first second
-
 -- i and j are the least such pair, by i and then j
 pub record IsLeast (ss : List LoadSegment) (i j : ℕ) : Type 0 where
   pub overlaps : Overlaps ss i j
@@ -43,18 +28,9 @@ pub record IsNext (ss : List LoadSegment) (i j : ℕ) : Type 0 where
   pub overlaps : Overlaps ss i j
   pub least : (k : ℕ) → Overlaps ss i k → j ≤ k
 
--- no two share a byte
-abbrev pub AreApart : List LoadSegment → Type 0
-AreApart ss = (i j : ℕ) → Overlaps ss i j → ⊥
-
--- each segment begins behind the one before it, the first at the bound or behind it
-abbrev pub Ascends : ℕ → List LoadSegment → Type 0
-Ascends lo [] = Unit {0}
-Ascends lo (s ∷ ss) = (lo ≤ s.address) × Ascends (s.address + s.size) ss
-
 -- segments that an image keeps
 pub record AreSound (ss : List LoadSegment) : Type 0 where
-  pub fit : AllFit ss
+  pub fit : AllFitMemory ss
   pub apart : AreApart ss
 
 -- why there is no image: the least pair that shares a byte, or, where none does, a lack of memory

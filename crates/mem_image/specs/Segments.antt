@@ -1,5 +1,5 @@
 -- Segments in memory, address by address.
-use Rattle.std.specs.Prelude.{◌≡◌, ℕ, zero, suc, ◌+◌, ◌-◌, ◌*◌, ◌^◌, ◌<◌, ◌≤◌, ◌&&◌, Bool, true, false, cond, nat_le, nat_lt, List, [], ◌∷◌, length, slice_index, slice_get, slice_set, Option, Some, None}
+use Rattle.std.specs.Prelude.{◌≡◌, ℕ, zero, suc, ◌+◌, ◌-◌, ◌*◌, ◌<◌, ◌&&◌, Bool, true, false, cond, nat_le, nat_lt, List, [], ◌∷◌, slice_index, slice_get, slice_set, Option, Some, None}
 use Rattle.std.specs.FinMap.{get}
 use Rattle.qed_model.specs.Machine.Memory.{Cell, Memory, byte_of}
 use Rattle.qed_model.specs.Machine.Program.{LoadSegment}
@@ -16,14 +16,6 @@ cell_of s q = record { byte = slice_index s.bytes (q - s.address); flags = s.fla
 abbrev pub cell_in : List LoadSegment → ℕ → Option Cell
 cell_in [] q = None
 cell_in (s ∷ ss) q = cond (within s q) (Some (cell_of s q)) (cell_in ss q)
-
--- the segment has no more bytes in the file than in memory, and does not go past 2^64
-abbrev pub Fits : LoadSegment → Type 0
-Fits s = (length s.bytes ≤ s.size) × (s.address + s.size ≤ 2 ^ 64)
-
-abbrev pub AllFit : List LoadSegment → Type 0
-AllFit [] = Unit {0}
-AllFit (s ∷ ss) = Fits s × AllFit ss
 
 -- the segment at place k is the first that has the address
 pub record IsFirst (ss : List LoadSegment) (q k : ℕ) : Type 0 where

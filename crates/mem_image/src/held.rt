@@ -1,4 +1,4 @@
-// Segments in memory.
+//! Segments in memory.
 ghost use Rattle.std.specs.Prelude.{◌≡◌, ◌+◌, ◌-◌, ◌<◌, ◌≤◌, ◌^◌, true, length, IfOk};
 ghost use Rattle.mem_image.specs.Access.{needs};
 ghost use Rattle.mem_image.specs.Overlap.{segment_of, filled};
@@ -47,9 +47,9 @@ impl Held {
         bytes.resize(size, 0)?;
         Ok(Held {
             start: spec.address,
-            readable: (spec.flags >> 2) & 1 == 1,
-            writable: (spec.flags >> 1) & 1 == 1,
-            executable: spec.flags & 1 == 1,
+            readable: spec.is_readable(),
+            writable: spec.is_writable(),
+            executable: spec.is_executable(),
             bytes,
         })
     }
@@ -121,6 +121,7 @@ impl Held {
         ensures put { self.new ≡ with_bytes_at self.old address width value }
         ensures whole { length self.old.bytes ≡ self.old.size }
     {
+        // The bytes are read here, so that a proof knows how many they are.
         let _ = &self.bytes;
         for i in 0..width {
             self.set(address + i, ((value >> (8 * i)) & 0xff) as u8);

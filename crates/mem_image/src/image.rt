@@ -1,12 +1,13 @@
-// The memory of a machine.
+//! The memory of a machine.
 ghost use Rattle.std.specs.Prelude.{◌≡◌, ℕ, ◌<◌, ◌≤◌, ◌^◌, cond, length, map, IfOk, IfErr, IfNone, IfSome, Some, None};
 ghost use Rattle.std.specs.Option.{option_map};
 ghost use Rattle.std.specs.FinMap.{get};
 ghost use Rattle.qed_model.specs.Machine.Memory.{grants, poked, put};
 ghost use Rattle.qed_model.specs.Machine.Program.{memory_of};
-ghost use Rattle.mem_image.specs.Overlap.{segments_of, filled, AreApart, Explains};
+ghost use Rattle.mem_image.specs.Overlap.{segments_of, filled, Explains};
 ghost use Rattle.mem_image.specs.Access.{needs, allowed_byte, allowed_number, IsWidth};
-ghost use Rattle.mem_image.specs.Segments.{cell_in, AllFit, IsFirst, IsWholeAt, Holds};
+ghost use Rattle.qed_model.specs.Machine.Apart.{AllFitMemory, AreApart};
+ghost use Rattle.mem_image.specs.Segments.{cell_in, IsFirst, IsWholeAt, Holds};
 
 use crate::held::{Access, Held};
 use crate::overlap::first_overlap;
@@ -39,7 +40,7 @@ impl Image {
     /// The bytes of each segment, then zeros up to its size in memory, with its permissions. Each segment has at most `memory`
     /// bytes and ends at 2^64 or before. `Overlap` comes exactly where two segments share a byte, with the least such pair.
     pub fn make(alloc: Global, specs: &[SegmentSpec]) -> Result<Image, ImageError>
-        requires { AllFit (segments_of specs.now) }
+        requires { AllFitMemory (segments_of specs.now) }
         ensures made { IfOk result (λ image. image ≡ memory_of (segments_of specs.now)) }
         ensures apart { IfOk result (λ _. AreApart (segments_of specs.now)) }
         ensures error { IfErr result (Explains (segments_of specs.now)) }
@@ -188,6 +189,7 @@ impl Image {
         requires { width ≤ 8 }
         ensures { self.new ≡ put self.old address width value }
     {
+        // The segments are read here, so that a proof knows what holds of them.
         let _ = &self.segments;
         for i in 0..width {
             self.set(address.wrapping_add(i), ((value >> (8 * i)) & 0xff) as u8);
@@ -223,7 +225,7 @@ fn whole_at(segments: &[Held], address: u64, width: u64) -> Option<usize>
 
 /// The segments with all their bytes in memory.
 fn held(alloc: Global, specs: &[SegmentSpec]) -> Result<Vec<Held>, AllocError>
-    requires { AllFit (segments_of specs.now) }
+    requires { AllFitMemory (segments_of specs.now) }
     ensures { IfOk result (λ made. made.items ≡ map filled (segments_of specs.now)) }
 {
     let mut made = Vec::new(alloc);

@@ -1,7 +1,7 @@
-// Each public call on a small image.
+//! Each public call on a small image.
 ghost use Rattle.std.specs.Prelude.{◌+◌, ◌^◌, ◌≤◌, length, IfOk};
 ghost use Rattle.mem_image.specs.Overlap.{segment_of};
-ghost use Rattle.mem_image.specs.Segments.{Fits};
+ghost use Rattle.qed_model.specs.Machine.Apart.{FitsMemory};
 
 use crate::{Image, ImageError, SegmentSpec};
 use elf_types::Bytes;
@@ -21,7 +21,7 @@ fn spec(
 ) -> Result<SegmentSpec, AllocError>
     requires bytes { length bytes.now ≤ memory }
     requires end { address + memory ≤ 2 ^ 64 }
-    ensures { IfOk result (λ spec. Fits (segment_of spec)) }
+    ensures { IfOk result (λ spec. FitsMemory (segment_of spec)) }
 {
     Ok(SegmentSpec {
         address,

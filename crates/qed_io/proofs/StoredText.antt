@@ -10,7 +10,9 @@ use Rattle.std.specs.FinMap.{get, insert, find, get-from_entries, get-insert, sa
 use Rattle.std.proofs.lemmas.Map.Text.{btree_map_updates_text}
 use Rattle.qed_io.specs.Files.{files_of}
 
-found : {A : Type 0} (es : List (String A × List ℕ)) (q : List ℕ) → find (slice_cmp nat_cmp) q (map (λ e. (string_bytes e.0, e.1)) es) ≡ lookup (is_at (λ k. slice_cmp nat_cmp q (string_bytes k))) es
+found :
+    {A : Type 0} (es : List (String A × List ℕ)) (q : List ℕ)
+    → find (slice_cmp nat_cmp) q (map (λ e. (string_bytes e.0, e.1)) es) ≡ lookup (is_at (λ k. slice_cmp nat_cmp q (string_bytes k))) es
 found [] q = refl
 found (e ∷ es) q = ap (cond (is_at (λ k. slice_cmp nat_cmp q (string_bytes k)) e.0) (Some e.1)) (found es q)
 
@@ -19,7 +21,10 @@ pub get-files_of : {A : Type 0} (m : BTreeMap (String A) (List ℕ)) (q : List �
 get-files_of m q = get-from_entries nat_list_cmp_total _ q ∙ found m.entries q
 
 -- a change at one name is an insertion
-pub files_of-insert : {A : Type 0} (m n : BTreeMap (String A) (List ℕ)) (name bytes : List ℕ) → UpdatesBy string_cmp (λ k. slice_cmp nat_cmp name (string_bytes k)) m n (Some bytes) → files_of n.entries ≡ insert (files_of m.entries) name bytes
+pub files_of-insert :
+    {A : Type 0} (m n : BTreeMap (String A) (List ℕ)) (name bytes : List ℕ)
+    → UpdatesBy string_cmp (λ k. slice_cmp nat_cmp name (string_bytes k)) m n (Some bytes)
+    → files_of n.entries ≡ insert (files_of m.entries) name bytes
 files_of-insert m n name bytes h = same_map nat_list_cmp_total (slice_cmp-IsAntisymmetric nat_cmp-IsAntisymmetric) _ _ (λ q.
     get-files_of n q
     ∙ btree_map_updates_text name m n (Some bytes) h q

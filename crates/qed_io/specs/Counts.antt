@@ -1,5 +1,5 @@
 -- Counts of faults.
-use Rattle.std.specs.Prelude.{ℕ, ◌+◌, ◌-◌, ◌^◌, ◌≤◌, min, List}
+use Rattle.std.specs.Prelude.{◌≡◌, ℕ, ◌+◌, ◌-◌, ◌^◌, ◌≤◌, min, List}
 
 -- one more, up to the last value of a counter
 abbrev pub counted : ℕ → ℕ
@@ -13,6 +13,15 @@ Rose before now = counted before ≤ now
 abbrev pub NoneFell : (List ℕ → ℕ) → (List ℕ → ℕ) → Type 0
 NoneFell before now = (name : List ℕ) → before name ≤ now name
 
+-- each name's count stays as it was
+abbrev pub NoneChanged : (List ℕ → ℕ) → (List ℕ → ℕ) → Type 0
+NoneChanged before now = (name : List ℕ) → now name ≡ before name
+
 -- the count of a name rose
 abbrev pub RoseAt : (List ℕ → ℕ) → (List ℕ → ℕ) → List ℕ → Type 0
 RoseAt before now name = Rose (before name) (now name)
+
+-- what a call does to the counts of one kind: none falls, and all stay as they were where it did not fail
+pub record CountsFaults (Failed : Type 0) (before now : List ℕ → ℕ) : Type 0 where
+  pub none_fell : NoneFell before now
+  pub steady : (Failed → ⊥) → NoneChanged before now

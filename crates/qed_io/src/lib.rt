@@ -10,6 +10,7 @@ mod shelf;
 mod sink;
 mod std_sink;
 mod stored_files;
+mod streams;
 #[cfg(test)]
 mod tests;
 
@@ -19,4 +20,4 @@ pub use memory_sink::MemorySink;
 pub use never::{NeverShelf, NeverSink};
 pub use shelf::{LoadError, Shelf, StoreError};
 pub use sink::{Sink, WriteError, put_all};
-pub use std_sink::StdSink;
+pub use std_sink::{StdSink, WriterSink};

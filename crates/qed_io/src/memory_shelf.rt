@@ -1,8 +1,8 @@
-// A shelf in memory whose calls fail where they are told to.
-ghost use Rattle.std.specs.Prelude.{◌≡◌, ◌≢◌, ◌↔◌, ◌⊎◌, List, ℕ, [], ◌∷◌, ◌++◌, Some, None, IsSome, IsSomeAnd, IsErr, OnOk, OnErr, IsErrOf, find, take, ◌==◌};
+//! A shelf in memory whose calls fail where they are told to.
+ghost use Rattle.std.specs.Prelude.{◌≡◌, ◌≢◌, ◌↔◌, ◌⊎◌, List, ℕ, [], ◌∷◌, ◌++◌, Some, None, IsSome, IsSomeAnd, IfSome, IsErr, OnOk, OnErr, IsErrOf, find, take, ◌==◌};
 ghost use Rattle.std.specs.Option.{option_map};
 ghost use Rattle.std.specs.FinMap as map;
-ghost use Rattle.qed_io.specs.Counts.{NoneFell, counted};
+ghost use Rattle.qed_io.specs.Counts.{CountsFaults, counted};
 ghost use Rattle.qed_io.specs.Shelf.{Loads, Stores};
 ghost use Rattle.qed_io.specs.Memory.{planned, files_left};
 
@@ -113,7 +113,7 @@ impl Shelf for MemoryShelf {
     fn load(&mut self, alloc: Global, name: &str, limit: u64) -> Result<Bytes, LoadError>
         ensures loads { Loads (Some self.old.files) (λ _. self.old.faults) (λ _. self.new.faults) name.now limit result }
         ensures files { Some self.new.files ≡ Some self.old.files }
-        ensures stores { NoneFell (λ _. self.old.faults) (λ _. self.new.faults) }
+        ensures stores { CountsFaults (IsErrOf result LoadError.Failed) (λ _. self.old.faults) (λ _. self.new.faults) }
 
         // It fails exactly where the call was planned to, or there is no such file.
         ensures fails { IsErrOf result LoadError.Failed ↔ (IsSome (planned self.old.failing self.old.calls) ⊎ (map.get self.old.files name.now ≡ None)) }
@@ -145,11 +145,13 @@ impl Shelf for MemoryShelf {
 
     fn store(&mut self, name: &str, bytes: &[u8]) -> Result<(), StoreError>
         ensures stores { Stores (Some self.old.files) (Some self.new.files) (λ _. self.old.faults) (λ _. self.new.faults) name.now bytes.now result }
-        ensures loads { NoneFell (λ _. self.old.faults) (λ _. self.new.faults) }
+        ensures loads { CountsFaults (IsErrOf result StoreError.Failed) (λ _. self.old.faults) (λ _. self.new.faults) }
 
-        // It fails only where the call was planned to, and leaves what the plan says. Such a call is never Ok.
+        // It fails only where the call was planned to, and leaves what the plan says. Such a call is never Ok, and where
+        // the plan keeps nothing it takes no memory.
         ensures fails { IsErrOf result StoreError.Failed → IsSomeAnd (planned self.old.failing self.old.calls) (λ plan. self.new.files ≡ files_left plan.keep self.old.files name.now bytes.now) }
         ensures planned { IsSome (planned self.old.failing self.old.calls) → IsErr result }
+        ensures kept_nothing { IfSome (planned self.old.failing self.old.calls) (λ plan. plan.keep ≡ None → result ≡ Err StoreError.Failed) }
         ensures counted { IsErrOf result StoreError.Failed → self.new.faults ≡ counted self.old.faults }
         ensures uncounted { result ≢ Err StoreError.Failed → self.new.faults ≡ self.old.faults }
 

@@ -1,4 +1,4 @@
-// A sink in memory whose calls fail where they are told to.
+//! A sink in memory whose calls fail where they are told to.
 ghost use Rattle.std.specs.Prelude.{◌≡◌, ◌≢◌, ◌↔◌, ℕ, [], ◌∷◌, ◌++◌, Some, OnOk, OnErr, IfOk, IsErrOf, length, Contains};
 ghost use Rattle.qed_io.specs.Counts.{counted};
 ghost use Rattle.qed_io.specs.Sink.{Writes};
@@ -61,8 +61,10 @@ impl Sink for MemorySink {
 
     ghost faults = { λ s. s.faults };
 
+    ghost calls = { λ s. s.calls };
+
     fn write(&mut self, piece: &[u8]) -> Result<usize, WriteError>
-        ensures writes { Writes (Some self.old.bytes) (Some self.new.bytes) self.old.faults self.new.faults piece.now result }
+        ensures writes { Writes (Some self.old.bytes) (Some self.new.bytes) self.old.faults self.new.faults self.old.calls self.new.calls piece.now result }
 
         // It fails exactly where the call was planned to, and else takes the whole piece.
         ensures fails { IsErrOf result WriteError.Failed ↔ Contains self.old.failing self.old.calls }

@@ -1,8 +1,9 @@
-// A shelf and a sink in memory that never fail.
-ghost use Rattle.std.specs.Prelude.{◌≡◌, [], Some, OnOk, OnErr};
+//! A shelf and a sink in memory that never fail.
+ghost use Rattle.std.specs.Prelude.{◌≡◌, [], Some, IfOk, OnOk, OnErr, length};
 ghost use Rattle.std.specs.Option.{option_map};
 ghost use Rattle.std.specs.FinMap as map;
 ghost use Rattle.qed_io.specs.Files.{Files};
+ghost use Rattle.qed_io.specs.Sink.{Writes};
 
 use crate::stored_files::StoredFiles;
 use crate::{LoadError, Shelf, Sink, StoreError, WriteError};
@@ -117,7 +118,12 @@ impl Sink for NeverSink {
 
     ghost faults = { λ _. 0 };
 
-    fn write(&mut self, piece: &[u8]) -> Result<usize, WriteError> {
+    ghost calls = { λ _. 0 };
+
+    fn write(&mut self, piece: &[u8]) -> Result<usize, WriteError>
+        ensures writes { Writes (Some self.old) (Some self.new) 0 0 0 0 piece.now result }
+        ensures whole { IfOk result (λ n. n ≡ length piece.now) }
+    {
         self.taken.extend_from_slice(piece)?;
         Ok(piece.len())
     }

@@ -1,9 +1,9 @@
-// A shelf keeps files by their names.
-ghost use Rattle.std.specs.Prelude.{◌≡◌, List, ℕ, Option};
+//! A shelf keeps files by their names.
+ghost use Rattle.std.specs.Prelude.{◌≡◌, List, ℕ, Option, IsErrOf};
 ghost use Rattle.qed_io.specs.declared.shelf.LoadError.TheVariants as load;
 ghost use Rattle.qed_io.specs.declared.shelf.StoreError.TheVariants as store;
 ghost use Rattle.qed_io.specs.Files.{Files};
-ghost use Rattle.qed_io.specs.Counts.{NoneFell};
+ghost use Rattle.qed_io.specs.Counts.{CountsFaults};
 ghost use Rattle.qed_io.specs.Shelf.{Loads, Stores};
 
 use elf_types::Bytes;
@@ -53,9 +53,10 @@ impl From<AllocError> for StoreError {
 
 /// Files by their names. A name is any text, and a file is a list of bytes.
 ///
-/// Counts of faults say when a call may fail. They never fall, and a call that answers `Failed` raises its own
-/// name's count for that kind of call, unless the count stands at 2^64 - 1 already. So a fault at one name is
-/// no reason to fail at another.
+/// Counts of faults say when a call may fail. They never fall, a call that answers `Failed` raises its own name's
+/// count for that kind of call, unless the count stands at 2^64 - 1 already, and a call that does not answer `Failed`
+/// leaves all of them as they were. So a fault at one name is no reason to fail at another, and want of memory is no
+/// name for a fault.
 pub trait Shelf {
     /// The files, where the shelf tells them. One that tells them once tells them after each call.
     ghost files: { Self → Option Files };
@@ -74,7 +75,7 @@ pub trait Shelf {
     fn load(&mut self, alloc: Global, name: &str, limit: u64) -> Result<Bytes, LoadError>
         ensures loads { Loads (files self.old) (load_faults self.old) (load_faults self.new) name.now limit result }
         ensures files { files self.new ≡ files self.old }
-        ensures stores { NoneFell (store_faults self.old) (store_faults self.new) };
+        ensures stores { CountsFaults (IsErrOf result LoadError.Failed) (store_faults self.old) (store_faults self.new) };
 
     /// Sets the file to the bytes, or makes it. No other file changes.
     ///
@@ -82,5 +83,5 @@ pub trait Shelf {
     /// before, or has a prefix of the new bytes. `Memory`, and then no file has changed.
     fn store(&mut self, name: &str, bytes: &[u8]) -> Result<(), StoreError>
         ensures stores { Stores (files self.old) (files self.new) (store_faults self.old) (store_faults self.new) name.now bytes.now result }
-        ensures loads { NoneFell (load_faults self.old) (load_faults self.new) };
+        ensures loads { CountsFaults (IsErrOf result StoreError.Failed) (load_faults self.old) (load_faults self.new) };
 }

@@ -1,55 +1,58 @@
-// Standard output.
-ghost use Rattle.std.specs.Prelude.{◌≡◌, ◌≢◌, ◌<◌, ℕ, None, IfOk, OnErr, length};
+//! Standard output, and any other writer of std as a sink.
+ghost use Rattle.std.specs.Prelude.{◌≡◌, ◌≢◌, IsErrOf};
 ghost use Rattle.qed_io.specs.Counts.{counted};
 ghost use Rattle.qed_io.specs.Sink.{Writes};
 
+use crate::streams::write_once;
 use crate::{Sink, WriteError};
 use std::io;
-use std::io::Write;
-use std::marker::Model;
+use std::io::{Printer, Write};
 
-/// Standard output.
+/// The bytes of a writer of std, which contracts see where the writer tells them.
 ///
-/// Contracts see it as its count of faults. They are told nothing of what was written: that the bytes of a write come
-/// out is trusted.
+/// Its count of faults goes up exactly where a write fails, or takes nothing of a piece that is not empty.
 #[derive(Drop)]
-pub struct StdSink<R: Print + Drop> {
-    output: R,
-    faults: u64,
+pub struct WriterSink<W: Write + Drop> {
+    pub writer: W,
+    pub faults: u64,
 }
 
-impl<R: Print + Drop> Model for StdSink<R> {
-    ghost use Rattle.std.specs.Prelude.{ℕ};
+/// Standard output. Contracts are told nothing of what was written: that the bytes of a write come out is trusted.
+pub type StdSink<'a, P> = WriterSink<Printer<'a, P>>;
 
-    ghost Value = { ℕ };
-
-    ghost view = { λ s. s.faults };
-}
-
-impl<R: Print + Drop> StdSink<R> {
+impl<'a, P: Print> WriterSink<Printer<'a, P>> {
     /// A sink with no faults over what the program is given for output.
-    pub fn new(output: R) -> Self
-        ensures { result ≡ 0 }
+    pub fn new(output: &'a P) -> Self
+        ensures { result.faults ≡ 0 }
     {
-        StdSink { output, faults: 0 }
+        WriterSink::over(io::writer(output))
     }
 }
 
-impl<R: Print + Drop> Sink for StdSink<R> {
-    ghost written = { λ _. None };
+impl<W: Write + Drop> WriterSink<W> {
+    /// A sink with no faults over a writer.
+    pub fn over(writer: W) -> Self
+        ensures writer { result.writer ≡ writer }
+        ensures faults { result.faults ≡ 0 }
+    {
+        WriterSink { writer, faults: 0 }
+    }
+}
 
-    ghost faults = { λ s. s };
+impl<W: Write + Drop> Sink for WriterSink<W> {
+    ghost written = { λ s. W.contents s.writer };
+
+    ghost faults = { λ s. s.faults };
+
+    ghost calls = { λ _. 0 };
 
     fn write(&mut self, piece: &[u8]) -> Result<usize, WriteError>
-        ensures writes { Writes None None self.old self.new piece.now result }
-
-        // An error is a fault, and so is nothing taken of a piece that is not empty.
-        ensures err { OnErr result (self.new ≡ counted self.old) }
-        ensures stuck { IfOk result (λ n. n ≡ 0 → 0 < length piece.now → self.new ≡ counted self.old) }
-        ensures took { IfOk result (λ n. 0 < n → self.new ≡ self.old) }
-        ensures empty { IfOk result (λ n. length piece.now ≡ 0 → self.new ≡ self.old) }
+        ensures writes { Writes (W.contents self.old.writer) (W.contents self.new.writer) self.old.faults self.new.faults 0 0 piece.now result }
+        // An error is a fault, and the only one.
+        ensures failed { IsErrOf result WriteError.Failed → self.new.faults ≡ counted self.old.faults }
+        ensures memory { result ≢ Err WriteError.Memory }
     {
-        match io::writer(&self.output).write(piece) {
+        match write_once(&mut self.writer, piece) {
             Ok(taken) => {
                 if taken == 0 && !piece.is_empty() {
                     self.faults = self.faults.saturating_add(1);

@@ -1,12 +1,14 @@
-// What each call answers with ample memory, and what the proofs are told nothing of.
+//! What each call answers with ample memory, and what the proofs are told nothing of.
 ghost use Rattle.std.specs.Prelude.{Some};
 
+use crate::streams::{load_opened, store_opened};
 use crate::{
     DirShelf, LoadError, MemoryShelf, MemorySink, NeverShelf, NeverSink, Shelf, Sink, StdSink,
-    StoreError, WriteError, put_all,
+    StoreError, WriteError, WriterSink, put_all,
 };
-use std::fs;
+use std::io::{Error, ErrorKind, Read, Write};
 use std::test::Fail;
+use std::{fs, io};
 
 #[test]
 fn memory_shelf_stores_as_planned(rt: HostRuntime) -> Result<(), Fail> {
@@ -88,6 +90,8 @@ impl Sink for OneByOne {
 
     ghost faults = { λ _. 0 };
 
+    ghost calls = { λ _. 0 };
+
     fn write(&mut self, piece: &[u8]) -> Result<usize, WriteError> {
         if piece.is_empty() {
             return Ok(0);
@@ -105,6 +109,91 @@ fn puts_all_byte_by_byte(rt: HostRuntime) -> Result<(), Fail> {
     put_all(&mut sink, b"one at a time")?;
     put_all(&mut sink, b"")?;
     assert_eq!(rt; sink.taken.as_slice(), b"one at a time".as_slice());
+    Ok(())
+}
+
+// A reader that is broken.
+#[derive(Drop)]
+struct Broken {
+    kind: ErrorKind,
+}
+
+impl Read for Broken {
+    fn read(&mut self, _buf: &mut [u8]) -> io::Result<usize> {
+        Err(Error::from(self.kind))
+    }
+}
+
+#[test]
+fn opened_files_load_whole_or_not_at_all(rt: HostRuntime) -> Result<(), Fail> {
+    let alloc = rt.alloc();
+    let held = b"five!".as_slice();
+    let mut faults = 0;
+    for limit in [5, 6, u64::MAX] {
+        let loaded = load_opened(Ok(held), alloc, limit, &mut faults)?;
+        assert_eq!(rt; loaded.as_slice(), held, "limit {limit}");
+    }
+    let long = load_opened(Ok(held), alloc, 4, &mut faults);
+    assert_eq!(rt; long.err(), Some(LoadError::TooLong));
+    assert_eq!(rt; faults, 0);
+    let cases = [
+        (ErrorKind::OutOfMemory, LoadError::Memory, 0),
+        (ErrorKind::Other, LoadError::Failed, 1),
+    ];
+    for (kind, answer, count) in cases {
+        let opened = Ok(held.chain(Broken { kind }));
+        let loaded = load_opened(opened, alloc, 9, &mut faults);
+        assert_eq!(rt; loaded.err(), Some(answer), "{kind:?}");
+        assert_eq!(rt; faults, count, "{kind:?}");
+    }
+    Ok(())
+}
+
+// A writer that takes at most two bytes at once, says once that a signal came, and has room for so many bytes.
+#[derive(Drop)]
+struct Narrow {
+    taken: Vec<u8>,
+    room: usize,
+    signals: bool,
+}
+
+impl Write for Narrow {
+    fn write(&mut self, buf: &[u8]) -> io::Result<usize> {
+        if self.signals {
+            self.signals = false;
+            return Err(Error::from(ErrorKind::Interrupted));
+        }
+        let count = buf.len().min(2);
+        if self.taken.len() >= self.room {
+            return Err(Error::from(ErrorKind::StorageFull));
+        }
+        self.taken.extend_from_slice(&buf[..count])?;
+        Ok(count)
+    }
+
+    fn flush(&mut self) -> io::Result<()> {
+        Ok(())
+    }
+}
+
+#[test]
+fn opened_files_are_stored_to_their_end(rt: HostRuntime) -> Result<(), Fail> {
+    for (room, answer, left, count) in [
+        (9, Ok(()), b"whole".as_slice(), 0),
+        (4, Err(StoreError::Failed), b"whol".as_slice(), 1),
+        (0, Err(StoreError::Failed), b"".as_slice(), 1),
+    ] {
+        let mut opened = Ok(Narrow {
+            taken: Vec::new(rt.alloc()),
+            room,
+            signals: true,
+        });
+        let mut faults = 0;
+        let stored = store_opened(&mut opened, b"whole", &mut faults);
+        assert_eq!(rt; stored, answer, "room {room}");
+        assert_eq!(rt; opened?.taken.as_slice(), left, "room {room}");
+        assert_eq!(rt; faults, count, "room {room}");
+    }
     Ok(())
 }
 
@@ -126,10 +215,19 @@ fn dir_shelf_keeps_files(rt: HostRuntime) -> Result<(), Fail> {
     assert_eq!(rt; shelf.load(alloc, name, 4).err(), Some(LoadError::TooLong));
     fs::remove_file(&rt, name)?;
     assert_eq!(rt; shelf.load(alloc, name, 5).err(), Some(LoadError::Failed));
-    assert_eq!(rt;
-        shelf.store("no such folder/a", b""),
-        Err(StoreError::Failed)
-    );
+    Ok(())
+}
+
+#[test]
+fn dir_shelf_tells_bytes_that_are_not_stored(rt: HostRuntime) -> Result<(), Fail> {
+    let mut shelf = DirShelf::new(rt.alloc(), &rt);
+    let absent = shelf.store("no such folder/a", b"bytes");
+    assert_eq!(rt; absent, Err(StoreError::Failed));
+    // Linux's file that has never room.
+    let full = "/dev/full";
+    if fs::exists(&rt, full)? {
+        assert_eq!(rt; shelf.store(full, b"bytes"), Err(StoreError::Failed));
+    }
     Ok(())
 }
 
@@ -138,5 +236,18 @@ fn std_sink_prints(rt: HostRuntime) -> Result<(), Fail> {
     let mut sink = StdSink::new(&rt);
     put_all(&mut sink, b"printed\n")?;
     assert_eq!(rt; sink.write(b""), Ok(0));
+
+    let mut sink = WriterSink::over(Vec::new(rt.alloc()));
+    put_all(&mut sink, b"kept")?;
+    assert_eq!(rt; sink.writer.as_slice(), b"kept".as_slice());
+
+    let mut sink = WriterSink::over(Narrow {
+        taken: Vec::new(rt.alloc()),
+        room: 4,
+        signals: true,
+    });
+    assert_eq!(rt; put_all(&mut sink, b"whole"), Err(WriteError::Failed));
+    assert_eq!(rt; sink.writer.taken.as_slice(), b"whol".as_slice());
+    assert_eq!(rt; sink.faults, 1);
     Ok(())
 }

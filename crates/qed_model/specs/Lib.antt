@@ -1,5 +1,6 @@
 pub mod Numbers
 pub mod Below
+pub mod Limits
 pub mod Machine
 pub mod Elf
 pub mod Weave

@@ -1,6 +1,5 @@
 -- What is promised of the runs of an output.
 pub mod Kept
-pub mod Halves
 pub mod Landed
 pub mod Closed
 pub mod Changed

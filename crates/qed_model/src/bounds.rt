@@ -1,4 +1,4 @@
-// The bounds of an output, and what they depend on.
+//! The bounds of an output, and what they depend on.
 
 /// What the bounds depend on.
 #[derive(Clone, Copy, Debug, PartialEq, Eq)]

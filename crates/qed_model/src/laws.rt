@@ -1,5 +1,6 @@
-// What the definitions say of each other.
+//! What the definitions say of each other.
 ghost use Rattle.qed_model.specs.Admission.Refusals.{AdmissionHasOneAnswer};
+ghost use Rattle.qed_model.specs.Machine.Operands.{OperandsGoByFormat};
 ghost use Rattle.qed_model.specs.Weave.Woven.{InputHasOneOutput};
 
 /// A file that was read is admitted exactly where no rule holds, and is refused by one rule, at one place.
@@ -10,4 +11,9 @@ pub fn admission_has_one_answer()
 /// With the same options the same bytes have one output.
 pub fn input_has_one_output()
     ensures { InputHasOneOutput }
+{}
+
+/// Which registers an instruction reads and writes is what its format says, but for x0 and for FENCE, which name none.
+pub fn operands_go_by_format()
+    ensures { OperandsGoByFormat }
 {}

@@ -1,4 +1,4 @@
-// Ranges of addresses.
+//! Ranges of addresses.
 
 use elf_types::Listed;
 

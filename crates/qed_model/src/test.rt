@@ -1,4 +1,4 @@
-// A test that was admitted.
+//! A test that was admitted.
 
 use crate::Ranges;
 use elf_types::{Listed, Segments};

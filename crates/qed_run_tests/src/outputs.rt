@@ -1,10 +1,10 @@
 //! Runs of outputs, with the ends that an independent program gave them.
 
-use crate::command::run;
 use crate::expected::text;
 use qed_io::{MemoryShelf, MemorySink};
 use sample_files::first_file;
 use std::test::Fail;
+use test_calls::run;
 
 /// An input, by its code at 0x10000, and the end of its output's run.
 #[derive(Clone, Copy, Debug)]

@@ -1,10 +1,10 @@
 //! Files that are not run, and faults.
 
-use crate::command::run;
 use qed_io::{MemoryShelf, MemorySink};
 use sample_files::{CODE_OFFSET, ECALL, ENTRY, Elf, LOAD, Part, READ_EXECUTE, first_file};
 use std::alloc::Global;
 use std::test::Fail;
+use test_calls::run;
 
 /// How a file with an ECALL is changed.
 #[derive(Clone, Copy, Debug)]

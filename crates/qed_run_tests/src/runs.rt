@@ -1,12 +1,12 @@
 //! Runs of files, with the ends that an independent program gave them.
 
-use crate::command::run;
 use crate::expected::text;
 use qed_io::{MemoryShelf, MemorySink};
 use sample_files::{
     CODE_OFFSET, ECALL, ENTRY, Elf, LOAD, Part, READ, READ_EXECUTE, READ_WRITE, first_file,
 };
 use std::test::Fail;
+use test_calls::run;
 
 /// A file, by its code at 0x10000, and the end of its run.
 #[derive(Clone, Copy, Debug)]

@@ -1,9 +1,9 @@
 //! Devices that fail.
 
-use crate::command::run;
 use crate::transformations::TWO_SUMS;
 use qed_io::{MemoryShelf, MemorySink};
 use std::test::Fail;
+use test_calls::run;
 
 /// One call that fails where all else is good, how the program then ends, and what is left.
 #[derive(Clone, Copy, Debug)]

@@ -2,7 +2,7 @@
 #![tactic(auto)]
 
 #[cfg(test)]
-mod command;
+mod arguments;
 #[cfg(test)]
 mod faults;
 #[cfg(test)]

@@ -1,9 +1,9 @@
 //! The greatest size of an input.
 
-use crate::command::run;
 use qed_io::{MemoryShelf, MemorySink};
 use std::alloc::{AllocError, Global};
 use std::test::Fail;
+use test_calls::run;
 
 /// Zeros, one byte more than an input may have.
 fn too_many(alloc: Global) -> Result<Vec<u8>, AllocError> {

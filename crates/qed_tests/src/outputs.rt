@@ -1,9 +1,9 @@
 //! Inputs that are transformed: each byte of what is stored and printed.
 
-use crate::command::run;
 use crate::transformations::{TRANSFORMATIONS, TWO_SUMS, linked};
 use qed_io::{MemoryShelf, MemorySink};
 use std::test::Fail;
+use test_calls::run;
 
 #[test]
 fn each_input_has_its_output(rt: HostRuntime) -> Result<(), Fail> {

@@ -1,11 +1,11 @@
 //! Files that are refused, each a good file but for one thing.
 
-use crate::command::run;
 use qed_io::{MemoryShelf, MemorySink};
 use sample_files::{CODE_OFFSET, ECALL, ENTRY, Elf, LOAD, Part, READ, READ_EXECUTE, first_file};
 use std::alloc::{Alloc, Global};
 use std::process::Abort;
 use std::test::Fail;
+use test_calls::run;
 
 /// What is printed about a file that is not taken yet.
 const NOT_BUILT: &str = "refused E0: not built yet\n";

@@ -1,9 +1,9 @@
 //! Words that are those of no command.
 
-use crate::command::run;
 use crate::transformations::TWO_SUMS;
 use qed_io::{MemoryShelf, MemorySink};
 use std::test::Fail;
+use test_calls::run;
 
 const LINES: [&[&str]; 10] = [
     &[],

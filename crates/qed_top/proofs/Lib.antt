@@ -1,3 +1,5 @@
 pub mod Outputs
 pub mod Meanings
+pub mod Headlines
 pub mod Endings
+pub mod Exits

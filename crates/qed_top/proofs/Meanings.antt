@@ -12,7 +12,7 @@ use Rattle.elf_types.specs.declared.error.ElfError.TheVariants as error
 use Rattle.qed_model.specs.declared.plan.Plan.{Plan}
 use Rattle.transform.specs.declared.error.TransformError.{TransformError}
 use Rattle.transform.specs.declared.error.TransformError.TheVariants as transform
-use Rattle.qed_model.specs.Elf.File.{File}
+use Rattle.qed_model.specs.Elf.File.{IsReadAs}
 use Rattle.qed_model.specs.Elf.Refusals.{IsRefused}
 use Rattle.qed_model.specs.Text.Plan.{read_fault_line, usage_line}
 use Rattle.qed_model.specs.Text.Errors.{error_line}
@@ -23,7 +23,7 @@ use Rattle.qed_model.specs.Machine.Progress.{Progress, progress, begun}
 use Rattle.qed_model.specs.declared.machine.Outcome.{Outcome}
 use Rattle.qed_top.specs.Words.{Asked, asked}
 use Rattle.transform.specs.Transform as Made
-use Rattle.qed_top.specs.Answer.{PrintsOnly, Delivers, Transforms, refused, done, refusal_status, refusal_line, Runs, unread, too_large, ran, Means, read_fault, too_long, within, CommandMeans, IsMeant, error_status, memory_bytes, memory_limit, default_steps, outcome_status, run_of}
+use Rattle.qed_top.specs.Answer.{PrintsOnly, Delivers, Transforms, refused, done, refusal_status, refusal_line, Runs, unread, too_large, ran, CallsFor, read_fault, too_long, within, CommandCallsFor, WordsCallFor, error_status, memory_bytes, memory_limit, default_steps, outcome_status, run_of}
 use Rattle.qed_top.specs.Run.{FileRuns}
 use Rattle.qed_top.specs.Run as run
 use Rattle.qed_top.specs.Ends.{OverFiles}
@@ -54,19 +54,19 @@ file_bytes-insert files name bytes =
 -- what a command with a limit means over the bytes under a name; W says what it answers over bytes within the limit
 module _ (told : Option Files) (name : List ℕ) (limit : ℕ) (line : List ℕ) (rose : Type 0) (W : List ℕ → Type 0) (answer : Answer) where
   abbrev pub OverCommand : Type 0
-  OverCommand = OverFiles told (λ f. Means limit line (file_bytes f name) rose (W (file_bytes f name)) answer)
+  OverCommand = OverFiles told (λ f. CallsFor limit line (file_bytes f name) rose (W (file_bytes f name)) answer)
 
   -- the bytes were loaded
   pub over_bytes : (bytes : List ℕ) → IfSome told (λ f. bytes ≡ file_bytes f name) → length bytes ≤ limit → W bytes → OverCommand
   over_bytes bytes loaded small meant =
       let same = file_bytes-insert empty name bytes in
-      over_map told (λ f. bytes ≡ file_bytes f name) (λ f. Means limit line (file_bytes f name) rose (W (file_bytes f name)) answer)
-      (λ f e. subst (λ (b : List ℕ). Means limit line b rose (W b) answer) e (within small meant))
+      over_map told (λ f. bytes ≡ file_bytes f name) (λ f. CallsFor limit line (file_bytes f name) rose (W (file_bytes f name)) answer)
+      (λ f e. subst (λ (b : List ℕ). CallsFor limit line b rose (W b) answer) e (within small meant))
       (told_or told (λ f. bytes ≡ file_bytes f name) (insert empty name bytes) (sym same) loaded)
 
   -- the load failed
   pub over_fault : rose → PrintsOnly ReadFault read_fault_line answer → OverCommand
-  over_fault cause plain = always told (λ f. Means limit line (file_bytes f name) rose (W (file_bytes f name)) answer) (λ f. read_fault (record { cause = cause; plain = plain }))
+  over_fault cause plain = always told (λ f. CallsFor limit line (file_bytes f name) rose (W (file_bytes f name)) answer) (λ f. read_fault (record { cause = cause; plain = plain }))
 
   -- the file is too long
   long_file : limit < length (file_bytes (insert empty name (replicate (limit + 1) 0)) name)
@@ -74,33 +74,44 @@ module _ (told : Option Files) (name : List ℕ) (limit : ℕ) (line : List ℕ)
 
   pub over_limit : IfSome told (λ f. limit < length (file_bytes f name)) → PrintsOnly Limit line answer → OverCommand
   over_limit cause plain =
-      over_map told (λ f. limit < length (file_bytes f name)) (λ f. Means limit line (file_bytes f name) rose (W (file_bytes f name)) answer)
+      over_map told (λ f. limit < length (file_bytes f name)) (λ f. CallsFor limit line (file_bytes f name) rose (W (file_bytes f name)) answer)
       (λ f long. too_long (record { cause = long; plain = plain }))
       (told_or told (λ f. limit < length (file_bytes f name)) (insert empty name (replicate (limit + 1) 0)) long_file cause)
 
 -- the words are those of a command, or of none
-pub over_command : (told : Option Files) (words : List (List ℕ)) (command : Asked) (rose : List ℕ → Type 0) (answer : Answer) → asked words ≡ Some command → OverFiles told (λ f. CommandMeans command f rose answer) → OverFiles told (λ f. IsMeant words f rose answer)
+pub over_command :
+    (told : Option Files) (words : List (List ℕ)) (command : Asked) (rose : List ℕ → Type 0) (answer : Answer) → asked words ≡ Some command
+    → OverFiles told (λ f. CommandCallsFor command f rose answer) → OverFiles told (λ f. WordsCallFor words f rose answer)
 over_command told words command rose answer e o =
-    over_map told (λ f. CommandMeans command f rose answer) (λ f. IsMeant words f rose answer)
-    (λ f m. subst (λ (o : Option Asked). MatchOption o (PrintsOnly Usage usage_line answer) (λ c. CommandMeans c f rose answer)) (sym e) m) o
+    over_map told (λ f. CommandCallsFor command f rose answer) (λ f. WordsCallFor words f rose answer)
+    (λ f m. subst (λ (o : Option Asked). MatchOption o (PrintsOnly Usage usage_line answer) (λ c. CommandCallsFor c f rose answer)) (sym e) m) o
 
-pub over_usage : (told : Option Files) (words : List (List ℕ)) (rose : List ℕ → Type 0) (answer : Answer) → asked words ≡ None → PrintsOnly Usage usage_line answer → OverFiles told (λ f. IsMeant words f rose answer)
-over_usage told words rose answer e plain = always told (λ f. IsMeant words f rose answer) (λ f. subst (λ (o : Option Asked). MatchOption o (PrintsOnly Usage usage_line answer) (λ c. CommandMeans c f rose answer)) (sym e) plain)
+pub over_usage :
+    (told : Option Files) (words : List (List ℕ)) (rose : List ℕ → Type 0) (answer : Answer) → asked words ≡ None → PrintsOnly Usage usage_line answer
+    → OverFiles told (λ f. WordsCallFor words f rose answer)
+over_usage told words rose answer e plain = always told (λ f. WordsCallFor words f rose answer) (λ f. subst (λ (o : Option Asked). MatchOption o (PrintsOnly Usage usage_line answer) (λ c. CommandCallsFor c f rose answer)) (sym e) plain)
 
 -- ---- `transform`
-pub is_done : (bytes output file : List ℕ) (plan : Plan) (answer : Answer) → Made.Transforms bytes file plan → Delivers file output plan answer → Transforms bytes output answer
+pub is_done :
+    (bytes output file : List ℕ) (plan : Plan) (answer : Answer) → Made.Transforms bytes file plan → Delivers file output plan answer
+    → Transforms bytes output answer
 is_done bytes output file plan answer made delivers = done (record { file = file; plan = plan; made = made; delivers = delivers })
 
-pub is_refused : (bytes output : List ℕ) (e : TransformError) (answer : Answer) → Made.HasCause bytes e → e ≢ transform.Memory → PrintsOnly (refusal_status e) (refusal_line e) answer → Transforms bytes output answer
+pub is_refused :
+    (bytes output : List ℕ) (e : TransformError) (answer : Answer) → Made.HasCause bytes e → e ≢ transform.Memory
+    → PrintsOnly (refusal_status e) (refusal_line e) answer → Transforms bytes output answer
 is_refused bytes output e answer cause known plain = refused (record { error = e; cause = cause; known = known; plain = plain })
 
 -- ---- `run`
-pub file_runs : (bytes : List ℕ) (f : ElfFile) (answer : Answer) → File bytes f → FileRuns f answer → Runs bytes answer
+pub file_runs : (bytes : List ℕ) (f : ElfFile) (answer : Answer) → IsReadAs bytes f → FileRuns f answer → Runs bytes answer
 file_runs bytes f answer read (run.too_large cause plain) = too_large (record { file = f; read = read; cause = cause; plain = plain })
 file_runs bytes f answer read (run.ran small plain) = ran (record { file = f; read = read; small = small; plain = plain })
 
 -- the machine of a file that is small enough was run
-pub was_run : (f : ElfFile) (size : ℕ) (machine ended : Progress) (o : Outcome) (text : List ℕ) (s : Status) (answer : Answer) → size ≡ memory_bytes f.segments → size ≤ memory_limit → machine ≡ begun (start (loaded_file f) zeros) → ended ≡ progress machine default_steps → o ≡ ended.state.outcome → text ≡ run_lines ended → s ≡ outcome_status o → PrintsOnly s text answer → FileRuns f answer
+pub was_run :
+    (f : ElfFile) (size : ℕ) (machine ended : Progress) (o : Outcome) (text : List ℕ) (s : Status) (answer : Answer) → size ≡ memory_bytes f.segments
+    → size ≤ memory_limit → machine ≡ begun (start (loaded_file f) zeros) → ended ≡ progress machine default_steps → o ≡ ended.state.outcome
+    → text ≡ run_lines ended → s ≡ outcome_status o → PrintsOnly s text answer → FileRuns f answer
 was_run f size machine ended o text s answer same small begins ends how lines status plain =
     let is : ended ≡ run_of f = ends ∙ ap (λ m. progress m default_steps) begins in
     run.ran (omega (arith, same, small)) (record {
@@ -110,6 +121,8 @@ was_run f size machine ended o text s answer same small begins ends how lines st
     })
 
 -- a file that is not read, but for want of memory
-pub is_unread : (bytes : List ℕ) (e : ElfError) (answer : Answer) (Other : Type 0) → IsRefused bytes e ⊎ ((e ≡ error.Memory) × Other) → (e ≡ error.Memory → ⊥) → PrintsOnly (error_status e) (error_line e) answer → Runs bytes answer
+pub is_unread :
+    (bytes : List ℕ) (e : ElfError) (answer : Answer) (Other : Type 0) → IsRefused bytes e ⊎ ((e ≡ error.Memory) × Other) → (e ≡ error.Memory → ⊥)
+    → PrintsOnly (error_status e) (error_line e) answer → Runs bytes answer
 is_unread bytes e answer Other (inl cause) some plain = unread (record { error = e; cause = cause; plain = plain })
 is_unread bytes e answer Other (inr want) some plain = absurd (some want.0)

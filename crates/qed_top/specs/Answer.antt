@@ -1,14 +1,16 @@
 -- What the words and the files call for.
-use Rattle.std.specs.Prelude.{◌≡◌, ◌≢◌, ◌<◌, ◌≤◌, ℕ, ◌+◌, cond, ◌==◌, List, [], ◌∷◌, length, Option, None, Some, MatchOption, IfSome, IsSomeAnd}
+use Rattle.std.specs.Prelude.{◌≡◌, ◌≢◌, ◌⊎◌, ◌<◌, ◌≤◌, ℕ, ◌+◌, cond, ◌==◌, List, [], ◌∷◌, length, Option, None, Some, MatchOption, IfSome, IsSomeAnd}
 use Rattle.std.specs.FinMap.{insert}
 use Rattle.qed_io.specs.Files.{Files, file_bytes, StoredInPart}
+use Rattle.qed_io.specs.Counts.{NoneChanged}
 use Rattle.elf_types.specs.declared.file.Segment.{Segment}
 use Rattle.elf_types.specs.declared.file.ElfFile.{ElfFile}
 use Rattle.elf_types.specs.declared.error.ElfError.{ElfError}
 use Rattle.elf_types.specs.declared.error.ElfError.TheVariants as error
+use Rattle.elf_types.specs.Abi.{is_load}
 use Rattle.qed_model.specs.declared.machine.Outcome.{Outcome}
 use Rattle.qed_model.specs.declared.machine.Outcome.TheVariants as outcome
-use Rattle.qed_model.specs.Elf.File.{File}
+use Rattle.qed_model.specs.Elf.File.{IsReadAs}
 use Rattle.qed_model.specs.Elf.Refusals as Refusals
 use Rattle.qed_model.specs.declared.plan.Plan.{Plan}
 use Rattle.qed_model.specs.Machine.Program.{start, zeros}
@@ -16,7 +18,9 @@ use Rattle.qed_model.specs.Machine.Progress.{Progress, progress, begun}
 use Rattle.qed_model.specs.Machine.Loading.{loaded_file}
 use Rattle.qed_model.specs.Text.Plan.{plan_line, usage_line, read_fault_line, load_limit, load_limit_line, run_load_limit, run_load_limit_line, not_built_line}
 use Rattle.qed_model.specs.Text.Run.{run_lines}
-use Rattle.qed_model.specs.Text.Errors.{error_line, memory_limit_line, high_register_line, segment_limit_line, size_limit_line}
+use Rattle.qed_model.specs.Limits.{limit_of}
+use Rattle.qed_model.specs.declared.limits.Limit.TheVariants as limit
+use Rattle.qed_model.specs.Text.Errors.{error_line, limit_line, high_register_line}
 use Rattle.transform.specs.declared.error.TransformError.{TransformError}
 use Rattle.transform.specs.declared.error.TransformError.TheVariants as transform
 use Rattle.transform.specs.declared.error.AdmitError.TheVariants as admit
@@ -72,8 +76,8 @@ refusal_line (transform.Elf e) = error_line e
 refusal_line transform.NotBuilt = not_built_line
 refusal_line (transform.Admit (admit.RegisterHalf at register)) = high_register_line at register
 refusal_line (transform.Admit admit.Memory) = []
-refusal_line (transform.TooManySegments n) = segment_limit_line n
-refusal_line (transform.FileTooLong n) = size_limit_line n
+refusal_line (transform.TooManySegments n) = limit_line limit.OutputSegments n
+refusal_line (transform.FileTooLong n) = limit_line limit.OutputBytes n
 refusal_line transform.Memory = []
 
 -- IN is not transformed: it is not read (E1 to E13, L5, L10), it is no straight test (E0), it names a register above x13 (A7), or
@@ -106,18 +110,18 @@ pub data Transforms (bytes output : List ℕ) (answer : Answer) : Type 0 where
 -- the memory sizes of the PT_LOAD segments together
 abbrev pub memory_bytes : List Segment → ℕ
 memory_bytes [] = 0
-memory_bytes (s ∷ segments) = cond (s.kind == 1) s.memory 0 + memory_bytes segments
+memory_bytes (s ∷ segments) = cond (is_load s.kind) s.memory 0 + memory_bytes segments
 
 -- how many of them can be run
 abbrev pub memory_limit : ℕ
-memory_limit = 268435456
+memory_limit = limit_of limit.MemoryBytes
 
 -- L6: the segments have too many bytes in memory
 pub record IsTooLarge (bytes : List ℕ) (answer : Answer) : Type 0 where
   pub file : ElfFile
-  pub read : File bytes file
+  pub read : IsReadAs bytes file
   pub cause : memory_limit < memory_bytes file.segments
-  pub plain : PrintsOnly Limit (memory_limit_line (memory_bytes file.segments)) answer
+  pub plain : PrintsOnly Limit (limit_line limit.MemoryBytes (memory_bytes file.segments)) answer
 
 -- how many steps `run` makes
 abbrev pub default_steps : ℕ
@@ -137,7 +141,7 @@ outcome_status outcome.Going = StepsSpent
 -- the file was run
 pub record HasRun (bytes : List ℕ) (answer : Answer) : Type 0 where
   pub file : ElfFile
-  pub read : File bytes file
+  pub read : IsReadAs bytes file
   pub small : memory_bytes file.segments ≤ memory_limit
   pub plain : PrintsOnly (outcome_status (run_of file).state.outcome) (run_lines (run_of file)) answer
 
@@ -150,19 +154,19 @@ pub data Runs (bytes : List ℕ) (answer : Answer) : Type 0 where
 -- ---- both
 -- what a command answers over the bytes of its file, of which it takes so many; `rose` says that the count of failed loads of the
 -- file rose
-pub data Means (limit : ℕ) (line bytes : List ℕ) (rose : Type 0) (Within : Type 0) (answer : Answer) : Type 0 where
-  read_fault : IsReadFault rose answer → Means limit line bytes rose Within answer
-  too_long : IsTooLong limit line bytes answer → Means limit line bytes rose Within answer
-  within : length bytes ≤ limit → Within → Means limit line bytes rose Within answer
+pub data CallsFor (limit : ℕ) (line bytes : List ℕ) (rose : Type 0) (Within : Type 0) (answer : Answer) : Type 0 where
+  read_fault : IsReadFault rose answer → CallsFor limit line bytes rose Within answer
+  too_long : IsTooLong limit line bytes answer → CallsFor limit line bytes rose Within answer
+  within : length bytes ≤ limit → Within → CallsFor limit line bytes rose Within answer
 
-abbrev pub CommandMeans : Asked → Files → (List ℕ → Type 0) → Answer → Type 0
-CommandMeans (Transform input output) files rose answer =
-    Means load_limit load_limit_line (file_bytes files input) (rose input) (Transforms (file_bytes files input) output answer) answer
-CommandMeans (Run file) files rose answer = Means run_load_limit run_load_limit_line (file_bytes files file) (rose file) (Runs (file_bytes files file) answer) answer
+abbrev pub CommandCallsFor : Asked → Files → (List ℕ → Type 0) → Answer → Type 0
+CommandCallsFor (Transform input output) files rose answer =
+    CallsFor load_limit load_limit_line (file_bytes files input) (rose input) (Transforms (file_bytes files input) output answer) answer
+CommandCallsFor (Run file) files rose answer = CallsFor run_load_limit run_load_limit_line (file_bytes files file) (rose file) (Runs (file_bytes files file) answer) answer
 
 -- what the words call for over these files; `rose` holds of a name whose count of failed loads rose
-abbrev pub IsMeant : List (List ℕ) → Files → (List ℕ → Type 0) → Answer → Type 0
-IsMeant words files rose answer = MatchOption (asked words) (PrintsOnly Usage usage_line answer) (λ command. CommandMeans command files rose answer)
+abbrev pub WordsCallFor : List (List ℕ) → Files → (List ℕ → Type 0) → Answer → Type 0
+WordsCallFor words files rose answer = MatchOption (asked words) (PrintsOnly Usage usage_line answer) (λ command. CommandCallsFor command files rose answer)
 
 -- ---- what an answer does to the files
 abbrev pub with_stored : Option Stored → Files → Files
@@ -182,3 +186,13 @@ FilesInPart (Some s) old new = IfSome old (λ files. IsSomeAnd new (StoredInPart
 abbrev pub StoreRose : Option Stored → (List ℕ → Type 0) → Type 0
 StoreRose None rose = ⊥
 StoreRose (Some s) rose = rose s.name.now
+
+-- ---- counts of faults
+-- no count of the shelf's faults changed
+pub record ShelfSteady (load_before load_now store_before store_now : List ℕ → ℕ) : Type 0 where
+  pub load : NoneChanged load_before load_now
+  pub store : NoneChanged store_before store_now
+
+-- no count of the shelf's faults changed, or the answer tells of a read fault
+abbrev pub SteadyOrReadFault : Type 0 → Answer → Type 0
+SteadyOrReadFault Steady answer = Steady ⊎ PrintsOnly ReadFault read_fault_line answer

@@ -2,6 +2,7 @@
 use Rattle.std.specs.Prelude.{◌≡◌, ◌≢◌, ◌⊎◌, ◌<◌, ◌≤◌, ℕ, List, length, Option, MatchOption, IfSome}
 use Rattle.std.specs.Io.KnownBytes.{Appends}
 use Rattle.qed_io.specs.Files.{Files, file_bytes}
+use Rattle.qed_io.specs.Counts.{Rose, RoseAt}
 use Rattle.qed_io.specs.Sink.{AppendsPart}
 use Rattle.elf_types.specs.declared.file.ElfFile.{ElfFile}
 use Rattle.elf_types.specs.declared.error.ElfError.{ElfError}
@@ -10,14 +11,14 @@ use Rattle.transform.specs.declared.error.TransformError.{TransformError}
 use Rattle.transform.specs.declared.error.TransformError.TheVariants as transform
 use Rattle.transform.specs.Transform.{HasCause, IsWithin}
 use Rattle.qed_model.specs.Weave.StraightWoven.{WovenFile}
-use Rattle.qed_model.specs.Elf.File.{File}
+use Rattle.qed_model.specs.Elf.File.{IsReadAs}
 use Rattle.qed_model.specs.Elf.Refusals.{IsRefused}
 use Rattle.qed_model.specs.Text.Plan.{load_limit, run_load_limit}
 use Rattle.qed_top.specs.Words.{Asked, Transform, Run, asked, read_name, stored_name}
-use Rattle.qed_top.specs.Answer.{IsMeant, FilesAfter, FilesInPart, StoreRose, error_status, refusal_status, memory_bytes, memory_limit, outcome_status, run_of}
+use Rattle.qed_top.specs.Answer.{WordsCallFor, FilesAfter, FilesInPart, StoreRose, ShelfSteady, error_status, refusal_status, memory_bytes, memory_limit, outcome_status, run_of}
 use Rattle.qed_top.specs.declared.answer.Answer.{Answer}
 use Rattle.qed_top.specs.declared.status.Status.{Status}
-use Rattle.qed_top.specs.declared.status.Status.TheVariants.{Done, Usage, Refused, Limit, WriteFault, Memory}
+use Rattle.qed_top.specs.declared.status.Status.TheVariants.{Done, Usage, Refused, Limit, ReadFault, WriteFault, Memory}
 
 -- of the files that are told; where nothing is told, of some files
 pub record OverFiles (told : Option Files) (Holds : Files → Type 0) : Type 0 where
@@ -25,51 +26,80 @@ pub record OverFiles (told : Option Files) (Holds : Files → Type 0) : Type 0 w
   pub same : IfSome told (λ f. f ≡ files)
   pub holds : Holds files
 
--- one call: its words, the files that the shelf tells at its start and at its end, the bytes that the sink tells, and which
--- counts of faults rose in it
-pub record Call : Type 1 where
+-- how often loads and stores of a name have failed, and writes
+pub record Faults : Type 0 where
+  pub load : List ℕ → ℕ
+  pub store : List ℕ → ℕ
+  pub sink : ℕ
+
+-- one call: its words, and at its start and at its end the files that the shelf tells, the bytes that the sink tells, and the counts
+-- of faults
+pub record Call : Type 0 where
   pub words : List (List ℕ)
   pub old : Option Files
   pub new : Option Files
   pub was : Option (List ℕ)
   pub now : Option (List ℕ)
-  pub load_rose : List ℕ → Type 0
-  pub store_rose : List ℕ → Type 0
-  pub sink_rose : Type 0
+  pub before : Faults
+  pub after : Faults
+
+-- the count of failed loads of a name rose in the call
+abbrev pub load_rose : Call → List ℕ → Type 0
+load_rose call = RoseAt call.before.load call.after.load
+
+-- the same of failed stores
+abbrev pub store_rose : Call → List ℕ → Type 0
+store_rose call = RoseAt call.before.store call.after.store
+
+-- the count of failed writes rose in the call
+abbrev pub sink_rose : Call → Type 0
+sink_rose call = Rose call.before.sink call.after.sink
+
+-- no count of the shelf's faults changed in the call
+abbrev pub KeepsShelf : Call → Type 0
+KeepsShelf call = ShelfSteady call.before.load call.after.load call.before.store call.after.store
 
 -- what is meant over these files was stored and printed, and the status is the one that goes with it
-pub record Did (call : Call) (files : Files) (status : Status) : Type 0 where
+pub record IsAnswered (call : Call) (files : Files) (status : Status) : Type 0 where
   pub answer : Answer
-  pub meant : IsMeant call.words files call.load_rose answer
+  pub meant : WordsCallFor call.words files (load_rose call) answer
   pub same_status : answer.status ≡ status
   pub stored : FilesAfter answer.stored call.old call.new
   pub printed : Appends call.was call.now answer.text
 
--- what is meant was stored, and the print stopped behind a prefix
+-- what is meant was stored, and the print stopped before its end
 pub record StoppedInPrint (call : Call) (files : Files) : Type 0 where
   pub answer : Answer
-  pub meant : IsMeant call.words files call.load_rose answer
+  pub meant : WordsCallFor call.words files (load_rose call) answer
   pub stored : FilesAfter answer.stored call.old call.new
   pub printed : AppendsPart call.was call.now answer.text
 
 -- the store of what is meant failed, and nothing was printed
 pub record StoppedInStore (call : Call) (files : Files) : Type 0 where
   pub answer : Answer
-  pub meant : IsMeant call.words files call.load_rose answer
-  pub cause : StoreRose answer.stored call.store_rose
+  pub meant : WordsCallFor call.words files (load_rose call) answer
+  pub cause : StoreRose answer.stored (store_rose call)
   pub stored : FilesInPart answer.stored call.old call.new
   pub printed : call.now ≡ call.was
 
--- nothing was stored or printed
+-- nothing was stored or printed, and no count of faults changed
 pub record Unchanged (call : Call) : Type 0 where
   pub stored : call.new ≡ call.old
   pub printed : call.now ≡ call.was
+  pub shelf : KeepsShelf call
+  pub sink : call.after.sink ≡ call.before.sink
+
+-- the print stopped for want of memory; no count of faults changed, but for those of the shelf where a read fault was to be printed
+pub record StoppedForMemory (call : Call) (files : Files) : Type 0 where
+  pub stopped : StoppedInPrint call files
+  pub shelf : stopped.answer.status ≢ ReadFault → KeepsShelf call
+  pub sink : call.after.sink ≡ call.before.sink
 
 -- how the call ends over these files, by its status
 abbrev pub EndsOver : Call → Files → Status → Type 0
-EndsOver call files WriteFault = (call.sink_rose × StoppedInPrint call files) ⊎ StoppedInStore call files
-EndsOver call files Memory = Unchanged call ⊎ StoppedInPrint call files
-EndsOver call files status = Did call files status
+EndsOver call files WriteFault = (sink_rose call × StoppedInPrint call files) ⊎ StoppedInStore call files
+EndsOver call files Memory = Unchanged call ⊎ StoppedForMemory call files
+EndsOver call files status = IsAnswered call files status
 
 abbrev pub Ends : Call → Status → Type 0
 Ends call status = OverFiles call.old (λ files. EndsOver call files status)
@@ -83,8 +113,8 @@ pub data TransformDecides (bytes : List ℕ) (status : Status) : Type 0 where
 -- the same of `run`
 pub data RunDecides (bytes : List ℕ) (status : Status) : Type 0 where
   unread : (e : ElfError) → IsRefused bytes e → status ≡ error_status e → RunDecides bytes status
-  too_large : (f : ElfFile) → File bytes f → memory_limit < memory_bytes f.segments → status ≡ Limit → RunDecides bytes status
-  ran : (f : ElfFile) → File bytes f → memory_bytes f.segments ≤ memory_limit → status ≡ outcome_status (run_of f).state.outcome → RunDecides bytes status
+  too_large : (f : ElfFile) → IsReadAs bytes f → memory_limit < memory_bytes f.segments → status ≡ Limit → RunDecides bytes status
+  ran : (f : ElfFile) → IsReadAs bytes f → memory_bytes f.segments ≤ memory_limit → status ≡ outcome_status (run_of f).state.outcome → RunDecides bytes status
 
 -- the status of a command over the bytes of its file, of which it takes so many
 pub data Decided (limit : ℕ) (bytes : List ℕ) (Within : Type 0) (status : Status) : Type 0 where
@@ -101,9 +131,9 @@ Decides words files status = MatchOption (asked words) (status ≡ Usage) (λ co
 
 -- neither the count of the sink rose, nor that of loads of the file that is read, nor that of stores of the one that is stored
 pub record NoFault (call : Call) : Type 0 where
-  pub sink : call.sink_rose → ⊥
-  pub load : IfSome (asked call.words) (λ command. call.load_rose (read_name command) → ⊥)
-  pub store : IfSome (asked call.words) (λ command. IfSome (stored_name command) (λ name. call.store_rose name → ⊥))
+  pub sink : sink_rose call → ⊥
+  pub load : IfSome (asked call.words) (λ command. load_rose call (read_name command) → ⊥)
+  pub store : IfSome (asked call.words) (λ command. IfSome (stored_name command) (λ name. store_rose call name → ⊥))
 
 -- with no fault the status is the one that is decided, or there was no memory
 abbrev pub IsComplete : Call → Status → Type 0

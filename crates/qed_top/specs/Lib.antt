@@ -5,3 +5,5 @@ pub mod Fault
 pub mod Answer
 pub mod Ends
 pub mod Run
+pub mod Program
+pub mod Headline

@@ -1,16 +1,17 @@
-// Answers: what is stored and printed, and the status that goes with it.
-ghost use Rattle.std.specs.Prelude.{◌≡◌, ◌≢◌, ◌⊎◌, ◌≤◌, IfOk, OnOk, IsErrOf};
+//! Answers: what is stored and printed, and the status that goes with it.
+ghost use Rattle.std.specs.Prelude.{◌≡◌, ◌≢◌, ◌⊎◌, ◌≤◌, IfOk, OnOk, IsSome, IsErrOf};
 ghost use Rattle.std.specs.Io.KnownBytes.{Appends};
 ghost use Rattle.qed_io.specs.Counts.{Rose, RoseAt, NoneFell};
 ghost use Rattle.qed_io.specs.Sink.{AppendsPart};
-ghost use Rattle.qed_model.specs.Text.Errors.{error_line};
-ghost use Rattle.qed_top.specs.Answer.{error_status, PrintsOnly, FilesAfter, FilesInPart, StoreRose};
+ghost use Rattle.qed_model.specs.Text.Errors.{error_line, limit_line};
+ghost use Rattle.qed_top.specs.Answer.{error_status, PrintsOnly, FilesAfter, FilesInPart, StoreRose, ShelfSteady};
 
 use crate::fault::Fault;
 use crate::status::Status;
 use elf_types::{Bytes, ElfError};
 use qed_io::{Shelf, Sink, put_all};
-use report::error_text;
+use qed_model::Limit;
+use report::{error_text, limit_text};
 use std::alloc::{AllocError, Global};
 
 /// A file to be stored.
@@ -47,6 +48,14 @@ pub fn line<'a>(alloc: Global, status: Status, text: &[u8]) -> Result<Answer<'a>
     Ok(plain(status, text))
 }
 
+/// The answer where a number is above a limit.
+pub fn above_limit<'a>(alloc: Global, limit: Limit, count: u128) -> Result<Answer<'a>, AllocError>
+    ensures { IfOk result (PrintsOnly Status.Limit (limit_line limit count)) }
+{
+    let text = limit_text(alloc, limit, count)?;
+    Ok(plain(Status::Limit, text))
+}
+
 /// The status that goes with a file that is not read.
 pub fn status_of(error: ElfError) -> Status
     ensures { result ≡ error_status error }
@@ -71,7 +80,8 @@ fn store_file<S: Shelf>(stored: &Option<Stored<'_>>, shelf: &mut S) -> Result<()
     ensures ok { OnOk result (FilesAfter stored.now (S.files shelf.old) (S.files shelf.new)) }
     ensures store { IsErrOf result Fault.Store → StoreRose stored.now (RoseAt (S.store_faults shelf.old) (S.store_faults shelf.new)) }
     ensures part { IsErrOf result Fault.Store → FilesInPart stored.now (S.files shelf.old) (S.files shelf.new) }
-    ensures memory { IsErrOf result Fault.Memory → S.files shelf.new ≡ S.files shelf.old }
+    ensures memory { IsErrOf result Fault.Memory → IsSome stored.now × (S.files shelf.new ≡ S.files shelf.old) }
+    ensures steady { result ≢ Err Fault.Store → ShelfSteady (S.load_faults shelf.old) (S.load_faults shelf.new) (S.store_faults shelf.old) (S.store_faults shelf.new) }
     ensures print { IsErrOf result Fault.Print → ⊥ }
     ensures loads { NoneFell (S.load_faults shelf.old) (S.load_faults shelf.new) }
 {
@@ -96,8 +106,10 @@ pub fn carry_out<S: Shelf, K: Sink>(
     ensures store_files { IsErrOf result Fault.Store → FilesInPart answer.now.stored (S.files shelf.old) (S.files shelf.new) }
     ensures store_text { IsErrOf result Fault.Store → K.written out.new ≡ K.written out.old }
     ensures memory { IsErrOf result Fault.Memory →
-        ((S.files shelf.new ≡ S.files shelf.old) × (K.written out.new ≡ K.written out.old))
+        (IsSome answer.now.stored × (S.files shelf.new ≡ S.files shelf.old) × (K.written out.new ≡ K.written out.old))
         ⊎ (FilesAfter answer.now.stored (S.files shelf.old) (S.files shelf.new) × AppendsPart (K.written out.old) (K.written out.new) answer.now.text) }
+    ensures memory_shelf { IsErrOf result Fault.Memory → ShelfSteady (S.load_faults shelf.old) (S.load_faults shelf.new) (S.store_faults shelf.old) (S.store_faults shelf.new) }
+    ensures memory_sink { IsErrOf result Fault.Memory → K.faults out.new ≡ K.faults out.old }
     ensures loads { NoneFell (S.load_faults shelf.old) (S.load_faults shelf.new) }
 {
     store_file(&answer.stored, shelf)?;

@@ -1,25 +1,21 @@
-// What the words and the files call for.
-ghost use Rattle.std.specs.Prelude.{◌≡◌, ◌≢◌, IfOk, OnOk};
+//! What the words and the files call for.
+ghost use Rattle.std.specs.Prelude.{◌≡◌, ◌≢◌, IfOk, OnOk, OnErr};
 ghost use Rattle.qed_io.specs.Counts.{RoseAt, NoneFell};
 ghost use Rattle.qed_top.specs.Words.{Transform, Run, texts};
-ghost use Rattle.qed_top.specs.Answer.{CommandMeans, Delivers, IsMeant, Transforms, refusal_line, refusal_status};
+ghost use Rattle.qed_top.specs.Answer.{CommandCallsFor, Delivers, WordsCallFor, ShelfSteady, SteadyOrReadFault, Transforms, refusal_line, refusal_status};
 ghost use Rattle.qed_top.specs.Ends.{OverFiles};
 
-use crate::answer::{Answer, Stored, line, plain, status_of};
+use crate::answer::{Answer, Stored, above_limit, line, plain, status_of};
 use crate::run::answer_run;
 use crate::status::Status;
 use crate::words::{Command, read_command};
 use elf_types::Bytes;
 use qed_io::{LoadError, Shelf};
-use report::{error_text, high_register_text, segment_limit_text, size_limit_text, transform_text};
+use qed_model::Limit;
+use qed_model::limits::{MAX_FILE_BYTES, MAX_RUN_FILE_BYTES};
+use report::{error_text, high_register_text, limit_text, transform_text};
 use std::alloc::{AllocError, Global};
 use transform::{AdmitError, TransformError, Transformed, transform};
-
-/// The greatest size of a file to be transformed, in bytes.
-const LOAD_LIMIT: u64 = 67_108_864;
-
-/// The greatest size of a file to be run, in bytes.
-const RUN_LOAD_LIMIT: u64 = 536_870_912;
 
 /// What `transform` answers for an output.
 fn answer_done<'a>(
@@ -52,8 +48,12 @@ fn refusal_text(alloc: Global, error: &TransformError) -> Result<Bytes, AllocErr
             Ok(high_register_text(alloc, *at, *register)?)
         }
         TransformError::Admit(AdmitError::Memory) => Err(AllocError),
-        TransformError::TooManySegments(n) => Ok(segment_limit_text(alloc, *n)?),
-        TransformError::FileTooLong(n) => Ok(size_limit_text(alloc, *n)?),
+        TransformError::TooManySegments(n) => Ok(limit_text(
+            alloc,
+            Limit::OutputSegments,
+            u128::from(*n),
+        )?),
+        TransformError::FileTooLong(n) => Ok(limit_text(alloc, Limit::OutputBytes, *n)?),
         TransformError::Memory => Err(AllocError),
     }
 }
@@ -99,21 +99,22 @@ fn decide_transform<'a, S: Shelf>(
     shelf: &mut S,
 ) -> Result<Answer<'a>, AllocError>
     ensures meant { IfOk result (λ answer. OverFiles (S.files shelf.old) (λ files.
-        CommandMeans (Transform input.now output.now) files (RoseAt (S.load_faults shelf.old) (S.load_faults shelf.new)) answer)) }
+        CommandCallsFor (Transform input.now output.now) files (RoseAt (S.load_faults shelf.old) (S.load_faults shelf.new)) answer)) }
     ensures files { S.files shelf.new ≡ S.files shelf.old }
     ensures stores { NoneFell (S.store_faults shelf.old) (S.store_faults shelf.new) }
+    ensures steady { IfOk result (SteadyOrReadFault (ShelfSteady (S.load_faults shelf.old) (S.load_faults shelf.new) (S.store_faults shelf.old) (S.store_faults shelf.new))) }
+    ensures memory { OnErr result (ShelfSteady (S.load_faults shelf.old) (S.load_faults shelf.new) (S.store_faults shelf.old) (S.store_faults shelf.new)) }
 {
-    match shelf.load(alloc, input, LOAD_LIMIT) {
+    // Made before the load, so that want of memory comes before a fault and not in its place.
+    let fault = line(alloc, Status::ReadFault, b"read fault\n")?;
+    match shelf.load(alloc, input, MAX_FILE_BYTES) {
         Ok(bytes) => {
             let answer = answer_transform(alloc, bytes.as_slice(), output)?;
             Ok(answer)
         }
-        Err(LoadError::Failed) => {
-            let answer = line(alloc, Status::ReadFault, b"read fault\n")?;
-            Ok(answer)
-        }
+        Err(LoadError::Failed) => Ok(fault),
         Err(LoadError::TooLong) => {
-            let answer = line(alloc, Status::Limit, b"limit L1: over 67108864\n")?;
+            let answer = above_limit(alloc, Limit::FileBytes, 0)?;
             Ok(answer)
         }
         Err(LoadError::Memory) => Err(AllocError),
@@ -127,36 +128,39 @@ fn decide_run<'a, S: Shelf>(
     shelf: &mut S,
 ) -> Result<Answer<'a>, AllocError>
     ensures meant { IfOk result (λ answer. OverFiles (S.files shelf.old) (λ files.
-        CommandMeans (Run file.now) files (RoseAt (S.load_faults shelf.old) (S.load_faults shelf.new)) answer)) }
+        CommandCallsFor (Run file.now) files (RoseAt (S.load_faults shelf.old) (S.load_faults shelf.new)) answer)) }
     ensures files { S.files shelf.new ≡ S.files shelf.old }
     ensures stores { NoneFell (S.store_faults shelf.old) (S.store_faults shelf.new) }
+    ensures steady { IfOk result (SteadyOrReadFault (ShelfSteady (S.load_faults shelf.old) (S.load_faults shelf.new) (S.store_faults shelf.old) (S.store_faults shelf.new))) }
+    ensures memory { OnErr result (ShelfSteady (S.load_faults shelf.old) (S.load_faults shelf.new) (S.store_faults shelf.old) (S.store_faults shelf.new)) }
 {
-    match shelf.load(alloc, file, RUN_LOAD_LIMIT) {
+    // Made before the load, so that want of memory comes before a fault and not in its place.
+    let fault = line(alloc, Status::ReadFault, b"read fault\n")?;
+    match shelf.load(alloc, file, MAX_RUN_FILE_BYTES) {
         Ok(bytes) => {
             let answer = answer_run(alloc, bytes.as_slice())?;
             Ok(answer)
         }
-        Err(LoadError::Failed) => {
-            let answer = line(alloc, Status::ReadFault, b"read fault\n")?;
-            Ok(answer)
-        }
+        Err(LoadError::Failed) => Ok(fault),
         Err(LoadError::TooLong) => {
-            let answer = line(alloc, Status::Limit, b"limit L1: over 536870912\n")?;
+            let answer = above_limit(alloc, Limit::RunFileBytes, 0)?;
             Ok(answer)
         }
         Err(LoadError::Memory) => Err(AllocError),
     }
 }
 
-/// What the words and the files call for.
+///! What the words and the files call for.
 pub fn decide<'a, S: Shelf>(
     alloc: Global,
     words: &'a [String],
     shelf: &mut S,
 ) -> Result<Answer<'a>, AllocError>
-    ensures meant { IfOk result (λ answer. OverFiles (S.files shelf.old) (λ files. IsMeant (texts words.now) files (RoseAt (S.load_faults shelf.old) (S.load_faults shelf.new)) answer)) }
+    ensures meant { IfOk result (λ answer. OverFiles (S.files shelf.old) (λ files. WordsCallFor (texts words.now) files (RoseAt (S.load_faults shelf.old) (S.load_faults shelf.new)) answer)) }
     ensures files { S.files shelf.new ≡ S.files shelf.old }
     ensures stores { NoneFell (S.store_faults shelf.old) (S.store_faults shelf.new) }
+    ensures steady { IfOk result (SteadyOrReadFault (ShelfSteady (S.load_faults shelf.old) (S.load_faults shelf.new) (S.store_faults shelf.old) (S.store_faults shelf.new))) }
+    ensures memory { OnErr result (ShelfSteady (S.load_faults shelf.old) (S.load_faults shelf.new) (S.store_faults shelf.old) (S.store_faults shelf.new)) }
 {
     match read_command(words) {
         Some(Command::Transform { input, output }) => {

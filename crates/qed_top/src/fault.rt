@@ -1,4 +1,4 @@
-// What stops an answer while it is carried out.
+//! What stops an answer while it is carried out.
 ghost use Rattle.std.specs.Prelude.{◌≡◌};
 ghost use Rattle.qed_top.specs.Fault.{fault_of_write, fault_of_store};
 ghost use Rattle.qed_top.specs.declared.fault.Fault.TheVariants.{Memory};

@@ -5,10 +5,12 @@
 mod answer;
 mod decide;
 mod fault;
+mod program;
 mod run;
 mod status;
 mod top;
 mod words;
 
+pub use program::{exit_code, run_program};
 pub use status::Status;
 pub use top::qed;

@@ -1,28 +1,22 @@
-// What `run` answers.
+//! What `run` answers.
 ghost use Rattle.std.specs.Prelude.{◌≡◌, ◌*◌, ◌^◌, ◌≤◌, IfOk, length};
 ghost use Rattle.qed_model.specs.Machine.Loading.{load_segments};
-ghost use Rattle.mem_image.specs.Segments.{AllFit};
-ghost use Rattle.mem_image.specs.Overlap.{AreApart};
+ghost use Rattle.qed_model.specs.Machine.Apart.{AllFitMemory, AreApart};
 ghost use Rattle.qed_top.specs.Answer.{memory_bytes, outcome_status, run_of, Runs};
 ghost use Rattle.qed_top.specs.Run.{FileRuns};
 
-use crate::answer::{Answer, plain, unread};
+use crate::answer::{Answer, above_limit, plain, unread};
 use crate::status::Status;
 use elf_read::read_elf;
 use elf_types::{ElfError, ElfFile, Segment};
-use qed_model::Outcome;
-use report::{memory_limit_text, run_text};
+use qed_model::limits::MAX_MEMORY_BYTES;
+use qed_model::{Limit, Outcome};
+use report::run_text;
 use rv_step::Machine;
 use std::alloc::{AllocError, Global};
 
-/// How many bytes of memory the segments of a file to be run may have.
-const MEMORY_LIMIT: u128 = 268_435_456;
-
 /// How many steps are made.
 const STEPS: u64 = 1_000_000;
-
-/// The type of a segment that is loaded (ELF gABI, program header).
-const PT_LOAD: u32 = 1;
 
 /// The memory sizes of the PT_LOAD segments together, in bytes.
 fn memory_size(segments: &[Segment]) -> u128
@@ -30,7 +24,7 @@ fn memory_size(segments: &[Segment]) -> u128
 {
     let mut size = 0;
     for segment in segments {
-        if segment.kind == PT_LOAD {
+        if segment.is_load() {
             size += u128::from(segment.memory);
         }
     }
@@ -51,14 +45,14 @@ fn status_of(outcome: Outcome) -> Status
 
 /// What `run` answers for a file that was read.
 fn answer_file<'a>(alloc: Global, file: &ElfFile) -> Result<Answer<'a>, AllocError>
-    requires fit { AllFit (load_segments file.now.segments) }
+    requires fit { AllFitMemory (load_segments file.now.segments) }
     requires apart { AreApart (load_segments file.now.segments) }
     ensures { IfOk result (FileRuns file.now) }
 {
     let size = memory_size(file.segments.as_slice());
-    if size > MEMORY_LIMIT {
-        let text = memory_limit_text(alloc, size)?;
-        return Ok(plain(Status::Limit, text));
+    if size > u128::from(MAX_MEMORY_BYTES) {
+        let answer = above_limit(alloc, Limit::MemoryBytes, size)?;
+        return Ok(answer);
     }
     let mut machine = Machine::start(alloc, file, &[0; 32])?;
     let outcome = machine.run(STEPS);

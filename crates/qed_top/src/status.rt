@@ -1,4 +1,4 @@
-// How a call ended.
+//! How a call ended.
 ghost use Rattle.std.specs.Prelude.{◌≡◌};
 ghost use Rattle.qed_top.specs.Codes.{status_code};
 

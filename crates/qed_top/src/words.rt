@@ -1,4 +1,4 @@
-// The words of the command line.
+//! The words of the command line.
 ghost use Rattle.std.specs.Prelude.{◌≡◌, None, Some, MatchOption};
 ghost use Rattle.qed_top.specs.Words.{is_name as is_name_of, texts, asked};
 ghost use Rattle.qed_top.specs.Commands.{asked_by};

@@ -1,9 +1,11 @@
-// What is printed where a file is refused.
+//! What is printed where a file is refused.
 ghost use Rattle.std.specs.Prelude.{◌≡◌, ◌≢◌, Some, IfOk, OnOk, string_bytes};
-ghost use Rattle.qed_model.specs.Text.Errors.{part_line, error_line, memory_limit_line, high_register_line, segment_limit_line, size_limit_line};
+ghost use Rattle.qed_model.specs.Text.Errors.{part_line, error_line, high_register_line};
 
 use crate::hex::Hex;
+use crate::limits::limit_line;
 use elf_types::{Bytes, ElfError, Part};
+use qed_model::Limit;
 use rv_isa::Reg;
 use std::alloc::{AllocError, Global};
 
@@ -41,8 +43,8 @@ fn header_text(alloc: Global, error: ElfError) -> Result<String, AllocError>
         ElfError::SectionShape(i) => format!(in alloc; "refused E11: section {i}\n"),
         ElfError::SymbolShape(j) => format!(in alloc; "refused E12: symbol {j}\n"),
         ElfError::RelaShape(i, j) => format!(in alloc; "refused E13: section {i}, entry {j}\n"),
-        ElfError::TooManySections(n) => format!(in alloc; "limit L5: {n} over 4096\n"),
-        ElfError::TooManyBytes(n) => format!(in alloc; "limit L10: {n} over 1073741824\n"),
+        ElfError::TooManySections(n) => limit_line(alloc, Limit::Sections, u128::from(n)),
+        ElfError::TooManyBytes(n) => limit_line(alloc, Limit::CountedBytes, u128::from(n)),
         ElfError::Memory => Err(AllocError),
     }
 }
@@ -56,14 +58,6 @@ pub fn error_text(alloc: Global, error: ElfError) -> Result<Bytes, AllocError>
     Ok(Bytes::of(text.into_bytes()))
 }
 
-/// The line about a file whose PT_LOAD segments have this many bytes in memory, too many to be run.
-pub fn memory_limit_text(alloc: Global, bytes: u128) -> Result<Bytes, AllocError>
-    ensures { IfOk result (λ text. text ≡ memory_limit_line bytes) }
-{
-    let text = format!(in alloc; "limit L6: {bytes} over 268435456\n")?;
-    Ok(Bytes::of(text.into_bytes()))
-}
-
 /// The line about the first register above x13 that a test names, in the instruction at an address.
 pub fn high_register_text(alloc: Global, at: u64, register: Reg) -> Result<Bytes, AllocError>
     ensures { IfOk result (λ text. text ≡ high_register_line at register) }
@@ -71,21 +65,5 @@ pub fn high_register_text(alloc: Global, at: u64, register: Reg) -> Result<Bytes
     let at = Hex(at);
     let register = register.number();
     let text = format!(in alloc; "refused A7: address {at}, register {register}\n")?;
-    Ok(Bytes::of(text.into_bytes()))
-}
-
-/// The line about an output that has this many segments, too many to be written.
-pub fn segment_limit_text(alloc: Global, segments: u64) -> Result<Bytes, AllocError>
-    ensures { IfOk result (λ text. text ≡ segment_limit_line segments) }
-{
-    let text = format!(in alloc; "limit L8: {segments} over 4000\n")?;
-    Ok(Bytes::of(text.into_bytes()))
-}
-
-/// The line about an output that has this many bytes, too many to be written.
-pub fn size_limit_text(alloc: Global, bytes: u128) -> Result<Bytes, AllocError>
-    ensures { IfOk result (λ text. text ≡ size_limit_line bytes) }
-{
-    let text = format!(in alloc; "limit L9: {bytes} over 536870912\n")?;
     Ok(Bytes::of(text.into_bytes()))
 }

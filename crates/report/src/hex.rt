@@ -1,4 +1,4 @@
-// Hexadecimal numbers.
+//! Hexadecimal numbers.
 ghost use Rattle.std.specs.Prelude.{Some};
 ghost use Rattle.qed_model.specs.Text.Run.{hex_text, word_text};
 

@@ -1,4 +1,4 @@
-// What is printed about a run.
+//! What is printed about a run.
 ghost use Rattle.std.specs.Prelude.{◌≡◌, ◌<◌, Some, IfOk, string_bytes};
 ghost use Rattle.qed_model.specs.Text.Run.{cause_text, outcome_text, outcome_line, register_line, run_lines};
 

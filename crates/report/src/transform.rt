@@ -1,4 +1,4 @@
-// What is printed about an output.
+//! What is printed about an output.
 ghost use Rattle.std.specs.Prelude.{◌≡◌, Some, IfOk};
 ghost use Rattle.qed_model.specs.Text.Plan.{sizes_text, bounds_text, plan_line};
 

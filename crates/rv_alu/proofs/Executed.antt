@@ -5,29 +5,22 @@ use Rattle.std.specs.Prelude.{◌==◌}
 use Rattle.rv_isa.specs.declared.class.Class.{Class}
 use Rattle.rv_isa.specs.declared.class.Class.TheVariants as class
 use Rattle.rv_isa.specs.declared.kind.Kind.{Kind}
-use Rattle.rv_isa.specs.declared.kind.Kind.TheVariants.{Lui, Auipc, Jal, Jalr}
+use Rattle.rv_isa.specs.declared.kind.Kind.TheVariants.{Jal, Jalr}
 use Rattle.rv_isa.specs.declared.ins.Ins.{Ins}
 use Rattle.rv_isa.specs.Kind.{class_of}
 use Rattle.rv_isa.specs.Regs.{set_reg}
 use Rattle.qed_model.specs.Machine.Values.{holds}
-use Rattle.qed_model.specs.Machine.Step.{State, reg, result, next_pc, moved, jumped, execute, target, computed_value}
-use Rattle.rv_alu.specs.Steps.{bare, following, linked, branched, landing, landed, IsComputing, IsBranching, IsJumping, IsPassing}
-
--- the number that is written comes of the registers and the pc alone
-result-bare : (k : Kind) (i : Ins) (s : State) → result k i s ≡ result k i (bare s.regs s.pc)
-unfolding computed_value
-result-bare Lui i s = refl
-result-bare Auipc i s = refl
-result-bare k i s = refl
+use Rattle.qed_model.specs.Machine.Step.{State, reg, next_pc, moved, jumped, execute, target, computed_value}
+use Rattle.rv_alu.specs.Steps.{following, linked, branched, landing, landed, IsComputing, IsBranching, IsJumping, IsPassing}
 
 -- a step by its class
 by_class : (c : Class) (i : Ins) (s : State) → class_of i.kind ≡ c → execute (class_of i.kind) i s ≡ execute c i s
 by_class c i s e = ap (λ c. execute c i s) e
 
 -- at equal registers and an equal pc
-pub computing_step : (i : Ins) (regs : List ℕ) (pc : ℕ) (value : ℕ) (after : List ℕ) (next : ℕ) → IsComputing (class_of i.kind) → value ≡ result i.kind i (bare regs pc) → after ≡ set_reg i.rd value regs → next ≡ following i pc regs → (s : State) → s.regs ≡ regs → s.pc ≡ pc → execute (class_of i.kind) i s ≡ moved after next s
+pub computing_step : (i : Ins) (regs : List ℕ) (pc : ℕ) (value : ℕ) (after : List ℕ) (next : ℕ) → IsComputing (class_of i.kind) → value ≡ computed_value i.kind i pc regs → after ≡ set_reg i.rd value regs → next ≡ following i pc regs → (s : State) → s.regs ≡ regs → s.pc ≡ pc → execute (class_of i.kind) i s ≡ moved after next s
 unfolding execute
-computing_step i regs pc value after next c v a n s e p = by_class class.Compute i s c ∙ rw (a, v, n, ← e, ← p, ← result-bare i.kind i s) refl
+computing_step i regs pc value after next c v a n s e p = by_class class.Compute i s c ∙ rw (a, v, n, ← e, ← p) refl
 
 pub passing_step : (i : Ins) (regs : List ℕ) (pc : ℕ) (next : ℕ) → IsPassing (class_of i.kind) → next ≡ following i pc regs → (s : State) → s.regs ≡ regs → s.pc ≡ pc → execute (class_of i.kind) i s ≡ moved regs next s
 unfolding execute

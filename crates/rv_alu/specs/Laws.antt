@@ -12,8 +12,8 @@ use Rattle.rv_isa.specs.Operation.{AreRegs, ReadsRegister, pair, renamed_by, Fra
 use Rattle.rv_isa.proofs.OperationLaws.{same_rs1, same_rs2, set_frame, set_same, some-named, pair-above, pair-lt}
 use Rattle.qed_model.proofs.EachKind.{each_kind}
 use Rattle.qed_model.specs.Machine.Table.{Format, R, row_of}
-use Rattle.qed_model.specs.Machine.Step.{second, result, computed_value}
-use Rattle.rv_alu.specs.Steps.{bare, following, computed, same, linked, branched, landing, landed, IsComputing, IsBranching, IsJumping, IsPassing}
+use Rattle.qed_model.specs.Machine.Step.{operand, computed_value}
+use Rattle.rv_alu.specs.Steps.{following, computed, same, linked, branched, landing, landed, IsComputing, IsBranching, IsJumping, IsPassing}
 
 -- ---- what is read
 -- the sources of an instruction on other registers are those of the instruction
@@ -44,25 +44,25 @@ implied false b e h = absurd (cc)
 no_immediate : (k : Kind) → is_R (row_of k).format ≡ true → not (has_immediate k) ≡ true
 no_immediate k = implied _ _ (each_kind (λ k. implies (is_R (row_of k).format) (not (has_immediate k))) refl k)
 
-operand : (g : Format) (f : ℕ → ℕ) (i : Ins) (pc : ℕ) (regs others : List ℕ) → (is_R g ≡ true → slice_index others (f i.rs2) ≡ slice_index regs i.rs2) → second g (renamed_by f i) (bare others pc) ≡ second g i (bare regs pc)
-operand R f i pc regs others h = h refl
-operand g f i pc regs others h = refl
+operand-same : (g : Format) (f : ℕ → ℕ) (i : Ins) (regs others : List ℕ) → (is_R g ≡ true → slice_index others (f i.rs2) ≡ slice_index regs i.rs2) → operand g (renamed_by f i) others ≡ operand g i regs
+operand-same R f i regs others h = h refl
+operand-same g f i regs others h = refl
 
-result-same : (k : Kind) (f : ℕ → ℕ) (i : Ins) (pc : ℕ) (regs others : List ℕ) → (reads_rs1 class.Compute k ≡ true → slice_index others (f i.rs1) ≡ slice_index regs i.rs1) → second (row_of k).format (renamed_by f i) (bare others pc) ≡ second (row_of k).format i (bare regs pc) → result k (renamed_by f i) (bare others pc) ≡ result k i (bare regs pc)
+value-same : (k : Kind) (f : ℕ → ℕ) (i : Ins) (pc : ℕ) (regs others : List ℕ) → (reads_rs1 class.Compute k ≡ true → slice_index others (f i.rs1) ≡ slice_index regs i.rs1) → operand (row_of k).format (renamed_by f i) others ≡ operand (row_of k).format i regs → computed_value k (renamed_by f i) pc others ≡ computed_value k i pc regs
 unfolding computed_value
-result-same Lui f i pc regs others h g = refl
-result-same Auipc f i pc regs others h g = refl
-result-same k f i pc regs others h g = rw (h refl, g) refl
+value-same Lui f i pc regs others h g = refl
+value-same Auipc f i pc regs others h g = refl
+value-same k f i pc regs others h g = rw (h refl, g) refl
 
 -- the same number is written
-written : (f : ℕ → ℕ) → f 0 ≡ 0 → (i : Ins) (pc : ℕ) (regs others : List ℕ) → IsComputing (class_of i.kind) → AreRegs regs → AreRegs others → SameSources f i regs others → result i.kind (renamed_by f i) (bare others pc) ≡ result i.kind i (bare regs pc)
+written : (f : ℕ → ℕ) → f 0 ≡ 0 → (i : Ins) (pc : ℕ) (regs others : List ℕ) → IsComputing (class_of i.kind) → AreRegs regs → AreRegs others → SameSources f i regs others → computed_value i.kind (renamed_by f i) pc others ≡ computed_value i.kind i pc regs
 written f z i pc regs others c a b s =
-    result-same i.kind f i pc regs others
+    value-same i.kind f i pc regs others
     (rs1 f z i pc regs others a b s class.Compute c)
-    (operand (row_of i.kind).format f i pc regs others (λ h. rs2 f z i pc regs others a b s class.Compute c (no_immediate i.kind h)))
+    (operand-same (row_of i.kind).format f i regs others (λ h. rs2 f z i pc regs others a b s class.Compute c (no_immediate i.kind h)))
 
 pub computing_frame : Frame IsComputing computed
-computing_frame i pc regs c = set_frame i (result i.kind i (bare regs pc)) regs (ap writes_rd c)
+computing_frame i pc regs c = set_frame i (computed_value i.kind i pc regs) regs (ap writes_rd c)
 
 pub computing_sources : Sources IsComputing computed following
 computing_sources i pc regs others c d a b s =

@@ -1,19 +1,13 @@
 -- What a step does to registers and pc where it touches no memory, by class (RISC-V unprivileged manual, "RV64I").
-use Rattle.std.specs.Prelude.{◌≡◌, ℕ, ◌+◌, ◌*◌, ◌/◌, ◌%◌, ◌^◌, ◌⊎◌, cond, List, [], slice_index}
-use Rattle.std.specs.FinMap.{from_sorted}
+use Rattle.std.specs.Prelude.{◌≡◌, ℕ, ◌+◌, ◌*◌, ◌/◌, ◌%◌, ◌^◌, ◌⊎◌, cond, List, slice_index}
 use Rattle.rv_isa.specs.declared.class.Class.{Class}
 use Rattle.rv_isa.specs.declared.class.Class.TheVariants as class
 use Rattle.rv_isa.specs.declared.kind.Kind.{Kind}
 use Rattle.rv_isa.specs.declared.kind.Kind.TheVariants.{Jalr}
 use Rattle.rv_isa.specs.declared.ins.Ins.{Ins}
 use Rattle.rv_isa.specs.Regs.{set_reg}
-use Rattle.qed_model.specs.declared.machine.Outcome.TheVariants.{Going}
 use Rattle.qed_model.specs.Machine.Values.{holds}
-use Rattle.qed_model.specs.Machine.Step.{State, imm, result}
-
--- a machine with these registers and this pc, and no memory
-abbrev pub bare : List ℕ → ℕ → State
-bare regs pc = record { regs = regs; pc = pc; memory = from_sorted []; ranges = []; outcome = Going }
+use Rattle.qed_model.specs.Machine.Step.{imm, target, computed_value}
 
 -- the address of the next word
 abbrev pub following : Ins → ℕ → List ℕ → ℕ
@@ -21,7 +15,7 @@ following i pc regs = (pc + 4) % 2 ^ 64
 
 -- the registers after a computing instruction
 abbrev pub computed : Ins → ℕ → List ℕ → List ℕ
-computed i pc regs = set_reg i.rd (result i.kind i (bare regs pc)) regs
+computed i pc regs = set_reg i.rd (computed_value i.kind i pc regs) regs
 
 -- the registers after an instruction that writes none
 abbrev pub same : Ins → ℕ → List ℕ → List ℕ

@@ -1,4 +1,4 @@
-// Comparisons ("Conditional Branches" of the RISC-V unprivileged manual).
+//! Comparisons ("Conditional Branches" of the RISC-V unprivileged manual).
 ghost use Rattle.std.specs.Prelude.{◌≡◌, ◌==◌, not, int_lt, nat_lt};
 ghost use Rattle.qed_model.specs.Machine.Values.{s64};
 

@@ -1,4 +1,4 @@
-// Quotients and remainders. No division traps (RISC-V unprivileged manual, "Division Operations").
+//! Quotients and remainders. No division traps (RISC-V unprivileged manual, "Division Operations").
 ghost use Rattle.std.specs.Prelude.{◌≡◌, ℕ, pos};
 ghost use Rattle.qed_model.specs.Machine.Values.{s64, quotient, remainder};
 

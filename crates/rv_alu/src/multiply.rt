@@ -1,4 +1,4 @@
-// Products.
+//! Products.
 ghost use Rattle.std.specs.Prelude.{◌≡◌, ℕ, pos, ◌*◌, ◌/◌, ◌%◌, ◌^◌, ◌*ℤ◌};
 ghost use Rattle.qed_model.specs.Machine.Values.{wrapped, floor_shift, s64};
 

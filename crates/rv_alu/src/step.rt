@@ -1,10 +1,10 @@
-// Steps that touch no memory, by class: what they do to the registers, and the next pc.
+//! Steps that touch no memory, by class: what they do to the registers, and the next pc.
 ghost use Rattle.std.specs.Prelude.{◌≡◌, ℕ, ◌+◌, ◌%◌, ◌^◌};
 ghost use Rattle.rv_isa.specs.Kind.{class_of};
 ghost use Rattle.rv_isa.specs.declared.class.Class.TheVariants as class;
 ghost use Rattle.qed_model.specs.Machine.Table.{row_of};
-ghost use Rattle.qed_model.specs.Machine.Step.{State, imm, moved, jumped, execute, result as result_of, second as second_of, target as target_of};
-ghost use Rattle.rv_alu.specs.Steps.{bare, following, computed, same, linked, branched, landed, IsComputing, IsBranching, IsJumping, IsPassing};
+ghost use Rattle.qed_model.specs.Machine.Step.{State, imm, moved, jumped, execute, operand as operand_of, computed_value as computed_value_of, target as target_of};
+ghost use Rattle.rv_alu.specs.Steps.{following, computed, same, linked, branched, landed, IsComputing, IsBranching, IsJumping, IsPassing};
 
 use crate::{compute, taken};
 use rv_isa::{Ins, Kind, Operation, Regs};
@@ -28,12 +28,18 @@ fn immediate(ins: &Ins) -> u64
     ins.imm.cast_unsigned()
 }
 
-/// The second operand: the immediate where there is one, else the number in rs2.
-fn second(ins: &Ins, pc: u64, regs: &Regs) -> u64
-    requires { class_of ins.now.kind ≡ class.Compute }
-    ensures { result ≡ second_of (row_of ins.now.kind).format ins.now (bare regs.now pc) }
+/// pc + immediate: the target of a JAL or a branch, and what AUIPC computes.
+fn target(ins: &Ins, pc: u64) -> u64
+    ensures { result ≡ target_of ins.now pc }
 {
-    let _ = pc;
+    pc.wrapping_add(immediate(ins))
+}
+
+/// The second operand: the immediate where there is one, else the number in rs2.
+fn operand(ins: &Ins, regs: &Regs) -> u64
+    requires { class_of ins.now.kind ≡ class.Compute }
+    ensures { result ≡ operand_of (row_of ins.now.kind).format ins.now regs.now }
+{
     if ins.has_immediate() {
         immediate(ins)
     } else {
@@ -43,22 +49,15 @@ fn second(ins: &Ins, pc: u64, regs: &Regs) -> u64
 
 /// What a computing instruction writes to rd.
 #[tactic(auto, unfolding(qed_model::specs::Machine::Step::computed_value))]
-fn number(ins: &Ins, pc: u64, regs: &Regs) -> u64
+fn computed_value(ins: &Ins, pc: u64, regs: &Regs) -> u64
     requires { class_of ins.now.kind ≡ class.Compute }
-    ensures { result ≡ result_of ins.now.kind ins.now (bare regs.now pc) }
+    ensures { result ≡ computed_value_of ins.now.kind ins.now pc regs.now }
 {
     match ins.kind {
         Kind::Lui => immediate(ins),
-        Kind::Auipc => pc.wrapping_add(immediate(ins)),
-        kind => compute(kind, regs.get(ins.rs1), second(ins, pc, regs)),
+        Kind::Auipc => target(ins, pc),
+        kind => compute(kind, regs.get(ins.rs1), operand(ins, regs)),
     }
-}
-
-/// pc + immediate.
-fn target(ins: &Ins, pc: u64) -> u64
-    ensures { result ≡ target_of ins.now pc }
-{
-    pc.wrapping_add(immediate(ins))
 }
 
 /// Where a branch goes.
@@ -83,8 +82,8 @@ fn landing(ins: &Ins, pc: u64, regs: &Regs) -> u64
 }
 
 impl Operation for Computing {
-    ghost use Rattle.rv_alu.specs.Steps.{computed, following, IsComputing, same, branched, IsBranching, linked, landed, IsJumping, IsPassing};
-    ghost use Rattle.rv_alu.specs.Laws.{computing_frame, computing_sources, computing_mirror, branching_frame, branching_sources, branching_mirror, jumping_frame, jumping_sources, jumping_mirror, passing_frame, passing_sources, passing_mirror};
+    ghost use Rattle.rv_alu.specs.Steps.{computed, following, IsComputing};
+    ghost use Rattle.rv_alu.specs.Laws.{computing_frame, computing_sources, computing_mirror};
 
     ghost is_for = { IsComputing };
 
@@ -103,7 +102,7 @@ impl Operation for Computing {
         ensures step { (s : State) → s.regs ≡ regs.old → s.pc ≡ pc →
             execute (class_of ins.now.kind) ins.now s ≡ moved regs.new result s }
     {
-        let value = number(ins, pc, regs);
+        let value = computed_value(ins, pc, regs);
         regs.set(ins.rd, value);
         pc.wrapping_add(4)
     }
@@ -116,6 +115,8 @@ impl Operation for Computing {
 }
 
 impl Operation for Branching {
+    ghost use Rattle.rv_alu.specs.Steps.{same, branched, IsBranching};
+    ghost use Rattle.rv_alu.specs.Laws.{branching_frame, branching_sources, branching_mirror};
 
     ghost is_for = { IsBranching };
 
@@ -146,6 +147,8 @@ impl Operation for Branching {
 }
 
 impl Operation for Jumping {
+    ghost use Rattle.rv_alu.specs.Steps.{linked, landed, IsJumping};
+    ghost use Rattle.rv_alu.specs.Laws.{jumping_frame, jumping_sources, jumping_mirror};
 
     ghost is_for = { IsJumping };
 
@@ -179,6 +182,8 @@ impl Operation for Jumping {
 }
 
 impl Operation for Passing {
+    ghost use Rattle.rv_alu.specs.Steps.{same, following, IsPassing};
+    ghost use Rattle.rv_alu.specs.Laws.{passing_frame, passing_sources, passing_mirror};
 
     ghost is_for = { IsPassing };
 
@@ -198,6 +203,7 @@ impl Operation for Passing {
         ensures step { (s : State) → s.regs ≡ regs.old → s.pc ≡ pc →
             execute (class_of ins.now.kind) ins.now s ≡ moved regs.new result s }
     {
+        // A FENCE has no operands here, and leaves the registers as they are.
         let _ = ins;
         let _ = &*regs;
         pc.wrapping_add(4)

@@ -1,4 +1,4 @@
-// What the computing rows of the instruction table compute, and when its branches are taken.
+//! What the computing rows of the instruction table compute, and when its branches are taken.
 ghost use Rattle.std.specs.Prelude.{◌≡◌};
 ghost use Rattle.qed_model.specs.Machine.Values.{value, holds};
 

@@ -1,5 +1,5 @@
-// The fields of a word in each format (RISC-V unprivileged manual, "Base Instruction Formats" and
-// "Immediate Encoding Variants"): rd in bits 7 to 11, rs1 in 15 to 19, rs2 in 20 to 24.
+//! The fields of a word in each format (RISC-V unprivileged manual, "Base Instruction Formats" and
+//! "Immediate Encoding Variants"): rd in bits 7 to 11, rs1 in 15 to 19, rs2 in 20 to 24.
 ghost use Rattle.std.specs.Prelude.{◌≡◌, ◌^◌, ◌<◌, ◌≤◌};
 ghost use Rattle.qed_model.specs.Machine.Table.{R, I, H, G, S, B, U, J, N, ins_of, signed as signed_of};
 
@@ -157,6 +157,7 @@ pub fn jump_format(kind: Kind, word: u32) -> Ins
 pub fn no_fields(kind: Kind, word: u32) -> Ins
     ensures { result ≡ ins_of N kind word }
 {
+    // The rows of every format are made by one macro, which passes the word.
     let _ = word;
     Ins {
         kind,

@@ -1,4 +1,4 @@
-// The instruction of a word among the rows of each group.
+//! The instruction of a word among the rows of each group.
 ghost use Rattle.std.specs.Prelude.{◌≡◌, ◌++◌};
 ghost use Rattle.qed_model.specs.Machine.Table.{scan, decode_of, system_kinds, upper_kinds, branch_kinds, load_kinds, store_kinds, immediate_kinds, shift_kinds, register_kinds, word_kinds, multiply_kinds};
 

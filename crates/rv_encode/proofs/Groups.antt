@@ -1,12 +1,12 @@
 -- Each kind is in one of the groups.
 use Rattle.std.proofs.Common.{List, [], ◌∷◌, ◌++◌, inl, inr}
 use Rattle.rv_isa.specs.declared.kind.Kind.{Kind}
+use Rattle.qed_model.specs.Machine.Kinds.{IsAmong}
 use Rattle.qed_model.specs.Machine.Table.{system_kinds, upper_kinds, branch_kinds, load_kinds, store_kinds, immediate_kinds, shift_kinds, register_kinds, word_kinds, multiply_kinds}
-use Rattle.qed_model.proofs.EachKind.{Has, has_kind}
-use Rattle.rv_encode.specs.Rows.{Among}
+use Rattle.qed_model.proofs.EachKind.{has_kind}
 
 -- a kind that is in a list, but not among its first kinds
-behind : (first rest : List Kind) (k : Kind) → (Among first k → ⊥) → Has k (first ++ rest) → Has k rest
+behind : (first rest : List Kind) (k : Kind) → (IsAmong k first → ⊥) → IsAmong k (first ++ rest) → IsAmong k rest
 behind [] rest k out h = h
 behind (j ∷ js) rest k out (inl e) = absurd (out (inl e))
 behind (j ∷ js) rest k out (inr h) = behind js rest k (λ a. out (inr a)) h
@@ -38,7 +38,7 @@ after_upper = branch_kinds ++ after_branch
 abbrev after_system : List Kind
 after_system = upper_kinds ++ after_upper
 
-pub no_other : (k : Kind) → (Among system_kinds k → ⊥) → (Among upper_kinds k → ⊥) → (Among branch_kinds k → ⊥) → (Among load_kinds k → ⊥) → (Among store_kinds k → ⊥) → (Among immediate_kinds k → ⊥) → (Among shift_kinds k → ⊥) → (Among register_kinds k → ⊥) → (Among word_kinds k → ⊥) → (Among multiply_kinds k → ⊥) → ⊥
+pub no_other : (k : Kind) → (IsAmong k system_kinds → ⊥) → (IsAmong k upper_kinds → ⊥) → (IsAmong k branch_kinds → ⊥) → (IsAmong k load_kinds → ⊥) → (IsAmong k store_kinds → ⊥) → (IsAmong k immediate_kinds → ⊥) → (IsAmong k shift_kinds → ⊥) → (IsAmong k register_kinds → ⊥) → (IsAmong k word_kinds → ⊥) → (IsAmong k multiply_kinds → ⊥) → ⊥
 no_other k a b c d e f g h i j =
     let system = behind system_kinds after_system k a (has_kind k) in
     let upper = behind upper_kinds after_upper k b system in

@@ -1,3 +1,4 @@
 pub mod LowBits
 pub mod Groups
 pub mod Inverse
+pub mod FieldWords

@@ -1,8 +1,7 @@
--- Which rows a function has.
-use Rattle.std.specs.Prelude.{◌≡◌, ◌⊎◌, List, [], ◌∷◌}
-use Rattle.rv_isa.specs.declared.kind.Kind.{Kind}
+-- The rows of the instruction table, as the code takes them.
+use Rattle.std.specs.Prelude.{◌≡◌, ℕ, bit_and}
+use Rattle.qed_model.specs.Machine.Table.{Format, mask_of}
 
--- a kind is one of these
-abbrev pub Among : List Kind → Kind → Type 0
-Among [] k = ⊥
-Among (j ∷ js) k = (k ≡ j) ⊎ Among js k
+-- a row's match: no bit stands outside of the format's mask
+abbrev pub IsMatch : Format → ℕ → Type 0
+IsMatch f m = bit_and m (mask_of f) ≡ m

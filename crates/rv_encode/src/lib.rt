@@ -7,6 +7,7 @@
 mod format;
 mod immediate;
 mod rows;
+mod word;
 
 ghost use Rattle.std.specs.Prelude.{◌≡◌, ◌↔◌, ◌<◌, ◌^◌, ℕ, Some};
 ghost use Rattle.qed_model.specs.Machine.Table.{decode_of, encode_of};

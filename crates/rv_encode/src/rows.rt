@@ -1,8 +1,8 @@
-// The word of an instruction by the rows of each group. The function of a group gives None for a
-// kind of another group, and Some(None) for an instruction of the group that has no word.
+//! The word of an instruction by the rows of each group. The function of a group gives None for a
+//! kind of another group, and Some(None) for an instruction of the group that has no word.
 ghost use Rattle.std.specs.Prelude.{◌≡◌, MatchOption};
 ghost use Rattle.qed_model.specs.Machine.Table.{encode_of, system_kinds, upper_kinds, branch_kinds, load_kinds, store_kinds, immediate_kinds, shift_kinds, register_kinds, word_kinds, multiply_kinds};
-ghost use Rattle.rv_encode.specs.Rows.{Among};
+ghost use Rattle.qed_model.specs.Machine.Kinds.{IsAmong};
 
 use crate::format::{
     branch_format, immediate_format, jump_format, no_fields, register_format, shift_format,
@@ -24,7 +24,7 @@ macro_rules! row_of_kind {
 /// `Illegal`, ECALL and EBREAK.
 #[tactic(auto, unfolding(qed_model::specs::Machine::Table::encode_of))]
 pub fn system_row(ins: &Ins) -> Option<Option<u32>>
-    ensures { MatchOption result (Among system_kinds ins.now.kind → ⊥) (λ word. word ≡ encode_of ins.now) }
+    ensures { MatchOption result (IsAmong ins.now.kind system_kinds → ⊥) (λ word. word ≡ encode_of ins.now) }
 {
     rows!(system => row_of_kind ins)
 }
@@ -32,7 +32,7 @@ pub fn system_row(ins: &Ins) -> Option<Option<u32>>
 /// LUI, AUIPC, JAL, JALR and FENCE.
 #[tactic(auto, unfolding(qed_model::specs::Machine::Table::encode_of))]
 pub fn upper_row(ins: &Ins) -> Option<Option<u32>>
-    ensures { MatchOption result (Among upper_kinds ins.now.kind → ⊥) (λ word. word ≡ encode_of ins.now) }
+    ensures { MatchOption result (IsAmong ins.now.kind upper_kinds → ⊥) (λ word. word ≡ encode_of ins.now) }
 {
     rows!(upper => row_of_kind ins)
 }
@@ -40,7 +40,7 @@ pub fn upper_row(ins: &Ins) -> Option<Option<u32>>
 /// Branches.
 #[tactic(auto, unfolding(qed_model::specs::Machine::Table::encode_of))]
 pub fn branch_row(ins: &Ins) -> Option<Option<u32>>
-    ensures { MatchOption result (Among branch_kinds ins.now.kind → ⊥) (λ word. word ≡ encode_of ins.now) }
+    ensures { MatchOption result (IsAmong ins.now.kind branch_kinds → ⊥) (λ word. word ≡ encode_of ins.now) }
 {
     rows!(branch => row_of_kind ins)
 }
@@ -48,7 +48,7 @@ pub fn branch_row(ins: &Ins) -> Option<Option<u32>>
 /// Loads.
 #[tactic(auto, unfolding(qed_model::specs::Machine::Table::encode_of))]
 pub fn load_row(ins: &Ins) -> Option<Option<u32>>
-    ensures { MatchOption result (Among load_kinds ins.now.kind → ⊥) (λ word. word ≡ encode_of ins.now) }
+    ensures { MatchOption result (IsAmong ins.now.kind load_kinds → ⊥) (λ word. word ≡ encode_of ins.now) }
 {
     rows!(load => row_of_kind ins)
 }
@@ -56,7 +56,7 @@ pub fn load_row(ins: &Ins) -> Option<Option<u32>>
 /// Stores.
 #[tactic(auto, unfolding(qed_model::specs::Machine::Table::encode_of))]
 pub fn store_row(ins: &Ins) -> Option<Option<u32>>
-    ensures { MatchOption result (Among store_kinds ins.now.kind → ⊥) (λ word. word ≡ encode_of ins.now) }
+    ensures { MatchOption result (IsAmong ins.now.kind store_kinds → ⊥) (λ word. word ≡ encode_of ins.now) }
 {
     rows!(store => row_of_kind ins)
 }
@@ -64,7 +64,7 @@ pub fn store_row(ins: &Ins) -> Option<Option<u32>>
 /// Computations with an immediate.
 #[tactic(auto, unfolding(qed_model::specs::Machine::Table::encode_of))]
 pub fn immediate_row(ins: &Ins) -> Option<Option<u32>>
-    ensures { MatchOption result (Among immediate_kinds ins.now.kind → ⊥) (λ word. word ≡ encode_of ins.now) }
+    ensures { MatchOption result (IsAmong ins.now.kind immediate_kinds → ⊥) (λ word. word ≡ encode_of ins.now) }
 {
     rows!(immediate => row_of_kind ins)
 }
@@ -72,7 +72,7 @@ pub fn immediate_row(ins: &Ins) -> Option<Option<u32>>
 /// Shifts by an immediate.
 #[tactic(auto, unfolding(qed_model::specs::Machine::Table::encode_of))]
 pub fn shift_row(ins: &Ins) -> Option<Option<u32>>
-    ensures { MatchOption result (Among shift_kinds ins.now.kind → ⊥) (λ word. word ≡ encode_of ins.now) }
+    ensures { MatchOption result (IsAmong ins.now.kind shift_kinds → ⊥) (λ word. word ≡ encode_of ins.now) }
 {
     rows!(shift => row_of_kind ins)
 }
@@ -80,7 +80,7 @@ pub fn shift_row(ins: &Ins) -> Option<Option<u32>>
 /// Computations with two registers.
 #[tactic(auto, unfolding(qed_model::specs::Machine::Table::encode_of))]
 pub fn register_row(ins: &Ins) -> Option<Option<u32>>
-    ensures { MatchOption result (Among register_kinds ins.now.kind → ⊥) (λ word. word ≡ encode_of ins.now) }
+    ensures { MatchOption result (IsAmong ins.now.kind register_kinds → ⊥) (λ word. word ≡ encode_of ins.now) }
 {
     rows!(register => row_of_kind ins)
 }
@@ -88,7 +88,7 @@ pub fn register_row(ins: &Ins) -> Option<Option<u32>>
 /// Computations with two registers on 32 bits.
 #[tactic(auto, unfolding(qed_model::specs::Machine::Table::encode_of))]
 pub fn word_row(ins: &Ins) -> Option<Option<u32>>
-    ensures { MatchOption result (Among word_kinds ins.now.kind → ⊥) (λ word. word ≡ encode_of ins.now) }
+    ensures { MatchOption result (IsAmong ins.now.kind word_kinds → ⊥) (λ word. word ≡ encode_of ins.now) }
 {
     rows!(word => row_of_kind ins)
 }
@@ -96,7 +96,7 @@ pub fn word_row(ins: &Ins) -> Option<Option<u32>>
 /// The M extension.
 #[tactic(auto, unfolding(qed_model::specs::Machine::Table::encode_of))]
 pub fn multiply_row(ins: &Ins) -> Option<Option<u32>>
-    ensures { MatchOption result (Among multiply_kinds ins.now.kind → ⊥) (λ word. word ≡ encode_of ins.now) }
+    ensures { MatchOption result (IsAmong ins.now.kind multiply_kinds → ⊥) (λ word. word ≡ encode_of ins.now) }
 {
     rows!(multiply => row_of_kind ins)
 }

@@ -36,6 +36,10 @@ module _ (lo w n : ℕ) where
   pub with_bits_parts : (v : ℕ) → with_bits n lo w v ≡ (above * 2 ^ w + v) * 2 ^ lo + below
   with_bits_parts v = ap (λ k. k + v * 2 ^ lo) without ∙ omega arith
 
+-- where the field holds 0, the number is added in its place
+pub with_bits-free : (lo w n v : ℕ) → n / 2 ^ lo % 2 ^ w ≡ 0 → with_bits n lo w v ≡ n + v * 2 ^ lo
+with_bits-free lo w n v free = ap (λ k. n - k * 2 ^ lo + v * 2 ^ lo) free ∙ omega arith
+
 -- the field itself
 pub bits-with_bits_same : (lo w n v : ℕ) → v < 2 ^ w → with_bits n lo w v / 2 ^ lo % 2 ^ w ≡ v
 bits-with_bits_same lo w n v h =

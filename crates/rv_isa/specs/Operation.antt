@@ -27,8 +27,8 @@ renamed_by f i = record { kind = i.kind; rd = f i.rd; rs1 = f i.rs1; rs2 = f i.r
 abbrev pub renamed : Ins → Ins
 renamed i = renamed_by pair i
 
--- each register of the instruction has a pair
-pub record HasPairs (i : Ins) : Type 0 where
+-- no register above x13: each has a pair
+pub record IsLow (i : Ins) : Type 0 where
   pub rd : i.rd ≤ 13
   pub rs1 : i.rs1 ≤ 13
   pub rs2 : i.rs2 ≤ 13
@@ -53,6 +53,6 @@ Sources for registers next =
 -- the instruction gives the original
 abbrev pub Mirror : (Class → Type 0) → (Ins → ℕ → List ℕ → List ℕ) → (Ins → ℕ → List ℕ → ℕ) → Type 0
 Mirror for registers next =
-    (i : Ins) (pc : ℕ) (regs others : List ℕ) → for (class_of i.kind) → HasPairs i → AreRegs regs → AreRegs others →
+    (i : Ins) (pc : ℕ) (regs others : List ℕ) → for (class_of i.kind) → IsLow i → AreRegs regs → AreRegs others →
     ((r : ℕ) → ReadsRegister i r → slice_index others (pair r) ≡ slice_index regs r) →
     (next (renamed i) pc others ≡ next i pc regs) × ((r : ℕ) → writes i ≡ Some r → slice_index (registers (renamed i) pc others) (pair r) ≡ slice_index (registers i pc regs) r)

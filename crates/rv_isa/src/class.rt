@@ -1,4 +1,4 @@
-// The classes of instruction.
+//! The classes of instruction.
 
 /// What an instruction does: the classes by which a machine steps and a test is rewritten.
 #[derive(Clone, Copy, Debug, PartialEq, Eq)]

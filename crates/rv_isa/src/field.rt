@@ -1,4 +1,4 @@
-// The fields of a word.
+//! The fields of a word.
 ghost use Rattle.std.specs.Prelude.{◌≡◌, ℕ, ◌+◌, ◌^◌, ◌<◌, ◌≤◌, ◌⊎◌};
 ghost use Rattle.rv_isa.specs.Field.{bits, with_bits};
 

@@ -1,4 +1,4 @@
-// Instructions.
+//! Instructions: what each reads, writes and does.
 ghost use Rattle.std.specs.Prelude.{◌≡◌};
 ghost use Rattle.rv_isa.specs.Kind.{class_of, writes_rd, reads_rs1, reads_rs2, has_immediate};
 ghost use Rattle.rv_isa.specs.Ins.{nop, named, writes, reads};

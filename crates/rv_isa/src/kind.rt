@@ -1,4 +1,4 @@
-// The kinds of instruction.
+//! The kinds of instruction.
 
 /// The kind of an instruction: one for each row of RV64I and of the M extension (RISC-V
 /// unprivileged manual, instruction listings), named as the row, and `Illegal` for the zero word.

@@ -1,4 +1,4 @@
-// Instructions that touch no memory.
+//! Instructions that touch no memory.
 ghost use Rattle.std.specs.Prelude.{◌≡◌};
 ghost use Rattle.rv_isa.specs.Kind.{class_of};
 ghost use Rattle.rv_isa.specs.Operation.{Frame, Sources, Mirror};

@@ -1,4 +1,4 @@
-// The registers x0 to x31.
+//! The registers x0 to x31.
 ghost use Rattle.std.specs.Prelude.{◌≡◌, ◌≢◌, ◌+◌, ◌<◌, ◌≤◌, ◌↔◌, IsSome, IfSome};
 
 use std::marker::Model;

@@ -1,4 +1,4 @@
-// What the registers hold.
+//! What the registers hold.
 ghost use Rattle.std.specs.Prelude.{◌≡◌, length, slice_index, slice_set};
 ghost use Rattle.rv_isa.specs.Regs.{set_reg};
 

@@ -1,4 +1,4 @@
-// One step of a machine that goes on.
+//! One step of a machine that goes on.
 ghost use Rattle.std.specs.Prelude.{◌≡◌, ◌+◌, ◌%◌, ◌^◌, ◌==◌, Some, None};
 ghost use Rattle.rv_isa.specs.Kind.{class_of};
 ghost use Rattle.rv_isa.specs.Regs.{set_reg};

@@ -1,4 +1,4 @@
-// The machine, from outside.
+//! The machine, from outside.
 ghost use Rattle.std.specs.Prelude.{◌≡◌, ◌+◌, ◌%◌, ◌^◌, ◌<◌, cond, length, map, slice_set, slice_index, IfOk, Some, None};
 ghost use Rattle.std.specs.Option.{option_map};
 ghost use Rattle.std.specs.FinMap.{get};
@@ -7,11 +7,10 @@ ghost use Rattle.qed_model.specs.Machine.Loading.{load_segments, loaded_file};
 ghost use Rattle.qed_model.specs.Machine.Step.{reg, fetched_at};
 ghost use Rattle.qed_model.specs.Machine.Progress.{advanced, begun, progress};
 ghost use Rattle.qed_model.specs.Machine.Struck.{struck};
-ghost use Rattle.mem_image.specs.Overlap.{AreApart};
-ghost use Rattle.mem_image.specs.Segments.{AllFit};
+ghost use Rattle.qed_model.specs.Machine.Apart.{AllFitMemory, AreApart};
 ghost use Rattle.rv_step.specs.Known.{goes_on, known_at, struck_progress};
 
-use crate::range::CodeRange;
+use code_ranges::CodeRange;
 use elf_types::ElfFile;
 use mem_image::Image;
 use qed_model::{Outcome, Place};
@@ -33,7 +32,7 @@ pub struct Machine {
 impl Model for Machine {
     ghost use Rattle.qed_model.specs.Machine.Progress.{Progress};
     ghost use Rattle.rv_step.specs.Codes.{progress_code};
-    ghost use Rattle.rv_step.specs.Ranges.{spans};
+    ghost use Rattle.code_ranges.specs.Ranges.{spans};
 
     ghost Value = { Progress };
 

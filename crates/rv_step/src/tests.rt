@@ -1,8 +1,7 @@
-// Small programs, with the ends that the manual gives them.
+//! Small programs, with the ends that the manual gives them.
 ghost use Rattle.std.specs.Prelude.{◌≡◌, ◌≤◌, ◌∷◌, [], length, IfOk};
 ghost use Rattle.qed_model.specs.Machine.Loading.{load_segments};
-ghost use Rattle.mem_image.specs.Overlap.{AreApart};
-ghost use Rattle.mem_image.specs.Segments.{AllFit};
+ghost use Rattle.qed_model.specs.Machine.Apart.{AllFitMemory, AreApart};
 
 use crate::Machine;
 use elf_types::{Bytes, ElfFile, Listed, Segment};
@@ -34,7 +33,7 @@ fn bytes(alloc: Global, words: &[u32]) -> Result<Bytes, AllocError>
 
 /// A file of one segment of code and one of data, of a page each.
 fn file(alloc: Global, code: &[u32], words: &[u32]) -> Result<ElfFile, AllocError>
-    ensures fit { IfOk result (λ f. AllFit (load_segments f.segments)) }
+    ensures fit { IfOk result (λ f. AllFitMemory (load_segments f.segments)) }
     ensures apart { IfOk result (λ f. AreApart (load_segments f.segments)) }
 {
     let text = Segment {

@@ -4,6 +4,7 @@
 
 #[cfg(test)]
 mod line;
+mod operations;
 #[cfg(test)]
 mod steps;
 #[cfg(test)]
@@ -12,3 +13,5 @@ mod tests;
 mod values;
 #[cfg(test)]
 mod words;
+
+pub use operations::act_by;

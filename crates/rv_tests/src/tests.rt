@@ -1,3 +1,4 @@
+use crate::act_by;
 use crate::line::{BRANCHES, COMPUTING, OTHERS, Parts, SYSTEM};
 use crate::steps::STEPS;
 use crate::values::{COMPUTED, TAKEN};
@@ -5,7 +6,7 @@ use crate::words::WORDS;
 use rv_alu::{Branching, Computing, Jumping, Passing, compute, taken};
 use rv_decode::decode;
 use rv_encode::encode;
-use rv_isa::{Class, Ins, Operation, Regs};
+use rv_isa::{Class, Ins, Regs};
 use std::test::Fail;
 
 /// How many lines of a table have this word at this place.
@@ -76,10 +77,10 @@ fn branches_that_are_taken(rt: HostRuntime) -> Result<(), Fail> {
 /// Does an instruction that touches no memory, and gives the next pc.
 fn act(ins: &Ins, pc: u64, regs: &mut Regs) -> Result<u64, Fail> {
     match ins.class() {
-        Class::Compute => Ok(Computing.act(ins, pc, regs)),
-        Class::Branch => Ok(Branching.act(ins, pc, regs)),
-        Class::Jump | Class::JumpReg => Ok(Jumping.act(ins, pc, regs)),
-        Class::Fence => Ok(Passing.act(ins, pc, regs)),
+        Class::Compute => Ok(act_by(&Computing, ins, pc, regs)),
+        Class::Branch => Ok(act_by(&Branching, ins, pc, regs)),
+        Class::Jump | Class::JumpReg => Ok(act_by(&Jumping, ins, pc, regs)),
+        Class::Fence => Ok(act_by(&Passing, ins, pc, regs)),
         _ => Err(Fail::from("an instruction of another class")),
     }
 }

@@ -1,4 +1,4 @@
-// ELF64 files for RISC-V, from a description of what differs between them.
+//! ELF64 files for RISC-V, from a description of what differs between them.
 ghost use Rattle.std.specs.Prelude.{◌≡◌, ◌+◌, ◌*◌, ◌≤◌, OnOk, IfOk, length};
 
 use std::alloc::{AllocError, Global};

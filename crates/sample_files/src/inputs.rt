@@ -1,4 +1,4 @@
-// Files of one segment, which most cases have.
+//! Files of one segment, which most cases have.
 ghost use Rattle.std.specs.Prelude.{◌≤◌, IfOk, length};
 
 use crate::elf::{Elf, LOAD, Part, READ_EXECUTE};

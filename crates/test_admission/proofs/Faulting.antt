@@ -19,7 +19,8 @@ use Rattle.qed_model.specs.Weave.OutputParts.{base_of}
 use Rattle.qed_model.specs.Weave.Places.{image_of}
 use Rattle.qed_model.specs.Admission.DataRanges.{is_in, is_in_any}
 use Rattle.qed_model.specs.Admission.CodeWords.{loads_of, ranges_of, is_code, word_at, instruction_at}
-use Rattle.qed_model.specs.Admission.Rules.{passes_at, high_in, high_at, is_unknown, is_breakpoint, is_far_constant, is_ebreak, is_upper, is_far}
+use Rattle.qed_model.specs.Admission.Rules.{passes_at, high_in, high_at, is_unknown, is_breakpoint, is_far_constant, is_ebreak, is_far}
+use Rattle.qed_model.specs.Weave.Sequences.{is_auipc}
 use Rattle.qed_model.specs.Admission.Refusals.{IsLeast, IsRefusedBy}
 use Rattle.qed_model.proofs.BelowLaws.{first_least, each_fails}
 use Rattle.qed_model.proofs.DataRangesLaws.{in_parts, in_from}
@@ -214,7 +215,7 @@ module _ (f : ElfFile) (ps : List Part) (code : AreCodeOf f ps) where
   break_test a = at_instruction (λ o. passes_at (λ (i : Ins). is_ebreak i.kind) o) refl a
 
   far_test : (a : ℕ) → at (rule.Constant (base_of (image_of f))) a ≡ is_far_constant f a
-  far_test a = at_instruction (λ o. passes_at (λ (i : Ins). is_upper i.kind && is_far (distance_between (base_of (image_of f)) (target i a))) o) refl a
+  far_test a = at_instruction (λ o. passes_at (λ (i : Ins). is_auipc i.kind && is_far (distance_between (base_of (image_of f)) (target i a))) o) refl a
 
   never : (test : ℕ → Bool) → ((a : ℕ) → test a ≡ false) → (a : ℕ) → IsLeast test a → ⊥
   never test h a l = false≢true (sym (h a) ∙ l.passes)

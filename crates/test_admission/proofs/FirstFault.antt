@@ -1,11 +1,10 @@
 -- The first word of a part that is at fault; words without a byte of the file are at fault by no rule.
 use Rattle.std.proofs.Common.{◌≡◌, ⊎_elim, ℕ, zero, suc, ◌+◌, ◌*◌, ◌/◌, ◌<◌, ◌≤◌, true, false, List, [], ◌∷◌, length, Option, Some, None, refl, sym, ap, ◌∙◌, arith}
-use Rattle.std.specs.Prelude.{slice_index}
+use Rattle.std.specs.Prelude.{slice_index, pos}
 use Rattle.std.specs.Option.{option_map, option_or}
 use Rattle.std.proofs.lemmas.Bool.{cases_lt}
 use Rattle.rv_isa.specs.declared.kind.Kind.TheVariants.{Illegal}
 use Rattle.qed_model.specs.Machine.Table.{ins, ins_of, decode_of}
-use Rattle.std.specs.Prelude.{pos}
 use Rattle.qed_model.specs.Below.{first}
 use Rattle.qed_model.proofs.BelowLaws.{first_found, first_none, first_least, each_fails}
 use Rattle.test_admission.specs.declared.rules.CodeRule.{CodeRule}

@@ -8,7 +8,8 @@ use Rattle.qed_model.specs.Below.{first}
 use Rattle.qed_model.specs.Machine.Table.{decode_of}
 use Rattle.qed_model.specs.Machine.Step.{target}
 use Rattle.qed_model.specs.Weave.Placed.{distance_between}
-use Rattle.qed_model.specs.Admission.Rules.{passes_at, high_in, is_ebreak, is_upper, is_far}
+use Rattle.qed_model.specs.Admission.Rules.{passes_at, high_in, is_ebreak, is_far}
+use Rattle.qed_model.specs.Weave.Sequences.{is_auipc}
 use Rattle.test_admission.specs.declared.rules.CodeRule.{CodeRule}
 use Rattle.test_admission.specs.declared.rules.CodeRule.TheVariants as rule
 use Rattle.test_admission.specs.Stretches.{Part}
@@ -18,7 +19,7 @@ abbrev pub faults : CodeRule → ℕ → Option Ins → Bool
 faults rule.Unknown a found = is_none found
 faults rule.Registers a found = is_some (high_in found)
 faults rule.Breakpoint a found = passes_at (λ i. is_ebreak i.kind) found
-faults (rule.Constant base) a found = passes_at (λ i. is_upper i.kind && is_far (distance_between base (target i a))) found
+faults (rule.Constant base) a found = passes_at (λ i. is_auipc i.kind && is_far (distance_between base (target i a))) found
 
 abbrev pub is_at_fault : CodeRule → ℕ → ℕ → Bool
 is_at_fault r a word = faults r a (decode_of word)

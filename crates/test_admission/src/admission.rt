@@ -1,7 +1,7 @@
 //! Which tests are admitted, and what is told of them.
 ghost use Rattle.std.specs.Prelude.{MatchResult};
 ghost use Rattle.qed_model.specs.Admission.CodeWords.{loads_of};
-ghost use Rattle.qed_model.specs.Weave.Places.{AreSound};
+ghost use Rattle.qed_model.specs.Weave.Places.{AreSoundOptions};
 ghost use Rattle.test_admission.specs.Admit.{IsAdmittedAs};
 ghost use Rattle.test_admission.specs.Order.{IsCauseOf};
 ghost use Rattle.test_admission.specs.Read.{AreRead};
@@ -17,7 +17,7 @@ use std::alloc::Global;
 /// The file was read, and the options are sound. An error is the first rule that holds, with its place or number; it is
 /// `Memory` where there is no memory.
 pub fn admit(alloc: Global, file: &ElfFile, options: &Options) -> Result<Test, AdmitError>
-    requires sound { AreSound options.now }
+    requires sound { AreSoundOptions options.now }
     requires read { AreRead (loads_of file.now) }
     ensures { MatchResult result (IsAdmittedAs file.now options.now) (IsCauseOf file.now options.now) }
 {

@@ -1,7 +1,7 @@
 //! All rules and limits in their order.
 ghost use Rattle.std.specs.Prelude.{MatchResult};
 ghost use Rattle.qed_model.specs.Admission.CodeWords.{loads_of};
-ghost use Rattle.qed_model.specs.Weave.Places.{AreSound};
+ghost use Rattle.qed_model.specs.Weave.Places.{AreSoundOptions};
 ghost use Rattle.test_admission.specs.Checked.{IsChecked};
 ghost use Rattle.test_admission.specs.Order.{IsCauseOf};
 ghost use Rattle.test_admission.specs.Read.{AreRead};
@@ -33,7 +33,7 @@ pub fn check_rules<'a>(
     file: &'a ElfFile,
     options: &Options,
 ) -> Result<TestParts<'a>, AdmitError>
-    requires sound { AreSound options.now }
+    requires sound { AreSoundOptions options.now }
     requires read { AreRead (loads_of file.now) }
     ensures { MatchResult result (IsChecked file.now options.now) (IsCauseOf file.now options.now) }
 {

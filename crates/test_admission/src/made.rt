@@ -3,7 +3,7 @@ ghost use Rattle.std.specs.Prelude.{◌≡◌, ◌++◌, None, map, IfOk};
 ghost use Rattle.qed_model.specs.Admission.Terms.{image_segments};
 ghost use Rattle.qed_model.specs.Admission.DataRanges.{range_of};
 ghost use Rattle.qed_model.specs.Admission.Test.{AreCodeWords, IsTestOf};
-ghost use Rattle.qed_model.specs.Weave.Places.{AreSound};
+ghost use Rattle.qed_model.specs.Weave.Places.{AreSoundOptions};
 ghost use Rattle.code_ranges.specs.Ranges.{spans};
 ghost use Rattle.test_admission.specs.Checked.{IsChecked};
 ghost use Rattle.test_admission.specs.Made.{RangesEnd, SpansEnd};
@@ -96,7 +96,7 @@ pub fn make_test(
     options: &Options,
     parts: &TestParts<'_>,
 ) -> Result<Test, AllocError>
-    requires sound { AreSound options.now }
+    requires sound { AreSoundOptions options.now }
     requires parts { IsChecked file.now options.now parts.now }
     ensures { IfOk result (IsTestOf file.now options.now) }
 {

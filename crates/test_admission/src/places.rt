@@ -4,7 +4,7 @@ ghost use Rattle.elf_types.specs.declared.file.ElfFile.{ElfFile as File};
 ghost use Rattle.qed_model.specs.Admission.Terms.{image_segments};
 ghost use Rattle.qed_model.specs.Admission.Refusals.{IsRefusedBy};
 ghost use Rattle.qed_model.specs.Weave.OutputParts.{low_of, high_of, base_of, distance_of};
-ghost use Rattle.qed_model.specs.Weave.Places.{image_of, half_of, code_place, AreSound};
+ghost use Rattle.qed_model.specs.Weave.Places.{image_of, half_of, code_place, AreSoundOptions};
 ghost use Rattle.test_admission.specs.Order.{PassesBelow};
 ghost use Rattle.test_admission.specs.Places.{lower, least, ArePlacesOf};
 
@@ -131,7 +131,7 @@ pub fn check_span(file: &ElfFile, options: &Options, places: &ImagePlaces) -> Re
 
 /// The distance of the halves, in bytes.
 pub fn distance(options: &Options, places: &ImagePlaces) -> u128
-    requires sound { AreSound options.now }
+    requires sound { AreSoundOptions options.now }
     requires small { places.now.span ≤ 67_108_864 }
     ensures half { (f : File) → ArePlacesOf f places.now → result ≡ half_of options.now.half (image_of f) }
     ensures small { result ≤ 536_870_912 }
@@ -144,7 +144,7 @@ pub fn distance(options: &Options, places: &ImagePlaces) -> u128
 
 /// Tests the limit on the place of the new code, behind all others.
 pub fn check_top(file: &ElfFile, options: &Options, places: &ImagePlaces) -> Result<(), AdmitError>
-    requires sound { AreSound options.now }
+    requires sound { AreSoundOptions options.now }
     requires places { ArePlacesOf file.now places.now }
     requires small { places.now.span ≤ 67_108_864 }
     requires passed { PassesBelow file.now options.now 14 }

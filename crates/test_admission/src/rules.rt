@@ -4,7 +4,8 @@ ghost use Rattle.qed_model.specs.Machine.Table.{decode_of};
 ghost use Rattle.qed_model.specs.Machine.Step.{target};
 ghost use Rattle.qed_model.specs.Weave.Placed.{distance_between};
 ghost use Rattle.qed_model.specs.Admission.Terms.{if_high, high_register};
-ghost use Rattle.qed_model.specs.Admission.Rules.{high_in, is_ebreak, is_upper, is_far};
+ghost use Rattle.qed_model.specs.Admission.Rules.{high_in, is_ebreak, is_far};
+ghost use Rattle.qed_model.specs.Weave.Sequences.{is_auipc};
 ghost use Rattle.test_admission.specs.Faults.{faults, is_at_fault, word_in};
 
 use rv_decode::decode;

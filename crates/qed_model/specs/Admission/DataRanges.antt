@@ -1,8 +1,9 @@
 -- The data of a test: which segments have it, and the ranges of aligned words that they make up. Ranges are by their first address
 -- and the one behind their last. The form is this project's own.
-use Rattle.std.specs.Prelude.{◌≡◌, ℕ, ◌+◌, ◌-◌, ◌*◌, ◌/◌, ◌%◌, ◌<◌, ◌==◌, Bool, nat_lt, nat_le, ◌&&◌, ◌||◌, not, min, max, cond, List, [], ◌∷◌, map, filter, flat_map, All, AllPairs}
+use Rattle.std.specs.Prelude.{◌≡◌, ℕ, ◌+◌, ◌-◌, ◌*◌, ◌/◌, ◌<◌, Bool, nat_lt, nat_le, ◌&&◌, ◌||◌, not, min, max, cond, List, [], ◌∷◌, map, filter, flat_map, All, AllPairs}
 use Rattle.std.specs.List.{list_any}
 use Rattle.elf_types.specs.declared.file.Segment.{Segment}
+use Rattle.elf_types.specs.Abi.{may_write, may_execute}
 use Rattle.qed_model.specs.declared.range.Range.{Range}
 use Rattle.qed_model.specs.Below.{each}
 
@@ -13,11 +14,11 @@ range_of r = (r.start, r.end)
 -- ---- data segments, among those of the image
 -- PF_W
 abbrev pub is_written : Segment → Bool
-is_written s = s.flags / 2 % 2 == 1
+is_written s = may_write s.flags
 
 -- PF_X
 abbrev pub is_executed : Segment → Bool
-is_executed s = s.flags % 2 == 1
+is_executed s = may_execute s.flags
 
 -- its addresses, rounded out to multiples of 8
 abbrev pub rounded : Segment → ℕ × ℕ

@@ -1,6 +1,9 @@
 -- Why a test is not admitted, in sentences on its segments, its sections and its code, and the order of the rules.
-use Rattle.std.specs.Prelude.{◌≡◌, ◌⊎◌, ℕ, ◌+◌, ◌*◌, ◌^◌, ◌<◌, ◌≤◌, is_some, Some, None, IfSome, Bool, true, false, List, length, slice_get}
+use Rattle.std.specs.Prelude.{◌≡◌, ◌⊎◌, ℕ, ◌+◌, ◌^◌, ◌<◌, ◌≤◌, is_some, Some, None, Bool, true, false, List, length, slice_get}
 use Rattle.elf_types.specs.declared.file.ElfFile.{ElfFile}
+use Rattle.qed_model.specs.declared.limits.Limit.TheVariants as limit
+use Rattle.qed_model.specs.declared.limits.TheConstants.{CODE_ROOM}
+use Rattle.qed_model.specs.Limits.{limit_of}
 use Rattle.qed_model.specs.declared.admit.AdmitError.{AdmitError}
 use Rattle.qed_model.specs.declared.admit.AdmitError.TheVariants as error
 use Rattle.qed_model.specs.declared.options.Options.{Options}
@@ -26,12 +29,12 @@ IsMisshapen f i =
     IsFirstOf f.sections (is_misshapen_section (loads_of f)) i
     ⊎ (((k : ℕ) → k < length f.sections → passes_at (is_misshapen_section (loads_of f)) (slice_get f.sections k) ≡ false) × IsFirstOf f.segments (is_misshapen_segment f) i)
 
--- the code words, which are more than 1,048,576
+-- the code words, which are too many
 pub record HasTooManyWords (f : ElfFile) (n : ℕ) : Type 0 where
   pub addresses : List ℕ
   pub all : AreCodeAddresses f addresses
   pub count : n ≡ length addresses
-  pub over : 1_048_576 < n
+  pub over : limit_of limit.CodeWords < n
 
 -- the rule that an error names holds, with the place or number that it carries; want of memory is no rule
 abbrev pub HasFault : ElfFile → Options → AdmitError → Type 0
@@ -47,9 +50,9 @@ HasFault f o (error.FarConstant a) = IsLeast (is_far_constant f) a
 HasFault f o (error.DataMixed i) = IsFirstOf f.segments (is_mixed (image_of f)) i
 HasFault f o (error.OutsideHalf high end) =
     (high ≡ high_of (image_of f)) × (is_some o.half ≡ true) × (end ≡ base_of (image_of f) + half_of o.half (image_of f)) × (end < high)
-HasFault f o (error.ImageSpan n) = (n ≡ distance_of (image_of f)) × (67_108_864 < n)
+HasFault f o (error.ImageSpan n) = (n ≡ distance_of (image_of f)) × (limit_of limit.ImageSpan < n)
 HasFault f o (error.CodeWords n) = HasTooManyWords f n
-HasFault f o (error.TopAddress n) = (n ≡ code_place o.half (image_of f) + 134_217_728) × (2 ^ 63 < n)
+HasFault f o (error.TopAddress n) = (n ≡ code_place o.half (image_of f) + CODE_ROOM) × (limit_of limit.TopAddress < n)
 HasFault f o error.Memory = ⊥
 
 -- ---- the order of the rules
@@ -90,9 +93,9 @@ pub record IsAdmitted (f : ElfFile) (o : Options) : Type 0 where
   pub unmixed : (i : ℕ) → passes_at (is_mixed (image_of f)) (slice_get f.segments i) ≡ false
   pub half : high_of (image_of f) ≤ base_of (image_of f) + half_of o.half (image_of f)
   -- and the limits on the image, on its code and on its place
-  pub span : distance_of (image_of f) ≤ 67_108_864
+  pub span : distance_of (image_of f) ≤ limit_of limit.ImageSpan
   pub words : (n : ℕ) → HasTooManyWords f n → ⊥
-  pub top : code_place o.half (image_of f) + 134_217_728 ≤ 2 ^ 63
+  pub top : code_place o.half (image_of f) + CODE_ROOM ≤ limit_of limit.TopAddress
 
 -- ---- one answer
 -- a file is admitted or refused, and not both; it is refused by one rule, at one place

@@ -1,16 +1,17 @@
 -- The rules by which a test is admitted, each as a test at one place: a segment, a section or an address. The first three of them and
 -- what they speak of stand in Admission.
-use Rattle.std.specs.Prelude.{ℕ, ◌+◌, ◌*◌, ◌^◌, ◌==◌, nat_lt, not, ◌&&◌, ◌||◌, Bool, true, false, Option, Some, None, is_none, List, [], ◌∷◌, ℤ, pos, negsuc, slice_get}
+use Rattle.std.specs.Prelude.{ℕ, ◌+◌, ◌^◌, nat_lt, not, ◌&&◌, ◌||◌, Bool, true, false, Option, Some, None, is_none, List, [], ◌∷◌, ℤ, pos, negsuc}
 use Rattle.std.specs.List.{list_any}
 use Rattle.elf_types.specs.declared.file.Segment.{Segment}
 use Rattle.elf_types.specs.declared.file.Section.{Section}
 use Rattle.elf_types.specs.declared.file.ElfFile.{ElfFile}
 use Rattle.rv_isa.specs.declared.ins.Ins.{Ins}
 use Rattle.rv_isa.specs.declared.kind.Kind.{Kind}
-use Rattle.rv_isa.specs.declared.kind.Kind.TheVariants.{Ebreak, Auipc}
+use Rattle.rv_isa.specs.declared.kind.Kind.TheVariants.{Ebreak}
 use Rattle.qed_model.specs.Machine.Table.{decode_of}
 use Rattle.qed_model.specs.Machine.Step.{target}
 use Rattle.qed_model.specs.Weave.Placed.{distance_between}
+use Rattle.qed_model.specs.Weave.Sequences.{is_auipc}
 use Rattle.qed_model.specs.Machine.Program.{LoadSegment}
 use Rattle.qed_model.specs.Machine.Loading.{is_code_section, lies_in_any, section_ranges}
 use Rattle.qed_model.specs.Admission.Terms.{is_in_image, is_cut, is_ragged, high_register}
@@ -70,17 +71,13 @@ abbrev pub is_breakpoint : ElfFile → ℕ → Bool
 is_breakpoint f a = passes_at (λ i. is_ebreak i.kind) (instruction_at f a)
 
 -- ---- A9: the result of an AUIPC at a code address is out of reach of the base
-abbrev pub is_upper : Kind → Bool
-is_upper Auipc = true
-is_upper _ = false
-
 -- a distance below -2^28, or at least 2^28
 abbrev pub is_far : ℤ → Bool
 is_far (pos n) = not (nat_lt n (2 ^ 28))
 is_far (negsuc n) = not (nat_lt n (2 ^ 28))
 
 abbrev pub is_far_constant : ElfFile → ℕ → Bool
-is_far_constant f a = passes_at (λ i. is_upper i.kind && is_far (distance_between (base_of (image_of f)) (target i a))) (instruction_at f a)
+is_far_constant f a = passes_at (λ i. is_auipc i.kind && is_far (distance_between (base_of (image_of f)) (target i a))) (instruction_at f a)
 
 -- ---- A10: a segment of the image that is no data segment has a byte in a data range
 abbrev pub is_mixed : List Segment → Segment → Bool

@@ -9,6 +9,9 @@ use Rattle.elf_types.specs.declared.file.Section.{Section}
 use Rattle.elf_types.specs.declared.file.Symbol.{Symbol}
 use Rattle.elf_types.specs.declared.file.Rela.{Rela}
 use Rattle.elf_types.specs.declared.file.ElfFile.{ElfFile}
+use Rattle.elf_types.specs.Abi.{has_compressed}
+pub use Rattle.elf_types.specs.Segment.{is_in_image, is_dynamic_segment}
+pub use Rattle.elf_types.specs.Symbol.{is_code_symbol}
 use Rattle.rv_isa.specs.declared.ins.Ins.{Ins}
 use Rattle.rv_isa.specs.Ins.{writes, reads}
 use Rattle.qed_model.specs.Machine.Values.{wrapped}
@@ -17,25 +20,17 @@ use Rattle.qed_model.specs.Elf.Rules.{is_at}
 use Rattle.qed_model.specs.Machine.Loading.{is_code_section, lies_in_code, code_ranges}
 
 -- ---- the image
--- a segment of type PT_LOAD that has bytes in memory (ELF gABI, program header)
-abbrev pub is_in_image : Segment → Bool
-is_in_image s = s.kind == 1 && nat_lt 0 s.memory
-
--- the segments that make up the image, in order
+-- the segments that make up the image, in order: those of type PT_LOAD that have bytes in memory
 abbrev pub image_segments : List Segment → List Segment
 image_segments ss = filter is_in_image ss
 
 -- ---- A1: compressed code
--- EF_RISCV_RVC, bit 0 of the flags (RISC-V psABI, file header)
+-- EF_RISCV_RVC (RISC-V psABI, file header)
 abbrev pub is_compressed : ElfFile → Bool
-is_compressed f = f.flags % 2 == 1
+is_compressed f = has_compressed f.flags
 
 -- ---- A2: dynamic linking
--- PT_DYNAMIC or PT_INTERP (ELF gABI, program header)
-abbrev pub is_dynamic_segment : Segment → Bool
-is_dynamic_segment s = s.kind == 2 || s.kind == 3
-
--- a program header is of such a type
+-- a program header is of type PT_DYNAMIC or PT_INTERP
 abbrev pub is_dynamic : List Segment → Bool
 is_dynamic ss = list_any is_dynamic_segment ss
 
@@ -65,11 +60,7 @@ is_misshapen_code ls ss = list_any (is_cut ls) ss || list_any is_ragged (code_ra
 abbrev pub is_code_address : List (ℕ × ℕ) → ℕ → Bool
 is_code_address rs a = a % 4 == 0 && list_any (λ r. nat_le r.0 a && nat_lt a r.1) rs
 
--- a defined symbol of type STT_FUNC or STT_NOTYPE (ELF gABI, symbol table); an undefined one has section number 0
-abbrev pub is_code_symbol : Symbol → Bool
-is_code_symbol s = not (s.index == 0) && (s.kind == 2 || s.kind == 0)
-
--- the value of such a symbol is the address
+-- the address is the value of a defined symbol of type STT_FUNC or STT_NOTYPE
 abbrev pub is_named : List Symbol → ℕ → Bool
 is_named ss a = list_any (λ s. is_code_symbol s && s.value == a) ss
 

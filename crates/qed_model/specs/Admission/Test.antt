@@ -1,5 +1,5 @@
 -- What is told of a test that was admitted.
-use Rattle.std.specs.Prelude.{◌≡◌, ℕ, ◌+◌, ◌*◌, Some, List, map, All}
+use Rattle.std.specs.Prelude.{◌≡◌, Some, List, map, All}
 use Rattle.elf_types.specs.declared.file.ElfFile.{ElfFile}
 use Rattle.qed_model.specs.declared.options.Options.{Options}
 use Rattle.qed_model.specs.declared.test.CodeWord.{CodeWord}

@@ -8,17 +8,17 @@ use Rattle.elf_types.specs.declared.records.SymbolEntry.{SymbolEntry}
 use Rattle.qed_model.specs.Numbers.{field}
 use Rattle.qed_model.specs.Elf.Header.{e_phoff, e_shoff, e_phnum, e_shnum}
 
--- ---- the header, of 64 bytes; its other fields stand in Plain
+-- ---- the header, of 64 bytes; its other fields stand in Header
 
--- EI_CLASS: 2 for ELFCLASS64
+-- EI_CLASS
 abbrev pub e_class : List ℕ → ℕ
 e_class file = slice_index file 4
 
--- EI_DATA: 1 for ELFDATA2LSB
+-- EI_DATA
 abbrev pub e_encoding : List ℕ → ℕ
 e_encoding file = slice_index file 5
 
--- EI_VERSION: 1 for EV_CURRENT
+-- EI_VERSION
 abbrev pub e_ident_version : List ℕ → ℕ
 e_ident_version file = slice_index file 6
 

@@ -1,5 +1,5 @@
 -- The file that bytes are (ELF gABI).
-use Rattle.std.specs.Prelude.{◌≡◌, ℕ, ◌/◌, ◌%◌, List, [], take, drop, if◌then◌else◌, Option, Some, None, Ok}
+use Rattle.std.specs.Prelude.{◌≡◌, ℕ, ◌≤◌, ◌/◌, ◌%◌, List, [], take, drop, if◌then◌else◌, Option, Some, None, Ok}
 use Rattle.elf_types.specs.declared.file.ElfFile.{ElfFile}
 use Rattle.elf_types.specs.declared.file.Segment.{Segment}
 use Rattle.elf_types.specs.declared.file.Section.{Section}
@@ -7,14 +7,17 @@ use Rattle.elf_types.specs.declared.file.Symbol.{Symbol}
 use Rattle.elf_types.specs.declared.file.Rela.{Rela}
 use Rattle.elf_types.specs.declared.records.ProgramHeader.{ProgramHeader}
 use Rattle.elf_types.specs.declared.records.SectionHeader.{SectionHeader}
+use Rattle.elf_types.specs.Abi.{is_load}
+use Rattle.qed_model.specs.declared.limits.Limit.TheVariants as limit
+use Rattle.qed_model.specs.Limits.{limit_of}
 use Rattle.qed_model.specs.Below.{each, gather}
 use Rattle.qed_model.specs.Elf.Header.{e_entry, e_flags, e_phnum, e_shnum}
 use Rattle.qed_model.specs.Elf.Fields.{program_header, section_header, symbol_entry, rela_entry}
-use Rattle.qed_model.specs.Elf.Rules.{is_load, section_bytes, section_name, symbol_name, symbol_table, is_counted, verdict}
+use Rattle.qed_model.specs.Elf.Rules.{section_bytes, section_name, symbol_name, symbol_table, is_counted, counted_bytes, verdict}
 
 -- the bytes of a segment; where it is not PT_LOAD there are none
 unfoldable pub load_bytes : List ℕ → ProgramHeader → List ℕ
-load_bytes file p = if is_load p then take p.filesz (drop p.offset file) else []
+load_bytes file p = if is_load p.kind then take p.filesz (drop p.offset file) else []
 
 -- what program header i describes
 unfoldable pub segment_of : List ℕ → ℕ → Segment
@@ -43,7 +46,7 @@ symbols_at file (Some i) = let s = section_header file i in each (s.size / 24) (
 unfoldable pub relas_of : List ℕ → SectionHeader → List Rela
 relas_of file s = if is_counted file s then each (s.size / 24) (rela_entry (section_bytes file s)) else []
 
--- no rule refuses the bytes, and each member of f is the stated field
+-- no rule, E1 to E13, refuses the bytes, and each member of f is the stated field
 pub record File (file : List ℕ) (f : ElfFile) : Type 0 where
   pub accepted : verdict file ≡ Ok tt
   pub entry : f.entry ≡ e_entry file
@@ -52,3 +55,13 @@ pub record File (file : List ℕ) (f : ElfFile) : Type 0 where
   pub sections : f.sections ≡ each (e_shnum file) (section_of file)
   pub symbols : f.symbols ≡ symbols_at file (symbol_table file)
   pub relas : f.relas ≡ gather (e_shnum file) (λ i. relas_of file (section_header file i))
+
+-- L5 and L10: at most 4,096 sections, and at most 1,073,741,824 bytes of segments and names
+pub record WithinReadLimits (file : List ℕ) : Type 0 where
+  pub sections : e_shnum file ≤ limit_of limit.Sections
+  pub bytes : counted_bytes file ≤ limit_of limit.CountedBytes
+
+-- the bytes are the file, and within the limits of the reader
+pub record IsReadAs (bytes : List ℕ) (f : ElfFile) : Type 0 where
+  pub file : File bytes f
+  pub within : WithinReadLimits bytes

@@ -1,5 +1,5 @@
 -- The file that is written: its parts in their order, and where each of them stands. Names are those of the ELF gABI; offsets are in bytes from the file's first.
-use Rattle.std.specs.Prelude.{◌≡◌, ◌≢◌, ℕ, ◌+◌, ◌-◌, ◌*◌, ◌/◌, ◌%◌, ◌^◌, ◌<◌, ◌≤◌, ◌==◌, Bool, true, false, nat_le, nat_lt, ◌&&◌, if◌then◌else◌, IsTrue, List, [], ◌∷◌, ◌++◌, length, map, replicate, All, AllPairs}
+use Rattle.std.specs.Prelude.{◌≡◌, ◌≢◌, ℕ, ◌+◌, ◌-◌, ◌*◌, ◌/◌, ◌^◌, ◌<◌, ◌≤◌, ◌==◌, Bool, true, false, nat_le, ◌&&◌, if◌then◌else◌, IsTrue, List, [], ◌∷◌, ◌++◌, length, map, replicate, All, AllPairs}
 use Rattle.std.specs.List.{list_any}
 use Rattle.elf_types.specs.declared.file.Segment.{Segment}
 use Rattle.elf_types.specs.declared.file.Symbol.{Symbol}
@@ -7,6 +7,13 @@ use Rattle.elf_types.specs.declared.output.OutFile.{OutFile}
 use Rattle.elf_types.specs.declared.output.OutSection.{OutSection}
 use Rattle.elf_types.specs.declared.records.SectionHeader.{SectionHeader}
 use Rattle.elf_types.specs.declared.records.SymbolEntry.{SymbolEntry}
+use Rattle.qed_model.specs.declared.limits.Limit.TheVariants as limit
+use Rattle.qed_model.specs.declared.limits.TheConstants.{MAX_OUTPUT_SECTIONS}
+use Rattle.qed_model.specs.Limits.{limit_of}
+use Rattle.elf_types.specs.declared.abi.TheConstants.{ELFMAG, ELFCLASS64, ELFDATA2LSB, EV_CURRENT, ET_EXEC, EM_RISCV, EHDR_SIZE, PHDR_SIZE, SHDR_SIZE, PT_LOAD, SHT_NULL, SHT_PROGBITS, SHT_SYMTAB, SHT_STRTAB}
+use Rattle.elf_types.specs.Abi.{has_alloc}
+use Rattle.elf_types.specs.Symbol.{is_local}
+use Rattle.elf_types.specs.Overlap.{share_byte}
 use Rattle.qed_model.specs.Elf.Written.{fields_bytes, offset_from, end_from, program_headers, segments_bytes}
 
 -- the next multiple of 8
@@ -77,12 +84,12 @@ entries_of symbols = null_entry ∷ entries_from 1 symbols
 -- the number of the first symbol that is not STB_LOCAL, or the number of symbols; `number` counts those before the list
 abbrev pub first_global : ℕ → List Symbol → ℕ
 first_global number [] = number
-first_global number (s ∷ symbols) = if s.binding == 0 then first_global (number + 1) symbols else number
+first_global number (s ∷ symbols) = if is_local s then first_global (number + 1) symbols else number
 
 -- ---- sections
 -- the section has SHF_ALLOC
 abbrev pub is_in_memory : OutSection → Bool
-is_in_memory x = x.flags / 2 % 2 == 1
+is_in_memory x = has_alloc x.flags
 
 -- the section lies inside the file bytes of the segment
 abbrev pub is_inside : OutSection → Segment → Bool
@@ -101,7 +108,7 @@ own_bytes (x ∷ sections) = x.bytes ++ own_bytes sections
 
 -- sh_addralign by the type: 0 for the null section, 8 for SHT_SYMTAB, else 1
 abbrev pub alignment : ℕ → ℕ
-alignment kind = if kind == 0 then 0 else (if kind == 2 then 8 else 1)
+alignment kind = if kind == SHT_NULL then 0 else (if kind == SHT_SYMTAB then 8 else 1)
 
 -- sh_name, sh_type, sh_flags, sh_addr, sh_offset, sh_size, sh_link, sh_info, sh_addralign, sh_entsize
 abbrev pub section_fields : SectionHeader → List (ℕ × ℕ)
@@ -121,7 +128,7 @@ headers_bytes (h ∷ headers) = header_bytes h ++ headers_bytes headers
 abbrev pub header_with : ℕ → ℕ → OutSection → SectionHeader
 header_with name offset x = record {
   name = name;
-  kind = 1;
+  kind = SHT_PROGBITS;
   flags = x.flags;
   addr = x.address;
   offset = offset;
@@ -188,15 +195,15 @@ table_names_at f = length (string_table (map (λ x. x.name) f.sections))
 -- ".symtab": its strings are those of the next section; its info is the number of the first symbol that is not STB_LOCAL
 abbrev pub symtab_header : OutFile → SectionHeader
 symtab_header f =
-    table_header (table_names_at f) 2 (symbols_place f) (24 * (1 + length f.symbols)) (length f.sections + 2) (first_global 1 f.symbols) 24
+    table_header (table_names_at f) SHT_SYMTAB (symbols_place f) (24 * (1 + length f.symbols)) (length f.sections + 2) (first_global 1 f.symbols) 24
 
 -- ".strtab"
 abbrev pub strtab_header : OutFile → SectionHeader
-strtab_header f = table_header (table_names_at f + 8) 3 (strings_place f) (length (string_table (symbol_names f.symbols))) 0 0 0
+strtab_header f = table_header (table_names_at f + 8) SHT_STRTAB (strings_place f) (length (string_table (symbol_names f.symbols))) 0 0 0
 
 -- ".shstrtab"
 abbrev pub shstrtab_header : OutFile → SectionHeader
-shstrtab_header f = table_header (table_names_at f + 16) 3 (names_place f) (length (string_table (section_names f.sections))) 0 0 0
+shstrtab_header f = table_header (table_names_at f + 16) SHT_STRTAB (names_place f) (length (string_table (section_names f.sections))) 0 0 0
 
 unfoldable pub table_headers : OutFile → List SectionHeader
 table_headers f = symtab_header f ∷ strtab_header f ∷ shstrtab_header f ∷ []
@@ -209,9 +216,9 @@ headers_of f = null_header ∷ (headers_from (start_of f) f.segments 1 (own_plac
 -- shentsize, shnum, shstrndx
 abbrev pub file_fields : ℕ → ℕ → ℕ → ℕ → ℕ → List (ℕ × ℕ)
 file_fields entry flags segments headers sections =
-    (4, 0x464c_457f) ∷ (1, 2) ∷ (1, 1) ∷ (1, 1) ∷ (1, 0) ∷ (8, 0)
-    ∷ (2, 2) ∷ (2, 243) ∷ (4, 1) ∷ (8, entry) ∷ (8, 64) ∷ (8, headers) ∷ (4, flags)
-    ∷ (2, 64) ∷ (2, 56) ∷ (2, segments) ∷ (2, 64) ∷ (2, sections + 4) ∷ (2, sections + 3) ∷ []
+    (4, ELFMAG) ∷ (1, ELFCLASS64) ∷ (1, ELFDATA2LSB) ∷ (1, EV_CURRENT) ∷ (1, 0) ∷ (8, 0)
+    ∷ (2, ET_EXEC) ∷ (2, EM_RISCV) ∷ (4, EV_CURRENT) ∷ (8, entry) ∷ (8, 64) ∷ (8, headers) ∷ (4, flags)
+    ∷ (2, EHDR_SIZE) ∷ (2, PHDR_SIZE) ∷ (2, segments) ∷ (2, SHDR_SIZE) ∷ (2, sections + 4) ∷ (2, sections + 3) ∷ []
 
 -- its bytes
 abbrev pub file_header : OutFile → List ℕ
@@ -239,13 +246,13 @@ written f =
 -- ---- what can be written
 -- the segment is PT_LOAD, does not wrap, and has at most as many bytes as in memory
 pub record IsLoadable (s : Segment) : Type 0 where
-  pub kind : s.kind ≡ 1
+  pub kind : s.kind ≡ PT_LOAD
   pub memory : length s.bytes ≤ s.memory
   pub fits : s.address + s.memory ≤ 2 ^ 64
 
 -- both segments have bytes in memory, and share one
 abbrev pub do_share : Segment → Segment → Bool
-do_share s t = nat_lt 0 s.memory && nat_lt 0 t.memory && nat_lt s.address (t.address + t.memory) && nat_lt t.address (s.address + s.memory)
+do_share s t = share_byte s.address s.memory t.address t.memory
 
 -- no byte of the name is 0
 abbrev pub IsName : List ℕ → Type 0
@@ -269,13 +276,13 @@ pub record IsWritable (f : OutFile) : Type 0 where
   pub segments : All IsLoadable f.segments
   pub ascend : AllPairs (λ s t. s.address ≤ t.address) f.segments
   pub apart : AllPairs (λ s t. do_share s t ≡ false) f.segments
-  pub few_segments : length f.segments ≤ 4000
+  pub few_segments : length f.segments ≤ limit_of limit.OutputSegments
   pub sections : All (IsPlaced f.segments) f.sections
   pub section_names : All (λ x. IsName x.name) f.sections
-  pub few_sections : length f.sections ≤ 4000
+  pub few_sections : length f.sections ≤ MAX_OUTPUT_SECTIONS
   pub symbols : All IsSymbol f.symbols
   pub symbol_names : All (λ s. IsName s.name) f.symbols
   pub not_null : All (λ s. s ≢ null_symbol) f.symbols
   -- no symbol of another binding comes before one of STB_LOCAL
   pub locals_first : AllPairs (λ s t. t.binding ≡ 0 → s.binding ≡ 0) f.symbols
-  pub size : length (written f) ≤ 1073741824
+  pub size : length (written f) ≤ limit_of limit.CountedBytes

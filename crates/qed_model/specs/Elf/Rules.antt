@@ -6,6 +6,12 @@ use Rattle.elf_types.specs.declared.error.ElfError.TheVariants as error
 use Rattle.elf_types.specs.declared.error.Part.TheVariants as part
 use Rattle.elf_types.specs.declared.records.ProgramHeader.{ProgramHeader}
 use Rattle.elf_types.specs.declared.records.SectionHeader.{SectionHeader}
+use Rattle.qed_model.specs.declared.limits.Limit.TheVariants as limit
+use Rattle.qed_model.specs.Limits.{limit_of}
+use Rattle.elf_types.specs.declared.abi.TheConstants.{ELFMAG, ELFCLASS64, ELFDATA2LSB, EV_CURRENT, ET_EXEC, EM_RISCV, PN_XNUM, EHDR_SIZE, PHDR_SIZE, SHDR_SIZE}
+use Rattle.elf_types.specs.Abi.{is_load, has_alloc, is_symbol_table, is_string_table, is_rela_table}
+pub use Rattle.elf_types.specs.Section.{has_bytes}
+use Rattle.elf_types.specs.Overlap.{share_byte}
 use Rattle.qed_model.specs.Below.{first, sum_below}
 use Rattle.qed_model.specs.Numbers.{field}
 use Rattle.qed_model.specs.Elf.Header.{e_type, e_machine, e_version, e_phoff, e_shoff, e_ehsize, e_phentsize, e_phnum, e_shnum}
@@ -41,7 +47,7 @@ first_refusal (Err e ∷ rules) = Err e
 
 -- the file has fewer than 4 bytes, or does not begin with 7f 45 4c 46
 unfoldable pub magic_rule : List ℕ → Check
-magic_rule file = refuse error.Magic (nat_lt (length file) 4 || not (field 0 4 file == 0x464c_457f))
+magic_rule file = refuse error.Magic (nat_lt (length file) 4 || not (field 0 4 file == ELFMAG))
 
 -- the file ends in the header
 unfoldable pub header_rule : List ℕ → Check
@@ -49,32 +55,32 @@ header_rule file = refuse (error.OutOfFile part.Header) (nat_lt (length file) 64
 
 -- ELFCLASS64
 unfoldable pub class_rule : List ℕ → Check
-class_rule file = refuse (error.Class (e_class file)) (not (e_class file == 2))
+class_rule file = refuse (error.Class (e_class file)) (not (e_class file == ELFCLASS64))
 
 -- ELFDATA2LSB
 unfoldable pub encoding_rule : List ℕ → Check
-encoding_rule file = refuse (error.Encoding (e_encoding file)) (not (e_encoding file == 1))
+encoding_rule file = refuse (error.Encoding (e_encoding file)) (not (e_encoding file == ELFDATA2LSB))
 
 -- EV_CURRENT, in the identification and in the header
 unfoldable pub version_rule : List ℕ → Check
 version_rule file =
-    if e_ident_version file == 1 then refuse (error.Version (e_version file)) (not (e_version file == 1)) else Err (error.Version (e_ident_version file))
+    if e_ident_version file == EV_CURRENT then refuse (error.Version (e_version file)) (not (e_version file == EV_CURRENT)) else Err (error.Version (e_ident_version file))
 
 -- ET_EXEC
 unfoldable pub file_type_rule : List ℕ → Check
-file_type_rule file = refuse (error.FileType (e_type file)) (not (e_type file == 2))
+file_type_rule file = refuse (error.FileType (e_type file)) (not (e_type file == ET_EXEC))
 
 -- EM_RISCV
 unfoldable pub machine_rule : List ℕ → Check
-machine_rule file = refuse (error.Machine (e_machine file)) (not (e_machine file == 243))
+machine_rule file = refuse (error.Machine (e_machine file)) (not (e_machine file == EM_RISCV))
 
 -- the sizes are those of ELF64, and no number is extended (PN_XNUM, or a count of sections that stands elsewhere)
 abbrev pub has_header_shape : List ℕ → Bool
 has_header_shape file =
-    e_ehsize file == 64
-    && (e_phnum file == 0 || e_phentsize file == 56)
-    && (e_shnum file == 0 || e_shentsize file == 64)
-    && not (e_phnum file == 0xffff)
+    e_ehsize file == EHDR_SIZE
+    && (e_phnum file == 0 || e_phentsize file == PHDR_SIZE)
+    && (e_shnum file == 0 || e_shentsize file == SHDR_SIZE)
+    && not (e_phnum file == PN_XNUM)
     && (nat_lt 0 (e_shnum file) || e_shoff file == 0)
     && (e_shnum file == 0 || nat_lt (e_shstrndx file) (e_shnum file))
 
@@ -107,20 +113,12 @@ program_table_rule file = refuse (error.OutOfFile part.ProgramTable) (nat_lt 0 (
 unfoldable pub section_table_rule : List ℕ → Check
 section_table_rule file = refuse (error.OutOfFile part.SectionTable) (nat_lt 0 (e_shnum file) && is_past file (e_shoff file) (64 * e_shnum file))
 
--- PT_LOAD
-abbrev pub is_load : ProgramHeader → Bool
-is_load p = p.kind == 1
-
 -- bytes of a segment end past the end of the file
 unfoldable pub is_segment_outside : List ℕ → ProgramHeader → Bool
-is_segment_outside file p = is_load p && nat_lt 0 p.filesz && is_past file p.offset p.filesz
+is_segment_outside file p = is_load p.kind && nat_lt 0 p.filesz && is_past file p.offset p.filesz
 
 unfoldable pub segment_place_rule : List ℕ → Check
 segment_place_rule file = refuse_found (λ i. error.OutOfFile (part.Segment i)) (first (e_phnum file) (λ i. is_segment_outside file (program_header file i)))
-
--- a section with bytes in the file: neither SHT_NULL nor SHT_NOBITS
-abbrev pub has_bytes : SectionHeader → Bool
-has_bytes s = not (s.kind == 0) && not (s.kind == 8) && nat_lt 0 s.size
 
 -- bytes of a section end past the end of the file
 unfoldable pub is_section_outside : List ℕ → SectionHeader → Bool
@@ -143,16 +141,14 @@ pub record HasParts (file : List ℕ) : Type 0 where
 
 -- a segment has more bytes in the file than in memory, or ends past 2^64
 unfoldable pub is_misshapen : ProgramHeader → Bool
-is_misshapen p = is_load p && (nat_lt p.memsz p.filesz || nat_lt (2 ^ 64) (p.vaddr + p.memsz))
+is_misshapen p = is_load p.kind && (nat_lt p.memsz p.filesz || nat_lt (2 ^ 64) (p.vaddr + p.memsz))
 
 unfoldable pub segment_shape_rule : List ℕ → Check
 segment_shape_rule file = refuse_found error.SegmentShape (first (e_phnum file) (λ i. is_misshapen (program_header file i)))
 
 -- two segments share a byte of memory
 unfoldable pub do_overlap : ProgramHeader → ProgramHeader → Bool
-do_overlap p q =
-    is_load p && is_load q && nat_lt 0 p.memsz && nat_lt 0 q.memsz
-    && nat_lt p.vaddr (q.vaddr + q.memsz) && nat_lt q.vaddr (p.vaddr + p.memsz)
+do_overlap p q = is_load p.kind && is_load q.kind && share_byte p.vaddr p.memsz q.vaddr q.memsz
 
 -- the first segment behind segment i that shares a byte with it
 unfoldable pub overlapped : List ℕ → ℕ → Option ℕ
@@ -177,14 +173,6 @@ name_at strings place = if place == 0 then [] else take (unwrap_or (name_length 
 
 -- ---- sections
 
--- SHF_ALLOC, whose value is 2
-abbrev pub is_alloc : SectionHeader → Bool
-is_alloc s = s.flags / 2 % 2 == 1
-
--- SHT_STRTAB
-abbrev pub is_strings : SectionHeader → Bool
-is_strings s = s.kind == 3
-
 -- the section with the names of the sections
 abbrev pub names_header : List ℕ → SectionHeader
 names_header file = section_header file (e_shstrndx file)
@@ -192,9 +180,9 @@ names_header file = section_header file (e_shstrndx file)
 -- section i is in memory and ends past 2^64; or should hold the names, and is no string table; or its name has no end
 unfoldable pub is_section_misshapen : List ℕ → ℕ → Bool
 is_section_misshapen file i =
-    (is_alloc (section_header file i) && nat_lt (2 ^ 64) ((section_header file i).addr + (section_header file i).size))
-    || (not (e_shstrndx file == 0) && i == e_shstrndx file && not (is_strings (section_header file i)))
-    || (not (e_shstrndx file == 0) && is_strings (names_header file) && is_unended (section_bytes file (names_header file)) (section_header file i).name)
+    (has_alloc (section_header file i).flags && nat_lt (2 ^ 64) ((section_header file i).addr + (section_header file i).size))
+    || (not (e_shstrndx file == 0) && i == e_shstrndx file && not (is_string_table (section_header file i).kind))
+    || (not (e_shstrndx file == 0) && is_string_table (names_header file).kind && is_unended (section_bytes file (names_header file)) (section_header file i).name)
 
 unfoldable pub section_shape_rule : List ℕ → Check
 section_shape_rule file = refuse_found error.SectionShape (first (e_shnum file) (is_section_misshapen file))
@@ -210,7 +198,7 @@ section_name file i = name_at (section_strings file) (section_header file i).nam
 
 -- the number of the first section of type SHT_SYMTAB
 unfoldable pub symbol_table : List ℕ → Option ℕ
-symbol_table file = first (e_shnum file) (λ i. (section_header file i).kind == 2)
+symbol_table file = first (e_shnum file) (λ i. is_symbol_table (section_header file i).kind)
 
 -- entries of 24 bytes, and nothing else
 abbrev pub has_entries : SectionHeader → Bool
@@ -218,7 +206,7 @@ has_entries s = s.entsize == 24 && s.size % 24 == 0
 
 -- the link of a symbol table is the number of a string table
 abbrev pub has_strings : List ℕ → SectionHeader → Bool
-has_strings file s = nat_lt s.link (e_shnum file) && is_strings (section_header file s.link)
+has_strings file s = nat_lt s.link (e_shnum file) && is_string_table (section_header file s.link).kind
 
 -- the string table of a symbol table
 unfoldable pub strings_of : List ℕ → SectionHeader → List ℕ
@@ -263,7 +251,7 @@ is_at (Some i) k = i == k
 
 -- SHT_RELA, for a section in memory, against the symbol table; all other relocations are passed over
 abbrev pub is_counted : List ℕ → SectionHeader → Bool
-is_counted file s = s.kind == 4 && nat_lt s.info (e_shnum file) && is_alloc (section_header file s.info) && is_at (symbol_table file) s.link
+is_counted file s = is_rela_table s.kind && nat_lt s.info (e_shnum file) && has_alloc (section_header file s.info).flags && is_at (symbol_table file) s.link
 
 -- of a counted section, the first entry without a symbol, or 0 where the shape of the section is at fault
 unfoldable pub rela_fault : List ℕ → SectionHeader → Option ℕ
@@ -275,15 +263,15 @@ rela_fault file s =
 unfoldable pub rela_shape_rule : List ℕ → Check
 rela_shape_rule file = refuse_found_at error.RelaShape (λ i. rela_fault file (section_header file i)) (first (e_shnum file) (λ i. is_some (rela_fault file (section_header file i))))
 
--- ---- limits
+-- ---- limits of the reader, beside the rules
 
 -- more than 4,096 sections
 unfoldable pub section_count_rule : List ℕ → Check
-section_count_rule file = refuse (error.TooManySections (e_shnum file)) (nat_lt 4096 (e_shnum file))
+section_count_rule file = refuse (error.TooManySections (e_shnum file)) (nat_lt (limit_of limit.Sections) (e_shnum file))
 
 -- the bytes of a segment in the file
 abbrev pub file_size : ProgramHeader → ℕ
-file_size p = if is_load p then p.filesz else 0
+file_size p = if is_load p.kind then p.filesz else 0
 
 -- the bytes of the names of the symbols
 abbrev pub symbol_name_bytes : List ℕ → Option ℕ → ℕ
@@ -297,9 +285,9 @@ counted_bytes file =
     + sum_below (e_shnum file) (λ i. length (section_name file i))
     + symbol_name_bytes file (symbol_table file)
 
--- more than 1,073,741,824 bytes; the count is given up to 2^64 - 1
+-- more than the limit; the count is given up to 2^64 - 1
 unfoldable pub byte_count_rule : List ℕ → Check
-byte_count_rule file = refuse (error.TooManyBytes (min (counted_bytes file) (2 ^ 64 - 1))) (nat_lt 1_073_741_824 (counted_bytes file))
+byte_count_rule file = refuse (error.TooManyBytes (min (counted_bytes file) (2 ^ 64 - 1))) (nat_lt (limit_of limit.CountedBytes) (counted_bytes file))
 
 -- ---- all rules, in order
 
@@ -311,7 +299,7 @@ table_rules file = first_refusal (header_rules file ∷ program_table_rule file 
 unfoldable pub part_rules : List ℕ → Check
 part_rules file = first_refusal (table_rules file ∷ segment_place_rule file ∷ section_place_rule file ∷ [])
 
--- the first rule that refuses a file, or Ok where none does
+-- the first rule that refuses a file, E1 to E13, or Ok where none does
 unfoldable pub verdict : List ℕ → Check
 verdict file =
     first_refusal
@@ -321,6 +309,8 @@ verdict file =
     ∷ section_shape_rule file
     ∷ symbol_shape_rule file
     ∷ rela_shape_rule file
-    ∷ section_count_rule file
-    ∷ byte_count_rule file
     ∷ [])
+
+-- what the reader says of a file: the first rule that refuses it, or else the first limit that it exceeds, L5 and L10
+unfoldable pub read_verdict : List ℕ → Check
+read_verdict file = first_refusal (verdict file ∷ section_count_rule file ∷ byte_count_rule file ∷ [])

@@ -1,8 +1,10 @@
 -- The file that a machine starts from, as its segments and sections describe it (ELF gABI, program loading).
-use Rattle.std.specs.Prelude.{ℕ, ◌+◌, ◌/◌, ◌%◌, ◌==◌, ◌&&◌, ◌||◌, Bool, false, cond, nat_lt, nat_le, List, [], ◌∷◌}
+use Rattle.std.specs.Prelude.{ℕ, ◌+◌, ◌&&◌, ◌||◌, Bool, false, cond, nat_lt, nat_le, List, [], ◌∷◌}
 use Rattle.elf_types.specs.declared.file.Segment.{Segment}
 use Rattle.elf_types.specs.declared.file.Section.{Section}
 use Rattle.elf_types.specs.declared.file.ElfFile.{ElfFile}
+use Rattle.elf_types.specs.Abi.{is_load}
+pub use Rattle.elf_types.specs.Section.{is_code_section}
 use Rattle.qed_model.specs.Machine.Program.{Program, LoadSegment}
 use Rattle.qed_model.specs.Machine.Memory.{flags_of}
 
@@ -13,13 +15,9 @@ load_segment s = record { address = s.address; size = s.memory; flags = flags_of
 -- the segments of type PT_LOAD
 abbrev pub load_segments : List Segment → List LoadSegment
 load_segments [] = []
-load_segments (s ∷ ss) = cond (s.kind == 1) (load_segment s ∷ load_segments ss) (load_segments ss)
+load_segments (s ∷ ss) = cond (is_load s.kind) (load_segment s ∷ load_segments ss) (load_segments ss)
 
 -- ---- code ranges: each by its first address and the one behind its last
--- SHF_ALLOC, SHF_EXECINSTR, and some bytes
-abbrev pub is_code_section : Section → Bool
-is_code_section s = (s.flags / 2 % 2 == 1) && ((s.flags / 4 % 2 == 1) && nat_lt 0 s.size)
-
 -- the section lies wholly inside the segment, which is executable
 abbrev pub lies_in_code : Section → LoadSegment → Bool
 lies_in_code s l = l.flags.execute && (nat_le l.address s.address && nat_le (s.address + s.size) (l.address + l.size))

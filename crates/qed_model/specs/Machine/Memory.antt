@@ -5,6 +5,7 @@ use Rattle.std.specs.Option.{option_map}
 use Rattle.std.specs.Coded.{Coded, code_by, coded×, coded_ℕ, coded_bool}
 use Rattle.std.specs.FinMap.{FinMap, get, entries, from_sorted, code}
 use Rattle.std.specs.Ordering.{nat_cmp}
+use Rattle.elf_types.specs.Abi.{may_read, may_write, may_execute}
 
 -- which accesses an address allows
 pub record Flags : Type 0 where
@@ -14,7 +15,7 @@ pub record Flags : Type 0 where
 
 -- the permissions by the flags of a segment: PF_R, PF_W and PF_X (ELF gABI, program header)
 abbrev pub flags_of : ℕ → Flags
-flags_of flags = record { read = flags / 4 % 2 == 1; write = flags / 2 % 2 == 1; execute = flags % 2 == 1 }
+flags_of flags = record { read = may_read flags; write = may_write flags; execute = may_execute flags }
 
 -- what a mapped address holds
 pub record Cell : Type 0 where

@@ -1,6 +1,9 @@
 -- What is printed where a file is refused or exceeds a limit. Each line ends with a newline.
-use Rattle.std.specs.Prelude.{ℕ, List, ◌++◌, codes}
+use Rattle.std.specs.Prelude.{ℕ, List, ◌++◌, codes, if◌then◌else◌}
 use Rattle.std.specs.Fmt.{decimal}
+use Rattle.qed_model.specs.declared.limits.Limit.{Limit}
+use Rattle.qed_model.specs.declared.limits.Limit.TheVariants as limit
+use Rattle.qed_model.specs.Limits.{limit_of, limit_number, is_counted}
 use Rattle.qed_model.specs.Text.Run.{hex_text}
 use Rattle.elf_types.specs.declared.error.ElfError.{ElfError}
 use Rattle.elf_types.specs.declared.error.ElfError.TheVariants as error
@@ -11,9 +14,12 @@ use Rattle.elf_types.specs.declared.error.Part.TheVariants as part
 abbrev pub numbered : List ℕ → ℕ → List ℕ
 numbered front n = front ++ (decimal n ++ codes "\n")
 
--- a limit, by its name, the counted number, and the greatest that is taken
-abbrev pub limit_line : List ℕ → ℕ → List ℕ → List ℕ
-limit_line front n back = front ++ (decimal n ++ back)
+-- a limit by its name and number, the counted number where it is printed, and the greatest that is taken
+abbrev pub limit_line : Limit → ℕ → List ℕ
+limit_line l n =
+    if is_counted l
+    then codes "limit L" ++ (decimal (limit_number l) ++ (codes ": " ++ (decimal n ++ (codes " over " ++ (decimal (limit_of l) ++ codes "\n")))))
+    else codes "limit L" ++ (decimal (limit_number l) ++ (codes ": over " ++ (decimal (limit_of l) ++ codes "\n")))
 
 abbrev pub part_line : Part → List ℕ
 part_line part.Header = codes "refused E8: header\n"
@@ -37,21 +43,10 @@ error_line (error.SegmentOverlap i j) = codes "refused E10: segments " ++ (decim
 error_line (error.SectionShape i) = numbered (codes "refused E11: section ") i
 error_line (error.SymbolShape j) = numbered (codes "refused E12: symbol ") j
 error_line (error.RelaShape i j) = codes "refused E13: section " ++ (decimal i ++ (codes ", entry " ++ (decimal j ++ codes "\n")))
-error_line (error.TooManySections n) = limit_line (codes "limit L5: ") n (codes " over 4096\n")
-error_line (error.TooManyBytes n) = limit_line (codes "limit L10: ") n (codes " over 1073741824\n")
+error_line (error.TooManySections n) = limit_line limit.Sections n
+error_line (error.TooManyBytes n) = limit_line limit.CountedBytes n
 error_line error.Memory = codes ""
-
--- the memory sizes of the PT_LOAD segments of a file to be run
-abbrev pub memory_limit_line : ℕ → List ℕ
-memory_limit_line n = limit_line (codes "limit L6: ") n (codes " over 268435456\n")
 
 -- the first register above x13, and the address of its instruction
 abbrev pub high_register_line : ℕ → ℕ → List ℕ
 high_register_line at register = codes "refused A7: address " ++ (hex_text at ++ (codes ", register " ++ (decimal register ++ codes "\n")))
-
--- the segments and the bytes of an output
-abbrev pub segment_limit_line : ℕ → List ℕ
-segment_limit_line n = limit_line (codes "limit L8: ") n (codes " over 4000\n")
-
-abbrev pub size_limit_line : ℕ → List ℕ
-size_limit_line n = limit_line (codes "limit L9: ") n (codes " over 536870912\n")

@@ -1,11 +1,13 @@
 -- What the output file holds: segments, sections and symbols, made of those of the input. Names and numbers are those of the ELF gABI.
-use Rattle.std.specs.Prelude.{ℕ, ◌+◌, ◌-◌, ◌*◌, ◌/◌, ◌==◌, min, max, Bool, true, false, nat_lt, nat_le, ◌&&◌, ◌||◌, not, if◌then◌else◌, Option, Some, None, List, [], ◌∷◌, ◌++◌, length, map, codes}
+use Rattle.std.specs.Prelude.{ℕ, ◌+◌, ◌-◌, ◌*◌, ◌/◌, ◌==◌, min, max, Bool, true, false, nat_lt, nat_le, ◌&&◌, not, if◌then◌else◌, Option, Some, None, List, [], ◌∷◌, ◌++◌, length, map, codes}
 use Rattle.std.specs.List.{filter, flat_map}
 use Rattle.elf_types.specs.declared.file.ElfFile.{ElfFile}
 use Rattle.elf_types.specs.declared.file.Segment.{Segment}
 use Rattle.elf_types.specs.declared.file.Symbol.{Symbol}
 use Rattle.elf_types.specs.declared.output.OutFile.{OutFile}
 use Rattle.elf_types.specs.declared.output.OutSection.{OutSection}
+use Rattle.elf_types.specs.declared.abi.TheConstants.{PT_LOAD, PF_R, PF_X, SHF_ALLOC, SHF_EXECINSTR, STT_FUNC, SHN_ABS}
+pub use Rattle.elf_types.specs.Symbol.{is_defined, may_name_code, is_local}
 use Rattle.qed_model.specs.declared.plan.EntryRow.{EntryRow}
 use Rattle.qed_model.specs.Numbers.{number_bytes}
 use Rattle.qed_model.specs.Admission.Terms.{image_segments}
@@ -42,9 +44,9 @@ copied distance s = record { kind = s.kind; flags = s.flags / 2 * 2; address = s
 abbrev pub copies : ℕ → List Segment → List Segment
 copies distance segments = map (copied distance) segments
 
--- PT_LOAD with PF_R and PF_X, and all its bytes in the file
+-- with PF_R and PF_X, and all its bytes in the file
 abbrev pub code_segment : ℕ → List ℕ → Segment
-code_segment at code = record { kind = 1; flags = 5; address = at; memory = length code; bytes = code }
+code_segment at code = record { kind = PT_LOAD; flags = PF_R + PF_X; address = at; memory = length code; bytes = code }
 
 -- the input's image in both halves, and the new code
 abbrev pub out_segments : List Segment → List ℕ → List Segment
@@ -53,7 +55,7 @@ out_segments image code = copies 0 image ++ (copies (distance_of image) image ++
 -- ---- sections
 -- over the new code, with SHF_ALLOC and SHF_EXECINSTR
 abbrev pub text_section : ℕ → List ℕ → OutSection
-text_section at code = record { name = codes ".qed.text"; flags = 6; address = at; size = length code; bytes = [] }
+text_section at code = record { name = codes ".qed.text"; flags = SHF_ALLOC + SHF_EXECINSTR; address = at; size = length code; bytes = [] }
 
 -- the input address and the new address of an entry, 8 bytes each
 unfoldable pub row_bytes : EntryRow → List ℕ
@@ -71,11 +73,7 @@ out_sections at code rows = text_section at code ∷ map_section rows ∷ []
 -- ---- symbols
 -- named and defined, of type STT_NOTYPE, STT_OBJECT or STT_FUNC
 abbrev pub is_kept : Symbol → Bool
-is_kept s = nat_lt 0 (length s.name) && (not (s.index == 0) && nat_le s.kind 2)
-
--- STT_NOTYPE or STT_FUNC
-abbrev pub is_of_code : Symbol → Bool
-is_of_code s = s.kind == 0 || s.kind == 2
+is_kept s = nat_lt 0 (length s.name) && (is_defined s && nat_le s.kind STT_FUNC)
 
 -- the new address of an input address that has an entry
 abbrev pub entry_at : List EntryRow → ℕ → Option ℕ
@@ -84,7 +82,7 @@ entry_at (row ∷ rows) a = if row.input == a then Some row.output else entry_at
 
 -- the symbol with a value and a size, and SHN_ABS as its section
 abbrev pub valued : Symbol → ℕ → ℕ → Symbol
-valued s value size = record { name = s.name; value = value; size = size; kind = s.kind; binding = s.binding; other = s.other; index = 0xfff1 }
+valued s value size = record { name = s.name; value = value; size = size; kind = s.kind; binding = s.binding; other = s.other; index = SHN_ABS }
 
 -- the symbol at its new address, where it has one
 abbrev pub at_entry : Symbol → Option ℕ → Symbol
@@ -92,11 +90,7 @@ at_entry s None = valued s s.value s.size
 at_entry s (Some a) = valued s a 0
 
 abbrev pub out_symbol : List EntryRow → Symbol → Symbol
-out_symbol rows s = at_entry s (if is_of_code s then entry_at rows s.value else None)
-
--- STB_LOCAL
-abbrev pub is_local : Symbol → Bool
-is_local s = s.binding == 0
+out_symbol rows s = at_entry s (if may_name_code s then entry_at rows s.value else None)
 
 -- the symbols that are STB_LOCAL, or those that are not, in their order
 abbrev pub symbol_group : Bool → List EntryRow → List Symbol → List Symbol

@@ -2,18 +2,19 @@
 use Rattle.std.specs.Prelude.{◌≡◌, ℕ, ◌+◌, ◌*◌, ◌%◌, ◌≤◌, Option, unwrap_or, IfSome, List}
 use Rattle.elf_types.specs.declared.file.Segment.{Segment}
 use Rattle.elf_types.specs.declared.file.ElfFile.{ElfFile}
+use Rattle.qed_model.specs.declared.limits.TheConstants.{MAX_HALF}
 use Rattle.qed_model.specs.declared.options.Options.{Options}
 use Rattle.qed_model.specs.Admission.Terms.{image_segments}
 use Rattle.qed_model.specs.Weave.OutputParts.{base_of, distance_of}
 
 -- options with which files are transformed
-pub record AreSound (o : Options) : Type 0 where
+pub record AreSoundOptions (o : Options) : Type 0 where
   pub some : 1 ≤ o.inst_min
   pub room : 2 * o.inst_min ≤ o.inst_max + 1
   pub most : o.inst_max ≤ 1024
   pub visits : 1 ≤ o.round
   pub few_visits : o.round ≤ 1024
-  pub half : IfSome o.half (λ h. (h % 4096 ≡ 0) × (4096 ≤ h) × (h ≤ 536_870_912))
+  pub half : IfSome o.half (λ h. (h % 4096 ≡ 0) × (4096 ≤ h) × (h ≤ MAX_HALF))
 
 -- the segments of a file that are its image
 abbrev pub image_of : ElfFile → List Segment

@@ -41,12 +41,12 @@ pub record Form : Type 0 where
 
 -- ---- registers and checks
 -- a fired check
-abbrev pub ebreak : Item
-ebreak = Plain (ins Ebreak 0 0 0 (pos 0))
+abbrev pub fired_check : Item
+fired_check = Plain (ins Ebreak 0 0 0 (pos 0))
 
 -- fires where a register and its pair differ; nothing for x0
 abbrev pub guard : ℕ → List Item
-guard r = cond (r == 0) [] (Plain (ins Beq 0 r (r + 16) (pos 8)) ∷ ebreak ∷ [])
+guard r = cond (r == 0) [] (Plain (ins Beq 0 r (r + 16) (pos 8)) ∷ fired_check ∷ [])
 
 -- the guards of some registers
 abbrev pub guards : List ℕ → List Item
@@ -59,7 +59,7 @@ compare = guards (1 ∷ 2 ∷ 3 ∷ 4 ∷ 5 ∷ 6 ∷ 7 ∷ 8 ∷ 9 ∷ 10 ∷ 1
 
 -- begins the entry of an input address: fires where the signature in x16 is another
 abbrev pub enter : ℕ → List Item
-enter a = Mark a ∷ Constant 30 a ∷ Plain (ins Beq 0 16 30 (pos 8)) ∷ ebreak ∷ []
+enter a = Mark a ∷ Constant 30 a ∷ Plain (ins Beq 0 16 30 (pos 8)) ∷ fired_check ∷ []
 
 -- ---- visits
 -- behind the last word of a range the cursor in x15 goes on at the next range, behind that of the last range at `first`
@@ -73,7 +73,7 @@ wraps (r ∷ n ∷ rs) first = Constant 30 r.1 ∷ Plain (ins Bne 0 15 30 (pos 1
 abbrev pub visit_word : List (ℕ × ℕ) → List Item
 visit_word [] = []
 visit_word (r ∷ rs) =
-    Plain (ins Ld 30 15 0 (pos 0)) ∷ Plain (ins Add 31 15 14 (pos 0)) ∷ Plain (ins Ld 31 31 0 (pos 0)) ∷ Plain (ins Beq 0 30 31 (pos 8)) ∷ ebreak ∷
+    Plain (ins Ld 30 15 0 (pos 0)) ∷ Plain (ins Add 31 15 14 (pos 0)) ∷ Plain (ins Ld 31 31 0 (pos 0)) ∷ Plain (ins Beq 0 30 31 (pos 8)) ∷ fired_check ∷
     Plain (ins Addi 15 15 0 (pos 8)) ∷ wraps (r ∷ rs) r.0
 
 -- the items several times
@@ -88,7 +88,7 @@ visit round spans = times round (visit_word spans)
 -- each word of a range in turn: fires where it and its duplicate differ
 abbrev pub sweep_range : ℕ × ℕ → List Item
 sweep_range r =
-    Constant 15 r.0 ∷ Plain (ins Ld 30 15 0 (pos 0)) ∷ Plain (ins Add 31 15 14 (pos 0)) ∷ Plain (ins Ld 31 31 0 (pos 0)) ∷ Plain (ins Beq 0 30 31 (pos 8)) ∷ ebreak ∷
+    Constant 15 r.0 ∷ Plain (ins Ld 30 15 0 (pos 0)) ∷ Plain (ins Add 31 15 14 (pos 0)) ∷ Plain (ins Ld 31 31 0 (pos 0)) ∷ Plain (ins Beq 0 30 31 (pos 8)) ∷ fired_check ∷
     Plain (ins Addi 15 15 0 (pos 8)) ∷ Constant 30 r.1 ∷ Plain (ins Bne 0 15 30 (neg_ℤ (pos 32))) ∷ []
 
 -- each range

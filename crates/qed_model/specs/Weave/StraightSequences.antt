@@ -6,7 +6,7 @@ use Rattle.rv_isa.specs.declared.ins.Ins.{Ins}
 use Rattle.qed_model.specs.declared.item.Item.{Item}
 use Rattle.qed_model.specs.declared.item.Item.TheVariants.{Plain}
 use Rattle.qed_model.specs.Machine.Table.{ins}
-pub use Rattle.qed_model.specs.Weave.Sequences.{ebreak, guard, enter, go_on, times, cursor, stub}
+pub use Rattle.qed_model.specs.Weave.Sequences.{fired_check, guard, enter, go_on, times, cursor, stub}
 pub use Rattle.rv_isa.specs.Operation.{pair, renamed}
 use Rattle.qed_model.specs.Weave.Sequences.{visit_word}
 

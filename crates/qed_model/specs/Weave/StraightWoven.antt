@@ -10,7 +10,7 @@ use Rattle.qed_model.specs.declared.plan.Plan.{Plan}
 use Rattle.qed_model.specs.Numbers.{bytes_of}
 use Rattle.qed_model.specs.Weave.StraightSequences.{ecall, woven_items}
 use Rattle.qed_model.specs.Weave.Placed.{placed, rows_from, Decode}
-use Rattle.qed_model.specs.Elf.File.{File}
+use Rattle.qed_model.specs.Elf.File.{IsReadAs}
 use Rattle.qed_model.specs.Elf.Layout.{written}
 use Rattle.qed_model.specs.Admission.Terms.{image_segments, register_half, code_from}
 use Rattle.qed_model.specs.Admission.StraightTest.{StraightParts, IsMadeOf}
@@ -39,10 +39,10 @@ woven_file f body words = out_file f (new_entries f body) (bytes_of words)
 abbrev pub high_register_of : ElfFile → List Ins → Option (ℕ × ℕ)
 high_register_of f body = register_half (code_from f.entry (body ++ ecall ∷ []))
 
--- the input is a straight test that keeps to x0 to x13, and this the file with its new code
+-- the input is read and is a straight test that keeps to x0 to x13, and this the file with its new code
 pub record WovenFile (input : List ℕ) (out : OutFile) : Type 0 where
   pub file : ElfFile
-  pub read : File input file
+  pub read : IsReadAs input file
   pub parts : StraightParts
   pub made : IsMadeOf file parts
   pub low : high_register_of file parts.body ≡ None

@@ -1,8 +1,10 @@
 -- What is woven from a test: the output file, word for word, and what is told of it.
-use Rattle.std.specs.Prelude.{◌≡◌, ℕ, ◌*◌, ◌^◌, ◌<◌, ◌≤◌, nat_lt, Bool, false, cond, List, [], ◌∷◌, ◌++◌, length, map, slice_index}
+use Rattle.std.specs.Prelude.{◌≡◌, ℕ, ◌^◌, ◌<◌, ◌≤◌, nat_lt, Bool, false, cond, List, ◌++◌, length, map, slice_index}
 use Rattle.rv_isa.specs.declared.ins.Ins.{Ins}
 use Rattle.elf_types.specs.declared.file.ElfFile.{ElfFile}
 use Rattle.elf_types.specs.declared.output.OutFile.{OutFile}
+use Rattle.qed_model.specs.declared.limits.Limit.TheVariants as limit
+use Rattle.qed_model.specs.Limits.{limit_of}
 use Rattle.qed_model.specs.declared.item.Item.{Item}
 use Rattle.qed_model.specs.declared.options.Options.{Options}
 use Rattle.qed_model.specs.declared.plan.EntryRow.{EntryRow}
@@ -83,9 +85,9 @@ InputHasOneOutput = (input : List ℕ) (o : Options) (a b : List ℕ) → Woven 
 
 -- the new code has at most 67,108,864 bytes, and the output at most 4,000 segments and 536,870,912 bytes
 pub record IsWithin (f : ElfFile) (o : Options) (blocks : List Block) (out : OutFile) : Type 0 where
-  pub code : code_size f o blocks ≤ 67_108_864
-  pub segments : length out.segments ≤ 4000
-  pub size : length (written out) ≤ 536_870_912
+  pub code : code_size f o blocks ≤ limit_of limit.CodeBytes
+  pub segments : length out.segments ≤ limit_of limit.OutputSegments
+  pub size : length (written out) ≤ limit_of limit.OutputBytes
 
 -- ---- what is told of it
 -- what the bounds depend on

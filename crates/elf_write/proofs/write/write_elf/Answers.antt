@@ -1,5 +1,5 @@
 use Rattle.std.proofs.Common.{◌≡◌, ◌++◌, ◌∙◌, ℕ, List, [], length, append_assoc, subst, sym}
-use Rattle.qed_model.specs.Elf.File.{File}
+use Rattle.qed_model.specs.Elf.File.{IsReadAs}
 use Rattle.qed_model.specs.Elf.FileRead.{file_read}
 use Rattle.qed_model.specs.Elf.Written.{fields_bytes, program_headers, segments_bytes}
 use Rattle.qed_model.specs.Elf.Layout.{written, file_fields, start_of, headers_place, tables_bytes}
@@ -29,5 +29,5 @@ returns c =
     let same = c.of.ensures ∙ joined_two [] _ _ (header ++ (programs ++ segments)) (tables_bytes f) front c.in_ok-push_tables.ensures.bytes ∙ split header programs segments (tables_bytes f) in
     let first = c.in_ok-push_front.ensures.fits in
     let last = c.in_ok-push_tables.ensures.fits in
-    let back : File (written f) (file_read f) = reads_back f c.requires first.entry first.flags first.segments last.sections last.symbols in
-    record { written = same; reads_back = subst (λ (bytes : List ℕ). File bytes (file_read f)) (sym same) back }
+    let back : IsReadAs (written f) (file_read f) = reads_back f c.requires first.entry first.flags first.segments last.sections last.symbols in
+    record { written = same; reads_back = subst (λ (bytes : List ℕ). IsReadAs bytes (file_read f)) (sym same) back }

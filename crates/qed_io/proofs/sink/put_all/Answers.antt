@@ -14,8 +14,10 @@ loop-preserved g c =
       part = (
         part.0 ++ take taken rest,
         rw cut.back (part.1 ∙ ap (λ xs. part.0 ++ xs) (sym (take-append-drop taken rest)) ∙ sym (append_assoc part.0 (take taken rest) _)),
-        Appends-trans _ _ _ part.0 (take taken rest) part.2 wrote.appends,
+        Appends-trans _ _ _ part.0 (take taken rest) part.2 wrote.bytes.appends,
       );
-      within = omega (arith, wrote.bound, cut.back_len);
-      count = omega (arith, wrote.count);
+      within = omega (arith, wrote.bytes.bound, cut.back_len);
+      steady = omega (arith, wrote.faults.took);
+      some_calls = omega (arith, wrote.calls.not_fell);
+      few_calls = omega (arith, wrote.calls.at_most);
     }

@@ -1,0 +1,4 @@
+pub mod BuiltLaws
+pub mod BodyLaws
+pub mod BlockLaws
+pub mod ExtentLaws

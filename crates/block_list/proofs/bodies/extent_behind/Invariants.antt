@@ -1,0 +1,12 @@
+use Rattle.std.proofs.Common.{◌≡◌, ◌+◌, drop}
+use Rattle.flow_recovery.specs.Sets.{holds}
+use Rattle.block_list.specs.Bodies.{size_behind, end_behind}
+use Rattle.block_list.proofs.bodies.extent_behind.Given as goal
+
+-- those so far belong to the body, and the rest decides
+abbrev pub invariant-loop-word : goal.invariant-loop-word
+invariant-loop-word l = record {
+  counted : l.size ≡ l.word-index;
+  size : l.size + size_behind (holds l.leaders) l.previous (drop l.word-index l.words) ≡ size_behind (holds l.leaders) l.start l.words;
+  end : end_behind (holds l.leaders) l.previous (drop l.word-index l.words) ≡ end_behind (holds l.leaders) l.start l.words;
+}

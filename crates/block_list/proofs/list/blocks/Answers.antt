@@ -1,0 +1,26 @@
+use Rattle.std.proofs.Common.{sym, subst, map}
+use Rattle.std.specs.Prelude.{All}
+use Rattle.flow_recovery.specs.Sets.{holds}
+use Rattle.qed_model.specs.Weave.Blocks.{AreBlocks}
+use Rattle.block_list.specs.Built.{Built}
+use Rattle.block_list.specs.Listed.{block_of, IsWithin}
+use Rattle.block_list.proofs.BlockLaws.{are_blocks}
+use Rattle.block_list.proofs.ExtentLaws.{blocks_within}
+use Rattle.block_list.proofs.list.blocks.Goals as goal
+
+pub returns-clause-exact : goal.returns-clause-exact
+returns-clause-exact c =
+    let f = c.args.file.now in
+    let most = c.args.options.now.inst_max in
+    let leads = holds c.in_ok-leaders.leaders in
+    let built = subst (λ ws. Built leads c.has_indirect-indirect.result most ws c.in_ok-list.list.items) c.as_slice.ensures c.in_ok-list.ensures in
+    let all = are_blocks f leads c.in_ok-leaders.ensures.exact c.has_indirect-indirect.result (c.has_indirect-indirect.ensures.exact f c.requires.code.code) most c.args.test.now.code c.in_ok-list.list.items c.requires.code.code built in
+    subst (λ bs. AreBlocks f most (map block_of bs)) (sym c.of.ensures) all
+
+pub returns-clause-within : goal.returns-clause-within
+returns-clause-within c =
+    let f = c.args.file.now in
+    let most = c.args.options.now.inst_max in
+    let leads = holds c.in_ok-leaders.leaders in
+    let built = subst (λ ws. Built leads c.has_indirect-indirect.result most ws c.in_ok-list.list.items) c.as_slice.ensures c.in_ok-list.ensures in
+    λ top small. subst (All (IsWithin top)) (sym c.of.ensures) (blocks_within f leads c.in_ok-leaders.ensures.exact c.has_indirect-indirect.result most c.args.test.now.code c.in_ok-list.list.items c.requires.code.code built top small)

@@ -1,0 +1,57 @@
+-- The blocks of a list of words of the code, word by word.
+use Rattle.std.specs.Prelude.{◌≡◌, ℕ, Bool, true, false, if◌then◌else◌, Some, None, List, [], ◌∷◌, ◌++◌, map, take}
+use Rattle.qed_model.specs.declared.test.CodeWord.{CodeWord}
+use Rattle.block_split.specs.Lengths.{AreLengths}
+use Rattle.block_list.specs.declared.block.CodeBlock.{CodeBlock}
+use Rattle.block_list.specs.Bodies.{ends, body_size, body_end}
+
+-- the address of the first word
+abbrev pub first_at : List CodeWord → ℕ
+first_at [] = 0
+first_at (w ∷ ws) = w.at
+
+-- the block that begins with the first word, at a leader
+pub record IsLong (leads : ℕ → Bool) (most : ℕ) (words : List CodeWord) (b : CodeBlock) : Type 0 where
+  pub start : b.start ≡ first_at words
+  pub body : b.body ≡ map (λ c. c.ins) (take (body_size leads words) words)
+  pub pieces : AreLengths most b.body b.lengths
+  pub end : b.end ≡ body_end leads words
+
+-- the block of a word that is at no leader
+pub record IsShort (w : CodeWord) (b : CodeBlock) : Type 0 where
+  pub start : b.start ≡ w.at
+  pub body : b.body ≡ (if ends w then [] else w.ins ∷ [])
+  pub lengths : b.lengths ≡ (if ends w then 0 else 1) ∷ []
+  pub end : b.end ≡ (if ends w then Some w.ins else None)
+
+-- a list of one block with the property
+pub record One (P : CodeBlock → Type 0) (bs : List CodeBlock) : Type 0 where
+  pub block : CodeBlock
+  pub is : bs ≡ block ∷ []
+  pub holds : P block
+
+-- the blocks that begin with the first word: one at a leader, one where each address has a block, else none
+abbrev pub Begun : Bool → Bool → (ℕ → Bool) → ℕ → List CodeWord → List CodeBlock → Type 0
+Begun leader indirect leads most [] bs = bs ≡ []
+Begun true indirect leads most (w ∷ ws) bs = One (IsLong leads most (w ∷ ws)) bs
+Begun false true leads most (w ∷ ws) bs = One (IsShort w) bs
+Begun false false leads most (w ∷ ws) bs = bs ≡ []
+
+-- these were added
+pub record AddsBlock (leads : ℕ → Bool) (indirect : Bool) (most : ℕ) (words : List CodeWord) (old new : List CodeBlock) : Type 0 where
+  pub added : List CodeBlock
+  pub new_is : new ≡ old ++ added
+  pub begun : Begun (leads (first_at words)) indirect leads most words added
+
+-- a list in two parts
+pub record Parts (P Q : List CodeBlock → Type 0) (bs : List CodeBlock) : Type 0 where
+  pub front : List CodeBlock
+  pub back : List CodeBlock
+  pub is : bs ≡ front ++ back
+  pub first : P front
+  pub rest : Q back
+
+-- the blocks that begin with any of the words
+abbrev pub Built : (ℕ → Bool) → Bool → ℕ → List CodeWord → List CodeBlock → Type 0
+Built leads indirect most [] bs = bs ≡ []
+Built leads indirect most (w ∷ ws) bs = Parts (Begun (leads w.at) indirect leads most (w ∷ ws)) (Built leads indirect most ws) bs

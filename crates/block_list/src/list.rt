@@ -1,0 +1,131 @@
+//! The list of the blocks.
+ghost use Rattle.std.specs.Prelude.{◌≡◌, ℕ, ◌+◌, ◌≤◌, All, IfOk, OnOk, length, map};
+ghost use Rattle.flow_recovery.specs.Sets.{holds};
+ghost use Rattle.flow_recovery.specs.Leaders.{IsCodeOf};
+ghost use Rattle.qed_model.specs.Weave.Blocks.{AreBlocks};
+ghost use Rattle.qed_model.specs.Weave.Places.{AreSoundOptions};
+ghost use Rattle.block_list.specs.Built.{IsLong, IsShort, AddsBlock, Built};
+ghost use Rattle.block_list.specs.Listed.{block_of, IsWithin};
+
+use crate::block::{Blocks, CodeBlock};
+use crate::bodies::{body_extent, ends};
+use block_split::split;
+use elf_types::{ElfFile, Listed};
+use flow_recovery::{has_indirect, leaders};
+use qed_model::{CodeWord, Options, Test};
+use rv_isa::Ins;
+use std::alloc::{AllocError, Global};
+use std::collections::BTreeSet;
+
+/// The instructions of words.
+fn instructions(alloc: Global, words: &[CodeWord]) -> Result<Vec<Ins>, AllocError>
+    ensures { IfOk result (λ list. list.items ≡ map (λ c. c.ins) words.now) }
+{
+    words.iter().map(|word| word.ins).collect(alloc)
+}
+
+/// The block that begins with the first of these words, which is at a leader.
+fn long_block(
+    alloc: Global,
+    words: &[CodeWord],
+    leaders: &BTreeSet<u64>,
+    options: &Options,
+) -> Result<CodeBlock, AllocError>
+    requires some { 1 ≤ length words.now }
+    requires sound { AreSoundOptions options.now }
+    ensures { IfOk result (IsLong (holds leaders.now) options.now.inst_max words.now) }
+{
+    let found = body_extent(words, leaders);
+    let body = instructions(alloc, &words[..found.size])?;
+    let lengths = split(alloc, &body, options.inst_min, options.inst_max)?;
+    Ok(CodeBlock {
+        start: words[0].at,
+        body: Listed::of(body),
+        lengths: Listed::of(lengths),
+        end: found.end,
+    })
+}
+
+/// The block of a word that is at no leader: an empty piece and the end, or a piece of one instruction.
+fn short_block(alloc: Global, word: &CodeWord) -> Result<CodeBlock, AllocError>
+    ensures { IfOk result (IsShort word.now) }
+{
+    let mut body = Vec::new(alloc);
+    let mut lengths = Vec::new(alloc);
+    if ends(word) {
+        lengths.push(0)?;
+        return Ok(CodeBlock {
+            start: word.at,
+            body: Listed::of(body),
+            lengths: Listed::of(lengths),
+            end: Some(word.ins),
+        });
+    }
+    body.push(word.ins)?;
+    lengths.push(1)?;
+    Ok(CodeBlock {
+        start: word.at,
+        body: Listed::of(body),
+        lengths: Listed::of(lengths),
+        end: None,
+    })
+}
+
+/// Adds the block that begins with the first of these words, where one does.
+fn push_block(
+    blocks: &mut Vec<CodeBlock>,
+    words: &[CodeWord],
+    leaders: &BTreeSet<u64>,
+    indirect: bool,
+    options: &Options,
+) -> Result<(), AllocError>
+    requires some { 1 ≤ length words.now }
+    requires sound { AreSoundOptions options.now }
+    ensures { OnOk result (AddsBlock (holds leaders.now) indirect options.now.inst_max words.now blocks.old.items blocks.new.items) }
+{
+    let alloc = *blocks.allocator();
+    if leaders.contains(&words[0].at) {
+        blocks.push(long_block(alloc, words, leaders, options)?)?;
+    } else if indirect {
+        blocks.push(short_block(alloc, &words[0])?)?;
+    }
+    Ok(())
+}
+
+/// The blocks of words.
+pub(crate) fn list(
+    alloc: Global,
+    words: &[CodeWord],
+    leaders: &BTreeSet<u64>,
+    indirect: bool,
+    options: &Options,
+) -> Result<Vec<CodeBlock>, AllocError>
+    requires { AreSoundOptions options.now }
+    ensures { IfOk result (λ blocks. Built (holds leaders.now) indirect options.now.inst_max words.now blocks.items) }
+{
+    let mut blocks = Vec::new(alloc);
+    for at in 0..words.len() {
+        push_block(&mut blocks, &words[at..], leaders, indirect, options)?;
+    }
+    Ok(blocks)
+}
+
+/// The blocks of the file, of which `test` has the entry and the code, in ascending order: that of each leader, and where the
+/// code has a JALR that of each other code address. The lengths of a block's pieces add up to that of its body, and where all
+/// words of the code end at `top` or below, so do the bodies.
+pub fn blocks(
+    alloc: Global,
+    test: &Test,
+    file: &ElfFile,
+    options: &Options,
+) -> Result<Blocks, AllocError>
+    requires code { IsCodeOf file.now test.now }
+    requires sound { AreSoundOptions options.now }
+    ensures exact { IfOk result (λ blocks. AreBlocks file.now options.now.inst_max (map block_of blocks)) }
+    ensures within { IfOk result (λ blocks. (top : ℕ) → All (λ c. c.at + 4 ≤ top) test.now.code → All (IsWithin top) blocks) }
+{
+    let leaders = leaders(alloc, test, file)?;
+    let indirect = has_indirect(test);
+    let list = list(alloc, test.code.as_slice(), &leaders, indirect, options)?;
+    Ok(Listed::of(list))
+}

@@ -1,0 +1,100 @@
+//! The bounds. Sums are made in 128 bits, and each part is tested as it is added: no part is greater than a bound that has
+//! it.
+ghost use Rattle.std.specs.Prelude.{◌≡◌, ◌+◌, ◌-◌, ◌*◌, ◌/◌, ◌≤◌, ◌<◌, ◌^◌};
+ghost use Rattle.std.specs.Option.{SomeIff};
+ghost use Rattle.qed_model.specs.Weave.Bounds.{visit_bound, end_bound, start_steps, piece_steps, bounds_of};
+ghost use Rattle.bound_calc.specs.Fitting.{fitting, AreSmall};
+
+use qed_model::{Bounds, Shape};
+
+/// A number, where it is below 2^64.
+fn fitting(number: u128) -> Option<u64>
+    ensures { result ≡ fitting number }
+{
+    u64::try_from(number).ok()
+}
+
+/// The steps of a visited data word, with so many data ranges.
+fn visit(ranges: u64) -> Option<u64>
+    ensures { result ≡ fitting (visit_bound ranges) }
+{
+    if ranges == 0 {
+        Some(10)
+    } else {
+        fitting(7 + 3 * u128::from(ranges))
+    }
+}
+
+/// The steps of a visit of `round` data words.
+fn round(shape: &Shape) -> Option<u64>
+    requires { 1 ≤ shape.now.round }
+    ensures { result ≡ fitting (visit_bound shape.now.ranges * shape.now.round) }
+{
+    let visit = visit(shape.ranges)?;
+    fitting(u128::from(visit) * u128::from(shape.round))
+}
+
+/// The longest piece, with its entry and its leave.
+fn piece(shape: &Shape) -> Option<u64>
+    requires { 1 ≤ shape.now.round }
+    ensures { result ≡ fitting (piece_steps shape.now) }
+{
+    let cost: u128 = if shape.diverse { 8 } else { 5 };
+    let round = round(shape)?;
+    fitting(30 + cost * u128::from(shape.inst_max) + u128::from(round))
+}
+
+/// What runs before the end.
+fn end(shape: &Shape) -> u128
+    ensures value { result ≡ end_bound shape.now.sweep shape.now.ranges shape.now.words }
+    ensures low { result < 2 ^ 68 }
+{
+    if shape.sweep {
+        2 * u128::from(shape.ranges) + 8 * u128::from(shape.words) + 14
+    } else {
+        0
+    }
+}
+
+/// What runs before the first entry, and what runs before the end.
+fn start(shape: &Shape) -> Option<u64>
+    ensures { result ≡ fitting (start_steps shape.now) }
+{
+    let first: u128 = if shape.far { 33 } else { 32 };
+    fitting(first + end(shape))
+}
+
+/// The pieces of a whole round of visits, and two more.
+fn pieces(words: u64, round: u64) -> u128
+    requires { 1 ≤ round }
+    ensures value { result ≡ (words + round - 1) / round + 2 }
+    ensures low { result ≤ 2 ^ 64 + 1 }
+{
+    (u128::from(words) + u128::from(round) - 1) / u128::from(round) + 2
+}
+
+/// The bounds of an output, in steps. None exactly where one of them is 2^64 or above.
+pub fn bounds(shape: &Shape) -> Option<Bounds>
+    requires { 1 ≤ shape.now.round }
+    ensures { SomeIff result (AreSmall (bounds_of shape.now)) (bounds_of shape.now) }
+{
+    let piece = piece(shape)?;
+    let start = start(shape)?;
+    let register = fitting(u128::from(start) + 2 * u128::from(piece))?;
+    if shape.words == 0 {
+        return Some(Bounds {
+            piece,
+            register,
+            word: None,
+            start,
+        });
+    }
+    let pieces = fitting(pieces(shape.words, shape.round))?;
+    let word = fitting(u128::from(start) + u128::from(pieces) * u128::from(piece))?;
+    Some(Bounds {
+        piece,
+        register,
+        word: Some(word),
+        start,
+    })
+}

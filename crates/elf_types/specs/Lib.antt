@@ -1,0 +1,5 @@
+pub mod Abi
+pub mod Segment
+pub mod Section
+pub mod Symbol
+pub mod Overlap

@@ -1,0 +1,149 @@
+-- What was collected are the leaders.
+use Rattle.std.proofs.Common.{◌≡◌, ⊎_elim, ℕ, ◌+◌, ◌<◌, ◌^◌, Bool, true, false, List, [], ◌∷◌, refl, sym, ap, ◌∙◌, subst}
+use Rattle.std.specs.Prelude.{All, ◌==◌, ◌&&◌, ◌||◌, ◌↔◌, IsTrue, nat_lt}
+use Rattle.std.specs.List.{list_any}
+use Rattle.std.specs.Ordering.{nat_cmp}
+use Rattle.std.specs.BTreeMap.{is_at}
+use Rattle.std.specs.BTreeSet.{BTreeSet}
+use Rattle.std.proofs.lemmas.Bool.{eqb-true, eq-eqb, lt-ltb, and_parts, and_from, or_cases, or_left, or_right}
+use Rattle.std.proofs.lemmas.List.Elements.{All-contains}
+use Rattle.elf_types.specs.declared.file.ElfFile.{ElfFile}
+use Rattle.elf_types.specs.declared.file.Symbol.{Symbol}
+use Rattle.elf_types.specs.declared.file.Rela.{Rela}
+use Rattle.rv_isa.specs.Kind.{class_of}
+use Rattle.qed_model.specs.declared.test.CodeWord.{CodeWord}
+use Rattle.qed_model.specs.declared.test.Test.{Test}
+use Rattle.qed_model.specs.Machine.Step.{target}
+use Rattle.qed_model.specs.Admission.Terms.{is_named, is_relocated, is_named_in}
+use Rattle.qed_model.specs.Admission.Leaders.{has_target, is_end, is_indirect, Begins, Entry, Target, After, Named, IsLeader, HasIndirect}
+use Rattle.qed_model.specs.Admission.CodeWords.{is_code}
+use Rattle.qed_model.specs.Admission.Test.{AreCodeWords}
+use Rattle.qed_model.proofs.Among.{Among, passing, any_passing}
+use Rattle.flow_recovery.specs.Sets.{holds, Adds}
+use Rattle.flow_recovery.specs.Words.{leads_to, ends_before, begins_by, is_begun}
+use Rattle.flow_recovery.specs.Leaders.{IsCodeOf, AreLeaders}
+use Rattle.flow_recovery.proofs.CodeLaws.{among_contains, word_code, code_word, standing_word, stands_word}
+
+-- ---- what was collected
+or_more : (a b c : Bool) → ((a || b) || c) ≡ (a || (b || c))
+or_more true b c = refl
+or_more false b c = refl
+
+-- one step behind the other, from an empty set on
+pub collected :
+    (entry : ℕ) (words : List CodeWord) (symbols : List Symbol) (relas : List Rela) (s t u v w : BTreeSet ℕ)
+    → s.keys ≡ [] → Adds s t (λ a. entry == a) → Adds t u (λ a. list_any (λ c. begins_by c a) words) → Adds u v (is_named symbols) → Adds v w (is_relocated symbols relas)
+    → (a : ℕ) → holds w a ≡ is_begun entry words symbols relas a
+collected entry words symbols relas s t u v w empty first begun by_symbols by_relas a =
+    let named = is_named symbols a in
+    let relocated = is_relocated symbols relas a in
+    let some = list_any (λ (c : CodeWord). begins_by c a) words in
+    let none : holds s a ≡ false = ap (λ keys. list_any (is_at (nat_cmp a)) keys) empty in
+    let one : holds t a ≡ (entry == a) = first.each a ∙ ap (λ b. b || (entry == a)) none in
+    by_relas.each a
+    ∙ ap (λ b. b || relocated) (by_symbols.each a ∙ ap (λ b. b || named) (begun.each a ∙ ap (λ b. b || some) one))
+    ∙ or_more ((entry == a) || some) named relocated
+    ∙ or_more (entry == a) some (named || relocated)
+
+alike : (named : BTreeSet ℕ) (test : ℕ → Bool) → ((a : ℕ) → holds named a ≡ test a) → (a : ℕ) (cs : List CodeWord) → list_any (λ c. (c.at == a) && holds named c.at) cs ≡ list_any (λ c. (c.at == a) && test c.at) cs
+alike named test same a [] = refl
+alike named test same a (c ∷ cs) =
+    ap (λ b. ((c.at == a) && b) || list_any (λ (d : CodeWord). (d.at == a) && holds named d.at) cs) (same c.at)
+    ∙ ap (λ b. ((c.at == a) && test c.at) || b) (alike named test same a cs)
+
+-- of a set of which nothing else is known, those of words
+pub of_words :
+    (words : List CodeWord) (kept : BTreeSet ℕ) (named : BTreeSet ℕ) (test : ℕ → Bool)
+    → ((a : ℕ) → holds named a ≡ test a) → ((a : ℕ) → holds kept a ≡ list_any (λ c. (c.at == a) && holds named c.at) words)
+    → (a : ℕ) → holds kept a ≡ list_any (λ c. (c.at == a) && test c.at) words
+of_words words kept named test same each a = each a ∙ alike named test same a words
+
+-- ---- what begins a block
+abbrev is_named_by : ElfFile → ℕ → List CodeWord → ℕ → Bool
+is_named_by f entry code a = is_begun entry code f.symbols f.relas a
+
+module _ (f : ElfFile) (entry : ℕ) (code : List CodeWord) (words : AreCodeWords f code) (same : entry ≡ f.entry) where
+  by_word : (c : CodeWord) (a : ℕ) → Among c code → begins_by c a ≡ true → Begins f a
+  by_word c a m e =
+      ⊎_elim
+      (λ h.
+      let p = and_parts (has_target (class_of c.ins.kind)) (target c.ins c.at == a) h in
+      Target c.at (stands_word f code words has_target c m p.0) (sym (eqb-true (target c.ins c.at) a p.1)))
+      (λ h.
+      let p = and_parts (is_end (class_of c.ins.kind)) (nat_lt a (2 ^ 64) && (c.at + 4 == a)) h in
+      let q = and_parts (nat_lt a (2 ^ 64)) (c.at + 4 == a) p.1 in
+      After c.at (stands_word f code words is_end c m p.0) (sym (eqb-true (c.at + 4) a q.1)))
+      (or_cases (leads_to c a) (ends_before c a) e)
+
+  begun : (a : ℕ) → is_named_by f entry code a ≡ true → Begins f a
+  begun a e =
+      ⊎_elim
+      (λ h. Entry (sym (eqb-true entry a h) ∙ same))
+      (λ h.
+      ⊎_elim
+      (λ k. let p = passing (λ c. begins_by c a) code k in by_word p.member a p.among p.passes)
+      (λ k. Named k)
+      (or_cases (list_any (λ c. begins_by c a) code) (is_named_in f a) h))
+      (or_cases (entry == a) (list_any (λ c. begins_by c a) code || is_named_in f a) e)
+
+  -- ---- and the other way
+  by_any : (c : CodeWord) (a : ℕ) → Among c code → begins_by c a ≡ true → is_named_by f entry code a ≡ true
+  by_any c a m e = or_right (entry == a) (list_any (λ c. begins_by c a) code || is_named_in f a) (or_left (list_any (λ c. begins_by c a) code) (is_named_in f a) (any_passing (λ c. begins_by c a) c code m e))
+
+  named : (a : ℕ) → a < 2 ^ 64 → Begins f a → is_named_by f entry code a ≡ true
+  named a lt (Entry e) = or_left (entry == a) (list_any (λ c. begins_by c a) code || is_named_in f a) (eq-eqb entry a (same ∙ sym e))
+  named a lt (Target i s e) =
+      let w = standing_word f code words has_target i s in
+      let is : target w.word.ins w.word.at ≡ a = ap (λ x. target x w.word.at) (sym w.instruction) ∙ ap (λ x. target s.instruction x) (sym w.at) ∙ sym e in
+      by_any w.word a w.among (or_left (leads_to w.word a) (ends_before w.word a) (and_from (has_target (class_of w.word.ins.kind)) (target w.word.ins w.word.at == a) w.class (eq-eqb (target w.word.ins w.word.at) a is)))
+  named a lt (After i s e) =
+      let w = standing_word f code words is_end i s in
+      let is : w.word.at + 4 ≡ a = ap (λ x. x + 4) (sym w.at) ∙ sym e in
+      by_any w.word a w.among
+      (or_right (leads_to w.word a) (ends_before w.word a)
+      (and_from (is_end (class_of w.word.ins.kind)) (nat_lt a (2 ^ 64) && (w.word.at + 4 == a)) w.class
+      (and_from (nat_lt a (2 ^ 64)) (w.word.at + 4 == a) (lt-ltb a (2 ^ 64) lt) (eq-eqb (w.word.at + 4) a is))))
+  named a lt (Named e) = or_right (entry == a) (list_any (λ c. begins_by c a) code || is_named_in f a) (or_right (list_any (λ c. begins_by c a) code) (is_named_in f a) e)
+
+  -- ---- those of the code
+  module _ (small : All (λ c. c.at < 2 ^ 64) code) where
+    abbrev keeps : ℕ → CodeWord → Bool
+    keeps a c = (c.at == a) && is_named_by f entry code c.at
+
+    leader : (a : ℕ) → list_any (keeps a) code ≡ true → IsLeader f a
+    leader a e =
+        let p = passing (keeps a) code e in
+        let q = and_parts (p.member.at == a) (is_named_by f entry code p.member.at) p.passes in
+        let at : p.member.at ≡ a = eqb-true p.member.at a q.0 in
+        record {
+          code = ap (is_code f) (sym at) ∙ word_code f code words p.member p.among;
+          begins = begun a (ap (is_named_by f entry code) (sym at) ∙ q.1);
+        }
+
+    kept : (a : ℕ) → IsLeader f a → list_any (keeps a) code ≡ true
+    kept a l =
+        let w = code_word f code words a l.code in
+        let lt : a < 2 ^ 64 = subst (λ x. x < 2 ^ 64) (sym w.at) (All-contains (λ (c : CodeWord). c.at < 2 ^ 64) code w.word small (among_contains code w.word w.among)) in
+        any_passing (keeps a) w.word code w.among
+        (and_from (w.word.at == a) (is_named_by f entry code w.word.at) (eq-eqb w.word.at a (sym w.at)) (ap (is_named_by f entry code) (sym w.at) ∙ named a lt l.begins))
+
+    leaders_are : (leaders : BTreeSet ℕ) → ((a : ℕ) → holds leaders a ≡ list_any (keeps a) code) → AreLeaders f leaders
+    leaders_are leaders each = record { exact = λ a. (λ e. leader a (sym (each a) ∙ e), λ l. each a ∙ kept a l) }
+
+-- the same of lists that are those of the test and of the file
+pub leaders_found :
+    (f : ElfFile) (test : Test) (words : List CodeWord) (symbols : List Symbol) (relas : List Rela) (leaders : BTreeSet ℕ)
+    → words ≡ test.code → symbols ≡ f.symbols → relas ≡ f.relas → IsCodeOf f test
+    → All (λ c. c.at < 2 ^ 64) words → ((a : ℕ) → holds leaders a ≡ list_any (λ c. (c.at == a) && is_begun test.entry words symbols relas c.at) words)
+    → AreLeaders f leaders
+leaders_found f test words symbols relas leaders code by_symbols by_relas is small each =
+    leaders_are f test.entry words (subst (AreCodeWords f) (sym code) is.code) is.entry small leaders
+    (subst (λ rs. (a : ℕ) → holds leaders a ≡ list_any (λ (c : CodeWord). (c.at == a) && is_begun test.entry words f.symbols rs c.at) words) by_relas
+    (subst (λ ss. (a : ℕ) → holds leaders a ≡ list_any (λ (c : CodeWord). (c.at == a) && is_begun test.entry words ss relas c.at) words) by_symbols each))
+
+-- ---- JALR
+pub indirect_is : (f : ElfFile) (code : List CodeWord) (b : Bool) → AreCodeWords f code → b ≡ list_any (λ c. is_indirect (class_of c.ins.kind)) code → IsTrue b ↔ HasIndirect f
+indirect_is f code b words e = (
+  λ h. let p = passing (λ (c : CodeWord). is_indirect (class_of c.ins.kind)) code (sym e ∙ h) in (p.member.at, stands_word f code words is_indirect p.member p.among p.passes),
+  λ h. let w = standing_word f code words is_indirect h.0 h.1 in e ∙ any_passing (λ (c : CodeWord). is_indirect (class_of c.ins.kind)) w.word code w.among w.class,
+)

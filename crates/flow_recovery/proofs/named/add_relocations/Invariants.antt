@@ -1,0 +1,8 @@
+use Rattle.std.proofs.Common.{take}
+use Rattle.qed_model.specs.Admission.Terms.{is_relocated}
+use Rattle.flow_recovery.specs.Sets.{Adds}
+use Rattle.flow_recovery.proofs.named.add_relocations.Given as goal
+
+-- those so far were added
+abbrev pub invariant-loop-rela : goal.invariant-loop-rela
+invariant-loop-rela l = Adds l.initial.set l.set (is_relocated l.symbols (take l.rela-index l.relas))

@@ -1,0 +1,8 @@
+use Rattle.std.proofs.Common.{take}
+use Rattle.qed_model.specs.Admission.Terms.{is_named}
+use Rattle.flow_recovery.specs.Sets.{Adds}
+use Rattle.flow_recovery.proofs.named.add_symbols.Given as goal
+
+-- those so far were added
+abbrev pub invariant-loop-symbol : goal.invariant-loop-symbol
+invariant-loop-symbol l = Adds l.initial.set l.set (is_named (take l.symbol-index l.symbols))

@@ -1,0 +1,26 @@
+-- Where blocks begin, by lists of words, symbols and relocations.
+use Rattle.std.specs.Prelude.{ℕ, ◌+◌, ◌^◌, ◌==◌, ◌&&◌, ◌||◌, Bool, nat_lt, List}
+use Rattle.std.specs.List.{list_any}
+use Rattle.elf_types.specs.declared.file.Symbol.{Symbol}
+use Rattle.elf_types.specs.declared.file.Rela.{Rela}
+use Rattle.rv_isa.specs.Kind.{class_of}
+use Rattle.qed_model.specs.declared.test.CodeWord.{CodeWord}
+use Rattle.qed_model.specs.Machine.Step.{target}
+use Rattle.qed_model.specs.Admission.Leaders.{has_target, is_end}
+use Rattle.qed_model.specs.Admission.Terms.{is_named, is_relocated}
+
+-- the address is the target of the word
+abbrev pub leads_to : CodeWord → ℕ → Bool
+leads_to c a = has_target (class_of c.ins.kind) && (target c.ins c.at == a)
+
+-- the address, below 2^64, is the one behind the word, which is an end
+abbrev pub ends_before : CodeWord → ℕ → Bool
+ends_before c a = is_end (class_of c.ins.kind) && (nat_lt a (2 ^ 64) && (c.at + 4 == a))
+
+-- either
+abbrev pub begins_by : CodeWord → ℕ → Bool
+begins_by c a = leads_to c a || ends_before c a
+
+-- the address is the entry, or a word, a symbol or a relocation names it
+abbrev pub is_begun : ℕ → List CodeWord → List Symbol → List Rela → ℕ → Bool
+is_begun entry words symbols relas a = (entry == a) || (list_any (λ c. begins_by c a) words || (is_named symbols a || is_relocated symbols relas a))

@@ -1,0 +1,35 @@
+//! Classes of instruction, as blocks see them.
+ghost use Rattle.std.specs.Prelude.{◌≡◌};
+ghost use Rattle.qed_model.specs.Admission.Leaders.{has_target, is_end, is_indirect};
+
+use rv_isa::Class;
+
+/// Whether it leads to an address that is known: JAL and branches.
+pub fn has_target(class: Class) -> bool
+    ensures { result ≡ has_target class }
+{
+    match class {
+        Class::Jump | Class::Branch => true,
+        _ => false,
+    }
+}
+
+/// Whether a block ends with it: branches, JAL, JALR, ECALL and the zero word.
+pub fn is_end(class: Class) -> bool
+    ensures { result ≡ is_end class }
+{
+    match class {
+        Class::Branch | Class::Jump | Class::JumpReg | Class::End | Class::Illegal => true,
+        _ => false,
+    }
+}
+
+/// Whether it leads to an address that a register holds: JALR.
+pub fn is_indirect(class: Class) -> bool
+    ensures { result ≡ is_indirect class }
+{
+    match class {
+        Class::JumpReg => true,
+        _ => false,
+    }
+}

@@ -1,0 +1,81 @@
+//! The addresses that symbols and relocations name.
+ghost use Rattle.std.specs.Prelude.{◌≡◌, ◌==◌, ◌&&◌, OnOk};
+ghost use Rattle.std.specs.List.{list_any};
+ghost use Rattle.qed_model.specs.Admission.Terms.{is_code_symbol, is_code_relocation, relocated, is_named, is_relocated};
+ghost use Rattle.qed_model.specs.Elf.Rules.{is_at};
+ghost use Rattle.flow_recovery.specs.Sets.{Adds};
+
+use crate::sets::add;
+use elf_types::{Rela, Symbol};
+use std::alloc::AllocError;
+use std::collections::BTreeSet;
+
+/// Adds the value of a symbol of code.
+fn add_symbol(set: &mut BTreeSet<u64>, symbol: &Symbol) -> Result<(), AllocError>
+    ensures { OnOk result (Adds set.old set.new (λ a. is_code_symbol symbol.now && symbol.now.value == a)) }
+{
+    if symbol.is_code() {
+        add(set, symbol.value)?;
+    }
+    Ok(())
+}
+
+/// Adds the values of the symbols of code.
+pub fn add_symbols(set: &mut BTreeSet<u64>, symbols: &[Symbol]) -> Result<(), AllocError>
+    ensures { OnOk result (Adds set.old set.new (is_named symbols.now)) }
+{
+    for symbol in symbols {
+        add_symbol(set, symbol)?;
+    }
+    Ok(())
+}
+
+/// Whether a relocation may hold a code address, by its type: R_RISCV_32, 64, BRANCH, JAL, CALL, CALL_PLT, PCREL_HI20,
+/// HI20, LO12_I and LO12_S (RISC-V psABI, relocations).
+fn is_code_relocation(rela: &Rela) -> bool
+    ensures { result ≡ is_code_relocation rela.now }
+{
+    match rela.kind {
+        1 | 2 | 16 | 17 | 18 | 19 | 23 | 26 | 27 | 28 => true,
+        _ => false,
+    }
+}
+
+/// The value of the relocation's symbol plus its addend, modulo 2^64, where there is such a symbol.
+fn relocated(symbols: &[Symbol], rela: &Rela) -> Option<u64>
+    ensures { result ≡ relocated symbols.now rela.now }
+{
+    let symbol = symbols.get(rela.symbol as usize)?;
+    Some(symbol.value.wrapping_add(rela.addend.cast_unsigned()))
+}
+
+/// Adds what a relocation of code comes to.
+fn add_relocation(
+    set: &mut BTreeSet<u64>,
+    symbols: &[Symbol],
+    rela: &Rela,
+) -> Result<(), AllocError>
+    ensures { OnOk result (Adds set.old set.new (λ a. is_code_relocation rela.now && is_at (relocated symbols.now rela.now) a)) }
+{
+    if !is_code_relocation(rela) {
+        return Ok(());
+    }
+    if let Some(address) = relocated(symbols, rela) {
+        add(set, address)?;
+    }
+    Ok(())
+}
+
+/// Adds what the relocations of code come to.
+pub fn add_relocations(
+    set: &mut BTreeSet<u64>,
+    symbols: &[Symbol],
+    relas: &[Rela],
+) -> Result<(), AllocError>
+    ensures { OnOk result (Adds set.old set.new (is_relocated symbols.now relas.now)) }
+{
+    for rela in relas {
+        add_relocation(set, symbols, rela)?;
+    }
+    Ok(())
+}

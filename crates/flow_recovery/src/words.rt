@@ -1,0 +1,66 @@
+//! The addresses at which blocks begin by what the instructions of the code are.
+ghost use Rattle.std.specs.Prelude.{◌≡◌, ◌==◌, ◌&&◌, ◌<◌, ◌^◌, OnOk, All, nat_lt};
+ghost use Rattle.std.specs.List.{list_any};
+ghost use Rattle.rv_isa.specs.Kind.{class_of};
+ghost use Rattle.qed_model.specs.Admission.Leaders.{has_target, is_end};
+ghost use Rattle.qed_model.specs.Machine.Step.{target};
+ghost use Rattle.flow_recovery.specs.Sets.{Adds};
+ghost use Rattle.flow_recovery.specs.Words.{leads_to, ends_before, begins_by};
+
+use crate::classes::{has_target, is_end};
+use crate::sets::add;
+use qed_model::CodeWord;
+use std::alloc::AllocError;
+use std::collections::BTreeSet;
+
+/// The address of the word plus its immediate, modulo 2^64.
+fn target(word: &CodeWord) -> u64
+    ensures { result ≡ target word.now.ins word.now.at }
+{
+    word.at.wrapping_add(word.ins.imm.cast_unsigned())
+}
+
+/// Adds the target of a JAL or a branch.
+fn add_target(set: &mut BTreeSet<u64>, word: &CodeWord) -> Result<(), AllocError>
+    ensures { OnOk result (Adds set.old set.new (leads_to word.now)) }
+{
+    if has_target(word.ins.class()) {
+        add(set, target(word))?;
+    }
+    Ok(())
+}
+
+/// Adds the address behind an end, where there is one.
+fn add_next(set: &mut BTreeSet<u64>, word: &CodeWord) -> Result<(), AllocError>
+    ensures { OnOk result (Adds set.old set.new (ends_before word.now)) }
+{
+    if !is_end(word.ins.class()) {
+        return Ok(());
+    }
+    if let Some(next) = word.at.checked_add(4) {
+        add(set, next)?;
+    }
+    Ok(())
+}
+
+/// Adds both.
+fn add_word(set: &mut BTreeSet<u64>, word: &CodeWord) -> Result<(), AllocError>
+    ensures adds { OnOk result (Adds set.old set.new (begins_by word.now)) }
+    ensures small { OnOk result (word.now.at < 2 ^ 64) }
+{
+    let _at = word.at;
+    add_target(set, word)?;
+    add_next(set, word)?;
+    Ok(())
+}
+
+/// Adds what the words say.
+pub fn add_words(set: &mut BTreeSet<u64>, words: &[CodeWord]) -> Result<(), AllocError>
+    ensures adds { OnOk result (Adds set.old set.new (λ a. list_any (λ c. begins_by c a) words.now)) }
+    ensures small { OnOk result (All (λ c. c.at < 2 ^ 64) words.now) }
+{
+    for word in words {
+        add_word(set, word)?;
+    }
+    Ok(())
+}

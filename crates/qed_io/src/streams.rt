@@ -1,0 +1,150 @@
+//! Whole files through std's readers and writers, whose bytes contracts can name. The shelf over the machine's files
+//! is made of these steps.
+ghost use Rattle.std.specs.Prelude.{◌≡◌, ◌≢◌, ◌≤◌, IfOk, IfSome, OnOk, OnErr, IfErr, IsErrOf, length, take};
+ghost use Rattle.std.specs.IoError.{error_kind};
+ghost use Rattle.std.specs.Io.KnownBytes.{Appends, Keeps};
+ghost use Rattle.qed_io.specs.Counts.{counted};
+ghost use Rattle.qed_io.specs.Sink.{AppendsPart};
+ghost use Rattle.qed_io.specs.Streams.{load_error_of, within_limit, LoadsHeld, StoresHeld, StoresHeldPart};
+
+use crate::{LoadError, StoreError};
+use elf_types::Bytes;
+use std::alloc::Global;
+use std::io;
+use std::io::{Error, ErrorKind, Read, Write};
+
+/// What a load answers for an error of the machine: `Memory` exactly for want of memory, and else `Failed`.
+fn load_error(error: Error) -> LoadError
+    ensures { result ≡ load_error_of (error_kind error) }
+{
+    match error.kind() {
+        ErrorKind::OutOfMemory => LoadError::Memory,
+        _ => LoadError::Failed,
+    }
+}
+
+/// The first bytes that a reader has left, at most so many.
+fn read_start<R: Read + Drop>(reader: R, alloc: Global, most: u64) -> io::Result<Vec<u8>>
+    ensures { IfOk result (λ bytes. IfSome (R.remaining reader) (λ held. bytes.items ≡ take most held)) }
+{
+    let mut bytes = Vec::new(alloc);
+    reader.take(most).read_to_end(&mut bytes)?;
+    Ok(bytes)
+}
+
+/// What a load answers where it read on to one byte behind the limit.
+fn within(read: io::Result<Vec<u8>>, limit: u64) -> Result<Bytes, LoadError>
+    ensures { result ≡ within_limit limit read }
+{
+    match read {
+        Ok(bytes) => {
+            if bytes.len() as u64 > limit {
+                return Err(LoadError::TooLong);
+            }
+            Ok(Bytes::of(bytes))
+        }
+        Err(error) => Err(load_error(error)),
+    }
+}
+
+/// All the bytes of a file that was opened. It reads one byte past the limit, which tells a longer file, and no more
+/// of it.
+fn read_whole<R: Read + Drop>(
+    opened: io::Result<R>,
+    alloc: Global,
+    limit: u64,
+) -> Result<Bytes, LoadError>
+    ensures held { LoadsHeld R.remaining opened limit result }
+    ensures unopened { IfErr opened (λ error. result ≡ Err (load_error_of (error_kind error))) }
+{
+    let file = opened.map_err(load_error)?;
+    within(read_start(file, alloc, limit.saturating_add(1)), limit)
+}
+
+/// Loads a file that was opened, and counts a fault exactly where it answers `Failed`.
+///
+/// Errors: `TooLong` only where the file has more bytes than the limit, and `Failed` or `Memory` as the machine says.
+pub(crate) fn load_opened<R: Read + Drop>(
+    opened: io::Result<R>,
+    alloc: Global,
+    limit: u64,
+    faults: &mut u64,
+) -> Result<Bytes, LoadError>
+    ensures held { LoadsHeld R.remaining opened limit result }
+    ensures unopened { IfErr opened (λ error. result ≡ Err (load_error_of (error_kind error))) }
+    ensures failed { IsErrOf result LoadError.Failed → faults.new ≡ counted faults.old }
+    ensures steady { result ≢ Err LoadError.Failed → faults.new ≡ faults.old }
+    ensures not_fell { faults.old ≤ faults.new }
+{
+    let loaded = read_whole(opened, alloc, limit);
+    if let Err(LoadError::Failed) = &loaded {
+        *faults = faults.saturating_add(1);
+    }
+    loaded
+}
+
+/// One write, made again where a signal interrupts it.
+pub(crate) fn write_once<W: Write>(out: &mut W, piece: &[u8]) -> io::Result<usize>
+    ensures bound { IfOk result (λ n. n ≤ length piece.now) }
+    ensures took { IfOk result (λ n. Appends (W.contents out.old) (W.contents out.new) (take n piece.now)) }
+    ensures nothing { OnErr result (Keeps (W.contents out.old) (W.contents out.new)) }
+{
+    for _ in 0..u64::MAX {
+        match out.write(piece) {
+            Ok(taken) => return Ok(taken),
+            Err(error) => {
+                if error.kind() != ErrorKind::Interrupted {
+                    return Err(error);
+                }
+            }
+        }
+    }
+    Err(Error::from(ErrorKind::TimedOut))
+}
+
+/// Writes all the bytes.
+///
+/// Errors: as the writer says, or where it takes nothing. A prefix of the bytes was written then, and not all of them.
+fn write_whole<W: Write>(out: &mut W, bytes: &[u8]) -> io::Result<()>
+    ensures all { OnOk result (Appends (W.contents out.old) (W.contents out.new) bytes.now) }
+    ensures part { OnErr result (AppendsPart (W.contents out.old) (W.contents out.new) bytes.now) }
+{
+    let mut rest = bytes;
+    for _ in 0..bytes.len() {
+        if rest.is_empty() {
+            break;
+        }
+        let taken = write_once(out, rest)?;
+        if taken == 0 {
+            return Err(Error::from(ErrorKind::WriteZero));
+        }
+        rest = rest.split_at(taken).1;
+    }
+    Ok(())
+}
+
+/// Stores bytes in a file that was made or emptied, and counts a fault exactly where it answers `Failed`.
+///
+/// Errors: `Failed` alone, where the file could not be opened or not be written to its end. A part of it may be
+/// written by then, which `Memory` would deny, whatever the machine's error was.
+pub(crate) fn store_opened<W: Write>(
+    opened: &mut io::Result<W>,
+    bytes: &[u8],
+    faults: &mut u64,
+) -> Result<(), StoreError>
+    ensures stored { OnOk result (StoresHeld W.contents opened.old opened.new bytes.now) }
+    ensures part { OnErr result (StoresHeldPart W.contents opened.old opened.new bytes.now) }
+    ensures failed { OnErr result ((result ≡ Err StoreError.Failed) × (faults.new ≡ counted faults.old)) }
+    ensures steady { OnOk result (faults.new ≡ faults.old) }
+    ensures not_fell { faults.old ≤ faults.new }
+{
+    let written = match opened {
+        Ok(file) => write_whole(file, bytes).is_ok(),
+        Err(_) => false,
+    };
+    if written {
+        return Ok(());
+    }
+    *faults = faults.saturating_add(1);
+    Err(StoreError::Failed)
+}

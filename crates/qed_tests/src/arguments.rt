@@ -1,0 +1,79 @@
+//! The machine's arguments as they came, and the exit code.
+
+use crate::transformations::TWO_SUMS;
+use qed_io::{MemoryShelf, MemorySink};
+use qed_top::exit_code;
+use std::alloc::{AllocError, Global};
+use std::io::{Error, ErrorKind};
+use std::process::ExitCode;
+use std::test::Fail;
+
+/// What is printed where the words are those of no command.
+const USAGE: &str = "usage: not built yet\n";
+
+/// Arguments, the exit code, and what is printed, None for the line about the output.
+#[derive(Clone, Copy, Debug)]
+struct ArgumentsCase {
+    arguments: Result<&'static [&'static str], ErrorKind>,
+    code: u8,
+    printed: Option<&'static str>,
+}
+
+const CASES: [ArgumentsCase; 5] = [
+    ArgumentsCase {
+        arguments: Ok(&["qed", "transform", "in", "out"]),
+        code: 0,
+        printed: None,
+    },
+    ArgumentsCase {
+        arguments: Ok(&["transform", "in", "out"]),
+        code: 2,
+        printed: Some(USAGE),
+    },
+    ArgumentsCase {
+        arguments: Ok(&[]),
+        code: 2,
+        printed: Some(USAGE),
+    },
+    ArgumentsCase {
+        // An argument that is not UTF-8.
+        arguments: Err(ErrorKind::InvalidData),
+        code: 2,
+        printed: Some(USAGE),
+    },
+    ArgumentsCase {
+        arguments: Err(ErrorKind::OutOfMemory),
+        code: 7,
+        printed: Some(""),
+    },
+];
+
+fn owned(alloc: Global, words: &[&str]) -> Result<Vec<String>, AllocError> {
+    let mut all = Vec::new(alloc);
+    for word in words {
+        all.push(String::from_str(alloc, word)?)?;
+    }
+    Ok(all)
+}
+
+#[test]
+fn arguments_become_words_and_an_exit_code(rt: HostRuntime) -> Result<(), Fail> {
+    let alloc = rt.alloc();
+    let input = TWO_SUMS.input(alloc)?;
+    let line = TWO_SUMS.printed(alloc)?;
+    for case in CASES {
+        let mut shelf = MemoryShelf::new(alloc);
+        shelf.put_file("in", &input)?;
+        let mut out = MemorySink::new(alloc);
+        let arguments = match case.arguments {
+            Ok(words) => Ok(owned(alloc, words)?.into_iter()),
+            Err(kind) => Err(Error::from(kind)),
+        };
+        let code = exit_code(alloc, arguments, &mut shelf, &mut out);
+        assert_eq!(rt; code, ExitCode::from(case.code), "{case:?}");
+        let printed = case.printed.unwrap_or(line.as_str());
+        assert_eq!(rt; out.bytes(), printed.as_bytes(), "{case:?}");
+        assert_eq!(rt; shelf.file("out").is_some(), case.code == 0, "{case:?}");
+    }
+    Ok(())
+}

@@ -1,0 +1,51 @@
+-- The headline: what the top call promises of both files when `transform IN OUT` is done.
+use Rattle.std.specs.Prelude.{◌≡◌, ℕ, List, [], Option, Some, IfSome}
+use Rattle.std.specs.FinMap.{insert}
+use Rattle.std.specs.Io.KnownBytes.{Appends}
+use Rattle.elf_types.specs.declared.file.ElfFile.{ElfFile}
+use Rattle.qed_io.specs.Files.{Files, file_bytes}
+use Rattle.qed_model.specs.declared.plan.Plan.{Plan}
+use Rattle.qed_model.specs.Elf.File.{IsReadAs}
+use Rattle.qed_model.specs.Machine.Loading.{loaded_file}
+use Rattle.qed_model.specs.Weave.StraightWoven.{Woven}
+use Rattle.qed_model.specs.Promise.Kept.{Kept}
+use Rattle.qed_model.specs.Promise.Caught.{Caught}
+use Rattle.qed_model.specs.Text.Plan.{plan_line}
+use Rattle.qed_top.specs.Words.{Transform, asked}
+use Rattle.qed_top.specs.Ends.{OverFiles, Call, Ends, IsComplete}
+use Rattle.qed_top.specs.declared.status.Status.{Status}
+use Rattle.qed_top.specs.declared.status.Status.TheVariants.{Done}
+
+-- IN is a test and OUT a program that was woven from it. The program's run has the values of the test's run after each of its
+-- steps, and no check fires; changes of registers are caught. The line tells the bounds of both.
+pub record IsPromised (input output line : List ℕ) : Type 0 where
+  pub test : ElfFile
+  pub program : ElfFile
+  pub plan : Plan
+  pub reads_test : IsReadAs input test
+  pub reads_program : IsReadAs output program
+  pub woven : Woven input output
+  pub kept : Kept (loaded_file test) (loaded_file program) plan.bounds.start plan.bounds.piece
+  pub caught : Caught (loaded_file test) (loaded_file program) [] plan.bounds
+  pub told : line ≡ plan_line plan
+
+-- OUT was stored, all other files are as they were, and the line was printed
+pub record IsDelivered (call : Call) (files : Files) (input output : List ℕ) : Type 0 where
+  pub file : List ℕ
+  pub line : List ℕ
+  pub stored : IfSome call.old (λ old. call.new ≡ Some (insert old output file))
+  pub printed : Appends call.was call.now line
+  pub promised : IsPromised (file_bytes files input) file line
+
+-- after `transform IN OUT` with Done
+abbrev pub HoldsHeadline : Call → Status → Type 0
+HoldsHeadline call status =
+    (input output : List ℕ) → asked call.words ≡ Some (Transform input output) → status ≡ Done
+    → OverFiles call.old (λ files. IsDelivered call files input output)
+
+-- all that is said of a call that answers this status: its headline, why the status comes with what was stored and printed, and which
+-- status comes where there is no fault
+pub record Answers (call : Call) (status : Status) : Type 0 where
+  pub headline : HoldsHeadline call status
+  pub ends : Ends call status
+  pub complete : IsComplete call status

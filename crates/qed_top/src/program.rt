@@ -1,0 +1,90 @@
+//! The program over what the machine hands it.
+ghost use Rattle.std.specs.Prelude.{◌≡◌, ◌↔◌, IfOk, IsErr, IfErr};
+ghost use Rattle.std.specs.IoError.{error_kind};
+ghost use Rattle.std.specs.Vec.Iter.{into_iter_items};
+ghost use Rattle.std.specs.Process.{exit_status};
+ghost use Rattle.qed_top.specs.Codes.{status_code};
+ghost use Rattle.qed_top.specs.Words.{texts};
+ghost use Rattle.qed_top.specs.Program.{words_after, Exits, ExitsUntold};
+
+use crate::status::Status;
+use crate::top::qed;
+use qed_io::{DirShelf, Shelf, Sink, StdSink};
+use std::alloc::{AllocError, Global};
+use std::env::Args;
+use std::io::ErrorKind;
+use std::process::ExitCode;
+use std::rt::{Env, Files};
+use std::{env, io};
+
+/// The words that are left.
+fn collected(alloc: Global, rest: Args) -> Result<Vec<String>, AllocError>
+    ensures { IfOk result (λ words. words.items ≡ into_iter_items rest) }
+{
+    let mut words = Vec::new(alloc);
+    for word in rest {
+        words.push(word)?;
+    }
+    Ok(words)
+}
+
+/// The words after the program's name. Arguments that cannot be read are no words, which are those of no command.
+///
+/// Errors: want of memory, where the machine had none for the arguments, or where there is none for the words.
+fn words_of(alloc: Global, arguments: io::Result<Args>) -> Result<Vec<String>, AllocError>
+    ensures words { IfOk result (λ words. texts words.items ≡ words_after arguments) }
+    ensures unread { IfErr arguments (λ error. IsErr result ↔ (error_kind error ≡ ErrorKind.OutOfMemory)) }
+{
+    match arguments {
+        Ok(mut all) => {
+            // The program's name is no word of a command.
+            let _ = all.next();
+            let words = collected(alloc, all)?;
+            Ok(words)
+        }
+        Err(error) => match error.kind() {
+            ErrorKind::OutOfMemory => Err(AllocError),
+            _ => Ok(Vec::new(alloc)),
+        },
+    }
+}
+
+/// Does what the arguments ask for, and gives the code of the status with which that ends.
+pub fn exit_code<S: Shelf, K: Sink>(
+    alloc: Global,
+    arguments: io::Result<Args>,
+    shelf: &mut S,
+    out: &mut K,
+) -> ExitCode
+    ensures exits { Exits (record {
+      words = words_after arguments;
+      old = S.files shelf.old;
+      new = S.files shelf.new;
+      was = K.written out.old;
+      now = K.written out.new;
+      before = record { load = S.load_faults shelf.old; store = S.store_faults shelf.old; sink = K.faults out.old };
+      after = record { load = S.load_faults shelf.new; store = S.store_faults shelf.new; sink = K.faults out.new };
+    }) result }
+    ensures no_memory { IfErr arguments (λ error. error_kind error ≡ ErrorKind.OutOfMemory → exit_status result ≡ status_code Status.Memory) }
+{
+    match words_of(alloc, arguments) {
+        Ok(words) => {
+            let status = qed(alloc, &words, shelf, out);
+            ExitCode::from(status.code())
+        }
+        Err(_) => ExitCode::from(Status::Memory.code()),
+    }
+}
+
+/// The whole program: over the machine's arguments, its files and its standard output.
+///
+/// No contract can say what the machine's arguments are, nor what its files have: `exit_code` says what is done with
+/// them.
+pub fn run_program<R: Env + Files + Print + Alloc<A = Global>>(rt: &R) -> ExitCode
+    ensures { ExitsUntold result }
+{
+    let alloc = rt.alloc();
+    let mut shelf = DirShelf::new(alloc, rt);
+    let mut out = StdSink::new(rt);
+    exit_code(alloc, env::args(rt), &mut shelf, &mut out)
+}

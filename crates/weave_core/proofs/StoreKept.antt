@@ -1,0 +1,39 @@
+-- The promises hold of a known file, a test with a data word: all of their premises are met.
+use Rattle.std.proofs.Common.{ℕ, true, false, List, arith}
+use Rattle.qed_model.specs.Elf.FileRead.{file_read}
+use Rattle.qed_model.specs.Machine.Loading.{loaded_file}
+use Rattle.qed_model.specs.Machine.Program.{Program}
+use Rattle.qed_model.specs.Promise.Kept.{Kept}
+use Rattle.qed_model.specs.Promise.Landed.{Landed}
+use Rattle.qed_model.specs.Weave.Woven.{woven_file}
+use Rattle.qed_model.proofs.ExampleCode.{defaults, swept, sound}
+use Rattle.qed_model.proofs.StoreFile.{store_bytes, store, store_read, store_fit}
+use Rattle.qed_model.proofs.StoreExample.{store_plan, store_told, store_admitted, store_swept_admitted, store_blocks, store_are}
+use Rattle.weave_core.specs.Tests.{IsWovenTest}
+use Rattle.weave_core.proofs.Tests.{tests_have_words, tests_kept, tests_landed}
+
+-- there are words of its new code, plainly and with the sweep
+pub store_words : (words : List ℕ) × IsWovenTest store_bytes store defaults store_blocks words
+store_words = tests_have_words store_bytes store defaults store_blocks store_fit store_read (sound false) store_admitted store_are (omega arith)
+
+pub swept_words : (words : List ℕ) × IsWovenTest store_bytes store swept store_blocks words
+swept_words = tests_have_words store_bytes store swept store_blocks store_fit store_read (sound true) store_swept_admitted store_are (omega arith)
+
+-- ---- the input and the output as they are loaded
+abbrev pub store_input : Program
+store_input = loaded_file store
+
+abbrev pub store_output : Program
+store_output = loaded_file (file_read (woven_file store defaults store_blocks store_words.0))
+
+abbrev pub swept_output : Program
+swept_output = loaded_file (file_read (woven_file store swept store_blocks swept_words.0))
+
+-- ---- the promises
+-- the values are kept: 32 steps come first, and 120 are those of a piece
+pub store_kept : Kept store_input store_output 32 120
+store_kept = tests_kept store_bytes store defaults store_blocks store_words.0 store_plan store_words.1 store_told
+
+-- a jump to a wrong entry fires
+pub store_landed : Landed store_input store_output store_plan.entries
+store_landed = tests_landed store_bytes store defaults store_blocks store_words.0 store_words.1
