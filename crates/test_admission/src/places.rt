@@ -8,7 +8,6 @@ ghost use Rattle.qed_model.specs.Weave.Places.{image_of, half_of, code_place, Ar
 ghost use Rattle.test_admission.specs.Order.{PassesBelow};
 ghost use Rattle.test_admission.specs.Places.{lower, least, ArePlacesOf};
 
-use crate::data_ranges::is_in_image;
 use elf_types::{ElfFile, Segment};
 use qed_model::{AdmitError, Options};
 
@@ -53,7 +52,7 @@ fn low(segments: &[Segment]) -> u64
 {
     let mut low = None;
     for segment in segments {
-        if is_in_image(segment) {
+        if segment.is_in_image() {
             low = Some(lower(low, segment.address));
         }
     }
@@ -67,7 +66,7 @@ fn high(segments: &[Segment]) -> u128
 {
     let mut high = 0;
     for segment in segments {
-        if is_in_image(segment) {
+        if segment.is_in_image() {
             let (address, memory) = (segment.address, segment.memory);
             high = high.max(u128::from(address) + u128::from(memory));
         }
