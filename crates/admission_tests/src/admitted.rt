@@ -1,5 +1,5 @@
 //! Bytes that are read and then admitted.
-ghost use Rattle.qed_model.specs.Weave.Places.{AreSound};
+ghost use Rattle.qed_model.specs.Weave.Places.{AreSoundOptions};
 
 use elf_read::read_elf;
 use elf_types::ElfError;
@@ -19,7 +19,7 @@ pub(crate) enum TestError {
 
 /// Options with this half, or with the least where it is not sound.
 fn options(half: Option<u64>) -> Options
-    ensures { AreSound result }
+    ensures { AreSoundOptions result }
 {
     let sound = match half {
         Some(distance) if distance % 4096 == 0 && (4096..=536_870_912).contains(&distance) => {
@@ -48,7 +48,7 @@ pub(crate) fn admit_half(
 
 /// The test that bytes are, with these options.
 pub(crate) fn admit_bytes(alloc: Global, bytes: &[u8], options: &Options) -> Result<Test, TestError>
-    requires { AreSound options.now }
+    requires { AreSoundOptions options.now }
 {
     let file = match read_elf(alloc, bytes) {
         Ok(file) => file,
