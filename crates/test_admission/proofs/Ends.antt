@@ -3,6 +3,7 @@ use Rattle.std.proofs.Common.{◌≡◌, inl, inr, ⊎_elim, ℕ, ◌+◌, ◌-�
 use Rattle.std.specs.Prelude.{nat_lt, nat_le, ◌==◌}
 use Rattle.std.proofs.lemmas.Bool.{ltb-true, leb-true, eqb-true, and_parts, or_cases, false≢true}
 use Rattle.std.proofs.lemmas.List.Elements.{All-nil, All-cons}
+use Rattle.elf_types.specs.declared.file.Segment.{Segment}
 use Rattle.elf_types.specs.declared.file.Section.{Section}
 use Rattle.elf_types.specs.declared.file.ElfFile.{ElfFile}
 use Rattle.code_ranges.specs.declared.range.CodeRange.{CodeRange}
@@ -73,6 +74,9 @@ all_ranges [] h = All-nil (λ r. r.start + r.size < 2 ^ 64)
 all_ranges (r ∷ rs) h = All-cons (λ r. r.start + r.size < 2 ^ 64) r rs (h (span r) (inl refl)) (all_ranges rs (λ t m. h t (inr m)))
 
 -- ---- data
+rounded_end : (r : ℕ × ℕ) (s : Segment) → r ≡ rounded s → r.1 ≡ (s.address + s.memory + 7) / 8 * 8
+rounded_end r s e = ap (λ x. x.1) e
+
 data_high : (f : ElfFile) (r : ℕ × ℕ) → Among r (data_ranges (image_of f)) → r.1 ≤ (high_of (image_of f) + 7) / 8 * 8
 data_high f r m =
     let image = image_of f in
@@ -83,7 +87,7 @@ data_high f r m =
     let k = among-kept (is_data image) s.source image s.among in
     let high = high_most s.source image k.0 in
     let within = (in_parts p.member (r.1 - 1) p.passes).1 in
-    let end : p.member.1 ≡ (s.source.address + s.source.memory + 7) / 8 * 8 = ap (λ x. x.1) s.is in
+    let end = rounded_end p.member s.source s.is in
     omega (arith, some, high, within, end)
 
 all_spans : (ss : List Span) → ((r : ℕ × ℕ) → Among r (all_bounds ss) → r.1 < 2 ^ 64) → SpansEnd ss

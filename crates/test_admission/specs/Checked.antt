@@ -1,6 +1,7 @@
 -- What is known of a file when all rules and limits have been tested.
 use Rattle.std.specs.Prelude.{◌≡◌, ◌≤◌, None}
 use Rattle.elf_types.specs.declared.file.ElfFile.{ElfFile}
+use Rattle.qed_model.specs.declared.limits.TheConstants.{MAX_IMAGE_SPAN}
 use Rattle.qed_model.specs.declared.options.Options.{Options}
 use Rattle.qed_model.specs.Admission.CodeWords.{ranges_of}
 use Rattle.qed_model.specs.Admission.Refusals.{IsAdmitted}
@@ -20,5 +21,5 @@ pub record IsChecked (f : ElfFile) (o : Options) (c : TestParts) : Type 0 where
   pub code : AreCodeOf f (parts_of c.code.items)
   pub known : first_among rule.Unknown (parts_of c.code.items) ≡ None
   pub places : ArePlacesOf f c.places
-  pub small : c.places.span ≤ 67_108_864
+  pub small : c.places.span ≤ MAX_IMAGE_SPAN
   pub spans : IsDataOf (image_of f) c.spans

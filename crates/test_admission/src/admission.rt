@@ -1,10 +1,10 @@
 //! Which tests are admitted, and what is told of them.
 ghost use Rattle.std.specs.Prelude.{MatchResult};
 ghost use Rattle.qed_model.specs.Admission.CodeWords.{loads_of};
+ghost use Rattle.qed_model.specs.Machine.Apart.{AllFitMemory, AreApart};
 ghost use Rattle.qed_model.specs.Weave.Places.{AreSoundOptions};
 ghost use Rattle.test_admission.specs.Admit.{IsAdmittedAs};
 ghost use Rattle.test_admission.specs.Order.{IsCauseOf};
-ghost use Rattle.test_admission.specs.Read.{AreRead};
 
 use crate::check::check_rules;
 use crate::made::make_test;
@@ -14,11 +14,12 @@ use std::alloc::Global;
 
 /// Tests whether a file is transformed with these options, and tells what is transformed.
 ///
-/// The file was read, and the options are sound. An error is the first rule that holds, with its place or number; it is
+/// The options are sound, and the PT_LOAD segments fit into memory and share no byte, as in each file that was read. An error is the first rule that holds, with its place or number; it is
 /// `Memory` where there is no memory.
 pub fn admit(alloc: Global, file: &ElfFile, options: &Options) -> Result<Test, AdmitError>
     requires sound { AreSoundOptions options.now }
-    requires read { AreRead (loads_of file.now) }
+    requires fit { AllFitMemory (loads_of file.now) }
+    requires apart { AreApart (loads_of file.now) }
     ensures { MatchResult result (IsAdmittedAs file.now options.now) (IsCauseOf file.now options.now) }
 {
     let parts = check_rules(alloc, file, options)?;

@@ -2,8 +2,8 @@
 ghost use Rattle.std.specs.Prelude.{◌≡◌, ℕ, ◌<◌, ◌++◌, false, length, slice_get, map, filter, IfOk, List, MatchOption, MatchResult};
 ghost use Rattle.elf_types.specs.declared.file.Segment.{Segment as ElfSegment};
 ghost use Rattle.qed_model.specs.declared.options.Options.{Options};
-ghost use Rattle.qed_model.specs.Admission.Terms.{is_in_image, image_segments};
-ghost use Rattle.qed_model.specs.Admission.DataRanges.{is_written, is_executed, rounded, meets_code, is_data, data_parts};
+ghost use Rattle.qed_model.specs.Admission.Terms.{image_segments};
+ghost use Rattle.qed_model.specs.Admission.DataRanges.{rounded, meets_code, is_data, data_parts};
 ghost use Rattle.qed_model.specs.Admission.Rules.{is_mixed, segment_range, passes_at};
 ghost use Rattle.qed_model.specs.Admission.Refusals.{IsFirstOf, IsRefusedBy};
 ghost use Rattle.qed_model.specs.Weave.Places.{image_of};
@@ -16,9 +16,6 @@ use elf_types::{ElfFile, Segment};
 use qed_model::AdmitError;
 use std::alloc::{AllocError, Global};
 
-/// The type of a segment that is loaded (ELF gABI, program header).
-const LOAD: u32 = 1;
-
 /// The aligned words of code, and the data ranges, each joined and in ascending order.
 #[derive(Debug, Drop)]
 pub struct DataSpans {
@@ -27,32 +24,13 @@ pub struct DataSpans {
     pub ranges: Vec<Span>,
 }
 
-/// Whether a segment is part of the image.
-pub fn is_in_image(segment: &Segment) -> bool
-    ensures { result ≡ is_in_image segment.now }
-{
-    segment.kind == LOAD && segment.memory > 0
-}
-
-fn is_written(segment: &Segment) -> bool
-    ensures { result ≡ is_written segment.now }
-{
-    segment.flags / 2 % 2 == 1
-}
-
-fn is_executed(segment: &Segment) -> bool
-    ensures { result ≡ is_executed segment.now }
-{
-    segment.flags % 2 == 1
-}
-
 /// The addresses of a segment.
 fn whole(segment: &Segment) -> Span
     ensures { bounds_of result ≡ segment_range segment.now }
 {
     Span {
         start: segment.address,
-        end: u128::from(segment.address) + u128::from(segment.memory),
+        end: segment.end(),
     }
 }
 
@@ -60,7 +38,8 @@ fn whole(segment: &Segment) -> Span
 fn rounded(segment: &Segment) -> Span
     ensures { bounds_of result ≡ rounded segment.now }
 {
-    let end = u128::from(segment.address) + u128::from(segment.memory);
+    let (address, memory) = (segment.address, segment.memory);
+    let end = u128::from(address) + u128::from(memory);
     Span {
         start: segment.address / 8 * 8,
         end: (end + 7) / 8 * 8,
@@ -74,7 +53,7 @@ fn code_parts(alloc: Global, segments: &[Segment]) -> Result<Vec<Span>, AllocErr
 {
     let mut parts = Vec::new(alloc);
     for segment in segments {
-        if is_in_image(segment) && is_executed(segment) {
+        if segment.is_in_image() && segment.is_executable() {
             parts.push(rounded(segment))?;
         }
     }
@@ -96,7 +75,7 @@ fn is_data(code: &[Span], segment: &Segment) -> bool
     requires room { 0 < segment.now.memory }
     ensures { (ss : List ElfSegment) → AreCode (image_segments ss) code.now → result ≡ is_data (image_segments ss) segment.now }
 {
-    is_written(segment) || !is_executed(segment) && !meets_code(code, segment)
+    segment.is_writable() || !segment.is_executable() && !meets_code(code, segment)
 }
 
 /// The data segments, rounded out.
@@ -107,7 +86,7 @@ fn data_parts(alloc: Global, segments: &[Segment], code: &[Span]) -> Result<Vec<
 {
     let mut parts = Vec::new(alloc);
     for segment in segments {
-        if is_in_image(segment) && is_data(code, segment) {
+        if segment.is_in_image() && is_data(code, segment) {
             parts.push(rounded(segment))?;
         }
     }
@@ -130,7 +109,7 @@ fn is_mixed(spans: &DataSpans, segment: &Segment) -> bool
     requires ranges { AreSpaced spans.now.ranges.items }
     ensures { (ss : List ElfSegment) → IsDataOf (image_segments ss) spans.now → result ≡ is_mixed (image_segments ss) segment.now }
 {
-    is_in_image(segment) && !is_data(&spans.code, segment) && meets(&spans.ranges, whole(segment))
+    segment.is_in_image() && !is_data(&spans.code, segment) && meets(&spans.ranges, whole(segment))
 }
 
 /// The number of the first such segment.

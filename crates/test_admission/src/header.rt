@@ -2,7 +2,7 @@
 ghost use Rattle.std.specs.Prelude.{◌≡◌, ℕ, ◌<◌, false, length, slice_get, MatchOption, MatchResult};
 ghost use Rattle.std.specs.List.{list_any};
 ghost use Rattle.qed_model.specs.declared.options.Options.{Options};
-ghost use Rattle.qed_model.specs.Admission.Terms.{is_compressed, is_dynamic, is_dynamic_segment};
+ghost use Rattle.qed_model.specs.Admission.Terms.{is_dynamic};
 ghost use Rattle.qed_model.specs.Admission.Rules.{is_writable_code, passes_at};
 ghost use Rattle.qed_model.specs.Admission.Refusals.{IsFirstOf, IsRefusedBy};
 ghost use Rattle.test_admission.specs.Order.{PassesBelow};
@@ -10,32 +10,12 @@ ghost use Rattle.test_admission.specs.Order.{PassesBelow};
 use elf_types::{ElfFile, Segment};
 use qed_model::AdmitError;
 
-/// Types of program headers (ELF gABI, program header).
-const LOAD: u32 = 1;
-
-const DYNAMIC: u32 = 2;
-
-const INTERP: u32 = 3;
-
-/// Whether the header says that the code is compressed (RISC-V psABI, file header).
-fn is_compressed(file: &ElfFile) -> bool
-    ensures { result ≡ is_compressed file.now }
-{
-    file.flags % 2 == 1
-}
-
-fn is_dynamic_segment(segment: &Segment) -> bool
-    ensures { result ≡ is_dynamic_segment segment.now }
-{
-    segment.kind == DYNAMIC || segment.kind == INTERP
-}
-
 /// Whether a program header asks for dynamic linking.
 fn is_dynamic(segments: &[Segment]) -> bool
     ensures { result ≡ is_dynamic segments.now }
 {
     for segment in segments {
-        if is_dynamic_segment(segment) {
+        if segment.is_dynamic() {
             return true;
         }
     }
@@ -46,10 +26,7 @@ fn is_dynamic(segments: &[Segment]) -> bool
 fn is_writable_code(segment: &Segment) -> bool
     ensures { result ≡ is_writable_code segment.now }
 {
-    segment.kind == LOAD
-        && segment.memory > 0
-        && segment.flags / 2 % 2 == 1
-        && segment.flags % 2 == 1
+    segment.is_in_image() && segment.is_writable() && segment.is_executable()
 }
 
 /// The number of the first such segment.
@@ -70,7 +47,7 @@ fn first_writable_code(segments: &[Segment]) -> Option<usize>
 pub fn check_header(file: &ElfFile) -> Result<(), AdmitError>
     ensures { MatchResult result (λ _. (o : Options) → PassesBelow file.now o 4) (λ e. (o : Options) → IsRefusedBy file.now o e) }
 {
-    if is_compressed(file) {
+    if file.is_compressed() {
         return Err(AdmitError::Compressed);
     }
     let segments = file.segments.as_slice();

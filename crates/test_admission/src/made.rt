@@ -13,7 +13,6 @@ ghost use Rattle.test_admission.specs.Stretches.{parts_of, AreCodeOf};
 ghost use Rattle.test_admission.specs.Spans.{all_bounds};
 
 use crate::check::TestParts;
-use crate::data_ranges::is_in_image;
 use crate::places::distance;
 use crate::spans::Span;
 use crate::stretches::Stretch;
@@ -72,7 +71,7 @@ fn image(alloc: Global, segments: &[Segment]) -> Result<Segments, AllocError>
 {
     let mut image = Vec::new(alloc);
     for segment in segments {
-        if is_in_image(segment) {
+        if segment.is_in_image() {
             image.push(copied(alloc, segment)?)?;
         }
     }

@@ -8,20 +8,12 @@ ghost use Rattle.qed_model.specs.Weave.Places.{image_of, half_of, code_place, Ar
 ghost use Rattle.test_admission.specs.Order.{PassesBelow};
 ghost use Rattle.test_admission.specs.Places.{lower, least, ArePlacesOf};
 
-use crate::data_ranges::is_in_image;
 use elf_types::{ElfFile, Segment};
+use qed_model::limits::{CODE_ROOM, MAX_HALF, MAX_IMAGE_SPAN, MAX_TOP_ADDRESS};
 use qed_model::{AdmitError, Options};
 
 /// The base of a test, and the unit of distances.
 const PAGE: u64 = 4096;
-
-/// The greatest span of an image, in bytes.
-const MOST_SPAN: u128 = 67_108_864;
-
-/// The room of new code, in bytes, and the greatest address behind it.
-const CODE_ROOM: u128 = 134_217_728;
-
-const TOP: u128 = 1 << 63;
 
 /// Where the image of a file stands. Addresses and sizes are in bytes.
 #[derive(Clone, Copy, Debug, PartialEq, Eq)]
@@ -53,7 +45,7 @@ fn low(segments: &[Segment]) -> u64
 {
     let mut low = None;
     for segment in segments {
-        if is_in_image(segment) {
+        if segment.is_in_image() {
             low = Some(lower(low, segment.address));
         }
     }
@@ -67,7 +59,7 @@ fn high(segments: &[Segment]) -> u128
 {
     let mut high = 0;
     for segment in segments {
-        if is_in_image(segment) {
+        if segment.is_in_image() {
             let (address, memory) = (segment.address, segment.memory);
             high = high.max(u128::from(address) + u128::from(memory));
         }
@@ -121,9 +113,9 @@ pub fn check_span(file: &ElfFile, options: &Options, places: &ImagePlaces) -> Re
     requires places { ArePlacesOf file.now places.now }
     requires passed { PassesBelow file.now options.now 12 }
     ensures order { MatchResult result (λ _. PassesBelow file.now options.now 13) (λ e. IsRefusedBy file.now options.now e) }
-    ensures small { OnOk result (places.now.span ≤ 67_108_864) }
+    ensures small { OnOk result (places.now.span ≤ MAX_IMAGE_SPAN) }
 {
-    if places.span > MOST_SPAN {
+    if places.span > u128::from(MAX_IMAGE_SPAN) {
         return Err(AdmitError::ImageSpan(places.span));
     }
     Ok(())
@@ -132,9 +124,9 @@ pub fn check_span(file: &ElfFile, options: &Options, places: &ImagePlaces) -> Re
 /// The distance of the halves, in bytes.
 pub fn distance(options: &Options, places: &ImagePlaces) -> u128
     requires sound { AreSoundOptions options.now }
-    requires small { places.now.span ≤ 67_108_864 }
+    requires small { places.now.span ≤ MAX_IMAGE_SPAN }
     ensures half { (f : File) → ArePlacesOf f places.now → result ≡ half_of options.now.half (image_of f) }
-    ensures small { result ≤ 536_870_912 }
+    ensures small { result ≤ MAX_HALF }
 {
     match options.half {
         Some(half) => u128::from(half),
@@ -146,12 +138,12 @@ pub fn distance(options: &Options, places: &ImagePlaces) -> u128
 pub fn check_top(file: &ElfFile, options: &Options, places: &ImagePlaces) -> Result<(), AdmitError>
     requires sound { AreSoundOptions options.now }
     requires places { ArePlacesOf file.now places.now }
-    requires small { places.now.span ≤ 67_108_864 }
+    requires small { places.now.span ≤ MAX_IMAGE_SPAN }
     requires passed { PassesBelow file.now options.now 14 }
     ensures order { MatchResult result (λ _. PassesBelow file.now options.now 15) (λ e. IsRefusedBy file.now options.now e) }
 {
-    let top = u128::from(places.base) + 3 * distance(options, places) + CODE_ROOM;
-    if top > TOP {
+    let top = u128::from(places.base) + 3 * distance(options, places) + u128::from(CODE_ROOM);
+    if top > u128::from(MAX_TOP_ADDRESS) {
         return Err(AdmitError::TopAddress(top));
     }
     Ok(())

@@ -15,31 +15,26 @@ use code_ranges::{CodeRange, is_code_address, is_code_section, lies_in, lies_in_
 use elf_types::{ElfFile, Section, Segment};
 use qed_model::AdmitError;
 
-/// The type of a segment that is loaded, and its flag for code (ELF gABI, program header): PT_LOAD and PF_X.
-const LOAD: u32 = 1;
-
-const EXECUTE: u32 = 1;
-
 /// Whether a section that has bytes and a segment have a byte in common.
 fn shares(section: &Section, segment: &Segment) -> bool
     ensures { result ≡ shares section.now (load_segment segment.now) }
 {
     segment.memory > 0
-        && u128::from(section.address) < u128::from(segment.address) + u128::from(segment.memory)
+        && u128::from(section.address) < segment.end()
         && u128::from(segment.address) < u128::from(section.address) + u128::from(section.size)
 }
 
 fn is_cut_by(section: &Section, segment: &Segment) -> bool
     ensures { result ≡ is_cut_by section.now (load_segment segment.now) }
 {
-    segment.flags % 2 == EXECUTE && shares(section, segment) && !lies_in(section, segment)
+    segment.is_executable() && shares(section, segment) && !lies_in(section, segment)
 }
 
 fn is_cut_by_any(section: &Section, segments: &[Segment]) -> bool
     ensures { result ≡ list_any (is_cut_by section.now) (load_segments segments.now) }
 {
     for segment in segments {
-        if segment.kind == LOAD && is_cut_by(section, segment) {
+        if segment.is_load() && is_cut_by(section, segment) {
             return true;
         }
     }
@@ -99,10 +94,7 @@ fn has_no_section(segments: &[Segment], sections: &[Section]) -> bool
 fn is_ragged_segment(segment: &Segment) -> bool
     ensures { result ≡ is_ragged_code segment.now }
 {
-    segment.kind == LOAD
-        && segment.memory > 0
-        && segment.flags % 2 == EXECUTE
-        && is_ragged(segment.address, segment.memory)
+    segment.is_in_image() && segment.is_executable() && is_ragged(segment.address, segment.memory)
 }
 
 /// The number of the first such segment.

@@ -11,11 +11,6 @@ use code_ranges::{is_code_section, lies_in};
 use elf_types::{ElfFile, Section, Segment};
 use std::alloc::{AllocError, Global};
 
-/// The type of a segment that is loaded, and its flag for code (ELF gABI, program header): PT_LOAD and PF_X.
-const LOAD: u32 = 1;
-
-const EXECUTE: u32 = 1;
-
 /// Code in one segment.
 #[derive(Clone, Copy, Debug)]
 pub struct Stretch<'a> {
@@ -79,7 +74,7 @@ fn home<'a>(section: &Section, segments: &'a [Segment]) -> Option<&'a Segment>
     ensures { MatchOption result (lies_in_any section.now (load_segments segments.now) ≡ false) (λ s. (lies_in_any section.now (load_segments segments.now) ≡ true) × Contains segments.now s.now × (s.now.kind ≡ 1) × (lies_in_code section.now (load_segment s.now) ≡ true)) }
 {
     for segment in segments {
-        if segment.kind == LOAD && lies_in(section, segment) {
+        if segment.is_load() && lies_in(section, segment) {
             return Some(segment);
         }
     }
@@ -102,7 +97,7 @@ fn stretch_of_section<'a>(segments: &'a [Segment], section: &Section) -> Option<
 fn stretch_of_segment(segment: &Segment) -> Option<Stretch<'_>>
     ensures { MatchOption result (has_code segment.now ≡ false) (λ part. (has_code segment.now ≡ true) × (part_of part ≡ whole_part segment.now)) }
 {
-    if segment.kind == LOAD && segment.flags % 2 == EXECUTE && segment.memory > 0 {
+    if segment.is_load() && segment.is_executable() && segment.memory > 0 {
         Some(Stretch::of(segment, segment.address, segment.memory))
     } else {
         None

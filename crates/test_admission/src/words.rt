@@ -10,12 +10,10 @@ ghost use Rattle.test_admission.specs.Words.{words_in, words_among, word_total, 
 use crate::rules::word_in;
 use crate::stretches::Stretch;
 use elf_types::ElfFile;
+use qed_model::limits::MAX_CODE_WORDS;
 use qed_model::{AdmitError, CodeWord, Options};
 use rv_decode::decode;
 use std::alloc::{AllocError, Global};
-
-/// The greatest number of code words.
-const MOST_WORDS: u64 = 1_048_576;
 
 /// How many code words there are.
 fn word_count(code: &[Stretch<'_>]) -> u64
@@ -40,7 +38,7 @@ pub fn check_words(
     ensures { MatchResult result (λ _. PassesBelow file.now options.now 14) (λ e. IsRefusedBy file.now options.now e) }
 {
     let count = word_count(code);
-    if count > MOST_WORDS {
+    if count > MAX_CODE_WORDS {
         return Err(AdmitError::CodeWords(count));
     }
     Ok(())
