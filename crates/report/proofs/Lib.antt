@@ -1,1 +1,2 @@
 pub mod RegisterLines
+pub mod Ends

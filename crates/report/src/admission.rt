@@ -1,0 +1,75 @@
+//! What is printed where a test is not admitted.
+ghost use Rattle.std.specs.Prelude.{◌≡◌, ◌≢◌, ◌^◌, ◌≤◌, IfOk, OnOk, string_bytes};
+ghost use Rattle.report.specs.Admission.{admit_line, outside_line, HasEnds};
+
+use crate::hex::{Hex, HexWord};
+use crate::limits::limit_line;
+use elf_types::Bytes;
+use qed_model::{AdmitError, Limit};
+use std::alloc::{AllocError, Global};
+
+/// The line about an image that ends behind its half. An end of 2^64 has 17 digits.
+fn outside_line(alloc: Global, high: u128, end: u64) -> Result<String, AllocError>
+    requires { high ≤ 2 ^ 64 }
+    ensures { IfOk result (λ text. string_bytes text ≡ outside_line high end) }
+{
+    let end = Hex(end);
+    if high < 1 << 64 {
+        let high = Hex(high as u64);
+        format!(in alloc; "refused A11: image end {high}, half end {end}\n")
+    } else {
+        format!(in alloc; "refused A11: image end 0x10000000000000000, half end {end}\n")
+    }
+}
+
+/// The line about a test that is not admitted, as a text.
+fn admit_line(alloc: Global, error: &AdmitError) -> Result<String, AllocError>
+    requires { HasEnds error.now }
+    ensures text { IfOk result (λ text. string_bytes text ≡ admit_line error.now) }
+    ensures memory { OnOk result (error.now ≢ AdmitError.Memory) }
+{
+    match error {
+        AdmitError::Compressed => format!(in alloc; "refused A1: compressed\n"),
+        AdmitError::Dynamic => format!(in alloc; "refused A2: dynamic\n"),
+        AdmitError::WritableCode(i) => format!(in alloc; "refused A3: segment {i}\n"),
+        AdmitError::NoCode(entry) => {
+            let entry = Hex(*entry);
+            format!(in alloc; "refused A4: entry {entry}\n")
+        }
+        AdmitError::CodeShape(i) => format!(in alloc; "refused A5: part {i}\n"),
+        AdmitError::UnknownWord(at, word) => {
+            let (at, word) = (Hex(*at), HexWord(*word));
+            format!(in alloc; "refused A6: address {at}, word {word}\n")
+        }
+        AdmitError::RegisterHalf(at, register) => {
+            let at = Hex(*at);
+            let register = register.number();
+            format!(in alloc; "refused A7: address {at}, register {register}\n")
+        }
+        AdmitError::Breakpoint(at) => {
+            let at = Hex(*at);
+            format!(in alloc; "refused A8: address {at}\n")
+        }
+        AdmitError::FarConstant(at) => {
+            let at = Hex(*at);
+            format!(in alloc; "refused A9: address {at}\n")
+        }
+        AdmitError::DataMixed(i) => format!(in alloc; "refused A10: segment {i}\n"),
+        AdmitError::OutsideHalf(high, end) => outside_line(alloc, *high, *end as u64),
+        AdmitError::ImageSpan(n) => limit_line(alloc, Limit::ImageSpan, *n),
+        AdmitError::CodeWords(n) => limit_line(alloc, Limit::CodeWords, u128::from(*n)),
+        AdmitError::TopAddress(n) => limit_line(alloc, Limit::TopAddress, *n),
+        AdmitError::Memory => Err(AllocError),
+    }
+}
+
+/// The line about a test that is not admitted: A1 to A11, L2, L3 or L7. An end of 2^64 has 17 digits. Want of memory has
+/// none, and is answered as such.
+pub fn admit_text(alloc: Global, error: &AdmitError) -> Result<Bytes, AllocError>
+    requires { HasEnds error.now }
+    ensures text { IfOk result (λ text. text ≡ admit_line error.now) }
+    ensures memory { OnOk result (error.now ≢ AdmitError.Memory) }
+{
+    let text = admit_line(alloc, error)?;
+    Ok(Bytes::of(text.into_bytes()))
+}
