@@ -1,5 +1,5 @@
 -- The end of an image that fills all addresses.
-use Rattle.std.proofs.Common.{◌≡◌, ℕ, ◌^◌, ◌<◌, ◌≤◌, ◌++◌, refl, ap, ◌∙◌, arith}
+use Rattle.std.proofs.Common.{◌≡◌, ℕ, ◌^◌, ◌≤◌, ◌++◌, refl, ap, ◌∙◌, arith}
 use Rattle.std.proofs.Math.Nat.{zero-sub}
 use Rattle.std.specs.Prelude.{codes}
 use Rattle.std.specs.Fmt.{digits, padded_integral}

@@ -1,6 +1,5 @@
 -- What is printed where a test is not admitted. Each line ends with a newline.
 use Rattle.std.specs.Prelude.{ℕ, ◌^◌, ◌<◌, ◌≤◌, List, ◌++◌, codes}
-use Rattle.std.specs.Fmt.{decimal}
 use Rattle.qed_model.specs.declared.admit.AdmitError.{AdmitError}
 use Rattle.qed_model.specs.declared.admit.AdmitError.TheVariants as error
 use Rattle.qed_model.specs.declared.limits.Limit.TheVariants as limit
