@@ -1,8 +1,7 @@
 -- From how a call ends to its headline.
-use Rattle.std.proofs.Common.{◌≡◌, ◌≢◌, ℕ, List, Option, None, Some, IfSome, refl, sym, ap, ◌∙◌, subst}
+use Rattle.std.proofs.Common.{◌≡◌, ℕ, List, Option, None, Some, IfSome, sym, ap, ◌∙◌, subst}
 use Rattle.std.specs.Prelude.{MatchOption, IsSomeAnd}
 use Rattle.std.specs.FinMap.{insert}
-use Rattle.std.specs.Io.KnownBytes.{Appends}
 use Rattle.elf_types.specs.declared.error.ElfError.{ElfError}
 use Rattle.elf_types.specs.declared.error.ElfError.TheVariants as error
 use Rattle.qed_io.specs.Files.{Files, file_bytes}
@@ -10,9 +9,9 @@ use Rattle.qed_model.specs.Elf.FileRead.{file_read}
 use Rattle.qed_model.specs.Text.Plan.{usage_line, load_limit, load_limit_line}
 use Rattle.transform.specs.declared.error.TransformError.{TransformError}
 use Rattle.transform.specs.declared.error.TransformError.TheVariants as transform
-use Rattle.qed_top.specs.Words.{Asked, Transform, Run, asked}
+use Rattle.qed_top.specs.Words.{Asked, Transform, asked}
 use Rattle.qed_top.specs.Answer.{PrintsOnly, error_status, refusal_status, IsDone, Transforms, refused, done, CallsFor, read_fault, too_long, within, CommandCallsFor, WordsCallFor, FilesAfter}
-use Rattle.qed_top.specs.Ends.{OverFiles, Call, load_rose, IsAnswered, EndsOver, Ends}
+use Rattle.qed_top.specs.Ends.{OverFiles, Call, load_rose, EndsOver, Ends}
 use Rattle.qed_top.specs.Headline.{IsPromised, IsDelivered, HoldsHeadline}
 use Rattle.qed_top.specs.declared.answer.Answer.{Answer}
 use Rattle.qed_top.specs.declared.answer.Stored.{Stored}

@@ -18,7 +18,7 @@ use Rattle.qed_top.specs.Words.{Asked, Transform, Run, asked, read_name, stored_
 use Rattle.qed_top.specs.Answer.{WordsCallFor, FilesAfter, FilesInPart, StoreRose, ShelfSteady, error_status, refusal_status, memory_bytes, memory_limit, outcome_status, run_of}
 use Rattle.qed_top.specs.declared.answer.Answer.{Answer}
 use Rattle.qed_top.specs.declared.status.Status.{Status}
-use Rattle.qed_top.specs.declared.status.Status.TheVariants.{Done, Usage, Refused, Limit, ReadFault, WriteFault, Memory}
+use Rattle.qed_top.specs.declared.status.Status.TheVariants.{Done, Usage, Limit, ReadFault, WriteFault, Memory}
 
 -- of the files that are told; where nothing is told, of some files
 pub record OverFiles (told : Option Files) (Holds : Files → Type 0) : Type 0 where

@@ -1,5 +1,5 @@
 -- The headline: what the top call promises of both files when `transform IN OUT` is done.
-use Rattle.std.specs.Prelude.{◌≡◌, ℕ, List, [], Option, Some, IfSome}
+use Rattle.std.specs.Prelude.{◌≡◌, ℕ, List, [], Some, IfSome}
 use Rattle.std.specs.FinMap.{insert}
 use Rattle.std.specs.Io.KnownBytes.{Appends}
 use Rattle.elf_types.specs.declared.file.ElfFile.{ElfFile}
