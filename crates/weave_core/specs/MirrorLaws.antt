@@ -1,0 +1,22 @@
+-- The laws of both kinds of mirror part: the same on the pairs, of which an instruction has at most 5 steps with its original part,
+-- and of other kinds, with at most 8.
+use Rattle.std.specs.Prelude.{◌≡◌, ℕ, Bool, List}
+use Rattle.qed_model.specs.Promise.Kept.{Kept}
+use Rattle.qed_model.specs.Machine.Program.{Program}
+use Rattle.qed_model.specs.Weave.Bounds.{cost_of}
+use Rattle.qed_model.specs.Weave.Sequences.{Block}
+use Rattle.qed_model.specs.Weave.Diverse.{diverse}
+use Rattle.qed_model.specs.Weave.Woven.{mirror_of}
+use Rattle.weave_core.specs.World.{World}
+use Rattle.weave_core.specs.Rows.{Mirrors}
+use Rattle.weave_core.specs.KindItems.{MirrorsFit}
+use Rattle.weave_core.specs.Promise.{piece_of, start_of}
+use Rattle.weave_core.specs.Plan.{Plan}
+
+-- each does in the duplicate half what its instruction does in the input, and its words are of the kinds and do not jump
+abbrev pub MirrorsHold : Type 0
+MirrorsHold = (other : Bool) (w : World) → w.form.mirror ≡ mirror_of other → w.form.cost ≡ cost_of other → Mirrors w × MirrorsFit w.form.far w.form.mirror
+
+-- any plan with those of other kinds keeps the values
+abbrev pub DiverseKept : Type 0
+DiverseKept = (f g : Program) (w : World) (most : ℕ) (blocks : List Block) → Plan f g w most blocks → w.form.mirror ≡ diverse → w.form.cost ≡ 8 → Kept f g (start_of w.form) (piece_of w.form most)
