@@ -1,0 +1,13 @@
+-- Changes of tests whose mirror parts are of other kinds are caught.
+use Rattle.weave_core.proofs.Diverse.{diverse_mirrors}
+use Rattle.lockstep.specs.DiverseLaws.{DiverseCaught, DiverseClean}
+use Rattle.lockstep.proofs.Promise.{plan_caught}
+use Rattle.lockstep.proofs.Cleaned.{plan_clean}
+
+-- changes are caught
+pub diverse_caught : DiverseCaught
+diverse_caught f g w most blocks bounds plan is eight closes some b = plan_caught f g w most blocks bounds plan (diverse_mirrors w is eight) closes some b
+
+-- and with the sweep none is silent
+pub diverse_clean : DiverseClean
+diverse_clean f g w most blocks plan is eight closes some swept = plan_clean f g w most blocks plan (diverse_mirrors w is eight) closes some swept
