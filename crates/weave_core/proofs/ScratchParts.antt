@@ -1,0 +1,57 @@
+-- Parts on x0 and x14 to x31 alone are words of the kinds, and do not jump.
+use Rattle.std.proofs.Common.{◌≡◌, ℕ, ◌≤◌, Bool, List, [], ◌∷◌}
+use Rattle.rv_isa.specs.declared.ins.Ins.{Ins}
+use Rattle.rv_isa.specs.declared.class.Class.TheVariants as class
+use Rattle.rv_isa.specs.Kind.{class_of}
+use Rattle.qed_model.specs.declared.item.Item.{Item}
+use Rattle.qed_model.specs.declared.item.Item.TheVariants.{Mark, Plain, Constant, Go}
+use Rattle.weave_core.specs.Lock.{Scratch}
+use Rattle.weave_core.specs.Kinds.{Lockstep}
+use Rattle.weave_core.specs.KindItems.{LockItems, Straight, Originals, IsBodyWord, MirrorsFit}
+use Rattle.weave_core.proofs.KindWords.{scratch_compute, scratch_load, scratch_store}
+use Rattle.weave_core.proofs.KindItems.{items_none, items_one, items_constant}
+use Rattle.weave_core.proofs.Landing.{straight_none, straight_compute, straight_load, straight_store, straight_constant, low_or_high}
+
+-- such a word, which does not jump: it computes, loads with a base from x16 on, or stores
+pub data ScratchWord (i : Ins) : Type 0 where
+  word_computes : class_of i.kind ≡ class.Compute → Scratch i.rs1 → Scratch i.rs2 → ScratchWord i
+  word_loads : class_of i.kind ≡ class.Load → 16 ≤ i.rs1 → ScratchWord i
+  word_stores : class_of i.kind ≡ class.Store → Scratch i.rs1 → Scratch i.rs2 → ScratchWord i
+
+-- each item is such a word, or a constant
+abbrev pub AllScratch : List Item → Type 0
+AllScratch [] = Unit {0}
+AllScratch (Mark m ∷ is) = ⊥
+AllScratch (Plain i ∷ is) = ScratchWord i × AllScratch is
+AllScratch (Constant r v ∷ is) = AllScratch is
+AllScratch (Go t ∷ is) = ⊥
+
+-- they are of the kinds
+pub scratch_items : (far : Bool) (is : List Item) → AllScratch is → LockItems far is
+scratch_items far [] h = items_none far
+scratch_items far (Mark m ∷ is) h = absurd h
+scratch_items far (Plain i ∷ is) h = items_one far i is (word h.0) (scratch_items far is h.1) where
+  -- one word
+  word : ScratchWord i → Lockstep (i ∷ [])
+  word (word_computes k a b) = scratch_compute i k a b
+  word (word_loads k a) = scratch_load i k a
+  word (word_stores k a b) = scratch_store i k a b
+scratch_items far (Constant r v ∷ is) h = items_constant far r v is (low_or_high r) (scratch_items far is h)
+scratch_items far (Go t ∷ is) h = absurd h
+
+-- and do not jump
+pub scratch_straight : (far : Bool) (is : List Item) → AllScratch is → Straight far is
+scratch_straight far [] h = straight_none far
+scratch_straight far (Mark m ∷ is) h = absurd h
+scratch_straight far (Plain i ∷ is) h = word (scratch_straight far is h.1) h.0 where
+  -- one word
+  word : Straight far is → ScratchWord i → Straight far (Plain i ∷ is)
+  word x (word_computes k a b) = straight_compute far i is k x
+  word x (word_loads k a) = straight_load far i is k x
+  word x (word_stores k a b) = straight_store far i is k x
+scratch_straight far (Constant r v ∷ is) h = straight_constant far r v is (scratch_straight far is h)
+scratch_straight far (Go t ∷ is) h = absurd h
+
+-- mirror parts of such words fit
+pub scratch_mirrors_fit : (far : Bool) (mirror : Ins → ℕ → List Item) → ((i : Ins) (at : ℕ) → Originals i → IsBodyWord i → AllScratch (mirror i at)) → MirrorsFit far mirror
+scratch_mirrors_fit far mirror h = record { fit = λ i at o b. scratch_items far (mirror i at) (h i at o b); straight = λ i at o b. scratch_straight far (mirror i at) (h i at o b) }
