@@ -19,7 +19,7 @@ use Rattle.weave_core.specs.World.{World}
 use Rattle.weave_core.specs.Blocks.{IsBody as InBody, IsLowAs, FitsPiece}
 use Rattle.weave_core.specs.Rows.{At, Led, Sourced}
 use Rattle.weave_core.specs.Kinds.{thirteen}
-use Rattle.weave_core.specs.KindItems.{LockItems, Straight, IsBodyWord, body_computes, body_loads, body_stores, body_fences}
+use Rattle.weave_core.specs.KindItems.{LockItems, Straight}
 use Rattle.weave_core.proofs.Rows.{led_more}
 use Rattle.weave_core.proofs.Words.{original_compute, original_auipc, original_fence, compare_row}
 use Rattle.weave_core.proofs.Access.{load_at, store_at, load_granted, store_granted}
@@ -93,13 +93,6 @@ pub used_low : (i : Ins) → FitsPiece i → AllLow (used i)
 used_low i f = used_low_as (class_of i.kind) i f.low
 
 -- ---- the kinds of both parts
-body_as : (c : Class) (i : Ins) → class_of i.kind ≡ c → InBody c → IsBodyWord i
-body_as class.Compute i e b = body_computes e
-body_as class.Load i e b = body_loads e
-body_as class.Store i e b = body_stores e
-body_as class.Fence i e b = body_fences e
-body_as c i e b = absurd b
-
 straight_as : (far : Bool) (c : Class) (i : Ins) → class_of i.kind ≡ c → InBody c → Straight far (Plain i ∷ [])
 straight_as far class.Compute i e b = straight_compute far i [] e (straight_none far)
 straight_as far class.Load i e b = straight_load far i [] e (straight_none far)
@@ -112,7 +105,7 @@ straight_bare far i at f = elim (is_auipc i.kind) as (λ b. Straight far (cond b
 
 pub lockstep_original : (i : Ins) (at : ℕ) → FitsPiece i → Lockstep any (used i) (bare i at)
 lockstep_original i at f = record {
-  locks = λ far s. subst (LockItems far) (sym (guarded_original i at)) (original_items far i at f.low (body_as (class_of i.kind) i refl f.body));
+  locks = λ far s. subst (LockItems far) (sym (guarded_original i at)) (original_items far i at f);
   lands = λ far s. straight_lands far (bare i at) (straight_bare far i at f);
 }
 
@@ -146,9 +139,9 @@ pub honest_mirrored : (i : Ins) (at : ℕ) → FitsPiece i → Honest any (mirro
 honest_mirrored i at f = record { honest = λ far s. elim (is_auipc i.kind) as (λ b. HonestItems far (cond b (Constant (pair i.rd) (target i at) ∷ []) (mirror_as (class_of i.kind) i at))) [ true ↦ honest_constant far (pair i.rd) (target i at) | false ↦ honest_mirror far (class_of i.kind) i at refl f.body ] }
 
 pub lockstep_mirrored : (i : Ins) (at : ℕ) → FitsPiece i → Lockstep any [] (mirrored i at)
-lockstep_mirrored i at f = let b = body_as (class_of i.kind) i refl f.body in record {
-  locks = λ far s. mirror_items far i at b;
-  lands = λ far s. straight_lands far (mirrored i at) (straight_mirrored far i at b);
+lockstep_mirrored i at f = record {
+  locks = λ far s. mirror_items far i at f;
+  lands = λ far s. straight_lands far (mirrored i at) (straight_mirrored far i at f);
 }
 
 -- ---- the comparison

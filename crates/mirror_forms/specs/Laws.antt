@@ -13,7 +13,6 @@ use Rattle.qed_model.proofs.DiverseWorth.{fine_part}
 use Rattle.qed_model.proofs.DiverseRows.{all_fine}
 use Rattle.weave_core.specs.Blocks.{IsBody as InBody, FitsPiece}
 use Rattle.weave_core.specs.Rows.{At, spent}
-use Rattle.weave_core.specs.KindItems.{IsBodyWord, body_computes, body_loads, body_stores, body_fences}
 use Rattle.weave_core.proofs.Diverse.{operates_class, diverse_row}
 use Rattle.weave_core.proofs.DiverseFit.{diverse_mirrors_fit}
 use Rattle.weave_core.proofs.Landing.{straight_lands}
@@ -51,15 +50,8 @@ pub honest_diverse : (i : Ins) (at : ℕ) → FitsPiece i → Honest any (divers
 honest_diverse i at f = record { honest = λ far s. honest_as far i at (parts_of i.kind i.imm) f (all_fine i.kind i.imm) }
 
 -- ---- Lockstep
-body_as : (c : Class) (i : Ins) → class_of i.kind ≡ c → InBody c → IsBodyWord i
-body_as class.Compute i e b = body_computes e
-body_as class.Load i e b = body_loads e
-body_as class.Store i e b = body_stores e
-body_as class.Fence i e b = body_fences e
-body_as c i e b = absurd b
-
 pub lockstep_diverse : (i : Ins) (at : ℕ) → FitsPiece i → Lockstep any [] (diverse i at)
-lockstep_diverse i at f = let b = body_as (class_of i.kind) i refl f.body in record {
-  locks = λ far s. (diverse_mirrors_fit far).fit i at f.low b;
-  lands = λ far s. straight_lands far (diverse i at) ((diverse_mirrors_fit far).straight i at f.low b);
+lockstep_diverse i at f = record {
+  locks = λ far s. (diverse_mirrors_fit far).fit i at f;
+  lands = λ far s. straight_lands far (diverse i at) ((diverse_mirrors_fit far).straight i at f);
 }

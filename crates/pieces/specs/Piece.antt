@@ -2,7 +2,7 @@
 use Rattle.std.proofs.Common.{◌≡◌, ℕ, suc, ◌+◌, ◌-◌, ◌*◌, ◌^◌, ◌<◌, ◌≤◌, ◌⊎◌, inl, inr, ⊎_elim, Bool, true, false, cond, List, [], ◌∷◌, ◌++◌, length, refl, sym, ap, ◌∙◌, subst, arith}
 use Rattle.std.proofs.Math.Nat.{mul-suc}
 use Rattle.std.specs.Prelude.{◌==◌}
-use Rattle.std.proofs.lemmas.Bool.{false≢true}
+use Rattle.std.proofs.lemmas.Bool.{false≢true, and_parts}
 use Rattle.rv_isa.specs.declared.kind.Kind.{Kind}
 use Rattle.rv_isa.specs.declared.kind.Kind.TheVariants.{Auipc}
 use Rattle.rv_isa.specs.declared.ins.Ins.{Ins}
@@ -15,10 +15,11 @@ use Rattle.qed_model.specs.Promise.Kept.{NotTrapped}
 use Rattle.qed_model.specs.Weave.Sequences.{Form, guards, is_auipc, original, each_part, compare, visit, piece}
 use Rattle.qed_model.specs.Weave.Bounds.{visit_bound}
 use Rattle.weave_core.specs.World.{World, words_on}
-use Rattle.weave_core.specs.Blocks.{FitsPiece, AllFit, UsesUnwritten, with_written, IsRun, Piece}
+use Rattle.qed_model.specs.Weave.Pieces.{is_clean, and_written, is_run_after}
+use Rattle.weave_core.specs.Blocks.{FitsPiece, AllFit, Piece}
 use Rattle.weave_core.specs.Rows.{Sourced, spent, spent_as}
 use Rattle.weave_core.proofs.Body.{spent_le}
-use Rattle.weave_core.proofs.Source.{body_step, not_trapped_front, Steady, steady_on}
+use Rattle.weave_core.proofs.Source.{body_step, not_trapped_front, Steady, steady_on, UsesUnwritten, clean_uses}
 use Rattle.passes.specs.Pass.{Views, Stands, Chain, NeedsBoth, Does, same, Leads, Quiet, Honest, Lockstep, AllLow, AllSame}
 use Rattle.passes.specs.Uses.{used, used_as}
 use Rattle.passes.specs.Each.{next_at, items_each, ForEach, cost_each, NeedsEach, GivesEach, LeavesEach, each_is, each_same}
@@ -114,7 +115,7 @@ same_as c ws i s s' k st = tt
 module _ (w : World) where
   -- ---- the originals
   pub needs_originals :
-      (is : List Ins) (ws : ℕ → Bool) (at : ℕ) (v : Views) → at + 4 * length is < 2 ^ 64 → AllFit is → IsRun ws is → Steady ws v.original v.shadow
+      (is : List Ins) (ws : ℕ → Bool) (at : ℕ) (v : Views) → at + 4 * length is < 2 ^ 64 → AllFit is → is_run_after ws is ≡ true → Steady ws v.original v.shadow
       → Sourced w v.original → v.original.pc ≡ at → HasAt w.source v.original.pc is → NotTrapped (run v.original (length is))
       → NeedsEach NeedsOriginal GivesOriginal is at w v
   unfolding run
@@ -122,17 +123,18 @@ module _ (w : World) where
   needs_originals (i ∷ is) ws at v low f c st so here h calm =
       let calm1 = not_trapped_front (length is) (step v.original) calm in
       let m = body_step w v.original i f.0 so h.0 calm1 in
+      let clean = and_parts (is_clean ws i) (is_run_after (and_written i ws) is) c in
       let runs : Runs w i at v.original = record { sourced = so; known = h.0; here = here; calm = calm1 } in (
-        (same_as (class_of i.kind) ws i v.original v.shadow c.0 st, λ n y d. subst (Runs w i at) (sym d.original) runs),
+        (same_as (class_of i.kind) ws i v.original v.shadow (clean_uses (class_of i.kind) ws i clean.0) st, λ n y d. subst (Runs w i at) (sym d.original) runs),
         λ n y d.
             let eo : y.original ≡ step v.original = d.last.original ∙ ap step d.first.original in
             let es : y.shadow ≡ v.shadow = d.last.shadow ∙ d.first.shadow in
             let so1 : Sourced w y.original = subst (Sourced w) (sym eo) m.sourced in
             let pc1 : y.original.pc ≡ next_at at = ap (λ s. s.pc) eo ∙ run_on w i v.original at here (omega (arith, low)) m.pc in
             let h1 : HasAt w.source y.original.pc is = subst (λ s. HasAt w.source s.pc is) (sym eo) (subst (λ p. HasAt w.source p is) (sym m.pc) h.1) in
-            let st1 : Steady (with_written i ws) y.original y.shadow = subst (λ s. Steady (with_written i ws) s y.shadow) (sym eo) (subst (λ s. Steady (with_written i ws) (step v.original) s) (sym es) (steady_on w ws v.original v.shadow (step v.original) i m st)) in
+            let st1 : Steady (and_written i ws) y.original y.shadow = subst (λ s. Steady (and_written i ws) s y.shadow) (sym eo) (subst (λ s. Steady (and_written i ws) (step v.original) s) (sym es) (steady_on w ws v.original v.shadow (step v.original) i m st)) in
             let calm2 : NotTrapped (run y.original (length is)) = subst (λ s. NotTrapped (run s (length is))) (sym eo) calm in
-            needs_originals is (with_written i ws) (next_at at) y (omega (arith, low)) f.1 c.1 st1 so1 pc1 h1 calm2,
+            needs_originals is (and_written i ws) (next_at at) y (omega (arith, low)) f.1 clean.1 st1 so1 pc1 h1 calm2,
       )
 
   pub record Moved (v : Views) (n k : ℕ) (z : Views) (s s' : State) : Type 0 where

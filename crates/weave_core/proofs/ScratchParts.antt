@@ -6,8 +6,9 @@ use Rattle.rv_isa.specs.Kind.{class_of}
 use Rattle.qed_model.specs.declared.item.Item.{Item}
 use Rattle.qed_model.specs.declared.item.Item.TheVariants.{Mark, Plain, Constant, Go}
 use Rattle.weave_core.specs.Lock.{Scratch}
+use Rattle.weave_core.specs.Blocks.{FitsPiece}
 use Rattle.weave_core.specs.Kinds.{Lockstep}
-use Rattle.weave_core.specs.KindItems.{LockItems, Straight, Originals, IsBodyWord, MirrorsFit}
+use Rattle.weave_core.specs.KindItems.{LockItems, Straight, MirrorsFit}
 use Rattle.weave_core.proofs.KindWords.{scratch_compute, scratch_load, scratch_store}
 use Rattle.weave_core.proofs.KindItems.{items_none, items_one, items_constant}
 use Rattle.weave_core.proofs.Landing.{straight_none, straight_compute, straight_load, straight_store, straight_constant, low_or_high}
@@ -19,15 +20,15 @@ pub data ScratchWord (i : Ins) : Type 0 where
   word_stores : class_of i.kind ≡ class.Store → Scratch i.rs1 → Scratch i.rs2 → ScratchWord i
 
 -- each item is such a word, or a constant
-abbrev pub AllScratch : List Item → Type 0
-AllScratch [] = Unit {0}
-AllScratch (Mark m ∷ is) = ⊥
-AllScratch (Plain i ∷ is) = ScratchWord i × AllScratch is
-AllScratch (Constant r v ∷ is) = AllScratch is
-AllScratch (Go t ∷ is) = ⊥
+abbrev pub AllScratchWords : List Item → Type 0
+AllScratchWords [] = Unit {0}
+AllScratchWords (Mark m ∷ is) = ⊥
+AllScratchWords (Plain i ∷ is) = ScratchWord i × AllScratchWords is
+AllScratchWords (Constant r v ∷ is) = AllScratchWords is
+AllScratchWords (Go t ∷ is) = ⊥
 
 -- they are of the kinds
-pub scratch_items : (far : Bool) (is : List Item) → AllScratch is → LockItems far is
+pub scratch_items : (far : Bool) (is : List Item) → AllScratchWords is → LockItems far is
 scratch_items far [] h = items_none far
 scratch_items far (Mark m ∷ is) h = absurd h
 scratch_items far (Plain i ∷ is) h = items_one far i is (word h.0) (scratch_items far is h.1) where
@@ -40,7 +41,7 @@ scratch_items far (Constant r v ∷ is) h = items_constant far r v is (low_or_hi
 scratch_items far (Go t ∷ is) h = absurd h
 
 -- and do not jump
-pub scratch_straight : (far : Bool) (is : List Item) → AllScratch is → Straight far is
+pub scratch_straight : (far : Bool) (is : List Item) → AllScratchWords is → Straight far is
 scratch_straight far [] h = straight_none far
 scratch_straight far (Mark m ∷ is) h = absurd h
 scratch_straight far (Plain i ∷ is) h = word (scratch_straight far is h.1) h.0 where
@@ -53,5 +54,5 @@ scratch_straight far (Constant r v ∷ is) h = straight_constant far r v is (scr
 scratch_straight far (Go t ∷ is) h = absurd h
 
 -- mirror parts of such words fit
-pub scratch_mirrors_fit : (far : Bool) (mirror : Ins → ℕ → List Item) → ((i : Ins) (at : ℕ) → Originals i → IsBodyWord i → AllScratch (mirror i at)) → MirrorsFit far mirror
-scratch_mirrors_fit far mirror h = record { fit = λ i at o b. scratch_items far (mirror i at) (h i at o b); straight = λ i at o b. scratch_straight far (mirror i at) (h i at o b) }
+pub scratch_mirrors_fit : (far : Bool) (mirror : Ins → ℕ → List Item) → ((i : Ins) (at : ℕ) → FitsPiece i → AllScratchWords (mirror i at)) → MirrorsFit far mirror
+scratch_mirrors_fit far mirror h = record { fit = λ i at f. scratch_items far (mirror i at) (h i at f); straight = λ i at f. scratch_straight far (mirror i at) (h i at f) }
