@@ -1,17 +1,15 @@
 -- The laws of mirror parts of other kinds.
-use Rattle.std.proofs.Common.{◌≡◌, ℕ, ◌-◌, Bool, true, List, [], ◌∷◌, ◌++◌, refl, sym, subst}
+use Rattle.std.proofs.Common.{◌≡◌, ℕ, ◌-◌, Bool, true, List, [], ◌∷◌, ◌++◌, sym, subst}
 use Rattle.std.specs.List.{list_all}
 use Rattle.std.proofs.lemmas.Bool.{and_parts}
 use Rattle.rv_isa.specs.declared.ins.Ins.{Ins}
-use Rattle.rv_isa.specs.declared.class.Class.{Class}
 use Rattle.rv_isa.specs.declared.class.Class.TheVariants as class
-use Rattle.rv_isa.specs.Kind.{class_of}
 use Rattle.qed_model.specs.declared.item.Item.TheVariants.{Plain}
 use Rattle.qed_model.specs.Machine.Step.{step}
 use Rattle.qed_model.specs.Weave.Diverse.{Part, part_word, part_items, parts_of, diverse_as, diverse}
 use Rattle.qed_model.proofs.DiverseWorth.{fine_part}
 use Rattle.qed_model.proofs.DiverseRows.{all_fine}
-use Rattle.weave_core.specs.Blocks.{IsBody as InBody, FitsPiece}
+use Rattle.weave_core.specs.Blocks.{FitsPiece}
 use Rattle.weave_core.specs.Rows.{At, spent}
 use Rattle.weave_core.proofs.Diverse.{operates_class, diverse_row}
 use Rattle.weave_core.proofs.DiverseFit.{diverse_mirrors_fit}
