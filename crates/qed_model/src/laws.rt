@@ -1,4 +1,5 @@
 //! What the definitions say of each other.
+ghost use Rattle.qed_model.specs.Admission.DataRanges.{DataRangesAreJoined};
 ghost use Rattle.qed_model.specs.Admission.Refusals.{AdmissionHasOneAnswer};
 ghost use Rattle.qed_model.specs.Machine.Operands.{OperandsGoByFormat};
 ghost use Rattle.qed_model.specs.Weave.Woven.{InputHasOneOutput};
@@ -6,6 +7,12 @@ ghost use Rattle.qed_model.specs.Weave.Woven.{InputHasOneOutput};
 /// A file that was read is admitted exactly where no rule holds, and is refused by one rule, at one place.
 pub fn admission_has_one_answer()
     ensures { AdmissionHasOneAnswer }
+{}
+
+/// The data ranges of a file are the one list of ranges that ascend with gaps between them and have the
+/// addresses of its data segments, rounded out to aligned words.
+pub fn data_ranges_are_joined()
+    ensures { DataRangesAreJoined }
 {}
 
 /// With the same options the same bytes have one output.

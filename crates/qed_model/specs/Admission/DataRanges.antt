@@ -1,11 +1,14 @@
 -- The data of a test: which segments have it, and the ranges of aligned words that they make up. Ranges are by their first address
 -- and the one behind their last. The form is this project's own.
-use Rattle.std.specs.Prelude.{◌≡◌, ℕ, ◌+◌, ◌-◌, ◌*◌, ◌/◌, ◌<◌, Bool, nat_lt, nat_le, ◌&&◌, ◌||◌, not, min, max, cond, List, [], ◌∷◌, map, filter, flat_map, All, AllPairs}
+use Rattle.std.specs.Prelude.{◌≡◌, ◌↔◌, ℕ, ◌+◌, ◌-◌, ◌*◌, ◌/◌, ◌<◌, Bool, nat_lt, ◌&&◌, ◌||◌, not, min, max, cond, List, [], ◌∷◌, map, filter, flat_map, All, AllPairs}
 use Rattle.std.specs.List.{list_any}
 use Rattle.elf_types.specs.declared.file.Segment.{Segment}
+use Rattle.elf_types.specs.declared.file.ElfFile.{ElfFile}
 use Rattle.elf_types.specs.Abi.{may_write, may_execute}
 use Rattle.qed_model.specs.declared.range.Range.{Range}
 use Rattle.qed_model.specs.Below.{each}
+pub use Rattle.qed_model.specs.Admission.Terms.{is_in, is_in_any}
+use Rattle.qed_model.specs.Admission.Terms.{image_segments}
 
 -- a range by its first address and the one behind its last
 abbrev pub range_of : Range → ℕ × ℕ
@@ -40,14 +43,6 @@ abbrev pub data_segments : List Segment → List Segment
 data_segments image = filter (is_data image) image
 
 -- ---- data ranges
--- an address of a range
-abbrev pub is_in : ℕ × ℕ → ℕ → Bool
-is_in r q = nat_le r.0 q && nat_lt q r.1
-
--- an address of one of some ranges
-abbrev pub is_in_any : List (ℕ × ℕ) → ℕ → Bool
-is_in_any rs q = list_any (λ r. is_in r q) rs
-
 -- the data segments, rounded out
 abbrev pub data_parts : List Segment → List (ℕ × ℕ)
 data_parts image = map rounded (data_segments image)
@@ -71,6 +66,10 @@ joined (r ∷ rs) = join r (joined rs)
 -- the data ranges of an image; N is how many they are
 abbrev pub data_ranges : List Segment → List (ℕ × ℕ)
 data_ranges image = joined (data_parts image)
+
+-- those of a file are the one list of ranges that its parts are joined to
+abbrev pub DataRangesAreJoined : Type 0
+DataRangesAreJoined = (f : ElfFile) (ranges : List (ℕ × ℕ)) → AreJoined (data_parts (image_segments f.segments)) ranges ↔ (ranges ≡ data_ranges (image_segments f.segments))
 
 -- ---- data words
 -- the aligned words of a range, in ascending order

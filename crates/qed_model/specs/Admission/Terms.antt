@@ -1,6 +1,6 @@
 -- Rules by which tests are admitted, and what names a code address: sentences on the segments, sections, symbols and relocations of
--- a file that was read. Sums are over whole numbers and do not wrap. Code ranges are those of `code_ranges`, each by its first address
--- and the one behind its last.
+-- a file that was read. Sums are over whole numbers and do not wrap. Ranges are by their first address and the one behind their last;
+-- code ranges are those of `code_ranges`.
 use Rattle.std.specs.Prelude.{ℕ, ◌+◌, ◌-◌, ◌%◌, ◌^◌, ◌==◌, ◌&&◌, ◌||◌, not, nat_lt, nat_le, if◌then◌else◌, Bool, Option, Some, None, List, [], ◌∷◌, filter, slice_get}
 use Rattle.std.specs.List.{list_any}
 use Rattle.std.specs.Option.{option_map, option_or}
@@ -18,6 +18,15 @@ use Rattle.qed_model.specs.Machine.Values.{wrapped}
 use Rattle.qed_model.specs.Machine.Program.{LoadSegment}
 use Rattle.qed_model.specs.Elf.Rules.{is_at}
 use Rattle.qed_model.specs.Machine.Loading.{is_code_section, lies_in_code, code_ranges}
+
+-- ---- ranges
+-- an address of a range
+abbrev pub is_in : ℕ × ℕ → ℕ → Bool
+is_in r q = nat_le r.0 q && nat_lt q r.1
+
+-- an address of one of some ranges
+abbrev pub is_in_any : List (ℕ × ℕ) → ℕ → Bool
+is_in_any rs q = list_any (λ r. is_in r q) rs
 
 -- ---- the image
 -- the segments that make up the image, in order: those of type PT_LOAD that have bytes in memory
@@ -58,7 +67,7 @@ is_misshapen_code ls ss = list_any (is_cut ls) ss || list_any is_ragged (code_ra
 -- ---- code addresses, and what names them
 -- a multiple of 4 in a code range
 abbrev pub is_code_address : List (ℕ × ℕ) → ℕ → Bool
-is_code_address rs a = a % 4 == 0 && list_any (λ r. nat_le r.0 a && nat_lt a r.1) rs
+is_code_address rs a = a % 4 == 0 && is_in_any rs a
 
 -- the address is the value of a defined symbol of type STT_FUNC or STT_NOTYPE
 abbrev pub is_named : List Symbol → ℕ → Bool
