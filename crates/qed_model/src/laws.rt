@@ -4,7 +4,7 @@ ghost use Rattle.qed_model.specs.Admission.Refusals.{AdmissionHasOneAnswer};
 ghost use Rattle.qed_model.specs.Machine.Operands.{OperandsGoByFormat};
 ghost use Rattle.qed_model.specs.Weave.Woven.{InputHasOneOutput};
 
-/// A file that was read is admitted exactly where no rule holds, and is refused by one rule, at one place.
+/// A file is admitted exactly where no rule holds; each other file is refused by one rule, at one place.
 pub fn admission_has_one_answer()
     ensures { AdmissionHasOneAnswer }
 {}

@@ -98,8 +98,9 @@ pub record IsAdmitted (f : ElfFile) (o : Options) : Type 0 where
   pub top : code_place o.half (image_of f) + CODE_ROOM ≤ limit_of limit.TopAddress
 
 -- ---- one answer
--- a file is admitted or refused, and not both; it is refused by one rule, at one place
+-- a file is admitted, exactly where no rule holds, or it is refused, by one rule at one place
 pub record HasOneAnswer (f : ElfFile) (o : Options) : Type 0 where
+  pub answered : IsAdmitted f o ⊎ ((e : AdmitError) × IsRefusedBy f o e)
   pub admitted : ((e : AdmitError) → HasFault f o e → ⊥) → IsAdmitted f o
   pub apart : (e : AdmitError) → IsAdmitted f o → HasFault f o e → ⊥
   pub one : (e d : AdmitError) → IsRefusedBy f o e → IsRefusedBy f o d → e ≡ d
