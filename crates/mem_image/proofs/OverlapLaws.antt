@@ -9,9 +9,11 @@ use Rattle.qed_model.proofs.MemoryLaws.{same_memory}
 use Rattle.qed_model.specs.Machine.Program.{LoadSegment, memory_of}
 use Rattle.mem_image.specs.declared.spec.SegmentSpec.{SegmentSpec}
 use Rattle.qed_model.specs.Machine.Apart.{AllFitMemory, share, Overlaps}
-use Rattle.mem_image.specs.Segments.{cell_in}
+use Rattle.qed_model.specs.Machine.Cells.{cell_among}
 use Rattle.mem_image.specs.Overlap.{segment_of, segments_of, filled, IsNext, IsLeast}
-use Rattle.mem_image.proofs.SegmentLaws.{index_zeros, length_zeros, get-memory_of}
+use Rattle.mem_image.proofs.SegmentLaws.{get-memory_of}
+use Rattle.qed_model.proofs.SegmentCells.{length-image}
+use Rattle.qed_model.proofs.CellsAmong.{index_zeros}
 
 -- ---- two places of the list
 -- the segment at a place that the code reads
@@ -72,12 +74,12 @@ pair_least ss i j before next = record {
 -- ---- all bytes written out
 pub all_fit-filled : (ss : List LoadSegment) → AllFitMemory ss → AllFitMemory (map filled ss)
 all_fit-filled [] h = tt
-all_fit-filled (s ∷ ss) h = let e = length_zeros s.bytes s.size h.0.0 in ((omega (arith, e), h.0.1), all_fit-filled ss h.1)
+all_fit-filled (s ∷ ss) h = let e = length-image s h.0.0 in ((omega (arith, e), h.0.1), all_fit-filled ss h.1)
 
-cell_in-filled : (ss : List LoadSegment) (q : ℕ) → cell_in (map filled ss) q ≡ cell_in ss q
-cell_in-filled [] q = refl
-cell_in-filled (s ∷ ss) q = rw (cell_in-filled ss q, index_zeros s.bytes (s.size - length s.bytes) (q - s.address)) refl
+cell_among-filled : (ss : List LoadSegment) (q : ℕ) → cell_among (map filled ss) q ≡ cell_among ss q
+cell_among-filled [] q = refl
+cell_among-filled (s ∷ ss) q = rw (cell_among-filled ss q, index_zeros s.bytes (s.size - length s.bytes) (q - s.address)) refl
 
 -- the memory stays
 pub memory_of-filled : (ss : List LoadSegment) → AllFitMemory ss → memory_of (map filled ss) ≡ memory_of ss
-memory_of-filled ss h = same_memory _ _ (λ q. get-memory_of (map filled ss) q (all_fit-filled ss h) ∙ cell_in-filled ss q ∙ sym (get-memory_of ss q h))
+memory_of-filled ss h = same_memory _ _ (λ q. get-memory_of (map filled ss) q (all_fit-filled ss h) ∙ cell_among-filled ss q ∙ sym (get-memory_of ss q h))

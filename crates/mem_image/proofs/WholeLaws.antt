@@ -2,7 +2,7 @@
 use Rattle.std.proofs.Common.{◌≡◌, ℕ, zero, suc, ◌+◌, ◌-◌, ◌*◌, ◌^◌, ◌<◌, ◌≤◌, Bool, true, false, List, [], ◌∷◌, length, Some, None, refl, sym, ap, ◌∙◌, arith, add-one, set, length-set, get_or}
 use Rattle.std.proofs.Math.Nat.{pow-suc, pow-le-pow_right}
 use Rattle.std.specs.Prelude.{slice_index, slice_get, map}
-use Rattle.std.proofs.lemmas.Bool.{leb-true, ltb-true, and_parts, and_from, le-leb, lt-ltb}
+use Rattle.std.proofs.lemmas.Bool.{leb-true, ltb-true, and_parts}
 use Rattle.std.proofs.lemmas.Bool.Decides.{nat_tests}
 use Rattle.qed_model.specs.Machine.Memory.{byte_of, Flags, Memory, wrap, allows, grants, number, poked, put}
 use Rattle.qed_model.specs.Machine.Program.{LoadSegment, memory_of}
@@ -11,10 +11,12 @@ use Rattle.std.proofs.lemmas.List.{set-set}
 use Rattle.qed_model.proofs.MemoryLaws.{grants_from, put_none, put-more}
 use Rattle.qed_model.proofs.CellsLaws.{byte_of_cell}
 use Rattle.qed_model.specs.Machine.Apart.{share, AllFitMemory, AreApart}
-use Rattle.mem_image.specs.Segments.{cell_of, within, has_all, number_in, with_byte_at, with_bytes_at, IsWholeAt}
+use Rattle.qed_model.specs.Machine.Cells.{cell_at, has}
+use Rattle.qed_model.proofs.CellsAmong.{has_from}
+use Rattle.mem_image.specs.Segments.{has_all, number_in, with_byte_at, with_bytes_at, IsWholeAt}
 use Rattle.mem_image.specs.Access.{allowed_number}
 use Rattle.mem_image.specs.Overlap.{filled, AreSound}
-use Rattle.mem_image.proofs.SegmentLaws.{stands_at, IsWhole, get-memory_of, cell_in-first, memory_of-set, all_fit-set, none_past}
+use Rattle.mem_image.proofs.SegmentLaws.{stands_at, IsWhole, get-memory_of, cell_among-first, memory_of-set, all_fit-set, none_past}
 use Rattle.mem_image.proofs.OverlapLaws.{all_fit-filled}
 
 -- ---- a number from the bytes of a list
@@ -57,8 +59,8 @@ spans s a n h =
     let room = leb-true _ _ p.1 in
     (low, omega (arith, low, near, room))
 
-pub within_span : (s : LoadSegment) (a n q : ℕ) → s.address ≤ a → a + n ≤ s.address + s.size → a ≤ q → q < a + n → within s q ≡ true
-within_span s a n q low room above below = and_from _ _ (le-leb s.address q (omega arith)) (lt-ltb (q - s.address) s.size (omega arith))
+pub has_span : (s : LoadSegment) (a n q : ℕ) → s.address ≤ a → a + n ≤ s.address + s.size → a ≤ q → q < a + n → has s q ≡ true
+has_span s a n q low room above below = has_from s q (omega arith) (omega arith)
 
 -- ---- several bytes are written
 pub address-with_bytes : (s : LoadSegment) (a n v : ℕ) → (with_bytes_at s a n v).address ≡ s.address
@@ -76,8 +78,8 @@ unfolding with_bytes_at
 length-with_bytes s a zero v = refl
 length-with_bytes s a (suc n) v = length-set _ _ _ ∙ length-with_bytes s a n v
 
-pub within-with_bytes : (s : LoadSegment) (a n v q : ℕ) → within (with_bytes_at s a n v) q ≡ within s q
-within-with_bytes s a n v q = rw (address-with_bytes s a n v, size-with_bytes s a n v) refl
+pub has-with_bytes : (s : LoadSegment) (a n v q : ℕ) → has (with_bytes_at s a n v) q ≡ has s q
+has-with_bytes s a n v q = rw (address-with_bytes s a n v, size-with_bytes s a n v) refl
 
 -- nothing, and one byte more
 pub with_bytes-none : (s : LoadSegment) (a v : ℕ) → with_bytes_at s a 0 v ≡ s
@@ -90,13 +92,13 @@ with_bytes-more s a n v = rw add-one refl
 
 -- ---- segments that share nothing
 -- two segments with an address in common share a byte
-shared : (s t : LoadSegment) (q : ℕ) → within s q ≡ true → within t q ≡ true → share s t ≡ true
+shared : (s t : LoadSegment) (q : ℕ) → has s q ≡ true → has t q ≡ true → share s t ≡ true
 shared s t q x y = grind (arith, nat_tests)
 
 -- an address has one segment
-pub before_apart : (ss : List LoadSegment) (k : ℕ) (s : LoadSegment) (q : ℕ) → AreApart ss → slice_get ss k ≡ Some s → within s q ≡ true → (j : ℕ) (p : LoadSegment) → j < k → slice_get ss j ≡ Some p → within p q ≡ false
-before_apart ss k s q apart at w j p h e = by (within p q) refl where
-  by : (b : Bool) → within p q ≡ b → within p q ≡ false
+pub before_apart : (ss : List LoadSegment) (k : ℕ) (s : LoadSegment) (q : ℕ) → AreApart ss → slice_get ss k ≡ Some s → has s q ≡ true → (j : ℕ) (p : LoadSegment) → j < k → slice_get ss j ≡ Some p → has p q ≡ false
+before_apart ss k s q apart at w j p h e = by (has p q) refl where
+  by : (b : Bool) → has p q ≡ b → has p q ≡ false
   by true x = absurd (apart j k (record { order = h; first = p; second = s; first_at = e; second_at = at; share = shared p s q x w }))
   by false x = x
 
@@ -144,8 +146,8 @@ ends [] k s f e = absurd (cc)
 ends (x ∷ xs) zero s f e = let is : x ≡ s = cc in rw is at f.0.1
 ends (x ∷ xs) (suc k) s f e = ends xs k s f.1 e
 
-get_whole : (ss : List LoadSegment) (k : ℕ) (s : LoadSegment) (q : ℕ) → AreSound ss → slice_get ss k ≡ Some s → within s q ≡ true → get (memory_of ss) q ≡ Some (cell_of s q)
-get_whole ss k s q h e w = get-memory_of ss q h.fit ∙ cell_in-first ss q k s e w (before_apart ss k s q h.apart e w)
+get_whole : (ss : List LoadSegment) (k : ℕ) (s : LoadSegment) (q : ℕ) → AreSound ss → slice_get ss k ≡ Some s → has s q ≡ true → get (memory_of ss) q ≡ Some (cell_at s q)
+get_whole ss k s q h e w = get-memory_of ss q h.fit ∙ cell_among-first ss q k s e w (before_apart ss k s q h.apart e w)
 
 number_whole : (ss : List LoadSegment) (k : ℕ) (s : LoadSegment) (a n : ℕ) → AreSound ss → slice_get ss k ≡ Some s → s.address ≤ a → a + n ≤ s.address + s.size → number (memory_of ss) a n ≡ number_in s.bytes (a - s.address) n
 unfolding number number_in
@@ -153,24 +155,24 @@ number_whole ss k s a zero h e low room = refl
 number_whole ss k s a (suc n) h e low room =
     let end = ends ss k s h.fit e in
     let same : wrap a ≡ a = omega arith in
-    let w = within_span s a (suc n) a low room (omega arith) (omega arith) in
+    let w = has_span s a (suc n) a low room (omega arith) (omega arith) in
     let next : a + 1 - s.address ≡ a - s.address + 1 = omega arith in
     rw (same, byte_of_cell (memory_of ss) a, get_whole ss k s a h e w, number_whole ss k s (a + 1) n h e (omega arith) (omega arith), next) refl
 
-allows_whole : (need : Flags → Bool) (ss : List LoadSegment) (k : ℕ) (s : LoadSegment) (q : ℕ) → AreSound ss → slice_get ss k ≡ Some s → within s q ≡ true → allows need (get (memory_of ss) q) ≡ need s.flags
+allows_whole : (need : Flags → Bool) (ss : List LoadSegment) (k : ℕ) (s : LoadSegment) (q : ℕ) → AreSound ss → slice_get ss k ≡ Some s → has s q ≡ true → allows need (get (memory_of ss) q) ≡ need s.flags
 allows_whole need ss k s q h e w = ap (allows need) (get_whole ss k s q h e w)
 
 granted_whole : (need : Flags → Bool) (ss : List LoadSegment) (k : ℕ) (s : LoadSegment) (a n : ℕ) → AreSound ss → slice_get ss k ≡ Some s → s.address ≤ a → a + n ≤ s.address + s.size → need s.flags ≡ true → grants need (memory_of ss) a n ≡ true
 granted_whole need ss k s a n h e low room t =
     let end = ends ss k s h.fit e in
-    grants_from need (memory_of ss) a n (λ i l. let same : wrap (a + i) ≡ a + i = omega arith in rw same (allows_whole need ss k s (a + i) h e (within_span s a n (a + i) low room (omega arith) (omega arith)) ∙ t))
+    grants_from need (memory_of ss) a n (λ i l. let same : wrap (a + i) ≡ a + i = omega arith in rw same (allows_whole need ss k s (a + i) h e (has_span s a n (a + i) low room (omega arith) (omega arith)) ∙ t))
 
 refused_whole : (need : Flags → Bool) (ss : List LoadSegment) (k : ℕ) (s : LoadSegment) (a n : ℕ) → AreSound ss → slice_get ss k ≡ Some s → s.address ≤ a → a + suc n ≤ s.address + s.size → need s.flags ≡ false → grants need (memory_of ss) a (suc n) ≡ false
 unfolding grants
 refused_whole need ss k s a n h e low room t =
     let end = ends ss k s h.fit e in
     let same : wrap a ≡ a = omega arith in
-    rw (same, allows_whole need ss k s a h e (within_span s a (suc n) a low room (omega arith) (omega arith)), t) refl
+    rw (same, allows_whole need ss k s a h e (has_span s a (suc n) a low room (omega arith) (omega arith)), t) refl
 
 -- ---- the same, by what the code knows
 -- the segment that the code reads at the place that was found
@@ -211,7 +213,7 @@ put_whole ss k s a (suc n) v h e whole low room =
     let sound : AreSound (set ss k (with_bytes_at s a n v)) = sound-bytes ss k s a n v h e in
     let there : slice_get (set ss k (with_bytes_at s a n v)) k ≡ Some (with_bytes_at s a n v) = there_set ss k s (with_bytes_at s a n v) e in
     let full : IsWhole (with_bytes_at s a n v) = length-with_bytes s a n v ∙ whole ∙ sym (size-with_bytes s a n v) in
-    let inside : within (with_bytes_at s a n v) (a + n) ≡ true = within-with_bytes s a n v (a + n) ∙ within_span s a (suc n) (a + n) low room (omega arith) (omega arith) in
+    let inside : has (with_bytes_at s a n v) (a + n) ≡ true = has-with_bytes s a n v (a + n) ∙ has_span s a (suc n) (a + n) low room (omega arith) (omega arith) in
     let end = ends ss k s h.fit e in
     let same : a + n ≡ wrap (a + n) = omega arith in
     ap memory_of (sym (set-set ss k (with_bytes_at s a n v) (with_byte_at (with_bytes_at s a n v) (a + n) (byte_of v n))))

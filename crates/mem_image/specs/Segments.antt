@@ -1,31 +1,19 @@
--- Segments in memory, address by address.
-use Rattle.std.specs.Prelude.{◌≡◌, ℕ, zero, suc, ◌+◌, ◌-◌, ◌*◌, ◌<◌, ◌&&◌, Bool, true, false, cond, nat_le, nat_lt, List, [], ◌∷◌, slice_index, slice_get, slice_set, Option, Some, None}
+-- Segments in memory: which is the first that has an address, and those with other bytes.
+use Rattle.std.specs.Prelude.{◌≡◌, ℕ, zero, suc, ◌+◌, ◌-◌, ◌*◌, ◌<◌, ◌&&◌, Bool, true, false, nat_le, List, slice_index, slice_get, slice_set, Some}
 use Rattle.std.specs.FinMap.{get}
-use Rattle.qed_model.specs.Machine.Memory.{Cell, Memory, byte_of}
+use Rattle.qed_model.specs.Machine.Memory.{Memory, byte_of}
 use Rattle.qed_model.specs.Machine.Program.{LoadSegment}
-
--- the segment has the address
-abbrev pub within : LoadSegment → ℕ → Bool
-within s q = nat_le s.address q && nat_lt (q - s.address) s.size
-
--- what it has there: a byte of the file, or 0 behind them
-abbrev pub cell_of : LoadSegment → ℕ → Cell
-cell_of s q = record { byte = slice_index s.bytes (q - s.address); flags = s.flags }
-
--- the cell at an address, in the first segment that has it
-abbrev pub cell_in : List LoadSegment → ℕ → Option Cell
-cell_in [] q = None
-cell_in (s ∷ ss) q = cond (within s q) (Some (cell_of s q)) (cell_in ss q)
+use Rattle.qed_model.specs.Machine.Cells.{has, cell_at}
 
 -- the segment at place k is the first that has the address
 pub record IsFirst (ss : List LoadSegment) (q k : ℕ) : Type 0 where
-  pub found : (s : LoadSegment) × ((slice_get ss k ≡ Some s) × (within s q ≡ true))
-  pub before : (j : ℕ) (s : LoadSegment) → j < k → slice_get ss j ≡ Some s → within s q ≡ false
+  pub found : (s : LoadSegment) × ((slice_get ss k ≡ Some s) × (has s q ≡ true))
+  pub before : (j : ℕ) (s : LoadSegment) → j < k → slice_get ss j ≡ Some s → has s q ≡ false
 
 -- the memory has at the address what the segment has there
 pub record Holds (m : Memory) (s : LoadSegment) (q : ℕ) : Type 0 where
-  pub cell : get m q ≡ Some (cell_of s q)
-  pub inside : within s q ≡ true
+  pub cell : get m q ≡ Some (cell_at s q)
+  pub inside : has s q ≡ true
 
 -- the segment with another byte at an address
 abbrev pub with_byte_at : LoadSegment → ℕ → ℕ → LoadSegment
@@ -33,7 +21,7 @@ with_byte_at s a v = record { address = s.address; size = s.size; flags = s.flag
 
 -- the segment has each of the n addresses from a on
 abbrev pub has_all : LoadSegment → ℕ → ℕ → Bool
-has_all s a n = within s a && nat_le n (s.size - (a - s.address))
+has_all s a n = has s a && nat_le n (s.size - (a - s.address))
 
 -- the segment at place k has each of the n addresses from a on
 pub record IsWholeAt (ss : List LoadSegment) (a n k : ℕ) : Type 0 where

@@ -1,8 +1,9 @@
 //! Segments in memory.
 ghost use Rattle.std.specs.Prelude.{◌≡◌, ◌+◌, ◌-◌, ◌<◌, ◌≤◌, ◌^◌, true, length, IfOk};
+ghost use Rattle.qed_model.specs.Machine.Cells.{has, cell_at};
 ghost use Rattle.mem_image.specs.Access.{needs};
 ghost use Rattle.mem_image.specs.Overlap.{segment_of, filled};
-ghost use Rattle.mem_image.specs.Segments.{within, cell_of, has_all, number_in, with_byte_at, with_bytes_at};
+ghost use Rattle.mem_image.specs.Segments.{has_all, number_in, with_byte_at, with_bytes_at};
 
 use crate::spec::SegmentSpec;
 use std::alloc::{AllocError, Global};
@@ -56,7 +57,7 @@ impl Held {
 
     /// Whether the segment has the address.
     pub fn has(&self, address: u64) -> bool
-        ensures { result ≡ within self.now address }
+        ensures { result ≡ has self.now address }
     {
         self.start <= address && address - self.start < self.bytes.len() as u64
     }
@@ -81,15 +82,15 @@ impl Held {
 
     /// The byte at an address that it has.
     pub fn byte(&self, address: u64) -> u8
-        requires { within self.now address ≡ true }
-        ensures { result ≡ (cell_of self.now address).byte }
+        requires { has self.now address ≡ true }
+        ensures { result ≡ (cell_at self.now address).byte }
     {
         self.bytes[(address - self.start) as usize]
     }
 
     /// Gives the byte at an address that it has another value.
     pub fn set(&mut self, address: u64, value: u8)
-        requires { within self.old address ≡ true }
+        requires { has self.old address ≡ true }
         ensures set { self.new ≡ with_byte_at self.old address value }
         ensures whole { length self.old.bytes ≡ self.old.size }
     {

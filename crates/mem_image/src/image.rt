@@ -7,7 +7,8 @@ ghost use Rattle.qed_model.specs.Machine.Program.{memory_of};
 ghost use Rattle.mem_image.specs.Overlap.{segments_of, filled, Explains};
 ghost use Rattle.mem_image.specs.Access.{needs, allowed_byte, allowed_number, IsWidth};
 ghost use Rattle.qed_model.specs.Machine.Apart.{AllFitMemory, AreApart};
-ghost use Rattle.mem_image.specs.Segments.{cell_in, IsFirst, IsWholeAt, Holds};
+ghost use Rattle.qed_model.specs.Machine.Cells.{cell_among};
+ghost use Rattle.mem_image.specs.Segments.{IsFirst, IsWholeAt, Holds};
 
 use crate::held::{Access, Held};
 use crate::overlap::first_overlap;
@@ -199,7 +200,7 @@ impl Image {
 
 /// The first segment that has the address.
 fn first_with(segments: &[Held], address: u64) -> Option<usize>
-    ensures none { IfNone result (cell_in segments.now address ≡ None) }
+    ensures none { IfNone result (cell_among segments.now address ≡ None) }
     ensures some { IfSome result (λ k. IsFirst segments.now address k) }
     ensures below { IfSome result (λ k. k < length segments.now) }
 {

@@ -1,8 +1,9 @@
 use Rattle.std.proofs.Common.{◌+◌, sym, ap, ◌∙◌, arith}
 use Rattle.qed_model.specs.Machine.Memory.{byte_of}
-use Rattle.mem_image.specs.Segments.{within, with_byte_at}
+use Rattle.qed_model.specs.Machine.Cells.{has}
+use Rattle.mem_image.specs.Segments.{with_byte_at}
 use Rattle.mem_image.proofs.NumberLaws.{low_byte}
-use Rattle.mem_image.proofs.WholeLaws.{spans, within_span, within-with_bytes, with_bytes-none, with_bytes-more}
+use Rattle.mem_image.proofs.WholeLaws.{spans, has_span, has-with_bytes, with_bytes-none, with_bytes-more}
 use Rattle.mem_image.proofs.held.Held.put.Goals as goal
 
 pub loop-i-init : goal.loop-i-init
@@ -11,9 +12,9 @@ loop-i-init c = sym (with_bytes-none c.args.self.now c.args.address c.args.value
 pub set-requires : goal.set-requires
 set-requires c =
     let room = spans c.args.self.now c.args.address c.args.width c.requires.has in
-    ap (λ s. within s (c.args.address + c.loop-i.i)) c.loop-i.invariant
-    ∙ within-with_bytes c.args.self.now c.args.address c.loop-i.i c.args.value (c.args.address + c.loop-i.i)
-    ∙ within_span c.args.self.now c.args.address c.args.width (c.args.address + c.loop-i.i) room.0 room.1 (omega arith) (omega arith)
+    ap (λ s. has s (c.args.address + c.loop-i.i)) c.loop-i.invariant
+    ∙ has-with_bytes c.args.self.now c.args.address c.loop-i.i c.args.value (c.args.address + c.loop-i.i)
+    ∙ has_span c.args.self.now c.args.address c.args.width (c.args.address + c.loop-i.i) room.0 room.1 (omega arith) (omega arith)
 
 pub loop-i-preserved : goal.loop-i-preserved
 loop-i-preserved c =
