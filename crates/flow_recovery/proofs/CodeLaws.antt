@@ -10,7 +10,7 @@ use Rattle.qed_model.specs.declared.test.CodeWord.{CodeWord}
 use Rattle.qed_model.specs.Machine.Table.{decode_of}
 use Rattle.qed_model.specs.Admission.CodeWords.{is_code, word_at, instruction_at}
 use Rattle.qed_model.specs.Admission.Test.{IsCodeWord, AreCodeWords}
-use Rattle.qed_model.specs.Admission.Leaders.{Stands}
+use Rattle.qed_model.specs.Admission.Leaders.{HasInstruction}
 use Rattle.qed_model.proofs.Among.{Among, among-map, source_of}
 
 -- ---- members by their places
@@ -63,7 +63,7 @@ module _ (f : ElfFile) (code : List CodeWord) (words : AreCodeWords f code) wher
     pub instruction : i ≡ word.ins
     pub class : of (class_of word.ins.kind) ≡ true
 
-  pub standing_word : (of : Class → Bool) (a : ℕ) (s : Stands f of a) → WordOf of a s.instruction
+  pub standing_word : (of : Class → Bool) (a : ℕ) (s : HasInstruction f of a) → WordOf of a s.instruction
   standing_word of a s =
       let w = code_word a (standing_code f a s.instruction s.stands) in
       let both : Some s.instruction ≡ Some w.word.ins = sym s.stands ∙ ap (instruction_at f) w.at ∙ word_stands w.word w.among in
@@ -71,5 +71,5 @@ module _ (f : ElfFile) (code : List CodeWord) (words : AreCodeWords f code) wher
       record { word = w.word; among = w.among; at = w.at; instruction = same; class = ap (λ (i : Ins). of (class_of i.kind)) (sym same) ∙ s.class }
 
   -- and where a word is of a class, an instruction of the class stands
-  abbrev pub stands_word : (of : Class → Bool) (c : CodeWord) → Among c code → of (class_of c.ins.kind) ≡ true → Stands f of c.at
+  abbrev pub stands_word : (of : Class → Bool) (c : CodeWord) → Among c code → of (class_of c.ins.kind) ≡ true → HasInstruction f of c.at
   stands_word of c m e = record { instruction = c.ins; stands = word_stands c m; class = e }

@@ -30,7 +30,7 @@ is_indirect class.JumpReg = true
 is_indirect _ = false
 
 -- at a code address stands an instruction of such a class
-pub record Stands (f : ElfFile) (of : Class → Bool) (a : ℕ) : Type 0 where
+pub record HasInstruction (f : ElfFile) (of : Class → Bool) (a : ℕ) : Type 0 where
   pub instruction : Ins
   pub stands : instruction_at f a ≡ Some instruction
   pub class : of (class_of instruction.kind) ≡ true
@@ -40,9 +40,9 @@ pub data Begins (f : ElfFile) (a : ℕ) : Type 0 where
   -- the entry point
   Entry : a ≡ f.entry → Begins f a
   -- the target of a JAL or a branch
-  Target : (i : ℕ) (s : Stands f has_target i) → a ≡ target s.instruction i → Begins f a
+  Target : (i : ℕ) (s : HasInstruction f has_target i) → a ≡ target s.instruction i → Begins f a
   -- the address after an end
-  After : (i : ℕ) → Stands f is_end i → a ≡ i + 4 → Begins f a
+  After : (i : ℕ) → HasInstruction f is_end i → a ≡ i + 4 → Begins f a
   -- a symbol or a relocation names it
   Named : is_named_in f a ≡ true → Begins f a
 
@@ -53,4 +53,4 @@ pub record IsLeader (f : ElfFile) (a : ℕ) : Type 0 where
 
 -- some code word is a JALR, so that each code address has an entry
 abbrev pub HasIndirect : ElfFile → Type 0
-HasIndirect f = (a : ℕ) × Stands f is_indirect a
+HasIndirect f = (a : ℕ) × HasInstruction f is_indirect a
