@@ -44,6 +44,9 @@ pub const MAX_OUTPUT_SECTIONS: u64 = 4_000;
 /// The bytes of room for the new code behind both halves and the table, 128 MiB.
 pub const CODE_ROOM: u64 = 134_217_728;
 
+/// The bytes of new code in the near form, 1 MiB, within which each JAL reaches.
+pub const MAX_NEAR_CODE_BYTES: u64 = 1_048_576;
+
 /// The greatest distance of the halves that can be asked for, in bytes, 512 MiB.
 pub const MAX_HALF: u64 = 536_870_912;
 

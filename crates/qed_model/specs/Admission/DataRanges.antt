@@ -1,12 +1,11 @@
 -- The data of a test: which segments have it, and the ranges of aligned words that they make up. Ranges are by their first address
 -- and the one behind their last. The form is this project's own.
-use Rattle.std.specs.Prelude.{◌≡◌, ◌↔◌, ℕ, ◌+◌, ◌-◌, ◌*◌, ◌/◌, ◌<◌, Bool, nat_lt, ◌&&◌, ◌||◌, not, min, max, cond, List, [], ◌∷◌, map, filter, flat_map, All, AllPairs}
+use Rattle.std.specs.Prelude.{◌≡◌, ◌↔◌, ℕ, ◌+◌, ◌-◌, ◌*◌, ◌/◌, ◌<◌, Bool, nat_lt, ◌&&◌, ◌||◌, not, min, max, cond, List, [], ◌∷◌, map, filter, All, AllPairs}
 use Rattle.std.specs.List.{list_any}
 use Rattle.elf_types.specs.declared.file.Segment.{Segment}
 use Rattle.elf_types.specs.declared.file.ElfFile.{ElfFile}
 use Rattle.elf_types.specs.Abi.{may_write, may_execute}
 use Rattle.qed_model.specs.declared.range.Range.{Range}
-use Rattle.qed_model.specs.Below.{each}
 pub use Rattle.qed_model.specs.Admission.Terms.{is_in, is_in_any}
 use Rattle.qed_model.specs.Admission.Terms.{image_segments}
 
@@ -72,15 +71,7 @@ abbrev pub DataRangesAreJoined : Type 0
 DataRangesAreJoined = (f : ElfFile) (ranges : List (ℕ × ℕ)) → AreJoined (data_parts (image_segments f.segments)) ranges ↔ (ranges ≡ data_ranges (image_segments f.segments))
 
 -- ---- data words
--- the aligned words of a range, in ascending order
-abbrev pub words_in : ℕ × ℕ → List ℕ
-words_in r = each ((r.1 - r.0) / 8) (λ k. r.0 + 8 * k)
-
--- the data words of ranges, in ascending order; the cursor goes over them in this order
-abbrev pub data_words : List (ℕ × ℕ) → List ℕ
-data_words ranges = flat_map words_in ranges
-
--- how many they are, W
+-- how many aligned words ranges have, W
 abbrev pub word_count : List (ℕ × ℕ) → ℕ
 word_count [] = 0
 word_count (r ∷ rs) = (r.1 - r.0) / 8 + word_count rs

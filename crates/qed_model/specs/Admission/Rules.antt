@@ -1,5 +1,5 @@
--- The rules by which a test is admitted, each as a test at one place: a segment, a section or an address. The first three of them and
--- what they speak of stand in Admission.
+-- The rules by which a test is admitted that hold at a place, each as a test at one segment, section or address. Refusals has the
+-- other rules, and the order of all.
 use Rattle.std.specs.Prelude.{ℕ, ◌+◌, ◌^◌, nat_lt, not, ◌&&◌, ◌||◌, Bool, true, false, Option, Some, None, is_none, List, [], ◌∷◌, ℤ, pos, negsuc}
 use Rattle.std.specs.List.{list_any}
 use Rattle.elf_types.specs.declared.file.Segment.{Segment}

@@ -10,7 +10,7 @@ use Rattle.qed_model.specs.declared.item.Item.{Item}
 use Rattle.qed_model.specs.declared.item.Item.TheVariants.{Mark, Plain, Constant, Go}
 use Rattle.qed_model.specs.Machine.Table.{ins}
 use Rattle.qed_model.specs.Machine.Values.{wrapped, floor_shift}
-use Rattle.qed_model.specs.Weave.Sequences.{mirrored, Form}
+use Rattle.qed_model.specs.Weave.Sequences.{mirrored}
 use Rattle.rv_isa.specs.Operation.{pair}
 
 -- ---- words of a mirror part
@@ -150,7 +150,3 @@ OtherKinds k (Go t ∷ is) = ⊥
 -- each computing instruction but those has a mirror part of other kinds than its own alone
 abbrev pub DiverseOther : Type 0
 DiverseOther = (i : Ins) (at : ℕ) → class_of i.kind ≡ class.Compute → keeps_own i.kind ≡ false → OtherKinds i.kind (diverse i at)
-
--- the near form without the sweep, with these mirror parts, where an instruction counts 8 steps
-abbrev pub diverse_form : List (ℕ × ℕ) → ℕ → Form
-diverse_form spans round = record { spans = spans; round = round; far = false; sweep = false; mirror = diverse; cost = 8 }

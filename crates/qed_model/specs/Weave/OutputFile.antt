@@ -6,6 +6,7 @@ use Rattle.elf_types.specs.declared.file.ElfFile.{ElfFile}
 use Rattle.elf_types.specs.declared.file.Segment.{Segment}
 use Rattle.elf_types.specs.declared.output.OutFile.{OutFile}
 use Rattle.elf_types.specs.declared.output.OutSection.{OutSection}
+use Rattle.elf_types.specs.declared.abi.TheConstants.{PT_LOAD, PF_R, PF_W, SHF_ALLOC}
 use Rattle.rv_isa.specs.declared.ins.Ins.{Ins}
 use Rattle.rv_isa.specs.Kind.{class_of}
 use Rattle.qed_model.specs.declared.plan.EntryRow.{EntryRow}
@@ -16,6 +17,7 @@ use Rattle.qed_model.specs.Machine.Loading.{load_segments}
 use Rattle.qed_model.specs.Machine.Cells.{byte_among}
 use Rattle.qed_model.specs.Admission.DataRanges.{is_written, is_data, data_segments, data_ranges, is_in}
 use Rattle.qed_model.specs.Weave.Places.{image_of, half_of, code_place}
+pub use Rattle.qed_model.specs.Weave.OutputParts.{shifted}
 use Rattle.qed_model.specs.Weave.OutputParts.{copies, code_segment, text_section, map_section, entry_at, out_symbols}
 use Rattle.qed_model.specs.Weave.Sequences.{Block, End, Falls, Stops}
 use Rattle.qed_model.specs.Admission.Leaders.{is_indirect}
@@ -27,7 +29,7 @@ data_in image r = filter (λ s. is_in r s.address) (data_segments image)
 
 -- PF_R, and PF_W where one of them is written
 abbrev pub range_flags : List Segment → ℕ
-range_flags held = if list_any is_written held then 6 else 4
+range_flags held = if list_any is_written held then PF_R + PF_W else PF_R
 
 -- the end of the last byte that they have in the file; where they have none, the start of the range
 abbrev pub file_end : ℕ → List Segment → ℕ
@@ -40,7 +42,7 @@ range_bytes image r = each (file_end r.0 (data_in image r) - r.0) (λ k. byte_am
 
 -- the whole range as one segment
 abbrev pub range_segment : List Segment → ℕ × ℕ → Segment
-range_segment image r = record { kind = 1; flags = range_flags (data_in image r); address = r.0; memory = r.1 - r.0; bytes = range_bytes image r }
+range_segment image r = record { kind = PT_LOAD; flags = range_flags (data_in image r); address = r.0; memory = r.1 - r.0; bytes = range_bytes image r }
 
 -- ---- the halves
 -- the segments that are no data segments
@@ -60,10 +62,6 @@ in_order (s ∷ ss) = insert_segment s (in_order ss)
 -- the original half: the others without PF_X, and the data ranges
 abbrev pub original_half : List Segment → List Segment
 original_half image = in_order (copies 0 (other_segments image) ++ map (range_segment image) (data_ranges image))
-
--- a segment at a distance from its place
-abbrev pub shifted : ℕ → Segment → Segment
-shifted d s = record { kind = s.kind; flags = s.flags; address = s.address + d; memory = s.memory; bytes = s.bytes }
 
 -- both halves
 abbrev pub halves : ℕ → List Segment → List Segment
@@ -96,7 +94,7 @@ table_bytes d rows = gather ((last_input rows - first_input rows) / 4 + 1) (λ k
 abbrev pub table_segment : ℕ → List EntryRow → Segment
 table_segment d rows =
     let bytes = table_bytes d rows in
-    record { kind = 1; flags = 4; address = first_input rows + 2 * d; memory = length bytes; bytes = bytes }
+    record { kind = PT_LOAD; flags = PF_R; address = first_input rows + 2 * d; memory = length bytes; bytes = bytes }
 
 -- a block that ends with a JALR, which looks its target up in the table
 abbrev pub looks_up : End → Bool
@@ -112,7 +110,7 @@ file_segments d image code_at table rows code = halves d image ++ ((if table the
 
 -- over the table, with SHF_ALLOC
 abbrev pub table_section : ℕ → List EntryRow → OutSection
-table_section d rows = record { name = codes ".qed.table"; flags = 2; address = first_input rows + 2 * d; size = length (table_bytes d rows); bytes = [] }
+table_section d rows = record { name = codes ".qed.table"; flags = SHF_ALLOC; address = first_input rows + 2 * d; size = length (table_bytes d rows); bytes = [] }
 
 abbrev pub file_sections : ℕ → ℕ → Bool → List EntryRow → List ℕ → List OutSection
 file_sections d code_at table rows code = text_section code_at code ∷ ((if table then table_section d rows ∷ [] else []) ++ map_section rows ∷ [])

@@ -37,9 +37,13 @@ abbrev pub code_base : List Segment → ℕ
 code_base image = base_of image + 3 * distance_of image
 
 -- ---- segments
--- the segment without PF_X, whose value is 1, at a distance from its place
+-- a segment at a distance from its place
+abbrev pub shifted : ℕ → Segment → Segment
+shifted distance s = record { kind = s.kind; flags = s.flags; address = s.address + distance; memory = s.memory; bytes = s.bytes }
+
+-- without PF_X, whose value is 1
 abbrev pub copied : ℕ → Segment → Segment
-copied distance s = record { kind = s.kind; flags = s.flags / 2 * 2; address = s.address + distance; memory = s.memory; bytes = s.bytes }
+copied distance s = record (shifted distance s) { flags = s.flags / 2 * 2 }
 
 abbrev pub copies : ℕ → List Segment → List Segment
 copies distance segments = map (copied distance) segments

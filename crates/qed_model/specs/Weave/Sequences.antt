@@ -128,10 +128,6 @@ mirror_as _ i at = Plain (renamed i) ∷ []
 abbrev pub mirrored : Ins → ℕ → List Item
 mirrored i at = cond (is_auipc i.kind) (Constant (pair i.rd) (target i at) ∷ []) (mirror_as (class_of i.kind) i at)
 
--- the near form without the sweep, whose mirror parts are the same instructions on the pairs
-abbrev pub plain_form : List (ℕ × ℕ) → ℕ → Form
-plain_form spans round = record { spans = spans; round = round; far = false; sweep = false; mirror = mirrored; cost = 5 }
-
 -- a part of each instruction, from an input address on
 abbrev pub each_part : (Ins → ℕ → List Item) → List Ins → ℕ → List Item
 each_part part [] at = []

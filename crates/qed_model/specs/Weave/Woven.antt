@@ -4,6 +4,7 @@ use Rattle.rv_isa.specs.declared.ins.Ins.{Ins}
 use Rattle.elf_types.specs.declared.file.ElfFile.{ElfFile}
 use Rattle.elf_types.specs.declared.output.OutFile.{OutFile}
 use Rattle.qed_model.specs.declared.limits.Limit.TheVariants as limit
+use Rattle.qed_model.specs.declared.limits.TheConstants.{MAX_NEAR_CODE_BYTES}
 use Rattle.qed_model.specs.Limits.{limit_of}
 use Rattle.qed_model.specs.declared.item.Item.{Item}
 use Rattle.qed_model.specs.declared.options.Options.{Options}
@@ -37,9 +38,9 @@ form_of f o far = record { spans = data_ranges (image_of f); round = o.round; fa
 abbrev pub items_in : ElfFile → Options → Bool → List Block → List Item
 items_in f o far blocks = prologue (half_of o.half (image_of f)) (data_ranges (image_of f)) f.entry ++ (all_entries (form_of f o far) blocks ++ stub)
 
--- the near form is taken where it has at most 1,048,576 bytes
+-- the far form is taken where the near one has more bytes than a JAL spans
 abbrev pub is_far_code : ElfFile → Options → List Block → Bool
-is_far_code f o blocks = nat_lt 1_048_576 (sum_of_sizes false (items_in f o false blocks))
+is_far_code f o blocks = nat_lt MAX_NEAR_CODE_BYTES (sum_of_sizes false (items_in f o false blocks))
 
 abbrev pub new_items : ElfFile → Options → List Block → List Item
 new_items f o blocks = items_in f o (is_far_code f o blocks) blocks
