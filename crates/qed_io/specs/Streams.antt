@@ -26,10 +26,10 @@ pub record LoadsHeld {R : Type 0} (held : R → Option (List ℕ)) (opened : Res
   pub within : IfOk result (λ bytes. length bytes ≤ limit)
   pub too_long : IsErrOf result load.TooLong → IsOkAnd opened (λ file. IfSome (held file) (λ all. limit < length all))
 
--- a store through a writer that was opened appended all the bytes; held says which bytes a writer has, where that is told
+-- a store through a sink that was opened appended all the bytes; held says which bytes a sink has, where that is told
 abbrev pub StoresHeld : {W : Type 0} → (W → Option (List ℕ)) → Result W Error → Result W Error → List ℕ → Type 0
 StoresHeld held old new bytes = IsOkAnd old (λ before. IsOkAnd new (λ now. Appends (held before) (held now) bytes))
 
--- a store through a writer, if it was opened, appended a prefix of the bytes, and not all of them
+-- a store through a sink, if it was opened, appended a prefix of the bytes, and not all of them
 abbrev pub StoresHeldPart : {W : Type 0} → (W → Option (List ℕ)) → Result W Error → Result W Error → List ℕ → Type 0
 StoresHeldPart held old new bytes = IfOk old (λ before. IsOkAnd new (λ now. AppendsPart (held before) (held now) bytes))

@@ -4,7 +4,7 @@ ghost use Rattle.qed_io.specs.Counts.{CountsFaults, counted};
 ghost use Rattle.qed_io.specs.Shelf.{Loads, Stores};
 
 use crate::streams::{load_opened, store_opened};
-use crate::{LoadError, Shelf, StoreError};
+use crate::{LoadError, Shelf, StoreError, WriterSink};
 use elf_types::Bytes;
 use std::alloc::Global;
 use std::fs;
@@ -69,7 +69,7 @@ impl<R: Files + Drop> Shelf for DirShelf<R> {
         ensures failed { IsErrOf result StoreError.Failed → self.new ≡ counted self.old }
         ensures steady { result ≢ Err StoreError.Failed → self.new ≡ self.old }
     {
-        let mut opened = fs::create(&self.machine, name);
+        let mut opened = fs::create(&self.machine, name).map(WriterSink::over);
         store_opened(&mut opened, bytes, &mut self.faults)
     }
 }

@@ -4,10 +4,9 @@ ghost use Rattle.std.specs.Prelude.{◌≡◌, ◌≢◌, ◌≤◌, IfOk, IfSom
 ghost use Rattle.std.specs.IoError.{error_kind};
 ghost use Rattle.std.specs.Io.KnownBytes.{Appends, Keeps};
 ghost use Rattle.qed_io.specs.Counts.{counted};
-ghost use Rattle.qed_io.specs.Sink.{AppendsPart};
 ghost use Rattle.qed_io.specs.Streams.{load_error_of, within_limit, LoadsHeld, StoresHeld, StoresHeldPart};
 
-use crate::{LoadError, StoreError};
+use crate::{LoadError, Sink, StoreError, put_all};
 use elf_types::Bytes;
 use std::alloc::Global;
 use std::io;
@@ -102,44 +101,24 @@ pub(crate) fn write_once<W: Write>(out: &mut W, piece: &[u8]) -> io::Result<usiz
     Err(Error::from(ErrorKind::TimedOut))
 }
 
-/// Writes all the bytes.
-///
-/// Errors: as the writer says, or where it takes nothing. A prefix of the bytes was written then, and not all of them.
-fn write_whole<W: Write>(out: &mut W, bytes: &[u8]) -> io::Result<()>
-    ensures all { OnOk result (Appends (W.contents out.old) (W.contents out.new) bytes.now) }
-    ensures part { OnErr result (AppendsPart (W.contents out.old) (W.contents out.new) bytes.now) }
-{
-    let mut rest = bytes;
-    for _ in 0..bytes.len() {
-        if rest.is_empty() {
-            break;
-        }
-        let taken = write_once(out, rest)?;
-        if taken == 0 {
-            return Err(Error::from(ErrorKind::WriteZero));
-        }
-        rest = rest.split_at(taken).1;
-    }
-    Ok(())
-}
-
-/// Stores bytes in a file that was made or emptied, and counts a fault exactly where it answers `Failed`.
+/// Stores bytes in a file that was made or emptied, and counts a fault exactly where it answers `Failed`. The file is a
+/// sink, as any writer of std is one.
 ///
 /// Errors: `Failed` alone, where the file could not be opened or not be written to its end. A part of it may be
 /// written by then, which `Memory` would deny, whatever the machine's error was.
-pub(crate) fn store_opened<W: Write>(
-    opened: &mut io::Result<W>,
+pub(crate) fn store_opened<K: Sink>(
+    opened: &mut io::Result<K>,
     bytes: &[u8],
     faults: &mut u64,
 ) -> Result<(), StoreError>
-    ensures stored { OnOk result (StoresHeld W.contents opened.old opened.new bytes.now) }
-    ensures part { OnErr result (StoresHeldPart W.contents opened.old opened.new bytes.now) }
+    ensures stored { OnOk result (StoresHeld K.written opened.old opened.new bytes.now) }
+    ensures part { OnErr result (StoresHeldPart K.written opened.old opened.new bytes.now) }
     ensures failed { OnErr result ((result ≡ Err StoreError.Failed) × (faults.new ≡ counted faults.old)) }
     ensures steady { OnOk result (faults.new ≡ faults.old) }
     ensures not_fell { faults.old ≤ faults.new }
 {
     let written = match opened {
-        Ok(file) => write_whole(file, bytes).is_ok(),
+        Ok(file) => put_all(file, bytes).is_ok(),
         Err(_) => false,
     };
     if written {

@@ -183,15 +183,15 @@ fn opened_files_are_stored_to_their_end(rt: HostRuntime) -> Result<(), Fail> {
         (4, Err(StoreError::Failed), b"whol".as_slice(), 1),
         (0, Err(StoreError::Failed), b"".as_slice(), 1),
     ] {
-        let mut opened = Ok(Narrow {
+        let mut opened = Ok(WriterSink::over(Narrow {
             taken: Vec::new(rt.alloc()),
             room,
             signals: true,
-        });
+        }));
         let mut faults = 0;
         let stored = store_opened(&mut opened, b"whole", &mut faults);
         assert_eq!(rt; stored, answer, "room {room}");
-        assert_eq!(rt; opened?.taken.as_slice(), left, "room {room}");
+        assert_eq!(rt; opened?.writer.taken.as_slice(), left, "room {room}");
         assert_eq!(rt; faults, count, "room {room}");
     }
     Ok(())
