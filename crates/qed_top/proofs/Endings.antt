@@ -17,12 +17,11 @@ use Rattle.qed_model.specs.Admission.StraightTest.{StraightParts, IsMadeOf, IsSt
 use Rattle.qed_model.specs.Weave.StraightWoven.{high_register_of, WovenFile}
 use Rattle.transform.specs.declared.error.TransformError.{TransformError}
 use Rattle.transform.specs.declared.error.TransformError.TheVariants as transform
-use Rattle.transform.specs.declared.error.AdmitError.TheVariants as admit
 use Rattle.transform.specs.Transform.{HasCause, IsWithin}
 use Rattle.qed_model.specs.Text.Plan.{usage_line, load_limit, load_limit_line, run_load_limit, run_load_limit_line}
 use Rattle.qed_top.specs.Words.{Asked, Transform, Run, asked, read_name, stored_name}
 use Rattle.qed_top.specs.Answer.{PrintsOnly, error_status, Transforms, refused, done, refusal_status, memory_bytes, outcome_status, run_of, Runs, unread, too_large, ran, CallsFor, read_fault, too_long, within, CommandCallsFor, WordsCallFor, FilesAfter, FilesInPart, StoreRose, ShelfSteady, SteadyOrReadFault}
-use Rattle.qed_top.specs.Ends.{OverFiles, Call, load_rose, store_rose, sink_rose, KeepsShelf, StoppedForMemory, IsAnswered, EndsOver, Ends, TransformDecides, RunDecides, Decided, CommandDecides, Decides, NoFault, IsComplete}
+use Rattle.qed_top.specs.Ends.{OverFiles, Call, load_rose, store_rose, sink_rose, KeepsShelf, IsAnswered, EndsOver, Ends, TransformDecides, RunDecides, Decided, CommandDecides, Decides, NoFault, IsComplete}
 use Rattle.qed_top.specs.Ends as decide
 use Rattle.qed_top.specs.declared.answer.Answer.{Answer}
 use Rattle.qed_top.specs.declared.answer.Stored.{Stored}
@@ -33,7 +32,7 @@ use Rattle.transform.proofs.OneWoven.{one_woven}
 use Rattle.qed_top.proofs.Outputs.{same_refusal, not_both, is_straight, is_low}
 use Rattle.qed_top.specs.Headline.{Answers}
 use Rattle.qed_top.proofs.Headlines.{holds_headline}
-use Rattle.qed_top.proofs.Meanings.{always, over_map}
+use Rattle.qed_top.proofs.Meanings.{always, over_map, calls_more}
 
 -- ---- counts
 -- a count that rose has risen later too, and since earlier
@@ -44,18 +43,11 @@ pub rose_since : (before middle now : List ℕ → ℕ) → NoneFell before midd
 rose_since before middle now kept name rose = omega (arith, kept name)
 
 -- ---- what is meant
-means_later :
-    (limit : ℕ) (line bytes : List ℕ) (rose later W : Type 0) (answer : Answer) → (rose → later) → CallsFor limit line bytes rose W answer
-    → CallsFor limit line bytes later W answer
-means_later limit line bytes rose later W answer h (read_fault r) = read_fault (record { cause = h r.cause; plain = r.plain })
-means_later limit line bytes rose later W answer h (too_long t) = too_long t
-means_later limit line bytes rose later W answer h (within small w) = within small w
-
 command_later :
     (command : Asked) (files : Files) (rose later : List ℕ → Type 0) → ((name : List ℕ) → rose name → later name) → (answer : Answer)
     → CommandCallsFor command files rose answer → CommandCallsFor command files later answer
-command_later (Transform input output) files rose later h answer m = means_later load_limit load_limit_line (file_bytes files input) (rose input) (later input) (Transforms (file_bytes files input) output answer) answer (h input) m
-command_later (Run file) files rose later h answer m = means_later run_load_limit run_load_limit_line (file_bytes files file) (rose file) (later file) (Runs (file_bytes files file) answer) answer (h file) m
+command_later (Transform input output) files rose later h answer m = calls_more load_limit load_limit_line (file_bytes files input) (rose input) (later input) (Transforms (file_bytes files input) output answer) (Transforms (file_bytes files input) output answer) answer (h input) (λ t. t) m
+command_later (Run file) files rose later h answer m = calls_more run_load_limit run_load_limit_line (file_bytes files file) (rose file) (later file) (Runs (file_bytes files file) answer) (Runs (file_bytes files file) answer) answer (h file) (λ r. r) m
 
 meant_by_command_later :
     (command : Option Asked) (files : Files) (rose later : List ℕ → Type 0) → ((name : List ℕ) → rose name → later name) → (answer : Answer)
@@ -106,7 +98,7 @@ prints status answer p e = subst Printed (sym e) p
 refusal_printed : (e : TransformError) → Printed (refusal_status e)
 refusal_printed (transform.Elf e) = error_printed e
 refusal_printed transform.NotBuilt = tt
-refusal_printed (transform.Admit e) = tt
+refusal_printed (transform.RegisterHalf at register) = tt
 refusal_printed (transform.TooManySegments n) = tt
 refusal_printed (transform.FileTooLong n) = tt
 refusal_printed transform.Memory = tt
@@ -219,8 +211,7 @@ data Settled (bytes : List ℕ) (s : Status) : Type 0 where
 settled_by : (bytes : List ℕ) (s : Status) (e : TransformError) → HasCause bytes e → e ≢ transform.Memory → s ≡ refusal_status e → Settled bytes s
 settled_by bytes s (transform.Elf e) c k a = no_file e c a
 settled_by bytes s transform.NotBuilt c k a = other c.file c.read c.other a
-settled_by bytes s (transform.Admit (admit.RegisterHalf at register)) c k a = high c.file c.read c.parts c.made (at, register) c.first a
-settled_by bytes s (transform.Admit admit.Memory) c k a = absurd c
+settled_by bytes s (transform.RegisterHalf at register) c k a = high c.file c.read c.parts c.made (at, register) c.first a
 settled_by bytes s (transform.TooManySegments n) c k a = let over = c.over in let count = c.count in large c.out c.file (λ w. let most = w.segments in absurd (omega (arith, over, count, most))) a
 settled_by bytes s (transform.FileTooLong n) c k a = let over = c.over in let size = c.size in large c.out c.file (λ w. let most = w.size in absurd (omega (arith, over, size, most))) a
 settled_by bytes s transform.Memory c k a = absurd (k refl)
@@ -228,9 +219,6 @@ settled_by bytes s transform.Memory c k a = absurd (k refl)
 settled : (bytes : List ℕ) (s : Status) → TransformDecides bytes s → Settled bytes s
 settled bytes s (decide.refused e c k a) = settled_by bytes s e c k a
 settled bytes s (decide.done out w i a) = fits out w i a
-
-same_test : (bytes : List ℕ) (f g : ElfFile) (p : StraightParts) → IsReadAs bytes f → IsReadAs bytes g → IsMadeOf g p → IsStraightTest f
-same_test bytes f g p x y made = subst IsStraightTest (one_file bytes g f y.file x.file) (record { parts = p; made = made })
 
 too_large_or : (bytes : List ℕ) (out second : OutFile) → WovenFile bytes out → WovenFile bytes second → (IsWithin out → ⊥) → IsWithin second → ⊥
 too_large_or bytes out second x y over fit = over (subst IsWithin (one_woven bytes second out y x) fit)

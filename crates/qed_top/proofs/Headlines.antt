@@ -41,7 +41,7 @@ error_refuses error.Memory h = absurd (cc)
 refuses : (e : TransformError) → refusal_status e ≡ Done → ⊥
 refuses (transform.Elf e) h = error_refuses e h
 refuses transform.NotBuilt h = absurd (cc)
-refuses (transform.Admit e) h = absurd (cc)
+refuses (transform.RegisterHalf at register) h = absurd (cc)
 refuses (transform.TooManySegments n) h = absurd (cc)
 refuses (transform.FileTooLong n) h = absurd (cc)
 refuses transform.Memory h = absurd (cc)
@@ -90,7 +90,8 @@ module _ (call : Call) (files : Files) (input output : List ℕ) where
     woven = d.made.woven;
     kept = d.made.kept d.made.woven.file.file (file_read d.made.woven.out) d.made.woven.file.read.file d.made.reads.file;
     caught = d.made.caught d.made.woven.file.file (file_read d.made.woven.out) d.made.woven.file.read.file d.made.reads.file;
-    told = d.delivers.text;
+    told = d.made.told;
+    printed = d.delivers.text;
   }
 
   delivered_of : asked call.words ≡ Some (Transform input output) → EndsOver call files Done → IsDelivered call files input output

@@ -51,6 +51,14 @@ file_bytes-insert files name bytes =
     ∙ ap (λ b. unwrap_or (cond b (Some bytes) (get files name)) []) ((eq_by_cmp_equiv nat_list_cmp_total).refl name)
 
 -- ---- meanings
+-- more counts may have risen, and what is answered within the limit may be said otherwise
+pub calls_more :
+    (limit : ℕ) (line bytes : List ℕ) (rose later V W : Type 0) (answer : Answer) → (rose → later) → (V → W) → CallsFor limit line bytes rose V answer
+    → CallsFor limit line bytes later W answer
+calls_more limit line bytes rose later V W answer h w (read_fault r) = read_fault (record { cause = h r.cause; plain = r.plain })
+calls_more limit line bytes rose later V W answer h w (too_long t) = too_long t
+calls_more limit line bytes rose later V W answer h w (within small v) = within small (w v)
+
 -- what a command with a limit means over the bytes under a name; W says what it answers over bytes within the limit
 module _ (told : Option Files) (name : List ℕ) (limit : ℕ) (line : List ℕ) (rose : Type 0) (W : List ℕ → Type 0) (answer : Answer) where
   abbrev pub OverCommand : Type 0
@@ -78,6 +86,12 @@ module _ (told : Option Files) (name : List ℕ) (limit : ℕ) (line : List ℕ)
       (λ f long. too_long (record { cause = long; plain = plain }))
       (told_or told (λ f. limit < length (file_bytes f name)) (insert empty name (replicate (limit + 1) 0)) long_file cause)
 
+  -- the bytes were not had, so nothing is said of what is answered over them
+  pub over_other : OverFiles told (λ f. CallsFor limit line (file_bytes f name) rose ⊥ answer) → OverCommand
+  over_other o =
+      over_map told (λ f. CallsFor limit line (file_bytes f name) rose ⊥ answer) (λ f. CallsFor limit line (file_bytes f name) rose (W (file_bytes f name)) answer)
+      (λ f m. calls_more limit line (file_bytes f name) rose rose ⊥ (W (file_bytes f name)) answer (λ r. r) (λ none. absurd none) m) o
+
 -- the words are those of a command, or of none
 pub over_command :
     (told : Option Files) (words : List (List ℕ)) (command : Asked) (rose : List ℕ → Type 0) (answer : Answer) → asked words ≡ Some command
@@ -91,22 +105,7 @@ pub over_usage :
     → OverFiles told (λ f. WordsCallFor words f rose answer)
 over_usage told words rose answer e plain = always told (λ f. WordsCallFor words f rose answer) (λ f. subst (λ (o : Option Asked). MatchOption o (PrintsOnly Usage usage_line answer) (λ c. CommandCallsFor c f rose answer)) (sym e) plain)
 
--- ---- `transform`
-pub is_done :
-    (bytes output file : List ℕ) (plan : Plan) (answer : Answer) → Made.Transforms bytes file plan → Delivers file output plan answer
-    → Transforms bytes output answer
-is_done bytes output file plan answer made delivers = done (record { file = file; plan = plan; made = made; delivers = delivers })
-
-pub is_refused :
-    (bytes output : List ℕ) (e : TransformError) (answer : Answer) → Made.HasCause bytes e → e ≢ transform.Memory
-    → PrintsOnly (refusal_status e) (refusal_line e) answer → Transforms bytes output answer
-is_refused bytes output e answer cause known plain = refused (record { error = e; cause = cause; known = known; plain = plain })
-
 -- ---- `run`
-pub file_runs : (bytes : List ℕ) (f : ElfFile) (answer : Answer) → IsReadAs bytes f → FileRuns f answer → Runs bytes answer
-file_runs bytes f answer read (run.too_large cause plain) = too_large (record { file = f; read = read; cause = cause; plain = plain })
-file_runs bytes f answer read (run.ran small plain) = ran (record { file = f; read = read; small = small; plain = plain })
-
 -- the machine of a file that is small enough was run
 pub was_run :
     (f : ElfFile) (size : ℕ) (machine ended : Progress) (o : Outcome) (text : List ℕ) (s : Status) (answer : Answer) → size ≡ memory_bytes f.segments
@@ -119,10 +118,3 @@ was_run f size machine ended o text s answer same small begins ends how lines st
       text = plain.text ∙ lines ∙ ap run_lines is;
       stored = plain.stored;
     })
-
--- a file that is not read, but for want of memory
-pub is_unread :
-    (bytes : List ℕ) (e : ElfError) (answer : Answer) (Other : Type 0) → IsRefused bytes e ⊎ ((e ≡ error.Memory) × Other) → (e ≡ error.Memory → ⊥)
-    → PrintsOnly (error_status e) (error_line e) answer → Runs bytes answer
-is_unread bytes e answer Other (inl cause) some plain = unread (record { error = e; cause = cause; plain = plain })
-is_unread bytes e answer Other (inr want) some plain = absurd (some want.0)

@@ -23,7 +23,6 @@ use Rattle.qed_model.specs.declared.limits.Limit.TheVariants as limit
 use Rattle.qed_model.specs.Text.Errors.{error_line, limit_line, high_register_line}
 use Rattle.transform.specs.declared.error.TransformError.{TransformError}
 use Rattle.transform.specs.declared.error.TransformError.TheVariants as transform
-use Rattle.transform.specs.declared.error.AdmitError.TheVariants as admit
 use Rattle.transform.specs.Transform.{HasCause}
 use Rattle.transform.specs.Transform as Made
 use Rattle.qed_top.specs.Words.{Asked, Transform, Run, asked}
@@ -66,7 +65,7 @@ pub record IsUnread (bytes : List ℕ) (answer : Answer) : Type 0 where
 abbrev pub refusal_status : TransformError → Status
 refusal_status (transform.Elf e) = error_status e
 refusal_status transform.NotBuilt = Refused
-refusal_status (transform.Admit e) = Refused
+refusal_status (transform.RegisterHalf at register) = Refused
 refusal_status (transform.TooManySegments n) = Limit
 refusal_status (transform.FileTooLong n) = Limit
 refusal_status transform.Memory = Refused
@@ -74,8 +73,7 @@ refusal_status transform.Memory = Refused
 abbrev pub refusal_line : TransformError → List ℕ
 refusal_line (transform.Elf e) = error_line e
 refusal_line transform.NotBuilt = not_built_line
-refusal_line (transform.Admit (admit.RegisterHalf at register)) = high_register_line at register
-refusal_line (transform.Admit admit.Memory) = []
+refusal_line (transform.RegisterHalf at register) = high_register_line at register
 refusal_line (transform.TooManySegments n) = limit_line limit.OutputSegments n
 refusal_line (transform.FileTooLong n) = limit_line limit.OutputBytes n
 refusal_line transform.Memory = []

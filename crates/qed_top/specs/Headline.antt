@@ -7,7 +7,7 @@ use Rattle.qed_io.specs.Files.{Files, file_bytes}
 use Rattle.qed_model.specs.declared.plan.Plan.{Plan}
 use Rattle.qed_model.specs.Elf.File.{IsReadAs}
 use Rattle.qed_model.specs.Machine.Loading.{loaded_file}
-use Rattle.qed_model.specs.Weave.StraightWoven.{Woven}
+use Rattle.qed_model.specs.Weave.StraightWoven.{Woven, woven_plan}
 use Rattle.qed_model.specs.Promise.Kept.{Kept}
 use Rattle.qed_model.specs.Promise.Caught.{Caught}
 use Rattle.qed_model.specs.Text.Plan.{plan_line}
@@ -17,7 +17,8 @@ use Rattle.qed_top.specs.declared.status.Status.{Status}
 use Rattle.qed_top.specs.declared.status.Status.TheVariants.{Done}
 
 -- IN is a test and OUT a program that was woven from it. The program's run has the values of the test's run after each of its
--- steps, and no check fires; changes of registers are caught. The line tells the bounds of both.
+-- steps, and no check fires; changes of registers are caught. The bounds of both are those of the woven plan. The line tells the
+-- numbers of that plan, and of its bounds those of a register and of a word; the two of the kept values are the profile's.
 pub record IsPromised (input output line : List ℕ) : Type 0 where
   pub test : ElfFile
   pub program : ElfFile
@@ -27,7 +28,8 @@ pub record IsPromised (input output line : List ℕ) : Type 0 where
   pub woven : Woven input output
   pub kept : Kept (loaded_file test) (loaded_file program) plan.bounds.start plan.bounds.piece
   pub caught : Caught (loaded_file test) (loaded_file program) [] plan.bounds
-  pub told : line ≡ plan_line plan
+  pub told : plan ≡ woven_plan woven.file.file woven.file.parts.body woven.file.words
+  pub printed : line ≡ plan_line plan
 
 -- OUT was stored, all other files are as they were, and the line was printed
 pub record IsDelivered (call : Call) (files : Files) (input output : List ℕ) : Type 0 where

@@ -22,7 +22,8 @@ pub record Exits (call : Call) (code : ExitCode) : Type 0 where
   pub code_of : exit_status code ≡ status_code status
   pub answers : Answers call status
 
--- the code is that of a status with which some call ends, where neither files nor text are told and no fault was counted before
+-- the code is that of a status with which some call ends, on any words, where neither files nor text are told and no fault was counted
+-- before
 pub record ExitsUntold (code : ExitCode) : Type 0 where
   pub call : Call
   pub exits : Exits call code

@@ -1,8 +1,11 @@
 //! What the words and the files call for.
-ghost use Rattle.std.specs.Prelude.{◌≡◌, ◌≢◌, IfOk, OnOk, OnErr};
+ghost use Rattle.std.specs.Prelude.{◌≡◌, ◌≢◌, ◌≤◌, IfOk, IfErr, IfSome, OnOk, OnErr, length};
 ghost use Rattle.qed_io.specs.Counts.{RoseAt, NoneFell};
+ghost use Rattle.qed_io.specs.Files.{file_bytes};
+ghost use Rattle.qed_model.specs.Limits.{limit_of};
+ghost use Rattle.qed_model.specs.Text.Errors.{limit_line};
 ghost use Rattle.qed_top.specs.Words.{Transform, Run, texts};
-ghost use Rattle.qed_top.specs.Answer.{CommandCallsFor, Delivers, WordsCallFor, ShelfSteady, SteadyOrReadFault, Transforms, refusal_line, refusal_status};
+ghost use Rattle.qed_top.specs.Answer.{CallsFor, CommandCallsFor, Delivers, WordsCallFor, ShelfSteady, SteadyOrReadFault, Transforms, refusal_line, refusal_status};
 ghost use Rattle.qed_top.specs.Ends.{OverFiles};
 
 use crate::answer::{Answer, Stored, above_limit, line, plain, status_of};
@@ -11,11 +14,10 @@ use crate::status::Status;
 use crate::words::{Command, read_command};
 use elf_types::Bytes;
 use qed_io::{LoadError, Shelf};
-use qed_model::Limit;
-use qed_model::limits::{MAX_FILE_BYTES, MAX_RUN_FILE_BYTES};
-use report::{error_text, high_register_text, limit_text, transform_text};
+use qed_model::{AdmitError, Limit};
+use report::{admit_text, error_text, limit_text, transform_text};
 use std::alloc::{AllocError, Global};
-use transform::{AdmitError, TransformError, Transformed, transform};
+use transform::{TransformError, Transformed, transform};
 
 /// What `transform` answers for an output.
 fn answer_done<'a>(
@@ -44,10 +46,9 @@ fn refusal_text(alloc: Global, error: &TransformError) -> Result<Bytes, AllocErr
     match error {
         TransformError::Elf(unread) => Ok(error_text(alloc, *unread)?),
         TransformError::NotBuilt => Ok(Bytes::copied(alloc, b"refused E0: not built yet\n")?),
-        TransformError::Admit(AdmitError::RegisterHalf(at, register)) => {
-            Ok(high_register_text(alloc, *at, *register)?)
+        TransformError::RegisterHalf(at, register) => {
+            Ok(admit_text(alloc, &AdmitError::RegisterHalf(*at, *register))?)
         }
-        TransformError::Admit(AdmitError::Memory) => Err(AllocError),
         TransformError::TooManySegments(n) => Ok(limit_text(
             alloc,
             Limit::OutputSegments,
@@ -91,6 +92,37 @@ fn answer_transform<'a>(
     }
 }
 
+/// The bytes of the file that a command reads, or the answer that they are not had: a read fault, or above the limit.
+fn read_file<'a, S: Shelf>(
+    alloc: Global,
+    name: &str,
+    limit: Limit,
+    shelf: &mut S,
+) -> Result<Result<Bytes, Answer<'a>>, AllocError>
+    ensures bytes { IfOk result (λ read. IfOk read (λ bytes. IfSome (S.files shelf.old) (λ files. bytes ≡ file_bytes files name.now))) }
+    ensures within { IfOk result (λ read. IfOk read (λ bytes. length bytes ≤ limit_of limit)) }
+    ensures loaded { IfOk result (λ read. OnOk read (ShelfSteady (S.load_faults shelf.old) (S.load_faults shelf.new) (S.store_faults shelf.old) (S.store_faults shelf.new))) }
+    ensures other { IfOk result (λ read. IfErr read (λ answer. OverFiles (S.files shelf.old) (λ files.
+        CallsFor (limit_of limit) (limit_line limit 0) (file_bytes files name.now) (RoseAt (S.load_faults shelf.old) (S.load_faults shelf.new) name.now) ⊥ answer))) }
+    ensures files { S.files shelf.new ≡ S.files shelf.old }
+    ensures stores { NoneFell (S.store_faults shelf.old) (S.store_faults shelf.new) }
+    ensures steady { IfOk result (λ read. IfErr read (SteadyOrReadFault (ShelfSteady (S.load_faults shelf.old) (S.load_faults shelf.new) (S.store_faults shelf.old) (S.store_faults shelf.new)))) }
+    ensures memory { OnErr result (ShelfSteady (S.load_faults shelf.old) (S.load_faults shelf.new) (S.store_faults shelf.old) (S.store_faults shelf.new)) }
+{
+    // Made before the load, so that want of memory comes before a fault and not in its place.
+    let fault = line(alloc, Status::ReadFault, b"read fault\n")?;
+    match shelf.load(alloc, name, limit.most()) {
+        Ok(bytes) => Ok(Ok(bytes)),
+        Err(LoadError::Failed) => Ok(Err(fault)),
+        Err(LoadError::TooLong) => {
+            // The load has not counted the bytes, and the line of this limit has no count.
+            let answer = above_limit(alloc, limit, 0)?;
+            Ok(Err(answer))
+        }
+        Err(LoadError::Memory) => Err(AllocError),
+    }
+}
+
 /// What `transform` answers over the files.
 fn decide_transform<'a, S: Shelf>(
     alloc: Global,
@@ -105,19 +137,13 @@ fn decide_transform<'a, S: Shelf>(
     ensures steady { IfOk result (SteadyOrReadFault (ShelfSteady (S.load_faults shelf.old) (S.load_faults shelf.new) (S.store_faults shelf.old) (S.store_faults shelf.new))) }
     ensures memory { OnErr result (ShelfSteady (S.load_faults shelf.old) (S.load_faults shelf.new) (S.store_faults shelf.old) (S.store_faults shelf.new)) }
 {
-    // Made before the load, so that want of memory comes before a fault and not in its place.
-    let fault = line(alloc, Status::ReadFault, b"read fault\n")?;
-    match shelf.load(alloc, input, MAX_FILE_BYTES) {
+    let read = read_file(alloc, input, Limit::FileBytes, shelf)?;
+    match read {
         Ok(bytes) => {
             let answer = answer_transform(alloc, bytes.as_slice(), output)?;
             Ok(answer)
         }
-        Err(LoadError::Failed) => Ok(fault),
-        Err(LoadError::TooLong) => {
-            let answer = above_limit(alloc, Limit::FileBytes, 0)?;
-            Ok(answer)
-        }
-        Err(LoadError::Memory) => Err(AllocError),
+        Err(answer) => Ok(answer),
     }
 }
 
@@ -134,23 +160,17 @@ fn decide_run<'a, S: Shelf>(
     ensures steady { IfOk result (SteadyOrReadFault (ShelfSteady (S.load_faults shelf.old) (S.load_faults shelf.new) (S.store_faults shelf.old) (S.store_faults shelf.new))) }
     ensures memory { OnErr result (ShelfSteady (S.load_faults shelf.old) (S.load_faults shelf.new) (S.store_faults shelf.old) (S.store_faults shelf.new)) }
 {
-    // Made before the load, so that want of memory comes before a fault and not in its place.
-    let fault = line(alloc, Status::ReadFault, b"read fault\n")?;
-    match shelf.load(alloc, file, MAX_RUN_FILE_BYTES) {
+    let read = read_file(alloc, file, Limit::RunFileBytes, shelf)?;
+    match read {
         Ok(bytes) => {
             let answer = answer_run(alloc, bytes.as_slice())?;
             Ok(answer)
         }
-        Err(LoadError::Failed) => Ok(fault),
-        Err(LoadError::TooLong) => {
-            let answer = above_limit(alloc, Limit::RunFileBytes, 0)?;
-            Ok(answer)
-        }
-        Err(LoadError::Memory) => Err(AllocError),
+        Err(answer) => Ok(answer),
     }
 }
 
-///! What the words and the files call for.
+/// What the words and the files call for.
 pub fn decide<'a, S: Shelf>(
     alloc: Global,
     words: &'a [String],

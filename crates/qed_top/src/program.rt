@@ -65,7 +65,9 @@ pub fn exit_code<S: Shelf, K: Sink>(
       before = record { load = S.load_faults shelf.old; store = S.store_faults shelf.old; sink = K.faults out.old };
       after = record { load = S.load_faults shelf.new; store = S.store_faults shelf.new; sink = K.faults out.new };
     }) result }
+    // Where the machine had no memory for the arguments, the call was not made.
     ensures no_memory { IfErr arguments (λ error. error_kind error ≡ ErrorKind.OutOfMemory → exit_status result ≡ status_code Status.Memory) }
+    ensures not_made { IfErr arguments (λ error. error_kind error ≡ ErrorKind.OutOfMemory → (shelf.new ≡ shelf.old) × (out.new ≡ out.old)) }
 {
     match words_of(alloc, arguments) {
         Ok(words) => {

@@ -8,7 +8,7 @@ ghost use Rattle.qed_top.specs.Run.{FileRuns};
 use crate::answer::{Answer, above_limit, plain, unread};
 use crate::status::Status;
 use elf_read::read_elf;
-use elf_types::{ElfError, ElfFile, Segment};
+use elf_types::{ElfFile, Segment};
 use qed_model::limits::MAX_MEMORY_BYTES;
 use qed_model::{Limit, Outcome};
 use report::run_text;

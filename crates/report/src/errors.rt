@@ -1,12 +1,10 @@
 //! What is printed where a file is refused.
 ghost use Rattle.std.specs.Prelude.{◌≡◌, ◌≢◌, Some, IfOk, OnOk, string_bytes};
-ghost use Rattle.qed_model.specs.Text.Errors.{part_line, error_line, high_register_line};
+ghost use Rattle.qed_model.specs.Text.Errors.{part_line, error_line};
 
-use crate::hex::Hex;
 use crate::limits::limit_line;
 use elf_types::{Bytes, ElfError, Part};
 use qed_model::Limit;
-use rv_isa::Reg;
 use std::alloc::{AllocError, Global};
 
 /// The line about a part that ends past the end of its file.
@@ -55,15 +53,5 @@ pub fn error_text(alloc: Global, error: ElfError) -> Result<Bytes, AllocError>
     ensures memory { OnOk result (error ≢ ElfError.Memory) }
 {
     let text = header_text(alloc, error)?;
-    Ok(Bytes::of(text.into_bytes()))
-}
-
-/// The line about the first register above x13 that a test names, in the instruction at an address.
-pub fn high_register_text(alloc: Global, at: u64, register: Reg) -> Result<Bytes, AllocError>
-    ensures { IfOk result (λ text. text ≡ high_register_line at register) }
-{
-    let at = Hex(at);
-    let register = register.number();
-    let text = format!(in alloc; "refused A7: address {at}, register {register}\n")?;
     Ok(Bytes::of(text.into_bytes()))
 }

@@ -11,7 +11,7 @@ mod tests;
 mod transform;
 
 pub use admission::admit_text;
-pub use errors::{error_text, high_register_text};
+pub use errors::error_text;
 pub use limits::limit_text;
 pub use run::run_text;
 pub use transform::transform_text;
