@@ -1,8 +1,10 @@
 //! Runs of outputs, with the ends that an independent program gave them.
 
-use crate::expected::text;
+use crate::expected::{assert_run, text};
 use qed_io::{MemoryShelf, MemorySink};
-use sample_files::first_file;
+use sample_files::{
+    NEGATIVE, NO_SUM, SEVENTEEN_WORDS, SIXTEEN_WORDS, TWO_SUMS, X0_WRITTEN, first_file,
+};
 use std::test::Fail;
 use test_calls::run;
 
@@ -18,7 +20,7 @@ struct Case {
 
 const CASES: [Case; 6] = [
     Case {
-        words: &[0x00700513, 0x00a505b3, 0x00000073],
+        words: TWO_SUMS,
         first: "ended after 51 steps at 0x0000000000013100",
         registers: &[
             (10, 0x7),
@@ -31,17 +33,17 @@ const CASES: [Case; 6] = [
         ],
     },
     Case {
-        words: &[0x00000073],
+        words: NO_SUM,
         first: "ended after 47 steps at 0x00000000000130f0",
         registers: &[(14, 0x1000), (16, 0x10000), (30, 0x10000)],
     },
     Case {
-        words: &[0x00518013, 0x00000033, 0x00000073],
+        words: X0_WRITTEN,
         first: "ended after 51 steps at 0x0000000000013100",
         registers: &[(14, 0x1000), (16, 0x10000), (30, 0x10000)],
     },
     Case {
-        words: &[0xfff00293, 0x80028313, 0x006283b3, 0x00000073],
+        words: NEGATIVE,
         first: "ended after 53 steps at 0x0000000000013108",
         registers: &[
             (5, 0xffffffffffffffff),
@@ -56,11 +58,7 @@ const CASES: [Case; 6] = [
         ],
     },
     Case {
-        words: &[
-            0x7d740213, 0x004385b3, 0x008080b3, 0xcdd28613, 0x00a00333, 0x20a48413, 0x7e448293,
-            0x00d083b3, 0xa1438213, 0x64220593, 0x31a50313, 0xd6028393, 0x003003b3, 0x00358133,
-            0xa9438693, 0x00000073,
-        ],
+        words: SIXTEEN_WORDS,
         first: "ended after 77 steps at 0x0000000000013168",
         registers: &[
             (2, 0x56),
@@ -85,11 +83,7 @@ const CASES: [Case; 6] = [
         ],
     },
     Case {
-        words: &[
-            0x98b30113, 0x3b308413, 0x00018433, 0xfb308313, 0xbf600313, 0x00950533, 0x006484b3,
-            0xc4200193, 0xbc440113, 0x00a68433, 0xe0348493, 0xa0258413, 0x007184b3, 0x00560333,
-            0x19728393, 0xfcf58113, 0x00000073,
-        ],
+        words: SEVENTEEN_WORDS,
         first: "ended after 79 steps at 0x0000000000013170",
         registers: &[
             (2, 0xffffffffffffffcf),
@@ -118,11 +112,9 @@ fn outputs_are_run(rt: HostRuntime) -> Result<(), Fail> {
         shelf.put_file("in", &first_file(alloc, case.words)?)?;
         let mut told = MemorySink::new(alloc);
         run(alloc, &["transform", "in", "out"], &mut shelf, &mut told)?;
-        let mut out = MemorySink::new(alloc);
-        let status = run(alloc, &["run", "out"], &mut shelf, &mut out)?;
+        let output = shelf.file("out").ok_or("no output")?;
         let printed = text(alloc, first, case.registers)?;
-        assert_eq!(rt; out.bytes(), printed.as_bytes(), "{first}");
-        assert_eq!(rt; status.code(), 0, "{first}");
+        assert_run(&rt, first, output, printed.as_str(), 0)?;
     }
     Ok(())
 }

@@ -1,7 +1,8 @@
 //! Files that are not run, and faults.
 
+use crate::expected::assert_run;
 use qed_io::{MemoryShelf, MemorySink};
-use sample_files::{CODE_OFFSET, ECALL, ENTRY, Elf, LOAD, Part, READ_EXECUTE, first_file};
+use sample_files::{CODE, CODE_OFFSET, ECALL, ENTRY, Elf, ONE, Part, first_file};
 use std::alloc::Global;
 use std::test::Fail;
 use test_calls::run;
@@ -69,24 +70,19 @@ const CASES: [Case; 7] = [
 
 /// Two segments that share a word.
 const OVERLAP: Elf<'static> = Elf {
-    entry: ENTRY,
-    flags: 0,
     parts: &[
         Part {
-            kind: LOAD,
-            flags: READ_EXECUTE,
-            address: ENTRY,
             offset: CODE_OFFSET + 56,
             words: &[ECALL, ECALL],
+            ..CODE
         },
         Part {
-            kind: LOAD,
-            flags: READ_EXECUTE,
             address: ENTRY + 4,
             offset: CODE_OFFSET + 64,
-            words: &[ECALL],
+            ..CODE
         },
     ],
+    ..ONE
 };
 
 /// The file with its bytes from a place on replaced.
@@ -115,13 +111,8 @@ fn changed(alloc: Global, change: Change) -> Result<Vec<u8>, Fail> {
 fn other_files_are_not_run(rt: HostRuntime) -> Result<(), Fail> {
     let alloc = rt.alloc();
     for case in CASES {
-        let printed = case.printed;
-        let mut shelf = MemoryShelf::new(alloc);
-        shelf.put_file("a", &changed(alloc, case.change)?)?;
-        let mut out = MemorySink::new(alloc);
-        let status = run(alloc, &["run", "a"], &mut shelf, &mut out)?;
-        assert_eq!(rt; out.bytes(), printed.as_bytes(), "{printed}");
-        assert_eq!(rt; status.code(), case.status, "{printed}");
+        let file = changed(alloc, case.change)?;
+        assert_run(&rt, case.printed, &file, case.printed, case.status)?;
     }
     Ok(())
 }

@@ -1,12 +1,11 @@
 //! Runs of files, with the ends that an independent program gave them.
 
-use crate::expected::text;
-use qed_io::{MemoryShelf, MemorySink};
+use crate::expected::{assert_run, text};
 use sample_files::{
-    CODE_OFFSET, ECALL, ENTRY, Elf, LOAD, Part, READ, READ_EXECUTE, READ_WRITE, first_file,
+    CODE, ECALL, Elf, NEGATIVE, NO_SUM, ONE, Part, READ, READ_WRITE, SEVENTEEN_WORDS, SIXTEEN_WORDS,
+    TWO_SUMS, X0_WRITTEN, first_file,
 };
 use std::test::Fail;
-use test_calls::run;
 
 /// A file, by its code at 0x10000, and the end of its run.
 #[derive(Clone, Copy, Debug)]
@@ -23,28 +22,28 @@ struct CodeCase {
 const CODES: [CodeCase; 16] = [
     CodeCase {
         name: "two sums",
-        words: &[0x00700513, 0x00a505b3, 0x00000073],
+        words: TWO_SUMS,
         first: "ended after 3 steps at 0x0000000000010008",
         registers: &[(10, 0x7), (11, 0xe)],
         status: 0,
     },
     CodeCase {
         name: "an ECALL alone",
-        words: &[0x00000073],
+        words: NO_SUM,
         first: "ended after 1 steps at 0x0000000000010000",
         registers: &[],
         status: 0,
     },
     CodeCase {
         name: "x0 is written",
-        words: &[0x00518013, 0x00000033, 0x00000073],
+        words: X0_WRITTEN,
         first: "ended after 3 steps at 0x0000000000010008",
         registers: &[],
         status: 0,
     },
     CodeCase {
         name: "negative numbers",
-        words: &[0xfff00293, 0x80028313, 0x006283b3, 0x00000073],
+        words: NEGATIVE,
         first: "ended after 4 steps at 0x000000000001000c",
         registers: &[
             (5, 0xffffffffffffffff),
@@ -55,11 +54,7 @@ const CODES: [CodeCase; 16] = [
     },
     CodeCase {
         name: "sixteen words",
-        words: &[
-            0x7d740213, 0x004385b3, 0x008080b3, 0xcdd28613, 0x00a00333, 0x20a48413, 0x7e448293,
-            0x00d083b3, 0xa1438213, 0x64220593, 0x31a50313, 0xd6028393, 0x003003b3, 0x00358133,
-            0xa9438693, 0x00000073,
-        ],
+        words: SIXTEEN_WORDS,
         first: "ended after 16 steps at 0x000000000001003c",
         registers: &[
             (2, 0x56),
@@ -75,11 +70,7 @@ const CODES: [CodeCase; 16] = [
     },
     CodeCase {
         name: "seventeen words",
-        words: &[
-            0x98b30113, 0x3b308413, 0x00018433, 0xfb308313, 0xbf600313, 0x00950533, 0x006484b3,
-            0xc4200193, 0xbc440113, 0x00a68433, 0xe0348493, 0xa0258413, 0x007184b3, 0x00560333,
-            0x19728393, 0xfcf58113, 0x00000073,
-        ],
+        words: SEVENTEEN_WORDS,
         first: "ended after 17 steps at 0x0000000000010040",
         registers: &[
             (2, 0xffffffffffffffcf),
@@ -184,19 +175,6 @@ struct FileCase {
     status: u8,
 }
 
-/// A file of one segment with an ECALL.
-const ONE: Elf<'static> = Elf {
-    entry: ENTRY,
-    flags: 0,
-    parts: &[Part {
-        kind: LOAD,
-        flags: READ_EXECUTE,
-        address: ENTRY,
-        offset: CODE_OFFSET,
-        words: &[ECALL, ECALL],
-    }],
-};
-
 const FILES: [FileCase; 6] = [
     FileCase {
         name: "the entry is outside of the segment",
@@ -229,11 +207,8 @@ const FILES: [FileCase; 6] = [
         name: "the segment is not executable",
         file: Elf {
             parts: &[Part {
-                kind: LOAD,
                 flags: READ,
-                address: ENTRY,
-                offset: CODE_OFFSET,
-                words: &[ECALL],
+                ..CODE
             }],
             ..ONE
         },
@@ -246,11 +221,8 @@ const FILES: [FileCase; 6] = [
         name: "a load at 0",
         file: Elf {
             parts: &[Part {
-                kind: LOAD,
-                flags: READ_EXECUTE,
-                address: ENTRY,
-                offset: CODE_OFFSET,
                 words: &[0x0000_3283, ECALL],
+                ..CODE
             }],
             ..ONE
         },
@@ -264,18 +236,16 @@ const FILES: [FileCase; 6] = [
         file: Elf {
             parts: &[
                 Part {
-                    kind: LOAD,
-                    flags: READ_EXECUTE,
-                    address: ENTRY,
                     offset: 0xb0,
                     words: &[0x0002_0437, 0x0004_3483, 0x0094_8533, 0x00a4_3023, ECALL],
+                    ..CODE
                 },
                 Part {
-                    kind: LOAD,
                     flags: READ_WRITE,
                     address: 0x20000,
                     offset: 0xc8,
                     words: &[5, 0],
+                    ..CODE
                 },
             ],
             ..ONE
@@ -290,14 +260,9 @@ const FILES: [FileCase; 6] = [
 fn codes_are_run(rt: HostRuntime) -> Result<(), Fail> {
     let alloc = rt.alloc();
     for case in CODES {
-        let name = case.name;
-        let mut shelf = MemoryShelf::new(alloc);
-        shelf.put_file("a", &first_file(alloc, case.words)?)?;
-        let mut out = MemorySink::new(alloc);
-        let status = run(alloc, &["run", "a"], &mut shelf, &mut out)?;
+        let file = first_file(alloc, case.words)?;
         let printed = text(alloc, case.first, case.registers)?;
-        assert_eq!(rt; out.bytes(), printed.as_bytes(), "{name}");
-        assert_eq!(rt; status.code(), case.status, "{name}");
+        assert_run(&rt, case.name, &file, printed.as_str(), case.status)?;
     }
     Ok(())
 }
@@ -306,14 +271,9 @@ fn codes_are_run(rt: HostRuntime) -> Result<(), Fail> {
 fn files_are_run(rt: HostRuntime) -> Result<(), Fail> {
     let alloc = rt.alloc();
     for case in FILES {
-        let name = case.name;
-        let mut shelf = MemoryShelf::new(alloc);
-        shelf.put_file("a", &case.file.bytes(alloc)?)?;
-        let mut out = MemorySink::new(alloc);
-        let status = run(alloc, &["run", "a"], &mut shelf, &mut out)?;
+        let file = case.file.bytes(alloc)?;
         let printed = text(alloc, case.first, case.registers)?;
-        assert_eq!(rt; out.bytes(), printed.as_bytes(), "{name}");
-        assert_eq!(rt; status.code(), case.status, "{name}");
+        assert_run(&rt, case.name, &file, printed.as_str(), case.status)?;
     }
     Ok(())
 }

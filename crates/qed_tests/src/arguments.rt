@@ -3,10 +3,10 @@
 use crate::transformations::TWO_SUMS;
 use qed_io::{MemoryShelf, MemorySink};
 use qed_top::exit_code;
-use std::alloc::{AllocError, Global};
 use std::io::{Error, ErrorKind};
 use std::process::ExitCode;
 use std::test::Fail;
+use test_calls::words_of;
 
 /// What is printed where the words are those of no command.
 const USAGE: &str = "usage: not built yet\n";
@@ -48,14 +48,6 @@ const CASES: [ArgumentsCase; 5] = [
     },
 ];
 
-fn owned(alloc: Global, words: &[&str]) -> Result<Vec<String>, AllocError> {
-    let mut all = Vec::new(alloc);
-    for word in words {
-        all.push(String::from_str(alloc, word)?)?;
-    }
-    Ok(all)
-}
-
 #[test]
 fn arguments_become_words_and_an_exit_code(rt: HostRuntime) -> Result<(), Fail> {
     let alloc = rt.alloc();
@@ -66,7 +58,7 @@ fn arguments_become_words_and_an_exit_code(rt: HostRuntime) -> Result<(), Fail> 
         shelf.put_file("in", &input)?;
         let mut out = MemorySink::new(alloc);
         let arguments = match case.arguments {
-            Ok(words) => Ok(owned(alloc, words)?.into_iter()),
+            Ok(words) => Ok(words_of(alloc, words)?.into_iter()),
             Err(kind) => Err(Error::from(kind)),
         };
         let code = exit_code(alloc, arguments, &mut shelf, &mut out);

@@ -12,6 +12,8 @@ mod outputs;
 #[cfg(test)]
 mod refusals;
 #[cfg(test)]
+mod symbols;
+#[cfg(test)]
 mod transformations;
 #[cfg(test)]
 mod usage;

@@ -1,7 +1,7 @@
 //! Files that are refused, each a good file but for one thing.
 
 use qed_io::{MemoryShelf, MemorySink};
-use sample_files::{CODE_OFFSET, ECALL, ENTRY, Elf, LOAD, Part, READ, READ_EXECUTE, first_file};
+use sample_files::{CODE, ECALL, Elf, ONE, Part, READ, first_file};
 use std::alloc::{Alloc, Global};
 use std::process::Abort;
 use std::test::Fail;
@@ -67,19 +67,6 @@ const CODES: [CodeCase; 9] = [
     },
 ];
 
-/// A file of one segment with two words.
-const ONE: Elf<'static> = Elf {
-    entry: ENTRY,
-    flags: 0,
-    parts: &[Part {
-        kind: LOAD,
-        flags: READ_EXECUTE,
-        address: ENTRY,
-        offset: CODE_OFFSET,
-        words: &[SET_X5, ECALL],
-    }],
-};
-
 /// A file that is refused for its header or its segments.
 #[derive(Clone, Copy, Debug)]
 struct HeaderCase {
@@ -109,11 +96,8 @@ const HEADERS: [HeaderCase; 5] = [
     HeaderCase {
         file: Elf {
             parts: &[Part {
-                kind: LOAD,
                 flags: READ,
-                address: ENTRY,
-                offset: CODE_OFFSET,
-                words: &[SET_X5, ECALL],
+                ..CODE
             }],
             ..ONE
         },
@@ -123,18 +107,16 @@ const HEADERS: [HeaderCase; 5] = [
         file: Elf {
             parts: &[
                 Part {
-                    kind: LOAD,
-                    flags: READ_EXECUTE,
-                    address: ENTRY,
                     offset: 0xb0,
                     words: &[ECALL, ECALL],
+                    ..CODE
                 },
                 Part {
-                    kind: LOAD,
                     flags: READ,
                     address: 0x10004,
                     offset: 0xb8,
                     words: &[0, 0],
+                    ..CODE
                 },
             ],
             ..ONE
@@ -152,7 +134,7 @@ struct CutCase {
 
 const CUTS: [CutCase; 3] = [
     CutCase {
-        keep: 127,
+        keep: 123,
         printed: "refused E8: segment 0\n",
     },
     CutCase {

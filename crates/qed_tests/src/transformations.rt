@@ -39,18 +39,18 @@ const END: [u32; 28] = [
 #[derive(Clone, Copy, Debug)]
 pub struct Transformation {
     pub name: &'static str,
-    /// The input's words but the last, which is an ECALL.
-    body: &'static [u32],
-    /// The same words on the pairs of their registers.
+    /// The input's words, of which the last is an ECALL.
+    words: &'static [u32],
+    /// The words before it on the pairs of their registers.
     mirrored: &'static [u32],
     /// The size of the new code, in bytes.
     code_bytes: u64,
 }
 
-/// `addi x10,x0,7` and `add x11,x10,x10`.
+/// Two sums.
 pub const TWO_SUMS: Transformation = Transformation {
     name: "two sums",
-    body: &[0x00700513, 0x00a505b3],
+    words: sample_files::TWO_SUMS,
     mirrored: &[0x00700d13, 0x01ad0db3],
     code_bytes: 264,
 };
@@ -59,29 +59,25 @@ pub const TRANSFORMATIONS: [Transformation; 6] = [
     TWO_SUMS,
     Transformation {
         name: "no sum",
-        body: &[],
+        words: sample_files::NO_SUM,
         mirrored: &[],
         code_bytes: 248,
     },
     Transformation {
         name: "x0 is written",
-        body: &[0x00518013, 0x00000033],
+        words: sample_files::X0_WRITTEN,
         mirrored: &[0x00598013, 0x00000033],
         code_bytes: 264,
     },
     Transformation {
         name: "negative numbers",
-        body: &[0xfff00293, 0x80028313, 0x006283b3],
+        words: sample_files::NEGATIVE,
         mirrored: &[0xfff00a93, 0x800a8b13, 0x016a8bb3],
         code_bytes: 272,
     },
     Transformation {
         name: "sixteen words",
-        body: &[
-            0x7d740213, 0x004385b3, 0x008080b3, 0xcdd28613, 0x00a00333, 0x20a48413, 0x7e448293,
-            0x00d083b3, 0xa1438213, 0x64220593, 0x31a50313, 0xd6028393, 0x003003b3, 0x00358133,
-            0xa9438693,
-        ],
+        words: sample_files::SIXTEEN_WORDS,
         mirrored: &[
             0x7d7c0a13, 0x014b8db3, 0x018888b3, 0xcdda8e13, 0x01a00b33, 0x20ac8c13, 0x7e4c8a93,
             0x01d88bb3, 0xa14b8a13, 0x642a0d93, 0x31ad0b13, 0xd60a8b93, 0x01300bb3, 0x013d8933,
@@ -91,11 +87,7 @@ pub const TRANSFORMATIONS: [Transformation; 6] = [
     },
     Transformation {
         name: "seventeen words",
-        body: &[
-            0x98b30113, 0x3b308413, 0x00018433, 0xfb308313, 0xbf600313, 0x00950533, 0x006484b3,
-            0xc4200193, 0xbc440113, 0x00a68433, 0xe0348493, 0xa0258413, 0x007184b3, 0x00560333,
-            0x19728393, 0xfcf58113,
-        ],
+        words: sample_files::SEVENTEEN_WORDS,
         mirrored: &[
             0x98bb0913, 0x3b388c13, 0x00098c33, 0xfb388b13, 0xbf600b13, 0x019d0d33, 0x016c8cb3,
             0xc4200993, 0xbc4c0913, 0x01ae8c33, 0xe03c8c93, 0xa02d8c13, 0x01798cb3, 0x015e0b33,
@@ -114,7 +106,7 @@ fn joined(alloc: Global, parts: &[&[u32]]) -> Result<Vec<u32>, AllocError> {
 }
 
 /// A section header with all fields 0.
-const SECTION: SectionRow = SectionRow {
+pub(crate) const SECTION: SectionRow = SectionRow {
     name: 0,
     kind: 0,
     flags: 0,
@@ -238,19 +230,16 @@ fn output_file<'x>(
 }
 
 impl Transformation {
-    fn input_words(&self, alloc: Global) -> Result<Vec<u32>, AllocError> {
-        joined(alloc, &[self.body, &[ECALL]])
-    }
-
     /// The input.
     pub(crate) fn input(&self, alloc: Global) -> Result<Vec<u8>, AllocError> {
-        first_file(alloc, &self.input_words(alloc)?)
+        first_file(alloc, self.words)
     }
 
     /// The output.
     pub(crate) fn output(&self, alloc: Global) -> Result<Vec<u8>, AllocError> {
-        let code = joined(alloc, &[&BEGIN, self.body, self.mirrored, &END])?;
-        output_file(alloc, &self.input_words(alloc)?, &code, self.code_bytes)
+        let body = self.words.split_last().map_or(self.words, |(_, body)| body);
+        let code = joined(alloc, &[&BEGIN, body, self.mirrored, &END])?;
+        output_file(alloc, self.words, &code, self.code_bytes)
     }
 
     /// What is printed about the output.
@@ -313,7 +302,7 @@ const LINKED: Elf<'static> = Elf {
             flags: READ_EXECUTE,
             address: ENTRY,
             offset: 0xb4,
-            words: &[0x00700513, 0x00a505b3, ECALL],
+            words: sample_files::TWO_SUMS,
         },
     ],
 };

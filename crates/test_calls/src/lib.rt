@@ -10,7 +10,7 @@ use qed_top::{Status, qed};
 use std::alloc::{AllocError, Global};
 
 /// The words of a line.
-fn words_of(alloc: Global, line: &[&str]) -> Result<Vec<String>, AllocError>
+pub fn words_of(alloc: Global, line: &[&str]) -> Result<Vec<String>, AllocError>
     ensures { IfOk result (λ words. texts words.items ≡ map (λ word. word.now) line.now) }
 {
     let mut words = Vec::new(alloc);
