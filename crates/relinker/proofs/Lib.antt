@@ -1,0 +1,8 @@
+mod Counting
+pub mod Joining
+mod JumpItems
+mod Laying
+mod Places
+mod Reach
+mod Rows
+mod Words

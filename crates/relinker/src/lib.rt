@@ -1,0 +1,20 @@
+//! Items get their places, and become words: first they are counted, then their words are laid out.
+#![tactic(auto)]
+
+mod count;
+mod error;
+mod layout;
+mod parts;
+mod search;
+mod sink;
+mod write;
+
+pub use count::Count;
+pub use error::LinkError;
+pub use layout::{Layout, Linked, lay, link};
+pub use parts::parts_join;
+pub use search::place_of;
+pub use sink::ItemSink;
+
+#[cfg(test)]
+mod tests;

@@ -1,0 +1,51 @@
+//! Entries are found by their input addresses, which ascend.
+ghost use Rattle.std.specs.Prelude.{◌≡◌, ◌<◌, ◌≤◌, length, drop, slice_index_or};
+ghost use Rattle.qed_model.specs.declared.plan.EntryRow.{EntryRow};
+ghost use Rattle.qed_model.specs.Weave.OutputParts.{entry_at};
+ghost use Rattle.relinker.specs.Link.{leads_to, Ascend};
+
+use qed_model::EntryRow;
+
+/// How many entries have input addresses below this one.
+#[tactic(auto, using(crate::proofs::Rows::skipped))]
+fn below(rows: &[EntryRow], address: u64) -> usize
+    requires { Ascend rows.now }
+    ensures bound { result ≤ length rows.now }
+    ensures rest { entry_at (drop result rows.now) address ≡ entry_at rows.now address }
+    ensures above { result < length rows.now → (d : EntryRow) → address ≤ (slice_index_or rows.now result d).input }
+{
+    let (mut low, mut high) = (0, rows.len());
+    while low < high {
+        let middle = low + (high - low) / 2;
+        if rows[middle].input < address {
+            low = middle + 1;
+        } else {
+            high = middle;
+        }
+    }
+    low
+}
+
+/// The entry of an input address.
+#[tactic(auto, using(crate::proofs::Rows::found, crate::proofs::Rows::missed))]
+pub fn place_of(rows: &[EntryRow], address: u64) -> Option<u64>
+    requires { Ascend rows.now }
+    ensures { result ≡ entry_at rows.now address }
+{
+    let at = below(rows, address);
+    if at >= rows.len() {
+        return None;
+    }
+    if rows[at].input != address {
+        return None;
+    }
+    Some(rows[at].output)
+}
+
+/// The entry of an input address, else the last word.
+pub(crate) fn entry(rows: &[EntryRow], last: u64, address: u64) -> u64
+    requires { Ascend rows.now }
+    ensures { result ≡ leads_to rows.now last address }
+{
+    place_of(rows, address).unwrap_or(last)
+}

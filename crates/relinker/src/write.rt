@@ -1,0 +1,185 @@
+//! From items to words: each word is written where there is room for it.
+ghost use Rattle.std.specs.Prelude.{◌≡◌, ◌+◌, ◌*◌, ◌-◌, ◌^◌, ◌<◌, ◌≤◌, ◌++◌, [], ◌∷◌, true, false, length, map, Some, pos, ◌≤ℤ◌, vec_len, vec_capacity};
+ghost use Rattle.std.specs.List.{list_all};
+ghost use Rattle.qed_model.specs.Machine.Table.{ins, decode_of};
+ghost use Rattle.qed_model.specs.Weave.Placed.{size_of, sum_of_sizes, distance_between as distance_of, upper_part as upper_of, lower_part as lower_of, go_words, instructions_from};
+ghost use Rattle.relinker.specs.Link.{is_encoded, AreWords, leads_to, Ascend};
+
+use crate::count::size;
+use crate::search::entry;
+use passes::register;
+use qed_model::{EntryRow, Item};
+use rv_encode::encode;
+use rv_isa::{Ins, Kind, Reg};
+
+/// The distance from one address to another, modulo 2^64 and read as signed.
+fn distance_between(from: u64, to: u64) -> i64
+    ensures { result ≡ distance_of from to }
+{
+    to.wrapping_sub(from).cast_signed()
+}
+
+/// The part of a distance that AUIPC adds.
+fn upper_part(distance: i64) -> i64
+    requires { distance ≤ℤ pos (2 ^ 63 - 2049) }
+    ensures { result ≡ upper_of distance }
+{
+    ((distance + 2048) >> 12) * 4096
+}
+
+fn instruction(kind: Kind, rd: Reg, rs1: Reg, imm: i64) -> Ins
+    ensures { result ≡ ins kind rd rs1 0 imm }
+{
+    Ins {
+        kind,
+        rd,
+        rs1,
+        rs2: register(0),
+        imm,
+    }
+}
+
+/// The two instructions that set a register to a constant so far from where they stand.
+#[tactic(auto, using(crate::proofs::Reach::near_upper))]
+fn constant(r: Reg, distance: i64) -> [Ins; 2]
+    requires { is_encoded (ins Kind.Auipc r 0 0 (upper_of distance)) ≡ true }
+    ensures { result ≡ ins Kind.Auipc r 0 0 (upper_of distance) ∷ ins Kind.Addi r r 0 (lower_of distance) ∷ [] }
+{
+    let upper = upper_part(distance);
+    [
+        instruction(Kind::Auipc, r, register(0), upper),
+        instruction(Kind::Addi, r, r, distance - upper),
+    ]
+}
+
+/// The near jump, so far.
+fn near_jump(distance: i64) -> [Ins; 1]
+    ensures { result ≡ ins Kind.Jal 0 0 0 distance ∷ [] }
+{
+    [instruction(Kind::Jal, register(0), register(0), distance)]
+}
+
+/// The far jump, by x30.
+#[tactic(auto, using(crate::proofs::Reach::near_upper))]
+fn far_jump(distance: i64) -> [Ins; 2]
+    requires { is_encoded (ins Kind.Auipc 30 0 0 (upper_of distance)) ≡ true }
+    ensures { result ≡ ins Kind.Auipc 30 0 0 (upper_of distance) ∷ ins Kind.Jalr 0 30 0 (lower_of distance) ∷ [] }
+{
+    let upper = upper_part(distance);
+    [
+        instruction(Kind::Auipc, register(30), register(0), upper),
+        instruction(Kind::Jalr, register(0), register(30), distance - upper),
+    ]
+}
+
+/// The word of an instruction that has one.
+fn word(ins: &Ins) -> u32
+    requires { is_encoded ins.now ≡ true }
+    ensures decode { decode_of result ≡ Some ins.now }
+    ensures bound { result < 2 ^ 32 }
+{
+    match encode(ins) {
+        Some(word) => word,
+        None => unreachable!(),
+    }
+}
+
+/// Appends the word of an instruction. There is room for it.
+#[tactic(auto, using(crate::proofs::Words::push_word))]
+fn put(words: &mut Vec<u32>, ins: &Ins)
+    requires encoded { is_encoded ins.now ≡ true }
+    requires room { vec_len words.old < vec_capacity words.old }
+    requires small { AreWords words.old.items }
+    ensures decode { map decode_of words.new.items ≡ map decode_of words.old.items ++ (Some ins.now ∷ []) }
+    ensures small { AreWords words.new.items }
+    ensures len { vec_len words.new ≡ vec_len words.old + 1 }
+    ensures capacity { vec_capacity words.old ≤ vec_capacity words.new }
+{
+    match words.push(word(ins)) {
+        Ok(()) => {}
+        Err(_) => unreachable!(),
+    }
+}
+
+/// Appends the words of instructions. There is room for them.
+fn put_all(words: &mut Vec<u32>, instructions: &[Ins])
+    requires encoded { list_all is_encoded instructions.now ≡ true }
+    requires room { vec_len words.old + length instructions.now ≤ vec_capacity words.old }
+    requires small { AreWords words.old.items }
+    ensures decode { map decode_of words.new.items ≡ map decode_of words.old.items ++ map Some instructions.now }
+    ensures small { AreWords words.new.items }
+    ensures len { vec_len words.new ≡ vec_len words.old + length instructions.now }
+    ensures capacity { vec_capacity words.old ≤ vec_capacity words.new }
+{
+    for ins in instructions {
+        put(words, ins);
+    }
+}
+
+/// Appends the words of an item that stands at an address. There is room for them.
+fn put_item(words: &mut Vec<u32>, rows: &[EntryRow], far: bool, last: u64, item: &Item, at: u64)
+    requires ascend { Ascend rows.now }
+    requires encoded { list_all is_encoded (instructions_from far (leads_to rows.now last) at (item.now ∷ [])) ≡ true }
+    requires room { 4 * vec_len words.old + size_of far item.now ≤ 4 * vec_capacity words.old }
+    requires small { AreWords words.old.items }
+    ensures decode { map decode_of words.new.items ≡ map decode_of words.old.items ++ map Some (instructions_from far (leads_to rows.now last) at (item.now ∷ [])) }
+    ensures small { AreWords words.new.items }
+    ensures len { 4 * vec_len words.new ≡ 4 * vec_len words.old + size_of far item.now }
+    ensures capacity { vec_capacity words.old ≤ vec_capacity words.new }
+{
+    match *item {
+        Item::Mark(_) => {}
+        Item::Plain(ins) => put_all(words, &[ins]),
+        Item::Constant(r, value) => put_all(words, &constant(r, distance_between(at, value))),
+        Item::Go(address) => {
+            let distance = distance_between(at, entry(rows, last, address));
+            if far {
+                put_all(words, &far_jump(distance));
+            } else {
+                put_all(words, &near_jump(distance));
+            }
+        }
+    }
+}
+
+/// Appends the words of items that stand from `base` on, and tells where they end. There is room for them.
+pub(crate) fn put_items(
+    words: &mut Vec<u32>,
+    rows: &[EntryRow],
+    far: bool,
+    last: u64,
+    items: &[Item],
+    base: u64,
+) -> u64
+    requires ascend { Ascend rows.now }
+    requires low { base + sum_of_sizes far items.now < 2 ^ 63 }
+    requires encoded { list_all is_encoded (instructions_from far (leads_to rows.now last) base items.now) ≡ true }
+    requires room { 4 * vec_len words.old + sum_of_sizes far items.now ≤ 4 * vec_capacity words.old }
+    requires small { AreWords words.old.items }
+    ensures at { result ≡ base + sum_of_sizes far items.now }
+    ensures decode { map decode_of words.new.items ≡ map decode_of words.old.items ++ map Some (instructions_from far (leads_to rows.now last) base items.now) }
+    ensures small { AreWords words.new.items }
+    ensures len { 4 * vec_len words.new ≡ 4 * vec_len words.old + sum_of_sizes far items.now }
+    ensures capacity { vec_capacity words.old ≤ vec_capacity words.new }
+{
+    let mut at = base;
+    for item in items {
+        put_item(words, rows, far, last, item, at);
+        at += size(far, item);
+    }
+    at
+}
+
+/// Appends the zero word. There is room for it.
+#[tactic(auto, using(crate::proofs::Words::stub_word))]
+pub(crate) fn put_stub(words: &mut Vec<u32>)
+    requires room { vec_len words.old < vec_capacity words.old }
+    requires small { AreWords words.old.items }
+    ensures decode { map decode_of words.new.items ≡ map decode_of words.old.items ++ (Some (ins Kind.Illegal 0 0 0 (pos 0)) ∷ []) }
+    ensures small { AreWords words.new.items }
+{
+    put(
+        words,
+        &instruction(Kind::Illegal, register(0), register(0), 0),
+    );
+}
