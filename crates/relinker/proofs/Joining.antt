@@ -5,11 +5,8 @@ use Rattle.qed_model.specs.declared.item.Item.TheVariants.{Mark, Plain, Constant
 use Rattle.qed_model.specs.declared.plan.EntryRow.{EntryRow}
 use Rattle.qed_model.specs.Weave.Placed.{go_size, sum_of_sizes, rows_from}
 use Rattle.qed_model.proofs.Placing.{instructions_from-append}
+use Rattle.qed_model.proofs.PlacedWords.{size-append}
 use Rattle.relinker.specs.Joined.{PartsJoin}
-
-sum_of_sizes-append : (far : Bool) (xs ys : List Item) → sum_of_sizes far (xs ++ ys) ≡ sum_of_sizes far xs + sum_of_sizes far ys
-sum_of_sizes-append far [] ys = omega arith
-sum_of_sizes-append far (x ∷ xs) ys = omega (arith, sum_of_sizes-append far xs ys)
 
 elsewhere : (far : Bool) (rows : List EntryRow) (a b : ℕ) (ys : List Item) → a ≡ b → rows ++ rows_from far a ys ≡ rows ++ rows_from far b ys
 elsewhere far rows a b ys e = ap (λ n. rows ++ rows_from far n ys) e
@@ -24,4 +21,4 @@ rows_from-append far at (Go t ∷ xs) ys =
     rows_from-append far (at + go_size far) xs ys ∙ elsewhere far (rows_from far (at + go_size far) xs) (at + go_size far + sum_of_sizes far xs) (at + (go_size far + sum_of_sizes far xs)) ys (omega arith)
 
 pub parts_join : PartsJoin
-parts_join far entry at xs ys = record { bytes = sum_of_sizes-append far xs ys; marks = rows_from-append far at xs ys; words = instructions_from-append far entry at xs ys }
+parts_join far entry at xs ys = record { bytes = size-append far xs ys; marks = rows_from-append far at xs ys; words = instructions_from-append far entry at xs ys }
