@@ -47,7 +47,7 @@ abbrev new_code : List Ins
 new_code = placed false 0x13000 (new_items loop swept loop_blocks)
 
 stand : HasAt (fetched_at (memory_of output.segments) output.ranges) 0x13000 new_code
-stand = kept.stand loop swept (sound true) loop_loads loop_swept_admitted loop_blocks loop_are words.0 words.1.code words.1.few
+stand = kept.stand loop swept (sound true) loop_loads loop_swept_admitted loop_blocks loop_are words.0 words.1.has.code words.1.few
 
 output_run : (n : ℕ) → is_simple_run 0x13000 new_code n (start output zeros) ≡ true → after_output output zeros n ≡ go 0x13000 new_code n (start output zeros)
 output_run n simple = run_is (memory_of output.segments) output.ranges 0x13000 new_code stand n (start output zeros) simple refl refl

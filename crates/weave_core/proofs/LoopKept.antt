@@ -54,7 +54,7 @@ input_run : (n : ℕ) → is_simple_run 0x10000 loop_code n (start loop_input ze
 input_run n simple = run_is (memory_of loop_input.segments) loop_input.ranges 0x10000 loop_code (has_code loop shape 0x10000 loop_code loop_known.stand) n (start loop_input zeros) simple refl refl
 
 pub loop_stand : HasAt (fetched_at (memory_of loop_output.segments) loop_output.ranges) 0x13000 loop_new_code
-loop_stand = kept.stand loop defaults (sound false) loop_loads loop_admitted loop_blocks loop_are loop_words.0 loop_words.1.code loop_words.1.few
+loop_stand = kept.stand loop defaults (sound false) loop_loads loop_admitted loop_blocks loop_are loop_words.0 loop_words.1.has.code loop_words.1.few
 
 pub output_run :
     (n : ℕ) → is_simple_run 0x13000 loop_new_code n (start loop_output zeros) ≡ true

@@ -58,20 +58,24 @@ pub record IsNewCode (f : ElfFile) (o : Options) (blocks : List Block) (words : 
   pub small : (k : ℕ) → slice_index words k < 2 ^ 32
   pub code : Decode words (placed (is_far_code f o blocks) (code_place o.half (image_of f)) (new_items f o blocks))
 
+-- the input is admitted, these are its blocks, and the words are its new code
+pub record HasNewCode (input : List ℕ) (o : Options) (f : ElfFile) (blocks : List Block) (words : List ℕ) : Type 0 where
+  pub read : File input f
+  pub admitted : IsAdmitted f o
+  pub are : AreBlocks f o.inst_max blocks
+  pub code : IsNewCode f o blocks words
+
 -- ---- the file
 -- in which these words are written
 abbrev pub woven_file : ElfFile → Options → List Block → List ℕ → OutFile
 woven_file f o blocks words = file_of f o.half (has_table blocks) (new_entries f o blocks) (bytes_of words)
 
--- the input is admitted, these are its blocks, and this is the file with its new code
+-- this is the file with the new code of the input
 pub record WovenFile (input : List ℕ) (o : Options) (out : OutFile) : Type 0 where
   pub file : ElfFile
-  pub read : File input file
-  pub admitted : IsAdmitted file o
   pub blocks : List Block
-  pub are : AreBlocks file o.inst_max blocks
   pub words : List ℕ
-  pub code : IsNewCode file o blocks words
+  pub has : HasNewCode input o file blocks words
   pub woven : out ≡ woven_file file o blocks words
 
 -- the output is that file, written
