@@ -1,19 +1,12 @@
 //! The code ranges of a file.
 ghost use Rattle.std.specs.Prelude.{◌≡◌, ◌++◌, IfOk};
-ghost use Rattle.qed_model.specs.Machine.Loading.{load_segment, load_segments, is_code_section, lies_in_code, lies_in_any, section_ranges, segment_ranges, code_ranges};
+ghost use Rattle.qed_model.specs.Machine.Loading.{load_segment, load_segments, lies_in_code, lies_in_any, section_ranges, segment_ranges, code_ranges};
 ghost use Rattle.qed_model.specs.Admission.CodeWords.{ranges_of};
 ghost use Rattle.code_ranges.specs.Ranges.{spans};
 
 use crate::range::CodeRange;
 use elf_types::{ElfFile, Section, Segment};
 use std::alloc::{AllocError, Global};
-
-/// Whether a section is one of code, with some bytes.
-pub fn is_code_section(section: &Section) -> bool
-    ensures { result ≡ is_code_section section.now }
-{
-    section.is_code()
-}
 
 /// Whether a section lies wholly inside a segment, which is executable.
 pub fn lies_in(section: &Section, segment: &Segment) -> bool
@@ -47,7 +40,7 @@ fn ranges_of_sections(
 {
     let mut ranges = Vec::new(alloc);
     for section in sections {
-        if is_code_section(section) && lies_in_any(section, segments) {
+        if section.is_code() && lies_in_any(section, segments) {
             ranges.push(CodeRange {
                 start: section.address,
                 size: section.size,

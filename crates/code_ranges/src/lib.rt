@@ -2,8 +2,10 @@
 //! segments. A range may end at 2^64, so it is told by its first address and its size.
 #![tactic(auto)]
 
+mod cut;
 mod found;
 mod range;
 
-pub use found::{code_ranges, is_code_section, lies_in, lies_in_any};
+pub use cut::is_cut_by_any;
+pub use found::{code_ranges, lies_in, lies_in_any};
 pub use range::{CodeRange, is_code_address};

@@ -1,9 +1,8 @@
 //! The rules on the entry and on the shape of code.
 ghost use Rattle.std.specs.Prelude.{◌≡◌, ℕ, ◌<◌, false, ◌&&◌, ◌||◌, not, ◌==◌, ◌+◌, length, slice_get, MatchOption, MatchResult, OnOk};
-ghost use Rattle.std.specs.List.{list_any};
 ghost use Rattle.qed_model.specs.declared.options.Options.{Options};
-ghost use Rattle.qed_model.specs.Machine.Loading.{load_segment, load_segments, section_ranges};
-ghost use Rattle.qed_model.specs.Admission.Terms.{shares, is_cut_by, is_cut, is_ragged};
+ghost use Rattle.qed_model.specs.Machine.Loading.{load_segments, section_ranges};
+ghost use Rattle.qed_model.specs.Admission.Terms.{is_cut, is_ragged};
 ghost use Rattle.qed_model.specs.Admission.CodeWords.{ranges_of, loads_of};
 ghost use Rattle.qed_model.specs.Admission.Rules.{is_misshapen_section, is_misshapen_segment, is_empty, passes_at};
 ghost use Rattle.qed_model.specs.Admission.Refusals.{IsFirstOf, IsRefusedBy};
@@ -11,35 +10,9 @@ ghost use Rattle.code_ranges.specs.Ranges.{spans};
 ghost use Rattle.test_admission.specs.Order.{PassesBelow};
 ghost use Rattle.test_admission.specs.Shape.{IsShaped, is_ragged_code};
 
-use code_ranges::{CodeRange, is_code_address, is_code_section, lies_in, lies_in_any};
+use code_ranges::{CodeRange, is_code_address, is_cut_by_any, lies_in_any};
 use elf_types::{ElfFile, Section, Segment};
 use qed_model::AdmitError;
-
-/// Whether a section that has bytes and a segment have a byte in common.
-fn shares(section: &Section, segment: &Segment) -> bool
-    ensures { result ≡ shares section.now (load_segment segment.now) }
-{
-    segment.memory > 0
-        && u128::from(section.address) < segment.end()
-        && u128::from(segment.address) < u128::from(section.address) + u128::from(section.size)
-}
-
-fn is_cut_by(section: &Section, segment: &Segment) -> bool
-    ensures { result ≡ is_cut_by section.now (load_segment segment.now) }
-{
-    segment.is_executable() && shares(section, segment) && !lies_in(section, segment)
-}
-
-fn is_cut_by_any(section: &Section, segments: &[Segment]) -> bool
-    ensures { result ≡ list_any (is_cut_by section.now) (load_segments segments.now) }
-{
-    for segment in segments {
-        if segment.is_load() && is_cut_by(section, segment) {
-            return true;
-        }
-    }
-    false
-}
 
 /// Whether the start or the size of a range is not a multiple of 4.
 fn is_ragged(start: u64, size: u64) -> bool
@@ -52,7 +25,7 @@ fn is_ragged(start: u64, size: u64) -> bool
 fn is_misshapen_section(segments: &[Segment], section: &Section) -> bool
     ensures { result ≡ is_misshapen_section (load_segments segments.now) section.now }
 {
-    is_code_section(section)
+    section.is_code()
         && (is_cut_by_any(section, segments)
             || lies_in_any(section, segments) && is_ragged(section.address, section.size))
 }
@@ -83,7 +56,7 @@ fn has_no_section(segments: &[Segment], sections: &[Section]) -> bool
     ensures { result ≡ is_empty (section_ranges (load_segments segments.now) sections.now) }
 {
     for section in sections {
-        if is_code_section(section) && lies_in_any(section, segments) {
+        if section.is_code() && lies_in_any(section, segments) {
             return false;
         }
     }

@@ -7,7 +7,7 @@ ghost use Rattle.test_admission.specs.Read.{AreRead};
 ghost use Rattle.test_admission.specs.Shape.{IsShaped};
 ghost use Rattle.test_admission.specs.Stretches.{part_of, parts_of, span_of, rest_of, Reads, IsRange, has_code, whole_part, whole_parts, trimmed, cut, AreCodeOf};
 
-use code_ranges::{is_code_section, lies_in};
+use code_ranges::lies_in;
 use elf_types::{ElfFile, Section, Segment};
 use std::alloc::{AllocError, Global};
 
@@ -86,7 +86,7 @@ fn stretch_of_section<'a>(segments: &'a [Segment], section: &Section) -> Option<
     requires { AreRead (load_segments segments.now) }
     ensures { MatchOption result (IsRange (load_segments segments.now) section.now false) (λ part. IsRange (load_segments segments.now) section.now true × (span_of (part_of part) ≡ section_range section.now) × Reads (load_segments segments.now) (part_of part)) }
 {
-    if !is_code_section(section) {
+    if !section.is_code() {
         return None;
     }
     let segment = home(section, segments)?;

@@ -8,7 +8,7 @@ use Rattle.test_admission.proofs.stretches.stretch_of_section.Goals as goal
 pub returns : goal.returns
 returns c =
     let h = c.in_ok-segment.ensures in (
-      record { is = and_from _ _ (sym c.is_code_section.ensures ∙ c.if-not-is_code_section.false) h.0 },
+      record { is = and_from _ _ (sym c.is_code.ensures ∙ c.if-not-is_code.false) h.0 },
       ap span_of c.of.ensures,
       subst (Reads (load_segments c.args.segments.now)) (sym c.of.ensures) (reads_section c.args.segments.now c.requires c.in_ok-segment.segment.now c.args.section.now h.1 h.2 h.3),
     )

@@ -2,7 +2,7 @@ use Rattle.std.proofs.Common.{◌≡◌, drop}
 use Rattle.std.specs.List.{list_any}
 use Rattle.qed_model.specs.Machine.Loading.{load_segments}
 use Rattle.qed_model.specs.Admission.Terms.{is_cut_by}
-use Rattle.test_admission.proofs.shape.is_cut_by_any.Given as goal
+use Rattle.code_ranges.proofs.cut.is_cut_by_any.Given as goal
 
 -- the rest decides
 abbrev pub invariant-loop-segment : goal.invariant-loop-segment
