@@ -1,5 +1,5 @@
 -- What is printed where a test is not admitted. Each line ends with a newline.
-use Rattle.std.specs.Prelude.{ℕ, ◌^◌, ◌<◌, ◌≤◌, List, ◌++◌, codes}
+use Rattle.std.specs.Prelude.{ℕ, List, ◌++◌, codes}
 use Rattle.qed_model.specs.declared.admit.AdmitError.{AdmitError}
 use Rattle.qed_model.specs.declared.admit.AdmitError.TheVariants as error
 use Rattle.qed_model.specs.declared.limits.Limit.TheVariants as limit
@@ -7,7 +7,7 @@ use Rattle.qed_model.specs.Text.Run.{hex_text, word_text}
 use Rattle.qed_model.specs.Text.Errors.{numbered, limit_line, high_register_line}
 
 -- a line with one address in it
-abbrev pub addressed : List ℕ → ℕ → List ℕ
+abbrev addressed : List ℕ → ℕ → List ℕ
 addressed front a = front ++ (hex_text a ++ codes "\n")
 
 -- an image ends behind its half
@@ -31,8 +31,3 @@ admit_line (error.ImageSpan n) = limit_line limit.ImageSpan n
 admit_line (error.CodeWords n) = limit_line limit.CodeWords n
 admit_line (error.TopAddress n) = limit_line limit.TopAddress n
 admit_line error.Memory = codes ""
-
--- what an error says of ends is what a file that was read can have: its image ends at 2^64 at most, and the half before that
-abbrev pub HasEnds : AdmitError → Type 0
-HasEnds (error.OutsideHalf high end) = (high ≤ 2 ^ 64) × (end < 2 ^ 64)
-HasEnds _ = Unit {0}

@@ -1,6 +1,7 @@
 //! What is printed where a test is not admitted.
 ghost use Rattle.std.specs.Prelude.{◌≡◌, ◌≢◌, ◌^◌, ◌≤◌, IfOk, OnOk, string_bytes};
-ghost use Rattle.report.specs.Admission.{admit_line, outside_line, HasEnds};
+ghost use Rattle.qed_model.specs.Admission.Ends.{HasEnds};
+ghost use Rattle.report.specs.Admission.{admit_line, outside_line};
 
 use crate::hex::{Hex, HexWord};
 use crate::limits::limit_line;

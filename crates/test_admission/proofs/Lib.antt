@@ -13,3 +13,4 @@ pub mod Faulting
 pub mod Listing
 pub mod Ends
 pub mod ReadFiles
+pub mod RefusedEnds

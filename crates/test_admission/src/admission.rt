@@ -1,6 +1,7 @@
 //! Which tests are admitted, and what is told of them.
-ghost use Rattle.std.specs.Prelude.{MatchResult};
+ghost use Rattle.std.specs.Prelude.{IfErr, MatchResult};
 ghost use Rattle.qed_model.specs.Admission.CodeWords.{loads_of};
+ghost use Rattle.qed_model.specs.Admission.Ends.{HasEnds};
 ghost use Rattle.qed_model.specs.Machine.Apart.{AllFitMemory, AreApart};
 ghost use Rattle.qed_model.specs.Weave.Places.{AreSoundOptions};
 ghost use Rattle.test_admission.specs.Admit.{IsAdmittedAs};
@@ -14,13 +15,15 @@ use std::alloc::Global;
 
 /// Tests whether a file is transformed with these options, and tells what is transformed.
 ///
-/// The options are sound, and the PT_LOAD segments fit into memory and share no byte, as in each file that was read. An error is the first rule that holds, with its place or number; it is
-/// `Memory` where there is no memory.
+/// The options are sound, and the PT_LOAD segments fit into memory and share no byte, as in each file that was read. An error
+/// is the first rule that holds, with its place or number; it is `Memory` where there is no memory. The ends that it tells are
+/// at most 2^64 and below 2^64.
 pub fn admit(alloc: Global, file: &ElfFile, options: &Options) -> Result<Test, AdmitError>
     requires sound { AreSoundOptions options.now }
     requires fit { AllFitMemory (loads_of file.now) }
     requires apart { AreApart (loads_of file.now) }
-    ensures { MatchResult result (IsAdmittedAs file.now options.now) (IsCauseOf file.now options.now) }
+    ensures exact { MatchResult result (IsAdmittedAs file.now options.now) (IsCauseOf file.now options.now) }
+    ensures ends { IfErr result HasEnds }
 {
     let parts = check_rules(alloc, file, options)?;
     let test = make_test(alloc, file, options, &parts)?;
