@@ -11,8 +11,8 @@ use Rattle.qed_model.specs.Weave.Blocks.{IsBodyAt, StopsAt}
 use Rattle.qed_model.specs.Admission.CodeWords.{is_code, instruction_at}
 use Rattle.qed_model.specs.Admission.Leaders.{IsLeader, is_end}
 use Rattle.qed_model.specs.Admission.Test.{AreCodeWords}
-use Rattle.qed_model.proofs.Among.{Among}
-use Rattle.flow_recovery.proofs.CodeLaws.{at_place, word_code, word_stands}
+use Rattle.qed_model.proofs.Among.{Among, among_of}
+use Rattle.flow_recovery.proofs.CodeLaws.{word_code, word_stands}
 use Rattle.block_list.specs.Bodies.{ends, size_behind, end_behind, body_size, body_end}
 use Rattle.block_list.specs.Listed.{end_of}
 
@@ -63,7 +63,7 @@ module _ (f : ElfFile) where
   pub rest_all : (code : List CodeWord) → AreCodeWords f code → Rest 0 code
   rest_all code words = record {
     ascend = ascending 0 code (first_any code) words.addresses.ascend (λ w m. (word_code f code words w m, word_stands f code words w m));
-    complete = λ a h e. let p = (words.addresses.all a).1 e in at_place (addresses code) a p.0 p.1 p.2;
+    complete = λ a h e. among_of a (addresses code) ((words.addresses.all a).1 e);
   }
 
   -- ---- what stands right behind a word

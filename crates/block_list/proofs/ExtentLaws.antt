@@ -9,7 +9,8 @@ use Rattle.qed_model.specs.Weave.Blocks.{IsBodyAt}
 use Rattle.qed_model.specs.Admission.CodeWords.{is_code}
 use Rattle.qed_model.specs.Admission.Leaders.{IsLeader}
 use Rattle.qed_model.specs.Admission.Test.{AreCodeWords}
-use Rattle.flow_recovery.proofs.CodeLaws.{among_contains, code_word, standing_code}
+use Rattle.qed_model.proofs.Among.{contains_of}
+use Rattle.flow_recovery.proofs.CodeLaws.{code_word, standing_code}
 use Rattle.block_list.specs.declared.block.CodeBlock.{CodeBlock}
 use Rattle.block_list.specs.Bodies.{ends}
 use Rattle.block_list.specs.Built.{IsLong, IsShort, Begun, Built}
@@ -78,6 +79,6 @@ blocks_within f leads exact indirect most code bs words built top small =
       reach : (a : ℕ) → is_code f a ≡ true → a + 4 ≤ top
       reach a e =
           let w = code_word f code words a e in
-          let h = All-contains (λ (c : CodeWord). c.at + 4 ≤ top) code w.word small (among_contains code w.word w.among) in
+          let h = All-contains (λ (c : CodeWord). c.at + 4 ≤ top) code w.word small (contains_of w.word code w.among) in
           let at = w.at in
           omega (arith, h, at)

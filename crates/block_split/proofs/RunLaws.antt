@@ -32,14 +32,14 @@ clean_as_equal class.Load a b i h = ap not (h i.rs1)
 clean_as_equal class.Store a b i h = ap (λ x. not x && not (a i.rs2)) (h i.rs1) ∙ ap (λ x. not (b i.rs1) && not x) (h i.rs2)
 clean_as_equal c a b i h = refl
 
-pub clean_equal : (a b : ℕ → Bool) (i : Ins) → ((r : ℕ) → a r ≡ b r) → is_clean a i ≡ is_clean b i
+clean_equal : (a b : ℕ → Bool) (i : Ins) → ((r : ℕ) → a r ≡ b r) → is_clean a i ≡ is_clean b i
 clean_equal a b i h = clean_as_equal (class_of i.kind) a b i h
 
-pub written_more : (xs : List Ins) (i : Ins) (w v : ℕ → Bool) → ((r : ℕ) → w r ≡ written_by xs r) → ((r : ℕ) → v r ≡ and_written i w r) → (r : ℕ) → v r ≡ written_by (xs ++ i ∷ []) r
+written_more : (xs : List Ins) (i : Ins) (w v : ℕ → Bool) → ((r : ℕ) → w r ≡ written_by xs r) → ((r : ℕ) → v r ≡ and_written i w r) → (r : ℕ) → v r ≡ written_by (xs ++ i ∷ []) r
 written_more xs i w v h k r = k r ∙ ap (λ b. b || is_at (writes i) r) (h r) ∙ sym (written_push (λ q. false) xs i r)
 
 -- one instruction more is a run exactly where it is clean
-pub run_more : (xs : List Ins) (i : Ins) (w : ℕ → Bool) (b : Bool) → ((r : ℕ) → w r ≡ written_by xs r) → is_run xs ≡ true → is_clean w i ≡ b → is_run (xs ++ i ∷ []) ≡ b
+run_more : (xs : List Ins) (i : Ins) (w : ℕ → Bool) (b : Bool) → ((r : ℕ) → w r ≡ written_by xs r) → is_run xs ≡ true → is_clean w i ≡ b → is_run (xs ++ i ∷ []) ≡ b
 run_more xs i w b h run e = run_push (λ q. false) xs i ∙ ap (λ x. x && is_clean (written_by xs) i) run ∙ sym (clean_equal w (written_by xs) i h) ∙ e
 
 -- ---- by places

@@ -1,6 +1,6 @@
 -- The words of the code, and the instructions at its addresses.
-use Rattle.std.proofs.Common.{◌≡◌, inl, inr, ⊎_elim, ℕ, zero, suc, ◌<◌, Bool, true, false, List, [], ◌∷◌, length, map, get_or, Some, None, refl, sym, ap, ◌∙◌, arith}
-use Rattle.std.specs.Prelude.{Contains, if◌then◌else◌}
+use Rattle.std.proofs.Common.{◌≡◌, ℕ, Bool, true, false, List, map, Some, None, refl, sym, ap, ◌∙◌}
+use Rattle.std.specs.Prelude.{if◌then◌else◌}
 use Rattle.std.proofs.lemmas.List.Elements.{All-contains}
 use Rattle.elf_types.specs.declared.file.ElfFile.{ElfFile}
 use Rattle.rv_isa.specs.declared.ins.Ins.{Ins}
@@ -11,17 +11,7 @@ use Rattle.qed_model.specs.Machine.Table.{decode_of}
 use Rattle.qed_model.specs.Admission.CodeWords.{is_code, word_at, instruction_at}
 use Rattle.qed_model.specs.Admission.Test.{IsCodeWord, AreCodeWords}
 use Rattle.qed_model.specs.Admission.Leaders.{HasInstruction}
-use Rattle.qed_model.proofs.Among.{Among, among-map, source_of}
-
--- ---- members by their places
-pub among_contains : {A : Type 0} (xs : List A) (x : A) → Among x xs → Contains xs x
-among_contains [] x m = absurd m
-among_contains (y ∷ ys) x m = ⊎_elim (λ e. (0, omega arith, sym e)) (λ r. let p = among_contains ys x r in (suc p.0, omega (arith, p.1), p.2)) m
-
-pub at_place : {A : Type 0} (xs : List A) (x : A) (k : ℕ) → k < length xs → get_or xs k x ≡ x → Among x xs
-at_place [] x k lt e = absurd (omega (arith, lt))
-at_place (y ∷ ys) x zero lt e = inl (sym e)
-at_place (y ∷ ys) x (suc k) lt e = inr (at_place ys x k (omega (arith, lt)) e)
+use Rattle.qed_model.proofs.Among.{Among, among_of, contains_of, among-map, source_of}
 
 -- ---- where an instruction stands is a code address
 code_of : (f : ElfFile) (a : ℕ) (i : Ins) (b : Bool) → is_code f a ≡ b → (if b then decode_of (word_at f a) else None) ≡ Some i → is_code f a ≡ true
@@ -35,12 +25,12 @@ standing_code f a i h = code_of f a i (is_code f a) refl h
 module _ (f : ElfFile) (code : List CodeWord) (words : AreCodeWords f code) where
   -- a word stands at a code address
   pub word_code : (c : CodeWord) → Among c code → is_code f c.at ≡ true
-  word_code c m = (words.addresses.all c.at).0 (among_contains (map (λ (d : CodeWord). d.at) code) c.at (among-map (λ (d : CodeWord). d.at) c code m))
+  word_code c m = (words.addresses.all c.at).0 (contains_of c.at (map (λ (d : CodeWord). d.at) code) (among-map (λ (d : CodeWord). d.at) c code m))
 
   -- with its instruction
   pub word_stands : (c : CodeWord) → Among c code → instruction_at f c.at ≡ Some c.ins
   word_stands c m =
-      let is = All-contains (IsCodeWord f) code c words.each (among_contains code c m) in
+      let is = All-contains (IsCodeWord f) code c words.each (contains_of c code m) in
       ap (λ b. if b then decode_of (word_at f c.at) else None) (word_code c m) ∙ ap decode_of (sym is.word) ∙ is.instruction
 
   -- at a code address stands a word
@@ -51,8 +41,8 @@ module _ (f : ElfFile) (code : List CodeWord) (words : AreCodeWords f code) wher
 
   pub code_word : (a : ℕ) → is_code f a ≡ true → WordAt a
   code_word a e =
-      let p = (words.addresses.all a).1 e in
-      let s = source_of (λ (d : CodeWord). d.at) code a (at_place (map (λ (d : CodeWord). d.at) code) a p.0 p.1 p.2) in
+      let m = among_of a (map (λ (d : CodeWord). d.at) code) ((words.addresses.all a).1 e) in
+      let s = source_of (λ (d : CodeWord). d.at) code a m in
       record { word = s.source; among = s.among; at = s.is }
 
   -- where an instruction stands, it is that of a word

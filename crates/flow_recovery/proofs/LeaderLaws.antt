@@ -5,6 +5,7 @@ use Rattle.std.specs.List.{list_any}
 use Rattle.std.specs.Ordering.{nat_cmp}
 use Rattle.std.specs.BTreeMap.{is_at}
 use Rattle.std.specs.BTreeSet.{BTreeSet}
+use Rattle.std.proofs.Math.Bool.{or_assoc}
 use Rattle.std.proofs.lemmas.Bool.{eqb-true, eq-eqb, lt-ltb, and_parts, and_from, or_cases, or_left, or_right}
 use Rattle.std.proofs.lemmas.List.Elements.{All-contains}
 use Rattle.elf_types.specs.declared.file.ElfFile.{ElfFile}
@@ -18,17 +19,13 @@ use Rattle.qed_model.specs.Admission.Terms.{is_named, is_relocated, is_named_in}
 use Rattle.qed_model.specs.Admission.Leaders.{has_target, is_end, is_indirect, Begins, Entry, Target, After, Named, IsLeader, HasIndirect}
 use Rattle.qed_model.specs.Admission.CodeWords.{is_code}
 use Rattle.qed_model.specs.Admission.Test.{AreCodeWords}
-use Rattle.qed_model.proofs.Among.{Among, passing, any_passing}
+use Rattle.qed_model.proofs.Among.{Among, contains_of, passing, any_passing}
 use Rattle.flow_recovery.specs.Sets.{holds, Adds}
 use Rattle.flow_recovery.specs.Words.{leads_to, ends_before, begins_by, is_begun}
 use Rattle.flow_recovery.specs.Leaders.{IsCodeOf, AreLeaders}
-use Rattle.flow_recovery.proofs.CodeLaws.{among_contains, word_code, code_word, standing_word, stands_word}
+use Rattle.flow_recovery.proofs.CodeLaws.{word_code, code_word, standing_word, stands_word}
 
 -- ---- what was collected
-or_more : (a b c : Bool) → ((a || b) || c) ≡ (a || (b || c))
-or_more true b c = refl
-or_more false b c = refl
-
 -- one step behind the other, from an empty set on
 pub collected :
     (entry : ℕ) (words : List CodeWord) (symbols : List Symbol) (relas : List Rela) (s t u v w : BTreeSet ℕ)
@@ -42,8 +39,8 @@ collected entry words symbols relas s t u v w empty first begun by_symbols by_re
     let one : holds t a ≡ (entry == a) = first.each a ∙ ap (λ b. b || (entry == a)) none in
     by_relas.each a
     ∙ ap (λ b. b || relocated) (by_symbols.each a ∙ ap (λ b. b || named) (begun.each a ∙ ap (λ b. b || some) one))
-    ∙ or_more ((entry == a) || some) named relocated
-    ∙ or_more (entry == a) some (named || relocated)
+    ∙ or_assoc ((entry == a) || some) named relocated
+    ∙ or_assoc (entry == a) some (named || relocated)
 
 alike : (named : BTreeSet ℕ) (test : ℕ → Bool) → ((a : ℕ) → holds named a ≡ test a) → (a : ℕ) (cs : List CodeWord) → list_any (λ c. (c.at == a) && holds named c.at) cs ≡ list_any (λ c. (c.at == a) && test c.at) cs
 alike named test same a [] = refl
@@ -123,7 +120,7 @@ module _ (f : ElfFile) (entry : ℕ) (code : List CodeWord) (words : AreCodeWord
     kept : (a : ℕ) → IsLeader f a → list_any (keeps a) code ≡ true
     kept a l =
         let w = code_word f code words a l.code in
-        let lt : a < 2 ^ 64 = subst (λ x. x < 2 ^ 64) (sym w.at) (All-contains (λ (c : CodeWord). c.at < 2 ^ 64) code w.word small (among_contains code w.word w.among)) in
+        let lt : a < 2 ^ 64 = subst (λ x. x < 2 ^ 64) (sym w.at) (All-contains (λ (c : CodeWord). c.at < 2 ^ 64) code w.word small (contains_of w.word code w.among)) in
         any_passing (keeps a) w.word code w.among
         (and_from (w.word.at == a) (is_named_by f entry code w.word.at) (eq-eqb w.word.at a (sym w.at)) (ap (is_named_by f entry code) (sym w.at) ∙ named a lt l.begins))
 

@@ -3,6 +3,7 @@ use Rattle.std.proofs.Common.{◌≡◌, ℕ, ◌+◌, ◌<◌, Bool, true, fals
 use Rattle.std.specs.Prelude.{◌||◌}
 use Rattle.std.specs.List.{list_any}
 use Rattle.std.specs.BTreeSet.{BTreeSet}
+use Rattle.std.proofs.Math.Bool.{or_assoc}
 use Rattle.std.proofs.lemmas.List.{take_more}
 use Rattle.std.proofs.lemmas.List.Folds.{list_any-append}
 use Rattle.flow_recovery.specs.Sets.{holds, Adds}
@@ -10,10 +11,6 @@ use Rattle.flow_recovery.specs.Sets.{holds, Adds}
 or_false : (b : Bool) → (b || false) ≡ b
 or_false true = refl
 or_false false = refl
-
-or_more : (a b c : Bool) → ((a || b) || c) ≡ (a || (b || c))
-or_more true b c = refl
-or_more false b c = refl
 
 any_more : {X : Type 0} (p : X → ℕ → Bool) (xs : List X) (k : ℕ) (x : X) (a : ℕ) → k < length xs → x ≡ get_or xs k x → (list_any (λ y. p y a) (take k xs) || p x a) ≡ list_any (λ y. p y a) (take (k + 1) xs)
 any_more p xs k x a lt is =
@@ -27,6 +24,6 @@ adds_more p xs k x s t u lt is h g = record {
   each = λ a.
       g.each a
       ∙ ap (λ b. b || p x a) (h.each a)
-      ∙ or_more (holds s a) (list_any (λ y. p y a) (take k xs)) (p x a)
+      ∙ or_assoc (holds s a) (list_any (λ y. p y a) (take k xs)) (p x a)
       ∙ ap (λ b. holds s a || b) (any_more p xs k x a lt is);
 }

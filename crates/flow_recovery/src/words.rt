@@ -48,6 +48,7 @@ fn add_word(set: &mut BTreeSet<u64>, word: &CodeWord) -> Result<(), AllocError>
     ensures adds { OnOk result (Adds set.old set.new (begins_by word.now)) }
     ensures small { OnOk result (word.now.at < 2 ^ 64) }
 {
+    // A number behind a reference is known to be below 2^64 only where it is read.
     let _at = word.at;
     add_target(set, word)?;
     add_next(set, word)?;

@@ -149,7 +149,7 @@ module _ (f : ElfFile) (read : AreRead (loads_of f)) (shaped : IsShaped f) where
         by true false c d x y z u e = absurd (false≢true y)
         by false b c d x y z u e = absurd (false≢true x)
 
-  pub whole_ranges : (r : ℕ × ℕ) → Among r (ranges_of f) → IsWhole r
+  whole_ranges : (r : ℕ × ℕ) → Among r (ranges_of f) → IsWhole r
   whole_ranges r m = by (section_ranges (loads_of f) f.sections) refl m where
     by : (rs : List (ℕ × ℕ)) → section_ranges (loads_of f) f.sections ≡ rs → Among r (first_some rs (segment_ranges (loads_of f))) → IsWhole r
     by [] e k = whole_segment (ap is_empty e) r (segment_of f.segments r (subst (Among r) (sym (spans-whole f.segments)) k))

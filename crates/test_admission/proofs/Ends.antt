@@ -95,7 +95,7 @@ all_spans [] h = All-nil (λ s. s.end < 2 ^ 64)
 all_spans (s ∷ ss) h = All-cons (λ t. t.end < 2 ^ 64) s ss (h (bounds_of s) (inl refl)) (all_spans ss (λ t m. h t (inr m)))
 
 -- ---- of a file that was admitted
-pub high_small : (f : ElfFile) (o : Options) → IsAdmitted f o → high_of (image_of f) ≤ 2 ^ 63
+high_small : (f : ElfFile) (o : Options) → IsAdmitted f o → high_of (image_of f) ≤ 2 ^ 63
 high_small f o a = let h = a.half in let t = a.top in omega (arith, h, t)
 
 pub ranges_end : (f : ElfFile) (o : Options) (rs : List CodeRange) → IsAdmitted f o → spans rs ≡ ranges_of f → RangesEnd rs

@@ -65,7 +65,7 @@ place_in p q a b c h =
     let i = in_parts (span_of p) q h in
     record { place = (q - p.start) / 4; below = omega (arith, a, b, c, i.0, i.1); is = omega (arith, a, c, i.0) }
 
-pub from_low : (low : ℕ) (ps : List Part) (q : ℕ) → Follow low ps → is_in_any (map span_of ps) q ≡ true → low ≤ q
+from_low : (low : ℕ) (ps : List Part) (q : ℕ) → Follow low ps → is_in_any (map span_of ps) q ≡ true → low ≤ q
 from_low low [] q h e = absurd (false≢true e)
 from_low low (p ∷ ps) q h e =
     ⊎_elim
@@ -183,7 +183,7 @@ module _ (f : ElfFile) (ps : List Part) (code : AreCodeOf f ps) where
     by true e = let p = code_parts a e in h p.0 p.1
     by false e = refl
 
-  pub none_at_fault : (r : CodeRule) → first_among r ps ≡ None → (a : ℕ) → at r a ≡ false
+  none_at_fault : (r : CodeRule) → first_among r ps ≡ None → (a : ℕ) → at r a ≡ false
   none_at_fault r e a = not_at r a (none_found (word_at f) r 0 ps code.follow (all_words f r ps code.read) e a)
 
   record IsLeastFault (r : CodeRule) (a found : ℕ) : Type 0 where

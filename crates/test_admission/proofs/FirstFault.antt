@@ -2,6 +2,7 @@
 use Rattle.std.proofs.Common.{◌≡◌, ⊎_elim, ℕ, zero, suc, ◌+◌, ◌*◌, ◌/◌, ◌<◌, ◌≤◌, true, false, List, [], ◌∷◌, length, Option, Some, None, refl, sym, ap, ◌∙◌, arith}
 use Rattle.std.specs.Prelude.{slice_index, pos}
 use Rattle.std.specs.Option.{option_map, option_or}
+use Rattle.std.proofs.lemmas.List.{get_or_past}
 use Rattle.std.proofs.lemmas.Bool.{cases_lt}
 use Rattle.rv_isa.specs.declared.kind.Kind.TheVariants.{Illegal}
 use Rattle.qed_model.specs.Machine.Table.{ins, ins_of, decode_of}
@@ -23,15 +24,10 @@ zero_passes rule.Registers a = refl
 zero_passes rule.Breakpoint a = refl
 zero_passes (rule.Constant base) a = refl
 
-past : (bs : List ℕ) (k : ℕ) → length bs ≤ k → slice_index bs k ≡ 0
-past [] k h = refl
-past (b ∷ bs) zero h = absurd (omega (arith, h))
-past (b ∷ bs) (suc k) h = past bs k (omega (arith, h))
-
 zero_word : (bs : List ℕ) (k : ℕ) → length bs ≤ k → word_in bs k ≡ 0
-zero_word bs k h = rw (past bs k h, past bs (k + 1) (omega (arith, h)), past bs (k + 2) (omega (arith, h)), past bs (k + 3) (omega (arith, h))) refl
+zero_word bs k h = rw (get_or_past bs k 0 h, get_or_past bs (k + 1) 0 (omega (arith, h)), get_or_past bs (k + 2) 0 (omega (arith, h)), get_or_past bs (k + 3) 0 (omega (arith, h))) refl
 
-pub empty_passes : (r : CodeRule) (p : Part) (k : ℕ) → length p.bytes ≤ 4 * k → faults_at r p k ≡ false
+empty_passes : (r : CodeRule) (p : Part) (k : ℕ) → length p.bytes ≤ 4 * k → faults_at r p k ≡ false
 empty_passes r p k h = ap (is_at_fault r (p.start + 4 * k)) (zero_word p.bytes (4 * k) h) ∙ ap (faults r (p.start + 4 * k)) zero_decoded ∙ zero_passes r (p.start + 4 * k)
 
 -- ---- what a loop over the words finds

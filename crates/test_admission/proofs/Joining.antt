@@ -3,6 +3,7 @@ use Rattle.std.proofs.Common.{◌≡◌, ℕ, zero, suc, ◌+◌, ◌<◌, ◌�
 use Rattle.std.specs.Prelude.{nat_lt, nat_le, All, AllPairs}
 use Rattle.std.specs.List.{list_any}
 use Rattle.std.specs.List.Sorted.{IsPermutation, IsNonDecreasingBy}
+use Rattle.std.proofs.Math.Bool.{or_assoc}
 use Rattle.std.proofs.lemmas.Bool.{leb-true, leb-false}
 use Rattle.std.proofs.lemmas.Bool.Decides.{nat_tests}
 use Rattle.std.proofs.lemmas.List.Elements.{All-nil, All-cons, All-head, All-tail}
@@ -29,10 +30,6 @@ spaced-glue low r (t ∷ ts) l s h =
       | true ↦ λ e. spaced-glue low (r.0, max r.1 t.1) ts l (omega (arith, s)) (starts_lower t.0 r.0 ts h.0 h.2)
       | false ↦ λ e. let lt = leb-false t.0 r.1 e in (l, s, spaced-glue (r.1 + 1) t ts (omega (arith, lt)) h.1 h.2)
     ] refl
-
-or_assoc : (a b c : Bool) → ((a || b) || c) ≡ (a || (b || c))
-or_assoc true b c = refl
-or_assoc false b c = refl
 
 one_range_of : (a b c d q : ℕ) → a < b → c < d → a ≤ c → c ≤ b → (nat_le a q && nat_lt q (max b d)) ≡ ((nat_le a q && nat_lt q b) || (nat_le c q && nat_lt q d))
 one_range_of a b c d q x y u v = grind (arith, nat_tests)
@@ -62,7 +59,7 @@ any_bounds : (q : ℕ) (ss : List Span) → is_in_any (all_bounds ss) q ≡ list
 any_bounds q [] = refl
 any_bounds q (s ∷ ss) = ap (λ b. is_in (bounds_of s) q || b) (any_bounds q ss)
 
-pub some_bounds : (ss : List Span) → HaveSome ss → AllSome (all_bounds ss)
+some_bounds : (ss : List Span) → HaveSome ss → AllSome (all_bounds ss)
 some_bounds [] h = tt
 some_bounds (s ∷ ss) h = (All-head (λ t. t.start < t.end) s ss h, some_bounds ss (All-tail (λ t. t.start < t.end) s ss h))
 

@@ -1,7 +1,7 @@
 -- The words of the code of a file are at its code addresses, in ascending order.
 use Rattle.std.proofs.Common.{◌≡◌, inl, inr, ⊎_elim, ℕ, zero, suc, ◌+◌, ◌-◌, ◌*◌, ◌/◌, ◌%◌, ◌^◌, ◌<◌, ◌≤◌, Bool, true, false, ◌||◌, List, [], ◌∷◌, ◌++◌, length, get_or, drop, None, Some, refl, sym, ap, ◌∙◌, subst, arith, append_assoc, add-one, drop-cons}
 use Rattle.std.specs.Prelude.{map, ◌==◌, All, AllPairs, Contains}
-use Rattle.std.proofs.lemmas.Bool.{and_parts, and_from, eqb-true, eq-eqb, or_cases, false≢true, cases_lt}
+use Rattle.std.proofs.lemmas.Bool.{and_parts, and_from, eqb-true, eq-eqb, or_cases, or_left, or_right, false≢true, cases_lt}
 use Rattle.std.proofs.lemmas.List.{length-append}
 use Rattle.std.proofs.lemmas.List.Elements.{All-nil, All-cons, All-head, All-tail, All-push, All-append}
 use Rattle.elf_types.specs.declared.file.ElfFile.{ElfFile}
@@ -13,7 +13,7 @@ use Rattle.qed_model.specs.Admission.DataRanges.{is_in, is_in_any}
 use Rattle.qed_model.specs.Admission.CodeWords.{loads_of, ranges_of, word_at, AreCodeAddresses}
 use Rattle.qed_model.specs.Admission.Refusals.{IsRefusedBy}
 use Rattle.qed_model.specs.Admission.Test.{IsCodeWord, AreCodeWords}
-use Rattle.qed_model.proofs.Among.{Among, among-left, among-right, among-either}
+use Rattle.qed_model.proofs.Among.{Among, among_of, contains_of, among-left, among-right, among-either}
 use Rattle.qed_model.proofs.DataRangesLaws.{in_parts, in_from}
 use Rattle.qed_model.proofs.OneRefusal.{addresses_only}
 use Rattle.test_admission.specs.declared.rules.CodeRule.TheVariants as rule
@@ -23,7 +23,6 @@ use Rattle.test_admission.specs.Stretches.{Part, part_of, parts_of, span_of, Rea
 use Rattle.test_admission.specs.Faults.{word_of, first_among}
 use Rattle.test_admission.specs.Words.{words_from, words_in, words_among, word_total, pair_of, pairs_of, IsDecoded}
 use Rattle.test_admission.proofs.OrderLaws.{passes_code_words, refused}
-use Rattle.test_admission.proofs.Reading.{among_contains}
 use Rattle.test_admission.proofs.FirstFault.{none_split}
 use Rattle.test_admission.proofs.Faulting.{part_word}
 
@@ -35,7 +34,7 @@ length-words_from : (p : Part) (k n : ℕ) → length (words_from p k n) ≡ n
 length-words_from p k zero = refl
 length-words_from p k (suc n) = let h = length-words_from p (k + 1) n in omega (arith, h)
 
-pub length-words_among : (ps : List Part) → length (words_among ps) ≡ word_total ps
+length-words_among : (ps : List Part) → length (words_among ps) ≡ word_total ps
 length-words_among [] = refl
 length-words_among (p ∷ ps) = let h = length-words_from p 0 (p.size / 4) in let r = length-words_among ps in let a = length-append (words_in p) (words_among ps) in omega (arith, a, h, r)
 
@@ -103,14 +102,6 @@ firsts-append : (xs ys : List (ℕ × ℕ)) → firsts (xs ++ ys) ≡ firsts xs 
 firsts-append [] ys = refl
 firsts-append (x ∷ xs) ys = ap (λ zs. x.0 ∷ zs) (firsts-append xs ys)
 
-or_first : (x y : Bool) → x ≡ true → (x || y) ≡ true
-or_first true y e = refl
-or_first false y e = absurd (false≢true e)
-
-or_second : (x y : Bool) → y ≡ true → (x || y) ≡ true
-or_second true y e = refl
-or_second false y e = e
-
 listed_in : (low a : ℕ) (ps : List Part) → Follow low ps → Among a (firsts (words_among ps)) → (a % 4 ≡ 0) × (is_in_any (map span_of ps) a ≡ true)
 listed_in low a [] h m = absurd m
 listed_in low a (p ∷ ps) h m =
@@ -120,8 +111,8 @@ listed_in low a (p ∷ ps) h m =
     let e = w.is in
     let b = w.below in
     let s = h.2 in
-    (omega (arith, e, s), or_first (is_in (span_of p) a) (is_in_any (map span_of ps) a) (in_from (span_of p) a (omega (arith, e)) (omega (arith, e, b)))))
-    (λ x. let r = listed_in (p.start + p.size) a ps h.5 x in (r.0, or_second (is_in (span_of p) a) (is_in_any (map span_of ps) a) r.1))
+    (omega (arith, e, s), or_left (is_in (span_of p) a) (is_in_any (map span_of ps) a) (in_from (span_of p) a (omega (arith, e)) (omega (arith, e, b)))))
+    (λ x. let r = listed_in (p.start + p.size) a ps h.5 x in (r.0, or_right (is_in (span_of p) a) (is_in_any (map span_of ps) a) r.1))
     (among-either a (firsts (words_in p)) (firsts (words_among ps)) (subst (Among a) (firsts-append (words_in p) (words_among ps)) m))
 
 in_listed : (low a : ℕ) (ps : List Part) → Follow low ps → a % 4 ≡ 0 → is_in_any (map span_of ps) a ≡ true → Among a (firsts (words_among ps))
@@ -138,17 +129,13 @@ in_listed low a (p ∷ ps) h c m =
     (λ x. among-right a (firsts (words_in p)) (firsts (words_among ps)) (in_listed (p.start + p.size) a ps h.5 c x))
     (or_cases (is_in (span_of p) a) (is_in_any (map span_of ps) a) m))
 
-contains_among : (xs : List ℕ) (a : ℕ) → Among a xs → Contains xs a
-contains_among [] a m = absurd m
-contains_among (x ∷ xs) a m = ⊎_elim (λ e. (0, omega arith, sym e)) (λ r. let c = contains_among xs a r in let l = c.1 in (suc c.0, omega (arith, l), c.2)) m
-
 -- ---- so they are the code addresses
-pub are_addresses : (f : ElfFile) (ps : List Part) → AreCodeOf f ps → AreCodeAddresses f (firsts (words_among ps))
+are_addresses : (f : ElfFile) (ps : List Part) → AreCodeOf f ps → AreCodeAddresses f (firsts (words_among ps))
 are_addresses f ps code = record {
   ascend = ascend 0 (words_among ps) (rising-words_among 0 ps code.follow);
   all = λ a. (
-    (λ c. let p = listed_in 0 a ps code.follow (among_contains (firsts (words_among ps)) a c) in and_from (a % 4 == 0) (is_in_any (ranges_of f) a) (eq-eqb (a % 4) 0 p.0) (sym (code.same a) ∙ p.1)),
-    (λ e. let p = and_parts (a % 4 == 0) (is_in_any (ranges_of f) a) e in contains_among (firsts (words_among ps)) a (in_listed 0 a ps code.follow (eqb-true (a % 4) 0 p.0) (code.same a ∙ p.1))),
+    (λ c. let p = listed_in 0 a ps code.follow (among_of a (firsts (words_among ps)) c) in and_from (a % 4 == 0) (is_in_any (ranges_of f) a) (eq-eqb (a % 4) 0 p.0) (sym (code.same a) ∙ p.1)),
+    (λ e. let p = and_parts (a % 4 == 0) (is_in_any (ranges_of f) a) e in contains_of a (firsts (words_among ps)) (in_listed 0 a ps code.follow (eqb-true (a % 4) 0 p.0) (code.same a ∙ p.1))),
   );
 }
 

@@ -1,6 +1,7 @@
 -- The bytes of a segment are those of the image.
 use Rattle.std.proofs.Common.{◌≡◌, inl, inr, ⊎_elim, ℕ, zero, suc, ◌+◌, ◌-◌, ◌<◌, ◌≤◌, min, true, List, [], ◌∷◌, length, get_or, refl, sym, ap, ◌∙◌, arith, get_or-drop}
 use Rattle.std.specs.Prelude.{slice_index, Contains}
+use Rattle.std.proofs.lemmas.List.{get_or_past}
 use Rattle.std.proofs.lemmas.Bool.{and_parts, leb-true, cases_lt}
 use Rattle.elf_types.specs.declared.file.Segment.{Segment}
 use Rattle.elf_types.specs.declared.file.Section.{Section}
@@ -8,40 +9,26 @@ use Rattle.qed_model.specs.Machine.Memory.{byte_in}
 use Rattle.qed_model.specs.Machine.Program.{LoadSegment}
 use Rattle.qed_model.specs.Machine.Loading.{load_segment, load_segments, lies_in_code}
 use Rattle.qed_model.specs.Machine.Cells.{has, cell_at, byte_among}
-use Rattle.qed_model.proofs.Among.{Among, place_of}
+use Rattle.qed_model.proofs.Among.{Among, among_of, place_of}
 use Rattle.qed_model.proofs.CellsAmong.{has_from, among_agreed}
 use Rattle.qed_model.proofs.ImageLaws.{among_load}
 use Rattle.test_admission.specs.Read.{AreRead}
 use Rattle.test_admission.specs.Stretches.{Reads, rest_of}
 
--- a member by its place is one
-among_at : {A : Type 0} (xs : List A) (x : A) (k : ℕ) → k < length xs → get_or xs k x ≡ x → Among x xs
-among_at [] x k lt e = absurd (omega (arith, lt))
-among_at (y ∷ xs) x zero lt e = inl (sym e)
-among_at (y ∷ xs) x (suc k) lt e = inr (among_at xs x k (omega (arith, lt)) e)
-
-pub among_contains : {A : Type 0} (xs : List A) (x : A) → Contains xs x → Among x xs
-among_contains xs x c = among_at xs x c.0 c.1 c.2
-
 -- one segment alone has an address
 pub alone : (ls : List LoadSegment) → AreRead ls → (l m : LoadSegment) (q : ℕ) → Among l ls → Among m ls → has l q ≡ true → has m q ≡ true → l ≡ m
 alone ls r l m q a b h g = let x = place_of l ls a in let y = place_of m ls b in r.alone x.place y.place l m q x.stands y.stands h g
 
-pub byte_read : (ls : List LoadSegment) → AreRead ls → (l : LoadSegment) (q : ℕ) → Among l ls → has l q ≡ true → byte_among ls q ≡ slice_index l.bytes (q - l.address)
+byte_read : (ls : List LoadSegment) → AreRead ls → (l : LoadSegment) (q : ℕ) → Among l ls → has l q ≡ true → byte_among ls q ≡ slice_index l.bytes (q - l.address)
 byte_read ls r l q m h = ap byte_in (among_agreed ls q (cell_at l q) (λ t k g. ap (λ x. cell_at x q) (alone ls r t l q k m g h)) l m h)
 
 -- ---- bytes from one of them on
-past : (bs : List ℕ) (k : ℕ) → length bs ≤ k → slice_index bs k ≡ 0
-past [] k h = refl
-past (b ∷ bs) zero h = absurd (omega (arith, h))
-past (b ∷ bs) (suc k) h = past bs k (omega (arith, h))
-
 pub index-rest_of : (n : ℕ) (bs : List ℕ) (k : ℕ) → slice_index (rest_of n bs) k ≡ slice_index bs (n + k)
 index-rest_of n bs k =
     get_or-drop (min n (length bs)) bs k 0
     ∙ ⊎_elim
     (λ lt. let e : min n (length bs) ≡ n = omega (arith, lt) in ap (λ m. slice_index bs (m + k)) e)
-    (λ le. let e : min n (length bs) ≡ length bs = omega (arith, le) in past bs (min n (length bs) + k) (omega (arith, e)) ∙ sym (past bs (n + k) (omega (arith, le))))
+    (λ le. let e : min n (length bs) ≡ length bs = omega (arith, le) in get_or_past bs (min n (length bs) + k) 0 (omega (arith, e)) ∙ sym (get_or_past bs (n + k) 0 (omega (arith, le))))
     (cases_lt n (length bs))
 
 -- ---- a part of a segment
@@ -58,4 +45,4 @@ pub reads_section : (ss : List Segment) → AreRead (load_segments ss) → (s : 
 reads_section ss r s t c k h =
     let p = and_parts _ _ h in
     let q = and_parts _ _ p.1 in
-    reads_of ss r s t.address t.size (among_contains ss s c) k (leb-true s.address t.address q.0) (leb-true (t.address + t.size) (s.address + s.memory) q.1)
+    reads_of ss r s t.address t.size (among_of s ss c) k (leb-true s.address t.address q.0) (leb-true (t.address + t.size) (s.address + s.memory) q.1)
