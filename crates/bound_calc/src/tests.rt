@@ -48,6 +48,23 @@ fn known_bounds(rt: HostRuntime) {
         ..PLAIN
     };
     let too_many_words = with_data(u64::MAX, u64::MAX, u64::MAX);
+    // The bounds of a word are 2^64 - 1 and 2^64 steps.
+    let highest = Shape {
+        sweep: true,
+        inst_max: 1_229_782_938_247_303_409,
+        ..with_data(9, 1, 9)
+    };
+    let too_high = Shape {
+        sweep: true,
+        inst_max: 1_229_782_938_247_303_404,
+        ..with_data(11, 1, 11)
+    };
+    let highest_told = told(
+        6_148_914_691_236_517_165,
+        12_297_829_382_473_034_450,
+        Some(u64::MAX),
+        120,
+    );
     let rows = [
         (PLAIN, told(120, 272, None, 32)),
         (with_data(1, 1, 1), told(120, 272, Some(392), 32)),
@@ -58,6 +75,8 @@ fn known_bounds(rt: HostRuntime) {
         (swept_data, told(120, 296, Some(416), 56)),
         (diverse, told(168, 368, None, 32)),
         (too_many_words, None),
+        (highest, highest_told),
+        (too_high, None),
     ];
     for (shape, wanted) in rows {
         assert!(rt; shape.round >= 1);
