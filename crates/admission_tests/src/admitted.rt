@@ -1,10 +1,14 @@
 //! Bytes that are read and then admitted.
 ghost use Rattle.qed_model.specs.Weave.Places.{AreSoundOptions};
 
+use block_list::{Blocks, blocks};
+use code_ranges::{CodeRange, code_ranges};
 use elf_read::read_elf;
 use elf_types::ElfError;
+use flow_recovery::{has_indirect, leaders};
 use qed_model::{AdmitError, Options, Test};
-use std::alloc::Global;
+use std::alloc::{AllocError, Global};
+use std::collections::BTreeSet;
 use test_admission::admit;
 use thiserror::Error;
 
@@ -47,7 +51,7 @@ pub(crate) fn admit_half(
 }
 
 /// The test that bytes are, with these options.
-pub(crate) fn admit_bytes(alloc: Global, bytes: &[u8], options: &Options) -> Result<Test, TestError>
+fn admit_bytes(alloc: Global, bytes: &[u8], options: &Options) -> Result<Test, TestError>
     requires { AreSoundOptions options.now }
 {
     let file = match read_elf(alloc, bytes) {
@@ -58,4 +62,37 @@ pub(crate) fn admit_bytes(alloc: Global, bytes: &[u8], options: &Options) -> Res
         Ok(test) => Ok(test),
         Err(error) => Err(TestError::Admit(error)),
     }
+}
+
+/// The code ranges of a test, whether it has a JALR, its leaders and its blocks.
+#[derive(Debug, Drop)]
+pub(crate) struct Flow {
+    pub code: Vec<CodeRange>,
+    pub indirect: bool,
+    pub leaders: BTreeSet<u64>,
+    pub blocks: Blocks,
+}
+
+/// The flow of the test that bytes are with these options, None where they are none.
+pub(crate) fn recover(
+    alloc: Global,
+    bytes: &[u8],
+    options: &Options,
+) -> Result<Option<Flow>, AllocError>
+    requires { AreSoundOptions options.now }
+{
+    let Ok(file) = read_elf(alloc, bytes) else {
+        return Ok(None);
+    };
+    let Ok(test) = admit(alloc, &file, options) else {
+        return Ok(None);
+    };
+    let leaders = leaders(alloc, &test, &file)?;
+    let blocks = blocks(alloc, &test, &file, options)?;
+    Ok(Some(Flow {
+        code: code_ranges(alloc, &file)?,
+        indirect: has_indirect(&test),
+        leaders,
+        blocks,
+    }))
 }

@@ -1,7 +1,7 @@
 //! A file on each side of the edge of each rule, and pairs of rules in their order.
 
 use crate::admitted::{TestError, admit_half};
-use crate::files::{File, Load, Part, file_bytes};
+use crate::files::{EMPTY, File, Load, Part, file_bytes};
 use qed_model::{AdmitError, Test};
 use std::alloc::Global;
 use std::process::Abort;
@@ -37,6 +37,7 @@ impl Case {
             flags: self.flags,
             loads: self.loads,
             parts: self.parts,
+            ..EMPTY
         }
     }
 }
@@ -422,7 +423,7 @@ const CODE: [Case; 19] = [
 ];
 
 /// Data, places and limits.
-const LIMITS: [Case; 19] = [
+const LIMITS: [Case; 20] = [
     Case {
         what: "code and data in one word",
         loads: &[
@@ -508,6 +509,17 @@ const LIMITS: [Case; 19] = [
         ],
         half: Some(4096),
         want: Want::Refused(AdmitError::OutsideHalf(0x11001, 0x11000)),
+        ..BASE
+    },
+    Case {
+        what: "a half that is too small, and an end at 2^64",
+        entry: 0xffff_ffff_fffe_0000,
+        loads: &[
+            Load(1, 5, 0xfffffffffffe0000, 4, &[ECALL]),
+            Load(1, 6, 0xfffffffffffffff8, 8, &[1, 0]),
+        ],
+        half: Some(4096),
+        want: Want::Refused(AdmitError::OutsideHalf(1 << 64, 0xffff_ffff_fffe_1000)),
         ..BASE
     },
     Case {

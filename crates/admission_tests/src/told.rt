@@ -1,7 +1,7 @@
 //! What is told of tests: their code, data and places.
 
 use crate::admitted::{TestError, admit_half};
-use crate::files::{File, Load, Part, file_bytes};
+use crate::files::{EMPTY, File, Load, Part, file_bytes};
 use qed_model::{Range, Test};
 use std::alloc::{AllocError, Global};
 use std::test::Fail;
@@ -55,9 +55,8 @@ const CASES: [Case; 8] = [
         what: "two sums",
         file: File {
             entry: 0x10004,
-            flags: 0,
             loads: &[Load(1, 5, 0x10000, 12, TWO_SUMS)],
-            parts: &[],
+            ..EMPTY
         },
         half: None,
         told: Told {
@@ -79,9 +78,8 @@ const CASES: [Case; 8] = [
         what: "zeros behind the bytes of the file, and an empty segment",
         file: File {
             entry: 0x10ff8,
-            flags: 0,
             loads: &[Load(1, 6, 0x40, 0, &[]), Load(1, 5, 0x10ff8, 12, &[ECALL])],
-            parts: &[],
+            ..EMPTY
         },
         half: Some(0x20000),
         told: Told {
@@ -99,13 +97,13 @@ const CASES: [Case; 8] = [
         what: "sections that overlap, out of order",
         file: File {
             entry: 0x10008,
-            flags: 0,
             loads: &[Load(1, 5, 0x10000, 16, &[1, ECALL, LOOP, ECALL])],
             parts: &[
                 Part(6, 0x10008, 8),
                 Part(6, 0x10004, 8),
                 Part(6, 0x10008, 4),
             ],
+            ..EMPTY
         },
         half: None,
         told: Told {
@@ -123,12 +121,11 @@ const CASES: [Case; 8] = [
         what: "segments out of order",
         file: File {
             entry: 0x10000,
-            flags: 0,
             loads: &[
                 Load(1, 5, 0x10008, 8, &[LOOP, ECALL]),
                 Load(1, 1, 0x10000, 8, &[ECALL, LOOP]),
             ],
-            parts: &[],
+            ..EMPTY
         },
         half: None,
         told: Told {
@@ -151,14 +148,13 @@ const CASES: [Case; 8] = [
         what: "data segments that touch",
         file: File {
             entry: 0x10000,
-            flags: 0,
             loads: &[
                 Load(1, 5, 0x10000, 4, &[LOOP]),
                 Load(1, 6, 0x20000, 8, &[1, 0]),
                 Load(1, 4, 0x20008, 8, &[1, 0]),
                 Load(1, 6, 0x20013, 9, &[1]),
             ],
-            parts: &[],
+            ..EMPTY
         },
         half: None,
         told: Told {
@@ -176,12 +172,11 @@ const CASES: [Case; 8] = [
         what: "data from an odd address on",
         file: File {
             entry: 0x10000,
-            flags: 0,
             loads: &[
                 Load(1, 5, 0x10000, 4, &[LOOP]),
                 Load(1, 6, 0x20003, 30, &[0x0707]),
             ],
-            parts: &[],
+            ..EMPTY
         },
         half: None,
         told: Told {
@@ -199,14 +194,13 @@ const CASES: [Case; 8] = [
         what: "a read-only segment between two writable ones, out of order",
         file: File {
             entry: 0x10000,
-            flags: 0,
             loads: &[
                 Load(1, 6, 0x20020, 8, &[1, 0]),
                 Load(1, 5, 0x10000, 4, &[LOOP]),
                 Load(1, 4, 0x20010, 8, &[2, 0]),
                 Load(1, 6, 0x20000, 8, &[3, 0]),
             ],
-            parts: &[],
+            ..EMPTY
         },
         half: None,
         told: Told {
@@ -224,13 +218,13 @@ const CASES: [Case; 8] = [
         what: "as a linker leaves it",
         file: File {
             entry: 0x8000_0000,
-            flags: 0,
             loads: &[
                 Load(4, 4, 0, 0, &[]),
                 Load(1, 5, 0x8000_0000, 40, LINKED),
                 Load(1, 6, 0x8000_2000, 16, &[0x5566_7788, 0x1122_3344]),
             ],
             parts: &[Part(6, 0x8000_0000, 24), Part(2, 0x8000_0020, 8)],
+            ..EMPTY
         },
         half: None,
         told: Told {
