@@ -127,7 +127,13 @@ fn push_tables(bytes: &mut Vec<u8>, file: &File<'_>, offset: u64) -> Result<(), 
     let relas = size_of(file.relas.len(), 24);
     push_section(bytes, 2, &[0, 0, offset, symbols], number + 2, 24)?;
     push_section(bytes, 3, &[0, 0, names, 1], 0, 0)?;
-    push_section(bytes, 4, &[0, 0, names.wrapping_add(1), relas], number + 1, 24)
+    push_section(
+        bytes,
+        4,
+        &[0, 0, names.wrapping_add(1), relas],
+        number + 1,
+        24,
+    )
 }
 
 /// The null symbol and the others, their names, and the relocations.

@@ -181,7 +181,10 @@ fn compare_code<R: Abort>(rt: &R, ranges: &[CodeRange], case: &Case) {
         assert!(rt; is_code_address(ranges, *leader), "{what}");
         assert!(rt; !is_code_address(ranges, leader.wrapping_add(2)), "{what}");
     }
-    assert!(rt; !is_code_address(ranges, start.wrapping_add(size)), "{what}");
+    assert!(rt;
+        !is_code_address(ranges, start.wrapping_add(size)),
+        "{what}"
+    );
 }
 
 #[test]
