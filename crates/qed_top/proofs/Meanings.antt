@@ -1,5 +1,5 @@
 -- From what was read and made to what is meant.
-use Rattle.std.proofs.Common.{◌≡◌, ◌≢◌, ◌⊎◌, ◌≤◌, ◌<◌, ◌+◌, ℕ, List, [], length, Option, None, Some, IfSome, inl, inr, refl, ap, sym, ◌∙◌, subst, arith}
+use Rattle.std.proofs.Common.{◌≡◌, ◌≤◌, ◌<◌, ◌+◌, ℕ, List, [], length, Option, None, Some, IfSome, refl, ap, sym, ◌∙◌, subst, arith}
 use Rattle.std.specs.Prelude.{MatchOption, replicate, unwrap_or, cond}
 use Rattle.std.specs.Cmp.{eq_by_cmp_equiv}
 use Rattle.std.specs.Cmp.Lexicographic.{nat_list_cmp_total}
@@ -7,23 +7,14 @@ use Rattle.std.specs.FinMap.{empty, get, insert, get-insert}
 use Rattle.std.proofs.lemmas.List.{length-replicate}
 use Rattle.qed_io.specs.Files.{Files, file_bytes}
 use Rattle.elf_types.specs.declared.file.ElfFile.{ElfFile}
-use Rattle.elf_types.specs.declared.error.ElfError.{ElfError}
-use Rattle.elf_types.specs.declared.error.ElfError.TheVariants as error
-use Rattle.qed_model.specs.declared.plan.Plan.{Plan}
-use Rattle.transform.specs.declared.error.TransformError.{TransformError}
-use Rattle.transform.specs.declared.error.TransformError.TheVariants as transform
-use Rattle.qed_model.specs.Elf.File.{IsReadAs}
-use Rattle.qed_model.specs.Elf.Refusals.{IsRefused}
 use Rattle.qed_model.specs.Text.Plan.{read_fault_line, usage_line}
-use Rattle.qed_model.specs.Text.Errors.{error_line}
 use Rattle.qed_model.specs.Text.Run.{run_lines}
 use Rattle.qed_model.specs.Machine.Program.{start, zeros}
 use Rattle.qed_model.specs.Machine.Loading.{loaded_file}
 use Rattle.qed_model.specs.Machine.Progress.{Progress, progress, begun}
 use Rattle.qed_model.specs.declared.machine.Outcome.{Outcome}
 use Rattle.qed_top.specs.Words.{Asked, asked}
-use Rattle.transform.specs.Transform as Made
-use Rattle.qed_top.specs.Answer.{PrintsOnly, Delivers, Transforms, refused, done, refusal_status, refusal_line, Runs, unread, too_large, ran, CallsFor, read_fault, too_long, within, CommandCallsFor, WordsCallFor, error_status, memory_bytes, memory_limit, default_steps, outcome_status, run_of}
+use Rattle.qed_top.specs.Answer.{PrintsOnly, CallsFor, read_fault, too_long, within, CommandCallsFor, WordsCallFor, memory_bytes, memory_limit, default_steps, outcome_status, run_of}
 use Rattle.qed_top.specs.Run.{FileRuns}
 use Rattle.qed_top.specs.Run as run
 use Rattle.qed_top.specs.Ends.{OverFiles}
