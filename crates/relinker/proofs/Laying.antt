@@ -17,7 +17,7 @@ use Rattle.relinker.specs.declared.error.LinkError.TheVariants as error
 use Rattle.relinker.specs.declared.layout.Layout.{Layout}
 use Rattle.relinker.specs.Counted.{HasCounted}
 use Rattle.relinker.specs.Joined.{Join}
-use Rattle.relinker.specs.Laid.{IsLaid, IsLinked, HasCause, HasLinkCause}
+use Rattle.relinker.specs.Laid.{IsLaid, IsLaidIn, IsLinked, HasCause, HasLinkCause}
 use Rattle.relinker.specs.Link.{is_low, is_encoded, AreWords, leads_to, moved, Ascend, IsLinkable, most_bytes}
 use Rattle.relinker.specs.Sink.{ComeNext}
 use Rattle.relinker.proofs.Joining.{parts_join}
@@ -42,18 +42,18 @@ sizes : (far : Bool) (done items rest : List Item) → sum_of_sizes far (done ++
 sizes far done items rest = (parts_join far (λ a. a) 0 done (items ++ rest)).bytes ∙ ap (λ n. sum_of_sizes far done + n) (parts_join far (λ a. a) 0 items rest).bytes
 
 -- what a layout asks of the items that it takes
-pub record Takes (layout : Layout) (items : List Item) : Type 0 where
+pub record Asks (layout : Layout) (items : List Item) : Type 0 where
   pub ascend : Ascend layout.entries.items
   pub low : layout.at + sum_of_sizes layout.far items < 2 ^ 63
   pub encoded : list_all is_encoded (instructions_from layout.far (leads_to layout.entries.items layout.last) layout.at items) ≡ true
   pub room : 4 * vec_len layout.words + sum_of_sizes layout.far items ≤ 4 * vec_capacity layout.words
   pub small : AreWords layout.words.items
 
-pub takes : (layout : Layout) (items : List Item) → ComeNext (IsLaid layout) items → Takes layout items
-takes layout items n =
-    let done = n.0 in
-    let rest = n.1 in
-    let l : IsLaid layout done (items ++ rest) = n.2 in
+pub asks : (layout : Layout) (items : List Item) → ComeNext (IsLaidIn layout) items → Asks layout items
+asks layout items n =
+    let done = n.1 in
+    let rest = n.2 in
+    let l : IsLaid layout done (items ++ rest) = n.3.2 in
     let s = sizes layout.far done items rest in
     record {
       ascend = l.ascend;

@@ -27,6 +27,10 @@ pub record IsLaid (layout : Layout) (done rest : List Item) : Type 0 where
   pub len : 4 * vec_len layout.words ≡ sum_of_sizes layout.far done
   pub room : sum_of_sizes layout.far (done ++ rest) + 4 ≤ 4 * vec_capacity layout.words
 
+-- the same of code that is near or far, and begins at an address
+abbrev pub IsLaidIn : Layout → Bool × ℕ → List Item → List Item → Type 0
+IsLaidIn layout form done rest = (layout.far ≡ form.0) × (layout.base ≡ form.1) × IsLaid layout done rest
+
 -- the words decode to the items in their places, with the stub behind them, and the entries are the places of the marks
 pub record IsLinked (far : Bool) (base : ℕ) (items : List Item) (linked : Linked) : Type 0 where
   pub decode : Decode linked.words.items (placed far base (items ++ stub))

@@ -93,7 +93,10 @@ impl Count {
 }
 
 impl ItemSink for Count {
-    ghost took = { λ count done rest. HasCounted count done };
+    ghost use Rattle.std.specs.Prelude.{◌≡◌};
+    ghost use Rattle.relinker.specs.Counted.{HasCounted};
+
+    ghost took = { λ count form done rest. (count.far ≡ form.0) × HasCounted count done };
 
     fn take(&mut self, items: &Emit) -> Result<(), AllocError> {
         self.add(items)

@@ -3,9 +3,9 @@ ghost use Rattle.std.specs.Prelude.{◌≡◌, ◌+◌, ◌^◌, ◌<◌, ◌≤
 ghost use Rattle.std.specs.List.{list_all};
 ghost use Rattle.qed_model.specs.declared.item.Item.{Item};
 ghost use Rattle.relinker.specs.Counted.{HasCounted};
-ghost use Rattle.relinker.specs.Laid.{IsLaid, IsLinked, HasCause, HasLinkCause};
+ghost use Rattle.relinker.specs.Laid.{IsLaid, IsLaidIn, IsLinked, HasCause, HasLinkCause};
 ghost use Rattle.relinker.specs.Link.{is_low, moved, IsLinkable, most_bytes};
-ghost use Rattle.relinker.specs.Sink.{ComeNext};
+ghost use Rattle.relinker.specs.Sink.{ComeNext, Takes};
 
 use crate::ItemSink;
 use crate::count::Count;
@@ -96,19 +96,15 @@ pub fn lay(alloc: Global, count: Count, base: u64) -> Result<Layout, LinkError>
 impl Layout {
     /// Appends the words of items, which are the next that were counted. It takes no memory.
     pub fn add(&mut self, items: &Emit)
-        requires { ComeNext (IsLaid self.old) items.now }
-        ensures form { self.new.far ≡ self.old.far }
-        ensures base { self.new.base ≡ self.old.base }
-        ensures more { (done rest : List Item) → IsLaid self.old done (items.now ++ rest) → IsLaid self.new (done ++ items.now) rest }
+        requires { ComeNext (IsLaidIn self.old) items.now }
+        ensures { Takes (IsLaidIn self.old) (IsLaidIn self.new) items.now }
     {
         self.add_all(items.items());
     }
 
     fn add_all(&mut self, items: &[Item])
-        requires { ComeNext (IsLaid self.old) items.now }
-        ensures form { self.new.far ≡ self.old.far }
-        ensures base { self.new.base ≡ self.old.base }
-        ensures more { (done rest : List Item) → IsLaid self.old done (items.now ++ rest) → IsLaid self.new (done ++ items.now) rest }
+        requires { ComeNext (IsLaidIn self.old) items.now }
+        ensures { Takes (IsLaidIn self.old) (IsLaidIn self.new) items.now }
     {
         self.at = put_items(
             &mut self.words,
@@ -134,7 +130,9 @@ impl Layout {
 }
 
 impl ItemSink for Layout {
-    ghost took = { λ layout done rest. IsLaid layout done rest };
+    ghost use Rattle.relinker.specs.Laid.{IsLaidIn};
+
+    ghost took = { λ layout form done rest. IsLaidIn layout form done rest };
 
     fn take(&mut self, items: &Emit) -> Result<(), AllocError> {
         self.add(items);

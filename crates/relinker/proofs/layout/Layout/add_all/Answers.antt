@@ -3,23 +3,26 @@ use Rattle.std.specs.List.{list_all}
 use Rattle.qed_model.specs.Machine.Table.{decode_of}
 use Rattle.qed_model.specs.Weave.Placed.{instructions_from}
 use Rattle.relinker.specs.Link.{is_encoded, leads_to}
-use Rattle.relinker.proofs.Laying.{takes, laid_more}
+use Rattle.relinker.proofs.Laying.{asks, laid_more}
 use Rattle.relinker.proofs.layout.Layout.add_all.Goals as goal
 
 pub put_items-self-requires-clause-low : goal.put_items-self-requires-clause-low
-put_items-self-requires-clause-low c = (takes c.args.self.now c.args.items.now c.requires).low
+put_items-self-requires-clause-low c = (asks c.args.self.now c.args.items.now c.requires).low
 
 pub put_items-self-requires-clause-encoded : goal.put_items-self-requires-clause-encoded
 put_items-self-requires-clause-encoded c =
     ap (λ rows. list_all is_encoded (instructions_from c.args.self.now.far (leads_to rows c.args.self.now.last) c.args.self.now.at c.args.items.now)) c.deref.ensures.value
-    ∙ (takes c.args.self.now c.args.items.now c.requires).encoded
+    ∙ (asks c.args.self.now c.args.items.now c.requires).encoded
 
 pub put_items-self-requires-clause-room : goal.put_items-self-requires-clause-room
-put_items-self-requires-clause-room c = (takes c.args.self.now c.args.items.now c.requires).room
+put_items-self-requires-clause-room c = (asks c.args.self.now c.args.items.now c.requires).room
 
-pub returns-clause-more : goal.returns-clause-more
-returns-clause-more c =
-    laid_more c.args.self.now c.args.items.now c.put_items-self.result c.put_items-self.new.words c.put_items-self.ensures.at
-    (c.put_items-self.ensures.decode
-    ∙ ap (λ rows. map decode_of c.args.self.now.words.items ++ map Some (instructions_from c.args.self.now.far (leads_to rows c.args.self.now.last) c.args.self.now.at c.args.items.now)) c.deref.ensures.value)
-    c.put_items-self.ensures.small c.put_items-self.ensures.len c.put_items-self.ensures.capacity
+pub returns : goal.returns
+returns c form done rest l = (
+  l.0,
+  l.1,
+  laid_more c.args.self.now c.args.items.now c.put_items-self.result c.put_items-self.new.words c.put_items-self.ensures.at
+      (c.put_items-self.ensures.decode
+      ∙ ap (λ rows. map decode_of c.args.self.now.words.items ++ map Some (instructions_from c.args.self.now.far (leads_to rows c.args.self.now.last) c.args.self.now.at c.args.items.now)) c.deref.ensures.value)
+      c.put_items-self.ensures.small c.put_items-self.ensures.len c.put_items-self.ensures.capacity done rest l.2,
+)
