@@ -2,8 +2,8 @@
 
 use crate::expected::{assert_run, text};
 use sample_files::{
-    CODE, ECALL, Elf, NEGATIVE, NO_SUM, ONE, Part, READ, READ_WRITE, SEVENTEEN_WORDS, SIXTEEN_WORDS,
-    TWO_SUMS, X0_WRITTEN, first_file,
+    CODE, ECALL, Elf, NEGATIVE, NO_SUM, ONE, Part, READ, READ_WRITE, SEVENTEEN_WORDS,
+    SIXTEEN_WORDS, TWO_SUMS, X0_WRITTEN, first_file,
 };
 use std::test::Fail;
 
