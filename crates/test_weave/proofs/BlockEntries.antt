@@ -1,0 +1,52 @@
+-- The entry of a block, and the entries of blocks, part by part.
+use Rattle.std.proofs.Common.{◌≡◌, ℕ, ◌+◌, ◌*◌, ◌<◌, List, ◌∷◌, ◌++◌, length, map, drop, get_or, sym, ap, ◌∙◌, subst}
+use Rattle.std.specs.Prelude.{All}
+use Rattle.std.proofs.lemmas.List.{drop_more}
+use Rattle.qed_model.specs.declared.item.Item.{Item}
+use Rattle.qed_model.specs.Weave.Pieces.{divided}
+use Rattle.qed_model.specs.Weave.Sequences.{Form, enter, pieces, leave, entry_items, all_entries}
+use Rattle.block_list.specs.declared.block.CodeBlock.{CodeBlock}
+use Rattle.block_list.specs.Listed.{block_of, end_of}
+use Rattle.relinker.specs.Sink.{ComeNext}
+use Rattle.test_weave.specs.Taken.{Takes, Going, come_first, come_second, takes_both, going_first, going_on}
+use Rattle.test_weave.specs.Fits.{FitsBlock}
+use Rattle.test_weave.proofs.BodyLeft.{whole_length}
+
+module _ (form : Form) (b : CodeBlock) where
+  -- its pieces, and its leave at the address behind the body
+  abbrev pub pieces_of : List Item
+  pieces_of = pieces form (divided b.lengths b.body) b.start
+
+  abbrev pub leave_of : List Item
+  leave_of = leave form (end_of b.end) (b.start + 4 * length b.body)
+
+  pub entry_is : FitsBlock b → entry_items form (block_of b) ≡ enter b.start ++ (pieces_of ++ leave_of)
+  entry_is f = ap (λ n. enter b.start ++ (pieces_of ++ leave form (end_of b.end) (b.start + 4 * n))) (whole_length b.lengths b.body f.whole)
+
+  -- each part comes next behind those before it
+  pub pieces_come : (old now : List Item → List Item → Type 0) → FitsBlock b → ComeNext old (entry_items form (block_of b)) → Takes old now (enter b.start) → ComeNext now pieces_of
+  pieces_come old now f c took = come_first now pieces_of leave_of (come_second old now (enter b.start) (pieces_of ++ leave_of) (subst (ComeNext old) (entry_is f) c) took)
+
+  pub leave_comes :
+      (old mid now : List Item → List Item → Type 0) → FitsBlock b → ComeNext old (entry_items form (block_of b)) → Takes old mid (enter b.start) → Takes mid now pieces_of
+      → ComeNext now leave_of
+  leave_comes old mid now f c first took = come_second mid now pieces_of leave_of (come_second old mid (enter b.start) (pieces_of ++ leave_of) (subst (ComeNext old) (entry_is f) c) first) took
+
+  -- and together they are the entry
+  pub takes_entry :
+      (old mid now new : List Item → List Item → Type 0) → FitsBlock b → Takes old mid (enter b.start) → Takes mid now pieces_of → Takes now new leave_of
+      → Takes old new (entry_items form (block_of b))
+  takes_entry old mid now new f x y z = subst (Takes old new) (sym (entry_is f)) (takes_both old mid new (enter b.start) (pieces_of ++ leave_of) x (takes_both mid now new pieces_of leave_of y z))
+
+-- ---- one block more
+module _ (form : Form) (blocks : List CodeBlock) (k : ℕ) (b : CodeBlock) (less : k < length blocks) (item : get_or blocks k b ≡ b) where
+  entries_split : all_entries form (map block_of (drop k blocks)) ≡ entry_items form (block_of b) ++ all_entries form (map block_of (drop (k + 1) blocks))
+  entries_split = ap (λ l. all_entries form (map block_of l)) (drop_more blocks k b less ∙ ap (λ x. x ∷ drop (k + 1) blocks) item)
+
+  pub entry_comes : (old now : List Item → List Item → Type 0) (all : List Item) → Going old now all (all_entries form (map block_of (drop k blocks))) → ComeNext now (entry_items form (block_of b))
+  entry_comes old now all g = going_first old now all (entry_items form (block_of b)) (all_entries form (map block_of (drop (k + 1) blocks))) (subst (Going old now all) entries_split g)
+
+  pub entries_go_on :
+      (old now new : List Item → List Item → Type 0) (all : List Item) → Going old now all (all_entries form (map block_of (drop k blocks)))
+      → Takes now new (entry_items form (block_of b)) → Going old new all (all_entries form (map block_of (drop (k + 1) blocks)))
+  entries_go_on old now new all g took = going_on old now new all (entry_items form (block_of b)) (all_entries form (map block_of (drop (k + 1) blocks))) (subst (Going old now all) entries_split g) took

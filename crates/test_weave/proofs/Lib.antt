@@ -1,0 +1,5 @@
+pub mod PieceItems
+pub mod Zeros
+pub mod Joined
+pub mod BodyLeft
+pub mod BlockEntries

@@ -1,0 +1,21 @@
+-- The form of the code that a weaver makes, and what it makes of blocks.
+use Rattle.std.specs.Prelude.{ℕ, Bool, List, ◌++◌, is_some}
+use Rattle.qed_model.specs.declared.item.Item.{Item}
+use Rattle.qed_model.specs.declared.options.Options.{Options}
+use Rattle.qed_model.specs.Weave.Sequences.{Form, Block, prologue, all_entries}
+use Rattle.qed_model.specs.Weave.Bounds.{cost_of}
+use Rattle.qed_model.specs.Weave.Woven.{mirror_of}
+use Rattle.test_weave.specs.declared.weaver.Weaver.{Weaver}
+use Rattle.test_weave.specs.Passes.{spans_in, round_in, is_diverse}
+
+-- the form of code with these ranges and options
+abbrev pub form_with : List (ℕ × ℕ) → Options → Bool → Form
+form_with spans o far = record { spans = spans; round = o.round; far = far; sweep = o.sweep; mirror = mirror_of o.diverse; cost = cost_of o.diverse }
+
+-- that of a weaver
+abbrev pub form : Weaver → Form
+form w = record { spans = spans_in w.pieces; round = round_in w.pieces; far = w.far; sweep = is_some w.sweep; mirror = mirror_of (is_diverse w.pieces); cost = cost_of (is_diverse w.pieces) }
+
+-- the prologue, and the entries of the blocks
+abbrev pub woven_items : ℕ → ℕ → Form → List Block → List Item
+woven_items d entry form blocks = prologue d form.spans entry ++ all_entries form blocks

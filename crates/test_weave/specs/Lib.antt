@@ -1,0 +1,4 @@
+pub mod Passes
+pub mod Form
+pub mod Fits
+pub mod Taken
