@@ -3,3 +3,5 @@ pub mod Zeros
 pub mod Joined
 pub mod BodyLeft
 pub mod BlockEntries
+pub mod AdmittedFit
+pub mod WholeCode

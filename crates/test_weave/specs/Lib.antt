@@ -2,3 +2,5 @@ pub mod Passes
 pub mod Form
 pub mod Fits
 pub mod Taken
+pub mod Admitted
+pub mod WholeCode

@@ -2,6 +2,9 @@
 //! passes and handed on before the next.
 #![tactic(auto)]
 
+ghost use Rattle.test_weave.specs.Admitted.{BlocksFit};
+ghost use Rattle.test_weave.specs.WholeCode.{ItemsAreWhole};
+
 mod leave;
 mod parts;
 mod prologue;
@@ -10,6 +13,16 @@ mod weaver;
 
 pub use walk::weave;
 pub use weaver::Weaver;
+
+/// The blocks of an admitted test can be woven.
+pub fn blocks_fit()
+    ensures { BlocksFit }
+{}
+
+/// With the data ranges, the distance and the entry of a file, what is handed on is its new code, but for the stub.
+pub fn items_are_whole()
+    ensures { ItemsAreWhole }
+{}
 
 #[cfg(test)]
 mod tests;

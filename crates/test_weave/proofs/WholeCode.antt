@@ -1,0 +1,21 @@
+-- The new code of a test.
+use Rattle.std.proofs.Common.{◌≡◌, List, [], ◌∷◌, ◌++◌, map, refl, ap, ◌∙◌, append_assoc}
+use Rattle.qed_model.specs.declared.range.Range.{Range}
+use Rattle.qed_model.specs.Admission.DataRanges.{range_of}
+use Rattle.qed_model.specs.Weave.Places.{image_of, half_of}
+use Rattle.qed_model.specs.Weave.Sequences.{prologue, all_entries, stub}
+use Rattle.qed_model.specs.Weave.Woven.{form_of}
+use Rattle.plc_rounds.specs.Spans.{spans_of}
+use Rattle.test_weave.specs.Form.{form_with, woven_items}
+use Rattle.test_weave.specs.WholeCode.{ItemsAreWhole}
+
+spans_are : (rs : List Range) → spans_of rs ≡ map range_of rs
+spans_are [] = refl
+spans_are (r ∷ rs) = ap (λ l. (r.start, r.end) ∷ l) (spans_are rs)
+
+pub items_are_whole : ItemsAreWhole
+items_are_whole f o far span blocks e =
+    let d = half_of o.half (image_of f) in
+    let form = form_of f o far in
+    ap (λ s. woven_items d f.entry (form_with s o far) blocks ++ stub) (spans_are span ∙ e)
+    ∙ append_assoc (prologue d form.spans f.entry) (all_entries form blocks) stub
