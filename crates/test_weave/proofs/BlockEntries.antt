@@ -1,5 +1,5 @@
 -- The entry of a block, and the entries of blocks, part by part.
-use Rattle.std.proofs.Common.{◌≡◌, ℕ, ◌+◌, ◌*◌, ◌<◌, List, ◌∷◌, ◌++◌, length, map, drop, get_or, sym, ap, ◌∙◌, subst}
+use Rattle.std.proofs.Common.{Bool, ◌≡◌, ℕ, ◌+◌, ◌*◌, ◌<◌, List, ◌∷◌, ◌++◌, length, map, drop, get_or, sym, ap, ◌∙◌, subst}
 use Rattle.std.specs.Prelude.{All}
 use Rattle.std.proofs.lemmas.List.{drop_more}
 use Rattle.qed_model.specs.declared.item.Item.{Item}
@@ -7,8 +7,8 @@ use Rattle.qed_model.specs.Weave.Pieces.{divided}
 use Rattle.qed_model.specs.Weave.Sequences.{Form, enter, pieces, leave, entry_items, all_entries}
 use Rattle.block_list.specs.declared.block.CodeBlock.{CodeBlock}
 use Rattle.block_list.specs.Listed.{block_of, end_of}
-use Rattle.relinker.specs.Sink.{ComeNext}
-use Rattle.test_weave.specs.Taken.{Takes, Going, come_first, come_second, takes_both, going_first, going_on}
+use Rattle.relinker.specs.Sink.{ComeNext, Takes}
+use Rattle.test_weave.specs.Taken.{Going, come_first, come_second, takes_both, going_first, going_on}
 use Rattle.test_weave.specs.Fits.{FitsBlock}
 use Rattle.test_weave.proofs.BodyLeft.{whole_length}
 
@@ -24,17 +24,17 @@ module _ (form : Form) (b : CodeBlock) where
   entry_is f = ap (λ n. enter b.start ++ (pieces_of ++ leave form (end_of b.end) (b.start + 4 * n))) (whole_length b.lengths b.body f.whole)
 
   -- each part comes next behind those before it
-  pub pieces_come : (old now : List Item → List Item → Type 0) → FitsBlock b → ComeNext old (entry_items form (block_of b)) → Takes old now (enter b.start) → ComeNext now pieces_of
+  pub pieces_come : (old now : Bool × ℕ → List Item → List Item → Type 0) → FitsBlock b → ComeNext old (entry_items form (block_of b)) → Takes old now (enter b.start) → ComeNext now pieces_of
   pieces_come old now f c took = come_first now pieces_of leave_of (come_second old now (enter b.start) (pieces_of ++ leave_of) (subst (ComeNext old) (entry_is f) c) took)
 
   pub leave_comes :
-      (old mid now : List Item → List Item → Type 0) → FitsBlock b → ComeNext old (entry_items form (block_of b)) → Takes old mid (enter b.start) → Takes mid now pieces_of
+      (old mid now : Bool × ℕ → List Item → List Item → Type 0) → FitsBlock b → ComeNext old (entry_items form (block_of b)) → Takes old mid (enter b.start) → Takes mid now pieces_of
       → ComeNext now leave_of
   leave_comes old mid now f c first took = come_second mid now pieces_of leave_of (come_second old mid (enter b.start) (pieces_of ++ leave_of) (subst (ComeNext old) (entry_is f) c) first) took
 
   -- and together they are the entry
   pub takes_entry :
-      (old mid now new : List Item → List Item → Type 0) → FitsBlock b → Takes old mid (enter b.start) → Takes mid now pieces_of → Takes now new leave_of
+      (old mid now new : Bool × ℕ → List Item → List Item → Type 0) → FitsBlock b → Takes old mid (enter b.start) → Takes mid now pieces_of → Takes now new leave_of
       → Takes old new (entry_items form (block_of b))
   takes_entry old mid now new f x y z = subst (Takes old new) (sym (entry_is f)) (takes_both old mid new (enter b.start) (pieces_of ++ leave_of) x (takes_both mid now new pieces_of leave_of y z))
 
@@ -43,10 +43,10 @@ module _ (form : Form) (blocks : List CodeBlock) (k : ℕ) (b : CodeBlock) (less
   entries_split : all_entries form (map block_of (drop k blocks)) ≡ entry_items form (block_of b) ++ all_entries form (map block_of (drop (k + 1) blocks))
   entries_split = ap (λ l. all_entries form (map block_of l)) (drop_more blocks k b less ∙ ap (λ x. x ∷ drop (k + 1) blocks) item)
 
-  pub entry_comes : (old now : List Item → List Item → Type 0) (all : List Item) → Going old now all (all_entries form (map block_of (drop k blocks))) → ComeNext now (entry_items form (block_of b))
+  pub entry_comes : (old now : Bool × ℕ → List Item → List Item → Type 0) (all : List Item) → Going old now all (all_entries form (map block_of (drop k blocks))) → ComeNext now (entry_items form (block_of b))
   entry_comes old now all g = going_first old now all (entry_items form (block_of b)) (all_entries form (map block_of (drop (k + 1) blocks))) (subst (Going old now all) entries_split g)
 
   pub entries_go_on :
-      (old now new : List Item → List Item → Type 0) (all : List Item) → Going old now all (all_entries form (map block_of (drop k blocks)))
+      (old now new : Bool × ℕ → List Item → List Item → Type 0) (all : List Item) → Going old now all (all_entries form (map block_of (drop k blocks)))
       → Takes now new (entry_items form (block_of b)) → Going old new all (all_entries form (map block_of (drop (k + 1) blocks)))
   entries_go_on old now new all g took = going_on old now new all (entry_items form (block_of b)) (all_entries form (map block_of (drop (k + 1) blocks))) (subst (Going old now all) entries_split g) took

@@ -1,45 +1,41 @@
 -- What a sink took.
-use Rattle.std.proofs.Common.{◌≡◌, List, [], ◌++◌, sym, ap, ◌∙◌, subst, refl, append_assoc}
+use Rattle.std.proofs.Common.{ℕ, Bool, ◌≡◌, List, [], ◌++◌, sym, ap, ◌∙◌, subst, refl, append_assoc}
 use Rattle.std.proofs.lemmas.List.{append-nil}
 use Rattle.qed_model.specs.declared.item.Item.{Item}
-use Rattle.relinker.specs.Sink.{ComeNext}
-
--- wherever these items are the next to come, they were taken
-abbrev pub Takes : (List Item → List Item → Type 0) → (List Item → List Item → Type 0) → List Item → Type 0
-Takes old new items = (done rest : List Item) → old done (items ++ rest) → new (done ++ items) rest
+use Rattle.relinker.specs.Sink.{ComeNext, Takes}
 
 -- of some items, those before the rest were taken, and the rest comes next
-pub record Going (old now : List Item → List Item → Type 0) (all rest : List Item) : Type 0 where
+pub record Going (old now : Bool × ℕ → List Item → List Item → Type 0) (all rest : List Item) : Type 0 where
   pub done : List Item
   pub whole : all ≡ done ++ rest
   pub took : Takes old now done
   pub come : ComeNext now rest
 
 -- what was put behind nothing
-pub takes_part : (old new : List Item → List Item → Type 0) (none part items : List Item) → none ≡ [] → part ≡ none ++ items → Takes old new part → Takes old new items
+pub takes_part : (old new : Bool × ℕ → List Item → List Item → Type 0) (none part items : List Item) → none ≡ [] → part ≡ none ++ items → Takes old new part → Takes old new items
 takes_part old new none part items e f took = subst (Takes old new) (f ∙ ap (λ l. l ++ items) e) took
 
 -- the first of two parts comes next
-pub come_first : (t : List Item → List Item → Type 0) (xs ys : List Item) → ComeNext t (xs ++ ys) → ComeNext t xs
-come_first t xs ys c = (c.0, ys ++ c.1, subst (t c.0) (append_assoc xs ys c.1) c.2)
+pub come_first : (t : Bool × ℕ → List Item → List Item → Type 0) (xs ys : List Item) → ComeNext t (xs ++ ys) → ComeNext t xs
+come_first t xs ys c = (c.0, c.1, ys ++ c.2, subst (t c.0 c.1) (append_assoc xs ys c.2) c.3)
 
 -- and behind it the second
-pub come_second : (old now : List Item → List Item → Type 0) (xs ys : List Item) → ComeNext old (xs ++ ys) → Takes old now xs → ComeNext now ys
-come_second old now xs ys c took = (c.0 ++ xs, c.1, took c.0 (ys ++ c.1) (subst (old c.0) (append_assoc xs ys c.1) c.2))
+pub come_second : (old now : Bool × ℕ → List Item → List Item → Type 0) (xs ys : List Item) → ComeNext old (xs ++ ys) → Takes old now xs → ComeNext now ys
+come_second old now xs ys c took = (c.0, c.1 ++ xs, c.2, took c.0 c.1 (ys ++ c.2) (subst (old c.0 c.1) (append_assoc xs ys c.2) c.3))
 
 -- one part and the next
-pub takes_both : (old mid new : List Item → List Item → Type 0) (xs ys : List Item) → Takes old mid xs → Takes mid new ys → Takes old new (xs ++ ys)
-takes_both old mid new xs ys a b done rest t =
-    subst (λ l. new l rest) (append_assoc done xs ys) (b (done ++ xs) rest (a done (ys ++ rest) (subst (old done) (append_assoc xs ys rest) t)))
+pub takes_both : (old mid new : Bool × ℕ → List Item → List Item → Type 0) (xs ys : List Item) → Takes old mid xs → Takes mid new ys → Takes old new (xs ++ ys)
+takes_both old mid new xs ys a b form done rest t =
+    subst (λ l. new form l rest) (append_assoc done xs ys) (b form (done ++ xs) rest (a form done (ys ++ rest) (subst (old form done) (append_assoc xs ys rest) t)))
 
 -- ---- in a loop
-pub going_all : (old : List Item → List Item → Type 0) (all : List Item) → ComeNext old all → Going old old all all
-going_all old all c = record { done = []; whole = refl; took = λ done rest t. subst (λ l. old l rest) (sym (append-nil done)) t; come = c }
+pub going_all : (old : Bool × ℕ → List Item → List Item → Type 0) (all : List Item) → ComeNext old all → Going old old all all
+going_all old all c = record { done = []; whole = refl; took = λ form done rest t. subst (λ l. old form l rest) (sym (append-nil done)) t; come = c }
 
-pub going_first : (old now : List Item → List Item → Type 0) (all xs ys : List Item) → Going old now all (xs ++ ys) → ComeNext now xs
+pub going_first : (old now : Bool × ℕ → List Item → List Item → Type 0) (all xs ys : List Item) → Going old now all (xs ++ ys) → ComeNext now xs
 going_first old now all xs ys g = come_first now xs ys g.come
 
-pub going_on : (old now new : List Item → List Item → Type 0) (all xs ys : List Item) → Going old now all (xs ++ ys) → Takes now new xs → Going old new all ys
+pub going_on : (old now new : Bool × ℕ → List Item → List Item → Type 0) (all xs ys : List Item) → Going old now all (xs ++ ys) → Takes now new xs → Going old new all ys
 going_on old now new all xs ys g took = record {
   done = g.done ++ xs;
   whole = g.whole ∙ sym (append_assoc g.done xs ys);
@@ -47,5 +43,5 @@ going_on old now new all xs ys g took = record {
   come = come_second now new xs ys g.come took;
 }
 
-pub going_none : (old now : List Item → List Item → Type 0) (all : List Item) → Going old now all [] → Takes old now all
+pub going_none : (old now : Bool × ℕ → List Item → List Item → Type 0) (all : List Item) → Going old now all [] → Takes old now all
 going_none old now all g = subst (Takes old now) (sym (append-nil g.done) ∙ sym g.whole) g.took

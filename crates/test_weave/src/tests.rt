@@ -32,7 +32,7 @@ struct ByteCount {
 }
 
 impl ItemSink for ByteCount {
-    ghost took = { λ s done rest. Unit {0} };
+    ghost took = { λ s form done rest. Unit {0} };
 
     fn take(&mut self, items: &Emit) -> Result<(), AllocError> {
         for item in items.items() {

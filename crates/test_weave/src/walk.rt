@@ -4,10 +4,9 @@ ghost use Rattle.qed_model.specs.Weave.Sequences.{prologue, enter, piece, pieces
 ghost use Rattle.qed_model.specs.Weave.Pieces.{divided};
 ghost use Rattle.weave_core.specs.Blocks.{AllFit};
 ghost use Rattle.block_list.specs.Listed.{block_of, end_of};
-ghost use Rattle.relinker.specs.Sink.{ComeNext};
+ghost use Rattle.relinker.specs.Sink.{ComeNext, Takes};
 ghost use Rattle.test_weave.specs.Fits.{FitsBlock, FitsEnd};
 ghost use Rattle.test_weave.specs.Form.{form, woven_items};
-ghost use Rattle.test_weave.specs.Taken.{Takes};
 
 use crate::Weaver;
 use block_list::CodeBlock;

@@ -1,9 +1,8 @@
 use Rattle.std.proofs.Common.{◌+◌, ◌*◌, length, sym, subst}
 use Rattle.qed_model.specs.Weave.Sequences.{leave}
 use Rattle.block_list.specs.Listed.{end_of}
-use Rattle.relinker.specs.Sink.{ComeNext}
+use Rattle.relinker.specs.Sink.{ComeNext, Takes}
 use Rattle.test_weave.specs.Form.{form}
-use Rattle.test_weave.specs.Taken.{Takes}
 use Rattle.test_weave.proofs.BlockEntries.{pieces_come, leave_comes, takes_entry}
 use Rattle.test_weave.proofs.walk.weave_block.Goals as goal
 

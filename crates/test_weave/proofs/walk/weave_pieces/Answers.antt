@@ -1,10 +1,10 @@
 use Rattle.std.proofs.Common.{◌+◌, ◌*◌, List, ℕ, ◌∷◌, take, drop, sym, subst, get_or}
-use Rattle.relinker.specs.Sink.{ComeNext}
+use Rattle.relinker.specs.Sink.{ComeNext, Takes}
 use Rattle.qed_model.specs.Weave.Sequences.{piece, pieces}
 use Rattle.qed_model.specs.Weave.Pieces.{divided}
 use Rattle.weave_core.specs.Blocks.{AllFit}
 use Rattle.test_weave.specs.Form.{form}
-use Rattle.test_weave.specs.Taken.{Takes, Going}
+use Rattle.test_weave.specs.Taken.{Going}
 use Rattle.test_weave.proofs.BodyLeft.{Left, take_fits, next_length, left_on, piece_comes, pieces_go_on}
 use Rattle.test_weave.proofs.walk.weave_pieces.Goals as goal
 
