@@ -1,7 +1,7 @@
 mod Counting
 pub mod Joining
 mod JumpItems
-mod Laying
+pub mod Laying
 mod Places
 mod Reach
 mod Rows

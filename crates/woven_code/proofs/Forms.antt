@@ -1,0 +1,160 @@
+-- The new code of a test in either form: it can be linked where it fits, and what is linked is the new code.
+use Rattle.std.proofs.Common.{◌≡◌, ℕ, ◌+◌, ◌^◌, ◌<◌, ◌≤◌, suc, Bool, true, false, List, [], ◌∷◌, ◌++◌, length, map, Some, refl, sym, ap, ◌∙◌, subst, arith}
+use Rattle.std.specs.Prelude.{◌&&◌, get_or, slice_index, is_some, AllPairs}
+use Rattle.std.specs.List.{list_all}
+use Rattle.std.proofs.lemmas.Bool.{lt-ltb, le-ltb}
+use Rattle.std.proofs.lemmas.List.{append-nil}
+use Rattle.std.proofs.Math.ListN.{get_or-map, length-map}
+use Rattle.elf_types.specs.declared.file.ElfFile.{ElfFile}
+use Rattle.rv_isa.specs.declared.ins.Ins.{Ins}
+use Rattle.qed_model.specs.declared.limits.Limit.TheVariants as limit
+use Rattle.qed_model.specs.declared.options.Options.{Options}
+use Rattle.qed_model.specs.declared.plan.EntryRow.{EntryRow}
+use Rattle.qed_model.specs.declared.test.Test.{Test}
+use Rattle.qed_model.specs.Limits.{limit_of}
+use Rattle.qed_model.specs.Machine.Table.{decode_of}
+use Rattle.qed_model.specs.Weave.Placed.{sum_of_sizes, rows_from, placed, Decode}
+use Rattle.qed_model.specs.Weave.Places.{image_of, half_of, code_place}
+use Rattle.qed_model.specs.Weave.Sequences.{Block, Falls, stub}
+use Rattle.qed_model.specs.Weave.Woven.{items_in, is_far_code, code_size, new_entries}
+use Rattle.qed_model.proofs.PlacedWords.{size-append}
+use Rattle.qed_model.proofs.ReadLoads.{read_loads}
+use Rattle.qed_model.proofs.Tables.{encode_decode}
+use Rattle.block_list.specs.declared.block.CodeBlock.{CodeBlock}
+use Rattle.block_list.specs.Listed.{block_of}
+use Rattle.plc_rounds.specs.Spans.{spans_of}
+use Rattle.relinker.specs.declared.error.LinkError.{LinkError}
+use Rattle.relinker.specs.declared.error.LinkError.TheVariants as error
+use Rattle.relinker.specs.declared.layout.Linked.{Linked}
+use Rattle.relinker.specs.Counted.{capped}
+use Rattle.relinker.specs.Laid.{IsLinked, HasLinkCause}
+use Rattle.relinker.specs.Link.{is_encoded, Ascend, most_bytes}
+use Rattle.relinker.proofs.Joining.{parts_join}
+use Rattle.test_weave.specs.Form.{form_with, woven_items}
+use Rattle.test_weave.proofs.WholeCode.{items_are_whole}
+use Rattle.weave_core.proofs.TestKept.{are_rows}
+use Rattle.weave_core.proofs.Tests.{tests_have_words}
+use Rattle.woven_code.specs.Code.{items_of, place_of, IsWithinForm, LinksWithin, IsCut, IsCodeOf, HasCause}
+
+-- ---- words
+-- the instructions of words have words
+decoded : (words : List ℕ) (is : List Ins) → ((k : ℕ) → slice_index words k < 2 ^ 32) → Decode words is → list_all is_encoded is ≡ true
+decoded [] [] small e = refl
+decoded [] (i ∷ is) small e = absurd (cc)
+decoded (w ∷ ws) [] small e = absurd (cc)
+decoded (w ∷ ws) (i ∷ is) small e =
+    let here : decode_of w ≡ Some i = cc in
+    let later : map decode_of ws ≡ map Some is = cc in
+    ap (λ o. is_some o && list_all is_encoded is) (encode_decode w i (small 0) here) ∙ decoded ws is (λ k. small (suc k)) later
+
+-- ---- marks
+-- the first addresses of blocks ascend, and the marks are theirs
+ascending : (rows : List EntryRow) (blocks : List Block) → map (λ (r : EntryRow). r.input) rows ≡ map (λ b. b.start) blocks → AllPairs (λ (b c : Block). b.start < c.start) blocks → Ascend rows
+ascending rows blocks same up i j d l m =
+    let e : Block = record { start = d.input; body = []; end = Falls } in
+    let many : length rows ≡ length blocks = sym (length-map rows (λ (r : EntryRow). r.input)) ∙ ap length same ∙ length-map blocks (λ (b : Block). b.start) in
+    let at : (k : ℕ) → (get_or rows k d).input ≡ (get_or blocks k e).start =
+    λ k. sym (get_or-map (λ (r : EntryRow). r.input) rows k d) ∙ ap (λ ns. get_or ns k d.input) same ∙ get_or-map (λ (b : Block). b.start) blocks k e in
+    let less = up i j e l (omega (arith, m, many)) in
+    omega (arith, at i, at j, less)
+
+-- ---- either form of a test
+module _ (input : List ℕ) (f : ElfFile) (o : Options) (t : Test) (blocks : List CodeBlock) (cut : IsCut input f o t blocks) where
+  abbrev bs : List Block
+  bs = map block_of blocks
+
+  -- with the stub they are the items of the file
+  whole : (far : Bool) → items_of t o far blocks ++ stub ≡ items_in f o far bs
+  whole far =
+      ap (λ d. woven_items d t.entry (form_with (spans_of t.span) o far) bs ++ stub) cut.told.distance
+      ∙ ap (λ e. woven_items (half_of o.half (image_of f)) e (form_with (spans_of t.span) o far) bs ++ stub) cut.told.entry
+      ∙ items_are_whole f o far t.span bs cut.told.span
+
+  size : (far : Bool) → sum_of_sizes far (items_in f o far bs) ≡ sum_of_sizes far (items_of t o far blocks) + 4
+  size far = ap (λ is. sum_of_sizes far is) (sym (whole far)) ∙ size-append far (items_of t o far blocks) stub
+
+  place : place_of t ≡ code_place o.half (image_of f)
+  place = omega (arith, cut.told.base, cut.told.distance)
+
+  -- which form is taken
+  pub near_taken : IsWithinForm false (items_of t o false blocks) → is_far_code f o bs ≡ false
+  near_taken h = le-ltb 1048576 _ (omega (arith, size false, h))
+
+  pub far_taken : (IsWithinForm false (items_of t o false blocks) → ⊥) → is_far_code f o bs ≡ true
+  far_taken h = lt-ltb 1048576 _ (omega (arith, size false, h))
+
+  -- the code of the form that is taken
+  code_bytes : (far : Bool) → is_far_code f o bs ≡ far → code_size f o bs ≡ sum_of_sizes far (items_of t o far blocks) + 4
+  code_bytes far e = ap (λ b. sum_of_sizes b (items_in f o b bs)) e ∙ size far
+
+  limited : (far : Bool) (n : ℕ) → n ≤ most_bytes far → n ≤ limit_of limit.CodeBytes
+  limited true n h = h
+  limited false n h = omega (arith, h)
+
+  few : (far : Bool) → is_far_code f o bs ≡ far → IsWithinForm far (items_of t o far blocks) → code_size f o bs ≤ limit_of limit.CodeBytes
+  few far e h = subst (λ n. n ≤ limit_of limit.CodeBytes) (sym (code_bytes far e)) (limited far _ h)
+
+  entries : (far : Bool) → is_far_code f o bs ≡ far → new_entries f o bs ≡ rows_from far (place_of t) (items_of t o far blocks)
+  entries far e =
+      ap (λ b. rows_from b (code_place o.half (image_of f)) (items_in f o b bs)) e
+      ∙ ap (λ p. rows_from far p (items_in f o far bs)) (sym place)
+      ∙ ap (λ is. rows_from far (place_of t) is) (sym (whole far))
+      ∙ (parts_join far (λ a. a) (place_of t) (items_of t o far blocks) stub).marks
+      ∙ append-nil (rows_from far (place_of t) (items_of t o far blocks))
+
+  instructions : (far : Bool) → is_far_code f o bs ≡ far
+      → placed (is_far_code f o bs) (code_place o.half (image_of f)) (items_in f o (is_far_code f o bs) bs) ≡ placed far (place_of t) (items_of t o far blocks ++ stub)
+  instructions far e =
+      ap (λ b. placed b (code_place o.half (image_of f)) (items_in f o b bs)) e
+      ∙ ap (λ p. placed far p (items_in f o far bs)) (sym place)
+      ∙ ap (λ is. placed far (place_of t) is) (sym (whole far))
+
+  -- it can be linked
+  pub links : (far : Bool) → is_far_code f o bs ≡ far → LinksWithin far (place_of t) (items_of t o far blocks)
+  links far e h =
+      let b = cut.blocked in
+      let loads = read_loads input f (record { fit = b.bytes }) b.read in
+      let words = tests_have_words input f o bs b.bytes b.read b.sound b.admitted b.are (few far e h) in
+      let rows = are_rows f o b.sound loads b.admitted bs b.are in
+      record {
+        ascend = subst Ascend (entries far e) (ascending (new_entries f o bs) bs rows.inputs_are b.are.ascend);
+        encoded = ap (λ is. list_all is_encoded is) (sym (instructions far e)) ∙ decoded words.0 (placed (is_far_code f o bs) (code_place o.half (image_of f)) (items_in f o (is_far_code f o bs) bs)) words.1.has.code.small words.1.has.code.code;
+      }
+
+  -- and what is linked is the new code of the test
+  pub code_of : (far : Bool) (linked : Linked) → is_far_code f o bs ≡ far → IsWithinForm far (items_of t o far blocks) → IsLinked far (place_of t) (items_of t o far blocks) linked → IsCodeOf f o blocks linked
+  code_of far linked e h l = record {
+    code = record { small = l.words; code = subst (Decode linked.words.items) (sym (instructions far e)) l.decode };
+    entries = l.entries ∙ sym (entries far e);
+    few = few far e h;
+  }
+
+  -- why it is not
+  pub cause_of : (far : Bool) (x : LinkError) → is_far_code f o bs ≡ far → HasLinkCause far (items_of t o far blocks) x → far ≡ true → HasCause f o blocks x
+  cause_of far (error.TooLarge n) e c is_far =
+      (c.0 ∙ ap capped (sym (code_bytes far e)), subst (λ b. most_bytes b < n) is_far c.1)
+  cause_of far error.Memory e c is_far = tt
+
+  -- ---- the results of both forms
+  -- the near form was written
+  pub near_code :
+      (linked : Linked) → IsWithinForm false (items_of t o false blocks) → IsLinked false (place_of t) (items_of t o false blocks) linked → IsCodeOf f o blocks linked
+  near_code linked h l = code_of false linked (near_taken h) h l
+
+  pub near_links : LinksWithin false (place_of t) (items_of t o false blocks)
+  near_links h = links false (near_taken h) h
+
+  -- it was too large
+  past_near : (n : ℕ) → HasLinkCause false (items_of t o false blocks) (error.TooLarge n) → is_far_code f o bs ≡ true
+  past_near n c = far_taken (λ h. omega (arith, c.0, c.1, h))
+
+  pub far_links : (n : ℕ) → HasLinkCause false (items_of t o false blocks) (error.TooLarge n) → LinksWithin true (place_of t) (items_of t o true blocks)
+  far_links n c h = links true (past_near n c) h
+
+  pub far_code :
+      (n : ℕ) (linked : Linked) → HasLinkCause false (items_of t o false blocks) (error.TooLarge n) → IsWithinForm true (items_of t o true blocks)
+      → IsLinked true (place_of t) (items_of t o true blocks) linked → IsCodeOf f o blocks linked
+  far_code n linked c h l = code_of true linked (past_near n c) h l
+
+  pub far_cause : (n : ℕ) (x : LinkError) → HasLinkCause false (items_of t o false blocks) (error.TooLarge n) → HasLinkCause true (items_of t o true blocks) x → HasCause f o blocks x
+  far_cause n x c d = cause_of true x (past_near n c) d refl

@@ -1,0 +1,55 @@
+-- The new code of a test, as words.
+use Rattle.std.specs.Prelude.{◌≡◌, ℕ, ◌+◌, ◌*◌, ◌<◌, ◌≤◌, Bool, List, map}
+use Rattle.elf_types.specs.declared.file.ElfFile.{ElfFile}
+use Rattle.qed_model.specs.declared.item.Item.{Item}
+use Rattle.qed_model.specs.declared.limits.Limit.TheVariants as limit
+use Rattle.qed_model.specs.declared.options.Options.{Options}
+use Rattle.qed_model.specs.declared.test.Test.{Test}
+use Rattle.qed_model.specs.Admission.Test.{IsTestOf}
+use Rattle.qed_model.specs.Limits.{limit_of}
+use Rattle.qed_model.specs.Weave.Placed.{sum_of_sizes}
+use Rattle.qed_model.specs.Weave.Woven.{code_size, new_entries, IsNewCode}
+use Rattle.block_list.specs.declared.block.CodeBlock.{CodeBlock}
+use Rattle.block_list.specs.Listed.{block_of}
+use Rattle.plc_rounds.specs.Spans.{spans_of}
+use Rattle.relinker.specs.declared.error.LinkError.{LinkError}
+use Rattle.relinker.specs.declared.error.LinkError.TheVariants as error
+use Rattle.relinker.specs.declared.layout.Linked.{Linked}
+use Rattle.relinker.specs.Counted.{capped}
+use Rattle.relinker.specs.Link.{IsLinkable, most_bytes}
+use Rattle.test_weave.specs.Admitted.{IsBlocked}
+use Rattle.test_weave.specs.Form.{form_with, woven_items}
+
+-- ---- in one form
+-- the items in the near or in the far form, all but the stub
+abbrev pub items_of : Test → Options → Bool → List CodeBlock → List Item
+items_of t o far blocks = woven_items t.distance t.entry (form_with (spans_of t.span) o far) (map block_of blocks)
+
+-- where the code begins
+abbrev pub place_of : Test → ℕ
+place_of t = t.base + 3 * t.distance
+
+-- with the stub they are within the limit of the form
+abbrev pub IsWithinForm : Bool → List Item → Type 0
+IsWithinForm far items = sum_of_sizes far items + 4 ≤ most_bytes far
+
+-- and where they are, they can be linked from `base` on
+abbrev pub LinksWithin : Bool → ℕ → List Item → Type 0
+LinksWithin far base items = IsWithinForm far items → IsLinkable far base items
+
+-- ---- of a test
+-- the bytes are an admitted test, of which this is told, and these are its blocks
+pub record IsCut (input : List ℕ) (f : ElfFile) (o : Options) (t : Test) (blocks : List CodeBlock) : Type 0 where
+  pub told : IsTestOf f o t
+  pub blocked : IsBlocked input f o t.code blocks
+
+-- the words are the new code of the file, which is within the limit, and the entries are its entries
+pub record IsCodeOf (f : ElfFile) (o : Options) (blocks : List CodeBlock) (linked : Linked) : Type 0 where
+  pub code : IsNewCode f o (map block_of blocks) linked.words.items
+  pub entries : linked.entries.items ≡ new_entries f o (map block_of blocks)
+  pub few : code_size f o (map block_of blocks) ≤ limit_of limit.CodeBytes
+
+-- the new code has so many bytes, 2^64 - 1 at most, which are too many
+abbrev pub HasCause : ElfFile → Options → List CodeBlock → LinkError → Type 0
+HasCause f o blocks (error.TooLarge n) = (n ≡ capped (code_size f o (map block_of blocks))) × (limit_of limit.CodeBytes < n)
+HasCause f o blocks error.Memory = Unit {0}

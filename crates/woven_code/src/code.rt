@@ -1,0 +1,147 @@
+//! The new code, in the near form where that fits, else in the far form.
+ghost use Rattle.std.specs.Prelude.{◌≡◌, ◌+◌, ◌*◌, ◌^◌, ◌<◌, ◌≤◌, ℕ, [], List, All, map, IfOk, IfErr, true, false};
+ghost use Rattle.elf_types.specs.declared.file.ElfFile.{ElfFile};
+ghost use Rattle.block_list.specs.declared.block.CodeBlock.{CodeBlock};
+ghost use Rattle.block_list.specs.Listed.{block_of};
+ghost use Rattle.qed_model.specs.declared.limits.TheConstants.{CODE_ROOM};
+ghost use Rattle.relinker.specs.Counted.{HasCounted};
+ghost use Rattle.relinker.specs.Laid.{IsLaid, IsLinked, HasLinkCause};
+ghost use Rattle.test_weave.specs.Fits.{FitsBlock};
+ghost use Rattle.test_weave.specs.Form.{form, woven_items};
+ghost use Rattle.woven_code.specs.Code.{items_of, place_of, IsWithinForm, LinksWithin, IsCut, IsCodeOf, HasCause};
+
+use block_list::CodeBlock;
+use qed_model::{Options, Test};
+use relinker::{Count, Layout, LinkError, Linked, lay};
+use std::alloc::{AllocError, Global};
+use test_weave::{Weaver, weave};
+
+/// The passes of the code in one form.
+fn weaver(alloc: Global, test: &Test, options: &Options, far: bool) -> Result<Weaver, AllocError>
+    ensures { IfOk result (λ weaver. (blocks : List CodeBlock) → woven_items test.now.distance test.now.entry (form weaver) (map block_of blocks) ≡ items_of test.now options.now far blocks) }
+{
+    Weaver::new(alloc, &test.span, options, far)
+}
+
+/// Counts the items.
+fn counted(
+    alloc: Global,
+    weaver: &Weaver,
+    far: bool,
+    test: &Test,
+    blocks: &[CodeBlock],
+) -> Result<Count, AllocError>
+    requires half { test.now.distance < 2 ^ 63 }
+    requires fit { All FitsBlock blocks.now }
+    ensures form { IfOk result (λ count. count.far ≡ far) }
+    ensures counted { IfOk result (λ count. HasCounted count (woven_items test.now.distance test.now.entry (form weaver.now) (map block_of blocks.now))) }
+{
+    let mut count = Count::new(alloc, far);
+    weave(alloc, weaver, test.distance, test.entry, blocks, &mut count)?;
+    Ok(count)
+}
+
+/// Takes the memory for the code, which is counted.
+fn laid_out(
+    alloc: Global,
+    weaver: &Weaver,
+    far: bool,
+    test: &Test,
+    blocks: &[CodeBlock],
+) -> Result<Layout, LinkError>
+    requires room { place_of test.now + CODE_ROOM ≤ 2 ^ 63 }
+    requires fit { All FitsBlock blocks.now }
+    requires links { LinksWithin far (place_of test.now) (woven_items test.now.distance test.now.entry (form weaver.now) (map block_of blocks.now)) }
+    ensures form { IfOk result (λ layout. layout.far ≡ far) }
+    ensures base { IfOk result (λ layout. layout.base ≡ place_of test.now) }
+    ensures laid { IfOk result (λ layout. IsLaid layout [] (woven_items test.now.distance test.now.entry (form weaver.now) (map block_of blocks.now))) }
+    ensures fits { IfOk result (λ _. IsWithinForm far (woven_items test.now.distance test.now.entry (form weaver.now) (map block_of blocks.now))) }
+    ensures cause { IfErr result (HasLinkCause far (woven_items test.now.distance test.now.entry (form weaver.now) (map block_of blocks.now))) }
+{
+    let count = counted(alloc, weaver, far, test, blocks)?;
+    lay(alloc, count, test.base + 3 * test.distance)
+}
+
+/// Writes the words of counted items.
+fn written(
+    alloc: Global,
+    weaver: &Weaver,
+    layout: Layout,
+    test: &Test,
+    blocks: &[CodeBlock],
+) -> Result<Linked, AllocError>
+    requires half { test.now.distance < 2 ^ 63 }
+    requires fit { All FitsBlock blocks.now }
+    requires laid { IsLaid layout [] (woven_items test.now.distance test.now.entry (form weaver.now) (map block_of blocks.now)) }
+    ensures { IfOk result (IsLinked layout.far layout.base (woven_items test.now.distance test.now.entry (form weaver.now) (map block_of blocks.now))) }
+{
+    let mut layout = layout;
+    weave(
+        alloc,
+        weaver,
+        test.distance,
+        test.entry,
+        blocks,
+        &mut layout,
+    )?;
+    Ok(layout.finish())
+}
+
+/// The code that a weaver makes.
+fn code_of(
+    alloc: Global,
+    weaver: &Weaver,
+    far: bool,
+    test: &Test,
+    blocks: &[CodeBlock],
+) -> Result<Linked, LinkError>
+    requires room { place_of test.now + CODE_ROOM ≤ 2 ^ 63 }
+    requires fit { All FitsBlock blocks.now }
+    requires links { LinksWithin far (place_of test.now) (woven_items test.now.distance test.now.entry (form weaver.now) (map block_of blocks.now)) }
+    ensures linked { IfOk result (IsLinked far (place_of test.now) (woven_items test.now.distance test.now.entry (form weaver.now) (map block_of blocks.now))) }
+    ensures fits { IfOk result (λ _. IsWithinForm far (woven_items test.now.distance test.now.entry (form weaver.now) (map block_of blocks.now))) }
+    ensures cause { IfErr result (HasLinkCause far (woven_items test.now.distance test.now.entry (form weaver.now) (map block_of blocks.now))) }
+{
+    let layout = laid_out(alloc, weaver, far, test, blocks)?;
+    let linked = written(alloc, weaver, layout, test, blocks)?;
+    Ok(linked)
+}
+
+/// The code in one form.
+fn code_in(
+    alloc: Global,
+    test: &Test,
+    options: &Options,
+    blocks: &[CodeBlock],
+    far: bool,
+) -> Result<Linked, LinkError>
+    requires room { place_of test.now + CODE_ROOM ≤ 2 ^ 63 }
+    requires fit { All FitsBlock blocks.now }
+    requires links { LinksWithin far (place_of test.now) (items_of test.now options.now far blocks.now) }
+    ensures linked { IfOk result (IsLinked far (place_of test.now) (items_of test.now options.now far blocks.now)) }
+    ensures fits { IfOk result (λ _. IsWithinForm far (items_of test.now options.now far blocks.now)) }
+    ensures cause { IfErr result (HasLinkCause far (items_of test.now options.now far blocks.now)) }
+{
+    let weaver = weaver(alloc, test, options, far)?;
+    code_of(alloc, &weaver, far, test, blocks)
+}
+
+/// The new code of a test that was admitted, in the near form where that has at most 1,048,576 bytes, else in the far form.
+///
+/// Errors: `TooLarge` exactly where the far form is taken and has more than 67,108,864 bytes: how many, 2^64 - 1 at most; want
+/// of memory.
+pub fn woven_code(
+    alloc: Global,
+    test: &Test,
+    options: &Options,
+    blocks: &[CodeBlock],
+) -> Result<Linked, LinkError>
+    requires { (input : List ℕ) × (f : ElfFile) × IsCut input f options.now test.now blocks.now }
+    ensures code { IfOk result (λ linked. (input : List ℕ) (f : ElfFile) → IsCut input f options.now test.now blocks.now → IsCodeOf f options.now blocks.now linked) }
+    ensures cause { IfErr result (λ e. (input : List ℕ) (f : ElfFile) → IsCut input f options.now test.now blocks.now → HasCause f options.now blocks.now e) }
+{
+    match code_in(alloc, test, options, blocks, false) {
+        Err(LinkError::TooLarge(_)) => code_in(alloc, test, options, blocks, true),
+        near => near,
+    }
+}
