@@ -1,5 +1,5 @@
 -- The blocks of an admitted test can be woven.
-use Rattle.std.proofs.Common.{◌≡◌, ◌⊎◌, ⊎_elim, ℕ, zero, suc, ◌+◌, ◌*◌, ◌%◌, ◌^◌, ◌<◌, ◌≤◌, Bool, true, false, not, ◌||◌, List, [], ◌∷◌, ◌++◌, length, map, sum, take, drop, get_or, Option, Some, None, refl, sym, ap, ◌∙◌, subst, arith}
+use Rattle.std.proofs.Common.{◌≡◌, ◌⊎◌, ⊎_elim, ℕ, ◌+◌, ◌*◌, ◌^◌, ◌<◌, ◌≤◌, Bool, true, false, ◌||◌, List, [], ◌∷◌, ◌++◌, length, map, sum, take, drop, get_or, Option, Some, None, refl, sym, ap, ◌∙◌, subst, arith}
 use Rattle.std.specs.Prelude.{All, if◌then◌else◌}
 use Rattle.std.proofs.lemmas.Bool.{false≢true}
 use Rattle.std.proofs.lemmas.List.{take-append-drop, length-drop, length-map, get_or-map}
@@ -14,17 +14,14 @@ use Rattle.rv_isa.specs.Kind.{class_of}
 use Rattle.qed_model.specs.declared.options.Options.{Options}
 use Rattle.qed_model.specs.declared.test.CodeWord.{CodeWord}
 use Rattle.qed_model.specs.Machine.Table.{decode_of}
-use Rattle.qed_model.specs.Elf.File.{File}
 use Rattle.qed_model.specs.Admission.CodeWords.{is_code, word_at, instruction_at}
 use Rattle.qed_model.specs.Admission.Leaders.{is_end}
 use Rattle.qed_model.specs.Admission.Refusals.{IsAdmitted}
 use Rattle.qed_model.specs.Admission.Rules.{passes_at, high_in, is_ebreak}
 use Rattle.qed_model.specs.Admission.Terms.{high_register}
 use Rattle.qed_model.specs.Admission.Test.{AreCodeWords}
-use Rattle.qed_model.specs.Weave.Places.{AreSoundOptions}
-use Rattle.qed_model.specs.Weave.Pieces.{ArePieces, divided, whole}
-use Rattle.qed_model.specs.Weave.Sequences.{Block, End, Falls, Stops}
-use Rattle.qed_model.specs.Weave.Blocks.{IsBodyAt, StopsAt, IsLeaderBlock, IsShort, IsOtherBlock, AreBlocks}
+use Rattle.qed_model.specs.Weave.Pieces.{divided, whole}
+use Rattle.qed_model.specs.Weave.Blocks.{IsBodyAt, StopsAt, IsLeaderBlock, IsShort, IsOtherBlock}
 use Rattle.qed_model.proofs.EachKind.{each_kind}
 use Rattle.qed_model.proofs.LowRegisters.{low_fields}
 use Rattle.qed_model.proofs.PieceLaws.{pieces_whole}
@@ -35,7 +32,7 @@ use Rattle.weave_core.proofs.TestKept as kept
 use Rattle.block_list.specs.declared.block.CodeBlock.{CodeBlock}
 use Rattle.block_list.specs.Listed.{end_of, block_of, IsWithin}
 use Rattle.test_weave.specs.Fits.{FitsLeave, FitsEnd, FitsBlock}
-use Rattle.test_weave.specs.Admitted.{IsBlocked, BlocksFit}
+use Rattle.test_weave.specs.Admitted.{BlocksFit}
 
 -- ---- kinds
 -- an EBREAK, or of another class than it

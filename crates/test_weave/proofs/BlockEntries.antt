@@ -1,6 +1,5 @@
 -- The entry of a block, and the entries of blocks, part by part.
 use Rattle.std.proofs.Common.{Bool, ◌≡◌, ℕ, ◌+◌, ◌*◌, ◌<◌, List, ◌∷◌, ◌++◌, length, map, drop, get_or, sym, ap, ◌∙◌, subst}
-use Rattle.std.specs.Prelude.{All}
 use Rattle.std.proofs.lemmas.List.{drop_more}
 use Rattle.qed_model.specs.declared.item.Item.{Item}
 use Rattle.qed_model.specs.Weave.Pieces.{divided}
@@ -8,7 +7,7 @@ use Rattle.qed_model.specs.Weave.Sequences.{Form, enter, pieces, leave, entry_it
 use Rattle.block_list.specs.declared.block.CodeBlock.{CodeBlock}
 use Rattle.block_list.specs.Listed.{block_of, end_of}
 use Rattle.relinker.specs.Sink.{ComeNext, Takes}
-use Rattle.test_weave.specs.Taken.{Going, come_first, come_second, takes_both, going_first, going_on}
+use Rattle.test_weave.proofs.Taking.{TakenUpTo, come_first, come_second, takes_both, taken_next, taken_more}
 use Rattle.test_weave.specs.Fits.{FitsBlock}
 use Rattle.test_weave.proofs.BodyLeft.{whole_length}
 
@@ -43,10 +42,10 @@ module _ (form : Form) (blocks : List CodeBlock) (k : ℕ) (b : CodeBlock) (less
   entries_split : all_entries form (map block_of (drop k blocks)) ≡ entry_items form (block_of b) ++ all_entries form (map block_of (drop (k + 1) blocks))
   entries_split = ap (λ l. all_entries form (map block_of l)) (drop_more blocks k b less ∙ ap (λ x. x ∷ drop (k + 1) blocks) item)
 
-  pub entry_comes : (old now : Bool × ℕ → List Item → List Item → Type 0) (all : List Item) → Going old now all (all_entries form (map block_of (drop k blocks))) → ComeNext now (entry_items form (block_of b))
-  entry_comes old now all g = going_first old now all (entry_items form (block_of b)) (all_entries form (map block_of (drop (k + 1) blocks))) (subst (Going old now all) entries_split g)
+  pub entry_comes : (old now : Bool × ℕ → List Item → List Item → Type 0) (all : List Item) → TakenUpTo old now all (all_entries form (map block_of (drop k blocks))) → ComeNext now (entry_items form (block_of b))
+  entry_comes old now all g = taken_next old now all (entry_items form (block_of b)) (all_entries form (map block_of (drop (k + 1) blocks))) (subst (TakenUpTo old now all) entries_split g)
 
-  pub entries_go_on :
-      (old now new : Bool × ℕ → List Item → List Item → Type 0) (all : List Item) → Going old now all (all_entries form (map block_of (drop k blocks)))
-      → Takes now new (entry_items form (block_of b)) → Going old new all (all_entries form (map block_of (drop (k + 1) blocks)))
-  entries_go_on old now new all g took = going_on old now new all (entry_items form (block_of b)) (all_entries form (map block_of (drop (k + 1) blocks))) (subst (Going old now all) entries_split g) took
+  pub more_entries :
+      (old now new : Bool × ℕ → List Item → List Item → Type 0) (all : List Item) → TakenUpTo old now all (all_entries form (map block_of (drop k blocks)))
+      → Takes now new (entry_items form (block_of b)) → TakenUpTo old new all (all_entries form (map block_of (drop (k + 1) blocks)))
+  more_entries old now new all g took = taken_more old now new all (entry_items form (block_of b)) (all_entries form (map block_of (drop (k + 1) blocks))) (subst (TakenUpTo old now all) entries_split g) took

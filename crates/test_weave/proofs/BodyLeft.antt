@@ -1,5 +1,5 @@
 -- The pieces of a body, one after the other.
-use Rattle.std.proofs.Common.{Bool, ◌≡◌, ℕ, zero, suc, ◌+◌, ◌*◌, ◌^◌, ◌<◌, ◌≤◌, List, [], ◌∷◌, ◌++◌, length, sum, take, drop, refl, sym, ap, ◌∙◌, subst, arith}
+use Rattle.std.proofs.Common.{Bool, ◌≡◌, ℕ, zero, suc, ◌+◌, ◌*◌, ◌^◌, ◌<◌, List, [], ◌∷◌, ◌++◌, length, sum, take, drop, sym, ap, ◌∙◌, subst, arith}
 use Rattle.std.proofs.Common.{length-drop, get_or}
 use Rattle.std.proofs.lemmas.List.{length-take-le, drop_more}
 use Rattle.std.proofs.lemmas.List.Sums.{sum_by-cons}
@@ -9,7 +9,7 @@ use Rattle.qed_model.specs.Weave.Pieces.{divided}
 use Rattle.qed_model.specs.Weave.Sequences.{Form, piece, pieces, body_length}
 use Rattle.weave_core.specs.Blocks.{AllFit}
 use Rattle.relinker.specs.Sink.{ComeNext, Takes}
-use Rattle.test_weave.specs.Taken.{Going, come_first, going_on}
+use Rattle.test_weave.proofs.Taking.{TakenUpTo, come_first, taken_more}
 
 -- what is left of a body, and of the lengths of its pieces
 pub record Left (lengths : List ℕ) (body : List Ins) (at : ℕ) : Type 0 where
@@ -53,11 +53,11 @@ module _ (form : Form) where
   piece_comes t n ns is at l c = come_first t (piece form (take n is) at) (pieces form (divided ns (drop n is)) (at + 4 * n)) (subst (ComeNext t) (piece_next n ns is at l) c)
 
   -- and behind it the others
-  pub pieces_go_on :
+  pub more_pieces :
       (old now new : Bool × ℕ → List Item → List Item → Type 0) (all : List Item) (n : ℕ) (ns : List ℕ) (is : List Ins) (at : ℕ) → Left (n ∷ ns) is at
-      → Going old now all (pieces form (divided (n ∷ ns) is) at) → Takes now new (piece form (take n is) at)
-      → Going old new all (pieces form (divided ns (drop n is)) (at + 4 * n))
-  pieces_go_on old now new all n ns is at l g took = going_on old now new all (piece form (take n is) at) (pieces form (divided ns (drop n is)) (at + 4 * n)) (subst (Going old now all) (piece_next n ns is at l) g) took
+      → TakenUpTo old now all (pieces form (divided (n ∷ ns) is) at) → Takes now new (piece form (take n is) at)
+      → TakenUpTo old new all (pieces form (divided ns (drop n is)) (at + 4 * n))
+  more_pieces old now new all n ns is at l g took = taken_more old now new all (piece form (take n is) at) (pieces form (divided ns (drop n is)) (at + 4 * n)) (subst (TakenUpTo old now all) (piece_next n ns is at l) g) took
 
 -- ---- behind the pieces
 -- a body that is all in pieces

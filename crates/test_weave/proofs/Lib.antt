@@ -1,3 +1,4 @@
+pub mod Taking
 pub mod PieceItems
 pub mod Zeros
 pub mod Joined

@@ -6,7 +6,7 @@ use Rattle.qed_model.specs.Weave.Places.{image_of, half_of}
 use Rattle.qed_model.specs.Weave.Sequences.{prologue, all_entries, stub}
 use Rattle.qed_model.specs.Weave.Woven.{form_of}
 use Rattle.plc_rounds.specs.Spans.{spans_of}
-use Rattle.test_weave.specs.Form.{form_with, woven_items}
+use Rattle.test_weave.specs.Form.{form_with, items_to_stub}
 use Rattle.test_weave.specs.WholeCode.{ItemsAreWhole}
 
 spans_are : (rs : List Range) → spans_of rs ≡ map range_of rs
@@ -17,5 +17,5 @@ pub items_are_whole : ItemsAreWhole
 items_are_whole f o far span blocks e =
     let d = half_of o.half (image_of f) in
     let form = form_of f o far in
-    ap (λ s. woven_items d f.entry (form_with s o far) blocks ++ stub) (spans_are span ∙ e)
+    ap (λ s. items_to_stub d f.entry (form_with s o far) blocks ++ stub) (spans_are span ∙ e)
     ∙ append_assoc (prologue d form.spans f.entry) (all_entries form blocks) stub

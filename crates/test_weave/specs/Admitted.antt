@@ -14,7 +14,7 @@ use Rattle.test_weave.specs.Fits.{FitsBlock}
 
 -- the bytes are an admitted test with these words of its code, and these are its blocks, whose bodies are in pieces and go no further
 -- than the words
-pub record IsBlocked (input : List ℕ) (f : ElfFile) (o : Options) (code : List CodeWord) (blocks : List CodeBlock) : Type 0 where
+pub record IsTestInBlocks (input : List ℕ) (f : ElfFile) (o : Options) (code : List CodeWord) (blocks : List CodeBlock) : Type 0 where
   pub bytes : (k : ℕ) → slice_index input k < 256
   pub read : File input f
   pub sound : AreSoundOptions o
@@ -24,4 +24,4 @@ pub record IsBlocked (input : List ℕ) (f : ElfFile) (o : Options) (code : List
   pub within : (top : ℕ) → All (λ c. c.at + 4 ≤ top) code → All (IsWithin top) blocks
 
 abbrev pub BlocksFit : Type 0
-BlocksFit = (input : List ℕ) (f : ElfFile) (o : Options) (code : List CodeWord) (blocks : List CodeBlock) → IsBlocked input f o code blocks → All FitsBlock blocks
+BlocksFit = (input : List ℕ) (f : ElfFile) (o : Options) (code : List CodeWord) (blocks : List CodeBlock) → IsTestInBlocks input f o code blocks → All FitsBlock blocks

@@ -1,5 +1,5 @@
 -- The blocks that can be woven.
-use Rattle.std.specs.Prelude.{◌≡◌, ℕ, ◌+◌, ◌*◌, ◌^◌, ◌<◌, ◌≤◌, Option, Some, None, length, sum}
+use Rattle.std.specs.Prelude.{◌≡◌, ◌+◌, ◌*◌, ◌^◌, ◌<◌, ◌≤◌, Option, Some, None, length, sum}
 use Rattle.rv_isa.specs.declared.ins.Ins.{Ins}
 use Rattle.rv_isa.specs.declared.class.Class.{Class}
 use Rattle.rv_isa.specs.declared.class.Class.TheVariants as class
@@ -21,7 +21,7 @@ abbrev pub FitsEnd : Option Ins → Type 0
 FitsEnd None = Unit {0}
 FitsEnd (Some i) = FitsLeave (class_of i.kind) i
 
--- a block of instructions that can be doubled and of such an end, all of whose body is in pieces, at addresses below 2^64
+-- a block whose body can be doubled and is all in pieces, with such an end, and which stands below 2^64
 pub record FitsBlock (b : CodeBlock) : Type 0 where
   pub body : AllFit b.body
   pub end : FitsEnd b.end

@@ -16,6 +16,6 @@ form_with spans o far = record { spans = spans; round = o.round; far = far; swee
 abbrev pub form : Weaver → Form
 form w = record { spans = spans_in w.pieces; round = round_in w.pieces; far = w.far; sweep = is_some w.sweep; mirror = mirror_of (is_diverse w.pieces); cost = cost_of (is_diverse w.pieces) }
 
--- the prologue, and the entries of the blocks
-abbrev pub woven_items : ℕ → ℕ → Form → List Block → List Item
-woven_items d entry form blocks = prologue d form.spans entry ++ all_entries form blocks
+-- the new code up to the stub: the prologue, and the entries of the blocks
+abbrev pub items_to_stub : ℕ → ℕ → Form → List Block → List Item
+items_to_stub d entry form blocks = prologue d form.spans entry ++ all_entries form blocks

@@ -1,6 +1,5 @@
 pub mod Passes
 pub mod Form
 pub mod Fits
-pub mod Taken
 pub mod Admitted
 pub mod WholeCode

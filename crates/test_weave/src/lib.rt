@@ -6,6 +6,7 @@ ghost use Rattle.test_weave.specs.Admitted.{BlocksFit};
 ghost use Rattle.test_weave.specs.WholeCode.{ItemsAreWhole};
 
 mod leave;
+mod make;
 mod parts;
 mod prologue;
 mod walk;

@@ -52,7 +52,10 @@ impl Weaver {
     pub(crate) fn go_on(&self, next: u64, out: &mut Emit) -> Result<(), AllocError>
         ensures { OnOk result (out.new ≡ out.old ++ go_on next) }
     {
-        let leave = Leave { next, far: self.far };
+        let leave = Leave {
+            next,
+            far: self.far,
+        };
         leave.emit(&Ins::nop(), next, out)?;
         Ok(())
     }

@@ -122,7 +122,11 @@ fn one_block(rt: HostRuntime) -> Result<(), Fail> {
         (true, true, false, 376),
         (false, false, true, 268),
     ] {
-        let options = Options { sweep, diverse, ..PLAIN };
+        let options = Options {
+            sweep,
+            diverse,
+            ..PLAIN
+        };
         assert_eq!(rt; bytes_of(alloc, &[], &options, far, &blocks)?, bytes);
     }
     Ok(())
@@ -132,7 +136,10 @@ fn one_block(rt: HostRuntime) -> Result<(), Fail> {
 #[test]
 fn loads_and_stores(rt: HostRuntime) -> Result<(), Fail> {
     let alloc = rt.alloc();
-    let word = Range { start: 0x20000, end: 0x20008 };
+    let word = Range {
+        start: 0x20000,
+        end: 0x20008,
+    };
     // lui x8,0x20; ld x9,0(x8); add x10,x9,x9; sd x10,0(x8); ecall
     let body = [
         ins(Kind::Lui, 8, 0, 0, 0x20000),
@@ -146,7 +153,10 @@ fn loads_and_stores(rt: HostRuntime) -> Result<(), Fail> {
 
     // ecall alone, which has one empty piece, with the sweep over the word
     let blocks = [block(alloc, 0x10000, &[], &[0], Some(end))?];
-    let options = Options { sweep: true, ..PLAIN };
+    let options = Options {
+        sweep: true,
+        ..PLAIN
+    };
     assert_eq!(rt; bytes_of(alloc, &[word], &options, false, &blocks)?, 448);
     Ok(())
 }
@@ -211,10 +221,20 @@ fn other_ends(rt: HostRuntime) -> Result<(), Fail> {
     let end = ins(Kind::Ecall, 0, 0, 0, 0);
     let blocks = [block(alloc, 0x10000, &body, &[1], Some(end))?];
     let span = [
-        Range { start: 0x20000, end: 0x20018 },
-        Range { start: 0x21000, end: 0x21008 },
+        Range {
+            start: 0x20000,
+            end: 0x20018,
+        },
+        Range {
+            start: 0x21000,
+            end: 0x21008,
+        },
     ];
-    let options = Options { sweep: true, round: 2, ..PLAIN };
+    let options = Options {
+        sweep: true,
+        round: 2,
+        ..PLAIN
+    };
     assert_eq!(rt; bytes_of(alloc, &span, &options, false, &blocks)?, 584);
     Ok(())
 }

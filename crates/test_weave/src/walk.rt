@@ -6,7 +6,7 @@ ghost use Rattle.weave_core.specs.Blocks.{AllFit};
 ghost use Rattle.block_list.specs.Listed.{block_of, end_of};
 ghost use Rattle.relinker.specs.Sink.{ComeNext, Takes};
 ghost use Rattle.test_weave.specs.Fits.{FitsBlock, FitsEnd};
-ghost use Rattle.test_weave.specs.Form.{form, woven_items};
+ghost use Rattle.test_weave.specs.Form.{form, items_to_stub};
 
 use crate::Weaver;
 use block_list::CodeBlock;
@@ -35,6 +35,7 @@ fn weave_piece<S: ItemSink>(
 }
 
 /// Hands on the pieces of a block.
+#[tactic(auto, using(crate::proofs::Taking::taken_none, crate::proofs::Taking::taken_all))]
 fn weave_pieces<S: ItemSink>(
     weaver: &Weaver,
     block: &CodeBlock,
@@ -109,6 +110,7 @@ fn weave_block<S: ItemSink>(
 }
 
 /// Hands on the entries of the blocks, one after the other.
+#[tactic(auto, using(crate::proofs::Taking::taken_none, crate::proofs::Taking::taken_all))]
 fn weave_blocks<S: ItemSink>(
     weaver: &Weaver,
     blocks: &[CodeBlock],
@@ -143,10 +145,10 @@ fn weave_prologue<S: ItemSink>(
     Ok(())
 }
 
-/// Makes the new code of the blocks, all but the stub behind it, and hands it on part by part. The test begins at `entry`, and
-/// `distance` is that of its halves.
+/// Makes the new code of a test with these blocks, which begins at `entry`, all but the stub behind it, and hands it on part by
+/// part. `distance` is that of the halves, in bytes. It takes time with the items, and memory for one part at a time.
 ///
-/// Errors: want of memory; then the sink has taken a part of it.
+/// Errors: want of memory. What the sink has taken then is not told.
 pub fn weave<S: ItemSink>(
     alloc: Global,
     weaver: &Weaver,
@@ -157,8 +159,8 @@ pub fn weave<S: ItemSink>(
 ) -> Result<(), AllocError>
     requires half { distance < 2 ^ 63 }
     requires fit { All FitsBlock blocks.now }
-    requires come { ComeNext (S.took sink.old) (woven_items distance entry (form weaver.now) (map block_of blocks.now)) }
-    ensures { OnOk result (Takes (S.took sink.old) (S.took sink.new) (woven_items distance entry (form weaver.now) (map block_of blocks.now))) }
+    requires come { ComeNext (S.took sink.old) (items_to_stub distance entry (form weaver.now) (map block_of blocks.now)) }
+    ensures { OnOk result (Takes (S.took sink.old) (S.took sink.new) (items_to_stub distance entry (form weaver.now) (map block_of blocks.now))) }
 {
     let mut part = Emit::new(alloc);
     weave_prologue(weaver, distance, entry, &mut part, sink)?;

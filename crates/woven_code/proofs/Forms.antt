@@ -30,7 +30,7 @@ use Rattle.relinker.specs.Counted.{capped}
 use Rattle.relinker.specs.Laid.{IsLinked, HasLinkCause}
 use Rattle.relinker.specs.Link.{is_encoded, Ascend, most_bytes}
 use Rattle.relinker.proofs.Joining.{parts_join}
-use Rattle.test_weave.specs.Form.{form_with, woven_items}
+use Rattle.test_weave.specs.Form.{form_with, items_to_stub}
 use Rattle.test_weave.proofs.WholeCode.{items_are_whole}
 use Rattle.weave_core.proofs.TestKept.{are_rows}
 use Rattle.weave_core.proofs.Tests.{tests_have_words}
@@ -66,8 +66,8 @@ module _ (input : List ℕ) (f : ElfFile) (o : Options) (t : Test) (blocks : Lis
   -- with the stub they are the items of the file
   whole : (far : Bool) → items_of t o far blocks ++ stub ≡ items_in f o far bs
   whole far =
-      ap (λ d. woven_items d t.entry (form_with (spans_of t.span) o far) bs ++ stub) cut.told.distance
-      ∙ ap (λ e. woven_items (half_of o.half (image_of f)) e (form_with (spans_of t.span) o far) bs ++ stub) cut.told.entry
+      ap (λ d. items_to_stub d t.entry (form_with (spans_of t.span) o far) bs ++ stub) cut.told.distance
+      ∙ ap (λ e. items_to_stub (half_of o.half (image_of f)) e (form_with (spans_of t.span) o far) bs ++ stub) cut.told.entry
       ∙ items_are_whole f o far t.span bs cut.told.span
 
   size : (far : Bool) → sum_of_sizes far (items_in f o far bs) ≡ sum_of_sizes far (items_of t o far blocks) + 4

@@ -17,13 +17,13 @@ use Rattle.relinker.specs.declared.error.LinkError.TheVariants as error
 use Rattle.relinker.specs.declared.layout.Linked.{Linked}
 use Rattle.relinker.specs.Counted.{capped}
 use Rattle.relinker.specs.Link.{IsLinkable, most_bytes}
-use Rattle.test_weave.specs.Admitted.{IsBlocked}
-use Rattle.test_weave.specs.Form.{form_with, woven_items}
+use Rattle.test_weave.specs.Admitted.{IsTestInBlocks}
+use Rattle.test_weave.specs.Form.{form_with, items_to_stub}
 
 -- ---- in one form
 -- the items in the near or in the far form, all but the stub
 abbrev pub items_of : Test → Options → Bool → List CodeBlock → List Item
-items_of t o far blocks = woven_items t.distance t.entry (form_with (spans_of t.span) o far) (map block_of blocks)
+items_of t o far blocks = items_to_stub t.distance t.entry (form_with (spans_of t.span) o far) (map block_of blocks)
 
 -- where the code begins
 abbrev pub place_of : Test → ℕ
@@ -41,7 +41,7 @@ LinksWithin far base items = IsWithinForm far items → IsLinkable far base item
 -- the bytes are an admitted test, of which this is told, and these are its blocks
 pub record IsCut (input : List ℕ) (f : ElfFile) (o : Options) (t : Test) (blocks : List CodeBlock) : Type 0 where
   pub told : IsTestOf f o t
-  pub blocked : IsBlocked input f o t.code blocks
+  pub blocked : IsTestInBlocks input f o t.code blocks
 
 -- the words are the new code of the file, which is within the limit, and the entries are its entries
 pub record IsCodeOf (f : ElfFile) (o : Options) (blocks : List CodeBlock) (linked : Linked) : Type 0 where

@@ -7,7 +7,7 @@ ghost use Rattle.qed_model.specs.declared.limits.TheConstants.{CODE_ROOM};
 ghost use Rattle.relinker.specs.Counted.{HasCounted};
 ghost use Rattle.relinker.specs.Laid.{IsLaid, IsLinked, HasLinkCause};
 ghost use Rattle.test_weave.specs.Fits.{FitsBlock};
-ghost use Rattle.test_weave.specs.Form.{form, woven_items};
+ghost use Rattle.test_weave.specs.Form.{form, items_to_stub};
 ghost use Rattle.woven_code.specs.Code.{items_of, place_of, IsWithinForm, LinksWithin, IsCut, IsCodeOf, HasCause};
 
 use block_list::CodeBlock;
@@ -18,7 +18,7 @@ use test_weave::{Weaver, weave};
 
 /// The passes of the code in one form.
 fn weaver(alloc: Global, test: &Test, options: &Options, far: bool) -> Result<Weaver, AllocError>
-    ensures { IfOk result (λ weaver. (blocks : List CodeBlock) → woven_items test.now.distance test.now.entry (form weaver) (map block_of blocks) ≡ items_of test.now options.now far blocks) }
+    ensures { IfOk result (λ weaver. (blocks : List CodeBlock) → items_to_stub test.now.distance test.now.entry (form weaver) (map block_of blocks) ≡ items_of test.now options.now far blocks) }
 {
     Weaver::new(alloc, &test.span, options, far)
 }
@@ -34,7 +34,7 @@ fn counted(
     requires half { test.now.distance < 2 ^ 63 }
     requires fit { All FitsBlock blocks.now }
     ensures form { IfOk result (λ count. count.far ≡ far) }
-    ensures counted { IfOk result (λ count. HasCounted count (woven_items test.now.distance test.now.entry (form weaver.now) (map block_of blocks.now))) }
+    ensures counted { IfOk result (λ count. HasCounted count (items_to_stub test.now.distance test.now.entry (form weaver.now) (map block_of blocks.now))) }
 {
     let mut count = Count::new(alloc, far);
     weave(alloc, weaver, test.distance, test.entry, blocks, &mut count)?;
@@ -51,12 +51,12 @@ fn laid_out(
 ) -> Result<Layout, LinkError>
     requires room { place_of test.now + CODE_ROOM ≤ 2 ^ 63 }
     requires fit { All FitsBlock blocks.now }
-    requires links { LinksWithin far (place_of test.now) (woven_items test.now.distance test.now.entry (form weaver.now) (map block_of blocks.now)) }
+    requires links { LinksWithin far (place_of test.now) (items_to_stub test.now.distance test.now.entry (form weaver.now) (map block_of blocks.now)) }
     ensures form { IfOk result (λ layout. layout.far ≡ far) }
     ensures base { IfOk result (λ layout. layout.base ≡ place_of test.now) }
-    ensures laid { IfOk result (λ layout. IsLaid layout [] (woven_items test.now.distance test.now.entry (form weaver.now) (map block_of blocks.now))) }
-    ensures fits { IfOk result (λ _. IsWithinForm far (woven_items test.now.distance test.now.entry (form weaver.now) (map block_of blocks.now))) }
-    ensures cause { IfErr result (HasLinkCause far (woven_items test.now.distance test.now.entry (form weaver.now) (map block_of blocks.now))) }
+    ensures laid { IfOk result (λ layout. IsLaid layout [] (items_to_stub test.now.distance test.now.entry (form weaver.now) (map block_of blocks.now))) }
+    ensures fits { IfOk result (λ _. IsWithinForm far (items_to_stub test.now.distance test.now.entry (form weaver.now) (map block_of blocks.now))) }
+    ensures cause { IfErr result (HasLinkCause far (items_to_stub test.now.distance test.now.entry (form weaver.now) (map block_of blocks.now))) }
 {
     let count = counted(alloc, weaver, far, test, blocks)?;
     lay(alloc, count, test.base + 3 * test.distance)
@@ -72,8 +72,8 @@ fn written(
 ) -> Result<Linked, AllocError>
     requires half { test.now.distance < 2 ^ 63 }
     requires fit { All FitsBlock blocks.now }
-    requires laid { IsLaid layout [] (woven_items test.now.distance test.now.entry (form weaver.now) (map block_of blocks.now)) }
-    ensures { IfOk result (IsLinked layout.far layout.base (woven_items test.now.distance test.now.entry (form weaver.now) (map block_of blocks.now))) }
+    requires laid { IsLaid layout [] (items_to_stub test.now.distance test.now.entry (form weaver.now) (map block_of blocks.now)) }
+    ensures { IfOk result (IsLinked layout.far layout.base (items_to_stub test.now.distance test.now.entry (form weaver.now) (map block_of blocks.now))) }
 {
     let mut layout = layout;
     weave(
@@ -97,10 +97,10 @@ fn code_of(
 ) -> Result<Linked, LinkError>
     requires room { place_of test.now + CODE_ROOM ≤ 2 ^ 63 }
     requires fit { All FitsBlock blocks.now }
-    requires links { LinksWithin far (place_of test.now) (woven_items test.now.distance test.now.entry (form weaver.now) (map block_of blocks.now)) }
-    ensures linked { IfOk result (IsLinked far (place_of test.now) (woven_items test.now.distance test.now.entry (form weaver.now) (map block_of blocks.now))) }
-    ensures fits { IfOk result (λ _. IsWithinForm far (woven_items test.now.distance test.now.entry (form weaver.now) (map block_of blocks.now))) }
-    ensures cause { IfErr result (HasLinkCause far (woven_items test.now.distance test.now.entry (form weaver.now) (map block_of blocks.now))) }
+    requires links { LinksWithin far (place_of test.now) (items_to_stub test.now.distance test.now.entry (form weaver.now) (map block_of blocks.now)) }
+    ensures linked { IfOk result (IsLinked far (place_of test.now) (items_to_stub test.now.distance test.now.entry (form weaver.now) (map block_of blocks.now))) }
+    ensures fits { IfOk result (λ _. IsWithinForm far (items_to_stub test.now.distance test.now.entry (form weaver.now) (map block_of blocks.now))) }
+    ensures cause { IfErr result (HasLinkCause far (items_to_stub test.now.distance test.now.entry (form weaver.now) (map block_of blocks.now))) }
 {
     let layout = laid_out(alloc, weaver, far, test, blocks)?;
     let linked = written(alloc, weaver, layout, test, blocks)?;

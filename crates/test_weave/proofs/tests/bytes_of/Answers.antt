@@ -1,5 +1,5 @@
-use Rattle.std.specs.Prelude.{[]}
+use Rattle.std.specs.Prelude.{[], false}
 use Rattle.test_weave.proofs.tests.bytes_of.Goals as goal
 
 pub weave-requires-clause-come : goal.weave-requires-clause-come
-weave-requires-clause-come c = ([], [], tt)
+weave-requires-clause-come c = ((false, 0), [], [], tt)

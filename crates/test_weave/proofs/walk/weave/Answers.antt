@@ -1,8 +1,8 @@
-use Rattle.std.proofs.Common.{List, map}
+use Rattle.std.proofs.Common.{map}
 use Rattle.qed_model.specs.Weave.Sequences.{prologue, all_entries}
 use Rattle.block_list.specs.Listed.{block_of}
 use Rattle.test_weave.specs.Form.{form}
-use Rattle.test_weave.specs.Taken.{come_first, come_second, takes_both}
+use Rattle.test_weave.proofs.Taking.{come_first, come_second, takes_both}
 use Rattle.test_weave.proofs.walk.weave.Goals as goal
 
 pub weave_prologue-requires-clause-come : goal.weave_prologue-requires-clause-come

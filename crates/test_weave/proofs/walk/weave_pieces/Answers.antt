@@ -1,11 +1,11 @@
-use Rattle.std.proofs.Common.{◌+◌, ◌*◌, List, ℕ, ◌∷◌, take, drop, sym, subst, get_or}
+use Rattle.std.proofs.Common.{◌+◌, ◌*◌, ◌∷◌, take, drop, sym, subst, get_or}
 use Rattle.relinker.specs.Sink.{ComeNext, Takes}
 use Rattle.qed_model.specs.Weave.Sequences.{piece, pieces}
 use Rattle.qed_model.specs.Weave.Pieces.{divided}
 use Rattle.weave_core.specs.Blocks.{AllFit}
 use Rattle.test_weave.specs.Form.{form}
-use Rattle.test_weave.specs.Taken.{Going}
-use Rattle.test_weave.proofs.BodyLeft.{Left, take_fits, next_length, left_on, piece_comes, pieces_go_on}
+use Rattle.test_weave.proofs.Taking.{TakenUpTo}
+use Rattle.test_weave.proofs.BodyLeft.{Left, take_fits, next_length, left_on, piece_comes, more_pieces}
 use Rattle.test_weave.proofs.walk.weave_pieces.Goals as goal
 
 pub weave_piece-requires-clause-fits : goal.weave_piece-requires-clause-fits
@@ -21,7 +21,7 @@ weave_piece-requires-clause-come g c =
     let ns = drop (c.loop-length.length-index + 1) c.args.block.now.lengths in
     let split = next_length c.as_slice-length-items.result.now c.args.block.now.lengths c.loop-length.length-index c.as_slice-length-items.ensures c.loop-length-test.true in
     let left : Left (n ∷ ns) rest at = subst (λ l. Left l rest at) split c.loop-length.invariant.left in
-    let come : ComeNext t (pieces f (divided (n ∷ ns) rest) at) = subst (λ l. ComeNext t (pieces f (divided l rest) at)) split c.loop-length.invariant.going.come in
+    let come : ComeNext t (pieces f (divided (n ∷ ns) rest) at) = subst (λ l. ComeNext t (pieces f (divided l rest) at)) split c.loop-length.invariant.taken.come in
     subst (λ l. ComeNext t (piece f l at)) (sym c.split_at.ensures.front) (piece_comes f t n ns rest at left come)
 
 pub loop-length-preserved : goal.loop-length-preserved
@@ -37,9 +37,9 @@ loop-length-preserved g c =
     let ns = drop (c.loop-length.length-index + 1) c.args.block.now.lengths in
     let split = next_length c.as_slice-length-items.result.now c.args.block.now.lengths c.loop-length.length-index c.as_slice-length-items.ensures c.loop-length-test.true in
     let left : Left (n ∷ ns) rest at = subst (λ l. Left l rest at) split c.loop-length.invariant.left in
-    let going : Going start now all (pieces f (divided (n ∷ ns) rest) at) = subst (λ l. Going start now all (pieces f (divided l rest) at)) split c.loop-length.invariant.going in
+    let taken : TakenUpTo start now all (pieces f (divided (n ∷ ns) rest) at) = subst (λ l. TakenUpTo start now all (pieces f (divided l rest) at)) split c.loop-length.invariant.taken in
     let took : Takes now new (piece f (take n rest) at) = subst (λ l. Takes now new (piece f l at)) c.split_at.ensures.front c.in_ok-weave_piece.ensures in
     record {
       left = subst (λ l. Left ns l (at + 4 * n)) (sym c.split_at.ensures.back) (left_on n ns rest at left);
-      going = subst (λ l. Going start new all (pieces f (divided ns l) (at + 4 * n))) (sym c.split_at.ensures.back) (pieces_go_on f start now new all n ns rest at left going took);
+      taken = subst (λ l. TakenUpTo start new all (pieces f (divided ns l) (at + 4 * n))) (sym c.split_at.ensures.back) (more_pieces f start now new all n ns rest at left taken took);
     }

@@ -1,6 +1,6 @@
 use Rattle.qed_model.specs.Weave.Sequences.{prologue}
 use Rattle.test_weave.specs.Form.{form}
-use Rattle.test_weave.specs.Taken.{takes_part}
+use Rattle.test_weave.proofs.Taking.{takes_part}
 use Rattle.test_weave.proofs.walk.weave_prologue.Goals as goal
 
 pub returns : goal.returns

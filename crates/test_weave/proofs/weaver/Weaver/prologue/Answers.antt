@@ -1,4 +1,4 @@
-use Rattle.std.proofs.Common.{◌≡◌, ◌++◌, ap, ◌∙◌}
+use Rattle.std.proofs.Common.{◌++◌, ap, ◌∙◌}
 use Rattle.std.specs.Prelude.{pos, [], ◌∷◌}
 use Rattle.rv_isa.specs.declared.kind.Kind.TheVariants.{Lui}
 use Rattle.qed_model.specs.Machine.Table.{ins}
@@ -12,4 +12,4 @@ use Rattle.test_weave.proofs.weaver.Weaver.prologue.Goals as goal
 pub returns : goal.returns
 returns c =
     append_five c.args.out.now c.put_zeros.new.out c.put_zeros-2.new.out c.put_half.new.out c.put_cursor.new.out c.go_on.new.out (zero_from 1 13) (zero_from 17 13) (Plain (ins Lui 14 0 0 (pos c.args.distance)) ∷ []) (cursor (form c.args.self.now).spans) (go_on c.args.entry)
-        c.in_ok-put_zeros.ensures c.in_ok-put_zeros-2.ensures c.in_ok-put_half.ensures (c.in_ok-put_cursor.ensures ∙ ap (λ s. c.put_half.new.out ++ cursor s) c.span.ensures) c.in_ok-go_on.ensures
+    c.in_ok-put_zeros.ensures c.in_ok-put_zeros-2.ensures c.in_ok-put_half.ensures (c.in_ok-put_cursor.ensures ∙ ap (λ s. c.put_half.new.out ++ cursor s) c.span.ensures) c.in_ok-go_on.ensures

@@ -1,15 +1,8 @@
--- What a sink took.
+-- Items that a sink took part by part.
 use Rattle.std.proofs.Common.{ℕ, Bool, ◌≡◌, List, [], ◌++◌, sym, ap, ◌∙◌, subst, refl, append_assoc}
 use Rattle.std.proofs.lemmas.List.{append-nil}
 use Rattle.qed_model.specs.declared.item.Item.{Item}
 use Rattle.relinker.specs.Sink.{ComeNext, Takes}
-
--- of some items, those before the rest were taken, and the rest comes next
-pub record Going (old now : Bool × ℕ → List Item → List Item → Type 0) (all rest : List Item) : Type 0 where
-  pub done : List Item
-  pub whole : all ≡ done ++ rest
-  pub took : Takes old now done
-  pub come : ComeNext now rest
 
 -- what was put behind nothing
 pub takes_part : (old new : Bool × ℕ → List Item → List Item → Type 0) (none part items : List Item) → none ≡ [] → part ≡ none ++ items → Takes old new part → Takes old new items
@@ -29,19 +22,26 @@ takes_both old mid new xs ys a b form done rest t =
     subst (λ l. new form l rest) (append_assoc done xs ys) (b form (done ++ xs) rest (a form done (ys ++ rest) (subst (old form done) (append_assoc xs ys rest) t)))
 
 -- ---- in a loop
-pub going_all : (old : Bool × ℕ → List Item → List Item → Type 0) (all : List Item) → ComeNext old all → Going old old all all
-going_all old all c = record { done = []; whole = refl; took = λ form done rest t. subst (λ l. old form l rest) (sym (append-nil done)) t; come = c }
+-- of some items, those before the rest were taken, and the rest comes next
+pub record TakenUpTo (old now : Bool × ℕ → List Item → List Item → Type 0) (all rest : List Item) : Type 0 where
+  pub done : List Item
+  pub whole : all ≡ done ++ rest
+  pub took : Takes old now done
+  pub come : ComeNext now rest
 
-pub going_first : (old now : Bool × ℕ → List Item → List Item → Type 0) (all xs ys : List Item) → Going old now all (xs ++ ys) → ComeNext now xs
-going_first old now all xs ys g = come_first now xs ys g.come
+pub taken_none : (old : Bool × ℕ → List Item → List Item → Type 0) (all : List Item) → ComeNext old all → TakenUpTo old old all all
+taken_none old all c = record { done = []; whole = refl; took = λ form done rest t. subst (λ l. old form l rest) (sym (append-nil done)) t; come = c }
 
-pub going_on : (old now new : Bool × ℕ → List Item → List Item → Type 0) (all xs ys : List Item) → Going old now all (xs ++ ys) → Takes now new xs → Going old new all ys
-going_on old now new all xs ys g took = record {
+pub taken_next : (old now : Bool × ℕ → List Item → List Item → Type 0) (all xs ys : List Item) → TakenUpTo old now all (xs ++ ys) → ComeNext now xs
+taken_next old now all xs ys g = come_first now xs ys g.come
+
+pub taken_more : (old now new : Bool × ℕ → List Item → List Item → Type 0) (all xs ys : List Item) → TakenUpTo old now all (xs ++ ys) → Takes now new xs → TakenUpTo old new all ys
+taken_more old now new all xs ys g took = record {
   done = g.done ++ xs;
   whole = g.whole ∙ sym (append_assoc g.done xs ys);
   took = takes_both old now new g.done xs g.took took;
   come = come_second now new xs ys g.come took;
 }
 
-pub going_none : (old now : Bool × ℕ → List Item → List Item → Type 0) (all : List Item) → Going old now all [] → Takes old now all
-going_none old now all g = subst (Takes old now) (sym (append-nil g.done) ∙ sym g.whole) g.took
+pub taken_all : (old now : Bool × ℕ → List Item → List Item → Type 0) (all : List Item) → TakenUpTo old now all [] → Takes old now all
+taken_all old now all g = subst (Takes old now) (sym (append-nil g.done) ∙ sym g.whole) g.took

@@ -1,0 +1,46 @@
+//! A weaver for a test.
+ghost use Rattle.std.specs.Prelude.{◌≡◌, IfOk};
+ghost use Rattle.plc_rounds.specs.Spans.{spans_of};
+ghost use Rattle.test_weave.specs.Form.{form, form_with};
+
+use crate::Weaver;
+use crate::weaver::PiecePasses;
+use elf_types::Listed;
+use end_sweep::Sweep;
+use pieces::{diverse_piece, piece};
+use qed_model::{Options, Ranges};
+use std::alloc::{AllocError, Global};
+
+/// The same ranges.
+fn copied(alloc: Global, span: &Ranges) -> Result<Ranges, AllocError>
+    ensures { IfOk result (λ copy. copy ≡ span.now) }
+{
+    Ok(Listed::of(Vec::from_slice(alloc, span.as_slice())?))
+}
+
+impl Weaver {
+    /// Makes the new code of a test with these data ranges, with the options, in the near or in the far form.
+    pub fn new(
+        alloc: Global,
+        span: &Ranges,
+        options: &Options,
+        far: bool,
+    ) -> Result<Weaver, AllocError>
+        ensures { IfOk result (λ weaver. form weaver ≡ form_with (spans_of span.now) options.now far) }
+    {
+        let visited = copied(alloc, span)?;
+        let pieces = if options.diverse {
+            PiecePasses::Other(diverse_piece(options.round, visited))
+        } else {
+            PiecePasses::Same(piece(options.round, visited))
+        };
+        let sweep = if options.sweep {
+            Some(Sweep {
+                span: copied(alloc, span)?,
+            })
+        } else {
+            None
+        };
+        Ok(Weaver { pieces, far, sweep })
+    }
+}
