@@ -25,7 +25,7 @@ use Rattle.block_list.specs.Listed.{block_of}
 use Rattle.plc_rounds.specs.Spans.{spans_of}
 use Rattle.relinker.specs.declared.error.LinkError.{LinkError}
 use Rattle.relinker.specs.declared.error.LinkError.TheVariants as error
-use Rattle.relinker.specs.declared.layout.Linked.{Linked}
+use Rattle.woven_code.specs.declared.code.WovenCode.{WovenCode}
 use Rattle.relinker.specs.Counted.{capped}
 use Rattle.relinker.specs.Laid.{IsLinked, HasLinkCause}
 use Rattle.relinker.specs.Link.{is_encoded, Ascend, most_bytes}
@@ -122,9 +122,12 @@ module _ (input : List ℕ) (f : ElfFile) (o : Options) (t : Test) (blocks : Lis
       }
 
   -- and what is linked is the new code of the test
-  pub code_of : (far : Bool) (linked : Linked) → is_far_code f o bs ≡ far → IsWithinForm far (items_of t o far blocks) → IsLinked far (place_of t) (items_of t o far blocks) linked → IsCodeOf f o blocks linked
-  code_of far linked e h l = record {
-    code = record { small = l.words; code = subst (Decode linked.words.items) (sym (instructions far e)) l.decode };
+  pub code_of :
+      (far : Bool) (made : WovenCode) → made.far ≡ far → is_far_code f o bs ≡ far → IsWithinForm far (items_of t o far blocks) → IsLinked far (place_of t) (items_of t o far blocks) made.linked
+      → IsCodeOf f o blocks made
+  code_of far made same e h l = record {
+    far = same ∙ sym e;
+    code = record { small = l.words; code = subst (Decode made.linked.words.items) (sym (instructions far e)) l.decode };
     entries = l.entries ∙ sym (entries far e);
     few = few far e h;
   }
@@ -138,8 +141,8 @@ module _ (input : List ℕ) (f : ElfFile) (o : Options) (t : Test) (blocks : Lis
   -- ---- the results of both forms
   -- the near form was written
   pub near_code :
-      (linked : Linked) → IsWithinForm false (items_of t o false blocks) → IsLinked false (place_of t) (items_of t o false blocks) linked → IsCodeOf f o blocks linked
-  near_code linked h l = code_of false linked (near_taken h) h l
+      (made : WovenCode) → made.far ≡ false → IsWithinForm false (items_of t o false blocks) → IsLinked false (place_of t) (items_of t o false blocks) made.linked → IsCodeOf f o blocks made
+  near_code made same h l = code_of false made same (near_taken h) h l
 
   pub near_links : LinksWithin false (place_of t) (items_of t o false blocks)
   near_links h = links false (near_taken h) h
@@ -152,9 +155,9 @@ module _ (input : List ℕ) (f : ElfFile) (o : Options) (t : Test) (blocks : Lis
   far_links n c h = links true (past_near n c) h
 
   pub far_code :
-      (n : ℕ) (linked : Linked) → HasLinkCause false (items_of t o false blocks) (error.TooLarge n) → IsWithinForm true (items_of t o true blocks)
-      → IsLinked true (place_of t) (items_of t o true blocks) linked → IsCodeOf f o blocks linked
-  far_code n linked c h l = code_of true linked (past_near n c) h l
+      (n : ℕ) (made : WovenCode) → HasLinkCause false (items_of t o false blocks) (error.TooLarge n) → made.far ≡ true → IsWithinForm true (items_of t o true blocks)
+      → IsLinked true (place_of t) (items_of t o true blocks) made.linked → IsCodeOf f o blocks made
+  far_code n made c same h l = code_of true made same (past_near n c) h l
 
   pub far_cause : (n : ℕ) (x : LinkError) → HasLinkCause false (items_of t o false blocks) (error.TooLarge n) → HasLinkCause true (items_of t o true blocks) x → HasCause f o blocks x
   far_cause n x c d = cause_of true x (past_near n c) d refl

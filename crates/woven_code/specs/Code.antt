@@ -8,16 +8,16 @@ use Rattle.qed_model.specs.declared.test.Test.{Test}
 use Rattle.qed_model.specs.Admission.Test.{IsTestOf}
 use Rattle.qed_model.specs.Limits.{limit_of}
 use Rattle.qed_model.specs.Weave.Placed.{sum_of_sizes}
-use Rattle.qed_model.specs.Weave.Woven.{code_size, new_entries, IsNewCode}
+use Rattle.qed_model.specs.Weave.Woven.{is_far_code, code_size, new_entries, IsNewCode}
 use Rattle.block_list.specs.declared.block.CodeBlock.{CodeBlock}
 use Rattle.block_list.specs.Listed.{block_of}
 use Rattle.plc_rounds.specs.Spans.{spans_of}
 use Rattle.relinker.specs.declared.error.LinkError.{LinkError}
 use Rattle.relinker.specs.declared.error.LinkError.TheVariants as error
-use Rattle.relinker.specs.declared.layout.Linked.{Linked}
 use Rattle.relinker.specs.Counted.{capped}
 use Rattle.relinker.specs.Link.{IsLinkable, most_bytes}
 use Rattle.test_weave.specs.Admitted.{IsTestInBlocks}
+use Rattle.woven_code.specs.declared.code.WovenCode.{WovenCode}
 use Rattle.test_weave.specs.Form.{form_with, items_to_stub}
 
 -- ---- in one form
@@ -44,9 +44,10 @@ pub record IsCut (input : List ℕ) (f : ElfFile) (o : Options) (t : Test) (bloc
   pub blocked : IsTestInBlocks input f o t.code blocks
 
 -- the words are the new code of the file, which is within the limit, and the entries are its entries
-pub record IsCodeOf (f : ElfFile) (o : Options) (blocks : List CodeBlock) (linked : Linked) : Type 0 where
-  pub code : IsNewCode f o (map block_of blocks) linked.words.items
-  pub entries : linked.entries.items ≡ new_entries f o (map block_of blocks)
+pub record IsCodeOf (f : ElfFile) (o : Options) (blocks : List CodeBlock) (made : WovenCode) : Type 0 where
+  pub code : IsNewCode f o (map block_of blocks) made.linked.words.items
+  pub entries : made.linked.entries.items ≡ new_entries f o (map block_of blocks)
+  pub far : made.far ≡ is_far_code f o (map block_of blocks)
   pub few : code_size f o (map block_of blocks) ≤ limit_of limit.CodeBytes
 
 -- the new code has so many bytes, 2^64 - 1 at most, which are too many

@@ -87,6 +87,13 @@ fn written(
     Ok(layout.finish())
 }
 
+/// The new code of a test: its words and entries, and whether it has the far form.
+#[derive(Debug, Drop)]
+pub struct WovenCode {
+    pub linked: Linked,
+    pub far: bool,
+}
+
 /// The code that a weaver makes.
 fn code_of(
     alloc: Global,
@@ -94,17 +101,18 @@ fn code_of(
     far: bool,
     test: &Test,
     blocks: &[CodeBlock],
-) -> Result<Linked, LinkError>
+) -> Result<WovenCode, LinkError>
     requires room { place_of test.now + CODE_ROOM ≤ 2 ^ 63 }
     requires fit { All FitsBlock blocks.now }
     requires links { LinksWithin far (place_of test.now) (items_to_stub test.now.distance test.now.entry (form weaver.now) (map block_of blocks.now)) }
-    ensures linked { IfOk result (IsLinked far (place_of test.now) (items_to_stub test.now.distance test.now.entry (form weaver.now) (map block_of blocks.now))) }
+    ensures form { IfOk result (λ made. made.far ≡ far) }
+    ensures linked { IfOk result (λ made. IsLinked far (place_of test.now) (items_to_stub test.now.distance test.now.entry (form weaver.now) (map block_of blocks.now)) made.linked) }
     ensures fits { IfOk result (λ _. IsWithinForm far (items_to_stub test.now.distance test.now.entry (form weaver.now) (map block_of blocks.now))) }
     ensures cause { IfErr result (HasLinkCause far (items_to_stub test.now.distance test.now.entry (form weaver.now) (map block_of blocks.now))) }
 {
     let layout = laid_out(alloc, weaver, far, test, blocks)?;
     let linked = written(alloc, weaver, layout, test, blocks)?;
-    Ok(linked)
+    Ok(WovenCode { linked, far })
 }
 
 /// The code in one form.
@@ -114,11 +122,12 @@ fn code_in(
     options: &Options,
     blocks: &[CodeBlock],
     far: bool,
-) -> Result<Linked, LinkError>
+) -> Result<WovenCode, LinkError>
     requires room { place_of test.now + CODE_ROOM ≤ 2 ^ 63 }
     requires fit { All FitsBlock blocks.now }
     requires links { LinksWithin far (place_of test.now) (items_of test.now options.now far blocks.now) }
-    ensures linked { IfOk result (IsLinked far (place_of test.now) (items_of test.now options.now far blocks.now)) }
+    ensures form { IfOk result (λ made. made.far ≡ far) }
+    ensures linked { IfOk result (λ made. IsLinked far (place_of test.now) (items_of test.now options.now far blocks.now) made.linked) }
     ensures fits { IfOk result (λ _. IsWithinForm far (items_of test.now options.now far blocks.now)) }
     ensures cause { IfErr result (HasLinkCause far (items_of test.now options.now far blocks.now)) }
 {
@@ -135,9 +144,9 @@ pub fn woven_code(
     test: &Test,
     options: &Options,
     blocks: &[CodeBlock],
-) -> Result<Linked, LinkError>
+) -> Result<WovenCode, LinkError>
     requires { (input : List ℕ) × (f : ElfFile) × IsCut input f options.now test.now blocks.now }
-    ensures code { IfOk result (λ linked. (input : List ℕ) (f : ElfFile) → IsCut input f options.now test.now blocks.now → IsCodeOf f options.now blocks.now linked) }
+    ensures code { IfOk result (λ code. (input : List ℕ) (f : ElfFile) → IsCut input f options.now test.now blocks.now → IsCodeOf f options.now blocks.now code) }
     ensures cause { IfErr result (λ e. (input : List ℕ) (f : ElfFile) → IsCut input f options.now test.now blocks.now → HasCause f options.now blocks.now e) }
 {
     match code_in(alloc, test, options, blocks, false) {

@@ -3,4 +3,4 @@
 
 mod code;
 
-pub use code::woven_code;
+pub use code::{WovenCode, woven_code};

@@ -23,7 +23,7 @@ code_in-requires-in-Err-TooLarge-clause-links c =
 pub returns-in-Err-TooLarge-clause-code : goal.returns-in-Err-TooLarge-clause-code
 returns-in-Err-TooLarge-clause-code c =
     far_result c.args.options.now c.args.test.now c.args.blocks.now c.in-Err-TooLarge.field-0-0 c.code_in-in-Err-TooLarge.result (subst (λ e. HasLinkCause false (items_of c.args.test.now c.args.options.now false c.args.blocks.now) e) c.in-Err-TooLarge.field-0-is c.in-Err-TooLarge.ensures.cause)
-    c.code_in-in-Err-TooLarge.ensures.fits c.code_in-in-Err-TooLarge.ensures.linked
+    c.code_in-in-Err-TooLarge.ensures.form c.code_in-in-Err-TooLarge.ensures.fits c.code_in-in-Err-TooLarge.ensures.linked
 
 pub returns-in-Err-TooLarge-clause-cause : goal.returns-in-Err-TooLarge-clause-cause
 returns-in-Err-TooLarge-clause-cause c =
@@ -31,4 +31,4 @@ returns-in-Err-TooLarge-clause-cause c =
     c.code_in-in-Err-TooLarge.ensures.cause
 
 pub returns-in_default-2-clause-code : goal.returns-in_default-2-clause-code
-returns-in_default-2-clause-code c = near_result c.args.options.now c.args.test.now c.args.blocks.now c.code_in.result c.code_in.ensures.fits c.code_in.ensures.linked
+returns-in_default-2-clause-code c = near_result c.args.options.now c.args.test.now c.args.blocks.now c.code_in.result c.code_in.ensures.form c.code_in.ensures.fits c.code_in.ensures.linked
