@@ -1,0 +1,145 @@
+-- The image of a test: its segments share no address, and which of them lie in a data range.
+use Rattle.std.proofs.Common.{◌≡◌, ⊎_elim, ℕ, suc, ◌+◌, ◌<◌, ◌≤◌, Bool, true, false, cond, ◌&&◌, not, List, [], ◌∷◌, length, map, refl, sym, ap, ◌∙◌, subst, arith}
+use Rattle.std.specs.Prelude.{nat_lt, All}
+use Rattle.std.specs.List.{list_any}
+use Rattle.std.proofs.lemmas.Bool.{lt-ltb, and_from, false≢true}
+use Rattle.std.proofs.lemmas.Bool.Decides.{nat_tests}
+use Rattle.std.proofs.lemmas.List.Elements.{All-nil, All-cons}
+use Rattle.elf_types.specs.declared.file.Segment.{Segment}
+use Rattle.elf_types.specs.Abi.{is_load}
+use Rattle.qed_model.specs.declared.range.Range.{Range}
+use Rattle.qed_model.specs.Machine.Apart.{FitsMemory, AllFitMemory, AreApart, share}
+use Rattle.qed_model.specs.Machine.Program.{LoadSegment}
+use Rattle.qed_model.specs.Machine.Loading.{load_segment, load_segments}
+use Rattle.qed_model.specs.Admission.Terms.{is_in_image, image_segments}
+use Rattle.qed_model.specs.Admission.DataRanges.{range_of, rounded, do_meet, is_data, data_segments, data_parts, data_ranges, is_in, is_in_any}
+use Rattle.qed_model.specs.Admission.Rules.{passes_at, segment_range, is_mixed}
+use Rattle.qed_model.proofs.Among.{Among, among-filter, among-kept, among-map, any_passing, none_passing, place_of}
+use Rattle.qed_model.proofs.Pairs.{Pairs, pairs_all, every_among, among_every}
+use Rattle.qed_model.proofs.DataRangesLaws.{AllRoom, Spaced, spaced_data, spaced_from, in_from, in_parts, one_range, Inside, inside-joined}
+use Rattle.qed_model.proofs.ImageLaws.{among_load, image_parts, image_room}
+use Rattle.output_file.specs.Images.{AreSpaced, IsImage}
+
+-- ---- segments apart
+-- no address is in both
+abbrev pub Clear : Segment → Segment → Type 0
+Clear s t = (q : ℕ) → s.address ≤ q → q < s.address + s.memory → t.address ≤ q → q < t.address + t.memory → ⊥
+
+share_at : (s t : Segment) (q : ℕ) → s.address ≤ q → q < s.address + s.memory → t.address ≤ q → q < t.address + t.memory → share (load_segment s) (load_segment t) ≡ true
+share_at s t q a b c d = grind (arith, nat_tests)
+
+apart_tail : (l : LoadSegment) (ls : List LoadSegment) → AreApart (l ∷ ls) → AreApart ls
+apart_tail l ls h i j o = let lt = o.order in h (suc i) (suc j) (record { order = omega (arith, lt); first = o.first; second = o.second; first_at = o.first_at; second_at = o.second_at; share = o.share })
+
+apart_head : (s t : Segment) (ss : List Segment) → AreApart (load_segment s ∷ load_segments ss) → Among t (image_segments ss) → Clear s t
+apart_head s t ss h m q a b c d =
+    let p = image_parts t ss m in
+    let at = place_of (load_segment t) (load_segments ss) (among_load t ss p.1 p.0) in
+    h 0 (suc at.place) (record { order = omega arith; first = load_segment s; second = load_segment t; first_at = refl; second_at = at.stands; share = share_at s t q a b c d })
+
+apart_pairs : (ss : List Segment) → AreApart (load_segments ss) → Pairs Clear (image_segments ss)
+apart_pairs [] h = tt
+apart_pairs (s ∷ ss) h = by (is_load s.kind) (nat_lt 0 s.memory) h (λ g. apart_pairs ss g) where
+  by : (b m : Bool) → AreApart (cond b (load_segment s ∷ load_segments ss) (load_segments ss)) → (AreApart (load_segments ss) → Pairs Clear (image_segments ss)) → Pairs Clear (cond (b && m) (s ∷ image_segments ss) (image_segments ss))
+  by false m h rec = rec h
+  by true false h rec = rec (apart_tail (load_segment s) (load_segments ss) h)
+  by true true h rec = (among_every (Clear s) (image_segments ss) (λ t m. apart_head s t ss h m), rec (apart_tail (load_segment s) (load_segments ss) h))
+
+-- so one alone has an address
+pairs_alone :
+    (ss : List Segment) → Pairs Clear ss → (s t : Segment) (q : ℕ) → Among s ss → Among t ss → s.address ≤ q → q < s.address + s.memory → t.address ≤ q
+    → q < t.address + t.memory → s ≡ t
+pairs_alone [] p s t q m k a b c d = absurd m
+pairs_alone (u ∷ ss) p s t q m k a b c d =
+    ⊎_elim
+    (λ e. ⊎_elim
+    (λ f. e ∙ sym f)
+    (λ r. absurd (subst (λ x. Clear x t) (sym e) (every_among (Clear u) t ss p.0 r) q a b c d))
+    k)
+    (λ l. ⊎_elim
+    (λ f. absurd (subst (λ x. Clear x s) (sym f) (every_among (Clear u) s ss p.0 l) q c d a b))
+    (λ r. pairs_alone ss p.1 s t q l r a b c d)
+    k)
+    m
+
+fit_among : (l : LoadSegment) (ls : List LoadSegment) → AllFitMemory ls → Among l ls → FitsMemory l
+fit_among l [] h m = absurd m
+fit_among l (k ∷ ls) h m = ⊎_elim (λ e. subst FitsMemory (sym e) h.0) (λ r. fit_among l ls h.1 r) m
+
+-- ---- ranges with gaps
+start_from : (low : ℕ) (rs : List Range) (t : Range) → Spaced low (map range_of rs) → Among t rs → low ≤ t.start
+start_from low rs t s m = (spaced_from low (map range_of rs) (range_of t) s (among-map range_of t rs m)).0
+
+gap_pairs : (low : ℕ) (rs : List Range) → Spaced low (map range_of rs) → Pairs (λ (r t : Range). r.end < t.start) rs
+gap_pairs low [] s = tt
+gap_pairs low (r ∷ rs) s = (among_every (λ (t : Range). r.end < t.start) rs (λ t m. let h = start_from (r.end + 1) rs t s.2 m in omega (arith, h)), gap_pairs (r.end + 1) rs s.2)
+
+some_all : (low : ℕ) (rs : List Range) → Spaced low (map range_of rs) → All (λ (r : Range). r.start < r.end) rs
+some_all low [] s = All-nil (λ (r : Range). r.start < r.end)
+some_all low (r ∷ rs) s = All-cons (λ (r : Range). r.start < r.end) r rs s.1 (some_all (r.end + 1) rs s.2)
+
+pub spaced_ranges : (low : ℕ) (rs : List Range) → Spaced low (map range_of rs) → AreSpaced rs
+spaced_ranges low rs s = record { some = some_all low rs s; gaps = pairs_all (λ (r t : Range). r.end < t.start) rs (gap_pairs low rs s) }
+
+module _ (image : List Segment) (ranges : List Range) (is : IsImage image ranges) where
+  pub parts : (s : Segment) → Among s image → Among s is.segments × (s.kind ≡ 1) × (0 < s.memory)
+  parts s m = image_parts s is.segments (subst (λ ss. Among s ss) is.image_is m)
+
+  pub unmixed : (s : Segment) → Among s image → is_mixed image s ≡ false
+  unmixed s m = let p = place_of s is.segments (parts s m).0 in sym (ap (passes_at (is_mixed image)) p.stands) ∙ is.unmixed p.place
+
+  fits : (s : Segment) → Among s image → FitsMemory (load_segment s)
+  fits s m = let p = parts s m in fit_among (load_segment s) (load_segments is.segments) is.fit (among_load s is.segments p.1 p.0)
+
+  pub sized : (s : Segment) → Among s image → length s.bytes ≤ s.memory
+  sized s m = (fits s m).0
+
+  pub apart : Pairs Clear image
+  apart = subst (Pairs Clear) (sym is.image_is) (apart_pairs is.segments is.apart)
+
+  pub alone : (s t : Segment) (q : ℕ) → Among s image → Among t image → s.address ≤ q → q < s.address + s.memory → t.address ≤ q → q < t.address + t.memory → s ≡ t
+  alone s t q m k a b c d = pairs_alone image apart s t q m k a b c d
+
+  pub room : AllRoom image
+  room = subst AllRoom (sym is.image_is) (image_room is.segments)
+
+  pub spaced : Spaced 0 (data_ranges image)
+  spaced = spaced_data image room
+
+  pub are_spaced : AreSpaced ranges
+  are_spaced = spaced_ranges 0 ranges (subst (Spaced 0) (sym is.spans) spaced)
+
+  -- ---- which segments lie in a range
+  -- one that is no data segment has no byte there
+  pub not_mixed : (s : Segment) (r : ℕ × ℕ) (q : ℕ) → Among s image → is_data image s ≡ false → Among r (data_ranges image) → s.address ≤ q → q < s.address + s.memory → is_in r q ≡ true → ⊥
+  not_mixed s r q m d n a b i =
+      let p = parts s m in
+      let y = in_parts r q i in
+      let meets : do_meet (segment_range s) r ≡ true = and_from (nat_lt s.address r.1) (nat_lt r.0 (s.address + s.memory)) (lt-ltb s.address r.1 (omega (arith, a, y.1))) (lt-ltb r.0 (s.address + s.memory) (omega (arith, b, y.0))) in
+      let any : list_any (do_meet (segment_range s)) (data_ranges image) ≡ true = any_passing (do_meet (segment_range s)) r (data_ranges image) n meets in
+      let kept : is_in_image s ≡ true = (among-kept is_in_image s is.segments (subst (λ ss. Among s ss) is.image_is m)).1 in
+      false≢true (sym (unmixed s m) ∙ and_from (is_in_image s) (not (is_data image s) && list_any (do_meet (segment_range s)) (data_ranges image)) kept (and_from (not (is_data image s)) (list_any (do_meet (segment_range s)) (data_ranges image)) (ap not d) any))
+
+  data_inside : (s : Segment) → Among s image → is_data image s ≡ true → Inside (data_ranges image) (rounded s)
+  data_inside s m d = inside-joined (data_parts image) (rounded s) (among-map rounded s (data_segments image) (among-filter (is_data image) s image d m))
+
+  -- a data segment lies in the range with which it shares an address
+  pub data_range : (s : Segment) (r : ℕ × ℕ) (q : ℕ) → Among s image → is_data image s ≡ true → Among r (data_ranges image) → s.address ≤ q → q < s.address + s.memory → is_in r q ≡ true → (r.0 ≤ s.address) × (s.address + s.memory ≤ r.1)
+  data_range s r q m d n a b i =
+      let x = data_inside s m d in
+      let here : is_in x.range q ≡ true = in_from x.range q (omega (arith, x.from, a)) (omega (arith, x.to, b)) in
+      let same : x.range ≡ r = one_range 0 (data_ranges image) x.range r q spaced x.among n here i in
+      subst (λ t. (t.0 ≤ s.address) × (s.address + s.memory ≤ t.1)) same (omega (arith, x.from), omega (arith, x.to))
+
+  -- the data segments are those that begin in a range
+  pub data_at : (s : Segment) → Among s image → is_in_any (data_ranges image) s.address ≡ is_data image s
+  data_at s m = by (is_data image s) refl where
+    by : (b : Bool) → is_data image s ≡ b → is_in_any (data_ranges image) s.address ≡ b
+    by true d =
+        let x = data_inside s m d in
+        let p = parts s m in
+        any_passing (λ r. is_in r s.address) x.range (data_ranges image) x.among (in_from x.range s.address (omega (arith, x.from)) (omega (arith, x.to, p.2)))
+    by false d = none_passing (λ r. is_in r s.address) (data_ranges image) (λ r n. none r n (is_in r s.address) refl) where
+      none : (r : ℕ × ℕ) → Among r (data_ranges image) → (b : Bool) → is_in r s.address ≡ b → is_in r s.address ≡ false
+      none r n true i = let p = parts s m in absurd (not_mixed s r s.address m d n (omega arith) (omega (arith, p.2)) i)
+      none r n false i = i

@@ -1,0 +1,22 @@
+-- The entries of a test.
+use Rattle.std.specs.Prelude.{◌≡◌, ℕ, ◌+◌, ◌-◌, ◌*◌, ◌%◌, ◌<◌, All, AllPairs, List}
+use Rattle.qed_model.specs.declared.plan.EntryRow.{EntryRow}
+use Rattle.qed_model.specs.Numbers.{number_bytes}
+
+-- their input addresses ascend
+abbrev pub EntriesAscend : List EntryRow → Type 0
+EntriesAscend rows = AllPairs (λ r t. r.input < t.input) rows
+
+-- the input addresses ascend, and are multiples of 4 below an address
+pub record AreEntries (high : ℕ) (rows : List EntryRow) : Type 0 where
+  pub ascend : EntriesAscend rows
+  pub aligned : All (λ r. r.input % 4 ≡ 0) rows
+  pub below : All (λ r. r.input < high) rows
+
+-- how far an entry is behind the place of its input address in the table
+abbrev pub word_of : ℕ → EntryRow → ℕ
+word_of d row = row.output - (row.input + 2 * d)
+
+-- the bytes of that word, with the input address
+abbrev pub entry_word : ℕ → EntryRow → ℕ × List ℕ
+entry_word d row = (row.input, number_bytes 4 (word_of d row))

@@ -1,0 +1,31 @@
+-- What is known of the image of a test.
+use Rattle.std.specs.Prelude.{◌≡◌, ℕ, ◌+◌, ◌^◌, ◌<◌, ◌≤◌, false, All, AllPairs, List, map, slice_get}
+use Rattle.elf_types.specs.declared.file.Segment.{Segment}
+use Rattle.qed_model.specs.declared.range.Range.{Range}
+use Rattle.qed_model.specs.Machine.Apart.{AllFitMemory, AreApart}
+use Rattle.qed_model.specs.Machine.Loading.{load_segments}
+use Rattle.qed_model.specs.Admission.DataRanges.{range_of, data_ranges}
+use Rattle.qed_model.specs.Admission.Rules.{passes_at, is_mixed}
+use Rattle.qed_model.specs.Admission.Terms.{image_segments}
+
+-- ranges ascend, each has some address, and there is a gap between any two
+pub record AreSpaced (ranges : List Range) : Type 0 where
+  pub some : All (λ r. r.start < r.end) ranges
+  pub gaps : AllPairs (λ r t. r.end < t.start) ranges
+
+-- the image of a file whose segments fit into memory and share no byte, where none is data in part; and its data ranges
+pub record IsImage (image : List Segment) (ranges : List Range) : Type 0 where
+  pub segments : List Segment
+  pub image_is : image ≡ image_segments segments
+  pub fit : AllFitMemory (load_segments segments)
+  pub apart : AreApart (load_segments segments)
+  pub unmixed : (i : ℕ) → passes_at (is_mixed image) (slice_get segments i) ≡ false
+  pub spans : map range_of ranges ≡ data_ranges image
+
+-- no segment at this distance from its place begins past 2^64
+abbrev pub HasRoom : ℕ → List Segment → Type 0
+HasRoom d ss = All (λ s. s.address + d < 2 ^ 64) ss
+
+-- or ends past 2^63
+abbrev pub EndLow : ℕ → List Segment → Type 0
+EndLow d ss = All (λ s. s.address + s.memory + d ≤ 2 ^ 63) ss

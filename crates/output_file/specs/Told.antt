@@ -1,0 +1,36 @@
+-- What is told of an output.
+use Rattle.std.specs.Prelude.{◌≡◌, ℕ, ◌+◌, ◌*◌, ◌^◌, List, [], ◌∷◌}
+use Rattle.elf_types.specs.declared.file.ElfFile.{ElfFile}
+use Rattle.qed_model.specs.declared.bounds.Bounds.{Bounds}
+use Rattle.qed_model.specs.declared.options.Options.{Options}
+use Rattle.qed_model.specs.declared.plan.EntryRow.{EntryRow}
+use Rattle.qed_model.specs.declared.plan.PieceRow.{PieceRow}
+use Rattle.qed_model.specs.declared.test.Test.{Test}
+use Rattle.qed_model.specs.Admission.Test.{IsTestOf}
+use Rattle.qed_model.specs.Weave.Bounds.{bounds_of}
+use Rattle.qed_model.specs.Weave.Sequences.{Block}
+use Rattle.block_list.specs.declared.block.CodeBlock.{CodeBlock}
+use Rattle.block_list.specs.Listed.{IsWithin}
+use Rattle.qed_model.specs.Weave.Woven.{is_far_code, code_size, new_entries, shape_of}
+
+-- these are the test, the new code's size, the entries and the bounds that go with the blocks
+pub record AreParts (f : ElfFile) (o : Options) (blocks : List Block) (t : Test) (entries : List EntryRow) (code_bytes : ℕ) (bounds : Bounds) : Type 0 where
+  pub test : IsTestOf f o t
+  pub code_bytes_is : code_bytes ≡ code_size f o blocks
+  pub entries_are : entries ≡ new_entries f o blocks
+  pub bounds_are : bounds ≡ bounds_of (shape_of f o (is_far_code f o blocks))
+
+-- the pieces make up the body of the block, which ends at 2^63 or before
+abbrev pub IsWhole : CodeBlock → Type 0
+IsWhole b = IsWithin (2 ^ 63) b
+
+-- ---- pieces of known lengths that stand one behind the other
+-- the row of each
+abbrev pub rows_of : ℕ → ℕ → List ℕ → List PieceRow
+rows_of entry at [] = []
+rows_of entry at (n ∷ ns) = record { entry = entry; first = at; length = n } ∷ rows_of entry (at + 4 * n) ns
+
+-- where the last one ends
+abbrev pub end_of : ℕ → List ℕ → ℕ
+end_of at [] = at
+end_of at (n ∷ ns) = end_of (at + 4 * n) ns

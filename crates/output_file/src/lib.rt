@@ -1,0 +1,19 @@
+//! The output file of a test, before it is written, and what is told of it.
+#![tactic(auto)]
+
+mod bytes;
+mod halves;
+mod output;
+mod ranges;
+mod sections;
+mod segments;
+mod symbols;
+mod table;
+mod told;
+
+pub use output::output_file;
+pub use table::has_table;
+pub use told::plan;
+
+#[cfg(test)]
+mod tests;

@@ -1,0 +1,94 @@
+//! The output file.
+ghost use Rattle.std.specs.Prelude.{◌≡◌, ℕ, ◌+◌, ◌*◌, ◌^◌, ◌<◌, ◌++◌, ◌∷◌, [], if◌then◌else◌, Some, None, IfOk, OnOk};
+ghost use Rattle.qed_model.specs.declared.options.Options.{Options as TestOptions};
+ghost use Rattle.qed_model.specs.Numbers.{bytes_of as bytes_of_words};
+ghost use Rattle.qed_model.specs.Weave.OutputParts.{code_segment as code_segment_of};
+ghost use Rattle.qed_model.specs.Weave.OutputFile.{table_segment as table_segment_of, file_of};
+ghost use Rattle.output_file.specs.Entries.{AreEntries};
+ghost use Rattle.output_file.specs.Segments.{if_any};
+ghost use Rattle.output_file.specs.Tests.{IsEntered};
+
+use crate::bytes::bytes_of;
+use crate::halves::halves;
+use crate::sections::sections;
+use crate::segments::{moved, whole_segment};
+use crate::symbols::symbols;
+use crate::table::table_segment;
+use elf_types::abi::{PF_R, PF_X};
+use elf_types::{Bytes, ElfFile, Listed, OutFile, Segment};
+use qed_model::{EntryRow, Test};
+use std::alloc::{AllocError, Global};
+
+/// The new code as a segment.
+fn code_segment(alloc: Global, address: u64, code: &[u32]) -> Result<Segment, AllocError>
+    ensures { IfOk result (λ s. s ≡ code_segment_of address (bytes_of_words code.now)) }
+{
+    let bytes = bytes_of(alloc, code)?;
+    Ok(whole_segment(PF_R | PF_X, address, Bytes::of(bytes)))
+}
+
+/// The table, where there is one.
+fn table_part(
+    alloc: Global,
+    table: bool,
+    entries: &[EntryRow],
+    distance: u64,
+) -> Result<Option<Segment>, AllocError>
+    ensures { IfOk result (λ part. (high : ℕ) → AreEntries high entries.now → high + 2 * distance < 2 ^ 64 → part ≡ (if table then Some (table_segment_of distance entries.now) else None)) }
+{
+    if !table {
+        return Ok(None);
+    }
+    let segment = table_segment(alloc, entries, distance)?;
+    Ok(Some(segment))
+}
+
+/// Appends the table, where there is one, and the new code.
+fn push_parts(
+    segments: &mut Vec<Segment>,
+    table: Option<Segment>,
+    code: Segment,
+) -> Result<(), AllocError>
+    ensures { OnOk result (segments.new.items ≡ segments.old.items ++ (if_any table ++ code ∷ [])) }
+{
+    if let Some(table) = table {
+        segments.push(table)?;
+    }
+    segments.push(code)?;
+    Ok(())
+}
+
+/// Where the new code begins: behind both halves and the room of the table.
+fn code_address(test: &Test) -> u64
+    ensures { test.now.base + 3 * test.now.distance < 2 ^ 64 → result ≡ test.now.base + 3 * test.now.distance }
+{
+    let second = moved(test.base, test.distance);
+    moved(moved(second, test.distance), test.distance)
+}
+
+/// The output of a file that was admitted as a test, with these entries and the words of the new code.
+pub fn output_file(
+    alloc: Global,
+    file: &ElfFile,
+    test: &Test,
+    table: bool,
+    entries: &[EntryRow],
+    code: &[u32],
+) -> Result<OutFile, AllocError>
+    ensures { IfOk result (λ out. (o : TestOptions) → IsEntered file.now o test.now entries.now → out ≡ file_of file.now o.half table entries.now (bytes_of_words code.now)) }
+{
+    let (image, span) = (test.segments.as_slice(), test.span.as_slice());
+    let mut segments = halves(alloc, image, span, test.distance)?;
+    let table = table_part(alloc, table, entries, test.distance)?;
+    let address = code_address(test);
+    let code = code_segment(alloc, address, code)?;
+    let sections = sections(alloc, &code, &table, entries)?;
+    push_parts(&mut segments, table, code)?;
+    Ok(OutFile {
+        entry: address,
+        flags: file.flags,
+        segments: Listed::of(segments),
+        sections: Listed::of(sections),
+        symbols: Listed::of(symbols(alloc, entries, file.symbols.as_slice())?),
+    })
+}

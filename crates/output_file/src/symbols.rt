@@ -1,0 +1,97 @@
+//! The symbols of the output.
+ghost use Rattle.std.specs.Prelude.{◌≡◌, ◌++◌, ◌&&◌, not, if◌then◌else◌, OnOk, IfOk};
+ghost use Rattle.qed_model.specs.Weave.OutputParts.{is_kept as is_kept_of, is_local as is_local_of, valued as valued_of, entry_at as entry_at_of, out_symbol as out_symbol_of, symbol_group, out_symbols};
+ghost use Rattle.output_file.specs.Entries.{EntriesAscend};
+
+use elf_types::abi::{SHN_ABS, STT_FUNC};
+use elf_types::{Bytes, Symbol};
+use qed_model::EntryRow;
+use std::alloc::{AllocError, Global};
+
+/// Whether a symbol is named and defined, and is of type `STT_NOTYPE`, `STT_OBJECT` or `STT_FUNC`, the types up to the
+/// last of them.
+fn is_kept(symbol: &Symbol) -> bool
+    ensures { result ≡ is_kept_of symbol.now }
+{
+    symbol.name.as_slice().len() > 0 && symbol.is_defined() && symbol.kind <= STT_FUNC
+}
+
+/// Whether a symbol is in the group of the local ones, or in that of the others.
+fn is_in_group(local: bool, symbol: &Symbol) -> bool
+    ensures { result ≡ (is_kept_of symbol.now && (if local then is_local_of symbol.now else not (is_local_of symbol.now))) }
+{
+    is_kept(symbol) && symbol.is_local() == local
+}
+
+/// The new address of an input address that has an entry.
+fn entry_at(entries: &[EntryRow], address: u64) -> Option<u64>
+    ensures { EntriesAscend entries.now → result ≡ entry_at_of entries.now address }
+{
+    let place = entries.partition_point(|row| row.input < address);
+    if place < entries.len() && entries[place].input == address {
+        return Some(entries[place].output);
+    }
+    None
+}
+
+/// The symbol with a value and a size, and no section.
+fn valued(alloc: Global, symbol: &Symbol, value: u64, size: u64) -> Result<Symbol, AllocError>
+    ensures { IfOk result (λ s. s ≡ valued_of symbol.now value size) }
+{
+    Ok(Symbol {
+        name: Bytes::copied(alloc, symbol.name.as_slice())?,
+        value,
+        size,
+        kind: symbol.kind,
+        binding: symbol.binding,
+        other: symbol.other,
+        index: SHN_ABS,
+    })
+}
+
+/// The symbol at its new address, where it has one.
+fn out_symbol(alloc: Global, entries: &[EntryRow], symbol: &Symbol) -> Result<Symbol, AllocError>
+    ensures { IfOk result (λ s. EntriesAscend entries.now → s ≡ out_symbol_of entries.now symbol.now) }
+{
+    let entry = if symbol.may_name_code() {
+        entry_at(entries, symbol.value)
+    } else {
+        None
+    };
+    match entry {
+        Some(address) => valued(alloc, symbol, address, 0),
+        None => valued(alloc, symbol, symbol.value, symbol.size),
+    }
+}
+
+/// Appends the local symbols, or the others.
+fn push_group(
+    alloc: Global,
+    out: &mut Vec<Symbol>,
+    local: bool,
+    entries: &[EntryRow],
+    symbols: &[Symbol],
+) -> Result<(), AllocError>
+    ensures { OnOk result (EntriesAscend entries.now → out.new.items ≡ out.old.items ++ symbol_group local entries.now symbols.now) }
+{
+    for symbol in symbols {
+        if is_in_group(local, symbol) {
+            out.push(out_symbol(alloc, entries, symbol)?)?;
+        }
+    }
+    Ok(())
+}
+
+/// The symbols: the local ones first.
+pub fn symbols(
+    alloc: Global,
+    entries: &[EntryRow],
+    symbols: &[Symbol],
+) -> Result<Vec<Symbol>, AllocError>
+    ensures { IfOk result (λ out. EntriesAscend entries.now → out.items ≡ out_symbols entries.now symbols.now) }
+{
+    let mut out = Vec::new(alloc);
+    push_group(alloc, &mut out, true, entries, symbols)?;
+    push_group(alloc, &mut out, false, entries, symbols)?;
+    Ok(out)
+}

@@ -1,0 +1,93 @@
+//! What is told of an output.
+ghost use Rattle.std.specs.Prelude.{◌≡◌, ◌+◌, ◌-◌, ◌*◌, ◌/◌, ◌^◌, ◌<◌, ◌++◌, All, IfOk, OnOk, map};
+ghost use Rattle.elf_types.specs.declared.file.ElfFile.{ElfFile};
+ghost use Rattle.qed_model.specs.declared.options.Options.{Options};
+ghost use Rattle.qed_model.specs.Admission.DataRanges.{range_of, word_count as word_count_of};
+ghost use Rattle.qed_model.specs.Weave.OutputFile.{rows_of_pieces, piece_rows as piece_rows_of};
+ghost use Rattle.qed_model.specs.Weave.Woven.{IsToldOf};
+ghost use Rattle.block_list.specs.Listed.{block_of};
+ghost use Rattle.output_file.specs.Images.{AreSpaced};
+ghost use Rattle.output_file.specs.Told.{IsWhole, AreParts};
+
+use crate::segments::moved;
+use block_list::CodeBlock;
+use elf_types::Listed;
+use qed_model::{Bounds, EntryRow, PieceRow, Plan, Range, Test};
+use std::alloc::{AllocError, Global};
+
+/// How many data words there are in a range.
+fn words_in(range: Range) -> u64
+    ensures value { result ≡ (range.end - range.start) / 8 }
+    ensures range { range.end < 2 ^ 64 }
+{
+    range.end.saturating_sub(range.start) / 8
+}
+
+/// How many data words there are in ranges.
+fn word_count(ranges: &[Range]) -> u64
+    ensures { AreSpaced ranges.now → result ≡ word_count_of (map range_of ranges.now) }
+{
+    let mut count = 0;
+    for range in ranges {
+        count = moved(count, words_in(*range));
+    }
+    count
+}
+
+/// The address behind so many instructions. Addresses go round at 2^64.
+fn behind(address: u64, count: u64) -> u64
+    ensures { address + 4 * count < 2 ^ 64 → result ≡ address + 4 * count }
+{
+    address.wrapping_add(count.wrapping_mul(4))
+}
+
+/// Appends the pieces of a block.
+fn push_pieces(rows: &mut Vec<PieceRow>, block: &CodeBlock) -> Result<(), AllocError>
+    ensures { OnOk result (IsWhole block.now → rows.new.items ≡ rows.old.items ++ rows_of_pieces block.now.start block.now.start (block_of block.now).body) }
+{
+    let mut first = block.start;
+    for length in block.lengths.as_slice() {
+        rows.push(PieceRow {
+            entry: block.start,
+            first,
+            length: *length,
+        })?;
+        first = behind(first, *length);
+    }
+    Ok(())
+}
+
+/// The pieces of blocks.
+fn piece_rows(alloc: Global, blocks: &[CodeBlock]) -> Result<Vec<PieceRow>, AllocError>
+    ensures { IfOk result (λ rows. All IsWhole blocks.now → rows.items ≡ piece_rows_of (map block_of blocks.now)) }
+{
+    let mut rows = Vec::new(alloc);
+    for block in blocks {
+        push_pieces(&mut rows, block)?;
+    }
+    Ok(rows)
+}
+
+/// What is told of the output of a test with these blocks, entries and bounds, whose new code has so many bytes.
+pub fn plan(
+    alloc: Global,
+    test: &Test,
+    blocks: &[CodeBlock],
+    entries: &[EntryRow],
+    code_bytes: u64,
+    bounds: Bounds,
+) -> Result<Plan, AllocError>
+    ensures { IfOk result (λ plan. (f : ElfFile) (o : Options) → All IsWhole blocks.now → AreParts f o (map block_of blocks.now) test.now entries.now code_bytes bounds → IsToldOf f o (map block_of blocks.now) plan) }
+{
+    let pieces = piece_rows(alloc, blocks)?;
+    Ok(Plan {
+        base: test.base,
+        distance: test.distance,
+        words: word_count(test.span.as_slice()),
+        code_bytes,
+        entries: Listed::of(Vec::from_slice(alloc, entries)?),
+        pieces: Listed::of(pieces),
+        span: Listed::of(Vec::from_slice(alloc, test.span.as_slice())?),
+        bounds,
+    })
+}
