@@ -40,8 +40,8 @@ module _ (f : ElfFile) (o : Options) (t : Test) (rows : List EntryRow) (e : IsEn
   pub top : t.base + 3 * t.distance ≤ 2 ^ 63
   top = let a = e.admitted.top in omega (arith, a, e.test.base, e.test.distance)
 
-  pub table_room : t.high + 2 * t.distance < 2 ^ 64
-  table_room = let a = e.admitted.top in let b = e.admitted.half in omega (arith, a, b, e.test.high, e.test.distance)
+  pub table_room : t.base + t.distance + 2 * t.distance < 2 ^ 64
+  table_room = let a = top in omega (arith, a)
 
   low : (s : Segment) → Among s (image_of f) → s.address + s.memory + t.distance ≤ 2 ^ 63
   low s m =

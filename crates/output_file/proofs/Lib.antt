@@ -6,3 +6,4 @@ pub mod Runs
 pub mod HalfLaws
 pub mod Entered
 pub mod Counting
+pub mod BlockEntries

@@ -1,7 +1,8 @@
 -- The entries of a test.
-use Rattle.std.specs.Prelude.{◌≡◌, ℕ, ◌+◌, ◌-◌, ◌*◌, ◌%◌, ◌<◌, All, AllPairs, List}
+use Rattle.std.specs.Prelude.{◌≡◌, ℕ, ◌+◌, ◌-◌, ◌*◌, ◌%◌, ◌<◌, All, AllPairs, List, map}
 use Rattle.qed_model.specs.declared.plan.EntryRow.{EntryRow}
 use Rattle.qed_model.specs.Numbers.{number_bytes}
+use Rattle.qed_model.specs.Weave.Sequences.{Block}
 
 -- their input addresses ascend
 abbrev pub EntriesAscend : List EntryRow → Type 0
@@ -20,3 +21,10 @@ word_of d row = row.output - (row.input + 2 * d)
 -- the bytes of that word, with the input address
 abbrev pub entry_word : ℕ → EntryRow → ℕ × List ℕ
 entry_word d row = (row.input, number_bytes 4 (word_of d row))
+
+-- ---- entries of blocks
+-- rows that have the first addresses of blocks are entries, where those ascend and are multiples of 4 below an address
+abbrev pub EntriesOfBlocks : Type 0
+EntriesOfBlocks =
+    (rows : List EntryRow) (blocks : List Block) (high : ℕ) → map (λ r. r.input) rows ≡ map (λ b. b.start) blocks → AllPairs (λ b c. b.start < c.start) blocks
+    → All (λ b. b.start % 4 ≡ 0) blocks → All (λ b. b.start < high) blocks → AreEntries high rows

@@ -1,5 +1,5 @@
 -- A test that was admitted, with its entries.
-use Rattle.std.specs.Prelude.{List}
+use Rattle.std.specs.Prelude.{◌+◌, List}
 use Rattle.elf_types.specs.declared.file.ElfFile.{ElfFile}
 use Rattle.qed_model.specs.declared.options.Options.{Options}
 use Rattle.qed_model.specs.declared.plan.EntryRow.{EntryRow}
@@ -11,10 +11,10 @@ use Rattle.qed_model.specs.Admission.Test.{IsTestOf}
 use Rattle.output_file.specs.Entries.{AreEntries}
 
 -- the segments of the file fit into memory and share no byte; it is admitted with the options, as this test; and these are entries
--- of addresses in its image
+-- of addresses in its original half
 pub record IsEntered (f : ElfFile) (o : Options) (t : Test) (rows : List EntryRow) : Type 0 where
   pub fit : AllFitMemory (loads_of f)
   pub apart : AreApart (loads_of f)
   pub admitted : IsAdmitted f o
   pub test : IsTestOf f o t
-  pub entries : AreEntries t.high rows
+  pub entries : AreEntries (t.base + t.distance) rows

@@ -3,6 +3,7 @@
 
 mod bytes;
 mod halves;
+mod laws;
 mod output;
 mod ranges;
 mod sections;
@@ -11,6 +12,7 @@ mod symbols;
 mod table;
 mod told;
 
+pub use laws::entries_of_blocks;
 pub use output::output_file;
 pub use table::has_table;
 pub use told::plan;
