@@ -15,7 +15,7 @@ mod told;
 pub use laws::entries_of_blocks;
 pub use output::output_file;
 pub use table::has_table;
-pub use told::plan;
+pub use told::{plan, word_count};
 
 #[cfg(test)]
 mod tests;

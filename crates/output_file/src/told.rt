@@ -24,7 +24,7 @@ fn words_in(range: Range) -> u64
 }
 
 /// How many data words there are in ranges.
-fn word_count(ranges: &[Range]) -> u64
+pub fn word_count(ranges: &[Range]) -> u64
     ensures { AreSpaced ranges.now → result ≡ word_count_of (map range_of ranges.now) }
 {
     let mut count = 0;

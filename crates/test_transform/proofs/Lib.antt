@@ -1,1 +1,2 @@
 mod BoundsSmall
+mod TestFacts

@@ -1,1 +1,2 @@
 pub mod Transform
+pub mod Made

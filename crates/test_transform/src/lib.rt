@@ -3,5 +3,6 @@
 
 mod cut;
 mod error;
+mod made;
 
 pub use error::TransformError;

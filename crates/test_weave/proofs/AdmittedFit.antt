@@ -142,7 +142,7 @@ module _ (f : ElfFile) (o : Options) (admitted : IsAdmitted f o) where
 
 -- ---- all blocks of a test
 -- its words stand at code addresses
-words_below : (f : ElfFile) (top : ℕ) (code : List CodeWord) → AreCodeWords f code → ((a : ℕ) → is_code f a ≡ true → a + 4 ≤ top) → All (λ c. c.at + 4 ≤ top) code
+pub words_below : (f : ElfFile) (top : ℕ) (code : List CodeWord) → AreCodeWords f code → ((a : ℕ) → is_code f a ≡ true → a + 4 ≤ top) → All (λ c. c.at + 4 ≤ top) code
 words_below f top code words reach k d lt =
     let c = get_or code k d in
     let n : k < length (map (λ (w : CodeWord). w.at) code) = simp length-map lt in
