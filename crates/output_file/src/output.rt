@@ -66,7 +66,8 @@ fn code_address(test: &Test) -> u64
     moved(moved(second, test.distance), test.distance)
 }
 
-/// The output of a file that was admitted as a test, with these entries and the words of the new code.
+/// The output of a file that was admitted as a test, with these entries and the words of the new code. `table` says whether
+/// it has a table, as `has_table` tells of its blocks.
 pub fn output_file(
     alloc: Global,
     file: &ElfFile,

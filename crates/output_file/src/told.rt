@@ -9,7 +9,6 @@ ghost use Rattle.block_list.specs.Listed.{block_of};
 ghost use Rattle.output_file.specs.Images.{AreSpaced};
 ghost use Rattle.output_file.specs.Told.{IsWhole, AreParts};
 
-use crate::segments::moved;
 use block_list::CodeBlock;
 use elf_types::Listed;
 use qed_model::{Bounds, EntryRow, PieceRow, Plan, Range, Test};
@@ -27,9 +26,9 @@ fn words_in(range: Range) -> u64
 pub fn word_count(ranges: &[Range]) -> u64
     ensures { AreSpaced ranges.now → result ≡ word_count_of (map range_of ranges.now) }
 {
-    let mut count = 0;
+    let mut count: u64 = 0;
     for range in ranges {
-        count = moved(count, words_in(*range));
+        count = count.wrapping_add(words_in(*range));
     }
     count
 }
@@ -68,7 +67,7 @@ fn piece_rows(alloc: Global, blocks: &[CodeBlock]) -> Result<Vec<PieceRow>, Allo
     Ok(rows)
 }
 
-/// What is told of the output of a test with these blocks, entries and bounds, whose new code has so many bytes.
+/// What is told of the output of a test with these blocks, entries and bounds, whose new code has `code_bytes` bytes.
 pub fn plan(
     alloc: Global,
     test: &Test,
