@@ -1,10 +1,10 @@
 -- The bounds of an admitted test are below 2^64.
-use Rattle.std.proofs.Common.{◌≡◌, ℕ, zero, suc, ◌+◌, ◌-◌, ◌*◌, ◌/◌, ◌^◌, ◌<◌, ◌≤◌, Bool, true, false, List, [], ◌∷◌, length, Option, Some, None, refl, sym, ap, arith}
+use Rattle.std.proofs.Common.{ℕ, zero, suc, ◌+◌, ◌-◌, ◌*◌, ◌/◌, ◌^◌, ◌<◌, ◌≤◌, Bool, true, false, List, [], ◌∷◌, length, arith}
 use Rattle.std.specs.Prelude.{IfSome}
 use Rattle.std.proofs.Math.Nat.{mul-le-mul, div-le_of_le-mul}
 use Rattle.qed_model.specs.declared.bounds.Shape.{Shape}
 use Rattle.qed_model.specs.Admission.DataRanges.{word_count}
-use Rattle.qed_model.specs.Weave.Bounds.{visit_bound, piece_bound, end_bound, start_bound, word_bound, cost_of, bounds_of}
+use Rattle.qed_model.specs.Weave.Bounds.{visit_bound, piece_bound, start_bound, word_bound, cost_of, bounds_of}
 use Rattle.bound_calc.specs.Fitting.{AreSmall}
 use Rattle.weave_core.specs.World.{GoodSpans, AllBelow}
 

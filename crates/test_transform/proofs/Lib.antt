@@ -1,2 +1,4 @@
 mod BoundsSmall
 mod TestFacts
+mod Making
+mod Promises

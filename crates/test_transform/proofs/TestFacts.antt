@@ -1,12 +1,10 @@
 -- What is known of a test with its blocks.
-use Rattle.std.proofs.Common.{◌≡◌, ℕ, ◌+◌, ◌-◌, ◌*◌, ◌%◌, ◌^◌, ◌<◌, ◌≤◌, ◌⊎◌, ⊎_elim, Bool, true, List, length, map, All, Option, Some, None, get_or, refl, sym, ap, ◌∙◌, subst, arith}
-use Rattle.std.specs.Prelude.{◌==◌, ◌&&◌, unwrap_or, IfSome}
+use Rattle.std.proofs.Common.{◌≡◌, ℕ, ◌+◌, ◌%◌, ◌^◌, ◌<◌, ◌≤◌, ◌⊎◌, ⊎_elim, Bool, true, List, length, map, All, Option, Some, None, get_or, ap, ◌∙◌, arith}
+use Rattle.std.specs.Prelude.{◌==◌, unwrap_or, IfSome}
 use Rattle.std.proofs.lemmas.Bool.{and_parts, eqb-true}
 use Rattle.elf_types.specs.declared.file.ElfFile.{ElfFile}
 use Rattle.elf_types.specs.declared.file.Segment.{Segment}
 use Rattle.qed_model.specs.declared.options.Options.{Options}
-use Rattle.qed_model.specs.declared.plan.EntryRow.{EntryRow}
-use Rattle.qed_model.specs.declared.test.CodeWord.{CodeWord}
 use Rattle.qed_model.specs.declared.test.Test.{Test}
 use Rattle.qed_model.specs.Admission.CodeWords.{is_code}
 use Rattle.qed_model.specs.Admission.DataRanges.{data_ranges, word_count}
@@ -22,7 +20,7 @@ use Rattle.qed_model.proofs.RangeSegments.{AreLoads}
 use Rattle.qed_model.proofs.ReadLoads.{read_loads}
 use Rattle.bound_calc.specs.Fitting.{AreSmall}
 use Rattle.block_list.specs.declared.block.CodeBlock.{CodeBlock}
-use Rattle.block_list.specs.Listed.{block_of, IsWithin}
+use Rattle.block_list.specs.Listed.{block_of}
 use Rattle.output_file.specs.Entries.{AreEntries}
 use Rattle.output_file.specs.Told.{IsWhole}
 use Rattle.output_file.proofs.BlockEntries.{entries_are}
@@ -90,3 +88,11 @@ module _ (input : List ℕ) (f : ElfFile) (o : Options) (t : Test) (blocks : Lis
   all_whole =
       let top = is_image.top in
       cut.blocked.within (2 ^ 63) (words_below f (2 ^ 63) t.code cut.blocked.words (λ a e. let b = bounded a e in omega (arith, b.1, top)))
+
+-- ---- what the bounds depend on
+pub same_shape :
+    (f : ElfFile) (o : Options) (far : Bool) (words ranges : ℕ) → words ≡ word_count (data_ranges (image_of f)) → ranges ≡ length (data_ranges (image_of f))
+    → record { words = words; ranges = ranges; round = o.round; inst_max = o.inst_max; far = far; sweep = o.sweep; diverse = o.diverse } ≡ shape_of f o far
+same_shape f o far words ranges w r =
+    ap (λ n. record { words = n; ranges = ranges; round = o.round; inst_max = o.inst_max; far = far; sweep = o.sweep; diverse = o.diverse }) w
+    ∙ ap (λ n. record { words = word_count (data_ranges (image_of f)); ranges = n; round = o.round; inst_max = o.inst_max; far = far; sweep = o.sweep; diverse = o.diverse }) r

@@ -3,7 +3,6 @@ use Rattle.std.specs.Prelude.{◌≡◌, ℕ, ◌<◌, ◌≤◌, true, List, le
 use Rattle.elf_types.specs.declared.file.ElfFile.{ElfFile}
 use Rattle.elf_types.specs.declared.output.OutFile.{OutFile}
 use Rattle.qed_model.specs.declared.admit.AdmitError.{AdmitError}
-use Rattle.qed_model.specs.declared.admit.AdmitError.TheVariants as admit
 use Rattle.qed_model.specs.declared.limits.Limit.TheVariants as limit
 use Rattle.qed_model.specs.declared.options.Options.{Options}
 use Rattle.qed_model.specs.declared.plan.Plan.{Plan}

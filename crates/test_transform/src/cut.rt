@@ -62,6 +62,8 @@ pub(crate) fn cut_test(
 ) -> Result<CutTest, TransformError>
     requires sound { AreSoundOptions options.now }
     ensures read { IfOk result (λ c. IsReadAs bytes.now c.file) }
+    ensures fit { IfOk result (λ c. AllFitMemory (load_segments c.file.segments)) }
+    ensures apart { IfOk result (λ c. AreApart (load_segments c.file.segments)) }
     ensures cut { IfOk result (λ c. IsCut bytes.now c.file options.now c.test c.blocks) }
     ensures refused { IfErr result (HasCause bytes.now options.now) }
 {

@@ -3,6 +3,8 @@ ghost use Rattle.std.specs.Prelude.{◌≡◌, ◌≤◌, ◌<◌, ◌*◌, ℕ,
 ghost use Rattle.elf_types.specs.declared.file.ElfFile.{ElfFile as TestFile};
 ghost use Rattle.block_list.specs.Listed.{block_of};
 ghost use Rattle.qed_model.specs.Elf.File.{IsReadAs};
+ghost use Rattle.qed_model.specs.Machine.Apart.{AllFitMemory, AreApart};
+ghost use Rattle.qed_model.specs.Machine.Loading.{load_segments};
 ghost use Rattle.qed_model.specs.Weave.Bounds.{bounds_of};
 ghost use Rattle.qed_model.specs.Weave.Woven.{shape_of as shape_of_test, is_far_code};
 ghost use Rattle.woven_code.specs.Code.{IsCut, IsCodeOf};
@@ -68,13 +70,11 @@ fn bounds_in(cut: &CutTest, options: &Options, far: bool) -> Bounds
 }
 
 /// The output of a test with its blocks, and what is told of it.
-pub(crate) fn make(
-    alloc: Global,
-    cut: &CutTest,
-    options: &Options,
-) -> Result<Made, TransformError>
-    requires { (input : List ℕ) × (IsReadAs input cut.now.file × IsCut input cut.now.file options.now cut.now.test cut.now.blocks) }
-    ensures made { IfOk result (λ made. (input : List ℕ) → IsReadAs input cut.now.file → IsCut input cut.now.file options.now cut.now.test cut.now.blocks → IsMade input cut.now.file options.now cut.now.blocks made.out made.plan) }
+pub(crate) fn make(alloc: Global, cut: &CutTest, options: &Options) -> Result<Made, TransformError>
+    requires fit { AllFitMemory (load_segments cut.now.file.segments) }
+    requires apart { AreApart (load_segments cut.now.file.segments) }
+    requires cut { (input : List ℕ) × IsCut input cut.now.file options.now cut.now.test cut.now.blocks }
+    ensures made { IfOk result (λ made. (input : List ℕ) → IsCut input cut.now.file options.now cut.now.test cut.now.blocks → IsMade input cut.now.file options.now cut.now.blocks made.out made.plan) }
     ensures refused { IfErr result (λ e. (input : List ℕ) → IsReadAs input cut.now.file → IsCut input cut.now.file options.now cut.now.test cut.now.blocks → HasCause input options.now e) }
 {
     let code = code_of(alloc, cut, options)?;
@@ -82,7 +82,14 @@ pub(crate) fn make(
     let bounds = bounds_in(cut, options, code.far);
     let size = 4 * code.linked.words.len() as u64;
     let table = has_table(blocks);
-    let out = output_file(alloc, &cut.file, &cut.test, table, entries, &code.linked.words)?;
+    let out = output_file(
+        alloc,
+        &cut.file,
+        &cut.test,
+        table,
+        entries,
+        &code.linked.words,
+    )?;
     let plan = plan(alloc, &cut.test, blocks, entries, size, bounds)?;
     Ok(Made { out, plan })
 }
