@@ -11,3 +11,6 @@ mod whole;
 
 pub use error::TransformError;
 pub use whole::{Transformed, transform};
+
+#[cfg(test)]
+mod tests;
