@@ -2,3 +2,4 @@ mod BoundsSmall
 mod TestFacts
 mod Making
 mod Promises
+mod OneAnswer

@@ -62,6 +62,7 @@ module _ (input : List ℕ) (f : ElfFile) (o : Options) (blocks : List CodeBlock
   pub done : IsReadAs input f → IsShort out → (output : List ℕ) → output ≡ written out → IsReadAs output (file_read out) → Transforms input o output plan
   done read short output is_written reads = record {
     woven = record { out = out; file = file_of; bytes = is_written };
+    read = read;
     within = within short;
     told = made.told;
     reads = reads;
@@ -71,10 +72,10 @@ module _ (input : List ℕ) (f : ElfFile) (o : Options) (blocks : List CodeBlock
   }
 
   -- why it is not written
-  pub exceeded : (e : TransformError) → Exceeds out e → HasCause input o e
-  exceeded (error.TooManySegments n) x = record { out = out; file = file_of; code = made.test.few; count = x.0; over = x.1 }
-  exceeded (error.FileTooLong n) x = record { out = out; file = file_of; code = made.test.few; segments = x.0; size = x.1; over = x.2 }
-  exceeded (error.Elf e) x = absurd x
-  exceeded (error.Admit e) x = absurd x
-  exceeded (error.TooLarge n) x = absurd x
-  exceeded error.Memory x = absurd x
+  pub exceeded : IsReadAs input f → (e : TransformError) → Exceeds out e → HasCause input o e
+  exceeded read (error.TooManySegments n) x = record { out = out; file = file_of; read = read; code = made.test.few; count = x.0; over = x.1 }
+  exceeded read (error.FileTooLong n) x = record { out = out; file = file_of; read = read; code = made.test.few; segments = x.0; size = x.1; over = x.2 }
+  exceeded read (error.Elf e) x = absurd x
+  exceeded read (error.Admit e) x = absurd x
+  exceeded read (error.TooLarge n) x = absurd x
+  exceeded read error.Memory x = absurd x

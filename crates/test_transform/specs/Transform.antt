@@ -1,5 +1,5 @@
 -- What a transformation made, and why a file is not transformed.
-use Rattle.std.specs.Prelude.{◌≡◌, ℕ, ◌<◌, ◌≤◌, true, List, length, map}
+use Rattle.std.specs.Prelude.{◌≡◌, ◌⊎◌, ℕ, ◌<◌, ◌≤◌, true, List, length, map, Result, Ok, Err}
 use Rattle.elf_types.specs.declared.file.ElfFile.{ElfFile}
 use Rattle.elf_types.specs.declared.output.OutFile.{OutFile}
 use Rattle.qed_model.specs.declared.admit.AdmitError.{AdmitError}
@@ -8,6 +8,7 @@ use Rattle.qed_model.specs.declared.options.Options.{Options}
 use Rattle.qed_model.specs.declared.plan.Plan.{Plan}
 use Rattle.qed_model.specs.Limits.{limit_of}
 use Rattle.qed_model.specs.Admission.DataRanges.{range_of, word_count}
+use Rattle.qed_model.specs.Admission.Ends.{HasEnds}
 use Rattle.qed_model.specs.Admission.Refusals.{IsAdmitted, IsRefusedBy}
 use Rattle.qed_model.specs.Elf.File.{File, IsReadAs}
 use Rattle.qed_model.specs.Elf.FileRead.{file_read}
@@ -42,17 +43,19 @@ pub record Promised (f g : Program) (spans : List (ℕ × ℕ)) (o : Options) (p
 -- all is promised of both files
 pub record Transforms (input : List ℕ) (o : Options) (output : List ℕ) (plan : Plan) : Type 0 where
   pub woven : Woven input o output
+  pub read : IsReadAs input woven.file.file
   pub within : IsWithin woven.file.file o woven.file.blocks woven.out
   pub told : IsToldOf woven.file.file o woven.file.blocks plan
   pub reads : IsReadAs output (file_read woven.out)
   pub promised : (f g : ElfFile) → File input f → File output g → Promised (loaded_file f) (loaded_file g) (map range_of plan.span) o plan
 
 -- ---- causes
--- the input is read, and this is the first rule of admission that holds
+-- the input is read, and this is the first rule of admission that holds; the ends that it tells can be printed
 pub record IsNotAdmitted (input : List ℕ) (o : Options) (e : AdmitError) : Type 0 where
   pub file : ElfFile
   pub read : IsReadAs input file
   pub refused : IsRefusedBy file o e
+  pub ends : HasEnds e
 
 -- the input is admitted, and its new code has so many bytes, 2^64 - 1 at most, which are too many
 pub record HasTooMuchCode (input : List ℕ) (o : Options) (n : ℕ) : Type 0 where
@@ -68,6 +71,7 @@ pub record HasTooMuchCode (input : List ℕ) (o : Options) (n : ℕ) : Type 0 wh
 pub record HasTooManySegments (input : List ℕ) (o : Options) (n : ℕ) : Type 0 where
   pub out : OutFile
   pub file : WovenFile input o out
+  pub read : IsReadAs input file.file
   pub code : code_size file.file o file.blocks ≤ limit_of limit.CodeBytes
   pub count : n ≡ length out.segments
   pub over : limit_of limit.OutputSegments < n
@@ -76,6 +80,7 @@ pub record HasTooManySegments (input : List ℕ) (o : Options) (n : ℕ) : Type 
 pub record IsTooLong (input : List ℕ) (o : Options) (n : ℕ) : Type 0 where
   pub out : OutFile
   pub file : WovenFile input o out
+  pub read : IsReadAs input file.file
   pub code : code_size file.file o file.blocks ≤ limit_of limit.CodeBytes
   pub segments : length out.segments ≤ limit_of limit.OutputSegments
   pub size : n ≡ length (written out)
@@ -89,3 +94,20 @@ HasCause input o (error.TooLarge n) = HasTooMuchCode input o n
 HasCause input o (error.TooManySegments n) = HasTooManySegments input o n
 HasCause input o (error.FileTooLong n) = IsTooLong input o n
 HasCause input o error.Memory = Unit {0}
+
+-- ---- what can be expected
+-- what is woven from the input, which is read, is within the limits
+pub record HasOutput (input : List ℕ) (o : Options) : Type 0 where
+  pub out : OutFile
+  pub file : WovenFile input o out
+  pub read : IsReadAs input file.file
+  pub within : IsWithin file.file o file.blocks out
+
+-- the answer is this error, or want of memory
+abbrev pub IsErrorOr : {A : Type 0} → Result A TransformError → TransformError → Type 0
+IsErrorOr result e = (result ≡ Err e) ⊎ (result ≡ Err error.Memory)
+
+-- the answer is an output, or want of memory
+abbrev pub IsDoneOr : {A : Type 0} → Result A TransformError → Type 0
+IsDoneOr (Ok made) = Unit {0}
+IsDoneOr (Err e) = e ≡ error.Memory

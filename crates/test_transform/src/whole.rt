@@ -1,8 +1,9 @@
 //! From the bytes of a test to those of its output.
-ghost use Rattle.std.specs.Prelude.{IfOk, IfErr, OnOk};
+ghost use Rattle.std.specs.Prelude.{◌≢◌, IfOk, IfErr, OnOk};
+ghost use Rattle.test_transform.specs.declared.error.TransformError.{TransformError as Refusal};
 ghost use Rattle.qed_model.specs.Weave.Places.{AreSoundOptions};
 ghost use Rattle.test_transform.specs.Made.{IsShort, Exceeds};
-ghost use Rattle.test_transform.specs.Transform.{Transforms, HasCause};
+ghost use Rattle.test_transform.specs.Transform.{Transforms, HasCause, HasOutput, IsErrorOr, IsDoneOr};
 
 use crate::cut::cut_test;
 use crate::error::TransformError;
@@ -36,12 +37,8 @@ fn check_limits(out: &OutFile) -> Result<(), TransformError>
     Ok(())
 }
 
-/// The output of a test, and what is told of it. The options are sound.
-///
-/// Each error comes only where its rule is the first that holds: `Elf` where the file is not read, `Admit` where it is not
-/// admitted, `TooLarge` where its new code is above its limit, and the two limits on the output, which are tested before it is
-/// written. `Memory` is want of memory, at any time.
-pub fn transform(
+/// The output of a test, and what is told of it, or why there is none.
+fn make_output(
     alloc: Global,
     bytes: &[u8],
     options: &Options,
@@ -57,4 +54,23 @@ pub fn transform(
         file: write_elf(alloc, &made.out)?,
         plan: made.plan,
     })
+}
+
+/// The output of a test, and what is told of it. The options are sound.
+///
+/// Each error comes exactly where its rule is the first that holds, or `Memory` in its place: `Elf` where the file is not read,
+/// `Admit` where it is not admitted, `TooLarge` where its new code is above its limit, and the two limits on the output, which
+/// are tested before it is written. `Memory` is want of memory, at any time.
+pub fn transform(
+    alloc: Global,
+    bytes: &[u8],
+    options: &Options,
+) -> Result<Transformed, TransformError>
+    requires { AreSoundOptions options.now }
+    ensures done { IfOk result (λ made. Transforms bytes.now options.now made.file made.plan) }
+    ensures refused { IfErr result (HasCause bytes.now options.now) }
+    ensures exact { (e : Refusal) → e ≢ TransformError.Memory → HasCause bytes.now options.now e → IsErrorOr result e }
+    ensures complete { HasOutput bytes.now options.now → IsDoneOr result }
+{
+    make_output(alloc, bytes, options)
 }

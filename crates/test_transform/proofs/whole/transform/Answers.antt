@@ -1,27 +1,8 @@
-use Rattle.test_transform.specs.Made.{IsMade}
-use Rattle.test_transform.specs.Transform.{HasCause}
-use Rattle.test_transform.proofs.Promises.{writes, done, exceeded, if_err}
+use Rattle.test_transform.proofs.OneAnswer.{exact_of, complete_of}
 use Rattle.test_transform.proofs.whole.transform.Goals as goal
 
-pub returns-in_err-check_limits-clause-refused : goal.returns-in_err-check_limits-clause-refused
-returns-in_err-check_limits-clause-refused c =
-    let cut = c.in_ok-cut.cut in
-    let made = c.in_ok-made.made in
-    let is : IsMade c.args.bytes.now cut.file c.args.options.now cut.blocks made.out made.plan = c.in_ok-made.ensures.made c.args.bytes.now c.in_ok-cut.ensures.cut in
-    let cause : HasCause c.args.bytes.now c.args.options.now c.in_err-check_limits.field-0.0 =
-    exceeded c.args.bytes.now cut.file c.args.options.now cut.blocks made.out made.plan is c.in_err-check_limits.field-0.0 c.in_err-check_limits.ensures.exceeds in
-    if_err c.from_residual-in_err-check_limits.result c.in_err-check_limits.field-0.0 (HasCause c.args.bytes.now c.args.options.now) c.from_residual-in_err-check_limits.ensures.1 cause
+pub returns-clause-exact : goal.returns-clause-exact
+returns-clause-exact c = exact_of c.args.bytes.now c.args.options.now c.make_output.result c.make_output.ensures.done c.make_output.ensures.refused
 
-pub write_elf-requires : goal.write_elf-requires
-write_elf-requires c =
-    let cut = c.in_ok-cut.cut in
-    let made = c.in_ok-made.made in
-    writes c.args.bytes.now cut.file c.args.options.now cut.blocks made.out made.plan (c.in_ok-made.ensures.made c.args.bytes.now c.in_ok-cut.ensures.cut) c.in_ok-check_limits.ensures.short
-
-pub returns-clause-done : goal.returns-clause-done
-returns-clause-done c =
-    let cut = c.in_ok-cut.cut in
-    let made = c.in_ok-made.made in
-    let wrote = c.in_ok-write_elf.ensures in
-    done c.args.bytes.now cut.file c.args.options.now cut.blocks made.out made.plan (c.in_ok-made.ensures.made c.args.bytes.now c.in_ok-cut.ensures.cut) c.in_ok-cut.ensures.read c.in_ok-check_limits.ensures.short
-    c.in_ok-write_elf.field-0 wrote.written wrote.reads_back
+pub returns-clause-complete : goal.returns-clause-complete
+returns-clause-complete c = complete_of c.args.bytes.now c.args.options.now c.make_output.result c.make_output.ensures.refused
