@@ -3,10 +3,10 @@ use Rattle.std.proofs.Common.{◌≡◌, ℕ, ◌≤◌, List, length, inl, inr,
 use Rattle.std.specs.Prelude.{◌≢◌, Result, Ok, Err, IfOk, IfErr}
 use Rattle.elf_types.specs.declared.error.ElfError.{ElfError}
 use Rattle.elf_types.specs.declared.file.ElfFile.{ElfFile}
+use Rattle.elf_types.specs.declared.output.OutFile.{OutFile}
 use Rattle.qed_model.specs.declared.admit.AdmitError.{AdmitError}
 use Rattle.qed_model.specs.declared.limits.Limit.TheVariants as limit
 use Rattle.qed_model.specs.declared.options.Options.{Options}
-use Rattle.qed_model.specs.declared.plan.Plan.{Plan}
 use Rattle.qed_model.specs.Limits.{limit_of}
 use Rattle.qed_model.specs.Admission.Refusals.{IsAdmitted, IsRefusedBy}
 use Rattle.qed_model.specs.Elf.File.{IsReadAs}
@@ -14,7 +14,7 @@ use Rattle.qed_model.specs.Elf.Layout.{written}
 use Rattle.qed_model.specs.Elf.Refusals.{IsRefused}
 use Rattle.qed_model.specs.Weave.Blocks.{AreBlocks}
 use Rattle.qed_model.specs.Weave.Sequences.{Block}
-use Rattle.qed_model.specs.Weave.Woven.{code_size}
+use Rattle.qed_model.specs.Weave.Woven.{code_size, WovenFile, IsWithin}
 use Rattle.qed_model.proofs.AcceptanceLaws.{read_or_refused}
 use Rattle.qed_model.proofs.AdmissionLaws.{no_fault}
 use Rattle.qed_model.proofs.BlocksOnly.{blocks_only}
@@ -25,7 +25,7 @@ use Rattle.relinker.specs.Counted.{capped}
 use Rattle.test_transform.specs.declared.error.TransformError.{TransformError}
 use Rattle.test_transform.specs.declared.error.TransformError.TheVariants as error
 use Rattle.test_transform.specs.declared.whole.Transformed.{Transformed}
-use Rattle.test_transform.specs.Transform.{HasCause, IsNotAdmitted, HasTooMuchCode, Transforms, HasOutput, IsErrorOr, IsDoneOr}
+use Rattle.test_transform.specs.Transform.{HasCause, IsNotAdmitted, HasTooMuchCode, Transforms, IsTransformable, IsErrorOr, IsDoneOr}
 
 module _ (input : List ℕ) (o : Options) where
   -- bytes are refused by one rule
@@ -83,18 +83,15 @@ module _ (input : List ℕ) (o : Options) where
       ap error.FileTooLong (x.size ∙ ap (λ out. length (written out)) (one_woven_test input o x.out y.out x.file y.file) ∙ sym y.size)
 
   -- and an output within the limits has none
-  pub no_cause : (e : TransformError) → e ≢ error.Memory → HasCause input o e → HasOutput input o → ⊥
-  no_cause (error.Elf e) n x h = read_or_refused input h.file.file e h.read x
-  no_cause (error.Admit e) n x h = not_admitted e h.file.file x h.read h.file.has.admitted
-  no_cause (error.TooLarge k) n x h = too_large k h.file.file h.file.blocks x h.read h.file.has.are h.within.code
-  no_cause (error.TooManySegments k) n x h = absurd (omega (arith, x.over, x.count, h.within.segments, ap (λ out. length out.segments) (one_woven_test input o x.out h.out x.file h.file)))
-  no_cause (error.FileTooLong k) n x h = absurd (omega (arith, x.over, x.size, h.within.size, ap (λ out. length (written out)) (one_woven_test input o x.out h.out x.file h.file)))
-  no_cause error.Memory n x h = n refl
+  no_cause : (out : OutFile) (w : WovenFile input o out) (e : TransformError) → e ≢ error.Memory → HasCause input o e → IsReadAs input w.file → IsWithin w.file o w.blocks out → ⊥
+  no_cause out w (error.Elf e) n x read within = read_or_refused input w.file e read x
+  no_cause out w (error.Admit e) n x read within = not_admitted e w.file x read w.has.admitted
+  no_cause out w (error.TooLarge k) n x read within = too_large k w.file w.blocks x read w.has.are within.code
+  no_cause out w (error.TooManySegments k) n x read within = absurd (omega (arith, x.over, x.count, within.segments, ap (λ out. length out.segments) (one_woven_test input o x.out out x.file w)))
+  no_cause out w (error.FileTooLong k) n x read within = absurd (omega (arith, x.over, x.size, within.size, ap (λ out. length (written out)) (one_woven_test input o x.out out x.file w)))
+  no_cause out w error.Memory n x read within = n refl
 
   -- ---- what an answer says of all causes
-  output_of : (output : List ℕ) (plan : Plan) → Transforms input o output plan → HasOutput input o
-  output_of output plan t = record { out = t.woven.out; file = t.woven.file; read = t.read; within = t.within }
-
   error_or : {A : Type 0} (x e : TransformError) → e ≢ error.Memory → HasCause input o x → HasCause input o e → IsErrorOr {A = A} (Err x) e
   error_or error.Memory e n c h = inr refl
   error_or (error.Elf y) e n c h = inl (ap Err (one_cause (error.Elf y) e (λ m. absurd (cc)) n c h))
@@ -106,17 +103,20 @@ module _ (input : List ℕ) (o : Options) where
   pub exact_of :
       (r : Result Transformed TransformError) → IfOk r (λ made. Transforms input o made.file made.plan) → IfErr r (HasCause input o)
       → (e : TransformError) → e ≢ error.Memory → HasCause input o e → IsErrorOr r e
-  exact_of (Ok made) done refused e n h = absurd (no_cause e n h (output_of made.file made.plan done))
+  exact_of (Ok made) done refused e n h = absurd (no_cause done.woven.out done.woven.file e n h done.read done.within)
   exact_of (Err x) done refused e n h = error_or x e n refused h
 
-  memory_only : (x : TransformError) → HasCause input o x → HasOutput input o → x ≡ error.Memory
+  memory_only : (x : TransformError) → HasCause input o x → IsTransformable input o → x ≡ error.Memory
   memory_only error.Memory c h = refl
-  memory_only (error.Elf y) c h = absurd (no_cause (error.Elf y) (λ m. absurd (cc)) c h)
-  memory_only (error.Admit y) c h = absurd (no_cause (error.Admit y) (λ m. absurd (cc)) c h)
-  memory_only (error.TooLarge y) c h = absurd (no_cause (error.TooLarge y) (λ m. absurd (cc)) c h)
-  memory_only (error.TooManySegments y) c h = absurd (no_cause (error.TooManySegments y) (λ m. absurd (cc)) c h)
-  memory_only (error.FileTooLong y) c h = absurd (no_cause (error.FileTooLong y) (λ m. absurd (cc)) c h)
+  memory_only (error.Elf y) c h = absurd (read_or_refused input h.file y h.read c)
+  memory_only (error.Admit y) c h = absurd (not_admitted y h.file c h.read h.admitted)
+  memory_only (error.TooLarge y) c h =
+      let same = one_file input c.file h.file c.read.file h.read.file in
+      let small = h.code c.blocks (subst (λ f. AreBlocks f o.inst_max c.blocks) same c.are) in
+      absurd (omega (arith, c.over, c.count, small, ap (λ f. code_size f o c.blocks) same))
+  memory_only (error.TooManySegments y) c h = let most = h.outputs c.out c.file in absurd (omega (arith, c.over, c.count, most.segments))
+  memory_only (error.FileTooLong y) c h = let most = h.outputs c.out c.file in absurd (omega (arith, c.over, c.size, most.size))
 
-  pub complete_of : (r : Result Transformed TransformError) → IfErr r (HasCause input o) → HasOutput input o → IsDoneOr r
+  pub complete_of : (r : Result Transformed TransformError) → IfErr r (HasCause input o) → IsTransformable input o → IsDoneOr r
   complete_of (Ok made) refused h = tt
   complete_of (Err x) refused h = memory_only x refused h

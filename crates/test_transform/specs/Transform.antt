@@ -96,12 +96,13 @@ HasCause input o (error.FileTooLong n) = IsTooLong input o n
 HasCause input o error.Memory = Unit {0}
 
 -- ---- what can be expected
--- what is woven from the input, which is read, is within the limits
-pub record HasOutput (input : List ℕ) (o : Options) : Type 0 where
-  pub out : OutFile
-  pub file : WovenFile input o out
-  pub read : IsReadAs input file.file
-  pub within : IsWithin file.file o file.blocks out
+-- the input is read and admitted; its new code, and what is woven from it, are within the limits
+pub record IsTransformable (input : List ℕ) (o : Options) : Type 0 where
+  pub file : ElfFile
+  pub read : IsReadAs input file
+  pub admitted : IsAdmitted file o
+  pub code : (blocks : List Block) → AreBlocks file o.inst_max blocks → code_size file o blocks ≤ limit_of limit.CodeBytes
+  pub outputs : (out : OutFile) (w : WovenFile input o out) → IsWithin w.file o w.blocks out
 
 -- the answer is this error, or want of memory
 abbrev pub IsErrorOr : {A : Type 0} → Result A TransformError → TransformError → Type 0

@@ -3,7 +3,7 @@ ghost use Rattle.std.specs.Prelude.{◌≢◌, IfOk, IfErr, OnOk};
 ghost use Rattle.test_transform.specs.declared.error.TransformError.{TransformError as Refusal};
 ghost use Rattle.qed_model.specs.Weave.Places.{AreSoundOptions};
 ghost use Rattle.test_transform.specs.Made.{IsShort, Exceeds};
-ghost use Rattle.test_transform.specs.Transform.{Transforms, HasCause, HasOutput, IsErrorOr, IsDoneOr};
+ghost use Rattle.test_transform.specs.Transform.{Transforms, HasCause, IsTransformable, IsErrorOr, IsDoneOr};
 
 use crate::cut::cut_test;
 use crate::error::TransformError;
@@ -70,7 +70,7 @@ pub fn transform(
     ensures done { IfOk result (λ made. Transforms bytes.now options.now made.file made.plan) }
     ensures refused { IfErr result (HasCause bytes.now options.now) }
     ensures exact { (e : Refusal) → e ≢ TransformError.Memory → HasCause bytes.now options.now e → IsErrorOr result e }
-    ensures complete { HasOutput bytes.now options.now → IsDoneOr result }
+    ensures complete { IsTransformable bytes.now options.now → IsDoneOr result }
 {
     make_output(alloc, bytes, options)
 }
