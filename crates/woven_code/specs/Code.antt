@@ -16,14 +16,19 @@ use Rattle.relinker.specs.declared.error.LinkError.{LinkError}
 use Rattle.relinker.specs.declared.error.LinkError.TheVariants as error
 use Rattle.relinker.specs.Counted.{capped}
 use Rattle.relinker.specs.Link.{IsLinkable, most_bytes}
+use Rattle.test_weave.specs.declared.weaver.Weaver.{Weaver}
 use Rattle.test_weave.specs.Admitted.{IsTestInBlocks}
 use Rattle.woven_code.specs.declared.code.WovenCode.{WovenCode}
-use Rattle.test_weave.specs.Form.{form_with, items_to_stub}
+use Rattle.test_weave.specs.Form.{form, form_with, items_to_stub}
 
 -- ---- in one form
 -- the items in the near or in the far form, all but the stub
 abbrev pub items_of : Test → Options → Bool → List CodeBlock → List Item
 items_of t o far blocks = items_to_stub t.distance t.entry (form_with (spans_of t.span) o far) (map block_of blocks)
+
+-- what a weaver hands on
+abbrev pub handed_on : Weaver → Test → List CodeBlock → List Item
+handed_on w t blocks = items_to_stub t.distance t.entry (form w) (map block_of blocks)
 
 -- where the code begins
 abbrev pub place_of : Test → ℕ

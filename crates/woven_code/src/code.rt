@@ -1,14 +1,12 @@
 //! The new code, in the near form where that fits, else in the far form.
-ghost use Rattle.std.specs.Prelude.{◌≡◌, ◌+◌, ◌*◌, ◌^◌, ◌<◌, ◌≤◌, ℕ, [], List, All, map, IfOk, IfErr, true, false};
+ghost use Rattle.std.specs.Prelude.{◌≡◌, ◌+◌, ◌*◌, ◌^◌, ◌<◌, ◌≤◌, ℕ, [], List, All, IfOk, IfErr, true, false};
 ghost use Rattle.elf_types.specs.declared.file.ElfFile.{ElfFile};
 ghost use Rattle.block_list.specs.declared.block.CodeBlock.{CodeBlock};
-ghost use Rattle.block_list.specs.Listed.{block_of};
 ghost use Rattle.qed_model.specs.declared.limits.TheConstants.{CODE_ROOM};
 ghost use Rattle.relinker.specs.Counted.{HasCounted};
 ghost use Rattle.relinker.specs.Laid.{IsLaid, IsLinked, HasLinkCause};
 ghost use Rattle.test_weave.specs.Fits.{FitsBlock};
-ghost use Rattle.test_weave.specs.Form.{form, items_to_stub};
-ghost use Rattle.woven_code.specs.Code.{items_of, place_of, IsWithinForm, LinksWithin, IsCut, IsCodeOf, HasCause};
+ghost use Rattle.woven_code.specs.Code.{items_of, handed_on, place_of, IsWithinForm, LinksWithin, IsCut, IsCodeOf, HasCause};
 
 use block_list::CodeBlock;
 use qed_model::{Options, Test};
@@ -18,7 +16,7 @@ use test_weave::{Weaver, weave};
 
 /// The passes of the code in one form.
 fn weaver(alloc: Global, test: &Test, options: &Options, far: bool) -> Result<Weaver, AllocError>
-    ensures { IfOk result (λ weaver. (blocks : List CodeBlock) → items_to_stub test.now.distance test.now.entry (form weaver) (map block_of blocks) ≡ items_of test.now options.now far blocks) }
+    ensures { IfOk result (λ weaver. (blocks : List CodeBlock) → handed_on weaver test.now blocks ≡ items_of test.now options.now far blocks) }
 {
     Weaver::new(alloc, &test.span, options, far)
 }
@@ -34,7 +32,7 @@ fn counted(
     requires half { test.now.distance < 2 ^ 63 }
     requires fit { All FitsBlock blocks.now }
     ensures form { IfOk result (λ count. count.far ≡ far) }
-    ensures counted { IfOk result (λ count. HasCounted count (items_to_stub test.now.distance test.now.entry (form weaver.now) (map block_of blocks.now))) }
+    ensures counted { IfOk result (λ count. HasCounted count (handed_on weaver.now test.now blocks.now)) }
 {
     let mut count = Count::new(alloc, far);
     weave(alloc, weaver, test.distance, test.entry, blocks, &mut count)?;
@@ -51,12 +49,12 @@ fn laid_out(
 ) -> Result<Layout, LinkError>
     requires room { place_of test.now + CODE_ROOM ≤ 2 ^ 63 }
     requires fit { All FitsBlock blocks.now }
-    requires links { LinksWithin far (place_of test.now) (items_to_stub test.now.distance test.now.entry (form weaver.now) (map block_of blocks.now)) }
+    requires links { LinksWithin far (place_of test.now) (handed_on weaver.now test.now blocks.now) }
     ensures form { IfOk result (λ layout. layout.far ≡ far) }
     ensures base { IfOk result (λ layout. layout.base ≡ place_of test.now) }
-    ensures laid { IfOk result (λ layout. IsLaid layout [] (items_to_stub test.now.distance test.now.entry (form weaver.now) (map block_of blocks.now))) }
-    ensures fits { IfOk result (λ _. IsWithinForm far (items_to_stub test.now.distance test.now.entry (form weaver.now) (map block_of blocks.now))) }
-    ensures cause { IfErr result (HasLinkCause far (items_to_stub test.now.distance test.now.entry (form weaver.now) (map block_of blocks.now))) }
+    ensures laid { IfOk result (λ layout. IsLaid layout [] (handed_on weaver.now test.now blocks.now)) }
+    ensures fits { IfOk result (λ _. IsWithinForm far (handed_on weaver.now test.now blocks.now)) }
+    ensures cause { IfErr result (HasLinkCause far (handed_on weaver.now test.now blocks.now)) }
 {
     let count = counted(alloc, weaver, far, test, blocks)?;
     lay(alloc, count, test.base + 3 * test.distance)
@@ -72,8 +70,8 @@ fn written(
 ) -> Result<Linked, AllocError>
     requires half { test.now.distance < 2 ^ 63 }
     requires fit { All FitsBlock blocks.now }
-    requires laid { IsLaid layout [] (items_to_stub test.now.distance test.now.entry (form weaver.now) (map block_of blocks.now)) }
-    ensures { IfOk result (IsLinked layout.far layout.base (items_to_stub test.now.distance test.now.entry (form weaver.now) (map block_of blocks.now))) }
+    requires laid { IsLaid layout [] (handed_on weaver.now test.now blocks.now) }
+    ensures { IfOk result (IsLinked layout.far layout.base (handed_on weaver.now test.now blocks.now)) }
 {
     let mut layout = layout;
     weave(
@@ -104,11 +102,11 @@ fn code_of(
 ) -> Result<WovenCode, LinkError>
     requires room { place_of test.now + CODE_ROOM ≤ 2 ^ 63 }
     requires fit { All FitsBlock blocks.now }
-    requires links { LinksWithin far (place_of test.now) (items_to_stub test.now.distance test.now.entry (form weaver.now) (map block_of blocks.now)) }
+    requires links { LinksWithin far (place_of test.now) (handed_on weaver.now test.now blocks.now) }
     ensures form { IfOk result (λ made. made.far ≡ far) }
-    ensures linked { IfOk result (λ made. IsLinked far (place_of test.now) (items_to_stub test.now.distance test.now.entry (form weaver.now) (map block_of blocks.now)) made.linked) }
-    ensures fits { IfOk result (λ _. IsWithinForm far (items_to_stub test.now.distance test.now.entry (form weaver.now) (map block_of blocks.now))) }
-    ensures cause { IfErr result (HasLinkCause far (items_to_stub test.now.distance test.now.entry (form weaver.now) (map block_of blocks.now))) }
+    ensures linked { IfOk result (λ made. IsLinked far (place_of test.now) (handed_on weaver.now test.now blocks.now) made.linked) }
+    ensures fits { IfOk result (λ _. IsWithinForm far (handed_on weaver.now test.now blocks.now)) }
+    ensures cause { IfErr result (HasLinkCause far (handed_on weaver.now test.now blocks.now)) }
 {
     let layout = laid_out(alloc, weaver, far, test, blocks)?;
     let linked = written(alloc, weaver, layout, test, blocks)?;
@@ -137,8 +135,7 @@ fn code_in(
 
 /// The new code of a test that was admitted, in the near form where that has at most 1,048,576 bytes, else in the far form.
 ///
-/// Errors: `TooLarge` exactly where the far form is taken and has more than 67,108,864 bytes: how many, 2^64 - 1 at most; want
-/// of memory.
+/// Errors: `TooLarge` where the far form is taken and has more than 67,108,864 bytes: how many, 2^64 - 1 at most; want of memory.
 pub fn woven_code(
     alloc: Global,
     test: &Test,

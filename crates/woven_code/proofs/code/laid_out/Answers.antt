@@ -1,25 +1,22 @@
-use Rattle.std.proofs.Common.{map}
-use Rattle.block_list.specs.Listed.{block_of}
 use Rattle.relinker.proofs.Laying.{link_cause}
-use Rattle.test_weave.specs.Form.{form, items_to_stub}
-use Rattle.woven_code.specs.Code.{place_of}
+use Rattle.woven_code.specs.Code.{handed_on, place_of}
 use Rattle.woven_code.proofs.Laid.{within_form, laid_items}
 use Rattle.woven_code.proofs.code.laid_out.Goals as goal
 
 pub lay-requires-clause-counted : goal.lay-requires-clause-counted
-lay-requires-clause-counted c = (items_to_stub c.args.test.now.distance c.args.test.now.entry (form c.args.weaver.now) (map block_of c.args.blocks.now), c.in_ok-count.ensures.counted)
+lay-requires-clause-counted c = (handed_on c.args.weaver.now c.args.test.now c.args.blocks.now, c.in_ok-count.ensures.counted)
 
 pub returns-clause-laid : goal.returns-clause-laid
 returns-clause-laid c =
-    laid_items c.in_ok-count.count c.args.far (place_of c.args.test.now) (items_to_stub c.args.test.now.distance c.args.test.now.entry (form c.args.weaver.now) (map block_of c.args.blocks.now)) c.lay.result
+    laid_items c.in_ok-count.count c.args.far (place_of c.args.test.now) (handed_on c.args.weaver.now c.args.test.now c.args.blocks.now) c.lay.result
     c.in_ok-count.ensures.form c.in_ok-count.ensures.counted c.requires.links c.lay.ensures.limit c.lay.ensures.laid
 
 pub returns-clause-fits : goal.returns-clause-fits
 returns-clause-fits c =
-    within_form c.in_ok-count.count c.args.far (items_to_stub c.args.test.now.distance c.args.test.now.entry (form c.args.weaver.now) (map block_of c.args.blocks.now)) c.lay.result
+    within_form c.in_ok-count.count c.args.far (handed_on c.args.weaver.now c.args.test.now c.args.blocks.now) c.lay.result
     c.in_ok-count.ensures.form c.in_ok-count.ensures.counted c.lay.ensures.limit
 
 pub returns-clause-cause : goal.returns-clause-cause
 returns-clause-cause c =
-    link_cause c.in_ok-count.count c.args.far (items_to_stub c.args.test.now.distance c.args.test.now.entry (form c.args.weaver.now) (map block_of c.args.blocks.now)) c.lay.result
+    link_cause c.in_ok-count.count c.args.far (handed_on c.args.weaver.now c.args.test.now c.args.blocks.now) c.lay.result
     c.in_ok-count.ensures.form c.in_ok-count.ensures.counted c.lay.ensures.cause
