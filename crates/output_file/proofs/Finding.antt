@@ -10,7 +10,7 @@ use Rattle.elf_types.specs.declared.file.Segment.{Segment}
 use Rattle.qed_model.specs.declared.plan.EntryRow.{EntryRow}
 use Rattle.qed_model.specs.declared.range.Range.{Range}
 use Rattle.qed_model.specs.Admission.DataRanges.{range_of, is_in, is_in_any}
-use Rattle.qed_model.specs.Weave.OutputParts.{entry_at}
+use Rattle.qed_model.specs.Weave.Placed.{entry_at}
 use Rattle.output_file.specs.Images.{AreSpaced}
 
 -- ---- filters

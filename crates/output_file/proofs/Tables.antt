@@ -7,7 +7,7 @@ use Rattle.std.proofs.lemmas.List.{append-nil, replicate-append-replicate}
 use Rattle.qed_model.specs.declared.plan.EntryRow.{EntryRow}
 use Rattle.qed_model.specs.Below.{gather}
 use Rattle.qed_model.specs.Numbers.{number_bytes}
-use Rattle.qed_model.specs.Weave.OutputParts.{entry_at}
+use Rattle.qed_model.specs.Weave.Placed.{entry_at}
 use Rattle.qed_model.specs.Weave.OutputFile.{first_input, last_input, distance_to, table_word, table_bytes, table_segment}
 use Rattle.qed_model.proofs.Fields.{length-number_bytes}
 use Rattle.output_file.specs.Segments.{whole}

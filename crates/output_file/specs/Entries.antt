@@ -2,11 +2,8 @@
 use Rattle.std.specs.Prelude.{◌≡◌, ℕ, ◌+◌, ◌-◌, ◌*◌, ◌%◌, ◌<◌, All, AllPairs, List, map}
 use Rattle.qed_model.specs.declared.plan.EntryRow.{EntryRow}
 use Rattle.qed_model.specs.Numbers.{number_bytes}
+use Rattle.qed_model.specs.Weave.Placed.{EntriesAscend}
 use Rattle.qed_model.specs.Weave.Sequences.{Block}
-
--- their input addresses ascend
-abbrev pub EntriesAscend : List EntryRow → Type 0
-EntriesAscend rows = AllPairs (λ r t. r.input < t.input) rows
 
 -- the input addresses ascend, and are multiples of 4 below an address
 pub record AreEntries (high : ℕ) (rows : List EntryRow) : Type 0 where

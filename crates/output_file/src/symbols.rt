@@ -1,7 +1,7 @@
 //! The symbols of the output.
 ghost use Rattle.std.specs.Prelude.{◌≡◌, ◌++◌, ◌&&◌, not, if◌then◌else◌, OnOk, IfOk};
-ghost use Rattle.qed_model.specs.Weave.OutputParts.{is_kept as is_kept_of, is_local as is_local_of, valued as valued_of, entry_at as entry_at_of, out_symbol as out_symbol_of, symbol_group, out_symbols};
-ghost use Rattle.output_file.specs.Entries.{EntriesAscend};
+ghost use Rattle.qed_model.specs.Weave.OutputParts.{is_kept as is_kept_of, is_local as is_local_of, valued as valued_of, out_symbol as out_symbol_of, symbol_group, out_symbols};
+ghost use Rattle.qed_model.specs.Weave.Placed.{entry_at as entry_at_of, EntriesAscend};
 
 use elf_types::abi::{SHN_ABS, STT_FUNC};
 use elf_types::{Bytes, Symbol};

@@ -7,9 +7,6 @@ use std::process::Abort;
 use std::test::Fail;
 use test_calls::run;
 
-/// What is printed about a file that is not taken yet.
-const NOT_BUILT: &str = "refused E0: not built yet\n";
-
 /// `addi x5,x0,1`.
 const SET_X5: u32 = 0x00100293;
 
@@ -20,12 +17,7 @@ struct CodeCase {
     printed: &'static str,
 }
 
-const CODES: [CodeCase; 9] = [
-    CodeCase {
-        // sub x5,x6,x7
-        words: &[0x407302b3, ECALL],
-        printed: NOT_BUILT,
-    },
+const CODES: [CodeCase; 6] = [
     CodeCase {
         // add x14,x0,x0
         words: &[0x00000733, ECALL],
@@ -37,33 +29,23 @@ const CODES: [CodeCase; 9] = [
         printed: "refused A7: address 0x0000000000010004, register 31\n",
     },
     CodeCase {
-        words: &[
-            SET_X5, SET_X5, SET_X5, SET_X5, SET_X5, SET_X5, SET_X5, SET_X5, SET_X5, SET_X5, SET_X5,
-            SET_X5, SET_X5, SET_X5, SET_X5, SET_X5, SET_X5, ECALL,
-        ],
-        printed: NOT_BUILT,
-    },
-    CodeCase {
-        words: &[SET_X5],
-        printed: NOT_BUILT,
-    },
-    CodeCase {
-        words: &[ECALL, SET_X5, ECALL],
-        printed: NOT_BUILT,
-    },
-    CodeCase {
         // ebreak
         words: &[SET_X5, 0x00100073],
-        printed: NOT_BUILT,
+        printed: "refused A8: address 0x0000000000010004\n",
     },
     CodeCase {
         words: &[SET_X5, 0xffffffff],
-        printed: NOT_BUILT,
+        printed: "refused A6: address 0x0000000000010004, word 0xffffffff\n",
     },
     CodeCase {
-        // jal x0,0
-        words: &[0x0000006f],
-        printed: NOT_BUILT,
+        // slliw x5,x5,32
+        words: &[0x0202929b, ECALL],
+        printed: "refused A6: address 0x0000000000010000, word 0x0202929b\n",
+    },
+    CodeCase {
+        // auipc x5,0x10000: 0x10010000 is out of reach.
+        words: &[0x10000297, ECALL],
+        printed: "refused A9: address 0x0000000000010000\n",
     },
 ];
 
@@ -80,18 +62,18 @@ const HEADERS: [HeaderCase; 5] = [
             entry: 0x20000,
             ..ONE
         },
-        printed: NOT_BUILT,
+        printed: "refused A4: entry 0x0000000000020000\n",
     },
     HeaderCase {
         file: Elf {
             entry: 0x10002,
             ..ONE
         },
-        printed: NOT_BUILT,
+        printed: "refused A4: entry 0x0000000000010002\n",
     },
     HeaderCase {
         file: Elf { flags: 1, ..ONE },
-        printed: NOT_BUILT,
+        printed: "refused A1: compressed\n",
     },
     HeaderCase {
         file: Elf {
@@ -101,7 +83,7 @@ const HEADERS: [HeaderCase; 5] = [
             }],
             ..ONE
         },
-        printed: NOT_BUILT,
+        printed: "refused A4: entry 0x0000000000010000\n",
     },
     HeaderCase {
         file: Elf {

@@ -5,19 +5,6 @@ use Rattle.std.specs.Io.KnownBytes.{Appends}
 use Rattle.qed_io.specs.Sink.{AppendsPart}
 use Rattle.qed_io.specs.Files.{Files, file_bytes}
 use Rattle.qed_io.specs.Counts.{Rose, RoseAt, NoneFell}
-use Rattle.elf_types.specs.declared.file.ElfFile.{ElfFile}
-use Rattle.elf_types.specs.declared.error.ElfError.{ElfError}
-use Rattle.elf_types.specs.declared.error.ElfError.TheVariants as error
-use Rattle.qed_model.specs.declared.machine.Outcome.{Outcome}
-use Rattle.qed_model.specs.declared.machine.Outcome.TheVariants as outcome
-use Rattle.qed_model.specs.Elf.File.{IsReadAs}
-use Rattle.qed_model.specs.Elf.Refusals.{IsRefused}
-use Rattle.elf_types.specs.declared.output.OutFile.{OutFile}
-use Rattle.qed_model.specs.Admission.StraightTest.{StraightParts, IsMadeOf, IsStraightTest}
-use Rattle.qed_model.specs.Weave.StraightWoven.{high_register_of, WovenFile}
-use Rattle.transform.specs.declared.error.TransformError.{TransformError}
-use Rattle.transform.specs.declared.error.TransformError.TheVariants as transform
-use Rattle.transform.specs.Transform.{HasCause, IsWithin}
 use Rattle.qed_model.specs.Text.Plan.{usage_line, load_limit, load_limit_line, run_load_limit, run_load_limit_line}
 use Rattle.qed_top.specs.Words.{Asked, Transform, Run, asked, read_name, stored_name}
 use Rattle.qed_top.specs.Answer.{PrintsOnly, error_status, Transforms, refused, done, refusal_status, memory_bytes, outcome_status, run_of, Runs, unread, too_large, ran, CallsFor, read_fault, too_long, within, CommandCallsFor, WordsCallFor, FilesAfter, FilesInPart, StoreRose, ShelfSteady, SteadyOrReadFault}
@@ -28,8 +15,10 @@ use Rattle.qed_top.specs.declared.answer.Stored.{Stored}
 use Rattle.qed_top.specs.declared.status.Status.{Status}
 use Rattle.qed_top.specs.declared.status.Status.TheVariants.{Done, Usage, Refused, Limit, ReadFault, WriteFault, Memory, Fired, Trapped, StepsSpent}
 use Rattle.qed_model.proofs.ReadFacts.{one_file}
-use Rattle.transform.proofs.OneWoven.{one_woven}
-use Rattle.qed_top.proofs.Outputs.{same_refusal, not_both, is_straight, is_low}
+use Rattle.qed_model.proofs.AcceptanceLaws.{read_or_refused}
+use Rattle.qed_model.specs.Options.{default_options}
+use Rattle.transform.proofs.OneAnswer.{same_refusal, one_cause, memory_only, transformable_of}
+use Rattle.qed_top.proofs.Statuses.{error_refuses, refusal_refuses, Printed, refusal_printed, outcome_printed}
 use Rattle.qed_top.specs.Headline.{Answers}
 use Rattle.qed_top.proofs.Headlines.{holds_headline}
 use Rattle.qed_top.proofs.Meanings.{always, over_map, calls_more}
@@ -63,52 +52,15 @@ pub meant_later :
 meant_later words files rose later h answer m = meant_by_command_later (asked words) files rose later h answer m
 
 -- the status of what is meant is one that goes with a text
-abbrev Printed : Status → Type 0
-Printed WriteFault = ⊥
-Printed Memory = ⊥
-Printed _ = Unit {0}
-
-error_printed : (e : ElfError) → Printed (error_status e)
-error_printed error.Magic = tt
-error_printed (error.Class n) = tt
-error_printed (error.Encoding n) = tt
-error_printed (error.Version n) = tt
-error_printed (error.FileType n) = tt
-error_printed (error.Machine n) = tt
-error_printed error.HeaderShape = tt
-error_printed (error.OutOfFile p) = tt
-error_printed (error.SegmentShape i) = tt
-error_printed (error.SegmentOverlap i j) = tt
-error_printed (error.SectionShape i) = tt
-error_printed (error.SymbolShape j) = tt
-error_printed (error.RelaShape i j) = tt
-error_printed (error.TooManySections n) = tt
-error_printed (error.TooManyBytes n) = tt
-error_printed error.Memory = tt
-
-outcome_printed : (o : Outcome) → Printed (outcome_status o)
-outcome_printed outcome.Going = tt
-outcome_printed outcome.Ended = tt
-outcome_printed outcome.Fired = tt
-outcome_printed (outcome.Trapped c pc) = tt
-
 prints : (status : Status) (answer : Answer) → Printed status → answer.status ≡ status → Printed answer.status
 prints status answer p e = subst Printed (sym e) p
 
-refusal_printed : (e : TransformError) → Printed (refusal_status e)
-refusal_printed (transform.Elf e) = error_printed e
-refusal_printed transform.NotBuilt = tt
-refusal_printed (transform.RegisterHalf at register) = tt
-refusal_printed (transform.TooManySegments n) = tt
-refusal_printed (transform.FileTooLong n) = tt
-refusal_printed transform.Memory = tt
-
 transforms_printed : (bytes output : List ℕ) (answer : Answer) → Transforms bytes output answer → Printed answer.status
-transforms_printed bytes output answer (refused r) = prints (refusal_status r.error) answer (refusal_printed r.error) r.plain.status
+transforms_printed bytes output answer (refused r) = prints (refusal_status r.error) answer (refusal_printed (refusal_status r.error) (refusal_refuses r.error)) r.plain.status
 transforms_printed bytes output answer (done d) = prints Done answer tt d.delivers.status
 
 runs_printed : (bytes : List ℕ) (answer : Answer) → Runs bytes answer → Printed answer.status
-runs_printed bytes answer (unread u) = prints (error_status u.error) answer (error_printed u.error) u.plain.status
+runs_printed bytes answer (unread u) = prints (error_status u.error) answer (refusal_printed (error_status u.error) (error_refuses u.error)) u.plain.status
 runs_printed bytes answer (too_large t) = prints Limit answer tt t.plain.status
 runs_printed bytes answer (ran r) = prints (outcome_status (run_of r.file).state.outcome) answer (outcome_printed (run_of r.file).state.outcome) r.plain.status
 
@@ -200,68 +152,22 @@ no_memory_soon call stored text shelf sink =
     always call.old (λ files. EndsOver call files Memory) (λ files. inl (record { stored = stored; printed = text; shelf = shelf; sink = sink }))
 
 -- ---- what can be expected
--- what decides the status of `transform`, by the file that the bytes are
-data Settled (bytes : List ℕ) (s : Status) : Type 0 where
-  no_file : (e : ElfError) → IsRefused bytes e → s ≡ error_status e → Settled bytes s
-  other : (f : ElfFile) → IsReadAs bytes f → (IsStraightTest f → ⊥) → s ≡ Refused → Settled bytes s
-  high : (f : ElfFile) → IsReadAs bytes f → (p : StraightParts) → IsMadeOf f p → (x : ℕ × ℕ) → high_register_of f p.body ≡ Some x → s ≡ Refused → Settled bytes s
-  large : (out : OutFile) → WovenFile bytes out → (IsWithin out → ⊥) → s ≡ Limit → Settled bytes s
-  fits : (out : OutFile) → WovenFile bytes out → IsWithin out → s ≡ Done → Settled bytes s
-
-settled_by : (bytes : List ℕ) (s : Status) (e : TransformError) → HasCause bytes e → e ≢ transform.Memory → s ≡ refusal_status e → Settled bytes s
-settled_by bytes s (transform.Elf e) c k a = no_file e c a
-settled_by bytes s transform.NotBuilt c k a = other c.file c.read c.other a
-settled_by bytes s (transform.RegisterHalf at register) c k a = high c.file c.read c.parts c.made (at, register) c.first a
-settled_by bytes s (transform.TooManySegments n) c k a = let over = c.over in let count = c.count in large c.out c.file (λ w. let most = w.segments in absurd (omega (arith, over, count, most))) a
-settled_by bytes s (transform.FileTooLong n) c k a = let over = c.over in let size = c.size in large c.out c.file (λ w. let most = w.size in absurd (omega (arith, over, size, most))) a
-settled_by bytes s transform.Memory c k a = absurd (k refl)
-
-settled : (bytes : List ℕ) (s : Status) → TransformDecides bytes s → Settled bytes s
-settled bytes s (decide.refused e c k a) = settled_by bytes s e c k a
-settled bytes s (decide.done out w i a) = fits out w i a
-
-too_large_or : (bytes : List ℕ) (out second : OutFile) → WovenFile bytes out → WovenFile bytes second → (IsWithin out → ⊥) → IsWithin second → ⊥
-too_large_or bytes out second x y over fit = over (subst IsWithin (one_woven bytes second out y x) fit)
-
--- a file has one status
-settled_unique : (bytes : List ℕ) (s t : Status) → Settled bytes s → Settled bytes t → s ≡ t
-settled_unique bytes s t (no_file e x a) (no_file d y b) = a ∙ ap error_status (same_refusal bytes e d x y) ∙ sym b
-settled_unique bytes s t (no_file e x a) (other g y m b) = absurd (not_both bytes e g x y)
-settled_unique bytes s t (no_file e x a) (high g y q made z n b) = absurd (not_both bytes e g x y)
-settled_unique bytes s t (no_file e x a) (large out w m b) = absurd (not_both bytes e w.file x w.read)
-settled_unique bytes s t (no_file e x a) (fits out w m b) = absurd (not_both bytes e w.file x w.read)
-settled_unique bytes s t (other f x n a) (no_file d y b) = absurd (not_both bytes d f y x)
-settled_unique bytes s t (other f x n a) (other g y m b) = a ∙ sym b
-settled_unique bytes s t (other f x n a) (high g y q made z m b) = a ∙ sym b
-settled_unique bytes s t (other f x n a) (large out w m b) = absurd (n (is_straight bytes f out x w))
-settled_unique bytes s t (other f x n a) (fits out w m b) = absurd (n (is_straight bytes f out x w))
-settled_unique bytes s t (high f x p made z n a) (no_file d y b) = absurd (not_both bytes d f y x)
-settled_unique bytes s t (high f x p made z n a) (other g y m b) = a ∙ sym b
-settled_unique bytes s t (high f x p made z n a) (high g y q also u m b) = a ∙ sym b
-settled_unique bytes s t (high f x p made z n a) (large out w m b) = absurd (is_low bytes f p z out x made n w)
-settled_unique bytes s t (high f x p made z n a) (fits out w m b) = absurd (is_low bytes f p z out x made n w)
-settled_unique bytes s t (large out w n a) (no_file d y b) = absurd (not_both bytes d w.file y w.read)
-settled_unique bytes s t (large out w n a) (other g y m b) = absurd (m (is_straight bytes g out y w))
-settled_unique bytes s t (large out w n a) (high g y q also u m b) = absurd (is_low bytes g q u out y also m w)
-settled_unique bytes s t (large out w n a) (large second v m b) = a ∙ sym b
-settled_unique bytes s t (large out w n a) (fits second v m b) = absurd (too_large_or bytes out second w v n m)
-settled_unique bytes s t (fits out w n a) (no_file d y b) = absurd (not_both bytes d w.file y w.read)
-settled_unique bytes s t (fits out w n a) (other g y m b) = absurd (m (is_straight bytes g out y w))
-settled_unique bytes s t (fits out w n a) (high g y q also u m b) = absurd (is_low bytes g q u out y also m w)
-settled_unique bytes s t (fits out w n a) (large second v m b) = absurd (too_large_or bytes second out v w m n)
-settled_unique bytes s t (fits out w n a) (fits second v m b) = a ∙ sym b
-
+-- bytes have one status under `transform`
 transform_unique : (bytes : List ℕ) (s t : Status) → TransformDecides bytes s → TransformDecides bytes t → s ≡ t
-transform_unique bytes s t x y = settled_unique bytes s t (settled bytes s x) (settled bytes t y)
+transform_unique bytes s t (decide.refused e c k a) (decide.refused d h m b) = a ∙ ap refusal_status (one_cause bytes default_options e d k m c h) ∙ sym b
+transform_unique bytes s t (decide.refused e c k a) (decide.done f b) = absurd (k (memory_only bytes default_options e c f))
+transform_unique bytes s t (decide.done f a) (decide.refused e c k b) = absurd (k (memory_only bytes default_options e c f))
+transform_unique bytes s t (decide.done f a) (decide.done g b) = a ∙ sym b
 
+-- and under `run`
 run_unique : (bytes : List ℕ) (s t : Status) → RunDecides bytes s → RunDecides bytes t → s ≡ t
 run_unique bytes s t (decide.unread e x a) (decide.unread d y b) = a ∙ ap error_status (same_refusal bytes e d x y) ∙ sym b
-run_unique bytes s t (decide.unread e x a) (decide.too_large g y l b) = absurd (not_both bytes e g x y)
-run_unique bytes s t (decide.unread e x a) (decide.ran g y l b) = absurd (not_both bytes e g x y)
-run_unique bytes s t (decide.too_large f x k a) (decide.unread d y b) = absurd (not_both bytes d f y x)
+run_unique bytes s t (decide.unread e x a) (decide.too_large g y l b) = absurd (read_or_refused bytes g e y x)
+run_unique bytes s t (decide.unread e x a) (decide.ran g y l b) = absurd (read_or_refused bytes g e y x)
+run_unique bytes s t (decide.too_large f x k a) (decide.unread d y b) = absurd (read_or_refused bytes f d x y)
 run_unique bytes s t (decide.too_large f x k a) (decide.too_large g y l b) = a ∙ sym b
 run_unique bytes s t (decide.too_large f x k a) (decide.ran g y l b) = let same = ap (λ h. memory_bytes h.segments) (one_file bytes f g x.file y.file) in absurd (omega (arith, k, l, same))
-run_unique bytes s t (decide.ran f x k a) (decide.unread d y b) = absurd (not_both bytes d f y x)
+run_unique bytes s t (decide.ran f x k a) (decide.unread d y b) = absurd (read_or_refused bytes f d x y)
 run_unique bytes s t (decide.ran f x k a) (decide.too_large g y l b) = let same = ap (λ h. memory_bytes h.segments) (one_file bytes f g x.file y.file) in absurd (omega (arith, k, l, same))
 run_unique bytes s t (decide.ran f x k a) (decide.ran g y l b) = a ∙ ap (λ h. outcome_status (run_of h).state.outcome) (one_file bytes f g x.file y.file) ∙ sym b
 
@@ -284,7 +190,7 @@ decides_same (Some c) files s t a b = command_same c files s t a b
 -- what is meant has the status that is decided, where no load failed
 transforms_decided : (bytes output : List ℕ) (answer : Answer) → Transforms bytes output answer → TransformDecides bytes answer.status
 transforms_decided bytes output answer (refused r) = decide.refused r.error r.cause r.known r.plain.status
-transforms_decided bytes output answer (done d) = decide.done d.made.woven.out d.made.woven.file d.made.within d.delivers.status
+transforms_decided bytes output answer (done d) = decide.done (transformable_of bytes default_options d.file d.plan d.made) d.delivers.status
 
 runs_decided : (bytes : List ℕ) (answer : Answer) → Runs bytes answer → RunDecides bytes answer.status
 runs_decided bytes answer (unread u) = decide.unread u.error u.cause u.plain.status

@@ -1,54 +1,28 @@
 -- From how a call ends to its headline.
-use Rattle.std.proofs.Common.{◌≡◌, ℕ, List, Option, None, Some, IfSome, sym, ap, ◌∙◌, subst}
+use Rattle.std.proofs.Common.{◌≡◌, ℕ, List, map, Option, None, Some, IfSome, sym, ap, ◌∙◌, subst}
 use Rattle.std.specs.Prelude.{MatchOption, IsSomeAnd}
 use Rattle.std.specs.FinMap.{insert}
-use Rattle.elf_types.specs.declared.error.ElfError.{ElfError}
-use Rattle.elf_types.specs.declared.error.ElfError.TheVariants as error
 use Rattle.qed_io.specs.Files.{Files, file_bytes}
+use Rattle.qed_model.specs.Admission.DataRanges.{range_of}
 use Rattle.qed_model.specs.Elf.FileRead.{file_read}
+use Rattle.qed_model.specs.Machine.Loading.{loaded_file}
+use Rattle.qed_model.specs.Options.{default_options}
+use Rattle.transform.specs.Transform.{Promised}
 use Rattle.qed_model.specs.Text.Plan.{usage_line, load_limit, load_limit_line}
-use Rattle.transform.specs.declared.error.TransformError.{TransformError}
-use Rattle.transform.specs.declared.error.TransformError.TheVariants as transform
 use Rattle.qed_top.specs.Words.{Asked, Transform, asked}
-use Rattle.qed_top.specs.Answer.{PrintsOnly, error_status, refusal_status, IsDone, Transforms, refused, done, CallsFor, read_fault, too_long, within, CommandCallsFor, WordsCallFor, FilesAfter}
+use Rattle.qed_top.specs.Answer.{PrintsOnly, IsDone, Transforms, refused, done, CallsFor, read_fault, too_long, within, CommandCallsFor, WordsCallFor, FilesAfter}
 use Rattle.qed_top.specs.Ends.{OverFiles, Call, load_rose, EndsOver, Ends}
 use Rattle.qed_top.specs.Headline.{IsPromised, IsDelivered, HoldsHeadline}
 use Rattle.qed_top.specs.declared.answer.Answer.{Answer}
 use Rattle.qed_top.specs.declared.answer.Stored.{Stored}
 use Rattle.qed_top.specs.declared.status.Status.{Status}
 use Rattle.qed_top.proofs.Meanings.{over_map}
+use Rattle.qed_top.proofs.Statuses.{IsRefusal, refusal_refuses}
 use Rattle.qed_top.specs.declared.status.Status.TheVariants.{Done, Usage, Limit, ReadFault}
-
--- ---- no refusal is Done
-error_refuses : (e : ElfError) → error_status e ≡ Done → ⊥
-error_refuses error.Magic h = absurd (cc)
-error_refuses (error.Class n) h = absurd (cc)
-error_refuses (error.Encoding n) h = absurd (cc)
-error_refuses (error.Version n) h = absurd (cc)
-error_refuses (error.FileType n) h = absurd (cc)
-error_refuses (error.Machine n) h = absurd (cc)
-error_refuses error.HeaderShape h = absurd (cc)
-error_refuses (error.OutOfFile p) h = absurd (cc)
-error_refuses (error.SegmentShape i) h = absurd (cc)
-error_refuses (error.SegmentOverlap i j) h = absurd (cc)
-error_refuses (error.SectionShape i) h = absurd (cc)
-error_refuses (error.SymbolShape j) h = absurd (cc)
-error_refuses (error.RelaShape i j) h = absurd (cc)
-error_refuses (error.TooManySections n) h = absurd (cc)
-error_refuses (error.TooManyBytes n) h = absurd (cc)
-error_refuses error.Memory h = absurd (cc)
-
-refuses : (e : TransformError) → refusal_status e ≡ Done → ⊥
-refuses (transform.Elf e) h = error_refuses e h
-refuses transform.NotBuilt h = absurd (cc)
-refuses (transform.RegisterHalf at register) h = absurd (cc)
-refuses (transform.TooManySegments n) h = absurd (cc)
-refuses (transform.FileTooLong n) h = absurd (cc)
-refuses transform.Memory h = absurd (cc)
 
 -- ---- what Done means
 done_of : (bytes output : List ℕ) (answer : Answer) → answer.status ≡ Done → Transforms bytes output answer → IsDone bytes output answer
-done_of bytes output answer is (refused r) = absurd (refuses r.error (sym r.plain.status ∙ is))
+done_of bytes output answer is (refused r) = absurd (subst IsRefusal (sym r.plain.status ∙ is) (refusal_refuses r.error))
 done_of bytes output answer is (done d) = d
 
 no_fault : (answer : Answer) → answer.status ≡ Done → answer.status ≡ ReadFault → ⊥
@@ -80,16 +54,20 @@ stored_of (Some s) None new output file h after = tt
 stored_of (Some s) (Some f) new output file h after = after ∙ ap Some ((λ i. insert f (h.0 i) (h.1 i)))
 
 module _ (call : Call) (files : Files) (input output : List ℕ) where
+  both : (answer : Answer) (d : IsDone (file_bytes files input) output answer) → Promised (loaded_file d.made.woven.file.file) (loaded_file (file_read d.made.woven.out)) (map range_of d.plan.span) default_options d.plan
+  both answer d = d.made.promised d.made.woven.file.file (file_read d.made.woven.out) d.made.read.file d.made.reads.file
+
   promised_of : (answer : Answer) (d : IsDone (file_bytes files input) output answer) → IsPromised (file_bytes files input) d.file answer.text
   promised_of answer d = record {
     test = d.made.woven.file.file;
     program = file_read d.made.woven.out;
     plan = d.plan;
-    reads_test = d.made.woven.file.read;
+    reads_test = d.made.read;
     reads_program = d.made.reads;
+    kept = (both answer d).kept;
+    landed = (both answer d).landed;
+    caught = (both answer d).caught;
     woven = d.made.woven;
-    kept = d.made.kept d.made.woven.file.file (file_read d.made.woven.out) d.made.woven.file.read.file d.made.reads.file;
-    caught = d.made.caught d.made.woven.file.file (file_read d.made.woven.out) d.made.woven.file.read.file d.made.reads.file;
     told = d.made.told;
     printed = d.delivers.text;
   }

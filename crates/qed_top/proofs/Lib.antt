@@ -1,4 +1,4 @@
-pub mod Outputs
+pub mod Statuses
 pub mod Meanings
 pub mod Headlines
 pub mod Endings

@@ -8,19 +8,24 @@ use Rattle.elf_types.specs.declared.file.ElfFile.{ElfFile}
 use Rattle.elf_types.specs.declared.error.ElfError.{ElfError}
 use Rattle.elf_types.specs.declared.error.ElfError.TheVariants as error
 use Rattle.elf_types.specs.Abi.{is_load}
+use Rattle.qed_model.specs.declared.admit.AdmitError.{AdmitError}
+use Rattle.qed_model.specs.declared.admit.AdmitError.TheVariants as admit
 use Rattle.qed_model.specs.declared.machine.Outcome.{Outcome}
 use Rattle.qed_model.specs.declared.machine.Outcome.TheVariants as outcome
+use Rattle.qed_model.specs.Admission.Ends.{HasEnds}
 use Rattle.qed_model.specs.Elf.File.{IsReadAs}
 use Rattle.qed_model.specs.Elf.Refusals as Refusals
 use Rattle.qed_model.specs.declared.plan.Plan.{Plan}
 use Rattle.qed_model.specs.Machine.Program.{start, zeros}
 use Rattle.qed_model.specs.Machine.Progress.{Progress, progress, begun}
 use Rattle.qed_model.specs.Machine.Loading.{loaded_file}
-use Rattle.qed_model.specs.Text.Plan.{plan_line, usage_line, read_fault_line, load_limit, load_limit_line, run_load_limit, run_load_limit_line, not_built_line}
+use Rattle.qed_model.specs.Text.Plan.{plan_line, usage_line, read_fault_line, load_limit, load_limit_line, run_load_limit, run_load_limit_line}
 use Rattle.qed_model.specs.Text.Run.{run_lines}
 use Rattle.qed_model.specs.Limits.{limit_of}
 use Rattle.qed_model.specs.declared.limits.Limit.TheVariants as limit
-use Rattle.qed_model.specs.Text.Errors.{error_line, limit_line, high_register_line}
+use Rattle.qed_model.specs.Text.Errors.{error_line, limit_line}
+use Rattle.qed_model.specs.Options.{default_options}
+use Rattle.report.specs.Admission.{admit_line}
 use Rattle.transform.specs.declared.error.TransformError.{TransformError}
 use Rattle.transform.specs.declared.error.TransformError.TheVariants as transform
 use Rattle.transform.specs.Transform.{HasCause}
@@ -61,28 +66,40 @@ pub record IsUnread (bytes : List ℕ) (answer : Answer) : Type 0 where
   pub plain : PrintsOnly (error_status error) (error_line error) answer
 
 -- ---- `transform`
+-- L2, L3 and L7 are limits, the rules A1 to A11 refuse
+abbrev pub admit_status : AdmitError → Status
+admit_status (admit.ImageSpan n) = Limit
+admit_status (admit.CodeWords n) = Limit
+admit_status (admit.TopAddress n) = Limit
+admit_status _ = Refused
+
 -- the status that goes with an error of the transformation, and its line
 abbrev pub refusal_status : TransformError → Status
 refusal_status (transform.Elf e) = error_status e
-refusal_status transform.NotBuilt = Refused
-refusal_status (transform.RegisterHalf at register) = Refused
+refusal_status (transform.Admit e) = admit_status e
+refusal_status (transform.TooLarge n) = Limit
 refusal_status (transform.TooManySegments n) = Limit
 refusal_status (transform.FileTooLong n) = Limit
 refusal_status transform.Memory = Refused
 
 abbrev pub refusal_line : TransformError → List ℕ
 refusal_line (transform.Elf e) = error_line e
-refusal_line transform.NotBuilt = not_built_line
-refusal_line (transform.RegisterHalf at register) = high_register_line at register
+refusal_line (transform.Admit e) = admit_line e
+refusal_line (transform.TooLarge n) = limit_line limit.CodeBytes n
 refusal_line (transform.TooManySegments n) = limit_line limit.OutputSegments n
 refusal_line (transform.FileTooLong n) = limit_line limit.OutputBytes n
 refusal_line transform.Memory = []
 
--- IN is not transformed: it is not read (E1 to E13, L5, L10), it is no straight test (E0), it names a register above x13 (A7), or
--- its output would be too large (L8, L9). The first of these holds, with its place or number.
+-- what a line about a test that is not admitted tells can be printed
+abbrev pub TellsEnds : TransformError → Type 0
+TellsEnds (transform.Admit e) = HasEnds e
+TellsEnds _ = Unit {0}
+
+-- IN is not transformed: it is not read (E1 to E13, L5, L10), it is not admitted (A1 to A11, L2, L3, L7), or its new code or its
+-- output would be too large (L4, L8, L9). The first of these holds, with its place or number.
 pub record IsRefused (bytes : List ℕ) (answer : Answer) : Type 0 where
   pub error : TransformError
-  pub cause : HasCause bytes error
+  pub cause : HasCause bytes default_options error
   pub known : error ≢ transform.Memory
   pub plain : PrintsOnly (refusal_status error) (refusal_line error) answer
 
@@ -92,11 +109,11 @@ pub record Delivers (file output : List ℕ) (plan : Plan) (answer : Answer) : T
   pub stored : IsSomeAnd answer.stored (λ s. (s.name.now ≡ output) × (s.bytes ≡ file))
   pub text : answer.text ≡ plan_line plan
 
--- done: what is woven from IN is delivered, its plan is told, and its runs have the values of the runs of IN
+-- done: what is woven from IN is delivered, its plan is told, and all is promised of both
 pub record IsDone (bytes output : List ℕ) (answer : Answer) : Type 0 where
   pub file : List ℕ
   pub plan : Plan
-  pub made : Made.Transforms bytes file plan
+  pub made : Made.Transforms bytes default_options file plan
   pub delivers : Delivers file output plan answer
 
 -- what `transform IN OUT` answers over the bytes of IN, which are within the limit

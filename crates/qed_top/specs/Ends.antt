@@ -6,11 +6,10 @@ use Rattle.qed_io.specs.Counts.{Rose, RoseAt}
 use Rattle.qed_io.specs.Sink.{AppendsPart}
 use Rattle.elf_types.specs.declared.file.ElfFile.{ElfFile}
 use Rattle.elf_types.specs.declared.error.ElfError.{ElfError}
-use Rattle.elf_types.specs.declared.output.OutFile.{OutFile}
 use Rattle.transform.specs.declared.error.TransformError.{TransformError}
 use Rattle.transform.specs.declared.error.TransformError.TheVariants as transform
-use Rattle.transform.specs.Transform.{HasCause, IsWithin}
-use Rattle.qed_model.specs.Weave.StraightWoven.{WovenFile}
+use Rattle.transform.specs.Transform.{HasCause, IsTransformable}
+use Rattle.qed_model.specs.Options.{default_options}
 use Rattle.qed_model.specs.Elf.File.{IsReadAs}
 use Rattle.qed_model.specs.Elf.Refusals.{IsRefused}
 use Rattle.qed_model.specs.Text.Plan.{load_limit, run_load_limit}
@@ -107,8 +106,8 @@ Ends call status = OverFiles call.old (λ files. EndsOver call files status)
 -- ---- what can be expected
 -- the status of `transform` over bytes within the limit, by what is true of them
 pub data TransformDecides (bytes : List ℕ) (status : Status) : Type 0 where
-  refused : (e : TransformError) → HasCause bytes e → e ≢ transform.Memory → status ≡ refusal_status e → TransformDecides bytes status
-  done : (out : OutFile) → WovenFile bytes out → IsWithin out → status ≡ Done → TransformDecides bytes status
+  refused : (e : TransformError) → HasCause bytes default_options e → e ≢ transform.Memory → status ≡ refusal_status e → TransformDecides bytes status
+  done : IsTransformable bytes default_options → status ≡ Done → TransformDecides bytes status
 
 -- the same of `run`
 pub data RunDecides (bytes : List ℕ) (status : Status) : Type 0 where

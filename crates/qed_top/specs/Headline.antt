@@ -1,5 +1,5 @@
 -- The headline: what the top call promises of both files when `transform IN OUT` is done.
-use Rattle.std.specs.Prelude.{◌≡◌, ℕ, List, [], Some, IfSome}
+use Rattle.std.specs.Prelude.{◌≡◌, ℕ, List, map, Some, IfSome}
 use Rattle.std.specs.FinMap.{insert}
 use Rattle.std.specs.Io.KnownBytes.{Appends}
 use Rattle.elf_types.specs.declared.file.ElfFile.{ElfFile}
@@ -7,8 +7,11 @@ use Rattle.qed_io.specs.Files.{Files, file_bytes}
 use Rattle.qed_model.specs.declared.plan.Plan.{Plan}
 use Rattle.qed_model.specs.Elf.File.{IsReadAs}
 use Rattle.qed_model.specs.Machine.Loading.{loaded_file}
-use Rattle.qed_model.specs.Weave.StraightWoven.{Woven, woven_plan}
+use Rattle.qed_model.specs.Admission.DataRanges.{range_of}
+use Rattle.qed_model.specs.Options.{default_options}
+use Rattle.qed_model.specs.Weave.Woven.{Woven, IsToldOf}
 use Rattle.qed_model.specs.Promise.Kept.{Kept}
+use Rattle.qed_model.specs.Promise.Landed.{Landed}
 use Rattle.qed_model.specs.Promise.Caught.{Caught}
 use Rattle.qed_model.specs.Text.Plan.{plan_line}
 use Rattle.qed_top.specs.Words.{Transform, asked}
@@ -17,18 +20,20 @@ use Rattle.qed_top.specs.declared.status.Status.{Status}
 use Rattle.qed_top.specs.declared.status.Status.TheVariants.{Done}
 
 -- IN is a test and OUT a program that was woven from it. The program's run has the values of the test's run after each of its
--- steps, and no check fires; changes of registers are caught. The bounds of both are those of the woven plan. The line tells the
--- numbers of that plan, and of its bounds those of a register and of a word; the two of the kept values are the profile's.
+-- steps, and no check fires; a jump to a wrong entry fires; changes of original registers and of data words are caught. Bounds,
+-- entries and data ranges are those of the woven plan, whose numbers the line tells: of its bounds those of a register and of a
+-- word.
 pub record IsPromised (input output line : List ℕ) : Type 0 where
   pub test : ElfFile
   pub program : ElfFile
   pub plan : Plan
   pub reads_test : IsReadAs input test
   pub reads_program : IsReadAs output program
-  pub woven : Woven input output
   pub kept : Kept (loaded_file test) (loaded_file program) plan.bounds.start plan.bounds.piece
-  pub caught : Caught (loaded_file test) (loaded_file program) [] plan.bounds
-  pub told : plan ≡ woven_plan woven.file.file woven.file.parts.body woven.file.words
+  pub landed : Landed (loaded_file test) (loaded_file program) plan.entries
+  pub caught : Caught (loaded_file test) (loaded_file program) (map range_of plan.span) plan.bounds
+  pub woven : Woven input default_options output
+  pub told : IsToldOf woven.file.file default_options woven.file.blocks plan
   pub printed : line ≡ plan_line plan
 
 -- OUT was stored, all other files are as they were, and the line was printed

@@ -5,7 +5,7 @@ ghost use Rattle.qed_io.specs.Files.{file_bytes};
 ghost use Rattle.qed_model.specs.Limits.{limit_of};
 ghost use Rattle.qed_model.specs.Text.Errors.{limit_line};
 ghost use Rattle.qed_top.specs.Words.{Transform, Run, texts};
-ghost use Rattle.qed_top.specs.Answer.{CallsFor, CommandCallsFor, Delivers, WordsCallFor, ShelfSteady, SteadyOrReadFault, Transforms, refusal_line, refusal_status};
+ghost use Rattle.qed_top.specs.Answer.{CallsFor, CommandCallsFor, Delivers, WordsCallFor, ShelfSteady, SteadyOrReadFault, TellsEnds, Transforms, admit_status, refusal_line, refusal_status};
 ghost use Rattle.qed_top.specs.Ends.{OverFiles};
 
 use crate::answer::{Answer, Stored, above_limit, line, plain, status_of};
@@ -14,7 +14,7 @@ use crate::status::Status;
 use crate::words::{Command, read_command};
 use elf_types::Bytes;
 use qed_io::{LoadError, Shelf};
-use qed_model::{AdmitError, Limit};
+use qed_model::{AdmitError, Limit, Options};
 use report::{admit_text, error_text, limit_text, transform_text};
 use std::alloc::{AllocError, Global};
 use transform::{TransformError, Transformed, transform};
@@ -40,15 +40,14 @@ fn answer_done<'a>(
 
 /// The line about a file that is not transformed.
 fn refusal_text(alloc: Global, error: &TransformError) -> Result<Bytes, AllocError>
+    requires { TellsEnds error.now }
     ensures text { IfOk result (λ text. text ≡ refusal_line error.now) }
     ensures memory { OnOk result (error.now ≢ TransformError.Memory) }
 {
     match error {
         TransformError::Elf(unread) => Ok(error_text(alloc, *unread)?),
-        TransformError::NotBuilt => Ok(Bytes::copied(alloc, b"refused E0: not built yet\n")?),
-        TransformError::RegisterHalf(at, register) => {
-            Ok(admit_text(alloc, &AdmitError::RegisterHalf(*at, *register))?)
-        }
+        TransformError::Admit(rule) => Ok(admit_text(alloc, rule)?),
+        TransformError::TooLarge(n) => Ok(limit_text(alloc, Limit::CodeBytes, u128::from(*n))?),
         TransformError::TooManySegments(n) => Ok(limit_text(
             alloc,
             Limit::OutputSegments,
@@ -59,15 +58,29 @@ fn refusal_text(alloc: Global, error: &TransformError) -> Result<Bytes, AllocErr
     }
 }
 
+/// The status that goes with a test that is not admitted.
+fn admit_status_of(rule: AdmitError) -> Status
+    ensures { result ≡ admit_status rule }
+{
+    match rule {
+        AdmitError::ImageSpan(_) | AdmitError::CodeWords(_) | AdmitError::TopAddress(_) => {
+            Status::Limit
+        }
+        _ => Status::Refused,
+    }
+}
+
 /// The status that goes with a file that is not transformed.
 fn refusal_status_of(error: &TransformError) -> Status
     ensures { result ≡ refusal_status error.now }
 {
     match error {
         TransformError::Elf(unread) => status_of(*unread),
+        TransformError::Admit(rule) => admit_status_of(*rule),
+        TransformError::TooLarge(_) => Status::Limit,
         TransformError::TooManySegments(_) => Status::Limit,
         TransformError::FileTooLong(_) => Status::Limit,
-        _ => Status::Refused,
+        TransformError::Memory => Status::Refused,
     }
 }
 
@@ -79,7 +92,7 @@ fn answer_transform<'a>(
 ) -> Result<Answer<'a>, AllocError>
     ensures { IfOk result (λ answer. Transforms bytes.now output.now answer) }
 {
-    match transform(alloc, bytes) {
+    match transform(alloc, bytes, &Options::default()) {
         Ok(made) => {
             let answer = answer_done(alloc, made, output)?;
             Ok(answer)

@@ -10,7 +10,7 @@ use Rattle.rv_isa.specs.declared.kind.Kind.TheVariants.{Illegal}
 use Rattle.qed_model.specs.declared.item.Item.{Item}
 use Rattle.qed_model.specs.declared.plan.EntryRow.{EntryRow}
 use Rattle.qed_model.specs.Machine.Table.{ins, decode_of}
-use Rattle.qed_model.specs.Weave.Placed.{sum_of_sizes, rows_from, instructions_from}
+use Rattle.qed_model.specs.Weave.Placed.{sum_of_sizes, rows_from, instructions_from, leads_to, EntriesAscend}
 use Rattle.relinker.specs.declared.count.Count.{Count}
 use Rattle.relinker.specs.declared.error.LinkError.{LinkError}
 use Rattle.relinker.specs.declared.error.LinkError.TheVariants as error
@@ -18,7 +18,7 @@ use Rattle.relinker.specs.declared.layout.Layout.{Layout}
 use Rattle.relinker.specs.Counted.{HasCounted}
 use Rattle.relinker.specs.Joined.{Join}
 use Rattle.relinker.specs.Laid.{IsLaid, IsLaidIn, IsLinked, HasCause, HasLinkCause}
-use Rattle.relinker.specs.Link.{is_low, is_encoded, AreWords, leads_to, moved, Ascend, IsLinkable, most_bytes}
+use Rattle.relinker.specs.Link.{is_low, is_encoded, AreWords, moved, IsLinkable, most_bytes}
 use Rattle.relinker.specs.Sink.{ComeNext}
 use Rattle.relinker.proofs.Joining.{parts_join}
 use Rattle.relinker.proofs.Places.{rows_low, rows_moved, encoded_items, decoded_items}
@@ -43,7 +43,7 @@ sizes far done items rest = (parts_join far (λ a. a) 0 done (items ++ rest)).by
 
 -- what a layout asks of the items that it takes
 pub record Asks (layout : Layout) (items : List Item) : Type 0 where
-  pub ascend : Ascend layout.entries.items
+  pub ascend : EntriesAscend layout.entries.items
   pub low : layout.at + sum_of_sizes layout.far items < 2 ^ 63
   pub encoded : list_all is_encoded (instructions_from layout.far (leads_to layout.entries.items layout.last) layout.at items) ≡ true
   pub room : 4 * vec_len layout.words + sum_of_sizes layout.far items ≤ 4 * vec_capacity layout.words
@@ -83,7 +83,7 @@ laid_first count base entries words high small moves none empty room items count
     let last : base + count.bytes ≡ base + sum_of_sizes count.far items = ap (λ n. base + n) exact in
     record {
       entries = rows;
-      ascend = subst Ascend (sym rows) linkable.ascend;
+      ascend = subst EntriesAscend (sym rows) linkable.ascend;
       last = last;
       low = omega (arith, few, high);
       encoded =

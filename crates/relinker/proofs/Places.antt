@@ -12,14 +12,12 @@ use Rattle.qed_model.specs.declared.item.Item.{Item}
 use Rattle.qed_model.specs.declared.item.Item.TheVariants.{Mark, Plain, Constant, Go}
 use Rattle.qed_model.specs.Machine.Table.{ins, decode_of}
 use Rattle.qed_model.specs.Weave.Sequences.{stub}
-use Rattle.qed_model.specs.Weave.Placed.{go_size, sum_of_sizes, mark_from, entry_of, rows_from, distance_between, upper_part, lower_part, go_words, instructions_from, placed, Decode}
+use Rattle.qed_model.specs.Weave.Placed.{go_size, sum_of_sizes, entry_at, entry_of, rows_from, distance_between, upper_part, lower_part, go_words, instructions_from, placed, Decode, leads_to}
 use Rattle.qed_model.proofs.Placing.{instructions_from-append}
-use Rattle.weave_core.proofs.PlacingForm.{entry_mark}
-use Rattle.qed_model.specs.Weave.OutputParts.{entry_at}
-use Rattle.relinker.specs.Link.{is_low, is_encoded, leads_to, moved}
+use Rattle.relinker.specs.Link.{is_low, is_encoded, moved}
 
 -- the stub has no mark
-mark_stub : (far : Bool) (at : ℕ) (items : List Item) (a : ℕ) → mark_from far at (items ++ stub) a ≡ mark_from far at items a
+mark_stub : (far : Bool) (at : ℕ) (items : List Item) (a : ℕ) → entry_at (rows_from far at (items ++ stub)) a ≡ entry_at (rows_from far at items) a
 mark_stub far at [] a = refl
 mark_stub far at (Mark m ∷ items) a = ap (λ o. if m == a then Some at else o) (mark_stub far at items a)
 mark_stub far at (Plain i ∷ items) a = mark_stub far (at + 4) items a
@@ -34,7 +32,7 @@ sum_stub far (item ∷ items) = omega (arith, sum_stub far items)
 -- with the stub an address leads to its mark, or to the stub
 entry_stub : (far : Bool) (base : ℕ) (items : List Item) (a : ℕ) → entry_of far base (items ++ stub) a ≡ leads_to (rows_from far base items) (base + sum_of_sizes far items) a
 entry_stub far base items a =
-    ap (λ o. unwrap_or o (base + sum_of_sizes far (items ++ stub) - 4)) (mark_stub far base items a ∙ sym (entry_mark far base items a))
+    ap (λ o. unwrap_or o (base + sum_of_sizes far (items ++ stub) - 4)) (mark_stub far base items a)
     ∙ ap (λ n. unwrap_or (entry_at (rows_from far base items) a) n) (omega (arith, sum_stub far items))
 
 -- instructions with the same entries

@@ -3,8 +3,7 @@ use Rattle.std.proofs.Common.{◌≡◌, ℕ, zero, suc, ◌<◌, Bool, true, fa
 use Rattle.std.specs.Prelude.{◌==◌, if◌then◌else◌, slice_index_or}
 use Rattle.std.proofs.lemmas.Bool.Decides.{nat_tests}
 use Rattle.qed_model.specs.declared.plan.EntryRow.{EntryRow}
-use Rattle.qed_model.specs.Weave.OutputParts.{entry_at}
-use Rattle.relinker.specs.Link.{Ascend}
+use Rattle.qed_model.specs.Weave.Placed.{entry_at, EntriesAscend}
 
 -- an entry of another address is passed over
 passed : (r : EntryRow) (rs : List EntryRow) (a : ℕ) → (r.input ≡ a → ⊥) → entry_at (r ∷ rs) a ≡ entry_at rs a
@@ -14,15 +13,15 @@ passed r rs a other = by (r.input == a) refl where
   by true e = absurd (other (grind (arith, nat_tests, e)))
 
 -- all but the first ascend too
-rest : (r : EntryRow) (rs : List EntryRow) → Ascend (r ∷ rs) → Ascend rs
+rest : (r : EntryRow) (rs : List EntryRow) → EntriesAscend (r ∷ rs) → EntriesAscend rs
 rest r rs up i j d l m = up (suc i) (suc j) d (omega (arith, l)) (omega (arith, m))
 
 -- an entry further on has a greater address
-further : (r : EntryRow) (rs : List EntryRow) (k : ℕ) (d : EntryRow) → Ascend (r ∷ rs) → k < length rs → r.input < (slice_index_or rs k d).input
+further : (r : EntryRow) (rs : List EntryRow) (k : ℕ) (d : EntryRow) → EntriesAscend (r ∷ rs) → k < length rs → r.input < (slice_index_or rs k d).input
 further r rs k d up h = up 0 (suc k) d (omega arith) (omega (arith, h))
 
 -- up to an entry below the address nothing is found
-pub skipped : (rows : List EntryRow) (a k : ℕ) (d : EntryRow) → Ascend rows → k < length rows → (slice_index_or rows k d).input < a → entry_at (drop (suc k) rows) a ≡ entry_at rows a
+pub skipped : (rows : List EntryRow) (a k : ℕ) (d : EntryRow) → EntriesAscend rows → k < length rows → (slice_index_or rows k d).input < a → entry_at (drop (suc k) rows) a ≡ entry_at rows a
 skipped [] a k d up h less = absurd (omega (arith, h))
 skipped (r ∷ rs) a zero d up h less = sym (passed r rs a (λ e. omega (arith, e, less)))
 skipped (r ∷ rs) a (suc k) d up h less =
@@ -30,7 +29,7 @@ skipped (r ∷ rs) a (suc k) d up h less =
     ∙ sym (passed r rs a (λ e. omega (arith, e, less, further r rs k d up (omega (arith, h)))))
 
 -- nothing is found behind an entry above the address
-above_all : (r : EntryRow) (rs : List EntryRow) (a : ℕ) → a < r.input → Ascend (r ∷ rs) → entry_at (r ∷ rs) a ≡ None
+above_all : (r : EntryRow) (rs : List EntryRow) (a : ℕ) → a < r.input → EntriesAscend (r ∷ rs) → entry_at (r ∷ rs) a ≡ None
 above_all r [] a more up = passed r [] a (λ e. omega (arith, e, more))
 above_all r (s ∷ rs) a more up =
     passed r (s ∷ rs) a (λ e. omega (arith, e, more))
@@ -46,7 +45,7 @@ found (r ∷ rs) zero d h = by (r.input == r.input) refl where
 found (r ∷ rs) (suc k) d h = found rs k d (omega (arith, h))
 
 -- or there is none
-pub missed : (rows : List EntryRow) (a k : ℕ) (d : EntryRow) → Ascend rows → k < length rows → a < (slice_index_or rows k d).input → entry_at (drop k rows) a ≡ None
+pub missed : (rows : List EntryRow) (a k : ℕ) (d : EntryRow) → EntriesAscend rows → k < length rows → a < (slice_index_or rows k d).input → entry_at (drop k rows) a ≡ None
 missed [] a k d up h more = absurd (omega (arith, h))
 missed (r ∷ rs) a zero d up h more = above_all r rs a more up
 missed (r ∷ rs) a (suc k) d up h more = missed rs a k d (rest r rs up) (omega (arith, h)) more

@@ -3,21 +3,21 @@ use Rattle.std.specs.Prelude.{◌≡◌, ℕ, ◌+◌, ◌*◌, ◌^◌, ◌<◌
 use Rattle.std.specs.List.{list_all}
 use Rattle.qed_model.specs.declared.item.Item.{Item}
 use Rattle.qed_model.specs.Machine.Table.{decode_of}
-use Rattle.qed_model.specs.Weave.Placed.{sum_of_sizes, rows_from, instructions_from, placed, Decode}
+use Rattle.qed_model.specs.Weave.Placed.{sum_of_sizes, rows_from, instructions_from, placed, Decode, leads_to, EntriesAscend}
 use Rattle.qed_model.specs.Weave.Sequences.{stub}
 use Rattle.relinker.specs.declared.count.Count.{Count}
 use Rattle.relinker.specs.declared.error.LinkError.{LinkError}
 use Rattle.relinker.specs.declared.error.LinkError.TheVariants as error
 use Rattle.relinker.specs.declared.layout.Layout.{Layout}
 use Rattle.relinker.specs.declared.layout.Linked.{Linked}
-use Rattle.relinker.specs.Link.{is_encoded, AreWords, leads_to, Ascend, most_bytes}
+use Rattle.relinker.specs.Link.{is_encoded, AreWords, most_bytes}
 use Rattle.relinker.specs.Counted.{capped}
 
 -- these items have their words, and those are still to come: the entries are those of all, and there is room for all words and the
 -- stub
 pub record IsLaid (layout : Layout) (done rest : List Item) : Type 0 where
   pub entries : layout.entries.items ≡ rows_from layout.far layout.base (done ++ rest)
-  pub ascend : Ascend layout.entries.items
+  pub ascend : EntriesAscend layout.entries.items
   pub last : layout.last ≡ layout.base + sum_of_sizes layout.far (done ++ rest)
   pub low : layout.last < 2 ^ 63
   pub encoded : list_all is_encoded (instructions_from layout.far (leads_to layout.entries.items layout.last) layout.base (done ++ rest)) ≡ true

@@ -1,5 +1,5 @@
 -- What is asked of items that are laid out, and what their words are.
-use Rattle.std.specs.Prelude.{◌≡◌, ℕ, ◌+◌, ◌^◌, ◌<◌, nat_lt, is_some, Bool, true, false, List, ◌++◌, slice_index, unwrap_or, AllPairs}
+use Rattle.std.specs.Prelude.{◌≡◌, ℕ, ◌+◌, ◌^◌, ◌<◌, nat_lt, is_some, Bool, true, false, List, ◌++◌, slice_index}
 use Rattle.std.specs.List.{list_all}
 use Rattle.rv_isa.specs.declared.ins.Ins.{Ins}
 use Rattle.qed_model.specs.declared.item.Item.{Item}
@@ -8,8 +8,7 @@ use Rattle.qed_model.specs.declared.limits.TheConstants.{MAX_NEAR_CODE_BYTES}
 use Rattle.qed_model.specs.declared.plan.EntryRow.{EntryRow}
 use Rattle.qed_model.specs.Limits.{limit_of}
 use Rattle.qed_model.specs.Machine.Table.{encode_of}
-use Rattle.qed_model.specs.Weave.Placed.{rows_from, placed}
-use Rattle.qed_model.specs.Weave.OutputParts.{entry_at}
+use Rattle.qed_model.specs.Weave.Placed.{rows_from, placed, EntriesAscend}
 use Rattle.qed_model.specs.Weave.Sequences.{stub}
 
 -- an instruction has a word
@@ -20,17 +19,9 @@ is_encoded i = is_some (encode_of i)
 abbrev pub AreWords : List ℕ → Type 0
 AreWords words = (k : ℕ) → slice_index words k < 2 ^ 32
 
--- the entry of an input address; without one the last word, which is the stub
-abbrev pub leads_to : List EntryRow → ℕ → ℕ → ℕ
-leads_to rows last a = unwrap_or (entry_at rows a) last
-
--- the input addresses ascend
-abbrev pub Ascend : List EntryRow → Type 0
-Ascend rows = AllPairs (λ r s. r.input < s.input) rows
-
 -- items that stand from `base` on, with the stub behind them: their marks ascend, and each instruction has a word
 pub record IsLinkable (far : Bool) (base : ℕ) (items : List Item) : Type 0 where
-  pub ascend : Ascend (rows_from far base items)
+  pub ascend : EntriesAscend (rows_from far base items)
   pub encoded : list_all is_encoded (placed far base (items ++ stub)) ≡ true
 
 -- the most bytes of the near form, and of the far form

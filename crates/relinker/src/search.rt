@@ -1,15 +1,14 @@
 //! Entries are found by their input addresses, which ascend.
 ghost use Rattle.std.specs.Prelude.{◌≡◌, ◌<◌, ◌≤◌, length, drop, slice_index_or};
 ghost use Rattle.qed_model.specs.declared.plan.EntryRow.{EntryRow};
-ghost use Rattle.qed_model.specs.Weave.OutputParts.{entry_at};
-ghost use Rattle.relinker.specs.Link.{leads_to, Ascend};
+ghost use Rattle.qed_model.specs.Weave.Placed.{entry_at, leads_to, EntriesAscend};
 
 use qed_model::EntryRow;
 
 /// How many entries have input addresses below this one.
 #[tactic(auto, using(crate::proofs::Rows::skipped))]
 fn below(rows: &[EntryRow], address: u64) -> usize
-    requires { Ascend rows.now }
+    requires { EntriesAscend rows.now }
     ensures bound { result ≤ length rows.now }
     ensures rest { entry_at (drop result rows.now) address ≡ entry_at rows.now address }
     ensures above { result < length rows.now → (d : EntryRow) → address ≤ (slice_index_or rows.now result d).input }
@@ -29,7 +28,7 @@ fn below(rows: &[EntryRow], address: u64) -> usize
 /// The entry of an input address.
 #[tactic(auto, using(crate::proofs::Rows::found, crate::proofs::Rows::missed))]
 pub fn place_of(rows: &[EntryRow], address: u64) -> Option<u64>
-    requires { Ascend rows.now }
+    requires { EntriesAscend rows.now }
     ensures { result ≡ entry_at rows.now address }
 {
     let at = below(rows, address);
@@ -44,7 +43,7 @@ pub fn place_of(rows: &[EntryRow], address: u64) -> Option<u64>
 
 /// The entry of an input address, else the last word.
 pub(crate) fn entry(rows: &[EntryRow], last: u64, address: u64) -> u64
-    requires { Ascend rows.now }
+    requires { EntriesAscend rows.now }
     ensures { result ≡ leads_to rows.now last address }
 {
     place_of(rows, address).unwrap_or(last)

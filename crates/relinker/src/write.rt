@@ -2,8 +2,8 @@
 ghost use Rattle.std.specs.Prelude.{◌≡◌, ◌+◌, ◌*◌, ◌-◌, ◌^◌, ◌<◌, ◌≤◌, ◌++◌, [], ◌∷◌, true, false, length, map, Some, pos, ◌≤ℤ◌, vec_len, vec_capacity};
 ghost use Rattle.std.specs.List.{list_all};
 ghost use Rattle.qed_model.specs.Machine.Table.{ins, decode_of};
-ghost use Rattle.qed_model.specs.Weave.Placed.{size_of, sum_of_sizes, distance_between as distance_of, upper_part as upper_of, lower_part as lower_of, go_words, instructions_from};
-ghost use Rattle.relinker.specs.Link.{is_encoded, AreWords, leads_to, Ascend};
+ghost use Rattle.qed_model.specs.Weave.Placed.{size_of, sum_of_sizes, distance_between as distance_of, upper_part as upper_of, lower_part as lower_of, go_words, instructions_from, leads_to, EntriesAscend};
+ghost use Rattle.relinker.specs.Link.{is_encoded, AreWords};
 
 use crate::count::size;
 use crate::search::entry;
@@ -118,7 +118,7 @@ fn put_all(words: &mut Vec<u32>, instructions: &[Ins])
 
 /// Appends the words of an item that stands at an address. There is room for them.
 fn put_item(words: &mut Vec<u32>, rows: &[EntryRow], far: bool, last: u64, item: &Item, at: u64)
-    requires ascend { Ascend rows.now }
+    requires ascend { EntriesAscend rows.now }
     requires encoded { list_all is_encoded (instructions_from far (leads_to rows.now last) at (item.now ∷ [])) ≡ true }
     requires room { 4 * vec_len words.old + size_of far item.now ≤ 4 * vec_capacity words.old }
     requires small { AreWords words.old.items }
@@ -151,7 +151,7 @@ pub(crate) fn put_items(
     items: &[Item],
     base: u64,
 ) -> u64
-    requires ascend { Ascend rows.now }
+    requires ascend { EntriesAscend rows.now }
     requires low { base + sum_of_sizes far items.now < 2 ^ 63 }
     requires encoded { list_all is_encoded (instructions_from far (leads_to rows.now last) base items.now) ≡ true }
     requires room { 4 * vec_len words.old + sum_of_sizes far items.now ≤ 4 * vec_capacity words.old }

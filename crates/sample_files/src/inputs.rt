@@ -47,7 +47,7 @@ pub const SIXTEEN_WORDS: &[u32] = &[
     0xa1438213, 0x64220593, 0x31a50313, 0xd6028393, 0x003003b3, 0x00358133, 0xa9438693, ECALL,
 ];
 
-/// Sixteen sums, the most that are taken.
+/// Sixteen sums, the most that are one piece.
 pub const SEVENTEEN_WORDS: &[u32] = &[
     0x98b30113, 0x3b308413, 0x00018433, 0xfb308313, 0xbf600313, 0x00950533, 0x006484b3, 0xc4200193,
     0xbc440113, 0x00a68433, 0xe0348493, 0xa0258413, 0x007184b3, 0x00560333, 0x19728393, 0xfcf58113,

@@ -13,7 +13,7 @@ use Rattle.qed_model.specs.declared.plan.EntryRow.{EntryRow}
 use Rattle.qed_model.specs.declared.test.Test.{Test}
 use Rattle.qed_model.specs.Limits.{limit_of}
 use Rattle.qed_model.specs.Machine.Table.{decode_of}
-use Rattle.qed_model.specs.Weave.Placed.{sum_of_sizes, rows_from, placed, Decode}
+use Rattle.qed_model.specs.Weave.Placed.{sum_of_sizes, rows_from, placed, Decode, EntriesAscend}
 use Rattle.qed_model.specs.Weave.Places.{image_of, half_of, code_place}
 use Rattle.qed_model.specs.Weave.Sequences.{Block, Falls, stub}
 use Rattle.qed_model.specs.Weave.Woven.{items_in, is_far_code, code_size, new_entries}
@@ -26,15 +26,15 @@ use Rattle.plc_rounds.specs.Spans.{spans_of}
 use Rattle.relinker.specs.declared.error.LinkError.{LinkError}
 use Rattle.relinker.specs.declared.error.LinkError.TheVariants as error
 use Rattle.woven_code.specs.declared.code.WovenCode.{WovenCode}
-use Rattle.relinker.specs.Counted.{capped}
 use Rattle.relinker.specs.Laid.{IsLinked, HasLinkCause}
-use Rattle.relinker.specs.Link.{is_encoded, Ascend, most_bytes}
+use Rattle.relinker.specs.Link.{is_encoded, most_bytes}
 use Rattle.relinker.proofs.Joining.{parts_join}
 use Rattle.test_weave.specs.Form.{form_with, items_to_stub}
 use Rattle.test_weave.proofs.WholeCode.{items_are_whole}
 use Rattle.weave_core.proofs.TestKept.{are_rows}
 use Rattle.weave_core.proofs.Tests.{tests_have_words}
 use Rattle.woven_code.specs.Code.{items_of, place_of, IsWithinForm, LinksWithin, IsCut, IsCodeOf, HasCause}
+use Rattle.woven_code.proofs.CodeBytes.{few_bytes}
 
 -- ---- words
 -- the instructions of words have words
@@ -49,7 +49,7 @@ decoded (w ∷ ws) (i ∷ is) small e =
 
 -- ---- marks
 -- the first addresses of blocks ascend, and the marks are theirs
-ascending : (rows : List EntryRow) (blocks : List Block) → map (λ (r : EntryRow). r.input) rows ≡ map (λ b. b.start) blocks → AllPairs (λ (b c : Block). b.start < c.start) blocks → Ascend rows
+ascending : (rows : List EntryRow) (blocks : List Block) → map (λ (r : EntryRow). r.input) rows ≡ map (λ b. b.start) blocks → AllPairs (λ (b c : Block). b.start < c.start) blocks → EntriesAscend rows
 ascending rows blocks same up i j d l m =
     let e : Block = record { start = d.input; body = []; end = Falls } in
     let many : length rows ≡ length blocks = sym (length-map rows (λ (r : EntryRow). r.input)) ∙ ap length same ∙ length-map blocks (λ (b : Block). b.start) in
@@ -117,7 +117,7 @@ module _ (input : List ℕ) (f : ElfFile) (o : Options) (t : Test) (blocks : Lis
       let words = tests_have_words input f o bs b.bytes b.read b.sound b.admitted b.are (few far e h) in
       let rows = are_rows f o b.sound loads b.admitted bs b.are in
       record {
-        ascend = subst Ascend (entries far e) (ascending (new_entries f o bs) bs rows.inputs_are b.are.ascend);
+        ascend = subst EntriesAscend (entries far e) (ascending (new_entries f o bs) bs rows.inputs_are b.are.ascend);
         encoded = ap (λ is. list_all is_encoded is) (sym (instructions far e)) ∙ decoded words.0 (placed (is_far_code f o bs) (code_place o.half (image_of f)) (items_in f o (is_far_code f o bs) bs)) words.1.has.code.small words.1.has.code.code;
       }
 
@@ -135,7 +135,9 @@ module _ (input : List ℕ) (f : ElfFile) (o : Options) (t : Test) (blocks : Lis
   -- why it is not
   pub cause_of : (far : Bool) (x : LinkError) → is_far_code f o bs ≡ far → HasLinkCause far (items_of t o far blocks) x → far ≡ true → HasCause f o blocks x
   cause_of far (error.TooLarge n) e c is_far =
-      (c.0 ∙ ap capped (sym (code_bytes far e)), subst (λ b. most_bytes b < n) is_far c.1)
+      let b = cut.blocked in
+      let exact = few_bytes f o b.sound (read_loads input f (record { fit = b.bytes }) b.read) b.admitted bs b.are in
+      (omega (arith, c.0, code_bytes far e, exact), subst (λ b. most_bytes b < n) is_far c.1)
   cause_of far error.Memory e c is_far = tt
 
   -- ---- the results of both forms

@@ -14,7 +14,6 @@ use Rattle.block_list.specs.Listed.{block_of}
 use Rattle.plc_rounds.specs.Spans.{spans_of}
 use Rattle.relinker.specs.declared.error.LinkError.{LinkError}
 use Rattle.relinker.specs.declared.error.LinkError.TheVariants as error
-use Rattle.relinker.specs.Counted.{capped}
 use Rattle.relinker.specs.Link.{IsLinkable, most_bytes}
 use Rattle.test_weave.specs.declared.weaver.Weaver.{Weaver}
 use Rattle.test_weave.specs.Admitted.{IsTestInBlocks}
@@ -55,7 +54,7 @@ pub record IsCodeOf (f : ElfFile) (o : Options) (blocks : List CodeBlock) (made 
   pub far : made.far ≡ is_far_code f o (map block_of blocks)
   pub few : code_size f o (map block_of blocks) ≤ limit_of limit.CodeBytes
 
--- the new code has so many bytes, 2^64 - 1 at most, which are too many
+-- the new code has so many bytes, which are too many
 abbrev pub HasCause : ElfFile → Options → List CodeBlock → LinkError → Type 0
-HasCause f o blocks (error.TooLarge n) = (n ≡ capped (code_size f o (map block_of blocks))) × (limit_of limit.CodeBytes < n)
+HasCause f o blocks (error.TooLarge n) = (n ≡ code_size f o (map block_of blocks)) × (limit_of limit.CodeBytes < n)
 HasCause f o blocks error.Memory = Unit {0}

@@ -135,7 +135,7 @@ fn code_in(
 
 /// The new code of a test that was admitted, in the near form where that has at most 1,048,576 bytes, else in the far form.
 ///
-/// Errors: `TooLarge` where the far form is taken and has more than 67,108,864 bytes: how many, 2^64 - 1 at most; want of memory.
+/// Errors: `TooLarge` where the far form is taken and has more than 67,108,864 bytes: how many; want of memory.
 pub fn woven_code(
     alloc: Global,
     test: &Test,

@@ -60,10 +60,6 @@ is_cut ls s = is_code_section s && list_any (is_cut_by s) ls
 abbrev pub is_ragged : ℕ × ℕ → Bool
 is_ragged r = not (r.0 % 4 == 0) || not ((r.1 - r.0) % 4 == 0)
 
--- an executable section is cut by a segment, or a code range is ragged
-abbrev pub is_misshapen_code : List LoadSegment → List Section → Bool
-is_misshapen_code ls ss = list_any (is_cut ls) ss || list_any is_ragged (code_ranges ls ss)
-
 -- ---- code addresses, and what names them
 -- a multiple of 4 in a code range
 abbrev pub is_code_address : List (ℕ × ℕ) → ℕ → Bool
@@ -102,14 +98,3 @@ if_high (Some r) = if nat_lt 13 r then Some r else None
 -- the first register above x13 that an instruction writes or reads, in the order rd, rs1, rs2
 abbrev pub high_register : Ins → Option ℕ
 high_register i = option_or (if_high (writes i)) (option_or (if_high (reads i).0) (if_high (reads i).1))
-
--- the least address of an instruction that writes or reads a register above x13, and the first such register; the code is in
--- ascending order of its addresses
-abbrev pub register_half : List (ℕ × Ins) → Option (ℕ × ℕ)
-register_half [] = None
-register_half (c ∷ cs) = option_or (option_map (λ r. (c.0, r)) (high_register c.1)) (register_half cs)
-
--- instructions that stand one behind the other, each with its address
-abbrev pub code_from : ℕ → List Ins → List (ℕ × Ins)
-code_from a [] = []
-code_from a (i ∷ is) = (a, i) ∷ code_from (a + 4) is

@@ -50,10 +50,3 @@ bounds_of s = record {
   word = word_bound s.words s.round (start_steps s) (piece_steps s);
   start = start_steps s;
 }
-
--- the greatest number of instructions in a piece, and of visited words, where no option says otherwise
-abbrev pub default_most : ℕ
-default_most = 16
-
-abbrev pub default_round : ℕ
-default_round = 1

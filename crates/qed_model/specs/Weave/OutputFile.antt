@@ -18,7 +18,8 @@ use Rattle.qed_model.specs.Machine.Cells.{byte_among}
 use Rattle.qed_model.specs.Admission.DataRanges.{is_written, is_data, data_segments, data_ranges, is_in}
 use Rattle.qed_model.specs.Weave.Places.{image_of, half_of, code_place}
 pub use Rattle.qed_model.specs.Weave.OutputParts.{shifted}
-use Rattle.qed_model.specs.Weave.OutputParts.{copies, code_segment, text_section, map_section, entry_at, out_symbols}
+use Rattle.qed_model.specs.Weave.OutputParts.{copies, code_segment, text_section, map_section, out_symbols}
+use Rattle.qed_model.specs.Weave.Placed.{entry_at}
 use Rattle.qed_model.specs.Weave.Sequences.{Block, End, Falls, Stops}
 use Rattle.qed_model.specs.Admission.Leaders.{is_indirect}
 

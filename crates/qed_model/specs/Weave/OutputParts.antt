@@ -1,16 +1,14 @@
 -- What the output file holds: segments, sections and symbols, made of those of the input. Names and numbers are those of the ELF gABI.
-use Rattle.std.specs.Prelude.{ℕ, ◌+◌, ◌-◌, ◌*◌, ◌/◌, ◌==◌, min, max, Bool, true, false, nat_lt, nat_le, ◌&&◌, not, if◌then◌else◌, Option, Some, None, List, [], ◌∷◌, ◌++◌, length, map, codes}
+use Rattle.std.specs.Prelude.{ℕ, ◌+◌, ◌-◌, ◌*◌, ◌/◌, min, max, Bool, true, false, nat_lt, nat_le, ◌&&◌, not, if◌then◌else◌, Option, Some, None, List, [], ◌∷◌, ◌++◌, length, map, codes}
 use Rattle.std.specs.List.{filter, flat_map}
-use Rattle.elf_types.specs.declared.file.ElfFile.{ElfFile}
 use Rattle.elf_types.specs.declared.file.Segment.{Segment}
 use Rattle.elf_types.specs.declared.file.Symbol.{Symbol}
-use Rattle.elf_types.specs.declared.output.OutFile.{OutFile}
 use Rattle.elf_types.specs.declared.output.OutSection.{OutSection}
 use Rattle.elf_types.specs.declared.abi.TheConstants.{PT_LOAD, PF_R, PF_X, SHF_ALLOC, SHF_EXECINSTR, STT_FUNC, SHN_ABS}
 pub use Rattle.elf_types.specs.Symbol.{is_defined, may_name_code, is_local}
 use Rattle.qed_model.specs.declared.plan.EntryRow.{EntryRow}
 use Rattle.qed_model.specs.Numbers.{number_bytes}
-use Rattle.qed_model.specs.Admission.Terms.{image_segments}
+use Rattle.qed_model.specs.Weave.Placed.{entry_at}
 
 -- ---- places
 -- the least address of segments
@@ -32,10 +30,6 @@ base_of image = low_of image / 4096 * 4096
 abbrev pub distance_of : List Segment → ℕ
 distance_of image = (high_of image - base_of image + 4095) / 4096 * 4096
 
--- the new code stands behind both halves and the room of the table
-abbrev pub code_base : List Segment → ℕ
-code_base image = base_of image + 3 * distance_of image
-
 -- ---- segments
 -- a segment at a distance from its place
 abbrev pub shifted : ℕ → Segment → Segment
@@ -52,10 +46,6 @@ copies distance segments = map (copied distance) segments
 abbrev pub code_segment : ℕ → List ℕ → Segment
 code_segment at code = record { kind = PT_LOAD; flags = PF_R + PF_X; address = at; memory = length code; bytes = code }
 
--- the input's image in both halves, and the new code
-abbrev pub out_segments : List Segment → List ℕ → List Segment
-out_segments image code = copies 0 image ++ (copies (distance_of image) image ++ code_segment (code_base image) code ∷ [])
-
 -- ---- sections
 -- over the new code, with SHF_ALLOC and SHF_EXECINSTR
 abbrev pub text_section : ℕ → List ℕ → OutSection
@@ -71,18 +61,10 @@ map_bytes rows = flat_map row_bytes rows
 abbrev pub map_section : List EntryRow → OutSection
 map_section rows = record { name = codes ".qed.map"; flags = 0; address = 0; size = 16 * length rows; bytes = map_bytes rows }
 
-abbrev pub out_sections : ℕ → List ℕ → List EntryRow → List OutSection
-out_sections at code rows = text_section at code ∷ map_section rows ∷ []
-
 -- ---- symbols
 -- named and defined, of type STT_NOTYPE, STT_OBJECT or STT_FUNC
 abbrev pub is_kept : Symbol → Bool
 is_kept s = nat_lt 0 (length s.name) && (is_defined s && nat_le s.kind STT_FUNC)
-
--- the new address of an input address that has an entry
-abbrev pub entry_at : List EntryRow → ℕ → Option ℕ
-entry_at [] a = None
-entry_at (row ∷ rows) a = if row.input == a then Some row.output else entry_at rows a
 
 -- the symbol with a value and a size, and SHN_ABS as its section
 abbrev pub valued : Symbol → ℕ → ℕ → Symbol
@@ -103,17 +85,3 @@ symbol_group local rows symbols = map (out_symbol rows) (filter (λ s. is_kept s
 -- those that are STB_LOCAL come first
 abbrev pub out_symbols : List EntryRow → List Symbol → List Symbol
 out_symbols rows symbols = symbol_group true rows symbols ++ symbol_group false rows symbols
-
--- ---- the file
--- of an input with this image, with the entries and the bytes of the new code
-abbrev pub out_file_of : ElfFile → List Segment → List EntryRow → List ℕ → OutFile
-out_file_of f image rows code = record {
-  entry = code_base image;
-  flags = f.flags;
-  segments = out_segments image code;
-  sections = out_sections (code_base image) code rows;
-  symbols = out_symbols rows f.symbols;
-}
-
-abbrev pub out_file : ElfFile → List EntryRow → List ℕ → OutFile
-out_file f rows code = out_file_of f (image_segments f.segments) rows code

@@ -1,6 +1,6 @@
 -- Items that have their places: each is one or two instructions, which know where they stand. In the far form of the code a jump to
 -- an entry is two.
-use Rattle.std.specs.Prelude.{◌≡◌, ℕ, ◌+◌, ◌-◌, ◌/◌, ◌%◌, ◌^◌, Bool, true, false, ◌==◌, cond, List, [], ◌∷◌, ◌++◌, map, Option, Some, None, unwrap_or, ℤ, pos, negsuc, ◌+ℤ◌, ◌-ℤ◌, ◌*ℤ◌}
+use Rattle.std.specs.Prelude.{◌≡◌, ℕ, ◌+◌, ◌-◌, ◌/◌, ◌%◌, ◌^◌, Bool, true, false, ◌==◌, ◌<◌, if◌then◌else◌, AllPairs, List, [], ◌∷◌, ◌++◌, map, Option, Some, None, unwrap_or, ℤ, pos, negsuc, ◌+ℤ◌, ◌-ℤ◌, ◌*ℤ◌}
 use Rattle.rv_isa.specs.declared.kind.Kind.TheVariants.{Addi, Auipc, Jal, Jalr}
 use Rattle.rv_isa.specs.declared.ins.Ins.{Ins}
 use Rattle.qed_model.specs.declared.item.Item.{Item}
@@ -8,7 +8,7 @@ use Rattle.qed_model.specs.declared.item.Item.TheVariants.{Mark, Plain, Constant
 use Rattle.qed_model.specs.declared.plan.EntryRow.{EntryRow}
 use Rattle.qed_model.specs.Machine.Table.{ins, signed, decode_of}
 
--- ---- jumps to entries
+-- ---- sizes and places
 -- the bytes of a jump to an entry: one word in the near form, two in the far form
 abbrev pub go_size : Bool → ℕ
 go_size false = 4
@@ -25,19 +25,7 @@ abbrev pub sum_of_sizes : Bool → List Item → ℕ
 sum_of_sizes far [] = 0
 sum_of_sizes far (item ∷ items) = size_of far item + sum_of_sizes far items
 
--- the address of the mark of an input address among items that stand from an address on
-abbrev pub mark_from : Bool → ℕ → List Item → ℕ → Option ℕ
-mark_from far at [] a = None
-mark_from far at (Mark m ∷ items) a = cond (m == a) (Some at) (mark_from far at items a)
-mark_from far at (Plain i ∷ items) a = mark_from far (at + 4) items a
-mark_from far at (Constant r c ∷ items) a = mark_from far (at + 8) items a
-mark_from far at (Go t ∷ items) a = mark_from far (at + go_size far) items a
-
--- the entry of an input address; without a mark the last word, which is the stub
-abbrev pub entry_of : Bool → ℕ → List Item → ℕ → ℕ
-entry_of far base items a = unwrap_or (mark_from far base items a) (base + sum_of_sizes far items - 4)
-
--- the entries that are marked among items that stand from an address on
+-- the entries of items that stand from an address on, where their marks stand; the section `.qed.map` has them
 abbrev pub rows_from : Bool → ℕ → List Item → List EntryRow
 rows_from far at [] = []
 rows_from far at (Mark a ∷ items) = record { input = a; output = at } ∷ rows_from far at items
@@ -45,6 +33,25 @@ rows_from far at (Plain i ∷ items) = rows_from far (at + 4) items
 rows_from far at (Constant r c ∷ items) = rows_from far (at + 8) items
 rows_from far at (Go t ∷ items) = rows_from far (at + go_size far) items
 
+-- ---- entries, by the rows of `.qed.map`
+-- the new address of an input address that has an entry
+abbrev pub entry_at : List EntryRow → ℕ → Option ℕ
+entry_at [] a = None
+entry_at (row ∷ rows) a = if row.input == a then Some row.output else entry_at rows a
+
+-- the same, and without an entry the last word of the code, which is the stub
+abbrev pub leads_to : List EntryRow → ℕ → ℕ → ℕ
+leads_to rows last a = unwrap_or (entry_at rows a) last
+
+-- the input addresses ascend
+abbrev pub EntriesAscend : List EntryRow → Type 0
+EntriesAscend rows = AllPairs (λ r s. r.input < s.input) rows
+
+-- the entries of items that stand from `base` on
+abbrev pub entry_of : Bool → ℕ → List Item → ℕ → ℕ
+entry_of far base items = leads_to (rows_from far base items) (base + sum_of_sizes far items - 4)
+
+-- ---- words
 -- the distance from one address to another, modulo 2^64 and read as signed
 abbrev pub distance_between : ℕ → ℕ → ℤ
 distance_between from to = signed 64 ((to + (2 ^ 64 - from)) % 2 ^ 64)

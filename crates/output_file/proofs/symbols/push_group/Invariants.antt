@@ -1,7 +1,7 @@
 use Rattle.std.proofs.Common.{◌≡◌, ◌++◌, drop}
 use Rattle.qed_model.specs.Weave.OutputParts.{symbol_group}
-use Rattle.output_file.specs.Entries.{EntriesAscend}
 use Rattle.output_file.proofs.symbols.push_group.Given as goal
+use Rattle.qed_model.specs.Weave.Placed.{EntriesAscend}
 
 -- the symbols so far and those of the rest are those of all
 abbrev pub invariant-loop-symbol : goal.invariant-loop-symbol

@@ -1,7 +1,7 @@
 use Rattle.std.proofs.Common.{◌≡◌, ◌-◌, ◌≤◌, ◌<◌, drop, length}
 use Rattle.std.specs.Prelude.{slice_index_or}
 use Rattle.qed_model.specs.declared.plan.EntryRow.{EntryRow}
-use Rattle.qed_model.specs.Weave.OutputParts.{entry_at}
+use Rattle.qed_model.specs.Weave.Placed.{entry_at}
 use Rattle.relinker.proofs.search.below.Given as goal
 
 -- what is left below `low` is below the address, and what stands at `high` is not

@@ -2,8 +2,8 @@ use Rattle.std.proofs.Common.{◌≡◌, ◌+◌, ◌*◌, ◌≤◌, ◌++◌, 
 use Rattle.std.specs.Prelude.{vec_len, vec_capacity}
 use Rattle.std.specs.List.{list_all}
 use Rattle.qed_model.specs.Machine.Table.{decode_of}
-use Rattle.qed_model.specs.Weave.Placed.{sum_of_sizes, instructions_from}
-use Rattle.relinker.specs.Link.{is_encoded, AreWords, leads_to}
+use Rattle.qed_model.specs.Weave.Placed.{sum_of_sizes, instructions_from, leads_to}
+use Rattle.relinker.specs.Link.{is_encoded, AreWords}
 use Rattle.relinker.proofs.write.put_items.Given as goal
 
 -- the words so far decode to the instructions before those of the rest

@@ -1,4 +1,4 @@
-use Rattle.std.proofs.Common.{◌≡◌, sym, subst, IfOk, IfErr}
+use Rattle.std.proofs.Common.{sym, subst, IfOk, IfErr}
 use Rattle.relinker.specs.Laid.{IsLinked, HasLinkCause}
 use Rattle.woven_code.specs.Code.{place_of, IsWithinForm, LinksWithin}
 use Rattle.woven_code.proofs.code.code_in.Goals as goal

@@ -1,8 +1,8 @@
 use Rattle.std.proofs.Common.{◌++◌, map, Some, ap, ◌∙◌}
 use Rattle.std.specs.List.{list_all}
 use Rattle.qed_model.specs.Machine.Table.{decode_of}
-use Rattle.qed_model.specs.Weave.Placed.{instructions_from}
-use Rattle.relinker.specs.Link.{is_encoded, leads_to}
+use Rattle.qed_model.specs.Weave.Placed.{instructions_from, leads_to}
+use Rattle.relinker.specs.Link.{is_encoded}
 use Rattle.relinker.proofs.Laying.{asks, laid_more}
 use Rattle.relinker.proofs.layout.Layout.add_all.Goals as goal
 

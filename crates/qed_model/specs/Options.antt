@@ -1,0 +1,7 @@
+-- How a test is transformed where no option says otherwise.
+use Rattle.std.specs.Prelude.{false, None}
+use Rattle.qed_model.specs.declared.options.Options.{Options}
+
+-- 4 to 16 instructions in a piece, one visited word behind it, and the least distance of the halves
+abbrev pub default_options : Options
+default_options = record { inst_min = 4; inst_max = 16; round = 1; half = None; sweep = false; diverse = false }

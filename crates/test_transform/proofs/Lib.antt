@@ -1,5 +1,0 @@
-mod BoundsSmall
-mod TestFacts
-mod Making
-mod Promises
-mod OneAnswer

@@ -1,0 +1,91 @@
+-- What is known of a test with its blocks.
+use Rattle.std.proofs.Common.{◌≡◌, ℕ, ◌+◌, ◌%◌, ◌^◌, ◌<◌, ◌≤◌, ◌⊎◌, ⊎_elim, Bool, true, List, length, map, All, get_or, ap, ◌∙◌, arith}
+use Rattle.std.specs.Prelude.{◌==◌}
+use Rattle.std.proofs.lemmas.Bool.{and_parts, eqb-true}
+use Rattle.elf_types.specs.declared.file.ElfFile.{ElfFile}
+use Rattle.elf_types.specs.declared.file.Segment.{Segment}
+use Rattle.qed_model.specs.declared.options.Options.{Options}
+use Rattle.qed_model.specs.declared.test.Test.{Test}
+use Rattle.qed_model.specs.Admission.CodeWords.{is_code}
+use Rattle.qed_model.specs.Admission.DataRanges.{data_ranges, word_count}
+use Rattle.qed_model.specs.Machine.Loading.{load_segments}
+use Rattle.qed_model.specs.Weave.Blocks.{IsLeaderBlock, IsOtherBlock}
+use Rattle.qed_model.specs.Weave.Bounds.{bounds_of}
+use Rattle.qed_model.specs.Weave.OutputParts.{base_of}
+use Rattle.qed_model.specs.Weave.Places.{image_of, half_of}
+use Rattle.qed_model.specs.Weave.Sequences.{Block}
+use Rattle.qed_model.specs.Weave.Woven.{new_entries, shape_of}
+use Rattle.qed_model.proofs.Fetches.{IsShapely, instruction_code}
+use Rattle.qed_model.proofs.RangeSegments.{AreLoads}
+use Rattle.qed_model.proofs.ReadLoads.{read_loads}
+use Rattle.bound_calc.specs.Fitting.{AreSmall}
+use Rattle.block_list.specs.declared.block.CodeBlock.{CodeBlock}
+use Rattle.block_list.specs.Listed.{block_of}
+use Rattle.output_file.specs.Entries.{AreEntries}
+use Rattle.output_file.specs.Told.{IsWhole}
+use Rattle.output_file.proofs.BlockEntries.{entries_are}
+use Rattle.test_weave.proofs.AdmittedFit.{words_below}
+use Rattle.weave_core.proofs.FilesFit.{admitted_image}
+use Rattle.weave_core.proofs.ImageHalves.{IsImage}
+use Rattle.weave_core.proofs.TestKept.{code_bounds, are_rows}
+use Rattle.woven_code.specs.Code.{IsCut}
+use Rattle.woven_code.proofs.DataWords.{few_data}
+use Rattle.transform.proofs.BoundsSmall.{shape_small}
+
+-- a code address is a multiple of 4
+code_grain : (f : ElfFile) (a : ℕ) → is_code f a ≡ true → a % 4 ≡ 0
+code_grain f a e = eqb-true (a % 4) 0 (and_parts (a % 4 == 0) _ e).0
+
+module _ (input : List ℕ) (f : ElfFile) (o : Options) (t : Test) (blocks : List CodeBlock) (cut : IsCut input f o t blocks) where
+  abbrev image : List Segment
+  image = image_of f
+
+  abbrev d : ℕ
+  d = half_of o.half image
+
+  abbrev bs : List Block
+  bs = map block_of blocks
+
+  loads : AreLoads (load_segments f.segments)
+  loads = read_loads input f (record { fit = cut.blocked.bytes }) cut.blocked.read
+
+  is_image : IsImage f.segments d
+  is_image = admitted_image f o cut.blocked.sound loads cut.blocked.admitted
+
+  -- ---- the bounds
+  pub bounds_small : (far : Bool) → AreSmall (bounds_of (shape_of f o far))
+  bounds_small far =
+      let few = few_data f o cut.blocked.sound loads cut.blocked.admitted in
+      shape_small (shape_of f o far) cut.blocked.sound.most cut.blocked.sound.visits cut.blocked.sound.few_visits few.ranges few.words
+
+  -- ---- the blocks
+  shape : IsShapely f
+  shape = record { loads = loads; sections = cut.blocked.admitted.sections; segments = cut.blocked.admitted.segments }
+
+  block_code : (b : Block) → IsLeaderBlock f o.inst_max b ⊎ IsOtherBlock f b → is_code f b.start ≡ true
+  block_code b x = ⊎_elim (λ l. l.leader.code) (λ q. (instruction_code f shape b.start q.instruction q.stands).0) x
+
+  bounded : (a : ℕ) → is_code f a ≡ true → (base_of image ≤ a) × (a + 4 ≤ base_of image + d)
+  bounded a e = code_bounds f o cut.blocked.sound loads cut.blocked.admitted bs cut.blocked.are a e
+
+  -- the entries are those of the blocks
+  pub are_entries : AreEntries (t.base + t.distance) (new_entries f o bs)
+  are_entries =
+      let code : (k : ℕ) (x : Block) → k < length bs → is_code f (get_or bs k x).start ≡ true = λ k x h. block_code (get_or bs k x) (cut.blocked.are.each k x h) in
+      entries_are (new_entries f o bs) bs (t.base + t.distance) (are_rows f o cut.blocked.sound loads cut.blocked.admitted bs cut.blocked.are).inputs_are cut.blocked.are.ascend
+      (λ k x h. code_grain f (get_or bs k x).start (code k x h))
+      (λ k x h. let b = bounded (get_or bs k x).start (code k x h) in omega (arith, b.1, cut.told.base, cut.told.distance))
+
+  -- and end below 2^63
+  pub all_whole : All IsWhole blocks
+  all_whole =
+      let top = is_image.top in
+      cut.blocked.within (2 ^ 63) (words_below f (2 ^ 63) t.code cut.blocked.words (λ a e. let b = bounded a e in omega (arith, b.1, top)))
+
+-- ---- what the bounds depend on
+pub same_shape :
+    (f : ElfFile) (o : Options) (far : Bool) (words ranges : ℕ) → words ≡ word_count (data_ranges (image_of f)) → ranges ≡ length (data_ranges (image_of f))
+    → record { words = words; ranges = ranges; round = o.round; inst_max = o.inst_max; far = far; sweep = o.sweep; diverse = o.diverse } ≡ shape_of f o far
+same_shape f o far words ranges w r =
+    ap (λ n. record { words = n; ranges = ranges; round = o.round; inst_max = o.inst_max; far = far; sweep = o.sweep; diverse = o.diverse }) w
+    ∙ ap (λ n. record { words = word_count (data_ranges (image_of f)); ranges = n; round = o.round; inst_max = o.inst_max; far = far; sweep = o.sweep; diverse = o.diverse }) r

@@ -1,0 +1,11 @@
+use Rattle.std.proofs.Common.{sym, subst}
+use Rattle.qed_model.specs.Weave.Bounds.{bounds_of}
+use Rattle.bound_calc.specs.Fitting.{AreSmall}
+use Rattle.transform.proofs.TestFacts.{bounds_small}
+use Rattle.transform.proofs.made.bounds_in.Goals as goal
+
+pub unreachable-requires : goal.unreachable-requires
+unreachable-requires c =
+    let r = c.requires in
+    c.in-None.ensures (subst (λ s. AreSmall (bounds_of s)) (sym c.shape_of.ensures)
+    (bounds_small r.0 c.args.cut.now.file c.args.options.now c.args.cut.now.test c.args.cut.now.blocks r.1 c.args.far))

@@ -1,0 +1,95 @@
+//! The output of a test with its blocks, before it is written.
+ghost use Rattle.std.specs.Prelude.{◌≡◌, ◌≤◌, ◌<◌, ◌*◌, ℕ, List, length, map, IfOk, IfErr};
+ghost use Rattle.elf_types.specs.declared.file.ElfFile.{ElfFile as TestFile};
+ghost use Rattle.block_list.specs.Listed.{block_of};
+ghost use Rattle.qed_model.specs.Elf.File.{IsReadAs};
+ghost use Rattle.qed_model.specs.Machine.Apart.{AllFitMemory, AreApart};
+ghost use Rattle.qed_model.specs.Machine.Loading.{load_segments};
+ghost use Rattle.qed_model.specs.Weave.Bounds.{bounds_of};
+ghost use Rattle.qed_model.specs.Weave.Woven.{shape_of as shape_of_test, is_far_code};
+ghost use Rattle.woven_code.specs.Code.{IsCut, IsCodeOf};
+ghost use Rattle.transform.specs.Made.{IsMade};
+ghost use Rattle.transform.specs.Transform.{HasCause};
+
+use crate::cut::CutTest;
+use crate::error::TransformError;
+use bound_calc::bounds;
+use elf_types::OutFile;
+use output_file::{has_table, output_file, plan, word_count};
+use qed_model::{Bounds, Options, Plan, Shape};
+use relinker::LinkError;
+use std::alloc::{AllocError, Global};
+use woven_code::{WovenCode, woven_code};
+
+/// An output before it is written, and what is told of it.
+#[derive(Debug, Drop)]
+pub(crate) struct Made {
+    pub out: OutFile,
+    pub plan: Plan,
+}
+
+/// The new code.
+fn code_of(alloc: Global, cut: &CutTest, options: &Options) -> Result<WovenCode, TransformError>
+    requires { (input : List ℕ) × IsCut input cut.now.file options.now cut.now.test cut.now.blocks }
+    ensures code { IfOk result (λ made. IsCodeOf cut.now.file options.now cut.now.blocks made) }
+    ensures refused { IfErr result (λ e. (input : List ℕ) → IsReadAs input cut.now.file → IsCut input cut.now.file options.now cut.now.test cut.now.blocks → HasCause input options.now e) }
+{
+    match woven_code(alloc, &cut.test, options, cut.blocks.as_slice()) {
+        Ok(code) => Ok(code),
+        Err(LinkError::TooLarge(size)) => Err(TransformError::TooLarge(size)),
+        Err(LinkError::Memory) => Err(TransformError::Memory),
+    }
+}
+
+/// What the bounds depend on.
+fn shape_of(cut: &CutTest, options: &Options, far: bool) -> Shape
+    requires { (input : List ℕ) × IsCut input cut.now.file options.now cut.now.test cut.now.blocks }
+    ensures { result ≡ shape_of_test cut.now.file options.now far }
+{
+    let span = cut.test.span.as_slice();
+    Shape {
+        words: word_count(span),
+        ranges: span.len() as u64,
+        round: options.round,
+        inst_max: options.inst_max,
+        far,
+        sweep: options.sweep,
+        diverse: options.diverse,
+    }
+}
+
+/// The bounds. They fit 64 bits, since an admitted test has few data words.
+fn bounds_in(cut: &CutTest, options: &Options, far: bool) -> Bounds
+    requires { (input : List ℕ) × IsCut input cut.now.file options.now cut.now.test cut.now.blocks }
+    ensures { result ≡ bounds_of (shape_of_test cut.now.file options.now far) }
+{
+    match bounds(&shape_of(cut, options, far)) {
+        Some(bounds) => bounds,
+        None => unreachable!(),
+    }
+}
+
+/// The output of a test with its blocks, and what is told of it.
+pub(crate) fn make(alloc: Global, cut: &CutTest, options: &Options) -> Result<Made, TransformError>
+    requires fit { AllFitMemory (load_segments cut.now.file.segments) }
+    requires apart { AreApart (load_segments cut.now.file.segments) }
+    requires cut { (input : List ℕ) × IsCut input cut.now.file options.now cut.now.test cut.now.blocks }
+    ensures made { IfOk result (λ made. (input : List ℕ) → IsCut input cut.now.file options.now cut.now.test cut.now.blocks → IsMade input cut.now.file options.now cut.now.blocks made.out made.plan) }
+    ensures refused { IfErr result (λ e. (input : List ℕ) → IsReadAs input cut.now.file → IsCut input cut.now.file options.now cut.now.test cut.now.blocks → HasCause input options.now e) }
+{
+    let code = code_of(alloc, cut, options)?;
+    let (blocks, entries) = (cut.blocks.as_slice(), code.linked.entries.as_slice());
+    let bounds = bounds_in(cut, options, code.far);
+    let size = 4 * code.linked.words.len() as u64;
+    let table = has_table(blocks);
+    let out = output_file(
+        alloc,
+        &cut.file,
+        &cut.test,
+        table,
+        entries,
+        &code.linked.words,
+    )?;
+    let plan = plan(alloc, &cut.test, blocks, entries, size, bounds)?;
+    Ok(Made { out, plan })
+}
