@@ -1,0 +1,254 @@
+-- The order that words ask for is sound.
+use Rattle.std.proofs.Common.{◌≡◌, ℕ, ◌+◌, ◌*◌, ◌/◌, ◌%◌, ◌^◌, ◌≤◌, nat_lt, nat_le, min, Bool, true, false, cond, List, [], ◌∷◌, map, length, refl, sym, subst, arith, ◌&&◌, ◌==◌, ◌∙◌}
+use Rattle.std.proofs.lemmas.Bool.Decides.{nat_tests}
+use Rattle.std.specs.Prelude.{Option, Some, None, IfSome, IsSomeAnd, unwrap_or, option_and_then, slice_get, find, fold, filter_map, option_map, if◌then◌else◌, Ok}
+use Rattle.std.specs.Option.{option_or}
+use Rattle.qed_model.specs.declared.change.Change.{Change}
+use Rattle.qed_model.specs.declared.limits.TheConstants.{MAX_HALF}
+use Rattle.qed_words.specs.declared.orders.Command.{Command}
+use Rattle.qed_words.specs.declared.orders.Command.TheVariants.{Transform, Plan, Run, Campaign, Gen}
+use Rattle.qed_words.specs.declared.orders.Order.{Order}
+use Rattle.qed_words.specs.declared.orders.Key.{Key}
+use Rattle.qed_words.specs.declared.orders.Key.TheVariants.{InstMin, InstMax, Round, Half, Steps, Fault, Dump, Seed, Count, Size, Changes}
+use Rattle.qed_words.specs.declared.orders.Reason.{Reason}
+use Rattle.qed_words.specs.declared.orders.Reason.TheVariants.{MissingFile, MissingOption, OutOfRange, Split}
+use Rattle.qed_model.specs.Promise.Changed.{Ordered}
+use Rattle.qed_model.specs.Weave.Places.{AreSoundOptions}
+use Rattle.qed_words.specs.Words.{Argument, asked, asked_of, answer, colon, fault, first_wrong, parted, span_in, arguments, command_of, dump, first_reason, first_wrong_value, is_in_range, keys_of, lacks, missing, number, number_given, options, order_of, reason_of, span_of, split_reason, value_of, values, with_change, wrong_number, wrong_value, wrong_values, changes_given}
+use Rattle.qed_words.specs.Sound.{IsSoundOrder}
+
+-- ---- where there is no reason
+
+no_first : (a b : Option Reason) → option_or a b ≡ None → (a ≡ None) × (b ≡ None)
+no_first None b e = (refl, e)
+no_first (Some reason) b e = cc
+
+abbrev AllNone : List (Option Reason) → Type 0
+AllNone [] = Unit {0}
+AllNone (reason ∷ reasons) = (reason ≡ None) × AllNone reasons
+
+no_reason : (reasons : List (Option Reason)) → first_reason reasons ≡ None → AllNone reasons
+no_reason [] e = tt
+no_reason (reason ∷ reasons) e =
+    let both : (reason ≡ None) × (first_reason reasons ≡ None) = no_first reason (first_reason reasons) e in (both.0, no_reason reasons both.1)
+
+-- ---- numbers
+
+-- an option whose value is a number
+abbrev IsNumbered : Key → Type 0
+IsNumbered key = (value : List ℕ) → wrong_value key value ≡ wrong_number key (number value)
+
+abbrev IsInRange : Key → ℕ → Type 0
+IsInRange key n = is_in_range key n ≡ true
+
+number_fits : (key : Key) (n : Option ℕ) → wrong_number key n ≡ None → IsSomeAnd n (IsInRange key)
+number_fits key None e = cc
+number_fits key (Some m) e =
+    elim (is_in_range key m)
+    as (λ t. (if t then None else Some (OutOfRange key)) ≡ None → t ≡ true)
+    [ true ↦ λ _. refl | false ↦ λ h. cc ] e
+
+if_there : (key : Key) (n : Option ℕ) → IsSomeAnd n (IsInRange key) → IfSome n (IsInRange key)
+if_there key None fits = tt
+if_there key (Some m) fits = fits
+
+-- the number that an option was given, if it was given, is in its range
+given_fits : (key : Key) (texts : List (List ℕ)) → IsNumbered key → first_reason (map (wrong_value key) texts) ≡ None → IfSome (option_and_then number (slice_get texts 0)) (IsInRange key)
+given_fits key [] is e = tt
+given_fits key (text ∷ texts) is e =
+    if_there key (number text) (number_fits key (number text) (sym (is text) ∙ (no_first (wrong_value key text) (first_reason (map (wrong_value key) texts)) e).0))
+
+number_given_fits : (key : Key) (given : List Argument) → IsNumbered key → wrong_values given key ≡ None → IfSome (number_given key given) (IsInRange key)
+unfolding wrong_values number_given value_of
+number_given_fits key given is e = given_fits key (values key given) is e
+
+-- the same of an option that must be given
+asked_fits : (key : Key) (texts : List (List ℕ)) → IsNumbered key → (length texts == 0) ≡ false → first_reason (map (wrong_value key) texts) ≡ None → IsSomeAnd (option_and_then number (slice_get texts 0)) (IsInRange key)
+asked_fits key [] is some e = cc
+asked_fits key (text ∷ texts) is some e =
+    number_fits key (number text) (sym (is text) ∙ (no_first (wrong_value key text) (first_reason (map (wrong_value key) texts)) e).0)
+
+number_there_fits : (key : Key) (given : List Argument) → IsNumbered key → lacks given key ≡ false → wrong_values given key ≡ None → IsSomeAnd (number_given key given) (IsInRange key)
+unfolding wrong_values number_given value_of lacks
+number_there_fits key given is some e = asked_fits key (values key given) is some e
+
+-- ---- options
+
+in_thousand : (n : ℕ) → (nat_le 1 n && nat_le n 1024) ≡ true → (1 ≤ n) × (n ≤ 1024)
+in_thousand n e = (grind (arith, nat_tests), grind (arith, nat_tests))
+
+greatest_fits : (greatest : Option ℕ) → IfSome greatest (IsInRange InstMax) → (1 ≤ unwrap_or greatest 16) × (unwrap_or greatest 16 ≤ 1024)
+greatest_fits None fits = (omega arith, omega arith)
+greatest_fits (Some n) fits = in_thousand n fits
+
+round_fits : (round : Option ℕ) → IfSome round (IsInRange Round) → (1 ≤ unwrap_or round 1) × (unwrap_or round 1 ≤ 1024)
+round_fits None fits = (omega arith, omega arith)
+round_fits (Some n) fits = in_thousand n fits
+
+least_fits : (least : Option ℕ) (greatest : ℕ) → IfSome least (IsInRange InstMin) → 1 ≤ greatest → 1 ≤ unwrap_or least (min 4 ((greatest + 1) / 2))
+least_fits None greatest fits some = omega arith
+least_fits (Some n) greatest fits some = (in_thousand n fits).0
+
+half_fits : (half : Option ℕ) → IfSome half (IsInRange Half) → IfSome half (λ h. (h % 4096 ≡ 0) × (4096 ≤ h) × (h ≤ MAX_HALF))
+half_fits None fits = tt
+half_fits (Some h) fits = (grind (arith, nat_tests), grind (arith, nat_tests), grind (arith, nat_tests))
+
+leaves_room : (m n : ℕ) → (if nat_lt (n + 1) (2 * m) then Some Split else None) ≡ None → 2 * m ≤ n + 1
+leaves_room m n e =
+    elim (nat_lt (n + 1) (2 * m))
+    as (λ t. nat_lt (n + 1) (2 * m) ≡ t → (if t then Some Split else None) ≡ None → 2 * m ≤ n + 1)
+    [ true ↦ λ _ h. cc | false ↦ λ h _. grind (arith, nat_tests) ] refl e
+
+-- the options that are given are sound, where each value fits and the floor leaves room
+options_fit :
+    (given : List Argument)
+    → wrong_values given InstMin ≡ None
+    → wrong_values given InstMax ≡ None
+    → wrong_values given Round ≡ None
+    → wrong_values given Half ≡ None
+    → split_reason given ≡ None
+    → AreSoundOptions (options given)
+unfolding options split_reason wrong_value
+options_fit given least greatest round half room =
+    let great : (1 ≤ unwrap_or (number_given InstMax given) 16) × (unwrap_or (number_given InstMax given) 16 ≤ 1024)
+    = greatest_fits (number_given InstMax given) (number_given_fits InstMax given (λ _. refl) greatest) in
+    let visits : (1 ≤ unwrap_or (number_given Round given) 1) × (unwrap_or (number_given Round given) 1 ≤ 1024)
+    = round_fits (number_given Round given) (number_given_fits Round given (λ _. refl) round) in
+    record {
+      some = least_fits (number_given InstMin given) (unwrap_or (number_given InstMax given) 16) (number_given_fits InstMin given (λ _. refl) least) great.0;
+      room = leaves_room (options given).inst_min (options given).inst_max room;
+      most = great.1;
+      visits = visits.0;
+      few_visits = visits.1;
+      half = half_fits (number_given Half given) (number_given_fits Half given (λ _. refl) half);
+    }
+
+-- ---- runs
+
+steps_fit : (steps : Option ℕ) → IfSome steps (IsInRange Steps) → unwrap_or steps 1000000 ≤ 1000000000000
+steps_fit None fits = omega arith
+steps_fit (Some n) fits = grind (arith, nat_tests)
+
+rest_ordered : (d : Change) (ds : List Change) → Ordered (d ∷ ds) → Ordered ds
+rest_ordered d [] ordered = tt
+rest_ordered d (e ∷ ds) ordered = ordered.1
+
+front_ordered : (d c : Change) (ds : List Change) → d.step ≤ c.step → Ordered (d ∷ ds) → Ordered (with_change ds c) → Ordered (d ∷ with_change ds c)
+front_ordered d c [] below ordered later = (below, tt)
+front_ordered d c (e ∷ ds) below ordered later =
+    elim (nat_le e.step c.step)
+    as (λ t. Ordered (if t then e ∷ with_change ds c else c ∷ e ∷ ds) → Ordered (d ∷ (if t then e ∷ with_change ds c else c ∷ e ∷ ds)))
+    [ true ↦ λ h. (ordered.0, h) | false ↦ λ h. (below, h) ] later
+
+with_change_ordered : (ds : List Change) (c : Change) → Ordered ds → Ordered (with_change ds c)
+with_change_ordered [] c ordered = tt
+with_change_ordered (d ∷ ds) c ordered =
+    elim (nat_le d.step c.step)
+    as (λ t. nat_le d.step c.step ≡ t → Ordered (if t then d ∷ with_change ds c else c ∷ d ∷ ds))
+    [ true ↦ λ h. front_ordered d c ds (grind (arith, nat_tests)) ordered (with_change_ordered ds c (rest_ordered d ds ordered)) | false ↦ λ h. (grind (arith, nat_tests), ordered) ]
+    refl
+
+fold_ordered : (changes made : List Change) → Ordered made → Ordered (fold with_change made changes)
+fold_ordered [] made ordered = ordered
+fold_ordered (c ∷ changes) made ordered = fold_ordered changes (with_change made c) (with_change_ordered made c ordered)
+
+changes_ordered : (given : List Argument) → Ordered (changes_given given)
+unfolding changes_given
+changes_ordered given = fold_ordered (filter_map fault (values Fault given)) [] tt
+
+abbrev IsShown : ℕ × ℕ → Type 0
+IsShown d = (1 ≤ d.1) × (d.1 ≤ 65536) × (d.0 + d.1 ≤ 2 ^ 64)
+
+span_fits : (address size : Option ℕ) → IfSome (span_of address size) IsShown
+span_fits None size = tt
+span_fits (Some address) None = tt
+span_fits (Some address) (Some size) =
+    elim ((nat_le 1 size && nat_le size 65536) && nat_le (address + size) (2 ^ 64))
+    as (λ t. ((nat_le 1 size && nat_le size 65536) && nat_le (address + size) (2 ^ 64)) ≡ t → IfSome (if t then Some (address, size) else None) IsShown)
+    [ true ↦ λ h. (grind (arith, nat_tests), grind (arith, nat_tests), grind (arith, nat_tests)) | false ↦ λ _. tt ]
+    refl
+
+parts_fit : (parts : Option (List ℕ × List ℕ)) → IfSome (span_in parts) IsShown
+parts_fit None = tt
+parts_fit (Some parts) = span_fits (number parts.0) (number parts.1)
+
+dump_fits : (value : Option (List ℕ)) → IfSome (option_and_then dump value) IsShown
+unfolding dump
+dump_fits None = tt
+dump_fits (Some text) = parts_fit (parted colon text)
+
+-- ---- what must be given
+
+no_second : (a b : Bool) (x y : Key) → option_map MissingOption (cond a (Some x) (cond b (Some y) None)) ≡ None → (a ≡ false) × (b ≡ false)
+no_second true b x y e = cc
+no_second false true x y e = cc
+no_second false false x y e = (refl, refl)
+
+no_file_missing : (test : Bool) (other : Option Reason) → (if test then Some MissingFile else other) ≡ None → other ≡ None
+no_file_missing true other e = cc
+no_file_missing false other e = e
+
+both_there : (given : List Argument) (x y : Key) (test : Bool) → (if test then Some MissingFile else option_map MissingOption (find (lacks given) (x ∷ y ∷ []))) ≡ None → (lacks given x ≡ false) × (lacks given y ≡ false)
+both_there given x y test e =
+    no_second (lacks given x) (lacks given y) x y (no_file_missing test (option_map MissingOption (find (lacks given) (x ∷ y ∷ []))) e)
+
+-- ---- orders
+
+-- nothing is wrong with the values, and the floor leaves room
+record IsFaultless (command : Command) (given : List Argument) : Type 0 where
+  there : missing command given ≡ None
+  values : AllNone (map (wrong_values given) (keys_of command))
+  room : split_reason given ≡ None
+
+faultless : (command : Command) (given : List Argument) → reason_of command given ≡ None → IsFaultless command given
+unfolding reason_of first_wrong_value
+faultless command given e =
+    let all : AllNone (first_wrong command [] given ∷ missing command given ∷ first_wrong_value command given ∷ split_reason given ∷ [])
+    = no_reason (first_wrong command [] given ∷ missing command given ∷ first_wrong_value command given ∷ split_reason given ∷ []) e in
+    record { there = all.1.0; values = no_reason (map (wrong_values given) (keys_of command)) all.1.1.0; room = all.1.1.1.0 }
+
+count_fits : (n : Option ℕ) → IsSomeAnd n (IsInRange Count) → (1 ≤ unwrap_or n 0) × (unwrap_or n 0 ≤ 10000)
+count_fits None fits = absurd fits
+count_fits (Some n) fits = (grind (arith, nat_tests), grind (arith, nat_tests))
+
+size_fits : (n : Option ℕ) → IsSomeAnd n (IsInRange Size) → (1 ≤ unwrap_or n 0) × (unwrap_or n 0 ≤ 60000)
+size_fits None fits = absurd fits
+size_fits (Some n) fits = (grind (arith, nat_tests), grind (arith, nat_tests))
+
+changes_fit : (n : Option ℕ) → IfSome n (IsInRange Changes) → (1 ≤ unwrap_or n 1) × (unwrap_or n 1 ≤ 16)
+changes_fit None fits = (omega arith, omega arith)
+changes_fit (Some n) fits = (grind (arith, nat_tests), grind (arith, nat_tests))
+
+order_sound : (command : Command) (given : List Argument) → IsFaultless command given → IsSoundOrder (order_of command given)
+unfolding order_of wrong_value missing
+order_sound Transform given f = options_fit given f.values.0 f.values.1.0 f.values.1.1.0 f.values.1.1.1.0 f.room
+order_sound Plan given f = options_fit given f.values.0 f.values.1.0 f.values.1.1.0 f.values.1.1.1.0 f.room
+order_sound Run given f = record {
+  few = steps_fit (number_given Steps given) (number_given_fits Steps given (λ _. refl) f.values.0);
+  ordered = changes_ordered given;
+  shown = dump_fits (value_of Dump given);
+}
+order_sound Campaign given f =
+    let there : (lacks given Seed ≡ false) × (lacks given Count ≡ false) = both_there given Seed Count _ f.there in (
+      options_fit given f.values.0 f.values.1.0 f.values.1.1.0 f.values.1.1.1.0 f.room,
+      count_fits (number_given Count given) (number_there_fits Count given (λ _. refl) there.1 f.values.1.1.1.1.1.0),
+      changes_fit (number_given Changes given) (number_given_fits Changes given (λ _. refl) f.values.1.1.1.1.1.1.0),
+    )
+order_sound Gen given f =
+    let there : (lacks given Seed ≡ false) × (lacks given Size ≡ false) = both_there given Seed Size _ f.there in
+    size_fits (number_given Size given) (number_there_fits Size given (λ _. refl) there.1 f.values.1.0)
+
+answer_sound : (command : Command) (given : List Argument) (reason : Option Reason) → reason_of command given ≡ reason → (o : Order) → answer (order_of command given) reason ≡ Ok o → IsSoundOrder o
+answer_sound command given None none o e =
+    let same : order_of command given ≡ o = cc in subst IsSoundOrder same (order_sound command given (faultless command given none))
+answer_sound command given (Some reason) some o e = cc
+
+command_sound : (command : Option Command) (words : List (List ℕ)) (o : Order) → asked_of command words ≡ Ok o → IsSoundOrder o
+command_sound None words o e = cc
+command_sound (Some command) words o e =
+    answer_sound command (arguments command false 1 words) (reason_of command (arguments command false 1 words)) refl o e
+
+pub asked_sound : (words : List (List ℕ)) (o : Order) → asked words ≡ Ok o → IsSoundOrder o
+unfolding asked
+asked_sound [] o e = cc
+asked_sound (word ∷ words) o e = command_sound (command_of word) words o e

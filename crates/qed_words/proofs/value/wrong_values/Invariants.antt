@@ -1,0 +1,8 @@
+use Rattle.std.proofs.Common.{◌≡◌, map, drop}
+use Rattle.qed_words.specs.Words.{wrong_values}
+use Rattle.qed_words.specs.Seen.{seen}
+use Rattle.qed_words.proofs.value.wrong_values.Given as goal
+
+-- the rest decides
+abbrev pub invariant-loop-argument : goal.invariant-loop-argument
+invariant-loop-argument l = wrong_values (map seen (drop l.argument-index l.arguments)) l.key ≡ wrong_values (map seen l.arguments) l.key

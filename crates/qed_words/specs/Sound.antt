@@ -1,0 +1,21 @@
+-- What the calls that carry out an order ask of it.
+use Rattle.std.specs.Prelude.{ℕ, ◌+◌, ◌^◌, ◌≤◌, List, Option, IfSome}
+use Rattle.qed_model.specs.declared.change.Change.{Change}
+use Rattle.qed_words.specs.declared.orders.Order.{Order}
+use Rattle.qed_words.specs.declared.orders.Order.TheVariants.{Transform, Plan, Run, Campaign, Gen}
+use Rattle.qed_model.specs.Promise.Changed.{Ordered}
+use Rattle.qed_model.specs.Weave.Places.{AreSoundOptions}
+
+-- the steps of changes do not fall, and a dump has 1 to 65,536 bytes, which end at 2^64 at most
+pub record IsSoundRun (steps : ℕ) (changes : List Change) (dump : Option (ℕ × ℕ)) : Type 0 where
+  pub few : steps ≤ 1000000000000
+  pub ordered : Ordered changes
+  pub shown : IfSome dump (λ d. (1 ≤ d.1) × (d.1 ≤ 65536) × (d.0 + d.1 ≤ 2 ^ 64))
+
+abbrev pub IsSoundOrder : Order → Type 0
+IsSoundOrder (Transform input output options) = AreSoundOptions options
+IsSoundOrder (Plan input options) = AreSoundOptions options
+IsSoundOrder (Run file steps changes dump) = IsSoundRun steps changes dump
+IsSoundOrder (Campaign input options seed count changes) =
+    AreSoundOptions options × ((1 ≤ count) × (count ≤ 10000)) × ((1 ≤ changes) × (changes ≤ 16))
+IsSoundOrder (Gen output seed size) = (1 ≤ size) × (size ≤ 60000)

@@ -1,0 +1,424 @@
+-- What the words of the command line ask for: an order, or the first reason why they ask for none. A text is its bytes.
+use Rattle.std.specs.Prelude.{ℕ, ◌+◌, ◌*◌, ◌/◌, ◌%◌, ◌^◌, ◌==◌, nat_lt, nat_le, min, Bool, true, false, not, ◌&&◌, ◌||◌, if◌then◌else◌, Option, Some, None, is_some, unwrap_or, option_map, option_and_then, Result, Ok, Err, List, [], ◌∷◌, ◌++◌, map, fold, length, take, drop, filter_map, find, slice_get, slice_index_or, codes, String, string_bytes}
+use Rattle.std.specs.Option.{option_or}
+use Rattle.std.specs.Str.{bytes_eq}
+use Rattle.std.specs.List.{position_from, list_any}
+use Rattle.std.specs.Char.{digit_value}
+use Rattle.qed_model.specs.declared.change.Place.{Place}
+use Rattle.qed_model.specs.declared.change.Place.TheVariants.{Reg, Word}
+use Rattle.qed_model.specs.declared.change.Change.{Change}
+use Rattle.qed_model.specs.declared.limits.TheConstants.{MAX_HALF}
+use Rattle.qed_model.specs.declared.options.Options.{Options}
+use Rattle.qed_words.specs.declared.orders.Command.{Command}
+use Rattle.qed_words.specs.declared.orders.Command.TheVariants.{Transform, Plan, Run, Campaign, Gen}
+use Rattle.qed_words.specs.declared.orders.Order.{Order}
+use Rattle.qed_words.specs.declared.orders.Order.TheVariants as order
+use Rattle.qed_words.specs.declared.orders.Key.{Key}
+use Rattle.qed_words.specs.declared.orders.Key.TheVariants.{InstMin, InstMax, Round, Half, Steps, Fault, Dump, Seed, Count, Size, Changes}
+use Rattle.qed_words.specs.declared.orders.Reason.{Reason}
+use Rattle.qed_words.specs.declared.orders.Reason.TheVariants.{NoCommand, UnknownCommand, EmptyWord, UnknownOption, Repeated, MissingValue, ExtraWord, MissingFile, MissingOption, BadNumber, BadShape, OutOfRange, Split}
+use Rattle.qed_model.specs.Options.{default_options}
+
+-- ---- words and bytes
+
+-- the bytes of each word
+abbrev pub texts : {A : Type 0} → List (String A) → List (List ℕ)
+texts words = map string_bytes words
+
+-- `-`
+abbrev pub dash : ℕ
+dash = 45
+
+-- `0`
+abbrev pub digit_zero : ℕ
+digit_zero = 48
+
+-- `:`
+abbrev pub colon : ℕ
+colon = 58
+
+-- `=`
+abbrev pub equals : ℕ
+equals = 61
+
+-- `x`
+abbrev pub letter_x : ℕ
+letter_x = 120
+
+-- ---- numbers
+
+-- the number n with the digits of a text behind it; None where one is no digit, or from 2^64 on
+abbrev pub read_on : ℕ → ℕ → List ℕ → Option ℕ
+read_on base n [] = Some n
+read_on base n (c ∷ cs) =
+    if nat_lt (digit_value c) base && nat_lt (n * base + digit_value c) (2 ^ 64) then read_on base (n * base + digit_value c) cs else None
+
+-- a number of 1 to `most` digits
+unfoldable pub digits : ℕ → ℕ → List ℕ → Option ℕ
+digits base most text = if nat_le 1 (length text) && nat_le (length text) most then read_on base 0 text else None
+
+-- a number: 1 to 20 decimal digits, or `0x` and 1 to 16 hexadecimal digits of either case
+unfoldable pub number : List ℕ → Option ℕ
+number (a ∷ b ∷ rest) = if a == digit_zero && b == letter_x then digits 16 16 rest else digits 10 20 (a ∷ b ∷ rest)
+number text = digits 10 20 text
+
+-- ---- faults and dumps
+
+-- the texts before and behind place i
+abbrev pub around : List ℕ → ℕ → List ℕ × List ℕ
+around text i = (take i text, drop (i + 1) text)
+
+-- the texts before and behind the first byte c
+unfoldable pub parted : ℕ → List ℕ → Option (List ℕ × List ℕ)
+parted c text = option_map (around text) (position_from (λ b. b == c) 0 text)
+
+abbrev pub register_numbered : ℕ → Option ℕ
+register_numbered r = if nat_le 1 r && nat_le r 31 then Some r else None
+
+-- a register from 1 to 31, in decimal without leading zeros
+unfoldable pub register : List ℕ → Option ℕ
+register [] = None
+register (c ∷ cs) = if c == digit_zero then None else option_and_then register_numbered (digits 10 2 (c ∷ cs))
+
+abbrev pub word_at : ℕ → Option Place
+word_at address = if address % 8 == 0 then Some (Word address) else None
+
+-- a place: `x` and a register, or the address of an aligned word
+unfoldable pub place : List ℕ → Option Place
+place [] = None
+place (c ∷ cs) = if c == letter_x then option_map Reg (register cs) else option_and_then word_at (number (c ∷ cs))
+
+abbrev pub change_of : Option ℕ → Option Place → Option ℕ → Option Change
+change_of (Some step) (Some place) (Some value) = Some (record { step = step; place = place; value = value })
+change_of _ _ _ = None
+
+-- `PLACE=V` behind a step
+abbrev pub change_from : Option ℕ → Option (List ℕ × List ℕ) → Option Change
+change_from step None = None
+change_from step (Some parts) = change_of step (place parts.0) (number parts.1)
+
+abbrev pub change_in : Option (List ℕ × List ℕ) → Option Change
+change_in None = None
+change_in (Some parts) = change_from (number parts.0) (parted equals parts.1)
+
+-- a fault: `STEP:PLACE=V`
+unfoldable pub fault : List ℕ → Option Change
+fault text = change_in (parted colon text)
+
+-- an address and a length from 1 to 65,536 that end at 2^64 at most
+abbrev pub span_of : Option ℕ → Option ℕ → Option (ℕ × ℕ)
+span_of (Some address) (Some size) =
+    if (nat_le 1 size && nat_le size 65536) && nat_le (address + size) (2 ^ 64) then Some (address, size) else None
+span_of _ _ = None
+
+abbrev pub span_in : Option (List ℕ × List ℕ) → Option (ℕ × ℕ)
+span_in None = None
+span_in (Some parts) = span_of (number parts.0) (number parts.1)
+
+-- a dump: `ADDR:LEN`
+unfoldable pub dump : List ℕ → Option (ℕ × ℕ)
+dump text = span_in (parted colon text)
+
+-- ---- commands and their options
+
+abbrev pub command_of : List ℕ → Option Command
+command_of word =
+    if bytes_eq word (codes "transform") then Some Transform
+    else if bytes_eq word (codes "plan") then Some Plan
+    else if bytes_eq word (codes "run") then Some Run
+    else if bytes_eq word (codes "campaign") then Some Campaign
+    else if bytes_eq word (codes "gen") then Some Gen
+    else None
+
+-- how many files a command has
+abbrev pub file_count : Command → ℕ
+file_count Transform = 2
+file_count Plan = 1
+file_count Run = 1
+file_count Campaign = 1
+file_count Gen = 1
+
+-- the options with a value, in their order
+abbrev pub keys_of : Command → List Key
+keys_of Transform = InstMin ∷ InstMax ∷ Round ∷ Half ∷ []
+keys_of Plan = InstMin ∷ InstMax ∷ Round ∷ Half ∷ []
+keys_of Run = Steps ∷ Fault ∷ Dump ∷ []
+keys_of Campaign = InstMin ∷ InstMax ∷ Round ∷ Half ∷ Seed ∷ Count ∷ Changes ∷ []
+keys_of Gen = Seed ∷ Size ∷ []
+
+-- those that must be given
+abbrev pub required_of : Command → List Key
+required_of Transform = []
+required_of Plan = []
+required_of Run = []
+required_of Campaign = Seed ∷ Count ∷ []
+required_of Gen = Seed ∷ Size ∷ []
+
+-- whether `--sweep` and `--diverse` are options
+abbrev pub has_flags : Command → Bool
+has_flags Transform = true
+has_flags Plan = true
+has_flags Run = false
+has_flags Campaign = true
+has_flags Gen = false
+
+-- an option's name, without its dashes
+abbrev pub name_of : Key → List ℕ
+name_of InstMin = codes "inst-min"
+name_of InstMax = codes "inst-max"
+name_of Round = codes "round"
+name_of Half = codes "half"
+name_of Steps = codes "steps"
+name_of Fault = codes "fault"
+name_of Dump = codes "dump"
+name_of Seed = codes "seed"
+name_of Count = codes "count"
+name_of Size = codes "size"
+name_of Changes = codes "changes"
+
+-- how often an option may be given
+abbrev pub most_of : Key → ℕ
+most_of Fault = 64
+most_of _ = 1
+
+-- the option of a command with a name
+unfoldable pub key_named : Command → List ℕ → Option Key
+key_named command name = find (λ k. bytes_eq (name_of k) name) (keys_of command)
+
+abbrev pub is_flag : Command → List ℕ → Bool
+is_flag command name = has_flags command && (bytes_eq name (codes "sweep") || bytes_eq name (codes "diverse"))
+
+-- ---- what the words are
+
+-- an argument, with the number of its word
+pub data Argument : Type 0 where
+  Empty : ℕ → Argument
+  -- it begins with `-` and is no option of the command
+  Unknown : ℕ → Argument
+  -- an option without a value, by its name
+  Flag : ℕ → List ℕ → Argument
+  -- an option and its value, which is empty where there is none
+  Given : ℕ → Key → List ℕ → Argument
+  File : ℕ → List ℕ → Argument
+
+-- what stands behind `--`
+unfoldable pub behind_dashes : List ℕ → Option (List ℕ)
+behind_dashes (a ∷ b ∷ rest) = if a == dash && b == dash then Some rest else None
+behind_dashes _ = None
+
+-- whether the next word is this word's value: it is `--name`, and the option has a value
+unfoldable pub takes_next : Command → List ℕ → Bool
+takes_next command word = is_some (option_and_then (key_named command) (behind_dashes word))
+
+-- what an option with a value is, by its name
+abbrev pub key_argument : ℕ → Option Key → List ℕ → Argument
+key_argument i None value = Unknown i
+key_argument i (Some key) value = Given i key value
+
+-- `name` with the next word, or `name=value`
+abbrev pub named : Command → ℕ → List ℕ → List ℕ → Option (List ℕ × List ℕ) → Argument
+named command i text next None = key_argument i (key_named command text) next
+named command i text next (Some parts) = key_argument i (key_named command parts.0) parts.1
+
+abbrev pub option_argument : Command → ℕ → List ℕ → Option (List ℕ) → Argument
+option_argument command i next None = Unknown i
+option_argument command i next (Some text) = if is_flag command text then Flag i text else named command i text next (parted equals text)
+
+-- what word i is, with the word behind it
+unfoldable pub argument : Command → ℕ → List ℕ → List ℕ → Argument
+argument command i [] next = Empty i
+argument command i (c ∷ cs) next = if c == dash then option_argument command i next (behind_dashes (c ∷ cs)) else File i (c ∷ cs)
+
+-- the first of some words, empty where there is none
+abbrev pub first_text : List (List ℕ) → List ℕ
+first_text [] = []
+first_text (word ∷ words) = word
+
+-- what the words from number i on are; the first, where it is the value of the word before it, is not looked at by itself
+abbrev pub arguments : Command → Bool → ℕ → List (List ℕ) → List Argument
+arguments command follows i [] = []
+arguments command true i (word ∷ words) = arguments command false (i + 1) words
+arguments command false i (word ∷ words) = argument command i word (first_text words) ∷ arguments command (takes_next command word) (i + 1) words
+
+-- ---- what was given
+
+abbrev pub name_in : Argument → Option (List ℕ)
+name_in (File i name) = Some name
+name_in _ = None
+
+-- the files, in the order of the words
+unfoldable pub files : List Argument → List (List ℕ)
+files given = filter_map name_in given
+
+abbrev pub value_in : Key → Argument → Option (List ℕ)
+value_in key (Given i other value) = if bytes_eq (name_of other) (name_of key) then Some value else None
+value_in key _ = None
+
+-- the values that an option was given, in the order of the words
+unfoldable pub values : Key → List Argument → List (List ℕ)
+values key given = filter_map (value_in key) given
+
+abbrev pub is_flag_named : List ℕ → Argument → Bool
+is_flag_named name (Flag i other) = bytes_eq other name
+is_flag_named name _ = false
+
+-- whether an option without a value was given
+unfoldable pub has_flag : List ℕ → List Argument → Bool
+has_flag name given = list_any (is_flag_named name) given
+
+-- ---- what is wrong with a word
+
+-- a value is not empty, and does not begin with `-`
+abbrev pub is_value : List ℕ → Bool
+is_value [] = false
+is_value (c ∷ cs) = not (c == dash)
+
+-- what is wrong with an argument, where those before it are known
+unfoldable pub wrong : Command → List Argument → Argument → Option Reason
+wrong command before (Empty i) = Some (EmptyWord i)
+wrong command before (Unknown i) = Some (UnknownOption i)
+wrong command before (Flag i name) = if has_flag name before then Some (Repeated i) else None
+wrong command before (Given i key value) =
+    if nat_le (most_of key) (length (values key before)) then Some (Repeated i)
+    else if is_value value then None
+    else Some (MissingValue i)
+wrong command before (File i name) = if nat_le (file_count command) (length (files before)) then Some (ExtraWord i) else None
+
+-- the first reason of some
+abbrev pub first_reason : List (Option Reason) → Option Reason
+first_reason [] = None
+first_reason (reason ∷ reasons) = option_or reason (first_reason reasons)
+
+-- what is wrong with the first argument of which something is
+abbrev pub first_wrong : Command → List Argument → List Argument → Option Reason
+first_wrong command before [] = None
+first_wrong command before (a ∷ rest) = option_or (wrong command before a) (first_wrong command (before ++ a ∷ []) rest)
+
+-- ---- what is missing
+
+unfoldable pub lacks : List Argument → Key → Bool
+lacks given key = length (values key given) == 0
+
+unfoldable pub missing : Command → List Argument → Option Reason
+missing command given =
+    if nat_lt (length (files given)) (file_count command) then Some MissingFile
+    else option_map MissingOption (find (lacks given) (required_of command))
+
+-- ---- what is wrong with a value
+
+abbrev pub is_in_range : Key → ℕ → Bool
+is_in_range InstMin n = nat_le 1 n && nat_le n 1024
+is_in_range InstMax n = nat_le 1 n && nat_le n 1024
+is_in_range Round n = nat_le 1 n && nat_le n 1024
+is_in_range Half n = n % 4096 == 0 && (nat_le 4096 n && nat_le n MAX_HALF)
+is_in_range Steps n = nat_le n 1000000000000
+is_in_range Count n = nat_le 1 n && nat_le n 10000
+is_in_range Size n = nat_le 1 n && nat_le n 60000
+is_in_range Changes n = nat_le 1 n && nat_le n 16
+is_in_range _ n = true
+
+abbrev pub wrong_number : Key → Option ℕ → Option Reason
+wrong_number key None = Some (BadNumber key)
+wrong_number key (Some n) = if is_in_range key n then None else Some (OutOfRange key)
+
+unfoldable pub wrong_value : Key → List ℕ → Option Reason
+wrong_value Fault value = if is_some (fault value) then None else Some (BadShape Fault)
+wrong_value Dump value = if is_some (dump value) then None else Some (BadShape Dump)
+wrong_value key value = wrong_number key (number value)
+
+-- what is wrong with the first value of an option of which something is
+unfoldable pub wrong_values : List Argument → Key → Option Reason
+wrong_values given key = first_reason (map (wrong_value key) (values key given))
+
+-- the same, of the first option of which something is
+unfoldable pub first_wrong_value : Command → List Argument → Option Reason
+first_wrong_value command given = first_reason (map (wrong_values given) (keys_of command))
+
+-- ---- the options of a transformation
+
+-- the first value that an option was given
+unfoldable pub value_of : Key → List Argument → Option (List ℕ)
+value_of key given = slice_get (values key given) 0
+
+unfoldable pub number_given : Key → List Argument → Option ℕ
+number_given key given = option_and_then number (value_of key given)
+
+abbrev pub greatest_piece : List Argument → ℕ
+greatest_piece given = unwrap_or (number_given InstMax given) default_options.inst_max
+
+-- the floor, where none is given, is no greater than the greatest piece leaves room for
+unfoldable pub options : List Argument → Options
+options given = record {
+  inst_min = unwrap_or (number_given InstMin given) (min default_options.inst_min ((greatest_piece given + 1) / 2));
+  inst_max = greatest_piece given;
+  round = unwrap_or (number_given Round given) default_options.round;
+  half = number_given Half given;
+  sweep = has_flag (codes "sweep") given;
+  diverse = has_flag (codes "diverse") given;
+}
+
+-- the floor leaves no room
+abbrev pub is_split : Options → Bool
+is_split o = nat_lt (o.inst_max + 1) (2 * o.inst_min)
+
+-- ---- the order
+
+-- changes with one more, which stands behind those whose step is not greater
+abbrev pub with_change : List Change → Change → List Change
+with_change [] c = c ∷ []
+with_change (d ∷ ds) c = if nat_le d.step c.step then d ∷ with_change ds c else c ∷ d ∷ ds
+
+-- changes in the order of their steps, those of equal steps in their own order
+abbrev pub in_order : List Change → List Change
+in_order changes = fold with_change [] changes
+
+-- the changes that faults ask for
+unfoldable pub changes_given : List Argument → List Change
+changes_given given = in_order (filter_map fault (values Fault given))
+
+-- file number i
+unfoldable pub file : List Argument → ℕ → List ℕ
+file given i = slice_index_or (files given) i []
+
+-- without `--steps` a run has 1,000,000 steps, and without `--changes` a strike is one change
+unfoldable pub order_of : Command → List Argument → Order
+order_of Transform given = order.Transform (file given 0) (file given 1) (options given)
+order_of Plan given = order.Plan (file given 0) (options given)
+order_of Run given =
+    order.Run (file given 0) (unwrap_or (number_given Steps given) 1000000) (changes_given given) (option_and_then dump (value_of Dump given))
+order_of Campaign given =
+    order.Campaign
+    (file given 0)
+    (options given)
+    (unwrap_or (number_given Seed given) 0)
+    (unwrap_or (number_given Count given) 0)
+    (unwrap_or (number_given Changes given) 1)
+order_of Gen given = order.Gen (file given 0) (unwrap_or (number_given Seed given) 0) (unwrap_or (number_given Size given) 0)
+
+-- ---- what is asked
+
+-- a floor that is not given leaves room, so this comes only of commands that have the option
+unfoldable pub split_reason : List Argument → Option Reason
+split_reason given = if is_split (options given) then Some Split else None
+
+-- the first reason why arguments are no order
+unfoldable pub reason_of : Command → List Argument → Option Reason
+reason_of command given =
+    first_reason
+    (first_wrong command [] given ∷ missing command given ∷ first_wrong_value command given ∷ split_reason given ∷ [])
+
+abbrev pub answer : Order → Option Reason → Result Order Reason
+answer o None = Ok o
+answer o (Some reason) = Err reason
+
+-- what the words behind a command ask for
+abbrev pub asked_of : Option Command → List (List ℕ) → Result Order Reason
+asked_of None words = Err UnknownCommand
+asked_of (Some command) words =
+    let given = arguments command false 1 words in
+    answer (order_of command given) (reason_of command given)
+
+-- the order that words ask for, or the first reason why they ask for none
+unfoldable pub asked : List (List ℕ) → Result Order Reason
+asked [] = Err NoCommand
+asked (word ∷ words) = asked_of (command_of word) words

@@ -1,0 +1,124 @@
+//! What was given.
+ghost use Rattle.std.specs.Prelude.{◌≡◌, ◌≤◌, IfOk, map, length};
+ghost use Rattle.std.specs.Option.{option_copied};
+ghost use Rattle.qed_words.specs.Words.{name_in as name_in_of, files, file as file_of, value_in as value_in_of, values, value_of, is_flag_named as is_flag_named_of, has_flag as has_flag_of, number_given as number_given_of};
+ghost use Rattle.qed_words.specs.Seen.{seen};
+
+use crate::argument::Argument;
+use crate::commands::key_name;
+use crate::number::number;
+use crate::orders::Key;
+
+fn name_in<'a>(argument: Argument<'a>) -> Option<&'a str>
+    ensures { option_copied result ≡ name_in_of (seen argument.entry) }
+{
+    match argument {
+        Argument::File(_, name) => Some(name),
+        _ => None,
+    }
+}
+
+/// How many files were given.
+#[tactic(auto, unfolding(crate::specs::Words::files))]
+pub fn count_files(arguments: &[Argument<'_>]) -> usize
+    ensures { result ≡ length (files (map seen arguments.now)) }
+{
+    let mut count = 0usize;
+    for argument in arguments {
+        if name_in(*argument).is_some() {
+            count += 1;
+        }
+    }
+    count
+}
+
+/// The value that an argument gives an option.
+pub fn value_in<'a>(key: Key, argument: Argument<'a>) -> Option<&'a [u8]>
+    ensures { option_copied result ≡ value_in_of key (seen argument.entry) }
+{
+    match argument {
+        Argument::Given(_, other, value) => {
+            if key_name(other) == key_name(key) {
+                Some(value)
+            } else {
+                None
+            }
+        }
+        _ => None,
+    }
+}
+
+/// How often an option was given.
+#[tactic(auto, unfolding(crate::specs::Words::values))]
+pub fn count_values(key: Key, arguments: &[Argument<'_>]) -> usize
+    ensures { result ≡ length (values key (map seen arguments.now)) }
+{
+    let mut count = 0usize;
+    for argument in arguments {
+        if value_in(key, *argument).is_some() {
+            count += 1;
+        }
+    }
+    count
+}
+
+/// The first value that an option was given.
+#[tactic(auto, unfolding(crate::specs::Words::values, crate::specs::Words::value_of))]
+pub fn first_value<'a>(key: Key, arguments: &[Argument<'a>]) -> Option<&'a [u8]>
+    ensures { option_copied result ≡ value_of key (map seen arguments.now) }
+{
+    for argument in arguments {
+        let found = value_in(key, *argument);
+        if found.is_some() {
+            return found;
+        }
+    }
+    None
+}
+
+/// The number that an option was given.
+#[tactic(auto, unfolding(crate::specs::Words::number_given))]
+pub fn number_given(key: Key, arguments: &[Argument<'_>]) -> Option<u64>
+    ensures { result ≡ number_given_of key (map seen arguments.now) }
+{
+    number(first_value(key, arguments)?)
+}
+
+fn is_flag_named(name: &[u8], argument: Argument<'_>) -> bool
+    ensures { result ≡ is_flag_named_of name.now (seen argument.entry) }
+{
+    match argument {
+        Argument::Flag(_, other) => other == name,
+        _ => false,
+    }
+}
+
+/// Whether an option without a value was given.
+#[tactic(auto, unfolding(crate::specs::Words::has_flag))]
+pub fn has_flag(name: &[u8], arguments: &[Argument<'_>]) -> bool
+    ensures { result ≡ has_flag_of name.now (map seen arguments.now) }
+{
+    for argument in arguments {
+        if is_flag_named(name, *argument) {
+            return true;
+        }
+    }
+    false
+}
+
+/// The name of file number `place`, empty where there is none.
+#[tactic(auto, unfolding(crate::specs::Words::files, crate::specs::Words::file))]
+pub fn file<'a>(arguments: &[Argument<'a>], place: usize) -> &'a str
+    ensures { result.now ≡ file_of (map seen arguments.now) place }
+{
+    let mut left = place;
+    for argument in arguments {
+        if let Some(name) = name_in(*argument) {
+            if left == 0 {
+                return name;
+            }
+            left -= 1;
+        }
+    }
+    ""
+}

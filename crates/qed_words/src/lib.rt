@@ -1,0 +1,22 @@
+//! What the words of the command line ask for: an order, or the first reason why they ask for none.
+#![tactic(auto)]
+
+mod argument;
+mod arguments;
+mod changes;
+mod commands;
+mod error;
+mod given;
+mod number;
+mod options;
+mod orders;
+mod parts;
+mod reason;
+mod shape;
+mod value;
+mod words;
+mod wrong;
+
+pub use error::WordsError;
+pub use orders::{Changes, Command, Key, Name, Order, Reason};
+pub use words::order;

@@ -1,0 +1,41 @@
+//! The options of a transformation.
+ghost use Rattle.std.specs.Prelude.{◌≡◌, ◌+◌, ◌/◌, map};
+ghost use Rattle.qed_words.specs.Words.{options as options_of, is_split as is_split_of};
+ghost use Rattle.qed_words.specs.Seen.{seen};
+
+use crate::argument::Argument;
+use crate::given::{has_flag, number_given};
+use crate::orders::Key;
+use qed_model::Options;
+
+/// Half of a number, rounded up: the greatest floor that leaves room.
+fn room(inst_max: u64) -> u64
+    ensures { result ≡ (inst_max + 1) / 2 }
+{
+    inst_max / 2 + inst_max % 2
+}
+
+/// The options that arguments ask for.
+#[tactic(auto, unfolding(crate::specs::Words::options))]
+pub fn options(arguments: &[Argument<'_>]) -> Options
+    ensures { result ≡ options_of (map seen arguments.now) }
+{
+    let default = Options::default();
+    let inst_max = number_given(Key::InstMax, arguments).unwrap_or(default.inst_max);
+    let least = default.inst_min.min(room(inst_max));
+    Options {
+        inst_min: number_given(Key::InstMin, arguments).unwrap_or(least),
+        inst_max,
+        round: number_given(Key::Round, arguments).unwrap_or(default.round),
+        half: number_given(Key::Half, arguments),
+        sweep: has_flag(b"sweep", arguments),
+        diverse: has_flag(b"diverse", arguments),
+    }
+}
+
+/// Whether the floor of a piece leaves no room.
+pub fn is_split(options: &Options) -> bool
+    ensures { result ≡ is_split_of options.now }
+{
+    options.inst_min > room(options.inst_max)
+}

@@ -1,0 +1,77 @@
+//! The shapes of faults and dumps.
+ghost use Rattle.std.specs.Prelude.{◌≡◌};
+ghost use Rattle.qed_words.specs.Words.{register_numbered, register as register_of, place as place_of, fault as fault_of, dump as dump_of};
+
+use crate::number::{digits, number};
+use crate::parts::split_once;
+use qed_model::{Change, Place};
+use rv_isa::Reg;
+
+/// A register from x1 to x31, from its number.
+fn numbered(number: u64) -> Option<Reg>
+    ensures { result ≡ register_numbered number }
+{
+    match u8::try_from(number) {
+        Ok(number @ 1..=31) => Reg::new(number),
+        _ => None,
+    }
+}
+
+/// A register from x1 to x31, from its number in decimal without leading zeros.
+#[tactic(auto, unfolding(crate::specs::Words::register))]
+fn register(text: &[u8]) -> Option<Reg>
+    ensures { result ≡ register_of text.now }
+{
+    match text {
+        [] | [b'0', ..] => None,
+        _ => numbered(digits(10, 2, text)?),
+    }
+}
+
+/// A register, or the address of an aligned word.
+#[tactic(auto, unfolding(crate::specs::Words::place))]
+fn place(text: &[u8]) -> Option<Place>
+    ensures { result ≡ place_of text.now }
+{
+    match text {
+        [] => None,
+        [b'x', register_text @ ..] => register(register_text).map(Place::Reg),
+        _ => {
+            let address = number(text)?;
+            if address % 8 == 0 {
+                Some(Place::Word(address))
+            } else {
+                None
+            }
+        }
+    }
+}
+
+/// The change that a fault asks for: `STEP:PLACE=V`.
+#[tactic(auto, unfolding(crate::specs::Words::fault))]
+pub fn fault(text: &[u8]) -> Option<Change>
+    ensures { result ≡ fault_of text.now }
+{
+    let (step, rest) = split_once(text, b':')?;
+    let (spot, value) = split_once(rest, b'=')?;
+    Some(Change {
+        step: number(step)?,
+        place: place(spot)?,
+        value: number(value)?,
+    })
+}
+
+/// The address and the length of a dump: `ADDR:LEN`.
+#[tactic(auto, unfolding(crate::specs::Words::dump))]
+pub fn dump(text: &[u8]) -> Option<(u64, u64)>
+    ensures { result ≡ dump_of text.now }
+{
+    let (front, back) = split_once(text, b':')?;
+    let (address, size) = (number(front)?, number(back)?);
+    if size < 1 || size > 65_536 {
+        return None;
+    }
+    // The last byte has an address; the end may be 2^64.
+    address.checked_add(size - 1)?;
+    Some((address, size))
+}

@@ -1,0 +1,91 @@
+//! The order that words ask for.
+ghost use Rattle.std.specs.Prelude.{◌≡◌, Ok, IfOk, IfErr, map, option_and_then};
+ghost use Rattle.qed_words.specs.declared.orders.Key.TheVariants as key;
+ghost use Rattle.qed_words.specs.Words.{texts, dump as dump_of, value_of, file as file_of, order_of, asked};
+ghost use Rattle.qed_words.specs.Seen.{seen};
+ghost use Rattle.qed_words.specs.Sound.{IsSoundOrder};
+ghost use Rattle.qed_words.specs.WordsError.{Explains};
+
+use crate::argument::Argument;
+use crate::arguments::arguments;
+use crate::changes::changes;
+use crate::commands::command_named;
+use crate::error::WordsError;
+use crate::given::{file, first_value, number_given};
+use crate::options::options;
+use crate::orders::{Command, Key, Name, Order, Reason};
+use crate::reason::first_reason;
+use crate::shape::dump;
+use std::alloc::{AllocError, Global};
+
+/// The steps of a run where no option says otherwise.
+const DEFAULT_STEPS: u64 = 1_000_000;
+
+/// The name of file number `place`.
+fn name(alloc: Global, arguments: &[Argument<'_>], place: usize) -> Result<Name, AllocError>
+    ensures { IfOk result (λ name. name ≡ file_of (map seen arguments.now) place) }
+{
+    Ok(Name::of(String::from_str(alloc, file(arguments, place))?))
+}
+
+/// The address and the length of the dump that arguments ask for.
+fn dump_given(arguments: &[Argument<'_>]) -> Option<(u64, u64)>
+    ensures { result ≡ option_and_then dump_of (value_of key.Dump (map seen arguments.now)) }
+{
+    dump(first_value(Key::Dump, arguments)?)
+}
+
+/// The order that arguments ask for, where nothing is wrong with them.
+#[tactic(auto, unfolding(crate::specs::Words::order_of))]
+fn make_order(
+    alloc: Global,
+    command: Command,
+    arguments: &[Argument<'_>],
+) -> Result<Order, AllocError>
+    ensures { IfOk result (λ order. order ≡ order_of command (map seen arguments.now)) }
+{
+    let first = name(alloc, arguments, 0)?;
+    let seed = number_given(Key::Seed, arguments).unwrap_or(0);
+    match command {
+        Command::Transform => {
+            let second = name(alloc, arguments, 1)?;
+            Ok(Order::Transform(first, second, options(arguments)))
+        }
+        Command::Plan => Ok(Order::Plan(first, options(arguments))),
+        Command::Run => {
+            let steps = number_given(Key::Steps, arguments).unwrap_or(DEFAULT_STEPS);
+            let changes = changes(alloc, arguments)?;
+            Ok(Order::Run(first, steps, changes, dump_given(arguments)))
+        }
+        Command::Campaign => {
+            let count = number_given(Key::Count, arguments).unwrap_or(0);
+            let changes = number_given(Key::Changes, arguments).unwrap_or(1);
+            Ok(Order::Campaign(first, options(arguments), seed, count, changes))
+        }
+        Command::Gen => {
+            let size = number_given(Key::Size, arguments).unwrap_or(0);
+            Ok(Order::Gen(first, seed, size))
+        }
+    }
+}
+
+/// What the words of the command line ask for. The first word names the command.
+#[tactic(auto, unfolding(crate::specs::Words::asked))]
+pub fn order(alloc: Global, words: &[String]) -> Result<Order, WordsError>
+    ensures order { IfOk result (λ order. asked (texts words.now) ≡ Ok order) }
+    ensures sound { IfOk result IsSoundOrder }
+    ensures usage { IfErr result (Explains (texts words.now)) }
+{
+    let [word, rest @ ..] = words else {
+        return Err(WordsError::Usage(Reason::NoCommand));
+    };
+    let Some(command) = command_named(word.as_str()) else {
+        return Err(WordsError::Usage(Reason::UnknownCommand));
+    };
+    let arguments = arguments(alloc, command, rest)?;
+    if let Some(reason) = first_reason(command, &arguments) {
+        return Err(WordsError::Usage(reason));
+    }
+    let order = make_order(alloc, command, &arguments)?;
+    Ok(order)
+}
