@@ -1,0 +1,43 @@
+-- Where a register is closed, by the instructions that stand at the pc and behind it.
+use Rattle.std.proofs.Common.{◌≡◌, ℕ, ◌≤◌, Bool, false, ◌&&◌, ◌||◌, nat_le, Some, None, refl, ap}
+use Rattle.std.proofs.lemmas.Bool.{le-leb}
+use Rattle.rv_isa.specs.declared.ins.Ins.{Ins}
+use Rattle.rv_isa.specs.Kind.{class_of}
+use Rattle.qed_model.specs.Machine.Step.{Fetched, Refused, Unknown, Known}
+use Rattle.qed_model.specs.Promise.Closed.{uses, uses_as, guards_other}
+use Rattle.rv_step.specs.Known.{instruction_of}
+
+-- no instruction uses a register where there is none
+pub unused : (f : Fetched) (r : ℕ) → None ≡ instruction_of f → false ≡ uses r f
+unfolding uses
+unused Refused r h = refl
+unused (Unknown w) r h = refl
+unused (Known i) r h = absurd (cc)
+
+-- what an instruction uses
+pub used : (f : Fetched) (r : ℕ) (i : Ins) → Some i ≡ instruction_of f → uses_as (class_of i.kind) r i ≡ uses r f
+unfolding uses
+used Refused r i h = absurd (cc)
+used (Unknown w) r i h = absurd (cc)
+used (Known j) r i h = let e : i ≡ j = cc in ap (λ k. uses_as (class_of k.kind) r k) e
+
+-- nothing is guarded where there is no instruction
+pub unguarded : (f : Fetched) (r : ℕ) → None ≡ instruction_of f → false ≡ guards_other r f
+unfolding guards_other
+unguarded Refused r h = refl
+unguarded (Unknown w) r h = refl
+unguarded (Known i) r h = absurd (cc)
+
+-- what was fetched, where an instruction was
+pub known : (f : Fetched) (i : Ins) → Some i ≡ instruction_of f → Known i ≡ f
+known Refused i h = absurd (cc)
+known (Unknown w) i h = absurd (cc)
+known (Known j) i h = let e : i ≡ j = cc in ap Known e
+
+-- whether a register is closed, by what was fetched at the pc and behind it
+abbrev pub closes : ℕ → Fetched → Fetched → Bool
+closes r f g = (nat_le 1 r && nat_le r 13) && (uses r f || (guards_other r f && uses r g))
+
+-- the same by three tests, for x1 to x13
+pub closes_by : (r : ℕ) (f g : Fetched) (x y z : Bool) → 1 ≤ r → r ≤ 13 → x ≡ uses r f → y ≡ guards_other r f → z ≡ uses r g → (x || (y && z)) ≡ closes r f g
+closes_by r f g x y z low high p q o = rw (le-leb 1 r low, le-leb r 13 high, p, q, o) refl

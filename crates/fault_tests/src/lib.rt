@@ -1,0 +1,11 @@
+//! Tests of changes in the runs of outputs: when a check fires, which places are closed, and what is gone again.
+#![tactic(auto)]
+
+#[cfg(test)]
+mod closed;
+#[cfg(test)]
+mod lists;
+#[cfg(test)]
+mod samples;
+#[cfg(test)]
+mod strikes;
