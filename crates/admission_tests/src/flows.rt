@@ -9,16 +9,6 @@ use std::collections::BTreeSet;
 use std::process::Abort;
 use std::test::Fail;
 
-/// The options that are taken where none is given.
-const OPTIONS: Options = Options {
-    inst_min: 4,
-    inst_max: 16,
-    round: 1,
-    half: None,
-    sweep: false,
-    diverse: false,
-};
-
 /// A file, the start and the size of its code, whether it has a JALR, its leaders, and its blocks: where each begins, and the
 /// lengths of its pieces.
 #[derive(Clone, Copy, Debug)]
@@ -193,7 +183,7 @@ fn what_flows(rt: HostRuntime) -> Result<(), Fail> {
     for case in &CASES {
         let what = case.what;
         let bytes = file_bytes(alloc, &case.file)?;
-        let Some(flow) = recover(alloc, &bytes, &OPTIONS)? else {
+        let Some(flow) = recover(alloc, &bytes, &Options::default())? else {
             return Err("a file that is admitted".into());
         };
         compare_code(&rt, &flow.code, case);

@@ -150,12 +150,9 @@ impl Sample {
         ensures { AreSoundOptions result }
     {
         Options {
-            inst_min: 4,
-            inst_max: 16,
             round: self.round.clamp(1, 1024),
-            half: None,
             sweep: self.sweep,
-            diverse: false,
+            ..Options::default()
         }
     }
 

@@ -2,6 +2,7 @@ pub mod Numbers
 pub mod Below
 pub mod Limits
 pub mod Options
+pub mod Words
 pub mod Machine
 pub mod Elf
 pub mod Weave

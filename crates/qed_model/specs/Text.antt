@@ -2,3 +2,5 @@
 pub mod Plan
 pub mod Run
 pub mod Errors
+pub mod Usage
+pub mod Campaign

@@ -5,9 +5,8 @@ use Rattle.std.specs.Io.KnownBytes.{Appends}
 use Rattle.qed_io.specs.Sink.{AppendsPart}
 use Rattle.qed_io.specs.Files.{Files, file_bytes}
 use Rattle.qed_io.specs.Counts.{Rose, RoseAt, NoneFell}
-use Rattle.qed_model.specs.Text.Plan.{usage_line, load_limit, load_limit_line, run_load_limit, run_load_limit_line}
 use Rattle.qed_top.specs.Words.{Asked, Transform, Run, asked, read_name, stored_name}
-use Rattle.qed_top.specs.Answer.{PrintsOnly, error_status, Transforms, refused, done, refusal_status, memory_bytes, outcome_status, run_of, Runs, unread, too_large, ran, CallsFor, read_fault, too_long, within, CommandCallsFor, WordsCallFor, FilesAfter, FilesInPart, StoreRose, ShelfSteady, SteadyOrReadFault}
+use Rattle.qed_top.specs.Answer.{load_limit, load_limit_line, run_load_limit, run_load_limit_line, usage_line, PrintsOnly, error_status, Transforms, refused, done, refusal_status, memory_bytes, outcome_status, run_of, Runs, unread, too_large, ran, CallsFor, read_fault, too_long, within, CommandCallsFor, WordsCallFor, FilesAfter, FilesInPart, StoreRose, ShelfSteady, SteadyOrReadFault}
 use Rattle.qed_top.specs.Ends.{OverFiles, Call, load_rose, store_rose, sink_rose, KeepsShelf, IsAnswered, EndsOver, Ends, TransformDecides, RunDecides, Decided, CommandDecides, Decides, NoFault, IsComplete}
 use Rattle.qed_top.specs.Ends as decide
 use Rattle.qed_top.specs.declared.answer.Answer.{Answer}

@@ -8,9 +8,8 @@ use Rattle.qed_model.specs.Elf.FileRead.{file_read}
 use Rattle.qed_model.specs.Machine.Loading.{loaded_file}
 use Rattle.qed_model.specs.Options.{default_options}
 use Rattle.transform.specs.Transform.{Promised}
-use Rattle.qed_model.specs.Text.Plan.{usage_line, load_limit, load_limit_line}
 use Rattle.qed_top.specs.Words.{Asked, Transform, asked}
-use Rattle.qed_top.specs.Answer.{PrintsOnly, IsDone, Transforms, refused, done, CallsFor, read_fault, too_long, within, CommandCallsFor, WordsCallFor, FilesAfter}
+use Rattle.qed_top.specs.Answer.{load_limit, load_limit_line, usage_line, PrintsOnly, IsDone, Transforms, refused, done, CallsFor, read_fault, too_long, within, CommandCallsFor, WordsCallFor, FilesAfter}
 use Rattle.qed_top.specs.Ends.{OverFiles, Call, load_rose, EndsOver, Ends}
 use Rattle.qed_top.specs.Headline.{IsPromised, IsDelivered, HoldsHeadline}
 use Rattle.qed_top.specs.declared.answer.Answer.{Answer}

@@ -7,14 +7,14 @@ use Rattle.std.specs.FinMap.{empty, get, insert, get-insert}
 use Rattle.std.proofs.lemmas.List.{length-replicate}
 use Rattle.qed_io.specs.Files.{Files, file_bytes}
 use Rattle.elf_types.specs.declared.file.ElfFile.{ElfFile}
-use Rattle.qed_model.specs.Text.Plan.{read_fault_line, usage_line}
+use Rattle.qed_model.specs.Text.Plan.{read_fault_line}
 use Rattle.qed_model.specs.Text.Run.{run_lines}
 use Rattle.qed_model.specs.Machine.Program.{start, zeros}
 use Rattle.qed_model.specs.Machine.Loading.{loaded_file}
 use Rattle.qed_model.specs.Machine.Progress.{Progress, progress, begun}
 use Rattle.qed_model.specs.declared.machine.Outcome.{Outcome}
 use Rattle.qed_top.specs.Words.{Asked, asked}
-use Rattle.qed_top.specs.Answer.{PrintsOnly, CallsFor, read_fault, too_long, within, CommandCallsFor, WordsCallFor, memory_bytes, memory_limit, default_steps, outcome_status, run_of}
+use Rattle.qed_top.specs.Answer.{usage_line, PrintsOnly, CallsFor, read_fault, too_long, within, CommandCallsFor, WordsCallFor, memory_bytes, memory_limit, default_steps, outcome_status, run_of}
 use Rattle.qed_top.specs.Run.{FileRuns}
 use Rattle.qed_top.specs.Run as run
 use Rattle.qed_top.specs.Ends.{OverFiles}

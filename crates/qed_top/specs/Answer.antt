@@ -1,5 +1,5 @@
 -- What the words and the files call for.
-use Rattle.std.specs.Prelude.{◌≡◌, ◌≢◌, ◌⊎◌, ◌<◌, ◌≤◌, ℕ, ◌+◌, cond, List, [], ◌∷◌, length, Option, None, Some, MatchOption, IfSome, IsSomeAnd}
+use Rattle.std.specs.Prelude.{◌≡◌, ◌≢◌, ◌⊎◌, ◌<◌, ◌≤◌, ℕ, ◌+◌, cond, List, [], ◌∷◌, length, codes, Option, None, Some, MatchOption, IfSome, IsSomeAnd}
 use Rattle.std.specs.FinMap.{insert}
 use Rattle.qed_io.specs.Files.{Files, file_bytes, StoredInPart}
 use Rattle.qed_io.specs.Counts.{NoneChanged}
@@ -19,7 +19,7 @@ use Rattle.qed_model.specs.declared.plan.Plan.{Plan}
 use Rattle.qed_model.specs.Machine.Program.{start, zeros}
 use Rattle.qed_model.specs.Machine.Progress.{Progress, progress, begun}
 use Rattle.qed_model.specs.Machine.Loading.{loaded_file}
-use Rattle.qed_model.specs.Text.Plan.{plan_line, usage_line, read_fault_line, load_limit, load_limit_line, run_load_limit, run_load_limit_line}
+use Rattle.qed_model.specs.Text.Plan.{plan_line, read_fault_line}
 use Rattle.qed_model.specs.Text.Run.{run_lines}
 use Rattle.qed_model.specs.Limits.{limit_of}
 use Rattle.qed_model.specs.declared.limits.Limit.TheVariants as limit
@@ -35,6 +35,24 @@ use Rattle.qed_top.specs.declared.answer.Stored.{Stored}
 use Rattle.qed_top.specs.declared.answer.Answer.{Answer}
 use Rattle.qed_top.specs.declared.status.Status.{Status}
 use Rattle.qed_top.specs.declared.status.Status.TheVariants.{Done, Usage, Refused, Limit, ReadFault, Fired, Trapped, StepsSpent}
+
+-- the line about words that ask for nothing
+abbrev pub usage_line : List ℕ
+usage_line = codes "usage: not built yet\n"
+
+-- the greatest size of a file to be transformed, in bytes, and the line about a file that is longer
+abbrev pub load_limit : ℕ
+load_limit = limit_of limit.FileBytes
+
+abbrev pub load_limit_line : List ℕ
+load_limit_line = limit_line limit.FileBytes 0
+
+-- the same for a file to be run
+abbrev pub run_load_limit : ℕ
+run_load_limit = limit_of limit.RunFileBytes
+
+abbrev pub run_load_limit_line : List ℕ
+run_load_limit_line = limit_line limit.RunFileBytes 0
 
 -- an answer that stores nothing
 pub record PrintsOnly (wanted : Status) (line : List ℕ) (answer : Answer) : Type 0 where

@@ -12,9 +12,8 @@ use Rattle.transform.specs.Transform.{HasCause, IsTransformable}
 use Rattle.qed_model.specs.Options.{default_options}
 use Rattle.qed_model.specs.Elf.File.{IsReadAs}
 use Rattle.qed_model.specs.Elf.Refusals.{IsRefused}
-use Rattle.qed_model.specs.Text.Plan.{load_limit, run_load_limit}
 use Rattle.qed_top.specs.Words.{Asked, Transform, Run, asked, read_name, stored_name}
-use Rattle.qed_top.specs.Answer.{WordsCallFor, FilesAfter, FilesInPart, StoreRose, ShelfSteady, error_status, refusal_status, memory_bytes, memory_limit, outcome_status, run_of}
+use Rattle.qed_top.specs.Answer.{load_limit, run_load_limit, WordsCallFor, FilesAfter, FilesInPart, StoreRose, ShelfSteady, error_status, refusal_status, memory_bytes, memory_limit, outcome_status, run_of}
 use Rattle.qed_top.specs.declared.answer.Answer.{Answer}
 use Rattle.qed_top.specs.declared.status.Status.{Status}
 use Rattle.qed_top.specs.declared.status.Status.TheVariants.{Done, Usage, Limit, ReadFault, WriteFault, Memory}

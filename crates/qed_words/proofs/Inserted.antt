@@ -3,7 +3,7 @@ use Rattle.std.proofs.Common.{◌≡◌, ℕ, ◌+◌, List, [], ◌∷◌, nat_
 use Rattle.std.specs.Prelude.{insert, if◌then◌else◌}
 use Rattle.std.specs.List.{prefix_len}
 use Rattle.qed_model.specs.declared.change.Change.{Change}
-use Rattle.qed_words.specs.Words.{with_change}
+use Rattle.qed_model.specs.Words.{with_change}
 
 pub insert_suc : {A : Type 0} (d : A) (ds : List A) (n : ℕ) (c : A) → insert (d ∷ ds) (1 + n) c ≡ d ∷ insert ds n c
 insert_suc d ds n c = grind arith

@@ -5,16 +5,16 @@ use Rattle.std.specs.Prelude.{Option, Some, None, IfSome, IsSomeAnd, unwrap_or, 
 use Rattle.std.specs.Option.{option_or}
 use Rattle.qed_model.specs.declared.change.Change.{Change}
 use Rattle.qed_model.specs.declared.limits.TheConstants.{MAX_HALF}
-use Rattle.qed_words.specs.declared.orders.Command.{Command}
-use Rattle.qed_words.specs.declared.orders.Command.TheVariants.{Transform, Plan, Run, Campaign, Gen}
-use Rattle.qed_words.specs.declared.orders.Order.{Order}
-use Rattle.qed_words.specs.declared.orders.Key.{Key}
-use Rattle.qed_words.specs.declared.orders.Key.TheVariants.{InstMin, InstMax, Round, Half, Steps, Fault, Dump, Seed, Count, Size, Changes}
-use Rattle.qed_words.specs.declared.orders.Reason.{Reason}
-use Rattle.qed_words.specs.declared.orders.Reason.TheVariants.{MissingFile, MissingOption, OutOfRange, Split}
+use Rattle.qed_model.specs.declared.order.Command.{Command}
+use Rattle.qed_model.specs.declared.order.Command.TheVariants.{Transform, Plan, Run, Campaign, Gen}
+use Rattle.qed_model.specs.declared.order.Order.{Order}
+use Rattle.qed_model.specs.declared.order.Key.{Key}
+use Rattle.qed_model.specs.declared.order.Key.TheVariants.{InstMin, InstMax, Round, Half, Steps, Fault, Dump, Seed, Count, Size, Changes}
+use Rattle.qed_model.specs.declared.order.Reason.{Reason}
+use Rattle.qed_model.specs.declared.order.Reason.TheVariants.{MissingFile, MissingOption, OutOfRange, Split}
 use Rattle.qed_model.specs.Promise.Changed.{Ordered}
 use Rattle.qed_model.specs.Weave.Places.{AreSoundOptions}
-use Rattle.qed_words.specs.Words.{Argument, asked, asked_of, answer, colon, fault, first_wrong, parted, span_in, arguments, command_of, dump, first_reason, first_wrong_value, is_in_range, keys_of, lacks, missing, number, number_given, options, order_of, reason_of, span_of, split_reason, value_of, values, with_change, wrong_number, wrong_value, wrong_values, changes_given}
+use Rattle.qed_model.specs.Words.{Argument, asked, asked_of, answer, colon, fault, first_wrong, parted, span_in, arguments, command_of, dump, first_reason, first_wrong_value, is_in_range, keys_of, lacks, missing, number, number_given, options, order_of, reason_of, span_of, split_reason, value_of, values, with_change, wrong_number, wrong_value, wrong_values, changes_given}
 use Rattle.qed_words.specs.Sound.{IsSoundOrder}
 
 -- ---- where there is no reason

@@ -1,4 +1,3 @@
-pub mod Words
 pub mod Seen
 pub mod Sound
 pub mod WordsError

@@ -1,8 +1,8 @@
 -- What the calls that carry out an order ask of it.
 use Rattle.std.specs.Prelude.{ℕ, ◌+◌, ◌^◌, ◌≤◌, List, Option, IfSome}
 use Rattle.qed_model.specs.declared.change.Change.{Change}
-use Rattle.qed_words.specs.declared.orders.Order.{Order}
-use Rattle.qed_words.specs.declared.orders.Order.TheVariants.{Transform, Plan, Run, Campaign, Gen}
+use Rattle.qed_model.specs.declared.order.Order.{Order}
+use Rattle.qed_model.specs.declared.order.Order.TheVariants.{Transform, Plan, Run, Campaign, Gen}
 use Rattle.qed_model.specs.Promise.Changed.{Ordered}
 use Rattle.qed_model.specs.Weave.Places.{AreSoundOptions}
 

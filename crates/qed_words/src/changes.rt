@@ -1,15 +1,14 @@
 //! The changes that faults ask for.
 ghost use Rattle.std.specs.Prelude.{◌≡◌, ◌≤◌, IfOk, OnOk, option_and_then, length, map, nat_le};
 ghost use Rattle.std.specs.List.{prefix_len};
-ghost use Rattle.qed_words.specs.declared.orders.Key.TheVariants as key;
-ghost use Rattle.qed_words.specs.Words.{fault as fault_of, value_in as value_in_of, with_change, changes_given};
+ghost use Rattle.qed_model.specs.declared.order.Key.TheVariants as key;
+ghost use Rattle.qed_model.specs.Words.{fault as fault_of, value_in as value_in_of, with_change, changes_given};
 ghost use Rattle.qed_words.specs.Seen.{seen};
 
 use crate::argument::Argument;
 use crate::given::value_in;
-use crate::orders::{Changes, Key};
 use crate::shape::fault;
-use qed_model::Change;
+use qed_model::{Change, Changes, Key};
 use std::alloc::{AllocError, Global};
 
 /// How many changes from the first on have a step that is not greater.
@@ -37,7 +36,7 @@ fn change_in(argument: Argument<'_>) -> Option<Change>
 }
 
 /// The changes that arguments ask for, in the order of their steps and then of the words.
-#[tactic(auto, unfolding(crate::specs::Words::values, crate::specs::Words::changes_given))]
+#[tactic(auto, unfolding(qed_model::specs::Words::values, qed_model::specs::Words::changes_given))]
 pub fn changes(alloc: Global, arguments: &[Argument<'_>]) -> Result<Changes, AllocError>
     ensures { IfOk result (λ changes. changes ≡ changes_given (map seen arguments.now)) }
 {

@@ -1,8 +1,8 @@
 //! Commands and their options.
 ghost use Rattle.std.specs.Prelude.{◌≡◌};
-ghost use Rattle.qed_words.specs.Words.{command_of, file_count as file_count_of, keys_of, required_of, has_flags as has_flags_of, most_of, name_of, key_named as key_named_of, is_flag as is_flag_of};
+ghost use Rattle.qed_model.specs.Words.{command_of, file_count as file_count_of, keys_of, required_of, has_flags as has_flags_of, most_of, key_named as key_named_of, is_flag as is_flag_of};
 
-use crate::orders::{Command, Key};
+use qed_model::{Command, Key};
 
 /// The command of this name.
 pub fn command_named(word: &str) -> Option<Command>
@@ -86,32 +86,13 @@ pub fn most(key: Key) -> usize
     }
 }
 
-/// An option's name, without its dashes.
-pub fn key_name(key: Key) -> &'static [u8]
-    ensures { result.now ≡ name_of key }
-{
-    match key {
-        Key::InstMin => b"inst-min",
-        Key::InstMax => b"inst-max",
-        Key::Round => b"round",
-        Key::Half => b"half",
-        Key::Steps => b"steps",
-        Key::Fault => b"fault",
-        Key::Dump => b"dump",
-        Key::Seed => b"seed",
-        Key::Count => b"count",
-        Key::Size => b"size",
-        Key::Changes => b"changes",
-    }
-}
-
 /// The option of a command with this name.
-#[tactic(auto, unfolding(crate::specs::Words::key_named))]
+#[tactic(auto, unfolding(qed_model::specs::Words::key_named))]
 pub fn key_named(command: Command, name: &[u8]) -> Option<Key>
     ensures { result ≡ key_named_of command name.now }
 {
     for &key in keys(command) {
-        if key_name(key) == name {
+        if key.name().as_bytes() == name {
             return Some(key);
         }
     }

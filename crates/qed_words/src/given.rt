@@ -1,13 +1,12 @@
 //! What was given.
 ghost use Rattle.std.specs.Prelude.{◌≡◌, ◌≤◌, IfOk, map, length};
 ghost use Rattle.std.specs.Option.{option_copied};
-ghost use Rattle.qed_words.specs.Words.{name_in as name_in_of, files, file as file_of, value_in as value_in_of, values, value_of, is_flag_named as is_flag_named_of, has_flag as has_flag_of, number_given as number_given_of};
+ghost use Rattle.qed_model.specs.Words.{name_in as name_in_of, files, file as file_of, value_in as value_in_of, values, value_of, is_flag_named as is_flag_named_of, has_flag as has_flag_of, number_given as number_given_of};
 ghost use Rattle.qed_words.specs.Seen.{seen};
 
 use crate::argument::Argument;
-use crate::commands::key_name;
 use crate::number::number;
-use crate::orders::Key;
+use qed_model::Key;
 
 fn name_in<'a>(argument: Argument<'a>) -> Option<&'a str>
     ensures { option_copied result ≡ name_in_of (seen argument.entry) }
@@ -19,7 +18,7 @@ fn name_in<'a>(argument: Argument<'a>) -> Option<&'a str>
 }
 
 /// How many files were given.
-#[tactic(auto, unfolding(crate::specs::Words::files))]
+#[tactic(auto, unfolding(qed_model::specs::Words::files))]
 pub fn count_files(arguments: &[Argument<'_>]) -> usize
     ensures { result ≡ length (files (map seen arguments.now)) }
 {
@@ -38,7 +37,7 @@ pub fn value_in<'a>(key: Key, argument: Argument<'a>) -> Option<&'a [u8]>
 {
     match argument {
         Argument::Given(_, other, value) => {
-            if key_name(other) == key_name(key) {
+            if other.name() == key.name() {
                 Some(value)
             } else {
                 None
@@ -49,7 +48,7 @@ pub fn value_in<'a>(key: Key, argument: Argument<'a>) -> Option<&'a [u8]>
 }
 
 /// How often an option was given.
-#[tactic(auto, unfolding(crate::specs::Words::values))]
+#[tactic(auto, unfolding(qed_model::specs::Words::values))]
 pub fn count_values(key: Key, arguments: &[Argument<'_>]) -> usize
     ensures { result ≡ length (values key (map seen arguments.now)) }
 {
@@ -63,7 +62,7 @@ pub fn count_values(key: Key, arguments: &[Argument<'_>]) -> usize
 }
 
 /// The first value that an option was given.
-#[tactic(auto, unfolding(crate::specs::Words::values, crate::specs::Words::value_of))]
+#[tactic(auto, unfolding(qed_model::specs::Words::values, qed_model::specs::Words::value_of))]
 pub fn first_value<'a>(key: Key, arguments: &[Argument<'a>]) -> Option<&'a [u8]>
     ensures { option_copied result ≡ value_of key (map seen arguments.now) }
 {
@@ -77,7 +76,7 @@ pub fn first_value<'a>(key: Key, arguments: &[Argument<'a>]) -> Option<&'a [u8]>
 }
 
 /// The number that an option was given.
-#[tactic(auto, unfolding(crate::specs::Words::number_given))]
+#[tactic(auto, unfolding(qed_model::specs::Words::number_given))]
 pub fn number_given(key: Key, arguments: &[Argument<'_>]) -> Option<u64>
     ensures { result ≡ number_given_of key (map seen arguments.now) }
 {
@@ -94,7 +93,7 @@ fn is_flag_named(name: &[u8], argument: Argument<'_>) -> bool
 }
 
 /// Whether an option without a value was given.
-#[tactic(auto, unfolding(crate::specs::Words::has_flag))]
+#[tactic(auto, unfolding(qed_model::specs::Words::has_flag))]
 pub fn has_flag(name: &[u8], arguments: &[Argument<'_>]) -> bool
     ensures { result ≡ has_flag_of name.now (map seen arguments.now) }
 {
@@ -107,7 +106,7 @@ pub fn has_flag(name: &[u8], arguments: &[Argument<'_>]) -> bool
 }
 
 /// The name of file number `place`, empty where there is none.
-#[tactic(auto, unfolding(crate::specs::Words::files, crate::specs::Words::file))]
+#[tactic(auto, unfolding(qed_model::specs::Words::files, qed_model::specs::Words::file))]
 pub fn file<'a>(arguments: &[Argument<'a>], place: usize) -> &'a str
     ensures { result.now ≡ file_of (map seen arguments.now) place }
 {

@@ -9,7 +9,6 @@ mod error;
 mod given;
 mod number;
 mod options;
-mod orders;
 mod parts;
 mod reason;
 mod shape;
@@ -18,5 +17,4 @@ mod words;
 mod wrong;
 
 pub use error::WordsError;
-pub use orders::{Changes, Command, Key, Name, Order, Reason};
 pub use words::order;

@@ -1,6 +1,6 @@
 //! The shapes of faults and dumps.
 ghost use Rattle.std.specs.Prelude.{◌≡◌};
-ghost use Rattle.qed_words.specs.Words.{register_numbered, register as register_of, place as place_of, fault as fault_of, dump as dump_of};
+ghost use Rattle.qed_model.specs.Words.{register_numbered, register as register_of, place as place_of, fault as fault_of, dump as dump_of};
 
 use crate::number::{digits, number};
 use crate::parts::split_once;
@@ -18,7 +18,7 @@ fn numbered(number: u64) -> Option<Reg>
 }
 
 /// A register from x1 to x31, from its number in decimal without leading zeros.
-#[tactic(auto, unfolding(crate::specs::Words::register))]
+#[tactic(auto, unfolding(qed_model::specs::Words::register))]
 fn register(text: &[u8]) -> Option<Reg>
     ensures { result ≡ register_of text.now }
 {
@@ -29,7 +29,7 @@ fn register(text: &[u8]) -> Option<Reg>
 }
 
 /// A register, or the address of an aligned word.
-#[tactic(auto, unfolding(crate::specs::Words::place))]
+#[tactic(auto, unfolding(qed_model::specs::Words::place))]
 fn place(text: &[u8]) -> Option<Place>
     ensures { result ≡ place_of text.now }
 {
@@ -48,7 +48,7 @@ fn place(text: &[u8]) -> Option<Place>
 }
 
 /// The change that a fault asks for: `STEP:PLACE=V`.
-#[tactic(auto, unfolding(crate::specs::Words::fault))]
+#[tactic(auto, unfolding(qed_model::specs::Words::fault))]
 pub fn fault(text: &[u8]) -> Option<Change>
     ensures { result ≡ fault_of text.now }
 {
@@ -62,7 +62,7 @@ pub fn fault(text: &[u8]) -> Option<Change>
 }
 
 /// The address and the length of a dump: `ADDR:LEN`.
-#[tactic(auto, unfolding(crate::specs::Words::dump))]
+#[tactic(auto, unfolding(qed_model::specs::Words::dump))]
 pub fn dump(text: &[u8]) -> Option<(u64, u64)>
     ensures { result ≡ dump_of text.now }
 {

@@ -1,15 +1,15 @@
 //! What is wrong with a value.
 ghost use Rattle.std.specs.Prelude.{◌≡◌, map};
-ghost use Rattle.qed_words.specs.Words.{is_in_range as is_in_range_of, wrong_number as wrong_number_of, wrong_value as wrong_value_of, wrong_values as wrong_values_of, first_wrong_value as first_wrong_value_of};
+ghost use Rattle.qed_model.specs.Words.{is_in_range as is_in_range_of, wrong_number as wrong_number_of, wrong_value as wrong_value_of, wrong_values as wrong_values_of, first_wrong_value as first_wrong_value_of};
 ghost use Rattle.qed_words.specs.Seen.{seen};
 
 use crate::argument::Argument;
 use crate::commands::keys;
 use crate::given::value_in;
 use crate::number::number;
-use crate::orders::{Command, Key, Reason};
 use crate::shape::{dump, fault};
 use qed_model::limits::MAX_HALF;
+use qed_model::{Command, Key, Reason};
 
 /// Whether a number is in an option's range.
 fn is_in_range(key: Key, number: u64) -> bool
@@ -36,7 +36,7 @@ fn wrong_number(key: Key, number: Option<u64>) -> Option<Reason>
 }
 
 /// What is wrong with an option's value.
-#[tactic(auto, unfolding(crate::specs::Words::wrong_value))]
+#[tactic(auto, unfolding(qed_model::specs::Words::wrong_value))]
 fn wrong_value(key: Key, value: &[u8]) -> Option<Reason>
     ensures { result ≡ wrong_value_of key value.now }
 {
@@ -48,7 +48,7 @@ fn wrong_value(key: Key, value: &[u8]) -> Option<Reason>
 }
 
 /// What is wrong with the first value of an option of which something is.
-#[tactic(auto, unfolding(crate::specs::Words::values, crate::specs::Words::wrong_values))]
+#[tactic(auto, unfolding(qed_model::specs::Words::values, qed_model::specs::Words::wrong_values))]
 fn wrong_values(arguments: &[Argument<'_>], key: Key) -> Option<Reason>
     ensures { result ≡ wrong_values_of (map seen arguments.now) key }
 {
@@ -64,7 +64,7 @@ fn wrong_values(arguments: &[Argument<'_>], key: Key) -> Option<Reason>
 }
 
 /// What is wrong with the values of the first option, in the command's order, of which something is.
-#[tactic(auto, unfolding(crate::specs::Words::first_wrong_value))]
+#[tactic(auto, unfolding(qed_model::specs::Words::first_wrong_value))]
 pub fn first_wrong_value(command: Command, arguments: &[Argument<'_>]) -> Option<Reason>
     ensures { result ≡ first_wrong_value_of command (map seen arguments.now) }
 {

@@ -1,7 +1,7 @@
 //! The order that words ask for.
 ghost use Rattle.std.specs.Prelude.{◌≡◌, Ok, IfOk, IfErr, map, option_and_then};
-ghost use Rattle.qed_words.specs.declared.orders.Key.TheVariants as key;
-ghost use Rattle.qed_words.specs.Words.{texts, dump as dump_of, value_of, file as file_of, order_of, asked};
+ghost use Rattle.qed_model.specs.declared.order.Key.TheVariants as key;
+ghost use Rattle.qed_model.specs.Words.{texts, dump as dump_of, value_of, file as file_of, order_of, asked};
 ghost use Rattle.qed_words.specs.Seen.{seen};
 ghost use Rattle.qed_words.specs.Sound.{IsSoundOrder};
 ghost use Rattle.qed_words.specs.WordsError.{Explains};
@@ -13,9 +13,9 @@ use crate::commands::command_named;
 use crate::error::WordsError;
 use crate::given::{file, first_value, number_given};
 use crate::options::options;
-use crate::orders::{Command, Key, Name, Order, Reason};
 use crate::reason::first_reason;
 use crate::shape::dump;
+use qed_model::{Command, Key, Name, Order, Reason};
 use std::alloc::{AllocError, Global};
 
 /// The steps of a run where no option says otherwise.
@@ -36,7 +36,7 @@ fn dump_given(arguments: &[Argument<'_>]) -> Option<(u64, u64)>
 }
 
 /// The order that arguments ask for, where nothing is wrong with them.
-#[tactic(auto, unfolding(crate::specs::Words::order_of))]
+#[tactic(auto, unfolding(qed_model::specs::Words::order_of))]
 fn make_order(
     alloc: Global,
     command: Command,
@@ -70,7 +70,7 @@ fn make_order(
 }
 
 /// What the words of the command line ask for. The first word names the command.
-#[tactic(auto, unfolding(crate::specs::Words::asked))]
+#[tactic(auto, unfolding(qed_model::specs::Words::asked))]
 pub fn order(alloc: Global, words: &[String]) -> Result<Order, WordsError>
     ensures order { IfOk result (λ order. asked (texts words.now) ≡ Ok order) }
     ensures sound { IfOk result IsSoundOrder }

@@ -1,7 +1,8 @@
 //! No word at all, and as many faults as there may be.
 
 use crate::lines::words;
-use qed_words::{Order, Reason, WordsError, order};
+use qed_model::{Order, Reason};
+use qed_words::{WordsError, order};
 use std::alloc::{AllocError, Global};
 use std::test::Fail;
 

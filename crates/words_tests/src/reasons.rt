@@ -3,10 +3,10 @@
 use crate::lines::compare;
 use crate::wanted::Case;
 use crate::wanted::Want::No;
-use qed_words::Key::{
+use qed_model::Key::{
     Changes, Count, Dump, Fault, Half, InstMax, InstMin, Round, Seed, Size, Steps,
 };
-use qed_words::Reason::{
+use qed_model::Reason::{
     BadNumber, BadShape, EmptyWord, ExtraWord, MissingFile, MissingOption, MissingValue,
     OutOfRange, Repeated, Split, UnknownCommand, UnknownOption,
 };

@@ -1,7 +1,7 @@
 //! What is wanted of a command line.
 
-use qed_model::{Change, Options, Place};
-use qed_words::{Order, Reason, WordsError};
+use qed_model::{Change, Options, Order, Place, Reason};
+use qed_words::WordsError;
 
 /// Where a change is made: a register by its number, or a word by its address.
 #[derive(Clone, Copy, Debug, PartialEq, Eq)]

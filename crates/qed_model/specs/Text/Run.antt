@@ -1,10 +1,12 @@
 -- What is printed about a run. Each line ends with a newline.
-use Rattle.std.specs.Prelude.{ℕ, zero, suc, ◌-◌, ◌^◌, List, [], ◌++◌, codes, false}
+use Rattle.std.specs.Prelude.{ℕ, zero, suc, ◌+◌, ◌-◌, ◌*◌, ◌/◌, ◌^◌, min, List, [], ◌++◌, codes, false, Option, Some, None, option_map}
+use Rattle.std.specs.FinMap.{get}
 use Rattle.std.specs.Fmt.{decimal, digits, padded_integral, format_spec}
 use Rattle.qed_model.specs.declared.machine.Cause.{Cause}
 use Rattle.qed_model.specs.declared.machine.Cause.TheVariants.{Fetch, Word, Load, Store, Target}
 use Rattle.qed_model.specs.declared.machine.Outcome.{Outcome}
 use Rattle.qed_model.specs.declared.machine.Outcome.TheVariants.{Going, Ended, Fired, Trapped}
+use Rattle.qed_model.specs.Machine.Memory.{Memory}
 use Rattle.qed_model.specs.Machine.Step.{State, reg}
 use Rattle.qed_model.specs.Machine.Progress.{Progress}
 
@@ -46,6 +48,34 @@ unfoldable pub register_lines : State → ℕ → List ℕ
 register_lines s zero = []
 register_lines s (suc n) = register_lines s n ++ register_line s (suc n)
 
+-- a byte in two digits, and `--` where it is not mapped
+abbrev pub byte_text : Option ℕ → List ℕ
+byte_text None = codes " --"
+byte_text (Some b) = codes " " ++ hex_digits 2 b
+
+-- the bytes from an address on
+unfoldable pub byte_texts : Memory → ℕ → ℕ → List ℕ
+byte_texts m a zero = []
+byte_texts m a (suc n) = byte_texts m a n ++ byte_text (option_map (λ c. c.byte) (get m (a + n)))
+
+-- the first address, and the bytes
+abbrev pub dump_line : Memory → ℕ → ℕ → List ℕ
+dump_line m a n = hex_text a ++ (byte_texts m a n ++ codes "\n")
+
+-- the first k lines about n bytes, 16 to a line
+unfoldable pub dump_lines : Memory → ℕ → ℕ → ℕ → List ℕ
+dump_lines m a n zero = []
+dump_lines m a n (suc k) = dump_lines m a n k ++ dump_line m (a + 16 * k) (min 16 (n - 16 * k))
+
+-- what a dump shows, by its address and its length in bytes
+abbrev pub dump_text : Memory → Option (ℕ × ℕ) → List ℕ
+dump_text m None = []
+dump_text m (Some d) = dump_lines m d.0 d.1 ((d.1 + 15) / 16)
+
 -- a run: its outcome, and the registers x1 to x31
 abbrev pub run_lines : Progress → List ℕ
 run_lines p = outcome_line p ++ register_lines p.state 31
+
+-- the same, and what a dump shows
+abbrev pub run_text : Progress → Option (ℕ × ℕ) → List ℕ
+run_text p dump = run_lines p ++ dump_text p.state.memory dump

@@ -1,6 +1,6 @@
 use Rattle.std.proofs.Common.{List, ℕ}
 use Rattle.qed_io.specs.Counts.{RoseAt}
-use Rattle.qed_model.specs.Text.Plan.{run_load_limit, run_load_limit_line}
+use Rattle.qed_top.specs.Answer.{run_load_limit, run_load_limit_line}
 use Rattle.qed_top.specs.Answer.{Runs}
 use Rattle.qed_top.proofs.Meanings.{over_bytes, over_other}
 use Rattle.qed_top.proofs.decide.decide_run.Goals as goal

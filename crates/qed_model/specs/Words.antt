@@ -9,14 +9,14 @@ use Rattle.qed_model.specs.declared.change.Place.TheVariants.{Reg, Word}
 use Rattle.qed_model.specs.declared.change.Change.{Change}
 use Rattle.qed_model.specs.declared.limits.TheConstants.{MAX_HALF}
 use Rattle.qed_model.specs.declared.options.Options.{Options}
-use Rattle.qed_words.specs.declared.orders.Command.{Command}
-use Rattle.qed_words.specs.declared.orders.Command.TheVariants.{Transform, Plan, Run, Campaign, Gen}
-use Rattle.qed_words.specs.declared.orders.Order.{Order}
-use Rattle.qed_words.specs.declared.orders.Order.TheVariants as order
-use Rattle.qed_words.specs.declared.orders.Key.{Key}
-use Rattle.qed_words.specs.declared.orders.Key.TheVariants.{InstMin, InstMax, Round, Half, Steps, Fault, Dump, Seed, Count, Size, Changes}
-use Rattle.qed_words.specs.declared.orders.Reason.{Reason}
-use Rattle.qed_words.specs.declared.orders.Reason.TheVariants.{NoCommand, UnknownCommand, EmptyWord, UnknownOption, Repeated, MissingValue, ExtraWord, MissingFile, MissingOption, BadNumber, BadShape, OutOfRange, Split}
+use Rattle.qed_model.specs.declared.order.Command.{Command}
+use Rattle.qed_model.specs.declared.order.Command.TheVariants.{Transform, Plan, Run, Campaign, Gen}
+use Rattle.qed_model.specs.declared.order.Order.{Order}
+use Rattle.qed_model.specs.declared.order.Order.TheVariants as order
+use Rattle.qed_model.specs.declared.order.Key.{Key}
+use Rattle.qed_model.specs.declared.order.Key.TheVariants.{InstMin, InstMax, Round, Half, Steps, Fault, Dump, Seed, Count, Size, Changes}
+use Rattle.qed_model.specs.declared.order.Reason.{Reason}
+use Rattle.qed_model.specs.declared.order.Reason.TheVariants.{NoCommand, UnknownCommand, EmptyWord, UnknownOption, Repeated, MissingValue, ExtraWord, MissingFile, MissingOption, BadNumber, BadShape, OutOfRange, Split}
 use Rattle.qed_model.specs.Options.{default_options}
 
 -- ---- words and bytes

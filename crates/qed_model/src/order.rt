@@ -1,40 +1,8 @@
 //! What the words of the command line ask for.
-ghost use Rattle.std.specs.Prelude.{◌≡◌, ℕ, List, string_bytes};
+ghost use Rattle.std.specs.Prelude.{◌≡◌};
+ghost use Rattle.qed_model.specs.Words.{name_of};
 
-use elf_types::Listed;
-use qed_model::{Change, Options};
-use std::marker::Model;
-
-/// The name of a file, which contracts see as its bytes.
-#[derive(Debug, Drop)]
-pub struct Name {
-    text: String,
-}
-
-impl Model for Name {
-    ghost Value = { List ℕ };
-
-    ghost view = { λ n. string_bytes n.text };
-}
-
-impl Name {
-    /// The name with this text.
-    pub fn of(text: String) -> Name
-        ensures { result ≡ string_bytes text }
-    {
-        Name { text }
-    }
-
-    /// The text of the name.
-    pub fn as_str(&self) -> &str
-        ensures { result.now ≡ self.now }
-    {
-        self.text.as_str()
-    }
-}
-
-/// Changes in the order in which they are made.
-pub type Changes = Listed<Change>;
+use crate::{Changes, Name, Options};
 
 /// A command, without its files and options.
 #[derive(Clone, Copy, Debug, PartialEq, Eq)]
@@ -76,6 +44,27 @@ pub enum Key {
     Count,
     Size,
     Changes,
+}
+
+impl Key {
+    /// The option's name, without its dashes.
+    pub fn name(self) -> &'static str
+        ensures { result.now ≡ name_of self }
+    {
+        match self {
+            Key::InstMin => "inst-min",
+            Key::InstMax => "inst-max",
+            Key::Round => "round",
+            Key::Half => "half",
+            Key::Steps => "steps",
+            Key::Fault => "fault",
+            Key::Dump => "dump",
+            Key::Seed => "seed",
+            Key::Count => "count",
+            Key::Size => "size",
+            Key::Changes => "changes",
+        }
+    }
 }
 
 /// Why words ask for nothing. A number is that of a word; word 0 names the command.

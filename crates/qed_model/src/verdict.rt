@@ -1,0 +1,26 @@
+//! What a strike shows: changes of an output's run, and what came of them.
+
+use crate::Changes;
+
+/// What came of a strike. Steps are counted from its last change.
+#[derive(Clone, Copy, Debug, PartialEq, Eq)]
+pub enum Verdict {
+    /// A changed place was closed: a wrong value there may reach memory or a branch before any check.
+    Closed,
+    /// The output had stopped before the last change.
+    NotReached,
+    /// A check fired after so many steps.
+    Fired(u64),
+    /// The output ended after so many steps.
+    Ended(u64),
+    /// All original values were again those of the run without changes.
+    Same,
+}
+
+/// A strike and what came of it.
+#[derive(Debug, Drop)]
+pub struct Struck {
+    /// The changes, in the order of their steps.
+    pub changes: Changes,
+    pub verdict: Verdict,
+}
