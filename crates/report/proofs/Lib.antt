@@ -1,2 +1,5 @@
+pub mod DumpLines
+pub mod PlanNumbers
 pub mod RegisterLines
 pub mod Ends
+pub mod Tallies

@@ -1,1 +1,3 @@
 pub mod Admission
+pub mod Plan
+pub mod Tally

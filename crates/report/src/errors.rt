@@ -1,6 +1,7 @@
-//! What is printed where a file is refused.
+//! What is printed where a file is refused, or could not be read.
 ghost use Rattle.std.specs.Prelude.{◌≡◌, ◌≢◌, Some, IfOk, OnOk, string_bytes};
 ghost use Rattle.qed_model.specs.Text.Errors.{part_line, error_line};
+ghost use Rattle.qed_model.specs.Text.Plan.{read_fault_line};
 
 use crate::limits::limit_line;
 use elf_types::{Bytes, ElfError, Part};
@@ -54,4 +55,11 @@ pub fn error_text(alloc: Global, error: ElfError) -> Result<Bytes, AllocError>
 {
     let text = header_text(alloc, error)?;
     Ok(Bytes::of(text.into_bytes()))
+}
+
+/// The line about a file that could not be read.
+pub fn read_fault_text(alloc: Global) -> Result<Bytes, AllocError>
+    ensures { IfOk result (λ text. text ≡ read_fault_line) }
+{
+    Bytes::copied(alloc, b"read fault\n")
 }

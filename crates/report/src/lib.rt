@@ -2,16 +2,24 @@
 #![tactic(auto)]
 
 mod admission;
+mod campaign;
+mod dump;
 mod errors;
 mod hex;
 mod limits;
+mod plan;
 mod run;
+mod tally;
 #[cfg(test)]
 mod tests;
 mod transform;
+mod usage;
 
 pub use admission::admit_text;
-pub use errors::error_text;
+pub use campaign::campaign_text;
+pub use errors::{error_text, read_fault_text};
 pub use limits::limit_text;
+pub use plan::plan_text;
 pub use run::run_text;
 pub use transform::transform_text;
+pub use usage::usage_text;

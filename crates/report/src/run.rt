@@ -1,7 +1,8 @@
 //! What is printed about a run.
-ghost use Rattle.std.specs.Prelude.{◌≡◌, ◌<◌, Some, IfOk, string_bytes};
-ghost use Rattle.qed_model.specs.Text.Run.{cause_text, outcome_text, outcome_line, register_line, run_lines};
+ghost use Rattle.std.specs.Prelude.{◌≡◌, ◌+◌, ◌^◌, ◌<◌, ◌≤◌, Some, IfSome, IfOk, string_bytes};
+ghost use Rattle.qed_model.specs.Text.Run.{cause_text, outcome_text, outcome_line, register_line, run_lines, run_text};
 
+use crate::dump::dump_text;
 use crate::hex::{Hex, HexWord};
 use elf_types::Bytes;
 use qed_model::{Cause, Outcome};
@@ -80,15 +81,32 @@ fn register_text(alloc: Global, machine: &Machine, number: u8) -> Result<String,
     format!(in alloc; "x{number} {value}\n")
 }
 
-/// What is printed about a run: how it stands, after how many steps, at which pc, and then the registers x1 to x31,
-/// a line each.
-pub fn run_text(alloc: Global, machine: &Machine) -> Result<Bytes, AllocError>
-    ensures { IfOk result (λ text. text ≡ run_lines machine.now) }
+/// How a run stands, after how many steps, at which pc, and then the registers x1 to x31, a line each.
+fn run_lines(alloc: Global, machine: &Machine) -> Result<Vec<u8>, AllocError>
+    ensures { IfOk result (λ text. text.items ≡ run_lines machine.now) }
 {
     let mut text = outcome_text(alloc, machine)?.into_bytes();
     for number in 1..32 {
         let line = register_text(alloc, machine, number)?;
         text.extend_from_slice(line.as_bytes())?;
+    }
+    Ok(text)
+}
+
+/// What is printed about a run: how it stands, after how many steps, at which pc, then the registers x1 to x31, a line
+/// each, and then the bytes of a dump, by its address and its length in bytes, 16 to a line.
+pub fn run_text(
+    alloc: Global,
+    machine: &Machine,
+    dump: Option<(u64, u64)>,
+) -> Result<Bytes, AllocError>
+    requires { IfSome dump (λ d. (1 ≤ d.1) × (d.1 ≤ 65536) × (d.0 + d.1 ≤ 2 ^ 64)) }
+    ensures { IfOk result (λ text. text ≡ run_text machine.now dump) }
+{
+    let mut text = run_lines(alloc, machine)?;
+    if let Some((address, length)) = dump {
+        let shown = dump_text(alloc, machine, address, length)?;
+        text.extend_from_slice(&shown)?;
     }
     Ok(Bytes::of(text))
 }

@@ -38,7 +38,7 @@ impl fmt::Display for Sizes {
 /// The bounds of an output in steps, printed as `register bound R, word bound B`. The word bound is None where there is
 /// no data word.
 #[derive(Clone, Copy, Debug)]
-struct BoundsText {
+pub struct BoundsText {
     pub register: u64,
     pub word: Option<u64>,
 }

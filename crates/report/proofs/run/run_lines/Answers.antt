@@ -1,7 +1,7 @@
 use Rattle.std.proofs.Common.{sym, ap, ◌∙◌, ◌-◌, ◌++◌}
 use Rattle.qed_model.specs.Text.Run.{outcome_line, register_lines}
 use Rattle.report.proofs.RegisterLines.{no_lines, more_lines}
-use Rattle.report.proofs.run.run_text.Goals as goal
+use Rattle.report.proofs.run.run_lines.Goals as goal
 
 pub loop-number-init : goal.loop-number-init
 loop-number-init c = ap (λ v. v.items) c.into_bytes-text.ensures.value ∙ c.in_ok-outcome_text.ensures ∙ sym (no_lines (outcome_line c.args.machine.now) c.args.machine.now.state)

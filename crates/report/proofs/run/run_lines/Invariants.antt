@@ -1,6 +1,6 @@
 use Rattle.std.proofs.Common.{◌≡◌, ◌-◌, ◌++◌}
 use Rattle.qed_model.specs.Text.Run.{outcome_line, register_lines}
-use Rattle.report.proofs.run.run_text.Given as goal
+use Rattle.report.proofs.run.run_lines.Given as goal
 
 -- the lines so far
 abbrev pub invariant-loop-number : goal.invariant-loop-number

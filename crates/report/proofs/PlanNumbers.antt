@@ -1,0 +1,23 @@
+-- All numbers of a plan are whole.
+use Rattle.std.proofs.Common.{◌≡◌, ℕ, List, [], ◌∷◌, Option, Some, None, map, refl, false}
+use Rattle.serde_json.specs.View.{items_of}
+use Rattle.serde_json.specs.Written.{has_float, items_have_float}
+use Rattle.qed_model.specs.declared.plan.EntryRow.{EntryRow}
+use Rattle.qed_model.specs.declared.plan.PieceRow.{PieceRow}
+use Rattle.qed_model.specs.declared.plan.Plan.{Plan}
+use Rattle.report.specs.Plan.{bound_data, entry_data, piece_data, plan_data}
+
+bound_whole : (bound : Option ℕ) → has_float (bound_data bound) ≡ false
+bound_whole None = refl
+bound_whole (Some n) = refl
+
+entries_whole : (rows : List EntryRow) → items_have_float (items_of (map entry_data rows)) ≡ false
+entries_whole [] = refl
+entries_whole (row ∷ rows) = entries_whole rows
+
+pieces_whole : (rows : List PieceRow) → items_have_float (items_of (map piece_data rows)) ≡ false
+pieces_whole [] = refl
+pieces_whole (row ∷ rows) = pieces_whole rows
+
+pub plan_whole : (plan : Plan) → has_float (plan_data plan) ≡ false
+plan_whole plan = rw (bound_whole plan.bounds.word, entries_whole plan.entries, pieces_whole plan.pieces) refl

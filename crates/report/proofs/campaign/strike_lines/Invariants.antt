@@ -1,0 +1,7 @@
+use Rattle.std.proofs.Common.{◌≡◌, ◌++◌, drop}
+use Rattle.qed_model.specs.Text.Campaign.{strike_lines}
+use Rattle.report.proofs.campaign.strike_lines.Given as goal
+
+-- the lines so far and those of the rest are all
+abbrev pub invariant-loop-number : goal.invariant-loop-number
+invariant-loop-number l = l.text.items ++ strike_lines l.number (drop l.number l.strikes) ≡ strike_lines 0 l.strikes

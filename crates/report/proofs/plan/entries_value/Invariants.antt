@@ -1,0 +1,8 @@
+use Rattle.std.proofs.Common.{◌≡◌, map, take}
+use Rattle.serde_json.specs.View.{view}
+use Rattle.report.specs.Plan.{entry_data}
+use Rattle.report.proofs.plan.entries_value.Given as goal
+
+-- the rows so far
+abbrev pub invariant-loop-row : goal.invariant-loop-row
+invariant-loop-row l = map view l.entries.items ≡ map entry_data (take l.row-index l.rows)

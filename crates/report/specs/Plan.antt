@@ -1,0 +1,44 @@
+-- What is printed of a plan: one JSON object on one line, its keys in the order of their bytes.
+use Rattle.std.specs.Prelude.{ℕ, List, ◌++◌, map, codes, Option, Some, None}
+use Rattle.serde_json.specs.Data.{Data, null, number, unsigned, array, object, item, no_items, member, no_members}
+use Rattle.serde_json.specs.View.{items_of}
+use Rattle.serde_json.specs.Written.{compact_text}
+use Rattle.qed_model.specs.declared.bounds.Bounds.{Bounds}
+use Rattle.qed_model.specs.declared.plan.EntryRow.{EntryRow}
+use Rattle.qed_model.specs.declared.plan.PieceRow.{PieceRow}
+use Rattle.qed_model.specs.declared.plan.Plan.{Plan}
+
+abbrev pub count : ℕ → Data
+count n = number (unsigned n)
+
+-- null where there is no data word
+abbrev pub bound_data : Option ℕ → Data
+bound_data None = null
+bound_data (Some bound) = count bound
+
+-- in steps
+abbrev pub bounds_data : Bounds → Data
+bounds_data bounds =
+    object (member (codes "piece") (count bounds.piece) (member (codes "register") (count bounds.register) (member (codes "word") (bound_data bounds.word) no_members)))
+
+-- the address of a leader in the input, and that of its entry in the output
+abbrev pub entry_data : EntryRow → Data
+entry_data row = array (item (count row.input) (item (count row.output) no_items))
+
+-- the input address of the block, that of the first instruction, and the number of instructions
+abbrev pub piece_data : PieceRow → Data
+piece_data row = array (item (count row.entry) (item (count row.first) (item (count row.length) no_items)))
+
+-- addresses, and sizes in bytes
+abbrev pub plan_data : Plan → Data
+plan_data plan =
+    object (member (codes "base") (count plan.base)
+    (member (codes "bounds") (bounds_data plan.bounds)
+    (member (codes "code") (count plan.code_bytes)
+    (member (codes "entries") (array (items_of (map entry_data plan.entries)))
+    (member (codes "half") (count plan.distance)
+    (member (codes "pieces") (array (items_of (map piece_data plan.pieces)))
+    (member (codes "words") (count plan.words) no_members)))))))
+
+abbrev pub plan_text : Plan → List ℕ
+plan_text plan = compact_text (plan_data plan) ++ codes "\n"

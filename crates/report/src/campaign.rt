@@ -1,0 +1,122 @@
+//! What is printed about strikes.
+ghost use Rattle.std.specs.Prelude.{◌≡◌, Some, IfOk, string_bytes};
+ghost use Rattle.qed_model.specs.Text.Campaign.{place_text, change_text, changes_text, verdict_text, strike_line, strike_lines, trapped_line, campaign_text};
+
+use crate::hex::Hex;
+use crate::tally::summary_line;
+use elf_types::Bytes;
+use qed_model::{Change, Place, Plan, Struck, Verdict};
+use std::alloc::{AllocError, Global};
+use std::fmt;
+
+/// What is changed, printed as `x5`, or as the address of a word.
+#[derive(Clone, Copy, Debug)]
+struct PlaceText(Place);
+
+impl fmt::Display for PlaceText {
+    ghost output = { λ p. Some (place_text p.0) };
+
+    fn fmt<W: fmt::Write>(&self, f: &mut fmt::Formatter<W>) -> fmt::Result {
+        match self.0 {
+            Place::Reg(register) => {
+                let number = register.number();
+                write!(f, "x{number}")
+            }
+            Place::Word(address) => {
+                let address = Hex(address);
+                write!(f, "{address}")
+            }
+        }
+    }
+}
+
+/// What came of a strike, with the steps from its last change.
+#[derive(Clone, Copy, Debug)]
+struct VerdictText(Verdict);
+
+impl fmt::Display for VerdictText {
+    ghost output = { λ v. Some (verdict_text v.0) };
+
+    fn fmt<W: fmt::Write>(&self, f: &mut fmt::Formatter<W>) -> fmt::Result {
+        match self.0 {
+            Verdict::Closed => write!(f, "closed"),
+            Verdict::NotReached => write!(f, "not reached"),
+            Verdict::Fired(steps) => write!(f, "fired {steps}"),
+            Verdict::Ended(steps) => write!(f, "ended {steps}"),
+            Verdict::Same => write!(f, "same"),
+        }
+    }
+}
+
+/// A change, as ` step 40 x5=0x0000000000000001`.
+fn change_text(alloc: Global, change: &Change) -> Result<String, AllocError>
+    ensures { IfOk result (λ text. string_bytes text ≡ change_text change.now) }
+{
+    let step = change.step;
+    let (place, value) = (PlaceText(change.place), Hex(change.value));
+    format!(in alloc; " step {step} {place}={value}")
+}
+
+/// The changes of a strike.
+fn changes_text(alloc: Global, changes: &[Change]) -> Result<Vec<u8>, AllocError>
+    ensures { IfOk result (λ text. text.items ≡ changes_text changes.now) }
+{
+    let mut text = Vec::new(alloc);
+    for change in changes {
+        let change = change_text(alloc, change)?;
+        text.extend_from_slice(change.as_bytes())?;
+    }
+    Ok(text)
+}
+
+/// The line about a strike.
+fn strike_line(alloc: Global, number: usize, struck: &Struck) -> Result<Vec<u8>, AllocError>
+    ensures { IfOk result (λ line. line.items ≡ strike_line number struck.now) }
+{
+    let mut line = format!(in alloc; "{number}")?.into_bytes();
+    let changes = changes_text(alloc, struck.changes.as_slice())?;
+    line.extend_from_slice(&changes)?;
+    let verdict = VerdictText(struck.verdict);
+    let end = format!(in alloc; " {verdict}\n")?;
+    line.extend_from_slice(end.as_bytes())?;
+    Ok(line)
+}
+
+/// The lines about strikes, which are numbered from 0.
+fn strike_lines(alloc: Global, strikes: &[Struck]) -> Result<Vec<u8>, AllocError>
+    ensures { IfOk result (λ text. text.items ≡ strike_lines 0 strikes.now) }
+{
+    let mut text = Vec::new(alloc);
+    for (number, struck) in strikes.iter().enumerate() {
+        let line = strike_line(alloc, number, struck)?;
+        text.extend_from_slice(&line)?;
+    }
+    Ok(text)
+}
+
+/// The line about an input whose own run trapped at a pc.
+fn trapped_line(alloc: Global, pc: u64) -> Result<String, AllocError>
+    ensures { IfOk result (λ text. string_bytes text ≡ trapped_line pc) }
+{
+    let pc = Hex(pc);
+    format!(in alloc; "input trapped at {pc}\n")
+}
+
+/// What is printed about strikes of an output: a line for each, and then their verdicts with the bounds of its plan, or
+/// the pc at which the input's own run trapped.
+pub fn campaign_text(
+    alloc: Global,
+    struck: &[Struck],
+    plan: &Plan,
+    trapped: Option<u64>,
+) -> Result<Bytes, AllocError>
+    ensures { IfOk result (λ text. text ≡ campaign_text struck.now plan.now trapped) }
+{
+    let mut text = strike_lines(alloc, struck)?;
+    let last = match trapped {
+        Some(pc) => trapped_line(alloc, pc)?,
+        None => summary_line(alloc, struck, plan)?,
+    };
+    text.extend_from_slice(last.as_bytes())?;
+    Ok(Bytes::of(text))
+}

@@ -1,0 +1,89 @@
+//! What is printed of a plan: one JSON object on one line.
+ghost use Rattle.std.specs.Prelude.{◌≡◌, map, IfOk, string_bytes};
+ghost use Rattle.serde_json.specs.Data.{array};
+ghost use Rattle.serde_json.specs.View.{view, items_of};
+ghost use Rattle.serde_json.specs.Written.{compact_text};
+ghost use Rattle.report.specs.Plan.{bounds_data, entry_data, piece_data, plan_data, plan_text};
+
+use elf_types::Bytes;
+use qed_model::{Bounds, EntryRow, PieceRow, Plan};
+use serde_json::{Value, json};
+use std::alloc::{AllocError, Global};
+
+/// The bounds, without that of a word where there is no data word.
+fn bounds_value(alloc: Global, bounds: &Bounds) -> Result<Value, AllocError>
+    ensures { IfOk result (λ v. view v ≡ bounds_data bounds.now) }
+{
+    json!(in alloc; {"piece": bounds.piece, "register": bounds.register, "word": bounds.word})
+}
+
+/// An entry as a pair.
+fn entry_value(alloc: Global, row: &EntryRow) -> Result<Value, AllocError>
+    ensures { IfOk result (λ v. view v ≡ entry_data row.now) }
+{
+    json!(in alloc; [row.input, row.output])
+}
+
+/// The entries in their order.
+fn entries_value(alloc: Global, rows: &[EntryRow]) -> Result<Value, AllocError>
+    ensures { IfOk result (λ v. view v ≡ array (items_of (map entry_data rows.now))) }
+{
+    let mut entries = Vec::new(alloc);
+    for row in rows {
+        entries.push(entry_value(alloc, row)?)?;
+    }
+    Ok(Value::Array(entries))
+}
+
+/// A piece as a triple.
+fn piece_value(alloc: Global, row: &PieceRow) -> Result<Value, AllocError>
+    ensures { IfOk result (λ v. view v ≡ piece_data row.now) }
+{
+    json!(in alloc; [row.entry, row.first, row.length])
+}
+
+/// The pieces in their order.
+fn pieces_value(alloc: Global, rows: &[PieceRow]) -> Result<Value, AllocError>
+    ensures { IfOk result (λ v. view v ≡ array (items_of (map piece_data rows.now))) }
+{
+    let mut pieces = Vec::new(alloc);
+    for row in rows {
+        pieces.push(piece_value(alloc, row)?)?;
+    }
+    Ok(Value::Array(pieces))
+}
+
+/// A plan as one object, which keeps its keys in the order of their bytes.
+fn plan_value(alloc: Global, plan: &Plan) -> Result<Value, AllocError>
+    ensures { IfOk result (λ v. view v ≡ plan_data plan.now) }
+{
+    let bounds = bounds_value(alloc, &plan.bounds)?;
+    let entries = entries_value(alloc, plan.entries.as_slice())?;
+    let pieces = pieces_value(alloc, plan.pieces.as_slice())?;
+    json!(in alloc; {
+        "base": plan.base,
+        "bounds": bounds,
+        "code": plan.code_bytes,
+        "entries": entries,
+        "half": plan.distance,
+        "pieces": pieces,
+        "words": plan.words
+    })
+}
+
+/// The text of that object.
+fn plan_json(alloc: Global, plan: &Plan) -> Result<String, AllocError>
+    ensures { IfOk result (λ text. string_bytes text ≡ compact_text (plan_data plan.now)) }
+{
+    plan_value(alloc, plan)?.to_string(alloc)
+}
+
+/// A plan as one line of JSON: addresses and sizes in bytes, entries as pairs of input and output address, pieces as
+/// triples of entry, first instruction and length.
+pub fn plan_text(alloc: Global, plan: &Plan) -> Result<Bytes, AllocError>
+    ensures { IfOk result (λ text. text ≡ plan_text plan.now) }
+{
+    let mut text = plan_json(alloc, plan)?;
+    text.push_str("\n")?;
+    Ok(Bytes::of(text.into_bytes()))
+}
