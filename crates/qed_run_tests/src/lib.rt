@@ -1,4 +1,4 @@
-//! Tests of `run` as one call, over files and a sink in memory.
+//! Tests of `run`, of `plan` and of options as one call, over files and a sink in memory.
 #![tactic(auto)]
 
 #[cfg(test)]
@@ -6,7 +6,11 @@ mod compiled;
 #[cfg(test)]
 mod expected;
 #[cfg(test)]
+mod lines;
+#[cfg(test)]
 mod machine;
+#[cfg(test)]
+mod mirrors;
 #[cfg(test)]
 mod outputs;
 #[cfg(test)]
@@ -14,4 +18,8 @@ mod refusals;
 #[cfg(test)]
 mod runs;
 #[cfg(test)]
+mod samples;
+#[cfg(test)]
 mod tree;
+#[cfg(test)]
+mod usage;

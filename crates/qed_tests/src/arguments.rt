@@ -8,9 +8,6 @@ use std::process::ExitCode;
 use std::test::Fail;
 use test_calls::words_of;
 
-/// What is printed where the words are those of no command.
-const USAGE: &str = "usage: not built yet\n";
-
 /// Arguments, the exit code, and what is printed, None for the line about the output.
 #[derive(Clone, Copy, Debug)]
 struct ArgumentsCase {
@@ -26,20 +23,21 @@ const CASES: [ArgumentsCase; 5] = [
         printed: None,
     },
     ArgumentsCase {
+        // The first argument is the program's name.
         arguments: Ok(&["transform", "in", "out"]),
         code: 2,
-        printed: Some(USAGE),
+        printed: Some("usage: unknown command\n"),
     },
     ArgumentsCase {
         arguments: Ok(&[]),
         code: 2,
-        printed: Some(USAGE),
+        printed: Some("usage: no command\n"),
     },
     ArgumentsCase {
         // An argument that is not UTF-8.
         arguments: Err(ErrorKind::InvalidData),
         code: 2,
-        printed: Some(USAGE),
+        printed: Some("usage: no command\n"),
     },
     ArgumentsCase {
         arguments: Err(ErrorKind::OutOfMemory),

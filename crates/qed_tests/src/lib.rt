@@ -15,5 +15,3 @@ mod refusals;
 mod symbols;
 #[cfg(test)]
 mod transformations;
-#[cfg(test)]
-mod usage;

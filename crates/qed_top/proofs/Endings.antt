@@ -1,13 +1,26 @@
 -- From what was decided and carried out to how the call ends.
-use Rattle.std.proofs.Common.{◌≡◌, ◌≢◌, ℕ, List, Option, None, Some, IfSome, ◌⊎◌, inl, inr, refl, sym, ap, ◌∙◌, subst, arith}
-use Rattle.std.specs.Prelude.{MatchOption, IsSome, IsSomeAnd}
+use Rattle.std.proofs.Common.{◌≡◌, ◌≢◌, ℕ, List, [], Option, None, Some, IfSome, ◌⊎◌, inl, inr, refl, sym, ap, ◌∙◌, subst, arith}
+use Rattle.std.specs.Prelude.{MatchOption, MatchResult, Result, Ok, Err, IfOk, IsSome, IsSomeAnd}
 use Rattle.std.specs.Io.KnownBytes.{Appends}
 use Rattle.qed_io.specs.Sink.{AppendsPart}
 use Rattle.qed_io.specs.Files.{Files, file_bytes}
 use Rattle.qed_io.specs.Counts.{Rose, RoseAt, NoneFell}
-use Rattle.qed_top.specs.Words.{Asked, Transform, Run, asked, read_name, stored_name}
-use Rattle.qed_top.specs.Answer.{load_limit, load_limit_line, run_load_limit, run_load_limit_line, usage_line, PrintsOnly, error_status, Transforms, refused, done, refusal_status, memory_bytes, outcome_status, run_of, Runs, unread, too_large, ran, CallsFor, read_fault, too_long, within, CommandCallsFor, WordsCallFor, FilesAfter, FilesInPart, StoreRose, ShelfSteady, SteadyOrReadFault}
-use Rattle.qed_top.specs.Ends.{OverFiles, Call, load_rose, store_rose, sink_rose, KeepsShelf, IsAnswered, EndsOver, Ends, TransformDecides, RunDecides, Decided, CommandDecides, Decides, NoFault, IsComplete}
+use Rattle.qed_model.specs.declared.change.Change.{Change}
+use Rattle.qed_model.specs.declared.limits.Limit as limits
+use Rattle.qed_model.specs.declared.options.Options.{Options}
+use Rattle.qed_model.specs.declared.order.Order.{Order}
+use Rattle.qed_model.specs.declared.order.Order.TheVariants.{Transform, Plan, Run, Campaign, Gen}
+use Rattle.qed_model.specs.declared.order.Reason.{Reason}
+use Rattle.qed_model.specs.declared.plan.Plan as plan
+use Rattle.qed_model.specs.Elf.File.{IsReadAs}
+use Rattle.qed_model.specs.Limits.{limit_of}
+use Rattle.qed_model.specs.Words.{asked}
+use Rattle.qed_top.specs.Answer.{PrintsOnly, CallsFor, read_fault, too_long, within, FilesAfter, FilesInPart, StoreRose, ShelfSteady, SteadyOrReadFault}
+use Rattle.qed_top.specs.Refused.{error_status, refusal_status}
+use Rattle.qed_top.specs.Makes.{Makes, refused, made, Delivers, TellsPlan}
+use Rattle.qed_top.specs.Run.{memory_bytes, outcome_status, run_of, FileRuns, too_large, ran, Runs, unread, run}
+use Rattle.qed_top.specs.Orders.{AnswersOver, IsUsage, OrderCallsFor, WordsCallFor, source_limit, source_name, stored_name}
+use Rattle.qed_top.specs.Ends.{OverFiles, Call, load_rose, store_rose, sink_rose, KeepsShelf, IsAnswered, EndsOver, Ends, TransformDecides, RunDecides, Decided, DecidesOver, OrderDecides, Decides, NoFault, IsComplete}
 use Rattle.qed_top.specs.Ends as decide
 use Rattle.qed_top.specs.declared.answer.Answer.{Answer}
 use Rattle.qed_top.specs.declared.answer.Stored.{Stored}
@@ -15,7 +28,6 @@ use Rattle.qed_top.specs.declared.status.Status.{Status}
 use Rattle.qed_top.specs.declared.status.Status.TheVariants.{Done, Usage, Refused, Limit, ReadFault, WriteFault, Memory, Fired, Trapped, StepsSpent}
 use Rattle.qed_model.proofs.ReadFacts.{one_file}
 use Rattle.qed_model.proofs.AcceptanceLaws.{read_or_refused}
-use Rattle.qed_model.specs.Options.{default_options}
 use Rattle.transform.proofs.OneAnswer.{same_refusal, one_cause, memory_only, transformable_of}
 use Rattle.qed_top.proofs.Statuses.{error_refuses, refusal_refuses, Printed, refusal_printed, outcome_printed}
 use Rattle.qed_top.specs.Headline.{Answers}
@@ -31,57 +43,86 @@ pub rose_since : (before middle now : List ℕ → ℕ) → NoneFell before midd
 rose_since before middle now kept name rose = omega (arith, kept name)
 
 -- ---- what is meant
-command_later :
-    (command : Asked) (files : Files) (rose later : List ℕ → Type 0) → ((name : List ℕ) → rose name → later name) → (answer : Answer)
-    → CommandCallsFor command files rose answer → CommandCallsFor command files later answer
-command_later (Transform input output) files rose later h answer m = calls_more load_limit load_limit_line (file_bytes files input) (rose input) (later input) (Transforms (file_bytes files input) output answer) (Transforms (file_bytes files input) output answer) answer (h input) (λ t. t) m
-command_later (Run file) files rose later h answer m = calls_more run_load_limit run_load_limit_line (file_bytes files file) (rose file) (later file) (Runs (file_bytes files file) answer) (Runs (file_bytes files file) answer) answer (h file) (λ r. r) m
+-- what an order means by the name of its file
+abbrev CallsBy : Order → Option (List ℕ) → Files → (List ℕ → Type 0) → Answer → Type 0
+CallsBy order source files rose answer =
+    MatchOption source (AnswersOver order [] answer)
+    (λ name. CallsFor (source_limit order) (file_bytes files name) (rose name) (AnswersOver order (file_bytes files name) answer) answer)
 
-meant_by_command_later :
-    (command : Option Asked) (files : Files) (rose later : List ℕ → Type 0) → ((name : List ℕ) → rose name → later name) → (answer : Answer)
-    → MatchOption command (PrintsOnly Usage usage_line answer) (λ c. CommandCallsFor c files rose answer)
-    → MatchOption command (PrintsOnly Usage usage_line answer) (λ c. CommandCallsFor c files later answer)
-meant_by_command_later None files rose later h answer m = m
-meant_by_command_later (Some c) files rose later h answer m = command_later c files rose later h answer m
+-- what words mean by what they ask
+abbrev WordsBy : Result Order Reason → Files → (List ℕ → Type 0) → Answer → Type 0
+WordsBy ask files rose answer = MatchResult ask (λ order. OrderCallsFor order files rose answer) (λ reason. IsUsage reason answer)
 
 -- what is meant stays so when more counts have risen
+source_later :
+    (order : Order) (source : Option (List ℕ)) (files : Files) (rose later : List ℕ → Type 0) → ((name : List ℕ) → rose name → later name) → (answer : Answer)
+    → CallsBy order source files rose answer → CallsBy order source files later answer
+source_later order None files rose later h answer m = m
+source_later order (Some name) files rose later h answer m =
+    calls_more (source_limit order) (file_bytes files name) (rose name) (later name) (AnswersOver order (file_bytes files name) answer) (AnswersOver order (file_bytes files name) answer) answer (h name) (λ a. a) m
+
+words_later :
+    (ask : Result Order Reason) (files : Files) (rose later : List ℕ → Type 0) → ((name : List ℕ) → rose name → later name) → (answer : Answer)
+    → WordsBy ask files rose answer → WordsBy ask files later answer
+words_later (Ok order) files rose later h answer m = source_later order (source_name order) files rose later h answer m
+words_later (Err reason) files rose later h answer m = m
+
 pub meant_later :
     (words : List (List ℕ)) (files : Files) (rose later : List ℕ → Type 0) → ((name : List ℕ) → rose name → later name) → (answer : Answer)
     → WordsCallFor words files rose answer → WordsCallFor words files later answer
-meant_later words files rose later h answer m = meant_by_command_later (asked words) files rose later h answer m
+meant_later words files rose later h answer m = words_later (asked words) files rose later h answer m
 
--- the status of what is meant is one that goes with a text
+-- ---- the status of what is meant is one that goes with a text
 prints : (status : Status) (answer : Answer) → Printed status → answer.status ≡ status → Printed answer.status
 prints status answer p e = subst Printed (sym e) p
 
-transforms_printed : (bytes output : List ℕ) (answer : Answer) → Transforms bytes output answer → Printed answer.status
-transforms_printed bytes output answer (refused r) = prints (refusal_status r.error) answer (refusal_printed (refusal_status r.error) (refusal_refuses r.error)) r.plain.status
-transforms_printed bytes output answer (done d) = prints Done answer tt d.delivers.status
+makes_printed :
+    (bytes : List ℕ) (o : Options) (Uses : List ℕ → plan.Plan → Answer → Type 0) (answer : Answer)
+    → ((file : List ℕ) (p : plan.Plan) → Uses file p answer → answer.status ≡ Done) → Makes bytes o Uses answer → Printed answer.status
+makes_printed bytes o Uses answer done (refused r) = prints (refusal_status r.error) answer (refusal_printed (refusal_status r.error) (refusal_refuses r.error)) r.plain.status
+makes_printed bytes o Uses answer done (made m) = prints Done answer tt (done m.file m.plan m.uses)
 
-runs_printed : (bytes : List ℕ) (answer : Answer) → Runs bytes answer → Printed answer.status
-runs_printed bytes answer (unread u) = prints (error_status u.error) answer (refusal_printed (error_status u.error) (error_refuses u.error)) u.plain.status
-runs_printed bytes answer (too_large t) = prints Limit answer tt t.plain.status
-runs_printed bytes answer (ran r) = prints (outcome_status (run_of r.file).state.outcome) answer (outcome_printed (run_of r.file).state.outcome) r.plain.status
+-- an output that is delivered, and a plan that is told
+delivered_done : (output file : List ℕ) (p : plan.Plan) (answer : Answer) → Delivers output file p answer → answer.status ≡ Done
+delivered_done output file p answer d = d.status
 
-means_printed :
-    (limit : ℕ) (line bytes : List ℕ) (rose W : Type 0) (answer : Answer) → (W → Printed answer.status) → CallsFor limit line bytes rose W answer
+told_done : (file : List ℕ) (p : plan.Plan) (answer : Answer) → TellsPlan file p answer → answer.status ≡ Done
+told_done file p answer t = t.status
+
+file_printed :
+    (file : _) (steps : ℕ) (changes : List Change) (dump : Option (ℕ × ℕ)) (answer : Answer) → FileRuns file steps changes dump answer → Printed answer.status
+file_printed file steps changes dump answer (too_large over plain) = prints Limit answer tt plain.status
+file_printed file steps changes dump answer (ran small plain) = prints (outcome_status (run_of file steps changes).state.outcome) answer (outcome_printed (run_of file steps changes).state.outcome) plain.status
+
+runs_printed : (bytes : List ℕ) (steps : ℕ) (changes : List Change) (dump : Option (ℕ × ℕ)) (answer : Answer) → Runs bytes steps changes dump answer → Printed answer.status
+runs_printed bytes steps changes dump answer (unread u) = prints (error_status u.error) answer (refusal_printed (error_status u.error) (error_refuses u.error)) u.plain.status
+runs_printed bytes steps changes dump answer (run r) = file_printed r.file steps changes dump answer r.runs
+
+over_printed : (order : Order) (bytes : List ℕ) (answer : Answer) → AnswersOver order bytes answer → Printed answer.status
+over_printed (Transform input output o) bytes answer m = makes_printed bytes o (Delivers output) answer (λ file p d. delivered_done output file p answer d) m
+over_printed (Plan input o) bytes answer m = makes_printed bytes o TellsPlan answer (λ file p t. told_done file p answer t) m
+over_printed (Run file steps changes dump) bytes answer m = runs_printed bytes steps changes dump answer m
+over_printed (Campaign input o seed count changes) bytes answer m = prints Usage answer tt m.status
+over_printed (Gen output seed size) bytes answer m = prints Usage answer tt m.status
+
+calls_printed :
+    (limit : limits.Limit) (bytes : List ℕ) (rose W : Type 0) (answer : Answer) → (W → Printed answer.status) → CallsFor limit bytes rose W answer
     → Printed answer.status
-means_printed limit line bytes rose W answer h (read_fault r) = prints ReadFault answer tt r.plain.status
-means_printed limit line bytes rose W answer h (too_long t) = prints Limit answer tt t.plain.status
-means_printed limit line bytes rose W answer h (within small w) = h w
+calls_printed limit bytes rose W answer h (read_fault r) = prints ReadFault answer tt r.plain.status
+calls_printed limit bytes rose W answer h (too_long t) = prints Limit answer tt t.plain.status
+calls_printed limit bytes rose W answer h (within small w) = h w
 
-command_printed : (command : Asked) (files : Files) (rose : List ℕ → Type 0) (answer : Answer) → CommandCallsFor command files rose answer → Printed answer.status
-command_printed (Transform input output) files rose answer m = means_printed load_limit load_limit_line (file_bytes files input) (rose input) (Transforms (file_bytes files input) output answer) answer (transforms_printed (file_bytes files input) output answer) m
-command_printed (Run file) files rose answer m = means_printed run_load_limit run_load_limit_line (file_bytes files file) (rose file) (Runs (file_bytes files file) answer) answer (runs_printed (file_bytes files file) answer) m
+source_printed : (order : Order) (source : Option (List ℕ)) (files : Files) (rose : List ℕ → Type 0) (answer : Answer) → CallsBy order source files rose answer → Printed answer.status
+source_printed order None files rose answer m = over_printed order [] answer m
+source_printed order (Some name) files rose answer m =
+    calls_printed (source_limit order) (file_bytes files name) (rose name) (AnswersOver order (file_bytes files name) answer) answer (over_printed order (file_bytes files name) answer) m
 
-printed_by_command :
-    (command : Option Asked) (files : Files) (rose : List ℕ → Type 0) (answer : Answer)
-    → MatchOption command (PrintsOnly Usage usage_line answer) (λ c. CommandCallsFor c files rose answer) → Printed answer.status
-printed_by_command None files rose answer m = prints Usage answer tt m.status
-printed_by_command (Some c) files rose answer m = command_printed c files rose answer m
+words_printed : (ask : Result Order Reason) (files : Files) (rose : List ℕ → Type 0) (answer : Answer) → WordsBy ask files rose answer → Printed answer.status
+words_printed (Ok order) files rose answer m = source_printed order (source_name order) files rose answer m
+words_printed (Err reason) files rose answer m = prints Usage answer tt m.status
 
 printed : (words : List (List ℕ)) (files : Files) (rose : List ℕ → Type 0) (answer : Answer) → WordsCallFor words files rose answer → Printed answer.status
-printed words files rose answer m = printed_by_command (asked words) files rose answer m
+printed words files rose answer m = words_printed (asked words) files rose answer m
 
 -- what was done ends the call with the answer's status
 did_ends : (call : Call) (files : Files) (status : Status) → Printed status → IsAnswered call files status → EndsOver call files status
@@ -151,24 +192,31 @@ no_memory_soon call stored text shelf sink =
     always call.old (λ files. EndsOver call files Memory) (λ files. inl (record { stored = stored; printed = text; shelf = shelf; sink = sink }))
 
 -- ---- what can be expected
--- bytes have one status under `transform`
-transform_unique : (bytes : List ℕ) (s t : Status) → TransformDecides bytes s → TransformDecides bytes t → s ≡ t
-transform_unique bytes s t (decide.refused e c k a) (decide.refused d h m b) = a ∙ ap refusal_status (one_cause bytes default_options e d k m c h) ∙ sym b
-transform_unique bytes s t (decide.refused e c k a) (decide.done f b) = absurd (k (memory_only bytes default_options e c f))
-transform_unique bytes s t (decide.done f a) (decide.refused e c k b) = absurd (k (memory_only bytes default_options e c f))
-transform_unique bytes s t (decide.done f a) (decide.done g b) = a ∙ sym b
+-- bytes have one status under `transform` and `plan`
+transform_unique : (bytes : List ℕ) (o : Options) (s t : Status) → TransformDecides bytes o s → TransformDecides bytes o t → s ≡ t
+transform_unique bytes o s t (decide.refused e c k a) (decide.refused d h m b) = a ∙ ap refusal_status (one_cause bytes o e d k m c h) ∙ sym b
+transform_unique bytes o s t (decide.refused e c k a) (decide.done f b) = absurd (k (memory_only bytes o e c f))
+transform_unique bytes o s t (decide.done f a) (decide.refused e c k b) = absurd (k (memory_only bytes o e c f))
+transform_unique bytes o s t (decide.done f a) (decide.done g b) = a ∙ sym b
 
 -- and under `run`
-run_unique : (bytes : List ℕ) (s t : Status) → RunDecides bytes s → RunDecides bytes t → s ≡ t
-run_unique bytes s t (decide.unread e x a) (decide.unread d y b) = a ∙ ap error_status (same_refusal bytes e d x y) ∙ sym b
-run_unique bytes s t (decide.unread e x a) (decide.too_large g y l b) = absurd (read_or_refused bytes g e y x)
-run_unique bytes s t (decide.unread e x a) (decide.ran g y l b) = absurd (read_or_refused bytes g e y x)
-run_unique bytes s t (decide.too_large f x k a) (decide.unread d y b) = absurd (read_or_refused bytes f d x y)
-run_unique bytes s t (decide.too_large f x k a) (decide.too_large g y l b) = a ∙ sym b
-run_unique bytes s t (decide.too_large f x k a) (decide.ran g y l b) = let same = ap (λ h. memory_bytes h.segments) (one_file bytes f g x.file y.file) in absurd (omega (arith, k, l, same))
-run_unique bytes s t (decide.ran f x k a) (decide.unread d y b) = absurd (read_or_refused bytes f d x y)
-run_unique bytes s t (decide.ran f x k a) (decide.too_large g y l b) = let same = ap (λ h. memory_bytes h.segments) (one_file bytes f g x.file y.file) in absurd (omega (arith, k, l, same))
-run_unique bytes s t (decide.ran f x k a) (decide.ran g y l b) = a ∙ ap (λ h. outcome_status (run_of h).state.outcome) (one_file bytes f g x.file y.file) ∙ sym b
+run_unique : (bytes : List ℕ) (n : ℕ) (cs : List Change) (s t : Status) → RunDecides bytes n cs s → RunDecides bytes n cs t → s ≡ t
+run_unique bytes n cs s t (decide.unread e x a) (decide.unread d y b) = a ∙ ap error_status (same_refusal bytes e d x y) ∙ sym b
+run_unique bytes n cs s t (decide.unread e x a) (decide.too_large g y l b) = absurd (read_or_refused bytes g e y x)
+run_unique bytes n cs s t (decide.unread e x a) (decide.ran g y l b) = absurd (read_or_refused bytes g e y x)
+run_unique bytes n cs s t (decide.too_large f x k a) (decide.unread d y b) = absurd (read_or_refused bytes f d x y)
+run_unique bytes n cs s t (decide.too_large f x k a) (decide.too_large g y l b) = a ∙ sym b
+run_unique bytes n cs s t (decide.too_large f x k a) (decide.ran g y l b) = let same = ap (λ h. memory_bytes h.segments) (one_file bytes f g x.file y.file) in absurd (omega (arith, k, l, same))
+run_unique bytes n cs s t (decide.ran f x k a) (decide.unread d y b) = absurd (read_or_refused bytes f d x y)
+run_unique bytes n cs s t (decide.ran f x k a) (decide.too_large g y l b) = let same = ap (λ h. memory_bytes h.segments) (one_file bytes f g x.file y.file) in absurd (omega (arith, k, l, same))
+run_unique bytes n cs s t (decide.ran f x k a) (decide.ran g y l b) = a ∙ ap (λ h. outcome_status (run_of h n cs).state.outcome) (one_file bytes f g x.file y.file) ∙ sym b
+
+over_unique : (order : Order) (bytes : List ℕ) (s t : Status) → DecidesOver order bytes s → DecidesOver order bytes t → s ≡ t
+over_unique (Transform input output o) bytes s t a b = transform_unique bytes o s t a b
+over_unique (Plan input o) bytes s t a b = transform_unique bytes o s t a b
+over_unique (Run file steps changes dump) bytes s t a b = run_unique bytes steps changes s t a b
+over_unique (Campaign input o seed count changes) bytes s t a b = a ∙ sym b
+over_unique (Gen output seed size) bytes s t a b = a ∙ sym b
 
 unique : (limit : ℕ) (bytes : List ℕ) (V W : Type 0) (s t : Status) → (V → W → s ≡ t) → Decided limit bytes V s → Decided limit bytes W t → s ≡ t
 unique limit bytes V W s t h (decide.too_long l a) (decide.too_long m b) = a ∙ sym b
@@ -176,95 +224,141 @@ unique limit bytes V W s t h (decide.too_long l a) (decide.within m w) = absurd 
 unique limit bytes V W s t h (decide.within l v) (decide.too_long m b) = absurd (omega (arith, l, m))
 unique limit bytes V W s t h (decide.within l v) (decide.within m w) = h v w
 
-command_same : (command : Asked) (files : Files) (s t : Status) → CommandDecides command files s → CommandDecides command files t → s ≡ t
-command_same (Transform input output) files s t a b = unique load_limit (file_bytes files input) (TransformDecides (file_bytes files input) s) (TransformDecides (file_bytes files input) t) s t (transform_unique (file_bytes files input) s t) a b
-command_same (Run file) files s t a b = unique run_load_limit (file_bytes files file) (RunDecides (file_bytes files file) s) (RunDecides (file_bytes files file) t) s t (run_unique (file_bytes files file) s t) a b
+-- what an order decides by the name of its file
+abbrev DecidesBy : Order → Option (List ℕ) → Files → Status → Type 0
+DecidesBy order source files status =
+    MatchOption source (DecidesOver order [] status)
+    (λ name. Decided (limit_of (source_limit order)) (file_bytes files name) (DecidesOver order (file_bytes files name) status) status)
+
+source_same : (order : Order) (source : Option (List ℕ)) (files : Files) (s t : Status) → DecidesBy order source files s → DecidesBy order source files t → s ≡ t
+source_same order None files s t a b = over_unique order [] s t a b
+source_same order (Some name) files s t a b =
+    unique (limit_of (source_limit order)) (file_bytes files name) (DecidesOver order (file_bytes files name) s) (DecidesOver order (file_bytes files name) t) s t (over_unique order (file_bytes files name) s t) a b
 
 decides_same :
-    (command : Option Asked) (files : Files) (s t : Status) → MatchOption command (s ≡ Usage) (λ c. CommandDecides c files s)
-    → MatchOption command (t ≡ Usage) (λ c. CommandDecides c files t) → s ≡ t
-decides_same None files s t a b = a ∙ sym b
-decides_same (Some c) files s t a b = command_same c files s t a b
+    (ask : Result Order Reason) (files : Files) (s t : Status) → MatchResult ask (λ order. OrderDecides order files s) (λ reason. s ≡ Usage)
+    → MatchResult ask (λ order. OrderDecides order files t) (λ reason. t ≡ Usage) → s ≡ t
+decides_same (Ok order) files s t a b = source_same order (source_name order) files s t a b
+decides_same (Err reason) files s t a b = a ∙ sym b
 
--- what is meant has the status that is decided, where no load failed
-transforms_decided : (bytes output : List ℕ) (answer : Answer) → Transforms bytes output answer → TransformDecides bytes answer.status
-transforms_decided bytes output answer (refused r) = decide.refused r.error r.cause r.known r.plain.status
-transforms_decided bytes output answer (done d) = decide.done (transformable_of bytes default_options d.file d.plan d.made) d.delivers.status
+-- what is answered has the status that is decided
+makes_decided :
+    (bytes : List ℕ) (o : Options) (Uses : List ℕ → plan.Plan → Answer → Type 0) (answer : Answer)
+    → ((file : List ℕ) (p : plan.Plan) → Uses file p answer → answer.status ≡ Done) → Makes bytes o Uses answer → TransformDecides bytes o answer.status
+makes_decided bytes o Uses answer done (refused r) = decide.refused r.error r.cause r.known r.plain.status
+makes_decided bytes o Uses answer done (made m) = decide.done (transformable_of bytes o m.file m.plan m.made) (done m.file m.plan m.uses)
 
-runs_decided : (bytes : List ℕ) (answer : Answer) → Runs bytes answer → RunDecides bytes answer.status
-runs_decided bytes answer (unread u) = decide.unread u.error u.cause u.plain.status
-runs_decided bytes answer (too_large t) = decide.too_large t.file t.read t.cause t.plain.status
-runs_decided bytes answer (ran r) = decide.ran r.file r.read r.small r.plain.status
+file_decided :
+    (bytes : List ℕ) (file : _) (steps : ℕ) (changes : List Change) (dump : Option (ℕ × ℕ)) (answer : Answer) → IsReadAs bytes file → FileRuns file steps changes dump answer
+    → RunDecides bytes steps changes answer.status
+file_decided bytes file steps changes dump answer read (too_large over plain) = decide.too_large file read over plain.status
+file_decided bytes file steps changes dump answer read (ran small plain) = decide.ran file read small plain.status
 
-means_decided :
-    (limit : ℕ) (line bytes : List ℕ) (rose V W : Type 0) (answer : Answer) → (V → W) → (rose → ⊥) → CallsFor limit line bytes rose V answer
-    → Decided limit bytes W answer.status
-means_decided limit line bytes rose V W answer h calm (read_fault r) = absurd (calm r.cause)
-means_decided limit line bytes rose V W answer h calm (too_long t) = decide.too_long t.cause t.plain.status
-means_decided limit line bytes rose V W answer h calm (within small v) = decide.within small (h v)
+runs_decided : (bytes : List ℕ) (steps : ℕ) (changes : List Change) (dump : Option (ℕ × ℕ)) (answer : Answer) → Runs bytes steps changes dump answer → RunDecides bytes steps changes answer.status
+runs_decided bytes steps changes dump answer (unread u) = decide.unread u.error u.cause u.plain.status
+runs_decided bytes steps changes dump answer (run r) = file_decided bytes r.file steps changes dump answer r.read r.runs
 
-command_decided :
-    (command : Asked) (files : Files) (rose : List ℕ → Type 0) (answer : Answer) → (rose (read_name command) → ⊥)
-    → CommandCallsFor command files rose answer → CommandDecides command files answer.status
-command_decided (Transform input output) files rose answer calm m = means_decided load_limit load_limit_line (file_bytes files input) (rose input) (Transforms (file_bytes files input) output answer) (TransformDecides (file_bytes files input) answer.status) answer (transforms_decided (file_bytes files input) output answer) calm m
-command_decided (Run file) files rose answer calm m = means_decided run_load_limit run_load_limit_line (file_bytes files file) (rose file) (Runs (file_bytes files file) answer) (RunDecides (file_bytes files file) answer.status) answer (runs_decided (file_bytes files file) answer) calm m
+over_decided : (order : Order) (bytes : List ℕ) (answer : Answer) → AnswersOver order bytes answer → DecidesOver order bytes answer.status
+over_decided (Transform input output o) bytes answer m = makes_decided bytes o (Delivers output) answer (λ file p d. delivered_done output file p answer d) m
+over_decided (Plan input o) bytes answer m = makes_decided bytes o TellsPlan answer (λ file p t. told_done file p answer t) m
+over_decided (Run file steps changes dump) bytes answer m = runs_decided bytes steps changes dump answer m
+over_decided (Campaign input o seed count changes) bytes answer m = m.status
+over_decided (Gen output seed size) bytes answer m = m.status
 
-decided_by_command :
-    (command : Option Asked) (files : Files) (rose : List ℕ → Type 0) (answer : Answer) → IfSome command (λ c. rose (read_name c) → ⊥)
-    → MatchOption command (PrintsOnly Usage usage_line answer) (λ c. CommandCallsFor c files rose answer)
-    → MatchOption command (answer.status ≡ Usage) (λ c. CommandDecides c files answer.status)
-decided_by_command None files rose answer calm m = m.status
-decided_by_command (Some c) files rose answer calm m = command_decided c files rose answer calm m
+calls_decided :
+    (limit : limits.Limit) (bytes : List ℕ) (rose V W : Type 0) (answer : Answer) → (V → W) → (rose → ⊥) → CallsFor limit bytes rose V answer
+    → Decided (limit_of limit) bytes W answer.status
+calls_decided limit bytes rose V W answer h calm (read_fault r) = absurd (calm r.cause)
+calls_decided limit bytes rose V W answer h calm (too_long t) = decide.too_long t.cause t.plain.status
+calls_decided limit bytes rose V W answer h calm (within small v) = decide.within small (h v)
+
+source_decided :
+    (order : Order) (source : Option (List ℕ)) (files : Files) (rose : List ℕ → Type 0) (answer : Answer) → IfSome source (λ name. rose name → ⊥)
+    → CallsBy order source files rose answer → DecidesBy order source files answer.status
+source_decided order None files rose answer calm m = over_decided order [] answer m
+source_decided order (Some name) files rose answer calm m =
+    calls_decided (source_limit order) (file_bytes files name) (rose name) (AnswersOver order (file_bytes files name) answer) (DecidesOver order (file_bytes files name) answer.status) answer (over_decided order (file_bytes files name) answer) calm m
+
+words_decided :
+    (ask : Result Order Reason) (files : Files) (rose : List ℕ → Type 0) (answer : Answer) → IfOk ask (λ order. IfSome (source_name order) (λ name. rose name → ⊥))
+    → WordsBy ask files rose answer → MatchResult ask (λ order. OrderDecides order files answer.status) (λ reason. answer.status ≡ Usage)
+words_decided (Ok order) files rose answer calm m = source_decided order (source_name order) files rose answer calm m
+words_decided (Err reason) files rose answer calm m = m.status
 
 -- a failed store is one of OUT
 none_stored : (answer : Answer) (rose : List ℕ → Type 0) → answer.stored ≡ None → StoreRose answer.stored rose → ⊥
 none_stored answer rose e r = subst (λ (s : Option Stored). StoreRose s rose) e r
 
 stored_as :
-    (stored : Option Stored) (rose : List ℕ → Type 0) (output file : List ℕ) → IsSomeAnd stored (λ s. (s.name.now ≡ output) × (s.bytes ≡ file))
+    (stored : Option Stored) (rose : List ℕ → Type 0) (output file : List ℕ) → IsSomeAnd stored (λ s. (s.name ≡ output) × (s.bytes ≡ file))
     → StoreRose stored rose → rose output
 stored_as None rose output file s r = absurd r
 stored_as (Some s) rose output file e r = subst rose e.0 r
 
-transforms_store :
-    (bytes output : List ℕ) (stores : List ℕ → Type 0) (answer : Answer) → (stores output → ⊥) → Transforms bytes output answer
+made_store :
+    (bytes : List ℕ) (o : Options) (Uses : List ℕ → plan.Plan → Answer → Type 0) (stores : List ℕ → Type 0) (answer : Answer)
+    → ((file : List ℕ) (p : plan.Plan) → Uses file p answer → StoreRose answer.stored stores → ⊥) → Makes bytes o Uses answer → StoreRose answer.stored stores → ⊥
+made_store bytes o Uses stores answer calm (refused x) r = none_stored answer stores x.plain.stored r
+made_store bytes o Uses stores answer calm (made m) r = calm m.file m.plan m.uses r
+
+delivered_store :
+    (output : List ℕ) (stores : List ℕ → Type 0) (answer : Answer) → (stores output → ⊥) → (file : List ℕ) (p : plan.Plan) → Delivers output file p answer
     → StoreRose answer.stored stores → ⊥
-transforms_store bytes output stores answer calm (refused x) r = none_stored answer stores x.plain.stored r
-transforms_store bytes output stores answer calm (done d) r = calm (stored_as answer.stored stores output d.file d.delivers.stored r)
+delivered_store output stores answer calm file p d r = calm (stored_as answer.stored stores output file d.stored r)
 
-runs_store : (bytes : List ℕ) (stores : List ℕ → Type 0) (answer : Answer) → Runs bytes answer → StoreRose answer.stored stores → ⊥
-runs_store bytes stores answer (unread u) r = none_stored answer stores u.plain.stored r
-runs_store bytes stores answer (too_large t) r = none_stored answer stores t.plain.stored r
-runs_store bytes stores answer (ran x) r = none_stored answer stores x.plain.stored r
+told_store : (stores : List ℕ → Type 0) (answer : Answer) (file : List ℕ) (p : plan.Plan) → TellsPlan file p answer → StoreRose answer.stored stores → ⊥
+told_store stores answer file p t r = none_stored answer stores t.stored r
 
-means_store :
-    (limit : ℕ) (line bytes : List ℕ) (rose W : Type 0) (stores : List ℕ → Type 0) (answer : Answer) → (W → StoreRose answer.stored stores → ⊥)
-    → CallsFor limit line bytes rose W answer → StoreRose answer.stored stores → ⊥
-means_store limit line bytes rose W stores answer h (read_fault f) r = none_stored answer stores f.plain.stored r
-means_store limit line bytes rose W stores answer h (too_long t) r = none_stored answer stores t.plain.stored r
-means_store limit line bytes rose W stores answer h (within small w) r = h w r
+file_store :
+    (file : _) (steps : ℕ) (changes : List Change) (dump : Option (ℕ × ℕ)) (stores : List ℕ → Type 0) (answer : Answer) → FileRuns file steps changes dump answer
+    → StoreRose answer.stored stores → ⊥
+file_store file steps changes dump stores answer (too_large over plain) r = none_stored answer stores plain.stored r
+file_store file steps changes dump stores answer (ran small plain) r = none_stored answer stores plain.stored r
 
-command_store :
-    (command : Asked) (files : Files) (rose stores : List ℕ → Type 0) (answer : Answer) → IfSome (stored_name command) (λ name. stores name → ⊥)
-    → CommandCallsFor command files rose answer → StoreRose answer.stored stores → ⊥
-command_store (Transform input output) files rose stores answer calm m = means_store load_limit load_limit_line (file_bytes files input) (rose input) (Transforms (file_bytes files input) output answer) stores answer (transforms_store (file_bytes files input) output stores answer calm) m
-command_store (Run file) files rose stores answer calm m = means_store run_load_limit run_load_limit_line (file_bytes files file) (rose file) (Runs (file_bytes files file) answer) stores answer (runs_store (file_bytes files file) stores answer) m
+runs_store :
+    (bytes : List ℕ) (steps : ℕ) (changes : List Change) (dump : Option (ℕ × ℕ)) (stores : List ℕ → Type 0) (answer : Answer) → Runs bytes steps changes dump answer
+    → StoreRose answer.stored stores → ⊥
+runs_store bytes steps changes dump stores answer (unread u) r = none_stored answer stores u.plain.stored r
+runs_store bytes steps changes dump stores answer (run x) r = file_store x.file steps changes dump stores answer x.runs r
 
-store_by_command :
-    (command : Option Asked) (files : Files) (rose stores : List ℕ → Type 0) (answer : Answer) → IfSome command (λ c. IfSome (stored_name c) (λ name. stores name → ⊥))
-    → MatchOption command (PrintsOnly Usage usage_line answer) (λ c. CommandCallsFor c files rose answer) → StoreRose answer.stored stores → ⊥
-store_by_command None files rose stores answer calm m r = none_stored answer stores m.stored r
-store_by_command (Some c) files rose stores answer calm m r = command_store c files rose stores answer calm m r
+over_store :
+    (order : Order) (bytes : List ℕ) (stores : List ℕ → Type 0) (answer : Answer) → IfSome (stored_name order) (λ name. stores name → ⊥) → AnswersOver order bytes answer
+    → StoreRose answer.stored stores → ⊥
+over_store (Transform input output o) bytes stores answer calm m r = made_store bytes o (Delivers output) stores answer (delivered_store output stores answer calm) m r
+over_store (Plan input o) bytes stores answer calm m r = made_store bytes o TellsPlan stores answer (told_store stores answer) m r
+over_store (Run file steps changes dump) bytes stores answer calm m r = runs_store bytes steps changes dump stores answer m r
+over_store (Campaign input o seed count changes) bytes stores answer calm m r = none_stored answer stores m.stored r
+over_store (Gen output seed size) bytes stores answer calm m r = none_stored answer stores m.stored r
+
+calls_store :
+    (limit : limits.Limit) (bytes : List ℕ) (rose W : Type 0) (stores : List ℕ → Type 0) (answer : Answer) → (W → StoreRose answer.stored stores → ⊥)
+    → CallsFor limit bytes rose W answer → StoreRose answer.stored stores → ⊥
+calls_store limit bytes rose W stores answer h (read_fault f) r = none_stored answer stores f.plain.stored r
+calls_store limit bytes rose W stores answer h (too_long t) r = none_stored answer stores t.plain.stored r
+calls_store limit bytes rose W stores answer h (within small w) r = h w r
+
+source_store :
+    (order : Order) (source : Option (List ℕ)) (files : Files) (rose stores : List ℕ → Type 0) (answer : Answer) → IfSome (stored_name order) (λ name. stores name → ⊥)
+    → CallsBy order source files rose answer → StoreRose answer.stored stores → ⊥
+source_store order None files rose stores answer calm m r = over_store order [] stores answer calm m r
+source_store order (Some name) files rose stores answer calm m r =
+    calls_store (source_limit order) (file_bytes files name) (rose name) (AnswersOver order (file_bytes files name) answer) stores answer (over_store order (file_bytes files name) stores answer calm) m r
+
+words_store :
+    (ask : Result Order Reason) (files : Files) (rose stores : List ℕ → Type 0) (answer : Answer) → IfOk ask (λ order. IfSome (stored_name order) (λ name. stores name → ⊥))
+    → WordsBy ask files rose answer → StoreRose answer.stored stores → ⊥
+words_store (Ok order) files rose stores answer calm m r = source_store order (source_name order) files rose stores answer calm m r
+words_store (Err reason) files rose stores answer calm m r = none_stored answer stores m.stored r
 
 did_decided :
     (call : Call) (files : Files) (status decided : Status) → NoFault call → IsAnswered call files status → Decides call.words files decided
     → (status ≡ decided) ⊎ (status ≡ Memory)
 did_decided call files status decided calm d e =
-    inl (sym d.same_status ∙ decides_same (asked call.words) files d.answer.status decided (decided_by_command (asked call.words) files (load_rose call) d.answer calm.load d.meant) e)
+    inl (sym d.same_status ∙ decides_same (asked call.words) files d.answer.status decided (words_decided (asked call.words) files (load_rose call) d.answer calm.load d.meant) e)
 
 write_decided : (call : Call) (files : Files) → NoFault call → EndsOver call files WriteFault → ⊥
 write_decided call files calm (inl p) = calm.sink p.0
-write_decided call files calm (inr p) = store_by_command (asked call.words) files (load_rose call) (store_rose call) p.answer calm.store p.meant p.cause
+write_decided call files calm (inr p) = words_store (asked call.words) files (load_rose call) (store_rose call) p.answer calm.store p.meant p.cause
 
 ends_decided :
     (call : Call) (files : Files) (status decided : Status) → NoFault call → EndsOver call files status → Decides call.words files decided
@@ -318,7 +412,7 @@ module _ (words : List (List ℕ)) (old middle new : Option Files) (l0 l1 l2 s0 
 
   since : (stored : Option Stored) → StoreRose stored (RoseAt s1 s2) → StoreRose stored (RoseAt s0 s2)
   since None r = r
-  since (Some s) r = rose_since s0 s1 s2 stores s.name.now r
+  since (Some s) r = rose_since s0 s1 s2 stores s.name r
 
   pub done_ended : FilesAfter answer.stored middle new → Appends was now answer.text → Answers (the_call words old new l0 l2 s0 s2 was now k0 k2) answer.status
   done_ended stored text =

@@ -1,26 +1,35 @@
 -- From what was read and made to what is meant.
 use Rattle.std.proofs.Common.{◌≡◌, ◌≤◌, ◌<◌, ◌+◌, ℕ, List, [], length, Option, None, Some, IfSome, refl, ap, sym, ◌∙◌, subst, arith}
-use Rattle.std.specs.Prelude.{MatchOption, replicate, unwrap_or, cond}
+use Rattle.std.specs.Prelude.{MatchOption, MatchResult, Result, Ok, Err, replicate, unwrap_or, cond}
 use Rattle.std.specs.Cmp.{eq_by_cmp_equiv}
 use Rattle.std.specs.Cmp.Lexicographic.{nat_list_cmp_total}
 use Rattle.std.specs.FinMap.{empty, get, insert, get-insert}
 use Rattle.std.proofs.lemmas.List.{length-replicate}
 use Rattle.qed_io.specs.Files.{Files, file_bytes}
 use Rattle.elf_types.specs.declared.file.ElfFile.{ElfFile}
+use Rattle.qed_model.specs.declared.change.Change.{Change}
+use Rattle.qed_model.specs.declared.limits.Limit.{Limit}
+use Rattle.qed_model.specs.declared.order.Order.{Order}
+use Rattle.qed_model.specs.declared.order.Reason.{Reason}
+use Rattle.qed_model.specs.Limits.{limit_of}
+use Rattle.qed_model.specs.Text.Errors.{limit_line}
 use Rattle.qed_model.specs.Text.Plan.{read_fault_line}
-use Rattle.qed_model.specs.Text.Run.{run_lines}
+use Rattle.qed_model.specs.Text.Run.{run_text}
 use Rattle.qed_model.specs.Machine.Program.{start, zeros}
 use Rattle.qed_model.specs.Machine.Loading.{loaded_file}
-use Rattle.qed_model.specs.Machine.Progress.{Progress, progress, begun}
+use Rattle.qed_model.specs.Machine.Progress.{Progress, begun}
 use Rattle.qed_model.specs.declared.machine.Outcome.{Outcome}
-use Rattle.qed_top.specs.Words.{Asked, asked}
-use Rattle.qed_top.specs.Answer.{usage_line, PrintsOnly, CallsFor, read_fault, too_long, within, CommandCallsFor, WordsCallFor, memory_bytes, memory_limit, default_steps, outcome_status, run_of}
-use Rattle.qed_top.specs.Run.{FileRuns}
+use Rattle.qed_model.specs.Words.{asked}
+use Rattle.qed_model.specs.Promise.Changed.{changed_run}
+use Rattle.fault_inject.specs.Counted.{changed_steps}
+use Rattle.qed_top.specs.Answer.{PrintsOnly, CallsFor, read_fault, too_long, within}
+use Rattle.qed_top.specs.Run.{memory_bytes, memory_limit, outcome_status, run_of, FileRuns}
 use Rattle.qed_top.specs.Run as run
+use Rattle.qed_top.specs.Orders.{AnswersOver, IsUsage, OrderCallsFor, WordsCallFor, source_limit, source_name}
 use Rattle.qed_top.specs.Ends.{OverFiles}
 use Rattle.qed_top.specs.declared.answer.Answer.{Answer}
 use Rattle.qed_top.specs.declared.status.Status.{Status}
-use Rattle.qed_top.specs.declared.status.Status.TheVariants.{Usage, Limit, ReadFault}
+use Rattle.qed_top.specs.declared.status.Status.TheVariants as status
 
 -- ---- files
 -- what holds of each file system holds of the one that is told
@@ -44,68 +53,102 @@ file_bytes-insert files name bytes =
 -- ---- meanings
 -- more counts may have risen, and what is answered within the limit may be said otherwise
 pub calls_more :
-    (limit : ℕ) (line bytes : List ℕ) (rose later V W : Type 0) (answer : Answer) → (rose → later) → (V → W) → CallsFor limit line bytes rose V answer
-    → CallsFor limit line bytes later W answer
-calls_more limit line bytes rose later V W answer h w (read_fault r) = read_fault (record { cause = h r.cause; plain = r.plain })
-calls_more limit line bytes rose later V W answer h w (too_long t) = too_long t
-calls_more limit line bytes rose later V W answer h w (within small v) = within small (w v)
+    (limit : Limit) (bytes : List ℕ) (rose later V W : Type 0) (answer : Answer) → (rose → later) → (V → W) → CallsFor limit bytes rose V answer
+    → CallsFor limit bytes later W answer
+calls_more limit bytes rose later V W answer h w (read_fault r) = read_fault (record { cause = h r.cause; plain = r.plain })
+calls_more limit bytes rose later V W answer h w (too_long t) = too_long t
+calls_more limit bytes rose later V W answer h w (within small v) = within small (w v)
 
 -- what a command with a limit means over the bytes under a name; W says what it answers over bytes within the limit
-module _ (told : Option Files) (name : List ℕ) (limit : ℕ) (line : List ℕ) (rose : Type 0) (W : List ℕ → Type 0) (answer : Answer) where
+module _ (told : Option Files) (name : List ℕ) (limit : Limit) (rose : Type 0) (W : List ℕ → Type 0) (answer : Answer) where
   abbrev pub OverCommand : Type 0
-  OverCommand = OverFiles told (λ f. CallsFor limit line (file_bytes f name) rose (W (file_bytes f name)) answer)
+  OverCommand = OverFiles told (λ f. CallsFor limit (file_bytes f name) rose (W (file_bytes f name)) answer)
 
   -- the bytes were loaded
-  pub over_bytes : (bytes : List ℕ) → IfSome told (λ f. bytes ≡ file_bytes f name) → length bytes ≤ limit → W bytes → OverCommand
+  pub over_bytes : (bytes : List ℕ) → IfSome told (λ f. bytes ≡ file_bytes f name) → length bytes ≤ limit_of limit → W bytes → OverCommand
   over_bytes bytes loaded small meant =
       let same = file_bytes-insert empty name bytes in
-      over_map told (λ f. bytes ≡ file_bytes f name) (λ f. CallsFor limit line (file_bytes f name) rose (W (file_bytes f name)) answer)
-      (λ f e. subst (λ (b : List ℕ). CallsFor limit line b rose (W b) answer) e (within small meant))
+      over_map told (λ f. bytes ≡ file_bytes f name) (λ f. CallsFor limit (file_bytes f name) rose (W (file_bytes f name)) answer)
+      (λ f e. subst (λ (b : List ℕ). CallsFor limit b rose (W b) answer) e (within small meant))
       (told_or told (λ f. bytes ≡ file_bytes f name) (insert empty name bytes) (sym same) loaded)
 
   -- the load failed
-  pub over_fault : rose → PrintsOnly ReadFault read_fault_line answer → OverCommand
-  over_fault cause plain = always told (λ f. CallsFor limit line (file_bytes f name) rose (W (file_bytes f name)) answer) (λ f. read_fault (record { cause = cause; plain = plain }))
+  pub over_fault : rose → PrintsOnly status.ReadFault read_fault_line answer → OverCommand
+  over_fault cause plain = always told (λ f. CallsFor limit (file_bytes f name) rose (W (file_bytes f name)) answer) (λ f. read_fault (record { cause = cause; plain = plain }))
 
   -- the file is too long
-  long_file : limit < length (file_bytes (insert empty name (replicate (limit + 1) 0)) name)
-  long_file = rw (file_bytes-insert empty name (replicate (limit + 1) 0), length-replicate) (omega arith)
+  long_file : limit_of limit < length (file_bytes (insert empty name (replicate (limit_of limit + 1) 0)) name)
+  long_file = rw (file_bytes-insert empty name (replicate (limit_of limit + 1) 0), length-replicate) (omega arith)
 
-  pub over_limit : IfSome told (λ f. limit < length (file_bytes f name)) → PrintsOnly Limit line answer → OverCommand
+  pub over_limit : IfSome told (λ f. limit_of limit < length (file_bytes f name)) → PrintsOnly status.Limit (limit_line limit 0) answer → OverCommand
   over_limit cause plain =
-      over_map told (λ f. limit < length (file_bytes f name)) (λ f. CallsFor limit line (file_bytes f name) rose (W (file_bytes f name)) answer)
+      over_map told (λ f. limit_of limit < length (file_bytes f name)) (λ f. CallsFor limit (file_bytes f name) rose (W (file_bytes f name)) answer)
       (λ f long. too_long (record { cause = long; plain = plain }))
-      (told_or told (λ f. limit < length (file_bytes f name)) (insert empty name (replicate (limit + 1) 0)) long_file cause)
+      (told_or told (λ f. limit_of limit < length (file_bytes f name)) (insert empty name (replicate (limit_of limit + 1) 0)) long_file cause)
 
   -- the bytes were not had, so nothing is said of what is answered over them
-  pub over_other : OverFiles told (λ f. CallsFor limit line (file_bytes f name) rose ⊥ answer) → OverCommand
+  pub over_other : OverFiles told (λ f. CallsFor limit (file_bytes f name) rose ⊥ answer) → OverCommand
   over_other o =
-      over_map told (λ f. CallsFor limit line (file_bytes f name) rose ⊥ answer) (λ f. CallsFor limit line (file_bytes f name) rose (W (file_bytes f name)) answer)
-      (λ f m. calls_more limit line (file_bytes f name) rose rose ⊥ (W (file_bytes f name)) answer (λ r. r) (λ none. absurd none) m) o
+      over_map told (λ f. CallsFor limit (file_bytes f name) rose ⊥ answer) (λ f. CallsFor limit (file_bytes f name) rose (W (file_bytes f name)) answer)
+      (λ f m. calls_more limit (file_bytes f name) rose rose ⊥ (W (file_bytes f name)) answer (λ r. r) (λ none. absurd none) m) o
 
--- the words are those of a command, or of none
-pub over_command :
-    (told : Option Files) (words : List (List ℕ)) (command : Asked) (rose : List ℕ → Type 0) (answer : Answer) → asked words ≡ Some command
-    → OverFiles told (λ f. CommandCallsFor command f rose answer) → OverFiles told (λ f. WordsCallFor words f rose answer)
-over_command told words command rose answer e o =
-    over_map told (λ f. CommandCallsFor command f rose answer) (λ f. WordsCallFor words f rose answer)
-    (λ f m. subst (λ (o : Option Asked). MatchOption o (PrintsOnly Usage usage_line answer) (λ c. CommandCallsFor c f rose answer)) (sym e) m) o
+-- ---- orders
+-- what an order means by the name of its file
+abbrev CallsBy : Order → Option (List ℕ) → Files → (List ℕ → Type 0) → Answer → Type 0
+CallsBy order source files rose answer =
+    MatchOption source (AnswersOver order [] answer)
+    (λ name. CallsFor (source_limit order) (file_bytes files name) (rose name) (AnswersOver order (file_bytes files name) answer) answer)
+
+-- an order that reads no file
+pub over_none :
+    (told : Option Files) (order : Order) (rose : List ℕ → Type 0) (answer : Answer) → source_name order ≡ None → AnswersOver order [] answer
+    → OverFiles told (λ f. OrderCallsFor order f rose answer)
+over_none told order rose answer e a = always told (λ f. OrderCallsFor order f rose answer) (λ f. subst (λ (source : Option (List ℕ)). CallsBy order source f rose answer) (sym e) a)
+
+-- an order that reads a file
+pub over_source :
+    (told : Option Files) (order : Order) (name : List ℕ) (rose : List ℕ → Type 0) (answer : Answer) → source_name order ≡ Some name
+    → OverFiles told (λ f. CallsFor (source_limit order) (file_bytes f name) (rose name) (AnswersOver order (file_bytes f name) answer) answer)
+    → OverFiles told (λ f. OrderCallsFor order f rose answer)
+over_source told order name rose answer e o =
+    over_map told (λ f. CallsFor (source_limit order) (file_bytes f name) (rose name) (AnswersOver order (file_bytes f name) answer) answer) (λ f. OrderCallsFor order f rose answer)
+    (λ f m. subst (λ (source : Option (List ℕ)). CallsBy order source f rose answer) (sym e) m) o
+
+-- ---- words
+abbrev WordsBy : Result Order Reason → Files → (List ℕ → Type 0) → Answer → Type 0
+WordsBy ask files rose answer = MatchResult ask (λ order. OrderCallsFor order files rose answer) (λ reason. IsUsage reason answer)
+
+-- the words ask for an order, or for nothing
+pub over_order :
+    (told : Option Files) (words : List (List ℕ)) (order : Order) (rose : List ℕ → Type 0) (answer : Answer) → asked words ≡ Ok order
+    → OverFiles told (λ f. OrderCallsFor order f rose answer) → OverFiles told (λ f. WordsCallFor words f rose answer)
+over_order told words order rose answer e o =
+    over_map told (λ f. OrderCallsFor order f rose answer) (λ f. WordsCallFor words f rose answer)
+    (λ f m. subst (λ (ask : Result Order Reason). WordsBy ask f rose answer) (sym e) m) o
 
 pub over_usage :
-    (told : Option Files) (words : List (List ℕ)) (rose : List ℕ → Type 0) (answer : Answer) → asked words ≡ None → PrintsOnly Usage usage_line answer
+    (told : Option Files) (words : List (List ℕ)) (reason : Reason) (rose : List ℕ → Type 0) (answer : Answer) → asked words ≡ Err reason → IsUsage reason answer
     → OverFiles told (λ f. WordsCallFor words f rose answer)
-over_usage told words rose answer e plain = always told (λ f. WordsCallFor words f rose answer) (λ f. subst (λ (o : Option Asked). MatchOption o (PrintsOnly Usage usage_line answer) (λ c. CommandCallsFor c f rose answer)) (sym e) plain)
+over_usage told words reason rose answer e plain = always told (λ f. WordsCallFor words f rose answer) (λ f. subst (λ (ask : Result Order Reason). WordsBy ask f rose answer) (sym e) plain)
 
 -- ---- `run`
+-- a machine that was run with changes from the start of a file
+pub was_changed :
+    (f : ElfFile) (steps : ℕ) (changes : List Change) (machine ended : Progress) → machine ≡ begun (start (loaded_file f) zeros)
+    → ended.state ≡ changed_run machine.state changes steps → ended.steps ≡ changed_steps machine changes steps → ended ≡ run_of f steps changes
+was_changed f steps changes machine ended begins state count =
+    let first : ended.state ≡ changed_run (start (loaded_file f) zeros) changes steps = state ∙ ap (λ m. changed_run m.state changes steps) begins in
+    let second : ended.steps ≡ changed_steps (begun (start (loaded_file f) zeros)) changes steps = count ∙ ap (λ m. changed_steps m changes steps) begins in
+    (λ i. record { state = first i; steps = second i })
+
 -- the machine of a file that is small enough was run
 pub was_run :
-    (f : ElfFile) (size : ℕ) (machine ended : Progress) (o : Outcome) (text : List ℕ) (s : Status) (answer : Answer) → size ≡ memory_bytes f.segments
-    → size ≤ memory_limit → machine ≡ begun (start (loaded_file f) zeros) → ended ≡ progress machine default_steps → o ≡ ended.state.outcome
-    → text ≡ run_lines ended → s ≡ outcome_status o → PrintsOnly s text answer → FileRuns f answer
-was_run f size machine ended o text s answer same small begins ends how lines status plain =
-    let is : ended ≡ run_of f = ends ∙ ap (λ m. progress m default_steps) begins in
+    (f : ElfFile) (steps : ℕ) (changes : List Change) (dump : Option (ℕ × ℕ)) (size : ℕ) (ended : Progress) (o : Outcome) (text : List ℕ) (s : Status) (answer : Answer)
+    → size ≡ memory_bytes f.segments → size ≤ memory_limit → ended ≡ run_of f steps changes → o ≡ ended.state.outcome
+    → text ≡ run_text ended dump → s ≡ outcome_status o → PrintsOnly s text answer → FileRuns f steps changes dump answer
+was_run f steps changes dump size ended o text s answer same small is how lines gives plain =
     run.ran (omega (arith, same, small)) (record {
-      status = plain.status ∙ status ∙ ap outcome_status (how ∙ ap (λ p. p.state.outcome) is);
-      text = plain.text ∙ lines ∙ ap run_lines is;
+      status = plain.status ∙ gives ∙ ap outcome_status (how ∙ ap (λ p. p.state.outcome) is);
+      text = plain.text ∙ lines ∙ ap (λ p. run_text p dump) is;
       stored = plain.stored;
     })

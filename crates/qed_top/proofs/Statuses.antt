@@ -7,7 +7,8 @@ use Rattle.qed_model.specs.declared.machine.Outcome.{Outcome}
 use Rattle.qed_model.specs.declared.machine.Outcome.TheVariants as outcome
 use Rattle.transform.specs.declared.error.TransformError.{TransformError}
 use Rattle.transform.specs.declared.error.TransformError.TheVariants as transform
-use Rattle.qed_top.specs.Answer.{error_status, admit_status, refusal_status, outcome_status}
+use Rattle.qed_top.specs.Refused.{error_status, admit_status, refusal_status}
+use Rattle.qed_top.specs.Run.{outcome_status}
 use Rattle.qed_top.specs.declared.status.Status.{Status}
 use Rattle.qed_top.specs.declared.status.Status.TheVariants.{Done, Usage, Refused, Limit, ReadFault, WriteFault, Memory, Fired, Trapped, StepsSpent}
 

@@ -1,5 +1,5 @@
 -- How the top call ends.
-use Rattle.std.specs.Prelude.{◌≡◌, ◌≢◌, ◌⊎◌, ◌<◌, ◌≤◌, ℕ, List, length, Option, MatchOption, IfSome}
+use Rattle.std.specs.Prelude.{◌≡◌, ◌≢◌, ◌⊎◌, ◌<◌, ◌≤◌, ℕ, List, [], length, Option, MatchOption, MatchResult, IfOk, IfSome}
 use Rattle.std.specs.Io.KnownBytes.{Appends}
 use Rattle.qed_io.specs.Files.{Files, file_bytes}
 use Rattle.qed_io.specs.Counts.{Rose, RoseAt}
@@ -9,11 +9,18 @@ use Rattle.elf_types.specs.declared.error.ElfError.{ElfError}
 use Rattle.transform.specs.declared.error.TransformError.{TransformError}
 use Rattle.transform.specs.declared.error.TransformError.TheVariants as transform
 use Rattle.transform.specs.Transform.{HasCause, IsTransformable}
-use Rattle.qed_model.specs.Options.{default_options}
+use Rattle.qed_model.specs.declared.change.Change.{Change}
+use Rattle.qed_model.specs.declared.options.Options.{Options}
+use Rattle.qed_model.specs.declared.order.Order.{Order}
+use Rattle.qed_model.specs.declared.order.Order.TheVariants.{Transform, Plan, Run, Campaign, Gen}
 use Rattle.qed_model.specs.Elf.File.{IsReadAs}
 use Rattle.qed_model.specs.Elf.Refusals.{IsRefused}
-use Rattle.qed_top.specs.Words.{Asked, Transform, Run, asked, read_name, stored_name}
-use Rattle.qed_top.specs.Answer.{load_limit, run_load_limit, WordsCallFor, FilesAfter, FilesInPart, StoreRose, ShelfSteady, error_status, refusal_status, memory_bytes, memory_limit, outcome_status, run_of}
+use Rattle.qed_model.specs.Limits.{limit_of}
+use Rattle.qed_model.specs.Words.{asked}
+use Rattle.qed_top.specs.Answer.{FilesAfter, FilesInPart, StoreRose, ShelfSteady}
+use Rattle.qed_top.specs.Refused.{error_status, refusal_status}
+use Rattle.qed_top.specs.Run.{memory_bytes, memory_limit, outcome_status, run_of}
+use Rattle.qed_top.specs.Orders.{WordsCallFor, source_name, source_limit, stored_name}
 use Rattle.qed_top.specs.declared.answer.Answer.{Answer}
 use Rattle.qed_top.specs.declared.status.Status.{Status}
 use Rattle.qed_top.specs.declared.status.Status.TheVariants.{Done, Usage, Limit, ReadFault, WriteFault, Memory}
@@ -103,35 +110,44 @@ abbrev pub Ends : Call → Status → Type 0
 Ends call status = OverFiles call.old (λ files. EndsOver call files status)
 
 -- ---- what can be expected
--- the status of `transform` over bytes within the limit, by what is true of them
-pub data TransformDecides (bytes : List ℕ) (status : Status) : Type 0 where
-  refused : (e : TransformError) → HasCause bytes default_options e → e ≢ transform.Memory → status ≡ refusal_status e → TransformDecides bytes status
-  done : IsTransformable bytes default_options → status ≡ Done → TransformDecides bytes status
+-- the status of `transform` and `plan` over bytes within the limit, by what is true of them
+pub data TransformDecides (bytes : List ℕ) (o : Options) (status : Status) : Type 0 where
+  refused : (e : TransformError) → HasCause bytes o e → e ≢ transform.Memory → status ≡ refusal_status e → TransformDecides bytes o status
+  done : IsTransformable bytes o → status ≡ Done → TransformDecides bytes o status
 
 -- the same of `run`
-pub data RunDecides (bytes : List ℕ) (status : Status) : Type 0 where
-  unread : (e : ElfError) → IsRefused bytes e → status ≡ error_status e → RunDecides bytes status
-  too_large : (f : ElfFile) → IsReadAs bytes f → memory_limit < memory_bytes f.segments → status ≡ Limit → RunDecides bytes status
-  ran : (f : ElfFile) → IsReadAs bytes f → memory_bytes f.segments ≤ memory_limit → status ≡ outcome_status (run_of f).state.outcome → RunDecides bytes status
+pub data RunDecides (bytes : List ℕ) (steps : ℕ) (changes : List Change) (status : Status) : Type 0 where
+  unread : (e : ElfError) → IsRefused bytes e → status ≡ error_status e → RunDecides bytes steps changes status
+  too_large : (f : ElfFile) → IsReadAs bytes f → memory_limit < memory_bytes f.segments → status ≡ Limit → RunDecides bytes steps changes status
+  ran : (f : ElfFile) → IsReadAs bytes f → memory_bytes f.segments ≤ memory_limit → status ≡ outcome_status (run_of f steps changes).state.outcome → RunDecides bytes steps changes status
 
--- the status of a command over the bytes of its file, of which it takes so many
+-- the status of an order over the bytes of its file, which are within the limit
+abbrev pub DecidesOver : Order → List ℕ → Status → Type 0
+DecidesOver (Transform input output options) bytes status = TransformDecides bytes options status
+DecidesOver (Plan input options) bytes status = TransformDecides bytes options status
+DecidesOver (Run file steps changes dump) bytes status = RunDecides bytes steps changes status
+DecidesOver (Campaign input options seed count changes) bytes status = status ≡ Usage
+DecidesOver (Gen output seed size) bytes status = status ≡ Usage
+
+-- the status over the bytes of a file, of which so many are taken
 pub data Decided (limit : ℕ) (bytes : List ℕ) (Within : Type 0) (status : Status) : Type 0 where
   too_long : limit < length bytes → status ≡ Limit → Decided limit bytes Within status
   within : length bytes ≤ limit → Within → Decided limit bytes Within status
 
-abbrev pub CommandDecides : Asked → Files → Status → Type 0
-CommandDecides (Transform input output) files status = Decided load_limit (file_bytes files input) (TransformDecides (file_bytes files input) status) status
-CommandDecides (Run file) files status = Decided run_load_limit (file_bytes files file) (RunDecides (file_bytes files file) status) status
+abbrev pub OrderDecides : Order → Files → Status → Type 0
+OrderDecides order files status =
+    MatchOption (source_name order) (DecidesOver order [] status)
+    (λ name. Decided (limit_of (source_limit order)) (file_bytes files name) (DecidesOver order (file_bytes files name) status) status)
 
 -- the status that the words and the files decide
 abbrev pub Decides : List (List ℕ) → Files → Status → Type 0
-Decides words files status = MatchOption (asked words) (status ≡ Usage) (λ command. CommandDecides command files status)
+Decides words files status = MatchResult (asked words) (λ order. OrderDecides order files status) (λ reason. status ≡ Usage)
 
 -- neither the count of the sink rose, nor that of loads of the file that is read, nor that of stores of the one that is stored
 pub record NoFault (call : Call) : Type 0 where
   pub sink : sink_rose call → ⊥
-  pub load : IfSome (asked call.words) (λ command. load_rose call (read_name command) → ⊥)
-  pub store : IfSome (asked call.words) (λ command. IfSome (stored_name command) (λ name. store_rose call name → ⊥))
+  pub load : IfOk (asked call.words) (λ order. IfSome (source_name order) (λ name. load_rose call name → ⊥))
+  pub store : IfOk (asked call.words) (λ order. IfSome (stored_name order) (λ name. store_rose call name → ⊥))
 
 -- with no fault the status is the one that is decided, or there was no memory
 abbrev pub IsComplete : Call → Status → Type 0

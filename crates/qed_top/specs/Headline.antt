@@ -1,29 +1,36 @@
 -- The headline: what the top call promises of both files when `transform IN OUT` is done.
-use Rattle.std.specs.Prelude.{◌≡◌, ℕ, List, map, Some, IfSome}
+use Rattle.std.specs.Prelude.{◌≡◌, ℕ, List, length, map, true, Some, Ok, IfSome}
 use Rattle.std.specs.FinMap.{insert}
 use Rattle.std.specs.Io.KnownBytes.{Appends}
 use Rattle.elf_types.specs.declared.file.ElfFile.{ElfFile}
 use Rattle.qed_io.specs.Files.{Files, file_bytes}
+use Rattle.qed_model.specs.declared.options.Options.{Options}
+use Rattle.qed_model.specs.declared.order.Order.TheVariants.{Transform}
 use Rattle.qed_model.specs.declared.plan.Plan.{Plan}
 use Rattle.qed_model.specs.Elf.File.{IsReadAs}
 use Rattle.qed_model.specs.Machine.Loading.{loaded_file}
-use Rattle.qed_model.specs.Admission.DataRanges.{range_of}
-use Rattle.qed_model.specs.Options.{default_options}
+use Rattle.qed_model.specs.Admission.DataRanges.{range_of, word_count}
+use Rattle.qed_model.specs.Weave.Bounds.{end_bound}
 use Rattle.qed_model.specs.Weave.Woven.{Woven, IsToldOf}
 use Rattle.qed_model.specs.Promise.Kept.{Kept}
 use Rattle.qed_model.specs.Promise.Landed.{Landed}
 use Rattle.qed_model.specs.Promise.Caught.{Caught}
+use Rattle.qed_model.specs.Promise.Clean.{Clean}
 use Rattle.qed_model.specs.Text.Plan.{plan_line}
-use Rattle.qed_top.specs.Words.{Transform, asked}
+use Rattle.qed_model.specs.Words.{asked}
 use Rattle.qed_top.specs.Ends.{OverFiles, Call, Ends, IsComplete}
 use Rattle.qed_top.specs.declared.status.Status.{Status}
 use Rattle.qed_top.specs.declared.status.Status.TheVariants.{Done}
 
--- IN is a test and OUT a program that was woven from it. The program's run has the values of the test's run after each of its
--- steps, and no check fires; a jump to a wrong entry fires; changes of original registers and of data words are caught. Bounds,
--- entries and data ranges are those of the woven plan, whose numbers the line tells: of its bounds those of a register and of a
--- word.
-pub record IsPromised (input output line : List ℕ) : Type 0 where
+-- the steps of a sweep and what ends the test
+abbrev pub sweep_bound : List (ℕ × ℕ) → ℕ
+sweep_bound spans = end_bound true (length spans) (word_count spans)
+
+-- IN is a test and OUT a program that was woven from it, with these options. The program's run has the values of the test's run
+-- after each of its steps, and no check fires; a jump to a wrong entry fires; changes of original registers and of data words are
+-- caught; with the sweep none is silent at the end. Bounds, entries and data ranges are those of the woven plan, whose numbers the
+-- line tells: of its bounds those of a register and of a word.
+pub record IsPromised (input : List ℕ) (options : Options) (output line : List ℕ) : Type 0 where
   pub test : ElfFile
   pub program : ElfFile
   pub plan : Plan
@@ -32,23 +39,24 @@ pub record IsPromised (input output line : List ℕ) : Type 0 where
   pub kept : Kept (loaded_file test) (loaded_file program) plan.bounds.start plan.bounds.piece
   pub landed : Landed (loaded_file test) (loaded_file program) plan.entries
   pub caught : Caught (loaded_file test) (loaded_file program) (map range_of plan.span) plan.bounds
-  pub woven : Woven input default_options output
-  pub told : IsToldOf woven.file.file default_options woven.file.blocks plan
+  pub clean : options.sweep ≡ true → Clean (loaded_file test) (loaded_file program) (map range_of plan.span) (sweep_bound (map range_of plan.span))
+  pub woven : Woven input options output
+  pub told : IsToldOf woven.file.file options woven.file.blocks plan
   pub printed : line ≡ plan_line plan
 
 -- OUT was stored, all other files are as they were, and the line was printed
-pub record IsDelivered (call : Call) (files : Files) (input output : List ℕ) : Type 0 where
+pub record IsDelivered (call : Call) (files : Files) (input output : List ℕ) (options : Options) : Type 0 where
   pub file : List ℕ
   pub line : List ℕ
   pub stored : IfSome call.old (λ old. call.new ≡ Some (insert old output file))
   pub printed : Appends call.was call.now line
-  pub promised : IsPromised (file_bytes files input) file line
+  pub promised : IsPromised (file_bytes files input) options file line
 
 -- after `transform IN OUT` with Done
 abbrev pub HoldsHeadline : Call → Status → Type 0
 HoldsHeadline call status =
-    (input output : List ℕ) → asked call.words ≡ Some (Transform input output) → status ≡ Done
-    → OverFiles call.old (λ files. IsDelivered call files input output)
+    (input output : List ℕ) (options : Options) → asked call.words ≡ Ok (Transform input output options) → status ≡ Done
+    → OverFiles call.old (λ files. IsDelivered call files input output options)
 
 -- all that is said of a call that answers this status: its headline, why the status comes with what was stored and printed, and which
 -- status comes where there is no fault

@@ -1,9 +1,10 @@
-pub mod Words
-pub mod Commands
+pub mod Answer
+pub mod Refused
+pub mod Makes
+pub mod Run
+pub mod Orders
 pub mod Codes
 pub mod Fault
-pub mod Answer
 pub mod Ends
-pub mod Run
 pub mod Program
 pub mod Headline

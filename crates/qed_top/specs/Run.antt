@@ -1,14 +1,62 @@
--- What `run` answers for a file that was read.
-use Rattle.std.specs.Prelude.{◌<◌, ◌≤◌}
+-- What `run` answers.
+use Rattle.std.specs.Prelude.{◌<◌, ◌≤◌, ℕ, ◌+◌, cond, List, [], ◌∷◌, Option}
+use Rattle.elf_types.specs.declared.file.Segment.{Segment}
 use Rattle.elf_types.specs.declared.file.ElfFile.{ElfFile}
-use Rattle.qed_model.specs.Text.Run.{run_lines}
+use Rattle.elf_types.specs.Abi.{is_load}
+use Rattle.fault_inject.specs.Counted.{changed_steps}
+use Rattle.qed_model.specs.declared.change.Change.{Change}
 use Rattle.qed_model.specs.declared.limits.Limit.TheVariants as limit
+use Rattle.qed_model.specs.declared.machine.Outcome.{Outcome}
+use Rattle.qed_model.specs.declared.machine.Outcome.TheVariants as outcome
+use Rattle.qed_model.specs.Elf.File.{IsReadAs}
+use Rattle.qed_model.specs.Limits.{limit_of}
+use Rattle.qed_model.specs.Machine.Loading.{loaded_file}
+use Rattle.qed_model.specs.Machine.Program.{start, zeros}
+use Rattle.qed_model.specs.Machine.Progress.{Progress, begun}
+use Rattle.qed_model.specs.Promise.Changed.{changed_run}
 use Rattle.qed_model.specs.Text.Errors.{limit_line}
-use Rattle.qed_top.specs.Answer.{PrintsOnly, memory_bytes, memory_limit, outcome_status, run_of}
+use Rattle.qed_model.specs.Text.Run.{run_text}
+use Rattle.qed_top.specs.Answer.{PrintsOnly}
+use Rattle.qed_top.specs.Refused.{IsUnread}
 use Rattle.qed_top.specs.declared.answer.Answer.{Answer}
-use Rattle.qed_top.specs.declared.status.Status.TheVariants.{Limit}
+use Rattle.qed_top.specs.declared.status.Status.{Status}
+use Rattle.qed_top.specs.declared.status.Status.TheVariants.{Done, Limit, Fired, Trapped, StepsSpent}
 
--- its segments are too large, or it is run
-pub data FileRuns (f : ElfFile) (answer : Answer) : Type 0 where
-  too_large : memory_limit < memory_bytes f.segments → PrintsOnly Limit (limit_line limit.MemoryBytes (memory_bytes f.segments)) answer → FileRuns f answer
-  ran : memory_bytes f.segments ≤ memory_limit → PrintsOnly (outcome_status (run_of f).state.outcome) (run_lines (run_of f)) answer → FileRuns f answer
+-- the memory sizes of the PT_LOAD segments together
+abbrev pub memory_bytes : List Segment → ℕ
+memory_bytes [] = 0
+memory_bytes (s ∷ segments) = cond (is_load s.kind) s.memory 0 + memory_bytes segments
+
+-- how many of them can be run
+abbrev pub memory_limit : ℕ
+memory_limit = limit_of limit.MemoryBytes
+
+-- so many steps of a file from all registers 0, with changes
+abbrev pub run_of : ElfFile → ℕ → List Change → Progress
+run_of file steps changes = record {
+  state = changed_run (start (loaded_file file) zeros) changes steps;
+  steps = changed_steps (begun (start (loaded_file file) zeros)) changes steps;
+}
+
+-- the status that goes with the end of a run
+abbrev pub outcome_status : Outcome → Status
+outcome_status outcome.Ended = Done
+outcome_status outcome.Fired = Fired
+outcome_status (outcome.Trapped c pc) = Trapped
+outcome_status outcome.Going = StepsSpent
+
+-- L6: the segments of a file have too many bytes in memory, or it is run
+pub data FileRuns (f : ElfFile) (steps : ℕ) (changes : List Change) (dump : Option (ℕ × ℕ)) (answer : Answer) : Type 0 where
+  too_large : memory_limit < memory_bytes f.segments → PrintsOnly Limit (limit_line limit.MemoryBytes (memory_bytes f.segments)) answer → FileRuns f steps changes dump answer
+  ran : memory_bytes f.segments ≤ memory_limit → PrintsOnly (outcome_status (run_of f steps changes).state.outcome) (run_text (run_of f steps changes) dump) answer → FileRuns f steps changes dump answer
+
+-- the file was read
+pub record IsRun (bytes : List ℕ) (steps : ℕ) (changes : List Change) (dump : Option (ℕ × ℕ)) (answer : Answer) : Type 0 where
+  pub file : ElfFile
+  pub read : IsReadAs bytes file
+  pub runs : FileRuns file steps changes dump answer
+
+-- the answer over the bytes of the file, which are within the limit
+pub data Runs (bytes : List ℕ) (steps : ℕ) (changes : List Change) (dump : Option (ℕ × ℕ)) (answer : Answer) : Type 0 where
+  unread : IsUnread bytes answer → Runs bytes steps changes dump answer
+  run : IsRun bytes steps changes dump answer → Runs bytes steps changes dump answer

@@ -5,11 +5,13 @@
 mod answer;
 mod decide;
 mod fault;
+mod make;
+mod orders;
 mod program;
+mod refusal;
 mod run;
 mod status;
 mod top;
-mod words;
 
 pub use program::{exit_code, run_program};
 pub use status::Status;

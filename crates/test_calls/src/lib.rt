@@ -2,7 +2,7 @@
 #![tactic(auto)]
 
 ghost use Rattle.std.specs.Prelude.{◌≡◌, map, IfOk, OnErr};
-ghost use Rattle.qed_top.specs.Words.{texts};
+ghost use Rattle.qed_model.specs.Words.{texts};
 ghost use Rattle.qed_top.specs.Headline.{Answers};
 
 use qed_io::{Shelf, Sink};

@@ -1,5 +1,5 @@
 use Rattle.std.proofs.Common.{List, ℕ, ap, ◌∙◌, subst}
-use Rattle.qed_top.specs.Words.{texts}
+use Rattle.qed_model.specs.Words.{texts}
 use Rattle.qed_top.specs.Headline.{Answers}
 use Rattle.test_calls.proofs.run.Goals as goal
 

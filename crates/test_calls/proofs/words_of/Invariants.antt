@@ -1,5 +1,5 @@
 use Rattle.std.proofs.Common.{◌≡◌, ◌++◌, map, drop}
-use Rattle.qed_top.specs.Words.{texts}
+use Rattle.qed_model.specs.Words.{texts}
 use Rattle.test_calls.proofs.words_of.Given as goal
 
 -- the words so far and those of the rest of the line are all

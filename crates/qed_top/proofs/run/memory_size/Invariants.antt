@@ -1,5 +1,5 @@
 use Rattle.std.proofs.Common.{◌≡◌, ◌+◌, ◌*◌, ◌^◌, ◌≤◌, drop}
-use Rattle.qed_top.specs.Answer.{memory_bytes}
+use Rattle.qed_top.specs.Run.{memory_bytes}
 use Rattle.qed_top.proofs.run.memory_size.Given as goal
 
 -- the sizes so far and those of the rest are those of all

@@ -1,0 +1,58 @@
+-- What the words and the files call for.
+use Rattle.std.specs.Prelude.{ℕ, List, [], Option, None, Some, MatchOption, MatchResult}
+use Rattle.qed_io.specs.Files.{Files, file_bytes}
+use Rattle.qed_model.specs.declared.limits.Limit as limits
+use Rattle.qed_model.specs.declared.limits.Limit.TheVariants.{FileBytes, RunFileBytes}
+use Rattle.qed_model.specs.declared.order.Order.{Order}
+use Rattle.qed_model.specs.declared.order.Order.TheVariants.{Transform, Plan, Run, Campaign, Gen}
+use Rattle.qed_model.specs.declared.order.Reason.{Reason}
+use Rattle.qed_model.specs.declared.order.Reason.TheVariants.{UnknownCommand}
+use Rattle.qed_model.specs.Text.Usage.{reason_line}
+use Rattle.qed_model.specs.Words.{asked}
+use Rattle.qed_top.specs.Answer.{PrintsOnly, CallsFor}
+use Rattle.qed_top.specs.Makes.{Makes, Delivers, TellsPlan}
+use Rattle.qed_top.specs.Run.{Runs}
+use Rattle.qed_top.specs.declared.answer.Answer.{Answer}
+use Rattle.qed_top.specs.declared.status.Status.TheVariants.{Usage}
+
+-- ---- files
+-- the name of the file that an order reads, where there is one; what is not built yet reads none
+abbrev pub source_name : Order → Option (List ℕ)
+source_name (Transform input output options) = Some input
+source_name (Plan input options) = Some input
+source_name (Run file steps changes dump) = Some file
+source_name (Campaign input options seed count changes) = None
+source_name (Gen output seed size) = None
+
+-- the limit on its bytes
+abbrev pub source_limit : Order → limits.Limit
+source_limit (Run file steps changes dump) = RunFileBytes
+source_limit _ = FileBytes
+
+-- the name of the file that an order stores, where there is one
+abbrev pub stored_name : Order → Option (List ℕ)
+stored_name (Transform input output options) = Some output
+stored_name _ = None
+
+-- ---- answers
+-- the words ask for nothing, and this is why
+abbrev pub IsUsage : Reason → Answer → Type 0
+IsUsage reason answer = PrintsOnly Usage (reason_line reason) answer
+
+-- what an order calls for over the bytes of its file, which are within the limit; campaigns and generated tests are not built yet
+abbrev pub AnswersOver : Order → List ℕ → Answer → Type 0
+AnswersOver (Transform input output options) bytes answer = Makes bytes options (Delivers output) answer
+AnswersOver (Plan input options) bytes answer = Makes bytes options TellsPlan answer
+AnswersOver (Run file steps changes dump) bytes answer = Runs bytes steps changes dump answer
+AnswersOver (Campaign input options seed count changes) bytes answer = IsUsage UnknownCommand answer
+AnswersOver (Gen output seed size) bytes answer = IsUsage UnknownCommand answer
+
+-- the same with the loading of the file; `rose` holds of a name whose count of failed loads rose
+abbrev pub OrderCallsFor : Order → Files → (List ℕ → Type 0) → Answer → Type 0
+OrderCallsFor order files rose answer =
+    MatchOption (source_name order) (AnswersOver order [] answer)
+    (λ name. CallsFor (source_limit order) (file_bytes files name) (rose name) (AnswersOver order (file_bytes files name) answer) answer)
+
+-- what the words call for over these files
+abbrev pub WordsCallFor : List (List ℕ) → Files → (List ℕ → Type 0) → Answer → Type 0
+WordsCallFor words files rose answer = MatchResult (asked words) (λ order. OrderCallsFor order files rose answer) (λ reason. IsUsage reason answer)

@@ -1,0 +1,70 @@
+-- Files that are refused, or above a limit.
+use Rattle.std.specs.Prelude.{◌≢◌, ℕ, List, []}
+use Rattle.elf_types.specs.declared.error.ElfError.{ElfError}
+use Rattle.elf_types.specs.declared.error.ElfError.TheVariants as error
+use Rattle.qed_model.specs.declared.admit.AdmitError.{AdmitError}
+use Rattle.qed_model.specs.declared.admit.AdmitError.TheVariants as admit
+use Rattle.qed_model.specs.declared.limits.Limit.TheVariants as limit
+use Rattle.qed_model.specs.declared.options.Options.{Options}
+use Rattle.qed_model.specs.Admission.Ends.{HasEnds}
+use Rattle.qed_model.specs.Elf.Refusals as Refusals
+use Rattle.qed_model.specs.Text.Errors.{error_line, limit_line}
+use Rattle.report.specs.Admission.{admit_line}
+use Rattle.transform.specs.declared.error.TransformError.{TransformError}
+use Rattle.transform.specs.declared.error.TransformError.TheVariants as transform
+use Rattle.transform.specs.Transform.{HasCause}
+use Rattle.qed_top.specs.Answer.{PrintsOnly}
+use Rattle.qed_top.specs.declared.answer.Answer.{Answer}
+use Rattle.qed_top.specs.declared.status.Status.{Status}
+use Rattle.qed_top.specs.declared.status.Status.TheVariants.{Refused, Limit}
+
+-- ---- files that are not read
+-- L5 and L10 are limits, all other rules refuse
+abbrev pub error_status : ElfError → Status
+error_status (error.TooManySections n) = Limit
+error_status (error.TooManyBytes n) = Limit
+error_status _ = Refused
+
+-- E1 to E13, L5 or L10: the first rule that refuses the bytes, with its place or number
+pub record IsUnread (bytes : List ℕ) (answer : Answer) : Type 0 where
+  pub error : ElfError
+  pub cause : Refusals.IsRefused bytes error
+  pub plain : PrintsOnly (error_status error) (error_line error) answer
+
+-- ---- files that are not transformed
+-- L2, L3 and L7 are limits, the rules A1 to A11 refuse
+abbrev pub admit_status : AdmitError → Status
+admit_status (admit.ImageSpan n) = Limit
+admit_status (admit.CodeWords n) = Limit
+admit_status (admit.TopAddress n) = Limit
+admit_status _ = Refused
+
+-- the status that goes with an error of the transformation, and its line
+abbrev pub refusal_status : TransformError → Status
+refusal_status (transform.Elf e) = error_status e
+refusal_status (transform.Admit e) = admit_status e
+refusal_status (transform.TooLarge n) = Limit
+refusal_status (transform.TooManySegments n) = Limit
+refusal_status (transform.FileTooLong n) = Limit
+refusal_status transform.Memory = Refused
+
+abbrev pub refusal_line : TransformError → List ℕ
+refusal_line (transform.Elf e) = error_line e
+refusal_line (transform.Admit e) = admit_line e
+refusal_line (transform.TooLarge n) = limit_line limit.CodeBytes n
+refusal_line (transform.TooManySegments n) = limit_line limit.OutputSegments n
+refusal_line (transform.FileTooLong n) = limit_line limit.OutputBytes n
+refusal_line transform.Memory = []
+
+-- what a line about a test that is not admitted tells can be printed
+abbrev pub TellsEnds : TransformError → Type 0
+TellsEnds (transform.Admit e) = HasEnds e
+TellsEnds _ = Unit {0}
+
+-- the file is not read (E1 to E13, L5, L10), it is not admitted (A1 to A11, L2, L3, L7), or its new code or its output would be too
+-- large (L4, L8, L9). The first of these holds, with its place or number.
+pub record IsRefused (bytes : List ℕ) (o : Options) (answer : Answer) : Type 0 where
+  pub error : TransformError
+  pub cause : HasCause bytes o error
+  pub known : error ≢ transform.Memory
+  pub plain : PrintsOnly (refusal_status error) (refusal_line error) answer

@@ -1,0 +1,68 @@
+//! What orders call for.
+ghost use Rattle.std.specs.Prelude.{◌≡◌, IfOk};
+ghost use Rattle.std.specs.Option.{option_copied};
+ghost use Rattle.qed_words.specs.Sound.{IsSoundOrder};
+ghost use Rattle.qed_top.specs.Orders.{AnswersOver, IsUsage, source_limit as source_limit_of, source_name as source_name_of};
+
+use crate::answer::{Answer, plain};
+use crate::make::{answer_plan, answer_transform};
+use crate::run::answer_run;
+use crate::status::Status;
+use qed_model::{Limit, Order, Reason};
+use report::usage_text;
+use std::alloc::{AllocError, Global};
+
+/// The name of the file that an order reads, where there is one.
+pub fn source_name(order: &Order) -> Option<&str>
+    ensures { option_copied result ≡ source_name_of order.now }
+{
+    match order {
+        Order::Transform(input, _, _) => Some(input.as_str()),
+        Order::Plan(input, _) => Some(input.as_str()),
+        Order::Run(file, _, _, _) => Some(file.as_str()),
+        Order::Campaign(_, _, _, _, _) | Order::Gen(_, _, _) => None,
+    }
+}
+
+/// The limit on the bytes of the file that an order reads.
+pub fn source_limit(order: &Order) -> Limit
+    ensures { result ≡ source_limit_of order.now }
+{
+    match order {
+        Order::Run(_, _, _, _) => Limit::RunFileBytes,
+        _ => Limit::FileBytes,
+    }
+}
+
+/// The answer where the words ask for nothing.
+pub fn usage(alloc: Global, reason: Reason) -> Result<Answer, AllocError>
+    ensures { IfOk result (IsUsage reason) }
+{
+    let text = usage_text(alloc, reason)?;
+    Ok(plain(Status::Usage, text))
+}
+
+/// What an order calls for over the bytes of its file. Campaigns and generated tests are not built yet.
+pub fn answer_order(alloc: Global, order: Order, bytes: &[u8]) -> Result<Answer, AllocError>
+    requires { IsSoundOrder order }
+    ensures { IfOk result (AnswersOver order bytes.now) }
+{
+    match order {
+        Order::Transform(_, output, options) => {
+            let answer = answer_transform(alloc, bytes, output, &options)?;
+            Ok(answer)
+        }
+        Order::Plan(_, options) => {
+            let answer = answer_plan(alloc, bytes, &options)?;
+            Ok(answer)
+        }
+        Order::Run(_, steps, changes, dump) => {
+            let answer = answer_run(alloc, bytes, steps, changes.as_slice(), dump)?;
+            Ok(answer)
+        }
+        Order::Campaign(_, _, _, _, _) | Order::Gen(_, _, _) => {
+            let answer = usage(alloc, Reason::UnknownCommand)?;
+            Ok(answer)
+        }
+    }
+}

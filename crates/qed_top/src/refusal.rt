@@ -1,0 +1,88 @@
+//! Answers for files that are refused, or above a limit.
+ghost use Rattle.std.specs.Prelude.{◌≡◌, ◌≢◌, IfOk, OnOk};
+ghost use Rattle.qed_model.specs.Text.Errors.{error_line};
+ghost use Rattle.qed_top.specs.Answer.{PrintsOnly};
+ghost use Rattle.qed_top.specs.Refused.{TellsEnds, admit_status, error_status, refusal_line, refusal_status};
+
+use crate::answer::{Answer, plain};
+use crate::status::Status;
+use elf_types::{Bytes, ElfError};
+use qed_model::{AdmitError, Limit};
+use report::{admit_text, error_text, limit_text};
+use std::alloc::{AllocError, Global};
+use transform::TransformError;
+
+/// The status that goes with a file that is not read.
+fn status_of(error: ElfError) -> Status
+    ensures { result ≡ error_status error }
+{
+    match error {
+        ElfError::TooManySections(_) | ElfError::TooManyBytes(_) => Status::Limit,
+        _ => Status::Refused,
+    }
+}
+
+/// The answer for a file that is not read. Want of memory is answered as such.
+pub fn unread(alloc: Global, error: ElfError) -> Result<Answer, AllocError>
+    ensures answer { IfOk result (PrintsOnly (error_status error) (error_line error)) }
+    ensures memory { OnOk result (error ≢ ElfError.Memory) }
+{
+    let text = error_text(alloc, error)?;
+    Ok(plain(status_of(error), text))
+}
+
+/// The line about a file that is not transformed.
+fn refusal_text(alloc: Global, error: &TransformError) -> Result<Bytes, AllocError>
+    requires { TellsEnds error.now }
+    ensures text { IfOk result (λ text. text ≡ refusal_line error.now) }
+    ensures memory { OnOk result (error.now ≢ TransformError.Memory) }
+{
+    match error {
+        TransformError::Elf(unread) => Ok(error_text(alloc, *unread)?),
+        TransformError::Admit(rule) => Ok(admit_text(alloc, rule)?),
+        TransformError::TooLarge(n) => Ok(limit_text(alloc, Limit::CodeBytes, u128::from(*n))?),
+        TransformError::TooManySegments(n) => Ok(limit_text(
+            alloc,
+            Limit::OutputSegments,
+            u128::from(*n),
+        )?),
+        TransformError::FileTooLong(n) => Ok(limit_text(alloc, Limit::OutputBytes, *n)?),
+        TransformError::Memory => Err(AllocError),
+    }
+}
+
+/// The status that goes with a test that is not admitted.
+fn admit_status_of(rule: AdmitError) -> Status
+    ensures { result ≡ admit_status rule }
+{
+    match rule {
+        AdmitError::ImageSpan(_) | AdmitError::CodeWords(_) | AdmitError::TopAddress(_) => {
+            Status::Limit
+        }
+        _ => Status::Refused,
+    }
+}
+
+/// The status that goes with a file that is not transformed.
+fn refusal_status_of(error: &TransformError) -> Status
+    ensures { result ≡ refusal_status error.now }
+{
+    match error {
+        TransformError::Elf(unread) => status_of(*unread),
+        TransformError::Admit(rule) => admit_status_of(*rule),
+        TransformError::TooLarge(_) => Status::Limit,
+        TransformError::TooManySegments(_) => Status::Limit,
+        TransformError::FileTooLong(_) => Status::Limit,
+        TransformError::Memory => Status::Refused,
+    }
+}
+
+/// The answer for a file that is not transformed. Want of memory is answered as such.
+pub fn refused(alloc: Global, error: &TransformError) -> Result<Answer, AllocError>
+    requires { TellsEnds error.now }
+    ensures answer { IfOk result (PrintsOnly (refusal_status error.now) (refusal_line error.now)) }
+    ensures memory { OnOk result (error.now ≢ TransformError.Memory) }
+{
+    let text = refusal_text(alloc, error)?;
+    Ok(plain(refusal_status_of(error), text))
+}
