@@ -1,0 +1,45 @@
+//! Hexadecimal numbers.
+ghost use Rattle.std.specs.Prelude.{Some};
+ghost use Rattle.qed_model.specs.Text.Run.{hex_text, word_text};
+ghost use Rattle.rv_text.specs.Text.{upper_text};
+
+use std::fmt;
+
+/// An address, printed as `0x` and 16 lower-case digits.
+#[derive(Clone, Copy, Debug)]
+pub struct Address(pub u64);
+
+impl fmt::Display for Address {
+    ghost output = { λ a. Some (hex_text a.0) };
+
+    fn fmt<W: fmt::Write>(&self, f: &mut fmt::Formatter<W>) -> fmt::Result {
+        let address = self.0;
+        write!(f, "0x{address:016x}")
+    }
+}
+
+/// A word, printed as `0x` and 8 lower-case digits.
+#[derive(Clone, Copy, Debug)]
+pub struct Word(pub u32);
+
+impl fmt::Display for Word {
+    ghost output = { λ w. Some (word_text w.0) };
+
+    fn fmt<W: fmt::Write>(&self, f: &mut fmt::Formatter<W>) -> fmt::Result {
+        let word = self.0;
+        write!(f, "0x{word:08x}")
+    }
+}
+
+/// The upper 20 bits of a word, printed as `0x` and 5 lower-case digits.
+#[derive(Clone, Copy, Debug)]
+pub struct Upper(pub u32);
+
+impl fmt::Display for Upper {
+    ghost output = { λ u. Some (upper_text u.0) };
+
+    fn fmt<W: fmt::Write>(&self, f: &mut fmt::Formatter<W>) -> fmt::Result {
+        let upper = self.0;
+        write!(f, "0x{upper:05x}")
+    }
+}

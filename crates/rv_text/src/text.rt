@@ -1,0 +1,105 @@
+//! The text of a word.
+ghost use Rattle.std.specs.Prelude.{◌≡◌, Some, IfOk};
+ghost use Rattle.rv_text.specs.Text.{register_text, place_text, operands_text, text_of};
+
+use crate::forms::{Form, form_of};
+use crate::hex::{Upper, Word};
+use crate::names::name_of;
+use elf_types::Bytes;
+use rv_decode::decode;
+use rv_isa::{Field, Ins, Reg};
+use std::alloc::{AllocError, Global};
+use std::fmt;
+
+/// A register, printed as `x5`.
+#[derive(Clone, Copy, Debug)]
+struct Register(Reg);
+
+impl fmt::Display for Register {
+    ghost output = { λ r. Some (register_text r.0) };
+
+    fn fmt<W: fmt::Write>(&self, f: &mut fmt::Formatter<W>) -> fmt::Result {
+        let number = self.0.number();
+        write!(f, "x{number}")
+    }
+}
+
+/// An address, printed as `-8(x5)`.
+#[derive(Clone, Copy, Debug)]
+struct Place {
+    /// In bytes.
+    offset: i64,
+    base: Reg,
+}
+
+impl fmt::Display for Place {
+    ghost output = { λ p. Some (place_text p.offset p.base) };
+
+    fn fmt<W: fmt::Write>(&self, f: &mut fmt::Formatter<W>) -> fmt::Result {
+        let offset = self.offset;
+        let base = Register(self.base);
+        write!(f, "{offset}({base})")
+    }
+}
+
+/// The operands of an instruction and its word, printed behind a space.
+#[derive(Clone, Copy, Debug)]
+struct Operands {
+    ins: Ins,
+    word: u32,
+}
+
+impl fmt::Display for Operands {
+    ghost use Rattle.rv_text.specs.Forms.{form_of as form_of_kind};
+
+    ghost output = { λ o. Some (operands_text (form_of_kind o.ins.kind) o.ins o.word) };
+
+    #[tactic(auto, unfolding(crate::specs::Text::operands_text))]
+    fn fmt<W: fmt::Write>(&self, f: &mut fmt::Formatter<W>) -> fmt::Result {
+        let ins = self.ins;
+        let (rd, rs1, rs2) = (Register(ins.rd), Register(ins.rs1), Register(ins.rs2));
+        let imm = ins.imm;
+        match form_of(ins.kind) {
+            Form::Registers => write!(f, " {rd}, {rs1}, {rs2}"),
+            Form::Immediate => write!(f, " {rd}, {rs1}, {imm}"),
+            Form::Load => {
+                let place = Place {
+                    offset: imm,
+                    base: ins.rs1,
+                };
+                write!(f, " {rd}, {place}")
+            }
+            Form::Store => {
+                let place = Place {
+                    offset: imm,
+                    base: ins.rs1,
+                };
+                write!(f, " {rs2}, {place}")
+            }
+            Form::Branch => write!(f, " {rs1}, {rs2}, {imm}"),
+            Form::Upper => {
+                let upper = Upper(Field::<12, 20>::get(self.word));
+                write!(f, " {rd}, {upper}")
+            }
+            Form::Jump => write!(f, " {rd}, {imm}"),
+            Form::Bare => Ok(()),
+        }
+    }
+}
+
+/// The text of a word, without a newline: the name of its instruction and the operands, `zero` for the zero word, and
+/// `word 0x` and 8 hexadecimal digits for a word that is no instruction.
+#[tactic(auto, unfolding(crate::specs::Text::text_of))]
+pub fn text_of(alloc: Global, word: u32) -> Result<Bytes, AllocError>
+    ensures { IfOk result (λ text. text ≡ text_of word) }
+{
+    let Some(ins) = decode(word) else {
+        let word = Word(word);
+        let text = format!(in alloc; "word {word}")?;
+        return Ok(Bytes::of(text.into_bytes()));
+    };
+    let name = name_of(ins.kind);
+    let operands = Operands { ins, word };
+    let text = format!(in alloc; "{name}{operands}")?;
+    Ok(Bytes::of(text.into_bytes()))
+}
