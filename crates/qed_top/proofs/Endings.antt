@@ -15,7 +15,7 @@ use Rattle.qed_model.specs.declared.plan.Plan as plan
 use Rattle.qed_model.specs.Elf.File.{IsReadAs}
 use Rattle.qed_model.specs.Limits.{limit_of}
 use Rattle.qed_model.specs.Words.{asked}
-use Rattle.qed_top.specs.Answer.{PrintsOnly, CallsFor, read_fault, too_long, within, FilesAfter, FilesInPart, StoreRose, ShelfSteady, SteadyOrReadFault}
+use Rattle.qed_top.specs.Answer.{CallsFor, read_fault, too_long, within, FilesAfter, FilesInPart, StoreRose, ShelfSteady, SteadyOrReadFault}
 use Rattle.qed_top.specs.Refused.{error_status, refusal_status}
 use Rattle.qed_top.specs.Makes.{Makes, refused, made, Delivers, TellsPlan}
 use Rattle.qed_top.specs.Run.{memory_bytes, outcome_status, run_of, FileRuns, too_large, ran, Runs, unread, run}

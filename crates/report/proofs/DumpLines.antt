@@ -1,5 +1,5 @@
 -- The bytes and lines of a dump, one by one.
-use Rattle.std.proofs.Common.{◌≡◌, ℕ, suc, ◌+◌, ◌-◌, ◌*◌, List, [], ◌++◌, refl, ap, min, option_map, add-one}
+use Rattle.std.proofs.Common.{◌≡◌, ℕ, ◌+◌, ◌-◌, ◌*◌, [], ◌++◌, refl, min, option_map, add-one}
 use Rattle.std.specs.FinMap.{get}
 use Rattle.qed_model.specs.Machine.Memory.{Memory}
 use Rattle.qed_model.specs.Text.Run.{byte_text, byte_texts, dump_line, dump_lines}

@@ -1,0 +1,148 @@
+-- A generated file can be written.
+use Rattle.std.proofs.Common.{◌≡◌, ◌≢◌, inl, inr, ℕ, zero, suc, ◌+◌, ◌*◌, ◌%◌, ◌^◌, ◌<◌, ◌≤◌, Bool, true, false, ◌&&◌, List, [], ◌∷◌, ◌++◌, length, refl, sym, ap, ◌∙◌, arith, length-append}
+use Rattle.std.specs.Prelude.{All, codes, nat_lt, nat_le}
+use Rattle.std.specs.Fmt.{decimal}
+use Rattle.std.proofs.lemmas.Fmt.{decimal_by_steps, length-decimal-le}
+use Rattle.std.proofs.Math.Bool.{and-false}
+use Rattle.std.proofs.lemmas.Bool.{and_from, le-ltb, le-leb, false≢true}
+use Rattle.std.proofs.lemmas.List.Elements.{All-nil, All-cons, All-append}
+use Rattle.elf_types.specs.declared.file.Segment.{Segment}
+use Rattle.elf_types.specs.declared.file.Symbol.{Symbol}
+use Rattle.elf_types.specs.declared.output.OutFile.{OutFile}
+use Rattle.elf_types.specs.Abi.{has_alloc}
+use Rattle.qed_model.specs.Below.{each}
+use Rattle.qed_model.specs.Elf.Written.{offset_from, end_from}
+use Rattle.qed_model.specs.Elf.Layout.{written, names_bytes, string_table, symbol_names, own_bytes, own_place, symbols_place, strings_place, names_place, headers_place, section_names, is_inside, do_share, IsName, IsLoadable, IsPlaced, IsSymbol, null_symbol, IsWritable}
+use Rattle.qed_model.proofs.Among.{Among, any_passing}
+use Rattle.qed_model.proofs.BelowLaws.{length-each}
+use Rattle.qed_model.proofs.OutputFits.{name_test}
+use Rattle.qed_model.proofs.Pairs.{pairs_all, every_all}
+use Rattle.elf_write.proofs.Sizes.{length-written}
+use Rattle.test_gen.specs.Generated.{code_bytes, table_bytes, data_bytes, code_segment, table_segment, data_segment, segment, section, sections, symbol, function_symbol, symbols, file_with}
+use Rattle.test_gen.proofs.Sizes.{length-code_bytes, length-table_bytes, length-data_bytes}
+
+-- what a function gives at each number has a property
+all_each : {A : Type 0} (P : A → Type 0) (n : ℕ) (f : ℕ → A) → ((i : ℕ) → i < n → P (f i)) → All P (each n f)
+unfolding each
+all_each P zero f h = All-nil P
+all_each P (suc n) f h = All-append P (each n f) (f n ∷ []) (all_each P n f (λ i l. h i (omega arith))) (All-cons P (f n) [] (h n (omega arith)) (All-nil P))
+
+-- ---- names
+digits_name : (n : ℕ) → n < 2 ^ 64 → IsName (decimal n)
+digits_name n h = decimal_by_steps (λ n ds. IsName ds) (λ n l. one n) (λ n ds l so_far. All-append (λ byte. byte ≢ 0) ds ((48 + n % 10) ∷ []) so_far (one (n % 10))) n h where
+  one : (n : ℕ) → IsName ((48 + n) ∷ [])
+  one n = All-cons (λ byte. byte ≢ 0) (48 + n) [] (λ z. absurd (omega arith)) (All-nil (λ byte. byte ≢ 0))
+
+function_name : (i : ℕ) → i < 1875 → IsName (function_symbol i).name
+unfolding function_symbol
+function_name i h = All-append (λ byte. byte ≢ 0) (codes "f") (decimal i) (name_test (codes "f") refl) (digits_name i (omega arith))
+
+function_name_size : (i : ℕ) → i < 1875 → length (function_symbol i).name ≤ 5
+unfolding function_symbol
+function_name_size i h = omega (arith, length-append (codes "f") (decimal i), length-decimal-le 4 i (omega arith) (omega arith) (omega arith))
+
+-- ---- symbols
+abbrev IsFunction : Symbol → Type 0
+IsFunction s = (s.kind ≡ 2) × (s.binding ≡ 1)
+
+is_function : (i : ℕ) → IsFunction (function_symbol i)
+unfolding function_symbol
+is_function i = (refl, refl)
+
+all_symbols : (P : Symbol → Type 0) (n : ℕ) → n ≤ 1875 → P (symbol (codes "main") 0x10000) → ((i : ℕ) → i < 1875 → P (function_symbol i)) → All P (symbols n)
+all_symbols P n h first each_one = All-cons P (symbol (codes "main") 0x10000) (each n function_symbol) first (all_each P n function_symbol (λ i l. each_one i (omega arith)))
+
+-- ---- how long the names are
+names_size : (ss : List Symbol) → All (λ s. length s.name ≤ 5) ss → length (names_bytes (symbol_names ss)) ≤ 6 * length ss
+names_size [] h = omega arith
+names_size (s ∷ ss) h =
+    let first = h 0 s (omega arith) in
+    let rest = names_size ss (λ k d l. h (suc k) d (omega (arith, l))) in
+    omega (arith, length-append (s.name ++ 0 ∷ []) (names_bytes (symbol_names ss)), length-append s.name (0 ∷ []), first, rest)
+
+-- ---- segments
+loadable : (flags at : ℕ) (bytes : List ℕ) → at + length bytes ≤ 2 ^ 64 → IsLoadable (segment flags at bytes)
+loadable flags at bytes h = record { kind = refl; memory = omega arith; fits = h }
+
+apart_by : (a b e : Bool) (x y : ℕ) → y ≤ x → (a && b && e && nat_lt x y) ≡ false
+apart_by a b e x y h = ap (λ t. a && b && e && t) (le-ltb x y h) ∙ and-false (a && b && e)
+
+not_shared : (s t : Segment) → s.address + s.memory ≤ t.address → do_share s t ≡ false
+not_shared s t h = apart_by (nat_lt 0 s.memory) (nat_lt 0 t.memory) (nat_lt s.address (t.address + t.memory)) t.address (s.address + s.memory) h
+
+inside_itself : (name : List ℕ) (flags : ℕ) (f at : ℕ) (bytes : List ℕ) → is_inside (section name flags (segment f at bytes)) (segment f at bytes) ≡ true
+inside_itself name flags f at bytes = and_from (nat_le at at) (nat_le (at + length bytes) (at + length bytes)) (le-leb at at (omega arith)) (le-leb (at + length bytes) (at + length bytes) (omega arith))
+
+placed :
+    (name : List ℕ) (flags : ℕ) (s : Segment) → has_alloc flags ≡ true → (segments : List Segment) → Among s segments → is_inside (section name flags s) s ≡ true
+    → IsPlaced segments (section name flags s)
+placed name flags s a segments m i = record { none = λ e. refl; inside = λ e. any_passing (is_inside (section name flags s)) s segments m i; own = λ e. absurd (false≢true (sym e ∙ a)) }
+
+-- ---- the whole
+offset_room : (at address : ℕ) → offset_from at address ≤ at + 4095
+offset_room at address = omega arith
+
+three_ends : (at : ℕ) (s t u : Segment) → end_from at (s ∷ t ∷ u ∷ []) ≤ at + 12285 + length s.bytes + length t.bytes + length u.bytes
+three_ends at s t u =
+    let a = offset_from at s.address + length s.bytes in
+    let b = offset_from a t.address + length t.bytes in
+    omega (arith, offset_room at s.address, offset_room a t.address, offset_room b u.address)
+
+-- a file ends not far behind its parts
+upper :
+    (f : OutFile) → length (written f) ≤ own_place f + length (own_bytes f.sections) + 24 * (1 + length f.symbols) + length (string_table (symbol_names f.symbols)) + length (string_table (section_names f.sections)) + 64 * (length f.sections + 4) + 14
+unfolding symbols_place strings_place names_place headers_place
+upper f = omega (arith, length-written f)
+
+own_place_room : (seed n : ℕ) → n ≤ 1875 → own_place (file_with seed n) ≤ 300000
+unfolding file_with own_place
+own_place_room seed n h =
+    omega (
+      arith,
+      three_ends 232 (code_segment seed n) (table_segment n) data_segment,
+      length-code_bytes seed n,
+      length-table_bytes n,
+      length-data_bytes,
+    )
+
+small : (seed n : ℕ) → n ≤ 1875 → length (written (file_with seed n)) ≤ 1_000_000
+unfolding file_with
+small seed n h =
+    omega (
+      arith,
+      upper (file_with seed n),
+      own_place_room seed n h,
+      names_size (symbols n) (all_symbols (λ s. length s.name ≤ 5) n h (omega arith) (λ i l. function_name_size i l)),
+      length-each n function_symbol,
+    )
+
+pub writable : (seed n : ℕ) → n ≤ 1875 → IsWritable (file_with seed n)
+unfolding file_with
+writable seed n h =
+    let code = code_segment seed n in
+    let table = table_segment n in
+    let words = data_segment in
+    let code_size = length-code_bytes seed n in
+    let table_size = length-table_bytes n in
+    let data_size = length-data_bytes in
+    let size = small seed n h in
+    record {
+      segments = every_all IsLoadable (code ∷ table ∷ words ∷ []) (loadable 5 0x10000 (code_bytes seed n) (omega arith), (loadable 4 0x80000 (table_bytes n) (omega arith), (loadable 6 0x90000 data_bytes (omega arith), tt)));
+      ascend = pairs_all (λ s t. s.address ≤ t.address) (code ∷ table ∷ words ∷ []) ((omega arith, (omega arith, tt)), ((omega arith, tt), (tt, tt)));
+      apart = pairs_all (λ s t. do_share s t ≡ false) (code ∷ table ∷ words ∷ []) ((not_shared code table (omega arith), (not_shared code words (omega arith), tt)), ((not_shared table words (omega arith), tt), (tt, tt)));
+      few_segments = omega arith;
+      sections = every_all (IsPlaced (code ∷ table ∷ words ∷ [])) (sections code table words) (
+        placed (codes ".text") 6 code refl (code ∷ table ∷ words ∷ []) (inl refl) (inside_itself (codes ".text") 6 5 0x10000 (code_bytes seed n)),
+        (
+          placed (codes ".rodata") 2 table refl (code ∷ table ∷ words ∷ []) (inr (inl refl)) (inside_itself (codes ".rodata") 2 4 0x80000 (table_bytes n)),
+          (placed (codes ".data") 3 words refl (code ∷ table ∷ words ∷ []) (inr (inr (inl refl))) (inside_itself (codes ".data") 3 6 0x90000 data_bytes), tt),
+        ),
+      );
+      section_names = every_all (λ x. IsName x.name) (sections code table words) (name_test (codes ".text") refl, (name_test (codes ".rodata") refl, (name_test (codes ".data") refl, tt)));
+      few_sections = omega arith;
+      symbols = all_symbols IsSymbol n h (record { kind = omega arith; binding = omega arith }) (λ i l. let f = is_function i in record { kind = omega (arith, f.0); binding = omega (arith, f.1) });
+      symbol_names = all_symbols (λ s. IsName s.name) n h (name_test (codes "main") refl) (λ i l. function_name i l);
+      not_null = all_symbols (λ s. s ≢ null_symbol) n h (λ e. let k = ap (λ (s : Symbol). s.kind) e in absurd (omega arith)) (λ i l e. let k = ap (λ (s : Symbol). s.kind) e in let f = is_function i in absurd (omega (arith, k, f.0)));
+      locals_first = λ i j d lt l z. absurd (all_symbols (λ s. s.binding ≢ 0) n h (λ e. absurd (omega arith)) (λ k b e. let f = is_function k in absurd (omega (arith, e, f.1))) j d l z);
+      size = omega arith;
+    }

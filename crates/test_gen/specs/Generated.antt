@@ -1,0 +1,86 @@
+-- The file of a generated test. Names and numbers are those of the ELF gABI.
+use Rattle.std.specs.Prelude.{ℕ, ◌+◌, ◌*◌, unwrap_or, List, [], ◌∷◌, ◌++◌, length, map, codes}
+use Rattle.std.specs.Fmt.{decimal}
+use Rattle.elf_types.specs.declared.file.Segment.{Segment}
+use Rattle.elf_types.specs.declared.file.Symbol.{Symbol}
+use Rattle.elf_types.specs.declared.output.OutFile.{OutFile}
+use Rattle.elf_types.specs.declared.output.OutSection.{OutSection}
+use Rattle.elf_types.specs.declared.abi.TheConstants.{PT_LOAD, PF_R, PF_W, PF_X, SHF_WRITE, SHF_ALLOC, SHF_EXECINSTR, STT_FUNC, STB_GLOBAL, SHN_ABS}
+use Rattle.rv_isa.specs.declared.ins.Ins.{Ins}
+use Rattle.qed_model.specs.Machine.Table.{encode_of}
+use Rattle.qed_model.specs.Below.{each, gather}
+use Rattle.qed_model.specs.Numbers.{number_bytes, bytes_of}
+use Rattle.test_gen.specs.Code.{function_count, code}
+
+-- ---- segments
+-- the word of an instruction; each of a generated test has one
+unfoldable pub word_of : Ins → ℕ
+word_of i = unwrap_or (encode_of i) 0
+
+unfoldable pub code_bytes : ℕ → ℕ → List ℕ
+code_bytes seed n = bytes_of (map word_of (code seed n))
+
+-- the address of function i, behind the 12 words of `main` and 33 words for each function before it
+abbrev pub function_at : ℕ → ℕ
+function_at i = 0x10000 + 48 + 132 * i
+
+-- the addresses of n functions, 8 bytes each
+unfoldable pub table_bytes : ℕ → List ℕ
+table_bytes n = gather n (λ i. number_bytes 8 (function_at i))
+
+-- 256 words of 8 bytes, of which word i is i
+unfoldable pub data_bytes : List ℕ
+data_bytes = gather 256 (λ i. number_bytes 8 i)
+
+-- PT_LOAD, with all its bytes in the file
+abbrev pub segment : ℕ → ℕ → List ℕ → Segment
+segment flags address bytes = record { kind = PT_LOAD; flags = flags; address = address; memory = length bytes; bytes = bytes }
+
+abbrev pub code_segment : ℕ → ℕ → Segment
+code_segment seed n = segment (PF_R + PF_X) 0x10000 (code_bytes seed n)
+
+abbrev pub table_segment : ℕ → Segment
+table_segment n = segment PF_R 0x80000 (table_bytes n)
+
+abbrev pub data_segment : Segment
+data_segment = segment (PF_R + PF_W) 0x90000 data_bytes
+
+-- ---- sections
+-- over a segment
+abbrev pub section : List ℕ → ℕ → Segment → OutSection
+section name flags s = record { name = name; flags = flags; address = s.address; size = s.memory; bytes = [] }
+
+-- over the code, the table and the data
+abbrev pub sections : Segment → Segment → Segment → List OutSection
+sections code table words =
+    section (codes ".text") (SHF_ALLOC + SHF_EXECINSTR) code
+    ∷ section (codes ".rodata") SHF_ALLOC table
+    ∷ section (codes ".data") (SHF_ALLOC + SHF_WRITE) words
+    ∷ []
+
+-- ---- symbols
+-- a function, whose size is not told
+abbrev pub symbol : List ℕ → ℕ → Symbol
+symbol name address = record { name = name; value = address; size = 0; kind = STT_FUNC; binding = STB_GLOBAL; other = 0; index = SHN_ABS }
+
+-- `f` and the number of the function
+unfoldable pub function_symbol : ℕ → Symbol
+function_symbol i = symbol (codes "f" ++ decimal i) (function_at i)
+
+abbrev pub symbols : ℕ → List Symbol
+symbols n = symbol (codes "main") 0x10000 ∷ each n function_symbol
+
+-- ---- the file
+-- with n functions
+unfoldable pub file_with : ℕ → ℕ → OutFile
+file_with seed n = record {
+  entry = 0x10000;
+  flags = 0;
+  segments = code_segment seed n ∷ table_segment n ∷ data_segment ∷ [];
+  sections = sections (code_segment seed n) (table_segment n) data_segment;
+  symbols = symbols n;
+}
+
+-- the test of a seed and a size
+unfoldable pub generated : ℕ → ℕ → OutFile
+generated seed size = file_with seed (function_count size)

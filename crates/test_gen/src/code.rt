@@ -1,0 +1,113 @@
+//! The code.
+ghost use Rattle.std.specs.Prelude.{◌≡◌, ℕ, ◌≤◌, ◌<◌, ◌++◌, ◌∷◌, [], IfOk, OnOk, length, map};
+ghost use Rattle.qed_model.specs.Below.{each};
+ghost use Rattle.qed_model.specs.Numbers.{bytes_of};
+ghost use Rattle.test_gen.specs.Random.{drawn as drawn_of, next, after};
+ghost use Rattle.test_gen.specs.Code.{body_instruction as body_instruction_of, function_count as function_count_of, return, main as main_of, code as code_of};
+ghost use Rattle.test_gen.specs.Generated.{word_of as word_of_instruction};
+
+use crate::body::body_instruction;
+use crate::instruction::instruction;
+use rand_core::SeedableRng;
+use rand_core::utils::NextWord;
+use rand_pcg::Pcg64;
+use rv_encode::encode;
+use rv_isa::{Ins, Kind};
+use std::alloc::{AllocError, Global};
+
+/// How many body instructions a function has.
+const BODY_SIZE: u64 = 32;
+
+/// How many functions a test of this size has: its size in body instructions, rounded up to whole functions.
+#[tactic(auto, unfolding(crate::specs::Code::function_count))]
+pub fn function_count(size: u64) -> u64
+    requires { size ≤ 60000 }
+    ensures value { result ≡ function_count_of size }
+    ensures bound { result ≤ 1875 }
+{
+    size.div_ceil(BODY_SIZE)
+}
+
+/// The next random word.
+#[tactic(auto, unfolding(crate::specs::Random::drawn, crate::specs::Random::next))]
+fn drawn(rng: &mut Pcg64) -> u64
+    ensures word { result ≡ drawn_of rng.old }
+    ensures next { rng.new ≡ next rng.old }
+{
+    rng.next_word()
+}
+
+/// Appends a function of the next random words.
+fn push_function(code: &mut Vec<Ins>, rng: &mut Pcg64) -> Result<(), AllocError>
+    ensures code { OnOk result (code.new.items ≡ code.old.items ++ (each 32 (λ k. body_instruction_of (drawn_of (after k rng.old))) ++ return ∷ [])) }
+    ensures rng { OnOk result (rng.new ≡ after 32 rng.old) }
+{
+    for _ in 0..BODY_SIZE {
+        code.push(body_instruction(drawn(rng)))?;
+    }
+    code.push(instruction(Kind::Jalr, 0, 1, 0, 0))?;
+    Ok(())
+}
+
+/// The code of `main`, which calls each function of the table three times.
+#[tactic(auto, unfolding(crate::specs::Code::main))]
+fn main_code(functions: u64) -> [Ins; 12]
+    requires { functions ≤ 1875 }
+    ensures { result ≡ main_of functions }
+{
+    [
+        instruction(Kind::Lui, 2, 0, 0, 0x90000),
+        instruction(Kind::Addi, 8, 0, 0, 3),
+        instruction(Kind::Lui, 4, 0, 0, 0x80000),
+        instruction(Kind::Addi, 9, 0, 0, functions as i64),
+        instruction(Kind::Ld, 5, 4, 0, 0),
+        instruction(Kind::Jalr, 1, 5, 0, 0),
+        instruction(Kind::Addi, 4, 4, 0, 8),
+        instruction(Kind::Addi, 9, 9, 0, -1),
+        instruction(Kind::Bne, 0, 9, 0, -16),
+        instruction(Kind::Addi, 8, 8, 0, -1),
+        instruction(Kind::Bne, 0, 8, 0, -32),
+        instruction(Kind::Ecall, 0, 0, 0, 0),
+    ]
+}
+
+/// The code of so many functions, with `main` in front.
+pub fn code(alloc: Global, seed: u64, functions: u64) -> Result<Vec<Ins>, AllocError>
+    requires { functions ≤ 1875 }
+    ensures { IfOk result (λ code. code.items ≡ code_of seed functions) }
+{
+    let mut code = Vec::from_slice(alloc, &main_code(functions))?;
+    let mut rng = Pcg64::seed_from_u64(seed);
+    for _ in 0..functions {
+        push_function(&mut code, &mut rng)?;
+    }
+    Ok(code)
+}
+
+/// The word of an instruction. Each of a generated test has one.
+#[tactic(auto, unfolding(crate::specs::Generated::word_of))]
+fn word_of(ins: &Ins) -> u32
+    ensures { result ≡ word_of_instruction ins.now }
+{
+    encode(ins).unwrap_or(0)
+}
+
+/// The bytes of the words of instructions, each the lowest first.
+#[tactic(auto, unfolding(qed_model::specs::Numbers::number_bytes))]
+pub fn words_bytes(alloc: Global, code: &[Ins]) -> Result<Vec<u8>, AllocError>
+    ensures { IfOk result (λ bytes. bytes.items ≡ bytes_of (map word_of_instruction code.now)) }
+{
+    let mut bytes = Vec::new(alloc);
+    for ins in code {
+        bytes.extend_from_slice(&word_of(ins).to_le_bytes())?;
+    }
+    Ok(bytes)
+}
+
+/// How many words the code of a test of this size has, of which `main` has 12 and each function 33.
+pub fn code_words(size: u64) -> u64
+    requires { size ≤ 60000 }
+    ensures { (seed : ℕ) → result ≡ length (code_of seed (function_count_of size)) }
+{
+    12 + (BODY_SIZE + 1) * function_count(size)
+}

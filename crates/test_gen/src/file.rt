@@ -1,0 +1,138 @@
+//! The file of a generated test.
+ghost use Rattle.std.specs.Prelude.{◌≡◌, ◌<◌, ◌≤◌, IfOk};
+ghost use Rattle.qed_model.specs.Elf.Layout.{written};
+ghost use Rattle.test_gen.specs.Generated.{segment as segment_of, section as section_of, sections as sections_of, symbol as symbol_of, function_symbol as function_symbol_of, symbols as symbols_of, file_with as file_with_of, generated};
+
+use crate::code::{code, function_count, words_bytes};
+use crate::tables::{CODE, data_bytes, function_at, table_bytes};
+use elf_types::abi::{
+    PF_R, PF_W, PF_X, PT_LOAD, SHF_ALLOC, SHF_EXECINSTR, SHF_WRITE, SHN_ABS, STB_GLOBAL, STT_FUNC,
+};
+use elf_types::{Bytes, Listed, OutFile, OutSection, Segment, Symbol};
+use elf_write::write_elf;
+use std::alloc::{AllocError, Global};
+
+/// Where the table of functions begins.
+const TABLE: u64 = 0x80000;
+
+/// Where the data begin.
+const DATA: u64 = 0x90000;
+
+/// A segment that has all its bytes in the file.
+fn segment(flags: u32, address: u64, bytes: Vec<u8>) -> Segment
+    ensures { result ≡ segment_of flags address bytes.items }
+{
+    Segment {
+        kind: PT_LOAD,
+        flags,
+        address,
+        memory: bytes.len() as u64,
+        bytes: Bytes::of(bytes),
+    }
+}
+
+/// The section of a segment.
+fn section(
+    alloc: Global,
+    name: &[u8],
+    flags: u64,
+    segment: &Segment,
+) -> Result<OutSection, AllocError>
+    ensures { IfOk result (λ section. section ≡ section_of name.now flags segment.now) }
+{
+    Ok(OutSection {
+        name: Bytes::copied(alloc, name)?,
+        flags,
+        address: segment.address,
+        size: segment.memory,
+        bytes: Bytes::of(Vec::new(alloc)),
+    })
+}
+
+/// The sections of the code, of the table of functions, and of the data.
+fn sections(
+    alloc: Global,
+    code: &Segment,
+    table: &Segment,
+    words: &Segment,
+) -> Result<Vec<OutSection>, AllocError>
+    ensures { IfOk result (λ sections. sections.items ≡ sections_of code.now table.now words.now) }
+{
+    let mut sections = Vec::new(alloc);
+    sections.push(section(alloc, b".text", SHF_ALLOC | SHF_EXECINSTR, code)?)?;
+    sections.push(section(alloc, b".rodata", SHF_ALLOC, table)?)?;
+    sections.push(section(alloc, b".data", SHF_ALLOC | SHF_WRITE, words)?)?;
+    Ok(sections)
+}
+
+/// A symbol of a function.
+fn symbol(name: Vec<u8>, address: u64) -> Symbol
+    ensures { result ≡ symbol_of name.items address }
+{
+    Symbol {
+        name: Bytes::of(name),
+        value: address,
+        size: 0,
+        kind: STT_FUNC,
+        binding: STB_GLOBAL,
+        other: 0,
+        index: SHN_ABS,
+    }
+}
+
+/// The symbol of the function of a number.
+#[tactic(auto, unfolding(crate::specs::Generated::function_symbol))]
+fn function_symbol(alloc: Global, number: u64) -> Result<Symbol, AllocError>
+    requires { number < 1875 }
+    ensures { IfOk result (λ symbol. symbol ≡ function_symbol_of number) }
+{
+    let name = format!(in alloc; "f{number}")?;
+    Ok(symbol(name.into_bytes(), function_at(number)))
+}
+
+/// The symbols of `main` and of so many functions.
+fn symbols(alloc: Global, functions: u64) -> Result<Vec<Symbol>, AllocError>
+    requires { functions ≤ 1875 }
+    ensures { IfOk result (λ symbols. symbols.items ≡ symbols_of functions) }
+{
+    let mut symbols = Vec::new(alloc);
+    symbols.push(symbol(Vec::from_slice(alloc, b"main")?, CODE))?;
+    for number in 0..functions {
+        symbols.push(function_symbol(alloc, number)?)?;
+    }
+    Ok(symbols)
+}
+
+/// The file of so many functions, before it is written.
+#[tactic(auto, unfolding(crate::specs::Generated::file_with, crate::specs::Generated::code_bytes))]
+fn file_with(alloc: Global, seed: u64, functions: u64) -> Result<OutFile, AllocError>
+    requires { functions ≤ 1875 }
+    ensures { IfOk result (λ file. file ≡ file_with_of seed functions) }
+{
+    let code = code(alloc, seed, functions)?;
+    let code = segment(PF_R | PF_X, CODE, words_bytes(alloc, &code)?);
+    let table = segment(PF_R, TABLE, table_bytes(alloc, functions)?);
+    let words = segment(PF_R | PF_W, DATA, data_bytes(alloc)?);
+    let sections = sections(alloc, &code, &table, &words)?;
+    Ok(OutFile {
+        entry: CODE,
+        flags: 0,
+        segments: Listed::of(Vec::from_array(alloc, [code, table, words])?),
+        sections: Listed::of(sections),
+        symbols: Listed::of(symbols(alloc, functions)?),
+    })
+}
+
+/// The test of a seed and a size, as an ELF64 executable for RISC-V. It has `size / 32` functions, rounded up, each of 32
+/// random instructions, which `main` calls three times; the random words are those of PCG XSL RR 128/64 with the seed.
+///
+/// The only error is want of memory.
+pub fn generate(alloc: Global, seed: u64, size: u64) -> Result<Bytes, AllocError>
+    requires some { 1 ≤ size }
+    requires most { size ≤ 60000 }
+    ensures file { IfOk result (λ bytes. bytes ≡ written (generated seed size)) }
+{
+    let file = file_with(alloc, seed, function_count(size))?;
+    let bytes = write_elf(alloc, &file)?;
+    Ok(bytes)
+}

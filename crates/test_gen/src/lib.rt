@@ -1,0 +1,16 @@
+//! Generated tests: functions of random instructions, and a `main` that calls each of them three times.
+//!
+//! The same seed and size always give the same file.
+#![tactic(auto)]
+
+mod body;
+mod code;
+mod file;
+mod instruction;
+mod tables;
+
+pub use code::code_words;
+pub use file::generate;
+
+#[cfg(test)]
+mod tests;
