@@ -2,7 +2,7 @@
 use Rattle.std.specs.Prelude.{ℕ, ◌+◌, ◌*◌, ◌/◌, ◌%◌, ◌^◌, ◌==◌, nat_lt, nat_le, min, Bool, true, false, not, ◌&&◌, ◌||◌, if◌then◌else◌, Option, Some, None, is_some, unwrap_or, option_map, option_and_then, Result, Ok, Err, List, [], ◌∷◌, ◌++◌, map, fold, length, take, drop, filter_map, find, slice_get, slice_index_or, codes, String, string_bytes}
 use Rattle.std.specs.Option.{option_or}
 use Rattle.std.specs.Str.{bytes_eq}
-use Rattle.std.specs.List.{position_from, list_any}
+use Rattle.std.specs.List.{position_from, list_any, list_all}
 use Rattle.std.specs.Char.{digit_value}
 use Rattle.qed_model.specs.declared.change.Place.{Place}
 use Rattle.qed_model.specs.declared.change.Place.TheVariants.{Reg, Word}
@@ -10,11 +10,12 @@ use Rattle.qed_model.specs.declared.change.Change.{Change}
 use Rattle.qed_model.specs.declared.limits.TheConstants.{MAX_HALF}
 use Rattle.qed_model.specs.declared.options.Options.{Options}
 use Rattle.qed_model.specs.declared.order.Command.{Command}
-use Rattle.qed_model.specs.declared.order.Command.TheVariants.{Transform, Plan, Run, Campaign, Gen}
+use Rattle.qed_model.specs.declared.order.Command.TheVariants.{Transform, Plan, Run, Campaign, Gen, Asm, Harts}
+use Rattle.qed_model.specs.declared.order.Command.TheVariants as command
 use Rattle.qed_model.specs.declared.order.Order.{Order}
 use Rattle.qed_model.specs.declared.order.Order.TheVariants as order
 use Rattle.qed_model.specs.declared.order.Key.{Key}
-use Rattle.qed_model.specs.declared.order.Key.TheVariants.{InstMin, InstMax, Round, Half, Steps, Fault, Dump, Seed, Count, Size, Changes}
+use Rattle.qed_model.specs.declared.order.Key.TheVariants.{InstMin, InstMax, Round, Half, Steps, Fault, Dump, Seed, Count, Size, Changes, Turns}
 use Rattle.qed_model.specs.declared.order.Reason.{Reason}
 use Rattle.qed_model.specs.declared.order.Reason.TheVariants.{NoCommand, UnknownCommand, EmptyWord, UnknownOption, Repeated, MissingValue, ExtraWord, MissingFile, MissingOption, BadNumber, BadShape, OutOfRange, Split}
 use Rattle.qed_model.specs.Options.{default_options}
@@ -119,6 +120,15 @@ span_in (Some parts) = span_of (number parts.0) (number parts.1)
 unfoldable pub dump : List ℕ → Option (ℕ × ℕ)
 dump text = span_in (parted colon text)
 
+-- ---- turns
+
+abbrev pub is_digit : ℕ → Bool
+is_digit c = nat_lt (digit_value c) 10
+
+-- the harts that make the turns, by their numbers: 1 to 64 decimal digits
+unfoldable pub turns : List ℕ → Option (List ℕ)
+turns text = if (nat_le 1 (length text) && nat_le (length text) 64) && list_all is_digit text then Some (map digit_value text) else None
+
 -- ---- commands and their options
 
 abbrev pub command_of : List ℕ → Option Command
@@ -128,15 +138,32 @@ command_of word =
     else if bytes_eq word (codes "run") then Some Run
     else if bytes_eq word (codes "campaign") then Some Campaign
     else if bytes_eq word (codes "gen") then Some Gen
+    else if bytes_eq word (codes "list") then Some command.List
+    else if bytes_eq word (codes "asm") then Some Asm
+    else if bytes_eq word (codes "harts") then Some Harts
     else None
 
--- how many files a command has
-abbrev pub file_count : Command → ℕ
-file_count Transform = 2
-file_count Plan = 1
-file_count Run = 1
-file_count Campaign = 1
-file_count Gen = 1
+-- how many files a command has at least
+abbrev pub least_files : Command → ℕ
+least_files Transform = 2
+least_files Plan = 1
+least_files Run = 1
+least_files Campaign = 1
+least_files Gen = 1
+least_files command.List = 1
+least_files Asm = 2
+least_files Harts = 1
+
+-- how many it has at most
+abbrev pub most_files : Command → ℕ
+most_files Transform = 2
+most_files Plan = 1
+most_files Run = 1
+most_files Campaign = 1
+most_files Gen = 1
+most_files command.List = 1
+most_files Asm = 2
+most_files Harts = 8
 
 -- the options with a value, in their order
 abbrev pub keys_of : Command → List Key
@@ -145,6 +172,9 @@ keys_of Plan = InstMin ∷ InstMax ∷ Round ∷ Half ∷ []
 keys_of Run = Steps ∷ Fault ∷ Dump ∷ []
 keys_of Campaign = InstMin ∷ InstMax ∷ Round ∷ Half ∷ Seed ∷ Count ∷ Changes ∷ []
 keys_of Gen = Seed ∷ Size ∷ []
+keys_of command.List = []
+keys_of Asm = []
+keys_of Harts = Turns ∷ Steps ∷ []
 
 -- those that must be given
 abbrev pub required_of : Command → List Key
@@ -153,6 +183,9 @@ required_of Plan = []
 required_of Run = []
 required_of Campaign = Seed ∷ Count ∷ []
 required_of Gen = Seed ∷ Size ∷ []
+required_of command.List = []
+required_of Asm = []
+required_of Harts = []
 
 -- whether `--sweep` and `--diverse` are options
 abbrev pub has_flags : Command → Bool
@@ -161,6 +194,9 @@ has_flags Plan = true
 has_flags Run = false
 has_flags Campaign = true
 has_flags Gen = false
+has_flags command.List = false
+has_flags Asm = false
+has_flags Harts = false
 
 -- an option's name, without its dashes
 abbrev pub name_of : Key → List ℕ
@@ -175,6 +211,7 @@ name_of Seed = codes "seed"
 name_of Count = codes "count"
 name_of Size = codes "size"
 name_of Changes = codes "changes"
+name_of Turns = codes "turns"
 
 -- how often an option may be given
 abbrev pub most_of : Key → ℕ
@@ -282,7 +319,7 @@ wrong command before (Given i key value) =
     if nat_le (most_of key) (length (values key before)) then Some (Repeated i)
     else if is_value value then None
     else Some (MissingValue i)
-wrong command before (File i name) = if nat_le (file_count command) (length (files before)) then Some (ExtraWord i) else None
+wrong command before (File i name) = if nat_le (most_files command) (length (files before)) then Some (ExtraWord i) else None
 
 -- the first reason of some
 abbrev pub first_reason : List (Option Reason) → Option Reason
@@ -301,7 +338,7 @@ lacks given key = length (values key given) == 0
 
 unfoldable pub missing : Command → List Argument → Option Reason
 missing command given =
-    if nat_lt (length (files given)) (file_count command) then Some MissingFile
+    if nat_lt (length (files given)) (least_files command) then Some MissingFile
     else option_map MissingOption (find (lacks given) (required_of command))
 
 -- ---- what is wrong with a value
@@ -321,14 +358,21 @@ abbrev pub wrong_number : Key → Option ℕ → Option Reason
 wrong_number key None = Some (BadNumber key)
 wrong_number key (Some n) = if is_in_range key n then None else Some (OutOfRange key)
 
-unfoldable pub wrong_value : Key → List ℕ → Option Reason
-wrong_value Fault value = if is_some (fault value) then None else Some (BadShape Fault)
-wrong_value Dump value = if is_some (dump value) then None else Some (BadShape Dump)
-wrong_value key value = wrong_number key (number value)
+-- each hart has a file
+abbrev pub wrong_turns : ℕ → Option (List ℕ) → Option Reason
+wrong_turns count None = Some (BadShape Turns)
+wrong_turns count (Some harts) = if list_all (λ hart. nat_lt hart count) harts then None else Some (OutOfRange Turns)
+
+-- what is wrong with a value, where there are `count` files
+unfoldable pub wrong_value : ℕ → Key → List ℕ → Option Reason
+wrong_value count Fault value = if is_some (fault value) then None else Some (BadShape Fault)
+wrong_value count Dump value = if is_some (dump value) then None else Some (BadShape Dump)
+wrong_value count Turns value = wrong_turns count (turns value)
+wrong_value count key value = wrong_number key (number value)
 
 -- what is wrong with the first value of an option of which something is
 unfoldable pub wrong_values : List Argument → Key → Option Reason
-wrong_values given key = first_reason (map (wrong_value key) (values key given))
+wrong_values given key = first_reason (map (wrong_value (length (files given)) key) (values key given))
 
 -- the same, of the first option of which something is
 unfoldable pub first_wrong_value : Command → List Argument → Option Reason
@@ -380,12 +424,16 @@ changes_given given = in_order (filter_map fault (values Fault given))
 unfoldable pub file : List Argument → ℕ → List ℕ
 file given i = slice_index_or (files given) i []
 
--- without `--steps` a run has 1,000,000 steps, and without `--changes` a strike is one change
+-- without `--steps` a run has 1,000,000 steps
+unfoldable pub steps_given : List Argument → ℕ
+steps_given given = unwrap_or (number_given Steps given) 1000000
+
+-- without `--changes` a strike is one change
 unfoldable pub order_of : Command → List Argument → Order
 order_of Transform given = order.Transform (file given 0) (file given 1) (options given)
 order_of Plan given = order.Plan (file given 0) (options given)
 order_of Run given =
-    order.Run (file given 0) (unwrap_or (number_given Steps given) 1000000) (changes_given given) (option_and_then dump (value_of Dump given))
+    order.Run (file given 0) (steps_given given) (changes_given given) (option_and_then dump (value_of Dump given))
 order_of Campaign given =
     order.Campaign
     (file given 0)
@@ -394,6 +442,9 @@ order_of Campaign given =
     (unwrap_or (number_given Count given) 0)
     (unwrap_or (number_given Changes given) 1)
 order_of Gen given = order.Gen (file given 0) (unwrap_or (number_given Seed given) 0) (unwrap_or (number_given Size given) 0)
+order_of command.List given = order.List (file given 0)
+order_of Asm given = order.Asm (file given 0) (file given 1)
+order_of Harts given = order.Harts (files given) (option_and_then turns (value_of Turns given)) (steps_given given)
 
 -- ---- what is asked
 

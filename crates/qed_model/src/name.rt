@@ -1,6 +1,7 @@
 //! Names of files.
 ghost use Rattle.std.specs.Prelude.{◌≡◌, ℕ, List, string_bytes};
 
+use elf_types::Listed;
 use std::marker::Model;
 
 /// The name of a file, which contracts see as its bytes.
@@ -30,3 +31,6 @@ impl Name {
         self.text.as_str()
     }
 }
+
+/// Names of files, in their order.
+pub type Names = Listed<Name>;

@@ -2,7 +2,8 @@
 ghost use Rattle.std.specs.Prelude.{◌≡◌};
 ghost use Rattle.qed_model.specs.Words.{name_of};
 
-use crate::{Changes, Name, Options};
+use crate::{Changes, Name, Names, Options};
+use elf_types::Bytes;
 
 /// A command, without its files and options.
 #[derive(Clone, Copy, Debug, PartialEq, Eq)]
@@ -12,6 +13,9 @@ pub enum Command {
     Run,
     Campaign,
     Gen,
+    List,
+    Asm,
+    Harts,
 }
 
 /// A command with its files and options.
@@ -28,6 +32,13 @@ pub enum Order {
     Campaign(Name, Options, u64, u64, u64),
     /// The output, the seed and the size.
     Gen(Name, u64, u64),
+    /// The file.
+    List(Name),
+    /// The text and the output.
+    Asm(Name, Name),
+    /// The files, the numbers of the harts that make the turns, which are repeated, and the number of turns. Without
+    /// numbers the harts take turns from 0 upwards.
+    Harts(Names, Option<Bytes>, u64),
 }
 
 /// An option that has a value.
@@ -44,6 +55,7 @@ pub enum Key {
     Count,
     Size,
     Changes,
+    Turns,
 }
 
 impl Key {
@@ -63,6 +75,7 @@ impl Key {
             Key::Count => "count",
             Key::Size => "size",
             Key::Changes => "changes",
+            Key::Turns => "turns",
         }
     }
 }
@@ -86,7 +99,7 @@ pub enum Reason {
     MissingFile,
     MissingOption(Key),
     BadNumber(Key),
-    /// A fault or a dump of another form.
+    /// A fault, a dump or turns of another form.
     BadShape(Key),
     OutOfRange(Key),
     /// The floor of a piece leaves no room: `2 * inst_min` is above `inst_max + 1`.
