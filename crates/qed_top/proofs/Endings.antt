@@ -9,7 +9,8 @@ use Rattle.qed_model.specs.declared.change.Change.{Change}
 use Rattle.qed_model.specs.declared.limits.Limit as limits
 use Rattle.qed_model.specs.declared.options.Options.{Options}
 use Rattle.qed_model.specs.declared.order.Order.{Order}
-use Rattle.qed_model.specs.declared.order.Order.TheVariants.{Transform, Plan, Run, Campaign, Gen}
+use Rattle.qed_model.specs.declared.order.Order.TheVariants as order
+use Rattle.qed_model.specs.declared.order.Order.TheVariants.{Transform, Plan, Run, Campaign, Gen, Asm, Harts}
 use Rattle.qed_model.specs.declared.order.Reason.{Reason}
 use Rattle.qed_model.specs.declared.plan.Plan as plan
 use Rattle.qed_model.specs.Elf.File.{IsReadAs}
@@ -104,6 +105,9 @@ over_printed (Plan input o) bytes answer m = makes_printed bytes o TellsPlan ans
 over_printed (Run file steps changes dump) bytes answer m = runs_printed bytes steps changes dump answer m
 over_printed (Campaign input o seed count changes) bytes answer m = prints Usage answer tt m.status
 over_printed (Gen output seed size) bytes answer m = prints Usage answer tt m.status
+over_printed (order.List file) bytes answer m = prints Usage answer tt m.status
+over_printed (Asm text output) bytes answer m = prints Usage answer tt m.status
+over_printed (Harts files turns steps) bytes answer m = prints Usage answer tt m.status
 
 calls_printed :
     (limit : limits.Limit) (bytes : List ℕ) (rose W : Type 0) (answer : Answer) → (W → Printed answer.status) → CallsFor limit bytes rose W answer
@@ -217,6 +221,9 @@ over_unique (Plan input o) bytes s t a b = transform_unique bytes o s t a b
 over_unique (Run file steps changes dump) bytes s t a b = run_unique bytes steps changes s t a b
 over_unique (Campaign input o seed count changes) bytes s t a b = a ∙ sym b
 over_unique (Gen output seed size) bytes s t a b = a ∙ sym b
+over_unique (order.List file) bytes s t a b = a ∙ sym b
+over_unique (Asm text output) bytes s t a b = a ∙ sym b
+over_unique (Harts files turns steps) bytes s t a b = a ∙ sym b
 
 unique : (limit : ℕ) (bytes : List ℕ) (V W : Type 0) (s t : Status) → (V → W → s ≡ t) → Decided limit bytes V s → Decided limit bytes W t → s ≡ t
 unique limit bytes V W s t h (decide.too_long l a) (decide.too_long m b) = a ∙ sym b
@@ -264,6 +271,9 @@ over_decided (Plan input o) bytes answer m = makes_decided bytes o TellsPlan ans
 over_decided (Run file steps changes dump) bytes answer m = runs_decided bytes steps changes dump answer m
 over_decided (Campaign input o seed count changes) bytes answer m = m.status
 over_decided (Gen output seed size) bytes answer m = m.status
+over_decided (order.List file) bytes answer m = m.status
+over_decided (Asm text output) bytes answer m = m.status
+over_decided (Harts files turns steps) bytes answer m = m.status
 
 calls_decided :
     (limit : limits.Limit) (bytes : List ℕ) (rose V W : Type 0) (answer : Answer) → (V → W) → (rose → ⊥) → CallsFor limit bytes rose V answer
@@ -329,6 +339,9 @@ over_store (Plan input o) bytes stores answer calm m r = made_store bytes o Tell
 over_store (Run file steps changes dump) bytes stores answer calm m r = runs_store bytes steps changes dump stores answer m r
 over_store (Campaign input o seed count changes) bytes stores answer calm m r = none_stored answer stores m.stored r
 over_store (Gen output seed size) bytes stores answer calm m r = none_stored answer stores m.stored r
+over_store (order.List file) bytes stores answer calm m r = none_stored answer stores m.stored r
+over_store (Asm text output) bytes stores answer calm m r = none_stored answer stores m.stored r
+over_store (Harts files turns steps) bytes stores answer calm m r = none_stored answer stores m.stored r
 
 calls_store :
     (limit : limits.Limit) (bytes : List ℕ) (rose W : Type 0) (stores : List ℕ → Type 0) (answer : Answer) → (W → StoreRose answer.stored stores → ⊥)

@@ -12,7 +12,8 @@ use Rattle.transform.specs.Transform.{HasCause, IsTransformable}
 use Rattle.qed_model.specs.declared.change.Change.{Change}
 use Rattle.qed_model.specs.declared.options.Options.{Options}
 use Rattle.qed_model.specs.declared.order.Order.{Order}
-use Rattle.qed_model.specs.declared.order.Order.TheVariants.{Transform, Plan, Run, Campaign, Gen}
+use Rattle.qed_model.specs.declared.order.Order.TheVariants as order
+use Rattle.qed_model.specs.declared.order.Order.TheVariants.{Transform, Plan, Run, Campaign, Gen, Asm, Harts}
 use Rattle.qed_model.specs.Elf.File.{IsReadAs}
 use Rattle.qed_model.specs.Elf.Refusals.{IsRefused}
 use Rattle.qed_model.specs.Limits.{limit_of}
@@ -128,6 +129,9 @@ DecidesOver (Plan input options) bytes status = TransformDecides bytes options s
 DecidesOver (Run file steps changes dump) bytes status = RunDecides bytes steps changes status
 DecidesOver (Campaign input options seed count changes) bytes status = status ≡ Usage
 DecidesOver (Gen output seed size) bytes status = status ≡ Usage
+DecidesOver (order.List file) bytes status = status ≡ Usage
+DecidesOver (Asm text output) bytes status = status ≡ Usage
+DecidesOver (Harts files turns steps) bytes status = status ≡ Usage
 
 -- the status over the bytes of a file, of which so many are taken
 pub data Decided (limit : ℕ) (bytes : List ℕ) (Within : Type 0) (status : Status) : Type 0 where

@@ -4,7 +4,8 @@ use Rattle.qed_io.specs.Files.{Files, file_bytes}
 use Rattle.qed_model.specs.declared.limits.Limit as limits
 use Rattle.qed_model.specs.declared.limits.Limit.TheVariants.{FileBytes, RunFileBytes}
 use Rattle.qed_model.specs.declared.order.Order.{Order}
-use Rattle.qed_model.specs.declared.order.Order.TheVariants.{Transform, Plan, Run, Campaign, Gen}
+use Rattle.qed_model.specs.declared.order.Order.TheVariants as order
+use Rattle.qed_model.specs.declared.order.Order.TheVariants.{Transform, Plan, Run, Campaign, Gen, Asm, Harts}
 use Rattle.qed_model.specs.declared.order.Reason.{Reason}
 use Rattle.qed_model.specs.declared.order.Reason.TheVariants.{UnknownCommand}
 use Rattle.qed_model.specs.Text.Usage.{reason_line}
@@ -23,6 +24,9 @@ source_name (Plan input options) = Some input
 source_name (Run file steps changes dump) = Some file
 source_name (Campaign input options seed count changes) = None
 source_name (Gen output seed size) = None
+source_name (order.List file) = None
+source_name (Asm text output) = None
+source_name (Harts files turns steps) = None
 
 -- the limit on its bytes
 abbrev pub source_limit : Order → limits.Limit
@@ -39,13 +43,16 @@ stored_name _ = None
 abbrev pub IsUsage : Reason → Answer → Type 0
 IsUsage reason answer = PrintsOnly Usage (reason_line reason) answer
 
--- what an order calls for over the bytes of its file, which are within the limit; campaigns and generated tests are not built yet
+-- what an order calls for over the bytes of its file, which are within the limit; other commands are not built yet
 abbrev pub AnswersOver : Order → List ℕ → Answer → Type 0
 AnswersOver (Transform input output options) bytes answer = Makes bytes options (Delivers output) answer
 AnswersOver (Plan input options) bytes answer = Makes bytes options TellsPlan answer
 AnswersOver (Run file steps changes dump) bytes answer = Runs bytes steps changes dump answer
 AnswersOver (Campaign input options seed count changes) bytes answer = IsUsage UnknownCommand answer
 AnswersOver (Gen output seed size) bytes answer = IsUsage UnknownCommand answer
+AnswersOver (order.List file) bytes answer = IsUsage UnknownCommand answer
+AnswersOver (Asm text output) bytes answer = IsUsage UnknownCommand answer
+AnswersOver (Harts files turns steps) bytes answer = IsUsage UnknownCommand answer
 
 -- the same with the loading of the file; `rose` holds of a name whose count of failed loads rose
 abbrev pub OrderCallsFor : Order → Files → (List ℕ → Type 0) → Answer → Type 0

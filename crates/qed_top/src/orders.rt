@@ -21,6 +21,7 @@ pub fn source_name(order: &Order) -> Option<&str>
         Order::Plan(input, _) => Some(input.as_str()),
         Order::Run(file, _, _, _) => Some(file.as_str()),
         Order::Campaign(_, _, _, _, _) | Order::Gen(_, _, _) => None,
+        Order::List(_) | Order::Asm(_, _) | Order::Harts(_, _, _) => None,
     }
 }
 
@@ -42,7 +43,7 @@ pub fn usage(alloc: Global, reason: Reason) -> Result<Answer, AllocError>
     Ok(plain(Status::Usage, text))
 }
 
-/// What an order calls for over the bytes of its file. Campaigns and generated tests are not built yet.
+/// What an order calls for over the bytes of its file. Other commands are not built yet.
 pub fn answer_order(alloc: Global, order: Order, bytes: &[u8]) -> Result<Answer, AllocError>
     requires { IsSoundOrder order }
     ensures { IfOk result (AnswersOver order bytes.now) }
@@ -60,7 +61,11 @@ pub fn answer_order(alloc: Global, order: Order, bytes: &[u8]) -> Result<Answer,
             let answer = answer_run(alloc, bytes, steps, changes.as_slice(), dump)?;
             Ok(answer)
         }
-        Order::Campaign(_, _, _, _, _) | Order::Gen(_, _, _) => {
+        Order::Campaign(_, _, _, _, _)
+        | Order::Gen(_, _, _)
+        | Order::List(_)
+        | Order::Asm(_, _)
+        | Order::Harts(_, _, _) => {
             let answer = usage(alloc, Reason::UnknownCommand)?;
             Ok(answer)
         }

@@ -1,20 +1,26 @@
 -- The order that words ask for is sound.
-use Rattle.std.proofs.Common.{◌≡◌, ℕ, ◌+◌, ◌*◌, ◌/◌, ◌%◌, ◌^◌, ◌≤◌, nat_lt, nat_le, min, Bool, true, false, cond, List, [], ◌∷◌, map, length, refl, sym, subst, arith, ◌&&◌, ◌==◌, ◌∙◌}
+use Rattle.std.proofs.Common.{◌≡◌, ℕ, ◌+◌, ◌*◌, ◌/◌, ◌%◌, ◌^◌, ◌≤◌, ◌<◌, nat_lt, nat_le, min, Bool, true, false, cond, List, [], ◌∷◌, map, length, refl, sym, subst, arith, ◌&&◌, ◌==◌, ◌∙◌}
 use Rattle.std.proofs.lemmas.Bool.Decides.{nat_tests}
-use Rattle.std.specs.Prelude.{Option, Some, None, IfSome, IsSomeAnd, unwrap_or, option_and_then, slice_get, find, fold, filter_map, option_map, if◌then◌else◌, Ok}
+use Rattle.std.proofs.lemmas.List.{length-map}
+use Rattle.std.specs.Prelude.{Option, Some, None, IfSome, IsSomeAnd, unwrap_or, option_and_then, slice_get, find, fold, filter_map, option_map, if◌then◌else◌, Ok, All}
+use Rattle.std.specs.Char.{digit_value}
+use Rattle.std.specs.List.{list_all, AllByRecursion}
+use Rattle.std.proofs.lemmas.Bool.{and_parts}
+use Rattle.std.proofs.lemmas.List.Elements.{All-from_recursion}
 use Rattle.std.specs.Option.{option_or}
 use Rattle.qed_model.specs.declared.change.Change.{Change}
 use Rattle.qed_model.specs.declared.limits.TheConstants.{MAX_HALF}
 use Rattle.qed_model.specs.declared.order.Command.{Command}
-use Rattle.qed_model.specs.declared.order.Command.TheVariants.{Transform, Plan, Run, Campaign, Gen}
+use Rattle.qed_model.specs.declared.order.Command.TheVariants.{Transform, Plan, Run, Campaign, Gen, Asm, Harts}
+use Rattle.qed_model.specs.declared.order.Command.TheVariants as command
 use Rattle.qed_model.specs.declared.order.Order.{Order}
 use Rattle.qed_model.specs.declared.order.Key.{Key}
-use Rattle.qed_model.specs.declared.order.Key.TheVariants.{InstMin, InstMax, Round, Half, Steps, Fault, Dump, Seed, Count, Size, Changes}
+use Rattle.qed_model.specs.declared.order.Key.TheVariants.{InstMin, InstMax, Round, Half, Steps, Fault, Dump, Seed, Count, Size, Changes, Turns}
 use Rattle.qed_model.specs.declared.order.Reason.{Reason}
 use Rattle.qed_model.specs.declared.order.Reason.TheVariants.{MissingFile, MissingOption, OutOfRange, Split}
 use Rattle.qed_model.specs.Promise.Changed.{Ordered}
 use Rattle.qed_model.specs.Weave.Places.{AreSoundOptions}
-use Rattle.qed_model.specs.Words.{Argument, asked, asked_of, answer, colon, fault, first_wrong, parted, span_in, arguments, command_of, dump, first_reason, first_wrong_value, is_in_range, keys_of, lacks, missing, number, number_given, options, order_of, reason_of, span_of, split_reason, value_of, values, with_change, wrong_number, wrong_value, wrong_values, changes_given}
+use Rattle.qed_model.specs.Words.{Argument, asked, asked_of, answer, colon, fault, first_wrong, parted, span_in, arguments, command_of, dump, files, first_reason, first_wrong_value, is_in_range, keys_of, lacks, missing, number, number_given, options, order_of, reason_of, span_of, split_reason, value_of, values, with_change, wrong_number, wrong_value, wrong_values, changes_given, is_digit, steps_given, turns, wrong_turns}
 use Rattle.qed_words.specs.Sound.{IsSoundOrder}
 
 -- ---- where there is no reason
@@ -36,7 +42,7 @@ no_reason (reason ∷ reasons) e =
 
 -- an option whose value is a number
 abbrev IsNumbered : Key → Type 0
-IsNumbered key = (value : List ℕ) → wrong_value key value ≡ wrong_number key (number value)
+IsNumbered key = (count : ℕ) (value : List ℕ) → wrong_value count key value ≡ wrong_number key (number value)
 
 abbrev IsInRange : Key → ℕ → Type 0
 IsInRange key n = is_in_range key n ≡ true
@@ -53,24 +59,24 @@ if_there key None fits = tt
 if_there key (Some m) fits = fits
 
 -- the number that an option was given, if it was given, is in its range
-given_fits : (key : Key) (texts : List (List ℕ)) → IsNumbered key → first_reason (map (wrong_value key) texts) ≡ None → IfSome (option_and_then number (slice_get texts 0)) (IsInRange key)
-given_fits key [] is e = tt
-given_fits key (text ∷ texts) is e =
-    if_there key (number text) (number_fits key (number text) (sym (is text) ∙ (no_first (wrong_value key text) (first_reason (map (wrong_value key) texts)) e).0))
+given_fits : (count : ℕ) (key : Key) (texts : List (List ℕ)) → IsNumbered key → first_reason (map (wrong_value count key) texts) ≡ None → IfSome (option_and_then number (slice_get texts 0)) (IsInRange key)
+given_fits count key [] is e = tt
+given_fits count key (text ∷ texts) is e =
+    if_there key (number text) (number_fits key (number text) (sym (is count text) ∙ (no_first (wrong_value count key text) (first_reason (map (wrong_value count key) texts)) e).0))
 
 number_given_fits : (key : Key) (given : List Argument) → IsNumbered key → wrong_values given key ≡ None → IfSome (number_given key given) (IsInRange key)
 unfolding wrong_values number_given value_of
-number_given_fits key given is e = given_fits key (values key given) is e
+number_given_fits key given is e = given_fits (length (files given)) key (values key given) is e
 
 -- the same of an option that must be given
-asked_fits : (key : Key) (texts : List (List ℕ)) → IsNumbered key → (length texts == 0) ≡ false → first_reason (map (wrong_value key) texts) ≡ None → IsSomeAnd (option_and_then number (slice_get texts 0)) (IsInRange key)
-asked_fits key [] is some e = cc
-asked_fits key (text ∷ texts) is some e =
-    number_fits key (number text) (sym (is text) ∙ (no_first (wrong_value key text) (first_reason (map (wrong_value key) texts)) e).0)
+asked_fits : (count : ℕ) (key : Key) (texts : List (List ℕ)) → IsNumbered key → (length texts == 0) ≡ false → first_reason (map (wrong_value count key) texts) ≡ None → IsSomeAnd (option_and_then number (slice_get texts 0)) (IsInRange key)
+asked_fits count key [] is some e = cc
+asked_fits count key (text ∷ texts) is some e =
+    number_fits key (number text) (sym (is count text) ∙ (no_first (wrong_value count key text) (first_reason (map (wrong_value count key) texts)) e).0)
 
 number_there_fits : (key : Key) (given : List Argument) → IsNumbered key → lacks given key ≡ false → wrong_values given key ≡ None → IsSomeAnd (number_given key given) (IsInRange key)
 unfolding wrong_values number_given value_of lacks
-number_there_fits key given is some e = asked_fits key (values key given) is some e
+number_there_fits key given is some e = asked_fits (length (files given)) key (values key given) is some e
 
 -- ---- options
 
@@ -111,16 +117,16 @@ options_fit :
 unfolding options split_reason wrong_value
 options_fit given least greatest round half room =
     let great : (1 ≤ unwrap_or (number_given InstMax given) 16) × (unwrap_or (number_given InstMax given) 16 ≤ 1024)
-    = greatest_fits (number_given InstMax given) (number_given_fits InstMax given (λ _. refl) greatest) in
+    = greatest_fits (number_given InstMax given) (number_given_fits InstMax given (λ _ _. refl) greatest) in
     let visits : (1 ≤ unwrap_or (number_given Round given) 1) × (unwrap_or (number_given Round given) 1 ≤ 1024)
-    = round_fits (number_given Round given) (number_given_fits Round given (λ _. refl) round) in
+    = round_fits (number_given Round given) (number_given_fits Round given (λ _ _. refl) round) in
     record {
-      some = least_fits (number_given InstMin given) (unwrap_or (number_given InstMax given) 16) (number_given_fits InstMin given (λ _. refl) least) great.0;
+      some = least_fits (number_given InstMin given) (unwrap_or (number_given InstMax given) 16) (number_given_fits InstMin given (λ _ _. refl) least) great.0;
       room = leaves_room (options given).inst_min (options given).inst_max room;
       most = great.1;
       visits = visits.0;
       few_visits = visits.1;
-      half = half_fits (number_given Half given) (number_given_fits Half given (λ _. refl) half);
+      half = half_fits (number_given Half given) (number_given_fits Half given (λ _ _. refl) half);
     }
 
 -- ---- runs
@@ -219,24 +225,90 @@ changes_fit : (n : Option ℕ) → IfSome n (IsInRange Changes) → (1 ≤ unwra
 changes_fit None fits = (omega arith, omega arith)
 changes_fit (Some n) fits = (grind (arith, nat_tests), grind (arith, nat_tests))
 
+files_there : (count : ℕ) (other : Option Reason) → (if nat_lt count 1 then Some MissingFile else other) ≡ None → 1 ≤ count
+files_there count other e =
+    elim (nat_lt count 1)
+    as (λ t. nat_lt count 1 ≡ t → (if t then Some MissingFile else other) ≡ None → 1 ≤ count)
+    [ true ↦ λ _ h. cc | false ↦ λ h _. grind (arith, nat_tests) ] refl e
+
+-- ---- turns
+
+-- there is a turn, and each hart has one of `count` files
+record IsSchedule (count : ℕ) (harts : List ℕ) : Type 0 where
+  some : 1 ≤ length harts
+  below : All (λ hart. hart < count) harts
+
+below_each : (count : ℕ) (harts : List ℕ) → list_all (λ hart. nat_lt hart count) harts ≡ true → AllByRecursion (λ hart. hart < count) harts
+below_each count [] e = tt
+below_each count (hart ∷ harts) e =
+    let both : (nat_lt hart count ≡ true) × (list_all (λ hart. nat_lt hart count) harts ≡ true) = and_parts (nat_lt hart count) (list_all (λ hart. nat_lt hart count) harts) e in
+    (grind (arith, nat_tests), below_each count harts both.1)
+
+all_below : (count : ℕ) (harts : List ℕ) → (if list_all (λ hart. nat_lt hart count) harts then None else Some (OutOfRange Turns)) ≡ None → All (λ hart. hart < count) harts
+all_below count harts e =
+    elim (list_all (λ hart. nat_lt hart count) harts)
+    as (λ t. list_all (λ hart. nat_lt hart count) harts ≡ t → (if t then None else Some (OutOfRange Turns)) ≡ None → All (λ hart. hart < count) harts)
+    [ true ↦ λ h _. All-from_recursion (λ hart. hart < count) harts (below_each count harts h) | false ↦ λ _ h. cc ] refl e
+
+turns_in : (count : ℕ) (text : List ℕ) (test : Bool) → ((nat_le 1 (length text) && nat_le (length text) 64) && test) ≡ true → wrong_turns count (Some (map digit_value text)) ≡ None → IsSchedule count (map digit_value text)
+turns_in count text test is e = record {
+  some =
+      let same : length (map digit_value text) ≡ length text = length-map text digit_value in
+      let both : ((nat_le 1 (length text) && nat_le (length text) 64) ≡ true) × (test ≡ true) = and_parts (nat_le 1 (length text) && nat_le (length text) 64) test is in
+      let low : (nat_le 1 (length text) ≡ true) × (nat_le (length text) 64 ≡ true) = and_parts (nat_le 1 (length text)) (nat_le (length text) 64) both.0 in
+      grind (arith, nat_tests, same);
+  below = all_below count (map digit_value text) e;
+}
+
+turns_text : (count : ℕ) (text : List ℕ) → wrong_turns count (turns text) ≡ None → IfSome (turns text) (IsSchedule count)
+unfolding turns
+turns_text count text e =
+    elim ((nat_le 1 (length text) && nat_le (length text) 64) && list_all is_digit text)
+    as (λ t. ((nat_le 1 (length text) && nat_le (length text) 64) && list_all is_digit text) ≡ t → wrong_turns count (if t then Some (map digit_value text) else None) ≡ None → IfSome (if t then Some (map digit_value text) else None) (IsSchedule count))
+    [ true ↦ λ h w. turns_in count text (list_all is_digit text) h w | false ↦ λ _ _. tt ] refl e
+
+turns_first : (count : ℕ) (texts : List (List ℕ)) → first_reason (map (wrong_value count Turns) texts) ≡ None → IfSome (option_and_then turns (slice_get texts 0)) (IsSchedule count)
+unfolding wrong_value
+turns_first count [] e = tt
+turns_first count (text ∷ texts) e = turns_text count text (no_first (wrong_turns count (turns text)) (first_reason (map (wrong_value count Turns) texts)) e).0
+
+turns_given_fit : (given : List Argument) → wrong_values given Turns ≡ None → IfSome (option_and_then turns (value_of Turns given)) (IsSchedule (length (files given)))
+unfolding wrong_values value_of
+turns_given_fit given e = turns_first (length (files given)) (values Turns given) e
+
+schedule_parts : (count : ℕ) (harts : Option (List ℕ)) → IfSome harts (IsSchedule count) → IfSome harts (λ hs. 1 ≤ length hs) × IfSome harts (All (λ hart. hart < count))
+schedule_parts count None fits = (tt, tt)
+schedule_parts count (Some harts) fits = (fits.some, fits.below)
+
 order_sound : (command : Command) (given : List Argument) → IsFaultless command given → IsSoundOrder (order_of command given)
-unfolding order_of wrong_value missing
+unfolding order_of wrong_value missing steps_given
 order_sound Transform given f = options_fit given f.values.0 f.values.1.0 f.values.1.1.0 f.values.1.1.1.0 f.room
 order_sound Plan given f = options_fit given f.values.0 f.values.1.0 f.values.1.1.0 f.values.1.1.1.0 f.room
 order_sound Run given f = record {
-  few = steps_fit (number_given Steps given) (number_given_fits Steps given (λ _. refl) f.values.0);
+  few = steps_fit (number_given Steps given) (number_given_fits Steps given (λ _ _. refl) f.values.0);
   ordered = changes_ordered given;
   shown = dump_fits (value_of Dump given);
 }
 order_sound Campaign given f =
     let there : (lacks given Seed ≡ false) × (lacks given Count ≡ false) = both_there given Seed Count _ f.there in (
       options_fit given f.values.0 f.values.1.0 f.values.1.1.0 f.values.1.1.1.0 f.room,
-      count_fits (number_given Count given) (number_there_fits Count given (λ _. refl) there.1 f.values.1.1.1.1.1.0),
-      changes_fit (number_given Changes given) (number_given_fits Changes given (λ _. refl) f.values.1.1.1.1.1.1.0),
+      count_fits (number_given Count given) (number_there_fits Count given (λ _ _. refl) there.1 f.values.1.1.1.1.1.0),
+      changes_fit (number_given Changes given) (number_given_fits Changes given (λ _ _. refl) f.values.1.1.1.1.1.1.0),
     )
 order_sound Gen given f =
     let there : (lacks given Seed ≡ false) × (lacks given Size ≡ false) = both_there given Seed Size _ f.there in
-    size_fits (number_given Size given) (number_there_fits Size given (λ _. refl) there.1 f.values.1.0)
+    size_fits (number_given Size given) (number_there_fits Size given (λ _ _. refl) there.1 f.values.1.0)
+order_sound command.List given f = tt
+order_sound Asm given f = tt
+order_sound Harts given f =
+    let turning : IfSome (option_and_then turns (value_of Turns given)) (λ hs. 1 ≤ length hs) × IfSome (option_and_then turns (value_of Turns given)) (All (λ hart. hart < length (files given)))
+    = schedule_parts (length (files given)) (option_and_then turns (value_of Turns given)) (turns_given_fit given f.values.0) in
+    record {
+      some = files_there (length (files given)) _ f.there;
+      few = steps_fit (number_given Steps given) (number_given_fits Steps given (λ _ _. refl) f.values.1.0);
+      some_turns = turning.0;
+      below = turning.1;
+    }
 
 answer_sound : (command : Command) (given : List Argument) (reason : Option Reason) → reason_of command given ≡ reason → (o : Order) → answer (order_of command given) reason ≡ Ok o → IsSoundOrder o
 answer_sound command given None none o e =

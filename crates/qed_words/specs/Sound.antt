@@ -1,8 +1,9 @@
 -- What the calls that carry out an order ask of it.
-use Rattle.std.specs.Prelude.{ℕ, ◌+◌, ◌^◌, ◌≤◌, List, Option, IfSome}
+use Rattle.std.specs.Prelude.{ℕ, ◌+◌, ◌^◌, ◌≤◌, ◌<◌, List, Option, IfSome, All, length}
 use Rattle.qed_model.specs.declared.change.Change.{Change}
 use Rattle.qed_model.specs.declared.order.Order.{Order}
-use Rattle.qed_model.specs.declared.order.Order.TheVariants.{Transform, Plan, Run, Campaign, Gen}
+use Rattle.qed_model.specs.declared.order.Order.TheVariants as order
+use Rattle.qed_model.specs.declared.order.Order.TheVariants.{Transform, Plan, Run, Campaign, Gen, Asm, Harts}
 use Rattle.qed_model.specs.Promise.Changed.{Ordered}
 use Rattle.qed_model.specs.Weave.Places.{AreSoundOptions}
 
@@ -12,6 +13,13 @@ pub record IsSoundRun (steps : ℕ) (changes : List Change) (dump : Option (ℕ 
   pub ordered : Ordered changes
   pub shown : IfSome dump (λ d. (1 ≤ d.1) × (d.1 ≤ 65536) × (d.0 + d.1 ≤ 2 ^ 64))
 
+-- there is a file, and each hart that makes a turn has one
+pub record IsSoundSchedule (files : List (List ℕ)) (turns : Option (List ℕ)) (steps : ℕ) : Type 0 where
+  pub some : 1 ≤ length files
+  pub few : steps ≤ 1000000000000
+  pub some_turns : IfSome turns (λ harts. 1 ≤ length harts)
+  pub below : IfSome turns (All (λ hart. hart < length files))
+
 abbrev pub IsSoundOrder : Order → Type 0
 IsSoundOrder (Transform input output options) = AreSoundOptions options
 IsSoundOrder (Plan input options) = AreSoundOptions options
@@ -19,3 +27,6 @@ IsSoundOrder (Run file steps changes dump) = IsSoundRun steps changes dump
 IsSoundOrder (Campaign input options seed count changes) =
     AreSoundOptions options × ((1 ≤ count) × (count ≤ 10000)) × ((1 ≤ changes) × (changes ≤ 16))
 IsSoundOrder (Gen output seed size) = (1 ≤ size) × (size ≤ 60000)
+IsSoundOrder (order.List file) = Unit {0}
+IsSoundOrder (Asm text output) = Unit {0}
+IsSoundOrder (Harts files turns steps) = IsSoundSchedule files turns steps

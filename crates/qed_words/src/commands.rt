@@ -1,6 +1,6 @@
 //! Commands and their options.
 ghost use Rattle.std.specs.Prelude.{◌≡◌};
-ghost use Rattle.qed_model.specs.Words.{command_of, file_count as file_count_of, keys_of, required_of, has_flags as has_flags_of, most_of, key_named as key_named_of, is_flag as is_flag_of};
+ghost use Rattle.qed_model.specs.Words.{command_of, least_files as least_files_of, most_files as most_files_of, keys_of, required_of, has_flags as has_flags_of, most_of, key_named as key_named_of, is_flag as is_flag_of};
 
 use qed_model::{Command, Key};
 
@@ -18,18 +18,39 @@ pub fn command_named(word: &str) -> Option<Command>
         Some(Command::Campaign)
     } else if word == "gen" {
         Some(Command::Gen)
+    } else if word == "list" {
+        Some(Command::List)
+    } else if word == "asm" {
+        Some(Command::Asm)
+    } else if word == "harts" {
+        Some(Command::Harts)
     } else {
         None
     }
 }
 
-/// How many files a command has.
-pub fn file_count(command: Command) -> usize
-    ensures { result ≡ file_count_of command }
+/// How many files a command has at least.
+pub fn least_files(command: Command) -> usize
+    ensures { result ≡ least_files_of command }
 {
     match command {
-        Command::Transform => 2,
-        Command::Plan | Command::Run | Command::Campaign | Command::Gen => 1,
+        Command::Transform | Command::Asm => 2,
+        Command::Plan
+        | Command::Run
+        | Command::Campaign
+        | Command::Gen
+        | Command::List
+        | Command::Harts => 1,
+    }
+}
+
+/// How many files a command has at most.
+pub fn most_files(command: Command) -> usize
+    ensures { result ≡ most_files_of command }
+{
+    match command {
+        Command::Harts => 8,
+        _ => least_files(command),
     }
 }
 
@@ -52,6 +73,8 @@ pub fn keys(command: Command) -> &'static [Key]
             Key::Changes,
         ],
         Command::Gen => &[Key::Seed, Key::Size],
+        Command::List | Command::Asm => &[],
+        Command::Harts => &[Key::Turns, Key::Steps],
     }
 }
 
@@ -60,7 +83,12 @@ pub fn required(command: Command) -> &'static [Key]
     ensures { result.now ≡ required_of command }
 {
     match command {
-        Command::Transform | Command::Plan | Command::Run => &[],
+        Command::Transform
+        | Command::Plan
+        | Command::Run
+        | Command::List
+        | Command::Asm
+        | Command::Harts => &[],
         Command::Campaign => &[Key::Seed, Key::Count],
         Command::Gen => &[Key::Seed, Key::Size],
     }
@@ -72,7 +100,7 @@ fn has_flags(command: Command) -> bool
 {
     match command {
         Command::Transform | Command::Plan | Command::Campaign => true,
-        Command::Run | Command::Gen => false,
+        Command::Run | Command::Gen | Command::List | Command::Asm | Command::Harts => false,
     }
 }
 

@@ -8,7 +8,7 @@ use crate::argument::Argument;
 use crate::number::number;
 use qed_model::Key;
 
-fn name_in<'a>(argument: Argument<'a>) -> Option<&'a str>
+pub fn name_in<'a>(argument: Argument<'a>) -> Option<&'a str>
     ensures { option_copied result ≡ name_in_of (seen argument.entry) }
 {
     match argument {

@@ -5,9 +5,10 @@ ghost use Rattle.qed_words.specs.Seen.{seen};
 
 use crate::argument::Argument;
 use crate::commands::keys;
-use crate::given::value_in;
+use crate::given::{count_files, value_in};
 use crate::number::number;
 use crate::shape::{dump, fault};
+use crate::turns::wrong_turns;
 use qed_model::limits::MAX_HALF;
 use qed_model::{Command, Key, Reason};
 
@@ -22,7 +23,7 @@ fn is_in_range(key: Key, number: u64) -> bool
         Key::Count => 1 <= number && number <= 10_000,
         Key::Size => 1 <= number && number <= 60_000,
         Key::Changes => 1 <= number && number <= 16,
-        Key::Fault | Key::Dump | Key::Seed => true,
+        Key::Fault | Key::Dump | Key::Seed | Key::Turns => true,
     }
 }
 
@@ -35,14 +36,15 @@ fn wrong_number(key: Key, number: Option<u64>) -> Option<Reason>
     }
 }
 
-/// What is wrong with an option's value.
+/// What is wrong with an option's value, where there are `count` files.
 #[tactic(auto, unfolding(qed_model::specs::Words::wrong_value))]
-fn wrong_value(key: Key, value: &[u8]) -> Option<Reason>
-    ensures { result ≡ wrong_value_of key value.now }
+fn wrong_value(count: usize, key: Key, value: &[u8]) -> Option<Reason>
+    ensures { result ≡ wrong_value_of count key value.now }
 {
     match key {
         Key::Fault => fault(value).is_none().then_some(Reason::BadShape(key)),
         Key::Dump => dump(value).is_none().then_some(Reason::BadShape(key)),
+        Key::Turns => wrong_turns(count, value),
         _ => wrong_number(key, number(value)),
     }
 }
@@ -52,9 +54,10 @@ fn wrong_value(key: Key, value: &[u8]) -> Option<Reason>
 fn wrong_values(arguments: &[Argument<'_>], key: Key) -> Option<Reason>
     ensures { result ≡ wrong_values_of (map seen arguments.now) key }
 {
+    let count = count_files(arguments);
     for argument in arguments {
         if let Some(value) = value_in(key, *argument) {
-            let found = wrong_value(key, value);
+            let found = wrong_value(count, key, value);
             if found.is_some() {
                 return found;
             }

@@ -1,7 +1,7 @@
 //! The order that words ask for.
 ghost use Rattle.std.specs.Prelude.{◌≡◌, Ok, IfOk, IfErr, map, option_and_then};
 ghost use Rattle.qed_model.specs.declared.order.Key.TheVariants as key;
-ghost use Rattle.qed_model.specs.Words.{texts, dump as dump_of, value_of, file as file_of, order_of, asked};
+ghost use Rattle.qed_model.specs.Words.{texts, dump as dump_of, value_of, file as file_of, steps_given as steps_given_of, order_of, asked};
 ghost use Rattle.qed_words.specs.Seen.{seen};
 ghost use Rattle.qed_words.specs.Sound.{IsSoundOrder};
 ghost use Rattle.qed_words.specs.WordsError.{Explains};
@@ -11,10 +11,12 @@ use crate::arguments::arguments;
 use crate::changes::changes;
 use crate::commands::command_named;
 use crate::error::WordsError;
+use crate::files::names;
 use crate::given::{file, first_value, number_given};
 use crate::options::options;
 use crate::reason::first_reason;
 use crate::shape::dump;
+use crate::turns::turns_given;
 use qed_model::{Command, Key, Name, Order, Reason};
 use std::alloc::{AllocError, Global};
 
@@ -26,6 +28,14 @@ fn name(alloc: Global, arguments: &[Argument<'_>], place: usize) -> Result<Name,
     ensures { IfOk result (λ name. name ≡ file_of (map seen arguments.now) place) }
 {
     Ok(Name::of(String::from_str(alloc, file(arguments, place))?))
+}
+
+/// The greatest number of steps, or of turns.
+#[tactic(auto, unfolding(qed_model::specs::Words::steps_given))]
+fn steps_given(arguments: &[Argument<'_>]) -> u64
+    ensures { result ≡ steps_given_of (map seen arguments.now) }
+{
+    number_given(Key::Steps, arguments).unwrap_or(DEFAULT_STEPS)
 }
 
 /// The address and the length of the dump that arguments ask for.
@@ -53,7 +63,7 @@ fn make_order(
         }
         Command::Plan => Ok(Order::Plan(first, options(arguments))),
         Command::Run => {
-            let steps = number_given(Key::Steps, arguments).unwrap_or(DEFAULT_STEPS);
+            let steps = steps_given(arguments);
             let changes = changes(alloc, arguments)?;
             Ok(Order::Run(first, steps, changes, dump_given(arguments)))
         }
@@ -65,6 +75,16 @@ fn make_order(
         Command::Gen => {
             let size = number_given(Key::Size, arguments).unwrap_or(0);
             Ok(Order::Gen(first, seed, size))
+        }
+        Command::List => Ok(Order::List(first)),
+        Command::Asm => {
+            let second = name(alloc, arguments, 1)?;
+            Ok(Order::Asm(first, second))
+        }
+        Command::Harts => {
+            let files = names(alloc, arguments)?;
+            let turns = turns_given(alloc, arguments)?;
+            Ok(Order::Harts(files, turns, steps_given(arguments)))
         }
     }
 }

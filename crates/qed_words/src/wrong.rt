@@ -4,7 +4,7 @@ ghost use Rattle.qed_model.specs.Words.{is_value as is_value_of, wrong as wrong_
 ghost use Rattle.qed_words.specs.Seen.{seen};
 
 use crate::argument::Argument;
-use crate::commands::{file_count, most, required};
+use crate::commands::{least_files, most, most_files, required};
 use crate::given::{count_files, count_values, has_flag};
 use qed_model::{Command, Key, Reason};
 
@@ -34,7 +34,7 @@ fn wrong(command: Command, before: &[Argument<'_>], argument: Argument<'_>) -> O
             }
         }
         Argument::File(word, _) => {
-            (file_count(command) <= count_files(before)).then_some(Reason::ExtraWord(word))
+            (most_files(command) <= count_files(before)).then_some(Reason::ExtraWord(word))
         }
     }
 }
@@ -65,7 +65,7 @@ fn lacks(arguments: &[Argument<'_>], key: Key) -> bool
 pub fn missing(command: Command, arguments: &[Argument<'_>]) -> Option<Reason>
     ensures { result ≡ missing_of command (map seen arguments.now) }
 {
-    if count_files(arguments) < file_count(command) {
+    if count_files(arguments) < least_files(command) {
         return Some(Reason::MissingFile);
     }
     for &key in required(command) {

@@ -6,6 +6,8 @@ mod lines;
 #[cfg(test)]
 mod many;
 #[cfg(test)]
+mod more;
+#[cfg(test)]
 mod orders;
 #[cfg(test)]
 mod reasons;

@@ -1,6 +1,7 @@
 //! What is wanted of a command line.
 
-use qed_model::{Change, Options, Order, Place, Reason};
+use elf_types::Bytes;
+use qed_model::{Change, Name, Options, Order, Place, Reason};
 use qed_words::WordsError;
 
 /// Where a change is made: a register by its number, or a word by its address.
@@ -22,6 +23,10 @@ pub(crate) enum Want {
     Run(&'static str, u64, &'static [Made], Option<(u64, u64)>),
     Campaign(&'static str, Options, u64, u64, u64),
     Gen(&'static str, u64, u64),
+    List(&'static str),
+    Asm(&'static str, &'static str),
+    /// The files with spaces between them, the harts, and the turns.
+    Harts(&'static str, Option<&'static [u8]>, u64),
     No(Reason),
 }
 
@@ -55,6 +60,19 @@ fn are_made(changes: &[Change], wanted: &[Made]) -> bool {
             .all(|(change, want)| told(change) == *want)
 }
 
+fn are_named(files: &[Name], wanted: &str) -> bool {
+    let mut names = wanted.split(' ');
+    files.iter().all(|file| names.next() == Some(file.as_str())) && names.next().is_none()
+}
+
+fn are_numbered(harts: &Option<Bytes>, wanted: Option<&[u8]>) -> bool {
+    match (harts, wanted) {
+        (Some(harts), Some(numbers)) => harts.as_slice() == numbers,
+        (None, None) => true,
+        _ => false,
+    }
+}
+
 /// Whether an answer is the one that is wanted.
 pub(crate) fn is_wanted(answer: &Result<Order, WordsError>, want: &Want) -> bool {
     match (answer, want) {
@@ -80,6 +98,13 @@ pub(crate) fn is_wanted(answer: &Result<Order, WordsError>, want: &Want) -> bool
         }
         (Ok(Order::Gen(output, seed, size)), Want::Gen(to, from_seed, of_size)) => {
             output.as_str() == *to && (*seed, *size) == (*from_seed, *of_size)
+        }
+        (Ok(Order::List(file)), Want::List(name)) => file.as_str() == *name,
+        (Ok(Order::Asm(text, output)), Want::Asm(from, to)) => {
+            text.as_str() == *from && output.as_str() == *to
+        }
+        (Ok(Order::Harts(files, harts, turns)), Want::Harts(names, numbers, most)) => {
+            are_named(files.as_slice(), names) && are_numbered(harts, *numbers) && turns == most
         }
         (Err(WordsError::Usage(reason)), Want::No(first)) => reason == first,
         _ => false,

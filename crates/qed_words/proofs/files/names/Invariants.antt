@@ -1,0 +1,8 @@
+use Rattle.std.proofs.Common.{◌≡◌, ◌++◌, drop, map}
+use Rattle.qed_model.specs.Words.{files}
+use Rattle.qed_words.specs.Seen.{seen}
+use Rattle.qed_words.proofs.files.names.Given as goal
+
+-- those so far and those of the rest are all
+abbrev pub invariant-loop-argument : goal.invariant-loop-argument
+invariant-loop-argument l = l.names.items ++ files (map seen (drop l.argument-index l.arguments)) ≡ files (map seen l.arguments)

@@ -1,0 +1,99 @@
+//! The harts that make the turns.
+ghost use Rattle.std.specs.Prelude.{◌≡◌, ◌&&◌, IfOk, map, length, nat_le, nat_lt, option_and_then};
+ghost use Rattle.std.specs.Char.{digit_value};
+ghost use Rattle.std.specs.List.{list_all};
+ghost use Rattle.qed_model.specs.declared.order.Key.TheVariants as key;
+ghost use Rattle.qed_model.specs.Words.{is_digit as is_digit_of, turns as turns_of, value_of, wrong_turns as wrong_turns_of};
+ghost use Rattle.qed_words.specs.Seen.{seen};
+
+use crate::argument::Argument;
+use crate::given::first_value;
+use elf_types::Bytes;
+use qed_model::{Key, Reason};
+use std::alloc::{AllocError, Global};
+
+/// The value of a digit or a letter, 36 for any other byte.
+fn digit(byte: u8) -> u8
+    ensures { result ≡ digit_value byte }
+{
+    match char::from(byte).to_digit(36) {
+        Some(value) => value as u8,
+        None => 36,
+    }
+}
+
+/// Whether all bytes are decimal digits.
+fn are_digits(text: &[u8]) -> bool
+    ensures { result ≡ list_all is_digit_of text.now }
+{
+    for &byte in text {
+        if digit(byte) >= 10 {
+            return false;
+        }
+    }
+    true
+}
+
+/// Whether each hart has one of `count` files.
+fn are_below(text: &[u8], count: usize) -> bool
+    ensures { result ≡ list_all (λ hart. nat_lt hart count) (map digit_value text.now) }
+{
+    for &byte in text {
+        if usize::from(digit(byte)) >= count {
+            return false;
+        }
+    }
+    true
+}
+
+/// Whether a text is 1 to 64 decimal digits.
+fn are_turns(text: &[u8]) -> bool
+    ensures { result ≡ ((nat_le 1 (length text.now) && nat_le (length text.now) 64) && list_all is_digit_of text.now) }
+{
+    1 <= text.len() && text.len() <= 64 && are_digits(text)
+}
+
+/// What is wrong with turns, where there are `count` files.
+#[tactic(auto, unfolding(qed_model::specs::Words::turns))]
+pub fn wrong_turns(count: usize, text: &[u8]) -> Option<Reason>
+    ensures { result ≡ wrong_turns_of count (turns_of text.now) }
+{
+    if !are_turns(text) {
+        return Some(Reason::BadShape(Key::Turns));
+    }
+    (!are_below(text, count)).then_some(Reason::OutOfRange(Key::Turns))
+}
+
+/// The values of digits.
+fn digits(alloc: Global, text: &[u8]) -> Result<Vec<u8>, AllocError>
+    ensures { IfOk result (λ values. values.items ≡ map digit_value text.now) }
+{
+    let mut values = Vec::new(alloc);
+    for &byte in text {
+        values.push(digit(byte))?;
+    }
+    Ok(values)
+}
+
+/// The harts that make the turns, by their numbers.
+#[tactic(auto, unfolding(qed_model::specs::Words::turns))]
+fn turns(alloc: Global, text: &[u8]) -> Result<Option<Bytes>, AllocError>
+    ensures { IfOk result (λ harts. harts ≡ turns_of text.now) }
+{
+    if are_turns(text) {
+        let values = digits(alloc, text)?;
+        Ok(Some(Bytes::of(values)))
+    } else {
+        Ok(None)
+    }
+}
+
+/// The harts that arguments ask for.
+pub fn turns_given(alloc: Global, arguments: &[Argument<'_>]) -> Result<Option<Bytes>, AllocError>
+    ensures { IfOk result (λ harts. harts ≡ option_and_then turns_of (value_of key.Turns (map seen arguments.now))) }
+{
+    match first_value(Key::Turns, arguments) {
+        Some(text) => turns(alloc, text),
+        None => Ok(None),
+    }
+}
