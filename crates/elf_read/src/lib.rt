@@ -5,6 +5,7 @@
 mod below;
 mod fields;
 mod header;
+mod known;
 mod limits;
 mod parts;
 mod read;
@@ -15,4 +16,5 @@ mod strings;
 mod symbols;
 mod tables;
 
+pub use known::read_known;
 pub use read::read_elf;

@@ -6,6 +6,8 @@ mod compiled;
 #[cfg(test)]
 mod expected;
 #[cfg(test)]
+mod generated;
+#[cfg(test)]
 mod lines;
 #[cfg(test)]
 mod machine;

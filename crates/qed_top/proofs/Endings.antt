@@ -20,6 +20,8 @@ use Rattle.qed_top.specs.Answer.{CallsFor, read_fault, too_long, within, FilesAf
 use Rattle.qed_top.specs.Refused.{error_status, refusal_status}
 use Rattle.qed_top.specs.Makes.{Makes, refused, made, Delivers, TellsPlan}
 use Rattle.qed_top.specs.Run.{memory_bytes, outcome_status, run_of, FileRuns, too_large, ran, Runs, unread, run}
+use Rattle.qed_model.specs.Options.{default_options}
+use Rattle.qed_top.specs.Gen.{Generates, test_bytes}
 use Rattle.qed_top.specs.Orders.{AnswersOver, IsUsage, OrderCallsFor, WordsCallFor, source_limit, source_name, stored_name}
 use Rattle.qed_top.specs.Ends.{OverFiles, Call, load_rose, store_rose, sink_rose, KeepsShelf, IsAnswered, EndsOver, Ends, TransformDecides, RunDecides, Decided, DecidesOver, OrderDecides, Decides, NoFault, IsComplete}
 use Rattle.qed_top.specs.Ends as decide
@@ -104,7 +106,7 @@ over_printed (Transform input output o) bytes answer m = makes_printed bytes o (
 over_printed (Plan input o) bytes answer m = makes_printed bytes o TellsPlan answer (λ file p t. told_done file p answer t) m
 over_printed (Run file steps changes dump) bytes answer m = runs_printed bytes steps changes dump answer m
 over_printed (Campaign input o seed count changes) bytes answer m = prints Usage answer tt m.status
-over_printed (Gen output seed size) bytes answer m = prints Usage answer tt m.status
+over_printed (Gen output seed size) bytes answer m = makes_printed (test_bytes seed size) default_options (Generates output seed size) answer (λ file p g. g.status) m
 over_printed (order.List file) bytes answer m = prints Usage answer tt m.status
 over_printed (Asm text output) bytes answer m = prints Usage answer tt m.status
 over_printed (Harts files turns steps) bytes answer m = prints Usage answer tt m.status
@@ -220,7 +222,7 @@ over_unique (Transform input output o) bytes s t a b = transform_unique bytes o 
 over_unique (Plan input o) bytes s t a b = transform_unique bytes o s t a b
 over_unique (Run file steps changes dump) bytes s t a b = run_unique bytes steps changes s t a b
 over_unique (Campaign input o seed count changes) bytes s t a b = a ∙ sym b
-over_unique (Gen output seed size) bytes s t a b = a ∙ sym b
+over_unique (Gen output seed size) bytes s t a b = transform_unique (test_bytes seed size) default_options s t a b
 over_unique (order.List file) bytes s t a b = a ∙ sym b
 over_unique (Asm text output) bytes s t a b = a ∙ sym b
 over_unique (Harts files turns steps) bytes s t a b = a ∙ sym b
@@ -270,7 +272,7 @@ over_decided (Transform input output o) bytes answer m = makes_decided bytes o (
 over_decided (Plan input o) bytes answer m = makes_decided bytes o TellsPlan answer (λ file p t. told_done file p answer t) m
 over_decided (Run file steps changes dump) bytes answer m = runs_decided bytes steps changes dump answer m
 over_decided (Campaign input o seed count changes) bytes answer m = m.status
-over_decided (Gen output seed size) bytes answer m = m.status
+over_decided (Gen output seed size) bytes answer m = makes_decided (test_bytes seed size) default_options (Generates output seed size) answer (λ file p g. g.status) m
 over_decided (order.List file) bytes answer m = m.status
 over_decided (Asm text output) bytes answer m = m.status
 over_decided (Harts files turns steps) bytes answer m = m.status
@@ -331,6 +333,11 @@ runs_store :
 runs_store bytes steps changes dump stores answer (unread u) r = none_stored answer stores u.plain.stored r
 runs_store bytes steps changes dump stores answer (run x) r = file_store x.file steps changes dump stores answer x.runs r
 
+generated_store :
+    (output : List ℕ) (seed size : ℕ) (stores : List ℕ → Type 0) (answer : Answer) → (stores output → ⊥) → (file : List ℕ) (p : plan.Plan) → Generates output seed size file p answer
+    → StoreRose answer.stored stores → ⊥
+generated_store output seed size stores answer calm file p g r = calm (stored_as answer.stored stores output (test_bytes seed size) g.stored r)
+
 over_store :
     (order : Order) (bytes : List ℕ) (stores : List ℕ → Type 0) (answer : Answer) → IfSome (stored_name order) (λ name. stores name → ⊥) → AnswersOver order bytes answer
     → StoreRose answer.stored stores → ⊥
@@ -338,7 +345,8 @@ over_store (Transform input output o) bytes stores answer calm m r = made_store 
 over_store (Plan input o) bytes stores answer calm m r = made_store bytes o TellsPlan stores answer (told_store stores answer) m r
 over_store (Run file steps changes dump) bytes stores answer calm m r = runs_store bytes steps changes dump stores answer m r
 over_store (Campaign input o seed count changes) bytes stores answer calm m r = none_stored answer stores m.stored r
-over_store (Gen output seed size) bytes stores answer calm m r = none_stored answer stores m.stored r
+over_store (Gen output seed size) bytes stores answer calm m r =
+    made_store (test_bytes seed size) default_options (Generates output seed size) stores answer (generated_store output seed size stores answer calm) m r
 over_store (order.List file) bytes stores answer calm m r = none_stored answer stores m.stored r
 over_store (Asm text output) bytes stores answer calm m r = none_stored answer stores m.stored r
 over_store (Harts files turns steps) bytes stores answer calm m r = none_stored answer stores m.stored r

@@ -21,6 +21,8 @@ use Rattle.qed_model.specs.Words.{asked}
 use Rattle.qed_top.specs.Answer.{FilesAfter, FilesInPart, StoreRose, ShelfSteady}
 use Rattle.qed_top.specs.Refused.{error_status, refusal_status}
 use Rattle.qed_top.specs.Run.{memory_bytes, memory_limit, outcome_status, run_of}
+use Rattle.qed_model.specs.Options.{default_options}
+use Rattle.qed_top.specs.Gen.{test_bytes}
 use Rattle.qed_top.specs.Orders.{WordsCallFor, source_name, source_limit, stored_name}
 use Rattle.qed_top.specs.declared.answer.Answer.{Answer}
 use Rattle.qed_top.specs.declared.status.Status.{Status}
@@ -128,7 +130,7 @@ DecidesOver (Transform input output options) bytes status = TransformDecides byt
 DecidesOver (Plan input options) bytes status = TransformDecides bytes options status
 DecidesOver (Run file steps changes dump) bytes status = RunDecides bytes steps changes status
 DecidesOver (Campaign input options seed count changes) bytes status = status ≡ Usage
-DecidesOver (Gen output seed size) bytes status = status ≡ Usage
+DecidesOver (Gen output seed size) bytes status = TransformDecides (test_bytes seed size) default_options status
 DecidesOver (order.List file) bytes status = status ≡ Usage
 DecidesOver (Asm text output) bytes status = status ≡ Usage
 DecidesOver (Harts files turns steps) bytes status = status ≡ Usage

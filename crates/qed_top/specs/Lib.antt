@@ -2,6 +2,7 @@ pub mod Answer
 pub mod Refused
 pub mod Makes
 pub mod Run
+pub mod Gen
 pub mod Orders
 pub mod Codes
 pub mod Fault

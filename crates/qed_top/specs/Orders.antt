@@ -11,6 +11,7 @@ use Rattle.qed_model.specs.declared.order.Reason.TheVariants.{UnknownCommand}
 use Rattle.qed_model.specs.Text.Usage.{reason_line}
 use Rattle.qed_model.specs.Words.{asked}
 use Rattle.qed_top.specs.Answer.{PrintsOnly, CallsFor}
+use Rattle.qed_top.specs.Gen.{Gens}
 use Rattle.qed_top.specs.Makes.{Makes, Delivers, TellsPlan}
 use Rattle.qed_top.specs.Run.{Runs}
 use Rattle.qed_top.specs.declared.answer.Answer.{Answer}
@@ -36,6 +37,7 @@ source_limit _ = FileBytes
 -- the name of the file that an order stores, where there is one
 abbrev pub stored_name : Order → Option (List ℕ)
 stored_name (Transform input output options) = Some output
+stored_name (Gen output seed size) = Some output
 stored_name _ = None
 
 -- ---- answers
@@ -49,7 +51,7 @@ AnswersOver (Transform input output options) bytes answer = Makes bytes options 
 AnswersOver (Plan input options) bytes answer = Makes bytes options TellsPlan answer
 AnswersOver (Run file steps changes dump) bytes answer = Runs bytes steps changes dump answer
 AnswersOver (Campaign input options seed count changes) bytes answer = IsUsage UnknownCommand answer
-AnswersOver (Gen output seed size) bytes answer = IsUsage UnknownCommand answer
+AnswersOver (Gen output seed size) bytes answer = Gens output seed size answer
 AnswersOver (order.List file) bytes answer = IsUsage UnknownCommand answer
 AnswersOver (Asm text output) bytes answer = IsUsage UnknownCommand answer
 AnswersOver (Harts files turns steps) bytes answer = IsUsage UnknownCommand answer

@@ -5,6 +5,7 @@
 mod answer;
 mod decide;
 mod fault;
+mod generated;
 mod make;
 mod orders;
 mod program;

@@ -5,6 +5,7 @@ ghost use Rattle.qed_words.specs.Sound.{IsSoundOrder};
 ghost use Rattle.qed_top.specs.Orders.{AnswersOver, IsUsage, source_limit as source_limit_of, source_name as source_name_of};
 
 use crate::answer::{Answer, plain};
+use crate::generated::answer_gen;
 use crate::make::{answer_plan, answer_transform};
 use crate::run::answer_run;
 use crate::status::Status;
@@ -61,8 +62,11 @@ pub fn answer_order(alloc: Global, order: Order, bytes: &[u8]) -> Result<Answer,
             let answer = answer_run(alloc, bytes, steps, changes.as_slice(), dump)?;
             Ok(answer)
         }
+        Order::Gen(output, seed, size) => {
+            let answer = answer_gen(alloc, output, seed, size)?;
+            Ok(answer)
+        }
         Order::Campaign(_, _, _, _, _)
-        | Order::Gen(_, _, _)
         | Order::List(_)
         | Order::Asm(_, _)
         | Order::Harts(_, _, _) => {

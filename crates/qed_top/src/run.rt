@@ -61,7 +61,7 @@ fn answer_file(
         return Ok(answer);
     }
     let mut machine = Machine::start(alloc, file, &[0; 32])?;
-    let outcome = run_changed(&mut machine, changes, steps);
+    let outcome = run_changed(&mut machine, changes, steps)?;
     let text = run_text(alloc, &machine, dump)?;
     Ok(plain(status_of(outcome), text))
 }

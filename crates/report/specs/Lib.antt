@@ -1,3 +1,4 @@
 pub mod Admission
 pub mod Plan
 pub mod Tally
+pub mod Generated

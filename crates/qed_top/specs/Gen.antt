@@ -1,0 +1,48 @@
+-- What `gen` answers.
+use Rattle.std.specs.Prelude.{◌≡◌, ℕ, List, length, IsSomeAnd}
+use Rattle.elf_types.specs.declared.file.ElfFile.{ElfFile}
+use Rattle.qed_model.specs.declared.plan.Plan.{Plan}
+use Rattle.qed_model.specs.Elf.File.{IsReadAs}
+use Rattle.qed_model.specs.Elf.Layout.{written}
+use Rattle.qed_model.specs.Machine.Loading.{loaded_file}
+use Rattle.qed_model.specs.Machine.Program.{start, zeros}
+use Rattle.qed_model.specs.Machine.Progress.{Progress, begun, progress}
+use Rattle.qed_model.specs.Options.{default_options}
+use Rattle.report.specs.Generated.{generated_line}
+use Rattle.test_gen.specs.Code.{code, function_count}
+use Rattle.test_gen.specs.Generated.{generated}
+use Rattle.qed_top.specs.Makes.{Makes}
+use Rattle.qed_top.specs.declared.answer.Answer.{Answer}
+use Rattle.qed_top.specs.declared.status.Status.TheVariants.{Done}
+
+-- the bytes of the test of a seed and a size
+abbrev pub test_bytes : ℕ → ℕ → List ℕ
+test_bytes seed size = written (generated seed size)
+
+-- the words of its code
+abbrev pub word_number : ℕ → ℕ → ℕ
+word_number seed size = length (code seed (function_count size))
+
+-- how many steps each run has at most
+abbrev pub most_steps : ℕ
+most_steps = 100000000
+
+-- the run of the file of some bytes from all registers 0
+pub record IsRunOf (bytes : List ℕ) (p : Progress) : Type 0 where
+  pub file : ElfFile
+  pub read : IsReadAs bytes file
+  pub run : p ≡ progress (begun (start (loaded_file file) zeros)) most_steps
+
+-- the test is stored as OUT, and the line is printed that tells of it, of its output with the plan, and of the runs of both
+pub record Generates (output : List ℕ) (seed size : ℕ) (file : List ℕ) (plan : Plan) (answer : Answer) : Type 0 where
+  pub own : Progress
+  pub own_run : IsRunOf (test_bytes seed size) own
+  pub woven : Progress
+  pub woven_run : IsRunOf file woven
+  pub status : answer.status ≡ Done
+  pub stored : IsSomeAnd answer.stored (λ s. (s.name ≡ output) × (s.bytes ≡ test_bytes seed size))
+  pub text : answer.text ≡ generated_line seed size (word_number seed size) own plan woven
+
+-- the answer for an output, a seed and a size
+abbrev pub Gens : List ℕ → ℕ → ℕ → Answer → Type 0
+Gens output seed size answer = Makes (test_bytes seed size) default_options (Generates output seed size) answer

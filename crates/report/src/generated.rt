@@ -1,0 +1,110 @@
+//! What is printed about a generated test.
+ghost use Rattle.std.specs.Prelude.{◌≡◌, Some, IfOk};
+ghost use Rattle.report.specs.Generated.{outcome_word, ran_text, drawn_text, code_text, generated_line};
+
+use crate::transform::BoundsText;
+use elf_types::Bytes;
+use qed_model::{Outcome, Plan};
+use rv_step::Machine;
+use std::alloc::{AllocError, Global};
+use std::fmt;
+
+/// How a run stands, in one word.
+#[derive(Clone, Copy, Debug)]
+struct OutcomeWord(Outcome);
+
+impl fmt::Display for OutcomeWord {
+    ghost output = { λ o. Some (outcome_word o.0) };
+
+    fn fmt<W: fmt::Write>(&self, f: &mut fmt::Formatter<W>) -> fmt::Result {
+        match self.0 {
+            Outcome::Going => write!(f, "going"),
+            Outcome::Ended => write!(f, "ended"),
+            Outcome::Fired => write!(f, "fired"),
+            Outcome::Trapped(_, _) => write!(f, "trapped"),
+        }
+    }
+}
+
+/// A run, printed as `ended after N steps`.
+#[derive(Clone, Copy, Debug)]
+struct Ran {
+    pub outcome: Outcome,
+    pub steps: u64,
+}
+
+impl Ran {
+    fn of(machine: &Machine) -> Ran
+        ensures outcome { result.outcome ≡ machine.now.state.outcome }
+        ensures steps { result.steps ≡ machine.now.steps }
+    {
+        Ran {
+            outcome: machine.outcome(),
+            steps: machine.steps(),
+        }
+    }
+}
+
+impl fmt::Display for Ran {
+    ghost output = { λ r. Some (ran_text r.outcome r.steps) };
+
+    fn fmt<W: fmt::Write>(&self, f: &mut fmt::Formatter<W>) -> fmt::Result {
+        let outcome = OutcomeWord(self.outcome);
+        let steps = self.steps;
+        write!(f, "{outcome} after {steps} steps")
+    }
+}
+
+/// What a generated test was drawn from, printed as `seed S, size N, code words W`.
+#[derive(Clone, Copy, Debug)]
+pub struct Drawn {
+    pub seed: u64,
+    /// In body instructions.
+    pub size: u64,
+    /// The words of code.
+    pub words: u64,
+}
+
+impl fmt::Display for Drawn {
+    ghost output = { λ d. Some (drawn_text d.seed d.size d.words) };
+
+    fn fmt<W: fmt::Write>(&self, f: &mut fmt::Formatter<W>) -> fmt::Result {
+        let Drawn { seed, size, words } = *self;
+        write!(f, "seed {seed}, size {size}, code words {words}")
+    }
+}
+
+/// The new code, printed as `output code C bytes`.
+#[derive(Clone, Copy, Debug)]
+struct CodeBytes(u64);
+
+impl fmt::Display for CodeBytes {
+    ghost output = { λ c. Some (code_text c.0) };
+
+    fn fmt<W: fmt::Write>(&self, f: &mut fmt::Formatter<W>) -> fmt::Result {
+        let bytes = self.0;
+        write!(f, "output code {bytes} bytes")
+    }
+}
+
+/// The line about a generated test: what it was drawn from, its own run, its output and the run of that, and the bounds
+/// in steps.
+pub fn generated_text(
+    alloc: Global,
+    drawn: Drawn,
+    input: &Machine,
+    plan: &Plan,
+    output: &Machine,
+) -> Result<Bytes, AllocError>
+    ensures { IfOk result (λ text. text ≡ generated_line drawn.seed drawn.size drawn.words input.now plan.now output.now) }
+{
+    let input = Ran::of(input);
+    let code = CodeBytes(plan.code_bytes);
+    let output = Ran::of(output);
+    let bounds = BoundsText {
+        register: plan.bounds.register,
+        word: plan.bounds.word,
+    };
+    let text = format!(in alloc; "{drawn}, input {input}, {code}, output {output}, {bounds}\n")?;
+    Ok(Bytes::of(text.into_bytes()))
+}
