@@ -1,2 +1,3 @@
 pub mod Inverse
-pub mod Opcodes
+pub mod Places
+pub mod Fitting

@@ -1,9 +1,52 @@
 //! The fields of a word in each format (RISC-V unprivileged manual, "Base Instruction Formats" and
 //! "Immediate Encoding Variants"): rd in bits 7 to 11, rs1 in 15 to 19, rs2 in 20 to 24.
-ghost use Rattle.std.specs.Prelude.{◌≡◌, ◌^◌, ◌<◌, ◌≤◌};
+ghost use Rattle.std.specs.Prelude.{◌≡◌, ℕ, ◌^◌, ◌<◌, ◌≤◌};
 ghost use Rattle.qed_model.specs.Machine.Table.{R, I, H, G, S, B, U, J, N, ins_of, signed as signed_of};
+ghost use Rattle.rv_decode.specs.Formats.{format_of};
 
 use rv_isa::{Field, Ins, Kind, Reg};
+
+/// A format of words.
+#[derive(Clone, Copy)]
+pub enum Format {
+    /// R.
+    Register,
+    /// I.
+    Immediate,
+    /// I with a shift amount of 6 bits.
+    Shift,
+    /// I with a shift amount of 5 bits.
+    WordShift,
+    /// S.
+    Store,
+    /// B.
+    Branch,
+    /// U.
+    Upper,
+    /// J.
+    Jump,
+    /// No fields.
+    Bare,
+}
+
+impl Format {
+    /// The instruction of a kind with the fields that a word has in this format.
+    pub fn ins(self, kind: Kind, word: u32) -> Ins
+        ensures { result ≡ ins_of (format_of self) kind word }
+    {
+        match self {
+            Format::Register => register_format(kind, word),
+            Format::Immediate => immediate_format(kind, word),
+            Format::Shift => shift_format(kind, word),
+            Format::WordShift => word_shift_format(kind, word),
+            Format::Store => store_format(kind, word),
+            Format::Branch => branch_format(kind, word),
+            Format::Upper => upper_format(kind, word),
+            Format::Jump => jump_format(kind, word),
+            Format::Bare => no_fields(kind),
+        }
+    }
+}
 
 /// The register of five bits.
 fn register(bits: u32) -> Reg
@@ -33,7 +76,7 @@ fn signed(width: u32, bits: u32) -> i64
 
 /// Format R: three registers.
 #[tactic(auto, unfolding(qed_model::specs::Machine::Table::ins_of))]
-pub fn register_format(kind: Kind, word: u32) -> Ins
+fn register_format(kind: Kind, word: u32) -> Ins
     ensures { result ≡ ins_of R kind word }
 {
     Ins {
@@ -47,7 +90,7 @@ pub fn register_format(kind: Kind, word: u32) -> Ins
 
 /// Format I: a signed number of 12 bits.
 #[tactic(auto, unfolding(qed_model::specs::Machine::Table::ins_of))]
-pub fn immediate_format(kind: Kind, word: u32) -> Ins
+fn immediate_format(kind: Kind, word: u32) -> Ins
     ensures { result ≡ ins_of I kind word }
 {
     Ins {
@@ -61,7 +104,7 @@ pub fn immediate_format(kind: Kind, word: u32) -> Ins
 
 /// Format I with a shift amount of 6 bits.
 #[tactic(auto, unfolding(qed_model::specs::Machine::Table::ins_of))]
-pub fn shift_format(kind: Kind, word: u32) -> Ins
+fn shift_format(kind: Kind, word: u32) -> Ins
     ensures { result ≡ ins_of H kind word }
 {
     Ins {
@@ -75,7 +118,7 @@ pub fn shift_format(kind: Kind, word: u32) -> Ins
 
 /// Format I with a shift amount of 5 bits.
 #[tactic(auto, unfolding(qed_model::specs::Machine::Table::ins_of))]
-pub fn word_shift_format(kind: Kind, word: u32) -> Ins
+fn word_shift_format(kind: Kind, word: u32) -> Ins
     ensures { result ≡ ins_of G kind word }
 {
     Ins {
@@ -89,7 +132,7 @@ pub fn word_shift_format(kind: Kind, word: u32) -> Ins
 
 /// Format S: a signed number of 12 bits in two places.
 #[tactic(auto, unfolding(qed_model::specs::Machine::Table::ins_of))]
-pub fn store_format(kind: Kind, word: u32) -> Ins
+fn store_format(kind: Kind, word: u32) -> Ins
     ensures { result ≡ ins_of S kind word }
 {
     let bits = (Field::<25, 7>::get(word) << 5) + Field::<7, 5>::get(word);
@@ -104,7 +147,7 @@ pub fn store_format(kind: Kind, word: u32) -> Ins
 
 /// Format B: a signed, even number of 13 bits in four places.
 #[tactic(auto, unfolding(qed_model::specs::Machine::Table::ins_of))]
-pub fn branch_format(kind: Kind, word: u32) -> Ins
+fn branch_format(kind: Kind, word: u32) -> Ins
     ensures { result ≡ ins_of B kind word }
 {
     let bits = (Field::<31, 1>::get(word) << 12)
@@ -122,7 +165,7 @@ pub fn branch_format(kind: Kind, word: u32) -> Ins
 
 /// Format U: the upper 20 of 32 bits.
 #[tactic(auto, unfolding(qed_model::specs::Machine::Table::ins_of))]
-pub fn upper_format(kind: Kind, word: u32) -> Ins
+fn upper_format(kind: Kind, word: u32) -> Ins
     ensures { result ≡ ins_of U kind word }
 {
     Ins {
@@ -136,7 +179,7 @@ pub fn upper_format(kind: Kind, word: u32) -> Ins
 
 /// Format J: a signed, even number of 21 bits in four places.
 #[tactic(auto, unfolding(qed_model::specs::Machine::Table::ins_of))]
-pub fn jump_format(kind: Kind, word: u32) -> Ins
+fn jump_format(kind: Kind, word: u32) -> Ins
     ensures { result ≡ ins_of J kind word }
 {
     let bits = (Field::<31, 1>::get(word) << 20)
@@ -154,11 +197,9 @@ pub fn jump_format(kind: Kind, word: u32) -> Ins
 
 /// No fields.
 #[tactic(auto, unfolding(qed_model::specs::Machine::Table::ins_of))]
-pub fn no_fields(kind: Kind, word: u32) -> Ins
-    ensures { result ≡ ins_of N kind word }
+fn no_fields(kind: Kind) -> Ins
+    ensures { (w : ℕ) → result ≡ ins_of N kind w }
 {
-    // The rows of every format are made by one macro, which passes the word.
-    let _ = word;
     Ins {
         kind,
         rd: register(0),

@@ -6,13 +6,15 @@
 
 mod format;
 mod rows;
+mod table;
 
 ghost use Rattle.std.specs.Prelude.{◌≡◌, ◌↔◌, Some};
 ghost use Rattle.qed_model.specs.Machine.Table.{decode_of, encode_of};
 ghost use Rattle.rv_isa.specs.declared.ins.Ins.{Ins};
 
-use rows::any_row;
+use rows::{first_row, rows_at};
 use rv_isa::Ins;
+use table::TABLE;
 
 /// The instruction of a word: the row of the instruction listings whose fixed bits the word has,
 /// and the fields of that row's format (RISC-V unprivileged manual, "RV32/64G Instruction Set
@@ -21,14 +23,14 @@ use rv_isa::Ins;
 /// whose low 12 bits are 0.
 ///
 /// The zero word is `Illegal`. None where the word is in no row of RV64I or of the M extension.
-#[tactic(auto, using(crate::proofs::Inverse::decoded_encoded))]
 pub fn decode(word: u32) -> Option<Ins>
     ensures instruction { result ≡ decode_of word }
 
     // Decoding is the inverse of encoding.
     ensures inverse { (i : Ins) → (result ≡ Some i) ↔ (encode_of i ≡ Some word) }
 {
-    any_row(word)
+    let row = first_row(rows_at(&TABLE, word), word)?;
+    Some(row.format.ins(row.kind, word))
 }
 
 #[cfg(test)]
