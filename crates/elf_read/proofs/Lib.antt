@@ -1,1 +1,2 @@
 pub mod LastZero
+pub mod ExtentLaws

@@ -1,3 +1,4 @@
 pub mod Strings
 pub mod Sound
 pub mod Known
+pub mod Extents

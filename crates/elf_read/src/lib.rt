@@ -3,6 +3,7 @@
 #![tactic(auto)]
 
 mod below;
+mod extents;
 mod fields;
 mod header;
 mod known;

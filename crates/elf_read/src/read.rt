@@ -98,7 +98,7 @@ fn symbol(
 impl<'a> Sound<'a> {
     /// The file, where no rule refuses it and it is within the limits.
     #[tactic(auto, unfolding(qed_model::specs::Elf::Rules::verdict, qed_model::specs::Elf::Rules::read_verdict))]
-    fn new(bytes: &'a [u8]) -> Result<Sound<'a>, ElfError>
+    fn new(alloc: Global, bytes: &'a [u8]) -> Result<Sound<'a>, ElfError>
         ensures same { IfOk result (λ s. s ≡ bytes.now) }
         ensures rules { OnOk result (verdict bytes.now ≡ Ok tt) }
         ensures limits { OnOk result (read_verdict bytes.now ≡ Ok tt) }
@@ -106,7 +106,7 @@ impl<'a> Sound<'a> {
     {
         let parts = Parts::new(bytes)?;
         check_segment_shape(&parts)?;
-        check_segment_overlap(&parts)?;
+        check_segment_overlap(&parts, alloc)?;
         check_section_shape(&parts)?;
         check_symbol_shape(&parts)?;
         check_rela_shape(&parts)?;
@@ -184,6 +184,6 @@ pub fn read_elf(alloc: Global, bytes: &[u8]) -> Result<ElfFile, ElfError>
     ensures apart { IfOk result (λ f. AreApart (load_segments f.segments)) }
     ensures refused { IfErr result (λ e. IsRefused bytes.now e ⊎ ((e ≡ error.Memory) × (read_verdict bytes.now ≡ Ok tt))) }
 {
-    let sound = Sound::new(bytes)?;
+    let sound = Sound::new(alloc, bytes)?;
     Ok(sound.file(alloc)?)
 }

@@ -4,8 +4,10 @@ ghost use Rattle.qed_model.specs.Elf.Header.{e_phnum};
 ghost use Rattle.qed_model.specs.Elf.Rules.{is_misshapen, segment_shape_rule, do_overlap, overlapped, segment_overlap_rule, file_size};
 
 use crate::below::first_of;
+use crate::extents::clear_below;
 use crate::parts::Parts;
 use elf_types::{ElfError, ProgramHeader, share_byte};
+use std::alloc::Global;
 
 #[tactic(auto, unfolding(qed_model::specs::Elf::Rules::is_misshapen))]
 fn is_misshapen(p: ProgramHeader) -> bool
@@ -44,12 +46,17 @@ fn overlapped(file: &Parts, i: u64) -> Option<u64>
     )
 }
 
-/// Whether no two segments share a byte of memory.
+/// Whether no two segments share a byte of memory. They are compared in the order of their addresses; where there is no
+/// memory for that, each with each.
 #[tactic(auto, unfolding(qed_model::specs::Elf::Rules::segment_overlap_rule))]
-pub fn check_segment_overlap(file: &Parts) -> Result<(), ElfError>
+pub fn check_segment_overlap(file: &Parts, alloc: Global) -> Result<(), ElfError>
     ensures { result ≡ segment_overlap_rule file.now }
 {
-    match first_of(file.tables().phnum(), &|i| overlapped(file, i).is_some()) {
+    let clear = clear_below(file, alloc);
+    match first_of(
+        file.tables().phnum(),
+        &|i| i >= clear && overlapped(file, i).is_some(),
+    ) {
         Some(i) => match overlapped(file, i) {
             Some(j) => Err(ElfError::SegmentOverlap(i, j)),
             None => Ok(()),

@@ -1,5 +1,5 @@
 -- What the shelf and the sink in memory are seen as.
-use Rattle.std.specs.Prelude.{ℕ, ◌==◌, List, take, Option, Some, None, find, refl}
+use Rattle.std.specs.Prelude.{ℕ, ◌==◌, List, take, min, Option, Some, None, find, refl}
 use Rattle.std.specs.Coded.{Coded, code_by, coded×, coded_ℕ, coded_list, coded_option}
 use Rattle.std.specs.FinMap as map
 use Rattle.qed_io.specs.Files.{Files}
@@ -29,9 +29,16 @@ abbrev pub files_left : Option ℕ → Files → List ℕ → List ℕ → Files
 files_left None old name bytes = old
 files_left (Some keep) old name bytes = map.insert old name (take keep bytes)
 
--- the bytes written, the calls that are to fail, the calls made so far, and the faults so far
+-- the bytes written, the calls that are to fail, how many bytes a write takes at most, where that is bounded, the calls made so far, and
+-- the faults so far
 pub record SinkState : Type 0 where
   pub bytes : List ℕ
   pub failing : List ℕ
+  pub most : Option ℕ
   pub calls : ℕ
   pub faults : ℕ
+
+-- how many bytes a write takes of a piece of this length
+abbrev pub taken : Option ℕ → ℕ → ℕ
+taken None size = size
+taken (Some most) size = min size most

@@ -53,8 +53,8 @@ fn planned_failure(failing: &[FailCall], call: u64) -> Option<FailCall>
     None
 }
 
-// The first `count` bytes, or all where there are fewer.
-fn first_bytes(bytes: &[u8], count: u64) -> &[u8]
+/// The first `count` bytes, or all where there are fewer.
+pub(crate) fn first_bytes(bytes: &[u8], count: u64) -> &[u8]
     ensures { result.now ≡ take count bytes.now }
 {
     if count < bytes.len() as u64 {

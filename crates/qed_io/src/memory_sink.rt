@@ -1,19 +1,22 @@
 //! A sink in memory whose calls fail where they are told to.
-ghost use Rattle.std.specs.Prelude.{◌≡◌, ◌≢◌, ◌↔◌, ℕ, [], ◌∷◌, ◌++◌, Some, OnOk, OnErr, IfOk, IsErrOf, length, Contains};
+ghost use Rattle.std.specs.Prelude.{◌≡◌, ◌<◌, ◌↔◌, ℕ, [], ◌∷◌, ◌++◌, Some, None, OnOk, OnErr, IfOk, IsErrOf, length, take, Contains};
 ghost use Rattle.qed_io.specs.Counts.{counted};
+ghost use Rattle.qed_io.specs.Memory.{taken};
 ghost use Rattle.qed_io.specs.Sink.{Writes};
 
+use crate::memory_shelf::first_bytes;
 use crate::{Sink, WriteError};
 use std::alloc::{AllocError, Global};
 use std::marker::Model;
 
-/// Bytes in memory. The writes that `fail_call` names fail.
+/// Bytes in memory. The writes that `fail_call` names fail, and `take_most` bounds what each of the others takes.
 ///
 /// Writes are counted from 0. The number stays at 2^64 - 1 once it is there.
 #[derive(Debug, Drop)]
 pub struct MemorySink {
     taken: Vec<u8>,
     failing: Vec<u64>,
+    most: Option<u64>,
     calls: u64,
     faults: u64,
 }
@@ -23,17 +26,18 @@ impl Model for MemorySink {
 
     ghost Value = { SinkState };
 
-    ghost view = { λ s. record { bytes = s.taken.items; failing = s.failing.items; calls = s.calls; faults = s.faults } };
+    ghost view = { λ s. record { bytes = s.taken.items; failing = s.failing.items; most = s.most; calls = s.calls; faults = s.faults } };
 }
 
 impl MemorySink {
-    /// Nothing written, no faults, and no call that is to fail.
+    /// Nothing written, no faults, no call that is to fail, and no bound on what a write takes.
     pub fn new(alloc: Global) -> Self
-        ensures { result ≡ record { bytes = []; failing = []; calls = 0; faults = 0 } }
+        ensures { result ≡ record { bytes = []; failing = []; most = None; calls = 0; faults = 0 } }
     {
         MemorySink {
             taken: Vec::new(alloc),
             failing: Vec::new(alloc),
+            most: None,
             calls: 0,
             faults: 0,
         }
@@ -48,11 +52,29 @@ impl MemorySink {
         Ok(())
     }
 
+    /// Lets each later write take at most n bytes. With 0 a write of a piece that is not empty takes nothing, which
+    /// is a fault. This takes no memory.
+    pub fn take_most(&mut self, n: u64)
+        ensures { self.new ≡ record self.old { most = Some n } }
+    {
+        self.most = Some(n);
+    }
+
     /// The bytes that were written.
     pub fn bytes(&self) -> &[u8]
         ensures { result.now ≡ self.now.bytes }
     {
         &self.taken
+    }
+}
+
+// What a write takes of a piece.
+fn front(piece: &[u8], most: Option<u64>) -> &[u8]
+    ensures { result.now ≡ take (taken most (length piece.now)) piece.now }
+{
+    match most {
+        Some(most) => first_bytes(piece, most),
+        None => piece,
     }
 }
 
@@ -66,14 +88,17 @@ impl Sink for MemorySink {
     fn write(&mut self, piece: &[u8]) -> Result<usize, WriteError>
         ensures writes { Writes (Some self.old.bytes) (Some self.new.bytes) self.old.faults self.new.faults self.old.calls self.new.calls piece.now result }
 
-        // It fails exactly where the call was planned to, and else takes the whole piece.
+        // It fails exactly where the call was planned to, and else takes the whole piece, or as much as it may.
         ensures fails { IsErrOf result WriteError.Failed ↔ Contains self.old.failing self.old.calls }
-        ensures whole { IfOk result (λ n. n ≡ length piece.now) }
+        ensures taken { IfOk result (λ n. n ≡ taken self.old.most (length piece.now)) }
+
+        // Either fault counts one. Every other call counts none, by what a write of any sink does.
         ensures counted { IsErrOf result WriteError.Failed → self.new.faults ≡ counted self.old.faults }
-        ensures uncounted { result ≢ Err WriteError.Failed → self.new.faults ≡ self.old.faults }
+        ensures stuck { IfOk result (λ n. n ≡ 0 → 0 < length piece.now → self.new.faults ≡ counted self.old.faults) }
 
         ensures calls { self.new.calls ≡ counted self.old.calls }
         ensures plans { self.new.failing ≡ self.old.failing }
+        ensures bound { self.new.most ≡ self.old.most }
     {
         let call = self.calls;
         self.calls = call.saturating_add(1);
@@ -81,7 +106,12 @@ impl Sink for MemorySink {
             self.faults = self.faults.saturating_add(1);
             return Err(WriteError::Failed);
         }
-        self.taken.extend_from_slice(piece)?;
-        Ok(piece.len())
+        let front = front(piece, self.most);
+        if front.is_empty() && !piece.is_empty() {
+            self.faults = self.faults.saturating_add(1);
+            return Ok(0);
+        }
+        self.taken.extend_from_slice(front)?;
+        Ok(front.len())
     }
 }

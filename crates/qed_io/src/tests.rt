@@ -7,6 +7,7 @@ use crate::{
     StoreError, WriteError, WriterSink, put_all,
 };
 use std::io::{Error, ErrorKind, Read, Write};
+use std::os::unix::fs::symlink;
 use std::test::Fail;
 use std::{fs, io};
 
@@ -51,6 +52,23 @@ fn memory_sink_fails_as_planned(rt: HostRuntime) -> Result<(), Fail> {
     assert_eq!(rt; put_all(&mut sink, b"cd"), Err(WriteError::Failed));
     assert_eq!(rt; sink.write(b"ef"), Ok(2));
     assert_eq!(rt; sink.bytes(), b"abef".as_slice());
+    Ok(())
+}
+
+#[test]
+fn memory_sink_takes_as_much_as_it_may(rt: HostRuntime) -> Result<(), Fail> {
+    let mut sink = MemorySink::new(rt.alloc());
+    sink.take_most(1);
+    put_all(&mut sink, b"abc")?;
+    sink.take_most(2);
+    assert_eq!(rt; sink.write(b"def"), Ok(2));
+    sink.take_most(0);
+    assert_eq!(rt; sink.write(b""), Ok(0));
+    assert_eq!(rt; sink.write(b"f"), Ok(0));
+    assert_eq!(rt; put_all(&mut sink, b"fg"), Err(WriteError::Failed));
+    sink.take_most(9);
+    assert_eq!(rt; sink.write(b"f"), Ok(1));
+    assert_eq!(rt; sink.bytes(), b"abcdef".as_slice());
     Ok(())
 }
 
@@ -213,6 +231,14 @@ fn dir_shelf_keeps_files(rt: HostRuntime) -> Result<(), Fail> {
         b"\x00kept".as_slice()
     );
     assert_eq!(rt; shelf.load(alloc, name, 4).err(), Some(LoadError::TooLong));
+    // A link stays one, and no other file is left.
+    let link = "qed_io_link.bin";
+    symlink(&rt, name, link)?;
+    shelf.store(link, b"through")?;
+    assert_eq!(rt; fs::symlink_metadata(&rt, link)?.is_symlink(), true);
+    assert_eq!(rt; shelf.load(alloc, name, 7)?.as_slice(), b"through".as_slice());
+    assert_eq!(rt; fs::exists(&rt, "qed_io_kept.bin.1.new")?, false);
+    fs::remove_file(&rt, link)?;
     fs::remove_file(&rt, name)?;
     assert_eq!(rt; shelf.load(alloc, name, 5).err(), Some(LoadError::Failed));
     Ok(())
