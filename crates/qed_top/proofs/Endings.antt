@@ -217,39 +217,6 @@ run_unique bytes n cs s t (decide.ran f x k a) (decide.unread d y b) = absurd (r
 run_unique bytes n cs s t (decide.ran f x k a) (decide.too_large g y l b) = let same = ap (λ h. memory_bytes h.segments) (one_file bytes f g x.file y.file) in absurd (omega (arith, k, l, same))
 run_unique bytes n cs s t (decide.ran f x k a) (decide.ran g y l b) = a ∙ ap (λ h. outcome_status (run_of h n cs).state.outcome) (one_file bytes f g x.file y.file) ∙ sym b
 
-over_unique : (order : Order) (bytes : List ℕ) (s t : Status) → DecidesOver order bytes s → DecidesOver order bytes t → s ≡ t
-over_unique (Transform input output o) bytes s t a b = transform_unique bytes o s t a b
-over_unique (Plan input o) bytes s t a b = transform_unique bytes o s t a b
-over_unique (Run file steps changes dump) bytes s t a b = run_unique bytes steps changes s t a b
-over_unique (Campaign input o seed count changes) bytes s t a b = a ∙ sym b
-over_unique (Gen output seed size) bytes s t a b = transform_unique (test_bytes seed size) default_options s t a b
-over_unique (order.List file) bytes s t a b = a ∙ sym b
-over_unique (Asm text output) bytes s t a b = a ∙ sym b
-over_unique (Harts files turns steps) bytes s t a b = a ∙ sym b
-
-unique : (limit : ℕ) (bytes : List ℕ) (V W : Type 0) (s t : Status) → (V → W → s ≡ t) → Decided limit bytes V s → Decided limit bytes W t → s ≡ t
-unique limit bytes V W s t h (decide.too_long l a) (decide.too_long m b) = a ∙ sym b
-unique limit bytes V W s t h (decide.too_long l a) (decide.within m w) = absurd (omega (arith, l, m))
-unique limit bytes V W s t h (decide.within l v) (decide.too_long m b) = absurd (omega (arith, l, m))
-unique limit bytes V W s t h (decide.within l v) (decide.within m w) = h v w
-
--- what an order decides by the name of its file
-abbrev DecidesBy : Order → Option (List ℕ) → Files → Status → Type 0
-DecidesBy order source files status =
-    MatchOption source (DecidesOver order [] status)
-    (λ name. Decided (limit_of (source_limit order)) (file_bytes files name) (DecidesOver order (file_bytes files name) status) status)
-
-source_same : (order : Order) (source : Option (List ℕ)) (files : Files) (s t : Status) → DecidesBy order source files s → DecidesBy order source files t → s ≡ t
-source_same order None files s t a b = over_unique order [] s t a b
-source_same order (Some name) files s t a b =
-    unique (limit_of (source_limit order)) (file_bytes files name) (DecidesOver order (file_bytes files name) s) (DecidesOver order (file_bytes files name) t) s t (over_unique order (file_bytes files name) s t) a b
-
-decides_same :
-    (ask : Result Order Reason) (files : Files) (s t : Status) → MatchResult ask (λ order. OrderDecides order files s) (λ reason. s ≡ Usage)
-    → MatchResult ask (λ order. OrderDecides order files t) (λ reason. t ≡ Usage) → s ≡ t
-decides_same (Ok order) files s t a b = source_same order (source_name order) files s t a b
-decides_same (Err reason) files s t a b = a ∙ sym b
-
 -- what is answered has the status that is decided
 makes_decided :
     (bytes : List ℕ) (o : Options) (Uses : List ℕ → plan.Plan → Answer → Type 0) (answer : Answer)
@@ -267,35 +234,46 @@ runs_decided : (bytes : List ℕ) (steps : ℕ) (changes : List Change) (dump : 
 runs_decided bytes steps changes dump answer (unread u) = decide.unread u.error u.cause u.plain.status
 runs_decided bytes steps changes dump answer (run r) = file_decided bytes r.file steps changes dump answer r.read r.runs
 
-over_decided : (order : Order) (bytes : List ℕ) (answer : Answer) → AnswersOver order bytes answer → DecidesOver order bytes answer.status
-over_decided (Transform input output o) bytes answer m = makes_decided bytes o (Delivers output) answer (λ file p d. delivered_done output file p answer d) m
-over_decided (Plan input o) bytes answer m = makes_decided bytes o TellsPlan answer (λ file p t. told_done file p answer t) m
-over_decided (Run file steps changes dump) bytes answer m = runs_decided bytes steps changes dump answer m
-over_decided (Campaign input o seed count changes) bytes answer m = m.status
-over_decided (Gen output seed size) bytes answer m = makes_decided (test_bytes seed size) default_options (Generates output seed size) answer (λ file p g. g.status) m
-over_decided (order.List file) bytes answer m = m.status
-over_decided (Asm text output) bytes answer m = m.status
-over_decided (Harts files turns steps) bytes answer m = m.status
+-- an order, over the bytes of its file
+over_settled : (order : Order) (bytes : List ℕ) (answer : Answer) (t : Status) → AnswersOver order bytes answer → DecidesOver order bytes t → answer.status ≡ t
+over_settled (Transform input output o) bytes answer t m d =
+    transform_unique bytes o answer.status t (makes_decided bytes o (Delivers output) answer (λ file p x. delivered_done output file p answer x) m) d
+over_settled (Plan input o) bytes answer t m d = transform_unique bytes o answer.status t (makes_decided bytes o TellsPlan answer (λ file p x. told_done file p answer x) m) d
+over_settled (Run file steps changes dump) bytes answer t m d = run_unique bytes steps changes answer.status t (runs_decided bytes steps changes dump answer m) d
+over_settled (Campaign input o seed count changes) bytes answer t m d = m.status ∙ sym d
+over_settled (Gen output seed size) bytes answer t m d =
+    transform_unique (test_bytes seed size) default_options answer.status t (makes_decided (test_bytes seed size) default_options (Generates output seed size) answer (λ file p g. g.status) m) d
+over_settled (order.List file) bytes answer t m d = m.status ∙ sym d
+over_settled (Asm text output) bytes answer t m d = m.status ∙ sym d
+over_settled (Harts files turns steps) bytes answer t m d = m.status ∙ sym d
 
-calls_decided :
-    (limit : limits.Limit) (bytes : List ℕ) (rose V W : Type 0) (answer : Answer) → (V → W) → (rose → ⊥) → CallsFor limit bytes rose V answer
-    → Decided (limit_of limit) bytes W answer.status
-calls_decided limit bytes rose V W answer h calm (read_fault r) = absurd (calm r.cause)
-calls_decided limit bytes rose V W answer h calm (too_long t) = decide.too_long t.cause t.plain.status
-calls_decided limit bytes rose V W answer h calm (within small v) = decide.within small (h v)
+calls_settled :
+    (limit : limits.Limit) (bytes : List ℕ) (rose V W : Type 0) (answer : Answer) (t : Status) → (V → W → answer.status ≡ t) → (rose → ⊥) → CallsFor limit bytes rose V answer
+    → Decided (limit_of limit) bytes W t → answer.status ≡ t
+calls_settled limit bytes rose V W answer t h calm (read_fault r) d = absurd (calm r.cause)
+calls_settled limit bytes rose V W answer t h calm (too_long x) (decide.too_long l a) = x.plain.status ∙ sym a
+calls_settled limit bytes rose V W answer t h calm (too_long x) (decide.within l w) = absurd (omega (arith, x.cause, l))
+calls_settled limit bytes rose V W answer t h calm (within small v) (decide.too_long l a) = absurd (omega (arith, small, l))
+calls_settled limit bytes rose V W answer t h calm (within small v) (decide.within l w) = h v w
 
-source_decided :
-    (order : Order) (source : Option (List ℕ)) (files : Files) (rose : List ℕ → Type 0) (answer : Answer) → IfSome source (λ name. rose name → ⊥)
-    → CallsBy order source files rose answer → DecidesBy order source files answer.status
-source_decided order None files rose answer calm m = over_decided order [] answer m
-source_decided order (Some name) files rose answer calm m =
-    calls_decided (source_limit order) (file_bytes files name) (rose name) (AnswersOver order (file_bytes files name) answer) (DecidesOver order (file_bytes files name) answer.status) answer (over_decided order (file_bytes files name) answer) calm m
+-- what an order decides by the name of its file
+abbrev DecidesBy : Order → Option (List ℕ) → Files → Status → Type 0
+DecidesBy order source files status =
+    MatchOption source (DecidesOver order [] status)
+    (λ name. Decided (limit_of (source_limit order)) (file_bytes files name) (DecidesOver order (file_bytes files name) status) status)
 
-words_decided :
-    (ask : Result Order Reason) (files : Files) (rose : List ℕ → Type 0) (answer : Answer) → IfOk ask (λ order. IfSome (source_name order) (λ name. rose name → ⊥))
-    → WordsBy ask files rose answer → MatchResult ask (λ order. OrderDecides order files answer.status) (λ reason. answer.status ≡ Usage)
-words_decided (Ok order) files rose answer calm m = source_decided order (source_name order) files rose answer calm m
-words_decided (Err reason) files rose answer calm m = m.status
+source_settled :
+    (order : Order) (source : Option (List ℕ)) (files : Files) (rose : List ℕ → Type 0) (answer : Answer) (t : Status) → IfSome source (λ name. rose name → ⊥)
+    → CallsBy order source files rose answer → DecidesBy order source files t → answer.status ≡ t
+source_settled order None files rose answer t calm m d = over_settled order [] answer t m d
+source_settled order (Some name) files rose answer t calm m d =
+    calls_settled (source_limit order) (file_bytes files name) (rose name) (AnswersOver order (file_bytes files name) answer) (DecidesOver order (file_bytes files name) t) answer t (over_settled order (file_bytes files name) answer t) calm m d
+
+words_settled :
+    (ask : Result Order Reason) (files : Files) (rose : List ℕ → Type 0) (answer : Answer) (t : Status) → IfOk ask (λ order. IfSome (source_name order) (λ name. rose name → ⊥))
+    → WordsBy ask files rose answer → MatchResult ask (λ order. OrderDecides order files t) (λ reason. t ≡ Usage) → answer.status ≡ t
+words_settled (Ok order) files rose answer t calm m d = source_settled order (source_name order) files rose answer t calm m d
+words_settled (Err reason) files rose answer t calm m d = m.status ∙ sym d
 
 -- a failed store is one of OUT
 none_stored : (answer : Answer) (rose : List ℕ → Type 0) → answer.stored ≡ None → StoreRose answer.stored rose → ⊥
@@ -375,7 +353,7 @@ did_decided :
     (call : Call) (files : Files) (status decided : Status) → NoFault call → IsAnswered call files status → Decides call.words files decided
     → (status ≡ decided) ⊎ (status ≡ Memory)
 did_decided call files status decided calm d e =
-    inl (sym d.same_status ∙ decides_same (asked call.words) files d.answer.status decided (words_decided (asked call.words) files (load_rose call) d.answer calm.load d.meant) e)
+    inl (sym d.same_status ∙ words_settled (asked call.words) files (load_rose call) d.answer decided calm.load d.meant e)
 
 write_decided : (call : Call) (files : Files) → NoFault call → EndsOver call files WriteFault → ⊥
 write_decided call files calm (inl p) = calm.sink p.0
