@@ -1,2 +1,3 @@
 pub mod LastZero
 pub mod ExtentLaws
+pub mod NextZero

@@ -1,5 +1,6 @@
 //! Reads ELF64 executables for RISC-V. A file is taken where no rule refuses it; otherwise the first rule that does is named,
-//! with its place. All rules are tested before anything is copied, and the tests take no memory.
+//! with its place. All rules are tested before anything is copied, and the tests need no memory: where there is some they
+//! are quick.
 #![tactic(auto)]
 
 mod below;

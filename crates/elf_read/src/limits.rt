@@ -12,6 +12,7 @@ use crate::symbols::{symbol_name, symbol_strings, symbol_table};
 use elf_types::ElfError;
 use elf_types::abi::SYM_SIZE;
 use qed_model::limits::{MAX_COUNTED_BYTES, MAX_SECTIONS};
+use std::alloc::Global;
 
 /// Whether there are few enough sections.
 #[tactic(auto, unfolding(qed_model::specs::Elf::Rules::section_count_rule))]
@@ -26,7 +27,7 @@ pub fn check_section_count(file: &Parts) -> Result<(), ElfError>
 }
 
 // The bytes of the symbols' names.
-fn symbol_name_bytes(file: &Parts) -> u128
+fn symbol_name_bytes(file: &Parts, alloc: Global) -> u128
     requires { IfSome (symbol_table file.now) (λ i. (section_header file.now i).link < e_shnum file.now) }
     ensures gives { result ≡ symbol_name_bytes file.now (symbol_table file.now) }
     ensures small { result < 2 ^ 126 }
@@ -34,7 +35,7 @@ fn symbol_name_bytes(file: &Parts) -> u128
     match symbol_table(file) {
         None => 0,
         Some(i) => {
-            let strings = symbol_strings(file, i);
+            let strings = symbol_strings(file, alloc, i);
             let size = file.section(i).size;
             sum_of(
                 size / SYM_SIZE,
@@ -46,27 +47,27 @@ fn symbol_name_bytes(file: &Parts) -> u128
 
 // The bytes of segments and names.
 #[tactic(auto, unfolding(qed_model::specs::Elf::Rules::counted_bytes))]
-fn counted_bytes(file: &Parts) -> u128
+fn counted_bytes(file: &Parts, alloc: Global) -> u128
     requires { IfSome (symbol_table file.now) (λ i. (section_header file.now i).link < e_shnum file.now) }
     ensures { result ≡ counted_bytes file.now }
 {
-    let strings = section_strings(file);
+    let strings = section_strings(file, alloc);
     let segments = sum_of(file.tables().phnum(), &|i| file_size(file.program(i)));
     let sections = sum_of(
         file.tables().shnum(),
         &|i| section_name(file, &strings, i).len() as u64,
     );
-    let symbols = symbol_name_bytes(file);
+    let symbols = symbol_name_bytes(file, alloc);
     segments + sections + symbols
 }
 
 /// Whether there are few enough bytes of segments and names.
 #[tactic(auto, unfolding(qed_model::specs::Elf::Rules::byte_count_rule))]
-pub fn check_byte_count(file: &Parts) -> Result<(), ElfError>
+pub fn check_byte_count(file: &Parts, alloc: Global) -> Result<(), ElfError>
     requires { IfSome (symbol_table file.now) (λ i. (section_header file.now i).link < e_shnum file.now) }
     ensures { result ≡ byte_count_rule file.now }
 {
-    let count = counted_bytes(file);
+    let count = counted_bytes(file, alloc);
     if count > u128::from(MAX_COUNTED_BYTES) {
         let most = u128::from(u64::MAX);
         return Err(ElfError::TooManyBytes(count.min(most) as u64));

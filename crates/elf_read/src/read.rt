@@ -107,11 +107,11 @@ impl<'a> Sound<'a> {
         let parts = Parts::new(bytes)?;
         check_segment_shape(&parts)?;
         check_segment_overlap(&parts, alloc)?;
-        check_section_shape(&parts)?;
-        check_symbol_shape(&parts)?;
+        check_section_shape(&parts, alloc)?;
+        check_symbol_shape(&parts, alloc)?;
         check_rela_shape(&parts)?;
         check_section_count(&parts)?;
-        check_byte_count(&parts)?;
+        check_byte_count(&parts, alloc)?;
         Ok(Sound { parts })
     }
 
@@ -128,7 +128,7 @@ impl<'a> Sound<'a> {
     fn sections(&self, alloc: Global) -> Result<Vec<Section>, AllocError>
         ensures { IfOk result (λ v. v.items ≡ each (e_shnum self.now) (section_of self.now)) }
     {
-        let strings = section_strings(&self.parts);
+        let strings = section_strings(&self.parts, alloc);
         list_of(
             alloc,
             self.parts.tables().shnum(),
@@ -142,7 +142,7 @@ impl<'a> Sound<'a> {
         match symbol_table(&self.parts) {
             None => Ok(Vec::new(alloc)),
             Some(i) => {
-                let strings = symbol_strings(&self.parts, i);
+                let strings = symbol_strings(&self.parts, alloc, i);
                 let size = self.parts.section(i).size;
                 list_of(
                     alloc,
@@ -170,7 +170,7 @@ impl<'a> Sound<'a> {
 
 /// The file that bytes are (ELF gABI, RISC-V ELF psABI), where it is within the limits of the reader; or the first rule
 /// that refuses them, or else the first limit that they exceed. Rules and limits are those of `ElfError`, in its order,
-/// each over the whole file before the next. A refusal takes no memory.
+/// each over the whole file before the next. A refusal needs no memory.
 ///
 /// # Errors
 ///

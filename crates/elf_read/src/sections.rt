@@ -7,17 +7,18 @@ use crate::below::first_of;
 use crate::parts::Parts;
 use crate::strings::Strings;
 use elf_types::ElfError;
+use std::alloc::Global;
 
 /// The string table of the sections.
 #[tactic(auto, unfolding(qed_model::specs::Elf::Rules::section_strings))]
-pub fn section_strings<'a>(file: &Parts<'a>) -> Strings<'a>
+pub fn section_strings<'a>(file: &Parts<'a>, alloc: Global) -> Strings<'a>
     ensures { 0 < e_shnum file.now → result ≡ section_strings file.now }
 {
     let at = file.tables().shstrndx();
     if file.tables().shnum() == 0 || at == 0 {
-        return Strings::new(&[]);
+        return Strings::new(alloc, &[]);
     }
-    Strings::new(file.section_bytes(file.section(at)))
+    Strings::new(alloc, file.section_bytes(file.section(at)))
 }
 
 #[tactic(auto, unfolding(qed_model::specs::Elf::Rules::is_section_misshapen, qed_model::specs::Elf::Rules::section_strings))]
@@ -42,10 +43,10 @@ fn is_section_misshapen(file: &Parts, strings: &Strings, i: u64) -> bool
 
 /// Whether each section ends at 2^64 or before and has a name, where the file names sections.
 #[tactic(auto, unfolding(qed_model::specs::Elf::Rules::section_shape_rule))]
-pub fn check_section_shape(file: &Parts) -> Result<(), ElfError>
+pub fn check_section_shape(file: &Parts, alloc: Global) -> Result<(), ElfError>
     ensures { result ≡ section_shape_rule file.now }
 {
-    let strings = section_strings(file);
+    let strings = section_strings(file, alloc);
     match first_of(
         file.tables().shnum(),
         &|i| is_section_misshapen(file, &strings, i),

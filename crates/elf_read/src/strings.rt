@@ -1,17 +1,24 @@
 //! String tables.
-ghost use Rattle.std.specs.Prelude.{◌≡◌, ◌+◌, ◌<◌, List, ℕ, length, IfSome};
+ghost use Rattle.std.specs.Prelude.{◌≡◌, ◌+◌, ◌<◌, ◌≤◌, List, ℕ, length, IfSome};
 ghost use Rattle.qed_model.specs.Elf.Rules.{name_length, name_at, is_unended};
-ghost use Rattle.elf_read.specs.Strings.{IsLastZero};
+ghost use Rattle.elf_read.specs.Strings.{IsLastZero, IsNextZero, AreNextZeros};
 
-use crate::below::first_of;
+use std::alloc::Global;
 use std::marker::Model;
 
+/// How many bytes of a string table have one entry in the list of its zero bytes.
+const STRIDE: usize = 64;
+
 /// A string table: names one after the other, each with a zero byte behind it.
+///
+/// The bytes are looked through once. Then each name is found in a time that does not grow with its length.
 #[derive(Drop)]
 pub struct Strings<'a> {
     bytes: &'a [u8],
     /// One past the last zero byte, or 0 where there is none.
     end: u64,
+    /// The place of the first zero byte at or behind each multiple of `STRIDE`, as far as there was memory for it.
+    zeros: Vec<usize>,
 }
 
 impl<'a> Model for Strings<'a> {
@@ -19,7 +26,7 @@ impl<'a> Model for Strings<'a> {
 
     ghost view = { λ s. s.bytes.now };
 
-    ghost invariant = { λ s. IsLastZero s.bytes.now s.end };
+    ghost invariant = { λ s. record { last : IsLastZero s.bytes.now s.end; next : AreNextZeros s.bytes.now s.zeros.items } };
 }
 
 fn zeros_end(bytes: &[u8]) -> u64
@@ -34,24 +41,79 @@ fn zeros_end(bytes: &[u8]) -> u64
     end
 }
 
+// The place of the first zero byte at or behind a place, up to an end.
+fn next_zero(bytes: &[u8], from: usize, to: usize) -> usize
+    requires order { from ≤ to }
+    requires within { to ≤ length bytes.now }
+    ensures { IsNextZero bytes.now from to result }
+{
+    for at in from..to {
+        if bytes[at] == 0 {
+            return at;
+        }
+    }
+    to
+}
+
+// The place of the first zero byte at or behind each multiple of the stride, as far as there is memory for it.
+fn next_zeros(alloc: Global, bytes: &[u8]) -> Vec<usize>
+    ensures { AreNextZeros bytes.now result.items }
+{
+    let mut zeros = Vec::new(alloc);
+    let mut at = 0;
+    for block in 0..bytes.len() / STRIDE + 1 {
+        at = next_zero(bytes, at.max(block * STRIDE), bytes.len());
+        if zeros.push(at).is_err() {
+            return zeros;
+        }
+    }
+    zeros
+}
+
+// The place of the first zero byte at or behind a place, or the end of the table.
+fn name_end(bytes: &[u8], zeros: &[usize], place: usize) -> usize
+    requires within { place ≤ length bytes.now }
+    requires zeros { AreNextZeros bytes.now zeros.now }
+    ensures { IsNextZero bytes.now place (length bytes.now) result }
+{
+    let block = place / STRIDE + 1;
+    if block >= zeros.len() {
+        return next_zero(bytes, place, bytes.len());
+    }
+    let edge = block * STRIDE;
+    let near = next_zero(bytes, place, edge);
+    if near < edge {
+        return near;
+    }
+    zeros[block]
+}
+
 // How many bytes a name has, where it has an end.
-#[tactic(auto, unfolding(qed_model::specs::Elf::Rules::name_length))]
-fn name_length(bytes: &[u8], place: u32) -> Option<u64>
+fn name_length(bytes: &[u8], zeros: &[usize], place: u32) -> Option<u64>
+    requires { AreNextZeros bytes.now zeros.now }
     ensures gives { result ≡ name_length bytes.now place }
     ensures below { IfSome result (λ n. place + n < length bytes.now) }
 {
-    let left = bytes.len().saturating_sub(place as usize);
-    first_of(left as u64, &|k| bytes[place as usize + k as usize] == 0)
+    let start = place as usize;
+    if start >= bytes.len() {
+        return None;
+    }
+    let end = name_end(bytes, zeros, start);
+    if end == bytes.len() {
+        return None;
+    }
+    Some((end - start) as u64)
 }
 
 #[tactic(auto, unfolding(qed_model::specs::Elf::Rules::name_at))]
-fn name_at(bytes: &[u8], place: u32) -> &[u8]
+fn name_at<'a>(bytes: &'a [u8], zeros: &[usize], place: u32) -> &'a [u8]
+    requires { AreNextZeros bytes.now zeros.now }
     ensures { result.now ≡ name_at bytes.now place }
 {
     if place == 0 {
         return &[];
     }
-    match name_length(bytes, place) {
+    match name_length(bytes, zeros, place) {
         Some(length) => {
             let start = place as usize;
             &bytes[start..start + length as usize]
@@ -62,12 +124,13 @@ fn name_at(bytes: &[u8], place: u32) -> &[u8]
 
 impl<'a> Strings<'a> {
     /// The string table that these bytes are.
-    pub fn new(bytes: &'a [u8]) -> Strings<'a>
+    pub fn new(alloc: Global, bytes: &'a [u8]) -> Strings<'a>
         ensures { result ≡ bytes.now }
     {
         Strings {
             bytes,
             end: zeros_end(bytes),
+            zeros: next_zeros(alloc, bytes),
         }
     }
 
@@ -79,10 +142,11 @@ impl<'a> Strings<'a> {
         place != 0 && u64::from(place) >= self.end
     }
 
-    /// The name at a place; the one at place 0, and one without an end, is empty.
+    /// The name at a place; the one at place 0, and one without an end, is empty. Its length takes no longer to find
+    /// where the name is long.
     pub fn name(&self, place: u32) -> &'a [u8]
         ensures { result.now ≡ name_at self.now place }
     {
-        name_at(self.bytes, place)
+        name_at(self.bytes, &self.zeros, place)
     }
 }

@@ -10,6 +10,7 @@ use crate::parts::Parts;
 use crate::strings::Strings;
 use elf_types::abi::{SHT_SYMTAB, SYM_SIZE};
 use elf_types::{ElfError, SymbolEntry};
+use std::alloc::Global;
 
 #[tactic(auto, unfolding(qed_model::specs::Elf::Fields::symbol_entry))]
 fn entry_at(table: &[u8], j: u64) -> SymbolEntry
@@ -41,7 +42,7 @@ pub fn symbol_table(file: &Parts) -> Option<u64>
 }
 
 #[tactic(auto, unfolding(qed_model::specs::Elf::Rules::symbols_rule, qed_model::specs::Elf::Rules::is_misnamed, qed_model::specs::Elf::Rules::strings_of))]
-fn check_symbols(file: &Parts, i: u64) -> Result<(), ElfError>
+fn check_symbols(file: &Parts, alloc: Global, i: u64) -> Result<(), ElfError>
     requires below { i < e_shnum file.now }
     requires kind { (section_header file.now i).kind ≡ SHT_SYMTAB }
     ensures gives { result ≡ symbols_rule file.now (section_header file.now i) }
@@ -58,7 +59,7 @@ fn check_symbols(file: &Parts, i: u64) -> Result<(), ElfError>
     if !linked.is_string_table() {
         return Err(ElfError::SymbolShape(0));
     }
-    let strings = Strings::new(file.section_bytes(linked));
+    let strings = Strings::new(alloc, file.section_bytes(linked));
     let table = file.section_bytes(s);
     match first_of(
         s.size / SYM_SIZE,
@@ -71,13 +72,13 @@ fn check_symbols(file: &Parts, i: u64) -> Result<(), ElfError>
 
 /// Whether the first symbol table has entries and a string table, and each symbol a name.
 #[tactic(auto, unfolding(qed_model::specs::Elf::Rules::symbol_shape_rule))]
-pub fn check_symbol_shape(file: &Parts) -> Result<(), ElfError>
+pub fn check_symbol_shape(file: &Parts, alloc: Global) -> Result<(), ElfError>
     ensures gives { result ≡ symbol_shape_rule file.now }
     ensures links { OnOk result (IfSome (symbol_table file.now) (λ i. (section_header file.now i).link < e_shnum file.now)) }
 {
     match symbol_table(file) {
         Some(i) => {
-            check_symbols(file, i)?;
+            check_symbols(file, alloc, i)?;
             Ok(())
         }
         None => Ok(()),
@@ -96,13 +97,13 @@ pub fn symbol_entry(file: &Parts, i: u64, j: u64) -> SymbolEntry
 
 /// The string table of the symbol table at a number.
 #[tactic(auto, unfolding(qed_model::specs::Elf::Rules::strings_of))]
-pub fn symbol_strings<'a>(file: &Parts<'a>, i: u64) -> Strings<'a>
+pub fn symbol_strings<'a>(file: &Parts<'a>, alloc: Global, i: u64) -> Strings<'a>
     requires below { i < e_shnum file.now }
     requires link { (section_header file.now i).link < e_shnum file.now }
     ensures { result ≡ strings_of file.now (section_header file.now i) }
 {
     let s = file.section(i);
-    Strings::new(file.section_bytes(file.section(u64::from(s.link))))
+    Strings::new(alloc, file.section_bytes(file.section(u64::from(s.link))))
 }
 
 /// The name of a symbol of the table at a number; that of the null symbol is empty.
