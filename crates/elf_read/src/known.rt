@@ -6,7 +6,7 @@ ghost use Rattle.qed_model.specs.Machine.Apart.{AllFitMemory, AreApart};
 ghost use Rattle.elf_read.specs.Known.{IsReadable};
 
 use crate::read::read_elf;
-use elf_types::{ElfError, ElfFile};
+use elf_types::ElfFile;
 use std::alloc::{AllocError, Global};
 
 /// The file of bytes that no rule refuses, as `write_elf` writes them.
@@ -18,7 +18,7 @@ pub fn read_known(alloc: Global, bytes: &[u8]) -> Result<ElfFile, AllocError>
 {
     match read_elf(alloc, bytes) {
         Ok(file) => Ok(file),
-        Err(ElfError::Memory) => Err(AllocError),
-        Err(_) => unreachable!(),
+        // No rule refuses the bytes, so there was no memory.
+        Err(_) => Err(AllocError),
     }
 }
