@@ -26,11 +26,7 @@ fn make_change(machine: &mut Machine, change: &Change) -> Result<(), AllocError>
 /// stopped is neither stepped nor changed. The time is that of the steps that are made and of one look at each change.
 ///
 /// Where there is no memory for a page, the machine stands as the steps and changes that were made have left it.
-pub fn run_changed(
-    machine: &mut Machine,
-    changes: &[Change],
-    n: u64,
-) -> Result<Outcome, AllocError>
+pub fn run_changed(machine: &mut Machine, changes: &[Change], n: u64) -> Result<Outcome, AllocError>
     requires { Ordered changes.now }
     ensures state { IfOk result (λ _. machine.new.state ≡ changed_run machine.old.state changes.now n) }
     ensures steps { IfOk result (λ _. machine.new.steps ≡ changed_steps machine.old changes.now n) }
