@@ -136,8 +136,7 @@ impl<R: Files + Drop> DirShelf<R> {
         let is_made = made.is_ok();
         take_rights(&self.machine, name, &made);
         let written = write_down(made, bytes, &mut self.faults);
-        let placed =
-            written.is_ok() && fs::rename(&self.machine, beside.as_str(), name).is_ok();
+        let placed = written.is_ok() && fs::rename(&self.machine, beside.as_str(), name).is_ok();
         if is_made && !placed {
             let _ = fs::remove_file(&self.machine, beside.as_str());
         }

@@ -236,7 +236,10 @@ fn dir_shelf_keeps_files(rt: HostRuntime) -> Result<(), Fail> {
     symlink(&rt, name, link)?;
     shelf.store(link, b"through")?;
     assert_eq!(rt; fs::symlink_metadata(&rt, link)?.is_symlink(), true);
-    assert_eq!(rt; shelf.load(alloc, name, 7)?.as_slice(), b"through".as_slice());
+    assert_eq!(rt;
+        shelf.load(alloc, name, 7)?.as_slice(),
+        b"through".as_slice()
+    );
     assert_eq!(rt; fs::exists(&rt, "qed_io_kept.bin.1.new")?, false);
     fs::remove_file(&rt, link)?;
     fs::remove_file(&rt, name)?;
