@@ -1,10 +1,9 @@
 //! Where segments stand in memory, in the order of their addresses.
-ghost use Rattle.std.specs.Prelude.{◌≡◌, ◌<◌, ◌≤◌, ℕ, None, IfOk, IfSome, IsSome, OnSome, MatchOption, List, slice_index_or};
+ghost use Rattle.std.specs.Prelude.{◌≡◌, ◌<◌, ℕ, None, IfOk};
 ghost use Rattle.std.specs.List.Sorted.{IsNonDecreasingBy};
 ghost use Rattle.qed_model.specs.Elf.Header.{e_phnum};
-ghost use Rattle.qed_model.specs.Elf.Fields.{program_header};
 ghost use Rattle.qed_model.specs.Elf.Rules.{overlapped};
-ghost use Rattle.elf_read.specs.Extents.{HasExtents, IsClearInFront, IsClearBehind, extent_of, has_memory};
+ghost use Rattle.elf_read.specs.Extents.{HasExtents, IsClearInFront, IsClearBehind, has_memory};
 
 use crate::parts::Parts;
 use elf_types::ProgramHeader;

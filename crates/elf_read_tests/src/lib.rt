@@ -6,6 +6,8 @@ mod changes;
 #[cfg(test)]
 mod example;
 #[cfg(test)]
+mod hostile;
+#[cfg(test)]
 mod limits;
 #[cfg(test)]
 mod linked;

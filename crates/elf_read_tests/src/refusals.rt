@@ -387,5 +387,12 @@ fn a_cut_file_is_refused(rt: HostRuntime) -> Result<(), Fail> {
         assert!(rt; *size <= file.len());
         assert_eq!(rt; refusal(alloc, &file[..*size]), Some(*want), "{size} bytes");
     }
+    for size in 4..file.len() {
+        let refusal = refusal(alloc, &file[..size]);
+        assert!(rt;
+            matches!(refusal, Some(ElfError::OutOfFile(_))),
+            "{size} bytes"
+        );
+    }
     Ok(())
 }
