@@ -5,3 +5,4 @@ pub mod WholeLaws
 pub mod PageLaws
 pub mod PlaceLaws
 pub mod PagingLaws
+pub mod ApartLaws

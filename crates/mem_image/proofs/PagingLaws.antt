@@ -1,18 +1,21 @@
 -- Pages that are made from segments.
-use Rattle.std.proofs.Common.{◌≡◌, ℕ, zero, suc, ◌+◌, ◌-◌, ◌^◌, ◌<◌, ◌≤◌, Bool, true, false, cond, List, [], ◌∷◌, ◌++◌, length, Option, Some, None, refl, sym, ap, ◌∙◌, arith, ⊎_elim, ◌⊎◌, inl, inr}
-use Rattle.std.specs.Prelude.{slice_get, slice_index, min}
-use Rattle.std.proofs.lemmas.Option.{slice_get_within}
-use Rattle.std.proofs.lemmas.List.{length-map}
-use Rattle.mem_image.specs.declared.spec.SegmentSpec.{SegmentSpec}
+use Rattle.std.proofs.Common.{◌≡◌, ℕ, zero, suc, ◌+◌, ◌-◌, ◌^◌, ◌<◌, ◌≤◌, Bool, true, false, cond, List, [], ◌∷◌, ◌++◌, length, Option, Some, None, refl, sym, ap, subst, ◌∙◌, arith, get_or, ⊎_elim, ◌⊎◌, inl, inr}
+use Rattle.std.specs.Prelude.{All, Contains, IsPermutation, slice_get, slice_index, min}
+use Rattle.std.proofs.lemmas.Option.{slice_get-get_or, slice_get_within}
+use Rattle.std.proofs.lemmas.List.Elements.{Contains-append_left, Contains-push}
+use Rattle.std.proofs.lemmas.List.Sorted.{Contains-permutation}
+use Rattle.std.proofs.lemmas.Bool.Decides.{nat_tests}
 use Rattle.std.proofs.lemmas.Bool.{cases_lt, false≢true}
 use Rattle.qed_model.specs.Machine.Memory.{Cell}
 use Rattle.qed_model.specs.Machine.Program.{LoadSegment}
 use Rattle.qed_model.specs.Machine.Cells.{has, cell_at, cell_among}
-use Rattle.qed_model.specs.Machine.Apart.{AllFitMemory, FitsMemory, AreApart}
-use Rattle.mem_image.specs.Overlap.{segments_of, Ascends, AreSound}
-use Rattle.mem_image.specs.Pages.{IsPageOf, Below, first_part, IsPaged, IsLeastFrom, Found, Covers}
+use Rattle.qed_model.specs.Machine.Apart.{AllFitMemory, FitsMemory, share, AreApart}
+use Rattle.mem_image.specs.Overlap.{segment_of, segments_of, Ascends, AreSound}
+use Rattle.mem_image.specs.Pages.{IsPageOf, Below, first_part, IsPaged, Names, AreNamed, HasOne, Covers}
 use Rattle.mem_image.proofs.SegmentLaws.{cell_among-none, cell_among-first}
-use Rattle.mem_image.proofs.WholeLaws.{before_apart, shared}
+use Rattle.mem_image.specs.declared.spec.SegmentSpec.{SegmentSpec}
+use Rattle.mem_image.proofs.OverlapLaws.{segment_there}
+use Rattle.mem_image.proofs.WholeLaws.{before_apart}
 use Rattle.qed_model.proofs.CellsAmong.{has_from, has_parts}
 use Rattle.mem_image.proofs.PlaceLaws.{outside}
 
@@ -91,115 +94,112 @@ paged_more old xs s h d b i f l p =
           rw (behind_none (cell_among old q), outside (first_part s (d + h.size)) q (λ u v. ⊎_elim (λ k. false≢true (sym wx ∙ has_from (first_part s d) q u k)) (λ k. false≢true (sym wy ∙ has_from h q (omega (arith, a)) (omega (arith, a)))) (cases_lt q (s.address + d)))) refl
 
 -- ---- a segment more
--- a segment that has an address at the bound or behind it
-no_other : (ss : List LoadSegment) (bound q : ℕ) → ((k : ℕ) (s : LoadSegment) → slice_get ss k ≡ Some s → s.address < bound → s.address + s.size ≤ bound) → ((j : ℕ) (s : LoadSegment) → slice_get ss j ≡ Some s → 0 < s.size → bound ≤ s.address → q < s.address) → bound ≤ q → cell_among ss q ≡ None
-no_other ss bound q passed later l = cell_among-none ss q (λ j t g. outside t q (λ a b. ⊎_elim (λ m. let p = passed j t g m in omega arith) (λ m. let p = later j t g (omega arith) m in omega arith) (cases_lt t.address bound)))
+some_same : {A : Type 0} (a b : A) → Some a ≡ Some b → a ≡ b
+some_same a b e = cc
 
-pub covers_none : (ss : List LoadSegment) → Covers [] ss 0
-covers_none ss = record {
-  below = record { fit = tt; ascends = tt; ends = λ k s g. absurd (cc) };
-  same = λ q h. absurd (omega arith);
-  passed = λ k s g h. absurd (omega arith);
-}
+names_same : (ss : List LoadSegment) (order : List (ℕ × ℕ)) (j : ℕ) (s t : LoadSegment) → Names ss order j s → Names ss order j t → s ≡ t
+names_same ss order j s t x y =
+    let e : x.number ≡ y.number = ap (λ (p : ℕ × ℕ). p.1) (some_same (x.address, x.number) (y.address, y.number) (sym x.stands ∙ y.stands)) in
+    some_same s t (sym x.segment ∙ ap (slice_get ss) e ∙ y.segment)
 
--- an address has one segment
-one_segment : (ss : List LoadSegment) (j k : ℕ) (s t : LoadSegment) (q : ℕ) → AreApart ss → slice_get ss j ≡ Some s → slice_get ss k ≡ Some t → has s q ≡ true → has t q ≡ true → s ≡ t
-one_segment ss j k s t q apart g h x y =
-    ⊎_elim (λ l. absurd (apart j k (record { order = l; first = s; second = t; first_at = g; second_at = h; share = shared s t q x y })))
-    (λ l. ⊎_elim (λ m. absurd (apart k j (record { order = m; first = t; second = s; first_at = h; second_at = g; share = shared t s q y x }))) (λ m. let e : j ≡ k = omega arith in let there : slice_get ss k ≡ Some s = rw e at g in cc) (cases_lt k j)) (cases_lt j k)
+-- the last place, or one before it
+names_last : (ss : List LoadSegment) (order : List (ℕ × ℕ)) (n j : ℕ) (s t : LoadSegment) → Names ss order n s → j < n + 1 → Names ss order j t → (j < n) ⊎ ((j ≡ n) × (s ≡ t))
+names_last ss order n j s t x l y = ⊎_elim (λ m. inl m) (λ m. let e : j ≡ n = omega arith in inr (e, names_same ss order n s t x (rw e at y))) (cases_lt j n)
 
--- the bound of those that begin before it
-module _ (ss : List LoadSegment) (apart : AreApart ss) (bound n k : ℕ) (count : (j : ℕ) (t : LoadSegment) → slice_get ss j ≡ Some t → j < n) (f : IsLeastFrom ss bound n k) where
-  passed_more : ((j : ℕ) (t : LoadSegment) → slice_get ss j ≡ Some t → t.address < bound → t.address + t.size ≤ bound) → (j : ℕ) (t : LoadSegment) → slice_get ss j ≡ Some t → t.address < f.segment.address + f.segment.size → t.address + t.size ≤ f.segment.address + f.segment.size
-  passed_more passed j t g l =
-      ⊎_elim (λ m. let p = passed j t g m in let b = f.from in omega (arith, p, b)) (λ m. ⊎_elim (λ z. let first = f.least j t (count j t g) g z m in same (one_segment ss j k t f.segment t.address apart g f.stands (has_from t t.address (omega arith) (omega arith)) (has_from f.segment t.address first l))) (λ z. omega arith) (cases_lt 0 t.size)) (cases_lt t.address bound) where
-        same : t ≡ f.segment → t.address + t.size ≤ f.segment.address + f.segment.size
-        same e = rw e (omega arith)
+module _ (ss : List LoadSegment) (order : List (ℕ × ℕ)) (pages new : List LoadSegment) (bound n : ℕ) (s : LoadSegment) (c : Covers ss order pages bound n) (x : Names ss order n s) (from : bound ≤ s.address) (p : IsPaged pages s new s.size) where
+  ends_more : (j : ℕ) (t : LoadSegment) → j < n + 1 → Names ss order j t → t.address + t.size ≤ s.address + s.size
+  ends_more j t l y = ⊎_elim (λ m. let e = c.ends j t m y in omega (arith, e, from)) (λ m. rw m.1 (omega arith)) (names_last ss order n j s t x l y)
 
-  pub covers_more : (pages new : List LoadSegment) → Covers pages ss bound → IsPaged pages f.segment new f.segment.size → Covers new ss (f.segment.address + f.segment.size)
-  covers_more pages new c p = record {
-    below = p.below;
-    same = λ q l. p.cells q ∙ at q l (has f.segment q) refl;
-    passed = passed_more c.passed;
-  } where
-    at : (q : ℕ) → q < f.segment.address + f.segment.size → (b : Bool) → has f.segment q ≡ b → cond b (Some (cell_at f.segment q)) (cell_among pages q) ≡ cell_among ss q
-    at q l true w = sym (cell_among-first ss q k f.segment f.stands w (before_apart ss k f.segment q apart f.stands w))
-    at q l false w = ⊎_elim (λ m. c.same q m) (λ m. nothing_behind pages bound q c.below.ends m ∙ sym (no_other ss bound q c.passed (λ j t g z b. let first = f.least j t (count j t g) g z b in ⊎_elim (λ u. omega (arith, first, u)) (λ u. absurd (false≢true (sym w ∙ has_from f.segment q u l))) (cases_lt q f.segment.address)) m)) (cases_lt q bound)
+  apart_more : (i j : ℕ) (t u : LoadSegment) → i < j → j < n + 1 → Names ss order i t → Names ss order j u → t.address + t.size ≤ u.address
+  apart_more i j t u l m y z = ⊎_elim (λ k. c.apart i j t u l k y z) (λ k. let below : i < n = let e = k.0 in omega (arith, e, l) in let e = c.ends i t below y in let last : t.address + t.size ≤ s.address = omega (arith, e, from) in rw k.1 at last) (names_last ss order n j s u x m z)
 
--- no segment is left
-pub covers_all : (pages ss : List LoadSegment) (bound n : ℕ) → ((j : ℕ) (t : LoadSegment) → slice_get ss j ≡ Some t → j < n) → Covers pages ss bound → ((j : ℕ) (s : LoadSegment) → j < n → slice_get ss j ≡ Some s → 0 < s.size → s.address < bound) → (q : ℕ) → cell_among pages q ≡ cell_among ss q
-covers_all pages ss bound n count c none q =
-    ⊎_elim (λ m. c.same q m) (λ m. nothing_behind pages bound q c.below.ends m ∙ sym (no_other ss bound q c.passed (λ j t g z b. let l = none j t (count j t g) g z in absurd (omega arith)) m)) (cases_lt q bound)
+  old_cell : (q : ℕ) → has s q ≡ false → cell_among new q ≡ cell_among pages q
+  old_cell q h = p.cells q ∙ rw h refl
 
-pub covers_sound : (pages ss : List LoadSegment) (bound : ℕ) → Covers pages ss bound → AreSound pages
-covers_sound pages ss bound c = record { fit = c.below.fit; ascends = c.below.ascends }
+  new_cell : (q : ℕ) → has s q ≡ true → cell_among new q ≡ Some (cell_at s q)
+  new_cell q h = p.cells q ∙ rw h refl
 
--- ---- the search
-pub found_none : (ss : List LoadSegment) (bound : ℕ) (j : ℕ) (s : LoadSegment) → j < 0 → slice_get ss j ≡ Some s → 0 < s.size → s.address < bound
-found_none ss bound j s h g z = absurd (omega arith)
+  cells_more : (j : ℕ) (t : LoadSegment) (q : ℕ) → j < n + 1 → Names ss order j t → has t q ≡ true → cell_among new q ≡ Some (cell_at t q)
+  cells_more j t q l y h = ⊎_elim (λ m. let e = c.ends j t m y in let i = has_parts t q h in old_cell q (outside s q (λ a b. omega (arith, e, i, a, from))) ∙ c.cells j t q m y h) (λ m. let here : has s q ≡ true = ap (λ r. has r q) m.1 ∙ h in new_cell q here ∙ ap (λ r. Some (cell_at r q)) m.1) (names_last ss order n j s t x l y)
 
--- a place of the first n + 1
-last_or_before : (ss : List LoadSegment) (n j : ℕ) (s t : LoadSegment) → slice_get ss n ≡ Some s → j < n + 1 → slice_get ss j ≡ Some t → (j < n) ⊎ (s ≡ t)
-last_or_before ss n j s t e h g = ⊎_elim (λ l. inl l) (λ l. let is : j ≡ n = omega arith in let there : slice_get ss n ≡ Some t = rw is at g in inr (cc)) (cases_lt j n)
+  only_more : (q : ℕ) (d : Cell) → cell_among new q ≡ Some d → HasOne ss order (n + 1) q
+  only_more q d e = elim (has s q) as (λ b. has s q ≡ b → HasOne ss order (n + 1) q) [
+    | true ↦ λ h. record { place = n; segment = s; below = omega arith; names = x; inside = h }
+    | false ↦ λ h. let o = c.only q d (sym (old_cell q h) ∙ e) in let l = o.below in record { place = o.place; segment = o.segment; below = omega (arith, l); names = o.names; inside = o.inside }
+  ] refl
 
--- one segment more, which begins before the bound or has no bytes
-pub found_passed : (ss : List LoadSegment) (bound n : ℕ) (best : Option ℕ) (s : LoadSegment) → slice_get ss n ≡ Some s → (0 < s.size → bound ≤ s.address → ⊥) → Found ss bound n best → Found ss bound (n + 1) best
-found_passed ss bound n None s e miss f = λ j t h g z. ⊎_elim (λ l. f j t l g z) (λ is. ⊎_elim (λ l. l) (λ l. absurd (miss (rw is z) (rw is l))) (cases_lt t.address bound)) (last_or_before ss n j s t e h g)
-found_passed ss bound n (Some k) s e miss f = let b = f.below in record {
-  below = omega (arith, b);
-  segment = f.segment;
-  stands = f.stands;
-  some = f.some;
-  from = f.from;
-  least = λ j t h g z l. ⊎_elim (λ m. f.least j t m g z l) (λ is. absurd (miss (rw is z) (rw is l))) (last_or_before ss n j s t e h g);
-}
+  pub covers_more : Covers ss order new (s.address + s.size) (n + 1)
+  covers_more = record { below = p.below; ends = ends_more; apart = apart_more; cells = cells_more; only = only_more }
 
--- one that begins no sooner than the best
-pub found_kept : (ss : List LoadSegment) (bound n k : ℕ) (s t : LoadSegment) → slice_get ss n ≡ Some s → slice_get ss k ≡ Some t → t.address ≤ s.address → IsLeastFrom ss bound n k → IsLeastFrom ss bound (n + 1) k
-found_kept ss bound n k s t e g h f = let b = f.below in let there = f.stands in let same : t ≡ f.segment = cc in record {
-  below = omega (arith, b);
-  segment = f.segment;
-  stands = f.stands;
-  some = f.some;
-  from = f.from;
-  least = λ j u l a z m. ⊎_elim (λ d. f.least j u d a z m) (λ is. let p : f.segment.address ≤ s.address = rw same at h in rw is at p) (last_or_before ss n j s u e l a);
-}
+-- ---- all segments
+-- a segment with bytes has its place in the order
+named_at : (ss : List LoadSegment) (order : List (ℕ × ℕ)) (k : ℕ) (s : LoadSegment) → AreNamed ss order → slice_get ss k ≡ Some s → 0 < s.size → (j : ℕ) × ((j < length order) × (slice_get order j ≡ Some (s.address, k)))
+named_at ss order k s all e some = let c = all k s e some in (c.0, (c.1, slice_get-get_or order c.0 (s.address, k) c.1 ∙ ap Some c.2))
 
--- one that begins sooner
-pub found_sooner : (ss : List LoadSegment) (bound n k : ℕ) (s t : LoadSegment) → slice_get ss n ≡ Some s → slice_get ss k ≡ Some t → s.address < t.address → 0 < s.size → bound ≤ s.address → IsLeastFrom ss bound n k → IsLeastFrom ss bound (n + 1) n
-found_sooner ss bound n k s t e g h some from f = let there = f.stands in let same : t ≡ f.segment = cc in record {
-  below = omega arith;
-  segment = s;
-  stands = e;
-  some = some;
-  from = from;
-  least = λ j u l a z m. ⊎_elim (λ d. let o = f.least j u d a z m in let p : s.address < f.segment.address = rw same at h in omega (arith, o, p)) (λ is. rw is (omega arith)) (last_or_before ss n j s u e l a);
-}
+module _ (ss : List LoadSegment) (order : List (ℕ × ℕ)) (pages : List LoadSegment) (bound n : ℕ) (all : AreNamed ss order) (whole : length order ≤ n) (c : Covers ss order pages bound n) where
+  -- segments that share a byte have bytes, and neither ends before the other
+  sharing : (s t : LoadSegment) → share s t ≡ true → ((0 < s.size) × (0 < t.size)) × ((t.address < s.address + s.size) × (s.address < t.address + t.size))
+  sharing s t h = ((grind (arith, nat_tests), grind (arith, nat_tests)), (grind (arith, nat_tests), grind (arith, nat_tests)))
 
--- the first one
-pub found_first : (ss : List LoadSegment) (bound n : ℕ) (s : LoadSegment) → slice_get ss n ≡ Some s → 0 < s.size → bound ≤ s.address → Found ss bound n None → IsLeastFrom ss bound (n + 1) n
-found_first ss bound n s e some from f = record {
-  below = omega arith;
-  segment = s;
-  stands = e;
-  some = some;
-  from = from;
-  least = λ j u l a z m. ⊎_elim (λ d. let o = f j u d a z in omega (arith, o, m)) (λ is. rw is (omega arith)) (last_or_before ss n j s u e l a);
-}
+  pub covers_apart : AreApart ss
+  covers_apart i j o =
+      let h = sharing o.first o.second o.share in
+      let x = named_at ss order i o.first all o.first_at h.0.0 in
+      let y = named_at ss order j o.second all o.second_at h.0.1 in
+      let a : Names ss order x.0 o.first = record { address = o.first.address; number = i; stands = x.1.1; segment = o.first_at } in
+      let b : Names ss order y.0 o.second = record { address = o.second.address; number = j; stands = y.1.1; segment = o.second_at } in
+      ⊎_elim (λ l. let e = c.apart x.0 y.0 o.first o.second l (let m = y.1.0 in omega (arith, m, whole)) a b in omega (arith, e, h))
+      (λ l. ⊎_elim (λ m. let e = c.apart y.0 x.0 o.second o.first m (let k = x.1.0 in omega (arith, k, whole)) b a in omega (arith, e, h)) (λ m. let e : y.0 ≡ x.0 = omega (arith, l, m) in let d = o.order in let there : slice_get order x.0 ≡ Some (o.second.address, j) = rw e at y.1.1 in let same : i ≡ j = ap (λ (p : ℕ × ℕ). p.1) (some_same (o.first.address, i) (o.second.address, j) (sym x.1.1 ∙ there)) in omega (arith, same, d)) (cases_lt y.0 x.0)) (cases_lt x.0 y.0)
+
+  none_there : (q : ℕ) → cell_among pages q ≡ None → (k : ℕ) (s : LoadSegment) → slice_get ss k ≡ Some s → has s q ≡ false
+  none_there q e k s g = by (has s q) refl where
+    by : (b : Bool) → has s q ≡ b → has s q ≡ false
+    by true h =
+        let i = has_parts s q h in
+        let x = named_at ss order k s all g (omega (arith, i)) in
+        let there = c.cells x.0 s q (let m = x.1.0 in omega (arith, m, whole)) (record { address = s.address; number = k; stands = x.1.1; segment = g }) h in
+        absurd (cc)
+    by false h = h
+
+  pub covers_all : (q : ℕ) → cell_among pages q ≡ cell_among ss q
+  covers_all q = by (cell_among pages q) refl where
+    by : (o : Option Cell) → cell_among pages q ≡ o → cell_among pages q ≡ cell_among ss q
+    by None e = e ∙ sym (cell_among-none ss q (none_there q e))
+    by (Some d) e =
+        let o = c.only q d e in
+        c.cells o.place o.segment q o.below o.names o.inside ∙ sym (cell_among-first ss q o.names.number o.segment o.names.segment o.inside (before_apart ss o.names.number o.segment q covers_apart o.names.segment o.inside))
+
+  pub covers_sound : AreSound pages
+  covers_sound = record { fit = c.below.fit; ascends = c.below.ascends }
+
+-- ---- the order
+-- it has the numbers of those of the first n segments that have bytes
+abbrev pub NamedBefore : List LoadSegment → List (ℕ × ℕ) → ℕ → Type 0
+NamedBefore ss order n = (k : ℕ) (s : LoadSegment) → k < n → slice_get ss k ≡ Some s → 0 < s.size → Contains order (s.address, k)
+
+pub named_none : (ss : List LoadSegment) → NamedBefore ss [] 0
+named_none ss k s l e some = absurd (omega arith)
+
+-- a segment without bytes
+pub named_passed : (ss : List LoadSegment) (order : List (ℕ × ℕ)) (n : ℕ) (r : LoadSegment) → slice_get ss n ≡ Some r → r.size ≤ 0 → NamedBefore ss order n → NamedBefore ss order (n + 1)
+named_passed ss order n r at none before k s l e some = ⊎_elim (λ m. before k s m e some) (λ m. let is : k ≡ n = omega arith in let there : slice_get ss n ≡ Some s = rw is at e in let same : s ≡ r = cc in absurd (let z : 0 < r.size = rw same at some in omega (arith, z, none))) (cases_lt k n)
+
+-- one that has some
+pub named_more : (ss : List LoadSegment) (order : List (ℕ × ℕ)) (n : ℕ) (r : LoadSegment) → slice_get ss n ≡ Some r → NamedBefore ss order n → NamedBefore ss (order ++ (r.address, n) ∷ []) (n + 1)
+named_more ss order n r at before k s l e some = ⊎_elim (λ m. Contains-append_left order ((r.address, n) ∷ []) (s.address, k) (before k s m e some)) (λ m. let is : k ≡ n = omega arith in let there : slice_get ss n ≡ Some s = rw is at e in let same : s ≡ r = cc in let both : (s.address, k) ≡ (r.address, n) = rw (same, is) refl in subst (Contains (order ++ (r.address, n) ∷ [])) (sym both) (Contains-push order (r.address, n))) (cases_lt k n)
+
+-- in any order
+pub named_all : (ss : List LoadSegment) (xs ys : List (ℕ × ℕ)) (n : ℕ) → length ss ≤ n → NamedBefore ss xs n → IsPermutation xs ys → AreNamed ss ys
+named_all ss xs ys n whole before moved k s e some = let l = slice_get_within ss k s e in Contains-permutation xs ys (s.address, k) moved (before k s (omega (arith, l, whole)) e some)
 
 -- ---- what the code reads
-pub places_in : (specs : List SegmentSpec) (j : ℕ) (t : LoadSegment) → slice_get (segments_of specs) j ≡ Some t → j < length specs
-places_in specs j t e = let l : length (segments_of specs) ≡ length specs = simp length-map in let w = slice_get_within (segments_of specs) j t e in rw l at w
-
 pub fits_at : (ss : List LoadSegment) (k : ℕ) (s : LoadSegment) → AllFitMemory ss → slice_get ss k ≡ Some s → FitsMemory s
 fits_at [] k s f e = absurd (cc)
 fits_at (x ∷ xs) zero s f e = let is : x ≡ s = cc in rw is at f.0
 fits_at (x ∷ xs) (suc k) s f e = fits_at xs k s f.1 e
 
--- the next segment begins behind all pages
-pub below_at : (pages ss : List LoadSegment) (bound a : ℕ) → Covers pages ss bound → bound ≤ a → Below pages a
-below_at pages ss bound a c l = record { fit = c.below.fit; ascends = c.below.ascends; ends = λ k s g. let m = c.below.ends k s g in omega (arith, m, l) }
-
--- the one that was found is the one that is read
-pub is_segment : (ss : List LoadSegment) (bound n k : ℕ) (s : LoadSegment) (f : IsLeastFrom ss bound n k) → slice_get ss k ≡ Some s → f.segment ≡ s
-is_segment ss bound n k s f e = let g = f.stands in cc
+-- the segment that is read by its number in the order
+pub names_read : (specs : List SegmentSpec) (order : List (ℕ × ℕ)) (j : ℕ) (p : ℕ × ℕ) (a : SegmentSpec) → All (λ q. q.1 < length specs) order → j < length order → p ≡ get_or order j p → a ≡ get_or specs p.1 a → Names (segments_of specs) order j (segment_of a)
+names_read specs order j p a places l e r =
+    let below : p.1 < length specs = subst (λ (q : ℕ × ℕ). q.1 < length specs) (sym e) (places j p l) in
+    record { address = p.0; number = p.1; stands = slice_get-get_or order j p l ∙ ap Some (sym e); segment = segment_there specs p.1 a below r }

@@ -1,8 +1,9 @@
 -- Pages that are made from segments.
-use Rattle.std.specs.Prelude.{◌≡◌, ℕ, ◌+◌, ◌-◌, ◌<◌, ◌≤◌, Bool, true, false, cond, List, length, Option, Some, None, slice_get, slice_index, min}
+use Rattle.std.specs.Prelude.{◌≡◌, ℕ, ◌+◌, ◌-◌, ◌<◌, ◌≤◌, true, cond, List, length, Some, Contains, slice_get, slice_index, min}
+use Rattle.qed_model.specs.Machine.Memory.{Cell}
 use Rattle.qed_model.specs.Machine.Program.{LoadSegment}
 use Rattle.mem_image.specs.Overlap.{Ascends}
-use Rattle.qed_model.specs.Machine.Apart.{AreApart, AllFitMemory}
+use Rattle.qed_model.specs.Machine.Apart.{AllFitMemory}
 use Rattle.qed_model.specs.Machine.Cells.{has, cell_at, cell_among}
 
 -- a page that holds the bytes from number d on, and zeros behind them
@@ -33,22 +34,29 @@ pub record IsPaged (old : List LoadSegment) (s : LoadSegment) (pages : List Load
   pub below : Below pages (s.address + d)
   pub cells : (q : ℕ) → cell_among pages q ≡ cond (has (first_part s d) q) (Some (cell_at s q)) (cell_among old q)
 
--- of the first n segments, number k begins first of those that begin at the bound or behind it and have bytes in memory
-pub record IsLeastFrom (ss : List LoadSegment) (bound n k : ℕ) : Type 0 where
-  pub below : k < n
+-- place j of the order has the number of the segment
+pub record Names (ss : List LoadSegment) (order : List (ℕ × ℕ)) (j : ℕ) (s : LoadSegment) : Type 0 where
+  pub address : ℕ
+  pub number : ℕ
+  pub stands : slice_get order j ≡ Some (address, number)
+  pub segment : slice_get ss number ≡ Some s
+
+-- the order has the number of each segment that has bytes in memory, behind its address
+abbrev pub AreNamed : List LoadSegment → List (ℕ × ℕ) → Type 0
+AreNamed ss order = (k : ℕ) (s : LoadSegment) → slice_get ss k ≡ Some s → 0 < s.size → Contains order (s.address, k)
+
+-- one of the first n segments of the order has the address
+pub record HasOne (ss : List LoadSegment) (order : List (ℕ × ℕ)) (n q : ℕ) : Type 0 where
+  pub place : ℕ
   pub segment : LoadSegment
-  pub stands : slice_get ss k ≡ Some segment
-  pub some : 0 < segment.size
-  pub from : bound ≤ segment.address
-  pub least : (j : ℕ) (t : LoadSegment) → j < n → slice_get ss j ≡ Some t → 0 < t.size → bound ≤ t.address → segment.address ≤ t.address
+  pub below : place < n
+  pub names : Names ss order place segment
+  pub inside : has segment q ≡ true
 
--- what was found among the first n segments: none that begins at the bound or behind it and has bytes, or the first of those
-abbrev pub Found : List LoadSegment → ℕ → ℕ → Option ℕ → Type 0
-Found ss bound n None = (j : ℕ) (s : LoadSegment) → j < n → slice_get ss j ≡ Some s → 0 < s.size → s.address < bound
-Found ss bound n (Some k) = IsLeastFrom ss bound n k
-
--- the pages hold what the segments hold below the bound, and nothing behind it; no segment goes over the bound
-pub record Covers (pages ss : List LoadSegment) (bound : ℕ) : Type 0 where
+-- the pages hold what the first n segments of the order hold, which lie one behind the other and below the bound
+pub record Covers (ss : List LoadSegment) (order : List (ℕ × ℕ)) (pages : List LoadSegment) (bound n : ℕ) : Type 0 where
   pub below : Below pages bound
-  pub same : (q : ℕ) → q < bound → cell_among pages q ≡ cell_among ss q
-  pub passed : (k : ℕ) (s : LoadSegment) → slice_get ss k ≡ Some s → s.address < bound → s.address + s.size ≤ bound
+  pub ends : (j : ℕ) (s : LoadSegment) → j < n → Names ss order j s → s.address + s.size ≤ bound
+  pub apart : (i j : ℕ) (s t : LoadSegment) → i < j → j < n → Names ss order i s → Names ss order j t → s.address + s.size ≤ t.address
+  pub cells : (j : ℕ) (s : LoadSegment) (q : ℕ) → j < n → Names ss order j s → has s q ≡ true → cell_among pages q ≡ Some (cell_at s q)
+  pub only : (q : ℕ) (c : Cell) → cell_among pages q ≡ Some c → HasOne ss order n q

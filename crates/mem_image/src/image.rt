@@ -9,8 +9,9 @@ ghost use Rattle.qed_model.specs.Machine.Apart.{AllFitMemory, AreApart};
 ghost use Rattle.mem_image.specs.Access.{needs, allowed_byte, allowed_number, IsWidth};
 ghost use Rattle.mem_image.specs.Segments.{Holds};
 
+use crate::apart::put_from;
 use crate::held::{Access, Held};
-use crate::overlap::first_overlap;
+use crate::overlap::why_not;
 use crate::paging::pages_of;
 use crate::places::{place, whole_at};
 use crate::spec::{ImageError, SegmentSpec};
@@ -28,7 +29,6 @@ pub struct Image {
     pages: Vec<Held>,
     /// Where a page may be found again, by some bits of an address. Nothing rests on it.
     near: [usize; 64],
-    alloc: Global,
 }
 
 impl Model for Image {
@@ -62,15 +62,13 @@ impl Image {
         ensures apart { IfOk result (λ _. AreApart (segments_of specs.now)) }
         ensures error { IfErr result (Explains (segments_of specs.now)) }
     {
-        if let Some((i, j)) = first_overlap(specs) {
-            return Err(ImageError::Overlap(i, j));
+        match pages_of(alloc, specs) {
+            Ok(Some(pages)) => Ok(Image {
+                pages,
+                near: [0; 64],
+            }),
+            _ => Err(why_not(specs)),
         }
-        let pages = pages_of(alloc, specs)?;
-        Ok(Image {
-            pages,
-            near: [0; 64],
-            alloc,
-        })
     }
 
     /// The number of `width` bytes from the address on, or None where one of them is not mapped with PF_R. The width is 1, 2, 4
@@ -161,7 +159,6 @@ impl Image {
         Ok(Image {
             pages,
             near: self.near,
-            alloc,
         })
     }
 
@@ -234,36 +231,13 @@ impl Image {
         Ok(true)
     }
 
-    /// Gives the byte at an address another value, where there is one.
-    fn set(&mut self, address: u64, value: u8) -> Result<(), AllocError>
-        ensures { IfOk result (λ _. self.new ≡ poked address value self.old) }
-    {
-        if let Some(at) = place(&self.pages, self.near[slot(address)], address) {
-            self.pages[at].put(address, 1, u64::from(value))?;
-        }
-        Ok(())
-    }
-
-    /// The image with the low bytes of a value at those of at most 8 addresses that are mapped.
-    fn with(&self, address: u64, width: u64, value: u64) -> Result<Image, AllocError>
-        requires { width ≤ 8 }
-        ensures { IfOk result (λ image. image ≡ put self.now address width value) }
-    {
-        let mut image = self.copy(self.alloc)?;
-        for i in 0..width {
-            image.set(address.wrapping_add(i), ((value >> (8 * i)) & 0xff) as u8)?;
-        }
-        Ok(image)
-    }
-
-    /// Sets the low bytes of a value at those of at most 8 addresses that are mapped. They are set in a copy first, so that all
-    /// stays where there is no memory.
+    /// Sets the low bytes of a value at those of at most 8 addresses that are mapped.
     fn put(&mut self, address: u64, width: u64, value: u64) -> Result<(), AllocError>
         requires { width ≤ 8 }
         ensures put { IfOk result (λ _. self.new ≡ put self.old address width value) }
         ensures kept { IfErr result (λ _. self.new ≡ self.old) }
     {
-        *self = self.with(address, width, value)?;
+        put_from(&mut self.pages, address, 0, width, value)?;
         Ok(())
     }
 }

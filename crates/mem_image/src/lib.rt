@@ -2,6 +2,7 @@
 //! Contracts see it as the finite map `Memory` from an address to a byte and its permissions, and nothing of how it is kept.
 #![tactic(auto)]
 
+mod apart;
 mod held;
 mod image;
 mod overlap;

@@ -1,7 +1,7 @@
 //! The pages of segments.
-ghost use Rattle.std.specs.Prelude.{◌≡◌, ℕ, ◌+◌, ◌<◌, ◌≤◌, ◌^◌, [], length, IfOk};
+ghost use Rattle.std.specs.Prelude.{◌≡◌, ℕ, ◌+◌, ◌<◌, ◌≤◌, ◌^◌, [], length, All, IfOk, IfSome};
 ghost use Rattle.mem_image.specs.Overlap.{segment_of, segments_of, AreSound};
-ghost use Rattle.mem_image.specs.Pages.{Below, Found, HoldsFrom, IsPaged};
+ghost use Rattle.mem_image.specs.Pages.{Below, HoldsFrom, IsPaged, AreNamed};
 ghost use Rattle.qed_model.specs.Machine.Apart.{AllFitMemory, FitsMemory, AreApart};
 ghost use Rattle.qed_model.specs.Machine.Cells.{cell_among};
 
@@ -11,38 +11,21 @@ use crate::spec::SegmentSpec;
 use std::alloc::{AllocError, Global};
 use std::rc::Rc;
 
-/// The first of the first `i + 1` segments, where `best` is that of the first `i`.
-fn next_best(specs: &[SegmentSpec], bound: u128, i: usize, best: Option<usize>) -> Option<usize>
-    requires place { i < length specs.now }
-    requires best { Found (segments_of specs.now) bound i best }
-    ensures { Found (segments_of specs.now) bound (i + 1) result }
+/// The segments that have bytes in memory, each by its address and its number, in order.
+fn in_order(alloc: Global, specs: &[SegmentSpec]) -> Result<Vec<(u64, usize)>, AllocError>
+    ensures places { IfOk result (λ order. All (λ p. p.1 < length specs.now) order.items) }
+    ensures named { IfOk result (λ order. AreNamed (segments_of specs.now) order.items) }
 {
-    let spec = &specs[i];
-    let (address, memory) = (spec.address, spec.memory);
-    if memory == 0 {
-        return best;
-    }
-    if u128::from(address) < bound {
-        return best;
-    }
-    if let Some(k) = best {
-        let other = &specs[k];
-        if other.address <= address {
-            return best;
-        }
-    }
-    Some(i)
-}
-
-/// The segment that begins first of those that begin at the bound or behind it and have bytes in memory.
-fn first_from(specs: &[SegmentSpec], bound: u128) -> Option<usize>
-    ensures { Found (segments_of specs.now) bound (length specs.now) result }
-{
-    let mut best = None;
+    let mut order = Vec::new(alloc);
     for i in 0..specs.len() {
-        best = next_best(specs, bound, i, best);
+        let spec = &specs[i];
+        if spec.memory == 0 {
+            continue;
+        }
+        order.push((spec.address, i))?;
     }
-    best
+    order.sort()?;
+    Ok(order)
 }
 
 /// Appends the pages of a segment, which lies behind those that are there.
@@ -67,20 +50,24 @@ fn push_pages(
     Ok(())
 }
 
-/// The pages of segments that share no byte, by their addresses.
-pub fn pages_of(alloc: Global, specs: &[SegmentSpec]) -> Result<Vec<Held>, AllocError>
-    requires fit { AllFitMemory (segments_of specs.now) }
-    requires apart { AreApart (segments_of specs.now) }
-    ensures sound { IfOk result (λ pages. AreSound pages.items) }
-    ensures same { IfOk result (λ pages. (q : ℕ) → cell_among pages.items q ≡ cell_among (segments_of specs.now) q) }
+/// The pages of segments, by their addresses, or None where two segments share a byte.
+pub fn pages_of(alloc: Global, specs: &[SegmentSpec]) -> Result<Option<Vec<Held>>, AllocError>
+    requires { AllFitMemory (segments_of specs.now) }
+    ensures apart { IfOk result (λ made. IfSome made (λ _. AreApart (segments_of specs.now))) }
+    ensures sound { IfOk result (λ made. IfSome made (λ pages. AreSound pages.items)) }
+    ensures same { IfOk result (λ made. IfSome made (λ pages. (q : ℕ) → cell_among pages.items q ≡ cell_among (segments_of specs.now) q)) }
 {
+    let order = in_order(alloc, specs)?;
     let zeros = Rc::new(alloc, Page::of(&[]))?;
     let mut pages = Vec::new(alloc);
     let mut bound = 0;
-    while let Some(at) = first_from(specs, bound) {
-        let spec = &specs[at];
+    for i in 0..order.len() {
+        let spec = &specs[order[i].1];
+        if u128::from(spec.address) < bound {
+            return Ok(None);
+        }
         push_pages(alloc, &mut pages, &zeros, spec)?;
         bound = u128::from(spec.address) + u128::from(spec.memory);
     }
-    Ok(pages)
+    Ok(Some(pages))
 }

@@ -1,6 +1,7 @@
 //! Each public call on a small image.
 ghost use Rattle.std.specs.Prelude.{◌+◌, ◌^◌, ◌≤◌, length, IfOk};
 ghost use Rattle.mem_image.specs.Overlap.{segment_of};
+ghost use Rattle.mem_image.specs.Access.{IsWidth};
 ghost use Rattle.qed_model.specs.Machine.Apart.{FitsMemory};
 
 use crate::{Image, ImageError, SegmentSpec};
@@ -11,6 +12,8 @@ use std::test::Fail;
 const READ_EXECUTE: u32 = 5;
 
 const READ_WRITE: u32 = 6;
+
+const READ: u32 = 4;
 
 fn spec(
     alloc: Global,
@@ -141,5 +144,82 @@ fn neighbours_share_nothing(rt: HostRuntime) -> Result<(), Fail> {
         spec(alloc, 0x30, 0x10, READ_WRITE, &[])?,
     ];
     assert!(rt; Image::make(alloc, &specs).is_ok());
+    Ok(())
+}
+
+/// The widths of an access.
+fn width(bytes: u64) -> u64
+    ensures { IsWidth result }
+{
+    match bytes {
+        1 => 1,
+        2 => 2,
+        4 => 4,
+        _ => 8,
+    }
+}
+
+/// Two pages that may be written, bytes behind them that may only be read, and data on both sides of the end of the addresses.
+fn borders(alloc: Global) -> Result<Image, ImageError> {
+    let specs = [
+        spec(alloc, 0x3000, 8, READ, &[0x55, 0x66, 0x77, 0x88])?,
+        spec(alloc, 0x1000, 0x2000, READ_WRITE, &[7])?,
+        spec(
+            alloc,
+            0xffff_ffff_ffff_fffc,
+            4,
+            READ_WRITE,
+            &[0xaa, 0xbb, 0xcc, 0xdd],
+        )?,
+        spec(alloc, 0, 4, READ_WRITE, &[0x11, 0x22, 0x33, 0x44])?,
+    ];
+    Image::make(alloc, &specs)
+}
+
+/// What is written below, as far as the width goes.
+const WRITTEN: u64 = 0x8877_6655_4433_2211;
+
+/// Accesses of an image: the address, the bytes, the number that is read, and the one behind a write.
+static ACCESSES: [(u64, u64, Option<u64>, Option<u64>); 12] = [
+    // Over the end of a page, and on either side of it.
+    (0x1ffc, 8, Some(0), Some(WRITTEN)),
+    (0x1fff, 2, Some(0), Some(0x2211)),
+    (0x1ffe, 2, Some(0), Some(0x2211)),
+    (0x2000, 1, Some(0), Some(0x11)),
+    // At the end of the bytes that may be written.
+    (0x2ff8, 8, Some(0), Some(WRITTEN)),
+    (
+        0x2ffc,
+        8,
+        Some(0x8877_6655_0000_0000),
+        Some(0x8877_6655_0000_0000),
+    ),
+    (0x2fff, 2, Some(0x5500), Some(0x5500)),
+    (0x3000, 4, Some(0x8877_6655), Some(0x8877_6655)),
+    (0x3004, 8, None, None),
+    // Over the end of the addresses.
+    (
+        0xffff_ffff_ffff_fffc,
+        8,
+        Some(0x4433_2211_ddcc_bbaa),
+        Some(WRITTEN),
+    ),
+    (0xffff_ffff_ffff_ffff, 2, Some(0x11dd), Some(0x2211)),
+    (2, 4, None, None),
+];
+
+#[test]
+fn copies_share_no_write(rt: HostRuntime) -> Result<(), Fail> {
+    let alloc = rt.alloc();
+    let first = borders(alloc)?;
+    for (address, bytes, before, after) in &ACCESSES {
+        let mut written = first.copy(alloc)?;
+        let other = written.copy(alloc)?;
+        let done = written.write(*address, width(*bytes), WRITTEN)?;
+        assert_eq!(rt; done, before != after);
+        assert_eq!(rt; written.read(*address, width(*bytes)), *after);
+        assert_eq!(rt; first.read(*address, width(*bytes)), *before);
+        assert_eq!(rt; other.read(*address, width(*bytes)), *before);
+    }
     Ok(())
 }

@@ -1,5 +1,5 @@
 //! Instructions that were decoded, kept by their words.
-ghost use Rattle.std.specs.Prelude.{◌≡◌, IfSome, Some};
+ghost use Rattle.std.specs.Prelude.{◌≡◌, ◌≤◌, length, IfOk, IfSome, Some};
 ghost use Rattle.qed_model.specs.Machine.Table.{decode_of};
 
 use rv_decode::decode;
@@ -50,8 +50,10 @@ pub struct Decoder {
 }
 
 impl Decoder {
-    /// One that has kept no more than `nop`.
-    pub fn new(alloc: Global) -> Result<Decoder, AllocError> {
+    /// One that has kept no more than the instruction of the zero word, in each of its places.
+    pub fn new(alloc: Global) -> Result<Decoder, AllocError>
+        ensures { IfOk result (λ decoder. length decoder.known.items ≤ 1024) }
+    {
         let mut known = Vec::with_capacity(alloc, KEPT as usize)?;
         for _ in 0..KEPT {
             if let Some(ins) = decode(0) {
