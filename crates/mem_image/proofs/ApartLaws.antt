@@ -1,9 +1,8 @@
 -- Bytes that are set one by one, each in its page.
-use Rattle.std.proofs.Common.{◌≡◌, ℕ, ◌+◌, ◌-◌, ◌/◌, ◌*◌, ◌^◌, ◌<◌, ◌≤◌, true, List, length, Some, None, sym, subst, ap, ◌∙◌, arith, set, get_or}
-use Rattle.std.specs.Prelude.{bit_and, nat_le, slice_get}
+use Rattle.std.proofs.Common.{◌≡◌, ℕ, ◌+◌, ◌-◌, ◌/◌, ◌*◌, ◌^◌, ◌<◌, ◌≤◌, true, List, None, sym, subst, ap, ◌∙◌, arith, set, get_or}
+use Rattle.std.specs.Prelude.{bit_and, nat_le}
 use Rattle.std.specs.FinMap.{get}
 use Rattle.std.proofs.lemmas.Bool.{and_from, le-leb}
-use Rattle.std.proofs.lemmas.Nat.{and_mask}
 use Rattle.std.proofs.lemmas.List.{set-set}
 use Rattle.qed_model.specs.Machine.Memory.{Memory, wrap, byte_of, poked, put}
 use Rattle.qed_model.specs.Machine.Program.{LoadSegment, memory_of}

@@ -1,5 +1,5 @@
 -- Loads and stores of a hart in a memory, and instructions that stop it.
-use Rattle.std.proofs.Common.{◌≡◌, ℕ, ◌+◌, ◌%◌, Bool, true, false, cond, Some, None, refl, sym, ap, ◌∙◌, subst}
+use Rattle.std.proofs.Common.{◌≡◌, ℕ, Bool, true, false, cond, Some, None, refl, sym, ap, ◌∙◌, subst}
 use Rattle.rv_isa.specs.declared.class.Class.{Class}
 use Rattle.rv_isa.specs.declared.class.Class.TheVariants as class
 use Rattle.rv_isa.specs.declared.ins.Ins.{Ins}
@@ -11,7 +11,7 @@ use Rattle.qed_model.specs.Machine.Values.{loaded, width_of}
 use Rattle.qed_model.specs.Machine.Step.{State, execute, moved, next_pc, place, reg, stopped, stored, trapped}
 use Rattle.mem_image.specs.Access.{allowed_number}
 use Rattle.rv_step.specs.Known.{at_state}
-use Rattle.rv_step.specs.Harts.{HartState, with_memory, LeadsIn, Leads}
+use Rattle.rv_step.specs.Harts.{HartState, with_memory, LeadsIn}
 
 -- ---- by the class
 pub by_class : (i : Ins) (h k : HartState) (m : Memory) (c d : Class) (f : State → State) → c ≡ d → ((s : State) → execute d i s ≡ f s) → LeadsIn f h m k m → LeadsIn (execute c i) h m k m

@@ -1,4 +1,4 @@
-use Rattle.std.proofs.Common.{◌≡◌, ◌+◌, ◌<◌, ◌≤◌, true, sym, subst, arith}
+use Rattle.std.proofs.Common.{◌≡◌, ◌+◌, ◌<◌, true, sym, subst, arith}
 use Rattle.qed_model.specs.Machine.Memory.{wrap}
 use Rattle.mem_image.specs.Overlap.{AreSound}
 use Rattle.mem_image.specs.Segments.{has_all}

@@ -1,6 +1,6 @@
-use Rattle.std.proofs.Common.{◌≡◌, ◌+◌, arith}
+use Rattle.std.proofs.Common.{arith}
 use Rattle.mem_image.specs.Overlap.{segment_of}
-use Rattle.mem_image.proofs.PagingLaws.{paged_none, paged_more}
+use Rattle.mem_image.proofs.PagingLaws.{paged_more}
 use Rattle.mem_image.proofs.paging.push_pages.Goals as goal
 
 pub loop-from-preserved : goal.loop-from-preserved

@@ -1,4 +1,4 @@
-use Rattle.std.proofs.Common.{◌≡◌, ◌≤◌, ◌-◌, List, ℕ, sym, ap, ◌∙◌, arith, length, take, is_ok, ⊎_elim}
+use Rattle.std.proofs.Common.{◌≡◌, ◌-◌, List, ℕ, sym, ap, ◌∙◌, arith, length, take, is_ok, ⊎_elim}
 use Rattle.qed_model.specs.Machine.Program.{LoadSegment}
 use Rattle.mem_image.specs.Segments.{bytes_put}
 use Rattle.mem_image.proofs.WholeLaws.{spans}

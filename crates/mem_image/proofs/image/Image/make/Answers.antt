@@ -1,7 +1,5 @@
-use Rattle.std.proofs.Common.{◌≡◌, ℕ, subst, ap, ◌∙◌, sym}
+use Rattle.std.proofs.Common.{◌≡◌, ℕ, subst, ◌∙◌, sym}
 use Rattle.std.specs.Prelude.{IfSome}
-use Rattle.std.specs.FinMap.{get}
-use Rattle.qed_model.specs.Machine.Program.{memory_of}
 use Rattle.qed_model.proofs.MemoryLaws.{same_memory}
 use Rattle.qed_model.specs.Machine.Cells.{cell_among}
 use Rattle.mem_image.specs.Overlap.{segments_of, AreSound}

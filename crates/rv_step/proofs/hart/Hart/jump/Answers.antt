@@ -2,7 +2,6 @@ use Rattle.std.proofs.Common.{◌≡◌, ◌+◌, ◌%◌, ◌^◌, refl, sym, a
 use Rattle.std.specs.Prelude.{slice_index}
 use Rattle.rv_isa.specs.Kind.{class_of}
 use Rattle.rv_isa.specs.Regs.{set_reg}
-use Rattle.qed_model.specs.Machine.Memory.{Memory}
 use Rattle.qed_model.specs.Machine.Progress.{Progress}
 use Rattle.code_ranges.specs.Ranges.{spans}
 use Rattle.rv_step.specs.Harts.{HartState, with_memory}
