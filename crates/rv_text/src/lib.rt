@@ -9,5 +9,6 @@ mod tests;
 mod text;
 
 pub use forms::{Form, form_of};
+pub use hex::{Address, Word};
 pub use names::name_of;
 pub use text::text_of;

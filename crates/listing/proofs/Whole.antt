@@ -1,0 +1,215 @@
+-- The words of ranges in the order of their starts are all words of the ranges, in ascending order.
+use Rattle.std.proofs.Common.{◌≡◌, ◌⊎◌, inl, inr, ⊎_elim, ℕ, zero, suc, ◌+◌, ◌-◌, ◌*◌, ◌/◌, ◌%◌, ◌<◌, ◌≤◌, max, Bool, true, false, ◌&&◌, ◌||◌, List, [], ◌∷◌, ◌++◌, length, get_or, refl, sym, ap, ◌∙◌, subst, arith}
+use Rattle.std.specs.Prelude.{nat_le, ◌==◌, AllPairs}
+use Rattle.std.specs.List.{list_any}
+use Rattle.std.specs.List.Sorted.{IsPermutation, IsNonDecreasingBy}
+use Rattle.std.proofs.lemmas.Bool.{and_parts, and_from, or_cases, or_left, or_right, leb-true, le-leb, eqb-true, eq-eqb, false≢true, cases_lt}
+use Rattle.std.proofs.lemmas.List.Sorted.{list_any-IsPermutation}
+use Rattle.elf_types.specs.declared.file.ElfFile.{ElfFile}
+use Rattle.code_ranges.specs.declared.range.CodeRange.{CodeRange}
+use Rattle.code_ranges.specs.Ranges.{span, spans}
+use Rattle.qed_model.specs.Machine.Step.{in_range}
+use Rattle.qed_model.specs.Admission.CodeWords.{ranges_of, word_at}
+use Rattle.qed_model.proofs.Among.{Among, among_of, contains_of, among-left, among-right, among-either}
+use Rattle.listing.specs.Listing.{has_word, lines, AreWordAddresses, IsListing}
+use Rattle.listing.specs.Addresses.{from_on, up, down, words_of, addresses}
+
+-- ---- in ascending order
+abbrev Rising : ℕ → List ℕ → Type 0
+Rising low [] = Unit {0}
+Rising low (a ∷ rest) = (low ≤ a) × Rising (a + 1) rest
+
+rising_lower : (low l : ℕ) (xs : List ℕ) → l ≤ low → Rising low xs → Rising l xs
+rising_lower low l [] h r = tt
+rising_lower low l (x ∷ xs) h r = (omega (arith, h, r.0), r.1)
+
+rising-from_on : (a n low : ℕ) (xs : List ℕ) → low ≤ a → Rising (a + 4 * n) xs → Rising low (from_on a n ++ xs)
+rising-from_on a zero low xs l r = rising_lower (a + 4 * 0) low xs (omega (arith, l)) r
+rising-from_on a (suc n) low xs l r =
+    let e : a + 4 * suc n ≡ a + 4 + 4 * n = omega arith in
+    (l, rising-from_on (a + 4) n (a + 1) xs (omega arith) (subst (λ m. Rising m xs) e r))
+
+rising_step : (start n low d : ℕ) (xs : List ℕ) → low ≤ start → low ≤ d → (0 < n → start + 4 * n ≤ d) → Rising d xs → Rising low (from_on start n ++ xs)
+rising_step start zero low d xs l k h r = rising_lower d low xs k r
+rising_step start (suc n) low d xs l k h r = rising-from_on start (suc n) low xs l (rising_lower d (start + 4 * suc n) xs (h (omega arith)) r)
+
+whole_end : (start end done : ℕ) → 0 < (end - start) / 4 → start + 4 * ((end - start) / 4) ≤ max done end
+whole_end start end done h = omega (arith, h)
+
+rising-addresses : (done : ℕ) (rs : List (ℕ × ℕ)) → Rising done (addresses done rs)
+rising-addresses done [] = tt
+rising-addresses done (r ∷ rs) =
+    let start = max (up r.0) done in
+    let d = max done (down r.1) in
+    rising_step start ((down r.1 - start) / 4) done d (addresses d rs) (omega arith) (omega arith) (whole_end start (down r.1) done) (rising-addresses d rs)
+
+from_rising : (low : ℕ) (xs : List ℕ) (j d : ℕ) → Rising low xs → j < length xs → low ≤ get_or xs j d
+from_rising low [] j d r lt = absurd (omega (arith, lt))
+from_rising low (x ∷ xs) zero d r lt = r.0
+from_rising low (x ∷ xs) (suc j) d r lt = let h = from_rising (x + 1) xs j d r.1 (omega (arith, lt)) in let a = r.0 in omega (arith, h, a)
+
+ascend : (low : ℕ) (xs : List ℕ) → Rising low xs → AllPairs (λ a b. a < b) xs
+ascend low [] r i j d lt le = absurd (omega (arith, le))
+ascend low (x ∷ xs) r zero zero d lt le = absurd (omega (arith, lt))
+ascend low (x ∷ xs) r (suc i) zero d lt le = absurd (omega (arith, lt))
+ascend low (x ∷ xs) r zero (suc j) d lt le = let h = from_rising (x + 1) xs j d r.1 (omega (arith, le)) in omega (arith, h)
+ascend low (x ∷ xs) r (suc i) (suc j) d lt le = ascend (x + 1) xs r.1 i j d (omega (arith, lt)) (omega (arith, le))
+
+-- ---- the words of one range
+record WordOf (start n a : ℕ) : Type 0 where
+  place : ℕ
+  below : place < n
+  is : a ≡ start + 4 * place
+
+word_later : (start n a : ℕ) → WordOf (start + 4) n a → WordOf start (suc n) a
+word_later start n a w = let b = w.below in let e = w.is in record { place = w.place + 1; below = omega (arith, b); is = omega (arith, e) }
+
+word_source : (start n a : ℕ) → Among a (from_on start n) → WordOf start n a
+word_source start zero a m = absurd m
+word_source start (suc n) a m = ⊎_elim (λ e. record { place = 0; below = omega arith; is = omega (arith, e) }) (λ r. word_later start n a (word_source (start + 4) n a r)) m
+
+word_among : (start n place a : ℕ) → place < n → a ≡ start + 4 * place → Among a (from_on start n)
+word_among start zero place a lt e = absurd (omega (arith, lt))
+word_among start (suc n) zero a lt e = inl (omega (arith, e))
+word_among start (suc n) (suc place) a lt e = inr (word_among (start + 4) n place a (omega (arith, lt)) (omega (arith, e)))
+
+-- the word at an address lies in a range
+abbrev in_one : ℕ → ℕ × ℕ → Bool
+in_one a r = nat_le r.0 a && nat_le (a + 4) r.1
+
+one_parts : (a : ℕ) (r : ℕ × ℕ) → in_one a r ≡ true → (r.0 ≤ a) × (a + 4 ≤ r.1)
+one_parts a r h = let p = and_parts (nat_le r.0 a) (nat_le (a + 4) r.1) h in (leb-true r.0 a p.0, leb-true (a + 4) r.1 p.1)
+
+one_from : (a : ℕ) (r : ℕ × ℕ) → r.0 ≤ a → a + 4 ≤ r.1 → in_one a r ≡ true
+one_from a r from to = and_from (nat_le r.0 a) (nat_le (a + 4) r.1) (le-leb r.0 a from) (le-leb (a + 4) r.1 to)
+
+up_most : (a : ℕ) → a ≤ up a
+up_most a = omega arith
+
+down_most : (a : ℕ) → down a ≤ a
+down_most a = omega arith
+
+placed : (start end a place : ℕ) → a ≡ start + 4 * place → place < (end - start) / 4 → (start ≤ a) × (a + 4 ≤ end)
+placed start end a place e lt = (omega (arith, e), omega (arith, e, lt))
+
+whole_start : (low done : ℕ) → done % 4 ≡ 0 → max (up low) done % 4 ≡ 0
+whole_start low done e = omega (arith, e)
+
+words_in : (a done : ℕ) (r : ℕ × ℕ) → done % 4 ≡ 0 → Among a (words_of done r) → (a % 4 ≡ 0) × (in_one a r ≡ true)
+words_in a done r e m =
+    let start = max (up r.0) done in
+    let w = word_source start ((down r.1 - start) / 4) a m in
+    let p = placed start (down r.1) a w.place w.is w.below in
+    let is = w.is in
+    let z = whole_start r.0 done e in
+    let u = up_most r.0 in
+    let d = down_most r.1 in
+    let s : up r.0 ≤ start = omega arith in
+    let from = p.0 in
+    let to = p.1 in
+    (divides start w.place is z, one_from a r (omega (arith, from, u, s)) (omega (arith, to, d))) where
+      divides : (start place : ℕ) → a ≡ start + 4 * place → start % 4 ≡ 0 → a % 4 ≡ 0
+      divides start place is z = omega (arith, is, z)
+
+up_least : (low a : ℕ) → low ≤ a → a % 4 ≡ 0 → up low ≤ a
+up_least low a l e = omega (arith, l, e)
+
+down_least : (high a : ℕ) → a + 4 ≤ high → a % 4 ≡ 0 → a + 4 ≤ down high
+down_least high a l e = omega (arith, l, e)
+
+down_whole : (high a : ℕ) → a < down high → a % 4 ≡ 0 → a + 4 ≤ down high
+down_whole high a l e = omega (arith, l, e)
+
+place_is : (start a : ℕ) → start ≤ a → start % 4 ≡ 0 → a % 4 ≡ 0 → a ≡ start + 4 * ((a - start) / 4)
+place_is start a l e f = omega (arith, l, e, f)
+
+place_below : (start end a : ℕ) → start ≤ a → a + 4 ≤ end → (a - start) / 4 < (end - start) / 4
+place_below start end a l k = omega (arith, l, k)
+
+in_words : (a done : ℕ) (r : ℕ × ℕ) → done % 4 ≡ 0 → a % 4 ≡ 0 → done ≤ a → r.0 ≤ a → a < down r.1 → Among a (words_of done r)
+in_words a done r e f l from to =
+    let start = max (up r.0) done in
+    let u = up_least r.0 a from f in
+    let s : start ≤ a = omega (arith, u, l) in
+    let z = whole_start r.0 done e in
+    let d = down_whole r.1 a to f in
+    word_among start ((down r.1 - start) / 4) ((a - start) / 4) a (place_below start (down r.1) a s d) (place_is start a s z f)
+
+-- ---- ranges in the order of their starts
+abbrev Starts : ℕ → List (ℕ × ℕ) → Type 0
+Starts low [] = Unit {0}
+Starts low (r ∷ rs) = (low ≤ r.0) × Starts r.0 rs
+
+starts_below : (low a : ℕ) (rs : List (ℕ × ℕ)) → Starts low rs → in_range a rs ≡ true → low ≤ a
+starts_below low a [] s h = absurd (false≢true h)
+starts_below low a (r ∷ rs) s h =
+    let from = s.0 in
+    ⊎_elim
+    (λ x. let p = one_parts a r x in let q = p.0 in omega (arith, from, q))
+    (λ x. let q = starts_below r.0 a rs s.1 x in omega (arith, from, q))
+    (or_cases (in_one a r) (in_range a rs) h)
+
+whole_done : (done high : ℕ) → done % 4 ≡ 0 → max done (down high) % 4 ≡ 0
+whole_done done high e = omega (arith, e)
+
+listed_in : (a done : ℕ) (rs : List (ℕ × ℕ)) → done % 4 ≡ 0 → Among a (addresses done rs) → (a % 4 ≡ 0) × (in_range a rs ≡ true)
+listed_in a done [] e m = absurd m
+listed_in a done (r ∷ rs) e m =
+    let d = max done (down r.1) in
+    ⊎_elim
+    (λ x. let p = words_in a done r e x in (p.0, or_left (in_one a r) (in_range a rs) p.1))
+    (λ x. let p = listed_in a d rs (whole_done done r.1 e) x in (p.0, or_right (in_one a r) (in_range a rs) p.1))
+    (among-either a (words_of done r) (addresses d rs) m)
+
+in_listed : (a done low : ℕ) (rs : List (ℕ × ℕ)) → Starts low rs → done % 4 ≡ 0 → a % 4 ≡ 0 → done ≤ a → in_range a rs ≡ true → Among a (addresses done rs)
+in_listed a done low [] s e f l h = absurd (false≢true h)
+in_listed a done low (r ∷ rs) s e f l h =
+    ⊎_elim
+    (λ lt. among-left a (words_of done r) (addresses (max done (down r.1)) rs) (in_words a done r e f l from (omega (arith, lt, l))))
+    (λ le. among-right a (words_of done r) (addresses (max done (down r.1)) rs) (in_listed a (max done (down r.1)) r.0 rs s.1 (whole_done done r.1 e) f le (later le)))
+    (cases_lt a (max done (down r.1)))
+  where
+    from : r.0 ≤ a
+    from = ⊎_elim (λ x. (one_parts a r x).0) (λ x. starts_below r.0 a rs s.1 x) (or_cases (in_one a r) (in_range a rs) h)
+
+    later : max done (down r.1) ≤ a → in_range a rs ≡ true
+    later le =
+        ⊎_elim
+        (λ x. let p = one_parts a r x in let d = down_least r.1 a p.1 f in absurd (omega (arith, le, d)))
+        (λ x. x)
+        (or_cases (in_one a r) (in_range a rs) h)
+
+-- ---- ranges that are sorted
+starts_from : (low : ℕ) (rs : List CodeRange) → ((d : CodeRange) → 0 < length rs → low ≤ (get_or rs 0 d).start) → IsNonDecreasingBy (λ r. r.start) rs → Starts low (spans rs)
+starts_from low [] l sorted = tt
+starts_from low (r ∷ rs) l sorted = (
+  l r (omega arith),
+  starts_from r.start rs (λ d lt. sorted 0 1 d (omega arith) (omega (arith, lt))) (λ i j d le lt. sorted (suc i) (suc j) d (omega (arith, le)) (omega (arith, lt))),
+)
+
+any_range : (a : ℕ) (rs : List CodeRange) → in_range a (spans rs) ≡ list_any (λ r. in_one a (span r)) rs
+any_range a [] = refl
+any_range a (r ∷ rs) = ap (λ b. in_one a (span r) || b) (any_range a rs)
+
+same_range : (a : ℕ) (xs ys : List CodeRange) → IsPermutation xs ys → in_range a (spans xs) ≡ in_range a (spans ys)
+same_range a xs ys moved = any_range a xs ∙ list_any-IsPermutation (λ r. in_one a (span r)) xs ys moved ∙ sym (any_range a ys)
+
+-- ---- so they are the words of the file
+module _ (f : ElfFile) (xs ys : List CodeRange) (e : spans xs ≡ ranges_of f) (moved : IsPermutation xs ys) (sorted : IsNonDecreasingBy (λ r. r.start) ys) where
+  same : (a : ℕ) → in_range a (spans ys) ≡ in_range a (ranges_of f)
+  same a = sym (same_range a xs ys moved) ∙ ap (in_range a) e
+
+  starts : Starts 0 (spans ys)
+  starts = starts_from 0 ys (λ d lt. omega arith) sorted
+
+  all_words : AreWordAddresses f (addresses 0 (spans ys))
+  all_words = record {
+    ascend = ascend 0 (addresses 0 (spans ys)) (rising-addresses 0 (spans ys));
+    all = λ a. (
+      (λ c. let p = listed_in a 0 (spans ys) refl (among_of a (addresses 0 (spans ys)) c) in and_from (a % 4 == 0) (in_range a (ranges_of f)) (eq-eqb (a % 4) 0 p.0) (sym (same a) ∙ p.1)),
+      (λ h. let p = and_parts (a % 4 == 0) (in_range a (ranges_of f)) h in contains_of a (addresses 0 (spans ys)) (in_listed a 0 0 (spans ys) starts refl (eqb-true (a % 4) 0 p.0) (omega arith) (same a ∙ p.1))),
+    );
+  }
+
+  pub is_listing : (text : List ℕ) → text ≡ lines (word_at f) (addresses 0 (spans ys)) → IsListing f text
+  is_listing text is = record { addresses = addresses 0 (spans ys); all = all_words; is = is }

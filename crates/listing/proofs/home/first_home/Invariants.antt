@@ -1,0 +1,9 @@
+use Rattle.std.proofs.Common.{◌≡◌, drop}
+use Rattle.qed_model.specs.Machine.Loading.{load_segments}
+use Rattle.code_ranges.specs.Ranges.{span}
+use Rattle.listing.specs.Homes.{is_held}
+use Rattle.listing.proofs.home.first_home.Given as goal
+
+-- the rest decides
+abbrev pub invariant-loop-segment : goal.invariant-loop-segment
+invariant-loop-segment l = is_held (span l.range) (load_segments (drop l.segment-index l.segments)) ≡ is_held (span l.range) (load_segments l.segments)

@@ -1,0 +1,33 @@
+-- The segments in which code ranges lie, and their words.
+use Rattle.std.specs.Prelude.{◌≡◌, ℕ, ◌+◌, ◌-◌, ◌*◌, ◌^◌, ◌≤◌, ◌&&◌, ◌||◌, nat_le, Bool, true, false, List, [], ◌∷◌, slice_index, Contains}
+use Rattle.elf_types.specs.declared.file.Segment.{Segment}
+use Rattle.qed_model.specs.Machine.Program.{LoadSegment}
+use Rattle.qed_model.specs.Machine.Loading.{load_segment, load_segments}
+use Rattle.qed_model.specs.Machine.Cells.{number_among}
+
+-- a range, by its first address and the one behind its last, lies wholly inside a segment
+abbrev pub holds_range : LoadSegment → ℕ × ℕ → Bool
+holds_range l r = nat_le l.address r.0 && nat_le r.1 (l.address + l.size)
+
+-- it lies inside one of them
+abbrev pub is_held : ℕ × ℕ → List LoadSegment → Bool
+is_held r [] = false
+is_held r (l ∷ ls) = holds_range l r || is_held r ls
+
+pub record IsHeld (ls : List LoadSegment) (r : ℕ × ℕ) : Type 0 where
+  pub is : is_held r ls ≡ true
+
+-- a segment is loaded, fits into memory, and the range lies in it
+pub record IsHome (ss : List Segment) (r : ℕ × ℕ) (s : Segment) : Type 0 where
+  pub loaded : Contains (load_segments ss) (load_segment s)
+  pub from : s.address ≤ r.0
+  pub to : r.1 ≤ s.address + s.memory
+  pub fit : s.address + s.memory ≤ 2 ^ 64
+
+-- the word of the loaded image at an address
+abbrev pub image_word : List LoadSegment → ℕ → ℕ
+image_word ls a = number_among ls a 4
+
+-- the word that a segment has at an address: its bytes from there on, and zeros behind them
+abbrev pub word_in : LoadSegment → ℕ → ℕ
+word_in l a = let k = a - l.address in slice_index l.bytes k + 256 * (slice_index l.bytes (k + 1) + 256 * (slice_index l.bytes (k + 2) + 256 * slice_index l.bytes (k + 3)))

@@ -1,0 +1,63 @@
+//! The segments that have the code words.
+ghost use Rattle.std.specs.Prelude.{◌≡◌, ◌+◌, ◌≤◌, ◌^◌, true, false, Contains, MatchOption, slice_index};
+ghost use Rattle.qed_model.specs.Machine.Apart.{AllFitMemory};
+ghost use Rattle.qed_model.specs.Machine.Loading.{load_segment, load_segments};
+ghost use Rattle.code_ranges.specs.Ranges.{span};
+ghost use Rattle.listing.specs.Homes.{holds_range, is_held, IsHeld, IsHome, word_in};
+
+use code_ranges::CodeRange;
+use elf_types::Segment;
+
+/// Whether a range lies wholly inside a segment.
+fn holds(segment: &Segment, range: CodeRange) -> bool
+    ensures { result ≡ holds_range (load_segment segment.now) (span range) }
+{
+    segment.address <= range.start && range.end() <= segment.end()
+}
+
+/// The first loaded segment in which a range lies.
+fn first_home<'a>(segments: &'a [Segment], range: CodeRange) -> Option<&'a Segment>
+    ensures { MatchOption result (is_held (span range) (load_segments segments.now) ≡ false) (λ s. Contains segments.now s.now × (s.now.kind ≡ 1) × (holds_range (load_segment s.now) (span range) ≡ true)) }
+{
+    for segment in segments {
+        if segment.is_load() && holds(segment, range) {
+            return Some(segment);
+        }
+    }
+    None
+}
+
+/// The loaded segment in which a range lies.
+pub fn home<'a>(segments: &'a [Segment], range: CodeRange) -> &'a Segment
+    requires fit { AllFitMemory (load_segments segments.now) }
+    requires held { IsHeld (load_segments segments.now) (span range) }
+    ensures { IsHome segments.now (span range) result.now }
+{
+    let Some(segment) = first_home(segments, range) else {
+        unreachable!();
+    };
+    segment
+}
+
+/// The byte at a place, where zeros follow the bytes.
+fn byte_at(bytes: &[u8], place: usize) -> u8
+    ensures { result ≡ slice_index bytes.now place }
+{
+    if place < bytes.len() { bytes[place] } else { 0 }
+}
+
+/// The word that a segment has at an address.
+pub fn word_in(segment: &Segment, address: u64) -> u32
+    requires above { segment.now.address ≤ address }
+    requires small { address + 4 ≤ 2 ^ 64 }
+    ensures { result ≡ word_in (load_segment segment.now) address }
+{
+    let place = (address - segment.address) as usize;
+    let bytes = segment.bytes.as_slice();
+    let first = byte_at(bytes, place);
+    let second = byte_at(bytes, place + 1);
+    let third = byte_at(bytes, place + 2);
+    let fourth = byte_at(bytes, place + 3);
+    u32::from(first)
+        + 256 * (u32::from(second) + 256 * (u32::from(third) + 256 * u32::from(fourth)))
+}

@@ -1,0 +1,5 @@
+//! Tests of the listing of files that were read.
+#![tactic(auto)]
+
+#[cfg(test)]
+mod lines;
