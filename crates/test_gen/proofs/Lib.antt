@@ -3,3 +3,7 @@ pub mod Words
 pub mod Functions
 pub mod Sizes
 pub mod Writable
+pub mod Plain
+pub mod Stands
+pub mod Shape
+pub mod Admitted

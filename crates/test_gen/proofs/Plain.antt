@@ -1,0 +1,171 @@
+-- Each instruction of a generated test has a word, names no register above x13, and is neither EBREAK nor AUIPC.
+use Rattle.std.proofs.Common.{◌≡◌, ℕ, zero, suc, ◌+◌, ◌*◌, ◌/◌, ◌%◌, ◌^◌, ◌<◌, ◌≤◌, Bool, true, false, ◌||◌, List, [], ◌∷◌, Some, None, refl, ap, ◌∙◌, arith}
+use Rattle.std.specs.Prelude.{ℤ, pos, negsuc, ◌-ℤ◌, ◌≤ℤ◌, is_none, is_some, nat_le, slice_index, slice_index_or, if◌then◌else◌}
+use Rattle.std.specs.List.{list_all}
+use Rattle.std.specs.Option.{option_or}
+use Rattle.std.proofs.lemmas.Bool.{and_parts, and_from, leb-true, lt-ltb, le-ltb}
+use Rattle.std.proofs.lemmas.Int.{ints}
+use Rattle.rv_isa.specs.declared.ins.Ins.{Ins}
+use Rattle.rv_isa.specs.declared.kind.Kind.{Kind}
+use Rattle.rv_isa.specs.declared.kind.Kind.TheVariants.{Add, Sub, Xor, Mul, Divu, Addi, Ld, Sd}
+use Rattle.rv_isa.specs.Kind.{class_of, writes_rd, reads_rs1, reads_rs2}
+use Rattle.rv_isa.specs.Ins.{nop, named}
+use Rattle.qed_model.specs.Below.{each, gather}
+use Rattle.qed_model.specs.Machine.Table.{R, ins, fits_signed, word_of, encode_of}
+use Rattle.qed_model.specs.Admission.Terms.{if_high, high_register}
+use Rattle.qed_model.specs.Admission.Rules.{is_ebreak}
+use Rattle.qed_model.specs.Weave.Sequences.{is_auipc}
+use Rattle.qed_model.proofs.Pairs.{Every, every-append}
+use Rattle.qed_model.proofs.Reach.{has_word, is_some-some_if, addi_word}
+use Rattle.test_gen.specs.Random.{random_word}
+use Rattle.test_gen.specs.Code.{body_registers, register_from, body_forms, body_instruction, return, function, main, code}
+
+-- what each instruction is
+pub record IsPlain (i : Ins) : Type 0 where
+  pub word : has_word i ≡ true
+  pub low : is_none (high_register i) ≡ true
+  pub kind : (is_ebreak i.kind || is_auipc i.kind) ≡ false
+
+-- ---- registers
+low_named : (b : Bool) (r : ℕ) → r ≤ 13 → if_high (named b r) ≡ None
+low_named true zero h = refl
+low_named true (suc r) h = ap (λ t. if t then Some (suc r) else None) (le-ltb 13 (suc r) h)
+low_named false r h = refl
+
+low_registers : (i : Ins) → i.rd ≤ 13 → i.rs1 ≤ 13 → i.rs2 ≤ 13 → is_none (high_register i) ≡ true
+low_registers i d a b =
+    let write = low_named (writes_rd (class_of i.kind)) i.rd d in
+    let first = low_named (reads_rs1 (class_of i.kind) i.kind) i.rs1 a in
+    let second = low_named (reads_rs2 (class_of i.kind) i.kind) i.rs2 b in
+    λ n. is_none (option_or (write n) (option_or (first n) (second n)))
+
+-- those of a list
+low_index : (xs : List ℕ) (k : ℕ) → list_all (λ x. nat_le x 13) xs ≡ true → slice_index xs k ≤ 13
+low_index [] k e = omega arith
+low_index (x ∷ xs) zero e = leb-true x 13 (and_parts (nat_le x 13) (list_all (λ y. nat_le y 13) xs) e).0
+low_index (x ∷ xs) (suc k) e = low_index xs k (and_parts (nat_le x 13) (list_all (λ y. nat_le y 13) xs) e).1
+
+low_body : (place word : ℕ) → register_from place word ≤ 13
+low_body place word = low_index body_registers (word / 2 ^ place % 7) refl
+
+-- ---- the forms of body instructions
+-- a number of 12 bits
+signed_12 : (z : ℤ) → negsuc 2047 ≤ℤ z → z ≤ℤ pos 2047 → fits_signed 12 z ≡ true
+signed_12 (pos x) l h = lt-ltb x 2048 (omega (arith, ints, h))
+signed_12 (negsuc x) l h = lt-ltb x 2048 (omega (arith, ints, l))
+
+-- three registers
+word_three : (k : Kind) (m d a b : ℕ) → d ≤ 13 → a ≤ 13 → b ≤ 13 → is_some (word_of R m (ins k d a b (pos 0))) ≡ true
+unfolding word_of
+word_three k m d a b x y z = is_some-some_if _ _ ∙ and_from _ _ (lt-ltb d 32 (omega (arith, x))) (and_from _ _ (lt-ltb a 32 (omega (arith, y))) (and_from _ _ (lt-ltb b 32 (omega (arith, z))) refl))
+
+load_word : (d m : ℕ) → d ≤ 13 → m < 256 → has_word (ins Ld d 2 0 (pos (8 * m))) ≡ true
+unfolding encode_of word_of
+load_word d m x h = is_some-some_if _ _ ∙ and_from _ _ (lt-ltb d 32 (omega (arith, x))) (lt-ltb (8 * m) 2048 (omega (arith, h)))
+
+store_word : (b m : ℕ) → b ≤ 13 → m < 256 → has_word (ins Sd 0 2 b (pos (8 * m))) ≡ true
+unfolding encode_of word_of
+store_word b m x h = is_some-some_if _ _ ∙ and_from _ _ (lt-ltb b 32 (omega (arith, x))) (lt-ltb (8 * m) 2048 (omega (arith, h)))
+
+forms_plain : (d a b m : ℕ) → d ≤ 13 → a ≤ 13 → b ≤ 13 → m < 256 → Every IsPlain (body_forms d a b m)
+unfolding encode_of
+forms_plain d a b m x y z h =
+    let low = λ (k : Kind). low_registers (ins k d a b (pos 0)) x y z in (
+      record { word = word_three Add 0x33 d a b x y z; low = low Add; kind = refl },
+      (
+        record { word = word_three Sub 0x40000033 d a b x y z; low = low Sub; kind = refl },
+        (
+          record { word = word_three Xor 0x4033 d a b x y z; low = low Xor; kind = refl },
+          (
+            record { word = word_three Mul 0x2000033 d a b x y z; low = low Mul; kind = refl },
+            (
+              record { word = addi_word d a (pos m -ℤ pos 128) (omega (arith, x)) (omega (arith, y)) (signed_12 (pos m -ℤ pos 128) (omega (arith, ints)) (omega (arith, ints, h))); low = low_registers (ins Addi d a 0 (pos m -ℤ pos 128)) x y (omega arith); kind = refl },
+              (
+                record { word = word_three Divu 0x2005033 d a b x y z; low = low Divu; kind = refl },
+                (
+                  record { word = load_word d m x h; low = low_registers (ins Ld d 2 0 (pos (8 * m))) x (omega arith) (omega arith); kind = refl },
+                  (record { word = store_word b m z h; low = low_registers (ins Sd 0 2 b (pos (8 * m))) (omega arith) (omega arith) z; kind = refl }, tt),
+                ),
+              ),
+            ),
+          ),
+        ),
+      ),
+    )
+
+-- ---- lists
+every_index : {A : Type 0} (P : A → Type 0) (xs : List A) (k : ℕ) (d : A) → Every P xs → P d → P (slice_index_or xs k d)
+every_index P [] k d h e = e
+every_index P (x ∷ xs) zero d h e = h.0
+every_index P (x ∷ xs) (suc k) d h e = every_index P xs k d h.1 e
+
+every_each : {A : Type 0} (P : A → Type 0) (n : ℕ) (f : ℕ → A) → ((i : ℕ) → P (f i)) → Every P (each n f)
+unfolding each
+every_each P zero f h = tt
+every_each P (suc n) f h = every-append P (each n f) (f n ∷ []) (every_each P n f h) (h n, tt)
+
+every_gather : {A : Type 0} (P : A → Type 0) (n : ℕ) (f : ℕ → List A) → ((i : ℕ) → Every P (f i)) → Every P (gather n f)
+unfolding gather
+every_gather P zero f h = tt
+every_gather P (suc n) f h = every-append P (gather n f) (f n) (every_gather P n f h) (h n)
+
+-- ---- the code
+nop_plain : IsPlain nop
+unfolding encode_of word_of
+nop_plain = record { word = refl; low = refl; kind = refl }
+
+body_plain : (word : ℕ) → IsPlain (body_instruction word)
+unfolding body_instruction
+body_plain word =
+    every_index IsPlain (body_forms (register_from 8 word) (register_from 16 word) (register_from 24 word) (word / 2 ^ 32 % 256)) (word % 8) nop
+    (forms_plain (register_from 8 word) (register_from 16 word) (register_from 24 word) (word / 2 ^ 32 % 256) (low_body 8 word) (low_body 16 word) (low_body 24 word) (omega arith))
+    nop_plain
+
+function_plain : (seed i : ℕ) → Every IsPlain (function seed i)
+unfolding function encode_of word_of
+function_plain seed i =
+    every-append IsPlain (each 32 (λ k. body_instruction (random_word seed (32 * i + k)))) (return ∷ [])
+    (every_each IsPlain 32 (λ k. body_instruction (random_word seed (32 * i + k))) (λ k. body_plain (random_word seed (32 * i + k))))
+    (record { word = refl; low = refl; kind = refl }, tt)
+
+main_plain : (n : ℕ) → n ≤ 1875 → Every IsPlain (main n)
+unfolding main encode_of word_of
+main_plain n h = (
+  record { word = refl; low = refl; kind = refl },
+  (
+    record { word = refl; low = refl; kind = refl },
+    (
+      record { word = refl; low = refl; kind = refl },
+      (
+        record { word = addi_word 9 0 (pos n) (omega arith) (omega arith) (lt-ltb n 2048 (omega (arith, h))); low = refl; kind = refl },
+        (
+          record { word = refl; low = refl; kind = refl },
+          (
+            record { word = refl; low = refl; kind = refl },
+            (
+              record { word = refl; low = refl; kind = refl },
+              (
+                record { word = refl; low = refl; kind = refl },
+                (
+                  record { word = refl; low = refl; kind = refl },
+                  (
+                    record { word = refl; low = refl; kind = refl },
+                    (
+                      record { word = refl; low = refl; kind = refl },
+                      (record { word = refl; low = refl; kind = refl }, tt),
+                    ),
+                  ),
+                ),
+              ),
+            ),
+          ),
+        ),
+      ),
+    ),
+  ),
+)
+
+-- all of it
+pub code_plain : (seed n : ℕ) → n ≤ 1875 → Every IsPlain (code seed n)
+unfolding code
+code_plain seed n h = every-append IsPlain (main n) (gather n (function seed)) (main_plain n h) (every_gather IsPlain n (function seed) (function_plain seed))
