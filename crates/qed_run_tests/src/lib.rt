@@ -10,6 +10,8 @@ mod generated;
 #[cfg(test)]
 mod lines;
 #[cfg(test)]
+mod listed;
+#[cfg(test)]
 mod machine;
 #[cfg(test)]
 mod mirrors;

@@ -6,6 +6,7 @@ use Rattle.qed_io.specs.Sink.{AppendsPart}
 use Rattle.qed_io.specs.Files.{Files, file_bytes}
 use Rattle.qed_io.specs.Counts.{Rose, RoseAt, NoneFell}
 use Rattle.qed_model.specs.declared.change.Change.{Change}
+use Rattle.elf_types.specs.declared.file.ElfFile.{ElfFile}
 use Rattle.qed_model.specs.declared.limits.Limit as limits
 use Rattle.qed_model.specs.declared.options.Options.{Options}
 use Rattle.qed_model.specs.declared.order.Order.{Order}
@@ -21,9 +22,11 @@ use Rattle.qed_top.specs.Refused.{error_status, refusal_status}
 use Rattle.qed_top.specs.Makes.{Makes, refused, made, Delivers, TellsPlan}
 use Rattle.qed_top.specs.Run.{memory_bytes, outcome_status, run_of, FileRuns, too_large, ran, Runs, unread, run}
 use Rattle.qed_model.specs.Options.{default_options}
+use Rattle.qed_top.specs.List.{FileLists, Lists}
+use Rattle.qed_top.specs.List as lists
 use Rattle.qed_top.specs.Gen.{Generates, test_bytes}
 use Rattle.qed_top.specs.Orders.{AnswersOver, IsUsage, OrderCallsFor, WordsCallFor, source_limit, source_name, stored_name}
-use Rattle.qed_top.specs.Ends.{OverFiles, Call, load_rose, store_rose, sink_rose, KeepsShelf, IsAnswered, EndsOver, Ends, TransformDecides, RunDecides, Decided, DecidesOver, OrderDecides, Decides, NoFault, IsComplete}
+use Rattle.qed_top.specs.Ends.{OverFiles, Call, load_rose, store_rose, sink_rose, KeepsShelf, IsAnswered, EndsOver, Ends, TransformDecides, ReadDecides, ran_status, Decided, DecidesOver, OrderDecides, Decides, NoFault, IsComplete}
 use Rattle.qed_top.specs.Ends as decide
 use Rattle.qed_top.specs.declared.answer.Answer.{Answer}
 use Rattle.qed_top.specs.declared.answer.Stored.{Stored}
@@ -101,13 +104,21 @@ runs_printed : (bytes : List ℕ) (steps : ℕ) (changes : List Change) (dump : 
 runs_printed bytes steps changes dump answer (unread u) = prints (error_status u.error) answer (refusal_printed (error_status u.error) (error_refuses u.error)) u.plain.status
 runs_printed bytes steps changes dump answer (run r) = file_printed r.file steps changes dump answer r.runs
 
+file_listed_printed : (file : _) (answer : Answer) → FileLists file answer → Printed answer.status
+file_listed_printed file answer (lists.list_too_large over plain) = prints Limit answer tt plain.status
+file_listed_printed file answer (lists.listed small p) = prints Done answer tt p.plain.status
+
+lists_printed : (bytes : List ℕ) (answer : Answer) → Lists bytes answer → Printed answer.status
+lists_printed bytes answer (lists.list_unread u) = prints (error_status u.error) answer (refusal_printed (error_status u.error) (error_refuses u.error)) u.plain.status
+lists_printed bytes answer (lists.list_read r) = file_listed_printed r.file answer r.lists
+
 over_printed : (order : Order) (bytes : List ℕ) (answer : Answer) → AnswersOver order bytes answer → Printed answer.status
 over_printed (Transform input output o) bytes answer m = makes_printed bytes o (Delivers output) answer (λ file p d. delivered_done output file p answer d) m
 over_printed (Plan input o) bytes answer m = makes_printed bytes o TellsPlan answer (λ file p t. told_done file p answer t) m
 over_printed (Run file steps changes dump) bytes answer m = runs_printed bytes steps changes dump answer m
 over_printed (Campaign input o seed count changes) bytes answer m = prints Usage answer tt m.status
 over_printed (Gen output seed size) bytes answer m = makes_printed (test_bytes seed size) default_options (Generates output seed size) answer (λ file p g. g.status) m
-over_printed (order.List file) bytes answer m = prints Usage answer tt m.status
+over_printed (order.List file) bytes answer m = lists_printed bytes answer m
 over_printed (Asm text output) bytes answer m = prints Usage answer tt m.status
 over_printed (Harts files turns steps) bytes answer m = prints Usage answer tt m.status
 
@@ -205,17 +216,17 @@ transform_unique bytes o s t (decide.refused e c k a) (decide.done f b) = absurd
 transform_unique bytes o s t (decide.done f a) (decide.refused e c k b) = absurd (k (memory_only bytes o e c f))
 transform_unique bytes o s t (decide.done f a) (decide.done g b) = a ∙ sym b
 
--- and under `run`
-run_unique : (bytes : List ℕ) (n : ℕ) (cs : List Change) (s t : Status) → RunDecides bytes n cs s → RunDecides bytes n cs t → s ≡ t
-run_unique bytes n cs s t (decide.unread e x a) (decide.unread d y b) = a ∙ ap error_status (same_refusal bytes e d x y) ∙ sym b
-run_unique bytes n cs s t (decide.unread e x a) (decide.too_large g y l b) = absurd (read_or_refused bytes g e y x)
-run_unique bytes n cs s t (decide.unread e x a) (decide.ran g y l b) = absurd (read_or_refused bytes g e y x)
-run_unique bytes n cs s t (decide.too_large f x k a) (decide.unread d y b) = absurd (read_or_refused bytes f d x y)
-run_unique bytes n cs s t (decide.too_large f x k a) (decide.too_large g y l b) = a ∙ sym b
-run_unique bytes n cs s t (decide.too_large f x k a) (decide.ran g y l b) = let same = ap (λ h. memory_bytes h.segments) (one_file bytes f g x.file y.file) in absurd (omega (arith, k, l, same))
-run_unique bytes n cs s t (decide.ran f x k a) (decide.unread d y b) = absurd (read_or_refused bytes f d x y)
-run_unique bytes n cs s t (decide.ran f x k a) (decide.too_large g y l b) = let same = ap (λ h. memory_bytes h.segments) (one_file bytes f g x.file y.file) in absurd (omega (arith, k, l, same))
-run_unique bytes n cs s t (decide.ran f x k a) (decide.ran g y l b) = a ∙ ap (λ h. outcome_status (run_of h n cs).state.outcome) (one_file bytes f g x.file y.file) ∙ sym b
+-- and under a command that takes each file that is read
+read_unique : (bytes : List ℕ) (done : ElfFile → Status) (s t : Status) → ReadDecides bytes done s → ReadDecides bytes done t → s ≡ t
+read_unique bytes done s t (decide.unread e x a) (decide.unread d y b) = a ∙ ap error_status (same_refusal bytes e d x y) ∙ sym b
+read_unique bytes done s t (decide.unread e x a) (decide.too_large g y l b) = absurd (read_or_refused bytes g e y x)
+read_unique bytes done s t (decide.unread e x a) (decide.taken g y l b) = absurd (read_or_refused bytes g e y x)
+read_unique bytes done s t (decide.too_large f x k a) (decide.unread d y b) = absurd (read_or_refused bytes f d x y)
+read_unique bytes done s t (decide.too_large f x k a) (decide.too_large g y l b) = a ∙ sym b
+read_unique bytes done s t (decide.too_large f x k a) (decide.taken g y l b) = let same = ap (λ h. memory_bytes h.segments) (one_file bytes f g x.file y.file) in absurd (omega (arith, k, l, same))
+read_unique bytes done s t (decide.taken f x k a) (decide.unread d y b) = absurd (read_or_refused bytes f d x y)
+read_unique bytes done s t (decide.taken f x k a) (decide.too_large g y l b) = let same = ap (λ h. memory_bytes h.segments) (one_file bytes f g x.file y.file) in absurd (omega (arith, k, l, same))
+read_unique bytes done s t (decide.taken f x k a) (decide.taken g y l b) = a ∙ ap done (one_file bytes f g x.file y.file) ∙ sym b
 
 -- what is answered has the status that is decided
 makes_decided :
@@ -226,24 +237,32 @@ makes_decided bytes o Uses answer done (made m) = decide.done (transformable_of 
 
 file_decided :
     (bytes : List ℕ) (file : _) (steps : ℕ) (changes : List Change) (dump : Option (ℕ × ℕ)) (answer : Answer) → IsReadAs bytes file → FileRuns file steps changes dump answer
-    → RunDecides bytes steps changes answer.status
+    → ReadDecides bytes (ran_status steps changes) answer.status
 file_decided bytes file steps changes dump answer read (too_large over plain) = decide.too_large file read over plain.status
-file_decided bytes file steps changes dump answer read (ran small plain) = decide.ran file read small plain.status
+file_decided bytes file steps changes dump answer read (ran small plain) = decide.taken file read small plain.status
 
-runs_decided : (bytes : List ℕ) (steps : ℕ) (changes : List Change) (dump : Option (ℕ × ℕ)) (answer : Answer) → Runs bytes steps changes dump answer → RunDecides bytes steps changes answer.status
+runs_decided : (bytes : List ℕ) (steps : ℕ) (changes : List Change) (dump : Option (ℕ × ℕ)) (answer : Answer) → Runs bytes steps changes dump answer → ReadDecides bytes (ran_status steps changes) answer.status
 runs_decided bytes steps changes dump answer (unread u) = decide.unread u.error u.cause u.plain.status
 runs_decided bytes steps changes dump answer (run r) = file_decided bytes r.file steps changes dump answer r.read r.runs
+
+file_lists_decided : (bytes : List ℕ) (file : _) (answer : Answer) → IsReadAs bytes file → FileLists file answer → ReadDecides bytes (λ f. Done) answer.status
+file_lists_decided bytes file answer read (lists.list_too_large over plain) = decide.too_large file read over plain.status
+file_lists_decided bytes file answer read (lists.listed small p) = decide.taken file read small p.plain.status
+
+lists_decided : (bytes : List ℕ) (answer : Answer) → Lists bytes answer → ReadDecides bytes (λ f. Done) answer.status
+lists_decided bytes answer (lists.list_unread u) = decide.unread u.error u.cause u.plain.status
+lists_decided bytes answer (lists.list_read r) = file_lists_decided bytes r.file answer r.read r.lists
 
 -- an order, over the bytes of its file
 over_settled : (order : Order) (bytes : List ℕ) (answer : Answer) (t : Status) → AnswersOver order bytes answer → DecidesOver order bytes t → answer.status ≡ t
 over_settled (Transform input output o) bytes answer t m d =
     transform_unique bytes o answer.status t (makes_decided bytes o (Delivers output) answer (λ file p x. delivered_done output file p answer x) m) d
 over_settled (Plan input o) bytes answer t m d = transform_unique bytes o answer.status t (makes_decided bytes o TellsPlan answer (λ file p x. told_done file p answer x) m) d
-over_settled (Run file steps changes dump) bytes answer t m d = run_unique bytes steps changes answer.status t (runs_decided bytes steps changes dump answer m) d
+over_settled (Run file steps changes dump) bytes answer t m d = read_unique bytes (ran_status steps changes) answer.status t (runs_decided bytes steps changes dump answer m) d
 over_settled (Campaign input o seed count changes) bytes answer t m d = m.status ∙ sym d
 over_settled (Gen output seed size) bytes answer t m d =
     transform_unique (test_bytes seed size) default_options answer.status t (makes_decided (test_bytes seed size) default_options (Generates output seed size) answer (λ file p g. g.status) m) d
-over_settled (order.List file) bytes answer t m d = m.status ∙ sym d
+over_settled (order.List file) bytes answer t m d = read_unique bytes (λ f. Done) answer.status t (lists_decided bytes answer m) d
 over_settled (Asm text output) bytes answer t m d = m.status ∙ sym d
 over_settled (Harts files turns steps) bytes answer t m d = m.status ∙ sym d
 
@@ -311,6 +330,14 @@ runs_store :
 runs_store bytes steps changes dump stores answer (unread u) r = none_stored answer stores u.plain.stored r
 runs_store bytes steps changes dump stores answer (run x) r = file_store x.file steps changes dump stores answer x.runs r
 
+file_lists_store : (file : _) (stores : List ℕ → Type 0) (answer : Answer) → FileLists file answer → StoreRose answer.stored stores → ⊥
+file_lists_store file stores answer (lists.list_too_large over plain) r = none_stored answer stores plain.stored r
+file_lists_store file stores answer (lists.listed small p) r = none_stored answer stores p.plain.stored r
+
+lists_store : (bytes : List ℕ) (stores : List ℕ → Type 0) (answer : Answer) → Lists bytes answer → StoreRose answer.stored stores → ⊥
+lists_store bytes stores answer (lists.list_unread u) r = none_stored answer stores u.plain.stored r
+lists_store bytes stores answer (lists.list_read x) r = file_lists_store x.file stores answer x.lists r
+
 generated_store :
     (output : List ℕ) (seed size : ℕ) (stores : List ℕ → Type 0) (answer : Answer) → (stores output → ⊥) → (file : List ℕ) (p : plan.Plan) → Generates output seed size file p answer
     → StoreRose answer.stored stores → ⊥
@@ -325,7 +352,7 @@ over_store (Run file steps changes dump) bytes stores answer calm m r = runs_sto
 over_store (Campaign input o seed count changes) bytes stores answer calm m r = none_stored answer stores m.stored r
 over_store (Gen output seed size) bytes stores answer calm m r =
     made_store (test_bytes seed size) default_options (Generates output seed size) stores answer (generated_store output seed size stores answer calm) m r
-over_store (order.List file) bytes stores answer calm m r = none_stored answer stores m.stored r
+over_store (order.List file) bytes stores answer calm m r = lists_store bytes stores answer m r
 over_store (Asm text output) bytes stores answer calm m r = none_stored answer stores m.stored r
 over_store (Harts files turns steps) bytes stores answer calm m r = none_stored answer stores m.stored r
 

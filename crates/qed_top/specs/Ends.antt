@@ -118,20 +118,24 @@ pub data TransformDecides (bytes : List ℕ) (o : Options) (status : Status) : T
   refused : (e : TransformError) → HasCause bytes o e → e ≢ transform.Memory → status ≡ refusal_status e → TransformDecides bytes o status
   done : IsTransformable bytes o → status ≡ Done → TransformDecides bytes o status
 
--- the same of `run`
-pub data RunDecides (bytes : List ℕ) (steps : ℕ) (changes : List Change) (status : Status) : Type 0 where
-  unread : (e : ElfError) → IsRefused bytes e → status ≡ error_status e → RunDecides bytes steps changes status
-  too_large : (f : ElfFile) → IsReadAs bytes f → memory_limit < memory_bytes f.segments → status ≡ Limit → RunDecides bytes steps changes status
-  ran : (f : ElfFile) → IsReadAs bytes f → memory_bytes f.segments ≤ memory_limit → status ≡ outcome_status (run_of f steps changes).state.outcome → RunDecides bytes steps changes status
+-- the same of a command that takes each file that is read and has not too many bytes in memory, with its status of a file
+pub data ReadDecides (bytes : List ℕ) (done : ElfFile → Status) (status : Status) : Type 0 where
+  unread : (e : ElfError) → IsRefused bytes e → status ≡ error_status e → ReadDecides bytes done status
+  too_large : (f : ElfFile) → IsReadAs bytes f → memory_limit < memory_bytes f.segments → status ≡ Limit → ReadDecides bytes done status
+  taken : (f : ElfFile) → IsReadAs bytes f → memory_bytes f.segments ≤ memory_limit → status ≡ done f → ReadDecides bytes done status
+
+-- the status that goes with the end of a run
+abbrev pub ran_status : ℕ → List Change → ElfFile → Status
+ran_status steps changes f = outcome_status (run_of f steps changes).state.outcome
 
 -- the status of an order over the bytes of its file, which are within the limit
 abbrev pub DecidesOver : Order → List ℕ → Status → Type 0
 DecidesOver (Transform input output options) bytes status = TransformDecides bytes options status
 DecidesOver (Plan input options) bytes status = TransformDecides bytes options status
-DecidesOver (Run file steps changes dump) bytes status = RunDecides bytes steps changes status
+DecidesOver (Run file steps changes dump) bytes status = ReadDecides bytes (ran_status steps changes) status
 DecidesOver (Campaign input options seed count changes) bytes status = status ≡ Usage
 DecidesOver (Gen output seed size) bytes status = TransformDecides (test_bytes seed size) default_options status
-DecidesOver (order.List file) bytes status = status ≡ Usage
+DecidesOver (order.List file) bytes status = ReadDecides bytes (λ f. Done) status
 DecidesOver (Asm text output) bytes status = status ≡ Usage
 DecidesOver (Harts files turns steps) bytes status = status ≡ Usage
 

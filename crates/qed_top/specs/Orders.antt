@@ -11,6 +11,7 @@ use Rattle.qed_model.specs.declared.order.Reason.TheVariants.{UnknownCommand}
 use Rattle.qed_model.specs.Text.Usage.{reason_line}
 use Rattle.qed_model.specs.Words.{asked}
 use Rattle.qed_top.specs.Answer.{PrintsOnly, CallsFor}
+use Rattle.qed_top.specs.List.{Lists}
 use Rattle.qed_top.specs.Gen.{Gens}
 use Rattle.qed_top.specs.Makes.{Makes, Delivers, TellsPlan}
 use Rattle.qed_top.specs.Run.{Runs}
@@ -25,13 +26,14 @@ source_name (Plan input options) = Some input
 source_name (Run file steps changes dump) = Some file
 source_name (Campaign input options seed count changes) = None
 source_name (Gen output seed size) = None
-source_name (order.List file) = None
+source_name (order.List file) = Some file
 source_name (Asm text output) = None
 source_name (Harts files turns steps) = None
 
 -- the limit on its bytes
 abbrev pub source_limit : Order → limits.Limit
 source_limit (Run file steps changes dump) = RunFileBytes
+source_limit (order.List file) = RunFileBytes
 source_limit _ = FileBytes
 
 -- the name of the file that an order stores, where there is one
@@ -52,7 +54,7 @@ AnswersOver (Plan input options) bytes answer = Makes bytes options TellsPlan an
 AnswersOver (Run file steps changes dump) bytes answer = Runs bytes steps changes dump answer
 AnswersOver (Campaign input options seed count changes) bytes answer = IsUsage UnknownCommand answer
 AnswersOver (Gen output seed size) bytes answer = Gens output seed size answer
-AnswersOver (order.List file) bytes answer = IsUsage UnknownCommand answer
+AnswersOver (order.List file) bytes answer = Lists bytes answer
 AnswersOver (Asm text output) bytes answer = IsUsage UnknownCommand answer
 AnswersOver (Harts files turns steps) bytes answer = IsUsage UnknownCommand answer
 

@@ -6,6 +6,7 @@ mod answer;
 mod decide;
 mod fault;
 mod generated;
+mod list;
 mod make;
 mod orders;
 mod program;

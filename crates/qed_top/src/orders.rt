@@ -6,6 +6,7 @@ ghost use Rattle.qed_top.specs.Orders.{AnswersOver, IsUsage, source_limit as sou
 
 use crate::answer::{Answer, plain};
 use crate::generated::answer_gen;
+use crate::list::answer_list;
 use crate::make::{answer_plan, answer_transform};
 use crate::run::answer_run;
 use crate::status::Status;
@@ -22,7 +23,8 @@ pub fn source_name(order: &Order) -> Option<&str>
         Order::Plan(input, _) => Some(input.as_str()),
         Order::Run(file, _, _, _) => Some(file.as_str()),
         Order::Campaign(_, _, _, _, _) | Order::Gen(_, _, _) => None,
-        Order::List(_) | Order::Asm(_, _) | Order::Harts(_, _, _) => None,
+        Order::List(file) => Some(file.as_str()),
+        Order::Asm(_, _) | Order::Harts(_, _, _) => None,
     }
 }
 
@@ -31,7 +33,7 @@ pub fn source_limit(order: &Order) -> Limit
     ensures { result ≡ source_limit_of order.now }
 {
     match order {
-        Order::Run(_, _, _, _) => Limit::RunFileBytes,
+        Order::Run(_, _, _, _) | Order::List(_) => Limit::RunFileBytes,
         _ => Limit::FileBytes,
     }
 }
@@ -66,10 +68,11 @@ pub fn answer_order(alloc: Global, order: Order, bytes: &[u8]) -> Result<Answer,
             let answer = answer_gen(alloc, output, seed, size)?;
             Ok(answer)
         }
-        Order::Campaign(_, _, _, _, _)
-        | Order::List(_)
-        | Order::Asm(_, _)
-        | Order::Harts(_, _, _) => {
+        Order::List(_) => {
+            let answer = answer_list(alloc, bytes)?;
+            Ok(answer)
+        }
+        Order::Campaign(_, _, _, _, _) | Order::Asm(_, _) | Order::Harts(_, _, _) => {
             let answer = usage(alloc, Reason::UnknownCommand)?;
             Ok(answer)
         }

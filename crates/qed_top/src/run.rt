@@ -18,7 +18,7 @@ use rv_step::Machine;
 use std::alloc::{AllocError, Global};
 
 /// The memory sizes of the PT_LOAD segments together, in bytes.
-fn memory_size(segments: &[Segment]) -> u128
+pub fn memory_size(segments: &[Segment]) -> u128
     ensures { result ≡ memory_bytes segments.now }
 {
     let mut size = 0;

@@ -1,0 +1,47 @@
+//! What `list` answers.
+ghost use Rattle.std.specs.Prelude.{IfOk};
+ghost use Rattle.qed_model.specs.Machine.Loading.{load_segments};
+ghost use Rattle.qed_model.specs.Machine.Apart.{AllFitMemory, AreApart};
+ghost use Rattle.qed_top.specs.List.{FileLists, Lists};
+
+use crate::answer::{Answer, above_limit, plain};
+use crate::refusal::unread;
+use crate::run::memory_size;
+use crate::status::Status;
+use elf_read::read_elf;
+use elf_types::ElfFile;
+use listing::list_text;
+use qed_model::Limit;
+use qed_model::limits::MAX_MEMORY_BYTES;
+use std::alloc::{AllocError, Global};
+
+/// What `list` answers for a file that was read.
+fn answer_file(alloc: Global, file: &ElfFile) -> Result<Answer, AllocError>
+    requires fit { AllFitMemory (load_segments file.now.segments) }
+    requires apart { AreApart (load_segments file.now.segments) }
+    ensures { IfOk result (FileLists file.now) }
+{
+    let size = memory_size(file.segments.as_slice());
+    if size > u128::from(MAX_MEMORY_BYTES) {
+        let answer = above_limit(alloc, Limit::MemoryBytes, size)?;
+        return Ok(answer);
+    }
+    let text = list_text(alloc, file)?;
+    Ok(plain(Status::Done, text))
+}
+
+/// What `list` answers over the bytes of its file.
+pub fn answer_list(alloc: Global, bytes: &[u8]) -> Result<Answer, AllocError>
+    ensures { IfOk result (Lists bytes.now) }
+{
+    match read_elf(alloc, bytes) {
+        Ok(file) => {
+            let answer = answer_file(alloc, &file)?;
+            Ok(answer)
+        }
+        Err(error) => {
+            let answer = unread(alloc, error)?;
+            Ok(answer)
+        }
+    }
+}
