@@ -5,8 +5,8 @@ ghost use Rattle.qed_model.specs.Words.{behind_dashes as behind_dashes_of, takes
 ghost use Rattle.qed_words.specs.Seen.{seen};
 
 use crate::commands::{is_flag, key_named};
-use crate::parts::split_once;
 use qed_model::{Command, Key};
+use texts::split_once;
 
 /// An argument, with the number of its word.
 #[derive(Clone, Copy, Debug)]

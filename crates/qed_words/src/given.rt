@@ -5,8 +5,8 @@ ghost use Rattle.qed_model.specs.Words.{name_in as name_in_of, files, file as fi
 ghost use Rattle.qed_words.specs.Seen.{seen};
 
 use crate::argument::Argument;
-use crate::number::number;
 use qed_model::Key;
+use texts::number;
 
 fn name_in<'a>(argument: Argument<'a>) -> Option<&'a str>
     ensures { option_copied result ≡ name_in_of (seen argument.entry) }

@@ -1,32 +1,9 @@
 //! The shapes of faults and dumps.
 ghost use Rattle.std.specs.Prelude.{◌≡◌};
-ghost use Rattle.qed_model.specs.Words.{register_numbered, register as register_of, place as place_of, fault as fault_of, dump as dump_of};
+ghost use Rattle.qed_model.specs.Words.{place as place_of, fault as fault_of, dump as dump_of};
 
-use crate::number::{digits, number};
-use crate::parts::split_once;
 use qed_model::{Change, Place};
-use rv_isa::Reg;
-
-/// A register from x1 to x31, from its number.
-fn numbered(number: u64) -> Option<Reg>
-    ensures { result ≡ register_numbered number }
-{
-    match u8::try_from(number) {
-        Ok(number @ 1..=31) => Reg::new(number),
-        _ => None,
-    }
-}
-
-/// A register from x1 to x31, from its number in decimal without leading zeros.
-#[tactic(auto, unfolding(qed_model::specs::Words::register))]
-fn register(text: &[u8]) -> Option<Reg>
-    ensures { result ≡ register_of text.now }
-{
-    match text {
-        [] | [b'0', ..] => None,
-        _ => numbered(digits(10, 2, text)?),
-    }
-}
+use texts::{number, register, split_once};
 
 /// A register, or the address of an aligned word.
 #[tactic(auto, unfolding(qed_model::specs::Words::place))]

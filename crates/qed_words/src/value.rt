@@ -6,10 +6,10 @@ ghost use Rattle.qed_words.specs.Seen.{seen};
 use crate::argument::Argument;
 use crate::commands::keys;
 use crate::given::value_in;
-use crate::number::number;
 use crate::shape::{dump, fault};
 use qed_model::limits::MAX_HALF;
 use qed_model::{Command, Key, Reason};
+use texts::number;
 
 /// Whether a number is in an option's range.
 fn is_in_range(key: Key, number: u64) -> bool

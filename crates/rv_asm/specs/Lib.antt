@@ -1,0 +1,6 @@
+pub mod Lines
+pub mod Heads
+pub mod Operands
+pub mod Given
+pub mod Assembled
+pub mod Named

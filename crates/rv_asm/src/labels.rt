@@ -1,0 +1,75 @@
+//! Labels.
+ghost use Rattle.std.specs.Prelude.{◌≡◌, ◌≤◌, ℕ, List, Option, IfOk, OnOk, Some, None, if◌then◌else◌, length};
+ghost use Rattle.std.specs.Option.{option_or, option_copied};
+ghost use Rattle.std.specs.Str.{bytes_eq};
+ghost use Rattle.rv_asm.specs.Assembled.{label_of};
+ghost use Rattle.rv_asm.specs.Lines.{lines_of};
+ghost use Rattle.rv_asm.specs.Named.{named};
+
+use crate::lines::{label_in, parts};
+use crate::place::Place;
+use std::alloc::{AllocError, Global};
+use std::collections::HashMap;
+
+/// The first definition of a label.
+#[derive(Clone, Copy, Debug)]
+pub struct Label {
+    /// The address of the word that follows it.
+    pub address: u64,
+    /// The number of the line, from 0.
+    pub line: u64,
+}
+
+/// Labels by their names.
+#[derive(Drop)]
+pub struct Labels<'a> {
+    by_name: HashMap<&'a [u8], Label>,
+}
+
+impl<'a> Labels<'a> {
+    /// No label.
+    fn new(alloc: Global) -> Labels<'a>
+        ensures { (q : List ℕ) → named result q ≡ None }
+    {
+        Labels {
+            by_name: HashMap::new(alloc),
+        }
+    }
+
+    /// The label of a name.
+    pub fn find(&self, name: &[u8]) -> Option<Label>
+        ensures { result ≡ named self.now name.now }
+    {
+        self.by_name.get(name).copied()
+    }
+
+    /// Adds a label where none has its name.
+    fn define(&mut self, name: &'a [u8], label: Label) -> Result<(), AllocError>
+        ensures { OnOk result ((q : List ℕ) → named self.new q ≡ option_or (named self.old q) (if bytes_eq q name.now then Some label else None)) }
+    {
+        if self.find(name).is_none() {
+            self.by_name.insert(name, label)?;
+        }
+        Ok(())
+    }
+}
+
+/// The labels of a text's lines, by first words alone.
+pub fn labels_of<'a>(alloc: Global, text: &'a [u8]) -> Result<Labels<'a>, AllocError>
+    requires { length text.now ≤ 67108864 }
+    ensures { IfOk result (λ labels. (q : List ℕ) → named labels q ≡ label_of (lines_of text.now) q) }
+{
+    let mut labels = Labels::new(alloc);
+    let mut place = Place::FIRST;
+    let mut number = 0;
+    for line in text.split(|byte| *byte == b'\n') {
+        let line = parts(line);
+        if let Some(name) = label_in(line.word) {
+            let address = place.address();
+            labels.define(name, Label { address, line: number })?;
+        }
+        place = place.behind(line.head);
+        number += 1;
+    }
+    Ok(labels)
+}

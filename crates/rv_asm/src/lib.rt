@@ -1,0 +1,23 @@
+//! Assembler text to ELF executables: the texts of words, labels, and data words behind `.data`.
+//!
+//! A text assembles to one file or has a first line at fault; the contract of `assemble` says which, both ways.
+#![tactic(auto)]
+
+mod assembly;
+mod error;
+mod file;
+mod given;
+mod heads;
+mod labels;
+mod lines;
+mod operands;
+mod place;
+mod program;
+
+pub use assembly::assemble;
+pub use error::{AsmError, Fault};
+pub use file::file_with;
+pub use program::{Program, program_of};
+
+#[cfg(test)]
+mod tests;
