@@ -6,7 +6,8 @@ use Rattle.elf_types.specs.declared.file.Segment.{Segment}
 use Rattle.elf_types.specs.declared.file.Symbol.{Symbol}
 use Rattle.elf_types.specs.declared.output.OutFile.{OutFile}
 use Rattle.elf_types.specs.declared.output.OutSection.{OutSection}
-use Rattle.elf_types.specs.declared.abi.TheConstants.{PT_LOAD, PF_R, PF_W, PF_X, SHF_WRITE, SHF_ALLOC, SHF_EXECINSTR, STT_NOTYPE, STB_LOCAL, SHN_ABS}
+use Rattle.elf_types.specs.declared.abi.TheConstants.{PF_R, PF_W, PF_X, SHF_WRITE, SHF_ALLOC, SHF_EXECINSTR, STT_NOTYPE, STB_LOCAL, SHN_ABS}
+use Rattle.elf_parts.specs.Parts.{segment, section}
 use Rattle.qed_model.specs.Below.{gather}
 use Rattle.qed_model.specs.Numbers.{number_bytes, bytes_of}
 use Rattle.qed_model.specs.Elf.Layout.{written}
@@ -57,7 +58,7 @@ data_count (line ∷ lines) = if is_data_start (head_in line) then count_by (λ 
 
 -- the place behind lines
 unfoldable pub place_behind : List (List ℕ) → Place
-place_behind lines = record { in_data = has_data_start lines; code = code_count lines; data = data_count lines }
+place_behind lines = record { in_data = has_data_start lines; code_words = code_count lines; data_words = data_count lines }
 
 -- ---- labels
 abbrev pub is_same : List ℕ → Option (List ℕ) → Bool
@@ -118,14 +119,6 @@ unfoldable pub symbols_of : List (List ℕ) → ℕ → List Symbol
 symbols_of lines n = gather n (λ i. symbol_at lines i)
 
 -- ---- the file
--- PT_LOAD, with all its bytes in the file
-abbrev pub segment : ℕ → ℕ → List ℕ → Segment
-segment flags address bytes = record { kind = PT_LOAD; flags = flags; address = address; memory = length bytes; bytes = bytes }
-
--- over a segment
-abbrev pub section : List ℕ → ℕ → Segment → OutSection
-section name flags s = record { name = name; flags = flags; address = s.address; size = s.memory; bytes = [] }
-
 abbrev pub code_segment : List ℕ → Segment
 code_segment code = segment (PF_R + PF_X) 0x10000 (bytes_of code)
 
@@ -137,9 +130,9 @@ values_bytes (value ∷ values) = number_bytes 8 value ++ values_bytes values
 abbrev pub data_segment : List ℕ → Segment
 data_segment values = segment (PF_R + PF_W) 0x20000 (values_bytes values)
 
+-- the data have one where there is data
 abbrev pub segments : List ℕ → List ℕ → List Segment
-segments code [] = code_segment code ∷ []
-segments code (value ∷ values) = code_segment code ∷ data_segment (value ∷ values) ∷ []
+segments code values = if length values == 0 then code_segment code ∷ [] else code_segment code ∷ data_segment values ∷ []
 
 abbrev pub code_section : List ℕ → OutSection
 code_section code = section (codes ".text") (SHF_ALLOC + SHF_EXECINSTR) (code_segment code)
@@ -148,18 +141,15 @@ abbrev pub data_section : List ℕ → OutSection
 data_section values = section (codes ".data") (SHF_ALLOC + SHF_WRITE) (data_segment values)
 
 abbrev pub sections : List ℕ → List ℕ → List OutSection
-sections code [] = code_section code ∷ []
-sections code (value ∷ values) = code_section code ∷ data_section (value ∷ values) ∷ []
+sections code values = if length values == 0 then code_section code ∷ [] else code_section code ∷ data_section values ∷ []
+
+-- the entry is the first code word
+abbrev pub file_from : List Segment → List OutSection → List Symbol → OutFile
+file_from segments sections symbols = record { entry = 0x10000; flags = 0; segments = segments; sections = sections; symbols = symbols }
 
 -- the file of code words, data words and labels
 unfoldable pub file_with : List ℕ → List ℕ → List Symbol → OutFile
-file_with code data_words symbols = record {
-  entry = 0x10000;
-  flags = 0;
-  segments = segments code data_words;
-  sections = sections code data_words;
-  symbols = symbols;
-}
+file_with code values symbols = file_from (segments code values) (sections code values) symbols
 
 -- ---- the whole
 -- no line is at fault
@@ -181,7 +171,7 @@ pub record IsFirstFault (text : List ℕ) (fault : Fault) (n : ℕ) : Type 0 whe
   pub least : 1 ≤ n
   pub inside : n ≤ length (lines_of text)
   pub before : AreFaultless (lines_of text) (n - 1)
-  pub fault : given_at (lines_of text) (n - 1) ≡ Err fault
+  pub found : given_at (lines_of text) (n - 1) ≡ Err fault
 
 -- no line is at fault, and none gives a code word
 pub record HasNoCode (text : List ℕ) : Type 0 where

@@ -23,13 +23,13 @@ max_data = 131072
 -- ---- places
 -- the address of the next code word, or of the next data word behind `.data`
 abbrev pub address_at : Place → ℕ
-address_at p = if p.in_data then 0x20000 + 8 * p.data else 0x10000 + 4 * p.code
+address_at p = if p.in_data then 0x20000 + 8 * p.data_words else 0x10000 + 4 * p.code_words
 
 -- ---- lines
 -- a code word stands before `.data`, and there are at most 16,384
 abbrev pub code_given : Place → Result ℕ Fault → Result Given Fault
 code_given p (Err fault) = Err fault
-code_given p (Ok word) = if nat_lt p.code max_code then Ok (given.Code word) else Err SectionFull
+code_given p (Ok word) = if nat_lt p.code_words max_code then Ok (given.Code word) else Err SectionFull
 
 abbrev pub in_code : Place → Result ℕ Fault → Result Given Fault
 in_code p word = if p.in_data then Err Unrecognized else code_given p word
@@ -37,7 +37,7 @@ in_code p word = if p.in_data then Err Unrecognized else code_given p word
 -- a data word stands behind `.data`, and there are at most 131,072
 abbrev pub data_given : Place → Option ℕ → Result Given Fault
 data_given p None = Err IllegalOperands
-data_given p (Some value) = if nat_lt p.data max_data then Ok (given.Data value) else Err SectionFull
+data_given p (Some value) = if nat_lt p.data_words max_data then Ok (given.Data value) else Err SectionFull
 
 abbrev pub in_data : Place → Option ℕ → Result Given Fault
 in_data p value = if p.in_data then data_given p value else Err Unrecognized

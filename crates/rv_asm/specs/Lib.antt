@@ -4,3 +4,5 @@ pub mod Operands
 pub mod Given
 pub mod Assembled
 pub mod Named
+pub mod Steps
+pub mod Program

@@ -4,7 +4,7 @@ ghost use Rattle.rv_asm.specs.Assembled.{Assembled, IsRefused};
 
 use crate::error::AsmError;
 use crate::file::file_with;
-use crate::program::program_of;
+use crate::program::{Program, program_of};
 use elf_types::Bytes;
 use elf_write::write_elf;
 use std::alloc::Global;
@@ -14,11 +14,15 @@ pub fn assemble(alloc: Global, text: &[u8]) -> Result<Bytes, AsmError>
     requires { length text.now ≤ 67108864 }
     ensures { MatchResult result (λ bytes. Assembled text.now bytes) (λ e. IsRefused text.now e) }
 {
-    let program = program_of(alloc, text)?;
-    if program.code.is_empty() {
+    let Program {
+        code,
+        values,
+        symbols,
+    } = program_of(alloc, text)?;
+    if code.is_empty() {
         return Err(AsmError::NoCode);
     }
-    let file = file_with(alloc, &program.code, &program.data, program.symbols)?;
+    let file = file_with(alloc, &code, &values, symbols)?;
     let bytes = write_elf(alloc, &file)?;
     Ok(bytes)
 }

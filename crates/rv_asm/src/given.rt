@@ -1,12 +1,13 @@
 //! What a line gives.
-ghost use Rattle.std.specs.Prelude.{◌≡◌, ◌<◌, ◌^◌};
-ghost use Rattle.rv_asm.specs.Given.{code_given, data_given, given_by};
+ghost use Rattle.std.specs.Prelude.{◌≡◌, ◌<◌, ◌^◌, unwrap_or, []};
+ghost use Rattle.rv_asm.specs.Given.{in_code as in_code_of, in_data as in_data_of, alone, label_given, is_defined_before, given_by};
+ghost use Rattle.rv_asm.specs.Lines.{label_in as label_in_of};
 ghost use Rattle.rv_asm.specs.Named.{named};
 
 use crate::error::Fault;
 use crate::heads::Head;
 use crate::labels::Labels;
-use crate::lines::{Line, label_in};
+use crate::lines::{Line, label_name};
 use crate::operands::{raw_word_in, word_of};
 use crate::place::Place;
 use texts::number;
@@ -18,7 +19,7 @@ const MAX_CODE: u64 = 16_384;
 const MAX_DATA: u64 = 131_072;
 
 /// What a line gives.
-#[derive(Clone, Copy, Debug, PartialEq, Eq)]
+#[derive(Clone, Copy, Debug)]
 pub enum Given {
     /// An empty line or `.data`.
     Nothing,
@@ -30,47 +31,44 @@ pub enum Given {
     Label,
 }
 
-/// A code word at a place, if there is room.
-fn code(place: Place, word: u32) -> Result<Given, Fault> {
-    if place.code < MAX_CODE {
+/// A code word at a place: it stands before `.data`, and there is room for it.
+fn in_code(place: Place, word: Result<u32, Fault>) -> Result<Given, Fault>
+    ensures { result ≡ in_code_of place word }
+{
+    if place.in_data {
+        return Err(Fault::Unrecognized);
+    }
+    let word = word?;
+    if place.code_words < MAX_CODE {
         Ok(Given::Code(word))
     } else {
         Err(Fault::SectionFull)
     }
 }
 
-/// A line of an instruction, or of a word that is written as a number.
-fn code_line(labels: &Labels, place: Place, line: &Line) -> Result<Given, Fault> {
-    if place.in_data {
-        return Err(Fault::Unrecognized);
-    }
-    let word = match line.head {
-        Head::Instruction(kind) => word_of(labels, place.address(), kind, line.rest)?,
-        _ => raw_word_in(line.rest).ok_or(Fault::IllegalOperands)?,
-    };
-    code(place, word)
-}
-
-/// A line of a data word.
-fn data_line(place: Place, line: &Line) -> Result<Given, Fault> {
+/// A data word at a place: it stands behind `.data`, and there is room for it.
+fn in_data(place: Place, value: Option<u64>) -> Result<Given, Fault>
+    ensures { result ≡ in_data_of place value }
+{
     if !place.in_data {
         return Err(Fault::Unrecognized);
     }
-    let value = number(line.rest).ok_or(Fault::IllegalOperands)?;
-    if place.data < MAX_DATA {
+    let value = value.ok_or(Fault::IllegalOperands)?;
+    if place.data_words < MAX_DATA {
         Ok(Given::Data(value))
     } else {
         Err(Fault::SectionFull)
     }
 }
 
-/// A line of a label.
-fn label_line(labels: &Labels, line_number: u64, line: &Line) -> Result<Given, Fault> {
-    if !line.rest.is_empty() {
+/// A label on a line: nothing follows it, and no earlier line defines it.
+fn label(labels: &Labels, line_number: u64, word: &[u8], rest: &[u8]) -> Result<Given, Fault>
+    ensures { result ≡ alone rest.now (label_given (is_defined_before line_number (named labels.now (unwrap_or (label_in_of word.now) [])))) }
+{
+    if !rest.is_empty() {
         return Err(Fault::IllegalOperands);
     }
-    let name = label_in(line.word).unwrap_or(&[]);
-    match labels.find(name) {
+    match labels.find(label_name(word)) {
         Some(label) if label.line < line_number => Err(Fault::RedefinedLabel),
         _ => Ok(Given::Label),
     }
@@ -84,17 +82,20 @@ pub fn give(
     line_number: u64,
     line: &Line,
 ) -> Result<Given, Fault>
-    requires code { place.code < 2 ^ 32 }
-    requires words { place.data < 2 ^ 32 }
+    requires code { place.code_words < 2 ^ 32 }
+    requires words { place.data_words < 2 ^ 32 }
     ensures { result ≡ given_by (named labels.now) place line_number line.now.head line.now.word.now line.now.rest.now }
 {
     match line.head {
         Head::Blank => Ok(Given::Nothing),
-        Head::Instruction(_) | Head::Word => code_line(labels, place, line),
+        Head::Instruction(kind) => {
+            in_code(place, word_of(labels, place.address(), kind, line.rest))
+        }
+        Head::Word => in_code(place, raw_word_in(line.rest).ok_or(Fault::IllegalOperands)),
         Head::DataStart if line.rest.is_empty() => Ok(Given::Nothing),
         Head::DataStart => Err(Fault::IllegalOperands),
-        Head::DataWord => data_line(place, line),
-        Head::Label => label_line(labels, line_number, line),
+        Head::DataWord => in_data(place, number(line.rest)),
+        Head::Label => label(labels, line_number, line.word, line.rest),
         Head::Unknown => Err(Fault::Unrecognized),
     }
 }

@@ -47,10 +47,13 @@ impl<'a> Labels<'a> {
     fn define(&mut self, name: &'a [u8], label: Label) -> Result<(), AllocError>
         ensures { OnOk result ((q : List ℕ) → named self.new q ≡ option_or (named self.old q) (if bytes_eq q name.now then Some label else None)) }
     {
-        if self.find(name).is_none() {
-            self.by_name.insert(name, label)?;
+        match self.find(name) {
+            Some(_) => Ok(()),
+            None => {
+                self.by_name.insert(name, label)?;
+                Ok(())
+            }
         }
-        Ok(())
     }
 }
 

@@ -1,8 +1,7 @@
 //! Lines and their parts.
-ghost use Rattle.std.specs.Prelude.{◌≡◌, ◌≤◌, MatchOption, None, Some, length, option_map};
-ghost use Rattle.std.specs.Option.{option_copied};
-ghost use Rattle.qed_model.specs.Words.{parted};
-ghost use Rattle.rv_asm.specs.Lines.{trim_start as trim_start_of, trim_end as trim_end_of, trim as trim_of, statement as statement_of, word_end as word_end_of, word_in, rest_in, is_name as is_name_of, label_in as label_in_of, pair_in as pair_in_of, triple_in as triple_in_of, bracketed_in as bracketed_in_of};
+ghost use Rattle.std.specs.Prelude.{◌≡◌, ◌≤◌, MatchOption, None, Some, unwrap_or, [], length};
+ghost use Rattle.std.specs.List.{list_all};
+ghost use Rattle.rv_asm.specs.Lines.{trim_start as trim_start_of, trim_end as trim_end_of, trim as trim_of, statement as statement_of, is_blank as is_blank_of, word_end as word_end_of, word_in, rest_in, begins_name as begins_name_of, continues_name as continues_name_of, is_name as is_name_of, label_in as label_in_of, pair_in as pair_in_of, triple_in as triple_in_of, bracketed_in as bracketed_in_of};
 ghost use Rattle.rv_asm.specs.Heads.{head_of};
 
 use crate::heads::{Head, recognize};
@@ -10,7 +9,7 @@ use texts::split_once;
 
 /// Whether a byte is a space or a tab.
 fn is_blank(byte: u8) -> bool
-    ensures { result ≡ is_blank byte }
+    ensures { result ≡ is_blank_of byte }
 {
     byte == b' ' || byte == b'\t'
 }
@@ -20,12 +19,11 @@ fn is_blank(byte: u8) -> bool
 fn trim_start(text: &[u8]) -> &[u8]
     ensures { result.now ≡ trim_start_of text.now }
 {
-    for place in 0..text.len() {
-        if !is_blank(text[place]) {
-            return text.split_at(place).1;
-        }
+    let mut start = 0;
+    while start < text.len() && is_blank(text[start]) {
+        start += 1;
     }
-    &[]
+    text.split_at(start).1
 }
 
 /// A text without the blanks at the end.
@@ -33,12 +31,11 @@ fn trim_start(text: &[u8]) -> &[u8]
 fn trim_end(text: &[u8]) -> &[u8]
     ensures { result.now ≡ trim_end_of text.now }
 {
-    for end in (1..=text.len()).rev() {
-        if !is_blank(text[end - 1]) {
-            return text.split_at(end).0;
-        }
+    let mut end = text.len();
+    while end > 0 && is_blank(text[end - 1]) {
+        end -= 1;
     }
-    &[]
+    text.split_at(end).0
 }
 
 /// A text without the blanks around it.
@@ -100,6 +97,32 @@ pub fn parts(line: &[u8]) -> Line<'_>
     }
 }
 
+/// Whether a byte is a letter or `_`.
+fn begins_name(byte: u8) -> bool
+    ensures { result ≡ begins_name_of byte }
+{
+    byte.is_ascii_alphabetic() || byte == b'_'
+}
+
+/// Whether a byte is a letter, a digit or `_`.
+fn continues_name(byte: u8) -> bool
+    ensures { result ≡ continues_name_of byte }
+{
+    byte.is_ascii_alphanumeric() || byte == b'_'
+}
+
+/// Whether all bytes are letters, digits or `_`.
+fn are_name_bytes(text: &[u8]) -> bool
+    ensures { result ≡ list_all continues_name_of text.now }
+{
+    for &byte in text {
+        if !continues_name(byte) {
+            return false;
+        }
+    }
+    true
+}
+
 /// Whether a text is the name of a label: a letter or `_`, then letters, digits or `_`.
 #[tactic(auto, unfolding(crate::specs::Lines::is_name))]
 pub fn is_name(text: &[u8]) -> bool
@@ -107,12 +130,7 @@ pub fn is_name(text: &[u8]) -> bool
 {
     match text {
         [] => false,
-        [first, rest @ ..] => {
-            (first.is_ascii_alphabetic() || *first == b'_')
-                && rest
-                    .iter()
-                    .all(|byte| byte.is_ascii_alphanumeric() || *byte == b'_')
-        }
+        [first, rest @ ..] => begins_name(*first) && are_name_bytes(rest),
     }
 }
 
@@ -126,6 +144,16 @@ pub fn label_in(word: &[u8]) -> Option<&[u8]>
         Some(name)
     } else {
         None
+    }
+}
+
+/// The same; of no label where the first word is none.
+pub fn label_name(word: &[u8]) -> &[u8]
+    ensures { result.now ≡ unwrap_or (label_in_of word.now) [] }
+{
+    match label_in(word) {
+        Some(name) => name,
+        None => &[],
     }
 }
 

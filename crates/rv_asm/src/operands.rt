@@ -1,7 +1,9 @@
 //! Operands and words of instructions.
-ghost use Rattle.std.specs.Prelude.{◌≡◌, ◌<◌, ◌^◌, MatchOption, None, Some};
+ghost use Rattle.std.specs.Prelude.{◌≡◌, length};
+ghost use Rattle.qed_model.specs.Machine.Table.{ins, encode_of};
+ghost use Rattle.qed_model.specs.Words.{digits as digits_of};
 ghost use Rattle.rv_asm.specs.Named.{named};
-ghost use Rattle.rv_asm.specs.Operands.{register_in as register_in_of, immediate_in as immediate_in_of, raw_word_in as raw_word_in_of, registers_from, immediate_from, load_from, store_from, upper_from, none_in as none_in_of, target_in as target_in_of, branch_from, jump_from, operands_in as operands_in_of, encoded as encoded_of, word_of as word_of_text};
+ghost use Rattle.rv_asm.specs.Operands.{register_in as register_in_of, immediate_in as immediate_in_of, raw_word_in as raw_word_in_of, registers_from, immediate_from, load_from, store_from, upper_from, none_in as none_in_of, target_in as target_in_of, branch_from, jump_from, operands_in as operands_in_of, upper_imm as upper_imm_of, encoded as encoded_of, word_of as word_of_text};
 ghost use Rattle.rv_asm.specs.Lines.{pair_in as pair_in_of, triple_in as triple_in_of};
 
 use crate::error::Fault;
@@ -57,13 +59,22 @@ fn immediate_in(text: &[u8]) -> Option<i128>
     }
 }
 
+/// The number of 8 hexadecimal digits.
+fn word_of_digits(text: &[u8]) -> Option<u32>
+    requires { length text.now ≡ 8 }
+    ensures { result ≡ digits_of 16 8 text.now }
+{
+    let word = digits(16, 8, text)?;
+    Some(word as u32)
+}
+
 /// A word: `0x` and 8 hexadecimal digits.
 #[tactic(auto, unfolding(crate::specs::Operands::raw_word_in))]
 pub fn raw_word_in(text: &[u8]) -> Option<u32>
     ensures { result ≡ raw_word_in_of text.now }
 {
     match text {
-        [b'0', b'x', rest @ ..] if rest.len() == 8 => u32::try_from(digits(16, 8, rest)?).ok(),
+        [b'0', b'x', rest @ ..] if rest.len() == 8 => word_of_digits(rest),
         _ => None,
     }
 }
@@ -207,7 +218,9 @@ fn operands_in(labels: &Labels, at: u64, form: Form, text: &[u8]) -> Result<Oper
 }
 
 /// The immediate that is encoded, where the upper 20 bits are written.
-fn upper_imm(imm: i128) -> Option<i128> {
+fn upper_imm(imm: i128) -> Option<i128>
+    ensures { result ≡ upper_imm_of imm }
+{
     if imm < 0 || imm >= 1 << 20 {
         None
     } else if imm < 1 << 19 {
@@ -217,22 +230,31 @@ fn upper_imm(imm: i128) -> Option<i128> {
     }
 }
 
+/// The word of an instruction with these registers and an immediate in bytes.
+fn word_with(kind: Kind, operands: &Operands, imm: i128) -> Option<u32>
+    ensures { result ≡ encode_of (ins kind operands.now.rd operands.now.rs1 operands.now.rs2 imm) }
+{
+    match i64::try_from(imm) {
+        Ok(imm) => encode(&Ins {
+            kind,
+            rd: operands.rd,
+            rs1: operands.rs1,
+            rs2: operands.rs2,
+            imm,
+        }),
+        Err(_) => None,
+    }
+}
+
 /// The word of an instruction with these operands, None where the immediate is out of its range or off its grain.
 #[tactic(auto, unfolding(crate::specs::Operands::encoded))]
 fn encoded(kind: Kind, operands: &Operands) -> Option<u32>
     ensures { result ≡ encoded_of kind operands.now }
 {
-    let imm = match form_of(kind) {
-        Form::Upper => upper_imm(operands.imm)?,
-        _ => operands.imm,
-    };
-    encode(&Ins {
-        kind,
-        rd: operands.rd,
-        rs1: operands.rs1,
-        rs2: operands.rs2,
-        imm: i64::try_from(imm).ok()?,
-    })
+    match form_of(kind) {
+        Form::Upper => word_with(kind, operands, upper_imm(operands.imm)?),
+        _ => word_with(kind, operands, operands.imm),
+    }
 }
 
 /// The word of an instruction at an address, or the first fault of its operands.

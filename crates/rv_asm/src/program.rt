@@ -1,8 +1,13 @@
 //! All lines of a text.
-use crate::error::{AsmError, Fault};
+ghost use Rattle.std.specs.Prelude.{◌≡◌, ◌≤◌, ◌++◌, IfOk, MatchResult, OnOk, Ok, [], unwrap_or, length};
+ghost use Rattle.rv_asm.specs.Assembled.{code_in, data_in, symbol_in, symbol as symbol_of, IsRefused};
+ghost use Rattle.rv_asm.specs.Lines.{label_in as label_in_of, lines_of};
+ghost use Rattle.rv_asm.specs.Program.{IsProgram};
+
+use crate::error::AsmError;
 use crate::given::{Given, give};
-use crate::labels::{Labels, labels_of};
-use crate::lines::{Line, label_in, parts};
+use crate::labels::labels_of;
+use crate::lines::{label_name, parts};
 use crate::place::Place;
 use elf_types::abi::{SHN_ABS, STB_LOCAL, STT_NOTYPE};
 use elf_types::{Bytes, Symbol};
@@ -14,16 +19,20 @@ pub struct Program {
     /// Code words.
     pub code: Vec<u32>,
     /// Data words.
-    pub data: Vec<u64>,
+    pub values: Vec<u64>,
     /// Labels, as symbols.
     pub symbols: Vec<Symbol>,
 }
 
 impl Program {
-    fn new(alloc: Global) -> Program {
+    fn new(alloc: Global) -> Program
+        ensures code { result.code.items ≡ [] }
+        ensures words { result.values.items ≡ [] }
+        ensures symbols { result.symbols.items ≡ [] }
+    {
         Program {
             code: Vec::new(alloc),
-            data: Vec::new(alloc),
+            values: Vec::new(alloc),
             symbols: Vec::new(alloc),
         }
     }
@@ -35,11 +44,15 @@ impl Program {
         given: Given,
         word: &[u8],
         address: u64,
-    ) -> Result<(), AllocError> {
+    ) -> Result<(), AllocError>
+        ensures code { OnOk result (self.new.code.items ≡ self.old.code.items ++ code_in (Ok given)) }
+        ensures words { OnOk result (self.new.values.items ≡ self.old.values.items ++ data_in (Ok given)) }
+        ensures symbols { OnOk result (self.new.symbols.items ≡ self.old.symbols.items ++ symbol_in word.now address (Ok given)) }
+    {
         match given {
             Given::Nothing => {}
             Given::Code(word) => self.code.push(word)?,
-            Given::Data(value) => self.data.push(value)?,
+            Given::Data(value) => self.values.push(value)?,
             Given::Label => self.symbols.push(symbol(alloc, word, address)?)?,
         }
         Ok(())
@@ -47,9 +60,11 @@ impl Program {
 }
 
 /// The symbol of the label that a first word defines.
-fn symbol(alloc: Global, word: &[u8], address: u64) -> Result<Symbol, AllocError> {
+fn symbol(alloc: Global, word: &[u8], address: u64) -> Result<Symbol, AllocError>
+    ensures { IfOk result (λ symbol. symbol ≡ symbol_of (unwrap_or (label_in_of word.now) []) address) }
+{
     Ok(Symbol {
-        name: Bytes::copied(alloc, label_in(word).unwrap_or(&[]))?,
+        name: Bytes::copied(alloc, label_name(word))?,
         value: address,
         size: 0,
         kind: STT_NOTYPE,
@@ -60,7 +75,10 @@ fn symbol(alloc: Global, word: &[u8], address: u64) -> Result<Symbol, AllocError
 }
 
 /// What the lines of a text give, or the first line at fault.
-pub fn program_of(alloc: Global, text: &[u8]) -> Result<Program, AsmError> {
+pub fn program_of(alloc: Global, text: &[u8]) -> Result<Program, AsmError>
+    requires { length text.now ≤ 67108864 }
+    ensures { MatchResult result (λ program. IsProgram (lines_of text.now) program) (λ e. IsRefused text.now e) }
+{
     let labels = labels_of(alloc, text)?;
     let mut program = Program::new(alloc);
     let mut place = Place::FIRST;
