@@ -1,6 +1,10 @@
 -- An immediate that does not fit 64 bits has no word.
-use Rattle.std.proofs.Common.{◌≡◌, ℕ, ◌^◌, ◌%◌, Bool, true, false, ◌&&◌, ◌==◌, ltb, Option, Some, None, ℤ, pos, negsuc, refl, ap, ◌∙◌, arith}
+use Rattle.std.proofs.Common.{◌≡◌, ℕ, ◌^◌, ◌%◌, Bool, true, false, ◌&&◌, ◌==◌, ltb, Option, Some, None, ℤ, pos, negsuc, refl, sym, ap, subst, ◌∙◌, arith}
+use Rattle.std.proofs.lemmas.Bool.{ltb-true}
 use Rattle.std.proofs.lemmas.Bool.Decides.{nat_tests}
+use Rattle.std.proofs.lemmas.Int.{ints, to_z-of_z}
+use mir.Val.{SFits, of_z, to_z}
+use mir.Syntax.{w64, w128}
 use Rattle.rv_isa.specs.declared.kind.Kind.{Kind}
 use Rattle.qed_model.specs.Machine.Table.{Format, R, I, H, G, S, B, U, J, N, row_of, ins, fits_signed, fits_below, is_zero, is_reg, to_bits, some_if, word_R, word_I, word_S, word_B, word_U, word_J, word_of, encode_of}
 
@@ -53,3 +57,13 @@ far_in N m k d a b z h = ap (λ t. some_if ((d == 0) && ((a == 0) && ((b == 0) &
 pub far : (k : Kind) (d a b : ℕ) (z : ℤ) → fits_signed 64 z ≡ false → encode_of (ins k d a b z) ≡ None
 unfolding encode_of
 far k d a b z h = far_in (row_of k).format (row_of k).match k d a b z h
+
+near : (z : ℤ) → fits_signed 64 z ≡ true → SFits w64 z
+near (pos x) h = let l = ltb-true x (2 ^ 63) h in omega (arith, ints)
+near (negsuc x) h = let l = ltb-true x (2 ^ 63) h in omega (arith, ints)
+
+-- a number that does not fit the narrower type
+pub not_near : (z : ℤ) → SFits w128 z → (SFits w64 (to_z w128 (of_z w128 z)) → ⊥) → fits_signed 64 z ≡ false
+not_near z wide h =
+    elim (fits_signed 64 z) as (λ b. fits_signed 64 z ≡ b → b ≡ false)
+    [ true ↦ λ e. absurd (h (subst (SFits w64) (sym (to_z-of_z w128 z wide)) (near z e))) | false ↦ λ e. refl ] refl

@@ -5,3 +5,5 @@ pub mod RawWords
 pub mod Room
 pub mod Sound
 pub mod Writable
+pub mod Turns
+pub mod Done

@@ -30,7 +30,7 @@ code_push (x ∷ ls) l =
     [ true ↦ refl | false ↦ omega arith ]
 
 data_push : (ls : List (List ℕ)) (l : List ℕ) → data_count (ls ++ l ∷ []) ≡ data_count ls + data_step (has_data_start ls) (head_in l)
-data_push [] l = elim (is_data_start (head_in l)) as (λ b. cond b 0 0 ≡ 0) [ true ↦ refl | false ↦ refl ]
+data_push [] l = let z : ℕ = 0 in elim (is_data_start (head_in l)) as (λ b. cond b z z ≡ z) [ true ↦ refl | false ↦ refl ]
 data_push (x ∷ ls) l =
     let rest = data_push ls l in
     elim (is_data_start (head_in x)) as (λ b. cond b (count_by (λ k. is_data (head_in k)) (ls ++ l ∷ [])) (data_count (ls ++ l ∷ [])) ≡ cond b (count_by (λ k. is_data (head_in k)) ls) (data_count ls) + data_step (cond b true (has_data_start ls)) (head_in l))

@@ -52,7 +52,8 @@ cost_below lines (suc n) h cheap =
     let rest = cost_below lines n (omega arith) cheap in
     let one = cheap.each n (omega arith) in
     let taken = ap weight (take_more lines n [] (omega arith)) ∙ weight-append (take n lines) (line_at lines n ∷ []) in
-    let same : weight (take (suc n) lines) ≡ weight (take (n + 1) lines) = ap (λ k. weight (take k lines)) (omega arith) in
+    let one_on : suc n ≡ n + 1 = omega arith in
+    let same = ap (λ k. weight (take k lines)) one_on in
     omega (arith, rest, one, taken, same, cost-append (gather n (symbol_at lines)) (symbol_at lines n))
 
 pub cost_all : (text : List ℕ) (p : ℕ → Bool) → IsCheap (slice_split p text) → cost (gather (length (slice_split p text)) (symbol_at (slice_split p text))) ≤ 9 * (length text + 1)

@@ -15,6 +15,7 @@ use Rattle.qed_model.proofs.Fields.{length-number_bytes, length-bytes_of}
 use Rattle.qed_model.proofs.OutputFits.{name_test}
 use Rattle.qed_model.proofs.Pairs.{pairs_all, every_all}
 use Rattle.elf_parts.proofs.Plain.{loadable, not_shared, offset_room, inside_itself, placed, upper}
+use Rattle.elf_write.proofs.Sizes.{length-section_names}
 use Rattle.rv_asm.specs.Lines.{begins_name, continues_name, is_name}
 use Rattle.rv_asm.specs.Assembled.{values_bytes, code_segment, data_segment, segments, code_section, data_section, sections, file_from, file_with}
 use Rattle.rv_asm.proofs.Room.{cost, cost_is}
@@ -99,7 +100,10 @@ plain code values h k =
 -- ---- the file
 small : (ss : List Segment) (xs : List OutSection) (symbols : List Symbol) → ArePlain ss xs → cost symbols ≤ 603979785 → length (written (file_from ss xs symbols)) ≤ 1073741824
 unfolding own_place
-small ss xs symbols p h = omega (arith, upper (file_from ss xs symbols), p.ends, p.short, p.few_sections, ap length p.own, cost_is symbols)
+small ss xs symbols p h =
+    let own : length (own_bytes xs) ≡ 0 = ap length p.own in
+    let place : own_place (file_from ss xs symbols) ≡ end_from (64 + 56 * length ss) ss = refl in
+    omega (arith, upper (file_from ss xs symbols), p.ends, p.short, p.few_sections, own, place, cost_is symbols, length-section_names xs)
 
 plain_writable : (ss : List Segment) (xs : List OutSection) (symbols : List Symbol) → ArePlain ss xs → All IsLabelSymbol symbols → cost symbols ≤ 603979785 → IsWritable (file_from ss xs symbols)
 plain_writable ss xs symbols p all h =

@@ -1,9 +1,9 @@
 //! Labels.
 ghost use Rattle.std.specs.Prelude.{◌≡◌, ◌≤◌, ℕ, List, Option, IfOk, OnOk, Some, None, if◌then◌else◌, length};
-ghost use Rattle.std.specs.Option.{option_or, option_copied};
+ghost use Rattle.std.specs.Option.{option_or};
 ghost use Rattle.std.specs.Str.{bytes_eq};
-ghost use Rattle.rv_asm.specs.Assembled.{label_of};
-ghost use Rattle.rv_asm.specs.Lines.{lines_of};
+ghost use Rattle.rv_asm.specs.Assembled.{is_same, label_of};
+ghost use Rattle.rv_asm.specs.Lines.{label_in as label_in_of, lines_of};
 ghost use Rattle.rv_asm.specs.Named.{named};
 
 use crate::lines::{label_in, parts};
@@ -57,6 +57,16 @@ impl<'a> Labels<'a> {
     }
 }
 
+/// Adds the label that a first word defines, where it defines one and none has its name.
+fn define_by<'a>(labels: &mut Labels<'a>, word: &'a [u8], label: Label) -> Result<(), AllocError>
+    ensures { OnOk result ((q : List ℕ) → named labels.new q ≡ option_or (named labels.old q) (if is_same q (label_in_of word.now) then Some label else None)) }
+{
+    match label_in(word) {
+        Some(name) => labels.define(name, label),
+        None => Ok(()),
+    }
+}
+
 /// The labels of a text's lines, by first words alone.
 pub fn labels_of<'a>(alloc: Global, text: &'a [u8]) -> Result<Labels<'a>, AllocError>
     requires { length text.now ≤ 67108864 }
@@ -67,10 +77,11 @@ pub fn labels_of<'a>(alloc: Global, text: &'a [u8]) -> Result<Labels<'a>, AllocE
     let mut number = 0;
     for line in text.split(|byte| *byte == b'\n') {
         let line = parts(line);
-        if let Some(name) = label_in(line.word) {
-            let address = place.address();
-            labels.define(name, Label { address, line: number })?;
-        }
+        let label = Label {
+            address: place.address(),
+            line: number,
+        };
+        define_by(&mut labels, line.word, label)?;
         place = place.behind(line.head);
         number += 1;
     }
