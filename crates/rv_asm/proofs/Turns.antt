@@ -1,6 +1,14 @@
 -- What one line more changes.
 use Rattle.std.proofs.Common.{◌≡◌, ℕ, suc, ◌+◌, ◌-◌, ◌^◌, ◌==◌, ◌<◌, ◌≤◌, Bool, true, false, cond, Option, Some, None, Result, Ok, Err, is_ok, List, [], ◌∷◌, ◌++◌, length, take, get_or, refl, sym, ap, ◌∙◌, subst, arith, inl, inr, ⊎_elim}
 use mathlib.Core.Path.{fun_ext}
+use denote.Param.Members.{Mut}
+use denote.Ref.{Bor}
+use Rattle.std.specs.Fn.{CalledAt}
+use Rattle.std.specs.Iterator.{Yields}
+use Rattle.std.specs.Slice.Iter as slice
+use Rattle.std.specs.declared.slice.Split.{Split}
+use Rattle.std.proofs.lemmas.Iterator.Consumers.{YieldsList-turn, YieldsList-end}
+use Rattle.std.proofs.lemmas.Iterator.Splits.{YieldsList-from_slice_split}
 use Rattle.std.specs.List.{position_from, slice_split, count_by}
 use Rattle.std.specs.Option.{option_map, option_or}
 use Rattle.std.proofs.lemmas.Bool.{cases_lt}
@@ -37,6 +45,25 @@ pub record IsTurn (lines : List (List ℕ)) (n : ℕ) (line : List ℕ) : Type 0
 pub turn_of : (lines : List (List ℕ)) (n : ℕ) (line : List ℕ) → (n < length lines) × (line ≡ get_or lines n line) → IsTurn lines n line
 turn_of lines n line h = record { inside = h.0; is = h.1 ∙ get_or_default lines n line [] h.0 }
 
+-- the pieces of `split` at newlines are the lines
+pub line_turn :
+    {F : Type 0} (g : Mut F (Bor ℕ × Unit {0}) Bool) (text : List ℕ) (start now next : Split ℕ F) (f : F) (xs : List (Bor (List ℕ))) (r : Option (Bor (List ℕ))) (x : Bor (List ℕ))
+    → Yields (slice.split_steps g) start xs now → r ≡ Some x → slice.split_steps g now r next
+    → slice.split_rest start ≡ text → slice.split_done start ≡ false → slice.split_callee start ≡ f → ((y : ℕ) (b : Bool) (q : F) → CalledAt g f y b q → (q ≡ f) × (b ≡ (y == newline)))
+    → IsTurn (lines_of text) (length xs) x.now
+unfolding lines_of
+line_turn g text start now next f xs r x y is step rest done closure tests =
+    turn_of (slice_split (λ b. b == newline) text) (length xs) x.now (YieldsList-turn (YieldsList-from_slice_split g (λ b. b == newline) text rest done closure tests) xs now y r next x is step)
+
+pub lines_end :
+    {F : Type 0} (g : Mut F (Bor ℕ × Unit {0}) Bool) (text : List ℕ) (start now next : Split ℕ F) (f : F) (xs : List (Bor (List ℕ))) (r : Option (Bor (List ℕ)))
+    → Yields (slice.split_steps g) start xs now → r ≡ None → slice.split_steps g now r next
+    → slice.split_rest start ≡ text → slice.split_done start ≡ false → slice.split_callee start ≡ f → ((y : ℕ) (b : Bool) (q : F) → CalledAt g f y b q → (q ≡ f) × (b ≡ (y == newline)))
+    → length xs ≡ length (lines_of text)
+unfolding lines_of
+lines_end g text start now next f xs r y is step rest done closure tests =
+    (YieldsList-end (YieldsList-from_slice_split g (λ b. b == newline) text rest done closure tests) xs now y r next is step).1
+
 -- ---- places
 pub turn_place : (lines : List (List ℕ)) (n : ℕ) (line : List ℕ) (p : Place) (h : Head) → IsTurn lines n line → p ≡ place_behind (take n lines) → h ≡ head_in line → next_place p h ≡ place_behind (take (n + 1) lines)
 turn_place lines n line p h t e k =
@@ -59,6 +86,9 @@ pub near_at : (text : List ℕ) (n : ℕ) (line : List ℕ) (p : Place) → leng
 near_at text n line p h t e = place_near text n p h (omega (arith, t.inside)) e
 
 -- ---- labels
+abbrev pub labelled : ℕ → ℕ → Label
+labelled address number = record { address = address; line = number }
+
 pub turn_labels :
     (lines : List (List ℕ)) (n : ℕ) (line : List ℕ) (old new : Option Label) (q : List ℕ) (label : Label) → IsTurn lines n line
     → new ≡ option_or old (cond (is_same q (label_in (word_in line))) (Some label) None) → label ≡ label_at lines n → old ≡ option_map (label_at lines) (position_from (defines q) 0 (take n lines))
@@ -69,6 +99,10 @@ turn_labels lines n line old new q label t e k so_far =
     e ∙ (ap (λ o. option_or o (cond (is_same q (label_in (word_in line))) (Some label) None)) so_far
     ∙ (ap (option_or (option_map f (position_from (defines q) 0 (take n lines)))) one
     ∙ (sym (first_push f (defines q) (take n lines) (line_at lines n)) ∙ ap (λ ls. option_map f (position_from (defines q) 0 ls)) (sym (take_more lines n [] t.inside)))))
+
+pub label_is : (lines : List (List ℕ)) (n : ℕ) (p : Place) (address number : ℕ) → address ≡ address_at p → p ≡ place_behind (take n lines) → number ≡ n → labelled address number ≡ label_at lines n
+unfolding label_at
+label_is lines n p address number a e k = let b = a ∙ ap address_at e in λ i. record { address = b i; line = k i }
 
 pub all_labels : (lines : List (List ℕ)) (n : ℕ) (q : List ℕ) (o : Option Label) → n ≡ length lines → o ≡ option_map (label_at lines) (position_from (defines q) 0 (take n lines)) → o ≡ label_of lines q
 unfolding label_of
@@ -103,9 +137,9 @@ first_fault text n number line f t e so_far g =
 pub record IsSoFar (lines : List (List ℕ)) (n : ℕ) (p : Place) (code values : List ℕ) (symbols : List Symbol) : Type 0 where
   pub placed : p ≡ place_behind (take n lines)
   pub faultless : AreFaultless lines n
-  pub code : code ≡ code_of lines n
-  pub words : values ≡ data_of lines n
-  pub symbols : symbols ≡ symbols_of lines n
+  pub has_code : code ≡ code_of lines n
+  pub has_values : values ≡ data_of lines n
+  pub has_symbols : symbols ≡ symbols_of lines n
 
 pub so_far_more :
     (lines : List (List ℕ)) (n : ℕ) (line : List ℕ) (p : Place) (h : Head) (w : List ℕ) (g : Given) (code values new_code new_values : List ℕ) (symbols new_symbols : List Symbol)
@@ -119,9 +153,9 @@ so_far_more lines n line p h w g code values new_code new_values symbols new_sym
     record {
       placed = turn_place lines n line p h t so_far.placed head;
       faultless = faultless_more lines n g so_far.faultless is;
-      code = gather_more n (λ i. code_in (given_at lines i)) code new_code (c ∙ ap (λ r. code ++ code_in r) (sym is)) so_far.code;
-      words = gather_more n (λ i. data_in (given_at lines i)) values new_values (v ∙ ap (λ r. values ++ data_in r) (sym is)) so_far.words;
-      symbols = gather_more n (λ i. symbol_at lines i) symbols new_symbols (s ∙ ap (λ (x : List Symbol). symbols ++ x) symbol_here) so_far.symbols;
+      has_code = gather_more n (λ i. code_in (given_at lines i)) code new_code (c ∙ ap (λ r. code ++ code_in r) (sym is)) so_far.has_code;
+      has_values = gather_more n (λ i. data_in (given_at lines i)) values new_values (v ∙ ap (λ r. values ++ data_in r) (sym is)) so_far.has_values;
+      has_symbols = gather_more n (λ i. symbol_at lines i) symbols new_symbols (s ∙ ap (λ (x : List Symbol). symbols ++ x) symbol_here) so_far.has_symbols;
     }
 
 pub so_far_at : (lines : List (List ℕ)) (n m : ℕ) (p : Place) (code values : List ℕ) (symbols : List Symbol) → n ≡ m → IsSoFar lines n p code values symbols → IsSoFar lines m p code values symbols

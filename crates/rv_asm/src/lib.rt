@@ -16,8 +16,4 @@ mod program;
 
 pub use assembly::assemble;
 pub use error::{AsmError, Fault};
-pub use file::file_with;
 pub use program::{Program, program_of};
-
-#[cfg(test)]
-mod tests;

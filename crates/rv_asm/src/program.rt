@@ -1,16 +1,17 @@
 //! All lines of a text.
 ghost use Rattle.std.specs.Prelude.{◌≡◌, ◌≤◌, ◌++◌, IfOk, MatchResult, OnOk, Ok, [], unwrap_or, length};
-ghost use Rattle.rv_asm.specs.Assembled.{code_in, data_in, symbol_in, symbol as symbol_of, IsRefused};
+ghost use Rattle.rv_asm.specs.Assembled.{code_in, data_in, symbol_in, symbol as symbol_of, file_with as file_with_of, IsRefused};
 ghost use Rattle.rv_asm.specs.Lines.{label_in as label_in_of, lines_of};
 ghost use Rattle.rv_asm.specs.Program.{IsProgram};
 
 use crate::error::AsmError;
+use crate::file::file_with;
 use crate::given::{Given, give};
 use crate::labels::labels_of;
 use crate::lines::{label_name, parts};
 use crate::place::Place;
 use elf_types::abi::{SHN_ABS, STB_LOCAL, STT_NOTYPE};
-use elf_types::{Bytes, Symbol};
+use elf_types::{Bytes, OutFile, Symbol};
 use std::alloc::{AllocError, Global};
 
 /// What the lines of a text give.
@@ -56,6 +57,21 @@ impl Program {
             Given::Label => self.symbols.push(symbol(alloc, word, address)?)?,
         }
         Ok(())
+    }
+
+    /// The file of the words and labels.
+    ///
+    /// The only error is want of memory.
+    pub fn into_file(self, alloc: Global) -> Result<OutFile, AllocError>
+        ensures { IfOk result (λ file. file ≡ file_with_of self.code.items self.values.items self.symbols.items) }
+    {
+        let Program {
+            code,
+            values,
+            symbols,
+        } = self;
+        let file = file_with(alloc, &code, &values, symbols)?;
+        Ok(file)
     }
 }
 

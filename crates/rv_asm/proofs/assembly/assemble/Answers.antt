@@ -1,18 +1,23 @@
-use Rattle.std.proofs.Common.{◌≡◌, ◌<◌, ◌==◌, length, refl, sym, ap, ◌∙◌, subst, arith}
+use Rattle.std.proofs.Common.{◌∙◌, sym, ap, subst, arith}
 use Rattle.qed_model.specs.Elf.Layout.{written, IsWritable}
-use Rattle.rv_asm.specs.Assembled.{file_with, file_of}
-use Rattle.rv_asm.specs.Lines.{lines_of}
-use Rattle.rv_asm.proofs.Done.{assembled_writable}
+use Rattle.rv_asm.proofs.Done.{assembled_writable, file_same, none_left, some_left}
 use Rattle.rv_asm.proofs.assembly.assemble.Goals as goal
 
 pub write_elf-requires : goal.write_elf-requires
-write_elf-requires c =
-    let p = c.in_ok-code.field-0 in
-    let is : c.in_ok-file.file ≡ file_with p.code.items p.values.items p.symbols.items = cc in
-    subst IsWritable (sym is) (assembled_writable c.args.text.now p c.requires c.in_ok-code.ensures)
+write_elf-requires c = subst IsWritable (sym c.in_ok-file.ensures) (assembled_writable c.args.text.now c.in_ok-program.program c.requires c.in_ok-program.ensures)
 
 pub returns-then-is_empty : goal.returns-then-is_empty
-returns-then-is_empty c = ?
+returns-then-is_empty c =
+    let p = c.in_ok-program.ensures in
+    let v = c.in_ok-program.program.code in
+    record { faultless = p.faultless; none = none_left v.items _ v.len c.is_empty.result p.code (omega (arith, v.ok.0)) c.is_empty.ensures c.if-is_empty.true }
 
 pub returns : goal.returns
-returns c = ?
+returns c =
+    let p = c.in_ok-program.ensures in
+    let q = c.in_ok-program.program in
+    record {
+      faultless = p.faultless;
+      code = some_left q.code.items _ q.code.len c.is_empty.result p.code (omega (arith, q.code.ok.0)) c.is_empty.ensures c.if-is_empty.false;
+      file = c.in_ok-bytes.ensures.written ∙ ap written (c.in_ok-file.ensures ∙ file_same c.args.text.now q p);
+    }
