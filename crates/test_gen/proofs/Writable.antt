@@ -12,13 +12,14 @@ use Rattle.elf_types.specs.declared.output.OutFile.{OutFile}
 use Rattle.elf_types.specs.Abi.{has_alloc}
 use Rattle.qed_model.specs.Below.{each}
 use Rattle.qed_model.specs.Elf.Written.{offset_from, end_from}
-use Rattle.qed_model.specs.Elf.Layout.{written, names_bytes, string_table, symbol_names, own_bytes, own_place, symbols_place, strings_place, names_place, headers_place, section_names, is_inside, do_share, IsName, IsLoadable, IsPlaced, IsSymbol, null_symbol, IsWritable}
+use Rattle.qed_model.specs.Elf.Layout.{written, names_bytes, string_table, symbol_names, own_bytes, own_place, symbols_place, strings_place, names_place, headers_place, do_share, IsName, IsLoadable, IsPlaced, IsSymbol, null_symbol, IsWritable}
 use Rattle.qed_model.proofs.Among.{Among, any_passing}
 use Rattle.qed_model.proofs.BelowLaws.{length-each}
 use Rattle.qed_model.proofs.OutputFits.{name_test}
 use Rattle.qed_model.proofs.Pairs.{pairs_all, every_all}
-use Rattle.elf_write.proofs.Sizes.{length-written}
-use Rattle.test_gen.specs.Generated.{code_bytes, table_bytes, data_bytes, code_segment, table_segment, data_segment, segment, section, sections, symbol, function_symbol, symbols, file_with}
+use Rattle.elf_parts.specs.Parts.{segment, section}
+use Rattle.elf_parts.proofs.Plain.{loadable, not_shared, offset_room, inside_itself, placed, upper}
+use Rattle.test_gen.specs.Generated.{code_bytes, table_bytes, data_bytes, code_segment, table_segment, data_segment, sections, symbol, function_symbol, symbols, file_with}
 use Rattle.test_gen.proofs.Sizes.{length-code_bytes, length-table_bytes, length-data_bytes}
 
 -- what a function gives at each number has a property
@@ -60,39 +61,12 @@ names_size (s ∷ ss) h =
     let rest = names_size ss (λ k d l. h (suc k) d (omega (arith, l))) in
     omega (arith, length-append (s.name ++ 0 ∷ []) (names_bytes (symbol_names ss)), length-append s.name (0 ∷ []), first, rest)
 
--- ---- segments
-loadable : (flags at : ℕ) (bytes : List ℕ) → at + length bytes ≤ 2 ^ 64 → IsLoadable (segment flags at bytes)
-loadable flags at bytes h = record { kind = refl; memory = omega arith; fits = h }
-
-apart_by : (a b e : Bool) (x y : ℕ) → y ≤ x → (a && b && e && nat_lt x y) ≡ false
-apart_by a b e x y h = ap (λ t. a && b && e && t) (le-ltb x y h) ∙ and-false (a && b && e)
-
-not_shared : (s t : Segment) → s.address + s.memory ≤ t.address → do_share s t ≡ false
-not_shared s t h = apart_by (nat_lt 0 s.memory) (nat_lt 0 t.memory) (nat_lt s.address (t.address + t.memory)) t.address (s.address + s.memory) h
-
-inside_itself : (name : List ℕ) (flags : ℕ) (f at : ℕ) (bytes : List ℕ) → is_inside (section name flags (segment f at bytes)) (segment f at bytes) ≡ true
-inside_itself name flags f at bytes = and_from (nat_le at at) (nat_le (at + length bytes) (at + length bytes)) (le-leb at at (omega arith)) (le-leb (at + length bytes) (at + length bytes) (omega arith))
-
-placed :
-    (name : List ℕ) (flags : ℕ) (s : Segment) → has_alloc flags ≡ true → (segments : List Segment) → Among s segments → is_inside (section name flags s) s ≡ true
-    → IsPlaced segments (section name flags s)
-placed name flags s a segments m i = record { none = λ e. refl; inside = λ e. any_passing (is_inside (section name flags s)) s segments m i; own = λ e. absurd (false≢true (sym e ∙ a)) }
-
 -- ---- the whole
-offset_room : (at address : ℕ) → offset_from at address ≤ at + 4095
-offset_room at address = omega arith
-
 three_ends : (at : ℕ) (s t u : Segment) → end_from at (s ∷ t ∷ u ∷ []) ≤ at + 12285 + length s.bytes + length t.bytes + length u.bytes
 three_ends at s t u =
     let a = offset_from at s.address + length s.bytes in
     let b = offset_from a t.address + length t.bytes in
     omega (arith, offset_room at s.address, offset_room a t.address, offset_room b u.address)
-
--- a file ends not far behind its parts
-upper :
-    (f : OutFile) → length (written f) ≤ own_place f + length (own_bytes f.sections) + 24 * (1 + length f.symbols) + length (string_table (symbol_names f.symbols)) + length (string_table (section_names f.sections)) + 64 * (length f.sections + 4) + 14
-unfolding symbols_place strings_place names_place headers_place
-upper f = omega (arith, length-written f)
 
 own_place_room : (seed n : ℕ) → n ≤ 1875 → own_place (file_with seed n) ≤ 300000
 unfolding file_with own_place

@@ -5,11 +5,12 @@ use Rattle.elf_types.specs.declared.file.Segment.{Segment}
 use Rattle.elf_types.specs.declared.file.Symbol.{Symbol}
 use Rattle.elf_types.specs.declared.output.OutFile.{OutFile}
 use Rattle.elf_types.specs.declared.output.OutSection.{OutSection}
-use Rattle.elf_types.specs.declared.abi.TheConstants.{PT_LOAD, PF_R, PF_W, PF_X, SHF_WRITE, SHF_ALLOC, SHF_EXECINSTR, STT_FUNC, STB_GLOBAL, SHN_ABS}
+use Rattle.elf_types.specs.declared.abi.TheConstants.{PF_R, PF_W, PF_X, SHF_WRITE, SHF_ALLOC, SHF_EXECINSTR, STT_FUNC, STB_GLOBAL, SHN_ABS}
 use Rattle.rv_isa.specs.declared.ins.Ins.{Ins}
 use Rattle.qed_model.specs.Machine.Table.{encode_of}
 use Rattle.qed_model.specs.Below.{each, gather}
 use Rattle.qed_model.specs.Numbers.{number_bytes, bytes_of}
+use Rattle.elf_parts.specs.Parts.{segment, section}
 use Rattle.test_gen.specs.Code.{function_count, code}
 
 -- ---- segments
@@ -32,10 +33,6 @@ table_bytes n = gather n (λ i. number_bytes 8 (function_at i))
 unfoldable pub data_bytes : List ℕ
 data_bytes = gather 256 (λ i. number_bytes 8 i)
 
--- PT_LOAD, with all its bytes in the file
-abbrev pub segment : ℕ → ℕ → List ℕ → Segment
-segment flags address bytes = record { kind = PT_LOAD; flags = flags; address = address; memory = length bytes; bytes = bytes }
-
 abbrev pub code_segment : ℕ → ℕ → Segment
 code_segment seed n = segment (PF_R + PF_X) 0x10000 (code_bytes seed n)
 
@@ -46,10 +43,6 @@ abbrev pub data_segment : Segment
 data_segment = segment (PF_R + PF_W) 0x90000 data_bytes
 
 -- ---- sections
--- over a segment
-abbrev pub section : List ℕ → ℕ → Segment → OutSection
-section name flags s = record { name = name; flags = flags; address = s.address; size = s.memory; bytes = [] }
-
 -- over the code, the table and the data
 abbrev pub sections : Segment → Segment → Segment → List OutSection
 sections code table words =

@@ -5,12 +5,13 @@ ghost use Rattle.qed_model.specs.Admission.Refusals.{IsAdmitted};
 ghost use Rattle.qed_model.specs.Elf.File.{IsReadAs};
 ghost use Rattle.qed_model.specs.Elf.Layout.{written};
 ghost use Rattle.qed_model.specs.Options.{default_options};
-ghost use Rattle.test_gen.specs.Generated.{segment as segment_of, section as section_of, sections as sections_of, symbol as symbol_of, function_symbol as function_symbol_of, symbols as symbols_of, file_with as file_with_of, generated};
+ghost use Rattle.test_gen.specs.Generated.{sections as sections_of, symbol as symbol_of, function_symbol as function_symbol_of, symbols as symbols_of, file_with as file_with_of, generated};
 
 use crate::code::{code, function_count, words_bytes};
 use crate::tables::{CODE, data_bytes, function_at, table_bytes};
+use elf_parts::{section, segment};
 use elf_types::abi::{
-    PF_R, PF_W, PF_X, PT_LOAD, SHF_ALLOC, SHF_EXECINSTR, SHF_WRITE, SHN_ABS, STB_GLOBAL, STT_FUNC,
+    PF_R, PF_W, PF_X, SHF_ALLOC, SHF_EXECINSTR, SHF_WRITE, SHN_ABS, STB_GLOBAL, STT_FUNC,
 };
 use elf_types::{Bytes, Listed, OutFile, OutSection, Segment, Symbol};
 use elf_write::write_elf;
@@ -21,37 +22,6 @@ const TABLE: u64 = 0x80000;
 
 /// Where the data begin.
 const DATA: u64 = 0x90000;
-
-/// A segment that has all its bytes in the file.
-fn segment(flags: u32, address: u64, bytes: Vec<u8>) -> Segment
-    ensures { result ≡ segment_of flags address bytes.items }
-{
-    Segment {
-        kind: PT_LOAD,
-        flags,
-        address,
-        memory: bytes.len() as u64,
-        bytes: Bytes::of(bytes),
-    }
-}
-
-/// The section of a segment.
-fn section(
-    alloc: Global,
-    name: &[u8],
-    flags: u64,
-    segment: &Segment,
-) -> Result<OutSection, AllocError>
-    ensures { IfOk result (λ section. section ≡ section_of name.now flags segment.now) }
-{
-    Ok(OutSection {
-        name: Bytes::copied(alloc, name)?,
-        flags,
-        address: segment.address,
-        size: segment.memory,
-        bytes: Bytes::of(Vec::new(alloc)),
-    })
-}
 
 /// The sections of the code, of the table of functions, and of the data.
 fn sections(

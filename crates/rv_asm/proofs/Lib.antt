@@ -1,0 +1,9 @@
+pub mod Places
+pub mod FirstLabels
+pub mod Far
+pub mod RawWords
+pub mod Room
+pub mod Sound
+pub mod Writable
+pub mod Turns
+pub mod Done

@@ -1,0 +1,278 @@
+-- What is known of a line that gives something.
+use Rattle.std.proofs.Common.{◌≡◌, ℕ, zero, suc, ◌+◌, ◌-◌, ◌*◌, ◌<◌, ◌≤◌, Bool, true, false, cond, ◌&&◌, ◌==◌, ltb, Option, Some, None, Result, Ok, Err, is_some, unwrap_or, List, [], ◌∷◌, ◌++◌, length, take, drop, refl, sym, ap, ◌∙◌, subst, arith, length-append}
+use Rattle.std.specs.Prelude.{All}
+use Rattle.std.specs.List.{position_from, prefix_len, suffix_len}
+use Rattle.std.specs.Option.{option_map}
+use Rattle.std.proofs.lemmas.Bool.{and_parts, ltb-true, false≢true}
+use Rattle.std.proofs.lemmas.List.{take_more, length-take}
+use Rattle.std.proofs.Common.{length-drop}
+use Rattle.std.proofs.lemmas.List.Elements.{All-nil, All-cons, All-append}
+use Rattle.elf_types.specs.declared.file.Symbol.{Symbol}
+use Rattle.rv_isa.specs.declared.kind.Kind.{Kind}
+use Rattle.qed_model.specs.Below.{gather}
+use Rattle.qed_model.specs.Words.{colon, parted, around}
+use Rattle.rv_asm.specs.declared.error.Fault.{Fault}
+use Rattle.rv_asm.specs.declared.error.Fault.TheVariants as fault
+use Rattle.rv_asm.specs.declared.given.Given.{Given}
+use Rattle.rv_asm.specs.declared.given.Given.TheVariants as given
+use Rattle.rv_asm.specs.declared.heads.Head.{Head}
+use Rattle.rv_asm.specs.declared.heads.Head.TheVariants.{Blank, Instruction, Word, DataStart, DataWord, Label, Unknown}
+use Rattle.rv_asm.specs.declared.labels.Label.{Label as LabelAt}
+use Rattle.rv_asm.specs.declared.place.Place.{Place}
+use Rattle.rv_asm.specs.Lines.{is_blank, hash, trim_start, trim_end, trim, front_of, statement, word_end, word_in, is_name, name_before, label_in}
+use Rattle.rv_asm.specs.Heads.{named_head, head_of}
+use Rattle.rv_asm.specs.Given.{max_code, max_data, in_code, in_data, alone, label_given, is_defined_before, given_by}
+use Rattle.rv_asm.specs.Assembled.{head_in, is_code, is_data, place_behind, line_at, given_at, code_in, data_in, symbol_in, symbol_at, code_of, data_of}
+use Rattle.rv_asm.specs.Steps.{one_if, code_step, data_step, next_place}
+use Rattle.rv_asm.proofs.Places.{place_push}
+use Rattle.rv_asm.proofs.Room.{cost, IsCheap}
+
+-- ---- words
+abbrev IsCodeAt : Place → Given → Type 0
+IsCodeAt p g = (w : ℕ) × (g ≡ given.Code w) × (p.in_data ≡ false) × (p.code_words < max_code)
+
+code_cases : (p : Place) (g : Given) (w : ℕ) (b t : Bool) → p.in_data ≡ b → ltb p.code_words max_code ≡ t → cond b (Err fault.Unrecognized) (cond t (Ok (given.Code w)) (Err fault.SectionFull)) ≡ Ok g → IsCodeAt p g
+code_cases p g w true t a b e = absurd (cc)
+code_cases p g w false true a b e = (w, cc, a, ltb-true p.code_words max_code b)
+code_cases p g w false false a b e = absurd (cc)
+
+code_err : (p : Place) (g : Given) (f : Fault) (b : Bool) → cond b (Err fault.Unrecognized) (Err f) ≡ Ok g → ⊥
+code_err p g f true e = cc
+code_err p g f false e = cc
+
+in_code_is : (p : Place) (r : Result ℕ Fault) (g : Given) → in_code p r ≡ Ok g → IsCodeAt p g
+in_code_is p (Err f) g e = absurd (code_err p g f p.in_data e)
+in_code_is p (Ok w) g e = code_cases p g w p.in_data (ltb p.code_words max_code) refl refl e
+
+abbrev IsDataAt : Place → Given → Type 0
+IsDataAt p g = (v : ℕ) × (g ≡ given.Data v) × (p.in_data ≡ true) × (p.data_words < max_data)
+
+data_cases : (p : Place) (g : Given) (v : ℕ) (b t : Bool) → p.in_data ≡ b → ltb p.data_words max_data ≡ t → cond b (cond t (Ok (given.Data v)) (Err fault.SectionFull)) (Err fault.Unrecognized) ≡ Ok g → IsDataAt p g
+data_cases p g v false t a b e = absurd (cc)
+data_cases p g v true true a b e = (v, cc, a, ltb-true p.data_words max_data b)
+data_cases p g v true false a b e = absurd (cc)
+
+data_err : (p : Place) (g : Given) (b : Bool) → cond b (Err fault.IllegalOperands) (Err fault.Unrecognized) ≡ Ok g → ⊥
+data_err p g true e = cc
+data_err p g false e = cc
+
+in_data_is : (p : Place) (o : Option ℕ) (g : Given) → in_data p o ≡ Ok g → IsDataAt p g
+in_data_is p None g e = absurd (data_err p g p.in_data e)
+in_data_is p (Some v) g e = data_cases p g v p.in_data (ltb p.data_words max_data) refl refl e
+
+-- ---- other lines
+alone_nothing : (g : Given) (b : Bool) → cond b (Ok given.Nothing) (Err fault.IllegalOperands) ≡ Ok g → g ≡ given.Nothing
+alone_nothing g true e = cc
+alone_nothing g false e = absurd (cc)
+
+alone_label : (g : Given) (b t : Bool) → cond b (label_given t) (Err fault.IllegalOperands) ≡ Ok g → g ≡ given.Label
+alone_label g true true e = absurd (cc)
+alone_label g true false e = cc
+alone_label g false t e = absurd (cc)
+
+-- a line that gives a code word
+code_line : (labels : List ℕ → Option LabelAt) (p : Place) (n : ℕ) (h : Head) (w r : List ℕ) (x : ℕ) → given_by labels p n h w r ≡ Ok (given.Code x) → (is_code h ≡ true) × (p.in_data ≡ false) × (p.code_words < max_code)
+unfolding given_by
+code_line labels p n Blank w r x e = absurd (cc)
+code_line labels p n (Instruction kind) w r x e = let k = in_code_is p _ (given.Code x) e in (refl, k.2, k.3)
+code_line labels p n Word w r x e = let k = in_code_is p _ (given.Code x) e in (refl, k.2, k.3)
+code_line labels p n DataStart w r x e = let k = alone_nothing (given.Code x) (length r == 0) e in absurd (cc)
+code_line labels p n DataWord w r x e = let k = in_data_is p _ (given.Code x) e in let q = k.1 in absurd (cc)
+code_line labels p n Label w r x e = let k = alone_label (given.Code x) (length r == 0) (is_defined_before n (labels (unwrap_or (label_in w) []))) e in absurd (cc)
+code_line labels p n Unknown w r x e = absurd (cc)
+
+-- a line that gives a data word
+data_line : (labels : List ℕ → Option LabelAt) (p : Place) (n : ℕ) (h : Head) (w r : List ℕ) (x : ℕ) → given_by labels p n h w r ≡ Ok (given.Data x) → (is_data h ≡ true) × (p.in_data ≡ true) × (p.data_words < max_data)
+unfolding given_by
+data_line labels p n Blank w r x e = absurd (cc)
+data_line labels p n (Instruction kind) w r x e = let k = in_code_is p _ (given.Data x) e in let q = k.1 in absurd (cc)
+data_line labels p n Word w r x e = let k = in_code_is p _ (given.Data x) e in let q = k.1 in absurd (cc)
+data_line labels p n DataStart w r x e = let k = alone_nothing (given.Data x) (length r == 0) e in absurd (cc)
+data_line labels p n DataWord w r x e = let k = in_data_is p _ (given.Data x) e in (refl, k.2, k.3)
+data_line labels p n Label w r x e = let k = alone_label (given.Data x) (length r == 0) (is_defined_before n (labels (unwrap_or (label_in w) []))) e in absurd (cc)
+data_line labels p n Unknown w r x e = absurd (cc)
+
+-- a line that gives a label
+label_line : (labels : List ℕ → Option LabelAt) (p : Place) (n : ℕ) (h : Head) (w r : List ℕ) → given_by labels p n h w r ≡ Ok given.Label → h ≡ Label
+unfolding given_by
+label_line labels p n Blank w r e = absurd (cc)
+label_line labels p n (Instruction kind) w r e = let k = in_code_is p _ given.Label e in let q = k.1 in absurd (cc)
+label_line labels p n Word w r e = let k = in_code_is p _ given.Label e in let q = k.1 in absurd (cc)
+label_line labels p n DataStart w r e = let k = alone_nothing given.Label (length r == 0) e in absurd (cc)
+label_line labels p n DataWord w r e = let k = in_data_is p _ given.Label e in let q = k.1 in absurd (cc)
+label_line labels p n Label w r e = refl
+label_line labels p n Unknown w r e = absurd (cc)
+
+-- ---- how many words
+code_step_up :
+    (r : Result Given Fault) (p : Place) (h : Head) (m : ℕ) → ((x : ℕ) → r ≡ Ok (given.Code x) → (is_code h ≡ true) × (p.in_data ≡ false) × (p.code_words < max_code)) → m ≤ p.code_words → m ≤ max_code
+    → (m + length (code_in r) ≤ p.code_words + code_step p.in_data h) × (m + length (code_in r) ≤ max_code)
+code_step_up (Err f) p h m facts a b = (omega arith, omega arith)
+code_step_up (Ok given.Nothing) p h m facts a b = (omega arith, omega arith)
+code_step_up (Ok (given.Code x)) p h m facts a b =
+    let f = facts x refl in
+    let e : code_step p.in_data h ≡ 1 = ap (λ t. code_step t h) f.1 ∙ ap one_if f.0 in
+    let less = f.2 in
+    (omega arith, omega arith)
+code_step_up (Ok (given.Data x)) p h m facts a b = (omega arith, omega arith)
+code_step_up (Ok given.Label) p h m facts a b = (omega arith, omega arith)
+
+data_step_up :
+    (r : Result Given Fault) (p : Place) (h : Head) (m : ℕ) → ((x : ℕ) → r ≡ Ok (given.Data x) → (is_data h ≡ true) × (p.in_data ≡ true) × (p.data_words < max_data)) → m ≤ p.data_words → m ≤ max_data
+    → (m + length (data_in r) ≤ p.data_words + data_step p.in_data h) × (m + length (data_in r) ≤ max_data)
+data_step_up (Err f) p h m facts a b = (omega arith, omega arith)
+data_step_up (Ok given.Nothing) p h m facts a b = (omega arith, omega arith)
+data_step_up (Ok (given.Data x)) p h m facts a b =
+    let f = facts x refl in
+    let e : data_step p.in_data h ≡ 1 = ap (λ t. data_step t h) f.1 ∙ ap one_if f.0 in
+    let less = f.2 in
+    (omega arith, omega arith)
+data_step_up (Ok (given.Code x)) p h m facts a b = (omega arith, omega arith)
+data_step_up (Ok given.Label) p h m facts a b = (omega arith, omega arith)
+
+next_at : (lines : List (List ℕ)) (n : ℕ) → n < length lines → place_behind (take (suc n) lines) ≡ next_place (place_behind (take n lines)) (head_in (line_at lines n))
+next_at lines n h = ap (λ k. place_behind (take k lines)) (let e : suc n ≡ n + 1 = omega arith in e) ∙ (ap place_behind (take_more lines n [] h) ∙ place_push (take n lines) (line_at lines n))
+
+code_facts : (lines : List (List ℕ)) (n : ℕ) (x : ℕ) → given_at lines n ≡ Ok (given.Code x) → (is_code (head_in (line_at lines n)) ≡ true) × ((place_behind (take n lines)).in_data ≡ false) × ((place_behind (take n lines)).code_words < max_code)
+unfolding given_at
+code_facts lines n x e = code_line _ (place_behind (take n lines)) n (head_in (line_at lines n)) _ _ x e
+
+data_facts : (lines : List (List ℕ)) (n : ℕ) (x : ℕ) → given_at lines n ≡ Ok (given.Data x) → (is_data (head_in (line_at lines n)) ≡ true) × ((place_behind (take n lines)).in_data ≡ true) × ((place_behind (take n lines)).data_words < max_data)
+unfolding given_at
+data_facts lines n x e = data_line _ (place_behind (take n lines)) n (head_in (line_at lines n)) _ _ x e
+
+code_bounds : (lines : List (List ℕ)) (n : ℕ) → n ≤ length lines → (length (code_of lines n) ≤ (place_behind (take n lines)).code_words) × (length (code_of lines n) ≤ max_code)
+unfolding code_of gather
+code_bounds lines zero h = (omega arith, omega arith)
+code_bounds lines (suc n) h =
+    let so_far = code_bounds lines n (omega arith) in
+    let up = code_step_up (given_at lines n) (place_behind (take n lines)) (head_in (line_at lines n)) (length (code_of lines n)) (code_facts lines n) so_far.0 so_far.1 in
+    let size = length-append (code_of lines n) (code_in (given_at lines n)) in
+    let next = ap (λ (p : Place). p.code_words) (next_at lines n (omega arith)) in
+    (omega (arith, up.0, size, next), omega (arith, up.1, size))
+
+data_bounds : (lines : List (List ℕ)) (n : ℕ) → n ≤ length lines → (length (data_of lines n) ≤ (place_behind (take n lines)).data_words) × (length (data_of lines n) ≤ max_data)
+unfolding data_of gather
+data_bounds lines zero h = (omega arith, omega arith)
+data_bounds lines (suc n) h =
+    let so_far = data_bounds lines n (omega arith) in
+    let up = data_step_up (given_at lines n) (place_behind (take n lines)) (head_in (line_at lines n)) (length (data_of lines n)) (data_facts lines n) so_far.0 so_far.1 in
+    let size = length-append (data_of lines n) (data_in (given_at lines n)) in
+    let next = ap (λ (p : Place). p.data_words) (next_at lines n (omega arith)) in
+    (omega (arith, up.0, size, next), omega (arith, up.1, size))
+
+pub few_code : (lines : List (List ℕ)) → length (code_of lines (length lines)) ≤ 16384
+few_code lines = (code_bounds lines (length lines) (omega arith)).1
+
+pub few_data : (lines : List (List ℕ)) → length (data_of lines (length lines)) ≤ 131072
+few_data lines = (data_bounds lines (length lines) (omega arith)).1
+
+-- ---- labels
+head_cases : (a b c d e : Bool) (o : Option Kind) → cond a Blank (cond b Label (cond c Word (cond d DataStart (cond e DataWord (named_head o))))) ≡ Label → b ≡ true
+head_cases true b c d e o h = absurd (cc)
+head_cases false true c d e o h = refl
+head_cases false false true d e o h = absurd (cc)
+head_cases false false false true e o h = absurd (cc)
+head_cases false false false false true o h = absurd (cc)
+head_cases false false false false false None h = absurd (cc)
+head_cases false false false false false (Some k) h = absurd (cc)
+
+head_label : (w : List ℕ) → head_of w ≡ Label → is_some (label_in w) ≡ true
+unfolding head_of
+head_label w h = head_cases _ (is_some (label_in w)) _ _ _ _ h
+
+position_below : (p : ℕ → Bool) (k : ℕ) (xs : List ℕ) (i : ℕ) → position_from p k xs ≡ Some i → i < k + length xs
+position_below p k [] i e = absurd (cc)
+position_below p k (x ∷ xs) i e =
+    elim (p x) as (λ b. cond b (Some k) (position_from p (k + 1) xs) ≡ Some i → i < k + length (x ∷ xs))
+    [ true ↦ λ f. let s : k ≡ i = cc in omega arith | false ↦ λ f. let h = position_below p (k + 1) xs i f in omega arith ]
+    e
+
+-- a name of a label, with the `:` behind it
+abbrev pub IsLabelOf : List ℕ → List ℕ → Type 0
+IsLabelOf w name = (label_in w ≡ Some name) × (is_name name ≡ true) × (length name < length w)
+
+around_label : (w : List ℕ) (o : Option ℕ) → ((i : ℕ) → o ≡ Some i → i < length w) → is_some (name_before (option_map (around w) o)) ≡ true
+    → (name : List ℕ) × (name_before (option_map (around w) o) ≡ Some name) × (is_name name ≡ true) × (length name < length w)
+around_label w None h e = absurd (false≢true e)
+around_label w (Some i) h e =
+    let short = h i refl in
+    elim (is_name (take i w) && length (drop (i + 1) w) == 0) as (λ b. (is_name (take i w) && length (drop (i + 1) w) == 0) ≡ b → is_some (cond b (Some (take i w)) None) ≡ true → (name : List ℕ) × (cond b (Some (take i w)) None ≡ Some name) × (is_name name ≡ true) × (length name < length w))
+    [
+      true ↦ λ t s. (take i w, refl, (and_parts (is_name (take i w)) (length (drop (i + 1) w) == 0) t).0, omega (arith, length-take i w))
+      | false ↦ λ t s. absurd (false≢true s)
+    ]
+    refl e
+
+label_named : (w : List ℕ) → is_some (label_in w) ≡ true → (name : List ℕ) × (label_in w ≡ Some name) × (is_name name ≡ true) × (length name < length w)
+unfolding label_in parted
+label_named w e = around_label w (position_from (λ b. b == colon) 0 w) (λ i s. let h = position_below (λ b. b == colon) 0 w i s in omega arith) e
+
+trim_short : (text : List ℕ) → length (trim text) ≤ length text
+unfolding trim trim_end trim_start
+trim_short text =
+    let inner = drop (prefix_len is_blank text) text in
+    omega (arith, length-take (length inner - suffix_len is_blank inner) inner, length-drop (prefix_len is_blank text) text)
+
+front_short : (line : List ℕ) → length (front_of line (parted hash line)) ≤ length line
+unfolding parted
+front_short line = by (position_from (λ b. b == hash) 0 line) where
+  by : (o : Option ℕ) → length (front_of line (option_map (around line) o)) ≤ length line
+  by None = omega arith
+  by (Some i) = omega (arith, length-take i line)
+
+word_short : (line : List ℕ) → length (word_in line) ≤ length line
+unfolding word_in statement
+word_short line = omega (arith, length-take (word_end (trim (front_of line (parted hash line)))) (trim (front_of line (parted hash line))), trim_short (front_of line (parted hash line)), front_short line)
+
+-- the label of a line that gives one
+pub label_facts : (lines : List (List ℕ)) (n : ℕ) → given_at lines n ≡ Ok given.Label → (name : List ℕ) × (label_in (word_in (line_at lines n)) ≡ Some name) × (is_name name ≡ true) × (length name < length (line_at lines n))
+unfolding given_at
+label_facts lines n e =
+    let w = word_in (line_at lines n) in
+    let l = label_named w (head_label w (label_line _ (place_behind (take n lines)) n (head_in (line_at lines n)) w _ e)) in
+    let short = l.3 in
+    (l.0, l.1, l.2, omega (arith, word_short (line_at lines n)))
+
+-- ---- symbols
+name_some : (name : List ℕ) → is_name name ≡ true → 1 ≤ length name
+unfolding is_name
+name_some [] e = absurd (false≢true e)
+name_some (c ∷ cs) e = omega arith
+
+cheap_line : (w : List ℕ) (address l : ℕ) (r : Result Given Fault) → (r ≡ Ok given.Label → 25 + length (unwrap_or (label_in w) []) ≤ 9 * (l + 1)) → cost (symbol_in w address r) ≤ 9 * (l + 1)
+cheap_line w address l (Err f) h = omega arith
+cheap_line w address l (Ok given.Nothing) h = omega arith
+cheap_line w address l (Ok (given.Code x)) h = omega arith
+cheap_line w address l (Ok (given.Data x)) h = omega arith
+cheap_line w address l (Ok given.Label) h = let k = h refl in omega arith
+
+pub are_cheap : (lines : List (List ℕ)) → IsCheap lines
+are_cheap lines = record {
+  each = λ n below. cheap_line (word_in (line_at lines n)) _ (length (line_at lines n)) (given_at lines n) (λ e.
+    let l = label_facts lines n e in
+    let some = name_some l.0 l.2 in
+    let short = l.3 in
+    let same = ap (λ o. length (unwrap_or o [])) l.1 in
+    omega (arith, same));
+}
+
+-- LOCAL and NOTYPE, absolute, with the name of a label
+pub record IsLabelSymbol (s : Symbol) : Type 0 where
+  pub kind : s.kind ≡ 0
+  pub binding : s.binding ≡ 0
+  pub index : s.index ≡ 0xfff1
+  pub name : is_name s.name ≡ true
+
+label_symbols : (w : List ℕ) (address : ℕ) (r : Result Given Fault) → (r ≡ Ok given.Label → is_name (unwrap_or (label_in w) []) ≡ true) → All IsLabelSymbol (symbol_in w address r)
+label_symbols w address (Err f) h = All-nil IsLabelSymbol
+label_symbols w address (Ok given.Nothing) h = All-nil IsLabelSymbol
+label_symbols w address (Ok (given.Code x)) h = All-nil IsLabelSymbol
+label_symbols w address (Ok (given.Data x)) h = All-nil IsLabelSymbol
+label_symbols w address (Ok given.Label) h = All-cons IsLabelSymbol _ [] (record { kind = refl; binding = refl; index = refl; name = h refl }) (All-nil IsLabelSymbol)
+
+pub symbols_sound : (lines : List (List ℕ)) (n : ℕ) → All IsLabelSymbol (gather n (symbol_at lines))
+unfolding gather
+symbols_sound lines zero = All-nil IsLabelSymbol
+symbols_sound lines (suc n) =
+    All-append IsLabelSymbol (gather n (symbol_at lines)) (symbol_at lines n) (symbols_sound lines n) (label_symbols (word_in (line_at lines n)) _ (given_at lines n) (λ e. let l = label_facts lines n e in ap (λ o. is_name (unwrap_or o [])) l.1 ∙ l.2))

@@ -1,0 +1,26 @@
+//! From text to a file.
+ghost use Rattle.std.specs.Prelude.{◌≤◌, MatchResult, length};
+ghost use Rattle.rv_asm.specs.Assembled.{Assembled, IsRefused};
+
+use crate::error::AsmError;
+use crate::program::program_of;
+use elf_types::Bytes;
+use elf_write::write_elf;
+use std::alloc::Global;
+
+/// The executable that a text describes: its code at 0x10000 with the section `.text`, its data, where there is any, at
+/// 0x20000 with the section `.data`, and its labels as local symbols. The text has at most 67,108,864 bytes.
+///
+/// An error tells the first line at fault, or that no line gives an instruction, or that there is no memory.
+pub fn assemble(alloc: Global, text: &[u8]) -> Result<Bytes, AsmError>
+    requires { length text.now ≤ 67108864 }
+    ensures { MatchResult result (λ bytes. Assembled text.now bytes) (λ e. IsRefused text.now e) }
+{
+    let program = program_of(alloc, text)?;
+    if program.code.is_empty() {
+        return Err(AsmError::NoCode);
+    }
+    let file = program.into_file(alloc)?;
+    let bytes = write_elf(alloc, &file)?;
+    Ok(bytes)
+}
