@@ -6,3 +6,4 @@ pub mod Assembled
 pub mod Named
 pub mod Steps
 pub mod Program
+pub mod Counted

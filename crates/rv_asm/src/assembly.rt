@@ -1,6 +1,7 @@
 //! From text to a file.
 ghost use Rattle.std.specs.Prelude.{◌≤◌, MatchResult, length};
 ghost use Rattle.rv_asm.specs.Assembled.{Assembled, IsRefused};
+ghost use Rattle.rv_asm.specs.Counted.{IsAssembly};
 
 use crate::error::AsmError;
 use crate::program::program_of;
@@ -8,19 +9,47 @@ use elf_types::Bytes;
 use elf_write::write_elf;
 use std::alloc::Global;
 
+/// A file that a text describes, and how much it gives.
+#[derive(Debug, Drop)]
+pub struct Assembly {
+    pub file: Bytes,
+    /// How many code words.
+    pub code_words: u64,
+    /// How many data words.
+    pub data_words: u64,
+}
+
 /// The executable that a text describes: its code at 0x10000 with the section `.text`, its data, where there is any, at
-/// 0x20000 with the section `.data`, and its labels as local symbols. The text has at most 67,108,864 bytes.
+/// 0x20000 with the section `.data`, and its labels as local symbols; with the numbers of its words. The text has at most
+/// 67,108,864 bytes.
 ///
 /// An error tells the first line at fault, or that no line gives an instruction, or that there is no memory.
-pub fn assemble(alloc: Global, text: &[u8]) -> Result<Bytes, AsmError>
+pub fn assembly(alloc: Global, text: &[u8]) -> Result<Assembly, AsmError>
     requires { length text.now ≤ 67108864 }
-    ensures { MatchResult result (λ bytes. Assembled text.now bytes) (λ e. IsRefused text.now e) }
+    ensures { MatchResult result (λ made. IsAssembly text.now made) (λ e. IsRefused text.now e) }
 {
     let program = program_of(alloc, text)?;
     if program.code.is_empty() {
         return Err(AsmError::NoCode);
     }
+    let code_words = program.code.len() as u64;
+    let data_words = program.values.len() as u64;
     let file = program.into_file(alloc)?;
     let bytes = write_elf(alloc, &file)?;
-    Ok(bytes)
+    Ok(Assembly {
+        file: bytes,
+        code_words,
+        data_words,
+    })
+}
+
+/// The executable that a text describes, alone.
+///
+/// Its errors are those of `assembly`.
+pub fn assemble(alloc: Global, text: &[u8]) -> Result<Bytes, AsmError>
+    requires { length text.now ≤ 67108864 }
+    ensures { MatchResult result (λ bytes. Assembled text.now bytes) (λ e. IsRefused text.now e) }
+{
+    let made = assembly(alloc, text)?;
+    Ok(made.file)
 }

@@ -7,3 +7,4 @@ pub mod Plain
 pub mod Stands
 pub mod Shape
 pub mod Admitted
+pub mod Runs

@@ -1,7 +1,7 @@
 use Rattle.std.proofs.Common.{◌∙◌, sym, ap, subst, arith}
 use Rattle.qed_model.specs.Elf.Layout.{written, IsWritable}
 use Rattle.rv_asm.proofs.Done.{assembled_writable, file_same, none_left, some_left}
-use Rattle.rv_asm.proofs.assembly.assemble.Goals as goal
+use Rattle.rv_asm.proofs.assembly.assembly.Goals as goal
 
 pub write_elf-requires : goal.write_elf-requires
 write_elf-requires c = subst IsWritable (sym c.in_ok-file.ensures) (assembled_writable c.args.text.now c.in_ok-program.program c.requires c.in_ok-program.ensures)
@@ -17,7 +17,11 @@ returns c =
     let p = c.in_ok-program.ensures in
     let q = c.in_ok-program.program in
     record {
-      faultless = p.faultless;
-      code = some_left q.code.items _ q.code.len c.is_empty.result p.code (omega (arith, q.code.ok.0)) c.is_empty.ensures c.if-is_empty.false;
-      file = c.in_ok-bytes.ensures.written ∙ ap written (c.in_ok-file.ensures ∙ file_same c.args.text.now q p);
+      file = record {
+        faultless = p.faultless;
+        code = some_left q.code.items _ q.code.len c.is_empty.result p.code (omega (arith, q.code.ok.0)) c.is_empty.ensures c.if-is_empty.false;
+        file = c.in_ok-bytes.ensures.written ∙ ap written (c.in_ok-file.ensures ∙ file_same c.args.text.now q p);
+      };
+      code = ?;
+      data = ?;
     }

@@ -1,0 +1,43 @@
+-- What `asm` answers.
+use Rattle.std.specs.Prelude.{◌≡◌, ◌≢◌, ℕ, List, length, IsSomeAnd}
+use Rattle.report.specs.Assembly.{asm_error_line, assembly_line}
+use Rattle.rv_asm.specs.declared.error.AsmError.{AsmError}
+use Rattle.rv_asm.specs.declared.error.AsmError.TheVariants as error
+use Rattle.rv_asm.specs.Assembled.{Assembled, IsRefused, code_of, data_of}
+use Rattle.rv_asm.specs.Lines.{lines_of}
+use Rattle.qed_top.specs.Answer.{PrintsOnly}
+use Rattle.qed_top.specs.declared.answer.Answer.{Answer}
+use Rattle.qed_top.specs.declared.status.Status.{Status}
+use Rattle.qed_top.specs.declared.status.Status.TheVariants.{Done, Refused}
+
+-- the words of code, and of data, that a text gives
+abbrev pub code_words : List ℕ → List ℕ
+code_words text = code_of (lines_of text) (length (lines_of text))
+
+abbrev pub data_words : List ℕ → List ℕ
+data_words text = data_of (lines_of text) (length (lines_of text))
+
+-- a line is at fault, or none gives a code word
+pub record IsFaulty (text : List ℕ) (answer : Answer) : Type 0 where
+  pub error : AsmError
+  pub cause : IsRefused text error
+  pub known : error ≢ error.Memory
+  pub plain : PrintsOnly Refused (asm_error_line error) answer
+
+-- the file is stored as OUT, and the numbers of its words are printed
+pub record IsAssembled (text output : List ℕ) (answer : Answer) : Type 0 where
+  pub file : List ℕ
+  pub assembled : Assembled text file
+  pub status : answer.status ≡ Done
+  pub stored : IsSomeAnd answer.stored (λ s. (s.name ≡ output) × (s.bytes ≡ file))
+  pub line : answer.text ≡ assembly_line (length (code_words text)) (length (data_words text))
+
+-- the answer over the bytes of the text, which are within the limit
+pub data Assembles (text output : List ℕ) (answer : Answer) : Type 0 where
+  faulty : IsFaulty text answer → Assembles text output answer
+  assembled : IsAssembled text output answer → Assembles text output answer
+
+-- the status, by what is true of the text
+pub data AsmDecides (text : List ℕ) (status : Status) : Type 0 where
+  has_fault : (e : AsmError) → IsRefused text e → e ≢ error.Memory → status ≡ Refused → AsmDecides text status
+  is_file : (file : List ℕ) → Assembled text file → status ≡ Done → AsmDecides text status

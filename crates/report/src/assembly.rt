@@ -1,0 +1,51 @@
+//! What is printed about a text that is assembled.
+ghost use Rattle.std.specs.Prelude.{◌≡◌, ◌≢◌, IfOk, OnOk, string_bytes};
+ghost use Rattle.report.specs.Assembly.{asm_error_line, assembly_line, fault_line, fault_number};
+
+use elf_types::Bytes;
+use rv_asm::{AsmError, Fault};
+use std::alloc::{AllocError, Global};
+
+/// The number of a fault's rule, S1 to S6.
+fn fault_number(fault: Fault) -> u64
+    ensures { result ≡ fault_number fault }
+{
+    match fault {
+        Fault::Unrecognized => 1,
+        Fault::IllegalOperands => 2,
+        Fault::OutOfRange => 3,
+        Fault::UndefinedLabel => 4,
+        Fault::RedefinedLabel => 5,
+        Fault::SectionFull => 6,
+    }
+}
+
+/// The line about a fault on a line of the text.
+fn fault_line(alloc: Global, fault: Fault, line: u64) -> Result<String, AllocError>
+    ensures { IfOk result (λ text. string_bytes text ≡ fault_line fault line) }
+{
+    let rule = fault_number(fault);
+    format!(in alloc; "refused S{rule}: line {line}\n")
+}
+
+/// The line about a text that is not assembled: the rule of the first fault, and the number of its line, from 1. Want of
+/// memory has none.
+pub fn asm_error_text(alloc: Global, error: AsmError) -> Result<Bytes, AllocError>
+    ensures text { IfOk result (λ text. text ≡ asm_error_line error) }
+    ensures memory { OnOk result (error ≢ AsmError.Memory) }
+{
+    let text = match error {
+        AsmError::Line(fault, line) => fault_line(alloc, fault, line)?,
+        AsmError::NoCode => format!(in alloc; "refused S7: no instruction\n")?,
+        AsmError::Memory => return Err(AllocError),
+    };
+    Ok(Bytes::of(text.into_bytes()))
+}
+
+/// The line about a text that is assembled: how many words of code, and how many of data.
+pub fn assembly_text(alloc: Global, code: u64, data: u64) -> Result<Bytes, AllocError>
+    ensures { IfOk result (λ text. text ≡ assembly_line code data) }
+{
+    let text = format!(in alloc; "code {code} words, data {data} words\n")?;
+    Ok(Bytes::of(text.into_bytes()))
+}
