@@ -24,6 +24,9 @@ use Rattle.qed_top.specs.Run.{memory_bytes, outcome_status, run_of, FileRuns, to
 use Rattle.qed_model.specs.Options.{default_options}
 use Rattle.qed_top.specs.List.{FileLists, Lists}
 use Rattle.qed_top.specs.List as lists
+use Rattle.qed_top.specs.Asm.{Assembles, AsmDecides}
+use Rattle.qed_top.specs.Asm as asm
+use Rattle.qed_top.proofs.Assembling.{never_both}
 use Rattle.qed_top.specs.Gen.{Generates, test_bytes}
 use Rattle.qed_top.specs.Orders.{AnswersOver, IsUsage, OrderCallsFor, WordsCallFor, source_limit, source_name, stored_name}
 use Rattle.qed_top.specs.Ends.{OverFiles, Call, load_rose, store_rose, sink_rose, KeepsShelf, IsAnswered, EndsOver, Ends, TransformDecides, ReadDecides, ran_status, Decided, DecidesOver, OrderDecides, Decides, NoFault, IsComplete}
@@ -112,6 +115,10 @@ lists_printed : (bytes : List ℕ) (answer : Answer) → Lists bytes answer → 
 lists_printed bytes answer (lists.list_unread u) = prints (error_status u.error) answer (refusal_printed (error_status u.error) (error_refuses u.error)) u.plain.status
 lists_printed bytes answer (lists.list_read r) = file_listed_printed r.file answer r.lists
 
+asm_printed : (text output : List ℕ) (answer : Answer) → Assembles text output answer → Printed answer.status
+asm_printed text output answer (asm.faulty f) = prints Refused answer tt f.plain.status
+asm_printed text output answer (asm.assembled a) = prints Done answer tt a.status
+
 over_printed : (order : Order) (bytes : List ℕ) (answer : Answer) → AnswersOver order bytes answer → Printed answer.status
 over_printed (Transform input output o) bytes answer m = makes_printed bytes o (Delivers output) answer (λ file p d. delivered_done output file p answer d) m
 over_printed (Plan input o) bytes answer m = makes_printed bytes o TellsPlan answer (λ file p t. told_done file p answer t) m
@@ -119,7 +126,7 @@ over_printed (Run file steps changes dump) bytes answer m = runs_printed bytes s
 over_printed (Campaign input o seed count changes) bytes answer m = prints Usage answer tt m.status
 over_printed (Gen output seed size) bytes answer m = makes_printed (test_bytes seed size) default_options (Generates output seed size) answer (λ file p g. g.status) m
 over_printed (order.List file) bytes answer m = lists_printed bytes answer m
-over_printed (Asm text output) bytes answer m = prints Usage answer tt m.status
+over_printed (Asm text output) bytes answer m = asm_printed bytes output answer m
 over_printed (Harts files turns steps) bytes answer m = prints Usage answer tt m.status
 
 calls_printed :
@@ -253,6 +260,12 @@ lists_decided : (bytes : List ℕ) (answer : Answer) → Lists bytes answer → 
 lists_decided bytes answer (lists.list_unread u) = decide.unread u.error u.cause u.plain.status
 lists_decided bytes answer (lists.list_read r) = file_lists_decided bytes r.file answer r.read r.lists
 
+asm_settled : (text output : List ℕ) (answer : Answer) (t : Status) → Assembles text output answer → AsmDecides text t → answer.status ≡ t
+asm_settled text output answer t (asm.faulty f) (asm.has_fault e x n b) = f.plain.status ∙ sym b
+asm_settled text output answer t (asm.faulty f) (asm.is_file g x b) = absurd (never_both text g f.error x f.cause f.known)
+asm_settled text output answer t (asm.assembled a) (asm.has_fault e x n b) = absurd (never_both text a.file e a.assembled x n)
+asm_settled text output answer t (asm.assembled a) (asm.is_file g x b) = a.status ∙ sym b
+
 -- an order, over the bytes of its file
 over_settled : (order : Order) (bytes : List ℕ) (answer : Answer) (t : Status) → AnswersOver order bytes answer → DecidesOver order bytes t → answer.status ≡ t
 over_settled (Transform input output o) bytes answer t m d =
@@ -263,7 +276,7 @@ over_settled (Campaign input o seed count changes) bytes answer t m d = m.status
 over_settled (Gen output seed size) bytes answer t m d =
     transform_unique (test_bytes seed size) default_options answer.status t (makes_decided (test_bytes seed size) default_options (Generates output seed size) answer (λ file p g. g.status) m) d
 over_settled (order.List file) bytes answer t m d = read_unique bytes (λ f. Done) answer.status t (lists_decided bytes answer m) d
-over_settled (Asm text output) bytes answer t m d = m.status ∙ sym d
+over_settled (Asm text output) bytes answer t m d = asm_settled bytes output answer t m d
 over_settled (Harts files turns steps) bytes answer t m d = m.status ∙ sym d
 
 calls_settled :
@@ -338,6 +351,11 @@ lists_store : (bytes : List ℕ) (stores : List ℕ → Type 0) (answer : Answer
 lists_store bytes stores answer (lists.list_unread u) r = none_stored answer stores u.plain.stored r
 lists_store bytes stores answer (lists.list_read x) r = file_lists_store x.file stores answer x.lists r
 
+asm_store :
+    (text output : List ℕ) (stores : List ℕ → Type 0) (answer : Answer) → (stores output → ⊥) → Assembles text output answer → StoreRose answer.stored stores → ⊥
+asm_store text output stores answer calm (asm.faulty f) r = none_stored answer stores f.plain.stored r
+asm_store text output stores answer calm (asm.assembled a) r = calm (stored_as answer.stored stores output a.file a.stored r)
+
 generated_store :
     (output : List ℕ) (seed size : ℕ) (stores : List ℕ → Type 0) (answer : Answer) → (stores output → ⊥) → (file : List ℕ) (p : plan.Plan) → Generates output seed size file p answer
     → StoreRose answer.stored stores → ⊥
@@ -353,7 +371,7 @@ over_store (Campaign input o seed count changes) bytes stores answer calm m r = 
 over_store (Gen output seed size) bytes stores answer calm m r =
     made_store (test_bytes seed size) default_options (Generates output seed size) stores answer (generated_store output seed size stores answer calm) m r
 over_store (order.List file) bytes stores answer calm m r = lists_store bytes stores answer m r
-over_store (Asm text output) bytes stores answer calm m r = none_stored answer stores m.stored r
+over_store (Asm text output) bytes stores answer calm m r = asm_store bytes output stores answer calm m r
 over_store (Harts files turns steps) bytes stores answer calm m r = none_stored answer stores m.stored r
 
 calls_store :

@@ -1,3 +1,4 @@
+pub mod Assembling
 pub mod Statuses
 pub mod Meanings
 pub mod Headlines

@@ -3,19 +3,12 @@ use Rattle.std.specs.Prelude.{◌≡◌, ◌≢◌, ℕ, List, length, IsSomeAnd
 use Rattle.report.specs.Assembly.{asm_error_line, assembly_line}
 use Rattle.rv_asm.specs.declared.error.AsmError.{AsmError}
 use Rattle.rv_asm.specs.declared.error.AsmError.TheVariants as error
-use Rattle.rv_asm.specs.Assembled.{Assembled, IsRefused, code_of, data_of}
-use Rattle.rv_asm.specs.Lines.{lines_of}
+use Rattle.rv_asm.specs.Assembled.{Assembled, IsRefused}
+use Rattle.rv_asm.specs.Counted.{code_words, data_words}
 use Rattle.qed_top.specs.Answer.{PrintsOnly}
 use Rattle.qed_top.specs.declared.answer.Answer.{Answer}
 use Rattle.qed_top.specs.declared.status.Status.{Status}
 use Rattle.qed_top.specs.declared.status.Status.TheVariants.{Done, Refused}
-
--- the words of code, and of data, that a text gives
-abbrev pub code_words : List ℕ → List ℕ
-code_words text = code_of (lines_of text) (length (lines_of text))
-
-abbrev pub data_words : List ℕ → List ℕ
-data_words text = data_of (lines_of text) (length (lines_of text))
 
 -- a line is at fault, or none gives a code word
 pub record IsFaulty (text : List ℕ) (answer : Answer) : Type 0 where

@@ -22,6 +22,7 @@ use Rattle.qed_top.specs.Answer.{FilesAfter, FilesInPart, StoreRose, ShelfSteady
 use Rattle.qed_top.specs.Refused.{error_status, refusal_status}
 use Rattle.qed_top.specs.Run.{memory_bytes, memory_limit, outcome_status, run_of}
 use Rattle.qed_model.specs.Options.{default_options}
+use Rattle.qed_top.specs.Asm.{AsmDecides}
 use Rattle.qed_top.specs.Gen.{test_bytes}
 use Rattle.qed_top.specs.Orders.{WordsCallFor, source_name, source_limit, stored_name}
 use Rattle.qed_top.specs.declared.answer.Answer.{Answer}
@@ -136,7 +137,7 @@ DecidesOver (Run file steps changes dump) bytes status = ReadDecides bytes (ran_
 DecidesOver (Campaign input options seed count changes) bytes status = status ≡ Usage
 DecidesOver (Gen output seed size) bytes status = TransformDecides (test_bytes seed size) default_options status
 DecidesOver (order.List file) bytes status = ReadDecides bytes (λ f. Done) status
-DecidesOver (Asm text output) bytes status = status ≡ Usage
+DecidesOver (Asm text output) bytes status = AsmDecides bytes status
 DecidesOver (Harts files turns steps) bytes status = status ≡ Usage
 
 -- the status over the bytes of a file, of which so many are taken

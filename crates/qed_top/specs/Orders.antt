@@ -12,6 +12,7 @@ use Rattle.qed_model.specs.Text.Usage.{reason_line}
 use Rattle.qed_model.specs.Words.{asked}
 use Rattle.qed_top.specs.Answer.{PrintsOnly, CallsFor}
 use Rattle.qed_top.specs.List.{Lists}
+use Rattle.qed_top.specs.Asm.{Assembles}
 use Rattle.qed_top.specs.Gen.{Gens}
 use Rattle.qed_top.specs.Makes.{Makes, Delivers, TellsPlan}
 use Rattle.qed_top.specs.Run.{Runs}
@@ -27,7 +28,7 @@ source_name (Run file steps changes dump) = Some file
 source_name (Campaign input options seed count changes) = None
 source_name (Gen output seed size) = None
 source_name (order.List file) = Some file
-source_name (Asm text output) = None
+source_name (Asm text output) = Some text
 source_name (Harts files turns steps) = None
 
 -- the limit on its bytes
@@ -40,6 +41,7 @@ source_limit _ = FileBytes
 abbrev pub stored_name : Order → Option (List ℕ)
 stored_name (Transform input output options) = Some output
 stored_name (Gen output seed size) = Some output
+stored_name (Asm text output) = Some output
 stored_name _ = None
 
 -- ---- answers
@@ -55,7 +57,7 @@ AnswersOver (Run file steps changes dump) bytes answer = Runs bytes steps change
 AnswersOver (Campaign input options seed count changes) bytes answer = IsUsage UnknownCommand answer
 AnswersOver (Gen output seed size) bytes answer = Gens output seed size answer
 AnswersOver (order.List file) bytes answer = Lists bytes answer
-AnswersOver (Asm text output) bytes answer = IsUsage UnknownCommand answer
+AnswersOver (Asm text output) bytes answer = Assembles bytes output answer
 AnswersOver (Harts files turns steps) bytes answer = IsUsage UnknownCommand answer
 
 -- the same with the loading of the file; `rose` holds of a name whose count of failed loads rose

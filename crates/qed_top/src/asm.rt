@@ -1,7 +1,6 @@
 //! What `asm` answers.
-ghost use Rattle.std.specs.Prelude.{◌≡◌, ◌≤◌, IfOk, length};
-ghost use Rattle.rv_asm.specs.Assembled.{Assembled};
-ghost use Rattle.qed_top.specs.Asm.{Assembles, IsAssembled, code_words, data_words};
+ghost use Rattle.std.specs.Prelude.{◌≤◌, IfOk, length};
+ghost use Rattle.qed_top.specs.Asm.{Assembles};
 
 use crate::answer::{Answer, Stored, plain};
 use crate::status::Status;

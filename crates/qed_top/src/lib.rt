@@ -3,6 +3,7 @@
 #![tactic(auto)]
 
 mod answer;
+mod asm;
 mod decide;
 mod fault;
 mod generated;

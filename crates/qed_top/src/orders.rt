@@ -1,10 +1,12 @@
 //! What orders call for.
-ghost use Rattle.std.specs.Prelude.{◌≡◌, IfOk};
+ghost use Rattle.std.specs.Prelude.{◌≡◌, ◌≤◌, IfOk, length};
 ghost use Rattle.std.specs.Option.{option_copied};
+ghost use Rattle.qed_model.specs.Limits.{limit_of};
 ghost use Rattle.qed_words.specs.Sound.{IsSoundOrder};
 ghost use Rattle.qed_top.specs.Orders.{AnswersOver, IsUsage, source_limit as source_limit_of, source_name as source_name_of};
 
 use crate::answer::{Answer, plain};
+use crate::asm::answer_asm;
 use crate::generated::answer_gen;
 use crate::list::answer_list;
 use crate::make::{answer_plan, answer_transform};
@@ -24,7 +26,8 @@ pub fn source_name(order: &Order) -> Option<&str>
         Order::Run(file, _, _, _) => Some(file.as_str()),
         Order::Campaign(_, _, _, _, _) | Order::Gen(_, _, _) => None,
         Order::List(file) => Some(file.as_str()),
-        Order::Asm(_, _) | Order::Harts(_, _, _) => None,
+        Order::Asm(text, _) => Some(text.as_str()),
+        Order::Harts(_, _, _) => None,
     }
 }
 
@@ -48,7 +51,8 @@ pub fn usage(alloc: Global, reason: Reason) -> Result<Answer, AllocError>
 
 /// What an order calls for over the bytes of its file. Other commands are not built yet.
 pub fn answer_order(alloc: Global, order: Order, bytes: &[u8]) -> Result<Answer, AllocError>
-    requires { IsSoundOrder order }
+    requires sound { IsSoundOrder order }
+    requires within { length bytes.now ≤ limit_of (source_limit_of order) }
     ensures { IfOk result (AnswersOver order bytes.now) }
 {
     match order {
@@ -72,7 +76,11 @@ pub fn answer_order(alloc: Global, order: Order, bytes: &[u8]) -> Result<Answer,
             let answer = answer_list(alloc, bytes)?;
             Ok(answer)
         }
-        Order::Campaign(_, _, _, _, _) | Order::Asm(_, _) | Order::Harts(_, _, _) => {
+        Order::Asm(_, output) => {
+            let answer = answer_asm(alloc, bytes, output)?;
+            Ok(answer)
+        }
+        Order::Campaign(_, _, _, _, _) | Order::Harts(_, _, _) => {
             let answer = usage(alloc, Reason::UnknownCommand)?;
             Ok(answer)
         }

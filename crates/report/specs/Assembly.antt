@@ -27,4 +27,4 @@ asm_error_line error.Memory = codes ""
 
 -- how many words of code and of data
 abbrev pub assembly_line : ℕ → ℕ → List ℕ
-assembly_line code data = codes "code " ++ (decimal code ++ (codes " words, data " ++ (decimal data ++ codes " words\n")))
+assembly_line code words = codes "code " ++ (decimal code ++ (codes " words, data " ++ (decimal words ++ codes " words\n")))

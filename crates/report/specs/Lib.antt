@@ -2,3 +2,4 @@ pub mod Admission
 pub mod Plan
 pub mod Tally
 pub mod Generated
+pub mod Assembly

@@ -43,9 +43,9 @@ pub fn asm_error_text(alloc: Global, error: AsmError) -> Result<Bytes, AllocErro
 }
 
 /// The line about a text that is assembled: how many words of code, and how many of data.
-pub fn assembly_text(alloc: Global, code: u64, data: u64) -> Result<Bytes, AllocError>
-    ensures { IfOk result (λ text. text ≡ assembly_line code data) }
+pub fn assembly_text(alloc: Global, code: u64, words: u64) -> Result<Bytes, AllocError>
+    ensures { IfOk result (λ text. text ≡ assembly_line code words) }
 {
-    let text = format!(in alloc; "code {code} words, data {data} words\n")?;
+    let text = format!(in alloc; "code {code} words, data {words} words\n")?;
     Ok(Bytes::of(text.into_bytes()))
 }

@@ -2,6 +2,7 @@
 #![tactic(auto)]
 
 mod admission;
+mod assembly;
 mod campaign;
 mod dump;
 mod errors;
@@ -17,6 +18,7 @@ mod transform;
 mod usage;
 
 pub use admission::admit_text;
+pub use assembly::{asm_error_text, assembly_text};
 pub use campaign::campaign_text;
 pub use errors::{error_text, read_fault_text};
 pub use generated::{Drawn, generated_text};

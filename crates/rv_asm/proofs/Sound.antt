@@ -197,9 +197,8 @@ around_label : (w : List ℕ) (o : Option ℕ) → ((i : ℕ) → o ≡ Some i �
 around_label w None h e = absurd (false≢true e)
 around_label w (Some i) h e =
     let short = h i refl in
-    elim (is_name (take i w) && length (drop (i + 1) w) == 0) as (λ b. (is_name (take i w) && length (drop (i + 1) w) == 0) ≡ b → is_some (cond b (Some (take i w)) None) ≡ true → (name : List ℕ) × (cond b (Some (take i w)) None ≡ Some name) × (is_name name ≡ true) × (length name < length w))
-    [
-      true ↦ λ t s. (take i w, refl, (and_parts (is_name (take i w)) (length (drop (i + 1) w) == 0) t).0, omega (arith, length-take i w))
+    elim (is_name (take i w) && length (drop (i + 1) w) == 0) as (λ b. (is_name (take i w) && length (drop (i + 1) w) == 0) ≡ b → is_some (cond b (Some (take i w)) None) ≡ true → (name : List ℕ) × (cond b (Some (take i w)) None ≡ Some name) × (is_name name ≡ true) × (length name < length w)) [
+      | true ↦ λ t s. (take i w, refl, (and_parts (is_name (take i w)) (length (drop (i + 1) w) == 0) t).0, omega (arith, length-take i w))
       | false ↦ λ t s. absurd (false≢true s)
     ]
     refl e
@@ -250,11 +249,11 @@ cheap_line w address l (Ok given.Label) h = let k = h refl in omega arith
 pub are_cheap : (lines : List (List ℕ)) → IsCheap lines
 are_cheap lines = record {
   each = λ n below. cheap_line (word_in (line_at lines n)) _ (length (line_at lines n)) (given_at lines n) (λ e.
-    let l = label_facts lines n e in
-    let some = name_some l.0 l.2 in
-    let short = l.3 in
-    let same = ap (λ o. length (unwrap_or o [])) l.1 in
-    omega (arith, same));
+      let l = label_facts lines n e in
+      let some = name_some l.0 l.2 in
+      let short = l.3 in
+      let same = ap (λ o. length (unwrap_or o [])) l.1 in
+      omega (arith, same));
 }
 
 -- LOCAL and NOTYPE, absolute, with the name of a label

@@ -14,5 +14,5 @@ data_words text = data_of (lines_of text) (length (lines_of text))
 -- the file, and the numbers of its words
 pub record IsAssembly (text : List ℕ) (made : Assembly) : Type 0 where
   pub file : Assembled text made.file
-  pub code : made.code_words ≡ length (code_words text)
-  pub data : made.data_words ≡ length (data_words text)
+  pub code_count : made.code_words ≡ length (code_words text)
+  pub data_count : made.data_words ≡ length (data_words text)

@@ -1,7 +1,8 @@
 //! The bytes of a file. Made by `make_tables.py`.
 
 /// The text.
-pub static TEXT: &str = "start:\n  addi x5, x0, 3\nloop: # count down\n  addi x5, x5, -1\n  bne x5, x0, loop\n  ecall\n.data\nvalues:\n  .word64 1\n  .word64 0xfedcba9876543210\n";
+pub static TEXT: &str =
+    "start:\n  addi x5, x0, 3\nloop: # count down\n  addi x5, x5, -1\n  bne x5, x0, loop\n  ecall\n.data\nvalues:\n  .word64 1\n  .word64 0xfedcba9876543210\n";
 
 /// How many bytes the file has.
 pub const SIZE: usize = 8752;

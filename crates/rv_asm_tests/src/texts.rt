@@ -126,17 +126,26 @@ pub static GOOD: [(&str, &str); 57] = [
         "word:\nzero:\nmul:\necall\njal x1, zero",
         "00000073 ffdff0ef word=10000 zero=10000 mul=10000",
     ),
-    ("A:\na:\njal x1, A\njal x1, a", "000000ef ffdff0ef A=10000 a=10000"),
+    (
+        "A:\na:\njal x1, A\njal x1, a",
+        "000000ef ffdff0ef A=10000 a=10000",
+    ),
     ("e_9Z:\necall", "00000073 e_9Z=10000"),
     ("a:\n\n#\nb:\necall\nc:", "00000073 a=10000 b=10000 c=10004"),
     ("ecall\n.data\nd:", "00000073 d=20000"),
-    ("jal x1, end\n.data\nx:\n.word64 1\nend:", "008100ef 1 x=20000 end=20008"),
+    (
+        "jal x1, end\n.data\nx:\n.word64 1\nend:",
+        "008100ef 1 x=20000 end=20008",
+    ),
     ("ecall\n.data\n.word64 1", "00000073 1"),
     (
         "ecall\n.data\n.word64 0xFFFFFFFFFFFFFFFF\n.word64 18446744073709551615\n.data\n.word64 0",
         "00000073 18446744073709551615 18446744073709551615 0",
     ),
-    ("ecall\n .data # d\n\t.word64\t7#\na:\n.word64 00\nb:", "00000073 7 0 a=20008 b=20010"),
+    (
+        "ecall\n .data # d\n\t.word64\t7#\na:\n.word64 00\nb:",
+        "00000073 7 0 a=20008 b=20010",
+    ),
     ("ecall\n.data\n.data", "00000073"),
     ("ecall\n.data", "00000073"),
 ];

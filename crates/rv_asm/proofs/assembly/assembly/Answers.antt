@@ -22,6 +22,6 @@ returns c =
         code = some_left q.code.items _ q.code.len c.is_empty.result p.code (omega (arith, q.code.ok.0)) c.is_empty.ensures c.if-is_empty.false;
         file = c.in_ok-bytes.ensures.written ∙ ap written (c.in_ok-file.ensures ∙ file_same c.args.text.now q p);
       };
-      code = ?;
-      data = ?;
+      code_count = ?;
+      data_count = ?;
     }

@@ -41,10 +41,10 @@ loop-line-preserved c =
       counted = omega (arith, one_on, i.counted);
       placed = c.behind-place.ensures ∙ (turn_place lines n c.in-Some.line.now c.loop-line.place c.parts-line.result.head t i.placed c.parts-line.ensures.head ∙ ap (λ k. place_behind (take k lines)) one_on);
       known = λ q.
-        turn_labels lines n c.in-Some.line.now (named c.loop-line.labels q) (named c.define_by.new.labels q) q label t
-        (c.in_ok-define_by.ensures q ∙ ap (λ w. option_or (named c.loop-line.labels q) (cond (is_same q (label_in w)) (Some label) None)) c.parts-line.ensures.word)
-        is (i.known q)
-        ∙ ap (λ k. option_map (label_at lines) (position_from (defines q) 0 (take k lines))) one_on;
+          turn_labels lines n c.in-Some.line.now (named c.loop-line.labels q) (named c.define_by.new.labels q) q label t
+          (c.in_ok-define_by.ensures q ∙ ap (λ w. option_or (named c.loop-line.labels q) (cond (is_same q (label_in w)) (Some label) None)) c.parts-line.ensures.word)
+          is (i.known q)
+          ∙ ap (λ k. option_map (label_at lines) (position_from (defines q) 0 (take k lines))) one_on;
     }
 
 pub returns : goal.returns
