@@ -82,9 +82,6 @@ place_near text n p h k e =
     let words = ap (λ (q : Place). q.data_words) e in
     record { code = omega (arith, lines_short text, code_within (take n lines), size, code); words = omega (arith, lines_short text, data_within (take n lines), size, words) }
 
-pub near_at : (text : List ℕ) (n : ℕ) (line : List ℕ) (p : Place) → length text ≤ 67108864 → IsTurn (lines_of text) n line → p ≡ place_behind (take n (lines_of text)) → IsNear p
-near_at text n line p h t e = place_near text n p h (omega (arith, t.inside)) e
-
 -- ---- labels
 abbrev pub labelled : ℕ → ℕ → Label
 labelled address number = record { address = address; line = number }

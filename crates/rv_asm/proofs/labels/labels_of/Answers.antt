@@ -1,4 +1,4 @@
-use Rattle.std.proofs.Common.{◌≡◌, ◌+◌, ◌==◌, ℕ, List, ◌∷◌, [], ◌++◌, length, take, cond, Some, None, refl, sym, ap, ◌∙◌, subst, arith, rules, tests}
+use Rattle.std.proofs.Common.{lit<, ◌≡◌, ◌+◌, ◌==◌, ℕ, List, ◌∷◌, [], ◌++◌, length, take, cond, Some, None, refl, sym, ap, ◌∙◌, subst, arith, rules, tests}
 use Rattle.std.proofs.lemmas.List.{length_push}
 use Rattle.std.specs.declared.slice.Split.{Split}
 use Rattle.std.specs.List.{position_from}
@@ -6,26 +6,12 @@ use Rattle.std.specs.Option.{option_map, option_or}
 use Rattle.rv_asm.specs.Lines.{lines_of, label_in}
 use Rattle.rv_asm.specs.Named.{named}
 use Rattle.rv_asm.specs.Assembled.{place_behind, label_at, is_same, defines}
-use Rattle.rv_asm.proofs.Turns.{line_turn, lines_end, turn_place, near_at, labelled, label_is, turn_labels, all_labels}
+use Rattle.rv_asm.proofs.Turns.{line_turn, lines_end, turn_place, place_near, labelled, label_is, turn_labels, all_labels}
 use Rattle.rv_asm.proofs.labels.labels_of.Goals as goal
 
 pub loop-line-init : goal.loop-line-init
 unfolding place_behind
-loop-line-init c = record { counted = refl; placed = refl; known = c.new-labels.ensures }
-
-pub address-requires : goal.address-requires
-address-requires c =
-    let gives = c.into_iter-line-iterator.ensures.into_iter_gives in
-    let t = line_turn _ c.args.text.now _ _ _ _ c.loop-line.yielded _ c.in-Some.line c.loop-line.yielded_by c.in-Some.is c.next.ensures.steps (ap (λ (s : Split ℕ (Unit {0})). s.rest.now) gives ∙ c.split-line-items.ensures.rest) (ap (λ (s : Split ℕ (Unit {0})). s.done) gives ∙ c.split-line-items.ensures.done) (ap (λ (s : Split ℕ (Unit {0})). s.pred) gives ∙ c.split-line-items.ensures.closure) (λ x b q k. search (rules, tests)) in
-    let near = near_at c.args.text.now (length c.loop-line.yielded) c.in-Some.line.now c.loop-line.place c.requires t c.loop-line.invariant.placed in
-    record { code = near.code; words = near.words }
-
-pub behind-place-requires : goal.behind-place-requires
-behind-place-requires c =
-    let gives = c.into_iter-line-iterator.ensures.into_iter_gives in
-    let t = line_turn _ c.args.text.now _ _ _ _ c.loop-line.yielded _ c.in-Some.line c.loop-line.yielded_by c.in-Some.is c.next.ensures.steps (ap (λ (s : Split ℕ (Unit {0})). s.rest.now) gives ∙ c.split-line-items.ensures.rest) (ap (λ (s : Split ℕ (Unit {0})). s.done) gives ∙ c.split-line-items.ensures.done) (ap (λ (s : Split ℕ (Unit {0})). s.pred) gives ∙ c.split-line-items.ensures.closure) (λ x b q k. search (rules, tests)) in
-    let near = near_at c.args.text.now (length c.loop-line.yielded) c.in-Some.line.now c.loop-line.place c.requires t c.loop-line.invariant.placed in
-    record { code = near.code; words = near.words }
+loop-line-init c = record { counted = refl; placed = refl; code_near = lit< tt; values_near = lit< tt; known = c.new-labels.ensures }
 
 pub loop-line-preserved : goal.loop-line-preserved
 loop-line-preserved c =
@@ -37,9 +23,13 @@ loop-line-preserved c =
     let one_on : n + 1 ≡ length (c.loop-line.yielded ++ c.in-Some.line ∷ []) = sym (length_push c.loop-line.yielded c.in-Some.line) in
     let label = labelled c.address.result c.loop-line.number in
     let is : label ≡ label_at lines n = label_is lines n c.loop-line.place c.address.result c.loop-line.number c.address.ensures i.placed i.counted in
+    let placed = c.behind-place.ensures ∙ (turn_place lines n c.in-Some.line.now c.loop-line.place c.parts-line.result.head t i.placed c.parts-line.ensures.head ∙ ap (λ k. place_behind (take k lines)) one_on) in
+    let near = place_near c.args.text.now (length (c.loop-line.yielded ++ c.in-Some.line ∷ [])) c.behind-place.result c.requires (omega (arith, one_on, t.inside)) placed in
     record {
       counted = omega (arith, one_on, i.counted);
-      placed = c.behind-place.ensures ∙ (turn_place lines n c.in-Some.line.now c.loop-line.place c.parts-line.result.head t i.placed c.parts-line.ensures.head ∙ ap (λ k. place_behind (take k lines)) one_on);
+      placed = placed;
+      code_near = near.code;
+      values_near = near.words;
       known = λ q.
           turn_labels lines n c.in-Some.line.now (named c.loop-line.labels q) (named c.define_by.new.labels q) q label t
           (c.in_ok-define_by.ensures q ∙ ap (λ w. option_or (named c.loop-line.labels q) (cond (is_same q (label_in w)) (Some label) None)) c.parts-line.ensures.word)

@@ -1,4 +1,4 @@
-use Rattle.std.proofs.Common.{◌≡◌, ℕ, List, length, take}
+use Rattle.std.proofs.Common.{◌≡◌, ℕ, ◌^◌, ◌<◌, List, length, take}
 use Rattle.std.specs.List.{position_from}
 use Rattle.std.specs.Option.{option_map}
 use Rattle.rv_asm.specs.Lines.{lines_of}
@@ -10,5 +10,7 @@ abbrev pub invariant-loop-line : goal.invariant-loop-line
 invariant-loop-line l = record {
   counted : l.number ≡ length l.yielded;
   placed : l.place ≡ place_behind (take (length l.yielded) (lines_of l.text));
+  code_near : l.place.code_words < 2 ^ 32;
+  values_near : l.place.data_words < 2 ^ 32;
   known : (q : List ℕ) → named l.labels q ≡ option_map (label_at (lines_of l.text)) (position_from (defines q) 0 (take (length l.yielded) (lines_of l.text)));
 }

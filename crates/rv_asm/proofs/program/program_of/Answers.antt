@@ -1,4 +1,4 @@
-use Rattle.std.proofs.Common.{◌≡◌, ◌+◌, ◌==◌, ℕ, List, ◌∷◌, [], ◌++◌, length, take, Ok, refl, sym, ap, ◌∙◌, subst, arith, rules, tests}
+use Rattle.std.proofs.Common.{lit<, ◌≡◌, ◌+◌, ◌==◌, ℕ, List, ◌∷◌, [], ◌++◌, length, take, Ok, refl, sym, ap, ◌∙◌, subst, arith, rules, tests}
 use Rattle.std.proofs.lemmas.List.{length_push}
 use Rattle.std.specs.declared.slice.Split.{Split}
 use Rattle.qed_model.specs.Below.{gather}
@@ -6,26 +6,12 @@ use Rattle.rv_asm.specs.Lines.{lines_of}
 use Rattle.rv_asm.specs.Named.{named}
 use Rattle.rv_asm.specs.Assembled.{place_behind, symbol_in, code_of, data_of, symbols_of}
 use Rattle.rv_asm.specs.Steps.{next_place}
-use Rattle.rv_asm.proofs.Turns.{line_turn, lines_end, near_at, given_same, first_fault, IsSoFar, so_far_more, so_far_at}
+use Rattle.rv_asm.proofs.Turns.{line_turn, lines_end, place_near, given_same, first_fault, IsSoFar, so_far_more, so_far_at}
 use Rattle.rv_asm.proofs.program.program_of.Goals as goal
 
 pub loop-line-init : goal.loop-line-init
 unfolding place_behind code_of data_of symbols_of gather
-loop-line-init c = record { counted = refl; placed = refl; faultless = λ i l. absurd (omega (arith, l)); code = c.new-program.ensures.code; words = c.new-program.ensures.words; symbols = c.new-program.ensures.symbols }
-
-pub give-requires : goal.give-requires
-give-requires c =
-    let gives = c.into_iter-line-iterator.ensures.into_iter_gives in
-    let t = line_turn _ c.args.text.now _ _ _ _ c.loop-line.yielded _ c.in-Some.line c.loop-line.yielded_by c.in-Some.is c.next.ensures.steps (ap (λ (s : Split ℕ (Unit {0})). s.rest.now) gives ∙ c.split-line-items.ensures.rest) (ap (λ (s : Split ℕ (Unit {0})). s.done) gives ∙ c.split-line-items.ensures.done) (ap (λ (s : Split ℕ (Unit {0})). s.pred) gives ∙ c.split-line-items.ensures.closure) (λ x b q k. search (rules, tests)) in
-    let near = near_at c.args.text.now (length c.loop-line.yielded) c.in-Some.line.now c.loop-line.place c.requires t c.loop-line.invariant.placed in
-    record { code = near.code; words = near.words }
-
-pub address-requires : goal.address-requires
-address-requires c =
-    let gives = c.into_iter-line-iterator.ensures.into_iter_gives in
-    let t = line_turn _ c.args.text.now _ _ _ _ c.loop-line.yielded _ c.in-Some.line c.loop-line.yielded_by c.in-Some.is c.next.ensures.steps (ap (λ (s : Split ℕ (Unit {0})). s.rest.now) gives ∙ c.split-line-items.ensures.rest) (ap (λ (s : Split ℕ (Unit {0})). s.done) gives ∙ c.split-line-items.ensures.done) (ap (λ (s : Split ℕ (Unit {0})). s.pred) gives ∙ c.split-line-items.ensures.closure) (λ x b q k. search (rules, tests)) in
-    let near = near_at c.args.text.now (length c.loop-line.yielded) c.in-Some.line.now c.loop-line.place c.requires t c.loop-line.invariant.placed in
-    record { code = near.code; words = near.words }
+loop-line-init c = record { counted = refl; placed = refl; code_near = lit< tt; values_near = lit< tt; faultless = λ i l. absurd (omega (arith, l)); code = c.new-program.ensures.code; words = c.new-program.ensures.words; symbols = c.new-program.ensures.symbols }
 
 pub returns-in-Err : goal.returns-in-Err
 returns-in-Err c =
@@ -36,13 +22,6 @@ returns-in-Err c =
     let p = c.parts-line.result in
     let same = given_same lines n c.in-Some.line.now (named c.in_ok-labels.labels) c.loop-line.place c.loop-line.number p.head p.word.now p.rest.now t c.in_ok-labels.ensures c.loop-line.invariant.placed c.loop-line.invariant.counted c.parts-line.ensures.head c.parts-line.ensures.word c.parts-line.ensures.rest in
     first_fault c.args.text.now n c.loop-line.number c.in-Some.line.now c.in-Err.fault t c.loop-line.invariant.counted c.loop-line.invariant.faultless (sym same ∙ (sym c.give.ensures ∙ c.in-Err.is))
-
-pub behind-place-requires : goal.behind-place-requires
-behind-place-requires c =
-    let gives = c.into_iter-line-iterator.ensures.into_iter_gives in
-    let t = line_turn _ c.args.text.now _ _ _ _ c.loop-line.yielded _ c.in-Some.line c.loop-line.yielded_by c.in-Some.is c.next.ensures.steps (ap (λ (s : Split ℕ (Unit {0})). s.rest.now) gives ∙ c.split-line-items.ensures.rest) (ap (λ (s : Split ℕ (Unit {0})). s.done) gives ∙ c.split-line-items.ensures.done) (ap (λ (s : Split ℕ (Unit {0})). s.pred) gives ∙ c.split-line-items.ensures.closure) (λ x b q k. search (rules, tests)) in
-    let near = near_at c.args.text.now (length c.loop-line.yielded) c.in-Some.line.now c.loop-line.place c.requires t c.loop-line.invariant.placed in
-    record { code = near.code; words = near.words }
 
 pub loop-line-preserved : goal.loop-line-preserved
 loop-line-preserved c =
@@ -57,12 +36,16 @@ loop-line-preserved c =
     let one_on : n + 1 ≡ length (c.loop-line.yielded ++ c.in-Some.line ∷ []) = sym (length_push c.loop-line.yielded c.in-Some.line) in
     let e = c.in_ok-add-in-Ok.ensures in
     let more =
-    so_far_at lines (n + 1) (length (c.loop-line.yielded ++ c.in-Some.line ∷ [])) (next_place c.loop-line.place p.head) c.add.new.self.code.items c.add.new.self.values.items c.add.new.self.symbols.items one_on
-    (so_far_more lines n c.in-Some.line.now c.loop-line.place p.head p.word.now c.in-Ok.given c.loop-line.program.code.items c.loop-line.program.values.items c.add.new.self.code.items c.add.new.self.values.items c.loop-line.program.symbols.items c.add.new.self.symbols.items t c.parts-line.ensures.head c.parts-line.ensures.word
-    (sym same ∙ (sym c.give.ensures ∙ c.in-Ok.is)) so_far e.code e.words (e.symbols ∙ ap (λ a. c.loop-line.program.symbols.items ++ symbol_in p.word.now a (Ok c.in-Ok.given)) c.address.ensures)) in
+      so_far_at lines (n + 1) (length (c.loop-line.yielded ++ c.in-Some.line ∷ [])) (next_place c.loop-line.place p.head) c.add.new.self.code.items c.add.new.self.values.items c.add.new.self.symbols.items one_on
+      (so_far_more lines n c.in-Some.line.now c.loop-line.place p.head p.word.now c.in-Ok.given c.loop-line.program.code.items c.loop-line.program.values.items c.add.new.self.code.items c.add.new.self.values.items c.loop-line.program.symbols.items c.add.new.self.symbols.items t c.parts-line.ensures.head c.parts-line.ensures.word
+      (sym same ∙ (sym c.give.ensures ∙ c.in-Ok.is)) so_far e.code e.words (e.symbols ∙ ap (λ a. c.loop-line.program.symbols.items ++ symbol_in p.word.now a (Ok c.in-Ok.given)) c.address.ensures)) in
+    let placed = c.behind-place.ensures ∙ more.placed in
+    let near = place_near c.args.text.now (length (c.loop-line.yielded ++ c.in-Some.line ∷ [])) c.behind-place.result c.requires (omega (arith, one_on, t.inside)) placed in
     record {
       counted = omega (arith, one_on, i.counted);
-      placed = c.behind-place.ensures ∙ more.placed;
+      placed = placed;
+      code_near = near.code;
+      values_near = near.words;
       faultless = more.faultless;
       code = more.has_code;
       words = more.has_values;
