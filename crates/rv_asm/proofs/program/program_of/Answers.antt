@@ -36,9 +36,9 @@ loop-line-preserved c =
     let one_on : n + 1 ≡ length (c.loop-line.yielded ++ c.in-Some.line ∷ []) = sym (length_push c.loop-line.yielded c.in-Some.line) in
     let e = c.in_ok-add-in-Ok.ensures in
     let more =
-      so_far_at lines (n + 1) (length (c.loop-line.yielded ++ c.in-Some.line ∷ [])) (next_place c.loop-line.place p.head) c.add.new.self.code.items c.add.new.self.values.items c.add.new.self.symbols.items one_on
-      (so_far_more lines n c.in-Some.line.now c.loop-line.place p.head p.word.now c.in-Ok.given c.loop-line.program.code.items c.loop-line.program.values.items c.add.new.self.code.items c.add.new.self.values.items c.loop-line.program.symbols.items c.add.new.self.symbols.items t c.parts-line.ensures.head c.parts-line.ensures.word
-      (sym same ∙ (sym c.give.ensures ∙ c.in-Ok.is)) so_far e.code e.words (e.symbols ∙ ap (λ a. c.loop-line.program.symbols.items ++ symbol_in p.word.now a (Ok c.in-Ok.given)) c.address.ensures)) in
+    so_far_at lines (n + 1) (length (c.loop-line.yielded ++ c.in-Some.line ∷ [])) (next_place c.loop-line.place p.head) c.add.new.self.code.items c.add.new.self.values.items c.add.new.self.symbols.items one_on
+    (so_far_more lines n c.in-Some.line.now c.loop-line.place p.head p.word.now c.in-Ok.given c.loop-line.program.code.items c.loop-line.program.values.items c.add.new.self.code.items c.add.new.self.values.items c.loop-line.program.symbols.items c.add.new.self.symbols.items t c.parts-line.ensures.head c.parts-line.ensures.word
+    (sym same ∙ (sym c.give.ensures ∙ c.in-Ok.is)) so_far e.code e.words (e.symbols ∙ ap (λ a. c.loop-line.program.symbols.items ++ symbol_in p.word.now a (Ok c.in-Ok.given)) c.address.ensures)) in
     let placed = c.behind-place.ensures ∙ more.placed in
     let near = place_near c.args.text.now (length (c.loop-line.yielded ++ c.in-Some.line ∷ [])) c.behind-place.result c.requires (omega (arith, one_on, t.inside)) placed in
     record {
