@@ -1,0 +1,5 @@
+pub mod Harts
+pub mod HartSteps
+pub mod Together
+pub mod Starts
+pub mod Shared
