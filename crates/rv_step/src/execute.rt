@@ -1,56 +1,51 @@
-//! One step of a machine that goes on.
-ghost use Rattle.std.specs.Prelude.{◌≡◌, ◌≢◌, ◌+◌, ◌%◌, ◌^◌, ◌==◌, Some, None, IfOk, IfErr};
+//! One step of a hart that goes on.
+ghost use Rattle.std.specs.Prelude.{◌≡◌, ◌≢◌, ◌+◌, ◌%◌, ◌^◌, ◌==◌, slice_index, Some, None, IfOk, IfErr};
 ghost use Rattle.rv_isa.specs.Kind.{class_of};
 ghost use Rattle.rv_isa.specs.Regs.{set_reg};
 ghost use Rattle.rv_isa.specs.declared.class.Class.TheVariants as class;
-ghost use Rattle.qed_model.specs.Machine.Step.{act, execute, moved, next, next_pc, stopped, trapped, place as place_of};
+ghost use Rattle.qed_model.specs.Machine.Step.{act, execute, imm, moved, next, next_pc, stopped, trapped};
 ghost use Rattle.rv_alu.specs.Steps.{IsComputing, IsBranching, IsJumping, IsPassing};
-ghost use Rattle.rv_step.specs.Known.{known_at, word_at, at_state};
+ghost use Rattle.rv_step.specs.Harts.{with_memory, Leads, LeadsIn};
+ghost use Rattle.rv_step.specs.Known.{known_at, word_at};
 
+use crate::hart::Hart;
 use crate::loads::{extended, width};
-use crate::machine::Machine;
 use crate::range::any_has_word;
+use mem_image::Image;
 use qed_model::{Cause, Outcome};
 use rv_alu::{Branching, Computing, Jumping, Passing};
 use rv_decode::decode;
 use rv_isa::{Class, Ins, Operation, Reg};
 use std::alloc::AllocError;
 
-impl Machine {
+impl Hart {
     /// The word at an address where code may be executed, else None.
-    fn word(&self, address: u64) -> Option<u32>
-        ensures { result ≡ word_at self.now.state address }
+    fn word(&self, image: &Image, address: u64) -> Option<u32>
+        ensures { result ≡ word_at (with_memory self.now image.now).state address }
     {
         if address % 4 != 0 || !any_has_word(&self.ranges, address) {
             return None;
         }
-        self.image.fetch(address)
-    }
-
-    /// Has the memory remember where the page of an address is.
-    #[inline(always)]
-    pub(crate) fn attend(&mut self, address: u64)
-        ensures { self.new ≡ self.old }
-    {
-        self.image.attend(address);
+        image.fetch(address)
     }
 
     /// The instruction at an address, or None where no code may be executed there or the word is no instruction.
     #[tactic(auto, unfolding(qed_model::specs::Machine::Step::fetched_at))]
-    pub(crate) fn known(&self, address: u64) -> Option<Ins>
-        ensures { result ≡ known_at self.now.state address }
+    pub(crate) fn known(&self, image: &Image, address: u64) -> Option<Ins>
+        ensures { result ≡ known_at (with_memory self.now image.now).state address }
     {
-        let word = self.word(address)?;
+        let word = self.word(image, address)?;
         decode(word)
     }
 
-    /// The step of a machine that goes on, which is not counted here.
+    /// The step of a hart that goes on, which is not counted here.
     #[inline(always)]
-    pub(crate) fn advance(&mut self) -> Result<(), AllocError>
-        ensures advanced { IfOk result (λ _. self.new ≡ at_state (act (next self.old.state) self.old.state) self.old) }
+    pub(crate) fn advance(&mut self, image: &mut Image) -> Result<(), AllocError>
+        ensures advanced { IfOk result (λ _. LeadsIn (λ s. act (next s) s) self.old image.old self.new image.new) }
         ensures kept { IfErr result (λ _. self.new ≡ self.old) }
+        ensures memory { IfErr result (λ _. image.new ≡ image.old) }
     {
-        let Some(word) = self.word(self.pc) else {
+        let Some(word) = self.word(image, self.pc) else {
             self.trap(Cause::Fetch);
             return Ok(());
         };
@@ -59,39 +54,39 @@ impl Machine {
             return Ok(());
         };
         if let Class::Store = ins.class() {
-            self.store(&ins)?;
+            self.store(&ins, image)?;
             return Ok(());
         }
-        self.execute(&ins);
+        self.execute(&ins, image);
         Ok(())
     }
 }
 
-impl Machine {
-    /// Stops the machine.
+impl Hart {
+    /// Stops the hart.
     fn stop(&mut self, outcome: Outcome)
-        ensures { self.new ≡ at_state (stopped outcome self.old.state) self.old }
+        ensures { Leads (stopped outcome) self.old self.new }
     {
         self.outcome = outcome;
     }
 
-    /// Stops the machine by a trap at its pc.
+    /// Stops the hart by a trap at its pc.
     fn trap(&mut self, cause: Cause)
-        ensures { self.new ≡ at_state (trapped cause self.old.state) self.old }
+        ensures { Leads (trapped cause) self.old self.new }
     {
         self.stop(Outcome::Trapped(cause, self.pc));
     }
 
     /// Goes to the next word.
     fn go_on(&mut self)
-        ensures { self.new ≡ at_state (moved self.old.state.regs (next_pc self.old.state) self.old.state) self.old }
+        ensures { Leads (λ s. moved s.regs (next_pc s) s) self.old self.new }
     {
         self.pc = self.pc.wrapping_add(4);
     }
 
     /// Sets a register, and goes to the next word.
-    fn set(&mut self, rd: Reg, value: u64)
-        ensures { self.new ≡ at_state (moved (set_reg rd value self.old.state.regs) (next_pc self.old.state) self.old.state) self.old }
+    fn write_back(&mut self, rd: Reg, value: u64)
+        ensures { Leads (λ s. moved (set_reg rd value s.regs) (next_pc s) s) self.old self.new }
     {
         self.regs.set(rd, value);
         self.go_on();
@@ -99,14 +94,14 @@ impl Machine {
 
     /// One instruction, by its class. The pc is a multiple of 4, as it is where an instruction was fetched.
     #[tactic(auto, unfolding(qed_model::specs::Machine::Step::execute))]
-    fn execute(&mut self, ins: &Ins)
-        requires grain { self.old.state.pc % 4 ≡ 0 }
+    fn execute(&mut self, ins: &Ins, image: &mut Image)
+        requires grain { self.old.pc % 4 ≡ 0 }
         requires class { class_of ins.now.kind ≢ class.Store }
-        ensures { self.new ≡ at_state (execute (class_of ins.now.kind) ins.now self.old.state) self.old }
+        ensures { LeadsIn (execute (class_of ins.now.kind) ins.now) self.old image.old self.new image.new }
     {
         match ins.class() {
             Class::Compute => self.compute(ins),
-            Class::Load => self.load(ins),
+            Class::Load => self.load(ins, image),
             Class::Store => unreachable!(),
             Class::Branch => self.branch(ins),
             Class::Jump | Class::JumpReg => self.jump(ins),
@@ -120,7 +115,7 @@ impl Machine {
     /// A computing instruction.
     fn compute(&mut self, ins: &Ins)
         requires { IsComputing (class_of ins.now.kind) }
-        ensures { self.new ≡ at_state (execute (class_of ins.now.kind) ins.now self.old.state) self.old }
+        ensures { Leads (execute (class_of ins.now.kind) ins.now) self.old self.new }
     {
         self.pc = Computing.act(ins, self.pc, &mut self.regs);
     }
@@ -128,41 +123,42 @@ impl Machine {
     /// FENCE.
     fn pass(&mut self, ins: &Ins)
         requires { IsPassing (class_of ins.now.kind) }
-        ensures { self.new ≡ at_state (execute (class_of ins.now.kind) ins.now self.old.state) self.old }
+        ensures { Leads (execute (class_of ins.now.kind) ins.now) self.old self.new }
     {
         self.pc = Passing.act(ins, self.pc, &mut self.regs);
     }
 
     /// The address that a load or a store touches first.
     fn place(&self, ins: &Ins) -> u64
-        ensures { result ≡ place_of ins.now self.now.state }
+        ensures { result ≡ (slice_index self.now.regs ins.now.rs1 + imm ins.now) % 2 ^ 64 }
     {
         self.reg(ins.rs1).wrapping_add(ins.imm.cast_unsigned())
     }
 
     /// A load.
     #[tactic(auto, unfolding(qed_model::specs::Machine::Step::execute))]
-    fn load(&mut self, ins: &Ins)
-        ensures { self.new ≡ at_state (execute class.Load ins.now self.old.state) self.old }
+    fn load(&mut self, ins: &Ins, image: &mut Image)
+        ensures { LeadsIn (execute class.Load ins.now) self.old image.old self.new image.new }
     {
         let address = self.place(ins);
-        self.attend(address);
-        match self.image.read(address, width(ins.kind)) {
-            Some(number) => self.set(ins.rd, extended(ins.kind, number)),
+        image.attend(address);
+        match image.read(address, width(ins.kind)) {
+            Some(number) => self.write_back(ins.rd, extended(ins.kind, number)),
             None => self.trap(Cause::Load(address)),
         }
     }
 
     /// A store.
     #[tactic(auto, unfolding(qed_model::specs::Machine::Step::execute))]
-    fn store(&mut self, ins: &Ins) -> Result<(), AllocError>
-        ensures stored { IfOk result (λ _. self.new ≡ at_state (execute class.Store ins.now self.old.state) self.old) }
+    fn store(&mut self, ins: &Ins, image: &mut Image) -> Result<(), AllocError>
+        ensures stored { IfOk result (λ _. LeadsIn (execute class.Store ins.now) self.old image.old self.new image.new) }
         ensures kept { IfErr result (λ _. self.new ≡ self.old) }
+        ensures memory { IfErr result (λ _. image.new ≡ image.old) }
     {
         let address = self.place(ins);
         let value = self.reg(ins.rs2);
-        self.attend(address);
-        if self.image.write(address, width(ins.kind), value)? {
+        image.attend(address);
+        if image.write(address, width(ins.kind), value)? {
             self.go_on();
             return Ok(());
         }
@@ -173,8 +169,8 @@ impl Machine {
     /// A branch. Only a target that is taken can be off the grain of 4.
     fn branch(&mut self, ins: &Ins)
         requires class { IsBranching (class_of ins.now.kind) }
-        requires grain { self.old.state.pc % 4 ≡ 0 }
-        ensures { self.new ≡ at_state (execute (class_of ins.now.kind) ins.now self.old.state) self.old }
+        requires grain { self.old.pc % 4 ≡ 0 }
+        ensures { Leads (execute (class_of ins.now.kind) ins.now) self.old self.new }
     {
         let target = Branching.act(ins, self.pc, &mut self.regs);
         if target % 4 == 0 {
@@ -187,7 +183,7 @@ impl Machine {
     /// JAL or JALR. A target off the grain of 4 leaves the register that was to hold the link.
     fn jump(&mut self, ins: &Ins)
         requires { IsJumping (class_of ins.now.kind) }
-        ensures { self.new ≡ at_state (execute (class_of ins.now.kind) ins.now self.old.state) self.old }
+        ensures { Leads (execute (class_of ins.now.kind) ins.now) self.old self.new }
     {
         let before = self.reg(ins.rd);
         let target = Jumping.act(ins, self.pc, &mut self.regs);

@@ -10,44 +10,36 @@ ghost use Rattle.qed_model.specs.Machine.Struck.{struck};
 ghost use Rattle.qed_model.specs.Machine.Apart.{AllFitMemory, AreApart};
 ghost use Rattle.rv_step.specs.Known.{goes_on, known_at, struck_progress, IsPart};
 
-use crate::decoder::Decoder;
-use code_ranges::CodeRange;
+use crate::hart::Hart;
 use elf_types::ElfFile;
 use mem_image::Image;
 use qed_model::{Outcome, Place};
-use rv_isa::{Ins, Reg, Regs};
+use rv_isa::{Ins, Reg};
 use std::alloc::{AllocError, Global};
 use std::marker::Model;
 
 /// A machine: one hart of RV64IM with its memory. Addresses are in bytes.
 #[derive(Debug, Drop)]
 pub struct Machine {
-    pub(crate) regs: Regs,
-    pub(crate) pc: u64,
+    pub(crate) hart: Hart,
     pub(crate) image: Image,
-    pub(crate) ranges: Vec<CodeRange>,
-    pub(crate) outcome: Outcome,
-    pub(crate) steps: u64,
-    /// Nothing rests on what it has kept.
-    pub(crate) decoder: Decoder,
 }
 
 impl Model for Machine {
     ghost use Rattle.qed_model.specs.Machine.Progress.{Progress};
     ghost use Rattle.rv_step.specs.Codes.{progress_code};
-    ghost use Rattle.code_ranges.specs.Ranges.{spans};
+    ghost use Rattle.rv_step.specs.Harts.{with_memory};
 
     ghost Value = { Progress };
 
     ghost coded = { progress_code };
 
-    ghost view = { λ m. record { state = record { regs = m.regs; pc = m.pc; memory = m.image; ranges = spans m.ranges.items; outcome = m.outcome }; steps = m.steps } };
+    ghost view = { λ m. with_memory m.hart m.image };
 }
 
 impl Machine {
     /// One step, as far as the machine goes on, and how it stands then (RISC-V unprivileged manual, RV64I and the M
     /// extension). A step that ends, fires or traps changes nothing but the outcome, and is counted.
-    #[tactic(auto, unfolding(qed_model::specs::Machine::Step::step, qed_model::specs::Machine::Progress::advanced))]
     #[inline(always)]
     pub fn step(&mut self) -> Result<Outcome, AllocError>
         ensures step { IfOk result (λ _. self.new ≡ advanced self.old) }
@@ -56,20 +48,15 @@ impl Machine {
         // Where there is no memory for a page, nothing changes.
         ensures kept { IfErr result (λ _. self.new ≡ self.old) }
     {
-        if !self.goes_on() {
-            return Ok(self.outcome);
-        }
-        self.attend(self.pc);
-        self.advance()?;
-        self.steps = self.steps.saturating_add(1);
-        Ok(self.outcome)
+        let outcome = self.hart.step(&mut self.image)?;
+        Ok(outcome)
     }
 
     /// Whether the machine has not stopped.
     fn goes_on(&self) -> bool
         ensures { result ≡ goes_on self.now.state.outcome }
     {
-        matches!(self.outcome, Outcome::Going)
+        self.hart.goes_on()
     }
 
     /// As many steps as the number says, and how the machine stands then.
@@ -82,53 +69,54 @@ impl Machine {
     {
         for _ in 0..n {
             if !self.goes_on() {
-                return Ok(self.outcome);
+                return Ok(self.hart.outcome());
             }
             self.step()?;
         }
-        Ok(self.outcome)
+        Ok(self.hart.outcome())
     }
 
     /// The number that a register holds.
     pub fn reg(&self, r: Reg) -> u64
         ensures { result ≡ reg self.now.state r }
     {
-        self.regs.get(r)
+        self.hart.reg(r)
     }
 
     /// The address of the next instruction.
     pub fn pc(&self) -> u64
         ensures { result ≡ self.now.state.pc }
     {
-        self.pc
+        self.hart.pc()
     }
 
     /// How many steps were made while the machine went on. It stays at 2^64 - 1.
     pub fn steps(&self) -> u64
         ensures { result ≡ self.now.steps }
     {
-        self.steps
+        self.hart.steps()
     }
 
     /// Whether the machine goes on, or how it stopped.
     pub fn outcome(&self) -> Outcome
         ensures { result ≡ self.now.state.outcome }
     {
-        self.outcome
+        self.hart.outcome()
     }
 
     /// The instruction at the pc, or None where no code may be executed there or the word is no instruction.
     pub fn next(&self) -> Option<Ins>
         ensures { result ≡ known_at self.now.state self.now.state.pc }
     {
-        self.known(self.pc)
+        self.hart.known(&self.image, self.hart.pc())
     }
 
     /// The instruction that stands this many bytes behind the pc, modulo 2^64, or None as in `next`.
     pub fn ahead(&self, offset: u64) -> Option<Ins>
         ensures { result ≡ known_at self.now.state ((self.now.state.pc + offset) % 2 ^ 64) }
     {
-        self.known(self.pc.wrapping_add(offset))
+        self.hart
+            .known(&self.image, self.hart.pc().wrapping_add(offset))
     }
 
     /// The byte at an address, or None where it is not mapped.
@@ -147,7 +135,7 @@ impl Machine {
     {
         match *place {
             Place::Reg(r) => {
-                self.regs.set(r, value);
+                self.hart.set(r, value);
                 Ok(())
             }
             Place::Word(address) => {
@@ -162,13 +150,8 @@ impl Machine {
         ensures { IfOk result (λ machine. machine ≡ self.now) }
     {
         Ok(Machine {
-            regs: self.regs,
-            pc: self.pc,
+            hart: self.hart.copy(alloc)?,
             image: self.image.copy(alloc)?,
-            ranges: Vec::from_slice(alloc, &self.ranges)?,
-            outcome: self.outcome,
-            steps: self.steps,
-            decoder: Decoder::new(alloc)?,
         })
     }
 }

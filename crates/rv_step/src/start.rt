@@ -7,13 +7,10 @@ ghost use Rattle.qed_model.specs.Machine.Progress.{begun};
 ghost use Rattle.mem_image.specs.Overlap.{segment_of, segments_of};
 ghost use Rattle.qed_model.specs.Machine.Apart.{AllFitMemory, AreApart};
 
-use crate::decoder::Decoder;
+use crate::hart::Hart;
 use crate::machine::Machine;
-use code_ranges::code_ranges;
 use elf_types::{Bytes, ElfFile, Segment};
 use mem_image::{Image, ImageError, SegmentSpec};
-use qed_model::Outcome;
-use rv_isa::Regs;
 use std::alloc::{AllocError, Global};
 
 /// The segments of type PT_LOAD.
@@ -45,20 +42,14 @@ impl Machine {
         ensures { IfOk result (λ machine. machine ≡ begun (start (loaded_file file.now) regs.now)) }
     {
         let specs = specs(alloc, file.segments.as_slice())?;
-        let ranges = code_ranges(alloc, file)?;
         let image = match Image::make(alloc, &specs) {
             Ok(image) => image,
             Err(ImageError::Memory) => return Err(AllocError),
             Err(ImageError::Overlap(_, _)) => unreachable!(),
         };
         Ok(Machine {
-            regs: Regs::new(regs),
-            pc: file.entry,
+            hart: Hart::start(alloc, file, regs)?,
             image,
-            ranges,
-            outcome: Outcome::Going,
-            steps: 0,
-            decoder: Decoder::new(alloc)?,
         })
     }
 }

@@ -3,7 +3,7 @@ ghost use Rattle.std.specs.Prelude.{◌≡◌, ◌≤◌, ◌∷◌, [], length,
 ghost use Rattle.qed_model.specs.Machine.Loading.{load_segments};
 ghost use Rattle.qed_model.specs.Machine.Apart.{AllFitMemory, AreApart};
 
-use crate::Machine;
+use crate::{Hart, Machine};
 use elf_types::{Bytes, ElfFile, Listed, Segment};
 use qed_model::{Cause, Outcome, Place};
 use rv_isa::{Kind, Reg};
@@ -288,5 +288,26 @@ fn a_machine_is_struck_and_copied(rt: HostRuntime) -> Result<(), Fail> {
     assert_eq!(rt; machine.reg(x9), 3);
     machine.run(1)?;
     assert_eq!(rt; machine.reg(x9), 5);
+    Ok(())
+}
+
+#[test]
+fn a_hart_steps_in_the_memory_of_another(rt: HostRuntime) -> Result<(), Fail> {
+    let alloc = rt.alloc();
+    // lui x8,0x20; sd x9,0(x8); ecall
+    let file = file(alloc, &[DATA_TO_X8, 0x0094_3023, ECALL], &[7, 7])?;
+    let mut machine = Machine::start(alloc, &file, &[0; 32])?;
+    let mut hart = Hart::start(alloc, &file, &[0; 32])?;
+    let x9 = Reg::new(9).ok_or("a register")?;
+    hart.set(x9, 5);
+    assert_eq!(rt; hart.step(&mut machine.image)?, Outcome::Going);
+    assert_eq!(rt; hart.step(&mut machine.image)?, Outcome::Going);
+    assert_eq!(rt;
+        (machine.byte(DATA), machine.byte(DATA + 4)),
+        (Some(5), Some(0))
+    );
+    assert_eq!(rt; hart.step(&mut machine.image)?, Outcome::Ended);
+    assert_eq!(rt; (hart.reg(x9), hart.pc(), hart.steps()), (5, CODE + 8, 3));
+    assert_eq!(rt; (hart.outcome(), machine.steps()), (Outcome::Ended, 0));
     Ok(())
 }

@@ -1,0 +1,114 @@
+-- Loads and stores of a hart in a memory, and instructions that stop it.
+use Rattle.std.proofs.Common.{◌≡◌, ℕ, ◌+◌, ◌%◌, Bool, true, false, cond, Some, None, refl, sym, ap, ◌∙◌, subst}
+use Rattle.rv_isa.specs.declared.class.Class.{Class}
+use Rattle.rv_isa.specs.declared.class.Class.TheVariants as class
+use Rattle.rv_isa.specs.declared.ins.Ins.{Ins}
+use Rattle.rv_isa.specs.Regs.{set_reg}
+use Rattle.qed_model.specs.declared.machine.Cause.TheVariants as cause
+use Rattle.qed_model.specs.declared.machine.Outcome.TheVariants.{Ended, Fired}
+use Rattle.qed_model.specs.Machine.Memory.{Memory, grants, number, put}
+use Rattle.qed_model.specs.Machine.Values.{loaded, width_of}
+use Rattle.qed_model.specs.Machine.Step.{State, execute, moved, next_pc, place, reg, stopped, stored, trapped}
+use Rattle.mem_image.specs.Access.{allowed_number}
+use Rattle.rv_step.specs.Known.{at_state}
+use Rattle.rv_step.specs.Harts.{HartState, with_memory, LeadsIn, Leads}
+
+-- ---- by the class
+pub by_class : (i : Ins) (h k : HartState) (m : Memory) (c d : Class) (f : State → State) → c ≡ d → ((s : State) → execute d i s ≡ f s) → LeadsIn f h m k m → LeadsIn (execute c i) h m k m
+by_class i h k m c d f e is led = led ∙ ap (λ s. at_state s (with_memory h m)) (sym (ap (λ x. execute x i (with_memory h m).state) e ∙ is (with_memory h m).state))
+
+pub at_end : (i : Ins) (s : State) → execute class.End i s ≡ stopped Ended s
+unfolding execute
+at_end i s = refl
+
+pub at_break : (i : Ins) (s : State) → execute class.Break i s ≡ stopped Fired s
+unfolding execute
+at_break i s = refl
+
+pub at_illegal : (i : Ins) (s : State) → execute class.Illegal i s ≡ trapped (cause.Word 0) s
+unfolding execute
+at_illegal i s = refl
+
+-- ---- loads
+read_some : (t : Bool) (v n : ℕ) (f : ℕ → State) (y : State) → Some v ≡ cond t (Some n) None → f v ≡ cond t (f n) y
+read_some true v n f y e = let same : v ≡ n = cc in ap f same
+read_some false v n f y e = absurd (cc)
+
+read_none : (t : Bool) (n : ℕ) (x y : State) → None ≡ cond t (Some n) None → y ≡ cond t x y
+read_none true n x y e = absurd (cc)
+read_none false n x y e = refl
+
+-- the memory n is m, in which the page was attended to
+pub load_reads :
+    (i : Ins) (h k : HartState) (m n : Memory) (a w v x : ℕ) → n ≡ m → a ≡ place i (with_memory h n).state → w ≡ width_of i.kind → x ≡ loaded i.kind v
+    → Some v ≡ allowed_number (λ f. f.read) n a w → LeadsIn (λ s. moved (set_reg i.rd x s.regs) (next_pc s) s) h n k n → LeadsIn (execute class.Load i) h m k n
+unfolding execute
+load_reads i h k m n a w v x same at wide is read led =
+    let s : State = (with_memory h n).state in
+    let there : Some v ≡ allowed_number (λ f. f.read) n (place i s) (width_of i.kind) = rw (at, wide) at read in
+    let moves : ℕ → State = λ u. moved (set_reg i.rd (loaded i.kind u) s.regs) (next_pc s) s in
+    let here : LeadsIn (execute class.Load i) h n k n =
+    led
+    ∙ ap (λ u. at_state (moved (set_reg i.rd u s.regs) (next_pc s) s) (with_memory h n)) is
+    ∙ ap (λ t. at_state t (with_memory h n)) (read_some (grants (λ f. f.read) n (place i s) (width_of i.kind)) v (number n (place i s) (width_of i.kind)) moves (trapped (cause.Load (place i s)) s) there) in
+    subst (λ r. LeadsIn (execute class.Load i) h r k n) same here
+
+pub load_traps :
+    (i : Ins) (h k : HartState) (m n : Memory) (a w : ℕ) → n ≡ m → a ≡ place i (with_memory h n).state → w ≡ width_of i.kind → None ≡ allowed_number (λ f. f.read) n a w
+    → LeadsIn (trapped (cause.Load a)) h n k n → LeadsIn (execute class.Load i) h m k n
+unfolding execute
+load_traps i h k m n a w same at wide read led =
+    let s : State = (with_memory h n).state in
+    let there : None ≡ allowed_number (λ f. f.read) n (place i s) (width_of i.kind) = rw (at, wide) at read in
+    let here : LeadsIn (execute class.Load i) h n k n =
+    led
+    ∙ ap (λ u. at_state (trapped (cause.Load u) s) (with_memory h n)) at
+    ∙ ap (λ t. at_state t (with_memory h n)) (read_none (grants (λ f. f.read) n (place i s) (width_of i.kind)) (number n (place i s) (width_of i.kind)) (moved (set_reg i.rd (loaded i.kind (number n (place i s) (width_of i.kind))) s.regs) (next_pc s) s) (trapped (cause.Load (place i s)) s) there) in
+    subst (λ r. LeadsIn (execute class.Load i) h r k n) same here
+
+-- ---- stores
+taken : (t : Bool) (x y : State) → t ≡ true → x ≡ cond t x y
+taken true x y e = refl
+taken false x y e = absurd (cc)
+
+left : (t : Bool) (x y : State) → t ≡ false → y ≡ cond t x y
+left true x y e = absurd (cc)
+left false x y e = refl
+
+written_as : (d : Bool) (x y n : Memory) → d ≡ true → n ≡ cond d x y → n ≡ x
+written_as true x y n e h = h
+written_as false x y n e h = absurd (cc)
+
+kept_as : (d : Bool) (x y n : Memory) → d ≡ false → n ≡ cond d x y → n ≡ y
+kept_as true x y n e h = absurd (cc)
+kept_as false x y n e h = h
+
+-- the memory n is m, and o is what the write left
+pub store_writes :
+    (i : Ins) (h k : HartState) (m n o : Memory) (a w v : ℕ) (d : Bool) → n ≡ m → a ≡ place i (with_memory h n).state → w ≡ width_of i.kind → v ≡ reg (with_memory h n).state i.rs2
+    → d ≡ grants (λ f. f.write) n a w → o ≡ cond d (put n a w v) n → d ≡ true → LeadsIn (λ s. moved s.regs (next_pc s) s) h o k o → LeadsIn (execute class.Store i) h m k o
+unfolding execute
+store_writes i h k m n o a w v d same at wide value granted written on led =
+    let s : State = (with_memory h n).state in
+    let granting : grants (λ f. f.write) n (place i s) (width_of i.kind) ≡ true = sym (rw (at, wide) at granted) ∙ on in
+    let wrote : o ≡ put n (place i s) (width_of i.kind) (reg s i.rs2) = rw (at, wide, value) at (written_as d (put n a w v) n o on written) in
+    let here : LeadsIn (execute class.Store i) h n k o =
+    led
+    ∙ ap (λ u. at_state (stored u (next_pc s) s) (with_memory h n)) wrote
+    ∙ ap (λ t. at_state t (with_memory h n)) (taken (grants (λ f. f.write) n (place i s) (width_of i.kind)) (stored (put n (place i s) (width_of i.kind) (reg s i.rs2)) (next_pc s) s) (trapped (cause.Store (place i s)) s) granting) in
+    subst (λ r. LeadsIn (execute class.Store i) h r k o) same here
+
+pub store_traps :
+    (i : Ins) (h k : HartState) (m n o : Memory) (a w v : ℕ) (d : Bool) → n ≡ m → a ≡ place i (with_memory h n).state → w ≡ width_of i.kind
+    → d ≡ grants (λ f. f.write) n a w → o ≡ cond d (put n a w v) n → d ≡ false → LeadsIn (trapped (cause.Store a)) h o k o → LeadsIn (execute class.Store i) h m k o
+unfolding execute
+store_traps i h k m n o a w v d same at wide granted written off led =
+    let s : State = (with_memory h n).state in
+    let shut : grants (λ f. f.write) n (place i s) (width_of i.kind) ≡ false = sym (rw (at, wide) at granted) ∙ off in
+    let kept : o ≡ n = kept_as d (put n a w v) n o off written in
+    let there : LeadsIn (trapped (cause.Store a)) h n k n = subst (λ r. LeadsIn (trapped (cause.Store a)) h r k r) kept led in
+    let here : LeadsIn (execute class.Store i) h n k n =
+    there
+    ∙ ap (λ u. at_state (trapped (cause.Store u) s) (with_memory h n)) at
+    ∙ ap (λ t. at_state t (with_memory h n)) (left (grants (λ f. f.write) n (place i s) (width_of i.kind)) (stored (put n (place i s) (width_of i.kind) (reg s i.rs2)) (next_pc s) s) (trapped (cause.Store (place i s)) s) shut) in
+    subst (λ r. LeadsIn (execute class.Store i) h r k o) same (subst (λ r. LeadsIn (execute class.Store i) h n k r) (sym kept) here)

@@ -1,0 +1,136 @@
+//! A hart, whose memory is another's.
+ghost use Rattle.std.specs.Prelude.{◌≡◌, IfOk, IfErr, slice_index};
+ghost use Rattle.qed_model.specs.Machine.Memory.{Memory};
+ghost use Rattle.qed_model.specs.Machine.Loading.{loaded_file};
+ghost use Rattle.qed_model.specs.Machine.Program.{start};
+ghost use Rattle.qed_model.specs.Machine.Progress.{advanced, begun};
+ghost use Rattle.qed_model.specs.declared.change.Place.TheVariants.{Reg as InReg};
+ghost use Rattle.rv_step.specs.Harts.{hart_of, with_memory};
+ghost use Rattle.rv_step.specs.Known.{goes_on, struck_progress};
+
+use crate::decoder::Decoder;
+use code_ranges::{CodeRange, code_ranges};
+use elf_types::ElfFile;
+use mem_image::Image;
+use qed_model::Outcome;
+use rv_isa::{Reg, Regs};
+use std::alloc::{AllocError, Global};
+use std::marker::Model;
+
+/// One hart of RV64IM: registers, pc, code ranges, outcome and number of steps. Its memory is handed to each step.
+#[derive(Debug, Drop)]
+pub struct Hart {
+    pub(crate) regs: Regs,
+    pub(crate) pc: u64,
+    pub(crate) ranges: Vec<CodeRange>,
+    pub(crate) outcome: Outcome,
+    pub(crate) steps: u64,
+    /// Nothing rests on what it has kept.
+    pub(crate) decoder: Decoder,
+}
+
+impl Model for Hart {
+    ghost use Rattle.rv_step.specs.Harts.{HartState, hart_code};
+    ghost use Rattle.code_ranges.specs.Ranges.{spans};
+
+    ghost Value = { HartState };
+
+    ghost coded = { hart_code };
+
+    ghost view = { λ h. record { regs = h.regs; pc = h.pc; ranges = spans h.ranges.items; outcome = h.outcome; steps = h.steps } };
+}
+
+impl Hart {
+    /// The hart that a file starts: the pc at the entry, the file's code ranges, and x0 at 0 whatever the first number is. It goes
+    /// on, and no step was made.
+    pub fn start(alloc: Global, file: &ElfFile, regs: &[u64; 32]) -> Result<Hart, AllocError>
+        ensures { IfOk result (λ hart. hart ≡ hart_of (begun (start (loaded_file file.now) regs.now))) }
+    {
+        Ok(Hart {
+            regs: Regs::new(regs),
+            pc: file.entry,
+            ranges: code_ranges(alloc, file)?,
+            outcome: Outcome::Going,
+            steps: 0,
+            decoder: Decoder::new(alloc)?,
+        })
+    }
+
+    /// One step in a memory, as far as the hart goes on, and how it stands then (RISC-V unprivileged manual, RV64I and the M
+    /// extension). A step that ends, fires or traps changes nothing but the outcome, and is counted.
+    #[tactic(auto, unfolding(qed_model::specs::Machine::Step::step, qed_model::specs::Machine::Progress::advanced))]
+    #[inline(always)]
+    pub fn step(&mut self, image: &mut Image) -> Result<Outcome, AllocError>
+        ensures step { IfOk result (λ _. with_memory self.new image.new ≡ advanced (with_memory self.old image.old)) }
+        ensures outcome { IfOk result (λ o. o ≡ self.new.outcome) }
+
+        // Where there is no memory for a page, nothing changes.
+        ensures kept { IfErr result (λ _. self.new ≡ self.old) }
+        ensures memory { IfErr result (λ _. image.new ≡ image.old) }
+    {
+        if !self.goes_on() {
+            return Ok(self.outcome);
+        }
+        image.attend(self.pc);
+        self.advance(image)?;
+        self.steps = self.steps.saturating_add(1);
+        Ok(self.outcome)
+    }
+
+    /// Whether the hart has not stopped.
+    pub(crate) fn goes_on(&self) -> bool
+        ensures { result ≡ goes_on self.now.outcome }
+    {
+        matches!(self.outcome, Outcome::Going)
+    }
+
+    /// The number that a register holds.
+    pub fn reg(&self, r: Reg) -> u64
+        ensures { result ≡ slice_index self.now.regs r }
+    {
+        self.regs.get(r)
+    }
+
+    /// The address of the next instruction.
+    pub fn pc(&self) -> u64
+        ensures { result ≡ self.now.pc }
+    {
+        self.pc
+    }
+
+    /// How many steps were made while the hart went on. It stays at 2^64 - 1.
+    pub fn steps(&self) -> u64
+        ensures { result ≡ self.now.steps }
+    {
+        self.steps
+    }
+
+    /// Whether the hart goes on, or how it stopped.
+    pub fn outcome(&self) -> Outcome
+        ensures { result ≡ self.now.outcome }
+    {
+        self.outcome
+    }
+
+    /// Gives a register other than x0 another number.
+    #[tactic(auto, unfolding(qed_model::specs::Machine::Struck::struck))]
+    pub fn set(&mut self, r: Reg, value: u64)
+        ensures { (m : Memory) → with_memory self.new m ≡ struck_progress (InReg r) value (with_memory self.old m) }
+    {
+        self.regs.set(r, value);
+    }
+
+    /// An equal hart.
+    pub(crate) fn copy(&self, alloc: Global) -> Result<Hart, AllocError>
+        ensures { IfOk result (λ hart. hart ≡ self.now) }
+    {
+        Ok(Hart {
+            regs: self.regs,
+            pc: self.pc,
+            ranges: Vec::from_slice(alloc, &self.ranges)?,
+            outcome: self.outcome,
+            steps: self.steps,
+            decoder: Decoder::new(alloc)?,
+        })
+    }
+}
