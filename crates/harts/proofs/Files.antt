@@ -1,7 +1,9 @@
 -- Files that share no byte, by their segments.
-use Rattle.std.proofs.Common.{◌≡◌, ◌≢◌, ℕ, zero, suc, ◌+◌, ◌-◌, ◌^◌, ◌<◌, ◌⊎◌, inl, inr, ⊎_elim, true, false, cond, List, [], ◌∷◌, ◌++◌, length, Some, is_some, refl, sym, ap, ◌∙◌, subst, arith}
-use Rattle.std.specs.Prelude.{nat_le, nat_lt, slice_get}
-use Rattle.std.proofs.lemmas.Bool.{false≢true, and_parts, leb-true, ltb-true, cases_lt}
+use Rattle.std.proofs.Common.{◌≡◌, ◌≢◌, ℕ, zero, suc, ◌+◌, ◌-◌, ◌^◌, ◌<◌, ◌⊎◌, inl, inr, ⊎_elim, Bool, true, false, cond, List, [], ◌∷◌, ◌++◌, length, Some, is_some, refl, sym, ap, ◌∙◌, subst, arith}
+use Rattle.std.specs.Prelude.{◌||◌, slice_get}
+use Rattle.std.specs.List.{list_any}
+use Rattle.std.proofs.lemmas.Bool.{false≢true, cases_lt}
+use Rattle.std.proofs.lemmas.Bool.Decides.{nat_tests}
 use Rattle.std.proofs.lemmas.Option.{slice_get_within}
 use Rattle.qed_model.specs.Machine.Program.{Program, LoadSegment}
 use Rattle.qed_model.specs.Promise.Kept.{is_mapped}
@@ -9,10 +11,9 @@ use Rattle.harts.specs.Harts.{all_segments}
 use Rattle.harts.specs.Together.{IsProgram, AreApart as FilesAreApart}
 use Rattle.qed_model.specs.Machine.Cells.{has, cell_at, cell_among}
 use Rattle.qed_model.specs.Machine.Apart.{share, FitsMemory, AllFitMemory, AreApart}
-use Rattle.qed_model.proofs.CellsAmong.{has_parts}
-use Rattle.mem_image.proofs.WholeLaws as whole
-use Rattle.mem_image.proofs.SegmentLaws.{get-memory_of}
-use Rattle.harts.specs.Shared.{FilesShare, IsShared, AreSound, FilesApart}
+use Rattle.qed_model.proofs.CellsAmong.{has_parts, get_among}
+use Rattle.qed_model.proofs.SegmentCells.{AllSized}
+use Rattle.harts.specs.Shared.{any_share, IsShared, AreUnshared, AreSound, FilesApart}
 
 -- ---- a mapped address lies in a segment
 record Inside (ss : List LoadSegment) (q : ℕ) : Type 0 where
@@ -32,8 +33,19 @@ inside (s ∷ ss) q e =
       | false ↦ λ w x. later s ss q (inside ss q x)
     ] refl e
 
+-- segments that fit have no more bytes in the file than in memory
+sized : (ss : List LoadSegment) → AllFitMemory ss → AllSized ss
+sized [] h = tt
+sized (s ∷ ss) h = (h.0.0, sized ss h.1)
+
 mapped_inside : (g : Program) (q : ℕ) → AllFitMemory g.segments → is_mapped g q ≡ true → Inside g.segments q
-mapped_inside g q fit e = inside g.segments q (ap is_some (sym (get-memory_of g.segments q fit)) ∙ e)
+mapped_inside g q fit e = inside g.segments q (ap is_some (sym (get_among g.segments q (sized g.segments fit))) ∙ e)
+
+-- a file of a list that is sound fits
+fits : (gs : List Program) (i : ℕ) (g : Program) → AreSound gs → IsProgram gs i g → AllFitMemory g.segments
+fits [] i g sound e = absurd (cc)
+fits (x ∷ gs) zero g sound e = let is : x ≡ g = cc in subst (λ y. AllFitMemory y.segments) is sound.0
+fits (x ∷ gs) (suc i) g sound e = fits gs i g sound.2 e
 
 -- a segment of a list that fits
 fits_at : (ss : List LoadSegment) (k : ℕ) (s : LoadSegment) → AllFitMemory ss → slice_get ss k ≡ Some s → FitsMemory s
@@ -49,18 +61,36 @@ low_in s q fit e =
     let b = p.1 in omega (arith, b, c)
 
 -- ---- the files are apart
--- an address that two files have
-shares : (g h : Program) (q : ℕ) → Inside g.segments q → Inside h.segments q → FilesShare g h
-shares g h q x y = record { first_place = x.place; second_place = y.place; first = x.segment; second = y.segment; first_at = x.stands; second_at = y.stands; share = whole.shared x.segment y.segment q x.has y.has }
+either : (b c : Bool) → c ≡ true → (b || c) ≡ true
+either true c e = refl
+either false c e = e
 
-shared : (gs : List Program) (i j : ℕ) (g h : Program) → IsProgram gs i g → IsProgram gs j h → i < j → FilesShare g h → IsShared gs i j
+-- a place whose segment passes a test settles it
+any_at : (p : LoadSegment → Bool) (ss : List LoadSegment) (k : ℕ) (s : LoadSegment) → slice_get ss k ≡ Some s → p s ≡ true → list_any p ss ≡ true
+any_at p [] k s e h = absurd (cc)
+any_at p (x ∷ ss) zero s e h = let is : x ≡ s = cc in ap (λ y. p y || list_any p ss) is ∙ ap (λ b. b || list_any p ss) h
+any_at p (x ∷ ss) (suc k) s e h = either (p x) (list_any p ss) (any_at p ss k s e h)
+
+-- segments of both that share a byte
+both_at : (ss ts : List LoadSegment) (i j : ℕ) (s t : LoadSegment) → slice_get ss i ≡ Some s → slice_get ts j ≡ Some t → share s t ≡ true → any_share ss ts ≡ true
+both_at ss ts i j s t a b h = any_at (λ x. list_any (share x) ts) ss i s a (any_at (share s) ts j t b h)
+
+-- two segments that have an address share a byte
+share_at : (s t : LoadSegment) (q : ℕ) → has s q ≡ true → has t q ≡ true → share s t ≡ true
+share_at s t q x y = grind (arith, nat_tests)
+
+-- an address that two files have
+shares : (g h : Program) (q : ℕ) → Inside g.segments q → Inside h.segments q → any_share g.segments h.segments ≡ true
+shares g h q x y = both_at g.segments h.segments x.place y.place x.segment y.segment x.stands y.stands (share_at x.segment y.segment q x.has y.has)
+
+shared : (gs : List Program) (i j : ℕ) (g h : Program) → IsProgram gs i g → IsProgram gs j h → i < j → any_share g.segments h.segments ≡ true → IsShared gs i j
 shared gs i j g h a b l s = record { order = l; first = g; second = h; first_at = a; second_at = b; share = s }
 
-module _ (gs : List Program) (sound : AreSound gs) (none : (i j : ℕ) → IsShared gs i j → ⊥) where
+module _ (gs : List Program) (sound : AreSound gs) (none : AreUnshared gs) where
   apart : (i j : ℕ) (g h : Program) → IsProgram gs i g → IsProgram gs j h → i ≢ j → (q : ℕ) → is_mapped g q ≡ true → is_mapped h q ≡ true → ⊥
   apart i j g h a b n q x y =
-      let p = mapped_inside g q (sound.fit i g a) x in
-      let r = mapped_inside h q (sound.fit j h b) y in
+      let p = mapped_inside g q (fits gs i g sound a) x in
+      let r = mapped_inside h q (fits gs j h sound b) y in
       ⊎_elim
       (λ l. none i j (shared gs i j g h a b l (shares g h q p r)))
       (λ l. none j i (shared gs j i h g b a (omega (arith, l, n)) (shares h g q r p)))
@@ -68,7 +98,7 @@ module _ (gs : List Program) (sound : AreSound gs) (none : (i j : ℕ) → IsSha
 
   files_apart : FilesAreApart gs
   files_apart = record {
-    low = λ i g e q o. let x = mapped_inside g q (sound.fit i g e) o in low_in x.segment q (fits_at g.segments x.place x.segment (sound.fit i g e) x.stands) x.has;
+    low = λ i g e q o. let x = mapped_inside g q (fits gs i g sound e) o in low_in x.segment q (fits_at g.segments x.place x.segment (fits gs i g sound e) x.stands) x.has;
     apart = apart;
   }
 
@@ -116,26 +146,23 @@ of_file [] k s e = absurd (cc)
 of_file (g ∷ gs) k s e = ⊎_elim (λ a. record { number = 0; file = g; place = k; file_at = refl; stands = a }) (λ b. of_later g gs s (of_file gs b.place s b.stands)) (at_append g.segments (all_segments gs) k s e)
 
 -- the files behind the first
-sound_rest : (g : Program) (gs : List Program) → AreSound (g ∷ gs) → AreSound gs
-sound_rest g gs s = record { fit = λ i h e. s.fit (suc i) h e; apart = λ i h e. s.apart (suc i) h e }
-
 shared_rest : (g : Program) (gs : List Program) (i j : ℕ) → IsShared gs i j → IsShared (g ∷ gs) (suc i) (suc j)
 shared_rest g gs i j x = let l = x.order in record { order = omega (arith, l); first = x.first; second = x.second; first_at = x.first_at; second_at = x.second_at; share = x.share }
 
 all_fit : (gs : List Program) → AreSound gs → AllFitMemory (all_segments gs)
 all_fit [] s = tt
-all_fit (g ∷ gs) s = fit_append g.segments (all_segments gs) (s.fit 0 g refl) (all_fit gs (sound_rest g gs s))
+all_fit (g ∷ gs) s = fit_append g.segments (all_segments gs) s.0 (all_fit gs s.2)
 
 nothing : (i : ℕ) (s : LoadSegment) → slice_get {X = LoadSegment} [] i ≡ Some s → ⊥
 nothing i s e = absurd (cc)
 
-all_apart : (gs : List Program) → AreSound gs → ((i j : ℕ) → IsShared gs i j → ⊥) → AreApart (all_segments gs)
+all_apart : (gs : List Program) → AreSound gs → AreUnshared gs → AreApart (all_segments gs)
 all_apart [] s none = λ i j o. nothing i o.first o.first_at
 all_apart (g ∷ gs) s none =
-    apart_append g.segments (all_segments gs) (s.apart 0 g refl) (all_apart gs (sound_rest g gs s) (λ i j x. none (suc i) (suc j) (shared_rest g gs i j x)))
+    apart_append g.segments (all_segments gs) s.1 (all_apart gs s.2 (λ i j x. none (suc i) (suc j) (shared_rest g gs i j x)))
     (λ i j a b p q x.
     let y = of_file gs j b q in
-    none 0 (suc y.number) (shared (g ∷ gs) 0 (suc y.number) g y.file refl y.file_at (omega arith) (record { first_place = i; second_place = y.place; first = a; second = b; first_at = p; second_at = y.stands; share = x })))
+    none 0 (suc y.number) (shared (g ∷ gs) 0 (suc y.number) g y.file refl y.file_at (omega arith) (both_at g.segments y.file.segments i y.place a b p y.stands x)))
 
-pub none_shared : (gs : List Program) → AreSound gs → ((i j : ℕ) → IsShared gs i j → ⊥) → FilesApart gs
+pub none_shared : (gs : List Program) → AreSound gs → AreUnshared gs → FilesApart gs
 none_shared gs s none = record { files = files_apart gs s none; fit = all_fit gs s; segments = all_apart gs s none }

@@ -8,22 +8,9 @@ use Rattle.qed_model.specs.Promise.Changed.{changed_run}
 use Rattle.qed_model.specs.Machine.Progress.{steps_after, begun, progress}
 use Rattle.qed_model.specs.Machine.Step.{State, step}
 use Rattle.qed_model.specs.Machine.Program.{Program, start, zeros}
+use Rattle.rv_step.specs.Harts.{HartState}
 use Rattle.harts.specs.Harts.{Hart, World, state_of, hart_of, begin, turned, on_hart, with_due, hart_turns, world_after}
 use Rattle.harts.specs.Together.{IsProgram, AreAlone, Shows, own_run}
-
--- ---- one hart
--- a hart, and how many steps it has made
-pub record Stepped : Type 0 where
-  pub hart : Hart
-  pub steps : ℕ
-
--- the hart after a step of it and the memory
-abbrev pub advanced_hart : Memory → Stepped → Stepped
-advanced_hart m h = record { hart = hart_of (step (state_of h.hart m)); steps = steps_after h.hart.outcome h.steps }
-
--- the hart after a change of it or of the memory, which is no step
-abbrev pub struck_hart : Place → ℕ → Memory → Stepped → Stepped
-struck_hart p x m h = record { hart = hart_of (struck p x (state_of h.hart m)); steps = h.steps }
 
 -- ---- all harts
 -- a world, and the steps of each hart
@@ -31,9 +18,13 @@ pub record Counted : Type 0 where
   pub world : World
   pub steps : List ℕ
 
+-- a hart without its steps
+abbrev pub bare : HartState → Hart
+bare h = record { regs = h.regs; pc = h.pc; ranges = h.ranges; outcome = h.outcome }
+
 -- the harts with their steps, and a memory
-abbrev pub counted : List Stepped → Memory → Counted
-counted hs m = record { world = record { harts = map (λ h. h.hart) hs; memory = m }; steps = map (λ h. h.steps) hs }
+abbrev pub counted : List HartState → Memory → Counted
+counted hs m = record { world = record { harts = map bare hs; memory = m }; steps = map (λ h. h.steps) hs }
 
 -- before the first turn
 abbrev pub counted_start : List Program → Counted

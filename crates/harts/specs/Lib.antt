@@ -3,3 +3,5 @@ pub mod HartSteps
 pub mod Together
 pub mod Starts
 pub mod Shared
+pub mod Codes
+pub mod Played

@@ -1,19 +1,16 @@
 -- Files of which segments share a byte, and what is known where none do.
-use Rattle.std.specs.Prelude.{◌≡◌, ℕ, ◌<◌, ◌≤◌, ◌⊎◌, true, List, slice_get, Some}
+use Rattle.std.specs.Prelude.{◌≡◌, ℕ, ◌<◌, ◌≤◌, ◌⊎◌, Bool, true, List, [], ◌∷◌, Some}
+use Rattle.std.specs.List.{list_any}
 use Rattle.qed_model.specs.Machine.Program.{Program, LoadSegment}
 use Rattle.harts.specs.Harts.{all_segments}
 use Rattle.harts.specs.Together.{IsProgram, AreApart as FilesAreApart}
 use Rattle.qed_model.specs.Machine.Apart.{share, AllFitMemory, AreApart}
+use Rattle.harts.specs.declared.error.HartsError.{HartsError}
+use Rattle.harts.specs.declared.error.HartsError.TheVariants.{Shared, Memory}
 
--- a segment of each file, and both have an address in common
-pub record FilesShare (g h : Program) : Type 0 where
-  pub first_place : ℕ
-  pub second_place : ℕ
-  pub first : LoadSegment
-  pub second : LoadSegment
-  pub first_at : slice_get g.segments first_place ≡ Some first
-  pub second_at : slice_get h.segments second_place ≡ Some second
-  pub share : share first second ≡ true
+-- a segment of the one list shares a byte with one of the other
+abbrev pub any_share : List LoadSegment → List LoadSegment → Bool
+any_share ss ts = list_any (λ s. list_any (share s) ts) ss
 
 -- files i and j share a byte, i before j
 pub record IsShared (gs : List Program) (i j : ℕ) : Type 0 where
@@ -22,17 +19,31 @@ pub record IsShared (gs : List Program) (i j : ℕ) : Type 0 where
   pub second : Program
   pub first_at : IsProgram gs i first
   pub second_at : IsProgram gs j second
-  pub share : FilesShare first second
+  pub share : any_share first.segments second.segments ≡ true
 
 -- i and j are the least such pair, by i and then j
 pub record IsLeastShared (gs : List Program) (i j : ℕ) : Type 0 where
   pub shared : IsShared gs i j
   pub least : (h k : ℕ) → IsShared gs h k → (i < h) ⊎ ((i ≡ h) × (j ≤ k))
 
+-- j is the least that shares a byte with i
+pub record IsNextShared (gs : List Program) (i j : ℕ) : Type 0 where
+  pub shared : IsShared gs i j
+  pub least : (k : ℕ) → IsShared gs i k → j ≤ k
+
+-- no two files share a byte
+abbrev pub AreUnshared : List Program → Type 0
+AreUnshared gs = (i j : ℕ) → IsShared gs i j → ⊥
+
+-- why there is no world: the least pair that shares a byte, or, where none does, a lack of memory
+abbrev pub Explains : List Program → HartsError → Type 0
+Explains gs (Shared i j) = IsLeastShared gs i j
+Explains gs Memory = AreUnshared gs
+
 -- the segments of each file fit, and no two of one file share a byte
-pub record AreSound (gs : List Program) : Type 0 where
-  pub fit : (i : ℕ) (g : Program) → IsProgram gs i g → AllFitMemory g.segments
-  pub apart : (i : ℕ) (g : Program) → IsProgram gs i g → AreApart g.segments
+abbrev pub AreSound : List Program → Type 0
+AreSound [] = Unit {0}
+AreSound (g ∷ gs) = AllFitMemory g.segments × AreApart g.segments × AreSound gs
 
 -- where no two files share a byte, they are apart, and all segments together make one memory
 pub record FilesApart (gs : List Program) : Type 0 where
@@ -41,4 +52,4 @@ pub record FilesApart (gs : List Program) : Type 0 where
   pub segments : AreApart (all_segments gs)
 
 abbrev pub NoneShared : Type 0
-NoneShared = (gs : List Program) → AreSound gs → ((i j : ℕ) → IsShared gs i j → ⊥) → FilesApart gs
+NoneShared = (gs : List Program) → AreSound gs → AreUnshared gs → FilesApart gs

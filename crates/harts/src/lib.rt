@@ -1,12 +1,20 @@
-//! Several harts with one memory: each runs as it runs alone, and what is promised of its file holds of it.
-//!
-//! Definitions and laws alone.
+//! Several harts with one memory. Contracts see a world as its harts with their steps, and the memory that they share; a turn is
+//! the step of the definitions. Where the files share no byte, each hart runs as it runs alone, and what is promised of its file
+//! holds of it: the laws say so.
 #![tactic(auto)]
 
 ghost use Rattle.harts.specs.Shared.{NoneShared};
 ghost use Rattle.harts.specs.Starts.{WorldLaws};
 ghost use Rattle.harts.specs.HartSteps.{CountedTogether, TurnsRun};
 ghost use Rattle.harts.specs.Together.{Together, PerHart};
+
+mod error;
+mod parts;
+mod shared;
+mod world;
+
+pub use error::HartsError;
+pub use world::World;
 
 /// Files that share no byte, each on a hart of its own and with changes of its own: after any schedule each hart has the
 /// registers, the pc, the outcome and the bytes that its run has when it runs alone, as far as no hart is trapped alone.
@@ -37,3 +45,6 @@ pub fn files_apart()
 pub fn world_laws()
     ensures { WorldLaws }
 {}
+
+#[cfg(test)]
+mod tests;
