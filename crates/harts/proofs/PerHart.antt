@@ -1,0 +1,129 @@
+-- What is promised of a hart's file holds of the hart, in its own turns.
+use Rattle.std.proofs.Common.{◌≡◌, ℕ, zero, suc, ◌+◌, ◌≤◌, ◌⊎◌, inl, inr, true, List, [], is_some, refl, sym, ap, ◌∙◌, subst, arith}
+use Rattle.std.specs.Prelude.{◌↔◌, slice_index, replicate}
+use Rattle.std.specs.FinMap.{get}
+use Rattle.std.proofs.lemmas.Option.{same_Some}
+use Rattle.qed_model.specs.declared.machine.Outcome.TheVariants.{Ended, Fired}
+use Rattle.qed_model.specs.declared.change.Change.{Change}
+use Rattle.qed_model.specs.declared.bounds.Bounds.{Bounds}
+use Rattle.qed_model.specs.Machine.Memory.{byte_in}
+use Rattle.qed_model.specs.Machine.Step.{State, step, run}
+use Rattle.qed_model.specs.Promise.Changed.{with_changes, changed_run, last_step}
+use Rattle.qed_model.specs.Machine.Program.{Program, start, zeros, AreStartRegs}
+use Rattle.qed_model.specs.Promise.Kept.{is_trapped, after_input, after_output, Halves, Preserved, NoFalseAlarm, Kept}
+use Rattle.qed_model.specs.Promise.Caught.{Same, Settles, Caught}
+use Rattle.harts.specs.Harts.{hart_of, hart_turns}
+use Rattle.harts.specs.Together.{IsProgram, own_run, IsSeen, HartKept, QuietInTurns, KeptInTurns, SameHart, SettlesInTurns, HartCaught, PerHart}
+use Rattle.qed_model.proofs.CellsLaws.{byte_of_cell}
+use Rattle.qed_model.proofs.Walk.{run-more}
+use Rattle.harts.proofs.Beside.{Holds}
+use Rattle.harts.proofs.Together.{stand_after}
+
+-- ---- the start
+-- each number of a list of zeros is 0
+zero_at : (n r : ℕ) → slice_index (replicate n 0) r ≡ 0
+zero_at zero r = refl
+zero_at (suc n) zero = refl
+zero_at (suc n) (suc r) = zero_at n r
+
+zeros_are : AreStartRegs zeros
+zeros_are = record { count = refl; fit = λ r. let e = zero_at 32 r in omega (arith, e) }
+
+-- no step
+run-none : (s : State) → run s 0 ≡ s
+unfolding run
+run-none s = refl
+
+-- one step more
+run-last : (s : State) (n : ℕ) → run s (n + 1) ≡ step (run s n)
+unfolding run
+run-last s n = run-more s n 1
+
+-- a run without changes is a run
+no_changes : (s : State) (n : ℕ) → changed_run s [] n ≡ run s n
+unfolding changed_run with_changes
+no_changes s zero = sym (run-none s)
+no_changes s (suc n) = let e : n + 1 ≡ suc n = omega arith in ap step (no_changes s n) ∙ sym (run-last s n) ∙ ap (run s) e
+
+-- ---- a hart that is seen
+-- it is the hart of its own run, and the memory has its cells
+record Mine (g : Program) (u s : State) : Type 0 where
+  hart : hart_of u ≡ hart_of s
+  holds : Holds g s.memory u.memory
+
+-- equal runs
+mine_as : (g : Program) (u s t : State) → s ≡ t → Mine g u s → Mine g u t
+mine_as g u s t e m = subst (Mine g u) e m
+
+seen_mine : (gs : List Program) (i : ℕ) (g : Program) (c : List Change) (k : ℕ) (u : State) → IsProgram gs i g → IsSeen gs i c k u → Mine g u (changed_run (start g zeros) c k)
+seen_mine gs i g c k u e x =
+    let stand = stand_after gs x.changes x.schedule x.alone in
+    let s : State = own_run x.changes x.schedule i g in
+    let is : x.hart ≡ hart_of s = same_Some x.hart (hart_of s) (sym x.stands ∙ stand.harts i g e) in
+    let m : Mine g u s = record {
+      hart = ap (λ y. hart_of y) x.is ∙ is;
+      holds = subst (λ y. Holds g s.memory y.memory) (sym x.is) (stand.holds i g e);
+    } in
+    mine_as g u s (changed_run (start g zeros) c k) (ap (λ y. changed_run (start g zeros) y (hart_turns x.schedule i)) x.own ∙ ap (changed_run (start g zeros) c) x.turns) m
+
+-- without changes it is the plain run
+seen_plain : (gs : List Program) (i : ℕ) (g : Program) (k : ℕ) (u : State) → IsProgram gs i g → IsSeen gs i [] k u → Mine g u (after_output g zeros k)
+seen_plain gs i g k u e x = mine_as g u (changed_run (start g zeros) [] k) (after_output g zeros k) (no_changes (start g zeros) k) (seen_mine gs i g [] k u e x)
+
+-- the outcome is that of its own run
+same_outcome : (g : Program) (u s : State) → Mine g u s → u.outcome ≡ s.outcome
+same_outcome g u s m = ap (λ h. h.outcome) m.hart
+
+-- a byte that its own run maps is that of its own run
+cell_of_mine : (g : Program) (u s : State) → Mine g u s → (q : ℕ) → is_some (get s.memory q) ≡ true → get u.memory q ≡ get s.memory q
+cell_of_mine g u s m q o = m.holds.cells q (sym (m.holds.mapped q) ∙ o)
+
+-- so it has the values that its own run has
+halves_mine : (f g : Program) (a u s : State) → Mine g u s → Halves f a s → Halves f a u
+halves_mine f g a u s m h = record {
+  regs = λ r l k. ap (λ x. slice_index x.regs r) m.hart ∙ h.regs r l k;
+  mapped = λ q o. ap is_some (cell_of_mine g u s m q (h.mapped q o)) ∙ h.mapped q o;
+  bytes = λ q o. byte_of_cell u.memory q ∙ ap byte_in (cell_of_mine g u s m q (h.mapped q o)) ∙ sym (byte_of_cell s.memory q) ∙ h.bytes q o;
+}
+
+-- ---- both promises
+kept : (gs : List Program) (i : ℕ) (f g : Program) (first bound : ℕ) → IsProgram gs i g → Kept f g first bound → HartKept f first bound (IsSeen gs i [])
+kept gs i f g first bound e k = record {
+  values = λ n nt. values n (k.values zeros n zeros_are nt);
+  quiet = λ m u nt x. quiet m u (k.quiet zeros m zeros_are nt) (seen_plain gs i g m u e x);
+} where
+  values : (n : ℕ) → Preserved f g first bound n zeros → KeptInTurns f first bound n (IsSeen gs i [])
+  values n h = record {
+    turns = h.steps;
+    within = h.within;
+    halves = λ u x. let m = seen_plain gs i g h.steps u e x in halves_mine f g (after_input f n) u (after_output g zeros h.steps) m h.halves;
+    ends = λ u x. let m = seen_plain gs i g h.steps u e x in subst (λ o. (o ≡ Ended) ↔ ((after_input f n).outcome ≡ Ended)) (sym (same_outcome g u (after_output g zeros h.steps) m)) h.ends;
+  }
+
+  quiet : (m : ℕ) (u : State) → NoFalseAlarm f g m zeros → Mine g u (after_output g zeros m) → QuietInTurns f m u
+  quiet m u h x =
+      let o = same_outcome g u (after_output g zeros m) x in
+      record {
+        no_check = λ z. h.no_check (sym o ∙ z);
+        no_trap = ap is_trapped o ∙ h.no_trap;
+        ended = λ z. let r = h.ended (sym o ∙ z) in (r.0, halves_mine f g (after_input f m) u (after_output g zeros m) x r.1);
+      }
+
+-- states of one own run
+same_hart : (g : Program) (u v s t : State) → Mine g u s → Mine g v t → s ≡ t → SameHart g u v
+same_hart g u v s t x y e =
+    let z = mine_as g u s t e x in
+    record { hart = z.hart ∙ sym y.hart; bytes = λ q o. z.holds.cells q o ∙ sym (y.holds.cells q o) }
+
+caught : (gs : List Program) (i : ℕ) (f g : Program) (spans : List (ℕ × ℕ)) (bounds : Bounds) → IsProgram gs i g → Caught f g spans bounds → HartCaught f g spans bounds (IsSeen gs i)
+caught gs i f g spans bounds e k = record { settles = λ cs b ordered places bound nt going. settles cs b (k.settles zeros cs b zeros_are ordered places bound nt going) } where
+  settles : (cs : List Change) (b : ℕ) → Settles spans (last_step cs) b (changed_run (start g zeros) cs) (after_output g zeros) → SettlesInTurns g (last_step cs) b (IsSeen gs i cs) (IsSeen gs i [])
+  settles cs b h = record { turns = h.steps; within = h.within; settled = by h.settled } where
+    by : ((changed_run (start g zeros) cs h.steps).outcome ≡ Fired) ⊎ (((changed_run (start g zeros) cs h.steps).outcome ≡ Ended) ⊎ ((last_step cs ≤ h.steps) × Same spans (changed_run (start g zeros) cs h.steps) (after_output g zeros h.steps))) →
+        ((u : State) → IsSeen gs i cs h.steps u → u.outcome ≡ Fired) ⊎ (((u : State) → IsSeen gs i cs h.steps u → u.outcome ≡ Ended) ⊎ ((last_step cs ≤ h.steps) × ((u v : State) → IsSeen gs i cs h.steps u → IsSeen gs i [] h.steps v → SameHart g u v)))
+    by (inl o) = inl (λ u x. same_outcome g u (changed_run (start g zeros) cs h.steps) (seen_mine gs i g cs h.steps u e x) ∙ o)
+    by (inr (inl o)) = inr (inl (λ u x. same_outcome g u (changed_run (start g zeros) cs h.steps) (seen_mine gs i g cs h.steps u e x) ∙ o))
+    by (inr (inr z)) = inr (inr (z.0, λ u v x y. same_hart g u v (changed_run (start g zeros) cs h.steps) (after_output g zeros h.steps) (seen_mine gs i g cs h.steps u e x) (seen_plain gs i g h.steps v e y) z.1.all))
+
+pub per_hart : PerHart
+per_hart = record { kept = kept; caught = caught }

@@ -1,0 +1,42 @@
+-- The world that files start.
+use Rattle.std.proofs.Common.{◌≡◌, ℕ, List, [], ◌∷◌, refl, ap, ◌∙◌, sym, subst}
+use Rattle.std.specs.Prelude.{map}
+use Rattle.elf_types.specs.declared.file.ElfFile.{ElfFile}
+use Rattle.qed_model.specs.Machine.Apart.{AllFitMemory, AreApart}
+use Rattle.qed_model.specs.Machine.Memory.{Memory}
+use Rattle.qed_model.specs.Machine.Program.{LoadSegment, memory_of}
+use Rattle.rv_step.specs.Harts.{HartState}
+use Rattle.harts.specs.Harts.{all_segments, begin}
+use Rattle.harts.specs.HartSteps.{Counted, bare, counted, counted_start}
+use Rattle.harts.specs.Shared.{AreSound, AreUnshared}
+use Rattle.harts.specs.Played.{programs, started}
+use Rattle.harts.proofs.Files.{none_shared}
+
+-- the harts
+harts_started : (files : List ElfFile) → map bare (map started files) ≡ (begin (programs files)).harts
+harts_started [] = refl
+harts_started (f ∷ files) = ap (λ hs. bare (started f) ∷ hs) (harts_started files)
+
+-- and their steps
+steps_started : (files : List ElfFile) → map (λ h. h.steps) (map started files) ≡ map (λ g. 0) (programs files)
+steps_started [] = refl
+steps_started (f ∷ files) = ap (λ ns. 0 ∷ ns) (steps_started files)
+
+-- equal parts
+same_start : (c d : Counted) → c.world.harts ≡ d.world.harts → c.world.memory ≡ d.world.memory → c.steps ≡ d.steps → c ≡ d
+same_start c d a b e = λ j. record { world = record { harts = a j; memory = b j }; steps = e j }
+
+-- the world of these harts, and of the memory of all segments
+pub world_started : (files : List ElfFile) (hs : List HartState) (m : Memory) (ss : List LoadSegment) → hs ≡ map started files → m ≡ memory_of ss → ss ≡ all_segments (programs files) → counted hs m ≡ counted_start (programs files)
+world_started files hs m ss h is e =
+    same_start (counted hs m) (counted_start (programs files))
+    (ap (λ x. map bare x) h ∙ harts_started files)
+    (is ∙ ap memory_of e)
+    (ap (λ x. map (λ y. y.steps) x) h ∙ steps_started files)
+
+-- all segments make one memory
+pub all_fit : (files : List ElfFile) (ss : List LoadSegment) → AreSound (programs files) → AreUnshared (programs files) → ss ≡ all_segments (programs files) → AllFitMemory ss
+all_fit files ss sound none e = subst AllFitMemory (sym e) (none_shared (programs files) sound none).fit
+
+pub all_apart : (files : List ElfFile) (ss : List LoadSegment) → AreSound (programs files) → AreUnshared (programs files) → ss ≡ all_segments (programs files) → AreApart ss
+all_apart files ss sound none e = subst AreApart (sym e) (none_shared (programs files) sound none).segments

@@ -1,0 +1,8 @@
+use Rattle.std.proofs.Common.{◌≡◌, drop}
+use Rattle.qed_model.specs.Machine.Loading.{load_segments}
+use Rattle.harts.specs.Shared.{any_share}
+use Rattle.harts.proofs.shared.any_share.Given as goal
+
+-- the rest decides
+abbrev pub invariant-loop-segment : goal.invariant-loop-segment
+invariant-loop-segment l = any_share (load_segments (drop l.segment-index l.segments)) (load_segments l.others) ≡ any_share (load_segments l.segments) (load_segments l.others)

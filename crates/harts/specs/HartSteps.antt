@@ -1,0 +1,84 @@
+-- Several harts with one memory, and the number of steps of each: its turns from states that went on.
+use Rattle.std.specs.Prelude.{◌≡◌, ℕ, zero, suc, ◌%◌, length, List, [], ◌∷◌, map, slice_get, slice_set, slice_index, Option, Some, None}
+use Rattle.qed_model.specs.declared.change.Place.{Place}
+use Rattle.qed_model.specs.declared.change.Change.{Change}
+use Rattle.qed_model.specs.Machine.Memory.{Memory}
+use Rattle.qed_model.specs.Machine.Struck.{struck}
+use Rattle.qed_model.specs.Promise.Changed.{changed_run}
+use Rattle.qed_model.specs.Machine.Progress.{steps_after, begun, progress}
+use Rattle.qed_model.specs.Machine.Step.{State, step}
+use Rattle.qed_model.specs.Machine.Program.{Program, start, zeros}
+use Rattle.rv_step.specs.Harts.{HartState}
+use Rattle.harts.specs.Harts.{Hart, World, state_of, hart_of, begin, turned, on_hart, with_due, hart_turns, world_after}
+use Rattle.harts.specs.Together.{IsProgram, AreAlone, Shows, own_run}
+
+-- ---- all harts
+-- a world, and the steps of each hart
+pub record Counted : Type 0 where
+  pub world : World
+  pub steps : List ℕ
+
+-- a hart without its steps
+abbrev pub bare : HartState → Hart
+bare h = record { regs = h.regs; pc = h.pc; ranges = h.ranges; outcome = h.outcome }
+
+-- the harts with their steps, and a memory
+abbrev pub counted : List HartState → Memory → Counted
+counted hs m = record { world = record { harts = map bare hs; memory = m }; steps = map (λ h. h.steps) hs }
+
+-- before the first turn
+abbrev pub counted_start : List Program → Counted
+counted_start gs = record { world = begin gs; steps = map (λ g. 0) gs }
+
+-- the steps after a turn of the hart that has the number i
+abbrev pub steps_turned : Option Hart → ℕ → List ℕ → List ℕ
+steps_turned None i ns = ns
+steps_turned (Some h) i ns = slice_set ns i (steps_after h.outcome (slice_index ns i))
+
+-- a turn of hart i
+abbrev pub counted_turn : ℕ → Counted → Counted
+counted_turn i c = record { world = turned i c.world; steps = steps_turned (slice_get c.world.harts i) i c.steps }
+
+-- one change of hart i, which is no step
+abbrev pub counted_strike : ℕ → Place → ℕ → Counted → Counted
+counted_strike i p x c = record { world = on_hart i (struck p x) c.world; steps = c.steps }
+
+-- ---- without changes
+-- the turns of a schedule
+unfoldable pub counted_turns : Counted → List ℕ → Counted
+counted_turns c [] = c
+counted_turns c (t ∷ ts) = counted_turn t (counted_turns c ts)
+
+-- the schedule of n turns in which the harts of a list take turns, again and again
+unfoldable pub cycled : List ℕ → ℕ → List ℕ
+cycled harts zero = []
+cycled harts (suc n) = slice_index harts (n % length harts) ∷ cycled harts n
+
+-- ---- with changes
+-- the steps of each hart after a schedule
+unfoldable pub steps_after_turns : List Program → (ℕ → List Change) → List ℕ → List ℕ
+steps_after_turns gs cs [] = map (λ g. 0) gs
+steps_after_turns gs cs (t ∷ ts) = steps_turned (slice_get (world_after gs cs ts).harts t) t (steps_after_turns gs cs ts)
+
+-- the world and the steps after a schedule
+abbrev pub counted_after : List Program → (ℕ → List Change) → List ℕ → Counted
+counted_after gs cs ts = record { world = world_after gs cs ts; steps = steps_after_turns gs cs ts }
+
+-- the steps that a run alone makes from states that go on
+unfoldable pub own_steps : State → List Change → ℕ → ℕ
+own_steps s cs zero = 0
+own_steps s cs (suc n) = steps_after (changed_run s cs n).outcome (own_steps s cs n)
+
+-- ---- what is promised
+-- a hart stands as a state does, and has made n steps
+pub record ShowsCounted (g : Program) (i : ℕ) (c : Counted) (s : State) (n : ℕ) : Type 0 where
+  pub shows : Shows g i c.world s
+  pub steps : slice_get c.steps i ≡ Some n
+
+-- after any schedule each hart stands as it stands alone, and has made as many steps
+abbrev pub CountedTogether : Type 0
+CountedTogether = (gs : List Program) (cs : ℕ → List Change) (ts : List ℕ) → AreAlone gs cs ts → (i : ℕ) (g : Program) → IsProgram gs i g → ShowsCounted g i (counted_after gs cs ts) (own_run cs ts i g) (own_steps (start g zeros) (cs i) (hart_turns ts i))
+
+-- without changes each hart stands as a run of its file stands, and has made as many steps
+abbrev pub TurnsRun : Type 0
+TurnsRun = (gs : List Program) (ts : List ℕ) → AreAlone gs (λ i. []) ts → (i : ℕ) (g : Program) → IsProgram gs i g → ShowsCounted g i (counted_turns (counted_start gs) ts) (progress (begun (start g zeros)) (hart_turns ts i)).state (progress (begun (start g zeros)) (hart_turns ts i)).steps

@@ -1,0 +1,22 @@
+-- The programs of files, and turns that were made before memory was lacking.
+use Rattle.std.specs.Prelude.{◌≡◌, ◌≤◌, ℕ, List, map}
+use Rattle.elf_types.specs.declared.file.ElfFile.{ElfFile}
+use Rattle.qed_model.specs.Machine.Program.{Program, start, zeros}
+use Rattle.qed_model.specs.Machine.Loading.{loaded_file}
+use Rattle.qed_model.specs.Machine.Progress.{begun}
+use Rattle.rv_step.specs.Harts.{HartState, hart_of}
+use Rattle.harts.specs.HartSteps.{Counted, counted_turns, cycled}
+
+-- what the headers of each file describe
+abbrev pub programs : List ElfFile → List Program
+programs files = map loaded_file files
+
+-- the hart that a file starts, with all registers 0
+abbrev pub started : ElfFile → HartState
+started file = hart_of (begun (start (loaded_file file) zeros))
+
+-- some of n turns were made, by the harts of a list again and again
+pub record IsPartPlayed (c : Counted) (harts : List ℕ) (n : ℕ) (after : Counted) : Type 0 where
+  pub count : ℕ
+  pub most : count ≤ n
+  pub made : after ≡ counted_turns c (cycled harts count)

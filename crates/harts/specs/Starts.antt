@@ -1,0 +1,41 @@
+-- What the world is before the first turn, and what a turn and a change make of it, part by part.
+use Rattle.std.specs.Prelude.{◌≡◌, ℕ, true, List, slice_get, slice_set, slice_index, Some, is_some}
+use Rattle.std.specs.FinMap.{get}
+use Rattle.qed_model.specs.declared.change.Place.{Place}
+use Rattle.qed_model.specs.Machine.Struck.{struck}
+use Rattle.qed_model.specs.Machine.Progress.{steps_after}
+use Rattle.qed_model.specs.Machine.Step.{step}
+use Rattle.qed_model.specs.Machine.Program.{Program, memory_of}
+use Rattle.qed_model.specs.Promise.Kept.{is_mapped}
+use Rattle.harts.specs.Harts.{Hart, state_of, hart_of, begin}
+use Rattle.harts.specs.Together.{IsProgram, AreApart}
+use Rattle.harts.specs.HartSteps.{Counted, counted_turn, counted_strike}
+
+-- some file maps the address
+pub record IsOfSome (gs : List Program) (q : ℕ) : Type 0 where
+  pub number : ℕ
+  pub file : Program
+  pub stands : IsProgram gs number file
+  pub maps : is_mapped file q ≡ true
+
+-- the memory is the union of those that the files start from
+pub record IsUnion (gs : List Program) : Type 0 where
+  pub cells : (i : ℕ) (g : Program) → IsProgram gs i g → (q : ℕ) → is_mapped g q ≡ true → get (begin gs).memory q ≡ get (memory_of g.segments) q
+  pub only : (q : ℕ) → is_some (get (begin gs).memory q) ≡ true → IsOfSome gs q
+
+-- a turn of a hart that there is
+pub record IsTurned (c : Counted) (i : ℕ) (h : Hart) : Type 0 where
+  pub harts : (counted_turn i c).world.harts ≡ slice_set c.world.harts i (hart_of (step (state_of h c.world.memory)))
+  pub memory : (counted_turn i c).world.memory ≡ (step (state_of h c.world.memory)).memory
+  pub steps : (counted_turn i c).steps ≡ slice_set c.steps i (steps_after h.outcome (slice_index c.steps i))
+
+-- a change of a hart that there is
+pub record IsStruck (c : Counted) (i : ℕ) (p : Place) (x : ℕ) (h : Hart) : Type 0 where
+  pub harts : (counted_strike i p x c).world.harts ≡ slice_set c.world.harts i (hart_of (struck p x (state_of h c.world.memory)))
+  pub memory : (counted_strike i p x c).world.memory ≡ (struck p x (state_of h c.world.memory)).memory
+
+-- of any world
+pub record WorldLaws : Type 0 where
+  pub starts : (gs : List Program) → AreApart gs → IsUnion gs
+  pub turns : (c : Counted) (i : ℕ) (h : Hart) → slice_get c.world.harts i ≡ Some h → IsTurned c i h
+  pub strikes : (c : Counted) (i : ℕ) (p : Place) (x : ℕ) (h : Hart) → slice_get c.world.harts i ≡ Some h → IsStruck c i p x h

@@ -1,0 +1,110 @@
+-- What is promised of several harts with one memory: each runs as it runs alone.
+use Rattle.std.specs.Prelude.{◌≡◌, ◌≢◌, ℕ, ◌+◌, ◌*◌, ◌^◌, ◌<◌, ◌≤◌, ◌⊎◌, ◌↔◌, true, List, [], ◌∷◌, slice_get, Some}
+use Rattle.std.specs.FinMap.{get}
+use Rattle.qed_model.specs.declared.machine.Outcome.TheVariants.{Going, Ended, Fired}
+use Rattle.qed_model.specs.declared.change.Place.{Place}
+use Rattle.qed_model.specs.declared.change.Place.TheVariants.{Reg, Word}
+use Rattle.qed_model.specs.declared.change.Change.{Change}
+use Rattle.qed_model.specs.declared.bounds.Bounds.{Bounds}
+use Rattle.qed_model.specs.Machine.Memory.{wrap}
+use Rattle.qed_model.specs.Machine.Step.{State}
+use Rattle.qed_model.specs.Machine.Program.{Program, start, zeros}
+use Rattle.qed_model.specs.Promise.Kept.{is_mapped, after_input, after_output, NotTrapped, Halves, Kept}
+use Rattle.qed_model.specs.Promise.Changed.{changed_run, Ordered, last_step}
+use Rattle.qed_model.specs.Promise.Caught.{bound_of, AllOpen, Caught}
+use Rattle.harts.specs.Harts.{Hart, World, state_of, hart_of, hart_turns, world_after}
+
+-- ---- what is asked
+-- hart i is that of the file g
+abbrev pub IsProgram : List Program → ℕ → Program → Type 0
+IsProgram gs i g = slice_get gs i ≡ Some g
+
+-- no file maps a byte at 2^64 or above, and no two map the same byte
+pub record AreApart (gs : List Program) : Type 0 where
+  pub low : (i : ℕ) (g : Program) → IsProgram gs i g → (q : ℕ) → is_mapped g q ≡ true → q < 2 ^ 64
+  pub apart : (i j : ℕ) (g h : Program) → IsProgram gs i g → IsProgram gs j h → i ≢ j → (q : ℕ) → is_mapped g q ≡ true → is_mapped h q ≡ true → ⊥
+
+-- a place is a register, or a word of which the file maps each byte
+abbrev pub LiesIn : Program → Place → Type 0
+LiesIn g (Reg r) = Unit {0}
+LiesIn g (Word a) = (a < 2 ^ 64) × ((k : ℕ) → k < 8 → is_mapped g (wrap (a + k)) ≡ true)
+
+-- so is each place of a list of changes
+abbrev pub AllLieIn : Program → List Change → Type 0
+AllLieIn g [] = Unit {0}
+AllLieIn g (c ∷ cs) = LiesIn g c.place × AllLieIn g cs
+
+-- the run that hart i makes alone, with its changes, for as many steps as it made turns
+abbrev pub own_run : (ℕ → List Change) → List ℕ → ℕ → Program → State
+own_run cs ts i g = changed_run (start g zeros) (cs i) (hart_turns ts i)
+
+-- the files share no byte, each changed word is one of the hart's own file, and no hart is trapped when it runs alone
+pub record AreAlone (gs : List Program) (cs : ℕ → List Change) (ts : List ℕ) : Type 0 where
+  pub files : AreApart gs
+  pub words : (i : ℕ) (g : Program) → IsProgram gs i g → AllLieIn g (cs i)
+  pub no_trap : (i : ℕ) (g : Program) → IsProgram gs i g → NotTrapped (own_run cs ts i g)
+
+-- ---- the promise
+-- hart i of the world has the registers, the pc, the code ranges and the outcome of the state, and each byte that the file maps
+-- is that of the state
+pub record Shows (g : Program) (i : ℕ) (w : World) (s : State) : Type 0 where
+  pub hart : slice_get w.harts i ≡ Some (hart_of s)
+  pub bytes : (q : ℕ) → is_mapped g q ≡ true → get w.memory q ≡ get s.memory q
+
+-- after any schedule each hart stands as it stands alone
+abbrev pub Together : Type 0
+Together = (gs : List Program) (cs : ℕ → List Change) (ts : List ℕ) → AreAlone gs cs ts → (i : ℕ) (g : Program) → IsProgram gs i g → Shows g i (world_after gs cs ts) (own_run cs ts i g)
+
+-- ---- the promises of a hart
+-- a state is hart i with the memory, after a schedule in which it made k turns and had these changes; those of the others are any
+pub record IsSeen (gs : List Program) (i : ℕ) (c : List Change) (k : ℕ) (u : State) : Type 0 where
+  pub changes : ℕ → List Change
+  pub schedule : List ℕ
+  pub alone : AreAlone gs changes schedule
+  pub own : changes i ≡ c
+  pub turns : hart_turns schedule i ≡ k
+  pub hart : Hart
+  pub stands : slice_get (world_after gs changes schedule).harts i ≡ Some hart
+  pub is : u ≡ state_of hart (world_after gs changes schedule).memory
+
+-- after some turns of the hart, within the bound, it has the input's values, in every schedule
+pub record KeptInTurns (f : Program) (first bound n : ℕ) (seen : ℕ → State → Type 0) : Type 0 where
+  pub turns : ℕ
+  pub within : turns ≤ first + (n + 1) * bound
+  pub halves : (u : State) → seen turns u → Halves f (after_input f n) u
+  pub ends : (u : State) → seen turns u → (u.outcome ≡ Ended) ↔ ((after_input f n).outcome ≡ Ended)
+
+-- after m turns of the hart no check has fired and it has not trapped; where it has ended, so has the input, with its values
+pub record QuietInTurns (f : Program) (m : ℕ) (u : State) : Type 0 where
+  pub no_check : u.outcome ≢ Fired
+  pub no_trap : NotTrapped u
+  pub ended : u.outcome ≡ Ended → ((after_input f m).outcome ≡ Ended) × Halves f (after_input f m) u
+
+-- both
+pub record HartKept (f : Program) (first bound : ℕ) (seen : ℕ → State → Type 0) : Type 0 where
+  pub values : (n : ℕ) → NotTrapped (after_input f n) → KeptInTurns f first bound n seen
+  pub quiet : (m : ℕ) (u : State) → NotTrapped (after_input f m) → seen m u → QuietInTurns f m u
+
+-- two states have the same hart, and the same byte wherever the file maps one
+pub record SameHart (g : Program) (u v : State) : Type 0 where
+  pub hart : hart_of u ≡ hart_of v
+  pub bytes : (q : ℕ) → is_mapped g q ≡ true → get u.memory q ≡ get v.memory q
+
+-- after some turns, within the bound, the hart has fired, or has ended, or stands as in each schedule in which it has no change
+pub record SettlesInTurns (g : Program) (t b : ℕ) (changed unchanged : ℕ → State → Type 0) : Type 0 where
+  pub turns : ℕ
+  pub within : turns ≤ t + b
+  pub settled : ((u : State) → changed turns u → u.outcome ≡ Fired) ⊎ (((u : State) → changed turns u → u.outcome ≡ Ended) ⊎ ((t ≤ turns) × ((u v : State) → changed turns u → unchanged turns v → SameHart g u v)))
+
+-- for any changes of original places that are open in the hart's run without changes, as far as the input's run does not trap
+pub record HartCaught (f g : Program) (spans : List (ℕ × ℕ)) (bounds : Bounds) (seen : List Change → ℕ → State → Type 0) : Type 0 where
+  pub settles : (cs : List Change) (b : ℕ) →
+      Ordered cs → AllOpen spans (after_output g zeros) cs → bound_of bounds cs ≡ Some b →
+      NotTrapped (after_input f (last_step cs + b)) → (after_output g zeros (last_step cs)).outcome ≡ Going →
+      SettlesInTurns g (last_step cs) b (seen cs) (seen [])
+
+-- where a hart's file is the output of some input, what is promised of the output's runs alone holds of the hart, in its own
+-- turns, in every schedule
+pub record PerHart : Type 0 where
+  pub kept : (gs : List Program) (i : ℕ) (f g : Program) (first bound : ℕ) → IsProgram gs i g → Kept f g first bound → HartKept f first bound (IsSeen gs i [])
+  pub caught : (gs : List Program) (i : ℕ) (f g : Program) (spans : List (ℕ × ℕ)) (bounds : Bounds) → IsProgram gs i g → Caught f g spans bounds → HartCaught f g spans bounds (IsSeen gs i)

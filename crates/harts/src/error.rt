@@ -1,0 +1,22 @@
+//! Why there is no world.
+ghost use Rattle.std.specs.Prelude.{◌≡◌};
+ghost use Rattle.harts.specs.declared.error.HartsError.TheVariants as error;
+
+use std::alloc::AllocError;
+
+/// Why harts are not started.
+#[derive(Clone, Copy, Debug, PartialEq, Eq)]
+pub enum HartsError {
+    /// PT_LOAD segments of two files share a byte: the files' numbers in the list, from 0, the lower one first.
+    Shared(u64, u64),
+    /// There is no memory.
+    Memory,
+}
+
+impl From<AllocError> for HartsError {
+    ghost from_gives = { λ _ e. e ≡ error.Memory };
+
+    fn from(_: AllocError) -> Self {
+        HartsError::Memory
+    }
+}

@@ -1,0 +1,54 @@
+//! What a world is made from.
+ghost use Rattle.std.specs.Prelude.{◌≡◌, ◌++◌, map, IfOk};
+ghost use Rattle.qed_model.specs.Machine.Loading.{load_segments};
+ghost use Rattle.mem_image.specs.Overlap.{segments_of};
+ghost use Rattle.harts.specs.Harts.{all_segments};
+ghost use Rattle.harts.specs.Played.{programs, started};
+
+use elf_types::{Bytes, ElfFile, Segment};
+use mem_image::SegmentSpec;
+use rv_step::Hart;
+use std::alloc::{AllocError, Global};
+
+/// Adds the segments of type PT_LOAD.
+fn push_specs(
+    alloc: Global,
+    specs: &mut Vec<SegmentSpec>,
+    segments: &[Segment],
+) -> Result<(), AllocError>
+    ensures { IfOk result (λ _. segments_of specs.new.items ≡ segments_of specs.old.items ++ load_segments segments.now) }
+{
+    for segment in segments {
+        if segment.is_load() {
+            specs.push(SegmentSpec {
+                address: segment.address,
+                memory: segment.memory,
+                flags: segment.flags,
+                bytes: Bytes::copied(alloc, segment.bytes.as_slice())?,
+            })?;
+        }
+    }
+    Ok(())
+}
+
+/// The segments of type PT_LOAD of all files.
+pub fn all_specs(alloc: Global, files: &[ElfFile]) -> Result<Vec<SegmentSpec>, AllocError>
+    ensures { IfOk result (λ specs. segments_of specs.items ≡ all_segments (programs files.now)) }
+{
+    let mut specs = Vec::new(alloc);
+    for file in files {
+        push_specs(alloc, &mut specs, file.segments.as_slice())?;
+    }
+    Ok(specs)
+}
+
+/// A hart for each file, with all registers 0.
+pub fn start_harts(alloc: Global, files: &[ElfFile]) -> Result<Vec<Hart>, AllocError>
+    ensures { IfOk result (λ harts. harts.items ≡ map started files.now) }
+{
+    let mut harts = Vec::new(alloc);
+    for file in files {
+        harts.push(Hart::start(alloc, file, &[0; 32])?)?;
+    }
+    Ok(harts)
+}

@@ -1,0 +1,148 @@
+//! The world of several harts.
+ghost use Rattle.std.specs.Prelude.{◌≡◌, ℕ, ◌<◌, length, slice_get, slice_index, Some, IfOk, IfErr};
+ghost use Rattle.std.specs.Option.{option_map};
+ghost use Rattle.std.specs.FinMap.{get};
+ghost use Rattle.harts.specs.HartSteps.{counted_start, counted_turn, counted_strike, counted_turns, cycled};
+ghost use Rattle.harts.specs.Shared.{AreSound, AreUnshared, Explains};
+ghost use Rattle.harts.specs.Played.{programs, IsPartPlayed};
+
+use crate::error::HartsError;
+use crate::parts::{all_specs, start_harts};
+use crate::shared::first_shared;
+use elf_types::ElfFile;
+use mem_image::{Image, ImageError};
+use qed_model::{Outcome, Place};
+use rv_isa::Reg;
+use rv_step::Hart;
+use std::alloc::{AllocError, Global};
+use std::marker::Model;
+
+/// Several harts of RV64IM with one memory. Harts are told by their numbers, from 0.
+#[derive(Debug, Drop)]
+pub struct World {
+    harts: Vec<Hart>,
+    image: Image,
+}
+
+impl Model for World {
+    ghost use Rattle.harts.specs.HartSteps.{Counted, counted};
+    ghost use Rattle.harts.specs.Codes.{counted_code};
+
+    ghost Value = { Counted };
+
+    ghost coded = { counted_code };
+
+    ghost view = { λ w. counted w.harts.items w.image };
+}
+
+impl World {
+    /// A hart for each file, with all registers 0, and one memory with the PT_LOAD segments of all files. `Shared` comes exactly
+    /// where PT_LOAD segments of two files share a byte, with the least such pair.
+    ///
+    /// Of each file, no two PT_LOAD segments share a byte, none ends past 2^64, and each has at most `memory` bytes.
+    pub fn start(alloc: Global, files: &[ElfFile]) -> Result<World, HartsError>
+        requires { AreSound (programs files.now) }
+        ensures started { IfOk result (λ world. world ≡ counted_start (programs files.now)) }
+        ensures apart { IfOk result (λ _. AreUnshared (programs files.now)) }
+        ensures error { IfErr result (Explains (programs files.now)) }
+    {
+        if let Some((i, j)) = first_shared(files) {
+            return Err(HartsError::Shared(i, j));
+        }
+        let specs = all_specs(alloc, files)?;
+        let harts = start_harts(alloc, files)?;
+        let image = match Image::make(alloc, &specs) {
+            Ok(image) => image,
+            Err(ImageError::Memory) => return Err(HartsError::Memory),
+            Err(ImageError::Overlap(_, _)) => unreachable!(),
+        };
+        Ok(World { harts, image })
+    }
+
+    /// A turn of a hart: one step of it and the memory, as far as it goes on, and how it stands then.
+    pub fn turn(&mut self, hart: u64) -> Result<Outcome, AllocError>
+        requires { hart < length self.old.world.harts }
+        ensures turned { IfOk result (λ _. self.new ≡ counted_turn hart self.old) }
+        ensures outcome { IfOk result (λ o. option_map (λ h. h.outcome) (slice_get self.new.world.harts hart) ≡ Some o) }
+
+        // Where there is no memory for a page, nothing changes.
+        ensures kept { IfErr result (λ _. self.new ≡ self.old) }
+    {
+        let outcome = self.harts[hart as usize].step(&mut self.image)?;
+        Ok(outcome)
+    }
+
+    /// As many turns as the number says, by the harts of the list, again and again.
+    pub fn play(&mut self, harts: &[u8], n: u64) -> Result<(), AllocError>
+        requires some { 0 < length harts.now }
+        requires harts { (k : ℕ) → k < length harts.now → slice_index harts.now k < length self.old.world.harts }
+        ensures played { IfOk result (λ _. self.new ≡ counted_turns self.old (cycled harts.now n)) }
+
+        // Where there is no memory for a page, the turns before were made.
+        ensures part { IfErr result (λ _. IsPartPlayed self.old harts.now n self.new) }
+    {
+        for k in 0..n {
+            let hart = harts[(k % harts.len() as u64) as usize];
+            self.turn(hart as u64)?;
+        }
+        Ok(())
+    }
+
+    /// Gives a register of the hart other than x0 another number, or each of eight bytes of the memory that is mapped its byte of
+    /// the number, little endian and whatever its permission.
+    pub fn strike(&mut self, hart: u64, place: &Place, value: u64) -> Result<(), AllocError>
+        requires { hart < length self.old.world.harts }
+        ensures struck { IfOk result (λ _. self.new ≡ counted_strike hart place.now value self.old) }
+        ensures kept { IfErr result (λ _. self.new ≡ self.old) }
+    {
+        match *place {
+            Place::Reg(r) => {
+                self.harts[hart as usize].set(r, value);
+                Ok(())
+            }
+            Place::Word(address) => {
+                self.image.poke(address, value)?;
+                Ok(())
+            }
+        }
+    }
+
+    /// The number that a register of the hart holds.
+    pub fn reg(&self, hart: u64, r: Reg) -> u64
+        requires { hart < length self.now.world.harts }
+        ensures { option_map (λ h. slice_index h.regs r) (slice_get self.now.world.harts hart) ≡ Some result }
+    {
+        self.harts[hart as usize].reg(r)
+    }
+
+    /// The address of the hart's next instruction.
+    pub fn pc(&self, hart: u64) -> u64
+        requires { hart < length self.now.world.harts }
+        ensures { option_map (λ h. h.pc) (slice_get self.now.world.harts hart) ≡ Some result }
+    {
+        self.harts[hart as usize].pc()
+    }
+
+    /// How many turns the hart made while it went on. It stays at 2^64 - 1.
+    pub fn steps(&self, hart: u64) -> u64
+        requires { hart < length self.now.world.harts }
+        ensures { slice_get self.now.steps hart ≡ Some result }
+    {
+        self.harts[hart as usize].steps()
+    }
+
+    /// Whether the hart goes on, or how it stopped.
+    pub fn outcome(&self, hart: u64) -> Outcome
+        requires { hart < length self.now.world.harts }
+        ensures { option_map (λ h. h.outcome) (slice_get self.now.world.harts hart) ≡ Some result }
+    {
+        self.harts[hart as usize].outcome()
+    }
+
+    /// The byte at an address, or None where it is not mapped.
+    pub fn byte(&self, address: u64) -> Option<u8>
+        ensures { result ≡ option_map (λ c. c.byte) (get self.now.world.memory address) }
+    {
+        self.image.peek(address)
+    }
+}
