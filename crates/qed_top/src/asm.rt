@@ -6,7 +6,7 @@ use crate::answer::{Answer, Stored, plain};
 use crate::status::Status;
 use qed_model::Name;
 use report::{asm_error_text, assembly_text};
-use rv_asm::{Assembly, assembly};
+use rv_asm::assembly;
 use std::alloc::{AllocError, Global};
 
 /// What `asm` answers over the bytes of its text.
