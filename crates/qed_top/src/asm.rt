@@ -6,7 +6,7 @@ use crate::answer::{Answer, Stored, plain};
 use crate::status::Status;
 use qed_model::Name;
 use report::{asm_error_text, assembly_text};
-use rv_asm::assembly;
+use rv_asm::assemble_counted;
 use std::alloc::{AllocError, Global};
 
 /// What `asm` answers over the bytes of its text.
@@ -14,7 +14,7 @@ pub fn answer_asm(alloc: Global, text: &[u8], output: Name) -> Result<Answer, Al
     requires { length text.now ≤ 67108864 }
     ensures { IfOk result (Assembles text.now output) }
 {
-    match assembly(alloc, text) {
+    match assemble_counted(alloc, text) {
         Ok(made) => {
             let line = assembly_text(alloc, made.code_words, made.data_words)?;
             Ok(Answer {

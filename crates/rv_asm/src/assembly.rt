@@ -24,7 +24,7 @@ pub struct Assembly {
 /// 67,108,864 bytes.
 ///
 /// An error tells the first line at fault, or that no line gives an instruction, or that there is no memory.
-pub fn assembly(alloc: Global, text: &[u8]) -> Result<Assembly, AsmError>
+pub fn assemble_counted(alloc: Global, text: &[u8]) -> Result<Assembly, AsmError>
     requires { length text.now ≤ 67108864 }
     ensures { MatchResult result (λ made. IsAssembly text.now made) (λ e. IsRefused text.now e) }
 {
@@ -45,11 +45,11 @@ pub fn assembly(alloc: Global, text: &[u8]) -> Result<Assembly, AsmError>
 
 /// The executable that a text describes, alone.
 ///
-/// Its errors are those of `assembly`.
+/// Its errors are those of `assemble_counted`.
 pub fn assemble(alloc: Global, text: &[u8]) -> Result<Bytes, AsmError>
     requires { length text.now ≤ 67108864 }
     ensures { MatchResult result (λ bytes. Assembled text.now bytes) (λ e. IsRefused text.now e) }
 {
-    let made = assembly(alloc, text)?;
+    let made = assemble_counted(alloc, text)?;
     Ok(made.file)
 }

@@ -14,6 +14,6 @@ mod operands;
 mod place;
 mod program;
 
-pub use assembly::{Assembly, assemble, assembly};
+pub use assembly::{Assembly, assemble, assemble_counted};
 pub use error::{AsmError, Fault};
 pub use program::{Program, program_of};

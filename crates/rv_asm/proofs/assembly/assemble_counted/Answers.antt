@@ -1,7 +1,7 @@
 use Rattle.std.proofs.Common.{◌∙◌, sym, ap, subst, arith}
 use Rattle.qed_model.specs.Elf.Layout.{written, IsWritable}
 use Rattle.rv_asm.proofs.Done.{assembled_writable, file_same, none_left, some_left}
-use Rattle.rv_asm.proofs.assembly.assembly.Goals as goal
+use Rattle.rv_asm.proofs.assembly.assemble_counted.Goals as goal
 
 pub write_elf-requires : goal.write_elf-requires
 write_elf-requires c = subst IsWritable (sym c.in_ok-file.ensures) (assembled_writable c.args.text.now c.in_ok-program.program c.requires c.in_ok-program.ensures)
