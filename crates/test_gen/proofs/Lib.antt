@@ -8,3 +8,4 @@ pub mod Stands
 pub mod Shape
 pub mod Admitted
 pub mod Runs
+pub mod MainRun

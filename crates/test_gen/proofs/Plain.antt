@@ -99,7 +99,7 @@ every_index P [] k d h e = e
 every_index P (x ∷ xs) zero d h e = h.0
 every_index P (x ∷ xs) (suc k) d h e = every_index P xs k d h.1 e
 
-every_each : {A : Type 0} (P : A → Type 0) (n : ℕ) (f : ℕ → A) → ((i : ℕ) → P (f i)) → Every P (each n f)
+pub every_each : {A : Type 0} (P : A → Type 0) (n : ℕ) (f : ℕ → A) → ((i : ℕ) → P (f i)) → Every P (each n f)
 unfolding each
 every_each P zero f h = tt
 every_each P (suc n) f h = every-append P (each n f) (f n ∷ []) (every_each P n f h) (h n, tt)
