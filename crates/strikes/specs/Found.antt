@@ -22,6 +22,12 @@ verdict_of outcome.Fired k = Some (Fired k)
 verdict_of outcome.Ended k = Some (Ended k)
 verdict_of _ k = None
 
+-- within n steps it first does not go on, in the state after them
+pub record StopsWithin (state : State) (n : ℕ) (after : State) (steps : ℕ) : Type 0 where
+  pub within : steps ≤ n
+  pub stops : StopsAt (run state) steps
+  pub there : after ≡ run state steps
+
 -- within the bound it first does not go on, and shows this verdict
 pub record Stops (state : State) (b : ℕ) (v : Verdict) : Type 0 where
   pub steps : ℕ

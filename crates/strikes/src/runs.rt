@@ -48,7 +48,7 @@ fn reach_of(alloc: Global, machine: &Machine) -> Result<u64, AllocError>
     ensures { IfOk result (IsReach machine.now.state) }
 {
     let mut machine = machine.copy(alloc)?;
-    match steps_to_stop(&mut machine, MAX_REACH) {
+    match steps_to_stop(&mut machine, MAX_REACH)? {
         Some(steps) => Ok(steps),
         None => Ok(MAX_REACH),
     }

@@ -38,7 +38,7 @@ fn copies(alloc: Global, first: &Machine, count: u64) -> Result<Vec<Machine>, Al
     let mut machine = first.copy(alloc)?;
     let mut later = Vec::new(alloc);
     for _ in 0..count {
-        machine.run(SPACING);
+        machine.run(SPACING)?;
         later.push(machine.copy(alloc)?)?;
     }
     Ok(later)

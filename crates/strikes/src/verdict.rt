@@ -24,19 +24,19 @@ fn last_step(changes: &[Change]) -> u64
 }
 
 /// Runs a machine up to the last change, without making any, and tells whether a place is closed where it would be changed.
-fn has_closed(machine: &mut Machine, changes: &[Change]) -> bool
+fn has_closed(machine: &mut Machine, changes: &[Change]) -> Result<bool, AllocError>
     requires { Ordered changes.now }
-    ensures closed { result ≡ has_closed_of machine.old.state changes.now }
-    ensures there { machine.new.state ≡ run machine.old.state (last_step_of changes.now) }
+    ensures closed { IfOk result (λ closed. closed ≡ has_closed_of machine.old.state changes.now) }
+    ensures there { IfOk result (λ _. machine.new.state ≡ run machine.old.state (last_step_of changes.now)) }
 {
     let mut steps = 0;
     let mut is_closed = false;
     for change in changes {
-        machine.run(change.step - steps);
+        machine.run(change.step - steps)?;
         steps = change.step;
         is_closed |= closed(machine, &change.place);
     }
-    is_closed
+    Ok(is_closed)
 }
 
 /// The verdict that needs no change: the output does not go on up to the last one, or a place is closed; None where neither is so.
@@ -50,7 +50,7 @@ fn unchanged_verdict(
     ensures none { IfOk result (λ v. IfNone v (IsTried output.now.state changes.now)) }
 {
     let mut output = output.copy(alloc)?;
-    let is_closed = has_closed(&mut output, changes);
+    let is_closed = has_closed(&mut output, changes)?;
     if output.outcome() != Outcome::Going {
         return Ok(Some(Verdict::NotReached));
     }
@@ -73,12 +73,14 @@ fn stopped_verdict(outcome: Outcome, steps: u64) -> Option<Verdict>
 
 /// What the run of a machine that has made its last change shows, within so many steps; None where no check fires and the test does
 /// not end.
-fn changed_verdict(machine: &mut Machine, bound: u64) -> Option<Verdict>
-    ensures shown { IfSome result (Stops machine.old.state bound) }
-    ensures none { IfNone result (IsStill machine.old.state bound) }
+fn changed_verdict(machine: &mut Machine, bound: u64) -> Result<Option<Verdict>, AllocError>
+    ensures shown { IfOk result (λ v. IfSome v (Stops machine.old.state bound)) }
+    ensures none { IfOk result (λ v. IfNone v (IsStill machine.old.state bound)) }
 {
-    let steps = steps_to_stop(machine, bound)?;
-    stopped_verdict(machine.outcome(), steps)
+    let Some(steps) = steps_to_stop(machine, bound)? else {
+        return Ok(None);
+    };
+    Ok(stopped_verdict(machine.outcome(), steps))
 }
 
 /// What changes show of an output with this bound, where both machines stand at the step from which the changes are counted. The steps
@@ -102,13 +104,13 @@ pub fn verdict(
     }
     let last = last_step(changes);
     let mut output = output.copy(alloc)?;
-    run_changed(&mut output, changes, last);
-    if let Some(verdict) = changed_verdict(&mut output, bound) {
+    run_changed(&mut output, changes, last)?;
+    if let Some(verdict) = changed_verdict(&mut output, bound)? {
         return Ok(verdict);
     }
     let mut input = input.copy(alloc)?;
-    input.run(last);
-    match input.run(bound) {
+    input.run(last)?;
+    match input.run(bound)? {
         Outcome::Trapped(_, pc) => Err(StrikeError::Trapped(pc)),
         _ => Ok(Verdict::Same),
     }
