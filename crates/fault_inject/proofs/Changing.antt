@@ -1,14 +1,15 @@
 -- Runs with changes: plain steps between two changes, one change more, and changes that come later.
-use Rattle.std.proofs.Common.{◌≡◌, ℕ, zero, suc, ◌+◌, ◌-◌, ◌<◌, ◌≤◌, false, cond, List, [], ◌∷◌, ◌++◌, length, get_or, drop, take, drop-cons, add-one, refl, sym, ap, ◌∙◌, subst, arith}
+use Rattle.std.proofs.Common.{◌≡◌, ℕ, zero, suc, ◌+◌, ◌-◌, ◌<◌, ◌≤◌, false, cond, List, [], ◌∷◌, ◌++◌, length, get_or, drop, take, drop-cons, add-one, refl, sym, ap, ◌∙◌, subst, arith, Result, Ok, Err, IfErr}
 use Rattle.std.proofs.Math.Seq.{take-suc}
 use Rattle.std.proofs.lemmas.List.{take-append-drop, drop_all}
-use Rattle.std.specs.Prelude.{◌==◌}
+use Rattle.std.specs.Prelude.{◌==◌, All}
+use Rattle.std.proofs.lemmas.List.Elements.{All-nil, All-cons}
 use Rattle.std.proofs.lemmas.Bool.{eq-eqb, ne_eqb}
 use Rattle.qed_model.specs.declared.change.Change.{Change}
 use Rattle.qed_model.specs.Machine.Step.{State, step}
 use Rattle.qed_model.specs.Machine.Progress.{Progress, advanced, steps_after, progress}
 use Rattle.qed_model.specs.Promise.Changed.{changed, with_changes, changed_run, Ordered}
-use Rattle.fault_inject.specs.Counted.{changed_steps}
+use Rattle.fault_inject.specs.Counted.{changed_steps, IsPartOf}
 
 -- a machine after n steps with changes
 abbrev pub changed_progress : Progress → List Change → ℕ → Progress
@@ -188,3 +189,54 @@ ends_before m cs k done n p c o lt e r h late =
 -- or where none is left
 pub ends_behind : (m : Progress) (cs : List Change) (k done n : ℕ) (p : Progress) → length cs ≤ k → Reached m cs k done p → done ≤ n → progress p (n - done) ≡ changed_progress m cs n
 ends_behind m cs k done n p all r h = ends m cs k done n p r h (subst (AllFrom (n + 1)) (sym (drop_all k cs all)) tt)
+
+-- ---- a part of the run
+all_by : (t : ℕ) (cs : List Change) → AllBy t cs → All (λ c. c.step ≤ t) cs
+all_by t [] h = All-nil (λ c. c.step ≤ t)
+all_by t (c ∷ cs) h = All-cons (λ d. d.step ≤ t) c cs h.0 (all_by t cs h.1)
+
+all_from : (t : ℕ) (cs : List Change) → AllFrom t cs → All (λ c. t ≤ c.step) cs
+all_from t [] h = All-nil (λ c. t ≤ c.step)
+all_from t (c ∷ cs) h = All-cons (λ d. t ≤ d.step) c cs h.0 (all_from t cs h.1)
+
+by_more : (t u : ℕ) (cs : List Change) → t ≤ u → AllBy t cs → AllBy u cs
+by_more t u [] l h = tt
+by_more t u (c ∷ cs) l h = (omega (arith, l, h.0), by_more t u cs l h.1)
+
+from_less : (t u : ℕ) (cs : List Change) → u ≤ t → AllFrom t cs → AllFrom u cs
+from_less t u [] l h = tt
+from_less t u (c ∷ cs) l h = (omega (arith, l, h.0), from_less t u cs l h.1)
+
+-- some plain steps more
+pub part_made :
+    (m : Progress) (cs : List Change) (k done n j last : ℕ) (p q : Progress) → Reached m cs k done p → done + j ≤ n → done + j ≤ last → AllFrom last (drop k cs) → q ≡ progress p j
+    → IsPartOf m cs n q
+part_made m cs k done n j last p q r most l late e =
+    let is : q ≡ changed_progress m (take k cs) (done + j) = e ∙ ap (λ x. progress x j) r.now ∙ sym (plain m (take k cs) done j r.by) in
+    record {
+      count = done + j;
+      most = most;
+      made = k;
+      before = all_by (done + j) (take k cs) (by_more done (done + j) (take k cs) (omega arith) r.by);
+      behind = all_from (done + j) (drop k cs) (from_less last (done + j) (drop k cs) l late);
+      state = ap (λ x. x.state) is;
+      steps = ap (λ x. x.steps) is;
+    }
+
+-- before the next change
+pub part_before :
+    (m : Progress) (cs : List Change) (k done n j : ℕ) (p q : Progress) (c : Change) → Ordered cs → k < length cs → c ≡ get_or cs k c → Reached m cs k done p → done + j ≤ n → done + j ≤ c.step
+    → q ≡ progress p j → IsPartOf m cs n q
+part_before m cs k done n j p q c o lt e r most l is =
+    let split = drop_at cs k c lt e in
+    part_made m cs k done n j c.step p q r most l (subst (AllFrom c.step) (sym split) (omega arith, ordered_from c.step c (drop (k + 1) cs) (omega arith) (subst Ordered split (ordered_drop cs k o)))) is
+
+-- behind the last one
+pub part_behind :
+    (m : Progress) (cs : List Change) (k done n j : ℕ) (p q : Progress) → length cs ≤ k → Reached m cs k done p → done + j ≤ n → q ≡ progress p j → IsPartOf m cs n q
+part_behind m cs k done n j p q all r most is = part_made m cs k done n j (done + j) p q r most (omega arith) (subst (AllFrom (done + j)) (sym (drop_all k cs all)) tt) is
+
+-- what holds at any error
+pub any_err : {T E : Type 0} (r : Result T E) (P : Type 0) → P → IfErr r (λ _. P)
+any_err (Ok x) P p = tt
+any_err (Err e) P p = p

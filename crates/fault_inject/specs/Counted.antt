@@ -1,5 +1,5 @@
--- The number of steps of a run with changes.
-use Rattle.std.specs.Prelude.{ℕ, zero, suc, List}
+-- Runs with changes: the number of their steps, and parts of them.
+use Rattle.std.specs.Prelude.{◌≡◌, ℕ, zero, suc, ◌≤◌, List, take, drop, All}
 use Rattle.qed_model.specs.declared.change.Change.{Change}
 use Rattle.qed_model.specs.Machine.Progress.{Progress, steps_after}
 use Rattle.qed_model.specs.Promise.Changed.{changed_run}
@@ -8,3 +8,13 @@ use Rattle.qed_model.specs.Promise.Changed.{changed_run}
 unfoldable pub changed_steps : Progress → List Change → ℕ → ℕ
 changed_steps m cs zero = m.steps
 changed_steps m cs (suc n) = steps_after (changed_run m.state cs n).outcome (changed_steps m cs n)
+
+-- of a run of n steps some were made, with the first changes of the list, all that come before and none that comes after
+pub record IsPartOf (m : Progress) (cs : List Change) (n : ℕ) (after : Progress) : Type 0 where
+  pub count : ℕ
+  pub most : count ≤ n
+  pub made : ℕ
+  pub before : All (λ c. c.step ≤ count) (take made cs)
+  pub behind : All (λ c. count ≤ c.step) (drop made cs)
+  pub state : after.state ≡ changed_run m.state (take made cs) count
+  pub steps : after.steps ≡ changed_steps m (take made cs) count

@@ -27,7 +27,7 @@ fn places_are_closed_behind_their_guards(rt: HostRuntime) -> Result<(), Fail> {
     let alloc = rt.alloc();
     for (sample, step, at, is_closed) in CASES {
         let (mut machine, _) = sample.start(alloc)?;
-        machine.run(step);
+        machine.run(step)?;
         let place = at.place().ok_or("a place")?;
         assert_eq!(rt; closed(&machine, &place), is_closed, "{at:?} at {step}");
     }

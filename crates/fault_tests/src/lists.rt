@@ -23,7 +23,7 @@ fn later_changes_come_behind_earlier_ones(rt: HostRuntime) -> Result<(), Fail> {
     let there = change(40, 5, 1).ok_or("x5")?;
     let back = change(41, 5, 0).ok_or("x5")?;
     let mut machine = start.copy(alloc)?;
-    let outcome = run_changed(&mut machine, &[there, back], 1000);
+    let outcome = run_changed(&mut machine, &[there, back], 1000)?;
     assert_eq!(rt; outcome, Outcome::Ended);
     assert_eq!(rt; (machine.steps(), machine.pc()), (51, 0x13100));
     Ok(())
@@ -35,7 +35,7 @@ fn nothing_is_changed_behind_a_check(rt: HostRuntime) -> Result<(), Fail> {
     let (mut machine, _) = TWO.start(alloc)?;
     let first = change(40, 5, 1).ok_or("x5")?;
     let second = change(49, 11, 3).ok_or("x11")?;
-    let outcome = run_changed(&mut machine, &[first, second], 1000);
+    let outcome = run_changed(&mut machine, &[first, second], 1000)?;
     assert_eq!(rt; outcome, Outcome::Fired);
     assert_eq!(rt; (machine.steps(), machine.pc()), (43, 0x130bc));
     let x11 = Reg::new(11).ok_or("x11")?;
@@ -47,7 +47,7 @@ fn nothing_is_changed_behind_a_check(rt: HostRuntime) -> Result<(), Fail> {
 fn a_register_that_is_written_again_is_as_before(rt: HostRuntime) -> Result<(), Fail> {
     let (mut machine, _) = TWO.start(rt.alloc())?;
     let early = change(33, 10, 1).ok_or("x10")?;
-    let outcome = run_changed(&mut machine, &[early], 1000);
+    let outcome = run_changed(&mut machine, &[early], 1000)?;
     assert_eq!(rt; outcome, Outcome::Ended);
     let x11 = Reg::new(11).ok_or("x11")?;
     assert_eq!(rt; (machine.steps(), machine.reg(x11)), (51, 14));
@@ -81,11 +81,11 @@ fn a_word_that_is_stored_over_is_as_before(rt: HostRuntime) -> Result<(), Fail> 
         place: At::Word(0x20000).place().ok_or("a word")?,
         value: 0x101,
     };
-    run_changed(&mut struck, &[change], 51);
-    machine.run(51);
+    run_changed(&mut struck, &[change], 51)?;
+    machine.run(51)?;
     assert!(rt; !same_word(&machine, &struck, 0x20000));
-    machine.run(steps);
-    struck.run(steps);
+    machine.run(steps)?;
+    struck.run(steps)?;
     assert_eq!(rt;
         (struck.outcome(), struck.pc()),
         (machine.outcome(), machine.pc())

@@ -166,7 +166,7 @@ fn assert_strike(
     let (step, at, value, outcome, steps, pc) = *strike;
     let place = at.place().ok_or("a place")?;
     let mut machine = start.copy(alloc)?;
-    let end = run_changed(&mut machine, &[Change { step, place, value }], STEPS);
+    let end = run_changed(&mut machine, &[Change { step, place, value }], STEPS)?;
     assert_eq!(rt;
         (end, machine.steps()),
         (outcome, steps),
@@ -187,7 +187,7 @@ fn assert_case(rt: &impl Abort, alloc: Global, case: &Case) -> Result<(), Fail> 
     assert_eq!(rt; (plan.code_bytes, plan.words), case.told, "{name}");
     assert_eq!(rt; (bounds.register, bounds.word), case.bounds, "{name}");
     let mut machine = start.copy(alloc)?;
-    let outcome = run_changed(&mut machine, &[], STEPS);
+    let outcome = run_changed(&mut machine, &[], STEPS)?;
     assert_eq!(rt; (outcome, machine.steps()), case.unchanged, "{name}");
     for strike in case.strikes {
         assert_strike(rt, alloc, &start, name, strike)?;

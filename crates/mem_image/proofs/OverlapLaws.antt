@@ -1,23 +1,19 @@
--- Segments that share a byte, and segments with all their bytes written out.
-use Rattle.std.proofs.Common.{◌≡◌, ℕ, ◌+◌, ◌-◌, ◌<◌, ◌≤◌, inl, inr, ⊎_elim, true, List, [], ◌∷◌, length, map, Some, refl, sym, ap, ◌∙◌, arith, get_or}
+-- Segments that share a byte, and segments that ascend.
+use Rattle.std.proofs.Common.{◌≡◌, ℕ, zero, suc, ◌+◌, ◌<◌, ◌≤◌, inl, inr, ⊎_elim, true, false, List, [], ◌∷◌, length, map, Some, refl, sym, ap, ◌∙◌, arith, get_or}
 use Rattle.std.specs.Prelude.{slice_get}
 use Rattle.std.specs.Option.{option_map}
-use Rattle.std.proofs.lemmas.Bool.{cases_lt}
+use Rattle.std.proofs.lemmas.Bool.{cases_lt, false≢true}
+use Rattle.std.proofs.lemmas.Bool.Decides.{nat_tests}
 use Rattle.std.proofs.lemmas.Option.{slice_get-get_or, slice_get_within, slice_get-map}
 use Rattle.std.proofs.lemmas.List.{length-map}
-use Rattle.qed_model.proofs.MemoryLaws.{same_memory}
-use Rattle.qed_model.specs.Machine.Program.{LoadSegment, memory_of}
+use Rattle.qed_model.specs.Machine.Program.{LoadSegment}
 use Rattle.mem_image.specs.declared.spec.SegmentSpec.{SegmentSpec}
-use Rattle.qed_model.specs.Machine.Apart.{AllFitMemory, share, Overlaps}
-use Rattle.qed_model.specs.Machine.Cells.{cell_among}
-use Rattle.mem_image.specs.Overlap.{segment_of, segments_of, filled, IsNext, IsLeast}
-use Rattle.mem_image.proofs.SegmentLaws.{get-memory_of}
-use Rattle.qed_model.proofs.SegmentCells.{length-image}
-use Rattle.qed_model.proofs.CellsAmong.{index_zeros}
+use Rattle.qed_model.specs.Machine.Apart.{share, Overlaps, AreApart}
+use Rattle.mem_image.specs.Overlap.{segment_of, segments_of, IsNext, IsLeast, Ascends}
 
 -- ---- two places of the list
 -- the segment at a place that the code reads
-segment_there : (specs : List SegmentSpec) (i : ℕ) (a : SegmentSpec) → i < length specs → a ≡ get_or specs i a → slice_get (segments_of specs) i ≡ Some (segment_of a)
+pub segment_there : (specs : List SegmentSpec) (i : ℕ) (a : SegmentSpec) → i < length specs → a ≡ get_or specs i a → slice_get (segments_of specs) i ≡ Some (segment_of a)
 segment_there specs i a h e = slice_get-map segment_of specs i ∙ ap (option_map segment_of) (slice_get-get_or specs i a h ∙ ap Some (sym e))
 
 pub pair_overlaps : (specs : List SegmentSpec) (i j : ℕ) (a b : SegmentSpec) → i < length specs → j < length specs → a ≡ get_or specs i a → b ≡ get_or specs j b → i < j → share (segment_of a) (segment_of b) ≡ true → Overlaps (segments_of specs) i j
@@ -71,15 +67,26 @@ pair_least ss i j before next = record {
   least = λ h k o. ⊎_elim (λ l. absurd (before h k l o)) (λ l. ⊎_elim (λ m. inl m) (λ m. let is : i ≡ h = omega arith in let o2 : Overlaps ss i k = rw is o in inr (is, next.least k o2)) (cases_lt i h)) (cases_lt h i);
 }
 
--- ---- all bytes written out
-pub all_fit-filled : (ss : List LoadSegment) → AllFitMemory ss → AllFitMemory (map filled ss)
-all_fit-filled [] h = tt
-all_fit-filled (s ∷ ss) h = let e = length-image s h.0.0 in ((omega (arith, e), h.0.1), all_fit-filled ss h.1)
+-- ---- segments that ascend
+-- the segment at a place begins at the bound or behind it
+pub begins : (lo k : ℕ) (ss : List LoadSegment) (t : LoadSegment) → Ascends lo ss → slice_get ss k ≡ Some t → lo ≤ t.address
+begins lo k [] t h e = absurd (cc)
+begins lo zero (s ∷ ss) t h e = let is : s ≡ t = cc in rw is at h.0
+begins lo (suc k) (s ∷ ss) t h e = let l = begins (s.address + s.size) k ss t h.1 e in omega (arith, l, h.0)
 
-cell_among-filled : (ss : List LoadSegment) (q : ℕ) → cell_among (map filled ss) q ≡ cell_among ss q
-cell_among-filled [] q = refl
-cell_among-filled (s ∷ ss) q = rw (cell_among-filled ss q, index_zeros s.bytes (s.size - length s.bytes) (q - s.address)) refl
+-- a segment that begins behind another shares no byte with it
+behind : (s t : LoadSegment) → s.address + s.size ≤ t.address → share s t ≡ true → ⊥
+behind s t h e = let none : share s t ≡ false = grind (arith, nat_tests) in false≢true (sym none ∙ e)
 
--- the memory stays
-pub memory_of-filled : (ss : List LoadSegment) → AllFitMemory ss → memory_of (map filled ss) ≡ memory_of ss
-memory_of-filled ss h = same_memory _ _ (λ q. get-memory_of (map filled ss) q (all_fit-filled ss h) ∙ cell_among-filled ss q ∙ sym (get-memory_of ss q h))
+-- no two of them share a byte
+pub ascends-apart : (lo : ℕ) (ss : List LoadSegment) → Ascends lo ss → AreApart ss
+ascends-apart lo [] h i j o = let e = o.first_at in absurd (cc)
+ascends-apart lo (s ∷ ss) h zero zero o = let l = o.order in absurd (omega arith)
+ascends-apart lo (s ∷ ss) h zero (suc j) o =
+    let e = o.first_at in
+    let is : s ≡ o.first = cc in
+    behind o.first o.second (rw is at (begins (s.address + s.size) j ss o.second h.1 o.second_at)) o.share
+ascends-apart lo (s ∷ ss) h (suc i) zero o = let l = o.order in absurd (omega arith)
+ascends-apart lo (s ∷ ss) h (suc i) (suc j) o =
+    let l = o.order in
+    ascends-apart (s.address + s.size) ss h.1 i j (record { order = omega arith; first = o.first; second = o.second; first_at = o.first_at; second_at = o.second_at; share = o.share })

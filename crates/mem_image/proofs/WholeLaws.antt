@@ -1,7 +1,7 @@
 -- Accesses whose bytes all lie in one segment.
-use Rattle.std.proofs.Common.{◌≡◌, ℕ, zero, suc, ◌+◌, ◌-◌, ◌*◌, ◌^◌, ◌<◌, ◌≤◌, Bool, true, false, List, [], ◌∷◌, length, Some, None, refl, sym, ap, ◌∙◌, arith, add-one, set, length-set, get_or}
+use Rattle.std.proofs.Common.{◌≡◌, ℕ, zero, suc, ◌+◌, ◌-◌, ◌*◌, ◌^◌, ◌<◌, ◌≤◌, Bool, true, false, List, [], ◌∷◌, length, Some, None, refl, sym, ap, ◌∙◌, arith, add-one, set, length-set, get_or, Result, Ok, Err, IfErr}
 use Rattle.std.proofs.Math.Nat.{pow-suc, pow-le-pow_right}
-use Rattle.std.specs.Prelude.{slice_index, slice_get, map}
+use Rattle.std.specs.Prelude.{slice_index, slice_get}
 use Rattle.std.proofs.lemmas.Bool.{leb-true, ltb-true, and_parts}
 use Rattle.std.proofs.lemmas.Bool.Decides.{nat_tests}
 use Rattle.qed_model.specs.Machine.Memory.{byte_of, Flags, Memory, wrap, allows, grants, number, poked, put}
@@ -13,11 +13,11 @@ use Rattle.qed_model.proofs.CellsLaws.{byte_of_cell}
 use Rattle.qed_model.specs.Machine.Apart.{share, AllFitMemory, AreApart}
 use Rattle.qed_model.specs.Machine.Cells.{cell_at, has}
 use Rattle.qed_model.proofs.CellsAmong.{has_from}
-use Rattle.mem_image.specs.Segments.{has_all, number_in, with_byte_at, with_bytes_at, IsWholeAt}
+use Rattle.mem_image.specs.Segments.{has_all, number_in, with_byte_at, with_bytes_at, IsWholeAt, IsLike}
 use Rattle.mem_image.specs.Access.{allowed_number}
-use Rattle.mem_image.specs.Overlap.{filled, AreSound}
+use Rattle.mem_image.specs.Overlap.{Ascends, AreSound}
 use Rattle.mem_image.proofs.SegmentLaws.{stands_at, IsWhole, get-memory_of, cell_among-first, memory_of-set, all_fit-set, none_past}
-use Rattle.mem_image.proofs.OverlapLaws.{all_fit-filled}
+use Rattle.mem_image.proofs.OverlapLaws.{ascends-apart}
 
 -- ---- a number from the bytes of a list
 -- the highest t of w bytes from place i on were read, and make v
@@ -92,7 +92,7 @@ with_bytes-more s a n v = rw add-one refl
 
 -- ---- segments that share nothing
 -- two segments with an address in common share a byte
-shared : (s t : LoadSegment) (q : ℕ) → has s q ≡ true → has t q ≡ true → share s t ≡ true
+pub shared : (s t : LoadSegment) (q : ℕ) → has s q ≡ true → has t q ≡ true → share s t ≡ true
 shared s t q x y = grind (arith, nat_tests)
 
 -- an address has one segment
@@ -102,41 +102,22 @@ before_apart ss k s q apart at w j p h e = by (has p q) refl where
   by true x = absurd (apart j k (record { order = h; first = p; second = s; first_at = e; second_at = at; share = shared p s q x w }))
   by false x = x
 
--- each segment has one with the same place and size in memory at its place in another list
-abbrev pub SameShapes : List LoadSegment → List LoadSegment → Type 0
-SameShapes ts ss = (i : ℕ) (x : LoadSegment) → slice_get ts i ≡ Some x → (y : LoadSegment) × ((slice_get ss i ≡ Some y) × ((x.address ≡ y.address) × (x.size ≡ y.size)))
+-- a segment that is replaced by one of the same addresses
+ascends-set : (lo : ℕ) (ss : List LoadSegment) (k : ℕ) (s t : LoadSegment) → Ascends lo ss → slice_get ss k ≡ Some s → t.address ≡ s.address → t.size ≡ s.size → Ascends lo (set ss k t)
+ascends-set lo [] k s t h e a z = tt
+ascends-set lo (x ∷ xs) zero s t h e a z =
+    let is : x ≡ s = cc in
+    let both : (lo ≤ s.address) × Ascends (s.address + s.size) xs = rw is at h in
+    (rw a both.0, rw (a, z) both.1)
+ascends-set lo (x ∷ xs) (suc k) s t h e a z = (h.0, ascends-set (x.address + x.size) xs k s t h.1 e a z)
 
-same_share : (s t u v : LoadSegment) → s.address ≡ t.address → s.size ≡ t.size → u.address ≡ v.address → u.size ≡ v.size → share s u ≡ true → share t v ≡ true
-same_share s t u v a b c d h = rw (a, b, c, d) at h
+sound-set : (ss : List LoadSegment) (k : ℕ) (s t : LoadSegment) → AreSound ss → slice_get ss k ≡ Some s → t.address ≡ s.address → t.size ≡ s.size → length t.bytes ≡ length s.bytes → AreSound (set ss k t)
+sound-set ss k s t h e a z l = record { fit = all_fit-set ss k s t h.fit e a z l; ascends = ascends-set 0 ss k s t h.ascends e a z }
 
-pub apart_shapes : (ts ss : List LoadSegment) → SameShapes ts ss → AreApart ss → AreApart ts
-apart_shapes ts ss same apart i j o =
-    let x = same i o.first o.first_at in
-    let y = same j o.second o.second_at in
-    apart i j (record { order = o.order; first = x.0; second = y.0; first_at = x.1.0; second_at = y.1.0; share = same_share o.first x.0 o.second y.0 x.1.1.0 x.1.1.1 y.1.1.0 y.1.1.1 o.share })
+pub sound_like : (ss : List LoadSegment) (k : ℕ) (s t : LoadSegment) → AreSound ss → slice_get ss k ≡ Some s → IsLike s t → AreSound (set ss k t)
+sound_like ss k s t h e l = sound-set ss k s t h e l.address l.size l.bytes
 
-shapes-set : (ss : List LoadSegment) (k : ℕ) (s t : LoadSegment) → slice_get ss k ≡ Some s → (t.address ≡ s.address) × (t.size ≡ s.size) → SameShapes (set ss k t) ss
-shapes-set [] k s t e w i x h = absurd (cc)
-shapes-set (z ∷ zs) zero s t e w zero x h = let is : t ≡ x = cc in (s, (e, (ap (λ r. r.address) (sym is) ∙ w.0, ap (λ r. r.size) (sym is) ∙ w.1)))
-shapes-set (z ∷ zs) zero s t e w (suc i) x h = (x, (h, (refl, refl)))
-shapes-set (z ∷ zs) (suc k) s t e w zero x h = (x, (h, (refl, refl)))
-shapes-set (z ∷ zs) (suc k) s t e w (suc i) x h = shapes-set zs k s t e w i x h
-
-shapes-filled : (ss : List LoadSegment) → SameShapes (map filled ss) ss
-shapes-filled [] i x h = absurd (cc)
-shapes-filled (z ∷ zs) zero x h = let is : filled z ≡ x = cc in (z, (refl, (ap (λ r. r.address) (sym is), ap (λ r. r.size) (sym is))))
-shapes-filled (z ∷ zs) (suc i) x h = shapes-filled zs i x h
-
-pub sound-filled : (ss : List LoadSegment) → AllFitMemory ss → AreApart ss → AreSound (map filled ss)
-sound-filled ss fit apart = record { fit = all_fit-filled ss fit; apart = apart_shapes (map filled ss) ss (shapes-filled ss) apart }
-
-pub sound-set : (ss : List LoadSegment) (k : ℕ) (s t : LoadSegment) → AreSound ss → slice_get ss k ≡ Some s → t.address ≡ s.address → t.size ≡ s.size → length t.bytes ≡ length s.bytes → AreSound (set ss k t)
-sound-set ss k s t h e a z l = record { fit = all_fit-set ss k s t h.fit e a z l; apart = apart_shapes (set ss k t) ss (shapes-set ss k s t e (a, z)) h.apart }
-
-pub sound-byte : (ss : List LoadSegment) (k : ℕ) (s : LoadSegment) (a v : ℕ) → AreSound ss → slice_get ss k ≡ Some s → AreSound (set ss k (with_byte_at s a v))
-sound-byte ss k s a v h e = sound-set ss k s (with_byte_at s a v) h e refl refl (length-set _ _ _)
-
-pub sound-bytes : (ss : List LoadSegment) (k : ℕ) (s : LoadSegment) (a n v : ℕ) → AreSound ss → slice_get ss k ≡ Some s → AreSound (set ss k (with_bytes_at s a n v))
+sound-bytes : (ss : List LoadSegment) (k : ℕ) (s : LoadSegment) (a n v : ℕ) → AreSound ss → slice_get ss k ≡ Some s → AreSound (set ss k (with_bytes_at s a n v))
 sound-bytes ss k s a n v h e = sound-set ss k s (with_bytes_at s a n v) h e (address-with_bytes s a n v) (size-with_bytes s a n v) (length-with_bytes s a n v)
 
 -- ---- a look-up in the segment
@@ -147,7 +128,7 @@ ends (x ∷ xs) zero s f e = let is : x ≡ s = cc in rw is at f.0.1
 ends (x ∷ xs) (suc k) s f e = ends xs k s f.1 e
 
 get_whole : (ss : List LoadSegment) (k : ℕ) (s : LoadSegment) (q : ℕ) → AreSound ss → slice_get ss k ≡ Some s → has s q ≡ true → get (memory_of ss) q ≡ Some (cell_at s q)
-get_whole ss k s q h e w = get-memory_of ss q h.fit ∙ cell_among-first ss q k s e w (before_apart ss k s q h.apart e w)
+get_whole ss k s q h e w = get-memory_of ss q h.fit ∙ cell_among-first ss q k s e w (before_apart ss k s q (ascends-apart 0 ss h.ascends) e w)
 
 number_whole : (ss : List LoadSegment) (k : ℕ) (s : LoadSegment) (a n : ℕ) → AreSound ss → slice_get ss k ≡ Some s → s.address ≤ a → a + n ≤ s.address + s.size → number (memory_of ss) a n ≡ number_in s.bytes (a - s.address) n
 unfolding number number_in
@@ -195,7 +176,7 @@ pub whole_number : (ss : List LoadSegment) (k : ℕ) (s : LoadSegment) (a n : �
 whole_number ss k s a n h e w = let room = spans s a n w in sym (number_whole ss k s a n h e room.0 room.1)
 
 -- ---- several bytes of the segment are written
-set_none : (ss : List LoadSegment) (k : ℕ) (s : LoadSegment) → slice_get ss k ≡ Some s → set ss k s ≡ ss
+pub set_none : (ss : List LoadSegment) (k : ℕ) (s : LoadSegment) → slice_get ss k ≡ Some s → set ss k s ≡ ss
 set_none [] k s e = refl
 set_none (x ∷ xs) zero s e = let is : x ≡ s = cc in rw is refl
 set_none (x ∷ xs) (suc k) s e = ap (λ r. x ∷ r) (set_none xs k s e)
@@ -217,7 +198,7 @@ put_whole ss k s a (suc n) v h e whole low room =
     let end = ends ss k s h.fit e in
     let same : a + n ≡ wrap (a + n) = omega arith in
     ap memory_of (sym (set-set ss k (with_bytes_at s a n v) (with_byte_at (with_bytes_at s a n v) (a + n) (byte_of v n))))
-    ∙ memory_of-set (set ss k (with_bytes_at s a n v)) k (with_bytes_at s a n v) (a + n) (byte_of v n) sound.fit there full inside (before_apart (set ss k (with_bytes_at s a n v)) k (with_bytes_at s a n v) (a + n) sound.apart there inside)
+    ∙ memory_of-set (set ss k (with_bytes_at s a n v)) k (with_bytes_at s a n v) (a + n) (byte_of v n) sound.fit there full inside (before_apart (set ss k (with_bytes_at s a n v)) k (with_bytes_at s a n v) (a + n) (ascends-apart 0 (set ss k (with_bytes_at s a n v)) sound.ascends) there inside)
     ∙ ap (poked (a + n) (byte_of v n)) (put_whole ss k s a n v h e whole low (omega arith))
     ∙ ap (λ q. poked q (byte_of v n) (put (memory_of ss) a n v)) same
     ∙ put-more (memory_of ss) a n v (omega arith) (omega arith) (λ q l. none_past ss q h.fit l)
@@ -232,3 +213,8 @@ refused_number need m a n e = rw e refl
 
 pub granted_number : (need : Flags → Bool) (m : Memory) (a n v : ℕ) → grants need m a n ≡ true → v ≡ number m a n → Some v ≡ allowed_number need m a n
 granted_number need m a n v e is = rw (e, is) refl
+
+-- what holds at any error
+pub any_err : {T E : Type 0} (r : Result T E) (P : Type 0) → P → IfErr r (λ _. P)
+any_err (Ok x) P p = tt
+any_err (Err e) P p = p

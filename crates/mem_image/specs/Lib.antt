@@ -1,3 +1,4 @@
 pub mod Segments
 pub mod Access
 pub mod Overlap
+pub mod Pages

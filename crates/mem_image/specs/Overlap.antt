@@ -1,5 +1,5 @@
 -- Segments of a list that share a byte.
-use Rattle.std.specs.Prelude.{◌≡◌, ℕ, ◌-◌, ◌<◌, ◌≤◌, ◌⊎◌, List, map, length, replicate, ◌++◌}
+use Rattle.std.specs.Prelude.{◌≡◌, ℕ, ◌+◌, ◌<◌, ◌≤◌, ◌⊎◌, List, [], ◌∷◌, map}
 use Rattle.qed_model.specs.Machine.Program.{LoadSegment}
 use Rattle.qed_model.specs.Machine.Memory.{flags_of}
 use Rattle.mem_image.specs.declared.spec.SegmentSpec.{SegmentSpec}
@@ -14,10 +14,6 @@ segment_of s = record { address = s.address; size = s.memory; flags = flags_of s
 abbrev pub segments_of : List SegmentSpec → List LoadSegment
 segments_of specs = map segment_of specs
 
--- the segment with the zeros behind its bytes written out
-abbrev pub filled : LoadSegment → LoadSegment
-filled s = record { address = s.address; size = s.size; flags = s.flags; bytes = s.bytes ++ replicate (s.size - length s.bytes) 0 }
-
 -- i and j are the least such pair, by i and then j
 pub record IsLeast (ss : List LoadSegment) (i j : ℕ) : Type 0 where
   pub overlaps : Overlaps ss i j
@@ -28,10 +24,15 @@ pub record IsNext (ss : List LoadSegment) (i j : ℕ) : Type 0 where
   pub overlaps : Overlaps ss i j
   pub least : (k : ℕ) → Overlaps ss i k → j ≤ k
 
--- segments that an image keeps
+-- each segment begins behind the one before it, the first at the bound or behind it
+abbrev pub Ascends : ℕ → List LoadSegment → Type 0
+Ascends lo [] = Unit {0}
+Ascends lo (s ∷ ss) = (lo ≤ s.address) × Ascends (s.address + s.size) ss
+
+-- segments that an image keeps, by their addresses
 pub record AreSound (ss : List LoadSegment) : Type 0 where
   pub fit : AllFitMemory ss
-  pub apart : AreApart ss
+  pub ascends : Ascends 0 ss
 
 -- why there is no image: the least pair that shares a byte, or, where none does, a lack of memory
 abbrev pub Explains : List LoadSegment → ImageError → Type 0

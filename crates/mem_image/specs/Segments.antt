@@ -1,5 +1,5 @@
 -- Segments in memory: which is the first that has an address, and those with other bytes.
-use Rattle.std.specs.Prelude.{◌≡◌, ℕ, zero, suc, ◌+◌, ◌-◌, ◌*◌, ◌<◌, ◌&&◌, Bool, true, false, nat_le, List, slice_index, slice_get, slice_set, Some}
+use Rattle.std.specs.Prelude.{◌≡◌, ℕ, zero, suc, ◌+◌, ◌-◌, ◌*◌, ◌<◌, ◌&&◌, Bool, true, false, nat_le, List, length, slice_index, slice_get, slice_set, Some}
 use Rattle.std.specs.FinMap.{get}
 use Rattle.qed_model.specs.Machine.Memory.{Memory, byte_of}
 use Rattle.qed_model.specs.Machine.Program.{LoadSegment}
@@ -38,3 +38,14 @@ number_in bs i (suc n) = slice_index bs i + 256 * number_in bs (i + 1) n
 unfoldable pub with_bytes_at : LoadSegment → ℕ → ℕ → ℕ → LoadSegment
 with_bytes_at s a zero v = s
 with_bytes_at s a (suc n) v = with_byte_at (with_bytes_at s a n v) (a + n) (byte_of v n)
+
+-- the bytes with the low n bytes of v from place i on
+unfoldable pub bytes_put : List ℕ → ℕ → ℕ → ℕ → List ℕ
+bytes_put bs i zero v = bs
+bytes_put bs i (suc n) v = slice_set (bytes_put bs i n v) (i + n) (byte_of v n)
+
+-- a segment at the same addresses
+pub record IsLike (s t : LoadSegment) : Type 0 where
+  pub address : t.address ≡ s.address
+  pub size : t.size ≡ s.size
+  pub bytes : length t.bytes ≡ length s.bytes

@@ -1,13 +1,16 @@
-//! Segments in memory.
-ghost use Rattle.std.specs.Prelude.{◌≡◌, ◌+◌, ◌-◌, ◌<◌, ◌≤◌, ◌^◌, true, length, IfOk};
-ghost use Rattle.qed_model.specs.Machine.Cells.{has, cell_at};
+//! Pages in memory.
+ghost use Rattle.std.specs.Prelude.{◌≡◌, ◌+◌, ◌-◌, ◌<◌, ◌≤◌, ◌^◌, true, [], length, IfOk, IfErr};
 ghost use Rattle.mem_image.specs.Access.{needs};
-ghost use Rattle.mem_image.specs.Overlap.{segment_of, filled};
-ghost use Rattle.mem_image.specs.Segments.{has_all, number_in, with_byte_at, with_bytes_at};
+ghost use Rattle.mem_image.specs.Overlap.{segment_of};
+ghost use Rattle.mem_image.specs.Pages.{HoldsFrom, IsPageOf};
+ghost use Rattle.qed_model.specs.Machine.Cells.{has, cell_at};
+ghost use Rattle.mem_image.specs.Segments.{has_all, number_in, with_bytes_at, IsLike};
 
+use crate::page::Page;
 use crate::spec::SegmentSpec;
 use std::alloc::{AllocError, Global};
 use std::marker::Model;
+use std::rc::Rc;
 
 /// What an access wants of each byte.
 #[derive(Clone, Copy, Debug, PartialEq, Eq)]
@@ -17,59 +20,104 @@ pub enum Access {
     Execute,
 }
 
-/// Bytes that stand one after the other in memory, with one permission.
+/// At most 4,096 bytes that stand one after the other in memory, with one permission.
 #[derive(Debug, Drop)]
 pub struct Held {
     start: u64,
+    size: u64,
     readable: bool,
     writable: bool,
     executable: bool,
-    bytes: Vec<u8>,
+    page: Rc<Page>,
 }
 
 impl Model for Held {
-    ghost use Rattle.std.specs.Prelude.{length};
+    ghost use Rattle.std.specs.Prelude.{◌≤◌, take};
     ghost use Rattle.qed_model.specs.Machine.Program.{LoadSegment};
 
     ghost Value = { LoadSegment };
 
-    ghost view = { λ h. record { address = h.start; size = length h.bytes.items; flags = record { read = h.readable; write = h.writable; execute = h.executable }; bytes = h.bytes.items } };
+    ghost view = { λ h. record { address = h.start; size = h.size; flags = record { read = h.readable; write = h.writable; execute = h.executable }; bytes = take h.size h.page.value.bytes } };
+
+    ghost invariant = { λ h. h.size ≤ 4096 };
+}
+
+/// The page of the bytes from number `from` on. Where there are none, the page of zeros is shared.
+fn page_from(
+    alloc: Global,
+    zeros: &Rc<Page>,
+    bytes: &[u8],
+    from: u64,
+) -> Result<Rc<Page>, AllocError>
+    requires { HoldsFrom [] 0 zeros.now.value.bytes }
+    ensures { IfOk result (λ page. HoldsFrom bytes.now from page.value.bytes) }
+{
+    if from < bytes.len() as u64 {
+        let page = Rc::new(alloc, Page::of(&bytes[from as usize..]))?;
+        return Ok(page);
+    }
+    let page = zeros.clone()?;
+    Ok(page)
 }
 
 impl Held {
-    /// The segment with all its bytes in memory.
-    pub fn of(alloc: Global, spec: &SegmentSpec) -> Result<Held, AllocError>
-        requires { length spec.now.bytes ≤ spec.now.memory }
-        ensures { IfOk result (λ held. held ≡ filled (segment_of spec.now)) }
+    /// The bytes of a segment from number `from` on, as many as a page has. Where there are none in the file, the page of
+    /// zeros is shared.
+    pub fn of(
+        alloc: Global,
+        zeros: &Rc<Page>,
+        spec: &SegmentSpec,
+        from: u64,
+    ) -> Result<Held, AllocError>
+        requires more { from < spec.now.memory }
+        requires end { spec.now.address + spec.now.memory ≤ 2 ^ 64 }
+        requires zeros { HoldsFrom [] 0 zeros.now.value.bytes }
+        ensures { IfOk result (IsPageOf (segment_of spec.now) from) }
     {
-        let size = spec.memory as usize;
-        let mut bytes = Vec::with_capacity(alloc, size)?;
-        bytes.extend_from_slice(spec.bytes.as_slice())?;
-        bytes.resize(size, 0)?;
+        let page = page_from(alloc, zeros, spec.bytes.as_slice(), from)?;
         Ok(Held {
-            start: spec.address,
+            start: spec.address + from,
+            size: (spec.memory - from).min(4096),
             readable: spec.is_readable(),
             writable: spec.is_writable(),
             executable: spec.is_executable(),
-            bytes,
+            page,
         })
     }
 
-    /// Whether the segment has the address.
+    /// The address of the first byte.
+    #[inline(always)]
+    pub fn start(&self) -> u64
+        ensures { result ≡ self.now.address }
+    {
+        self.start
+    }
+
+    /// The number of its bytes.
+    pub fn size(&self) -> u64
+        ensures { result ≡ self.now.size }
+    {
+        self.size
+    }
+
+    /// Whether it has the address.
+    #[inline(always)]
     pub fn has(&self, address: u64) -> bool
         ensures { result ≡ has self.now address }
     {
-        self.start <= address && address - self.start < self.bytes.len() as u64
+        self.start <= address && address - self.start < self.size
     }
 
-    /// Whether the segment has each of the `width` addresses from this one on.
+    /// Whether it has each of the `width` addresses from this one on.
+    #[inline(always)]
     pub fn has_all(&self, address: u64, width: u64) -> bool
         ensures { result ≡ has_all self.now address width }
     {
-        self.has(address) && width <= self.bytes.len() as u64 - (address - self.start)
+        self.has(address) && width <= self.size - (address - self.start)
     }
 
     /// Whether its bytes have the permission.
+    #[inline(always)]
     pub fn allows(&self, access: Access) -> bool
         ensures { result ≡ needs access self.now.flags }
     {
@@ -85,60 +133,47 @@ impl Held {
         requires { has self.now address ≡ true }
         ensures { result ≡ (cell_at self.now address).byte }
     {
-        self.bytes[(address - self.start) as usize]
-    }
-
-    /// Gives the byte at an address that it has another value.
-    pub fn set(&mut self, address: u64, value: u8)
-        requires { has self.old address ≡ true }
-        ensures set { self.new ≡ with_byte_at self.old address value }
-        ensures whole { length self.old.bytes ≡ self.old.size }
-    {
-        self.bytes[(address - self.start) as usize] = value;
+        self.page.bytes[(address - self.start) as usize]
     }
 
     /// The number of at most 8 bytes that it has, from the address on.
+    #[inline(always)]
     pub fn number(&self, address: u64, width: u64) -> u64
         requires has { has_all self.now address width ≡ true }
         requires small { width ≤ 8 }
         ensures number { result ≡ number_in self.now.bytes (address - self.now.address) width }
         ensures small { result < 256 ^ width }
     {
-        let first = (address - self.start) as usize;
-        let count = width as usize;
-        let mut value = 0;
-        for taken in 0..count {
-            let byte = self.bytes[first + (count - 1 - taken)];
-            value = 256 * value + u64::from(byte);
-        }
-        value
+        self.page.number((address - self.start) as usize, width)
     }
 
-    /// Sets the low bytes of a value at at most 8 addresses that it has.
-    pub fn put(&mut self, address: u64, width: u64, value: u64)
+    /// Sets the low bytes of a value at at most 8 addresses that it has. A page that is shared is copied first.
+    #[inline(always)]
+    pub fn put(&mut self, address: u64, width: u64, value: u64) -> Result<(), AllocError>
         requires has { has_all self.old address width ≡ true }
-        requires end { address + width ≤ 2 ^ 64 }
         requires small { width ≤ 8 }
-        ensures put { self.new ≡ with_bytes_at self.old address width value }
-        ensures whole { length self.old.bytes ≡ self.old.size }
+        ensures put { IfOk result (λ _. self.new ≡ with_bytes_at self.old address width value) }
+        ensures kept { IfErr result (λ _. self.new ≡ self.old) }
+        ensures whole { IfOk result (λ _. length self.old.bytes ≡ self.old.size) }
+        ensures shape { IsLike self.old self.new }
     {
-        // The bytes are read here, so that a proof knows how many they are.
-        let _ = &self.bytes;
-        for i in 0..width {
-            self.set(address + i, ((value >> (8 * i)) & 0xff) as u8);
-        }
+        let at = (address - self.start) as usize;
+        let page = Rc::make_mut(&mut self.page)?;
+        page.put(at, width, value);
+        Ok(())
     }
 
-    /// An equal segment.
-    pub fn copy(&self, alloc: Global) -> Result<Held, AllocError>
+    /// The same bytes, shared.
+    pub fn copy(&self) -> Result<Held, AllocError>
         ensures { IfOk result (λ held. held ≡ self.now) }
     {
         Ok(Held {
             start: self.start,
+            size: self.size,
             readable: self.readable,
             writable: self.writable,
             executable: self.executable,
-            bytes: Vec::from_slice(alloc, &self.bytes)?,
+            page: self.page.clone()?,
         })
     }
 }

@@ -1,40 +1,56 @@
 //! The memory of a machine.
-ghost use Rattle.std.specs.Prelude.{◌≡◌, ℕ, ◌<◌, ◌≤◌, ◌^◌, cond, length, map, IfOk, IfErr, IfNone, IfSome, Some, None};
+ghost use Rattle.std.specs.Prelude.{◌≡◌, ℕ, ◌<◌, ◌≤◌, ◌^◌, cond, length, IfOk, IfErr, IfNone, IfSome, Some, None};
 ghost use Rattle.std.specs.Option.{option_map};
 ghost use Rattle.std.specs.FinMap.{get};
 ghost use Rattle.qed_model.specs.Machine.Memory.{grants, poked, put};
 ghost use Rattle.qed_model.specs.Machine.Program.{memory_of};
-ghost use Rattle.mem_image.specs.Overlap.{segments_of, filled, Explains};
-ghost use Rattle.mem_image.specs.Access.{needs, allowed_byte, allowed_number, IsWidth};
+ghost use Rattle.mem_image.specs.Overlap.{segments_of, Explains};
 ghost use Rattle.qed_model.specs.Machine.Apart.{AllFitMemory, AreApart};
-ghost use Rattle.qed_model.specs.Machine.Cells.{cell_among};
-ghost use Rattle.mem_image.specs.Segments.{IsFirst, IsWholeAt, Holds};
+ghost use Rattle.mem_image.specs.Access.{needs, allowed_byte, allowed_number, IsWidth};
+ghost use Rattle.mem_image.specs.Segments.{Holds};
 
 use crate::held::{Access, Held};
 use crate::overlap::first_overlap;
+use crate::paging::pages_of;
+use crate::places::{place, whole_at};
 use crate::spec::{ImageError, SegmentSpec};
 use std::alloc::{AllocError, Global};
 use std::marker::Model;
 
+/// How many pages an image remembers, by their addresses.
+const NEAR: u64 = 64;
+
 /// The memory of a machine. Addresses are in bytes, and are taken modulo 2^64, byte by byte; numbers are little endian.
+///
+/// Its pages are shared with its copies, until one of them is written.
 #[derive(Debug, Drop)]
 pub struct Image {
-    segments: Vec<Held>,
+    pages: Vec<Held>,
+    /// Where a page may be found again, by some bits of an address. Nothing rests on it.
+    near: [usize; 64],
+    alloc: Global,
 }
 
 impl Model for Image {
     ghost use Rattle.qed_model.specs.Machine.Memory.{Memory, memory_code};
     ghost use Rattle.qed_model.specs.Machine.Program.{memory_of};
+    ghost use Rattle.mem_image.specs.Overlap.{AreSound};
 
     ghost Value = { Memory };
 
     ghost coded = { memory_code };
 
-    ghost use Rattle.mem_image.specs.Overlap.{AreSound};
+    ghost view = { λ i. memory_of i.pages.items };
 
-    ghost view = { λ i. memory_of i.segments.items };
+    ghost invariant = { λ i. AreSound i.pages.items };
+}
 
-    ghost invariant = { λ i. AreSound i.segments.items };
+/// The number of the place where an address is remembered.
+#[inline(always)]
+fn slot(address: u64) -> usize
+    ensures { result < 64 }
+{
+    ((address >> 12) % NEAR) as usize
 }
 
 impl Image {
@@ -49,12 +65,17 @@ impl Image {
         if let Some((i, j)) = first_overlap(specs) {
             return Err(ImageError::Overlap(i, j));
         }
-        let segments = held(alloc, specs)?;
-        Ok(Image { segments })
+        let pages = pages_of(alloc, specs)?;
+        Ok(Image {
+            pages,
+            near: [0; 64],
+            alloc,
+        })
     }
 
     /// The number of `width` bytes from the address on, or None where one of them is not mapped with PF_R. The width is 1, 2, 4
     /// or 8.
+    #[inline(always)]
     pub fn read(&self, address: u64, width: u64) -> Option<u64>
         requires { IsWidth width }
         ensures number { result ≡ allowed_number (λ f. f.read) self.now address width }
@@ -65,22 +86,26 @@ impl Image {
 
     /// Sets the low bytes of the value at the `width` bytes from the address on. Where one of them is not mapped with PF_W it
     /// changes nothing, and gives false. The width is 1, 2, 4 or 8.
-    pub fn write(&mut self, address: u64, width: u64, value: u64) -> bool
+    #[inline(always)]
+    pub fn write(&mut self, address: u64, width: u64, value: u64) -> Result<bool, AllocError>
         requires { IsWidth width }
-        ensures granted { result ≡ grants (λ f. f.write) self.old address width }
-        ensures written { self.new ≡ cond result (put self.old address width value) self.old }
+        ensures granted { IfOk result (λ done. done ≡ grants (λ f. f.write) self.old address width) }
+        ensures written { IfOk result (λ done. self.new ≡ cond done (put self.old address width value) self.old) }
+        ensures kept { IfErr result (λ _. self.new ≡ self.old) }
     {
-        if let Some(at) = whole_at(&self.segments, address, width) {
-            if !self.segments[at].allows(Access::Write) {
-                return false;
+        if let Some(at) = whole_at(&self.pages, self.near[slot(address)], address, width) {
+            if !self.pages[at].allows(Access::Write) {
+                return Ok(false);
             }
-            self.segments[at].put(address, width, value);
-            return true;
+            self.pages[at].put(address, width, value)?;
+            return Ok(true);
         }
-        self.write_apart(address, width, value)
+        let done = self.write_apart(address, width, value)?;
+        Ok(done)
     }
 
     /// The word at an address, or None where one of its four bytes is not mapped with PF_X.
+    #[inline(always)]
     pub fn fetch(&self, address: u64) -> Option<u32>
         ensures { result ≡ allowed_number (λ f. f.execute) self.now address 4 }
     {
@@ -88,36 +113,65 @@ impl Image {
         Some(word as u32)
     }
 
-    /// Sets each of the eight bytes from the address on that is mapped, whatever its permission, and nothing else.
-    pub fn poke(&mut self, address: u64, value: u64)
-        ensures { self.new ≡ put self.old address 8 value }
+    /// Remembers the page of an address, so that the next access near it is quick.
+    #[inline(always)]
+    pub fn attend(&mut self, address: u64)
+        ensures { self.new ≡ self.old }
     {
-        self.put(address, 8, value);
+        let near = self.near[slot(address)];
+        if near < self.pages.len() && self.pages[near].has(address) {
+            return;
+        }
+        self.seek(address);
+    }
+
+    /// Finds the page of an address, and remembers it.
+    #[inline(never)]
+    fn seek(&mut self, address: u64)
+        ensures { self.new ≡ self.old }
+    {
+        let near = self.near[slot(address)];
+        if let Some(at) = place(&self.pages, near, address) {
+            self.near[slot(address)] = at;
+        }
+    }
+
+    /// Sets each of the eight bytes from the address on that is mapped, whatever its permission, and nothing else.
+    pub fn poke(&mut self, address: u64, value: u64) -> Result<(), AllocError>
+        ensures poked { IfOk result (λ _. self.new ≡ put self.old address 8 value) }
+        ensures kept { IfErr result (λ _. self.new ≡ self.old) }
+    {
+        self.put(address, 8, value)?;
+        Ok(())
     }
 
     /// The byte at an address, or None where it is not mapped.
     pub fn peek(&self, address: u64) -> Option<u8>
         ensures { result ≡ option_map (λ c. c.byte) (get self.now address) }
     {
-        let segment = self.segment(address)?;
-        Some(segment.byte(address))
+        let page = self.page(address)?;
+        Some(page.byte(address))
     }
 
-    /// An equal image.
+    /// An equal image, whose pages are shared.
     pub fn copy(&self, alloc: Global) -> Result<Image, AllocError>
         ensures { IfOk result (λ image. image ≡ self.now) }
     {
-        let segments = copied(alloc, &self.segments)?;
-        Ok(Image { segments })
+        let pages = copied(alloc, &self.pages)?;
+        Ok(Image {
+            pages,
+            near: self.near,
+            alloc,
+        })
     }
 
-    /// The segment that has the address.
-    fn segment(&self, address: u64) -> Option<&Held>
+    /// The page that has the address.
+    fn page(&self, address: u64) -> Option<&Held>
         ensures none { IfNone result (get self.now address ≡ None) }
-        ensures some { IfSome result (λ segment. Holds self.now segment.now address) }
+        ensures some { IfSome result (λ page. Holds self.now page.now address) }
     {
-        let at = first_with(&self.segments, address)?;
-        Some(&self.segments[at])
+        let at = place(&self.pages, self.near[slot(address)], address)?;
+        Some(&self.pages[at])
     }
 
     /// The byte at an address, where it has the permission.
@@ -125,31 +179,33 @@ impl Image {
         ensures byte { result ≡ allowed_byte (needs access) self.now address }
         ensures small { IfSome result (λ b. b < 256) }
     {
-        let segment = self.segment(address)?;
-        if !segment.allows(access) {
+        let page = self.page(address)?;
+        if !page.allows(access) {
             return None;
         }
-        Some(segment.byte(address))
+        Some(page.byte(address))
     }
 
     /// The number of 1 to 8 bytes from the address on, where each of them has the permission.
+    #[inline(always)]
     fn number(&self, access: Access, address: u64, width: u64) -> Option<u64>
         requires some { 0 < width }
         requires small { width ≤ 8 }
         ensures number { result ≡ allowed_number (needs access) self.now address width }
         ensures small { IfSome result (λ n. n < 256 ^ width) }
     {
-        let Some(at) = whole_at(&self.segments, address, width) else {
+        let Some(at) = whole_at(&self.pages, self.near[slot(address)], address, width) else {
             return self.number_apart(access, address, width);
         };
-        let segment = &self.segments[at];
-        if !segment.allows(access) {
+        let page = &self.pages[at];
+        if !page.allows(access) {
             return None;
         }
-        Some(segment.number(address, width))
+        Some(page.number(address, width))
     }
 
     /// The same, each byte sought for itself.
+    #[inline(never)]
     fn number_apart(&self, access: Access, address: u64, width: u64) -> Option<u64>
         requires { width ≤ 8 }
         ensures number { result ≡ allowed_number (needs access) self.now address width }
@@ -164,85 +220,61 @@ impl Image {
     }
 
     /// Sets the low bytes of a value at at most 8 addresses, each sought for itself, where all have PF_W.
-    fn write_apart(&mut self, address: u64, width: u64, value: u64) -> bool
+    #[inline(never)]
+    fn write_apart(&mut self, address: u64, width: u64, value: u64) -> Result<bool, AllocError>
         requires { width ≤ 8 }
-        ensures granted { result ≡ grants (λ f. f.write) self.old address width }
-        ensures written { self.new ≡ cond result (put self.old address width value) self.old }
+        ensures granted { IfOk result (λ done. done ≡ grants (λ f. f.write) self.old address width) }
+        ensures written { IfOk result (λ done. self.new ≡ cond done (put self.old address width value) self.old) }
+        ensures kept { IfErr result (λ _. self.new ≡ self.old) }
     {
         if self.number_apart(Access::Write, address, width).is_none() {
-            return false;
+            return Ok(false);
         }
-        self.put(address, width, value);
-        true
+        self.put(address, width, value)?;
+        Ok(true)
     }
 
     /// Gives the byte at an address another value, where there is one.
-    fn set(&mut self, address: u64, value: u8)
-        ensures { self.new ≡ poked address value self.old }
+    fn set(&mut self, address: u64, value: u8) -> Result<(), AllocError>
+        ensures { IfOk result (λ _. self.new ≡ poked address value self.old) }
     {
-        if let Some(at) = first_with(&self.segments, address) {
-            self.segments[at].set(address, value);
+        if let Some(at) = place(&self.pages, self.near[slot(address)], address) {
+            self.pages[at].put(address, 1, u64::from(value))?;
         }
+        Ok(())
     }
 
-    /// Sets the low bytes of a value at those of at most 8 addresses that are mapped.
-    fn put(&mut self, address: u64, width: u64, value: u64)
+    /// The image with the low bytes of a value at those of at most 8 addresses that are mapped.
+    fn with(&self, address: u64, width: u64, value: u64) -> Result<Image, AllocError>
         requires { width ≤ 8 }
-        ensures { self.new ≡ put self.old address width value }
+        ensures { IfOk result (λ image. image ≡ put self.now address width value) }
     {
-        // The segments are read here, so that a proof knows what holds of them.
-        let _ = &self.segments;
+        let mut image = self.copy(self.alloc)?;
         for i in 0..width {
-            self.set(address.wrapping_add(i), ((value >> (8 * i)) & 0xff) as u8);
+            image.set(address.wrapping_add(i), ((value >> (8 * i)) & 0xff) as u8)?;
         }
+        Ok(image)
+    }
+
+    /// Sets the low bytes of a value at those of at most 8 addresses that are mapped. They are set in a copy first, so that all
+    /// stays where there is no memory.
+    fn put(&mut self, address: u64, width: u64, value: u64) -> Result<(), AllocError>
+        requires { width ≤ 8 }
+        ensures put { IfOk result (λ _. self.new ≡ put self.old address width value) }
+        ensures kept { IfErr result (λ _. self.new ≡ self.old) }
+    {
+        *self = self.with(address, width, value)?;
+        Ok(())
     }
 }
 
-/// The first segment that has the address.
-fn first_with(segments: &[Held], address: u64) -> Option<usize>
-    ensures none { IfNone result (cell_among segments.now address ≡ None) }
-    ensures some { IfSome result (λ k. IsFirst segments.now address k) }
-    ensures below { IfSome result (λ k. k < length segments.now) }
+/// Equal pages, shared.
+fn copied(alloc: Global, pages: &[Held]) -> Result<Vec<Held>, AllocError>
+    ensures { IfOk result (λ made. made.items ≡ pages.now) }
 {
-    for (i, segment) in segments.iter().enumerate() {
-        if segment.has(address) {
-            return Some(i);
-        }
-    }
-    None
-}
-
-/// The segment that has all of the bytes of an access, or None.
-fn whole_at(segments: &[Held], address: u64, width: u64) -> Option<usize>
-    ensures some { IfSome result (λ k. IsWholeAt segments.now address width k) }
-    ensures below { IfSome result (λ k. k < length segments.now) }
-{
-    let at = first_with(segments, address)?;
-    if !segments[at].has_all(address, width) {
-        return None;
-    }
-    Some(at)
-}
-
-/// The segments with all their bytes in memory.
-fn held(alloc: Global, specs: &[SegmentSpec]) -> Result<Vec<Held>, AllocError>
-    requires { AllFitMemory (segments_of specs.now) }
-    ensures { IfOk result (λ made. made.items ≡ map filled (segments_of specs.now)) }
-{
-    let mut made = Vec::new(alloc);
-    for spec in specs {
-        made.push(Held::of(alloc, spec)?)?;
-    }
-    Ok(made)
-}
-
-/// Equal segments.
-fn copied(alloc: Global, segments: &[Held]) -> Result<Vec<Held>, AllocError>
-    ensures { IfOk result (λ made. made.items ≡ segments.now) }
-{
-    let mut made = Vec::new(alloc);
-    for segment in segments {
-        made.push(segment.copy(alloc)?)?;
+    let mut made = Vec::with_capacity(alloc, pages.len())?;
+    for page in pages {
+        made.push(page.copy()?)?;
     }
     Ok(made)
 }

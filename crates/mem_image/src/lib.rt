@@ -1,10 +1,13 @@
-//! The memory of a machine: bytes with permissions, made from segments. Contracts see it as the finite map `Memory` from an
-//! address to a byte and its permissions, and nothing of how it is kept.
+//! The memory of a machine: bytes with permissions, made from segments, in pages that copies share until one is written.
+//! Contracts see it as the finite map `Memory` from an address to a byte and its permissions, and nothing of how it is kept.
 #![tactic(auto)]
 
 mod held;
 mod image;
 mod overlap;
+mod page;
+mod paging;
+mod places;
 mod spec;
 
 pub use image::Image;

@@ -65,7 +65,7 @@ fn bytes_are_read_with_their_permission(rt: HostRuntime) -> Result<(), Fail> {
 fn addresses_wrap(rt: HostRuntime) -> Result<(), Fail> {
     let mut image = image(rt.alloc())?;
     assert_eq!(rt; image.read(0xffff_ffff_ffff_fffe, 4), Some(0x2211_ddcc));
-    assert!(rt; image.write(0xffff_ffff_ffff_ffff, 2, 0x7788));
+    assert!(rt; image.write(0xffff_ffff_ffff_ffff, 2, 0x7788)?);
     assert_eq!(rt; image.peek(0xffff_ffff_ffff_ffff), Some(0x88));
     assert_eq!(rt; image.peek(0), Some(0x77));
     Ok(())
@@ -74,10 +74,10 @@ fn addresses_wrap(rt: HostRuntime) -> Result<(), Fail> {
 #[test]
 fn bytes_are_written_with_their_permission(rt: HostRuntime) -> Result<(), Fail> {
     let mut image = image(rt.alloc())?;
-    assert!(rt; image.write(0x2004, 4, 0xdead_beef_cafe_babe));
+    assert!(rt; image.write(0x2004, 4, 0xdead_beef_cafe_babe)?);
     assert_eq!(rt; image.read(0x2000, 8), Some(0xcafe_babe_0003_0201));
-    assert!(rt; !image.write(0x2006, 4, 0));
-    assert!(rt; !image.write(0x1000, 1, 0));
+    assert!(rt; !image.write(0x2006, 4, 0)?);
+    assert!(rt; !image.write(0x1000, 1, 0)?);
     assert_eq!(rt; image.read(0x2000, 8), Some(0xcafe_babe_0003_0201));
     assert_eq!(rt; image.read(0x1000, 1), Some(0x78));
     Ok(())
@@ -88,10 +88,33 @@ fn mapped_bytes_are_poked(rt: HostRuntime) -> Result<(), Fail> {
     let alloc = rt.alloc();
     let mut image = image(alloc)?;
     let before = image.copy(alloc)?;
-    image.poke(0x1004, 0x0102_0304_0506_0708);
+    image.poke(0x1004, 0x0102_0304_0506_0708)?;
     assert_eq!(rt; image.read(0x1000, 8), Some(0x0506_0708_1234_5678));
     assert_eq!(rt; image.peek(0x1008), None);
     assert_eq!(rt; before.read(0x1000, 8), Some(0x1234_5678));
+    Ok(())
+}
+
+#[test]
+fn copies_share_no_change(rt: HostRuntime) -> Result<(), Fail> {
+    let alloc = rt.alloc();
+    // Three pages, of which the first access crosses two.
+    let specs = [spec(alloc, 0x1800, 0x2800, READ_WRITE, &[7])?];
+    let mut image = Image::make(alloc, &specs)?;
+    let before = image.copy(alloc)?;
+    assert!(rt; image.write(0x27fd, 8, 0x8877_6655_4433_2211)?);
+    assert!(rt; image.write(0x3ff8, 8, 0x0102_0304_0506_0708)?);
+    assert!(rt; !image.write(0x3ff9, 8, 0)?);
+    let after = image.copy(alloc)?;
+    assert!(rt; image.write(0x1800, 1, 9)?);
+    assert_eq!(rt; before.read(0x27fd, 8), Some(0));
+    assert_eq!(rt; after.read(0x27fd, 8), Some(0x8877_6655_4433_2211));
+    assert_eq!(rt; after.read(0x2800, 4), Some(0x7766_5544));
+    assert_eq!(rt; after.read(0x3ff8, 8), Some(0x0102_0304_0506_0708));
+    assert_eq!(rt;
+        (after.read(0x1800, 1), image.read(0x1800, 1)),
+        (Some(7), Some(9))
+    );
     Ok(())
 }
 

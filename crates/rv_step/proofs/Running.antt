@@ -1,5 +1,5 @@
 -- Runs of a machine: one step more, and none where it does not go on.
-use Rattle.std.proofs.Common.{◌≡◌, ℕ, zero, suc, ◌+◌, ◌-◌, ◌<◌, false, refl, ap, ◌∙◌, arith}
+use Rattle.std.proofs.Common.{◌≡◌, ℕ, zero, suc, ◌+◌, ◌-◌, ◌<◌, false, refl, sym, ap, ◌∙◌, arith, add-one, Result, Ok, Err, IfErr}
 use Rattle.qed_model.specs.declared.machine.Outcome.{Outcome}
 use Rattle.qed_model.specs.declared.machine.Outcome.TheVariants.{Going, Ended, Fired, Trapped}
 use Rattle.qed_model.specs.Machine.Step.{State, step, step_at}
@@ -44,3 +44,21 @@ one_step p n = refl
 -- one step of those that are left
 pub one_less : (p : Progress) (n k : ℕ) → k < n → progress p (n - k) ≡ progress (advanced p) (n - (k + 1))
 one_less p n k h = let e : n - k ≡ suc (n - (k + 1)) = omega (arith, h) in ap (progress p) e ∙ one_step p (n - (k + 1))
+
+-- one step behind those that were made
+pub none_made : (p : Progress) → p ≡ progress p 0
+unfolding progress
+none_made p = refl
+
+step_behind : (p : Progress) (n : ℕ) → advanced (progress p n) ≡ progress p (suc n)
+unfolding progress
+step_behind p zero = refl
+step_behind p (suc n) = step_behind (advanced p) n
+
+pub one_made : (p : Progress) (n : ℕ) → advanced (progress p n) ≡ progress p (n + 1)
+one_made p n = step_behind p n ∙ ap (progress p) (sym (add-one n))
+
+-- what holds at any error
+pub any_err : {T E : Type 0} (r : Result T E) (P : Type 0) → P → IfErr r (λ _. P)
+any_err (Ok x) P p = tt
+any_err (Err e) P p = p

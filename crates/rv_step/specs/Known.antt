@@ -1,12 +1,12 @@
 -- What stands at an address, and what a strike makes of a machine.
-use Rattle.std.specs.Prelude.{ℕ, ◌%◌, ◌==◌, ◌&&◌, Bool, true, false, cond, Option, None, Some}
+use Rattle.std.specs.Prelude.{◌≡◌, ◌≤◌, ℕ, ◌%◌, ◌==◌, ◌&&◌, Bool, true, false, cond, Option, None, Some}
 use Rattle.rv_isa.specs.declared.ins.Ins.{Ins}
 use Rattle.qed_model.specs.Machine.Memory.{grants, number}
 use Rattle.qed_model.specs.Machine.Step.{State, Fetched, Refused, Unknown, Known, fetched_at, in_range}
 use Rattle.qed_model.specs.declared.change.Place.{Place}
 use Rattle.qed_model.specs.declared.machine.Outcome.{Outcome}
 use Rattle.qed_model.specs.declared.machine.Outcome.TheVariants.{Going, Ended, Fired, Trapped}
-use Rattle.qed_model.specs.Machine.Progress.{Progress}
+use Rattle.qed_model.specs.Machine.Progress.{Progress, progress}
 use Rattle.qed_model.specs.Machine.Struck.{struck}
 
 -- the instruction, where one was fetched
@@ -41,3 +41,9 @@ goes_on Going = true
 goes_on Ended = false
 goes_on Fired = false
 goes_on (Trapped c pc) = false
+
+-- some of n steps were made
+pub record IsPart (m : Progress) (n : ℕ) (after : Progress) : Type 0 where
+  pub count : ℕ
+  pub most : count ≤ n
+  pub made : after ≡ progress m count

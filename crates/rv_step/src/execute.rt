@@ -1,5 +1,5 @@
 //! One step of a machine that goes on.
-ghost use Rattle.std.specs.Prelude.{◌≡◌, ◌+◌, ◌%◌, ◌^◌, ◌==◌, Some, None};
+ghost use Rattle.std.specs.Prelude.{◌≡◌, ◌≢◌, ◌+◌, ◌%◌, ◌^◌, ◌==◌, Some, None, IfOk, IfErr};
 ghost use Rattle.rv_isa.specs.Kind.{class_of};
 ghost use Rattle.rv_isa.specs.Regs.{set_reg};
 ghost use Rattle.rv_isa.specs.declared.class.Class.TheVariants as class;
@@ -14,6 +14,7 @@ use qed_model::{Cause, Outcome};
 use rv_alu::{Branching, Computing, Jumping, Passing};
 use rv_decode::decode;
 use rv_isa::{Class, Ins, Operation, Reg};
+use std::alloc::AllocError;
 
 impl Machine {
     /// The word at an address where code may be executed, else None.
@@ -26,6 +27,14 @@ impl Machine {
         self.image.fetch(address)
     }
 
+    /// Has the memory remember where the page of an address is.
+    #[inline(always)]
+    pub(crate) fn attend(&mut self, address: u64)
+        ensures { self.new ≡ self.old }
+    {
+        self.image.attend(address);
+    }
+
     /// The instruction at an address, or None where no code may be executed there or the word is no instruction.
     #[tactic(auto, unfolding(qed_model::specs::Machine::Step::fetched_at))]
     pub(crate) fn known(&self, address: u64) -> Option<Ins>
@@ -36,18 +45,25 @@ impl Machine {
     }
 
     /// The step of a machine that goes on, which is not counted here.
-    pub(crate) fn advance(&mut self)
-        ensures { self.new ≡ at_state (act (next self.old.state) self.old.state) self.old }
+    #[inline(always)]
+    pub(crate) fn advance(&mut self) -> Result<(), AllocError>
+        ensures advanced { IfOk result (λ _. self.new ≡ at_state (act (next self.old.state) self.old.state) self.old) }
+        ensures kept { IfErr result (λ _. self.new ≡ self.old) }
     {
         let Some(word) = self.word(self.pc) else {
             self.trap(Cause::Fetch);
-            return;
+            return Ok(());
         };
-        let Some(ins) = decode(word) else {
+        let Some(ins) = self.decoder.decode(self.pc, word) else {
             self.trap(Cause::Word(word));
-            return;
+            return Ok(());
         };
+        if let Class::Store = ins.class() {
+            self.store(&ins)?;
+            return Ok(());
+        }
         self.execute(&ins);
+        Ok(())
     }
 }
 
@@ -84,13 +100,14 @@ impl Machine {
     /// One instruction, by its class. The pc is a multiple of 4, as it is where an instruction was fetched.
     #[tactic(auto, unfolding(qed_model::specs::Machine::Step::execute))]
     fn execute(&mut self, ins: &Ins)
-        requires { self.old.state.pc % 4 ≡ 0 }
+        requires grain { self.old.state.pc % 4 ≡ 0 }
+        requires class { class_of ins.now.kind ≢ class.Store }
         ensures { self.new ≡ at_state (execute (class_of ins.now.kind) ins.now self.old.state) self.old }
     {
         match ins.class() {
             Class::Compute => self.compute(ins),
             Class::Load => self.load(ins),
-            Class::Store => self.store(ins),
+            Class::Store => unreachable!(),
             Class::Branch => self.branch(ins),
             Class::Jump | Class::JumpReg => self.jump(ins),
             Class::Fence => self.pass(ins),
@@ -129,6 +146,7 @@ impl Machine {
         ensures { self.new ≡ at_state (execute class.Load ins.now self.old.state) self.old }
     {
         let address = self.place(ins);
+        self.attend(address);
         match self.image.read(address, width(ins.kind)) {
             Some(number) => self.set(ins.rd, extended(ins.kind, number)),
             None => self.trap(Cause::Load(address)),
@@ -137,16 +155,19 @@ impl Machine {
 
     /// A store.
     #[tactic(auto, unfolding(qed_model::specs::Machine::Step::execute))]
-    fn store(&mut self, ins: &Ins)
-        ensures { self.new ≡ at_state (execute class.Store ins.now self.old.state) self.old }
+    fn store(&mut self, ins: &Ins) -> Result<(), AllocError>
+        ensures stored { IfOk result (λ _. self.new ≡ at_state (execute class.Store ins.now self.old.state) self.old) }
+        ensures kept { IfErr result (λ _. self.new ≡ self.old) }
     {
         let address = self.place(ins);
         let value = self.reg(ins.rs2);
-        if self.image.write(address, width(ins.kind), value) {
+        self.attend(address);
+        if self.image.write(address, width(ins.kind), value)? {
             self.go_on();
-        } else {
-            self.trap(Cause::Store(address));
+            return Ok(());
         }
+        self.trap(Cause::Store(address));
+        Ok(())
     }
 
     /// A branch. Only a target that is taken can be off the grain of 4.

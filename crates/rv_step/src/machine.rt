@@ -1,5 +1,5 @@
 //! The machine, from outside.
-ghost use Rattle.std.specs.Prelude.{◌≡◌, ◌+◌, ◌%◌, ◌^◌, ◌<◌, cond, length, map, slice_set, slice_index, IfOk, Some, None};
+ghost use Rattle.std.specs.Prelude.{◌≡◌, ◌+◌, ◌%◌, ◌^◌, ◌<◌, cond, length, map, slice_set, slice_index, IfOk, IfErr, Some, None};
 ghost use Rattle.std.specs.Option.{option_map};
 ghost use Rattle.std.specs.FinMap.{get};
 ghost use Rattle.qed_model.specs.Machine.Program.{start};
@@ -8,8 +8,9 @@ ghost use Rattle.qed_model.specs.Machine.Step.{reg, fetched_at};
 ghost use Rattle.qed_model.specs.Machine.Progress.{advanced, begun, progress};
 ghost use Rattle.qed_model.specs.Machine.Struck.{struck};
 ghost use Rattle.qed_model.specs.Machine.Apart.{AllFitMemory, AreApart};
-ghost use Rattle.rv_step.specs.Known.{goes_on, known_at, struck_progress};
+ghost use Rattle.rv_step.specs.Known.{goes_on, known_at, struck_progress, IsPart};
 
+use crate::decoder::Decoder;
 use code_ranges::CodeRange;
 use elf_types::ElfFile;
 use mem_image::Image;
@@ -27,6 +28,8 @@ pub struct Machine {
     pub(crate) ranges: Vec<CodeRange>,
     pub(crate) outcome: Outcome,
     pub(crate) steps: u64,
+    /// Nothing rests on what it has kept.
+    pub(crate) decoder: Decoder,
 }
 
 impl Model for Machine {
@@ -45,15 +48,21 @@ impl Machine {
     /// One step, as far as the machine goes on, and how it stands then (RISC-V unprivileged manual, RV64I and the M
     /// extension). A step that ends, fires or traps changes nothing but the outcome, and is counted.
     #[tactic(auto, unfolding(qed_model::specs::Machine::Step::step, qed_model::specs::Machine::Progress::advanced))]
-    pub fn step(&mut self) -> Outcome
-        ensures step { self.new ≡ advanced self.old }
-        ensures outcome { result ≡ self.new.state.outcome }
+    #[inline(always)]
+    pub fn step(&mut self) -> Result<Outcome, AllocError>
+        ensures step { IfOk result (λ _. self.new ≡ advanced self.old) }
+        ensures outcome { IfOk result (λ o. o ≡ self.new.state.outcome) }
+
+        // Where there is no memory for a page, nothing changes.
+        ensures kept { IfErr result (λ _. self.new ≡ self.old) }
     {
-        if self.goes_on() {
-            self.advance();
-            self.steps = self.steps.saturating_add(1);
+        if !self.goes_on() {
+            return Ok(self.outcome);
         }
-        self.outcome
+        self.attend(self.pc);
+        self.advance()?;
+        self.steps = self.steps.saturating_add(1);
+        Ok(self.outcome)
     }
 
     /// Whether the machine has not stopped.
@@ -64,17 +73,20 @@ impl Machine {
     }
 
     /// As many steps as the number says, and how the machine stands then.
-    pub fn run(&mut self, n: u64) -> Outcome
-        ensures run { self.new ≡ progress self.old n }
-        ensures outcome { result ≡ self.new.state.outcome }
+    pub fn run(&mut self, n: u64) -> Result<Outcome, AllocError>
+        ensures run { IfOk result (λ _. self.new ≡ progress self.old n) }
+        ensures outcome { IfOk result (λ o. o ≡ self.new.state.outcome) }
+
+        // Where there is no memory for a page, the steps before were made.
+        ensures part { IfErr result (λ _. IsPart self.old n self.new) }
     {
         for _ in 0..n {
             if !self.goes_on() {
-                return self.outcome;
+                return Ok(self.outcome);
             }
-            self.step();
+            self.step()?;
         }
-        self.outcome
+        Ok(self.outcome)
     }
 
     /// The number that a register holds.
@@ -129,12 +141,19 @@ impl Machine {
     /// Gives a register other than x0 another number, or each of eight bytes that is mapped its byte of the number,
     /// little endian and whatever its permission.
     #[tactic(auto, unfolding(qed_model::specs::Machine::Struck::struck))]
-    pub fn strike(&mut self, place: &Place, value: u64)
-        ensures { self.new ≡ struck_progress place.now value self.old }
+    pub fn strike(&mut self, place: &Place, value: u64) -> Result<(), AllocError>
+        ensures struck { IfOk result (λ _. self.new ≡ struck_progress place.now value self.old) }
+        ensures kept { IfErr result (λ _. self.new ≡ self.old) }
     {
         match *place {
-            Place::Reg(r) => self.regs.set(r, value),
-            Place::Word(address) => self.image.poke(address, value),
+            Place::Reg(r) => {
+                self.regs.set(r, value);
+                Ok(())
+            }
+            Place::Word(address) => {
+                self.image.poke(address, value)?;
+                Ok(())
+            }
         }
     }
 
@@ -149,6 +168,7 @@ impl Machine {
             ranges: Vec::from_slice(alloc, &self.ranges)?,
             outcome: self.outcome,
             steps: self.steps,
+            decoder: Decoder::new(alloc)?,
         })
     }
 }

@@ -7,6 +7,7 @@ ghost use Rattle.qed_model.specs.Machine.Progress.{begun};
 ghost use Rattle.mem_image.specs.Overlap.{segment_of, segments_of};
 ghost use Rattle.qed_model.specs.Machine.Apart.{AllFitMemory, AreApart};
 
+use crate::decoder::Decoder;
 use crate::machine::Machine;
 use code_ranges::code_ranges;
 use elf_types::{Bytes, ElfFile, Segment};
@@ -57,6 +58,7 @@ impl Machine {
             ranges,
             outcome: Outcome::Going,
             steps: 0,
+            decoder: Decoder::new(alloc)?,
         })
     }
 }

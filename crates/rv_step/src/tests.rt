@@ -254,7 +254,7 @@ fn programs_end_as_the_manual_says(rt: HostRuntime) -> Result<(), Fail> {
     for case in CASES {
         let file = file(alloc, case.code, &case.data)?;
         let mut machine = Machine::start(alloc, &file, &[0; 32])?;
-        let outcome = machine.run(100);
+        let outcome = machine.run(100)?;
         assert_eq!(rt; outcome, case.outcome, "{case:?}");
         assert_eq!(rt; machine.outcome(), case.outcome, "{case:?}");
         assert_eq!(rt; machine.pc(), case.pc, "{case:?}");
@@ -274,19 +274,19 @@ fn a_machine_is_struck_and_copied(rt: HostRuntime) -> Result<(), Fail> {
     let x0 = Reg::new(0).ok_or("a register")?;
     let x9 = Reg::new(9).ok_or("a register")?;
     assert_eq!(rt; (machine.reg(x0), machine.reg(x9)), (0, 7));
-    assert_eq!(rt; machine.step(), Outcome::Going);
+    assert_eq!(rt; machine.step()?, Outcome::Going);
     assert!(rt; machine.next().is_some_and(|ins| ins.kind == Kind::Ld));
     assert!(rt; machine.ahead(4).is_some_and(|ins| ins.kind == Kind::Ecall));
     assert!(rt; machine.ahead(2).is_none());
     let mut copy = machine.copy(alloc)?;
-    copy.strike(&Place::Word(DATA), 0x0807_0605_0403_0201);
+    copy.strike(&Place::Word(DATA), 0x0807_0605_0403_0201)?;
     assert_eq!(rt; copy.byte(DATA + 7), Some(8));
     assert_eq!(rt; copy.byte(CODE - 1), None);
-    copy.run(1);
+    copy.run(1)?;
     assert_eq!(rt; copy.reg(x9), 0x0807_0605_0403_0201);
-    machine.strike(&Place::Reg(x9), 3);
+    machine.strike(&Place::Reg(x9), 3)?;
     assert_eq!(rt; machine.reg(x9), 3);
-    machine.run(1);
+    machine.run(1)?;
     assert_eq!(rt; machine.reg(x9), 5);
     Ok(())
 }

@@ -1,24 +1,31 @@
-use Rattle.std.proofs.Common.{◌+◌, sym, ap, ◌∙◌, arith}
-use Rattle.qed_model.specs.Machine.Memory.{byte_of}
-use Rattle.qed_model.specs.Machine.Cells.{has}
-use Rattle.mem_image.specs.Segments.{with_byte_at}
-use Rattle.mem_image.proofs.NumberLaws.{low_byte}
-use Rattle.mem_image.proofs.WholeLaws.{spans, has_span, has-with_bytes, with_bytes-none, with_bytes-more}
+use Rattle.std.proofs.Common.{◌≡◌, ◌≤◌, ◌-◌, List, ℕ, sym, ap, ◌∙◌, arith, length, take, is_ok, ⊎_elim}
+use Rattle.qed_model.specs.Machine.Program.{LoadSegment}
+use Rattle.mem_image.specs.Segments.{bytes_put}
+use Rattle.mem_image.proofs.WholeLaws.{spans}
+use Rattle.mem_image.proofs.PageLaws.{put-take, put_with, put_in, length_first, like_put}
 use Rattle.mem_image.proofs.held.Held.put.Goals as goal
 
-pub loop-i-init : goal.loop-i-init
-loop-i-init c = sym (with_bytes-none c.args.self.now c.args.address c.args.value)
+pub returns-clause-whole : goal.returns-clause-whole
+returns-clause-whole c =
+    let x = c.self.inside in
+    let most = c.self.invariant in
+    let same : c.in_ok-page.page.now ≡ x.page.value = ⊎_elim (λ e. e) (λ e. e) c.in_ok-page.ensures.value in
+    let count : length x.page.value.bytes ≡ 4096 = ap (λ p. length p.bytes) (sym same) ∙ c.put.ensures.count in
+    ap (λ s. length s.bytes) (sym c.self.view_is) ∙ length_first x.size x.page.value.bytes (omega (arith, most, count)) ∙ ap (λ s. s.size) c.self.view_is
 
-pub set-requires : goal.set-requires
-set-requires c =
-    let room = spans c.args.self.now c.args.address c.args.width c.requires.has in
-    ap (λ s. has s (c.args.address + c.loop-i.i)) c.loop-i.invariant
-    ∙ has-with_bytes c.args.self.now c.args.address c.loop-i.i c.args.value (c.args.address + c.loop-i.i)
-    ∙ has_span c.args.self.now c.args.address c.args.width (c.args.address + c.loop-i.i) room.0 room.1 (omega arith) (omega arith)
+pub returns-clause-put : goal.returns-clause-put
+returns-clause-put c =
+    let x = c.self.inside in
+    let a = c.args.address in
+    let same : c.in_ok-page.page.now ≡ x.page.value = ⊎_elim (λ e. e) (λ e. e) c.in_ok-page.ensures.value in
+    let held : (c.make_mut.follows.lender c.put.new.self).value ≡ c.put.new.self = c.make_mut.follows.holds c.put.new.self (ap is_ok c.in_ok-page.was) in
+    let bytes : (c.make_mut.follows.lender c.put.new.self).value.bytes ≡ bytes_put x.page.value.bytes (a - x.start) c.args.width c.args.value = ap (λ p. p.bytes) held ∙ c.put.ensures.put ∙ ap (λ p. bytes_put p.bytes (a - x.start) c.args.width c.args.value) same in
+    let room = spans c.args.self.now a c.args.width c.requires.has in
+    let segment : List ℕ → LoadSegment = λ bs. record { address = x.start; size = x.size; flags = record { read = x.readable; write = x.writable; execute = x.executable }; bytes = bs } in
+    ap (λ bs. segment (take x.size bs)) bytes
+    ∙ ap segment (put-take x.size x.page.value.bytes (a - x.start) c.args.width c.args.value)
+    ∙ ap (λ (s : LoadSegment). put_in s (a - s.address) c.args.width c.args.value) c.self.view_is
+    ∙ put_with c.args.self.now a c.args.width c.args.value room.0
 
-pub loop-i-preserved : goal.loop-i-preserved
-loop-i-preserved c =
-    c.set.ensures.set
-    ∙ ap (with_byte_at c.loop-i.self (c.args.address + c.loop-i.i)) (low_byte c.args.value c.loop-i.i)
-    ∙ ap (λ s. with_byte_at s (c.args.address + c.loop-i.i) (byte_of c.args.value c.loop-i.i)) c.loop-i.invariant
-    ∙ with_bytes-more c.args.self.now c.args.address c.loop-i.i c.args.value
+pub returns-clause-shape : goal.returns-clause-shape
+returns-clause-shape c = like_put _ _ c.args.address c.args.width c.args.value (returns-clause-put c)

@@ -1,0 +1,12 @@
+use Rattle.std.proofs.Common.{◌≡◌, ◌+◌, arith}
+use Rattle.mem_image.specs.Overlap.{segment_of}
+use Rattle.mem_image.proofs.PagingLaws.{paged_none, paged_more}
+use Rattle.mem_image.proofs.paging.push_pages.Goals as goal
+
+pub loop-from-preserved : goal.loop-from-preserved
+loop-from-preserved c =
+    let piece = c.in_ok-page.ensures in
+    let size = piece.size in
+    let add = c.size-from.ensures in
+    let more = paged_more c.args.pages.now.items c.loop-from.pages.items (segment_of c.args.spec.now) c.in_ok-page.page c.loop-from.from c.requires.below c.loop-from.invariant.1 c.requires.fits c.loop-from-test.true piece in
+    (omega (arith, size, add), rw (c.in_ok-push.ensures.items, add) more)

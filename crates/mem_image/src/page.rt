@@ -1,0 +1,106 @@
+//! Pages: bytes that several images may share.
+ghost use Rattle.std.specs.Prelude.{◌≡◌, ◌+◌, ◌<◌, ◌≤◌, ◌^◌, length};
+ghost use Rattle.mem_image.specs.Pages.{HoldsFrom};
+ghost use Rattle.mem_image.specs.Segments.{number_in, bytes_put};
+
+use std::alloc::AllocError;
+
+/// The number of bytes of a page.
+pub const PAGE: usize = 4096;
+
+/// The bytes of a page.
+#[derive(Debug, Drop)]
+pub struct Page {
+    pub(crate) bytes: [u8; 4096],
+}
+
+impl Clone for Page {
+    ghost is_clone = { λ p copy. copy ≡ p };
+
+    fn clone(&self) -> Result<Page, AllocError> {
+        Ok(Page { bytes: self.bytes })
+    }
+}
+
+impl Page {
+    /// A page that holds the first bytes of a slice, and zeros behind them.
+    pub fn of(bytes: &[u8]) -> Page
+        ensures { HoldsFrom bytes.now 0 result.bytes }
+    {
+        let mut page = [0; 4096];
+        let count = if bytes.len() < 4096 {
+            bytes.len()
+        } else {
+            4096
+        };
+        for i in 0..count {
+            page[i] = bytes[i];
+        }
+        Page { bytes: page }
+    }
+
+    /// The number of at most 8 bytes from a place on. The widths of an access have code of their own, without a loop.
+    #[inline(always)]
+    pub fn number(&self, at: usize, width: u64) -> u64
+        requires within { at + width ≤ 4096 }
+        requires small { width ≤ 8 }
+        ensures number { result ≡ number_in self.now.bytes at width }
+        ensures small { result < 256 ^ width }
+    {
+        match width {
+            1 => self.gather(at, 1),
+            2 => self.gather(at, 2),
+            4 => self.gather(at, 4),
+            8 => self.gather(at, 8),
+            _ => self.gather(at, width),
+        }
+    }
+
+    /// The same, of any width.
+    #[inline(always)]
+    fn gather(&self, at: usize, width: u64) -> u64
+        requires within { at + width ≤ 4096 }
+        requires small { width ≤ 8 }
+        ensures number { result ≡ number_in self.now.bytes at width }
+        ensures small { result < 256 ^ width }
+    {
+        let count = width as usize;
+        let mut value = 0;
+        for taken in 0..count {
+            let byte = self.bytes[at + (count - 1 - taken)];
+            value = 256 * value + u64::from(byte);
+        }
+        value
+    }
+
+    /// Sets the low bytes of a value at at most 8 places.
+    #[inline(always)]
+    pub fn put(&mut self, at: usize, width: u64, value: u64)
+        requires within { at + width ≤ 4096 }
+        requires small { width ≤ 8 }
+        ensures put { self.new.bytes ≡ bytes_put self.old.bytes at width value }
+        ensures count { length self.old.bytes ≡ 4096 }
+    {
+        match width {
+            1 => self.scatter(at, 1, value),
+            2 => self.scatter(at, 2, value),
+            4 => self.scatter(at, 4, value),
+            8 => self.scatter(at, 8, value),
+            _ => self.scatter(at, width, value),
+        }
+    }
+
+    /// The same, of any width.
+    #[inline(always)]
+    fn scatter(&mut self, at: usize, width: u64, value: u64)
+        requires within { at + width ≤ 4096 }
+        requires small { width ≤ 8 }
+        ensures put { self.new.bytes ≡ bytes_put self.old.bytes at width value }
+        ensures count { length self.old.bytes ≡ 4096 }
+    {
+        let _ = &self.bytes;
+        for i in 0..width {
+            self.bytes[at + i as usize] = ((value >> (8 * i)) & 0xff) as u8;
+        }
+    }
+}

@@ -1,0 +1,83 @@
+//! Where the page of an address is found.
+ghost use Rattle.std.specs.Prelude.{◌≡◌, ℕ, ◌<◌, ◌≤◌, length, IfNone, IfSome, None, Some, slice_get};
+ghost use Rattle.qed_model.specs.Machine.Program.{LoadSegment};
+ghost use Rattle.mem_image.specs.Overlap.{Ascends, AreSound};
+ghost use Rattle.qed_model.specs.Machine.Cells.{cell_among};
+ghost use Rattle.mem_image.specs.Segments.{IsFirst, IsWholeAt};
+
+use crate::held::Held;
+
+/// How many of the pages begin at the address or before it.
+fn begun(pages: &[Held], address: u64) -> usize
+    requires { Ascends 0 pages.now }
+    ensures most { result ≤ length pages.now }
+    ensures before { (j : ℕ) (s : LoadSegment) → j < result → slice_get pages.now j ≡ Some s → s.address ≤ address }
+    ensures behind { (j : ℕ) (s : LoadSegment) → result ≤ j → slice_get pages.now j ≡ Some s → address < s.address }
+{
+    let mut low = 0;
+    let mut high = pages.len();
+    while low < high {
+        let middle = low + (high - low) / 2;
+        if pages[middle].start() <= address {
+            low = middle + 1;
+        } else {
+            high = middle;
+        }
+    }
+    low
+}
+
+/// The page that has the address.
+#[inline(never)]
+fn first_with(pages: &[Held], address: u64) -> Option<usize>
+    requires { AreSound pages.now }
+    ensures none { IfNone result (cell_among pages.now address ≡ None) }
+    ensures some { IfSome result (λ k. IsFirst pages.now address k) }
+    ensures below { IfSome result (λ k. k < length pages.now) }
+{
+    let count = begun(pages, address);
+    if count == 0 || !pages[count - 1].has(address) {
+        return None;
+    }
+    Some(count - 1)
+}
+
+/// The page that has the address. It may be number `near`.
+pub fn place(pages: &[Held], near: usize, address: u64) -> Option<usize>
+    requires { AreSound pages.now }
+    ensures none { IfNone result (cell_among pages.now address ≡ None) }
+    ensures some { IfSome result (λ k. IsFirst pages.now address k) }
+    ensures below { IfSome result (λ k. k < length pages.now) }
+{
+    if near < pages.len() && pages[near].has(address) {
+        return Some(near);
+    }
+    first_with(pages, address)
+}
+
+/// The page that has all of the bytes of an access, or None. It may be number `near`.
+#[inline(always)]
+pub fn whole_at(pages: &[Held], near: usize, address: u64, width: u64) -> Option<usize>
+    requires { AreSound pages.now }
+    ensures some { IfSome result (λ k. IsWholeAt pages.now address width k) }
+    ensures below { IfSome result (λ k. k < length pages.now) }
+{
+    if near < pages.len() && pages[near].has_all(address, width) {
+        return Some(near);
+    }
+    whole_far(pages, address, width)
+}
+
+/// The same, of any page.
+#[inline(never)]
+fn whole_far(pages: &[Held], address: u64, width: u64) -> Option<usize>
+    requires { AreSound pages.now }
+    ensures some { IfSome result (λ k. IsWholeAt pages.now address width k) }
+    ensures below { IfSome result (λ k. k < length pages.now) }
+{
+    let at = first_with(pages, address)?;
+    if !pages[at].has_all(address, width) {
+        return None;
+    }
+    Some(at)
+}
