@@ -5,7 +5,6 @@ use Rattle.qed_model.specs.declared.options.Options.{Options}
 use Rattle.qed_model.specs.Elf.File.{File}
 use Rattle.qed_model.specs.Machine.Loading.{loaded_file}
 use Rattle.qed_model.specs.Machine.Program.{start, zeros}
-use Rattle.qed_model.specs.Machine.Progress.{Progress, begun}
 use Rattle.qed_model.specs.Machine.Step.{State}
 use Rattle.transform.specs.Transform.{Transforms}
 use Rattle.campaign.specs.Prepared.{Prepared}
@@ -15,11 +14,6 @@ pub record StartsIn (bytes : List ℕ) (state : State) : Type 0 where
   pub file : ElfFile
   pub read : File bytes file
   pub is : state ≡ start (loaded_file file) zeros
-
--- a machine in that state, before its first step
-pub record IsStart (bytes : List ℕ) (machine : Progress) : Type 0 where
-  pub starts : StartsIn bytes machine.state
-  pub begins : machine ≡ begun machine.state
 
 -- the input is transformed to an output of which the plan tells, and the runs are those of both
 pub record IsCourse (input : List ℕ) (o : Options) (course : Prepared) : Type 0 where

@@ -1,9 +1,8 @@
 //! A test and its output, made ready to be struck.
 ghost use Rattle.std.specs.Prelude.{◌≡◌, ◌≢◌, ◌↔◌, ◌+◌, ◌*◌, ◌≤◌, All, IfOk, IfErr, IfSome, IsNone, IsTrue, map};
 ghost use Rattle.transform.specs.declared.error.TransformError.{TransformError as Refusal};
-ghost use Rattle.elf_types.specs.declared.file.ElfFile.{ElfFile as File};
 ghost use Rattle.qed_model.specs.Admission.DataRanges.{range_of};
-ghost use Rattle.qed_model.specs.Elf.File.{IsReadAs};
+ghost use Rattle.elf_read.specs.Known.{IsReadable};
 ghost use Rattle.qed_model.specs.Machine.Step.{run};
 ghost use Rattle.qed_model.specs.Weave.Places.{AreSoundOptions};
 ghost use Rattle.transform.specs.Transform.{HasCause, IsTransformable, IsErrorOr, IsDoneOr};
@@ -11,10 +10,9 @@ ghost use Rattle.strikes.specs.Draw.{drawn_strikes};
 ghost use Rattle.strikes.specs.Kept.{IsReach, copies_up_to};
 ghost use Rattle.strikes.specs.Struck.{IsStrike, AreStruck};
 ghost use Rattle.strikes.specs.Verdict.{IsVerdict};
-ghost use Rattle.campaign.specs.Course.{IsCourse, IsStart, StartsIn};
+ghost use Rattle.campaign.specs.Course.{IsCourse, StartsIn};
 
-use elf_read::read_elf;
-use elf_types::ElfError;
+use elf_read::read_known;
 use qed_model::{Change, Changes, Options, Plan, Verdict};
 use rv_step::Machine;
 use std::alloc::{AllocError, Global};
@@ -43,27 +41,26 @@ impl Model for Course {
 
 /// The machine that a file starts in, with all registers 0.
 fn machine(alloc: Global, bytes: &[u8]) -> Result<Machine, AllocError>
-    requires { (f : File) × IsReadAs bytes.now f }
-    ensures { IfOk result (IsStart bytes.now) }
+    requires { IsReadable bytes.now }
+    ensures { IfOk result (λ machine. StartsIn bytes.now machine.state) }
 {
-    match read_elf(alloc, bytes) {
-        Ok(file) => Machine::start(alloc, &file, &[0; 32]),
-        Err(ElfError::Memory) => Err(AllocError),
-        Err(_) => unreachable!(),
-    }
+    let file = read_known(alloc, bytes)?;
+    let machine = Machine::start(alloc, &file, &[0; 32])?;
+    Ok(machine)
 }
 
 /// The runs of an input and of its output.
 fn runs(alloc: Global, input: &[u8], made: &Transformed) -> Result<Runs, AllocError>
-    requires input { (f : File) × IsReadAs input.now f }
-    requires output { (f : File) × IsReadAs made.now.file f }
+    requires input { IsReadable input.now }
+    requires output { IsReadable made.now.file }
     ensures input { IfOk result (λ runs. StartsIn input.now runs.input) }
     ensures output { IfOk result (λ runs. StartsIn made.now.file runs.output) }
     ensures bounds { IfOk result (λ runs. runs.bounds ≡ made.now.plan.bounds) }
 {
     let input = machine(alloc, input)?;
     let output = machine(alloc, made.file.as_slice())?;
-    Runs::prepare(alloc, input, output, made.plan.bounds)
+    let runs = Runs::prepare(alloc, input, output, made.plan.bounds)?;
+    Ok(runs)
 }
 
 impl Course {

@@ -79,6 +79,24 @@ pub(crate) const WORD_STORED: Sample = Sample {
     ..ENDLESS
 };
 
+/// `lui x8,0x20; addi x5,x0,3; ld x6,0(x8); add x6,x6,x5; sd x6,0(x8); addi x5,x5,-1; bne x5,x0,-16; ecall`
+pub(crate) const SUMS: Sample = Sample {
+    code: &[
+        0x0002_0437,
+        0x0030_0293,
+        0x0004_3303,
+        0x0053_0333,
+        0x0064_3023,
+        0xfff2_8293,
+        0xfe02_98e3,
+        0x0000_0073,
+    ],
+    data: &[5, 0, 6, 0],
+    ..TWO
+};
+
+pub(crate) const SUMS_BY_TWO: Sample = Sample { round: 2, ..SUMS };
+
 /// `addi x5,x0,1`
 pub(crate) const NO_END: Sample = Sample {
     code: &[0x0010_0293],

@@ -21,24 +21,30 @@ const CASES: [(Sample, u64, At, u64, Shown); 15] = [
     (STORE, 64, At::X(11), 99, Ok(Verdict::Closed)),
     (STORE, 65, At::X(8), 99, Ok(Verdict::Fired(11))),
     (STORE, 65, At::X(11), 99, Ok(Verdict::Fired(14))),
-    (ROUND_OF_TWO, 49, At::Word(0x20000), 1, Ok(Verdict::Fired(49))),
-    (BYTE_STORED, 51, At::Word(0x20000), 0x101, Ok(Verdict::Fired(31))),
+    (
+        ROUND_OF_TWO,
+        49,
+        At::Word(0x20000),
+        1,
+        Ok(Verdict::Fired(49)),
+    ),
+    (
+        BYTE_STORED,
+        51,
+        At::Word(0x20000),
+        0x101,
+        Ok(Verdict::Fired(31)),
+    ),
     (WORD_STORED, 51, At::Word(0x20000), 0x101, Ok(Verdict::Same)),
     (TWO, 50, At::X(1), 5, Ok(Verdict::Ended(1))),
     (TWO, 0, At::X(5), 5, Ok(Verdict::Ended(51))),
     (TWO, 60, At::X(5), 5, Ok(Verdict::NotReached)),
-    (NO_END, 40, At::X(6), 5, Err(StrikeError::Trapped(0x10004))),
+    (NO_END, 0, At::X(5), 5, Err(StrikeError::Trapped(0x10004))),
     (ENDLESS, 9000, At::Word(0x20000), 1, Ok(Verdict::Fired(11))),
 ];
 
 /// Asserts what changes show.
-fn assert_shown(
-    rt: &impl Abort,
-    alloc: Global,
-    course: &Course,
-    changes: &[Change],
-    shown: Shown,
-) {
+fn assert_shown(rt: &impl Abort, alloc: Global, course: &Course, changes: &[Change], shown: Shown) {
     assert!(rt; course.is_strike(changes));
     assert_eq!(rt; course.strike(alloc, changes), shown, "{changes:?}");
 }
@@ -60,9 +66,21 @@ fn two_changes_show_what_they_do_together(rt: HostRuntime) -> Result<(), Fail> {
     let course = TWO.course(alloc)?;
     let x5 = At::X(5).place().ok_or("x5")?;
     let x11 = At::X(11).place().ok_or("x11")?;
-    let first = Change { step: 40, place: x5, value: 1 };
-    let back = Change { step: 41, place: x5, value: 0 };
-    let other = Change { step: 49, place: x11, value: 3 };
+    let first = Change {
+        step: 40,
+        place: x5,
+        value: 1,
+    };
+    let back = Change {
+        step: 41,
+        place: x5,
+        value: 0,
+    };
+    let other = Change {
+        step: 49,
+        place: x11,
+        value: 3,
+    };
     assert_shown(&rt, alloc, &course, &[first, back], Ok(Verdict::Ended(10)));
     assert_shown(&rt, alloc, &course, &[first, other], Ok(Verdict::Fired(0)));
     Ok(())

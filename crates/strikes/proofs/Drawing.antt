@@ -1,8 +1,10 @@
 -- Strikes that are drawn one after the other.
 use Rattle.std.proofs.Common.{◌≡◌, ◌⊎◌, inl, inr, ℕ, zero, suc, ◌+◌, ◌-◌, ◌*◌, ◌%◌, ◌<◌, ◌≤◌, Bool, true, false, cond, ◌||◌, List, [], ◌∷◌, ◌++◌, map, length, get_or, refl, sym, ap, ◌∙◌, subst, arith, nat_le, nat_lt}
 use Rattle.std.specs.Prelude.{fold, if◌then◌else◌, All, IsSome, Option, Some, None}
-use Rattle.std.proofs.lemmas.Bool.{nat_tests, cases_lt}
+use Rattle.std.proofs.lemmas.Bool.{cases_lt}
+use Rattle.std.proofs.lemmas.Bool.Decides.{nat_tests}
 use Rattle.std.proofs.lemmas.List.Sums.{fold-append}
+use Rattle.std.proofs.Math.Nat.{mul-suc, mul-zero}
 use Rattle.rand_pcg.specs.Lcg.{Lcg}
 use Rattle.qed_model.specs.declared.bounds.Bounds.{Bounds}
 use Rattle.qed_model.specs.declared.change.Place.{Place}
@@ -16,6 +18,7 @@ use Rattle.qed_model.specs.Promise.Changed.{Ordered, has_word, is_word}
 use Rattle.qed_model.specs.Words.{with_change, in_order}
 use Rattle.qed_model.proofs.ReadFacts.{All-each}
 use Rattle.random_words.specs.Random.{seeded, after}
+use Rattle.random_words.proofs.Words.{after-more}
 use Rattle.strikes.specs.Draw.{place_of, change_of, drawn_change, drawn_strike, drawn_strikes, HasWords}
 use Rattle.strikes.specs.Struck.{IsStrike}
 use Rattle.strikes.proofs.Stopping.{rest_ordered}
@@ -71,8 +74,8 @@ fold_none spans reach (suc n) g none =
 
 -- ---- a drawn strike
 bounded : (bounds : Bounds) (cs : List Change) → (has_word cs ≡ false) ⊎ IsSome bounds.word → IsSome (bound_of bounds cs)
-bounded bounds cs (inl h) = rw h tt
-bounded bounds cs (inr s) = elim (has_word cs) as (λ b. IsSome (cond b bounds.word (Some bounds.register))) [ true ↦ s | false ↦ tt ]
+bounded bounds cs (inl h) = rw h refl
+bounded bounds cs (inr s) = elim (has_word cs) as (λ b. IsSome (cond b bounds.word (Some bounds.register))) [ true ↦ s | false ↦ refl ]
 
 pub drawn_fits : (plan : Plan) (reach n : ℕ) (g : Lcg) → HasWords plan → IsStrike plan.bounds (drawn_strike (map range_of plan.span) reach n g)
 unfolding drawn_strike
@@ -103,3 +106,15 @@ one_change spans reach k g made next c e is added =
     let f : ℕ → Change = λ j. drawn_change spans reach (after (3 * j) g) in
     let n : k + 1 ≡ suc k = omega arith in
     added ∙ ap (λ ds. with_change ds c) e ∙ ap (with_change (in_order (each k f))) is ∙ sym (fold-append with_change [] (each k f) (f k ∷ [])) ∙ sym (ap (λ m. in_order (each m f)) n)
+
+-- ---- the words of strikes
+-- before any
+pub none_drawn : (m : ℕ) (g : Lcg) → g ≡ after (3 * m * 0) g
+none_drawn m g = let e : 3 * m * 0 ≡ 0 = mul-zero (3 * m) in sym (ap (λ n. after n g) e)
+
+-- of one strike more
+pub more_words : (m i : ℕ) (g : Lcg) → after (3 * m) (after (3 * m * i) g) ≡ after (3 * m * (i + 1)) g
+more_words m i g =
+    let n : i + 1 ≡ suc i = omega arith in
+    let e : 3 * m * i + 3 * m ≡ 3 * m * (i + 1) = sym (ap (λ k. 3 * m * k) n ∙ mul-suc (3 * m) i) in
+    after-more (3 * m) (3 * m * i) g ∙ ap (λ k. after k g) e

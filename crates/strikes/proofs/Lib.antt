@@ -5,3 +5,4 @@ pub mod Looking
 pub mod Drawing
 pub mod Inserting
 pub mod Copying
+pub mod Making

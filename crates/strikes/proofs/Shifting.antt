@@ -1,8 +1,10 @@
 -- A strike that begins at a later state shows what it shows from the start, where no change comes before.
-use Rattle.std.proofs.Common.{◌≡◌, ◌⊎◌, inl, inr, ℕ, zero, suc, ◌+◌, ◌-◌, ◌*◌, ◌<◌, ◌≤◌, Bool, true, false, cond, ◌||◌, List, [], ◌∷◌, map, refl, sym, ap, ◌∙◌, subst, arith, All}
-use Rattle.std.specs.Prelude.{◌≢◌, ◌==◌, Result, Ok, Err}
+use Rattle.std.proofs.Common.{◌≡◌, ◌⊎◌, inl, inr, ℕ, zero, suc, ◌+◌, ◌-◌, ◌*◌, ◌<◌, ◌≤◌, Bool, true, false, cond, ◌||◌, List, [], ◌∷◌, map, refl, sym, ap, ◌∙◌, subst, arith}
+use Rattle.std.specs.Prelude.{◌≢◌, ◌==◌, Option, Some, Result, Ok, Err, All}
 use Rattle.std.specs.List.{list_any}
+use Rattle.std.proofs.lemmas.List.Elements.{All-nil, All-cons}
 use Rattle.std.proofs.lemmas.Bool.{cases_lt, eq-eqb, ne_eqb, eqb-true}
+use Rattle.qed_model.specs.declared.bounds.Bounds.{Bounds}
 use Rattle.qed_model.specs.declared.change.Change.{Change}
 use Rattle.qed_model.specs.declared.machine.Outcome.{Outcome}
 use Rattle.qed_model.specs.declared.machine.Outcome.TheVariants.{Going, Ended, Fired, Trapped}
@@ -10,7 +12,8 @@ use Rattle.qed_model.specs.declared.verdict.Verdict.{Verdict}
 use Rattle.qed_model.specs.declared.verdict.Verdict.TheVariants as verdict
 use Rattle.qed_model.specs.Machine.Progress.{Progress, begun}
 use Rattle.qed_model.specs.Machine.Step.{State, step, run}
-use Rattle.qed_model.specs.Promise.Changed.{changed, with_changes, changed_run, Ordered, last_step}
+use Rattle.qed_model.specs.Promise.Caught.{bound_of}
+use Rattle.qed_model.specs.Promise.Changed.{changed, changed_as, with_changes, changed_run, Ordered, last_step}
 use Rattle.qed_model.specs.Promise.Kept.{NotTrapped, is_trapped}
 use Rattle.qed_model.proofs.Walk.{run-more}
 use Rattle.fault_inject.specs.Closed.{is_closed_place}
@@ -18,8 +21,8 @@ use Rattle.fault_inject.proofs.Changing.{AllFrom, not_made, plain}
 use Rattle.strikes.specs.declared.error.StrikeError.TheVariants as error
 use Rattle.strikes.specs.declared.error.StrikeError.{StrikeError}
 use Rattle.strikes.specs.Later.{counted_from, all_from, first_step}
-use Rattle.strikes.specs.Verdict.{IsReached, has_closed, IsTried, IsFound, IsSilent, StopsAt, TrapsAt, Shows}
-use Rattle.strikes.proofs.Stopping.{going_before, progress_state, rest_ordered, first_last}
+use Rattle.strikes.specs.Verdict.{IsReached, has_closed, IsTried, IsFound, IsSilent, StopsAt, TrapsAt, Shows, IsVerdict}
+use Rattle.strikes.proofs.Stopping.{going_before, run-last, progress_state, rest_ordered, first_last}
 
 -- ---- where no change comes before
 -- a run with no changes
@@ -37,11 +40,6 @@ from_less : (m n : ℕ) (cs : List Change) → n ≤ m → AllFrom m cs → AllF
 from_less m n [] h from = tt
 from_less m n (c ∷ cs) h from = (omega (arith, from.0, h), from_less m n cs h from.1)
 
--- one step at the end
-run-last : (s : State) (n : ℕ) → run s (suc n) ≡ step (run s n)
-unfolding run
-run-last s n = let e : suc n ≡ n + 1 = omega arith in ap (run s) e ∙ run-more s n 1
-
 -- up to the first changes
 up_to : (s : State) (cs : List Change) (m : ℕ) → AllFrom m cs → changed_run s cs m ≡ with_changes cs m (run s m)
 unfolding changed_run run
@@ -57,11 +55,18 @@ same_step a m n h = by_case (a == m + n) refl where
   by_case true e = let x : a ≡ m + n = eqb-true a (m + n) e in eq-eqb (a - m) n (omega (arith, x)) ∙ sym e
   by_case false e = ne_eqb (a - m) n (λ x. let y : a ≡ m + n = omega (arith, x, h) in let z : (a == m + n) ≡ true = eq-eqb a (m + n) y in cc) ∙ sym e
 
+-- the same change
+same_change : (o : Outcome) (m : ℕ) (c : Change) (s : State) → changed_as o (counted_from m c) s ≡ changed_as o c s
+same_change Going m c s = refl
+same_change Ended m c s = refl
+same_change Fired m c s = refl
+same_change (Trapped x p) m c s = refl
+
 with_later : (cs : List Change) (m n : ℕ) (s : State) → AllFrom m cs → with_changes (all_from m cs) n s ≡ with_changes cs (m + n) s
 unfolding with_changes
 with_later [] m n s from = refl
 with_later (c ∷ cs) m n s from =
-    ap (λ b. with_changes (all_from m cs) n (cond b (changed c s) s)) (same_step c.step m n from.0) ∙ with_later cs m n (cond (c.step == m + n) (changed c s) s) from.1
+    ap (λ x. with_changes (all_from m cs) n (cond (c.step - m == n) x s)) (same_change s.outcome m c s) ∙ ap (λ b. with_changes (all_from m cs) n (cond b (changed c s) s)) (same_step c.step m n from.0) ∙ with_later cs m n (cond (c.step == m + n) (changed c s) s) from.1
 
 -- the changed run from a later state
 pub shifted : (s : State) (cs : List Change) (m n : ℕ) → AllFrom m cs → changed_run s cs (m + n) ≡ changed_run (run s m) (all_from m cs) n
@@ -193,3 +198,23 @@ shows_later input output b cs m (Err (error.Trapped pc)) from h x =
     let t = tried_later output cs m from h x.0 in
     (t, silent_later output cs m b from h t.reached x.1, record { cause = x.2.cause; trapped = ap (λ y. y.outcome) (sym (run_later input cs m b h)) ∙ x.2.trapped })
 shows_later input output b cs m (Err error.Memory) from h x = tt
+
+-- the same, where both machines are copies after 4,096 steps as often as a number says
+pub strike_shows :
+    (input output u v : State) (bounds : Bounds) (cs later : List Change) (number b : ℕ) (r : Result Verdict StrikeError) → bound_of bounds cs ≡ Some b → Ordered cs
+    → 4096 * number ≤ first_step cs → u ≡ run input (4096 * number) → v ≡ run output (4096 * number) → later ≡ all_from (4096 * number) cs → Shows u v b later r
+    → IsVerdict input output bounds cs r
+strike_shows input output u v bounds cs later number b r bound o h is_input is_output is_later x n e =
+    let same : b ≡ n = cc in
+    let from_input : Shows (run input (4096 * number)) v b later r = subst (λ s. Shows s v b later r) is_input x in
+    let from_output : Shows (run input (4096 * number)) (run output (4096 * number)) b later r = subst (λ s. Shows (run input (4096 * number)) s b later r) is_output from_input in
+    let from_both : Shows (run input (4096 * number)) (run output (4096 * number)) b (all_from (4096 * number) cs) r =
+    subst (λ cs. Shows (run input (4096 * number)) (run output (4096 * number)) b cs r) is_later from_output in
+    subst (λ k. Shows input output k cs r) same (shows_later input output b cs (4096 * number) r (from_first cs (4096 * number) o h) (last_from cs (4096 * number) o h) from_both)
+
+-- the changes are not before the copy
+pub not_before_all : (cs : List Change) (m : ℕ) → Ordered cs → m ≤ first_step cs → All (λ c. m ≤ c.step) cs
+not_before_all cs m o h = all_of cs (from_first cs m o h) where
+  all_of : (ds : List Change) → AllFrom m ds → All (λ c. m ≤ c.step) ds
+  all_of [] from = All-nil (λ c. m ≤ c.step)
+  all_of (d ∷ ds) from = All-cons (λ c. m ≤ c.step) d ds from.0 (all_of ds from.1)

@@ -1,17 +1,20 @@
 -- From what the machines show to the verdict.
 use Rattle.std.proofs.Common.{◌≡◌, ◌⊎◌, inl, inr, ℕ, zero, suc, ◌+◌, ◌-◌, ◌<◌, ◌≤◌, Bool, true, false, List, Option, Some, None, refl, sym, ap, ◌∙◌, subst, arith}
-use Rattle.std.specs.Prelude.{◌≢◌, Result, Ok, Err}
+use Rattle.std.specs.Prelude.{◌≢◌, Result, Ok, Err, IfNone}
 use Rattle.std.proofs.lemmas.Bool.{cases_lt}
 use Rattle.qed_model.specs.declared.change.Change.{Change}
+use Rattle.qed_model.specs.declared.machine.Cause.{Cause}
 use Rattle.qed_model.specs.declared.machine.Outcome.{Outcome}
 use Rattle.qed_model.specs.declared.machine.Outcome.TheVariants.{Going, Ended, Fired, Trapped}
 use Rattle.qed_model.specs.declared.verdict.Verdict.{Verdict}
 use Rattle.qed_model.specs.declared.verdict.Verdict.TheVariants as verdict
 use Rattle.qed_model.specs.Machine.Step.{State, run}
 use Rattle.qed_model.specs.Promise.Changed.{changed_run, Ordered, last_step}
-use Rattle.strikes.specs.Found.{ShowsUnchanged, verdict_of, Stops, IsStill}
+use Rattle.qed_model.specs.Promise.Kept.{is_trapped}
+use Rattle.strikes.specs.declared.error.StrikeError.TheVariants as error
+use Rattle.strikes.specs.Found.{ShowsUnchanged, StopsWithin, trap_pc_of, verdict_of, Stops, IsStill}
 use Rattle.strikes.specs.Verdict.{IsTried, IsFound, IsSilent, StopsAt, Shows}
-use Rattle.strikes.proofs.Stopping.{changed_as_at, changed_before, first_stop, behind, StopsBy}
+use Rattle.strikes.proofs.Stopping.{run_as, changed_as_at, changed_before, first_stop, behind, StopsBy}
 
 -- the verdict of the run without changes
 pub shows_unchanged : (input output : State) (b : ℕ) (cs : List Change) (v : Verdict) → ShowsUnchanged output cs v → Shows input output b cs (Ok v)
@@ -116,3 +119,44 @@ is_silent s cs b o x = record {
 
   ends : (run (changed_run s cs (last_step cs)) b).outcome ≡ Ended → ⊥
   ends e = let n : verdict_of Ended 0 ≡ None = subst (λ h. verdict_of h 0 ≡ None) e x.shows_none in cc
+
+-- what stopped by a trap is so when the bound is over
+no_verdict : (o : Outcome) (k : ℕ) → verdict_of o k ≡ None → verdict_of o 0 ≡ None
+no_verdict Going k e = refl
+no_verdict Ended k e = absurd (cc)
+no_verdict Fired k e = absurd (cc)
+no_verdict (Trapped c p) k e = refl
+
+pub still_where_none :
+    (s after : State) (b steps : ℕ) (o : Outcome) (r : Option Verdict) → StopsWithin s b after steps → o ≡ after.outcome → r ≡ verdict_of o steps → IfNone r (IsStill s b)
+still_where_none s after b steps o (Some v) w e is = tt
+still_where_none s after b steps o None w e is =
+    let same : run s b ≡ run s steps = run_as s steps b w.within w.stops.stopped in
+    let there : o ≡ (run s b).outcome = e ∙ ap (λ x. x.outcome) (w.there ∙ sym same) in
+    record { shows_none = subst (λ x. verdict_of x 0 ≡ None) there (no_verdict o steps (sym is)) }
+
+-- ---- the input's run
+trap_of : (o : Outcome) (pc : ℕ) → trap_pc_of o ≡ Some pc → (cause : Cause) × (o ≡ Trapped cause pc)
+trap_of Going pc e = absurd (cc)
+trap_of Ended pc e = absurd (cc)
+trap_of Fired pc e = absurd (cc)
+trap_of (Trapped cause p) pc e = let same : p ≡ pc = cc in (cause, ap (Trapped cause) same)
+
+no_trap : (o : Outcome) → trap_pc_of o ≡ None → is_trapped o ≡ false
+no_trap Going e = refl
+no_trap Ended e = refl
+no_trap Fired e = refl
+no_trap (Trapped cause p) e = absurd (cc)
+
+-- where the output shows nothing, the input's run decides
+pub shows_trapped :
+    (input output : State) (b pc : ℕ) (cs : List Change) → Ordered cs → IsTried output cs → IsStill (changed_run output cs (last_step cs)) b
+    → Some pc ≡ trap_pc_of (run input (last_step cs + b)).outcome → Shows input output b cs (Err (error.Trapped pc))
+shows_trapped input output b pc cs o t x e =
+    let p = trap_of (run input (last_step cs + b)).outcome pc (sym e) in
+    (t, is_silent output cs b o x, record { cause = p.0; trapped = p.1 })
+
+pub shows_same :
+    (input output : State) (b : ℕ) (cs : List Change) → Ordered cs → IsTried output cs → IsStill (changed_run output cs (last_step cs)) b
+    → None ≡ trap_pc_of (run input (last_step cs + b)).outcome → Shows input output b cs (Ok verdict.Same)
+shows_same input output b cs o t x e = (t, is_silent output cs b o x, no_trap (run input (last_step cs + b)).outcome (sym e))

@@ -105,11 +105,11 @@ first_stop states n x =
 
 -- ---- behind the last change
 -- steps that do not fall do not fall behind the first
-rest_ordered : (c : Change) (cs : List Change) → Ordered (c ∷ cs) → Ordered cs
+pub rest_ordered : (c : Change) (cs : List Change) → Ordered (c ∷ cs) → Ordered cs
 rest_ordered c [] o = tt
 rest_ordered c (d ∷ cs) o = o.1
 
-first_last : (c : Change) (cs : List Change) → Ordered (c ∷ cs) → c.step ≤ last_step (c ∷ cs)
+pub first_last : (c : Change) (cs : List Change) → Ordered (c ∷ cs) → c.step ≤ last_step (c ∷ cs)
 first_last c [] o = omega arith
 first_last c (d ∷ cs) o = let k = first_last d cs o.1 in omega (arith, k, o.0)
 
@@ -133,3 +133,21 @@ pub behind : (s : State) (cs : List Change) (k : ℕ) → Ordered cs → changed
 behind s cs k o =
     let by = by_last cs (last_step cs) o (omega arith) in
     ap (λ p. p.state) (plain (begun s) cs (last_step cs) k by) ∙ progress_state _ k
+
+-- two runs one after the other
+pub two_runs : (p q r : Progress) (m n : ℕ) → q ≡ progress p m → r ≡ progress q n → r.state ≡ run p.state (m + n)
+two_runs p q r m n e f = ap (λ x. x.state) f ∙ progress_state q n ∙ ap (λ x. run x.state n) e ∙ ap (λ s. run s n) (progress_state p m) ∙ sym (run-more p.state m n)
+
+-- ---- step by step
+pub run_none : (s : State) → s ≡ run s 0
+unfolding run
+run_none s = refl
+
+-- one step at the end
+pub run-last : (s : State) (n : ℕ) → run s (suc n) ≡ step (run s n)
+unfolding run
+run-last s n = let e : suc n ≡ n + 1 = omega arith in ap (run s) e ∙ run-more s n 1
+
+pub step_made : (p q : Progress) (s : State) (k : ℕ) → p.state ≡ run s k → q ≡ advanced p → q.state ≡ run s (k + 1)
+unfolding advanced
+step_made p q s k e made = let n : suc k ≡ k + 1 = omega arith in ap (λ x. x.state) made ∙ ap step e ∙ sym (run-last s k) ∙ ap (run s) n

@@ -38,3 +38,9 @@ pub record Stops (state : State) (b : ℕ) (v : Verdict) : Type 0 where
 -- when the bound is over it has shown no verdict
 pub record IsStill (state : State) (b : ℕ) : Type 0 where
   pub shows_none : verdict_of (run state b).outcome 0 ≡ None
+
+-- ---- the input's run
+-- the pc of a trap
+abbrev pub trap_pc_of : Outcome → Option ℕ
+trap_pc_of (outcome.Trapped cause pc) = Some pc
+trap_pc_of _ = None

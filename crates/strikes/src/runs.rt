@@ -48,10 +48,8 @@ fn reach_of(alloc: Global, machine: &Machine) -> Result<u64, AllocError>
     ensures { IfOk result (IsReach machine.now.state) }
 {
     let mut machine = machine.copy(alloc)?;
-    match steps_to_stop(&mut machine, MAX_REACH)? {
-        Some(steps) => Ok(steps),
-        None => Ok(MAX_REACH),
-    }
+    let steps = steps_to_stop(&mut machine, MAX_REACH)?;
+    Ok(steps.unwrap_or(MAX_REACH))
 }
 
 /// Whether a place is a word.
@@ -175,8 +173,7 @@ impl Runs {
         let later = all_from(alloc, changes, SPACING * number)?;
         let input = self.input.at(number).unwrap();
         let output = self.output.at(number).unwrap();
-        let verdict = verdict(alloc, input, output, &later, bound)?;
-        Ok(verdict)
+        verdict(alloc, input, output, &later, bound)
     }
 
     /// The number of the last copy that is not after the first change.

@@ -39,7 +39,8 @@ fn copies(alloc: Global, first: &Machine, count: u64) -> Result<Vec<Machine>, Al
     let mut later = Vec::new(alloc);
     for _ in 0..count {
         machine.run(SPACING)?;
-        later.push(machine.copy(alloc)?)?;
+        let copied = machine.copy(alloc)?;
+        later.push(copied)?;
     }
     Ok(later)
 }

@@ -1,9 +1,9 @@
 //! What changes show, where both machines stand at the step from which the changes are counted.
-ghost use Rattle.std.specs.Prelude.{◌≡◌, IfOk, IfSome, IfNone, IsNone};
+ghost use Rattle.std.specs.Prelude.{◌≡◌, ◌+◌, IfOk, IfSome, IfNone};
 ghost use Rattle.qed_model.specs.Machine.Step.{run};
-ghost use Rattle.qed_model.specs.Promise.Changed.{Ordered, last_step as last_step_of};
+ghost use Rattle.qed_model.specs.Promise.Changed.{Ordered, changed_run, last_step as last_step_of};
 ghost use Rattle.strikes.specs.Verdict.{has_closed as has_closed_of, IsTried, Shows};
-ghost use Rattle.strikes.specs.Found.{verdict_of, Stops, IsStill, ShowsUnchanged};
+ghost use Rattle.strikes.specs.Found.{trap_pc_of, verdict_of, Stops, IsStill, ShowsUnchanged};
 
 use crate::error::StrikeError;
 use crate::stop::steps_to_stop;
@@ -73,7 +73,7 @@ fn stopped_verdict(outcome: Outcome, steps: u64) -> Option<Verdict>
 
 /// What the run of a machine that has made its last change shows, within so many steps; None where no check fires and the test does
 /// not end.
-fn changed_verdict(machine: &mut Machine, bound: u64) -> Result<Option<Verdict>, AllocError>
+fn later_verdict(machine: &mut Machine, bound: u64) -> Result<Option<Verdict>, AllocError>
     ensures shown { IfOk result (λ v. IfSome v (Stops machine.old.state bound)) }
     ensures none { IfOk result (λ v. IfNone v (IsStill machine.old.state bound)) }
 {
@@ -81,6 +81,49 @@ fn changed_verdict(machine: &mut Machine, bound: u64) -> Result<Option<Verdict>,
         return Ok(None);
     };
     Ok(stopped_verdict(machine.outcome(), steps))
+}
+
+/// What the changed run of an output shows, within so many steps from the last change; None where no check fires and the test does
+/// not end.
+fn changed_verdict(
+    alloc: Global,
+    output: &Machine,
+    changes: &[Change],
+    bound: u64,
+) -> Result<Option<Verdict>, AllocError>
+    requires { Ordered changes.now }
+    ensures shown { IfOk result (λ v. IfSome v (Stops (changed_run output.now.state changes.now (last_step_of changes.now)) bound)) }
+    ensures none { IfOk result (λ v. IfNone v (IsStill (changed_run output.now.state changes.now (last_step_of changes.now)) bound)) }
+{
+    let mut output = output.copy(alloc)?;
+    run_changed(&mut output, changes, last_step(changes))?;
+    let verdict = later_verdict(&mut output, bound)?;
+    Ok(verdict)
+}
+
+/// The pc of a trap.
+fn trap_pc(outcome: Outcome) -> Option<u64>
+    ensures { result ≡ trap_pc_of outcome }
+{
+    match outcome {
+        Outcome::Trapped(_, pc) => Some(pc),
+        _ => None,
+    }
+}
+
+/// The pc where a machine traps within two numbers of steps; None where it does not.
+fn input_trap(
+    alloc: Global,
+    input: &Machine,
+    last: u64,
+    bound: u64,
+) -> Result<Option<u64>, AllocError>
+    ensures { IfOk result (λ pc. pc ≡ trap_pc_of (run input.now.state (last + bound)).outcome) }
+{
+    let mut input = input.copy(alloc)?;
+    input.run(last)?;
+    let outcome = input.run(bound)?;
+    Ok(trap_pc(outcome))
 }
 
 /// What changes show of an output with this bound, where both machines stand at the step from which the changes are counted. The steps
@@ -99,19 +142,16 @@ pub fn verdict(
     requires { Ordered changes.now }
     ensures { Shows input.now.state output.now.state bound changes.now result }
 {
-    if let Some(verdict) = unchanged_verdict(alloc, output, changes)? {
-        return Ok(verdict);
+    match unchanged_verdict(alloc, output, changes)? {
+        Some(verdict) => return Ok(verdict),
+        None => {}
     }
-    let last = last_step(changes);
-    let mut output = output.copy(alloc)?;
-    run_changed(&mut output, changes, last)?;
-    if let Some(verdict) = changed_verdict(&mut output, bound)? {
-        return Ok(verdict);
+    match changed_verdict(alloc, output, changes, bound)? {
+        Some(verdict) => return Ok(verdict),
+        None => {}
     }
-    let mut input = input.copy(alloc)?;
-    input.run(last)?;
-    match input.run(bound)? {
-        Outcome::Trapped(_, pc) => Err(StrikeError::Trapped(pc)),
-        _ => Ok(Verdict::Same),
+    match input_trap(alloc, input, last_step(changes), bound)? {
+        Some(pc) => Err(StrikeError::Trapped(pc)),
+        None => Ok(Verdict::Same),
     }
 }
