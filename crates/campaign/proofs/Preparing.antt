@@ -1,0 +1,46 @@
+-- What an output is made ready with.
+use Rattle.std.proofs.Common.{◌≡◌, ℕ, zero, suc, ◌≤◌, List, map, sym, ap, ◌∙◌, subst, arith}
+use Rattle.std.specs.Prelude.{IsSome}
+use Rattle.elf_types.specs.declared.file.ElfFile.{ElfFile}
+use Rattle.qed_model.specs.declared.options.Options.{Options}
+use Rattle.qed_model.specs.declared.plan.Plan.{Plan}
+use Rattle.qed_model.specs.Admission.DataRanges.{range_of, word_count, data_ranges}
+use Rattle.qed_model.specs.Weave.Bounds.{word_bound, bounds_of, start_steps, piece_steps}
+use Rattle.qed_model.specs.Weave.Places.{image_of}
+use Rattle.qed_model.specs.Weave.Sequences.{Block}
+use Rattle.qed_model.specs.Weave.Woven.{IsToldOf, shape_of, is_far_code}
+use Rattle.qed_model.specs.declared.machine.Outcome.TheVariants.{Going}
+use Rattle.qed_model.specs.Elf.FileRead.{file_read}
+use Rattle.qed_model.specs.Machine.Step.{State}
+use Rattle.elf_read.specs.Known.{IsReadable}
+use Rattle.transform.specs.Transform.{Transforms}
+use Rattle.strikes.specs.Draw.{HasWords}
+use Rattle.campaign.specs.Course.{StartsIn}
+
+-- where there are data words there is a bound for them
+some_bound : (n round start piece : ℕ) → 1 ≤ n → IsSome (word_bound n round start piece)
+some_bound zero round start piece h = absurd (omega arith)
+some_bound (suc n) round start piece h = tt
+
+pub has_words : (f : ElfFile) (o : Options) (blocks : List Block) (plan : Plan) → IsToldOf f o blocks plan → HasWords plan
+has_words f o blocks plan told = record {
+  count = told.words ∙ ap word_count (sym told.span);
+  bound = λ h.
+      let shape = shape_of f o (is_far_code f o blocks) in
+      subst (λ b. IsSome b.word) (sym told.bounds) (some_bound (word_count (data_ranges (image_of f))) shape.round (start_steps shape) (piece_steps shape) (subst (λ n. 1 ≤ n) told.words h));
+}
+
+-- ---- both runs
+-- a file goes on at its start
+pub starts_going : (bytes : List ℕ) (s : State) → StartsIn bytes s → s.outcome ≡ Going
+starts_going bytes s x = ap (λ t. t.outcome) x.is
+
+pub starts_as : (bytes : List ℕ) (s t : State) → t ≡ s → StartsIn bytes s → StartsIn bytes t
+starts_as bytes s t e x = subst (StartsIn bytes) (sym e) x
+
+-- the input and the output can be read
+pub input_reads : (input output : List ℕ) (o : Options) (plan : Plan) → Transforms input o output plan → IsReadable input
+input_reads input output o plan t = record { file = t.woven.file.file; read = t.read }
+
+pub output_reads : (input output : List ℕ) (o : Options) (plan : Plan) → Transforms input o output plan → IsReadable output
+output_reads input output o plan t = record { file = file_read t.woven.out; read = t.reads }

@@ -1,0 +1,23 @@
+-- What a test and its output are made ready to: both run from registers that are all 0.
+use Rattle.std.specs.Prelude.{◌≡◌, ℕ, List}
+use Rattle.elf_types.specs.declared.file.ElfFile.{ElfFile}
+use Rattle.qed_model.specs.declared.options.Options.{Options}
+use Rattle.qed_model.specs.Elf.File.{File}
+use Rattle.qed_model.specs.Machine.Loading.{loaded_file}
+use Rattle.qed_model.specs.Machine.Program.{start, zeros}
+use Rattle.qed_model.specs.Machine.Step.{State}
+use Rattle.transform.specs.Transform.{Transforms}
+use Rattle.campaign.specs.Prepared.{Prepared}
+
+-- the state in which the file that bytes are starts, with all registers 0
+pub record StartsIn (bytes : List ℕ) (state : State) : Type 0 where
+  pub file : ElfFile
+  pub read : File bytes file
+  pub is : state ≡ start (loaded_file file) zeros
+
+-- the input is transformed to an output of which the plan tells, and the runs are those of both
+pub record IsCourse (input : List ℕ) (o : Options) (course : Prepared) : Type 0 where
+  pub output : List ℕ
+  pub transforms : Transforms input o output course.plan
+  pub input_start : StartsIn input course.runs.input
+  pub output_start : StartsIn output course.runs.output

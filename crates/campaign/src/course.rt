@@ -1,0 +1,165 @@
+//! A test and its output, made ready to be struck.
+ghost use Rattle.std.specs.Prelude.{◌≡◌, ◌≢◌, ◌↔◌, ◌+◌, ◌*◌, ◌≤◌, All, IfOk, IfErr, IfSome, IsNone, IsTrue, map};
+ghost use Rattle.transform.specs.declared.error.TransformError.{TransformError as Refusal};
+ghost use Rattle.qed_model.specs.Admission.DataRanges.{range_of};
+ghost use Rattle.elf_read.specs.Known.{IsReadable};
+ghost use Rattle.qed_model.specs.Machine.Step.{run};
+ghost use Rattle.qed_model.specs.Weave.Places.{AreSoundOptions};
+ghost use Rattle.transform.specs.Transform.{HasCause, IsTransformable, IsErrorOr, IsDoneOr};
+ghost use Rattle.strikes.specs.Draw.{drawn_strikes};
+ghost use Rattle.strikes.specs.Kept.{IsReach, copies_up_to};
+ghost use Rattle.strikes.specs.Struck.{IsStrike, AreStruck};
+ghost use Rattle.strikes.specs.Verdict.{IsVerdict};
+ghost use Rattle.campaign.specs.Course.{IsCourse, StartsIn};
+
+use elf_read::read_known;
+use qed_model::{Change, Changes, Options, Plan, Verdict};
+use rv_step::Machine;
+use std::alloc::{AllocError, Global};
+use std::marker::Model;
+use strikes::{Campaign, Runs, StrikeError, drawn_strikes};
+use transform::{TransformError, Transformed, transform};
+
+/// A test and its output, with what is told of the output, and both runs from registers that are all 0.
+#[derive(Debug, Drop)]
+pub struct Course {
+    plan: Plan,
+    runs: Runs,
+}
+
+impl Model for Course {
+    ghost use Rattle.campaign.specs.Prepared.{Prepared, prepared_code, IsPrepared};
+
+    ghost Value = { Prepared };
+
+    ghost coded = { prepared_code };
+
+    ghost view = { λ c. record { plan = c.plan; runs = c.runs } };
+
+    ghost invariant = { λ c. IsPrepared c.plan c.runs };
+}
+
+/// The machine that a file starts in, with all registers 0.
+fn machine(alloc: Global, bytes: &[u8]) -> Result<Machine, AllocError>
+    requires { IsReadable bytes.now }
+    ensures { IfOk result (λ machine. StartsIn bytes.now machine.state) }
+{
+    let file = read_known(alloc, bytes)?;
+    let machine = Machine::start(alloc, &file, &[0; 32])?;
+    Ok(machine)
+}
+
+/// The runs of an input and of its output.
+fn runs(alloc: Global, input: &[u8], made: &Transformed) -> Result<Runs, AllocError>
+    requires input { IsReadable input.now }
+    requires output { IsReadable made.now.file }
+    ensures input { IfOk result (λ runs. StartsIn input.now runs.input) }
+    ensures output { IfOk result (λ runs. StartsIn made.now.file runs.output) }
+    ensures bounds { IfOk result (λ runs. runs.bounds ≡ made.now.plan.bounds) }
+{
+    let input = machine(alloc, input)?;
+    let output = machine(alloc, made.file.as_slice())?;
+    let runs = Runs::prepare(alloc, input, output, made.plan.bounds)?;
+    Ok(runs)
+}
+
+impl Course {
+    /// Transforms a test, and makes ready to strike its output. The options are sound.
+    ///
+    /// # Errors
+    ///
+    /// Those of `transform`.
+    pub fn prepare(
+        alloc: Global,
+        input: &[u8],
+        options: &Options,
+    ) -> Result<Course, TransformError>
+        requires { AreSoundOptions options.now }
+        ensures done { IfOk result (IsCourse input.now options.now) }
+        ensures refused { IfErr result (HasCause input.now options.now) }
+        ensures exact { (e : Refusal) → e ≢ TransformError.Memory → HasCause input.now options.now e → IsErrorOr result e }
+        ensures complete { IsTransformable input.now options.now → IsDoneOr result }
+    {
+        let made = transform(alloc, input, options)?;
+        let runs = runs(alloc, input, &made)?;
+        Ok(Course {
+            plan: made.plan,
+            runs,
+        })
+    }
+
+    /// What is told of the output.
+    pub fn plan(&self) -> &Plan
+        ensures { result.now ≡ self.now.plan }
+    {
+        &self.plan
+    }
+
+    /// After how many steps the output first does not go on; 1,000,000 where that is greater or there is none. It is struck after
+    /// fewer steps.
+    pub fn reach(&self) -> u64
+        ensures value { result ≡ self.now.runs.reach }
+        ensures reach { IsReach self.now.runs.output result }
+        ensures some { 1 ≤ result }
+    {
+        self.runs.reach()
+    }
+
+    /// How many copies of the output are kept: one at the start, and one after every 4,096 steps up to `reach`.
+    pub fn snapshots(&self) -> u64
+        ensures { result ≡ copies_up_to self.now.runs.reach }
+    {
+        self.runs.snapshots()
+    }
+
+    /// The output after 4,096 steps as often as the number says; None where the number is not below `snapshots`.
+    pub fn snapshot(&self, number: u64) -> Option<&Machine>
+        ensures none { IsNone result ↔ (copies_up_to self.now.runs.reach ≤ number) }
+        ensures there { IfSome result (λ machine. machine.now.state ≡ run self.now.runs.output (4096 * number)) }
+    {
+        self.runs.snapshot(number)
+    }
+
+    /// Whether changes can be struck: their steps do not fall, and where the output has no data word, no place is a word.
+    pub fn is_strike(&self, changes: &[Change]) -> bool
+        ensures { IsTrue result ↔ IsStrike self.now.plan.bounds changes.now }
+    {
+        self.runs.is_strike(changes)
+    }
+
+    /// What changes of the output's run show. Their steps do not fall, and where the output has no data word, no place is a word.
+    ///
+    /// # Errors
+    ///
+    /// `Trapped` where the output shows nothing, and the input's own run traps before the bound is over; `Memory`.
+    pub fn strike(&self, alloc: Global, changes: &[Change]) -> Result<Verdict, StrikeError>
+        requires { IsStrike self.now.plan.bounds changes.now }
+        ensures { IsVerdict self.now.runs.input self.now.runs.output self.now.plan.bounds changes.now result }
+    {
+        self.runs.strike(alloc, changes)
+    }
+
+    /// So many strikes, of so many changes each, that the random words of a seed make. Each change has three words: the step is the
+    /// first modulo `reach`; the place is number q, the second modulo 13 and the number of data words, which is register q + 1, or
+    /// from 13 on data word q - 13; the value is the third.
+    pub fn draw(
+        &self,
+        alloc: Global,
+        seed: u64,
+        count: u64,
+        changes: u64,
+    ) -> Result<Vec<Changes>, AllocError>
+        ensures drawn { IfOk result (λ strikes. strikes.items ≡ drawn_strikes (map range_of self.now.plan.span) self.now.runs.reach changes count seed) }
+        ensures fit { IfOk result (λ strikes. All (IsStrike self.now.plan.bounds) strikes.items) }
+    {
+        drawn_strikes(alloc, &self.plan, self.runs.reach(), seed, count, changes)
+    }
+
+    /// Strikes one after the other, each from the start of the runs, up to the first where the input traps.
+    pub fn strike_all(&self, alloc: Global, strikes: &[Changes]) -> Result<Campaign, AllocError>
+        requires { All (IsStrike self.now.plan.bounds) strikes.now }
+        ensures { IfOk result (λ campaign. AreStruck self.now.runs strikes.now campaign.struck.items campaign.trapped) }
+    {
+        self.runs.strike_all(alloc, strikes)
+    }
+}

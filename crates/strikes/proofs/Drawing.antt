@@ -1,0 +1,120 @@
+-- Strikes that are drawn one after the other.
+use Rattle.std.proofs.Common.{◌≡◌, ◌⊎◌, inl, inr, ℕ, zero, suc, ◌+◌, ◌-◌, ◌*◌, ◌%◌, ◌<◌, ◌≤◌, Bool, true, false, cond, ◌||◌, List, [], ◌∷◌, ◌++◌, map, length, get_or, refl, sym, ap, ◌∙◌, subst, arith, nat_le, nat_lt}
+use Rattle.std.specs.Prelude.{fold, if◌then◌else◌, All, IsSome, Option, Some, None}
+use Rattle.std.proofs.lemmas.Bool.{cases_lt}
+use Rattle.std.proofs.lemmas.Bool.Decides.{nat_tests}
+use Rattle.std.proofs.lemmas.List.Sums.{fold-append}
+use Rattle.std.proofs.Math.Nat.{mul-suc, mul-zero}
+use Rattle.rand_pcg.specs.Lcg.{Lcg}
+use Rattle.qed_model.specs.declared.bounds.Bounds.{Bounds}
+use Rattle.qed_model.specs.declared.change.Place.{Place}
+use Rattle.qed_model.specs.declared.change.Place.TheVariants.{Reg, Word}
+use Rattle.qed_model.specs.declared.change.Change.{Change}
+use Rattle.qed_model.specs.declared.plan.Plan.{Plan}
+use Rattle.qed_model.specs.Admission.DataRanges.{range_of, word_count}
+use Rattle.qed_model.specs.Below.{each}
+use Rattle.qed_model.specs.Promise.Caught.{bound_of}
+use Rattle.qed_model.specs.Promise.Changed.{Ordered, has_word, is_word}
+use Rattle.qed_model.specs.Words.{with_change, in_order}
+use Rattle.qed_model.proofs.ReadFacts.{All-each}
+use Rattle.random_words.specs.Random.{seeded, after}
+use Rattle.random_words.proofs.Words.{after-more}
+use Rattle.strikes.specs.Draw.{place_of, change_of, drawn_change, drawn_strike, drawn_strikes, HasWords}
+use Rattle.strikes.specs.Struck.{IsStrike}
+use Rattle.strikes.proofs.Stopping.{rest_ordered}
+
+-- ---- the order of steps
+front_ordered : (d c : Change) (ds : List Change) → d.step ≤ c.step → Ordered (d ∷ ds) → Ordered (with_change ds c) → Ordered (d ∷ with_change ds c)
+front_ordered d c [] below ordered later = (below, tt)
+front_ordered d c (e ∷ ds) below ordered later =
+    elim (nat_le e.step c.step)
+    as (λ t. Ordered (if t then e ∷ with_change ds c else c ∷ e ∷ ds) → Ordered (d ∷ (if t then e ∷ with_change ds c else c ∷ e ∷ ds)))
+    [ true ↦ λ h. (ordered.0, h) | false ↦ λ h. (below, h) ] later
+
+with_change_ordered : (ds : List Change) (c : Change) → Ordered ds → Ordered (with_change ds c)
+with_change_ordered [] c ordered = tt
+with_change_ordered (d ∷ ds) c ordered =
+    elim (nat_le d.step c.step)
+    as (λ t. nat_le d.step c.step ≡ t → Ordered (if t then d ∷ with_change ds c else c ∷ d ∷ ds))
+    [ true ↦ λ h. front_ordered d c ds (grind (arith, nat_tests)) ordered (with_change_ordered ds c (rest_ordered d ds ordered)) | false ↦ λ h. (grind (arith, nat_tests), ordered) ]
+    refl
+
+fold_ordered : (changes made : List Change) → Ordered made → Ordered (fold with_change made changes)
+fold_ordered [] made ordered = ordered
+fold_ordered (c ∷ changes) made ordered = fold_ordered changes (with_change made c) (with_change_ordered made c ordered)
+
+-- ---- words among the places
+-- with a change more there is no word where there was none and the change is of none
+with_change_none : (ds : List Change) (c : Change) → has_word ds ≡ false → is_word c.place ≡ false → has_word (with_change ds c) ≡ false
+with_change_none [] c h e = rw e refl
+with_change_none (d ∷ ds) c h e =
+    let p : (is_word d.place ≡ false) × (has_word ds ≡ false) = or_none (is_word d.place) (has_word ds) h in
+    elim (nat_le d.step c.step) as (λ t. has_word (if t then d ∷ with_change ds c else c ∷ d ∷ ds) ≡ false)
+    [ true ↦ rw (p.0, with_change_none ds c p.1 e) refl | false ↦ rw (e, h) refl ]
+  where
+    or_none : (a b : Bool) → (a || b) ≡ false → (a ≡ false) × (b ≡ false)
+    or_none true b x = absurd (cc)
+    or_none false b x = (refl, x)
+
+-- where there is no data word, no drawn place is a word
+no_place : (spans : List (ℕ × ℕ)) (q : ℕ) → q < 13 → is_word (place_of spans q) ≡ false
+unfolding place_of
+no_place spans q h = let t : nat_lt q 13 ≡ true = grind (arith, nat_tests) in rw t refl
+
+no_word : (spans : List (ℕ × ℕ)) (reach : ℕ) (g : Lcg) → word_count spans ≡ 0 → is_word (drawn_change spans reach g).place ≡ false
+unfolding drawn_change
+no_word spans reach g none = no_place spans _ (rw none (omega arith))
+
+fold_none : (spans : List (ℕ × ℕ)) (reach n : ℕ) (g : Lcg) → word_count spans ≡ 0 → has_word (fold with_change [] (each n (λ k. drawn_change spans reach (after (3 * k) g)))) ≡ false
+unfolding each
+fold_none spans reach zero g none = refl
+fold_none spans reach (suc n) g none =
+    let f : ℕ → Change = λ k. drawn_change spans reach (after (3 * k) g) in
+    ap has_word (fold-append with_change [] (each n f) (f n ∷ [])) ∙ with_change_none (fold with_change [] (each n f)) (f n) (fold_none spans reach n g none) (no_word spans reach (after (3 * n) g) none)
+
+-- ---- a drawn strike
+bounded : (bounds : Bounds) (cs : List Change) → (has_word cs ≡ false) ⊎ IsSome bounds.word → IsSome (bound_of bounds cs)
+bounded bounds cs (inl h) = rw h refl
+bounded bounds cs (inr s) = elim (has_word cs) as (λ b. IsSome (cond b bounds.word (Some bounds.register))) [ true ↦ s | false ↦ refl ]
+
+pub drawn_fits : (plan : Plan) (reach n : ℕ) (g : Lcg) → HasWords plan → IsStrike plan.bounds (drawn_strike (map range_of plan.span) reach n g)
+unfolding drawn_strike
+drawn_fits plan reach n g has = record {
+  ordered = fold_ordered (each n (λ k. drawn_change (map range_of plan.span) reach (after (3 * k) g))) [] tt;
+  bounded = bounded plan.bounds (in_order (each n (λ k. drawn_change (map range_of plan.span) reach (after (3 * k) g)))) (by_count (cases_lt 0 plan.words));
+} where
+  by_count :
+      (0 < plan.words) ⊎ (plan.words ≤ 0)
+      → (has_word (fold with_change [] (each n (λ k. drawn_change (map range_of plan.span) reach (after (3 * k) g)))) ≡ false) ⊎ IsSome plan.bounds.word
+  by_count (inl x) = inr (has.bound (omega (arith, x)))
+  by_count (inr x) = inl (fold_none (map range_of plan.span) reach n g (omega (arith, x, has.count)))
+
+-- all of them
+pub drawn_all_fit : (plan : Plan) (reach changes count seed : ℕ) → HasWords plan → All (IsStrike plan.bounds) (drawn_strikes (map range_of plan.span) reach changes count seed)
+unfolding drawn_strikes
+drawn_all_fit plan reach changes count seed has =
+    All-each (IsStrike plan.bounds) count (λ i. drawn_strike (map range_of plan.span) reach changes (after (3 * changes * i) (seeded seed)))
+    (λ i _. drawn_fits plan reach changes (after (3 * changes * i) (seeded seed)) has)
+
+-- ---- one more
+-- a change
+pub one_change :
+    (spans : List (ℕ × ℕ)) (reach k : ℕ) (g : Lcg) (made next : List Change) (c : Change) → made ≡ in_order (each k (λ j. drawn_change spans reach (after (3 * j) g)))
+    → c ≡ drawn_change spans reach (after (3 * k) g) → next ≡ with_change made c → next ≡ in_order (each (k + 1) (λ j. drawn_change spans reach (after (3 * j) g)))
+unfolding each
+one_change spans reach k g made next c e is added =
+    let f : ℕ → Change = λ j. drawn_change spans reach (after (3 * j) g) in
+    let n : k + 1 ≡ suc k = omega arith in
+    added ∙ ap (λ ds. with_change ds c) e ∙ ap (with_change (in_order (each k f))) is ∙ sym (fold-append with_change [] (each k f) (f k ∷ [])) ∙ sym (ap (λ m. in_order (each m f)) n)
+
+-- ---- the words of strikes
+-- before any
+pub none_drawn : (m : ℕ) (g : Lcg) → g ≡ after (3 * m * 0) g
+none_drawn m g = let e : 3 * m * 0 ≡ 0 = mul-zero (3 * m) in sym (ap (λ n. after n g) e)
+
+-- of one strike more
+pub more_words : (m i : ℕ) (g : Lcg) → after (3 * m) (after (3 * m * i) g) ≡ after (3 * m * (i + 1)) g
+more_words m i g =
+    let n : i + 1 ≡ suc i = omega arith in
+    let e : 3 * m * i + 3 * m ≡ 3 * m * (i + 1) = sym (ap (λ k. 3 * m * k) n ∙ mul-suc (3 * m) i) in
+    after-more (3 * m) (3 * m * i) g ∙ ap (λ k. after k g) e

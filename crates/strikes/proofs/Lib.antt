@@ -1,0 +1,8 @@
+pub mod Stopping
+pub mod Showing
+pub mod Shifting
+pub mod Looking
+pub mod Drawing
+pub mod Inserting
+pub mod Copying
+pub mod Making

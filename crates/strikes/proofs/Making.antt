@@ -1,0 +1,58 @@
+-- Strikes that are made one after the other.
+use Rattle.std.proofs.Common.{◌≡◌, ℕ, suc, ◌+◌, ◌<◌, ◌≤◌, true, false, List, [], ◌∷◌, ◌++◌, length, get_or, drop, drop-cons, add-one, refl, sym, ap, ◌∙◌, subst, append_assoc}
+use Rattle.std.specs.Prelude.{Option, Some, None, is_some, Result, Ok, Err}
+use Rattle.std.proofs.lemmas.List.{append-nil, drop_all}
+use Rattle.qed_model.specs.declared.change.Change.{Change}
+use Rattle.qed_model.specs.declared.verdict.Struck.{Struck}
+use Rattle.qed_model.specs.declared.verdict.Verdict.{Verdict}
+use Rattle.strikes.specs.declared.error.StrikeError.{StrikeError}
+use Rattle.strikes.specs.declared.error.StrikeError.TheVariants.{Trapped}
+use Rattle.strikes.specs.Kept.{Pair}
+use Rattle.strikes.specs.Struck.{IsStruckNext, AreStruck}
+use Rattle.strikes.specs.Verdict.{IsVerdict}
+
+-- a strike with its verdict is added
+pub adds_verdict :
+    (p : Pair) (cs : List Change) (before after : List Struck) (s : Struck) (v : Verdict) (r : Result Verdict StrikeError) → after ≡ before ++ s ∷ [] → s.changes ≡ cs → s.verdict ≡ v → r ≡ Ok v
+    → IsVerdict p.input p.output p.bounds cs r → IsStruckNext p cs before after None
+adds_verdict p cs before after s v r added changes verdict is x =
+    let e : r ≡ Ok s.verdict = is ∙ ap Ok (sym verdict) in
+    (s, (added, changes, subst (IsVerdict p.input p.output p.bounds cs) e x))
+
+-- the input traps
+pub tells_trap :
+    (p : Pair) (cs : List Change) (struck : List Struck) (pc : ℕ) (r : Result Verdict StrikeError) → r ≡ Err (Trapped pc) → IsVerdict p.input p.output p.bounds cs r
+    → IsStruckNext p cs struck struck (Some pc)
+tells_trap p cs struck pc r is x = (refl, subst (IsVerdict p.input p.output p.bounds cs) is x)
+
+-- all are struck, where those of the rest are struck behind those so far
+abbrev pub AreSoFar : Pair → List (List Change) → ℕ → List Struck → Type 0
+AreSoFar p strikes k struck = (later : List Struck) (trapped : Option ℕ) → AreStruck p (drop k strikes) later trapped → AreStruck p strikes (struck ++ later) trapped
+
+pub none_so_far : (p : Pair) (strikes : List (List Change)) (struck : List Struck) → struck ≡ [] → AreSoFar p strikes 0 struck
+none_so_far p strikes struck e later trapped h = subst (λ ss. AreStruck p strikes (ss ++ later) trapped) (sym e) h
+
+split_at : (strikes : List (List Change)) (k : ℕ) (cs : List Change) → k < length strikes → cs ≡ get_or strikes k cs → drop k strikes ≡ cs ∷ drop (k + 1) strikes
+split_at strikes k cs lt e = drop-cons strikes k cs lt ∙ ap (λ d. d ∷ drop (suc k) strikes) (sym e) ∙ rw add-one refl
+
+pub one_so_far :
+    (p : Pair) (strikes : List (List Change)) (k : ℕ) (before after : List Struck) (cs : List Change) (t : Option ℕ) → k < length strikes → cs ≡ get_or strikes k cs → IsStruckNext p cs before after t
+    → is_some t ≡ false → AreSoFar p strikes k before → AreSoFar p strikes (k + 1) after
+one_so_far p strikes k before after cs (Some pc) lt e next none so_far later trapped h = absurd (cc)
+one_so_far p strikes k before after cs None lt e next none so_far later trapped h =
+    let here : AreStruck p (drop k strikes) (next.0 ∷ later) trapped = subst (λ rest. AreStruck p rest (next.0 ∷ later) trapped) (sym (split_at strikes k cs lt e)) (next.1.1, next.1.2, h) in
+    let joined : before ++ (next.0 ∷ later) ≡ after ++ later = sym (append_assoc before (next.0 ∷ []) later) ∙ ap (λ ss. ss ++ later) (sym next.1.0) in
+    subst (λ ss. AreStruck p strikes ss trapped) joined (so_far (next.0 ∷ later) trapped here)
+
+pub ends_trapped :
+    (p : Pair) (strikes : List (List Change)) (k : ℕ) (before after : List Struck) (cs : List Change) (t : Option ℕ) → k < length strikes → cs ≡ get_or strikes k cs → IsStruckNext p cs before after t
+    → is_some t ≡ true → AreSoFar p strikes k before → AreStruck p strikes after t
+ends_trapped p strikes k before after cs None lt e next some so_far = absurd (cc)
+ends_trapped p strikes k before after cs (Some pc) lt e next some so_far =
+    let here : AreStruck p (drop k strikes) [] (Some pc) = subst (λ rest. AreStruck p rest [] (Some pc)) (sym (split_at strikes k cs lt e)) (pc, (next.1, refl)) in
+    subst (λ ss. AreStruck p strikes ss (Some pc)) (append-nil before ∙ sym next.0) (so_far [] (Some pc) here)
+
+pub ends_whole : (p : Pair) (strikes : List (List Change)) (k : ℕ) (struck : List Struck) → length strikes ≤ k → AreSoFar p strikes k struck → AreStruck p strikes struck None
+ends_whole p strikes k struck all so_far =
+    let here : AreStruck p (drop k strikes) [] None = subst (λ rest. AreStruck p rest [] None) (sym (drop_all k strikes all)) (refl, refl) in
+    subst (λ ss. AreStruck p strikes ss None) (append-nil struck) (so_far [] None here)

@@ -1,0 +1,162 @@
+-- From what the machines show to the verdict.
+use Rattle.std.proofs.Common.{◌≡◌, ◌⊎◌, inl, inr, ℕ, zero, suc, ◌+◌, ◌-◌, ◌<◌, ◌≤◌, Bool, true, false, List, Option, Some, None, refl, sym, ap, ◌∙◌, subst, arith}
+use Rattle.std.specs.Prelude.{◌≢◌, Result, Ok, Err, IfNone}
+use Rattle.std.proofs.lemmas.Bool.{cases_lt}
+use Rattle.qed_model.specs.declared.change.Change.{Change}
+use Rattle.qed_model.specs.declared.machine.Cause.{Cause}
+use Rattle.qed_model.specs.declared.machine.Outcome.{Outcome}
+use Rattle.qed_model.specs.declared.machine.Outcome.TheVariants.{Going, Ended, Fired, Trapped}
+use Rattle.qed_model.specs.declared.verdict.Verdict.{Verdict}
+use Rattle.qed_model.specs.declared.verdict.Verdict.TheVariants as verdict
+use Rattle.qed_model.specs.Machine.Step.{State, run}
+use Rattle.qed_model.specs.Promise.Changed.{changed_run, Ordered, last_step}
+use Rattle.qed_model.specs.Promise.Kept.{is_trapped}
+use Rattle.strikes.specs.declared.error.StrikeError.TheVariants as error
+use Rattle.strikes.specs.Found.{ShowsUnchanged, StopsWithin, trap_pc_of, verdict_of, Stops, IsStill}
+use Rattle.strikes.specs.Verdict.{IsTried, IsFound, IsSilent, StopsAt, Shows}
+use Rattle.strikes.proofs.Stopping.{run_as, changed_as_at, changed_before, first_stop, behind, StopsBy}
+
+-- the verdict of the run without changes
+pub shows_unchanged : (input output : State) (b : ℕ) (cs : List Change) (v : Verdict) → ShowsUnchanged output cs v → Shows input output b cs (Ok v)
+shows_unchanged input output b cs verdict.NotReached h = h
+shows_unchanged input output b cs verdict.Closed h = h
+shows_unchanged input output b cs (verdict.Fired k) h = absurd h
+shows_unchanged input output b cs (verdict.Ended k) h = absurd h
+shows_unchanged input output b cs verdict.Same h = absurd h
+
+-- ---- a run that stops behind the last change
+-- it stopped at once: then it stopped first by the last change
+stopped_before : (s : State) (cs : List Change) (b : ℕ) (how : Outcome) → (changed_run s cs (last_step cs)).outcome ≢ Going → (changed_run s cs (last_step cs)).outcome ≡ how → IsFound s b cs how 0
+stopped_before s cs b how x e =
+    let first : StopsBy (changed_run s cs) (last_step cs) = first_stop (changed_run s cs) (last_step cs) x in
+    let same = changed_as_at s cs first.steps (last_step cs) first.within first.stops.stopped in
+    record {
+      steps = first.steps;
+      within = omega (arith, first.within);
+      stops = first.stops;
+      outcome = ap (λ y. y.outcome) (sym same) ∙ e;
+      later = omega (arith, first.within);
+    }
+
+-- before k steps behind the last change it goes on
+on_before :
+    (s : State) (cs : List Change) (k : ℕ) → Ordered cs → 0 < k → ((i : ℕ) → i < k → (run (changed_run s cs (last_step cs)) i).outcome ≡ Going)
+    → (i : ℕ) → i < last_step cs + k → (changed_run s cs i).outcome ≡ Going
+on_before s cs k o some h i l = by_case (cases_lt i (last_step cs)) where
+  by_case : (i < last_step cs) ⊎ (last_step cs ≤ i) → (changed_run s cs i).outcome ≡ Going
+  by_case (inl m) =
+      let zero_steps : changed_run s cs (last_step cs + 0) ≡ run (changed_run s cs (last_step cs)) 0 = behind s cs 0 o in
+      let e : last_step cs + 0 ≡ last_step cs = omega arith in
+      let at : (changed_run s cs (last_step cs)).outcome ≡ Going = ap (λ n. (changed_run s cs n).outcome) (sym e) ∙ ap (λ y. y.outcome) zero_steps ∙ h 0 some in
+      changed_before s cs i (last_step cs) (omega arith) at
+  by_case (inr m) =
+      let e : last_step cs + (i - last_step cs) ≡ i = omega arith in
+      ap (λ n. (changed_run s cs n).outcome) (sym e) ∙ ap (λ y. y.outcome) (behind s cs (i - last_step cs) o) ∙ h (i - last_step cs) (omega arith)
+
+found_at :
+    (s : State) (cs : List Change) (b : ℕ) (how : Outcome) (k : ℕ) → Ordered cs → k ≤ b → StopsAt (run (changed_run s cs (last_step cs))) k
+    → (run (changed_run s cs (last_step cs)) k).outcome ≡ how → IsFound s b cs how k
+unfolding run
+found_at s cs b how zero o l x e = stopped_before s cs b how x.stopped e
+found_at s cs b how (suc j) o l x e =
+    let there = behind s cs (suc j) o in
+    record {
+      steps = last_step cs + suc j;
+      within = omega arith;
+      stops = record { stopped = λ g. x.stopped (ap (λ y. y.outcome) (sym there) ∙ g); before = on_before s cs (suc j) o (omega arith) x.before };
+      outcome = ap (λ y. y.outcome) there ∙ e;
+      later = omega arith;
+    }
+
+-- which verdict an outcome is
+fired_by : (o : Outcome) (n k : ℕ) → verdict_of o n ≡ Some (verdict.Fired k) → (o ≡ Fired) × (n ≡ k)
+fired_by Going n k e = absurd (cc)
+fired_by Ended n k e = absurd (cc)
+fired_by Fired n k e = (refl, cc)
+fired_by (Trapped c p) n k e = absurd (cc)
+
+ended_by : (o : Outcome) (n k : ℕ) → verdict_of o n ≡ Some (verdict.Ended k) → (o ≡ Ended) × (n ≡ k)
+ended_by Going n k e = absurd (cc)
+ended_by Ended n k e = (refl, cc)
+ended_by Fired n k e = absurd (cc)
+ended_by (Trapped c p) n k e = absurd (cc)
+
+-- no other verdict
+not_other : (o : Outcome) (n : ℕ) (v : Verdict) → verdict_of o n ≡ Some v → ((k : ℕ) → v ≢ verdict.Fired k) → ((k : ℕ) → v ≢ verdict.Ended k) → ⊥
+not_other Going n v e f g = cc
+not_other Ended n v e f g = g n (cc)
+not_other Fired n v e f g = f n (cc)
+not_other (Trapped c p) n v e f g = cc
+
+-- the verdict of a run that stops
+pub shows_found :
+    (input output : State) (b : ℕ) (cs : List Change) (v : Verdict) → Ordered cs → IsTried output cs → Stops (changed_run output cs (last_step cs)) b v
+    → Shows input output b cs (Ok v)
+shows_found input output b cs (verdict.Fired k) o t x =
+    let p = fired_by (run (changed_run output cs (last_step cs)) x.steps).outcome x.steps k x.shows in
+    (t, subst (IsFound output b cs Fired) p.1 (found_at output cs b Fired x.steps o x.within x.stops p.0))
+shows_found input output b cs (verdict.Ended k) o t x =
+    let p = ended_by (run (changed_run output cs (last_step cs)) x.steps).outcome x.steps k x.shows in
+    (t, subst (IsFound output b cs Ended) p.1 (found_at output cs b Ended x.steps o x.within x.stops p.0))
+shows_found input output b cs verdict.NotReached o t x = absurd (not_other (run (changed_run output cs (last_step cs)) x.steps).outcome x.steps verdict.NotReached x.shows (λ k e. absurd (cc)) (λ k e. absurd (cc)))
+shows_found input output b cs verdict.Closed o t x = absurd (not_other (run (changed_run output cs (last_step cs)) x.steps).outcome x.steps verdict.Closed x.shows (λ k e. absurd (cc)) (λ k e. absurd (cc)))
+shows_found input output b cs verdict.Same o t x = absurd (not_other (run (changed_run output cs (last_step cs)) x.steps).outcome x.steps verdict.Same x.shows (λ k e. absurd (cc)) (λ k e. absurd (cc)))
+
+-- ---- a run that shows nothing
+-- what stopped within the bound is so at its end
+at_end : (s : State) (cs : List Change) (b : ℕ) (how : Outcome) (k : ℕ) → Ordered cs → IsFound s b cs how k → (run (changed_run s cs (last_step cs)) b).outcome ≡ how
+at_end s cs b how k o f =
+    let same = changed_as_at s cs f.steps (last_step cs + b) f.within f.stops.stopped in
+    ap (λ y. y.outcome) (sym (behind s cs b o)) ∙ ap (λ y. y.outcome) same ∙ f.outcome
+
+pub is_silent : (s : State) (cs : List Change) (b : ℕ) → Ordered cs → IsStill (changed_run s cs (last_step cs)) b → IsSilent s b cs
+is_silent s cs b o x = record {
+  no_check = λ k f. fires (at_end s cs b Fired k o f);
+  no_end = λ k f. ends (at_end s cs b Ended k o f);
+} where
+  fires : (run (changed_run s cs (last_step cs)) b).outcome ≡ Fired → ⊥
+  fires e = let n : verdict_of Fired 0 ≡ None = subst (λ h. verdict_of h 0 ≡ None) e x.shows_none in cc
+
+  ends : (run (changed_run s cs (last_step cs)) b).outcome ≡ Ended → ⊥
+  ends e = let n : verdict_of Ended 0 ≡ None = subst (λ h. verdict_of h 0 ≡ None) e x.shows_none in cc
+
+-- what stopped by a trap is so when the bound is over
+no_verdict : (o : Outcome) (k : ℕ) → verdict_of o k ≡ None → verdict_of o 0 ≡ None
+no_verdict Going k e = refl
+no_verdict Ended k e = absurd (cc)
+no_verdict Fired k e = absurd (cc)
+no_verdict (Trapped c p) k e = refl
+
+pub still_where_none :
+    (s after : State) (b steps : ℕ) (o : Outcome) (r : Option Verdict) → StopsWithin s b after steps → o ≡ after.outcome → r ≡ verdict_of o steps → IfNone r (IsStill s b)
+still_where_none s after b steps o (Some v) w e is = tt
+still_where_none s after b steps o None w e is =
+    let same : run s b ≡ run s steps = run_as s steps b w.within w.stops.stopped in
+    let there : o ≡ (run s b).outcome = e ∙ ap (λ x. x.outcome) (w.there ∙ sym same) in
+    record { shows_none = subst (λ x. verdict_of x 0 ≡ None) there (no_verdict o steps (sym is)) }
+
+-- ---- the input's run
+trap_of : (o : Outcome) (pc : ℕ) → trap_pc_of o ≡ Some pc → (cause : Cause) × (o ≡ Trapped cause pc)
+trap_of Going pc e = absurd (cc)
+trap_of Ended pc e = absurd (cc)
+trap_of Fired pc e = absurd (cc)
+trap_of (Trapped cause p) pc e = let same : p ≡ pc = cc in (cause, ap (Trapped cause) same)
+
+no_trap : (o : Outcome) → trap_pc_of o ≡ None → is_trapped o ≡ false
+no_trap Going e = refl
+no_trap Ended e = refl
+no_trap Fired e = refl
+no_trap (Trapped cause p) e = absurd (cc)
+
+-- where the output shows nothing, the input's run decides
+pub shows_trapped :
+    (input output : State) (b pc : ℕ) (cs : List Change) → Ordered cs → IsTried output cs → IsStill (changed_run output cs (last_step cs)) b
+    → Some pc ≡ trap_pc_of (run input (last_step cs + b)).outcome → Shows input output b cs (Err (error.Trapped pc))
+shows_trapped input output b pc cs o t x e =
+    let p = trap_of (run input (last_step cs + b)).outcome pc (sym e) in
+    (t, is_silent output cs b o x, record { cause = p.0; trapped = p.1 })
+
+pub shows_same :
+    (input output : State) (b : ℕ) (cs : List Change) → Ordered cs → IsTried output cs → IsStill (changed_run output cs (last_step cs)) b
+    → None ≡ trap_pc_of (run input (last_step cs + b)).outcome → Shows input output b cs (Ok verdict.Same)
+shows_same input output b cs o t x e = (t, is_silent output cs b o x, no_trap (run input (last_step cs + b)).outcome (sym e))

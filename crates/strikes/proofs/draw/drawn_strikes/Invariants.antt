@@ -1,0 +1,13 @@
+use Rattle.std.proofs.Common.{◌≡◌, ◌*◌, map}
+use Rattle.qed_model.specs.Admission.DataRanges.{range_of}
+use Rattle.qed_model.specs.Below.{each}
+use Rattle.random_words.specs.Random.{seeded, after}
+use Rattle.strikes.specs.Draw.{drawn_strike}
+use Rattle.strikes.proofs.draw.drawn_strikes.Given as goal
+
+-- those so far
+abbrev pub invariant-loop : goal.invariant-loop
+invariant-loop l = record {
+  made : l.strikes.items ≡ each l.counter (λ i. drawn_strike (map range_of l.plan.span) l.reach l.changes (after (3 * l.changes * i) (seeded l.seed)));
+  rng : l.rng ≡ after (3 * l.changes * l.counter) (seeded l.seed);
+}

@@ -1,0 +1,46 @@
+-- What the parts of a strike show: the run without changes, and the run behind the last change.
+use Rattle.std.specs.Prelude.{◌≡◌, ℕ, ◌≤◌, true, false, List, Option, Some, None}
+use Rattle.qed_model.specs.declared.change.Change.{Change}
+use Rattle.qed_model.specs.declared.machine.Outcome.{Outcome}
+use Rattle.qed_model.specs.declared.machine.Outcome.TheVariants as outcome
+use Rattle.qed_model.specs.declared.verdict.Verdict.{Verdict}
+use Rattle.qed_model.specs.declared.verdict.Verdict.TheVariants.{Closed, NotReached, Fired, Ended, Same}
+use Rattle.qed_model.specs.Machine.Step.{State, run}
+use Rattle.strikes.specs.Verdict.{IsReached, has_closed, StopsAt}
+
+-- ---- the run without changes
+-- the verdict that it shows
+abbrev pub ShowsUnchanged : State → List Change → Verdict → Type 0
+ShowsUnchanged output cs NotReached = ¬ IsReached output cs
+ShowsUnchanged output cs Closed = IsReached output cs × (has_closed output cs ≡ true)
+ShowsUnchanged output cs _ = ⊥
+
+-- ---- the run behind the last change
+-- what a machine shows that stopped so many steps behind it; a trap shows nothing
+abbrev pub verdict_of : Outcome → ℕ → Option Verdict
+verdict_of outcome.Fired k = Some (Fired k)
+verdict_of outcome.Ended k = Some (Ended k)
+verdict_of _ k = None
+
+-- within n steps it first does not go on, in the state after them
+pub record StopsWithin (state : State) (n : ℕ) (after : State) (steps : ℕ) : Type 0 where
+  pub within : steps ≤ n
+  pub stops : StopsAt (run state) steps
+  pub there : after ≡ run state steps
+
+-- within the bound it first does not go on, and shows this verdict
+pub record Stops (state : State) (b : ℕ) (v : Verdict) : Type 0 where
+  pub steps : ℕ
+  pub within : steps ≤ b
+  pub stops : StopsAt (run state) steps
+  pub shows : verdict_of (run state steps).outcome steps ≡ Some v
+
+-- when the bound is over it has shown no verdict
+pub record IsStill (state : State) (b : ℕ) : Type 0 where
+  pub shows_none : verdict_of (run state b).outcome 0 ≡ None
+
+-- ---- the input's run
+-- the pc of a trap
+abbrev pub trap_pc_of : Outcome → Option ℕ
+trap_pc_of (outcome.Trapped cause pc) = Some pc
+trap_pc_of _ = None

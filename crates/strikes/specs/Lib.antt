@@ -1,0 +1,6 @@
+pub mod Verdict
+pub mod Found
+pub mod Later
+pub mod Kept
+pub mod Draw
+pub mod Struck

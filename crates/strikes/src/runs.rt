@@ -1,0 +1,232 @@
+//! The runs of an input and of its output, which are struck.
+ghost use Rattle.std.specs.Prelude.{◌≡◌, ◌↔◌, ◌+◌, ◌*◌, ◌≤◌, All, IfOk, IfSome, IsNone, IsTrue};
+ghost use Rattle.qed_model.specs.declared.machine.Outcome.TheVariants as outcome;
+ghost use Rattle.qed_model.specs.Machine.Step.{run};
+ghost use Rattle.qed_model.specs.Promise.Caught.{bound_of as bound_of_changes};
+ghost use Rattle.qed_model.specs.Promise.Changed.{Ordered, has_word as has_word_of, is_word as is_word_of};
+ghost use Rattle.strikes.specs.Kept.{IsReach, copies_up_to};
+ghost use Rattle.strikes.specs.Later.{first_step as first_step_of};
+ghost use Rattle.strikes.specs.Struck.{IsStrike, IsStruckNext, AreStruck};
+ghost use Rattle.strikes.specs.Verdict.{IsVerdict};
+
+use crate::error::StrikeError;
+use crate::later::{all_from, first_step};
+use crate::snapshots::{SPACING, Snapshots};
+use crate::stop::steps_to_stop;
+use crate::verdict::verdict;
+use qed_model::{Bounds, Change, Changes, Place, Struck, Verdict};
+use rv_step::Machine;
+use std::alloc::{AllocError, Global};
+use std::marker::Model;
+
+/// The greatest number of steps after which an output is struck, and one more.
+const MAX_REACH: u64 = 1_000_000;
+
+/// The runs of an input and of its output, with copies of both machines after every 4,096 steps as far as the output is struck.
+#[derive(Debug, Drop)]
+pub struct Runs {
+    input: Snapshots,
+    output: Snapshots,
+    bounds: Bounds,
+    reach: u64,
+}
+
+impl Model for Runs {
+    ghost use Rattle.strikes.specs.Kept.{Pair, pair_code, AreKept};
+
+    ghost Value = { Pair };
+
+    ghost coded = { pair_code };
+
+    ghost view = { λ r. record { input = r.input.start.state; output = r.output.start.state; bounds = r.bounds; reach = r.reach } };
+
+    ghost invariant = { λ r. AreKept r.input r.output r.reach };
+}
+
+/// After how many steps a machine first does not go on; 1,000,000 where that is greater or there is none.
+fn reach_of(alloc: Global, machine: &Machine) -> Result<u64, AllocError>
+    ensures { IfOk result (IsReach machine.now.state) }
+{
+    let mut machine = machine.copy(alloc)?;
+    let steps = steps_to_stop(&mut machine, MAX_REACH)?;
+    Ok(steps.unwrap_or(MAX_REACH))
+}
+
+/// Whether a place is a word.
+fn is_word(place: &Place) -> bool
+    ensures { result ≡ is_word_of place.now }
+{
+    matches!(place, Place::Word(_))
+}
+
+/// Whether a place of changes is a word.
+fn has_word(changes: &[Change]) -> bool
+    ensures { result ≡ has_word_of changes.now }
+{
+    for change in changes {
+        if is_word(&change.place) {
+            return true;
+        }
+    }
+    false
+}
+
+/// The bound of changes: that of a register where no place is a word, else that of a word.
+fn bound_of(bounds: &Bounds, changes: &[Change]) -> Option<u64>
+    ensures { result ≡ bound_of_changes bounds.now changes.now }
+{
+    if has_word(changes) {
+        bounds.word
+    } else {
+        Some(bounds.register)
+    }
+}
+
+/// Whether the steps of changes do not fall.
+fn is_ordered(changes: &[Change]) -> bool
+    ensures { IsTrue result ↔ Ordered changes.now }
+{
+    let mut last = 0;
+    for change in changes {
+        if change.step < last {
+            return false;
+        }
+        last = change.step;
+    }
+    true
+}
+
+/// The strikes of a campaign with their verdicts, in their order.
+#[derive(Debug, Drop)]
+pub struct Campaign {
+    pub struck: Vec<Struck>,
+    /// The pc at which the input's own run trapped, and no strike was made any more.
+    pub trapped: Option<u64>,
+}
+
+impl Runs {
+    /// Makes ready to strike the run of an output, which goes on: `input` and `output` are the machines at their start.
+    pub fn prepare(
+        alloc: Global,
+        input: Machine,
+        output: Machine,
+        bounds: Bounds,
+    ) -> Result<Runs, AllocError>
+        requires { output.state.outcome ≡ outcome.Going }
+        ensures input { IfOk result (λ runs. runs.input ≡ input.state) }
+        ensures output { IfOk result (λ runs. runs.output ≡ output.state) }
+        ensures bounds { IfOk result (λ runs. runs.bounds ≡ bounds) }
+    {
+        let reach = reach_of(alloc, &output)?;
+        let count = reach / SPACING;
+        Ok(Runs {
+            input: Snapshots::take(alloc, input, count)?,
+            output: Snapshots::take(alloc, output, count)?,
+            bounds,
+            reach,
+        })
+    }
+
+    /// After how many steps the output first does not go on; 1,000,000 where that is greater or there is none.
+    pub fn reach(&self) -> u64
+        ensures value { result ≡ self.now.reach }
+        ensures reach { IsReach self.now.output result }
+        ensures some { 1 ≤ result }
+    {
+        self.reach
+    }
+
+    /// How many copies of the output there are: one at the start, and one after every 4,096 steps up to `reach`.
+    pub fn snapshots(&self) -> u64
+        ensures { result ≡ copies_up_to self.now.reach }
+    {
+        self.reach / SPACING + 1
+    }
+
+    /// The output after 4,096 steps as often as the number says; None where the number is not below `snapshots`.
+    pub fn snapshot(&self, number: u64) -> Option<&Machine>
+        ensures none { IsNone result ↔ (copies_up_to self.now.reach ≤ number) }
+        ensures there { IfSome result (λ machine. machine.now.state ≡ run self.now.output (4096 * number)) }
+    {
+        self.output.at(number)
+    }
+
+    /// Whether changes can be struck: their steps do not fall, and where a place is a word, the bounds have one for words.
+    pub fn is_strike(&self, changes: &[Change]) -> bool
+        ensures { IsTrue result ↔ IsStrike self.now.bounds changes.now }
+    {
+        is_ordered(changes) && bound_of(&self.bounds, changes).is_some()
+    }
+
+    /// What changes of the output's run show. Their steps do not fall; where a place is a word, the bounds have one for words.
+    ///
+    /// # Errors
+    ///
+    /// `Trapped` where the input's own run traps before the bound is over, no check fires and the test does not end before, and no
+    /// place is closed; `Memory`.
+    pub fn strike(&self, alloc: Global, changes: &[Change]) -> Result<Verdict, StrikeError>
+        requires { IsStrike self.now.bounds changes.now }
+        ensures { IsVerdict self.now.input self.now.output self.now.bounds changes.now result }
+    {
+        let bound = bound_of(&self.bounds, changes).unwrap();
+        let number = self.last_before(changes);
+        let later = all_from(alloc, changes, SPACING * number)?;
+        let input = self.input.at(number).unwrap();
+        let output = self.output.at(number).unwrap();
+        verdict(alloc, input, output, &later, bound)
+    }
+
+    /// The number of the last copy that is not after the first change.
+    fn last_before(&self, changes: &[Change]) -> u64
+        ensures kept { result + 1 ≤ copies_up_to self.now.reach }
+        ensures before { 4096 * result ≤ first_step_of changes.now }
+    {
+        first_step(changes).min(self.reach) / SPACING
+    }
+
+    /// Makes a strike, and adds it with its verdict, or gives the pc where the input traps.
+    fn strike_next(
+        &self,
+        alloc: Global,
+        changes: &Changes,
+        struck: &mut Vec<Struck>,
+    ) -> Result<Option<u64>, AllocError>
+        requires { IsStrike self.now.bounds changes.now }
+        ensures { IfOk result (IsStruckNext self.now changes.now struck.old.items struck.new.items) }
+    {
+        let verdict = match self.strike(alloc, changes.as_slice()) {
+            Ok(verdict) => verdict,
+            Err(StrikeError::Trapped(pc)) => return Ok(Some(pc)),
+            Err(StrikeError::Memory) => return Err(AllocError),
+        };
+        struck.push(struck_with(alloc, changes, verdict)?)?;
+        Ok(None)
+    }
+
+    /// Strikes one after the other, each from the start of the runs, up to the first where the input traps.
+    pub fn strike_all(&self, alloc: Global, strikes: &[Changes]) -> Result<Campaign, AllocError>
+        requires { All (IsStrike self.now.bounds) strikes.now }
+        ensures { IfOk result (λ campaign. AreStruck self.now strikes.now campaign.struck.items campaign.trapped) }
+    {
+        let mut struck = Vec::new(alloc);
+        for changes in strikes {
+            let trapped = self.strike_next(alloc, changes, &mut struck)?;
+            if trapped.is_some() {
+                return Ok(Campaign { struck, trapped });
+            }
+        }
+        Ok(Campaign {
+            struck,
+            trapped: None,
+        })
+    }
+}
+
+/// A strike and its verdict.
+fn struck_with(alloc: Global, changes: &Changes, verdict: Verdict) -> Result<Struck, AllocError>
+    ensures changes { IfOk result (λ struck. struck.changes ≡ changes.now) }
+    ensures verdict { IfOk result (λ struck. struck.verdict ≡ verdict) }
+{
+    let changes = Changes::of(Vec::from_slice(alloc, changes.as_slice())?);
+    Ok(Struck { changes, verdict })
+}
