@@ -27,6 +27,8 @@ use Rattle.qed_top.specs.List as lists
 use Rattle.qed_top.specs.Asm.{Assembles, AsmDecides}
 use Rattle.qed_top.specs.Asm as asm
 use Rattle.qed_top.proofs.Assembling.{never_both}
+use Rattle.qed_top.specs.Campaign.{Campaigns, CampaignDecides, campaign_status}
+use Rattle.qed_top.specs.Campaign as campaigns
 use Rattle.qed_top.specs.Gen.{Generates, test_bytes}
 use Rattle.qed_top.specs.Orders.{AnswersOver, IsUsage, OrderCallsFor, WordsCallFor, source_limit, source_name, stored_name}
 use Rattle.qed_top.specs.Ends.{OverFiles, Call, load_rose, store_rose, sink_rose, KeepsShelf, IsAnswered, EndsOver, Ends, TransformDecides, ReadDecides, ran_status, Decided, DecidesOver, OrderDecides, Decides, NoFault, IsComplete}
@@ -119,11 +121,19 @@ asm_printed : (text output : List ℕ) (answer : Answer) → Assembles text outp
 asm_printed text output answer (asm.faulty f) = prints Refused answer tt f.plain.status
 asm_printed text output answer (asm.assembled a) = prints Done answer tt a.status
 
+trapped_printed : (trapped : Option ℕ) → Printed (campaign_status trapped)
+trapped_printed None = tt
+trapped_printed (Some pc) = tt
+
+campaign_printed : (bytes : List ℕ) (o : Options) (seed count changes : ℕ) (answer : Answer) → Campaigns bytes o seed count changes answer → Printed answer.status
+campaign_printed bytes o seed count changes answer (campaigns.refused r) = prints (refusal_status r.error) answer (refusal_printed (refusal_status r.error) (refusal_refuses r.error)) r.plain.status
+campaign_printed bytes o seed count changes answer (campaigns.struck s) = prints (campaign_status s.tells.trapped) answer (trapped_printed s.tells.trapped) s.tells.plain.status
+
 over_printed : (order : Order) (bytes : List ℕ) (answer : Answer) → AnswersOver order bytes answer → Printed answer.status
 over_printed (Transform input output o) bytes answer m = makes_printed bytes o (Delivers output) answer (λ file p d. delivered_done output file p answer d) m
 over_printed (Plan input o) bytes answer m = makes_printed bytes o TellsPlan answer (λ file p t. told_done file p answer t) m
 over_printed (Run file steps changes dump) bytes answer m = runs_printed bytes steps changes dump answer m
-over_printed (Campaign input o seed count changes) bytes answer m = prints Usage answer tt m.status
+over_printed (Campaign input o seed count changes) bytes answer m = campaign_printed bytes o seed count changes answer m
 over_printed (Gen output seed size) bytes answer m = makes_printed (test_bytes seed size) default_options (Generates output seed size) answer (λ file p g. g.status) m
 over_printed (order.List file) bytes answer m = lists_printed bytes answer m
 over_printed (Asm text output) bytes answer m = asm_printed bytes output answer m
@@ -266,13 +276,24 @@ asm_settled text output answer t (asm.faulty f) (asm.is_file g x b) = absurd (ne
 asm_settled text output answer t (asm.assembled a) (asm.has_fault e x n b) = absurd (never_both text a.file e a.assembled x n)
 asm_settled text output answer t (asm.assembled a) (asm.is_file g x b) = a.status ∙ sym b
 
+campaign_settled :
+    (bytes : List ℕ) (o : Options) (seed count changes : ℕ) (answer : Answer) (t : Status) → Campaigns bytes o seed count changes answer
+    → CampaignDecides bytes o seed count changes t → answer.status ≡ t
+campaign_settled bytes o seed count changes answer t (campaigns.refused r) (campaigns.not_made e x n b) =
+    transform_unique bytes o answer.status t (decide.refused r.error r.cause r.known r.plain.status) (decide.refused e x n b)
+campaign_settled bytes o seed count changes answer t (campaigns.refused r) (campaigns.carried_out f h) = absurd (r.known (memory_only bytes o r.error r.cause f))
+campaign_settled bytes o seed count changes answer t (campaigns.struck s) (campaigns.not_made e x n b) =
+    absurd (n (memory_only bytes o e x (transformable_of bytes o s.made.output s.course.plan s.made.transforms)))
+campaign_settled bytes o seed count changes answer t (campaigns.struck s) (campaigns.carried_out f h) =
+    s.tells.plain.status ∙ sym (h s.course s.tells.struck s.tells.trapped s.made s.tells.carried_out)
+
 -- an order, over the bytes of its file
 over_settled : (order : Order) (bytes : List ℕ) (answer : Answer) (t : Status) → AnswersOver order bytes answer → DecidesOver order bytes t → answer.status ≡ t
 over_settled (Transform input output o) bytes answer t m d =
     transform_unique bytes o answer.status t (makes_decided bytes o (Delivers output) answer (λ file p x. delivered_done output file p answer x) m) d
 over_settled (Plan input o) bytes answer t m d = transform_unique bytes o answer.status t (makes_decided bytes o TellsPlan answer (λ file p x. told_done file p answer x) m) d
 over_settled (Run file steps changes dump) bytes answer t m d = read_unique bytes (ran_status steps changes) answer.status t (runs_decided bytes steps changes dump answer m) d
-over_settled (Campaign input o seed count changes) bytes answer t m d = m.status ∙ sym d
+over_settled (Campaign input o seed count changes) bytes answer t m d = campaign_settled bytes o seed count changes answer t m d
 over_settled (Gen output seed size) bytes answer t m d =
     transform_unique (test_bytes seed size) default_options answer.status t (makes_decided (test_bytes seed size) default_options (Generates output seed size) answer (λ file p g. g.status) m) d
 over_settled (order.List file) bytes answer t m d = read_unique bytes (λ f. Done) answer.status t (lists_decided bytes answer m) d
@@ -356,6 +377,12 @@ asm_store :
 asm_store text output stores answer calm (asm.faulty f) r = none_stored answer stores f.plain.stored r
 asm_store text output stores answer calm (asm.assembled a) r = calm (stored_as answer.stored stores output a.file a.stored r)
 
+campaign_store :
+    (bytes : List ℕ) (o : Options) (seed count changes : ℕ) (stores : List ℕ → Type 0) (answer : Answer) → Campaigns bytes o seed count changes answer
+    → StoreRose answer.stored stores → ⊥
+campaign_store bytes o seed count changes stores answer (campaigns.refused x) r = none_stored answer stores x.plain.stored r
+campaign_store bytes o seed count changes stores answer (campaigns.struck s) r = none_stored answer stores s.tells.plain.stored r
+
 generated_store :
     (output : List ℕ) (seed size : ℕ) (stores : List ℕ → Type 0) (answer : Answer) → (stores output → ⊥) → (file : List ℕ) (p : plan.Plan) → Generates output seed size file p answer
     → StoreRose answer.stored stores → ⊥
@@ -367,7 +394,7 @@ over_store :
 over_store (Transform input output o) bytes stores answer calm m r = made_store bytes o (Delivers output) stores answer (delivered_store output stores answer calm) m r
 over_store (Plan input o) bytes stores answer calm m r = made_store bytes o TellsPlan stores answer (told_store stores answer) m r
 over_store (Run file steps changes dump) bytes stores answer calm m r = runs_store bytes steps changes dump stores answer m r
-over_store (Campaign input o seed count changes) bytes stores answer calm m r = none_stored answer stores m.stored r
+over_store (Campaign input o seed count changes) bytes stores answer calm m r = campaign_store bytes o seed count changes stores answer m r
 over_store (Gen output seed size) bytes stores answer calm m r =
     made_store (test_bytes seed size) default_options (Generates output seed size) stores answer (generated_store output seed size stores answer calm) m r
 over_store (order.List file) bytes stores answer calm m r = lists_store bytes stores answer m r

@@ -23,6 +23,7 @@ use Rattle.qed_top.specs.Refused.{error_status, refusal_status}
 use Rattle.qed_top.specs.Run.{memory_bytes, memory_limit, outcome_status, run_of}
 use Rattle.qed_model.specs.Options.{default_options}
 use Rattle.qed_top.specs.Asm.{AsmDecides}
+use Rattle.qed_top.specs.Campaign.{CampaignDecides}
 use Rattle.qed_top.specs.Gen.{test_bytes}
 use Rattle.qed_top.specs.Orders.{WordsCallFor, source_name, source_limit, stored_name}
 use Rattle.qed_top.specs.declared.answer.Answer.{Answer}
@@ -134,7 +135,7 @@ abbrev pub DecidesOver : Order → List ℕ → Status → Type 0
 DecidesOver (Transform input output options) bytes status = TransformDecides bytes options status
 DecidesOver (Plan input options) bytes status = TransformDecides bytes options status
 DecidesOver (Run file steps changes dump) bytes status = ReadDecides bytes (ran_status steps changes) status
-DecidesOver (Campaign input options seed count changes) bytes status = status ≡ Usage
+DecidesOver (Campaign input options seed count changes) bytes status = CampaignDecides bytes options seed count changes status
 DecidesOver (Gen output seed size) bytes status = TransformDecides (test_bytes seed size) default_options status
 DecidesOver (order.List file) bytes status = ReadDecides bytes (λ f. Done) status
 DecidesOver (Asm text output) bytes status = AsmDecides bytes status

@@ -3,6 +3,7 @@ pub mod Refused
 pub mod Makes
 pub mod Run
 pub mod Gen
+pub mod Campaign
 pub mod Asm
 pub mod List
 pub mod Orders

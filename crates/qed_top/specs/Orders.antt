@@ -13,6 +13,7 @@ use Rattle.qed_model.specs.Words.{asked}
 use Rattle.qed_top.specs.Answer.{PrintsOnly, CallsFor}
 use Rattle.qed_top.specs.List.{Lists}
 use Rattle.qed_top.specs.Asm.{Assembles}
+use Rattle.qed_top.specs.Campaign.{Campaigns}
 use Rattle.qed_top.specs.Gen.{Gens}
 use Rattle.qed_top.specs.Makes.{Makes, Delivers, TellsPlan}
 use Rattle.qed_top.specs.Run.{Runs}
@@ -25,7 +26,7 @@ abbrev pub source_name : Order → Option (List ℕ)
 source_name (Transform input output options) = Some input
 source_name (Plan input options) = Some input
 source_name (Run file steps changes dump) = Some file
-source_name (Campaign input options seed count changes) = None
+source_name (Campaign input options seed count changes) = Some input
 source_name (Gen output seed size) = None
 source_name (order.List file) = Some file
 source_name (Asm text output) = Some text
@@ -54,7 +55,7 @@ abbrev pub AnswersOver : Order → List ℕ → Answer → Type 0
 AnswersOver (Transform input output options) bytes answer = Makes bytes options (Delivers output) answer
 AnswersOver (Plan input options) bytes answer = Makes bytes options TellsPlan answer
 AnswersOver (Run file steps changes dump) bytes answer = Runs bytes steps changes dump answer
-AnswersOver (Campaign input options seed count changes) bytes answer = IsUsage UnknownCommand answer
+AnswersOver (Campaign input options seed count changes) bytes answer = Campaigns bytes options seed count changes answer
 AnswersOver (Gen output seed size) bytes answer = Gens output seed size answer
 AnswersOver (order.List file) bytes answer = Lists bytes answer
 AnswersOver (Asm text output) bytes answer = Assembles bytes output answer

@@ -4,6 +4,7 @@
 
 mod answer;
 mod asm;
+mod campaign;
 mod decide;
 mod fault;
 mod generated;

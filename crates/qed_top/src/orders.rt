@@ -7,6 +7,7 @@ ghost use Rattle.qed_top.specs.Orders.{AnswersOver, IsUsage, source_limit as sou
 
 use crate::answer::{Answer, plain};
 use crate::asm::answer_asm;
+use crate::campaign::answer_campaign;
 use crate::generated::answer_gen;
 use crate::list::answer_list;
 use crate::make::{answer_plan, answer_transform};
@@ -24,7 +25,8 @@ pub fn source_name(order: &Order) -> Option<&str>
         Order::Transform(input, _, _) => Some(input.as_str()),
         Order::Plan(input, _) => Some(input.as_str()),
         Order::Run(file, _, _, _) => Some(file.as_str()),
-        Order::Campaign(_, _, _, _, _) | Order::Gen(_, _, _) => None,
+        Order::Campaign(input, _, _, _, _) => Some(input.as_str()),
+        Order::Gen(_, _, _) => None,
         Order::List(file) => Some(file.as_str()),
         Order::Asm(text, _) => Some(text.as_str()),
         Order::Harts(_, _, _) => None,
@@ -80,7 +82,11 @@ pub fn answer_order(alloc: Global, order: Order, bytes: &[u8]) -> Result<Answer,
             let answer = answer_asm(alloc, bytes, output)?;
             Ok(answer)
         }
-        Order::Campaign(_, _, _, _, _) | Order::Harts(_, _, _) => {
+        Order::Campaign(_, options, seed, count, changes) => {
+            let answer = answer_campaign(alloc, bytes, &options, seed, count, changes)?;
+            Ok(answer)
+        }
+        Order::Harts(_, _, _) => {
             let answer = usage(alloc, Reason::UnknownCommand)?;
             Ok(answer)
         }
