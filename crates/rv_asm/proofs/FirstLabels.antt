@@ -38,15 +38,14 @@ first_same f p xs y e = first_push f p xs y ∙ (ap (λ b. option_or (option_map
 -- a value that is put where none was, for a name
 pub put_first : {A : Type 0} (name q : List ℕ) (old : List ℕ → Option A) (x : A) → old name ≡ None → cond (bytes_eq name q) (Some x) (old q) ≡ option_or (old q) (cond (bytes_eq q name) (Some x) None)
 put_first name q old x absent =
-    elim (bytes_eq name q) as (λ b. bytes_eq name q ≡ b → cond b (Some x) (old q) ≡ option_or (old q) (cond (bytes_eq q name) (Some x) None))
-    [
-      true ↦ λ e. subst (λ k. Some x ≡ option_or (old k) (cond (bytes_eq k name) (Some x) None)) ((bytes_eq-Decides name q).0 e) here
+    elim (bytes_eq name q) as (λ b. bytes_eq name q ≡ b → cond b (Some x) (old q) ≡ option_or (old q) (cond (bytes_eq q name) (Some x) None)) [
+      | true ↦ λ e. subst (λ k. Some x ≡ option_or (old k) (cond (bytes_eq k name) (Some x) None)) ((bytes_eq-Decides name q).0 e) here
       | false ↦ λ e. elim (bytes_eq q name) as (λ b. bytes_eq q name ≡ b → old q ≡ option_or (old q) (cond b (Some x) None))
-      [ true ↦ λ f. absurd (false≢true (sym e ∙ (bytes_eq-Decides name q).1 (sym ((bytes_eq-Decides q name).0 f)))) | false ↦ λ f. sym (or_none (old q)) ] refl
+          [ true ↦ λ f. absurd (false≢true (sym e ∙ (bytes_eq-Decides name q).1 (sym ((bytes_eq-Decides q name).0 f)))) | false ↦ λ f. sym (or_none (old q)) ] refl
     ]
     refl where
-  here : Some x ≡ option_or (old name) (cond (bytes_eq name name) (Some x) None)
-  here = sym (ap (λ o. option_or o (cond (bytes_eq name name) (Some x) None)) absent ∙ ap (λ b. cond b (Some x) None) ((bytes_eq-Decides name name).1 refl))
+      here : Some x ≡ option_or (old name) (cond (bytes_eq name name) (Some x) None)
+      here = sym (ap (λ o. option_or o (cond (bytes_eq name name) (Some x) None)) absent ∙ ap (λ b. cond b (Some x) None) ((bytes_eq-Decides name name).1 refl))
 
 -- no value is put where one is
 pub put_later : {A : Type 0} (name q : List ℕ) (old : List ℕ → Option A) (x y : A) → old name ≡ Some y → old q ≡ option_or (old q) (cond (bytes_eq q name) (Some x) None)

@@ -1,5 +1,5 @@
 -- What is known of a line that gives something.
-use Rattle.std.proofs.Common.{◌≡◌, ℕ, zero, suc, ◌+◌, ◌-◌, ◌*◌, ◌<◌, ◌≤◌, Bool, true, false, cond, ◌&&◌, ◌==◌, ltb, Option, Some, None, Result, Ok, Err, is_some, unwrap_or, List, [], ◌∷◌, ◌++◌, length, take, drop, refl, sym, ap, ◌∙◌, subst, arith, length-append}
+use Rattle.std.proofs.Common.{◌≡◌, ℕ, zero, suc, ◌+◌, ◌-◌, ◌*◌, ◌<◌, ◌≤◌, Bool, true, false, cond, ◌&&◌, ◌==◌, ltb, Option, Some, None, Result, Ok, Err, is_some, unwrap_or, List, [], ◌∷◌, length, take, drop, refl, ap, ◌∙◌, arith, length-append}
 use Rattle.std.specs.Prelude.{All}
 use Rattle.std.specs.List.{position_from, prefix_len, suffix_len}
 use Rattle.std.specs.Option.{option_map}
@@ -21,7 +21,7 @@ use Rattle.rv_asm.specs.declared.labels.Label.{Label as LabelAt}
 use Rattle.rv_asm.specs.declared.place.Place.{Place}
 use Rattle.rv_asm.specs.Lines.{is_blank, hash, trim_start, trim_end, trim, front_of, statement, word_end, word_in, is_name, name_before, label_in}
 use Rattle.rv_asm.specs.Heads.{named_head, head_of}
-use Rattle.rv_asm.specs.Given.{max_code, max_data, in_code, in_data, alone, label_given, is_defined_before, given_by}
+use Rattle.rv_asm.specs.Given.{max_code, max_data, in_code, in_data, label_given, is_defined_before, given_by}
 use Rattle.rv_asm.specs.Assembled.{head_in, is_code, is_data, place_behind, line_at, given_at, code_in, data_in, symbol_in, symbol_at, code_of, data_of}
 use Rattle.rv_asm.specs.Steps.{one_if, code_step, data_step, next_place}
 use Rattle.rv_asm.proofs.Places.{place_push}
@@ -197,9 +197,8 @@ around_label : (w : List ℕ) (o : Option ℕ) → ((i : ℕ) → o ≡ Some i �
 around_label w None h e = absurd (false≢true e)
 around_label w (Some i) h e =
     let short = h i refl in
-    elim (is_name (take i w) && length (drop (i + 1) w) == 0) as (λ b. (is_name (take i w) && length (drop (i + 1) w) == 0) ≡ b → is_some (cond b (Some (take i w)) None) ≡ true → (name : List ℕ) × (cond b (Some (take i w)) None ≡ Some name) × (is_name name ≡ true) × (length name < length w))
-    [
-      true ↦ λ t s. (take i w, refl, (and_parts (is_name (take i w)) (length (drop (i + 1) w) == 0) t).0, omega (arith, length-take i w))
+    elim (is_name (take i w) && length (drop (i + 1) w) == 0) as (λ b. (is_name (take i w) && length (drop (i + 1) w) == 0) ≡ b → is_some (cond b (Some (take i w)) None) ≡ true → (name : List ℕ) × (cond b (Some (take i w)) None ≡ Some name) × (is_name name ≡ true) × (length name < length w)) [
+      | true ↦ λ t s. (take i w, refl, (and_parts (is_name (take i w)) (length (drop (i + 1) w) == 0) t).0, omega (arith, length-take i w))
       | false ↦ λ t s. absurd (false≢true s)
     ]
     refl e
@@ -250,11 +249,11 @@ cheap_line w address l (Ok given.Label) h = let k = h refl in omega arith
 pub are_cheap : (lines : List (List ℕ)) → IsCheap lines
 are_cheap lines = record {
   each = λ n below. cheap_line (word_in (line_at lines n)) _ (length (line_at lines n)) (given_at lines n) (λ e.
-    let l = label_facts lines n e in
-    let some = name_some l.0 l.2 in
-    let short = l.3 in
-    let same = ap (λ o. length (unwrap_or o [])) l.1 in
-    omega (arith, same));
+      let l = label_facts lines n e in
+      let some = name_some l.0 l.2 in
+      let short = l.3 in
+      let same = ap (λ o. length (unwrap_or o [])) l.1 in
+      omega (arith, same));
 }
 
 -- LOCAL and NOTYPE, absolute, with the name of a label

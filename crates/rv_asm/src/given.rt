@@ -76,12 +76,7 @@ fn label(labels: &Labels, line_number: u64, word: &[u8], rest: &[u8]) -> Result<
 
 /// What a line at a place gives, or the first fault on it. Lines are numbered from 0.
 #[tactic(auto, unfolding(crate::specs::Given::given_by))]
-pub fn give(
-    labels: &Labels,
-    place: Place,
-    line_number: u64,
-    line: &Line,
-) -> Result<Given, Fault>
+pub fn give(labels: &Labels, place: Place, line_number: u64, line: &Line) -> Result<Given, Fault>
     requires code { place.code_words < 2 ^ 32 }
     requires words { place.data_words < 2 ^ 32 }
     ensures { result ≡ given_by (named labels.now) place line_number line.now.head line.now.word.now line.now.rest.now }

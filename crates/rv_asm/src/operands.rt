@@ -14,7 +14,6 @@ use rv_isa::{Ins, Kind, Reg};
 use rv_text::{Form, form_of};
 use texts::{digits, number, register};
 
-
 /// The operands of an instruction.
 #[derive(Clone, Copy, Debug)]
 pub struct Operands {
