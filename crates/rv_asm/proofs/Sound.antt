@@ -1,5 +1,5 @@
 -- What is known of a line that gives something.
-use Rattle.std.proofs.Common.{◌≡◌, ℕ, zero, suc, ◌+◌, ◌-◌, ◌*◌, ◌<◌, ◌≤◌, Bool, true, false, cond, ◌&&◌, ◌==◌, ltb, Option, Some, None, Result, Ok, Err, is_some, unwrap_or, List, [], ◌∷◌, ◌++◌, length, take, drop, refl, sym, ap, ◌∙◌, subst, arith, length-append}
+use Rattle.std.proofs.Common.{◌≡◌, ℕ, zero, suc, ◌+◌, ◌-◌, ◌*◌, ◌<◌, ◌≤◌, Bool, true, false, cond, ◌&&◌, ◌==◌, ltb, Option, Some, None, Result, Ok, Err, is_some, unwrap_or, List, [], ◌∷◌, length, take, drop, refl, ap, ◌∙◌, arith, length-append}
 use Rattle.std.specs.Prelude.{All}
 use Rattle.std.specs.List.{position_from, prefix_len, suffix_len}
 use Rattle.std.specs.Option.{option_map}
@@ -21,7 +21,7 @@ use Rattle.rv_asm.specs.declared.labels.Label.{Label as LabelAt}
 use Rattle.rv_asm.specs.declared.place.Place.{Place}
 use Rattle.rv_asm.specs.Lines.{is_blank, hash, trim_start, trim_end, trim, front_of, statement, word_end, word_in, is_name, name_before, label_in}
 use Rattle.rv_asm.specs.Heads.{named_head, head_of}
-use Rattle.rv_asm.specs.Given.{max_code, max_data, in_code, in_data, alone, label_given, is_defined_before, given_by}
+use Rattle.rv_asm.specs.Given.{max_code, max_data, in_code, in_data, label_given, is_defined_before, given_by}
 use Rattle.rv_asm.specs.Assembled.{head_in, is_code, is_data, place_behind, line_at, given_at, code_in, data_in, symbol_in, symbol_at, code_of, data_of}
 use Rattle.rv_asm.specs.Steps.{one_if, code_step, data_step, next_place}
 use Rattle.rv_asm.proofs.Places.{place_push}

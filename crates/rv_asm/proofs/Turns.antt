@@ -1,5 +1,5 @@
 -- What one line more changes.
-use Rattle.std.proofs.Common.{◌≡◌, ℕ, suc, ◌+◌, ◌-◌, ◌^◌, ◌==◌, ◌<◌, ◌≤◌, Bool, true, false, cond, Option, Some, None, Result, Ok, Err, is_ok, List, [], ◌∷◌, ◌++◌, length, take, get_or, refl, sym, ap, ◌∙◌, subst, arith, inl, inr, ⊎_elim}
+use Rattle.std.proofs.Common.{◌≡◌, ℕ, ◌+◌, ◌-◌, ◌^◌, ◌==◌, ◌<◌, ◌≤◌, Bool, false, cond, Option, Some, None, Ok, Err, is_ok, List, [], ◌++◌, length, take, get_or, sym, ap, ◌∙◌, subst, arith, ⊎_elim}
 use mathlib.Core.Path.{fun_ext}
 use denote.Param.Members.{Mut}
 use denote.Ref.{Bor}
@@ -9,7 +9,7 @@ use Rattle.std.specs.Slice.Iter as slice
 use Rattle.std.specs.declared.slice.Split.{Split}
 use Rattle.std.proofs.lemmas.Iterator.Consumers.{YieldsList-turn, YieldsList-end}
 use Rattle.std.proofs.lemmas.Iterator.Splits.{YieldsList-from_slice_split}
-use Rattle.std.specs.List.{position_from, slice_split, count_by}
+use Rattle.std.specs.List.{position_from, slice_split}
 use Rattle.std.specs.Option.{option_map, option_or}
 use Rattle.std.proofs.lemmas.Bool.{cases_lt}
 use Rattle.std.proofs.lemmas.List.{take_more, length-take-le, get_or_default}
@@ -17,7 +17,6 @@ use Rattle.std.proofs.lemmas.List.Splits.{length-slice_split}
 use Rattle.std.proofs.lemmas.List.Sums.{count_by-le-length}
 use Rattle.std.proofs.Math.Seq.{take-length}
 use Rattle.elf_types.specs.declared.file.Symbol.{Symbol}
-use Rattle.qed_model.specs.Below.{gather}
 use Rattle.qed_model.proofs.BelowLaws.{gather_more}
 use Rattle.rv_asm.specs.declared.error.Fault.{Fault}
 use Rattle.rv_asm.specs.declared.given.Given.{Given}
@@ -47,22 +46,22 @@ turn_of lines n line h = record { inside = h.0; is = h.1 ∙ get_or_default line
 
 -- the pieces of `split` at newlines are the lines
 pub line_turn :
-    {F : Type 0} (g : Mut F (Bor ℕ × Unit {0}) Bool) (text : List ℕ) (start now next : Split ℕ F) (f : F) (xs : List (Bor (List ℕ))) (r : Option (Bor (List ℕ))) (x : Bor (List ℕ))
+    {F : Type 0} (g : Mut F (Bor ℕ × Unit {0}) Bool) (text : List ℕ) (made start now next : Split ℕ F) (f : F) (xs : List (Bor (List ℕ))) (r : Option (Bor (List ℕ))) (x : Bor (List ℕ))
     → Yields (slice.split_steps g) start xs now → r ≡ Some x → slice.split_steps g now r next
-    → slice.split_rest start ≡ text → slice.split_done start ≡ false → slice.split_callee start ≡ f → ((y : ℕ) (b : Bool) (q : F) → CalledAt g f y b q → (q ≡ f) × (b ≡ (y == newline)))
+    → start ≡ made → slice.split_rest made ≡ text → slice.split_done made ≡ false → slice.split_callee made ≡ f → ((y : ℕ) (b : Bool) (q : F) → CalledAt g f y b q → (q ≡ f) × (b ≡ (y == newline)))
     → IsTurn (lines_of text) (length xs) x.now
 unfolding lines_of
-line_turn g text start now next f xs r x y is step rest done closure tests =
-    turn_of (slice_split (λ b. b == newline) text) (length xs) x.now (YieldsList-turn (YieldsList-from_slice_split g (λ b. b == newline) text rest done closure tests) xs now y r next x is step)
+line_turn g text made start now next f xs r x y is step gives rest done closure tests =
+    turn_of (slice_split (λ b. b == newline) text) (length xs) x.now (YieldsList-turn (YieldsList-from_slice_split g (λ b. b == newline) text (ap slice.split_rest gives ∙ rest) (ap slice.split_done gives ∙ done) (ap slice.split_callee gives ∙ closure) tests) xs now y r next x is step)
 
 pub lines_end :
-    {F : Type 0} (g : Mut F (Bor ℕ × Unit {0}) Bool) (text : List ℕ) (start now next : Split ℕ F) (f : F) (xs : List (Bor (List ℕ))) (r : Option (Bor (List ℕ)))
+    {F : Type 0} (g : Mut F (Bor ℕ × Unit {0}) Bool) (text : List ℕ) (made start now next : Split ℕ F) (f : F) (xs : List (Bor (List ℕ))) (r : Option (Bor (List ℕ)))
     → Yields (slice.split_steps g) start xs now → r ≡ None → slice.split_steps g now r next
-    → slice.split_rest start ≡ text → slice.split_done start ≡ false → slice.split_callee start ≡ f → ((y : ℕ) (b : Bool) (q : F) → CalledAt g f y b q → (q ≡ f) × (b ≡ (y == newline)))
+    → start ≡ made → slice.split_rest made ≡ text → slice.split_done made ≡ false → slice.split_callee made ≡ f → ((y : ℕ) (b : Bool) (q : F) → CalledAt g f y b q → (q ≡ f) × (b ≡ (y == newline)))
     → length xs ≡ length (lines_of text)
 unfolding lines_of
-lines_end g text start now next f xs r y is step rest done closure tests =
-    (YieldsList-end (YieldsList-from_slice_split g (λ b. b == newline) text rest done closure tests) xs now y r next is step).1
+lines_end g text made start now next f xs r y is step gives rest done closure tests =
+    (YieldsList-end (YieldsList-from_slice_split g (λ b. b == newline) text (ap slice.split_rest gives ∙ rest) (ap slice.split_done gives ∙ done) (ap slice.split_callee gives ∙ closure) tests) xs now y r next is step).1
 
 -- ---- places
 pub turn_place : (lines : List (List ℕ)) (n : ℕ) (line : List ℕ) (p : Place) (h : Head) → IsTurn lines n line → p ≡ place_behind (take n lines) → h ≡ head_in line → next_place p h ≡ place_behind (take (n + 1) lines)

@@ -1,5 +1,5 @@
 -- An assembled file can be written.
-use Rattle.std.proofs.Common.{◌≡◌, ◌≢◌, inl, inr, ℕ, zero, suc, ◌+◌, ◌*◌, ◌^◌, ◌<◌, ◌≤◌, Bool, true, false, cond, ◌&&◌, ◌==◌, List, [], ◌∷◌, ◌++◌, length, map, refl, sym, ap, ◌∙◌, arith, length-append}
+use Rattle.std.proofs.Common.{◌≡◌, ◌≢◌, inl, inr, ℕ, ◌+◌, ◌*◌, ◌≤◌, true, false, cond, ◌==◌, List, [], ◌∷◌, length, map, refl, sym, ap, ◌∙◌, arith, length-append}
 use Rattle.std.specs.Prelude.{All, AllPairs, codes}
 use Rattle.std.specs.List.{list_all}
 use Rattle.std.proofs.lemmas.Bool.{and_parts, false≢true}
@@ -7,10 +7,9 @@ use Rattle.std.proofs.lemmas.List.Elements.{All-nil, All-cons}
 use Rattle.elf_types.specs.declared.file.Segment.{Segment}
 use Rattle.elf_types.specs.declared.file.Symbol.{Symbol}
 use Rattle.elf_types.specs.declared.output.OutSection.{OutSection}
-use Rattle.elf_types.specs.declared.output.OutFile.{OutFile}
 use Rattle.qed_model.specs.Numbers.{number_bytes, bytes_of}
 use Rattle.qed_model.specs.Elf.Written.{offset_from, end_from}
-use Rattle.qed_model.specs.Elf.Layout.{written, names_bytes, symbol_names, own_bytes, own_place, do_share, IsName, IsLoadable, IsPlaced, IsSymbol, null_symbol, IsWritable}
+use Rattle.qed_model.specs.Elf.Layout.{written, names_bytes, own_bytes, own_place, do_share, IsName, IsLoadable, IsPlaced, IsWritable}
 use Rattle.qed_model.proofs.Fields.{length-number_bytes, length-bytes_of}
 use Rattle.qed_model.proofs.OutputFits.{name_test}
 use Rattle.qed_model.proofs.Pairs.{pairs_all, every_all}

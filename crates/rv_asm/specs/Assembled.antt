@@ -1,5 +1,5 @@
 -- What a text assembles to: the words, data and labels of its lines, each line on its own but for the labels.
-use Rattle.std.specs.Prelude.{◌≡◌, ℕ, ◌+◌, ◌-◌, ◌*◌, ◌<◌, ◌≤◌, ◌==◌, ◌++◌, Bool, true, false, is_ok, if◌then◌else◌, cond, Option, Some, None, option_map, unwrap_or, Result, Ok, Err, List, [], ◌∷◌, length, map, take, slice_index_or, count_by, codes}
+use Rattle.std.specs.Prelude.{◌≡◌, ℕ, ◌+◌, ◌-◌, ◌<◌, ◌≤◌, ◌==◌, ◌++◌, Bool, true, false, is_ok, if◌then◌else◌, Option, Some, None, option_map, unwrap_or, Result, Ok, Err, List, [], ◌∷◌, length, take, slice_index_or, count_by, codes}
 use Rattle.std.specs.Str.{bytes_eq}
 use Rattle.std.specs.List.{position_from}
 use Rattle.elf_types.specs.declared.file.Segment.{Segment}

@@ -1,5 +1,5 @@
 -- What the first word of a line says.
-use Rattle.std.specs.Prelude.{ℕ, ◌==◌, Bool, if◌then◌else◌, Option, Some, None, is_some, List, [], ◌∷◌, length, find, codes}
+use Rattle.std.specs.Prelude.{ℕ, ◌==◌, if◌then◌else◌, Option, Some, None, is_some, List, length, find, codes}
 use Rattle.std.specs.Str.{bytes_eq}
 use Rattle.rv_isa.specs.declared.kind.Kind.{Kind}
 use Rattle.qed_model.specs.Machine.Table.{kinds}

@@ -18,7 +18,7 @@ fn rule(fault: Fault) -> &'static str {
 }
 
 /// The first fault, by its rule and line.
-fn refusal(alloc: Global, error: AsmError) -> Result<String, AllocError> {
+pub(crate) fn refusal(alloc: Global, error: AsmError) -> Result<String, AllocError> {
     match error {
         AsmError::Line(fault, line) => {
             let rule = rule(fault);
@@ -51,7 +51,7 @@ fn listing(alloc: Global, program: &Program) -> Result<String, AllocError> {
 }
 
 /// What a text gives.
-pub(crate) fn told(alloc: Global, text: &str) -> Result<String, AllocError> {
+fn told(alloc: Global, text: &str) -> Result<String, AllocError> {
     let text = text.as_bytes();
     if text.len() > 67_108_864 {
         return String::from_str(alloc, "too long");

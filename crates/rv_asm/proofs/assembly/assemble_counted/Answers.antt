@@ -1,4 +1,4 @@
-use Rattle.std.proofs.Common.{◌∙◌, sym, ap, subst, arith}
+use Rattle.std.proofs.Common.{◌∙◌, sym, ap, subst, arith, length}
 use Rattle.qed_model.specs.Elf.Layout.{written, IsWritable}
 use Rattle.rv_asm.proofs.Done.{assembled_writable, file_same, none_left, some_left}
 use Rattle.rv_asm.proofs.assembly.assemble_counted.Goals as goal
@@ -22,6 +22,6 @@ returns c =
         code = some_left q.code.items _ q.code.len c.is_empty.result p.code (omega (arith, q.code.ok.0)) c.is_empty.ensures c.if-is_empty.false;
         file = c.in_ok-bytes.ensures.written ∙ ap written (c.in_ok-file.ensures ∙ file_same c.args.text.now q p);
       };
-      code_count = ?;
-      data_count = ?;
+      code_count = omega (arith, c.len-code_words.ensures, q.code.ok.0, ap length p.code);
+      data_count = omega (arith, c.len-data_words.ensures, q.values.ok.0, ap length p.words);
     }

@@ -1,6 +1,5 @@
-use Rattle.std.proofs.Common.{lit<, ◌≡◌, ◌+◌, ◌==◌, ℕ, List, ◌∷◌, [], ◌++◌, length, take, cond, Some, None, refl, sym, ap, ◌∙◌, subst, arith, rules, tests}
+use Rattle.std.proofs.Common.{lit<, ◌≡◌, ◌+◌, ◌∷◌, [], ◌++◌, length, take, cond, Some, None, refl, sym, ap, ◌∙◌, arith, rules, tests}
 use Rattle.std.proofs.lemmas.List.{length_push}
-use Rattle.std.specs.declared.slice.Split.{Split}
 use Rattle.std.specs.List.{position_from}
 use Rattle.std.specs.Option.{option_map, option_or}
 use Rattle.rv_asm.specs.Lines.{lines_of, label_in}
@@ -15,8 +14,8 @@ loop-line-init c = record { counted = refl; placed = refl; code_near = lit< tt; 
 
 pub loop-line-preserved : goal.loop-line-preserved
 loop-line-preserved c =
-    let gives = c.into_iter-line-iterator.ensures.into_iter_gives in
-    let t = line_turn _ c.args.text.now _ _ _ _ c.loop-line.yielded _ c.in-Some.line c.loop-line.yielded_by c.in-Some.is c.next.ensures.steps (ap (λ (s : Split ℕ (Unit {0})). s.rest.now) gives ∙ c.split-line-items.ensures.rest) (ap (λ (s : Split ℕ (Unit {0})). s.done) gives ∙ c.split-line-items.ensures.done) (ap (λ (s : Split ℕ (Unit {0})). s.pred) gives ∙ c.split-line-items.ensures.closure) (λ x b q k. search (rules, tests)) in
+    let made = c.split-line-items.ensures in
+    let t = line_turn _ c.args.text.now _ _ _ _ _ c.loop-line.yielded _ c.in-Some.line c.loop-line.yielded_by c.in-Some.is c.next.ensures.steps c.into_iter-line-iterator.ensures.into_iter_gives made.rest made.done made.closure (λ x b q k. search (rules, tests)) in
     let lines = lines_of c.args.text.now in
     let n = length c.loop-line.yielded in
     let i = c.loop-line.invariant in
@@ -39,6 +38,6 @@ loop-line-preserved c =
 
 pub returns : goal.returns
 returns c =
-    let gives = c.into_iter-line-iterator.ensures.into_iter_gives in
-    let end = lines_end _ c.args.text.now _ _ _ _ c.loop-line.yielded _ c.loop-line.yielded_by c.in-None.is c.next.ensures.steps (ap (λ (s : Split ℕ (Unit {0})). s.rest.now) gives ∙ c.split-line-items.ensures.rest) (ap (λ (s : Split ℕ (Unit {0})). s.done) gives ∙ c.split-line-items.ensures.done) (ap (λ (s : Split ℕ (Unit {0})). s.pred) gives ∙ c.split-line-items.ensures.closure) (λ x b q k. search (rules, tests)) in
+    let made = c.split-line-items.ensures in
+    let end = lines_end _ c.args.text.now _ _ _ _ _ c.loop-line.yielded _ c.loop-line.yielded_by c.in-None.is c.next.ensures.steps c.into_iter-line-iterator.ensures.into_iter_gives made.rest made.done made.closure (λ x b q k. search (rules, tests)) in
     λ q. all_labels (lines_of c.args.text.now) (length c.loop-line.yielded) q (named c.loop-line.labels q) end (c.loop-line.invariant.known q)

@@ -1,6 +1,5 @@
-use Rattle.std.proofs.Common.{lit<, ◌≡◌, ◌+◌, ◌==◌, ℕ, List, ◌∷◌, [], ◌++◌, length, take, Ok, refl, sym, ap, ◌∙◌, subst, arith, rules, tests}
+use Rattle.std.proofs.Common.{lit<, ◌≡◌, ◌+◌, ◌∷◌, [], ◌++◌, length, Ok, refl, sym, ap, ◌∙◌, arith, rules, tests}
 use Rattle.std.proofs.lemmas.List.{length_push}
-use Rattle.std.specs.declared.slice.Split.{Split}
 use Rattle.qed_model.specs.Below.{gather}
 use Rattle.rv_asm.specs.Lines.{lines_of}
 use Rattle.rv_asm.specs.Named.{named}
@@ -15,8 +14,8 @@ loop-line-init c = record { counted = refl; placed = refl; code_near = lit< tt; 
 
 pub returns-in-Err : goal.returns-in-Err
 returns-in-Err c =
-    let gives = c.into_iter-line-iterator.ensures.into_iter_gives in
-    let t = line_turn _ c.args.text.now _ _ _ _ c.loop-line.yielded _ c.in-Some.line c.loop-line.yielded_by c.in-Some.is c.next.ensures.steps (ap (λ (s : Split ℕ (Unit {0})). s.rest.now) gives ∙ c.split-line-items.ensures.rest) (ap (λ (s : Split ℕ (Unit {0})). s.done) gives ∙ c.split-line-items.ensures.done) (ap (λ (s : Split ℕ (Unit {0})). s.pred) gives ∙ c.split-line-items.ensures.closure) (λ x b q k. search (rules, tests)) in
+    let made = c.split-line-items.ensures in
+    let t = line_turn _ c.args.text.now _ _ _ _ _ c.loop-line.yielded _ c.in-Some.line c.loop-line.yielded_by c.in-Some.is c.next.ensures.steps c.into_iter-line-iterator.ensures.into_iter_gives made.rest made.done made.closure (λ x b q k. search (rules, tests)) in
     let lines = lines_of c.args.text.now in
     let n = length c.loop-line.yielded in
     let p = c.parts-line.result in
@@ -25,8 +24,8 @@ returns-in-Err c =
 
 pub loop-line-preserved : goal.loop-line-preserved
 loop-line-preserved c =
-    let gives = c.into_iter-line-iterator.ensures.into_iter_gives in
-    let t = line_turn _ c.args.text.now _ _ _ _ c.loop-line.yielded _ c.in-Some.line c.loop-line.yielded_by c.in-Some.is c.next.ensures.steps (ap (λ (s : Split ℕ (Unit {0})). s.rest.now) gives ∙ c.split-line-items.ensures.rest) (ap (λ (s : Split ℕ (Unit {0})). s.done) gives ∙ c.split-line-items.ensures.done) (ap (λ (s : Split ℕ (Unit {0})). s.pred) gives ∙ c.split-line-items.ensures.closure) (λ x b q k. search (rules, tests)) in
+    let made = c.split-line-items.ensures in
+    let t = line_turn _ c.args.text.now _ _ _ _ _ c.loop-line.yielded _ c.in-Some.line c.loop-line.yielded_by c.in-Some.is c.next.ensures.steps c.into_iter-line-iterator.ensures.into_iter_gives made.rest made.done made.closure (λ x b q k. search (rules, tests)) in
     let lines = lines_of c.args.text.now in
     let n = length c.loop-line.yielded in
     let p = c.parts-line.result in
@@ -54,8 +53,8 @@ loop-line-preserved c =
 
 pub returns : goal.returns
 returns c =
-    let gives = c.into_iter-line-iterator.ensures.into_iter_gives in
-    let end = lines_end _ c.args.text.now _ _ _ _ c.loop-line.yielded _ c.loop-line.yielded_by c.in-None.is c.next.ensures.steps (ap (λ (s : Split ℕ (Unit {0})). s.rest.now) gives ∙ c.split-line-items.ensures.rest) (ap (λ (s : Split ℕ (Unit {0})). s.done) gives ∙ c.split-line-items.ensures.done) (ap (λ (s : Split ℕ (Unit {0})). s.pred) gives ∙ c.split-line-items.ensures.closure) (λ x b q k. search (rules, tests)) in
+    let made = c.split-line-items.ensures in
+    let end = lines_end _ c.args.text.now _ _ _ _ _ c.loop-line.yielded _ c.loop-line.yielded_by c.in-None.is c.next.ensures.steps c.into_iter-line-iterator.ensures.into_iter_gives made.rest made.done made.closure (λ x b q k. search (rules, tests)) in
     let lines = lines_of c.args.text.now in
     let i = c.loop-line.invariant in
     let so_far : IsSoFar lines (length c.loop-line.yielded) c.loop-line.place c.loop-line.program.code.items c.loop-line.program.values.items c.loop-line.program.symbols.items = record { placed = i.placed; faultless = i.faultless; has_code = i.code; has_values = i.words; has_symbols = i.symbols } in

@@ -1,4 +1,4 @@
-use Rattle.std.proofs.Common.{◌≡◌, ℕ, ◌^◌, ◌<◌, List, length, take}
+use Rattle.std.proofs.Common.{◌≡◌, ◌^◌, ◌<◌, length, take}
 use Rattle.rv_asm.specs.Lines.{lines_of}
 use Rattle.rv_asm.specs.Assembled.{place_behind, AreFaultless, code_of, data_of, symbols_of}
 use Rattle.rv_asm.proofs.program.program_of.Given as goal
