@@ -3,7 +3,7 @@ use Rattle.std.proofs.Common.{◌≡◌, ◌⊎◌, inl, inr, ℕ, zero, suc, �
 use Rattle.std.proofs.lemmas.Bool.{cases_lt}
 use Rattle.std.proofs.Math.Seq.{get_or-append_seam}
 use Rattle.std.proofs.Math.ListN.{get_or-append}
-use Rattle.std.specs.Prelude.{◌≢◌, Option, Some, None, IfSome, IfNone, unwrap_or}
+use Rattle.std.specs.Prelude.{Option, Some, None, IfSome, IfNone, unwrap_or}
 use Rattle.std.specs.Slice.{IsItemAt}
 use Rattle.qed_model.specs.declared.machine.Outcome.TheVariants.{Going}
 use Rattle.qed_model.specs.Below.{each}

@@ -1,14 +1,12 @@
 -- Strikes that are drawn one after the other.
-use Rattle.std.proofs.Common.{◌≡◌, ◌⊎◌, inl, inr, ℕ, zero, suc, ◌+◌, ◌-◌, ◌*◌, ◌%◌, ◌<◌, ◌≤◌, Bool, true, false, cond, ◌||◌, List, [], ◌∷◌, ◌++◌, map, length, get_or, refl, sym, ap, ◌∙◌, subst, arith, nat_le, nat_lt}
-use Rattle.std.specs.Prelude.{fold, if◌then◌else◌, All, IsSome, Option, Some, None}
+use Rattle.std.proofs.Common.{◌≡◌, ◌⊎◌, inl, inr, ℕ, zero, suc, ◌+◌, ◌*◌, ◌<◌, ◌≤◌, Bool, true, false, cond, ◌||◌, List, [], ◌∷◌, map, refl, sym, ap, ◌∙◌, arith, nat_le, nat_lt}
+use Rattle.std.specs.Prelude.{fold, if◌then◌else◌, All, IsSome, Some}
 use Rattle.std.proofs.lemmas.Bool.{cases_lt}
 use Rattle.std.proofs.lemmas.Bool.Decides.{nat_tests}
 use Rattle.std.proofs.lemmas.List.Sums.{fold-append}
 use Rattle.std.proofs.Math.Nat.{mul-suc, mul-zero}
 use Rattle.rand_pcg.specs.Lcg.{Lcg}
 use Rattle.qed_model.specs.declared.bounds.Bounds.{Bounds}
-use Rattle.qed_model.specs.declared.change.Place.{Place}
-use Rattle.qed_model.specs.declared.change.Place.TheVariants.{Reg, Word}
 use Rattle.qed_model.specs.declared.change.Change.{Change}
 use Rattle.qed_model.specs.declared.plan.Plan.{Plan}
 use Rattle.qed_model.specs.Admission.DataRanges.{range_of, word_count}
@@ -19,7 +17,7 @@ use Rattle.qed_model.specs.Words.{with_change, in_order}
 use Rattle.qed_model.proofs.ReadFacts.{All-each}
 use Rattle.random_words.specs.Random.{seeded, after}
 use Rattle.random_words.proofs.Words.{after-more}
-use Rattle.strikes.specs.Draw.{place_of, change_of, drawn_change, drawn_strike, drawn_strikes, HasWords}
+use Rattle.strikes.specs.Draw.{place_of, drawn_change, drawn_strike, drawn_strikes, HasWords}
 use Rattle.strikes.specs.Struck.{IsStrike}
 use Rattle.strikes.proofs.Stopping.{rest_ordered}
 

@@ -1,7 +1,6 @@
 -- A strike that begins at a later state shows what it shows from the start, where no change comes before.
-use Rattle.std.proofs.Common.{◌≡◌, ◌⊎◌, inl, inr, ℕ, zero, suc, ◌+◌, ◌-◌, ◌*◌, ◌<◌, ◌≤◌, Bool, true, false, cond, ◌||◌, List, [], ◌∷◌, map, refl, sym, ap, ◌∙◌, subst, arith}
-use Rattle.std.specs.Prelude.{◌≢◌, ◌==◌, Option, Some, Result, Ok, Err, All}
-use Rattle.std.specs.List.{list_any}
+use Rattle.std.proofs.Common.{◌≡◌, ◌⊎◌, inl, inr, ℕ, zero, suc, ◌+◌, ◌-◌, ◌*◌, ◌<◌, ◌≤◌, Bool, true, false, cond, ◌||◌, List, [], ◌∷◌, refl, sym, ap, ◌∙◌, subst, arith}
+use Rattle.std.specs.Prelude.{◌==◌, Some, Result, Ok, Err, All}
 use Rattle.std.proofs.lemmas.List.Elements.{All-nil, All-cons}
 use Rattle.std.proofs.lemmas.Bool.{cases_lt, eq-eqb, ne_eqb, eqb-true}
 use Rattle.qed_model.specs.declared.bounds.Bounds.{Bounds}
@@ -10,19 +9,19 @@ use Rattle.qed_model.specs.declared.machine.Outcome.{Outcome}
 use Rattle.qed_model.specs.declared.machine.Outcome.TheVariants.{Going, Ended, Fired, Trapped}
 use Rattle.qed_model.specs.declared.verdict.Verdict.{Verdict}
 use Rattle.qed_model.specs.declared.verdict.Verdict.TheVariants as verdict
-use Rattle.qed_model.specs.Machine.Progress.{Progress, begun}
+use Rattle.qed_model.specs.Machine.Progress.{begun}
 use Rattle.qed_model.specs.Machine.Step.{State, step, run}
 use Rattle.qed_model.specs.Promise.Caught.{bound_of}
 use Rattle.qed_model.specs.Promise.Changed.{changed, changed_as, with_changes, changed_run, Ordered, last_step}
-use Rattle.qed_model.specs.Promise.Kept.{NotTrapped, is_trapped}
+use Rattle.qed_model.specs.Promise.Kept.{is_trapped}
 use Rattle.qed_model.proofs.Walk.{run-more}
 use Rattle.fault_inject.specs.Closed.{is_closed_place}
 use Rattle.fault_inject.proofs.Changing.{AllFrom, not_made, plain}
 use Rattle.strikes.specs.declared.error.StrikeError.TheVariants as error
 use Rattle.strikes.specs.declared.error.StrikeError.{StrikeError}
 use Rattle.strikes.specs.Later.{counted_from, all_from, first_step}
-use Rattle.strikes.specs.Verdict.{IsReached, has_closed, IsTried, IsFound, IsSilent, StopsAt, TrapsAt, Shows, IsVerdict}
-use Rattle.strikes.proofs.Stopping.{going_before, run-last, progress_state, rest_ordered, first_last}
+use Rattle.strikes.specs.Verdict.{IsReached, has_closed, IsTried, IsFound, IsSilent, Shows, IsVerdict}
+use Rattle.strikes.proofs.Stopping.{going_before, run-last, progress_state, first_last}
 
 -- ---- where no change comes before
 -- a run with no changes

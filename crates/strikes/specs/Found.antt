@@ -1,10 +1,10 @@
 -- What the parts of a strike show: the run without changes, and the run behind the last change.
-use Rattle.std.specs.Prelude.{◌≡◌, ℕ, ◌≤◌, true, false, List, Option, Some, None}
+use Rattle.std.specs.Prelude.{◌≡◌, ℕ, ◌≤◌, true, List, Option, Some, None}
 use Rattle.qed_model.specs.declared.change.Change.{Change}
 use Rattle.qed_model.specs.declared.machine.Outcome.{Outcome}
 use Rattle.qed_model.specs.declared.machine.Outcome.TheVariants as outcome
 use Rattle.qed_model.specs.declared.verdict.Verdict.{Verdict}
-use Rattle.qed_model.specs.declared.verdict.Verdict.TheVariants.{Closed, NotReached, Fired, Ended, Same}
+use Rattle.qed_model.specs.declared.verdict.Verdict.TheVariants.{Closed, NotReached, Fired, Ended}
 use Rattle.qed_model.specs.Machine.Step.{State, run}
 use Rattle.strikes.specs.Verdict.{IsReached, has_closed, StopsAt}
 

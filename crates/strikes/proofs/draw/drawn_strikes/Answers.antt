@@ -4,7 +4,6 @@ use Rattle.qed_model.specs.Admission.DataRanges.{range_of}
 use Rattle.qed_model.specs.Below.{each}
 use Rattle.qed_model.proofs.BelowLaws.{each_none, push_each}
 use Rattle.random_words.specs.Random.{seeded, after}
-use Rattle.random_words.proofs.Words.{after-more}
 use Rattle.strikes.specs.Draw.{drawn_strike, drawn_strikes}
 use Rattle.strikes.specs.Struck.{IsStrike}
 use Rattle.strikes.proofs.Drawing.{none_drawn, more_words, drawn_all_fit}
