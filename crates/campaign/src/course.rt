@@ -69,11 +69,7 @@ impl Course {
     /// # Errors
     ///
     /// Those of `transform`.
-    pub fn prepare(
-        alloc: Global,
-        input: &[u8],
-        options: &Options,
-    ) -> Result<Course, TransformError>
+    pub fn prepare(alloc: Global, input: &[u8], options: &Options) -> Result<Course, TransformError>
         requires { AreSoundOptions options.now }
         ensures done { IfOk result (IsCourse input.now options.now) }
         ensures refused { IfErr result (HasCause input.now options.now) }
