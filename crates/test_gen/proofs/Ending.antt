@@ -1,6 +1,5 @@
 -- The run of a generated test ends.
-use Rattle.std.proofs.Common.{◌≡◌, ℕ, ◌+◌, ◌*◌, ◌<◌, ◌≤◌, List, [], ◌∷◌, length, refl, sym, ap, ◌∙◌, subst, get_or-set_same, arith}
-use Rattle.std.specs.Prelude.{slice_set}
+use Rattle.std.proofs.Common.{◌≡◌, ℕ, ◌+◌, ◌*◌, ◌≤◌, List, ◌∷◌, length, refl, ◌∙◌, subst, get_or-set_same, arith}
 use Rattle.std.proofs.lemmas.List.{length-set}
 use Rattle.elf_types.specs.declared.file.ElfFile.{ElfFile}
 use Rattle.qed_model.specs.Elf.File.{IsReadAs}
@@ -17,7 +16,6 @@ use Rattle.test_gen.proofs.Admitted.{sized, is_code_of, file_admitted, few_funct
 use Rattle.test_gen.proofs.Apart.{are_loads, small_code, small_table, small_data}
 use Rattle.test_gen.proofs.Loaded.{is_made}
 use Rattle.test_gen.proofs.MainEnd.{ends_after}
-use Rattle.test_gen.proofs.Runs.{IsGood}
 use Rattle.test_gen.proofs.Shape.{file_of}
 
 module _ (seed n x y z : ℕ) (some : 1 ≤ n) (few : n ≤ 1875) where

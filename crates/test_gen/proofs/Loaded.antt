@@ -1,5 +1,5 @@
 -- What a generated test has in memory: its code, the table of its functions, and its data.
-use Rattle.std.proofs.Common.{◌≡◌, ◌⊎◌, inl, inr, ⊎_elim, ℕ, zero, suc, ◌+◌, ◌-◌, ◌*◌, ◌^◌, ◌<◌, ◌≤◌, Bool, true, false, cond, List, [], ◌∷◌, ◌++◌, length, Option, Some, None, refl, sym, ap, ◌∙◌, subst, append_assoc, length-append, arith}
+use Rattle.std.proofs.Common.{◌≡◌, inr, ⊎_elim, ℕ, zero, suc, ◌+◌, ◌*◌, ◌<◌, ◌≤◌, true, false, cond, List, [], ◌∷◌, ◌++◌, length, Some, refl, sym, ap, ◌∙◌, subst, append_assoc, arith}
 use Rattle.std.specs.FinMap.{get}
 use Rattle.std.proofs.lemmas.Bool.{cases_lt}
 use Rattle.std.proofs.lemmas.List.{append-nil}
@@ -9,7 +9,7 @@ use Rattle.rv_isa.specs.declared.ins.Ins.{Ins}
 use Rattle.qed_model.specs.Below.{gather}
 use Rattle.qed_model.specs.Options.{default_options}
 use Rattle.qed_model.specs.Numbers.{number_bytes, field}
-use Rattle.qed_model.specs.Machine.Memory.{Flags, Memory, allows, wrap, number, grants, byte_in}
+use Rattle.qed_model.specs.Machine.Memory.{Memory, allows, wrap, number, grants, byte_in}
 use Rattle.qed_model.specs.Machine.Program.{LoadSegment, memory_of}
 use Rattle.qed_model.specs.Machine.Loading.{load_segment}
 use Rattle.qed_model.specs.Machine.Cells.{has, cell_at, cell_among, byte_among, number_among}
@@ -19,7 +19,7 @@ use Rattle.qed_model.specs.Admission.Refusals.{IsAdmitted}
 use Rattle.qed_model.proofs.CellsAmong.{has_from, has_not, get_among, number-among}
 use Rattle.qed_model.proofs.ExampleCode.{StandFrom, IsCodeOf}
 use Rattle.qed_model.proofs.Fetches.{IsShapely, known_instruction}
-use Rattle.qed_model.proofs.Fields.{length-number_bytes, field-number_bytes}
+use Rattle.qed_model.proofs.Fields.{field-number_bytes}
 use Rattle.qed_model.proofs.ImageLaws.{all_sized_among}
 use Rattle.qed_model.proofs.MemoryLaws.{grants_from}
 use Rattle.qed_model.proofs.RangeSegments.{AreLoads}

@@ -1,27 +1,27 @@
 -- The run of `main` of a generated test: each function is called three times, and the run ends.
-use Rattle.std.proofs.Common.{◌≡◌, ℕ, zero, suc, ◌+◌, ◌-◌, ◌*◌, ◌/◌, ◌%◌, ◌^◌, ◌<◌, ◌≤◌, Bool, true, false, cond, not, List, [], ◌∷◌, ◌++◌, length, refl, sym, ap, ◌∙◌, subst, length-append, arith}
-use Rattle.std.specs.Prelude.{◌==◌, slice_index, slice_index_or, pos, negsuc, ◌-ℤ◌}
+use Rattle.std.proofs.Common.{◌≡◌, ℕ, zero, suc, ◌+◌, ◌*◌, ◌/◌, ◌%◌, ◌^◌, ◌<◌, ◌≤◌, Bool, true, false, cond, not, List, [], ◌∷◌, ◌++◌, length, refl, sym, ap, ◌∙◌, subst, arith}
+use Rattle.std.specs.Prelude.{◌==◌, slice_index, slice_index_or, pos, negsuc}
 use Rattle.std.specs.List.{list_all}
 use Rattle.std.proofs.lemmas.Bool.{and_parts, eq-eqb, eqb-true, eqb-false, not-true}
 use Rattle.rv_isa.specs.declared.ins.Ins.{Ins}
-use Rattle.rv_isa.specs.declared.kind.Kind.TheVariants.{Lui, Jalr, Bne, Ld, Sd, Addi, Add, Sub, Xor, Ecall, Mul, Divu}
+use Rattle.rv_isa.specs.declared.kind.Kind.TheVariants.{Jalr, Bne, Ld, Sd, Addi}
 use Rattle.rv_isa.specs.declared.class.Class.TheVariants as class
 use Rattle.rv_isa.specs.Kind.{class_of}
 use Rattle.rv_isa.specs.Ins.{nop}
 use Rattle.rv_isa.specs.Regs.{set_reg}
 use Rattle.rv_isa.proofs.RegsLaws.{slice_index-set_reg_same, slice_index-set_reg_other}
 use Rattle.qed_model.specs.declared.machine.Cause.TheVariants as cause
-use Rattle.qed_model.specs.declared.machine.Outcome.TheVariants.{Going, Ended}
+use Rattle.qed_model.specs.declared.machine.Outcome.TheVariants.{Going}
 use Rattle.qed_model.specs.Below.{each}
 use Rattle.qed_model.specs.Machine.Memory.{Memory, wrap, number, grants, byte_at, byte_in}
 use Rattle.qed_model.specs.Machine.Table.{ins}
 use Rattle.qed_model.specs.Machine.Values.{value, holds, loaded}
-use Rattle.qed_model.specs.Machine.Step.{State, reg, moved, stopped, trapped, imm, target, place, result, computed_value, next, next_pc, step, execute, jumped, Fetched, Known, HasAt, fetched_at}
+use Rattle.qed_model.specs.Machine.Step.{State, reg, moved, trapped, imm, target, place, result, computed_value, next, next_pc, step, execute, jumped, Fetched, Known, HasAt, fetched_at}
 use Rattle.qed_model.proofs.BelowLaws.{length-each}
 use Rattle.qed_model.proofs.MemoryLaws.{same_number}
 use Rattle.qed_model.proofs.Pairs.{Every}
 use Rattle.qed_model.proofs.Steps.{grants-flags, step-class, step-compute, step-load}
-use Rattle.qed_model.proofs.Walked.{Walk, walk_none, walk_one, walk_on}
+use Rattle.qed_model.proofs.Walked.{Walk, walk_one, walk_on}
 use Rattle.test_gen.specs.Random.{random_word}
 use Rattle.test_gen.specs.Code.{body_registers, register_from, body_forms, body_instruction, return, function, main}
 use Rattle.test_gen.specs.Generated.{function_at}
