@@ -24,7 +24,8 @@ module _ (seed n x y z : ℕ) (some : 1 ≤ n) (few : n ≤ 1875) where
   abbrev f : ElfFile
   f = file_of (code_bytes seed n) (table_bytes n) data_bytes (null_symbol ∷ symbols n) x y z
 
-  sized : AreSized n (code_bytes seed n) (table_bytes n) data_bytes
+  -- how long its segments are
+  pub sized : AreSized n (code_bytes seed n) (table_bytes n) data_bytes
   sized = record { some = some; few = few; code_size = length-code_bytes seed n; table_size = length-table_bytes n; words_size = length-data_bytes }
 
   image : IsImage f 0x10000 (code_bytes seed n)
@@ -59,7 +60,8 @@ unfolding file_with
 with_functions seed n some few =
     file_admitted seed n (24 * (1 + length (symbols n))) (length (string_table (symbol_names (symbols n)))) (length (string_table (section_names (file_with seed n).sections))) some few
 
-few_functions : (size : ℕ) → 1 ≤ size → size ≤ 60000 → (1 ≤ function_count size) × (function_count size ≤ 1875)
+-- how many functions it has
+pub few_functions : (size : ℕ) → 1 ≤ size → size ≤ 60000 → (1 ≤ function_count size) × (function_count size ≤ 1875)
 unfolding function_count
 few_functions size some most = (omega (arith, some), omega (arith, most))
 

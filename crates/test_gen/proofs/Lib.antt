@@ -9,3 +9,7 @@ pub mod Shape
 pub mod Admitted
 pub mod Runs
 pub mod MainRun
+pub mod MainEnd
+pub mod Apart
+pub mod Loaded
+pub mod Ending

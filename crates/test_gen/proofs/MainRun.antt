@@ -1,27 +1,27 @@
 -- The run of `main` of a generated test: each function is called three times, and the run ends.
-use Rattle.std.proofs.Common.{◌≡◌, ℕ, zero, suc, ◌+◌, ◌-◌, ◌*◌, ◌/◌, ◌%◌, ◌^◌, ◌<◌, ◌≤◌, Bool, true, false, cond, not, List, [], ◌∷◌, ◌++◌, length, refl, sym, ap, ◌∙◌, subst, length-append, arith}
-use Rattle.std.specs.Prelude.{◌==◌, slice_index, slice_index_or, pos, negsuc, ◌-ℤ◌}
+use Rattle.std.proofs.Common.{◌≡◌, ℕ, zero, suc, ◌+◌, ◌*◌, ◌/◌, ◌%◌, ◌^◌, ◌<◌, ◌≤◌, Bool, true, false, cond, not, List, [], ◌∷◌, ◌++◌, length, refl, sym, ap, ◌∙◌, subst, arith}
+use Rattle.std.specs.Prelude.{◌==◌, slice_index, slice_index_or, pos, negsuc}
 use Rattle.std.specs.List.{list_all}
 use Rattle.std.proofs.lemmas.Bool.{and_parts, eq-eqb, eqb-true, eqb-false, not-true}
 use Rattle.rv_isa.specs.declared.ins.Ins.{Ins}
-use Rattle.rv_isa.specs.declared.kind.Kind.TheVariants.{Lui, Jalr, Bne, Ld, Sd, Addi, Add, Sub, Xor, Ecall, Mul, Divu}
+use Rattle.rv_isa.specs.declared.kind.Kind.TheVariants.{Jalr, Bne, Ld, Sd, Addi}
 use Rattle.rv_isa.specs.declared.class.Class.TheVariants as class
 use Rattle.rv_isa.specs.Kind.{class_of}
 use Rattle.rv_isa.specs.Ins.{nop}
 use Rattle.rv_isa.specs.Regs.{set_reg}
 use Rattle.rv_isa.proofs.RegsLaws.{slice_index-set_reg_same, slice_index-set_reg_other}
 use Rattle.qed_model.specs.declared.machine.Cause.TheVariants as cause
-use Rattle.qed_model.specs.declared.machine.Outcome.TheVariants.{Going, Ended}
+use Rattle.qed_model.specs.declared.machine.Outcome.TheVariants.{Going}
 use Rattle.qed_model.specs.Below.{each}
 use Rattle.qed_model.specs.Machine.Memory.{Memory, wrap, number, grants, byte_at, byte_in}
 use Rattle.qed_model.specs.Machine.Table.{ins}
 use Rattle.qed_model.specs.Machine.Values.{value, holds, loaded}
-use Rattle.qed_model.specs.Machine.Step.{State, reg, moved, stopped, trapped, imm, target, place, result, computed_value, next, next_pc, step, execute, jumped, Fetched, Known, HasAt, fetched_at}
+use Rattle.qed_model.specs.Machine.Step.{State, reg, moved, trapped, imm, target, place, result, computed_value, next, next_pc, step, execute, jumped, Fetched, Known, HasAt, fetched_at}
 use Rattle.qed_model.proofs.BelowLaws.{length-each}
 use Rattle.qed_model.proofs.MemoryLaws.{same_number}
 use Rattle.qed_model.proofs.Pairs.{Every}
 use Rattle.qed_model.proofs.Steps.{grants-flags, step-class, step-compute, step-load}
-use Rattle.qed_model.proofs.Walked.{Walk, walk_none, walk_one, walk_on}
+use Rattle.qed_model.proofs.Walked.{Walk, walk_one, walk_on}
 use Rattle.test_gen.specs.Random.{random_word}
 use Rattle.test_gen.specs.Code.{body_registers, register_from, body_forms, body_instruction, return, function, main}
 use Rattle.test_gen.specs.Generated.{function_at}
@@ -68,7 +68,7 @@ jump_step i s t g n c e grain =
     step-class s i class.JumpReg g n c ∙ ap (λ x. cond (x % 4 == 0) (moved regs x s) (trapped (cause.Target x) s)) e
     ∙ ap (λ b. cond b (moved regs t s) (trapped (cause.Target t) s)) (eq-eqb (t % 4) 0 grain)
 
-branch_taken :
+pub branch_taken :
     (i : Ins) (s : State) (t : ℕ) → s.outcome ≡ Going → next s ≡ Known i → class_of i.kind ≡ class.Branch → holds i.kind (reg s i.rs1) (reg s i.rs2) ≡ true
     → target i s.pc ≡ t → t % 4 ≡ 0 → step s ≡ moved s.regs t s
 unfolding execute jumped
@@ -77,13 +77,13 @@ branch_taken i s t g n c h e grain =
     ∙ ap (λ x. cond (x % 4 == 0) (moved s.regs x s) (trapped (cause.Target x) s)) e
     ∙ ap (λ b. cond b (moved s.regs t s) (trapped (cause.Target t) s)) (eq-eqb (t % 4) 0 grain)
 
-branch_not :
+pub branch_not :
     (i : Ins) (s : State) → s.outcome ≡ Going → next s ≡ Known i → class_of i.kind ≡ class.Branch → holds i.kind (reg s i.rs1) (reg s i.rs2) ≡ false
     → step s ≡ moved s.regs (next_pc s) s
 unfolding execute
 branch_not i s g n c h = step-class s i class.Branch g n c ∙ ap (λ b. cond b (jumped s.regs (target i s.pc) s) (moved s.regs (next_pc s) s)) h
 
-has_left : (c : ℕ → Fetched) (a : ℕ) (xs ys : List Ins) → HasAt c a (xs ++ ys) → HasAt c a xs
+pub has_left : (c : ℕ → Fetched) (a : ℕ) (xs ys : List Ins) → HasAt c a (xs ++ ys) → HasAt c a xs
 has_left c a [] ys h = tt
 has_left c a (x ∷ xs) ys h = (h.0, has_left c (a + 4) xs ys h.1)
 
@@ -105,13 +105,13 @@ module _ (m : Memory) (ranges : List (ℕ × ℕ)) (seed n : ℕ) (made : IsMade
   code = fetched_at m ranges
 
   -- ---- a register is set
-  record IsSet (s : State) (pc d v : ℕ) : Type 0 where
-    end : State
-    walk : Walk Goes s 1 end
-    good : IsGood m ranges end
-    at : end.pc ≡ pc
-    is : reg end d ≡ v
-    others : (r : ℕ) → (r == d) ≡ false → reg end r ≡ reg s r
+  pub record IsSet (s : State) (pc d v : ℕ) : Type 0 where
+    pub end : State
+    pub walk : Walk Goes s 1 end
+    pub good : IsGood m ranges end
+    pub at : end.pc ≡ pc
+    pub is : reg end d ≡ v
+    pub others : (r : ℕ) → (r == d) ≡ false → reg end r ≡ reg s r
 
   set_is : (s : State) (d v at pc : ℕ) → IsGood m ranges s → 0 < d → d < 32 → step s ≡ moved (set_reg d v s.regs) at s → at ≡ pc → IsSet s pc d v
   set_is s d v at pc g some few e there =
@@ -125,13 +125,13 @@ module _ (m : Memory) (ranges : List (ℕ × ℕ)) (seed n : ℕ) (made : IsMade
         others = λ r h. slice_index-set_reg_other s.regs d v r (λ same. eqb-false r d h same);
       }
 
-  next_four : (s : State) (pc : ℕ) → s.pc ≡ pc → pc + 4 ≤ 0x90000 → next_pc s ≡ pc + 4
+  pub next_four : (s : State) (pc : ℕ) → s.pc ≡ pc → pc + 4 ≤ 0x90000 → next_pc s ≡ pc + 4
   next_four s pc e h = omega (arith, e, h)
 
-  fetched : (s : State) (i : Ins) (pc : ℕ) → IsGood m ranges s → s.pc ≡ pc → pc + 4 ≤ 0x90000 → code pc ≡ Known i → next s ≡ Known i
+  pub fetched : (s : State) (i : Ins) (pc : ℕ) → IsGood m ranges s → s.pc ≡ pc → pc + 4 ≤ 0x90000 → code pc ≡ Known i → next s ≡ Known i
   fetched s i pc g e h k = next_is m ranges s i g (omega (arith, e, h)) (ap code e ∙ k)
 
-  compute :
+  pub compute :
       (i : Ins) (s : State) (pc v : ℕ) → IsGood m ranges s → s.pc ≡ pc → pc + 4 ≤ 0x90000 → code pc ≡ Known i → class_of i.kind ≡ class.Compute → 0 < i.rd → i.rd < 32
       → result i.kind i s ≡ v → IsSet s (pc + 4) i.rd v
   compute i s pc v g e h k c some few is =
@@ -153,7 +153,7 @@ module _ (m : Memory) (ranges : List (ℕ × ℕ)) (seed n : ℕ) (made : IsMade
     pub walk : Walk Goes s steps end
     pub is_in : IsIn end pc table rounds left
 
-  comes_on :
+  pub comes_on :
       (s t : State) (i k all pc table rounds left : ℕ) → Walk Goes s i t → Comes t k pc table rounds left → i + k ≡ all → Comes s all pc table rounds left
   comes_on s t i k all pc table rounds left w c e = record {
     end = c.end;
@@ -248,7 +248,7 @@ module _ (m : Memory) (ranges : List (ℕ × ℕ)) (seed n : ℕ) (made : IsMade
       }
 
   -- ---- branches
-  moved_in : (s : State) (pc to at table rounds left : ℕ) → IsIn s pc table rounds left → step s ≡ moved s.regs at s → at ≡ to → Comes s 1 to table rounds left
+  pub moved_in : (s : State) (pc to at table rounds left : ℕ) → IsIn s pc table rounds left → step s ≡ moved s.regs at s → at ≡ to → Comes s 1 to table rounds left
   moved_in s pc to at table rounds left h e there =
       let g = h.good in
       record {
@@ -258,14 +258,14 @@ module _ (m : Memory) (ranges : List (ℕ × ℕ)) (seed n : ℕ) (made : IsMade
       }
 
   -- a counter is not 0, or it is
-  differs : (x y k : ℕ) → x ≡ k + 1 → y ≡ 0 → holds Bne x y ≡ true
+  pub differs : (x y k : ℕ) → x ≡ k + 1 → y ≡ 0 → holds Bne x y ≡ true
   unfolding holds
   differs x y k e z = by (x == y) refl where
     by : (b : Bool) → (x == y) ≡ b → not b ≡ true
     by true t = absurd (omega (arith, eqb-true x y t, e, z))
     by false t = refl
 
-  agrees : (x y : ℕ) → x ≡ 0 → y ≡ 0 → holds Bne x y ≡ false
+  pub agrees : (x y : ℕ) → x ≡ 0 → y ≡ 0 → holds Bne x y ≡ false
   unfolding holds
   agrees x y e z = ap not (eq-eqb x y (e ∙ sym z))
 
@@ -290,7 +290,7 @@ module _ (m : Memory) (ranges : List (ℕ × ℕ)) (seed n : ℕ) (made : IsMade
       (next_four s 0x10020 h.at (omega arith))
 
   -- all calls of a round
-  table_loop : (k i left : ℕ) (s : State) (rounds : ℕ) → left ≡ suc k → i + left ≡ n → IsIn s 0x10010 (0x80000 + 8 * i) rounds left → Comes s (38 * left) 0x10024 (0x80000 + 8 * n) rounds 0
+  pub table_loop : (k i left : ℕ) (s : State) (rounds : ℕ) → left ≡ suc k → i + left ≡ n → IsIn s 0x10010 (0x80000 + 8 * i) rounds left → Comes s (38 * left) 0x10024 (0x80000 + 8 * n) rounds 0
   table_loop zero i left s rounds e sum h =
       let few = made.few in
       let a = one_call s i rounds left 0 (omega (arith, e, sum)) (omega (arith, e)) (omega (arith, e)) h in

@@ -1,20 +1,19 @@
 -- Runs of a generated test: body instructions step without a trap, and keep the registers of `main`.
-use Rattle.std.proofs.Common.{◌≡◌, ℕ, zero, suc, ◌+◌, ◌-◌, ◌*◌, ◌/◌, ◌%◌, ◌^◌, ◌<◌, ◌≤◌, Bool, true, false, cond, not, ◌&&◌, List, [], ◌∷◌, ◌++◌, length, Option, Some, None, refl, sym, ap, ◌∙◌, subst, length-append, arith}
-use Rattle.std.specs.Prelude.{◌==◌, slice_index, pos}
-use Rattle.std.specs.List.{list_all, list_any}
+use Rattle.std.proofs.Common.{◌≡◌, ℕ, suc, ◌+◌, ◌*◌, ◌%◌, ◌^◌, ◌<◌, ◌≤◌, Bool, true, false, cond, ◌&&◌, List, [], ◌∷◌, length, refl, sym, ap, ◌∙◌, subst, arith}
+use Rattle.std.specs.Prelude.{◌==◌, slice_index}
+use Rattle.std.specs.List.{list_any}
 use Rattle.std.specs.FinMap.{get}
-use Rattle.std.proofs.lemmas.Bool.{and_parts, eq-eqb, false≢true}
+use Rattle.std.proofs.lemmas.Bool.{false≢true}
 use Rattle.rv_isa.specs.declared.ins.Ins.{Ins}
-use Rattle.rv_isa.specs.declared.class.Class.{Class}
 use Rattle.rv_isa.specs.declared.class.Class.TheVariants as class
 use Rattle.rv_isa.specs.Kind.{class_of}
 use Rattle.rv_isa.specs.Regs.{set_reg}
 use Rattle.rv_isa.proofs.RegsLaws.{slice_index-set_reg_other, length-set_reg}
 use Rattle.qed_model.specs.declared.machine.Outcome.TheVariants.{Going}
-use Rattle.qed_model.specs.Machine.Memory.{Flags, Memory, flags_at, allows, wrap, offset, put, number, grants, byte_at, byte_in}
-use Rattle.qed_model.specs.Machine.Table.{ins, decode_of}
+use Rattle.qed_model.specs.Machine.Memory.{Flags, Memory, flags_at, allows, wrap, put, number, grants, byte_at, byte_in}
+use Rattle.qed_model.specs.Machine.Table.{decode_of}
 use Rattle.qed_model.specs.Machine.Values.{width_of, loaded}
-use Rattle.qed_model.specs.Machine.Step.{State, reg, moved, stored, imm, place, result, next, next_pc, step, in_range, Fetched, Known, Refused, known_or, HasAt, fetched_at}
+use Rattle.qed_model.specs.Machine.Step.{State, reg, moved, stored, imm, place, result, next, next_pc, in_range, Known, Refused, known_or, HasAt, fetched_at}
 use Rattle.qed_model.proofs.MemoryLaws.{same_number, get-put_outside, grants_from}
 use Rattle.qed_model.proofs.Pairs.{Every}
 use Rattle.qed_model.proofs.Steps.{grants-flags, flags-put, step-compute, step-load, step-store}

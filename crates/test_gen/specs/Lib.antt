@@ -1,3 +1,4 @@
 pub mod Random
 pub mod Code
 pub mod Generated
+pub mod Ends

@@ -1,10 +1,13 @@
 //! The file of a generated test.
-ghost use Rattle.std.specs.Prelude.{◌≡◌, ◌<◌, ◌≤◌, IfOk};
+ghost use Rattle.std.specs.Prelude.{◌≡◌, ◌<◌, ◌≤◌, IfOk, ℕ, List};
 ghost use Rattle.elf_types.specs.declared.file.ElfFile.{ElfFile};
 ghost use Rattle.qed_model.specs.Admission.Refusals.{IsAdmitted};
 ghost use Rattle.qed_model.specs.Elf.File.{IsReadAs};
 ghost use Rattle.qed_model.specs.Elf.Layout.{written};
+ghost use Rattle.qed_model.specs.Machine.Loading.{loaded_file};
+ghost use Rattle.qed_model.specs.Machine.Program.{AreStartRegs, start};
 ghost use Rattle.qed_model.specs.Options.{default_options};
+ghost use Rattle.test_gen.specs.Ends.{EndsAfter, test_steps};
 ghost use Rattle.test_gen.specs.Generated.{sections as sections_of, symbol as symbol_of, function_symbol as function_symbol_of, symbols as symbols_of, file_with as file_with_of, generated};
 
 use crate::code::{code, function_count, words_bytes};
@@ -99,7 +102,7 @@ fn file_with(alloc: Global, seed: u64, functions: u64) -> Result<OutFile, AllocE
 
 /// The test of a seed and a size, as an ELF64 executable for RISC-V. It has `size / 32` functions, rounded up, each of 32
 /// random instructions, which `main` calls three times; the random words are those of PCG XSL RR 128/64 with the seed.
-/// Whatever file its bytes are read as is admitted where no option is given.
+/// Whatever file its bytes are read as is admitted where no option is given, and its run ends, from any registers.
 ///
 /// The only error is want of memory.
 pub fn generate(alloc: Global, seed: u64, size: u64) -> Result<Bytes, AllocError>
@@ -107,6 +110,7 @@ pub fn generate(alloc: Global, seed: u64, size: u64) -> Result<Bytes, AllocError
     requires most { size ≤ 60000 }
     ensures file { IfOk result (λ bytes. bytes ≡ written (generated seed size)) }
     ensures admitted { IfOk result (λ bytes. (f : ElfFile) → IsReadAs bytes f → IsAdmitted f default_options) }
+    ensures ends { IfOk result (λ bytes. (f : ElfFile) → IsReadAs bytes f → (regs : List ℕ) → AreStartRegs regs → EndsAfter (start (loaded_file f) regs) (test_steps size)) }
 {
     let file = file_with(alloc, seed, function_count(size))?;
     let bytes = write_elf(alloc, &file)?;

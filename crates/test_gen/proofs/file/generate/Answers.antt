@@ -4,6 +4,7 @@ use Rattle.qed_model.specs.Elf.FileRead.{file_read}
 use Rattle.qed_model.specs.Elf.Layout.{written, IsWritable}
 use Rattle.test_gen.specs.Generated.{file_with, generated}
 use Rattle.test_gen.proofs.Admitted.{admitted}
+use Rattle.test_gen.proofs.Ending.{test_ends}
 use Rattle.test_gen.proofs.Writable.{writable}
 use Rattle.test_gen.proofs.file.generate.Goals as goal
 
@@ -15,7 +16,9 @@ unfolding generated
 returns c =
     let bytes = c.in_ok-bytes.bytes in
     let is : c.in_ok-file.file ≡ generated c.args.seed c.args.size = c.in_ok-file.ensures ∙ ap (file_with c.args.seed) c.function_count.ensures.value in
+    let read = subst (λ g. IsReadAs bytes (file_read g)) is c.in_ok-bytes.ensures.reads_back in
     record {
       file = c.in_ok-bytes.ensures.written ∙ ap written is;
-      admitted = λ f r. admitted c.args.seed c.args.size bytes c.requires.some c.requires.most (subst (λ g. IsReadAs bytes (file_read g)) is c.in_ok-bytes.ensures.reads_back) f r;
+      admitted = λ f r. admitted c.args.seed c.args.size bytes c.requires.some c.requires.most read f r;
+      ends = λ f r regs start_regs. test_ends c.args.seed c.args.size bytes c.requires.some c.requires.most read f r regs start_regs;
     }

@@ -1,0 +1,18 @@
+-- When the run of a generated test ends.
+use Rattle.std.specs.Prelude.{◌≡◌, ℕ, ◌+◌, ◌*◌, ◌<◌}
+use Rattle.qed_model.specs.declared.machine.Outcome.TheVariants.{Going, Ended}
+use Rattle.qed_model.specs.Machine.Step.{State, run}
+use Rattle.test_gen.specs.Code.{function_count}
+
+-- step n of a run is its ECALL
+pub record EndsAfter (s : State) (n : ℕ) : Type 0 where
+  pub ends : (run s n).outcome ≡ Ended
+  pub going : (k : ℕ) → k < n → (run s k).outcome ≡ Going
+
+-- of n functions: `main` has three words outside of its rounds, and four in each beside the calls, of 38 steps each
+abbrev pub run_steps : ℕ → ℕ
+run_steps n = 3 + 3 * (4 + 38 * n)
+
+-- the steps of the test of a size
+unfoldable pub test_steps : ℕ → ℕ
+test_steps size = run_steps (function_count size)
