@@ -1,6 +1,6 @@
 -- What an output is made ready with.
-use Rattle.std.proofs.Common.{◌≡◌, ℕ, zero, suc, ◌≤◌, List, map, sym, ap, ◌∙◌, subst, arith}
-use Rattle.std.specs.Prelude.{IsSome}
+use Rattle.std.proofs.Common.{◌≡◌, ℕ, zero, suc, ◌≤◌, List, map, inl, inr, refl, sym, ap, ◌∙◌, subst, arith}
+use Rattle.std.specs.Prelude.{IsSome, Ok}
 use Rattle.elf_types.specs.declared.file.ElfFile.{ElfFile}
 use Rattle.qed_model.specs.declared.options.Options.{Options}
 use Rattle.qed_model.specs.declared.plan.Plan.{Plan}
@@ -13,14 +13,15 @@ use Rattle.qed_model.specs.declared.machine.Outcome.TheVariants.{Going}
 use Rattle.qed_model.specs.Elf.FileRead.{file_read}
 use Rattle.qed_model.specs.Machine.Step.{State}
 use Rattle.elf_read.specs.Known.{IsReadable}
-use Rattle.transform.specs.Transform.{Transforms}
+use Rattle.transform.specs.declared.error.TransformError.{TransformError}
+use Rattle.transform.specs.Transform.{Transforms, IsErrorOr}
 use Rattle.strikes.specs.Draw.{HasWords}
 use Rattle.campaign.specs.Course.{StartsIn}
 
 -- where there are data words there is a bound for them
 some_bound : (n round start piece : ℕ) → 1 ≤ n → IsSome (word_bound n round start piece)
 some_bound zero round start piece h = absurd (omega arith)
-some_bound (suc n) round start piece h = tt
+some_bound (suc n) round start piece h = refl
 
 pub has_words : (f : ElfFile) (o : Options) (blocks : List Block) (plan : Plan) → IsToldOf f o blocks plan → HasWords plan
 has_words f o blocks plan told = record {
@@ -44,3 +45,8 @@ input_reads input output o plan t = record { file = t.woven.file.file; read = t.
 
 pub output_reads : (input output : List ℕ) (o : Options) (plan : Plan) → Transforms input o output plan → IsReadable output
 output_reads input output o plan t = record { file = file_read t.woven.out; read = t.reads }
+
+-- an output is no error
+pub never_error : {A : Type 0} (made : A) (e : TransformError) → IsErrorOr (Ok made) e → ⊥
+never_error made e (inl same) = cc
+never_error made e (inr same) = cc
