@@ -55,19 +55,11 @@ fn file(alloc: Global, address: u64) -> Result<ElfFile, AllocError>
     })
 }
 
-/// The world of two such files.
-fn pair(alloc: Global) -> Result<World, HartsError>
-    ensures { IfOk result (λ world. length world.world.harts ≡ 2) }
-{
-    let files = [file(alloc, FIRST)?, file(alloc, SECOND)?];
-    let world = World::start(alloc, &files)?;
-    Ok(world)
-}
-
 #[test]
 fn turns_go_round(rt: HostRuntime) -> Result<(), Fail> {
     let alloc = rt.alloc();
-    let mut world = pair(alloc)?;
+    let files = [file(alloc, FIRST)?, file(alloc, SECOND)?];
+    let mut world = World::start(alloc, &files)?;
     world.play(&[0, 0, 1], 8)?;
     assert_eq!(rt; (world.outcome(0), world.steps(0)), (Outcome::Ended, 4));
     assert_eq!(rt; (world.outcome(1), world.steps(1)), (Outcome::Going, 2));
@@ -80,7 +72,8 @@ fn turns_go_round(rt: HostRuntime) -> Result<(), Fail> {
 #[test]
 fn one_hart_is_struck(rt: HostRuntime) -> Result<(), Fail> {
     let alloc = rt.alloc();
-    let mut world = pair(alloc)?;
+    let files = [file(alloc, FIRST)?, file(alloc, SECOND)?];
+    let mut world = World::start(alloc, &files)?;
     let x9 = Reg::new(9).ok_or("a register")?;
     world.strike(1, &Place::Reg(x9), 3)?;
     assert_eq!(rt; (world.reg(0, x9), world.reg(1, x9)), (0, 3));
@@ -99,8 +92,8 @@ fn the_least_pair_is_told(rt: HostRuntime) -> Result<(), Fail> {
         file(alloc, SECOND)?,
         file(alloc, FIRST)?,
         file(alloc, FIRST + 4095)?,
+        file(alloc, FIRST)?,
     ];
-    let world = World::start(alloc, &files);
-    assert!(rt; matches!(world, Err(HartsError::Shared(1, 2))));
+    assert!(rt; matches!(World::start(alloc, &files), Err(HartsError::Shared(1, 2))));
     Ok(())
 }
