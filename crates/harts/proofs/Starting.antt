@@ -1,10 +1,12 @@
 -- The world that files start.
-use Rattle.std.proofs.Common.{◌≡◌, ℕ, List, [], ◌∷◌, refl, ap, ◌∙◌, sym, subst}
+use Rattle.std.proofs.Common.{◌≡◌, ℕ, List, [], ◌∷◌, length, refl, ap, ◌∙◌, sym, subst}
 use Rattle.std.specs.Prelude.{map}
+use Rattle.std.proofs.lemmas.List.{length-map}
 use Rattle.elf_types.specs.declared.file.ElfFile.{ElfFile}
 use Rattle.qed_model.specs.Machine.Apart.{AllFitMemory, AreApart}
 use Rattle.qed_model.specs.Machine.Memory.{Memory}
 use Rattle.qed_model.specs.Machine.Program.{LoadSegment, memory_of}
+use Rattle.qed_model.specs.Machine.Loading.{loaded_file}
 use Rattle.rv_step.specs.Harts.{HartState}
 use Rattle.harts.specs.Harts.{all_segments, begin}
 use Rattle.harts.specs.HartSteps.{Counted, bare, counted, counted_start}
@@ -33,6 +35,10 @@ world_started files hs m ss h is e =
     (ap (λ x. map bare x) h ∙ harts_started files)
     (is ∙ ap memory_of e)
     (ap (λ x. map (λ y. y.steps) x) h ∙ steps_started files)
+
+-- a hart for each file
+pub length_started : (files : List ElfFile) → length (counted_start (programs files)).world.harts ≡ length files
+length_started files = length-map (programs files) _ ∙ length-map files loaded_file
 
 -- all segments make one memory
 pub all_fit : (files : List ElfFile) (ss : List LoadSegment) → AreSound (programs files) → AreUnshared (programs files) → ss ≡ all_segments (programs files) → AllFitMemory ss

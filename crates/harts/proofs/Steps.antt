@@ -6,13 +6,15 @@ use Rattle.std.specs.FinMap.{get}
 use Rattle.std.proofs.lemmas.Bool.{eqb-true, eqb-false}
 use Rattle.std.proofs.lemmas.Option.{slice_get-map}
 use Rattle.qed_model.specs.declared.change.Change.{Change}
+use Rattle.qed_model.specs.declared.change.Place.{Place}
+use Rattle.qed_model.specs.Machine.Struck.{struck}
 use Rattle.qed_model.specs.Machine.Step.{State, step}
 use Rattle.qed_model.specs.Machine.Progress.{Progress, steps_after, advanced, progress, begun}
 use Rattle.qed_model.specs.Promise.Changed.{with_changes, changed_run}
 use Rattle.qed_model.specs.Machine.Program.{Program, start, zeros}
 use Rattle.harts.specs.Harts.{state_of, Hart, World, hart_of, made_of, on_hart, begin, hart_turns, with_first, count, turned, world_after}
 use Rattle.harts.specs.Together.{IsProgram, own_run, AreAlone}
-use Rattle.harts.specs.HartSteps.{counted_start, Counted, steps_turned, counted_turns, steps_after_turns, counted_after, own_steps, ShowsCounted}
+use Rattle.harts.specs.HartSteps.{counted_strike, counted_start, Counted, steps_turned, counted_turns, steps_after_turns, counted_after, own_steps, ShowsCounted}
 use Rattle.harts.proofs.Turns.{set_here, set_there}
 use Rattle.harts.proofs.Together.{turns_here, turns_there, earlier, stand_after, together}
 
@@ -138,6 +140,11 @@ length_made (Some h) i f w = length-set w.harts i (hart_of (f (state_of h w.memo
 pub length_turned : (i : ℕ) (w : World) → length (turned i w).harts ≡ length w.harts
 unfolding on_hart
 length_turned i w = length_made (slice_get w.harts i) i step w
+
+-- and in a change
+pub length_struck : (i : ℕ) (p : Place) (x : ℕ) (c : Counted) → length (counted_strike i p x c).world.harts ≡ length c.world.harts
+unfolding on_hart
+length_struck i p x c = length_made (slice_get c.world.harts i) i (struck p x) c.world
 
 -- and in all turns of a schedule
 pub length_turns : (c : Counted) (ts : List ℕ) → length (counted_turns c ts).world.harts ≡ length c.world.harts

@@ -43,6 +43,7 @@ impl World {
     pub fn start(alloc: Global, files: &[ElfFile]) -> Result<World, HartsError>
         requires { AreSound (programs files.now) }
         ensures started { IfOk result (λ world. world ≡ counted_start (programs files.now)) }
+        ensures count { IfOk result (λ world. length world.world.harts ≡ length files.now) }
         ensures apart { IfOk result (λ _. AreUnshared (programs files.now)) }
         ensures error { IfErr result (Explains (programs files.now)) }
     {
@@ -64,6 +65,7 @@ impl World {
         requires { hart < length self.old.world.harts }
         ensures turned { IfOk result (λ _. self.new ≡ counted_turn hart self.old) }
         ensures outcome { IfOk result (λ o. option_map (λ h. h.outcome) (slice_get self.new.world.harts hart) ≡ Some o) }
+        ensures count { length self.new.world.harts ≡ length self.old.world.harts }
 
         // Where there is no memory for a page, nothing changes.
         ensures kept { IfErr result (λ _. self.new ≡ self.old) }
@@ -77,6 +79,7 @@ impl World {
         requires some { 0 < length harts.now }
         requires harts { (k : ℕ) → k < length harts.now → slice_index harts.now k < length self.old.world.harts }
         ensures played { IfOk result (λ _. self.new ≡ counted_turns self.old (cycled harts.now n)) }
+        ensures count { length self.new.world.harts ≡ length self.old.world.harts }
 
         // Where there is no memory for a page, the turns before were made.
         ensures part { IfErr result (λ _. IsPartPlayed self.old harts.now n self.new) }
@@ -93,6 +96,7 @@ impl World {
     pub fn strike(&mut self, hart: u64, place: &Place, value: u64) -> Result<(), AllocError>
         requires { hart < length self.old.world.harts }
         ensures struck { IfOk result (λ _. self.new ≡ counted_strike hart place.now value self.old) }
+        ensures count { length self.new.world.harts ≡ length self.old.world.harts }
         ensures kept { IfErr result (λ _. self.new ≡ self.old) }
     {
         match *place {

@@ -1,5 +1,6 @@
-use Rattle.std.proofs.Common.{◌≡◌, ap, ◌∙◌, arith}
+use Rattle.std.proofs.Common.{◌≡◌, length, ap, ◌∙◌, arith}
 use Rattle.harts.specs.HartSteps.{counted_turns, cycled}
+use Rattle.harts.proofs.Steps.{length_turns}
 use Rattle.harts.proofs.Playing.{none_played, more_played, there_still, any_err}
 use Rattle.harts.proofs.world.World.play.Goals as goal
 
@@ -17,3 +18,9 @@ returns-clause-played c = let e : c.loop-k.k ≡ c.args.n = omega arith in c.loo
 
 pub returns-in_err-turn-clause-part : goal.returns-in_err-turn-clause-part
 returns-in_err-turn-clause-part c = any_err c.from_residual.result _ (record { count = c.loop-k.k; most = omega arith; made = c.in_err-turn.ensures.kept ∙ c.loop-k.invariant })
+
+pub returns-clause-count : goal.returns-clause-count
+returns-clause-count c = ap (λ w. length w.world.harts) (returns-clause-played c) ∙ length_turns c.args.self.now (cycled c.args.harts.now c.args.n)
+
+pub returns-in_err-turn-clause-count : goal.returns-in_err-turn-clause-count
+returns-in_err-turn-clause-count c = ap (λ w. length w.world.harts) (c.in_err-turn.ensures.kept ∙ c.loop-k.invariant) ∙ length_turns c.args.self.now (cycled c.args.harts.now c.loop-k.k)

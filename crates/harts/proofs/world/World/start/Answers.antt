@@ -1,8 +1,8 @@
-use Rattle.std.proofs.Common.{◌≡◌, ap, ◌∙◌, subst}
+use Rattle.std.proofs.Common.{◌≡◌, length, ap, ◌∙◌, subst}
 use Rattle.mem_image.specs.Overlap.{segments_of, IsLeast, Explains}
 use Rattle.harts.specs.Harts.{all_segments}
 use Rattle.harts.specs.Played.{programs}
-use Rattle.harts.proofs.Starting.{all_fit, all_apart, world_started}
+use Rattle.harts.proofs.Starting.{all_fit, all_apart, world_started, length_started}
 use Rattle.harts.proofs.world.World.start.Goals as goal
 
 pub make-requires : goal.make-requires
@@ -16,3 +16,6 @@ unreachable-requires c =
 
 pub returns-clause-started : goal.returns-clause-started
 returns-clause-started c = world_started c.args.files.now c.in_ok-harts.harts.items c.in-Ok.image (segments_of c.deref.result.now) c.in_ok-harts.ensures c.in-Ok.ensures.made (ap segments_of c.deref.ensures.value ∙ c.in_ok-specs.ensures)
+
+pub returns-clause-count : goal.returns-clause-count
+returns-clause-count c = ap (λ w. length w.world.harts) (returns-clause-started c) ∙ length_started c.args.files.now
