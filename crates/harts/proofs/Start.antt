@@ -1,12 +1,11 @@
 -- The world at its start: the memory has the bytes of each file.
-use Rattle.std.proofs.Common.{◌≡◌, ◌≢◌, ℕ, zero, suc, Bool, true, false, List, [], ◌∷◌, ◌++◌, is_some, refl, sym, ap, ◌∙◌, subst, arith, append_assoc}
-use Rattle.std.specs.Prelude.{replicate, ◌-◌, length}
+use Rattle.std.proofs.Common.{◌≡◌, ◌≢◌, ℕ, zero, suc, Bool, true, false, List, [], ◌∷◌, is_some, refl, sym, ap, ◌∙◌, subst, arith}
+use Rattle.std.specs.Prelude.{◌-◌}
 use Rattle.std.specs.Option.{option_map}
 use Rattle.std.specs.FinMap.{get, find}
 use Rattle.std.specs.Ordering.{nat_cmp}
 use Rattle.std.proofs.lemmas.Option.{slice_get-map}
-use Rattle.qed_model.specs.Machine.Memory.{cells_from}
-use Rattle.qed_model.specs.Machine.Program.{Program, LoadSegment, cells_of, memory_of, start, zeros}
+use Rattle.qed_model.specs.Machine.Program.{Program, cells_of, memory_of, start, zeros}
 use Rattle.qed_model.specs.Promise.Kept.{is_mapped}
 use Rattle.qed_model.proofs.SegmentCells.{cells_of-append}
 use Rattle.harts.specs.Harts.{hart_of, all_segments, begin}

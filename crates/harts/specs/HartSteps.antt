@@ -6,10 +6,10 @@ use Rattle.qed_model.specs.Machine.Memory.{Memory}
 use Rattle.qed_model.specs.Machine.Struck.{struck}
 use Rattle.qed_model.specs.Promise.Changed.{changed_run}
 use Rattle.qed_model.specs.Machine.Progress.{steps_after, begun, progress}
-use Rattle.qed_model.specs.Machine.Step.{State, step}
+use Rattle.qed_model.specs.Machine.Step.{State}
 use Rattle.qed_model.specs.Machine.Program.{Program, start, zeros}
 use Rattle.rv_step.specs.Harts.{HartState}
-use Rattle.harts.specs.Harts.{Hart, World, state_of, hart_of, begin, turned, on_hart, with_due, hart_turns, world_after}
+use Rattle.harts.specs.Harts.{Hart, World, begin, turned, on_hart, hart_turns, world_after}
 use Rattle.harts.specs.Together.{IsProgram, AreAlone, Shows, own_run}
 
 -- ---- all harts

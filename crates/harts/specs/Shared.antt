@@ -1,5 +1,5 @@
 -- Files of which segments share a byte, and what is known where none do.
-use Rattle.std.specs.Prelude.{◌≡◌, ℕ, ◌<◌, ◌≤◌, ◌⊎◌, Bool, true, List, [], ◌∷◌, Some}
+use Rattle.std.specs.Prelude.{◌≡◌, ℕ, ◌<◌, ◌≤◌, ◌⊎◌, Bool, true, List, [], ◌∷◌}
 use Rattle.std.specs.List.{list_any}
 use Rattle.qed_model.specs.Machine.Program.{Program, LoadSegment}
 use Rattle.harts.specs.Harts.{all_segments}
