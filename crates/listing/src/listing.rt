@@ -66,7 +66,13 @@ fn push_range(
         return Ok(());
     }
     let segment = home(segments, range);
-    push_words(alloc, text, segment, start as u64, ((end - start) / 4) as u64)?;
+    push_words(
+        alloc,
+        text,
+        segment,
+        start as u64,
+        ((end - start) / 4) as u64,
+    )?;
     Ok(())
 }
 
