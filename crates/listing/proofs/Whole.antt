@@ -1,5 +1,5 @@
 -- The words of ranges in the order of their starts are all words of the ranges, in ascending order.
-use Rattle.std.proofs.Common.{◌≡◌, ◌⊎◌, inl, inr, ⊎_elim, ℕ, zero, suc, ◌+◌, ◌-◌, ◌*◌, ◌/◌, ◌%◌, ◌<◌, ◌≤◌, max, Bool, true, false, ◌&&◌, ◌||◌, List, [], ◌∷◌, ◌++◌, length, get_or, refl, sym, ap, ◌∙◌, subst, arith}
+use Rattle.std.proofs.Common.{◌≡◌, inl, inr, ⊎_elim, ℕ, zero, suc, ◌+◌, ◌-◌, ◌*◌, ◌/◌, ◌%◌, ◌<◌, ◌≤◌, max, Bool, true, ◌&&◌, ◌||◌, List, [], ◌∷◌, ◌++◌, length, get_or, refl, sym, ap, ◌∙◌, subst, arith}
 use Rattle.std.specs.Prelude.{nat_le, ◌==◌, AllPairs}
 use Rattle.std.specs.List.{list_any}
 use Rattle.std.specs.List.Sorted.{IsPermutation, IsNonDecreasingBy}
@@ -11,7 +11,7 @@ use Rattle.code_ranges.specs.Ranges.{span, spans}
 use Rattle.qed_model.specs.Machine.Step.{in_range}
 use Rattle.qed_model.specs.Admission.CodeWords.{ranges_of, word_at}
 use Rattle.qed_model.proofs.Among.{Among, among_of, contains_of, among-left, among-right, among-either}
-use Rattle.listing.specs.Listing.{has_word, lines, AreWordAddresses, IsListing}
+use Rattle.listing.specs.Listing.{lines, AreWordAddresses, IsListing}
 use Rattle.listing.specs.Addresses.{from_on, up, down, words_of, addresses}
 
 -- ---- in ascending order

@@ -1,5 +1,4 @@
 //! The lines of small files.
-ghost use Rattle.std.specs.Prelude.{◌≡◌, ◌+◌, ◌*◌, ◌≤◌, IfOk, length};
 
 use elf_read::read_elf;
 use elf_types::Bytes;
