@@ -1,5 +1,5 @@
 -- A text that assembles has no fault.
-use Rattle.std.proofs.Common.{◌≡◌, ◌≢◌, ℕ, ◌-◌, ◌<◌, ◌≤◌, List, [], length, true, refl, arith, ap}
+use Rattle.std.proofs.Common.{◌≡◌, ◌≢◌, ℕ, ◌-◌, List, length, true, refl, arith, ap}
 use Rattle.std.specs.Prelude.{is_ok, Result, Ok, Err}
 use Rattle.rv_asm.specs.declared.error.AsmError.{AsmError}
 use Rattle.rv_asm.specs.declared.error.AsmError.TheVariants as error

@@ -4,7 +4,7 @@
 
 mod answer;
 mod asm;
-mod campaign;
+mod campaigns;
 mod decide;
 mod fault;
 mod generated;

@@ -7,7 +7,7 @@ ghost use Rattle.qed_top.specs.Orders.{AnswersOver, IsUsage, source_limit as sou
 
 use crate::answer::{Answer, plain};
 use crate::asm::answer_asm;
-use crate::campaign::answer_campaign;
+use crate::campaigns::answer_campaign;
 use crate::generated::answer_gen;
 use crate::list::answer_list;
 use crate::make::{answer_plan, answer_transform};
