@@ -1,5 +1,5 @@
 #!/usr/bin/env python3
-"""Makes src/texts.rt and src/file.rt, the tables of this crate's tests.
+"""Makes src/tables.rt and src/file.rt, the tables of this crate's tests.
 
 Nothing in them comes from this repository's programs. This is an assembler of its own, written from
 the instruction listings of the RISC-V unprivileged manual, from the rules for texts and from the
@@ -428,7 +428,7 @@ def file_table():
 
 
 check_with_gnu()
-with open("src/texts.rt", "w") as out:
+with open("src/tables.rt", "w") as out:
     out.write("//! Texts, each with what it gives: its words, data words and labels, or the first fault and its line.\n//! Made by `make_tables.py`.\n\n")
     out.write(table("INSTRUCTIONS", "One instruction of each row.", INSTRUCTIONS) + "\n")
     out.write(table("GOOD", "Texts without a fault.", GOOD) + "\n")

@@ -8,6 +8,6 @@ mod full;
 #[cfg(test)]
 mod listing;
 #[cfg(test)]
-mod texts;
+mod tables;
 #[cfg(test)]
 mod written;

@@ -1,6 +1,6 @@
 //! What texts give, as one line each.
 
-use crate::texts::{FAULTY, GOOD, INSTRUCTIONS};
+use crate::tables::{FAULTY, GOOD, INSTRUCTIONS};
 use rv_asm::{AsmError, Fault, Program, assemble, program_of};
 use std::alloc::{AllocError, Global};
 use std::process::Abort;
