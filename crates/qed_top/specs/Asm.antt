@@ -2,7 +2,7 @@
 use Rattle.std.specs.Prelude.{◌≡◌, ◌≢◌, ℕ, List, length, IsSomeAnd}
 use Rattle.report.specs.Assembly.{asm_error_line, assembly_line}
 use Rattle.rv_asm.specs.declared.error.AsmError.{AsmError}
-use Rattle.rv_asm.specs.declared.error.AsmError.TheVariants as error
+use Rattle.rv_asm.specs.declared.error.AsmError.TheVariants as errors
 use Rattle.rv_asm.specs.Assembled.{Assembled, IsRefused}
 use Rattle.rv_asm.specs.Counted.{code_words, data_words}
 use Rattle.qed_top.specs.Answer.{PrintsOnly}
@@ -14,7 +14,7 @@ use Rattle.qed_top.specs.declared.status.Status.TheVariants.{Done, Refused}
 pub record IsFaulty (text : List ℕ) (answer : Answer) : Type 0 where
   pub error : AsmError
   pub cause : IsRefused text error
-  pub known : error ≢ error.Memory
+  pub known : error ≢ errors.Memory
   pub plain : PrintsOnly Refused (asm_error_line error) answer
 
 -- the file is stored as OUT, and the numbers of its words are printed
@@ -32,5 +32,5 @@ pub data Assembles (text output : List ℕ) (answer : Answer) : Type 0 where
 
 -- the status, by what is true of the text
 pub data AsmDecides (text : List ℕ) (status : Status) : Type 0 where
-  has_fault : (e : AsmError) → IsRefused text e → e ≢ error.Memory → status ≡ Refused → AsmDecides text status
+  has_fault : (e : AsmError) → IsRefused text e → e ≢ errors.Memory → status ≡ Refused → AsmDecides text status
   is_file : (file : List ℕ) → Assembled text file → status ≡ Done → AsmDecides text status

@@ -1,5 +1,5 @@
 //! What `gen` answers.
-ghost use Rattle.std.specs.Prelude.{IfOk, ◌≤◌};
+ghost use Rattle.std.specs.Prelude.{◌≡◌, ◌≤◌, IfOk};
 ghost use Rattle.elf_read.specs.Known.{IsReadable};
 ghost use Rattle.qed_model.specs.Options.{default_options};
 ghost use Rattle.test_gen.specs.Generated.{generated};
