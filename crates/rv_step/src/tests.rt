@@ -5,9 +5,11 @@ ghost use Rattle.qed_model.specs.Machine.Apart.{AllFitMemory, AreApart};
 
 use crate::{Hart, Machine};
 use elf_types::{Bytes, ElfFile, Listed, Segment};
+use mem_image::Image;
 use qed_model::{Cause, Outcome, Place};
 use rv_isa::{Kind, Reg};
 use std::alloc::{AllocError, Global};
+use std::process::Abort;
 use std::test::Fail;
 
 /// Where the code begins, and the data.
@@ -86,7 +88,7 @@ const ENDED: Case = Case {
 };
 
 /// A load of the word of data into x9, by each kind of load, and the ends of jumps, branches, stores and traps.
-const CASES: [Case; 20] = [
+static CASES: [Case; 20] = [
     ENDED,
     // addi x10,x0,7; add x11,x10,x10
     Case {
@@ -248,66 +250,108 @@ const CASES: [Case; 20] = [
     },
 ];
 
-#[test]
-fn programs_end_as_the_manual_says(rt: HostRuntime) -> Result<(), Fail> {
-    let alloc = rt.alloc();
-    for case in CASES {
-        let file = file(alloc, case.code, &case.data)?;
-        let mut machine = Machine::start(alloc, &file, &[0; 32])?;
-        let outcome = machine.run(100)?;
-        assert_eq!(rt; outcome, case.outcome, "{case:?}");
-        assert_eq!(rt; machine.outcome(), case.outcome, "{case:?}");
-        assert_eq!(rt; machine.pc(), case.pc, "{case:?}");
-        assert_eq!(rt; machine.steps(), case.steps, "{case:?}");
-        let register = Reg::new(case.register).ok_or("a register")?;
+/// The machine of a file with this code and these words of data.
+fn machine(alloc: Global, code: &[u32], words: &[u32], regs: u64) -> Result<Machine, AllocError> {
+    let file = file(alloc, code, words)?;
+    Machine::start(alloc, &file, &[regs; 32])
+}
+
+fn run_case<R: Abort>(rt: &R, alloc: Global, case: &Case) -> Result<(), AllocError> {
+    let mut machine = machine(alloc, case.code, &case.data, 0)?;
+    let outcome = machine.run(100)?;
+    assert_eq!(rt; outcome, case.outcome, "{case:?}");
+    assert_eq!(rt; machine.outcome(), case.outcome, "{case:?}");
+    assert_eq!(rt; machine.pc(), case.pc, "{case:?}");
+    assert_eq!(rt; machine.steps(), case.steps, "{case:?}");
+    if let Some(register) = Reg::new(case.register) {
         assert_eq!(rt; machine.reg(register), case.value, "{case:?}");
     }
     Ok(())
 }
 
 #[test]
-fn a_machine_is_struck_and_copied(rt: HostRuntime) -> Result<(), Fail> {
-    let alloc = rt.alloc();
-    // lui x8,0x20; ld x9,0(x8); ecall
-    let file = file(alloc, &[DATA_TO_X8, 0x0004_3483, ECALL], &[5, 0])?;
-    let mut machine = Machine::start(alloc, &file, &[7; 32])?;
-    let x0 = Reg::new(0).ok_or("a register")?;
-    let x9 = Reg::new(9).ok_or("a register")?;
-    assert_eq!(rt; (machine.reg(x0), machine.reg(x9)), (0, 7));
-    assert_eq!(rt; machine.step()?, Outcome::Going);
+fn programs_end_as_the_manual_says(rt: HostRuntime) -> Result<(), Fail> {
+    for case in &CASES {
+        run_case(&rt, rt.alloc(), case)?;
+    }
+    Ok(())
+}
+
+/// What stands before a load, after a step.
+fn look<R: Abort>(rt: &R, machine: &mut Machine) -> Result<(), AllocError> {
+    let outcome = machine.step()?;
+    assert_eq!(rt; outcome, Outcome::Going);
     assert!(rt; machine.next().is_some_and(|ins| ins.kind == Kind::Ld));
     assert!(rt; machine.ahead(4).is_some_and(|ins| ins.kind == Kind::Ecall));
     assert!(rt; machine.ahead(2).is_none());
-    let mut copy = machine.copy(alloc)?;
-    copy.strike(&Place::Word(DATA), 0x0807_0605_0403_0201)?;
-    assert_eq!(rt; copy.byte(DATA + 7), Some(8));
-    assert_eq!(rt; copy.byte(CODE - 1), None);
-    copy.run(1)?;
-    assert_eq!(rt; copy.reg(x9), 0x0807_0605_0403_0201);
-    machine.strike(&Place::Reg(x9), 3)?;
-    assert_eq!(rt; machine.reg(x9), 3);
+    Ok(())
+}
+
+/// A word of a machine is struck, and then loaded.
+fn strike_word<R: Abort>(rt: &R, machine: &mut Machine, loaded: Reg) -> Result<(), AllocError> {
+    machine.strike(&Place::Word(DATA), 0x0807_0605_0403_0201)?;
+    assert_eq!(rt; machine.byte(DATA + 7), Some(8));
+    assert_eq!(rt; machine.byte(CODE - 1), None);
     machine.run(1)?;
-    assert_eq!(rt; machine.reg(x9), 5);
+    assert_eq!(rt; machine.reg(loaded), 0x0807_0605_0403_0201);
+    Ok(())
+}
+
+/// A register of a machine is struck, and then written by a load.
+fn strike_register<R: Abort>(rt: &R, machine: &mut Machine, r: Reg) -> Result<(), AllocError> {
+    machine.strike(&Place::Reg(r), 3)?;
+    assert_eq!(rt; machine.reg(r), 3);
+    machine.run(1)?;
+    assert_eq!(rt; machine.reg(r), 5);
+    Ok(())
+}
+
+fn strike_copy<R: Abort>(
+    rt: &R,
+    alloc: Global,
+    machine: &Machine,
+    r: Reg,
+) -> Result<(), AllocError> {
+    let mut copy = machine.copy(alloc)?;
+    strike_word(rt, &mut copy, r)
+}
+
+#[test]
+fn a_machine_is_struck_and_copied(rt: HostRuntime) -> Result<(), Fail> {
+    let x9 = Reg::new(9).ok_or("a register")?;
+    // lui x8,0x20; ld x9,0(x8); ecall
+    let mut machine = machine(rt.alloc(), &[DATA_TO_X8, 0x0004_3483, ECALL], &[5, 0], 7)?;
+    assert_eq!(rt; machine.reg(x9), 7);
+    look(&rt, &mut machine)?;
+    strike_copy(&rt, rt.alloc(), &machine, x9)?;
+    strike_register(&rt, &mut machine, x9)?;
+    Ok(())
+}
+
+/// Three steps of a hart, of which the second stores a 5.
+fn store<R: Abort>(rt: &R, hart: &mut Hart, image: &mut Image) -> Result<(), AllocError> {
+    let first = hart.step(image)?;
+    let second = hart.step(image)?;
+    assert_eq!(rt; (first, second), (Outcome::Going, Outcome::Going));
+    let third = hart.step(image)?;
+    assert_eq!(rt; (third, hart.outcome()), (Outcome::Ended, Outcome::Ended));
+    assert_eq!(rt; (hart.pc(), hart.steps()), (CODE + 8, 3));
     Ok(())
 }
 
 #[test]
 fn a_hart_steps_in_the_memory_of_another(rt: HostRuntime) -> Result<(), Fail> {
-    let alloc = rt.alloc();
-    // lui x8,0x20; sd x9,0(x8); ecall
-    let file = file(alloc, &[DATA_TO_X8, 0x0094_3023, ECALL], &[7, 7])?;
-    let mut machine = Machine::start(alloc, &file, &[0; 32])?;
-    let mut hart = Hart::start(alloc, &file, &[0; 32])?;
     let x9 = Reg::new(9).ok_or("a register")?;
+    // lui x8,0x20; sd x9,0(x8); ecall
+    let file = file(rt.alloc(), &[DATA_TO_X8, 0x0094_3023, ECALL], &[7, 7])?;
+    let mut machine = Machine::start(rt.alloc(), &file, &[0; 32])?;
+    let mut hart = Hart::start(rt.alloc(), &file, &[0; 32])?;
     hart.set(x9, 5);
-    assert_eq!(rt; hart.step(&mut machine.image)?, Outcome::Going);
-    assert_eq!(rt; hart.step(&mut machine.image)?, Outcome::Going);
+    store(&rt, &mut hart, &mut machine.image)?;
+    assert_eq!(rt; (hart.reg(x9), machine.steps()), (5, 0));
     assert_eq!(rt;
         (machine.byte(DATA), machine.byte(DATA + 4)),
         (Some(5), Some(0))
     );
-    assert_eq!(rt; hart.step(&mut machine.image)?, Outcome::Ended);
-    assert_eq!(rt; (hart.reg(x9), hart.pc(), hart.steps()), (5, CODE + 8, 3));
-    assert_eq!(rt; (hart.outcome(), machine.steps()), (Outcome::Ended, 0));
     Ok(())
 }
