@@ -1,9 +1,11 @@
 //! Strikes that are drawn from a seed, and campaigns of them. The tables are those of an independent program.
 
-use crate::samples::{At, NO_END, SUMS, SUMS_BY_TWO};
-use qed_model::{Change, Verdict};
+use crate::samples::{At, NO_END, SUMS, SUMS_BY_TWO, Sample};
+use qed_model::{Change, Struck, Verdict};
+use std::alloc::Global;
 use std::process::Abort;
 use std::test::Fail;
+use strikes::Campaign;
 
 /// After how many steps, what is changed, to what, and what that shows.
 type Row = (u64, At, u64, Verdict);
@@ -58,28 +60,36 @@ fn assert_change(
     Ok(())
 }
 
+/// Asserts that a strike is the one of a row, with its verdict.
+fn assert_row(rt: &impl Abort, struck: &Struck, row: &Row) -> Result<(), Fail> {
+    let (step, at, value, verdict) = row;
+    let change = struck.changes.as_slice().first().ok_or("a change")?;
+    assert_change(rt, change, *step, *at, *value)?;
+    assert_eq!(rt; struck.verdict, *verdict);
+    Ok(())
+}
+
+/// The campaign of seed 7.
+fn campaign(alloc: Global, sample: &Sample, count: u64, changes: u64) -> Result<Campaign, Fail> {
+    let course = sample.course(alloc)?;
+    let strikes = course.draw(alloc, 7, count, changes)?;
+    Ok(course.strike_all(alloc, &strikes)?)
+}
+
 #[test]
 fn single_strikes_are_drawn_and_made(rt: HostRuntime) -> Result<(), Fail> {
-    let alloc = rt.alloc();
-    let course = SUMS.course(alloc)?;
-    let strikes = course.draw(alloc, 7, ROWS.len() as u64, 1)?;
-    let campaign = course.strike_all(alloc, &strikes)?;
+    let campaign = campaign(rt.alloc(), &SUMS, 15, 1)?;
     assert_eq!(rt; campaign.trapped, None);
-    assert_eq!(rt; campaign.struck.len(), ROWS.len());
-    for (struck, (step, at, value, verdict)) in campaign.struck.iter().zip(&ROWS) {
-        let change = struck.changes.as_slice().first().ok_or("a change")?;
-        assert_change(&rt, change, *step, *at, *value)?;
-        assert_eq!(rt; struck.verdict, *verdict);
+    assert_eq!(rt; campaign.struck.len(), 15);
+    for (struck, row) in campaign.struck.iter().zip(&ROWS) {
+        assert_row(&rt, struck, row)?;
     }
     Ok(())
 }
 
 #[test]
 fn changes_are_drawn_in_the_order_of_their_steps(rt: HostRuntime) -> Result<(), Fail> {
-    let alloc = rt.alloc();
-    let course = SUMS_BY_TWO.course(alloc)?;
-    let strikes = course.draw(alloc, 7, 3, 3)?;
-    let campaign = course.strike_all(alloc, &strikes)?;
+    let campaign = campaign(rt.alloc(), &SUMS_BY_TWO, 3, 3)?;
     let changes = campaign
         .struck
         .iter()
@@ -92,10 +102,7 @@ fn changes_are_drawn_in_the_order_of_their_steps(rt: HostRuntime) -> Result<(), 
 
 #[test]
 fn a_campaign_stops_where_the_input_traps(rt: HostRuntime) -> Result<(), Fail> {
-    let alloc = rt.alloc();
-    let course = NO_END.course(alloc)?;
-    let strikes = course.draw(alloc, 7, 64, 1)?;
-    let campaign = course.strike_all(alloc, &strikes)?;
+    let campaign = campaign(rt.alloc(), &NO_END, 64, 1)?;
     assert_eq!(rt; campaign.trapped, Some(0x10004));
     assert!(rt; campaign.struck.len() < 64);
     Ok(())

@@ -13,7 +13,10 @@ use strikes::StrikeError;
 type Shown = Result<Verdict, StrikeError>;
 
 /// An input, after how many steps something is changed, what it is, to what, and what that shows.
-const CASES: [(Sample, u64, At, u64, Shown); 15] = [
+type Case = (Sample, u64, At, u64, Shown);
+
+/// Single changes.
+static CASES: [Case; 15] = [
     (STORE, 62, At::X(8), 99, Ok(Verdict::Fired(2))),
     (STORE, 63, At::X(8), 99, Ok(Verdict::Closed)),
     (STORE, 63, At::X(11), 99, Ok(Verdict::Fired(2))),
@@ -44,57 +47,80 @@ const CASES: [(Sample, u64, At, u64, Shown); 15] = [
 ];
 
 /// Asserts what changes show.
-fn assert_shown(rt: &impl Abort, alloc: Global, course: &Course, changes: &[Change], shown: Shown) {
+fn assert_shown<R: Abort>(
+    rt: &R,
+    alloc: Global,
+    course: &Course,
+    changes: &[Change],
+    shown: Shown,
+) {
     assert!(rt; course.is_strike(changes));
     assert_eq!(rt; course.strike(alloc, changes), shown, "{changes:?}");
 }
 
-#[test]
-fn changes_show_what_they_do(rt: HostRuntime) -> Result<(), Fail> {
-    let alloc = rt.alloc();
-    for (sample, step, at, value, shown) in CASES {
-        let course = sample.course(alloc)?;
-        let place = at.place().ok_or("a place")?;
-        assert_shown(&rt, alloc, &course, &[Change { step, place, value }], shown);
-    }
+fn show_case<R: Abort>(rt: &R, alloc: Global, case: &Case) -> Result<(), Fail> {
+    let (sample, step, at, value, shown) = case;
+    let place = at.place().ok_or("a place")?;
+    let change = Change {
+        step: *step,
+        place,
+        value: *value,
+    };
+    let course = sample.course(alloc)?;
+    assert_shown(rt, alloc, &course, &[change], *shown);
     Ok(())
 }
 
 #[test]
+fn changes_show_what_they_do(rt: HostRuntime) -> Result<(), Fail> {
+    for case in &CASES {
+        show_case(&rt, rt.alloc(), case)?;
+    }
+    Ok(())
+}
+
+/// A change of a register.
+fn change(step: u64, register: u8, value: u64) -> Result<Change, Fail> {
+    let place = At::X(register).place().ok_or("a place")?;
+    Ok(Change { step, place, value })
+}
+
+#[test]
 fn two_changes_show_what_they_do_together(rt: HostRuntime) -> Result<(), Fail> {
-    let alloc = rt.alloc();
-    let course = TWO.course(alloc)?;
-    let x5 = At::X(5).place().ok_or("x5")?;
-    let x11 = At::X(11).place().ok_or("x11")?;
-    let first = Change {
-        step: 40,
-        place: x5,
-        value: 1,
-    };
-    let back = Change {
-        step: 41,
-        place: x5,
-        value: 0,
-    };
-    let other = Change {
-        step: 49,
-        place: x11,
-        value: 3,
-    };
-    assert_shown(&rt, alloc, &course, &[first, back], Ok(Verdict::Ended(10)));
-    assert_shown(&rt, alloc, &course, &[first, other], Ok(Verdict::Fired(0)));
+    let first = change(40, 5, 1)?;
+    let back = change(41, 5, 0)?;
+    let other = change(49, 11, 3)?;
+    let course = TWO.course(rt.alloc())?;
+    assert_shown(
+        &rt,
+        rt.alloc(),
+        &course,
+        &[first, back],
+        Ok(Verdict::Ended(10)),
+    );
+    assert_shown(
+        &rt,
+        rt.alloc(),
+        &course,
+        &[first, other],
+        Ok(Verdict::Fired(0)),
+    );
+    Ok(())
+}
+
+#[test]
+fn a_short_run_has_one_copy(rt: HostRuntime) -> Result<(), Fail> {
+    let course = TWO.course(rt.alloc())?;
+    assert_eq!(rt; (course.reach(), course.snapshots()), (51, 1));
+    assert!(rt; course.snapshot(1).is_none());
     Ok(())
 }
 
 #[test]
 fn copies_stand_on_the_way(rt: HostRuntime) -> Result<(), Fail> {
-    let alloc = rt.alloc();
-    let course = TWO.course(alloc)?;
-    assert_eq!(rt; (course.reach(), course.snapshots()), (51, 1));
-    assert!(rt; course.snapshot(1).is_none());
-    let long = ENDLESS.course(alloc)?;
-    assert_eq!(rt; (long.reach(), long.snapshots()), (1_000_000, 245));
-    let last = long.snapshot(244).ok_or("the last")?;
-    assert_eq!(rt; last.steps(), 999_424);
+    let course = ENDLESS.course(rt.alloc())?;
+    assert_eq!(rt; (course.reach(), course.snapshots()), (1_000_000, 245));
+    let steps = course.snapshot(244).map(|last| last.steps());
+    assert_eq!(rt; steps, Some(999_424));
     Ok(())
 }
