@@ -4,7 +4,7 @@ use crate::samples::{
 };
 use campaign::Course;
 use qed_model::{Change, Verdict};
-use std::alloc::{AllocError, Global};
+use std::alloc::Global;
 use std::process::Abort;
 use std::test::Fail;
 use strikes::StrikeError;
@@ -85,26 +85,33 @@ fn change(step: u64, register: u8, value: u64) -> Result<Change, Fail> {
     Ok(Change { step, place, value })
 }
 
-fn pair(alloc: Global, first: Change, second: Change) -> Result<Vec<Change>, AllocError> {
-    let mut changes = Vec::new(alloc);
-    changes.push(first)?;
-    changes.push(second)?;
-    Ok(changes)
-}
-
 #[test]
 fn a_change_that_is_taken_back(rt: HostRuntime) -> Result<(), Fail> {
-    let changes = pair(rt.alloc(), change(40, 5, 1)?, change(41, 5, 0)?)?;
+    let there = change(40, 5, 1)?;
+    let back = change(41, 5, 0)?;
     let course = TWO.course(rt.alloc())?;
-    assert_shown(&rt, rt.alloc(), &course, &changes, Ok(Verdict::Ended(10)));
+    assert_shown(
+        &rt,
+        rt.alloc(),
+        &course,
+        &[there, back],
+        Ok(Verdict::Ended(10)),
+    );
     Ok(())
 }
 
 #[test]
 fn two_changes_show_what_they_do_together(rt: HostRuntime) -> Result<(), Fail> {
-    let changes = pair(rt.alloc(), change(40, 5, 1)?, change(49, 11, 3)?)?;
+    let first = change(40, 5, 1)?;
+    let second = change(49, 11, 3)?;
     let course = TWO.course(rt.alloc())?;
-    assert_shown(&rt, rt.alloc(), &course, &changes, Ok(Verdict::Fired(0)));
+    assert_shown(
+        &rt,
+        rt.alloc(),
+        &course,
+        &[first, second],
+        Ok(Verdict::Fired(0)),
+    );
     Ok(())
 }
 

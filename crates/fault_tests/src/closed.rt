@@ -2,10 +2,14 @@
 
 use crate::samples::{At, LOOP, STORE, Sample};
 use fault_inject::closed;
+use std::alloc::Global;
+use std::process::Abort;
 use std::test::Fail;
 
 /// An output's input, after how many steps, a place, and whether it is closed.
-const CASES: [(Sample, u64, At, bool); 14] = [
+type Case = (Sample, u64, At, bool);
+
+static CASES: [Case; 14] = [
     (STORE, 62, At::X(8), false),
     (STORE, 62, At::X(11), false),
     (STORE, 63, At::X(8), true),
@@ -22,14 +26,19 @@ const CASES: [(Sample, u64, At, bool); 14] = [
     (LOOP, 73, At::X(5), true),
 ];
 
+fn assert_case<R: Abort>(rt: &R, alloc: Global, case: &Case) -> Result<(), Fail> {
+    let (sample, step, at, is_closed) = case;
+    let place = at.place().ok_or("a place")?;
+    let (mut machine, _) = sample.start(alloc)?;
+    machine.run(*step)?;
+    assert_eq!(rt; closed(&machine, &place), *is_closed, "{at:?} at {step}");
+    Ok(())
+}
+
 #[test]
 fn places_are_closed_behind_their_guards(rt: HostRuntime) -> Result<(), Fail> {
-    let alloc = rt.alloc();
-    for (sample, step, at, is_closed) in CASES {
-        let (mut machine, _) = sample.start(alloc)?;
-        machine.run(step)?;
-        let place = at.place().ok_or("a place")?;
-        assert_eq!(rt; closed(&machine, &place), is_closed, "{at:?} at {step}");
+    for case in &CASES {
+        assert_case(&rt, rt.alloc(), case)?;
     }
     Ok(())
 }

@@ -6,6 +6,8 @@ use fault_inject::run_changed;
 use qed_model::{Change, Outcome};
 use rv_isa::Reg;
 use rv_step::Machine;
+use std::alloc::AllocError;
+use std::process::Abort;
 use std::test::Fail;
 
 /// A change of a register, None for a number that none has.
@@ -18,11 +20,9 @@ fn change(step: u64, register: u8, value: u64) -> Option<Change>
 
 #[test]
 fn later_changes_come_behind_earlier_ones(rt: HostRuntime) -> Result<(), Fail> {
-    let alloc = rt.alloc();
-    let (start, _) = TWO.start(alloc)?;
     let there = change(40, 5, 1).ok_or("x5")?;
     let back = change(41, 5, 0).ok_or("x5")?;
-    let mut machine = start.copy(alloc)?;
+    let (mut machine, _) = TWO.start(rt.alloc())?;
     let outcome = run_changed(&mut machine, &[there, back], 1000)?;
     assert_eq!(rt; outcome, Outcome::Ended);
     assert_eq!(rt; (machine.steps(), machine.pc()), (51, 0x13100));
@@ -31,25 +31,24 @@ fn later_changes_come_behind_earlier_ones(rt: HostRuntime) -> Result<(), Fail> {
 
 #[test]
 fn nothing_is_changed_behind_a_check(rt: HostRuntime) -> Result<(), Fail> {
-    let alloc = rt.alloc();
-    let (mut machine, _) = TWO.start(alloc)?;
     let first = change(40, 5, 1).ok_or("x5")?;
     let second = change(49, 11, 3).ok_or("x11")?;
+    let x11 = Reg::new(11).ok_or("x11")?;
+    let (mut machine, _) = TWO.start(rt.alloc())?;
     let outcome = run_changed(&mut machine, &[first, second], 1000)?;
     assert_eq!(rt; outcome, Outcome::Fired);
     assert_eq!(rt; (machine.steps(), machine.pc()), (43, 0x130bc));
-    let x11 = Reg::new(11).ok_or("x11")?;
     assert_eq!(rt; machine.reg(x11), 14);
     Ok(())
 }
 
 #[test]
 fn a_register_that_is_written_again_is_as_before(rt: HostRuntime) -> Result<(), Fail> {
-    let (mut machine, _) = TWO.start(rt.alloc())?;
     let early = change(33, 10, 1).ok_or("x10")?;
+    let x11 = Reg::new(11).ok_or("x11")?;
+    let (mut machine, _) = TWO.start(rt.alloc())?;
     let outcome = run_changed(&mut machine, &[early], 1000)?;
     assert_eq!(rt; outcome, Outcome::Ended);
-    let x11 = Reg::new(11).ok_or("x11")?;
     assert_eq!(rt; (machine.steps(), machine.reg(x11)), (51, 14));
     Ok(())
 }
@@ -70,22 +69,34 @@ fn same_word(one: &Machine, other: &Machine, address: u64) -> bool {
     (0..8).all(|i| { one.byte(address.wrapping_add(i)) == other.byte(address.wrapping_add(i)) })
 }
 
-#[test]
-fn a_word_that_is_stored_over_is_as_before(rt: HostRuntime) -> Result<(), Fail> {
-    let alloc = rt.alloc();
-    let (mut machine, plan) = WORD_STORED.start(alloc)?;
-    let steps = plan.bounds.word.ok_or("a bound")?;
-    let mut struck = machine.copy(alloc)?;
-    let change = Change {
-        step: 51,
-        place: At::Word(0x20000).place().ok_or("a word")?,
-        value: 0x101,
-    };
-    run_changed(&mut struck, &[change], 51)?;
-    machine.run(51)?;
-    assert!(rt; !same_word(&machine, &struck, 0x20000));
+/// Runs both machines, the second with a change of a word, to where the word differs, and so many steps on.
+fn run_both<R: Abort>(
+    rt: &R,
+    machine: &mut Machine,
+    struck: &mut Machine,
+    change: Change,
+    steps: u64,
+) -> Result<(), AllocError> {
+    machine.run(change.step)?;
+    run_changed(struck, &[change], change.step)?;
+    assert!(rt; !same_word(machine, struck, 0x20000));
     machine.run(steps)?;
     struck.run(steps)?;
+    Ok(())
+}
+
+#[test]
+fn a_word_that_is_stored_over_is_as_before(rt: HostRuntime) -> Result<(), Fail> {
+    let place = At::Word(0x20000).place().ok_or("a word")?;
+    let change = Change {
+        step: 51,
+        place,
+        value: 0x101,
+    };
+    let (mut machine, plan) = WORD_STORED.start(rt.alloc())?;
+    let steps = plan.bounds.word.unwrap_or(0);
+    let mut struck = machine.copy(rt.alloc())?;
+    run_both(&rt, &mut machine, &mut struck, change, steps)?;
     assert_eq!(rt;
         (struck.outcome(), struck.pc()),
         (machine.outcome(), machine.pc())

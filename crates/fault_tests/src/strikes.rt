@@ -32,7 +32,7 @@ struct Case {
     strikes: &'static [Strike],
 }
 
-const CASES: [Case; 12] = [
+static CASES: [Case; 12] = [
     Case {
         sample: TWO,
         told: (264, 0),
@@ -197,8 +197,8 @@ fn assert_case(rt: &impl Abort, alloc: Global, case: &Case) -> Result<(), Fail> 
 
 #[test]
 fn checks_fire(rt: HostRuntime) -> Result<(), Fail> {
-    for case in CASES {
-        assert_case(&rt, rt.alloc(), &case)?;
+    for case in &CASES {
+        assert_case(&rt, rt.alloc(), case)?;
     }
     Ok(())
 }
