@@ -43,7 +43,7 @@ static CASES: [Case; 15] = [
     (TWO, 0, At::X(5), 5, Ok(Verdict::Ended(51))),
     (TWO, 60, At::X(5), 5, Ok(Verdict::NotReached)),
     (NO_END, 0, At::X(5), 5, Err(StrikeError::Trapped(0x10004))),
-    (ENDLESS, 9000, At::Word(0x20000), 1, Ok(Verdict::Fired(11))),
+    (ENDLESS, 8800, At::Word(0x20000), 1, Ok(Verdict::Fired(11))),
 ];
 
 /// Asserts what changes show.
