@@ -7,3 +7,4 @@ pub mod Sound
 pub mod Writable
 pub mod Turns
 pub mod Done
+pub mod OneAnswer

@@ -7,3 +7,4 @@ pub mod Named
 pub mod Steps
 pub mod Program
 pub mod Counted
+pub mod Exact
