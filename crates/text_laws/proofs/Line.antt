@@ -1,0 +1,131 @@
+-- The text of a word is a line that gives this word.
+use Rattle.std.proofs.Common.{◌≡◌, ℕ, ◌+◌, ◌^◌, ◌<◌, true, false, cond, not, ◌||◌, eqb, Option, Some, None, Ok, Err, List, [], ◌∷◌, ◌++◌, length, take, drop, refl, sym, ap, ◌∙◌, arith, append_assoc, codes}
+use Rattle.std.specs.List.{list_all, prefix_len, suffix_len}
+use Rattle.std.proofs.lemmas.Bool.{and_parts, lt-ltb, not-true, not_from_false, or_parts}
+use Rattle.std.proofs.lemmas.List.{take_at, drop_at}
+use Rattle.rv_isa.specs.declared.ins.Ins.{Ins}
+use Rattle.qed_model.specs.Machine.Table.{decode_of}
+use Rattle.qed_model.specs.Text.Run.{word_text}
+use Rattle.qed_model.specs.Words.{colon}
+use Rattle.rv_text.specs.Forms.{form_of}
+use Rattle.rv_text.specs.Names.{name_of}
+use Rattle.rv_text.specs.Text.{operands_text, text_with, text_of}
+use Rattle.rv_asm.specs.declared.error.Fault.TheVariants.{IllegalOperands, Unrecognized, SectionFull}
+use Rattle.rv_asm.specs.declared.given.Given.TheVariants as given
+use Rattle.rv_asm.specs.declared.heads.Head.TheVariants.{Instruction, Word}
+use Rattle.rv_asm.specs.declared.labels.Label.{Label}
+use Rattle.rv_asm.specs.declared.place.Place.{Place}
+use Rattle.rv_asm.specs.Assembled.{head_in, is_data_start, is_code}
+use Rattle.rv_asm.specs.Given.{max_code, address_at, code_given, in_code, given_by}
+use Rattle.rv_asm.specs.Heads.{head_of}
+use Rattle.rv_asm.specs.Lines.{is_blank, hash, newline, front_of, statement, word_end, word_in, rest_in, trim}
+use Rattle.rv_asm.specs.Operands.{word_of, raw_word_in}
+use Rattle.std.specs.Option.{ok_or}
+use Rattle.text_laws.proofs.Heads.{IsFirstWord, name_is, head_is, word_head, word_first}
+use Rattle.text_laws.proofs.Operands.{IsBehind, space_behind, read_back, word_back}
+use Rattle.text_laws.proofs.Parts.{is_plain, is_inline, lacks, not_byte, plain_blank, all_weaker, all_append, parted_none, IsText, plain_text, trim_text}
+use Rattle.text_laws.proofs.Printed.{word_is, word_read}
+
+-- ---- the first word, and what stands behind it
+inline_parts : (c : ℕ) → is_inline c ≡ true → (eqb c hash ≡ false) × (eqb c newline ≡ false)
+inline_parts c h = or_parts (eqb c hash) (eqb c newline) (not-true (eqb c hash || eqb c newline) h)
+
+no_hash : (line : List ℕ) → list_all is_inline line ≡ true → lacks hash line ≡ true
+no_hash line h = all_weaker is_inline (λ c. not (eqb c hash)) line (λ c p. not_from_false (eqb c hash) (inline_parts c p).0) h
+
+no_newline : (line : List ℕ) → list_all is_inline line ≡ true → lacks newline line ≡ true
+no_newline line h = all_weaker is_inline (λ c. not (eqb c newline)) line (λ c p. not_from_false (eqb c newline) (inline_parts c p).1) h
+
+name_end : (name text : List ℕ) → list_all is_plain name ≡ true → word_end text ≡ 0 → word_end (name ++ text) ≡ length name
+name_end [] text h e = e
+name_end (c ∷ name) text h e =
+    let parts = and_parts (is_plain c) (list_all is_plain name) h in
+    let rest = name_end name text parts.1 e in
+    ap (λ b. cond b 0 (cond (eqb c colon) 1 (1 + word_end (name ++ text)))) (plain_blank c parts.0)
+    ∙ (ap (λ b. cond b 1 (1 + word_end (name ++ text))) (not_byte colon c refl parts.0) ∙ omega (arith, rest))
+
+record HasParts (line name operands : List ℕ) : Type 0 where
+  word : word_in line ≡ name
+  rest : rest_in line ≡ operands
+  whole : lacks newline line ≡ true
+
+module _ (name text operands : List ℕ) (first : IsFirstWord name) (behind : IsBehind text operands) where
+  line_text : IsText (name ++ text)
+  line_text =
+      let n = plain_text name first.some first.plain in
+      record {
+        front = λ more. ap (prefix_len is_blank) (append_assoc name text more) ∙ n.front (text ++ more);
+        back = λ more. ap (suffix_len is_blank) (sym (append_assoc more name text)) ∙ behind.back (more ++ name) (n.back more);
+        inline = all_append is_inline name text n.inline behind.inline;
+      }
+
+  says : statement (name ++ text) ≡ name ++ text
+  unfolding statement
+  says = ap (λ o. trim (front_of (name ++ text) o)) (parted_none hash (name ++ text) (no_hash (name ++ text) line_text.inline)) ∙ trim_text (name ++ text) line_text
+
+  has_parts : HasParts (name ++ text) name operands
+  unfolding word_in rest_in
+  has_parts =
+      let line = name ++ text in
+      let end = name_end name text first.plain behind.ends in
+      record {
+        word = ap (λ s. take (word_end s) s) says ∙ (ap (λ n. take n line) end ∙ take_at name text (length name) refl);
+        rest = ap (λ s. trim (drop (word_end s) s)) says ∙ (ap (λ n. trim (drop n line)) end ∙ (ap trim (drop_at name text (length name) refl) ∙ behind.rest));
+        whole = no_newline line line_text.inline;
+      }
+
+-- ---- a line that gives a word
+pub record IsWordLine (line : List ℕ) (w : ℕ) : Type 0 where
+  pub whole : lacks newline line ≡ true
+  pub start : is_data_start (head_in line) ≡ false
+  pub code : is_code (head_in line) ≡ true
+  pub gives :
+      (labels : List ℕ → Option Label) (p : Place) (n : ℕ) → p.in_data ≡ false → p.code_words < max_code
+      → given_by labels p n (head_in line) (word_in line) (rest_in line) ≡ Ok (given.Code w)
+
+placed : (p : Place) (w : ℕ) → p.in_data ≡ false → p.code_words < max_code → in_code p (Ok w) ≡ Ok (given.Code w)
+placed p w e h = ap (λ b. cond b (Err Unrecognized) (code_given p (Ok w))) e ∙ ap (λ b. cond b (Ok (given.Code w)) (Err SectionFull)) (lt-ltb p.code_words max_code h)
+
+-- a word with an instruction
+ins_line : (w : ℕ) (i : Ins) → w < 2 ^ 32 → decode_of w ≡ Some i → IsWordLine (name_of i.kind ++ operands_text (form_of i.kind) i w) w
+unfolding given_by
+ins_line w i h e =
+    let k = i.kind in
+    let text = operands_text (form_of k) i w in
+    let line = name_of k ++ text in
+    let any = read_back (λ name. None) 0 w i e in
+    let plain = has_parts (name_of k) text any.operands (name_is k) any.behind in
+    let head : head_in line ≡ Instruction k = ap head_of plain.word ∙ head_is k in
+    record {
+      whole = plain.whole;
+      start = ap is_data_start head;
+      code = ap is_code head;
+      gives = λ labels p n free room.
+          let r = read_back labels (address_at p) w i e in
+          let parts = has_parts (name_of k) text r.operands (name_is k) r.behind in
+          ap (λ x. given_by labels p n x (word_in line) (rest_in line)) head
+          ∙ (ap (λ t. in_code p (word_of labels (address_at p) k t)) parts.rest ∙ (ap (in_code p) (word_back labels (address_at p) w i r h e) ∙ placed p w free room));
+    }
+
+-- a word without one
+raw_line : (w : ℕ) → w < 2 ^ 32 → IsWordLine (codes "word" ++ 32 ∷ word_text w) w
+unfolding given_by
+raw_line w h =
+    let line = codes "word" ++ 32 ∷ word_text w in
+    let parts = has_parts (codes "word") (32 ∷ word_text w) (word_text w) word_first (space_behind (word_text w) (word_is w)) in
+    let head : head_in line ≡ Word = ap head_of parts.word ∙ word_head in
+    record {
+      whole = parts.whole;
+      start = ap is_data_start head;
+      code = ap is_code head;
+      gives = λ labels p n free room.
+          ap (λ x. given_by labels p n x (word_in line) (rest_in line)) head
+          ∙ (ap (λ t. in_code p (ok_or (raw_word_in t) IllegalOperands)) parts.rest ∙ (ap (λ o. in_code p (ok_or o IllegalOperands)) (word_read w h) ∙ placed p w free room));
+    }
+
+pub word_line : (w : ℕ) → w < 2 ^ 32 → IsWordLine (text_of w) w
+unfolding text_of
+word_line w h = by (decode_of w) refl where
+  by : (o : Option Ins) → decode_of w ≡ o → IsWordLine (text_with w o) w
+  by None e = raw_line w h
+  by (Some i) e = ins_line w i h e
