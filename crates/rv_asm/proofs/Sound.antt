@@ -1,5 +1,5 @@
 -- What is known of a line that gives something.
-use Rattle.std.proofs.Common.{◌≡◌, ℕ, zero, suc, ◌+◌, ◌-◌, ◌*◌, ◌<◌, ◌≤◌, Bool, true, false, cond, ◌&&◌, ◌==◌, ltb, Option, Some, None, Result, Ok, Err, is_some, unwrap_or, List, [], ◌∷◌, length, take, drop, refl, ap, ◌∙◌, arith, length-append}
+use Rattle.std.proofs.Common.{◌≡◌, ℕ, zero, suc, ◌+◌, ◌-◌, ◌*◌, ◌<◌, ◌≤◌, Bool, true, false, cond, ◌&&◌, ◌==◌, ltb, Option, Some, None, Result, Ok, Err, is_some, unwrap_or, List, [], ◌∷◌, length, take, drop, refl, sym, ap, ◌∙◌, subst, arith, length-append}
 use Rattle.std.specs.Prelude.{All}
 use Rattle.std.specs.List.{position_from, prefix_len, suffix_len}
 use Rattle.std.specs.Option.{option_map}
@@ -70,102 +70,103 @@ alone_label g true true e = absurd (cc)
 alone_label g true false e = cc
 alone_label g false t e = absurd (cc)
 
--- a line that gives a code word
-code_line : (labels : List ℕ → Option LabelAt) (p : Place) (n : ℕ) (h : Head) (w r : List ℕ) (x : ℕ) → given_by labels p n h w r ≡ Ok (given.Code x) → (is_code h ≡ true) × (p.in_data ≡ false) × (p.code_words < max_code)
-unfolding given_by
-code_line labels p n Blank w r x e = absurd (cc)
-code_line labels p n (Instruction kind) w r x e = let k = in_code_is p _ (given.Code x) e in (refl, k.2, k.3)
-code_line labels p n Word w r x e = let k = in_code_is p _ (given.Code x) e in (refl, k.2, k.3)
-code_line labels p n DataStart w r x e = let k = alone_nothing (given.Code x) (length r == 0) e in absurd (cc)
-code_line labels p n DataWord w r x e = let k = in_data_is p _ (given.Code x) e in let q = k.1 in absurd (cc)
-code_line labels p n Label w r x e = let k = alone_label (given.Code x) (length r == 0) (is_defined_before n (labels (unwrap_or (label_in w) []))) e in absurd (cc)
-code_line labels p n Unknown w r x e = absurd (cc)
+-- ---- a line, by what it gives
+abbrev IsFrom : Head → Place → Given → Type 0
+IsFrom h p (given.Code x) = (is_code h ≡ true) × (p.in_data ≡ false) × (p.code_words < max_code)
+IsFrom h p (given.Data x) = (is_data h ≡ true) × (p.in_data ≡ true) × (p.data_words < max_data)
+IsFrom h p given.Label = h ≡ Label
+IsFrom h p given.Nothing = Unit {0}
 
--- a line that gives a data word
-data_line : (labels : List ℕ → Option LabelAt) (p : Place) (n : ℕ) (h : Head) (w r : List ℕ) (x : ℕ) → given_by labels p n h w r ≡ Ok (given.Data x) → (is_data h ≡ true) × (p.in_data ≡ true) × (p.data_words < max_data)
+line_is :
+    (labels : List ℕ → Option LabelAt) (p : Place) (n : ℕ) (h : Head) (w r : List ℕ) (g : Given) → given_by labels p n h w r ≡ Ok g
+    → IsFrom h p g
 unfolding given_by
-data_line labels p n Blank w r x e = absurd (cc)
-data_line labels p n (Instruction kind) w r x e = let k = in_code_is p _ (given.Data x) e in let q = k.1 in absurd (cc)
-data_line labels p n Word w r x e = let k = in_code_is p _ (given.Data x) e in let q = k.1 in absurd (cc)
-data_line labels p n DataStart w r x e = let k = alone_nothing (given.Data x) (length r == 0) e in absurd (cc)
-data_line labels p n DataWord w r x e = let k = in_data_is p _ (given.Data x) e in (refl, k.2, k.3)
-data_line labels p n Label w r x e = let k = alone_label (given.Data x) (length r == 0) (is_defined_before n (labels (unwrap_or (label_in w) []))) e in absurd (cc)
-data_line labels p n Unknown w r x e = absurd (cc)
+line_is labels p n Blank w r g e = let same : given.Nothing ≡ g = cc in subst (IsFrom Blank p) same tt
+line_is labels p n (Instruction kind) w r g e = let k = in_code_is p _ g e in subst (IsFrom (Instruction kind) p) (sym k.1) (refl, k.2, k.3)
+line_is labels p n Word w r g e = let k = in_code_is p _ g e in subst (IsFrom Word p) (sym k.1) (refl, k.2, k.3)
+line_is labels p n DataStart w r g e = subst (IsFrom DataStart p) (sym (alone_nothing g (length r == 0) e)) tt
+line_is labels p n DataWord w r g e = let k = in_data_is p _ g e in subst (IsFrom DataWord p) (sym k.1) (refl, k.2, k.3)
+line_is labels p n Label w r g e =
+    subst (IsFrom Label p) (sym (alone_label g (length r == 0) (is_defined_before n (labels (unwrap_or (label_in w) []))) e)) refl
+line_is labels p n Unknown w r g e = absurd (cc)
 
--- a line that gives a label
-label_line : (labels : List ℕ → Option LabelAt) (p : Place) (n : ℕ) (h : Head) (w r : List ℕ) → given_by labels p n h w r ≡ Ok given.Label → h ≡ Label
-unfolding given_by
-label_line labels p n Blank w r e = absurd (cc)
-label_line labels p n (Instruction kind) w r e = let k = in_code_is p _ given.Label e in let q = k.1 in absurd (cc)
-label_line labels p n Word w r e = let k = in_code_is p _ given.Label e in let q = k.1 in absurd (cc)
-label_line labels p n DataStart w r e = let k = alone_nothing given.Label (length r == 0) e in absurd (cc)
-label_line labels p n DataWord w r e = let k = in_data_is p _ given.Label e in let q = k.1 in absurd (cc)
-label_line labels p n Label w r e = refl
-label_line labels p n Unknown w r e = absurd (cc)
+-- the place of a line
+abbrev place_at : List (List ℕ) → ℕ → Place
+place_at lines n = place_behind (take n lines)
+
+given_is : (lines : List (List ℕ)) (n : ℕ) (g : Given) → given_at lines n ≡ Ok g → IsFrom (head_in (line_at lines n)) (place_at lines n) g
+unfolding given_at
+given_is lines n g e = line_is _ (place_at lines n) n (head_in (line_at lines n)) _ _ g e
 
 -- ---- how many words
-code_step_up :
-    (r : Result Given Fault) (p : Place) (h : Head) (m : ℕ) → ((x : ℕ) → r ≡ Ok (given.Code x) → (is_code h ≡ true) × (p.in_data ≡ false) × (p.code_words < max_code)) → m ≤ p.code_words → m ≤ max_code
-    → (m + length (code_in r) ≤ p.code_words + code_step p.in_data h) × (m + length (code_in r) ≤ max_code)
-code_step_up (Err f) p h m facts a b = (omega arith, omega arith)
-code_step_up (Ok given.Nothing) p h m facts a b = (omega arith, omega arith)
-code_step_up (Ok (given.Code x)) p h m facts a b =
-    let f = facts x refl in
-    let e : code_step p.in_data h ≡ 1 = ap (λ t. code_step t h) f.1 ∙ ap one_if f.0 in
-    let less = f.2 in
-    (omega arith, omega arith)
-code_step_up (Ok (given.Data x)) p h m facts a b = (omega arith, omega arith)
-code_step_up (Ok given.Label) p h m facts a b = (omega arith, omega arith)
+-- what a line adds to a count: one word where the count grows and is below its limit, or none
+record IsAdded (words : List ℕ) (count next most : ℕ) : Type 0 where
+  grows : count + length words ≤ next
+  room : 1 ≤ length words → count + length words ≤ most
 
-data_step_up :
-    (r : Result Given Fault) (p : Place) (h : Head) (m : ℕ) → ((x : ℕ) → r ≡ Ok (given.Data x) → (is_data h ≡ true) × (p.in_data ≡ true) × (p.data_words < max_data)) → m ≤ p.data_words → m ≤ max_data
-    → (m + length (data_in r) ≤ p.data_words + data_step p.in_data h) × (m + length (data_in r) ≤ max_data)
-data_step_up (Err f) p h m facts a b = (omega arith, omega arith)
-data_step_up (Ok given.Nothing) p h m facts a b = (omega arith, omega arith)
-data_step_up (Ok (given.Data x)) p h m facts a b =
-    let f = facts x refl in
-    let e : data_step p.in_data h ≡ 1 = ap (λ t. data_step t h) f.1 ∙ ap one_if f.0 in
-    let less = f.2 in
-    (omega arith, omega arith)
-data_step_up (Ok (given.Code x)) p h m facts a b = (omega arith, omega arith)
-data_step_up (Ok given.Label) p h m facts a b = (omega arith, omega arith)
+none_added : (count step most : ℕ) → IsAdded [] count (count + step) most
+none_added count step most = record { grows = omega arith; room = λ some. absurd (omega arith) }
 
-next_at : (lines : List (List ℕ)) (n : ℕ) → n < length lines → place_behind (take (suc n) lines) ≡ next_place (place_behind (take n lines)) (head_in (line_at lines n))
-next_at lines n h = ap (λ k. place_behind (take k lines)) (let e : suc n ≡ n + 1 = omega arith in e) ∙ (ap place_behind (take_more lines n [] h) ∙ place_push (take n lines) (line_at lines n))
+one_added : (x count step most : ℕ) → step ≡ 1 → count < most → IsAdded (x ∷ []) count (count + step) most
+one_added x count step most one less = record { grows = omega arith; room = λ some. omega arith }
 
-code_facts : (lines : List (List ℕ)) (n : ℕ) (x : ℕ) → given_at lines n ≡ Ok (given.Code x) → (is_code (head_in (line_at lines n)) ≡ true) × ((place_behind (take n lines)).in_data ≡ false) × ((place_behind (take n lines)).code_words < max_code)
-unfolding given_at
-code_facts lines n x e = code_line _ (place_behind (take n lines)) n (head_in (line_at lines n)) _ _ x e
+code_added :
+    (r : Result Given Fault) (p : Place) (h : Head) → ((g : Given) → r ≡ Ok g → IsFrom h p g)
+    → IsAdded (code_in r) p.code_words (p.code_words + code_step p.in_data h) max_code
+code_added (Ok (given.Code x)) p h is =
+    let f = is (given.Code x) refl in
+    one_added x p.code_words (code_step p.in_data h) max_code (ap (λ t. code_step t h) f.1 ∙ ap one_if f.0) f.2
+code_added _ p h is = none_added p.code_words (code_step p.in_data h) max_code
 
-data_facts : (lines : List (List ℕ)) (n : ℕ) (x : ℕ) → given_at lines n ≡ Ok (given.Data x) → (is_data (head_in (line_at lines n)) ≡ true) × ((place_behind (take n lines)).in_data ≡ true) × ((place_behind (take n lines)).data_words < max_data)
-unfolding given_at
-data_facts lines n x e = data_line _ (place_behind (take n lines)) n (head_in (line_at lines n)) _ _ x e
+data_added :
+    (r : Result Given Fault) (p : Place) (h : Head) → ((g : Given) → r ≡ Ok g → IsFrom h p g)
+    → IsAdded (data_in r) p.data_words (p.data_words + data_step p.in_data h) max_data
+data_added (Ok (given.Data x)) p h is =
+    let f = is (given.Data x) refl in
+    one_added x p.data_words (data_step p.in_data h) max_data (ap (λ t. data_step t h) f.1 ∙ ap one_if f.0) f.2
+data_added _ p h is = none_added p.data_words (data_step p.in_data h) max_data
 
-code_bounds : (lines : List (List ℕ)) (n : ℕ) → n ≤ length lines → (length (code_of lines n) ≤ (place_behind (take n lines)).code_words) × (length (code_of lines n) ≤ max_code)
-unfolding code_of gather
-code_bounds lines zero h = (omega arith, omega arith)
-code_bounds lines (suc n) h =
-    let so_far = code_bounds lines n (omega arith) in
-    let up = code_step_up (given_at lines n) (place_behind (take n lines)) (head_in (line_at lines n)) (length (code_of lines n)) (code_facts lines n) so_far.0 so_far.1 in
-    let size = length-append (code_of lines n) (code_in (given_at lines n)) in
-    let next = ap (λ (p : Place). p.code_words) (next_at lines n (omega arith)) in
-    (omega (arith, up.0, size, next), omega (arith, up.1, size))
+within : (size so_far count most : ℕ) → so_far ≤ count → so_far ≤ most → (1 ≤ size → count + size ≤ most) → so_far + size ≤ most
+within zero so_far count most h k room = omega arith
+within (suc size) so_far count most h k room = let r = room (omega arith) in omega arith
 
-data_bounds : (lines : List (List ℕ)) (n : ℕ) → n ≤ length lines → (length (data_of lines n) ≤ (place_behind (take n lines)).data_words) × (length (data_of lines n) ≤ max_data)
-unfolding data_of gather
-data_bounds lines zero h = (omega arith, omega arith)
-data_bounds lines (suc n) h =
-    let so_far = data_bounds lines n (omega arith) in
-    let up = data_step_up (given_at lines n) (place_behind (take n lines)) (head_in (line_at lines n)) (length (data_of lines n)) (data_facts lines n) so_far.0 so_far.1 in
-    let size = length-append (data_of lines n) (data_in (given_at lines n)) in
-    let next = ap (λ (p : Place). p.data_words) (next_at lines n (omega arith)) in
-    (omega (arith, up.0, size, next), omega (arith, up.1, size))
+-- of all lines so far
+few_words :
+    (words : ℕ → List ℕ) (count : ℕ → ℕ) (most n : ℕ) → ((i : ℕ) → i < n → IsAdded (words i) (count i) (count (suc i)) most)
+    → (length (gather n words) ≤ count n) × (length (gather n words) ≤ most)
+unfolding gather
+few_words words count most zero each = (omega arith, omega arith)
+few_words words count most (suc n) each =
+    let so_far = few_words words count most n (λ i less. each i (omega arith)) in
+    let here = each n (omega arith) in
+    let size = length-append (gather n words) (words n) in
+    let room = within (length (words n)) (length (gather n words)) (count n) most so_far.0 so_far.1 here.room in
+    (omega (arith, so_far.0, here.grows, size), omega (arith, size, room))
+
+next_at : (lines : List (List ℕ)) (n : ℕ) → n < length lines → place_at lines (suc n) ≡ next_place (place_at lines n) (head_in (line_at lines n))
+next_at lines n h =
+    ap (place_at lines) (let e : suc n ≡ n + 1 = omega arith in e)
+    ∙ (ap place_behind (take_more lines n [] h) ∙ place_push (take n lines) (line_at lines n))
 
 pub few_code : (lines : List (List ℕ)) → length (code_of lines (length lines)) ≤ 16384
-few_code lines = (code_bounds lines (length lines) (omega arith)).1
+unfolding code_of
+few_code lines =
+    let words = λ (i : ℕ). code_in (given_at lines i) in
+    let count = λ (p : Place). p.code_words in
+    let here = λ (i : ℕ). code_added (given_at lines i) (place_at lines i) (head_in (line_at lines i)) (given_is lines i) in
+    let at = λ (i : ℕ). count (place_at lines i) in
+    (few_words words at max_code (length lines)
+    (λ i less. subst (λ p. IsAdded (words i) (at i) (count p) max_code) (sym (next_at lines i less)) (here i))).1
 
 pub few_data : (lines : List (List ℕ)) → length (data_of lines (length lines)) ≤ 131072
-few_data lines = (data_bounds lines (length lines) (omega arith)).1
+unfolding data_of
+few_data lines =
+    let words = λ (i : ℕ). data_in (given_at lines i) in
+    let count = λ (p : Place). p.data_words in
+    let here = λ (i : ℕ). data_added (given_at lines i) (place_at lines i) (head_in (line_at lines i)) (given_is lines i) in
+    let at = λ (i : ℕ). count (place_at lines i) in
+    (few_words words at max_data (length lines)
+    (λ i less. subst (λ p. IsAdded (words i) (at i) (count p) max_data) (sym (next_at lines i less)) (here i))).1
 
 -- ---- labels
 head_cases : (a b c d e : Bool) (o : Option Kind) → cond a Blank (cond b Label (cond c Word (cond d DataStart (cond e DataWord (named_head o))))) ≡ Label → b ≡ true
@@ -229,7 +230,7 @@ pub label_facts : (lines : List (List ℕ)) (n : ℕ) → given_at lines n ≡ O
 unfolding given_at
 label_facts lines n e =
     let w = word_in (line_at lines n) in
-    let l = label_named w (head_label w (label_line _ (place_behind (take n lines)) n (head_in (line_at lines n)) w _ e)) in
+    let l = label_named w (head_label w (given_is lines n given.Label e)) in
     let short = l.3 in
     (l.0, l.1, l.2, omega (arith, word_short (line_at lines n)))
 
