@@ -1,8 +1,8 @@
 -- The text of a word is a line that gives this word.
-use Rattle.std.proofs.Common.{◌≡◌, ℕ, ◌+◌, ◌^◌, ◌<◌, true, false, cond, not, ◌||◌, eqb, Option, Some, None, Ok, Err, List, [], ◌∷◌, ◌++◌, length, take, drop, refl, sym, ap, ◌∙◌, arith, append_assoc, codes}
+use Rattle.std.proofs.Common.{◌≡◌, ℕ, ◌+◌, ◌^◌, ◌<◌, ◌≤◌, true, false, cond, not, ◌||◌, eqb, Option, Some, None, Ok, Err, List, [], ◌∷◌, ◌++◌, length, take, drop, refl, sym, ap, ◌∙◌, arith, append_assoc, codes}
 use Rattle.std.specs.List.{list_all, prefix_len, suffix_len}
 use Rattle.std.proofs.lemmas.Bool.{and_parts, lt-ltb, not-true, not_from_false, or_parts}
-use Rattle.std.proofs.lemmas.List.{take_at, drop_at}
+use Rattle.std.proofs.lemmas.List.{take_at, drop_at, length-append}
 use Rattle.rv_isa.specs.declared.ins.Ins.{Ins}
 use Rattle.qed_model.specs.Machine.Table.{decode_of}
 use Rattle.qed_model.specs.Text.Run.{word_text}
@@ -24,7 +24,7 @@ use Rattle.std.specs.Option.{ok_or}
 use Rattle.text_laws.proofs.Heads.{IsFirstWord, name_is, head_is, word_head, word_first}
 use Rattle.text_laws.proofs.Operands.{IsBehind, space_behind, read_back, word_back}
 use Rattle.text_laws.proofs.Parts.{is_plain, is_inline, lacks, not_byte, plain_blank, all_weaker, all_append, parted_none, IsText, plain_text, trim_text}
-use Rattle.text_laws.proofs.Printed.{word_is, word_read}
+use Rattle.text_laws.proofs.Printed.{raw_word_is}
 
 -- ---- the first word, and what stands behind it
 inline_parts : (c : ℕ) → is_inline c ≡ true → (eqb c hash ≡ false) × (eqb c newline ≡ false)
@@ -48,6 +48,7 @@ record HasParts (line name operands : List ℕ) : Type 0 where
   word : word_in line ≡ name
   rest : rest_in line ≡ operands
   whole : lacks newline line ≡ true
+  short : length line ≤ 88
 
 module _ (name text operands : List ℕ) (first : IsFirstWord name) (behind : IsBehind text operands) where
   line_text : IsText (name ++ text)
@@ -61,7 +62,9 @@ module _ (name text operands : List ℕ) (first : IsFirstWord name) (behind : Is
 
   says : statement (name ++ text) ≡ name ++ text
   unfolding statement
-  says = ap (λ o. trim (front_of (name ++ text) o)) (parted_none hash (name ++ text) (no_hash (name ++ text) line_text.inline)) ∙ trim_text (name ++ text) line_text
+  says =
+      let line = name ++ text in
+      ap (λ o. trim (front_of line o)) (parted_none hash line (no_hash line line_text.inline)) ∙ trim_text line line_text
 
   has_parts : HasParts (name ++ text) name operands
   unfolding word_in rest_in
@@ -70,13 +73,16 @@ module _ (name text operands : List ℕ) (first : IsFirstWord name) (behind : Is
       let end = name_end name text first.plain behind.ends in
       record {
         word = ap (λ s. take (word_end s) s) says ∙ (ap (λ n. take n line) end ∙ take_at name text (length name) refl);
-        rest = ap (λ s. trim (drop (word_end s) s)) says ∙ (ap (λ n. trim (drop n line)) end ∙ (ap trim (drop_at name text (length name) refl) ∙ behind.rest));
+        rest = ap (λ s. trim (drop (word_end s) s)) says
+            ∙ (ap (λ n. trim (drop n line)) end ∙ (ap trim (drop_at name text (length name) refl) ∙ behind.rest));
         whole = no_newline line line_text.inline;
+        short = omega (arith, length-append name text, first.short, behind.short);
       }
 
 -- ---- a line that gives a word
 pub record IsWordLine (line : List ℕ) (w : ℕ) : Type 0 where
   pub whole : lacks newline line ≡ true
+  pub short : length line ≤ 88
   pub start : is_data_start (head_in line) ≡ false
   pub code : is_code (head_in line) ≡ true
   pub gives :
@@ -84,7 +90,9 @@ pub record IsWordLine (line : List ℕ) (w : ℕ) : Type 0 where
       → given_by labels p n (head_in line) (word_in line) (rest_in line) ≡ Ok (given.Code w)
 
 placed : (p : Place) (w : ℕ) → p.in_data ≡ false → p.code_words < max_code → in_code p (Ok w) ≡ Ok (given.Code w)
-placed p w e h = ap (λ b. cond b (Err Unrecognized) (code_given p (Ok w))) e ∙ ap (λ b. cond b (Ok (given.Code w)) (Err SectionFull)) (lt-ltb p.code_words max_code h)
+placed p w e h =
+    ap (λ b. cond b (Err Unrecognized) (code_given p (Ok w))) e
+    ∙ ap (λ b. cond b (Ok (given.Code w)) (Err SectionFull)) (lt-ltb p.code_words max_code h)
 
 -- a word with an instruction
 ins_line : (w : ℕ) (i : Ins) → w < 2 ^ 32 → decode_of w ≡ Some i → IsWordLine (name_of i.kind ++ operands_text (form_of i.kind) i w) w
@@ -98,13 +106,15 @@ ins_line w i h e =
     let head : head_in line ≡ Instruction k = ap head_of plain.word ∙ head_is k in
     record {
       whole = plain.whole;
+      short = plain.short;
       start = ap is_data_start head;
       code = ap is_code head;
       gives = λ labels p n free room.
           let r = read_back labels (address_at p) w i e in
           let parts = has_parts (name_of k) text r.operands (name_is k) r.behind in
           ap (λ x. given_by labels p n x (word_in line) (rest_in line)) head
-          ∙ (ap (λ t. in_code p (word_of labels (address_at p) k t)) parts.rest ∙ (ap (in_code p) (word_back labels (address_at p) w i r h e) ∙ placed p w free room));
+          ∙ (ap (λ t. in_code p (word_of labels (address_at p) k t)) parts.rest
+          ∙ (ap (in_code p) (word_back labels (address_at p) w i r h e) ∙ placed p w free room));
     }
 
 -- a word without one
@@ -112,15 +122,19 @@ raw_line : (w : ℕ) → w < 2 ^ 32 → IsWordLine (codes "word" ++ 32 ∷ word_
 unfolding given_by
 raw_line w h =
     let line = codes "word" ++ 32 ∷ word_text w in
-    let parts = has_parts (codes "word") (32 ∷ word_text w) (word_text w) word_first (space_behind (word_text w) (word_is w)) in
+    let raw = raw_word_is w h in
+    let behind = space_behind (word_text w) raw.operand.part.is (let few = raw.operand.short in omega arith) in
+    let parts = has_parts (codes "word") (32 ∷ word_text w) (word_text w) word_first behind in
     let head : head_in line ≡ Word = ap head_of parts.word ∙ word_head in
     record {
       whole = parts.whole;
+      short = parts.short;
       start = ap is_data_start head;
       code = ap is_code head;
       gives = λ labels p n free room.
           ap (λ x. given_by labels p n x (word_in line) (rest_in line)) head
-          ∙ (ap (λ t. in_code p (ok_or (raw_word_in t) IllegalOperands)) parts.rest ∙ (ap (λ o. in_code p (ok_or o IllegalOperands)) (word_read w h) ∙ placed p w free room));
+          ∙ (ap (λ t. in_code p (ok_or (raw_word_in t) IllegalOperands)) parts.rest
+          ∙ (ap (λ o. in_code p (ok_or o IllegalOperands)) raw.reads ∙ placed p w free room));
     }
 
 pub word_line : (w : ℕ) → w < 2 ^ 32 → IsWordLine (text_of w) w

@@ -14,9 +14,12 @@ use Rattle.rv_asm.specs.Operands.{immediate_in}
 
 -- ---- one digit
 glyph_value : (d : ℕ) → d < 16 → digit_value (digit_glyph false d) ≡ d
-glyph_value d h = eqb-true (digit_value (digit_glyph false d)) d (agree_below_at (λ d. eqb (digit_value (digit_glyph false d)) d) (λ d. true) 16 d refl h)
+glyph_value d h =
+    let same = agree_below_at (λ d. eqb (digit_value (digit_glyph false d)) d) (λ d. true) 16 d refl h in
+    eqb-true (digit_value (digit_glyph false d)) d same
 
-read_digit : (base n v c : ℕ) (cs : List ℕ) → digit_value c ≡ v → v < base → n * base + v < 2 ^ 64 → read_on base n (c ∷ cs) ≡ read_on base (n * base + v) cs
+read_digit : (base n v c : ℕ) (cs : List ℕ) → digit_value c ≡ v → v < base → n * base + v < 2 ^ 64
+    → read_on base n (c ∷ cs) ≡ read_on base (n * base + v) cs
 read_digit base n v c cs e low small =
     ap (λ x. cond (ltb x base && ltb (n * base + x) (2 ^ 64)) (read_on base (n * base + x) cs) None) e
     ∙ (ap (λ b. cond (b && ltb (n * base + v) (2 ^ 64)) (read_on base (n * base + v) cs) None) (lt-ltb v base low)
@@ -24,8 +27,12 @@ read_digit base n v c cs e low small =
 
 -- ---- digits, by the function that prints them
 module _ (base : ℕ) (low : 2 ≤ base) (high : base ≤ 16) where
-  glyph : ℕ → ℕ
-  glyph n = digit_glyph false (n % base)
+  -- the digits of n with the last one in front of others, and with those before it too
+  abbrev last : ℕ → List ℕ → List ℕ
+  last n cs = digit_glyph false (n % base) ∷ cs
+
+  abbrev whole : ℕ → ℕ → List ℕ → List ℕ
+  whole k n cs = digits_onto k base false (n / base) (last n cs)
 
   parts : (n : ℕ) → n / base * base + n % base ≡ n
   parts n = omega arith
@@ -33,44 +40,51 @@ module _ (base : ℕ) (low : 2 ≤ base) (high : base ≤ 16) where
   fewer : (k n : ℕ) → n < 2 ^ suc k → n / base < 2 ^ k
   fewer k n h = omega (arith, h, parts n, mul-le-mul_right (n / base) low, pow-succ' 2 k)
 
-  read_glyph : (n : ℕ) (cs : List ℕ) → n < 2 ^ 64 → read_on base (n / base) (glyph n ∷ cs) ≡ read_on base n cs
-  unfolding glyph
-  read_glyph n cs small =
+  read_last : (n : ℕ) (cs : List ℕ) → n < 2 ^ 64 → read_on base (n / base) (last n cs) ≡ read_on base n cs
+  read_last n cs small =
       let d : n % base < base = omega arith in
-      read_digit base (n / base) (n % base) (digit_glyph false (n % base)) cs (glyph_value (n % base) (omega (arith, d, high))) d (omega (arith, parts n, small))
+      let value = glyph_value (n % base) (omega (arith, d, high)) in
+      read_digit base (n / base) (n % base) (digit_glyph false (n % base)) cs value d (omega (arith, parts n, small))
       ∙ ap (λ m. read_on base m cs) (parts n)
 
   read_onto : (k n : ℕ) (cs : List ℕ) → n < 2 ^ k → n < 2 ^ 64 → read_on base 0 (digits_onto k base false n cs) ≡ read_on base n cs
-  unfolding glyph
   read_onto zero n cs h small = let z : 0 ≡ n = omega arith in ap (λ m. read_on base m cs) z
   read_onto (suc k) n cs h small =
-      elim (eqb (n / base) 0) as (λ b. eqb (n / base) 0 ≡ b → read_on base 0 (cond b (glyph n ∷ cs) (digits_onto k base false (n / base) (glyph n ∷ cs))) ≡ read_on base n cs) [
-        | true ↦ λ e. ap (λ m. read_on base m (glyph n ∷ cs)) (sym (eqb-true (n / base) 0 e)) ∙ read_glyph n cs small
-        | false ↦ λ e. read_onto k (n / base) (glyph n ∷ cs) (fewer k n h) (omega (arith, parts n, small, mul-le-mul_right (n / base) low)) ∙ read_glyph n cs small
+      let less : n / base < 2 ^ 64 = omega (arith, parts n, small, mul-le-mul_right (n / base) low) in
+      elim (eqb (n / base) 0) as (λ b. eqb (n / base) 0 ≡ b → read_on base 0 (cond b (last n cs) (whole k n cs)) ≡ read_on base n cs) [
+        | true ↦ λ e. ap (λ m. read_on base m (last n cs)) (sym (eqb-true (n / base) 0 e)) ∙ read_last n cs small
+        | false ↦ λ e. read_onto k (n / base) (last n cs) (fewer k n h) less ∙ read_last n cs small
       ]
       refl
 
   -- a test that each digit passes
-  pub all_onto : (p : ℕ → Bool) (k n : ℕ) (cs : List ℕ) → ((d : ℕ) → d < base → p (digit_glyph false d) ≡ true) → list_all p cs ≡ true → list_all p (digits_onto k base false n cs) ≡ true
-  unfolding glyph
+  pub all_onto :
+      (p : ℕ → Bool) (k n : ℕ) (cs : List ℕ) → ((d : ℕ) → d < base → p (digit_glyph false d) ≡ true) → list_all p cs ≡ true
+      → list_all p (digits_onto k base false n cs) ≡ true
   all_onto p zero n cs each h = h
   all_onto p (suc k) n cs each h =
-      let more : list_all p (glyph n ∷ cs) ≡ true = and_from (p (glyph n)) (list_all p cs) (each (n % base) (omega arith)) h in
-      elim (eqb (n / base) 0) as (λ b. list_all p (cond b (glyph n ∷ cs) (digits_onto k base false (n / base) (glyph n ∷ cs))) ≡ true)
-      [ true ↦ more | false ↦ all_onto p k (n / base) (glyph n ∷ cs) each more ]
+      let more = and_from (p (digit_glyph false (n % base))) (list_all p cs) (each (n % base) (omega arith)) h in
+      elim (eqb (n / base) 0) as (λ b. list_all p (cond b (last n cs) (whole k n cs)) ≡ true)
+      [ true ↦ more | false ↦ all_onto p k (n / base) (last n cs) each more ]
 
--- at most j + 1 hexadecimal digits
+-- the hexadecimal digits of n but the last one, with that in front of others
+abbrev hex_front : ℕ → ℕ → List ℕ → List ℕ
+hex_front k n cs = digits_onto k 16 false (n / 16) (digit_glyph false (n % 16) ∷ cs)
+
+-- at most j + 1 of them
 short_onto : (k j n : ℕ) (cs : List ℕ) → n < 16 ^ suc j → length (digits_onto k 16 false n cs) ≤ suc j + length cs
 short_onto zero j n cs h = omega arith
 short_onto (suc k) j n cs h =
-    elim (eqb (n / 16) 0) as (λ b. eqb (n / 16) 0 ≡ b → length (cond b (digit_glyph false (n % 16) ∷ cs) (digits_onto k 16 false (n / 16) (digit_glyph false (n % 16) ∷ cs))) ≤ suc j + length cs)
-    [ true ↦ λ e. omega arith | false ↦ λ e. by j h (eqb-false (n / 16) 0 e) (λ i less. short_onto k i (n / 16) (digit_glyph false (n % 16) ∷ cs) less) ]
+    let more = digit_glyph false (n % 16) ∷ cs in
+    elim (eqb (n / 16) 0) as (λ b. eqb (n / 16) 0 ≡ b → length (cond b more (hex_front k n cs)) ≤ suc j + length cs)
+    [ true ↦ λ e. omega arith | false ↦ λ e. by j h (eqb-false (n / 16) 0 e) (λ i less. short_onto k i (n / 16) more less) ]
     refl where
       by :
-          (j : ℕ) → n < 16 ^ suc j → (n / 16 ≡ 0 → ⊥) → ((i : ℕ) → n / 16 < 16 ^ suc i → length (digits_onto k 16 false (n / 16) (digit_glyph false (n % 16) ∷ cs)) ≤ suc i + length (digit_glyph false (n % 16) ∷ cs))
-          → length (digits_onto k 16 false (n / 16) (digit_glyph false (n % 16) ∷ cs)) ≤ suc j + length cs
-      by zero h some rest = absurd (some (omega arith))
-      by (suc i) h some rest = let r = rest i (let p = pow-succ' 16 (suc i) in omega arith) in omega arith
+          (j : ℕ) → n < 16 ^ suc j → (n / 16 ≡ 0 → ⊥)
+          → ((i : ℕ) → n / 16 < 16 ^ suc i → length (hex_front k n cs) ≤ suc i + suc (length cs))
+          → length (hex_front k n cs) ≤ suc j + length cs
+      by zero h some so_far = absurd (some (omega arith))
+      by (suc i) h some so_far = let r = so_far i (let p = pow-succ' 16 (suc i) in omega arith) in omega arith
 
 -- ---- a number from its digits
 digits_are : (base most : ℕ) (text : List ℕ) → 1 ≤ length text → length text ≤ most → digits_in base most text ≡ read_on base 0 text
@@ -79,14 +93,19 @@ digits_are base most text some few =
     ap (λ b. cond (b && leb (length text) most) (read_on base 0 text) None) (le-leb 1 (length text) some)
     ∙ ap (λ b. cond b (read_on base 0 text) None) (le-leb (length text) most few)
 
+-- a byte that is no digit is another
+no_digit : (c b : ℕ) → is_ascii_digit c ≡ true → is_ascii_digit b ≡ false → eqb c b ≡ false
+no_digit c b h n = ne_eqb c b (λ e. true≢false (sym h ∙ (ap is_ascii_digit e ∙ n)))
+
 -- a text of decimal digits has no `0x` in front
 number_digits : (text : List ℕ) → list_all is_ascii_digit text ≡ true → number text ≡ digits_in 10 20 text
 unfolding number
 number_digits [] h = refl
 number_digits (a ∷ []) h = refl
 number_digits (a ∷ b ∷ text) h =
-    let second = (and_parts (is_ascii_digit b) (list_all is_ascii_digit text) (and_parts (is_ascii_digit a) (list_all is_ascii_digit (b ∷ text)) h).1).0 in
-    ap (λ t. cond t (digits_in 16 16 text) (digits_in 10 20 (a ∷ b ∷ text))) (and_right (eqb a 48) (eqb b 120) (ne_eqb b 120 (λ e. true≢false (sym second ∙ ap is_ascii_digit e))))
+    let later = (and_parts (is_ascii_digit a) (list_all is_ascii_digit (b ∷ text)) h).1 in
+    let second = (and_parts (is_ascii_digit b) (list_all is_ascii_digit text) later).0 in
+    ap (λ t. cond t (digits_in 16 16 text) (digits_in 10 20 (a ∷ b ∷ text))) (and_right (eqb a 48) (eqb b 120) (no_digit b 120 second refl))
 
 decimal_glyph : (d : ℕ) → d < 10 → is_ascii_digit (digit_glyph false d) ≡ true
 decimal_glyph d h = agree_below_at (λ d. is_ascii_digit (digit_glyph false d)) (λ d. true) 10 d refl h
@@ -98,8 +117,9 @@ decimal_digits n = all_onto 10 (omega arith) (omega arith) is_ascii_digit 64 n [
 decimal_read : (n : ℕ) → n < 2 ^ 64 → number (decimal n) ≡ Some n
 unfolding digits
 decimal_read n h =
-    number_digits (decimal n) (decimal_digits n) ∙ (digits_are 10 20 (decimal n) (decimal_nonempty n h) (length-decimal-le 20 n (omega arith) (omega arith) h)
-    ∙ read_onto 10 (omega arith) (omega arith) 64 n [] h h)
+    let few = length-decimal-le 20 n (omega arith) (omega arith) h in
+    number_digits (decimal n) (decimal_digits n)
+    ∙ (digits_are 10 20 (decimal n) (decimal_nonempty n h) few ∙ read_onto 10 (omega arith) (omega arith) 64 n [] h h)
 
 -- ---- immediates
 immediate_digits : (text : List ℕ) (n : ℕ) → list_all is_ascii_digit text ≡ true → number text ≡ Some n → immediate_in text ≡ Some (pos n)
@@ -107,7 +127,7 @@ unfolding immediate_in number digits_in
 immediate_digits [] n h e = absurd (cc)
 immediate_digits (c ∷ text) n h e =
     let first = (and_parts (is_ascii_digit c) (list_all is_ascii_digit text) h).0 in
-    ap (λ t. cond t (option_map (λ m. neg_ℤ (pos m)) (number text)) (option_map pos (number (c ∷ text)))) (ne_eqb c dash (λ d. true≢false (sym first ∙ ap is_ascii_digit d)))
+    ap (λ t. cond t (option_map (λ m. neg_ℤ (pos m)) (number text)) (option_map pos (number (c ∷ text)))) (no_digit c dash first refl)
     ∙ ap (option_map pos) e
 
 -- how far from 0
@@ -135,11 +155,15 @@ pub hex_length : (j n : ℕ) → n < 16 ^ suc j → length (hex_digits (suc j) n
 unfolding digits
 hex_length j n h =
     let ds = digits 16 false n in
-    ap length (hex_is (suc j) n) ∙ (length-append (replicate (suc j - length ds) 48) ds ∙ omega (arith, length-replicate {A = ℕ} (suc j - length ds) 48, short_onto 64 j n [] h))
+    let zeros = length-replicate {A = ℕ} (suc j - length ds) 48 in
+    ap length (hex_is (suc j) n)
+    ∙ (length-append (replicate (suc j - length ds) 48) ds ∙ omega (arith, zeros, short_onto 64 j n [] h))
 
 pub hex_read : (most j n : ℕ) → suc j ≤ most → n < 16 ^ suc j → n < 2 ^ 64 → digits_in 16 most (hex_digits (suc j) n) ≡ Some n
 unfolding digits
 hex_read most j n few h small =
     let l = hex_length j n h in
+    let ds = digits 16 false n in
     digits_are 16 most (hex_digits (suc j) n) (omega (arith, l)) (omega (arith, l))
-    ∙ (ap (read_on 16 0) (hex_is (suc j) n) ∙ (zeros_read (suc j - length (digits 16 false n)) (digits 16 false n) ∙ read_onto 16 (omega arith) (omega arith) 64 n [] small small))
+    ∙ (ap (read_on 16 0) (hex_is (suc j) n)
+    ∙ (zeros_read (suc j - length ds) ds ∙ read_onto 16 (omega arith) (omega arith) 64 n [] small small))

@@ -1,10 +1,11 @@
 -- The operands of an instruction as they are printed, by the form, and the word that is read.
-use Rattle.std.proofs.Common.{◌≡◌, ℕ, suc, ◌-◌, ◌*◌, ◌^◌, ◌<◌, ◌≤◌, true, false, cond, Option, Some, None, Result, Ok, Err, List, [], ◌∷◌, ◌++◌, ℤ, pos, negsuc, refl, sym, ap, ◌∙◌, subst, arith, codes, append_assoc, append-nil}
+use Rattle.std.proofs.Common.{◌≡◌, ℕ, suc, ◌-◌, ◌*◌, ◌^◌, ◌<◌, ◌≤◌, true, false, cond, Option, Some, None, Result, Ok, Err, List, [], ◌∷◌, ◌++◌, length, ℤ, pos, negsuc, refl, sym, ap, ◌∙◌, subst, arith, codes, append_assoc, append-nil}
 use Rattle.std.specs.Prelude.{nat_lt}
 use Rattle.std.specs.Fmt.{signed_decimal}
 use Rattle.std.specs.List.{list_all, suffix_len}
 use Rattle.std.specs.Option.{ok_or}
 use Rattle.std.proofs.lemmas.Bool.{ltb-true, lt-ltb}
+use Rattle.std.proofs.lemmas.List.{length-append}
 use Rattle.std.proofs.lemmas.Option.{same_Some}
 use Rattle.rv_isa.specs.Field.{bits}
 use Rattle.rv_isa.specs.Kind.{class_of}
@@ -22,11 +23,11 @@ use Rattle.rv_asm.specs.declared.error.Fault.{Fault}
 use Rattle.rv_asm.specs.declared.error.Fault.TheVariants.{IllegalOperands, OutOfRange}
 use Rattle.rv_asm.specs.declared.labels.Label.{Label}
 use Rattle.rv_asm.specs.declared.operands.Operands.{Operands}
-use Rattle.rv_asm.specs.Lines.{is_blank, comma, opening, closing, word_end, trim, trim_start, trim_end, bracketed_in}
+use Rattle.rv_asm.specs.Lines.{is_blank, word_end, trim, trim_start, trim_end, pair_in, triple_in}
 use Rattle.rv_asm.specs.Operands.{register_in, registers_from, immediate_from, load_from, load_with, store_from, store_with, upper_from, operands_with, target_with, target_in, with_target, branch_from, jump_from, operands_in, imm_in, encoded_with, encoded, word_with, word_of}
-use Rattle.text_laws.proofs.Numbers.{IsNear, signed_read}
-use Rattle.text_laws.proofs.Parts.{is_inline, lacks, plain_lacks, IsText, closing_text, joined_text, trim_space, pair_is, triple_is, bracketed_is}
-use Rattle.text_laws.proofs.Printed.{register_plain, register_is, register_read, signed_plain, signed_is, upper_is, upper_read}
+use Rattle.text_laws.proofs.Numbers.{IsNear}
+use Rattle.text_laws.proofs.Parts.{is_inline, IsText, joined_text, trim_space, pair_is, triple_is}
+use Rattle.text_laws.proofs.Printed.{IsOperand, IsRegister, register_is, IsImmediate, immediate_is, address_is, IsUpper, upper_is}
 
 -- ---- what stands behind the first word
 pub record IsBehind (text operands : List ℕ) : Type 0 where
@@ -34,18 +35,54 @@ pub record IsBehind (text operands : List ℕ) : Type 0 where
   pub rest : trim text ≡ operands
   pub back : (name : List ℕ) → suffix_len is_blank name ≡ 0 → suffix_len is_blank (name ++ text) ≡ 0
   pub inline : list_all is_inline text ≡ true
+  pub short : length text ≤ 80
 
-pub space_behind : (text : List ℕ) → IsText text → IsBehind (32 ∷ text) text
-space_behind text t = record {
+pub space_behind : (text : List ℕ) → IsText text → length text ≤ 79 → IsBehind (32 ∷ text) text
+space_behind text t short = record {
   ends = refl;
   rest = trim_space text t;
   back = λ name h. ap (suffix_len is_blank) (sym (append_assoc name (32 ∷ []) text)) ∙ t.back (name ++ 32 ∷ []);
   inline = t.inline;
+  short = omega (arith, short);
 }
 
 none_behind : IsBehind [] []
 unfolding trim trim_start trim_end
-none_behind = record { ends = refl; rest = refl; back = λ name h. ap (suffix_len is_blank) (append-nil name) ∙ h; inline = refl }
+none_behind = record {
+  ends = refl;
+  rest = refl;
+  back = λ name h. ap (suffix_len is_blank) (append-nil name) ∙ h;
+  inline = refl;
+  short = omega arith;
+}
+
+-- two and three operands behind a space
+record IsPair (a b : List ℕ) : Type 0 where
+  behind : IsBehind (32 ∷ pair_text a b) (pair_text a b)
+  parts : pair_in (pair_text a b) ≡ Some (a, b)
+
+pair_of : (a b : List ℕ) → IsOperand a → IsOperand b → IsPair a b
+pair_of a b p q =
+    let size = length-append a (codes ", " ++ b) in
+    record {
+      behind = space_behind (pair_text a b) (joined_text a (codes ", ") b p.part.is refl q.part.is) (omega (arith, size, p.short, q.short));
+      parts = pair_is a b p.part q.part.is;
+    }
+
+record IsTriple (a b c : List ℕ) : Type 0 where
+  behind : IsBehind (32 ∷ pair_text a (pair_text b c)) (pair_text a (pair_text b c))
+  parts : triple_in (pair_text a (pair_text b c)) ≡ Some (a, b, c)
+
+triple_of : (a b c : List ℕ) → IsOperand a → IsOperand b → IsOperand c → IsTriple a b c
+triple_of a b c p q r =
+    let rest = pair_text b c in
+    let text = joined_text a (codes ", ") rest p.part.is refl (joined_text b (codes ", ") c q.part.is refl r.part.is) in
+    let size = length-append a (codes ", " ++ rest) in
+    let rest_size = length-append b (codes ", " ++ c) in
+    record {
+      behind = space_behind (pair_text a rest) text (omega (arith, size, rest_size, p.short, q.short, r.short));
+      parts = triple_is a b c p.part q.part r.part.is;
+    }
 
 -- ---- the word of operands, by the form
 pub word_as : Form → Kind → Result Operands Fault → Result ℕ Fault
@@ -64,117 +101,99 @@ pub record IsRead (labels : List ℕ → Option Label) (at : ℕ) (f : Form) (i 
   pub reads : word_as f i.kind (operands_in labels at f operands) ≡ ok_or (encode_of i) OutOfRange
 
 -- ---- by forms
-pair_text_is : (a b : List ℕ) → IsText a → IsText b → IsText (pair_text a b)
-pair_text_is a b s t = joined_text a (codes ", ") b s refl t
-
-place_is : (z : ℤ) (r : ℕ) → IsNear z → IsText (place_text z r)
-place_is z r near = joined_text (signed_decimal z) (codes "(") (register_text r ++ codes ")") (signed_is z near) refl (joined_text (register_text r) [] (codes ")") (register_is r) refl closing_text)
-
-no_comma : (r : ℕ) → lacks comma (register_text r) ≡ true
-no_comma r = plain_lacks comma (register_text r) refl (register_plain r)
-
 module _ (labels : List ℕ → Option Label) (at : ℕ) (k : Kind) (w : ℕ) where
-  registers_back : (d a b : ℕ) → d < 32 → a < 32 → b < 32 → IsRead labels at Registers (ins k d a b (pos 0)) w
+  -- the word of operands that were found
+  abbrev taken : Form → Option Operands → Result ℕ Fault
+  taken f o = word_as f k (ok_or o IllegalOperands)
+
+  registers_back : (d a b : ℕ) → IsRegister d → IsRegister a → IsRegister b → IsRead labels at Registers (ins k d a b (pos 0)) w
   unfolding operands_text operands_in word_as
-  registers_back d a b hd ha hb =
-      let text = pair_text (register_text d) (pair_text (register_text a) (register_text b)) in
-      let p = register_read d hd in
-      let q = register_read a ha in
-      let r = register_read b hb in
+  registers_back d a b p q r =
+      let t = triple_of (register_text d) (register_text a) (register_text b) p.operand q.operand r.operand in
       record {
-        operands = text;
-        behind = space_behind text (pair_text_is (register_text d) (pair_text (register_text a) (register_text b)) (register_is d) (pair_text_is (register_text a) (register_text b) (register_is a) (register_is b)));
-        reads = ap (λ o. word_as Registers k (ok_or (registers_from o) IllegalOperands)) (triple_is (register_text d) (register_text a) (register_text b) (no_comma d) (no_comma a) (register_is d) (register_is a) (register_is b))
-            ∙ λ i. word_as Registers k (ok_or (operands_with (p i) (q i) (r i) (Some (pos 0))) IllegalOperands);
+        operands = pair_text (register_text d) (pair_text (register_text a) (register_text b));
+        behind = t.behind;
+        reads = ap (λ o. taken Registers (registers_from o)) t.parts
+            ∙ λ i. taken Registers (operands_with (p.reads i) (q.reads i) (r.reads i) (Some (pos 0)));
       }
 
-  immediate_back : (d a : ℕ) (z : ℤ) → d < 32 → a < 32 → IsNear z → IsRead labels at Immediate (ins k d a 0 z) w
+  immediate_back : (d a : ℕ) (z : ℤ) → IsRegister d → IsRegister a → IsImmediate z → IsRead labels at Immediate (ins k d a 0 z) w
   unfolding operands_text operands_in word_as
-  immediate_back d a z hd ha near =
-      let text = pair_text (register_text d) (pair_text (register_text a) (signed_decimal z)) in
-      let p = register_read d hd in
-      let q = register_read a ha in
-      let r = signed_read z near in
+  immediate_back d a z p q r =
+      let t = triple_of (register_text d) (register_text a) (signed_decimal z) p.operand q.operand r.operand in
       record {
-        operands = text;
-        behind = space_behind text (pair_text_is (register_text d) (pair_text (register_text a) (signed_decimal z)) (register_is d) (pair_text_is (register_text a) (signed_decimal z) (register_is a) (signed_is z near)));
-        reads = ap (λ o. word_as Immediate k (ok_or (immediate_from o) IllegalOperands)) (triple_is (register_text d) (register_text a) (signed_decimal z) (no_comma d) (no_comma a) (register_is d) (register_is a) (signed_is z near))
-            ∙ λ i. word_as Immediate k (ok_or (operands_with (p i) (q i) (Some 0) (r i)) IllegalOperands);
+        operands = pair_text (register_text d) (pair_text (register_text a) (signed_decimal z));
+        behind = t.behind;
+        reads = ap (λ o. taken Immediate (immediate_from o)) t.parts
+            ∙ λ i. taken Immediate (operands_with (p.reads i) (q.reads i) (Some 0) (r.reads i));
       }
 
-  branch_back : (a b : ℕ) (z : ℤ) → a < 32 → b < 32 → IsNear z → IsRead labels at Branch (ins k 0 a b z) w
+  branch_back : (a b : ℕ) (z : ℤ) → IsRegister a → IsRegister b → IsImmediate z → IsRead labels at Branch (ins k 0 a b z) w
   unfolding operands_text operands_in word_as target_in
-  branch_back a b z ha hb near =
-      let text = pair_text (register_text a) (pair_text (register_text b) (signed_decimal z)) in
-      let p = register_read a ha in
-      let q = register_read b hb in
-      let r = signed_read z near in
+  branch_back a b z p q r =
+      let t = triple_of (register_text a) (register_text b) (signed_decimal z) p.operand q.operand r.operand in
+      let text = signed_decimal z in
+      let registers = λ (x y : Option ℕ). operands_with (Some 0) x y (Some (pos 0)) in
       record {
-        operands = text;
-        behind = space_behind text (pair_text_is (register_text a) (pair_text (register_text b) (signed_decimal z)) (register_is a) (pair_text_is (register_text b) (signed_decimal z) (register_is b) (signed_is z near)));
-        reads = ap (λ o. word_as Branch k (branch_from labels at o)) (triple_is (register_text a) (register_text b) (signed_decimal z) (no_comma a) (no_comma b) (register_is a) (register_is b) (signed_is z near))
-            ∙ λ i. word_as Branch k (with_target (operands_with (Some 0) (p i) (q i) (Some (pos 0))) (target_with labels at (signed_decimal z) (r i)));
+        operands = pair_text (register_text a) (pair_text (register_text b) (signed_decimal z));
+        behind = t.behind;
+        reads = ap (λ o. word_as Branch k (branch_from labels at o)) t.parts
+            ∙ λ i. word_as Branch k (with_target (registers (p.reads i) (q.reads i)) (target_with labels at text (r.reads i)));
       }
 
-  -- an address
-  place_back : (z : ℤ) (a : ℕ) → IsNear z → bracketed_in (place_text z a) ≡ Some (signed_decimal z, register_text a)
-  place_back z a near = bracketed_is (signed_decimal z) (register_text a) (plain_lacks opening (signed_decimal z) refl (signed_plain z)) (plain_lacks closing (register_text a) refl (register_plain a)) (signed_is z near) (register_is a)
-
-  load_back : (d a : ℕ) (z : ℤ) → d < 32 → a < 32 → IsNear z → IsRead labels at Load (ins k d a 0 z) w
+  load_back : (d a : ℕ) (z : ℤ) → IsRegister d → IsRegister a → IsImmediate z → IsRead labels at Load (ins k d a 0 z) w
   unfolding operands_text operands_in word_as
-  load_back d a z hd ha near =
-      let text = pair_text (register_text d) (place_text z a) in
-      let p = register_read d hd in
-      let q = register_read a ha in
-      let r = signed_read z near in
+  load_back d a z p q r =
+      let place = address_is z a r q in
+      let t = pair_of (register_text d) (place_text z a) p.operand place.operand in
       record {
-        operands = text;
-        behind = space_behind text (pair_text_is (register_text d) (place_text z a) (register_is d) (place_is z a near));
-        reads = ap (λ o. word_as Load k (ok_or (load_from o) IllegalOperands)) (pair_is (register_text d) (place_text z a) (no_comma d) (register_is d) (place_is z a near))
-            ∙ (ap (λ o. word_as Load k (ok_or (load_with (register_in (register_text d)) o) IllegalOperands)) (place_back z a near)
-            ∙ λ i. word_as Load k (ok_or (operands_with (p i) (q i) (Some 0) (r i)) IllegalOperands));
+        operands = pair_text (register_text d) (place_text z a);
+        behind = t.behind;
+        reads = ap (λ o. taken Load (load_from o)) t.parts
+            ∙ (ap (λ o. taken Load (load_with (register_in (register_text d)) o)) place.parts
+            ∙ λ i. taken Load (operands_with (p.reads i) (q.reads i) (Some 0) (r.reads i)));
       }
 
-  store_back : (a b : ℕ) (z : ℤ) → a < 32 → b < 32 → IsNear z → IsRead labels at Store (ins k 0 a b z) w
+  store_back : (a b : ℕ) (z : ℤ) → IsRegister a → IsRegister b → IsImmediate z → IsRead labels at Store (ins k 0 a b z) w
   unfolding operands_text operands_in word_as
-  store_back a b z ha hb near =
-      let text = pair_text (register_text b) (place_text z a) in
-      let p = register_read b hb in
-      let q = register_read a ha in
-      let r = signed_read z near in
+  store_back a b z q p r =
+      let place = address_is z a r q in
+      let t = pair_of (register_text b) (place_text z a) p.operand place.operand in
       record {
-        operands = text;
-        behind = space_behind text (pair_text_is (register_text b) (place_text z a) (register_is b) (place_is z a near));
-        reads = ap (λ o. word_as Store k (ok_or (store_from o) IllegalOperands)) (pair_is (register_text b) (place_text z a) (no_comma b) (register_is b) (place_is z a near))
-            ∙ (ap (λ o. word_as Store k (ok_or (store_with (register_in (register_text b)) o) IllegalOperands)) (place_back z a near)
-            ∙ λ i. word_as Store k (ok_or (operands_with (Some 0) (q i) (p i) (r i)) IllegalOperands));
+        operands = pair_text (register_text b) (place_text z a);
+        behind = t.behind;
+        reads = ap (λ o. taken Store (store_from o)) t.parts
+            ∙ (ap (λ o. taken Store (store_with (register_in (register_text b)) o)) place.parts
+            ∙ λ i. taken Store (operands_with (Some 0) (q.reads i) (p.reads i) (r.reads i)));
       }
 
-  jump_back : (d : ℕ) (z : ℤ) → d < 32 → IsNear z → IsRead labels at Jump (ins k d 0 0 z) w
+  jump_back : (d : ℕ) (z : ℤ) → IsRegister d → IsImmediate z → IsRead labels at Jump (ins k d 0 0 z) w
   unfolding operands_text operands_in word_as target_in
-  jump_back d z hd near =
-      let text = pair_text (register_text d) (signed_decimal z) in
-      let p = register_read d hd in
-      let r = signed_read z near in
+  jump_back d z p r =
+      let t = pair_of (register_text d) (signed_decimal z) p.operand r.operand in
+      let text = signed_decimal z in
+      let registers = λ (x : Option ℕ). operands_with x (Some 0) (Some 0) (Some (pos 0)) in
       record {
-        operands = text;
-        behind = space_behind text (pair_text_is (register_text d) (signed_decimal z) (register_is d) (signed_is z near));
-        reads = ap (λ o. word_as Jump k (jump_from labels at o)) (pair_is (register_text d) (signed_decimal z) (no_comma d) (register_is d) (signed_is z near))
-            ∙ λ i. word_as Jump k (with_target (operands_with (p i) (Some 0) (Some 0) (Some (pos 0))) (target_with labels at (signed_decimal z) (r i)));
+        operands = pair_text (register_text d) (signed_decimal z);
+        behind = t.behind;
+        reads = ap (λ o. word_as Jump k (jump_from labels at o)) t.parts
+            ∙ λ i. word_as Jump k (with_target (registers (p.reads i)) (target_with labels at text (r.reads i)));
       }
 
-  upper_back : (d n : ℕ) → d < 32 → n < 2 ^ 20 → n ≡ bits w 12 20 → IsRead labels at Upper (ins k d 0 0 (signed 32 (n * 2 ^ 12))) w
+  upper_back : (d : ℕ) → IsRegister d → bits w 12 20 < 2 ^ 20 → IsUpper (bits w 12 20)
+      → IsRead labels at Upper (ins k d 0 0 (signed 32 (bits w 12 20 * 2 ^ 12))) w
   unfolding operands_text operands_in word_as
-  upper_back d n hd h e =
-      let text = pair_text (register_text d) (upper_text n) in
-      let p = register_read d hd in
-      let r = upper_read n h in
+  upper_back d p h r =
+      let n = bits w 12 20 in
+      let imm = signed 32 (n * 2 ^ 12) in
+      let t = pair_of (register_text d) (upper_text n) p.operand r.operand in
+      let read : Operands = record { rd = d; rs1 = 0; rs2 = 0; imm = pos n } in
       record {
-        operands = text;
-        behind = subst (λ m. IsBehind (32 ∷ pair_text (register_text d) (upper_text m)) text) e (space_behind text (pair_text_is (register_text d) (upper_text n) (register_is d) (upper_is n)));
-        reads = ap (λ o. word_as Upper k (ok_or (upper_from o) IllegalOperands)) (pair_is (register_text d) (upper_text n) (no_comma d) (register_is d) (upper_is n))
-            ∙ ((λ i. word_as Upper k (ok_or (operands_with (p i) (Some 0) (Some 0) (r i)) IllegalOperands))
-            ∙ ap (λ t. ok_or (encoded_with k (record { rd = d; rs1 = 0; rs2 = 0; imm = pos n }) (cond t (Some (signed 32 (n * 2 ^ 12))) None)) OutOfRange) (lt-ltb n (2 ^ 20) h));
+        operands = pair_text (register_text d) (upper_text n);
+        behind = t.behind;
+        reads = ap (λ o. taken Upper (upper_from o)) t.parts
+            ∙ ((λ i. taken Upper (operands_with (p.reads i) (Some 0) (Some 0) (r.reads i)))
+            ∙ ap (λ b. ok_or (encoded_with k read (cond b (Some imm) None)) OutOfRange) (lt-ltb n (2 ^ 20) h));
       }
 
   bare_back : IsRead labels at Bare (ins k 0 0 0 (pos 0)) w
@@ -182,28 +201,52 @@ module _ (labels : List ℕ → Option Label) (at : ℕ) (k : Kind) (w : ℕ) wh
   bare_back = record { operands = []; behind = none_behind; reads = refl }
 
   -- ---- by formats
-  signed_near : (n x : ℕ) → 2 ^ (n - 1) ≤ 2 ^ 62 → 2 ^ n ≤ 2 ^ 62 → IsNear (signed n x)
-  signed_near n x h m =
-      elim (nat_lt x (2 ^ (n - 1))) as (λ b. nat_lt x (2 ^ (n - 1)) ≡ b → IsNear (cond b (pos x) (negsuc (2 ^ n - suc x))))
-      [ true ↦ λ e. let less = ltb-true x (2 ^ (n - 1)) e in omega arith | false ↦ λ e. omega arith ]
-      refl
+  field_is : (lo : ℕ) → IsRegister (bits w lo 5)
+  field_is lo = register_is (bits w lo 5) (omega arith)
+
+  signed_is : (n x : ℕ) → 2 ^ (n - 1) ≤ 2 ^ 62 → 2 ^ n ≤ 2 ^ 62 → IsImmediate (signed n x)
+  signed_is n x h m = immediate_is (signed n x) near where
+    near : IsNear (signed n x)
+    near =
+        elim (nat_lt x (2 ^ (n - 1))) as (λ b. nat_lt x (2 ^ (n - 1)) ≡ b → IsNear (cond b (pos x) (negsuc (2 ^ n - suc x))))
+        [ true ↦ λ e. let less = ltb-true x (2 ^ (n - 1)) e in omega arith | false ↦ λ e. omega arith ]
+        refl
+
+  amount_is : (n : ℕ) → n < 2 ^ 6 → IsImmediate (pos n)
+  amount_is n h = immediate_is (pos n) (omega arith)
+
+  twelve : IsImmediate (signed 12 (bits w 20 12))
+  twelve = signed_is 12 (bits w 20 12) (omega arith) (omega arith)
+
+  abbrev rd : ℕ
+  rd = bits w 7 5
+
+  abbrev rs1 : ℕ
+  rs1 = bits w 15 5
+
+  abbrev rs2 : ℕ
+  rs2 = bits w 20 5
 
   by_class : (c : Class) → IsRead labels at (form_in I c) (ins_of I k w) w
   unfolding ins_of
-  by_class class.Load = load_back (bits w 7 5) (bits w 15 5) (signed 12 (bits w 20 12)) (omega arith) (omega arith) (signed_near 12 (bits w 20 12) (omega arith) (omega arith))
-  by_class class.JumpReg = load_back (bits w 7 5) (bits w 15 5) (signed 12 (bits w 20 12)) (omega arith) (omega arith) (signed_near 12 (bits w 20 12) (omega arith) (omega arith))
-  by_class _ = immediate_back (bits w 7 5) (bits w 15 5) (signed 12 (bits w 20 12)) (omega arith) (omega arith) (signed_near 12 (bits w 20 12) (omega arith) (omega arith))
+  by_class class.Load = load_back rd rs1 (signed 12 (bits w 20 12)) (field_is 7) (field_is 15) twelve
+  by_class class.JumpReg = load_back rd rs1 (signed 12 (bits w 20 12)) (field_is 7) (field_is 15) twelve
+  by_class _ = immediate_back rd rs1 (signed 12 (bits w 20 12)) (field_is 7) (field_is 15) twelve
 
   by_format : (f : Format) (c : Class) → IsRead labels at (form_in f c) (ins_of f k w) w
   unfolding ins_of
-  by_format R c = registers_back (bits w 7 5) (bits w 15 5) (bits w 20 5) (omega arith) (omega arith) (omega arith)
+  by_format R c = registers_back rd rs1 rs2 (field_is 7) (field_is 15) (field_is 20)
   by_format I c = by_class c
-  by_format H c = immediate_back (bits w 7 5) (bits w 15 5) (pos (bits w 20 6)) (omega arith) (omega arith) (let b : bits w 20 6 < 2 ^ 6 = omega arith in omega arith)
-  by_format G c = immediate_back (bits w 7 5) (bits w 15 5) (pos (bits w 20 5)) (omega arith) (omega arith) (let b : bits w 20 5 < 2 ^ 5 = omega arith in omega arith)
-  by_format S c = store_back (bits w 15 5) (bits w 20 5) (signed 12 (bits_S w)) (omega arith) (omega arith) (signed_near 12 (bits_S w) (omega arith) (omega arith))
-  by_format B c = branch_back (bits w 15 5) (bits w 20 5) (signed 13 (bits_B w)) (omega arith) (omega arith) (signed_near 13 (bits_B w) (omega arith) (omega arith))
-  by_format U c = upper_back (bits w 7 5) (bits w 12 20) (omega arith) (omega arith) refl
-  by_format J c = jump_back (bits w 7 5) (signed 21 (bits_J w)) (omega arith) (signed_near 21 (bits_J w) (omega arith) (omega arith))
+  by_format H c = immediate_back rd rs1 (pos (bits w 20 6)) (field_is 7) (field_is 15) (amount_is (bits w 20 6) (omega arith))
+  by_format G c = immediate_back rd rs1 (pos rs2) (field_is 7) (field_is 15) (amount_is rs2 (omega arith))
+  by_format S c =
+      let imm = bits_S w in
+      store_back rs1 rs2 (signed 12 imm) (field_is 15) (field_is 20) (signed_is 12 imm (omega arith) (omega arith))
+  by_format B c =
+      let imm = bits_B w in
+      branch_back rs1 rs2 (signed 13 imm) (field_is 15) (field_is 20) (signed_is 13 imm (omega arith) (omega arith))
+  by_format U c = let small : bits w 12 20 < 2 ^ 20 = omega arith in upper_back rd (field_is 7) small (upper_is (bits w 12 20) small)
+  by_format J c = let imm = bits_J w in jump_back rd (signed 21 imm) (field_is 7) (signed_is 21 imm (omega arith) (omega arith))
   by_format N c = bare_back
 
 -- ---- of a word with an instruction
@@ -215,9 +258,12 @@ module _ (labels : List ℕ → Option Label) (at : ℕ) where
   unfolding form_of
   read_back w i e =
       let k = i.kind in
-      subst (λ j. IsRead labels at (form_in (row_of k).format (class_of k)) j w) (is_ins w i e) (by_format labels at k w (row_of k).format (class_of k))
+      let f = (row_of k).format in
+      let c = class_of k in
+      subst (λ j. IsRead labels at (form_in f c) j w) (is_ins w i e) (by_format labels at k w f c)
 
-  pub word_back : (w : ℕ) (i : Ins) (r : IsRead labels at (form_of i.kind) i w) → w < 2 ^ 32 → decode_of w ≡ Some i → word_of labels at i.kind r.operands ≡ Ok w
+  pub word_back : (w : ℕ) (i : Ins) (r : IsRead labels at (form_of i.kind) i w) → w < 2 ^ 32 → decode_of w ≡ Some i
+      → word_of labels at i.kind r.operands ≡ Ok w
   unfolding word_of
   word_back w i r h e =
       as_word i.kind (operands_in labels at (form_of i.kind) r.operands) ∙ (r.reads ∙ ap (λ o. ok_or o OutOfRange) (encode_decode w i h e))

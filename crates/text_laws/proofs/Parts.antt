@@ -37,18 +37,26 @@ all_weaker p q (c ∷ text) f h =
 pub all_append : (p : ℕ → Bool) (xs ys : List ℕ) → list_all p xs ≡ true → list_all p ys ≡ true → list_all p (xs ++ ys) ≡ true
 all_append p xs ys a b = list_all-append p xs ys ∙ and_from (list_all p xs) (list_all p ys) a b
 
+pub lacks_append : (b : ℕ) (xs ys : List ℕ) → lacks b xs ≡ true → lacks b ys ≡ true → lacks b (xs ++ ys) ≡ true
+lacks_append b xs ys h k = all_append (λ c. not (eqb c b)) xs ys h k
+
 pub plain_lacks : (b : ℕ) (text : List ℕ) → is_plain b ≡ false → list_all is_plain text ≡ true → lacks b text ≡ true
 plain_lacks b text n h = all_weaker is_plain (λ c. not (eqb c b)) text (λ c p. not_from_false (eqb c b) (not_byte b c n p)) h
 
 plain_inline : (text : List ℕ) → list_all is_plain text ≡ true → list_all is_inline text ≡ true
-plain_inline text h = all_weaker is_plain is_inline text (λ c p. not_from_false (eqb c hash || eqb c newline) (or_from (eqb c hash) (eqb c newline) (not_byte hash c refl p) (not_byte newline c refl p))) h
+plain_inline text h = all_weaker is_plain is_inline text each h where
+  each : (c : ℕ) → is_plain c ≡ true → is_inline c ≡ true
+  each c p =
+      let neither = or_from (eqb c hash) (eqb c newline) (not_byte hash c refl p) (not_byte newline c refl p) in
+      not_from_false (eqb c hash || eqb c newline) neither
 
 -- ---- the text before and behind a byte
 position_at : (b k : ℕ) (xs ys : List ℕ) → lacks b xs ≡ true → position_from (λ c. eqb c b) k (xs ++ b ∷ ys) ≡ Some (k + length xs)
 position_at b k [] ys h = ap (λ t. cond t (Some k) (position_from (λ c. eqb c b) (k + 1) ys)) (eq-eqb b b refl) ∙ ap Some (omega arith)
 position_at b k (x ∷ xs) ys h =
     let parts = and_parts (not (eqb x b)) (lacks b xs) h in
-    ap (λ t. cond t (Some k) (position_from (λ c. eqb c b) (k + 1) (xs ++ b ∷ ys))) (not-true (eqb x b) parts.0) ∙ (position_at b (k + 1) xs ys parts.1 ∙ ap Some (omega arith))
+    ap (λ t. cond t (Some k) (position_from (λ c. eqb c b) (k + 1) (xs ++ b ∷ ys))) (not-true (eqb x b) parts.0)
+    ∙ (position_at b (k + 1) xs ys parts.1 ∙ ap Some (omega arith))
 
 position_none : (b k : ℕ) (xs : List ℕ) → lacks b xs ≡ true → position_from (λ c. eqb c b) k xs ≡ None
 position_none b k [] h = refl
@@ -58,7 +66,9 @@ position_none b k (x ∷ xs) h =
 
 drop_past : (xs ys : List ℕ) (y : ℕ) → drop (0 + length xs + 1) (xs ++ y ∷ ys) ≡ ys
 drop_past [] ys y = refl
-drop_past (x ∷ xs) ys y = ap (λ k. drop k (x ∷ (xs ++ y ∷ ys))) (let e : 0 + length (x ∷ xs) + 1 ≡ suc (0 + length xs + 1) = omega arith in e) ∙ drop_past xs ys y
+drop_past (x ∷ xs) ys y =
+    let one : 0 + length (x ∷ xs) + 1 ≡ suc (0 + length xs + 1) = omega arith in
+    ap (λ k. drop k (x ∷ (xs ++ y ∷ ys))) one ∙ drop_past xs ys y
 
 pub parted_at : (b : ℕ) (xs ys : List ℕ) → lacks b xs ≡ true → parted b (xs ++ b ∷ ys) ≡ Some (xs, ys)
 unfolding parted
@@ -83,17 +93,20 @@ solid_back text more some h =
     let all = AllPass-from_list_all (λ c. not (is_blank c)) text h in
     let whole = more ++ text in
     let size = length-append more text in
+    let last = get_or-append_right more text (length more) (length whole - 1) 0 refl (omega (arith, size, some)) in
+    let solid = not-true _ (all (length whole - 1 - length more) 0 (omega (arith, size, some))) in
     suffix_len_is is_blank whole (length whole) 0 (omega arith) (λ k from below. absurd (omega (arith, from, below)))
-    (λ n. ap is_blank (get_or-append_right more text (length more) (length whole - 1) 0 refl (omega (arith, size, some))) ∙ not-true _ (all (length whole - 1 - length more) 0 (omega (arith, size, some))))
+    (λ n. ap is_blank last ∙ solid)
     ∙ omega arith
 
 pub plain_text : (text : List ℕ) → 1 ≤ length text → list_all is_plain text ≡ true → IsText text
 plain_text [] some h = absurd (omega arith)
 plain_text (c ∷ text) some h =
     let first = plain_blank c (and_parts (is_plain c) (list_all is_plain text) h).0 in
+    let solid = all_weaker is_plain (λ c. not (is_blank c)) (c ∷ text) (λ c p. not_from_false (is_blank c) (plain_blank c p)) h in
     record {
       front = λ more. ap (λ t. cond t (1 + prefix_len is_blank (text ++ more)) 0) first;
-      back = λ more. solid_back (c ∷ text) more some (all_weaker is_plain (λ c. not (is_blank c)) (c ∷ text) (λ c p. not_from_false (is_blank c) (plain_blank c p)) h);
+      back = λ more. solid_back (c ∷ text) more some solid;
       inline = plain_inline (c ∷ text) h;
     }
 
@@ -104,7 +117,8 @@ closing_text = record { front = λ more. refl; back = λ more. solid_back (closi
 pub joined_text : (a m b : List ℕ) → IsText a → list_all is_inline m ≡ true → IsText b → IsText (a ++ (m ++ b))
 joined_text a m b p h q = record {
   front = λ more. ap (prefix_len is_blank) (append_assoc a (m ++ b) more) ∙ p.front ((m ++ b) ++ more);
-  back = λ more. ap (suffix_len is_blank) (sym (append_assoc more a (m ++ b)) ∙ sym (append_assoc (more ++ a) m b)) ∙ q.back ((more ++ a) ++ m);
+  back = λ more.
+      ap (suffix_len is_blank) (sym (append_assoc more a (m ++ b)) ∙ sym (append_assoc (more ++ a) m b)) ∙ q.back ((more ++ a) ++ m);
   inline = all_append is_inline a (m ++ b) p.inline (all_append is_inline m b h q.inline);
 }
 
@@ -123,22 +137,34 @@ trim_space text t =
     ap (λ n. trim_end (drop (1 + n) (32 ∷ text))) (ap (prefix_len is_blank) (sym (append-nil text)) ∙ t.front []) ∙ trim_back text t
 
 -- ---- parts between commas
+-- a part without one
+pub record IsPart (text : List ℕ) : Type 0 where
+  pub is : IsText text
+  pub no_comma : lacks comma text ≡ true
+
 pair_from : (a b c : List ℕ) → lacks comma a ≡ true → trim a ≡ c → IsText b → pair_in (a ++ comma ∷ 32 ∷ b) ≡ Some (c, b)
 unfolding pair_in
-pair_from a b c h e t = let back = trim_space b t in ap (option_map trimmed) (parted_at comma a (32 ∷ b) h) ∙ λ i. Some (e i, back i)
+pair_from a b c h e t =
+    let back = trim_space b t in
+    ap (option_map trimmed) (parted_at comma a (32 ∷ b) h) ∙ λ i. Some (e i, back i)
 
-pub pair_is : (a b : List ℕ) → lacks comma a ≡ true → IsText a → IsText b → pair_in (a ++ comma ∷ 32 ∷ b) ≡ Some (a, b)
-pair_is a b h s t = pair_from a b a h (trim_text a s) t
+pub pair_is : (a b : List ℕ) → IsPart a → IsText b → pair_in (a ++ comma ∷ 32 ∷ b) ≡ Some (a, b)
+pair_is a b p t = pair_from a b a p.no_comma (trim_text a p.is) t
 
-pub triple_is : (a b c : List ℕ) → lacks comma a ≡ true → lacks comma b ≡ true → IsText a → IsText b → IsText c → triple_in (a ++ comma ∷ 32 ∷ (b ++ comma ∷ 32 ∷ c)) ≡ Some (a, b, c)
+pub triple_is : (a b c : List ℕ) → IsPart a → IsPart b → IsText c → triple_in (a ++ comma ∷ 32 ∷ (b ++ comma ∷ 32 ∷ c)) ≡ Some (a, b, c)
 unfolding triple_in
-triple_is a b c h k r s t =
-    ap triple_from (parted_at comma a (32 ∷ (b ++ comma ∷ 32 ∷ c)) h)
-    ∙ (ap (λ x. triple_with x (pair_in ((32 ∷ b) ++ comma ∷ 32 ∷ c))) (trim_text a r) ∙ ap (triple_with a) (pair_from (32 ∷ b) c b k (trim_space b s) t))
+triple_is a b c p q t =
+    let rest = pair_from (32 ∷ b) c b q.no_comma (trim_space b q.is) t in
+    ap triple_from (parted_at comma a (32 ∷ (b ++ comma ∷ 32 ∷ c)) p.no_comma)
+    ∙ (ap (λ x. triple_with x (pair_in ((32 ∷ b) ++ comma ∷ 32 ∷ c))) (trim_text a p.is) ∙ ap (triple_with a) rest)
 
 -- ---- brackets
-pub bracketed_is : (a b : List ℕ) → lacks opening a ≡ true → lacks closing b ≡ true → IsText a → IsText b → bracketed_in (a ++ opening ∷ (b ++ closing ∷ [])) ≡ Some (a, b)
+pub bracketed_is :
+    (a b : List ℕ) → lacks opening a ≡ true → lacks closing b ≡ true → IsText a → IsText b
+    → bracketed_in (a ++ opening ∷ (b ++ closing ∷ [])) ≡ Some (a, b)
 unfolding bracketed_in
 bracketed_is a b h k s t =
+    let front = trim_text a s in
+    let inner = trim_text b t in
     ap bracketed_from (parted_at opening a (b ++ closing ∷ []) h)
-    ∙ (ap (bracketed_with (trim a)) (parted_at closing b [] k) ∙ let p = trim_text a s in let q = trim_text b t in λ i. Some (p i, q i))
+    ∙ (ap (bracketed_with (trim a)) (parted_at closing b [] k) ∙ λ i. Some (front i, inner i))

@@ -1,17 +1,42 @@
 -- The texts of words, one a line, and what they assemble to.
-use Rattle.std.specs.Prelude.{ℕ, ◌^◌, ◌<◌, ◌≤◌, List, [], length, map, All}
+use Rattle.std.specs.Prelude.{◌≡◌, ◌⊎◌, ℕ, ◌^◌, ◌<◌, ◌≤◌, Result, Ok, List, [], ◌∷◌, ◌++◌, length, map, All}
 use Rattle.std.specs.List.{join_with_byte}
 use Rattle.qed_model.specs.Elf.Layout.{written}
 use Rattle.rv_text.specs.Text.{text_of}
+use Rattle.rv_asm.specs.declared.error.AsmError.{AsmError}
 use Rattle.rv_asm.specs.Assembled.{Assembled, file_with}
+use Rattle.rv_asm.specs.Exact.{IsExact, IsOrMemory}
 use Rattle.rv_asm.specs.Lines.{newline}
+
+-- 1 to 16,384 words of 32 bits
+pub record AreWords (words : List ℕ) : Type 0 where
+  pub some : 1 ≤ length words
+  pub few : length words ≤ 16384
+  pub each : All (λ word. word < 2 ^ 32) words
 
 -- the text of each word, with a newline between two
 unfoldable pub words_text : List ℕ → List ℕ
 words_text words = join_with_byte newline (map text_of words)
 
--- such a text assembles to the file of the words, which has no data and no labels
+-- there may be a newline at the end, too
+abbrev pub IsTextOf : List ℕ → List ℕ → Type 0
+IsTextOf words text = (text ≡ words_text words) ⊎ (text ≡ words_text words ++ newline ∷ [])
+
+-- the file that has the words as its code, no data and no labels
+abbrev pub words_file : List ℕ → List ℕ
+words_file words = written (file_with words [] [])
+
+-- ---- the laws
+-- such a text assembles to the file of the words
 abbrev pub WordsAssemble : Type 0
-WordsAssemble =
-    (words : List ℕ) → 1 ≤ length words → length words ≤ 16384 → All (λ word. word < 2 ^ 32) words
-    → Assembled (words_text words) (written (file_with words [] []))
+WordsAssemble = (words text : List ℕ) → AreWords words → IsTextOf words text → Assembled text (words_file words)
+
+-- its length is within the limit of assemblies
+abbrev pub TextsAreShort : Type 0
+TextsAreShort = (words text : List ℕ) → AreWords words → IsTextOf words text → length text ≤ 67108864
+
+-- so the file is the only answer but Memory
+abbrev pub WordsAreAnswered : Type 0
+WordsAreAnswered =
+    (words text : List ℕ) (answer : Result (List ℕ) AsmError) → AreWords words → IsTextOf words text
+    → IsExact text answer → IsOrMemory (Ok (words_file words)) answer

@@ -3,9 +3,14 @@
 //! Definitions and laws alone.
 #![tactic(auto)]
 
-ghost use Rattle.text_laws.specs.WordTexts.{WordsAssemble};
+ghost use Rattle.text_laws.specs.WordTexts.{WordsAssemble, TextsAreShort, WordsAreAnswered};
 
-/// The texts of 1 to 16,384 words, one a line, assemble to the file of these words, without data and labels.
+/// The texts of 1 to 16,384 words, one a line and with or without a newline at the end, assemble to the file of these words, which
+/// has no data and no labels.
 pub fn words_assemble()
-    ensures { WordsAssemble }
+    ensures assembled { WordsAssemble }
+
+    // So they may be given to `assemble`, which answers with this file, or with Memory.
+    ensures short { TextsAreShort }
+    ensures answered { WordsAreAnswered }
 {}
