@@ -4,4 +4,8 @@ pub mod Printed
 pub mod Operands
 pub mod Heads
 pub mod Line
+pub mod Sayings
+pub mod Joined
+pub mod Kept
 pub mod Whole
+pub mod Listed

@@ -6,19 +6,19 @@ use Rattle.std.proofs.lemmas.List.{take_at, drop_at, length-append}
 use Rattle.rv_isa.specs.declared.ins.Ins.{Ins}
 use Rattle.qed_model.specs.Machine.Table.{decode_of}
 use Rattle.qed_model.specs.Text.Run.{word_text}
-use Rattle.qed_model.specs.Words.{colon}
+use Rattle.qed_model.specs.Words.{colon, parted}
 use Rattle.rv_text.specs.Forms.{form_of}
 use Rattle.rv_text.specs.Names.{name_of}
 use Rattle.rv_text.specs.Text.{operands_text, text_with, text_of}
 use Rattle.rv_asm.specs.declared.error.Fault.TheVariants.{IllegalOperands, Unrecognized, SectionFull}
 use Rattle.rv_asm.specs.declared.given.Given.TheVariants as given
-use Rattle.rv_asm.specs.declared.heads.Head.TheVariants.{Instruction, Word}
+use Rattle.rv_asm.specs.declared.heads.Head.TheVariants.{Blank, Instruction, Word}
 use Rattle.rv_asm.specs.declared.labels.Label.{Label}
 use Rattle.rv_asm.specs.declared.place.Place.{Place}
 use Rattle.rv_asm.specs.Assembled.{head_in, is_data_start, is_code}
 use Rattle.rv_asm.specs.Given.{max_code, address_at, code_given, in_code, given_by}
 use Rattle.rv_asm.specs.Heads.{head_of}
-use Rattle.rv_asm.specs.Lines.{is_blank, hash, newline, front_of, statement, word_end, word_in, rest_in, trim}
+use Rattle.rv_asm.specs.Lines.{is_blank, hash, newline, front_of, statement, word_end, word_in, rest_in, trim, trim_start, trim_end}
 use Rattle.rv_asm.specs.Operands.{word_of, raw_word_in}
 use Rattle.std.specs.Option.{ok_or}
 use Rattle.text_laws.proofs.Heads.{IsFirstWord, name_is, head_is, word_head, word_first}
@@ -47,7 +47,10 @@ name_end (c ∷ name) text h e =
 record HasParts (line name operands : List ℕ) : Type 0 where
   word : word_in line ≡ name
   rest : rest_in line ≡ operands
+  says : statement line ≡ line
+  is : IsText line
   whole : lacks newline line ≡ true
+  some : 1 ≤ length line
   short : length line ≤ 88
 
 module _ (name text operands : List ℕ) (first : IsFirstWord name) (behind : IsBehind text operands) where
@@ -75,19 +78,41 @@ module _ (name text operands : List ℕ) (first : IsFirstWord name) (behind : Is
         word = ap (λ s. take (word_end s) s) says ∙ (ap (λ n. take n line) end ∙ take_at name text (length name) refl);
         rest = ap (λ s. trim (drop (word_end s) s)) says
             ∙ (ap (λ n. trim (drop n line)) end ∙ (ap trim (drop_at name text (length name) refl) ∙ behind.rest));
+        says = says;
+        is = line_text;
         whole = no_newline line line_text.inline;
+        some = omega (arith, length-append name text, first.some);
         short = omega (arith, length-append name text, first.short, behind.short);
       }
 
 -- ---- a line that gives a word
-pub record IsWordLine (line : List ℕ) (w : ℕ) : Type 0 where
-  pub whole : lacks newline line ≡ true
-  pub short : length line ≤ 88
+pub record IsSaid (line : List ℕ) (w : ℕ) : Type 0 where
   pub start : is_data_start (head_in line) ≡ false
   pub code : is_code (head_in line) ≡ true
   pub gives :
       (labels : List ℕ → Option Label) (p : Place) (n : ℕ) → p.in_data ≡ false → p.code_words < max_code
       → given_by labels p n (head_in line) (word_in line) (rest_in line) ≡ Ok (given.Code w)
+
+-- and that says nothing else
+pub record IsWordLine (line : List ℕ) (w : ℕ) : Type 0 where
+  pub said : IsSaid line w
+  pub says : statement line ≡ line
+  pub is : IsText line
+  pub no_hash : lacks hash line ≡ true
+  pub whole : lacks newline line ≡ true
+  pub some : 1 ≤ length line
+  pub short : length line ≤ 88
+
+word_line_of : (line name operands : List ℕ) (w : ℕ) → HasParts line name operands → IsSaid line w → IsWordLine line w
+word_line_of line name operands w p said = record {
+  said = said;
+  says = p.says;
+  is = p.is;
+  no_hash = no_hash line p.is.inline;
+  whole = p.whole;
+  some = p.some;
+  short = p.short;
+}
 
 placed : (p : Place) (w : ℕ) → p.in_data ≡ false → p.code_words < max_code → in_code p (Ok w) ≡ Ok (given.Code w)
 placed p w e h =
@@ -104,9 +129,7 @@ ins_line w i h e =
     let any = read_back (λ name. None) 0 w i e in
     let plain = has_parts (name_of k) text any.operands (name_is k) any.behind in
     let head : head_in line ≡ Instruction k = ap head_of plain.word ∙ head_is k in
-    record {
-      whole = plain.whole;
-      short = plain.short;
+    word_line_of line (name_of k) any.operands w plain (record {
       start = ap is_data_start head;
       code = ap is_code head;
       gives = λ labels p n free room.
@@ -115,7 +138,7 @@ ins_line w i h e =
           ap (λ x. given_by labels p n x (word_in line) (rest_in line)) head
           ∙ (ap (λ t. in_code p (word_of labels (address_at p) k t)) parts.rest
           ∙ (ap (in_code p) (word_back labels (address_at p) w i r h e) ∙ placed p w free room));
-    }
+    })
 
 -- a word without one
 raw_line : (w : ℕ) → w < 2 ^ 32 → IsWordLine (codes "word" ++ 32 ∷ word_text w) w
@@ -126,16 +149,14 @@ raw_line w h =
     let behind = space_behind (word_text w) raw.operand.part.is (let few = raw.operand.short in omega arith) in
     let parts = has_parts (codes "word") (32 ∷ word_text w) (word_text w) word_first behind in
     let head : head_in line ≡ Word = ap head_of parts.word ∙ word_head in
-    record {
-      whole = parts.whole;
-      short = parts.short;
+    word_line_of line (codes "word") (word_text w) w parts (record {
       start = ap is_data_start head;
       code = ap is_code head;
       gives = λ labels p n free room.
           ap (λ x. given_by labels p n x (word_in line) (rest_in line)) head
           ∙ (ap (λ t. in_code p (ok_or (raw_word_in t) IllegalOperands)) parts.rest
           ∙ (ap (λ o. in_code p (ok_or o IllegalOperands)) raw.reads ∙ placed p w free room));
-    }
+    })
 
 pub word_line : (w : ℕ) → w < 2 ^ 32 → IsWordLine (text_of w) w
 unfolding text_of
@@ -143,3 +164,35 @@ word_line w h = by (decode_of w) refl where
   by : (o : Option Ins) → decode_of w ≡ o → IsWordLine (text_with w o) w
   by None e = raw_line w h
   by (Some i) e = ins_line w i h e
+
+-- ---- any line that says the same
+record IsAlike (line other : List ℕ) : Type 0 where
+  word : word_in line ≡ word_in other
+  rest : rest_in line ≡ rest_in other
+
+alike : (line other : List ℕ) → statement line ≡ statement other → IsAlike line other
+unfolding word_in rest_in
+alike line other e = record { word = ap (λ s. take (word_end s) s) e; rest = ap (λ s. trim (drop (word_end s) s)) e }
+
+pub said_line : (line : List ℕ) (w : ℕ) → w < 2 ^ 32 → statement line ≡ text_of w → IsSaid line w
+said_line line w h e =
+    let own = word_line w h in
+    let same = alike line (text_of w) (e ∙ sym own.says) in
+    let head : head_in line ≡ head_in (text_of w) = ap head_of same.word in
+    record {
+      start = ap is_data_start head ∙ own.said.start;
+      code = ap is_code head ∙ own.said.code;
+      gives = λ labels p n free room.
+          (λ i. given_by labels p n (head i) (same.word i) (same.rest i)) ∙ own.said.gives labels p n free room;
+    }
+
+empty_head : head_in [] ≡ Blank
+unfolding word_in statement parted trim trim_start trim_end head_of
+empty_head = refl
+
+pub empty_says : statement [] ≡ []
+unfolding statement parted trim trim_start trim_end
+empty_says = refl
+
+pub blank_line : (line : List ℕ) → statement line ≡ [] → head_in line ≡ Blank
+blank_line line e = ap head_of (alike line [] (e ∙ sym empty_says)).word ∙ empty_head

@@ -3,7 +3,7 @@ use Rattle.std.proofs.Common.{◌≡◌, ℕ, suc, ◌+◌, ◌-◌, ◌≤◌, 
 use Rattle.std.specs.Int.{is_in_range}
 use Rattle.std.specs.List.{list_all, position_from, prefix_len, suffix_len}
 use Rattle.std.proofs.lemmas.Bool.{and_parts, and_from, eq-eqb, ne_eqb, not-true, not_from_false, or_from}
-use Rattle.std.proofs.lemmas.List.{take_all, take_at, length-append, get_or-append_right}
+use Rattle.std.proofs.lemmas.List.{take_all, take_at, length-append, get_or-append_right, reverse-append}
 use Rattle.std.proofs.lemmas.List.Folds.{list_all-append}
 use Rattle.std.proofs.lemmas.List.Sums.{AllPass-from_list_all, suffix_len_is}
 use Rattle.qed_model.specs.Words.{parted, around}
@@ -135,6 +135,16 @@ pub trim_space : (text : List ℕ) → IsText text → trim (32 ∷ text) ≡ te
 unfolding trim trim_start
 trim_space text t =
     ap (λ n. trim_end (drop (1 + n) (32 ∷ text))) (ap (prefix_len is_blank) (sym (append-nil text)) ∙ t.front []) ∙ trim_back text t
+
+-- with one blank behind it
+pub trim_ended : (text : List ℕ) → IsText text → trim (text ++ 32 ∷ []) ≡ text
+unfolding trim trim_start trim_end
+trim_ended text t =
+    let ended = text ++ 32 ∷ [] in
+    let last : suffix_len is_blank ended ≡ 1 = ap (prefix_len is_blank) (reverse-append text (32 ∷ [])) ∙ ap (λ n. 1 + n) (t.back []) in
+    let size = length-append text (32 ∷ []) in
+    ap (λ n. take (length (drop n ended) - suffix_len is_blank (drop n ended)) (drop n ended)) (t.front (32 ∷ []))
+    ∙ (ap (λ n. take (length ended - n) ended) last ∙ take_at text (32 ∷ []) (length ended - 1) (omega (arith, size)))
 
 -- ---- parts between commas
 -- a part without one

@@ -33,7 +33,7 @@ zeros_plain : (m : ℕ) (text : List ℕ) → list_all is_plain text ≡ true �
 zeros_plain zero text h = h
 zeros_plain (suc m) text h = zeros_plain m text h
 
-hex_plain : (count n : ℕ) → list_all is_plain (hex_digits count n) ≡ true
+pub hex_plain : (count n : ℕ) → list_all is_plain (hex_digits count n) ≡ true
 unfolding digits
 hex_plain count n =
     let ds = digits 16 false n in

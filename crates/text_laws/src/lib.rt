@@ -3,7 +3,7 @@
 //! Definitions and laws alone.
 #![tactic(auto)]
 
-ghost use Rattle.text_laws.specs.WordTexts.{WordsAssemble, TextsAreShort, WordsAreAnswered};
+ghost use Rattle.text_laws.specs.WordTexts.{WordsAssemble, TextsAreShort, WordsAreAnswered, SayingsAssemble, ListingsAssemble};
 
 /// The texts of 1 to 16,384 words, one a line and with or without a newline at the end, assemble to the file of these words, which
 /// has no data and no labels.
@@ -13,4 +13,11 @@ pub fn words_assemble()
     // So they may be given to `assemble`, which answers with this file, or with Memory.
     ensures short { TextsAreShort }
     ensures answered { WordsAreAnswered }
+{}
+
+/// A text assembles to the same file where its lines say these texts, whatever comments, blanks and empty lines stand around them;
+/// so does what `list` prints, to the words that it lists.
+pub fn listings_assemble()
+    ensures sayings { SayingsAssemble }
+    ensures listings { ListingsAssemble }
 {}
