@@ -1,5 +1,4 @@
 pub mod Bodies
-pub mod Words
 pub mod Functions
 pub mod Sizes
 pub mod Writable

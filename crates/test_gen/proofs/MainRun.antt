@@ -22,7 +22,7 @@ use Rattle.qed_model.proofs.MemoryLaws.{same_number}
 use Rattle.qed_model.proofs.Pairs.{Every}
 use Rattle.qed_model.proofs.Steps.{grants-flags, step-class, step-compute, step-load}
 use Rattle.qed_model.proofs.Walked.{Walk, walk_one, walk_on}
-use Rattle.test_gen.specs.Random.{random_word}
+use Rattle.random_words.specs.Random.{random_word}
 use Rattle.test_gen.specs.Code.{body_registers, register_from, body_forms, body_instruction, return, function, main}
 use Rattle.test_gen.specs.Generated.{function_at}
 use Rattle.test_gen.proofs.Plain.{every_each}

@@ -17,7 +17,7 @@ use Rattle.qed_model.specs.Admission.Rules.{is_ebreak}
 use Rattle.qed_model.specs.Weave.Sequences.{is_auipc}
 use Rattle.qed_model.proofs.Pairs.{Every, every-append}
 use Rattle.qed_model.proofs.Reach.{has_word, is_some-some_if, addi_word}
-use Rattle.test_gen.specs.Random.{random_word}
+use Rattle.random_words.specs.Random.{random_word}
 use Rattle.test_gen.specs.Code.{body_registers, register_from, body_forms, body_instruction, return, function, main, code}
 
 -- what each instruction is

@@ -5,7 +5,7 @@ use Rattle.rv_isa.specs.declared.kind.Kind.TheVariants.{Lui, Jalr, Bne, Ld, Sd, 
 use Rattle.rv_isa.specs.Ins.{nop}
 use Rattle.qed_model.specs.Machine.Table.{ins}
 use Rattle.qed_model.specs.Below.{each, gather}
-use Rattle.test_gen.specs.Random.{random_word}
+use Rattle.random_words.specs.Random.{random_word}
 
 -- ---- bodies of functions
 -- the registers that bodies name

@@ -1,4 +1,3 @@
-pub mod Random
 pub mod Code
 pub mod Generated
 pub mod Ends

@@ -2,15 +2,14 @@
 ghost use Rattle.std.specs.Prelude.{◌≡◌, ℕ, ◌≤◌, ◌<◌, ◌++◌, ◌∷◌, [], IfOk, OnOk, length, map};
 ghost use Rattle.qed_model.specs.Below.{each};
 ghost use Rattle.qed_model.specs.Numbers.{bytes_of};
-ghost use Rattle.test_gen.specs.Random.{drawn as drawn_of, next, after};
+ghost use Rattle.random_words.specs.Random.{drawn as drawn_of, after};
 ghost use Rattle.test_gen.specs.Code.{body_instruction as body_instruction_of, function_count as function_count_of, return, main as main_of, code as code_of};
 ghost use Rattle.test_gen.specs.Generated.{word_of as word_of_instruction};
 
 use crate::body::body_instruction;
 use crate::instruction::instruction;
-use rand_core::SeedableRng;
-use rand_core::utils::NextWord;
 use rand_pcg::Pcg64;
+use random_words::{drawn, seeded};
 use rv_encode::encode;
 use rv_isa::{Ins, Kind};
 use std::alloc::{AllocError, Global};
@@ -26,15 +25,6 @@ pub fn function_count(size: u64) -> u64
     ensures bound { result ≤ 1875 }
 {
     size.div_ceil(BODY_SIZE)
-}
-
-/// The next random word.
-#[tactic(auto, unfolding(crate::specs::Random::drawn, crate::specs::Random::next))]
-fn drawn(rng: &mut Pcg64) -> u64
-    ensures word { result ≡ drawn_of rng.old }
-    ensures next { rng.new ≡ next rng.old }
-{
-    rng.next_word()
 }
 
 /// Appends a function of the next random words.
@@ -77,7 +67,7 @@ pub fn code(alloc: Global, seed: u64, functions: u64) -> Result<Vec<Ins>, AllocE
     ensures { IfOk result (λ code. code.items ≡ code_of seed functions) }
 {
     let mut code = Vec::from_slice(alloc, &main_code(functions))?;
-    let mut rng = Pcg64::seed_from_u64(seed);
+    let mut rng = seeded(seed);
     for _ in 0..functions {
         push_function(&mut code, &mut rng)?;
     }

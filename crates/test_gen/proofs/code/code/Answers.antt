@@ -1,16 +1,15 @@
 use Rattle.std.proofs.Common.{◌≡◌, ◌+◌, ◌*◌, ◌++◌, ◌∙◌, sym, ap, arith}
 use Rattle.qed_model.specs.Below.{gather}
-use Rattle.test_gen.specs.Random.{seeded, after}
+use Rattle.random_words.specs.Random.{seeded, after}
 use Rattle.test_gen.specs.Code.{main, function, code}
-use Rattle.test_gen.proofs.Words.{after-more}
+use Rattle.random_words.proofs.Words.{after-more}
 use Rattle.test_gen.proofs.Functions.{function_from, none_yet, one_more}
 use Rattle.test_gen.proofs.code.code.Goals as goal
 
 pub loop-init : goal.loop-init
-unfolding seeded
 loop-init c = record {
   code = c.in_ok-code.ensures.items ∙ c.main_code.ensures ∙ none_yet c.args.seed c.args.functions;
-  rng = c.seed_from_u64-rng.ensures;
+  rng = c.seeded-rng.ensures;
 }
 
 pub loop-preserved : goal.loop-preserved
