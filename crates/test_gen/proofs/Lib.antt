@@ -12,3 +12,5 @@ pub mod MainEnd
 pub mod Apart
 pub mod Loaded
 pub mod Ending
+pub mod Readable
+pub mod Counted

@@ -1,23 +1,17 @@
 -- A generated file can be written.
-use Rattle.std.proofs.Common.{◌≡◌, ◌≢◌, inl, inr, ℕ, zero, suc, ◌+◌, ◌*◌, ◌%◌, ◌^◌, ◌<◌, ◌≤◌, Bool, true, false, ◌&&◌, List, [], ◌∷◌, ◌++◌, length, refl, sym, ap, ◌∙◌, arith, length-append}
-use Rattle.std.specs.Prelude.{All, codes, nat_lt, nat_le}
+use Rattle.std.proofs.Common.{◌≡◌, ◌≢◌, inl, inr, ℕ, zero, suc, ◌+◌, ◌*◌, ◌%◌, ◌^◌, ◌<◌, ◌≤◌, false, List, [], ◌∷◌, ◌++◌, length, refl, ap, arith, length-append}
+use Rattle.std.specs.Prelude.{All, codes}
 use Rattle.std.specs.Fmt.{decimal}
 use Rattle.std.proofs.lemmas.Fmt.{decimal_by_steps, length-decimal-le}
-use Rattle.std.proofs.Math.Bool.{and-false}
-use Rattle.std.proofs.lemmas.Bool.{and_from, le-ltb, le-leb, false≢true}
 use Rattle.std.proofs.lemmas.List.Elements.{All-nil, All-cons, All-append}
 use Rattle.elf_types.specs.declared.file.Segment.{Segment}
 use Rattle.elf_types.specs.declared.file.Symbol.{Symbol}
-use Rattle.elf_types.specs.declared.output.OutFile.{OutFile}
-use Rattle.elf_types.specs.Abi.{has_alloc}
 use Rattle.qed_model.specs.Below.{each}
 use Rattle.qed_model.specs.Elf.Written.{offset_from, end_from}
-use Rattle.qed_model.specs.Elf.Layout.{written, names_bytes, string_table, symbol_names, own_bytes, own_place, symbols_place, strings_place, names_place, headers_place, do_share, IsName, IsLoadable, IsPlaced, IsSymbol, null_symbol, IsWritable}
-use Rattle.qed_model.proofs.Among.{Among, any_passing}
+use Rattle.qed_model.specs.Elf.Layout.{written, names_bytes, symbol_names, own_place, do_share, IsName, IsLoadable, IsPlaced, IsSymbol, null_symbol, IsWritable}
 use Rattle.qed_model.proofs.BelowLaws.{length-each}
 use Rattle.qed_model.proofs.OutputFits.{name_test}
 use Rattle.qed_model.proofs.Pairs.{pairs_all, every_all}
-use Rattle.elf_parts.specs.Parts.{segment, section}
 use Rattle.elf_parts.proofs.Plain.{loadable, not_shared, offset_room, inside_itself, placed, upper}
 use Rattle.test_gen.specs.Generated.{code_bytes, table_bytes, data_bytes, code_segment, table_segment, data_segment, sections, symbol, function_symbol, symbols, file_with}
 use Rattle.test_gen.proofs.Sizes.{length-code_bytes, length-table_bytes, length-data_bytes}
@@ -50,7 +44,7 @@ is_function : (i : ℕ) → IsFunction (function_symbol i)
 unfolding function_symbol
 is_function i = (refl, refl)
 
-all_symbols : (P : Symbol → Type 0) (n : ℕ) → n ≤ 1875 → P (symbol (codes "main") 0x10000) → ((i : ℕ) → i < 1875 → P (function_symbol i)) → All P (symbols n)
+pub all_symbols : (P : Symbol → Type 0) (n : ℕ) → n ≤ 1875 → P (symbol (codes "main") 0x10000) → ((i : ℕ) → i < 1875 → P (function_symbol i)) → All P (symbols n)
 all_symbols P n h first each_one = All-cons P (symbol (codes "main") 0x10000) (each n function_symbol) first (all_each P n function_symbol (λ i l. each_one i (omega arith)))
 
 -- ---- how long the names are

@@ -1,5 +1,5 @@
 -- The file of a generated test. Names and numbers are those of the ELF gABI.
-use Rattle.std.specs.Prelude.{ℕ, ◌+◌, ◌*◌, unwrap_or, List, [], ◌∷◌, ◌++◌, length, map, codes}
+use Rattle.std.specs.Prelude.{ℕ, ◌+◌, ◌*◌, unwrap_or, List, [], ◌∷◌, ◌++◌, map, codes}
 use Rattle.std.specs.Fmt.{decimal}
 use Rattle.elf_types.specs.declared.file.Segment.{Segment}
 use Rattle.elf_types.specs.declared.file.Symbol.{Symbol}

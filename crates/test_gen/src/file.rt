@@ -3,6 +3,7 @@ ghost use Rattle.std.specs.Prelude.{◌≡◌, ◌<◌, ◌≤◌, IfOk, ℕ, Li
 ghost use Rattle.elf_types.specs.declared.file.ElfFile.{ElfFile};
 ghost use Rattle.qed_model.specs.Admission.Refusals.{IsAdmitted};
 ghost use Rattle.qed_model.specs.Elf.File.{IsReadAs};
+ghost use Rattle.qed_model.specs.Elf.FileRead.{file_read};
 ghost use Rattle.qed_model.specs.Elf.Layout.{written};
 ghost use Rattle.qed_model.specs.Machine.Loading.{loaded_file};
 ghost use Rattle.qed_model.specs.Machine.Program.{AreStartRegs, start};
@@ -102,13 +103,14 @@ fn file_with(alloc: Global, seed: u64, functions: u64) -> Result<OutFile, AllocE
 
 /// The test of a seed and a size, as an ELF64 executable for RISC-V. It has `size / 32` functions, rounded up, each of 32
 /// random instructions, which `main` calls three times; the random words are those of PCG XSL RR 128/64 with the seed.
-/// Whatever file its bytes are read as is admitted where no option is given, and its run ends, from any registers.
+/// Its bytes are read as that file, which is admitted where no option is given, and its run ends, from any registers.
 ///
 /// The only error is want of memory.
 pub fn generate(alloc: Global, seed: u64, size: u64) -> Result<Bytes, AllocError>
     requires some { 1 ≤ size }
     requires most { size ≤ 60000 }
     ensures file { IfOk result (λ bytes. bytes ≡ written (generated seed size)) }
+    ensures readable { IfOk result (λ bytes. IsReadAs bytes (file_read (generated seed size))) }
     ensures admitted { IfOk result (λ bytes. (f : ElfFile) → IsReadAs bytes f → IsAdmitted f default_options) }
     ensures ends { IfOk result (λ bytes. (f : ElfFile) → IsReadAs bytes f → (regs : List ℕ) → AreStartRegs regs → EndsAfter (start (loaded_file f) regs) (test_steps size)) }
 {

@@ -19,6 +19,7 @@ returns c =
     let read = subst (λ g. IsReadAs bytes (file_read g)) is c.in_ok-bytes.ensures.reads_back in
     record {
       file = c.in_ok-bytes.ensures.written ∙ ap written is;
+      readable = read;
       admitted = λ f r. admitted c.args.seed c.args.size bytes c.requires.some c.requires.most read f r;
       ends = λ f r regs start_regs. test_ends c.args.seed c.args.size bytes c.requires.some c.requires.most read f r regs start_regs;
     }

@@ -1,0 +1,93 @@
+-- Runs whose steps are counted: a run that ends after n steps has made n steps, however long it may go on.
+use Rattle.std.proofs.Common.{◌≡◌, ℕ, zero, suc, ◌+◌, ◌^◌, ◌<◌, ◌≤◌, refl, ap, ◌∙◌, arith}
+use Rattle.elf_types.specs.declared.file.ElfFile.{ElfFile}
+use Rattle.qed_model.specs.declared.machine.Outcome.TheVariants.{Going, Ended}
+use Rattle.qed_model.specs.Machine.Step.{State, step_at, step, run}
+use Rattle.qed_model.specs.Machine.Progress.{Progress, counted, steps_after, advanced, progress, begun}
+use Rattle.qed_model.specs.Elf.File.{IsReadAs}
+use Rattle.qed_model.specs.Elf.Layout.{written}
+use Rattle.qed_model.specs.Machine.Loading.{loaded_file}
+use Rattle.qed_model.specs.Machine.Program.{AreStartRegs, start, zeros}
+use Rattle.qed_model.proofs.ExampleFile.{are_bytes}
+use Rattle.test_gen.specs.Ends.{EndsAfter, test_steps}
+use Rattle.test_gen.specs.Generated.{generated}
+use Rattle.test_gen.proofs.Admitted.{few_functions}
+use Rattle.test_gen.proofs.Ending.{test_ends}
+use Rattle.test_gen.proofs.Readable.{test_read}
+
+-- ---- ends
+-- a state and a number of steps, as far as a run has come
+abbrev pub made : State → ℕ → Progress
+made s k = record { state = s; steps = k }
+
+-- where a run has ended it stays
+ended_step : (s : State) (k : ℕ) → s.outcome ≡ Ended → advanced (made s k) ≡ made s k
+unfolding advanced step
+ended_step s k e = ap (λ o. made (step_at o s) (steps_after o k)) e
+
+ended_stays : (m : ℕ) (s : State) (k : ℕ) → s.outcome ≡ Ended → progress (made s k) m ≡ made s k
+unfolding progress
+ended_stays zero s k e = refl
+ended_stays (suc m) s k e = ap (λ p. progress p m) (ended_step s k e) ∙ ended_stays m s k e
+
+going_step : (s : State) (k : ℕ) → s.outcome ≡ Going → k + 1 < 2 ^ 64 → advanced (made s k) ≡ made (step s) (k + 1)
+unfolding advanced
+going_step s k g small =
+    let one : counted k ≡ k + 1 = omega (arith, small) in
+    ap (λ o. made (step s) (steps_after o k)) g ∙ ap (made (step s)) one
+
+-- one step nearer to the end
+nearer : (s : State) (n : ℕ) → EndsAfter s (suc n) → EndsAfter (step s) n
+unfolding run
+nearer s n h = record { ends = h.ends; going = λ k l. h.going (suc k) (omega (arith, l)) }
+
+at_end : (s : State) → EndsAfter s zero → s.outcome ≡ Ended
+unfolding run
+at_end s h = h.ends
+
+at_start : (s : State) (n : ℕ) → EndsAfter s (suc n) → s.outcome ≡ Going
+unfolding run
+at_start s n h = h.going 0 (omega arith)
+
+-- behind its end a run has come to its last state, with as many steps
+counted_from : (n m k : ℕ) (s : State) → EndsAfter s n → n ≤ m → k + n < 2 ^ 64 → progress (made s k) m ≡ made (run s n) (k + n)
+unfolding run progress
+counted_from zero m k s h few small =
+    let all : k ≡ k + zero = omega arith in
+    ended_stays m s k (at_end s h) ∙ ap (made s) all
+counted_from (suc n) zero k s h few small = absurd (omega (arith, few))
+counted_from (suc n) (suc m) k s h few small =
+    let all : k + 1 + n ≡ k + suc n = omega arith in
+    ap (λ p. progress p m) (going_step s k (at_start s n h) (omega (arith, small)))
+    ∙ counted_from n m (k + 1) (step s) (nearer s n h) (omega (arith, few)) (omega (arith, small))
+    ∙ ap (made (run (step s) n)) all
+
+-- ---- what is told of a run
+-- it has ended, after so many steps
+pub record HasEnded (p : Progress) (n : ℕ) : Type 0 where
+  pub outcome : p.state.outcome ≡ Ended
+  pub steps : p.steps ≡ n
+
+pub has_ended : (s : State) (n m : ℕ) → EndsAfter s n → n ≤ m → n < 2 ^ 64 → HasEnded (progress (begun s) m) n
+has_ended s n m h few small =
+    let come = counted_from n m 0 s h few (omega (arith, small)) in
+    let none : 0 + n ≡ n = omega arith in
+    record { outcome = ap (λ (p : Progress). p.state.outcome) come ∙ h.ends; steps = ap (λ (p : Progress). p.steps) come ∙ none }
+
+-- ---- the test's own run
+zeros_start : AreStartRegs zeros
+zeros_start = record { count = refl; fit = λ r. let b = are_bytes zeros refl r in omega (arith, b) }
+
+few_steps : (size : ℕ) → 1 ≤ size → size ≤ 60000 → test_steps size ≤ 213765
+unfolding test_steps
+few_steps size some most = let n = few_functions size some most in omega (arith, n.1)
+
+-- whatever its bytes are read as, its run from registers 0 ends
+pub own_ended :
+    (seed size m : ℕ) → 1 ≤ size → size ≤ 60000 → 213765 ≤ m → (f : ElfFile) → IsReadAs (written (generated seed size)) f
+    → HasEnded (progress (begun (start (loaded_file f) zeros)) m) (test_steps size)
+own_ended seed size m some most long f read =
+    let few = few_steps size some most in
+    has_ended (start (loaded_file f) zeros) (test_steps size) m
+    (test_ends seed size (written (generated seed size)) some most (test_read seed size some most) f read zeros zeros_start)
+    (omega (arith, few, long)) (omega (arith, few))
