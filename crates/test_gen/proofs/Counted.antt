@@ -1,19 +1,26 @@
 -- Runs whose steps are counted: a run that ends after n steps has made n steps, however long it may go on.
-use Rattle.std.proofs.Common.{◌≡◌, ℕ, zero, suc, ◌+◌, ◌^◌, ◌<◌, ◌≤◌, refl, ap, ◌∙◌, arith}
+use Rattle.std.proofs.Common.{◌≡◌, ℕ, zero, suc, ◌+◌, ◌-◌, ◌^◌, ◌<◌, ◌≤◌, refl, ap, ◌∙◌, arith}
 use Rattle.elf_types.specs.declared.file.ElfFile.{ElfFile}
+use Rattle.elf_types.specs.declared.output.OutFile.{OutFile}
 use Rattle.qed_model.specs.declared.machine.Outcome.TheVariants.{Going, Ended}
 use Rattle.qed_model.specs.Machine.Step.{State, step_at, step, run}
 use Rattle.qed_model.specs.Machine.Progress.{Progress, counted, steps_after, advanced, progress, begun}
 use Rattle.qed_model.specs.Elf.File.{IsReadAs}
+use Rattle.qed_model.specs.Elf.FileRead.{file_read}
 use Rattle.qed_model.specs.Elf.Layout.{written}
 use Rattle.qed_model.specs.Machine.Loading.{loaded_file}
 use Rattle.qed_model.specs.Machine.Program.{AreStartRegs, start, zeros}
+use Rattle.qed_model.specs.Options.{default_options}
+use Rattle.qed_model.specs.Weave.Woven.{WovenFile}
 use Rattle.qed_model.proofs.ExampleFile.{are_bytes}
-use Rattle.test_gen.specs.Ends.{EndsAfter, test_steps}
+use Rattle.qed_model.proofs.Walk.{run-more}
+use Rattle.test_gen.specs.Ends.{EndsAfter, EndsWithin, HasEnded, test_steps}
 use Rattle.test_gen.specs.Generated.{generated}
+use Rattle.test_gen.specs.Outputs.{HasSmallCode, most_output_steps}
 use Rattle.test_gen.proofs.Admitted.{few_functions}
 use Rattle.test_gen.proofs.Ending.{test_ends}
 use Rattle.test_gen.proofs.Readable.{test_read}
+use Rattle.test_gen.proofs.Within.{test_weavable}
 
 -- ---- ends
 -- a state and a number of steps, as far as a run has come
@@ -63,11 +70,6 @@ counted_from (suc n) (suc m) k s h few small =
     ∙ ap (made (run (step s) n)) all
 
 -- ---- what is told of a run
--- it has ended, after so many steps
-pub record HasEnded (p : Progress) (n : ℕ) : Type 0 where
-  pub outcome : p.state.outcome ≡ Ended
-  pub steps : p.steps ≡ n
-
 pub has_ended : (s : State) (n m : ℕ) → EndsAfter s n → n ≤ m → n < 2 ^ 64 → HasEnded (progress (begun s) m) n
 has_ended s n m h few small =
     let come = counted_from n m 0 s h few (omega (arith, small)) in
@@ -91,3 +93,32 @@ own_ended seed size m some most long f read =
     has_ended (start (loaded_file f) zeros) (test_steps size) m
     (test_ends seed size (written (generated seed size)) some most (test_read seed size some most) f read zeros zeros_start)
     (omega (arith, few, long)) (omega (arith, few))
+
+-- ---- the output's run
+progress_state : (m : ℕ) (p : Progress) → (progress p m).state ≡ run p.state m
+unfolding progress run advanced
+progress_state zero p = refl
+progress_state (suc m) p = progress_state m (advanced p)
+
+run_stays : (m : ℕ) (s : State) → s.outcome ≡ Ended → run s m ≡ s
+unfolding run step
+run_stays zero s e = refl
+run_stays (suc m) s e = let same : step s ≡ s = ap (λ o. step_at o s) e in ap (λ t. run t m) same ∙ run_stays m s e
+
+-- a run that ends within n steps has ended behind them
+ended_within : (s : State) (n m : ℕ) → EndsWithin s n → n ≤ m → (progress (begun s) m).state.outcome ≡ Ended
+ended_within s n m h few =
+    let within = h.within in
+    let rest : ℕ = m - h.steps in
+    let all : m ≡ h.steps + (m - h.steps) = omega (arith, within, few) in
+    let come : run s m ≡ run s h.steps = ap (run s) all ∙ run-more s h.steps rest ∙ run_stays rest (run s h.steps) h.ends in
+    ap (λ (t : State). t.outcome) (progress_state m (begun s) ∙ come) ∙ h.ends
+
+-- what is woven from a test has ended, from registers 0
+pub output_ended :
+    (seed size m : ℕ) → 1 ≤ size → size ≤ 60000 → most_output_steps ≤ m → (out : OutFile)
+    → (w : WovenFile (written (generated seed size)) default_options out) → HasSmallCode (written (generated seed size)) out w
+    → (progress (begun (start (loaded_file (file_read out)) zeros)) m).state.outcome ≡ Ended
+output_ended seed size m some most long out w short =
+    let ends = (test_weavable seed size some most).ends out w short zeros zeros_start in
+    ended_within (start (loaded_file (file_read out)) zeros) most_output_steps m ends long

@@ -14,3 +14,5 @@ pub mod Loaded
 pub mod Ending
 pub mod Readable
 pub mod Counted
+pub mod OutputSize
+pub mod Within

@@ -31,7 +31,9 @@ unfolding function_symbol
 function_fits i h = record { value = omega (arith, h); size = omega arith; other = omega arith; index = omega arith }
 
 symbols_fit : (n : ℕ) → n ≤ 1875 → All SymbolFits (symbols n)
-symbols_fit n few = all_symbols SymbolFits n few (record { value = omega arith; size = omega arith; other = omega arith; index = omega arith }) (λ i l. function_fits i l)
+symbols_fit n few =
+    all_symbols SymbolFits n few (record { value = omega arith; size = omega arith; other = omega arith; index = omega arith })
+    (λ i l. function_fits i l)
 
 -- ---- files of n functions
 read_with : (seed n : ℕ) → n ≤ 1875 → IsReadAs (written (file_with seed n)) (file_read (file_with seed n))

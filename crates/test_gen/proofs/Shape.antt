@@ -45,7 +45,7 @@ module _ (n : ℕ) (code table words : List ℕ) (symbols : List Symbol) (x y z 
   abbrev f : ElfFile
   f = file_of code table words symbols x y z
 
-  abbrev image : List Segment
+  abbrev pub image : List Segment
   image = segment 5 0x10000 code ∷ segment 4 0x80000 table ∷ segment 6 0x90000 words ∷ []
 
   -- ---- each has bytes
@@ -58,14 +58,14 @@ module _ (n : ℕ) (code table words : List ℕ) (symbols : List Symbol) (x y z 
   some_words : nat_lt 0 (length words) ≡ true
   some_words = let s = sized.words_size in lt-ltb 0 (length words) (omega (arith, s))
 
-  image_is : image_of f ≡ image
+  pub image_is : image_of f ≡ image
   image_is = rw (some_code, some_table, some_words) refl
 
   -- ---- the code
   to_end : nat_le (0x10000 + length code) (0x10000 + length code) ≡ true
   to_end = le-leb (0x10000 + length code) (0x10000 + length code) (omega arith)
 
-  range_is : ranges_of f ≡ (0x10000, 0x10000 + length code) ∷ []
+  pub range_is : ranges_of f ≡ (0x10000, 0x10000 + length code) ∷ []
   range_is = rw (some_code, to_end) refl
 
   pub code_image : IsImage f 0x10000 code
@@ -90,13 +90,13 @@ module _ (n : ℕ) (code table words : List ℕ) (symbols : List Symbol) (x y z 
   segments_pass = rw (some_code, to_end) refl
 
   -- ---- the data
-  abbrev table_end : ℕ
+  abbrev pub table_end : ℕ
   table_end = (0x80000 + length table + 7) / 8 * 8
 
   abbrev code_end : ℕ
   code_end = (0x10000 + length code + 7) / 8 * 8
 
-  abbrev words_end : ℕ
+  abbrev pub words_end : ℕ
   words_end = (0x90000 + length words + 7) / 8 * 8
 
   code_before : nat_lt 0x80000 code_end ≡ false
@@ -105,10 +105,10 @@ module _ (n : ℕ) (code table words : List ℕ) (symbols : List Symbol) (x y z 
   table_before : nat_lt table_end 0x90000 ≡ true
   table_before = let s = sized.table_size in let k = sized.few in lt-ltb table_end 0x90000 (omega (arith, s, k))
 
-  table_data : is_data image (segment 4 0x80000 table) ≡ true
+  pub table_data : is_data image (segment 4 0x80000 table) ≡ true
   table_data = rw code_before refl
 
-  data_is : data_ranges image ≡ (0x80000, table_end) ∷ (0x90000, words_end) ∷ []
+  pub data_is : data_ranges image ≡ (0x80000, table_end) ∷ (0x90000, words_end) ∷ []
   data_is = rw (table_data, table_before) refl
 
   pub unmixed : list_any (is_mixed (image_of f)) f.segments ≡ false

@@ -32,7 +32,7 @@ function_name : (i : ℕ) → i < 1875 → IsName (function_symbol i).name
 unfolding function_symbol
 function_name i h = All-append (λ byte. byte ≢ 0) (codes "f") (decimal i) (name_test (codes "f") refl) (digits_name i (omega arith))
 
-function_name_size : (i : ℕ) → i < 1875 → length (function_symbol i).name ≤ 5
+pub function_name_size : (i : ℕ) → i < 1875 → length (function_symbol i).name ≤ 5
 unfolding function_symbol
 function_name_size i h = omega (arith, length-append (codes "f") (decimal i), length-decimal-le 4 i (omega arith) (omega arith) (omega arith))
 
@@ -48,7 +48,7 @@ pub all_symbols : (P : Symbol → Type 0) (n : ℕ) → n ≤ 1875 → P (symbol
 all_symbols P n h first each_one = All-cons P (symbol (codes "main") 0x10000) (each n function_symbol) first (all_each P n function_symbol (λ i l. each_one i (omega arith)))
 
 -- ---- how long the names are
-names_size : (ss : List Symbol) → All (λ s. length s.name ≤ 5) ss → length (names_bytes (symbol_names ss)) ≤ 6 * length ss
+pub names_size : (ss : List Symbol) → All (λ s. length s.name ≤ 5) ss → length (names_bytes (symbol_names ss)) ≤ 6 * length ss
 names_size [] h = omega arith
 names_size (s ∷ ss) h =
     let first = h 0 s (omega arith) in

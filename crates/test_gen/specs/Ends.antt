@@ -1,7 +1,8 @@
 -- When the run of a generated test ends.
-use Rattle.std.specs.Prelude.{◌≡◌, ℕ, ◌+◌, ◌*◌, ◌<◌}
+use Rattle.std.specs.Prelude.{◌≡◌, ℕ, ◌+◌, ◌*◌, ◌<◌, ◌≤◌}
 use Rattle.qed_model.specs.declared.machine.Outcome.TheVariants.{Going, Ended}
 use Rattle.qed_model.specs.Machine.Step.{State, run}
+use Rattle.qed_model.specs.Machine.Progress.{Progress}
 use Rattle.test_gen.specs.Code.{function_count}
 
 -- step n of a run is its ECALL
@@ -16,3 +17,14 @@ run_steps n = 3 + 3 * (4 + 38 * n)
 -- the steps of the test of a size
 unfoldable pub test_steps : ℕ → ℕ
 test_steps size = run_steps (function_count size)
+
+-- step n of a run at the latest is its ECALL
+pub record EndsWithin (s : State) (n : ℕ) : Type 0 where
+  pub steps : ℕ
+  pub within : steps ≤ n
+  pub ends : (run s steps).outcome ≡ Ended
+
+-- a run whose steps were counted has ended, after so many
+pub record HasEnded (p : Progress) (n : ℕ) : Type 0 where
+  pub outcome : p.state.outcome ≡ Ended
+  pub steps : p.steps ≡ n

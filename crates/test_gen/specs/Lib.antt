@@ -1,3 +1,4 @@
 pub mod Code
 pub mod Generated
 pub mod Ends
+pub mod Outputs

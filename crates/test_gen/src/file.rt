@@ -9,6 +9,7 @@ ghost use Rattle.qed_model.specs.Machine.Loading.{loaded_file};
 ghost use Rattle.qed_model.specs.Machine.Program.{AreStartRegs, start};
 ghost use Rattle.qed_model.specs.Options.{default_options};
 ghost use Rattle.test_gen.specs.Ends.{EndsAfter, test_steps};
+ghost use Rattle.test_gen.specs.Outputs.{IsWeavable};
 ghost use Rattle.test_gen.specs.Generated.{sections as sections_of, symbol as symbol_of, function_symbol as function_symbol_of, symbols as symbols_of, file_with as file_with_of, generated};
 
 use crate::code::{code, function_count, words_bytes};
@@ -103,7 +104,8 @@ fn file_with(alloc: Global, seed: u64, functions: u64) -> Result<OutFile, AllocE
 
 /// The test of a seed and a size, as an ELF64 executable for RISC-V. It has `size / 32` functions, rounded up, each of 32
 /// random instructions, which `main` calls three times; the random words are those of PCG XSL RR 128/64 with the seed.
-/// Its bytes are read as that file, which is admitted where no option is given, and its run ends, from any registers.
+/// Its bytes are read as that file, which is admitted where no option is given, and its run ends, from any registers. Where its
+/// new code is within the limit, so is what is woven from it, and the run of that ends too.
 ///
 /// The only error is want of memory.
 pub fn generate(alloc: Global, seed: u64, size: u64) -> Result<Bytes, AllocError>
@@ -113,6 +115,7 @@ pub fn generate(alloc: Global, seed: u64, size: u64) -> Result<Bytes, AllocError
     ensures readable { IfOk result (λ bytes. IsReadAs bytes (file_read (generated seed size))) }
     ensures admitted { IfOk result (λ bytes. (f : ElfFile) → IsReadAs bytes f → IsAdmitted f default_options) }
     ensures ends { IfOk result (λ bytes. (f : ElfFile) → IsReadAs bytes f → (regs : List ℕ) → AreStartRegs regs → EndsAfter (start (loaded_file f) regs) (test_steps size)) }
+    ensures weavable { IfOk result IsWeavable }
 {
     let file = file_with(alloc, seed, function_count(size))?;
     let bytes = write_elf(alloc, &file)?;

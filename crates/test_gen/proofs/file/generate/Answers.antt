@@ -3,6 +3,8 @@ use Rattle.qed_model.specs.Elf.File.{IsReadAs}
 use Rattle.qed_model.specs.Elf.FileRead.{file_read}
 use Rattle.qed_model.specs.Elf.Layout.{written, IsWritable}
 use Rattle.test_gen.specs.Generated.{file_with, generated}
+use Rattle.test_gen.specs.Outputs.{IsWeavable}
+use Rattle.test_gen.proofs.Within.{test_weavable}
 use Rattle.test_gen.proofs.Admitted.{admitted}
 use Rattle.test_gen.proofs.Ending.{test_ends}
 use Rattle.test_gen.proofs.Writable.{writable}
@@ -15,11 +17,17 @@ pub returns : goal.returns
 unfolding generated
 returns c =
     let bytes = c.in_ok-bytes.bytes in
-    let is : c.in_ok-file.file ≡ generated c.args.seed c.args.size = c.in_ok-file.ensures ∙ ap (file_with c.args.seed) c.function_count.ensures.value in
+    let seed = c.args.seed in
+    let size = c.args.size in
+    let some = c.requires.some in
+    let most = c.requires.most in
+    let is : c.in_ok-file.file ≡ generated seed size = c.in_ok-file.ensures ∙ ap (file_with seed) c.function_count.ensures.value in
+    let same : bytes ≡ written (generated seed size) = c.in_ok-bytes.ensures.written ∙ ap written is in
     let read = subst (λ g. IsReadAs bytes (file_read g)) is c.in_ok-bytes.ensures.reads_back in
     record {
-      file = c.in_ok-bytes.ensures.written ∙ ap written is;
+      file = same;
       readable = read;
-      admitted = λ f r. admitted c.args.seed c.args.size bytes c.requires.some c.requires.most read f r;
-      ends = λ f r regs start_regs. test_ends c.args.seed c.args.size bytes c.requires.some c.requires.most read f r regs start_regs;
+      admitted = λ f r. admitted seed size bytes some most read f r;
+      ends = λ f r regs start_regs. test_ends seed size bytes some most read f r regs start_regs;
+      weavable = subst IsWeavable (sym same) (test_weavable seed size some most);
     }

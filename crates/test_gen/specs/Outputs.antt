@@ -1,0 +1,28 @@
+-- What is woven from a generated test, where no option is given.
+use Rattle.std.specs.Prelude.{ℕ, ◌≤◌, List}
+use Rattle.elf_types.specs.declared.output.OutFile.{OutFile}
+use Rattle.qed_model.specs.declared.limits.Limit.TheVariants as limit
+use Rattle.qed_model.specs.Limits.{limit_of}
+use Rattle.qed_model.specs.Options.{default_options}
+use Rattle.qed_model.specs.Elf.FileRead.{file_read}
+use Rattle.qed_model.specs.Machine.Loading.{loaded_file}
+use Rattle.qed_model.specs.Machine.Program.{AreStartRegs, start}
+use Rattle.qed_model.specs.Weave.Woven.{code_size, WovenFile, IsWithin}
+use Rattle.test_gen.specs.Ends.{EndsWithin}
+
+-- the most steps of an output: 33 of what runs first, and 123 of a piece for each of the 213,765 steps of the largest test and for one more
+abbrev pub most_output_steps : ℕ
+most_output_steps = 26293251
+
+-- the new code is within its limit
+abbrev pub HasSmallCode : (bytes : List ℕ) (out : OutFile) → WovenFile bytes default_options out → Type 0
+HasSmallCode bytes out w = code_size w.file default_options w.blocks ≤ limit_of limit.CodeBytes
+
+-- where it is, the output is within the others, and its run ends, from any registers
+pub record IsWeavable (bytes : List ℕ) : Type 0 where
+  pub within :
+      (out : OutFile) (w : WovenFile bytes default_options out) → HasSmallCode bytes out w
+      → IsWithin w.file default_options w.blocks out
+  pub ends :
+      (out : OutFile) (w : WovenFile bytes default_options out) → HasSmallCode bytes out w → (regs : List ℕ) → AreStartRegs regs
+      → EndsWithin (start (loaded_file (file_read out)) regs) most_output_steps
