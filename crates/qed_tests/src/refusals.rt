@@ -129,11 +129,12 @@ const CUTS: [CutCase; 3] = [
     },
 ];
 
-/// Asserts that a file is refused with this text, and that nothing is stored.
-fn assert_refused<R: Abort + Alloc<A = Global>>(
+/// Asserts that a file is answered by this text and exit code, and that nothing is stored.
+pub(crate) fn assert_answer<R: Abort + Alloc<A = Global>>(
     rt: &R,
     file: &[u8],
     printed: &str,
+    code: u8,
 ) -> Result<(), Fail> {
     let alloc = rt.alloc();
     let mut shelf = MemoryShelf::new(alloc);
@@ -141,7 +142,7 @@ fn assert_refused<R: Abort + Alloc<A = Global>>(
     let mut out = MemorySink::new(alloc);
     let status = run(alloc, &["transform", "in", "out"], &mut shelf, &mut out)?;
     assert_eq!(rt; out.bytes(), printed.as_bytes());
-    assert_eq!(rt; status.code(), 3, "{printed}");
+    assert_eq!(rt; status.code(), code, "{printed}");
     assert!(rt; shelf.file("out").is_none(), "{printed}");
     assert_eq!(rt; shelf.file("in"), Some(file), "{printed}");
     Ok(())
@@ -152,16 +153,16 @@ fn other_files_are_refused(rt: HostRuntime) -> Result<(), Fail> {
     let alloc = rt.alloc();
     for case in CODES {
         let file = first_file(alloc, case.words)?;
-        assert_refused(&rt, &file, case.printed)?;
+        assert_answer(&rt, &file, case.printed, 3)?;
     }
     for case in HEADERS {
         let file = case.file.bytes(alloc)?;
-        assert_refused(&rt, &file, case.printed)?;
+        assert_answer(&rt, &file, case.printed, 3)?;
     }
     for case in CUTS {
         let mut file = ONE.bytes(alloc)?;
         file.truncate(case.keep);
-        assert_refused(&rt, &file, case.printed)?;
+        assert_answer(&rt, &file, case.printed, 3)?;
     }
     Ok(())
 }

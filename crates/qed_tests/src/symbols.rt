@@ -53,7 +53,7 @@ const SECTIONS: [SectionRow; 3] = [
 ];
 
 /// The two sums with these symbols.
-fn with_symbols(alloc: Global) -> Result<Vec<u8>, AllocError> {
+pub(crate) fn with_symbols(alloc: Global) -> Result<Vec<u8>, AllocError> {
     let file = Elf {
         parts: &[Part {
             words: TWO_SUMS,
