@@ -2,13 +2,12 @@
 use Rattle.std.proofs.Common.{◌≡◌, ℕ, ◌+◌, ◌*◌, ◌/◌, ◌%◌, ◌^◌, ◌≤◌, ◌<◌, nat_lt, nat_le, min, Bool, true, false, cond, List, [], ◌∷◌, map, length, refl, sym, subst, arith, ◌&&◌, ◌==◌, ◌∙◌}
 use Rattle.std.proofs.lemmas.Bool.Decides.{nat_tests}
 use Rattle.std.proofs.lemmas.List.{length-map}
-use Rattle.std.specs.Prelude.{Option, Some, None, IfSome, IsSomeAnd, unwrap_or, option_and_then, slice_get, find, fold, filter_map, option_map, if◌then◌else◌, Ok, All}
+use Rattle.std.specs.Prelude.{Option, Some, None, IfSome, IsSomeAnd, unwrap_or, option_and_then, slice_get, find, filter_map, option_map, if◌then◌else◌, Ok, All}
 use Rattle.std.specs.Char.{digit_value}
 use Rattle.std.specs.List.{list_all, AllByRecursion}
 use Rattle.std.proofs.lemmas.Bool.{and_parts}
 use Rattle.std.proofs.lemmas.List.Elements.{All-from_recursion}
 use Rattle.std.specs.Option.{option_or}
-use Rattle.qed_model.specs.declared.change.Change.{Change}
 use Rattle.qed_model.specs.declared.limits.TheConstants.{MAX_HALF}
 use Rattle.qed_model.specs.declared.order.Command.{Command}
 use Rattle.qed_model.specs.declared.order.Command.TheVariants.{Transform, Plan, Run, Campaign, Gen, Asm, Harts}
@@ -20,7 +19,8 @@ use Rattle.qed_model.specs.declared.order.Reason.{Reason}
 use Rattle.qed_model.specs.declared.order.Reason.TheVariants.{MissingFile, MissingOption, OutOfRange, Split}
 use Rattle.qed_model.specs.Promise.Changed.{Ordered}
 use Rattle.qed_model.specs.Weave.Places.{AreSoundOptions}
-use Rattle.qed_model.specs.Words.{Argument, asked, asked_of, answer, colon, fault, first_wrong, parted, span_in, arguments, command_of, dump, files, first_reason, first_wrong_value, is_in_range, keys_of, lacks, missing, number, number_given, options, order_of, reason_of, span_of, split_reason, value_of, values, with_change, wrong_number, wrong_value, wrong_values, changes_given, is_digit, steps_given, turns, wrong_turns}
+use Rattle.qed_model.specs.Words.{Argument, asked, asked_of, answer, colon, fault, first_wrong, parted, span_in, arguments, command_of, dump, files, first_reason, first_wrong_value, is_in_range, keys_of, lacks, missing, number, number_given, options, order_of, reason_of, span_of, split_reason, value_of, values, wrong_number, wrong_value, wrong_values, changes_given, is_digit, steps_given, turns, wrong_turns}
+use Rattle.ordered_changes.proofs.InOrder.{in_order_ordered}
 use Rattle.qed_words.specs.Sound.{IsSoundOrder}
 
 -- ---- where there is no reason
@@ -135,32 +135,9 @@ steps_fit : (steps : Option ℕ) → IfSome steps (IsInRange Steps) → unwrap_o
 steps_fit None fits = omega arith
 steps_fit (Some n) fits = grind (arith, nat_tests)
 
-rest_ordered : (d : Change) (ds : List Change) → Ordered (d ∷ ds) → Ordered ds
-rest_ordered d [] ordered = tt
-rest_ordered d (e ∷ ds) ordered = ordered.1
-
-front_ordered : (d c : Change) (ds : List Change) → d.step ≤ c.step → Ordered (d ∷ ds) → Ordered (with_change ds c) → Ordered (d ∷ with_change ds c)
-front_ordered d c [] below ordered later = (below, tt)
-front_ordered d c (e ∷ ds) below ordered later =
-    elim (nat_le e.step c.step)
-    as (λ t. Ordered (if t then e ∷ with_change ds c else c ∷ e ∷ ds) → Ordered (d ∷ (if t then e ∷ with_change ds c else c ∷ e ∷ ds)))
-    [ true ↦ λ h. (ordered.0, h) | false ↦ λ h. (below, h) ] later
-
-with_change_ordered : (ds : List Change) (c : Change) → Ordered ds → Ordered (with_change ds c)
-with_change_ordered [] c ordered = tt
-with_change_ordered (d ∷ ds) c ordered =
-    elim (nat_le d.step c.step)
-    as (λ t. nat_le d.step c.step ≡ t → Ordered (if t then d ∷ with_change ds c else c ∷ d ∷ ds))
-    [ true ↦ λ h. front_ordered d c ds (grind (arith, nat_tests)) ordered (with_change_ordered ds c (rest_ordered d ds ordered)) | false ↦ λ h. (grind (arith, nat_tests), ordered) ]
-    refl
-
-fold_ordered : (changes made : List Change) → Ordered made → Ordered (fold with_change made changes)
-fold_ordered [] made ordered = ordered
-fold_ordered (c ∷ changes) made ordered = fold_ordered changes (with_change made c) (with_change_ordered made c ordered)
-
 changes_ordered : (given : List Argument) → Ordered (changes_given given)
 unfolding changes_given
-changes_ordered given = fold_ordered (filter_map fault (values Fault given)) [] tt
+changes_ordered given = in_order_ordered (filter_map fault (values Fault given))
 
 abbrev IsShown : ℕ × ℕ → Type 0
 IsShown d = (1 ≤ d.1) × (d.1 ≤ 65536) × (d.0 + d.1 ≤ 2 ^ 64)

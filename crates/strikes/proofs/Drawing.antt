@@ -12,34 +12,14 @@ use Rattle.qed_model.specs.declared.plan.Plan.{Plan}
 use Rattle.qed_model.specs.Admission.DataRanges.{range_of, word_count}
 use Rattle.qed_model.specs.Below.{each}
 use Rattle.qed_model.specs.Promise.Caught.{bound_of}
-use Rattle.qed_model.specs.Promise.Changed.{Ordered, has_word, is_word}
+use Rattle.qed_model.specs.Promise.Changed.{has_word, is_word}
 use Rattle.qed_model.specs.Words.{with_change, in_order}
 use Rattle.qed_model.proofs.ReadFacts.{All-each}
+use Rattle.ordered_changes.proofs.InOrder.{in_order_ordered}
 use Rattle.random_words.specs.Random.{seeded, after}
 use Rattle.random_words.proofs.Words.{after-more}
 use Rattle.strikes.specs.Draw.{place_of, drawn_change, drawn_strike, drawn_strikes, HasWords}
 use Rattle.strikes.specs.Struck.{IsStrike}
-use Rattle.strikes.proofs.Stopping.{rest_ordered}
-
--- ---- the order of steps
-front_ordered : (d c : Change) (ds : List Change) → d.step ≤ c.step → Ordered (d ∷ ds) → Ordered (with_change ds c) → Ordered (d ∷ with_change ds c)
-front_ordered d c [] below ordered later = (below, tt)
-front_ordered d c (e ∷ ds) below ordered later =
-    elim (nat_le e.step c.step)
-    as (λ t. Ordered (if t then e ∷ with_change ds c else c ∷ e ∷ ds) → Ordered (d ∷ (if t then e ∷ with_change ds c else c ∷ e ∷ ds)))
-    [ true ↦ λ h. (ordered.0, h) | false ↦ λ h. (below, h) ] later
-
-with_change_ordered : (ds : List Change) (c : Change) → Ordered ds → Ordered (with_change ds c)
-with_change_ordered [] c ordered = tt
-with_change_ordered (d ∷ ds) c ordered =
-    elim (nat_le d.step c.step)
-    as (λ t. nat_le d.step c.step ≡ t → Ordered (if t then d ∷ with_change ds c else c ∷ d ∷ ds))
-    [ true ↦ λ h. front_ordered d c ds (grind (arith, nat_tests)) ordered (with_change_ordered ds c (rest_ordered d ds ordered)) | false ↦ λ h. (grind (arith, nat_tests), ordered) ]
-    refl
-
-fold_ordered : (changes made : List Change) → Ordered made → Ordered (fold with_change made changes)
-fold_ordered [] made ordered = ordered
-fold_ordered (c ∷ changes) made ordered = fold_ordered changes (with_change made c) (with_change_ordered made c ordered)
 
 -- ---- words among the places
 -- with a change more there is no word where there was none and the change is of none
@@ -78,7 +58,7 @@ bounded bounds cs (inr s) = elim (has_word cs) as (λ b. IsSome (cond b bounds.w
 pub drawn_fits : (plan : Plan) (reach n : ℕ) (g : Lcg) → HasWords plan → IsStrike plan.bounds (drawn_strike (map range_of plan.span) reach n g)
 unfolding drawn_strike
 drawn_fits plan reach n g has = record {
-  ordered = fold_ordered (each n (λ k. drawn_change (map range_of plan.span) reach (after (3 * k) g))) [] tt;
+  ordered = in_order_ordered (each n (λ k. drawn_change (map range_of plan.span) reach (after (3 * k) g)));
   bounded = bounded plan.bounds (in_order (each n (λ k. drawn_change (map range_of plan.span) reach (after (3 * k) g)))) (by_count (cases_lt 0 plan.words));
 } where
   by_count :

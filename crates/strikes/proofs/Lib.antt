@@ -3,6 +3,5 @@ pub mod Showing
 pub mod Shifting
 pub mod Looking
 pub mod Drawing
-pub mod Inserting
 pub mod Copying
 pub mod Making

@@ -9,6 +9,7 @@ use Rattle.qed_model.specs.Machine.Step.{State, step_at, step, run}
 use Rattle.qed_model.specs.Promise.Changed.{changed, changed_as, with_changes, changed_run, Ordered, last_step}
 use Rattle.qed_model.proofs.Walk.{run-more}
 use Rattle.fault_inject.proofs.Changing.{AllBy, plain}
+use Rattle.ordered_changes.proofs.InOrder.{rest_ordered}
 use Rattle.strikes.specs.Verdict.{StopsAt}
 
 -- ---- outcomes
@@ -104,11 +105,7 @@ first_stop states n x =
     elim (below states n) [ inl h ↦ record { steps = n; within = omega arith; stops = record { stopped = x; before = h } } | inr s ↦ s ]
 
 -- ---- behind the last change
--- steps that do not fall do not fall behind the first
-pub rest_ordered : (c : Change) (cs : List Change) → Ordered (c ∷ cs) → Ordered cs
-rest_ordered c [] o = tt
-rest_ordered c (d ∷ cs) o = o.1
-
+-- the first step is none behind the last
 pub first_last : (c : Change) (cs : List Change) → Ordered (c ∷ cs) → c.step ≤ last_step (c ∷ cs)
 first_last c [] o = omega arith
 first_last c (d ∷ cs) o = let k = first_last d cs o.1 in omega (arith, k, o.0)

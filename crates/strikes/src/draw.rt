@@ -1,12 +1,11 @@
 //! Strikes that are drawn at random.
-ghost use Rattle.std.specs.Prelude.{◌≡◌, ◌+◌, ◌*◌, ◌%◌, ◌≤◌, ◌<◌, All, IfOk, OnOk, length, map, nat_le};
-ghost use Rattle.std.specs.List.{prefix_len};
+ghost use Rattle.std.specs.Prelude.{◌≡◌, ◌+◌, ◌*◌, ◌%◌, ◌≤◌, ◌<◌, All, IfOk, OnOk, map};
 ghost use Rattle.qed_model.specs.Admission.DataRanges.{range_of};
-ghost use Rattle.qed_model.specs.Words.{with_change};
 ghost use Rattle.random_words.specs.Random.{after};
 ghost use Rattle.strikes.specs.Draw.{word_address as word_address_of, place_of as place_of_number, drawn_change as drawn_change_of, drawn_strike as drawn_strike_of, drawn_strikes as drawn_strikes_of, HasWords};
 ghost use Rattle.strikes.specs.Struck.{IsStrike};
 
+use ordered_changes::add_change;
 use qed_model::{Change, Changes, Place, Plan, Range};
 use rand_pcg::Pcg64;
 use random_words::{drawn, seeded};
@@ -70,23 +69,6 @@ fn drawn_change(rng: &mut Pcg64, plan: &Plan, reach: u64) -> Change
     let place = place_of(plan.span.as_slice(), place_number(drawn(rng), plan.words));
     let value = drawn(rng);
     Change { step, place, value }
-}
-
-/// How many changes from the first on have a step that is not greater.
-fn count_front(changes: &[Change], step: u64) -> usize
-    ensures count { result ≡ prefix_len (λ c. nat_le c.step step) changes.now }
-    ensures inside { result ≤ length changes.now }
-{
-    changes.iter().take_while(|c| c.step <= step).count()
-}
-
-/// Adds a change behind those whose step is not greater.
-fn add_change(changes: &mut Vec<Change>, change: Change) -> Result<(), AllocError>
-    ensures { OnOk result (changes.new.items ≡ with_change changes.old.items change) }
-{
-    let place = count_front(changes, change.step);
-    changes.insert(place, change)?;
-    Ok(())
 }
 
 /// A strike of so many changes, of the next random words.

@@ -18,6 +18,6 @@ loop-preserved c =
     let sum : 3 * c.loop.counter + 3 ≡ 3 * (c.loop.counter + 1) = omega arith in
     record {
       made = one_change spans c.args.reach c.loop.counter c.args.rng.now c.loop.made.items c.add_change.new.changes.items c.drawn_change-change.result c.loop.invariant.made
-          (c.drawn_change-change.ensures.change ∙ ap (drawn_change spans c.args.reach) before) c.in_ok-add_change.ensures;
+          (c.drawn_change-change.ensures.change ∙ ap (drawn_change spans c.args.reach) before) c.in_ok-add_change.ensures.added;
       rng = c.drawn_change-change.ensures.rng ∙ ap (after 3) before ∙ after-more 3 (3 * c.loop.counter) c.args.rng.now ∙ ap (λ n. after n c.args.rng.now) sum;
     }
