@@ -83,10 +83,16 @@ impl Decoder {
         ensures { result ≡ decode_of word }
     {
         let ins = decode(word)?;
-        if at < self.known.len() {
-            let kept = decode(word)?;
-            self.known[at] = Known { word, ins: kept };
-        }
+        self.keep(at, word, &ins);
         Some(ins)
+    }
+
+    /// Keeps the instruction of a word, where there is such a place.
+    fn keep(&mut self, at: usize, word: u32, ins: &Ins)
+        requires { decode_of word ≡ Some ins.now }
+    {
+        if at < self.known.len() {
+            self.known[at] = Known { word, ins: *ins };
+        }
     }
 }
