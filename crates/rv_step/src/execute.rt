@@ -10,7 +10,6 @@ ghost use Rattle.rv_step.specs.Known.{known_at, word_at};
 
 use crate::hart::Hart;
 use crate::loads::{extended, width};
-use crate::range::any_has_word;
 use mem_image::Image;
 use qed_model::{Cause, Outcome};
 use rv_alu::{Branching, Computing, Jumping, Passing};
@@ -23,10 +22,22 @@ impl Hart {
     fn word(&self, image: &Image, address: u64) -> Option<u32>
         ensures { result ≡ word_at (with_memory self.now image.now).state address }
     {
-        if address % 4 != 0 || !any_has_word(&self.ranges, address) {
+        if address % 4 != 0 || !self.ranges.has(address) {
             return None;
         }
         image.fetch(address)
+    }
+
+    /// The word at the pc, where it may be executed, else None.
+    #[inline(always)]
+    fn next_word(&mut self, image: &Image) -> Option<u32>
+        ensures word { result ≡ word_at (with_memory self.old image.now).state self.old.pc }
+        ensures same { self.new ≡ self.old }
+    {
+        if self.pc % 4 != 0 || !self.ranges.find(self.pc) {
+            return None;
+        }
+        image.fetch(self.pc)
     }
 
     /// The instruction at an address, or None where no code may be executed there or the word is no instruction.
@@ -45,7 +56,7 @@ impl Hart {
         ensures kept { IfErr result (λ _. self.new ≡ self.old) }
         ensures memory { IfErr result (λ _. image.new ≡ image.old) }
     {
-        let Some(word) = self.word(image, self.pc) else {
+        let Some(word) = self.next_word(image) else {
             self.trap(Cause::Fetch);
             return Ok(());
         };

@@ -9,7 +9,8 @@ ghost use Rattle.rv_step.specs.Harts.{hart_of, with_memory};
 ghost use Rattle.rv_step.specs.Known.{goes_on, struck_progress};
 
 use crate::decoder::Decoder;
-use code_ranges::{CodeRange, code_ranges};
+use crate::range::Ranges;
+use code_ranges::code_ranges;
 use elf_types::ElfFile;
 use mem_image::Image;
 use qed_model::Outcome;
@@ -22,7 +23,7 @@ use std::marker::Model;
 pub struct Hart {
     pub(crate) regs: Regs,
     pub(crate) pc: u64,
-    pub(crate) ranges: Vec<CodeRange>,
+    pub(crate) ranges: Ranges,
     pub(crate) outcome: Outcome,
     pub(crate) steps: u64,
     /// Nothing rests on what it has kept.
@@ -31,13 +32,12 @@ pub struct Hart {
 
 impl Model for Hart {
     ghost use Rattle.rv_step.specs.Harts.{HartState, hart_code};
-    ghost use Rattle.code_ranges.specs.Ranges.{spans};
 
     ghost Value = { HartState };
 
     ghost coded = { hart_code };
 
-    ghost view = { λ h. record { regs = h.regs; pc = h.pc; ranges = spans h.ranges.items; outcome = h.outcome; steps = h.steps } };
+    ghost view = { λ h. record { regs = h.regs; pc = h.pc; ranges = h.ranges; outcome = h.outcome; steps = h.steps } };
 }
 
 impl Hart {
@@ -49,7 +49,7 @@ impl Hart {
         Ok(Hart {
             regs: Regs::new(regs),
             pc: file.entry,
-            ranges: code_ranges(alloc, file)?,
+            ranges: Ranges::of(alloc, code_ranges(alloc, file)?)?,
             outcome: Outcome::Going,
             steps: 0,
             decoder: Decoder::new(alloc)?,
@@ -127,7 +127,7 @@ impl Hart {
         Ok(Hart {
             regs: self.regs,
             pc: self.pc,
-            ranges: Vec::from_slice(alloc, &self.ranges)?,
+            ranges: self.ranges.copy(alloc)?,
             outcome: self.outcome,
             steps: self.steps,
             decoder: Decoder::new(alloc)?,
