@@ -7,7 +7,7 @@ use Rattle.std.proofs.lemmas.Bool.Decides.{nat_tests}
 use Rattle.qed_model.specs.Machine.Memory.{byte_of, Flags, Memory, wrap, allows, grants, number, poked, put}
 use Rattle.qed_model.specs.Machine.Program.{LoadSegment, memory_of}
 use Rattle.std.specs.FinMap.{get}
-use Rattle.std.proofs.lemmas.List.{set-set}
+use Rattle.std.proofs.lemmas.List.{set-set, get_or_default}
 use Rattle.qed_model.proofs.MemoryLaws.{grants_from, put_none, put-more}
 use Rattle.qed_model.proofs.CellsLaws.{byte_of_cell}
 use Rattle.qed_model.specs.Machine.Apart.{share, AllFitMemory, AreApart}
@@ -164,6 +164,9 @@ here_whole ss l a n k s e h below read =
     let here = stands_at ss k s inside read in
     let is : h.segment ≡ s = cc in
     (here, rw is at h.has)
+
+pub here_at : (ss : List LoadSegment) (a n k : ℕ) (d : LoadSegment) → IsWholeAt ss a n k → k < length ss → (slice_get ss k ≡ Some (get_or ss k d)) × (has_all (get_or ss k d) a n ≡ true)
+here_at ss a n k d whole below = here_whole ss ss a n k (get_or ss k d) refl whole below (get_or_default ss k d (get_or ss k d) below)
 
 pub whole_granted : (need : Flags → Bool) (ss : List LoadSegment) (k : ℕ) (s : LoadSegment) (a n : ℕ) → AreSound ss → slice_get ss k ≡ Some s → has_all s a n ≡ true → need s.flags ≡ true → grants need (memory_of ss) a n ≡ true
 whole_granted need ss k s a n h e w t = let room = spans s a n w in granted_whole need ss k s a n h e room.0 room.1 t

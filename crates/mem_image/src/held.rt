@@ -158,8 +158,27 @@ impl Held {
         ensures shape { IsLike self.old self.new }
     {
         let at = (address - self.start) as usize;
-        let page = Rc::make_mut(&mut self.page)?;
-        page.put(at, width, value);
+        if let Some(page) = Rc::get_mut(&mut self.page) {
+            page.put(at, width, value);
+            return Ok(());
+        }
+        self.put_shared(address, width, value)?;
+        Ok(())
+    }
+
+    /// The same, where the page may have other owners.
+    #[inline(never)]
+    fn put_shared(&mut self, address: u64, width: u64, value: u64) -> Result<(), AllocError>
+        requires has { has_all self.old address width ≡ true }
+        requires small { width ≤ 8 }
+        ensures put { IfOk result (λ _. self.new ≡ with_bytes_at self.old address width value) }
+        ensures kept { IfErr result (λ _. self.new ≡ self.old) }
+        ensures whole { IfOk result (λ _. length self.old.bytes ≡ self.old.size) }
+        ensures shape { IsLike self.old self.new }
+    {
+        let at = (address - self.start) as usize;
+        let own = Rc::make_mut(&mut self.page)?;
+        own.put(at, width, value);
         Ok(())
     }
 

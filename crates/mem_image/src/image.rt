@@ -13,8 +13,9 @@ use crate::apart::put_from;
 use crate::held::{Access, Held};
 use crate::overlap::why_not;
 use crate::paging::pages_of;
-use crate::places::{place, whole_at};
+use crate::places::{near_at, place, whole_at};
 use crate::spec::{ImageError, SegmentSpec};
+use crate::within::put_within;
 use std::alloc::{AllocError, Global};
 use std::marker::Model;
 
@@ -91,14 +92,11 @@ impl Image {
         ensures written { IfOk result (λ done. self.new ≡ cond done (put self.old address width value) self.old) }
         ensures kept { IfErr result (λ _. self.new ≡ self.old) }
     {
-        if let Some(at) = whole_at(&self.pages, self.near[slot(address)], address, width) {
-            if !self.pages[at].allows(Access::Write) {
-                return Ok(false);
-            }
-            self.pages[at].put(address, width, value)?;
-            return Ok(true);
-        }
-        let done = self.write_apart(address, width, value)?;
+        let Some(at) = near_at(&self.pages, self.near[slot(address)], address, width) else {
+            let done = self.write_far(address, width, value)?;
+            return Ok(done);
+        };
+        let done = put_within(&mut self.pages, at, address, width, value)?;
         Ok(done)
     }
 
@@ -108,6 +106,27 @@ impl Image {
         ensures { result ≡ allowed_number (λ f. f.execute) self.now address 4 }
     {
         let word = self.number(Access::Execute, address, 4)?;
+        Some(word as u32)
+    }
+
+    /// What `read` gives. The page is remembered, so that the next such access near it is quick.
+    #[inline(always)]
+    pub fn load(&mut self, address: u64, width: u64) -> Option<u64>
+        requires { IsWidth width }
+        ensures number { result ≡ allowed_number (λ f. f.read) self.old address width }
+        ensures small { IfSome result (λ n. n < 256 ^ width) }
+        ensures same { self.new ≡ self.old }
+    {
+        self.number_near(Access::Read, address, width)
+    }
+
+    /// What `fetch` gives. The page is remembered, so that the next fetch near it is quick.
+    #[inline(always)]
+    pub fn fetch_on(&mut self, address: u64) -> Option<u32>
+        ensures word { result ≡ allowed_number (λ f. f.execute) self.old address 4 }
+        ensures same { self.new ≡ self.old }
+    {
+        let word = self.number_near(Access::Execute, address, 4)?;
         Some(word as u32)
     }
 
@@ -201,6 +220,38 @@ impl Image {
         Some(page.number(address, width))
     }
 
+    /// The same, where the page is remembered.
+    #[inline(always)]
+    fn number_near(&mut self, access: Access, address: u64, width: u64) -> Option<u64>
+        requires some { 0 < width }
+        requires small { width ≤ 8 }
+        ensures number { result ≡ allowed_number (needs access) self.old address width }
+        ensures small { IfSome result (λ n. n < 256 ^ width) }
+        ensures same { self.new ≡ self.old }
+    {
+        let Some(at) = near_at(&self.pages, self.near[slot(address)], address, width) else {
+            return self.number_far(access, address, width);
+        };
+        let page = &self.pages[at];
+        if !page.allows(access) {
+            return None;
+        }
+        Some(page.number(address, width))
+    }
+
+    /// The same, where the page has to be found.
+    #[inline(never)]
+    fn number_far(&mut self, access: Access, address: u64, width: u64) -> Option<u64>
+        requires some { 0 < width }
+        requires small { width ≤ 8 }
+        ensures number { result ≡ allowed_number (needs access) self.old address width }
+        ensures small { IfSome result (λ n. n < 256 ^ width) }
+        ensures same { self.new ≡ self.old }
+    {
+        self.seek(address);
+        self.number(access, address, width)
+    }
+
     /// The same, each byte sought for itself.
     #[inline(never)]
     fn number_apart(&self, access: Access, address: u64, width: u64) -> Option<u64>
@@ -214,6 +265,24 @@ impl Image {
             value = 256 * value + u64::from(byte);
         }
         Some(value)
+    }
+
+    /// Sets the low bytes of a value at 1 to 8 addresses where all have PF_W. The page is found and remembered.
+    #[inline(never)]
+    fn write_far(&mut self, address: u64, width: u64, value: u64) -> Result<bool, AllocError>
+        requires some { 0 < width }
+        requires small { width ≤ 8 }
+        ensures granted { IfOk result (λ done. done ≡ grants (λ f. f.write) self.old address width) }
+        ensures written { IfOk result (λ done. self.new ≡ cond done (put self.old address width value) self.old) }
+        ensures kept { IfErr result (λ _. self.new ≡ self.old) }
+    {
+        self.seek(address);
+        let Some(at) = whole_at(&self.pages, self.near[slot(address)], address, width) else {
+            let done = self.write_apart(address, width, value)?;
+            return Ok(done);
+        };
+        let done = put_within(&mut self.pages, at, address, width, value)?;
+        Ok(done)
     }
 
     /// Sets the low bytes of a value at at most 8 addresses, each sought for itself, where all have PF_W.

@@ -10,6 +10,7 @@ mod page;
 mod paging;
 mod places;
 mod spec;
+mod within;
 
 pub use image::Image;
 pub use spec::{ImageError, SegmentSpec};

@@ -55,6 +55,19 @@ pub fn place(pages: &[Held], near: usize, address: u64) -> Option<usize>
     first_with(pages, address)
 }
 
+/// Page number `near`, where it has all of the bytes of an access.
+#[inline(always)]
+pub fn near_at(pages: &[Held], near: usize, address: u64, width: u64) -> Option<usize>
+    requires { AreSound pages.now }
+    ensures some { IfSome result (λ k. IsWholeAt pages.now address width k) }
+    ensures below { IfSome result (λ k. k < length pages.now) }
+{
+    if near < pages.len() && pages[near].has_all(address, width) {
+        return Some(near);
+    }
+    None
+}
+
 /// The page that has all of the bytes of an access, or None. It may be number `near`.
 #[inline(always)]
 pub fn whole_at(pages: &[Held], near: usize, address: u64, width: u64) -> Option<usize>

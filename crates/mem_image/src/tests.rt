@@ -34,31 +34,43 @@ fn spec(
     })
 }
 
+/// Data at the last addresses.
+fn last_addresses(alloc: Global) -> Result<SegmentSpec, AllocError>
+    ensures { IfOk result (λ spec. FitsMemory (segment_of spec)) }
+{
+    let bytes = [0xaa, 0xbb, 0xcc, 0xdd];
+    spec(alloc, 0xffff_ffff_ffff_fffc, 4, READ_WRITE, &bytes)
+}
+
+/// Data at the first addresses.
+fn first_addresses(alloc: Global) -> Result<SegmentSpec, AllocError>
+    ensures { IfOk result (λ spec. FitsMemory (segment_of spec)) }
+{
+    spec(alloc, 0, 4, READ_WRITE, &[0x11, 0x22, 0x33, 0x44])
+}
+
 /// Code, data, and data on both sides of the end of the addresses.
 fn image(alloc: Global) -> Result<Image, ImageError> {
     let specs = [
         spec(alloc, 0x1000, 8, READ_EXECUTE, &[0x78, 0x56, 0x34, 0x12])?,
         spec(alloc, 0x2000, 8, READ_WRITE, &[1, 2, 3])?,
-        spec(
-            alloc,
-            0xffff_ffff_ffff_fffc,
-            4,
-            READ_WRITE,
-            &[0xaa, 0xbb, 0xcc, 0xdd],
-        )?,
-        spec(alloc, 0, 4, READ_WRITE, &[0x11, 0x22, 0x33, 0x44])?,
+        last_addresses(alloc)?,
+        first_addresses(alloc)?,
     ];
     Image::make(alloc, &specs)
 }
 
 #[test]
 fn bytes_are_read_with_their_permission(rt: HostRuntime) -> Result<(), Fail> {
-    let image = image(rt.alloc())?;
+    let mut image = image(rt.alloc())?;
     assert_eq!(rt; image.read(0x1000, 4), Some(0x1234_5678));
     assert_eq!(rt; image.read(0x1003, 2), Some(0x12));
     assert_eq!(rt; image.read(0x1004, 8), None);
     assert_eq!(rt; image.fetch(0x1000), Some(0x1234_5678));
     assert_eq!(rt; image.fetch(0x2000), None);
+    assert_eq!(rt; image.fetch_on(0x1000), Some(0x1234_5678));
+    assert_eq!(rt; image.fetch_on(0x1002), Some(0x1234));
+    assert_eq!(rt; image.fetch_on(0x2000), None);
     assert_eq!(rt; image.peek(0x2002), Some(3));
     assert_eq!(rt; image.peek(0x2008), None);
     Ok(())
@@ -164,14 +176,8 @@ fn borders(alloc: Global) -> Result<Image, ImageError> {
     let specs = [
         spec(alloc, 0x3000, 8, READ, &[0x55, 0x66, 0x77, 0x88])?,
         spec(alloc, 0x1000, 0x2000, READ_WRITE, &[7])?,
-        spec(
-            alloc,
-            0xffff_ffff_ffff_fffc,
-            4,
-            READ_WRITE,
-            &[0xaa, 0xbb, 0xcc, 0xdd],
-        )?,
-        spec(alloc, 0, 4, READ_WRITE, &[0x11, 0x22, 0x33, 0x44])?,
+        last_addresses(alloc)?,
+        first_addresses(alloc)?,
     ];
     Image::make(alloc, &specs)
 }
@@ -220,6 +226,8 @@ fn copies_share_no_write(rt: HostRuntime) -> Result<(), Fail> {
         assert_eq!(rt; written.read(*address, width(*bytes)), *after);
         assert_eq!(rt; first.read(*address, width(*bytes)), *before);
         assert_eq!(rt; other.read(*address, width(*bytes)), *before);
+        assert_eq!(rt; written.load(*address, width(*bytes)), *after);
+        assert_eq!(rt; written.load(*address, width(*bytes)), *after);
     }
     Ok(())
 }

@@ -1,4 +1,4 @@
-use Rattle.std.proofs.Common.{◌+◌, ◌-◌, sym, ◌∙◌, arith}
+use Rattle.std.proofs.Common.{◌-◌, sym, ◌∙◌, arith}
 use Rattle.mem_image.proofs.SegmentLaws.{stands_at}
 use Rattle.mem_image.proofs.PlaceLaws.{first_near, none_begun, none_near}
 use Rattle.mem_image.proofs.places.first_with.Goals.{then-count-eq0-via-then-count-eq0, then-count-eq0-via-else-count-eq0+then-not-has}

@@ -1,7 +1,6 @@
 use Rattle.std.proofs.Common.{sym, ap, ◌∙◌}
 use Rattle.std.specs.FinMap.{get}
 use Rattle.std.proofs.lemmas.List.{with_items_is}
-use Rattle.qed_model.specs.Machine.Memory.{put}
 use Rattle.qed_model.specs.Machine.Program.{memory_of}
 use Rattle.qed_model.proofs.MemoryLaws.{put_none}
 use Rattle.mem_image.proofs.SegmentLaws.{none_past}
