@@ -13,11 +13,14 @@ use elf_types::{Bytes, ElfFile, Segment};
 use mem_image::{Image, ImageError, SegmentSpec};
 use std::alloc::{AllocError, Global};
 
-/// The segments of type PT_LOAD.
-fn specs(alloc: Global, segments: &[Segment]) -> Result<Vec<SegmentSpec>, AllocError>
-    ensures { IfOk result (λ specs. segments_of specs.items ≡ load_segments segments.now) }
+/// Appends the segments of type PT_LOAD to what an image is made from, with copies of their bytes.
+pub fn push_specs(
+    alloc: Global,
+    specs: &mut Vec<SegmentSpec>,
+    segments: &[Segment],
+) -> Result<(), AllocError>
+    ensures { IfOk result (λ _. segments_of specs.new.items ≡ segments_of specs.old.items ++ load_segments segments.now) }
 {
-    let mut specs = Vec::new(alloc);
     for segment in segments {
         if segment.is_load() {
             specs.push(SegmentSpec {
@@ -28,6 +31,15 @@ fn specs(alloc: Global, segments: &[Segment]) -> Result<Vec<SegmentSpec>, AllocE
             })?;
         }
     }
+    Ok(())
+}
+
+/// The segments of type PT_LOAD.
+fn specs(alloc: Global, segments: &[Segment]) -> Result<Vec<SegmentSpec>, AllocError>
+    ensures { IfOk result (λ specs. segments_of specs.items ≡ load_segments segments.now) }
+{
+    let mut specs = Vec::new(alloc);
+    push_specs(alloc, &mut specs, segments)?;
     Ok(specs)
 }
 
