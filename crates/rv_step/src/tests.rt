@@ -3,7 +3,9 @@ ghost use Rattle.std.specs.Prelude.{◌≡◌, ◌≤◌, ◌∷◌, [], length,
 ghost use Rattle.qed_model.specs.Machine.Loading.{load_segments};
 ghost use Rattle.qed_model.specs.Machine.Apart.{AllFitMemory, AreApart};
 
+use crate::range::Ranges;
 use crate::{Hart, Machine};
+use code_ranges::CodeRange;
 use elf_types::{Bytes, ElfFile, Listed, Segment};
 use mem_image::Image;
 use qed_model::{Cause, Outcome, Place};
@@ -353,5 +355,60 @@ fn a_hart_steps_in_the_memory_of_another(rt: HostRuntime) -> Result<(), Fail> {
         (machine.byte(DATA), machine.byte(DATA + 4)),
         (Some(5), Some(0))
     );
+    Ok(())
+}
+
+/// Ranges that overlap, touch, are too short for a word, and end at 2^64.
+static RANGES: [CodeRange; 5] = [
+    CodeRange {
+        start: 0x100,
+        size: 0x10,
+    },
+    CodeRange {
+        start: 0xf8,
+        size: 0xa,
+    },
+    CodeRange {
+        start: 0x110,
+        size: 4,
+    },
+    CodeRange {
+        start: 0x200,
+        size: 3,
+    },
+    CodeRange {
+        start: 0xffff_ffff_ffff_fff8,
+        size: 8,
+    },
+];
+
+/// Addresses, and whether the four bytes from there on lie in one range.
+static WORDS: [(u64, bool); 14] = [
+    (0x10d, false),
+    (0xf7, false),
+    (0xf8, true),
+    (0xfe, true),
+    (0xff, false),
+    (0x100, true),
+    (0x10c, true),
+    (0x110, true),
+    (0x111, false),
+    (0x200, false),
+    (0xffff_ffff_ffff_fff8, true),
+    (0xffff_ffff_ffff_fffc, true),
+    (0xffff_ffff_ffff_fffd, false),
+    (0, false),
+];
+
+#[test]
+fn a_word_lies_in_one_range(rt: HostRuntime) -> Result<(), Fail> {
+    let alloc = rt.alloc();
+    let mut ranges = Ranges::of(alloc, Vec::from_slice(alloc, &RANGES)?)?;
+    for (address, found) in &WORDS {
+        assert_eq!(rt; ranges.find(*address), *found, "{address}");
+        assert_eq!(rt; ranges.has(*address), *found, "{address}");
+    }
+    let copy = ranges.copy(alloc)?;
+    assert!(rt; copy.has(0x100));
     Ok(())
 }
