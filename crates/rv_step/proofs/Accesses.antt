@@ -2,13 +2,15 @@
 use Rattle.std.proofs.Common.{◌≡◌, ℕ, Bool, true, false, cond, Some, None, refl, sym, ap, ◌∙◌, subst}
 use Rattle.rv_isa.specs.declared.class.Class.{Class}
 use Rattle.rv_isa.specs.declared.class.Class.TheVariants as class
+use Rattle.rv_isa.specs.declared.kind.Kind.{Kind}
 use Rattle.rv_isa.specs.declared.ins.Ins.{Ins}
+use Rattle.rv_isa.specs.Kind.{class_of}
 use Rattle.rv_isa.specs.Regs.{set_reg}
 use Rattle.qed_model.specs.declared.machine.Cause.TheVariants as cause
 use Rattle.qed_model.specs.declared.machine.Outcome.TheVariants.{Ended, Fired}
 use Rattle.qed_model.specs.Machine.Memory.{Memory, grants, number, put}
 use Rattle.qed_model.specs.Machine.Values.{loaded, width_of}
-use Rattle.qed_model.specs.Machine.Step.{State, execute, moved, next_pc, place, reg, stopped, stored, trapped}
+use Rattle.qed_model.specs.Machine.Step.{State, computed_value, execute, moved, next_pc, place, reg, stopped, stored, trapped}
 use Rattle.mem_image.specs.Access.{allowed_number}
 use Rattle.rv_step.specs.Known.{at_state}
 use Rattle.rv_step.specs.Harts.{HartState, with_memory, LeadsIn}
@@ -28,6 +30,14 @@ at_break i s = refl
 pub at_illegal : (i : Ins) (s : State) → execute class.Illegal i s ≡ trapped (cause.Word 0) s
 unfolding execute
 at_illegal i s = refl
+
+-- ---- computing
+pub computes : (i : Ins) (k : Kind) (s : State) (v : ℕ) → i.kind ≡ k → class_of k ≡ class.Compute → v ≡ computed_value k i s.pc s.regs → moved (set_reg i.rd v s.regs) (next_pc s) s ≡ execute (class_of i.kind) i s
+unfolding execute
+computes i k s v same is value =
+    let by : class_of i.kind ≡ class.Compute = ap class_of same ∙ is in
+    let here : v ≡ computed_value i.kind i s.pc s.regs = value ∙ ap (λ x. computed_value x i s.pc s.regs) (sym same) in
+    ap (λ x. moved (set_reg i.rd x s.regs) (next_pc s) s) here ∙ sym (ap (λ c. execute c i s) by)
 
 -- ---- loads
 read_some : (t : Bool) (v n : ℕ) (f : ℕ → State) (y : State) → Some v ≡ cond t (Some n) None → f v ≡ cond t (f n) y

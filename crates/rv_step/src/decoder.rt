@@ -49,6 +49,12 @@ pub struct Decoder {
     known: Vec<Known>,
 }
 
+/// The number of the place in which the instruction at an address is kept.
+#[inline(always)]
+fn place(address: u64) -> usize {
+    ((address >> 2) % KEPT) as usize
+}
+
 impl Decoder {
     /// One that has kept no more than the instruction of the zero word, in each of its places.
     pub fn new(alloc: Global) -> Result<Decoder, AllocError>
@@ -63,27 +69,24 @@ impl Decoder {
         Ok(Decoder { known })
     }
 
-    /// The instruction of a word that stands at an address.
+    /// The instruction of a word that stands at an address, where it is kept.
     #[inline(always)]
+    pub fn kept(&self, address: u64, word: u32) -> Option<Ins>
+        ensures { IfSome result (λ ins. decode_of word ≡ Some ins) }
+    {
+        let at = place(address);
+        if at < self.known.len() {
+            return self.known[at].of(word);
+        }
+        None
+    }
+
+    /// The instruction of a word that stands at an address. It is kept.
     pub fn decode(&mut self, address: u64, word: u32) -> Option<Ins>
         ensures { result ≡ decode_of word }
     {
-        let at = ((address >> 2) % KEPT) as usize;
-        if at < self.known.len() {
-            if let Some(ins) = self.known[at].of(word) {
-                return Some(ins);
-            }
-        }
-        self.decode_anew(at, word)
-    }
-
-    /// The same, where it was not kept.
-    #[inline(never)]
-    fn decode_anew(&mut self, at: usize, word: u32) -> Option<Ins>
-        ensures { result ≡ decode_of word }
-    {
         let ins = decode(word)?;
-        self.keep(at, word, &ins);
+        self.keep(place(address), word, &ins);
         Some(ins)
     }
 

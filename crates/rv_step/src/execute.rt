@@ -3,18 +3,19 @@ ghost use Rattle.std.specs.Prelude.{◌≡◌, ◌≢◌, ◌+◌, ◌%◌, ◌^
 ghost use Rattle.rv_isa.specs.Kind.{class_of};
 ghost use Rattle.rv_isa.specs.Regs.{set_reg};
 ghost use Rattle.rv_isa.specs.declared.class.Class.TheVariants as class;
-ghost use Rattle.qed_model.specs.Machine.Step.{act, execute, imm, moved, next, next_pc, stopped, trapped};
-ghost use Rattle.rv_alu.specs.Steps.{IsComputing, IsBranching, IsJumping, IsPassing};
+ghost use Rattle.qed_model.specs.Machine.Step.{act, computed_value, execute, imm, moved, next, next_pc, operand, stopped, trapped};
+ghost use Rattle.qed_model.specs.Machine.Table.{row_of};
+ghost use Rattle.rv_alu.specs.Steps.{branched, IsComputing, IsBranching, IsJumping, IsPassing};
 ghost use Rattle.rv_step.specs.Harts.{with_memory, Leads, LeadsIn};
 ghost use Rattle.rv_step.specs.Known.{known_at, word_at};
 
 use crate::hart::Hart;
 use crate::loads::{extended, width};
 use mem_image::Image;
-use qed_model::{Cause, Outcome};
-use rv_alu::{Branching, Computing, Jumping, Passing};
+use qed_model::{Cause, Outcome, rows};
+use rv_alu::{Jumping, Passing, compute, taken};
 use rv_decode::decode;
-use rv_isa::{Class, Ins, Operation, Reg};
+use rv_isa::{Ins, Kind, Operation, Reg};
 use std::alloc::AllocError;
 
 impl Hart {
@@ -30,14 +31,15 @@ impl Hart {
 
     /// The word at the pc, where it may be executed, else None.
     #[inline(always)]
-    fn next_word(&mut self, image: &Image) -> Option<u32>
-        ensures word { result ≡ word_at (with_memory self.old image.now).state self.old.pc }
+    fn next_word(&mut self, image: &mut Image) -> Option<u32>
+        ensures word { result ≡ word_at (with_memory self.new image.new).state self.new.pc }
         ensures same { self.new ≡ self.old }
+        ensures memory { image.new ≡ image.old }
     {
         if self.pc % 4 != 0 || !self.ranges.find(self.pc) {
             return None;
         }
-        image.fetch(self.pc)
+        image.fetch_on(self.pc)
     }
 
     /// The instruction at an address, or None where no code may be executed there or the word is no instruction.
@@ -60,17 +62,83 @@ impl Hart {
             self.trap(Cause::Fetch);
             return Ok(());
         };
+        let Some(ins) = self.decoder.kept(self.pc, word) else {
+            self.advance_anew(word, image)?;
+            return Ok(());
+        };
+        self.execute(&ins, image)?;
+        Ok(())
+    }
+
+    /// The same, where the word at the pc was fetched and its instruction is not kept.
+    #[inline(never)]
+    fn advance_anew(&mut self, word: u32, image: &mut Image) -> Result<(), AllocError>
+        requires { word_at (with_memory self.old image.old).state self.old.pc ≡ Some word }
+        ensures advanced { IfOk result (λ _. LeadsIn (λ s. act (next s) s) self.old image.old self.new image.new) }
+        ensures kept { IfErr result (λ _. self.new ≡ self.old) }
+        ensures memory { IfErr result (λ _. image.new ≡ image.old) }
+    {
         let Some(ins) = self.decoder.decode(self.pc, word) else {
             self.trap(Cause::Word(word));
             return Ok(());
         };
-        if let Class::Store = ins.class() {
-            self.store(&ins, image)?;
-            return Ok(());
-        }
-        self.execute(&ins, image);
+        self.execute(&ins, image)?;
         Ok(())
     }
+}
+
+// The step of an instruction, with an arm for each kind, so that it takes one jump.
+macro_rules! by_kind {
+    ($hart:ident $ins:ident $image:ident [$($load:ident)*] [$($store:ident)*] [$($branch:ident)*];
+        $($row:ident $format:ident $mask:literal $match:literal $value:ident,)*) => {
+        match $ins.kind {
+            $(Kind::$row => {
+                $hart.compute(Kind::$row, $ins);
+                Ok(())
+            })*
+            Kind::Lui => {
+                $hart.compute(Kind::Lui, $ins);
+                Ok(())
+            }
+            Kind::Auipc => {
+                $hart.compute(Kind::Auipc, $ins);
+                Ok(())
+            }
+            $(Kind::$load => {
+                $hart.load(Kind::$load, $ins, $image);
+                Ok(())
+            })*
+            $(Kind::$store => $hart.store(Kind::$store, $ins, $image),)*
+            $(Kind::$branch => {
+                $hart.branch(Kind::$branch, $ins);
+                Ok(())
+            })*
+            Kind::Jal => {
+                $hart.jump($ins);
+                Ok(())
+            }
+            Kind::Jalr => {
+                $hart.jump($ins);
+                Ok(())
+            }
+            Kind::Fence => {
+                $hart.pass($ins);
+                Ok(())
+            }
+            Kind::Ecall => {
+                $hart.stop(Outcome::Ended);
+                Ok(())
+            }
+            Kind::Ebreak => {
+                $hart.stop(Outcome::Fired);
+                Ok(())
+            }
+            Kind::Illegal => {
+                $hart.trap(Cause::Word(0));
+                Ok(())
+            }
+        }
+    };
 }
 
 impl Hart {
@@ -103,32 +171,56 @@ impl Hart {
         self.go_on();
     }
 
-    /// One instruction, by its class. The pc is a multiple of 4, as it is where an instruction was fetched.
+    /// One instruction. The pc is a multiple of 4, as it is where an instruction was fetched.
     #[tactic(auto, unfolding(qed_model::specs::Machine::Step::execute))]
-    fn execute(&mut self, ins: &Ins, image: &mut Image)
-        requires grain { self.old.pc % 4 ≡ 0 }
-        requires class { class_of ins.now.kind ≢ class.Store }
-        ensures { LeadsIn (execute (class_of ins.now.kind) ins.now) self.old image.old self.new image.new }
+    #[inline(always)]
+    fn execute(&mut self, ins: &Ins, image: &mut Image) -> Result<(), AllocError>
+        requires { self.old.pc % 4 ≡ 0 }
+        ensures done { IfOk result (λ _. LeadsIn (execute (class_of ins.now.kind) ins.now) self.old image.old self.new image.new) }
+        ensures kept { IfErr result (λ _. self.new ≡ self.old) }
+        ensures memory { IfErr result (λ _. image.new ≡ image.old) }
     {
-        match ins.class() {
-            Class::Compute => self.compute(ins),
-            Class::Load => self.load(ins, image),
-            Class::Store => unreachable!(),
-            Class::Branch => self.branch(ins),
-            Class::Jump | Class::JumpReg => self.jump(ins),
-            Class::Fence => self.pass(ins),
-            Class::End => self.stop(Outcome::Ended),
-            Class::Break => self.stop(Outcome::Fired),
-            Class::Illegal => self.trap(Cause::Word(0)),
+        rows!(immediate shift register word multiply => by_kind self ins image
+            [Lb Lh Lw Ld Lbu Lhu Lwu] [Sb Sh Sw Sd] [Beq Bne Blt Bge Bltu Bgeu])
+    }
+
+    /// A computing instruction of this kind.
+    #[inline(always)]
+    fn compute(&mut self, kind: Kind, ins: &Ins)
+        requires kind { ins.now.kind ≡ kind }
+        requires class { IsComputing (class_of kind) }
+        ensures { Leads (execute (class_of ins.now.kind) ins.now) self.old self.new }
+    {
+        let value = self.computed(kind, ins);
+        self.write_back(ins.rd, value);
+    }
+
+    /// What a computing instruction of this kind writes to rd.
+    #[tactic(auto, unfolding(qed_model::specs::Machine::Step::computed_value))]
+    #[inline(always)]
+    fn computed(&self, kind: Kind, ins: &Ins) -> u64
+        requires kind { ins.now.kind ≡ kind }
+        requires class { IsComputing (class_of kind) }
+        ensures { result ≡ computed_value kind ins.now self.now.pc self.now.regs }
+    {
+        match kind {
+            Kind::Lui => ins.imm.cast_unsigned(),
+            Kind::Auipc => self.pc.wrapping_add(ins.imm.cast_unsigned()),
+            kind => compute(kind, self.reg(ins.rs1), self.second(ins)),
         }
     }
 
-    /// A computing instruction.
-    fn compute(&mut self, ins: &Ins)
+    /// The second operand: the immediate where there is one, else the number in rs2.
+    #[inline(always)]
+    fn second(&self, ins: &Ins) -> u64
         requires { IsComputing (class_of ins.now.kind) }
-        ensures { Leads (execute (class_of ins.now.kind) ins.now) self.old self.new }
+        ensures { result ≡ operand (row_of ins.now.kind).format ins.now self.now.regs }
     {
-        self.pc = Computing.act(ins, self.pc, &mut self.regs);
+        if ins.has_immediate() {
+            ins.imm.cast_unsigned()
+        } else {
+            self.reg(ins.rs2)
+        }
     }
 
     /// FENCE.
@@ -146,30 +238,33 @@ impl Hart {
         self.reg(ins.rs1).wrapping_add(ins.imm.cast_unsigned())
     }
 
-    /// A load.
+    /// A load of this kind.
     #[tactic(auto, unfolding(qed_model::specs::Machine::Step::execute))]
-    fn load(&mut self, ins: &Ins, image: &mut Image)
+    #[inline(always)]
+    fn load(&mut self, kind: Kind, ins: &Ins, image: &mut Image)
+        requires { ins.now.kind ≡ kind }
         ensures { LeadsIn (execute class.Load ins.now) self.old image.old self.new image.new }
     {
         let address = self.place(ins);
-        image.attend(address);
-        match image.read(address, width(ins.kind)) {
-            Some(number) => self.write_back(ins.rd, extended(ins.kind, number)),
+        match image.load(address, width(kind)) {
+            Some(number) => self.write_back(ins.rd, extended(kind, number)),
             None => self.trap(Cause::Load(address)),
         }
     }
 
-    /// A store.
+    /// A store of this kind.
     #[tactic(auto, unfolding(qed_model::specs::Machine::Step::execute))]
-    fn store(&mut self, ins: &Ins, image: &mut Image) -> Result<(), AllocError>
-        ensures stored { IfOk result (λ _. LeadsIn (execute class.Store ins.now) self.old image.old self.new image.new) }
+    #[inline(always)]
+    fn store(&mut self, kind: Kind, ins: &Ins, image: &mut Image) -> Result<(), AllocError>
+        requires kind { ins.now.kind ≡ kind }
+        requires class { class_of kind ≡ class.Store }
+        ensures done { IfOk result (λ _. LeadsIn (execute (class_of ins.now.kind) ins.now) self.old image.old self.new image.new) }
         ensures kept { IfErr result (λ _. self.new ≡ self.old) }
         ensures memory { IfErr result (λ _. image.new ≡ image.old) }
     {
         let address = self.place(ins);
         let value = self.reg(ins.rs2);
-        image.attend(address);
-        if image.write(address, width(ins.kind), value)? {
+        if image.write(address, width(kind), value)? {
             self.go_on();
             return Ok(());
         }
@@ -177,18 +272,32 @@ impl Hart {
         Ok(())
     }
 
-    /// A branch. Only a target that is taken can be off the grain of 4.
-    fn branch(&mut self, ins: &Ins)
-        requires class { IsBranching (class_of ins.now.kind) }
+    /// A branch of this kind. Only a target that is taken can be off the grain of 4.
+    #[inline(always)]
+    fn branch(&mut self, kind: Kind, ins: &Ins)
+        requires kind { ins.now.kind ≡ kind }
+        requires class { IsBranching (class_of kind) }
         requires grain { self.old.pc % 4 ≡ 0 }
         ensures { Leads (execute (class_of ins.now.kind) ins.now) self.old self.new }
     {
-        let target = Branching.act(ins, self.pc, &mut self.regs);
+        let target = self.arrival(kind, ins);
         if target % 4 == 0 {
             self.pc = target;
         } else {
             self.trap(Cause::Target(target));
         }
+    }
+
+    /// Where a branch of this kind goes.
+    #[inline(always)]
+    fn arrival(&self, kind: Kind, ins: &Ins) -> u64
+        requires { ins.now.kind ≡ kind }
+        ensures { result ≡ branched ins.now self.now.pc self.now.regs }
+    {
+        if taken(kind, self.reg(ins.rs1), self.reg(ins.rs2)) {
+            return self.pc.wrapping_add(ins.imm.cast_unsigned());
+        }
+        self.pc.wrapping_add(4)
     }
 
     /// JAL or JALR. A target off the grain of 4 leaves the register that was to hold the link.

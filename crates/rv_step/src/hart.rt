@@ -71,7 +71,6 @@ impl Hart {
         if !self.goes_on() {
             return Ok(self.outcome);
         }
-        image.attend(self.pc);
         self.advance(image)?;
         self.steps = self.steps.saturating_add(1);
         Ok(self.outcome)
