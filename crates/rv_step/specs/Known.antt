@@ -1,8 +1,11 @@
 -- What stands at an address, and what a strike makes of a machine.
-use Rattle.std.specs.Prelude.{◌≡◌, ◌≤◌, ℕ, ◌%◌, ◌==◌, ◌&&◌, Bool, true, false, cond, Option, None, Some}
+use Rattle.std.specs.Prelude.{◌≡◌, ◌≤◌, ℕ, ◌%◌, ◌==◌, ◌&&◌, Bool, true, false, cond, List, Option, None, Some}
 use Rattle.rv_isa.specs.declared.ins.Ins.{Ins}
+use Rattle.rv_isa.specs.declared.kind.Kind.{Kind}
+use Rattle.rv_isa.specs.declared.kind.Kind.TheVariants.{Lui, Auipc}
+use Rattle.qed_model.specs.Machine.Table.{row_of}
 use Rattle.qed_model.specs.Machine.Memory.{grants, number}
-use Rattle.qed_model.specs.Machine.Step.{State, Fetched, Refused, Unknown, Known, fetched_at, in_range}
+use Rattle.qed_model.specs.Machine.Step.{State, Fetched, Refused, Unknown, Known, fetched_at, in_range, operand}
 use Rattle.qed_model.specs.declared.change.Place.{Place}
 use Rattle.qed_model.specs.declared.machine.Outcome.{Outcome}
 use Rattle.qed_model.specs.declared.machine.Outcome.TheVariants.{Going, Ended, Fired, Trapped}
@@ -47,3 +50,9 @@ pub record IsPart (m : Progress) (n : ℕ) (after : Progress) : Type 0 where
   pub count : ℕ
   pub most : count ≤ n
   pub made : after ≡ progress m count
+
+-- the second operand of a computing instruction of a kind, which LUI and AUIPC do not have
+abbrev pub HasSecond : Kind → Ins → List ℕ → ℕ → Type 0
+HasSecond Lui i regs b = Unit {0}
+HasSecond Auipc i regs b = Unit {0}
+HasSecond k i regs b = b ≡ operand (row_of k).format i regs

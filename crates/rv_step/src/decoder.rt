@@ -49,12 +49,6 @@ pub struct Decoder {
     known: Vec<Known>,
 }
 
-/// The number of the place in which the instruction at an address is kept.
-#[inline(always)]
-fn place(address: u64) -> usize {
-    ((address >> 2) % KEPT) as usize
-}
-
 impl Decoder {
     /// One that has kept no more than the instruction of the zero word, in each of its places.
     pub fn new(alloc: Global) -> Result<Decoder, AllocError>
@@ -69,24 +63,27 @@ impl Decoder {
         Ok(Decoder { known })
     }
 
-    /// The instruction of a word that stands at an address, where it is kept.
+    /// The instruction of a word that stands at an address.
     #[inline(always)]
-    pub fn kept(&self, address: u64, word: u32) -> Option<Ins>
-        ensures { IfSome result (λ ins. decode_of word ≡ Some ins) }
-    {
-        let at = place(address);
-        if at < self.known.len() {
-            return self.known[at].of(word);
-        }
-        None
-    }
-
-    /// The instruction of a word that stands at an address. It is kept.
     pub fn decode(&mut self, address: u64, word: u32) -> Option<Ins>
         ensures { result ≡ decode_of word }
     {
+        let at = ((address >> 2) % KEPT) as usize;
+        if at < self.known.len() {
+            if let Some(ins) = self.known[at].of(word) {
+                return Some(ins);
+            }
+        }
+        self.decode_anew(at, word)
+    }
+
+    /// The same, where it was not kept.
+    #[inline(never)]
+    fn decode_anew(&mut self, at: usize, word: u32) -> Option<Ins>
+        ensures { result ≡ decode_of word }
+    {
         let ins = decode(word)?;
-        self.keep(place(address), word, &ins);
+        self.keep(at, word, &ins);
         Some(ins)
     }
 

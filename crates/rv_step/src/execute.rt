@@ -3,11 +3,10 @@ ghost use Rattle.std.specs.Prelude.{◌≡◌, ◌≢◌, ◌+◌, ◌%◌, ◌^
 ghost use Rattle.rv_isa.specs.Kind.{class_of};
 ghost use Rattle.rv_isa.specs.Regs.{set_reg};
 ghost use Rattle.rv_isa.specs.declared.class.Class.TheVariants as class;
-ghost use Rattle.qed_model.specs.Machine.Step.{act, computed_value, execute, imm, moved, next, next_pc, operand, stopped, trapped};
-ghost use Rattle.qed_model.specs.Machine.Table.{row_of};
+ghost use Rattle.qed_model.specs.Machine.Step.{act, computed_value, execute, imm, moved, next, next_pc, stopped, trapped};
 ghost use Rattle.rv_alu.specs.Steps.{branched, IsComputing, IsBranching, IsJumping, IsPassing};
 ghost use Rattle.rv_step.specs.Harts.{with_memory, Leads, LeadsIn};
-ghost use Rattle.rv_step.specs.Known.{known_at, word_at};
+ghost use Rattle.rv_step.specs.Known.{known_at, word_at, HasSecond};
 
 use crate::hart::Hart;
 use crate::loads::{extended, width};
@@ -62,22 +61,6 @@ impl Hart {
             self.trap(Cause::Fetch);
             return Ok(());
         };
-        let Some(ins) = self.decoder.kept(self.pc, word) else {
-            self.advance_anew(word, image)?;
-            return Ok(());
-        };
-        self.execute(&ins, image)?;
-        Ok(())
-    }
-
-    /// The same, where the word at the pc was fetched and its instruction is not kept.
-    #[inline(never)]
-    fn advance_anew(&mut self, word: u32, image: &mut Image) -> Result<(), AllocError>
-        requires { word_at (with_memory self.old image.old).state self.old.pc ≡ Some word }
-        ensures advanced { IfOk result (λ _. LeadsIn (λ s. act (next s) s) self.old image.old self.new image.new) }
-        ensures kept { IfErr result (λ _. self.new ≡ self.old) }
-        ensures memory { IfErr result (λ _. image.new ≡ image.old) }
-    {
         let Some(ins) = self.decoder.decode(self.pc, word) else {
             self.trap(Cause::Word(word));
             return Ok(());
@@ -87,21 +70,32 @@ impl Hart {
     }
 }
 
+// The second operand of a computing instruction, by its format: the number in rs2, or the immediate.
+macro_rules! second {
+    (register_format $hart:ident $ins:ident) => {
+        $hart.reg($ins.rs2)
+    };
+    ($format:ident $hart:ident $ins:ident) => {
+        $ins.imm.cast_unsigned()
+    };
+}
+
 // The step of an instruction, with an arm for each kind, so that it takes one jump.
 macro_rules! by_kind {
     ($hart:ident $ins:ident $image:ident [$($load:ident)*] [$($store:ident)*] [$($branch:ident)*];
         $($row:ident $format:ident $mask:literal $match:literal $value:ident,)*) => {
         match $ins.kind {
             $(Kind::$row => {
-                $hart.compute(Kind::$row, $ins);
+                let second = second!($format $hart $ins);
+                $hart.compute(Kind::$row, $ins, second);
                 Ok(())
             })*
             Kind::Lui => {
-                $hart.compute(Kind::Lui, $ins);
+                $hart.compute(Kind::Lui, $ins, 0);
                 Ok(())
             }
             Kind::Auipc => {
-                $hart.compute(Kind::Auipc, $ins);
+                $hart.compute(Kind::Auipc, $ins, 0);
                 Ok(())
             }
             $(Kind::$load => {
@@ -184,42 +178,30 @@ impl Hart {
             [Lb Lh Lw Ld Lbu Lhu Lwu] [Sb Sh Sw Sd] [Beq Bne Blt Bge Bltu Bgeu])
     }
 
-    /// A computing instruction of this kind.
+    /// A computing instruction of this kind, with its second operand. LUI and AUIPC have none.
     #[inline(always)]
-    fn compute(&mut self, kind: Kind, ins: &Ins)
+    fn compute(&mut self, kind: Kind, ins: &Ins, second: u64)
         requires kind { ins.now.kind ≡ kind }
         requires class { IsComputing (class_of kind) }
+        requires second { HasSecond kind ins.now self.old.regs second }
         ensures { Leads (execute (class_of ins.now.kind) ins.now) self.old self.new }
     {
-        let value = self.computed(kind, ins);
+        let value = self.computed(kind, ins, second);
         self.write_back(ins.rd, value);
     }
 
     /// What a computing instruction of this kind writes to rd.
     #[tactic(auto, unfolding(qed_model::specs::Machine::Step::computed_value))]
     #[inline(always)]
-    fn computed(&self, kind: Kind, ins: &Ins) -> u64
-        requires kind { ins.now.kind ≡ kind }
+    fn computed(&self, kind: Kind, ins: &Ins, second: u64) -> u64
         requires class { IsComputing (class_of kind) }
+        requires second { HasSecond kind ins.now self.now.regs second }
         ensures { result ≡ computed_value kind ins.now self.now.pc self.now.regs }
     {
         match kind {
             Kind::Lui => ins.imm.cast_unsigned(),
             Kind::Auipc => self.pc.wrapping_add(ins.imm.cast_unsigned()),
-            kind => compute(kind, self.reg(ins.rs1), self.second(ins)),
-        }
-    }
-
-    /// The second operand: the immediate where there is one, else the number in rs2.
-    #[inline(always)]
-    fn second(&self, ins: &Ins) -> u64
-        requires { IsComputing (class_of ins.now.kind) }
-        ensures { result ≡ operand (row_of ins.now.kind).format ins.now self.now.regs }
-    {
-        if ins.has_immediate() {
-            ins.imm.cast_unsigned()
-        } else {
-            self.reg(ins.rs2)
+            kind => compute(kind, self.reg(ins.rs1), second),
         }
     }
 
