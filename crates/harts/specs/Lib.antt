@@ -5,3 +5,4 @@ pub mod Starts
 pub mod Shared
 pub mod Codes
 pub mod Played
+pub mod Standing

@@ -11,6 +11,7 @@ ghost use Rattle.harts.specs.Together.{Together, PerHart};
 mod error;
 mod parts;
 mod shared;
+mod standing;
 mod world;
 
 pub use error::HartsError;

@@ -2,13 +2,15 @@
 ghost use Rattle.std.specs.Prelude.{◌≡◌, ℕ, ◌<◌, length, slice_get, slice_index, Some, IfOk, IfErr};
 ghost use Rattle.std.specs.Option.{option_map};
 ghost use Rattle.std.specs.FinMap.{get};
-ghost use Rattle.harts.specs.HartSteps.{counted_start, counted_turn, counted_strike, counted_turns, cycled};
+ghost use Rattle.harts.specs.HartSteps.{bare, counted_start, counted_turn, counted_strike, counted_turns, cycled};
 ghost use Rattle.harts.specs.Shared.{AreSound, AreUnshared, Explains};
 ghost use Rattle.harts.specs.Played.{programs, IsPartPlayed};
+ghost use Rattle.harts.specs.Standing.{has_one, is_fired, is_going, is_trapped};
 
 use crate::error::HartsError;
 use crate::parts::{all_specs, start_harts};
 use crate::shared::first_shared;
+use crate::standing::{any_fired, any_going, any_trapped};
 use elf_types::ElfFile;
 use mem_image::{Image, ImageError};
 use qed_model::{Outcome, Place};
@@ -75,7 +77,7 @@ impl World {
     }
 
     /// As many turns as the number says, by the harts of the list, again and again.
-    pub fn play(&mut self, harts: &[u8], n: u64) -> Result<(), AllocError>
+    pub fn play(&mut self, harts: &[u64], n: u64) -> Result<(), AllocError>
         requires some { 0 < length harts.now }
         requires harts { (k : ℕ) → k < length harts.now → slice_index harts.now k < length self.old.world.harts }
         ensures played { IfOk result (λ _. self.new ≡ counted_turns self.old (cycled harts.now n)) }
@@ -86,7 +88,7 @@ impl World {
     {
         for k in 0..n {
             let hart = harts[(k % harts.len() as u64) as usize];
-            self.turn(hart as u64)?;
+            self.turn(hart)?;
         }
         Ok(())
     }
@@ -109,6 +111,46 @@ impl World {
                 Ok(())
             }
         }
+    }
+
+    /// How many harts there are.
+    pub fn count(&self) -> u64
+        ensures { result ≡ length self.now.world.harts }
+    {
+        self.harts.len() as u64
+    }
+
+    /// The hart of a number.
+    pub fn hart(&self, hart: u64) -> &Hart
+        requires { hart < length self.now.world.harts }
+        ensures hart { slice_get self.now.world.harts hart ≡ Some (bare result.now) }
+        ensures steps { slice_get self.now.steps hart ≡ Some result.now.steps }
+    {
+        &self.harts[hart as usize]
+    }
+
+    /// Whether a hart has fired.
+    #[tactic(auto, using(crate::proofs::Bare::any_bare))]
+    pub fn has_fired(&self) -> bool
+        ensures { result ≡ has_one is_fired self.now }
+    {
+        any_fired(&self.harts)
+    }
+
+    /// Whether a hart has trapped.
+    #[tactic(auto, using(crate::proofs::Bare::any_bare))]
+    pub fn has_trapped(&self) -> bool
+        ensures { result ≡ has_one is_trapped self.now }
+    {
+        any_trapped(&self.harts)
+    }
+
+    /// Whether a hart goes on.
+    #[tactic(auto, using(crate::proofs::Bare::any_bare))]
+    pub fn goes_on(&self) -> bool
+        ensures { result ≡ has_one is_going self.now }
+    {
+        any_going(&self.harts)
     }
 
     /// The number that a register of the hart holds.

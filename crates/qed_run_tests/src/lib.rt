@@ -26,6 +26,8 @@ mod runs;
 #[cfg(test)]
 mod samples;
 #[cfg(test)]
+mod several;
+#[cfg(test)]
 mod tree;
 #[cfg(test)]
 mod usage;

@@ -1,6 +1,8 @@
 -- From what was decided and carried out to how the call ends.
 use Rattle.std.proofs.Common.{◌≡◌, ◌≢◌, ℕ, List, [], Option, None, Some, IfSome, ◌⊎◌, inl, inr, refl, sym, ap, ◌∙◌, subst, arith}
 use Rattle.std.specs.Prelude.{MatchOption, MatchResult, Result, Ok, Err, IfOk, IsSome, IsSomeAnd}
+use Rattle.std.specs.Prelude.{All}
+use Rattle.std.proofs.lemmas.List.Elements.{All-head, recursion_from_All}
 use Rattle.std.specs.Io.KnownBytes.{Appends}
 use Rattle.qed_io.specs.Sink.{AppendsPart}
 use Rattle.qed_io.specs.Files.{Files, file_bytes}
@@ -17,7 +19,7 @@ use Rattle.qed_model.specs.declared.plan.Plan as plan
 use Rattle.qed_model.specs.Elf.File.{IsReadAs}
 use Rattle.qed_model.specs.Limits.{limit_of}
 use Rattle.qed_model.specs.Words.{asked}
-use Rattle.qed_top.specs.Answer.{CallsFor, read_fault, too_long, within, FilesAfter, FilesInPart, StoreRose, ShelfSteady, SteadyOrReadFault}
+use Rattle.qed_top.specs.Answer.{CallsFor, FilesAfter, FilesInPart, StoreRose, ShelfSteady, SteadyOrReadFault}
 use Rattle.qed_top.specs.Refused.{error_status, refusal_status}
 use Rattle.qed_top.specs.Makes.{Makes, refused, made, Delivers, TellsPlan}
 use Rattle.qed_top.specs.Run.{memory_bytes, outcome_status, run_of, FileRuns, too_large, ran, Runs, unread, run}
@@ -30,8 +32,9 @@ use Rattle.qed_top.proofs.Assembling.{never_both}
 use Rattle.qed_top.specs.Campaign.{Campaigns, CampaignDecides, campaign_status}
 use Rattle.qed_top.specs.Campaign as campaigns
 use Rattle.qed_top.specs.Gen.{Generates, test_bytes}
-use Rattle.qed_top.specs.Orders.{AnswersOver, IsUsage, OrderCallsFor, WordsCallFor, source_limit, source_name, stored_name}
-use Rattle.qed_top.specs.Ends.{OverFiles, Call, load_rose, store_rose, sink_rose, KeepsShelf, IsAnswered, EndsOver, Ends, TransformDecides, ReadDecides, ran_status, Decided, DecidesOver, OrderDecides, Decides, NoFault, IsComplete}
+use Rattle.qed_top.specs.Loads.{Decided, Loads, OverLoads}
+use Rattle.qed_top.specs.Orders.{AnswersOver, IsUsage, OrderCallsFor, WordsCallFor, source_limit, source_name, source_names, stored_name}
+use Rattle.qed_top.specs.Ends.{Call, load_rose, store_rose, sink_rose, KeepsShelf, IsAnswered, EndsOver, Ends, TransformDecides, ReadDecides, ran_status, DecidesOver, OrderDecides, Decides, NoFault, IsComplete}
 use Rattle.qed_top.specs.Ends as decide
 use Rattle.qed_top.specs.declared.answer.Answer.{Answer}
 use Rattle.qed_top.specs.declared.answer.Stored.{Stored}
@@ -43,7 +46,9 @@ use Rattle.transform.proofs.OneAnswer.{same_refusal, one_cause, memory_only, tra
 use Rattle.qed_top.proofs.Statuses.{error_refuses, refusal_refuses, Printed, refusal_printed, outcome_printed}
 use Rattle.qed_top.specs.Headline.{Answers}
 use Rattle.qed_top.proofs.Headlines.{holds_headline}
-use Rattle.qed_top.proofs.Meanings.{always, over_map, calls_more}
+use Rattle.qed_top.proofs.Meanings.{always_loads, loads_map, calls_more}
+use Rattle.qed_top.proofs.Calls.{steady_both, prints, none_stored, calls_printed, calls_settled, calls_store}
+use Rattle.qed_top.proofs.WorldEnds.{files_later, files_printed, files_settled, files_store}
 
 -- ---- counts
 -- a count that rose has risen later too, and since earlier
@@ -61,8 +66,8 @@ CallsBy order source files rose answer =
     (λ name. CallsFor (source_limit order) (file_bytes files name) (rose name) (AnswersOver order (file_bytes files name) answer) answer)
 
 -- what words mean by what they ask
-abbrev WordsBy : Result Order Reason → Files → (List ℕ → Type 0) → Answer → Type 0
-WordsBy ask files rose answer = MatchResult ask (λ order. OrderCallsFor order files rose answer) (λ reason. IsUsage reason answer)
+abbrev WordsBy : Result Order Reason → Loads → (List ℕ → Type 0) → Answer → Type 0
+WordsBy ask loads rose answer = MatchResult ask (λ order. OrderCallsFor order loads rose answer) (λ reason. IsUsage reason answer)
 
 -- what is meant stays so when more counts have risen
 source_later :
@@ -72,21 +77,24 @@ source_later order None files rose later h answer m = m
 source_later order (Some name) files rose later h answer m =
     calls_more (source_limit order) (file_bytes files name) (rose name) (later name) (AnswersOver order (file_bytes files name) answer) (AnswersOver order (file_bytes files name) answer) answer (h name) (λ a. a) m
 
+order_later :
+    (order : Order) (loads : Loads) (rose later : List ℕ → Type 0) → ((name : List ℕ) → rose name → later name) → (answer : Answer)
+    → OrderCallsFor order loads rose answer → OrderCallsFor order loads later answer
+order_later (Harts names turns steps) loads rose later h answer m = files_later names [] turns steps loads rose later h answer m
+order_later order loads rose later h answer m = source_later order (source_name order) (loads 0) rose later h answer m
+
 words_later :
-    (ask : Result Order Reason) (files : Files) (rose later : List ℕ → Type 0) → ((name : List ℕ) → rose name → later name) → (answer : Answer)
-    → WordsBy ask files rose answer → WordsBy ask files later answer
-words_later (Ok order) files rose later h answer m = source_later order (source_name order) files rose later h answer m
-words_later (Err reason) files rose later h answer m = m
+    (ask : Result Order Reason) (loads : Loads) (rose later : List ℕ → Type 0) → ((name : List ℕ) → rose name → later name) → (answer : Answer)
+    → WordsBy ask loads rose answer → WordsBy ask loads later answer
+words_later (Ok order) loads rose later h answer m = order_later order loads rose later h answer m
+words_later (Err reason) loads rose later h answer m = m
 
 pub meant_later :
-    (words : List (List ℕ)) (files : Files) (rose later : List ℕ → Type 0) → ((name : List ℕ) → rose name → later name) → (answer : Answer)
-    → WordsCallFor words files rose answer → WordsCallFor words files later answer
-meant_later words files rose later h answer m = words_later (asked words) files rose later h answer m
+    (words : List (List ℕ)) (loads : Loads) (rose later : List ℕ → Type 0) → ((name : List ℕ) → rose name → later name) → (answer : Answer)
+    → WordsCallFor words loads rose answer → WordsCallFor words loads later answer
+meant_later words loads rose later h answer m = words_later (asked words) loads rose later h answer m
 
 -- ---- the status of what is meant is one that goes with a text
-prints : (status : Status) (answer : Answer) → Printed status → answer.status ≡ status → Printed answer.status
-prints status answer p e = subst Printed (sym e) p
-
 makes_printed :
     (bytes : List ℕ) (o : Options) (Uses : List ℕ → plan.Plan → Answer → Type 0) (answer : Answer)
     → ((file : List ℕ) (p : plan.Plan) → Uses file p answer → answer.status ≡ Done) → Makes bytes o Uses answer → Printed answer.status
@@ -137,61 +145,58 @@ over_printed (Campaign input o seed count changes) bytes answer m = campaign_pri
 over_printed (Gen output seed size) bytes answer m = makes_printed (test_bytes seed size) default_options (Generates output seed size) answer (λ file p g. g.status) m
 over_printed (order.List file) bytes answer m = lists_printed bytes answer m
 over_printed (Asm text output) bytes answer m = asm_printed bytes output answer m
-over_printed (Harts files turns steps) bytes answer m = prints Usage answer tt m.status
-
-calls_printed :
-    (limit : limits.Limit) (bytes : List ℕ) (rose W : Type 0) (answer : Answer) → (W → Printed answer.status) → CallsFor limit bytes rose W answer
-    → Printed answer.status
-calls_printed limit bytes rose W answer h (read_fault r) = prints ReadFault answer tt r.plain.status
-calls_printed limit bytes rose W answer h (too_long t) = prints Limit answer tt t.plain.status
-calls_printed limit bytes rose W answer h (within small w) = h w
+over_printed (Harts files turns steps) bytes answer m = absurd m
 
 source_printed : (order : Order) (source : Option (List ℕ)) (files : Files) (rose : List ℕ → Type 0) (answer : Answer) → CallsBy order source files rose answer → Printed answer.status
 source_printed order None files rose answer m = over_printed order [] answer m
 source_printed order (Some name) files rose answer m =
     calls_printed (source_limit order) (file_bytes files name) (rose name) (AnswersOver order (file_bytes files name) answer) answer (over_printed order (file_bytes files name) answer) m
 
-words_printed : (ask : Result Order Reason) (files : Files) (rose : List ℕ → Type 0) (answer : Answer) → WordsBy ask files rose answer → Printed answer.status
-words_printed (Ok order) files rose answer m = source_printed order (source_name order) files rose answer m
-words_printed (Err reason) files rose answer m = prints Usage answer tt m.status
+order_printed : (order : Order) (loads : Loads) (rose : List ℕ → Type 0) (answer : Answer) → OrderCallsFor order loads rose answer → Printed answer.status
+order_printed (Harts names turns steps) loads rose answer m = files_printed names [] turns steps loads rose answer m
+order_printed order loads rose answer m = source_printed order (source_name order) (loads 0) rose answer m
 
-printed : (words : List (List ℕ)) (files : Files) (rose : List ℕ → Type 0) (answer : Answer) → WordsCallFor words files rose answer → Printed answer.status
-printed words files rose answer m = words_printed (asked words) files rose answer m
+words_printed : (ask : Result Order Reason) (loads : Loads) (rose : List ℕ → Type 0) (answer : Answer) → WordsBy ask loads rose answer → Printed answer.status
+words_printed (Ok order) loads rose answer m = order_printed order loads rose answer m
+words_printed (Err reason) loads rose answer m = prints Usage answer tt m.status
+
+printed : (words : List (List ℕ)) (loads : Loads) (rose : List ℕ → Type 0) (answer : Answer) → WordsCallFor words loads rose answer → Printed answer.status
+printed words loads rose answer m = words_printed (asked words) loads rose answer m
 
 -- what was done ends the call with the answer's status
-did_ends : (call : Call) (files : Files) (status : Status) → Printed status → IsAnswered call files status → EndsOver call files status
-did_ends call files Done p d = d
-did_ends call files Usage p d = d
-did_ends call files Refused p d = d
-did_ends call files Limit p d = d
-did_ends call files ReadFault p d = d
-did_ends call files WriteFault p d = absurd p
-did_ends call files Memory p d = absurd p
-did_ends call files Fired p d = d
-did_ends call files Trapped p d = d
-did_ends call files StepsSpent p d = d
+did_ends : (call : Call) (loads : Loads) (status : Status) → Printed status → IsAnswered call loads status → EndsOver call loads status
+did_ends call loads Done p d = d
+did_ends call loads Usage p d = d
+did_ends call loads Refused p d = d
+did_ends call loads Limit p d = d
+did_ends call loads ReadFault p d = d
+did_ends call loads WriteFault p d = absurd p
+did_ends call loads Memory p d = absurd p
+did_ends call loads Fired p d = d
+did_ends call loads Trapped p d = d
+did_ends call loads StepsSpent p d = d
 
 -- ---- how the call ends
 pub all_done :
-    (call : Call) (answer : Answer) → OverFiles call.old (λ files. WordsCallFor call.words files (load_rose call) answer)
+    (call : Call) (answer : Answer) → OverLoads call.old (λ loads. WordsCallFor call.words loads (load_rose call) answer)
     → FilesAfter answer.stored call.old call.new → Appends call.was call.now answer.text → Ends call answer.status
 all_done call answer meant stored text =
-    over_map call.old (λ files. WordsCallFor call.words files (load_rose call) answer) (λ files. EndsOver call files answer.status)
-    (λ files m. did_ends call files answer.status (printed call.words files (load_rose call) answer m) (record { answer = answer; meant = m; same_status = refl; stored = stored; printed = text })) meant
+    loads_map call.old (λ loads. WordsCallFor call.words loads (load_rose call) answer) (λ loads. EndsOver call loads answer.status)
+    (λ loads m. did_ends call loads answer.status (printed call.words loads (load_rose call) answer m) (record { answer = answer; meant = m; same_status = refl; stored = stored; printed = text })) meant
 
 pub print_failed :
-    (call : Call) (answer : Answer) → OverFiles call.old (λ files. WordsCallFor call.words files (load_rose call) answer)
+    (call : Call) (answer : Answer) → OverLoads call.old (λ loads. WordsCallFor call.words loads (load_rose call) answer)
     → FilesAfter answer.stored call.old call.new → AppendsPart call.was call.now answer.text → sink_rose call → Ends call WriteFault
 print_failed call answer meant stored text rose =
-    over_map call.old (λ files. WordsCallFor call.words files (load_rose call) answer) (λ files. EndsOver call files WriteFault)
-    (λ files m. inl (rose, record { answer = answer; meant = m; stored = stored; printed = text })) meant
+    loads_map call.old (λ loads. WordsCallFor call.words loads (load_rose call) answer) (λ loads. EndsOver call loads WriteFault)
+    (λ loads m. inl (rose, record { answer = answer; meant = m; stored = stored; printed = text })) meant
 
 pub store_failed :
-    (call : Call) (answer : Answer) → OverFiles call.old (λ files. WordsCallFor call.words files (load_rose call) answer)
+    (call : Call) (answer : Answer) → OverLoads call.old (λ loads. WordsCallFor call.words loads (load_rose call) answer)
     → StoreRose answer.stored (store_rose call) → FilesInPart answer.stored call.old call.new → call.now ≡ call.was → Ends call WriteFault
 store_failed call answer meant cause stored text =
-    over_map call.old (λ files. WordsCallFor call.words files (load_rose call) answer) (λ files. EndsOver call files WriteFault)
-    (λ files m. inr (record { answer = answer; meant = m; cause = cause; stored = stored; printed = text })) meant
+    loads_map call.old (λ loads. WordsCallFor call.words loads (load_rose call) answer) (λ loads. EndsOver call loads WriteFault)
+    (λ loads m. inr (record { answer = answer; meant = m; cause = cause; stored = stored; printed = text })) meant
 
 -- an answer that stores a file tells of no read fault
 steady_store : (Steady : Type 0) (answer : Answer) → SteadyOrReadFault Steady answer → IsSome answer.stored → Steady
@@ -208,14 +213,14 @@ StoppedShort call answer =
     (IsSome answer.stored × (call.new ≡ call.old) × (call.now ≡ call.was)) ⊎ (FilesAfter answer.stored call.old call.new × AppendsPart call.was call.now answer.text)
 
 pub no_memory_late :
-    (call : Call) (answer : Answer) → OverFiles call.old (λ files. WordsCallFor call.words files (load_rose call) answer)
+    (call : Call) (answer : Answer) → OverLoads call.old (λ loads. WordsCallFor call.words loads (load_rose call) answer)
     → SteadyOrReadFault (KeepsShelf call) answer → call.after.sink ≡ call.before.sink → StoppedShort call answer → Ends call Memory
 no_memory_late call answer meant steady sink (inl same) =
-    over_map call.old (λ files. WordsCallFor call.words files (load_rose call) answer) (λ files. EndsOver call files Memory)
-    (λ files m. inl (record { stored = same.1; printed = same.2; shelf = steady_store (KeepsShelf call) answer steady same.0; sink = sink })) meant
+    loads_map call.old (λ loads. WordsCallFor call.words loads (load_rose call) answer) (λ loads. EndsOver call loads Memory)
+    (λ loads m. inl (record { stored = same.1; printed = same.2; shelf = steady_store (KeepsShelf call) answer steady same.0; sink = sink })) meant
 no_memory_late call answer meant steady sink (inr part) =
-    over_map call.old (λ files. WordsCallFor call.words files (load_rose call) answer) (λ files. EndsOver call files Memory)
-    (λ files m. inr (record {
+    loads_map call.old (λ loads. WordsCallFor call.words loads (load_rose call) answer) (λ loads. EndsOver call loads Memory)
+    (λ loads m. inr (record {
       stopped = record { answer = answer; meant = m; stored = part.0; printed = part.1 };
       shelf = steady_other (KeepsShelf call) answer steady;
       sink = sink;
@@ -223,7 +228,7 @@ no_memory_late call answer meant steady sink (inr part) =
 
 pub no_memory_soon : (call : Call) → call.new ≡ call.old → call.now ≡ call.was → KeepsShelf call → call.after.sink ≡ call.before.sink → Ends call Memory
 no_memory_soon call stored text shelf sink =
-    always call.old (λ files. EndsOver call files Memory) (λ files. inl (record { stored = stored; printed = text; shelf = shelf; sink = sink }))
+    always_loads call.old (λ loads. EndsOver call loads Memory) (λ loads. inl (record { stored = stored; printed = text; shelf = shelf; sink = sink }))
 
 -- ---- what can be expected
 -- bytes have one status under `transform` and `plan`
@@ -298,16 +303,7 @@ over_settled (Gen output seed size) bytes answer t m d =
     transform_unique (test_bytes seed size) default_options answer.status t (makes_decided (test_bytes seed size) default_options (Generates output seed size) answer (λ file p g. g.status) m) d
 over_settled (order.List file) bytes answer t m d = read_unique bytes (λ f. Done) answer.status t (lists_decided bytes answer m) d
 over_settled (Asm text output) bytes answer t m d = asm_settled bytes output answer t m d
-over_settled (Harts files turns steps) bytes answer t m d = m.status ∙ sym d
-
-calls_settled :
-    (limit : limits.Limit) (bytes : List ℕ) (rose V W : Type 0) (answer : Answer) (t : Status) → (V → W → answer.status ≡ t) → (rose → ⊥) → CallsFor limit bytes rose V answer
-    → Decided (limit_of limit) bytes W t → answer.status ≡ t
-calls_settled limit bytes rose V W answer t h calm (read_fault r) d = absurd (calm r.cause)
-calls_settled limit bytes rose V W answer t h calm (too_long x) (decide.too_long l a) = x.plain.status ∙ sym a
-calls_settled limit bytes rose V W answer t h calm (too_long x) (decide.within l w) = absurd (omega (arith, x.cause, l))
-calls_settled limit bytes rose V W answer t h calm (within small v) (decide.too_long l a) = absurd (omega (arith, small, l))
-calls_settled limit bytes rose V W answer t h calm (within small v) (decide.within l w) = h v w
+over_settled (Harts files turns steps) bytes answer t m d = absurd m
 
 -- what an order decides by the name of its file
 abbrev DecidesBy : Order → Option (List ℕ) → Files → Status → Type 0
@@ -322,16 +318,31 @@ source_settled order None files rose answer t calm m d = over_settled order [] a
 source_settled order (Some name) files rose answer t calm m d =
     calls_settled (source_limit order) (file_bytes files name) (rose name) (AnswersOver order (file_bytes files name) answer) (DecidesOver order (file_bytes files name) t) answer t (over_settled order (file_bytes files name) answer t) calm m d
 
+-- what is known of all names is known of the one
+calm_one : (order : Order) (rose : List ℕ → Type 0) → All (λ name. rose name → ⊥) (source_names order) → IfSome (source_name order) (λ name. rose name → ⊥)
+calm_one (Transform input output o) rose calm = All-head (λ name. rose name → ⊥) input [] calm
+calm_one (Plan input o) rose calm = All-head (λ name. rose name → ⊥) input [] calm
+calm_one (Run file steps changes dump) rose calm = All-head (λ name. rose name → ⊥) file [] calm
+calm_one (Campaign input o seed count changes) rose calm = All-head (λ name. rose name → ⊥) input [] calm
+calm_one (Gen output seed size) rose calm = tt
+calm_one (order.List file) rose calm = All-head (λ name. rose name → ⊥) file [] calm
+calm_one (Asm text output) rose calm = All-head (λ name. rose name → ⊥) text [] calm
+calm_one (Harts names turns steps) rose calm = tt
+
+order_settled :
+    (order : Order) (loads : Loads) (rose : List ℕ → Type 0) (answer : Answer) (t : Status) → All (λ name. rose name → ⊥) (source_names order)
+    → OrderCallsFor order loads rose answer → OrderDecides order loads t → answer.status ≡ t
+order_settled (Harts names turns steps) loads rose answer t calm m d =
+    files_settled names [] turns steps loads rose answer t (recursion_from_All (λ name. rose name → ⊥) names calm) m d
+order_settled order loads rose answer t calm m d = source_settled order (source_name order) (loads 0) rose answer t (calm_one order rose calm) m d
+
 words_settled :
-    (ask : Result Order Reason) (files : Files) (rose : List ℕ → Type 0) (answer : Answer) (t : Status) → IfOk ask (λ order. IfSome (source_name order) (λ name. rose name → ⊥))
-    → WordsBy ask files rose answer → MatchResult ask (λ order. OrderDecides order files t) (λ reason. t ≡ Usage) → answer.status ≡ t
-words_settled (Ok order) files rose answer t calm m d = source_settled order (source_name order) files rose answer t calm m d
-words_settled (Err reason) files rose answer t calm m d = m.status ∙ sym d
+    (ask : Result Order Reason) (loads : Loads) (rose : List ℕ → Type 0) (answer : Answer) (t : Status) → IfOk ask (λ order. All (λ name. rose name → ⊥) (source_names order))
+    → WordsBy ask loads rose answer → MatchResult ask (λ order. OrderDecides order loads t) (λ reason. t ≡ Usage) → answer.status ≡ t
+words_settled (Ok order) loads rose answer t calm m d = order_settled order loads rose answer t calm m d
+words_settled (Err reason) loads rose answer t calm m d = m.status ∙ sym d
 
 -- a failed store is one of OUT
-none_stored : (answer : Answer) (rose : List ℕ → Type 0) → answer.stored ≡ None → StoreRose answer.stored rose → ⊥
-none_stored answer rose e r = subst (λ (s : Option Stored). StoreRose s rose) e r
-
 stored_as :
     (stored : Option Stored) (rose : List ℕ → Type 0) (output file : List ℕ) → IsSomeAnd stored (λ s. (s.name ≡ output) × (s.bytes ≡ file))
     → StoreRose stored rose → rose output
@@ -399,14 +410,7 @@ over_store (Gen output seed size) bytes stores answer calm m r =
     made_store (test_bytes seed size) default_options (Generates output seed size) stores answer (generated_store output seed size stores answer calm) m r
 over_store (order.List file) bytes stores answer calm m r = lists_store bytes stores answer m r
 over_store (Asm text output) bytes stores answer calm m r = asm_store bytes output stores answer calm m r
-over_store (Harts files turns steps) bytes stores answer calm m r = none_stored answer stores m.stored r
-
-calls_store :
-    (limit : limits.Limit) (bytes : List ℕ) (rose W : Type 0) (stores : List ℕ → Type 0) (answer : Answer) → (W → StoreRose answer.stored stores → ⊥)
-    → CallsFor limit bytes rose W answer → StoreRose answer.stored stores → ⊥
-calls_store limit bytes rose W stores answer h (read_fault f) r = none_stored answer stores f.plain.stored r
-calls_store limit bytes rose W stores answer h (too_long t) r = none_stored answer stores t.plain.stored r
-calls_store limit bytes rose W stores answer h (within small w) r = h w r
+over_store (Harts files turns steps) bytes stores answer calm m r = absurd m
 
 source_store :
     (order : Order) (source : Option (List ℕ)) (files : Files) (rose stores : List ℕ → Type 0) (answer : Answer) → IfSome (stored_name order) (λ name. stores name → ⊥)
@@ -415,40 +419,46 @@ source_store order None files rose stores answer calm m r = over_store order [] 
 source_store order (Some name) files rose stores answer calm m r =
     calls_store (source_limit order) (file_bytes files name) (rose name) (AnswersOver order (file_bytes files name) answer) stores answer (over_store order (file_bytes files name) stores answer calm) m r
 
+order_store :
+    (order : Order) (loads : Loads) (rose stores : List ℕ → Type 0) (answer : Answer) → IfSome (stored_name order) (λ name. stores name → ⊥)
+    → OrderCallsFor order loads rose answer → StoreRose answer.stored stores → ⊥
+order_store (Harts names turns steps) loads rose stores answer calm m r = files_store names [] turns steps loads rose stores answer m r
+order_store order loads rose stores answer calm m r = source_store order (source_name order) (loads 0) rose stores answer calm m r
+
 words_store :
-    (ask : Result Order Reason) (files : Files) (rose stores : List ℕ → Type 0) (answer : Answer) → IfOk ask (λ order. IfSome (stored_name order) (λ name. stores name → ⊥))
-    → WordsBy ask files rose answer → StoreRose answer.stored stores → ⊥
-words_store (Ok order) files rose stores answer calm m r = source_store order (source_name order) files rose stores answer calm m r
-words_store (Err reason) files rose stores answer calm m r = none_stored answer stores m.stored r
+    (ask : Result Order Reason) (loads : Loads) (rose stores : List ℕ → Type 0) (answer : Answer) → IfOk ask (λ order. IfSome (stored_name order) (λ name. stores name → ⊥))
+    → WordsBy ask loads rose answer → StoreRose answer.stored stores → ⊥
+words_store (Ok order) loads rose stores answer calm m r = order_store order loads rose stores answer calm m r
+words_store (Err reason) loads rose stores answer calm m r = none_stored answer stores m.stored r
 
 did_decided :
-    (call : Call) (files : Files) (status decided : Status) → NoFault call → IsAnswered call files status → Decides call.words files decided
+    (call : Call) (loads : Loads) (status decided : Status) → NoFault call → IsAnswered call loads status → Decides call.words loads decided
     → (status ≡ decided) ⊎ (status ≡ Memory)
-did_decided call files status decided calm d e =
-    inl (sym d.same_status ∙ words_settled (asked call.words) files (load_rose call) d.answer decided calm.load d.meant e)
+did_decided call loads status decided calm d e =
+    inl (sym d.same_status ∙ words_settled (asked call.words) loads (load_rose call) d.answer decided calm.load d.meant e)
 
-write_decided : (call : Call) (files : Files) → NoFault call → EndsOver call files WriteFault → ⊥
-write_decided call files calm (inl p) = calm.sink p.0
-write_decided call files calm (inr p) = words_store (asked call.words) files (load_rose call) (store_rose call) p.answer calm.store p.meant p.cause
+write_decided : (call : Call) (loads : Loads) → NoFault call → EndsOver call loads WriteFault → ⊥
+write_decided call loads calm (inl p) = calm.sink p.0
+write_decided call loads calm (inr p) = words_store (asked call.words) loads (load_rose call) (store_rose call) p.answer calm.store p.meant p.cause
 
 ends_decided :
-    (call : Call) (files : Files) (status decided : Status) → NoFault call → EndsOver call files status → Decides call.words files decided
+    (call : Call) (loads : Loads) (status decided : Status) → NoFault call → EndsOver call loads status → Decides call.words loads decided
     → (status ≡ decided) ⊎ (status ≡ Memory)
-ends_decided call files WriteFault decided calm e d = absurd (write_decided call files calm e)
-ends_decided call files Memory decided calm e d = inr refl
-ends_decided call files Done decided calm e d = did_decided call files Done decided calm e d
-ends_decided call files Usage decided calm e d = did_decided call files Usage decided calm e d
-ends_decided call files Refused decided calm e d = did_decided call files Refused decided calm e d
-ends_decided call files Limit decided calm e d = did_decided call files Limit decided calm e d
-ends_decided call files ReadFault decided calm e d = did_decided call files ReadFault decided calm e d
-ends_decided call files Fired decided calm e d = did_decided call files Fired decided calm e d
-ends_decided call files Trapped decided calm e d = did_decided call files Trapped decided calm e d
-ends_decided call files StepsSpent decided calm e d = did_decided call files StepsSpent decided calm e d
+ends_decided call loads WriteFault decided calm e d = absurd (write_decided call loads calm e)
+ends_decided call loads Memory decided calm e d = inr refl
+ends_decided call loads Done decided calm e d = did_decided call loads Done decided calm e d
+ends_decided call loads Usage decided calm e d = did_decided call loads Usage decided calm e d
+ends_decided call loads Refused decided calm e d = did_decided call loads Refused decided calm e d
+ends_decided call loads Limit decided calm e d = did_decided call loads Limit decided calm e d
+ends_decided call loads ReadFault decided calm e d = did_decided call loads ReadFault decided calm e d
+ends_decided call loads Fired decided calm e d = did_decided call loads Fired decided calm e d
+ends_decided call loads Trapped decided calm e d = did_decided call loads Trapped decided calm e d
+ends_decided call loads StepsSpent decided calm e d = did_decided call loads StepsSpent decided calm e d
 
 pub ends_complete : (call : Call) (status : Status) → Ends call status → IsComplete call status
 ends_complete call status e calm =
-    over_map call.old (λ files. EndsOver call files status) (λ files. (decided : Status) → Decides call.words files decided → (status ≡ decided) ⊎ (status ≡ Memory))
-    (λ files o decided d. ends_decided call files status decided calm o d) e
+    loads_map call.old (λ loads. EndsOver call loads status) (λ loads. (decided : Status) → Decides call.words loads decided → (status ≡ decided) ⊎ (status ≡ Memory))
+    (λ loads o decided d. ends_decided call loads status decided calm o d) e
 
 -- ---- after an answer was decided and carried out
 answered : (call : Call) (status : Status) → Ends call status → Answers call status
@@ -467,19 +477,15 @@ the_call words old new l0 l2 s0 s2 was now k0 k2 = record {
   after = record { load = l2; store = s2; sink = k2 };
 }
 
--- counts that did not change in either of two parts
-steady_both : (l0 l1 l2 s0 s1 s2 : List ℕ → ℕ) → ShelfSteady l0 l1 s0 s1 → ShelfSteady l1 l2 s1 s2 → ShelfSteady l0 l2 s0 s2
-steady_both l0 l1 l2 s0 s1 s2 a b = record { load = λ name. b.load name ∙ a.load name; store = λ name. b.store name ∙ a.store name }
-
 steady_then :
     (l0 l1 l2 s0 s1 s2 : List ℕ → ℕ) (answer : Answer) → SteadyOrReadFault (ShelfSteady l0 l1 s0 s1) answer → ShelfSteady l1 l2 s1 s2
     → SteadyOrReadFault (ShelfSteady l0 l2 s0 s2) answer
 steady_then l0 l1 l2 s0 s1 s2 answer (inl a) b = inl (steady_both l0 l1 l2 s0 s1 s2 a b)
 steady_then l0 l1 l2 s0 s1 s2 answer (inr plain) b = inr plain
 
-module _ (words : List (List ℕ)) (old middle new : Option Files) (l0 l1 l2 s0 s1 s2 : List ℕ → ℕ) (was now : Option (List ℕ)) (k0 k2 : ℕ) (answer : Answer) (same : middle ≡ old) (meant : OverFiles old (λ f. WordsCallFor words f (RoseAt l0 l1) answer)) (loads : NoneFell l1 l2) (stores : NoneFell s0 s1) where
-  later : OverFiles old (λ f. WordsCallFor words f (RoseAt l0 l2) answer)
-  later = over_map old (λ f. WordsCallFor words f (RoseAt l0 l1) answer) (λ f. WordsCallFor words f (RoseAt l0 l2) answer) (λ f m. meant_later words f (RoseAt l0 l1) (RoseAt l0 l2) (rose_later l0 l1 l2 loads) answer m) meant
+module _ (words : List (List ℕ)) (old middle new : Option Files) (l0 l1 l2 s0 s1 s2 : List ℕ → ℕ) (was now : Option (List ℕ)) (k0 k2 : ℕ) (answer : Answer) (same : middle ≡ old) (meant : OverLoads old (λ f. WordsCallFor words f (RoseAt l0 l1) answer)) (loads : NoneFell l1 l2) (stores : NoneFell s0 s1) where
+  later : OverLoads old (λ f. WordsCallFor words f (RoseAt l0 l2) answer)
+  later = loads_map old (λ f. WordsCallFor words f (RoseAt l0 l1) answer) (λ f. WordsCallFor words f (RoseAt l0 l2) answer) (λ f m. meant_later words f (RoseAt l0 l1) (RoseAt l0 l2) (rose_later l0 l1 l2 loads) answer m) meant
 
   since : (stored : Option Stored) → StoreRose stored (RoseAt s1 s2) → StoreRose stored (RoseAt s0 s2)
   since None r = r

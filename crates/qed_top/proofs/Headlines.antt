@@ -14,15 +14,16 @@ use Rattle.qed_model.specs.Machine.Loading.{loaded_file}
 use Rattle.qed_model.specs.Words.{asked}
 use Rattle.transform.specs.Transform.{Promised}
 use Rattle.qed_top.specs.Answer.{CallsFor, read_fault, too_long, within, FilesAfter}
+use Rattle.qed_top.specs.Loads.{Loads, OverLoads}
 use Rattle.qed_top.specs.Makes.{IsMade, Makes, refused, made, Delivers}
 use Rattle.qed_top.specs.Orders.{IsUsage, OrderCallsFor, WordsCallFor}
-use Rattle.qed_top.specs.Ends.{OverFiles, Call, load_rose, EndsOver, Ends}
+use Rattle.qed_top.specs.Ends.{Call, load_rose, EndsOver, Ends}
 use Rattle.qed_top.specs.Headline.{IsPromised, IsDelivered, HoldsHeadline}
 use Rattle.qed_top.specs.declared.answer.Answer.{Answer}
 use Rattle.qed_top.specs.declared.answer.Stored.{Stored}
 use Rattle.qed_top.specs.declared.status.Status.{Status}
 use Rattle.qed_top.specs.declared.status.Status.TheVariants.{Done, Limit, ReadFault}
-use Rattle.qed_top.proofs.Meanings.{over_map}
+use Rattle.qed_top.proofs.Meanings.{over_first}
 use Rattle.qed_top.proofs.Statuses.{IsRefusal, refusal_refuses}
 
 -- ---- what Done means
@@ -48,10 +49,10 @@ module _ (input output : List ℕ) (o : Options) where
 
   -- the words are those of `transform`
   meant_of :
-      (words : List (List ℕ)) (files : Files) (rose : List ℕ → Type 0) (answer : Answer) → asked words ≡ Ok (Transform input output o)
-      → WordsCallFor words files rose answer → OrderCallsFor (Transform input output o) files rose answer
-  meant_of words files rose answer is m =
-      subst (λ (ask : Result Order Reason). MatchResult ask (λ order. OrderCallsFor order files rose answer) (λ reason. IsUsage reason answer)) is m
+      (words : List (List ℕ)) (loads : Loads) (rose : List ℕ → Type 0) (answer : Answer) → asked words ≡ Ok (Transform input output o)
+      → WordsCallFor words loads rose answer → OrderCallsFor (Transform input output o) loads rose answer
+  meant_of words loads rose answer is m =
+      subst (λ (ask : Result Order Reason). MatchResult ask (λ order. OrderCallsFor order loads rose answer) (λ reason. IsUsage reason answer)) is m
 
 -- ---- what was stored
 stored_of :
@@ -83,20 +84,23 @@ module _ (call : Call) (files : Files) (input output : List ℕ) (o : Options) w
     printed = d.uses.text;
   }
 
-  delivered_of : asked call.words ≡ Ok (Transform input output o) → EndsOver call files Done → IsDelivered call files input output o
-  delivered_of is did =
-      let m = meant_of input output o call.words files (load_rose call) did.answer is did.meant in
-      let d = within_of input output o (file_bytes files input) (load_rose call input) did.answer did.same_status m in
-      record {
-        file = d.file;
-        line = did.answer.text;
-        stored = stored_of did.answer.stored call.old call.new output d.file d.uses.stored did.stored;
-        printed = did.printed;
-        promised = promised_of did.answer d;
-      }
+-- the files at the first load
+delivered_of :
+    (call : Call) (loads : Loads) (input output : List ℕ) (o : Options) → asked call.words ≡ Ok (Transform input output o) → EndsOver call loads Done
+    → IsDelivered call (loads 0) input output o
+delivered_of call loads input output o is did =
+    let m = meant_of input output o call.words loads (load_rose call) did.answer is did.meant in
+    let d = within_of input output o (file_bytes (loads 0) input) (load_rose call input) did.answer did.same_status m in
+    record {
+      file = d.file;
+      line = did.answer.text;
+      stored = stored_of did.answer.stored call.old call.new output d.file d.uses.stored did.stored;
+      printed = did.printed;
+      promised = promised_of call (loads 0) input output o did.answer d;
+    }
 
 -- a call that ends holds its headline
 pub holds_headline : (call : Call) (status : Status) → Ends call status → HoldsHeadline call status
 holds_headline call status ends input output o is was =
-    let over : OverFiles call.old (λ files. EndsOver call files Done) = subst (λ s. OverFiles call.old (λ files. EndsOver call files s)) was ends in
-    over_map call.old (λ files. EndsOver call files Done) (λ files. IsDelivered call files input output o) (λ files e. delivered_of call files input output o is e) over
+    let over : OverLoads call.old (λ loads. EndsOver call loads Done) = subst (λ s. OverLoads call.old (λ loads. EndsOver call loads s)) was ends in
+    over_first call.old (λ loads. EndsOver call loads Done) (λ files. IsDelivered call files input output o) (λ loads e. delivered_of call loads input output o is e) over

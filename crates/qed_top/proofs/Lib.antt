@@ -1,6 +1,9 @@
 pub mod Assembling
 pub mod Statuses
+pub mod Calls
 pub mod Meanings
+pub mod Turning
+pub mod WorldEnds
 pub mod Headlines
 pub mod Endings
 pub mod Exits

@@ -1,5 +1,5 @@
 -- From what was read and made to what is meant.
-use Rattle.std.proofs.Common.{◌≡◌, ◌≤◌, ◌<◌, ◌+◌, ℕ, List, [], length, Option, None, Some, IfSome, refl, ap, sym, ◌∙◌, subst, arith}
+use Rattle.std.proofs.Common.{◌≡◌, ◌≤◌, ◌<◌, ◌+◌, ℕ, false, List, [], length, Option, None, Some, IfSome, refl, ap, sym, ◌∙◌, subst, arith}
 use Rattle.std.specs.Prelude.{MatchOption, MatchResult, Result, Ok, Err, replicate, unwrap_or, cond}
 use Rattle.std.specs.Cmp.{eq_by_cmp_equiv}
 use Rattle.std.specs.Cmp.Lexicographic.{nat_list_cmp_total}
@@ -10,6 +10,7 @@ use Rattle.elf_types.specs.declared.file.ElfFile.{ElfFile}
 use Rattle.qed_model.specs.declared.change.Change.{Change}
 use Rattle.qed_model.specs.declared.limits.Limit.{Limit}
 use Rattle.qed_model.specs.declared.order.Order.{Order}
+use Rattle.qed_model.specs.declared.order.Order.TheVariants.{Harts}
 use Rattle.qed_model.specs.declared.order.Reason.{Reason}
 use Rattle.qed_model.specs.Limits.{limit_of}
 use Rattle.qed_model.specs.Text.Errors.{limit_line}
@@ -25,8 +26,8 @@ use Rattle.fault_inject.specs.Counted.{changed_steps}
 use Rattle.qed_top.specs.Answer.{PrintsOnly, CallsFor, read_fault, too_long, within}
 use Rattle.qed_top.specs.Run.{memory_bytes, memory_limit, outcome_status, run_of, FileRuns}
 use Rattle.qed_top.specs.Run as run
-use Rattle.qed_top.specs.Orders.{AnswersOver, IsUsage, OrderCallsFor, WordsCallFor, source_limit, source_name}
-use Rattle.qed_top.specs.Ends.{OverFiles}
+use Rattle.qed_top.specs.Orders.{AnswersOver, IsUsage, OrderCallsFor, SourceCallsFor, WordsCallFor, reads_several, source_limit, source_name}
+use Rattle.qed_top.specs.Loads.{Loads, OverFiles, OverLoads}
 use Rattle.qed_top.specs.declared.answer.Answer.{Answer}
 use Rattle.qed_top.specs.declared.status.Status.{Status}
 use Rattle.qed_top.specs.declared.status.Status.TheVariants as status
@@ -44,6 +45,30 @@ told_or : (told : Option Files) (P : Files → Type 0) (files : Files) → P fil
 told_or None P files p h = record { files = files; same = tt; holds = p }
 told_or (Some f) P files p h = record { files = f; same = refl; holds = h }
 
+-- the same of the files at each load
+pub always_loads : (told : Option Files) (P : Loads → Type 0) → ((loads : Loads) → P loads) → OverLoads told P
+always_loads None P h = record { loads = λ k. empty; same = tt; holds = h (λ k. empty) }
+always_loads (Some f) P h = record { loads = λ k. f; same = λ k. refl; holds = h (λ k. f) }
+
+pub loads_map : (told : Option Files) (P Q : Loads → Type 0) → ((loads : Loads) → P loads → Q loads) → OverLoads told P → OverLoads told Q
+loads_map told P Q h o = record { loads = o.loads; same = o.same; holds = h o.loads o.holds }
+
+pub same_each : (told : Option Files) (files : Files) → IfSome told (λ f. f ≡ files) → IfSome told (λ f. ℕ → f ≡ files)
+same_each None files e = tt
+same_each (Some f) files e = λ k. e
+
+-- at each load the same files
+pub over_loads : (told : Option Files) (P : Files → Type 0) → OverFiles told P → OverLoads told (λ loads. P (loads 0))
+over_loads told P o = record { loads = λ k. o.files; same = same_each told o.files o.same; holds = o.holds }
+
+same_first : (told : Option Files) (loads : Loads) → IfSome told (λ f. (k : ℕ) → f ≡ loads k) → IfSome told (λ f. f ≡ loads 0)
+same_first None loads e = tt
+same_first (Some f) loads e = e 0
+
+-- those at the first load
+pub over_first : (told : Option Files) (P : Loads → Type 0) (Q : Files → Type 0) → ((loads : Loads) → P loads → Q (loads 0)) → OverLoads told P → OverFiles told Q
+over_first told P Q h o = record { files = o.loads 0; same = same_first told o.loads o.same; holds = h o.loads o.holds }
+
 -- there are files with these bytes under a name
 file_bytes-insert : (files : Files) (name bytes : List ℕ) → file_bytes (insert files name bytes) name ≡ bytes
 file_bytes-insert files name bytes =
@@ -59,6 +84,15 @@ calls_more limit bytes rose later V W answer h w (read_fault r) = read_fault (re
 calls_more limit bytes rose later V W answer h w (too_long t) = too_long t
 calls_more limit bytes rose later V W answer h w (within small v) = within small (w v)
 
+-- bytes that were loaded are those under the name
+pub over_have :
+    (told : Option Files) (name bytes : List ℕ) (P : List ℕ → Type 0) → IfSome told (λ f. bytes ≡ file_bytes f name) → P bytes
+    → OverFiles told (λ f. P (file_bytes f name))
+over_have told name bytes P loaded p =
+    let same = file_bytes-insert empty name bytes in
+    over_map told (λ f. bytes ≡ file_bytes f name) (λ f. P (file_bytes f name)) (λ f e. subst P e p)
+    (told_or told (λ f. bytes ≡ file_bytes f name) (insert empty name bytes) (sym same) loaded)
+
 -- what a command with a limit means over the bytes under a name; W says what it answers over bytes within the limit
 module _ (told : Option Files) (name : List ℕ) (limit : Limit) (rose : Type 0) (W : List ℕ → Type 0) (answer : Answer) where
   abbrev pub OverCommand : Type 0
@@ -66,11 +100,7 @@ module _ (told : Option Files) (name : List ℕ) (limit : Limit) (rose : Type 0)
 
   -- the bytes were loaded
   pub over_bytes : (bytes : List ℕ) → IfSome told (λ f. bytes ≡ file_bytes f name) → length bytes ≤ limit_of limit → W bytes → OverCommand
-  over_bytes bytes loaded small meant =
-      let same = file_bytes-insert empty name bytes in
-      over_map told (λ f. bytes ≡ file_bytes f name) (λ f. CallsFor limit (file_bytes f name) rose (W (file_bytes f name)) answer)
-      (λ f e. subst (λ (b : List ℕ). CallsFor limit b rose (W b) answer) e (within small meant))
-      (told_or told (λ f. bytes ≡ file_bytes f name) (insert empty name bytes) (sym same) loaded)
+  over_bytes bytes loaded small meant = over_have told name bytes (λ b. CallsFor limit b rose (W b) answer) loaded (within small meant)
 
   -- the load failed
   pub over_fault : rose → PrintsOnly status.ReadFault read_fault_line answer → OverCommand
@@ -102,34 +132,42 @@ CallsBy order source files rose answer =
 -- an order that reads no file
 pub over_none :
     (told : Option Files) (order : Order) (rose : List ℕ → Type 0) (answer : Answer) → source_name order ≡ None → AnswersOver order [] answer
-    → OverFiles told (λ f. OrderCallsFor order f rose answer)
-over_none told order rose answer e a = always told (λ f. OrderCallsFor order f rose answer) (λ f. subst (λ (source : Option (List ℕ)). CallsBy order source f rose answer) (sym e) a)
+    → OverFiles told (λ f. SourceCallsFor order f rose answer)
+over_none told order rose answer e a = always told (λ f. SourceCallsFor order f rose answer) (λ f. subst (λ (source : Option (List ℕ)). CallsBy order source f rose answer) (sym e) a)
 
 -- an order that reads a file
 pub over_source :
     (told : Option Files) (order : Order) (name : List ℕ) (rose : List ℕ → Type 0) (answer : Answer) → source_name order ≡ Some name
     → OverFiles told (λ f. CallsFor (source_limit order) (file_bytes f name) (rose name) (AnswersOver order (file_bytes f name) answer) answer)
-    → OverFiles told (λ f. OrderCallsFor order f rose answer)
+    → OverFiles told (λ f. SourceCallsFor order f rose answer)
 over_source told order name rose answer e o =
-    over_map told (λ f. CallsFor (source_limit order) (file_bytes f name) (rose name) (AnswersOver order (file_bytes f name) answer) answer) (λ f. OrderCallsFor order f rose answer)
+    over_map told (λ f. CallsFor (source_limit order) (file_bytes f name) (rose name) (AnswersOver order (file_bytes f name) answer) answer) (λ f. SourceCallsFor order f rose answer)
     (λ f m. subst (λ (source : Option (List ℕ)). CallsBy order source f rose answer) (sym e) m) o
 
+-- an order that reads no more than one
+pub over_one :
+    (told : Option Files) (order : Order) (rose : List ℕ → Type 0) (answer : Answer) → reads_several order ≡ false → OverFiles told (λ f. SourceCallsFor order f rose answer)
+    → OverLoads told (λ loads. OrderCallsFor order loads rose answer)
+over_one told (Harts files turns steps) rose answer e o = cc
+over_one told order rose answer e o = over_loads told (λ f. SourceCallsFor order f rose answer) o
+
 -- ---- words
-abbrev WordsBy : Result Order Reason → Files → (List ℕ → Type 0) → Answer → Type 0
-WordsBy ask files rose answer = MatchResult ask (λ order. OrderCallsFor order files rose answer) (λ reason. IsUsage reason answer)
+abbrev WordsBy : Result Order Reason → Loads → (List ℕ → Type 0) → Answer → Type 0
+WordsBy ask loads rose answer = MatchResult ask (λ order. OrderCallsFor order loads rose answer) (λ reason. IsUsage reason answer)
 
 -- the words ask for an order, or for nothing
 pub over_order :
     (told : Option Files) (words : List (List ℕ)) (order : Order) (rose : List ℕ → Type 0) (answer : Answer) → asked words ≡ Ok order
-    → OverFiles told (λ f. OrderCallsFor order f rose answer) → OverFiles told (λ f. WordsCallFor words f rose answer)
+    → OverLoads told (λ loads. OrderCallsFor order loads rose answer) → OverLoads told (λ loads. WordsCallFor words loads rose answer)
 over_order told words order rose answer e o =
-    over_map told (λ f. OrderCallsFor order f rose answer) (λ f. WordsCallFor words f rose answer)
-    (λ f m. subst (λ (ask : Result Order Reason). WordsBy ask f rose answer) (sym e) m) o
+    loads_map told (λ loads. OrderCallsFor order loads rose answer) (λ loads. WordsCallFor words loads rose answer)
+    (λ loads m. subst (λ (ask : Result Order Reason). WordsBy ask loads rose answer) (sym e) m) o
 
 pub over_usage :
     (told : Option Files) (words : List (List ℕ)) (reason : Reason) (rose : List ℕ → Type 0) (answer : Answer) → asked words ≡ Err reason → IsUsage reason answer
-    → OverFiles told (λ f. WordsCallFor words f rose answer)
-over_usage told words reason rose answer e plain = always told (λ f. WordsCallFor words f rose answer) (λ f. subst (λ (ask : Result Order Reason). WordsBy ask f rose answer) (sym e) plain)
+    → OverLoads told (λ loads. WordsCallFor words loads rose answer)
+over_usage told words reason rose answer e plain =
+    always_loads told (λ loads. WordsCallFor words loads rose answer) (λ loads. subst (λ (ask : Result Order Reason). WordsBy ask loads rose answer) (sym e) plain)
 
 -- ---- `run`
 -- a machine that was run with changes from the start of a file

@@ -1,5 +1,5 @@
 -- How the top call ends.
-use Rattle.std.specs.Prelude.{◌≡◌, ◌≢◌, ◌⊎◌, ◌<◌, ◌≤◌, ℕ, List, [], length, Option, MatchOption, MatchResult, IfOk, IfSome}
+use Rattle.std.specs.Prelude.{◌≡◌, ◌≢◌, ◌⊎◌, ◌<◌, ◌≤◌, ℕ, List, [], length, Option, MatchOption, MatchResult, IfOk, IfSome, All}
 use Rattle.std.specs.Io.KnownBytes.{Appends}
 use Rattle.qed_io.specs.Files.{Files, file_bytes}
 use Rattle.qed_io.specs.Counts.{Rose, RoseAt}
@@ -25,16 +25,12 @@ use Rattle.qed_model.specs.Options.{default_options}
 use Rattle.qed_top.specs.Asm.{AsmDecides}
 use Rattle.qed_top.specs.Campaign.{CampaignDecides}
 use Rattle.qed_top.specs.Gen.{test_bytes}
-use Rattle.qed_top.specs.Orders.{WordsCallFor, source_name, source_limit, stored_name}
+use Rattle.qed_top.specs.Loads.{Decided, Loads, OverLoads}
+use Rattle.qed_top.specs.Orders.{WordsCallFor, source_name, source_names, source_limit, stored_name}
+use Rattle.qed_top.specs.World.{FilesDecide}
 use Rattle.qed_top.specs.declared.answer.Answer.{Answer}
 use Rattle.qed_top.specs.declared.status.Status.{Status}
 use Rattle.qed_top.specs.declared.status.Status.TheVariants.{Done, Usage, Limit, ReadFault, WriteFault, Memory}
-
--- of the files that are told; where nothing is told, of some files
-pub record OverFiles (told : Option Files) (Holds : Files → Type 0) : Type 0 where
-  pub files : Files
-  pub same : IfSome told (λ f. f ≡ files)
-  pub holds : Holds files
 
 -- how often loads and stores of a name have failed, and writes
 pub record Faults : Type 0 where
@@ -69,25 +65,25 @@ sink_rose call = Rose call.before.sink call.after.sink
 abbrev pub KeepsShelf : Call → Type 0
 KeepsShelf call = ShelfSteady call.before.load call.after.load call.before.store call.after.store
 
--- what is meant over these files was stored and printed, and the status is the one that goes with it
-pub record IsAnswered (call : Call) (files : Files) (status : Status) : Type 0 where
+-- what is meant over these files at its loads was stored and printed, and the status is the one that goes with it
+pub record IsAnswered (call : Call) (loads : Loads) (status : Status) : Type 0 where
   pub answer : Answer
-  pub meant : WordsCallFor call.words files (load_rose call) answer
+  pub meant : WordsCallFor call.words loads (load_rose call) answer
   pub same_status : answer.status ≡ status
   pub stored : FilesAfter answer.stored call.old call.new
   pub printed : Appends call.was call.now answer.text
 
 -- what is meant was stored, and the print stopped before its end
-pub record StoppedInPrint (call : Call) (files : Files) : Type 0 where
+pub record StoppedInPrint (call : Call) (loads : Loads) : Type 0 where
   pub answer : Answer
-  pub meant : WordsCallFor call.words files (load_rose call) answer
+  pub meant : WordsCallFor call.words loads (load_rose call) answer
   pub stored : FilesAfter answer.stored call.old call.new
   pub printed : AppendsPart call.was call.now answer.text
 
 -- the store of what is meant failed, and nothing was printed
-pub record StoppedInStore (call : Call) (files : Files) : Type 0 where
+pub record StoppedInStore (call : Call) (loads : Loads) : Type 0 where
   pub answer : Answer
-  pub meant : WordsCallFor call.words files (load_rose call) answer
+  pub meant : WordsCallFor call.words loads (load_rose call) answer
   pub cause : StoreRose answer.stored (store_rose call)
   pub stored : FilesInPart answer.stored call.old call.new
   pub printed : call.now ≡ call.was
@@ -100,19 +96,19 @@ pub record Unchanged (call : Call) : Type 0 where
   pub sink : call.after.sink ≡ call.before.sink
 
 -- the print stopped for want of memory; no count of faults changed, but for those of the shelf where a read fault was to be printed
-pub record StoppedForMemory (call : Call) (files : Files) : Type 0 where
-  pub stopped : StoppedInPrint call files
+pub record StoppedForMemory (call : Call) (loads : Loads) : Type 0 where
+  pub stopped : StoppedInPrint call loads
   pub shelf : stopped.answer.status ≢ ReadFault → KeepsShelf call
   pub sink : call.after.sink ≡ call.before.sink
 
--- how the call ends over these files, by its status
-abbrev pub EndsOver : Call → Files → Status → Type 0
-EndsOver call files WriteFault = (sink_rose call × StoppedInPrint call files) ⊎ StoppedInStore call files
-EndsOver call files Memory = Unchanged call ⊎ StoppedForMemory call files
-EndsOver call files status = IsAnswered call files status
+-- how the call ends over these files at its loads, by its status
+abbrev pub EndsOver : Call → Loads → Status → Type 0
+EndsOver call loads WriteFault = (sink_rose call × StoppedInPrint call loads) ⊎ StoppedInStore call loads
+EndsOver call loads Memory = Unchanged call ⊎ StoppedForMemory call loads
+EndsOver call loads status = IsAnswered call loads status
 
 abbrev pub Ends : Call → Status → Type 0
-Ends call status = OverFiles call.old (λ files. EndsOver call files status)
+Ends call status = OverLoads call.old (λ loads. EndsOver call loads status)
 
 -- ---- what can be expected
 -- the status of `transform` and `plan` over bytes within the limit, by what is true of them
@@ -130,7 +126,7 @@ pub data ReadDecides (bytes : List ℕ) (done : ElfFile → Status) (status : St
 abbrev pub ran_status : ℕ → List Change → ElfFile → Status
 ran_status steps changes f = outcome_status (run_of f steps changes).state.outcome
 
--- the status of an order over the bytes of its file, which are within the limit
+-- the status of an order that reads no more than one file, over its bytes, which are within the limit
 abbrev pub DecidesOver : Order → List ℕ → Status → Type 0
 DecidesOver (Transform input output options) bytes status = TransformDecides bytes options status
 DecidesOver (Plan input options) bytes status = TransformDecides bytes options status
@@ -139,28 +135,29 @@ DecidesOver (Campaign input options seed count changes) bytes status = CampaignD
 DecidesOver (Gen output seed size) bytes status = TransformDecides (test_bytes seed size) default_options status
 DecidesOver (order.List file) bytes status = ReadDecides bytes (λ f. Done) status
 DecidesOver (Asm text output) bytes status = AsmDecides bytes status
-DecidesOver (Harts files turns steps) bytes status = status ≡ Usage
+DecidesOver (Harts files turns steps) bytes status = ⊥
 
--- the status over the bytes of a file, of which so many are taken
-pub data Decided (limit : ℕ) (bytes : List ℕ) (Within : Type 0) (status : Status) : Type 0 where
-  too_long : limit < length bytes → status ≡ Limit → Decided limit bytes Within status
-  within : length bytes ≤ limit → Within → Decided limit bytes Within status
-
-abbrev pub OrderDecides : Order → Files → Status → Type 0
-OrderDecides order files status =
+-- the same with the loading of the file
+abbrev pub SourceDecides : Order → Files → Status → Type 0
+SourceDecides order files status =
     MatchOption (source_name order) (DecidesOver order [] status)
     (λ name. Decided (limit_of (source_limit order)) (file_bytes files name) (DecidesOver order (file_bytes files name) status) status)
 
--- the status that the words and the files decide
-abbrev pub Decides : List (List ℕ) → Files → Status → Type 0
-Decides words files status = MatchResult (asked words) (λ order. OrderDecides order files status) (λ reason. status ≡ Usage)
+-- the status of any order over the files at each load
+abbrev pub OrderDecides : Order → Loads → Status → Type 0
+OrderDecides (Harts files turns steps) loads status = FilesDecide files [] turns steps loads status
+OrderDecides order loads status = SourceDecides order (loads 0) status
 
--- neither the count of the sink rose, nor that of loads of the file that is read, nor that of stores of the one that is stored
+-- the status that the words and the files decide
+abbrev pub Decides : List (List ℕ) → Loads → Status → Type 0
+Decides words loads status = MatchResult (asked words) (λ order. OrderDecides order loads status) (λ reason. status ≡ Usage)
+
+-- neither the count of the sink rose, nor that of loads of a file that is read, nor that of stores of the one that is stored
 pub record NoFault (call : Call) : Type 0 where
   pub sink : sink_rose call → ⊥
-  pub load : IfOk (asked call.words) (λ order. IfSome (source_name order) (λ name. load_rose call name → ⊥))
+  pub load : IfOk (asked call.words) (λ order. All (λ name. load_rose call name → ⊥) (source_names order))
   pub store : IfOk (asked call.words) (λ order. IfSome (stored_name order) (λ name. store_rose call name → ⊥))
 
 -- with no fault the status is the one that is decided, or there was no memory
 abbrev pub IsComplete : Call → Status → Type 0
-IsComplete call status = NoFault call → OverFiles call.old (λ files. (decided : Status) → Decides call.words files decided → (status ≡ decided) ⊎ (status ≡ Memory))
+IsComplete call status = NoFault call → OverLoads call.old (λ loads. (decided : Status) → Decides call.words loads decided → (status ≡ decided) ⊎ (status ≡ Memory))

@@ -18,7 +18,8 @@ use Rattle.qed_model.specs.Promise.Caught.{Caught}
 use Rattle.qed_model.specs.Promise.Clean.{Clean}
 use Rattle.qed_model.specs.Text.Plan.{plan_line}
 use Rattle.qed_model.specs.Words.{asked}
-use Rattle.qed_top.specs.Ends.{OverFiles, Call, Ends, IsComplete}
+use Rattle.qed_top.specs.Ends.{Call, Ends, IsComplete}
+use Rattle.qed_top.specs.Loads.{OverFiles}
 use Rattle.qed_top.specs.declared.status.Status.{Status}
 use Rattle.qed_top.specs.declared.status.Status.TheVariants.{Done}
 

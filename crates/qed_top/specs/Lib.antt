@@ -1,7 +1,10 @@
 pub mod Answer
+pub mod Loads
 pub mod Refused
 pub mod Makes
 pub mod Run
+pub mod World
+pub mod Turns
 pub mod Gen
 pub mod Campaign
 pub mod Asm

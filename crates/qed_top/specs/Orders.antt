@@ -1,5 +1,5 @@
 -- What the words and the files call for.
-use Rattle.std.specs.Prelude.{ℕ, List, [], Option, None, Some, MatchOption, MatchResult}
+use Rattle.std.specs.Prelude.{Bool, true, false, ℕ, List, [], ◌∷◌, Option, None, Some, MatchOption, MatchResult}
 use Rattle.qed_io.specs.Files.{Files, file_bytes}
 use Rattle.qed_model.specs.declared.limits.Limit as limits
 use Rattle.qed_model.specs.declared.limits.Limit.TheVariants.{FileBytes, RunFileBytes}
@@ -7,7 +7,6 @@ use Rattle.qed_model.specs.declared.order.Order.{Order}
 use Rattle.qed_model.specs.declared.order.Order.TheVariants as order
 use Rattle.qed_model.specs.declared.order.Order.TheVariants.{Transform, Plan, Run, Campaign, Gen, Asm, Harts}
 use Rattle.qed_model.specs.declared.order.Reason.{Reason}
-use Rattle.qed_model.specs.declared.order.Reason.TheVariants.{UnknownCommand}
 use Rattle.qed_model.specs.Text.Usage.{reason_line}
 use Rattle.qed_model.specs.Words.{asked}
 use Rattle.qed_top.specs.Answer.{PrintsOnly, CallsFor}
@@ -16,12 +15,14 @@ use Rattle.qed_top.specs.Asm.{Assembles}
 use Rattle.qed_top.specs.Campaign.{Campaigns}
 use Rattle.qed_top.specs.Gen.{Gens}
 use Rattle.qed_top.specs.Makes.{Makes, Delivers, TellsPlan}
+use Rattle.qed_top.specs.Loads.{Loads}
 use Rattle.qed_top.specs.Run.{Runs}
+use Rattle.qed_top.specs.World.{FilesCallFor}
 use Rattle.qed_top.specs.declared.answer.Answer.{Answer}
 use Rattle.qed_top.specs.declared.status.Status.TheVariants.{Usage}
 
 -- ---- files
--- the name of the file that an order reads, where there is one; what is not built yet reads none
+-- the name of the file that an order reads, where it reads one
 abbrev pub source_name : Order → Option (List ℕ)
 source_name (Transform input output options) = Some input
 source_name (Plan input options) = Some input
@@ -31,6 +32,22 @@ source_name (Gen output seed size) = None
 source_name (order.List file) = Some file
 source_name (Asm text output) = Some text
 source_name (Harts files turns steps) = None
+
+-- the names of all files that it reads, in their order
+abbrev pub source_names : Order → List (List ℕ)
+source_names (Transform input output options) = input ∷ []
+source_names (Plan input options) = input ∷ []
+source_names (Run file steps changes dump) = file ∷ []
+source_names (Campaign input options seed count changes) = input ∷ []
+source_names (Gen output seed size) = []
+source_names (order.List file) = file ∷ []
+source_names (Asm text output) = text ∷ []
+source_names (Harts files turns steps) = files
+
+-- whether it reads several
+abbrev pub reads_several : Order → Bool
+reads_several (Harts files turns steps) = true
+reads_several _ = false
 
 -- the limit on its bytes
 abbrev pub source_limit : Order → limits.Limit
@@ -50,7 +67,7 @@ stored_name _ = None
 abbrev pub IsUsage : Reason → Answer → Type 0
 IsUsage reason answer = PrintsOnly Usage (reason_line reason) answer
 
--- what an order calls for over the bytes of its file, which are within the limit; other commands are not built yet
+-- what an order that reads no more than one file calls for over its bytes, which are within the limit
 abbrev pub AnswersOver : Order → List ℕ → Answer → Type 0
 AnswersOver (Transform input output options) bytes answer = Makes bytes options (Delivers output) answer
 AnswersOver (Plan input options) bytes answer = Makes bytes options TellsPlan answer
@@ -59,14 +76,19 @@ AnswersOver (Campaign input options seed count changes) bytes answer = Campaigns
 AnswersOver (Gen output seed size) bytes answer = Gens output seed size answer
 AnswersOver (order.List file) bytes answer = Lists bytes answer
 AnswersOver (Asm text output) bytes answer = Assembles bytes output answer
-AnswersOver (Harts files turns steps) bytes answer = IsUsage UnknownCommand answer
+AnswersOver (Harts files turns steps) bytes answer = ⊥
 
 -- the same with the loading of the file; `rose` holds of a name whose count of failed loads rose
-abbrev pub OrderCallsFor : Order → Files → (List ℕ → Type 0) → Answer → Type 0
-OrderCallsFor order files rose answer =
+abbrev pub SourceCallsFor : Order → Files → (List ℕ → Type 0) → Answer → Type 0
+SourceCallsFor order files rose answer =
     MatchOption (source_name order) (AnswersOver order [] answer)
     (λ name. CallsFor (source_limit order) (file_bytes files name) (rose name) (AnswersOver order (file_bytes files name) answer) answer)
 
--- what the words call for over these files
-abbrev pub WordsCallFor : List (List ℕ) → Files → (List ℕ → Type 0) → Answer → Type 0
-WordsCallFor words files rose answer = MatchResult (asked words) (λ order. OrderCallsFor order files rose answer) (λ reason. IsUsage reason answer)
+-- what any order calls for over the files at each load
+abbrev pub OrderCallsFor : Order → Loads → (List ℕ → Type 0) → Answer → Type 0
+OrderCallsFor (Harts files turns steps) loads rose answer = FilesCallFor files [] turns steps loads rose answer
+OrderCallsFor order loads rose answer = SourceCallsFor order (loads 0) rose answer
+
+-- what the words call for
+abbrev pub WordsCallFor : List (List ℕ) → Loads → (List ℕ → Type 0) → Answer → Type 0
+WordsCallFor words loads rose answer = MatchResult (asked words) (λ order. OrderCallsFor order loads rose answer) (λ reason. IsUsage reason answer)

@@ -1,68 +1,26 @@
 //! What the words and the files call for.
-ghost use Rattle.std.specs.Prelude.{◌≡◌, ◌≤◌, IfOk, IfErr, IfSome, OnOk, OnErr, length};
+ghost use Rattle.std.specs.Prelude.{◌≡◌, false, IfOk, OnErr};
 ghost use Rattle.qed_io.specs.Counts.{RoseAt, NoneFell};
-ghost use Rattle.qed_io.specs.Files.{file_bytes};
-ghost use Rattle.qed_model.specs.Limits.{limit_of};
-ghost use Rattle.qed_model.specs.Text.Plan.{read_fault_line};
 ghost use Rattle.qed_model.specs.Words.{texts};
 ghost use Rattle.qed_words.specs.Sound.{IsSoundOrder};
-ghost use Rattle.qed_top.specs.Answer.{CallsFor, PrintsOnly, ShelfSteady, SteadyOrReadFault};
-ghost use Rattle.qed_top.specs.Orders.{OrderCallsFor, WordsCallFor};
-ghost use Rattle.qed_top.specs.Ends.{OverFiles};
+ghost use Rattle.qed_top.specs.Answer.{ShelfSteady, SteadyOrReadFault};
+ghost use Rattle.qed_top.specs.Loads.{OverFiles, OverLoads};
+ghost use Rattle.qed_top.specs.Orders.{OrderCallsFor, SourceCallsFor, WordsCallFor, reads_several};
 
-use crate::answer::{Answer, above_limit, plain};
+use crate::answer::Answer;
+use crate::load::read_file;
 use crate::orders::{answer_order, source_limit, source_name, usage};
-use crate::status::Status;
-use elf_types::Bytes;
-use qed_io::{LoadError, Shelf};
-use qed_model::{Limit, Order};
+use crate::world::answer_harts;
+use qed_io::Shelf;
+use qed_model::Order;
 use qed_words::{WordsError, order};
-use report::read_fault_text;
 use std::alloc::{AllocError, Global};
 
-/// The answer for a file that could not be read.
-fn read_fault(alloc: Global) -> Result<Answer, AllocError>
-    ensures { IfOk result (PrintsOnly Status.ReadFault read_fault_line) }
-{
-    let text = read_fault_text(alloc)?;
-    Ok(plain(Status::ReadFault, text))
-}
-
-/// The bytes of the file that a command reads, or the answer that they are not had: a read fault, or above the limit.
-fn read_file<S: Shelf>(
-    alloc: Global,
-    name: &str,
-    limit: Limit,
-    shelf: &mut S,
-) -> Result<Result<Bytes, Answer>, AllocError>
-    ensures bytes { IfOk result (λ read. IfOk read (λ bytes. IfSome (S.files shelf.old) (λ files. bytes ≡ file_bytes files name.now))) }
-    ensures within { IfOk result (λ read. IfOk read (λ bytes. length bytes ≤ limit_of limit)) }
-    ensures loaded { IfOk result (λ read. OnOk read (ShelfSteady (S.load_faults shelf.old) (S.load_faults shelf.new) (S.store_faults shelf.old) (S.store_faults shelf.new))) }
-    ensures other { IfOk result (λ read. IfErr read (λ answer. OverFiles (S.files shelf.old) (λ files.
-        CallsFor limit (file_bytes files name.now) (RoseAt (S.load_faults shelf.old) (S.load_faults shelf.new) name.now) ⊥ answer))) }
-    ensures files { S.files shelf.new ≡ S.files shelf.old }
-    ensures stores { NoneFell (S.store_faults shelf.old) (S.store_faults shelf.new) }
-    ensures steady { IfOk result (λ read. IfErr read (SteadyOrReadFault (ShelfSteady (S.load_faults shelf.old) (S.load_faults shelf.new) (S.store_faults shelf.old) (S.store_faults shelf.new)))) }
-    ensures memory { OnErr result (ShelfSteady (S.load_faults shelf.old) (S.load_faults shelf.new) (S.store_faults shelf.old) (S.store_faults shelf.new)) }
-{
-    // Made before the load, so that want of memory comes before a fault and not in its place.
-    let fault = read_fault(alloc)?;
-    match shelf.load(alloc, name, limit.most()) {
-        Ok(bytes) => Ok(Ok(bytes)),
-        Err(LoadError::Failed) => Ok(Err(fault)),
-        Err(LoadError::TooLong) => {
-            // The load has not counted the bytes, and the line of this limit has no count.
-            let answer = above_limit(alloc, limit, 0)?;
-            Ok(Err(answer))
-        }
-        Err(LoadError::Memory) => Err(AllocError),
-    }
-}
-
-/// What an order calls for over the files.
-fn decide_order<S: Shelf>(alloc: Global, order: Order, shelf: &mut S) -> Result<Answer, AllocError>
-    requires { IsSoundOrder order }
-    ensures meant { IfOk result (λ answer. OverFiles (S.files shelf.old) (λ files. OrderCallsFor order files (RoseAt (S.load_faults shelf.old) (S.load_faults shelf.new)) answer)) }
+/// What an order calls for that reads no more than one file.
+fn decide_source<S: Shelf>(alloc: Global, order: Order, shelf: &mut S) -> Result<Answer, AllocError>
+    requires sound { IsSoundOrder order }
+    requires one { reads_several order ≡ false }
+    ensures meant { IfOk result (λ answer. OverFiles (S.files shelf.old) (λ files. SourceCallsFor order files (RoseAt (S.load_faults shelf.old) (S.load_faults shelf.new)) answer)) }
     ensures files { S.files shelf.new ≡ S.files shelf.old }
     ensures stores { NoneFell (S.store_faults shelf.old) (S.store_faults shelf.new) }
     ensures steady { IfOk result (SteadyOrReadFault (ShelfSteady (S.load_faults shelf.old) (S.load_faults shelf.new) (S.store_faults shelf.old) (S.store_faults shelf.new))) }
@@ -86,13 +44,34 @@ fn decide_order<S: Shelf>(alloc: Global, order: Order, shelf: &mut S) -> Result<
     }
 }
 
+/// What an order calls for over the files.
+fn decide_order<S: Shelf>(alloc: Global, order: Order, shelf: &mut S) -> Result<Answer, AllocError>
+    requires { IsSoundOrder order }
+    ensures meant { IfOk result (λ answer. OverLoads (S.files shelf.old) (λ loads. OrderCallsFor order loads (RoseAt (S.load_faults shelf.old) (S.load_faults shelf.new)) answer)) }
+    ensures files { S.files shelf.new ≡ S.files shelf.old }
+    ensures stores { NoneFell (S.store_faults shelf.old) (S.store_faults shelf.new) }
+    ensures steady { IfOk result (SteadyOrReadFault (ShelfSteady (S.load_faults shelf.old) (S.load_faults shelf.new) (S.store_faults shelf.old) (S.store_faults shelf.new))) }
+    ensures memory { OnErr result (ShelfSteady (S.load_faults shelf.old) (S.load_faults shelf.new) (S.store_faults shelf.old) (S.store_faults shelf.new)) }
+{
+    match order {
+        Order::Harts(names, turns, steps) => {
+            let answer = answer_harts(alloc, names.as_slice(), turns, steps, shelf)?;
+            Ok(answer)
+        }
+        order => {
+            let answer = decide_source(alloc, order, shelf)?;
+            Ok(answer)
+        }
+    }
+}
+
 /// What the words and the files call for.
 pub fn decide<S: Shelf>(
     alloc: Global,
     words: &[String],
     shelf: &mut S,
 ) -> Result<Answer, AllocError>
-    ensures meant { IfOk result (λ answer. OverFiles (S.files shelf.old) (λ files. WordsCallFor (texts words.now) files (RoseAt (S.load_faults shelf.old) (S.load_faults shelf.new)) answer)) }
+    ensures meant { IfOk result (λ answer. OverLoads (S.files shelf.old) (λ loads. WordsCallFor (texts words.now) loads (RoseAt (S.load_faults shelf.old) (S.load_faults shelf.new)) answer)) }
     ensures files { S.files shelf.new ≡ S.files shelf.old }
     ensures stores { NoneFell (S.store_faults shelf.old) (S.store_faults shelf.new) }
     ensures steady { IfOk result (SteadyOrReadFault (ShelfSteady (S.load_faults shelf.old) (S.load_faults shelf.new) (S.store_faults shelf.old) (S.store_faults shelf.new))) }

@@ -9,6 +9,7 @@ mod decide;
 mod fault;
 mod generated;
 mod list;
+mod load;
 mod make;
 mod orders;
 mod program;
@@ -16,6 +17,7 @@ mod refusal;
 mod run;
 mod status;
 mod top;
+mod world;
 
 pub use program::{exit_code, run_program};
 pub use status::Status;

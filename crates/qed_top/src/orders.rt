@@ -1,9 +1,9 @@
 //! What orders call for.
-ghost use Rattle.std.specs.Prelude.{◌≡◌, ◌≤◌, IfOk, length};
+ghost use Rattle.std.specs.Prelude.{◌≡◌, ◌≤◌, false, IfOk, length};
 ghost use Rattle.std.specs.Option.{option_copied};
 ghost use Rattle.qed_model.specs.Limits.{limit_of};
 ghost use Rattle.qed_words.specs.Sound.{IsSoundOrder};
-ghost use Rattle.qed_top.specs.Orders.{AnswersOver, IsUsage, source_limit as source_limit_of, source_name as source_name_of};
+ghost use Rattle.qed_top.specs.Orders.{AnswersOver, IsUsage, reads_several, source_limit as source_limit_of, source_name as source_name_of};
 
 use crate::answer::{Answer, plain};
 use crate::asm::answer_asm;
@@ -51,9 +51,10 @@ pub fn usage(alloc: Global, reason: Reason) -> Result<Answer, AllocError>
     Ok(plain(Status::Usage, text))
 }
 
-/// What an order calls for over the bytes of its file. Other commands are not built yet.
+/// What an order that reads no more than one file calls for over its bytes.
 pub fn answer_order(alloc: Global, order: Order, bytes: &[u8]) -> Result<Answer, AllocError>
     requires sound { IsSoundOrder order }
+    requires one { reads_several order ≡ false }
     requires within { length bytes.now ≤ limit_of (source_limit_of order) }
     ensures { IfOk result (AnswersOver order bytes.now) }
 {
@@ -86,9 +87,6 @@ pub fn answer_order(alloc: Global, order: Order, bytes: &[u8]) -> Result<Answer,
             let answer = answer_campaign(alloc, bytes, &options, seed, count, changes)?;
             Ok(answer)
         }
-        Order::Harts(_, _, _) => {
-            let answer = usage(alloc, Reason::UnknownCommand)?;
-            Ok(answer)
-        }
+        Order::Harts(_, _, _) => unreachable!(),
     }
 }

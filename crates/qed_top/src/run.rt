@@ -19,7 +19,8 @@ use std::alloc::{AllocError, Global};
 
 /// The memory sizes of the PT_LOAD segments together, in bytes.
 pub fn memory_size(segments: &[Segment]) -> u128
-    ensures { result ≡ memory_bytes segments.now }
+    ensures value { result ≡ memory_bytes segments.now }
+    ensures bound { result ≤ 2 ^ 124 }
 {
     let mut size = 0;
     for segment in segments {

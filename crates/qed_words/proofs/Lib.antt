@@ -1,1 +1,2 @@
 pub mod SoundOrders
+pub mod FewFiles

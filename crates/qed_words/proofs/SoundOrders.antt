@@ -22,6 +22,7 @@ use Rattle.qed_model.specs.Weave.Places.{AreSoundOptions}
 use Rattle.qed_model.specs.Words.{Argument, asked, asked_of, answer, colon, fault, first_wrong, parted, span_in, arguments, command_of, dump, files, first_reason, first_wrong_value, is_in_range, keys_of, lacks, missing, number, number_given, options, order_of, reason_of, span_of, split_reason, value_of, values, wrong_number, wrong_value, wrong_values, changes_given, is_digit, steps_given, turns, wrong_turns}
 use Rattle.ordered_changes.proofs.InOrder.{in_order_ordered}
 use Rattle.qed_words.specs.Sound.{IsSoundOrder}
+use Rattle.qed_words.proofs.FewFiles.{few_files}
 
 -- ---- where there is no reason
 
@@ -179,6 +180,7 @@ both_there given x y test e =
 
 -- nothing is wrong with the values, and the floor leaves room
 record IsFaultless (command : Command) (given : List Argument) : Type 0 where
+  words : first_wrong command [] given ≡ None
   there : missing command given ≡ None
   values : AllNone (map (wrong_values given) (keys_of command))
   room : split_reason given ≡ None
@@ -188,7 +190,7 @@ unfolding reason_of first_wrong_value
 faultless command given e =
     let all : AllNone (first_wrong command [] given ∷ missing command given ∷ first_wrong_value command given ∷ split_reason given ∷ [])
     = no_reason (first_wrong command [] given ∷ missing command given ∷ first_wrong_value command given ∷ split_reason given ∷ []) e in
-    record { there = all.1.0; values = no_reason (map (wrong_values given) (keys_of command)) all.1.1.0; room = all.1.1.1.0 }
+    record { words = all.0; there = all.1.0; values = no_reason (map (wrong_values given) (keys_of command)) all.1.1.0; room = all.1.1.1.0 }
 
 count_fits : (n : Option ℕ) → IsSomeAnd n (IsInRange Count) → (1 ≤ unwrap_or n 0) × (unwrap_or n 0 ≤ 10000)
 count_fits None fits = absurd fits
@@ -282,6 +284,7 @@ order_sound Harts given f =
     = schedule_parts (length (files given)) (option_and_then turns (value_of Turns given)) (turns_given_fit given f.values.0) in
     record {
       some = files_there (length (files given)) _ f.there;
+      most = few_files Harts given f.words;
       few = steps_fit (number_given Steps given) (number_given_fits Steps given (λ _ _. refl) f.values.1.0);
       some_turns = turning.0;
       below = turning.1;

@@ -13,9 +13,10 @@ pub record IsSoundRun (steps : ℕ) (changes : List Change) (dump : Option (ℕ 
   pub ordered : Ordered changes
   pub shown : IfSome dump (λ d. (1 ≤ d.1) × (d.1 ≤ 65536) × (d.0 + d.1 ≤ 2 ^ 64))
 
--- there is a file, and each hart that makes a turn has one
+-- there are 1 to 8 files, and each hart that makes a turn has one
 pub record IsSoundSchedule (files : List (List ℕ)) (turns : Option (List ℕ)) (steps : ℕ) : Type 0 where
   pub some : 1 ≤ length files
+  pub most : length files ≤ 8
   pub few : steps ≤ 1000000000000
   pub some_turns : IfSome turns (λ harts. 1 ≤ length harts)
   pub below : IfSome turns (All (λ hart. hart < length files))

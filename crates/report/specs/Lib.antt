@@ -3,3 +3,4 @@ pub mod Plan
 pub mod Tally
 pub mod Generated
 pub mod Assembly
+pub mod World

@@ -16,6 +16,7 @@ mod tally;
 mod tests;
 mod transform;
 mod usage;
+mod world;
 
 pub use admission::admit_text;
 pub use assembly::{asm_error_text, assembly_text};
@@ -27,3 +28,4 @@ pub use plan::plan_text;
 pub use run::run_text;
 pub use transform::transform_text;
 pub use usage::usage_text;
+pub use world::{shared_text, world_text};

@@ -1,13 +1,15 @@
 //! What is printed about a run.
 ghost use Rattle.std.specs.Prelude.{◌≡◌, ◌+◌, ◌^◌, ◌<◌, ◌≤◌, Some, IfSome, IfOk, string_bytes};
+ghost use Rattle.qed_model.specs.Machine.Memory.{Memory};
 ghost use Rattle.qed_model.specs.Text.Run.{cause_text, outcome_text, outcome_line, register_line, run_lines, run_text};
+ghost use Rattle.rv_step.specs.Harts.{with_memory};
 
 use crate::dump::dump_text;
 use crate::hex::{Hex, HexWord};
 use elf_types::Bytes;
 use qed_model::{Cause, Outcome};
 use rv_isa::Reg;
-use rv_step::Machine;
+use rv_step::{Hart, Machine};
 use std::alloc::{AllocError, Global};
 use std::fmt;
 
@@ -62,32 +64,32 @@ impl fmt::Display for OutcomeText {
 }
 
 /// The first line about a run.
-fn outcome_text(alloc: Global, machine: &Machine) -> Result<String, AllocError>
-    ensures { IfOk result (λ text. string_bytes text ≡ outcome_line machine.now) }
+fn outcome_text(alloc: Global, hart: &Hart) -> Result<String, AllocError>
+    ensures { IfOk result (λ text. (m : Memory) → string_bytes text ≡ outcome_line (with_memory hart.now m)) }
 {
-    let outcome = OutcomeText(machine.outcome());
-    let steps = machine.steps();
-    let pc = Hex(machine.pc());
+    let outcome = OutcomeText(hart.outcome());
+    let steps = hart.steps();
+    let pc = Hex(hart.pc());
     format!(in alloc; "{outcome} after {steps} steps at {pc}\n")
 }
 
 /// The line about a register.
-fn register_text(alloc: Global, machine: &Machine, number: u8) -> Result<String, AllocError>
+fn register_text(alloc: Global, hart: &Hart, number: u8) -> Result<String, AllocError>
     requires { number < 32 }
-    ensures { IfOk result (λ text. string_bytes text ≡ register_line machine.now.state number) }
+    ensures { IfOk result (λ text. (m : Memory) → string_bytes text ≡ register_line (with_memory hart.now m).state number) }
 {
     let register = Reg::new(number).unwrap();
-    let value = Hex(machine.reg(register));
+    let value = Hex(hart.reg(register));
     format!(in alloc; "x{number} {value}\n")
 }
 
 /// How a run stands, after how many steps, at which pc, and then the registers x1 to x31, a line each.
-fn run_lines(alloc: Global, machine: &Machine) -> Result<Vec<u8>, AllocError>
-    ensures { IfOk result (λ text. text.items ≡ run_lines machine.now) }
+pub fn run_lines(alloc: Global, hart: &Hart) -> Result<Vec<u8>, AllocError>
+    ensures { IfOk result (λ text. (m : Memory) → text.items ≡ run_lines (with_memory hart.now m)) }
 {
-    let mut text = outcome_text(alloc, machine)?.into_bytes();
+    let mut text = outcome_text(alloc, hart)?.into_bytes();
     for number in 1..32 {
-        let line = register_text(alloc, machine, number)?;
+        let line = register_text(alloc, hart, number)?;
         text.extend_from_slice(line.as_bytes())?;
     }
     Ok(text)
@@ -103,7 +105,7 @@ pub fn run_text(
     requires { IfSome dump (λ d. (1 ≤ d.1) × (d.1 ≤ 65536) × (d.0 + d.1 ≤ 2 ^ 64)) }
     ensures { IfOk result (λ text. text ≡ run_text machine.now dump) }
 {
-    let mut text = run_lines(alloc, machine)?;
+    let mut text = run_lines(alloc, machine.hart())?;
     if let Some((address, length)) = dump {
         let shown = dump_text(alloc, machine, address, length)?;
         text.extend_from_slice(&shown)?;

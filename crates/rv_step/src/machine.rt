@@ -8,6 +8,7 @@ ghost use Rattle.qed_model.specs.Machine.Step.{reg, fetched_at};
 ghost use Rattle.qed_model.specs.Machine.Progress.{advanced, begun, progress};
 ghost use Rattle.qed_model.specs.Machine.Struck.{struck};
 ghost use Rattle.qed_model.specs.Machine.Apart.{AllFitMemory, AreApart};
+ghost use Rattle.rv_step.specs.Harts.{with_memory};
 ghost use Rattle.rv_step.specs.Known.{goes_on, known_at, struck_progress, IsPart};
 
 use crate::hart::Hart;
@@ -74,6 +75,13 @@ impl Machine {
             self.step()?;
         }
         Ok(self.hart.outcome())
+    }
+
+    /// The hart of the machine.
+    pub fn hart(&self) -> &Hart
+        ensures { with_memory result.now self.now.state.memory ≡ self.now }
+    {
+        &self.hart
     }
 
     /// The number that a register holds.

@@ -1,34 +1,28 @@
-use Rattle.std.proofs.Common.{List, ℕ, sym}
+use Rattle.std.proofs.Common.{rules, ◌≡◌, false, List, ℕ, sym, subst}
 use Rattle.qed_io.specs.Counts.{RoseAt}
-use Rattle.qed_top.specs.Orders.{AnswersOver, source_limit}
-use Rattle.qed_top.proofs.Meanings.{over_bytes, over_none, over_other, over_source}
+use Rattle.qed_model.specs.declared.order.Order.{Order}
+use Rattle.qed_top.specs.Loads.{OverLoads}
+use Rattle.qed_top.specs.Orders.{OrderCallsFor, reads_several}
+use Rattle.qed_top.proofs.Meanings.{over_one}
 use Rattle.qed_top.proofs.decide.decide_order.Goals as goal
 
-pub returns-in_ok-answer-in-Ok-clause-meant : goal.returns-in_ok-answer-in-Ok-clause-meant
-returns-in_ok-answer-in-Ok-clause-meant g c =
+pub returns-in_ok-answer-in-Harts-clause-meant : goal.returns-in_ok-answer-in-Harts-clause-meant
+returns-in_ok-answer-in-Harts-clause-meant g c =
     let shelf = g.S.Shelf in
-    let files = shelf.files c.args.shelf.now in
-    let order = c.args.order in
-    let name = c.in-Some.name.now in
-    let answer = c.in_ok-answer-in-Ok.answer in
-    let rose = RoseAt (shelf.load_faults c.args.shelf.now) (shelf.load_faults c.read_file.new.shelf) in
-    over_source files order name rose answer (sym c.in-Some.ensures)
-    (over_bytes files name (source_limit order) (rose name) (λ (bytes : List ℕ). AnswersOver order bytes answer) answer c.in-Ok.bytes (rw c.in-Ok.is at c.in_ok-read-in-Some.ensures.bytes)
-    (rw (c.in-Ok.is, c.source_limit.ensures) at c.in_ok-read-in-Some.ensures.within) (rw c.as_slice.ensures at c.in_ok-answer-in-Ok.ensures))
+    let rose = RoseAt (shelf.load_faults c.args.shelf.now) (shelf.load_faults c.answer_harts.new.shelf) in
+    subst (λ (order : Order). OverLoads (shelf.files c.args.shelf.now) (λ loads. OrderCallsFor order loads rose c.in_ok-answer-in-Harts.answer)) (sym c.in-Harts.is)
+    (rw c.as_slice.ensures at c.in_ok-answer-in-Harts.ensures.meant)
 
-pub returns-in-Err-clause-meant : goal.returns-in-Err-clause-meant
-returns-in-Err-clause-meant g c =
+pub returns-in_ok-answer-in_default : goal.returns-in_ok-answer-in_default
+returns-in_ok-answer-in_default g c =
     let shelf = g.S.Shelf in
-    let files = shelf.files c.args.shelf.now in
-    let order = c.args.order in
-    let name = c.in-Some.name.now in
-    let answer = c.in-Err.answer in
-    let rose = RoseAt (shelf.load_faults c.args.shelf.now) (shelf.load_faults c.read_file.new.shelf) in
-    over_source files order name rose answer (sym c.in-Some.ensures)
-    (over_other files name (source_limit order) (rose name) (λ (bytes : List ℕ). AnswersOver order bytes answer) answer (rw (c.in-Err.is, c.source_limit.ensures) at c.in_ok-read-in-Some.ensures.other))
-
-pub returns-in_ok-answer-in-None-clause-meant : goal.returns-in_ok-answer-in-None-clause-meant
-returns-in_ok-answer-in-None-clause-meant g c =
-    let shelf = g.S.Shelf in
-    let rose = RoseAt (shelf.load_faults c.args.shelf.now) (shelf.load_faults c.args.shelf.now) in
-    over_none (shelf.files c.args.shelf.now) c.args.order rose c.in_ok-answer-in-None.answer (sym c.in-None.ensures) c.in_ok-answer-in-None.ensures
+    let rose = RoseAt (shelf.load_faults c.args.shelf.now) (shelf.load_faults c.decide_source.new.shelf) in
+    let did = c.in_ok-answer-in_default.ensures in
+    let one : reads_several c.args.order ≡ false = search rules in
+    record {
+      meant = over_one (shelf.files c.args.shelf.now) c.args.order rose c.in_ok-answer-in_default.answer one did.meant;
+      files = did.files;
+      stores = did.stores;
+      steady = did.steady;
+      memory = tt;
+    }

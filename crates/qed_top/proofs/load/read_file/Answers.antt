@@ -1,7 +1,7 @@
 use Rattle.std.proofs.Common.{List, ℕ, ap, Err}
 use Rattle.qed_io.specs.Counts.{RoseAt}
 use Rattle.qed_top.proofs.Meanings.{over_fault, over_limit}
-use Rattle.qed_top.proofs.decide.read_file.Goals as goal
+use Rattle.qed_top.proofs.load.read_file.Goals as goal
 
 pub returns-in-Err-Failed-clause-other : goal.returns-in-Err-Failed-clause-other
 returns-in-Err-Failed-clause-other g c =

@@ -1,0 +1,27 @@
+-- How the harts of a world stand together.
+use Rattle.std.specs.Prelude.{Bool, true, false, List}
+use Rattle.std.specs.List.{list_any}
+use Rattle.qed_model.specs.declared.machine.Outcome.{Outcome}
+use Rattle.qed_model.specs.declared.machine.Outcome.TheVariants.{Going, Fired, Trapped}
+use Rattle.rv_step.specs.Harts.{HartState}
+use Rattle.harts.specs.HartSteps.{Counted}
+
+abbrev pub is_going : Outcome → Bool
+is_going Going = true
+is_going _ = false
+
+abbrev pub is_fired : Outcome → Bool
+is_fired Fired = true
+is_fired _ = false
+
+abbrev pub is_trapped : Outcome → Bool
+is_trapped (Trapped c pc) = true
+is_trapped _ = false
+
+-- a hart of the world stands so
+abbrev pub has_one : (Outcome → Bool) → Counted → Bool
+has_one test c = list_any (λ h. test h.outcome) c.world.harts
+
+-- one of a list
+abbrev pub stands : (Outcome → Bool) → List HartState → Bool
+stands test hs = list_any (λ h. test h.outcome) hs

@@ -1,0 +1,60 @@
+//! How harts stand together.
+ghost use Rattle.std.specs.Prelude.{◌≡◌};
+ghost use Rattle.harts.specs.Standing.{is_fired, is_going, is_trapped, stands};
+
+use qed_model::Outcome;
+use rv_step::Hart;
+
+fn is_fired(outcome: Outcome) -> bool
+    ensures { result ≡ is_fired outcome }
+{
+    matches!(outcome, Outcome::Fired)
+}
+
+fn is_trapped(outcome: Outcome) -> bool
+    ensures { result ≡ is_trapped outcome }
+{
+    matches!(outcome, Outcome::Trapped(_, _))
+}
+
+fn is_going(outcome: Outcome) -> bool
+    ensures { result ≡ is_going outcome }
+{
+    matches!(outcome, Outcome::Going)
+}
+
+/// Whether one has fired.
+pub fn any_fired(harts: &[Hart]) -> bool
+    ensures { result ≡ stands is_fired harts.now }
+{
+    for hart in harts {
+        if is_fired(hart.outcome()) {
+            return true;
+        }
+    }
+    false
+}
+
+/// Whether one has trapped.
+pub fn any_trapped(harts: &[Hart]) -> bool
+    ensures { result ≡ stands is_trapped harts.now }
+{
+    for hart in harts {
+        if is_trapped(hart.outcome()) {
+            return true;
+        }
+    }
+    false
+}
+
+/// Whether one goes on.
+pub fn any_going(harts: &[Hart]) -> bool
+    ensures { result ≡ stands is_going harts.now }
+{
+    for hart in harts {
+        if is_going(hart.outcome()) {
+            return true;
+        }
+    }
+    false
+}

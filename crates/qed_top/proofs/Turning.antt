@@ -1,0 +1,88 @@
+-- The files that `harts` reads one after the other, and the turns over them.
+use Rattle.std.proofs.Common.{◌≡◌, ◌≤◌, ◌<◌, ℕ, zero, suc, List, [], ◌∷◌, ◌++◌, length, Option, None, Some, IfSome, ◌⊎◌, inl, inr, sym, ap, subst, arith}
+use Rattle.std.specs.Prelude.{◌≢◌, All, slice_index}
+use Rattle.std.proofs.lemmas.List.Elements.{All-get_or}
+use Rattle.elf_types.specs.declared.file.ElfFile.{ElfFile}
+use Rattle.harts.specs.Played.{programs}
+use Rattle.harts.specs.Shared.{AreSound}
+use Rattle.qed_io.specs.Files.{Files, file_bytes}
+use Rattle.qed_model.specs.declared.limits.Limit.TheVariants.{RunFileBytes}
+use Rattle.qed_model.specs.Machine.Apart.{AllFitMemory, AreApart}
+use Rattle.qed_model.specs.Machine.Loading.{load_segments}
+use Rattle.qed_model.proofs.BelowLaws.{length-each}
+use Rattle.qed_model.proofs.ReadFacts.{All-each}
+use Rattle.qed_top.specs.Answer.{CallsFor, within}
+use Rattle.qed_top.specs.Loads.{Loads, OverFiles, OverLoads}
+use Rattle.qed_top.specs.Refused.{IsUnread}
+use Rattle.qed_top.specs.Turns.{AreTurns, IsTaken}
+use Rattle.qed_top.specs.World.{FilesCallFor, ReadOn, takers}
+use Rattle.qed_top.specs.World as world
+use Rattle.qed_top.specs.declared.answer.Answer.{Answer}
+use Rattle.qed_top.proofs.Meanings.{calls_more, same_each}
+
+-- ---- loads with one in front
+abbrev with_first : Files → Loads → Loads
+with_first files loads zero = files
+with_first files loads (suc k) = loads k
+
+each_with : (f files : Files) (loads : Loads) → f ≡ files → ((k : ℕ) → f ≡ loads k) → (k : ℕ) → f ≡ with_first files loads k
+each_with f files loads a b zero = a
+each_with f files loads a b (suc k) = b k
+
+same_with : (told : Option Files) (files : Files) (loads : Loads) → IfSome told (λ f. f ≡ files) → IfSome told (λ f. (k : ℕ) → f ≡ loads k) → IfSome told (λ f. (k : ℕ) → f ≡ with_first files loads k)
+same_with None files loads a b = tt
+same_with (Some f) files loads a b = each_with f files loads a b
+
+-- ---- a file of the names
+-- it was read, and then the others
+pub read_next :
+    (told : Option Files) (name : List ℕ) (names : List (List ℕ)) (fs : List ElfFile) (turns : Option (List ℕ)) (steps : ℕ) (rose : List ℕ → Type 0) (answer : Answer) (f : ElfFile)
+    → OverFiles told (λ files. IsTaken (file_bytes files name) f) → OverLoads told (λ loads. FilesCallFor names (fs ++ f ∷ []) turns steps loads rose answer)
+    → OverLoads told (λ loads. FilesCallFor (name ∷ names) fs turns steps loads rose answer)
+read_next told name names fs turns steps rose answer f o then = record {
+  loads = with_first o.files then.loads;
+  same = same_with told o.files then.loads o.same then.same;
+  holds = within o.holds.small (world.read_on f o.holds.read then.holds);
+}
+
+-- it is not had, or not read
+pub read_stops :
+    (told : Option Files) (name : List ℕ) (names : List (List ℕ)) (fs : List ElfFile) (turns : Option (List ℕ)) (steps : ℕ) (rose : Type 0) (later : List ℕ → Type 0) (answer : Answer)
+    → (rose → later name) → OverFiles told (λ files. CallsFor RunFileBytes (file_bytes files name) rose (IsUnread (file_bytes files name) answer) answer)
+    → OverLoads told (λ loads. FilesCallFor (name ∷ names) fs turns steps loads later answer)
+read_stops told name names fs turns steps rose later answer h o =
+    let bytes = file_bytes o.files name in
+    let next : ElfFile → Type 0 = λ f. FilesCallFor names (fs ++ f ∷ []) turns steps (λ k. o.files) later answer in
+    record {
+      loads = λ k. o.files;
+      same = same_each told o.files o.same;
+      holds = calls_more RunFileBytes bytes rose (later name) (IsUnread bytes answer) (ReadOn bytes next answer) answer h (λ u. world.not_read u) o.holds;
+    }
+
+-- a refusal is no want of memory, so its cause is known
+pub known_cause : {A B E : Type 0} (e memory : E) → A ⊎ ((e ≡ memory) × B) → e ≢ memory → A
+known_cause e memory (inl a) other = a
+known_cause e memory (inr b) other = absurd (other b.0)
+
+-- ---- sound files
+pub sound_more : (fs : List ElfFile) (f : ElfFile) → AreSound (programs fs) → AllFitMemory (load_segments f.segments) → AreApart (load_segments f.segments) → AreSound (programs (fs ++ f ∷ []))
+sound_more [] f sound fit apart = (fit, apart, tt)
+sound_more (g ∷ fs) f sound fit apart = (sound.0, sound.1, sound_more fs f sound.2 fit apart)
+
+-- ---- the harts that make the turns
+takers_all : (count : ℕ) (turns : Option (List ℕ)) → AreTurns count turns → All (λ hart. hart < count) (takers count turns)
+takers_all count None t = All-each (λ hart. hart < count) count (λ i. i) (λ j l. l)
+takers_all count (Some harts) t = t.below
+
+-- there is one, and each is below the count
+pub takers_some : (count : ℕ) (turns : Option (List ℕ)) (harts : List ℕ) → 1 ≤ count → AreTurns count turns → harts ≡ takers count turns → 0 < length harts
+takers_some count None harts some t e = let n = length-each count (λ i. i) in let m = ap length e in omega (arith, some, n, m)
+takers_some count (Some given) harts some t e = let m = ap length e in omega (arith, t.some, m)
+
+pub takers_below :
+    (count many : ℕ) (turns : Option (List ℕ)) (harts : List ℕ) → AreTurns count turns → harts ≡ takers count turns → many ≡ count
+    → (k : ℕ) → k < length harts → slice_index harts k < many
+takers_below count many turns harts t e same k l =
+    let all : All (λ hart. hart < count) harts = subst (λ (hs : List ℕ). All (λ hart. hart < count) hs) (sym e) (takers_all count turns t) in
+    let below : slice_index harts k < count = All-get_or (λ hart. hart < count) harts k 0 l all in
+    omega (arith, below, same)

@@ -1,0 +1,7 @@
+use Rattle.std.proofs.Common.{◌≡◌}
+use Rattle.qed_model.specs.Below.{each}
+use Rattle.qed_top.proofs.world.numbers.Given as goal
+
+-- the numbers so far
+abbrev pub invariant-loop-number : goal.invariant-loop-number
+invariant-loop-number l = l.numbers.items ≡ each l.number (λ i. i)

@@ -1,0 +1,25 @@
+use Rattle.std.proofs.Common.{◌≤◌, length, sym, ap, ◌∙◌, subst, arith}
+use Rattle.qed_top.specs.Run.{memory_limit}
+use Rattle.qed_top.specs.World.{all_bytes}
+use Rattle.qed_top.specs.World as world
+use Rattle.qed_top.proofs.Turning.{takers_below, takers_some}
+use Rattle.qed_top.proofs.world.play.Goals as goal
+
+pub tell-requires-clause-some : goal.tell-requires-clause-some
+tell-requires-clause-some c =
+    takers_some (length c.args.files.now) c.args.turns c.deref.result.now c.requires.some c.requires.turns (c.deref.ensures.value ∙ c.in_ok-harts-in-Ok.ensures)
+
+pub tell-requires-clause-harts : goal.tell-requires-clause-harts
+tell-requires-clause-harts c =
+    takers_below (length c.args.files.now) (length c.in-Ok.world.world.harts) c.args.turns c.deref.result.now c.requires.turns
+    (c.deref.ensures.value ∙ c.in_ok-harts-in-Ok.ensures) c.in-Ok.ensures.count
+
+pub returns-in-Err-Shared : goal.returns-in-Err-Shared
+returns-in-Err-Shared c =
+    let same = c.memory_sizes-size.ensures in
+    let small : all_bytes c.args.files.now ≤ memory_limit = omega (arith, c.if-size-from.false, c.from.ensures, same) in
+    world.shared c.in-Err-Shared.first c.in-Err-Shared.second small (rw c.in-Err-Shared.field-0-is at c.in-Err-Shared.ensures.error) (record {
+      status = c.plain.ensures.status;
+      text = c.plain.ensures.text ∙ c.in_ok-text-in-Err-Shared.ensures;
+      stored = c.plain.ensures.stored;
+    })

@@ -1,0 +1,98 @@
+use Rattle.std.proofs.Common.{rules, ◌≡◌, ◌+◌, ◌<◌, ◌≤◌, ℕ, List, [], ◌∷◌, ◌++◌, drop, length, get_or, refl, sym, ap, ◌∙◌, subst, arith}
+use Rattle.std.proofs.lemmas.List.{drop_all, drop_more, length-append}
+use Rattle.elf_types.specs.declared.file.ElfFile.{ElfFile}
+use Rattle.harts.specs.Played.{programs}
+use Rattle.harts.specs.Shared.{AreSound}
+use Rattle.qed_io.specs.Counts.{RoseAt}
+use Rattle.qed_io.specs.Files.{file_bytes}
+use Rattle.qed_model.specs.declared.limits.Limit.TheVariants.{RunFileBytes}
+use Rattle.qed_top.specs.Answer.{CallsFor}
+use Rattle.qed_top.specs.Loads.{OverFiles, OverLoads}
+use Rattle.qed_top.specs.Refused.{IsUnread}
+use Rattle.qed_top.specs.Turns.{IsTaken}
+use Rattle.qed_top.specs.World.{FilesCallFor, Plays}
+use Rattle.qed_top.proofs.Calls.{steady_both, steady_since}
+use Rattle.qed_top.proofs.Meanings.{always_loads}
+use Rattle.qed_top.proofs.Turning.{read_next, read_stops, sound_more}
+use Rattle.qed_top.proofs.world.read_files.Goals as goal
+
+pub loop-name-init : goal.loop-name-init
+loop-name-init g c =
+    let shelf = g.S.Shelf in
+    let none = c.new-files.ensures.items in
+    record {
+      same = refl;
+      steady = record { load = λ name. refl; store = λ name. refl };
+      count = ap length none;
+      sound = subst (λ (fs : List ElfFile). AreSound (programs fs)) (sym none) tt;
+      leads = λ turns steps after answer o.
+          subst (λ (fs : List ElfFile). OverLoads (shelf.files c.args.shelf.now) (λ loads. FilesCallFor c.args.names.now fs turns steps loads (RoseAt (shelf.load_faults c.args.shelf.now) after) answer)) none o;
+    }
+
+pub loop-name-preserved : goal.loop-name-preserved
+loop-name-preserved g c =
+    let shelf = g.S.Shelf in
+    let told = shelf.files c.args.shelf.now in
+    let before = shelf.load_faults c.args.shelf.now in
+    let names = c.args.names.now in
+    let k = c.loop-name.name-index in
+    let name = c.name-item.result in
+    let files = c.loop-name.files.items in
+    let file = c.in-Ok.file in
+    let known = c.loop-name.invariant in
+    let less : k < length names = search rules in
+    let item : get_or names k name ≡ name = search rules in
+    let split : drop k names ≡ name ∷ drop (k + 1) names = drop_more names k name less ∙ ap (λ x. x ∷ drop (k + 1) names) item in
+    let pushed : c.push.new.self.items ≡ files ++ file ∷ [] = search rules in
+    let taken : OverFiles told (λ fs. IsTaken (file_bytes fs name) file) = rw (c.in-Ok.is, known.same, c.as_str.ensures) at c.in_ok-read.ensures.read in
+    record {
+      same = c.in_ok-read.ensures.files ∙ known.same;
+      steady = steady_both before (shelf.load_faults c.loop-name.shelf) (shelf.load_faults c.read_one.new.shelf) (shelf.store_faults c.args.shelf.now) (shelf.store_faults c.loop-name.shelf) (shelf.store_faults c.read_one.new.shelf) known.steady (rw c.in-Ok.is at c.in_ok-read.ensures.loaded);
+      count = ap length pushed ∙ length-append files (file ∷ []) ∙ ap (λ n. n + 1) known.count;
+      sound = subst (λ (fs : List ElfFile). AreSound (programs fs)) (sym pushed) (sound_more files file known.sound (rw c.in-Ok.is at c.in_ok-read.ensures.fit) (rw c.in-Ok.is at c.in_ok-read.ensures.apart));
+      leads = λ turns steps after answer o.
+          known.leads turns steps after answer
+          (subst (λ (ns : List (List ℕ)). OverLoads told (λ loads. FilesCallFor ns files turns steps loads (RoseAt before after) answer)) (sym split)
+          (read_next told name (drop (k + 1) names) files turns steps (RoseAt before after) answer file taken
+          (subst (λ (fs : List ElfFile). OverLoads told (λ loads. FilesCallFor (drop (k + 1) names) fs turns steps loads (RoseAt before after) answer)) pushed o)));
+    }
+
+pub returns-in-Err-clause-other : goal.returns-in-Err-clause-other
+returns-in-Err-clause-other g c turns steps =
+    let shelf = g.S.Shelf in
+    let told = shelf.files c.args.shelf.now in
+    let before = shelf.load_faults c.args.shelf.now in
+    let middle = shelf.load_faults c.loop-name.shelf in
+    let after = shelf.load_faults c.read_one.new.shelf in
+    let names = c.args.names.now in
+    let k = c.loop-name.name-index in
+    let name = c.name-item.result in
+    let files = c.loop-name.files.items in
+    let answer = c.in-Err.answer in
+    let known = c.loop-name.invariant in
+    let less : k < length names = search rules in
+    let item : get_or names k name ≡ name = search rules in
+    let split : drop k names ≡ name ∷ drop (k + 1) names = drop_more names k name less ∙ ap (λ x. x ∷ drop (k + 1) names) item in
+    let same = known.steady.load name in
+    let stops : OverFiles told (λ fs. CallsFor RunFileBytes (file_bytes fs name) (RoseAt middle after name) (IsUnread (file_bytes fs name) answer) answer)
+    = rw (c.in-Err.is, known.same, c.as_str.ensures) at c.in_ok-read.ensures.other in
+    known.leads turns steps after answer
+    (subst (λ (ns : List (List ℕ)). OverLoads told (λ loads. FilesCallFor ns files turns steps loads (RoseAt before after) answer)) (sym split)
+    (read_stops told name (drop (k + 1) names) files turns steps (RoseAt middle after name) (RoseAt before after) answer (λ rose. omega (arith, rose, same)) stops))
+
+pub returns-in-Err-clause-steady : goal.returns-in-Err-clause-steady
+returns-in-Err-clause-steady g c =
+    let shelf = g.S.Shelf in
+    steady_since (shelf.load_faults c.args.shelf.now) (shelf.load_faults c.loop-name.shelf) (shelf.load_faults c.read_one.new.shelf) (shelf.store_faults c.args.shelf.now) (shelf.store_faults c.loop-name.shelf) (shelf.store_faults c.read_one.new.shelf)
+    c.in-Err.answer c.loop-name.invariant.steady (rw c.in-Err.is at c.in_ok-read.ensures.steady)
+
+pub returns-clause-read : goal.returns-clause-read
+returns-clause-read g c turns steps after answer plays =
+    let shelf = g.S.Shelf in
+    let told = shelf.files c.args.shelf.now in
+    let before = shelf.load_faults c.args.shelf.now in
+    let files = c.loop-name.files.items in
+    let done : drop c.loop-name.name-index c.args.names.now ≡ [] = drop_all c.loop-name.name-index c.args.names.now (search rules) in
+    c.loop-name.invariant.leads turns steps after answer
+    (subst (λ (ns : List (List ℕ)). OverLoads told (λ loads. FilesCallFor ns files turns steps loads (RoseAt before after) answer)) (sym done)
+    (always_loads told (λ loads. Plays files turns steps answer) (λ loads. plays)))

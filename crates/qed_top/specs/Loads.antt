@@ -1,0 +1,26 @@
+-- The files that a call loads, and the status over the bytes of one.
+use Rattle.std.specs.Prelude.{◌≡◌, ◌<◌, ◌≤◌, ℕ, List, length, Option, IfSome}
+use Rattle.qed_io.specs.Files.{Files}
+use Rattle.qed_top.specs.declared.status.Status.{Status}
+use Rattle.qed_top.specs.declared.status.Status.TheVariants.{Limit}
+
+-- of the files that are told; where nothing is told, of some files
+pub record OverFiles (told : Option Files) (Holds : Files → Type 0) : Type 0 where
+  pub files : Files
+  pub same : IfSome told (λ f. f ≡ files)
+  pub holds : Holds files
+
+-- the files at each load of a call, from load 0 on
+abbrev pub Loads : Type 0
+Loads = ℕ → Files
+
+-- of the files at each load, which are those that are told; where nothing is told, of some
+pub record OverLoads (told : Option Files) (Holds : Loads → Type 0) : Type 0 where
+  pub loads : Loads
+  pub same : IfSome told (λ f. (k : ℕ) → f ≡ loads k)
+  pub holds : Holds loads
+
+-- the status over the bytes of a file, of which so many are taken
+pub data Decided (limit : ℕ) (bytes : List ℕ) (Within : Type 0) (status : Status) : Type 0 where
+  too_long : limit < length bytes → status ≡ Limit → Decided limit bytes Within status
+  within : length bytes ≤ limit → Within → Decided limit bytes Within status

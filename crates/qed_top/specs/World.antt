@@ -1,0 +1,91 @@
+-- What `harts` answers.
+use Rattle.std.specs.Prelude.{◌≡◌, ◌<◌, ◌≤◌, ℕ, suc, ◌+◌, if◌then◌else◌, List, [], ◌∷◌, ◌++◌, length, Option, None, Some}
+use Rattle.elf_types.specs.declared.error.ElfError.{ElfError}
+use Rattle.elf_types.specs.declared.file.ElfFile.{ElfFile}
+use Rattle.harts.specs.HartSteps.{Counted, counted_start, counted_turns, cycled}
+use Rattle.harts.specs.Played.{programs}
+use Rattle.harts.specs.Shared.{AreUnshared, IsLeastShared}
+use Rattle.harts.specs.Standing.{has_one, is_fired, is_going, is_trapped}
+use Rattle.qed_io.specs.Files.{file_bytes}
+use Rattle.qed_model.specs.declared.limits.Limit.TheVariants as limit
+use Rattle.qed_model.specs.Below.{each}
+use Rattle.qed_model.specs.Elf.File.{IsReadAs}
+use Rattle.qed_model.specs.Elf.Refusals.{IsRefused}
+use Rattle.qed_model.specs.Limits.{limit_of}
+use Rattle.qed_model.specs.Text.Errors.{limit_line}
+use Rattle.report.specs.World.{shared_line, world_text}
+use Rattle.qed_top.specs.Answer.{CallsFor, PrintsOnly}
+use Rattle.qed_top.specs.Loads.{Decided, Loads}
+use Rattle.qed_top.specs.Refused.{error_status, IsUnread}
+use Rattle.qed_top.specs.Run.{memory_bytes, memory_limit}
+use Rattle.qed_top.specs.declared.answer.Answer.{Answer}
+use Rattle.qed_top.specs.declared.status.Status.{Status}
+use Rattle.qed_top.specs.declared.status.Status.TheVariants.{Done, Refused, Limit, Fired, Trapped, StepsSpent}
+
+-- ---- over the files that were read
+-- the memory sizes of all their PT_LOAD segments together
+abbrev pub all_bytes : List ElfFile → ℕ
+all_bytes [] = 0
+all_bytes (f ∷ fs) = memory_bytes f.segments + all_bytes fs
+
+-- the harts that make the turns; where none are given, each of `count` harts, from 0 upwards
+abbrev pub takers : ℕ → Option (List ℕ) → List ℕ
+takers count None = each count (λ i. i)
+takers count (Some harts) = harts
+
+-- a hart for each file, after so many turns
+abbrev pub played : List ElfFile → Option (List ℕ) → ℕ → Counted
+played fs turns steps = counted_turns (counted_start (programs fs)) (cycled (takers (length fs) turns) steps)
+
+-- the worst that a hart came to
+abbrev pub world_status : Counted → Status
+world_status c =
+    if has_one is_fired c then Fired
+    else if has_one is_trapped c then Trapped
+    else if has_one is_going c then StepsSpent
+    else Done
+
+-- L6: all segments together have too many bytes in memory; H1: two files share a byte; or the harts make their turns
+pub data Plays (fs : List ElfFile) (turns : Option (List ℕ)) (steps : ℕ) (answer : Answer) : Type 0 where
+  too_large : memory_limit < all_bytes fs → PrintsOnly Limit (limit_line limit.MemoryBytes (all_bytes fs)) answer → Plays fs turns steps answer
+  shared :
+      (i j : ℕ) → all_bytes fs ≤ memory_limit → IsLeastShared (programs fs) i j → PrintsOnly Refused (shared_line i j) answer
+      → Plays fs turns steps answer
+  told :
+      all_bytes fs ≤ memory_limit → AreUnshared (programs fs)
+      → PrintsOnly (world_status (played fs turns steps)) (world_text (played fs turns steps)) answer → Plays fs turns steps answer
+
+-- the status, by what is true of the files
+pub data PlayDecides (fs : List ElfFile) (turns : Option (List ℕ)) (steps : ℕ) (status : Status) : Type 0 where
+  is_too_large : memory_limit < all_bytes fs → status ≡ Limit → PlayDecides fs turns steps status
+  is_shared : (i j : ℕ) → all_bytes fs ≤ memory_limit → IsLeastShared (programs fs) i j → status ≡ Refused → PlayDecides fs turns steps status
+  is_told : all_bytes fs ≤ memory_limit → AreUnshared (programs fs) → status ≡ world_status (played fs turns steps) → PlayDecides fs turns steps status
+
+-- ---- file by file
+-- of bytes that were loaded: they are not read, or they are a file, of which more is said
+pub data ReadOn (bytes : List ℕ) (Next : ElfFile → Type 0) (answer : Answer) : Type 0 where
+  not_read : IsUnread bytes answer → ReadOn bytes Next answer
+  read_on : (f : ElfFile) → IsReadAs bytes f → Next f → ReadOn bytes Next answer
+
+pub data ReadOnDecides (bytes : List ℕ) (Next : ElfFile → Type 0) (status : Status) : Type 0 where
+  is_not_read : (e : ElfError) → IsRefused bytes e → status ≡ error_status e → ReadOnDecides bytes Next status
+  is_read : (f : ElfFile) → IsReadAs bytes f → Next f → ReadOnDecides bytes Next status
+
+-- the loads behind the first
+abbrev pub later_loads : Loads → Loads
+later_loads loads k = loads (suc k)
+
+-- the files of the names are loaded and read one after the other, behind those that were read; the answer is that over the first that
+-- is not had, or that over all
+abbrev pub FilesCallFor : List (List ℕ) → List ElfFile → Option (List ℕ) → ℕ → Loads → (List ℕ → Type 0) → Answer → Type 0
+FilesCallFor [] fs turns steps loads rose answer = Plays fs turns steps answer
+FilesCallFor (name ∷ names) fs turns steps loads rose answer =
+    CallsFor limit.RunFileBytes (file_bytes (loads 0) name) (rose name)
+    (ReadOn (file_bytes (loads 0) name) (λ f. FilesCallFor names (fs ++ f ∷ []) turns steps (later_loads loads) rose answer) answer) answer
+
+-- the status that they decide
+abbrev pub FilesDecide : List (List ℕ) → List ElfFile → Option (List ℕ) → ℕ → Loads → Status → Type 0
+FilesDecide [] fs turns steps loads status = PlayDecides fs turns steps status
+FilesDecide (name ∷ names) fs turns steps loads status =
+    Decided (limit_of limit.RunFileBytes) (file_bytes (loads 0) name)
+    (ReadOnDecides (file_bytes (loads 0) name) (λ f. FilesDecide names (fs ++ f ∷ []) turns steps (later_loads loads) status) status) status
