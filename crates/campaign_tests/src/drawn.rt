@@ -1,11 +1,12 @@
 //! Strikes that are drawn from a seed, and campaigns of them. The tables are those of an independent program.
 
-use crate::samples::{At, NO_END, SUMS, SUMS_BY_TWO, Sample};
+use crate::courses::prepare;
 use qed_model::{Change, Struck, Verdict};
 use std::alloc::Global;
 use std::process::Abort;
 use std::test::Fail;
 use strikes::Campaign;
+use struck_samples::{At, NO_END, SUMS, SUMS_BY_TWO, Sample};
 
 /// After how many steps, what is changed, to what, and what that shows.
 type Row = (u64, At, u64, Verdict);
@@ -55,8 +56,8 @@ fn assert_change(
     at: At,
     value: u64,
 ) -> Result<(), Fail> {
-    let place = at.place().ok_or("a place")?;
-    assert_eq!(rt; *change, Change { step, place, value });
+    let row = at.change(step, value).ok_or("a place")?;
+    assert_eq!(rt; *change, row);
     Ok(())
 }
 
@@ -71,7 +72,7 @@ fn assert_row(rt: &impl Abort, struck: &Struck, row: &Row) -> Result<(), Fail> {
 
 /// The campaign of seed 7.
 fn campaign(alloc: Global, sample: &Sample, count: u64, changes: u64) -> Result<Campaign, Fail> {
-    let course = sample.course(alloc)?;
+    let course = prepare(alloc, sample)?;
     let strikes = course.draw(alloc, 7, count, changes)?;
     Ok(course.strike_all(alloc, &strikes)?)
 }

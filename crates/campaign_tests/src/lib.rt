@@ -2,8 +2,8 @@
 #![tactic(auto)]
 
 #[cfg(test)]
-mod drawn;
+mod courses;
 #[cfg(test)]
-mod samples;
+mod drawn;
 #[cfg(test)]
 mod verdicts;

@@ -1,13 +1,14 @@
 //! What known strikes show.
-use crate::samples::{
-    At, BYTE_STORED, ENDLESS, NO_END, ROUND_OF_TWO, STORE, Sample, TWO, WORD_STORED,
-};
+use crate::courses::prepare;
 use campaign::Course;
 use qed_model::{Change, Verdict};
 use std::alloc::Global;
 use std::process::Abort;
 use std::test::Fail;
 use strikes::StrikeError;
+use struck_samples::{
+    At, BYTE_STORED, ENDLESS, NO_END, ROUND_OF_TWO, STORE, Sample, TWO, WORD_STORED,
+};
 
 /// What changes show.
 type Shown = Result<Verdict, StrikeError>;
@@ -60,13 +61,8 @@ fn assert_shown<R: Abort>(
 
 fn show_case<R: Abort>(rt: &R, alloc: Global, case: &Case) -> Result<(), Fail> {
     let (sample, step, at, value, shown) = case;
-    let place = at.place().ok_or("a place")?;
-    let change = Change {
-        step: *step,
-        place,
-        value: *value,
-    };
-    let course = sample.course(alloc)?;
+    let change = at.change(*step, *value).ok_or("a place")?;
+    let course = prepare(alloc, sample)?;
     assert_shown(rt, alloc, &course, &[change], *shown);
     Ok(())
 }
@@ -79,17 +75,11 @@ fn changes_show_what_they_do(rt: HostRuntime) -> Result<(), Fail> {
     Ok(())
 }
 
-/// A change of a register.
-fn change(step: u64, register: u8, value: u64) -> Result<Change, Fail> {
-    let place = At::X(register).place().ok_or("a place")?;
-    Ok(Change { step, place, value })
-}
-
 #[test]
 fn a_change_that_is_taken_back(rt: HostRuntime) -> Result<(), Fail> {
-    let there = change(40, 5, 1)?;
-    let back = change(41, 5, 0)?;
-    let course = TWO.course(rt.alloc())?;
+    let there = At::X(5).change(40, 1).ok_or("x5")?;
+    let back = At::X(5).change(41, 0).ok_or("x5")?;
+    let course = prepare(rt.alloc(), &TWO)?;
     assert_shown(
         &rt,
         rt.alloc(),
@@ -102,9 +92,9 @@ fn a_change_that_is_taken_back(rt: HostRuntime) -> Result<(), Fail> {
 
 #[test]
 fn two_changes_show_what_they_do_together(rt: HostRuntime) -> Result<(), Fail> {
-    let first = change(40, 5, 1)?;
-    let second = change(49, 11, 3)?;
-    let course = TWO.course(rt.alloc())?;
+    let first = At::X(5).change(40, 1).ok_or("x5")?;
+    let second = At::X(11).change(49, 3).ok_or("x11")?;
+    let course = prepare(rt.alloc(), &TWO)?;
     assert_shown(
         &rt,
         rt.alloc(),
@@ -117,7 +107,7 @@ fn two_changes_show_what_they_do_together(rt: HostRuntime) -> Result<(), Fail> {
 
 #[test]
 fn a_short_run_has_one_copy(rt: HostRuntime) -> Result<(), Fail> {
-    let course = TWO.course(rt.alloc())?;
+    let course = prepare(rt.alloc(), &TWO)?;
     assert_eq!(rt; (course.reach(), course.snapshots()), (51, 1));
     assert!(rt; course.snapshot(1).is_none());
     Ok(())
@@ -125,7 +115,7 @@ fn a_short_run_has_one_copy(rt: HostRuntime) -> Result<(), Fail> {
 
 #[test]
 fn copies_stand_on_the_way(rt: HostRuntime) -> Result<(), Fail> {
-    let course = ENDLESS.course(rt.alloc())?;
+    let course = prepare(rt.alloc(), &ENDLESS)?;
     assert_eq!(rt; (course.reach(), course.snapshots()), (1_000_000, 245));
     let steps = course.snapshot(244).map(|last| last.steps());
     assert_eq!(rt; steps, Some(999_424));

@@ -1,10 +1,11 @@
 //! Places that are closed in runs of outputs, and places that are open.
 
-use crate::samples::{At, LOOP, STORE, Sample};
+use crate::machines::begin;
 use fault_inject::closed;
 use std::alloc::Global;
 use std::process::Abort;
 use std::test::Fail;
+use struck_samples::{At, LOOP, STORE, Sample};
 
 /// An output's input, after how many steps, a place, and whether it is closed.
 type Case = (Sample, u64, At, bool);
@@ -29,7 +30,7 @@ static CASES: [Case; 14] = [
 fn assert_case<R: Abort>(rt: &R, alloc: Global, case: &Case) -> Result<(), Fail> {
     let (sample, step, at, is_closed) = case;
     let place = at.place().ok_or("a place")?;
-    let (mut machine, _) = sample.start(alloc)?;
+    let (mut machine, _) = begin(alloc, sample)?;
     machine.run(*step)?;
     assert_eq!(rt; closed(&machine, &place), *is_closed, "{at:?} at {step}");
     Ok(())

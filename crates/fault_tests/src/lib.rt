@@ -6,6 +6,6 @@ mod closed;
 #[cfg(test)]
 mod lists;
 #[cfg(test)]
-mod samples;
+mod machines;
 #[cfg(test)]
 mod strikes;

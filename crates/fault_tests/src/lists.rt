@@ -1,7 +1,6 @@
 //! Lists of changes, and changes that are gone again.
-ghost use Rattle.std.specs.Prelude.{◌≡◌, IfSome};
 
-use crate::samples::{At, TWO, WORD_STORED};
+use crate::machines::begin;
 use fault_inject::run_changed;
 use qed_model::{Change, Outcome};
 use rv_isa::Reg;
@@ -9,20 +8,13 @@ use rv_step::Machine;
 use std::alloc::AllocError;
 use std::process::Abort;
 use std::test::Fail;
-
-/// A change of a register, None for a number that none has.
-fn change(step: u64, register: u8, value: u64) -> Option<Change>
-    ensures { IfSome result (λ c. c.step ≡ step) }
-{
-    let place = At::X(register).place()?;
-    Some(Change { step, place, value })
-}
+use struck_samples::{At, TWO, WORD_STORED};
 
 #[test]
 fn later_changes_come_behind_earlier_ones(rt: HostRuntime) -> Result<(), Fail> {
-    let there = change(40, 5, 1).ok_or("x5")?;
-    let back = change(41, 5, 0).ok_or("x5")?;
-    let (mut machine, _) = TWO.start(rt.alloc())?;
+    let there = At::X(5).change(40, 1).ok_or("x5")?;
+    let back = At::X(5).change(41, 0).ok_or("x5")?;
+    let (mut machine, _) = begin(rt.alloc(), &TWO)?;
     let outcome = run_changed(&mut machine, &[there, back], 1000)?;
     assert_eq!(rt; outcome, Outcome::Ended);
     assert_eq!(rt; (machine.steps(), machine.pc()), (51, 0x13100));
@@ -31,10 +23,10 @@ fn later_changes_come_behind_earlier_ones(rt: HostRuntime) -> Result<(), Fail> {
 
 #[test]
 fn nothing_is_changed_behind_a_check(rt: HostRuntime) -> Result<(), Fail> {
-    let first = change(40, 5, 1).ok_or("x5")?;
-    let second = change(49, 11, 3).ok_or("x11")?;
+    let first = At::X(5).change(40, 1).ok_or("x5")?;
+    let second = At::X(11).change(49, 3).ok_or("x11")?;
     let x11 = Reg::new(11).ok_or("x11")?;
-    let (mut machine, _) = TWO.start(rt.alloc())?;
+    let (mut machine, _) = begin(rt.alloc(), &TWO)?;
     let outcome = run_changed(&mut machine, &[first, second], 1000)?;
     assert_eq!(rt; outcome, Outcome::Fired);
     assert_eq!(rt; (machine.steps(), machine.pc()), (43, 0x130bc));
@@ -44,9 +36,9 @@ fn nothing_is_changed_behind_a_check(rt: HostRuntime) -> Result<(), Fail> {
 
 #[test]
 fn a_register_that_is_written_again_is_as_before(rt: HostRuntime) -> Result<(), Fail> {
-    let early = change(33, 10, 1).ok_or("x10")?;
+    let early = At::X(10).change(33, 1).ok_or("x10")?;
     let x11 = Reg::new(11).ok_or("x11")?;
-    let (mut machine, _) = TWO.start(rt.alloc())?;
+    let (mut machine, _) = begin(rt.alloc(), &TWO)?;
     let outcome = run_changed(&mut machine, &[early], 1000)?;
     assert_eq!(rt; outcome, Outcome::Ended);
     assert_eq!(rt; (machine.steps(), machine.reg(x11)), (51, 14));
@@ -87,13 +79,8 @@ fn run_both<R: Abort>(
 
 #[test]
 fn a_word_that_is_stored_over_is_as_before(rt: HostRuntime) -> Result<(), Fail> {
-    let place = At::Word(0x20000).place().ok_or("a word")?;
-    let change = Change {
-        step: 51,
-        place,
-        value: 0x101,
-    };
-    let (mut machine, plan) = WORD_STORED.start(rt.alloc())?;
+    let change = At::Word(0x20000).change(51, 0x101).ok_or("a word")?;
+    let (mut machine, plan) = begin(rt.alloc(), &WORD_STORED)?;
     let steps = plan.bounds.word.unwrap_or(0);
     let mut struck = machine.copy(rt.alloc())?;
     run_both(&rt, &mut machine, &mut struck, change, steps)?;

@@ -1,16 +1,17 @@
 //! One change in the run of an output: when a check fires, or how the run ends.
 
-use crate::samples::{
-    At, BYTE_STORED, ENDLESS, LOOP, RANGES_SWEPT, READ_ONLY, ROUND_OF_TWO, STORE, SWEPT, Sample,
-    TWO, WORD, WORD_STORED, WORD_SWEPT,
-};
+use crate::machines::begin;
 use fault_inject::run_changed;
 use qed_model::Outcome::{Ended, Fired, Going, Trapped};
-use qed_model::{Cause, Change, Outcome};
+use qed_model::{Cause, Outcome};
 use rv_step::Machine;
 use std::alloc::Global;
 use std::process::Abort;
 use std::test::Fail;
+use struck_samples::{
+    At, BYTE_STORED, ENDLESS, LOOP, RANGES_SWEPT, READ_ONLY, ROUND_OF_TWO, STORE, SWEPT, Sample,
+    TWO, WORD, WORD_STORED, WORD_SWEPT,
+};
 
 /// How many steps each run may make.
 const STEPS: u64 = 3000;
@@ -164,9 +165,9 @@ fn assert_strike(
     strike: &Strike,
 ) -> Result<(), Fail> {
     let (step, at, value, outcome, steps, pc) = *strike;
-    let place = at.place().ok_or("a place")?;
+    let change = at.change(step, value).ok_or("a place")?;
     let mut machine = start.copy(alloc)?;
-    let end = run_changed(&mut machine, &[Change { step, place, value }], STEPS)?;
+    let end = run_changed(&mut machine, &[change], STEPS)?;
     assert_eq!(rt;
         (end, machine.steps()),
         (outcome, steps),
@@ -182,7 +183,7 @@ fn assert_strike(
 /// Asserts what is told of an output, and how its run stands in the end without a change and with each.
 fn assert_case(rt: &impl Abort, alloc: Global, case: &Case) -> Result<(), Fail> {
     let name = case.sample.name;
-    let (start, plan) = case.sample.start(alloc)?;
+    let (start, plan) = begin(alloc, &case.sample)?;
     let bounds = plan.bounds;
     assert_eq!(rt; (plan.code_bytes, plan.words), case.told, "{name}");
     assert_eq!(rt; (bounds.register, bounds.word), case.bounds, "{name}");
