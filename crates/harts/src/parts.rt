@@ -1,35 +1,13 @@
 //! What a world is made from.
-ghost use Rattle.std.specs.Prelude.{◌≡◌, ◌++◌, map, IfOk};
-ghost use Rattle.qed_model.specs.Machine.Loading.{load_segments};
+ghost use Rattle.std.specs.Prelude.{◌≡◌, map, IfOk};
 ghost use Rattle.mem_image.specs.Overlap.{segments_of};
 ghost use Rattle.harts.specs.Harts.{all_segments};
 ghost use Rattle.harts.specs.Played.{programs, started};
 
-use elf_types::{Bytes, ElfFile, Segment};
+use elf_types::ElfFile;
 use mem_image::SegmentSpec;
-use rv_step::Hart;
+use rv_step::{Hart, push_specs};
 use std::alloc::{AllocError, Global};
-
-/// Adds the segments of type PT_LOAD.
-fn push_specs(
-    alloc: Global,
-    specs: &mut Vec<SegmentSpec>,
-    segments: &[Segment],
-) -> Result<(), AllocError>
-    ensures { IfOk result (λ _. segments_of specs.new.items ≡ segments_of specs.old.items ++ load_segments segments.now) }
-{
-    for segment in segments {
-        if segment.is_load() {
-            specs.push(SegmentSpec {
-                address: segment.address,
-                memory: segment.memory,
-                flags: segment.flags,
-                bytes: Bytes::copied(alloc, segment.bytes.as_slice())?,
-            })?;
-        }
-    }
-    Ok(())
-}
 
 /// The segments of type PT_LOAD of all files.
 pub fn all_specs(alloc: Global, files: &[ElfFile]) -> Result<Vec<SegmentSpec>, AllocError>

@@ -31,7 +31,9 @@ use Rattle.qed_top.specs.Asm as asm
 use Rattle.qed_top.proofs.Assembling.{never_both}
 use Rattle.qed_top.specs.Campaign.{Campaigns, CampaignDecides, campaign_status}
 use Rattle.qed_top.specs.Campaign as campaigns
-use Rattle.qed_top.specs.Gen.{Generates, test_bytes}
+use Rattle.qed_top.specs.Gen.{Gens, GenDecides, test_bytes}
+use Rattle.qed_top.specs.Gen as gens
+use Rattle.transform.specs.declared.error.TransformError.TheVariants as transform
 use Rattle.qed_top.specs.Loads.{Decided, Loads, OverLoads}
 use Rattle.qed_top.specs.Orders.{AnswersOver, IsUsage, OrderCallsFor, WordsCallFor, source_limit, source_name, source_names, stored_name}
 use Rattle.qed_top.specs.Ends.{Call, load_rose, store_rose, sink_rose, KeepsShelf, IsAnswered, EndsOver, Ends, TransformDecides, ReadDecides, ran_status, DecidesOver, OrderDecides, Decides, NoFault, IsComplete}
@@ -137,12 +139,16 @@ campaign_printed : (bytes : List ℕ) (o : Options) (seed count changes : ℕ) (
 campaign_printed bytes o seed count changes answer (campaigns.refused r) = prints (refusal_status r.error) answer (refusal_printed (refusal_status r.error) (refusal_refuses r.error)) r.plain.status
 campaign_printed bytes o seed count changes answer (campaigns.struck s) = prints (campaign_status s.tells.trapped) answer (trapped_printed s.tells.trapped) s.tells.plain.status
 
+gens_printed : (output : List ℕ) (seed size : ℕ) (answer : Answer) → Gens output seed size answer → Printed answer.status
+gens_printed output seed size answer (gens.large_code l) = prints Limit answer tt l.plain.status
+gens_printed output seed size answer (gens.generates m) = prints Done answer tt m.uses.status
+
 over_printed : (order : Order) (bytes : List ℕ) (answer : Answer) → AnswersOver order bytes answer → Printed answer.status
 over_printed (Transform input output o) bytes answer m = makes_printed bytes o (Delivers output) answer (λ file p d. delivered_done output file p answer d) m
 over_printed (Plan input o) bytes answer m = makes_printed bytes o TellsPlan answer (λ file p t. told_done file p answer t) m
 over_printed (Run file steps changes dump) bytes answer m = runs_printed bytes steps changes dump answer m
 over_printed (Campaign input o seed count changes) bytes answer m = campaign_printed bytes o seed count changes answer m
-over_printed (Gen output seed size) bytes answer m = makes_printed (test_bytes seed size) default_options (Generates output seed size) answer (λ file p g. g.status) m
+over_printed (Gen output seed size) bytes answer m = gens_printed output seed size answer m
 over_printed (order.List file) bytes answer m = lists_printed bytes answer m
 over_printed (Asm text output) bytes answer m = asm_printed bytes output answer m
 over_printed (Harts files turns steps) bytes answer m = absurd m
@@ -250,6 +256,9 @@ read_unique bytes done s t (decide.taken f x k a) (decide.unread d y b) = absurd
 read_unique bytes done s t (decide.taken f x k a) (decide.too_large g y l b) = let same = ap (λ h. memory_bytes h.segments) (one_file bytes f g x.file y.file) in absurd (omega (arith, k, l, same))
 read_unique bytes done s t (decide.taken f x k a) (decide.taken g y l b) = a ∙ ap done (one_file bytes f g x.file y.file) ∙ sym b
 
+code_is_no_memory : (n : ℕ) → transform.TooLarge n ≡ transform.Memory → ⊥
+code_is_no_memory n e = absurd (cc)
+
 -- what is answered has the status that is decided
 makes_decided :
     (bytes : List ℕ) (o : Options) (Uses : List ℕ → plan.Plan → Answer → Type 0) (answer : Answer)
@@ -292,6 +301,14 @@ campaign_settled bytes o seed count changes answer t (campaigns.struck s) (campa
 campaign_settled bytes o seed count changes answer t (campaigns.struck s) (campaigns.carried_out f h) =
     s.tells.plain.status ∙ sym (h s.course s.tells.struck s.tells.trapped s.made s.tells.carried_out)
 
+gens_settled : (output : List ℕ) (seed size : ℕ) (answer : Answer) (t : Status) → Gens output seed size answer → GenDecides seed size t → answer.status ≡ t
+gens_settled output seed size answer t (gens.large_code l) (gens.has_large_code n c e) = l.plain.status ∙ sym e
+gens_settled output seed size answer t (gens.large_code l) (gens.has_small_code none e) = absurd (none l.bytes l.cause)
+gens_settled output seed size answer t (gens.generates m) (gens.has_large_code n c e) =
+    let bytes = test_bytes seed size in
+    absurd (code_is_no_memory n (memory_only bytes default_options (transform.TooLarge n) c (transformable_of bytes default_options m.file m.plan m.made)))
+gens_settled output seed size answer t (gens.generates m) (gens.has_small_code none e) = m.uses.status ∙ sym e
+
 -- an order, over the bytes of its file
 over_settled : (order : Order) (bytes : List ℕ) (answer : Answer) (t : Status) → AnswersOver order bytes answer → DecidesOver order bytes t → answer.status ≡ t
 over_settled (Transform input output o) bytes answer t m d =
@@ -299,8 +316,7 @@ over_settled (Transform input output o) bytes answer t m d =
 over_settled (Plan input o) bytes answer t m d = transform_unique bytes o answer.status t (makes_decided bytes o TellsPlan answer (λ file p x. told_done file p answer x) m) d
 over_settled (Run file steps changes dump) bytes answer t m d = read_unique bytes (ran_status steps changes) answer.status t (runs_decided bytes steps changes dump answer m) d
 over_settled (Campaign input o seed count changes) bytes answer t m d = campaign_settled bytes o seed count changes answer t m d
-over_settled (Gen output seed size) bytes answer t m d =
-    transform_unique (test_bytes seed size) default_options answer.status t (makes_decided (test_bytes seed size) default_options (Generates output seed size) answer (λ file p g. g.status) m) d
+over_settled (Gen output seed size) bytes answer t m d = gens_settled output seed size answer t m d
 over_settled (order.List file) bytes answer t m d = read_unique bytes (λ f. Done) answer.status t (lists_decided bytes answer m) d
 over_settled (Asm text output) bytes answer t m d = asm_settled bytes output answer t m d
 over_settled (Harts files turns steps) bytes answer t m d = absurd m
@@ -394,10 +410,11 @@ campaign_store :
 campaign_store bytes o seed count changes stores answer (campaigns.refused x) r = none_stored answer stores x.plain.stored r
 campaign_store bytes o seed count changes stores answer (campaigns.struck s) r = none_stored answer stores s.tells.plain.stored r
 
-generated_store :
-    (output : List ℕ) (seed size : ℕ) (stores : List ℕ → Type 0) (answer : Answer) → (stores output → ⊥) → (file : List ℕ) (p : plan.Plan) → Generates output seed size file p answer
+gens_store :
+    (output : List ℕ) (seed size : ℕ) (stores : List ℕ → Type 0) (answer : Answer) → (stores output → ⊥) → Gens output seed size answer
     → StoreRose answer.stored stores → ⊥
-generated_store output seed size stores answer calm file p g r = calm (stored_as answer.stored stores output (test_bytes seed size) g.stored r)
+gens_store output seed size stores answer calm (gens.large_code l) r = none_stored answer stores l.plain.stored r
+gens_store output seed size stores answer calm (gens.generates m) r = calm (stored_as answer.stored stores output (test_bytes seed size) m.uses.stored r)
 
 over_store :
     (order : Order) (bytes : List ℕ) (stores : List ℕ → Type 0) (answer : Answer) → IfSome (stored_name order) (λ name. stores name → ⊥) → AnswersOver order bytes answer
@@ -406,8 +423,7 @@ over_store (Transform input output o) bytes stores answer calm m r = made_store 
 over_store (Plan input o) bytes stores answer calm m r = made_store bytes o TellsPlan stores answer (told_store stores answer) m r
 over_store (Run file steps changes dump) bytes stores answer calm m r = runs_store bytes steps changes dump stores answer m r
 over_store (Campaign input o seed count changes) bytes stores answer calm m r = campaign_store bytes o seed count changes stores answer m r
-over_store (Gen output seed size) bytes stores answer calm m r =
-    made_store (test_bytes seed size) default_options (Generates output seed size) stores answer (generated_store output seed size stores answer calm) m r
+over_store (Gen output seed size) bytes stores answer calm m r = gens_store output seed size stores answer calm m r
 over_store (order.List file) bytes stores answer calm m r = lists_store bytes stores answer m r
 over_store (Asm text output) bytes stores answer calm m r = asm_store bytes output stores answer calm m r
 over_store (Harts files turns steps) bytes stores answer calm m r = absurd m

@@ -2,6 +2,7 @@ pub mod Assembling
 pub mod Statuses
 pub mod Calls
 pub mod Meanings
+pub mod Gens
 pub mod Turning
 pub mod WorldEnds
 pub mod Headlines

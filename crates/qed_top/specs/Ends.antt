@@ -21,10 +21,9 @@ use Rattle.qed_model.specs.Words.{asked}
 use Rattle.qed_top.specs.Answer.{FilesAfter, FilesInPart, StoreRose, ShelfSteady}
 use Rattle.qed_top.specs.Refused.{error_status, refusal_status}
 use Rattle.qed_top.specs.Run.{memory_bytes, memory_limit, outcome_status, run_of}
-use Rattle.qed_model.specs.Options.{default_options}
 use Rattle.qed_top.specs.Asm.{AsmDecides}
 use Rattle.qed_top.specs.Campaign.{CampaignDecides}
-use Rattle.qed_top.specs.Gen.{test_bytes}
+use Rattle.qed_top.specs.Gen.{GenDecides}
 use Rattle.qed_top.specs.Loads.{Decided, Loads, OverLoads}
 use Rattle.qed_top.specs.Orders.{WordsCallFor, source_name, source_names, source_limit, stored_name}
 use Rattle.qed_top.specs.World.{FilesDecide}
@@ -132,7 +131,7 @@ DecidesOver (Transform input output options) bytes status = TransformDecides byt
 DecidesOver (Plan input options) bytes status = TransformDecides bytes options status
 DecidesOver (Run file steps changes dump) bytes status = ReadDecides bytes (ran_status steps changes) status
 DecidesOver (Campaign input options seed count changes) bytes status = CampaignDecides bytes options seed count changes status
-DecidesOver (Gen output seed size) bytes status = TransformDecides (test_bytes seed size) default_options status
+DecidesOver (Gen output seed size) bytes status = GenDecides seed size status
 DecidesOver (order.List file) bytes status = ReadDecides bytes (λ f. Done) status
 DecidesOver (Asm text output) bytes status = AsmDecides bytes status
 DecidesOver (Harts files turns steps) bytes status = ⊥

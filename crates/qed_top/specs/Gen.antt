@@ -1,6 +1,8 @@
 -- What `gen` answers.
 use Rattle.std.specs.Prelude.{◌≡◌, ℕ, List, length, IsSomeAnd}
 use Rattle.elf_types.specs.declared.file.ElfFile.{ElfFile}
+use Rattle.qed_model.specs.declared.limits.Limit.TheVariants as limit
+use Rattle.qed_model.specs.declared.machine.Outcome.TheVariants.{Ended}
 use Rattle.qed_model.specs.declared.plan.Plan.{Plan}
 use Rattle.qed_model.specs.Elf.File.{IsReadAs}
 use Rattle.qed_model.specs.Elf.Layout.{written}
@@ -8,12 +10,17 @@ use Rattle.qed_model.specs.Machine.Loading.{loaded_file}
 use Rattle.qed_model.specs.Machine.Program.{start, zeros}
 use Rattle.qed_model.specs.Machine.Progress.{Progress, begun, progress}
 use Rattle.qed_model.specs.Options.{default_options}
+use Rattle.qed_model.specs.Text.Errors.{limit_line}
 use Rattle.report.specs.Generated.{generated_line}
 use Rattle.test_gen.specs.Code.{code, function_count}
+use Rattle.test_gen.specs.Ends.{HasEnded, test_steps}
 use Rattle.test_gen.specs.Generated.{generated}
-use Rattle.qed_top.specs.Makes.{Makes}
+use Rattle.transform.specs.Transform.{HasTooMuchCode}
+use Rattle.qed_top.specs.Answer.{PrintsOnly}
+use Rattle.qed_top.specs.Makes.{IsMade}
 use Rattle.qed_top.specs.declared.answer.Answer.{Answer}
-use Rattle.qed_top.specs.declared.status.Status.TheVariants.{Done}
+use Rattle.qed_top.specs.declared.status.Status.{Status}
+use Rattle.qed_top.specs.declared.status.Status.TheVariants.{Done, Limit}
 
 -- the bytes of the test of a seed and a size
 abbrev pub test_bytes : ℕ → ℕ → List ℕ
@@ -33,16 +40,30 @@ pub record IsRunOf (bytes : List ℕ) (p : Progress) : Type 0 where
   pub read : IsReadAs bytes file
   pub run : p ≡ progress (begun (start (loaded_file file) zeros)) most_steps
 
--- the test is stored as OUT, and the line is printed that tells of it, of its output with the plan, and of the runs of both
+-- both runs have ended, the test is stored as OUT, and the line is printed that tells of it, of its output with the plan, and of both runs
 pub record Generates (output : List ℕ) (seed size : ℕ) (file : List ℕ) (plan : Plan) (answer : Answer) : Type 0 where
   pub own : Progress
   pub own_run : IsRunOf (test_bytes seed size) own
+  pub own_ended : HasEnded own (test_steps size)
   pub woven : Progress
   pub woven_run : IsRunOf file woven
+  pub woven_ended : woven.state.outcome ≡ Ended
   pub status : answer.status ≡ Done
   pub stored : IsSomeAnd answer.stored (λ s. (s.name ≡ output) × (s.bytes ≡ test_bytes seed size))
   pub text : answer.text ≡ generated_line seed size (word_number seed size) own plan woven
 
--- the answer for an output, a seed and a size
-abbrev pub Gens : List ℕ → ℕ → ℕ → Answer → Type 0
-Gens output seed size answer = Makes (test_bytes seed size) default_options (Generates output seed size) answer
+-- L4: the new code of the test would have too many bytes
+pub record HasLargeCode (seed size : ℕ) (answer : Answer) : Type 0 where
+  pub bytes : ℕ
+  pub cause : HasTooMuchCode (test_bytes seed size) default_options bytes
+  pub plain : PrintsOnly Limit (limit_line limit.CodeBytes bytes) answer
+
+-- the answer for an output, a seed and a size: the test is never refused, and exceeds no other limit
+pub data Gens (output : List ℕ) (seed size : ℕ) (answer : Answer) : Type 0 where
+  large_code : HasLargeCode seed size answer → Gens output seed size answer
+  generates : IsMade (test_bytes seed size) default_options (Generates output seed size) answer → Gens output seed size answer
+
+-- the status, by what is true of the test
+pub data GenDecides (seed size : ℕ) (status : Status) : Type 0 where
+  has_large_code : (n : ℕ) → HasTooMuchCode (test_bytes seed size) default_options n → status ≡ Limit → GenDecides seed size status
+  has_small_code : ((n : ℕ) → HasTooMuchCode (test_bytes seed size) default_options n → ⊥) → status ≡ Done → GenDecides seed size status

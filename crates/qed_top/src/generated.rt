@@ -3,6 +3,7 @@ ghost use Rattle.std.specs.Prelude.{◌≡◌, ◌≤◌, IfOk};
 ghost use Rattle.elf_read.specs.Known.{IsReadable};
 ghost use Rattle.qed_model.specs.Options.{default_options};
 ghost use Rattle.test_gen.specs.Generated.{generated};
+ghost use Rattle.transform.specs.Transform.{Transforms};
 ghost use Rattle.qed_top.specs.Gen.{Generates, Gens, IsRunOf, most_steps, test_bytes};
 
 use crate::answer::{Answer, Stored};
@@ -40,10 +41,12 @@ fn deliver(
     test: Bytes,
     made: &Transformed,
 ) -> Result<Answer, AllocError>
+    requires some { 1 ≤ size }
     requires small { size ≤ 60000 }
     requires same { test ≡ test_bytes seed size }
     requires test { IsReadable test }
-    requires made { IsReadable made.now.file }
+    requires made { Transforms (test_bytes seed size) default_options made.now.file made.now.plan }
+    requires file { IsReadable made.now.file }
     ensures { IfOk result (Generates output seed size made.now.file made.now.plan) }
 {
     let own = run(alloc, test.as_slice())?;

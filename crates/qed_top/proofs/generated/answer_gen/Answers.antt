@@ -1,17 +1,30 @@
 use Rattle.std.proofs.Common.{◌∙◌, subst}
 use Rattle.qed_model.specs.Options.{default_options}
-use Rattle.transform.specs.Transform.{Transforms}
-use Rattle.qed_top.specs.Makes as makes
+use Rattle.transform.specs.Transform.{HasCause, Transforms}
+use Rattle.qed_top.specs.Gen as gens
+use Rattle.qed_top.proofs.Gens.{large_of}
 use Rattle.qed_top.proofs.generated.answer_gen.Goals as goal
+
+pub deliver-requires-clause-made : goal.deliver-requires-clause-made
+deliver-requires-clause-made c =
+    let file = c.in-Ok.made.file in
+    let plan = c.in-Ok.made.plan in
+    subst (λ b. Transforms b default_options file plan) (c.as_slice.ensures ∙ c.in_ok-test.ensures.file)
+    (subst (λ o. Transforms c.as_slice.result.now o file plan) c.default.ensures c.in-Ok.ensures.done)
 
 pub returns-in_ok-answer-in-Ok : goal.returns-in_ok-answer-in-Ok
 returns-in_ok-answer-in-Ok c =
     let file = c.in-Ok.made.file in
     let plan = c.in-Ok.made.plan in
-    let same = c.as_slice.ensures ∙ c.in_ok-test.ensures.file in
-    makes.made (record {
+    gens.generates (record {
       file = file;
       plan = plan;
-      made = subst (λ b. Transforms b default_options file plan) same (subst (λ o. Transforms c.as_slice.result.now o file plan) c.default.ensures c.in-Ok.ensures.done);
+      made = subst (λ b. Transforms b default_options file plan) (c.as_slice.ensures ∙ c.in_ok-test.ensures.file) (subst (λ o. Transforms c.as_slice.result.now o file plan) c.default.ensures c.in-Ok.ensures.done);
       uses = c.in_ok-answer-in-Ok.ensures;
     })
+
+pub returns-in_ok-answer-in-Err : goal.returns-in_ok-answer-in-Err
+returns-in_ok-answer-in-Err c =
+    let e = c.in-Err.error in
+    let cause = subst (λ b. HasCause b default_options e) (c.as_slice.ensures ∙ c.in_ok-test.ensures.file) (subst (λ o. HasCause c.as_slice.result.now o e) c.default.ensures c.in-Err.ensures.refused) in
+    gens.large_code (large_of c.args.seed c.args.size c.requires.some c.requires.small e c.in_ok-answer-in-Err.answer cause c.in_ok-answer-in-Err.ensures.memory c.in_ok-answer-in-Err.ensures.answer)
