@@ -1,6 +1,8 @@
 -- The hart that the code reads, and turns of a list of harts, again and again.
-use Rattle.std.proofs.Common.{◌≡◌, ℕ, suc, ◌+◌, ◌%◌, ◌<◌, Result, Ok, Err, List, length, get_or, Some, refl, sym, ap, ◌∙◌, subst, arith}
+use Rattle.std.proofs.Common.{◌≡◌, ℕ, suc, ◌+◌, ◌*◌, ◌/◌, ◌%◌, ◌<◌, Result, Ok, Err, List, length, get_or, Some, refl, sym, ap, ◌∙◌, subst, arith}
 use Rattle.std.specs.Prelude.{slice_get, slice_index, IfErr}
+use Rattle.std.proofs.Math.Nat.{add-mul-mod_self_right, mod-add-div'}
+use Rattle.std.proofs.lemmas.Nat.{mod-mul-add}
 use Rattle.std.proofs.lemmas.List.{length-map}
 use Rattle.std.proofs.lemmas.Option.{slice_get-get_or}
 use Rattle.qed_model.specs.Machine.Memory.{Memory}
@@ -35,3 +37,14 @@ there_still c s ds k e some all = subst (λ n. slice_index ds (k % length ds) < 
 pub any_err : {T E : Type 0} (r : Result T E) (P : Type 0) → P → IfErr r (λ _. P)
 any_err (Ok x) P p = tt
 any_err (Err e) P p = p
+
+-- ---- places that are taken round and round
+pub first_place : (n : ℕ) → 0 < n → 0 ≡ 0 % n
+first_place n some = let all : 0 * n + 0 ≡ 0 = omega arith in sym (ap (λ m. m % n) (sym all) ∙ mod-mul-add 0 n 0 some)
+
+-- what is left of k decides what is left of k + 1
+pub next_place : (k n : ℕ) → 0 < n → (k % n + 1) % n ≡ (k + 1) % n
+next_place k n some =
+    let parts : k % n + k / n * n ≡ k = mod-add-div' k n in
+    let all : k + 1 ≡ (k % n + 1) + k / n * n = omega (arith, parts) in
+    sym (ap (λ m. m % n) all ∙ add-mul-mod_self_right (k % n + 1) (k / n) n)

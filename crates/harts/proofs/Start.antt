@@ -1,6 +1,5 @@
 -- The world at its start: the memory has the bytes of each file.
 use Rattle.std.proofs.Common.{◌≡◌, ◌≢◌, ℕ, zero, suc, Bool, true, false, List, [], ◌∷◌, is_some, refl, sym, ap, ◌∙◌, subst, arith}
-use Rattle.std.specs.Prelude.{◌-◌}
 use Rattle.std.specs.Option.{option_map}
 use Rattle.std.specs.FinMap.{get, find}
 use Rattle.std.specs.Ordering.{nat_cmp}

@@ -1,5 +1,5 @@
 //! The world of several harts.
-ghost use Rattle.std.specs.Prelude.{◌≡◌, ℕ, ◌<◌, length, slice_get, slice_index, Some, IfOk, IfErr};
+ghost use Rattle.std.specs.Prelude.{◌≡◌, ℕ, ◌+◌, ◌%◌, ◌<◌, length, slice_get, slice_index, Some, IfOk, IfErr};
 ghost use Rattle.std.specs.Option.{option_map};
 ghost use Rattle.std.specs.FinMap.{get};
 ghost use Rattle.harts.specs.HartSteps.{bare, counted_start, counted_turn, counted_strike, counted_turns, cycled};
@@ -35,6 +35,14 @@ impl Model for World {
     ghost coded = { counted_code };
 
     ghost view = { λ w. counted w.harts.items w.image };
+}
+
+/// The place behind one of `count` places that are taken round and round.
+fn next_place(place: usize, count: usize) -> usize
+    requires { place < count }
+    ensures { result ≡ (place + 1) % count }
+{
+    if place + 1 < count { place + 1 } else { 0 }
 }
 
 impl World {
@@ -86,9 +94,10 @@ impl World {
         // Where there is no memory for a page, the turns before were made.
         ensures part { IfErr result (λ _. IsPartPlayed self.old harts.now n self.new) }
     {
-        for k in 0..n {
-            let hart = harts[(k % harts.len() as u64) as usize];
-            self.turn(hart)?;
+        let mut place = 0;
+        for _ in 0..n {
+            self.turn(harts[place])?;
+            place = next_place(place, harts.len());
         }
         Ok(())
     }

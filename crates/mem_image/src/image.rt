@@ -46,12 +46,12 @@ impl Model for Image {
     ghost invariant = { λ i. AreSound i.pages.items };
 }
 
-/// The number of the place where an address is remembered.
+/// The number of the place where an address is remembered. Pages at the same offset of different files have different ones.
 #[inline(always)]
 fn slot(address: u64) -> usize
     ensures { result < 64 }
 {
-    ((address >> 12) % NEAR) as usize
+    ((address >> 12 ^ address >> 18 ^ address >> 24) % NEAR) as usize
 }
 
 impl Image {

@@ -1,5 +1,5 @@
 -- The file that a command reads: what is answered over it, as to its status and to what is stored.
-use Rattle.std.proofs.Common.{◌≡◌, ℕ, List, length, Option, None, Some, inl, inr, sym, ◌∙◌, subst, arith}
+use Rattle.std.proofs.Common.{◌≡◌, ℕ, List, Option, None, inl, inr, sym, ◌∙◌, subst, arith}
 use Rattle.qed_model.specs.declared.limits.Limit as limits
 use Rattle.qed_model.specs.Limits.{limit_of}
 use Rattle.qed_top.specs.Answer.{CallsFor, read_fault, too_long, within, ShelfSteady, SteadyOrReadFault, StoreRose}

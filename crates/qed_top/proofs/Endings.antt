@@ -9,7 +9,6 @@ use Rattle.qed_io.specs.Files.{Files, file_bytes}
 use Rattle.qed_io.specs.Counts.{Rose, RoseAt, NoneFell}
 use Rattle.qed_model.specs.declared.change.Change.{Change}
 use Rattle.elf_types.specs.declared.file.ElfFile.{ElfFile}
-use Rattle.qed_model.specs.declared.limits.Limit as limits
 use Rattle.qed_model.specs.declared.options.Options.{Options}
 use Rattle.qed_model.specs.declared.order.Order.{Order}
 use Rattle.qed_model.specs.declared.order.Order.TheVariants as order

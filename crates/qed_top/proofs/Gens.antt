@@ -1,6 +1,5 @@
 -- What `gen` comes to: no rule refuses its test and no limit but that of new code is exceeded, and both runs have ended.
 use Rattle.std.proofs.Common.{◌≡◌, ◌≢◌, ◌⊎◌, inl, inr, ℕ, ◌≤◌, List, refl, sym, ap, ◌∙◌, subst, arith}
-use Rattle.elf_types.specs.declared.file.ElfFile.{ElfFile}
 use Rattle.qed_model.specs.declared.machine.Outcome.TheVariants.{Ended}
 use Rattle.qed_model.specs.declared.plan.Plan.{Plan}
 use Rattle.qed_model.specs.Options.{default_options}

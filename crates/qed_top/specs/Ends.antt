@@ -1,5 +1,5 @@
 -- How the top call ends.
-use Rattle.std.specs.Prelude.{◌≡◌, ◌≢◌, ◌⊎◌, ◌<◌, ◌≤◌, ℕ, List, [], length, Option, MatchOption, MatchResult, IfOk, IfSome, All}
+use Rattle.std.specs.Prelude.{◌≡◌, ◌≢◌, ◌⊎◌, ◌<◌, ◌≤◌, ℕ, List, [], Option, MatchOption, MatchResult, IfOk, IfSome, All}
 use Rattle.std.specs.Io.KnownBytes.{Appends}
 use Rattle.qed_io.specs.Files.{Files, file_bytes}
 use Rattle.qed_io.specs.Counts.{Rose, RoseAt}

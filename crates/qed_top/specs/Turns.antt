@@ -1,5 +1,5 @@
 -- Steps on the way to the answer of `harts`.
-use Rattle.std.specs.Prelude.{◌≡◌, ◌<◌, ◌≤◌, ℕ, List, [], All, length, Option, IfSome}
+use Rattle.std.specs.Prelude.{◌<◌, ◌≤◌, ℕ, List, [], All, length, Option, IfSome}
 use Rattle.elf_types.specs.declared.file.ElfFile.{ElfFile}
 use Rattle.harts.specs.HartSteps.{Counted, counted_turns, cycled}
 use Rattle.qed_io.specs.Counts.{RoseAt}

@@ -1,5 +1,5 @@
 -- What is printed about several harts. Each line ends with a newline.
-use Rattle.std.specs.Prelude.{ℕ, List, [], ◌++◌, codes, length, slice_get, slice_index, Option, None, Some}
+use Rattle.std.specs.Prelude.{ℕ, List, [], ◌++◌, codes, length, slice_get, Option, Some}
 use Rattle.std.specs.Fmt.{decimal}
 use Rattle.qed_model.specs.Below.{gather}
 use Rattle.qed_model.specs.Machine.Memory.{Memory}

@@ -1,4 +1,4 @@
-use Rattle.std.proofs.Common.{rules, ◌≡◌, false, List, ℕ, sym, subst}
+use Rattle.std.proofs.Common.{rules, ◌≡◌, false, sym, subst}
 use Rattle.qed_io.specs.Counts.{RoseAt}
 use Rattle.qed_model.specs.declared.order.Order.{Order}
 use Rattle.qed_top.specs.Loads.{OverLoads}

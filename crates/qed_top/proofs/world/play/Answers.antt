@@ -1,4 +1,4 @@
-use Rattle.std.proofs.Common.{◌≤◌, length, sym, ap, ◌∙◌, subst, arith}
+use Rattle.std.proofs.Common.{◌≤◌, length, ◌∙◌, arith}
 use Rattle.qed_top.specs.Run.{memory_limit}
 use Rattle.qed_top.specs.World.{all_bytes}
 use Rattle.qed_top.specs.World as world

@@ -1,26 +1,37 @@
-use Rattle.std.proofs.Common.{◌≡◌, length, ap, ◌∙◌, arith}
-use Rattle.harts.specs.HartSteps.{counted_turns, cycled}
+use Rattle.std.proofs.Common.{◌≡◌, ◌+◌, ◌%◌, ◌<◌, length, sym, ap, ◌∙◌, subst, arith}
+use Rattle.std.specs.Prelude.{slice_index}
+use Rattle.harts.specs.HartSteps.{counted_turn, counted_turns, cycled}
 use Rattle.harts.proofs.Steps.{length_turns}
-use Rattle.harts.proofs.Playing.{none_played, more_played, there_still, any_err}
+use Rattle.harts.proofs.Playing.{none_played, more_played, there_still, any_err, first_place, next_place}
 use Rattle.harts.proofs.world.World.play.Goals as goal
 
-pub loop-k-init : goal.loop-k-init
-loop-k-init c = none_played c.args.self.now c.args.harts.now
+pub loop-init : goal.loop-init
+loop-init c = record { made = none_played c.args.self.now c.args.harts.now; next = first_place (length c.args.harts.now) c.requires.some }
 
 pub turn-requires : goal.turn-requires
-turn-requires c = there_still c.args.self.now c.loop-k.self c.args.harts.now c.loop-k.k c.loop-k.invariant c.requires.some c.requires.harts
+turn-requires c =
+    let known = c.loop.invariant in
+    subst (λ p. slice_index c.args.harts.now p < length c.loop.self.world.harts) (sym known.next)
+    (there_still c.args.self.now c.loop.self c.args.harts.now c.loop.counter known.made c.requires.some c.requires.harts)
 
-pub loop-k-preserved : goal.loop-k-preserved
-loop-k-preserved c = more_played c.args.self.now c.loop-k.self c.turn.new.self c.args.harts.now c.loop-k.k c.loop-k.invariant c.in_ok-turn.ensures.turned
+pub loop-preserved : goal.loop-preserved
+loop-preserved c =
+    let known = c.loop.invariant in
+    let count = length c.args.harts.now in
+    record {
+      made = more_played c.args.self.now c.loop.self c.turn.new.self c.args.harts.now c.loop.counter known.made
+          (c.in_ok-turn.ensures.turned ∙ ap (λ p. counted_turn (slice_index c.args.harts.now p) c.loop.self) known.next);
+      next = c.next_place-place.ensures ∙ ap (λ p. (p + 1) % count) known.next ∙ next_place c.loop.counter count c.requires.some;
+    }
 
 pub returns-clause-played : goal.returns-clause-played
-returns-clause-played c = let e : c.loop-k.k ≡ c.args.n = omega arith in c.loop-k.invariant ∙ ap (λ n. counted_turns c.args.self.now (cycled c.args.harts.now n)) e
+returns-clause-played c = let e : c.loop.counter ≡ c.args.n = omega arith in c.loop.invariant.made ∙ ap (λ n. counted_turns c.args.self.now (cycled c.args.harts.now n)) e
 
 pub returns-in_err-turn-clause-part : goal.returns-in_err-turn-clause-part
-returns-in_err-turn-clause-part c = any_err c.from_residual.result _ (record { count = c.loop-k.k; most = omega arith; made = c.in_err-turn.ensures.kept ∙ c.loop-k.invariant })
+returns-in_err-turn-clause-part c = any_err c.from_residual.result _ (record { count = c.loop.counter; most = omega arith; made = c.in_err-turn.ensures.kept ∙ c.loop.invariant.made })
 
 pub returns-clause-count : goal.returns-clause-count
 returns-clause-count c = ap (λ w. length w.world.harts) (returns-clause-played c) ∙ length_turns c.args.self.now (cycled c.args.harts.now c.args.n)
 
 pub returns-in_err-turn-clause-count : goal.returns-in_err-turn-clause-count
-returns-in_err-turn-clause-count c = ap (λ w. length w.world.harts) (c.in_err-turn.ensures.kept ∙ c.loop-k.invariant) ∙ length_turns c.args.self.now (cycled c.args.harts.now c.loop-k.k)
+returns-in_err-turn-clause-count c = ap (λ w. length w.world.harts) (c.in_err-turn.ensures.kept ∙ c.loop.invariant.made) ∙ length_turns c.args.self.now (cycled c.args.harts.now c.loop.counter)
