@@ -12,7 +12,7 @@ use Rattle.qed_model.specs.declared.range.Range.{Range}
 use Rattle.qed_model.specs.declared.test.Test.{Test}
 use Rattle.qed_model.specs.Admission.DataRanges.{data_ranges}
 use Rattle.qed_model.specs.Admission.Rules.{passes_at, is_mixed}
-use Rattle.qed_model.specs.Weave.OutputParts.{code_segment, out_symbols}
+use Rattle.qed_model.specs.Weave.OutputParts.{code_segment}
 use Rattle.qed_model.specs.Weave.OutputFile.{halves, table_segment, file_sections, file_of}
 use Rattle.qed_model.specs.Weave.Places.{image_of, half_of, code_place}
 use Rattle.qed_model.proofs.Among.{Among}
@@ -82,11 +82,11 @@ module _ (f : ElfFile) (o : Options) (t : Test) (rows : List EntryRow) (e : IsEn
   place_is = omega (arith, at_is, e.test.base, e.test.distance)
 
   pub file_made :
-      (both segments : List Segment) (part : Option Segment) (last : Segment) (sections : List OutSection) (symbols : List Symbol)
+      (both segments : List Segment) (part : Option Segment) (last : Segment) (sections : List OutSection) (symbols given : List Symbol)
       → both ≡ halves t.distance t.segments → part ≡ cond table (Some (table_segment t.distance rows)) None → last ≡ code_segment at code
-      → segments ≡ both ++ (if_any part ++ last ∷ []) → sections ≡ sections_over last part rows → symbols ≡ out_symbols rows f.symbols
-      → file at f.flags segments sections symbols ≡ file_of f o.half table rows code
-  file_made both segments part last sections symbols a b c p q r =
+      → segments ≡ both ++ (if_any part ++ last ∷ []) → sections ≡ sections_over last part rows → symbols ≡ given
+      → file at f.flags segments sections symbols ≡ record (file_of f o.half table rows code) { symbols = given }
+  file_made both segments part last sections symbols given a b c p q r =
       let first : both ≡ halves (half_of o.half (image_of f)) (image_of f) = a ∙ (λ i. halves (e.test.distance i) (e.test.segments i)) in
       let middle : if_any part ≡ cond table (table_segment (half_of o.half (image_of f)) rows ∷ []) [] = ap if_any b ∙ any_table table t.distance rows ∙ ap (λ x. cond table (table_segment x rows ∷ []) []) e.test.distance in
       let end : last ≡ code_segment (code_place o.half (image_of f)) code = c ∙ ap (λ x. code_segment x code) place_is in

@@ -7,3 +7,4 @@ pub mod HalfLaws
 pub mod Entered
 pub mod Counting
 pub mod BlockEntries
+pub mod Rooms

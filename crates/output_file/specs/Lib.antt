@@ -6,3 +6,4 @@ pub mod Entries
 pub mod Sections
 pub mod Tests
 pub mod Told
+pub mod Sizes

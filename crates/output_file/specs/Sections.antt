@@ -1,19 +1,16 @@
 -- Sections over segments.
-use Rattle.std.specs.Prelude.{ℕ, Option, Some, None, List, [], ◌∷◌, ◌++◌, codes}
+use Rattle.std.specs.Prelude.{Option, Some, None, List, [], ◌∷◌, ◌++◌, codes}
 use Rattle.elf_types.specs.declared.file.Segment.{Segment}
 use Rattle.elf_types.specs.declared.output.OutSection.{OutSection}
 use Rattle.qed_model.specs.declared.plan.EntryRow.{EntryRow}
 use Rattle.qed_model.specs.Weave.OutputParts.{map_section}
-
--- the section with the place and the size of a segment
-abbrev pub over : List ℕ → ℕ → Segment → OutSection
-over name flags s = record { name = name; flags = flags; address = s.address; size = s.memory; bytes = [] }
+use Rattle.elf_parts.specs.Parts.{section}
 
 -- with SHF_ALLOC
 abbrev pub table_over : Option Segment → List OutSection
 table_over None = []
-table_over (Some s) = over (codes ".qed.table") 2 s ∷ []
+table_over (Some s) = section (codes ".qed.table") 2 s ∷ []
 
 -- the new code, with SHF_ALLOC and SHF_EXECINSTR, the table and the map
 abbrev pub sections_over : Segment → Option Segment → List EntryRow → List OutSection
-sections_over code table rows = over (codes ".qed.text") 6 code ∷ (table_over table ++ map_section rows ∷ [])
+sections_over code table rows = section (codes ".qed.text") 6 code ∷ (table_over table ++ map_section rows ∷ [])

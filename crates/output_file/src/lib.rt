@@ -13,7 +13,8 @@ mod table;
 mod told;
 
 pub use laws::entries_of_blocks;
-pub use output::output_file;
+pub use output::{bare_file, with_symbols};
+pub use symbols::symbols_size;
 pub use table::has_table;
 pub use told::{plan, word_count};
 

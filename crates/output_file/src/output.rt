@@ -2,8 +2,9 @@
 ghost use Rattle.std.specs.Prelude.{◌≡◌, ℕ, ◌+◌, ◌*◌, ◌^◌, ◌<◌, ◌++◌, ◌∷◌, [], if◌then◌else◌, Some, None, IfOk, OnOk};
 ghost use Rattle.qed_model.specs.declared.options.Options.{Options as TestOptions};
 ghost use Rattle.qed_model.specs.Numbers.{bytes_of as bytes_of_words};
-ghost use Rattle.qed_model.specs.Weave.OutputParts.{code_segment as code_segment_of};
+ghost use Rattle.qed_model.specs.Weave.OutputParts.{code_segment as code_segment_of, out_symbols};
 ghost use Rattle.qed_model.specs.Weave.OutputFile.{table_segment as table_segment_of, file_of};
+ghost use Rattle.qed_model.specs.Weave.Placed.{EntriesAscend};
 ghost use Rattle.output_file.specs.Entries.{AreEntries};
 ghost use Rattle.output_file.specs.Segments.{if_any};
 ghost use Rattle.output_file.specs.Tests.{IsEntered};
@@ -15,7 +16,7 @@ use crate::segments::{moved, whole_segment};
 use crate::symbols::symbols;
 use crate::table::table_segment;
 use elf_types::abi::{PF_R, PF_X};
-use elf_types::{Bytes, ElfFile, Listed, OutFile, Segment};
+use elf_types::{Bytes, ElfFile, Listed, OutFile, Segment, Symbol};
 use qed_model::{EntryRow, Test};
 use std::alloc::{AllocError, Global};
 
@@ -66,9 +67,9 @@ fn code_address(test: &Test) -> u64
     moved(moved(second, test.distance), test.distance)
 }
 
-/// The output of a file that was admitted as a test, with these entries and the words of the new code. `table` says whether
-/// it has a table, as `has_table` tells of its blocks.
-pub fn output_file(
+/// The output of a file that was admitted as a test, with these entries and the words of the new code, but without its symbols.
+/// `table` says whether it has a table, as `has_table` tells of its blocks.
+pub fn bare_file(
     alloc: Global,
     file: &ElfFile,
     test: &Test,
@@ -76,7 +77,7 @@ pub fn output_file(
     entries: &[EntryRow],
     code: &[u32],
 ) -> Result<OutFile, AllocError>
-    ensures { IfOk result (λ out. (o : TestOptions) → IsEntered file.now o test.now entries.now → out ≡ file_of file.now o.half table entries.now (bytes_of_words code.now)) }
+    ensures { IfOk result (λ out. (o : TestOptions) → IsEntered file.now o test.now entries.now → out ≡ record (file_of file.now o.half table entries.now (bytes_of_words code.now)) { symbols = [] }) }
 {
     let (image, span) = (test.segments.as_slice(), test.span.as_slice());
     let mut segments = halves(alloc, image, span, test.distance)?;
@@ -90,6 +91,22 @@ pub fn output_file(
         flags: file.flags,
         segments: Listed::of(segments),
         sections: Listed::of(sections),
-        symbols: Listed::of(symbols(alloc, entries, file.symbols.as_slice())?),
+        symbols: Listed::of(Vec::new(alloc)),
+    })
+}
+
+/// The output with the symbols of its input, at their new addresses by these entries.
+pub fn with_symbols(
+    alloc: Global,
+    bare: OutFile,
+    entries: &[EntryRow],
+    given: &[Symbol],
+) -> Result<OutFile, AllocError>
+    ensures { IfOk result (λ out. EntriesAscend entries.now → out ≡ record bare { symbols = out_symbols entries.now given.now }) }
+{
+    let symbols = symbols(alloc, entries, given)?;
+    Ok(OutFile {
+        symbols: Listed::of(symbols),
+        ..bare
     })
 }

@@ -1,8 +1,9 @@
 //! The sections of the output.
 ghost use Rattle.std.specs.Prelude.{◌≡◌, ◌++◌, OnOk, IfOk};
 ghost use Rattle.qed_model.specs.Weave.OutputParts.{map_section as map_section_of, row_bytes, map_bytes as map_bytes_of};
-ghost use Rattle.output_file.specs.Sections.{over, sections_over};
+ghost use Rattle.output_file.specs.Sections.{sections_over};
 
+use elf_parts::section;
 use elf_types::abi::{SHF_ALLOC, SHF_EXECINSTR};
 use elf_types::{Bytes, OutSection, Segment};
 use qed_model::EntryRow;
@@ -10,24 +11,6 @@ use std::alloc::{AllocError, Global};
 
 /// The size of an entry in the map, in bytes.
 const ROW_SIZE: u64 = 16;
-
-/// The section of a segment that has all its bytes in the file.
-fn section_over(
-    alloc: Global,
-    name: &[u8],
-    flags: u64,
-    segment: &Segment,
-) -> Result<OutSection, AllocError>
-    ensures { IfOk result (λ s. s ≡ over name.now flags segment.now) }
-{
-    Ok(OutSection {
-        name: Bytes::copied(alloc, name)?,
-        flags,
-        address: segment.address,
-        size: segment.memory,
-        bytes: Bytes::of(Vec::new(alloc)),
-    })
-}
 
 /// Appends the input address and the new address of an entry.
 #[tactic(auto, unfolding(qed_model::specs::Numbers::number_bytes, qed_model::specs::Weave::OutputParts::row_bytes))]
@@ -73,9 +56,9 @@ pub fn sections(
     ensures { IfOk result (λ sections. sections.items ≡ sections_over code.now table.now entries.now) }
 {
     let mut sections = Vec::new(alloc);
-    sections.push(section_over(alloc, b".qed.text", SHF_ALLOC | SHF_EXECINSTR, code)?)?;
+    sections.push(section(alloc, b".qed.text", SHF_ALLOC | SHF_EXECINSTR, code)?)?;
     if let Some(table) = table {
-        sections.push(section_over(alloc, b".qed.table", SHF_ALLOC, table)?)?;
+        sections.push(section(alloc, b".qed.table", SHF_ALLOC, table)?)?;
     }
     sections.push(map_section(alloc, entries)?)?;
     Ok(sections)

@@ -1,7 +1,9 @@
 //! The symbols of the output.
-ghost use Rattle.std.specs.Prelude.{◌≡◌, ◌++◌, ◌&&◌, not, if◌then◌else◌, OnOk, IfOk};
+ghost use Rattle.std.specs.Prelude.{◌≡◌, List, ◌++◌, ◌&&◌, not, filter, if◌then◌else◌, OnOk, IfOk};
+ghost use Rattle.qed_model.specs.declared.plan.EntryRow.{EntryRow};
 ghost use Rattle.qed_model.specs.Weave.OutputParts.{is_kept as is_kept_of, is_local as is_local_of, valued as valued_of, out_symbol as out_symbol_of, symbol_group, out_symbols};
 ghost use Rattle.qed_model.specs.Weave.Placed.{entry_at as entry_at_of, EntriesAscend};
+ghost use Rattle.output_file.specs.Sizes.{symbols_room};
 
 use elf_types::abi::{SHN_ABS, STT_FUNC};
 use elf_types::{Bytes, Symbol};
@@ -14,6 +16,26 @@ fn is_kept(symbol: &Symbol) -> bool
     ensures { result ≡ is_kept_of symbol.now }
 {
     symbol.name.as_slice().len() > 0 && symbol.is_defined() && symbol.kind <= STT_FUNC
+}
+
+/// The bytes that the symbols of an output take in its file, with their names, where the input has these symbols.
+pub fn symbols_size(symbols: &[Symbol]) -> u128
+    ensures { (rows : List EntryRow) → result ≡ symbols_room (out_symbols rows symbols.now) }
+{
+    kept_size(symbols)
+}
+
+/// The bytes that the kept symbols take, with their names.
+fn kept_size(symbols: &[Symbol]) -> u128
+    ensures { result ≡ symbols_room (filter is_kept_of symbols.now) }
+{
+    let mut size: u128 = 0;
+    for symbol in symbols {
+        if is_kept(symbol) {
+            size += 25 + symbol.name.as_slice().len() as u128;
+        }
+    }
+    size
 }
 
 /// Whether a symbol is in the group of the local ones, or in that of the others.

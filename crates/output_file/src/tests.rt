@@ -1,6 +1,6 @@
 //! The outputs of known tests, against files of an independent program.
 
-use crate::{output_file, plan};
+use crate::{bare_file, plan, symbols_size, with_symbols};
 use block_list::CodeBlock;
 use elf_types::{Bytes, ElfFile, Listed, OutFile, Segment, Symbol};
 use qed_model::{Bounds, EntryRow, Range, Test};
@@ -111,7 +111,7 @@ fn data_ranges_are_segments(rt: HostRuntime) -> Result<(), Fail> {
         input: 0x10000,
         output: 0x43080,
     }];
-    let out = output_file(alloc, &file, &test, false, &entries, &[0; 77])?;
+    let out = bare_file(alloc, &file, &test, false, &entries, &[0; 77])?;
     let wanted =
         "10000 4 4 4\n20000 20 6 16\n21000 4 4 4\n31000 20 6 16\n43000 134 5 134\nsection 43000 134 6 0\nsection 0 10 0 10\n";
     assert_eq!(rt; lines(alloc, &out)?.as_str(), wanted);
@@ -151,7 +151,7 @@ fn tables_lead_to_entries(rt: HostRuntime) -> Result<(), Fail> {
     let mut segments = Vec::new(alloc);
     segments.push(code(alloc)?)?;
     let test = test_of(alloc, segments, Vec::new(alloc), 0x10010, 0x1000);
-    let out = output_file(alloc, &file, &test, true, &LINK, &[0; 177])?;
+    let out = bare_file(alloc, &file, &test, true, &LINK, &[0; 177])?;
     let wanted =
         "10000 10 4 10\n11000 10 4 10\n12000 10 4 10\n13000 2c4 5 2c4\nsection 13000 2c4 6 0\nsection 12000 10 2 0\nsection 0 40 0 40\n";
     assert_eq!(rt; lines(alloc, &out)?.as_str(), wanted);
@@ -162,7 +162,7 @@ fn tables_lead_to_entries(rt: HostRuntime) -> Result<(), Fail> {
 
     // Addresses without an entry have words of 0.
     let apart = [LINK[0], LINK[3]];
-    let out = output_file(alloc, &file, &test, true, &apart, &[0; 177])?;
+    let out = bare_file(alloc, &file, &test, true, &apart, &[0; 177])?;
     let table: [u8; 16] = [0x78, 0x10, 0, 0, 0, 0, 0, 0, 0, 0, 0, 0, 0x00, 0x12, 0, 0];
     assert_eq!(rt; bytes_at(&out, 2), table.as_slice());
     Ok(())
@@ -201,7 +201,8 @@ fn symbols_go_to_entries(rt: HostRuntime) -> Result<(), Fail> {
     let mut segments = Vec::new(alloc);
     segments.push(code(alloc)?)?;
     let test = test_of(alloc, segments, Vec::new(alloc), 0x10010, 0x1000);
-    let out = output_file(alloc, &file, &test, true, &LINK, &[0; 177])?;
+    let out = bare_file(alloc, &file, &test, true, &LINK, &[0; 177])?;
+    let out = with_symbols(alloc, out, &LINK, file.symbols.as_slice())?;
     let mut text = String::new(alloc);
     for symbol in out.symbols.as_slice() {
         let name = symbol.name.as_slice();
@@ -212,6 +213,8 @@ fn symbols_go_to_entries(rt: HostRuntime) -> Result<(), Fail> {
     let wanted =
         "[108, 111, 111, 112] 13190 0 fff1\n[109, 97, 105, 110] 13078 0 fff1\n[100, 97, 116, 97] 10004 4 fff1\n[110, 111, 110, 101] 10010 4 fff1\n";
     assert_eq!(rt; text.as_str(), wanted);
+    // Four entries of 24 bytes, and four names of 4 bytes with a zero byte.
+    assert_eq!(rt; symbols_size(file.symbols.as_slice()), 116);
     Ok(())
 }
 

@@ -1,21 +1,26 @@
 //! The output of a test with its blocks, before it is written.
-ghost use Rattle.std.specs.Prelude.{◌≡◌, ◌≤◌, ◌<◌, ◌*◌, ℕ, List, length, map, IfOk, IfErr};
+ghost use Rattle.std.specs.Prelude.{◌≡◌, ◌≤◌, ◌<◌, ◌*◌, ◌^◌, ℕ, List, [], length, map, IfSome, IfOk, IfErr};
 ghost use Rattle.elf_types.specs.declared.file.ElfFile.{ElfFile as TestFile};
+ghost use Rattle.elf_types.specs.declared.file.Symbol.{Symbol};
 ghost use Rattle.block_list.specs.Listed.{block_of};
+ghost use Rattle.output_file.specs.Sizes.{symbols_room};
+ghost use Rattle.qed_model.specs.Elf.Layout.{names_bytes, written};
 ghost use Rattle.qed_model.specs.Elf.File.{IsReadAs};
 ghost use Rattle.qed_model.specs.Machine.Apart.{AllFitMemory, AreApart};
 ghost use Rattle.qed_model.specs.Machine.Loading.{load_segments};
 ghost use Rattle.qed_model.specs.Weave.Bounds.{bounds_of};
 ghost use Rattle.qed_model.specs.Weave.Woven.{shape_of as shape_of_test, is_far_code};
 ghost use Rattle.woven_code.specs.Code.{IsCut, IsCodeOf};
-ghost use Rattle.transform.specs.Made.{IsMade};
+ghost use Rattle.transform.specs.Made.{IsMade, Exceeds};
 ghost use Rattle.transform.specs.Transform.{HasCause};
 
 use crate::cut::CutTest;
 use crate::error::TransformError;
 use bound_calc::bounds;
-use elf_types::OutFile;
-use output_file::{has_table, output_file, plan, word_count};
+use elf_types::{OutFile, OutSection};
+use elf_write::file_size;
+use output_file::{bare_file, has_table, plan, symbols_size, with_symbols, word_count};
+use qed_model::limits::{MAX_OUTPUT_BYTES, MAX_OUTPUT_SEGMENTS};
 use qed_model::{Bounds, Options, Plan, Shape};
 use relinker::LinkError;
 use std::alloc::{AllocError, Global};
@@ -69,6 +74,45 @@ fn bounds_in(cut: &CutTest, options: &Options, far: bool) -> Bounds
     }
 }
 
+/// The bytes of the names of sections, each with a zero byte.
+fn names_size(sections: &[OutSection]) -> u128
+    ensures value { result ≡ length (names_bytes (map (λ x. x.name) sections.now)) }
+    ensures bound { result < 2 ^ 122 }
+{
+    let mut size: u128 = 0;
+    for section in sections {
+        size += section.name.as_slice().len() as u128 + 1;
+    }
+    size
+}
+
+/// How many bytes a file without symbols has with symbols that take so many. None where those are 2^128 or more.
+fn size_with(bare: &OutFile, room: u128) -> Option<u128>
+    ensures { IfSome result (λ size. (symbols : List Symbol) → bare.now.symbols ≡ [] → room ≡ symbols_room symbols → size ≡ length (written (record bare.now { symbols = symbols }))) }
+{
+    // The section headers are last, at the next multiple of 8 behind the names of the sections. Without symbols these end
+    // so many bytes before it.
+    let gap = 7 - (names_size(bare.sections.as_slice()) + 3) % 8;
+    let size = file_size(bare).checked_add(room)?;
+    let size = size.checked_add(7 - gap)?;
+    Some(size / 8 * 8)
+}
+
+/// Tests the limits on the number of segments and of bytes, in this order, of a file without symbols as it is with symbols that
+/// take so many bytes. So no names are copied for a file that is too long, as far as its size is below 2^128.
+fn check_bare(bare: &OutFile, room: u128) -> Result<(), TransformError>
+    ensures { IfErr result (λ e. (symbols : List Symbol) → bare.now.symbols ≡ [] → room ≡ symbols_room symbols → Exceeds (record bare.now { symbols = symbols }) e) }
+{
+    let segments = bare.segments.as_slice().len() as u64;
+    if segments > MAX_OUTPUT_SEGMENTS {
+        return Err(TransformError::TooManySegments(segments));
+    }
+    match size_with(bare, room) {
+        Some(size) if size > u128::from(MAX_OUTPUT_BYTES) => Err(TransformError::FileTooLong(size)),
+        _ => Ok(()),
+    }
+}
+
 /// The output of a test with its blocks, and what is told of it.
 pub(crate) fn make(alloc: Global, cut: &CutTest, options: &Options) -> Result<Made, TransformError>
     requires fit { AllFitMemory (load_segments cut.now.file.segments) }
@@ -82,7 +126,7 @@ pub(crate) fn make(alloc: Global, cut: &CutTest, options: &Options) -> Result<Ma
     let bounds = bounds_in(cut, options, code.far);
     let size = 4 * code.linked.words.len() as u64;
     let table = has_table(blocks);
-    let out = output_file(
+    let bare = bare_file(
         alloc,
         &cut.file,
         &cut.test,
@@ -91,5 +135,8 @@ pub(crate) fn make(alloc: Global, cut: &CutTest, options: &Options) -> Result<Ma
         &code.linked.words,
     )?;
     let plan = plan(alloc, &cut.test, blocks, entries, size, bounds)?;
+    let symbols = cut.file.symbols.as_slice();
+    check_bare(&bare, symbols_size(symbols))?;
+    let out = with_symbols(alloc, bare, entries, symbols)?;
     Ok(Made { out, plan })
 }
