@@ -19,7 +19,7 @@ import os
 import random
 import re
 import resource
-import signal
+import select
 import struct
 import subprocess
 import sys
@@ -128,10 +128,9 @@ def changed(rng, old):
 
 
 def begin_worker():
-    """Sets limits, which the program inherits, and the answer to a call that hangs."""
+    """Sets limits, which the program inherits."""
     resource.setrlimit(resource.RLIMIT_AS, (MEMORY, MEMORY))
     resource.setrlimit(resource.RLIMIT_CORE, (0, 0))
-    signal.signal(signal.SIGALRM, hangs)
 
 
 def call(words, printed):
@@ -139,19 +138,15 @@ def call(words, printed):
     with open(printed, "wb") as out:
         ran = subprocess.Popen(words, stdin=subprocess.DEVNULL, stdout=out, stderr=out)
     resource.prlimit(ran.pid, resource.RLIMIT_CPU, (PATIENCE[0], PATIENCE[0]))
-    signal.alarm(PATIENCE[1])
-    try:
-        _, status, used = os.wait4(ran.pid, 0)
-    except TimeoutError:
+    # Such a descriptor can be read once the process has ended.
+    process = os.pidfd_open(ran.pid)
+    ended, _, _ = select.select([process], [], [], PATIENCE[1])
+    os.close(process)
+    if not ended:
         ran.kill()
-        _, status, used = os.wait4(ran.pid, 0)
-    signal.alarm(0)
+    _, status, used = os.wait4(ran.pid, 0)
     ran.returncode = os.waitstatus_to_exitcode(status)
     return ran.returncode, used.ru_utime + used.ru_stime, used.ru_maxrss
-
-
-def hangs(_number, _frame):
-    raise TimeoutError
 
 
 def fault(command, args, file, status, seconds, folder):
