@@ -53,6 +53,7 @@ COMMANDS = [
     ("gen out --seed 1 --size 1", None),
     ("gen out --seed 1 --size 1", "old"),
     ("campaign in --seed 1 --count 4 --changes 2", None),
+    ("harts in --turns 0 --steps 20", None),
 ]
 
 NAMES = ("in", "text", "out", "absent")
