@@ -101,12 +101,7 @@ fn takers(alloc: Global, count: usize, turns: Option<Bytes>) -> Result<Vec<u64>,
 }
 
 /// The answer after so many turns.
-fn tell(
-    alloc: Global,
-    mut world: World,
-    harts: &[u64],
-    steps: u64,
-) -> Result<Answer, AllocError>
+fn tell(alloc: Global, mut world: World, harts: &[u64], steps: u64) -> Result<Answer, AllocError>
     requires some { 0 < length harts.now }
     requires harts { (k : ℕ) → k < length harts.now → slice_index harts.now k < length world.world.harts }
     ensures { IfOk result (TellsTurns world harts.now steps) }
