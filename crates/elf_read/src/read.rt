@@ -15,10 +15,10 @@ use crate::below::list_of;
 use crate::limits::{check_byte_count, check_section_count};
 use crate::parts::Parts;
 use crate::relas::{check_rela_shape, relas};
-use crate::sections::{check_section_shape, section_name, section_strings};
+use crate::sections::{check_section_shape, section_strings};
 use crate::segments::{check_segment_overlap, check_segment_shape};
-use crate::strings::Strings;
-use crate::symbols::{check_symbol_shape, symbol_entry, symbol_name, symbol_strings, symbol_table};
+use crate::strings::Names;
+use crate::symbols::{check_symbol_shape, symbol_entry, symbol_strings, symbol_table};
 use elf_types::abi::{SHT_SYMTAB, SYM_SIZE};
 use elf_types::{Bytes, ElfError, ElfFile, Listed, Section, Segment, Symbol};
 use std::alloc::{AllocError, Global};
@@ -38,15 +38,15 @@ impl<'a> Model for Sound<'a> {
     ghost invariant = { λ s. HasLinks s.parts };
 }
 
-#[tactic(auto, unfolding(qed_model::specs::Elf::File::section_of))]
-fn section(file: &Parts, strings: &Strings, alloc: Global, i: u64) -> Result<Section, AllocError>
+#[tactic(auto, unfolding(qed_model::specs::Elf::File::section_of, qed_model::specs::Elf::Rules::section_name))]
+fn section(file: &Parts, names: &Names, i: u64) -> Result<Section, AllocError>
     requires below { i < e_shnum file.now }
-    requires names { strings.now ≡ section_strings file.now }
+    requires names { names.now ≡ section_strings file.now }
     ensures { IfOk result (λ x. x ≡ section_of file.now i) }
 {
     let s = file.section(i);
     Ok(Section {
-        name: Bytes::copied(alloc, section_name(file, strings, i))?,
+        name: names.name(s.name)?,
         kind: s.kind,
         flags: s.flags,
         address: s.addr,
@@ -69,23 +69,17 @@ fn segment(file: &Parts, alloc: Global, i: u64) -> Result<Segment, AllocError>
     })
 }
 
-#[tactic(auto, unfolding(qed_model::specs::Elf::File::symbol_of))]
-fn symbol(
-    file: &Parts,
-    strings: &Strings,
-    alloc: Global,
-    i: u64,
-    j: u64,
-) -> Result<Symbol, AllocError>
+#[tactic(auto, unfolding(qed_model::specs::Elf::File::symbol_of, qed_model::specs::Elf::Rules::symbol_name, qed_model::specs::Elf::Rules::name_at))]
+fn symbol(file: &Parts, names: &Names, i: u64, j: u64) -> Result<Symbol, AllocError>
     requires below { i < e_shnum file.now }
     requires kind { (section_header file.now i).kind ≡ SHT_SYMTAB }
-    requires names { strings.now ≡ strings_of file.now (section_header file.now i) }
+    requires names { names.now ≡ strings_of file.now (section_header file.now i) }
     requires entry { j < (section_header file.now i).size / 24 }
     ensures { IfOk result (λ x. x ≡ symbol_of file.now (section_header file.now i) j) }
 {
     let e = symbol_entry(file, i, j);
     Ok(Symbol {
-        name: Bytes::copied(alloc, symbol_name(file, strings, i, j))?,
+        name: names.name(if j == 0 { 0 } else { e.name })?,
         value: e.value,
         size: e.size,
         kind: e.info % 16,
@@ -128,11 +122,11 @@ impl<'a> Sound<'a> {
     fn sections(&self, alloc: Global) -> Result<Vec<Section>, AllocError>
         ensures { IfOk result (λ v. v.items ≡ each (e_shnum self.now) (section_of self.now)) }
     {
-        let strings = section_strings(&self.parts, alloc);
+        let names = Names::new(alloc, section_strings(&self.parts, alloc))?;
         list_of(
             alloc,
             self.parts.tables().shnum(),
-            &|i| section(&self.parts, &strings, alloc, i),
+            &|i| section(&self.parts, &names, i),
         )
     }
 
@@ -142,12 +136,12 @@ impl<'a> Sound<'a> {
         match symbol_table(&self.parts) {
             None => Ok(Vec::new(alloc)),
             Some(i) => {
-                let strings = symbol_strings(&self.parts, alloc, i);
+                let names = Names::new(alloc, symbol_strings(&self.parts, alloc, i))?;
                 let size = self.parts.section(i).size;
                 list_of(
                     alloc,
                     size / SYM_SIZE,
-                    &|j| symbol(&self.parts, &strings, alloc, i, j),
+                    &|j| symbol(&self.parts, &names, i, j),
                 )
             }
         }

@@ -1,9 +1,10 @@
 //! String tables.
-ghost use Rattle.std.specs.Prelude.{◌≡◌, ◌+◌, ◌<◌, ◌≤◌, List, ℕ, length, IfSome};
+ghost use Rattle.std.specs.Prelude.{◌≡◌, ◌+◌, ◌<◌, ◌≤◌, List, ℕ, drop, take, length, IfOk, IfSome};
 ghost use Rattle.qed_model.specs.Elf.Rules.{name_length, name_at, is_unended};
 ghost use Rattle.elf_read.specs.Strings.{IsLastZero, IsNextZero, AreNextZeros};
 
-use std::alloc::Global;
+use elf_types::{Bytes, Shared};
+use std::alloc::{AllocError, Global};
 use std::marker::Model;
 
 /// How many bytes of a string table have one entry in the list of its zero bytes.
@@ -105,20 +106,19 @@ fn name_length(bytes: &[u8], zeros: &[usize], place: u32) -> Option<u64>
     Some((end - start) as u64)
 }
 
+// Where a name begins, and how many bytes it has. One that is empty begins at the first byte.
 #[tactic(auto, unfolding(qed_model::specs::Elf::Rules::name_at))]
-fn name_at<'a>(bytes: &'a [u8], zeros: &[usize], place: u32) -> &'a [u8]
+fn span(bytes: &[u8], zeros: &[usize], place: u32) -> (usize, usize)
     requires { AreNextZeros bytes.now zeros.now }
-    ensures { result.now ≡ name_at bytes.now place }
+    ensures within { result.0 + result.1 ≤ length bytes.now }
+    ensures name { take result.1 (drop result.0 bytes.now) ≡ name_at bytes.now place }
 {
     if place == 0 {
-        return &[];
+        return (0, 0);
     }
     match name_length(bytes, zeros, place) {
-        Some(length) => {
-            let start = place as usize;
-            &bytes[start..start + length as usize]
-        }
-        None => &[],
+        Some(length) => (place as usize, length as usize),
+        None => (0, 0),
     }
 }
 
@@ -147,6 +147,49 @@ impl<'a> Strings<'a> {
     pub fn name(&self, place: u32) -> &'a [u8]
         ensures { result.now ≡ name_at self.now place }
     {
-        name_at(self.bytes, &self.zeros, place)
+        let (from, count) = self.span(place);
+        &self.bytes[from..from + count]
+    }
+
+    // Where the name at a place begins, and how many bytes it has.
+    fn span(&self, place: u32) -> (usize, usize)
+        ensures within { result.0 + result.1 ≤ length self.now }
+        ensures name { take result.1 (drop result.0 self.now) ≡ name_at self.now place }
+    {
+        span(self.bytes, &self.zeros, place)
+    }
+}
+
+/// The names of a string table, which share a copy of its bytes.
+#[derive(Drop)]
+pub struct Names<'a> {
+    strings: Strings<'a>,
+    table: Shared,
+}
+
+impl<'a> Model for Names<'a> {
+    ghost Value = { List ℕ };
+
+    ghost view = { λ n. n.strings };
+
+    ghost invariant = { λ n. n.table ≡ n.strings };
+}
+
+impl<'a> Names<'a> {
+    /// The names of a string table.
+    pub fn new(alloc: Global, strings: Strings<'a>) -> Result<Names<'a>, AllocError>
+        ensures { IfOk result (λ names. names ≡ strings.entry) }
+    {
+        let table = Shared::copied(alloc, strings.bytes)?;
+        Ok(Names { strings, table })
+    }
+
+    /// The name at a place, as in `Strings::name`.
+    pub fn name(&self, place: u32) -> Result<Bytes, AllocError>
+        ensures { IfOk result (λ name. name ≡ name_at self.now place) }
+    {
+        let (from, count) = self.strings.span(place);
+        let name = self.table.part(from, count)?;
+        Ok(name)
     }
 }

@@ -1,4 +1,5 @@
 pub mod Abi
+pub mod Bytes
 pub mod Segment
 pub mod Section
 pub mod Symbol

@@ -12,7 +12,7 @@ mod output;
 mod overlap;
 mod records;
 
-pub use bytes::Bytes;
+pub use bytes::{Bytes, Shared};
 pub use error::{ElfError, Part};
 pub use file::{ElfFile, Rela, Relas, Section, Sections, Segment, Segments, Symbol, Symbols};
 pub use listed::Listed;

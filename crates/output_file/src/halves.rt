@@ -26,7 +26,7 @@ fn others(alloc: Global, segments: &[Segment], ranges: &[Range]) -> Result<Vec<S
     let mut out = Vec::new(alloc);
     for segment in segments {
         if !is_in_any(ranges, segment.address) {
-            out.push(copied(alloc, segment)?)?;
+            out.push(copied(segment)?)?;
         }
     }
     Ok(out)
@@ -53,7 +53,7 @@ fn duplicate(alloc: Global, segments: &[Segment], distance: u64) -> Result<Vec<S
 {
     let mut out = Vec::new(alloc);
     for segment in segments {
-        out.push(shifted(alloc, segment, distance)?)?;
+        out.push(shifted(segment, distance)?)?;
     }
     Ok(out)
 }

@@ -6,7 +6,7 @@ ghost use Rattle.output_file.specs.Segments.{whole};
 
 use elf_types::abi::{PF_X, PT_LOAD};
 use elf_types::{Bytes, Segment};
-use std::alloc::{AllocError, Global};
+use std::alloc::AllocError;
 
 /// The address so far behind another. Addresses go round at 2^64.
 pub fn moved(address: u64, distance: u64) -> u64
@@ -29,7 +29,7 @@ pub fn whole_segment(flags: u32, address: u64, bytes: Bytes) -> Segment
 }
 
 /// A copy of a segment that is not executed.
-pub fn copied(alloc: Global, segment: &Segment) -> Result<Segment, AllocError>
+pub fn copied(segment: &Segment) -> Result<Segment, AllocError>
     ensures { IfOk result (λ copy. copy ≡ copied_of 0 segment.now) }
 {
     Ok(Segment {
@@ -37,12 +37,12 @@ pub fn copied(alloc: Global, segment: &Segment) -> Result<Segment, AllocError>
         flags: segment.flags & !PF_X,
         address: segment.address,
         memory: segment.memory,
-        bytes: Bytes::copied(alloc, segment.bytes.as_slice())?,
+        bytes: segment.bytes.clone()?,
     })
 }
 
 /// A copy of a segment at a distance from its place.
-pub fn shifted(alloc: Global, segment: &Segment, distance: u64) -> Result<Segment, AllocError>
+pub fn shifted(segment: &Segment, distance: u64) -> Result<Segment, AllocError>
     ensures { IfOk result (λ copy. segment.now.address + distance < 2 ^ 64 → copy ≡ shifted_of distance segment.now) }
 {
     Ok(Segment {
@@ -50,6 +50,6 @@ pub fn shifted(alloc: Global, segment: &Segment, distance: u64) -> Result<Segmen
         flags: segment.flags,
         address: moved(segment.address, distance),
         memory: segment.memory,
-        bytes: Bytes::copied(alloc, segment.bytes.as_slice())?,
+        bytes: segment.bytes.clone()?,
     })
 }

@@ -5,8 +5,8 @@ ghost use Rattle.qed_model.specs.Weave.OutputParts.{is_kept as is_kept_of, is_lo
 ghost use Rattle.qed_model.specs.Weave.Placed.{entry_at as entry_at_of, EntriesAscend};
 ghost use Rattle.output_file.specs.Sizes.{symbols_room};
 
+use elf_types::Symbol;
 use elf_types::abi::{SHN_ABS, STT_FUNC};
-use elf_types::{Bytes, Symbol};
 use qed_model::EntryRow;
 use std::alloc::{AllocError, Global};
 
@@ -57,11 +57,11 @@ fn entry_at(entries: &[EntryRow], address: u64) -> Option<u64>
 }
 
 /// The symbol with a value and a size, and no section.
-fn valued(alloc: Global, symbol: &Symbol, value: u64, size: u64) -> Result<Symbol, AllocError>
+fn valued(symbol: &Symbol, value: u64, size: u64) -> Result<Symbol, AllocError>
     ensures { IfOk result (λ s. s ≡ valued_of symbol.now value size) }
 {
     Ok(Symbol {
-        name: Bytes::copied(alloc, symbol.name.as_slice())?,
+        name: symbol.name.clone()?,
         value,
         size,
         kind: symbol.kind,
@@ -72,7 +72,7 @@ fn valued(alloc: Global, symbol: &Symbol, value: u64, size: u64) -> Result<Symbo
 }
 
 /// The symbol at its new address, where it has one.
-fn out_symbol(alloc: Global, entries: &[EntryRow], symbol: &Symbol) -> Result<Symbol, AllocError>
+fn out_symbol(entries: &[EntryRow], symbol: &Symbol) -> Result<Symbol, AllocError>
     ensures { IfOk result (λ s. EntriesAscend entries.now → s ≡ out_symbol_of entries.now symbol.now) }
 {
     let entry = if symbol.may_name_code() {
@@ -81,14 +81,13 @@ fn out_symbol(alloc: Global, entries: &[EntryRow], symbol: &Symbol) -> Result<Sy
         None
     };
     match entry {
-        Some(address) => valued(alloc, symbol, address, 0),
-        None => valued(alloc, symbol, symbol.value, symbol.size),
+        Some(address) => valued(symbol, address, 0),
+        None => valued(symbol, symbol.value, symbol.size),
     }
 }
 
 /// Appends the local symbols, or the others.
 fn push_group(
-    alloc: Global,
     out: &mut Vec<Symbol>,
     local: bool,
     entries: &[EntryRow],
@@ -98,7 +97,7 @@ fn push_group(
 {
     for symbol in symbols {
         if is_in_group(local, symbol) {
-            out.push(out_symbol(alloc, entries, symbol)?)?;
+            out.push(out_symbol(entries, symbol)?)?;
         }
     }
     Ok(())
@@ -113,7 +112,7 @@ pub fn symbols(
     ensures { IfOk result (λ out. EntriesAscend entries.now → out.items ≡ out_symbols entries.now symbols.now) }
 {
     let mut out = Vec::new(alloc);
-    push_group(alloc, &mut out, true, entries, symbols)?;
-    push_group(alloc, &mut out, false, entries, symbols)?;
+    push_group(&mut out, true, entries, symbols)?;
+    push_group(&mut out, false, entries, symbols)?;
     Ok(out)
 }

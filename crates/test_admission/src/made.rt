@@ -18,7 +18,7 @@ use crate::spans::Span;
 use crate::stretches::Stretch;
 use crate::words::code_words;
 use code_ranges::CodeRange;
-use elf_types::{Bytes, ElfFile, Listed, Segment, Segments};
+use elf_types::{ElfFile, Listed, Segment, Segments};
 use qed_model::{CodeWords, Options, Range, Ranges, Test};
 use std::alloc::{AllocError, Global};
 
@@ -53,7 +53,7 @@ fn data_list(alloc: Global, spans: &[Span]) -> Result<Ranges, AllocError>
 }
 
 /// A copy of a segment.
-fn copied(alloc: Global, segment: &Segment) -> Result<Segment, AllocError>
+fn copied(segment: &Segment) -> Result<Segment, AllocError>
     ensures { IfOk result (λ copy. copy ≡ segment.now) }
 {
     Ok(Segment {
@@ -61,7 +61,7 @@ fn copied(alloc: Global, segment: &Segment) -> Result<Segment, AllocError>
         flags: segment.flags,
         address: segment.address,
         memory: segment.memory,
-        bytes: Bytes::copied(alloc, segment.bytes.as_slice())?,
+        bytes: segment.bytes.clone()?,
     })
 }
 
@@ -72,7 +72,7 @@ fn image(alloc: Global, segments: &[Segment]) -> Result<Segments, AllocError>
     let mut image = Vec::new(alloc);
     for segment in segments {
         if segment.is_in_image() {
-            image.push(copied(alloc, segment)?)?;
+            image.push(copied(segment)?)?;
         }
     }
     Ok(Listed::of(image))
