@@ -2,8 +2,6 @@
 use Rattle.std.proofs.Common.{◌≡◌, ⊎_elim, ℕ, ◌+◌, ◌<◌, ◌^◌, Bool, true, false, List, [], ◌∷◌, refl, sym, ap, ◌∙◌, subst}
 use Rattle.std.specs.Prelude.{All, ◌==◌, ◌&&◌, ◌||◌, ◌↔◌, IsTrue, nat_lt}
 use Rattle.std.specs.List.{list_any}
-use Rattle.std.specs.Ordering.{nat_cmp}
-use Rattle.std.specs.BTreeMap.{is_at}
 use Rattle.std.specs.BTreeSet.{BTreeSet}
 use Rattle.std.proofs.Math.Bool.{or_assoc}
 use Rattle.std.proofs.lemmas.Bool.{eqb-true, eq-eqb, lt-ltb, and_parts, and_from, or_cases, or_left, or_right}
@@ -20,7 +18,7 @@ use Rattle.qed_model.specs.Admission.Leaders.{has_target, is_end, is_indirect, B
 use Rattle.qed_model.specs.Admission.CodeWords.{is_code}
 use Rattle.qed_model.specs.Admission.Test.{AreCodeWords}
 use Rattle.qed_model.proofs.Among.{Among, contains_of, passing, any_passing}
-use Rattle.flow_recovery.specs.Sets.{holds, Adds}
+use Rattle.flow_recovery.specs.Sets.{holds, lists, Adds}
 use Rattle.flow_recovery.specs.Words.{leads_to, ends_before, begins_by, is_begun}
 use Rattle.flow_recovery.specs.Leaders.{IsCodeOf, AreLeaders}
 use Rattle.flow_recovery.proofs.CodeLaws.{word_code, code_word, standing_word, stands_word}
@@ -28,15 +26,15 @@ use Rattle.flow_recovery.proofs.CodeLaws.{word_code, code_word, standing_word, s
 -- ---- what was collected
 -- one step behind the other, from an empty set on
 pub collected :
-    (entry : ℕ) (words : List CodeWord) (symbols : List Symbol) (relas : List Rela) (s t u v w : BTreeSet ℕ)
-    → s.keys ≡ [] → Adds s t (λ a. entry == a) → Adds t u (λ a. list_any (λ c. begins_by c a) words) → Adds u v (is_named symbols) → Adds v w (is_relocated symbols relas)
-    → (a : ℕ) → holds w a ≡ is_begun entry words symbols relas a
+    (entry : ℕ) (words : List CodeWord) (symbols : List Symbol) (relas : List Rela) (s t u v w : List ℕ)
+    → s ≡ [] → Adds s t (λ a. entry == a) → Adds t u (λ a. list_any (λ c. begins_by c a) words) → Adds u v (is_named symbols) → Adds v w (is_relocated symbols relas)
+    → (a : ℕ) → lists w a ≡ is_begun entry words symbols relas a
 collected entry words symbols relas s t u v w empty first begun by_symbols by_relas a =
     let named = is_named symbols a in
     let relocated = is_relocated symbols relas a in
     let some = list_any (λ (c : CodeWord). begins_by c a) words in
-    let none : holds s a ≡ false = ap (λ keys. list_any (is_at (nat_cmp a)) keys) empty in
-    let one : holds t a ≡ (entry == a) = first.each a ∙ ap (λ b. b || (entry == a)) none in
+    let none : lists s a ≡ false = ap (λ xs. lists xs a) empty in
+    let one : lists t a ≡ (entry == a) = first.each a ∙ ap (λ b. b || (entry == a)) none in
     by_relas.each a
     ∙ ap (λ b. b || relocated) (by_symbols.each a ∙ ap (λ b. b || named) (begun.each a ∙ ap (λ b. b || some) one))
     ∙ or_assoc ((entry == a) || some) named relocated

@@ -1,5 +1,6 @@
 -- Sets of addresses.
-use Rattle.std.specs.Prelude.{◌≡◌, ℕ, ◌||◌, Bool}
+use Rattle.std.specs.Prelude.{◌≡◌, ℕ, ◌==◌, ◌||◌, Bool, List}
+use Rattle.std.specs.List.{list_any}
 use Rattle.std.specs.Ordering.{nat_cmp}
 use Rattle.std.specs.BTreeSet.{BTreeSet, contains}
 
@@ -7,6 +8,10 @@ use Rattle.std.specs.BTreeSet.{BTreeSet, contains}
 abbrev pub holds : BTreeSet ℕ → ℕ → Bool
 holds set a = contains nat_cmp set a
 
--- the new set has what the old one has, and what passes the test
-pub record Adds (old new : BTreeSet ℕ) (test : ℕ → Bool) : Type 0 where
-  pub each : (a : ℕ) → holds new a ≡ (holds old a || test a)
+-- whether the list has it
+abbrev pub lists : List ℕ → ℕ → Bool
+lists addresses a = list_any (λ b. b == a) addresses
+
+-- the new list has what the old one has, and what passes the test
+pub record Adds (old new : List ℕ) (test : ℕ → Bool) : Type 0 where
+  pub each : (a : ℕ) → lists new a ≡ (lists old a || test a)

@@ -8,24 +8,23 @@ ghost use Rattle.flow_recovery.specs.Sets.{Adds};
 use crate::sets::add;
 use elf_types::{Rela, Symbol};
 use std::alloc::AllocError;
-use std::collections::BTreeSet;
 
 /// Adds the value of a symbol of code.
-fn add_symbol(set: &mut BTreeSet<u64>, symbol: &Symbol) -> Result<(), AllocError>
-    ensures { OnOk result (Adds set.old set.new (λ a. is_code_symbol symbol.now && symbol.now.value == a)) }
+fn add_symbol(list: &mut Vec<u64>, symbol: &Symbol) -> Result<(), AllocError>
+    ensures { OnOk result (Adds list.old.items list.new.items (λ a. is_code_symbol symbol.now && symbol.now.value == a)) }
 {
     if symbol.is_code() {
-        add(set, symbol.value)?;
+        add(list, symbol.value)?;
     }
     Ok(())
 }
 
 /// Adds the values of the symbols of code.
-pub fn add_symbols(set: &mut BTreeSet<u64>, symbols: &[Symbol]) -> Result<(), AllocError>
-    ensures { OnOk result (Adds set.old set.new (is_named symbols.now)) }
+pub fn add_symbols(list: &mut Vec<u64>, symbols: &[Symbol]) -> Result<(), AllocError>
+    ensures { OnOk result (Adds list.old.items list.new.items (is_named symbols.now)) }
 {
     for symbol in symbols {
-        add_symbol(set, symbol)?;
+        add_symbol(list, symbol)?;
     }
     Ok(())
 }
@@ -50,32 +49,28 @@ fn relocated(symbols: &[Symbol], rela: &Rela) -> Option<u64>
 }
 
 /// Adds what a relocation of code comes to.
-fn add_relocation(
-    set: &mut BTreeSet<u64>,
-    symbols: &[Symbol],
-    rela: &Rela,
-) -> Result<(), AllocError>
-    ensures { OnOk result (Adds set.old set.new (λ a. is_code_relocation rela.now && is_at (relocated symbols.now rela.now) a)) }
+fn add_relocation(list: &mut Vec<u64>, symbols: &[Symbol], rela: &Rela) -> Result<(), AllocError>
+    ensures { OnOk result (Adds list.old.items list.new.items (λ a. is_code_relocation rela.now && is_at (relocated symbols.now rela.now) a)) }
 {
     if !is_code_relocation(rela) {
         return Ok(());
     }
     if let Some(address) = relocated(symbols, rela) {
-        add(set, address)?;
+        add(list, address)?;
     }
     Ok(())
 }
 
 /// Adds what the relocations of code come to.
 pub fn add_relocations(
-    set: &mut BTreeSet<u64>,
+    list: &mut Vec<u64>,
     symbols: &[Symbol],
     relas: &[Rela],
 ) -> Result<(), AllocError>
-    ensures { OnOk result (Adds set.old set.new (is_relocated symbols.now relas.now)) }
+    ensures { OnOk result (Adds list.old.items list.new.items (is_relocated symbols.now relas.now)) }
 {
     for rela in relas {
-        add_relocation(set, symbols, rela)?;
+        add_relocation(list, symbols, rela)?;
     }
     Ok(())
 }

@@ -11,7 +11,6 @@ use crate::classes::{has_target, is_end};
 use crate::sets::add;
 use qed_model::CodeWord;
 use std::alloc::AllocError;
-use std::collections::BTreeSet;
 
 /// The address of the word plus its immediate, modulo 2^64.
 fn target(word: &CodeWord) -> u64
@@ -21,47 +20,47 @@ fn target(word: &CodeWord) -> u64
 }
 
 /// Adds the target of a JAL or a branch.
-fn add_target(set: &mut BTreeSet<u64>, word: &CodeWord) -> Result<(), AllocError>
-    ensures { OnOk result (Adds set.old set.new (leads_to word.now)) }
+fn add_target(list: &mut Vec<u64>, word: &CodeWord) -> Result<(), AllocError>
+    ensures { OnOk result (Adds list.old.items list.new.items (leads_to word.now)) }
 {
     if has_target(word.ins.class()) {
-        add(set, target(word))?;
+        add(list, target(word))?;
     }
     Ok(())
 }
 
 /// Adds the address behind an end, where there is one.
-fn add_next(set: &mut BTreeSet<u64>, word: &CodeWord) -> Result<(), AllocError>
-    ensures { OnOk result (Adds set.old set.new (ends_before word.now)) }
+fn add_next(list: &mut Vec<u64>, word: &CodeWord) -> Result<(), AllocError>
+    ensures { OnOk result (Adds list.old.items list.new.items (ends_before word.now)) }
 {
     if !is_end(word.ins.class()) {
         return Ok(());
     }
     if let Some(next) = word.at.checked_add(4) {
-        add(set, next)?;
+        add(list, next)?;
     }
     Ok(())
 }
 
 /// Adds both.
-fn add_word(set: &mut BTreeSet<u64>, word: &CodeWord) -> Result<(), AllocError>
-    ensures adds { OnOk result (Adds set.old set.new (begins_by word.now)) }
+fn add_word(list: &mut Vec<u64>, word: &CodeWord) -> Result<(), AllocError>
+    ensures adds { OnOk result (Adds list.old.items list.new.items (begins_by word.now)) }
     ensures small { OnOk result (word.now.at < 2 ^ 64) }
 {
     // A number behind a reference is known to be below 2^64 only where it is read.
     let _at = word.at;
-    add_target(set, word)?;
-    add_next(set, word)?;
+    add_target(list, word)?;
+    add_next(list, word)?;
     Ok(())
 }
 
 /// Adds what the words say.
-pub fn add_words(set: &mut BTreeSet<u64>, words: &[CodeWord]) -> Result<(), AllocError>
-    ensures adds { OnOk result (Adds set.old set.new (λ a. list_any (λ c. begins_by c a) words.now)) }
+pub fn add_words(list: &mut Vec<u64>, words: &[CodeWord]) -> Result<(), AllocError>
+    ensures adds { OnOk result (Adds list.old.items list.new.items (λ a. list_any (λ c. begins_by c a) words.now)) }
     ensures small { OnOk result (All (λ c. c.at < 2 ^ 64) words.now) }
 {
     for word in words {
-        add_word(set, word)?;
+        add_word(list, word)?;
     }
     Ok(())
 }

@@ -69,6 +69,14 @@ impl Count {
         }
     }
 
+    /// The count of items whose bytes and marks are known, with the places of these from 0 on.
+    pub fn of(far: bool, bytes: u64, marks: Vec<EntryRow>) -> Count
+        ensures form { result.far ≡ far }
+        ensures counted { (items : List Item) → bytes ≡ capped (sum_of_sizes far items) → (sum_of_sizes far items < 2 ^ 64 - 1 → marks.items ≡ rows_from far 0 items) → HasCounted result items }
+    {
+        Count { far, bytes, marks }
+    }
+
     /// Counts more items. Where there is no memory the count is as before.
     pub fn add(&mut self, items: &Emit) -> Result<(), AllocError>
         ensures form { self.new.far ≡ self.old.far }

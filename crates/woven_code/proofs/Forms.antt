@@ -1,8 +1,8 @@
 -- The new code of a test in either form: it can be linked where it fits, and what is linked is the new code.
-use Rattle.std.proofs.Common.{◌≡◌, ℕ, ◌+◌, ◌^◌, ◌<◌, ◌≤◌, suc, Bool, true, false, List, [], ◌∷◌, ◌++◌, length, map, Some, refl, sym, ap, ◌∙◌, subst, arith}
-use Rattle.std.specs.Prelude.{◌&&◌, get_or, slice_index, is_some, AllPairs}
+use Rattle.std.proofs.Common.{◌≡◌, ⊎_elim, ℕ, ◌+◌, ◌^◌, ◌<◌, ◌≤◌, suc, Bool, true, false, List, [], ◌∷◌, ◌++◌, length, map, Some, refl, sym, ap, ◌∙◌, subst, arith}
+use Rattle.std.specs.Prelude.{◌&&◌, get_or, slice_index, is_some, nat_lt, AllPairs}
 use Rattle.std.specs.List.{list_all}
-use Rattle.std.proofs.lemmas.Bool.{lt-ltb, le-ltb}
+use Rattle.std.proofs.lemmas.Bool.{lt-ltb, le-ltb, cases_lt}
 use Rattle.std.proofs.lemmas.List.{append-nil}
 use Rattle.std.proofs.Math.ListN.{get_or-map, length-map}
 use Rattle.elf_types.specs.declared.file.ElfFile.{ElfFile}
@@ -14,6 +14,7 @@ use Rattle.qed_model.specs.declared.test.Test.{Test}
 use Rattle.qed_model.specs.Limits.{limit_of}
 use Rattle.qed_model.specs.Machine.Table.{decode_of}
 use Rattle.qed_model.specs.Weave.Placed.{sum_of_sizes, rows_from, placed, Decode, EntriesAscend}
+use Rattle.qed_model.specs.Admission.DataRanges.{range_of}
 use Rattle.qed_model.specs.Weave.Places.{image_of, half_of, code_place}
 use Rattle.qed_model.specs.Weave.Sequences.{Block, Falls, stub}
 use Rattle.qed_model.specs.Weave.Woven.{items_in, is_far_code, code_size, new_entries}
@@ -26,6 +27,7 @@ use Rattle.plc_rounds.specs.Spans.{spans_of}
 use Rattle.relinker.specs.declared.error.LinkError.{LinkError}
 use Rattle.relinker.specs.declared.error.LinkError.TheVariants as error
 use Rattle.woven_code.specs.declared.code.WovenCode.{WovenCode}
+use Rattle.relinker.specs.Counted.{capped}
 use Rattle.relinker.specs.Laid.{IsLinked, HasLinkCause}
 use Rattle.relinker.specs.Link.{is_encoded, most_bytes}
 use Rattle.relinker.proofs.Joining.{parts_join}
@@ -35,6 +37,7 @@ use Rattle.weave_core.proofs.TestKept.{are_rows}
 use Rattle.weave_core.proofs.Tests.{tests_have_words}
 use Rattle.woven_code.specs.Code.{items_of, place_of, IsWithinForm, LinksWithin, IsCut, IsCodeOf, HasCause}
 use Rattle.woven_code.proofs.CodeBytes.{few_bytes}
+use Rattle.woven_code.proofs.DataWords.{few_data}
 
 -- ---- words
 -- the instructions of words have words
@@ -140,26 +143,26 @@ module _ (input : List ℕ) (f : ElfFile) (o : Options) (t : Test) (blocks : Lis
       (omega (arith, c.0, code_bytes far e, exact), subst (λ b. most_bytes b < n) is_far c.1)
   cause_of far error.Memory e c is_far = tt
 
-  -- ---- the results of both forms
-  -- the near form was written
-  pub near_code :
-      (made : WovenCode) → made.far ≡ false → IsWithinForm false (items_of t o false blocks) → IsLinked false (place_of t) (items_of t o false blocks) made.linked → IsCodeOf f o blocks made
-  near_code made same h l = code_of false made same (near_taken h) h l
+  -- ---- both forms
+  -- there are few data ranges
+  pub few_ranges : length t.span ≤ 67_108_864
+  few_ranges =
+      let b = cut.blocked in
+      let few = few_data f o b.sound (read_loads input f (record { fit = b.bytes }) b.read) b.admitted in
+      omega (arith, few.ranges, length-map t.span range_of, ap length cut.told.span)
 
-  pub near_links : LinksWithin false (place_of t) (items_of t o false blocks)
-  near_links h = links false (near_taken h) h
+  -- the form is that of the counted bytes
+  pub form_is : (n : ℕ) → n ≡ capped (sum_of_sizes false (items_of t o false blocks) + 4) → is_far_code f o bs ≡ nat_lt 1048576 n
+  form_is n e =
+      ⊎_elim
+      (λ more. lt-ltb 1048576 _ (omega (arith, size false, e, more)) ∙ sym (lt-ltb 1048576 n more))
+      (λ less. le-ltb 1048576 _ (omega (arith, size false, e, less)) ∙ sym (le-ltb 1048576 n less))
+      (cases_lt 1048576 n)
 
-  -- it was too large
-  past_near : (n : ℕ) → HasLinkCause false (items_of t o false blocks) (error.TooLarge n) → is_far_code f o bs ≡ true
-  past_near n c = far_taken (λ h. omega (arith, c.0, c.1, h))
-
-  pub far_links : (n : ℕ) → HasLinkCause false (items_of t o false blocks) (error.TooLarge n) → LinksWithin true (place_of t) (items_of t o true blocks)
-  far_links n c h = links true (past_near n c) h
-
-  pub far_code :
-      (n : ℕ) (made : WovenCode) → HasLinkCause false (items_of t o false blocks) (error.TooLarge n) → made.far ≡ true → IsWithinForm true (items_of t o true blocks)
-      → IsLinked true (place_of t) (items_of t o true blocks) made.linked → IsCodeOf f o blocks made
-  far_code n made c same h l = code_of true made same (past_near n c) h l
-
-  pub far_cause : (n : ℕ) (x : LinkError) → HasLinkCause false (items_of t o false blocks) (error.TooLarge n) → HasLinkCause true (items_of t o true blocks) x → HasCause f o blocks x
-  far_cause n x c d = cause_of true x (past_near n c) d refl
+  -- why the form that is taken is not written
+  pub cause : (far : Bool) (x : LinkError) → is_far_code f o bs ≡ far → HasLinkCause far (items_of t o far blocks) x → HasCause f o blocks x
+  cause true x e c = cause_of true x e c refl
+  cause false (error.TooLarge n) e c = absurd (true_false (sym (far_taken (λ h. omega (arith, c.0, c.1, h))) ∙ e)) where
+    true_false : true ≡ false → ⊥
+    true_false h = cc
+  cause false error.Memory e c = tt

@@ -70,7 +70,7 @@ module _ (far : Bool) where
     by class.Fence = omega arith
     by c = omega arith
 
-  parts_size : (i : Ins) (ps : List Part) → size (part_items i ps) ≡ 4 * length ps
+  pub parts_size : (i : Ins) (ps : List Part) → size (part_items i ps) ≡ 4 * length ps
   parts_size i [] = omega arith
   parts_size i (p ∷ ps) = omega (arith, parts_size i ps)
 
@@ -89,7 +89,7 @@ module _ (far : Bool) where
   each_small part h (i ∷ is) at = omega (arith, size-append far (part i at) (each_part part is (at + 4)), h i at, each_small part h is (at + 4))
 
   -- ---- visits and the sweep
-  wraps_size : (rs : List (ℕ × ℕ)) (first : ℕ) → size (wraps rs first) ≡ 20 * length rs
+  pub wraps_size : (rs : List (ℕ × ℕ)) (first : ℕ) → size (wraps rs first) ≡ 20 * length rs
   wraps_size [] first = omega arith
   wraps_size (r ∷ []) first = omega arith
   wraps_size (r ∷ n ∷ rs) first = omega (arith, wraps_size (n ∷ rs) first)
@@ -98,7 +98,7 @@ module _ (far : Bool) where
   word_small [] = omega arith
   word_small (r ∷ rs) = omega (arith, wraps_size (r ∷ rs) r.0)
 
-  times_size : (n : ℕ) (is : List Item) → size (times n is) ≡ n * size is
+  pub times_size : (n : ℕ) (is : List Item) → size (times n is) ≡ n * size is
   times_size zero is = omega arith
   times_size (suc n) is = omega (arith, size-append far is (times n is), times_size n is, suc-mul n (size is))
 
@@ -110,7 +110,7 @@ module _ (far : Bool) where
       let m : n * size (visit_word rs) ≤ 1024 * 1_342_177_304 = mul-le-mul h one in
       omega (arith, m, times_size n (visit_word rs))
 
-  sweep_size : (rs : List (ℕ × ℕ)) → size (sweep rs) ≡ 44 * length rs
+  pub sweep_size : (rs : List (ℕ × ℕ)) → size (sweep rs) ≡ 44 * length rs
   sweep_size [] = omega arith
   sweep_size (r ∷ rs) = omega (arith, size-append far (sweep_range r) (sweep rs), sweep_size rs)
 

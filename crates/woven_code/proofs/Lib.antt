@@ -1,5 +1,7 @@
 mod BlockCount
 mod ItemBytes
+mod Sizing
+mod RowLaws
 pub mod DataWords
 mod CodeBytes
 mod Forms

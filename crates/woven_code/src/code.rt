@@ -1,16 +1,20 @@
 //! The new code, in the near form where that fits, else in the far form.
-ghost use Rattle.std.specs.Prelude.{◌≡◌, ◌+◌, ◌*◌, ◌^◌, ◌<◌, ◌≤◌, ℕ, [], List, All, IfOk, IfErr, true, false};
+ghost use Rattle.std.specs.Prelude.{◌≡◌, ◌+◌, ◌*◌, ◌^◌, ◌<◌, ◌≤◌, ℕ, [], List, All, IfOk, IfErr, length, map};
 ghost use Rattle.elf_types.specs.declared.file.ElfFile.{ElfFile};
 ghost use Rattle.block_list.specs.declared.block.CodeBlock.{CodeBlock};
+ghost use Rattle.block_list.specs.Listed.{block_of};
 ghost use Rattle.qed_model.specs.declared.limits.TheConstants.{CODE_ROOM};
-ghost use Rattle.relinker.specs.Counted.{HasCounted};
+ghost use Rattle.qed_model.specs.Weave.Woven.{is_far_code};
 ghost use Rattle.relinker.specs.Laid.{IsLaid, IsLinked, HasLinkCause};
 ghost use Rattle.test_weave.specs.Fits.{FitsBlock};
 ghost use Rattle.woven_code.specs.Code.{items_of, handed_on, place_of, IsWithinForm, LinksWithin, IsCut, IsCodeOf, HasCause};
 
+use crate::count::counted;
+use crate::size::code_size;
 use block_list::CodeBlock;
+use qed_model::limits::{MAX_CODE_BYTES, MAX_NEAR_CODE_BYTES};
 use qed_model::{Options, Test};
-use relinker::{Count, Layout, LinkError, Linked, lay};
+use relinker::{Layout, LinkError, Linked, lay};
 use std::alloc::{AllocError, Global};
 use test_weave::{Weaver, weave};
 
@@ -21,42 +25,26 @@ fn weaver(alloc: Global, test: &Test, options: &Options, far: bool) -> Result<We
     Weaver::new(alloc, &test.span, options, far)
 }
 
-/// Counts the items.
-fn counted(
-    alloc: Global,
-    weaver: &Weaver,
-    far: bool,
-    test: &Test,
-    blocks: &[CodeBlock],
-) -> Result<Count, AllocError>
-    requires half { test.now.distance < 2 ^ 63 }
-    requires fit { All FitsBlock blocks.now }
-    ensures form { IfOk result (λ count. count.far ≡ far) }
-    ensures counted { IfOk result (λ count. HasCounted count (handed_on weaver.now test.now blocks.now)) }
-{
-    let mut count = Count::new(alloc, far);
-    weave(alloc, weaver, test.distance, test.entry, blocks, &mut count)?;
-    Ok(count)
-}
-
 /// Takes the memory for the code, which is counted.
 fn laid_out(
     alloc: Global,
-    weaver: &Weaver,
-    far: bool,
     test: &Test,
+    options: &Options,
+    far: bool,
     blocks: &[CodeBlock],
 ) -> Result<Layout, LinkError>
     requires room { place_of test.now + CODE_ROOM ≤ 2 ^ 63 }
+    requires visits { options.now.round ≤ 1024 }
+    requires ranges { length test.now.span ≤ 67_108_864 }
     requires fit { All FitsBlock blocks.now }
-    requires links { LinksWithin far (place_of test.now) (handed_on weaver.now test.now blocks.now) }
+    requires links { LinksWithin far (place_of test.now) (items_of test.now options.now far blocks.now) }
     ensures form { IfOk result (λ layout. layout.far ≡ far) }
     ensures base { IfOk result (λ layout. layout.base ≡ place_of test.now) }
-    ensures laid { IfOk result (λ layout. IsLaid layout [] (handed_on weaver.now test.now blocks.now)) }
-    ensures fits { IfOk result (λ _. IsWithinForm far (handed_on weaver.now test.now blocks.now)) }
-    ensures cause { IfErr result (HasLinkCause far (handed_on weaver.now test.now blocks.now)) }
+    ensures laid { IfOk result (λ layout. IsLaid layout [] (items_of test.now options.now far blocks.now)) }
+    ensures fits { IfOk result (λ _. IsWithinForm far (items_of test.now options.now far blocks.now)) }
+    ensures cause { IfErr result (HasLinkCause far (items_of test.now options.now far blocks.now)) }
 {
-    let count = counted(alloc, weaver, far, test, blocks)?;
+    let count = counted(alloc, test, options, far, blocks)?;
     lay(alloc, count, test.base + 3 * test.distance)
 }
 
@@ -92,27 +80,6 @@ pub struct WovenCode {
     pub far: bool,
 }
 
-/// The code that a weaver makes.
-fn code_of(
-    alloc: Global,
-    weaver: &Weaver,
-    far: bool,
-    test: &Test,
-    blocks: &[CodeBlock],
-) -> Result<WovenCode, LinkError>
-    requires room { place_of test.now + CODE_ROOM ≤ 2 ^ 63 }
-    requires fit { All FitsBlock blocks.now }
-    requires links { LinksWithin far (place_of test.now) (handed_on weaver.now test.now blocks.now) }
-    ensures form { IfOk result (λ made. made.far ≡ far) }
-    ensures linked { IfOk result (λ made. IsLinked far (place_of test.now) (handed_on weaver.now test.now blocks.now) made.linked) }
-    ensures fits { IfOk result (λ _. IsWithinForm far (handed_on weaver.now test.now blocks.now)) }
-    ensures cause { IfErr result (HasLinkCause far (handed_on weaver.now test.now blocks.now)) }
-{
-    let layout = laid_out(alloc, weaver, far, test, blocks)?;
-    let linked = written(alloc, weaver, layout, test, blocks)?;
-    Ok(WovenCode { linked, far })
-}
-
 /// The code in one form.
 fn code_in(
     alloc: Global,
@@ -122,6 +89,8 @@ fn code_in(
     far: bool,
 ) -> Result<WovenCode, LinkError>
     requires room { place_of test.now + CODE_ROOM ≤ 2 ^ 63 }
+    requires visits { options.now.round ≤ 1024 }
+    requires ranges { length test.now.span ≤ 67_108_864 }
     requires fit { All FitsBlock blocks.now }
     requires links { LinksWithin far (place_of test.now) (items_of test.now options.now far blocks.now) }
     ensures form { IfOk result (λ made. made.far ≡ far) }
@@ -129,11 +98,43 @@ fn code_in(
     ensures fits { IfOk result (λ _. IsWithinForm far (items_of test.now options.now far blocks.now)) }
     ensures cause { IfErr result (HasLinkCause far (items_of test.now options.now far blocks.now)) }
 {
+    let layout = laid_out(alloc, test, options, far, blocks)?;
     let weaver = weaver(alloc, test, options, far)?;
-    code_of(alloc, &weaver, far, test, blocks)
+    let linked = written(alloc, &weaver, layout, test, blocks)?;
+    Ok(WovenCode { linked, far })
 }
 
-/// The new code of a test that was admitted, in the near form where that has at most 1,048,576 bytes, else in the far form.
+/// Whether the near form has more bytes than it may have.
+fn is_far(test: &Test, options: &Options, blocks: &[CodeBlock]) -> bool
+    requires { (input : List ℕ) × (f : ElfFile) × IsCut input f options.now test.now blocks.now }
+    ensures { (input : List ℕ) (f : ElfFile) → IsCut input f options.now test.now blocks.now → is_far_code f options.now (map block_of blocks.now) ≡ result }
+{
+    code_size(test, options, false, blocks) > MAX_NEAR_CODE_BYTES
+}
+
+/// Tests the limit of the far form, where that is taken.
+fn check_far(
+    test: &Test,
+    options: &Options,
+    blocks: &[CodeBlock],
+    far: bool,
+) -> Result<(), LinkError>
+    requires cut { (input : List ℕ) × (f : ElfFile) × IsCut input f options.now test.now blocks.now }
+    requires form { (input : List ℕ) (f : ElfFile) → IsCut input f options.now test.now blocks.now → is_far_code f options.now (map block_of blocks.now) ≡ far }
+    ensures { IfErr result (λ e. (input : List ℕ) (f : ElfFile) → IsCut input f options.now test.now blocks.now → HasCause f options.now blocks.now e) }
+{
+    if !far {
+        return Ok(());
+    }
+    let size = code_size(test, options, true, blocks);
+    if size > MAX_CODE_BYTES {
+        return Err(LinkError::TooLarge(size));
+    }
+    Ok(())
+}
+
+/// The new code of a test that was admitted, in the near form where that has at most 1,048,576 bytes, else in the far form. The
+/// bytes are counted before any item is made.
 ///
 /// Errors: `TooLarge` where the far form is taken and has more than 67,108,864 bytes: how many; want of memory.
 pub fn woven_code(
@@ -146,8 +147,7 @@ pub fn woven_code(
     ensures code { IfOk result (λ code. (input : List ℕ) (f : ElfFile) → IsCut input f options.now test.now blocks.now → IsCodeOf f options.now blocks.now code) }
     ensures cause { IfErr result (λ e. (input : List ℕ) (f : ElfFile) → IsCut input f options.now test.now blocks.now → HasCause f options.now blocks.now e) }
 {
-    match code_in(alloc, test, options, blocks, false) {
-        Err(LinkError::TooLarge(_)) => code_in(alloc, test, options, blocks, true),
-        near => near,
-    }
+    let far = is_far(test, options, blocks);
+    check_far(test, options, blocks, far)?;
+    code_in(alloc, test, options, blocks, far)
 }

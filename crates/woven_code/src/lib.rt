@@ -1,6 +1,8 @@
-//! The new code of an admitted test as words: its items are counted, and then their words are written, part by part.
+//! The new code of an admitted test as words: its bytes and marks are counted by its blocks, and then its words are written, part by part.
 #![tactic(auto)]
 
 mod code;
+mod count;
+mod size;
 
 pub use code::{WovenCode, woven_code};

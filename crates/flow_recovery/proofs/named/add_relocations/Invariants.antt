@@ -5,4 +5,4 @@ use Rattle.flow_recovery.proofs.named.add_relocations.Given as goal
 
 -- those so far were added
 abbrev pub invariant-loop-rela : goal.invariant-loop-rela
-invariant-loop-rela l = Adds l.initial.set l.set (is_relocated l.symbols (take l.rela-index l.relas))
+invariant-loop-rela l = Adds l.initial.list.items l.list.items (is_relocated l.symbols (take l.rela-index l.relas))

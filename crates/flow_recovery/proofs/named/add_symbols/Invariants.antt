@@ -5,4 +5,4 @@ use Rattle.flow_recovery.proofs.named.add_symbols.Given as goal
 
 -- those so far were added
 abbrev pub invariant-loop-symbol : goal.invariant-loop-symbol
-invariant-loop-symbol l = Adds l.initial.set l.set (is_named (take l.symbol-index l.symbols))
+invariant-loop-symbol l = Adds l.initial.list.items l.list.items (is_named (take l.symbol-index l.symbols))

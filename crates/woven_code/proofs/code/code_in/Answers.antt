@@ -1,16 +1,14 @@
-use Rattle.std.proofs.Common.{sym, subst, IfOk, IfErr}
-use Rattle.relinker.specs.Laid.{IsLinked, HasLinkCause}
-use Rattle.woven_code.specs.Code.{place_of, IsWithinForm, LinksWithin}
+use Rattle.std.proofs.Common.{[], sym, subst}
+use Rattle.relinker.specs.Laid.{IsLaid, IsLinked}
+use Rattle.woven_code.specs.Code.{items_of, place_of}
 use Rattle.woven_code.proofs.code.code_in.Goals as goal
 
-pub code_of-requires-clause-links : goal.code_of-requires-clause-links
-code_of-requires-clause-links c = subst (λ is. LinksWithin c.args.far (place_of c.args.test.now) is) (sym (c.in_ok-weaver.ensures c.args.blocks.now)) c.requires.links
+pub written-requires-clause-laid : goal.written-requires-clause-laid
+written-requires-clause-laid c = subst (λ is. IsLaid c.in_ok-layout.layout [] is) (sym (c.in_ok-weaver.ensures c.args.blocks.now)) c.in_ok-layout.ensures.laid
 
 pub returns-clause-linked : goal.returns-clause-linked
-returns-clause-linked c = subst (λ is. IfOk c.code_of.result (λ made. IsLinked c.args.far (place_of c.args.test.now) is made.linked)) (c.in_ok-weaver.ensures c.args.blocks.now) c.code_of.ensures.linked
-
-pub returns-clause-fits : goal.returns-clause-fits
-returns-clause-fits c = subst (λ is. IfOk c.code_of.result (λ _. IsWithinForm c.args.far is)) (c.in_ok-weaver.ensures c.args.blocks.now) c.code_of.ensures.fits
-
-pub returns-clause-cause : goal.returns-clause-cause
-returns-clause-cause c = subst (λ is. IfErr c.code_of.result (HasLinkCause c.args.far is)) (c.in_ok-weaver.ensures c.args.blocks.now) c.code_of.ensures.cause
+returns-clause-linked c =
+    let items = items_of c.args.test.now c.args.options.now c.args.far c.args.blocks.now in
+    subst (λ far. IsLinked far (place_of c.args.test.now) items c.in_ok-linked.linked) c.in_ok-layout.ensures.form
+    (subst (λ base. IsLinked c.in_ok-layout.layout.far base items c.in_ok-linked.linked) c.in_ok-layout.ensures.base
+    (subst (λ is. IsLinked c.in_ok-layout.layout.far c.in_ok-layout.layout.base is c.in_ok-linked.linked) (c.in_ok-weaver.ensures c.args.blocks.now) c.in_ok-linked.ensures))

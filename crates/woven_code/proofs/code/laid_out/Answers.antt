@@ -1,22 +1,22 @@
 use Rattle.relinker.proofs.Laying.{link_cause}
-use Rattle.woven_code.specs.Code.{handed_on, place_of}
+use Rattle.woven_code.specs.Code.{items_of, place_of}
 use Rattle.woven_code.proofs.Laid.{within_form, laid_items}
 use Rattle.woven_code.proofs.code.laid_out.Goals as goal
 
 pub lay-requires-clause-counted : goal.lay-requires-clause-counted
-lay-requires-clause-counted c = (handed_on c.args.weaver.now c.args.test.now c.args.blocks.now, c.in_ok-count.ensures.counted)
+lay-requires-clause-counted c = (items_of c.args.test.now c.args.options.now c.args.far c.args.blocks.now, c.in_ok-count.ensures.counted)
 
 pub returns-clause-laid : goal.returns-clause-laid
 returns-clause-laid c =
-    laid_items c.in_ok-count.count c.args.far (place_of c.args.test.now) (handed_on c.args.weaver.now c.args.test.now c.args.blocks.now) c.lay.result
+    laid_items c.in_ok-count.count c.args.far (place_of c.args.test.now) (items_of c.args.test.now c.args.options.now c.args.far c.args.blocks.now) c.lay.result
     c.in_ok-count.ensures.form c.in_ok-count.ensures.counted c.requires.links c.lay.ensures.limit c.lay.ensures.laid
 
 pub returns-clause-fits : goal.returns-clause-fits
 returns-clause-fits c =
-    within_form c.in_ok-count.count c.args.far (handed_on c.args.weaver.now c.args.test.now c.args.blocks.now) c.lay.result
+    within_form c.in_ok-count.count c.args.far (items_of c.args.test.now c.args.options.now c.args.far c.args.blocks.now) c.lay.result
     c.in_ok-count.ensures.form c.in_ok-count.ensures.counted c.lay.ensures.limit
 
 pub returns-clause-cause : goal.returns-clause-cause
 returns-clause-cause c =
-    link_cause c.in_ok-count.count c.args.far (handed_on c.args.weaver.now c.args.test.now c.args.blocks.now) c.lay.result
+    link_cause c.in_ok-count.count c.args.far (items_of c.args.test.now c.args.options.now c.args.far c.args.blocks.now) c.lay.result
     c.in_ok-count.ensures.form c.in_ok-count.ensures.counted c.lay.ensures.cause
