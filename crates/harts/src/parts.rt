@@ -15,7 +15,7 @@ pub fn all_specs(alloc: Global, files: &[ElfFile]) -> Result<Vec<SegmentSpec>, A
 {
     let mut specs = Vec::new(alloc);
     for file in files {
-        push_specs(alloc, &mut specs, file.segments.as_slice())?;
+        push_specs(&mut specs, file.segments.as_slice())?;
     }
     Ok(specs)
 }

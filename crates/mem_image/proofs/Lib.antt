@@ -6,3 +6,4 @@ pub mod PageLaws
 pub mod PlaceLaws
 pub mod PagingLaws
 pub mod ApartLaws
+pub mod FixedLaws

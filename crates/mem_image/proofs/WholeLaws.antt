@@ -1,6 +1,6 @@
 -- Accesses whose bytes all lie in one segment.
-use Rattle.std.proofs.Common.{◌≡◌, ℕ, zero, suc, ◌+◌, ◌-◌, ◌*◌, ◌^◌, ◌<◌, ◌≤◌, Bool, true, false, List, [], ◌∷◌, length, Some, None, refl, sym, ap, ◌∙◌, arith, add-one, set, length-set, get_or, Result, Ok, Err, IfErr}
-use Rattle.std.proofs.Math.Nat.{pow-suc, pow-le-pow_right}
+use Rattle.std.proofs.Common.{◌≡◌, ℕ, zero, suc, ◌+◌, ◌-◌, ◌*◌, ◌^◌, ◌%◌, ◌<◌, ◌≤◌, Bool, true, false, List, [], ◌∷◌, length, Some, None, refl, sym, ap, ◌∙◌, arith, add-zero, add-one, set, length-set, get_or, Result, Ok, Err, IfErr}
+use Rattle.std.proofs.Math.Nat.{pow-suc, pow-le-pow_right, mul_assoc, mul-le-mul_right}
 use Rattle.std.specs.Prelude.{slice_index, slice_get}
 use Rattle.std.proofs.lemmas.Bool.{leb-true, ltb-true, and_parts}
 use Rattle.std.proofs.lemmas.Bool.Decides.{nat_tests}
@@ -15,39 +15,56 @@ use Rattle.qed_model.specs.Machine.Cells.{cell_at, has}
 use Rattle.qed_model.proofs.CellsAmong.{has_from}
 use Rattle.mem_image.specs.Segments.{has_all, number_in, with_byte_at, with_bytes_at, IsWholeAt, IsLike}
 use Rattle.mem_image.specs.Access.{allowed_number}
+use Rattle.mem_image.specs.Fixed.{Stands}
+use Rattle.mem_image.proofs.NumberLaws.{byte_power}
 use Rattle.mem_image.specs.Overlap.{Ascends, AreSound}
 use Rattle.mem_image.proofs.SegmentLaws.{stands_at, IsWhole, get-memory_of, cell_among-first, memory_of-set, all_fit-set, none_past}
 use Rattle.mem_image.proofs.OverlapLaws.{ascends-apart}
 
 -- ---- a number from the bytes of a list
--- the highest t of w bytes from place i on were read, and make v
-pub record Gathered (bs : List ℕ) (i w t v : ℕ) : Type 0 where
-  pub is : v ≡ number_in bs (i + (w - t)) t
+-- the lowest t bytes from place i on were read, and make v
+pub record Gathered (bs : List ℕ) (i t v : ℕ) : Type 0 where
+  pub is : v ≡ number_in bs i t
   pub small : v < 256 ^ t
 
-pub gathered_none : (bs : List ℕ) (i w : ℕ) → Gathered bs i w 0 0
+pub gathered_none : (bs : List ℕ) (i : ℕ) → Gathered bs i 0 0
 unfolding number_in
-gathered_none bs i w = record { is = refl; small = omega arith }
+gathered_none bs i = record { is = refl; small = omega arith }
 
-number_in-more : (bs : List ℕ) (x y t v b : ℕ) → y ≡ x + 1 → v ≡ number_in bs y t → b ≡ slice_index bs x → 256 * v + b ≡ number_in bs x (suc t)
+number_in-behind : (bs : List ℕ) (i t : ℕ) → number_in bs i (suc t) ≡ number_in bs i t + slice_index bs (i + t) * 256 ^ t
 unfolding number_in
-number_in-more bs x y t v b e n h = rw (h, n, e) (omega arith)
+number_in-behind bs i zero = let here : i + 0 ≡ i = add-zero i in rw here (omega arith)
+number_in-behind bs i (suc t) =
+    let rest = number_in-behind bs (i + 1) t in
+    let place : i + 1 + t ≡ i + suc t = omega arith in
+    let power : slice_index bs (i + suc t) * 256 ^ suc t ≡ slice_index bs (i + suc t) * 256 ^ t * 256 = ap (λ p. slice_index bs (i + suc t) * p) (pow-suc 256 t) ∙ sym (mul_assoc (slice_index bs (i + suc t)) (256 ^ t) 256) in
+    rw (rest, place, power) (omega arith)
 
-pub gathered_more : (bs : List ℕ) (i w t v b : ℕ) → Gathered bs i w t v → t < w → b ≡ slice_index bs (i + (w - 1 - t)) → b < 256 → Gathered bs i w (t + 1) (256 * v + b)
-gathered_more bs i w t v b h l e k =
-    let place : w - 1 - t ≡ w - suc t = omega arith in
-    let above : i + (w - t) ≡ i + (w - suc t) + 1 = omega arith in
-    let here : b ≡ slice_index bs (i + (w - suc t)) = rw place at e in
+-- a byte at its place in a number of 64 bits
+shifted : (b t : ℕ) → b < 256 → t < 8 → (b * 256 ^ t ≤ 255 * 256 ^ t) × (b * 2 ^ (8 * t) % 2 ^ 64 ≡ b * 256 ^ t)
+shifted b t l k =
+    let most : b * 256 ^ t ≤ 255 * 256 ^ t = mul-le-mul_right (256 ^ t) (omega (arith, l)) in
+    let top : 256 ^ t ≤ 256 ^ 7 = pow-le-pow_right {n = 256} (omega arith) {i = t} {j = 7} (omega (arith, k)) in
+    let power = byte_power t in
+    (most, rw power (omega (arith, most, top)))
+
+pub gathered_more : (bs : List ℕ) (i t v b : ℕ) → Gathered bs i t v → t < 8 → b ≡ slice_index bs (i + t) → b < 256 → Gathered bs i (t + 1) (v + b * 2 ^ (8 * t) % 2 ^ 64)
+gathered_more bs i t v b h l e k =
+    let s = shifted b t k l in
+    let most = s.0 in
+    let low = h.small in
     let power : 256 ^ suc t ≡ 256 ^ t * 256 = pow-suc 256 t in
-    let s = h.small in
-    rw add-one (record {
-      is = number_in-more bs (i + (w - suc t)) (i + (w - t)) t v b above h.is here;
-      small = omega (arith, power, s);
-    })
+    let behind : v + b * 256 ^ t ≡ number_in bs i (suc t) = ap (λ n. n + b * 256 ^ t) h.is ∙ ap (λ x. number_in bs i t + x * 256 ^ t) e ∙ sym (number_in-behind bs i t) in
+    rw (s.1, add-one) (record { is = behind; small = omega (arith, most, low, power) })
 
 -- one byte more fits 64 bits
-pub gathered_fits : (bs : List ℕ) (i w t v : ℕ) → Gathered bs i w t v → t < w → w ≤ 8 → 256 * v + 255 < 2 ^ 64
-gathered_fits bs i w t v h l k = let top : 256 ^ t ≤ 256 ^ 7 = pow-le-pow_right {n = 256} (omega arith) {i = t} {j = 7} (omega arith) in let s = h.small in omega (arith, top, s)
+pub gathered_fits : (bs : List ℕ) (i t v b : ℕ) → Gathered bs i t v → t < 8 → b < 256 → v + b * 2 ^ (8 * t) % 2 ^ 64 < 2 ^ 64
+gathered_fits bs i t v b h l k =
+    let s = shifted b t k l in
+    let most = s.0 in
+    let low = h.small in
+    let top : 256 ^ t ≤ 256 ^ 7 = pow-le-pow_right {n = 256} (omega arith) {i = t} {j = 7} (omega (arith, l)) in
+    rw s.1 (omega (arith, most, low, top))
 
 -- ---- the addresses of a segment
 pub spans : (s : LoadSegment) (a n : ℕ) → has_all s a n ≡ true → (s.address ≤ a) × (a + n ≤ s.address + s.size)
@@ -130,23 +147,23 @@ ends (x ∷ xs) (suc k) s f e = ends xs k s f.1 e
 get_whole : (ss : List LoadSegment) (k : ℕ) (s : LoadSegment) (q : ℕ) → AreSound ss → slice_get ss k ≡ Some s → has s q ≡ true → get (memory_of ss) q ≡ Some (cell_at s q)
 get_whole ss k s q h e w = get-memory_of ss q h.fit ∙ cell_among-first ss q k s e w (before_apart ss k s q (ascends-apart 0 ss h.ascends) e w)
 
-number_whole : (ss : List LoadSegment) (k : ℕ) (s : LoadSegment) (a n : ℕ) → AreSound ss → slice_get ss k ≡ Some s → s.address ≤ a → a + n ≤ s.address + s.size → number (memory_of ss) a n ≡ number_in s.bytes (a - s.address) n
+stands_number : (m : Memory) (s : LoadSegment) (a n : ℕ) → Stands m s → s.address ≤ a → a + n ≤ s.address + s.size → number m a n ≡ number_in s.bytes (a - s.address) n
 unfolding number number_in
-number_whole ss k s a zero h e low room = refl
-number_whole ss k s a (suc n) h e low room =
-    let end = ends ss k s h.fit e in
+stands_number m s a zero h low room = refl
+stands_number m s a (suc n) h low room =
+    let end = h.ends in
     let same : wrap a ≡ a = omega arith in
     let w = has_span s a (suc n) a low room (omega arith) (omega arith) in
     let next : a + 1 - s.address ≡ a - s.address + 1 = omega arith in
-    rw (same, byte_of_cell (memory_of ss) a, get_whole ss k s a h e w, number_whole ss k s (a + 1) n h e (omega arith) (omega arith), next) refl
+    rw (same, byte_of_cell m a, h.cells a w, stands_number m s (a + 1) n h (omega arith) (omega arith), next) refl
+
+stands_granted : (need : Flags → Bool) (m : Memory) (s : LoadSegment) (a n : ℕ) → Stands m s → s.address ≤ a → a + n ≤ s.address + s.size → need s.flags ≡ true → grants need m a n ≡ true
+stands_granted need m s a n h low room t =
+    let end = h.ends in
+    grants_from need m a n (λ i l. let same : wrap (a + i) ≡ a + i = omega arith in rw same (ap (allows need) (h.cells (a + i) (has_span s a n (a + i) low room (omega arith) (omega arith))) ∙ t))
 
 allows_whole : (need : Flags → Bool) (ss : List LoadSegment) (k : ℕ) (s : LoadSegment) (q : ℕ) → AreSound ss → slice_get ss k ≡ Some s → has s q ≡ true → allows need (get (memory_of ss) q) ≡ need s.flags
 allows_whole need ss k s q h e w = ap (allows need) (get_whole ss k s q h e w)
-
-granted_whole : (need : Flags → Bool) (ss : List LoadSegment) (k : ℕ) (s : LoadSegment) (a n : ℕ) → AreSound ss → slice_get ss k ≡ Some s → s.address ≤ a → a + n ≤ s.address + s.size → need s.flags ≡ true → grants need (memory_of ss) a n ≡ true
-granted_whole need ss k s a n h e low room t =
-    let end = ends ss k s h.fit e in
-    grants_from need (memory_of ss) a n (λ i l. let same : wrap (a + i) ≡ a + i = omega arith in rw same (allows_whole need ss k s (a + i) h e (has_span s a n (a + i) low room (omega arith) (omega arith)) ∙ t))
 
 refused_whole : (need : Flags → Bool) (ss : List LoadSegment) (k : ℕ) (s : LoadSegment) (a n : ℕ) → AreSound ss → slice_get ss k ≡ Some s → s.address ≤ a → a + suc n ≤ s.address + s.size → need s.flags ≡ false → grants need (memory_of ss) a (suc n) ≡ false
 unfolding grants
@@ -168,15 +185,26 @@ here_whole ss l a n k s e h below read =
 pub here_at : (ss : List LoadSegment) (a n k : ℕ) (d : LoadSegment) → IsWholeAt ss a n k → k < length ss → (slice_get ss k ≡ Some (get_or ss k d)) × (has_all (get_or ss k d) a n ≡ true)
 here_at ss a n k d whole below = here_whole ss ss a n k (get_or ss k d) refl whole below (get_or_default ss k d (get_or ss k d) below)
 
+-- a segment of those that make a memory stands in it
+pub among_stands : (ss : List LoadSegment) (k : ℕ) (s : LoadSegment) → AreSound ss → slice_get ss k ≡ Some s → Stands (memory_of ss) s
+among_stands ss k s h e = record { cells = λ q w. get_whole ss k s q h e w; ends = ends ss k s h.fit e }
+
+-- an access within a segment that stands in a memory
+pub held_granted : (need : Flags → Bool) (m : Memory) (s : LoadSegment) (a n : ℕ) → Stands m s → has_all s a n ≡ true → need s.flags ≡ true → grants need m a n ≡ true
+held_granted need m s a n h w t = let room = spans s a n w in stands_granted need m s a n h room.0 room.1 t
+
+pub held_number : (m : Memory) (s : LoadSegment) (a n : ℕ) → Stands m s → has_all s a n ≡ true → number_in s.bytes (a - s.address) n ≡ number m a n
+held_number m s a n h w = let room = spans s a n w in sym (stands_number m s a n h room.0 room.1)
+
 pub whole_granted : (need : Flags → Bool) (ss : List LoadSegment) (k : ℕ) (s : LoadSegment) (a n : ℕ) → AreSound ss → slice_get ss k ≡ Some s → has_all s a n ≡ true → need s.flags ≡ true → grants need (memory_of ss) a n ≡ true
-whole_granted need ss k s a n h e w t = let room = spans s a n w in granted_whole need ss k s a n h e room.0 room.1 t
+whole_granted need ss k s a n h e w t = held_granted need (memory_of ss) s a n (among_stands ss k s h e) w t
 
 pub whole_refused : (need : Flags → Bool) (ss : List LoadSegment) (k : ℕ) (s : LoadSegment) (a n : ℕ) → AreSound ss → slice_get ss k ≡ Some s → has_all s a n ≡ true → 0 < n → need s.flags ≡ false → grants need (memory_of ss) a n ≡ false
 whole_refused need ss k s a zero h e w l t = absurd (omega arith)
 whole_refused need ss k s a (suc n) h e w l t = let room = spans s a (suc n) w in refused_whole need ss k s a n h e room.0 room.1 t
 
 pub whole_number : (ss : List LoadSegment) (k : ℕ) (s : LoadSegment) (a n : ℕ) → AreSound ss → slice_get ss k ≡ Some s → has_all s a n ≡ true → number_in s.bytes (a - s.address) n ≡ number (memory_of ss) a n
-whole_number ss k s a n h e w = let room = spans s a n w in sym (number_whole ss k s a n h e room.0 room.1)
+whole_number ss k s a n h e w = held_number (memory_of ss) s a n (among_stands ss k s h e) w
 
 -- ---- several bytes of the segment are written
 pub set_none : (ss : List LoadSegment) (k : ℕ) (s : LoadSegment) → slice_get ss k ≡ Some s → set ss k s ≡ ss

@@ -1,26 +1,29 @@
 //! The memory of a machine.
-ghost use Rattle.std.specs.Prelude.{◌≡◌, ℕ, ◌<◌, ◌≤◌, ◌^◌, cond, length, IfOk, IfErr, IfNone, IfSome, Some, None};
+ghost use Rattle.std.specs.Prelude.{◌≡◌, ℕ, ◌<◌, ◌≤◌, ◌^◌, true, false, cond, length, IfOk, IfErr, IfNone, IfSome, Some, None};
 ghost use Rattle.std.specs.Option.{option_map};
 ghost use Rattle.std.specs.FinMap.{get};
 ghost use Rattle.qed_model.specs.Machine.Memory.{grants, poked, put};
 ghost use Rattle.qed_model.specs.Machine.Program.{memory_of};
+ghost use Rattle.qed_model.specs.Machine.Cells.{has};
 ghost use Rattle.mem_image.specs.Overlap.{segments_of, Explains};
 ghost use Rattle.qed_model.specs.Machine.Apart.{AllFitMemory, AreApart};
 ghost use Rattle.mem_image.specs.Access.{needs, allowed_byte, allowed_number, IsWidth};
+ghost use Rattle.mem_image.specs.Fixed.{has_code, IsFixed};
 ghost use Rattle.mem_image.specs.Segments.{Holds};
 
 use crate::apart::put_from;
+use crate::code::{Code, code_of};
 use crate::held::{Access, Held};
 use crate::overlap::why_not;
 use crate::paging::pages_of;
 use crate::places::{near_at, place, whole_at};
 use crate::spec::{ImageError, SegmentSpec};
-use crate::within::put_within;
+use crate::within::{number_within, put_within};
 use std::alloc::{AllocError, Global};
 use std::marker::Model;
 
-/// How many pages an image remembers, by their addresses.
-const NEAR: u64 = 64;
+/// 2^64 divided by the golden ratio, by which neighbours, and pages at the same offset of several files, are spread.
+const SPREAD: u64 = 0x9e37_79b9_7f4a_7c15;
 
 /// The memory of a machine. Addresses are in bytes, and are taken modulo 2^64, byte by byte; numbers are little endian.
 ///
@@ -46,12 +49,12 @@ impl Model for Image {
     ghost invariant = { λ i. AreSound i.pages.items };
 }
 
-/// The number of the place where an address is remembered. Pages at the same offset of different files have different ones.
+/// The number of the place where the page of an address is remembered (Knuth, The Art of Computer Programming, 6.4).
 #[inline(always)]
 fn slot(address: u64) -> usize
     ensures { result < 64 }
 {
-    ((address >> 12 ^ address >> 18 ^ address >> 24) % NEAR) as usize
+    ((address >> 12).wrapping_mul(SPREAD) >> 58) as usize
 }
 
 impl Image {
@@ -130,16 +133,18 @@ impl Image {
         Some(word as u32)
     }
 
-    /// Remembers the page of an address, so that the next access near it is quick.
-    #[inline(always)]
-    pub fn attend(&mut self, address: u64)
-        ensures { self.new ≡ self.old }
+    /// The bytes of the page of an address, where they may be executed and not written, so that a `write` leaves them as they
+    /// are; or None where the address has no such byte.
+    pub fn code(&self, address: u64) -> Result<Option<Code>, AllocError>
+        ensures fixed { IfOk result (λ found. IfSome found (IsFixed self.now)) }
+        ensures some { IfOk result (λ found. IfSome found (λ code. has code address ≡ true)) }
+        ensures none { IfOk result (λ found. IfNone found (has_code self.now address ≡ false)) }
     {
-        let near = self.near[slot(address)];
-        if near < self.pages.len() && self.pages[near].has(address) {
-            return;
-        }
-        self.seek(address);
+        let Some(at) = place(&self.pages, self.near[slot(address)], address) else {
+            return Ok(None);
+        };
+        let found = code_of(&self.pages, at)?;
+        Ok(found)
     }
 
     /// Finds the page of an address, and remembers it.
@@ -213,11 +218,7 @@ impl Image {
         let Some(at) = whole_at(&self.pages, self.near[slot(address)], address, width) else {
             return self.number_apart(access, address, width);
         };
-        let page = &self.pages[at];
-        if !page.allows(access) {
-            return None;
-        }
-        Some(page.number(address, width))
+        number_within(&self.pages, at, access, address, width)
     }
 
     /// The same, where the page is remembered.
@@ -232,11 +233,7 @@ impl Image {
         let Some(at) = near_at(&self.pages, self.near[slot(address)], address, width) else {
             return self.number_far(access, address, width);
         };
-        let page = &self.pages[at];
-        if !page.allows(access) {
-            return None;
-        }
-        Some(page.number(address, width))
+        number_within(&self.pages, at, access, address, width)
     }
 
     /// The same, where the page has to be found.

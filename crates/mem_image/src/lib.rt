@@ -3,6 +3,7 @@
 #![tactic(auto)]
 
 mod apart;
+mod code;
 mod held;
 mod image;
 mod overlap;
@@ -12,6 +13,7 @@ mod places;
 mod spec;
 mod within;
 
+pub use code::Code;
 pub use image::Image;
 pub use spec::{ImageError, SegmentSpec};
 

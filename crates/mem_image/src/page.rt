@@ -56,7 +56,7 @@ impl Page {
         }
     }
 
-    /// The same, of any width.
+    /// The same, of any width, from the lowest byte on, which LLVM makes one load of.
     #[inline(always)]
     fn gather(&self, at: usize, width: u64) -> u64
         requires within { at + width ≤ 4096 }
@@ -64,11 +64,10 @@ impl Page {
         ensures number { result ≡ number_in self.now.bytes at width }
         ensures small { result < 256 ^ width }
     {
-        let count = width as usize;
         let mut value = 0;
-        for taken in 0..count {
-            let byte = self.bytes[at + (count - 1 - taken)];
-            value = 256 * value + u64::from(byte);
+        for taken in 0..width {
+            let byte = self.bytes[at + taken as usize];
+            value += u64::from(byte) << (8 * taken);
         }
         value
     }

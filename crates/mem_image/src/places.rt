@@ -75,8 +75,8 @@ pub fn whole_at(pages: &[Held], near: usize, address: u64, width: u64) -> Option
     ensures some { IfSome result (λ k. IsWholeAt pages.now address width k) }
     ensures below { IfSome result (λ k. k < length pages.now) }
 {
-    if near < pages.len() && pages[near].has_all(address, width) {
-        return Some(near);
+    if let Some(at) = near_at(pages, near, address, width) {
+        return Some(at);
     }
     whole_far(pages, address, width)
 }

@@ -1,12 +1,37 @@
-//! Bytes that are set within one page.
-ghost use Rattle.std.specs.Prelude.{◌≡◌, ◌<◌, ◌≤◌, cond, length, IfOk, IfErr};
+//! Bytes that are read or set within one page.
+ghost use Rattle.std.specs.Prelude.{◌≡◌, ◌<◌, ◌≤◌, ◌^◌, cond, length, IfOk, IfErr, IfSome};
 ghost use Rattle.qed_model.specs.Machine.Memory.{grants, put};
 ghost use Rattle.qed_model.specs.Machine.Program.{memory_of};
+ghost use Rattle.mem_image.specs.Access.{needs, allowed_number};
 ghost use Rattle.mem_image.specs.Overlap.{AreSound};
 ghost use Rattle.mem_image.specs.Segments.{IsWholeAt};
 
 use crate::held::{Access, Held};
 use std::alloc::AllocError;
+
+/// The number of 1 to 8 bytes, which the page of this number has, or None where they have not the permission.
+#[inline(always)]
+pub fn number_within(
+    pages: &[Held],
+    at: usize,
+    access: Access,
+    address: u64,
+    width: u64,
+) -> Option<u64>
+    requires sound { AreSound pages.now }
+    requires whole { IsWholeAt pages.now address width at }
+    requires below { at < length pages.now }
+    requires some { 0 < width }
+    requires small { width ≤ 8 }
+    ensures number { result ≡ allowed_number (needs access) (memory_of pages.now) address width }
+    ensures small { IfSome result (λ n. n < 256 ^ width) }
+{
+    let page = &pages[at];
+    if !page.allows(access) {
+        return None;
+    }
+    Some(page.number(address, width))
+}
 
 /// Sets the low bytes of a value at at most 8 addresses, which the page of this number has. Where it may not be written, nothing
 /// changes, and the answer is false.

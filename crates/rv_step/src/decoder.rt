@@ -1,5 +1,5 @@
 //! Instructions that were decoded, kept by their words.
-ghost use Rattle.std.specs.Prelude.{◌≡◌, ◌≤◌, length, IfOk, IfSome, Some};
+ghost use Rattle.std.specs.Prelude.{◌≡◌, ◌<◌, ◌==◌, true, false, length, slice_index, IfOk, Some, None};
 ghost use Rattle.qed_model.specs.Machine.Table.{decode_of};
 
 use rv_decode::decode;
@@ -31,34 +31,63 @@ impl Model for Known {
 }
 
 impl Known {
-    /// The instruction, where it is that of the word.
+    /// Whether it is the instruction of this word.
     #[inline(always)]
-    fn of(&self, word: u32) -> Option<Ins>
-        ensures { IfSome result (λ ins. decode_of word ≡ Some ins) }
+    fn is_of(&self, word: u32) -> bool
+        ensures { result ≡ (self.now == word) }
     {
-        if self.word != word {
-            return None;
-        }
-        Some(self.ins)
+        self.word == word
+    }
+
+    /// The instruction of its word.
+    #[inline(always)]
+    fn ins(&self) -> Ins
+        ensures { decode_of self.now ≡ Some result }
+    {
+        self.ins
     }
 }
 
-/// Decodes words, and keeps what it decoded by some bits of their addresses.
+/// Decodes words, and keeps what it decoded by some bits of their addresses. Contracts see the words that it has kept.
 #[derive(Debug, Drop)]
 pub struct Decoder {
     known: Vec<Known>,
 }
 
+impl Model for Decoder {
+    ghost use Rattle.std.specs.Prelude.{◌≡◌, ℕ, List, length};
+
+    ghost Value = { List ℕ };
+
+    ghost view = { λ d. d.known.items };
+
+    ghost invariant = { λ d. length d.known.items ≡ 1024 };
+}
+
+/// Keeps the instruction of a word, where it has one.
+#[inline(never)]
+fn keep(known: &mut [Known], at: usize, word: u32) -> bool
+    requires { at < length known.old }
+    ensures kept { result ≡ true → slice_index known.new at ≡ word }
+    ensures none { result ≡ false → decode_of word ≡ None }
+    ensures count { length known.new ≡ length known.old }
+{
+    let Some(ins) = decode(word) else {
+        return false;
+    };
+    known[at] = Known { word, ins };
+    true
+}
+
 impl Decoder {
-    /// One that has kept no more than the instruction of the zero word, in each of its places.
+    /// One that has kept no more than the instruction of the zero word, in each of its 1,024 places.
     pub fn new(alloc: Global) -> Result<Decoder, AllocError>
-        ensures { IfOk result (λ decoder. length decoder.known.items ≤ 1024) }
+        ensures { IfOk result (λ decoder. length decoder ≡ 1024) }
     {
         let mut known = Vec::with_capacity(alloc, KEPT as usize)?;
         for _ in 0..KEPT {
-            if let Some(ins) = decode(0) {
-                known.push(Known { word: 0, ins })?;
-            }
+            let Some(ins) = decode(0) else { unreachable!() };
+            known.push(Known { word: 0, ins })?;
         }
         Ok(Decoder { known })
     }
@@ -69,30 +98,9 @@ impl Decoder {
         ensures { result ≡ decode_of word }
     {
         let at = ((address >> 2) % KEPT) as usize;
-        if at < self.known.len() {
-            if let Some(ins) = self.known[at].of(word) {
-                return Some(ins);
-            }
+        if !self.known[at].is_of(word) && !keep(&mut self.known, at, word) {
+            return None;
         }
-        self.decode_anew(at, word)
-    }
-
-    /// The same, where it was not kept.
-    #[inline(never)]
-    fn decode_anew(&mut self, at: usize, word: u32) -> Option<Ins>
-        ensures { result ≡ decode_of word }
-    {
-        let ins = decode(word)?;
-        self.keep(at, word, &ins);
-        Some(ins)
-    }
-
-    /// Keeps the instruction of a word, where there is such a place.
-    fn keep(&mut self, at: usize, word: u32, ins: &Ins)
-        requires { decode_of word ≡ Some ins.now }
-    {
-        if at < self.known.len() {
-            self.known[at] = Known { word, ins: *ins };
-        }
+        Some(self.known[at].ins())
     }
 }

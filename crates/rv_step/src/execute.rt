@@ -30,7 +30,7 @@ impl Hart {
 
     /// The word at the pc, where it may be executed, else None.
     #[inline(always)]
-    fn next_word(&mut self, image: &mut Image) -> Option<u32>
+    pub(crate) fn next_word(&mut self, image: &mut Image) -> Option<u32>
         ensures word { result ≡ word_at (with_memory self.new image.new).state self.new.pc }
         ensures same { self.new ≡ self.old }
         ensures memory { image.new ≡ image.old }
@@ -50,14 +50,15 @@ impl Hart {
         decode(word)
     }
 
-    /// The step of a hart that goes on, which is not counted here.
+    /// The step of a hart that goes on, with the word at the pc; it is not counted here.
     #[inline(always)]
-    pub(crate) fn advance(&mut self, image: &mut Image) -> Result<(), AllocError>
+    pub(crate) fn advance(&mut self, word: Option<u32>, image: &mut Image) -> Result<(), AllocError>
+        requires { word ≡ word_at (with_memory self.old image.old).state self.old.pc }
         ensures advanced { IfOk result (λ _. LeadsIn (λ s. act (next s) s) self.old image.old self.new image.new) }
         ensures kept { IfErr result (λ _. self.new ≡ self.old) }
         ensures memory { IfErr result (λ _. image.new ≡ image.old) }
     {
-        let Some(word) = self.next_word(image) else {
+        let Some(word) = word else {
             self.trap(Cause::Fetch);
             return Ok(());
         };

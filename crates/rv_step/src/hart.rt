@@ -1,12 +1,13 @@
 //! A hart, whose memory is another's.
-ghost use Rattle.std.specs.Prelude.{◌≡◌, IfOk, IfErr, slice_index};
+ghost use Rattle.std.specs.Prelude.{◌≡◌, true, IfOk, IfErr, slice_index};
 ghost use Rattle.qed_model.specs.Machine.Memory.{Memory};
 ghost use Rattle.qed_model.specs.Machine.Loading.{loaded_file};
 ghost use Rattle.qed_model.specs.Machine.Program.{start};
 ghost use Rattle.qed_model.specs.Machine.Progress.{advanced, begun};
 ghost use Rattle.qed_model.specs.declared.change.Place.TheVariants.{Reg as InReg};
 ghost use Rattle.rv_step.specs.Harts.{hart_of, with_memory};
-ghost use Rattle.rv_step.specs.Known.{goes_on, struck_progress};
+ghost use Rattle.rv_step.specs.Known.{goes_on, struck_progress, word_at};
+ghost use Rattle.rv_step.specs.Reached.{AreWords};
 
 use crate::decoder::Decoder;
 use crate::range::Ranges;
@@ -71,9 +72,24 @@ impl Hart {
         if !self.goes_on() {
             return Ok(self.outcome);
         }
-        self.advance(image)?;
-        self.steps = self.steps.saturating_add(1);
+        let word = self.next_word(image);
+        self.take(word, image)?;
         Ok(self.outcome)
+    }
+
+    /// The step of a hart that goes on, with the word at the pc.
+    #[tactic(auto, unfolding(qed_model::specs::Machine::Step::step, qed_model::specs::Machine::Progress::advanced))]
+    #[inline(always)]
+    pub(crate) fn take(&mut self, word: Option<u32>, image: &mut Image) -> Result<(), AllocError>
+        requires goes { goes_on self.old.outcome ≡ true }
+        requires word { word ≡ word_at (with_memory self.old image.old).state self.old.pc }
+        ensures step { IfOk result (λ _. with_memory self.new image.new ≡ advanced (with_memory self.old image.old)) }
+        ensures kept { IfErr result (λ _. self.new ≡ self.old) }
+        ensures memory { IfErr result (λ _. image.new ≡ image.old) }
+    {
+        self.advance(word, image)?;
+        self.steps = self.steps.saturating_add(1);
+        Ok(())
     }
 
     /// Whether the hart has not stopped.
@@ -81,6 +97,13 @@ impl Hart {
         ensures { result ≡ goes_on self.now.outcome }
     {
         matches!(self.outcome, Outcome::Going)
+    }
+
+    /// The first and the last address of code words that are remembered. There are none where the last is the lesser.
+    pub(crate) fn near(&self) -> (u64, u64)
+        ensures { AreWords self.now.ranges result.0 result.1 }
+    {
+        self.ranges.near()
     }
 
     /// The number that a register holds.

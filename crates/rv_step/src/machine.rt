@@ -1,5 +1,5 @@
 //! The machine, from outside.
-ghost use Rattle.std.specs.Prelude.{◌≡◌, ◌+◌, ◌%◌, ◌^◌, ◌<◌, cond, length, map, slice_set, slice_index, IfOk, IfErr, Some, None};
+ghost use Rattle.std.specs.Prelude.{◌≡◌, ◌+◌, ◌%◌, ◌^◌, true, IfOk, IfErr};
 ghost use Rattle.std.specs.Option.{option_map};
 ghost use Rattle.std.specs.FinMap.{get};
 ghost use Rattle.qed_model.specs.Machine.Program.{start};
@@ -9,9 +9,11 @@ ghost use Rattle.qed_model.specs.Machine.Progress.{advanced, begun, progress};
 ghost use Rattle.qed_model.specs.Machine.Struck.{struck};
 ghost use Rattle.qed_model.specs.Machine.Apart.{AllFitMemory, AreApart};
 ghost use Rattle.rv_step.specs.Harts.{with_memory};
-ghost use Rattle.rv_step.specs.Known.{goes_on, known_at, struck_progress, IsPart};
+ghost use Rattle.rv_step.specs.Known.{goes_on, known_at, struck_progress, word_at, IsPart};
+ghost use Rattle.rv_step.specs.Windows.{InWindow};
 
 use crate::hart::Hart;
+use crate::window::Window;
 use elf_types::ElfFile;
 use mem_image::Image;
 use qed_model::{Outcome, Place};
@@ -68,13 +70,67 @@ impl Machine {
         // Where there is no memory for a page, the steps before were made.
         ensures part { IfErr result (λ _. IsPart self.old n self.new) }
     {
+        let mut window = None;
         for _ in 0..n {
             if !self.goes_on() {
                 return Ok(self.hart.outcome());
             }
-            self.step()?;
+            self.step_in(&mut window)?;
         }
         Ok(self.hart.outcome())
+    }
+
+    /// The step of a machine that goes on, with the word of a window on its code, or of a new one.
+    #[inline(always)]
+    fn step_in(&mut self, window: &mut Option<Window>) -> Result<(), AllocError>
+        requires goes { goes_on self.old.state.outcome ≡ true }
+        requires window { InWindow self.old.state window.old }
+        ensures step { IfOk result (λ _. self.new ≡ advanced self.old) }
+        ensures window { IfOk result (λ _. InWindow self.new.state window.new) }
+        ensures kept { IfErr result (λ _. self.new ≡ self.old) }
+    {
+        let word = self.word(window);
+        self.hart.take(word, &mut self.image)?;
+        Ok(())
+    }
+
+    /// The word at the pc, where it may be executed, else None.
+    #[inline(always)]
+    fn word(&mut self, window: &mut Option<Window>) -> Option<u32>
+        requires { InWindow self.old.state window.old }
+        ensures word { result ≡ word_at self.old.state self.old.state.pc }
+        ensures same { self.new ≡ self.old }
+        ensures window { InWindow self.new.state window.new }
+    {
+        if let Some(known) = window {
+            if let Some(word) = known.word(self.hart.pc()) {
+                return Some(word);
+            }
+        }
+        self.look(window)
+    }
+
+    /// The same, with a new window.
+    #[inline(never)]
+    fn look(&mut self, window: &mut Option<Window>) -> Option<u32>
+        ensures word { result ≡ word_at self.old.state self.old.state.pc }
+        ensures same { self.new ≡ self.old }
+        ensures window { InWindow self.new.state window.new }
+    {
+        let word = self.hart.next_word(&mut self.image);
+        *window = self.window();
+        word
+    }
+
+    /// A window on the code at the pc, where it stands on a page that may not be written and there is memory for it.
+    fn window(&self) -> Option<Window>
+        ensures { InWindow self.now.state result }
+    {
+        let Ok(Some(code)) = self.image.code(self.hart.pc()) else {
+            return None;
+        };
+        let (first, last) = self.hart.near();
+        Window::of(code, first, last)
     }
 
     /// The hart of the machine.

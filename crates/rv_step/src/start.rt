@@ -9,16 +9,12 @@ ghost use Rattle.qed_model.specs.Machine.Apart.{AllFitMemory, AreApart};
 
 use crate::hart::Hart;
 use crate::machine::Machine;
-use elf_types::{Bytes, ElfFile, Segment};
+use elf_types::{ElfFile, Segment};
 use mem_image::{Image, ImageError, SegmentSpec};
 use std::alloc::{AllocError, Global};
 
-/// Appends the segments of type PT_LOAD to what an image is made from, with copies of their bytes.
-pub fn push_specs(
-    alloc: Global,
-    specs: &mut Vec<SegmentSpec>,
-    segments: &[Segment],
-) -> Result<(), AllocError>
+/// Appends the segments of type PT_LOAD to what an image is made from.
+pub fn push_specs(specs: &mut Vec<SegmentSpec>, segments: &[Segment]) -> Result<(), AllocError>
     ensures { IfOk result (λ _. segments_of specs.new.items ≡ segments_of specs.old.items ++ load_segments segments.now) }
 {
     for segment in segments {
@@ -27,7 +23,7 @@ pub fn push_specs(
                 address: segment.address,
                 memory: segment.memory,
                 flags: segment.flags,
-                bytes: Bytes::copied(alloc, segment.bytes.as_slice())?,
+                bytes: segment.bytes.clone()?,
             })?;
         }
     }
@@ -39,7 +35,7 @@ fn specs(alloc: Global, segments: &[Segment]) -> Result<Vec<SegmentSpec>, AllocE
     ensures { IfOk result (λ specs. segments_of specs.items ≡ load_segments segments.now) }
 {
     let mut specs = Vec::new(alloc);
-    push_specs(alloc, &mut specs, segments)?;
+    push_specs(&mut specs, segments)?;
     Ok(specs)
 }
 

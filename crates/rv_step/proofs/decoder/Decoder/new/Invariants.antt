@@ -1,5 +1,5 @@
-use Rattle.std.proofs.Common.{◌≤◌, length}
+use Rattle.std.proofs.Common.{◌≡◌, length}
 use Rattle.rv_step.proofs.decoder.Decoder.new.Given as goal
 
 abbrev pub invariant-loop : goal.invariant-loop
-invariant-loop l = length l.known.items ≤ l.counter
+invariant-loop l = length l.known.items ≡ l.counter

@@ -1,0 +1,24 @@
+-- Segments that stand in a memory, where no store changes them.
+use Rattle.std.specs.Prelude.{◌≡◌, ℕ, ◌+◌, ◌≤◌, ◌^◌, ◌&&◌, Bool, true, false, not, Some}
+use Rattle.std.specs.FinMap.{get}
+use Rattle.qed_model.specs.Machine.Memory.{Flags, Memory, allows}
+use Rattle.qed_model.specs.Machine.Program.{LoadSegment}
+use Rattle.qed_model.specs.Machine.Cells.{has, cell_at}
+
+-- a byte that may be executed and not written, and an address of one
+abbrev pub is_code : Flags → Bool
+is_code f = f.execute && not f.write
+
+abbrev pub has_code : Memory → ℕ → Bool
+has_code m q = allows is_code (get m q)
+
+-- the memory has the cells of the segment, which ends at 2^64 or before
+pub record Stands (m : Memory) (s : LoadSegment) : Type 0 where
+  pub cells : (q : ℕ) → has s q ≡ true → get m q ≡ Some (cell_at s q)
+  pub ends : s.address + s.size ≤ 2 ^ 64
+
+-- and its bytes may be executed, but not written
+pub record IsFixed (m : Memory) (s : LoadSegment) : Type 0 where
+  pub stands : Stands m s
+  pub executed : s.flags.execute ≡ true
+  pub unwritten : s.flags.write ≡ false
