@@ -1,6 +1,7 @@
 -- The files that `harts` reads one after the other, and the turns over them.
-use Rattle.std.proofs.Common.{◌≡◌, ◌≤◌, ◌<◌, ℕ, zero, suc, List, [], ◌∷◌, ◌++◌, length, Option, None, Some, IfSome, ◌⊎◌, inl, inr, sym, ap, subst, arith}
+use Rattle.std.proofs.Common.{◌≡◌, ◌+◌, ◌≤◌, ◌<◌, ℕ, zero, suc, List, [], ◌∷◌, ◌++◌, drop, length, get_or, Option, None, Some, IfSome, ◌⊎◌, inl, inr, sym, ap, ◌∙◌, subst, arith}
 use Rattle.std.specs.Prelude.{◌≢◌, All, slice_index}
+use Rattle.std.proofs.lemmas.List.{drop_more}
 use Rattle.std.proofs.lemmas.List.Elements.{All-get_or}
 use Rattle.elf_types.specs.declared.file.ElfFile.{ElfFile}
 use Rattle.harts.specs.Played.{programs}
@@ -86,3 +87,8 @@ takers_below count many turns harts t e same k l =
     let all : All (λ hart. hart < count) harts = subst (λ (hs : List ℕ). All (λ hart. hart < count) hs) (sym e) (takers_all count turns t) in
     let below : slice_index harts k < count = All-get_or (λ hart. hart < count) harts k 0 l all in
     omega (arith, below, same)
+
+-- ---- the names that are left
+-- the next one, and those behind it
+pub split_at : {A : Type 0} (names : List A) (k : ℕ) (name : A) → k < length names → get_or names k name ≡ name → drop k names ≡ name ∷ drop (k + 1) names
+split_at names k name less item = drop_more names k name less ∙ ap (λ x. x ∷ drop (k + 1) names) item

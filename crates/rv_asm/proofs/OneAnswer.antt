@@ -23,10 +23,10 @@ same_fault given f g d e = cc
 before_fault : (text : List ℕ) (fault : Fault) (m n : ℕ) → AreFaultless (lines_of text) m → IsFirstFault text fault n → n - 1 < m → ⊥
 before_fault text fault m n free x less = not_ok (given_at (lines_of text) (n - 1)) fault (free (n - 1) less) x.found
 
-faultless : (text : List ℕ) (fault : Fault) (n : ℕ) → AreFaultless (lines_of text) (length (lines_of text)) → IsFirstFault text fault n → ⊥
+pub faultless : (text : List ℕ) (fault : Fault) (n : ℕ) → AreFaultless (lines_of text) (length (lines_of text)) → IsFirstFault text fault n → ⊥
 faultless text fault n free x = before_fault text fault (length (lines_of text)) n free x (omega (arith, x.least, x.inside))
 
-some_code : (text bytes : List ℕ) → Assembled text bytes → HasNoCode text → ⊥
+pub some_code : (text bytes : List ℕ) → Assembled text bytes → HasNoCode text → ⊥
 some_code text bytes a x =
     let none : length (code_of (lines_of text) (length (lines_of text))) ≡ 0 = ap length x.none in
     absurd (omega (arith, a.code, none))

@@ -1,5 +1,5 @@
-use Rattle.std.proofs.Common.{rules, ◌≡◌, ◌+◌, ◌<◌, ℕ, List, [], ◌∷◌, ◌++◌, drop, length, get_or, refl, sym, ap, ◌∙◌, subst, arith}
-use Rattle.std.proofs.lemmas.List.{drop_all, drop_more, length-append}
+use Rattle.std.proofs.Common.{rules, ◌≡◌, ◌+◌, ℕ, List, [], ◌∷◌, ◌++◌, drop, length, refl, sym, ap, ◌∙◌, subst, arith}
+use Rattle.std.proofs.lemmas.List.{drop_all, length-append}
 use Rattle.elf_types.specs.declared.file.ElfFile.{ElfFile}
 use Rattle.harts.specs.Played.{programs}
 use Rattle.harts.specs.Shared.{AreSound}
@@ -13,7 +13,7 @@ use Rattle.qed_top.specs.Turns.{IsTaken}
 use Rattle.qed_top.specs.World.{FilesCallFor, Plays}
 use Rattle.qed_top.proofs.Calls.{steady_both, steady_since}
 use Rattle.qed_top.proofs.Meanings.{always_loads}
-use Rattle.qed_top.proofs.Turning.{read_next, read_stops, sound_more}
+use Rattle.qed_top.proofs.Turning.{read_next, read_stops, sound_more, split_at}
 use Rattle.qed_top.proofs.world.read_files.Goals as goal
 
 pub loop-name-init : goal.loop-name-init
@@ -40,9 +40,7 @@ loop-name-preserved g c =
     let files = c.loop-name.files.items in
     let file = c.in-Ok.file in
     let known = c.loop-name.invariant in
-    let less : k < length names = search rules in
-    let item : get_or names k name ≡ name = search rules in
-    let split : drop k names ≡ name ∷ drop (k + 1) names = drop_more names k name less ∙ ap (λ x. x ∷ drop (k + 1) names) item in
+    let split : drop k names ≡ name ∷ drop (k + 1) names = split_at names k name (search rules) (search rules) in
     let pushed : c.push.new.self.items ≡ files ++ file ∷ [] = search rules in
     let taken : OverFiles told (λ fs. IsTaken (file_bytes fs name) file) = rw (c.in-Ok.is, known.same, c.as_str.ensures) at c.in_ok-read.ensures.read in
     record {
@@ -70,9 +68,7 @@ returns-in-Err-clause-other g c turns steps =
     let files = c.loop-name.files.items in
     let answer = c.in-Err.answer in
     let known = c.loop-name.invariant in
-    let less : k < length names = search rules in
-    let item : get_or names k name ≡ name = search rules in
-    let split : drop k names ≡ name ∷ drop (k + 1) names = drop_more names k name less ∙ ap (λ x. x ∷ drop (k + 1) names) item in
+    let split : drop k names ≡ name ∷ drop (k + 1) names = split_at names k name (search rules) (search rules) in
     let same = known.steady.load name in
     let stops : OverFiles told (λ fs. CallsFor RunFileBytes (file_bytes fs name) (RoseAt middle after name) (IsUnread (file_bytes fs name) answer) answer)
     = rw (c.in-Err.is, known.same, c.as_str.ensures) at c.in_ok-read.ensures.other in
