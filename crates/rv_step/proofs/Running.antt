@@ -4,7 +4,7 @@ use Rattle.qed_model.specs.declared.machine.Outcome.{Outcome}
 use Rattle.qed_model.specs.declared.machine.Outcome.TheVariants.{Going, Ended, Fired, Trapped}
 use Rattle.qed_model.specs.Machine.Step.{State, step, step_at}
 use Rattle.qed_model.specs.Machine.Progress.{Progress, advanced, steps_after, progress}
-use Rattle.rv_step.specs.Known.{goes_on}
+use Rattle.rv_step.specs.Known.{goes_on, IsPart}
 
 stays_at : (o : Outcome) (s : State) → goes_on o ≡ false → step_at o s ≡ s
 stays_at Going s h = absurd (cc)
@@ -57,6 +57,17 @@ step_behind p (suc n) = step_behind (advanced p) n
 
 pub one_made : (p : Progress) (n : ℕ) → advanced (progress p n) ≡ progress p (n + 1)
 one_made p n = step_behind p n ∙ ap (progress p) (sym (add-one n))
+
+-- one step, and none of one
+pub one_run : (p : Progress) → progress p 1 ≡ advanced p
+unfolding progress
+one_run p = refl
+
+pub none_of_one : (p q : Progress) → IsPart p 1 q → q ≡ p
+none_of_one p q h =
+    let most = h.most in
+    let none : h.count ≡ 0 = omega (arith, most) in
+    h.made ∙ ap (progress p) none ∙ sym (none_made p)
 
 -- what holds at any error
 pub any_err : {T E : Type 0} (r : Result T E) (P : Type 0) → P → IfErr r (λ _. P)

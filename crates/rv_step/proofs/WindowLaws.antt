@@ -17,6 +17,10 @@ use Rattle.qed_model.specs.declared.machine.Outcome.TheVariants.{Going, Ended, F
 use Rattle.mem_image.specs.Segments.{number_in}
 use Rattle.mem_image.proofs.FixedLaws.{fixed_number, fixed_put}
 use Rattle.rv_step.specs.Known.{word_at}
+use Rattle.std.specs.Prelude.{IfSome}
+use Rattle.qed_model.specs.Machine.Program.{LoadSegment}
+use Rattle.mem_image.specs.Fixed.{IsFixed}
+use Rattle.rv_step.specs.Reached.{AreWords}
 use Rattle.rv_step.specs.Windows.{IsWindow, InWindow}
 use Rattle.rv_step.specs.declared.window.Window.{Window}
 
@@ -92,3 +96,11 @@ stays_advanced p w h = stays_step p.state w h
 pub window_advanced : (p : Progress) (o : Option Window) → InWindow p.state o → InWindow (advanced p).state o
 window_advanced p None h = tt
 window_advanced p (Some w) h = stays_advanced p w h
+
+-- a window that is made for a code range and a page of a state, where there is one
+pub in_window :
+    (code : LoadSegment) (first last : ℕ) (o : Option Window) (s : State)
+    → IfSome o (λ w. (t : State) → IsFixed t.memory code → AreWords t.ranges first last → IsWindow t w) → IsFixed s.memory code → AreWords s.ranges first last
+    → InWindow s o
+in_window code first last None s h f w = tt
+in_window code first last (Some x) s h f w = h s f w

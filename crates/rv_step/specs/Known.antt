@@ -1,5 +1,5 @@
 -- What stands at an address, and what a strike makes of a machine.
-use Rattle.std.specs.Prelude.{◌≡◌, ◌≤◌, ℕ, ◌%◌, ◌==◌, ◌&&◌, Bool, true, false, cond, List, Option, None, Some}
+use Rattle.std.specs.Prelude.{◌≡◌, ◌<◌, ℕ, ◌%◌, ◌==◌, ◌&&◌, Bool, true, false, cond, List, Option, None, Some}
 use Rattle.rv_isa.specs.declared.ins.Ins.{Ins}
 use Rattle.rv_isa.specs.declared.kind.Kind.{Kind}
 use Rattle.rv_isa.specs.declared.kind.Kind.TheVariants.{Lui, Auipc}
@@ -45,10 +45,10 @@ goes_on Ended = false
 goes_on Fired = false
 goes_on (Trapped c pc) = false
 
--- some of n steps were made
+-- some of n steps were made, and not all
 pub record IsPart (m : Progress) (n : ℕ) (after : Progress) : Type 0 where
   pub count : ℕ
-  pub most : count ≤ n
+  pub most : count < n
   pub made : after ≡ progress m count
 
 -- the second operand of a computing instruction of a kind, which LUI and AUIPC do not have

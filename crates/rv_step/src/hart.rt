@@ -3,14 +3,16 @@ ghost use Rattle.std.specs.Prelude.{◌≡◌, true, IfOk, IfErr, slice_index};
 ghost use Rattle.qed_model.specs.Machine.Memory.{Memory};
 ghost use Rattle.qed_model.specs.Machine.Loading.{loaded_file};
 ghost use Rattle.qed_model.specs.Machine.Program.{start};
-ghost use Rattle.qed_model.specs.Machine.Progress.{advanced, begun};
+ghost use Rattle.qed_model.specs.Machine.Progress.{advanced, begun, progress};
 ghost use Rattle.qed_model.specs.declared.change.Place.TheVariants.{Reg as InReg};
 ghost use Rattle.rv_step.specs.Harts.{hart_of, with_memory};
-ghost use Rattle.rv_step.specs.Known.{goes_on, struck_progress, word_at};
+ghost use Rattle.rv_step.specs.Known.{goes_on, struck_progress, word_at, IsPart};
 ghost use Rattle.rv_step.specs.Reached.{AreWords};
+ghost use Rattle.rv_step.specs.Windows.{InWindow};
 
 use crate::decoder::Decoder;
 use crate::range::Ranges;
+use crate::window::Window;
 use code_ranges::code_ranges;
 use elf_types::ElfFile;
 use mem_image::Image;
@@ -59,8 +61,6 @@ impl Hart {
 
     /// One step in a memory, as far as the hart goes on, and how it stands then (RISC-V unprivileged manual, RV64I and the M
     /// extension). A step that ends, fires or traps changes nothing but the outcome, and is counted.
-    #[tactic(auto, unfolding(qed_model::specs::Machine::Step::step, qed_model::specs::Machine::Progress::advanced))]
-    #[inline(always)]
     pub fn step(&mut self, image: &mut Image) -> Result<Outcome, AllocError>
         ensures step { IfOk result (λ _. with_memory self.new image.new ≡ advanced (with_memory self.old image.old)) }
         ensures outcome { IfOk result (λ o. o ≡ self.new.outcome) }
@@ -69,18 +69,94 @@ impl Hart {
         ensures kept { IfErr result (λ _. self.new ≡ self.old) }
         ensures memory { IfErr result (λ _. image.new ≡ image.old) }
     {
-        if !self.goes_on() {
-            return Ok(self.outcome);
+        let outcome = self.run(image, 1)?;
+        Ok(outcome)
+    }
+
+    /// As many steps in a memory as the number says, and how the hart stands then. All steps are made here, so that LLVM makes one
+    /// loop of them.
+    pub fn run(&mut self, image: &mut Image, n: u64) -> Result<Outcome, AllocError>
+        ensures run { IfOk result (λ _. with_memory self.new image.new ≡ progress (with_memory self.old image.old) n) }
+        ensures outcome { IfOk result (λ o. o ≡ self.new.outcome) }
+
+        // Where there is no memory for a page, the steps before were made.
+        ensures part { IfErr result (λ _. IsPart (with_memory self.old image.old) n (with_memory self.new image.new)) }
+    {
+        let mut window = None;
+        for made in 0..n {
+            if !self.goes_on() {
+                return Ok(self.outcome);
+            }
+            self.step_in(image, &mut window, n - made > 1)?;
         }
-        let word = self.next_word(image);
-        self.take(word, image)?;
         Ok(self.outcome)
+    }
+
+    /// The step of a hart that goes on, with the word of a window on its code, or of a new one where `more` steps follow.
+    #[inline(always)]
+    fn step_in(
+        &mut self,
+        image: &mut Image,
+        window: &mut Option<Window>,
+        more: bool,
+    ) -> Result<(), AllocError>
+        requires goes { goes_on self.old.outcome ≡ true }
+        requires window { InWindow (with_memory self.old image.old).state window.old }
+        ensures step { IfOk result (λ _. with_memory self.new image.new ≡ advanced (with_memory self.old image.old)) }
+        ensures window { IfOk result (λ _. InWindow (with_memory self.new image.new).state window.new) }
+        ensures kept { IfErr result (λ _. self.new ≡ self.old) }
+        ensures memory { IfErr result (λ _. image.new ≡ image.old) }
+    {
+        let word = self.word_in(image, window, more);
+        self.take(word, image)?;
+        Ok(())
+    }
+
+    /// The word at the pc, where it may be executed, else None.
+    #[inline(always)]
+    fn word_in(&mut self, image: &mut Image, window: &mut Option<Window>, more: bool) -> Option<u32>
+        requires { InWindow (with_memory self.old image.old).state window.old }
+        ensures word { result ≡ word_at (with_memory self.new image.new).state self.new.pc }
+        ensures same { self.new ≡ self.old }
+        ensures memory { image.new ≡ image.old }
+        ensures window { InWindow (with_memory self.new image.new).state window.new }
+    {
+        if let Some(known) = window {
+            if let Some(word) = known.word(self.pc()) {
+                return Some(word);
+            }
+        }
+        self.look(image, window, more)
+    }
+
+    /// The same, with a new window where `more` steps follow.
+    #[inline(never)]
+    fn look(&mut self, image: &mut Image, window: &mut Option<Window>, more: bool) -> Option<u32>
+        ensures word { result ≡ word_at (with_memory self.new image.new).state self.new.pc }
+        ensures same { self.new ≡ self.old }
+        ensures memory { image.new ≡ image.old }
+        ensures window { InWindow (with_memory self.new image.new).state window.new }
+    {
+        let word = self.next_word(image);
+        *window = if more { self.window(image) } else { None };
+        word
+    }
+
+    /// A window on the code at the pc, where it stands on a page that may not be written and there is memory for it.
+    fn window(&self, image: &Image) -> Option<Window>
+        ensures { InWindow (with_memory self.now image.now).state result }
+    {
+        let Ok(Some(code)) = image.code(self.pc()) else {
+            return None;
+        };
+        let (first, last) = self.near();
+        Window::of(code, first, last)
     }
 
     /// The step of a hart that goes on, with the word at the pc.
     #[tactic(auto, unfolding(qed_model::specs::Machine::Step::step, qed_model::specs::Machine::Progress::advanced))]
     #[inline(always)]
-    pub(crate) fn take(&mut self, word: Option<u32>, image: &mut Image) -> Result<(), AllocError>
+    fn take(&mut self, word: Option<u32>, image: &mut Image) -> Result<(), AllocError>
         requires goes { goes_on self.old.outcome ≡ true }
         requires word { word ≡ word_at (with_memory self.old image.old).state self.old.pc }
         ensures step { IfOk result (λ _. with_memory self.new image.new ≡ advanced (with_memory self.old image.old)) }
@@ -88,19 +164,21 @@ impl Hart {
         ensures memory { IfErr result (λ _. image.new ≡ image.old) }
     {
         self.advance(word, image)?;
-        self.steps = self.steps.saturating_add(1);
+        if self.steps < u64::MAX {
+            self.steps += 1;
+        }
         Ok(())
     }
 
     /// Whether the hart has not stopped.
-    pub(crate) fn goes_on(&self) -> bool
+    fn goes_on(&self) -> bool
         ensures { result ≡ goes_on self.now.outcome }
     {
         matches!(self.outcome, Outcome::Going)
     }
 
     /// The first and the last address of code words that are remembered. There are none where the last is the lesser.
-    pub(crate) fn near(&self) -> (u64, u64)
+    fn near(&self) -> (u64, u64)
         ensures { AreWords self.now.ranges result.0 result.1 }
     {
         self.ranges.near()

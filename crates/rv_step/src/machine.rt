@@ -9,11 +9,9 @@ ghost use Rattle.qed_model.specs.Machine.Progress.{advanced, begun, progress};
 ghost use Rattle.qed_model.specs.Machine.Struck.{struck};
 ghost use Rattle.qed_model.specs.Machine.Apart.{AllFitMemory, AreApart};
 ghost use Rattle.rv_step.specs.Harts.{with_memory};
-ghost use Rattle.rv_step.specs.Known.{goes_on, known_at, struck_progress, word_at, IsPart};
-ghost use Rattle.rv_step.specs.Windows.{InWindow};
+ghost use Rattle.rv_step.specs.Known.{known_at, struck_progress, IsPart};
 
 use crate::hart::Hart;
-use crate::window::Window;
 use elf_types::ElfFile;
 use mem_image::Image;
 use qed_model::{Outcome, Place};
@@ -43,7 +41,6 @@ impl Model for Machine {
 impl Machine {
     /// One step, as far as the machine goes on, and how it stands then (RISC-V unprivileged manual, RV64I and the M
     /// extension). A step that ends, fires or traps changes nothing but the outcome, and is counted.
-    #[inline(always)]
     pub fn step(&mut self) -> Result<Outcome, AllocError>
         ensures step { IfOk result (λ _. self.new ≡ advanced self.old) }
         ensures outcome { IfOk result (λ o. o ≡ self.new.state.outcome) }
@@ -55,13 +52,6 @@ impl Machine {
         Ok(outcome)
     }
 
-    /// Whether the machine has not stopped.
-    fn goes_on(&self) -> bool
-        ensures { result ≡ goes_on self.now.state.outcome }
-    {
-        self.hart.goes_on()
-    }
-
     /// As many steps as the number says, and how the machine stands then.
     pub fn run(&mut self, n: u64) -> Result<Outcome, AllocError>
         ensures run { IfOk result (λ _. self.new ≡ progress self.old n) }
@@ -70,67 +60,8 @@ impl Machine {
         // Where there is no memory for a page, the steps before were made.
         ensures part { IfErr result (λ _. IsPart self.old n self.new) }
     {
-        let mut window = None;
-        for _ in 0..n {
-            if !self.goes_on() {
-                return Ok(self.hart.outcome());
-            }
-            self.step_in(&mut window)?;
-        }
-        Ok(self.hart.outcome())
-    }
-
-    /// The step of a machine that goes on, with the word of a window on its code, or of a new one.
-    #[inline(always)]
-    fn step_in(&mut self, window: &mut Option<Window>) -> Result<(), AllocError>
-        requires goes { goes_on self.old.state.outcome ≡ true }
-        requires window { InWindow self.old.state window.old }
-        ensures step { IfOk result (λ _. self.new ≡ advanced self.old) }
-        ensures window { IfOk result (λ _. InWindow self.new.state window.new) }
-        ensures kept { IfErr result (λ _. self.new ≡ self.old) }
-    {
-        let word = self.word(window);
-        self.hart.take(word, &mut self.image)?;
-        Ok(())
-    }
-
-    /// The word at the pc, where it may be executed, else None.
-    #[inline(always)]
-    fn word(&mut self, window: &mut Option<Window>) -> Option<u32>
-        requires { InWindow self.old.state window.old }
-        ensures word { result ≡ word_at self.old.state self.old.state.pc }
-        ensures same { self.new ≡ self.old }
-        ensures window { InWindow self.new.state window.new }
-    {
-        if let Some(known) = window {
-            if let Some(word) = known.word(self.hart.pc()) {
-                return Some(word);
-            }
-        }
-        self.look(window)
-    }
-
-    /// The same, with a new window.
-    #[inline(never)]
-    fn look(&mut self, window: &mut Option<Window>) -> Option<u32>
-        ensures word { result ≡ word_at self.old.state self.old.state.pc }
-        ensures same { self.new ≡ self.old }
-        ensures window { InWindow self.new.state window.new }
-    {
-        let word = self.hart.next_word(&mut self.image);
-        *window = self.window();
-        word
-    }
-
-    /// A window on the code at the pc, where it stands on a page that may not be written and there is memory for it.
-    fn window(&self) -> Option<Window>
-        ensures { InWindow self.now.state result }
-    {
-        let Ok(Some(code)) = self.image.code(self.hart.pc()) else {
-            return None;
-        };
-        let (first, last) = self.hart.near();
-        Window::of(code, first, last)
+        let outcome = self.hart.run(&mut self.image, n)?;
+        Ok(outcome)
     }
 
     /// The hart of the machine.
