@@ -1,10 +1,13 @@
 -- Runs of a machine: one step more, and none where it does not go on.
-use Rattle.std.proofs.Common.{◌≡◌, ℕ, zero, suc, ◌+◌, ◌-◌, ◌<◌, false, refl, sym, ap, ◌∙◌, arith, add-one, Result, Ok, Err, IfErr}
+use Rattle.std.proofs.Common.{◌≡◌, ℕ, zero, suc, ◌+◌, ◌-◌, ◌^◌, ◌<◌, min, true, false, refl, sym, ap, ◌∙◌, arith, zero-add, Result, Ok, Err, IfErr}
+use borrow.Author.Count.{below_more}
 use Rattle.qed_model.specs.declared.machine.Outcome.{Outcome}
 use Rattle.qed_model.specs.declared.machine.Outcome.TheVariants.{Going, Ended, Fired, Trapped}
 use Rattle.qed_model.specs.Machine.Step.{State, step, step_at}
-use Rattle.qed_model.specs.Machine.Progress.{Progress, advanced, steps_after, progress}
-use Rattle.rv_step.specs.Known.{goes_on, IsPart}
+use Rattle.qed_model.specs.Machine.Progress.{Progress, counted, advanced, steps_after, progress}
+use Rattle.qed_model.specs.Machine.Memory.{Memory}
+use Rattle.rv_step.specs.Known.{goes_on, IsMade, IsPart}
+use Rattle.rv_step.specs.Harts.{HartState, with_memory}
 
 stays_at : (o : Outcome) (s : State) → goes_on o ≡ false → step_at o s ≡ s
 stays_at Going s h = absurd (cc)
@@ -32,21 +35,12 @@ unfolding progress
 stays_long p zero h = refl
 stays_long p (suc n) h = ap (λ q. progress q n) (stays p h) ∙ stays_long p n h
 
--- no step is left
-pub none_left : (p : Progress) (n k : ℕ) → n - k ≡ 0 → progress p (n - k) ≡ p
-unfolding progress
-none_left p n k h = ap (progress p) h
-
+-- ---- steps one behind the other
 one_step : (p : Progress) (n : ℕ) → progress p (suc n) ≡ progress (advanced p) n
 unfolding progress
 one_step p n = refl
 
--- one step of those that are left
-pub one_less : (p : Progress) (n k : ℕ) → k < n → progress p (n - k) ≡ progress (advanced p) (n - (k + 1))
-one_less p n k h = let e : n - k ≡ suc (n - (k + 1)) = omega (arith, h) in ap (progress p) e ∙ one_step p (n - (k + 1))
-
--- one step behind those that were made
-pub none_made : (p : Progress) → p ≡ progress p 0
+none_made : (p : Progress) → p ≡ progress p 0
 unfolding progress
 none_made p = refl
 
@@ -55,8 +49,70 @@ unfolding progress
 step_behind p zero = refl
 step_behind p (suc n) = step_behind (advanced p) n
 
-pub one_made : (p : Progress) (n : ℕ) → advanced (progress p n) ≡ progress p (n + 1)
-one_made p n = step_behind p n ∙ ap (progress p) (sym (add-one n))
+steps_behind : (p : Progress) (k n : ℕ) → progress (progress p k) n ≡ progress p (k + n)
+steps_behind p zero n = ap (λ q. progress q n) (sym (none_made p)) ∙ ap (progress p) (sym (zero-add n))
+steps_behind p (suc k) n =
+    let e : suc (k + n) ≡ suc k + n = omega arith in
+    ap (λ q. progress q n) (one_step p k) ∙ steps_behind (advanced p) k n ∙ sym (one_step p (k + n)) ∙ ap (progress p) e
+
+-- a machine that stopped before
+pub stopped_before : (p : Progress) (k n : ℕ) → k < n → goes_on (progress p k).state.outcome ≡ false → progress p k ≡ progress p n
+stopped_before p k n h stop =
+    let e : k + (n - k) ≡ n = omega (arith, h) in
+    sym (stays_long (progress p k) (n - k) stop) ∙ steps_behind p k (n - k) ∙ ap (progress p) e
+
+-- ---- steps that are counted later
+pub made_none : (p : Progress) → IsMade p 0 p
+made_none p = record { state = ap (λ q. q.state) (none_made p); before = refl; going = λ k h. absurd (omega (arith, h)) }
+
+state_advanced : (p : Progress) → (advanced p).state ≡ step p.state
+unfolding advanced
+state_advanced p = refl
+
+pub made_more : (p q r : Progress) (n : ℕ) → IsMade p n q → goes_on q.state.outcome ≡ true → r.state ≡ step q.state → r.steps ≡ q.steps → IsMade p (n + 1) r
+made_more p q r n h goes stepped same =
+    let here : goes_on (progress p n).state.outcome ≡ true = ap (λ s. goes_on s.outcome) (sym h.state) ∙ goes in
+    let more : suc n ≡ n + 1 = omega arith in
+    record {
+      state = stepped ∙ ap step h.state ∙ sym (state_advanced (progress p n)) ∙ ap (λ x. x.state) (step_behind p n) ∙ ap (λ k. (progress p k).state) more;
+      before = same ∙ h.before;
+      going = below_more (λ k. goes_on (progress p k).state.outcome ≡ true) n h.going here;
+    }
+
+one_counted : (o : Outcome) (n : ℕ) → goes_on o ≡ true → steps_after o n ≡ counted n
+one_counted Going n h = refl
+one_counted Ended n h = absurd (cc)
+one_counted Fired n h = absurd (cc)
+one_counted (Trapped c pc) n h = absurd (cc)
+
+steps_advanced : (p : Progress) → goes_on p.state.outcome ≡ true → (advanced p).steps ≡ counted p.steps
+unfolding advanced
+steps_advanced p h = one_counted p.state.outcome p.steps h
+
+all_counted : (p : Progress) (n : ℕ) → p.steps < 2 ^ 64 → ((k : ℕ) → k < n → goes_on (progress p k).state.outcome ≡ true) → (progress p n).steps ≡ min (p.steps + n) (2 ^ 64 - 1)
+all_counted p zero small going =
+    let e : p.steps ≡ min (p.steps + 0) (2 ^ 64 - 1) = omega (arith, small) in
+    ap (λ q. q.steps) (sym (none_made p)) ∙ e
+all_counted p (suc n) small going =
+    let before : (progress p n).steps ≡ min (p.steps + n) (2 ^ 64 - 1) = all_counted p n small (λ k h. going k (omega (arith, h))) in
+    let here : (advanced (progress p n)).steps ≡ counted (progress p n).steps = steps_advanced (progress p n) (going n (omega arith)) in
+    let last : (advanced (progress p n)).steps ≡ (progress p (suc n)).steps = ap (λ q. q.steps) (step_behind p n) in
+    omega (arith, before, here, last)
+
+same_progress : (p q : Progress) → p.state ≡ q.state → p.steps ≡ q.steps → p ≡ q
+same_progress p q s n = ap (λ x. record { state = x; steps = p.steps }) s ∙ ap (λ x. record { state = q.state; steps = x }) n
+
+-- where they are counted, they are those of a run: of the hart h, which contracts see as k
+pub made_counted :
+    (p : Progress) (n count : ℕ) (h k : HartState) (m : Memory)
+    → IsMade p n (with_memory k m) → h ≡ k → h.steps < 2 ^ 64 → count ≡ min (h.steps + n) (2 ^ 64 - 1)
+    → with_memory (record h { steps = count }) m ≡ progress p n
+made_counted p n count h k m made view small is =
+    let state : (with_memory h m).state ≡ (progress p n).state = ap (λ x. (with_memory x m).state) view ∙ made.state in
+    let before : h.steps ≡ p.steps = ap (λ x. x.steps) view ∙ made.before in
+    let all : (progress p n).steps ≡ min (p.steps + n) (2 ^ 64 - 1) = all_counted p n (omega (arith, small, before)) made.going in
+    let steps : count ≡ (progress p n).steps = omega (arith, is, before, all) in
+    same_progress (with_memory (record h { steps = count }) m) (progress p n) state steps
 
 -- one step, and none of one
 pub one_run : (p : Progress) → progress p 1 ≡ advanced p

@@ -51,6 +51,12 @@ pub record IsPart (m : Progress) (n : ℕ) (after : Progress) : Type 0 where
   pub most : count < n
   pub made : after ≡ progress m count
 
+-- the state after n steps, each from a state that went on, with the number of steps before them
+pub record IsMade (m : Progress) (n : ℕ) (after : Progress) : Type 0 where
+  pub state : after.state ≡ (progress m n).state
+  pub before : after.steps ≡ m.steps
+  pub going : (k : ℕ) → k < n → goes_on (progress m k).state.outcome ≡ true
+
 -- the second operand of a computing instruction of a kind, which LUI and AUIPC do not have
 abbrev pub HasSecond : Kind → Ins → List ℕ → ℕ → Type 0
 HasSecond Lui i regs b = Unit {0}

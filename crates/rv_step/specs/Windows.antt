@@ -1,22 +1,34 @@
 -- A window on the code of a state.
-use Rattle.std.specs.Prelude.{◌≡◌, ℕ, ◌≤◌, true, Option, Some, None}
-use Rattle.qed_model.specs.Machine.Step.{State}
+use Rattle.std.specs.Prelude.{◌≡◌, ℕ, ◌+◌, ◌%◌, ◌^◌, ◌<◌, ◌≤◌, true, Option, Some, None}
+use Rattle.qed_model.specs.Machine.Step.{State, in_range}
+use Rattle.qed_model.specs.Machine.Program.{LoadSegment}
 use Rattle.mem_image.specs.Segments.{has_all}
 use Rattle.mem_image.specs.Fixed.{IsFixed}
-use Rattle.rv_step.specs.Reached.{AreWords}
 use Rattle.rv_step.specs.declared.window.Window.{Window}
 
--- the bytes of each of its words are here
-abbrev pub HasWords : Window → Type 0
-HasWords w = (a : ℕ) → w.first ≤ a → a ≤ w.last → has_all w.code a 4 ≡ true
+-- an address is one of those of the window's words
+pub record IsIn (w : Window) (a : ℕ) : Type 0 where
+  pub low : w.first ≤ a
+  pub high : a < w.first + w.count
 
--- the state has these words, and no store changes them
+-- there is a page, which has the four bytes from the address on
+abbrev pub HasWord : Option LoadSegment → ℕ → Type 0
+HasWord None a = ⊥
+HasWord (Some code) a = has_all code a 4 ≡ true
+
+-- the bytes of each of its words are here, and it ends at 2^64 or before
+pub record HasWords (w : Window) : Type 0 where
+  pub bytes : (a : ℕ) → IsIn w a → HasWord w.code a
+  pub ends : w.first + w.count ≤ 2 ^ 64
+
+-- the memory has the page, and no store changes it
+abbrev pub IsKept : State → Option LoadSegment → Type 0
+IsKept s None = Unit {0}
+IsKept s (Some code) = IsFixed s.memory code
+
+-- the state has these words, no store changes them, and its pc is a multiple of 4, as it stays
 pub record IsWindow (s : State) (w : Window) : Type 0 where
-  pub words : AreWords s.ranges w.first w.last
-  pub fixed : IsFixed s.memory w.code
+  pub words : (a : ℕ) → IsIn w a → in_range a s.ranges ≡ true
+  pub fixed : IsKept s w.code
   pub inside : HasWords w
-
--- there is no window, or one of the state
-abbrev pub InWindow : State → Option Window → Type 0
-InWindow s None = Unit {0}
-InWindow s (Some w) = IsWindow s w
+  pub grain : 0 < w.count → s.pc % 4 ≡ 0

@@ -3,34 +3,51 @@ ghost use Rattle.std.specs.Prelude.{◌≡◌, ◌<◌, ◌==◌, true, false, l
 ghost use Rattle.qed_model.specs.Machine.Table.{decode_of};
 
 use rv_decode::decode;
-use rv_isa::Ins;
+use rv_isa::{Ins, Kind, Reg};
 use std::alloc::{AllocError, Global};
 use std::marker::Model;
 
 /// How many instructions are kept.
 const KEPT: u64 = 1024;
 
-/// A word and its instruction.
+/// A word and its instruction, in 16 bytes.
 #[derive(Debug, Drop)]
 struct Known {
+    imm: i64,
     word: u32,
-    ins: Ins,
+    kind: Kind,
+    rd: Reg,
+    rs1: Reg,
+    rs2: Reg,
 }
 
 impl Model for Known {
     ghost use Rattle.std.specs.Prelude.{◌≡◌, ℕ, Some};
-    ghost use Rattle.rv_isa.specs.declared.ins.Ins.{Ins};
     ghost use Rattle.qed_model.specs.Machine.Table.{decode_of};
-    ghost use Rattle.std.specs.Coded.{coded_ℕ};
 
     ghost Value = { ℕ };
 
     ghost view = { λ k. k.word };
 
-    ghost invariant = { λ k. decode_of k.word ≡ Some k.ins };
+    ghost invariant = { λ k. decode_of k.word ≡ Some (record { kind = k.kind; rd = k.rd; rs1 = k.rs1; rs2 = k.rs2; imm = k.imm }) };
 }
 
 impl Known {
+    /// A word with its instruction.
+    fn of(word: u32, ins: &Ins) -> Known
+        requires { decode_of word ≡ Some ins.now }
+        ensures { result ≡ word }
+    {
+        Known {
+            imm: ins.imm,
+            word,
+            kind: ins.kind,
+            rd: ins.rd,
+            rs1: ins.rs1,
+            rs2: ins.rs2,
+        }
+    }
+
     /// Whether it is the instruction of this word.
     #[inline(always)]
     fn is_of(&self, word: u32) -> bool
@@ -44,7 +61,13 @@ impl Known {
     fn ins(&self) -> Ins
         ensures { decode_of self.now ≡ Some result }
     {
-        self.ins
+        Ins {
+            kind: self.kind,
+            rd: self.rd,
+            rs1: self.rs1,
+            rs2: self.rs2,
+            imm: self.imm,
+        }
     }
 }
 
@@ -75,7 +98,7 @@ fn keep(known: &mut [Known], at: usize, word: u32) -> bool
     let Some(ins) = decode(word) else {
         return false;
     };
-    known[at] = Known { word, ins };
+    known[at] = Known::of(word, &ins);
     true
 }
 
@@ -87,7 +110,7 @@ impl Decoder {
         let mut known = Vec::with_capacity(alloc, KEPT as usize)?;
         for _ in 0..KEPT {
             let Some(ins) = decode(0) else { unreachable!() };
-            known.push(Known { word: 0, ins })?;
+            known.push(Known::of(0, &ins))?;
         }
         Ok(Decoder { known })
     }

@@ -1,14 +1,15 @@
 //! A hart, whose memory is another's.
-ghost use Rattle.std.specs.Prelude.{◌≡◌, true, IfOk, IfErr, slice_index};
+ghost use Rattle.std.specs.Prelude.{◌≡◌, ◌%◌, ◌<◌, true, IfOk, IfErr, slice_index};
 ghost use Rattle.qed_model.specs.Machine.Memory.{Memory};
 ghost use Rattle.qed_model.specs.Machine.Loading.{loaded_file};
 ghost use Rattle.qed_model.specs.Machine.Program.{start};
 ghost use Rattle.qed_model.specs.Machine.Progress.{advanced, begun, progress};
+ghost use Rattle.qed_model.specs.Machine.Step.{step};
 ghost use Rattle.qed_model.specs.declared.change.Place.TheVariants.{Reg as InReg};
-ghost use Rattle.rv_step.specs.Harts.{hart_of, with_memory};
-ghost use Rattle.rv_step.specs.Known.{goes_on, struck_progress, word_at, IsPart};
+ghost use Rattle.rv_step.specs.Harts.{hart_of, with_memory, LeadsIn};
+ghost use Rattle.rv_step.specs.Known.{goes_on, struck_progress, word_at, IsMade, IsPart};
 ghost use Rattle.rv_step.specs.Reached.{AreWords};
-ghost use Rattle.rv_step.specs.Windows.{InWindow};
+ghost use Rattle.rv_step.specs.Windows.{IsWindow};
 
 use crate::decoder::Decoder;
 use crate::range::Ranges;
@@ -73,8 +74,7 @@ impl Hart {
         Ok(outcome)
     }
 
-    /// As many steps in a memory as the number says, and how the hart stands then. All steps are made here, so that LLVM makes one
-    /// loop of them.
+    /// As many steps in a memory as the number says, and how the hart stands then.
     pub fn run(&mut self, image: &mut Image, n: u64) -> Result<Outcome, AllocError>
         ensures run { IfOk result (λ _. with_memory self.new image.new ≡ progress (with_memory self.old image.old) n) }
         ensures outcome { IfOk result (λ o. o ≡ self.new.outcome) }
@@ -82,92 +82,98 @@ impl Hart {
         // Where there is no memory for a page, the steps before were made.
         ensures part { IfErr result (λ _. IsPart (with_memory self.old image.old) n (with_memory self.new image.new)) }
     {
-        let mut window = None;
-        for made in 0..n {
-            if !self.goes_on() {
-                return Ok(self.outcome);
-            }
-            self.step_in(image, &mut window, n - made > 1)?;
-        }
+        let (made, done) = self.run_uncounted(image, n);
+        self.steps = self.steps.saturating_add(made);
+        done?;
         Ok(self.outcome)
     }
 
-    /// The step of a hart that goes on, with the word of a window on its code, or of a new one where `more` steps follow.
+    /// The same, where the steps are not counted but in the answer. All steps are made here, so that LLVM makes one loop of them.
+    #[inline(always)]
+    fn run_uncounted(&mut self, image: &mut Image, n: u64) -> (u64, Result<(), AllocError>)
+        ensures made { IsMade (with_memory self.old image.old) result.0 (with_memory self.new image.new) }
+        ensures all { IfOk result.1 (λ _. progress (with_memory self.old image.old) result.0 ≡ progress (with_memory self.old image.old) n) }
+        ensures part { IfErr result.1 (λ _. result.0 < n) }
+    {
+        let mut window = Window::none();
+        for made in 0..n {
+            if !self.goes_on() {
+                return (made, Ok(()));
+            }
+            if let Err(error) = self.step_in(image, &mut window, n > 1) {
+                return (made, Err(error));
+            }
+        }
+        (n, Ok(()))
+    }
+
+    /// The step of a hart that goes on, with the word of a window on its code, or of a new one where `more` steps may follow. It is
+    /// not counted here.
+    #[tactic(auto, unfolding(qed_model::specs::Machine::Step::step))]
     #[inline(always)]
     fn step_in(
         &mut self,
         image: &mut Image,
-        window: &mut Option<Window>,
+        window: &mut Window,
         more: bool,
     ) -> Result<(), AllocError>
         requires goes { goes_on self.old.outcome ≡ true }
-        requires window { InWindow (with_memory self.old image.old).state window.old }
-        ensures step { IfOk result (λ _. with_memory self.new image.new ≡ advanced (with_memory self.old image.old)) }
-        ensures window { IfOk result (λ _. InWindow (with_memory self.new image.new).state window.new) }
+        requires window { IsWindow (with_memory self.old image.old).state window.old }
+        ensures step { IfOk result (λ _. LeadsIn step self.old image.old self.new image.new) }
+        ensures window { IfOk result (λ _. IsWindow (with_memory self.new image.new).state window.new) }
         ensures kept { IfErr result (λ _. self.new ≡ self.old) }
         ensures memory { IfErr result (λ _. image.new ≡ image.old) }
     {
         let word = self.word_in(image, window, more);
-        self.take(word, image)?;
+        self.advance(word, image)?;
         Ok(())
     }
 
     /// The word at the pc, where it may be executed, else None.
     #[inline(always)]
-    fn word_in(&mut self, image: &mut Image, window: &mut Option<Window>, more: bool) -> Option<u32>
-        requires { InWindow (with_memory self.old image.old).state window.old }
+    fn word_in(&mut self, image: &mut Image, window: &mut Window, more: bool) -> Option<u32>
+        requires { IsWindow (with_memory self.old image.old).state window.old }
         ensures word { result ≡ word_at (with_memory self.new image.new).state self.new.pc }
         ensures same { self.new ≡ self.old }
         ensures memory { image.new ≡ image.old }
-        ensures window { InWindow (with_memory self.new image.new).state window.new }
+        ensures window { IsWindow (with_memory self.new image.new).state window.new }
     {
-        if let Some(known) = window {
-            if let Some(word) = known.word(self.pc()) {
-                return Some(word);
-            }
+        if let Some(word) = window.word(self.pc()) {
+            return Some(word);
         }
         self.look(image, window, more)
     }
 
-    /// The same, with a new window where `more` steps follow.
+    /// The same, with a new window where `more` steps may follow.
     #[inline(never)]
-    fn look(&mut self, image: &mut Image, window: &mut Option<Window>, more: bool) -> Option<u32>
+    fn look(&mut self, image: &mut Image, window: &mut Window, more: bool) -> Option<u32>
         ensures word { result ≡ word_at (with_memory self.new image.new).state self.new.pc }
         ensures same { self.new ≡ self.old }
         ensures memory { image.new ≡ image.old }
-        ensures window { InWindow (with_memory self.new image.new).state window.new }
+        ensures window { IsWindow (with_memory self.new image.new).state window.new }
     {
-        let word = self.next_word(image);
-        *window = if more { self.window(image) } else { None };
-        word
+        let Some(word) = self.next_word(image) else {
+            *window = Window::none();
+            return None;
+        };
+        *window = self.window(image, more);
+        Some(word)
     }
 
-    /// A window on the code at the pc, where it stands on a page that may not be written and there is memory for it.
-    fn window(&self, image: &Image) -> Option<Window>
-        ensures { InWindow (with_memory self.now image.now).state result }
+    /// A window on the code at the pc, a multiple of 4, where it stands on a page that may not be written, there is memory for it,
+    /// and `more` steps may follow.
+    fn window(&self, image: &Image, more: bool) -> Window
+        requires { self.now.pc % 4 ≡ 0 }
+        ensures { IsWindow (with_memory self.now image.now).state result }
     {
+        if !more {
+            return Window::none();
+        }
         let Ok(Some(code)) = image.code(self.pc()) else {
-            return None;
+            return Window::none();
         };
         let (first, last) = self.near();
         Window::of(code, first, last)
-    }
-
-    /// The step of a hart that goes on, with the word at the pc.
-    #[tactic(auto, unfolding(qed_model::specs::Machine::Step::step, qed_model::specs::Machine::Progress::advanced))]
-    #[inline(always)]
-    fn take(&mut self, word: Option<u32>, image: &mut Image) -> Result<(), AllocError>
-        requires goes { goes_on self.old.outcome ≡ true }
-        requires word { word ≡ word_at (with_memory self.old image.old).state self.old.pc }
-        ensures step { IfOk result (λ _. with_memory self.new image.new ≡ advanced (with_memory self.old image.old)) }
-        ensures kept { IfErr result (λ _. self.new ≡ self.old) }
-        ensures memory { IfErr result (λ _. image.new ≡ image.old) }
-    {
-        self.advance(word, image)?;
-        if self.steps < u64::MAX {
-            self.steps += 1;
-        }
-        Ok(())
     }
 
     /// Whether the hart has not stopped.

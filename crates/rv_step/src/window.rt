@@ -1,5 +1,5 @@
 //! A window on the code, in which words are found at once.
-ghost use Rattle.std.specs.Prelude.{◌≡◌, IfSome};
+ghost use Rattle.std.specs.Prelude.{◌≡◌, ◌%◌, ◌≤◌, IfSome};
 ghost use Rattle.qed_model.specs.Machine.Step.{State};
 ghost use Rattle.mem_image.specs.Fixed.{IsFixed};
 ghost use Rattle.rv_step.specs.Known.{word_at};
@@ -8,39 +8,60 @@ ghost use Rattle.rv_step.specs.Windows.{HasWords, IsWindow};
 
 use mem_image::Code;
 
-/// Words of one code range and one page, which no store changes.
+/// Words of one code range and one page, which no store changes. There may be none.
 #[derive(Debug, Drop)]
 pub struct Window {
     /// Words are here from this address on,
     first: u64,
-    /// up to here. There are none where this is the lesser.
-    last: u64,
-    code: Code,
+    /// at as many addresses.
+    count: u64,
+    /// Where there are words, the page has them.
+    code: Option<Code>,
 }
 
 impl Window {
+    /// A window without words.
+    pub fn none() -> Window
+        ensures { (s : State) → IsWindow s result }
+    {
+        Window {
+            first: 0,
+            count: 0,
+            code: None,
+        }
+    }
+
     /// The words of a page that begin from one address on, up to another.
-    pub fn of(code: Code, first: u64, last: u64) -> Option<Window>
-        ensures inside { IfSome result HasWords }
-        ensures window { IfSome result (λ w. (s : State) → IsFixed s.memory code → AreWords s.ranges first last → IsWindow s w) }
+    pub fn of(code: Code, first: u64, last: u64) -> Window
+        ensures { (s : State) → s.pc % 4 ≡ 0 → IsFixed s.memory code → AreWords s.ranges first last → IsWindow s result }
     {
         if code.size() < 4 {
-            return None;
+            return Window::none();
         }
         let first = first.max(code.start());
         let last = last.min(code.start().saturating_add(code.size() - 4));
-        Some(Window { first, last, code })
+        if last < first {
+            return Window::none();
+        }
+        Window {
+            first,
+            count: last - first + 1,
+            code: Some(code),
+        }
     }
 
     /// The word at an address, where it is one of those.
     #[inline(always)]
     pub fn word(&self, address: u64) -> Option<u32>
         requires { HasWords self.now }
-        ensures { IfSome result (λ word. (s : State) → IsWindow s self.now → word_at s address ≡ Some word) }
+        ensures { IfSome result (λ word. (s : State) → IsWindow s self.now → address ≡ s.pc → word_at s address ≡ Some word) }
     {
-        if address % 4 != 0 || address < self.first || self.last < address {
+        if address.wrapping_sub(self.first) >= self.count {
             return None;
         }
-        Some(self.code.word(address))
+        let Some(code) = &self.code else {
+            unreachable!()
+        };
+        Some(code.word(address))
     }
 }

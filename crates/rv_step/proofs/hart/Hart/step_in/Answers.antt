@@ -1,9 +1,11 @@
 use Rattle.std.proofs.Common.{sym, subst}
 use Rattle.qed_model.specs.Machine.Progress.{Progress}
 use Rattle.rv_step.specs.Harts.{with_memory}
-use Rattle.rv_step.specs.Windows.{InWindow}
-use Rattle.rv_step.proofs.WindowLaws.{window_advanced}
+use Rattle.rv_step.specs.Windows.{IsWindow}
+use Rattle.rv_step.proofs.WindowLaws.{window_acted}
 use Rattle.rv_step.proofs.hart.Hart.step_in.Goals as goal
 
 pub returns-clause-window : goal.returns-clause-window
-returns-clause-window c = subst (λ (p : Progress). InWindow p.state c.word_in-word.new.window) (sym c.in_ok-take.ensures.step) (window_advanced (with_memory c.word_in-word.new.self c.word_in-word.new.image) c.word_in-word.new.window c.word_in-word.ensures.window)
+returns-clause-window c =
+    let here = with_memory c.word_in-word.new.self c.word_in-word.new.image in
+    subst (λ (p : Progress). IsWindow p.state c.word_in-word.new.window) (sym c.in_ok-advance.ensures.advanced) (window_acted here.state c.word_in-word.new.window c.word_in-word.ensures.window)

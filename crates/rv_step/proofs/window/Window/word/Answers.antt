@@ -1,6 +1,17 @@
-use Rattle.std.proofs.Common.{Some, sym, ap, ◌∙◌}
+use Rattle.std.proofs.Common.{ℕ, ◌+◌, ◌-◌, ◌%◌, ◌^◌, ◌<◌, Some, ap, sym, ◌∙◌, subst, arith}
+use Rattle.rv_step.specs.Windows.{IsIn, HasWord, HasWords}
+use Rattle.rv_step.specs.declared.window.Window.{Window}
 use Rattle.rv_step.proofs.WindowLaws.{window_word}
 use Rattle.rv_step.proofs.window.Window.word.Goals as goal
 
+-- an address that is less than the count behind the first, modulo 2^64
+is_in : (w : Window) (a : ℕ) → HasWords w → a < 2 ^ 64 → (a + (2 ^ 64 - w.first)) % 2 ^ 64 < w.count → IsIn w a
+is_in w a h small behind =
+    let ends = h.ends in
+    record { low = omega (arith, ends, small, behind); high = omega (arith, ends, small, behind) }
+
+pub word-requires : goal.word-requires
+word-requires c = subst (λ o. HasWord o c.args.address) c.in-Some.is (c.requires.bytes c.args.address (is_in c.args.self.now c.args.address c.requires (omega arith) c.if-address-self.false))
+
 pub returns : goal.returns
-returns c = λ s h. window_word s c.args.self.now c.args.address h c.if-address-ne0.false c.if-address-self.false c.if-self-address.false ∙ ap Some (sym c.word.ensures)
+returns c = λ s h at. window_word s c.args.self.now c.in-Some.code c.args.address h c.in-Some.is at (is_in c.args.self.now c.args.address c.requires (omega arith) c.if-address-self.false) ∙ ap Some (sym c.word.ensures)
