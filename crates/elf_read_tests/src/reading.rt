@@ -2,7 +2,7 @@
 
 use crate::example::{DATA, RELAS, TEXT, example};
 use elf_read::read_elf;
-use elf_types::{ElfFile, Section, Segment, Symbol};
+use elf_types::{Bytes, ElfFile, Section, Segment, Shared, Symbol};
 use std::process::Abort;
 use std::test::Fail;
 
@@ -86,5 +86,16 @@ fn the_example_is_read(rt: HostRuntime) -> Result<(), Fail> {
         ],
     );
     assert_eq!(rt; file.relas.as_slice(), RELAS.as_slice());
+    Ok(())
+}
+
+#[test]
+fn copies_of_bytes_are_equal(rt: HostRuntime) -> Result<(), Fail> {
+    let alloc = rt.alloc();
+    let shared = Shared::copied(alloc, b"abcdef")?;
+    let part = shared.part(2, 3)?.clone()?;
+    assert_eq!(rt; part.as_slice(), b"cde".as_slice());
+    let own = Bytes::of(Vec::from_slice(alloc, b"xy")?).clone()?;
+    assert_eq!(rt; own.as_slice(), b"xy".as_slice());
     Ok(())
 }

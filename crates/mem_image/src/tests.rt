@@ -77,6 +77,19 @@ fn bytes_are_read_with_their_permission(rt: HostRuntime) -> Result<(), Fail> {
 }
 
 #[test]
+fn code_stays_what_it_was(rt: HostRuntime) -> Result<(), Fail> {
+    let mut image = image(rt.alloc())?;
+    assert!(rt; image.code(0x2000)?.is_none());
+    assert!(rt; image.code(0x1008)?.is_none());
+    let code = image.code(0x1007)?.ok_or("code")?;
+    assert!(rt; code.start() == 0x1000);
+    assert!(rt; code.size() == 8);
+    image.poke(0x1000, 0)?;
+    assert_eq!(rt; code.word(0x1000), 0x1234_5678);
+    Ok(())
+}
+
+#[test]
 fn addresses_wrap(rt: HostRuntime) -> Result<(), Fail> {
     let mut image = image(rt.alloc())?;
     assert_eq!(rt; image.read(0xffff_ffff_ffff_fffe, 4), Some(0x2211_ddcc));

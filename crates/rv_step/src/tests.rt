@@ -341,6 +341,14 @@ fn store<R: Abort>(rt: &R, hart: &mut Hart, image: &mut Image) -> Result<(), All
     Ok(())
 }
 
+/// The same three steps of a hart, which stores a 6, in one run.
+fn store_at_once<R: Abort>(rt: &R, hart: &mut Hart, image: &mut Image) -> Result<(), AllocError> {
+    let outcome = hart.run(image, 5)?;
+    assert_eq!(rt; (outcome, hart.steps()), (Outcome::Ended, 3));
+    assert_eq!(rt; image.peek(DATA), Some(6));
+    Ok(())
+}
+
 #[test]
 fn a_hart_steps_in_the_memory_of_another(rt: HostRuntime) -> Result<(), Fail> {
     let x9 = Reg::new(9).ok_or("a register")?;
@@ -355,6 +363,8 @@ fn a_hart_steps_in_the_memory_of_another(rt: HostRuntime) -> Result<(), Fail> {
         (machine.byte(DATA), machine.byte(DATA + 4)),
         (Some(5), Some(0))
     );
+    let mut other = Hart::start(rt.alloc(), &file, &[6; 32])?;
+    store_at_once(&rt, &mut other, &mut machine.image)?;
     Ok(())
 }
 

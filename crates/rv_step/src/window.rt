@@ -1,10 +1,11 @@
 //! A window on the code, in which words are found at once.
-ghost use Rattle.std.specs.Prelude.{◌≡◌, ◌%◌, ◌≤◌, IfSome};
+ghost use Rattle.std.specs.Prelude.{◌≡◌, ℕ, ◌%◌, ◌≤◌, true, IfNone, IfSome};
 ghost use Rattle.qed_model.specs.Machine.Step.{State};
 ghost use Rattle.mem_image.specs.Fixed.{IsFixed};
+ghost use Rattle.mem_image.specs.Segments.{has_all};
 ghost use Rattle.rv_step.specs.Known.{word_at};
 ghost use Rattle.rv_step.specs.Reached.{AreWords};
-ghost use Rattle.rv_step.specs.Windows.{HasWords, IsWindow};
+ghost use Rattle.rv_step.specs.Windows.{HasWords, IsIn, IsWindow};
 
 use mem_image::Code;
 
@@ -33,7 +34,8 @@ impl Window {
 
     /// The words of a page that begin from one address on, up to another.
     pub fn of(code: Code, first: u64, last: u64) -> Window
-        ensures { (s : State) → s.pc % 4 ≡ 0 → IsFixed s.memory code → AreWords s.ranges first last → IsWindow s result }
+        ensures window { (s : State) → s.pc % 4 ≡ 0 → IsFixed s.memory code → AreWords s.ranges first last → IsWindow s result }
+        ensures all { (a : ℕ) → first ≤ a → a ≤ last → has_all code a 4 ≡ true → IsIn result a }
     {
         if code.size() < 4 {
             return Window::none();
@@ -54,7 +56,8 @@ impl Window {
     #[inline(always)]
     pub fn word(&self, address: u64) -> Option<u32>
         requires { HasWords self.now }
-        ensures { IfSome result (λ word. (s : State) → IsWindow s self.now → address ≡ s.pc → word_at s address ≡ Some word) }
+        ensures word { IfSome result (λ word. (s : State) → IsWindow s self.now → address ≡ s.pc → word_at s address ≡ Some word) }
+        ensures none { IfNone result (¬ (IsIn self.now address)) }
     {
         if address.wrapping_sub(self.first) >= self.count {
             return None;

@@ -11,4 +11,4 @@ returns-in_default c = c.none-in_default.ensures (with_memory c.args.self.now c.
 pub returns : goal.returns
 returns c =
     let fixed : IsFixed c.args.image.now c.in-Ok-Some.code = rw c.in-Ok-Some.field-0-is at c.in-Ok-Some.ensures.fixed in
-    c.of.ensures (with_memory c.args.self.now c.args.image.now).state c.requires fixed c.near-first.ensures
+    c.of.ensures.window (with_memory c.args.self.now c.args.image.now).state c.requires fixed c.near-first.ensures

@@ -13,5 +13,5 @@ is_in w a h small behind =
 pub word-requires : goal.word-requires
 word-requires c = subst (λ o. HasWord o c.args.address) c.in-Some.is (c.requires.bytes c.args.address (is_in c.args.self.now c.args.address c.requires (omega arith) c.if-address-self.false))
 
-pub returns : goal.returns
-returns c = λ s h at. window_word s c.args.self.now c.in-Some.code c.args.address h c.in-Some.is at (is_in c.args.self.now c.args.address c.requires (omega arith) c.if-address-self.false) ∙ ap Some (sym c.word.ensures)
+pub returns-clause-word : goal.returns-clause-word
+returns-clause-word c = λ s h at. window_word s c.args.self.now c.in-Some.code c.args.address h c.in-Some.is at (is_in c.args.self.now c.args.address c.requires (omega arith) c.if-address-self.false) ∙ ap Some (sym c.word.ensures)
