@@ -10,6 +10,7 @@ use Rattle.qed_model.specs.Machine.Step.{State, step}
 use Rattle.qed_model.specs.Machine.Progress.{Progress, advanced, steps_after, progress}
 use Rattle.qed_model.specs.Promise.Changed.{changed, with_changes, changed_run, Ordered}
 use Rattle.fault_inject.specs.Counted.{changed_steps, IsPartOf}
+use Rattle.rv_step.proofs.Running.{progress_last}
 
 -- a machine after n steps with changes
 abbrev pub changed_progress : Progress → List Change → ℕ → Progress
@@ -89,12 +90,6 @@ pub counted_next : (m : Progress) (cs : List Change) (c : Change) → changed_st
 counted_next m cs c = later_steps m cs (c ∷ []) c.step c.step (omega arith, tt) (omega arith)
 
 -- ---- plain steps
--- one step more
-progress-last : (p : Progress) (n : ℕ) → progress p (suc n) ≡ advanced (progress p n)
-unfolding progress
-progress-last p zero = refl
-progress-last p (suc n) = progress-last (advanced p) n
-
 -- where all changes were made
 plain_step : (m : Progress) (cs : List Change) (t n : ℕ) → AllBy t cs → t ≤ n → changed_progress m cs (suc n) ≡ advanced (changed_progress m cs n)
 unfolding changed_run changed_steps advanced
@@ -106,7 +101,7 @@ unfolding progress
 plain m cs t zero by = let e : t + 0 ≡ t = omega arith in ap (changed_progress m cs) e
 plain m cs t (suc k) by =
     let e : t + suc k ≡ suc (t + k) = omega arith in
-    ap (changed_progress m cs) e ∙ plain_step m cs t (t + k) by (omega arith) ∙ ap advanced (plain m cs t k by) ∙ sym (progress-last (changed_progress m cs t) k)
+    ap (changed_progress m cs) e ∙ plain_step m cs t (t + k) by (omega arith) ∙ ap advanced (plain m cs t k by) ∙ sym (progress_last (changed_progress m cs t) k)
 
 -- ---- on the way
 -- a machine has made the first k changes of a list and so many steps, and the other changes come later

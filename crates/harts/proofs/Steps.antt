@@ -17,6 +17,7 @@ use Rattle.harts.specs.Together.{IsProgram, own_run, AreAlone}
 use Rattle.harts.specs.HartSteps.{counted_strike, counted_start, Counted, steps_turned, counted_turns, steps_after_turns, counted_after, own_steps, ShowsCounted}
 use Rattle.harts.proofs.Turns.{set_here, set_there}
 use Rattle.harts.proofs.Together.{turns_here, turns_there, earlier, stand_after, together}
+use Rattle.rv_step.proofs.Running.{progress_last}
 
 -- ---- the steps of each hart
 -- the number at a place of a list
@@ -106,12 +107,6 @@ same_steps : (gs : List Program) (ts : List ℕ) → (counted_turns (counted_sta
 unfolding counted_turns steps_after_turns
 same_steps gs [] = refl
 same_steps gs (t ∷ ts) = ap (λ w. steps_turned (slice_get w.harts t) t (counted_turns (counted_start gs) ts).steps) (same_world gs ts) ∙ ap (steps_turned (slice_get (world_after gs (λ i. []) ts).harts t) t) (same_steps gs ts)
-
--- one step more
-progress_last : (p : Progress) (n : ℕ) → progress p (suc n) ≡ advanced (progress p n)
-unfolding progress
-progress_last p zero = refl
-progress_last p (suc n) = progress_last (advanced p) n
 
 -- a run alone without changes, with its steps
 alone_progress : (s : State) (n : ℕ) → progress (begun s) n ≡ record { state = changed_run s [] n; steps = own_steps s [] n }

@@ -1,5 +1,5 @@
 -- Runs of a machine: one step more, and none where it does not go on.
-use Rattle.std.proofs.Common.{◌≡◌, ℕ, zero, suc, ◌+◌, ◌-◌, ◌^◌, ◌<◌, min, true, false, refl, sym, ap, ◌∙◌, arith, zero-add, Result, Ok, Err, IfErr}
+use Rattle.std.proofs.Common.{◌≡◌, ℕ, zero, suc, ◌+◌, ◌-◌, ◌^◌, ◌<◌, min, true, false, refl, sym, ap, ◌∙◌, arith, Result, Ok, Err, IfErr}
 use borrow.Author.Count.{below_more}
 use Rattle.qed_model.specs.declared.machine.Outcome.{Outcome}
 use Rattle.qed_model.specs.declared.machine.Outcome.TheVariants.{Going, Ended, Fired, Trapped}
@@ -36,30 +36,27 @@ stays_long p zero h = refl
 stays_long p (suc n) h = ap (λ q. progress q n) (stays p h) ∙ stays_long p n h
 
 -- ---- steps one behind the other
-one_step : (p : Progress) (n : ℕ) → progress p (suc n) ≡ progress (advanced p) n
-unfolding progress
-one_step p n = refl
-
 none_made : (p : Progress) → p ≡ progress p 0
 unfolding progress
 none_made p = refl
 
-step_behind : (p : Progress) (n : ℕ) → advanced (progress p n) ≡ progress p (suc n)
+-- one step more
+pub progress_last : (p : Progress) (n : ℕ) → progress p (suc n) ≡ advanced (progress p n)
 unfolding progress
-step_behind p zero = refl
-step_behind p (suc n) = step_behind (advanced p) n
+progress_last p zero = refl
+progress_last p (suc n) = progress_last (advanced p) n
 
-steps_behind : (p : Progress) (k n : ℕ) → progress (progress p k) n ≡ progress p (k + n)
-steps_behind p zero n = ap (λ q. progress q n) (sym (none_made p)) ∙ ap (progress p) (sym (zero-add n))
-steps_behind p (suc k) n =
-    let e : suc (k + n) ≡ suc k + n = omega arith in
-    ap (λ q. progress q n) (one_step p k) ∙ steps_behind (advanced p) k n ∙ sym (one_step p (k + n)) ∙ ap (progress p) e
+-- m + n steps are m steps and then n
+pub progress_more : (p : Progress) (m n : ℕ) → progress p (m + n) ≡ progress (progress p m) n
+unfolding progress
+progress_more p zero n = let e : zero + n ≡ n = omega arith in ap (progress p) e
+progress_more p (suc m) n = let e : suc m + n ≡ suc (m + n) = omega arith in ap (progress p) e ∙ progress_more (advanced p) m n
 
 -- a machine that stopped before
 pub stopped_before : (p : Progress) (k n : ℕ) → k < n → goes_on (progress p k).state.outcome ≡ false → progress p k ≡ progress p n
 stopped_before p k n h stop =
     let e : k + (n - k) ≡ n = omega (arith, h) in
-    sym (stays_long (progress p k) (n - k) stop) ∙ steps_behind p k (n - k) ∙ ap (progress p) e
+    sym (stays_long (progress p k) (n - k) stop) ∙ sym (progress_more p k (n - k)) ∙ ap (progress p) e
 
 -- ---- steps that are counted later
 pub made_none : (p : Progress) → IsMade p 0 p
@@ -74,7 +71,7 @@ made_more p q r n h goes stepped same =
     let here : goes_on (progress p n).state.outcome ≡ true = ap (λ s. goes_on s.outcome) (sym h.state) ∙ goes in
     let more : suc n ≡ n + 1 = omega arith in
     record {
-      state = stepped ∙ ap step h.state ∙ sym (state_advanced (progress p n)) ∙ ap (λ x. x.state) (step_behind p n) ∙ ap (λ k. (progress p k).state) more;
+      state = stepped ∙ ap step h.state ∙ sym (state_advanced (progress p n)) ∙ ap (λ x. x.state) (sym (progress_last p n)) ∙ ap (λ k. (progress p k).state) more;
       before = same ∙ h.before;
       going = below_more (λ k. goes_on (progress p k).state.outcome ≡ true) n h.going here;
     }
@@ -96,7 +93,7 @@ all_counted p zero small going =
 all_counted p (suc n) small going =
     let before : (progress p n).steps ≡ min (p.steps + n) (2 ^ 64 - 1) = all_counted p n small (λ k h. going k (omega (arith, h))) in
     let here : (advanced (progress p n)).steps ≡ counted (progress p n).steps = steps_advanced (progress p n) (going n (omega arith)) in
-    let last : (advanced (progress p n)).steps ≡ (progress p (suc n)).steps = ap (λ q. q.steps) (step_behind p n) in
+    let last : (advanced (progress p n)).steps ≡ (progress p (suc n)).steps = ap (λ q. q.steps) (sym (progress_last p n)) in
     omega (arith, before, here, last)
 
 same_progress : (p q : Progress) → p.state ≡ q.state → p.steps ≡ q.steps → p ≡ q

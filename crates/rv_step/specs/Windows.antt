@@ -26,7 +26,7 @@ abbrev pub IsKept : State → Option LoadSegment → Type 0
 IsKept s None = Unit {0}
 IsKept s (Some code) = IsFixed s.memory code
 
--- the state has these words, no store changes them, and its pc is a multiple of 4, as it stays
+-- the state has these words, no store changes them, and where there are any, its pc is a multiple of 4
 pub record IsWindow (s : State) (w : Window) : Type 0 where
   pub words : (a : ℕ) → IsIn w a → in_range a s.ranges ≡ true
   pub fixed : IsKept s w.code

@@ -88,7 +88,8 @@ impl Hart {
         Ok(self.outcome)
     }
 
-    /// The same, where the steps are not counted but in the answer. All steps are made here, so that LLVM makes one loop of them.
+    /// The same, but for the hart's count of steps, which stays: the answer has how many were made. All steps are made here, so that
+    /// LLVM makes one loop of them.
     #[inline(always)]
     fn run_uncounted(&mut self, image: &mut Image, n: u64) -> (u64, Result<(), AllocError>)
         ensures made { IsMade (with_memory self.old image.old) result.0 (with_memory self.new image.new) }

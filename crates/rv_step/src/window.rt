@@ -12,11 +12,11 @@ use mem_image::Code;
 /// Words of one code range and one page, which no store changes. There may be none.
 #[derive(Debug, Drop)]
 pub struct Window {
-    /// Words are here from this address on,
+    /// The first address of a word,
     first: u64,
-    /// at as many addresses.
+    /// and how many addresses there are from it on.
     count: u64,
-    /// Where there are words, the page has them.
+    /// The page, where there are any.
     code: Option<Code>,
 }
 

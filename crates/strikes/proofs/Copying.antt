@@ -10,16 +10,11 @@ use Rattle.qed_model.specs.Below.{each}
 use Rattle.qed_model.specs.Machine.Progress.{Progress, progress, advanced}
 use Rattle.qed_model.specs.Machine.Step.{State, run}
 use Rattle.qed_model.proofs.BelowLaws.{length-each}
+use Rattle.rv_step.proofs.Running.{progress_more}
 use Rattle.strikes.specs.Kept.{Copied, AreCopies, IsReach, AreKept}
 use Rattle.strikes.specs.Found.{StopsWithin}
 use Rattle.strikes.specs.Verdict.{StopsAt}
 use Rattle.strikes.proofs.Stopping.{going_before, progress_state}
-
--- m + n steps are m steps and then n
-progress-more : (p : Progress) (m n : ℕ) → progress p (m + n) ≡ progress (progress p m) n
-unfolding progress
-progress-more p zero n = let e : zero + n ≡ n = omega arith in ap (progress p) e
-progress-more p (suc m) n = let e : suc m + n ≡ suc (m + n) = omega arith in ap (progress p) e ∙ progress-more (advanced p) m n
 
 -- no step
 pub progress-none : (p : Progress) → p ≡ progress p (4096 * 0)
@@ -33,7 +28,7 @@ first_copy start first n e zero_copies = e ∙ progress-none start ∙ ap (λ k.
 pub next_copy : (p m n : Progress) (k : ℕ) → m ≡ progress p (4096 * k) → n ≡ progress m 4096 → n ≡ progress p (4096 * (k + 1))
 next_copy p m n k e ran =
     let sum : 4096 * k + 4096 ≡ 4096 * (k + 1) = omega arith in
-    ran ∙ ap (λ q. progress q 4096) e ∙ sym (progress-more p (4096 * k) 4096) ∙ ap (progress p) sum
+    ran ∙ ap (λ q. progress q 4096) e ∙ sym (progress_more p (4096 * k) 4096) ∙ ap (progress p) sum
 
 -- what a function gives at a number stands there
 last_each : {A : Type 0} (n : ℕ) (f : ℕ → A) (k : ℕ) (d : A) → (k < n → get_or (each n f) k d ≡ f k) → k < n + 1 → (k < n) ⊎ (n ≤ k) → get_or (each n f ++ f n ∷ []) k d ≡ f k
