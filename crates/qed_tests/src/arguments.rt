@@ -1,8 +1,8 @@
 //! The machine's arguments as they came, and the exit code.
 
-use crate::transformations::TWO_SUMS;
 use qed_io::{MemoryShelf, MemorySink};
 use qed_top::exit_code;
+use sample_files::{TWO_SUMS, first_file};
 use std::io::{Error, ErrorKind};
 use std::process::ExitCode;
 use std::test::Fail;
@@ -46,11 +46,14 @@ const CASES: [ArgumentsCase; 5] = [
     },
 ];
 
+/// What is told of the output.
+const LINE: &str =
+    "code 264 bytes, entries 1, pieces 1, half 4096, register bound 272, word bound none\n";
+
 #[test]
 fn arguments_become_words_and_an_exit_code(rt: HostRuntime) -> Result<(), Fail> {
     let alloc = rt.alloc();
-    let input = TWO_SUMS.input(alloc)?;
-    let line = TWO_SUMS.printed(alloc)?;
+    let input = first_file(alloc, TWO_SUMS)?;
     for case in CASES {
         let mut shelf = MemoryShelf::new(alloc);
         shelf.put_file("in", &input)?;
@@ -61,7 +64,7 @@ fn arguments_become_words_and_an_exit_code(rt: HostRuntime) -> Result<(), Fail> 
         };
         let code = exit_code(alloc, arguments, &mut shelf, &mut out);
         assert_eq!(rt; code, ExitCode::from(case.code), "{case:?}");
-        let printed = case.printed.unwrap_or(line.as_str());
+        let printed = case.printed.unwrap_or(LINE);
         assert_eq!(rt; out.bytes(), printed.as_bytes(), "{case:?}");
         assert_eq!(rt; shelf.file("out").is_some(), case.code == 0, "{case:?}");
     }

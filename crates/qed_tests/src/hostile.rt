@@ -1,28 +1,42 @@
 //! Files that are made to be answered late or wrongly.
 
-use crate::refusals::assert_answer;
-use crate::symbols::with_symbols;
-use crate::transformations::SECTION;
+use qed_io::{MemoryShelf, MemorySink};
 use sample_files::{CODE, CODE_OFFSET, ENTRY, Elf, ONE, Part, SectionRow, TWO_SUMS, Tables};
-use std::alloc::{AllocError, Global};
+use std::alloc::{Alloc, AllocError, Global};
+use std::process::Abort;
 use std::test::Fail;
+use test_calls::run;
 
-/// Why the first bytes of a file are refused, so many, where its section headers are last.
-fn cut_answer(size: usize) -> &'static str {
-    match size {
-        0..=3 => "refused E1: magic\n",
-        4..=63 => "refused E8: header\n",
-        64..=119 => "refused E8: program table\n",
-        _ => "refused E8: section table\n",
-    }
-}
+/// A section header with all fields 0.
+const SECTION: SectionRow = SectionRow {
+    name: 0,
+    kind: 0,
+    flags: 0,
+    address: 0,
+    offset: 0,
+    size: 0,
+    link: 0,
+    info: 0,
+    align: 0,
+    entry_size: 0,
+};
 
-#[test]
-fn each_part_of_a_file_is_refused(rt: HostRuntime) -> Result<(), Fail> {
-    let file = with_symbols(rt.alloc())?;
-    for size in 0..file.len() {
-        assert_answer(&rt, &file[..size], cut_answer(size), 3)?;
-    }
+/// Asserts that a file is answered by this text and exit code, and that nothing is stored.
+fn assert_answer<R: Abort + Alloc<A = Global>>(
+    rt: &R,
+    file: &[u8],
+    printed: &str,
+    code: u8,
+) -> Result<(), Fail> {
+    let alloc = rt.alloc();
+    let mut shelf = MemoryShelf::new(alloc);
+    shelf.put_file("in", file)?;
+    let mut out = MemorySink::new(alloc);
+    let status = run(alloc, &["transform", "in", "out"], &mut shelf, &mut out)?;
+    assert_eq!(rt; out.bytes(), printed.as_bytes());
+    assert_eq!(rt; status.code(), code, "{printed}");
+    assert!(rt; shelf.file("out").is_none(), "{printed}");
+    assert_eq!(rt; shelf.file("in"), Some(file), "{printed}");
     Ok(())
 }
 
@@ -97,33 +111,6 @@ fn the_output_has_too_many_segments(rt: HostRuntime) -> Result<(), Fail> {
     assert_answer(&rt, &file, "limit L8: 4003 over 4000\n", 4)
 }
 
-#[test]
-fn the_image_is_too_long(rt: HostRuntime) -> Result<(), Fail> {
-    let mut file = begun(rt.alloc(), 1)?;
-    Load(CODE_LOAD, CODE_OFFSET, ENTRY, 12, 1 << 40).push(&mut file)?;
-    push_words(&mut file, TWO_SUMS)?;
-    let printed = "limit L2: 1099511627776 over 67108864\n";
-    assert_answer(&rt, &file, printed, 4)
-}
-
-/// Where the code would not fit below 2^63.
-const HIGH: u64 = 0x7fff_ffff_f800_0000;
-
-#[test]
-fn the_image_is_too_high(rt: HostRuntime) -> Result<(), Fail> {
-    let file = Elf {
-        entry: HIGH,
-        parts: &[Part {
-            address: HIGH,
-            words: TWO_SUMS,
-            ..CODE
-        }],
-        ..ONE
-    };
-    let printed = "limit L7: 9223372036854788096 over 9223372036854775808\n";
-    assert_answer(&rt, &file.bytes(rt.alloc())?, printed, 4)
-}
-
 /// The two sums.
 const SUMS: Elf<'static> = Elf {
     parts: &[Part {
@@ -145,81 +132,6 @@ fn with_sections(
         names: 0,
     };
     SUMS.bytes_with_sections(alloc, tail, tables, sections)
-}
-
-#[test]
-fn there_are_too_many_sections(rt: HostRuntime) -> Result<(), Fail> {
-    let mut sections = Vec::new(rt.alloc());
-    sections.resize(4097, SECTION)?;
-    let file = with_sections(rt.alloc(), &[0; 4], &sections)?;
-    assert_answer(&rt, &file, "limit L5: 4097 over 4096\n", 4)
-}
-
-#[test]
-fn sections_are_where_they_may_not_be(rt: HostRuntime) -> Result<(), Fail> {
-    let before = SectionRow {
-        kind: 1,
-        flags: 6,
-        address: ENTRY - 4,
-        offset: CODE_OFFSET,
-        size: 8,
-        ..SECTION
-    };
-    let around = SectionRow {
-        flags: 2,
-        address: u64::MAX - 3,
-        ..before
-    };
-    let file = with_sections(rt.alloc(), &[0; 4], &[SECTION, before])?;
-    assert_answer(&rt, &file, "refused A5: part 1\n", 3)?;
-    let file = with_sections(rt.alloc(), &[0; 4], &[SECTION, around])?;
-    assert_answer(&rt, &file, "refused E11: section 1\n", 3)
-}
-
-/// The section headers: none, the code, the null symbol, its empty string table, and one relocation of the code.
-const RELOCATED: [SectionRow; 5] = [
-    SECTION,
-    SectionRow {
-        kind: 1,
-        flags: 6,
-        address: ENTRY,
-        offset: CODE_OFFSET,
-        size: 12,
-        ..SECTION
-    },
-    SectionRow {
-        kind: 2,
-        offset: 136,
-        size: 24,
-        link: 3,
-        entry_size: 24,
-        ..SECTION
-    },
-    SectionRow {
-        kind: 3,
-        offset: 136,
-        size: 1,
-        ..SECTION
-    },
-    SectionRow {
-        kind: 4,
-        offset: 160,
-        size: 24,
-        link: 2,
-        info: 1,
-        entry_size: 24,
-        ..SECTION
-    },
-];
-
-#[test]
-fn a_relocation_has_no_symbol(rt: HostRuntime) -> Result<(), Fail> {
-    let mut tail = Vec::new(rt.alloc());
-    tail.resize(28, 0)?;
-    // Of type R_RISCV_64, against symbol 1.
-    push_longs(&mut tail, &[ENTRY, 1 << 32 | 2, 0])?;
-    let file = with_sections(rt.alloc(), &tail, &RELOCATED)?;
-    assert_answer(&rt, &file, "refused E13: section 4, entry 0\n", 3)
 }
 
 /// A symbol of type STT_NOTYPE and SHN_ABS with the name at offset 1.

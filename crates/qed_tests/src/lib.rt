@@ -1,19 +1,7 @@
-//! Tests of the whole program as one call, over files and a sink in memory.
+//! Tests of the program as one call that rows cannot say: files with many records that differ, and unreadable arguments.
 #![tactic(auto)]
 
 #[cfg(test)]
 mod arguments;
 #[cfg(test)]
-mod faults;
-#[cfg(test)]
 mod hostile;
-#[cfg(test)]
-mod limits;
-#[cfg(test)]
-mod outputs;
-#[cfg(test)]
-mod refusals;
-#[cfg(test)]
-mod symbols;
-#[cfg(test)]
-mod transformations;

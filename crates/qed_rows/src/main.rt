@@ -1,0 +1,28 @@
+//! Rows: files of lines, each of which puts a file on a shelf in memory, makes a call, or shows what came of it.
+//! Each line is printed, and below it what it gave. The format is in `README.md`.
+#![tactic(auto)]
+
+mod bench;
+mod files;
+mod numbers;
+mod row;
+
+use crate::bench::Bench;
+use crate::row::tell;
+use std::{env, fs, io};
+
+fn main(rt: HostRuntime) -> io::Result<()> {
+    let alloc = rt.alloc();
+    let mut names = env::args(&rt)?;
+    let _ = names.next();
+    for name in names {
+        let rows = fs::read_to_string(&rt, name.as_str())?;
+        let mut bench = Bench::new(alloc);
+        for line in rows.lines() {
+            println!(rt; "{line}")?;
+            let told = tell(alloc, &mut bench, line)?;
+            print!(rt; "{told}")?;
+        }
+    }
+    Ok(())
+}
