@@ -2,10 +2,18 @@
 //! Each line is printed, and below it what it gave. The format is in `README.md`.
 #![tactic(auto)]
 
+mod asked;
 mod bench;
+mod calls;
+mod digest;
+mod file_parts;
 mod files;
+mod layer;
 mod numbers;
 mod row;
+mod shapes;
+mod struck;
+mod told;
 
 use crate::bench::Bench;
 use crate::row::tell;

@@ -32,3 +32,29 @@ pub fn bytes_of(alloc: Global, width: usize, text: &str) -> Result<Option<Vec<u8
     }
     Ok(Some(bytes))
 }
+
+/// A number, and how much greater it is in each later record: `0x40+8`, or `7` where it stays.
+fn growing(word: &str) -> Option<(u64, u64)> {
+    match split_once(word.as_bytes(), b'+') {
+        Some((value, step)) => Some((number(value)?, number(step)?)),
+        None => Some((number(word.as_bytes())?, 0)),
+    }
+}
+
+/// So many records of the numbers with spaces between them, each of 8 bytes; None where a word is no number.
+pub fn records_of(alloc: Global, count: u64, text: &str) -> Result<Option<Vec<u8>>, AllocError> {
+    let mut fields = Vec::new(alloc);
+    for word in text.split(' ') {
+        let Some(field) = growing(word) else {
+            return Ok(None);
+        };
+        fields.push(field)?;
+    }
+    let mut bytes = Vec::new(alloc);
+    for at in 0..count {
+        for (value, step) in &fields {
+            push(&mut bytes, 8, value.wrapping_add(step.wrapping_mul(at)))?;
+        }
+    }
+    Ok(Some(bytes))
+}

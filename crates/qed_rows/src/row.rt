@@ -1,48 +1,30 @@
 //! A line, and what it gives.
 
+use crate::asked::words;
 use crate::bench::Bench;
+use crate::calls::{ask, call, digest, start};
+use crate::digest::digest_of;
 use crate::files::{first, with};
-use crate::numbers::bytes_of;
-use md5::{Digest, Md5};
-use qed_top::qed;
-use qed_words::order;
+use crate::layer::tell_layer;
+use crate::numbers::{bytes_of, records_of};
 use std::alloc::{AllocError, Global};
 use texts::number;
-
-/// The words of a call: what stands between spaces.
-fn words(alloc: Global, line: &str) -> Result<Vec<String>, AllocError> {
-    let mut words = Vec::new(alloc);
-    for word in line.split(' ') {
-        words.push(String::from_str(alloc, word)?)?;
-    }
-    Ok(words)
-}
-
-/// What a call prints, and the exit code.
-fn call(alloc: Global, bench: &mut Bench, words: &[String]) -> Result<String, AllocError> {
-    let mut out = bench.sink(alloc)?;
-    let status = qed(alloc, words, &mut bench.shelf, &mut out);
-    let code = status.code();
-    match str::from_utf8(out.bytes()) {
-        Ok(text) => format!(in alloc; "{text}= {code}\n"),
-        Err(_) => format!(in alloc; "no text\n= {code}\n"),
-    }
-}
-
-/// What words ask for.
-fn ask(alloc: Global, words: &[String]) -> Result<String, AllocError> {
-    let answer = order(alloc, words);
-    format!(in alloc; "{answer:?}\n")
-}
 
 /// A file's size and digest.
 fn show(alloc: Global, bench: &Bench, name: &str) -> Result<String, AllocError> {
     let Some(bytes) = bench.shelf.file(name) else {
         return String::from_str(alloc, "no file\n");
     };
-    let size = bytes.len();
-    let digest = u128::from_be_bytes(Md5::digest(bytes));
-    format!(in alloc; "{size} bytes, md5 {digest:032x}\n")
+    let digest = digest_of(alloc, bytes)?;
+    format!(in alloc; "{digest}\n")
+}
+
+/// Appends bytes to a file, which is made where it is not there.
+fn append(alloc: Global, bench: &mut Bench, name: &str, new: &[u8]) -> Result<bool, AllocError> {
+    let old = bench.shelf.file(name).unwrap_or(&[]);
+    let all = with(alloc, old, old.len(), new)?;
+    bench.shelf.put_file(name, &all)?;
+    Ok(true)
 }
 
 /// Appends numbers to a file, each of so many bytes.
@@ -53,13 +35,27 @@ fn put(
     width: usize,
     text: &str,
 ) -> Result<bool, AllocError> {
-    let Some(new) = bytes_of(alloc, width, text)? else {
+    match bytes_of(alloc, width, text)? {
+        Some(new) => append(alloc, bench, name, &new),
+        None => Ok(false),
+    }
+}
+
+/// Appends records of numbers to a file, so many.
+fn put_records(
+    alloc: Global,
+    bench: &mut Bench,
+    name: &str,
+    rest: &str,
+) -> Result<bool, AllocError> {
+    let (count, text) = rest.split_once(' ').unwrap_or((rest, ""));
+    let Some(count) = number(count.as_bytes()) else {
         return Ok(false);
     };
-    let old = bench.shelf.file(name).unwrap_or(&[]);
-    let all = with(alloc, old, old.len(), &new)?;
-    bench.shelf.put_file(name, &all)?;
-    Ok(true)
+    match records_of(alloc, count, text)? {
+        Some(new) => append(alloc, bench, name, &new),
+        None => Ok(false),
+    }
 }
 
 /// Sets bytes of a file from a place on.
@@ -118,6 +114,7 @@ fn change(
         "bytes" => put(alloc, bench, name, 1, rest),
         "words" => put(alloc, bench, name, 4, rest),
         "longs" => put(alloc, bench, name, 8, rest),
+        "records" => put_records(alloc, bench, name, rest),
         "set" => set(alloc, bench, name, rest),
         "cut" => cut(alloc, bench, name, rest),
         "text" => {
@@ -127,6 +124,23 @@ fn change(
         "fail" => plan(bench, name, rest),
         _ => Ok(false),
     }
+}
+
+/// What a line about a file gives: nothing where it only changes the file.
+fn tell_file(
+    alloc: Global,
+    bench: &mut Bench,
+    what: &str,
+    rest: &str,
+) -> Result<String, AllocError> {
+    if let Some(text) = tell_layer(alloc, bench, what, rest)? {
+        return Ok(text);
+    }
+    let (name, rest) = rest.split_once(' ').unwrap_or((rest, ""));
+    if change(alloc, bench, what, name, rest)? {
+        return Ok(String::new(alloc));
+    }
+    String::from_str(alloc, "cannot be read\n")
 }
 
 /// What a line gives: nothing where it only changes files, and else a text that ends in a newline.
@@ -142,15 +156,10 @@ pub fn tell(alloc: Global, bench: &mut Bench, line: &str) -> Result<String, Allo
         }
         "qed" => call(alloc, bench, &words(alloc, rest)?),
         "alone" => call(alloc, bench, &[]),
+        "digest" => digest(alloc, bench, &words(alloc, rest)?),
+        "arguments" | "unreadable" | "starved" => start(alloc, bench, what, rest),
         "order" => ask(alloc, &words(alloc, rest)?),
         "show" => show(alloc, bench, rest),
-        _ => {
-            let (name, rest) = rest.split_once(' ').unwrap_or((rest, ""));
-            if change(alloc, bench, what, name, rest)? {
-                Ok(String::new(alloc))
-            } else {
-                String::from_str(alloc, "cannot be read\n")
-            }
-        }
+        _ => tell_file(alloc, bench, what, rest),
     }
 }

@@ -1,0 +1,49 @@
+//! What the words of a line ask for, by the command line's own rules.
+ghost use Rattle.std.specs.Prelude.{IfOk, IfSome};
+ghost use Rattle.qed_model.specs.Weave.Places.{AreSoundOptions};
+
+use qed_model::{Changes, Name, Options, Order};
+use qed_words::{WordsError, order};
+use std::alloc::{AllocError, Global};
+
+/// The words between spaces.
+pub fn words(alloc: Global, line: &str) -> Result<Vec<String>, AllocError> {
+    let mut words = Vec::new(alloc);
+    for word in line.split(' ') {
+        words.push(String::from_str(alloc, word)?)?;
+    }
+    Ok(words)
+}
+
+/// A file, and how its test is transformed.
+#[derive(Drop)]
+pub struct Asked {
+    pub name: Name,
+    pub options: Options,
+}
+
+/// The file and the options of a line, as `plan` takes them; None where it does not.
+pub fn planned(alloc: Global, line: &str) -> Result<Option<Asked>, AllocError>
+    ensures { IfOk result (λ asked. IfSome asked (λ a. AreSoundOptions a.options)) }
+{
+    let line = format!(in alloc; "plan {line}")?;
+    match order(alloc, &words(alloc, &line)?) {
+        Ok(Order::Plan(name, options)) => Ok(Some(Asked { name, options })),
+        Err(WordsError::Memory) => Err(AllocError),
+        _ => Ok(None),
+    }
+}
+
+/// The changes of a line, as `--fault` takes them, in the order of their steps; None where it does not.
+pub fn changes(alloc: Global, line: &str) -> Result<Option<Changes>, AllocError> {
+    let mut all = words(alloc, "run file")?;
+    for word in line.split(' ') {
+        all.push(String::from_str(alloc, "--fault")?)?;
+        all.push(String::from_str(alloc, word)?)?;
+    }
+    match order(alloc, &all) {
+        Ok(Order::Run(_, _, changes, _)) => Ok(Some(changes)),
+        Err(WordsError::Memory) => Err(AllocError),
+        _ => Ok(None),
+    }
+}

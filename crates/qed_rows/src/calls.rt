@@ -1,0 +1,79 @@
+//! Lines that make a call.
+
+use crate::asked::words;
+use crate::bench::Bench;
+use crate::digest::digest_of;
+use qed_io::MemorySink;
+use qed_top::{exit_code, qed};
+use qed_words::order;
+use std::alloc::{AllocError, Global};
+use std::env::Args;
+use std::io;
+use std::io::{Error, ErrorKind};
+use std::process::ExitCode;
+
+/// What was printed, and an exit code.
+fn printed(alloc: Global, out: &MemorySink, code: u8) -> Result<String, AllocError> {
+    let text = str::from_utf8(out.bytes()).unwrap_or("no text\n");
+    format!(in alloc; "{text}= {code}\n")
+}
+
+/// What a call prints, and the exit code.
+pub fn call(alloc: Global, bench: &mut Bench, words: &[String]) -> Result<String, AllocError> {
+    let mut out = bench.sink(alloc)?;
+    let status = qed(alloc, words, &mut bench.shelf, &mut out);
+    printed(alloc, &out, status.code())
+}
+
+/// The size and the digest of what a call prints, and the exit code.
+pub fn digest(alloc: Global, bench: &mut Bench, words: &[String]) -> Result<String, AllocError> {
+    let mut out = bench.sink(alloc)?;
+    let status = qed(alloc, words, &mut bench.shelf, &mut out);
+    let text = digest_of(alloc, out.bytes())?;
+    let code = status.code();
+    format!(in alloc; "{text}\n= {code}\n")
+}
+
+/// What words ask for.
+pub fn ask(alloc: Global, words: &[String]) -> Result<String, AllocError> {
+    let answer = order(alloc, words);
+    format!(in alloc; "{answer:?}\n")
+}
+
+/// The number of an exit code, of those that there are.
+fn number_of(code: ExitCode) -> u8 {
+    for number in 0..=7 {
+        if code == ExitCode::from(number) {
+            return number;
+        }
+    }
+    u8::MAX
+}
+
+/// What the program prints and its exit code, where the machine hands it these arguments.
+fn hand_over(
+    alloc: Global,
+    bench: &mut Bench,
+    arguments: io::Result<Args>,
+) -> Result<String, AllocError> {
+    let mut out = bench.sink(alloc)?;
+    let code = exit_code(alloc, arguments, &mut bench.shelf, &mut out);
+    printed(alloc, &out, number_of(code))
+}
+
+/// The same for the arguments of a line, of which the first is the program's name; `unreadable` ones; and `starved` ones, for
+/// which the machine had no memory.
+pub fn start(
+    alloc: Global,
+    bench: &mut Bench,
+    what: &str,
+    rest: &str,
+) -> Result<String, AllocError> {
+    let arguments = match what {
+        "unreadable" => Err(Error::from(ErrorKind::InvalidData)),
+        "starved" => Err(Error::from(ErrorKind::OutOfMemory)),
+        _ if rest.is_empty() => Ok(Vec::new(alloc).into_iter()),
+        _ => Ok(words(alloc, rest)?.into_iter()),
+    };
+    hand_over(alloc, bench, arguments)
+}

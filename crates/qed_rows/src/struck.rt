@@ -1,0 +1,76 @@
+//! What is told of strikes: what single ones show, and which places are closed.
+ghost use Rattle.qed_model.specs.Weave.Places.{AreSoundOptions};
+
+use crate::file_parts::{refusal, text_of};
+use campaign::Course;
+use elf_read::read_elf;
+use fault_inject::closed;
+use qed_model::{Changes, Options, Place};
+use report::campaign_text;
+use rv_step::Machine;
+use std::alloc::{AllocError, Global};
+use transform::TransformError;
+
+/// The output of a test, ready to be struck; None where it has none.
+fn course(alloc: Global, bytes: &[u8], options: &Options) -> Result<Option<Course>, AllocError>
+    requires { AreSoundOptions options.now }
+{
+    match Course::prepare(alloc, bytes, options) {
+        Ok(course) => Ok(Some(course)),
+        Err(TransformError::Memory) => Err(AllocError),
+        Err(_) => Ok(None),
+    }
+}
+
+/// After how many steps the output of a test may be struck, and how many copies are kept.
+pub fn reach(alloc: Global, bytes: &[u8], options: &Options) -> Result<String, AllocError>
+    requires { AreSoundOptions options.now }
+{
+    let Some(course) = course(alloc, bytes, options)? else {
+        return String::from_str(alloc, "no output\n");
+    };
+    let (reach, snapshots) = (course.reach(), course.snapshots());
+    format!(in alloc; "reach {reach} snapshots {snapshots}\n")
+}
+
+/// What changes of the run of a test's output show, as a campaign of that one strike tells it.
+pub fn strike(
+    alloc: Global,
+    bytes: &[u8],
+    options: &Options,
+    changes: Changes,
+) -> Result<String, AllocError>
+    requires { AreSoundOptions options.now }
+{
+    let Some(course) = course(alloc, bytes, options)? else {
+        return String::from_str(alloc, "no output\n");
+    };
+    if !course.is_strike(changes.as_slice()) {
+        return String::from_str(alloc, "no strike\n");
+    }
+    let strikes = [changes];
+    let campaign = course.strike_all(alloc, &strikes)?;
+    let text = campaign_text(alloc, &campaign.struck, course.plan(), campaign.trapped)?;
+    text_of(alloc, &text)
+}
+
+/// Whether a place is closed after so many steps of a file.
+pub fn closing(
+    alloc: Global,
+    bytes: &[u8],
+    step: u64,
+    place: &Place,
+) -> Result<String, AllocError> {
+    let file = match read_elf(alloc, bytes) {
+        Ok(file) => file,
+        Err(error) => return refusal(alloc, error),
+    };
+    let mut machine = Machine::start(alloc, &file, &[0; 32])?;
+    machine.run(step)?;
+    let word = if closed(&machine, place) {
+        "closed\n"
+    } else {
+        "open\n"
+    };
+    String::from_str(alloc, word)
+}
