@@ -11,8 +11,6 @@ mod sink;
 mod std_sink;
 mod stored_files;
 mod streams;
-#[cfg(test)]
-mod tests;
 
 pub use dir_shelf::DirShelf;
 pub use memory_shelf::MemoryShelf;

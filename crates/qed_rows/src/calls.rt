@@ -3,7 +3,6 @@
 use crate::asked::words;
 use crate::bench::Bench;
 use crate::digest::digest_of;
-use qed_io::MemorySink;
 use qed_top::{exit_code, qed};
 use qed_words::order;
 use std::alloc::{AllocError, Global};
@@ -13,8 +12,8 @@ use std::io::{Error, ErrorKind};
 use std::process::ExitCode;
 
 /// What was printed, and an exit code.
-fn printed(alloc: Global, out: &MemorySink, code: u8) -> Result<String, AllocError> {
-    let text = str::from_utf8(out.bytes()).unwrap_or("no text\n");
+pub fn printed(alloc: Global, out: &[u8], code: u8) -> Result<String, AllocError> {
+    let text = str::from_utf8(out).unwrap_or("no text\n");
     format!(in alloc; "{text}= {code}\n")
 }
 
@@ -22,7 +21,7 @@ fn printed(alloc: Global, out: &MemorySink, code: u8) -> Result<String, AllocErr
 pub fn call(alloc: Global, bench: &mut Bench, words: &[String]) -> Result<String, AllocError> {
     let mut out = bench.sink(alloc)?;
     let status = qed(alloc, words, &mut bench.shelf, &mut out);
-    printed(alloc, &out, status.code())
+    printed(alloc, out.bytes(), status.code())
 }
 
 /// The size and the digest of what a call prints, and the exit code.
@@ -58,7 +57,7 @@ fn hand_over(
 ) -> Result<String, AllocError> {
     let mut out = bench.sink(alloc)?;
     let code = exit_code(alloc, arguments, &mut bench.shelf, &mut out);
-    printed(alloc, &out, number_of(code))
+    printed(alloc, out.bytes(), number_of(code))
 }
 
 /// The same for the arguments of a line, of which the first is the program's name; `unreadable` ones; and `starved` ones, for

@@ -9,6 +9,7 @@ mod digest;
 mod file_parts;
 mod files;
 mod layer;
+mod machine;
 mod numbers;
 mod row;
 mod shapes;
@@ -28,7 +29,7 @@ fn main(rt: HostRuntime) -> io::Result<()> {
         let mut bench = Bench::new(alloc);
         for line in rows.lines() {
             println!(rt; "{line}")?;
-            let told = tell(alloc, &mut bench, line)?;
+            let told = tell(&rt, &mut bench, line)?;
             print!(rt; "{told}")?;
         }
     }

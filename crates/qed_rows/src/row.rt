@@ -6,6 +6,7 @@ use crate::calls::{ask, call, digest, start};
 use crate::digest::digest_of;
 use crate::files::{first, with};
 use crate::layer::tell_layer;
+use crate::machine::tell_machine;
 use crate::numbers::{bytes_of, records_of};
 use std::alloc::{AllocError, Global};
 use texts::number;
@@ -128,12 +129,16 @@ fn change(
 
 /// What a line about a file gives: nothing where it only changes the file.
 fn tell_file(
-    alloc: Global,
+    rt: &HostRuntime,
     bench: &mut Bench,
     what: &str,
     rest: &str,
 ) -> Result<String, AllocError> {
+    let alloc = rt.alloc();
     if let Some(text) = tell_layer(alloc, bench, what, rest)? {
+        return Ok(text);
+    }
+    if let Some(text) = tell_machine(rt, bench, what, rest)? {
         return Ok(text);
     }
     let (name, rest) = rest.split_once(' ').unwrap_or((rest, ""));
@@ -144,7 +149,8 @@ fn tell_file(
 }
 
 /// What a line gives: nothing where it only changes files, and else a text that ends in a newline.
-pub fn tell(alloc: Global, bench: &mut Bench, line: &str) -> Result<String, AllocError> {
+pub fn tell(rt: &HostRuntime, bench: &mut Bench, line: &str) -> Result<String, AllocError> {
+    let alloc = rt.alloc();
     if line.is_empty() || line.starts_with('#') {
         return Ok(String::new(alloc));
     }
@@ -160,6 +166,6 @@ pub fn tell(alloc: Global, bench: &mut Bench, line: &str) -> Result<String, Allo
         "arguments" | "unreadable" | "starved" => start(alloc, bench, what, rest),
         "order" => ask(alloc, &words(alloc, rest)?),
         "show" => show(alloc, bench, rest),
-        _ => tell_file(alloc, bench, what, rest),
+        _ => tell_file(rt, bench, what, rest),
     }
 }

@@ -1,0 +1,129 @@
+//! Lines over the machine's own files, and over shelves and sinks of other kinds.
+
+use crate::asked::words;
+use crate::bench::Bench;
+use crate::calls::printed;
+use qed_io::{DirShelf, NeverShelf, NeverSink, WriterSink};
+use qed_top::qed;
+use std::alloc::{AllocError, Global};
+use std::io::{Error, ErrorKind, Write};
+use std::os::unix::fs::symlink;
+use std::{fs, io};
+use texts::number;
+
+/// A writer that takes at most two bytes at once, says once that a signal came, and has room for so many bytes.
+#[derive(Drop)]
+struct Narrow {
+    taken: Vec<u8>,
+    room: usize,
+    is_interrupted: bool,
+}
+
+impl Write for Narrow {
+    fn write(&mut self, buf: &[u8]) -> io::Result<usize> {
+        if self.is_interrupted {
+            self.is_interrupted = false;
+            return Err(Error::from(ErrorKind::Interrupted));
+        }
+        if self.taken.len() >= self.room {
+            return Err(Error::from(ErrorKind::StorageFull));
+        }
+        let count = buf.len().min(2);
+        self.taken.extend_from_slice(&buf[..count])?;
+        Ok(count)
+    }
+
+    fn flush(&mut self) -> io::Result<()> {
+        Ok(())
+    }
+}
+
+/// Does what the words behind a number ask for, and prints it to a narrow writer with room for so many bytes.
+fn print_narrow(alloc: Global, bench: &mut Bench, line: &str) -> Result<String, AllocError> {
+    let (room, rest) = line.split_once(' ').unwrap_or((line, ""));
+    let mut out = WriterSink::over(Narrow {
+        taken: Vec::new(alloc),
+        room: number(room.as_bytes()).unwrap_or(0) as usize,
+        is_interrupted: true,
+    });
+    let status = qed(alloc, &words(alloc, rest)?, &mut bench.shelf, &mut out);
+    printed(alloc, &out.writer.taken, status.code())
+}
+
+/// Does what words ask for over a shelf and a sink that never fail, with the files of the bench that the words name.
+fn never(alloc: Global, bench: &Bench, line: &str) -> Result<String, AllocError> {
+    let words = words(alloc, line)?;
+    let mut shelf = NeverShelf::new(alloc);
+    for word in &words {
+        if let Some(bytes) = bench.shelf.file(word.as_str()) {
+            shelf.put_file(word.as_str(), bytes)?;
+        }
+    }
+    let mut out = NeverSink::new(alloc);
+    let status = qed(alloc, &words, &mut shelf, &mut out);
+    printed(alloc, out.bytes(), status.code())
+}
+
+/// Does what words ask for over the machine's files.
+fn disk(rt: &HostRuntime, bench: &Bench, line: &str) -> Result<String, AllocError> {
+    let alloc = rt.alloc();
+    let mut out = bench.sink(alloc)?;
+    let mut shelf = DirShelf::new(alloc, rt);
+    let status = qed(alloc, &words(alloc, line)?, &mut shelf, &mut out);
+    printed(alloc, out.bytes(), status.code())
+}
+
+/// Moves a file between the bench and the machine, or links one of the machine's names to another; tells whether that was done.
+fn place(rt: &HostRuntime, bench: &mut Bench, what: &str, rest: &str) -> Result<bool, AllocError> {
+    match what {
+        "put" => match bench.shelf.file(rest) {
+            Some(bytes) => Ok(fs::write(rt, rest, bytes).is_ok()),
+            None => Ok(false),
+        },
+        "take" => match fs::read(rt, rest) {
+            Ok(bytes) => {
+                bench.shelf.put_file(rest, &bytes)?;
+                Ok(true)
+            }
+            Err(_) => Ok(false),
+        },
+        _ => match rest.split_once(' ') {
+            Some((name, target)) => Ok(symlink(rt, target, name).is_ok()),
+            None => Ok(false),
+        },
+    }
+}
+
+/// What stands under one of the machine's names.
+fn kind(rt: &HostRuntime, name: &str) -> &'static str {
+    match fs::symlink_metadata(rt, name) {
+        Ok(found) if found.is_symlink() => "link\n",
+        Ok(_) => "file\n",
+        Err(_) => "nothing\n",
+    }
+}
+
+/// What a line about the machine's files, or about other shelves and sinks, gives; None where it is none.
+pub fn tell_machine(
+    rt: &HostRuntime,
+    bench: &mut Bench,
+    what: &str,
+    rest: &str,
+) -> Result<Option<String>, AllocError> {
+    let alloc = rt.alloc();
+    match what {
+        "disk" => Ok(Some(disk(rt, bench, rest)?)),
+        "never" => Ok(Some(never(alloc, bench, rest)?)),
+        "narrow" => Ok(Some(print_narrow(alloc, bench, rest)?)),
+        "kind" => Ok(Some(String::from_str(alloc, kind(rt, rest))?)),
+        "put" | "take" | "link" => {
+            let answer = if place(rt, bench, what, rest)? {
+                ""
+            } else {
+                "not done\n"
+            };
+            Ok(Some(String::from_str(alloc, answer)?))
+        }
+        _ => Ok(None),
+    }
+}
