@@ -7,6 +7,3 @@ mod list;
 
 pub use block::{Blocks, CodeBlock, Instructions, Lengths};
 pub use list::blocks;
-
-#[cfg(test)]
-mod tests;

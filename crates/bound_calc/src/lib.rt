@@ -4,6 +4,3 @@
 mod steps;
 
 pub use steps::bounds;
-
-#[cfg(test)]
-mod tests;

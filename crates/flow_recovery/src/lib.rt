@@ -9,6 +9,3 @@ mod words;
 
 pub use classes::{has_target, is_end, is_indirect};
 pub use recovery::{has_indirect, leaders};
-
-#[cfg(test)]
-mod tests;

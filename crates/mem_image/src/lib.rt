@@ -16,6 +16,3 @@ mod within;
 pub use code::Code;
 pub use image::Image;
 pub use spec::{ImageError, SegmentSpec};
-
-#[cfg(test)]
-mod tests;

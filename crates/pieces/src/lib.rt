@@ -62,3 +62,6 @@ pub fn woven_piece(
     let out = emitted(passes, alloc, list, first)?;
     Ok(out)
 }
+
+#[cfg(test)]
+mod tests;

@@ -12,8 +12,6 @@ mod limits;
 mod plan;
 mod run;
 mod tally;
-#[cfg(test)]
-mod tests;
 mod transform;
 mod usage;
 mod world;

@@ -11,6 +11,3 @@ mod tables;
 
 pub use code::code_words;
 pub use file::generate;
-
-#[cfg(test)]
-mod tests;

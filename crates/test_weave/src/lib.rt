@@ -24,6 +24,3 @@ pub fn blocks_fit()
 pub fn items_are_whole()
     ensures { ItemsAreWhole }
 {}
-
-#[cfg(test)]
-mod tests;
