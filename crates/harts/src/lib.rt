@@ -47,5 +47,3 @@ pub fn world_laws()
     ensures { WorldLaws }
 {}
 
-#[cfg(test)]
-mod tests;

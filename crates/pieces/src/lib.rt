@@ -63,5 +63,3 @@ pub fn woven_piece(
     Ok(out)
 }
 
-#[cfg(test)]
-mod tests;

@@ -16,5 +16,3 @@ pub use parts::parts_join;
 pub use search::place_of;
 pub use sink::ItemSink;
 
-#[cfg(test)]
-mod tests;

@@ -1,7 +1,7 @@
 //! Pieces that are woven whole, which no program does.
 
-use crate::{diverse_piece, piece, woven_diverse, woven_piece};
 use elf_types::Listed;
+use pieces::{diverse_piece, piece, woven_diverse, woven_piece};
 use std::test::Fail;
 
 /// A piece of no instruction, where no word is visited, is the comparison of 13 registers.

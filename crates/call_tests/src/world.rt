@@ -3,8 +3,8 @@ ghost use Rattle.std.specs.Prelude.{◌≡◌, ◌<◌, ◌^◌, IfOk};
 ghost use Rattle.qed_model.specs.Machine.Loading.{load_segments};
 ghost use Rattle.qed_model.specs.Machine.Apart.{AllFitMemory, AreApart};
 
-use crate::World;
 use elf_types::{Bytes, ElfFile, Listed, Segment};
+use harts::World;
 use qed_model::Place;
 use rv_isa::Reg;
 use std::alloc::{AllocError, Global};

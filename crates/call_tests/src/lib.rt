@@ -1,0 +1,9 @@
+//! Public calls that no program makes, each made once with ample memory.
+#![tactic(auto)]
+
+#[cfg(test)]
+mod jumps;
+#[cfg(test)]
+mod world;
+#[cfg(test)]
+mod woven;
