@@ -46,4 +46,3 @@ pub fn files_apart()
 pub fn world_laws()
     ensures { WorldLaws }
 {}
-

@@ -62,4 +62,3 @@ pub fn woven_piece(
     let out = emitted(passes, alloc, list, first)?;
     Ok(out)
 }
-

@@ -15,4 +15,3 @@ pub use layout::{Layout, Linked, lay, link};
 pub use parts::parts_join;
 pub use search::place_of;
 pub use sink::ItemSink;
-
