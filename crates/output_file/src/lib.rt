@@ -17,6 +17,3 @@ pub use output::{bare_file, with_symbols};
 pub use symbols::symbols_size;
 pub use table::has_table;
 pub use told::{plan, word_count};
-
-#[cfg(test)]
-mod tests;
