@@ -1,6 +1,5 @@
 mod Counting
 pub mod Joining
-mod JumpItems
 pub mod Laying
 mod Places
 mod Reach

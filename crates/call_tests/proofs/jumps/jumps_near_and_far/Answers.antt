@@ -1,7 +1,7 @@
 use Rattle.std.proofs.Common.{true, false, ◌++◌, sym, ap, ◌∙◌, subst}
 use Rattle.relinker.specs.Link.{IsLinkable}
-use Rattle.relinker.proofs.JumpItems.{jump_items, near_linkable, far_linkable}
-use Rattle.relinker.proofs.tests.jumps_near_and_far.Goals as goal
+use Rattle.call_tests.proofs.JumpItems.{jump_items, near_linkable, far_linkable}
+use Rattle.call_tests.proofs.jumps.jumps_near_and_far.Goals as goal
 
 pub link-requires-clause-linkable : goal.link-requires-clause-linkable
 link-requires-clause-linkable g c =
