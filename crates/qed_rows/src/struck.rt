@@ -5,10 +5,11 @@ use crate::file_parts::{refusal, text_of};
 use campaign::Course;
 use elf_read::read_elf;
 use fault_inject::closed;
-use qed_model::{Changes, Options, Place};
+use qed_model::{Changes, Options, Place, Struck};
 use report::campaign_text;
 use rv_step::Machine;
 use std::alloc::{AllocError, Global};
+use strikes::StrikeError;
 use transform::TransformError;
 
 /// The output of a test, ready to be struck; None where it has none.
@@ -48,9 +49,11 @@ pub fn strike(
     if !course.is_strike(changes.as_slice()) {
         return String::from_str(alloc, "no strike\n");
     }
-    let strikes = [changes];
-    let campaign = course.strike_all(alloc, &strikes)?;
-    let text = campaign_text(alloc, &campaign.struck, course.plan(), campaign.trapped)?;
+    let text = match course.strike(alloc, changes.as_slice()) {
+        Ok(verdict) => campaign_text(alloc, &[Struck { changes, verdict }], course.plan(), None)?,
+        Err(StrikeError::Trapped(pc)) => campaign_text(alloc, &[], course.plan(), Some(pc))?,
+        Err(StrikeError::Memory) => return Err(AllocError),
+    };
     text_of(alloc, &text)
 }
 
