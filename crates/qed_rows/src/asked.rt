@@ -7,7 +7,7 @@ use qed_words::{WordsError, order};
 use std::alloc::{AllocError, Global};
 
 /// The words between spaces.
-pub fn words(alloc: Global, line: &str) -> Result<Vec<String>, AllocError> {
+pub(crate) fn words(alloc: Global, line: &str) -> Result<Vec<String>, AllocError> {
     let mut words = Vec::new(alloc);
     for word in line.split(' ') {
         words.push(String::from_str(alloc, word)?)?;
@@ -23,7 +23,7 @@ pub struct Asked {
 }
 
 /// The file and the options of a line, as `plan` takes them; None where it does not.
-pub fn planned(alloc: Global, line: &str) -> Result<Option<Asked>, AllocError>
+pub(crate) fn planned(alloc: Global, line: &str) -> Result<Option<Asked>, AllocError>
     ensures { IfOk result (λ asked. IfSome asked (λ a. AreSoundOptions a.options)) }
 {
     let line = format!(in alloc; "plan {line}")?;
@@ -35,7 +35,7 @@ pub fn planned(alloc: Global, line: &str) -> Result<Option<Asked>, AllocError>
 }
 
 /// The changes of a line, as `--fault` takes them, in the order of their steps; None where it does not.
-pub fn changes(alloc: Global, line: &str) -> Result<Option<Changes>, AllocError> {
+pub(crate) fn changes(alloc: Global, line: &str) -> Result<Option<Changes>, AllocError> {
     let mut all = words(alloc, "run file")?;
     for word in line.split(' ') {
         all.push(String::from_str(alloc, "--fault")?)?;

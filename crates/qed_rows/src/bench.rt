@@ -15,7 +15,7 @@ pub struct Bench {
 
 impl Bench {
     /// An empty shelf, and sinks that do not fail.
-    pub fn new(alloc: Global) -> Bench {
+    pub(crate) fn new(alloc: Global) -> Bench {
         Bench {
             shelf: MemoryShelf::new(alloc),
             failing: None,
@@ -24,7 +24,7 @@ impl Bench {
     }
 
     /// The sink of a call.
-    pub fn sink(&self, alloc: Global) -> Result<MemorySink, AllocError> {
+    pub(crate) fn sink(&self, alloc: Global) -> Result<MemorySink, AllocError> {
         let mut out = MemorySink::new(alloc);
         if let Some(call) = self.failing {
             out.fail_call(call)?;

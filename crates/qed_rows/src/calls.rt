@@ -12,20 +12,28 @@ use std::io::{Error, ErrorKind};
 use std::process::ExitCode;
 
 /// What was printed, and an exit code.
-pub fn printed(alloc: Global, out: &[u8], code: u8) -> Result<String, AllocError> {
+pub(crate) fn printed(alloc: Global, out: &[u8], code: u8) -> Result<String, AllocError> {
     let text = str::from_utf8(out).unwrap_or("no text\n");
     format!(in alloc; "{text}= {code}\n")
 }
 
 /// What a call prints, and the exit code.
-pub fn call(alloc: Global, bench: &mut Bench, words: &[String]) -> Result<String, AllocError> {
+pub(crate) fn call(
+    alloc: Global,
+    bench: &mut Bench,
+    words: &[String],
+) -> Result<String, AllocError> {
     let mut out = bench.sink(alloc)?;
     let status = qed(alloc, words, &mut bench.shelf, &mut out);
     printed(alloc, out.bytes(), status.code())
 }
 
 /// The size and the digest of what a call prints, and the exit code.
-pub fn digest(alloc: Global, bench: &mut Bench, words: &[String]) -> Result<String, AllocError> {
+pub(crate) fn digest(
+    alloc: Global,
+    bench: &mut Bench,
+    words: &[String],
+) -> Result<String, AllocError> {
     let mut out = bench.sink(alloc)?;
     let status = qed(alloc, words, &mut bench.shelf, &mut out);
     let text = digest_of(alloc, out.bytes())?;
@@ -34,7 +42,7 @@ pub fn digest(alloc: Global, bench: &mut Bench, words: &[String]) -> Result<Stri
 }
 
 /// What words ask for.
-pub fn ask(alloc: Global, words: &[String]) -> Result<String, AllocError> {
+pub(crate) fn ask(alloc: Global, words: &[String]) -> Result<String, AllocError> {
     let answer = order(alloc, words);
     format!(in alloc; "{answer:?}\n")
 }
@@ -62,7 +70,7 @@ fn hand_over(
 
 /// The same for the arguments of a line, of which the first is the program's name; `unreadable` ones; and `starved` ones, for
 /// which the machine had no memory.
-pub fn start(
+pub(crate) fn start(
     alloc: Global,
     bench: &mut Bench,
     what: &str,

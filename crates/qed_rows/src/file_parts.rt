@@ -65,17 +65,17 @@ fn lines(alloc: Global, file: &ElfFile) -> Result<String, AllocError> {
 }
 
 /// A printed line as text.
-pub fn text_of(alloc: Global, line: &Bytes) -> Result<String, AllocError> {
+pub(crate) fn text_of(alloc: Global, line: &Bytes) -> Result<String, AllocError> {
     String::from_str(alloc, named(line))
 }
 
 /// The line about a file that is not read.
-pub fn refusal(alloc: Global, error: ElfError) -> Result<String, AllocError> {
+pub(crate) fn refusal(alloc: Global, error: ElfError) -> Result<String, AllocError> {
     text_of(alloc, &error_text(alloc, error)?)
 }
 
 /// What is read of a file.
-pub fn read(alloc: Global, bytes: &[u8]) -> Result<String, AllocError> {
+pub(crate) fn read(alloc: Global, bytes: &[u8]) -> Result<String, AllocError> {
     match read_elf(alloc, bytes) {
         Ok(file) => lines(alloc, &file),
         Err(error) => refusal(alloc, error),

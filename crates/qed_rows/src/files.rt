@@ -3,12 +3,17 @@
 use std::alloc::{AllocError, Global};
 
 /// The first bytes, so many, or all where there are fewer.
-pub fn first(bytes: &[u8], count: usize) -> &[u8] {
+pub(crate) fn first(bytes: &[u8], count: usize) -> &[u8] {
     bytes.get(..count).unwrap_or(bytes)
 }
 
 /// A copy in which other bytes stand from a place on.
-pub fn with(alloc: Global, old: &[u8], at: usize, new: &[u8]) -> Result<Vec<u8>, AllocError> {
+pub(crate) fn with(
+    alloc: Global,
+    old: &[u8],
+    at: usize,
+    new: &[u8],
+) -> Result<Vec<u8>, AllocError> {
     let mut all = Vec::new(alloc);
     all.extend_from_slice(first(old, at))?;
     all.extend_from_slice(new)?;

@@ -65,7 +65,7 @@ fn closed_line(alloc: Global, bench: &Bench, rest: &str) -> Result<Option<String
 }
 
 /// What a line about a layer gives; None where it is none.
-pub fn tell_layer(
+pub(crate) fn tell_layer(
     alloc: Global,
     bench: &Bench,
     what: &str,

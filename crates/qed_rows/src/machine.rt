@@ -104,7 +104,7 @@ fn kind(rt: &HostRuntime, name: &str) -> &'static str {
 }
 
 /// What a line about the machine's files, or about other shelves and sinks, gives; None where it is none.
-pub fn tell_machine(
+pub(crate) fn tell_machine(
     rt: &HostRuntime,
     bench: &mut Bench,
     what: &str,

@@ -20,7 +20,11 @@ fn push(bytes: &mut Vec<u8>, width: usize, value: u64) -> Result<(), AllocError>
 }
 
 /// The bytes of numbers with spaces between them, each of so many bytes; None where a word is no number.
-pub fn bytes_of(alloc: Global, width: usize, text: &str) -> Result<Option<Vec<u8>>, AllocError> {
+pub(crate) fn bytes_of(
+    alloc: Global,
+    width: usize,
+    text: &str,
+) -> Result<Option<Vec<u8>>, AllocError> {
     let mut bytes = Vec::new(alloc);
     for word in text.split(' ') {
         let Some((value, times)) = repeated(word) else {
@@ -42,7 +46,11 @@ fn growing(word: &str) -> Option<(u64, u64)> {
 }
 
 /// So many records of the numbers with spaces between them, each of 8 bytes; None where a word is no number.
-pub fn records_of(alloc: Global, count: u64, text: &str) -> Result<Option<Vec<u8>>, AllocError> {
+pub(crate) fn records_of(
+    alloc: Global,
+    count: u64,
+    text: &str,
+) -> Result<Option<Vec<u8>>, AllocError> {
     let mut fields = Vec::new(alloc);
     for word in text.split(' ') {
         let Some(field) = growing(word) else {

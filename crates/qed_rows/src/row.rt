@@ -149,7 +149,7 @@ fn tell_file(
 }
 
 /// What a line gives: nothing where it only changes files, and else a text that ends in a newline.
-pub fn tell(rt: &HostRuntime, bench: &mut Bench, line: &str) -> Result<String, AllocError> {
+pub(crate) fn tell(rt: &HostRuntime, bench: &mut Bench, line: &str) -> Result<String, AllocError> {
     let alloc = rt.alloc();
     if line.is_empty() || line.starts_with('#') {
         return Ok(String::new(alloc));

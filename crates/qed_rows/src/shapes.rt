@@ -29,7 +29,7 @@ fn shape_of(text: &str) -> Option<Shape> {
 }
 
 /// The bounds of outputs of a shape, in steps.
-pub fn bounds_line(alloc: Global, text: &str) -> Result<Option<String>, AllocError> {
+pub(crate) fn bounds_line(alloc: Global, text: &str) -> Result<Option<String>, AllocError> {
     let Some(shape) = shape_of(text) else {
         return Ok(None);
     };

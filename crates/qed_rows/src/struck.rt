@@ -24,7 +24,7 @@ fn course(alloc: Global, bytes: &[u8], options: &Options) -> Result<Option<Cours
 }
 
 /// After how many steps the output of a test may be struck, and how many copies are kept.
-pub fn reach(alloc: Global, bytes: &[u8], options: &Options) -> Result<String, AllocError>
+pub(crate) fn reach(alloc: Global, bytes: &[u8], options: &Options) -> Result<String, AllocError>
     requires { AreSoundOptions options.now }
 {
     let Some(course) = course(alloc, bytes, options)? else {
@@ -35,7 +35,7 @@ pub fn reach(alloc: Global, bytes: &[u8], options: &Options) -> Result<String, A
 }
 
 /// What changes of the run of a test's output show, as a campaign of that one strike tells it.
-pub fn strike(
+pub(crate) fn strike(
     alloc: Global,
     bytes: &[u8],
     options: &Options,
@@ -58,7 +58,7 @@ pub fn strike(
 }
 
 /// Whether a place is closed after so many steps of a file.
-pub fn closing(
+pub(crate) fn closing(
     alloc: Global,
     bytes: &[u8],
     step: u64,

@@ -68,7 +68,7 @@ fn block_lines(
 }
 
 /// What is told of the test that bytes are, or why they are none.
-pub fn test(alloc: Global, bytes: &[u8], options: &Options) -> Result<String, AllocError>
+pub(crate) fn test(alloc: Global, bytes: &[u8], options: &Options) -> Result<String, AllocError>
     requires { AreSoundOptions options.now }
 {
     let file = match read_elf(alloc, bytes) {
