@@ -42,6 +42,12 @@ fn put(
     }
 }
 
+/// Appends a newline and a text to a file.
+fn put_line(alloc: Global, bench: &mut Bench, name: &str, text: &str) -> Result<bool, AllocError> {
+    append(alloc, bench, name, b"\n")?;
+    append(alloc, bench, name, text.as_bytes())
+}
+
 /// Appends records of numbers to a file, so many.
 fn put_records(
     alloc: Global,
@@ -122,6 +128,7 @@ fn change(
             bench.shelf.put_file(name, rest.as_bytes())?;
             Ok(true)
         }
+        "line" => put_line(alloc, bench, name, rest),
         "fail" => plan(bench, name, rest),
         _ => Ok(false),
     }

@@ -32,6 +32,3 @@ pub fn decode(word: u32) -> Option<Ins>
     let row = first_row(rows_at(&TABLE, word), word)?;
     Some(row.format.ins(row.kind, word))
 }
-
-#[cfg(test)]
-mod tests;

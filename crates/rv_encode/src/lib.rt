@@ -31,6 +31,3 @@ pub fn encode(ins: &Ins) -> Option<u32>
 {
     any_row(ins)
 }
-
-#[cfg(test)]
-mod tests;

@@ -31,34 +31,3 @@ impl<const LO: u32, const W: u32> Field<LO, W> {
         (word & !mask) | (value << LO)
     }
 }
-
-#[cfg(test)]
-mod tests {
-    use super::*;
-
-    /// add x11, x10, x10
-    const ADD: u32 = 0x00a505b3;
-
-    #[test]
-    fn fields_of_add(rt: HostRuntime) {
-        assert_eq!(rt; Field::<0, 7>::get(ADD), 0x33, "opcode");
-        assert_eq!(rt; Field::<7, 5>::get(ADD), 11, "rd");
-        assert_eq!(rt; Field::<15, 5>::get(ADD), 10, "rs1");
-        assert_eq!(rt; Field::<20, 5>::get(ADD), 10, "rs2");
-        assert_eq!(rt;
-            Field::<7, 5>::set(ADD, 12),
-            0x00a50633,
-            "add x12, x10, x10"
-        );
-        assert_eq!(rt;
-            Field::<25, 7>::set(ADD, 0x20),
-            0x40a505b3,
-            "sub x11, x10, x10"
-        );
-        assert_eq!(rt;
-            Field::<0, 32>::set(ADD, u32::MAX),
-            u32::MAX,
-            "the whole word"
-        );
-    }
-}

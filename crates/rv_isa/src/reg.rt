@@ -57,23 +57,3 @@ impl Reg {
         }
     }
 }
-
-#[cfg(test)]
-mod tests {
-    use super::*;
-    use std::test::Fail;
-
-    #[test]
-    fn numbers_and_pairs(rt: HostRuntime) -> Result<(), Fail> {
-        assert_eq!(rt; Reg::new(32), None);
-        for n in [0, 31] {
-            assert_eq!(rt; Reg::new(n).ok_or("a register")?.number(), n);
-        }
-        for (n, pair) in [(0, 0), (1, 17), (13, 29)] {
-            let r = Reg::new(n).ok_or("a register")?;
-            assert!(rt; r.number() <= 13);
-            assert_eq!(rt; r.pair().number(), pair, "at {n}");
-        }
-        Ok(())
-    }
-}

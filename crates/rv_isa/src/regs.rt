@@ -52,21 +52,3 @@ impl Regs {
         }
     }
 }
-
-#[cfg(test)]
-mod tests {
-    use super::*;
-    use std::test::Fail;
-
-    #[test]
-    fn holds_what_was_set(rt: HostRuntime) -> Result<(), Fail> {
-        let zero = Reg::new(0).ok_or("a register")?;
-        let last = Reg::new(31).ok_or("a register")?;
-        let mut regs = Regs::new(&[7; 32]);
-        assert_eq!(rt; (regs.get(zero), regs.get(last)), (0, 7));
-        regs.set(zero, 5);
-        regs.set(last, u64::MAX);
-        assert_eq!(rt; (regs.get(zero), regs.get(last)), (0, u64::MAX));
-        Ok(())
-    }
-}

@@ -4,8 +4,6 @@
 mod forms;
 mod hex;
 mod names;
-#[cfg(test)]
-mod tests;
 mod text;
 
 pub use forms::{Form, form_of};
