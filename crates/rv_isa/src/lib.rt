@@ -16,6 +16,6 @@ pub use class::Class;
 pub use field::Field;
 pub use ins::Ins;
 pub use kind::Kind;
-pub use operation::{Operation, act_by};
+pub use operation::Operation;
 pub use reg::Reg;
 pub use regs::Regs;
