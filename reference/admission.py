@@ -1,0 +1,285 @@
+"""Which files are tests, and what is told of them (docs/PROFILE.md, "Memory", "Blocks and pieces" and "Admission")."""
+
+from __future__ import annotations
+
+from bisect import bisect_right
+from dataclasses import dataclass, field
+from typing import Dict, List, Optional, Set, Tuple
+
+import isa
+from elf import (File, PF_W, PF_X, PT_DYNAMIC, PT_INTERP, STT_FUNC, STT_NOTYPE, Section, Segment)
+from machine import Code, Memory, WORD, code_ranges, loads_of
+from texts import Exceeded, Refused, hex16
+
+MOST_DISTANCE = 64 << 20
+MOST_CODE_WORDS = 1 << 20
+MOST_NEW_CODE = 64 << 20
+FARTHEST_CONSTANT = 1 << 28
+RELOCATIONS_OF_LEADERS = {1, 2, 16, 17, 18, 19, 23, 26, 27, 28}
+
+
+@dataclass
+class Options:
+    """The options of `transform` and `plan` (PROFILE.md, "Options")."""
+    inst_min: int = 4
+    inst_max: int = 16
+    round: int = 1
+    half: Optional[int] = None
+    sweep: bool = False
+    diverse: bool = False
+
+
+@dataclass
+class DataRange:
+    """A data range with the data segments that it joins (PROFILE.md, "Memory")."""
+    start: int
+    end: int
+    segments: List[Segment] = field(default_factory=list)
+
+    @property
+    def is_written(self) -> bool:
+        return any(s.flags & PF_W for s in self.segments)
+
+
+@dataclass
+class Test:
+    """An admitted test (PROFILE.md, "Memory" and "Blocks and pieces")."""
+    file: File
+    image: List[Segment]
+    base: int
+    end: int
+    distance: int
+    ranges: List[Tuple[int, int]]
+    code: Dict[int, isa.Instruction]
+    data: List[DataRange]
+
+    @property
+    def new_code(self) -> int:
+        return self.base + 3 * self.distance
+
+    @property
+    def data_words(self) -> int:
+        return sum(r.end - r.start for r in self.data) // 8
+
+    @property
+    def has_indirect(self) -> bool:
+        return any(i.name == "jalr" for i in self.code.values())
+
+    def data_word(self, number: int) -> int:
+        """The address of a data word by its number, ascending (FORMATS.md, "Printed lines", campaign)."""
+        for data in self.data:
+            if number < (data.end - data.start) // 8:
+                return data.start + 8 * number
+            number -= (data.end - data.start) // 8
+        raise IndexError(number)
+
+
+def round_up(number: int, grain: int) -> int:
+    """The least multiple of a number that is not below another."""
+    return -(-number // grain) * grain
+
+
+def _shares_word(segment: Segment, executed: List[Segment], starts: List[int]) -> bool:
+    """Whether a segment shares aligned 8 bytes with one that is executed (PROFILE.md, "Memory").
+
+    Segments share no byte, so only the nearest below and the nearest above can."""
+    index = bisect_right(starts, segment.vaddr)
+    return (index > 0 and round_up(executed[index - 1].end, 8) > segment.vaddr // 8 * 8
+            or index < len(executed) and executed[index].vaddr // 8 * 8 < round_up(segment.end, 8))
+
+
+def is_data(segment: Segment, executed: List[Segment], starts: List[int]) -> bool:
+    """Whether a segment of the image is a data segment (PROFILE.md, "Memory")."""
+    return bool(segment.flags & PF_W
+                or not segment.flags & PF_X and not _shares_word(segment, executed, starts))
+
+
+def data_ranges(image: List[Segment]) -> List[DataRange]:
+    """The data ranges, ascending (PROFILE.md, "Memory")."""
+    loads = sorted(image, key=lambda s: s.vaddr)
+    executed = [s for s in loads if s.flags & PF_X]
+    starts = [s.vaddr for s in executed]
+    ranges: List[DataRange] = []
+    for segment in loads:
+        if not is_data(segment, executed, starts):
+            continue
+        start, end = segment.vaddr // 8 * 8, round_up(segment.end, 8)
+        if ranges and start <= ranges[-1].end:
+            ranges[-1].end = max(ranges[-1].end, end)
+            ranges[-1].segments.append(segment)
+        else:
+            ranges.append(DataRange(start, end, [segment]))
+    return ranges
+
+
+def _is_cut(section: Section, executed: List[Segment], starts: List[int]) -> bool:
+    """Whether a section shares a byte with an executable segment and is not wholly inside it ("Admission", A5)."""
+    low, high = section.addr, section.addr + section.size
+    index = bisect_right(starts, low) - 1
+    if index >= 0 and low < executed[index].end:
+        return low < high and high > executed[index].end
+    return index + 1 < len(executed) and starts[index + 1] < high
+
+
+def _check_code_shape(file: File, ranges: List[Tuple[int, int]]) -> None:
+    """A5 ("Admission")."""
+    executed = [s for s in loads_of(file) if s.flags & PF_X]
+    starts = [s.vaddr for s in executed]
+    ragged = {(start, end) for start, end in ranges if start % 4 != 0 or (end - start) % 4 != 0}
+    for number, section in enumerate(file.sections):
+        if section.is_executable and (_is_cut(section, executed, starts)
+                                      or (section.addr, section.addr + section.size) in ragged):
+            raise Refused(f"A5: part {number}")
+    for number, segment in enumerate(file.segments):
+        if segment.is_load and segment.flags & PF_X and (segment.vaddr, segment.end) in ragged:
+            raise Refused(f"A5: part {number}")
+
+
+def _check_words(words: Dict[int, int], base: int) -> Dict[int, isa.Instruction]:
+    """A6 to A9, and the instructions at the code addresses ("Admission")."""
+    code: Dict[int, isa.Instruction] = {}
+    for address, word in words.items():
+        instruction = isa.decode(word)
+        if instruction is None:
+            raise Refused(f"A6: address {hex16(address)}, word 0x{word:08x}")
+        code[address] = instruction
+    for address, i in code.items():
+        for register in isa.writes(i) + isa.reads(i):
+            if register > 13:
+                raise Refused(f"A7: address {hex16(address)}, register {register}")
+    for address, i in code.items():
+        if i == isa.EBREAK:
+            raise Refused(f"A8: address {hex16(address)}")
+    for address, i in code.items():
+        if i.name == "auipc":
+            distance = isa.signed(address + i.imm - base)
+            if not -FARTHEST_CONSTANT <= distance < FARTHEST_CONSTANT:
+                raise Refused(f"A9: address {hex16(address)}")
+    return code
+
+
+def _check_data(file: File, data: List[DataRange]) -> None:
+    """A10 ("Admission")."""
+    starts = [r.start for r in data]
+    data_segments = {id(segment) for r in data for segment in r.segments}
+    for number, segment in enumerate(file.segments):
+        if not segment.is_load or segment.memsz == 0 or id(segment) in data_segments:
+            continue
+        index = bisect_right(starts, segment.end - 1) - 1
+        if index >= 0 and data[index].end > segment.vaddr:
+            raise Refused(f"A10: segment {number}")
+
+
+def admit(file: File, options: Options) -> Test:
+    """The test that a file is, by A1 to A11, L2, L3 and L7 ("Admission")."""
+    if file.flags & 1:
+        raise Refused("A1: compressed")
+    if any(s.type in (PT_DYNAMIC, PT_INTERP) for s in file.segments):
+        raise Refused("A2: dynamic")
+    image = [s for s in file.segments if s.is_load and s.memsz > 0]
+    for number, segment in enumerate(file.segments):
+        if segment.is_load and segment.memsz > 0 and segment.flags & PF_W and segment.flags & PF_X:
+            raise Refused(f"A3: segment {number}")
+    ranges = code_ranges(file)
+    if file.entry % 4 != 0 or not any(start <= file.entry < end for start, end in ranges):
+        raise Refused(f"A4: entry {hex16(file.entry)}")
+    _check_code_shape(file, ranges)
+
+    base = min(s.vaddr for s in image) // 4096 * 4096
+    end = max(s.end for s in image)
+    memory = Memory(image)
+    words = {address: memory.load(address, 4) for address in Code(ranges).addresses()}
+    code = _check_words(words, base)
+    data = data_ranges(image)
+    _check_data(file, data)
+    if options.half is not None and base + options.half < end:
+        raise Refused(f"A11: image end {hex16(end)}, half end {hex16(base + options.half)}")
+
+    least = round_up(end - base, 4096)
+    if least > MOST_DISTANCE:
+        raise Exceeded("L2", least, MOST_DISTANCE)
+    if len(code) > MOST_CODE_WORDS:
+        raise Exceeded("L3", len(code), MOST_CODE_WORDS)
+    distance = least if options.half is None else options.half
+    if base + 3 * distance + (128 << 20) > 1 << 63:
+        raise Exceeded("L7", base + 3 * distance + (128 << 20), 1 << 63)
+    return Test(file, image, base, end, distance, ranges, code, data)
+
+
+# Leaders and blocks
+
+def is_end(instruction: isa.Instruction) -> bool:
+    """Whether an instruction is an end ("Blocks and pieces")."""
+    return instruction.group in ("branch", "jal", "jalr", "ecall", "zero")
+
+
+def leaders(test: Test) -> Set[int]:
+    """The leaders ("Blocks and pieces")."""
+    found = {test.file.entry}
+    for address, i in test.code.items():
+        if i.group in ("branch", "jal"):
+            found.add(address + i.imm & WORD)
+        if is_end(i):
+            found.add(address + 4 & WORD)
+    for symbol in test.file.symbols:
+        if symbol.shndx != 0 and symbol.type in (STT_NOTYPE, STT_FUNC):
+            found.add(symbol.value)
+    for relocation in test.file.relocations:
+        if relocation.type in RELOCATIONS_OF_LEADERS:
+            found.add(test.file.symbols[relocation.symbol].value + relocation.addend & WORD)
+    return {address for address in found if address in test.code}
+
+
+@dataclass
+class Block:
+    """A block with the lengths of its pieces ("Blocks and pieces")."""
+    start: int
+    body: List[isa.Instruction]
+    end: Optional[isa.Instruction]
+    pieces: List[int]
+
+    @property
+    def end_address(self) -> int:
+        """Where its end stands, or the address that it falls to."""
+        return self.start + 4 * len(self.body)
+
+
+def runs(body: List[isa.Instruction]) -> List[int]:
+    """The lengths of the runs of a body ("Blocks and pieces"). x0 is never written."""
+    lengths, written = [], set()
+    for i in body:
+        used = isa.reads(i) if i.group in ("load", "store") else []
+        if not lengths or any(register in written for register in used):
+            lengths.append(0)
+            written = set()
+        lengths[-1] += 1
+        written.update(register for register in isa.writes(i) if register != 0)
+    return lengths
+
+
+def split(body: List[isa.Instruction], most: int) -> List[int]:
+    """The lengths of the pieces of a body ("Blocks and pieces")."""
+    pieces = []
+    for run in runs(body):
+        count = -(-run // most)
+        pieces.extend([run // count + 1] * (run % count) + [run // count] * (count - run % count))
+    return pieces or [0]
+
+
+def blocks(test: Test, options: Options) -> List[Block]:
+    """The blocks in ascending order ("Blocks and pieces")."""
+    starts = leaders(test)
+    has_all = test.has_indirect
+    found = []
+    for address in test.code:
+        if address in starts:
+            body, at = [], address
+            while at in test.code and not is_end(test.code[at]) and (at == address or at not in starts):
+                body.append(test.code[at])
+                at += 4
+            end = test.code[at] if at in test.code and (at == address or at not in starts) else None
+            found.append(Block(address, body, end, split(body, options.inst_max)))
+        elif has_all:
+            i = test.code[address]
+            found.append(Block(address, [], i, [0]) if is_end(i) else Block(address, [i], None, [1]))
+    return found

@@ -1,0 +1,287 @@
+"""The calls of the program (docs/FORMATS.md, "Printed lines"; docs/GUIDE.md, "Exit codes")."""
+
+from __future__ import annotations
+
+import json
+import os
+import sys
+from dataclasses import dataclass
+from typing import Callable, Dict, List, Optional, Tuple
+
+import isa
+from admission import Options, Test, admit, blocks
+from assembler import assemble, assembled_file
+from campaign import Course, strikes_text
+from elf import File, first_sharing, read_elf
+from generator import generate
+from machine import ENDED, FIRED, GOING, Code, Hart, Memory, code_ranges, loads_of, run_changed, start
+from output import output_file
+from texts import Exceeded, Refused, Stopped, hex16, number_or_none
+from weave import Woven, weave
+from words import Order, order_of
+
+MOST_INPUT = 64 << 20
+MOST_FILE = 512 << 20
+MOST_MEMORY = 256 << 20
+DEFAULT_STEPS = 1000000
+GENERATED_STEPS = 100000000
+ENDED_STATUS, READ_FAULT, WRITE_FAULT, FIRED_STATUS, TRAPPED_STATUS, GOING_STATUS = 0, 5, 6, 10, 11, 12
+
+
+class TooLong(Exception):
+    """A file has more bytes than it may have."""
+
+
+class DirShelf:
+    """Files of a disk. A fault is an OSError."""
+
+    def load(self, name: str, most: int) -> bytes:
+        with open(name, "rb") as file:
+            data = file.read(most + 1)
+        if len(data) > most:
+            raise TooLong()
+        return data
+
+    def store(self, name: str, data: bytes) -> None:
+        with open(name, "wb") as file:
+            file.write(data)
+
+
+Answer = Tuple[int, str]
+
+
+def load(shelf: DirShelf, name: str, most: int) -> bytes:
+    """The bytes of a file, by the read fault and L1 ("Limits")."""
+    try:
+        return shelf.load(name, most)
+    except OSError:
+        raise Stopped(READ_FAULT, "read fault\n") from None
+    except TooLong:
+        raise Stopped(4, f"limit L1: over {most}\n") from None
+
+
+def store(shelf: DirShelf, name: str, data: bytes) -> None:
+    """Stores OUT, or ends the call without a line."""
+    try:
+        shelf.store(name, data)
+    except OSError:
+        raise Stopped(WRITE_FAULT, "") from None
+
+
+# Transformed tests
+
+@dataclass
+class Transformed:
+    """A test with its new code and its output."""
+    test: Test
+    woven: Woven
+    output: bytes
+
+
+def transform(data: bytes, options: Options) -> Transformed:
+    """What a file is transformed to, by all rules and limits in their order ("Printed lines")."""
+    test = admit(read_elf(data), options)
+    woven = weave(test, options, blocks(test, options))
+    return Transformed(test, woven, output_file(test, woven))
+
+
+def transform_line(done: Transformed) -> str:
+    """The line of `transform` ("Printed lines")."""
+    bounds, woven = done.woven.bounds, done.woven
+    pieces = sum(len(block.pieces) for block in woven.blocks)
+    return (f"code {4 * len(woven.words)} bytes, entries {len(woven.entries)}, pieces {pieces}, "
+            f"half {done.test.distance}, register bound {bounds.register}, "
+            f"word bound {number_or_none(bounds.word)}\n")
+
+
+def plan_text(done: Transformed) -> str:
+    """The plan ("Printed lines")."""
+    woven, pieces = done.woven, []
+    for block in woven.blocks:
+        first = block.start
+        for length in block.pieces:
+            pieces.append([block.start, first, length])
+            first += 4 * length
+    plan = {
+        "base": done.test.base,
+        "bounds": {"piece": woven.bounds.piece, "register": woven.bounds.register, "word": woven.bounds.word},
+        "code": 4 * len(woven.words),
+        "entries": sorted(list(row) for row in woven.entries.items()),
+        "half": done.test.distance,
+        "pieces": pieces,
+        "words": done.test.data_words,
+    }
+    return json.dumps(plan, separators=(",", ":")) + "\n"
+
+
+# Runs
+
+def check_memory(files: List[File]) -> None:
+    """L6 ("Limits")."""
+    total = sum(s.memsz for file in files for s in file.segments if s.is_load)
+    if total > MOST_MEMORY:
+        raise Exceeded("L6", total, MOST_MEMORY)
+
+
+def status_of(outcomes: List[str]) -> int:
+    """The exit code of the worst of these outcomes (GUIDE.md, "Exit codes")."""
+    if FIRED in outcomes:
+        return FIRED_STATUS
+    if any(outcome not in (ENDED, GOING) for outcome in outcomes):
+        return TRAPPED_STATUS
+    return GOING_STATUS if GOING in outcomes else ENDED_STATUS
+
+
+def hart_text(hart: Hart) -> str:
+    """The lines of `run` about a hart ("Printed lines")."""
+    lines = [f"{hart.outcome} after {hart.steps} steps at {hex16(hart.pc)}\n"]
+    lines += [f"x{register} {hex16(hart.x[register])}\n" for register in range(1, 32)]
+    return "".join(lines)
+
+
+def dump_text(memory: Memory, address: int, length: int) -> str:
+    """The lines of a dump ("Printed lines")."""
+    lines = []
+    for first in range(address, address + length, 16):
+        found = [memory.load(at, 1) for at in range(first, min(first + 16, address + length))]
+        lines.append(hex16(first) + "".join(" --" if byte is None else f" {byte:02x}" for byte in found) + "\n")
+    return "".join(lines)
+
+
+def listing(file: File) -> str:
+    """The lines of `list` ("Printed lines")."""
+    code, memory = Code(code_ranges(file)), Memory(loads_of(file))
+    lines = []
+    for address in code.addresses():
+        if code.holds(address):
+            word = memory.load(address, 4)
+            lines.append(f"{isa.text_of(word)} # {hex16(address)} 0x{word:08x}\n")
+    return "".join(lines)
+
+
+def check_apart(files: List[File]) -> None:
+    """H1 ("Printed lines")."""
+    ranges = [[(s.vaddr, s.end) for s in loads_of(file)] for file in files]
+    for first in range(len(files)):
+        for second in range(first + 1, len(files)):
+            if first_sharing(ranges[first] + ranges[second]):
+                raise Refused(f"H1: files {first} and {second}")
+
+
+def play(files: List[File], turns: List[int], count: int) -> List[Hart]:
+    """The harts of files in one memory, after so many turns (GUIDE.md, "Run several harts")."""
+    memory = Memory([segment for file in files for segment in loads_of(file)])
+    harts = [Hart(memory, Code(code_ranges(file)), file.entry) for file in files]
+    turn = 0
+    while turn < count and any(harts[number].outcome == GOING for number in turns):
+        hart = harts[turns[turn % len(turns)]]
+        if hart.outcome == GOING:
+            hart.step()
+        turn += 1
+    return harts
+
+
+# Commands
+
+def _transform(order: Order, shelf: DirShelf) -> Answer:
+    """`transform`."""
+    done = transform(load(shelf, order.files[0], MOST_INPUT), order.options())
+    store(shelf, order.files[1], done.output)
+    return 0, transform_line(done)
+
+
+def _plan(order: Order, shelf: DirShelf) -> Answer:
+    """`plan`."""
+    return 0, plan_text(transform(load(shelf, order.files[0], MOST_INPUT), order.options()))
+
+
+def _run(order: Order, shelf: DirShelf) -> Answer:
+    """`run`."""
+    file = read_elf(load(shelf, order.files[0], MOST_FILE))
+    check_memory([file])
+    hart = start(file)
+    run_changed(hart, order.values.get("fault", []), order.values.get("steps", DEFAULT_STEPS))
+    dump = order.values.get("dump")
+    return status_of([hart.outcome]), hart_text(hart) + (dump_text(hart.memory, *dump) if dump else "")
+
+
+def _campaign(order: Order, shelf: DirShelf) -> Answer:
+    """`campaign`."""
+    done = transform(load(shelf, order.files[0], MOST_INPUT), order.options())
+    course = Course(done.test, done.woven, done.output)
+    strikes = course.draw(order.values["seed"], order.values["count"], order.values.get("changes", 1))
+    return strikes_text(course, strikes)
+
+
+def _gen(order: Order, shelf: DirShelf) -> Answer:
+    """`gen`."""
+    seed, size = order.values["seed"], order.values["size"]
+    data = generate(seed, size)
+    done = transform(data, Options())
+    harts = [start(done.test.file), start(read_elf(done.output))]
+    for hart in harts:
+        hart.run(GENERATED_STEPS)
+    store(shelf, order.files[0], data)
+    ends = [f"{hart.outcome.split()[0]} after {hart.steps} steps" for hart in harts]
+    bounds = done.woven.bounds
+    return 0, (f"seed {seed}, size {size}, code words {len(done.test.code)}, input {ends[0]}, "
+               f"output code {4 * len(done.woven.words)} bytes, output {ends[1]}, "
+               f"register bound {bounds.register}, word bound {number_or_none(bounds.word)}\n")
+
+
+def _list(order: Order, shelf: DirShelf) -> Answer:
+    """`list`."""
+    file = read_elf(load(shelf, order.files[0], MOST_FILE))
+    check_memory([file])
+    return 0, listing(file)
+
+
+def _asm(order: Order, shelf: DirShelf) -> Answer:
+    """`asm`. Characters that are no ASCII stand in no part of a line."""
+    done = assemble(load(shelf, order.files[0], MOST_INPUT).decode("latin-1"))
+    store(shelf, order.files[1], assembled_file(done))
+    return 0, f"code {len(done.code)} words, data {len(done.data)} words\n"
+
+
+def _harts(order: Order, shelf: DirShelf) -> Answer:
+    """`harts`."""
+    files = [read_elf(load(shelf, name, MOST_FILE)) for name in order.files]
+    check_memory(files)
+    check_apart(files)
+    turns = order.values.get("turns", list(range(len(files))))
+    harts = play(files, turns, order.values.get("steps", DEFAULT_STEPS))
+    text = "".join(f"hart {number}\n{hart_text(hart)}" for number, hart in enumerate(harts))
+    return status_of([hart.outcome for hart in harts]), text
+
+
+CALLS: Dict[str, Callable[[Order, DirShelf], Answer]] = {
+    "transform": _transform, "plan": _plan, "run": _run, "campaign": _campaign, "gen": _gen, "list": _list,
+    "asm": _asm, "harts": _harts}
+
+
+def answer(words: List[str], shelf: DirShelf) -> Answer:
+    """The exit code of a call and what it prints."""
+    try:
+        order = order_of(words)
+        return CALLS[order.command](order, shelf)
+    except Stopped as stopped:
+        return stopped.status, stopped.text
+
+
+def arguments() -> Optional[List[str]]:
+    """The words of the command line, or None where one is no UTF-8."""
+    try:
+        return [os.fsencode(word).decode("utf-8") for word in sys.argv[1:]]
+    except UnicodeDecodeError:
+        return None
+
+
+def main() -> int:
+    """The program: one call over the files of the disk."""
+    status, text = answer(arguments() or [], DirShelf())
+    try:
+        sys.stdout.buffer.write(text.encode())
+        sys.stdout.buffer.flush()
+    except OSError:
+        return WRITE_FAULT
+    return status

@@ -1,0 +1,155 @@
+"""Strikes of outputs and their verdicts (docs/FORMATS.md, "Strikes and verdicts"; PROFILE.md, "Closed places")."""
+
+from __future__ import annotations
+
+from dataclasses import dataclass
+from typing import List, Optional, Tuple
+
+import isa
+from admission import Test
+from elf import read_elf
+from machine import Change, ENDED, FIRED, GOING, Hart, run_changed, start
+from pcg import random_words
+from texts import hex16, number_or_none
+from weave import Bounds, Woven, pair
+
+MOST_REACH = 1000000
+SNAPSHOT_STEPS = 4096
+VERDICTS = ["fired", "ended", "same", "closed", "not reached"]
+
+
+class InputTrapped(Exception):
+    """The input traps within the bound, at this pc."""
+
+    def __init__(self, pc: int) -> None:
+        super().__init__(pc)
+        self.pc = pc
+
+
+@dataclass
+class Verdict:
+    """What a strike showed, with the steps behind the last change where a check fired or the test ended."""
+    name: str
+    steps: Optional[int] = None
+
+    def text(self) -> str:
+        return self.name if self.steps is None else f"{self.name} {self.steps}"
+
+
+def _is_use(i: Optional[isa.Instruction], register: int) -> bool:
+    """Whether an instruction is a use of a register (PROFILE.md, "Closed places")."""
+    if i is None:
+        return False
+    if i.group == "branch":
+        return i.rs1 <= 13 and i.rs2 <= 13 and register in (i.rs1, i.rs2)
+    return (i.group == "load" and i.rs1 == register or i.group == "store" and register in (i.rs1, i.rs2)
+            or i.name == "addi" and i.rd == 30 and i.rs1 == register)
+
+
+def _next(hart: Hart, ahead: int) -> Optional[isa.Instruction]:
+    """The instruction so many bytes on, or None."""
+    word = hart.next_word(ahead)
+    return None if word is None else isa.decode(word)
+
+
+def is_closed(hart: Hart, place: object) -> bool:
+    """Whether a place is closed in a state (PROFILE.md, "Closed places")."""
+    if not isinstance(place, str) or not 1 <= int(place[1:]) <= 13:
+        return False
+    register = int(place[1:])
+    following = _next(hart, 0)
+    if _is_use(following, register):
+        return True
+    return (following is not None and following.name == "beq" and following.imm == 8
+            and 1 <= following.rs1 <= 13 and following.rs1 != register and following.rs2 == pair(following.rs1)
+            and _is_use(_next(hart, 8), register))
+
+
+class Course:
+    """An output that is struck, beside its input."""
+
+    def __init__(self, test: Test, woven: Woven, output: bytes) -> None:
+        self.test = test
+        self.bounds: Bounds = woven.bounds
+        self.input = start(test.file)
+        hart = start(read_elf(output))
+        self.snapshots = [hart.copy()]
+        while hart.outcome == GOING and hart.steps < MOST_REACH:
+            hart.run(min(hart.steps + SNAPSHOT_STEPS, MOST_REACH))
+            if hart.steps % SNAPSHOT_STEPS == 0:
+                self.snapshots.append(hart.copy())
+        self.reach = hart.steps
+
+    def clean(self, steps: int) -> Hart:
+        """The output after so many steps without changes."""
+        hart = self.snapshots[min(steps // SNAPSHOT_STEPS, len(self.snapshots) - 1)].copy()
+        hart.run(steps)
+        return hart
+
+    def input_trap(self, steps: int) -> Optional[int]:
+        """Where the input's run of so many steps traps, or None."""
+        self.input.run(steps)
+        has_trapped = self.input.outcome not in (GOING, ENDED, FIRED) and self.input.steps <= steps
+        return self.input.pc if has_trapped else None
+
+    def strike(self, changes: List[Change]) -> Verdict:
+        """The verdict of changes, which stand in the order of their steps ("Strikes and verdicts")."""
+        last = changes[-1].step
+        has_word = any(isinstance(change.place, int) for change in changes)
+        bound = self.bounds.word if has_word else self.bounds.register
+        hart = self.clean(changes[0].step)
+        struck = hart.copy()
+        any_closed = False
+        for change in changes:
+            hart.run(change.step)
+            any_closed = any_closed or is_closed(hart, change.place)
+        if hart.outcome != GOING:
+            return Verdict("not reached")
+        if any_closed:
+            return Verdict("closed")
+        run_changed(struck, changes, last + bound)
+        if struck.outcome in (ENDED, FIRED):
+            return Verdict(struck.outcome, max(struck.steps - last, 0))
+        trap = self.input_trap(last + bound)
+        if trap is not None:
+            raise InputTrapped(trap)
+        hart.run(last + bound)
+        if not struck.is_like(hart):
+            raise AssertionError(f"the bound does not hold for {changes}")
+        return Verdict("same")
+
+    def draw(self, seed: int, count: int, most: int) -> List[List[Change]]:
+        """The strikes of a seed ("Strikes and verdicts")."""
+        stream = random_words(seed)
+        strikes = []
+        for _ in range(count):
+            changes = []
+            for _ in range(most):
+                step = next(stream) % self.reach
+                number = next(stream) % (13 + self.test.data_words)
+                place = f"x{number + 1}" if number < 13 else self.test.data_word(number - 13)
+                changes.append(Change(step, place, next(stream)))
+            strikes.append(sorted(changes, key=lambda change: change.step))
+        return strikes
+
+
+def strike_line(number: int, changes: List[Change], verdict: Verdict) -> str:
+    """The line of a strike ("Printed lines")."""
+    places = [f"step {c.step} {c.place if isinstance(c.place, str) else hex16(c.place)}={hex16(c.value)}"
+              for c in changes]
+    return f"{number} {' '.join(places)} {verdict.text()}\n"
+
+
+def strikes_text(course: Course, strikes: List[List[Change]]) -> Tuple[int, str]:
+    """The exit code, and the lines of strikes with the last one ("Printed lines")."""
+    lines, verdicts = [], []
+    for number, changes in enumerate(strikes):
+        try:
+            verdicts.append(course.strike(changes))
+        except InputTrapped as trapped:
+            return 11, "".join(lines) + f"input trapped at {hex16(trapped.pc)}\n"
+        lines.append(strike_line(number, changes, verdicts[-1]))
+    counts = ", ".join(f"{name} {sum(v.name == name for v in verdicts)}" for name in VERDICTS)
+    longest = max((v.steps for v in verdicts if v.name == "fired"), default=0)
+    return 0, (f"{''.join(lines)}strikes {len(strikes)}, {counts}, longest {longest}, "
+               f"register bound {course.bounds.register}, word bound {number_or_none(course.bounds.word)}\n")

@@ -1,0 +1,302 @@
+"""Memory, harts, steps, and runs with changes (docs/FORMATS.md, "A file in memory" and "Values")."""
+
+from __future__ import annotations
+
+from bisect import bisect_right
+from dataclasses import dataclass
+from functools import lru_cache
+from typing import Callable, List, Optional, Tuple, Union
+
+import isa
+from elf import File, PF_R, PF_W, PF_X, Segment
+
+WORD = (1 << 64) - 1
+GOING, ENDED, FIRED, FETCH = "going", "ended", "fired", "trapped fetch"
+
+
+def loads_of(file: File) -> List[Segment]:
+    """The PT_LOAD segments with bytes in memory, by their addresses ("A file in memory")."""
+    return sorted((s for s in file.segments if s.is_load and s.memsz > 0), key=lambda s: s.vaddr)
+
+
+def code_ranges(file: File) -> List[Tuple[int, int]]:
+    """The code ranges in the file's order, each with its start and its end ("A file in memory")."""
+    executable = [s for s in loads_of(file) if s.flags & PF_X]
+    starts = [s.vaddr for s in executable]
+    ranges = []
+    for section in file.sections:
+        if section.is_executable and section.size > 0:
+            index = bisect_right(starts, section.addr) - 1
+            if index >= 0 and section.addr + section.size <= executable[index].end:
+                ranges.append((section.addr, section.addr + section.size))
+    if ranges:
+        return ranges
+    return [(s.vaddr, s.end) for s in file.segments if s.is_load and s.flags & PF_X and s.memsz > 0]
+
+
+class Code:
+    """Code ranges that are asked for addresses."""
+
+    def __init__(self, ranges: List[Tuple[int, int]]) -> None:
+        self.starts: List[int] = []
+        self.reach: List[int] = []
+        for start, end in sorted(ranges):
+            self.starts.append(start)
+            self.reach.append(max(end, self.reach[-1]) if self.reach else end)
+
+    def holds(self, address: int, size: int = 4) -> bool:
+        """Whether so many bytes from an address on lie in one code range ("A file in memory")."""
+        index = bisect_right(self.starts, address) - 1
+        return index >= 0 and address + size <= self.reach[index]
+
+    def addresses(self) -> List[int]:
+        """The code addresses, ascending (PROFILE.md, "Blocks and pieces")."""
+        found, last = [], 0
+        for start, reach in zip(self.starts, self.reach):
+            first = max(-(-start // 4) * 4, last)
+            found.extend(range(first, reach, 4))
+            last = max(last, -(-reach // 4) * 4)
+        return found
+
+
+class Memory:
+    """The bytes of files with their permissions ("A file in memory"). Copies share bytes until one is written."""
+
+    def __init__(self, segments: List[Segment]) -> None:
+        parts = sorted(segments, key=lambda s: s.vaddr)
+        self.starts = [s.vaddr for s in parts]
+        self.sizes = [s.memsz for s in parts]
+        self.flags = [s.flags for s in parts]
+        self.data = [bytearray(s.data) + bytearray(s.memsz - len(s.data)) for s in parts]
+        self.is_shared = [False] * len(parts)
+
+    def copy(self) -> Memory:
+        """The same bytes, for a state of its own."""
+        other = Memory([])
+        other.starts, other.sizes, other.flags = self.starts, self.sizes, self.flags
+        other.data = list(self.data)
+        self.is_shared = [True] * len(self.data)
+        other.is_shared = [True] * len(self.data)
+        return other
+
+    def load(self, address: int, size: int, permission: int = 0) -> Optional[int]:
+        """The number that stands there, or None where a byte is not mapped or lacks the permission."""
+        index = bisect_right(self.starts, address) - 1
+        if index < 0 or address - self.starts[index] >= self.sizes[index]:
+            return None
+        offset = address - self.starts[index]
+        if offset + size <= self.sizes[index]:
+            if self.flags[index] & permission != permission:
+                return None
+            return int.from_bytes(self.data[index][offset:offset + size], "little")
+        parts = [self.load(address + i, 1, permission) for i in range(size)]
+        return None if None in parts else int.from_bytes(bytes(parts), "little")
+
+    def store(self, address: int, size: int, number: int, permission: int = 0) -> bool:
+        """Stores a number, or gives False where a byte is not mapped or lacks the permission."""
+        if self.load(address, size, permission) is None:
+            return False
+        index = bisect_right(self.starts, address) - 1
+        offset = address - self.starts[index]
+        if offset + size <= self.sizes[index]:
+            if self.is_shared[index]:
+                self.data[index] = bytearray(self.data[index])
+                self.is_shared[index] = False
+            self.data[index][offset:offset + size] = number.to_bytes(size, "little")
+        else:
+            for i in range(size):
+                self.store(address + i, 1, number >> 8 * i & 0xFF)
+        return True
+
+
+@dataclass(frozen=True)
+class Change:
+    """A register or a word gets a value after so many steps ("Words of the command line", `fault`)."""
+    step: int
+    place: Union[int, str]
+    value: int
+
+    # The place is the number of a register in a text, as "x5", or the address of a word.
+
+
+class Hart:
+    """A hart in a memory: its pc, registers, count of steps and outcome ("A file in memory")."""
+
+    def __init__(self, memory: Memory, code: Code, pc: int) -> None:
+        self.memory, self.code, self.pc = memory, code, pc
+        self.x = [0] * 32
+        self.steps = 0
+        self.outcome = GOING
+
+    def copy(self) -> Hart:
+        """The same state, with a memory of its own."""
+        other = Hart(self.memory.copy(), self.code, self.pc)
+        other.x, other.steps, other.outcome = list(self.x), self.steps, self.outcome
+        return other
+
+    def is_like(self, other: Hart) -> bool:
+        """Whether the states are the same, whatever the steps."""
+        return (self.pc == other.pc and self.x == other.x and self.outcome == other.outcome
+                and all(a is b or a == b for a, b in zip(self.memory.data, other.memory.data)))
+
+    def next_word(self, ahead: int = 0) -> Optional[int]:
+        """The word at the pc or so many bytes on, or None where none can be fetched ("A file in memory")."""
+        address = self.pc + ahead
+        if address % 4 != 0 or not self.code.holds(address):
+            return None
+        return self.memory.load(address, 4, PF_X)
+
+    def step(self) -> None:
+        """Makes a step ("A file in memory")."""
+        self.steps += 1
+        word = self.next_word()
+        if word is None:
+            self.outcome = FETCH
+            return
+        action = action_of(word)
+        if action is None:
+            self.outcome = f"trapped word 0x{word:08x}"
+        else:
+            action(self)
+
+    def run(self, most: int) -> None:
+        """Makes steps until it stops or has made so many in all."""
+        while self.steps < most and self.outcome == GOING:
+            self.step()
+
+    def change(self, change: Change) -> None:
+        """Makes a change ("Words of the command line", `fault`)."""
+        if isinstance(change.place, str):
+            self.x[int(change.place[1:])] = change.value
+        else:
+            self.memory.store(change.place, 8, change.value)
+
+
+def start(file: File) -> Hart:
+    """The hart of a file, with all registers 0 ("A file in memory")."""
+    return Hart(Memory(loads_of(file)), Code(code_ranges(file)), file.entry)
+
+
+def run_changed(hart: Hart, changes: List[Change], most: int) -> None:
+    """A run of so many steps with changes, which stand in the order of their steps ("Words of the command line")."""
+    for change in changes:
+        hart.run(min(change.step, most))
+        if hart.outcome == GOING and hart.steps == change.step:
+            hart.change(change)
+    hart.run(most)
+
+
+# Steps
+
+Action = Callable[[Hart], None]
+
+
+def _go(hart: Hart, target: int) -> bool:
+    """Goes to a target, or traps where it is no multiple of 4 ("A file in memory")."""
+    if target % 4 != 0:
+        hart.outcome = f"trapped target 0x{target:016x}"
+        return False
+    hart.pc = target
+    return True
+
+
+def _compute(i: isa.Instruction) -> Action:
+    """The step of a kind that computes ("Values")."""
+    rd, rs1, rs2, imm = i.rd, i.rs1, i.rs2, i.imm & WORD
+    if i.name == "lui":
+        def result(hart: Hart) -> int:
+            return imm
+    elif i.name == "auipc":
+        def result(hart: Hart) -> int:
+            return hart.pc + imm
+    else:
+        value = isa.VALUES[i.name]
+        if i.group == "register":
+            def result(hart: Hart) -> int:
+                return value(hart.x[rs1], hart.x[rs2])
+        else:
+            def result(hart: Hart) -> int:
+                return value(hart.x[rs1], imm)
+
+    def act(hart: Hart) -> None:
+        if rd:
+            hart.x[rd] = result(hart) & WORD
+        hart.pc = hart.pc + 4 & WORD
+    return act
+
+
+def _jump(i: isa.Instruction) -> Action:
+    """The step of JAL and JALR ("Values")."""
+    def act(hart: Hart) -> None:
+        link = hart.pc + 4 & WORD
+        target = hart.pc + i.imm if i.name == "jal" else hart.x[i.rs1] + i.imm & ~1
+        if _go(hart, target & WORD) and i.rd:
+            hart.x[i.rd] = link
+    return act
+
+
+def _branch(i: isa.Instruction) -> Action:
+    """The step of a branch ("Values")."""
+    taken = isa.TAKEN[i.name]
+
+    def act(hart: Hart) -> None:
+        if taken(hart.x[i.rs1], hart.x[i.rs2]):
+            _go(hart, hart.pc + i.imm & WORD)
+        else:
+            hart.pc = hart.pc + 4 & WORD
+    return act
+
+
+def _load(i: isa.Instruction) -> Action:
+    """The step of a load ("Values")."""
+    size = isa.ACCESS_SIZES[i.name]
+    is_signed = not i.name.endswith("u")
+
+    def act(hart: Hart) -> None:
+        address = hart.x[i.rs1] + i.imm & WORD
+        number = hart.memory.load(address, size, PF_R)
+        if number is None:
+            hart.outcome = f"trapped load 0x{address:016x}"
+            return
+        if i.rd:
+            hart.x[i.rd] = isa.signed(number, 8 * size) & WORD if is_signed else number
+        hart.pc = hart.pc + 4 & WORD
+    return act
+
+
+def _store(i: isa.Instruction) -> Action:
+    """The step of a store ("Values")."""
+    size = isa.ACCESS_SIZES[i.name]
+    low = (1 << 8 * size) - 1
+
+    def act(hart: Hart) -> None:
+        address = hart.x[i.rs1] + i.imm & WORD
+        if hart.memory.store(address, size, hart.x[i.rs2] & low, PF_W):
+            hart.pc = hart.pc + 4 & WORD
+        else:
+            hart.outcome = f"trapped store 0x{address:016x}"
+    return act
+
+
+def _stop(outcome: str) -> Action:
+    """The step of ECALL and of EBREAK ("Values")."""
+    def act(hart: Hart) -> None:
+        hart.outcome = outcome
+    return act
+
+
+def _pass(hart: Hart) -> None:
+    """The step of a FENCE ("Values")."""
+    hart.pc = hart.pc + 4 & WORD
+
+
+@lru_cache(maxsize=1 << 16)
+def action_of(word: int) -> Optional[Action]:
+    """What a step at a word does, or None where it traps ("Values")."""
+    i = isa.decode(word)
+    if i is None or i == isa.ZERO:
+        return None
+    if isa.is_computing(i):
+        return _compute(i)
+    return {"jal": _jump, "jalr": _jump, "branch": _branch, "load": _load, "store": _store,
+            "fence": lambda _: _pass, "ecall": lambda _: _stop(ENDED), "ebreak": lambda _: _stop(FIRED)}[i.group](i)

@@ -1,0 +1,46 @@
+"""Answers that end a call before it is done, and forms of numbers (docs/FORMATS.md, "Printed lines")."""
+
+from __future__ import annotations
+
+from typing import Optional
+
+
+class Stopped(Exception):
+    """A call ends with this status, and this text in place of what it is for."""
+
+    def __init__(self, status: int, text: str) -> None:
+        super().__init__(text)
+        self.status = status
+        self.text = text
+
+
+class Usage(Stopped):
+    """The words ask for nothing ("Words of the command line")."""
+
+    def __init__(self, reason: str) -> None:
+        super().__init__(2, f"usage: {reason}\n")
+        self.reason = reason
+
+
+class Refused(Stopped):
+    """A rule refuses the file: E, A, S or H ("Refusals of the reader")."""
+
+    def __init__(self, rule: str) -> None:
+        super().__init__(3, f"refused {rule}\n")
+
+
+class Exceeded(Stopped):
+    """A limit is exceeded by a counted number ("Limits")."""
+
+    def __init__(self, limit: str, count: int, most: int) -> None:
+        super().__init__(4, f"limit {limit}: {count} over {most}\n")
+
+
+def hex16(number: int) -> str:
+    """HEX of the page: 0x and 16 digits, one more for 2^64 ("Printed lines")."""
+    return f"0x{number:016x}"
+
+
+def number_or_none(number: Optional[int]) -> str:
+    """A bound in a line, where there may be none ("Printed lines")."""
+    return "none" if number is None else str(number)
