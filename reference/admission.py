@@ -135,14 +135,16 @@ def _check_code_shape(file: File, ranges: List[Tuple[int, int]]) -> None:
             raise Refused(f"A5: part {number}")
 
 
-def _check_words(words: Dict[int, int], base: int) -> Dict[int, isa.Instruction]:
-    """A6 to A9, and the instructions at the code addresses ("Admission")."""
+def _check_words(addresses: List[range], memory: Memory, base: int) -> None:
+    """A6 to A9 ("Admission"). Words behind a segment's bytes in the file are 0, and at fault with none of them."""
     code: Dict[int, isa.Instruction] = {}
-    for address, word in words.items():
-        instruction = isa.decode(word)
-        if instruction is None:
-            raise Refused(f"A6: address {hex16(address)}, word 0x{word:08x}")
-        code[address] = instruction
+    for part in addresses:
+        for address in range(part.start, min(part.stop, memory.file_end(part.start)), 4):
+            word = memory.load(address, 4)
+            instruction = isa.decode(word)
+            if instruction is None:
+                raise Refused(f"A6: address {hex16(address)}, word 0x{word:08x}")
+            code[address] = instruction
     for address, i in code.items():
         for register in isa.writes(i) + isa.reads(i):
             if register > 13:
@@ -155,7 +157,6 @@ def _check_words(words: Dict[int, int], base: int) -> Dict[int, isa.Instruction]
             distance = isa.signed(address + i.imm - base)
             if not -FARTHEST_CONSTANT <= distance < FARTHEST_CONSTANT:
                 raise Refused(f"A9: address {hex16(address)}")
-    return code
 
 
 def _check_data(file: File, data: List[DataRange]) -> None:
@@ -188,8 +189,8 @@ def admit(file: File, options: Options) -> Test:
     base = min(s.vaddr for s in image) // 4096 * 4096
     end = max(s.end for s in image)
     memory = Memory(image)
-    words = {address: memory.load(address, 4) for address in Code(ranges).addresses()}
-    code = _check_words(words, base)
+    addresses = Code(ranges).addresses()
+    _check_words(addresses, memory, base)
     data = data_ranges(image)
     _check_data(file, data)
     if options.half is not None and base + options.half < end:
@@ -198,11 +199,13 @@ def admit(file: File, options: Options) -> Test:
     least = round_up(end - base, 4096)
     if least > MOST_DISTANCE:
         raise Exceeded("L2", least, MOST_DISTANCE)
-    if len(code) > MOST_CODE_WORDS:
-        raise Exceeded("L3", len(code), MOST_CODE_WORDS)
+    count = sum(len(part) for part in addresses)
+    if count > MOST_CODE_WORDS:
+        raise Exceeded("L3", count, MOST_CODE_WORDS)
     distance = least if options.half is None else options.half
     if base + 3 * distance + (128 << 20) > 1 << 63:
         raise Exceeded("L7", base + 3 * distance + (128 << 20), 1 << 63)
+    code = {address: isa.decode(memory.load(address, 4)) for part in addresses for address in part}
     return Test(file, image, base, end, distance, ranges, code, data)
 
 

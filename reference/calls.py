@@ -152,10 +152,11 @@ def listing(file: File) -> str:
     """The lines of `list` ("Printed lines")."""
     code, memory = Code(code_ranges(file)), Memory(loads_of(file))
     lines = []
-    for address in code.addresses():
-        if code.holds(address):
-            word = memory.load(address, 4)
-            lines.append(f"{isa.text_of(word)} # {hex16(address)} 0x{word:08x}\n")
+    for addresses in code.addresses():
+        for address in addresses:
+            if code.holds(address):
+                word = memory.load(address, 4)
+                lines.append(f"{isa.text_of(word)} # {hex16(address)} 0x{word:08x}\n")
     return "".join(lines)
 
 

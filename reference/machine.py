@@ -49,25 +49,28 @@ class Code:
         index = bisect_right(self.starts, address) - 1
         return index >= 0 and address + size <= self.reach[index]
 
-    def addresses(self) -> List[int]:
-        """The code addresses, ascending (PROFILE.md, "Blocks and pieces")."""
+    def addresses(self) -> List[range]:
+        """The code addresses, ascending, as ranges (PROFILE.md, "Blocks and pieces")."""
         found, last = [], 0
         for start, reach in zip(self.starts, self.reach):
             first = max(-(-start // 4) * 4, last)
-            found.extend(range(first, reach, 4))
+            found.append(range(first, reach, 4))
             last = max(last, -(-reach // 4) * 4)
         return found
 
 
 class Memory:
-    """The bytes of files with their permissions ("A file in memory"). Copies share bytes until one is written."""
+    """The bytes of files with their permissions ("A file in memory").
+
+    Zeros at the end of a segment are kept only from the first store there on. Copies share bytes until one is written.
+    """
 
     def __init__(self, segments: List[Segment]) -> None:
         parts = sorted(segments, key=lambda s: s.vaddr)
         self.starts = [s.vaddr for s in parts]
         self.sizes = [s.memsz for s in parts]
         self.flags = [s.flags for s in parts]
-        self.data = [bytearray(s.data) + bytearray(s.memsz - len(s.data)) for s in parts]
+        self.data = [bytearray(s.data) for s in parts]
         self.is_shared = [False] * len(parts)
 
     def copy(self) -> Memory:
@@ -78,6 +81,11 @@ class Memory:
         self.is_shared = [True] * len(self.data)
         other.is_shared = [True] * len(self.data)
         return other
+
+    def file_end(self, address: int) -> int:
+        """Where the bytes in the file of the segment at an address end."""
+        index = bisect_right(self.starts, address) - 1
+        return self.starts[index] + len(self.data[index])
 
     def load(self, address: int, size: int, permission: int = 0) -> Optional[int]:
         """The number that stands there, or None where a byte is not mapped or lacks the permission."""
@@ -102,10 +110,21 @@ class Memory:
             if self.is_shared[index]:
                 self.data[index] = bytearray(self.data[index])
                 self.is_shared[index] = False
-            self.data[index][offset:offset + size] = number.to_bytes(size, "little")
+            data = self.data[index]
+            if len(data) < offset + size:
+                data.extend(bytes(offset + size - len(data)))
+            data[offset:offset + size] = number.to_bytes(size, "little")
         else:
             for i in range(size):
                 self.store(address + i, 1, number >> 8 * i & 0xFF)
+        return True
+
+    def is_like(self, other: Memory) -> bool:
+        """Whether another memory of the same segments has the same bytes."""
+        for ours, theirs in zip(self.data, other.data):
+            common = min(len(ours), len(theirs))
+            if ours is not theirs and (ours[:common] != theirs[:common] or any(ours[common:]) or any(theirs[common:])):
+                return False
         return True
 
 
@@ -137,7 +156,7 @@ class Hart:
     def is_like(self, other: Hart) -> bool:
         """Whether the states are the same, whatever the steps."""
         return (self.pc == other.pc and self.x == other.x and self.outcome == other.outcome
-                and all(a is b or a == b for a, b in zip(self.memory.data, other.memory.data)))
+                and self.memory.is_like(other.memory))
 
     def next_word(self, ahead: int = 0) -> Optional[int]:
         """The word at the pc or so many bytes on, or None where none can be fetched ("A file in memory")."""

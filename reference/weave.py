@@ -302,13 +302,12 @@ class Woven:
 
 def weave(test: Test, options: Options, blocks: List[Block]) -> Woven:
     """The new code in the near form where it fits, else in the far form, by L4 ("Code sequences")."""
-    far = False
-    try:
-        words, entries = link(whole(test, options, blocks, far), test.new_code, far)
-    except TooLarge:
-        far = True
+    size = 0
+    for far in (False, True):
         try:
             words, entries = link(whole(test, options, blocks, far), test.new_code, far)
         except TooLarge as too_large:
-            raise Exceeded("L4", too_large.size, MOST_NEW_CODE) from None
-    return Woven(words, blocks, entries, bounds(test.data_words, len(test.data), options, far))
+            size = too_large.size
+        else:
+            return Woven(words, blocks, entries, bounds(test.data_words, len(test.data), options, far))
+    raise Exceeded("L4", size, MOST_NEW_CODE)
