@@ -170,7 +170,7 @@ def check_apart(files: List[File]) -> None:
 
 
 def play(files: List[File], turns: List[int], count: int) -> List[Hart]:
-    """The harts of files in one memory, after so many turns (GUIDE.md, "Run several harts")."""
+    """The harts of files in one memory, after so many turns ("A file in memory")."""
     memory = Memory([segment for file in files for segment in loads_of(file)])
     harts = [Hart(memory, Code(code_ranges(file)), file.entry) for file in files]
     turn = 0

@@ -1,4 +1,4 @@
-"""Strikes of outputs and their verdicts (docs/FORMATS.md, "Strikes and verdicts"; PROFILE.md, "Closed places")."""
+"""Strikes of outputs and their verdicts (docs/FORMATS.md, "Printed lines"; PROFILE.md, "Closed places")."""
 
 from __future__ import annotations
 
@@ -93,33 +93,27 @@ class Course:
         return self.input.pc if has_trapped else None
 
     def strike(self, changes: List[Change]) -> Verdict:
-        """The verdict of changes, which stand in the order of their steps ("Strikes and verdicts")."""
+        """The verdict of changes, which stand in the order of their steps ("Printed lines")."""
         last = changes[-1].step
         has_word = any(isinstance(change.place, int) for change in changes)
         bound = self.bounds.word if has_word else self.bounds.register
-        hart = self.clean(changes[0].step)
-        struck = hart.copy()
-        any_closed = False
-        for change in changes:
-            hart.run(change.step)
-            any_closed = any_closed or is_closed(hart, change.place)
-        if hart.outcome != GOING:
+        if self.clean(last).outcome != GOING:
             return Verdict("not reached")
-        if any_closed:
+        if any(is_closed(self.clean(change.step), change.place) for change in changes):
             return Verdict("closed")
+        struck = self.clean(changes[0].step)
         run_changed(struck, changes, last + bound)
         if struck.outcome in (ENDED, FIRED):
             return Verdict(struck.outcome, max(struck.steps - last, 0))
         trap = self.input_trap(last + bound)
         if trap is not None:
             raise InputTrapped(trap)
-        hart.run(last + bound)
-        if not struck.is_like(hart):
+        if not struck.is_like(self.clean(last + bound)):
             raise AssertionError(f"the bound does not hold for {changes}")
         return Verdict("same")
 
     def draw(self, seed: int, count: int, most: int) -> List[List[Change]]:
-        """The strikes of a seed ("Strikes and verdicts")."""
+        """The strikes of a seed ("Printed lines")."""
         stream = random_words(seed)
         strikes = []
         for _ in range(count):

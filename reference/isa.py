@@ -172,11 +172,6 @@ def reads(instruction: Instruction) -> List[int]:
     return [instruction.rs1] if form in "IHG" else []
 
 
-def is_computing(instruction: Instruction) -> bool:
-    """Whether an instruction only computes a result (PROFILE.md, "The parts of an instruction")."""
-    return instruction.group in ("upper", "immediate", "register")
-
-
 # Values
 
 def _quotient(a: int, b: int) -> int:

@@ -5,13 +5,13 @@ from __future__ import annotations
 from bisect import bisect_right
 from dataclasses import dataclass
 from functools import lru_cache
-from typing import Callable, List, Optional, Tuple, Union
+from typing import Callable, Dict, List, Optional, Tuple, Union
 
 import isa
 from elf import File, PF_R, PF_W, PF_X, Segment
 
 WORD = (1 << 64) - 1
-GOING, ENDED, FIRED, FETCH = "going", "ended", "fired", "trapped fetch"
+GOING, ENDED, FIRED = "going", "ended", "fired"
 
 
 def loads_of(file: File) -> List[Segment]:
@@ -72,12 +72,13 @@ class Memory:
         self.flags = [s.flags for s in parts]
         self.data = [bytearray(s.data) for s in parts]
         self.is_shared = [False] * len(parts)
+        self.version = 0  # how often executable bytes were stored
 
     def copy(self) -> Memory:
         """The same bytes, for a state of its own."""
         other = Memory([])
         other.starts, other.sizes, other.flags = self.starts, self.sizes, self.flags
-        other.data = list(self.data)
+        other.data, other.version = list(self.data), self.version
         self.is_shared = [True] * len(self.data)
         other.is_shared = [True] * len(self.data)
         return other
@@ -97,7 +98,7 @@ class Memory:
             if self.flags[index] & permission != permission:
                 return None
             return int.from_bytes(self.data[index][offset:offset + size], "little")
-        parts = [self.load(address + i, 1, permission) for i in range(size)]
+        parts = [self.load(address + i & WORD, 1, permission) for i in range(size)]
         return None if None in parts else int.from_bytes(bytes(parts), "little")
 
     def store(self, address: int, size: int, number: int, permission: int = 0) -> bool:
@@ -106,17 +107,19 @@ class Memory:
             return False
         index = bisect_right(self.starts, address) - 1
         offset = address - self.starts[index]
-        if offset + size <= self.sizes[index]:
-            if self.is_shared[index]:
-                self.data[index] = bytearray(self.data[index])
-                self.is_shared[index] = False
-            data = self.data[index]
-            if len(data) < offset + size:
-                data.extend(bytes(offset + size - len(data)))
-            data[offset:offset + size] = number.to_bytes(size, "little")
-        else:
+        if offset + size > self.sizes[index]:
             for i in range(size):
-                self.store(address + i, 1, number >> 8 * i & 0xFF)
+                self.store(address + i & WORD, 1, number >> 8 * i & 0xFF)
+            return True
+        if self.is_shared[index]:
+            self.data[index] = bytearray(self.data[index])
+            self.is_shared[index] = False
+        data = self.data[index]
+        if len(data) < offset + size:
+            data.extend(bytes(offset + size - len(data)))
+        data[offset:offset + size] = number.to_bytes(size, "little")
+        if self.flags[index] & PF_X:
+            self.version += 1
         return True
 
     def is_like(self, other: Memory) -> bool:
@@ -130,7 +133,7 @@ class Memory:
 
 @dataclass(frozen=True)
 class Change:
-    """A register or a word gets a value after so many steps ("Words of the command line", `fault`)."""
+    """A register or a word gets a value after so many steps ("A file in memory")."""
     step: int
     place: Union[int, str]
     value: int
@@ -146,11 +149,15 @@ class Hart:
         self.x = [0] * 32
         self.steps = 0
         self.outcome = GOING
+        # What a step does at the addresses where one was made, for as long as no executable byte changes.
+        self.actions: Dict[int, Action] = {}
+        self.version = memory.version
 
     def copy(self) -> Hart:
         """The same state, with a memory of its own."""
         other = Hart(self.memory.copy(), self.code, self.pc)
         other.x, other.steps, other.outcome = list(self.x), self.steps, self.outcome
+        other.actions, other.version = self.actions, self.version
         return other
 
     def is_like(self, other: Hart) -> bool:
@@ -160,7 +167,7 @@ class Hart:
 
     def next_word(self, ahead: int = 0) -> Optional[int]:
         """The word at the pc or so many bytes on, or None where none can be fetched ("A file in memory")."""
-        address = self.pc + ahead
+        address = self.pc + ahead & WORD
         if address % 4 != 0 or not self.code.holds(address):
             return None
         return self.memory.load(address, 4, PF_X)
@@ -168,15 +175,14 @@ class Hart:
     def step(self) -> None:
         """Makes a step ("A file in memory")."""
         self.steps += 1
-        word = self.next_word()
-        if word is None:
-            self.outcome = FETCH
-            return
-        action = action_of(word)
+        if self.version != self.memory.version:
+            self.actions, self.version = {}, self.memory.version
+        action = self.actions.get(self.pc)
         if action is None:
-            self.outcome = f"trapped word 0x{word:08x}"
-        else:
-            action(self)
+            word = self.next_word()
+            action = stop("trapped fetch") if word is None else action_of(word)
+            self.actions[self.pc] = action
+        action(self)
 
     def run(self, most: int) -> None:
         """Makes steps until it stops or has made so many in all."""
@@ -184,11 +190,12 @@ class Hart:
             self.step()
 
     def change(self, change: Change) -> None:
-        """Makes a change ("Words of the command line", `fault`)."""
+        """Makes a change ("A file in memory")."""
         if isinstance(change.place, str):
             self.x[int(change.place[1:])] = change.value
         else:
-            self.memory.store(change.place, 8, change.value)
+            for number, byte in enumerate(change.value.to_bytes(8, "little")):
+                self.memory.store(change.place + number, 1, byte)
 
 
 def start(file: File) -> Hart:
@@ -197,7 +204,7 @@ def start(file: File) -> Hart:
 
 
 def run_changed(hart: Hart, changes: List[Change], most: int) -> None:
-    """A run of so many steps with changes, which stand in the order of their steps ("Words of the command line")."""
+    """A run of so many steps with changes, which stand in the order of their steps ("A file in memory")."""
     for change in changes:
         hart.run(min(change.step, most))
         if hart.outcome == GOING and hart.steps == change.step:
@@ -210,6 +217,48 @@ def run_changed(hart: Hart, changes: List[Change], most: int) -> None:
 Action = Callable[[Hart], None]
 
 
+def stop(outcome: str) -> Action:
+    """A step that stops the run, as those of ECALL and of EBREAK ("Values")."""
+    def act(hart: Hart) -> None:
+        hart.outcome = outcome
+    return act
+
+
+def _upper(i: isa.Instruction) -> Action:
+    """The step of LUI and AUIPC ("Values")."""
+    is_relative = i.name == "auipc"
+
+    def act(hart: Hart) -> None:
+        hart.x[i.rd] = (hart.pc if is_relative else 0) + i.imm & WORD
+        hart.x[0] = 0
+        hart.pc = hart.pc + 4 & WORD
+    return act
+
+
+def _immediate(i: isa.Instruction) -> Action:
+    """The step of a kind that computes with an immediate ("Values")."""
+    value, rd, rs1, imm = isa.VALUES[i.name], i.rd, i.rs1, i.imm & WORD
+
+    def act(hart: Hart) -> None:
+        x = hart.x
+        x[rd] = value(x[rs1], imm) & WORD
+        x[0] = 0
+        hart.pc = hart.pc + 4 & WORD
+    return act
+
+
+def _register(i: isa.Instruction) -> Action:
+    """The step of a kind that computes with two registers ("Values")."""
+    value, rd, rs1, rs2 = isa.VALUES[i.name], i.rd, i.rs1, i.rs2
+
+    def act(hart: Hart) -> None:
+        x = hart.x
+        x[rd] = value(x[rs1], x[rs2]) & WORD
+        x[0] = 0
+        hart.pc = hart.pc + 4 & WORD
+    return act
+
+
 def _go(hart: Hart, target: int) -> bool:
     """Goes to a target, or traps where it is no multiple of 4 ("A file in memory")."""
     if target % 4 != 0:
@@ -219,47 +268,25 @@ def _go(hart: Hart, target: int) -> bool:
     return True
 
 
-def _compute(i: isa.Instruction) -> Action:
-    """The step of a kind that computes ("Values")."""
-    rd, rs1, rs2, imm = i.rd, i.rs1, i.rs2, i.imm & WORD
-    if i.name == "lui":
-        def result(hart: Hart) -> int:
-            return imm
-    elif i.name == "auipc":
-        def result(hart: Hart) -> int:
-            return hart.pc + imm
-    else:
-        value = isa.VALUES[i.name]
-        if i.group == "register":
-            def result(hart: Hart) -> int:
-                return value(hart.x[rs1], hart.x[rs2])
-        else:
-            def result(hart: Hart) -> int:
-                return value(hart.x[rs1], imm)
-
-    def act(hart: Hart) -> None:
-        if rd:
-            hart.x[rd] = result(hart) & WORD
-        hart.pc = hart.pc + 4 & WORD
-    return act
-
-
 def _jump(i: isa.Instruction) -> Action:
     """The step of JAL and JALR ("Values")."""
+    is_relative = i.name == "jal"
+
     def act(hart: Hart) -> None:
         link = hart.pc + 4 & WORD
-        target = hart.pc + i.imm if i.name == "jal" else hart.x[i.rs1] + i.imm & ~1
-        if _go(hart, target & WORD) and i.rd:
+        target = hart.pc + i.imm if is_relative else hart.x[i.rs1] + i.imm & ~1
+        if _go(hart, target & WORD):
             hart.x[i.rd] = link
+            hart.x[0] = 0
     return act
 
 
 def _branch(i: isa.Instruction) -> Action:
     """The step of a branch ("Values")."""
-    taken = isa.TAKEN[i.name]
+    taken, rs1, rs2 = isa.TAKEN[i.name], i.rs1, i.rs2
 
     def act(hart: Hart) -> None:
-        if taken(hart.x[i.rs1], hart.x[i.rs2]):
+        if taken(hart.x[rs1], hart.x[rs2]):
             _go(hart, hart.pc + i.imm & WORD)
         else:
             hart.pc = hart.pc + 4 & WORD
@@ -277,8 +304,8 @@ def _load(i: isa.Instruction) -> Action:
         if number is None:
             hart.outcome = f"trapped load 0x{address:016x}"
             return
-        if i.rd:
-            hart.x[i.rd] = isa.signed(number, 8 * size) & WORD if is_signed else number
+        hart.x[i.rd] = isa.signed(number, 8 * size) & WORD if is_signed else number
+        hart.x[0] = 0
         hart.pc = hart.pc + 4 & WORD
     return act
 
@@ -297,25 +324,22 @@ def _store(i: isa.Instruction) -> Action:
     return act
 
 
-def _stop(outcome: str) -> Action:
-    """The step of ECALL and of EBREAK ("Values")."""
+def _pass(i: isa.Instruction) -> Action:
+    """The step of a FENCE ("Values")."""
     def act(hart: Hart) -> None:
-        hart.outcome = outcome
+        hart.pc = hart.pc + 4 & WORD
     return act
 
 
-def _pass(hart: Hart) -> None:
-    """The step of a FENCE ("Values")."""
-    hart.pc = hart.pc + 4 & WORD
+ACTIONS: Dict[str, Callable[[isa.Instruction], Action]] = {
+    "upper": _upper, "immediate": _immediate, "register": _register, "jal": _jump, "jalr": _jump, "branch": _branch,
+    "load": _load, "store": _store, "fence": _pass, "ecall": lambda i: stop(ENDED), "ebreak": lambda i: stop(FIRED)}
 
 
 @lru_cache(maxsize=1 << 16)
-def action_of(word: int) -> Optional[Action]:
-    """What a step at a word does, or None where it traps ("Values")."""
+def action_of(word: int) -> Action:
+    """What a step at a word does ("Values", "A file in memory")."""
     i = isa.decode(word)
     if i is None or i == isa.ZERO:
-        return None
-    if isa.is_computing(i):
-        return _compute(i)
-    return {"jal": _jump, "jalr": _jump, "branch": _branch, "load": _load, "store": _store,
-            "fence": lambda _: _pass, "ecall": lambda _: _stop(ENDED), "ebreak": lambda _: _stop(FIRED)}[i.group](i)
+        return stop(f"trapped word 0x{word:08x}")
+    return ACTIONS[i.group](i)

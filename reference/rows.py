@@ -7,13 +7,13 @@ import re
 from typing import Callable, Dict, List, Optional, Tuple
 
 import isa
-from admission import Options, admit, blocks, leaders
+from admission import MOST_NEW_CODE, Options, admit, blocks, leaders
 from calls import MOST_INPUT, Transformed, TooLong, answer, transform
 from campaign import Course, is_closed, strikes_text
 from elf import read_elf
 from machine import Change, start
 from texts import Stopped, Usage, number_or_none
-from weave import Const, Go, Item, Mark, TooLarge, bounds, link
+from weave import MOST_NEAR_CODE, Const, Go, Item, Mark, bounds, link, size_of
 from words import Order, change_of, order_of
 
 WRITE_FAULT, NO_MEMORY = 6, 7
@@ -338,10 +338,10 @@ def _item(text: str) -> Item:
 
 def _link(rows: Rows, words: List[str]) -> str:
     """`link`."""
-    try:
-        found, entries = link([_item(word) for word in words[2:]], _number(words[1]), words[0] == "far")
-    except TooLarge as too_large:
-        return f"too large {too_large.size}\n"
+    items, far = [_item(word) for word in words[2:]], words[0] == "far"
+    if size_of(items, far) > (MOST_NEW_CODE if far else MOST_NEAR_CODE):
+        return f"too large {size_of(items, far)}\n"
+    found, entries = link(items, _number(words[1]), far)
     lines = ["words " + " ".join(f"0x{word:08x}" for word in found)]
     lines += [f"entry 0x{address:x} 0x{place:x}" for address, place in entries.items()]
     return "\n".join(lines) + "\n"

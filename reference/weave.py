@@ -2,34 +2,33 @@
 
 from __future__ import annotations
 
+from collections import Counter
 from dataclasses import dataclass
 from functools import lru_cache
-from typing import Dict, List, Optional, Tuple, Union
+from typing import Dict, List, NamedTuple, Optional, Tuple, Union
 
 import isa
 from admission import Block, DataRange, MOST_NEW_CODE, Options, Test
 from isa import Instruction, encode
+from machine import WORD
 from texts import Exceeded
 
 MOST_NEAR_CODE = 1 << 20
 T, U, CURSOR, SIGNATURE, DISTANCE = 30, 31, 15, 16, 14
 
 
-@dataclass(frozen=True)
-class Mark:
+class Mark(NamedTuple):
     """The entry of an input address begins here."""
     address: int
 
 
-@dataclass(frozen=True)
-class Const:
+class Const(NamedTuple):
     """Const(rd, c) ("Code sequences")."""
     rd: int
     value: int
 
 
-@dataclass(frozen=True)
-class Go:
+class Go(NamedTuple):
     """Go(a) ("Code sequences")."""
     address: int
 
@@ -56,7 +55,6 @@ def branch(name: str, rs1: int, rs2: int, offset: int) -> int:
 
 
 EBREAK = encode(isa.EBREAK)
-ECALL = encode(isa.ECALL)
 
 
 # The parts of an instruction
@@ -74,7 +72,7 @@ def guards(rs1: int, rs2: int) -> List[Item]:
 def original_part(i: Instruction, address: int) -> List[Item]:
     """The original part of an instruction ("The parts of an instruction")."""
     if i.name == "auipc":
-        return [Const(i.rd, address + i.imm & (1 << 64) - 1)]
+        return [Const(i.rd, address + i.imm & WORD)]
     if i.group == "load":
         return guard(i.rs1) + [encode(i)]
     if i.group == "store":
@@ -85,7 +83,7 @@ def original_part(i: Instruction, address: int) -> List[Item]:
 def mirror_part(i: Instruction, address: int, diverse: bool) -> List[Item]:
     """The mirror part of an instruction ("The parts of an instruction")."""
     if i.name == "auipc":
-        return [Const(pair(i.rd), address + i.imm & (1 << 64) - 1)]
+        return [Const(pair(i.rd), address + i.imm & WORD)]
     if i.name == "fence":
         return []
     if i.group == "load":
@@ -176,66 +174,67 @@ def sweep(data: List[DataRange]) -> List[Item]:
 
 # Entries
 
-def leave(block: Block, data: List[DataRange], options: Options, far: bool) -> List[Item]:
-    """The leave of a block ("Pieces, entries, the whole code")."""
-    end, at = block.end, block.end_address
-    if end is None:
-        return [Const(SIGNATURE, at), Go(at)]
-    if end.name == "zero":
-        return [0]
-    if end.name == "ecall":
-        return (sweep(data) + COMPARE if options.sweep else []) + [ECALL]
-    link: List[Item] = [Const(end.rd, at + 4), Const(pair(end.rd), at + 4)] if end.rd else []
-    target = at + end.imm & (1 << 64) - 1
-    if end.name == "jal":
-        return link + [Const(SIGNATURE, target), Go(target)]
-    if end.name == "jalr":
-        return [op("addi", SIGNATURE, pair(end.rs1), end.imm), op("andi", SIGNATURE, SIGNATURE, -2), *guard(end.rs1),
-                op("addi", T, end.rs1, end.imm), op("andi", T, T, -2), *link,
-                op("add", U, T, DISTANCE), op("add", U, U, DISTANCE), op("lw", T, U, 0), op("add", T, T, U),
-                op("jalr", 0, T, 0)]
-    return [branch(end.name, pair(end.rs1), pair(end.rs2), 16), Const(SIGNATURE, at + 4),
-            encode(Instruction("jal", 0, imm=12)), Const(SIGNATURE, target), *guards(end.rs1, end.rs2),
-            branch(end.name, end.rs1, end.rs2, 12 if far else 8), Go(at + 4), Go(target)]
+class Weave:
+    """The new code of a test in one of its forms."""
 
+    def __init__(self, test: Test, options: Options, far: bool) -> None:
+        self.test, self.diverse, self.far = test, options.diverse, far
+        self.comparisons = COMPARE + visit(test.data, options.round)
+        self.end = (sweep(test.data) + COMPARE if options.sweep else []) + [encode(isa.ECALL)]
 
-def entry(block: Block, data: List[DataRange], options: Options, far: bool) -> List[Item]:
-    """The entry of a block ("Pieces, entries, the whole code")."""
-    items: List[Item] = [Mark(block.start), Const(T, block.start), branch("beq", SIGNATURE, T, 8), EBREAK]
-    first = 0
-    for length in block.pieces:
-        piece = [(block.start + 4 * k, block.body[k]) for k in range(first, first + length)]
-        first += length
-        for address, i in piece:
-            items += original_part(i, address)
-        for address, i in piece:
-            items += mirror_part(i, address, options.diverse)
-        items += COMPARE
-        items += visit(data, options.round)
-    return items + leave(block, data, options, far)
+    def leave(self, block: Block) -> List[Item]:
+        """The leave of a block ("Pieces, entries, the whole code")."""
+        end, at = block.end, block.end_address
+        if end is None:
+            return [Const(SIGNATURE, at), Go(at)]
+        if end.name == "zero":
+            return [0]
+        if end.name == "ecall":
+            return self.end
+        link: List[Item] = [Const(end.rd, at + 4), Const(pair(end.rd), at + 4)] if end.rd else []
+        target = at + end.imm & WORD
+        if end.name == "jal":
+            return link + [Const(SIGNATURE, target), Go(target)]
+        if end.name == "jalr":
+            return [op("addi", SIGNATURE, pair(end.rs1), end.imm), op("andi", SIGNATURE, SIGNATURE, -2),
+                    *guard(end.rs1), op("addi", T, end.rs1, end.imm), op("andi", T, T, -2), *link,
+                    op("add", U, T, DISTANCE), op("add", U, U, DISTANCE), op("lw", T, U, 0), op("add", T, T, U),
+                    op("jalr", 0, T, 0)]
+        return [branch(end.name, pair(end.rs1), pair(end.rs2), 16), Const(SIGNATURE, at + 4),
+                encode(Instruction("jal", 0, imm=12)), Const(SIGNATURE, target), *guards(end.rs1, end.rs2),
+                branch(end.name, end.rs1, end.rs2, 12 if self.far else 8), Go(at + 4), Go(target)]
 
+    def entry(self, block: Block) -> List[Item]:
+        """The entry of a block ("Pieces, entries, the whole code")."""
+        items: List[Item] = [Mark(block.start), Const(T, block.start), branch("beq", SIGNATURE, T, 8), EBREAK]
+        first = 0
+        for length in block.pieces:
+            piece = [(block.start + 4 * k, block.body[k]) for k in range(first, first + length)]
+            first += length
+            for address, i in piece:
+                items += original_part(i, address)
+            for address, i in piece:
+                items += mirror_part(i, address, self.diverse)
+            items += self.comparisons
+        return items + self.leave(block)
 
-def whole(test: Test, options: Options, blocks: List[Block], far: bool) -> List[Item]:
-    """The new code but for the stub ("Pieces, entries, the whole code")."""
-    items: List[Item] = [op("addi", register, 0, 0) for register in [*range(1, 14), *range(17, 30)]]
-    items.append(encode(Instruction("lui", DISTANCE, imm=test.distance)))
-    if test.data:
-        items.append(Const(CURSOR, test.data[0].start))
-    items += [Const(SIGNATURE, test.file.entry), Go(test.file.entry)]
-    for block in blocks:
-        items += entry(block, test.data, options, far)
-    return items
+    def prologue(self) -> List[Item]:
+        """The prologue ("Pieces, entries, the whole code")."""
+        items: List[Item] = [op("addi", register, 0, 0) for register in [*range(1, 14), *range(17, 30)]]
+        items.append(encode(Instruction("lui", DISTANCE, imm=self.test.distance)))
+        if self.test.data:
+            items.append(Const(CURSOR, self.test.data[0].start))
+        return items + [Const(SIGNATURE, self.test.file.entry), Go(self.test.file.entry)]
+
+    def whole(self, blocks: List[Block]) -> List[Item]:
+        """The new code but for the stub ("Pieces, entries, the whole code")."""
+        items = self.prologue()
+        for block in blocks:
+            items += self.entry(block)
+        return items
 
 
 # Places
-
-class TooLarge(Exception):
-    """The new code has more bytes than its form may have."""
-
-    def __init__(self, size: int) -> None:
-        super().__init__(size)
-        self.size = size
-
 
 def const_words(rd: int, value: int, at: int) -> List[int]:
     """The words of Const(rd, c) at an address ("Code sequences")."""
@@ -244,18 +243,21 @@ def const_words(rd: int, value: int, at: int) -> List[int]:
     return [encode(Instruction("auipc", rd, imm=high << 12)), op("addi", rd, rd, distance - (high << 12))]
 
 
+def size_of(items: List[Item], far: bool) -> int:
+    """How many bytes the new code of these items has, with the stub ("Code sequences")."""
+    counts = Counter(map(type, items))
+    return 4 * (counts[int] + 2 * counts[Const] + (2 if far else 1) * counts[Go] + 1)
+
+
 def link(items: List[Item], base: int, far: bool) -> Tuple[List[int], Dict[int, int]]:
     """The words of items from an address on, with the stub behind them, and the entries ("Code sequences")."""
+    widths = {int: 4, Mark: 0, Const: 8, Go: 8 if far else 4}
     entries: Dict[int, int] = {}
-    at = base
+    stub = base
     for item in items:
         if isinstance(item, Mark):
-            entries[item.address] = at
-        else:
-            at += 8 if isinstance(item, Const) or far and isinstance(item, Go) else 4
-    stub = at
-    if stub + 4 - base > (MOST_NEW_CODE if far else MOST_NEAR_CODE):
-        raise TooLarge(stub + 4 - base)
+            entries[item.address] = stub
+        stub += widths[type(item)]
     words: List[int] = []
     for item in items:
         at = base + 4 * len(words)
@@ -302,12 +304,11 @@ class Woven:
 
 def weave(test: Test, options: Options, blocks: List[Block]) -> Woven:
     """The new code in the near form where it fits, else in the far form, by L4 ("Code sequences")."""
-    size = 0
-    for far in (False, True):
-        try:
-            words, entries = link(whole(test, options, blocks, far), test.new_code, far)
-        except TooLarge as too_large:
-            size = too_large.size
-        else:
-            return Woven(words, blocks, entries, bounds(test.data_words, len(test.data), options, far))
-    raise Exceeded("L4", size, MOST_NEW_CODE)
+    items = Weave(test, options, False).whole(blocks)
+    far = size_of(items, False) > MOST_NEAR_CODE
+    if far:
+        if size_of(items, True) > MOST_NEW_CODE:
+            raise Exceeded("L4", size_of(items, True), MOST_NEW_CODE)
+        items = Weave(test, options, True).whole(blocks)
+    words, entries = link(items, test.new_code, far)
+    return Woven(words, blocks, entries, bounds(test.data_words, len(test.data), options, far))
