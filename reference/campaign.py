@@ -8,7 +8,7 @@ from typing import List, Optional, Tuple
 import isa
 from admission import Test
 from elf import read_elf
-from machine import Change, ENDED, FIRED, GOING, Hart, run_changed, start
+from machine import Change, ENDED, FIRED, GOING, Hart, Place, run_changed, start
 from pcg import random_words
 from texts import hex16, number_or_none
 from weave import Bounds, Woven, pair
@@ -52,7 +52,7 @@ def _next(hart: Hart, ahead: int) -> Optional[isa.Instruction]:
     return None if word is None else isa.decode(word)
 
 
-def is_closed(hart: Hart, place: object) -> bool:
+def is_closed(hart: Hart, place: Place) -> bool:
     """Whether a place is closed in a state (PROFILE.md, "Closed places")."""
     if not isinstance(place, str) or not 1 <= int(place[1:]) <= 13:
         return False
@@ -108,9 +108,15 @@ class Course:
         trap = self.input_trap(last + bound)
         if trap is not None:
             raise InputTrapped(trap)
-        if not struck.is_like(self.clean(last + bound)):
+        if all(self.is_held(change.place) for change in changes) and not struck.is_like(self.clean(last + bound)):
             raise AssertionError(f"the bound does not hold for {changes}")
         return Verdict("same")
+
+    def is_held(self, place: Place) -> bool:
+        """Whether the bounds speak of changes of a place: x1 to x13 and data words (PROFILE.md, "Bounds")."""
+        if isinstance(place, str):
+            return 1 <= int(place[1:]) <= 13
+        return any(data.start <= place < data.end for data in self.test.data)
 
     def draw(self, seed: int, count: int, most: int) -> List[List[Change]]:
         """The strikes of a seed ("Printed lines")."""

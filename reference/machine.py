@@ -131,14 +131,16 @@ class Memory:
         return True
 
 
+# A register by its name, as "x5", or the address of a word.
+Place = Union[int, str]
+
+
 @dataclass(frozen=True)
 class Change:
     """A register or a word gets a value after so many steps ("A file in memory")."""
     step: int
-    place: Union[int, str]
+    place: Place
     value: int
-
-    # The place is the number of a register in a text, as "x5", or the address of a word.
 
 
 class Hart:

@@ -3,20 +3,20 @@
 from __future__ import annotations
 
 import hashlib
-import re
 from typing import Callable, Dict, List, Optional, Tuple
 
 import isa
 from admission import MOST_NEW_CODE, Options, admit, blocks, leaders
-from calls import MOST_INPUT, Transformed, TooLong, answer, transform
+from calls import TooLong, answer, transform
 from campaign import Course, is_closed, strikes_text
 from elf import read_elf
 from machine import Change, start
 from texts import Stopped, Usage, number_or_none
 from weave import MOST_NEAR_CODE, Const, Go, Item, Mark, bounds, link, size_of
-from words import Order, change_of, order_of
+from words import Order, change_of, number_of, order_of
 
 WRITE_FAULT, NO_MEMORY = 6, 7
+NO_OUTPUT = "no output\n"
 
 
 class Unreadable(Exception):
@@ -57,9 +57,10 @@ class MemoryShelf:
 
 def _number(text: str) -> int:
     """A number of a row."""
-    if not re.fullmatch("0x[0-9a-fA-F]+|[0-9]+", text):
+    number = number_of(text)
+    if number is None:
         raise Unreadable()
-    return int(text, 16) if text.startswith("0x") else int(text)
+    return number
 
 
 def _digest(data: bytes) -> str:
@@ -168,21 +169,26 @@ class Rows:
             raise Unreadable()
         return bytes(self.shelf.files[name])
 
-    def transformed(self, words: List[str]) -> Transformed:
-        """The transformed test of a name and options."""
-        order = order_of(["plan"] + words)
-        return transform(self.file(order.files[0]), order.options())
+    def order(self, words: List[str]) -> Order:
+        """The order of a name and the options of `plan`."""
+        try:
+            return order_of(["plan"] + words)
+        except Usage:
+            raise Unreadable() from None
 
-    def course(self, words: List[str]) -> Course:
-        """The course of a name and options."""
-        done = self.transformed(words)
+    def course(self, words: List[str]) -> Optional[Course]:
+        """The course of a name and options, or None where there is no output."""
+        order = self.order(words)
+        try:
+            done = transform(self.file(order.files[0]), order.options())
+        except Stopped:
+            return None
         return Course(done.test, done.woven, done.output)
 
 
 def _shown(data: bytes, status: int) -> str:
     """What a call printed, and its exit code."""
-    text = data.decode()
-    return text + ("" if text == "" or text.endswith("\n") else "\n") + f"= {status}\n"
+    return f"{data.decode()}= {status}\n"
 
 
 def _qed(rows: Rows, words: List[str]) -> str:
@@ -207,31 +213,35 @@ def _order(rows: Rows, words: List[str]) -> str:
 def _append(size: int) -> Callable[[Rows, List[str]], str]:
     """`bytes`, `words` and `longs`."""
     def append(rows: Rows, words: List[str]) -> str:
-        file = rows.shelf.files.setdefault(words[0], bytearray())
+        data = bytearray()
         for word in words[1:]:
             number, _, times = word.partition("*")
-            if _number(number) >= 1 << 8 * size:
-                raise Unreadable()
-            file += _number(number).to_bytes(size, "little") * (_number(times) if times else 1)
+            data += (_number(number) % (1 << 8 * size)).to_bytes(size, "little") * (_number(times) if times else 1)
+        if len(words) < 2:
+            raise Unreadable()
+        rows.shelf.files.setdefault(words[0], bytearray()).extend(data)
         return ""
     return append
 
 
 def _records(rows: Rows, words: List[str]) -> str:
     """`records`."""
-    file = rows.shelf.files.setdefault(words[0], bytearray())
     numbers = [[_number(part) for part in word.split("+")] for word in words[2:]]
+    if not numbers or any(len(number) > 2 for number in numbers):
+        raise Unreadable()
+    file = rows.shelf.files.setdefault(words[0], bytearray())
     for record in range(_number(words[1])):
-        for number in numbers:
-            value = number[0] + (record * number[1] if len(number) > 1 else 0)
-            file += (value % (1 << 64)).to_bytes(8, "little")
+        for first, *step in numbers:
+            file += ((first + record * sum(step)) % (1 << 64)).to_bytes(8, "little")
     return ""
 
 
 def _set(rows: Rows, words: List[str]) -> str:
     """`set`."""
-    place, data = _number(words[1]), bytes(_number(word) for word in words[2:])
-    rows.shelf.files[words[0]][place:place + len(data)] = data
+    place, file = _number(words[1]), rows.shelf.files[words[0]]
+    for number, word in enumerate(words[2:]):
+        if place + number < len(file):
+            file[place + number] = _number(word) % 256
     return ""
 
 
@@ -256,7 +266,7 @@ def _fail(rows: Rows, words: List[str]) -> str:
 
 def _show(rows: Rows, words: List[str]) -> str:
     """`show`."""
-    return (_digest(rows.file(words[0])) if words[0] in rows.shelf.files else "no file") + "\n"
+    return (_digest(rows.file(words[0])) if words[:1] and words[0] in rows.shelf.files else "no file") + "\n"
 
 
 def _read(rows: Rows, words: List[str]) -> str:
@@ -279,7 +289,7 @@ def _read(rows: Rows, words: List[str]) -> str:
 
 def _test(rows: Rows, words: List[str]) -> str:
     """`test`."""
-    order = order_of(["plan"] + words)
+    order = rows.order(words)
     test = admit(read_elf(rows.file(order.files[0])), order.options())
     low = min(s.vaddr for s in test.image)
     lines = [f"entry 0x{test.file.entry:x} image 0x{low:x} to 0x{test.end:x} base 0x{test.base:x} "
@@ -298,30 +308,35 @@ def _test(rows: Rows, words: List[str]) -> str:
 def _course(rows: Rows, words: List[str]) -> str:
     """`course`."""
     course = rows.course(words)
-    return f"reach {course.reach} snapshots {len(course.snapshots)}\n"
+    return f"reach {course.reach} snapshots {len(course.snapshots)}\n" if course else NO_OUTPUT
 
 
 def _strike(rows: Rows, words: List[str]) -> str:
     """`strike`."""
     place = words.index("with")
     changes = [change_of(word) for word in words[place + 1:]]
-    if None in changes:
+    if None in changes or not changes:
         raise Unreadable()
     changes.sort(key=lambda change: change.step)
-    return strikes_text(rows.course(words[:place]), [changes])[1]
+    course = rows.course(words[:place])
+    return strikes_text(course, [changes])[1] if course else NO_OUTPUT
 
 
 def _closed(rows: Rows, words: List[str]) -> str:
     """`closed`."""
+    change = change_of(f"{words[1]}:{words[2]}=0")
+    if change is None:
+        raise Unreadable()
     hart = start(read_elf(rows.file(words[0])))
-    hart.run(_number(words[1]))
-    place = words[2] if words[2].startswith("x") else _number(words[2])
-    return ("closed" if is_closed(hart, place) else "open") + "\n"
+    hart.run(change.step)
+    return ("closed" if is_closed(hart, change.place) else "open") + "\n"
 
 
 def _bounds(rows: Rows, words: List[str]) -> str:
     """`bounds`."""
     data_words, ranges, times, most = (_number(word) for word in words[:4])
+    if times == 0 or not set(words[4:]) <= {"far", "sweep", "diverse"}:
+        raise Unreadable()
     options = Options(inst_max=most, round=times, sweep="sweep" in words, diverse="diverse" in words)
     b = bounds(data_words, ranges, options, "far" in words)
     if max(b.piece, b.register, b.word or 0, b.start) >= 1 << 64:
@@ -361,8 +376,9 @@ def _text(rows: Rows, words: List[str]) -> str:
 
 LINES: Dict[str, Callable[[Rows, List[str]], str]] = {
     "shelf": _clear, "bytes": _append(1), "words": _append(4), "longs": _append(8), "records": _records,
-    "text": _text, "set": _set, "cut": _cut, "fail": _fail, "qed": _qed, "alone": _qed, "digest": _digest_line,
-    "arguments": lambda rows, words: _qed(rows, words[1:]), "unreadable": _qed,
+    "text": _text, "set": _set, "cut": _cut, "fail": _fail, "qed": _qed, "digest": _digest_line,
+    "alone": lambda rows, words: _qed(rows, []), "unreadable": lambda rows, words: _qed(rows, []),
+    "arguments": lambda rows, words: _qed(rows, words[1:]),
     "starved": lambda rows, words: f"= {NO_MEMORY}\n", "order": _order, "show": _show, "read": _read,
     "test": _test, "course": _course, "strike": _strike, "closed": _closed, "bounds": _bounds, "link": _link}
 
@@ -374,6 +390,8 @@ def answer_of(rows: Rows, line: str) -> str:
     first, *words = line.split(" ")
     if first not in LINES:
         return "cannot be read\n"
+    if first in ("qed", "digest", "order") and not words:
+        words = [""]
     try:
         return LINES[first](rows, words)
     except Stopped as stopped:

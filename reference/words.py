@@ -7,7 +7,7 @@ from dataclasses import dataclass, field
 from typing import Callable, Dict, List, Optional, Tuple, Union
 
 from admission import Options
-from machine import Change
+from machine import Change, Place
 from texts import Usage
 
 MOST_FAULTS = 64
@@ -73,7 +73,7 @@ def change_of(text: str) -> Optional[Change]:
     step_text, _, rest = text.partition(":")
     place_text, _, value_text = rest.partition("=")
     step, value = number_of(step_text), number_of(value_text)
-    place: Union[int, str, None]
+    place: Optional[Place]
     if re.fullmatch("x([1-9]|[12][0-9]|3[01])", place_text):
         place = place_text
     else:
