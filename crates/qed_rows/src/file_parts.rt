@@ -1,6 +1,7 @@
 //! What is read of a file, a line for each part.
 
 use crate::digest::digest_of;
+use crate::line::Lines;
 use elf_read::read_elf;
 use elf_types::{Bytes, ElfError, ElfFile, Rela, Section, Segment, Symbol};
 use report::error_text;
@@ -15,53 +16,74 @@ fn named(name: &Bytes) -> &str {
     }
 }
 
-fn segment_line(alloc: Global, segment: &Segment) -> Result<String, AllocError> {
-    let (kind, flags) = (segment.kind, segment.flags);
-    let (address, memory) = (segment.address, segment.memory);
-    let bytes = digest_of(alloc, segment.bytes.as_slice())?;
-    let head = format!(in alloc; "segment type 0x{kind:x} flags 0x{flags:x}")?;
-    format!(in alloc; "{head} at 0x{address:x} memory 0x{memory:x}, {bytes}\n")
+fn segment(lines: &mut Lines, segment: &Segment, bytes: &str) -> Result<(), AllocError> {
+    lines.begin("segment")?;
+    lines.field("type", u64::from(segment.kind))?;
+    lines.field("flags", u64::from(segment.flags))?;
+    lines.field("at", segment.address)?;
+    lines.field("memory", segment.memory)?;
+    lines.text(", ")?;
+    lines.text(bytes)?;
+    lines.end()
 }
 
-fn section_line(alloc: Global, section: &Section) -> Result<String, AllocError> {
-    let (kind, flags) = (section.kind, section.flags);
-    let (name, address, size) = (named(&section.name), section.address, section.size);
-    let head = format!(in alloc; "section {name} type 0x{kind:x} flags 0x{flags:x}")?;
-    format!(in alloc; "{head} at 0x{address:x} size 0x{size:x}\n")
+fn section(lines: &mut Lines, section: &Section) -> Result<(), AllocError> {
+    lines.begin("section")?;
+    lines.word(named(&section.name))?;
+    lines.field("type", u64::from(section.kind))?;
+    lines.field("flags", section.flags)?;
+    lines.field("at", section.address)?;
+    lines.field("size", section.size)?;
+    lines.end()
 }
 
-fn symbol_line(alloc: Global, symbol: &Symbol) -> Result<String, AllocError> {
-    let (name, value, size) = (named(&symbol.name), symbol.value, symbol.size);
-    let (kind, binding) = (symbol.kind, symbol.binding);
-    let (other, index) = (symbol.other, symbol.index);
-    let head = format!(in alloc; "symbol {name} value 0x{value:x} size 0x{size:x}")?;
-    let tail = format!(in alloc; "binding {binding} other {other} section 0x{index:x}\n")?;
-    format!(in alloc; "{head} type {kind} {tail}")
+fn symbol(lines: &mut Lines, symbol: &Symbol) -> Result<(), AllocError> {
+    lines.begin("symbol")?;
+    lines.word(named(&symbol.name))?;
+    lines.field("value", symbol.value)?;
+    lines.field("size", symbol.size)?;
+    lines.count("type", u64::from(symbol.kind))?;
+    lines.count("binding", u64::from(symbol.binding))?;
+    lines.count("other", u64::from(symbol.other))?;
+    lines.field("section", u64::from(symbol.index))?;
+    lines.end()
 }
 
-fn rela_line(alloc: Global, rela: &Rela) -> Result<String, AllocError> {
-    let (place, kind) = (rela.place, rela.kind);
-    let (symbol, addend) = (rela.symbol, rela.addend);
-    format!(in alloc; "relocation at 0x{place:x} type {kind} symbol {symbol} addend {addend}\n")
+fn relocation(lines: &mut Lines, rela: &Rela, addend: &str) -> Result<(), AllocError> {
+    lines.begin("relocation")?;
+    lines.field("at", rela.place)?;
+    lines.count("type", u64::from(rela.kind))?;
+    lines.count("symbol", u64::from(rela.symbol))?;
+    lines.word("addend")?;
+    lines.word(addend)?;
+    lines.end()
+}
+
+fn header(lines: &mut Lines, file: &ElfFile) -> Result<(), AllocError> {
+    lines.begin("entry")?;
+    lines.hex(file.entry)?;
+    lines.field("flags", u64::from(file.flags))?;
+    lines.end()
 }
 
 /// The lines of a file that was read.
-fn lines(alloc: Global, file: &ElfFile) -> Result<String, AllocError> {
-    let (entry, flags) = (file.entry, file.flags);
-    let mut text = format!(in alloc; "entry 0x{entry:x} flags 0x{flags:x}\n")?;
-    for segment in file.segments.as_slice() {
-        text.push_str(&segment_line(alloc, segment)?)?;
+fn parts(alloc: Global, file: &ElfFile) -> Result<String, AllocError> {
+    let mut lines = Lines::new(alloc);
+    header(&mut lines, file)?;
+    for it in file.segments.as_slice() {
+        segment(&mut lines, it, &digest_of(alloc, it.bytes.as_slice())?)?;
     }
-    for section in file.sections.as_slice() {
-        text.push_str(&section_line(alloc, section)?)?;
+    for it in file.sections.as_slice() {
+        section(&mut lines, it)?;
     }
-    for symbol in file.symbols.as_slice() {
-        text.push_str(&symbol_line(alloc, symbol)?)?;
+    for it in file.symbols.as_slice() {
+        symbol(&mut lines, it)?;
     }
-    for rela in file.relas.as_slice() {
-        text.push_str(&rela_line(alloc, rela)?)?;
+    for it in file.relas.as_slice() {
+        let addend = it.addend;
+        relocation(&mut lines, it, &format!(in alloc; "{addend}")?)?;
     }
-    Ok(text)
+    Ok(lines.into_text())
 }
 
 /// A printed line as text.
@@ -77,7 +99,7 @@ pub(crate) fn refusal(alloc: Global, error: ElfError) -> Result<String, AllocErr
 /// What is read of a file.
 pub(crate) fn read(alloc: Global, bytes: &[u8]) -> Result<String, AllocError> {
     match read_elf(alloc, bytes) {
-        Ok(file) => lines(alloc, &file),
+        Ok(file) => parts(alloc, &file),
         Err(error) => refusal(alloc, error),
     }
 }

@@ -9,6 +9,7 @@ mod digest;
 mod file_parts;
 mod files;
 mod layer;
+mod line;
 mod machine;
 mod numbers;
 mod row;

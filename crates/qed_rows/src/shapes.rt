@@ -1,7 +1,8 @@
 //! The bounds of outputs by what they depend on.
 
+use crate::line::Lines;
 use bound_calc::bounds;
-use qed_model::Shape;
+use qed_model::{Bounds, Shape};
 use std::alloc::{AllocError, Global};
 use texts::number;
 
@@ -28,6 +29,18 @@ fn shape_of(text: &str) -> Option<Shape> {
     Some(shape)
 }
 
+fn line(lines: &mut Lines, bounds: &Bounds) -> Result<(), AllocError> {
+    lines.begin("piece")?;
+    lines.number(bounds.piece)?;
+    lines.count("register", bounds.register)?;
+    match bounds.word {
+        Some(word) => lines.count("word", word)?,
+        None => lines.text(" word none")?,
+    }
+    lines.count("start", bounds.start)?;
+    lines.end()
+}
+
 /// The bounds of outputs of a shape, in steps.
 pub(crate) fn bounds_line(alloc: Global, text: &str) -> Result<Option<String>, AllocError> {
     let Some(shape) = shape_of(text) else {
@@ -36,14 +49,10 @@ pub(crate) fn bounds_line(alloc: Global, text: &str) -> Result<Option<String>, A
     if shape.round == 0 {
         return Ok(None);
     }
-    let Some(bounds) = bounds(&shape) else {
-        return Ok(Some(String::from_str(alloc, "none\n")?));
-    };
-    let (piece, register, start) = (bounds.piece, bounds.register, bounds.start);
-    let word = match bounds.word {
-        Some(word) => format!(in alloc; "{word}")?,
-        None => String::from_str(alloc, "none")?,
-    };
-    let head = format!(in alloc; "piece {piece} register {register}")?;
-    Ok(Some(format!(in alloc; "{head} word {word} start {start}\n")?))
+    let mut lines = Lines::new(alloc);
+    match bounds(&shape) {
+        Some(bounds) => line(&mut lines, &bounds)?,
+        None => lines.text("none\n")?,
+    }
+    Ok(Some(lines.into_text()))
 }

@@ -10,24 +10,12 @@ use report::campaign_text;
 use rv_step::Machine;
 use std::alloc::{AllocError, Global};
 use strikes::StrikeError;
-use transform::TransformError;
-
-/// The output of a test, ready to be struck; None where it has none.
-fn course(alloc: Global, bytes: &[u8], options: &Options) -> Result<Option<Course>, AllocError>
-    requires { AreSoundOptions options.now }
-{
-    match Course::prepare(alloc, bytes, options) {
-        Ok(course) => Ok(Some(course)),
-        Err(TransformError::Memory) => Err(AllocError),
-        Err(_) => Ok(None),
-    }
-}
 
 /// After how many steps the output of a test may be struck, and how many copies are kept.
 pub(crate) fn reach(alloc: Global, bytes: &[u8], options: &Options) -> Result<String, AllocError>
     requires { AreSoundOptions options.now }
 {
-    let Some(course) = course(alloc, bytes, options)? else {
+    let Ok(course) = Course::prepare(alloc, bytes, options) else {
         return String::from_str(alloc, "no output\n");
     };
     let (reach, snapshots) = (course.reach(), course.snapshots());
@@ -43,7 +31,7 @@ pub(crate) fn strike(
 ) -> Result<String, AllocError>
     requires { AreSoundOptions options.now }
 {
-    let Some(course) = course(alloc, bytes, options)? else {
+    let Ok(course) = Course::prepare(alloc, bytes, options) else {
         return String::from_str(alloc, "no output\n");
     };
     if !course.is_strike(changes.as_slice()) {

@@ -3,6 +3,7 @@ ghost use Rattle.qed_model.specs.Weave.Places.{AreSoundOptions};
 ghost use Rattle.flow_recovery.specs.Leaders.{IsCodeOf};
 
 use crate::file_parts::{refusal, text_of};
+use crate::line::Lines;
 use block_list::{CodeBlock, blocks};
 use elf_read::read_elf;
 use elf_types::ElfFile;
@@ -12,59 +13,84 @@ use report::admit_text;
 use std::alloc::{AllocError, Global};
 use test_admission::admit;
 
-fn range_line(alloc: Global, what: &str, range: &Range) -> Result<String, AllocError> {
-    let (start, end) = (range.start, range.end);
-    format!(in alloc; "{what} 0x{start:x} to 0x{end:x}\n")
+fn range(lines: &mut Lines, what: &str, range: &Range) -> Result<(), AllocError> {
+    lines.begin(what)?;
+    lines.hex(range.start)?;
+    lines.field("to", range.end)?;
+    lines.end()
 }
 
-fn places_line(alloc: Global, test: &Test) -> Result<String, AllocError> {
-    let (entry, low, high) = (test.entry, test.low, test.high);
-    let (base, distance) = (test.base, test.distance);
-    let head = format!(in alloc; "entry 0x{entry:x} image 0x{low:x} to 0x{high:x}")?;
-    format!(in alloc; "{head} base 0x{base:x} distance 0x{distance:x}\n")
+fn places(lines: &mut Lines, test: &Test) -> Result<(), AllocError> {
+    lines.begin("entry")?;
+    lines.hex(test.entry)?;
+    lines.field("image", test.low)?;
+    lines.field("to", test.high)?;
+    lines.field("base", test.base)?;
+    lines.field("distance", test.distance)?;
+    lines.end()
+}
+
+fn code_word(lines: &mut Lines, address: u64, word: &str) -> Result<(), AllocError> {
+    lines.begin("word")?;
+    lines.hex(address)?;
+    lines.word(word)?;
+    lines.end()
 }
 
 /// The places, the code ranges, the data ranges and the code words.
-fn test_lines(alloc: Global, test: &Test) -> Result<String, AllocError> {
-    let mut text = places_line(alloc, test)?;
-    for range in test.ranges.as_slice() {
-        text.push_str(&range_line(alloc, "range", range)?)?;
+fn parts(alloc: Global, lines: &mut Lines, test: &Test) -> Result<(), AllocError> {
+    places(lines, test)?;
+    for it in test.ranges.as_slice() {
+        range(lines, "range", it)?;
     }
-    for range in test.span.as_slice() {
-        text.push_str(&range_line(alloc, "data", range)?)?;
+    for it in test.span.as_slice() {
+        range(lines, "data", it)?;
     }
-    for code in test.code.as_slice() {
-        let (at, word) = (code.at, code.word);
-        text.push_str(&format!(in alloc; "word 0x{at:x} 0x{word:08x}\n")?)?;
+    for it in test.code.as_slice() {
+        let word = it.word;
+        code_word(lines, it.at, &format!(in alloc; "0x{word:08x}")?)?;
     }
-    Ok(text)
+    Ok(())
 }
 
-fn block_line(alloc: Global, block: &CodeBlock) -> Result<String, AllocError> {
-    let start = block.start;
+/// The lengths of a block's pieces, and the kind of its end.
+fn pieces(alloc: Global, block: &CodeBlock) -> Result<String, AllocError> {
     let lengths = block.lengths.as_slice();
     let end = block.end.map(|ins| ins.kind);
-    format!(in alloc; "block 0x{start:x} {lengths:?} {end:?}\n")
+    format!(in alloc; "{lengths:?} {end:?}")
+}
+
+fn block(lines: &mut Lines, start: u64, pieces: &str) -> Result<(), AllocError> {
+    lines.begin("block")?;
+    lines.hex(start)?;
+    lines.word(pieces)?;
+    lines.end()
+}
+
+fn leader(lines: &mut Lines, address: u64) -> Result<(), AllocError> {
+    lines.begin("leader")?;
+    lines.hex(address)?;
+    lines.end()
 }
 
 /// The leaders and the blocks of a test.
-fn block_lines(
+fn cut(
     alloc: Global,
+    lines: &mut Lines,
     file: &ElfFile,
     test: &Test,
     options: &Options,
-) -> Result<String, AllocError>
+) -> Result<(), AllocError>
     requires code { IsCodeOf file.now test.now }
     requires sound { AreSoundOptions options.now }
 {
-    let mut text = String::new(alloc);
-    for leader in &leaders(alloc, test, file)? {
-        text.push_str(&format!(in alloc; "leader 0x{leader:x}\n")?)?;
+    for it in &leaders(alloc, test, file)? {
+        leader(lines, *it)?;
     }
-    for block in blocks(alloc, test, file, options)?.as_slice() {
-        text.push_str(&block_line(alloc, block)?)?;
+    for it in blocks(alloc, test, file, options)?.as_slice() {
+        block(lines, it.start, &pieces(alloc, it)?)?;
     }
-    Ok(text)
+    Ok(())
 }
 
 /// What is told of the test that bytes are, or why they are none.
@@ -77,9 +103,10 @@ pub(crate) fn test(alloc: Global, bytes: &[u8], options: &Options) -> Result<Str
     };
     match admit(alloc, &file, options) {
         Ok(test) => {
-            let mut text = test_lines(alloc, &test)?;
-            text.push_str(&block_lines(alloc, &file, &test, options)?)?;
-            Ok(text)
+            let mut lines = Lines::new(alloc);
+            parts(alloc, &mut lines, &test)?;
+            cut(alloc, &mut lines, &file, &test, options)?;
+            Ok(lines.into_text())
         }
         Err(error) => text_of(alloc, &admit_text(alloc, &error)?),
     }
