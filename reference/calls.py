@@ -32,25 +32,38 @@ class TooLong(Exception):
     """A file has more bytes than it may have."""
 
 
-class DirShelf:
-    """Files of a disk. A fault is an OSError."""
+class Shelf:
+    """Files by their names. A fault is an OSError."""
 
     def load(self, name: str, most: int) -> bytes:
-        with open(name, "rb") as file:
+        raise NotImplementedError
+
+    def store(self, name: str, data: bytes) -> None:
+        raise NotImplementedError
+
+
+class DirShelf(Shelf):
+    """The machine's files; relative names go from a folder on."""
+
+    def __init__(self, folder: str) -> None:
+        self.folder = folder
+
+    def load(self, name: str, most: int) -> bytes:
+        with open(os.path.join(self.folder, name), "rb") as file:
             data = file.read(most + 1)
         if len(data) > most:
             raise TooLong()
         return data
 
     def store(self, name: str, data: bytes) -> None:
-        with open(name, "wb") as file:
+        with open(os.path.join(self.folder, name), "wb") as file:
             file.write(data)
 
 
 Answer = Tuple[int, str]
 
 
-def load(shelf: DirShelf, name: str, most: int) -> bytes:
+def load(shelf: Shelf, name: str, most: int) -> bytes:
     """The bytes of a file, by the read fault and L1 ("Limits")."""
     try:
         return shelf.load(name, most)
@@ -60,7 +73,7 @@ def load(shelf: DirShelf, name: str, most: int) -> bytes:
         raise Stopped(4, f"limit L1: over {most}\n") from None
 
 
-def store(shelf: DirShelf, name: str, data: bytes) -> None:
+def store(shelf: Shelf, name: str, data: bytes) -> None:
     """Stores OUT, or ends the call without a line."""
     try:
         shelf.store(name, data)
@@ -184,19 +197,19 @@ def play(files: List[File], turns: List[int], count: int) -> List[Hart]:
 
 # Commands
 
-def _transform(order: Order, shelf: DirShelf) -> Answer:
+def _transform(order: Order, shelf: Shelf) -> Answer:
     """`transform`."""
     done = transform(load(shelf, order.files[0], MOST_INPUT), order.options())
     store(shelf, order.files[1], done.output)
     return 0, transform_line(done)
 
 
-def _plan(order: Order, shelf: DirShelf) -> Answer:
+def _plan(order: Order, shelf: Shelf) -> Answer:
     """`plan`."""
     return 0, plan_text(transform(load(shelf, order.files[0], MOST_INPUT), order.options()))
 
 
-def _run(order: Order, shelf: DirShelf) -> Answer:
+def _run(order: Order, shelf: Shelf) -> Answer:
     """`run`."""
     file = read_elf(load(shelf, order.files[0], MOST_FILE))
     check_memory([file])
@@ -206,7 +219,7 @@ def _run(order: Order, shelf: DirShelf) -> Answer:
     return status_of([hart.outcome]), hart_text(hart) + (dump_text(hart.memory, *dump) if dump else "")
 
 
-def _campaign(order: Order, shelf: DirShelf) -> Answer:
+def _campaign(order: Order, shelf: Shelf) -> Answer:
     """`campaign`."""
     done = transform(load(shelf, order.files[0], MOST_INPUT), order.options())
     course = Course(done.test, done.woven, done.output)
@@ -214,7 +227,7 @@ def _campaign(order: Order, shelf: DirShelf) -> Answer:
     return strikes_text(course, strikes)
 
 
-def _gen(order: Order, shelf: DirShelf) -> Answer:
+def _gen(order: Order, shelf: Shelf) -> Answer:
     """`gen`."""
     seed, size = order.values["seed"], order.values["size"]
     data = generate(seed, size)
@@ -230,21 +243,21 @@ def _gen(order: Order, shelf: DirShelf) -> Answer:
                f"register bound {bounds.register}, word bound {number_or_none(bounds.word)}\n")
 
 
-def _list(order: Order, shelf: DirShelf) -> Answer:
+def _list(order: Order, shelf: Shelf) -> Answer:
     """`list`."""
     file = read_elf(load(shelf, order.files[0], MOST_FILE))
     check_memory([file])
     return 0, listing(file)
 
 
-def _asm(order: Order, shelf: DirShelf) -> Answer:
+def _asm(order: Order, shelf: Shelf) -> Answer:
     """`asm`. Characters that are no ASCII stand in no part of a line."""
     done = assemble(load(shelf, order.files[0], MOST_INPUT).decode("latin-1"))
     store(shelf, order.files[1], assembled_file(done))
     return 0, f"code {len(done.code)} words, data {len(done.data)} words\n"
 
 
-def _harts(order: Order, shelf: DirShelf) -> Answer:
+def _harts(order: Order, shelf: Shelf) -> Answer:
     """`harts`."""
     files = [read_elf(load(shelf, name, MOST_FILE)) for name in order.files]
     check_memory(files)
@@ -255,12 +268,12 @@ def _harts(order: Order, shelf: DirShelf) -> Answer:
     return status_of([hart.outcome for hart in harts]), text
 
 
-CALLS: Dict[str, Callable[[Order, DirShelf], Answer]] = {
+CALLS: Dict[str, Callable[[Order, Shelf], Answer]] = {
     "transform": _transform, "plan": _plan, "run": _run, "campaign": _campaign, "gen": _gen, "list": _list,
     "asm": _asm, "harts": _harts}
 
 
-def answer(words: List[str], shelf: DirShelf) -> Answer:
+def answer(words: List[str], shelf: Shelf) -> Answer:
     """The exit code of a call and what it prints."""
     try:
         order = order_of(words)
@@ -279,7 +292,7 @@ def arguments() -> Optional[List[str]]:
 
 def main() -> int:
     """The program: one call over the files of the disk."""
-    status, text = answer(arguments() or [], DirShelf())
+    status, text = answer(arguments() or [], DirShelf("."))
     try:
         sys.stdout.buffer.write(text.encode())
         sys.stdout.buffer.flush()

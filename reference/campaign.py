@@ -97,11 +97,12 @@ class Course:
         last = changes[-1].step
         has_word = any(isinstance(change.place, int) for change in changes)
         bound = self.bounds.word if has_word else self.bounds.register
-        if self.clean(last).outcome != GOING:
+        states = [self.clean(change.step) for change in changes]
+        if states[-1].outcome != GOING:
             return Verdict("not reached")
-        if any(is_closed(self.clean(change.step), change.place) for change in changes):
+        if any(is_closed(state, change.place) for state, change in zip(states, changes)):
             return Verdict("closed")
-        struck = self.clean(changes[0].step)
+        struck = states[0]
         run_changed(struck, changes, last + bound)
         if struck.outcome in (ENDED, FIRED):
             return Verdict(struck.outcome, max(struck.steps - last, 0))

@@ -3,11 +3,13 @@
 from __future__ import annotations
 
 import hashlib
+import os
+import tempfile
 from typing import Callable, Dict, List, Optional, Tuple
 
 import isa
 from admission import MOST_NEW_CODE, Options, admit, blocks, leaders
-from calls import TooLong, answer, transform
+from calls import DirShelf, Shelf, TooLong, answer, transform
 from campaign import Course, is_closed, strikes_text
 from elf import read_elf
 from machine import Change, start
@@ -23,7 +25,7 @@ class Unreadable(Exception):
     """A line that is none of the lines of the page."""
 
 
-class MemoryShelf:
+class MemoryShelf(Shelf):
     """Files in memory, of which loads and stores fail as they are told."""
 
     def __init__(self) -> None:
@@ -142,6 +144,7 @@ class Rows:
 
     def clear(self) -> None:
         """A new shelf, and sinks that do not fail."""
+        self.folder = tempfile.TemporaryDirectory()
         self.shelf = MemoryShelf()
         self.failing_write: Optional[int] = None
         self.most: Optional[int] = None
@@ -157,11 +160,15 @@ class Rows:
             call += 1
         return data, True
 
-    def call(self, words: List[str]) -> Tuple[bytes, int]:
+    def call(self, words: List[str], shelf: Optional[Shelf] = None) -> Tuple[bytes, int]:
         """A call of the whole program: what it prints, and its exit code."""
-        status, text = answer(words, self.shelf)
+        status, text = answer(words, shelf or self.shelf)
         data, is_whole = self.printed(text)
         return data, status if is_whole else WRITE_FAULT
+
+    def on_disk(self, name: str) -> str:
+        """The path of a name in the folder of the machine's files."""
+        return os.path.join(self.folder.name, name)
 
     def file(self, name: str) -> bytes:
         """The bytes of a file that has to be there."""
@@ -196,6 +203,46 @@ def _qed(rows: Rows, words: List[str]) -> str:
     return _shown(*rows.call(words))
 
 
+def _never(rows: Rows, words: List[str]) -> str:
+    """`never`: a shelf on which nothing fails, and what is not there has no bytes."""
+    shelf = MemoryShelf()
+    shelf.files = {word: rows.shelf.files.get(word, bytearray()) for word in words}
+    status, text = answer(words, shelf)
+    return _shown(text.encode(), status)
+
+
+def _narrow(rows: Rows, words: List[str]) -> str:
+    """`narrow`: a writer with room for so many bytes."""
+    status, text = answer(words[1:], rows.shelf)
+    data, room = text.encode(), _number(words[0])
+    return _shown(data[:room], status if len(data) <= room else WRITE_FAULT)
+
+
+def _disk(rows: Rows, words: List[str]) -> str:
+    """`disk`: the machine's files."""
+    return _shown(*rows.call(words, DirShelf(rows.folder.name)))
+
+
+def _put(rows: Rows, words: List[str]) -> str:
+    """`put`."""
+    with open(rows.on_disk(words[0]), "wb") as file:
+        file.write(rows.file(words[0]))
+    return ""
+
+
+def _take(rows: Rows, words: List[str]) -> str:
+    """`take`."""
+    with open(rows.on_disk(words[0]), "rb") as file:
+        rows.shelf.files[words[0]] = bytearray(file.read())
+    return ""
+
+
+def _kind(rows: Rows, words: List[str]) -> str:
+    """`kind`."""
+    path = rows.on_disk(words[0])
+    return ("link" if os.path.islink(path) else "file" if os.path.exists(path) else "nothing") + "\n"
+
+
 def _digest_line(rows: Rows, words: List[str]) -> str:
     """`digest`."""
     data, status = rows.call(words)
@@ -210,15 +257,21 @@ def _order(rows: Rows, words: List[str]) -> str:
         return f"Err(Usage({reason_text(usage.reason)}))\n"
 
 
+def _numbers(words: List[str], size: int) -> bytes:
+    """The bytes of numbers of one size, each once or so often."""
+    data = bytearray()
+    for word in words:
+        number, _, times = word.partition("*")
+        data += (_number(number) % (1 << 8 * size)).to_bytes(size, "little") * (_number(times) if times else 1)
+    return bytes(data)
+
+
 def _append(size: int) -> Callable[[Rows, List[str]], str]:
     """`bytes`, `words` and `longs`."""
     def append(rows: Rows, words: List[str]) -> str:
-        data = bytearray()
-        for word in words[1:]:
-            number, _, times = word.partition("*")
-            data += (_number(number) % (1 << 8 * size)).to_bytes(size, "little") * (_number(times) if times else 1)
         if len(words) < 2:
             raise Unreadable()
+        data = _numbers(words[1:], size)
         rows.shelf.files.setdefault(words[0], bytearray()).extend(data)
         return ""
     return append
@@ -239,9 +292,8 @@ def _records(rows: Rows, words: List[str]) -> str:
 def _set(rows: Rows, words: List[str]) -> str:
     """`set`."""
     place, file = _number(words[1]), rows.shelf.files[words[0]]
-    for number, word in enumerate(words[2:]):
-        if place + number < len(file):
-            file[place + number] = _number(word) % 256
+    data = _numbers(words[2:], 1)[:max(len(file) - place, 0)]
+    file[place:place + len(data)] = data
     return ""
 
 
@@ -352,7 +404,10 @@ def _item(text: str) -> Item:
 
 
 def _link(rows: Rows, words: List[str]) -> str:
-    """`link`."""
+    """`link`: a symbolic link on the disk; of a form, an address and items their words."""
+    if len(words) == 2:
+        os.symlink(words[1], rows.on_disk(words[0]))
+        return ""
     items, far = [_item(word) for word in words[2:]], words[0] == "far"
     if size_of(items, far) > (MOST_NEW_CODE if far else MOST_NEAR_CODE):
         return f"too large {size_of(items, far)}\n"
@@ -374,12 +429,19 @@ def _text(rows: Rows, words: List[str]) -> str:
     return ""
 
 
+def _line(rows: Rows, words: List[str]) -> str:
+    """`line`."""
+    rows.shelf.files[words[0]].extend(("\n" + " ".join(words[1:])).encode())
+    return ""
+
+
 LINES: Dict[str, Callable[[Rows, List[str]], str]] = {
     "shelf": _clear, "bytes": _append(1), "words": _append(4), "longs": _append(8), "records": _records,
-    "text": _text, "set": _set, "cut": _cut, "fail": _fail, "qed": _qed, "digest": _digest_line,
+    "text": _text, "line": _line, "set": _set, "cut": _cut, "fail": _fail, "qed": _qed, "digest": _digest_line,
     "alone": lambda rows, words: _qed(rows, []), "unreadable": lambda rows, words: _qed(rows, []),
     "arguments": lambda rows, words: _qed(rows, words[1:]),
     "starved": lambda rows, words: f"= {NO_MEMORY}\n", "order": _order, "show": _show, "read": _read,
+    "never": _never, "narrow": _narrow, "disk": _disk, "put": _put, "take": _take, "kind": _kind,
     "test": _test, "course": _course, "strike": _strike, "closed": _closed, "bounds": _bounds, "link": _link}
 
 
@@ -396,5 +458,7 @@ def answer_of(rows: Rows, line: str) -> str:
         return LINES[first](rows, words)
     except Stopped as stopped:
         return stopped.text
+    except OSError:
+        return "not done\n"
     except (Unreadable, IndexError, KeyError, TypeError, ValueError):
         return "cannot be read\n"
