@@ -1,9 +1,9 @@
 -- The stages of any weave: from a boundary of pieces to the next, with one comparison of all registers and the visits.
-use Rattle.std.proofs.Common.{◌≡◌, ℕ, zero, suc, ◌+◌, ◌-◌, ◌*◌, ◌<◌, ◌≤◌, ◌⊎◌, inl, inr, ⊎_elim, Bool, true, List, [], ◌∷◌, ◌++◌, length, refl, sym, ap, ◌∙◌, subst, arith}
+use Rattle.std.proofs.Common.{◌≡◌, ℕ, ◌+◌, ◌*◌, ◌<◌, ◌≤◌, ◌⊎◌, inl, inr, Bool, true, List, [], ◌∷◌, ◌++◌, length, sym, ap, ◌∙◌, subst, arith}
 use Rattle.std.proofs.lemmas.List.{append_assoc}
 use Rattle.rv_isa.specs.declared.ins.Ins.{Ins}
 use Rattle.qed_model.specs.declared.machine.Outcome.TheVariants.{Going, Ended}
-use Rattle.qed_model.specs.Machine.Step.{State, reg, Known, step, run}
+use Rattle.qed_model.specs.Machine.Step.{State, reg, run}
 use Rattle.qed_model.specs.Promise.Kept.{NotTrapped}
 use Rattle.qed_model.specs.Weave.Sequences.{Reads, End, Falls, Stops, body_length}
 use Rattle.qed_model.proofs.Walk.{run-more}
@@ -11,22 +11,15 @@ use Rattle.qed_model.proofs.Walked.{Walk, walk_on}
 use Rattle.weave_core.specs.World.{World, Quiet, IsCursor, words_on}
 use Rattle.weave_core.specs.Blocks.{Full}
 use Rattle.weave_core.specs.Rows.{At, Sourced}
-use Rattle.weave_core.proofs.Source.{source_run}
+use Rattle.weave_core.proofs.Source.{source_run, not_trapped_le}
 use Rattle.weave_core.proofs.Leaves.{no_code}
-use Rattle.weave_core.proofs.Stage.{not_trapped_le}
 use Rattle.weave_core.specs.Lock.{ComparesFrom}
 use Rattle.weave_core.specs.Kinds.{thirteen}
 use Rattle.weave_core.specs.Weave.{Weave, pieces_of, body_of}
-use Rattle.weave_core.specs.WeaveLaws.{PiecesAt, EntriesAt, Holds, Stands, Goes_to, Visits, stops, Left, has_ended, lands, is_lost, Rows, Swept}
+use Rattle.weave_core.specs.WeaveLaws.{PiecesAt, EntriesAt, Stands, Visits, stops, Left, has_ended, lands, is_lost, Rows, Swept}
+use Rattle.weave_core.proofs.Trace.{none_run, one_run}
 
-one_run : (s : State) → run s 1 ≡ step s
-unfolding run
-one_run s = refl
-
-none_run : (s : State) → run s 0 ≡ s
-unfolding run
-none_run s = refl
-
+-- the pieces behind one are full
 rest_full : (p : List Ins) (ps : List (List Ins)) (e : End) → Full (p ∷ ps) e → Full ps e
 rest_full p [] e f = tt
 rest_full p (q ∷ ps) e f = f.1

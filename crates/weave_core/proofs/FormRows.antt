@@ -1,64 +1,53 @@
--- Today's forms meet the laws of the rows, and so the promise of a plan follows from that of any weave.
-use Rattle.std.proofs.Common.{◌≡◌, ℕ, zero, suc, ◌+◌, ◌-◌, ◌*◌, ◌%◌, ◌^◌, ◌<◌, ◌≤◌, ◌⊎◌, inl, inr, ⊎_elim, Bool, true, false, cond, List, [], ◌∷◌, ◌++◌, length, drop, refl, sym, ap, ◌∙◌, subst, arith}
-use Rattle.std.specs.Prelude.{slice_index}
-use Rattle.std.proofs.lemmas.Bool.{and_parts, and_from, leb-true, le-leb}
-use Rattle.std.proofs.lemmas.List.{append_assoc}
+-- The forms of the code are a weave: they meet the laws of the rows and of the entry, so the promises follow from those of any weave.
+use Rattle.std.proofs.Common.{◌≡◌, ℕ, suc, ◌+◌, ◌*◌, ◌%◌, ◌^◌, ◌<◌, ◌≤◌, ⊎_elim, Bool, true, false, cond, List, [], ◌∷◌, ◌++◌, length, refl, sym, ap, ◌∙◌, subst, arith}
+use Rattle.std.specs.Prelude.{pos, slice_set}
+use Rattle.std.proofs.lemmas.Bool.{and_parts, and_from, leb-true, le-leb, ne_eqb}
 use Rattle.std.proofs.Math.Nat.{mul-le-mul, mul-le-mul_left}
 use Rattle.rv_isa.specs.declared.ins.Ins.{Ins}
 use Rattle.rv_isa.specs.declared.class.Class.{Class}
 use Rattle.rv_isa.specs.Kind.{class_of}
 use Rattle.rv_isa.specs.declared.class.Class.TheVariants as class
-use Rattle.qed_model.specs.declared.machine.Outcome.TheVariants.{Going, Ended}
+use Rattle.qed_model.specs.declared.machine.Outcome.TheVariants.{Ended}
 use Rattle.qed_model.specs.Machine.Values.{holds}
-use Rattle.qed_model.specs.Machine.Step.{Fetched, State, reg, moved, stopped, Known, step, run, target}
-use Rattle.qed_model.specs.Machine.Program.{Program, start, zeros, AreStartRegs}
+use Rattle.qed_model.specs.Machine.Step.{Fetched, State, reg, moved, stopped, Known, step, run, target, jumped, imm, next_pc}
+use Rattle.qed_model.specs.Machine.Program.{Program}
 use Rattle.qed_model.specs.Promise.Kept.{NotTrapped, Kept}
 use Rattle.qed_model.specs.declared.item.Item.{Item}
-use Rattle.qed_model.specs.declared.item.Item.TheVariants.{Mark, Plain, Go}
-use Rattle.qed_model.specs.Weave.Pieces.{is_run}
+use Rattle.qed_model.specs.declared.item.Item.TheVariants.{Plain, Go}
 use Rattle.qed_model.specs.Weave.Blocks.{begins_at}
-use Rattle.qed_model.specs.Weave.Sequences.{Form, Reads, End, Falls, Stops, Block, body_length, each_part, original, compare, visit, piece, pieces, leave, leave_as, go_on, enter, entry_items, all_entries, prologue, stub}
-use Rattle.qed_model.proofs.Walk.{over_moved, known_at, run-more}
+use Rattle.qed_model.specs.Weave.Sequences.{Form, Reads, End, Falls, Stops, Block, body_length, each_part, compare, visit, piece, pieces, leave, leave_as, go_on, enter, entry_items, all_entries, prologue, stub}
+use Rattle.qed_model.proofs.Walk.{over_moved, known_at, run-more, constant_walk, set_reg-pos}
 use Rattle.qed_model.proofs.Walked.{Walk, walk_on}
-use Rattle.weave_core.specs.World.{World, Quiet, Twice, words_on}
-use Rattle.weave_core.specs.Blocks.{IsEntryOf, Piece, Full, Goes, Leaves, EndStands, Pieces, BlockAt}
-use Rattle.weave_core.specs.Rows.{At, Sourced, Led, Mirrors}
-use Rattle.weave_core.specs.WovenIn.{Describes, WovenIn}
-use Rattle.weave_core.specs.Plan.{GoodBlock, AllGood, Plan, PlanKept}
-use Rattle.weave_core.specs.Promise.{piece_of, start_of}
+use Rattle.weave_core.specs.World.{World, Quiet, words_on}
+use Rattle.weave_core.specs.Blocks.{IsEntryOf, Piece, Goes, Leaves, EndStands, Pieces, BlockAt}
+use Rattle.weave_core.specs.Rows.{At, Sourced, Mirrors}
+use Rattle.weave_core.specs.WovenIn.{WovenIn}
+use Rattle.weave_core.specs.Plan.{AllGood, Plan, PlanKept, PlanLanded}
+use Rattle.weave_core.specs.Promise.{start_of, ValuesKept, LandingsFire}
 use Rattle.weave_core.proofs.Rows.{led_on, led_none}
 use Rattle.weave_core.proofs.Words.{compare_row, const_free, free_16}
-use Rattle.weave_core.proofs.Source.{source_run}
 use Rattle.weave_core.proofs.Visit.{visit_row, HasRange}
-use Rattle.weave_core.proofs.Body.{spent_first, spent_first_le, originals_row, body_row, piece_parts}
+use Rattle.weave_core.proofs.Body.{spent_first_le, originals_row, body_row, piece_parts}
 use Rattle.qed_model.specs.Admission.DataRanges.{word_count}
 use Rattle.weave_core.proofs.Endings.{Closes, endings}
-use Rattle.weave_core.proofs.Branch.{branch_to, branch_step, second_part, turn_row, turn_go}
-use Rattle.weave_core.proofs.Indirect.{aim, leap_step, aim_row, leap_row, look_up}
-use Rattle.weave_core.proofs.Leaves.{entry_is, Stands as OldStands, Lands, enter_row, go_row, go_most, go_most_le, links_row, jump_step, step-end, step-illegal, end_walk}
+use Rattle.weave_core.proofs.Branch.{branch_to, branch_step, turn_row, turn_go}
+use Rattle.weave_core.proofs.Indirect.{aim, leap_step, aim_row, leap_row}
+use Rattle.weave_core.proofs.Leaves.{entry_is, Lands, enter_row, go_row, go_most, go_most_le, links_row, jump_step, step-end, step-illegal, end_walk, step-branch, step-break}
 use Rattle.weave_core.proofs.Prologue.{prologue_row}
 use Rattle.weave_core.specs.Lock.{ComparesFrom}
 use Rattle.weave_core.specs.Kinds.{thirteen}
-use Rattle.weave_core.specs.Weave.{Weave, pieces_of, body_of, entry_of, entries_of, code_of, stage_steps, start_steps}
-use Rattle.weave_core.specs.WeaveLaws.{PieceAt, PiecesAt, BlockOf, EntryAt, EntriesAt, Holds, Stands, Goes_to, Inside, Behind, stops, Left, has_ended, lands, is_lost, Rows, Starts, Swept}
-use Rattle.weave_core.specs.WeavePromise.{AllBlocksOf, PlanOf, AnyKept}
+use Rattle.weave_core.specs.Weave.{Weave, pieces_of, entry_of, entries_of}
+use Rattle.weave_core.specs.WeaveLaws.{PieceAt, PiecesAt, EntryAt, Holds, Stands, GoesTo, Inside, Behind, stops, Left, has_ended, lands, is_lost, Rows, Starts, Swept, Guarded}
+use Rattle.weave_core.specs.WeavePromise.{AllBlocksOf, PlanOf}
 use Rattle.weave_core.specs.WeaveForms.{weave_of}
-use Rattle.weave_core.proofs.WeaveValues.{any_kept}
-use Rattle.std.specs.Prelude.{pos, slice_set}
-use Rattle.std.proofs.lemmas.Bool.{ne_eqb}
-use Rattle.rv_isa.specs.declared.kind.Kind.TheVariants.{Beq, Ebreak}
+use Rattle.weave_core.proofs.Values.{WeaveIn, kept, weave_kept}
+use Rattle.rv_isa.specs.declared.kind.Kind.TheVariants.{Beq}
 use Rattle.rv_isa.specs.Regs.{set_reg}
 use Rattle.rv_isa.proofs.RegsLaws.{slice_index-set_reg_other, slice_index-set_reg_same}
-use Rattle.qed_model.specs.declared.machine.Outcome.TheVariants.{Fired}
 use Rattle.qed_model.specs.Machine.Table.{ins}
-use Rattle.qed_model.specs.Machine.Step.{jumped, imm, next_pc, next, execute, ebreak}
 use Rattle.qed_model.specs.Machine.Walks.{Over}
-use Rattle.qed_model.proofs.Walk.{constant_walk, set_reg-pos}
-use Rattle.qed_model.proofs.Steps.{step-class}
-use Rattle.weave_core.specs.Plan.{PlanLanded}
-use Rattle.weave_core.specs.WeaveLaws.{Guarded}
-use Rattle.weave_core.proofs.Leaves.{step-branch}
-use Rattle.weave_core.proofs.WeaveLandings.{any_landed}
+use Rattle.weave_core.proofs.Landings.{landed, weave_landed}
+use Rattle.weave_core.proofs.Trace.{none_run}
 
 -- the comparison of all registers
 pub compares : (far : Bool) (c : ℕ → Fetched) (e : ℕ → ℕ) (a : ℕ) (rest : List Item) → Reads far c e a (compare ++ rest) → ComparesFrom c a thirteen
@@ -111,16 +100,10 @@ module _ (w : World) (most : ℕ) where
   }
 
   module _ (leader : ℕ → Bool) where
-    old_stands : (u s : State) → Stands w leader u s → OldStands w leader u s
-    old_stands u s t = record { over = t.over; halved = t.halved; pc = t.pc; sign = t.sign; leads = t.leads }
-
-    new_stands : (u s : State) → OldStands w leader u s → Stands w leader u s
-    new_stands u s t = record { over = t.over; halved = t.halved; pc = t.pc; sign = t.sign; leads = t.leads }
-
     -- ---- the entry
     pub enter_law :
         (u s : State) (rest : List Item) → Stands w leader u s → s.pc < 2 ^ 64 → Reads w.form.far w.code w.entry u.pc (v.enter s.pc ++ rest)
-        → Goes_to w u 0 3 (λ n x. At w x rest s s × (reg x 15 ≡ reg u 15))
+        → GoesTo w u 0 3 (λ n x. At w x rest s s × (reg x 15 ≡ reg u 15))
     enter_law u s rest st low r =
         let l = enter_row w u s rest st.over st.halved st.sign low (sym st.pc, r) in
         record { steps = l.steps; to = l.to; at_least = omega arith; within = l.within; walk = l.walk; is = (l.at, l.cursor) }
@@ -129,7 +112,7 @@ module _ (w : World) (most : ℕ) where
       -- ---- a piece
       inside_law :
           (is : List Ins) (n : ℕ) (u s : State) (rest : List Item) → n < length is → PieceAt w v s.pc is → At w u (piece w.form is s.pc ++ rest) s s
-          → Sourced w s → NotTrapped (run s n) → Goes_to w u n v.piece_steps (λ k x. Inside w s n x)
+          → Sourced w s → NotTrapped (run s n) → GoesTo w u n v.piece_steps (λ k x. Inside w s n x)
       inside_law is n u s rest l p a so calm =
           let q = old_piece s.pc is p in
           let a1 = subst (λ l. At w u l s s) (piece_parts w is s.pc rest) a in
@@ -154,7 +137,7 @@ module _ (w : World) (most : ℕ) where
 
       piece_law :
           (is : List Ins) (u s : State) (rest : List Item) → PieceAt w v s.pc is → At w u (piece w.form is s.pc ++ rest) s s → Sourced w s
-          → NotTrapped (run s (length is)) → Goes_to w u (length is) v.piece_steps (Behind w v u s (length is) rest)
+          → NotTrapped (run s (length is)) → GoesTo w u (length is) v.piece_steps (Behind w v u s (length is) rest)
       piece_law is u s rest p a so calm =
           let q = old_piece s.pc is p in
           let vs = visit w.form.round w.form.spans in
@@ -203,7 +186,7 @@ module _ (w : World) (most : ℕ) where
             (u x t : State) (m n l k e : ℕ) → Walk (Quiet w) u m x → reg x 15 ≡ reg u 15 → m ≤ n → 1 ≤ l → n + k ≤ 14 → Sourced w t
             → Lands w leader x l k t → Left w v leader u t e
         lands_law u x t m n l k e a c h one le so b =
-            lands (record { steps = m + b.steps; to = b.to; at_least = omega (arith, b.at_least); within = omega (arith, b.within); walk = walk_on (Quiet w) u x b.to m b.steps a b.walk; is = (new_stands b.to t b.stands, b.cursor ∙ c) }) so
+            lands (record { steps = m + b.steps; to = b.to; at_least = omega (arith, b.at_least); within = omega (arith, b.within); walk = walk_on (Quiet w) u x b.to m b.steps a b.walk; is = (b.stands, b.cursor ∙ c) }) so
 
         -- the sweep, in the words of the laws
         swept : (u : State) (n : ℕ) → Closes w u n → Swept w v u n
@@ -220,7 +203,7 @@ module _ (w : World) (most : ℕ) where
         fall_law u s a so g =
             ⊎_elim
             (λ l. let y = wide u s (go_row w leader most u s s.pc [] (block s.pc l) l refl a) in
-            lands (record { steps = y.steps; to = y.to; at_least = omega (arith, y.at_least); within = omega (arith, y.within); walk = y.walk; is = (new_stands y.to s y.stands, y.cursor) }) so)
+            lands (record { steps = y.steps; to = y.to; at_least = omega (arith, y.at_least); within = omega (arith, y.within); walk = y.walk; is = (y.stands, y.cursor) }) so)
             (λ lacks. is_lost (let y = led_none w u (go_on s.pc) s s a in record { steps = y.steps; to = y.to; at_least = omega arith; within = omega arith; walk = y.walk; is = (y.at.over.going, y.at.halved) }) so lacks)
             g
 
@@ -293,8 +276,27 @@ module _ (w : World) (most : ℕ) where
     form_starts f g = record {
       first = λ d entry leads begins regs are.
           let p = prologue_row f g w leader (record { world = d; begins = begins; leads = leads; entry = entry }) regs are in
-          record { steps = p.steps; to = p.to; at_least = p.at_least; within = p.within; walk = p.walk; is = new_stands p.to (start f zeros) p.stands };
+          record { steps = p.steps; to = p.to; at_least = p.at_least; within = p.within; walk = p.walk; is = p.stands };
     }
+
+  -- ---- leaders with their entries
+  new_block : (leader : ℕ → Bool) (a : ℕ) → BlockAt w leader most a → EntryAt w v leader a
+  new_block leader a b = record {
+    body = b.body;
+    end = b.end;
+    reads = subst (λ l. Reads w.form.far w.code w.entry (w.entry a) l) (sym (entry_same w.form most (record { start = a; body = b.body; end = b.end }))) b.reads;
+    good = record { low = b.low; pieces = new_pieces leader b.body b.end a b.pieces; some = b.some; full = b.full };
+  }
+
+  pub woven_in : (f g : Program) (leader : ℕ → Bool) → WovenIn f g w leader most → Mirrors w → WeaveIn f g w v leader
+  woven_in f g leader x law = record {
+    rows = form_rows leader law;
+    starts = form_starts leader f g;
+    world = x.world;
+    entries = λ a l. new_block leader a (x.blocks a l);
+    leads = x.leads;
+    begins = x.begins;
+  }
 
   -- ---- plans
   new_blocks : (leader : ℕ → Bool) (bs : List Block) → AllGood w leader most bs → AllBlocksOf w v leader bs
@@ -309,30 +311,29 @@ module _ (w : World) (most : ℕ) where
     begins = p.begins;
   }
 
--- the promise of today's plans, word for word, from that of any weave
-pub plan_kept_again : PlanKept
-plan_kept_again f g w most blocks p law =
-    let k = any_kept f g w (weave_of w.form most) blocks (new_plan w most f g blocks p) (form_rows w most (begins_at blocks) law) (form_starts w most (begins_at blocks) f g) in
+-- ---- the promises
+-- where each leader has its entry, the values are kept
+pub values_kept : ValuesKept
+values_kept f g w leader most x law = subst (λ n. Kept f g (start_of w.form) n) (omega arith) (kept f g w (weave_of w.form most) leader (woven_in w most f g leader x law))
+
+-- a plan keeps the values
+pub plan_kept : PlanKept
+plan_kept f g w most blocks p law =
+    let k = weave_kept f g w (weave_of w.form most) blocks (new_plan w most f g blocks p) (form_rows w most (begins_at blocks) law) (form_starts w most (begins_at blocks) f g) in
     subst (λ n. Kept f g (start_of w.form) n) (omega arith) k
 
 -- ---- the entry
--- EBREAK fires
-step-break : (s : State) → s.outcome ≡ Going → next s ≡ ebreak → (step s).outcome ≡ Fired
-unfolding execute
-step-break s g n = ap (λ x. x.outcome) (step-class s (ins Ebreak 0 0 0 (pos 0)) class.Break g n refl)
-
+-- numbers that differ fail the test
 differ_fails : (a b : ℕ) → (a ≡ b → ⊥) → holds Beq a b ≡ false
 unfolding holds
 differ_fails a b h = ne_eqb a b h
 
+-- the first step of a run
 first_run : (s : State) (k : ℕ) → run s (suc k) ≡ run (step s) k
 unfolding run
 first_run s k = refl
 
-none_run : (s : State) → run s 0 ≡ s
-unfolding run
-none_run s = refl
-
+-- the entry of a form is one with these laws
 pub form_guarded : (w : World) (most : ℕ) → Guarded w (weave_of w.form most) 4
 form_guarded w most = record {
   signed = λ u a rest low h o q. q.signed a low (o.code u.pc ∙ h.0, o.code (u.pc + 4) ∙ h.1, o.code (u.pc + 8) ∙ h.2.0);
@@ -354,6 +355,10 @@ form_guarded w most = record {
       ap (λ s. s.outcome) all ∙ step-break y o.going (o.code (v.pc + 8 + 4) ∙ h.2.1.0);
 }
 
--- the promise of today's plans on jumps, word for word, from that of any weave
-pub plan_landed_again : PlanLanded
-plan_landed_again f g w most blocks entries p law known = any_landed f g w (weave_of w.form most) blocks entries (new_plan w most f g blocks p) (form_rows w most (begins_at blocks) law) (form_starts w most (begins_at blocks) f g) (form_guarded w most) known
+-- and its jumps land
+pub plan_landed : PlanLanded
+plan_landed f g w most blocks entries p law known = weave_landed f g w (weave_of w.form most) blocks entries (new_plan w most f g blocks p) (form_rows w most (begins_at blocks) law) (form_starts w most (begins_at blocks) f g) (form_guarded w most) known
+
+-- and so they do wherever the entries stand
+pub landings_fire : LandingsFire
+landings_fire f g w leader most entries x law known = landed f g w (weave_of w.form most) leader entries (woven_in w most f g leader x law) (form_guarded w most) known

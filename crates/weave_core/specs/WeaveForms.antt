@@ -1,5 +1,5 @@
--- Today's forms of the code are a weave: near and far, with or without the sweep, with either kind of mirror part.
-use Rattle.std.specs.Prelude.{ℕ, ◌+◌, ◌*◌, ◌&&◌, nat_le, cond, List, [], ◌∷◌, length, pos}
+-- The forms of the code are a weave: near and far, with or without the sweep, with either kind of mirror part.
+use Rattle.std.specs.Prelude.{ℕ, ◌+◌, ◌*◌, ◌&&◌, nat_le, cond, [], ◌∷◌, length, pos}
 use Rattle.rv_isa.specs.declared.kind.Kind.TheVariants.{Beq}
 use Rattle.qed_model.specs.Machine.Table.{ins}
 use Rattle.qed_model.specs.declared.item.Item.TheVariants.{Plain, Constant}

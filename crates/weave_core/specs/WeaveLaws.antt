@@ -1,11 +1,11 @@
 -- The laws of a weave: all that the inductions over the run of the output use of its sequences.
-use Rattle.std.specs.Prelude.{◌≡◌, ℕ, ◌+◌, ◌*◌, ◌%◌, ◌^◌, ◌<◌, ◌≤◌, Bool, true, List, [], ◌∷◌, ◌++◌, length, is_some}
+use Rattle.std.specs.Prelude.{◌≡◌, ℕ, ◌+◌, ◌*◌, ◌^◌, ◌<◌, ◌≤◌, Bool, true, List, [], ◌∷◌, ◌++◌, length, is_some}
 use Rattle.std.specs.FinMap.{get}
 use Rattle.rv_isa.specs.declared.ins.Ins.{Ins}
 use Rattle.qed_model.specs.declared.item.Item.{Item}
 use Rattle.qed_model.specs.declared.machine.Outcome.TheVariants.{Going, Ended, Fired}
 use Rattle.qed_model.specs.Machine.Memory.{byte_at}
-use Rattle.qed_model.specs.Machine.Step.{State, reg, Fetched, Known, HasAt, run}
+use Rattle.qed_model.specs.Machine.Step.{State, reg, Known, HasAt, run}
 use Rattle.qed_model.specs.Machine.Walks.{Over, Walk}
 use Rattle.qed_model.specs.Machine.Program.{Program, start, zeros, AreStartRegs}
 use Rattle.qed_model.specs.Promise.Kept.{NotTrapped}
@@ -16,11 +16,10 @@ use Rattle.weave_core.specs.World.{World, Quiet, Twice, words_on}
 use Rattle.weave_core.specs.Blocks.{AllFit, Full, EndStands, IsEntryOf}
 use Rattle.weave_core.specs.Rows.{At, Sourced}
 use Rattle.weave_core.specs.WovenIn.{Describes}
-use Rattle.weave_core.specs.Lock.{comparison, first_load}
-use Rattle.weave_core.specs.KindItems.{LockItems, LandItems, AllPieces, GoodEnd}
-use Rattle.weave_core.specs.Lock.{ComparesFrom}
+use Rattle.weave_core.specs.Lock.{first_load, ComparesFrom}
+use Rattle.weave_core.specs.KindItems.{LockItems, LandItems, GoodEnd}
 use Rattle.weave_core.specs.Kinds.{thirteen}
-use Rattle.weave_core.specs.Weave.{Weave, body_of, entry_of}
+use Rattle.weave_core.specs.Weave.{Weave, entry_of}
 
 -- ---- what stands in the two programs
 -- the instructions of a piece stand in the input from `at` on
@@ -67,7 +66,7 @@ pub record Stands (w : World) (leader : ℕ → Bool) (u s : State) : Type 0 whe
 
 -- ---- where the sequences lead
 -- a quiet walk of so many steps to a state with a property
-pub record Goes_to (w : World) (u : State) (least most : ℕ) (Is : ℕ → State → Type 0) : Type 0 where
+pub record GoesTo (w : World) (u : State) (least most : ℕ) (Is : ℕ → State → Type 0) : Type 0 where
   pub steps : ℕ
   pub to : State
   pub at_least : least ≤ steps
@@ -110,24 +109,24 @@ stops (Stops i) = 1
 
 -- behind a leave, where the input is in t: the test has ended; an entry; or no code, where the input goes no further
 pub data Left (w : World) (v : Weave) (leader : ℕ → Bool) (u t : State) (least : ℕ) : Type 0 where
-  has_ended : Goes_to w u 1 (v.leave_steps + v.end_steps) (λ n x. (x.outcome ≡ Ended) × Holds w x t × (v.sweeps ≡ true → Swept w v u n)) → t.outcome ≡ Ended → Left w v leader u t least
-  lands : Goes_to w u 1 v.leave_steps (λ n x. Stands w leader x t × (reg x 15 ≡ reg u 15)) → Sourced w t → Left w v leader u t least
-  is_lost : Goes_to w u least v.leave_steps (λ n x. (x.outcome ≡ Going) × Twice w x t t) → Sourced w t → ((i : Ins) → w.source t.pc ≡ Known i → ⊥) → Left w v leader u t least
+  has_ended : GoesTo w u 1 (v.leave_steps + v.end_steps) (λ n x. (x.outcome ≡ Ended) × Holds w x t × (v.sweeps ≡ true → Swept w v u n)) → t.outcome ≡ Ended → Left w v leader u t least
+  lands : GoesTo w u 1 v.leave_steps (λ n x. Stands w leader x t × (reg x 15 ≡ reg u 15)) → Sourced w t → Left w v leader u t least
+  is_lost : GoesTo w u least v.leave_steps (λ n x. (x.outcome ≡ Going) × Twice w x t t) → Sourced w t → ((i : Ins) → w.source t.pc ≡ Known i → ⊥) → Left w v leader u t least
 
--- ---- the laws of the rows: T3.1 without Honest
+-- ---- the laws of the rows: where each sequence leads
 pub record Rows (w : World) (v : Weave) (leader : ℕ → Bool) : Type 0 where
   pub short : (is : List Ins) → v.fits is ≡ true → length is ≤ v.piece_steps
   -- an entry that reads as the words of a block is an address on the grain
   pub known : (a : ℕ) → EntryAt w v leader a → IsEntryOf w a
   pub enter :
       (u s : State) (rest : List Item) → Stands w leader u s → s.pc < 2 ^ 64 → Reads w.form.far w.code w.entry u.pc (v.enter s.pc ++ rest)
-      → Goes_to w u 0 v.enter_steps (λ n x. At w x rest s s × (reg x 15 ≡ reg u 15))
+      → GoesTo w u 0 v.enter_steps (λ n x. At w x rest s s × (reg x 15 ≡ reg u 15))
   pub inside :
       (is : List Ins) (n : ℕ) (u s : State) (rest : List Item) → n < length is → PieceAt w v s.pc is → At w u (v.piece is s.pc ++ rest) s s → Sourced w s
-      → NotTrapped (run s n) → Goes_to w u n v.piece_steps (λ k x. Inside w s n x)
+      → NotTrapped (run s n) → GoesTo w u n v.piece_steps (λ k x. Inside w s n x)
   pub piece :
       (is : List Ins) (u s : State) (rest : List Item) → PieceAt w v s.pc is → At w u (v.piece is s.pc ++ rest) s s → Sourced w s
-      → NotTrapped (run s (length is)) → Goes_to w u (length is) v.piece_steps (Behind w v u s (length is) rest)
+      → NotTrapped (run s (length is)) → GoesTo w u (length is) v.piece_steps (Behind w v u s (length is) rest)
   pub leave :
       ((a : ℕ) → leader a ≡ true → IsEntryOf w a) → (e : End) (u s : State) → At w u (v.leave e s.pc) s s → Sourced w s → EndStands w leader e s.pc → NotTrapped (run s (stops e))
       → Left w v leader u (run s (stops e)) (stops e)
@@ -136,9 +135,9 @@ pub record Rows (w : World) (v : Weave) (leader : ℕ → Bool) : Type 0 where
 pub record Starts (f g : Program) (w : World) (v : Weave) (leader : ℕ → Bool) : Type 0 where
   pub first :
       Describes f g w → IsEntryOf w f.entry → leader f.entry ≡ true → Reads w.form.far w.code w.entry g.entry (v.first w.distance f.entry)
-      → (regs : List ℕ) → AreStartRegs regs → Goes_to w (start g regs) 1 v.first_steps (λ n x. Stands w leader x (start f zeros))
+      → (regs : List ℕ) → AreStartRegs regs → GoesTo w (start g regs) 1 v.first_steps (λ n x. Stands w leader x (start f zeros))
 
--- ---- the laws of the entry: D17
+-- ---- the laws of the entry
 pub record Guarded (w : World) (v : Weave) (most : ℕ) : Type 0 where
   -- a quiet state at an entry has its signature
   pub signed :
@@ -148,7 +147,7 @@ pub record Guarded (w : World) (v : Weave) (most : ℕ) : Type 0 where
       (u : State) (a : ℕ) (rest : List Item) → a < 2 ^ 64 → Reads w.form.far w.code w.entry u.pc (v.enter a ++ rest) → Over w.code u
       → length u.regs ≡ 32 → (reg u 16 ≡ a → ⊥) → (run u most).outcome ≡ Fired
 
--- ---- the laws of the words: Lockstep, T4.1
+-- ---- the laws of the words: each is of a kind that is woven, and each branch and jump leads to no register that is closed
 pub record Words (far : Bool) (v : Weave) : Type 0 where
   pub first_locks : (d a : ℕ) → LockItems far (v.first d a)
   pub first_lands : (d a : ℕ) → LandItems far (v.first d a)

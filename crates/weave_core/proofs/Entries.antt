@@ -1,24 +1,22 @@
--- What the files alone say: the input's first state, and the entries of a plan.
-use Rattle.std.proofs.Common.{◌≡◌, ℕ, zero, suc, ◌+◌, ◌%◌, ◌^◌, ◌<◌, ◌≤◌, ⊎_elim, Bool, true, false, List, [], ◌∷◌, ◌++◌, length, replicate, refl, sym, ap, ◌∙◌, subst, arith, is_some, Option, Some, None}
+-- Where the items of a weave stand: the input's first state, and the entries of a plan.
+use Rattle.std.proofs.Common.{◌≡◌, ℕ, zero, suc, ◌+◌, ◌<◌, ⊎_elim, Bool, true, false, List, [], ◌∷◌, ◌++◌, replicate, refl, sym, ap, subst, arith, is_some, Option, Some, None}
 use Rattle.std.specs.Prelude.{slice_index, slice_set, ◌==◌}
 use Rattle.std.specs.FinMap.{get}
 use Rattle.std.proofs.lemmas.Bool.{eqb-true, false≢true, or_cases}
 use Rattle.std.proofs.lemmas.List.{append_assoc, length-set}
-use Rattle.qed_model.specs.declared.machine.Outcome.TheVariants.{Going}
 use Rattle.qed_model.specs.Machine.Memory.{Memory, Cell, flags_at, byte_at, byte_in}
-use Rattle.qed_model.specs.Machine.Step.{State, Fetched}
+use Rattle.qed_model.specs.Machine.Step.{Fetched}
 use Rattle.qed_model.specs.Machine.Program.{Program, start, zeros}
 use Rattle.qed_model.specs.declared.item.Item.{Item}
 use Rattle.qed_model.specs.declared.item.Item.TheVariants.{Mark, Plain, Constant, Go}
-use Rattle.qed_model.specs.Weave.Halves.{Flagged}
 use Rattle.qed_model.specs.Weave.Placed.{go_size}
 use Rattle.qed_model.specs.Weave.Blocks.{begins_at}
 use Rattle.qed_model.specs.Weave.Sequences.{Reads, Block, stub}
 use Rattle.weave_core.specs.World.{World}
-use Rattle.weave_core.specs.Rows.{Sized, Sourced}
+use Rattle.weave_core.specs.Rows.{Sourced}
 use Rattle.weave_core.specs.WovenIn.{Describes}
 use Rattle.weave_core.specs.Weave.{Weave, entry_of, entries_of}
-use Rattle.weave_core.specs.WeaveLaws.{BlockOf, EntryAt, EntriesAt}
+use Rattle.weave_core.specs.WeaveLaws.{EntryAt, EntriesAt}
 use Rattle.weave_core.specs.WeavePromise.{AllBlocksOf, PlanOf}
 
 -- ---- the input's first state
@@ -48,6 +46,7 @@ first_sourced f g w d = record {
   small q false e = none w.input q e
 
 -- ---- lists of items
+-- the front of a list stands there
 pub reads_front : (far : Bool) (c : ℕ → Fetched) (e : ℕ → ℕ) (a : ℕ) (xs ys : List Item) → Reads far c e a (xs ++ ys) → Reads far c e a xs
 reads_front far c e a [] ys r = tt
 reads_front far c e a (Mark m ∷ xs) ys r = (r.0, reads_front far c e a xs ys r.1)
@@ -55,6 +54,7 @@ reads_front far c e a (Plain i ∷ xs) ys r = (r.0, reads_front far c e (a + 4) 
 reads_front far c e a (Constant k v ∷ xs) ys r = (r.0, r.1, reads_front far c e (a + 8) xs ys r.2)
 reads_front far c e a (Go t ∷ xs) ys r = (r.0, reads_front far c e (a + go_size far) xs ys r.1)
 
+-- the rest stands somewhere
 pub reads_rest : (far : Bool) (c : ℕ → Fetched) (e : ℕ → ℕ) (a : ℕ) (xs ys : List Item) → Reads far c e a (xs ++ ys) → (p : ℕ) × Reads far c e p ys
 reads_rest far c e a [] ys r = (a, r)
 reads_rest far c e a (Mark m ∷ xs) ys r = reads_rest far c e a xs ys r.1
