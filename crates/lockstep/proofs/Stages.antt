@@ -17,12 +17,7 @@ use Rattle.weave_core.specs.Lock.{ComparesFrom}
 use Rattle.weave_core.specs.Kinds.{thirteen}
 use Rattle.weave_core.specs.Weave.{Weave, pieces_of, body_of}
 use Rattle.weave_core.specs.WeaveLaws.{PiecesAt, EntriesAt, Stands, Visits, stops, Left, has_ended, lands, is_lost, Rows, Swept}
-use Rattle.weave_core.proofs.Trace.{none_run, one_run}
-
--- the pieces behind one are full
-rest_full : (p : List Ins) (ps : List (List Ins)) (e : End) → Full (p ∷ ps) e → Full ps e
-rest_full p [] e f = tt
-rest_full p (q ∷ ps) e f = f.1
+use Rattle.weave_core.proofs.Trace.{none_run, one_run, full_rest}
 
 module _ (w : World) (v : Weave) (leader : ℕ → Bool) (rows : Rows w v leader) (entries : EntriesAt w v leader) where
   -- ---- boundaries: an entry, or behind a piece
@@ -109,7 +104,7 @@ module _ (w : World) (v : Weave) (leader : ℕ → Bool) (rows : Rows w v leader
         compares = r.is.compares;
         cursor = r.is.cursor;
         visits = r.is.visits;
-        next = behind ps e (subst (λ k. At w r.to (body_of v ps e k) t t) (sym there) r.is.at) x.sourced (subst (λ k. PiecesAt w v leader ps e k) (sym there) q.1) (rest_full p ps e f);
+        next = behind ps e (subst (λ k. At w r.to (body_of v ps e k) t t) (sym there) r.is.at) x.sourced (subst (λ k. PiecesAt w v leader ps e k) (sym there) q.1) (full_rest p ps e f);
       }
 
   -- from an entry

@@ -1,6 +1,6 @@
 -- Where the items of a weave stand: the input's first state, and the entries of a plan.
-use Rattle.std.proofs.Common.{◌≡◌, ℕ, zero, suc, ◌+◌, ◌<◌, ⊎_elim, Bool, true, false, List, [], ◌∷◌, ◌++◌, replicate, refl, sym, ap, subst, arith, is_some, Option, Some, None}
-use Rattle.std.specs.Prelude.{slice_index, slice_set, ◌==◌}
+use Rattle.std.proofs.Common.{◌≡◌, ℕ, ◌+◌, ◌<◌, ⊎_elim, Bool, true, false, List, [], ◌∷◌, ◌++◌, refl, sym, ap, subst, arith, is_some, Option, Some, None}
+use Rattle.std.specs.Prelude.{◌==◌}
 use Rattle.std.specs.FinMap.{get}
 use Rattle.std.proofs.lemmas.Bool.{eqb-true, false≢true, or_cases}
 use Rattle.std.proofs.lemmas.List.{append_assoc, length-set}
@@ -15,19 +15,13 @@ use Rattle.qed_model.specs.Weave.Sequences.{Reads, Block, stub}
 use Rattle.weave_core.specs.World.{World}
 use Rattle.weave_core.specs.Rows.{Sourced}
 use Rattle.weave_core.specs.WovenIn.{Describes}
-use Rattle.weave_core.specs.Weave.{Weave, entry_of, entries_of}
+use Rattle.weave_core.specs.Weave.{Weave, block_items, entries_of}
 use Rattle.weave_core.specs.WeaveLaws.{EntryAt, EntriesAt}
 use Rattle.weave_core.specs.WeavePromise.{AllBlocksOf, PlanOf}
+use Rattle.weave_core.proofs.Prologue.{start_zero}
 
 -- ---- the input's first state
-zeros_zero : (n r : ℕ) → slice_index (replicate n 0) r ≡ 0
-zeros_zero zero r = refl
-zeros_zero (suc n) zero = refl
-zeros_zero (suc n) (suc r) = zeros_zero n r
-
-start_zero : (r : ℕ) → slice_index (slice_set zeros 0 0) r ≡ 0
-start_zero r = zeros_zero 32 r
-
+-- where nothing is mapped the byte is 0
 none : (m : Memory) (q : ℕ) → is_some (get m q) ≡ false → byte_at m q < 256
 unfolding byte_at
 none m q e = by (get m q) e where
@@ -35,6 +29,7 @@ none m q e = by (get m q) e where
   by None e = omega arith
   by (Some c) e = absurd (false≢true (sym e))
 
+-- it is over its code
 pub first_sourced : (f g : Program) (w : World) → Describes f g w → Sourced w (start f zeros)
 first_sourced f g w d = record {
   over = record { going = refl; code = d.input_code };
@@ -64,25 +59,27 @@ reads_rest far c e a (Go t ∷ xs) ys r = reads_rest far c e (a + go_size far) x
 
 -- ---- the entries of a plan
 module _ (w : World) (v : Weave) (leader : ℕ → Bool) where
+  -- the entry of a leader among blocks that stand one after the other
   pub entry_at :
       (bs : List Block) (p a : ℕ) (rest : List Item) → Reads w.form.far w.code w.entry p (entries_of v bs ++ rest) → AllBlocksOf w v leader bs
       → begins_at bs a ≡ true → EntryAt w v leader a
   entry_at [] p a rest r good e = absurd (false≢true e)
   entry_at (b ∷ bs) p a rest r good e =
-      let split : Reads w.form.far w.code w.entry p (entry_of v b ++ (entries_of v bs ++ rest)) = subst (λ l. Reads w.form.far w.code w.entry p l) (append_assoc (entry_of v b) (entries_of v bs) rest) r in
-      let front : Reads w.form.far w.code w.entry p (entry_of v b) = reads_front w.form.far w.code w.entry p (entry_of v b) (entries_of v bs ++ rest) split in
+      let split : Reads w.form.far w.code w.entry p (block_items v b ++ (entries_of v bs ++ rest)) = subst (λ l. Reads w.form.far w.code w.entry p l) (append_assoc (block_items v b) (entries_of v bs) rest) r in
+      let front : Reads w.form.far w.code w.entry p (block_items v b) = reads_front w.form.far w.code w.entry p (block_items v b) (entries_of v bs ++ rest) split in
       let here : EntryAt w v leader b.start = record {
         body = b.body;
         end = b.end;
-        reads = subst (λ q. Reads w.form.far w.code w.entry q (entry_of v b)) (sym front.0) front;
+        reads = subst (λ q. Reads w.form.far w.code w.entry q (block_items v b)) (sym front.0) front;
         good = good.0;
       } in
-      let next = reads_rest w.form.far w.code w.entry p (entry_of v b) (entries_of v bs ++ rest) split in
+      let next = reads_rest w.form.far w.code w.entry p (block_items v b) (entries_of v bs ++ rest) split in
       ⊎_elim
       (λ x. subst (EntryAt w v leader) (eqb-true b.start a x) here)
       (λ x. entry_at bs next.0 a rest next.1 good.1 x)
       (or_cases (b.start == a) (begins_at bs a) e)
 
+-- each leader of a plan has its entry
 pub entries_at : (f g : Program) (w : World) (v : Weave) (blocks : List Block) → PlanOf f g w v blocks → EntriesAt w v (begins_at blocks)
 entries_at f g w v blocks p a h =
     let next = reads_rest w.form.far w.code w.entry g.entry (v.first w.distance f.entry) (entries_of v blocks ++ stub) p.words in

@@ -36,7 +36,7 @@ use Rattle.weave_core.proofs.Leaves.{entry_is, Lands, enter_row, go_row, go_most
 use Rattle.weave_core.proofs.Prologue.{prologue_row}
 use Rattle.weave_core.specs.Lock.{ComparesFrom}
 use Rattle.weave_core.specs.Kinds.{thirteen}
-use Rattle.weave_core.specs.Weave.{Weave, pieces_of, entry_of, entries_of}
+use Rattle.weave_core.specs.Weave.{Weave, pieces_of, block_items, entries_of}
 use Rattle.weave_core.specs.WeaveLaws.{PieceAt, PiecesAt, EntryAt, Holds, Stands, GoesTo, Inside, Behind, stops, Left, has_ended, lands, is_lost, Rows, Starts, Swept, Guarded}
 use Rattle.weave_core.specs.WeavePromise.{AllBlocksOf, PlanOf}
 use Rattle.weave_core.specs.WeaveForms.{weave_of}
@@ -60,7 +60,7 @@ pieces_same form most [] at = refl
 pieces_same form most (p ∷ ps) at = ap (λ l. piece form p at ++ l) (pieces_same form most ps (at + 4 * length p))
 
 -- an entry
-pub entry_same : (form : Form) (most : ℕ) (b : Block) → entry_of (weave_of form most) b ≡ entry_items form b
+pub entry_same : (form : Form) (most : ℕ) (b : Block) → block_items (weave_of form most) b ≡ entry_items form b
 entry_same form most b = ap (λ l. enter b.start ++ (l ++ leave form b.end (b.start + 4 * body_length b.body))) (pieces_same form most b.body b.start)
 
 -- and all

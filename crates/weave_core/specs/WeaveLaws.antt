@@ -19,7 +19,7 @@ use Rattle.weave_core.specs.WovenIn.{Describes}
 use Rattle.weave_core.specs.Lock.{first_load, ComparesFrom}
 use Rattle.weave_core.specs.KindItems.{LockItems, LandItems, GoodEnd}
 use Rattle.weave_core.specs.Kinds.{thirteen}
-use Rattle.weave_core.specs.Weave.{Weave, entry_of}
+use Rattle.weave_core.specs.Weave.{Weave, block_items}
 
 -- ---- what stands in the two programs
 -- the instructions of a piece stand in the input from `at` on
@@ -28,6 +28,7 @@ pub record PieceAt (w : World) (v : Weave) (at : ℕ) (is : List Ins) : Type 0 w
   pub fit : AllFit is
   pub one : v.fits is ≡ true
 
+-- pieces one after the other, and the end behind them
 abbrev pub PiecesAt : World → Weave → (ℕ → Bool) → List (List Ins) → End → ℕ → Type 0
 PiecesAt w v leader [] e at = EndStands w leader e at
 PiecesAt w v leader (p ∷ ps) e at = PieceAt w v at p × PiecesAt w v leader ps e (at + 4 * length p)
@@ -43,9 +44,10 @@ pub record BlockOf (w : World) (v : Weave) (leader : ℕ → Bool) (b : Block) :
 pub record EntryAt (w : World) (v : Weave) (leader : ℕ → Bool) (a : ℕ) : Type 0 where
   pub body : List (List Ins)
   pub end : End
-  pub reads : Reads w.form.far w.code w.entry (w.entry a) (entry_of v (record { start = a; body = body; end = end }))
+  pub reads : Reads w.form.far w.code w.entry (w.entry a) (block_items v (record { start = a; body = body; end = end }))
   pub good : BlockOf w v leader (record { start = a; body = body; end = end })
 
+-- of each leader
 abbrev pub EntriesAt : World → Weave → (ℕ → Bool) → Type 0
 EntriesAt w v leader = (a : ℕ) → leader a ≡ true → EntryAt w v leader a
 
