@@ -111,12 +111,17 @@ stops (Stops i) = 1
 
 -- behind a leave, where the input is in t: the test has ended; an entry; or no code, where the input goes no further
 pub data Left (w : World) (v : Weave) (leader : ℕ → Bool) (u t : State) (least : ℕ) : Type 0 where
-  has_ended : GoesTo w u 1 (v.leave_steps + v.end_steps) (λ n x. (x.outcome ≡ Ended) × Holds w x t × (v.sweeps ≡ true → Swept w v u n)) → t.outcome ≡ Ended → Left w v leader u t least
+  has_ended :
+      GoesTo w u 1 (v.leave_steps + v.end_steps) (λ n x. (x.outcome ≡ Ended) × Holds w x t × (v.sweeps ≡ true → Swept w v u n)) → t.outcome ≡ Ended
+      → Left w v leader u t least
   lands : GoesTo w u 1 v.leave_steps (λ n x. Stands w leader x t × (reg x 15 ≡ reg u 15)) → Sourced w t → Left w v leader u t least
-  is_lost : GoesTo w u least v.leave_steps (λ n x. (x.outcome ≡ Going) × Twice w x t t) → Sourced w t → ((i : Ins) → w.source t.pc ≡ Known i → ⊥) → Left w v leader u t least
+  is_lost :
+      GoesTo w u least v.leave_steps (λ n x. (x.outcome ≡ Going) × Twice w x t t) → Sourced w t
+      → ((i : Ins) → w.source t.pc ≡ Known i → ⊥) → Left w v leader u t least
 
 -- ---- the laws of the rows: where each sequence leads
 pub record Rows (w : World) (v : Weave) (leader : ℕ → Bool) : Type 0 where
+  -- a piece has no more instructions than steps
   pub short : (is : List Ins) → v.fits is ≡ true → length is ≤ v.piece_steps
   -- an entry that reads as the words of a block is an address on the grain
   pub known : (a : ℕ) → EntryAt w v leader a → IsEntryOf w a
@@ -124,14 +129,14 @@ pub record Rows (w : World) (v : Weave) (leader : ℕ → Bool) : Type 0 where
       (u s : State) (rest : List Item) → Stands w leader u s → s.pc < 2 ^ 64 → Reads w.form.far w.code w.entry u.pc (v.enter s.pc ++ rest)
       → GoesTo w u 0 v.enter_steps (λ n x. At w x rest s s × (reg x 15 ≡ reg u 15))
   pub inside :
-      (is : List Ins) (n : ℕ) (u s : State) (rest : List Item) → n < length is → PieceAt w v s.pc is → At w u (v.piece is s.pc ++ rest) s s → Sourced w s
-      → NotTrapped (run s n) → GoesTo w u n v.piece_steps (λ k x. Inside w s n x)
+      (is : List Ins) (n : ℕ) (u s : State) (rest : List Item) → n < length is → PieceAt w v s.pc is → At w u (v.piece is s.pc ++ rest) s s
+      → Sourced w s → NotTrapped (run s n) → GoesTo w u n v.piece_steps (λ k x. Inside w s n x)
   pub piece :
       (is : List Ins) (u s : State) (rest : List Item) → PieceAt w v s.pc is → At w u (v.piece is s.pc ++ rest) s s → Sourced w s
       → NotTrapped (run s (length is)) → GoesTo w u (length is) v.piece_steps (Behind w v u s (length is) rest)
   pub leave :
-      ((a : ℕ) → leader a ≡ true → IsEntryOf w a) → (e : End) (u s : State) → At w u (v.leave e s.pc) s s → Sourced w s → EndStands w leader e s.pc → NotTrapped (run s (stops e))
-      → Left w v leader u (run s (stops e)) (stops e)
+      ((a : ℕ) → leader a ≡ true → IsEntryOf w a) → (e : End) (u s : State) → At w u (v.leave e s.pc) s s → Sourced w s
+      → EndStands w leader e s.pc → NotTrapped (run s (stops e)) → Left w v leader u (run s (stops e)) (stops e)
 
 -- of what runs first
 pub record Starts (f g : Program) (w : World) (v : Weave) (leader : ℕ → Bool) : Type 0 where
@@ -143,7 +148,8 @@ pub record Starts (f g : Program) (w : World) (v : Weave) (leader : ℕ → Bool
 pub record Guarded (w : World) (v : Weave) (most : ℕ) : Type 0 where
   -- a quiet state at an entry has its signature
   pub signed :
-      (u : State) (a : ℕ) (rest : List Item) → a < 2 ^ 64 → Reads w.form.far w.code w.entry u.pc (v.enter a ++ rest) → Over w.code u → Quiet w u → reg u 16 ≡ a
+      (u : State) (a : ℕ) (rest : List Item) → a < 2 ^ 64 → Reads w.form.far w.code w.entry u.pc (v.enter a ++ rest) → Over w.code u → Quiet w u
+      → reg u 16 ≡ a
   -- with another signature it fires
   pub fires :
       (u : State) (a : ℕ) (rest : List Item) → a < 2 ^ 64 → Reads w.form.far w.code w.entry u.pc (v.enter a ++ rest) → Over w.code u
