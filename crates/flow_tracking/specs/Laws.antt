@@ -17,7 +17,7 @@ use Rattle.weave_core.specs.World.{World, Quiet as Calm, Twice}
 use Rattle.weave_core.specs.Blocks.{BlockAt, Goes}
 use Rattle.weave_core.specs.Rows.{At, Led, Sourced}
 use Rattle.weave_core.specs.KindItems.{LockItems, LandItems, IsEnd, end_branches, end_jumps, end_jumps_reg, end_ends, end_illegal}
-use Rattle.weave_core.proofs.Leaves.{Lands, enter_row, go_row, go_most, go_most_le, links_row, jump_step, step-illegal, end_walk}
+use Rattle.weave_core.proofs.Leaves.{entry_is, Lands, enter_row, go_row, go_most, go_most_le, links_row, jump_step, step-illegal, end_walk}
 use Rattle.weave_core.proofs.Branch.{branch_to, branch_step, second_part, turn_row, turn_go}
 use Rattle.weave_core.proofs.Indirect.{aim, leap_step, aim_row, leap_row}
 use Rattle.weave_core.proofs.KindItems.{enter_items, go_items, leave_items}
@@ -101,7 +101,7 @@ module _ (w : World) (rest : List Item) (v : Views) (leader : ℕ → Bool) (mos
       → GoesFrom c w leader next i s.pc s → Gone (ended_as c s)
   gone_as class.Compute next i c f a so g =
       ⊎_elim
-      (λ l. gone_lands s u 0 0 3 4 (walk_none (Calm w) u) refl (omega arith) (omega arith) (omega arith) (wide (go_row w leader most u s next [] (blocks next l) l g.1 a)))
+      (λ l. gone_lands s u 0 0 3 4 (walk_none (Calm w) u) refl (omega arith) (omega arith) (omega arith) (wide (go_row w leader most u s next [] (entry_is w leader most next (blocks next l)) l g.1 a)))
       (λ lacks. gone_lost s u 0 (walk_none (Calm w) u) refl (omega arith) (at_none u s s (go_on next) a) (λ k e. lacks k (ap w.source (sym g.1) ∙ e)))
       g.0 where
         wide : Lands w leader u 3 (2 + go_most w.form.far) s → Lands w leader u 3 4 s
@@ -119,7 +119,7 @@ module _ (w : World) (rest : List Item) (v : Views) (leader : ℕ → Bool) (mos
       let t = target i s.pc in
       let r = links_row w u s i (go_on t) a g.2.0 j in
       ⊎_elim
-      (λ l. gone_lands (step s) r.to r.steps 4 3 4 r.walk r.cursor r.within (omega arith) (omega arith) (wide r.to (go_row w leader most r.to (step s) t [] (blocks t l) l j.pc r.at)))
+      (λ l. gone_lands (step s) r.to r.steps 4 3 4 r.walk r.cursor r.within (omega arith) (omega arith) (wide r.to (go_row w leader most r.to (step s) t [] (entry_is w leader most t (blocks t l)) l j.pc r.at)))
       (λ lacks. gone_lost (step s) r.to r.steps r.walk r.cursor (omega (arith, r.within)) (at_none r.to (step s) (step s) (go_on t) r.at) (λ k e. lacks k (ap w.source (sym j.pc) ∙ e)))
       g.2.1 where
         wide : (x : State) → Lands w leader x 3 (2 + go_most w.form.far) (step s) → Lands w leader x 3 4 (step s)
@@ -129,7 +129,7 @@ module _ (w : World) (rest : List Item) (v : Views) (leader : ℕ → Bool) (mos
       let b = holds i.kind (reg s i.rs1) (reg s i.rs2) in
       let r = turn_row w b u s i a c f.0 f.1 br in
       ⊎_elim
-      (λ l. gone_lands (step s) r.to r.steps 4 1 5 r.walk r.cursor r.within (omega arith) (omega arith) (turn_go w b leader most r.to s i (blocks (branch_to w b i s) l) l r.at r.sign c f.0 f.1 br))
+      (λ l. gone_lands (step s) r.to r.steps 4 1 5 r.walk r.cursor r.within (omega arith) (omega arith) (turn_go w b leader most r.to s i (entry_is w leader most (branch_to w b i s) (blocks (branch_to w b i s) l)) l r.at r.sign c f.0 f.1 br))
       (λ lacks. gone_lost (step s) r.to r.steps r.walk r.cursor (omega (arith, r.within)) (at_none r.to (step s) (step s) (second_part w i s.pc) r.at) (λ k e. lacks k (ap w.source (sym br.pc) ∙ e)))
       (goes b g.2.2 g.2.3) where
         goes : (b : Bool) → Goes w leader (target i s.pc) → Goes w leader ((s.pc + 4) % 2 ^ 64) → Goes w leader (branch_to w b i s)
@@ -140,7 +140,7 @@ module _ (w : World) (rest : List Item) (v : Views) (leader : ℕ → Bool) (mos
       let r = aim_row w u s i a f.0 f.1 lp in
       let to = moved r.regs r.sets.pc u in
       ⊎_elim
-      (λ l. gone_lands (step s) to r.steps 9 5 5 r.sets.walk r.cursor r.within (omega arith) (omega arith) (leap_row w to (step s) (aim s i) (g.2.3 (aim s i) l) (over_moved w.code u r.regs r.sets.pc a.over) r.halved r.target leader most (blocks (aim s i) l) l lp.pc r.sign r.sets.reads))
+      (λ l. gone_lands (step s) to r.steps 9 5 5 r.sets.walk r.cursor r.within (omega arith) (omega arith) (leap_row w to (step s) (aim s i) (g.2.3 (aim s i) l) (over_moved w.code u r.regs r.sets.pc a.over) r.halved r.target leader most (entry_is w leader most (aim s i) (blocks (aim s i) l)) l lp.pc r.sign r.sets.reads))
       (λ lacks. gone_lost (step s) to r.steps r.sets.walk r.cursor (omega (arith, r.within)) (record { over = over_moved w.code u r.regs r.sets.pc a.over; reads = tt; halved = r.halved }) (λ k e. lacks k (ap w.source (sym lp.pc) ∙ e)))
       (g.2.2 (aim s i) lp.grain)
   gone_as k next i c f a so g = absurd f

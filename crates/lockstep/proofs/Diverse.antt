@@ -1,8 +1,7 @@
 -- Changes of tests whose mirror parts are of other kinds are caught.
 use Rattle.weave_core.proofs.Diverse.{diverse_mirrors}
 use Rattle.lockstep.specs.DiverseLaws.{DiverseCaught, DiverseClean}
-use Rattle.lockstep.proofs.Promise.{plan_caught}
-use Rattle.lockstep.proofs.Cleaned.{plan_clean}
+use Rattle.lockstep.proofs.FormWords.{plan_caught, plan_clean}
 
 -- changes are caught
 pub diverse_caught : DiverseCaught

@@ -1,5 +1,5 @@
-use Rattle.weave_core.proofs.Landings as landings
+use Rattle.weave_core.proofs.FormRows as law
 use Rattle.weave_core.proofs.plan_landed.Goals as goal
 
 pub returns : goal.returns
-returns c = landings.plan_landed
+returns c = law.plan_landed

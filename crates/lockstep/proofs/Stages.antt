@@ -1,0 +1,168 @@
+-- The stages of any weave: from a boundary of pieces to the next, with one comparison of all registers and the visits.
+use Rattle.std.proofs.Common.{◌≡◌, ℕ, ◌+◌, ◌*◌, ◌<◌, ◌≤◌, ◌⊎◌, inl, inr, Bool, true, List, [], ◌∷◌, ◌++◌, length, sym, ap, ◌∙◌, subst, arith}
+use Rattle.std.proofs.lemmas.List.{append_assoc}
+use Rattle.rv_isa.specs.declared.ins.Ins.{Ins}
+use Rattle.qed_model.specs.declared.machine.Outcome.TheVariants.{Going, Ended}
+use Rattle.qed_model.specs.Machine.Step.{State, reg, run}
+use Rattle.qed_model.specs.Promise.Kept.{NotTrapped}
+use Rattle.qed_model.specs.Weave.Sequences.{Reads, End, Falls, Stops, body_length}
+use Rattle.qed_model.proofs.Walk.{run-more}
+use Rattle.qed_model.proofs.Walked.{Walk, walk_on}
+use Rattle.weave_core.specs.World.{World, Quiet, IsCursor, words_on}
+use Rattle.weave_core.specs.Blocks.{Full}
+use Rattle.weave_core.specs.Rows.{At, Sourced}
+use Rattle.weave_core.proofs.Source.{source_run, not_trapped_le}
+use Rattle.weave_core.proofs.Leaves.{no_code}
+use Rattle.weave_core.specs.Lock.{ComparesFrom}
+use Rattle.weave_core.specs.Kinds.{thirteen}
+use Rattle.weave_core.specs.Weave.{Weave, pieces_of, body_of}
+use Rattle.weave_core.specs.WeaveLaws.{PiecesAt, EntriesAt, Stands, Visits, stops, Left, has_ended, lands, is_lost, Rows, Swept}
+use Rattle.weave_core.proofs.Trace.{none_run, one_run, full_rest}
+
+module _ (w : World) (v : Weave) (leader : ℕ → Bool) (rows : Rows w v leader) (entries : EntriesAt w v leader) where
+  -- ---- boundaries: an entry, or behind a piece
+  pub data Bounded (x s : State) : Type 0 where
+    entering : Stands w leader x s → Sourced w s → Bounded x s
+    behind : (more : List (List Ins)) (end : End) → At w x (body_of v more end s.pc) s s → Sourced w s → PiecesAt w v leader more end s.pc → Full more end → Bounded x s
+
+  pub bounded_going : (x s : State) → Bounded x s → x.outcome ≡ Going
+  bounded_going x s (entering st so) = st.over.going
+  bounded_going x s (behind more end a so p f) = a.over.going
+
+  pub bounded_cursor : (x s : State) → Bounded x s → IsCursor w.form.spans (reg x 15)
+  bounded_cursor x s (entering st so) = st.halved.cursor
+  bounded_cursor x s (behind more end a so p f) = a.halved.cursor
+
+  -- how many data ranges there are
+  abbrev pub spans_count : ℕ
+  spans_count = length w.form.spans
+
+  -- from a boundary to the next, with so many steps at most before the piece
+  pub record Staged (x s : State) (before : ℕ) : Type 0 where
+    pub moves : ℕ
+    pub length : ℕ
+    pub to : State
+    pub compare : ℕ
+    pub short : length ≤ before + v.piece_steps
+    pub soon : compare ≤ before + v.compare_steps
+    pub inside : compare + 13 ≤ length
+    pub slow : moves ≤ length
+    pub walk : Walk (Quiet w) x length to
+    pub compares : ComparesFrom w.code (run x compare).pc thirteen
+    pub cursor : reg to 15 ≡ words_on w.form.spans v.round (reg x 15)
+    pub visits : (j : ℕ) → j < v.round → 1 ≤ spans_count → Visits w x length (words_on w.form.spans j (reg x 15))
+    pub next : Bounded to (run s moves)
+
+  -- behind a walk
+  staged_on :
+      (u x s : State) (k m b before : ℕ) → Walk (Quiet w) u m x → reg x 15 ≡ reg u 15 → m ≤ b → k ≤ m → Staged x (run s k) before
+      → Staged u s (b + before)
+  staged_on u x s k m b before a c le slow g =
+      let there : (n : ℕ) → run u (m + n) ≡ run x n = λ n. run-more u m n ∙ ap (λ y. run y n) a.ends in
+      record {
+        moves = k + g.moves;
+        length = m + g.length;
+        to = g.to;
+        compare = m + g.compare;
+        short = omega (arith, g.short, le);
+        soon = omega (arith, g.soon, le);
+        inside = omega (arith, g.inside);
+        slow = omega (arith, g.slow, slow);
+        walk = walk_on (Quiet w) u x g.to m g.length a g.walk;
+        compares = subst (λ y. ComparesFrom w.code y.pc thirteen) (sym (there g.compare)) g.compares;
+        cursor = g.cursor ∙ ap (λ y. words_on w.form.spans v.round y) c;
+        visits = λ j h one.
+            let y = g.visits j h one in
+            record { at = m + y.at; before = omega (arith, y.before); first = ap (λ s. w.code s.pc) (there y.at) ∙ y.first; cursor = ap (λ s. reg s 15) (there y.at) ∙ y.cursor ∙ ap (λ y. words_on w.form.spans j y) c };
+        next = subst (Bounded g.to) (sym (run-more s k g.moves)) g.next;
+      }
+
+  -- through a piece
+  piece_stage :
+      (p : List Ins) (ps : List (List Ins)) (e : End) (u s : State) → At w u (body_of v (p ∷ ps) e s.pc) s s → Sourced w s
+      → PiecesAt w v leader (p ∷ ps) e s.pc → Full (p ∷ ps) e → NotTrapped (run s (length p)) → Staged u s 0
+  piece_stage p ps e u s a so q f calm =
+      let k = length p in
+      let t = run s (length p) in
+      let x = source_run w p k s (omega arith) q.0.fit so q.0.has calm in
+      let there : t.pc ≡ s.pc + 4 * length p = x.pc in
+      let far : s.pc + 4 * body_length (p ∷ ps) ≡ s.pc + 4 * length p + 4 * body_length ps = omega arith in
+      let rest = body_of v ps e (s.pc + 4 * length p) in
+      let a1 : At w u (v.piece p s.pc ++ (pieces_of v ps (s.pc + 4 * length p) ++ v.leave e (s.pc + 4 * body_length (p ∷ ps)))) s s = subst (λ l. At w u l s s) (append_assoc (v.piece p s.pc) (pieces_of v ps (s.pc + 4 * length p)) (v.leave e (s.pc + 4 * body_length (p ∷ ps)))) a in
+      let a2 : At w u (v.piece p s.pc ++ rest) s s = subst (λ k. At w u (v.piece p s.pc ++ (pieces_of v ps (s.pc + 4 * length p) ++ v.leave e k)) s s) far a1 in
+      let r = rows.piece p u s rest q.0 a2 so calm in
+      record {
+        moves = length p;
+        length = r.steps;
+        to = r.to;
+        compare = r.is.compare;
+        short = omega (arith, r.within);
+        soon = omega (arith, r.is.soon);
+        inside = r.is.inside;
+        slow = r.at_least;
+        walk = r.walk;
+        compares = r.is.compares;
+        cursor = r.is.cursor;
+        visits = r.is.visits;
+        next = behind ps e (subst (λ k. At w r.to (body_of v ps e k) t t) (sym there) r.is.at) x.sourced (subst (λ k. PiecesAt w v leader ps e k) (sym there) q.1) (full_rest p ps e f);
+      }
+
+  -- from an entry
+  entry_stage : (u s : State) → Stands w leader u s → Sourced w s → NotTrapped (run s v.piece_steps) → Staged u s (v.enter_steps + 0)
+  entry_stage u s st so calm =
+      let b = entries s.pc st.leads in
+      let reads : Reads w.form.far w.code w.entry u.pc (v.enter s.pc ++ body_of v b.body b.end s.pc) = subst (λ a. Reads w.form.far w.code w.entry a (v.enter s.pc ++ body_of v b.body b.end s.pc)) (sym st.pc) b.reads.1 in
+      let r = rows.enter u s (body_of v b.body b.end s.pc) st b.good.low reads in
+      let p = b.good.some.0 in
+      let ps = b.good.some.1 in
+      let at : At w r.to (body_of v (p ∷ ps) b.end s.pc) s s = subst (λ l. At w r.to (body_of v l b.end s.pc) s s) b.good.some.2 r.is.0 in
+      let full : Full (p ∷ ps) b.end = subst (λ l. Full l b.end) b.good.some.2 b.good.full in
+      let have : PiecesAt w v leader (p ∷ ps) b.end s.pc = subst (λ l. PiecesAt w v leader l b.end s.pc) b.good.some.2 b.good.pieces in
+      let g = piece_stage p ps b.end r.to s at so have full (not_trapped_le s (length p) v.piece_steps (rows.short p have.0.one) calm) in
+      staged_on u r.to s 0 r.steps v.enter_steps 0 r.walk r.is.1 r.within (omega arith) (subst (λ t. Staged r.to t 0) (sym (none_run s)) g)
+
+  -- the test has ended
+  pub record Finishes (u : State) : Type 0 where
+    pub steps : ℕ
+    pub to : State
+    pub within : steps ≤ v.leave_steps + v.end_steps
+    pub walk : Walk (Quiet w) u steps to
+    pub ended : to.outcome ≡ Ended
+    pub closes : v.sweeps ≡ true → Swept w v u steps
+
+  -- the bound may be wider
+  staged_more : (x s : State) (b b' : ℕ) → b ≤ b' → Staged x s b → Staged x s b'
+  staged_more x s b b' h g = record { moves = g.moves; length = g.length; to = g.to; compare = g.compare; short = omega (arith, g.short, h); soon = omega (arith, g.soon, h); inside = g.inside; slow = g.slow; walk = g.walk; compares = g.compares; cursor = g.cursor; visits = g.visits; next = g.next }
+
+  -- from behind a piece
+  behind_stage :
+      (ps : List (List Ins)) (e : End) (x s : State) → At w x (body_of v ps e s.pc) s s → Sourced w s → PiecesAt w v leader ps e s.pc → Full ps e
+      → NotTrapped (run s (2 + v.piece_steps)) → Staged x s (v.leave_steps + v.enter_steps) ⊎ Finishes x
+  behind_stage (p ∷ ps) e x s at so q f calm =
+      let h = rows.short p q.0.one in
+      inl (staged_more x s 0 (v.leave_steps + v.enter_steps) (omega arith) (piece_stage p ps e x s at so q f (not_trapped_le s (length p) (2 + v.piece_steps) (omega (arith, h)) calm)))
+  behind_stage [] e x s at so q f calm =
+      let z : s.pc + 4 * 0 ≡ s.pc = omega arith in
+      let at0 : At w x (v.leave e s.pc) s s = subst (λ k. At w x (v.leave e k) s s) z at in
+      let o = one e in
+      from_left (rows.leave (λ a l. rows.known a (entries a l)) e x s at0 so q (not_trapped_le s (stops e) (2 + v.piece_steps) (omega (arith, o)) calm)) where
+        one : (e : End) → stops e ≤ 1
+        one Falls = omega arith
+        one (Stops i) = omega arith
+
+        from_left : Left w v leader x (run s (stops e)) (stops e) → Staged x s (v.leave_steps + v.enter_steps) ⊎ Finishes x
+        from_left (has_ended y o) = inr (record { steps = y.steps; to = y.to; within = y.within; walk = y.walk; ended = y.is.0; closes = y.is.2 })
+        from_left (is_lost y so' lacks) =
+            let o = one e in
+            let c : NotTrapped (run (run s (stops e)) 1) = subst NotTrapped (run-more s (stops e) 1) (not_trapped_le s (stops e + 1) (2 + v.piece_steps) (omega (arith, o)) calm) in
+            absurd (no_code w (run s (stops e)) so' lacks (subst NotTrapped (one_run (run s (stops e))) c))
+        from_left (lands y so') =
+            let o = one e in
+            let c : NotTrapped (run (run s (stops e)) v.piece_steps) = subst NotTrapped (run-more s (stops e) v.piece_steps) (not_trapped_le s (stops e + v.piece_steps) (2 + v.piece_steps) (omega (arith, o)) calm) in
+            let g = staged_more y.to (run s (stops e)) (v.enter_steps + 0) v.enter_steps (omega arith) (entry_stage y.to (run s (stops e)) y.is.0 so' c) in
+            inl (staged_on x y.to s (stops e) y.steps v.leave_steps v.enter_steps y.walk y.is.1 y.within (omega (arith, o, y.at_least)) g)
+
+  -- from any boundary
+  pub stage : (x s : State) → Bounded x s → NotTrapped (run s (2 + v.piece_steps)) → Staged x s (v.leave_steps + v.enter_steps) ⊎ Finishes x
+  stage x s (entering st so) calm = inl (staged_more x s (v.enter_steps + 0) (v.leave_steps + v.enter_steps) (omega arith) (entry_stage x s st so (not_trapped_le s v.piece_steps (2 + v.piece_steps) (omega arith) calm)))
+  stage x s (behind more end a so p f) calm = behind_stage more end x s a so p f calm

@@ -1,0 +1,167 @@
+-- The laws of a weave: all that the inductions over the run of the output use of its sequences.
+use Rattle.std.specs.Prelude.{◌≡◌, ℕ, ◌+◌, ◌*◌, ◌^◌, ◌<◌, ◌≤◌, Bool, true, List, [], ◌∷◌, ◌++◌, length, is_some}
+use Rattle.std.specs.FinMap.{get}
+use Rattle.rv_isa.specs.declared.ins.Ins.{Ins}
+use Rattle.qed_model.specs.declared.item.Item.{Item}
+use Rattle.qed_model.specs.declared.machine.Outcome.TheVariants.{Going, Ended, Fired}
+use Rattle.qed_model.specs.Machine.Memory.{byte_at}
+use Rattle.qed_model.specs.Machine.Step.{State, reg, Known, HasAt, run}
+use Rattle.qed_model.specs.Machine.Walks.{Over, Walk}
+use Rattle.qed_model.specs.Machine.Program.{Program, start, zeros, AreStartRegs}
+use Rattle.qed_model.specs.Promise.Kept.{NotTrapped}
+use Rattle.qed_model.specs.Promise.Changed.{IsDataWord}
+use Rattle.qed_model.specs.Weave.Halves.{Flagged}
+use Rattle.qed_model.specs.Weave.Sequences.{Reads, End, Falls, Stops, Block}
+use Rattle.weave_core.specs.World.{World, Quiet, Twice, words_on}
+use Rattle.weave_core.specs.Blocks.{AllFit, Full, EndStands, IsEntryOf}
+use Rattle.weave_core.specs.Rows.{At, Sourced}
+use Rattle.weave_core.specs.WovenIn.{Describes}
+use Rattle.weave_core.specs.Lock.{first_load, ComparesFrom}
+use Rattle.weave_core.specs.KindItems.{LockItems, LandItems, GoodEnd}
+use Rattle.weave_core.specs.Kinds.{thirteen}
+use Rattle.weave_core.specs.Weave.{Weave, block_items}
+
+-- ---- what stands in the two programs
+-- the instructions of a piece stand in the input from `at` on
+pub record PieceAt (w : World) (v : Weave) (at : ℕ) (is : List Ins) : Type 0 where
+  pub has : HasAt w.source at is
+  pub fit : AllFit is
+  pub one : v.fits is ≡ true
+
+-- pieces one after the other, and the end behind them
+abbrev pub PiecesAt : World → Weave → (ℕ → Bool) → List (List Ins) → End → ℕ → Type 0
+PiecesAt w v leader [] e at = EndStands w leader e at
+PiecesAt w v leader (p ∷ ps) e at = PieceAt w v at p × PiecesAt w v leader ps e (at + 4 * length p)
+
+-- a block of the input: its pieces, of which there is one at least, and its end
+pub record BlockOf (w : World) (v : Weave) (leader : ℕ → Bool) (b : Block) : Type 0 where
+  pub low : b.start < 2 ^ 64
+  pub pieces : PiecesAt w v leader b.body b.end b.start
+  pub some : (p : List Ins) × (ps : List (List Ins)) × (b.body ≡ p ∷ ps)
+  pub full : Full b.body b.end
+
+-- the entry of a leader stands in the output
+pub record EntryAt (w : World) (v : Weave) (leader : ℕ → Bool) (a : ℕ) : Type 0 where
+  pub body : List (List Ins)
+  pub end : End
+  pub reads : Reads w.form.far w.code w.entry (w.entry a) (block_items v (record { start = a; body = body; end = end }))
+  pub good : BlockOf w v leader (record { start = a; body = body; end = end })
+
+-- of each leader
+abbrev pub EntriesAt : World → Weave → (ℕ → Bool) → Type 0
+EntriesAt w v leader = (a : ℕ) → leader a ≡ true → EntryAt w v leader a
+
+-- ---- states on the way
+-- the output has the input's values in the original half
+pub record Holds (w : World) (u s : State) : Type 0 where
+  pub output : Flagged w.output u
+  pub originals : (r : ℕ) → r ≤ 13 → reg u r ≡ reg s r
+  pub bytes : (q : ℕ) → is_some (get w.input q) ≡ true → byte_at u.memory q ≡ byte_at s.memory q
+
+-- at the entry of the input's pc, with its signature
+pub record Stands (w : World) (leader : ℕ → Bool) (u s : State) : Type 0 where
+  pub over : Over w.code u
+  pub halved : Twice w u s s
+  pub pc : u.pc ≡ w.entry s.pc
+  pub sign : reg u 16 ≡ s.pc
+  pub leads : leader s.pc ≡ true
+
+-- ---- where the sequences lead
+-- a quiet walk of so many steps to a state with a property
+pub record GoesTo (w : World) (u : State) (least most : ℕ) (Is : ℕ → State → Type 0) : Type 0 where
+  pub steps : ℕ
+  pub to : State
+  pub at_least : least ≤ steps
+  pub within : steps ≤ most
+  pub walk : Walk (Quiet w) u steps to
+  pub is : Is steps to
+
+-- inside a piece: the original half is n steps on
+pub record Inside (w : World) (s : State) (n : ℕ) (to : State) : Type 0 where
+  pub going : to.outcome ≡ Going
+  pub holds : Holds w to (run s n)
+
+-- a visit of the word x begins within so many steps
+pub record Visits (w : World) (u : State) (steps x : ℕ) : Type 0 where
+  pub at : ℕ
+  pub before : at < steps
+  pub first : w.code (run u at).pc ≡ Known first_load
+  pub cursor : reg (run u at) 15 ≡ x
+
+-- behind a piece: both halves are n steps on; on the way all registers were compared, and `round` words visited
+pub record Behind (w : World) (v : Weave) (u s : State) (n : ℕ) (rest : List Item) (steps : ℕ) (to : State) : Type 0 where
+  pub at : At w to rest (run s n) (run s n)
+  pub compare : ℕ
+  pub soon : compare ≤ v.compare_steps
+  pub inside : compare + 13 ≤ steps
+  pub compares : ComparesFrom w.code (run u compare).pc thirteen
+  pub cursor : reg to 15 ≡ words_on w.form.spans v.round (reg u 15)
+  pub visits : (j : ℕ) → j < v.round → 1 ≤ length w.form.spans → Visits w u steps (words_on w.form.spans j (reg u 15))
+
+-- the test ends n steps from u on: each data word is visited, then all registers are compared, and then it ends
+pub record Swept (w : World) (v : Weave) (u : State) (n : ℕ) : Type 0 where
+  pub exact : n ≡ v.sweep_steps + 14
+  pub visits : (x : ℕ) → IsDataWord w.form.spans x → Visits w u v.sweep_steps x
+  pub compares : ComparesFrom w.code (run u v.sweep_steps).pc thirteen
+
+-- 1 where the end is an instruction
+abbrev pub stops : End → ℕ
+stops Falls = 0
+stops (Stops i) = 1
+
+-- behind a leave, where the input is in t: the test has ended; an entry; or no code, where the input goes no further
+pub data Left (w : World) (v : Weave) (leader : ℕ → Bool) (u t : State) (least : ℕ) : Type 0 where
+  has_ended :
+      GoesTo w u 1 (v.leave_steps + v.end_steps) (λ n x. (x.outcome ≡ Ended) × Holds w x t × (v.sweeps ≡ true → Swept w v u n)) → t.outcome ≡ Ended
+      → Left w v leader u t least
+  lands : GoesTo w u 1 v.leave_steps (λ n x. Stands w leader x t × (reg x 15 ≡ reg u 15)) → Sourced w t → Left w v leader u t least
+  is_lost :
+      GoesTo w u least v.leave_steps (λ n x. (x.outcome ≡ Going) × Twice w x t t) → Sourced w t
+      → ((i : Ins) → w.source t.pc ≡ Known i → ⊥) → Left w v leader u t least
+
+-- ---- the laws of the rows: where each sequence leads
+pub record Rows (w : World) (v : Weave) (leader : ℕ → Bool) : Type 0 where
+  -- a piece has no more instructions than steps
+  pub short : (is : List Ins) → v.fits is ≡ true → length is ≤ v.piece_steps
+  -- an entry that reads as the words of a block is an address on the grain
+  pub known : (a : ℕ) → EntryAt w v leader a → IsEntryOf w a
+  pub enter :
+      (u s : State) (rest : List Item) → Stands w leader u s → s.pc < 2 ^ 64 → Reads w.form.far w.code w.entry u.pc (v.enter s.pc ++ rest)
+      → GoesTo w u 0 v.enter_steps (λ n x. At w x rest s s × (reg x 15 ≡ reg u 15))
+  pub inside :
+      (is : List Ins) (n : ℕ) (u s : State) (rest : List Item) → n < length is → PieceAt w v s.pc is → At w u (v.piece is s.pc ++ rest) s s
+      → Sourced w s → NotTrapped (run s n) → GoesTo w u n v.piece_steps (λ k x. Inside w s n x)
+  pub piece :
+      (is : List Ins) (u s : State) (rest : List Item) → PieceAt w v s.pc is → At w u (v.piece is s.pc ++ rest) s s → Sourced w s
+      → NotTrapped (run s (length is)) → GoesTo w u (length is) v.piece_steps (Behind w v u s (length is) rest)
+  pub leave :
+      ((a : ℕ) → leader a ≡ true → IsEntryOf w a) → (e : End) (u s : State) → At w u (v.leave e s.pc) s s → Sourced w s
+      → EndStands w leader e s.pc → NotTrapped (run s (stops e)) → Left w v leader u (run s (stops e)) (stops e)
+
+-- of what runs first
+pub record Starts (f g : Program) (w : World) (v : Weave) (leader : ℕ → Bool) : Type 0 where
+  pub first :
+      Describes f g w → IsEntryOf w f.entry → leader f.entry ≡ true → Reads w.form.far w.code w.entry g.entry (v.first w.distance f.entry)
+      → (regs : List ℕ) → AreStartRegs regs → GoesTo w (start g regs) 1 v.first_steps (λ n x. Stands w leader x (start f zeros))
+
+-- ---- the laws of the entry
+pub record Guarded (w : World) (v : Weave) (most : ℕ) : Type 0 where
+  -- a quiet state at an entry has its signature
+  pub signed :
+      (u : State) (a : ℕ) (rest : List Item) → a < 2 ^ 64 → Reads w.form.far w.code w.entry u.pc (v.enter a ++ rest) → Over w.code u → Quiet w u
+      → reg u 16 ≡ a
+  -- with another signature it fires
+  pub fires :
+      (u : State) (a : ℕ) (rest : List Item) → a < 2 ^ 64 → Reads w.form.far w.code w.entry u.pc (v.enter a ++ rest) → Over w.code u
+      → length u.regs ≡ 32 → (reg u 16 ≡ a → ⊥) → (run u most).outcome ≡ Fired
+
+-- ---- the laws of the words: each is of a kind that is woven, and each branch and jump leads to no register that is closed
+pub record Words (far : Bool) (v : Weave) : Type 0 where
+  pub first_locks : (d a : ℕ) → LockItems far (v.first d a)
+  pub first_lands : (d a : ℕ) → LandItems far (v.first d a)
+  pub enter_locks : (a : ℕ) → LockItems far (v.enter a)
+  pub enter_lands : (a : ℕ) → LandItems far (v.enter a)
+  pub piece_locks : (is : List Ins) (at : ℕ) → AllFit is → LockItems far (v.piece is at)
+  pub piece_lands : (is : List Ins) (at : ℕ) → AllFit is → LandItems far (v.piece is at)
+  pub leave_locks : (e : End) (at : ℕ) → GoodEnd e → LockItems far (v.leave e at)
+  pub leave_lands : (e : End) (at : ℕ) → GoodEnd e → LandItems far (v.leave e at)
