@@ -11,6 +11,7 @@ import isa
 from elf import HEADER, PROGRAM_HEADER, RELA, SECTION_HEADER, SYMBOL, read_elf
 from machine import GOING, start
 from texts import Stopped
+from words import COMMANDS, number_of
 
 NOP = 0x13
 ECALL = 0x73
@@ -180,12 +181,29 @@ def draw_access(rng: random.Random, bad: float, room: int) -> int:
     return encoded(rng.choice(STORES), 0, base, draw_register(rng, bad), offset)
 
 
+def draw_values(rng: random.Random, most: int) -> List[int]:
+    """Words that give registers values of many kinds."""
+    words = []
+    while len(words) < most:
+        register = rng.choice([1, 5, 6, 7, 10, 11, 12, 13])
+        words += rng.choice([
+            [encoded("addi", register, 0, 0, rng.choice(EDGES))],
+            [encoded("lui", register, imm=isa.signed(rng.choice([0x80000000, 0x7FFFF000, rng.getrandbits(20) << 12]), 32)),
+             encoded("addi", register, register, 0, rng.randrange(-2048, 2048))],
+            [encoded("addi", register, 0, 0, rng.choice([1, -1, 3])), encoded("slli", register, register, 0, 63)],
+            [encoded("lui", register, imm=isa.signed(rng.getrandbits(20) << 12, 32)),
+             encoded("slli", register, register, 0, rng.randrange(64))]])
+    return words
+
+
 def draw_code(rng: random.Random, size: int, base: int, data: int, room: int, oddities: float) -> List[int]:
     """The words of a test, which mostly ends."""
     bad = oddities / 50
     words = [encoded("lui", BASE, imm=isa.signed(data & 0xFFFFF000, 32))] if data else []
     if data & 0xFFF:
         words.append(encoded("addi", BASE, BASE, 0, min(data & 0xFFF, 2047)))
+    if size > 5 and chance(rng, 80):
+        words += draw_values(rng, size // 3)
     while len(words) < size:
         at = 4 * len(words)
         left = size - len(words)
@@ -374,9 +392,27 @@ def draw_faults(rng: random.Random, places: List[str], steps: int) -> List[str]:
     return words
 
 
+def draw_edge_draft(rng: random.Random) -> Draft:
+    """A file whose accesses are at both ends of memory, or in its own code."""
+    at_ends = chance(rng, 60)
+    start = encoded("addi", BASE, 0, 0, rng.choice([-8, -4, -1, 0, 4])) if at_ends else encoded("auipc", BASE)
+    words = [start]
+    for _ in range(rng.choice([1, 3, 8, 20])):
+        imm = rng.randrange(-8, 9) if at_ends else rng.randrange(0, 64)
+        access = (encoded(rng.choice(LOADS), draw_register(rng), BASE, 0, imm) if chance(rng, 50)
+                  else encoded(rng.choice(STORES), 0, BASE, draw_register(rng), imm))
+        words += [access, draw_computing(rng, 0)]
+    segments = [DraftSegment(rng.choice([5, 7, 7]), 0x10000, tuple(words) + (ECALL,))]
+    if at_ends:
+        segments += [DraftSegment(rng.choice([6, 6, 4, 2]), 0, (), rng.randbytes(8), 8),
+                     DraftSegment(rng.choice([6, 6, 4, 2]), (1 << 64) - 8, (), rng.randbytes(rng.choice([8, 4])))]
+        segments = segments[:rng.choice([2, 3, 3])]
+    return Draft(0x10000, 0, tuple(segments))
+
+
 def draw_run(rng: random.Random) -> Case:
     """Runs of a file, of an output, with changes and dumps."""
-    draft = draw_draft(rng, rng.choice([0, 5, 40]))
+    draft = draw_edge_draft(rng) if chance(rng, 15) else draw_draft(rng, rng.choice([0, 5, 40]))
     registers = [f"x{number}" for number in range(1, 32)]
     words = [str(segment.vaddr // 8 * 8) for segment in draft.segments]
     addresses = words + [str(int(rng.choice(words)) + 8), "0", str((1 << 64) - 8)]
@@ -514,6 +550,10 @@ def draw_line(rng: random.Random, labels: List[str], faults: float) -> str:
         place = rng.randrange(len(text) + 1)
         change = rng.choice(["", " ", ",", "x", "0", "-", "9999", "\t", ":", "#", "(", "\r", "\xe9", "0x"])
         text = text[:place] + change + text[place + rng.randrange(2):]
+    if chance(rng, 5 * faults):
+        text = text.rpartition(" ")[0] + " " + rng.choice(["2047", "2048", "-2048", "-2049", "31", "32", "64", "4094", "4096",
+                                                           "-4096", "-0", "1048574", "1048576", "0x7FF", "+1", "", "nine",
+                                                           "18446744073709551616", "018446744073709551615"])
     if chance(rng, 10):
         text = rng.choice(["", "  ", "# all", "zero", "word 0x0000FFff", "\tecall ", "fence x0, x0, 255"])
     return rng.choice(["", " ", "\t"]) + text + rng.choice(["", "", " ", " # c", "#"])
@@ -529,19 +569,23 @@ OPTIONS = ["inst-min", "inst-max", "round", "half", "sweep", "diverse", "steps",
 
 def draw_words(rng: random.Random) -> Case:
     """Words of a command line, which mostly ask for nothing."""
-    words = [rng.choice(["transform", "plan", "run", "campaign", "gen", "list", "asm", "harts"] * 4 + ["", "Plan", "-h"])]
-    for _ in range(rng.choice([0, 1, 2, 3, 4, 6])):
+    words = [rng.choice(list(COMMANDS) * 4 + ["", "Plan", "-h"])]
+    values = [value for value in VALUES if words[0] != "gen" or not 64 < (number_of(value) or 0) <= 60000]
+    command = COMMANDS.get(words[0])
+    if command and chance(rng, 50):
+        words += ["IN"] * rng.randrange(command.least_files, command.most_files + 1)
+        for name in command.needed + [name for name in command.options + command.flags if chance(rng, 30)]:
+            words += ["--" + name] if name in command.flags else [f"--{name}={rng.choice(values)}"]
+    for _ in range(rng.choice([0, 0, 1, 2, 4, 6])):
         kind = rng.random()
         if kind < 0.35:
             words.append(rng.choice(["a", "b", "IN", "x=1", "", "-", "--"]))
         elif kind < 0.65:
-            words += ["--" + rng.choice(OPTIONS), rng.choice(VALUES)]
+            words += ["--" + rng.choice(OPTIONS), rng.choice(values)]
         elif kind < 0.9:
-            words.append("--" + rng.choice(OPTIONS) + "=" + rng.choice(VALUES))
+            words.append("--" + rng.choice(OPTIONS) + "=" + rng.choice(values))
         else:
             words.append(rng.choice(["--", "-", "---"]) + rng.choice(OPTIONS))
-    if words[0] == "gen" and chance(rng, 95):
-        words = [word for word in words if not word.startswith("--size")]
     return Case({}, (tuple(words),) if chance(rng, 99) else ((),))
 
 
@@ -559,9 +603,10 @@ def smaller_drafts(draft: Draft) -> List[Draft]:
         parts = getattr(draft, name)
         found += [replace(draft, **{name: parts[:k] + parts[k + 1:]}) for k in range(len(parts))]
     for k, segment in enumerate(draft.segments):
-        others = []
+        others, count = [], len(segment.words)
+        for length in sorted({count // 2, count // 4, count // 8, 1} - {0}, reverse=True):
+            others += [segment.words[:first] + segment.words[first + length:] for first in range(0, count, length)]
         for number, word in enumerate(segment.words):
-            others.append(segment.words[:number] + segment.words[number + 1:])
             if word != NOP:
                 others.append(segment.words[:number] + (NOP,) + segment.words[number + 1:])
         changed = [replace(segment, words=words) for words in others]
