@@ -38,6 +38,7 @@ class DataRange:
 
     @property
     def is_written(self) -> bool:
+        """Whether one of its segments is written."""
         return any(s.flags & PF_W for s in self.segments)
 
 
@@ -55,14 +56,17 @@ class Test:
 
     @property
     def new_code(self) -> int:
+        """C, where the new code begins ("Memory")."""
         return self.base + 3 * self.distance
 
     @property
     def data_words(self) -> int:
+        """W, how many data words there are ("Memory")."""
         return sum(r.end - r.start for r in self.data) // 8
 
     @property
     def has_indirect(self) -> bool:
+        """Whether the code has a JALR ("Blocks and pieces")."""
         return any(i.name == "jalr" for i in self.code.values())
 
     def data_word(self, number: int) -> int:

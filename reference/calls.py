@@ -36,9 +36,11 @@ class Shelf:
     """Files by their names. A fault is an OSError."""
 
     def load(self, name: str, most: int) -> bytes:
+        """The bytes of a file, or TooLong where it has more than so many."""
         raise NotImplementedError
 
     def store(self, name: str, data: bytes) -> None:
+        """Sets a file to these bytes."""
         raise NotImplementedError
 
 

@@ -33,6 +33,7 @@ class Verdict:
     steps: Optional[int] = None
 
     def text(self) -> str:
+        """VERDICT ("Printed lines")."""
         return self.name if self.steps is None else f"{self.name} {self.steps}"
 
 

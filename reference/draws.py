@@ -4,7 +4,7 @@ from __future__ import annotations
 
 import random
 import struct
-from dataclasses import dataclass, field, replace
+from dataclasses import dataclass, replace
 from typing import Callable, Dict, List, Optional, Tuple, Union
 
 import isa
@@ -15,6 +15,7 @@ from words import COMMANDS, number_of
 
 NOP = 0x13
 ECALL = 0x73
+EBREAK = 0x00100073
 
 
 @dataclass(frozen=True)
@@ -27,7 +28,8 @@ class DraftSegment:
     more_memory: int = 0
     type: int = 1
 
-    def bytes(self) -> bytes:
+    def content(self) -> bytes:
+        """Its bytes in the file."""
         return struct.pack(f"<{len(self.words)}I", *self.words) + self.data
 
 
@@ -59,8 +61,8 @@ class Draft:
         first = 64 + 56 * len(self.segments)
         for segment in self.segments:
             offsets.append(first + len(body))
-            body += segment.bytes()
-        headers, names = self._section_headers(body, first)
+            body += segment.content()
+        headers = self._section_headers(body, first)
         shoff = 0
         if headers:
             body += bytes(-(first + len(body)) % 8)
@@ -69,7 +71,7 @@ class Draft:
         data = bytearray(HEADER.pack(b"\x7fELF", 2, 1, 1, 2, 243, 1, self.entry, 64, shoff, self.flags, 64, 56,
                                      len(self.segments), 64, len(headers), max(len(headers) - 1, 0)))
         for segment, offset in zip(self.segments, offsets):
-            size = len(segment.bytes())
+            size = len(segment.content())
             data += PROGRAM_HEADER.pack(segment.type, segment.flags, offset, segment.vaddr, segment.vaddr, size,
                                         size + segment.more_memory, 4096)
         data += body
@@ -78,15 +80,16 @@ class Draft:
             data[place:place + size] = (value % (1 << 8 * size)).to_bytes(size, "little")[:len(data) - place]
         return bytes(data if self.cut is None else data[:self.cut % (len(data) + 1)])
 
-    def _section_headers(self, body: bytearray, first: int) -> Tuple[List[bytes], bytes]:
+    def _section_headers(self, body: bytearray, first: int) -> List[bytes]:
         """The section headers; appends the bytes of tables to the body."""
         if not self.sections and not self.symbols and not self.relocations:
-            return [], b""
+            return []
         names = bytearray(b"\0")
         headers = [bytes(64)]
 
         def add(name: str, kind: int, flags: int, addr: int, offset: int, size: int, link: int, info: int,
                 entsize: int) -> None:
+            """Adds a section."""
             headers.append(SECTION_HEADER.pack(len(names), kind, flags, addr, offset, size, link, info, 1, entsize))
             names.extend(name.encode() + b"\0")
 
@@ -110,7 +113,7 @@ class Draft:
         offset = first + len(body)
         add(".shstrtab", 3, 0, 0, offset, len(names) + len(".shstrtab") + 1, 0, 0, 0)
         body += names
-        return headers, bytes(names)
+        return headers
 
 
 @dataclass(frozen=True)
@@ -120,6 +123,7 @@ class Text:
     ends_line: bool = True
 
     def build(self) -> bytes:
+        """The bytes of the text."""
         return ("\n".join(self.lines) + ("\n" if self.ends_line else "")).encode("latin-1")
 
 
@@ -188,7 +192,7 @@ def draw_values(rng: random.Random, most: int) -> List[int]:
         register = rng.choice([1, 5, 6, 7, 10, 11, 12, 13])
         words += rng.choice([
             [encoded("addi", register, 0, 0, rng.choice(EDGES))],
-            [encoded("lui", register, imm=isa.signed(rng.choice([0x80000000, 0x7FFFF000, rng.getrandbits(20) << 12]), 32)),
+            [encoded("lui", register, imm=rng.choice([-(1 << 31), (1 << 31) - 4096, rng.randrange(-512, 512) << 21])),
              encoded("addi", register, register, 0, rng.randrange(-2048, 2048))],
             [encoded("addi", register, 0, 0, rng.choice([1, -1, 3])), encoded("slli", register, register, 0, 63)],
             [encoded("lui", register, imm=isa.signed(rng.getrandbits(20) << 12, 32)),
@@ -234,7 +238,7 @@ def draw_code(rng: random.Random, size: int, base: int, data: int, room: int, od
             words.append(rng.choice([0x0FF0000F, 0x0000000F, 0x8330000F]))
         elif chance(rng, oddities):
             words.append(rng.choice([
-                0, ECALL, 0x00100073, 0xFFFFFFFF, 0x0000100F, 0x30200073, 0x0200129B, rng.getrandbits(32),
+                0, ECALL, EBREAK, 0xFFFFFFFF, 0x0000100F, 0x30200073, 0x0200129B, rng.getrandbits(32),
                 encoded("jal", 0, imm=0), encoded("jal", 1, imm=2), encoded("jal", 0, imm=-4),
                 encoded("auipc", 5, imm=rng.choice([1 << 28, -(1 << 28), (1 << 28) - 4096, 1 << 30])),
                 encoded("jalr", 1, 1, 0, 0), encoded("beq", 0, 0, 0, 6), encoded("beq", 0, 1, 1, -8)]))
@@ -524,8 +528,9 @@ def draw_asm(rng: random.Random) -> Case:
     if chance(rng, 40):
         lines.append(".data")
         for _ in range(rng.randrange(5)):
+            wrong = ["add x1, x1, x1", ".word64 -1", ".word64"] if faults else []
             lines.append(rng.choice([".word64 0x10", ".word64\t18446744073709551615", "d:", ".data", "# no",
-                                     " .word64 007  #x"] + (["add x1, x1, x1", ".word64 -1", ".word64"] if faults else [])))
+                                     " .word64 007  #x"] + wrong))
     unused = [label + ":" for label in labels if chance(rng, 40)]
     for label in unused:
         lines.insert(rng.randrange(len(lines) + 1), label)
@@ -534,6 +539,10 @@ def draw_asm(rng: random.Random) -> Case:
     if chance(rng, 40):
         calls.append(rng.choice([("list", "OUT"), ("transform", "OUT", "W"), ("run", "OUT", "--steps", "50")]))
     return Case({"S": Text(tuple(lines), ends)}, tuple(calls))
+
+
+IMMEDIATES = ["2047", "2048", "-2048", "-2049", "31", "32", "64", "4094", "4096", "-4096", "-0", "1048574", "1048576",
+              "0x7FF", "+1", "", "nine", "18446744073709551616", "018446744073709551615"]
 
 
 def draw_line(rng: random.Random, labels: List[str], faults: float) -> str:
@@ -551,18 +560,17 @@ def draw_line(rng: random.Random, labels: List[str], faults: float) -> str:
         change = rng.choice(["", " ", ",", "x", "0", "-", "9999", "\t", ":", "#", "(", "\r", "\xe9", "0x"])
         text = text[:place] + change + text[place + rng.randrange(2):]
     if chance(rng, 5 * faults):
-        text = text.rpartition(" ")[0] + " " + rng.choice(["2047", "2048", "-2048", "-2049", "31", "32", "64", "4094", "4096",
-                                                           "-4096", "-0", "1048574", "1048576", "0x7FF", "+1", "", "nine",
-                                                           "18446744073709551616", "018446744073709551615"])
+        text = text.rpartition(" ")[0] + " " + rng.choice(IMMEDIATES)
     if chance(rng, 10):
         text = rng.choice(["", "  ", "# all", "zero", "word 0x0000FFff", "\tecall ", "fence x0, x0, 255"])
     return rng.choice(["", " ", "\t"]) + text + rng.choice(["", "", " ", " # c", "#"])
 
 
-VALUES = ["0", "1", "2", "4", "8", "9", "16", "17", "1024", "1025", "4096", "4097", "0x1000", "0x20000000", "0x20001000",
-          "1000000000000", "1000000000001", "18446744073709551615", "18446744073709551616", "0x", "0xg", "x", "-1", "",
-          "0:x1=1", "5:x31=0xff", "0:x32=1", "0:x01=1", "1:8=1", "1:9=1", ":8=1", "1:8", "0:1", "0:65536", "0:65537",
-          "0xffffffffffffffff:1", "0xffffffffffffffff:2", "01", "012345678", "9", "10000", "10001", "60000", "60001"]
+VALUES = ["0", "1", "2", "4", "8", "9", "16", "17", "1024", "1025", "4096", "4097", "0x1000", "0x20000000",
+          "0x20001000", "1000000000000", "1000000000001", "18446744073709551615", "18446744073709551616", "0x", "0xg",
+          "x", "-1", "", "0:x1=1", "5:x31=0xff", "0:x32=1", "0:x01=1", "1:8=1", "1:9=1", ":8=1", "1:8", "0:1",
+          "0:65536", "0:65537", "0xffffffffffffffff:1", "0xffffffffffffffff:2", "01", "012345678", "9", "10000",
+          "10001", "60000", "60001"]
 OPTIONS = ["inst-min", "inst-max", "round", "half", "sweep", "diverse", "steps", "fault", "dump", "seed", "count",
            "changes", "size", "turns", "help", ""]
 

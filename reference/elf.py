@@ -38,10 +38,12 @@ class Segment:
 
     @property
     def end(self) -> int:
+        """The address behind its bytes in memory."""
         return self.vaddr + self.memsz
 
     @property
     def is_load(self) -> bool:
+        """Whether it is of type PT_LOAD."""
         return self.type == PT_LOAD
 
 
@@ -61,10 +63,12 @@ class Section:
 
     @property
     def has_bytes(self) -> bool:
+        """Whether it has bytes in the file."""
         return self.type not in (SHT_NULL, SHT_NOBITS) and self.size > 0
 
     @property
     def is_executable(self) -> bool:
+        """Whether it has SHF_ALLOC and SHF_EXECINSTR ("A file in memory")."""
         return self.flags & (SHF_ALLOC | SHF_EXECINSTR) == SHF_ALLOC | SHF_EXECINSTR
 
 

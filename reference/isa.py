@@ -53,10 +53,12 @@ class Instruction:
 
     @property
     def kind(self) -> Kind:
+        """Its row of the table."""
         return KINDS[self.name]
 
     @property
     def group(self) -> str:
+        """The group of its row."""
         return KINDS[self.name].group
 
 
@@ -97,7 +99,8 @@ def _immediate(form: str, word: int) -> int:
     if form == "S":
         return signed(word >> 25 << 5 | word >> 7 & 0x1F, 12)
     if form == "B":
-        return signed((word >> 31) << 12 | (word >> 7 & 1) << 11 | (word >> 25 & 0x3F) << 5 | (word >> 8 & 0xF) << 1, 13)
+        return signed((word >> 31) << 12 | (word >> 7 & 1) << 11 | (word >> 25 & 0x3F) << 5
+                      | (word >> 8 & 0xF) << 1, 13)
     if form == "U":
         return signed(word & 0xFFFFF000, 32)
     if form == "J":

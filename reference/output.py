@@ -6,8 +6,8 @@ import struct
 from dataclasses import dataclass, field
 from typing import Dict, List
 
-from admission import Test
-from elf import (HEADER, PF_W, PROGRAM_HEADER, PT_LOAD, SECTION_HEADER, SHF_ALLOC, SHF_EXECINSTR, SHT_PROGBITS,
+from admission import Test, round_up
+from elf import (HEADER, PROGRAM_HEADER, PT_LOAD, SECTION_HEADER, SHF_ALLOC, SHF_EXECINSTR, SHT_PROGBITS,
                  SHT_STRTAB, SHT_SYMTAB, STB_LOCAL, STT_FUNC, STT_NOTYPE, STT_OBJECT, SYMBOL, Segment, Symbol)
 from texts import Exceeded
 from weave import Woven
@@ -105,11 +105,6 @@ def output_file(test: Test, woven: Woven) -> bytes:
 
 # Written files
 
-def _aligned(number: int, grain: int) -> int:
-    """The next multiple."""
-    return -(-number // grain) * grain
-
-
 def _names(names: List[bytes]) -> bytes:
     """A zero byte, and each name with one ("The order in the file")."""
     return b"\0" + b"".join(name + b"\0" for name in names)
@@ -129,11 +124,11 @@ def write_elf(file: WrittenFile) -> bytes:
     string_table = _names([s.name for s in file.symbols])
     section_names = [s.name for s in file.sections] + [b".symtab", b".strtab", b".shstrtab"]
     name_table = _names(section_names)
-    symbols_at = _aligned(at, 8)
+    symbols_at = round_up(at, 8)
     symbols_size = 24 * (len(file.symbols) + 1)
     strings_at = symbols_at + symbols_size
     names_at = strings_at + len(string_table)
-    headers_at = _aligned(names_at + len(name_table), 8)
+    headers_at = round_up(names_at + len(name_table), 8)
     count = len(section_names) + 1
     size = headers_at + 64 * count
     if size > MOST_BYTES:
@@ -142,6 +137,7 @@ def write_elf(file: WrittenFile) -> bytes:
     data = bytearray(size)
 
     def put(offset: int, part: bytes) -> None:
+        """Sets bytes of the file."""
         data[offset:offset + len(part)] = part
 
     put(0, HEADER.pack(b"\x7fELF", 2, 1, 1, 2, 243, 1, file.entry, 64, headers_at, file.flags,

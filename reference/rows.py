@@ -9,7 +9,7 @@ from typing import Callable, Dict, List, Optional, Tuple
 
 import isa
 from admission import MOST_NEW_CODE, Options, admit, blocks, leaders
-from calls import DirShelf, Shelf, TooLong, answer, transform
+from calls import WRITE_FAULT, DirShelf, Shelf, TooLong, answer, transform
 from campaign import Course, is_closed, strikes_text
 from elf import read_elf
 from machine import Change, start
@@ -17,7 +17,7 @@ from texts import Stopped, Usage, number_or_none
 from weave import MOST_NEAR_CODE, Const, Go, Item, Mark, bounds, link, size_of
 from words import Order, change_of, number_of, order_of
 
-WRITE_FAULT, NO_MEMORY = 6, 7
+NO_MEMORY = 7
 NO_OUTPUT = "no output\n"
 
 
