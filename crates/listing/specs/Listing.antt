@@ -3,7 +3,7 @@ use Rattle.std.specs.Prelude.{◌≡◌, ℕ, ◌<◌, ◌%◌, ◌==◌, ◌&&�
 use Rattle.elf_types.specs.declared.file.ElfFile.{ElfFile}
 use Rattle.qed_model.specs.Admission.CodeWords.{ranges_of, word_at}
 use Rattle.qed_model.specs.Machine.Step.{in_range}
-use Rattle.qed_model.specs.Text.Run.{hex_text, word_text}
+use Rattle.texts.specs.Printed.{hex_text, word_text}
 use Rattle.rv_text.specs.Text.{text_of}
 
 -- a code word stands at an address: a multiple of 4 whose four bytes lie in one code range

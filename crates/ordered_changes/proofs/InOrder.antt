@@ -4,8 +4,7 @@ use Rattle.std.specs.Prelude.{fold, insert, if◌then◌else◌}
 use Rattle.std.specs.List.{prefix_len}
 use Rattle.std.proofs.lemmas.Bool.Decides.{nat_tests}
 use Rattle.qed_model.specs.declared.change.Change.{Change}
-use Rattle.qed_model.specs.Promise.Changed.{Ordered}
-use Rattle.qed_model.specs.Words.{with_change, in_order}
+use Rattle.qed_model.specs.Promise.Changed.{Ordered, with_change, in_order}
 
 -- ---- where a change is put
 insert_suc : {A : Type 0} (d : A) (ds : List A) (n : ℕ) (c : A) → insert (d ∷ ds) (1 + n) c ≡ d ∷ insert ds n c

@@ -3,8 +3,7 @@
 
 ghost use Rattle.std.specs.Prelude.{◌≡◌, ◌≤◌, OnErr, OnOk, length, nat_le};
 ghost use Rattle.std.specs.List.{prefix_len};
-ghost use Rattle.qed_model.specs.Promise.Changed.{Ordered};
-ghost use Rattle.qed_model.specs.Words.{with_change};
+ghost use Rattle.qed_model.specs.Promise.Changed.{Ordered, with_change};
 
 use qed_model::Change;
 use std::alloc::AllocError;

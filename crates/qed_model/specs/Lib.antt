@@ -2,10 +2,8 @@ pub mod Numbers
 pub mod Below
 pub mod Limits
 pub mod Options
-pub mod Words
 pub mod Machine
 pub mod Elf
 pub mod Weave
 pub mod Admission
 pub mod Promise
-pub mod Text

@@ -2,7 +2,8 @@
 ghost use Rattle.std.specs.Prelude.{IfOk, IfSome};
 ghost use Rattle.qed_model.specs.Weave.Places.{AreSoundOptions};
 
-use qed_model::{Changes, Name, Options, Order};
+use command_line::{Name, Order};
+use qed_model::{Changes, Options};
 use qed_words::{WordsError, order};
 use std::alloc::{AllocError, Global};
 

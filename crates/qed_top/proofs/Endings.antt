@@ -10,14 +10,14 @@ use Rattle.qed_io.specs.Counts.{Rose, RoseAt, NoneFell}
 use Rattle.qed_model.specs.declared.change.Change.{Change}
 use Rattle.elf_types.specs.declared.file.ElfFile.{ElfFile}
 use Rattle.qed_model.specs.declared.options.Options.{Options}
-use Rattle.qed_model.specs.declared.order.Order.{Order}
-use Rattle.qed_model.specs.declared.order.Order.TheVariants as order
-use Rattle.qed_model.specs.declared.order.Order.TheVariants.{Transform, Plan, Run, Campaign, Gen, Asm, Harts}
-use Rattle.qed_model.specs.declared.order.Reason.{Reason}
+use Rattle.command_line.specs.declared.order.Order.{Order}
+use Rattle.command_line.specs.declared.order.Order.TheVariants as order
+use Rattle.command_line.specs.declared.order.Order.TheVariants.{Transform, Plan, Run, Campaign, Gen, Asm, Harts}
+use Rattle.command_line.specs.declared.order.Reason.{Reason}
 use Rattle.qed_model.specs.declared.plan.Plan as plan
 use Rattle.qed_model.specs.Elf.File.{IsReadAs}
 use Rattle.qed_model.specs.Limits.{limit_of}
-use Rattle.qed_model.specs.Words.{asked}
+use Rattle.command_line.specs.Words.{asked}
 use Rattle.qed_top.specs.Answer.{CallsFor, FilesAfter, FilesInPart, StoreRose, ShelfSteady, SteadyOrReadFault}
 use Rattle.qed_top.specs.Refused.{error_status, refusal_status}
 use Rattle.qed_top.specs.Makes.{Makes, refused, made, Delivers, TellsPlan}

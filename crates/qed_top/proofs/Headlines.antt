@@ -5,13 +5,13 @@ use Rattle.std.specs.FinMap.{insert}
 use Rattle.qed_io.specs.Files.{Files, file_bytes}
 use Rattle.qed_model.specs.declared.limits.Limit.TheVariants.{FileBytes}
 use Rattle.qed_model.specs.declared.options.Options.{Options}
-use Rattle.qed_model.specs.declared.order.Order.{Order}
-use Rattle.qed_model.specs.declared.order.Order.TheVariants.{Transform}
-use Rattle.qed_model.specs.declared.order.Reason.{Reason}
+use Rattle.command_line.specs.declared.order.Order.{Order}
+use Rattle.command_line.specs.declared.order.Order.TheVariants.{Transform}
+use Rattle.command_line.specs.declared.order.Reason.{Reason}
 use Rattle.qed_model.specs.Admission.DataRanges.{range_of}
 use Rattle.qed_model.specs.Elf.FileRead.{file_read}
 use Rattle.qed_model.specs.Machine.Loading.{loaded_file}
-use Rattle.qed_model.specs.Words.{asked}
+use Rattle.command_line.specs.Words.{asked}
 use Rattle.transform.specs.Transform.{Promised}
 use Rattle.qed_top.specs.Answer.{CallsFor, read_fault, too_long, within, FilesAfter}
 use Rattle.qed_top.specs.Loads.{Loads, OverLoads}

@@ -9,18 +9,18 @@ use Rattle.qed_io.specs.Files.{Files, file_bytes}
 use Rattle.elf_types.specs.declared.file.ElfFile.{ElfFile}
 use Rattle.qed_model.specs.declared.change.Change.{Change}
 use Rattle.qed_model.specs.declared.limits.Limit.{Limit}
-use Rattle.qed_model.specs.declared.order.Order.{Order}
-use Rattle.qed_model.specs.declared.order.Order.TheVariants.{Harts}
-use Rattle.qed_model.specs.declared.order.Reason.{Reason}
+use Rattle.command_line.specs.declared.order.Order.{Order}
+use Rattle.command_line.specs.declared.order.Order.TheVariants.{Harts}
+use Rattle.command_line.specs.declared.order.Reason.{Reason}
 use Rattle.qed_model.specs.Limits.{limit_of}
-use Rattle.qed_model.specs.Text.Errors.{limit_line}
-use Rattle.qed_model.specs.Text.Plan.{read_fault_line}
-use Rattle.qed_model.specs.Text.Run.{run_text}
+use Rattle.command_line.specs.Text.Errors.{limit_line}
+use Rattle.command_line.specs.Text.Plan.{read_fault_line}
+use Rattle.command_line.specs.Text.Run.{run_text}
 use Rattle.qed_model.specs.Machine.Program.{start, zeros}
 use Rattle.qed_model.specs.Machine.Loading.{loaded_file}
 use Rattle.qed_model.specs.Machine.Progress.{Progress, begun}
 use Rattle.qed_model.specs.declared.machine.Outcome.{Outcome}
-use Rattle.qed_model.specs.Words.{asked}
+use Rattle.command_line.specs.Words.{asked}
 use Rattle.qed_model.specs.Promise.Changed.{changed_run}
 use Rattle.fault_inject.specs.Counted.{changed_steps}
 use Rattle.qed_top.specs.Answer.{PrintsOnly, CallsFor, read_fault, too_long, within}

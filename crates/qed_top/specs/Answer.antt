@@ -5,8 +5,8 @@ use Rattle.qed_io.specs.Files.{Files, StoredInPart}
 use Rattle.qed_io.specs.Counts.{NoneChanged}
 use Rattle.qed_model.specs.declared.limits.Limit as limits
 use Rattle.qed_model.specs.Limits.{limit_of}
-use Rattle.qed_model.specs.Text.Errors.{limit_line}
-use Rattle.qed_model.specs.Text.Plan.{read_fault_line}
+use Rattle.command_line.specs.Text.Errors.{limit_line}
+use Rattle.command_line.specs.Text.Plan.{read_fault_line}
 use Rattle.qed_top.specs.declared.answer.Answer.{Answer}
 use Rattle.qed_top.specs.declared.answer.Stored.{Stored}
 use Rattle.qed_top.specs.declared.status.Status.{Status}

@@ -6,7 +6,7 @@ use Rattle.qed_model.specs.declared.change.Change.{Change}
 use Rattle.qed_model.specs.declared.options.Options.{Options}
 use Rattle.qed_model.specs.declared.verdict.Struck.{Struck}
 use Rattle.qed_model.specs.Admission.DataRanges.{range_of}
-use Rattle.qed_model.specs.Text.Campaign.{campaign_text}
+use Rattle.command_line.specs.Text.Campaign.{campaign_text}
 use Rattle.strikes.specs.Draw.{drawn_strikes}
 use Rattle.strikes.specs.Kept.{IsReach}
 use Rattle.strikes.specs.Struck.{AreStruck}

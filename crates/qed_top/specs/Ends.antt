@@ -11,13 +11,13 @@ use Rattle.transform.specs.declared.error.TransformError.TheVariants as transfor
 use Rattle.transform.specs.Transform.{HasCause, IsTransformable}
 use Rattle.qed_model.specs.declared.change.Change.{Change}
 use Rattle.qed_model.specs.declared.options.Options.{Options}
-use Rattle.qed_model.specs.declared.order.Order.{Order}
-use Rattle.qed_model.specs.declared.order.Order.TheVariants as order
-use Rattle.qed_model.specs.declared.order.Order.TheVariants.{Transform, Plan, Run, Campaign, Gen, Asm, Harts}
+use Rattle.command_line.specs.declared.order.Order.{Order}
+use Rattle.command_line.specs.declared.order.Order.TheVariants as order
+use Rattle.command_line.specs.declared.order.Order.TheVariants.{Transform, Plan, Run, Campaign, Gen, Asm, Harts}
 use Rattle.qed_model.specs.Elf.File.{IsReadAs}
 use Rattle.qed_model.specs.Elf.Refusals.{IsRefused}
 use Rattle.qed_model.specs.Limits.{limit_of}
-use Rattle.qed_model.specs.Words.{asked}
+use Rattle.command_line.specs.Words.{asked}
 use Rattle.qed_top.specs.Answer.{FilesAfter, FilesInPart, StoreRose, ShelfSteady}
 use Rattle.qed_top.specs.Refused.{error_status, refusal_status}
 use Rattle.qed_top.specs.Run.{memory_bytes, memory_limit, outcome_status, run_of}

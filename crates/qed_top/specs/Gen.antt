@@ -10,7 +10,7 @@ use Rattle.qed_model.specs.Machine.Loading.{loaded_file}
 use Rattle.qed_model.specs.Machine.Program.{start, zeros}
 use Rattle.qed_model.specs.Machine.Progress.{Progress, begun, progress}
 use Rattle.qed_model.specs.Options.{default_options}
-use Rattle.qed_model.specs.Text.Errors.{limit_line}
+use Rattle.command_line.specs.Text.Errors.{limit_line}
 use Rattle.report.specs.Generated.{generated_line}
 use Rattle.test_gen.specs.Code.{code, function_count}
 use Rattle.test_gen.specs.Ends.{HasEnded, test_steps}

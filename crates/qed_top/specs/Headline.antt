@@ -5,7 +5,7 @@ use Rattle.std.specs.Io.KnownBytes.{Appends}
 use Rattle.elf_types.specs.declared.file.ElfFile.{ElfFile}
 use Rattle.qed_io.specs.Files.{Files, file_bytes}
 use Rattle.qed_model.specs.declared.options.Options.{Options}
-use Rattle.qed_model.specs.declared.order.Order.TheVariants.{Transform}
+use Rattle.command_line.specs.declared.order.Order.TheVariants.{Transform}
 use Rattle.qed_model.specs.declared.plan.Plan.{Plan}
 use Rattle.qed_model.specs.Elf.File.{IsReadAs}
 use Rattle.qed_model.specs.Machine.Loading.{loaded_file}
@@ -16,8 +16,8 @@ use Rattle.qed_model.specs.Promise.Kept.{Kept}
 use Rattle.qed_model.specs.Promise.Landed.{Landed}
 use Rattle.qed_model.specs.Promise.Caught.{Caught}
 use Rattle.qed_model.specs.Promise.Clean.{Clean}
-use Rattle.qed_model.specs.Text.Plan.{plan_line}
-use Rattle.qed_model.specs.Words.{asked}
+use Rattle.command_line.specs.Text.Plan.{plan_line}
+use Rattle.command_line.specs.Words.{asked}
 use Rattle.qed_top.specs.Ends.{Call, Ends, IsComplete}
 use Rattle.qed_top.specs.Loads.{OverFiles}
 use Rattle.qed_top.specs.declared.status.Status.{Status}

@@ -2,7 +2,7 @@
 use Rattle.std.specs.Prelude.{◌≡◌, ℕ, List, IsSomeAnd}
 use Rattle.qed_model.specs.declared.options.Options.{Options}
 use Rattle.qed_model.specs.declared.plan.Plan.{Plan}
-use Rattle.qed_model.specs.Text.Plan.{plan_line}
+use Rattle.command_line.specs.Text.Plan.{plan_line}
 use Rattle.report.specs.Plan.{plan_text}
 use Rattle.transform.specs.Transform.{Transforms}
 use Rattle.qed_top.specs.Answer.{PrintsOnly}

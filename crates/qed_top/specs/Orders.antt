@@ -3,12 +3,12 @@ use Rattle.std.specs.Prelude.{Bool, true, false, ℕ, List, [], ◌∷◌, Optio
 use Rattle.qed_io.specs.Files.{Files, file_bytes}
 use Rattle.qed_model.specs.declared.limits.Limit as limits
 use Rattle.qed_model.specs.declared.limits.Limit.TheVariants.{FileBytes, RunFileBytes}
-use Rattle.qed_model.specs.declared.order.Order.{Order}
-use Rattle.qed_model.specs.declared.order.Order.TheVariants as order
-use Rattle.qed_model.specs.declared.order.Order.TheVariants.{Transform, Plan, Run, Campaign, Gen, Asm, Harts}
-use Rattle.qed_model.specs.declared.order.Reason.{Reason}
-use Rattle.qed_model.specs.Text.Usage.{reason_line}
-use Rattle.qed_model.specs.Words.{asked}
+use Rattle.command_line.specs.declared.order.Order.{Order}
+use Rattle.command_line.specs.declared.order.Order.TheVariants as order
+use Rattle.command_line.specs.declared.order.Order.TheVariants.{Transform, Plan, Run, Campaign, Gen, Asm, Harts}
+use Rattle.command_line.specs.declared.order.Reason.{Reason}
+use Rattle.command_line.specs.Text.Usage.{reason_line}
+use Rattle.command_line.specs.Words.{asked}
 use Rattle.qed_top.specs.Answer.{PrintsOnly, CallsFor}
 use Rattle.qed_top.specs.List.{Lists}
 use Rattle.qed_top.specs.Asm.{Assembles}

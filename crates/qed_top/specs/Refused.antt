@@ -8,7 +8,7 @@ use Rattle.qed_model.specs.declared.limits.Limit.TheVariants as limit
 use Rattle.qed_model.specs.declared.options.Options.{Options}
 use Rattle.qed_model.specs.Admission.Ends.{HasEnds}
 use Rattle.qed_model.specs.Elf.Refusals as Refusals
-use Rattle.qed_model.specs.Text.Errors.{error_line, limit_line}
+use Rattle.command_line.specs.Text.Errors.{error_line, limit_line}
 use Rattle.report.specs.Admission.{admit_line}
 use Rattle.transform.specs.declared.error.TransformError.{TransformError}
 use Rattle.transform.specs.declared.error.TransformError.TheVariants as transform

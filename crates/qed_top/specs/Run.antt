@@ -14,8 +14,8 @@ use Rattle.qed_model.specs.Machine.Loading.{loaded_file}
 use Rattle.qed_model.specs.Machine.Program.{start, zeros}
 use Rattle.qed_model.specs.Machine.Progress.{Progress, begun}
 use Rattle.qed_model.specs.Promise.Changed.{changed_run}
-use Rattle.qed_model.specs.Text.Errors.{limit_line}
-use Rattle.qed_model.specs.Text.Run.{run_text}
+use Rattle.command_line.specs.Text.Errors.{limit_line}
+use Rattle.command_line.specs.Text.Run.{run_text}
 use Rattle.qed_top.specs.Answer.{PrintsOnly}
 use Rattle.qed_top.specs.Refused.{IsUnread}
 use Rattle.qed_top.specs.declared.answer.Answer.{Answer}

@@ -12,7 +12,7 @@ use Rattle.qed_model.specs.Below.{each}
 use Rattle.qed_model.specs.Elf.File.{IsReadAs}
 use Rattle.qed_model.specs.Elf.Refusals.{IsRefused}
 use Rattle.qed_model.specs.Limits.{limit_of}
-use Rattle.qed_model.specs.Text.Errors.{limit_line}
+use Rattle.command_line.specs.Text.Errors.{limit_line}
 use Rattle.report.specs.World.{shared_line, world_text}
 use Rattle.qed_top.specs.Answer.{CallsFor, PrintsOnly}
 use Rattle.qed_top.specs.Loads.{Decided, Loads}

@@ -1,7 +1,7 @@
 //! What the words and the files call for.
 ghost use Rattle.std.specs.Prelude.{◌≡◌, false, IfOk, OnErr};
 ghost use Rattle.qed_io.specs.Counts.{RoseAt, NoneFell};
-ghost use Rattle.qed_model.specs.Words.{texts};
+ghost use Rattle.command_line.specs.Words.{texts};
 ghost use Rattle.qed_words.specs.Sound.{IsSoundOrder};
 ghost use Rattle.qed_top.specs.Answer.{ShelfSteady, SteadyOrReadFault};
 ghost use Rattle.qed_top.specs.Loads.{OverFiles, OverLoads};
@@ -11,8 +11,8 @@ use crate::answer::Answer;
 use crate::load::read_file;
 use crate::orders::{answer_order, source_limit, source_name, usage};
 use crate::world::answer_harts;
+use command_line::Order;
 use qed_io::Shelf;
-use qed_model::Order;
 use qed_words::{WordsError, order};
 use std::alloc::{AllocError, Global};
 

@@ -9,9 +9,10 @@ ghost use Rattle.qed_top.specs.Gen.{Generates, Gens, IsRunOf, most_steps, test_b
 use crate::answer::{Answer, Stored};
 use crate::refusal::refused;
 use crate::status::Status;
+use command_line::Name;
 use elf_read::read_known;
 use elf_types::Bytes;
-use qed_model::{Name, Options};
+use qed_model::Options;
 use report::{Drawn, generated_text};
 use rv_step::Machine;
 use std::alloc::{AllocError, Global};

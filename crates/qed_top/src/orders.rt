@@ -13,7 +13,8 @@ use crate::list::answer_list;
 use crate::make::{answer_plan, answer_transform};
 use crate::run::answer_run;
 use crate::status::Status;
-use qed_model::{Limit, Order, Reason};
+use command_line::{Order, Reason};
+use qed_model::Limit;
 use report::usage_text;
 use std::alloc::{AllocError, Global};
 

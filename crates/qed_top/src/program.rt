@@ -4,7 +4,7 @@ ghost use Rattle.std.specs.IoError.{error_kind};
 ghost use Rattle.std.specs.Vec.Iter.{into_iter_items};
 ghost use Rattle.std.specs.Process.{exit_status};
 ghost use Rattle.qed_top.specs.Codes.{status_code};
-ghost use Rattle.qed_model.specs.Words.{texts};
+ghost use Rattle.command_line.specs.Words.{texts};
 ghost use Rattle.qed_top.specs.Program.{words_after, Exits, ExitsUntold};
 
 use crate::status::Status;

@@ -1,5 +1,5 @@
 //! The top call.
-ghost use Rattle.qed_model.specs.Words.{texts};
+ghost use Rattle.command_line.specs.Words.{texts};
 ghost use Rattle.qed_top.specs.Headline.{Answers};
 
 use crate::answer::carry_out;

@@ -25,12 +25,13 @@ use crate::load::read_file;
 use crate::refusal::unread;
 use crate::run::memory_size;
 use crate::status::Status;
+use command_line::Name;
 use elf_read::read_elf;
 use elf_types::{Bytes, ElfFile};
 use harts::{HartsError, World};
 use qed_io::Shelf;
+use qed_model::Limit;
 use qed_model::limits::MAX_MEMORY_BYTES;
-use qed_model::{Limit, Name};
 use report::{shared_text, world_text};
 use std::alloc::{AllocError, Global};
 

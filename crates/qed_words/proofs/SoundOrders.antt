@@ -9,17 +9,18 @@ use Rattle.std.proofs.lemmas.Bool.{and_parts}
 use Rattle.std.proofs.lemmas.List.Elements.{All-from_recursion}
 use Rattle.std.specs.Option.{option_or}
 use Rattle.qed_model.specs.declared.limits.TheConstants.{MAX_HALF}
-use Rattle.qed_model.specs.declared.order.Command.{Command}
-use Rattle.qed_model.specs.declared.order.Command.TheVariants.{Transform, Plan, Run, Campaign, Gen, Asm, Harts}
-use Rattle.qed_model.specs.declared.order.Command.TheVariants as command
-use Rattle.qed_model.specs.declared.order.Order.{Order}
-use Rattle.qed_model.specs.declared.order.Key.{Key}
-use Rattle.qed_model.specs.declared.order.Key.TheVariants.{InstMin, InstMax, Round, Half, Steps, Fault, Dump, Seed, Count, Size, Changes, Turns}
-use Rattle.qed_model.specs.declared.order.Reason.{Reason}
-use Rattle.qed_model.specs.declared.order.Reason.TheVariants.{MissingFile, MissingOption, OutOfRange, Split}
+use Rattle.command_line.specs.declared.order.Command.{Command}
+use Rattle.command_line.specs.declared.order.Command.TheVariants.{Transform, Plan, Run, Campaign, Gen, Asm, Harts}
+use Rattle.command_line.specs.declared.order.Command.TheVariants as command
+use Rattle.command_line.specs.declared.order.Order.{Order}
+use Rattle.command_line.specs.declared.order.Key.{Key}
+use Rattle.command_line.specs.declared.order.Key.TheVariants.{InstMin, InstMax, Round, Half, Steps, Fault, Dump, Seed, Count, Size, Changes, Turns}
+use Rattle.command_line.specs.declared.order.Reason.{Reason}
+use Rattle.command_line.specs.declared.order.Reason.TheVariants.{MissingFile, MissingOption, OutOfRange, Split}
 use Rattle.qed_model.specs.Promise.Changed.{Ordered}
 use Rattle.qed_model.specs.Weave.Places.{AreSoundOptions}
-use Rattle.qed_model.specs.Words.{Argument, asked, asked_of, answer, colon, fault, first_wrong, parted, span_in, arguments, command_of, dump, files, first_reason, first_wrong_value, is_in_range, keys_of, lacks, missing, number, number_given, options, order_of, reason_of, span_of, split_reason, value_of, values, wrong_number, wrong_value, wrong_values, changes_given, is_digit, steps_given, turns, wrong_turns}
+use Rattle.command_line.specs.Words.{Argument, asked, asked_of, answer, fault, first_wrong, span_in, arguments, command_of, dump, files, first_reason, first_wrong_value, is_in_range, keys_of, lacks, missing, number_given, options, order_of, reason_of, span_of, split_reason, value_of, values, wrong_number, wrong_value, wrong_values, changes_given, is_digit, steps_given, turns, wrong_turns}
+use Rattle.texts.specs.Read.{colon, parted, number}
 use Rattle.ordered_changes.proofs.InOrder.{in_order_ordered}
 use Rattle.qed_words.specs.Sound.{IsSoundOrder}
 use Rattle.qed_words.proofs.FewFiles.{few_files}

@@ -1,11 +1,11 @@
 //! What a word is.
 ghost use Rattle.std.specs.Prelude.{◌≡◌};
 ghost use Rattle.std.specs.Option.{option_copied};
-ghost use Rattle.qed_model.specs.Words.{behind_dashes as behind_dashes_of, takes_next as takes_next_of, key_argument as key_argument_of, option_argument as option_argument_of, argument as argument_of};
+ghost use Rattle.command_line.specs.Words.{behind_dashes as behind_dashes_of, takes_next as takes_next_of, key_argument as key_argument_of, option_argument as option_argument_of, argument as argument_of};
 ghost use Rattle.qed_words.specs.Seen.{seen};
 
 use crate::commands::{is_flag, key_named};
-use qed_model::{Command, Key};
+use command_line::{Command, Key};
 use texts::split_once;
 
 /// An argument, with the number of its word.
@@ -22,7 +22,7 @@ pub enum Argument<'a> {
 }
 
 /// What stands behind `--`.
-#[tactic(auto, unfolding(qed_model::specs::Words::behind_dashes))]
+#[tactic(auto, unfolding(command_line::specs::Words::behind_dashes))]
 fn behind_dashes(word: &[u8]) -> Option<&[u8]>
     ensures { option_copied result ≡ behind_dashes_of word.now }
 {
@@ -33,7 +33,7 @@ fn behind_dashes(word: &[u8]) -> Option<&[u8]>
 }
 
 /// Whether the next word is this word's value.
-#[tactic(auto, unfolding(qed_model::specs::Words::takes_next))]
+#[tactic(auto, unfolding(command_line::specs::Words::takes_next))]
 pub fn takes_next(command: Command, word: &[u8]) -> bool
     ensures { result ≡ takes_next_of command word.now }
 {
@@ -75,7 +75,7 @@ fn option_argument<'a>(
 }
 
 /// What a word is, by its number and with the word behind it.
-#[tactic(auto, unfolding(qed_model::specs::Words::argument))]
+#[tactic(auto, unfolding(command_line::specs::Words::argument))]
 pub fn read_word<'a>(command: Command, number: u64, word: &'a str, next: &'a [u8]) -> Argument<'a>
     ensures { seen result ≡ argument_of command number word.now next.now }
 {

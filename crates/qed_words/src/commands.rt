@@ -1,8 +1,8 @@
 //! Commands and their options.
 ghost use Rattle.std.specs.Prelude.{◌≡◌};
-ghost use Rattle.qed_model.specs.Words.{command_of, least_files as least_files_of, most_files as most_files_of, keys_of, required_of, has_flags as has_flags_of, most_of, key_named as key_named_of, is_flag as is_flag_of};
+ghost use Rattle.command_line.specs.Words.{command_of, least_files as least_files_of, most_files as most_files_of, keys_of, required_of, has_flags as has_flags_of, most_of, key_named as key_named_of, is_flag as is_flag_of};
 
-use qed_model::{Command, Key};
+use command_line::{Command, Key};
 
 /// The command of this name.
 pub fn command_named(word: &str) -> Option<Command>
@@ -115,7 +115,7 @@ pub fn most(key: Key) -> usize
 }
 
 /// The option of a command with this name.
-#[tactic(auto, unfolding(qed_model::specs::Words::key_named))]
+#[tactic(auto, unfolding(command_line::specs::Words::key_named))]
 pub fn key_named(command: Command, name: &[u8]) -> Option<Key>
     ensures { result ≡ key_named_of command name.now }
 {

@@ -2,7 +2,7 @@
 ghost use Rattle.std.specs.Prelude.{◌≡◌};
 ghost use Rattle.qed_words.specs.declared.error.WordsError.TheVariants as error;
 
-use qed_model::Reason;
+use command_line::Reason;
 use std::alloc::AllocError;
 use thiserror::Error;
 

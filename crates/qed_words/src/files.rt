@@ -1,15 +1,15 @@
 //! The files that were given.
 ghost use Rattle.std.specs.Prelude.{◌≡◌, IfOk, map};
-ghost use Rattle.qed_model.specs.Words.{files};
+ghost use Rattle.command_line.specs.Words.{files};
 ghost use Rattle.qed_words.specs.Seen.{seen};
 
 use crate::argument::Argument;
 use crate::given::name_in;
-use qed_model::{Name, Names};
+use command_line::{Name, Names};
 use std::alloc::{AllocError, Global};
 
 /// The names of all files, in the order of the words.
-#[tactic(auto, unfolding(qed_model::specs::Words::files))]
+#[tactic(auto, unfolding(command_line::specs::Words::files))]
 pub fn names(alloc: Global, arguments: &[Argument<'_>]) -> Result<Names, AllocError>
     ensures { IfOk result (λ names. names ≡ files (map seen arguments.now)) }
 {

@@ -1,11 +1,11 @@
 //! What was given.
 ghost use Rattle.std.specs.Prelude.{◌≡◌, ◌≤◌, IfOk, map, length};
 ghost use Rattle.std.specs.Option.{option_copied};
-ghost use Rattle.qed_model.specs.Words.{name_in as name_in_of, files, file as file_of, value_in as value_in_of, values, value_of, is_flag_named as is_flag_named_of, has_flag as has_flag_of, number_given as number_given_of};
+ghost use Rattle.command_line.specs.Words.{name_in as name_in_of, files, file as file_of, value_in as value_in_of, values, value_of, is_flag_named as is_flag_named_of, has_flag as has_flag_of, number_given as number_given_of};
 ghost use Rattle.qed_words.specs.Seen.{seen};
 
 use crate::argument::Argument;
-use qed_model::Key;
+use command_line::Key;
 use texts::number;
 
 pub fn name_in<'a>(argument: Argument<'a>) -> Option<&'a str>
@@ -18,7 +18,7 @@ pub fn name_in<'a>(argument: Argument<'a>) -> Option<&'a str>
 }
 
 /// How many files were given.
-#[tactic(auto, unfolding(qed_model::specs::Words::files))]
+#[tactic(auto, unfolding(command_line::specs::Words::files))]
 pub fn count_files(arguments: &[Argument<'_>]) -> usize
     ensures { result ≡ length (files (map seen arguments.now)) }
 {
@@ -48,7 +48,7 @@ pub fn value_in<'a>(key: Key, argument: Argument<'a>) -> Option<&'a [u8]>
 }
 
 /// How often an option was given.
-#[tactic(auto, unfolding(qed_model::specs::Words::values))]
+#[tactic(auto, unfolding(command_line::specs::Words::values))]
 pub fn count_values(key: Key, arguments: &[Argument<'_>]) -> usize
     ensures { result ≡ length (values key (map seen arguments.now)) }
 {
@@ -62,7 +62,7 @@ pub fn count_values(key: Key, arguments: &[Argument<'_>]) -> usize
 }
 
 /// The first value that an option was given.
-#[tactic(auto, unfolding(qed_model::specs::Words::values, qed_model::specs::Words::value_of))]
+#[tactic(auto, unfolding(command_line::specs::Words::values, command_line::specs::Words::value_of))]
 pub fn first_value<'a>(key: Key, arguments: &[Argument<'a>]) -> Option<&'a [u8]>
     ensures { option_copied result ≡ value_of key (map seen arguments.now) }
 {
@@ -76,7 +76,7 @@ pub fn first_value<'a>(key: Key, arguments: &[Argument<'a>]) -> Option<&'a [u8]>
 }
 
 /// The number that an option was given.
-#[tactic(auto, unfolding(qed_model::specs::Words::number_given))]
+#[tactic(auto, unfolding(command_line::specs::Words::number_given))]
 pub fn number_given(key: Key, arguments: &[Argument<'_>]) -> Option<u64>
     ensures { result ≡ number_given_of key (map seen arguments.now) }
 {
@@ -93,7 +93,7 @@ fn is_flag_named(name: &[u8], argument: Argument<'_>) -> bool
 }
 
 /// Whether an option without a value was given.
-#[tactic(auto, unfolding(qed_model::specs::Words::has_flag))]
+#[tactic(auto, unfolding(command_line::specs::Words::has_flag))]
 pub fn has_flag(name: &[u8], arguments: &[Argument<'_>]) -> bool
     ensures { result ≡ has_flag_of name.now (map seen arguments.now) }
 {
@@ -106,7 +106,7 @@ pub fn has_flag(name: &[u8], arguments: &[Argument<'_>]) -> bool
 }
 
 /// The name of file number `place`, empty where there is none.
-#[tactic(auto, unfolding(qed_model::specs::Words::files, qed_model::specs::Words::file))]
+#[tactic(auto, unfolding(command_line::specs::Words::files, command_line::specs::Words::file))]
 pub fn file<'a>(arguments: &[Argument<'a>], place: usize) -> &'a str
     ensures { result.now ≡ file_of (map seen arguments.now) place }
 {

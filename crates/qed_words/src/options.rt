@@ -1,11 +1,12 @@
 //! The options of a transformation.
 ghost use Rattle.std.specs.Prelude.{◌≡◌, ◌+◌, ◌/◌, map};
-ghost use Rattle.qed_model.specs.Words.{options as options_of, is_split as is_split_of};
+ghost use Rattle.command_line.specs.Words.{options as options_of, is_split as is_split_of};
 ghost use Rattle.qed_words.specs.Seen.{seen};
 
 use crate::argument::Argument;
 use crate::given::{has_flag, number_given};
-use qed_model::{Key, Options};
+use command_line::Key;
+use qed_model::Options;
 
 /// Half of a number, rounded up: the greatest floor that leaves room.
 fn room(inst_max: u64) -> u64
@@ -15,7 +16,7 @@ fn room(inst_max: u64) -> u64
 }
 
 /// The options that arguments ask for.
-#[tactic(auto, unfolding(qed_model::specs::Words::options))]
+#[tactic(auto, unfolding(command_line::specs::Words::options))]
 pub fn options(arguments: &[Argument<'_>]) -> Options
     ensures { result ≡ options_of (map seen arguments.now) }
 {

@@ -1,15 +1,15 @@
 //! The first reason why arguments are no order.
 ghost use Rattle.std.specs.Prelude.{◌≡◌, map};
-ghost use Rattle.qed_model.specs.Words.{split_reason as split_reason_of, reason_of};
+ghost use Rattle.command_line.specs.Words.{split_reason as split_reason_of, reason_of};
 ghost use Rattle.qed_words.specs.Seen.{seen};
 
 use crate::argument::Argument;
 use crate::options::{is_split, options};
 use crate::value::first_wrong_value;
 use crate::wrong::{first_wrong, missing};
-use qed_model::{Command, Reason};
+use command_line::{Command, Reason};
 
-#[tactic(auto, unfolding(qed_model::specs::Words::split_reason))]
+#[tactic(auto, unfolding(command_line::specs::Words::split_reason))]
 fn split_reason(arguments: &[Argument<'_>]) -> Option<Reason>
     ensures { result ≡ split_reason_of (map seen arguments.now) }
 {
@@ -17,7 +17,7 @@ fn split_reason(arguments: &[Argument<'_>]) -> Option<Reason>
 }
 
 /// The first reason why arguments are no order.
-#[tactic(auto, unfolding(qed_model::specs::Words::reason_of))]
+#[tactic(auto, unfolding(command_line::specs::Words::reason_of))]
 pub fn first_reason(command: Command, arguments: &[Argument<'_>]) -> Option<Reason>
     ensures { result ≡ reason_of command (map seen arguments.now) }
 {

@@ -1,6 +1,6 @@
 //! What is wrong with a value.
 ghost use Rattle.std.specs.Prelude.{◌≡◌, map};
-ghost use Rattle.qed_model.specs.Words.{is_in_range as is_in_range_of, wrong_number as wrong_number_of, wrong_value as wrong_value_of, wrong_values as wrong_values_of, first_wrong_value as first_wrong_value_of};
+ghost use Rattle.command_line.specs.Words.{is_in_range as is_in_range_of, wrong_number as wrong_number_of, wrong_value as wrong_value_of, wrong_values as wrong_values_of, first_wrong_value as first_wrong_value_of};
 ghost use Rattle.qed_words.specs.Seen.{seen};
 
 use crate::argument::Argument;
@@ -8,8 +8,8 @@ use crate::commands::keys;
 use crate::given::{count_files, value_in};
 use crate::shape::{dump, fault};
 use crate::turns::wrong_turns;
+use command_line::{Command, Key, Reason};
 use qed_model::limits::MAX_HALF;
-use qed_model::{Command, Key, Reason};
 use texts::number;
 
 /// Whether a number is in an option's range.
@@ -37,7 +37,7 @@ fn wrong_number(key: Key, number: Option<u64>) -> Option<Reason>
 }
 
 /// What is wrong with an option's value, where there are `count` files.
-#[tactic(auto, unfolding(qed_model::specs::Words::wrong_value))]
+#[tactic(auto, unfolding(command_line::specs::Words::wrong_value))]
 fn wrong_value(count: usize, key: Key, value: &[u8]) -> Option<Reason>
     ensures { result ≡ wrong_value_of count key value.now }
 {
@@ -50,7 +50,7 @@ fn wrong_value(count: usize, key: Key, value: &[u8]) -> Option<Reason>
 }
 
 /// What is wrong with the first value of an option of which something is.
-#[tactic(auto, unfolding(qed_model::specs::Words::values, qed_model::specs::Words::wrong_values))]
+#[tactic(auto, unfolding(command_line::specs::Words::values, command_line::specs::Words::wrong_values))]
 fn wrong_values(arguments: &[Argument<'_>], key: Key) -> Option<Reason>
     ensures { result ≡ wrong_values_of (map seen arguments.now) key }
 {
@@ -67,7 +67,7 @@ fn wrong_values(arguments: &[Argument<'_>], key: Key) -> Option<Reason>
 }
 
 /// What is wrong with the values of the first option, in the command's order, of which something is.
-#[tactic(auto, unfolding(qed_model::specs::Words::first_wrong_value))]
+#[tactic(auto, unfolding(command_line::specs::Words::first_wrong_value))]
 pub fn first_wrong_value(command: Command, arguments: &[Argument<'_>]) -> Option<Reason>
     ensures { result ≡ first_wrong_value_of command (map seen arguments.now) }
 {

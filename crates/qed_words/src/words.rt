@@ -1,7 +1,7 @@
 //! The order that words ask for.
 ghost use Rattle.std.specs.Prelude.{◌≡◌, Ok, IfOk, IfErr, map, option_and_then};
-ghost use Rattle.qed_model.specs.declared.order.Key.TheVariants as key;
-ghost use Rattle.qed_model.specs.Words.{texts, dump as dump_of, value_of, file as file_of, steps_given as steps_given_of, order_of, asked};
+ghost use Rattle.command_line.specs.declared.order.Key.TheVariants as key;
+ghost use Rattle.command_line.specs.Words.{texts, dump as dump_of, value_of, file as file_of, steps_given as steps_given_of, order_of, asked};
 ghost use Rattle.qed_words.specs.Seen.{seen};
 ghost use Rattle.qed_words.specs.Sound.{IsSoundOrder};
 ghost use Rattle.qed_words.specs.WordsError.{Explains};
@@ -17,7 +17,7 @@ use crate::options::options;
 use crate::reason::first_reason;
 use crate::shape::dump;
 use crate::turns::turns_given;
-use qed_model::{Command, Key, Name, Order, Reason};
+use command_line::{Command, Key, Name, Order, Reason};
 use std::alloc::{AllocError, Global};
 
 /// The steps of a run where no option says otherwise.
@@ -31,7 +31,7 @@ fn name(alloc: Global, arguments: &[Argument<'_>], place: usize) -> Result<Name,
 }
 
 /// The greatest number of steps, or of turns.
-#[tactic(auto, unfolding(qed_model::specs::Words::steps_given))]
+#[tactic(auto, unfolding(command_line::specs::Words::steps_given))]
 fn steps_given(arguments: &[Argument<'_>]) -> u64
     ensures { result ≡ steps_given_of (map seen arguments.now) }
 {
@@ -46,7 +46,7 @@ fn dump_given(arguments: &[Argument<'_>]) -> Option<(u64, u64)>
 }
 
 /// The order that arguments ask for, where nothing is wrong with them.
-#[tactic(auto, unfolding(qed_model::specs::Words::order_of))]
+#[tactic(auto, unfolding(command_line::specs::Words::order_of))]
 fn make_order(
     alloc: Global,
     command: Command,
@@ -90,7 +90,7 @@ fn make_order(
 }
 
 /// What the words of the command line ask for. The first word names the command.
-#[tactic(auto, unfolding(qed_model::specs::Words::asked))]
+#[tactic(auto, unfolding(command_line::specs::Words::asked))]
 pub fn order(alloc: Global, words: &[String]) -> Result<Order, WordsError>
     ensures order { IfOk result (λ order. asked (texts words.now) ≡ Ok order) }
     ensures sound { IfOk result IsSoundOrder }

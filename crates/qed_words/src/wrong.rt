@@ -1,12 +1,12 @@
 //! What is wrong with words, and what is missing.
 ghost use Rattle.std.specs.Prelude.{◌≡◌, [], map};
-ghost use Rattle.qed_model.specs.Words.{is_value as is_value_of, wrong as wrong_of, first_wrong as first_wrong_of, lacks as lacks_of, missing as missing_of};
+ghost use Rattle.command_line.specs.Words.{is_value as is_value_of, wrong as wrong_of, first_wrong as first_wrong_of, lacks as lacks_of, missing as missing_of};
 ghost use Rattle.qed_words.specs.Seen.{seen};
 
 use crate::argument::Argument;
 use crate::commands::{least_files, most, most_files, required};
 use crate::given::{count_files, count_values, has_flag};
-use qed_model::{Command, Key, Reason};
+use command_line::{Command, Key, Reason};
 
 fn is_value(value: &[u8]) -> bool
     ensures { result ≡ is_value_of value.now }
@@ -18,7 +18,7 @@ fn is_value(value: &[u8]) -> bool
 }
 
 /// What is wrong with an argument, where those before it are known.
-#[tactic(auto, unfolding(qed_model::specs::Words::wrong))]
+#[tactic(auto, unfolding(command_line::specs::Words::wrong))]
 fn wrong(command: Command, before: &[Argument<'_>], argument: Argument<'_>) -> Option<Reason>
     ensures { result ≡ wrong_of command (map seen before.now) (seen argument.entry) }
 {
@@ -53,7 +53,7 @@ pub fn first_wrong(command: Command, arguments: &[Argument<'_>]) -> Option<Reaso
 }
 
 /// Whether an option is not given.
-#[tactic(auto, unfolding(qed_model::specs::Words::lacks))]
+#[tactic(auto, unfolding(command_line::specs::Words::lacks))]
 fn lacks(arguments: &[Argument<'_>], key: Key) -> bool
     ensures { result ≡ lacks_of (map seen arguments.now) key }
 {
@@ -61,7 +61,7 @@ fn lacks(arguments: &[Argument<'_>], key: Key) -> bool
 }
 
 /// What is missing: a file, or else the first option that must be given.
-#[tactic(auto, unfolding(qed_model::specs::Words::missing))]
+#[tactic(auto, unfolding(command_line::specs::Words::missing))]
 pub fn missing(command: Command, arguments: &[Argument<'_>]) -> Option<Reason>
     ensures { result ≡ missing_of command (map seen arguments.now) }
 {

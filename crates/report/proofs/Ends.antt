@@ -3,7 +3,7 @@ use Rattle.std.proofs.Common.{◌≡◌, ℕ, ◌^◌, ◌≤◌, ◌++◌, refl
 use Rattle.std.proofs.Math.Nat.{zero-sub}
 use Rattle.std.specs.Prelude.{codes}
 use Rattle.std.specs.Fmt.{digits, padded_integral}
-use Rattle.qed_model.specs.Text.Run.{hex_text}
+use Rattle.texts.specs.Printed.{hex_text}
 use Rattle.report.specs.Admission.{outside_line}
 
 -- it has 17 digits

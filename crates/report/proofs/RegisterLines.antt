@@ -2,7 +2,7 @@
 use Rattle.std.proofs.Common.{◌≡◌, ℕ, suc, ◌+◌, ◌-◌, ◌≤◌, List, ◌++◌, refl, sym, ap, ◌∙◌, arith, append_assoc}
 use Rattle.std.proofs.lemmas.List.{append-nil}
 use Rattle.qed_model.specs.Machine.Step.{State}
-use Rattle.qed_model.specs.Text.Run.{register_line, register_lines}
+use Rattle.command_line.specs.Text.Run.{register_line, register_lines}
 
 -- no line yet
 pub no_lines : (xs : List ℕ) (s : State) → xs ++ register_lines s 0 ≡ xs

@@ -3,8 +3,8 @@ use Rattle.std.specs.Prelude.{ℕ, List, ◌++◌, codes}
 use Rattle.qed_model.specs.declared.admit.AdmitError.{AdmitError}
 use Rattle.qed_model.specs.declared.admit.AdmitError.TheVariants as error
 use Rattle.qed_model.specs.declared.limits.Limit.TheVariants as limit
-use Rattle.qed_model.specs.Text.Run.{hex_text, word_text}
-use Rattle.qed_model.specs.Text.Errors.{numbered, limit_line, high_register_line}
+use Rattle.texts.specs.Printed.{hex_text, word_text}
+use Rattle.command_line.specs.Text.Errors.{numbered, limit_line, high_register_line}
 
 -- a line with one address in it
 abbrev addressed : List ℕ → ℕ → List ℕ

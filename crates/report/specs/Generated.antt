@@ -5,7 +5,7 @@ use Rattle.qed_model.specs.declared.machine.Outcome.{Outcome}
 use Rattle.qed_model.specs.declared.machine.Outcome.TheVariants.{Going, Ended, Fired, Trapped}
 use Rattle.qed_model.specs.declared.plan.Plan.{Plan}
 use Rattle.qed_model.specs.Machine.Progress.{Progress}
-use Rattle.qed_model.specs.Text.Plan.{bounds_text}
+use Rattle.command_line.specs.Text.Plan.{bounds_text}
 
 -- how a run stands, in one word
 abbrev pub outcome_word : Outcome → List ℕ

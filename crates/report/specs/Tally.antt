@@ -3,7 +3,7 @@ use Rattle.std.specs.Prelude.{ℕ, ◌+◌, max, cond, List, ◌++◌, codes}
 use Rattle.std.specs.Fmt.{decimal}
 use Rattle.qed_model.specs.declared.verdict.Verdict.{Verdict}
 use Rattle.qed_model.specs.declared.verdict.Struck.{Struck}
-use Rattle.qed_model.specs.Text.Campaign.{how_many, is_fired, is_ended, is_same, is_closed, is_not_reached, longest, fired_steps}
+use Rattle.command_line.specs.Text.Campaign.{how_many, is_fired, is_ended, is_same, is_closed, is_not_reached, longest, fired_steps}
 use Rattle.report.specs.declared.tally.Tally.{Tally}
 
 abbrev pub tally_of : List Struck → Tally

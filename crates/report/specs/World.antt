@@ -3,7 +3,7 @@ use Rattle.std.specs.Prelude.{ℕ, List, [], ◌++◌, codes, length, slice_get,
 use Rattle.std.specs.Fmt.{decimal}
 use Rattle.qed_model.specs.Below.{gather}
 use Rattle.qed_model.specs.Machine.Memory.{Memory}
-use Rattle.qed_model.specs.Text.Run.{run_lines}
+use Rattle.command_line.specs.Text.Run.{run_lines}
 use Rattle.harts.specs.Harts.{Hart, state_of}
 use Rattle.harts.specs.HartSteps.{Counted}
 

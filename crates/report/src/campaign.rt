@@ -1,6 +1,6 @@
 //! What is printed about strikes.
 ghost use Rattle.std.specs.Prelude.{◌≡◌, Some, IfOk, string_bytes};
-ghost use Rattle.qed_model.specs.Text.Campaign.{place_text, change_text, changes_text, verdict_text, strike_line, strike_lines, trapped_line, campaign_text};
+ghost use Rattle.command_line.specs.Text.Campaign.{place_text, change_text, changes_text, verdict_text, strike_line, strike_lines, trapped_line, campaign_text};
 
 use crate::hex::Hex;
 use crate::tally::summary_line;

@@ -1,6 +1,6 @@
 //! What the last line about strikes tells of them.
 ghost use Rattle.std.specs.Prelude.{◌≡◌, ◌+◌, ◌-◌, ◌^◌, ◌<◌, Some, IfOk, length, string_bytes};
-ghost use Rattle.qed_model.specs.Text.Campaign.{summary_line};
+ghost use Rattle.command_line.specs.Text.Campaign.{summary_line};
 ghost use Rattle.report.specs.Tally.{counted, tally_of, tally_text, with_verdict};
 
 use crate::transform::BoundsText;

@@ -4,7 +4,7 @@ use Rattle.std.specs.Char.{digit_value}
 use Rattle.std.proofs.lemmas.Bool.Decides.{nat_tests}
 use Rattle.std.proofs.lemmas.Option.{none-some, same_Some}
 use Rattle.std.proofs.Math.Nat.{mul-le-mul_right, pow-succ'}
-use Rattle.qed_model.specs.Words.{read_on, digits}
+use Rattle.texts.specs.Read.{read_on, digits}
 
 step : (n d p m : ℕ) → d < 16 → m < (n * 16 + d + 1) * p → m < (n + 1) * (16 * p)
 step n d p m small h = omega (arith, mul-le-mul_right p (let e : n * 16 + d + 1 ≤ (n + 1) * 16 = omega arith in e))

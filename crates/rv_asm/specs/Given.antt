@@ -1,7 +1,7 @@
 -- What a line gives, in its place.
 use Rattle.std.specs.Prelude.{ℕ, ◌+◌, ◌*◌, ◌==◌, nat_lt, Bool, true, false, if◌then◌else◌, Option, Some, None, unwrap_or, Result, Ok, Err, List, [], length}
 use Rattle.std.specs.Option.{ok_or}
-use Rattle.qed_model.specs.Words.{number}
+use Rattle.texts.specs.Read.{number}
 use Rattle.rv_asm.specs.declared.error.Fault.{Fault}
 use Rattle.rv_asm.specs.declared.error.Fault.TheVariants.{Unrecognized, IllegalOperands, RedefinedLabel, SectionFull}
 use Rattle.rv_asm.specs.declared.given.Given.{Given}

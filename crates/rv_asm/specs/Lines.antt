@@ -2,7 +2,7 @@
 use Rattle.std.specs.Prelude.{ℕ, ◌+◌, ◌-◌, ◌==◌, ◌&&◌, ◌||◌, Bool, false, if◌then◌else◌, Option, Some, None, option_map, List, [], ◌∷◌, length, take, drop}
 use Rattle.std.specs.List.{slice_split, prefix_len, suffix_len, list_all}
 use Rattle.std.specs.Char.{is_ascii_alphabetic, is_ascii_alphanumeric}
-use Rattle.qed_model.specs.Words.{colon, parted}
+use Rattle.texts.specs.Read.{colon, parted}
 
 -- ---- bytes
 abbrev pub newline : ℕ

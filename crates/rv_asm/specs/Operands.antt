@@ -4,7 +4,7 @@ use Rattle.std.specs.Option.{ok_or}
 use Rattle.std.specs.Str.{bytes_eq}
 use Rattle.rv_isa.specs.declared.kind.Kind.{Kind}
 use Rattle.qed_model.specs.Machine.Table.{ins, signed, encode_of}
-use Rattle.qed_model.specs.Words.{dash, digit_zero, letter_x, digits, number, register}
+use Rattle.texts.specs.Read.{dash, digit_zero, letter_x, digits, number, register}
 use Rattle.rv_text.specs.declared.forms.Form.{Form}
 use Rattle.rv_text.specs.declared.forms.Form.TheVariants.{Registers, Immediate, Load, Store, Branch, Upper, Jump, Bare}
 use Rattle.rv_text.specs.Forms.{form_of}

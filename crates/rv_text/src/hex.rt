@@ -1,6 +1,6 @@
 //! Hexadecimal numbers.
 ghost use Rattle.std.specs.Prelude.{Some};
-ghost use Rattle.qed_model.specs.Text.Run.{hex_text, word_text};
+ghost use Rattle.texts.specs.Printed.{hex_text, word_text};
 ghost use Rattle.rv_text.specs.Text.{upper_text};
 
 use std::fmt;

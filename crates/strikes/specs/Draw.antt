@@ -7,7 +7,7 @@ use Rattle.qed_model.specs.declared.change.Change.{Change}
 use Rattle.qed_model.specs.declared.plan.Plan.{Plan}
 use Rattle.qed_model.specs.Admission.DataRanges.{range_of, word_count}
 use Rattle.qed_model.specs.Below.{each}
-use Rattle.qed_model.specs.Words.{in_order}
+use Rattle.qed_model.specs.Promise.Changed.{in_order}
 use Rattle.random_words.specs.Random.{seeded, drawn, next, after}
 
 -- ---- places

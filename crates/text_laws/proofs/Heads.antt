@@ -7,7 +7,7 @@ use Rattle.std.proofs.lemmas.Slice.Eq.{bytes_eq-Decides}
 use Rattle.rv_isa.specs.declared.kind.Kind.{Kind}
 use Rattle.qed_model.specs.Machine.Kinds.{IsAmong}
 use Rattle.qed_model.specs.Machine.Table.{kinds}
-use Rattle.qed_model.specs.Words.{parted}
+use Rattle.texts.specs.Read.{parted}
 use Rattle.qed_model.proofs.EachKind.{has_kind, each_in, each_kind}
 use Rattle.rv_text.specs.Names.{name_of}
 use Rattle.rv_asm.specs.declared.heads.Head.{Head}

@@ -5,8 +5,8 @@ use Rattle.std.proofs.lemmas.Bool.{and_parts, lt-ltb, not-true, not_from_false, 
 use Rattle.std.proofs.lemmas.List.{take_at, drop_at, length-append}
 use Rattle.rv_isa.specs.declared.ins.Ins.{Ins}
 use Rattle.qed_model.specs.Machine.Table.{decode_of}
-use Rattle.qed_model.specs.Text.Run.{word_text}
-use Rattle.qed_model.specs.Words.{colon, parted}
+use Rattle.texts.specs.Printed.{word_text}
+use Rattle.texts.specs.Read.{colon, parted}
 use Rattle.rv_text.specs.Forms.{form_of}
 use Rattle.rv_text.specs.Names.{name_of}
 use Rattle.rv_text.specs.Text.{operands_text, text_with, text_of}

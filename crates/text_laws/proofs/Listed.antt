@@ -3,7 +3,7 @@ use Rattle.std.proofs.Common.{◌≡◌, ℕ, ◌^◌, ◌<◌, true, List, [], 
 use Rattle.std.proofs.lemmas.List.Elements.{All-tail}
 use Rattle.elf_types.specs.declared.file.ElfFile.{ElfFile}
 use Rattle.qed_model.specs.Admission.CodeWords.{word_at}
-use Rattle.qed_model.specs.Text.Run.{hex_text, word_text}
+use Rattle.texts.specs.Printed.{hex_text, word_text}
 use Rattle.listing.specs.Listing.{line as listed_line, lines as listed_lines, IsListing}
 use Rattle.rv_text.specs.Text.{text_of}
 use Rattle.rv_asm.specs.Assembled.{Assembled}

@@ -8,8 +8,8 @@ use Rattle.std.proofs.lemmas.Bool.{agree_below_at, and_from, and_parts, and_righ
 use Rattle.std.proofs.lemmas.Fmt.{length-decimal-le, decimal_nonempty}
 use Rattle.std.proofs.lemmas.List.{length-replicate, length-append}
 use Rattle.std.proofs.Math.Nat.{pow-succ'}
-use Rattle.qed_model.specs.Text.Run.{hex_digits}
-use Rattle.qed_model.specs.Words.{read_on, digits as digits_in, number, dash}
+use Rattle.texts.specs.Printed.{hex_digits}
+use Rattle.texts.specs.Read.{read_on, digits as digits_in, number, dash}
 use Rattle.rv_asm.specs.Operands.{immediate_in}
 
 -- ---- one digit

@@ -6,7 +6,7 @@ use Rattle.std.proofs.lemmas.Bool.{and_parts, and_from, eq-eqb, ne_eqb, not-true
 use Rattle.std.proofs.lemmas.List.{take_all, take_at, length-append, get_or-append_right, reverse-append}
 use Rattle.std.proofs.lemmas.List.Folds.{list_all-append}
 use Rattle.std.proofs.lemmas.List.Sums.{AllPass-from_list_all, suffix_len_is}
-use Rattle.qed_model.specs.Words.{parted, around}
+use Rattle.texts.specs.Read.{parted, around}
 use Rattle.rv_asm.specs.Lines.{is_blank, hash, newline, comma, opening, closing, trim, trim_start, trim_end, pair_in, triple_in, bracketed_in, trimmed, triple_from, triple_with, bracketed_from, bracketed_with}
 
 -- ---- tests of bytes

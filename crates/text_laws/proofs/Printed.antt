@@ -6,8 +6,8 @@ use Rattle.std.specs.List.{list_all}
 use Rattle.std.proofs.lemmas.Bool.{agree_below_at, eqb-true, leb-true}
 use Rattle.std.proofs.lemmas.Fmt.{decimal_nonempty, length_signed_le}
 use Rattle.std.proofs.lemmas.List.{length-append}
-use Rattle.qed_model.specs.Text.Run.{hex_digits, word_text}
-use Rattle.qed_model.specs.Words.{digits as digits_in, number, register}
+use Rattle.texts.specs.Printed.{hex_digits, word_text}
+use Rattle.texts.specs.Read.{digits as digits_in, number, register}
 use Rattle.rv_text.specs.Text.{register_text, place_text, upper_text}
 use Rattle.rv_asm.specs.Lines.{comma, opening, closing, bracketed_in}
 use Rattle.rv_asm.specs.Operands.{register_in, immediate_in, raw_word_in}

@@ -1,7 +1,7 @@
 //! Texts in two parts.
 ghost use Rattle.std.specs.Prelude.{◌≡◌, ◌<◌, ◌==◌, MatchOption, IfSome, length, Some, None};
 ghost use Rattle.std.specs.List.{position_from};
-ghost use Rattle.qed_model.specs.Words.{parted};
+ghost use Rattle.texts.specs.Read.{parted};
 
 /// The first place of the byte `at`.
 fn place_of(text: &[u8], at: u8) -> Option<usize>
@@ -17,7 +17,7 @@ fn place_of(text: &[u8], at: u8) -> Option<usize>
 }
 
 /// The texts before and behind the first byte `at`, None where there is none.
-#[tactic(auto, unfolding(qed_model::specs::Words::parted))]
+#[tactic(auto, unfolding(crate::specs::Read::parted))]
 pub fn split_once(text: &[u8], at: u8) -> Option<(&[u8], &[u8])>
     ensures { MatchOption result (parted at text.now ≡ None) (λ parts. parted at text.now ≡ Some (parts.0.now, parts.1.now)) }
 {

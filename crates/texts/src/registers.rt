@@ -1,6 +1,6 @@
 //! Registers.
 ghost use Rattle.std.specs.Prelude.{◌≡◌};
-ghost use Rattle.qed_model.specs.Words.{register_numbered, register as register_of};
+ghost use Rattle.texts.specs.Read.{register_numbered, register as register_of};
 
 use crate::numbers::digits;
 use rv_isa::Reg;
@@ -16,7 +16,7 @@ fn numbered(number: u64) -> Option<Reg>
 }
 
 /// A register from x1 to x31, from its number in decimal without leading zeros.
-#[tactic(auto, unfolding(qed_model::specs::Words::register))]
+#[tactic(auto, unfolding(crate::specs::Read::register))]
 pub fn register(text: &[u8]) -> Option<Reg>
     ensures { result ≡ register_of text.now }
 {

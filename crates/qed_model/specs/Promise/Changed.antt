@@ -1,5 +1,5 @@
 -- Runs with changes.
-use Rattle.std.specs.Prelude.{◌≡◌, ℕ, zero, suc, ◌+◌, ◌%◌, ◌≤◌, ◌⊎◌, Bool, true, false, cond, ◌||◌, ◌==◌, List, [], ◌∷◌}
+use Rattle.std.specs.Prelude.{◌≡◌, ℕ, zero, suc, ◌+◌, ◌%◌, ◌≤◌, ◌⊎◌, Bool, true, false, cond, ◌||◌, ◌==◌, List, [], ◌∷◌, nat_le, if◌then◌else◌, fold}
 use Rattle.qed_model.specs.declared.change.Place.{Place}
 use Rattle.qed_model.specs.declared.change.Place.TheVariants.{Reg, Word}
 use Rattle.qed_model.specs.declared.change.Change.{Change}
@@ -37,6 +37,15 @@ abbrev pub Ordered : List Change → Type 0
 Ordered [] = Unit {0}
 Ordered (c ∷ []) = Unit {0}
 Ordered (c ∷ d ∷ cs) = (c.step ≤ d.step) × Ordered (d ∷ cs)
+
+-- changes with one more, which stands behind those whose step is not greater
+abbrev pub with_change : List Change → Change → List Change
+with_change [] c = c ∷ []
+with_change (d ∷ ds) c = if nat_le d.step c.step then d ∷ with_change ds c else c ∷ d ∷ ds
+
+-- changes in the order of their steps, those of equal steps in their own order
+abbrev pub in_order : List Change → List Change
+in_order changes = fold with_change [] changes
 
 -- the step of the last change; 0 where there is none
 abbrev pub last_step : List Change → ℕ

@@ -1,5 +1,5 @@
 use Rattle.qed_io.specs.Counts.{RoseAt}
-use Rattle.qed_model.specs.Words.{texts}
+use Rattle.command_line.specs.Words.{texts}
 use Rattle.qed_top.proofs.Meanings.{over_order, over_usage}
 use Rattle.qed_top.proofs.decide.decide.Goals as goal
 

@@ -1,6 +1,6 @@
 use Rattle.std.proofs.Common.{rules, ◌≡◌, false, sym, subst}
 use Rattle.qed_io.specs.Counts.{RoseAt}
-use Rattle.qed_model.specs.declared.order.Order.{Order}
+use Rattle.command_line.specs.declared.order.Order.{Order}
 use Rattle.qed_top.specs.Loads.{OverLoads}
 use Rattle.qed_top.specs.Orders.{OrderCallsFor, reads_several}
 use Rattle.qed_top.proofs.Meanings.{over_one}

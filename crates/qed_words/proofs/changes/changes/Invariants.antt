@@ -1,7 +1,8 @@
 use Rattle.std.proofs.Common.{◌≡◌, map, drop}
 use Rattle.std.specs.Prelude.{fold, filter_map}
-use Rattle.qed_model.specs.declared.order.Key.TheVariants.{Fault}
-use Rattle.qed_model.specs.Words.{fault, values, with_change, changes_given}
+use Rattle.command_line.specs.declared.order.Key.TheVariants.{Fault}
+use Rattle.command_line.specs.Words.{fault, values, changes_given}
+use Rattle.qed_model.specs.Promise.Changed.{with_change}
 use Rattle.qed_words.specs.Seen.{seen}
 use Rattle.qed_words.proofs.changes.changes.Given as goal
 

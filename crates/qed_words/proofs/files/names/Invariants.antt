@@ -1,5 +1,5 @@
 use Rattle.std.proofs.Common.{◌≡◌, ◌++◌, drop, map}
-use Rattle.qed_model.specs.Words.{files}
+use Rattle.command_line.specs.Words.{files}
 use Rattle.qed_words.specs.Seen.{seen}
 use Rattle.qed_words.proofs.files.names.Given as goal
 

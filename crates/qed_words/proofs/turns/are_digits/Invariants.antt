@@ -1,6 +1,6 @@
 use Rattle.std.proofs.Common.{◌≡◌, drop}
 use Rattle.std.specs.List.{list_all}
-use Rattle.qed_model.specs.Words.{is_digit}
+use Rattle.command_line.specs.Words.{is_digit}
 use Rattle.qed_words.proofs.turns.are_digits.Given as goal
 
 -- the rest decides

@@ -1,5 +1,5 @@
 use Rattle.std.proofs.Common.{◌≡◌, map, drop}
-use Rattle.qed_model.specs.Words.{first_reason, wrong_values, keys_of}
+use Rattle.command_line.specs.Words.{first_reason, wrong_values, keys_of}
 use Rattle.qed_words.specs.Seen.{seen}
 use Rattle.qed_words.proofs.value.first_wrong_value.Given as goal
 

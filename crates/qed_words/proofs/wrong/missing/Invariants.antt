@@ -1,6 +1,6 @@
 use Rattle.std.proofs.Common.{◌≡◌, map, drop}
 use Rattle.std.specs.Prelude.{find}
-use Rattle.qed_model.specs.Words.{lacks, required_of}
+use Rattle.command_line.specs.Words.{lacks, required_of}
 use Rattle.qed_words.specs.Seen.{seen}
 use Rattle.qed_words.proofs.wrong.missing.Given as goal
 

@@ -1,5 +1,5 @@
 use Rattle.std.proofs.Common.{◌≡◌, ◌++◌, drop}
-use Rattle.qed_model.specs.Text.Campaign.{strike_lines}
+use Rattle.command_line.specs.Text.Campaign.{strike_lines}
 use Rattle.report.proofs.campaign.strike_lines.Given as goal
 
 -- the lines so far and those of the rest are all

@@ -1,5 +1,5 @@
 use Rattle.std.proofs.Common.{sym, ap, ◌∙◌, ◌-◌, ◌++◌}
-use Rattle.qed_model.specs.Text.Run.{outcome_line, register_lines}
+use Rattle.command_line.specs.Text.Run.{outcome_line, register_lines}
 use Rattle.rv_step.specs.Harts.{with_memory}
 use Rattle.report.proofs.RegisterLines.{no_lines, more_lines}
 use Rattle.report.proofs.run.run_lines.Goals as goal

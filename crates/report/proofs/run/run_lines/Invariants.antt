@@ -1,6 +1,6 @@
 use Rattle.std.proofs.Common.{◌≡◌, ◌-◌, ◌++◌}
 use Rattle.qed_model.specs.Machine.Memory.{Memory}
-use Rattle.qed_model.specs.Text.Run.{outcome_line, register_lines}
+use Rattle.command_line.specs.Text.Run.{outcome_line, register_lines}
 use Rattle.rv_step.specs.Harts.{with_memory}
 use Rattle.report.proofs.run.run_lines.Given as goal
 

@@ -1,6 +1,6 @@
 use Rattle.std.proofs.Common.{◌≡◌, ◌+◌, ◌*◌, map, refl, ap, ◌∙◌, arith}
 use Rattle.qed_model.specs.Admission.DataRanges.{range_of}
-use Rattle.qed_model.specs.Words.{in_order}
+use Rattle.qed_model.specs.Promise.Changed.{in_order}
 use Rattle.qed_model.proofs.BelowLaws.{each_none}
 use Rattle.random_words.specs.Random.{after}
 use Rattle.random_words.proofs.Words.{after-more}

@@ -1,7 +1,7 @@
 use Rattle.std.proofs.Common.{◌≡◌, ◌*◌, map}
 use Rattle.qed_model.specs.Admission.DataRanges.{range_of}
 use Rattle.qed_model.specs.Below.{each}
-use Rattle.qed_model.specs.Words.{in_order}
+use Rattle.qed_model.specs.Promise.Changed.{in_order}
 use Rattle.random_words.specs.Random.{after}
 use Rattle.strikes.specs.Draw.{drawn_change}
 use Rattle.strikes.proofs.draw.drawn_strike.Given as goal

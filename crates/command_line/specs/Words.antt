@@ -1,24 +1,26 @@
 -- What the words of the command line ask for: an order, or the first reason why they ask for none. A text is its bytes.
-use Rattle.std.specs.Prelude.{ℕ, ◌+◌, ◌*◌, ◌/◌, ◌%◌, ◌^◌, ◌==◌, nat_lt, nat_le, min, Bool, true, false, not, ◌&&◌, ◌||◌, if◌then◌else◌, Option, Some, None, is_some, unwrap_or, option_map, option_and_then, Result, Ok, Err, List, [], ◌∷◌, ◌++◌, map, fold, length, take, drop, filter_map, find, slice_get, slice_index_or, codes, String, string_bytes}
+use Rattle.std.specs.Prelude.{ℕ, ◌+◌, ◌*◌, ◌/◌, ◌%◌, ◌^◌, ◌==◌, nat_lt, nat_le, min, Bool, true, false, not, ◌&&◌, ◌||◌, if◌then◌else◌, Option, Some, None, is_some, unwrap_or, option_map, option_and_then, Result, Ok, Err, List, [], ◌∷◌, ◌++◌, map, length, filter_map, find, slice_get, slice_index_or, codes, String, string_bytes}
 use Rattle.std.specs.Option.{option_or}
 use Rattle.std.specs.Str.{bytes_eq}
-use Rattle.std.specs.List.{position_from, list_any, list_all}
+use Rattle.std.specs.List.{list_any, list_all}
 use Rattle.std.specs.Char.{digit_value}
 use Rattle.qed_model.specs.declared.change.Place.{Place}
 use Rattle.qed_model.specs.declared.change.Place.TheVariants.{Reg, Word}
 use Rattle.qed_model.specs.declared.change.Change.{Change}
 use Rattle.qed_model.specs.declared.limits.TheConstants.{MAX_HALF}
 use Rattle.qed_model.specs.declared.options.Options.{Options}
-use Rattle.qed_model.specs.declared.order.Command.{Command}
-use Rattle.qed_model.specs.declared.order.Command.TheVariants.{Transform, Plan, Run, Campaign, Gen, Asm, Harts}
-use Rattle.qed_model.specs.declared.order.Command.TheVariants as command
-use Rattle.qed_model.specs.declared.order.Order.{Order}
-use Rattle.qed_model.specs.declared.order.Order.TheVariants as order
-use Rattle.qed_model.specs.declared.order.Key.{Key}
-use Rattle.qed_model.specs.declared.order.Key.TheVariants.{InstMin, InstMax, Round, Half, Steps, Fault, Dump, Seed, Count, Size, Changes, Turns}
-use Rattle.qed_model.specs.declared.order.Reason.{Reason}
-use Rattle.qed_model.specs.declared.order.Reason.TheVariants.{NoCommand, UnknownCommand, EmptyWord, UnknownOption, Repeated, MissingValue, ExtraWord, MissingFile, MissingOption, BadNumber, BadShape, OutOfRange, Split}
+use Rattle.command_line.specs.declared.order.Command.{Command}
+use Rattle.command_line.specs.declared.order.Command.TheVariants.{Transform, Plan, Run, Campaign, Gen, Asm, Harts}
+use Rattle.command_line.specs.declared.order.Command.TheVariants as command
+use Rattle.command_line.specs.declared.order.Order.{Order}
+use Rattle.command_line.specs.declared.order.Order.TheVariants as order
+use Rattle.command_line.specs.declared.order.Key.{Key}
+use Rattle.command_line.specs.declared.order.Key.TheVariants.{InstMin, InstMax, Round, Half, Steps, Fault, Dump, Seed, Count, Size, Changes, Turns}
+use Rattle.command_line.specs.declared.order.Reason.{Reason}
+use Rattle.command_line.specs.declared.order.Reason.TheVariants.{NoCommand, UnknownCommand, EmptyWord, UnknownOption, Repeated, MissingValue, ExtraWord, MissingFile, MissingOption, BadNumber, BadShape, OutOfRange, Split}
 use Rattle.qed_model.specs.Options.{default_options}
+use Rattle.texts.specs.Read.{dash, colon, equals, letter_x, digits, number, parted, register}
+use Rattle.qed_model.specs.Promise.Changed.{in_order}
 
 -- ---- words and bytes
 
@@ -26,60 +28,7 @@ use Rattle.qed_model.specs.Options.{default_options}
 abbrev pub texts : {A : Type 0} → List (String A) → List (List ℕ)
 texts words = map string_bytes words
 
--- `-`
-abbrev pub dash : ℕ
-dash = 45
-
--- `0`
-abbrev pub digit_zero : ℕ
-digit_zero = 48
-
--- `:`
-abbrev pub colon : ℕ
-colon = 58
-
--- `=`
-abbrev pub equals : ℕ
-equals = 61
-
--- `x`
-abbrev pub letter_x : ℕ
-letter_x = 120
-
--- ---- numbers
-
--- the number n with the digits of a text behind it; None where one is no digit, or from 2^64 on
-abbrev pub read_on : ℕ → ℕ → List ℕ → Option ℕ
-read_on base n [] = Some n
-read_on base n (c ∷ cs) =
-    if nat_lt (digit_value c) base && nat_lt (n * base + digit_value c) (2 ^ 64) then read_on base (n * base + digit_value c) cs else None
-
--- a number of 1 to `most` digits
-unfoldable pub digits : ℕ → ℕ → List ℕ → Option ℕ
-digits base most text = if nat_le 1 (length text) && nat_le (length text) most then read_on base 0 text else None
-
--- a number: 1 to 20 decimal digits, or `0x` and 1 to 16 hexadecimal digits of either case
-unfoldable pub number : List ℕ → Option ℕ
-number (a ∷ b ∷ rest) = if a == digit_zero && b == letter_x then digits 16 16 rest else digits 10 20 (a ∷ b ∷ rest)
-number text = digits 10 20 text
-
 -- ---- faults and dumps
-
--- the texts before and behind place i
-abbrev pub around : List ℕ → ℕ → List ℕ × List ℕ
-around text i = (take i text, drop (i + 1) text)
-
--- the texts before and behind the first byte c
-unfoldable pub parted : ℕ → List ℕ → Option (List ℕ × List ℕ)
-parted c text = option_map (around text) (position_from (λ b. b == c) 0 text)
-
-abbrev pub register_numbered : ℕ → Option ℕ
-register_numbered r = if nat_le 1 r && nat_le r 31 then Some r else None
-
--- a register from 1 to 31, in decimal without leading zeros
-unfoldable pub register : List ℕ → Option ℕ
-register [] = None
-register (c ∷ cs) = if c == digit_zero then None else option_and_then register_numbered (digits 10 2 (c ∷ cs))
 
 abbrev pub word_at : ℕ → Option Place
 word_at address = if address % 8 == 0 then Some (Word address) else None
@@ -406,15 +355,6 @@ abbrev pub is_split : Options → Bool
 is_split o = nat_lt (o.inst_max + 1) (2 * o.inst_min)
 
 -- ---- the order
-
--- changes with one more, which stands behind those whose step is not greater
-abbrev pub with_change : List Change → Change → List Change
-with_change [] c = c ∷ []
-with_change (d ∷ ds) c = if nat_le d.step c.step then d ∷ with_change ds c else c ∷ d ∷ ds
-
--- changes in the order of their steps, those of equal steps in their own order
-abbrev pub in_order : List Change → List Change
-in_order changes = fold with_change [] changes
 
 -- the changes that faults ask for
 unfoldable pub changes_given : List Argument → List Change

@@ -1,9 +1,10 @@
 //! What the words of the command line ask for.
 ghost use Rattle.std.specs.Prelude.{◌≡◌};
-ghost use Rattle.qed_model.specs.Words.{name_of};
+ghost use Rattle.command_line.specs.Words.{name_of};
 
-use crate::{Changes, Name, Names, Options};
+use crate::{Name, Names};
 use elf_types::Bytes;
+use qed_model::{Changes, Options};
 
 /// A command, without its files and options.
 #[derive(Clone, Copy, Debug, PartialEq, Eq)]

@@ -1,10 +1,10 @@
 -- What is printed where the words of the command line ask for nothing. Each line ends with a newline.
 use Rattle.std.specs.Prelude.{ℕ, List, ◌++◌, codes}
-use Rattle.qed_model.specs.declared.order.Key.{Key}
-use Rattle.qed_model.specs.declared.order.Reason.{Reason}
-use Rattle.qed_model.specs.declared.order.Reason.TheVariants as reason
-use Rattle.qed_model.specs.Text.Errors.{numbered}
-use Rattle.qed_model.specs.Words.{name_of}
+use Rattle.command_line.specs.declared.order.Key.{Key}
+use Rattle.command_line.specs.declared.order.Reason.{Reason}
+use Rattle.command_line.specs.declared.order.Reason.TheVariants as reason
+use Rattle.command_line.specs.Text.Errors.{numbered}
+use Rattle.command_line.specs.Words.{name_of}
 
 -- a line with the name of an option, without its dashes
 abbrev pub keyed : List ℕ → Key → List ℕ

@@ -4,7 +4,7 @@ use Rattle.std.specs.Fmt.{decimal}
 use Rattle.qed_model.specs.declared.limits.Limit.{Limit}
 use Rattle.qed_model.specs.declared.limits.Limit.TheVariants as limit
 use Rattle.qed_model.specs.Limits.{limit_of, limit_number, is_counted}
-use Rattle.qed_model.specs.Text.Run.{hex_text}
+use Rattle.texts.specs.Printed.{hex_text}
 use Rattle.elf_types.specs.declared.error.ElfError.{ElfError}
 use Rattle.elf_types.specs.declared.error.ElfError.TheVariants as error
 use Rattle.elf_types.specs.declared.error.Part.{Part}

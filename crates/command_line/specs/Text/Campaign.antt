@@ -8,8 +8,8 @@ use Rattle.qed_model.specs.declared.plan.Plan.{Plan}
 use Rattle.qed_model.specs.declared.verdict.Verdict.{Verdict}
 use Rattle.qed_model.specs.declared.verdict.Verdict.TheVariants.{Closed, NotReached, Fired, Ended, Same}
 use Rattle.qed_model.specs.declared.verdict.Struck.{Struck}
-use Rattle.qed_model.specs.Text.Plan.{bounds_text}
-use Rattle.qed_model.specs.Text.Run.{hex_text}
+use Rattle.command_line.specs.Text.Plan.{bounds_text}
+use Rattle.texts.specs.Printed.{hex_text}
 
 -- ---- one strike
 

@@ -1,7 +1,7 @@
 -- What is printed about a run. Each line ends with a newline.
-use Rattle.std.specs.Prelude.{ℕ, zero, suc, ◌+◌, ◌-◌, ◌*◌, ◌/◌, ◌^◌, min, List, [], ◌++◌, codes, false, Option, Some, None, option_map}
+use Rattle.std.specs.Prelude.{ℕ, zero, suc, ◌+◌, ◌-◌, ◌*◌, ◌/◌, min, List, [], ◌++◌, codes, Option, Some, None, option_map}
 use Rattle.std.specs.FinMap.{get}
-use Rattle.std.specs.Fmt.{decimal, digits, padded_integral, format_spec}
+use Rattle.std.specs.Fmt.{decimal, digits}
 use Rattle.qed_model.specs.declared.machine.Cause.{Cause}
 use Rattle.qed_model.specs.declared.machine.Cause.TheVariants.{Fetch, Word, Load, Store, Target}
 use Rattle.qed_model.specs.declared.machine.Outcome.{Outcome}
@@ -9,18 +9,7 @@ use Rattle.qed_model.specs.declared.machine.Outcome.TheVariants.{Going, Ended, F
 use Rattle.qed_model.specs.Machine.Memory.{Memory}
 use Rattle.qed_model.specs.Machine.Step.{State, reg}
 use Rattle.qed_model.specs.Machine.Progress.{Progress}
-
--- at least so many lower-case hexadecimal digits, with zeros in front
-abbrev pub hex_digits : ℕ → ℕ → List ℕ
-hex_digits count x = padded_integral (format_spec 32 0 4 count (2 ^ 64 - 1)) false [] (digits 16 false x)
-
--- `0x` and 16 digits
-abbrev pub hex_text : ℕ → List ℕ
-hex_text x = codes "0x" ++ hex_digits 16 x
-
--- `0x` and 8 digits
-abbrev pub word_text : ℕ → List ℕ
-word_text x = codes "0x" ++ hex_digits 8 x
+use Rattle.texts.specs.Printed.{hex_digits, hex_text, word_text}
 
 abbrev pub cause_text : Cause → List ℕ
 cause_text Fetch = codes "fetch"
