@@ -1,71 +1,29 @@
 -- The laws of the end with the sweep.
-use Rattle.std.proofs.Common.{◌≡◌, ℕ, ◌+◌, ◌*◌, ◌%◌, ◌^◌, Bool, true, cond, List, [], ◌∷◌, ◌++◌, length, inr, refl, sym, ap, ◌∙◌, subst, arith, append_assoc}
+use Rattle.std.proofs.Common.{◌≡◌, ℕ, ◌+◌, ◌%◌, ◌^◌, Bool, true, List, [], ◌∷◌, ◌++◌, refl, sym, ap, ◌∙◌, subst, arith}
 use Rattle.std.specs.Prelude.{pos, neg_ℤ}
 use Rattle.rv_isa.specs.declared.ins.Ins.{Ins}
 use Rattle.rv_isa.specs.declared.kind.Kind.TheVariants.{Addi, Auipc, Bne}
 use Rattle.rv_isa.specs.declared.class.Class.TheVariants as class
 use Rattle.rv_isa.specs.Kind.{class_of}
 use Rattle.qed_model.specs.Machine.Table.{ins}
-use Rattle.qed_model.specs.declared.machine.Outcome.TheVariants.{Ended}
-use Rattle.qed_model.specs.declared.item.Item.{Item}
 use Rattle.qed_model.specs.declared.item.Item.TheVariants.{Plain, Constant}
 use Rattle.qed_model.specs.Weave.Placed.{distance_between, upper_part, lower_part}
-use Rattle.qed_model.specs.Weave.Bounds.{end_bound}
-use Rattle.qed_model.specs.Admission.DataRanges.{word_count}
-use Rattle.qed_model.specs.Machine.Step.{moved, stopped}
-use Rattle.qed_model.specs.Weave.Sequences.{Form, sweep, sweep_range, compare, before_end, leave_as, mirrored}
-use Rattle.qed_model.proofs.Walk.{over_moved}
-use Rattle.qed_model.proofs.Walked.{walk_on}
-use Rattle.weave_core.specs.World.{World, Quiet as Calm}
-use Rattle.weave_core.specs.Rows.{At}
+use Rattle.qed_model.specs.Weave.Sequences.{Form, sweep, sweep_range, compare, leave_as, mirrored}
 use Rattle.weave_core.specs.Lock.{first_load, mirror_place, second_load, word_check}
 use Rattle.weave_core.specs.KindItems.{LockItems, LandItems, end_ends}
-use Rattle.weave_core.proofs.Leaves.{end_walk}
-use Rattle.weave_core.proofs.Endings.{Closes, Swept, endings}
 use Rattle.weave_core.proofs.KindItems.{leave_items}
 use Rattle.weave_core.proofs.Landing.{land_leave, plain_mirrors_fit}
 use Rattle.passes.specs.Honest.{NoBreak, words, HonestItems}
-use Rattle.passes.specs.Pass.{Views, Leads, Quiet, Honest, Lockstep}
+use Rattle.passes.specs.Pass.{Honest, Lockstep}
 use Rattle.passes.specs.Compose.{honest_items_then, honest_items_none}
 use Rattle.passes.proofs.HonestWords.{brk, other_word, honest_end, honest_constant}
 use Rattle.eddi_dup.specs.Laws.{honest_compare}
-use Rattle.end_sweep.specs.Ending.{swept_end, Sweeps, Swept_to}
+use Rattle.end_sweep.specs.Ending.{swept_end}
+pub use Rattle.weave_core.proofs.LeaveLaws.{quiet_sweep}
 
 -- every form of the code suits
 abbrev pub any : Bool → Type 0
 any far = Unit {0}
-
--- ---- Quiet
-pub quiet_sweep :
-    (spans : List (ℕ × ℕ)) (i : Ins) → class_of i.kind ≡ class.End
-    → Quiet any (swept_end spans i) (λ w. Sweeps w spans) (λ w v n z. ⊥) (λ w. Swept_to w) (end_bound true (length spans) (word_count spans))
-quiet_sweep spans i k = record { leads = λ w v rest s st need. row w v rest need st } where
-  -- behind the comparisons
-  ends :
-      (w : World) (v : Views) (rest : List Item) (most : ℕ) → w.form.spans ≡ spans → w.form.sweep ≡ true
-      → At w v.now (swept_end spans i ++ rest) v.original v.original → Swept w v.now most (Plain i ∷ rest)
-      → Leads w v (end_bound true (length spans) (word_count spans)) rest (λ n z. ⊥) (Swept_to w v)
-  ends w v rest most e f a x =
-      let u = moved x.regs x.sets.pc v.now in
-      let c : Closes w v.now (x.steps + 1) = x.closes f in
-      let count : 2 * length w.form.spans + 8 * word_count w.form.spans ≡ 2 * length spans + 8 * word_count spans = ap (λ l. 2 * length l + 8 * word_count l) e in
-      record {
-        steps = x.steps + 1;
-        to = record { now = stopped Ended u; original = v.original; shadow = v.original };
-        within = omega (arith, c.exact, count);
-        walk = walk_on (Calm w) v.now u (stopped Ended u) x.steps 1 x.sets.walk (end_walk w u i (over_moved w.code v.now x.regs x.sets.pc a.over) x.sets.reads.0 k);
-        ends = inr (record { ended = refl; original = refl; shadow = refl; memory = refl; originals = x.same; closes = c });
-      }
-
-  row :
-      (w : World) (v : Views) (rest : List Item) → Sweeps w spans v → At w v.now (swept_end spans i ++ rest) v.original v.shadow
-      → Leads w v (end_bound true (length spans) (word_count spans)) rest (λ n z. ⊥) (Swept_to w v)
-  row w v rest need st =
-      let a = subst (λ t. At w v.now (swept_end spans i ++ rest) v.original t) (sym need.same) st in
-      let b : At w v.now ((sweep spans ++ compare) ++ (Plain i ∷ rest)) v.original v.original = subst (λ l. At w v.now l v.original v.original) (append_assoc (sweep spans ++ compare) (Plain i ∷ []) rest) a in
-      let d : At w v.now ((sweep w.form.spans ++ compare) ++ (Plain i ∷ rest)) v.original v.original = subst (λ l. At w v.now ((sweep l ++ compare) ++ (Plain i ∷ rest)) v.original v.original) (sym need.spans_are) b in
-      let g : At w v.now (before_end w.form ++ (Plain i ∷ rest)) v.original v.original = subst (λ b. At w v.now (cond b (sweep w.form.spans ++ compare) [] ++ (Plain i ∷ rest)) v.original v.original) (sym need.sweeps) d in
-      ends w v rest (end_bound w.form.sweep (length w.form.spans) (word_count w.form.spans)) need.spans_are need.sweeps a ((endings w).row v.now v.original (Plain i ∷ rest) g)
 
 -- ---- Lockstep
 -- a form with the sweep over the ranges

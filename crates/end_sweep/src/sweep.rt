@@ -69,7 +69,7 @@ impl Pass for Sweep {
     ghost use Rattle.qed_model.specs.Weave.Bounds.{end_bound};
     ghost use Rattle.qed_model.specs.Admission.DataRanges.{word_count};
     ghost use Rattle.plc_rounds.specs.Spans.{spans_of};
-    ghost use Rattle.end_sweep.specs.Ending.{swept_end, Sweeps, Swept_to};
+    ghost use Rattle.end_sweep.specs.Ending.{swept_end, Sweeps, SweptTo};
     ghost use Rattle.end_sweep.specs.Laws.{any, quiet_sweep, honest_sweep, lockstep_sweep};
 
     ghost is_for = { λ p i at. class_of i.kind ≡ class.End };
@@ -86,7 +86,7 @@ impl Pass for Sweep {
 
     ghost gives = { λ p i at w v n z. ⊥ };
 
-    ghost leaves = { λ p i at w. Swept_to w };
+    ghost leaves = { λ p i at w. SweptTo w (spans_of p.span) };
 
     #[tactic(auto, using(passes::specs::Emitted::part_none, passes::specs::Emitted::part_first, passes::specs::Emitted::part_second))]
     fn emit(&self, ins: &Ins, at: u64, out: &mut Emit) -> Result<(), AllocError> {

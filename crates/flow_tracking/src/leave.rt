@@ -193,7 +193,7 @@ fn put_indirect(ins: &Ins, at: u64, out: &mut Emit) -> Result<(), AllocError>
 impl Pass for Leave {
     ghost use Rattle.std.specs.Prelude.{◌≡◌, []};
     ghost use Rattle.rv_isa.specs.Kind.{class_of};
-    ghost use Rattle.flow_tracking.specs.Leaving.{left, IsLeft, Leaving, Leads_on};
+    ghost use Rattle.flow_tracking.specs.Leaving.{left, IsLeft, Leaving, LeavesOn};
     ghost use Rattle.flow_tracking.specs.Laws.{quiet_leave, lockstep_leave};
     ghost use Rattle.flow_tracking.specs.HonestLeave.{honest_leave};
 
@@ -211,7 +211,7 @@ impl Pass for Leave {
 
     ghost gives = { λ p i at w v n z. ⊥ };
 
-    ghost leaves = { λ p i at w. Leads_on w i };
+    ghost leaves = { λ p i at. LeavesOn (class_of i.kind) };
 
     #[tactic(auto, using(passes::specs::Emitted::part_none))]
     fn emit(&self, ins: &Ins, at: u64, out: &mut Emit) -> Result<(), AllocError> {

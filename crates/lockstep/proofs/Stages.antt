@@ -16,7 +16,7 @@ use Rattle.weave_core.proofs.Leaves.{no_code}
 use Rattle.weave_core.specs.Lock.{ComparesFrom}
 use Rattle.weave_core.specs.Kinds.{thirteen}
 use Rattle.weave_core.specs.Weave.{Weave, pieces_of, body_of}
-use Rattle.weave_core.specs.WeaveLaws.{PiecesAt, EntriesAt, Stands, Visits, stops, Left, has_ended, lands, is_lost, Rows, Swept}
+use Rattle.weave_core.specs.WeaveLaws.{PiecesAt, EntriesAt, Stands, Visits, stops, Left, Onward, lands, is_lost, Rows, Swept}
 use Rattle.weave_core.proofs.Trace.{none_run, one_run, full_rest}
 
 module _ (w : World) (v : Weave) (leader : ℕ → Bool) (rows : Rows w v leader) (entries : EntriesAt w v leader) where
@@ -128,7 +128,7 @@ module _ (w : World) (v : Weave) (leader : ℕ → Bool) (rows : Rows w v leader
     pub within : steps ≤ v.leave_steps + v.end_steps
     pub walk : Walk (Quiet w) u steps to
     pub ended : to.outcome ≡ Ended
-    pub closes : v.sweeps ≡ true → Swept w v u steps
+    pub closes : v.sweeps ≡ true → Swept w v.sweep_steps u steps
 
   -- the bound may be wider
   staged_more : (x s : State) (b b' : ℕ) → b ≤ b' → Staged x s b → Staged x s b'
@@ -151,16 +151,18 @@ module _ (w : World) (v : Weave) (leader : ℕ → Bool) (rows : Rows w v leader
         one (Stops i) = omega arith
 
         from_left : Left w v leader x (run s (stops e)) (stops e) → Staged x s (v.leave_steps + v.enter_steps) ⊎ Finishes x
-        from_left (has_ended y o) = inr (record { steps = y.steps; to = y.to; within = y.within; walk = y.walk; ended = y.is.0; closes = y.is.2 })
-        from_left (is_lost y so' lacks) =
-            let o = one e in
-            let c : NotTrapped (run (run s (stops e)) 1) = subst NotTrapped (run-more s (stops e) 1) (not_trapped_le s (stops e + 1) (2 + v.piece_steps) (omega (arith, o)) calm) in
-            absurd (no_code w (run s (stops e)) so' lacks (subst NotTrapped (one_run (run s (stops e))) c))
-        from_left (lands y so') =
-            let o = one e in
-            let c : NotTrapped (run (run s (stops e)) v.piece_steps) = subst NotTrapped (run-more s (stops e) v.piece_steps) (not_trapped_le s (stops e + v.piece_steps) (2 + v.piece_steps) (omega (arith, o)) calm) in
-            let g = staged_more y.to (run s (stops e)) (v.enter_steps + 0) v.enter_steps (omega arith) (entry_stage y.to (run s (stops e)) y.is.0 so' c) in
-            inl (staged_on x y.to s (stops e) y.steps v.leave_steps v.enter_steps y.walk y.is.1 y.within (omega (arith, o, y.at_least)) g)
+        from_left (inl y) = inr (record { steps = y.steps; to = y.to; within = y.within; walk = y.walk; ended = y.is.0.ended; closes = y.is.1 })
+        from_left (inr y) = onward y.is where
+          onward : Onward w leader x (run s (stops e)) y.to → Staged x s (v.leave_steps + v.enter_steps) ⊎ Finishes x
+          onward (is_lost going t so' lacks) =
+              let o = one e in
+              let c : NotTrapped (run (run s (stops e)) 1) = subst NotTrapped (run-more s (stops e) 1) (not_trapped_le s (stops e + 1) (2 + v.piece_steps) (omega (arith, o)) calm) in
+              absurd (no_code w (run s (stops e)) so' lacks (subst NotTrapped (one_run (run s (stops e))) c))
+          onward (lands st at15 so') =
+              let o = one e in
+              let c : NotTrapped (run (run s (stops e)) v.piece_steps) = subst NotTrapped (run-more s (stops e) v.piece_steps) (not_trapped_le s (stops e + v.piece_steps) (2 + v.piece_steps) (omega (arith, o)) calm) in
+              let g = staged_more y.to (run s (stops e)) (v.enter_steps + 0) v.enter_steps (omega arith) (entry_stage y.to (run s (stops e)) st so' c) in
+              inl (staged_on x y.to s (stops e) y.steps v.leave_steps v.enter_steps y.walk at15 y.within y.at_least g)
 
   -- from any boundary
   pub stage : (x s : State) → Bounded x s → NotTrapped (run s (2 + v.piece_steps)) → Staged x s (v.leave_steps + v.enter_steps) ⊎ Finishes x

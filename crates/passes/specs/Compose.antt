@@ -21,10 +21,10 @@ pub leads_led :
     → Leads w v most rest (Does f g least v) (λ n z. ⊥)
 leads_led w v least most rest f g l = record {
   steps = l.steps;
-  to = record { now = l.to; original = f v.original; shadow = g v.shadow };
+  to = record { now = l.to; original = f v.original; shadow = g v.shadow; leads = v.leads };
   within = l.within;
   walk = l.walk;
-  ends = inl (l.at, record { original = refl; shadow = refl; at_least = l.at_least; cursor = l.cursor });
+  ends = inl (l.at, record { original = refl; shadow = refl; at_least = l.at_least; cursor = l.cursor; leads = refl });
 }
 
 -- one pass after another

@@ -40,10 +40,10 @@ quiet_visit round spans = record { leads = λ w v rest s st need. row w v rest n
       let x : Visited w spans v.now v.original round (visit_bound (length spans) * round) rest = subst (λ l. Visited w l v.now v.original round (visit_bound (length l) * round) rest) f (visit_row w round v.now v.original rest a) in
       record {
         steps = x.steps;
-        to = record { now = x.to; original = v.original; shadow = v.original };
+        to = record { now = x.to; original = v.original; shadow = v.original; leads = v.leads };
         within = x.within;
         walk = x.walk;
-        ends = inl (x.at, record { original = refl; shadow = e; cursor = x.cursor; visits = x.visits });
+        ends = inl (x.at, record { original = refl; shadow = e; cursor = x.cursor; leads = refl; visits = x.visits });
       }
 
 -- ---- Lockstep

@@ -1,5 +1,5 @@
 -- The data ranges as pairs, and what the visits of their words do.
-use Rattle.std.specs.Prelude.{◌≡◌, ℕ, ◌<◌, List, [], ◌∷◌, pos}
+use Rattle.std.specs.Prelude.{◌≡◌, ℕ, ◌<◌, ◌≤◌, List, [], ◌∷◌, length, pos}
 use Rattle.rv_isa.specs.declared.kind.Kind.TheVariants.{Bne}
 use Rattle.qed_model.specs.Machine.Table.{ins}
 use Rattle.qed_model.specs.declared.item.Item.{Item}
@@ -7,7 +7,7 @@ use Rattle.qed_model.specs.declared.item.Item.TheVariants.{Plain, Constant}
 use Rattle.qed_model.specs.declared.range.Range.{Range}
 use Rattle.qed_model.specs.Machine.Step.{reg}
 use Rattle.weave_core.specs.World.{World, words_on}
-use Rattle.weave_core.proofs.Visit.{VisitAt, HasRange}
+use Rattle.weave_core.specs.WeaveLaws.{Visits as VisitAt}
 use Rattle.passes.specs.Pass.{Views}
 
 -- the start and the end of each range
@@ -24,4 +24,5 @@ pub record Visits (w : World) (round : ℕ) (spans : List (ℕ × ℕ)) (v : Vie
   pub original : z.original ≡ v.original
   pub shadow : z.shadow ≡ v.shadow
   pub cursor : reg z.now 15 ≡ words_on spans round (reg v.now 15)
-  pub visits : (j : ℕ) → j < round → HasRange spans → VisitAt w v.now n (words_on spans j (reg v.now 15))
+  pub leads : z.leads ≡ v.leads
+  pub visits : (j : ℕ) → j < round → 1 ≤ length spans → VisitAt w v.now n (words_on spans j (reg v.now 15))

@@ -1,5 +1,5 @@
 -- The laws of a weave: all that the inductions over the run of the output use of its sequences.
-use Rattle.std.specs.Prelude.{◌≡◌, ℕ, ◌+◌, ◌*◌, ◌^◌, ◌<◌, ◌≤◌, Bool, true, List, [], ◌∷◌, ◌++◌, length, is_some}
+use Rattle.std.specs.Prelude.{◌≡◌, ℕ, ◌+◌, ◌*◌, ◌^◌, ◌<◌, ◌≤◌, ◌⊎◌, Bool, true, List, [], ◌∷◌, ◌++◌, length, is_some}
 use Rattle.std.specs.FinMap.{get}
 use Rattle.rv_isa.specs.declared.ins.Ins.{Ins}
 use Rattle.qed_model.specs.declared.item.Item.{Item}
@@ -98,26 +98,33 @@ pub record Behind (w : World) (v : Weave) (u s : State) (n : ℕ) (rest : List I
   pub cursor : reg to 15 ≡ words_on w.form.spans v.round (reg u 15)
   pub visits : (j : ℕ) → j < v.round → 1 ≤ length w.form.spans → Visits w u steps (words_on w.form.spans j (reg u 15))
 
--- the test ends n steps from u on: each data word is visited, then all registers are compared, and then it ends
-pub record Swept (w : World) (v : Weave) (u : State) (n : ℕ) : Type 0 where
-  pub exact : n ≡ v.sweep_steps + 14
-  pub visits : (x : ℕ) → IsDataWord w.form.spans x → Visits w u v.sweep_steps x
-  pub compares : ComparesFrom w.code (run u v.sweep_steps).pc thirteen
+-- the test ends n steps from u on: each data word is visited in the first of them, then all registers are compared, and then it ends
+pub record Swept (w : World) (first : ℕ) (u : State) (n : ℕ) : Type 0 where
+  pub exact : n ≡ first + 14
+  pub visits : (x : ℕ) → IsDataWord w.form.spans x → Visits w u first x
+  pub compares : ComparesFrom w.code (run u first).pc thirteen
 
 -- 1 where the end is an instruction
 abbrev pub stops : End → ℕ
 stops Falls = 0
 stops (Stops i) = 1
 
--- behind a leave, where the input is in t: the test has ended; an entry; or no code, where the input goes no further
-pub data Left (w : World) (v : Weave) (leader : ℕ → Bool) (u t : State) (least : ℕ) : Type 0 where
-  has_ended :
-      GoesTo w u 1 (v.leave_steps + v.end_steps) (λ n x. (x.outcome ≡ Ended) × Holds w x t × (v.sweeps ≡ true → Swept w v u n)) → t.outcome ≡ Ended
-      → Left w v leader u t least
-  lands : GoesTo w u 1 v.leave_steps (λ n x. Stands w leader x t × (reg x 15 ≡ reg u 15)) → Sourced w t → Left w v leader u t least
-  is_lost :
-      GoesTo w u least v.leave_steps (λ n x. (x.outcome ≡ Going) × Twice w x t t) → Sourced w t
-      → ((i : Ins) → w.source t.pc ≡ Known i → ⊥) → Left w v leader u t least
+-- ---- behind a leave, where the input is in t
+-- the test has ended, with the input's values
+pub record Ends (w : World) (t x : State) : Type 0 where
+  pub ended : x.outcome ≡ Ended
+  pub holds : Holds w x t
+  pub input : t.outcome ≡ Ended
+
+-- from u to an entry, or to where the input goes no further, since there is no code
+pub data Onward (w : World) (leader : ℕ → Bool) (u t x : State) : Type 0 where
+  lands : Stands w leader x t → reg x 15 ≡ reg u 15 → Sourced w t → Onward w leader u t x
+  is_lost : x.outcome ≡ Going → Twice w x t t → Sourced w t → ((i : Ins) → w.source t.pc ≡ Known i → ⊥) → Onward w leader u t x
+
+-- either
+abbrev pub Left : World → Weave → (ℕ → Bool) → State → State → ℕ → Type 0
+Left w v leader u t least =
+    GoesTo w u 1 (v.leave_steps + v.end_steps) (λ n x. Ends w t x × (v.sweeps ≡ true → Swept w v.sweep_steps u n)) ⊎ GoesTo w u least v.leave_steps (λ n x. Onward w leader u t x)
 
 -- ---- the laws of the rows: where each sequence leads
 pub record Rows (w : World) (v : Weave) (leader : ℕ → Bool) : Type 0 where

@@ -1,0 +1,79 @@
+-- The laws of a pass: over its items, what it needs, and where it leads.
+use Rattle.std.specs.Prelude.{◌≡◌, ℕ, ◌+◌, ◌≤◌, ◌⊎◌, Bool, List, [], ◌∷◌, ◌++◌}
+use Rattle.qed_model.specs.Machine.Step.{State, reg}
+use Rattle.qed_model.specs.Machine.Walks.{Walk}
+use Rattle.qed_model.specs.declared.item.Item.{Item}
+use Rattle.qed_model.specs.Weave.Sequences.{guards}
+use Rattle.weave_core.specs.World.{World, Quiet as Calm}
+use Rattle.weave_core.specs.Rows.{At}
+use Rattle.weave_core.specs.KindItems.{LockItems, LandItems}
+
+-- ---- views
+-- a state of the output, the states of the input of which its original and its duplicate half have the values, and which addresses of
+-- the input have an entry
+pub record Views : Type 0 where
+  pub now : State
+  pub original : State
+  pub shadow : State
+  pub leads : ℕ → Bool
+
+-- the items stand where the output goes on, and both halves are those of the views
+abbrev pub Stands : World → Views → List Item → Type 0
+Stands w v items = At w v.now items v.original v.shadow
+
+-- ---- what a pass does: from views, in so many steps, to views
+-- one after another
+pub record Chain (gives : ℕ → Views → Type 0) (next : Views → ℕ → Views → Type 0) (n : ℕ) (z : Views) : Type 0 where
+  pub some : ℕ
+  pub more : ℕ
+  pub middle : Views
+  pub sum : n ≡ some + more
+  pub first : gives some middle
+  pub last : next middle more z
+
+-- what one after another needs
+abbrev pub NeedsBoth : (Views → Type 0) → (Views → ℕ → Views → Type 0) → (Views → Type 0) → Views → Type 0
+NeedsBoth needs gives next v = needs v × ((n : ℕ) (y : Views) → gives v n y → next y)
+
+-- each half has one step of the input more or none, in `least` steps, and the cursor and the entries stay
+pub record Does (f g : State → State) (least : ℕ) (v : Views) (n : ℕ) (z : Views) : Type 0 where
+  pub original : z.original ≡ f v.original
+  pub shadow : z.shadow ≡ g v.shadow
+  pub at_least : least ≤ n
+  pub cursor : reg z.now 15 ≡ reg v.now 15
+  pub leads : z.leads ≡ v.leads
+
+-- the same state
+abbrev pub same : State → State
+same s = s
+
+-- ---- Quiet
+-- in at most so many steps, of which each is quiet: to behind the items, as `gives` says, or elsewhere, as `leaves` says
+pub record Leads (w : World) (v : Views) (most : ℕ) (rest : List Item) (gives leaves : ℕ → Views → Type 0) : Type 0 where
+  pub steps : ℕ
+  pub to : Views
+  pub within : steps ≤ most
+  pub walk : Walk (Calm w) v.now steps to.now
+  pub ends : (Stands w to rest × gives steps to) ⊎ leaves steps to
+
+-- in each world that suits, from where the items stand and what is needed holds
+pub record Quiet (suits : Bool → Type 0) (items : List Item) (needs : World → Views → Type 0) (gives leaves : World → Views → ℕ → Views → Type 0) (most : ℕ) : Type 0 where
+  pub leads : (w : World) (v : Views) (rest : List Item) → suits w.form.far → Stands w v (items ++ rest) → needs w v → Leads w v most rest (gives w v) (leaves w v)
+
+-- ---- Lockstep
+-- behind the comparisons of some registers with their pairs the words are of the kinds of woven words, with a guard just before
+-- each use, and no register is closed at the first of them; what jumps leads to where no register is closed
+pub record Lockstep (suits : Bool → Type 0) (uses : List ℕ) (items : List Item) : Type 0 where
+  pub locks : (far : Bool) → suits far → LockItems far (guards uses ++ items)
+  pub lands : (far : Bool) → suits far → LandItems far items
+
+-- ---- registers that are compared first
+-- x0 to x13
+abbrev pub AllLow : List ℕ → Type 0
+AllLow [] = Unit {0}
+AllLow (q ∷ qs) = (q ≤ 13) × AllLow qs
+
+-- each is equal in two states
+abbrev pub AllSame : List ℕ → State → State → Type 0
+AllSame [] s s' = Unit {0}
+AllSame (q ∷ qs) s s' = (reg s q ≡ reg s' q) × AllSame qs s s'
