@@ -7,7 +7,7 @@ use Rattle.texts.specs.Printed.{hex_text, word_text}
 use Rattle.command_line.specs.Text.Errors.{numbered, limit_line, high_register_line}
 
 -- a line with one address in it
-abbrev addressed : List ℕ → ℕ → List ℕ
+abbrev pub addressed : List ℕ → ℕ → List ℕ
 addressed front a = front ++ (hex_text a ++ codes "\n")
 
 -- an image ends behind its half

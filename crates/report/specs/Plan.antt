@@ -1,6 +1,6 @@
 -- What is printed of a plan: one JSON object on one line, its keys in the order of their bytes.
 use Rattle.std.specs.Prelude.{ℕ, List, ◌++◌, map, codes, Option, Some, None}
-use Rattle.serde_json.specs.Data.{Data, null, number, unsigned, array, object, item, no_items, member, no_members}
+use Rattle.serde_json.specs.Data.{Data, null, number, unsigned, array, object, item, no_items, Members, member, no_members}
 use Rattle.serde_json.specs.View.{items_of}
 use Rattle.serde_json.specs.Written.{compact_text}
 use Rattle.qed_model.specs.declared.bounds.Bounds.{Bounds}
@@ -29,7 +29,12 @@ entry_data row = array (item (count row.input) (item (count row.output) no_items
 abbrev pub piece_data : PieceRow → Data
 piece_data row = array (item (count row.entry) (item (count row.first) (item (count row.length) no_items)))
 
--- addresses, and sizes in bytes
+-- addresses, sizes in bytes, and the number of data words
+abbrev pub plan_numbers : Plan → Members
+plan_numbers plan =
+    member (codes "base") (count plan.base) (member (codes "code") (count plan.code_bytes) (member (codes "half") (count plan.distance) (member (codes "words") (count plan.words) no_members)))
+
+-- the same, with its bounds, entries and pieces
 abbrev pub plan_data : Plan → Data
 plan_data plan =
     object (member (codes "base") (count plan.base)

@@ -5,6 +5,7 @@ ghost use Rattle.report.specs.Admission.{admit_line, outside_line};
 
 use crate::hex::{Hex, HexWord};
 use crate::limits::limit_line;
+use crate::lines::{addressed, numbered};
 use elf_types::Bytes;
 use qed_model::{AdmitError, Limit};
 use std::alloc::{AllocError, Global};
@@ -30,14 +31,11 @@ fn admit_line(alloc: Global, error: &AdmitError) -> Result<String, AllocError>
     ensures memory { OnOk result (error.now ≢ AdmitError.Memory) }
 {
     match error {
-        AdmitError::Compressed => format!(in alloc; "refused A1: compressed\n"),
-        AdmitError::Dynamic => format!(in alloc; "refused A2: dynamic\n"),
-        AdmitError::WritableCode(i) => format!(in alloc; "refused A3: segment {i}\n"),
-        AdmitError::NoCode(entry) => {
-            let entry = Hex(*entry);
-            format!(in alloc; "refused A4: entry {entry}\n")
-        }
-        AdmitError::CodeShape(i) => format!(in alloc; "refused A5: part {i}\n"),
+        AdmitError::Compressed => String::from_str(alloc, "refused A1: compressed\n"),
+        AdmitError::Dynamic => String::from_str(alloc, "refused A2: dynamic\n"),
+        AdmitError::WritableCode(i) => numbered(alloc, "refused A3: segment ", *i),
+        AdmitError::NoCode(entry) => addressed(alloc, "refused A4: entry ", *entry),
+        AdmitError::CodeShape(i) => numbered(alloc, "refused A5: part ", *i),
         AdmitError::UnknownWord(at, word) => {
             let (at, word) = (Hex(*at), HexWord(*word));
             format!(in alloc; "refused A6: address {at}, word {word}\n")
@@ -47,15 +45,9 @@ fn admit_line(alloc: Global, error: &AdmitError) -> Result<String, AllocError>
             let register = register.number();
             format!(in alloc; "refused A7: address {at}, register {register}\n")
         }
-        AdmitError::Breakpoint(at) => {
-            let at = Hex(*at);
-            format!(in alloc; "refused A8: address {at}\n")
-        }
-        AdmitError::FarConstant(at) => {
-            let at = Hex(*at);
-            format!(in alloc; "refused A9: address {at}\n")
-        }
-        AdmitError::DataMixed(i) => format!(in alloc; "refused A10: segment {i}\n"),
+        AdmitError::Breakpoint(at) => addressed(alloc, "refused A8: address ", *at),
+        AdmitError::FarConstant(at) => addressed(alloc, "refused A9: address ", *at),
+        AdmitError::DataMixed(i) => numbered(alloc, "refused A10: segment ", *i),
         AdmitError::OutsideHalf(high, end) => outside_line(alloc, *high, *end as u64),
         AdmitError::ImageSpan(n) => limit_line(alloc, Limit::ImageSpan, *n),
         AdmitError::CodeWords(n) => limit_line(alloc, Limit::CodeWords, u128::from(*n)),

@@ -36,7 +36,7 @@ pub fn asm_error_text(alloc: Global, error: AsmError) -> Result<Bytes, AllocErro
 {
     let text = match error {
         AsmError::Line(fault, line) => fault_line(alloc, fault, line)?,
-        AsmError::NoCode => format!(in alloc; "refused S7: no instruction\n")?,
+        AsmError::NoCode => String::from_str(alloc, "refused S7: no instruction\n")?,
         AsmError::Memory => return Err(AllocError),
     };
     Ok(Bytes::of(text.into_bytes()))

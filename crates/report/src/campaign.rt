@@ -1,5 +1,6 @@
 //! What is printed about strikes.
-ghost use Rattle.std.specs.Prelude.{◌≡◌, Some, IfOk, string_bytes};
+ghost use Rattle.std.specs.Prelude.{◌≡◌, ◌++◌, Some, IfOk, codes, string_bytes};
+ghost use Rattle.texts.specs.Printed.{hex_text};
 ghost use Rattle.command_line.specs.Text.Campaign.{place_text, change_text, changes_text, verdict_text, strike_line, strike_lines, trapped_line, campaign_text};
 
 use crate::hex::Hex;
@@ -10,7 +11,7 @@ use std::alloc::{AllocError, Global};
 use std::fmt;
 
 /// What is changed, printed as `x5`, or as the address of a word.
-#[derive(Clone, Copy, Debug)]
+#[derive(Clone, Copy)]
 struct PlaceText(Place);
 
 impl fmt::Display for PlaceText {
@@ -31,7 +32,7 @@ impl fmt::Display for PlaceText {
 }
 
 /// What came of a strike, with the steps from its last change.
-#[derive(Clone, Copy, Debug)]
+#[derive(Clone, Copy)]
 struct VerdictText(Verdict);
 
 impl fmt::Display for VerdictText {
@@ -48,13 +49,32 @@ impl fmt::Display for VerdictText {
     }
 }
 
+/// What a place holds then, printed as `x5=0x0000000000000001`.
+#[derive(Clone, Copy)]
+struct Set {
+    place: PlaceText,
+    value: Hex,
+}
+
+impl fmt::Display for Set {
+    ghost output = { λ s. Some (place_text s.place.0 ++ (codes "=" ++ hex_text s.value.0)) };
+
+    fn fmt<W: fmt::Write>(&self, f: &mut fmt::Formatter<W>) -> fmt::Result {
+        let Set { place, value } = *self;
+        write!(f, "{place}={value}")
+    }
+}
+
 /// A change, as ` step 40 x5=0x0000000000000001`.
 fn change_text(alloc: Global, change: &Change) -> Result<String, AllocError>
     ensures { IfOk result (λ text. string_bytes text ≡ change_text change.now) }
 {
     let step = change.step;
-    let (place, value) = (PlaceText(change.place), Hex(change.value));
-    format!(in alloc; " step {step} {place}={value}")
+    let set = Set {
+        place: PlaceText(change.place),
+        value: Hex(change.value),
+    };
+    format!(in alloc; " step {step} {set}")
 }
 
 /// The changes of a strike.

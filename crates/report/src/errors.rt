@@ -4,6 +4,7 @@ ghost use Rattle.command_line.specs.Text.Errors.{part_line, error_line};
 ghost use Rattle.command_line.specs.Text.Plan.{read_fault_line};
 
 use crate::limits::limit_line;
+use crate::lines::numbered;
 use elf_types::{Bytes, ElfError, Part};
 use qed_model::Limit;
 use std::alloc::{AllocError, Global};
@@ -13,11 +14,11 @@ fn part_text(alloc: Global, part: Part) -> Result<String, AllocError>
     ensures { IfOk result (λ text. string_bytes text ≡ part_line part) }
 {
     match part {
-        Part::Header => format!(in alloc; "refused E8: header\n"),
-        Part::ProgramTable => format!(in alloc; "refused E8: program table\n"),
-        Part::SectionTable => format!(in alloc; "refused E8: section table\n"),
-        Part::Segment(i) => format!(in alloc; "refused E8: segment {i}\n"),
-        Part::Section(i) => format!(in alloc; "refused E8: section {i}\n"),
+        Part::Header => String::from_str(alloc, "refused E8: header\n"),
+        Part::ProgramTable => String::from_str(alloc, "refused E8: program table\n"),
+        Part::SectionTable => String::from_str(alloc, "refused E8: section table\n"),
+        Part::Segment(i) => numbered(alloc, "refused E8: segment ", i),
+        Part::Section(i) => numbered(alloc, "refused E8: section ", i),
     }
 }
 
@@ -27,20 +28,20 @@ fn header_text(alloc: Global, error: ElfError) -> Result<String, AllocError>
     ensures memory { OnOk result (error ≢ ElfError.Memory) }
 {
     match error {
-        ElfError::Magic => format!(in alloc; "refused E1: magic\n"),
-        ElfError::Class(n) => format!(in alloc; "refused E2: class {n}\n"),
-        ElfError::Encoding(n) => format!(in alloc; "refused E3: encoding {n}\n"),
-        ElfError::Version(n) => format!(in alloc; "refused E4: version {n}\n"),
-        ElfError::FileType(n) => format!(in alloc; "refused E5: type {n}\n"),
-        ElfError::Machine(n) => format!(in alloc; "refused E6: machine {n}\n"),
-        ElfError::HeaderShape => format!(in alloc; "refused E7: header shape\n"),
+        ElfError::Magic => String::from_str(alloc, "refused E1: magic\n"),
+        ElfError::Class(n) => numbered(alloc, "refused E2: class ", u64::from(n)),
+        ElfError::Encoding(n) => numbered(alloc, "refused E3: encoding ", u64::from(n)),
+        ElfError::Version(n) => numbered(alloc, "refused E4: version ", u64::from(n)),
+        ElfError::FileType(n) => numbered(alloc, "refused E5: type ", u64::from(n)),
+        ElfError::Machine(n) => numbered(alloc, "refused E6: machine ", u64::from(n)),
+        ElfError::HeaderShape => String::from_str(alloc, "refused E7: header shape\n"),
         ElfError::OutOfFile(part) => part_text(alloc, part),
-        ElfError::SegmentShape(i) => format!(in alloc; "refused E9: segment {i}\n"),
+        ElfError::SegmentShape(i) => numbered(alloc, "refused E9: segment ", i),
         ElfError::SegmentOverlap(i, j) => {
             format!(in alloc; "refused E10: segments {i} and {j}\n")
         }
-        ElfError::SectionShape(i) => format!(in alloc; "refused E11: section {i}\n"),
-        ElfError::SymbolShape(j) => format!(in alloc; "refused E12: symbol {j}\n"),
+        ElfError::SectionShape(i) => numbered(alloc, "refused E11: section ", i),
+        ElfError::SymbolShape(j) => numbered(alloc, "refused E12: symbol ", j),
         ElfError::RelaShape(i, j) => format!(in alloc; "refused E13: section {i}, entry {j}\n"),
         ElfError::TooManySections(n) => limit_line(alloc, Limit::Sections, u128::from(n)),
         ElfError::TooManyBytes(n) => limit_line(alloc, Limit::CountedBytes, u128::from(n)),

@@ -10,7 +10,7 @@ use std::alloc::{AllocError, Global};
 use std::fmt;
 
 /// How a run stands, in one word.
-#[derive(Clone, Copy, Debug)]
+#[derive(Clone, Copy)]
 struct OutcomeWord(Outcome);
 
 impl fmt::Display for OutcomeWord {
@@ -27,7 +27,7 @@ impl fmt::Display for OutcomeWord {
 }
 
 /// A run, printed as `ended after N steps`.
-#[derive(Clone, Copy, Debug)]
+#[derive(Clone, Copy)]
 struct Ran {
     pub outcome: Outcome,
     pub steps: u64,
@@ -75,7 +75,7 @@ impl fmt::Display for Drawn {
 }
 
 /// The new code, printed as `output code C bytes`.
-#[derive(Clone, Copy, Debug)]
+#[derive(Clone, Copy)]
 struct CodeBytes(u64);
 
 impl fmt::Display for CodeBytes {

@@ -5,7 +5,7 @@ ghost use Rattle.texts.specs.Printed.{hex_text, word_text};
 use std::fmt;
 
 /// A number of 64 bits, printed as `0x` and 16 lower-case digits.
-#[derive(Clone, Copy, Debug)]
+#[derive(Clone, Copy)]
 pub struct Hex(pub u64);
 
 impl fmt::Display for Hex {
@@ -18,7 +18,7 @@ impl fmt::Display for Hex {
 }
 
 /// A word of 32 bits, printed as `0x` and 8 lower-case digits.
-#[derive(Clone, Copy, Debug)]
+#[derive(Clone, Copy)]
 pub struct HexWord(pub u32);
 
 impl fmt::Display for HexWord {

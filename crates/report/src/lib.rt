@@ -9,6 +9,7 @@ mod errors;
 mod generated;
 mod hex;
 mod limits;
+mod lines;
 mod plan;
 mod run;
 mod tally;

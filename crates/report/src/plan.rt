@@ -1,13 +1,13 @@
 //! What is printed of a plan: one JSON object on one line.
 ghost use Rattle.std.specs.Prelude.{◌≡◌, map, IfOk, string_bytes};
 ghost use Rattle.serde_json.specs.Data.{array};
-ghost use Rattle.serde_json.specs.View.{view, items_of};
+ghost use Rattle.serde_json.specs.View.{view, items_of, members_view};
 ghost use Rattle.serde_json.specs.Written.{compact_text};
-ghost use Rattle.report.specs.Plan.{bounds_data, entry_data, piece_data, plan_data, plan_text};
+ghost use Rattle.report.specs.Plan.{bounds_data, entry_data, piece_data, plan_data, plan_numbers, plan_text};
 
 use elf_types::Bytes;
 use qed_model::{Bounds, EntryRow, PieceRow, Plan};
-use serde_json::{Value, json};
+use serde_json::{Map, Value, json, put};
 use std::alloc::{AllocError, Global};
 
 /// The bounds, without that of a word where there is no data word.
@@ -53,22 +53,30 @@ fn pieces_value(alloc: Global, rows: &[PieceRow]) -> Result<Value, AllocError>
     Ok(Value::Array(pieces))
 }
 
+/// The numbers of a plan, as members of its object.
+fn plan_numbers(alloc: Global, plan: &Plan) -> Result<Map<String, Value>, AllocError>
+    ensures { IfOk result (λ map. members_view map.entries ≡ plan_numbers plan.now) }
+{
+    let mut map = Map::new(alloc);
+    put(&mut map, alloc, "base", Value::from(plan.base))?;
+    put(&mut map, alloc, "code", Value::from(plan.code_bytes))?;
+    put(&mut map, alloc, "half", Value::from(plan.distance))?;
+    put(&mut map, alloc, "words", Value::from(plan.words))?;
+    Ok(map)
+}
+
 /// A plan as one object, which keeps its keys in the order of their bytes.
 fn plan_value(alloc: Global, plan: &Plan) -> Result<Value, AllocError>
     ensures { IfOk result (λ v. view v ≡ plan_data plan.now) }
 {
+    let mut map = plan_numbers(alloc, plan)?;
     let bounds = bounds_value(alloc, &plan.bounds)?;
+    put(&mut map, alloc, "bounds", bounds)?;
     let entries = entries_value(alloc, plan.entries.as_slice())?;
+    put(&mut map, alloc, "entries", entries)?;
     let pieces = pieces_value(alloc, plan.pieces.as_slice())?;
-    json!(in alloc; {
-        "base": plan.base,
-        "bounds": bounds,
-        "code": plan.code_bytes,
-        "entries": entries,
-        "half": plan.distance,
-        "pieces": pieces,
-        "words": plan.words
-    })
+    put(&mut map, alloc, "pieces", pieces)?;
+    Ok(Value::Object(map))
 }
 
 /// The text of that object.

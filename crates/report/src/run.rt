@@ -14,7 +14,7 @@ use std::alloc::{AllocError, Global};
 use std::fmt;
 
 /// Why a step trapped, as `load 0x0000000000000000`.
-#[derive(Clone, Copy, Debug)]
+#[derive(Clone, Copy)]
 struct CauseText(Cause);
 
 impl fmt::Display for CauseText {
@@ -44,7 +44,7 @@ impl fmt::Display for CauseText {
 }
 
 /// How a run stands.
-#[derive(Clone, Copy, Debug)]
+#[derive(Clone, Copy)]
 struct OutcomeText(Outcome);
 
 impl fmt::Display for OutcomeText {

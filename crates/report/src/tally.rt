@@ -9,7 +9,7 @@ use std::alloc::{AllocError, Global};
 use std::fmt;
 
 /// How often each verdict came.
-#[derive(Clone, Copy, Debug)]
+#[derive(Clone, Copy)]
 struct Tally {
     fired: u64,
     ended: u64,

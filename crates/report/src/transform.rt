@@ -8,7 +8,7 @@ use std::alloc::{AllocError, Global};
 use std::fmt;
 
 /// The sizes of an output, printed as `code N bytes, entries E, pieces P, half D`.
-#[derive(Clone, Copy, Debug)]
+#[derive(Clone, Copy)]
 struct Sizes {
     /// The new code, in bytes.
     pub code: u64,
@@ -37,7 +37,7 @@ impl fmt::Display for Sizes {
 
 /// The bounds of an output in steps, printed as `register bound R, word bound B`. The word bound is None where there is
 /// no data word.
-#[derive(Clone, Copy, Debug)]
+#[derive(Clone, Copy)]
 pub struct BoundsText {
     pub register: u64,
     pub word: Option<u64>,

@@ -2,6 +2,7 @@
 ghost use Rattle.std.specs.Prelude.{◌≡◌, IfOk, string_bytes};
 ghost use Rattle.command_line.specs.Text.Usage.{reason_line};
 
+use crate::lines::{keyed, numbered};
 use command_line::Reason;
 use elf_types::Bytes;
 use std::alloc::{AllocError, Global};
@@ -11,31 +12,19 @@ fn reason_line(alloc: Global, reason: Reason) -> Result<String, AllocError>
     ensures { IfOk result (λ text. string_bytes text ≡ reason_line reason) }
 {
     match reason {
-        Reason::NoCommand => format!(in alloc; "usage: no command\n"),
-        Reason::UnknownCommand => format!(in alloc; "usage: unknown command\n"),
-        Reason::EmptyWord(i) => format!(in alloc; "usage: empty word {i}\n"),
-        Reason::UnknownOption(i) => format!(in alloc; "usage: unknown option at {i}\n"),
-        Reason::Repeated(i) => format!(in alloc; "usage: repeated option at {i}\n"),
-        Reason::MissingValue(i) => format!(in alloc; "usage: missing value at {i}\n"),
-        Reason::ExtraWord(i) => format!(in alloc; "usage: extra word {i}\n"),
-        Reason::MissingFile => format!(in alloc; "usage: missing file\n"),
-        Reason::MissingOption(key) => {
-            let name = key.name();
-            format!(in alloc; "usage: missing option {name}\n")
-        }
-        Reason::BadNumber(key) => {
-            let name = key.name();
-            format!(in alloc; "usage: bad number {name}\n")
-        }
-        Reason::BadShape(key) => {
-            let name = key.name();
-            format!(in alloc; "usage: bad shape {name}\n")
-        }
-        Reason::OutOfRange(key) => {
-            let name = key.name();
-            format!(in alloc; "usage: out of range {name}\n")
-        }
-        Reason::Split => format!(in alloc; "usage: split\n"),
+        Reason::NoCommand => String::from_str(alloc, "usage: no command\n"),
+        Reason::UnknownCommand => String::from_str(alloc, "usage: unknown command\n"),
+        Reason::EmptyWord(i) => numbered(alloc, "usage: empty word ", i),
+        Reason::UnknownOption(i) => numbered(alloc, "usage: unknown option at ", i),
+        Reason::Repeated(i) => numbered(alloc, "usage: repeated option at ", i),
+        Reason::MissingValue(i) => numbered(alloc, "usage: missing value at ", i),
+        Reason::ExtraWord(i) => numbered(alloc, "usage: extra word ", i),
+        Reason::MissingFile => String::from_str(alloc, "usage: missing file\n"),
+        Reason::MissingOption(key) => keyed(alloc, "usage: missing option ", key),
+        Reason::BadNumber(key) => keyed(alloc, "usage: bad number ", key),
+        Reason::BadShape(key) => keyed(alloc, "usage: bad shape ", key),
+        Reason::OutOfRange(key) => keyed(alloc, "usage: out of range ", key),
+        Reason::Split => String::from_str(alloc, "usage: split\n"),
     }
 }
 
