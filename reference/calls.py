@@ -10,12 +10,12 @@ from typing import Callable, Dict, List, Optional, Tuple
 
 import isa
 from admission import Options, Test, admit, blocks
-from assembler import assemble, assembled_file
+from assembler import CODE, DATA, assemble
 from campaign import Course, strikes_text
-from elf import File, first_sharing, read_elf
+from elf import STB_LOCAL, STT_NOTYPE, File, first_sharing, read_elf
 from generator import generate
 from machine import ENDED, FIRED, GOING, Code, Hart, Memory, code_ranges, loads_of, run_changed, start
-from output import output_file
+from output import output_file, packed, plain_file
 from texts import Exceeded, Refused, Stopped, hex16, number_or_none
 from weave import Woven, weave
 from words import Order, order_of
@@ -255,7 +255,9 @@ def _list(order: Order, shelf: Shelf) -> Answer:
 def _asm(order: Order, shelf: Shelf) -> Answer:
     """`asm`. Characters that are no ASCII stand in no part of a line."""
     done = assemble(load(shelf, order.files[0], MOST_INPUT).decode("latin-1"))
-    store(shelf, order.files[1], assembled_file(done))
+    parts = [(b".text", 5, CODE, packed("I", done.code)), (b".data", 6, DATA, packed("Q", done.data))]
+    symbols = [(name, STT_NOTYPE, STB_LOCAL, address) for name, address in done.labels.items()]
+    store(shelf, order.files[1], plain_file(parts if done.data else parts[:1], symbols))
     return 0, f"code {len(done.code)} words, data {len(done.data)} words\n"
 
 

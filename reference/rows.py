@@ -8,13 +8,13 @@ import tempfile
 from typing import Callable, Dict, List, Optional, Tuple
 
 import isa
-from admission import MOST_NEW_CODE, Options, admit, blocks, leaders
+from admission import Options, admit, blocks, leaders
 from calls import WRITE_FAULT, DirShelf, Shelf, TooLong, answer, transform
 from campaign import Course, is_closed, strikes_text
 from elf import read_elf
 from machine import Change, start
 from texts import Stopped, Usage, number_or_none
-from weave import MOST_NEAR_CODE, Const, Go, Item, Mark, bounds, link, size_of
+from weave import bounds
 from words import Order, change_of, number_of, order_of
 
 NO_MEMORY = 7
@@ -396,25 +396,10 @@ def _bounds(rows: Rows, words: List[str]) -> str:
     return f"piece {b.piece} register {b.register} word {number_or_none(b.word)} start {b.start}\n"
 
 
-def _item(text: str) -> Item:
-    """An item of `link`."""
-    kind, *numbers = text.split(":")
-    values = [_number(number) for number in numbers]
-    return {"mark": Mark, "const": Const, "go": Go, "plain": int}[kind](*values)
-
-
 def _link(rows: Rows, words: List[str]) -> str:
-    """`link`: a symbolic link on the disk; of a form, an address and items their words."""
-    if len(words) == 2:
-        os.symlink(words[1], rows.on_disk(words[0]))
-        return ""
-    items, far = [_item(word) for word in words[2:]], words[0] == "far"
-    if size_of(items, far) > (MOST_NEW_CODE if far else MOST_NEAR_CODE):
-        return f"too large {size_of(items, far)}\n"
-    found, entries = link(items, _number(words[1]), far)
-    lines = ["words " + " ".join(f"0x{word:08x}" for word in found)]
-    lines += [f"entry 0x{address:x} 0x{place:x}" for address, place in entries.items()]
-    return "\n".join(lines) + "\n"
+    """`link`."""
+    os.symlink(words[1], rows.on_disk(words[0]))
+    return ""
 
 
 def _clear(rows: Rows, words: List[str]) -> str:
