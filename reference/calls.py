@@ -14,7 +14,7 @@ from assembler import CODE, DATA, assemble
 from campaign import Course, strikes_text
 from elf import STB_LOCAL, STT_NOTYPE, File, first_sharing, read_elf
 from generator import generate
-from machine import ENDED, FIRED, GOING, Code, Hart, Memory, code_ranges, loads_of, run_changed, start
+from machine import ENDED, FIRED, GOING, Hart, Memory, code_ranges, loads_of, run_changed, start
 from output import output_file, packed, plain_file
 from texts import Exceeded, Refused, Stopped, hex16, number_or_none
 from weave import Woven, weave
@@ -165,11 +165,11 @@ def dump_text(memory: Memory, address: int, length: int) -> str:
 
 def listing(file: File) -> str:
     """The lines of `list` ("Printed lines")."""
-    code, memory = Code(code_ranges(file)), Memory(loads_of(file))
+    code, memory = code_ranges(file), Memory(loads_of(file))
     lines = []
-    for addresses in code.addresses():
+    for addresses in code.words():
         for address in addresses:
-            if code.holds(address):
+            if code.hold(address, address + 4):
                 word = memory.load(address, 4)
                 lines.append(f"{isa.text_of(word)} # {hex16(address)} 0x{word:08x}\n")
     return "".join(lines)
@@ -187,7 +187,7 @@ def check_apart(files: List[File]) -> None:
 def play(files: List[File], turns: List[int], count: int) -> List[Hart]:
     """The harts of files in one memory, after so many turns ("A file in memory")."""
     memory = Memory([segment for file in files for segment in loads_of(file)])
-    harts = [Hart(memory, Code(code_ranges(file)), file.entry) for file in files]
+    harts = [Hart(memory, code_ranges(file), file.entry) for file in files]
     turn = 0
     while turn < count and any(harts[number].outcome == GOING for number in turns):
         hart = harts[turns[turn % len(turns)]]

@@ -346,7 +346,7 @@ def _test(rows: Rows, words: List[str]) -> str:
     low = min(s.vaddr for s in test.image)
     lines = [f"entry 0x{test.file.entry:x} image 0x{low:x} to 0x{test.end:x} base 0x{test.base:x} "
              f"distance 0x{test.distance:x}"]
-    lines += [f"range 0x{start:x} to 0x{end:x}" for start, end in test.ranges]
+    lines += [f"range 0x{start:x} to 0x{end:x}" for start, end in test.ranges.ranges]
     lines += [f"data 0x{data.start:x} to 0x{data.end:x}" for data in test.data]
     lines += [f"word 0x{address:x} 0x{isa.encode(i):08x}" for address, i in test.code.items()]
     lines += [f"leader 0x{address:x}" for address in sorted(leaders(test))]
