@@ -28,36 +28,19 @@ GENERATED_STEPS = 100000000
 ENDED_STATUS, READ_FAULT, WRITE_FAULT, FIRED_STATUS, TRAPPED_STATUS, GOING_STATUS = 0, 5, 6, 10, 11, 12
 
 
-class TooLong(Exception):
-    """A file has more bytes than it may have."""
-
-
 class Shelf:
-    """Files by their names. A fault is an OSError."""
-
-    def load(self, name: str, most: int) -> bytes:
-        """The bytes of a file, or TooLong where it has more than so many."""
-        raise NotImplementedError
-
-    def store(self, name: str, data: bytes) -> None:
-        """Sets a file to these bytes."""
-        raise NotImplementedError
-
-
-class DirShelf(Shelf):
-    """The machine's files; relative names go from a folder on."""
+    """The machine's files; relative names go from a folder on. A fault is an OSError."""
 
     def __init__(self, folder: str) -> None:
         self.folder = folder
 
     def load(self, name: str, most: int) -> bytes:
+        """The bytes of a file, or so many where it has more."""
         with open(os.path.join(self.folder, name), "rb") as file:
-            data = file.read(most + 1)
-        if len(data) > most:
-            raise TooLong()
-        return data
+            return file.read(most)
 
     def store(self, name: str, data: bytes) -> None:
+        """Sets a file to these bytes."""
         with open(os.path.join(self.folder, name), "wb") as file:
             file.write(data)
 
@@ -68,11 +51,12 @@ Answer = Tuple[int, str]
 def load(shelf: Shelf, name: str, most: int) -> bytes:
     """The bytes of a file, by the read fault and L1 ("Limits")."""
     try:
-        return shelf.load(name, most)
+        data = shelf.load(name, most + 1)
     except OSError:
         raise Stopped(READ_FAULT, "read fault\n") from None
-    except TooLong:
-        raise Stopped(4, f"limit L1: over {most}\n") from None
+    if len(data) > most:
+        raise Stopped(4, f"limit L1: over {most}\n")
+    return data
 
 
 def store(shelf: Shelf, name: str, data: bytes) -> None:
@@ -296,7 +280,7 @@ def arguments() -> Optional[List[str]]:
 
 def main() -> int:
     """The program: one call over the files of the disk."""
-    status, text = answer(arguments() or [], DirShelf("."))
+    status, text = answer(arguments() or [], Shelf("."))
     try:
         sys.stdout.buffer.write(text.encode())
         sys.stdout.buffer.flush()

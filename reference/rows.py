@@ -9,7 +9,7 @@ from typing import Callable, Dict, List, Optional, Tuple
 
 import isa
 from admission import Options, admit, blocks, leaders
-from calls import WRITE_FAULT, DirShelf, Shelf, TooLong, answer, transform
+from calls import WRITE_FAULT, Shelf, answer, transform
 from campaign import Course, is_closed, strikes_text
 from elf import read_elf
 from machine import Change, start
@@ -29,6 +29,7 @@ class MemoryShelf(Shelf):
     """Files in memory, of which loads and stores fail as they are told."""
 
     def __init__(self) -> None:
+        super().__init__("")
         self.files: Dict[str, bytearray] = {}
         self.faults: Dict[int, Optional[int]] = {}
         self.calls = 0
@@ -43,9 +44,7 @@ class MemoryShelf(Shelf):
         fails, _ = self._fault()
         if fails or name not in self.files:
             raise OSError(name)
-        if len(self.files[name]) > most:
-            raise TooLong()
-        return bytes(self.files[name])
+        return bytes(self.files[name][:most])
 
     def store(self, name: str, data: bytes) -> None:
         fails, keep = self._fault()
@@ -220,7 +219,7 @@ def _narrow(rows: Rows, words: List[str]) -> str:
 
 def _disk(rows: Rows, words: List[str]) -> str:
     """`disk`: the machine's files."""
-    return _shown(*rows.call(words, DirShelf(rows.folder.name)))
+    return _shown(*rows.call(words, Shelf(rows.folder.name)))
 
 
 def _put(rows: Rows, words: List[str]) -> str:
