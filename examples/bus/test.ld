@@ -2,7 +2,7 @@
 ENTRY(_start)
 PHDRS { text PT_LOAD FLAGS(5); rodata PT_LOAD FLAGS(4); data PT_LOAD FLAGS(6); }
 SECTIONS {
-    . = 0x80100000;
+    . = 0x81000000;
     .text : { *(.text.start) *(.text .text.*) } :text
     . = ALIGN(4096);
     .rodata : { *(.rodata .rodata.* .srodata .srodata.*) . = ALIGN(8); } :rodata

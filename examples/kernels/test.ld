@@ -1,9 +1,9 @@
-/* A segment for each kind of memory, from the first byte of the board's RAM on. The stack has 2,048 bytes: each of its
+/* A segment for each kind of memory. The stack has 2,048 bytes: each of its
    words is a data word, and the word bound grows with them. */
 ENTRY(_start)
 PHDRS { text PT_LOAD FLAGS(5); rodata PT_LOAD FLAGS(4); data PT_LOAD FLAGS(6); }
 SECTIONS {
-    . = 0x80000000;
+    . = 0x81000000;
     .text : { *(.text.start) *(.text .text.*) } :text
     . = ALIGN(4096);
     .rodata : { *(.rodata .rodata.* .srodata .srodata.*) . = ALIGN(8); } :rodata
