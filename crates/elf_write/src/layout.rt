@@ -12,7 +12,7 @@ use elf_types::abi::{EHDR_SIZE, PHDR_SIZE, SYM_SIZE};
 pub const TABLE_NAMES_SIZE: u128 = 26;
 
 /// Where the parts behind the header stand, in bytes from the file's first.
-#[derive(Clone, Copy, Debug)]
+#[derive(Clone, Copy)]
 pub struct Places {
     /// The end of the program headers, from which on the bytes of segments are sought.
     pub start: u128,

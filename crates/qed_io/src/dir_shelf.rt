@@ -1,20 +1,18 @@
 //! The machine's files.
-ghost use Rattle.std.specs.Prelude.{◌≡◌, ◌≢◌, ◌≤◌, ℕ, None, IsErrOf, OnOk, OnErr};
+ghost use Rattle.std.specs.Prelude.{◌≡◌, ◌≢◌, ◌≤◌, ℕ, None, IsErrOf};
 ghost use Rattle.qed_io.specs.Counts.{CountsFaults, counted};
 ghost use Rattle.qed_io.specs.Shelf.{Loads, Stores};
 
+use crate::new_file::NewFile;
 use crate::streams::{load_opened, store_opened};
-use crate::{LoadError, Shelf, StoreError, WriterSink};
+use crate::{LoadError, Shelf, StoreError, WriterSink, replace};
 use elf_types::Bytes;
-use std::alloc::{AllocError, Global};
-use std::fs::{File, OpenFile, OpenOptions};
-use std::io::{ErrorKind, Write};
+use std::alloc::Global;
+use std::fs;
+use std::fs::OpenOptions;
+use std::io::ErrorKind;
 use std::marker::Model;
 use std::rt::Files;
-use std::{fs, io};
-
-// How many names are tried for a new file.
-const NAMES_TRIED: u32 = 100;
 
 /// The files of the machine, by their paths.
 ///
@@ -42,66 +40,6 @@ fn is_replaceable<R: Files>(machine: &R, name: &str) -> bool {
     }
 }
 
-// A new file beside the one of the name, with a name that no file had.
-fn made_beside<R: Files>(
-    machine: &R,
-    alloc: Global,
-    name: &str,
-) -> Result<(String, io::Result<R::File>), AllocError> {
-    for n in 1..NAMES_TRIED {
-        let beside = format!(in alloc; "{name}.{n}.new")?;
-        let made = File::create_new(machine, beside.as_str());
-        match &made {
-            Err(error) if error.kind() == ErrorKind::AlreadyExists => {}
-            _ => return Ok((beside, made)),
-        }
-    }
-    let beside = format!(in alloc; "{name}.new")?;
-    let made = File::create_new(machine, beside.as_str());
-    Ok((beside, made))
-}
-
-// Whether the machine lets no file be made beside another, which may itself be written.
-fn is_refused<F>(made: &io::Result<F>) -> bool {
-    match made {
-        Ok(_) => false,
-        Err(error) => match error.kind() {
-            ErrorKind::PermissionDenied | ErrorKind::InvalidFilename => true,
-            _ => false,
-        },
-    }
-}
-
-// Writes a new file to its end, and lets the machine put it on the disk.
-fn write_down<F: Write + OpenFile + Drop>(
-    made: io::Result<F>,
-    bytes: &[u8],
-    faults: &mut u64,
-) -> Result<(), StoreError>
-    ensures failed { OnErr result ((result ≡ Err StoreError.Failed) × (faults.new ≡ counted faults.old)) }
-    ensures steady { OnOk result (faults.new ≡ faults.old) }
-    ensures not_fell { faults.old ≤ faults.new }
-{
-    let mut opened = made.map(WriterSink::over);
-    store_opened(&mut opened, bytes, faults)?;
-    if let Ok(sink) = opened {
-        if sink.writer.sync_all().is_ok() {
-            return Ok(());
-        }
-    }
-    *faults = faults.saturating_add(1);
-    Err(StoreError::Failed)
-}
-
-// Gives a new file the rights of the one of the name.
-fn take_rights<R: Files>(machine: &R, name: &str, made: &io::Result<R::File>) {
-    if let Ok(old) = fs::symlink_metadata(machine, name) {
-        if let Ok(file) = made {
-            let _ = file.set_permissions(old.permissions());
-        }
-    }
-}
-
 impl<R: Files + Drop> Model for DirShelf<R> {
     ghost use Rattle.std.specs.Prelude.{ℕ};
 
@@ -122,26 +60,14 @@ impl<R: Files + Drop> DirShelf<R> {
         }
     }
 
-    // Writes a new file and renames it over the one of the name; or leaves all as it was, where the machine does not
-    // let it.
+    // Replaces the file of the name, or leaves all as it was, where the machine does not let it.
     fn replace(&mut self, name: &str, bytes: &[u8]) -> Result<bool, StoreError>
         ensures failed { IsErrOf result StoreError.Failed → self.new ≡ counted self.old }
         ensures steady { result ≢ Err StoreError.Failed → self.new ≡ self.old }
         ensures not_fell { self.old ≤ self.new }
     {
-        let (beside, made) = made_beside(&self.machine, self.alloc, name)?;
-        if is_refused(&made) {
-            return Ok(false);
-        }
-        let is_made = made.is_ok();
-        take_rights(&self.machine, name, &made);
-        let written = write_down(made, bytes, &mut self.faults);
-        let placed = written.is_ok() && fs::rename(&self.machine, beside.as_str(), name).is_ok();
-        if is_made && !placed {
-            let _ = fs::remove_file(&self.machine, beside.as_str());
-        }
-        written?;
-        Ok(placed)
+        let mut folder = NewFile::beside(&self.machine, self.alloc, name);
+        replace(&mut folder, bytes, &mut self.faults)
     }
 }
 

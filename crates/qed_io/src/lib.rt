@@ -3,9 +3,11 @@
 #![tactic(auto)]
 
 mod dir_shelf;
+mod folder;
 mod memory_shelf;
 mod memory_sink;
 mod never;
+mod new_file;
 mod shelf;
 mod sink;
 mod std_sink;
@@ -13,6 +15,7 @@ mod stored_files;
 mod streams;
 
 pub use dir_shelf::DirShelf;
+pub use folder::{Folder, replace};
 pub use memory_shelf::MemoryShelf;
 pub use memory_sink::MemorySink;
 pub use never::{NeverShelf, NeverSink};

@@ -19,7 +19,7 @@ const MAX_CODE: u64 = 16_384;
 const MAX_DATA: u64 = 131_072;
 
 /// What a line gives.
-#[derive(Clone, Copy, Debug)]
+#[derive(Clone, Copy)]
 pub enum Given {
     /// An empty line or `.data`.
     Nothing,

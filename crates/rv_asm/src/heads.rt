@@ -8,7 +8,7 @@ use rv_isa::Kind;
 use rv_text::name_of;
 
 /// What the first word of a line says.
-#[derive(Clone, Copy, Debug)]
+#[derive(Clone, Copy)]
 pub enum Head {
     /// There is none.
     Blank,

@@ -74,7 +74,7 @@ fn word_end(text: &[u8]) -> usize
 }
 
 /// The first word of a line, and what follows it.
-#[derive(Clone, Copy, Debug)]
+#[derive(Clone, Copy)]
 pub struct Line<'a> {
     pub head: Head,
     pub word: &'a [u8],

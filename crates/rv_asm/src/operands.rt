@@ -15,7 +15,7 @@ use rv_text::{Form, form_of};
 use texts::{digits, number, register};
 
 /// The operands of an instruction.
-#[derive(Clone, Copy, Debug)]
+#[derive(Clone, Copy)]
 pub struct Operands {
     pub rd: Reg,
     pub rs1: Reg,

@@ -12,7 +12,7 @@ pub const CODE: u64 = 0x10000;
 pub const DATA: u64 = 0x20000;
 
 /// What stands before a line, by the first words of the lines before it.
-#[derive(Clone, Copy, Debug)]
+#[derive(Clone, Copy)]
 pub struct Place {
     /// A line is `.data`.
     pub in_data: bool,

@@ -32,7 +32,7 @@ impl fmt::Display for Word {
 }
 
 /// The upper 20 bits of a word, printed as `0x` and 5 lower-case digits.
-#[derive(Clone, Copy, Debug)]
+#[derive(Clone, Copy)]
 pub struct Upper(pub u32);
 
 impl fmt::Display for Upper {

@@ -12,7 +12,7 @@ use std::alloc::{AllocError, Global};
 use std::fmt;
 
 /// A register, printed as `x5`.
-#[derive(Clone, Copy, Debug)]
+#[derive(Clone, Copy)]
 struct Register(Reg);
 
 impl fmt::Display for Register {
@@ -25,7 +25,7 @@ impl fmt::Display for Register {
 }
 
 /// An address, printed as `-8(x5)`.
-#[derive(Clone, Copy, Debug)]
+#[derive(Clone, Copy)]
 struct Place {
     /// In bytes.
     offset: i64,
@@ -43,7 +43,7 @@ impl fmt::Display for Place {
 }
 
 /// The operands of an instruction and its word, printed behind a space.
-#[derive(Clone, Copy, Debug)]
+#[derive(Clone, Copy)]
 struct Operands {
     ins: Ins,
     word: u32,
