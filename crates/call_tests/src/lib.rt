@@ -4,7 +4,11 @@
 #[cfg(test)]
 mod assembled;
 #[cfg(test)]
+mod folders;
+#[cfg(test)]
 mod jumps;
+#[cfg(test)]
+mod too_large;
 #[cfg(test)]
 mod world;
 #[cfg(test)]

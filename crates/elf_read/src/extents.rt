@@ -10,7 +10,7 @@ use elf_types::ProgramHeader;
 use std::alloc::{AllocError, Global};
 
 /// The addresses of a segment in memory, from `start` to below `end`.
-#[derive(Clone, Copy, Debug)]
+#[derive(Clone, Copy)]
 pub struct Extent {
     /// The number of the segment.
     pub number: u64,

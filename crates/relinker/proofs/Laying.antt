@@ -18,7 +18,7 @@ use Rattle.relinker.specs.declared.layout.Layout.{Layout}
 use Rattle.relinker.specs.Counted.{HasCounted}
 use Rattle.relinker.specs.Joined.{Join}
 use Rattle.relinker.specs.Laid.{IsLaid, IsLaidIn, IsLinked, HasCause, HasLinkCause}
-use Rattle.relinker.specs.Link.{is_low, is_encoded, AreWords, moved, IsLinkable, most_bytes}
+use Rattle.relinker.specs.Link.{is_low, is_encoded, AreWords, moved, IsLinkable, IsWithinForm, LinksWithin, most_bytes}
 use Rattle.relinker.specs.Sink.{ComeNext}
 use Rattle.relinker.proofs.Joining.{parts_join}
 use Rattle.relinker.proofs.Places.{rows_low, rows_moved, encoded_items, decoded_items}
@@ -157,10 +157,27 @@ link_cause count far items (Err (error.TooLarge n)) same counted e =
     (omega (arith, e.0, counted.bytes, ap (λ f. sum_of_sizes f items) same), subst (λ f. most_bytes f < n) same e.1)
 link_cause count far items (Err error.Memory) same counted e = tt
 
+-- a count within the limit is exact
+within : (count : Count) (far : Bool) (items : List Item) → count.far ≡ far → HasCounted count items → count.bytes + 4 ≤ most_bytes count.far → IsWithinForm far items
+within count far items same counted h =
+    let exact : count.bytes ≡ sum_of_sizes count.far items = omega (arith, counted.bytes, most_least count.far (count.bytes + 4) h) in
+    subst (λ f. IsWithinForm f items) same (subst (λ n. n + 4 ≤ most_bytes count.far) exact h)
+
+-- so what is laid out is within the limit
+pub within_form :
+    (count : Count) (far : Bool) (items : List Item) (r : Result Layout LinkError) → count.far ≡ far → HasCounted count items → IfOk r (λ _. count.bytes + 4 ≤ most_bytes count.far)
+    → IfOk r (λ _. IsWithinForm far items)
+within_form count far items (Ok layout) same counted h = within count far items same counted h
+within_form count far items (Err e) same counted h = tt
+
 -- all items at once, of which none has its words yet
 pub all_laid :
-    (count : Count) (far : Bool) (base : ℕ) (items : List Item) (r : Result Layout LinkError) → count.far ≡ far → HasCounted count items → IsLinkable far base items
-    → IfOk r (λ layout. (is : List Item) → HasCounted count is → IsLinkable count.far base is → IsLaid layout [] is) → IfOk r (λ layout. IsLaid layout [] (items ++ []))
-all_laid count far base items (Ok layout) same counted linkable h =
-    subst (λ is. IsLaid layout [] is) (sym (append-nil items)) (h items counted (subst (λ f. IsLinkable f base items) (sym same) linkable))
-all_laid count far base items (Err e) same counted linkable h = tt
+    (count : Count) (far : Bool) (base : ℕ) (items : List Item) (r : Result Layout LinkError) → count.far ≡ far → HasCounted count items → LinksWithin far base items
+    → IfOk r (λ _. count.bytes + 4 ≤ most_bytes count.far) → IfOk r (λ layout. (is : List Item) → HasCounted count is → IsLinkable count.far base is → IsLaid layout [] is)
+    → IfOk r (λ layout. IsLaid layout [] items)
+all_laid count far base items (Ok layout) same counted links h laid = laid items counted (subst (λ f. IsLinkable f base items) (sym same) (links (within count far items same counted h)))
+all_laid count far base items (Err e) same counted links h laid = tt
+
+-- and no others come behind them
+pub none_behind : (layout : Layout) (items : List Item) → IsLaid layout [] items → IsLaid layout [] (items ++ [])
+none_behind layout items l = subst (λ is. IsLaid layout [] is) (sym (append-nil items)) l

@@ -1,5 +1,5 @@
 -- What is asked of items that are laid out, and what their words are.
-use Rattle.std.specs.Prelude.{◌≡◌, ℕ, ◌+◌, ◌^◌, ◌<◌, nat_lt, is_some, Bool, true, false, List, ◌++◌, slice_index}
+use Rattle.std.specs.Prelude.{◌≡◌, ℕ, ◌+◌, ◌^◌, ◌<◌, ◌≤◌, nat_lt, is_some, Bool, true, false, List, ◌++◌, slice_index}
 use Rattle.std.specs.List.{list_all}
 use Rattle.rv_isa.specs.declared.ins.Ins.{Ins}
 use Rattle.qed_model.specs.declared.item.Item.{Item}
@@ -8,7 +8,7 @@ use Rattle.qed_model.specs.declared.limits.TheConstants.{MAX_NEAR_CODE_BYTES}
 use Rattle.qed_model.specs.declared.plan.EntryRow.{EntryRow}
 use Rattle.qed_model.specs.Limits.{limit_of}
 use Rattle.qed_model.specs.Machine.Table.{encode_of}
-use Rattle.qed_model.specs.Weave.Placed.{rows_from, placed, EntriesAscend}
+use Rattle.qed_model.specs.Weave.Placed.{sum_of_sizes, rows_from, placed, EntriesAscend}
 use Rattle.qed_model.specs.Weave.Sequences.{stub}
 
 -- an instruction has a word
@@ -28,6 +28,14 @@ pub record IsLinkable (far : Bool) (base : ℕ) (items : List Item) : Type 0 whe
 abbrev pub most_bytes : Bool → ℕ
 most_bytes false = MAX_NEAR_CODE_BYTES
 most_bytes true = limit_of limit.CodeBytes
+
+-- with the stub they are within the limit of the form
+abbrev pub IsWithinForm : Bool → List Item → Type 0
+IsWithinForm far items = sum_of_sizes far items + 4 ≤ most_bytes far
+
+-- and where they are, they can be linked from `base` on
+abbrev pub LinksWithin : Bool → ℕ → List Item → Type 0
+LinksWithin far base items = IsWithinForm far items → IsLinkable far base items
 
 -- an entry stands below 2^32
 abbrev pub is_low : EntryRow → Bool

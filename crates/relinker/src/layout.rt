@@ -1,10 +1,10 @@
 //! Layout: counted items become words, in memory that is taken at once.
-ghost use Rattle.std.specs.Prelude.{◌≡◌, ◌+◌, ◌^◌, ◌<◌, ◌≤◌, ◌++◌, [], List, true, map, IfOk, IfErr};
+ghost use Rattle.std.specs.Prelude.{◌≡◌, ◌+◌, ◌^◌, ◌<◌, ◌≤◌, [], List, true, map, IfOk, IfErr};
 ghost use Rattle.std.specs.List.{list_all};
 ghost use Rattle.qed_model.specs.declared.item.Item.{Item};
 ghost use Rattle.relinker.specs.Counted.{HasCounted};
 ghost use Rattle.relinker.specs.Laid.{IsLaid, IsLaidIn, IsLinked, HasCause, HasLinkCause};
-ghost use Rattle.relinker.specs.Link.{is_low, moved, IsLinkable, most_bytes};
+ghost use Rattle.relinker.specs.Link.{is_low, moved, IsLinkable, IsWithinForm, LinksWithin, most_bytes};
 ghost use Rattle.relinker.specs.Sink.{ComeNext, Takes};
 
 use crate::ItemSink;
@@ -143,10 +143,11 @@ impl ItemSink for Layout {
 /// The memory for the code of the items, which are counted.
 fn laid(alloc: Global, items: &Emit, base: u64, far: bool) -> Result<Layout, LinkError>
     requires base { base + CODE_ROOM ≤ 2 ^ 63 }
-    requires linkable { IsLinkable far base items.now }
+    requires linkable { LinksWithin far base items.now }
     ensures form { IfOk result (λ layout. layout.far ≡ far) }
     ensures base { IfOk result (λ layout. layout.base ≡ base) }
-    ensures laid { IfOk result (λ layout. IsLaid layout [] (items.now ++ [])) }
+    ensures laid { IfOk result (λ layout. IsLaid layout [] items.now) }
+    ensures limit { IfOk result (λ _. IsWithinForm far items.now) }
     ensures cause { IfErr result (HasLinkCause far items.now) }
 {
     let mut count = Count::new(alloc, far);
@@ -159,8 +160,9 @@ fn laid(alloc: Global, items: &Emit, base: u64, far: bool) -> Result<Layout, Lin
 /// Errors: `TooLarge` exactly where the code has more bytes than its form may have; want of memory.
 pub fn link(alloc: Global, items: &Emit, base: u64, far: bool) -> Result<Linked, LinkError>
     requires base { base + CODE_ROOM ≤ 2 ^ 63 }
-    requires linkable { IsLinkable far base items.now }
+    requires linkable { LinksWithin far base items.now }
     ensures linked { IfOk result (IsLinked far base items.now) }
+    ensures limit { IfOk result (λ _. IsWithinForm far items.now) }
     ensures cause { IfErr result (HasLinkCause far items.now) }
 {
     let mut layout = laid(alloc, items, base, far)?;

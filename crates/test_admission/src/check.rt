@@ -19,7 +19,7 @@ use qed_model::{AdmitError, Options};
 use std::alloc::Global;
 
 /// The parts of a file that was admitted.
-#[derive(Debug, Drop)]
+#[derive(Drop)]
 pub struct TestParts<'a> {
     pub ranges: Vec<CodeRange>,
     pub code: Vec<Stretch<'a>>,

@@ -17,7 +17,7 @@ use qed_model::AdmitError;
 use std::alloc::{AllocError, Global};
 
 /// The aligned words of code, and the data ranges, each joined and in ascending order.
-#[derive(Debug, Drop)]
+#[derive(Drop)]
 pub struct DataSpans {
     /// The segments that are executed, rounded out to multiples of 8.
     pub code: Vec<Span>,

@@ -16,7 +16,7 @@ use qed_model::{AdmitError, Options};
 const PAGE: u64 = 4096;
 
 /// Where the image of a file stands. Addresses and sizes are in bytes.
-#[derive(Clone, Copy, Debug, PartialEq, Eq)]
+#[derive(Clone, Copy, PartialEq, Eq)]
 pub struct ImagePlaces {
     /// The least address, 0 where the image is empty.
     pub low: u64,

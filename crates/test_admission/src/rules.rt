@@ -18,7 +18,7 @@ const LAST_ORIGINAL: u8 = 13;
 const REACH: u64 = 1 << 28;
 
 /// A rule on code words.
-#[derive(Clone, Copy, Debug, PartialEq, Eq)]
+#[derive(Clone, Copy, PartialEq, Eq)]
 pub enum CodeRule {
     /// The word is no instruction.
     Unknown,

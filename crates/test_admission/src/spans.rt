@@ -7,7 +7,7 @@ ghost use Rattle.test_admission.specs.Spans.{bounds_of, all_bounds, glue, glued,
 use std::alloc::{AllocError, Global};
 
 /// Addresses from `start` up to and without `end`, which is at most 2^64.
-#[derive(Clone, Copy, Debug, PartialEq, Eq)]
+#[derive(Clone, Copy, PartialEq, Eq)]
 pub struct Span {
     pub start: u64,
     pub end: u128,

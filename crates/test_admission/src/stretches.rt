@@ -12,7 +12,7 @@ use elf_types::{ElfFile, Section, Segment};
 use std::alloc::{AllocError, Global};
 
 /// Code in one segment.
-#[derive(Clone, Copy, Debug)]
+#[derive(Clone, Copy)]
 pub struct Stretch<'a> {
     /// The first address.
     pub start: u64,

@@ -29,13 +29,13 @@ use Rattle.relinker.specs.declared.error.LinkError.TheVariants as error
 use Rattle.woven_code.specs.declared.code.WovenCode.{WovenCode}
 use Rattle.relinker.specs.Counted.{capped}
 use Rattle.relinker.specs.Laid.{IsLinked, HasLinkCause}
-use Rattle.relinker.specs.Link.{is_encoded, most_bytes}
+use Rattle.relinker.specs.Link.{is_encoded, most_bytes, IsWithinForm, LinksWithin}
 use Rattle.relinker.proofs.Joining.{parts_join}
 use Rattle.test_weave.specs.Form.{form_with, items_to_stub}
 use Rattle.test_weave.proofs.WholeCode.{items_are_whole}
 use Rattle.weave_core.proofs.TestKept.{are_rows}
 use Rattle.weave_core.proofs.Tests.{tests_have_words}
-use Rattle.woven_code.specs.Code.{items_of, place_of, IsWithinForm, LinksWithin, IsCut, IsCodeOf, HasCause}
+use Rattle.woven_code.specs.Code.{items_of, place_of, IsCut, IsCodeOf, HasCause}
 use Rattle.woven_code.proofs.CodeBytes.{few_bytes}
 use Rattle.woven_code.proofs.DataWords.{few_data}
 

@@ -5,5 +5,4 @@ mod RowLaws
 pub mod DataWords
 mod CodeBytes
 mod Forms
-mod Laid
 mod Results

@@ -10,7 +10,8 @@ use Rattle.block_list.specs.Listed.{block_of}
 use Rattle.relinker.specs.declared.error.LinkError.{LinkError}
 use Rattle.woven_code.specs.declared.code.WovenCode.{WovenCode}
 use Rattle.relinker.specs.Laid.{IsLinked, HasLinkCause}
-use Rattle.woven_code.specs.Code.{items_of, place_of, IsWithinForm, IsCut, IsCodeOf, HasCause}
+use Rattle.relinker.specs.Link.{IsWithinForm}
+use Rattle.woven_code.specs.Code.{items_of, place_of, IsCut, IsCodeOf, HasCause}
 use Rattle.woven_code.proofs.Forms.{code_of, cause}
 
 module _ (o : Options) (t : Test) (blocks : List CodeBlock) (far : Bool) (taken : (input : List ℕ) (f : ElfFile) → IsCut input f o t blocks → is_far_code f o (map block_of blocks) ≡ far) where

@@ -7,14 +7,12 @@ use Rattle.qed_model.specs.declared.options.Options.{Options}
 use Rattle.qed_model.specs.declared.test.Test.{Test}
 use Rattle.qed_model.specs.Admission.Test.{IsTestOf}
 use Rattle.qed_model.specs.Limits.{limit_of}
-use Rattle.qed_model.specs.Weave.Placed.{sum_of_sizes}
 use Rattle.qed_model.specs.Weave.Woven.{is_far_code, code_size, new_entries, IsNewCode}
 use Rattle.block_list.specs.declared.block.CodeBlock.{CodeBlock}
 use Rattle.block_list.specs.Listed.{block_of}
 use Rattle.plc_rounds.specs.Spans.{spans_of}
 use Rattle.relinker.specs.declared.error.LinkError.{LinkError}
 use Rattle.relinker.specs.declared.error.LinkError.TheVariants as error
-use Rattle.relinker.specs.Link.{IsLinkable, most_bytes}
 use Rattle.test_weave.specs.declared.weaver.Weaver.{Weaver}
 use Rattle.test_weave.specs.Admitted.{IsTestInBlocks}
 use Rattle.woven_code.specs.declared.code.WovenCode.{WovenCode}
@@ -32,14 +30,6 @@ handed_on w t blocks = items_to_stub t.distance t.entry (form w) (map block_of b
 -- where the code begins
 abbrev pub place_of : Test → ℕ
 place_of t = t.base + 3 * t.distance
-
--- with the stub they are within the limit of the form
-abbrev pub IsWithinForm : Bool → List Item → Type 0
-IsWithinForm far items = sum_of_sizes far items + 4 ≤ most_bytes far
-
--- and where they are, they can be linked from `base` on
-abbrev pub LinksWithin : Bool → ℕ → List Item → Type 0
-LinksWithin far base items = IsWithinForm far items → IsLinkable far base items
 
 -- ---- of a test
 -- the bytes are an admitted test, of which this is told, and these are its blocks

@@ -6,8 +6,9 @@ ghost use Rattle.block_list.specs.Listed.{block_of};
 ghost use Rattle.qed_model.specs.declared.limits.TheConstants.{CODE_ROOM};
 ghost use Rattle.qed_model.specs.Weave.Woven.{is_far_code};
 ghost use Rattle.relinker.specs.Laid.{IsLaid, IsLinked, HasLinkCause};
+ghost use Rattle.relinker.specs.Link.{IsWithinForm, LinksWithin};
 ghost use Rattle.test_weave.specs.Fits.{FitsBlock};
-ghost use Rattle.woven_code.specs.Code.{items_of, handed_on, place_of, IsWithinForm, LinksWithin, IsCut, IsCodeOf, HasCause};
+ghost use Rattle.woven_code.specs.Code.{items_of, handed_on, place_of, IsCut, IsCodeOf, HasCause};
 
 use crate::count::counted;
 use crate::size::code_size;
