@@ -7,10 +7,12 @@
 mod layout;
 mod numbers;
 mod parts;
+mod plain;
 mod records;
 mod sections;
 mod segments;
 mod symbols;
 mod write;
 
+pub use plain::{section, segment};
 pub use write::{file_size, write_elf};

@@ -4,7 +4,7 @@ use Rattle.elf_types.specs.declared.file.Segment.{Segment}
 use Rattle.elf_types.specs.declared.output.OutSection.{OutSection}
 use Rattle.qed_model.specs.declared.plan.EntryRow.{EntryRow}
 use Rattle.qed_model.specs.Weave.OutputParts.{map_section}
-use Rattle.elf_parts.specs.Parts.{section}
+use Rattle.elf_write.specs.Plain.{section}
 
 -- with SHF_ALLOC
 abbrev pub table_over : Option Segment → List OutSection

@@ -3,9 +3,9 @@ ghost use Rattle.std.specs.Prelude.{◌≡◌, ◌++◌, OnOk, IfOk};
 ghost use Rattle.qed_model.specs.Weave.OutputParts.{map_section as map_section_of, row_bytes, map_bytes as map_bytes_of};
 ghost use Rattle.output_file.specs.Sections.{sections_over};
 
-use elf_parts::section;
 use elf_types::abi::{SHF_ALLOC, SHF_EXECINSTR};
 use elf_types::{Bytes, OutSection, Segment};
+use elf_write::section;
 use qed_model::EntryRow;
 use std::alloc::{AllocError, Global};
 

@@ -7,7 +7,7 @@ use Rattle.elf_types.specs.declared.file.Symbol.{Symbol}
 use Rattle.elf_types.specs.declared.output.OutFile.{OutFile}
 use Rattle.elf_types.specs.declared.output.OutSection.{OutSection}
 use Rattle.elf_types.specs.declared.abi.TheConstants.{PF_R, PF_W, PF_X, SHF_WRITE, SHF_ALLOC, SHF_EXECINSTR, STT_NOTYPE, STB_LOCAL, SHN_ABS}
-use Rattle.elf_parts.specs.Parts.{segment, section}
+use Rattle.elf_write.specs.Plain.{segment, section}
 use Rattle.qed_model.specs.Below.{gather}
 use Rattle.qed_model.specs.Numbers.{number_bytes, bytes_of}
 use Rattle.qed_model.specs.Elf.Layout.{written}

@@ -4,9 +4,9 @@ ghost use Rattle.qed_model.specs.Numbers.{bytes_of};
 ghost use Rattle.rv_asm.specs.Assembled.{values_bytes, file_from, file_with as file_with_of};
 
 use crate::place::{CODE, DATA};
-use elf_parts::{section, segment};
 use elf_types::abi::{PF_R, PF_W, PF_X, SHF_ALLOC, SHF_EXECINSTR, SHF_WRITE};
 use elf_types::{Listed, OutFile, OutSection, Segment, Symbol};
+use elf_write::{section, segment};
 use std::alloc::{AllocError, Global};
 
 /// The bytes of code words, each the lowest first.

@@ -16,7 +16,7 @@ use Rattle.qed_model.proofs.Fields.{bytes_of_fit}
 use Rattle.qed_model.proofs.Pairs.{Every, every_among}
 use Rattle.qed_model.proofs.RangeSegments.{AreLoads}
 use Rattle.test_gen.specs.Code.{code}
-use Rattle.elf_parts.specs.Parts.{segment}
+use Rattle.elf_write.specs.Plain.{segment}
 use Rattle.test_gen.specs.Generated.{word_of, code_bytes, table_bytes, data_bytes, function_at}
 use Rattle.test_gen.proofs.Shape.{file_of, AreSized}
 

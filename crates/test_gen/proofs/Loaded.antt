@@ -24,7 +24,7 @@ use Rattle.qed_model.proofs.ImageLaws.{all_sized_among}
 use Rattle.qed_model.proofs.MemoryLaws.{grants_from}
 use Rattle.qed_model.proofs.RangeSegments.{AreLoads}
 use Rattle.test_gen.specs.Code.{function, main, code}
-use Rattle.elf_parts.specs.Parts.{segment}
+use Rattle.elf_write.specs.Plain.{segment}
 use Rattle.test_gen.specs.Generated.{function_at, table_bytes}
 use Rattle.test_gen.proofs.Functions.{length-main, length-functions}
 use Rattle.test_gen.proofs.Sizes.{length-numbers}

@@ -15,7 +15,7 @@ use Rattle.qed_model.specs.Weave.OutputParts.{code_segment, map_bytes, is_kept, 
 use Rattle.qed_model.specs.Weave.Placed.{entry_at}
 use Rattle.qed_model.specs.Weave.Places.{image_of, half_of, code_place}
 use Rattle.qed_model.proofs.OutputFits.{length-map_bytes}
-use Rattle.elf_parts.proofs.Plain.{offset_room, upper}
+use Rattle.elf_write.proofs.PlainFits.{offset_room, upper}
 use Rattle.test_gen.proofs.Writable.{names_size}
 
 -- ---- segments

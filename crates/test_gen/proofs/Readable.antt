@@ -15,7 +15,7 @@ use Rattle.qed_model.proofs.AdmissionLaws.{no_fault}
 use Rattle.qed_model.proofs.Pairs.{every_all}
 use Rattle.elf_write.specs.Widths.{SegmentFits, SectionFits, SymbolFits}
 use Rattle.elf_write.proofs.WholeRead.{reads_back}
-use Rattle.elf_parts.specs.Parts.{segment}
+use Rattle.elf_write.specs.Plain.{segment}
 use Rattle.test_gen.specs.Code.{function_count}
 use Rattle.test_gen.specs.Generated.{code_bytes, table_bytes, data_bytes, code_segment, table_segment, data_segment, sections, function_symbol, symbols, file_with, generated}
 use Rattle.test_gen.proofs.Admitted.{admitted, few_functions}

@@ -15,7 +15,7 @@ use Rattle.qed_model.specs.Admission.CodeWords.{loads_of, ranges_of}
 use Rattle.qed_model.specs.Admission.Rules.{is_writable_code, is_misshapen_section, is_misshapen_segment, is_mixed}
 use Rattle.qed_model.specs.Weave.OutputParts.{base_of, high_of, distance_of}
 use Rattle.qed_model.specs.Weave.Places.{image_of}
-use Rattle.elf_parts.specs.Parts.{segment}
+use Rattle.elf_write.specs.Plain.{segment}
 use Rattle.test_gen.specs.Generated.{sections}
 use Rattle.test_gen.proofs.Stands.{IsImage, field_first}
 

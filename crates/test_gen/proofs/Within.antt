@@ -42,7 +42,7 @@ use Rattle.qed_model.proofs.RangeSegments.{AreLoads}
 use Rattle.qed_model.proofs.ReadFacts.{one_file}
 use Rattle.weave_core.proofs.FilesFit.{length-table}
 use Rattle.weave_core.proofs.TestKept as kept
-use Rattle.elf_parts.specs.Parts.{segment}
+use Rattle.elf_write.specs.Plain.{segment}
 use Rattle.test_gen.specs.Code.{function_count}
 use Rattle.test_gen.specs.Generated.{code_bytes, table_bytes as function_table, data_bytes, function_symbol, symbols, file_with, generated}
 use Rattle.test_gen.proofs.Admitted.{sized, file_admitted, few_functions}

@@ -10,7 +10,7 @@ use Rattle.rv_isa.specs.declared.ins.Ins.{Ins}
 use Rattle.qed_model.specs.Machine.Table.{encode_of}
 use Rattle.qed_model.specs.Below.{each, gather}
 use Rattle.qed_model.specs.Numbers.{number_bytes, bytes_of}
-use Rattle.elf_parts.specs.Parts.{segment, section}
+use Rattle.elf_write.specs.Plain.{segment, section}
 use Rattle.test_gen.specs.Code.{function_count, code}
 
 -- ---- segments

@@ -14,12 +14,11 @@ ghost use Rattle.test_gen.specs.Generated.{sections as sections_of, symbol as sy
 
 use crate::code::{code, function_count, words_bytes};
 use crate::tables::{CODE, data_bytes, function_at, table_bytes};
-use elf_parts::{section, segment};
 use elf_types::abi::{
     PF_R, PF_W, PF_X, SHF_ALLOC, SHF_EXECINSTR, SHF_WRITE, SHN_ABS, STB_GLOBAL, STT_FUNC,
 };
 use elf_types::{Bytes, Listed, OutFile, OutSection, Segment, Symbol};
-use elf_write::write_elf;
+use elf_write::{section, segment, write_elf};
 use std::alloc::{AllocError, Global};
 
 /// Where the table of functions begins.

@@ -1,9 +1,7 @@
 //! Segments that have all their bytes in the file, and the sections over them: what files are made of that this project
 //! generates or assembles.
-#![tactic(auto)]
-
 ghost use Rattle.std.specs.Prelude.{◌≡◌, IfOk};
-ghost use Rattle.elf_parts.specs.Parts.{segment as segment_of, section as section_of};
+ghost use Rattle.elf_write.specs.Plain.{segment as segment_of, section as section_of};
 
 use elf_types::abi::PT_LOAD;
 use elf_types::{Bytes, OutSection, Segment};

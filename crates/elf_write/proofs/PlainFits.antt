@@ -10,7 +10,7 @@ use Rattle.qed_model.specs.Elf.Written.{offset_from}
 use Rattle.qed_model.specs.Elf.Layout.{written, string_table, symbol_names, own_bytes, own_place, symbols_place, strings_place, names_place, headers_place, section_names, is_inside, do_share, IsLoadable, IsPlaced}
 use Rattle.qed_model.proofs.Among.{Among, any_passing}
 use Rattle.elf_write.proofs.Sizes.{length-written}
-use Rattle.elf_parts.specs.Parts.{segment, section}
+use Rattle.elf_write.specs.Plain.{segment, section}
 
 -- ---- segments
 pub loadable : (flags at : ℕ) (bytes : List ℕ) → at + length bytes ≤ 2 ^ 64 → IsLoadable (segment flags at bytes)
