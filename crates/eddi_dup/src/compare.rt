@@ -34,7 +34,7 @@ fn originals() -> [Reg; 13]
 impl Pass for CompareAll {
     ghost use Rattle.std.specs.Prelude.{[], ◌≡◌};
     ghost use Rattle.qed_model.specs.Weave.Sequences.{compare};
-    ghost use Rattle.passes.specs.Pass.{Does, same};
+    ghost use Rattle.eddi_dup.specs.Parts.{Compares};
     ghost use Rattle.eddi_dup.specs.Laws.{any, quiet_compare, honest_compare, lockstep_compare};
 
     ghost is_for = { λ p i at. Unit {0} };
@@ -49,7 +49,7 @@ impl Pass for CompareAll {
 
     ghost needs = { λ p i at w v. v.original ≡ v.shadow };
 
-    ghost gives = { λ p i at w. Does same same 13 };
+    ghost gives = { λ p i at. Compares };
 
     ghost leaves = { λ p i at w v n z. ⊥ };
 

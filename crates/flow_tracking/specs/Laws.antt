@@ -1,35 +1,23 @@
 -- The laws of the entry and of the leave.
-use Rattle.std.proofs.Common.{◌≡◌, ℕ, ◌^◌, ◌<◌, ◌⊎◌, inl, inr, ⊎_elim, Bool, List, [], ◌++◌, refl, sym, subst}
+use Rattle.std.proofs.Common.{◌≡◌, ℕ, ◌⊎◌, inl, inr, ⊎_elim, Bool, [], refl, sym, subst}
 use Rattle.rv_isa.specs.declared.ins.Ins.{Ins}
 use Rattle.rv_isa.specs.declared.class.Class.{Class}
 use Rattle.rv_isa.specs.declared.class.Class.TheVariants as class
 use Rattle.rv_isa.specs.Kind.{class_of}
-use Rattle.qed_model.specs.declared.item.Item.{Item}
 use Rattle.qed_model.specs.Weave.Sequences.{enter, leave_as}
-use Rattle.weave_core.specs.World.{World}
-use Rattle.weave_core.specs.Rows.{At, Led}
 use Rattle.weave_core.specs.KindItems.{LockItems, LandItems, IsEnd, end_branches, end_jumps, end_jumps_reg, end_ends, end_illegal}
-use Rattle.weave_core.proofs.Leaves.{enter_row}
 use Rattle.weave_core.proofs.KindItems.{enter_items, go_items, leave_items}
 use Rattle.weave_core.proofs.Landing.{land_enter, land_go_on, land_leave, plain_mirrors_fit}
-use Rattle.passes.specs.Pass.{Views, Does, same, Quiet, Honest, Lockstep}
-use Rattle.passes.specs.Compose.{leads_led}
+use Rattle.passes.specs.Pass.{Honest, Lockstep}
 use Rattle.passes.proofs.HonestWords.{honest_enter}
-use Rattle.flow_tracking.specs.Leaving.{form_of, left_as, left, IsLeft, Enters}
-pub use Rattle.weave_core.proofs.LeaveLaws.{quiet_leave}
+use Rattle.flow_tracking.specs.Leaving.{form_of, left_as, left, IsLeft}
+pub use Rattle.weave_core.proofs.LeaveLaws.{quiet_enter, quiet_leave}
 
 -- every form of the code suits
 abbrev pub any : Bool → Type 0
 any far = Unit {0}
 
 -- ---- the entry
-pub quiet_enter : (at : ℕ) → Quiet any (enter at) (λ w. Enters w at) (λ w. Does same same 3) (λ w v n z. ⊥) 3
-quiet_enter at = record { leads = λ w v rest s st e. leads_led w v 3 3 rest same same (subst (λ t. Led w v.now 3 3 rest v.original t) e.same (row w v rest e (subst (λ p. At w v.now (enter p ++ rest) v.original v.original) (sym e.here) (subst (λ t. At w v.now (enter at ++ rest) v.original t) (sym e.same) st)))) } where
-  row :
-      (w : World) (v : Views) (rest : List Item) → Enters w at v → At w v.now (enter v.original.pc ++ rest) v.original v.original
-      → Led w v.now 3 3 rest v.original v.original
-  row w v rest e a = enter_row w v.now v.original rest a.over a.halved e.sign (subst (λ p. p < 2 ^ 64) (sym e.here) e.low) a.reads
-
 pub honest_entry : (at : ℕ) → Honest any (enter at)
 honest_entry at = record { honest = λ far s. honest_enter far at }
 

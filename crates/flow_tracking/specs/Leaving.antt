@@ -1,24 +1,14 @@
 -- The entry and the leave of a block, as passes.
-use Rattle.std.specs.Prelude.{◌≡◌, ℕ, ◌+◌, ◌^◌, ◌<◌, Bool, false, List, [], ◌∷◌, ◌++◌, pos, neg_ℤ}
+use Rattle.std.specs.Prelude.{ℕ, ◌+◌, Bool, false, List, [], ◌∷◌, ◌++◌, pos, neg_ℤ}
 use Rattle.rv_isa.specs.declared.kind.Kind.TheVariants.{Add, Addi, Andi, Lw, Jalr}
 use Rattle.rv_isa.specs.declared.ins.Ins.{Ins}
 use Rattle.rv_isa.specs.declared.class.Class.TheVariants as class
 use Rattle.qed_model.specs.Machine.Table.{ins}
-use Rattle.qed_model.specs.Machine.Step.{reg}
 use Rattle.qed_model.specs.declared.item.Item.{Item}
 use Rattle.qed_model.specs.declared.item.Item.TheVariants.{Plain, Go}
 use Rattle.qed_model.specs.Weave.Placed.{go_size}
 use Rattle.qed_model.specs.Weave.Sequences.{guards_of, links, leave_as}
-use Rattle.weave_core.specs.World.{World}
-use Rattle.passes.specs.Pass.{Views}
-pub use Rattle.weave_core.specs.Leaving.{form_of, left_as, left, IsLeft, Leaving, LeavesOn}
-
--- both halves are those of one state of the input, whose pc has its entry here, and the signature is that pc
-pub record Enters (w : World) (at : ℕ) (v : Views) : Type 0 where
-  pub same : v.original ≡ v.shadow
-  pub sign : reg v.now 16 ≡ v.original.pc
-  pub here : v.original.pc ≡ at
-  pub low : at < 2 ^ 64
+pub use Rattle.weave_core.specs.Leaving.{form_of, left_as, left, IsLeft, Enters, Leaving, LeavesOn}
 
 -- ---- the words of a leave, part by part
 -- behind the choice of the signature

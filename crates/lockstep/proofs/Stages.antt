@@ -16,7 +16,8 @@ use Rattle.weave_core.proofs.Leaves.{no_code}
 use Rattle.weave_core.specs.Lock.{ComparesFrom}
 use Rattle.weave_core.specs.Kinds.{thirteen}
 use Rattle.weave_core.specs.Weave.{Weave, pieces_of, body_of}
-use Rattle.weave_core.specs.WeaveLaws.{PiecesAt, EntriesAt, Stands, Visits, stops, Left, Onward, lands, is_lost, Rows, Swept}
+use Rattle.weave_core.specs.WeaveLaws.{PiecesAt, EntriesAt, Stands, stops, Left, Onward, lands, is_lost, Rows, Checked, Swept}
+use Rattle.weave_core.proofs.Visit.{checked_behind}
 use Rattle.weave_core.proofs.Trace.{none_run, one_run, full_rest}
 
 module _ (w : World) (v : Weave) (leader : ℕ → Bool) (rows : Rows w v leader) (entries : EntriesAt w v leader) where
@@ -33,24 +34,15 @@ module _ (w : World) (v : Weave) (leader : ℕ → Bool) (rows : Rows w v leader
   bounded_cursor x s (entering st so) = st.halved.cursor
   bounded_cursor x s (behind more end a so p f) = a.halved.cursor
 
-  -- how many data ranges there are
-  abbrev pub spans_count : ℕ
-  spans_count = length w.form.spans
-
   -- from a boundary to the next, with so many steps at most before the piece
   pub record Staged (x s : State) (before : ℕ) : Type 0 where
     pub moves : ℕ
     pub length : ℕ
     pub to : State
-    pub compare : ℕ
     pub short : length ≤ before + v.piece_steps
-    pub soon : compare ≤ before + v.compare_steps
-    pub inside : compare + 13 ≤ length
     pub slow : moves ≤ length
     pub walk : Walk (Quiet w) x length to
-    pub compares : ComparesFrom w.code (run x compare).pc thirteen
-    pub cursor : reg to 15 ≡ words_on w.form.spans v.round (reg x 15)
-    pub visits : (j : ℕ) → j < v.round → 1 ≤ spans_count → Visits w x length (words_on w.form.spans j (reg x 15))
+    pub checked : Checked w (before + v.compare_steps) v.round x length to
     pub next : Bounded to (run s moves)
 
   -- behind a walk
@@ -58,22 +50,15 @@ module _ (w : World) (v : Weave) (leader : ℕ → Bool) (rows : Rows w v leader
       (u x s : State) (k m b before : ℕ) → Walk (Quiet w) u m x → reg x 15 ≡ reg u 15 → m ≤ b → k ≤ m → Staged x (run s k) before
       → Staged u s (b + before)
   staged_on u x s k m b before a c le slow g =
-      let there : (n : ℕ) → run u (m + n) ≡ run x n = λ n. run-more u m n ∙ ap (λ y. run y n) a.ends in
+      let sum : b + (before + v.compare_steps) ≡ b + before + v.compare_steps = omega arith in
       record {
         moves = k + g.moves;
         length = m + g.length;
         to = g.to;
-        compare = m + g.compare;
         short = omega (arith, g.short, le);
-        soon = omega (arith, g.soon, le);
-        inside = omega (arith, g.inside);
         slow = omega (arith, g.slow, slow);
         walk = walk_on (Quiet w) u x g.to m g.length a g.walk;
-        compares = subst (λ y. ComparesFrom w.code y.pc thirteen) (sym (there g.compare)) g.compares;
-        cursor = g.cursor ∙ ap (λ y. words_on w.form.spans v.round y) c;
-        visits = λ j h one.
-            let y = g.visits j h one in
-            record { at = m + y.at; before = omega (arith, y.before); first = ap (λ s. w.code s.pc) (there y.at) ∙ y.first; cursor = ap (λ s. reg s 15) (there y.at) ∙ y.cursor ∙ ap (λ y. words_on w.form.spans j y) c };
+        checked = subst (λ l. Checked w l v.round u (m + g.length) g.to) sum (checked_behind w (before + v.compare_steps) v.round u x g.to m b g.length (m + g.length) a.ends c le refl g.checked);
         next = subst (Bounded g.to) (sym (run-more s k g.moves)) g.next;
       }
 
@@ -91,20 +76,16 @@ module _ (w : World) (v : Weave) (leader : ℕ → Bool) (rows : Rows w v leader
       let a1 : At w u (v.piece p s.pc ++ (pieces_of v ps (s.pc + 4 * length p) ++ v.leave e (s.pc + 4 * body_length (p ∷ ps)))) s s = subst (λ l. At w u l s s) (append_assoc (v.piece p s.pc) (pieces_of v ps (s.pc + 4 * length p)) (v.leave e (s.pc + 4 * body_length (p ∷ ps)))) a in
       let a2 : At w u (v.piece p s.pc ++ rest) s s = subst (λ k. At w u (v.piece p s.pc ++ (pieces_of v ps (s.pc + 4 * length p) ++ v.leave e k)) s s) far a1 in
       let r = rows.piece p u s rest q.0 a2 so calm in
+      let zero : v.compare_steps ≡ 0 + v.compare_steps = omega arith in
       record {
         moves = length p;
         length = r.steps;
         to = r.to;
-        compare = r.is.compare;
         short = omega (arith, r.within);
-        soon = omega (arith, r.is.soon);
-        inside = r.is.inside;
         slow = r.at_least;
         walk = r.walk;
-        compares = r.is.compares;
-        cursor = r.is.cursor;
-        visits = r.is.visits;
-        next = behind ps e (subst (λ k. At w r.to (body_of v ps e k) t t) (sym there) r.is.at) x.sourced (subst (λ k. PiecesAt w v leader ps e k) (sym there) q.1) (full_rest p ps e f);
+        checked = subst (λ l. Checked w l v.round u r.steps r.to) zero r.is.1;
+        next = behind ps e (subst (λ k. At w r.to (body_of v ps e k) t t) (sym there) r.is.0) x.sourced (subst (λ k. PiecesAt w v leader ps e k) (sym there) q.1) (full_rest p ps e f);
       }
 
   -- from an entry
@@ -132,7 +113,9 @@ module _ (w : World) (v : Weave) (leader : ℕ → Bool) (rows : Rows w v leader
 
   -- the bound may be wider
   staged_more : (x s : State) (b b' : ℕ) → b ≤ b' → Staged x s b → Staged x s b'
-  staged_more x s b b' h g = record { moves = g.moves; length = g.length; to = g.to; compare = g.compare; short = omega (arith, g.short, h); soon = omega (arith, g.soon, h); inside = g.inside; slow = g.slow; walk = g.walk; compares = g.compares; cursor = g.cursor; visits = g.visits; next = g.next }
+  staged_more x s b b' h g =
+      let c = g.checked in
+      record { moves = g.moves; length = g.length; to = g.to; short = omega (arith, g.short, h); slow = g.slow; walk = g.walk; checked = record { compare = c.compare; soon = omega (arith, c.soon, h); inside = c.inside; compares = c.compares; cursor = c.cursor; visits = c.visits }; next = g.next }
 
   -- from behind a piece
   behind_stage :

@@ -55,21 +55,21 @@ pub struct Each<A> {
 }
 
 impl<A: Pass> PassAll for Each<A> {
-    ghost use Rattle.passes.specs.Each.{items_each, ForEach, cost_each, NeedsEach, GivesEach, LeavesEach, quiet_each, honest_each, lockstep_each};
+    ghost use Rattle.passes.specs.Each.{next_at, items_each, ForEach, cost_each, NeedsEach, GivesEach, LeavesEach, quiet_each, honest_each, lockstep_each};
 
-    ghost is_for = { λ e is at. ForEach (A.is_for e.pass) (A.uses e.pass) is at };
+    ghost is_for = { λ e is at. ForEach next_at (A.is_for e.pass) (A.uses e.pass) is at };
 
     ghost suits = { λ e. A.suits e.pass };
 
-    ghost items = { λ e is at. items_each (A.items e.pass) is at };
+    ghost items = { λ e is at. items_each next_at (A.items e.pass) is at };
 
     ghost cost = { λ e is. cost_each (A.cost e.pass) is };
 
-    ghost needs = { λ e is at. NeedsEach (A.needs e.pass) (A.gives e.pass) is at };
+    ghost needs = { λ e is at. NeedsEach next_at (A.needs e.pass) (A.gives e.pass) is at };
 
-    ghost gives = { λ e is at. GivesEach (A.gives e.pass) is at };
+    ghost gives = { λ e is at. GivesEach next_at (A.cost e.pass) (A.gives e.pass) is at };
 
-    ghost leaves = { λ e is at. LeavesEach (A.gives e.pass) (A.leaves e.pass) is at };
+    ghost leaves = { λ e is at. LeavesEach next_at (A.cost e.pass) (A.gives e.pass) (A.leaves e.pass) is at };
 
     #[tactic(auto, using(crate::specs::Emitted::part_none, crate::specs::Emitted::done_none, crate::specs::Emitted::done_more, crate::specs::Emitted::done_part, crate::specs::Emitted::done_all))]
     fn emit_all(&self, list: &[Ins], first: u64, out: &mut Emit) -> Result<(), AllocError> {
@@ -81,11 +81,11 @@ impl<A: Pass> PassAll for Each<A> {
         Ok(())
     }
 
-    ghost quiet = { λ e is at f. quiet_each (A.suits e.pass) (A.is_for e.pass) (A.uses e.pass) (A.items e.pass) (A.needs e.pass) (A.gives e.pass) (A.leaves e.pass) (A.cost e.pass) (A.quiet e.pass) is at f };
+    ghost quiet = { λ e is at f. quiet_each next_at (A.suits e.pass) (A.is_for e.pass) (A.uses e.pass) (A.items e.pass) (A.needs e.pass) (A.gives e.pass) (A.leaves e.pass) (A.cost e.pass) (A.quiet e.pass) is at f };
 
     ghost honest = { λ e is at f. honest_each (A.suits e.pass) (A.is_for e.pass) (A.uses e.pass) (A.items e.pass) (A.honest e.pass) is at f };
 
-    ghost lockstep = { λ e is at f. lockstep_each (A.suits e.pass) (A.is_for e.pass) (A.uses e.pass) (A.items e.pass) (A.lockstep e.pass) is at f };
+    ghost lockstep = { λ e is at f. lockstep_each next_at (A.suits e.pass) (A.is_for e.pass) (A.uses e.pass) (A.items e.pass) (A.lockstep e.pass) is at f };
 }
 
 /// A pass that looks at no instruction, once behind a list.
@@ -139,9 +139,9 @@ impl<A: PassAll, B: PassAll> PassAll for Then<A, B> {
 
     ghost needs = { λ t is at w. NeedsBoth (A.needs t.first is at w) (A.gives t.first is at w) (B.needs t.second is at w) };
 
-    ghost gives = { λ t is at w v. Chain (A.gives t.first is at w v) (B.gives t.second is at w) };
+    ghost gives = { λ t is at w v. Chain v (A.cost t.first is) (A.gives t.first is at w v) (B.gives t.second is at w) };
 
-    ghost leaves = { λ t is at w v n z. A.leaves t.first is at w v n z ⊎ Chain (A.gives t.first is at w v) (B.leaves t.second is at w) n z };
+    ghost leaves = { λ t is at w v n z. A.leaves t.first is at w v n z ⊎ Chain v (A.cost t.first is) (A.gives t.first is at w v) (B.leaves t.second is at w) n z };
 
     #[tactic(auto, using(crate::specs::Emitted::part_first, crate::specs::Emitted::part_second))]
     fn emit_all(&self, list: &[Ins], first: u64, out: &mut Emit) -> Result<(), AllocError> {

@@ -83,9 +83,9 @@ impl<A: Pass, B: Pass> Pass for Then<A, B> {
 
     ghost needs = { λ t i at w. NeedsBoth (A.needs t.first i at w) (A.gives t.first i at w) (B.needs t.second i at w) };
 
-    ghost gives = { λ t i at w v. Chain (A.gives t.first i at w v) (B.gives t.second i at w) };
+    ghost gives = { λ t i at w v. Chain v (A.cost t.first i) (A.gives t.first i at w v) (B.gives t.second i at w) };
 
-    ghost leaves = { λ t i at w v n z. A.leaves t.first i at w v n z ⊎ Chain (A.gives t.first i at w v) (B.leaves t.second i at w) n z };
+    ghost leaves = { λ t i at w v n z. A.leaves t.first i at w v n z ⊎ Chain v (A.cost t.first i) (A.gives t.first i at w v) (B.leaves t.second i at w) n z };
 
     #[tactic(auto, using(crate::specs::Emitted::part_first, crate::specs::Emitted::part_second))]
     fn emit(&self, ins: &Ins, at: u64, out: &mut Emit) -> Result<(), AllocError> {

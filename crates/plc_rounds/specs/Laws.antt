@@ -1,5 +1,5 @@
 -- The laws of the visits.
-use Rattle.std.proofs.Common.{◌≡◌, ℕ, zero, suc, ◌+◌, ◌-◌, ◌*◌, ◌<◌, ◌≤◌, Bool, List, [], ◌∷◌, ◌++◌, length, inl, refl, sym, ap, subst, arith}
+use Rattle.std.proofs.Common.{◌≡◌, ℕ, zero, suc, ◌+◌, ◌-◌, ◌<◌, ◌≤◌, Bool, List, [], ◌∷◌, ◌++◌, length, refl, sym, ap, subst, arith}
 use Rattle.std.specs.Prelude.{pos, slice_index_or, drop}
 use Rattle.std.proofs.lemmas.List.{append-nil}
 use Rattle.qed_model.specs.declared.range.Range.{Range}
@@ -9,42 +9,15 @@ use Rattle.qed_model.specs.Machine.Table.{ins}
 use Rattle.qed_model.specs.declared.item.Item.{Item}
 use Rattle.qed_model.specs.declared.item.Item.TheVariants.{Plain, Constant}
 use Rattle.qed_model.specs.Weave.Sequences.{wraps, visit_word, times, visit}
-use Rattle.qed_model.specs.Weave.Bounds.{visit_bound}
-use Rattle.weave_core.specs.World.{World}
-use Rattle.weave_core.specs.Rows.{At}
-use Rattle.weave_core.proofs.Visit.{visit_row, Visited}
 use Rattle.weave_core.proofs.KindItems.{visits_items}
 use Rattle.weave_core.proofs.Landing.{land_visits}
 use Rattle.passes.specs.Honest.{HonestItems}
-use Rattle.passes.specs.Pass.{Views, Leads, Quiet, Honest, Lockstep}
+use Rattle.passes.specs.Pass.{Honest, Lockstep}
 use Rattle.passes.specs.Compose.{honest_items_then, honest_items_none}
 use Rattle.passes.proofs.HonestWords.{honest_on, honest_constant, honest_skip, honest_head, visit_head}
 use Rattle.passes.specs.Emitted.{AppendsPart, Done, done_more, done_all, done_part}
-use Rattle.plc_rounds.specs.Spans.{Visits}
-
--- every form of the code suits
-abbrev pub any : Bool → Type 0
-any far = Unit {0}
-
--- ---- Quiet
-pub quiet_visit :
-    (round : ℕ) (spans : List (ℕ × ℕ))
-    → Quiet any (visit round spans) (λ w v. (v.original ≡ v.shadow) × (w.form.spans ≡ spans)) (λ w. Visits w round spans) (λ w v n z. ⊥) (visit_bound (length spans) * round)
-quiet_visit round spans = record { leads = λ w v rest s st need. row w v rest need.0 need.1 st } where
-  row :
-      (w : World) (v : Views) (rest : List Item) → v.original ≡ v.shadow → w.form.spans ≡ spans
-      → At w v.now (visit round spans ++ rest) v.original v.shadow
-      → Leads w v (visit_bound (length spans) * round) rest (Visits w round spans v) (λ n z. ⊥)
-  row w v rest e f st =
-      let a : At w v.now (visit round w.form.spans ++ rest) v.original v.original = subst (λ l. At w v.now (visit round l ++ rest) v.original v.original) (sym f) (subst (λ t. At w v.now (visit round spans ++ rest) v.original t) (sym e) st) in
-      let x : Visited w spans v.now v.original round (visit_bound (length spans) * round) rest = subst (λ l. Visited w l v.now v.original round (visit_bound (length l) * round) rest) f (visit_row w round v.now v.original rest a) in
-      record {
-        steps = x.steps;
-        to = record { now = x.to; original = v.original; shadow = v.original; leads = v.leads };
-        within = x.within;
-        walk = x.walk;
-        ends = inl (x.at, record { original = refl; shadow = e; cursor = x.cursor; leads = refl; visits = x.visits });
-      }
+pub use Rattle.weave_core.specs.Parts.{any}
+pub use Rattle.weave_core.proofs.PartLaws.{quiet_visit}
 
 -- ---- Lockstep
 pub lockstep_visit : (round : ℕ) (spans : List (ℕ × ℕ)) → Lockstep any [] (visit round spans)

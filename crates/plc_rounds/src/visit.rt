@@ -74,7 +74,7 @@ impl Pass for Visit {
     ghost use Rattle.std.specs.Prelude.{◌≡◌, ◌*◌, [], length};
     ghost use Rattle.qed_model.specs.Weave.Sequences.{visit};
     ghost use Rattle.qed_model.specs.Weave.Bounds.{visit_bound};
-    ghost use Rattle.plc_rounds.specs.Spans.{spans_of, Visits};
+    ghost use Rattle.plc_rounds.specs.Spans.{spans_of, Rounds};
     ghost use Rattle.plc_rounds.specs.Laws.{any, quiet_visit, honest_visit, lockstep_visit};
 
     ghost is_for = { λ p i at. Unit {0} };
@@ -89,7 +89,7 @@ impl Pass for Visit {
 
     ghost needs = { λ p i at w v. (v.original ≡ v.shadow) × (w.form.spans ≡ spans_of p.span) };
 
-    ghost gives = { λ p i at w. Visits w p.round (spans_of p.span) };
+    ghost gives = { λ p i at w. Rounds w p.round (spans_of p.span) };
 
     ghost leaves = { λ p i at w v n z. ⊥ };
 

@@ -1,8 +1,8 @@
 -- The forms of the code are a weave: they meet the laws of the rows and of the entry, so the promises follow from those of any weave.
-use Rattle.std.proofs.Common.{◌≡◌, ℕ, suc, ◌+◌, ◌*◌, ◌%◌, ◌^◌, ◌<◌, ◌≤◌, inl, inr, ⊎_elim, Bool, true, false, cond, List, [], ◌∷◌, ◌++◌, length, refl, sym, ap, ◌∙◌, subst, arith}
+use Rattle.std.proofs.Common.{◌≡◌, ℕ, suc, ◌+◌, ◌*◌, ◌%◌, ◌^◌, ◌<◌, ◌≤◌, inl, inr, ⊎_elim, Bool, true, false, cond, List, [], ◌∷◌, ◌++◌, length, take, drop, refl, sym, ap, ◌∙◌, subst, arith, append_assoc, ◌-◌}
 use Rattle.std.specs.Prelude.{pos, slice_set}
 use Rattle.std.proofs.lemmas.Bool.{false≢true, and_parts, and_from, leb-true, le-leb, ne_eqb}
-use Rattle.std.proofs.lemmas.List.{append-nil}
+use Rattle.std.proofs.lemmas.List.{append-nil, take-append-drop, length-take-le}
 use Rattle.std.proofs.Math.Nat.{mul-le-mul, mul-le-mul_left}
 use Rattle.rv_isa.specs.declared.ins.Ins.{Ins}
 use Rattle.rv_isa.specs.declared.class.Class.{Class}
@@ -10,38 +10,43 @@ use Rattle.rv_isa.specs.Kind.{class_of}
 use Rattle.rv_isa.specs.declared.class.Class.TheVariants as class
 use Rattle.qed_model.specs.declared.machine.Outcome.TheVariants.{Ended}
 use Rattle.qed_model.specs.Machine.Values.{holds}
-use Rattle.qed_model.specs.Machine.Step.{State, reg, moved, stopped, Known, step, run, jumped, imm, next_pc}
+use Rattle.qed_model.specs.Machine.Step.{State, reg, moved, stopped, Known, HasAt, step, run, jumped, imm, next_pc}
 use Rattle.qed_model.specs.Machine.Program.{Program}
 use Rattle.qed_model.specs.Promise.Kept.{NotTrapped, Kept}
 use Rattle.qed_model.specs.declared.item.Item.{Item}
 use Rattle.qed_model.specs.declared.item.Item.TheVariants.{Plain}
+use Rattle.qed_model.specs.Weave.Pieces.{is_run}
 use Rattle.qed_model.specs.Weave.Blocks.{begins_at}
-use Rattle.qed_model.specs.Weave.Sequences.{Form, Reads, End, Falls, Stops, Block, body_length, each_part, sweep, compare, visit, piece, pieces, leave, leave_as, enter, entry_items, all_entries, prologue, stub}
+use Rattle.qed_model.specs.Weave.Sequences.{Form, Reads, End, Falls, Stops, Block, body_length, each_part, guards, sweep, compare, visit, piece, pieces, leave, leave_as, enter, entry_items, all_entries, prologue, stub}
 use Rattle.qed_model.specs.Weave.Placed.{distance_between, upper_part}
 use Rattle.qed_model.specs.Weave.Bounds.{end_bound}
 use Rattle.qed_model.proofs.Walk.{known_at, run-more, constant_walk, set_reg-pos}
-use Rattle.qed_model.proofs.Walked.{walk_on}
-use Rattle.weave_core.specs.World.{World, Quiet, words_on}
-use Rattle.weave_core.specs.Blocks.{IsEntryOf, Piece, Leaves, EndStands, Pieces, BlockAt}
-use Rattle.weave_core.specs.Rows.{At, Sourced, Mirrors}
+use Rattle.weave_core.specs.World.{World, Twice}
+use Rattle.weave_core.specs.Blocks.{IsEntryOf, FitsPiece, AllFit, Piece, Leaves, EndStands, Pieces, BlockAt}
+use Rattle.weave_core.specs.Rows.{At, Sourced, Mirrors, spent}
 use Rattle.weave_core.specs.WovenIn.{WovenIn}
 use Rattle.weave_core.specs.Plan.{AllGood, Plan, PlanKept, PlanLanded}
 use Rattle.weave_core.specs.Promise.{start_of, ValuesKept, LandingsFire}
-use Rattle.weave_core.specs.Pass.{Views, Leads}
+use Rattle.weave_core.specs.Pass.{Views, Leads, Quiet, Lockstep, Does, same}
 use Rattle.weave_core.specs.Leaving.{swept_end}
-use Rattle.weave_core.proofs.Words.{compare_row, compare_stands}
-use Rattle.weave_core.proofs.Visit.{visit_row, visit_later}
-use Rattle.weave_core.proofs.Body.{spent_first_le, originals_row, body_row, piece_parts}
+use Rattle.weave_core.proofs.Visit.{checked_behind}
+use Rattle.weave_core.proofs.Source.{fit_front, has_front, run_front}
 use Rattle.qed_model.specs.Admission.DataRanges.{word_count}
-use Rattle.weave_core.proofs.Leaves.{enter_row, step-end, step-branch, step-break}
-use Rattle.weave_core.proofs.LeaveLaws.{fall_law, leave_law, quiet_sweep}
+use Rattle.weave_core.proofs.Leaves.{step-end, step-branch, step-break}
+use Rattle.weave_core.specs.Each.{items_each, cost_each, NeedsEach, GivesEach, LeavesEach}
+use Rattle.weave_core.specs.Parts.{any, used, bare, bare_cost, original_cost, Runs, NeedsOriginal, GivesOriginal, LeavesOriginal, GivesMirror, LeavesMirror, ForOriginal, NeedsPiece, GivesPiece, LeavesPiece, piece_items, piece_cost, Checks}
+use Rattle.weave_core.proofs.Compose.{leads_led, quiet_then, quiet_guarded, lockstep_then, quiet_each, each_front}
+use Rattle.weave_core.proofs.PartLaws.{quiet_original, quiet_compare, quiet_visit}
+use Rattle.weave_core.proofs.PieceLaws.{AreChecks, both_checks, never_originals, for_originals, for_mirrors, needs_originals, gives_originals, piece_leads, cost_parts, parts_are}
+use Rattle.weave_core.proofs.LeaveLaws.{quiet_enter, fall_law, leave_law, quiet_sweep}
+use Rattle.weave_core.proofs.KindItems.{items_then, compare_items, visits_items}
+use Rattle.weave_core.proofs.Landing.{land_behind, straight_compare, land_visits}
 use Rattle.weave_core.proofs.Prologue.{prologue_row}
-use Rattle.weave_core.specs.Lock.{ComparesFrom}
-use Rattle.weave_core.specs.Kinds.{thirteen}
-use Rattle.weave_core.specs.Weave.{Weave, pieces_of, block_items, entries_of}
-use Rattle.weave_core.specs.WeaveLaws.{PieceAt, PiecesAt, EntryAt, Holds, Stands, Visits, GoesTo, Inside, Behind, stops, Onward, Left, Rows, Starts, Guarded}
+use Rattle.weave_core.specs.Weave.{Weave, pieces_of, block_items, entries_of, start_steps, stage_steps}
+use Rattle.weave_core.specs.WeaveLaws.{PieceAt, PiecesAt, EntryAt, Holds, Stands, GoesTo, Inside, Behind, stops, Onward, Left, Rows, Starts, Guarded}
 use Rattle.weave_core.specs.WeavePromise.{AllBlocksOf, PlanOf}
-use Rattle.weave_core.specs.WeaveForms.{weave_of}
+use Rattle.weave_core.specs.WeaveForms.{weave_with, weave_of, ChecksLaws}
+use Rattle.qed_model.specs.Weave.Bounds.{visit_bound}
 use Rattle.weave_core.proofs.Values.{WeaveIn, kept, weave_kept}
 use Rattle.rv_isa.specs.declared.kind.Kind.TheVariants.{Beq, Auipc}
 use Rattle.rv_isa.specs.Regs.{set_reg}
@@ -66,161 +71,259 @@ pub entries_same : (form : Form) (most : ℕ) (bs : List Block) → entries_of (
 entries_same form most [] = refl
 entries_same form most (b ∷ bs) = ap (λ l. l ++ entries_of (weave_of form most) bs) (entry_same form most b) ∙ ap (λ l. entry_items form b ++ l) (entries_same form most bs)
 
-module _ (w : World) (most : ℕ) where
+-- ---- the piece, as passes
+-- where the next instruction stands
+abbrev plus : ℕ → ℕ
+plus a = a + 4
+
+each_plus : (part : Ins → ℕ → List Item) (is : List Ins) (at : ℕ) → items_each plus part is at ≡ each_part part is at
+each_plus part [] at = refl
+each_plus part (i ∷ is) at = ap (λ l. part i at ++ l) (each_plus part is (at + 4))
+
+module _ (form : Form) where
+  -- a mirror part leads on in a world of the form that has its law
+  abbrev NeedsOther : Ins → ℕ → World → Views → Type 0
+  NeedsOther i at w v = (w.form ≡ form) × Mirrors w × Runs w i at v.shadow
+
+  abbrev other_cost : Ins → ℕ
+  other_cost i = form.cost - spent i
+
+  quiet_other : (i : Ins) (at : ℕ) → FitsPiece i → Quiet any (form.mirror i at) (NeedsOther i at) (λ w. Does same step 0) (λ w v n z. ⊥) (other_cost i)
+  quiet_other i at f = record {
+    leads = λ w v rest s st r.
+        let a1 : At w v.now (form.mirror i v.shadow.pc ++ rest) v.original v.shadow = subst (λ p. At w v.now (form.mirror i p ++ rest) v.original v.shadow) (sym r.2.here) st in
+        let a2 : At w v.now (w.form.mirror i v.shadow.pc ++ rest) v.original v.shadow = subst (λ (f : Form). At w v.now (f.mirror i v.shadow.pc ++ rest) v.original v.shadow) (sym r.0) a1 in
+        subst (λ (f : Form). Leads w v (f.cost - spent i) rest (Does same step 0 v) (λ n z. ⊥)) r.0
+        (leads_led w v 0 (w.form.cost - spent i) rest same step (r.1.row v.now v.original v.shadow i rest f a2 r.2.sourced r.2.known r.2.calm));
+  }
+
+  -- the guarded originals of some instructions
+  quiet_front :
+      (is : List Ins) (at : ℕ) → AllFit is
+      → Quiet any (items_each plus (λ i at. guards (used i) ++ bare i at) is at) (NeedsEach plus NeedsOriginal GivesOriginal is at) (GivesEach plus original_cost GivesOriginal is at) (LeavesEach plus original_cost GivesOriginal LeavesOriginal is at) (cost_each original_cost is)
+  quiet_front is at f =
+      quiet_each plus any ForOriginal (λ i. []) (λ i at. guards (used i) ++ bare i at) NeedsOriginal GivesOriginal LeavesOriginal original_cost
+      (λ i at f. quiet_guarded any (used i) (bare i at) (λ w v. Runs w i at v.original) (λ w. Does step same 1) (λ w v n z. ⊥) (bare_cost i) f.1 (quiet_original i at f.0)) is at (for_originals plus is at f)
+
+  abbrev suits : Bool → Type 0
+  suits far = any far × (any far × any far)
+
+  -- the checks need that both halves are equal
+  abbrev Alike : World → Views → Type 0
+  Alike w v = (v.original ≡ v.shadow) × (w.form ≡ form)
+
+  -- all of it
+  quiet_piece :
+      (checks : List Item) (first steps : ℕ) → ChecksLaws form checks first steps → (is : List Ins) (at : ℕ) → AllFit is
+      → Quiet suits (piece_items plus form.mirror checks is at) (NeedsPiece plus NeedsOther other_cost Alike is at) (GivesPiece plus other_cost (λ w. Checks w first form.round) is at) (LeavesPiece plus other_cost (λ w v n z. ⊥) is at) (piece_cost other_cost steps is)
+  quiet_piece checks first steps laws is at f =
+      quiet_then any (λ far. any far × any far) _ _ _ _ _ _ _ _ _ _ (quiet_front is at f)
+      (quiet_then any any _ _ _ _ _ _ _ _ _ _ (quiet_each plus any (λ i at. FitsPiece i) (λ i. []) form.mirror NeedsOther GivesMirror LeavesMirror other_cost quiet_other is at (for_mirrors plus is at f)) laws.quiet)
+
+-- ---- the checks of a form
+pub form_checks : (form : Form) → ChecksLaws form (compare ++ visit form.round form.spans) 0 (13 + visit_bound (length form.spans) * form.round)
+form_checks form = record {
+  quiet = record {
+    leads = λ w v rest s st need.
+        let q = quiet_then any any _ _ _ _ _ _ _ _ _ _ quiet_compare (quiet_visit form.round form.spans) in
+        let b = both_checks w form.round form.spans (ap (λ (f : Form). f.spans) need.1) in
+        let x = q.leads w v rest (tt, tt) st (b.ready v need.0) in
+        record { steps = x.steps; to = x.to; within = x.within; walk = x.walk; ends = ⊎_elim (λ g. inl (g.0, b.checks v x.to x.steps g.1)) (λ l. inr (b.never v x.to x.steps l)) x.ends };
+  };
+  lockstep = record {
+    locks = λ far s. items_then far compare (visit form.round form.spans) (compare_items far) (visits_items far form.round form.spans);
+    lands = λ far s. land_behind far compare (visit form.round form.spans) (straight_compare far) (land_visits far form.round form.spans);
+  };
+}
+
+-- ---- the rows, with any checks
+module _ (w : World) (most : ℕ) (checks : List Item) (first steps : ℕ) (laws : ChecksLaws w.form checks first steps) (leader : ℕ → Bool) where
   abbrev v : Weave
-  v = weave_of w.form most
+  v = weave_with w.form most checks first steps
 
-  -- ---- pieces, both ways
-  pub old_piece : (at : ℕ) (is : List Ins) → PieceAt w v at is → Piece w most at is
-  old_piece at is p = let b = and_parts _ _ p.one in record { has = p.has; fits = p.fit; run = b.0; short = leb-true (length is) most b.1 }
+  -- both halves are those of s
+  abbrev views : State → State → Views
+  views u s = record { now = u; original = s; shadow = s; leads = leader }
 
-  pub new_piece : (at : ℕ) (is : List Ins) → Piece w most at is → PieceAt w v at is
+  at_views : (z : Views) (t : State) (rest : List Item) → At w z.now rest z.original z.shadow → z.original ≡ t → z.shadow ≡ t → At w z.now rest t t
+  at_views z t rest a e f = subst (λ y. At w z.now rest t y) f (subst (λ y. At w z.now rest y z.shadow) e a)
+
+  -- ---- the entry
+  pub enter_law :
+      (u s : State) (rest : List Item) → Stands w leader u s → s.pc < 2 ^ 64 → Reads w.form.far w.code w.entry u.pc (v.enter s.pc ++ rest)
+      → GoesTo w u 0 3 (λ n x. At w x rest s s × (reg x 15 ≡ reg u 15))
+  enter_law u s rest st low r =
+      let g = (quiet_enter s.pc).leads w (views u s) rest tt (record { over = st.over; reads = (sym st.pc, r); halved = st.halved }) (record { same = refl; sign = st.sign; here = refl; low = low }) in
+      ⊎_elim
+      (λ e. record { steps = g.steps; to = g.to.now; at_least = omega arith; within = g.within; walk = g.walk; is = (at_views g.to s rest e.0 e.1.original e.1.shadow, e.1.cursor) })
+      (λ l. absurd l)
+      g.ends
+
+  module _ (law : Mirrors w) where
+    -- ---- a piece
+    -- the guarded originals
+    abbrev part : Ins → ℕ → List Item
+    part i at = guards (used i) ++ bare i at
+
+    inside_law :
+        (is : List Ins) (n : ℕ) (u s : State) (rest : List Item) → n < length is → PieceAt w v s.pc is → At w u (v.piece is s.pc ++ rest) s s
+        → Sourced w s → NotTrapped (run s n) → GoesTo w u n v.piece_steps (λ k x. Inside w s n x)
+    inside_law is n u s rest l p a so calm =
+        let both = and_parts _ _ p.one in
+        let xs = take n is in
+        let ys = drop n is in
+        let tail = items_each plus w.form.mirror is s.pc ++ checks in
+        let split : is ≡ take n is ++ drop n is = sym (take-append-drop n is) in
+        let count : length (take n is) ≡ n = length-take-le n is (omega (arith, l)) in
+        let f = each_front plus part xs ys s.pc in
+        let same : v.piece is s.pc ≡ items_each plus part (take n is) s.pc ++ (f.0 ++ (items_each plus w.form.mirror is s.pc ++ checks)) =
+        sym (parts_are plus w.form.mirror checks is s.pc (λ part. each_plus part is s.pc)) ∙ ap (λ k. items_each plus part k s.pc ++ tail) split
+        ∙ ap (λ k. k ++ tail) f.1 ∙ append_assoc (items_each plus part xs s.pc) f.0 tail in
+        let shape = ap (λ k. k ++ rest) same ∙ append_assoc (items_each plus part xs s.pc) (f.0 ++ tail) rest in
+        let fit = fit_front xs ys (subst AllFit split p.fit) in
+        let clean = run_front (λ r. false) xs ys (subst (λ k. is_run k ≡ true) split both.0) in
+        let has = has_front w.source s.pc xs ys (subst (HasAt w.source s.pc) split p.has) in
+        let needs = needs_originals plus (λ a h. refl) w xs (λ r. false) s.pc (views u s) fit clean (λ r e. refl) so refl has (subst (λ k. NotTrapped (run s k)) (sym count) calm) in
+        let g = (quiet_front w.form xs s.pc fit).leads w (views u s) ((f.0 ++ tail) ++ rest) tt (subst (λ k. At w u k s s) shape a) needs in
+        ⊎_elim
+        (λ e.
+        let m = gives_originals plus (λ a h. refl) w xs s.pc (views u s) g.to g.steps e.1 in
+        let here : g.to.original ≡ run s n = m.original ∙ ap (run s) count in
+        let t : Twice w g.to.now (run s n) g.to.shadow = subst (λ y. Twice w g.to.now y g.to.shadow) here e.0.halved in
+        let three = cost_parts 3 (λ i. 0) (omega arith) (λ i. omega arith) xs in
+        let few : 3 * n ≤ w.form.cost * most = mul-le-mul law.enough (let h = leb-true (length is) most both.1 in omega (arith, h, l)) in
+        record {
+          steps = g.steps;
+          to = g.to.now;
+          at_least = omega (arith, m.slow, count);
+          within = omega (arith, g.within, three, count, few);
+          walk = g.walk;
+          is = record { going = e.0.over.going; holds = record { output = t.output; originals = t.originals; bytes = t.bytes } };
+        })
+        (λ e. absurd (never_originals plus xs s.pc w (views u s) g.to g.steps e))
+        g.ends
+
+    piece_law :
+        (is : List Ins) (u s : State) (rest : List Item) → PieceAt w v s.pc is → At w u (v.piece is s.pc ++ rest) s s → Sourced w s
+        → NotTrapped (run s (length is)) → GoesTo w u (length is) v.piece_steps (Behind w v u s (length is) rest)
+    piece_law is u s rest p a so calm =
+        let both = and_parts _ _ p.one in
+        let same = sym (parts_are plus w.form.mirror checks is s.pc (λ part. each_plus part is s.pc)) in
+        let few = cost_parts w.form.cost (other_cost w.form) law.enough (λ i. omega arith) is in
+        let m : w.form.cost * length is ≤ w.form.cost * most = mul-le-mul_left w.form.cost (leb-true (length is) most both.1) in
+        let are : AreChecks w (Alike w.form) (λ w'. Checks w' first w.form.round) (λ w v n z. ⊥) first w.form.round = record { ready = λ v h. (h, refl); checks = λ v z n c. c; never = λ v z n l. l } in
+        let g = piece_leads plus (λ a h. refl) w (NeedsOther w.form) (λ i at v r. (refl, law, r)) (other_cost w.form) (Alike w.form) (λ w'. Checks w' first w.form.round) (λ w v n z. ⊥) first w.form.round are is s.pc (suits w.form) (tt, (tt, tt)) (w.form.cost * length is) steps (piece_items plus w.form.mirror checks is s.pc) few (quiet_piece w.form checks first steps laws is s.pc p.fit) (views u s) rest refl refl p.has p.fit both.0 so calm (subst (λ l. At w u (l ++ rest) s s) same a) in
+        ⊎_elim
+        (λ e.
+        let c = e.1.checked in
+        record {
+          steps = g.steps;
+          to = g.to.now;
+          at_least = e.1.slow;
+          within = omega (arith, g.within, m);
+          walk = g.walk;
+          is = (at_views g.to (run s (length is)) rest e.0 e.1.original e.1.shadow, record { compare = c.compare; soon = omega (arith, c.soon, m); inside = c.inside; compares = c.compares; cursor = c.cursor; visits = c.visits });
+        })
+        (λ e. absurd e)
+        g.ends
+
+    -- ---- leaves
+    module _ (block : (a : ℕ) → leader a ≡ true → IsEntryOf w a) where
+      -- from the law of the pass
+      left_of :
+          (u s t : State) (least : ℕ) {Is : ℕ → Views → Type 0} → Leads w (views u s) 14 [] (λ n z. ⊥) Is
+          → ((n : ℕ) (z : Views) → Is n z → Onward w leader u t z.now × (least ≤ n)) → Left w v leader u t least
+      left_of u s t least g f =
+          ⊎_elim
+          (λ e. absurd e.1)
+          (λ l. let x = f g.steps g.to l in inr (record { steps = g.steps; to = g.to.now; at_least = x.1; within = g.within; walk = g.walk; is = x.0 }))
+          g.ends
+
+      stop_law :
+          (c : Class) (u s : State) (i : Ins) → class_of i.kind ≡ c → At w u (leave_as w.form c i s.pc) s s → Sourced w s → w.source s.pc ≡ Known i
+          → Leaves c w leader i s.pc → NotTrapped (step s) → Left w v leader u (step s) 1
+      stop_law class.End u s i c a so h g calm = by w.form.sweep refl a where
+        by : (b : Bool) → w.form.sweep ≡ b → At w u (cond b (sweep w.form.spans ++ compare) [] ++ (Plain i ∷ [])) s s → Left w v leader u (step s) 1
+        by true is a =
+            let e : step s ≡ stopped Ended s = step-end s i so.over.going (known_at w.source s i so.over h) c in
+            let a1 : At w u (swept_end w.form.spans i ++ []) s s = subst (λ l. At w u l s s) (sym (append-nil (swept_end w.form.spans i))) a in
+            let x = (quiet_sweep w.form.spans i c).leads w (views u s) [] tt a1 (record { same = refl; spans_are = refl }) in
+            let high : x.steps ≤ end_bound w.form.sweep (length w.form.spans) (word_count w.form.spans) = subst (λ b. x.steps ≤ end_bound b (length w.form.spans) (word_count w.form.spans)) (sym is) x.within in
+            ⊎_elim
+            (λ e. absurd e.1)
+            (λ l.
+            let has : Holds w x.to.now (stopped Ended s) = record { output = l.holds.output; originals = l.holds.originals; bytes = l.holds.bytes } in
+            inl (record {
+              steps = x.steps;
+              to = x.to.now;
+              at_least = omega (arith, l.swept.exact);
+              within = omega (arith, high);
+              walk = x.walk;
+              is = (record { ended = l.ended; holds = subst (Holds w x.to.now) (sym e) has; input = ap (λ x. x.outcome) e }, λ sw. l.swept);
+            }))
+            x.ends
+        by false is a =
+            let x = leave_law w [] (views u s) block class.End 0 i c tt a so (h, refl, tt, calm) in
+            ⊎_elim
+            (λ e. absurd e.1)
+            (λ l. inl (record { steps = x.steps; to = x.to.now; at_least = l.left.2; within = omega (arith, x.within); walk = x.walk; is = (l.left.0, λ sw. absurd (false≢true (sym is ∙ sw))) }))
+            x.ends
+      stop_law class.Illegal u s i c a so h g calm = left_of u s (step s) 1 (leave_law w [] (views u s) block class.Illegal 0 i c tt a so (h, refl, tt, calm)) (λ n z l. l.left)
+      stop_law class.Jump u s i c a so h g calm = left_of u s (step s) 1 (leave_law w [] (views u s) block class.Jump 0 i c g.0 a so (h, refl, g, calm)) (λ n z l. l.left)
+      stop_law class.Branch u s i c a so h g calm = left_of u s (step s) 1 (leave_law w [] (views u s) block class.Branch ((s.pc + 4) % 2 ^ 64) i c (g.0, g.1, refl) a so (h, refl, g, calm)) (λ n z l. l.left)
+      stop_law class.JumpReg u s i c a so h g calm = left_of u s (step s) 1 (leave_law w [] (views u s) block class.JumpReg 0 i c (g.0, g.1) a so (h, refl, g, calm)) (λ n z l. l.left)
+      stop_law k u s i c a so h g calm = absurd g
+
+      pub leave_row :
+          (e : End) (u s : State) → At w u (leave w.form e s.pc) s s → Sourced w s → EndStands w leader e s.pc → NotTrapped (run s (stops e))
+          → Left w v leader u (run s (stops e)) (stops e)
+      unfolding run
+      leave_row Falls u s a so g calm = left_of u s s 0 (fall_law w [] (views u s) block s.pc a so g refl) (λ n z l. (l.left, omega arith))
+      leave_row (Stops i) u s a so g calm = stop_law (class_of i.kind) u s i refl a so g.0 g.1 calm
+
+    short_law : (is : List Ins) → v.fits is ≡ true → length is ≤ v.piece_steps
+    short_law is e = let h = leb-true (length is) most (and_parts _ _ e).1 in let m : 3 * most ≤ w.form.cost * most = mul-le-mul law.enough (omega arith) in omega (arith, h, m)
+
+    entry_known : (a : ℕ) → EntryAt w v leader a → IsEntryOf w a
+    entry_known a b =
+        let i = ins Auipc 30 0 0 (upper_part (distance_between (w.entry a) a)) in
+        record { low = b.good.low; entry_low = omega (arith, w.low (w.entry a) i b.reads.1.0); grain = w.grain (w.entry a) i b.reads.1.0 }
+
+    -- ---- all of them
+    pub rows_with : Rows w v leader
+    rows_with = record { short = short_law; known = entry_known; enter = enter_law; inside = inside_law; piece = piece_law; leave = leave_row }
+
+  -- ---- what runs first
+  pub starts_with : (f g : Program) → Starts f g w v leader
+  starts_with f g = record { first = λ d entry leads begins regs are. prologue_row f g w leader (record { world = d; begins = begins; leads = leads; entry = entry }) regs are }
+
+-- ---- a form
+module _ (w : World) (most : ℕ) where
+  abbrev wv : Weave
+  wv = weave_of w.form most
+
+  abbrev pub both : List Item
+  both = compare ++ visit w.form.round w.form.spans
+
+  abbrev pub both_steps : ℕ
+  both_steps = 13 + visit_bound (length w.form.spans) * w.form.round
+
+  pub form_rows : (leader : ℕ → Bool) → Mirrors w → Rows w wv leader
+  form_rows leader law = rows_with w most both 0 both_steps (form_checks w.form) leader law
+
+  pub form_starts : (leader : ℕ → Bool) (f g : Program) → Starts f g w wv leader
+  form_starts leader f g = starts_with w most both 0 both_steps (form_checks w.form) leader f g
+
+  -- ---- pieces
+  pub new_piece : (at : ℕ) (is : List Ins) → Piece w most at is → PieceAt w wv at is
   new_piece at is p = record { has = p.has; fit = p.fits; one = and_from _ _ p.run (le-leb (length is) most p.short) }
 
-  pub new_pieces : (leader : ℕ → Bool) (ps : List (List Ins)) (e : End) (at : ℕ) → Pieces w leader most ps e at → PiecesAt w v leader ps e at
+  pub new_pieces : (leader : ℕ → Bool) (ps : List (List Ins)) (e : End) (at : ℕ) → Pieces w leader most ps e at → PiecesAt w wv leader ps e at
   new_pieces leader [] e at p = p
   new_pieces leader (x ∷ ps) e at p = (new_piece at x p.0, new_pieces leader ps e (at + 4 * length x) p.1)
 
-  module _ (leader : ℕ → Bool) where
-    -- ---- the entry
-    pub enter_law :
-        (u s : State) (rest : List Item) → Stands w leader u s → s.pc < 2 ^ 64 → Reads w.form.far w.code w.entry u.pc (v.enter s.pc ++ rest)
-        → GoesTo w u 0 3 (λ n x. At w x rest s s × (reg x 15 ≡ reg u 15))
-    enter_law u s rest st low r =
-        let l = enter_row w u s rest st.over st.halved st.sign low (sym st.pc, r) in
-        record { steps = l.steps; to = l.to; at_least = omega arith; within = l.within; walk = l.walk; is = (l.at, l.cursor) }
-
-    module _ (law : Mirrors w) where
-      -- ---- a piece
-      inside_law :
-          (is : List Ins) (n : ℕ) (u s : State) (rest : List Item) → n < length is → PieceAt w v s.pc is → At w u (piece w.form is s.pc ++ rest) s s
-          → Sourced w s → NotTrapped (run s n) → GoesTo w u n v.piece_steps (λ k x. Inside w s n x)
-      inside_law is n u s rest l p a so calm =
-          let q = old_piece s.pc is p in
-          let a1 = subst (λ l. At w u l s s) (piece_parts w is s.pc rest) a in
-          let ms = each_part w.form.mirror is s.pc ++ (compare ++ (visit w.form.round w.form.spans ++ rest)) in
-          let r = originals_row w is n (λ r. false) u s s ms (omega arith) q.fits q.run (λ r e. refl) a1 so q.has calm in
-          let three = spent_first_le is n in
-          let few : n ≤ most = omega (arith, q.short, l) in
-          let m : 3 * n ≤ w.form.cost * most = mul-le-mul law.enough few in
-          let t = r.at.halved in
-          record {
-            steps = r.steps;
-            to = r.to;
-            at_least = r.at_least;
-            within = omega (arith, r.within, three, m);
-            walk = r.walk;
-            is = record { going = r.at.over.going; holds = record { output = t.output; originals = t.originals; bytes = t.bytes } };
-          }
-
-      piece_law :
-          (is : List Ins) (u s : State) (rest : List Item) → PieceAt w v s.pc is → At w u (piece w.form is s.pc ++ rest) s s → Sourced w s
-          → NotTrapped (run s (length is)) → GoesTo w u (length is) v.piece_steps (Behind w v u s (length is) rest)
-      piece_law is u s rest p a so calm =
-          let q = old_piece s.pc is p in
-          let vs = visit w.form.round w.form.spans in
-          let t = run s (length is) in
-          let a2 = subst (λ l. At w u l s s) (piece_parts w is s.pc rest) a in
-          let b = body_row w law most is u s (compare ++ (vs ++ rest)) q a2 so calm in
-          let c = compare_row w b.to (vs ++ rest) t b.at in
-          let z = visit_row w w.form.round c.to t rest c.at in
-          let m = mul-le-mul_left w.form.cost q.short in
-          let mid : run u b.steps ≡ b.to = b.walk.ends in
-          let two = walk_on (Quiet w) u b.to c.to b.steps c.steps b.walk c.walk in
-          record {
-            steps = b.steps + c.steps + z.steps;
-            to = z.to;
-            at_least = omega (arith, b.at_least);
-            within = omega (arith, b.within, c.within, z.within, m);
-            walk = walk_on (Quiet w) u c.to z.to (b.steps + c.steps) z.steps two z.walk;
-            is = record {
-              at = z.at;
-              compare = b.steps;
-              soon = omega (arith, b.within, m);
-              inside = omega (arith, c.at_least);
-              compares = subst (λ x. ComparesFrom w.code x.pc thirteen) (sym mid) (compare_stands w b.to.pc (vs ++ rest) b.at.reads);
-              cursor = z.cursor ∙ ap (λ k. words_on_ k) (c.cursor ∙ b.cursor);
-              visits = λ j h one. subst (λ k. Visits w u (b.steps + c.steps + z.steps) (words_on w.form.spans j k)) (c.cursor ∙ b.cursor) (visit_later w u (b.steps + c.steps) c.to z.steps (words_on w.form.spans j (reg c.to 15)) two.ends (z.visits j h one));
-            };
-          } where
-            words_on_ : ℕ → ℕ
-            words_on_ k = words_on w.form.spans w.form.round k
-
-      -- ---- leaves
-      module _ (block : (a : ℕ) → leader a ≡ true → IsEntryOf w a) where
-        abbrev views : State → State → Views
-        views u s = record { now = u; original = s; shadow = s; leads = leader }
-
-        -- from the law of the pass
-        left_of :
-            (u s t : State) (least : ℕ) {Is : ℕ → Views → Type 0} → Leads w (views u s) 14 [] (λ n z. ⊥) Is
-            → ((n : ℕ) (z : Views) → Is n z → Onward w leader u t z.now × (least ≤ n)) → Left w v leader u t least
-        left_of u s t least g f =
-            ⊎_elim
-            (λ e. absurd e.1)
-            (λ l. let x = f g.steps g.to l in inr (record { steps = g.steps; to = g.to.now; at_least = x.1; within = g.within; walk = g.walk; is = x.0 }))
-            g.ends
-
-        stop_law :
-            (c : Class) (u s : State) (i : Ins) → class_of i.kind ≡ c → At w u (leave_as w.form c i s.pc) s s → Sourced w s → w.source s.pc ≡ Known i
-            → Leaves c w leader i s.pc → NotTrapped (step s) → Left w v leader u (step s) 1
-        stop_law class.End u s i c a so h g calm = by w.form.sweep refl a where
-          by : (b : Bool) → w.form.sweep ≡ b → At w u (cond b (sweep w.form.spans ++ compare) [] ++ (Plain i ∷ [])) s s → Left w v leader u (step s) 1
-          by true is a =
-              let e : step s ≡ stopped Ended s = step-end s i so.over.going (known_at w.source s i so.over h) c in
-              let a1 : At w u (swept_end w.form.spans i ++ []) s s = subst (λ l. At w u l s s) (sym (append-nil (swept_end w.form.spans i))) a in
-              let x = (quiet_sweep w.form.spans i c).leads w (views u s) [] tt a1 (record { same = refl; spans_are = refl }) in
-              let high : x.steps ≤ end_bound w.form.sweep (length w.form.spans) (word_count w.form.spans) = subst (λ b. x.steps ≤ end_bound b (length w.form.spans) (word_count w.form.spans)) (sym is) x.within in
-              ⊎_elim
-              (λ e. absurd e.1)
-              (λ l.
-              let has : Holds w x.to.now (stopped Ended s) = record { output = l.holds.output; originals = l.holds.originals; bytes = l.holds.bytes } in
-              inl (record {
-                steps = x.steps;
-                to = x.to.now;
-                at_least = omega (arith, l.swept.exact);
-                within = omega (arith, high);
-                walk = x.walk;
-                is = (record { ended = l.ended; holds = subst (Holds w x.to.now) (sym e) has; input = ap (λ x. x.outcome) e }, λ sw. l.swept);
-              }))
-              x.ends
-          by false is a =
-              let x = leave_law w [] (views u s) block class.End 0 i c tt a so (h, refl, tt, calm) in
-              ⊎_elim
-              (λ e. absurd e.1)
-              (λ l. inl (record { steps = x.steps; to = x.to.now; at_least = l.left.2; within = omega (arith, x.within); walk = x.walk; is = (l.left.0, λ sw. absurd (false≢true (sym is ∙ sw))) }))
-              x.ends
-        stop_law class.Illegal u s i c a so h g calm = left_of u s (step s) 1 (leave_law w [] (views u s) block class.Illegal 0 i c tt a so (h, refl, tt, calm)) (λ n z l. l.left)
-        stop_law class.Jump u s i c a so h g calm = left_of u s (step s) 1 (leave_law w [] (views u s) block class.Jump 0 i c g.0 a so (h, refl, g, calm)) (λ n z l. l.left)
-        stop_law class.Branch u s i c a so h g calm = left_of u s (step s) 1 (leave_law w [] (views u s) block class.Branch ((s.pc + 4) % 2 ^ 64) i c (g.0, g.1, refl) a so (h, refl, g, calm)) (λ n z l. l.left)
-        stop_law class.JumpReg u s i c a so h g calm = left_of u s (step s) 1 (leave_law w [] (views u s) block class.JumpReg 0 i c (g.0, g.1) a so (h, refl, g, calm)) (λ n z l. l.left)
-        stop_law k u s i c a so h g calm = absurd g
-
-        pub leave_row :
-            (e : End) (u s : State) → At w u (leave w.form e s.pc) s s → Sourced w s → EndStands w leader e s.pc → NotTrapped (run s (stops e))
-            → Left w v leader u (run s (stops e)) (stops e)
-        unfolding run
-        leave_row Falls u s a so g calm = left_of u s s 0 (fall_law w [] (views u s) block s.pc a so g refl) (λ n z l. (l.left, omega arith))
-        leave_row (Stops i) u s a so g calm = stop_law (class_of i.kind) u s i refl a so g.0 g.1 calm
-
-      short_law : (is : List Ins) → v.fits is ≡ true → length is ≤ v.piece_steps
-      short_law is e = let h = leb-true (length is) most (and_parts _ _ e).1 in let m : 3 * most ≤ w.form.cost * most = mul-le-mul law.enough (omega arith) in omega (arith, h, m)
-
-      entry_known : (a : ℕ) → EntryAt w v leader a → IsEntryOf w a
-      entry_known a b =
-          let i = ins Auipc 30 0 0 (upper_part (distance_between (w.entry a) a)) in
-          record { low = b.good.low; entry_low = omega (arith, w.low (w.entry a) i b.reads.1.0); grain = w.grain (w.entry a) i b.reads.1.0 }
-
-      -- ---- all of them
-      pub form_rows : Rows w v leader
-      form_rows = record { short = short_law; known = entry_known; enter = enter_law; inside = inside_law; piece = piece_law; leave = leave_row }
-
-    -- ---- what runs first
-    pub form_starts : (f g : Program) → Starts f g w v leader
-    form_starts f g = record { first = λ d entry leads begins regs are. prologue_row f g w leader (record { world = d; begins = begins; leads = leads; entry = entry }) regs are }
-
   -- ---- leaders with their entries
-  new_block : (leader : ℕ → Bool) (a : ℕ) → BlockAt w leader most a → EntryAt w v leader a
+  new_block : (leader : ℕ → Bool) (a : ℕ) → BlockAt w leader most a → EntryAt w wv leader a
   new_block leader a b = record {
     body = b.body;
     end = b.end;
@@ -228,7 +331,7 @@ module _ (w : World) (most : ℕ) where
     good = record { low = b.low; pieces = new_pieces leader b.body b.end a b.pieces; some = b.some; full = b.full };
   }
 
-  pub woven_in : (f g : Program) (leader : ℕ → Bool) → WovenIn f g w leader most → Mirrors w → WeaveIn f g w v leader
+  pub woven_in : (f g : Program) (leader : ℕ → Bool) → WovenIn f g w leader most → Mirrors w → WeaveIn f g w wv leader
   woven_in f g leader x law = record {
     rows = form_rows leader law;
     starts = form_starts leader f g;
@@ -239,11 +342,11 @@ module _ (w : World) (most : ℕ) where
   }
 
   -- ---- plans
-  new_blocks : (leader : ℕ → Bool) (bs : List Block) → AllGood w leader most bs → AllBlocksOf w v leader bs
+  new_blocks : (leader : ℕ → Bool) (bs : List Block) → AllGood w leader most bs → AllBlocksOf w wv leader bs
   new_blocks leader [] g = tt
   new_blocks leader (b ∷ bs) g = (record { low = g.0.low; pieces = new_pieces leader b.body b.end b.start g.0.pieces; some = g.0.some; full = g.0.full }, new_blocks leader bs g.1)
 
-  pub new_plan : (f g : Program) (blocks : List Block) → Plan f g w most blocks → PlanOf f g w v blocks
+  pub new_plan : (f g : Program) (blocks : List Block) → Plan f g w most blocks → PlanOf f g w wv blocks
   new_plan f g blocks p = record {
     world = p.world;
     words = subst (λ l. Reads w.form.far w.code w.entry g.entry (prologue w.distance w.form.spans f.entry ++ (l ++ stub))) (sym (entries_same w.form most blocks)) p.words;
@@ -251,7 +354,40 @@ module _ (w : World) (most : ℕ) where
     begins = p.begins;
   }
 
+-- ---- a pass before the checks
+-- where it leaves both halves as they are, they have the laws with it
+pub checks_after :
+    (form : Form) (xs checks : List Item) (m first steps : ℕ) → Quiet any xs (λ w v. v.original ≡ v.shadow) (λ w. Does same same 0) (λ w v n z. ⊥) m
+    → Lockstep any [] xs → ChecksLaws form checks first steps → ChecksLaws form (xs ++ checks) (m + first) (m + steps)
+checks_after form xs checks m first steps quiet lock laws = record {
+  quiet = record {
+    leads = λ w v rest s st need.
+        let x = (quiet_then any any _ _ _ _ _ _ _ _ _ _ quiet laws.quiet).leads w v rest (tt, tt) st (need.0, λ n y d. (d.original ∙ need.0 ∙ sym d.shadow, need.1)) in
+        record {
+          steps = x.steps;
+          to = x.to;
+          within = x.within;
+          walk = x.walk;
+          ends = ⊎_elim
+              (λ g.
+              let c = g.1 in
+              let d = c.first in
+              inl (g.0, record { original = c.last.original ∙ d.original; shadow = c.last.shadow ∙ d.shadow; checked = checked_behind w first form.round v.now c.middle.now x.to.now c.some m c.more x.steps c.runs d.cursor c.within (sym c.sum) c.last.checked }))
+              (λ l. inr (⊎_elim (λ f. f) (λ c. c.last) l))
+              x.ends;
+        };
+  };
+  lockstep = let both = lockstep_then any any [] [] xs checks refl lock laws.lockstep in record { locks = λ far s. both.locks far (tt, tt); lands = λ far s. both.lands far (tt, tt) };
+}
+
 -- ---- the promises
+-- with any checks that have the laws the values are kept
+pub kept_with :
+    (f g : Program) (w : World) (most : ℕ) (checks : List Item) (first steps : ℕ) (blocks : List Block) → ChecksLaws w.form checks first steps
+    → PlanOf f g w (weave_with w.form most checks first steps) blocks → Mirrors w
+    → Kept f g (start_steps (weave_with w.form most checks first steps)) (stage_steps (weave_with w.form most checks first steps))
+kept_with f g w most checks first steps blocks laws p law = weave_kept f g w (weave_with w.form most checks first steps) blocks p (rows_with w most checks first steps laws (begins_at blocks) law) (starts_with w most checks first steps laws (begins_at blocks) f g)
+
 -- where each leader has its entry, the values are kept
 pub values_kept : ValuesKept
 values_kept f g w leader most x law = subst (λ n. Kept f g (start_of w.form) n) (omega arith) (kept f g w (weave_of w.form most) leader (woven_in w most f g leader x law))
@@ -259,7 +395,7 @@ values_kept f g w leader most x law = subst (λ n. Kept f g (start_of w.form) n)
 -- a plan keeps the values
 pub plan_kept : PlanKept
 plan_kept f g w most blocks p law =
-    let k = weave_kept f g w (weave_of w.form most) blocks (new_plan w most f g blocks p) (form_rows w most (begins_at blocks) law) (form_starts w most (begins_at blocks) f g) in
+    let k = kept_with f g w most (both w most) 0 (both_steps w most) blocks (form_checks w.form) (new_plan w most f g blocks p) law in
     subst (λ n. Kept f g (start_of w.form) n) (omega arith) k
 
 -- ---- the entry
@@ -273,9 +409,9 @@ first_run : (s : State) (k : ℕ) → run s (suc k) ≡ run (step s) k
 unfolding run
 first_run s k = refl
 
--- the entry of a form is one with these laws
-pub form_guarded : (w : World) (most : ℕ) → Guarded w (weave_of w.form most) 4
-form_guarded w most = record {
+-- the entry of a form is one with these laws, with any checks
+pub form_guarded : (w : World) (most : ℕ) (checks : List Item) (first steps : ℕ) → Guarded w (weave_with w.form most checks first steps) 4
+form_guarded w most checks first steps = record {
   signed = λ u a rest low h o q. q.signed a low (o.code u.pc ∙ h.0, o.code (u.pc + 4) ∙ h.1, o.code (u.pc + 8) ∙ h.2.0);
   fires = λ v c rest low h o long ne.
       let i = ins Beq 0 16 30 (pos 8) in
@@ -297,8 +433,8 @@ form_guarded w most = record {
 
 -- and its jumps land
 pub plan_landed : PlanLanded
-plan_landed f g w most blocks entries p law known = weave_landed f g w (weave_of w.form most) blocks entries (new_plan w most f g blocks p) (form_rows w most (begins_at blocks) law) (form_starts w most (begins_at blocks) f g) (form_guarded w most) known
+plan_landed f g w most blocks entries p law known = weave_landed f g w (weave_of w.form most) blocks entries (new_plan w most f g blocks p) (form_rows w most (begins_at blocks) law) (form_starts w most (begins_at blocks) f g) (form_guarded w most (both w most) 0 (both_steps w most)) known
 
 -- and so they do wherever the entries stand
 pub landings_fire : LandingsFire
-landings_fire f g w leader most entries x law known = landed f g w (weave_of w.form most) leader entries (woven_in w most f g leader x law) (form_guarded w most) known
+landings_fire f g w leader most entries x law known = landed f g w (weave_of w.form most) leader entries (woven_in w most f g leader x law) (form_guarded w most (both w most) 0 (both_steps w most)) known

@@ -1,5 +1,5 @@
--- Where a leave leads, by the kind of its end: the law of the pass, from which follows that of a weave.
-use Rattle.std.proofs.Common.{◌≡◌, ℕ, ◌+◌, ◌%◌, ◌^◌, ◌≤◌, inr, ⊎_elim, Bool, true, false, List, [], ◌∷◌, ◌++◌, length, refl, sym, ap, ◌∙◌, subst, arith, append_assoc}
+-- Where an entry and a leave lead, the latter by the kind of its end: the laws of their passes, from which follow those of a weave.
+use Rattle.std.proofs.Common.{◌≡◌, ℕ, ◌+◌, ◌%◌, ◌^◌, ◌<◌, ◌≤◌, inr, ⊎_elim, Bool, true, false, List, [], ◌∷◌, ◌++◌, length, refl, sym, ap, ◌∙◌, subst, arith, append_assoc}
 use Rattle.rv_isa.specs.declared.ins.Ins.{Ins}
 use Rattle.rv_isa.specs.declared.class.Class.{Class}
 use Rattle.rv_isa.specs.declared.class.Class.TheVariants as class
@@ -11,23 +11,34 @@ use Rattle.qed_model.specs.Machine.Step.{State, reg, moved, stopped, Known, step
 use Rattle.qed_model.specs.Machine.Values.{holds}
 use Rattle.qed_model.specs.Admission.DataRanges.{word_count}
 use Rattle.qed_model.specs.Weave.Bounds.{end_bound}
-use Rattle.qed_model.specs.Weave.Sequences.{go_on, sweep, compare}
+use Rattle.qed_model.specs.Weave.Sequences.{enter, go_on, sweep, compare}
 use Rattle.qed_model.proofs.Walk.{over_moved, known_at}
 use Rattle.qed_model.proofs.Walked.{Walk, walk_none, walk_on}
 use Rattle.weave_core.specs.World.{World, Quiet as Calm, Twice}
 use Rattle.weave_core.specs.Blocks.{IsEntryOf, Goes}
 use Rattle.weave_core.specs.Rows.{At, Sourced}
-use Rattle.weave_core.specs.Pass.{Views, Leads, Quiet}
+use Rattle.weave_core.specs.Rows.{Led}
+use Rattle.weave_core.specs.Pass.{Views, Leads, Quiet, Does, same}
+use Rattle.weave_core.proofs.Compose.{leads_led}
 use Rattle.weave_core.specs.WeaveLaws.{Holds, GoesTo, Onward, lands, is_lost}
-use Rattle.weave_core.specs.Leaving.{left_as, left, IsLeft, GoesFrom, Leaving, LeavesOn, swept_end, sweep_cost, Sweeps, SweptTo}
+use Rattle.weave_core.specs.Leaving.{Enters, left_as, left, IsLeft, GoesFrom, Leaving, LeavesOn, swept_end, sweep_cost, Sweeps, SweptTo}
 use Rattle.weave_core.proofs.Rows.{led_on}
 use Rattle.weave_core.proofs.Words.{const_free, free_16}
-use Rattle.weave_core.proofs.Leaves.{Lands, lands_behind, go_row, go_most, go_most_le, links_row, jump_step, step-end, step-illegal, end_walk}
+use Rattle.weave_core.proofs.Leaves.{enter_row, Lands, lands_behind, go_row, go_most, go_most_le, links_row, jump_step, step-end, step-illegal, end_walk}
 use Rattle.weave_core.proofs.Branch.{branch_to, branch_step, second_part, turn_row, turn_go}
 use Rattle.weave_core.proofs.Indirect.{aim, leap_step, aim_row, leap_row}
 use Rattle.weave_core.proofs.Endings.{sweep_row}
 use Rattle.weave_core.proofs.Entries.{reads_front}
 
+-- ---- the entry
+pub quiet_enter : (at : ℕ) → Quiet (λ far. Unit {0}) (enter at) (λ w. Enters w at) (λ w. Does same same 3) (λ w v n z. ⊥) 3
+quiet_enter at = record { leads = λ w v rest s st e. leads_led w v 3 3 rest same same (subst (λ t. Led w v.now 3 3 rest v.original t) e.same (row w v rest e (subst (λ p. At w v.now (enter p ++ rest) v.original v.original) (sym e.here) (subst (λ t. At w v.now (enter at ++ rest) v.original t) (sym e.same) st)))) } where
+  row :
+      (w : World) (v : Views) (rest : List Item) → Enters w at v → At w v.now (enter v.original.pc ++ rest) v.original v.original
+      → Led w v.now 3 3 rest v.original v.original
+  row w v rest e a = enter_row w v.now v.original rest a.over a.halved e.sign (subst (λ p. p < 2 ^ 64) (sym e.here) e.low) a.reads
+
+-- ---- the leave
 module _ (w : World) (rest : List Item) (v : Views) (entries : (a : ℕ) → v.leads a ≡ true → IsEntryOf w a) where
   abbrev u : State
   u = v.now

@@ -1,5 +1,5 @@
--- The leave of a block, as a pass: what it is for, what it needs, and where it leads, a case for each kind of end.
-use Rattle.std.specs.Prelude.{◌≡◌, ℕ, ◌+◌, ◌*◌, ◌%◌, ◌^◌, ◌≤◌, Bool, true, false, List, [], ◌∷◌, ◌++◌, length}
+-- The entry and the leave of a block, as passes: what a leave is for, what it needs, and where it leads, a case for each kind of end.
+use Rattle.std.specs.Prelude.{◌≡◌, ℕ, ◌+◌, ◌*◌, ◌%◌, ◌^◌, ◌<◌, ◌≤◌, Bool, true, false, List, [], ◌∷◌, ◌++◌, length}
 use Rattle.rv_isa.specs.Ins.{nop}
 use Rattle.rv_isa.specs.declared.ins.Ins.{Ins}
 use Rattle.rv_isa.specs.declared.class.Class.{Class}
@@ -18,7 +18,15 @@ use Rattle.weave_core.specs.Blocks.{IsEntryOf, Goes, Leaves}
 use Rattle.weave_core.specs.Pass.{Views}
 use Rattle.weave_core.specs.WeaveLaws.{Holds, Swept, Ends, Onward}
 
--- ---- the items
+-- ---- the entry
+-- both halves are those of one state of the input, whose pc has its entry here, and the signature is that pc
+pub record Enters (w : World) (at : ℕ) (v : Views) : Type 0 where
+  pub same : v.original ≡ v.shadow
+  pub sign : reg v.now 16 ≡ v.original.pc
+  pub here : v.original.pc ≡ at
+  pub low : at < 2 ^ 64
+
+-- ---- the items of a leave
 -- the form of the code with jumps of one or of two words, of which the leave looks at no more
 abbrev pub form_of : Bool → Form
 form_of far = record { spans = []; round = 0; far = far; sweep = false; mirror = mirrored; cost = 5 }

@@ -1,6 +1,6 @@
 -- The laws of a pass: over its items, what it needs, and where it leads.
 use Rattle.std.specs.Prelude.{◌≡◌, ℕ, ◌+◌, ◌≤◌, ◌⊎◌, Bool, List, [], ◌∷◌, ◌++◌}
-use Rattle.qed_model.specs.Machine.Step.{State, reg}
+use Rattle.qed_model.specs.Machine.Step.{State, reg, run}
 use Rattle.qed_model.specs.Machine.Walks.{Walk}
 use Rattle.qed_model.specs.declared.item.Item.{Item}
 use Rattle.qed_model.specs.Weave.Sequences.{guards}
@@ -22,12 +22,14 @@ abbrev pub Stands : World → Views → List Item → Type 0
 Stands w v items = At w v.now items v.original v.shadow
 
 -- ---- what a pass does: from views, in so many steps, to views
--- one after another
-pub record Chain (gives : ℕ → Views → Type 0) (next : Views → ℕ → Views → Type 0) (n : ℕ) (z : Views) : Type 0 where
+-- one after another, the first in at most so many steps, in which v runs to the middle
+pub record Chain (v : Views) (most : ℕ) (gives : ℕ → Views → Type 0) (next : Views → ℕ → Views → Type 0) (n : ℕ) (z : Views) : Type 0 where
   pub some : ℕ
   pub more : ℕ
   pub middle : Views
   pub sum : n ≡ some + more
+  pub within : some ≤ most
+  pub runs : run v.now some ≡ middle.now
   pub first : gives some middle
   pub last : next middle more z
 

@@ -1,28 +1,42 @@
--- The forms of the code are a weave: near and far, with or without the sweep, with either kind of mirror part.
-use Rattle.std.specs.Prelude.{ℕ, ◌+◌, ◌*◌, ◌&&◌, nat_le, cond, [], ◌∷◌, length, pos}
+-- The forms of the code are a weave: near and far, with or without the sweep, with either kind of mirror part. So are they with other
+-- checks behind the parts of a piece.
+use Rattle.std.specs.Prelude.{◌≡◌, ℕ, ◌+◌, ◌*◌, ◌&&◌, nat_le, cond, List, [], ◌∷◌, ◌++◌, length, pos}
 use Rattle.rv_isa.specs.declared.kind.Kind.TheVariants.{Beq}
 use Rattle.qed_model.specs.Machine.Table.{ins}
+use Rattle.qed_model.specs.declared.item.Item.{Item}
 use Rattle.qed_model.specs.declared.item.Item.TheVariants.{Plain, Constant}
 use Rattle.qed_model.specs.Admission.DataRanges.{word_count}
 use Rattle.qed_model.specs.Weave.Bounds.{visit_bound, end_bound}
 use Rattle.qed_model.specs.Weave.Pieces.{is_run}
-use Rattle.qed_model.specs.Weave.Sequences.{Form, fired_check, piece, leave, prologue}
+use Rattle.qed_model.specs.Weave.Sequences.{Form, fired_check, original, each_part, compare, visit, leave, prologue}
+use Rattle.weave_core.specs.Pass.{Quiet, Lockstep}
+use Rattle.weave_core.specs.Parts.{any, Checks}
 use Rattle.weave_core.specs.Weave.{Weave}
 
-abbrev pub weave_of : Form → ℕ → Weave
-weave_of form most = record {
+-- `checks` are woven behind the parts of a piece: in at most so many steps, of which at most `first` before all registers are compared
+abbrev pub weave_with : Form → ℕ → List Item → ℕ → ℕ → Weave
+weave_with form most checks first steps = record {
   first = λ d a. prologue d form.spans a;
   enter = λ a. Constant 30 a ∷ Plain (ins Beq 0 16 30 (pos 8)) ∷ fired_check ∷ [];
   fits = λ is. is_run is && nat_le (length is) most;
-  piece = piece form;
+  piece = λ is at. each_part original is at ++ (each_part form.mirror is at ++ checks);
   leave = leave form;
   first_steps = cond form.far 33 32;
   enter_steps = 3;
-  piece_steps = form.cost * most + 13 + visit_bound (length form.spans) * form.round;
-  compare_steps = form.cost * most;
+  piece_steps = form.cost * most + steps;
+  compare_steps = form.cost * most + first;
   leave_steps = 14;
   end_steps = end_bound form.sweep (length form.spans) (word_count form.spans);
   sweeps = form.sweep;
   sweep_steps = 2 * length form.spans + 8 * word_count form.spans;
   round = form.round;
 }
+
+-- those of a form are the comparison of all registers and the visits
+abbrev pub weave_of : Form → ℕ → Weave
+weave_of form most = weave_with form most (compare ++ visit form.round form.spans) 0 (13 + visit_bound (length form.spans) * form.round)
+
+-- what is asked of others: the laws of a pass that, where both halves are equal, makes the checks of a round
+pub record ChecksLaws (form : Form) (checks : List Item) (first steps : ℕ) : Type 0 where
+  pub quiet : Quiet any checks (λ w v. (v.original ≡ v.shadow) × (w.form ≡ form)) (λ w. Checks w first form.round) (λ w v n z. ⊥) steps
+  pub lockstep : Lockstep any [] checks

@@ -88,15 +88,18 @@ pub record Visits (w : World) (u : State) (steps x : ℕ) : Type 0 where
   pub first : w.code (run u at).pc ≡ Known first_load
   pub cursor : reg (run u at) 15 ≡ x
 
--- behind a piece: both halves are n steps on; on the way all registers were compared, and `round` words visited
-pub record Behind (w : World) (v : Weave) (u s : State) (n : ℕ) (rest : List Item) (steps : ℕ) (to : State) : Type 0 where
-  pub at : At w to rest (run s n) (run s n)
+-- of n steps from u on: after at most `first` of them stands the comparison of all registers, and the words of a round are visited
+pub record Checked (w : World) (first round : ℕ) (u : State) (n : ℕ) (to : State) : Type 0 where
   pub compare : ℕ
-  pub soon : compare ≤ v.compare_steps
-  pub inside : compare + 13 ≤ steps
+  pub soon : compare ≤ first
+  pub inside : compare + 13 ≤ n
   pub compares : ComparesFrom w.code (run u compare).pc thirteen
-  pub cursor : reg to 15 ≡ words_on w.form.spans v.round (reg u 15)
-  pub visits : (j : ℕ) → j < v.round → 1 ≤ length w.form.spans → Visits w u steps (words_on w.form.spans j (reg u 15))
+  pub cursor : reg to 15 ≡ words_on w.form.spans round (reg u 15)
+  pub visits : (j : ℕ) → j < round → 1 ≤ length w.form.spans → Visits w u n (words_on w.form.spans j (reg u 15))
+
+-- behind a piece: both halves are n steps on
+abbrev pub Behind : World → Weave → State → State → ℕ → List Item → ℕ → State → Type 0
+Behind w v u s n rest steps to = At w to rest (run s n) (run s n) × Checked w v.compare_steps v.round u steps to
 
 -- the test ends n steps from u on: each data word is visited in the first of them, then all registers are compared, and then it ends
 pub record Swept (w : World) (first : ℕ) (u : State) (n : ℕ) : Type 0 where

@@ -1,7 +1,8 @@
-use Rattle.std.proofs.Common.{refl, sym, ◌∙◌, Bool}
+use Rattle.std.proofs.Common.{refl, sym, ◌∙◌, Bool, arith}
 use Rattle.plc_rounds.specs.Spans.{spans_of}
 use Rattle.qed_model.specs.Weave.Sequences.{mirrored}
-use Rattle.pieces.specs.Piece.{for_piece, piece_is, piece_same, cost_parts, piece_leads, honest_any, lockstep_any}
+use Rattle.weave_core.proofs.Body.{spent_le}
+use Rattle.pieces.specs.Piece.{for_piece, piece_is, piece_same, piece_laws, honest_any, lockstep_any}
 use Rattle.pieces.proofs.woven_piece.Goals as goal
 
 -- each of the passes is for any form of the code
@@ -18,7 +19,7 @@ returns-clause-woven c = λ form m r s. c.in_ok-out.ensures.items ∙ piece_same
 
 -- and their laws are those of the piece
 pub returns-clause-leads : goal.returns-clause-leads
-returns-clause-leads c = piece_leads suits (λ far. (tt, (tt, (tt, tt)))) (λ i. 2) 5 cost_parts c.args.passes.now.second.second.pass.second.round (spans_of c.args.passes.now.second.second.pass.second.span) c.in_ok-out.out c.args.list.now c.args.first c.requires.low c.in_ok-out.ensures.quiet
+returns-clause-leads c = piece_laws suits (λ far. (tt, (tt, (tt, tt)))) (λ i. 2) 5 (omega arith) (λ i. let h = spent_le i in omega (arith, h)) c.args.passes.now.second.second.pass.second.round (spans_of c.args.passes.now.second.second.pass.second.span) c.in_ok-out.out c.args.list.now c.args.first c.in_ok-out.ensures.quiet
 
 pub returns-clause-honest : goal.returns-clause-honest
 returns-clause-honest c = honest_any suits (λ far. (tt, (tt, (tt, tt)))) c.in_ok-out.out c.in_ok-out.ensures.honest

@@ -1,8 +1,8 @@
-use Rattle.std.proofs.Common.{◌-◌, refl, sym, ◌∙◌, Bool}
+use Rattle.std.proofs.Common.{◌-◌, refl, sym, ◌∙◌, Bool, arith}
 use Rattle.plc_rounds.specs.Spans.{spans_of}
 use Rattle.qed_model.specs.Weave.Diverse.{diverse}
 use Rattle.weave_core.specs.Rows.{spent}
-use Rattle.pieces.specs.Piece.{for_piece, piece_is, piece_same, cost_diverses, piece_leads, honest_any, lockstep_any}
+use Rattle.pieces.specs.Piece.{for_piece, piece_is, piece_same, piece_laws, honest_any, lockstep_any}
 use Rattle.pieces.proofs.diverse.woven_diverse.Goals as goal
 
 -- each of the passes is for any form of the code
@@ -19,7 +19,7 @@ returns-clause-woven c = λ form m r s. c.in_ok-out.ensures.items ∙ piece_same
 
 -- and their laws are those of the piece
 pub returns-clause-leads : goal.returns-clause-leads
-returns-clause-leads c = piece_leads suits (λ far. (tt, (tt, (tt, tt)))) (λ i. 8 - spent i) 8 cost_diverses c.args.passes.now.second.second.pass.second.round (spans_of c.args.passes.now.second.second.pass.second.span) c.in_ok-out.out c.args.list.now c.args.first c.requires.low c.in_ok-out.ensures.quiet
+returns-clause-leads c = piece_laws suits (λ far. (tt, (tt, (tt, tt)))) (λ i. 8 - spent i) 8 (omega arith) (λ i. omega arith) c.args.passes.now.second.second.pass.second.round (spans_of c.args.passes.now.second.second.pass.second.span) c.in_ok-out.out c.args.list.now c.args.first c.in_ok-out.ensures.quiet
 
 pub returns-clause-honest : goal.returns-clause-honest
 returns-clause-honest c = honest_any suits (λ far. (tt, (tt, (tt, tt)))) c.in_ok-out.out c.in_ok-out.ensures.honest

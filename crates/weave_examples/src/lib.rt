@@ -1,0 +1,58 @@
+//! An example of a pass of one's own. It compares x10 with its pair in the middle of a piece: behind the parts of its instructions,
+//! and before the comparison of all registers. With the three laws of the pass the new code keeps the values and catches changes; no
+//! induction is made again.
+#![tactic(auto)]
+
+ghost use Rattle.weave_examples.specs.Promise.{OneKept, OneCaught};
+
+use passes::{Emit, Pass, put_guard, register};
+use rv_isa::Ins;
+use std::alloc::AllocError;
+
+/// Compares x10 with its pair. It looks at no instruction.
+#[derive(Clone, Copy, Drop)]
+pub struct CompareOne;
+
+impl Pass for CompareOne {
+    ghost use Rattle.std.specs.Prelude.{[], ◌≡◌};
+    ghost use Rattle.qed_model.specs.Weave.Sequences.{guard};
+    ghost use Rattle.passes.specs.Pass.{Does, same};
+    ghost use Rattle.weave_examples.specs.Laws.{any, quiet_one, honest_one, lockstep_one};
+
+    ghost is_for = { λ p i at. Unit {0} };
+
+    ghost suits = { λ p. any };
+
+    ghost items = { λ p i at. guard 10 };
+
+    ghost uses = { λ p i. [] };
+
+    ghost cost = { λ p i. 1 };
+
+    ghost needs = { λ p i at w v. v.original ≡ v.shadow };
+
+    ghost gives = { λ p i at w. Does same same 0 };
+
+    ghost leaves = { λ p i at w v n z. ⊥ };
+
+    #[tactic(auto, using(passes::specs::Emitted::part_none))]
+    fn emit(&self, _ins: &Ins, _at: u64, out: &mut Emit) -> Result<(), AllocError> {
+        put_guard(out, register(10))
+    }
+
+    ghost quiet = { λ p i at f. quiet_one };
+
+    ghost honest = { λ p i at f. honest_one };
+
+    ghost lockstep = { λ p i at f. lockstep_one };
+}
+
+/// The new code with the pass keeps the values.
+pub fn one_kept()
+    ensures { OneKept }
+{}
+
+/// Changes in the new code with the pass are caught within the bounds of its weave.
+pub fn one_caught()
+    ensures { OneCaught }
+{}
