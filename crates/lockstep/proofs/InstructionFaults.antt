@@ -1,0 +1,230 @@
+-- A wrong instruction is caught, in any weave, in a plan of a form, and in each woven test.
+use Rattle.std.proofs.Common.{◌≡◌, ℕ, zero, suc, ◌+◌, ◌-◌, ◌*◌, ◌/◌, ◌%◌, ◌^◌, ◌<◌, ◌≤◌, inl, inr, true, List, [], ◌∷◌, ◌++◌, length, Some, refl, sym, ap, ◌∙◌, subst, arith}
+use Rattle.std.proofs.Math.Nat.{mul-le-mul}
+use Rattle.rv_isa.specs.declared.ins.Ins.{Ins}
+use Rattle.rv_isa.specs.declared.kind.Kind.{Kind}
+use Rattle.rv_isa.specs.declared.kind.Kind.TheVariants.{Sb, Sh, Sw, Lb, Lbu, Lh, Lhu, Lw, Lwu}
+use Rattle.rv_isa.specs.Regs.{set_reg}
+use Rattle.qed_model.specs.declared.bounds.Bounds.{Bounds}
+use Rattle.qed_model.specs.declared.change.Change.{Change}
+use Rattle.qed_model.specs.declared.change.Place.TheVariants.{Reg, Word}
+use Rattle.qed_model.specs.declared.machine.Outcome.TheVariants.{Going}
+use Rattle.qed_model.specs.Admission.DataRanges.{word_count}
+use Rattle.qed_model.specs.Machine.Memory.{put, number}
+use Rattle.qed_model.specs.Machine.Program.{Program, start, AreStartRegs}
+use Rattle.qed_model.specs.Machine.Step.{State, reg, moved, stored, next_pc, place, Known, next, step, run}
+use Rattle.qed_model.specs.Machine.Struck.{struck}
+use Rattle.qed_model.specs.Machine.Values.{width_of}
+use Rattle.qed_model.specs.Promise.Caught.{Caught}
+use Rattle.qed_model.specs.Promise.Changed.{changed_run, IsDataWord}
+use Rattle.qed_model.specs.Promise.Closed.{IsOpen}
+use Rattle.qed_model.specs.Promise.Kept.{after_input, NotTrapped}
+use Rattle.qed_model.specs.Weave.Blocks.{begins_at}
+use Rattle.qed_model.specs.Weave.Bounds.{visit_bound, word_bound}
+use Rattle.qed_model.specs.Weave.Placed.{instructions_from}
+use Rattle.qed_model.specs.Weave.Sequences.{Block, prologue}
+use Rattle.weave_core.specs.Lock.{span_bytes, Opens, HasKind, Loaded, Undisturbed}
+use Rattle.weave_core.specs.Plan.{Plan}
+use Rattle.weave_core.specs.Promise.{piece_of, start_of}
+use Rattle.weave_core.specs.Rows.{Mirrors}
+use Rattle.weave_core.specs.Weave.{Weave, start_steps, stage_steps}
+use Rattle.weave_core.specs.WeaveForms.{weave_of}
+use Rattle.weave_core.specs.WeaveLaws.{Rows, Starts, Words}
+use Rattle.weave_core.specs.WeavePromise.{PlanOf, OnlyCode, BoundsOf}
+use Rattle.weave_core.specs.World.{World, AllBelow}
+use Rattle.weave_core.proofs.FormMirrors.{mirrors_of}
+use Rattle.weave_core.proofs.FormRows.{entries_same, form_rows, form_starts, new_plan}
+use Rattle.weave_core.proofs.Sized.{width_le}
+use Rattle.weave_core.proofs.TestKept as kept
+use Rattle.lockstep.specs.Closes.{Closes}
+use Rattle.lockstep.specs.InstructionFaults.{WritesOriginal, StoresOriginal, word_around, GivesAny, StoresAny, FoundOut, FaultsFound, InstructionFaultsAreCaught}
+use Rattle.lockstep.specs.Promise.{IsBoundsOf}
+use Rattle.lockstep.proofs.FormWords.{form_words, plan_caught}
+use Rattle.lockstep.proofs.Made.{changed_later}
+use Rattle.lockstep.proofs.Promise.{begins, quiet_run}
+use Rattle.lockstep.proofs.Runs.{run-last}
+use Rattle.lockstep.proofs.Standing.{stands_run}
+use Rattle.lockstep.proofs.Tests as tests
+use Rattle.lockstep.proofs.WrongSteps.{opens_behind, writes_straight, is_open, Wrote, wrote, stored_step, any_struck, changed_there, struck_outcome, unchanged_before, with_one, with_two, found_out}
+use Rattle.lockstep.proofs.WrongStores.{IsBeside, two_words, any_beside, struck_words}
+
+-- one instruction stands at one address
+same_known : {x y : Ins} → Known x ≡ Known y → x ≡ y
+same_known e = cc
+
+-- options that are equal hold equal numbers
+some_is : {x y : ℕ} → Some x ≡ Some y → x ≡ y
+some_is e = cc
+
+-- an access has a byte
+width_some : (k : Kind) → 1 ≤ width_of k
+width_some Lb = omega arith
+width_some Lbu = omega arith
+width_some Sb = omega arith
+width_some Lh = omega arith
+width_some Lhu = omega arith
+width_some Sh = omega arith
+width_some Lw = omega arith
+width_some Lwu = omega arith
+width_some Sw = omega arith
+width_some k = omega arith
+
+-- a data word ends before the end of the ranges
+word_low : (spans : List (ℕ × ℕ)) (top a : ℕ) → AllBelow spans top → IsDataWord spans a → a + 8 ≤ top
+word_low [] top a low d = absurd d
+word_low (r ∷ rs) top a low (inl d) = omega (arith, d.2, low.0)
+word_low (r ∷ rs) top a low (inr d) = word_low rs top a low.1 d
+
+-- the bound of a word has two pieces
+big_word : (words round first piece b : ℕ) → 2 ≤ piece → word_bound words round first piece ≡ Some b → 2 ≤ b
+big_word zero round first piece b h e = absurd (cc)
+big_word (suc n) round first piece b h e =
+    let is : first + ((suc n + round - 1) / round + 2) * piece ≡ b = some_is e in
+    let one : 1 ≤ (suc n + round - 1) / round + 2 = omega arith in
+    let m : 1 * 2 ≤ ((suc n + round - 1) / round + 2) * piece = mul-le-mul one h in
+    omega (arith, is, m)
+
+module _ (f g : Program) (w : World) (v : Weave) (blocks : List Block) (plan : PlanOf f g w v blocks) (rows : Rows w v (begins_at blocks)) (starts : Starts f g w v (begins_at blocks)) (law : Words w.form.far v) (closes : OnlyCode f g w v blocks) (some : 1 ≤ v.round) (two : 2 ≤ v.leave_steps) (room : v.compare_steps + 17 ≤ v.piece_steps) (bounds : Bounds) (are_bounds : BoundsOf w v bounds) (caught : Caught f g w.form.spans bounds) (regs : List ℕ) (are : AreStartRegs regs) (n : ℕ) (i : Ins) (go : (run (start g regs) n).outcome ≡ Going) (at : next (run (start g regs) n) ≡ Known i) where
+  -- the start, and the state before the instruction
+  abbrev s : State
+  s = start g regs
+
+  abbrev u : State
+  u = run (start g regs) n
+
+  -- each state has its code
+  loaded_at : (k : ℕ) → Loaded w.code (span_bytes w.form.spans) (run (start g regs) k)
+  loaded_at k = (stands_run w.code (span_bytes w.form.spans) k (start g regs) (begins f g w v blocks plan rows starts law closes some two room regs are)).loaded
+
+  -- the run is quiet here
+  quiet_here : (b : ℕ) → 2 ≤ b → NotTrapped (after_input f (n + 1 + b)) → Undisturbed w.code (span_bytes w.form.spans) (run (start g regs) n)
+  quiet_here b big calm = (quiet_run f g w v blocks plan rows starts law closes some two room regs are (n + 1 + b) calm).each n (omega (arith, big)) go
+
+  -- a piece has two steps
+  big_piece : 2 ≤ stage_steps v
+  big_piece = omega (arith, room)
+
+  -- the instruction is of a kind
+  fits : Undisturbed w.code (span_bytes w.form.spans) (run (start g regs) n) → HasKind w.code (run (start g regs) n).pc i
+  fits q = subst (HasKind w.code (run (start g regs) n).pc) (same_known (sym q.quiet.known ∙ sym ((loaded_at n).code (run (start g regs) n).pc) ∙ at)) q.quiet.fits
+
+  -- another number
+  results : (o : State) → WritesOriginal i → GivesAny i (run (start g regs) n) o → NotTrapped (after_input f (n + 1 + bounds.register)) → FoundOut w.form.spans bounds.register o (λ k. run (start g regs) (n + 1 + k))
+  results o wr any calm =
+      let q = quiet_here bounds.register (omega (arith, are_bounds.register, big_piece)) calm in
+      let did = wrote i u go at wr q.quiet.no_trap in
+      let st = any_struck i u o did any in
+      change st.number q did st.is where
+        -- as a change of its register
+        change :
+            (x : ℕ) → Undisturbed w.code (span_bytes w.form.spans) (run (start g regs) n) → Wrote i (run (start g regs) n)
+            → o ≡ struck (Reg i.rd) x (step (run (start g regs) n)) → FoundOut w.form.spans bounds.register o (λ k. run (start g regs) (n + 1 + k))
+        change x q did st =
+            let next_is : run (start g regs) (n + 1) ≡ moved (set_reg i.rd did.number (run (start g regs) n).regs) (next_pc (run (start g regs) n)) (run (start g regs) n) = run-last (start g regs) n ∙ did.is in
+            let going : (run (start g regs) (n + 1)).outcome ≡ Going = ap (λ y. y.outcome) next_is ∙ go in
+            let on : (run (start g regs) n).pc + 4 ≡ next_pc (run (start g regs) n) = omega (arith, q.quiet.near) in
+            let place_is : (run (start g regs) n).pc + 4 ≡ (run (start g regs) (n + 1)).pc = on ∙ sym (ap (λ y. y.pc) next_is) in
+            let free : IsOpen (run (start g regs) (n + 1)) (Reg i.rd) = is_open w.code (span_bytes w.form.spans) (run (start g regs) (n + 1)) i.rd (loaded_at (n + 1)) (subst (Opens w.code) place_is (opens_behind w.code (run (start g regs) n).pc i (fits q) (writes_straight i wr))) in
+            let there : changed_run (start g regs) (record { step = n + 1; place = Reg i.rd; value = x } ∷ []) (n + 1) ≡ o =
+            changed_there (start g regs) (record { step = n + 1; place = Reg i.rd; value = x } ∷ []) n (omega arith, tt)
+            ∙ with_one (record { step = n + 1; place = Reg i.rd; value = x }) (n + 1) (run (start g regs) (n + 1)) refl going
+            ∙ ap (struck (Reg i.rd) x) (run-last (start g regs) n)
+            ∙ sym st in
+            found_out w.form.spans (start g regs) (changed_run (start g regs) (record { step = n + 1; place = Reg i.rd; value = x } ∷ [])) o (n + 1) bounds.register going
+            (λ k h. unchanged_before (start g regs) (record { step = n + 1; place = Reg i.rd; value = x } ∷ []) k (h, tt))
+            (λ k. changed_later (start g regs) (n + 1) k (record { step = n + 1; place = Reg i.rd; value = x } ∷ []) (omega arith, tt) ∙ ap (λ y. run y k) there)
+            (caught.settles regs (record { step = n + 1; place = Reg i.rd; value = x } ∷ []) bounds.register are tt ((wr.some, wr.low), free, tt) refl calm going)
+
+  -- other bytes
+  stores : (o : State) (b : ℕ) → StoresOriginal w.form.spans i (run (start g regs) n) → StoresAny i (run (start g regs) n) o → bounds.word ≡ Some b → NotTrapped (after_input f (n + 1 + b)) → FoundOut w.form.spans b o (λ k. run (start g regs) (n + 1 + k))
+  stores o b so any bound calm =
+      let q = quiet_here b (big_word (word_count w.form.spans) v.round (start_steps v) (stage_steps v) b big_piece (sym are_bounds.word ∙ bound)) calm in
+      change (stored_step i u go at so.stores q.quiet.no_trap) (any_beside i u o (loaded_at n).small any) where
+        -- as changes of two words
+        change :
+            step (run (start g regs) n) ≡ stored (put (run (start g regs) n).memory (place i (run (start g regs) n)) (width_of i.kind) (reg (run (start g regs) n) i.rs2)) (next_pc (run (start g regs) n)) (run (start g regs) n)
+            → IsBeside i (run (start g regs) n) o → FoundOut w.form.spans b o (λ k. run (start g regs) (n + 1 + k))
+        change did by =
+            let first = word_around (place i (run (start g regs) n)) in
+            let last = word_around (place i (run (start g regs) n) + width_of i.kind - 1) in
+            let y = number by.memory (word_around (place i (run (start g regs) n))) 8 in
+            let z = number by.memory (word_around (place i (run (start g regs) n) + width_of i.kind - 1)) 8 in
+            two_changes first last y z so.first so.last did by.is (two_words (run (start g regs) n).memory by.memory (place i (run (start g regs) n)) (width_of i.kind) (reg (run (start g regs) n) i.rs2) (width_some i.kind) (width_le i.kind) (omega (arith, ends, width_some i.kind)) (omega (arith, ends)) by.beside (loaded_at n).keys) where
+              -- the last word ends before the end of all addresses
+              ends : word_around (place i (run (start g regs) n) + width_of i.kind - 1) + 8 ≤ 2 ^ 64
+              ends = let low = word_low w.form.spans (w.base + w.distance) (word_around (place i (run (start g regs) n) + width_of i.kind - 1)) w.spans_low so.last in omega (arith, low, w.layout.top)
+
+              two_changes :
+                  (first last y z : ℕ) → IsDataWord w.form.spans first → IsDataWord w.form.spans last
+                  → step (run (start g regs) n) ≡ stored (put (run (start g regs) n).memory (place i (run (start g regs) n)) (width_of i.kind) (reg (run (start g regs) n) i.rs2)) (next_pc (run (start g regs) n)) (run (start g regs) n)
+                  → o ≡ stored by.memory (next_pc (run (start g regs) n)) (run (start g regs) n)
+                  → put (put (put (run (start g regs) n).memory (place i (run (start g regs) n)) (width_of i.kind) (reg (run (start g regs) n) i.rs2)) first 8 y) last 8 z ≡ by.memory
+                  → FoundOut w.form.spans b o (λ k. run (start g regs) (n + 1 + k))
+              two_changes first last y z df dl did is mem =
+                  let c : Change = record { step = n + 1; place = Word first; value = y } in
+                  let d : Change = record { step = n + 1; place = Word last; value = z } in
+                  let next_is = run-last (start g regs) n ∙ did in
+                  let going : (run (start g regs) (n + 1)).outcome ≡ Going = ap (λ x. x.outcome) next_is ∙ go in
+                  let there : changed_run (start g regs) (c ∷ d ∷ []) (n + 1) ≡ o =
+                  changed_there (start g regs) (c ∷ d ∷ []) n (omega arith, (omega arith, tt))
+                  ∙ with_two c d (n + 1) (run (start g regs) (n + 1)) refl refl going (struck_outcome (Word first) y (run (start g regs) (n + 1)) ∙ going)
+                  ∙ ap (λ x. struck (Word last) z (struck (Word first) y x)) next_is
+                  ∙ struck_words i (run (start g regs) n) (reg (run (start g regs) n) i.rs2) by.memory first y last z mem
+                  ∙ sym is in
+                  found_out w.form.spans (start g regs) (changed_run (start g regs) (c ∷ d ∷ [])) o (n + 1) b going
+                  (λ k h. unchanged_before (start g regs) (c ∷ d ∷ []) k (h, (h, tt)))
+                  (λ k. changed_later (start g regs) (n + 1) k (c ∷ d ∷ []) (omega arith, (omega arith, tt)) ∙ ap (λ x. run x k) there)
+                  (caught.settles regs (c ∷ d ∷ []) b are (omega arith, tt) (df, tt, (dl, tt, tt)) bound calm going)
+
+-- ---- in a plan of a form
+pub plan_faults :
+    (f g : Program) (w : World) (most : ℕ) (blocks : List Block) (bounds : Bounds) → Plan f g w most blocks → Mirrors w → Closes f g w blocks → 1 ≤ w.form.round → IsBoundsOf w.form most bounds
+    → FaultsFound f g w.form.spans bounds
+plan_faults f g w most blocks bounds p law closes some b = record {
+  results = λ regs n i o are go at wr any calm. results f g w (weave_of w.form most) blocks plan rows starts words only some (omega arith) room bounds are_bounds caught regs are n i go at o wr any calm;
+  stores = λ regs n x i o are go at so any bound calm. stores f g w (weave_of w.form most) blocks plan rows starts words only some (omega arith) room bounds are_bounds caught regs are n i go at o x so any bound calm;
+} where
+  plan : PlanOf f g w (weave_of w.form most) blocks
+  plan = new_plan w most f g blocks p
+
+  rows : Rows w (weave_of w.form most) (begins_at blocks)
+  rows = form_rows w most (begins_at blocks) law
+
+  starts : Starts f g w (weave_of w.form most) (begins_at blocks)
+  starts = form_starts w most (begins_at blocks) f g
+
+  words : Words w.form.far (weave_of w.form most)
+  words = form_words w.form most closes.mirrors
+
+  only : OnlyCode f g w (weave_of w.form most) blocks
+  only = record {
+    only = subst (λ l. (a : ℕ) (i : Ins) → w.code a ≡ Known i → (k : ℕ) × (a ≡ g.entry + 4 * k) × (a ≤ g.entry + 4 * length (instructions_from w.form.far w.entry g.entry (prologue w.distance w.form.spans f.entry ++ l)))) (sym (entries_same w.form most blocks)) closes.only;
+    stubbed = closes.stubbed;
+  }
+
+  ten : (n k : ℕ) → 1 ≤ k → 10 ≤ visit_bound n * k
+  ten n k h = mul-le-mul (one n) h where
+    one : (n : ℕ) → 10 ≤ visit_bound n
+    one zero = omega arith
+    one (suc n) = omega arith
+
+  room : (weave_of w.form most).compare_steps + 17 ≤ (weave_of w.form most).piece_steps
+  room = omega (arith, ten (length w.form.spans) w.form.round some)
+
+  stage : piece_of w.form most ≡ stage_steps (weave_of w.form most)
+  stage = omega arith
+
+  are_bounds : BoundsOf w (weave_of w.form most) bounds
+  are_bounds = record { register = b.register ∙ ap (λ n. start_of w.form + 2 * n) stage; word = b.word ∙ ap (λ n. word_bound (word_count w.form.spans) w.form.round (start_of w.form) n) stage }
+
+  caught : Caught f g w.form.spans bounds
+  caught = plan_caught f g w most blocks bounds p law closes some b
+
+-- ---- of each test
+pub instruction_faults_are_caught : InstructionFaultsAreCaught
+instruction_faults_are_caught input f o blocks words plan t told =
+    let loads = tests.loads_of input f o blocks words t in
+    let w = kept.w f o t.sound loads t.has.admitted blocks t.has.are words t.has.code t.few in
+    plan_faults (tests.input f o t.sound loads t.has.admitted blocks t.has.are words t.has.code t.few) (tests.output f o t.sound loads t.has.admitted blocks t.has.are words t.has.code t.few) w o.inst_max blocks plan.bounds
+    (kept.plan f o t.sound loads t.has.admitted blocks t.has.are words t.has.code t.few)
+    (mirrors_of o.diverse w refl refl) (tests.closes f o t.sound loads t.has.admitted blocks t.has.are words t.has.code t.few) t.sound.visits (tests.told_bounds f o blocks plan told)

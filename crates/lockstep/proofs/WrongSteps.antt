@@ -1,0 +1,212 @@
+-- A wrong instruction as changes right behind it.
+use Rattle.std.proofs.Common.{◌≡◌, ℕ, zero, suc, ◌+◌, ◌-◌, ◌*◌, ◌/◌, ◌%◌, ◌^◌, ◌<◌, ◌≤◌, ◌⊎◌, inl, inr, ⊎_elim, Bool, true, false, cond, List, [], ◌∷◌, Option, Some, None, refl, sym, ap, ◌∙◌, subst, arith}
+use Rattle.std.specs.Prelude.{◌==◌, nat_lt, slice_index}
+use Rattle.std.specs.FinMap.{get}
+use Rattle.std.specs.Option.{option_map}
+use Rattle.std.proofs.lemmas.Bool.{false≢true, cases_Bool, cases_lt, eq-eqb, ne_eqb, lt-ltb}
+use Rattle.std.proofs.lemmas.List.{set-set, set-get_or}
+use Rattle.rv_isa.specs.declared.ins.Ins.{Ins}
+use Rattle.rv_isa.specs.declared.class.Class.{Class}
+use Rattle.rv_isa.specs.declared.class.Class.TheVariants as class
+use Rattle.rv_isa.specs.declared.kind.Kind.{Kind}
+use Rattle.rv_isa.specs.Kind.{class_of}
+use Rattle.rv_isa.specs.Regs.{set_reg}
+use Rattle.qed_model.specs.declared.change.Change.{Change}
+use Rattle.qed_model.specs.declared.change.Place.{Place}
+use Rattle.qed_model.specs.declared.change.Place.TheVariants.{Reg, Word}
+use Rattle.qed_model.specs.declared.machine.Cause.TheVariants as cause
+use Rattle.qed_model.specs.declared.machine.Outcome.TheVariants.{Going, Ended, Fired}
+use Rattle.qed_model.specs.Machine.Memory.{Memory, Cell, put, offset, wrap, byte_of, byte_at, number, grants, flags_at, with_byte}
+use Rattle.qed_model.specs.Machine.Step.{State, reg, moved, stored, trapped, next_pc, place, result, execute, Fetched, Known, fetched_at, next, step, run}
+use Rattle.qed_model.specs.Machine.Struck.{struck}
+use Rattle.qed_model.specs.Machine.Values.{width_of, loaded}
+use Rattle.qed_model.specs.Promise.Changed.{changed, changed_as, with_changes, changed_run}
+use Rattle.qed_model.specs.Promise.Caught.{Same, Settles}
+use Rattle.qed_model.specs.Promise.Closed.{IsOpen, closed_at}
+use Rattle.qed_model.specs.Promise.Kept.{is_trapped, NotTrapped}
+use Rattle.qed_model.proofs.MemoryLaws.{get-put, get-put_outside, same_memory, wrap_offset}
+use Rattle.qed_model.proofs.Steps.{step-class, flags-put}
+use Rattle.qed_model.proofs.Walk.{run-more}
+use Rattle.weave_core.specs.Lock.{Bytes, Opens, HasKind, scratch_compute, scratch_load, scratch_store, scratch_branch, jumps, scratch_jump, computes, fences, loads, stores as stores_kind, guards, breaks, takes, branches, ends, no_word, visits, comparison, Loaded}
+use Rattle.weave_core.proofs.Trace.{run-ended}
+use Rattle.lockstep.specs.InstructionFaults.{WritesOriginal, word_around, GivesAny, gives, skips, StoresAny, stores, leaves, FoundOut}
+use Rattle.lockstep.proofs.Agreeing.{small_put}
+use Rattle.lockstep.proofs.Ground.{run-fired}
+use Rattle.lockstep.proofs.Runs.{run-last}
+
+-- ---- behind an instruction that computes or accesses memory no register is closed
+-- the classes of such instructions
+abbrev pub is_straight : Class → Bool
+is_straight class.Compute = true
+is_straight class.Load = true
+is_straight class.Store = true
+is_straight _ = false
+
+-- another class is none of them
+no_other : (i : Ins) (k : Class) → class_of i.kind ≡ k → is_straight k ≡ false → is_straight (class_of i.kind) ≡ true → {P : Type 0} → P
+no_other i k e none straight = absurd (false≢true (sym none ∙ sym (ap is_straight e) ∙ straight))
+
+pub opens_behind : (c : ℕ → Fetched) (a : ℕ) (i : Ins) → HasKind c a i → is_straight (class_of i.kind) ≡ true → Opens c (a + 4)
+opens_behind c a i (scratch_compute e x y o) h = o
+opens_behind c a i (scratch_load e x o) h = o
+opens_behind c a i (scratch_store e x y o) h = o
+opens_behind c a i (scratch_branch e x y o) h = o
+opens_behind c a i (jumps e) h = no_other i class.Jump e refl h
+opens_behind c a i (scratch_jump e x) h = no_other i class.JumpReg e refl h
+opens_behind c a i (computes e d o) h = o
+opens_behind c a i (fences e o) h = o
+opens_behind c a i (loads e x y o) h = o
+opens_behind c a i (stores_kind e x y o) h = o
+opens_behind c a i (guards q is low most brk b) h = no_other i class.Branch (ap (λ j. class_of j.kind) is) refl h
+opens_behind c a i (breaks e) h = no_other i class.Break e refl h
+opens_behind c a i (takes e d x o) h = o
+opens_behind c a i (branches e x y o) h = o
+opens_behind c a i (ends e) h = no_other i class.End e refl h
+opens_behind c a i (no_word e) h = no_other i class.Illegal e refl h
+opens_behind c a i (visits is words o) h = o
+
+-- an instruction that writes an original register is one of them
+pub writes_straight : (i : Ins) → WritesOriginal i → is_straight (class_of i.kind) ≡ true
+writes_straight i w = ⊎_elim (λ e. ap is_straight e) (λ e. ap is_straight e) w.writes
+
+-- a register is open where the code says so
+pub is_open : (c : ℕ → Fetched) (d : Bytes) (u : State) (r : ℕ) → Loaded c d u → Opens c u.pc → IsOpen u (Reg r)
+is_open c d u r ld o = let same : (λ a. fetched_at u.memory u.ranges a) ≡ c = (λ i a. ld.code a i) in ap (λ f. closed_at f u.pc r) same ∙ o r
+
+-- ---- what the step did
+-- it wrote some number
+pub record Wrote (i : Ins) (u : State) : Type 0 where
+  pub number : ℕ
+  pub is : step u ≡ moved (set_reg i.rd number u.regs) (next_pc u) u
+
+pub wrote : (i : Ins) (u : State) → u.outcome ≡ Going → next u ≡ Known i → WritesOriginal i → NotTrapped (step u) → Wrote i u
+unfolding execute
+wrote i u go n w calm = ⊎_elim (λ e. record { number = result i.kind i u; is = step-class u i class.Compute go n e }) (λ e. by_load e) w.writes where
+  -- a load that does not trap
+  by_load : class_of i.kind ≡ class.Load → Wrote i u
+  by_load e =
+      let s = step-class u i class.Load go n e in
+      ⊎_elim
+      (λ b. record { number = loaded i.kind (number u.memory (place i u) (width_of i.kind)); is = s ∙ rw b refl })
+      (λ b. let t : step u ≡ trapped (cause.Load (place i u)) u = s ∙ rw b refl in absurd (false≢true (sym calm ∙ ap (λ x. is_trapped x.outcome) t)))
+      (cases_Bool (grants (λ f. f.read) u.memory (place i u) (width_of i.kind)))
+
+-- it stored
+pub stored_step :
+    (i : Ins) (u : State) → u.outcome ≡ Going → next u ≡ Known i → class_of i.kind ≡ class.Store → NotTrapped (step u)
+    → step u ≡ stored (put u.memory (place i u) (width_of i.kind) (reg u i.rs2)) (next_pc u) u
+unfolding execute
+stored_step i u go n e calm =
+    let s = step-class u i class.Store go n e in
+    ⊎_elim
+    (λ b. s ∙ rw b refl)
+    (λ b. let t : step u ≡ trapped (cause.Store (place i u)) u = s ∙ rw b refl in absurd (false≢true (sym calm ∙ ap (λ x. is_trapped x.outcome) t)))
+    (cases_Bool (grants (λ f. f.write) u.memory (place i u) (width_of i.kind)))
+
+-- ---- another number is a change of the register
+set_twice : (r x y : ℕ) (regs : List ℕ) → set_reg r x (set_reg r y regs) ≡ set_reg r x regs
+set_twice zero x y regs = refl
+set_twice (suc r) x y regs = set-set regs (suc r) y x
+
+set_own : (r : ℕ) (regs : List ℕ) → set_reg r (slice_index regs r) regs ≡ regs
+set_own zero regs = refl
+set_own (suc r) regs = set-get_or regs (suc r) 0
+
+pub record IsStruck (r : ℕ) (u v : State) : Type 0 where
+  pub number : ℕ
+  pub is : v ≡ struck (Reg r) number u
+
+-- a number that is written over another
+struck_over : (i : Ins) (u : State) (x : ℕ) → Wrote i u → struck (Reg i.rd) x (step u) ≡ moved (set_reg i.rd x u.regs) (next_pc u) u
+unfolding struck
+struck_over i u x w = ap (λ s. struck (Reg i.rd) x s) w.is ∙ ap (λ rs. moved rs (next_pc u) u) (set_twice i.rd x w.number u.regs)
+
+pub any_struck : (i : Ins) (u v : State) → Wrote i u → GivesAny i u v → IsStruck i.rd (step u) v
+any_struck i u v w (gives x e) = record { number = x; is = e ∙ sym (struck_over i u x w) }
+any_struck i u v w (skips e) = record { number = reg u i.rd; is = e ∙ ap (λ rs. moved rs (next_pc u) u) (sym (set_own i.rd u.regs)) ∙ sym (struck_over i u (reg u i.rd) w) }
+
+-- ---- runs with changes that all come at once
+-- each change comes behind the n-th step
+abbrev pub AllBehind : ℕ → List Change → Type 0
+AllBehind n [] = Unit {0}
+AllBehind n (c ∷ cs) = (n < c.step) × AllBehind n cs
+
+behind_less : (n : ℕ) (cs : List Change) → AllBehind (suc n) cs → AllBehind n cs
+behind_less n [] h = tt
+behind_less n (c ∷ cs) h = (omega (arith, h.0), behind_less n cs h.1)
+
+none_yet : (n : ℕ) (cs : List Change) (u : State) → AllBehind n cs → with_changes cs n u ≡ u
+unfolding with_changes
+none_yet n [] u h = refl
+none_yet n (c ∷ cs) u h = ap (λ b. with_changes cs n (cond b (changed c u) u)) (ne_eqb c.step n (λ e. absurd (omega (arith, e, h.0)))) ∙ none_yet n cs u h.1
+
+-- up to it the changed run is the run without changes
+pub unchanged_before : (s : State) (cs : List Change) (n : ℕ) → AllBehind n cs → changed_run s cs n ≡ run s n
+unfolding changed_run run
+unchanged_before s cs zero h = none_yet 0 cs s h
+unchanged_before s cs (suc n) h =
+    let next : n + 1 ≡ suc n = omega arith in
+    none_yet (suc n) cs (step (changed_run s cs n)) h ∙ ap step (unchanged_before s cs n (behind_less n cs h)) ∙ sym (run-last s n) ∙ ap (run s) next
+
+-- and one step on they are made
+pub changed_there : (s : State) (cs : List Change) (n : ℕ) → AllBehind n cs → changed_run s cs (n + 1) ≡ with_changes cs (n + 1) (run s (n + 1))
+unfolding changed_run
+changed_there s cs n h =
+    let next : n + 1 ≡ suc n = omega arith in
+    ap (changed_run s cs) next
+    ∙ ap (λ x. with_changes cs (suc n) (step x)) (unchanged_before s cs n h)
+    ∙ ap (λ m. with_changes cs m (step (run s n))) (sym next)
+    ∙ ap (with_changes cs (n + 1)) (sym (run-last s n))
+
+-- a change sets no outcome
+pub struck_outcome : (p : Place) (x : ℕ) (s : State) → (struck p x s).outcome ≡ s.outcome
+unfolding struck
+struck_outcome (Reg r) x s = refl
+struck_outcome (Word a) x s = refl
+
+-- one change
+pub with_one : (c : Change) (n : ℕ) (u : State) → c.step ≡ n → u.outcome ≡ Going → with_changes (c ∷ []) n u ≡ struck c.place c.value u
+unfolding with_changes
+with_one c n u e go = ap (λ b. cond b (changed c u) u) (eq-eqb c.step n e) ∙ ap (λ o. changed_as o c u) go
+
+-- and two, of words
+pub with_two :
+    (c d : Change) (n : ℕ) (u : State) → c.step ≡ n → d.step ≡ n → u.outcome ≡ Going → (struck c.place c.value u).outcome ≡ Going
+    → with_changes (c ∷ d ∷ []) n u ≡ struck d.place d.value (struck c.place c.value u)
+unfolding with_changes
+with_two c d n u e f go on =
+    ap (λ b. with_changes (d ∷ []) n (cond b (changed c u) u)) (eq-eqb c.step n e) ∙ ap (λ o. with_changes (d ∷ []) n (changed_as o c u)) go
+    ∙ with_one d n (struck c.place c.value u) f on
+
+-- ---- what settles is found out
+pub found_out :
+    (spans : List (ℕ × ℕ)) (s : State) (changed : ℕ → State) (v : State) (t b : ℕ) → (run s t).outcome ≡ Going → ((k : ℕ) → k < t → changed k ≡ run s k)
+    → ((k : ℕ) → changed (t + k) ≡ run v k) → Settles spans t b changed (run s) → FoundOut spans b v (λ k. run s (t + k))
+found_out spans s changed v t b go early later x = ⊎_elim (λ h. absurd (too_early h)) (λ h. in_time h) (cases_lt x.steps t) where
+  -- a run that stops stays so
+  ahead : x.steps < t → run s t ≡ run (run s x.steps) (t - x.steps)
+  ahead h = let e : t ≡ x.steps + (t - x.steps) = omega (arith, h) in ap (run s) e ∙ run-more s x.steps (t - x.steps)
+
+  too_early : x.steps < t → ⊥
+  too_early h = by_cause x.settled where
+    by_cause : ((changed x.steps).outcome ≡ Fired) ⊎ (((changed x.steps).outcome ≡ Ended) ⊎ ((t ≤ x.steps) × Same spans (changed x.steps) (run s x.steps))) → ⊥
+    by_cause (inl e) =
+        let f : (run s x.steps).outcome ≡ Fired = ap (λ y. y.outcome) (sym (early x.steps h)) ∙ e in
+        let g : Going ≡ Fired = sym go ∙ ap (λ y. y.outcome) (ahead h ∙ run-fired (run s x.steps) (t - x.steps) f) ∙ f in cc
+    by_cause (inr (inl e)) =
+        let f : (run s x.steps).outcome ≡ Ended = ap (λ y. y.outcome) (sym (early x.steps h)) ∙ e in
+        let g : Going ≡ Ended = sym go ∙ ap (λ y. y.outcome) (ahead h ∙ run-ended (t - x.steps) (run s x.steps) f) ∙ f in cc
+    by_cause (inr (inr e)) = absurd (omega (arith, e.0, h))
+
+  in_time : t ≤ x.steps → FoundOut spans b v (λ k. run s (t + k))
+  in_time h =
+      let e : x.steps ≡ t + (x.steps - t) = omega (arith, h) in
+      let there : changed x.steps ≡ run v (x.steps - t) = ap changed e ∙ later (x.steps - t) in
+      record {
+        steps = x.steps - t;
+        within = omega (arith, x.within, h);
+        found = ⊎_elim
+            (λ f. inl (ap (λ y. y.outcome) (sym there) ∙ f))
+            (λ r. ⊎_elim (λ f. inr (inl (ap (λ y. y.outcome) (sym there) ∙ f))) (λ f. inr (inr (subst (λ k. Same spans (run v (x.steps - t)) (run s k)) e (subst (λ y. Same spans y (run s x.steps)) there f.1)))) r)
+            x.settled;
+      }

@@ -1,0 +1,77 @@
+-- Wrong instructions: an original instruction of a test gives another result once, or is skipped once.
+use Rattle.std.specs.Prelude.{◌≡◌, ◌⊎◌, ℕ, ◌+◌, ◌-◌, ◌*◌, ◌/◌, ◌≤◌, List, Some}
+use Rattle.elf_types.specs.declared.file.ElfFile.{ElfFile}
+use Rattle.rv_isa.specs.declared.ins.Ins.{Ins}
+use Rattle.rv_isa.specs.declared.class.Class.TheVariants as class
+use Rattle.rv_isa.specs.Kind.{class_of}
+use Rattle.rv_isa.specs.Regs.{set_reg}
+use Rattle.qed_model.specs.declared.bounds.Bounds.{Bounds}
+use Rattle.qed_model.specs.declared.machine.Outcome.TheVariants.{Going, Ended, Fired}
+use Rattle.qed_model.specs.declared.options.Options.{Options}
+use Rattle.qed_model.specs.declared.plan.Plan.{Plan}
+use Rattle.qed_model.specs.Admission.DataRanges.{data_ranges}
+use Rattle.qed_model.specs.Elf.FileRead.{file_read}
+use Rattle.qed_model.specs.Machine.Loading.{loaded_file}
+use Rattle.qed_model.specs.Machine.Memory.{put}
+use Rattle.qed_model.specs.Machine.Program.{Program, AreStartRegs}
+use Rattle.qed_model.specs.Machine.Step.{State, moved, stored, next_pc, place, Known, next, run}
+use Rattle.qed_model.specs.Machine.Values.{width_of}
+use Rattle.qed_model.specs.Promise.Caught.{Same}
+use Rattle.qed_model.specs.Promise.Changed.{IsDataWord}
+use Rattle.qed_model.specs.Promise.Kept.{after_input, after_output, NotTrapped}
+use Rattle.qed_model.specs.Weave.Places.{image_of}
+use Rattle.qed_model.specs.Weave.Sequences.{Block}
+use Rattle.qed_model.specs.Weave.Woven.{woven_file, IsToldOf}
+use Rattle.weave_core.specs.Tests.{IsWovenTest}
+
+-- ---- the instructions
+-- it computes or loads a number for one of x1 to x13
+pub record WritesOriginal (i : Ins) : Type 0 where
+  pub writes : (class_of i.kind ≡ class.Compute) ⊎ (class_of i.kind ≡ class.Load)
+  pub some : 1 ≤ i.rd
+  pub low : i.rd ≤ 13
+
+-- the aligned word that has a byte
+abbrev pub word_around : ℕ → ℕ
+word_around q = 8 * (q / 8)
+
+-- in this state it stores into data words of the original half
+pub record StoresOriginal (spans : List (ℕ × ℕ)) (i : Ins) (u : State) : Type 0 where
+  pub stores : class_of i.kind ≡ class.Store
+  pub first : IsDataWord spans (word_around (place i u))
+  pub last : IsDataWord spans (word_around (place i u + width_of i.kind - 1))
+
+-- ---- what goes wrong
+-- the state behind it is as if it had given some number, or as if it had done nothing
+pub data GivesAny (i : Ins) (u v : State) : Type 0 where
+  gives : (x : ℕ) → v ≡ moved (set_reg i.rd x u.regs) (next_pc u) u → GivesAny i u v
+  skips : v ≡ moved u.regs (next_pc u) u → GivesAny i u v
+
+-- the same of a store
+pub data StoresAny (i : Ins) (u v : State) : Type 0 where
+  stores : (x : ℕ) → v ≡ stored (put u.memory (place i u) (width_of i.kind) x) (next_pc u) u → StoresAny i u v
+  leaves : v ≡ moved u.regs (next_pc u) u → StoresAny i u v
+
+-- ---- the promise
+-- within b steps a run has fired, or has ended, or is the run without faults again
+pub record FoundOut (spans : List (ℕ × ℕ)) (b : ℕ) (v : State) (unchanged : ℕ → State) : Type 0 where
+  pub steps : ℕ
+  pub within : steps ≤ b
+  pub found : ((run v steps).outcome ≡ Fired) ⊎ (((run v steps).outcome ≡ Ended) ⊎ Same spans (run v steps) (unchanged steps))
+
+-- wherever the output's run without faults goes on at such an instruction, as far as the input's run does not trap
+pub record FaultsFound (f g : Program) (spans : List (ℕ × ℕ)) (bounds : Bounds) : Type 0 where
+  pub results :
+      (regs : List ℕ) (n : ℕ) (i : Ins) (v : State) → AreStartRegs regs → (after_output g regs n).outcome ≡ Going → next (after_output g regs n) ≡ Known i → WritesOriginal i
+      → GivesAny i (after_output g regs n) v → NotTrapped (after_input f (n + 1 + bounds.register)) → FoundOut spans bounds.register v (λ k. after_output g regs (n + 1 + k))
+  pub stores :
+      (regs : List ℕ) (n b : ℕ) (i : Ins) (v : State) → AreStartRegs regs → (after_output g regs n).outcome ≡ Going → next (after_output g regs n) ≡ Known i
+      → StoresOriginal spans i (after_output g regs n) → StoresAny i (after_output g regs n) v → bounds.word ≡ Some b → NotTrapped (after_input f (n + 1 + b))
+      → FoundOut spans b v (λ k. after_output g regs (n + 1 + k))
+
+-- ---- the law
+-- of each test that was woven, with the bounds that are told of it
+abbrev pub InstructionFaultsAreCaught : Type 0
+InstructionFaultsAreCaught =
+    (input : List ℕ) (f : ElfFile) (o : Options) (blocks : List Block) (words : List ℕ) (plan : Plan) → IsWovenTest input f o blocks words → IsToldOf f o blocks plan
+    → FaultsFound (loaded_file f) (loaded_file (file_read (woven_file f o blocks words))) (data_ranges (image_of f)) plan.bounds
