@@ -1,14 +1,21 @@
 -- The hart that the code reads, and turns of a list of harts, again and again.
-use Rattle.std.proofs.Common.{◌≡◌, ℕ, suc, ◌+◌, ◌*◌, ◌/◌, ◌%◌, ◌<◌, Result, Ok, Err, List, length, get_or, Some, refl, sym, ap, ◌∙◌, subst, arith}
-use Rattle.std.specs.Prelude.{slice_get, slice_index, IfErr}
+use Rattle.std.proofs.Common.{◌≡◌, ℕ, zero, suc, ◌+◌, ◌-◌, ◌*◌, ◌/◌, ◌%◌, ◌<◌, ◌≤◌, false, Result, Ok, Err, Option, None, List, length, get_or, Some, refl, sym, ap, ◌∙◌, subst, arith}
+use Rattle.std.specs.Prelude.{slice_get, slice_index, slice_set, IfErr, IfSome}
 use Rattle.std.proofs.Math.Nat.{add-mul-mod_self_right, mod-add-div'}
 use Rattle.std.proofs.lemmas.Nat.{mod-mul-add}
-use Rattle.std.proofs.lemmas.List.{length-map}
-use Rattle.std.proofs.lemmas.Option.{slice_get-get_or}
+use Rattle.std.proofs.lemmas.List.{length-map, set-get_or}
+use Rattle.std.specs.Option.{option_map}
+use Rattle.std.proofs.lemmas.Option.{same_Some, slice_get-get_or, slice_get-map}
+use Rattle.qed_model.specs.declared.machine.Outcome.{Outcome}
+use Rattle.qed_model.specs.declared.machine.Outcome.TheVariants.{Going, Ended, Fired, Trapped}
 use Rattle.qed_model.specs.Machine.Memory.{Memory}
+use Rattle.qed_model.specs.Machine.Progress.{steps_after}
+use Rattle.qed_model.specs.Machine.Step.{State, step, step_at}
 use Rattle.rv_step.specs.Harts.{HartState}
-use Rattle.harts.specs.HartSteps.{Counted, bare, counted, counted_turn, counted_turns, cycled}
-use Rattle.harts.proofs.Steps.{length_turns}
+use Rattle.harts.specs.Harts.{Hart, World, hart_of, made_of, on_hart, state_of}
+use Rattle.harts.specs.HartSteps.{Counted, bare, counted, counted_turn, counted_turns, cycled, steps_turned}
+use Rattle.harts.specs.Standing.{is_going, AreIdle}
+use Rattle.harts.proofs.Steps.{length_turns, set_same}
 
 -- its number is below the count
 pub below : (hs : List HartState) (m : Memory) (c : Counted) (i : ℕ) → counted hs m ≡ c → i < length c.world.harts → i < length hs
@@ -32,6 +39,66 @@ more_played c s t ds k e is = let one : k + 1 ≡ suc k = omega arith in is ∙ 
 -- the hart of a turn is there
 pub there_still : (c s : Counted) (ds : List ℕ) (k : ℕ) → s ≡ counted_turns c (cycled ds k) → 0 < length ds → ((j : ℕ) → j < length ds → slice_index ds j < length c.world.harts) → slice_index ds (k % length ds) < length s.world.harts
 there_still c s ds k e some all = subst (λ n. slice_index ds (k % length ds) < n) (sym (ap (λ x. length x.world.harts) e ∙ length_turns c (cycled ds k))) (all (k % length ds) (omega (arith, some)))
+
+-- ---- turns of harts that do not go on
+stays_at : (o : Outcome) (s : State) → is_going o ≡ false → step_at o s ≡ s
+stays_at Going s h = absurd (cc)
+stays_at Ended s h = refl
+stays_at Fired s h = refl
+stays_at (Trapped x pc) s h = refl
+
+stays_step : (s : State) → is_going s.outcome ≡ false → step s ≡ s
+unfolding step
+stays_step s h = stays_at s.outcome s h
+
+as_many : (o : Outcome) (n : ℕ) → is_going o ≡ false → steps_after o n ≡ n
+as_many Going n h = absurd (cc)
+as_many Ended n h = refl
+as_many Fired n h = refl
+as_many (Trapped x pc) n h = refl
+
+idle_world : (w : World) (i : ℕ) (o : Option Hart) → slice_get w.harts i ≡ o → IfSome o (λ h. is_going h.outcome ≡ false) → made_of o i step w ≡ w
+idle_world w i None e idle = refl
+idle_world w i (Some h) e idle =
+    let same = stays_step (state_of h w.memory) idle in
+    ap (λ s. record { harts = slice_set w.harts i (hart_of s); memory = s.memory }) same
+    ∙ ap (λ hs. record { harts = hs; memory = w.memory }) (set_same w.harts i h e)
+
+idle_steps : (o : Option Hart) (i : ℕ) (ns : List ℕ) → IfSome o (λ h. is_going h.outcome ≡ false) → steps_turned o i ns ≡ ns
+idle_steps None i ns idle = refl
+idle_steps (Some h) i ns idle = ap (slice_set ns i) (as_many h.outcome (slice_index ns i) idle) ∙ set-get_or ns i 0
+
+-- one changes nothing
+idle_turn : (c : Counted) (i : ℕ) → IfSome (slice_get c.world.harts i) (λ h. is_going h.outcome ≡ false) → counted_turn i c ≡ c
+unfolding on_hart
+idle_turn c i idle =
+    ap (λ w. record { world = w; steps = steps_turned (slice_get c.world.harts i) i c.steps }) (idle_world c.world i (slice_get c.world.harts i) refl idle)
+    ∙ ap (λ ns. record { world = c.world; steps = ns }) (idle_steps (slice_get c.world.harts i) i c.steps idle)
+
+idle_at : (c : Counted) (ds : List ℕ) (k : ℕ) (o : Option Hart) → AreIdle c ds → k < length ds → slice_get c.world.harts (slice_index ds k) ≡ o → IfSome o (λ h. is_going h.outcome ≡ false)
+idle_at c ds k None idle l e = tt
+idle_at c ds k (Some h) idle l e = idle.each k h l e
+
+-- a hart that the code reads
+pub idle_here :
+    (hs : List HartState) (m : Memory) (c : Counted) (i : ℕ) (s : HartState) (h : Hart) → counted hs m ≡ c → slice_get hs i ≡ Some s → slice_get c.world.harts i ≡ Some h → is_going s.outcome ≡ false
+    → is_going h.outcome ≡ false
+idle_here hs m c i s h v there e idle =
+    let same : bare s ≡ h = same_Some (bare s) h (ap (option_map bare) (sym there) ∙ sym (slice_get-map bare hs i) ∙ ap (λ x. slice_get x.world.harts i) v ∙ e) in
+    ap (λ x. is_going x.outcome) (sym same) ∙ idle
+
+-- so no more are needed
+idle_more : (c s : Counted) (ds : List ℕ) (k n : ℕ) → AreIdle s ds → 0 < length ds → s ≡ counted_turns c (cycled ds k) → s ≡ counted_turns c (cycled ds (k + n))
+unfolding counted_turns cycled
+idle_more c s ds k zero idle some e = let none : k ≡ k + 0 = omega arith in e ∙ ap (λ m. counted_turns c (cycled ds m)) none
+idle_more c s ds k (suc n) idle some e =
+    let before = idle_more c s ds k n idle some e in
+    let next : suc (k + n) ≡ k + suc n = omega arith in
+    let i : ℕ = slice_index ds ((k + n) % length ds) in
+    sym (idle_turn s i (idle_at s ds ((k + n) % length ds) (slice_get s.world.harts i) idle (omega (arith, some)) refl)) ∙ ap (counted_turn i) before ∙ ap (λ m. counted_turns c (cycled ds m)) next
+
+pub all_played : (c s : Counted) (ds : List ℕ) (k n : ℕ) → AreIdle s ds → 0 < length ds → s ≡ counted_turns c (cycled ds k) → k ≤ n → s ≡ counted_turns c (cycled ds n)
+all_played c s ds k n idle some e most = let sum : k + (n - k) ≡ n = omega arith in idle_more c s ds k (n - k) idle some e ∙ ap (λ m. counted_turns c (cycled ds m)) sum
 
 -- ---- a lack of memory
 pub any_err : {T E : Type 0} (r : Result T E) (P : Type 0) → P → IfErr r (λ _. P)

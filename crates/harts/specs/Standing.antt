@@ -1,9 +1,10 @@
 -- How the harts of a world stand together.
-use Rattle.std.specs.Prelude.{Bool, true, false, List}
+use Rattle.std.specs.Prelude.{◌≡◌, ℕ, ◌<◌, Bool, true, false, List, length, slice_get, slice_index, Some}
 use Rattle.std.specs.List.{list_any}
 use Rattle.qed_model.specs.declared.machine.Outcome.{Outcome}
 use Rattle.qed_model.specs.declared.machine.Outcome.TheVariants.{Going, Fired, Trapped}
 use Rattle.rv_step.specs.Harts.{HartState}
+use Rattle.harts.specs.Harts.{Hart}
 use Rattle.harts.specs.HartSteps.{Counted}
 
 abbrev pub is_going : Outcome → Bool
@@ -25,3 +26,7 @@ has_one test c = list_any (λ h. test h.outcome) c.world.harts
 -- one of a list
 abbrev pub stands : (Outcome → Bool) → List HartState → Bool
 stands test hs = list_any (λ h. test h.outcome) hs
+
+-- none of the harts that a list names goes on
+pub record AreIdle (c : Counted) (harts : List ℕ) : Type 0 where
+  pub each : (k : ℕ) (h : Hart) → k < length harts → slice_get c.world.harts (slice_index harts k) ≡ Some h → is_going h.outcome ≡ false

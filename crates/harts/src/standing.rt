@@ -17,7 +17,8 @@ fn is_trapped(outcome: Outcome) -> bool
     matches!(outcome, Outcome::Trapped(_, _))
 }
 
-fn is_going(outcome: Outcome) -> bool
+/// Whether this is the outcome of a hart that goes on.
+pub fn is_going(outcome: Outcome) -> bool
     ensures { result ≡ is_going outcome }
 {
     matches!(outcome, Outcome::Going)

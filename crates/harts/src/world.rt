@@ -1,16 +1,16 @@
 //! The world of several harts.
-ghost use Rattle.std.specs.Prelude.{◌≡◌, ℕ, ◌+◌, ◌%◌, ◌<◌, length, slice_get, slice_index, Some, IfOk, IfErr};
+ghost use Rattle.std.specs.Prelude.{◌≡◌, ℕ, ◌+◌, ◌%◌, ◌<◌, false, length, slice_get, slice_index, Some, IfOk, IfErr};
 ghost use Rattle.std.specs.Option.{option_map};
 ghost use Rattle.std.specs.FinMap.{get};
 ghost use Rattle.harts.specs.HartSteps.{bare, counted_start, counted_turn, counted_strike, counted_turns, cycled};
 ghost use Rattle.harts.specs.Shared.{AreSound, AreUnshared, Explains};
 ghost use Rattle.harts.specs.Played.{programs, IsPartPlayed};
-ghost use Rattle.harts.specs.Standing.{has_one, is_fired, is_going, is_trapped};
+ghost use Rattle.harts.specs.Standing.{has_one, is_fired, is_going, is_trapped, AreIdle};
 
 use crate::error::HartsError;
 use crate::parts::{all_specs, start_harts};
 use crate::shared::first_shared;
-use crate::standing::{any_fired, any_going, any_trapped};
+use crate::standing::{any_fired, any_going, any_trapped, is_going};
 use elf_types::ElfFile;
 use mem_image::{Image, ImageError};
 use qed_model::{Outcome, Place};
@@ -20,7 +20,7 @@ use std::alloc::{AllocError, Global};
 use std::marker::Model;
 
 /// Several harts of RV64IM with one memory. Harts are told by their numbers, from 0.
-#[derive(Debug, Drop)]
+#[derive(Drop)]
 pub struct World {
     harts: Vec<Hart>,
     image: Image,
@@ -84,7 +84,8 @@ impl World {
         Ok(outcome)
     }
 
-    /// As many turns as the number says, by the harts of the list, again and again.
+    /// As many turns as the number says, by the harts of the list, again and again. None is made any more where none of these harts goes
+    /// on: they would change nothing.
     pub fn play(&mut self, harts: &[u64], n: u64) -> Result<(), AllocError>
         requires some { 0 < length harts.now }
         requires harts { (k : ℕ) → k < length harts.now → slice_index harts.now k < length self.old.world.harts }
@@ -96,10 +97,26 @@ impl World {
     {
         let mut place = 0;
         for _ in 0..n {
+            if place == 0 && !self.one_goes_on(harts) {
+                return Ok(());
+            }
             self.turn(harts[place])?;
             place = next_place(place, harts.len());
         }
         Ok(())
+    }
+
+    /// Whether one of these harts goes on.
+    fn one_goes_on(&self, harts: &[u64]) -> bool
+        requires { (k : ℕ) → k < length harts.now → slice_index harts.now k < length self.now.world.harts }
+        ensures { result ≡ false → AreIdle self.now harts.now }
+    {
+        for hart in harts {
+            if is_going(self.harts[*hart as usize].outcome()) {
+                return true;
+            }
+        }
+        false
     }
 
     /// Gives a register of the hart other than x0 another number, or each of eight bytes of the memory that is mapped its byte of

@@ -2,7 +2,7 @@ use Rattle.std.proofs.Common.{◌≡◌, ◌+◌, ◌%◌, ◌<◌, length, sym,
 use Rattle.std.specs.Prelude.{slice_index}
 use Rattle.harts.specs.HartSteps.{counted_turn, counted_turns, cycled}
 use Rattle.harts.proofs.Steps.{length_turns}
-use Rattle.harts.proofs.Playing.{none_played, more_played, there_still, any_err, first_place, next_place}
+use Rattle.harts.proofs.Playing.{none_played, more_played, there_still, all_played, any_err, first_place, next_place}
 use Rattle.harts.proofs.world.World.play.Goals as goal
 
 pub loop-init : goal.loop-init
@@ -23,6 +23,17 @@ loop-preserved c =
           (c.in_ok-turn.ensures.turned ∙ ap (λ p. counted_turn (slice_index c.args.harts.now p) c.loop.self) known.next);
       next = c.next_place-place.ensures ∙ ap (λ p. (p + 1) % count) known.next ∙ next_place c.loop.counter count c.requires.some;
     }
+
+pub one_goes_on-requires : goal.one_goes_on-requires
+one_goes_on-requires c = λ k l.
+    subst (λ n. slice_index c.args.harts.now k < n) (sym (ap (λ w. length w.world.harts) c.loop.invariant.made ∙ length_turns c.args.self.now (cycled c.args.harts.now c.loop.counter))) (c.requires.harts k l)
+
+pub returns-then-not-one_goes_on-clause-played : goal.returns-then-not-one_goes_on-clause-played
+returns-then-not-one_goes_on-clause-played c =
+    all_played c.args.self.now c.loop.self c.args.harts.now c.loop.counter c.args.n (c.one_goes_on.ensures c.if-not-one_goes_on.true) c.requires.some c.loop.invariant.made (omega arith)
+
+pub returns-then-not-one_goes_on-clause-count : goal.returns-then-not-one_goes_on-clause-count
+returns-then-not-one_goes_on-clause-count c = ap (λ w. length w.world.harts) c.loop.invariant.made ∙ length_turns c.args.self.now (cycled c.args.harts.now c.loop.counter)
 
 pub returns-clause-played : goal.returns-clause-played
 returns-clause-played c = let e : c.loop.counter ≡ c.args.n = omega arith in c.loop.invariant.made ∙ ap (λ n. counted_turns c.args.self.now (cycled c.args.harts.now n)) e
