@@ -2,13 +2,12 @@
 
 from __future__ import annotations
 
-from bisect import bisect_right
 from dataclasses import dataclass, field
-from typing import Dict, List, Optional, Set, Tuple
+from typing import Dict, List, Optional, Set
 
 import isa
-from elf import (File, PF_W, PF_X, PT_DYNAMIC, PT_INTERP, STT_FUNC, STT_NOTYPE, Section, Segment)
-from machine import Code, Memory, WORD, code_ranges, loads_of
+from elf import File, PF_W, PF_X, PT_DYNAMIC, PT_INTERP, STT_FUNC, STT_NOTYPE, Segment
+from machine import Memory, Ranges, WORD, code_ranges, executed
 from texts import Exceeded, Refused, hex16
 
 MOST_DISTANCE = 64 << 20
@@ -50,7 +49,7 @@ class Test:
     base: int
     end: int
     distance: int
-    ranges: List[Tuple[int, int]]
+    ranges: Ranges
     code: Dict[int, isa.Instruction]
     data: List[DataRange]
 
@@ -83,31 +82,14 @@ def round_up(number: int, grain: int) -> int:
     return -(-number // grain) * grain
 
 
-def _shares_word(segment: Segment, executed: List[Segment], starts: List[int]) -> bool:
-    """Whether a segment shares aligned 8 bytes with one that is executed (PROFILE.md, "Memory").
-
-    Segments share no byte, so only the nearest below and the nearest above can."""
-    index = bisect_right(starts, segment.vaddr)
-    return (index > 0 and round_up(executed[index - 1].end, 8) > segment.vaddr // 8 * 8
-            or index < len(executed) and executed[index].vaddr // 8 * 8 < round_up(segment.end, 8))
-
-
-def is_data(segment: Segment, executed: List[Segment], starts: List[int]) -> bool:
-    """Whether a segment of the image is a data segment (PROFILE.md, "Memory")."""
-    return bool(segment.flags & PF_W
-                or not segment.flags & PF_X and not _shares_word(segment, executed, starts))
-
-
 def data_ranges(image: List[Segment]) -> List[DataRange]:
     """The data ranges, ascending (PROFILE.md, "Memory")."""
-    loads = sorted(image, key=lambda s: s.vaddr)
-    executed = [s for s in loads if s.flags & PF_X]
-    starts = [s.vaddr for s in executed]
+    code_words = Ranges((s.vaddr // 8 * 8, round_up(s.end, 8)) for s in image if s.flags & PF_X)
     ranges: List[DataRange] = []
-    for segment in loads:
-        if not is_data(segment, executed, starts):
-            continue
+    for segment in sorted(image, key=lambda s: s.vaddr):
         start, end = segment.vaddr // 8 * 8, round_up(segment.end, 8)
+        if not segment.flags & PF_W and (segment.flags & PF_X or code_words.share(start, end)):
+            continue
         if ranges and start <= ranges[-1].end:
             ranges[-1].end = max(ranges[-1].end, end)
             ranges[-1].segments.append(segment)
@@ -116,23 +98,13 @@ def data_ranges(image: List[Segment]) -> List[DataRange]:
     return ranges
 
 
-def _is_cut(section: Section, executed: List[Segment], starts: List[int]) -> bool:
-    """Whether a section shares a byte with an executable segment and is not wholly inside it ("Admission", A5)."""
-    low, high = section.addr, section.addr + section.size
-    index = bisect_right(starts, low) - 1
-    if index >= 0 and low < executed[index].end:
-        return low < high and high > executed[index].end
-    return index + 1 < len(executed) and starts[index + 1] < high
-
-
-def _check_code_shape(file: File, ranges: List[Tuple[int, int]]) -> None:
+def _check_code_shape(file: File, code: Ranges) -> None:
     """A5 ("Admission")."""
-    executed = [s for s in loads_of(file) if s.flags & PF_X]
-    starts = [s.vaddr for s in executed]
-    ragged = {(start, end) for start, end in ranges if start % 4 != 0 or (end - start) % 4 != 0}
-    for number, section in enumerate(file.sections):
-        if section.is_executable and (_is_cut(section, executed, starts)
-                                      or (section.addr, section.addr + section.size) in ragged):
+    segments = executed(file)
+    ragged = {(start, end) for start, end in code.ranges if start % 4 != 0 or (end - start) % 4 != 0}
+    for number, s in enumerate(file.sections):
+        part = s.addr, s.addr + s.size
+        if s.is_executable and (segments.share(*part) and not segments.hold(*part) or part in ragged):
             raise Refused(f"A5: part {number}")
     for number, segment in enumerate(file.segments):
         if segment.is_load and segment.flags & PF_X and (segment.vaddr, segment.end) in ragged:
@@ -165,13 +137,10 @@ def _check_words(addresses: List[range], memory: Memory, base: int) -> None:
 
 def _check_data(file: File, data: List[DataRange]) -> None:
     """A10 ("Admission")."""
-    starts = [r.start for r in data]
+    ranges = Ranges((r.start, r.end) for r in data)
     data_segments = {id(segment) for r in data for segment in r.segments}
     for number, segment in enumerate(file.segments):
-        if not segment.is_load or segment.memsz == 0 or id(segment) in data_segments:
-            continue
-        index = bisect_right(starts, segment.end - 1) - 1
-        if index >= 0 and data[index].end > segment.vaddr:
+        if segment.is_load and id(segment) not in data_segments and ranges.share(segment.vaddr, segment.end):
             raise Refused(f"A10: segment {number}")
 
 
@@ -186,14 +155,14 @@ def admit(file: File, options: Options) -> Test:
         if segment.is_load and segment.memsz > 0 and segment.flags & PF_W and segment.flags & PF_X:
             raise Refused(f"A3: segment {number}")
     ranges = code_ranges(file)
-    if file.entry % 4 != 0 or not any(start <= file.entry < end for start, end in ranges):
+    if file.entry % 4 != 0 or not ranges.hold(file.entry, file.entry + 1):
         raise Refused(f"A4: entry {hex16(file.entry)}")
     _check_code_shape(file, ranges)
 
     base = min(s.vaddr for s in image) // 4096 * 4096
     end = max(s.end for s in image)
     memory = Memory(image)
-    addresses = Code(ranges).addresses()
+    addresses = ranges.words()
     _check_words(addresses, memory, base)
     data = data_ranges(image)
     _check_data(file, data)

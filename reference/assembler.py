@@ -3,15 +3,12 @@
 from __future__ import annotations
 
 import re
-import struct
 from dataclasses import dataclass, field
-from typing import Dict, List, Optional, Union
+from functools import lru_cache
+from typing import Dict, List, Optional, Tuple
 
 import isa
-from elf import SHF_ALLOC, SHF_EXECINSTR, SHF_WRITE, STB_LOCAL, STT_NOTYPE, Symbol
-from output import SHN_ABS, WrittenFile, WrittenSection, load_segment, write_elf
-from texts import Refused
-from words import number_of
+from texts import Refused, number_of
 
 CODE, DATA = 0x10000, 0x20000
 MOST_CODE_WORDS, MOST_DATA_WORDS = 16384, 131072
@@ -80,52 +77,22 @@ def _number(text: str) -> int:
     return -number if text.startswith("-") else number
 
 
-def _operands(text: str, count: int) -> List[str]:
-    """So many operands, without the blanks around them."""
-    parts = [part.strip(BLANKS) for part in text.split(",")] if text else []
-    if len(parts) != count:
-        raise Fault("S2")
-    return parts
-
-
-def _address_operand(text: str) -> List[str]:
-    """The offset and the base of an operand `imm(xs1)`."""
-    match = re.fullmatch(r"([^ \t(]*)[ \t]*\([ \t]*([^ \t)]*)[ \t]*\)", text)
-    if not match:
-        raise Fault("S2")
-    return [match.group(1), match.group(2)]
-
-
-def instruction_of(name: str, rest: str, address: int, labels: Dict[str, int]) -> isa.Instruction:
-    """The instruction of a line, by S2, S3 and S4."""
+def instruction_of(name: str, rest: str, address: int = 0, labels: Optional[Dict[str, int]] = None) -> isa.Instruction:
+    """The instruction of a line, by S2, S3 and S4. Its operands have the form that `list` prints."""
     kind = isa.KINDS[name]
-    form = kind.format
-    rd = rs1 = rs2 = 0
-    imm: Union[str, int] = 0
-    if form == "R":
-        rd, rs1, rs2 = (_register(part) for part in _operands(rest, 3))
-    elif form == "S" or kind.group in ("load", "jalr"):
-        register, place = _operands(rest, 2)
-        imm, base = _address_operand(place)
-        rs1 = _register(base)
-        if form == "S":
-            rs2 = _register(register)
-        else:
-            rd = _register(register)
-    elif form in "IHG":
-        first, second, imm = _operands(rest, 3)
-        rd, rs1 = _register(first), _register(second)
-    elif form == "B":
-        first, second, imm = _operands(rest, 3)
-        rs1, rs2 = _register(first), _register(second)
-    elif form in "UJ":
-        first, imm = _operands(rest, 2)
-        rd = _register(first)
-    else:
-        _operands(rest, 0)
-    if isinstance(imm, str):
-        imm = _immediate(form, imm, address, labels)
-    return isa.Instruction(name, rd, rs1, rs2, imm)
+    forms = kind.operands.split(", ") if kind.operands else []
+    parts = [part.strip(BLANKS) for part in rest.split(",")] if rest else []
+    if len(parts) != len(forms):
+        raise Fault("S2")
+    texts = dict(zip(forms, parts))
+    if "imm(rs1)" in texts:
+        match = re.fullmatch(r"([^ \t(]*)[ \t]*\([ \t]*([^ \t)]*)[ \t]*\)", texts.pop("imm(rs1)"))
+        if not match:
+            raise Fault("S2")
+        texts["imm"], texts["rs1"] = match.groups()
+    imm = texts.pop("imm", "0")
+    fields = {field: _register(text) for field, text in texts.items()}
+    return isa.Instruction(name, imm=_immediate(kind.format, imm, address, labels or {}), **fields)
 
 
 def _immediate(form: str, text: str, address: int, labels: Dict[str, int]) -> int:
@@ -134,16 +101,22 @@ def _immediate(form: str, text: str, address: int, labels: Dict[str, int]) -> in
         if text not in labels:
             raise Fault("S4")
         imm = labels[text] - address
-    elif form == "U":
-        upper = _number(text)
-        if not 0 <= upper < 1 << 20:
-            raise Fault("S3")
-        imm = isa.signed(upper << 12, 32)
     else:
         imm = _number(text)
-    if not isa.immediate_fits(form, imm):
+    if form == "U":
+        if not 0 <= imm < 1 << 20:
+            raise Fault("S3")
+        imm = isa.signed(imm << 12, 32)
+    if not isa.immediate_fits(isa.FORMATS[form], imm):
         raise Fault("S3")
     return imm
+
+
+@lru_cache(maxsize=1 << 16)
+def words_of(text: str) -> Tuple[int, ...]:
+    """The words of instructions without labels, with semicolons between them."""
+    parts = [part.strip(BLANKS).partition(" ") for part in text.split(";")]
+    return tuple(isa.encode(instruction_of(name, rest)) for name, _, rest in parts)
 
 
 def code_word(line: Line, labels: Dict[str, int]) -> int:
@@ -198,18 +171,3 @@ def assemble(text: str) -> Assembled:
     if not done.code:
         raise Refused("S7: no instruction")
     return done
-
-
-def assembled_file(done: Assembled) -> bytes:
-    """The bytes of the file of an assembled text."""
-    file = WrittenFile(CODE, 0)
-    code = struct.pack(f"<{len(done.code)}I", *done.code)
-    file.segments.append(load_segment(5, CODE, len(code), code))
-    file.sections.append(WrittenSection(b".text", SHF_ALLOC | SHF_EXECINSTR, CODE, len(code)))
-    if done.data:
-        data = struct.pack(f"<{len(done.data)}Q", *done.data)
-        file.segments.append(load_segment(6, DATA, len(data), data))
-        file.sections.append(WrittenSection(b".data", SHF_ALLOC | SHF_WRITE, DATA, len(data)))
-    file.symbols = [Symbol(name.encode(), STT_NOTYPE, STB_LOCAL, 0, SHN_ABS, address, 0)
-                    for name, address in done.labels.items()]
-    return write_elf(file)

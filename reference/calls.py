@@ -10,12 +10,12 @@ from typing import Callable, Dict, List, Optional, Tuple
 
 import isa
 from admission import Options, Test, admit, blocks
-from assembler import assemble, assembled_file
+from assembler import CODE, DATA, assemble
 from campaign import Course, strikes_text
-from elf import File, first_sharing, read_elf
+from elf import STB_LOCAL, STT_NOTYPE, File, first_sharing, read_elf
 from generator import generate
-from machine import ENDED, FIRED, GOING, Code, Hart, Memory, code_ranges, loads_of, run_changed, start
-from output import output_file
+from machine import ENDED, FIRED, GOING, Hart, Memory, code_ranges, loads_of, run_changed, start
+from output import output_file, packed, plain_file
 from texts import Exceeded, Refused, Stopped, hex16, number_or_none
 from weave import Woven, weave
 from words import Order, order_of
@@ -28,36 +28,19 @@ GENERATED_STEPS = 100000000
 ENDED_STATUS, READ_FAULT, WRITE_FAULT, FIRED_STATUS, TRAPPED_STATUS, GOING_STATUS = 0, 5, 6, 10, 11, 12
 
 
-class TooLong(Exception):
-    """A file has more bytes than it may have."""
-
-
 class Shelf:
-    """Files by their names. A fault is an OSError."""
-
-    def load(self, name: str, most: int) -> bytes:
-        """The bytes of a file, or TooLong where it has more than so many."""
-        raise NotImplementedError
-
-    def store(self, name: str, data: bytes) -> None:
-        """Sets a file to these bytes."""
-        raise NotImplementedError
-
-
-class DirShelf(Shelf):
-    """The machine's files; relative names go from a folder on."""
+    """The machine's files; relative names go from a folder on. A fault is an OSError."""
 
     def __init__(self, folder: str) -> None:
         self.folder = folder
 
     def load(self, name: str, most: int) -> bytes:
+        """The bytes of a file, or so many where it has more."""
         with open(os.path.join(self.folder, name), "rb") as file:
-            data = file.read(most + 1)
-        if len(data) > most:
-            raise TooLong()
-        return data
+            return file.read(most)
 
     def store(self, name: str, data: bytes) -> None:
+        """Sets a file to these bytes."""
         with open(os.path.join(self.folder, name), "wb") as file:
             file.write(data)
 
@@ -68,11 +51,12 @@ Answer = Tuple[int, str]
 def load(shelf: Shelf, name: str, most: int) -> bytes:
     """The bytes of a file, by the read fault and L1 ("Limits")."""
     try:
-        return shelf.load(name, most)
+        data = shelf.load(name, most + 1)
     except OSError:
         raise Stopped(READ_FAULT, "read fault\n") from None
-    except TooLong:
-        raise Stopped(4, f"limit L1: over {most}\n") from None
+    if len(data) > most:
+        raise Stopped(4, f"limit L1: over {most}\n")
+    return data
 
 
 def store(shelf: Shelf, name: str, data: bytes) -> None:
@@ -165,11 +149,11 @@ def dump_text(memory: Memory, address: int, length: int) -> str:
 
 def listing(file: File) -> str:
     """The lines of `list` ("Printed lines")."""
-    code, memory = Code(code_ranges(file)), Memory(loads_of(file))
+    code, memory = code_ranges(file), Memory(loads_of(file))
     lines = []
-    for addresses in code.addresses():
+    for addresses in code.words():
         for address in addresses:
-            if code.holds(address):
+            if code.hold(address, address + 4):
                 word = memory.load(address, 4)
                 lines.append(f"{isa.text_of(word)} # {hex16(address)} 0x{word:08x}\n")
     return "".join(lines)
@@ -187,7 +171,7 @@ def check_apart(files: List[File]) -> None:
 def play(files: List[File], turns: List[int], count: int) -> List[Hart]:
     """The harts of files in one memory, after so many turns ("A file in memory")."""
     memory = Memory([segment for file in files for segment in loads_of(file)])
-    harts = [Hart(memory, Code(code_ranges(file)), file.entry) for file in files]
+    harts = [Hart(memory, code_ranges(file), file.entry) for file in files]
     turn = 0
     while turn < count and any(harts[number].outcome == GOING for number in turns):
         hart = harts[turns[turn % len(turns)]]
@@ -255,7 +239,9 @@ def _list(order: Order, shelf: Shelf) -> Answer:
 def _asm(order: Order, shelf: Shelf) -> Answer:
     """`asm`. Characters that are no ASCII stand in no part of a line."""
     done = assemble(load(shelf, order.files[0], MOST_INPUT).decode("latin-1"))
-    store(shelf, order.files[1], assembled_file(done))
+    parts = [(b".text", 5, CODE, packed("I", done.code)), (b".data", 6, DATA, packed("Q", done.data))]
+    symbols = [(name, STT_NOTYPE, STB_LOCAL, address) for name, address in done.labels.items()]
+    store(shelf, order.files[1], plain_file(parts if done.data else parts[:1], symbols))
     return 0, f"code {len(done.code)} words, data {len(done.data)} words\n"
 
 
@@ -294,7 +280,7 @@ def arguments() -> Optional[List[str]]:
 
 def main() -> int:
     """The program: one call over the files of the disk."""
-    status, text = answer(arguments() or [], DirShelf("."))
+    status, text = answer(arguments() or [], Shelf("."))
     try:
         sys.stdout.buffer.write(text.encode())
         sys.stdout.buffer.flush()

@@ -133,6 +133,10 @@ class Case:
     files: Dict[str, Union[Draft, Text]]
     calls: Tuple[Tuple[str, ...], ...]
 
+    def built(self) -> Dict[str, bytes]:
+        """The bytes of its files."""
+        return {name: file.build() for name, file in self.files.items()}
+
 
 def chance(rng: random.Random, percent: float) -> bool:
     """True so often in a hundred."""
@@ -369,15 +373,15 @@ def draw_damaged(rng: random.Random) -> Draft:
 
 # Words
 
-def draw_options(rng: random.Random) -> List[str]:
-    """Options of the weave that are mostly sound."""
+def draw_options(rng: random.Random, many: float = 5) -> List[str]:
+    """Options of the weave that are mostly sound. So many rounds in a hundred are of so many words that they cost time."""
     words = []
     if chance(rng, 30):
         words += ["--inst-max", str(rng.choice([1, 2, 3, 4, 5, 8, 15, 17, 40, 1024]))]
     if chance(rng, 5):
         words += ["--inst-min", str(rng.choice([1, 2, 3, 4, 8, 9]))]
     if chance(rng, 30):
-        words += [f"--round={rng.choice([1, 2, 3, 4, 7, 16] + ([300, 1024] if chance(rng, 15) else []))}"]
+        words += [f"--round={rng.choice([1, 2, 3, 4, 7, 16] + ([300, 1024] if chance(rng, many) else []))}"]
     if chance(rng, 12):
         words += ["--half", hex(rng.choice([0x1000, 0x2000, 0x11000, 0x12000, 0x20000, 0x100000, 0x20000000]))]
     return words + [flag for flag in ("--sweep", "--diverse") if chance(rng, 25)]
@@ -476,9 +480,9 @@ def draw_campaign(rng: random.Random) -> Case:
 
 def draw_gen(rng: random.Random) -> Case:
     """A generated test, and its output."""
-    calls = [("gen", "OUT", "--seed", str(draw_number(rng)), "--size", str(rng.choice([1, 31, 32, 33, 64])))]
+    calls = [("gen", "OUT", "--seed", str(draw_number(rng)), "--size", str(rng.choice([1, 31, 32, 32, 33, 64])))]
     if chance(rng, 30):
-        calls.append(("transform", "OUT", "OUT", *draw_options(rng)))
+        calls.append(("transform", "OUT", "OUT", *draw_options(rng, 0)))
     return Case({}, tuple(calls))
 
 
@@ -493,7 +497,7 @@ def draw_list(rng: random.Random) -> Case:
 def draw_word(rng: random.Random) -> int:
     """A word near a row of the table."""
     kind = rng.choice(list(isa.KINDS.values()))
-    word = kind.match | rng.getrandbits(32) & ~isa.MASKS[kind.format]
+    word = kind.match | rng.getrandbits(32) & ~isa.FORMATS[kind.format].mask
     return word ^ (1 << rng.randrange(32) if chance(rng, 20) else 0)
 
 

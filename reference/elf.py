@@ -3,6 +3,7 @@
 from __future__ import annotations
 
 import struct
+from collections import namedtuple
 from dataclasses import dataclass, field
 from typing import Dict, Iterable, List, Optional, Tuple
 
@@ -12,7 +13,7 @@ PT_LOAD, PT_DYNAMIC, PT_INTERP = 1, 2, 3
 PF_X, PF_W, PF_R = 1, 2, 4
 SHT_NULL, SHT_PROGBITS, SHT_SYMTAB, SHT_STRTAB, SHT_RELA, SHT_NOBITS = 0, 1, 2, 3, 4, 8
 SHF_WRITE, SHF_ALLOC, SHF_EXECINSTR = 1, 2, 4
-STB_LOCAL = 0
+STB_LOCAL, STB_GLOBAL = 0, 1
 STT_NOTYPE, STT_OBJECT, STT_FUNC = 0, 1, 2
 
 HEADER = struct.Struct("<4sBBB9xHHIQQQIHHHHHH")
@@ -104,60 +105,53 @@ class File:
     relocations: List[Relocation] = field(default_factory=list)
 
 
-@dataclass
-class _Header:
-    """The fields of the header that the rules look at ("The header: 64 bytes")."""
-    file: File
-    phoff: int
-    shoff: int
-    phnum: int
-    shnum: int
-    shstrndx: int
+Header = namedtuple("Header", "magic form encoding ident_version type machine version entry phoff shoff flags ehsize "
+                    "phentsize phnum shentsize shnum shstrndx")  # "The header: 64 bytes"
 
 
-def _header(data: bytes) -> _Header:
-    """The header, by E1 to E7 ("Refusals of the reader")."""
+def _header(data: bytes) -> Header:
+    """The header, by E1 to E8 ("Refusals of the reader")."""
     if data[:4] != b"\x7fELF":
         raise Refused("E1: magic")
     if len(data) < 64:
         raise Refused("E8: header")
-    (_, form, encoding, ident_version, kind, machine, version, entry, phoff, shoff, flags,
-     ehsize, phentsize, phnum, shentsize, shnum, shstrndx) = HEADER.unpack_from(data)
-    if form != 2:
-        raise Refused(f"E2: class {form}")
-    if encoding != 1:
-        raise Refused(f"E3: encoding {encoding}")
-    if ident_version != 1 or version != 1:
-        raise Refused(f"E4: version {ident_version if ident_version != 1 else version}")
-    if kind != 2:
-        raise Refused(f"E5: type {kind}")
-    if machine != 243:
-        raise Refused(f"E6: machine {machine}")
-    if (ehsize != 64 or phnum > 0 and phentsize != 56 or shnum > 0 and shentsize != 64 or phnum == 0xFFFF
-            or shnum == 0 and shoff != 0 or shnum > 0 and shstrndx >= shnum):
+    h = Header(*HEADER.unpack_from(data))
+    if h.form != 2:
+        raise Refused(f"E2: class {h.form}")
+    if h.encoding != 1:
+        raise Refused(f"E3: encoding {h.encoding}")
+    if h.ident_version != 1 or h.version != 1:
+        raise Refused(f"E4: version {h.ident_version if h.ident_version != 1 else h.version}")
+    if h.type != 2:
+        raise Refused(f"E5: type {h.type}")
+    if h.machine != 243:
+        raise Refused(f"E6: machine {h.machine}")
+    if (h.ehsize != 64 or h.phnum > 0 and h.phentsize != 56 or h.shnum > 0 and h.shentsize != 64 or h.phnum == 0xFFFF
+            or h.shnum == 0 and h.shoff != 0 or h.shnum > 0 and h.shstrndx >= h.shnum):
         raise Refused("E7: header shape")
-    return _Header(File(entry, flags), phoff, shoff, phnum, shnum, shstrndx)
-
-
-def _tables(data: bytes, header: _Header) -> None:
-    """The segments and the sections without their names, by E8 ("Refusals of the reader")."""
-    if header.phnum > 0 and header.phoff + 56 * header.phnum > len(data):
+    if h.phnum > 0 and h.phoff + 56 * h.phnum > len(data):
         raise Refused("E8: program table")
-    if header.shnum > 0 and header.shoff + 64 * header.shnum > len(data):
+    if h.shnum > 0 and h.shoff + 64 * h.shnum > len(data):
         raise Refused("E8: section table")
+    return h
+
+
+def _tables(data: bytes, header: Header) -> File:
+    """The segments and the sections without their names, by E8 ("Refusals of the reader")."""
+    file = File(header.entry, header.flags)
     for number in range(header.phnum):
         kind, flags, offset, vaddr, _, filesz, memsz, _ = PROGRAM_HEADER.unpack_from(data, header.phoff + 56 * number)
-        header.file.segments.append(Segment(kind, flags, offset, vaddr, filesz, memsz))
+        file.segments.append(Segment(kind, flags, offset, vaddr, filesz, memsz))
     for number in range(header.shnum):
-        (name, kind, flags, addr, offset, size, link, info, _,
-         entsize) = SECTION_HEADER.unpack_from(data, header.shoff + 64 * number)
-        header.file.sections.append(Section(name, kind, flags, addr, offset, size, link, info, entsize))
-    for number, segment in enumerate(header.file.segments):
+        *fields, _, entsize = SECTION_HEADER.unpack_from(data, header.shoff + 64 * number)
+        file.sections.append(Section(*fields, entsize))
+    for number, segment in enumerate(file.segments):
         if segment.is_load and segment.filesz > 0 and segment.offset + segment.filesz > len(data):
             raise Refused(f"E8: segment {number}")
-    for number, section in enumerate(header.file.sections):
+    for number, section in enumerate(file.sections):
         if section.has_bytes and section.offset + section.size > len(data):
             raise Refused(f"E8: section {number}")
+    return file
 
 
 def first_sharing(ranges: List[Tuple[int, int]]) -> Optional[Tuple[int, int]]:
@@ -195,9 +189,8 @@ def _bytes_of(data: bytes, section: Section) -> bytes:
     return data[section.offset:section.offset + section.size] if section.has_bytes else b""
 
 
-def _check_sections(data: bytes, header: _Header) -> bytes:
+def _check_sections(data: bytes, sections: List[Section], shstrndx: int) -> bytes:
     """E11, and the table of the names of sections ("Refusals of the reader")."""
-    sections, shstrndx = header.file.sections, header.shstrndx
     has_table = bool(sections) and shstrndx != 0 and sections[shstrndx].type == SHT_STRTAB
     table = _bytes_of(data, sections[shstrndx]) if has_table else b""
     last_zero = table.rfind(b"\0")
@@ -256,10 +249,9 @@ def _name_ends(table: bytes, offsets: Iterable[int]) -> Dict[int, int]:
 def read_elf(data: bytes) -> File:
     """The file that the bytes are, by E1 to E13, L5 and L10 ("Refusals of the reader", "Limits")."""
     header = _header(data)
-    file = header.file
-    _tables(data, header)
+    file = _tables(data, header)
     _check_segments(file)
-    section_names = _check_sections(data, header)
+    section_names = _check_sections(data, file.sections, header.shstrndx)
     symbols, symbol_names = _symbols(data, file)
     file.relocations = _relocations(data, file, len(symbols))
     if len(file.sections) > MOST_SECTIONS:

@@ -2,14 +2,37 @@
 
 from __future__ import annotations
 
-from dataclasses import dataclass
+import re
 from functools import lru_cache
-from typing import Callable, Dict, List, Optional
+from typing import Callable, Dict, List, NamedTuple, Optional, Tuple
 
-MASKS = {"R": 0xFE00707F, "I": 0x707F, "H": 0xFC00707F, "G": 0xFE00707F, "S": 0x707F, "B": 0x707F,
-         "U": 0x7F, "J": 0x7F, "N": 0xFFFFFFFF}
 
-# The rows of the page: the group, the format, and names with their matches.
+class Format(NamedTuple):
+    """A format with its mask, its fields, and of the immediate the range, the grain and the parts.
+
+    A part of the immediate is its lowest bit in the word, how many bits it has, and where they stand in the immediate."""
+    mask: int
+    registers: str
+    least: int = 0
+    most: int = 0
+    grain: int = 1
+    parts: Tuple[Tuple[int, int, int], ...] = ()
+
+
+# The table of the page ("Formats and fields").
+FORMATS = {
+    "R": Format(0xFE00707F, "rd rs1 rs2"),
+    "I": Format(0x707F, "rd rs1", -2048, 2047, 1, ((20, 12, 0),)),
+    "H": Format(0xFC00707F, "rd rs1", 0, 63, 1, ((20, 6, 0),)),
+    "G": Format(0xFE00707F, "rd rs1", 0, 31, 1, ((20, 5, 0),)),
+    "S": Format(0x707F, "rs1 rs2", -2048, 2047, 1, ((25, 7, 5), (7, 5, 0))),
+    "B": Format(0x707F, "rs1 rs2", -4096, 4094, 2, ((31, 1, 12), (7, 1, 11), (25, 6, 5), (8, 4, 1))),
+    "U": Format(0x7F, "rd", -(1 << 31), (1 << 31) - 4096, 4096, ((12, 20, 12),)),
+    "J": Format(0x7F, "rd", -1048576, 1048574, 2, ((31, 1, 20), (12, 8, 12), (20, 1, 11), (21, 10, 1))),
+    "N": Format(0xFFFFFFFF, ""),
+}
+
+# The rows of the page: the group, the format, and names with their matches ("Rows").
 ROWS = [
     ("upper", "U", "lui 00000037 auipc 00000017"),
     ("jal", "J", "jal 0000006f"),
@@ -30,20 +53,28 @@ ROWS = [
                       "remuw 0200703b"),
     ("ecall", "N", "ecall 00000073"),
     ("ebreak", "N", "ebreak 00100073"),
+    ("zero", "N", "zero 00000000"),
 ]
 
+# The operands in a text, by the group or else the format ("Printed lines").
+OPERANDS = {"load": "rd, imm(rs1)", "jalr": "rd, imm(rs1)", "R": "rd, rs1, rs2", "I": "rd, rs1, imm", "H": "rd, rs1, imm",
+            "G": "rd, rs1, imm", "S": "rs2, imm(rs1)", "B": "rs1, rs2, imm", "U": "rd, imm", "J": "rd, imm", "N": ""}
 
-@dataclass(frozen=True)
-class Kind:
+
+class Kind(NamedTuple):
     """A row of the instruction table."""
     name: str
     group: str
     format: str
     match: int
 
+    @property
+    def operands(self) -> str:
+        """Its operands in a text."""
+        return OPERANDS.get(self.group, OPERANDS[self.format])
 
-@dataclass(frozen=True)
-class Instruction:
+
+class Instruction(NamedTuple):
     """An instruction with its fields; a field that its format does not have is 0."""
     name: str
     rd: int = 0
@@ -62,18 +93,10 @@ class Instruction:
         return KINDS[self.name].group
 
 
-def _kinds() -> Dict[str, Kind]:
-    """The table by names, with the zero word's kind ("The instruction table")."""
-    kinds = {"zero": Kind("zero", "zero", "N", 0)}
-    for group, form, text in ROWS:
-        words = text.split()
-        for name, match in zip(words[::2], words[1::2]):
-            kinds[name] = Kind(name, group, form, int(match, 16))
-    return kinds
-
-
-KINDS = _kinds()
-BY_WORD = {(MASKS[kind.format], kind.match): kind for kind in KINDS.values()}
+KINDS = {name: Kind(name, group, form, int(match, 16)) for group, form, text in ROWS
+         for name, match in zip(text.split()[::2], text.split()[1::2])}
+BY_WORD = {(FORMATS[kind.format].mask, kind.match): kind for kind in KINDS.values()}
+MASKS = sorted({form.mask for form in FORMATS.values()})
 
 ZERO = Instruction("zero")
 ECALL = Instruction("ecall")
@@ -88,91 +111,60 @@ def signed(number: int, bits: int = 64) -> int:
 
 # Words
 
-def _immediate(form: str, word: int) -> int:
-    """The immediate of a word of a format ("Formats and fields")."""
-    if form == "I":
-        return signed(word >> 20, 12)
-    if form == "H":
-        return word >> 20 & 0x3F
-    if form == "G":
-        return word >> 20 & 0x1F
-    if form == "S":
-        return signed(word >> 25 << 5 | word >> 7 & 0x1F, 12)
-    if form == "B":
-        return signed((word >> 31) << 12 | (word >> 7 & 1) << 11 | (word >> 25 & 0x3F) << 5
-                      | (word >> 8 & 0xF) << 1, 13)
-    if form == "U":
-        return signed(word & 0xFFFFF000, 32)
-    if form == "J":
-        return signed((word >> 31) << 20 | (word >> 12 & 0xFF) << 12 | (word >> 20 & 1) << 11
-                      | (word >> 21 & 0x3FF) << 1, 21)
-    return 0
-
-
-def _immediate_bits(form: str, imm: int) -> int:
-    """The bits of an immediate in a word of a format ("Formats and fields")."""
-    if form in "IHG":
-        return (imm & 0xFFF) << 20
-    if form == "S":
-        return (imm >> 5 & 0x7F) << 25 | (imm & 0x1F) << 7
-    if form == "B":
-        return (imm >> 12 & 1) << 31 | (imm >> 11 & 1) << 7 | (imm >> 5 & 0x3F) << 25 | (imm >> 1 & 0xF) << 8
-    if form == "U":
-        return imm & 0xFFFFF000
-    if form == "J":
-        return (imm >> 20 & 1) << 31 | (imm >> 12 & 0xFF) << 12 | (imm >> 11 & 1) << 20 | (imm >> 1 & 0x3FF) << 21
-    return 0
-
-
 @lru_cache(maxsize=1 << 16)
 def decode(word: int) -> Optional[Instruction]:
     """The instruction of a word, or None where the word is in no row ("The instruction table")."""
-    for mask in (0x707F, 0xFE00707F, 0xFC00707F, 0x7F, 0xFFFFFFFF):
-        kind = BY_WORD.get((mask, word & mask))
-        if kind:
-            form = kind.format
-            return Instruction(kind.name,
-                               word >> 7 & 31 if form in "RIHGUJ" else 0,
-                               word >> 15 & 31 if form in "RIHGSB" else 0,
-                               word >> 20 & 31 if form in "RSB" else 0,
-                               _immediate(form, word))
-    return None
+    kind = next((BY_WORD[mask, word & mask] for mask in MASKS if (mask, word & mask) in BY_WORD), None)
+    if kind is None:
+        return None
+    form = FORMATS[kind.format]
+    rd, rs1, rs2 = (word >> low & 31 if register in form.registers.split() else 0
+                    for register, low in (("rd", 7), ("rs1", 15), ("rs2", 20)))
+    imm = sum((word >> low & (1 << bits) - 1) << place for low, bits, place in form.parts)
+    return Instruction(kind.name, rd, rs1, rs2, imm if imm <= form.most else imm + 2 * form.least)
 
 
-def immediate_fits(form: str, imm: int) -> bool:
+def immediate_fits(form: Format, imm: int) -> bool:
     """Whether an immediate is in the range of a format and on its grain ("Formats and fields")."""
-    least, most, grain = {"I": (-2048, 2047, 1), "S": (-2048, 2047, 1), "H": (0, 63, 1), "G": (0, 31, 1),
-                          "B": (-4096, 4094, 2), "J": (-1048576, 1048574, 2),
-                          "U": (-(1 << 31), (1 << 31) - 4096, 4096), "R": (0, 0, 1), "N": (0, 0, 1)}[form]
-    return least <= imm <= most and imm % grain == 0
+    return form.least <= imm <= form.most and imm % form.grain == 0
 
 
 @lru_cache(maxsize=1 << 16)
 def encode(instruction: Instruction) -> int:
     """The word of an instruction whose fields are in their ranges ("Formats and fields")."""
-    kind = instruction.kind
-    if not immediate_fits(kind.format, instruction.imm):
+    name, rd, rs1, rs2, imm = instruction
+    form = FORMATS[KINDS[name].format]
+    if not immediate_fits(form, imm):
         raise ValueError(f"no word for {instruction}")
-    return (kind.match | instruction.rd << 7 | instruction.rs1 << 15 | instruction.rs2 << 20
-            | _immediate_bits(kind.format, instruction.imm))
+    word = KINDS[name].match | rd << 7 | rs1 << 15 | rs2 << 20
+    for low, bits, place in form.parts:
+        word |= (imm >> place & (1 << bits) - 1) << low
+    return word
+
+
+def text_of(word: int) -> str:
+    """The text of a word ("Printed lines")."""
+    i = decode(word)
+    if i is None:
+        return f"word 0x{word:08x}"
+    imm = f"0x{i.imm >> 12 & 0xFFFFF:05x}" if i.kind.format == "U" else str(i.imm)
+    shown = {"rd": f"x{i.rd}", "rs1": f"x{i.rs1}", "rs2": f"x{i.rs2}", "imm": imm}
+    return f"{i.name} {re.sub('[a-z][a-z0-9]*', lambda field: shown[field.group()], i.kind.operands)}".strip()
 
 
 # Registers
 
 def writes(instruction: Instruction) -> List[int]:
     """The register that an instruction writes, x0 too ("Formats and fields"; a FENCE has none)."""
-    has = instruction.kind.format in "RIHGUJ" and instruction.name != "fence"
-    return [instruction.rd] if has else []
+    return [instruction.rd] if instruction.kind.format in "RIHGUJ" and instruction.name != "fence" else []
 
 
 def reads(instruction: Instruction) -> List[int]:
-    """The registers that an instruction reads, in the order rs1, rs2 ("Formats and fields")."""
+    """The registers that an instruction reads, in the order rs1, rs2 ("Formats and fields"; a FENCE has none)."""
     form = instruction.kind.format
     if instruction.name == "fence":
         return []
-    if form in "RSB":
-        return [instruction.rs1, instruction.rs2]
-    return [instruction.rs1] if form in "IHG" else []
+    return [instruction.rs1, instruction.rs2] if form in "RSB" else [instruction.rs1] if form in "IHG" else []
 
 
 # Values
@@ -252,28 +244,3 @@ TAKEN: Dict[str, Callable[[int, int], bool]] = {
 }
 
 ACCESS_SIZES = {"lb": 1, "lh": 2, "lw": 4, "ld": 8, "lbu": 1, "lhu": 2, "lwu": 4, "sb": 1, "sh": 2, "sw": 4, "sd": 8}
-
-
-# Texts
-
-def text_of(word: int) -> str:
-    """The text of a word ("Printed lines")."""
-    i = decode(word)
-    if i is None:
-        return f"word 0x{word:08x}"
-    form = i.kind.format
-    if i.group in ("load", "jalr"):
-        return f"{i.name} x{i.rd}, {i.imm}(x{i.rs1})"
-    if form == "R":
-        return f"{i.name} x{i.rd}, x{i.rs1}, x{i.rs2}"
-    if form in "IHG":
-        return f"{i.name} x{i.rd}, x{i.rs1}, {i.imm}"
-    if form == "S":
-        return f"{i.name} x{i.rs2}, {i.imm}(x{i.rs1})"
-    if form == "B":
-        return f"{i.name} x{i.rs1}, x{i.rs2}, {i.imm}"
-    if form == "U":
-        return f"{i.name} x{i.rd}, 0x{i.imm >> 12 & 0xFFFFF:05x}"
-    if form == "J":
-        return f"{i.name} x{i.rd}, {i.imm}"
-    return i.name

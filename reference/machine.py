@@ -5,7 +5,8 @@ from __future__ import annotations
 from bisect import bisect_right
 from dataclasses import dataclass
 from functools import lru_cache
-from typing import Callable, Dict, List, Optional, Tuple, Union
+from itertools import accumulate
+from typing import Callable, Dict, Iterable, List, Optional, Tuple, Union
 
 import isa
 from elf import File, PF_R, PF_W, PF_X, Segment
@@ -19,44 +20,47 @@ def loads_of(file: File) -> List[Segment]:
     return sorted((s for s in file.segments if s.is_load and s.memsz > 0), key=lambda s: s.vaddr)
 
 
-def code_ranges(file: File) -> List[Tuple[int, int]]:
-    """The code ranges in the file's order, each with its start and its end ("A file in memory")."""
-    executable = [s for s in loads_of(file) if s.flags & PF_X]
-    starts = [s.vaddr for s in executable]
-    ranges = []
-    for section in file.sections:
-        if section.is_executable and section.size > 0:
-            index = bisect_right(starts, section.addr) - 1
-            if index >= 0 and section.addr + section.size <= executable[index].end:
-                ranges.append((section.addr, section.addr + section.size))
-    if ranges:
-        return ranges
-    return [(s.vaddr, s.end) for s in file.segments if s.is_load and s.flags & PF_X and s.memsz > 0]
+class Ranges:
+    """Ranges of addresses, each with its start and its end, which are asked about others."""
 
+    def __init__(self, ranges: Iterable[Tuple[int, int]]) -> None:
+        self.ranges = list(ranges)
+        self.starts = sorted(start for start, _ in self.ranges)
+        self.reach = list(accumulate((end for _, end in sorted(self.ranges)), max))
 
-class Code:
-    """Code ranges that are asked for addresses."""
+    def _reach(self, address: int) -> int:
+        """The greatest end of those that start at an address or below it; 0 where none does."""
+        index = bisect_right(self.starts, address)
+        return self.reach[index - 1] if index else 0
 
-    def __init__(self, ranges: List[Tuple[int, int]]) -> None:
-        self.starts: List[int] = []
-        self.reach: List[int] = []
-        for start, end in sorted(ranges):
-            self.starts.append(start)
-            self.reach.append(max(end, self.reach[-1]) if self.reach else end)
+    def hold(self, start: int, end: int) -> bool:
+        """Whether one of them has all of a range."""
+        return self._reach(start) >= end
 
-    def holds(self, address: int, size: int = 4) -> bool:
-        """Whether so many bytes from an address on lie in one code range ("A file in memory")."""
-        index = bisect_right(self.starts, address) - 1
-        return index >= 0 and address + size <= self.reach[index]
+    def share(self, start: int, end: int) -> bool:
+        """Whether one of them has an address of a range."""
+        return start < end and self._reach(end - 1) > start
 
-    def addresses(self) -> List[range]:
-        """The code addresses, ascending, as ranges (PROFILE.md, "Blocks and pieces")."""
+    def words(self) -> List[range]:
+        """The multiples of 4 in them, ascending, as ranges."""
         found, last = [], 0
         for start, reach in zip(self.starts, self.reach):
-            first = max(-(-start // 4) * 4, last)
-            found.append(range(first, reach, 4))
+            found.append(range(max(-(-start // 4) * 4, last), reach, 4))
             last = max(last, -(-reach // 4) * 4)
         return found
+
+
+def executed(file: File) -> Ranges:
+    """The PT_LOAD segments with PF_X and bytes in memory."""
+    return Ranges((s.vaddr, s.end) for s in file.segments if s.is_load and s.flags & PF_X and s.memsz > 0)
+
+
+def code_ranges(file: File) -> Ranges:
+    """The code ranges ("A file in memory")."""
+    segments = executed(file)
+    found = [(s.addr, s.addr + s.size) for s in file.sections
+             if s.is_executable and s.size > 0 and segments.hold(s.addr, s.addr + s.size)]
+    return Ranges(found) if found else segments
 
 
 class Memory:
@@ -131,6 +135,10 @@ class Memory:
         return True
 
 
+class Stop(Exception):
+    """A step stops the run, with this outcome."""
+
+
 # A register by its name, as "x5", or the address of a word.
 Place = Union[int, str]
 
@@ -146,7 +154,7 @@ class Change:
 class Hart:
     """A hart in a memory: its pc, registers, count of steps and outcome ("A file in memory")."""
 
-    def __init__(self, memory: Memory, code: Code, pc: int) -> None:
+    def __init__(self, memory: Memory, code: Ranges, pc: int) -> None:
         self.memory, self.code, self.pc = memory, code, pc
         self.x = [0] * 32
         self.steps = 0
@@ -170,7 +178,7 @@ class Hart:
     def next_word(self, ahead: int = 0) -> Optional[int]:
         """The word at the pc or so many bytes on, or None where none can be fetched ("A file in memory")."""
         address = self.pc + ahead & WORD
-        if address % 4 != 0 or not self.code.holds(address):
+        if address % 4 != 0 or not self.code.hold(address, address + 4):
             return None
         return self.memory.load(address, 4, PF_X)
 
@@ -182,9 +190,12 @@ class Hart:
         action = self.actions.get(self.pc)
         if action is None:
             word = self.next_word()
-            action = stop("trapped fetch") if word is None else action_of(word)
+            action = stopping("trapped fetch") if word is None else action_of(word)
             self.actions[self.pc] = action
-        action(self)
+        try:
+            action(self)
+        except Stop as stop:
+            self.outcome = str(stop)
 
     def run(self, most: int) -> None:
         """Makes steps until it stops or has made so many in all."""
@@ -202,7 +213,7 @@ class Hart:
 
 def start(file: File) -> Hart:
     """The hart of a file, with all registers 0 ("A file in memory")."""
-    return Hart(Memory(loads_of(file)), Code(code_ranges(file)), file.entry)
+    return Hart(Memory(loads_of(file)), code_ranges(file), file.entry)
 
 
 def run_changed(hart: Hart, changes: List[Change], most: int) -> None:
@@ -219,97 +230,50 @@ def run_changed(hart: Hart, changes: List[Change], most: int) -> None:
 Action = Callable[[Hart], None]
 
 
-def stop(outcome: str) -> Action:
+def stopping(outcome: str) -> Action:
     """A step that stops the run, as those of ECALL and of EBREAK ("Values")."""
     def act(hart: Hart) -> None:
-        hart.outcome = outcome
+        raise Stop(outcome)
+    return act
+
+
+def _setting(rd: int, value: Callable[[Hart], int]) -> Action:
+    """A step that sets rd, and goes on."""
+    def act(hart: Hart) -> None:
+        hart.x[rd] = value(hart) & WORD
+        hart.x[0] = 0
+        hart.pc = hart.pc + 4 & WORD
     return act
 
 
 def _upper(i: isa.Instruction) -> Action:
     """The step of LUI and AUIPC ("Values")."""
-    is_relative = i.name == "auipc"
-
-    def act(hart: Hart) -> None:
-        hart.x[i.rd] = (hart.pc if is_relative else 0) + i.imm & WORD
-        hart.x[0] = 0
-        hart.pc = hart.pc + 4 & WORD
-    return act
+    return _setting(i.rd, lambda hart: (hart.pc if i.name == "auipc" else 0) + i.imm)
 
 
 def _immediate(i: isa.Instruction) -> Action:
     """The step of a kind that computes with an immediate ("Values")."""
-    value, rd, rs1, imm = isa.VALUES[i.name], i.rd, i.rs1, i.imm & WORD
-
-    def act(hart: Hart) -> None:
-        x = hart.x
-        x[rd] = value(x[rs1], imm) & WORD
-        x[0] = 0
-        hart.pc = hart.pc + 4 & WORD
-    return act
+    value, rs1, imm = isa.VALUES[i.name], i.rs1, i.imm & WORD
+    return _setting(i.rd, lambda hart: value(hart.x[rs1], imm))
 
 
 def _register(i: isa.Instruction) -> Action:
     """The step of a kind that computes with two registers ("Values")."""
-    value, rd, rs1, rs2 = isa.VALUES[i.name], i.rd, i.rs1, i.rs2
-
-    def act(hart: Hart) -> None:
-        x = hart.x
-        x[rd] = value(x[rs1], x[rs2]) & WORD
-        x[0] = 0
-        hart.pc = hart.pc + 4 & WORD
-    return act
-
-
-def _go(hart: Hart, target: int) -> bool:
-    """Goes to a target, or traps where it is no multiple of 4 ("A file in memory")."""
-    if target % 4 != 0:
-        hart.outcome = f"trapped target 0x{target:016x}"
-        return False
-    hart.pc = target
-    return True
-
-
-def _jump(i: isa.Instruction) -> Action:
-    """The step of JAL and JALR ("Values")."""
-    is_relative = i.name == "jal"
-
-    def act(hart: Hart) -> None:
-        link = hart.pc + 4 & WORD
-        target = hart.pc + i.imm if is_relative else hart.x[i.rs1] + i.imm & ~1
-        if _go(hart, target & WORD):
-            hart.x[i.rd] = link
-            hart.x[0] = 0
-    return act
-
-
-def _branch(i: isa.Instruction) -> Action:
-    """The step of a branch ("Values")."""
-    taken, rs1, rs2 = isa.TAKEN[i.name], i.rs1, i.rs2
-
-    def act(hart: Hart) -> None:
-        if taken(hart.x[rs1], hart.x[rs2]):
-            _go(hart, hart.pc + i.imm & WORD)
-        else:
-            hart.pc = hart.pc + 4 & WORD
-    return act
+    value, rs1, rs2 = isa.VALUES[i.name], i.rs1, i.rs2
+    return _setting(i.rd, lambda hart: value(hart.x[rs1], hart.x[rs2]))
 
 
 def _load(i: isa.Instruction) -> Action:
     """The step of a load ("Values")."""
-    size = isa.ACCESS_SIZES[i.name]
-    is_signed = not i.name.endswith("u")
+    size, rs1, imm = isa.ACCESS_SIZES[i.name], i.rs1, i.imm
 
-    def act(hart: Hart) -> None:
-        address = hart.x[i.rs1] + i.imm & WORD
+    def value(hart: Hart) -> int:
+        address = hart.x[rs1] + imm & WORD
         number = hart.memory.load(address, size, PF_R)
         if number is None:
-            hart.outcome = f"trapped load 0x{address:016x}"
-            return
-        hart.x[i.rd] = isa.signed(number, 8 * size) & WORD if is_signed else number
-        hart.x[0] = 0
-        hart.pc = hart.pc + 4 & WORD
-    return act
+            raise Stop(f"trapped load 0x{address:016x}")
+        return number if i.name.endswith("u") else isa.signed(number, 8 * size)
+    return _setting(i.rd, value)
 
 
 def _store(i: isa.Instruction) -> Action:
@@ -319,23 +283,48 @@ def _store(i: isa.Instruction) -> Action:
 
     def act(hart: Hart) -> None:
         address = hart.x[i.rs1] + i.imm & WORD
-        if hart.memory.store(address, size, hart.x[i.rs2] & low, PF_W):
-            hart.pc = hart.pc + 4 & WORD
-        else:
-            hart.outcome = f"trapped store 0x{address:016x}"
-    return act
-
-
-def _pass(i: isa.Instruction) -> Action:
-    """The step of a FENCE ("Values")."""
-    def act(hart: Hart) -> None:
+        if not hart.memory.store(address, size, hart.x[i.rs2] & low, PF_W):
+            raise Stop(f"trapped store 0x{address:016x}")
         hart.pc = hart.pc + 4 & WORD
     return act
 
 
+def _target(address: int) -> int:
+    """The target of a jump or a taken branch, which traps where it is no multiple of 4 ("A file in memory")."""
+    if address % 4 != 0:
+        raise Stop(f"trapped target 0x{address & WORD:016x}")
+    return address & WORD
+
+
+def _jump(i: isa.Instruction) -> Action:
+    """The step of JAL and JALR ("Values")."""
+    def act(hart: Hart) -> None:
+        link = hart.pc + 4 & WORD
+        hart.pc = _target(hart.pc + i.imm if i.name == "jal" else hart.x[i.rs1] + i.imm & ~1)
+        hart.x[i.rd] = link
+        hart.x[0] = 0
+    return act
+
+
+def _branch(i: isa.Instruction) -> Action:
+    """The step of a branch ("Values")."""
+    taken, rs1, rs2 = isa.TAKEN[i.name], i.rs1, i.rs2
+
+    def act(hart: Hart) -> None:
+        is_taken = taken(hart.x[rs1], hart.x[rs2])
+        hart.pc = _target(hart.pc + i.imm) if is_taken else hart.pc + 4 & WORD
+    return act
+
+
+def _fence(i: isa.Instruction) -> Action:
+    """The step of a FENCE ("Values")."""
+    return _setting(0, lambda hart: 0)
+
+
 ACTIONS: Dict[str, Callable[[isa.Instruction], Action]] = {
     "upper": _upper, "immediate": _immediate, "register": _register, "jal": _jump, "jalr": _jump, "branch": _branch,
-    "load": _load, "store": _store, "fence": _pass, "ecall": lambda i: stop(ENDED), "ebreak": lambda i: stop(FIRED)}
+    "load": _load, "store": _store, "fence": _fence, "ecall": lambda i: stopping(ENDED),
+    "ebreak": lambda i: stopping(FIRED)}
 
 
 @lru_cache(maxsize=1 << 16)
@@ -343,5 +332,5 @@ def action_of(word: int) -> Action:
     """What a step at a word does ("Values", "A file in memory")."""
     i = isa.decode(word)
     if i is None or i == isa.ZERO:
-        return stop(f"trapped word 0x{word:08x}")
+        return stopping(f"trapped word 0x{word:08x}")
     return ACTIONS[i.group](i)

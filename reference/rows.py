@@ -8,13 +8,13 @@ import tempfile
 from typing import Callable, Dict, List, Optional, Tuple
 
 import isa
-from admission import MOST_NEW_CODE, Options, admit, blocks, leaders
-from calls import WRITE_FAULT, DirShelf, Shelf, TooLong, answer, transform
+from admission import Options, admit, blocks, leaders
+from calls import WRITE_FAULT, Shelf, answer, transform
 from campaign import Course, is_closed, strikes_text
 from elf import read_elf
 from machine import Change, start
 from texts import Stopped, Usage, number_or_none
-from weave import MOST_NEAR_CODE, Const, Go, Item, Mark, bounds, link, size_of
+from weave import bounds
 from words import Order, change_of, number_of, order_of
 
 NO_MEMORY = 7
@@ -29,6 +29,7 @@ class MemoryShelf(Shelf):
     """Files in memory, of which loads and stores fail as they are told."""
 
     def __init__(self) -> None:
+        super().__init__("")
         self.files: Dict[str, bytearray] = {}
         self.faults: Dict[int, Optional[int]] = {}
         self.calls = 0
@@ -43,9 +44,7 @@ class MemoryShelf(Shelf):
         fails, _ = self._fault()
         if fails or name not in self.files:
             raise OSError(name)
-        if len(self.files[name]) > most:
-            raise TooLong()
-        return bytes(self.files[name])
+        return bytes(self.files[name][:most])
 
     def store(self, name: str, data: bytes) -> None:
         fails, keep = self._fault()
@@ -220,7 +219,7 @@ def _narrow(rows: Rows, words: List[str]) -> str:
 
 def _disk(rows: Rows, words: List[str]) -> str:
     """`disk`: the machine's files."""
-    return _shown(*rows.call(words, DirShelf(rows.folder.name)))
+    return _shown(*rows.call(words, Shelf(rows.folder.name)))
 
 
 def _put(rows: Rows, words: List[str]) -> str:
@@ -346,7 +345,7 @@ def _test(rows: Rows, words: List[str]) -> str:
     low = min(s.vaddr for s in test.image)
     lines = [f"entry 0x{test.file.entry:x} image 0x{low:x} to 0x{test.end:x} base 0x{test.base:x} "
              f"distance 0x{test.distance:x}"]
-    lines += [f"range 0x{start:x} to 0x{end:x}" for start, end in test.ranges]
+    lines += [f"range 0x{start:x} to 0x{end:x}" for start, end in test.ranges.ranges]
     lines += [f"data 0x{data.start:x} to 0x{data.end:x}" for data in test.data]
     lines += [f"word 0x{address:x} 0x{isa.encode(i):08x}" for address, i in test.code.items()]
     lines += [f"leader 0x{address:x}" for address in sorted(leaders(test))]
@@ -396,25 +395,10 @@ def _bounds(rows: Rows, words: List[str]) -> str:
     return f"piece {b.piece} register {b.register} word {number_or_none(b.word)} start {b.start}\n"
 
 
-def _item(text: str) -> Item:
-    """An item of `link`."""
-    kind, *numbers = text.split(":")
-    values = [_number(number) for number in numbers]
-    return {"mark": Mark, "const": Const, "go": Go, "plain": int}[kind](*values)
-
-
 def _link(rows: Rows, words: List[str]) -> str:
-    """`link`: a symbolic link on the disk; of a form, an address and items their words."""
-    if len(words) == 2:
-        os.symlink(words[1], rows.on_disk(words[0]))
-        return ""
-    items, far = [_item(word) for word in words[2:]], words[0] == "far"
-    if size_of(items, far) > (MOST_NEW_CODE if far else MOST_NEAR_CODE):
-        return f"too large {size_of(items, far)}\n"
-    found, entries = link(items, _number(words[1]), far)
-    lines = ["words " + " ".join(f"0x{word:08x}" for word in found)]
-    lines += [f"entry 0x{address:x} 0x{place:x}" for address, place in entries.items()]
-    return "\n".join(lines) + "\n"
+    """`link`."""
+    os.symlink(words[1], rows.on_disk(words[0]))
+    return ""
 
 
 def _clear(rows: Rows, words: List[str]) -> str:

@@ -1,7 +1,8 @@
-"""Answers that end a call before it is done, and forms of numbers (docs/FORMATS.md, "Printed lines")."""
+"""Answers that end a call before it is done, and forms of numbers (docs/FORMATS.md, "Printed lines", "Words ..")."""
 
 from __future__ import annotations
 
+import re
 from typing import Optional
 
 
@@ -44,3 +45,14 @@ def hex16(number: int) -> str:
 def number_or_none(number: Optional[int]) -> str:
     """A bound in a line, where there may be none ("Printed lines")."""
     return "none" if number is None else str(number)
+
+
+def number_of(text: str) -> Optional[int]:
+    """The number that a text is, or None ("A number is ..")."""
+    if re.fullmatch("[0-9]{1,20}", text):
+        number = int(text)
+    elif re.fullmatch("0x[0-9a-fA-F]{1,16}", text):
+        number = int(text, 16)
+    else:
+        return None
+    return number if number < 1 << 64 else None

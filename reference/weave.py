@@ -2,24 +2,22 @@
 
 from __future__ import annotations
 
+import re
 from collections import Counter
 from dataclasses import dataclass
 from functools import lru_cache
+from itertools import accumulate
 from typing import Dict, List, NamedTuple, Optional, Tuple, Union
 
 import isa
 from admission import Block, DataRange, MOST_NEW_CODE, Options, Test
+from assembler import words_of
 from isa import Instruction, encode
 from machine import WORD
 from texts import Exceeded
 
 MOST_NEAR_CODE = 1 << 20
-T, U, CURSOR, SIGNATURE, DISTANCE = 30, 31, 15, 16, 14
-
-
-class Mark(NamedTuple):
-    """The entry of an input address begins here."""
-    address: int
+T, CURSOR, SIGNATURE = 30, 15, 16
 
 
 class Const(NamedTuple):
@@ -34,7 +32,7 @@ class Go(NamedTuple):
 
 
 # A number is a finished word.
-Item = Union[int, Mark, Const, Go]
+Item = Union[int, Const, Go]
 
 
 def pair(register: int) -> int:
@@ -42,26 +40,11 @@ def pair(register: int) -> int:
     return register + 16 if register else 0
 
 
-def op(name: str, rd: int, rs1: int, last: int) -> int:
-    """The word of an instruction on registers or with an immediate."""
-    if isa.KINDS[name].format == "R":
-        return encode(Instruction(name, rd, rs1, last))
-    return encode(Instruction(name, rd, rs1, 0, last))
-
-
-def branch(name: str, rs1: int, rs2: int, offset: int) -> int:
-    """The word of a branch."""
-    return encode(Instruction(name, 0, rs1, rs2, offset))
-
-
-EBREAK = encode(isa.EBREAK)
-
-
 # The parts of an instruction
 
 def guard(register: int) -> List[Item]:
     """Guard(r) ("Code sequences")."""
-    return [branch("beq", register, pair(register), 8), EBREAK] if register else []
+    return [*words_of(f"beq x{register}, x{pair(register)}, 8; ebreak")] if register else []
 
 
 def guards(rs1: int, rs2: int) -> List[Item]:
@@ -73,26 +56,20 @@ def original_part(i: Instruction, address: int) -> List[Item]:
     """The original part of an instruction ("The parts of an instruction")."""
     if i.name == "auipc":
         return [Const(i.rd, address + i.imm & WORD)]
-    if i.group == "load":
-        return guard(i.rs1) + [encode(i)]
-    if i.group == "store":
-        return guards(i.rs1, i.rs2) + [encode(i)]
-    return [encode(i)]
+    before = guard(i.rs1) if i.group == "load" else guards(i.rs1, i.rs2) if i.group == "store" else []
+    return before + [encode(i)]
 
 
 def mirror_part(i: Instruction, address: int, diverse: bool) -> List[Item]:
     """The mirror part of an instruction ("The parts of an instruction")."""
+    on_pairs = Instruction(i.name, pair(i.rd), pair(i.rs1), pair(i.rs2), i.imm)
     if i.name == "auipc":
-        return [Const(pair(i.rd), address + i.imm & WORD)]
+        return [Const(on_pairs.rd, address + i.imm & WORD)]
     if i.name == "fence":
         return []
-    if i.group == "load":
-        return [op("add", T, pair(i.rs1), DISTANCE), encode(Instruction(i.name, pair(i.rd), T, 0, i.imm))]
-    if i.group == "store":
-        return [op("add", T, pair(i.rs1), DISTANCE), encode(Instruction(i.name, 0, T, pair(i.rs2), i.imm))]
-    if diverse and i.name in OTHER_FORMS:
-        return list(other_form(i))
-    return [encode(Instruction(i.name, pair(i.rd), pair(i.rs1), pair(i.rs2), i.imm))]
+    if i.group in ("load", "store"):
+        return [*words_of(f"add x30, x{on_pairs.rs1}, x14"), encode(on_pairs._replace(rs1=T))]
+    return [*other_form(i)] if diverse and i.name in OTHER_FORMS else [encode(on_pairs)]
 
 
 def _other_forms() -> Dict[str, str]:
@@ -137,20 +114,17 @@ OTHER_FORMS = _other_forms()
 def other_form(i: Instruction) -> Tuple[int, ...]:
     """The mirror part of an instruction with the option `diverse` ("Other mirror parts")."""
     q, r = divmod(i.imm >> 12, 1024)
-    letters = {"t": T, "u": U, "d": pair(i.rd), "a": pair(i.rs1), "b": pair(i.rs2), "x0": 0, "i": i.imm, "q": q, "r": r}
-    words = []
-    for part in OTHER_FORMS[i.name].split(";"):
-        name, operands = part.split()
-        words.append(op(name, *(letters[o] if o in letters else int(o) for o in operands.split(","))))
-    return tuple(words)
+    letters = {"t": "x30", "u": "x31", "d": f"x{pair(i.rd)}", "a": f"x{pair(i.rs1)}", "b": f"x{pair(i.rs2)}",
+               "i": str(i.imm), "q": str(q), "r": str(r)}
+    return words_of(re.sub(r"\b[tudabiqr]\b", lambda letter: letters[letter.group()], OTHER_FORMS[i.name]))
 
 
 # Comparisons
 
 COMPARE: List[Item] = [word for register in range(1, 14) for word in guard(register)]
 
-COMPARE_WORD: List[Item] = [op("ld", T, CURSOR, 0), op("add", U, CURSOR, DISTANCE), op("ld", U, U, 0),
-                            branch("beq", T, U, 8), EBREAK, op("addi", CURSOR, CURSOR, 8)]
+COMPARE_WORD: List[Item] = [*words_of("ld x30, 0(x15); add x31, x15, x14; ld x31, 0(x31); beq x30, x31, 8; ebreak; "
+                                      "addi x15, x15, 8")]
 
 
 def visit(data: List[DataRange], times: int) -> List[Item]:
@@ -160,7 +134,7 @@ def visit(data: List[DataRange], times: int) -> List[Item]:
     word = list(COMPARE_WORD)
     for number, part in enumerate(data):
         following = data[(number + 1) % len(data)]
-        word += [Const(T, part.end), branch("bne", CURSOR, T, 12), Const(CURSOR, following.start)]
+        word += [Const(T, part.end), *words_of("bne x15, x30, 12"), Const(CURSOR, following.start)]
     return word * times
 
 
@@ -168,7 +142,7 @@ def sweep(data: List[DataRange]) -> List[Item]:
     """Sweep ("Code sequences")."""
     items: List[Item] = []
     for part in data:
-        items += [Const(CURSOR, part.start), *COMPARE_WORD, Const(T, part.end), branch("bne", CURSOR, T, -32)]
+        items += [Const(CURSOR, part.start), *COMPARE_WORD, Const(T, part.end), *words_of("bne x15, x30, -32")]
     return items
 
 
@@ -180,7 +154,7 @@ class Weave:
     def __init__(self, test: Test, options: Options, far: bool) -> None:
         self.test, self.diverse, self.far = test, options.diverse, far
         self.comparisons = COMPARE + visit(test.data, options.round)
-        self.end = (sweep(test.data) + COMPARE if options.sweep else []) + [encode(isa.ECALL)]
+        self.end = (sweep(test.data) + COMPARE if options.sweep else []) + [*words_of("ecall")]
 
     def leave(self, block: Block) -> List[Item]:
         """The leave of a block ("Pieces, entries, the whole code")."""
@@ -196,17 +170,16 @@ class Weave:
         if end.name == "jal":
             return link + [Const(SIGNATURE, target), Go(target)]
         if end.name == "jalr":
-            return [op("addi", SIGNATURE, pair(end.rs1), end.imm), op("andi", SIGNATURE, SIGNATURE, -2),
-                    *guard(end.rs1), op("addi", T, end.rs1, end.imm), op("andi", T, T, -2), *link,
-                    op("add", U, T, DISTANCE), op("add", U, U, DISTANCE), op("lw", T, U, 0), op("add", T, T, U),
-                    op("jalr", 0, T, 0)]
-        return [branch(end.name, pair(end.rs1), pair(end.rs2), 16), Const(SIGNATURE, at + 4),
-                encode(Instruction("jal", 0, imm=12)), Const(SIGNATURE, target), *guards(end.rs1, end.rs2),
-                branch(end.name, end.rs1, end.rs2, 12 if self.far else 8), Go(at + 4), Go(target)]
+            return [*words_of(f"addi x16, x{pair(end.rs1)}, {end.imm}; andi x16, x16, -2"), *guard(end.rs1),
+                    *words_of(f"addi x30, x{end.rs1}, {end.imm}; andi x30, x30, -2"), *link,
+                    *words_of("add x31, x30, x14; add x31, x31, x14; lw x30, 0(x31); add x30, x30, x31; jalr x0, 0(x30)")]
+        return [*words_of(f"{end.name} x{pair(end.rs1)}, x{pair(end.rs2)}, 16"), Const(SIGNATURE, at + 4),
+                *words_of("jal x0, 12"), Const(SIGNATURE, target), *guards(end.rs1, end.rs2),
+                *words_of(f"{end.name} x{end.rs1}, x{end.rs2}, {12 if self.far else 8}"), Go(at + 4), Go(target)]
 
     def entry(self, block: Block) -> List[Item]:
         """The entry of a block ("Pieces, entries, the whole code")."""
-        items: List[Item] = [Mark(block.start), Const(T, block.start), branch("beq", SIGNATURE, T, 8), EBREAK]
+        items: List[Item] = [Const(T, block.start), *words_of("beq x16, x30, 8; ebreak")]
         first = 0
         for length in block.pieces:
             piece = [(block.start + 4 * k, block.body[k]) for k in range(first, first + length)]
@@ -220,18 +193,15 @@ class Weave:
 
     def prologue(self) -> List[Item]:
         """The prologue ("Pieces, entries, the whole code")."""
-        items: List[Item] = [op("addi", register, 0, 0) for register in [*range(1, 14), *range(17, 30)]]
-        items.append(encode(Instruction("lui", DISTANCE, imm=self.test.distance)))
+        items = [word for r in (*range(1, 14), *range(17, 30)) for word in words_of(f"addi x{r}, x0, 0")]
+        items.append(encode(Instruction("lui", 14, imm=self.test.distance)))
         if self.test.data:
             items.append(Const(CURSOR, self.test.data[0].start))
         return items + [Const(SIGNATURE, self.test.file.entry), Go(self.test.file.entry)]
 
-    def whole(self, blocks: List[Block]) -> List[Item]:
-        """The new code but for the stub ("Pieces, entries, the whole code")."""
-        items = self.prologue()
-        for block in blocks:
-            items += self.entry(block)
-        return items
+    def parts(self, blocks: List[Block]) -> List[List[Item]]:
+        """The new code but for the stub: the prologue and the entries ("Pieces, entries, the whole code")."""
+        return [self.prologue(), *map(self.entry, blocks)]
 
 
 # Places
@@ -240,39 +210,34 @@ def const_words(rd: int, value: int, at: int) -> List[int]:
     """The words of Const(rd, c) at an address ("Code sequences")."""
     distance = isa.signed(value - at)
     high = distance + 2048 >> 12
-    return [encode(Instruction("auipc", rd, imm=high << 12)), op("addi", rd, rd, distance - (high << 12))]
+    return [encode(Instruction("auipc", rd, imm=high << 12)), encode(Instruction("addi", rd, rd, 0, distance - (high << 12)))]
 
 
-def size_of(items: List[Item], far: bool) -> int:
-    """How many bytes the new code of these items has, with the stub ("Code sequences")."""
-    counts = Counter(map(type, items))
-    return 4 * (counts[int] + 2 * counts[Const] + (2 if far else 1) * counts[Go] + 1)
+def starts_of(parts: List[List[Item]], base: int, far: bool) -> List[int]:
+    """Where each part begins, from an address on, and last where the stub does ("Code sequences")."""
+    counts = [Counter(map(type, items)) for items in parts]
+    sizes = [4 * (count[int] + 2 * count[Const] + (2 if far else 1) * count[Go]) for count in counts]
+    return list(accumulate(sizes, initial=base))
 
 
-def link(items: List[Item], base: int, far: bool) -> Tuple[List[int], Dict[int, int]]:
-    """The words of items from an address on, with the stub behind them, and the entries ("Code sequences")."""
-    widths = {int: 4, Mark: 0, Const: 8, Go: 8 if far else 4}
-    entries: Dict[int, int] = {}
-    stub = base
-    for item in items:
-        if isinstance(item, Mark):
-            entries[item.address] = stub
-        stub += widths[type(item)]
+def linked(items: List[Item], base: int, entries: Dict[int, int], stub: int, far: bool) -> List[int]:
+    """The words of items that stand from an address on ("Code sequences")."""
     words: List[int] = []
     for item in items:
-        at = base + 4 * len(words)
-        if isinstance(item, int):
+        if type(item) is int:
             words.append(item)
-        elif isinstance(item, Const):
+            continue
+        at = base + 4 * len(words)
+        if type(item) is Const:
             words += const_words(item.rd, item.value, at)
-        elif isinstance(item, Go):
-            target = entries.get(item.address, stub)
-            if far:
-                high, low = const_words(T, target, at)
-                words += [high, op("jalr", 0, T, isa.decode(low).imm)]
-            else:
-                words.append(encode(Instruction("jal", 0, imm=target - at)))
-    return words + [0], entries
+            continue
+        target = entries.get(item.address, stub)
+        if far:
+            high, low = const_words(T, target, at)
+            words += [high, encode(Instruction("jalr", 0, T, 0, isa.decode(low).imm))]
+        else:
+            words.append(encode(Instruction("jal", 0, imm=target - at)))
+    return words
 
 
 @dataclass
@@ -304,11 +269,16 @@ class Woven:
 
 def weave(test: Test, options: Options, blocks: List[Block]) -> Woven:
     """The new code in the near form where it fits, else in the far form, by L4 ("Code sequences")."""
-    items = Weave(test, options, False).whole(blocks)
-    far = size_of(items, False) > MOST_NEAR_CODE
+    parts = Weave(test, options, False).parts(blocks)
+    starts = starts_of(parts, test.new_code, False)
+    far = starts[-1] + 4 - test.new_code > MOST_NEAR_CODE
     if far:
-        if size_of(items, True) > MOST_NEW_CODE:
-            raise Exceeded("L4", size_of(items, True), MOST_NEW_CODE)
-        items = Weave(test, options, True).whole(blocks)
-    words, entries = link(items, test.new_code, far)
-    return Woven(words, blocks, entries, bounds(test.data_words, len(test.data), options, far))
+        starts = starts_of(parts, test.new_code, True)
+        if starts[-1] + 4 - test.new_code > MOST_NEW_CODE:
+            raise Exceeded("L4", starts[-1] + 4 - test.new_code, MOST_NEW_CODE)
+        parts = Weave(test, options, True).parts(blocks)
+    entries = {block.start: start for block, start in zip(blocks, starts[1:])}
+    words: List[int] = []
+    for part, start in zip(parts, starts):
+        words += linked(part, start, entries, starts[-1], far)
+    return Woven(words + [0], blocks, entries, bounds(test.data_words, len(test.data), options, far))

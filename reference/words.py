@@ -8,7 +8,7 @@ from typing import Callable, Dict, List, Optional, Tuple, Union
 
 from admission import Options
 from machine import Change, Place
-from texts import Usage
+from texts import Usage, number_of
 
 MOST_FAULTS = 64
 WEAVING = ["inst-min", "inst-max", "round", "half"]
@@ -55,17 +55,6 @@ class Order:
         most = self.values.get("inst-max", 16)
         return Options(self.values.get("inst-min", min(4, (most + 1) // 2)), most, self.values.get("round", 1),
                        self.values.get("half"), "sweep" in self.flags, "diverse" in self.flags)
-
-
-def number_of(text: str) -> Optional[int]:
-    """The number that a text is, or None ("A number is ..")."""
-    if re.fullmatch("[0-9]{1,20}", text):
-        number = int(text)
-    elif re.fullmatch("0x[0-9a-fA-F]{1,16}", text):
-        number = int(text, 16)
-    else:
-        return None
-    return number if number < 1 << 64 else None
 
 
 def change_of(text: str) -> Optional[Change]:
