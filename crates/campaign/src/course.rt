@@ -21,7 +21,7 @@ use strikes::{Campaign, Runs, StrikeError, drawn_strikes};
 use transform::{TransformError, Transformed, transform};
 
 /// A test and its output, with what is told of the output, and both runs from registers that are all 0.
-#[derive(Debug, Drop)]
+#[derive(Drop)]
 pub struct Course {
     plan: Plan,
     runs: Runs,

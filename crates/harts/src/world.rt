@@ -20,7 +20,7 @@ use std::alloc::{AllocError, Global};
 use std::marker::Model;
 
 /// Several harts of RV64IM with one memory. Harts are told by their numbers, from 0.
-#[derive(Debug, Drop)]
+#[derive(Drop)]
 pub struct World {
     harts: Vec<Hart>,
     image: Image,

@@ -11,7 +11,7 @@ use std::marker::Model;
 
 /// Bytes of a page that may be executed and not written, as a segment of their own. They stay what they were, whatever becomes of
 /// the image that gave them.
-#[derive(Debug, Drop)]
+#[derive(Drop)]
 pub struct Code {
     held: Held,
 }

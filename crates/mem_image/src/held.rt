@@ -21,7 +21,7 @@ pub enum Access {
 }
 
 /// At most 4,096 bytes that stand one after the other in memory, with one permission.
-#[derive(Debug, Drop)]
+#[derive(Drop)]
 pub struct Held {
     start: u64,
     size: u64,
@@ -40,6 +40,15 @@ impl Model for Held {
     ghost view = { λ h. record { address = h.start; size = h.size; flags = record { read = h.readable; write = h.writable; execute = h.executable }; bytes = take h.size h.page.value.bytes } };
 
     ghost invariant = { λ h. h.size ≤ 4096 };
+}
+
+impl Clone for Held {
+    ghost is_clone = { λ h copy. copy ≡ h };
+
+    fn clone(&self) -> Result<Held, AllocError> {
+        let held = self.copy()?;
+        Ok(held)
+    }
 }
 
 /// The page of the bytes from number `from` on. Where there are none, the page of zeros is shared.
@@ -180,6 +189,18 @@ impl Held {
         let own = Rc::make_mut(&mut self.page)?;
         own.put(at, width, value);
         Ok(())
+    }
+
+    /// Whether another has the same bytes at the same addresses, with the same permission.
+    pub fn is_same(&self, other: &Held) -> bool
+        ensures { result ≡ true → self.now ≡ other.now }
+    {
+        self.start == other.start
+            && self.size == other.size
+            && self.readable == other.readable
+            && self.writable == other.writable
+            && self.executable == other.executable
+            && self.page.is_same(&other.page)
     }
 
     /// The same bytes, shared.

@@ -11,14 +11,14 @@ ghost use Rattle.mem_image.specs.Access.{needs, allowed_byte, allowed_number, Is
 ghost use Rattle.mem_image.specs.Fixed.{has_code, IsFixed};
 ghost use Rattle.mem_image.specs.Segments.{Holds};
 
-use crate::apart::put_from;
 use crate::code::{Code, code_of};
 use crate::held::{Access, Held};
 use crate::overlap::why_not;
+use crate::pages::Pages;
 use crate::paging::pages_of;
 use crate::places::{near_at, place, whole_at};
 use crate::spec::{ImageError, SegmentSpec};
-use crate::within::{number_within, put_within};
+use crate::within::number_within;
 use std::alloc::{AllocError, Global};
 use std::marker::Model;
 
@@ -28,9 +28,9 @@ const SPREAD: u64 = 0x9e37_79b9_7f4a_7c15;
 /// The memory of a machine. Addresses are in bytes, and are taken modulo 2^64, byte by byte; numbers are little endian.
 ///
 /// Its pages are shared with its copies, until one of them is written.
-#[derive(Debug, Drop)]
+#[derive(Drop)]
 pub struct Image {
-    pages: Vec<Held>,
+    pages: Pages,
     /// Where a page may be found again, by some bits of an address. Nothing rests on it.
     near: [usize; 64],
 }
@@ -38,15 +38,12 @@ pub struct Image {
 impl Model for Image {
     ghost use Rattle.qed_model.specs.Machine.Memory.{Memory, memory_code};
     ghost use Rattle.qed_model.specs.Machine.Program.{memory_of};
-    ghost use Rattle.mem_image.specs.Overlap.{AreSound};
 
     ghost Value = { Memory };
 
     ghost coded = { memory_code };
 
-    ghost view = { λ i. memory_of i.pages.items };
-
-    ghost invariant = { λ i. AreSound i.pages.items };
+    ghost view = { λ i. memory_of i.pages };
 }
 
 /// The number of the place where the page of an address is remembered (Knuth, The Art of Computer Programming, 6.4).
@@ -68,7 +65,7 @@ impl Image {
     {
         match pages_of(alloc, specs) {
             Ok(Some(pages)) => Ok(Image {
-                pages,
+                pages: Pages::of(alloc, pages)?,
                 near: [0; 64],
             }),
             _ => Err(why_not(specs)),
@@ -95,11 +92,16 @@ impl Image {
         ensures written { IfOk result (λ done. self.new ≡ cond done (put self.old address width value) self.old) }
         ensures kept { IfErr result (λ _. self.new ≡ self.old) }
     {
-        let Some(at) = near_at(&self.pages, self.near[slot(address)], address, width) else {
+        let Some(at) = near_at(
+            self.pages.as_slice(),
+            self.near[slot(address)],
+            address,
+            width,
+        ) else {
             let done = self.write_far(address, width, value)?;
             return Ok(done);
         };
-        let done = put_within(&mut self.pages, at, address, width, value)?;
+        let done = self.pages.write(at, address, width, value)?;
         Ok(done)
     }
 
@@ -140,10 +142,10 @@ impl Image {
         ensures some { IfOk result (λ found. IfSome found (λ code. has code address ≡ true)) }
         ensures none { IfOk result (λ found. IfNone found (has_code self.now address ≡ false)) }
     {
-        let Some(at) = place(&self.pages, self.near[slot(address)], address) else {
+        let Some(at) = place(self.pages.as_slice(), self.near[slot(address)], address) else {
             return Ok(None);
         };
-        let found = code_of(&self.pages, at)?;
+        let found = code_of(self.pages.as_slice(), at)?;
         Ok(found)
     }
 
@@ -153,7 +155,7 @@ impl Image {
         ensures { self.new ≡ self.old }
     {
         let near = self.near[slot(address)];
-        if let Some(at) = place(&self.pages, near, address) {
+        if let Some(at) = place(self.pages.as_slice(), near, address) {
             self.near[slot(address)] = at;
         }
     }
@@ -176,14 +178,21 @@ impl Image {
     }
 
     /// An equal image, whose pages are shared.
-    pub fn copy(&self, alloc: Global) -> Result<Image, AllocError>
+    pub fn copy(&self, _alloc: Global) -> Result<Image, AllocError>
         ensures { IfOk result (λ image. image ≡ self.now) }
     {
-        let pages = copied(alloc, &self.pages)?;
         Ok(Image {
-            pages,
+            pages: self.pages.copy()?,
             near: self.near,
         })
+    }
+
+    /// Whether another image is equal. It may say no where it is: where there are more than so many pages, and where theirs end
+    /// elsewhere.
+    pub fn is_same(&self, other: &Image, pages: u64) -> bool
+        ensures { result ≡ true → self.now ≡ other.now }
+    {
+        self.pages.as_slice().len() as u64 <= pages && self.pages.is_same(&other.pages)
     }
 
     /// The page that has the address.
@@ -191,8 +200,8 @@ impl Image {
         ensures none { IfNone result (get self.now address ≡ None) }
         ensures some { IfSome result (λ page. Holds self.now page.now address) }
     {
-        let at = place(&self.pages, self.near[slot(address)], address)?;
-        Some(&self.pages[at])
+        let at = place(self.pages.as_slice(), self.near[slot(address)], address)?;
+        Some(&self.pages.as_slice()[at])
     }
 
     /// The byte at an address, where it has the permission.
@@ -215,10 +224,15 @@ impl Image {
         ensures number { result ≡ allowed_number (needs access) self.now address width }
         ensures small { IfSome result (λ n. n < 256 ^ width) }
     {
-        let Some(at) = whole_at(&self.pages, self.near[slot(address)], address, width) else {
+        let Some(at) = whole_at(
+            self.pages.as_slice(),
+            self.near[slot(address)],
+            address,
+            width,
+        ) else {
             return self.number_apart(access, address, width);
         };
-        number_within(&self.pages, at, access, address, width)
+        number_within(self.pages.as_slice(), at, access, address, width)
     }
 
     /// The same, where the page is remembered.
@@ -230,10 +244,15 @@ impl Image {
         ensures small { IfSome result (λ n. n < 256 ^ width) }
         ensures same { self.new ≡ self.old }
     {
-        let Some(at) = near_at(&self.pages, self.near[slot(address)], address, width) else {
+        let Some(at) = near_at(
+            self.pages.as_slice(),
+            self.near[slot(address)],
+            address,
+            width,
+        ) else {
             return self.number_far(access, address, width);
         };
-        number_within(&self.pages, at, access, address, width)
+        number_within(self.pages.as_slice(), at, access, address, width)
     }
 
     /// The same, where the page has to be found.
@@ -274,11 +293,16 @@ impl Image {
         ensures kept { IfErr result (λ _. self.new ≡ self.old) }
     {
         self.seek(address);
-        let Some(at) = whole_at(&self.pages, self.near[slot(address)], address, width) else {
+        let Some(at) = whole_at(
+            self.pages.as_slice(),
+            self.near[slot(address)],
+            address,
+            width,
+        ) else {
             let done = self.write_apart(address, width, value)?;
             return Ok(done);
         };
-        let done = put_within(&mut self.pages, at, address, width, value)?;
+        let done = self.pages.write(at, address, width, value)?;
         Ok(done)
     }
 
@@ -303,18 +327,7 @@ impl Image {
         ensures put { IfOk result (λ _. self.new ≡ put self.old address width value) }
         ensures kept { IfErr result (λ _. self.new ≡ self.old) }
     {
-        put_from(&mut self.pages, address, 0, width, value)?;
+        self.pages.put(address, width, value)?;
         Ok(())
     }
-}
-
-/// Equal pages, shared.
-fn copied(alloc: Global, pages: &[Held]) -> Result<Vec<Held>, AllocError>
-    ensures { IfOk result (λ made. made.items ≡ pages.now) }
-{
-    let mut made = Vec::with_capacity(alloc, pages.len())?;
-    for page in pages {
-        made.push(page.copy()?)?;
-    }
-    Ok(made)
 }

@@ -8,6 +8,7 @@ mod held;
 mod image;
 mod overlap;
 mod page;
+mod pages;
 mod paging;
 mod places;
 mod spec;

@@ -1,5 +1,5 @@
 //! Pages: bytes that several images may share.
-ghost use Rattle.std.specs.Prelude.{◌≡◌, ◌+◌, ◌<◌, ◌≤◌, ◌^◌, length};
+ghost use Rattle.std.specs.Prelude.{◌≡◌, ◌+◌, ◌<◌, ◌≤◌, ◌^◌, true, length};
 ghost use Rattle.mem_image.specs.Pages.{HoldsFrom};
 ghost use Rattle.mem_image.specs.Segments.{number_in, bytes_put};
 
@@ -9,7 +9,7 @@ use std::alloc::AllocError;
 pub const PAGE: usize = 4096;
 
 /// The bytes of a page.
-#[derive(Debug, Drop)]
+#[derive(Drop)]
 pub struct Page {
     pub(crate) bytes: [u8; 4096],
 }
@@ -37,6 +37,17 @@ impl Page {
             page[i] = bytes[i];
         }
         Page { bytes: page }
+    }
+
+    /// Whether another page has the same bytes. All are compared, so that LLVM compares many at a time.
+    pub fn is_same(&self, other: &Page) -> bool
+        ensures { result ≡ true → self.now.bytes ≡ other.now.bytes }
+    {
+        let mut same = true;
+        for i in 0..PAGE {
+            same &= self.bytes[i] == other.bytes[i];
+        }
+        same
     }
 
     /// The number of at most 8 bytes from a place on. The widths of an access have code of their own, without a loop.

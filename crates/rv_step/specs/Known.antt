@@ -1,5 +1,5 @@
 -- What stands at an address, and what a strike makes of a machine.
-use Rattle.std.specs.Prelude.{◌≡◌, ◌<◌, ℕ, ◌%◌, ◌==◌, ◌&&◌, Bool, true, false, cond, List, Option, None, Some}
+use Rattle.std.specs.Prelude.{◌≡◌, ◌<◌, ◌≤◌, ℕ, ◌%◌, ◌==◌, ◌&&◌, Bool, true, false, cond, List, Option, None, Some}
 use Rattle.rv_isa.specs.declared.ins.Ins.{Ins}
 use Rattle.rv_isa.specs.declared.kind.Kind.{Kind}
 use Rattle.rv_isa.specs.declared.kind.Kind.TheVariants.{Lui, Auipc}
@@ -56,6 +56,13 @@ pub record IsMade (m : Progress) (n : ℕ) (after : Progress) : Type 0 where
   pub state : after.state ≡ (progress m n).state
   pub before : after.steps ≡ m.steps
   pub going : (k : ℕ) → k < n → goes_on (progress m k).state.outcome ≡ true
+
+-- of n steps so many are made: each from a state that goes on, and where they are not all, behind them it does not
+pub record AreMade (m : Progress) (n made : ℕ) : Type 0 where
+  pub within : made ≤ n
+  pub all : progress m made ≡ progress m n
+  pub going : (k : ℕ) → k < made → goes_on (progress m k).state.outcome ≡ true
+  pub stopped : made < n → goes_on (progress m n).state.outcome ≡ false
 
 -- the second operand of a computing instruction of a kind, which LUI and AUIPC do not have
 abbrev pub HasSecond : Kind → Ins → List ℕ → ℕ → Type 0

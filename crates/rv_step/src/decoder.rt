@@ -1,17 +1,18 @@
 //! Instructions that were decoded, kept by their words.
-ghost use Rattle.std.specs.Prelude.{◌≡◌, ◌<◌, ◌==◌, true, false, length, slice_index, IfOk, Some, None};
+ghost use Rattle.std.specs.Prelude.{◌≡◌, ◌<◌, ◌==◌, length, IfOk, Some};
 ghost use Rattle.qed_model.specs.Machine.Table.{decode_of};
 
 use rv_decode::decode;
 use rv_isa::{Ins, Kind, Reg};
 use std::alloc::{AllocError, Global};
 use std::marker::Model;
+use std::rc::Rc;
 
 /// How many instructions are kept.
 const KEPT: u64 = 1024;
 
 /// A word and its instruction, in 16 bytes.
-#[derive(Debug, Drop)]
+#[derive(Drop)]
 struct Known {
     imm: i64,
     word: u32,
@@ -71,48 +72,83 @@ impl Known {
     }
 }
 
-/// Decodes words, and keeps what it decoded by some bits of their addresses. Contracts see the words that it has kept.
-#[derive(Debug, Drop)]
+impl Clone for Known {
+    ghost is_clone = { λ k copy. copy ≡ k };
+
+    fn clone(&self) -> Result<Known, AllocError> {
+        Ok(Known {
+            imm: self.imm,
+            word: self.word,
+            kind: self.kind,
+            rd: self.rd,
+            rs1: self.rs1,
+            rs2: self.rs2,
+        })
+    }
+}
+
+/// Instructions, by some bits of the addresses at which their words stood.
+#[derive(Drop)]
+struct Kept {
+    all: Vec<Known>,
+}
+
+impl Clone for Kept {
+    ghost use Rattle.std.specs.Prelude.{◌≡◌, length};
+
+    ghost is_clone = { λ k copy. length copy.all.items ≡ length k.all.items };
+
+    fn clone(&self) -> Result<Kept, AllocError> {
+        let all = self.all.clone()?;
+        Ok(Kept { all })
+    }
+}
+
+/// Decodes words, and keeps what it decoded. Copies share that, until one of them keeps more. Contracts see how many are kept.
+#[derive(Drop)]
 pub struct Decoder {
-    known: Vec<Known>,
+    kept: Rc<Kept>,
 }
 
 impl Model for Decoder {
-    ghost use Rattle.std.specs.Prelude.{◌≡◌, ℕ, List, length};
+    ghost use Rattle.std.specs.Prelude.{◌≡◌, ℕ, length};
 
-    ghost Value = { List ℕ };
+    ghost Value = { ℕ };
 
-    ghost view = { λ d. d.known.items };
+    ghost view = { λ d. length d.kept.value.all.items };
 
-    ghost invariant = { λ d. length d.known.items ≡ 1024 };
+    ghost invariant = { λ d. length d.kept.value.all.items ≡ 1024 };
 }
 
-/// Keeps the instruction of a word, where it has one.
-#[inline(never)]
-fn keep(known: &mut [Known], at: usize, word: u32) -> bool
-    requires { at < length known.old }
-    ensures kept { result ≡ true → slice_index known.new at ≡ word }
-    ensures none { result ≡ false → decode_of word ≡ None }
-    ensures count { length known.new ≡ length known.old }
+/// Keeps the instruction of a word.
+fn keep(kept: &mut Kept, at: usize, word: u32, ins: &Ins)
+    requires at { at < length kept.old.all.items }
+    requires right { decode_of word ≡ Some ins.now }
+    ensures { length kept.new.all.items ≡ length kept.old.all.items }
 {
-    let Some(ins) = decode(word) else {
-        return false;
-    };
-    known[at] = Known::of(word, &ins);
-    true
+    kept.all[at] = Known::of(word, ins);
 }
 
 impl Decoder {
     /// One that has kept no more than the instruction of the zero word, in each of its 1,024 places.
     pub fn new(alloc: Global) -> Result<Decoder, AllocError>
-        ensures { IfOk result (λ decoder. length decoder ≡ 1024) }
+        ensures { IfOk result (λ decoder. decoder ≡ 1024) }
     {
-        let mut known = Vec::with_capacity(alloc, KEPT as usize)?;
+        let mut all = Vec::with_capacity(alloc, KEPT as usize)?;
         for _ in 0..KEPT {
             let Some(ins) = decode(0) else { unreachable!() };
-            known.push(Known::of(0, &ins))?;
+            all.push(Known::of(0, &ins))?;
         }
-        Ok(Decoder { known })
+        let kept = Rc::new(alloc, Kept { all })?;
+        Ok(Decoder { kept })
+    }
+
+    /// One that has kept the same.
+    pub fn copy(&self) -> Result<Decoder, AllocError>
+        ensures { IfOk result (λ decoder. decoder ≡ self.now) }
+    {
+        let kept = self.kept.clone()?;
+        Ok(Decoder { kept })
     }
 
     /// The instruction of a word that stands at an address.
@@ -121,9 +157,22 @@ impl Decoder {
         ensures { result ≡ decode_of word }
     {
         let at = ((address >> 2) % KEPT) as usize;
-        if !self.known[at].is_of(word) && !keep(&mut self.known, at, word) {
-            return None;
+        if self.kept.all[at].is_of(word) {
+            return Some(self.kept.all[at].ins());
         }
-        Some(self.known[at].ins())
+        self.decode_new(at, word)
+    }
+
+    /// The same, of a word that is kept from now on, where there is memory for it.
+    #[inline(never)]
+    fn decode_new(&mut self, at: usize, word: u32) -> Option<Ins>
+        requires { at < 1024 }
+        ensures { result ≡ decode_of word }
+    {
+        let ins = decode(word)?;
+        if let Ok(kept) = Rc::make_mut(&mut self.kept) {
+            keep(kept, at, word, &ins);
+        }
+        Some(ins)
     }
 }

@@ -1,5 +1,5 @@
 //! A hart, whose memory is another's.
-ghost use Rattle.std.specs.Prelude.{◌≡◌, ◌%◌, ◌<◌, true, IfOk, IfErr, slice_index};
+ghost use Rattle.std.specs.Prelude.{◌≡◌, ◌%◌, ◌<◌, ◌≤◌, true, false, IfOk, IfErr, slice_index};
 ghost use Rattle.qed_model.specs.Machine.Memory.{Memory};
 ghost use Rattle.qed_model.specs.Machine.Loading.{loaded_file};
 ghost use Rattle.qed_model.specs.Machine.Program.{start};
@@ -7,7 +7,7 @@ ghost use Rattle.qed_model.specs.Machine.Progress.{advanced, begun, progress};
 ghost use Rattle.qed_model.specs.Machine.Step.{step};
 ghost use Rattle.qed_model.specs.declared.change.Place.TheVariants.{Reg as InReg};
 ghost use Rattle.rv_step.specs.Harts.{hart_of, with_memory, LeadsIn};
-ghost use Rattle.rv_step.specs.Known.{goes_on, struck_progress, word_at, IsMade, IsPart};
+ghost use Rattle.rv_step.specs.Known.{goes_on, struck_progress, word_at, AreMade, IsMade, IsPart};
 ghost use Rattle.rv_step.specs.Reached.{AreWords};
 ghost use Rattle.rv_step.specs.Windows.{IsWindow};
 
@@ -23,7 +23,7 @@ use std::alloc::{AllocError, Global};
 use std::marker::Model;
 
 /// One hart of RV64IM: registers, pc, code ranges, outcome and number of steps. Its memory is handed to each step.
-#[derive(Debug, Drop)]
+#[derive(Drop)]
 pub struct Hart {
     pub(crate) regs: Regs,
     pub(crate) pc: u64,
@@ -82,10 +82,22 @@ impl Hart {
         // Where there is no memory for a page, the steps before were made.
         ensures part { IfErr result (λ _. IsPart (with_memory self.old image.old) n (with_memory self.new image.new)) }
     {
+        self.run_made(image, n)?;
+        Ok(self.outcome)
+    }
+
+    /// The same, and how many steps were made: as many as the number says, or fewer where the hart stopped.
+    pub fn run_made(&mut self, image: &mut Image, n: u64) -> Result<u64, AllocError>
+        ensures run { IfOk result (λ _. with_memory self.new image.new ≡ progress (with_memory self.old image.old) n) }
+        ensures made { IfOk result (λ made. AreMade (with_memory self.old image.old) n made) }
+
+        // Where there is no memory for a page, the steps before were made.
+        ensures part { IfErr result (λ _. IsPart (with_memory self.old image.old) n (with_memory self.new image.new)) }
+    {
         let (made, done) = self.run_uncounted(image, n);
         self.steps = self.steps.saturating_add(made);
         done?;
-        Ok(self.outcome)
+        Ok(made)
     }
 
     /// The same, but for the hart's count of steps, which stays: the answer has how many were made. All steps are made here, so that
@@ -93,7 +105,9 @@ impl Hart {
     #[inline(always)]
     fn run_uncounted(&mut self, image: &mut Image, n: u64) -> (u64, Result<(), AllocError>)
         ensures made { IsMade (with_memory self.old image.old) result.0 (with_memory self.new image.new) }
+        ensures within { result.0 ≤ n }
         ensures all { IfOk result.1 (λ _. progress (with_memory self.old image.old) result.0 ≡ progress (with_memory self.old image.old) n) }
+        ensures stopped { IfOk result.1 (λ _. result.0 < n → goes_on self.new.outcome ≡ false) }
         ensures part { IfErr result.1 (λ _. result.0 < n) }
     {
         let mut window = Window::none();
@@ -227,17 +241,36 @@ impl Hart {
         self.regs.set(r, value);
     }
 
+    /// Whether another hart goes on with the same registers, pc and code ranges, and so does this.
+    pub(crate) fn is_beside(&self, other: &Hart) -> bool
+        ensures { result ≡ true → (m : Memory) → (with_memory self.now m).state ≡ (with_memory other.now m).state }
+    {
+        self.goes_on()
+            && other.goes_on()
+            && self.pc == other.pc
+            && self.regs == other.regs
+            && self.ranges.is_same(&other.ranges)
+    }
+
     /// An equal hart.
-    pub(crate) fn copy(&self, alloc: Global) -> Result<Hart, AllocError>
+    pub(crate) fn copy(&self) -> Result<Hart, AllocError>
         ensures { IfOk result (λ hart. hart ≡ self.now) }
     {
         Ok(Hart {
             regs: self.regs,
             pc: self.pc,
-            ranges: self.ranges.copy(alloc)?,
+            ranges: self.ranges.copy()?,
             outcome: self.outcome,
             steps: self.steps,
-            decoder: Decoder::new(alloc)?,
+            decoder: self.decoder.copy()?,
         })
+    }
+
+    /// Knows from now on the instructions that another hart has decoded.
+    pub(crate) fn learn(&mut self, other: &Hart) -> Result<(), AllocError>
+        ensures { self.new ≡ self.old }
+    {
+        self.decoder = other.decoder.copy()?;
+        Ok(())
     }
 }

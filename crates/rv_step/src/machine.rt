@@ -9,7 +9,7 @@ ghost use Rattle.qed_model.specs.Machine.Progress.{advanced, begun, progress};
 ghost use Rattle.qed_model.specs.Machine.Struck.{struck};
 ghost use Rattle.qed_model.specs.Machine.Apart.{AllFitMemory, AreApart};
 ghost use Rattle.rv_step.specs.Harts.{with_memory};
-ghost use Rattle.rv_step.specs.Known.{known_at, struck_progress, IsPart};
+ghost use Rattle.rv_step.specs.Known.{known_at, struck_progress, AreMade, IsPart};
 
 use crate::hart::Hart;
 use elf_types::ElfFile;
@@ -20,7 +20,7 @@ use std::alloc::{AllocError, Global};
 use std::marker::Model;
 
 /// A machine: one hart of RV64IM with its memory. Addresses are in bytes.
-#[derive(Debug, Drop)]
+#[derive(Drop)]
 pub struct Machine {
     pub(crate) hart: Hart,
     pub(crate) image: Image,
@@ -62,6 +62,16 @@ impl Machine {
     {
         let outcome = self.hart.run(&mut self.image, n)?;
         Ok(outcome)
+    }
+
+    /// The same, and how many steps were made: as many as the number says, or fewer where the machine stopped.
+    pub fn run_made(&mut self, n: u64) -> Result<u64, AllocError>
+        ensures run { IfOk result (λ _. self.new ≡ progress self.old n) }
+        ensures made { IfOk result (λ made. AreMade self.old n made) }
+        ensures part { IfErr result (λ _. IsPart self.old n self.new) }
+    {
+        let made = self.hart.run_made(&mut self.image, n)?;
+        Ok(made)
     }
 
     /// The hart of the machine.
@@ -140,12 +150,28 @@ impl Machine {
         }
     }
 
+    /// Whether this machine and another go on in the same state. It may say no where they do, as where their memories have more than
+    /// so many pages.
+    pub fn is_beside(&self, other: &Machine, pages: u64) -> bool
+        ensures { result ≡ true → self.now.state ≡ other.now.state }
+    {
+        self.hart.is_beside(&other.hart) && self.image.is_same(&other.image, pages)
+    }
+
+    /// Knows from now on the instructions that another machine has decoded, which are not decoded again.
+    pub fn learn(&mut self, other: &Machine) -> Result<(), AllocError>
+        ensures { self.new ≡ self.old }
+    {
+        self.hart.learn(&other.hart)?;
+        Ok(())
+    }
+
     /// An equal machine.
     pub fn copy(&self, alloc: Global) -> Result<Machine, AllocError>
         ensures { IfOk result (λ machine. machine ≡ self.now) }
     {
         Ok(Machine {
-            hart: self.hart.copy(alloc)?,
+            hart: self.hart.copy()?,
             image: self.image.copy(alloc)?,
         })
     }

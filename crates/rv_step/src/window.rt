@@ -10,7 +10,7 @@ ghost use Rattle.rv_step.specs.Windows.{HasWords, IsIn, IsWindow};
 use mem_image::Code;
 
 /// Words of one code range and one page, which no store changes. There may be none.
-#[derive(Debug, Drop)]
+#[derive(Drop)]
 pub struct Window {
     /// The first address of a word,
     first: u64,

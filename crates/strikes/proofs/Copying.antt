@@ -3,18 +3,19 @@ use Rattle.std.proofs.Common.{◌≡◌, ◌⊎◌, inl, inr, ℕ, zero, suc, �
 use Rattle.std.proofs.lemmas.Bool.{cases_lt}
 use Rattle.std.proofs.Math.Seq.{get_or-append_seam}
 use Rattle.std.proofs.Math.ListN.{get_or-append}
-use Rattle.std.specs.Prelude.{Option, Some, None, IfSome, IfNone, unwrap_or}
+use Rattle.std.specs.Prelude.{Option, Some, None, IfSome}
 use Rattle.std.specs.Slice.{IsItemAt}
 use Rattle.qed_model.specs.declared.machine.Outcome.TheVariants.{Going}
 use Rattle.qed_model.specs.Below.{each}
-use Rattle.qed_model.specs.Machine.Progress.{Progress, progress, advanced}
+use Rattle.qed_model.specs.Machine.Progress.{Progress, progress}
 use Rattle.qed_model.specs.Machine.Step.{State, run}
 use Rattle.qed_model.proofs.BelowLaws.{length-each}
 use Rattle.rv_step.proofs.Running.{progress_more}
-use Rattle.strikes.specs.Kept.{Copied, AreCopies, IsReach, AreKept}
-use Rattle.strikes.specs.Found.{StopsWithin}
-use Rattle.strikes.specs.Verdict.{StopsAt}
-use Rattle.strikes.proofs.Stopping.{going_before, progress_state}
+use Rattle.rv_step.specs.Known.{AreMade}
+use Rattle.strikes.specs.Kept.{AreCopies, IsReach}
+use Rattle.strikes.specs.Found.{IsOn}
+use Rattle.strikes.proofs.Leaping.{on_made, stopped_not}
+use Rattle.strikes.proofs.Stopping.{progress_state}
 
 -- no step
 pub progress-none : (p : Progress) → p ≡ progress p (4096 * 0)
@@ -45,20 +46,37 @@ each_at zero f k d l = absurd (omega arith)
 each_at (suc n) f k d l = last_each n f k d (λ x. each_at n f k d x) (omega (arith, l)) (cases_lt k n)
 
 -- the copy of a number
-pub copy_at : (start : Progress) (later : List Progress) (k : ℕ) (m : Progress) → AreCopies start later → k < length later → m ≡ get_or later k m → m ≡ progress start (4096 * (k + 1))
-copy_at start later k m are l e =
-    e ∙ ap (λ xs. get_or xs k m) are ∙ each_at (length later) (λ i. progress start (4096 * (i + 1))) k m l
+pub copy_at :
+    (start : Progress) (reach : ℕ) (later : List Progress) (k : ℕ) (m : Progress) → AreCopies start reach later → k < length later → m ≡ get_or later k m → m ≡ progress start (4096 * (k + 1))
+copy_at start reach later k m are l e =
+    e ∙ ap (λ xs. get_or xs k m) are.there ∙ each_at (length later) (λ i. progress start (4096 * (i + 1))) k m l
 
 -- the same, of a number from 1 on
-pub copy_before : (start : Progress) (later : List Progress) (n : ℕ) (m : Progress) → AreCopies start later → 1 ≤ n → n - 1 < length later → m ≡ get_or later (n - 1) m → m ≡ progress start (4096 * n)
-copy_before start later n m are some l e = let sum : n - 1 + 1 ≡ n = omega arith in copy_at start later (n - 1) m are l e ∙ ap (λ k. progress start (4096 * k)) sum
+pub copy_before :
+    (start : Progress) (reach : ℕ) (later : List Progress) (n : ℕ) (m : Progress) → AreCopies start reach later → 1 ≤ n → n - 1 < length later → m ≡ get_or later (n - 1) m
+    → m ≡ progress start (4096 * n)
+copy_before start reach later n m are some l e = let sum : n - 1 + 1 ≡ n = omega arith in copy_at start reach later (n - 1) m are l e ∙ ap (λ k. progress start (4096 * k)) sum
 
 -- ---- how far a run is struck
-pub reach_some : (s : State) (n : ℕ) → n ≤ 1000000 → StopsAt (run s) n → IsReach s n
-reach_some s n h x = record { within = h; before = x.before; ends = inl x.stopped }
+-- where no more steps are made, it has stopped, or has made all
+pub reach_made :
+    (s : State) (made n more reach : ℕ) (p q : Progress) → IsOn s made p.state → q ≡ progress p n → AreMade p n more → reach ≡ made + more → reach ≤ 1000000 → (more < n) ⊎ (reach ≡ 1000000)
+    → IsReach s reach
+reach_made s made n more reach p q on ran are sum within (inr all) =
+    record { within = within; before = (on_made s made n more reach p q on ran are sum).before; ends = inr all }
+reach_made s made n more reach p q on ran are sum within (inl less) =
+    let next = on_made s made n more reach p q on ran are sum in
+    let there : (progress p n).state ≡ run s reach = sym (ap (λ r. r.state) ran) ∙ next.there in
+    record { within = within; before = next.before; ends = inl (λ g. stopped_not (progress p n).state.outcome (are.stopped less) (ap (λ t. t.outcome) there ∙ g)) }
 
-pub reach_none : (s : State) → (run s 1000000).outcome ≡ Going → IsReach s 1000000
-reach_none s g = record { within = omega arith; before = λ k l. going_before s k 1000000 (omega arith) g; ends = inr refl }
+-- the copies behind the first are as many
+pub are_copies :
+    (first : Progress) (later : List Progress) (number made reach : ℕ) → later ≡ each number (λ i. progress first (4096 * (i + 1))) → reach ≡ 4096 * number + made → made < 4096 → IsReach first.state reach
+    → AreCopies first reach later
+are_copies first later number made reach e sum small is =
+    let f : ℕ → Progress = λ i. progress first (4096 * (i + 1)) in
+    let count : length later ≡ number = ap length e ∙ length-each number f in
+    record { is_reach = is; count = omega (arith, count, sum, small); there = e ∙ ap (λ n. each n f) (sym count) }
 
 -- where it goes on at the start, some steps
 pub reach_positive : (s : State) (n : ℕ) → s.outcome ≡ Going → IsReach s n → 1 ≤ n
@@ -68,30 +86,13 @@ reach_positive s (suc n) g x = omega arith
 
 -- what a look-up gives
 pub copy_got :
-    (start : Progress) (later : List Progress) (n : ℕ) (r : Option (Bor Progress)) → AreCopies start later → 1 ≤ n → IsItemAt later (n - 1) r
+    (start : Progress) (reach : ℕ) (later : List Progress) (n : ℕ) (r : Option (Bor Progress)) → AreCopies start reach later → 1 ≤ n → IsItemAt later (n - 1) r
     → IfSome r (λ m. m.now ≡ progress start (4096 * n))
-copy_got start later n None are some x = tt
-copy_got start later n (Some m) are some x = copy_before start later n m.now are some x.3.0 x.1
-
--- by what the machine says
-pub reach_by :
-    (s t after : State) (r : Option ℕ) → t ≡ s → IfSome r (StopsWithin t 1000000 after) → IfNone r ((run t 1000000).outcome ≡ Going) → IsReach s (unwrap_or r 1000000)
-reach_by s t after (Some n) e x y = subst (λ u. IsReach u n) e (reach_some t n x.within x.stops)
-reach_by s t after None e x y = subst (λ u. IsReach u 1000000) e (reach_none t y)
+copy_got start reach later n None are some x = tt
+copy_got start reach later n (Some m) are some x = copy_before start reach later n m.now are some x.3.0 x.1
 
 -- the state of a copy
 pub state_got :
     (start : Progress) (s : State) (k : ℕ) (r : Option (Bor Progress)) → start.state ≡ s → IfSome r (λ m. m.now ≡ progress start k) → IfSome r (λ m. m.now.state ≡ run s k)
 state_got start s k None e x = tt
 state_got start s k (Some m) e x = ap (λ p. p.state) x ∙ progress_state start k ∙ ap (λ t. run t k) e
-
--- both runs are kept as far as the output is struck
-pub are_kept :
-    (input output : Copied) (start : Progress) (reach : ℕ) → input.count ≡ reach / 4096 + 1 → output.count ≡ reach / 4096 + 1 → output.start ≡ start → start.state.outcome ≡ Going → IsReach start.state reach
-    → AreKept input output reach
-are_kept input output start reach i o e going x = record {
-  input_count = i;
-  output_count = o;
-  is_reach = subst (λ p. IsReach p.state reach) (sym e) x;
-  some = reach_positive start.state reach going x;
-}

@@ -5,3 +5,5 @@ pub mod Looking
 pub mod Drawing
 pub mod Copying
 pub mod Making
+pub mod Leaping
+pub mod Watching

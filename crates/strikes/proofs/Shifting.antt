@@ -1,6 +1,6 @@
 -- A strike that begins at a later state shows what it shows from the start, where no change comes before.
 use Rattle.std.proofs.Common.{◌≡◌, ◌⊎◌, inl, inr, ℕ, zero, suc, ◌+◌, ◌-◌, ◌*◌, ◌<◌, ◌≤◌, Bool, true, false, cond, ◌||◌, List, [], ◌∷◌, refl, sym, ap, ◌∙◌, subst, arith}
-use Rattle.std.specs.Prelude.{◌==◌, Some, Result, Ok, Err, All}
+use Rattle.std.specs.Prelude.{◌==◌, Option, Some, Result, Ok, Err, All}
 use Rattle.std.proofs.lemmas.List.Elements.{All-nil, All-cons}
 use Rattle.std.proofs.lemmas.Bool.{cases_lt, eq-eqb, ne_eqb, eqb-true}
 use Rattle.qed_model.specs.declared.bounds.Bounds.{Bounds}
@@ -19,6 +19,7 @@ use Rattle.fault_inject.specs.Closed.{is_closed_place}
 use Rattle.fault_inject.proofs.Changing.{AllFrom, not_made, plain}
 use Rattle.strikes.specs.declared.error.StrikeError.TheVariants as error
 use Rattle.strikes.specs.declared.error.StrikeError.{StrikeError}
+use Rattle.strikes.specs.Found.{trap_pc_of}
 use Rattle.strikes.specs.Later.{counted_from, all_from, first_step}
 use Rattle.strikes.specs.Verdict.{IsReached, has_closed, IsTried, IsFound, IsSilent, Shows, IsVerdict}
 use Rattle.strikes.proofs.Stopping.{going_before, run-last, progress_state, first_last}
@@ -198,18 +199,23 @@ shows_later input output b cs m (Err (error.Trapped pc)) from h x =
     (t, silent_later output cs m b from h t.reached x.1, record { cause = x.2.cause; trapped = ap (λ y. y.outcome) (sym (run_later input cs m b h)) ∙ x.2.trapped })
 shows_later input output b cs m (Err error.Memory) from h x = tt
 
--- the same, where both machines are copies after 4,096 steps as often as a number says
+-- the same, where the output stands after some steps that are not behind the first change
 pub strike_shows :
-    (input output u v : State) (bounds : Bounds) (cs later : List Change) (number b : ℕ) (r : Result Verdict StrikeError) → bound_of bounds cs ≡ Some b → Ordered cs
-    → 4096 * number ≤ first_step cs → u ≡ run input (4096 * number) → v ≡ run output (4096 * number) → later ≡ all_from (4096 * number) cs → Shows u v b later r
+    (input output v : State) (bounds : Bounds) (cs later : List Change) (m b : ℕ) (r : Result Verdict StrikeError) → bound_of bounds cs ≡ Some b → Ordered cs
+    → m ≤ first_step cs → v ≡ run output m → later ≡ all_from m cs → Shows (run input m) v b later r
     → IsVerdict input output bounds cs r
-strike_shows input output u v bounds cs later number b r bound o h is_input is_output is_later x n e =
+strike_shows input output v bounds cs later m b r bound o h is_output is_later x n e =
     let same : b ≡ n = cc in
-    let from_input : Shows (run input (4096 * number)) v b later r = subst (λ s. Shows s v b later r) is_input x in
-    let from_output : Shows (run input (4096 * number)) (run output (4096 * number)) b later r = subst (λ s. Shows (run input (4096 * number)) s b later r) is_output from_input in
-    let from_both : Shows (run input (4096 * number)) (run output (4096 * number)) b (all_from (4096 * number) cs) r =
-    subst (λ cs. Shows (run input (4096 * number)) (run output (4096 * number)) b cs r) is_later from_output in
-    subst (λ k. Shows input output k cs r) same (shows_later input output b cs (4096 * number) r (from_first cs (4096 * number) o h) (last_from cs (4096 * number) o h) from_both)
+    let from_output : Shows (run input m) (run output m) b later r = subst (λ s. Shows (run input m) s b later r) is_output x in
+    let from_both : Shows (run input m) (run output m) b (all_from m cs) r = subst (λ ds. Shows (run input m) (run output m) b ds r) is_later from_output in
+    subst (λ k. Shows input output k cs r) same (shows_later input output b cs m r (from_first cs m o h) (last_from cs m o h) from_both)
+
+-- the input's trap, told of it at the start
+pub trap_later :
+    (input : State) (cs later : List Change) (m b : ℕ) (pc : Option ℕ) → Ordered cs → m ≤ first_step cs → later ≡ all_from m cs
+    → pc ≡ trap_pc_of (run input (last_step cs + b)).outcome → pc ≡ trap_pc_of (run (run input m) (last_step later + b)).outcome
+trap_later input cs later m b pc o h is_later e =
+    e ∙ ap (λ s. trap_pc_of s.outcome) (sym (run_later input cs m b (last_from cs m o h))) ∙ ap (λ ds. trap_pc_of (run (run input m) (last_step ds + b)).outcome) (sym is_later)
 
 -- the changes are not before the copy
 pub not_before_all : (cs : List Change) (m : ℕ) → Ordered cs → m ≤ first_step cs → All (λ c. m ≤ c.step) cs

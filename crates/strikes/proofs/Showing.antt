@@ -1,6 +1,6 @@
 -- From what the machines show to the verdict.
 use Rattle.std.proofs.Common.{◌≡◌, ◌⊎◌, inl, inr, ℕ, zero, suc, ◌+◌, ◌-◌, ◌<◌, ◌≤◌, false, List, Option, Some, None, refl, sym, ap, ◌∙◌, subst, arith}
-use Rattle.std.specs.Prelude.{◌≢◌, Ok, Err, IfNone}
+use Rattle.std.specs.Prelude.{◌≢◌, Ok, Err, IfNone, IfSome}
 use Rattle.std.proofs.lemmas.Bool.{cases_lt}
 use Rattle.qed_model.specs.declared.change.Change.{Change}
 use Rattle.qed_model.specs.declared.machine.Cause.{Cause}
@@ -12,7 +12,7 @@ use Rattle.qed_model.specs.Machine.Step.{State, run}
 use Rattle.qed_model.specs.Promise.Changed.{changed_run, Ordered, last_step}
 use Rattle.qed_model.specs.Promise.Kept.{is_trapped}
 use Rattle.strikes.specs.declared.error.StrikeError.TheVariants as error
-use Rattle.strikes.specs.Found.{ShowsUnchanged, StopsWithin, trap_pc_of, verdict_of, Stops, IsStill}
+use Rattle.strikes.specs.Found.{ShowsUnchanged, StopsWithin, trap_pc_of, verdict_of, Stops, IsStill, IsSilentAt}
 use Rattle.strikes.specs.Verdict.{IsTried, IsFound, IsSilent, StopsAt, Shows}
 use Rattle.strikes.proofs.Stopping.{run_as, changed_as_at, changed_before, first_stop, behind, StopsBy}
 
@@ -160,3 +160,22 @@ pub shows_same :
     (input output : State) (b : ℕ) (cs : List Change) → Ordered cs → IsTried output cs → IsStill (changed_run output cs (last_step cs)) b
     → None ≡ trap_pc_of (run input (last_step cs + b)).outcome → Shows input output b cs (Ok verdict.Same)
 shows_same input output b cs o t x e = (t, is_silent output cs b o x, no_trap (run input (last_step cs + b)).outcome (sym e))
+
+-- ---- the output alone
+-- what is shown whatever the input is
+pub shown_all :
+    (output : State) (b : ℕ) (cs : List Change) (r : Option Verdict) → Ordered cs → IsTried output cs → IfSome r (Stops (changed_run output cs (last_step cs)) b)
+    → IfSome r (λ v. (input : State) → Shows input output b cs (Ok v))
+shown_all output b cs None o t x = tt
+shown_all output b cs (Some v) o t x = λ input. shows_found input output b cs v o t x
+
+pub silent_all :
+    (output : State) (b : ℕ) (cs : List Change) (r : Option Verdict) → IsTried output cs → IfNone r (IsStill (changed_run output cs (last_step cs)) b)
+    → IfNone r (IsSilentAt output b cs)
+silent_all output b cs None t x = record { tried = t; still = x }
+silent_all output b cs (Some v) t x = tt
+
+-- where there is no verdict
+pub where_none : (r : Option Verdict) (P : Type 0) → ((v : Verdict) → r ≡ Some v → ⊥) → IfNone r P → P
+where_none None P n x = x
+where_none (Some v) P n x = absurd (n v refl)

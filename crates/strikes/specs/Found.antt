@@ -1,12 +1,13 @@
 -- What the parts of a strike show: the run without changes, and the run behind the last change.
-use Rattle.std.specs.Prelude.{◌≡◌, ℕ, ◌≤◌, true, List, Option, Some, None}
+use Rattle.std.specs.Prelude.{◌≡◌, ℕ, ◌<◌, ◌≤◌, true, List, Option, Some, None}
 use Rattle.qed_model.specs.declared.change.Change.{Change}
 use Rattle.qed_model.specs.declared.machine.Outcome.{Outcome}
 use Rattle.qed_model.specs.declared.machine.Outcome.TheVariants as outcome
 use Rattle.qed_model.specs.declared.verdict.Verdict.{Verdict}
 use Rattle.qed_model.specs.declared.verdict.Verdict.TheVariants.{Closed, NotReached, Fired, Ended}
 use Rattle.qed_model.specs.Machine.Step.{State, run}
-use Rattle.strikes.specs.Verdict.{IsReached, has_closed, StopsAt}
+use Rattle.qed_model.specs.Promise.Changed.{changed_run, last_step}
+use Rattle.strikes.specs.Verdict.{IsReached, IsTried, has_closed, StopsAt}
 
 -- ---- the run without changes
 -- the verdict that it shows
@@ -21,6 +22,11 @@ abbrev pub verdict_of : Outcome → ℕ → Option Verdict
 verdict_of outcome.Fired k = Some (Fired k)
 verdict_of outcome.Ended k = Some (Ended k)
 verdict_of _ k = None
+
+-- so many steps were made, each from a state that went on
+pub record IsOn (state : State) (made : ℕ) (after : State) : Type 0 where
+  pub there : after ≡ run state made
+  pub before : (k : ℕ) → k < made → (run state k).outcome ≡ outcome.Going
 
 -- within n steps it first does not go on, in the state after them
 pub record StopsWithin (state : State) (n : ℕ) (after : State) (steps : ℕ) : Type 0 where
@@ -38,6 +44,11 @@ pub record Stops (state : State) (b : ℕ) (v : Verdict) : Type 0 where
 -- when the bound is over it has shown no verdict
 pub record IsStill (state : State) (b : ℕ) : Type 0 where
   pub shows_none : verdict_of (run state b).outcome 0 ≡ None
+
+-- the changes are made, and then it has shown no verdict when the bound is over
+pub record IsSilentAt (output : State) (b : ℕ) (cs : List Change) : Type 0 where
+  pub tried : IsTried output cs
+  pub still : IsStill (changed_run output cs (last_step cs)) b
 
 -- ---- the input's run
 -- the pc of a trap

@@ -1,5 +1,5 @@
--- Copies of a machine, kept after every 4,096 steps, and what is kept of an input's run and an output's run.
-use Rattle.std.specs.Prelude.{◌≡◌, ◌≢◌, ℕ, ◌+◌, ◌*◌, ◌/◌, ◌<◌, ◌≤◌, ◌⊎◌, List, length, refl}
+-- What is kept of an input's run and of an output's run: copies of the machine after every 4,096 steps.
+use Rattle.std.specs.Prelude.{◌≡◌, ◌≢◌, ℕ, ◌+◌, ◌*◌, ◌/◌, ◌<◌, ◌≤◌, ◌⊎◌, true, List, length, refl}
 use Rattle.std.specs.Coded.{Coded, code_by, coded×, coded_ℕ}
 use Rattle.qed_model.specs.declared.bounds.Bounds.{Bounds}
 use Rattle.qed_model.specs.contracts.bounds.Bounds as bounds_contract
@@ -8,19 +8,32 @@ use Rattle.qed_model.specs.Below.{each}
 use Rattle.qed_model.specs.Machine.Progress.{Progress, progress}
 use Rattle.qed_model.specs.Machine.Step.{State, run}
 use Rattle.rv_step.specs.Codes.{progress_code, state_code}
+use Rattle.rv_step.specs.Known.{goes_on}
 
 -- ---- copies of a machine
--- the machine at the start, and how many copies there are: copy i has made 4,096 * i steps more
+-- the least number of steps after which a run does not go on; 1,000,000 where that is greater or there is none
+pub record IsReach (start : State) (steps : ℕ) : Type 0 where
+  pub within : steps ≤ 1000000
+  pub before : (k : ℕ) → k < steps → (run start k).outcome ≡ outcome.Going
+  pub ends : ((run start steps).outcome ≢ outcome.Going) ⊎ (steps ≡ 1000000)
+
+-- as many copies as steps are struck in, and one more at the start
+abbrev pub copies_up_to : ℕ → ℕ
+copies_up_to reach = reach / 4096 + 1
+
+-- the machine at the start, and how far its run is struck: copy i has made 4,096 * i steps more
 pub record Copied : Type 0 where
   pub start : Progress
-  pub count : ℕ
+  pub reach : ℕ
 
 abbrev pub copied_code : Coded Copied
-copied_code = code_by (Progress × ℕ) (coded× progress_code coded_ℕ) (λ c. (c.start, c.count)) (λ p. record { start = p.0; count = p.1 }) (λ _. refl)
+copied_code = code_by (Progress × ℕ) (coded× progress_code coded_ℕ) (λ c. (c.start, c.reach)) (λ p. record { start = p.0; reach = p.1 }) (λ _. refl)
 
 -- those behind the first
-abbrev pub AreCopies : Progress → List Progress → Type 0
-AreCopies start later = later ≡ each (length later) (λ i. progress start (4096 * (i + 1)))
+pub record AreCopies (start : Progress) (reach : ℕ) (later : List Progress) : Type 0 where
+  pub is_reach : IsReach start.state reach
+  pub count : length later ≡ reach / 4096
+  pub there : later ≡ each (length later) (λ i. progress start (4096 * (i + 1)))
 
 -- ---- both runs
 -- the states in which they begin, the bounds of changes, and how far the output is struck
@@ -35,19 +48,7 @@ pair_code =
     code_by (State × (State × (Bounds × ℕ))) (coded× state_code (coded× state_code (coded× (bounds_contract.the_row).coded coded_ℕ)))
     (λ p. (p.input, (p.output, (p.bounds, p.reach)))) (λ p. record { input = p.0; output = p.1.0; bounds = p.1.1.0; reach = p.1.1.1 }) (λ _. refl)
 
--- the least number of steps after which a run does not go on; 1,000,000 where that is greater or there is none
-pub record IsReach (start : State) (steps : ℕ) : Type 0 where
-  pub within : steps ≤ 1000000
-  pub before : (k : ℕ) → k < steps → (run start k).outcome ≡ outcome.Going
-  pub ends : ((run start steps).outcome ≢ outcome.Going) ⊎ (steps ≡ 1000000)
-
--- as many copies as steps are struck in, and one more at the start
-abbrev pub copies_up_to : ℕ → ℕ
-copies_up_to reach = reach / 4096 + 1
-
--- what is kept of both runs
-pub record AreKept (input output : Copied) (reach : ℕ) : Type 0 where
-  pub input_count : input.count ≡ copies_up_to reach
-  pub output_count : output.count ≡ copies_up_to reach
-  pub is_reach : IsReach output.start.state reach
-  pub some : 1 ≤ reach
+-- a machine after so many steps, each of which it went on before
+pub record IsWatched (start later : Progress) (steps : ℕ) : Type 0 where
+  pub there : later ≡ progress start steps
+  pub going : (k : ℕ) → k < steps → goes_on (progress start k).state.outcome ≡ true

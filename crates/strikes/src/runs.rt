@@ -5,51 +5,47 @@ ghost use Rattle.qed_model.specs.Machine.Step.{run};
 ghost use Rattle.qed_model.specs.Promise.Caught.{bound_of as bound_of_changes};
 ghost use Rattle.qed_model.specs.Promise.Changed.{Ordered, has_word as has_word_of, is_word as is_word_of};
 ghost use Rattle.strikes.specs.Kept.{IsReach, copies_up_to};
-ghost use Rattle.strikes.specs.Later.{first_step as first_step_of};
 ghost use Rattle.strikes.specs.Struck.{IsStrike, IsStruckNext, AreStruck};
 ghost use Rattle.strikes.specs.Verdict.{IsVerdict};
 
 use crate::error::StrikeError;
 use crate::later::{all_from, first_step};
 use crate::snapshots::{SPACING, Snapshots};
-use crate::stop::steps_to_stop;
-use crate::verdict::verdict;
+use crate::verdict::{last_step, output_verdict};
+use crate::watched::Watched;
 use qed_model::{Bounds, Change, Changes, Place, Struck, Verdict};
 use rv_step::Machine;
 use std::alloc::{AllocError, Global};
 use std::marker::Model;
 
-/// The greatest number of steps after which an output is struck, and one more.
-const MAX_REACH: u64 = 1_000_000;
+/// How many steps behind its reach an input is watched at most.
+const MOST_BEHIND: u64 = 1_000_000;
 
-/// The runs of an input and of its output, with copies of both machines after every 4,096 steps as far as the output is struck.
-#[derive(Debug, Drop)]
+/// The runs of an input and of its output, with copies of the output after every 4,096 steps as far as it is struck.
+#[derive(Drop)]
 pub struct Runs {
-    input: Snapshots,
+    input: Watched,
     output: Snapshots,
     bounds: Bounds,
-    reach: u64,
 }
 
 impl Model for Runs {
-    ghost use Rattle.strikes.specs.Kept.{Pair, pair_code, AreKept};
+    ghost use Rattle.std.specs.Prelude.{◌≤◌};
+    ghost use Rattle.strikes.specs.Kept.{Pair, pair_code};
 
     ghost Value = { Pair };
 
     ghost coded = { pair_code };
 
-    ghost view = { λ r. record { input = r.input.start.state; output = r.output.start.state; bounds = r.bounds; reach = r.reach } };
+    ghost view = { λ r. record { input = r.input.state; output = r.output.start.state; bounds = r.bounds; reach = r.output.reach } };
 
-    ghost invariant = { λ r. AreKept r.input r.output r.reach };
+    ghost invariant = { λ r. 1 ≤ r.output.reach };
 }
 
-/// After how many steps a machine first does not go on; 1,000,000 where that is greater or there is none.
-fn reach_of(alloc: Global, machine: &Machine) -> Result<u64, AllocError>
-    ensures { IfOk result (IsReach machine.now.state) }
-{
-    let mut machine = machine.copy(alloc)?;
-    let steps = steps_to_stop(&mut machine, MAX_REACH)?;
-    Ok(steps.unwrap_or(MAX_REACH))
+/// For how many steps the input is watched: up to the end of most strikes.
+fn watched_for(reach: u64, bounds: &Bounds) -> u64 {
+    let bound = bounds.word.unwrap_or(0).max(bounds.register);
+    reach.saturating_add(bound.min(MOST_BEHIND))
 }
 
 /// Whether a place is a word.
@@ -117,13 +113,12 @@ impl Runs {
         ensures output { IfOk result (λ runs. runs.output ≡ output.state) }
         ensures bounds { IfOk result (λ runs. runs.bounds ≡ bounds) }
     {
-        let reach = reach_of(alloc, &output)?;
-        let count = reach / SPACING;
+        let output = Snapshots::take(alloc, output)?;
+        let input = Watched::watch(alloc, input, watched_for(output.reach(), &bounds))?;
         Ok(Runs {
-            input: Snapshots::take(alloc, input, count)?,
-            output: Snapshots::take(alloc, output, count)?,
+            input,
+            output,
             bounds,
-            reach,
         })
     }
 
@@ -133,14 +128,14 @@ impl Runs {
         ensures reach { IsReach self.now.output result }
         ensures some { 1 ≤ result }
     {
-        self.reach
+        self.output.reach()
     }
 
     /// How many copies of the output there are: one at the start, and one after every 4,096 steps up to `reach`.
     pub fn snapshots(&self) -> u64
         ensures { result ≡ copies_up_to self.now.reach }
     {
-        self.reach / SPACING + 1
+        self.output.reach() / SPACING + 1
     }
 
     /// The output after 4,096 steps as often as the number says; None where the number is not below `snapshots`.
@@ -169,19 +164,17 @@ impl Runs {
         ensures { IsVerdict self.now.input self.now.output self.now.bounds changes.now result }
     {
         let bound = bound_of(&self.bounds, changes).unwrap();
-        let number = self.last_before(changes);
-        let later = all_from(alloc, changes, SPACING * number)?;
-        let input = self.input.at(number).unwrap();
-        let output = self.output.at(number).unwrap();
-        verdict(alloc, input, output, &later, bound)
-    }
-
-    /// The number of the last copy that is not after the first change.
-    fn last_before(&self, changes: &[Change]) -> u64
-        ensures kept { result + 1 ≤ copies_up_to self.now.reach }
-        ensures before { 4096 * result ≤ first_step_of changes.now }
-    {
-        first_step(changes).min(self.reach) / SPACING
+        let last = last_step(changes);
+        let start = first_step(changes);
+        let later = all_from(alloc, changes, start)?;
+        let output = self.output.machine_at(alloc, start)?;
+        if let Some(verdict) = output_verdict(alloc, &self.output, start, output, &later, bound)? {
+            return Ok(verdict);
+        }
+        match self.input.trap(alloc, last, bound)? {
+            Some(pc) => Err(StrikeError::Trapped(pc)),
+            None => Ok(Verdict::Same),
+        }
     }
 
     /// Makes a strike, and adds it with its verdict, or gives the pc where the input traps.

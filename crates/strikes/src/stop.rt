@@ -1,27 +1,23 @@
 //! When a machine stops.
-ghost use Rattle.std.specs.Prelude.{◌≡◌, IfOk, IfSome, IfNone};
+ghost use Rattle.std.specs.Prelude.{◌≡◌, ◌≤◌, IfOk, IfSome, IfNone};
 ghost use Rattle.qed_model.specs.declared.machine.Outcome.TheVariants as outcome;
-ghost use Rattle.qed_model.specs.Machine.Step.{run};
-ghost use Rattle.strikes.specs.Found.{StopsWithin};
+ghost use Rattle.qed_model.specs.Machine.Step.{State, run};
+ghost use Rattle.strikes.specs.Found.{IsOn, StopsWithin};
 
 use qed_model::Outcome;
 use rv_step::Machine;
 use std::alloc::AllocError;
 
-/// Runs a machine until it stops, for at most so many steps, and gives the steps after which it first does not go on; None
-/// where it still goes on after all of them.
-pub fn steps_to_stop(machine: &mut Machine, most: u64) -> Result<Option<u64>, AllocError>
-    ensures stops { IfOk result (λ r. IfSome r (StopsWithin machine.old.state most machine.new.state)) }
-    ensures goes_on { IfOk result (λ r. IfNone r ((run machine.old.state most).outcome ≡ outcome.Going)) }
+/// Runs a machine, which has made `made` of at most `most` steps, until it stops or has made them all, and gives the steps after which
+/// it first does not go on; None where it still goes on after all of them.
+pub fn steps_to_stop(machine: &mut Machine, made: u64, most: u64) -> Result<Option<u64>, AllocError>
+    requires { made ≤ most }
+    ensures stops { (s : State) → IsOn s made machine.old.state → IfOk result (λ r. IfSome r (StopsWithin s most machine.new.state)) }
+    ensures goes_on { (s : State) → IsOn s made machine.old.state → IfOk result (λ r. IfNone r ((run s most).outcome ≡ outcome.Going)) }
 {
-    for steps in 0..most {
-        if machine.outcome() != Outcome::Going {
-            return Ok(Some(steps));
-        }
-        machine.step()?;
-    }
+    let more = machine.run_made(most - made)?;
     if machine.outcome() == Outcome::Going {
         return Ok(None);
     }
-    Ok(Some(most))
+    Ok(Some(made + more))
 }

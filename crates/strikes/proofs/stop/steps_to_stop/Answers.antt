@@ -1,15 +1,17 @@
-use Rattle.std.proofs.Common.{rules, ◌≡◌, ap, ◌∙◌, sym, arith, below_more}
+use Rattle.std.proofs.Common.{rules, ◌≡◌, ◌+◌, ◌-◌, arith}
+use Rattle.std.specs.Prelude.{◌≢◌}
 use Rattle.qed_model.specs.declared.machine.Outcome.TheVariants.{Going}
-use Rattle.strikes.proofs.Stopping.{run_none, step_made}
+use Rattle.strikes.proofs.Leaping.{on_goes, on_stops}
 use Rattle.strikes.proofs.stop.steps_to_stop.Goals as goal
 
-pub loop-steps-init : goal.loop-steps-init
-loop-steps-init c = record { there = run_none c.args.machine.now.state; before = λ k l. absurd (omega arith) }
+pub returns-then-eq-clause-goes_on : goal.returns-then-eq-clause-goes_on
+returns-then-eq-clause-goes_on c = λ s on.
+    let going : c.run_made.new.self.state.outcome ≡ Going = search rules in
+    let fits = c.requires in
+    on_goes s c.args.made (c.args.most - c.args.made) c.args.most c.args.machine.now c.run_made.new.self on c.in_ok-more.ensures.run (omega (arith, fits)) going
 
-pub loop-steps-preserved : goal.loop-steps-preserved
-loop-steps-preserved c =
-    let going : c.loop-steps.machine.state.outcome ≡ Going = search rules in
-    record {
-      there = step_made c.loop-steps.machine c.step.new.self c.args.machine.now.state c.loop-steps.steps c.loop-steps.invariant.there c.in_ok-step.ensures.step;
-      before = below_more _ _ c.loop-steps.invariant.before (ap (λ s. s.outcome) (sym c.loop-steps.invariant.there) ∙ going);
-    }
+pub returns-clause-stops : goal.returns-clause-stops
+returns-clause-stops c = λ s on.
+    let stopped : c.run_made.new.self.state.outcome ≢ Going = search rules in
+    let fits = c.requires in
+    on_stops s c.args.made (c.args.most - c.args.made) c.in_ok-more.more c.args.most c.args.machine.now c.run_made.new.self on c.in_ok-more.ensures.run c.in_ok-more.ensures.made (omega (arith, fits)) stopped

@@ -3,20 +3,23 @@ use Rattle.std.specs.Prelude.{slice_get}
 use Rattle.qed_model.specs.Machine.Program.{LoadSegment}
 use Rattle.qed_model.specs.Machine.Cells.{cell_among}
 use Rattle.mem_image.specs.Fixed.{is_code, has_code}
+use Rattle.mem_image.specs.Overlap.{AreSound}
 use Rattle.mem_image.specs.Segments.{IsFirst}
 use Rattle.mem_image.proofs.FixedLaws.{none_no_code, first_no_code, if_none}
 use Rattle.mem_image.proofs.image.Image.code.Goals as goal
 
 pub returns-in_default-clause-none : goal.returns-in_default-clause-none
 returns-in_default-clause-none c =
-    let none : cell_among c.self.inside.pages.items c.args.address ≡ None = rw c.deref.ensures.value at c.in_default.ensures.none in
-    ap (λ m. has_code m c.args.address) (sym c.self.view_is) ∙ none_no_code c.self.inside.pages.items c.args.address c.self.invariant.fit none
+    let sound : AreSound c.self.inside.pages = subst AreSound c.as_slice.ensures.value c.as_slice.ensures.sound in
+    let none : cell_among c.self.inside.pages c.args.address ≡ None = rw c.as_slice.ensures.value at c.in_default.ensures.none in
+    ap (λ m. has_code m c.args.address) (sym c.self.view_is) ∙ none_no_code c.self.inside.pages c.args.address sound.fit none
 
 pub returns-clause-none : goal.returns-clause-none
 returns-clause-none c =
-    let first : IsFirst c.self.inside.pages.items c.args.address c.in-Some.at = rw c.deref.ensures.value at c.in-Some.ensures.some in
+    let sound : AreSound c.self.inside.pages = subst AreSound c.as_slice.ensures.value c.as_slice.ensures.sound in
+    let first : IsFirst c.self.inside.pages c.args.address c.in-Some.at = rw c.as_slice.ensures.value at c.in-Some.ensures.some in
     if_none c.in_ok-found.found _ _
     (λ h.
     ap (λ m. has_code m c.args.address) (sym c.self.view_is)
-    ∙ first_no_code c.self.inside.pages.items c.args.address c.in-Some.at c.self.invariant first (subst (λ (ss : List LoadSegment). (s : LoadSegment) → slice_get ss c.in-Some.at ≡ Some s → is_code s.flags ≡ false) c.deref-2.ensures.value h))
+    ∙ first_no_code c.self.inside.pages c.args.address c.in-Some.at sound first (subst (λ (ss : List LoadSegment). (s : LoadSegment) → slice_get ss c.in-Some.at ≡ Some s → is_code s.flags ≡ false) c.as_slice-2.ensures.value h))
     c.in_ok-found.ensures.none

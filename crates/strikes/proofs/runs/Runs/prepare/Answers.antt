@@ -1,6 +1,9 @@
-use Rattle.strikes.proofs.Copying.{are_kept}
+use Rattle.std.proofs.Common.{ap, sym, ◌∙◌, subst}
+use Rattle.strikes.specs.Kept.{IsReach}
+use Rattle.strikes.proofs.Copying.{reach_positive}
 use Rattle.strikes.proofs.runs.Runs.prepare.Goals as goal
 
 pub invariant_of-result : goal.invariant_of-result
 invariant_of-result c =
-    are_kept c.in_ok-take.field-0 c.in_ok-take-2.field-0 c.args.output c.in_ok-reach.reach c.in_ok-take.ensures.count c.in_ok-take-2.ensures.count c.in_ok-take-2.ensures.start c.requires c.in_ok-reach.ensures
+    reach_positive c.args.output.state c.in_ok-output.output.reach c.requires
+    (subst (λ p. IsReach p.state c.in_ok-output.output.reach) c.in_ok-output.ensures (subst (IsReach c.in_ok-output.output.start.state) c.reach.ensures.value c.reach.ensures.reach))

@@ -1,32 +1,78 @@
-use Rattle.std.proofs.Common.{◌≡◌, ◌*◌, ap, ◌∙◌, sym, subst}
-use Rattle.std.specs.Prelude.{Some}
-use Rattle.qed_model.specs.Machine.Progress.{progress}
-use Rattle.qed_model.specs.Machine.Step.{run}
+use Rattle.std.proofs.Common.{◌≡◌, ◌+◌, ◌≤◌, ap, ◌∙◌, sym, subst, arith}
+use Rattle.std.specs.Prelude.{None, Some, Ok, Err}
+use Rattle.qed_model.specs.declared.verdict.Verdict.TheVariants as verdict
+use Rattle.qed_model.specs.Machine.Step.{State, run}
 use Rattle.qed_model.specs.Promise.Caught.{bound_of}
-use Rattle.qed_model.specs.Promise.Changed.{Ordered}
-use Rattle.strikes.specs.Later.{all_from}
-use Rattle.strikes.proofs.Shifting.{not_before_all, ordered_later, strike_shows}
+use Rattle.qed_model.specs.Promise.Changed.{Ordered, last_step}
+use Rattle.strikes.specs.declared.error.StrikeError.TheVariants as error
+use Rattle.strikes.specs.Found.{trap_pc_of, IsSilentAt}
+use Rattle.strikes.specs.Later.{all_from, first_step}
+use Rattle.strikes.specs.Verdict.{Shows}
+use Rattle.strikes.proofs.Shifting.{not_before_all, ordered_later, strike_shows, trap_later}
+use Rattle.strikes.proofs.Showing.{shows_same, shows_trapped, where_none}
 use Rattle.strikes.proofs.Stopping.{progress_state}
 use Rattle.strikes.proofs.runs.Runs.strike.Goals as goal
 
 pub all_from-requires : goal.all_from-requires
-all_from-requires c = not_before_all c.args.changes.now (4096 * c.last_before-number.result) c.requires.ordered c.last_before-number.ensures.before
+all_from-requires c =
+    let first = c.first_step-start.ensures in
+    not_before_all c.args.changes.now c.first_step-start.result c.requires.ordered (omega (arith, first))
 
-pub verdict-requires : goal.verdict-requires
-verdict-requires c =
-    let later : c.deref.result.now ≡ all_from (4096 * c.last_before-number.result) c.args.changes.now = c.deref.ensures.value ∙ c.in_ok-later.ensures in
-    subst Ordered (sym later) (ordered_later c.args.changes.now (4096 * c.last_before-number.result) c.requires.ordered)
+pub output_verdict-requires-clause-there : goal.output_verdict-requires-clause-there
+output_verdict-requires-clause-there c = ap (λ p. p.state) c.in_ok-output.ensures ∙ progress_state c.self.inside.output.start c.first_step-start.result
+
+pub output_verdict-requires-clause-ordered : goal.output_verdict-requires-clause-ordered
+output_verdict-requires-clause-ordered c =
+    let later : c.deref.result.now ≡ all_from c.first_step-start.result c.args.changes.now = c.deref.ensures.value ∙ c.in_ok-later.ensures in
+    subst Ordered (sym later) (ordered_later c.args.changes.now c.first_step-start.result c.requires.ordered)
+
+pub returns-in-Some : goal.returns-in-Some
+returns-in-Some c =
+    let first = c.first_step-start.ensures in
+    let m = c.first_step-start.result in
+    let later : c.deref.result.now ≡ all_from m c.args.changes.now = c.deref.ensures.value ∙ c.in_ok-later.ensures in
+    let output : c.in_ok-output.output.state ≡ run c.args.self.now.output m =
+    ap (λ p. p.state) c.in_ok-output.ensures ∙ progress_state c.self.inside.output.start m ∙ ap (λ p. run p.output m) c.self.view_is in
+    let bound : bound_of c.args.self.now.bounds c.args.changes.now ≡ Some c.unwrap-bound.result =
+    sym (ap (λ p. bound_of p.bounds c.args.changes.now) c.self.view_is) ∙ sym c.bound_of.ensures ∙ c.unwrap-bound.ensures in
+    let shown : (s : State) → Shows s c.in_ok-output.output.state c.unwrap-bound.result c.deref.result.now (Ok c.in-Some.verdict) = rw c.in-Some.is at c.in_ok-verdict.ensures.shown in
+    strike_shows c.args.self.now.input c.args.self.now.output c.in_ok-output.output.state c.args.self.now.bounds c.args.changes.now c.deref.result.now m c.unwrap-bound.result (Ok c.in-Some.verdict)
+    bound c.requires.ordered (omega (arith, first)) output later (shown (run c.args.self.now.input m))
+
+pub returns-in-Some-2 : goal.returns-in-Some-2
+returns-in-Some-2 c =
+    let first = c.first_step-start.ensures in
+    let m = c.first_step-start.result in
+    let later : c.deref.result.now ≡ all_from m c.args.changes.now = c.deref.ensures.value ∙ c.in_ok-later.ensures in
+    let output : c.in_ok-output.output.state ≡ run c.args.self.now.output m =
+    ap (λ p. p.state) c.in_ok-output.ensures ∙ progress_state c.self.inside.output.start m ∙ ap (λ p. run p.output m) c.self.view_is in
+    let bound : bound_of c.args.self.now.bounds c.args.changes.now ≡ Some c.unwrap-bound.result =
+    sym (ap (λ p. bound_of p.bounds c.args.changes.now) c.self.view_is) ∙ sym c.bound_of.ensures ∙ c.unwrap-bound.ensures in
+    let silent : IsSilentAt c.in_ok-output.output.state c.unwrap-bound.result c.deref.result.now =
+    where_none c.in_ok-verdict.field-0 (IsSilentAt c.in_ok-output.output.state c.unwrap-bound.result c.deref.result.now) c.in_default.not-Some c.in_ok-verdict.ensures.none in
+    let pc : Some c.in-Some-2.pc ≡ trap_pc_of (run c.args.self.now.input (last_step c.args.changes.now + c.unwrap-bound.result)).outcome =
+    sym c.in-Some-2.is ∙ c.in_ok-pc.ensures ∙ ap (λ p. trap_pc_of (run p.input (c.last_step-last.result + c.unwrap-bound.result)).outcome) c.self.view_is
+    ∙ ap (λ n. trap_pc_of (run c.args.self.now.input (n + c.unwrap-bound.result)).outcome) c.last_step-last.ensures in
+    strike_shows c.args.self.now.input c.args.self.now.output c.in_ok-output.output.state c.args.self.now.bounds c.args.changes.now c.deref.result.now m c.unwrap-bound.result (Err (error.Trapped c.in-Some-2.pc))
+    bound c.requires.ordered (omega (arith, first)) output later
+    (shows_trapped (run c.args.self.now.input m) c.in_ok-output.output.state c.unwrap-bound.result c.in-Some-2.pc c.deref.result.now (subst Ordered (sym later) (ordered_later c.args.changes.now m c.requires.ordered)) silent.tried silent.still
+    (trap_later c.args.self.now.input c.args.changes.now c.deref.result.now m c.unwrap-bound.result (Some c.in-Some-2.pc) c.requires.ordered (omega (arith, first)) later pc))
 
 pub returns : goal.returns
 returns c =
-    let later : c.deref.result.now ≡ all_from (4096 * c.last_before-number.result) c.args.changes.now = c.deref.ensures.value ∙ c.in_ok-later.ensures in
-    let input_copy : c.unwrap-input.result.now ≡ progress c.self.inside.input.start (4096 * c.last_before-number.result) = rw c.unwrap-input.ensures at c.at.ensures.there in
-    let output_copy : c.unwrap-output.result.now ≡ progress c.self.inside.output.start (4096 * c.last_before-number.result) = rw c.unwrap-output.ensures at c.at-2.ensures.there in
-    let input : c.unwrap-input.result.now.state ≡ run c.args.self.now.input (4096 * c.last_before-number.result) =
-    ap (λ p. p.state) input_copy ∙ progress_state c.self.inside.input.start (4096 * c.last_before-number.result) ∙ ap (λ p. run p.input (4096 * c.last_before-number.result)) c.self.view_is in
-    let output : c.unwrap-output.result.now.state ≡ run c.args.self.now.output (4096 * c.last_before-number.result) =
-    ap (λ p. p.state) output_copy ∙ progress_state c.self.inside.output.start (4096 * c.last_before-number.result) ∙ ap (λ p. run p.output (4096 * c.last_before-number.result)) c.self.view_is in
+    let first = c.first_step-start.ensures in
+    let m = c.first_step-start.result in
+    let later : c.deref.result.now ≡ all_from m c.args.changes.now = c.deref.ensures.value ∙ c.in_ok-later.ensures in
+    let output : c.in_ok-output.output.state ≡ run c.args.self.now.output m =
+    ap (λ p. p.state) c.in_ok-output.ensures ∙ progress_state c.self.inside.output.start m ∙ ap (λ p. run p.output m) c.self.view_is in
     let bound : bound_of c.args.self.now.bounds c.args.changes.now ≡ Some c.unwrap-bound.result =
     sym (ap (λ p. bound_of p.bounds c.args.changes.now) c.self.view_is) ∙ sym c.bound_of.ensures ∙ c.unwrap-bound.ensures in
-    strike_shows c.args.self.now.input c.args.self.now.output c.unwrap-input.result.now.state c.unwrap-output.result.now.state c.args.self.now.bounds c.args.changes.now c.deref.result.now
-    c.last_before-number.result c.unwrap-bound.result c.verdict.result bound c.requires.ordered c.last_before-number.ensures.before input output later c.verdict.ensures
+    let silent : IsSilentAt c.in_ok-output.output.state c.unwrap-bound.result c.deref.result.now =
+    where_none c.in_ok-verdict.field-0 (IsSilentAt c.in_ok-output.output.state c.unwrap-bound.result c.deref.result.now) c.in_default.not-Some c.in_ok-verdict.ensures.none in
+    let pc : None ≡ trap_pc_of (run c.args.self.now.input (last_step c.args.changes.now + c.unwrap-bound.result)).outcome =
+    sym c.in-None.is ∙ c.in_ok-pc.ensures ∙ ap (λ p. trap_pc_of (run p.input (c.last_step-last.result + c.unwrap-bound.result)).outcome) c.self.view_is
+    ∙ ap (λ n. trap_pc_of (run c.args.self.now.input (n + c.unwrap-bound.result)).outcome) c.last_step-last.ensures in
+    strike_shows c.args.self.now.input c.args.self.now.output c.in_ok-output.output.state c.args.self.now.bounds c.args.changes.now c.deref.result.now m c.unwrap-bound.result (Ok verdict.Same)
+    bound c.requires.ordered (omega (arith, first)) output later
+    (shows_same (run c.args.self.now.input m) c.in_ok-output.output.state c.unwrap-bound.result c.deref.result.now (subst Ordered (sym later) (ordered_later c.args.changes.now m c.requires.ordered)) silent.tried silent.still
+    (trap_later c.args.self.now.input c.args.changes.now c.deref.result.now m c.unwrap-bound.result None c.requires.ordered (omega (arith, first)) later pc))

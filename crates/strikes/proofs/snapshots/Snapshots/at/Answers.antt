@@ -11,6 +11,6 @@ returns-then-number-eq0-clause-there c =
 pub returns-clause-there : goal.returns-clause-there
 returns-clause-there c =
     let some : 1 ≤ c.args.number = omega arith in
-    let are = subst (λ p. AreCopies p c.self.inside.later.items) (ap (λ s. s.start) c.self.view_is) c.self.invariant in
-    copy_got c.args.self.now.start c.self.inside.later.items c.args.number c.get.result are some
+    let are = subst (λ p. AreCopies p c.self.inside.reach c.self.inside.later.items) (ap (λ s. s.start) c.self.view_is) c.self.invariant in
+    copy_got c.args.self.now.start c.self.inside.reach c.self.inside.later.items c.args.number c.get.result are some
     (subst (λ xs. IsItemAt xs (c.args.number - 1) c.get.result) c.deref.ensures.value c.get.ensures.lookup)

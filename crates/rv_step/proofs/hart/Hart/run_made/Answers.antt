@@ -1,7 +1,8 @@
-use Rattle.std.proofs.Common.{◌∙◌, arith}
-use Rattle.rv_step.specs.Harts.{with_memory}
+use Rattle.std.proofs.Common.{sym, ap, ◌∙◌, arith}
+use Rattle.rv_step.specs.Harts.{HartState, with_memory}
+use Rattle.rv_step.specs.Known.{goes_on}
 use Rattle.rv_step.proofs.Running.{made_counted, any_err}
-use Rattle.rv_step.proofs.hart.Hart.run.Goals as goal
+use Rattle.rv_step.proofs.hart.Hart.run_made.Goals as goal
 
 pub returns-clause-run : goal.returns-clause-run
 returns-clause-run c =
@@ -14,3 +15,11 @@ returns-in_err-done-clause-part c = any_err c.from_residual.result _ (record {
   most = rw c.in_err-done.was at c.run_uncounted-made.ensures.part;
   made = made_counted (with_memory c.args.self.now c.args.image.now) c.run_uncounted-made.result.0 _ _ _ c.run_uncounted-made.new.image c.run_uncounted-made.ensures.made c.self.view_is (omega arith) c.saturating_add-self-inside.ensures;
 })
+
+pub returns-clause-made : goal.returns-clause-made
+returns-clause-made c = record {
+  within = c.run_uncounted-made.ensures.within;
+  all = rw c.in_ok-done.was at c.run_uncounted-made.ensures.all;
+  going = c.run_uncounted-made.ensures.made.going;
+  stopped = λ less. ap (λ q. goes_on q.state.outcome) (sym (returns-clause-run c)) ∙ ap (λ (h : HartState). goes_on h.outcome) c.self.view_is ∙ (rw c.in_ok-done.was at c.run_uncounted-made.ensures.stopped) less;
+}

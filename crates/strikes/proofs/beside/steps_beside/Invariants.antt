@@ -1,0 +1,11 @@
+use Rattle.std.proofs.Common.{◌≡◌, ◌+◌, ◌*◌, ◌≤◌}
+use Rattle.strikes.specs.Found.{IsOn}
+use Rattle.strikes.proofs.beside.steps_beside.Given as goal
+
+-- so many steps were made, no more than up to the copy before
+abbrev pub invariant-loop-number : goal.invariant-loop-number
+invariant-loop-number l = record {
+  on : IsOn l.initial.machine.state l.made l.machine.state;
+  behind : l.at + l.made ≤ 4096 * l.number;
+  within : l.made ≤ l.most;
+}

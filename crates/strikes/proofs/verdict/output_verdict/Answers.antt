@@ -1,0 +1,15 @@
+use Rattle.std.proofs.Common.{◌≡◌, ap, ◌∙◌, subst}
+use Rattle.std.specs.Prelude.{IfSome}
+use Rattle.qed_model.specs.Promise.Changed.{changed_run, last_step}
+use Rattle.strikes.specs.Found.{Stops}
+use Rattle.strikes.specs.Verdict.{IsTried}
+use Rattle.strikes.proofs.Showing.{shown_all, where_none}
+use Rattle.strikes.proofs.verdict.output_verdict.Goals as goal
+
+pub returns-clause-shown : goal.returns-clause-shown
+returns-clause-shown c =
+    let tried : IsTried c.args.output.state c.args.changes.now = where_none c.in_ok-verdict.field-0 (IsTried c.args.output.state c.args.changes.now) c.in_default.not-Some c.in_ok-verdict.ensures.none in
+    let there : c.run_changed.new.machine.state ≡ changed_run c.args.output.state c.args.changes.now (last_step c.args.changes.now) =
+    c.in_ok-run_changed.ensures.state ∙ ap (changed_run c.args.output.state c.args.changes.now) c.last_step-last.ensures in
+    shown_all c.args.output.state c.args.bound c.args.changes.now c.in_ok-verdict-2.verdict c.requires.ordered tried
+    (subst (λ s. IfSome c.in_ok-verdict-2.verdict (Stops s c.args.bound)) there c.in_ok-verdict-2.ensures.shown)

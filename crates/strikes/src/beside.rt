@@ -1,0 +1,85 @@
+//! A changed run that comes beside the run without changes: both go on in the same state, and the same way from there.
+ghost use Rattle.std.specs.Prelude.{◌≡◌, ◌+◌, ◌*◌, ◌≤◌, true, IfOk, IfSome, IfNone};
+ghost use Rattle.qed_model.specs.declared.machine.Outcome.TheVariants as outcome;
+ghost use Rattle.qed_model.specs.Machine.Step.{State, run};
+ghost use Rattle.strikes.specs.Found.{IsOn, StopsWithin};
+ghost use Rattle.strikes.specs.Kept.{copies_up_to};
+
+use crate::snapshots::{SPACING, Snapshots};
+use crate::stop::steps_to_stop;
+use qed_model::Outcome;
+use rv_step::Machine;
+use std::alloc::{AllocError, Global};
+
+/// How many steps take the time in which a page is compared.
+const PAGE_STEPS: u64 = 32;
+
+/// Whether a machine stands as copy `number` of a run does. It may say no where it does, as where the comparison takes longer than so
+/// many steps.
+fn stands_at(way: &Snapshots, number: u64, machine: &Machine, steps: u64) -> bool
+    ensures { result ≡ true → machine.now.state ≡ run way.now.start.state (4096 * number) }
+{
+    match way.at(number) {
+        Some(copy) => machine.is_beside(copy, steps / PAGE_STEPS),
+        None => false,
+    }
+}
+
+/// What `steps_to_stop` gives of a machine that stands as copy `number` of a run does. Its last copy is taken in its place.
+fn leap_to_stop(
+    alloc: Global,
+    way: &Snapshots,
+    number: u64,
+    machine: &mut Machine,
+    made: u64,
+    most: u64,
+) -> Result<Option<u64>, AllocError>
+    requires part { made ≤ most }
+    requires number { number + 1 ≤ copies_up_to way.now.reach }
+    requires beside { machine.old.state ≡ run way.now.start.state (4096 * number) }
+    ensures stops { (s : State) → IsOn s made machine.old.state → IfOk result (λ r. IfSome r (StopsWithin s most machine.new.state)) }
+    ensures goes_on { (s : State) → IsOn s made machine.old.state → IfOk result (λ r. IfNone r ((run s most).outcome ≡ outcome.Going)) }
+{
+    let reach = way.reach();
+    let here = SPACING * number;
+    if most - made < reach - here {
+        return Ok(None);
+    }
+    let last = reach / SPACING;
+    *machine = way.at(last).unwrap().copy(alloc)?;
+    let steps = steps_to_stop(machine, made + (SPACING * last - here), most)?;
+    Ok(steps)
+}
+
+/// What `steps_to_stop` gives of a machine that has made no step, and may stand after some as a run does that is kept, `at` steps
+/// before it.
+pub fn steps_beside(
+    alloc: Global,
+    way: &Snapshots,
+    at: u64,
+    machine: &mut Machine,
+    most: u64,
+) -> Result<Option<u64>, AllocError>
+    ensures stops { IfOk result (λ r. IfSome r (StopsWithin machine.old.state most machine.new.state)) }
+    ensures goes_on { IfOk result (λ r. IfNone r ((run machine.old.state most).outcome ≡ outcome.Going)) }
+{
+    let mut made = 0;
+    for number in at / SPACING + 1..way.reach() / SPACING + 1 {
+        let next = SPACING * number - at;
+        if most < next {
+            let steps = steps_to_stop(machine, made, most)?;
+            return Ok(steps);
+        }
+        let more = machine.run_made(next - made)?;
+        if machine.outcome() != Outcome::Going {
+            return Ok(Some(made + more));
+        }
+        made = next;
+        if stands_at(way, number, machine, most - made) {
+            let steps = leap_to_stop(alloc, way, number, machine, made, most)?;
+            return Ok(steps);
+        }
+    }
+    let steps = steps_to_stop(machine, made, most)?;
+    Ok(steps)
+}

@@ -1,0 +1,73 @@
+//! A run that is watched for a trap.
+ghost use Rattle.std.specs.Prelude.{◌≡◌, ◌+◌, IfOk};
+ghost use Rattle.qed_model.specs.Machine.Step.{run};
+ghost use Rattle.strikes.specs.Found.{trap_pc_of};
+
+use qed_model::Outcome;
+use rv_step::Machine;
+use std::alloc::{AllocError, Global};
+use std::marker::Model;
+
+/// A machine at its start, and as it stands after so many steps, each of which it went on before.
+#[derive(Drop)]
+pub struct Watched {
+    start: Machine,
+    later: Machine,
+    steps: u64,
+}
+
+impl Model for Watched {
+    ghost use Rattle.qed_model.specs.Machine.Progress.{Progress};
+    ghost use Rattle.rv_step.specs.Codes.{progress_code};
+    ghost use Rattle.strikes.specs.Kept.{IsWatched};
+
+    ghost Value = { Progress };
+
+    ghost coded = { progress_code };
+
+    ghost view = { λ w. w.start };
+
+    ghost invariant = { λ w. IsWatched w.start w.later w.steps };
+}
+
+/// The pc of a trap.
+fn trap_pc(outcome: Outcome) -> Option<u64>
+    ensures { result ≡ trap_pc_of outcome }
+{
+    match outcome {
+        Outcome::Trapped(_, pc) => Some(pc),
+        _ => None,
+    }
+}
+
+impl Watched {
+    /// Watches a machine for so many steps, or until it stops.
+    pub fn watch(alloc: Global, start: Machine, most: u64) -> Result<Watched, AllocError>
+        ensures { IfOk result (λ watched. watched ≡ start) }
+    {
+        let mut later = start.copy(alloc)?;
+        let steps = later.run_made(most)?;
+        Ok(Watched {
+            start,
+            later,
+            steps,
+        })
+    }
+
+    /// The pc where the machine traps within two numbers of steps; None where it does not.
+    pub fn trap(&self, alloc: Global, last: u64, bound: u64) -> Result<Option<u64>, AllocError>
+        ensures { IfOk result (λ pc. pc ≡ trap_pc_of (run self.now.state (last + bound)).outcome) }
+    {
+        if u128::from(last) + u128::from(bound) < u128::from(self.steps) {
+            return Ok(None);
+        }
+        let outcome = self.later.outcome();
+        if outcome != Outcome::Going {
+            return Ok(trap_pc(outcome));
+        }
+        let mut machine = self.later.copy(alloc)?;
+        machine.run(last.saturating_sub(self.steps))?;
+        let outcome = machine.run(bound - self.steps.saturating_sub(last))?;
+        Ok(trap_pc(outcome))
+    }
+}
