@@ -1,5 +1,5 @@
 -- The stages of any weave: from a boundary of pieces to the next, with one comparison of all registers and the visits.
-use Rattle.std.proofs.Common.{◌≡◌, ℕ, ◌+◌, ◌*◌, ◌<◌, ◌≤◌, ◌⊎◌, inl, inr, Bool, true, List, [], ◌∷◌, ◌++◌, length, sym, ap, ◌∙◌, subst, arith}
+use Rattle.std.proofs.Common.{◌≡◌, ℕ, ◌+◌, ◌*◌, ◌<◌, ◌≤◌, ◌⊎◌, inl, inr, Bool, true, List, [], ◌∷◌, ◌++◌, length, refl, sym, ap, ◌∙◌, subst, arith}
 use Rattle.std.proofs.lemmas.List.{append_assoc}
 use Rattle.rv_isa.specs.declared.ins.Ins.{Ins}
 use Rattle.qed_model.specs.declared.machine.Outcome.TheVariants.{Going, Ended}
