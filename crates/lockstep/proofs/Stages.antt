@@ -1,5 +1,5 @@
 -- The stages of any weave: from a boundary of pieces to the next, with one comparison of all registers and the visits.
-use Rattle.std.proofs.Common.{◌≡◌, ℕ, ◌+◌, ◌*◌, ◌<◌, ◌≤◌, ◌⊎◌, inl, inr, Bool, true, List, [], ◌∷◌, ◌++◌, length, refl, sym, ap, ◌∙◌, subst, arith}
+use Rattle.std.proofs.Common.{◌≡◌, ℕ, ◌+◌, ◌*◌, ◌≤◌, ◌⊎◌, inl, inr, Bool, true, List, [], ◌∷◌, ◌++◌, length, refl, sym, subst, arith}
 use Rattle.std.proofs.lemmas.List.{append_assoc}
 use Rattle.rv_isa.specs.declared.ins.Ins.{Ins}
 use Rattle.qed_model.specs.declared.machine.Outcome.TheVariants.{Going, Ended}
@@ -8,13 +8,11 @@ use Rattle.qed_model.specs.Promise.Kept.{NotTrapped}
 use Rattle.qed_model.specs.Weave.Sequences.{Reads, End, Falls, Stops, body_length}
 use Rattle.qed_model.proofs.Walk.{run-more}
 use Rattle.qed_model.proofs.Walked.{Walk, walk_on}
-use Rattle.weave_core.specs.World.{World, Quiet, IsCursor, words_on}
+use Rattle.weave_core.specs.World.{World, Quiet, IsCursor}
 use Rattle.weave_core.specs.Blocks.{Full}
 use Rattle.weave_core.specs.Rows.{At, Sourced}
 use Rattle.weave_core.proofs.Source.{source_run, not_trapped_le}
 use Rattle.weave_core.proofs.Leaves.{no_code}
-use Rattle.weave_core.specs.Lock.{ComparesFrom}
-use Rattle.weave_core.specs.Kinds.{thirteen}
 use Rattle.weave_core.specs.Weave.{Weave, pieces_of, body_of}
 use Rattle.weave_core.specs.WeaveLaws.{PiecesAt, EntriesAt, Stands, stops, Left, Onward, lands, is_lost, Rows, Checked, Swept}
 use Rattle.weave_core.proofs.Visit.{checked_behind}

@@ -1,14 +1,11 @@
 -- A wrong instruction as changes right behind it.
-use Rattle.std.proofs.Common.{◌≡◌, ℕ, zero, suc, ◌+◌, ◌-◌, ◌*◌, ◌/◌, ◌%◌, ◌^◌, ◌<◌, ◌≤◌, ◌⊎◌, inl, inr, ⊎_elim, Bool, true, false, cond, List, [], ◌∷◌, Option, Some, None, refl, sym, ap, ◌∙◌, subst, arith}
-use Rattle.std.specs.Prelude.{◌==◌, nat_lt, slice_index}
-use Rattle.std.specs.FinMap.{get}
-use Rattle.std.specs.Option.{option_map}
-use Rattle.std.proofs.lemmas.Bool.{false≢true, cases_Bool, cases_lt, eq-eqb, ne_eqb, lt-ltb}
+use Rattle.std.proofs.Common.{◌≡◌, ℕ, zero, suc, ◌+◌, ◌-◌, ◌<◌, ◌≤◌, ◌⊎◌, inl, inr, ⊎_elim, Bool, true, false, cond, List, [], ◌∷◌, refl, sym, ap, ◌∙◌, subst, arith}
+use Rattle.std.specs.Prelude.{slice_index}
+use Rattle.std.proofs.lemmas.Bool.{false≢true, cases_Bool, cases_lt, eq-eqb, ne_eqb}
 use Rattle.std.proofs.lemmas.List.{set-set, set-get_or}
 use Rattle.rv_isa.specs.declared.ins.Ins.{Ins}
 use Rattle.rv_isa.specs.declared.class.Class.{Class}
 use Rattle.rv_isa.specs.declared.class.Class.TheVariants as class
-use Rattle.rv_isa.specs.declared.kind.Kind.{Kind}
 use Rattle.rv_isa.specs.Kind.{class_of}
 use Rattle.rv_isa.specs.Regs.{set_reg}
 use Rattle.qed_model.specs.declared.change.Change.{Change}
@@ -16,7 +13,7 @@ use Rattle.qed_model.specs.declared.change.Place.{Place}
 use Rattle.qed_model.specs.declared.change.Place.TheVariants.{Reg, Word}
 use Rattle.qed_model.specs.declared.machine.Cause.TheVariants as cause
 use Rattle.qed_model.specs.declared.machine.Outcome.TheVariants.{Going, Ended, Fired}
-use Rattle.qed_model.specs.Machine.Memory.{Memory, Cell, put, offset, wrap, byte_of, byte_at, number, grants, flags_at, with_byte}
+use Rattle.qed_model.specs.Machine.Memory.{put, number, grants}
 use Rattle.qed_model.specs.Machine.Step.{State, reg, moved, stored, trapped, next_pc, place, result, execute, Fetched, Known, fetched_at, next, step, run}
 use Rattle.qed_model.specs.Machine.Struck.{struck}
 use Rattle.qed_model.specs.Machine.Values.{width_of, loaded}
@@ -24,13 +21,11 @@ use Rattle.qed_model.specs.Promise.Changed.{changed, changed_as, with_changes, c
 use Rattle.qed_model.specs.Promise.Caught.{Same, Settles}
 use Rattle.qed_model.specs.Promise.Closed.{IsOpen, closed_at}
 use Rattle.qed_model.specs.Promise.Kept.{is_trapped, NotTrapped}
-use Rattle.qed_model.proofs.MemoryLaws.{get-put, get-put_outside, same_memory, wrap_offset}
-use Rattle.qed_model.proofs.Steps.{step-class, flags-put}
+use Rattle.qed_model.proofs.Steps.{step-class}
 use Rattle.qed_model.proofs.Walk.{run-more}
-use Rattle.weave_core.specs.Lock.{Bytes, Opens, HasKind, scratch_compute, scratch_load, scratch_store, scratch_branch, jumps, scratch_jump, computes, fences, loads, stores as stores_kind, guards, breaks, takes, branches, ends, no_word, visits, comparison, Loaded}
+use Rattle.weave_core.specs.Lock.{Bytes, Opens, HasKind, scratch_compute, scratch_load, scratch_store, scratch_branch, jumps, scratch_jump, computes, fences, loads, stores as stores_kind, guards, breaks, takes, branches, ends, no_word, visits, Loaded}
 use Rattle.weave_core.proofs.Trace.{run-ended}
-use Rattle.lockstep.specs.InstructionFaults.{WritesOriginal, word_around, GivesAny, gives, skips, StoresAny, stores, leaves, FoundOut}
-use Rattle.lockstep.proofs.Agreeing.{small_put}
+use Rattle.lockstep.specs.InstructionFaults.{WritesOriginal, GivesAny, gives, skips, FoundOut}
 use Rattle.lockstep.proofs.Ground.{run-fired}
 use Rattle.lockstep.proofs.Runs.{run-last}
 

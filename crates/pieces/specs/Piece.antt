@@ -1,5 +1,5 @@
 -- A whole piece as the code weaves it, from the laws of its passes.
-use Rattle.std.proofs.Common.{◌≡◌, ℕ, ◌+◌, ◌-◌, ◌*◌, ◌^◌, ◌<◌, ◌≤◌, Bool, List, [], ◌++◌, length, sym, ap, ◌∙◌, subst, arith}
+use Rattle.std.proofs.Common.{◌≡◌, ℕ, ◌+◌, ◌-◌, ◌*◌, ◌%◌, ◌^◌, ◌<◌, ◌≤◌, Bool, List, [], ◌++◌, length, sym, ap, ◌∙◌, subst, arith}
 use Rattle.rv_isa.specs.declared.ins.Ins.{Ins}
 use Rattle.qed_model.specs.declared.item.Item.{Item}
 use Rattle.qed_model.specs.Weave.Sequences.{Form, original, each_part, compare, visit, piece}
@@ -44,8 +44,8 @@ pub piece_laws :
     → Quiet suits items (NeedsPiece next_at NeedsMirror cost (NeedsChecks spans) is at) (GivesPiece next_at cost (GivesChecks round spans) is at) (LeavesPiece next_at cost LeavesChecks is at) (piece_cost cost (13 + visit_bound (length spans) * round) is)
     → PieceLeads part round spans items is at
 piece_laws suits all cost part three few round spans items is at q = record {
-  leads = λ w v most rest f e here p so calm st.
-      let x = piece_leads next_at (λ a h. omega (arith, h)) w NeedsMirror (λ i at v r. r) cost (NeedsChecks spans) (GivesChecks round spans) LeavesChecks 0 round (both_checks w round spans f) is at suits (all w.form.far) (part * length is) (13 + visit_bound (length spans) * round) items (cost_parts part cost three few is) q v rest e here p.has p.fits p.run so calm st in
+  leads = λ w v rest f e here has fit run so calm st.
+      let x = piece_leads next_at (λ a h. omega (arith, h)) w NeedsMirror (λ i at v r. r) cost (NeedsChecks spans) (GivesChecks round spans) LeavesChecks 0 round (both_checks w round spans f) is at suits (all w.form.far) (part * length is) (13 + visit_bound (length spans) * round) items (cost_parts part cost three few is) q v rest e here has fit run so calm st in
       let none : part * length is + 0 ≡ part * length is = omega arith in
       subst (λ k. Leads w v (part * length is + (13 + visit_bound (length spans) * round)) rest (Pieced w k round is v.original v) (λ n z. ⊥)) none x;
 }

@@ -14,7 +14,7 @@ use Rattle.qed_model.specs.Weave.Blocks.{begins_at}
 use Rattle.qed_model.specs.Weave.Sequences.{Reads, Block, stub}
 use Rattle.weave_core.specs.World.{World}
 use Rattle.weave_core.specs.Rows.{Sourced}
-use Rattle.weave_core.specs.WovenIn.{Describes}
+use Rattle.weave_core.specs.Describes.{Describes}
 use Rattle.weave_core.specs.Weave.{Weave, block_items, entries_of}
 use Rattle.weave_core.specs.WeaveLaws.{EntryAt, EntriesAt}
 use Rattle.weave_core.specs.WeavePromise.{AllBlocksOf, PlanOf}

@@ -1,7 +1,7 @@
 -- The forms of the code are a weave: they meet the laws of the rows and of the entry, so the promises follow from those of any weave.
 use Rattle.std.proofs.Common.{◌≡◌, ℕ, suc, ◌+◌, ◌*◌, ◌%◌, ◌^◌, ◌<◌, ◌≤◌, inl, inr, ⊎_elim, Bool, true, false, cond, List, [], ◌∷◌, ◌++◌, length, take, drop, refl, sym, ap, ◌∙◌, subst, arith, append_assoc, ◌-◌}
 use Rattle.std.specs.Prelude.{pos, slice_set}
-use Rattle.std.proofs.lemmas.Bool.{false≢true, and_parts, and_from, leb-true, le-leb, ne_eqb}
+use Rattle.std.proofs.lemmas.Bool.{false≢true, and_parts, leb-true, ne_eqb}
 use Rattle.std.proofs.lemmas.List.{append-nil, take-append-drop, length-take-le}
 use Rattle.std.proofs.Math.Nat.{mul-le-mul, mul-le-mul_left}
 use Rattle.rv_isa.specs.declared.ins.Ins.{Ins}
@@ -17,15 +17,15 @@ use Rattle.qed_model.specs.declared.item.Item.{Item}
 use Rattle.qed_model.specs.declared.item.Item.TheVariants.{Plain}
 use Rattle.qed_model.specs.Weave.Pieces.{is_run}
 use Rattle.qed_model.specs.Weave.Blocks.{begins_at}
-use Rattle.qed_model.specs.Weave.Sequences.{Form, Reads, End, Falls, Stops, Block, body_length, each_part, guards, sweep, compare, visit, piece, pieces, leave, leave_as, enter, entry_items, all_entries, prologue, stub}
+use Rattle.qed_model.specs.Weave.Sequences.{Form, Reads, End, Falls, Stops, Block, body_length, original, each_part, guards, sweep, compare, visit, piece, pieces, leave, leave_as, enter, entry_items, all_entries, prologue, stub}
 use Rattle.qed_model.specs.Weave.Placed.{distance_between, upper_part}
 use Rattle.qed_model.specs.Weave.Bounds.{end_bound}
 use Rattle.qed_model.proofs.Walk.{known_at, run-more, constant_walk, set_reg-pos}
 use Rattle.weave_core.specs.World.{World, Twice}
-use Rattle.weave_core.specs.Blocks.{IsEntryOf, FitsPiece, AllFit, Piece, Leaves, EndStands, Pieces, BlockAt}
+use Rattle.weave_core.specs.Blocks.{IsEntryOf, FitsPiece, AllFit, Leaves, EndStands}
 use Rattle.weave_core.specs.Rows.{At, Sourced, Mirrors, spent}
-use Rattle.weave_core.specs.WovenIn.{WovenIn}
-use Rattle.weave_core.specs.Plan.{AllGood, Plan, PlanKept, PlanLanded}
+use Rattle.weave_core.specs.Promise.{WovenIn}
+use Rattle.weave_core.specs.Plan.{Plan, PlanKept, PlanLanded}
 use Rattle.weave_core.specs.Promise.{start_of, ValuesKept, LandingsFire}
 use Rattle.weave_core.specs.Pass.{Views, Leads, Quiet, Lockstep, Does, same}
 use Rattle.weave_core.specs.Leaving.{swept_end}
@@ -35,16 +35,16 @@ use Rattle.qed_model.specs.Admission.DataRanges.{word_count}
 use Rattle.weave_core.proofs.Leaves.{step-end, step-branch, step-break}
 use Rattle.weave_core.specs.Each.{items_each, cost_each, NeedsEach, GivesEach, LeavesEach}
 use Rattle.weave_core.specs.Parts.{any, used, bare, bare_cost, original_cost, Runs, NeedsOriginal, GivesOriginal, LeavesOriginal, GivesMirror, LeavesMirror, ForOriginal, NeedsPiece, GivesPiece, LeavesPiece, piece_items, piece_cost, Checks}
-use Rattle.weave_core.proofs.Compose.{leads_led, quiet_then, quiet_guarded, lockstep_then, quiet_each, each_front}
+use Rattle.weave_core.proofs.Compose.{leads_led, quiet_then, quiet_guarded, lockstep_then, quiet_each, each_front, each_same}
 use Rattle.weave_core.proofs.PartLaws.{quiet_original, quiet_compare, quiet_visit}
-use Rattle.weave_core.proofs.PieceLaws.{AreChecks, both_checks, never_originals, for_originals, for_mirrors, needs_originals, gives_originals, piece_leads, cost_parts, parts_are}
+use Rattle.weave_core.proofs.PieceLaws.{AreChecks, both_checks, never_originals, for_originals, for_mirrors, needs_originals, gives_originals, piece_leads, cost_parts, guarded_original, parts_are}
 use Rattle.weave_core.proofs.LeaveLaws.{quiet_enter, fall_law, leave_law, quiet_sweep}
 use Rattle.weave_core.proofs.KindItems.{items_then, compare_items, visits_items}
 use Rattle.weave_core.proofs.Landing.{land_behind, straight_compare, land_visits}
 use Rattle.weave_core.proofs.Prologue.{prologue_row}
 use Rattle.weave_core.specs.Weave.{Weave, pieces_of, block_items, entries_of, start_steps, stage_steps}
-use Rattle.weave_core.specs.WeaveLaws.{PieceAt, PiecesAt, EntryAt, Holds, Stands, GoesTo, Inside, Behind, stops, Onward, Left, Rows, Starts, Guarded}
-use Rattle.weave_core.specs.WeavePromise.{AllBlocksOf, PlanOf}
+use Rattle.weave_core.specs.WeaveLaws.{PieceAt, EntryAt, Holds, Stands, GoesTo, Inside, Behind, stops, Onward, Left, Rows, Starts, Guarded}
+use Rattle.weave_core.specs.WeavePromise.{PlanOf}
 use Rattle.weave_core.specs.WeaveForms.{weave_with, weave_of, ChecksLaws}
 use Rattle.qed_model.specs.Weave.Bounds.{visit_bound}
 use Rattle.weave_core.proofs.Values.{WeaveIn, kept, weave_kept}
@@ -73,22 +73,22 @@ entries_same form most (b ∷ bs) = ap (λ l. l ++ entries_of (weave_of form mos
 
 -- ---- the piece, as passes
 -- where the next instruction stands
-abbrev plus : ℕ → ℕ
+abbrev pub plus : ℕ → ℕ
 plus a = a + 4
 
-each_plus : (part : Ins → ℕ → List Item) (is : List Ins) (at : ℕ) → items_each plus part is at ≡ each_part part is at
+pub each_plus : (part : Ins → ℕ → List Item) (is : List Ins) (at : ℕ) → items_each plus part is at ≡ each_part part is at
 each_plus part [] at = refl
 each_plus part (i ∷ is) at = ap (λ l. part i at ++ l) (each_plus part is (at + 4))
 
 module _ (form : Form) where
   -- a mirror part leads on in a world of the form that has its law
-  abbrev NeedsOther : Ins → ℕ → World → Views → Type 0
+  abbrev pub NeedsOther : Ins → ℕ → World → Views → Type 0
   NeedsOther i at w v = (w.form ≡ form) × Mirrors w × Runs w i at v.shadow
 
-  abbrev other_cost : Ins → ℕ
+  abbrev pub other_cost : Ins → ℕ
   other_cost i = form.cost - spent i
 
-  quiet_other : (i : Ins) (at : ℕ) → FitsPiece i → Quiet any (form.mirror i at) (NeedsOther i at) (λ w. Does same step 0) (λ w v n z. ⊥) (other_cost i)
+  pub quiet_other : (i : Ins) (at : ℕ) → FitsPiece i → Quiet any (form.mirror i at) (NeedsOther i at) (λ w. Does same step 0) (λ w v n z. ⊥) (other_cost i)
   quiet_other i at f = record {
     leads = λ w v rest s st r.
         let a1 : At w v.now (form.mirror i v.shadow.pc ++ rest) v.original v.shadow = subst (λ p. At w v.now (form.mirror i p ++ rest) v.original v.shadow) (sym r.2.here) st in
@@ -98,7 +98,7 @@ module _ (form : Form) where
   }
 
   -- the guarded originals of some instructions
-  quiet_front :
+  pub quiet_front :
       (is : List Ins) (at : ℕ) → AllFit is
       → Quiet any (items_each plus (λ i at. guards (used i) ++ bare i at) is at) (NeedsEach plus NeedsOriginal GivesOriginal is at) (GivesEach plus original_cost GivesOriginal is at) (LeavesEach plus original_cost GivesOriginal LeavesOriginal is at) (cost_each original_cost is)
   quiet_front is at f =
@@ -136,6 +136,41 @@ form_checks form = record {
   };
 }
 
+-- ---- inside a run
+-- behind the first n instructions of a run the original half has made n steps, whatever stands behind the original parts
+pub front_row :
+    (w : World) (is : List Ins) (n : ℕ) (u s : State) (tail : List Item) → n < length is → AllFit is → is_run is ≡ true → HasAt w.source s.pc is
+    → At w u (each_part original is s.pc ++ tail) s s → Sourced w s → NotTrapped (run s n) → GoesTo w u n (3 * n) (λ k x. Inside w s n x)
+front_row w is n u s tail l fit clean has a so calm =
+    let xs = take n is in
+    let ys = drop n is in
+    let v : Views = record { now = u; original = s; shadow = s; leads = λ a. false } in
+    let split : is ≡ take n is ++ drop n is = sym (take-append-drop n is) in
+    let count : length (take n is) ≡ n = length-take-le n is (omega (arith, l)) in
+    let f = each_front plus (λ i at. guards (used i) ++ bare i at) xs ys s.pc in
+    let all = each_same plus (λ i at. guards (used i) ++ bare i at) original guarded_original is s.pc ∙ each_plus original is s.pc in
+    let shape = ap (λ k. k ++ tail) (sym all ∙ ap (λ k. items_each plus (λ i at. guards (used i) ++ bare i at) k s.pc) split ∙ f.1) ∙ append_assoc (items_each plus (λ i at. guards (used i) ++ bare i at) xs s.pc) f.0 tail in
+    let fits = fit_front xs ys (subst AllFit split fit) in
+    let run1 = run_front (λ r. false) xs ys (subst (λ k. is_run k ≡ true) split clean) in
+    let has1 = has_front w.source s.pc xs ys (subst (HasAt w.source s.pc) split has) in
+    let needs = needs_originals plus (λ a h. refl) w xs (λ r. false) s.pc v fits run1 (λ r e. refl) so refl has1 (subst (λ k. NotTrapped (run s k)) (sym count) calm) in
+    let g = (quiet_front w.form xs s.pc fits).leads w v (f.0 ++ tail) tt (subst (λ k. At w u k s s) shape a) needs in
+    ⊎_elim
+    (λ e.
+    let m = gives_originals plus (λ a h. refl) w xs s.pc v g.to g.steps e.1 in
+    let t : Twice w g.to.now (run s n) g.to.shadow = subst (λ y. Twice w g.to.now y g.to.shadow) (m.original ∙ ap (run s) count) e.0.halved in
+    let three = cost_parts 3 (λ i. 0) (omega arith) (λ i. omega arith) xs in
+    record {
+      steps = g.steps;
+      to = g.to.now;
+      at_least = omega (arith, m.slow, count);
+      within = omega (arith, g.within, three, count);
+      walk = g.walk;
+      is = record { going = e.0.over.going; holds = record { output = t.output; originals = t.originals; bytes = t.bytes } };
+    })
+    (λ e. absurd (never_originals plus xs s.pc w v g.to g.steps e))
+    g.ends
+
 -- ---- the rows, with any checks
 module _ (w : World) (most : ℕ) (checks : List Item) (first steps : ℕ) (laws : ChecksLaws w.form checks first steps) (leader : ℕ → Bool) where
   abbrev v : Weave
@@ -161,47 +196,15 @@ module _ (w : World) (most : ℕ) (checks : List Item) (first steps : ℕ) (laws
 
   module _ (law : Mirrors w) where
     -- ---- a piece
-    -- the guarded originals
-    abbrev part : Ins → ℕ → List Item
-    part i at = guards (used i) ++ bare i at
-
     inside_law :
         (is : List Ins) (n : ℕ) (u s : State) (rest : List Item) → n < length is → PieceAt w v s.pc is → At w u (v.piece is s.pc ++ rest) s s
         → Sourced w s → NotTrapped (run s n) → GoesTo w u n v.piece_steps (λ k x. Inside w s n x)
     inside_law is n u s rest l p a so calm =
         let both = and_parts _ _ p.one in
-        let xs = take n is in
-        let ys = drop n is in
-        let tail = items_each plus w.form.mirror is s.pc ++ checks in
-        let split : is ≡ take n is ++ drop n is = sym (take-append-drop n is) in
-        let count : length (take n is) ≡ n = length-take-le n is (omega (arith, l)) in
-        let f = each_front plus part xs ys s.pc in
-        let same : v.piece is s.pc ≡ items_each plus part (take n is) s.pc ++ (f.0 ++ (items_each plus w.form.mirror is s.pc ++ checks)) =
-        sym (parts_are plus w.form.mirror checks is s.pc (λ part. each_plus part is s.pc)) ∙ ap (λ k. items_each plus part k s.pc ++ tail) split
-        ∙ ap (λ k. k ++ tail) f.1 ∙ append_assoc (items_each plus part xs s.pc) f.0 tail in
-        let shape = ap (λ k. k ++ rest) same ∙ append_assoc (items_each plus part xs s.pc) (f.0 ++ tail) rest in
-        let fit = fit_front xs ys (subst AllFit split p.fit) in
-        let clean = run_front (λ r. false) xs ys (subst (λ k. is_run k ≡ true) split both.0) in
-        let has = has_front w.source s.pc xs ys (subst (HasAt w.source s.pc) split p.has) in
-        let needs = needs_originals plus (λ a h. refl) w xs (λ r. false) s.pc (views u s) fit clean (λ r e. refl) so refl has (subst (λ k. NotTrapped (run s k)) (sym count) calm) in
-        let g = (quiet_front w.form xs s.pc fit).leads w (views u s) ((f.0 ++ tail) ++ rest) tt (subst (λ k. At w u k s s) shape a) needs in
-        ⊎_elim
-        (λ e.
-        let m = gives_originals plus (λ a h. refl) w xs s.pc (views u s) g.to g.steps e.1 in
-        let here : g.to.original ≡ run s n = m.original ∙ ap (run s) count in
-        let t : Twice w g.to.now (run s n) g.to.shadow = subst (λ y. Twice w g.to.now y g.to.shadow) here e.0.halved in
-        let three = cost_parts 3 (λ i. 0) (omega arith) (λ i. omega arith) xs in
         let few : 3 * n ≤ w.form.cost * most = mul-le-mul law.enough (let h = leb-true (length is) most both.1 in omega (arith, h, l)) in
-        record {
-          steps = g.steps;
-          to = g.to.now;
-          at_least = omega (arith, m.slow, count);
-          within = omega (arith, g.within, three, count, few);
-          walk = g.walk;
-          is = record { going = e.0.over.going; holds = record { output = t.output; originals = t.originals; bytes = t.bytes } };
-        })
-        (λ e. absurd (never_originals plus xs s.pc w (views u s) g.to g.steps e))
-        g.ends
+        let shape = append_assoc (each_part original is s.pc) (each_part w.form.mirror is s.pc ++ checks) rest in
+        let g = front_row w is n u s ((each_part w.form.mirror is s.pc ++ checks) ++ rest) l p.fit both.0 p.has (subst (λ k. At w u k s s) shape a) so calm in
+        record { steps = g.steps; to = g.to; at_least = g.at_least; within = omega (arith, g.within, few); walk = g.walk; is = g.is }
 
     piece_law :
         (is : List Ins) (u s : State) (rest : List Item) → PieceAt w v s.pc is → At w u (v.piece is s.pc ++ rest) s s → Sourced w s
@@ -314,43 +317,23 @@ module _ (w : World) (most : ℕ) where
   pub form_starts : (leader : ℕ → Bool) (f g : Program) → Starts f g w wv leader
   form_starts leader f g = starts_with w most both 0 both_steps (form_checks w.form) leader f g
 
-  -- ---- pieces
-  pub new_piece : (at : ℕ) (is : List Ins) → Piece w most at is → PieceAt w wv at is
-  new_piece at is p = record { has = p.has; fit = p.fits; one = and_from _ _ p.run (le-leb (length is) most p.short) }
-
-  pub new_pieces : (leader : ℕ → Bool) (ps : List (List Ins)) (e : End) (at : ℕ) → Pieces w leader most ps e at → PiecesAt w wv leader ps e at
-  new_pieces leader [] e at p = p
-  new_pieces leader (x ∷ ps) e at p = (new_piece at x p.0, new_pieces leader ps e (at + 4 * length x) p.1)
-
   -- ---- leaders with their entries
-  new_block : (leader : ℕ → Bool) (a : ℕ) → BlockAt w leader most a → EntryAt w wv leader a
-  new_block leader a b = record {
-    body = b.body;
-    end = b.end;
-    reads = subst (λ l. Reads w.form.far w.code w.entry (w.entry a) l) (sym (entry_same w.form most (record { start = a; body = b.body; end = b.end }))) b.reads;
-    good = record { low = b.low; pieces = new_pieces leader b.body b.end a b.pieces; some = b.some; full = b.full };
-  }
-
   pub woven_in : (f g : Program) (leader : ℕ → Bool) → WovenIn f g w leader most → Mirrors w → WeaveIn f g w wv leader
   woven_in f g leader x law = record {
     rows = form_rows leader law;
     starts = form_starts leader f g;
     world = x.world;
-    entries = λ a l. new_block leader a (x.blocks a l);
+    entries = x.entries;
     leads = x.leads;
     begins = x.begins;
   }
 
   -- ---- plans
-  new_blocks : (leader : ℕ → Bool) (bs : List Block) → AllGood w leader most bs → AllBlocksOf w wv leader bs
-  new_blocks leader [] g = tt
-  new_blocks leader (b ∷ bs) g = (record { low = g.0.low; pieces = new_pieces leader b.body b.end b.start g.0.pieces; some = g.0.some; full = g.0.full }, new_blocks leader bs g.1)
-
   pub new_plan : (f g : Program) (blocks : List Block) → Plan f g w most blocks → PlanOf f g w wv blocks
   new_plan f g blocks p = record {
     world = p.world;
     words = subst (λ l. Reads w.form.far w.code w.entry g.entry (prologue w.distance w.form.spans f.entry ++ (l ++ stub))) (sym (entries_same w.form most blocks)) p.words;
-    good = new_blocks (begins_at blocks) blocks p.good;
+    good = p.good;
     begins = p.begins;
   }
 

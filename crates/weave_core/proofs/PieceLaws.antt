@@ -42,6 +42,9 @@ never_each next cost gives leaves free (i ∷ is) at w v z n (inr c) = never_eac
 pub never_originals : (next : ℕ → ℕ) (is : List Ins) (at : ℕ) (w : World) (v z : Views) (n : ℕ) → LeavesEach next original_cost GivesOriginal LeavesOriginal is at w v n z → ⊥
 never_originals next is at w v z n l = never_each next original_cost GivesOriginal LeavesOriginal (λ i at w v n z c. c.last) is at w v z n l
 
+pub never_mirrors : (next : ℕ → ℕ) (cost : Ins → ℕ) (is : List Ins) (at : ℕ) (w : World) (v z : Views) (n : ℕ) → LeavesEach next cost GivesMirror LeavesMirror is at w v n z → ⊥
+never_mirrors next cost is at w v z n l = never_each next cost GivesMirror LeavesMirror (λ i at w v n z l. l) is at w v z n l
+
 -- ---- the checks of a piece
 -- what a pass behind the parts needs, gives and leaves: it needs no more than that both halves are equal and `also`, and does not leave
 pub record AreChecks (w : World) (needs : World → Views → Type 0) (gives leaves : World → Views → ℕ → Views → Type 0) (first round : ℕ) : Type 0 where
@@ -230,7 +233,7 @@ module _ (next : ℕ → ℕ) (plus : (a : ℕ) → a + 8 ≤ 2 ^ 63 → next a 
       never_piece v z n l =
           ⊎_elim
           (λ l. never_originals next is at w v z n l)
-          (λ c. ⊎_elim (λ l. never_each next cost GivesMirror LeavesMirror (λ i at w v n z l. l) is at w c.middle z c.more l) (λ d. are.never d.middle z d.more d.last) c.last)
+          (λ c. ⊎_elim (λ l. never_mirrors next cost is at w c.middle z c.more l) (λ d. are.never d.middle z d.more d.last) c.last)
           l
 
       pub piece_leads :

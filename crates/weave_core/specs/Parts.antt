@@ -1,17 +1,18 @@
 -- The parts of a piece, as passes: what each needs and gives.
-use Rattle.std.specs.Prelude.{◌≡◌, ℕ, ◌+◌, ◌*◌, ◌<◌, ◌≤◌, ◌⊎◌, ◌==◌, cond, Bool, List, [], ◌∷◌, ◌++◌, length}
+use Rattle.std.specs.Prelude.{◌≡◌, ℕ, ◌+◌, ◌*◌, ◌<◌, ◌≤◌, ◌⊎◌, ◌==◌, cond, Bool, true, List, [], ◌∷◌, ◌++◌, length}
 use Rattle.rv_isa.specs.declared.ins.Ins.{Ins}
 use Rattle.rv_isa.specs.declared.class.Class.{Class}
 use Rattle.rv_isa.specs.declared.class.Class.TheVariants as class
 use Rattle.rv_isa.specs.Kind.{class_of}
 use Rattle.qed_model.specs.declared.item.Item.{Item}
 use Rattle.qed_model.specs.declared.item.Item.TheVariants.{Plain, Constant}
-use Rattle.qed_model.specs.Machine.Step.{State, reg, Known, step, run, target}
+use Rattle.qed_model.specs.Machine.Step.{State, reg, Known, HasAt, step, run, target}
 use Rattle.qed_model.specs.Promise.Kept.{NotTrapped}
 use Rattle.qed_model.specs.Weave.Bounds.{visit_bound}
+use Rattle.qed_model.specs.Weave.Pieces.{is_run}
 use Rattle.qed_model.specs.Weave.Sequences.{guards, is_auipc}
 use Rattle.weave_core.specs.World.{World, words_on}
-use Rattle.weave_core.specs.Blocks.{FitsPiece, Piece}
+use Rattle.weave_core.specs.Blocks.{FitsPiece, AllFit}
 use Rattle.weave_core.specs.Rows.{Sourced}
 use Rattle.weave_core.specs.Kinds.{thirteen}
 use Rattle.weave_core.specs.Lock.{ComparesFrom}
@@ -146,6 +147,6 @@ pub record Pieced (w : World) (first round : ℕ) (is : List Ins) (s : State) (v
 -- many steps an instruction, 13, and those of the visits
 pub record PieceLeads (part round : ℕ) (spans : List (ℕ × ℕ)) (items : List Item) (is : List Ins) (at : ℕ) : Type 0 where
   pub leads :
-      (w : World) (v : Views) (most : ℕ) (rest : List Item) → w.form.spans ≡ spans → v.original ≡ v.shadow → v.original.pc ≡ at → Piece w most at is
-      → Sourced w v.original → NotTrapped (run v.original (length is)) → Stands w v (items ++ rest)
+      (w : World) (v : Views) (rest : List Item) → w.form.spans ≡ spans → v.original ≡ v.shadow → v.original.pc ≡ at → HasAt w.source at is
+      → AllFit is → is_run is ≡ true → Sourced w v.original → NotTrapped (run v.original (length is)) → Stands w v (items ++ rest)
       → Leads w v (part * length is + (13 + visit_bound (length spans) * round)) rest (Pieced w (part * length is) round is v.original v) none

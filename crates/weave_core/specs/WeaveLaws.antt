@@ -15,7 +15,7 @@ use Rattle.qed_model.specs.Weave.Sequences.{Reads, End, Falls, Stops, Block}
 use Rattle.weave_core.specs.World.{World, Quiet, Twice, words_on}
 use Rattle.weave_core.specs.Blocks.{AllFit, Full, EndStands, IsEntryOf}
 use Rattle.weave_core.specs.Rows.{At, Sourced}
-use Rattle.weave_core.specs.WovenIn.{Describes}
+use Rattle.weave_core.specs.Describes.{Describes}
 use Rattle.weave_core.specs.Lock.{first_load, ComparesFrom}
 use Rattle.weave_core.specs.KindItems.{LockItems, LandItems, GoodEnd}
 use Rattle.weave_core.specs.Kinds.{thirteen}

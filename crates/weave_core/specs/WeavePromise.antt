@@ -17,7 +17,7 @@ use Rattle.qed_model.specs.Weave.Placed.{instructions_from}
 use Rattle.qed_model.specs.Weave.Sequences.{Reads, Block}
 use Rattle.qed_model.specs.Admission.DataRanges.{word_count}
 use Rattle.weave_core.specs.World.{World}
-use Rattle.weave_core.specs.WovenIn.{Describes}
+use Rattle.weave_core.specs.Describes.{Describes}
 use Rattle.weave_core.specs.Weave.{Weave, entries_of, code_of, start_steps, stage_steps}
 use Rattle.weave_core.specs.WeaveLaws.{BlockOf, Rows, Starts, Guarded, Words}
 

@@ -1,1 +1,3 @@
 pub mod One
+pub mod Cut
+pub mod Joined

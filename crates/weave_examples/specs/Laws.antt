@@ -1,5 +1,5 @@
 -- The three laws of the comparison of x10.
-use Rattle.std.proofs.Common.{◌≡◌, ℕ, List, [], ◌∷◌, ap, arith}
+use Rattle.std.proofs.Common.{◌≡◌, [], ◌∷◌, ap, arith}
 use Rattle.qed_model.specs.Machine.Step.{reg}
 use Rattle.qed_model.specs.Weave.Sequences.{guard}
 use Rattle.weave_core.proofs.Compose.{quiet_guards}

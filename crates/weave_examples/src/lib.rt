@@ -1,9 +1,10 @@
-//! An example of a pass of one's own. It compares x10 with its pair in the middle of a piece: behind the parts of its instructions,
-//! and before the comparison of all registers. With the three laws of the pass the new code keeps the values and catches changes; no
-//! induction is made again.
+//! Examples of weaves, which no program weaves. `CompareOne` is a pass of one's own: it compares x10 with its pair in the middle of a
+//! piece, behind the parts of its instructions and before the comparison of all registers. With its three laws the new code keeps the
+//! values and catches changes. `joined_pieces` is a leaner weave. No induction is made again for either.
 #![tactic(auto)]
 
 ghost use Rattle.weave_examples.specs.Promise.{OneKept, OneCaught};
+ghost use Rattle.weave_examples.specs.Joined.{cut_runs, CutsRuns, JoinedKept, JoinedLanded, JoinedCaught, JoinedClean};
 
 use passes::{Emit, Pass, put_guard, register};
 use rv_isa::Ins;
@@ -55,4 +56,14 @@ pub fn one_kept()
 /// Changes in the new code with the pass are caught within the bounds of its weave.
 pub fn one_caught()
     ensures { OneCaught }
+{}
+
+/// Several runs, each with its original and its mirror parts, are one piece, behind which all registers are compared once: all
+/// promises hold of such a weave too, with the bounds of its longer pieces. Any instructions are cut into such runs.
+pub fn joined_pieces()
+    ensures cut { CutsRuns }
+    ensures kept { JoinedKept cut_runs }
+    ensures landed { JoinedLanded cut_runs }
+    ensures caught { JoinedCaught cut_runs }
+    ensures clean { JoinedClean cut_runs }
 {}

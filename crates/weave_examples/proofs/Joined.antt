@@ -1,0 +1,285 @@
+-- Joined pieces meet the laws of a weave: the lemmas of their own are those on a piece.
+use Rattle.std.proofs.Common.{◌≡◌, ℕ, ◌+◌, ◌-◌, ◌*◌, ◌<◌, ◌≤◌, ⊎_elim, Bool, true, false, List, [], ◌∷◌, ◌++◌, length, refl, sym, ap, ◌∙◌, subst, arith, append_assoc, length-append}
+use Rattle.std.proofs.lemmas.Bool.{and_parts, leb-true, cases_lt}
+use Rattle.std.proofs.Math.Nat.{mul-le-mul, mul-le-mul_left}
+use Rattle.rv_isa.specs.declared.ins.Ins.{Ins}
+use Rattle.rv_isa.specs.declared.kind.Kind.TheVariants.{Auipc}
+use Rattle.qed_model.specs.declared.item.Item.{Item}
+use Rattle.qed_model.specs.Machine.Table.{ins}
+use Rattle.qed_model.specs.Machine.Step.{State, HasAt, run}
+use Rattle.qed_model.specs.Machine.Program.{Program}
+use Rattle.qed_model.specs.Promise.Kept.{NotTrapped}
+use Rattle.qed_model.specs.Weave.Blocks.{begins_at}
+use Rattle.qed_model.specs.Weave.Pieces.{is_run, whole}
+use Rattle.qed_model.specs.Weave.Placed.{distance_between, upper_part}
+use Rattle.qed_model.specs.Weave.Sequences.{Form, guards, original, each_part, compare, visit}
+use Rattle.qed_model.proofs.Walk.{run-more}
+use Rattle.qed_model.proofs.Walked.{walk_on}
+use Rattle.weave_core.specs.World.{World, Quiet as Calm}
+use Rattle.weave_core.specs.Blocks.{FitsPiece, AllFit}
+use Rattle.weave_core.specs.Rows.{At, Sourced, Led, Mirrors}
+use Rattle.weave_core.specs.KindItems.{LockItems, Straight, MirrorsFit}
+use Rattle.weave_core.specs.Pass.{Views}
+use Rattle.weave_core.specs.Each.{items_each}
+use Rattle.weave_core.specs.Parts.{any, used, bare, GivesMirror, LeavesMirror}
+use Rattle.weave_core.specs.Weave.{Weave}
+use Rattle.weave_core.specs.WeaveLaws.{PieceAt, Holds, GoesTo, Inside, Behind, Words, Rows, Starts}
+use Rattle.weave_core.proofs.Rows.{led_on, led_none, led_more}
+use Rattle.weave_core.proofs.Source.{source_run, not_trapped_front, has_front}
+use Rattle.weave_core.proofs.Visit.{checked_behind}
+use Rattle.weave_core.proofs.KindItems.{items_then, items_none, originals_each, mirrors_each}
+use Rattle.weave_core.proofs.Landing.{has_rest, straight_then, straight_none, straight_originals, straight_mirrors, land_behind}
+use Rattle.weave_core.proofs.Compose.{quiet_then, quiet_each, each_same}
+use Rattle.weave_core.proofs.PieceLaws.{never_originals, never_mirrors, for_mirrors, needs_originals, needs_mirrors, gives_originals, gives_mirrors, cost_parts, guarded_original}
+use Rattle.weave_core.proofs.FormRows.{plus, each_plus, NeedsOther, other_cost, quiet_other, quiet_front, front_row, both, both_steps, form_checks, enter_law, leave_row, starts_with, form_guarded}
+use Rattle.weave_core.proofs.Values.{weave_kept}
+use Rattle.weave_core.proofs.Landings.{weave_landed}
+use Rattle.lockstep.proofs.FormWords.{form_words, visits_ten}
+use Rattle.lockstep.proofs.Promise.{weave_caught}
+use Rattle.lockstep.proofs.Cleaned.{weave_clean}
+use Rattle.weave_examples.specs.Joined.{all_runs, runs_items, joined, JoinedKept, JoinedLanded, JoinedCaught, JoinedClean}
+
+-- ---- lists in two parts
+fit_parts : (xs ys : List Ins) → AllFit (xs ++ ys) → AllFit xs × AllFit ys
+fit_parts [] ys h = (tt, h)
+fit_parts (x ∷ xs) ys h = let r = fit_parts xs ys h.1 in ((h.0, r.0), r.1)
+
+module _ (w : World) (law : Mirrors w) where
+  -- both parts of one run, and what stands behind it
+  one_run :
+      (r : List Ins) (u s : State) (rest : List Item) → is_run r ≡ true → AllFit r → HasAt w.source s.pc r
+      → At w u ((each_part original r s.pc ++ each_part w.form.mirror r s.pc) ++ rest) s s → Sourced w s → NotTrapped (run s (length r))
+      → Led w u (length r) (w.form.cost * length r) rest (run s (length r)) (run s (length r))
+  one_run r u s rest clean fit has a so calm =
+      let v : Views = record { now = u; original = s; shadow = s; leads = λ a. false } in
+      let os = each_same plus (λ i at. guards (used i) ++ bare i at) original guarded_original r s.pc ∙ each_plus original r s.pc in
+      let same = ap (λ l. l ++ each_part w.form.mirror r s.pc) (sym os) ∙ ap (λ l. items_each plus (λ i at. guards (used i) ++ bare i at) r s.pc ++ l) (sym (each_plus w.form.mirror r s.pc)) in
+      let mirrors = quiet_each plus any (λ i at. FitsPiece i) (λ i. []) w.form.mirror (NeedsOther w.form) GivesMirror LeavesMirror (other_cost w.form) (quiet_other w.form) r s.pc (for_mirrors plus r s.pc fit) in
+      let g = (quiet_then any any _ _ _ _ _ _ _ _ _ _ (quiet_front w.form r s.pc fit) mirrors).leads w v rest (tt, tt) (subst (λ l. At w u (l ++ rest) s s) same a) (
+        needs_originals plus (λ a h. refl) w r (λ r. false) s.pc v fit clean (λ r e. refl) so refl has calm,
+        λ n y o.
+            let es : y.shadow ≡ s = (gives_originals plus (λ a h. refl) w r s.pc v y n o).shadow in
+            needs_mirrors plus (λ a h. refl) w (NeedsOther w.form) (λ i at v r. (refl, law, r)) r s.pc y fit (subst (Sourced w) (sym es) so) (ap (λ s. s.pc) es) (subst (λ s. HasAt w.source s.pc r) (sym es) has) (subst (λ s. NotTrapped (run s (length r))) (sym es) calm),
+      ) in
+      ⊎_elim
+      (λ e.
+      let c = e.1 in
+      let o = gives_originals plus (λ a h. refl) w r s.pc v c.middle c.some c.first in
+      let m = gives_mirrors plus (λ a h. refl) w (other_cost w.form) r s.pc c.middle g.to c.more c.last in
+      let few = cost_parts w.form.cost (other_cost w.form) law.enough (λ i. omega arith) r in
+      let a1 : At w g.to.now rest (run s (length r)) g.to.shadow = subst (λ y. At w g.to.now rest y g.to.shadow) (m.original ∙ o.original) e.0 in
+      record {
+        steps = g.steps;
+        to = g.to.now;
+        at_least = omega (arith, o.slow, c.sum);
+        within = omega (arith, g.within, few);
+        walk = g.walk;
+        at = subst (λ y. At w g.to.now rest (run s (length r)) y) (m.shadow ∙ ap (λ s. run s (length r)) o.shadow) a1;
+        cursor = m.cursor ∙ o.cursor;
+      })
+      (λ l. absurd (⊎_elim (λ f. never_originals plus r s.pc w v g.to g.steps f) (λ c. never_mirrors plus (other_cost w.form) r s.pc w c.middle g.to c.more c.last) l))
+      g.ends
+
+  -- through all runs
+  runs_row :
+      (rs : List (List Ins)) (u s : State) (rest : List Item) → all_runs rs ≡ true → AllFit (whole rs) → HasAt w.source s.pc (whole rs)
+      → At w u (runs_items w.form rs s.pc ++ rest) s s → Sourced w s → NotTrapped (run s (length (whole rs)))
+      → Led w u (length (whole rs)) (w.form.cost * length (whole rs)) rest (run s (length (whole rs))) (run s (length (whole rs)))
+  unfolding run
+  runs_row [] u s rest is fit has a so calm = led_more w u 0 0 0 (w.form.cost * 0) rest s s (omega arith) (omega arith) (led_none w u rest s s a)
+  runs_row (r ∷ rs) u s rest is fit has a so calm =
+      let ys = whole rs in
+      let both = and_parts _ _ is in
+      let f = fit_parts r ys fit in
+      let t = run s (length r) in
+      let len : length (r ++ ys) ≡ length r + length ys = length-append r ys in
+      let last : run s (length (r ++ ys)) ≡ run t (length ys) = ap (run s) len ∙ run-more s (length r) (length ys) in
+      let calm2 : NotTrapped (run t (length ys)) = subst NotTrapped last calm in
+      let calm1 = not_trapped_front (length ys) t calm2 in
+      let x = source_run w r (length r) s (omega arith) f.0 so (has_front w.source s.pc r ys has) calm1 in
+      let here = each_part original r s.pc ++ each_part w.form.mirror r s.pc in
+      let mid = runs_items w.form rs (s.pc + 4 * length r) ++ rest in
+      let a1 : At w u (here ++ mid) s s = subst (λ l. At w u l s s) (append_assoc here (runs_items w.form rs (s.pc + 4 * length r)) rest) a in
+      let first = one_run r u s mid both.0 f.0 (has_front w.source s.pc r ys has) a1 so calm1 in
+      let n = w.form.cost * length r in
+      let m = w.form.cost * length ys in
+      let all = led_on w u (length r) n (length ys) m mid rest t t (run t (length ys)) (run t (length ys)) first
+      (λ y b. runs_row rs y t rest both.1 f.1 (subst (λ p. HasAt w.source p ys) (sym x.pc) (has_rest w.source s.pc r ys has)) (subst (λ p. At w y (runs_items w.form rs p ++ rest) t t) (sym x.pc) b) x.sourced calm2) in
+      let same : w.form.cost * length r + w.form.cost * length ys ≡ w.form.cost * length (r ++ ys) = omega arith ∙ ap (λ k. w.form.cost * k) (sym len) in
+      led_more w u (length r + length ys) (n + m) (length (r ++ ys)) (w.form.cost * length (r ++ ys)) rest (run s (length (r ++ ys))) (run s (length (r ++ ys))) (omega (arith, len)) (omega (arith, same)) (subst (λ z. Led w u (length r + length ys) (n + m) rest z z) (sym last) all)
+
+  -- to the n-th instruction
+  runs_inside :
+      (rs : List (List Ins)) (n : ℕ) (u s : State) (rest : List Item) → n < length (whole rs) → all_runs rs ≡ true → AllFit (whole rs)
+      → HasAt w.source s.pc (whole rs) → At w u (runs_items w.form rs s.pc ++ rest) s s → Sourced w s → NotTrapped (run s n)
+      → GoesTo w u n (w.form.cost * length (whole rs)) (λ k x. Inside w s n x)
+  runs_inside [] n u s rest l is fit has a so calm = absurd (omega (arith, l))
+  runs_inside (r ∷ rs) n u s rest l is fit has a so calm = ⊎_elim inside (λ h. behind (λ k y t few here b x c. runs_inside rs k y t rest few both.1 f.1 here b x c) h) (cases_lt n (length r)) where
+    ys : List Ins
+    ys = whole rs
+
+    both : (is_run r ≡ true) × (all_runs rs ≡ true)
+    both = and_parts _ _ is
+
+    f : AllFit r × AllFit (whole rs)
+    f = fit_parts r (whole rs) fit
+
+    front : HasAt w.source s.pc r
+    front = has_front w.source s.pc r (whole rs) has
+
+    mid : List Item
+    mid = runs_items w.form rs (s.pc + 4 * length r) ++ rest
+
+    len : length (r ++ whole rs) ≡ length r + length (whole rs)
+    len = length-append r (whole rs)
+
+    a1 : At w u ((each_part original r s.pc ++ each_part w.form.mirror r s.pc) ++ mid) s s
+    a1 = subst (λ l. At w u l s s) (append_assoc (each_part original r s.pc ++ each_part w.form.mirror r s.pc) (runs_items w.form rs (s.pc + 4 * length r)) rest) a
+
+    -- in this run
+    inside : n < length r → GoesTo w u n (w.form.cost * length (r ++ whole rs)) (λ k x. Inside w s n x)
+    inside h =
+        let a2 : At w u (each_part original r s.pc ++ (each_part w.form.mirror r s.pc ++ mid)) s s = subst (λ l. At w u l s s) (append_assoc (each_part original r s.pc) (each_part w.form.mirror r s.pc) mid) a1 in
+        let g = front_row w r n u s (each_part w.form.mirror r s.pc ++ mid) h f.0 both.0 front a2 so calm in
+        let few : n ≤ length (r ++ whole rs) = omega (arith, h, len) in
+        let m : 3 * n ≤ w.form.cost * length (r ++ whole rs) = mul-le-mul law.enough few in
+        record { steps = g.steps; to = g.to; at_least = g.at_least; within = omega (arith, g.within, m); walk = g.walk; is = g.is }
+
+    -- in a later one
+    behind :
+        ((k : ℕ) (y t : State) → k < length (whole rs) → HasAt w.source t.pc (whole rs) → At w y (runs_items w.form rs t.pc ++ rest) t t → Sourced w t → NotTrapped (run t k) → GoesTo w y k (w.form.cost * length (whole rs)) (λ j x. Inside w t k x))
+        → length r ≤ n → GoesTo w u n (w.form.cost * length (r ++ whole rs)) (λ k x. Inside w s n x)
+    behind rec h =
+        let t = run s (length r) in
+        let k = n - length r in
+        let sum : length r + (n - length r) ≡ n = omega (arith, h) in
+        let last : run s n ≡ run (run s (length r)) (n - length r) = ap (run s) (sym sum) ∙ run-more s (length r) (n - length r) in
+        let calm2 : NotTrapped (run (run s (length r)) (n - length r)) = subst NotTrapped last calm in
+        let calm1 = not_trapped_front k t calm2 in
+        let x = source_run w r (length r) s (omega arith) f.0 so front calm1 in
+        let g = one_run r u s mid both.0 f.0 front a1 so calm1 in
+        let b : At w g.to (runs_items w.form rs t.pc ++ rest) t t = subst (λ p. At w g.to (runs_items w.form rs p ++ rest) t t) (sym x.pc) g.at in
+        let y = rec k g.to t (omega (arith, h, l, len)) (subst (λ p. HasAt w.source p (whole rs)) (sym x.pc) (has_rest w.source s.pc r (whole rs) has)) b x.sourced calm2 in
+        let same : w.form.cost * length r + w.form.cost * length (whole rs) ≡ w.form.cost * length (r ++ whole rs) = omega arith ∙ ap (λ k. w.form.cost * k) (sym len) in
+        record {
+          steps = g.steps + y.steps;
+          to = y.to;
+          at_least = omega (arith, g.at_least, y.at_least, sum);
+          within = omega (arith, g.within, y.within, same);
+          walk = walk_on (Calm w) u g.to y.to g.steps y.steps g.walk y.walk;
+          is = record { going = y.is.going; holds = subst (λ z. Holds w y.to z) (sym last) y.is.holds };
+        }
+
+-- ---- the words
+module _ (form : Form) (m : MirrorsFit form.far form.mirror) where
+  runs_locks : (rs : List (List Ins)) (at : ℕ) → AllFit (whole rs) → LockItems form.far (runs_items form rs at)
+  runs_locks [] at h = items_none form.far
+  runs_locks (r ∷ rs) at h =
+      let f = fit_parts r (whole rs) h in
+      items_then form.far (each_part original r at ++ each_part form.mirror r at) (runs_items form rs (at + 4 * length r))
+      (items_then form.far (each_part original r at) (each_part form.mirror r at) (originals_each form.far r at f.0) (mirrors_each form.far form.mirror m r at f.0))
+      (runs_locks rs (at + 4 * length r) f.1)
+
+  runs_straight : (rs : List (List Ins)) (at : ℕ) → AllFit (whole rs) → Straight form.far (runs_items form rs at)
+  runs_straight [] at h = straight_none form.far
+  runs_straight (r ∷ rs) at h =
+      let f = fit_parts r (whole rs) h in
+      straight_then form.far (each_part original r at ++ each_part form.mirror r at) (runs_items form rs (at + 4 * length r))
+      (straight_then form.far (each_part original r at) (each_part form.mirror r at) (straight_originals form.far r at f.0) (straight_mirrors form.far form.mirror m r at f.0))
+      (runs_straight rs (at + 4 * length r) f.1)
+
+-- ---- the laws
+module _ (cut : List Ins → List (List Ins)) (keeps : (is : List Ins) → whole (cut is) ≡ is) where
+  joined_words : (form : Form) (most : ℕ) → MirrorsFit form.far form.mirror → Words form.far (joined cut form most)
+  joined_words form most m =
+      let old = form_words form most m in
+      let laws = (form_checks form).lockstep in
+      let checks = compare ++ visit form.round form.spans in
+      record {
+        first_locks = old.first_locks;
+        first_lands = old.first_lands;
+        enter_locks = old.enter_locks;
+        enter_lands = old.enter_lands;
+        piece_locks = λ is at h. items_then form.far (runs_items form (cut is) at) checks (runs_locks form m (cut is) at (subst AllFit (sym (keeps is)) h)) (laws.locks form.far tt);
+        piece_lands = λ is at h. land_behind form.far (runs_items form (cut is) at) checks (runs_straight form m (cut is) at (subst AllFit (sym (keeps is)) h)) (laws.lands form.far tt);
+        leave_locks = old.leave_locks;
+        leave_lands = old.leave_lands;
+      }
+
+  module _ (w : World) (most : ℕ) (leader : ℕ → Bool) (law : Mirrors w) where
+    abbrev j : Weave
+    j = joined cut w.form most
+
+    abbrev checks : List Item
+    checks = both w most
+
+    few : (is : List Ins) → j.fits is ≡ true → w.form.cost * length is ≤ w.form.cost * most
+    few is e = mul-le-mul_left w.form.cost (leb-true (length is) most (and_parts _ _ e).1)
+
+    inside_law :
+        (is : List Ins) (n : ℕ) (u s : State) (rest : List Item) → n < length is → PieceAt w j s.pc is → At w u (j.piece is s.pc ++ rest) s s
+        → Sourced w s → NotTrapped (run s n) → GoesTo w u n j.piece_steps (λ k x. Inside w s n x)
+    inside_law is n u s rest l p a so calm =
+        let a1 = subst (λ l. At w u l s s) (append_assoc (runs_items w.form (cut is) s.pc) checks rest) a in
+        let count : length (whole (cut is)) ≡ length is = ap length (keeps is) in
+        let g = runs_inside w law (cut is) n u s (checks ++ rest) (omega (arith, l, count)) (and_parts _ _ p.one).0 (subst AllFit (sym (keeps is)) p.fit) (subst (HasAt w.source s.pc) (sym (keeps is)) p.has) a1 so calm in
+        let m = few is p.one in
+        let same : w.form.cost * length (whole (cut is)) ≡ w.form.cost * length is = ap (λ k. w.form.cost * k) count in
+        record { steps = g.steps; to = g.to; at_least = g.at_least; within = omega (arith, g.within, m, same); walk = g.walk; is = g.is }
+
+    piece_law :
+        (is : List Ins) (u s : State) (rest : List Item) → PieceAt w j s.pc is → At w u (j.piece is s.pc ++ rest) s s → Sourced w s
+        → NotTrapped (run s (length is)) → GoesTo w u (length is) j.piece_steps (Behind w j u s (length is) rest)
+    piece_law is u s rest p a so calm =
+        let t = run s (length is) in
+        let count : length (whole (cut is)) ≡ length is = ap length (keeps is) in
+        let a1 = subst (λ l. At w u l s s) (append_assoc (runs_items w.form (cut is) s.pc) checks rest) a in
+        let b0 = runs_row w law (cut is) u s (checks ++ rest) (and_parts _ _ p.one).0 (subst AllFit (sym (keeps is)) p.fit) (subst (HasAt w.source s.pc) (sym (keeps is)) p.has) a1 so (subst (λ n. NotTrapped (run s n)) (sym count) calm) in
+        let b : Led w u (length is) (w.form.cost * length is) (both w most ++ rest) t t = subst (λ n. Led w u n (w.form.cost * n) (both w most ++ rest) (run s n) (run s n)) count b0 in
+        let x = (form_checks w.form).quiet.leads w (record { now = b.to; original = t; shadow = t; leads = leader }) rest tt b.at (refl, refl) in
+        let m = few is p.one in
+        ⊎_elim
+        (λ e.
+        let a2 : At w x.to.now rest t x.to.shadow = subst (λ y. At w x.to.now rest y x.to.shadow) e.1.original e.0 in
+        record {
+          steps = b.steps + x.steps;
+          to = x.to.now;
+          at_least = omega (arith, b.at_least);
+          within = omega (arith, b.within, x.within, m);
+          walk = walk_on (Calm w) u b.to x.to.now b.steps x.steps b.walk x.walk;
+          is = (subst (λ y. At w x.to.now rest t y) e.1.shadow a2, checked_behind w 0 w.form.round u b.to x.to.now b.steps (w.form.cost * most) x.steps (b.steps + x.steps) b.walk.ends b.cursor (omega (arith, b.within, m)) refl e.1.checked);
+        })
+        (λ l. absurd l)
+        x.ends
+
+    joined_rows : Rows w j leader
+    joined_rows = record {
+      short = λ is e. let m : 3 * length is ≤ w.form.cost * length is = mul-le-mul law.enough (omega arith) in let h = few is e in omega (arith, h, m);
+      known = λ a b.
+          let i = ins Auipc 30 0 0 (upper_part (distance_between (w.entry a) a)) in
+          record { low = b.good.low; entry_low = omega (arith, w.low (w.entry a) i b.reads.1.0); grain = w.grain (w.entry a) i b.reads.1.0 };
+      enter = enter_law w most checks 0 (both_steps w most) (form_checks w.form) leader;
+      inside = inside_law;
+      piece = piece_law;
+      leave = leave_row w most checks 0 (both_steps w most) (form_checks w.form) leader law;
+    }
+
+    joined_starts : (f g : Program) → Starts f g w j leader
+    joined_starts f g = let old = starts_with w most checks 0 (both_steps w most) (form_checks w.form) leader f g in record { first = old.first }
+
+  -- ---- the promises
+  pub kept : JoinedKept cut
+  kept f g w most blocks p law = weave_kept f g w (joined cut w.form most) blocks p (joined_rows w most (begins_at blocks) law) (joined_starts w most (begins_at blocks) law f g)
+
+  pub landed : JoinedLanded cut
+  landed f g w most blocks entries p law known = weave_landed f g w (joined cut w.form most) blocks entries p (joined_rows w most (begins_at blocks) law) (joined_starts w most (begins_at blocks) law f g) (let o = form_guarded w most (both w most) 0 (both_steps w most) in record { signed = o.signed; fires = o.fires }) known
+
+  pub caught : JoinedCaught cut
+  caught f g w most blocks bounds p law fit closed some b =
+      let ten = visits_ten (length w.form.spans) w.form.round some in
+      weave_caught f g w (joined cut w.form most) blocks bounds p (joined_rows w most (begins_at blocks) law) (joined_starts w most (begins_at blocks) law f g) (joined_words w.form most fit) closed some (omega arith) (omega (arith, ten)) b
+
+  pub clean : JoinedClean cut
+  clean f g w most blocks p law fit closed some sweeps =
+      let ten = visits_ten (length w.form.spans) w.form.round some in
+      weave_clean f g w (joined cut w.form most) blocks p (joined_rows w most (begins_at blocks) law) (joined_starts w most (begins_at blocks) law f g) (joined_words w.form most fit) closed some (omega arith) (omega (arith, ten)) sweeps

@@ -1,0 +1,74 @@
+-- Joined pieces: several runs, each with its original and its mirror parts, are one piece, with one comparison and the visits of one
+-- piece behind them. Entry, leave and what runs first are those of a form.
+use Rattle.std.specs.Prelude.{◌≡◌, ◌≤◌, ℕ, ◌+◌, ◌*◌, Bool, true, cond, ◌&&◌, nat_le, List, [], ◌∷◌, ◌++◌, length}
+use Rattle.rv_isa.specs.declared.ins.Ins.{Ins}
+use Rattle.qed_model.specs.declared.bounds.Bounds.{Bounds}
+use Rattle.qed_model.specs.declared.item.Item.{Item}
+use Rattle.qed_model.specs.declared.plan.EntryRow.{EntryRow}
+use Rattle.qed_model.specs.Machine.Program.{Program}
+use Rattle.qed_model.specs.Promise.Caught.{Caught}
+use Rattle.qed_model.specs.Promise.Clean.{Clean}
+use Rattle.qed_model.specs.Promise.Kept.{Kept}
+use Rattle.qed_model.specs.Promise.Landed.{IsEntry, Landed}
+use Rattle.qed_model.specs.Weave.Blocks.{begins_at}
+use Rattle.qed_model.specs.Weave.Pieces.{is_run, whole}
+use Rattle.qed_model.specs.Weave.Sequences.{Form, Block, original, each_part, compare, visit}
+use Rattle.weave_core.specs.World.{World}
+use Rattle.weave_core.specs.Rows.{Mirrors}
+use Rattle.weave_core.specs.KindItems.{MirrorsFit}
+use Rattle.weave_core.specs.Weave.{Weave, start_steps, stage_steps}
+use Rattle.weave_core.specs.WeaveForms.{weave_of}
+use Rattle.weave_core.specs.WeavePromise.{PlanOf, OnlyCode, BoundsOf}
+
+-- each is a run
+abbrev pub all_runs : List (List Ins) → Bool
+all_runs [] = true
+all_runs (r ∷ rs) = is_run r && all_runs rs
+
+-- all parts of runs one behind the other
+abbrev pub runs_items : Form → List (List Ins) → ℕ → List Item
+runs_items form [] at = []
+runs_items form (r ∷ rs) at = (each_part original r at ++ each_part form.mirror r at) ++ runs_items form rs (at + 4 * length r)
+
+-- with a way of cutting instructions into runs, and `most` instructions in a piece
+abbrev pub joined : (List Ins → List (List Ins)) → Form → ℕ → Weave
+joined cut form most = record (weave_of form most) {
+  fits = λ is. all_runs (cut is) && nat_le (length is) most;
+  piece = λ is at. runs_items form (cut is) at ++ (compare ++ visit form.round form.spans);
+}
+
+-- a way of cutting: from the end on, each run as long as it can be
+abbrev pub put_first : Ins → List (List Ins) → List (List Ins)
+put_first i [] = (i ∷ []) ∷ []
+put_first i (r ∷ rs) = cond (is_run (i ∷ r)) ((i ∷ r) ∷ rs) ((i ∷ []) ∷ r ∷ rs)
+
+abbrev pub cut_runs : List Ins → List (List Ins)
+cut_runs [] = []
+cut_runs (i ∷ is) = put_first i (cut_runs is)
+
+-- ---- what is promised of them, with any way of cutting that keeps the instructions
+abbrev pub JoinedKept : (List Ins → List (List Ins)) → Type 0
+JoinedKept cut =
+    (f g : Program) (w : World) (most : ℕ) (blocks : List Block) → PlanOf f g w (joined cut w.form most) blocks → Mirrors w
+    → Kept f g (start_steps (joined cut w.form most)) (stage_steps (joined cut w.form most))
+
+abbrev pub JoinedLanded : (List Ins → List (List Ins)) → Type 0
+JoinedLanded cut =
+    (f g : Program) (w : World) (most : ℕ) (blocks : List Block) (entries : List EntryRow) → PlanOf f g w (joined cut w.form most) blocks → Mirrors w
+    → ((a e : ℕ) → IsEntry entries a e → (begins_at blocks a ≡ true) × (e ≡ w.entry a)) → Landed f g entries
+
+abbrev pub JoinedCaught : (List Ins → List (List Ins)) → Type 0
+JoinedCaught cut =
+    (f g : Program) (w : World) (most : ℕ) (blocks : List Block) (bounds : Bounds) → PlanOf f g w (joined cut w.form most) blocks → Mirrors w
+    → MirrorsFit w.form.far w.form.mirror → OnlyCode f g w (joined cut w.form most) blocks → 1 ≤ w.form.round
+    → BoundsOf w (joined cut w.form most) bounds → Caught f g w.form.spans bounds
+
+abbrev pub JoinedClean : (List Ins → List (List Ins)) → Type 0
+JoinedClean cut =
+    (f g : Program) (w : World) (most : ℕ) (blocks : List Block) → PlanOf f g w (joined cut w.form most) blocks → Mirrors w
+    → MirrorsFit w.form.far w.form.mirror → OnlyCode f g w (joined cut w.form most) blocks → 1 ≤ w.form.round → w.form.sweep ≡ true
+    → Clean f g w.form.spans ((joined cut w.form most).sweep_steps + 14)
+
+-- that the cut above keeps them, and gives runs: so each list of at most so many instructions is one piece
+abbrev pub CutsRuns : Type 0
+CutsRuns = (is : List Ins) → (whole (cut_runs is) ≡ is) × (all_runs (cut_runs is) ≡ true)
