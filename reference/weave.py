@@ -251,7 +251,7 @@ class Bounds:
 
 def bounds(words: int, ranges: int, options: Options, far: bool) -> Bounds:
     """The bounds of so many data words in so many ranges ("Bounds")."""
-    visited = 7 + 3 * ranges if ranges else 10
+    visited = 7 + 3 * (ranges if words else 1)
     piece = 30 + (8 if options.diverse else 5) * options.inst_max + visited * options.round
     start = (33 if far else 32) + (2 * ranges + 8 * words + 14 if options.sweep else 0)
     word = start + (-(-words // options.round) + 2) * piece if words else None

@@ -14,11 +14,11 @@ fn fitting(number: u128) -> Option<u64>
     u64::try_from(number).ok()
 }
 
-/// The steps of a visited data word, with so many data ranges.
-fn visit(ranges: u64) -> Option<u64>
-    ensures { result ≡ fitting (visit_bound ranges) }
+/// The steps of a visited data word, of so many in so many data ranges.
+fn visit(words: u64, ranges: u64) -> Option<u64>
+    ensures { result ≡ fitting (visit_bound words ranges) }
 {
-    if ranges == 0 {
+    if words == 0 {
         Some(10)
     } else {
         fitting(7 + 3 * u128::from(ranges))
@@ -28,9 +28,9 @@ fn visit(ranges: u64) -> Option<u64>
 /// The steps of a visit of `round` data words.
 fn round(shape: &Shape) -> Option<u64>
     requires { 1 ≤ shape.now.round }
-    ensures { result ≡ fitting (visit_bound shape.now.ranges * shape.now.round) }
+    ensures { result ≡ fitting (visit_bound shape.now.words shape.now.ranges * shape.now.round) }
 {
-    let visit = visit(shape.ranges)?;
+    let visit = visit(shape.words, shape.ranges)?;
     fitting(u128::from(visit) * u128::from(shape.round))
 }
 

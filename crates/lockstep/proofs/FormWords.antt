@@ -1,5 +1,5 @@
 -- Today's forms meet the laws of the words and of the entry, and so the promises of a plan follow from those of any weave.
-use Rattle.std.proofs.Common.{◌≡◌, ℕ, zero, suc, ◌+◌, ◌*◌, ◌≤◌, List, ◌++◌, length, sym, ap, ◌∙◌, subst, arith}
+use Rattle.std.proofs.Common.{◌≡◌, ℕ, zero, suc, ◌+◌, ◌*◌, ◌≤◌, List, [], ◌∷◌, ◌++◌, length, sym, ap, ◌∙◌, subst, arith}
 use Rattle.rv_isa.specs.declared.ins.Ins.{Ins}
 use Rattle.qed_model.specs.Machine.Step.{Known}
 use Rattle.std.proofs.Math.Nat.{mul-le-mul}
@@ -13,7 +13,7 @@ use Rattle.qed_model.specs.Weave.Sequences.{Form, Block, compare, visit, prologu
 use Rattle.weave_core.specs.KindItems.{MirrorsFit}
 use Rattle.weave_core.proofs.KindItems.{enter_items, piece_items, end_items, prologue_items}
 use Rattle.weave_core.proofs.Landing.{land_enter, land_piece, land_end, land_prologue}
-use Rattle.lockstep.specs.Promise.{PlanCaught, PlanClean}
+use Rattle.lockstep.specs.Promise.{IsBoundsOf, PlanCaught, PlanClean}
 use Rattle.weave_core.specs.Weave.{stage_steps}
 use Rattle.weave_core.specs.WeaveLaws.{Words}
 use Rattle.qed_model.specs.Machine.Program.{Program}
@@ -43,7 +43,7 @@ words_with form most checks first steps laws m = record {
 }
 
 pub form_words : (form : Form) (most : ℕ) → MirrorsFit form.far form.mirror → Words form.far (weave_of form most)
-form_words form most m = words_with form most (compare ++ visit form.round form.spans) 0 (13 + visit_bound (length form.spans) * form.round) (form_checks form) m
+form_words form most m = words_with form most (compare ++ visit form.round form.spans) 0 (13 + visit_bound (word_count form.spans) (length form.spans) * form.round) (form_checks form) m
 
 -- ---- the promises
 -- with any checks that have the laws changes are caught
@@ -56,29 +56,40 @@ caught_with f g w most checks first steps blocks bounds laws p law fit closed so
     weave_caught f g w (weave_with w.form most checks first steps) blocks bounds p (rows_with w most checks first steps laws (begins_at blocks) law) (starts_with w most checks first steps laws (begins_at blocks) f g) (words_with w.form most checks first steps laws fit) closed some (omega arith) (omega (arith, room)) b
 
 -- a plan's code is all code
-closed_in : (f g : Program) (w : World) (most : ℕ) (blocks : List Block) → Closes f g w blocks → OnlyCode f g w (weave_of w.form most) blocks
+pub closed_in : (f g : Program) (w : World) (most : ℕ) (blocks : List Block) → Closes f g w blocks → OnlyCode f g w (weave_of w.form most) blocks
 closed_in f g w most blocks closes = record {
   only = subst (λ l. (a : ℕ) (i : Ins) → w.code a ≡ Known i → (k : ℕ) × (a ≡ g.entry + 4 * k) × (a ≤ g.entry + 4 * length (instructions_from w.form.far w.entry g.entry (prologue w.distance w.form.spans f.entry ++ l)))) (sym (entries_same w.form most blocks)) closes.only;
   stubbed = closes.stubbed;
 }
 
 -- the visits of a piece take ten steps at least
-pub visits_ten : (spans n : ℕ) → 1 ≤ n → 10 ≤ visit_bound spans * n
+pub visits_ten : (spans : List (ℕ × ℕ)) (n : ℕ) → 1 ≤ n → 10 ≤ visit_bound (word_count spans) (length spans) * n
 visits_ten spans n h = mul-le-mul (ten spans) h where
-  ten : (n : ℕ) → 10 ≤ visit_bound n
-  ten zero = omega arith
-  ten (suc n) = omega arith
+  some : (words ranges : ℕ) → 1 ≤ ranges → 10 ≤ visit_bound words ranges
+  some zero ranges h = omega arith
+  some (suc n) ranges h = omega (arith, h)
+
+  ten : (spans : List (ℕ × ℕ)) → 10 ≤ visit_bound (word_count spans) (length spans)
+  ten [] = omega arith
+  ten (r ∷ rs) = some (word_count (r ∷ rs)) (length (r ∷ rs)) (omega arith)
+
+-- the bounds of a form are those of its weave
+pub bounds_in : (w : World) (most : ℕ) (bounds : Bounds) → IsBoundsOf w.form most bounds → BoundsOf w (weave_of w.form most) bounds
+bounds_in w most bounds b = record {
+  register = b.register ∙ ap (λ n. start_of w.form + 2 * n) stage;
+  word = b.word ∙ ap (λ n. word_bound (word_count w.form.spans) w.form.round (start_of w.form) n) stage;
+} where
+  stage : piece_of w.form most ≡ stage_steps (weave_of w.form most)
+  stage = omega arith
 
 -- changes in a plan are caught
 pub plan_caught : PlanCaught
 plan_caught f g w most blocks bounds p law closes some b =
-    let ten = visits_ten (length w.form.spans) w.form.round some in
-    caught_with f g w most (both w most) 0 (both_steps w most) blocks bounds (form_checks w.form) (new_plan w most f g blocks p) law closes.mirrors (closed_in f g w most blocks closes) some (omega (arith, ten)) (record { register = b.register ∙ ap (λ n. start_of w.form + 2 * n) stage; word = b.word ∙ ap (λ n. word_bound (word_count w.form.spans) w.form.round (start_of w.form) n) stage }) where
-      stage : piece_of w.form most ≡ stage_steps (weave_of w.form most)
-      stage = omega arith
+    let ten = visits_ten w.form.spans w.form.round some in
+    caught_with f g w most (both w most) 0 (both_steps w most) blocks bounds (form_checks w.form) (new_plan w most f g blocks p) law closes.mirrors (closed_in f g w most blocks closes) some (omega (arith, ten)) (bounds_in w most bounds b)
 
 -- and the sweep lets none end silently
 pub plan_clean : PlanClean
 plan_clean f g w most blocks p law closes some sweeps =
-    let ten = visits_ten (length w.form.spans) w.form.round some in
+    let ten = visits_ten w.form.spans w.form.round some in
     weave_clean f g w (weave_of w.form most) blocks (new_plan w most f g blocks p) (form_rows w most (begins_at blocks) law) (form_starts w most (begins_at blocks) f g) (form_words w.form most closes.mirrors) (closed_in f g w most blocks closes) some (omega arith) (omega (arith, ten)) sweeps

@@ -1,5 +1,5 @@
 -- A wrong instruction is caught, in any weave, in a plan of a form, and in each woven test.
-use Rattle.std.proofs.Common.{◌≡◌, ℕ, zero, suc, ◌+◌, ◌-◌, ◌*◌, ◌/◌, ◌^◌, ◌≤◌, inl, inr, List, [], ◌∷◌, ◌++◌, length, Some, refl, sym, ap, ◌∙◌, subst, arith}
+use Rattle.std.proofs.Common.{◌≡◌, ℕ, zero, suc, ◌+◌, ◌-◌, ◌*◌, ◌/◌, ◌^◌, ◌≤◌, inl, inr, List, [], ◌∷◌, Some, refl, sym, ap, ◌∙◌, subst, arith}
 use Rattle.std.proofs.Math.Nat.{mul-le-mul}
 use Rattle.rv_isa.specs.declared.ins.Ins.{Ins}
 use Rattle.rv_isa.specs.declared.kind.Kind.{Kind}
@@ -20,12 +20,10 @@ use Rattle.qed_model.specs.Promise.Changed.{changed_run, IsDataWord}
 use Rattle.qed_model.specs.Promise.Closed.{IsOpen}
 use Rattle.qed_model.specs.Promise.Kept.{after_input, NotTrapped}
 use Rattle.qed_model.specs.Weave.Blocks.{begins_at}
-use Rattle.qed_model.specs.Weave.Bounds.{visit_bound, word_bound}
-use Rattle.qed_model.specs.Weave.Placed.{instructions_from}
-use Rattle.qed_model.specs.Weave.Sequences.{Block, prologue}
+use Rattle.qed_model.specs.Weave.Bounds.{word_bound}
+use Rattle.qed_model.specs.Weave.Sequences.{Block}
 use Rattle.weave_core.specs.Lock.{span_bytes, Opens, HasKind, Loaded, Undisturbed}
 use Rattle.weave_core.specs.Plan.{Plan}
-use Rattle.weave_core.specs.Promise.{piece_of, start_of}
 use Rattle.weave_core.specs.Rows.{Mirrors}
 use Rattle.weave_core.specs.Weave.{Weave, start_steps, stage_steps}
 use Rattle.weave_core.specs.WeaveForms.{weave_of}
@@ -33,13 +31,13 @@ use Rattle.weave_core.specs.WeaveLaws.{Rows, Starts, Words}
 use Rattle.weave_core.specs.WeavePromise.{PlanOf, OnlyCode, BoundsOf}
 use Rattle.weave_core.specs.World.{World, AllBelow}
 use Rattle.weave_core.proofs.FormMirrors.{mirrors_of}
-use Rattle.weave_core.proofs.FormRows.{entries_same, form_rows, form_starts, new_plan}
+use Rattle.weave_core.proofs.FormRows.{form_rows, form_starts, new_plan}
 use Rattle.weave_core.proofs.Sized.{width_le}
 use Rattle.weave_core.proofs.TestKept as kept
 use Rattle.lockstep.specs.Closes.{Closes}
 use Rattle.lockstep.specs.InstructionFaults.{WritesOriginal, StoresOriginal, word_around, GivesAny, StoresAny, FoundOut, FaultsFound, InstructionFaultsAreCaught}
 use Rattle.lockstep.specs.Promise.{IsBoundsOf}
-use Rattle.lockstep.proofs.FormWords.{form_words, plan_caught}
+use Rattle.lockstep.proofs.FormWords.{form_words, closed_in, visits_ten, bounds_in, plan_caught}
 use Rattle.lockstep.proofs.Made.{changed_later}
 use Rattle.lockstep.proofs.Promise.{begins, quiet_run}
 use Rattle.lockstep.proofs.Runs.{run-last}
@@ -197,25 +195,13 @@ plan_faults f g w most blocks bounds p law closes some b = record {
   words = form_words w.form most closes.mirrors
 
   only : OnlyCode f g w (weave_of w.form most) blocks
-  only = record {
-    only = subst (λ l. (a : ℕ) (i : Ins) → w.code a ≡ Known i → (k : ℕ) × (a ≡ g.entry + 4 * k) × (a ≤ g.entry + 4 * length (instructions_from w.form.far w.entry g.entry (prologue w.distance w.form.spans f.entry ++ l)))) (sym (entries_same w.form most blocks)) closes.only;
-    stubbed = closes.stubbed;
-  }
-
-  ten : (n k : ℕ) → 1 ≤ k → 10 ≤ visit_bound n * k
-  ten n k h = mul-le-mul (one n) h where
-    one : (n : ℕ) → 10 ≤ visit_bound n
-    one zero = omega arith
-    one (suc n) = omega arith
+  only = closed_in f g w most blocks closes
 
   room : (weave_of w.form most).compare_steps + 17 ≤ (weave_of w.form most).piece_steps
-  room = omega (arith, ten (length w.form.spans) w.form.round some)
-
-  stage : piece_of w.form most ≡ stage_steps (weave_of w.form most)
-  stage = omega arith
+  room = let ten = visits_ten w.form.spans w.form.round some in omega (arith, ten)
 
   are_bounds : BoundsOf w (weave_of w.form most) bounds
-  are_bounds = record { register = b.register ∙ ap (λ n. start_of w.form + 2 * n) stage; word = b.word ∙ ap (λ n. word_bound (word_count w.form.spans) w.form.round (start_of w.form) n) stage }
+  are_bounds = bounds_in w most bounds b
 
   caught : Caught f g w.form.spans bounds
   caught = plan_caught f g w most blocks bounds p law closes some b

@@ -73,6 +73,7 @@ fn put_word(spans: &[Range], out: &mut Emit) -> Result<(), AllocError>
 impl Pass for Visit {
     ghost use Rattle.std.specs.Prelude.{◌≡◌, ◌*◌, [], length};
     ghost use Rattle.qed_model.specs.Weave.Sequences.{visit};
+    ghost use Rattle.qed_model.specs.Admission.DataRanges.{word_count};
     ghost use Rattle.qed_model.specs.Weave.Bounds.{visit_bound};
     ghost use Rattle.plc_rounds.specs.Spans.{spans_of, Rounds};
     ghost use Rattle.plc_rounds.specs.Laws.{any, quiet_visit, honest_visit, lockstep_visit};
@@ -85,7 +86,7 @@ impl Pass for Visit {
 
     ghost uses = { λ p i. [] };
 
-    ghost cost = { λ p i. visit_bound (length (spans_of p.span)) * p.round };
+    ghost cost = { λ p i. visit_bound (word_count (spans_of p.span)) (length (spans_of p.span)) * p.round };
 
     ghost needs = { λ p i at w v. (v.original ≡ v.shadow) × (w.form.spans ≡ spans_of p.span) };
 

@@ -1,4 +1,4 @@
--- A known test with a loop is admitted, and has the blocks, the entries and the bounds that an independent program gives it:
+-- A known test with a loop is admitted, and has the blocks, the entries and the bounds that `reference/qed plan` gives it:
 -- addi x5, x0, 2; addi x5, x5, -1; bne x5, x0, -4; ecall.
 use Rattle.std.proofs.Common.{inl, List, [], ◌∷◌, None, refl, arith}
 use Rattle.std.specs.Prelude.{pos, neg_ℤ}

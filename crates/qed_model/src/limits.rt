@@ -6,8 +6,8 @@ ghost use Rattle.qed_model.specs.Limits.{limit_of, limit_number, is_counted};
 /// L1: the bytes of a file to be transformed, 64 MiB.
 pub const MAX_FILE_BYTES: u64 = 67_108_864;
 
-/// L1 for `run`: the bytes of a file to be run, 512 MiB. It equals L9, so that every output can be
-/// run.
+/// L1 for `run`, `list` and `harts`: the bytes of a file to be run or listed, 512 MiB. It equals L9,
+/// so that every output can be run.
 pub const MAX_RUN_FILE_BYTES: u64 = 536_870_912;
 
 /// L2: the bytes from the page in which the image begins to the end of its last page, 64 MiB.
@@ -22,7 +22,8 @@ pub const MAX_CODE_BYTES: u64 = 67_108_864;
 /// L5: the sections of a file.
 pub const MAX_SECTIONS: u64 = 4_096;
 
-/// L6, for `run` alone: the bytes that the PT_LOAD segments have in memory, together 256 MiB.
+/// L6, for `run`, `list` and `harts`: the bytes that the PT_LOAD segments have in memory, those of all
+/// files together, 256 MiB.
 pub const MAX_MEMORY_BYTES: u64 = 268_435_456;
 
 /// L7: the address behind the room for the new code, 2^63.
@@ -50,12 +51,13 @@ pub const MAX_NEAR_CODE_BYTES: u64 = 1_048_576;
 /// The greatest distance of the halves that can be asked for, in bytes, 512 MiB.
 pub const MAX_HALF: u64 = 536_870_912;
 
-/// A limit, by what it counts. The printed texts name them L1 to L10; L1 is another for `run`.
+/// A limit, by what it counts. The printed texts name them L1 to L10; L1 is another for `run`, `list`
+/// and `harts`.
 #[derive(Clone, Copy, Debug, PartialEq, Eq)]
 pub enum Limit {
     /// L1: the bytes of a file to be transformed.
     FileBytes,
-    /// L1 for `run`: the bytes of a file to be run.
+    /// L1 for `run`, `list` and `harts`: the bytes of a file to be run or listed.
     RunFileBytes,
     /// L2: the bytes that the image spans, in whole pages.
     ImageSpan,
@@ -65,7 +67,7 @@ pub enum Limit {
     CodeBytes,
     /// L5: the sections of a file.
     Sections,
-    /// L6: the bytes that the PT_LOAD segments have in memory.
+    /// L6: the bytes that the PT_LOAD segments have in memory, those of all files together.
     MemoryBytes,
     /// L7: the address behind the room for the new code.
     TopAddress,

@@ -6,17 +6,17 @@ use Rattle.qed_model.specs.declared.bounds.Shape.{Shape}
 use Rattle.qed_model.specs.Weave.Bounds.{visit_bound, piece_bound, start_bound, word_bound, cost_of, bounds_of}
 use Rattle.bound_calc.specs.Fitting.{AreSmall}
 
-visit_small : (n : ℕ) → n ≤ 67108864 → visit_bound n ≤ 201326599
-visit_small zero h = omega arith
-visit_small (suc n) h = omega (arith, h)
+visit_small : (words ranges : ℕ) → ranges ≤ 67108864 → visit_bound words ranges ≤ 201326599
+visit_small zero ranges h = omega arith
+visit_small (suc n) ranges h = omega (arith, h)
 
 -- products of small numbers
 times : (a b c d : ℕ) → a ≤ c → b ≤ d → a * b ≤ c * d
 times a b c d h k = mul-le-mul h k
 
-piece_small : (diverse : Bool) (most ranges round : ℕ) → most ≤ 1024 → ranges ≤ 67108864 → round ≤ 1024 → piece_bound (cost_of diverse) most ranges round ≤ 206158445598
-piece_small true most ranges round m r k = let t = times (visit_bound ranges) round 201326599 1024 (visit_small ranges r) k in omega (arith, t, m)
-piece_small false most ranges round m r k = let t = times (visit_bound ranges) round 201326599 1024 (visit_small ranges r) k in omega (arith, t, m)
+piece_small : (diverse : Bool) (most words ranges round : ℕ) → most ≤ 1024 → ranges ≤ 67108864 → round ≤ 1024 → piece_bound (cost_of diverse) most words ranges round ≤ 206158445598
+piece_small true most words ranges round m r k = let t = times (visit_bound words ranges) round 201326599 1024 (visit_small words ranges r) k in omega (arith, t, m)
+piece_small false most words ranges round m r k = let t = times (visit_bound words ranges) round 201326599 1024 (visit_small words ranges r) k in omega (arith, t, m)
 
 start_small : (far sweep : Bool) (ranges words : ℕ) → ranges ≤ 67108864 → words ≤ 67108864 → start_bound far sweep ranges words ≤ 671088687
 start_small true true ranges words r w = omega (arith, r, w)
@@ -33,11 +33,11 @@ word_small (suc n) round start piece w r s p =
 
 pub shape_small : (s : Shape) → s.inst_max ≤ 1024 → 1 ≤ s.round → s.round ≤ 1024 → s.ranges ≤ 67108864 → s.words ≤ 67108864 → AreSmall (bounds_of s)
 shape_small s most some round ranges words =
-    let piece = piece_small s.diverse s.inst_max s.ranges s.round most ranges round in
+    let piece = piece_small s.diverse s.inst_max s.words s.ranges s.round most ranges round in
     let start = start_small s.far s.sweep s.ranges s.words ranges words in
     record {
       piece = omega (arith, piece);
       register = omega (arith, piece, start);
-      word = word_small s.words s.round (start_bound s.far s.sweep s.ranges s.words) (piece_bound (cost_of s.diverse) s.inst_max s.ranges s.round) words some start piece;
+      word = word_small s.words s.round (start_bound s.far s.sweep s.ranges s.words) (piece_bound (cost_of s.diverse) s.inst_max s.words s.ranges s.round) words some start piece;
       start = omega (arith, start);
     }

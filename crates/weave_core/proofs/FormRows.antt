@@ -121,7 +121,7 @@ module _ (form : Form) where
       (quiet_then any any _ _ _ _ _ _ _ _ _ _ (quiet_each plus any (λ i at. FitsPiece i) (λ i. []) form.mirror NeedsOther GivesMirror LeavesMirror other_cost quiet_other is at (for_mirrors plus is at f)) laws.quiet)
 
 -- ---- the checks of a form
-pub form_checks : (form : Form) → ChecksLaws form (compare ++ visit form.round form.spans) 0 (13 + visit_bound (length form.spans) * form.round)
+pub form_checks : (form : Form) → ChecksLaws form (compare ++ visit form.round form.spans) 0 (13 + visit_bound (word_count form.spans) (length form.spans) * form.round)
 form_checks form = record {
   quiet = record {
     leads = λ w v rest s st need.
@@ -309,7 +309,7 @@ module _ (w : World) (most : ℕ) where
   both = compare ++ visit w.form.round w.form.spans
 
   abbrev pub both_steps : ℕ
-  both_steps = 13 + visit_bound (length w.form.spans) * w.form.round
+  both_steps = 13 + visit_bound (word_count w.form.spans) (length w.form.spans) * w.form.round
 
   pub form_rows : (leader : ℕ → Bool) → Mirrors w → Rows w wv leader
   form_rows leader law = rows_with w most both 0 both_steps (form_checks w.form) leader law

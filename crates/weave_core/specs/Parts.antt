@@ -8,6 +8,7 @@ use Rattle.qed_model.specs.declared.item.Item.{Item}
 use Rattle.qed_model.specs.declared.item.Item.TheVariants.{Plain, Constant}
 use Rattle.qed_model.specs.Machine.Step.{State, reg, Known, HasAt, step, run, target}
 use Rattle.qed_model.specs.Promise.Kept.{NotTrapped}
+use Rattle.qed_model.specs.Admission.DataRanges.{word_count}
 use Rattle.qed_model.specs.Weave.Bounds.{visit_bound}
 use Rattle.qed_model.specs.Weave.Pieces.{is_run}
 use Rattle.qed_model.specs.Weave.Sequences.{guards, is_auipc}
@@ -149,4 +150,4 @@ pub record PieceLeads (part round : ℕ) (spans : List (ℕ × ℕ)) (items : Li
   pub leads :
       (w : World) (v : Views) (rest : List Item) → w.form.spans ≡ spans → v.original ≡ v.shadow → v.original.pc ≡ at → HasAt w.source at is
       → AllFit is → is_run is ≡ true → Sourced w v.original → NotTrapped (run v.original (length is)) → Stands w v (items ++ rest)
-      → Leads w v (part * length is + (13 + visit_bound (length spans) * round)) rest (Pieced w (part * length is) round is v.original v) none
+      → Leads w v (part * length is + (13 + visit_bound (word_count spans) (length spans) * round)) rest (Pieced w (part * length is) round is v.original v) none

@@ -276,10 +276,10 @@ module _ (cut : List Ins → List (List Ins)) (keeps : (is : List Ins) → whole
 
   pub caught : JoinedCaught cut
   caught f g w most blocks bounds p law fit closed some b =
-      let ten = visits_ten (length w.form.spans) w.form.round some in
+      let ten = visits_ten w.form.spans w.form.round some in
       weave_caught f g w (joined cut w.form most) blocks bounds p (joined_rows w most (begins_at blocks) law) (joined_starts w most (begins_at blocks) law f g) (joined_words w.form most fit) closed some (omega arith) (omega (arith, ten)) b
 
   pub clean : JoinedClean cut
   clean f g w most blocks p law fit closed some sweeps =
-      let ten = visits_ten (length w.form.spans) w.form.round some in
+      let ten = visits_ten w.form.spans w.form.round some in
       weave_clean f g w (joined cut w.form most) blocks p (joined_rows w most (begins_at blocks) law) (joined_starts w most (begins_at blocks) law f g) (joined_words w.form most fit) closed some (omega arith) (omega (arith, ten)) sweeps

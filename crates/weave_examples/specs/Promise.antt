@@ -5,6 +5,7 @@ use Rattle.qed_model.specs.declared.item.Item.{Item}
 use Rattle.qed_model.specs.Machine.Program.{Program}
 use Rattle.qed_model.specs.Promise.Caught.{Caught}
 use Rattle.qed_model.specs.Promise.Kept.{Kept}
+use Rattle.qed_model.specs.Admission.DataRanges.{word_count}
 use Rattle.qed_model.specs.Weave.Bounds.{visit_bound}
 use Rattle.qed_model.specs.Weave.Sequences.{Form, Block, guard, compare, visit}
 use Rattle.weave_core.specs.World.{World}
@@ -20,7 +21,7 @@ checks_of form = guard 10 ++ (compare ++ visit form.round form.spans)
 
 -- one step more
 abbrev pub steps_of : Form → ℕ
-steps_of form = 1 + (13 + visit_bound (length form.spans) * form.round)
+steps_of form = 1 + (13 + visit_bound (word_count form.spans) (length form.spans) * form.round)
 
 abbrev pub with_one : Form → ℕ → Weave
 with_one form most = weave_with form most (checks_of form) 1 (steps_of form)

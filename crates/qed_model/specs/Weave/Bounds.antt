@@ -3,15 +3,15 @@ use Rattle.std.specs.Prelude.{ℕ, zero, suc, ◌+◌, ◌-◌, ◌*◌, ◌/◌
 use Rattle.qed_model.specs.declared.bounds.Shape.{Shape}
 use Rattle.qed_model.specs.declared.bounds.Bounds.{Bounds}
 
--- a visited word, with so many data ranges; where there is none it has no steps, and the bound is that of one
-abbrev pub visit_bound : ℕ → ℕ
-visit_bound zero = 10
-visit_bound (suc n) = 7 + 3 * suc n
+-- a visited word, of so many data words in so many ranges: 7 steps and 3 for each range, of which one counts where there is no word
+abbrev pub visit_bound : ℕ → ℕ → ℕ
+visit_bound zero ranges = 10
+visit_bound (suc n) ranges = 7 + 3 * ranges
 
 -- the longest piece: 3 steps of its entry, `cost` for each of at most `most` instructions, 13 comparisons, `round` visited words,
 -- and 14 of the longest leave
-abbrev pub piece_bound : ℕ → ℕ → ℕ → ℕ → ℕ
-piece_bound cost most ranges round = 30 + cost * most + visit_bound ranges * round
+abbrev pub piece_bound : ℕ → ℕ → ℕ → ℕ → ℕ → ℕ
+piece_bound cost most words ranges round = 30 + cost * most + visit_bound words ranges * round
 
 -- what stands before an ECALL: nothing, or with the sweep 2 steps for each data range, 8 for each data word, 13 comparisons, and the
 -- ECALL once more
@@ -40,7 +40,7 @@ abbrev pub start_steps : Shape → ℕ
 start_steps s = start_bound s.far s.sweep s.ranges s.words
 
 abbrev pub piece_steps : Shape → ℕ
-piece_steps s = piece_bound (cost_of s.diverse) s.inst_max s.ranges s.round
+piece_steps s = piece_bound (cost_of s.diverse) s.inst_max s.words s.ranges s.round
 
 -- all four bounds
 abbrev pub bounds_of : Shape → Bounds
