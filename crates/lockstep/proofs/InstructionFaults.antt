@@ -83,10 +83,6 @@ big_word (suc n) round first piece b h e =
     omega (arith, is, m)
 
 module _ (f g : Program) (w : World) (v : Weave) (blocks : List Block) (plan : PlanOf f g w v blocks) (rows : Rows w v (begins_at blocks)) (starts : Starts f g w v (begins_at blocks)) (law : Words w.form.far v) (closes : OnlyCode f g w v blocks) (some : 1 ≤ v.round) (two : 2 ≤ v.leave_steps) (room : v.compare_steps + 17 ≤ v.piece_steps) (bounds : Bounds) (are_bounds : BoundsOf w v bounds) (caught : Caught f g w.form.spans bounds) (regs : List ℕ) (are : AreStartRegs regs) (n : ℕ) (i : Ins) (go : (run (start g regs) n).outcome ≡ Going) (at : next (run (start g regs) n) ≡ Known i) where
-  -- the start, and the state before the instruction
-  abbrev s : State
-  s = start g regs
-
   abbrev u : State
   u = run (start g regs) n
 
