@@ -97,7 +97,7 @@ nothing_first zero w = refl
 nothing_first (suc n) w = nothing_due n 0 (with_first (λ i. []) n w) ∙ nothing_first n w
 
 -- the world of the turns alone
-same_world : (gs : List Program) (ts : List ℕ) → (counted_turns (counted_start gs) ts).world ≡ world_after gs (λ i. []) ts
+pub same_world : (gs : List Program) (ts : List ℕ) → (counted_turns (counted_start gs) ts).world ≡ world_after gs (λ i. []) ts
 unfolding counted_turns world_after
 same_world gs [] = sym (nothing_first (count gs) (begin gs))
 same_world gs (t ∷ ts) = ap (turned t) (same_world gs ts) ∙ sym (nothing_due t (suc (hart_turns ts t)) (turned t (world_after gs (λ i. []) ts)))

@@ -9,8 +9,9 @@ use Rattle.qed_model.specs.Machine.Progress.{steps_after, begun, progress}
 use Rattle.qed_model.specs.Machine.Step.{State}
 use Rattle.qed_model.specs.Machine.Program.{Program, start, zeros}
 use Rattle.rv_step.specs.Harts.{HartState}
-use Rattle.harts.specs.Harts.{Hart, World, begin, turned, on_hart, hart_turns, world_after}
-use Rattle.harts.specs.Together.{IsProgram, AreAlone, Shows, own_run}
+use Rattle.harts.specs.Harts.{Hart, World, state_of, begin, turned, on_hart, hart_turns, world_after}
+use Rattle.qed_model.specs.Promise.Kept.{NotTrapped, Kept}
+use Rattle.harts.specs.Together.{IsProgram, AreAlone, Shows, own_run, HartKept}
 
 -- ---- all harts
 -- a world, and the steps of each hart
@@ -82,3 +83,18 @@ CountedTogether = (gs : List Program) (cs : ℕ → List Change) (ts : List ℕ)
 -- without changes each hart stands as a run of its file stands, and has made as many steps
 abbrev pub TurnsRun : Type 0
 TurnsRun = (gs : List Program) (ts : List ℕ) → AreAlone gs (λ i. []) ts → (i : ℕ) (g : Program) → IsProgram gs i g → ShowsCounted g i (counted_turns (counted_start gs) ts) (progress (begun (start g zeros)) (hart_turns ts i)).state (progress (begun (start g zeros)) (hart_turns ts i)).steps
+
+-- ---- what is promised of a file
+-- hart i stands so after turns without changes, in which it made k of them
+pub record StandsAfter (gs : List Program) (ts : List ℕ) (i k : ℕ) (u : State) : Type 0 where
+  pub turns : hart_turns ts i ≡ k
+  pub hart : Hart
+  pub stands : slice_get (counted_turns (counted_start gs) ts).world.harts i ≡ Some hart
+  pub is : u ≡ state_of hart (counted_turns (counted_start gs) ts).world.memory
+
+-- where no hart of these turns is trapped when it runs alone, and the file of one is the output of some input, it keeps the input's
+-- values and raises no false alarm
+abbrev pub TurnsKeep : List Program → List ℕ → Type 0
+TurnsKeep gs ts =
+    ((i : ℕ) (g : Program) → IsProgram gs i g → NotTrapped (own_run (λ i. []) ts i g))
+    → (i : ℕ) (f g : Program) (first bound : ℕ) → IsProgram gs i g → Kept f g first bound → HartKept f first bound (StandsAfter gs ts i)

@@ -3,9 +3,11 @@
 //! holds of it: the laws say so.
 #![tactic(auto)]
 
-ghost use Rattle.harts.specs.Shared.{NoneShared};
+ghost use Rattle.std.specs.Prelude.{ℕ, List};
+ghost use Rattle.qed_model.specs.Machine.Program.{Program};
+ghost use Rattle.harts.specs.Shared.{AreSound, AreUnshared, NoneShared};
 ghost use Rattle.harts.specs.Starts.{WorldLaws};
-ghost use Rattle.harts.specs.HartSteps.{CountedTogether, TurnsRun};
+ghost use Rattle.harts.specs.HartSteps.{CountedTogether, TurnsKeep, TurnsRun};
 ghost use Rattle.harts.specs.Together.{Together, PerHart};
 
 mod error;
@@ -33,6 +35,12 @@ pub fn hart_promises()
 pub fn turns_run()
     ensures counted { CountedTogether }
     ensures plain { TurnsRun }
+{}
+
+/// Where the segments of each file fit, and no two segments share a byte, and no hart of some turns is trapped when it runs alone: a
+/// hart whose file is the output of some input keeps the input's values, and raises no false alarm.
+pub fn turns_keep()
+    ensures { (gs : List Program) (ts : List ℕ) → AreSound gs → AreUnshared gs → TurnsKeep gs ts }
 {}
 
 /// Where the segments of each file fit and share no byte, and no two files share one, the files are apart, and all segments

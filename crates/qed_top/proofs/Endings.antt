@@ -45,7 +45,7 @@ use Rattle.qed_model.proofs.ReadFacts.{one_file}
 use Rattle.qed_model.proofs.AcceptanceLaws.{read_or_refused}
 use Rattle.transform.proofs.OneAnswer.{same_refusal, one_cause, memory_only, transformable_of}
 use Rattle.qed_top.proofs.Statuses.{error_refuses, refusal_refuses, Printed, refusal_printed, outcome_printed}
-use Rattle.qed_top.specs.Headline.{Answers}
+use Rattle.qed_top.specs.Headline.{HoldsOver, Answers}
 use Rattle.qed_top.proofs.Headlines.{holds_headline}
 use Rattle.qed_top.proofs.Meanings.{always_loads, loads_map, calls_more}
 use Rattle.qed_top.proofs.Calls.{steady_both, prints, none_stored, calls_printed, calls_settled, calls_store}
@@ -470,14 +470,14 @@ ends_decided call loads Fired decided calm e d = did_decided call loads Fired de
 ends_decided call loads Trapped decided calm e d = did_decided call loads Trapped decided calm e d
 ends_decided call loads StepsSpent decided calm e d = did_decided call loads StepsSpent decided calm e d
 
-pub ends_complete : (call : Call) (status : Status) → Ends call status → IsComplete call status
-ends_complete call status e calm =
-    loads_map call.old (λ loads. EndsOver call loads status) (λ loads. (decided : Status) → Decides call.words loads decided → (status ≡ decided) ⊎ (status ≡ Memory))
-    (λ loads o decided d. ends_decided call loads status decided calm o d) e
+pub ends_complete : (call : Call) (loads : Loads) (status : Status) → EndsOver call loads status → IsComplete call loads status
+ends_complete call loads status e calm decided d = ends_decided call loads status decided calm e d
 
 -- ---- after an answer was decided and carried out
 answered : (call : Call) (status : Status) → Ends call status → Answers call status
-answered call status e = record { headline = holds_headline call status e; ends = e; complete = ends_complete call status e }
+answered call status e =
+    loads_map call.old (λ loads. EndsOver call loads status) (HoldsOver call status)
+    (λ loads o. record { headline = holds_headline call loads status o; ends = o; complete = ends_complete call loads status o }) e
 
 abbrev pub the_call :
     List (List ℕ) → Option Files → Option Files → (List ℕ → ℕ) → (List ℕ → ℕ) → (List ℕ → ℕ) → (List ℕ → ℕ) → Option (List ℕ) → Option (List ℕ) → ℕ

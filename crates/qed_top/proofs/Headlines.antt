@@ -1,5 +1,5 @@
 -- From how a call ends to its headline.
-use Rattle.std.proofs.Common.{◌≡◌, ℕ, List, map, Option, None, Some, IfSome, sym, ap, ◌∙◌, subst}
+use Rattle.std.proofs.Common.{◌≡◌, ◌≤◌, ℕ, List, length, map, Option, None, Some, IfSome, sym, ap, ◌∙◌, subst}
 use Rattle.std.specs.Prelude.{MatchResult, Result, Ok, IsSomeAnd}
 use Rattle.std.specs.FinMap.{insert}
 use Rattle.qed_io.specs.Files.{Files, file_bytes}
@@ -10,20 +10,20 @@ use Rattle.command_line.specs.declared.order.Order.TheVariants.{Transform}
 use Rattle.command_line.specs.declared.order.Reason.{Reason}
 use Rattle.qed_model.specs.Admission.DataRanges.{range_of}
 use Rattle.qed_model.specs.Elf.FileRead.{file_read}
+use Rattle.qed_model.specs.Limits.{limit_of}
 use Rattle.qed_model.specs.Machine.Loading.{loaded_file}
 use Rattle.command_line.specs.Words.{asked}
 use Rattle.transform.specs.Transform.{Promised}
 use Rattle.qed_top.specs.Answer.{CallsFor, read_fault, too_long, within, FilesAfter}
-use Rattle.qed_top.specs.Loads.{Loads, OverLoads}
+use Rattle.qed_top.specs.Loads.{Loads}
 use Rattle.qed_top.specs.Makes.{IsMade, Makes, refused, made, Delivers}
 use Rattle.qed_top.specs.Orders.{IsUsage, OrderCallsFor, WordsCallFor}
-use Rattle.qed_top.specs.Ends.{Call, load_rose, EndsOver, Ends}
+use Rattle.qed_top.specs.Ends.{Call, load_rose, EndsOver}
 use Rattle.qed_top.specs.Headline.{IsPromised, IsDelivered, HoldsHeadline}
 use Rattle.qed_top.specs.declared.answer.Answer.{Answer}
 use Rattle.qed_top.specs.declared.answer.Stored.{Stored}
 use Rattle.qed_top.specs.declared.status.Status.{Status}
 use Rattle.qed_top.specs.declared.status.Status.TheVariants.{Done, Limit, ReadFault}
-use Rattle.qed_top.proofs.Meanings.{over_first}
 use Rattle.qed_top.proofs.Statuses.{IsRefusal, refusal_refuses}
 
 -- ---- what Done means
@@ -36,16 +36,16 @@ no_limit answer is was = absurd (cc)
 module _ (input output : List ℕ) (o : Options) where
   -- what was made of IN, and stored as OUT
   abbrev MadeOf : List ℕ → Answer → Type 0
-  MadeOf bytes answer = IsMade bytes o (Delivers output) answer
+  MadeOf bytes answer = (length bytes ≤ limit_of FileBytes) × IsMade bytes o (Delivers output) answer
 
-  made_of : (bytes : List ℕ) (answer : Answer) → answer.status ≡ Done → Makes bytes o (Delivers output) answer → MadeOf bytes answer
+  made_of : (bytes : List ℕ) (answer : Answer) → answer.status ≡ Done → Makes bytes o (Delivers output) answer → IsMade bytes o (Delivers output) answer
   made_of bytes answer is (refused r) = absurd (subst IsRefusal (sym r.plain.status ∙ is) (refusal_refuses r.error))
   made_of bytes answer is (made m) = m
 
   within_of : (bytes : List ℕ) (rose : Type 0) (answer : Answer) → answer.status ≡ Done → CallsFor FileBytes bytes rose (Makes bytes o (Delivers output) answer) answer → MadeOf bytes answer
   within_of bytes rose answer is (read_fault f) = absurd (no_fault answer is f.plain.status)
   within_of bytes rose answer is (too_long t) = absurd (no_limit answer is t.plain.status)
-  within_of bytes rose answer is (within small t) = made_of bytes answer is t
+  within_of bytes rose answer is (within small t) = (small, made_of bytes answer is t)
 
   -- the words are those of `transform`
   meant_of :
@@ -65,23 +65,25 @@ stored_of (Some s) (Some f) new output file h after = after ∙ ap Some ((λ i. 
 module _ (call : Call) (files : Files) (input output : List ℕ) (o : Options) where
   both :
       (answer : Answer) (d : MadeOf input output o (file_bytes files input) answer)
-      → Promised (loaded_file d.made.woven.file.file) (loaded_file (file_read d.made.woven.out)) (map range_of d.plan.span) o d.plan
-  both answer d = d.made.promised d.made.woven.file.file (file_read d.made.woven.out) d.made.read.file d.made.reads.file
+      → Promised (loaded_file d.1.made.woven.file.file) (loaded_file (file_read d.1.made.woven.out)) (map range_of d.1.plan.span) o d.1.plan
+  both answer d = d.1.made.promised d.1.made.woven.file.file (file_read d.1.made.woven.out) d.1.made.read.file d.1.made.reads.file
 
-  promised_of : (answer : Answer) (d : MadeOf input output o (file_bytes files input) answer) → IsPromised (file_bytes files input) o d.file answer.text
+  promised_of : (answer : Answer) (d : MadeOf input output o (file_bytes files input) answer) → IsPromised (file_bytes files input) o d.1.file answer.text
   promised_of answer d = record {
-    test = d.made.woven.file.file;
-    program = file_read d.made.woven.out;
-    plan = d.plan;
-    reads_test = d.made.read;
-    reads_program = d.made.reads;
+    test = d.1.made.woven.file.file;
+    program = file_read d.1.made.woven.out;
+    plan = d.1.plan;
+    reads_test = d.1.made.read;
+    reads_program = d.1.made.reads;
     kept = (both answer d).kept;
     landed = (both answer d).landed;
     caught = (both answer d).caught;
     clean = (both answer d).clean;
-    woven = d.made.woven;
-    told = d.made.told;
-    printed = d.uses.text;
+    woven = d.1.made.woven;
+    taken = d.0;
+    within = d.1.made.within;
+    told = d.1.made.told;
+    printed = d.1.uses.text;
   }
 
 -- the files at the first load
@@ -92,15 +94,13 @@ delivered_of call loads input output o is did =
     let m = meant_of input output o call.words loads (load_rose call) did.answer is did.meant in
     let d = within_of input output o (file_bytes (loads 0) input) (load_rose call input) did.answer did.same_status m in
     record {
-      file = d.file;
+      file = d.1.file;
       line = did.answer.text;
-      stored = stored_of did.answer.stored call.old call.new output d.file d.uses.stored did.stored;
+      stored = stored_of did.answer.stored call.old call.new output d.1.file d.1.uses.stored did.stored;
       printed = did.printed;
       promised = promised_of call (loads 0) input output o did.answer d;
     }
 
 -- a call that ends holds its headline
-pub holds_headline : (call : Call) (status : Status) → Ends call status → HoldsHeadline call status
-holds_headline call status ends input output o is was =
-    let over : OverLoads call.old (λ loads. EndsOver call loads Done) = subst (λ s. OverLoads call.old (λ loads. EndsOver call loads s)) was ends in
-    over_first call.old (λ loads. EndsOver call loads Done) (λ files. IsDelivered call files input output o) (λ loads e. delivered_of call loads input output o is e) over
+pub holds_headline : (call : Call) (loads : Loads) (status : Status) → EndsOver call loads status → HoldsHeadline call (loads 0) status
+holds_headline call loads status ends input output o is was = delivered_of call loads input output o is (subst (λ s. EndsOver call loads s) was ends)

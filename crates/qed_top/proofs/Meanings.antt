@@ -61,14 +61,6 @@ same_each (Some f) files e = λ k. e
 pub over_loads : (told : Option Files) (P : Files → Type 0) → OverFiles told P → OverLoads told (λ loads. P (loads 0))
 over_loads told P o = record { loads = λ k. o.files; same = same_each told o.files o.same; holds = o.holds }
 
-same_first : (told : Option Files) (loads : Loads) → IfSome told (λ f. (k : ℕ) → f ≡ loads k) → IfSome told (λ f. f ≡ loads 0)
-same_first None loads e = tt
-same_first (Some f) loads e = e 0
-
--- those at the first load
-pub over_first : (told : Option Files) (P : Loads → Type 0) (Q : Files → Type 0) → ((loads : Loads) → P loads → Q (loads 0)) → OverLoads told P → OverFiles told Q
-over_first told P Q h o = record { files = o.loads 0; same = same_first told o.loads o.same; holds = h o.loads o.holds }
-
 -- there are files with these bytes under a name
 file_bytes-insert : (files : Files) (name bytes : List ℕ) → file_bytes (insert files name bytes) name ≡ bytes
 file_bytes-insert files name bytes =

@@ -51,7 +51,7 @@ world_printed c =
 plays_printed : (fs : List ElfFile) (turns : Option (List ℕ)) (steps : ℕ) (answer : Answer) → Plays fs turns steps answer → Printed answer.status
 plays_printed fs turns steps answer (world.too_large over plain) = prints Limit answer tt plain.status
 plays_printed fs turns steps answer (world.shared i j small least plain) = prints Refused answer tt plain.status
-plays_printed fs turns steps answer (world.told small none plain) =
+plays_printed fs turns steps answer (world.told small none plain keeps) =
     prints (world_status (played fs turns steps)) answer (world_printed (played fs turns steps)) plain.status
 
 read_printed : (bytes : List ℕ) (P : ElfFile → Type 0) (answer : Answer) → ((f : ElfFile) → P f → Printed answer.status) → ReadOn bytes P answer → Printed answer.status
@@ -79,9 +79,9 @@ plays_settled fs turns steps answer t (world.too_large over plain) (world.is_tol
 plays_settled fs turns steps answer t (world.shared i j small least plain) (world.is_too_large l e) = absurd (omega (arith, small, l))
 plays_settled fs turns steps answer t (world.shared i j small least plain) (world.is_shared h k l m e) = plain.status ∙ sym e
 plays_settled fs turns steps answer t (world.shared i j small least plain) (world.is_told l n e) = absurd (n i j least.shared)
-plays_settled fs turns steps answer t (world.told small none plain) (world.is_too_large l e) = absurd (omega (arith, small, l))
-plays_settled fs turns steps answer t (world.told small none plain) (world.is_shared h k l m e) = absurd (none h k m.shared)
-plays_settled fs turns steps answer t (world.told small none plain) (world.is_told l n e) = plain.status ∙ sym e
+plays_settled fs turns steps answer t (world.told small none plain keeps) (world.is_too_large l e) = absurd (omega (arith, small, l))
+plays_settled fs turns steps answer t (world.told small none plain keeps) (world.is_shared h k l m e) = absurd (none h k m.shared)
+plays_settled fs turns steps answer t (world.told small none plain keeps) (world.is_told l n e) = plain.status ∙ sym e
 
 read_settled :
     (bytes : List ℕ) (P Q : ElfFile → Type 0) (answer : Answer) (t : Status) → ((f : ElfFile) → P f → Q f → answer.status ≡ t) → ReadOn bytes P answer
@@ -107,7 +107,7 @@ files_settled (name ∷ names) fs turns steps loads rose answer t calm m d =
 plays_store : (fs : List ElfFile) (turns : Option (List ℕ)) (steps : ℕ) (stores : List ℕ → Type 0) (answer : Answer) → Plays fs turns steps answer → StoreRose answer.stored stores → ⊥
 plays_store fs turns steps stores answer (world.too_large over plain) r = none_stored answer stores plain.stored r
 plays_store fs turns steps stores answer (world.shared i j small least plain) r = none_stored answer stores plain.stored r
-plays_store fs turns steps stores answer (world.told small none plain) r = none_stored answer stores plain.stored r
+plays_store fs turns steps stores answer (world.told small none plain keeps) r = none_stored answer stores plain.stored r
 
 read_store : (bytes : List ℕ) (P : ElfFile → Type 0) (stores : List ℕ → Type 0) (answer : Answer) → ((f : ElfFile) → P f → StoreRose answer.stored stores → ⊥) → ReadOn bytes P answer → StoreRose answer.stored stores → ⊥
 read_store bytes P stores answer h (world.not_read u) r = none_stored answer stores u.plain.stored r

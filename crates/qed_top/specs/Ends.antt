@@ -157,6 +157,6 @@ pub record NoFault (call : Call) : Type 0 where
   pub load : IfOk (asked call.words) (λ order. All (λ name. load_rose call name → ⊥) (source_names order))
   pub store : IfOk (asked call.words) (λ order. IfSome (stored_name order) (λ name. store_rose call name → ⊥))
 
--- with no fault the status is the one that is decided, or there was no memory
-abbrev pub IsComplete : Call → Status → Type 0
-IsComplete call status = NoFault call → OverLoads call.old (λ loads. (decided : Status) → Decides call.words loads decided → (status ≡ decided) ⊎ (status ≡ Memory))
+-- with no fault the status is the one that is decided over these files at its loads, or there was no memory
+abbrev pub IsComplete : Call → Loads → Status → Type 0
+IsComplete call loads status = NoFault call → (decided : Status) → Decides call.words loads decided → (status ≡ decided) ⊎ (status ≡ Memory)

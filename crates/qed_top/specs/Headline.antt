@@ -1,25 +1,27 @@
 -- The headline: what the top call promises of both files when `transform IN OUT` is done.
-use Rattle.std.specs.Prelude.{◌≡◌, ℕ, List, length, map, true, Some, Ok, IfSome}
+use Rattle.std.specs.Prelude.{◌≡◌, ◌≤◌, ℕ, List, length, map, true, Some, Ok, IfSome}
 use Rattle.std.specs.FinMap.{insert}
 use Rattle.std.specs.Io.KnownBytes.{Appends}
 use Rattle.elf_types.specs.declared.file.ElfFile.{ElfFile}
 use Rattle.qed_io.specs.Files.{Files, file_bytes}
+use Rattle.qed_model.specs.declared.limits.Limit.TheVariants.{FileBytes}
 use Rattle.qed_model.specs.declared.options.Options.{Options}
 use Rattle.command_line.specs.declared.order.Order.TheVariants.{Transform}
 use Rattle.qed_model.specs.declared.plan.Plan.{Plan}
 use Rattle.qed_model.specs.Elf.File.{IsReadAs}
+use Rattle.qed_model.specs.Limits.{limit_of}
 use Rattle.qed_model.specs.Machine.Loading.{loaded_file}
 use Rattle.qed_model.specs.Admission.DataRanges.{range_of, word_count}
 use Rattle.qed_model.specs.Weave.Bounds.{end_bound}
-use Rattle.qed_model.specs.Weave.Woven.{Woven, IsToldOf}
+use Rattle.qed_model.specs.Weave.Woven.{Woven, IsWithin, IsToldOf}
 use Rattle.qed_model.specs.Promise.Kept.{Kept}
 use Rattle.qed_model.specs.Promise.Landed.{Landed}
 use Rattle.qed_model.specs.Promise.Caught.{Caught}
 use Rattle.qed_model.specs.Promise.Clean.{Clean}
 use Rattle.command_line.specs.Text.Plan.{plan_line}
 use Rattle.command_line.specs.Words.{asked}
-use Rattle.qed_top.specs.Ends.{Call, Ends, IsComplete}
-use Rattle.qed_top.specs.Loads.{OverFiles}
+use Rattle.qed_top.specs.Ends.{Call, EndsOver, IsComplete}
+use Rattle.qed_top.specs.Loads.{Loads, OverLoads}
 use Rattle.qed_top.specs.declared.status.Status.{Status}
 use Rattle.qed_top.specs.declared.status.Status.TheVariants.{Done}
 
@@ -27,7 +29,7 @@ use Rattle.qed_top.specs.declared.status.Status.TheVariants.{Done}
 abbrev pub sweep_bound : List (ℕ × ℕ) → ℕ
 sweep_bound spans = end_bound true (length spans) (word_count spans)
 
--- IN is a test and OUT a program that was woven from it, with these options. The program's run has the values of the test's run
+-- IN is a test and OUT a program that was woven from it, with these options, and both are within the limits. The program's run has the values of the test's run
 -- after each of its steps, and no check fires; a jump to a wrong entry fires; changes of original registers and of data words are
 -- caught; with the sweep none is silent at the end. Bounds, entries and data ranges are those of the woven plan, whose numbers the
 -- line tells: of its bounds those of a register and of a word.
@@ -42,6 +44,8 @@ pub record IsPromised (input : List ℕ) (options : Options) (output line : List
   pub caught : Caught (loaded_file test) (loaded_file program) (map range_of plan.span) plan.bounds
   pub clean : options.sweep ≡ true → Clean (loaded_file test) (loaded_file program) (map range_of plan.span) (sweep_bound (map range_of plan.span))
   pub woven : Woven input options output
+  pub taken : length input ≤ limit_of FileBytes
+  pub within : IsWithin woven.file.file options woven.file.blocks woven.out
   pub told : IsToldOf woven.file.file options woven.file.blocks plan
   pub printed : line ≡ plan_line plan
 
@@ -54,14 +58,17 @@ pub record IsDelivered (call : Call) (files : Files) (input output : List ℕ) (
   pub promised : IsPromised (file_bytes files input) options file line
 
 -- after `transform IN OUT` with Done
-abbrev pub HoldsHeadline : Call → Status → Type 0
-HoldsHeadline call status =
+abbrev pub HoldsHeadline : Call → Files → Status → Type 0
+HoldsHeadline call files status =
     (input output : List ℕ) (options : Options) → asked call.words ≡ Ok (Transform input output options) → status ≡ Done
-    → OverFiles call.old (λ files. IsDelivered call files input output options)
+    → IsDelivered call files input output options
 
--- all that is said of a call that answers this status: its headline, why the status comes with what was stored and printed, and which
--- status comes where there is no fault
-pub record Answers (call : Call) (status : Status) : Type 0 where
-  pub headline : HoldsHeadline call status
-  pub ends : Ends call status
-  pub complete : IsComplete call status
+-- all that is said over these files at its loads of a call that answers this status: its headline, why the status comes with what was
+-- stored and printed, and which status comes where there is no fault
+pub record HoldsOver (call : Call) (status : Status) (loads : Loads) : Type 0 where
+  pub headline : HoldsHeadline call (loads 0) status
+  pub ends : EndsOver call loads status
+  pub complete : IsComplete call loads status
+
+abbrev pub Answers : Call → Status → Type 0
+Answers call status = OverLoads call.old (HoldsOver call status)

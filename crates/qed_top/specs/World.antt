@@ -2,7 +2,7 @@
 use Rattle.std.specs.Prelude.{◌≡◌, ◌<◌, ◌≤◌, ℕ, suc, ◌+◌, if◌then◌else◌, List, [], ◌∷◌, ◌++◌, length, Option, None, Some}
 use Rattle.elf_types.specs.declared.error.ElfError.{ElfError}
 use Rattle.elf_types.specs.declared.file.ElfFile.{ElfFile}
-use Rattle.harts.specs.HartSteps.{Counted, counted_start, counted_turns, cycled}
+use Rattle.harts.specs.HartSteps.{Counted, TurnsKeep, counted_start, counted_turns, cycled}
 use Rattle.harts.specs.Played.{programs}
 use Rattle.harts.specs.Shared.{AreUnshared, IsLeastShared}
 use Rattle.harts.specs.Standing.{has_one, is_fired, is_going, is_trapped}
@@ -33,9 +33,13 @@ abbrev pub takers : ℕ → Option (List ℕ) → List ℕ
 takers count None = each count (λ i. i)
 takers count (Some harts) = harts
 
--- a hart for each file, after so many turns
+-- so many turns of theirs
+abbrev pub turns_of : List ElfFile → Option (List ℕ) → ℕ → List ℕ
+turns_of fs turns steps = cycled (takers (length fs) turns) steps
+
+-- a hart for each file, after these turns
 abbrev pub played : List ElfFile → Option (List ℕ) → ℕ → Counted
-played fs turns steps = counted_turns (counted_start (programs fs)) (cycled (takers (length fs) turns) steps)
+played fs turns steps = counted_turns (counted_start (programs fs)) (turns_of fs turns steps)
 
 -- the worst that a hart came to
 abbrev pub world_status : Counted → Status
@@ -45,7 +49,8 @@ world_status c =
     else if has_one is_going c then StepsSpent
     else Done
 
--- L6: all segments together have too many bytes in memory; H1: two files share a byte; or the harts make their turns
+-- L6: all segments together have too many bytes in memory; H1: two files share a byte; or the harts make their turns, and what is
+-- promised of the file of each holds of it
 pub data Plays (fs : List ElfFile) (turns : Option (List ℕ)) (steps : ℕ) (answer : Answer) : Type 0 where
   too_large : memory_limit < all_bytes fs → PrintsOnly Limit (limit_line limit.MemoryBytes (all_bytes fs)) answer → Plays fs turns steps answer
   shared :
@@ -53,7 +58,8 @@ pub data Plays (fs : List ElfFile) (turns : Option (List ℕ)) (steps : ℕ) (an
       → Plays fs turns steps answer
   told :
       all_bytes fs ≤ memory_limit → AreUnshared (programs fs)
-      → PrintsOnly (world_status (played fs turns steps)) (world_text (played fs turns steps)) answer → Plays fs turns steps answer
+      → PrintsOnly (world_status (played fs turns steps)) (world_text (played fs turns steps)) answer
+      → TurnsKeep (programs fs) (turns_of fs turns steps) → Plays fs turns steps answer
 
 -- the status, by what is true of the files
 pub data PlayDecides (fs : List ElfFile) (turns : Option (List ℕ)) (steps : ℕ) (status : Status) : Type 0 where

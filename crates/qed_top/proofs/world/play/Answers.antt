@@ -23,3 +23,6 @@ returns-in-Err-Shared c =
       text = c.plain.ensures.text ∙ c.in_ok-text-in-Err-Shared.ensures;
       stored = c.plain.ensures.stored;
     })
+
+pub returns-in-Ok : goal.returns-in-Ok
+returns-in-Ok c = world.told ? ? ? (turns_keep (programs c.args.files.now) (turns_of c.args.files.now c.args.turns c.args.steps) c.requires.sound ?)
