@@ -256,9 +256,26 @@ def _harts(order: Order, shelf: Shelf) -> Answer:
     return status_of([hart.outcome for hart in harts]), text
 
 
+def told(topic: str) -> str:
+    """The text of a topic, as the page has it ("Help")."""
+    with open(os.path.join(os.path.dirname(__file__), "..", "docs", "FORMATS.md"), encoding="utf-8") as page:
+        return page.read().split(f"\n```{topic}\n")[1].split("```\n")[0]
+
+
+def _help(order: Order, shelf: Shelf) -> Answer:
+    """`help`."""
+    topic = order.files[0] if order.files else "help"
+    return 0, told("help" if topic == "version" else topic)
+
+
+def _version(order: Order, shelf: Shelf) -> Answer:
+    """`version`."""
+    return 0, told("version")
+
+
 CALLS: Dict[str, Callable[[Order, Shelf], Answer]] = {
     "transform": _transform, "plan": _plan, "run": _run, "campaign": _campaign, "gen": _gen, "list": _list,
-    "asm": _asm, "harts": _harts}
+    "asm": _asm, "harts": _harts, "help": _help, "version": _version}
 
 
 def answer(words: List[str], shelf: Shelf) -> Answer:

@@ -130,6 +130,10 @@ def order_text(order: Order) -> str:
     elif order.command == "harts":
         turns = f"Some(Bytes {{ stored: Own({values['turns']}) }})" if "turns" in values else "None"
         parts = [_listed(parts), turns, str(values.get("steps", 1000000))]
+    elif order.command == "help":
+        return f"Tell(One({order.files[0].capitalize()}))" if order.files else "Tell(All)"
+    elif order.command == "version":
+        return "Tell(Version)"
     return f"{order.command.capitalize()}({', '.join(parts)})"
 
 

@@ -33,7 +33,10 @@ COMMANDS = {
     "list": Command(1, 1),
     "asm": Command(2, 2),
     "harts": Command(1, 8, ["turns", "steps"]),
+    "help": Command(0, 1),
+    "version": Command(0, 0),
 }
+OTHER_NAMES = {"--help": "help", "-h": "help", "--version": "version"}
 
 RANGES = {"inst-min": (1, 1024), "inst-max": (1, 1024), "round": (1, 1024), "half": (4096, 512 << 20),
           "steps": (0, 10 ** 12), "seed": (0, (1 << 64) - 1), "count": (1, 10000), "changes": (1, 16),
@@ -145,19 +148,22 @@ def order_of(words: List[str]) -> Order:
     """What the words ask for, or the first reason why they ask for none."""
     if not words:
         raise Usage("no command")
-    if words[0] not in COMMANDS:
+    called = OTHER_NAMES.get(words[0], words[0])
+    if called not in COMMANDS:
         raise Usage("unknown command")
-    command = COMMANDS[words[0]]
+    command = COMMANDS[called]
     files, texts, flags = _collect(words, command)
     if len(files) < command.least_files:
         raise Usage("missing file")
     for name in command.needed:
         if name not in texts:
             raise Usage(f"missing option {name}")
-    order = Order(words[0], files, {}, flags)
+    order = Order(called, files, {}, flags)
     for name in command.options:
         if name in texts:
             order.values[name] = _value_of(name, texts[name], len(files))
     if "inst-max" in command.options and 2 * order.options().inst_min > order.options().inst_max + 1:
         raise Usage("split")
+    if called == "help" and files and files[0] not in COMMANDS:
+        raise Usage("unknown command")
     return order

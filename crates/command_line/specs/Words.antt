@@ -10,10 +10,12 @@ use Rattle.qed_model.specs.declared.change.Change.{Change}
 use Rattle.qed_model.specs.declared.limits.TheConstants.{MAX_HALF}
 use Rattle.qed_model.specs.declared.options.Options.{Options}
 use Rattle.command_line.specs.declared.order.Command.{Command}
-use Rattle.command_line.specs.declared.order.Command.TheVariants.{Transform, Plan, Run, Campaign, Gen, Asm, Harts}
+use Rattle.command_line.specs.declared.order.Command.TheVariants.{Transform, Plan, Run, Campaign, Gen, Asm, Harts, Help, Version}
 use Rattle.command_line.specs.declared.order.Command.TheVariants as command
 use Rattle.command_line.specs.declared.order.Order.{Order}
 use Rattle.command_line.specs.declared.order.Order.TheVariants as order
+use Rattle.command_line.specs.declared.order.Topic.{Topic}
+use Rattle.command_line.specs.declared.order.Topic.TheVariants as topic
 use Rattle.command_line.specs.declared.order.Key.{Key}
 use Rattle.command_line.specs.declared.order.Key.TheVariants.{InstMin, InstMax, Round, Half, Steps, Fault, Dump, Seed, Count, Size, Changes, Turns}
 use Rattle.command_line.specs.declared.order.Reason.{Reason}
@@ -90,6 +92,8 @@ command_of word =
     else if bytes_eq word (codes "list") then Some command.List
     else if bytes_eq word (codes "asm") then Some Asm
     else if bytes_eq word (codes "harts") then Some Harts
+    else if bytes_eq word (codes "help") || bytes_eq word (codes "--help") || bytes_eq word (codes "-h") then Some Help
+    else if bytes_eq word (codes "version") || bytes_eq word (codes "--version") then Some Version
     else None
 
 -- how many files a command has at least
@@ -102,6 +106,8 @@ least_files Gen = 1
 least_files command.List = 1
 least_files Asm = 2
 least_files Harts = 1
+least_files Help = 0
+least_files Version = 0
 
 -- how many it has at most
 abbrev pub most_files : Command → ℕ
@@ -113,6 +119,8 @@ most_files Gen = 1
 most_files command.List = 1
 most_files Asm = 2
 most_files Harts = 8
+most_files Help = 1
+most_files Version = 0
 
 -- the options with a value, in their order
 abbrev pub keys_of : Command → List Key
@@ -124,6 +132,8 @@ keys_of Gen = Seed ∷ Size ∷ []
 keys_of command.List = []
 keys_of Asm = []
 keys_of Harts = Turns ∷ Steps ∷ []
+keys_of Help = []
+keys_of Version = []
 
 -- those that must be given
 abbrev pub required_of : Command → List Key
@@ -135,6 +145,8 @@ required_of Gen = Seed ∷ Size ∷ []
 required_of command.List = []
 required_of Asm = []
 required_of Harts = []
+required_of Help = []
+required_of Version = []
 
 -- whether `--sweep` and `--diverse` are options
 abbrev pub has_flags : Command → Bool
@@ -146,6 +158,8 @@ has_flags Gen = false
 has_flags command.List = false
 has_flags Asm = false
 has_flags Harts = false
+has_flags Help = false
+has_flags Version = false
 
 -- an option's name, without its dashes
 abbrev pub name_of : Key → List ℕ
@@ -364,6 +378,11 @@ changes_given given = in_order (filter_map fault (values Fault given))
 unfoldable pub file : List Argument → ℕ → List ℕ
 file given i = slice_index_or (files given) i []
 
+-- what `help` tells of: a command, or all
+abbrev pub topic_of : Option Command → Topic
+topic_of None = topic.All
+topic_of (Some command) = topic.One command
+
 -- without `--steps` a run has 1,000,000 steps
 unfoldable pub steps_given : List Argument → ℕ
 steps_given given = unwrap_or (number_given Steps given) 1000000
@@ -385,6 +404,8 @@ order_of Gen given = order.Gen (file given 0) (unwrap_or (number_given Seed give
 order_of command.List given = order.List (file given 0)
 order_of Asm given = order.Asm (file given 0) (file given 1)
 order_of Harts given = order.Harts (files given) (option_and_then turns (value_of Turns given)) (steps_given given)
+order_of Help given = order.Tell (topic_of (command_of (file given 0)))
+order_of Version given = order.Tell topic.Version
 
 -- ---- what is asked
 
@@ -392,11 +413,16 @@ order_of Harts given = order.Harts (files given) (option_and_then turns (value_o
 unfoldable pub split_reason : List Argument → Option Reason
 split_reason given = if is_split (options given) then Some Split else None
 
+-- the word behind `help`, where there is one, names a command
+unfoldable pub topic_reason : Command → List Argument → Option Reason
+topic_reason Help given = if length (files given) == 0 || is_some (command_of (file given 0)) then None else Some UnknownCommand
+topic_reason _ given = None
+
 -- the first reason why arguments are no order
 unfoldable pub reason_of : Command → List Argument → Option Reason
 reason_of command given =
     first_reason
-    (first_wrong command [] given ∷ missing command given ∷ first_wrong_value command given ∷ split_reason given ∷ [])
+    (first_wrong command [] given ∷ missing command given ∷ first_wrong_value command given ∷ split_reason given ∷ topic_reason command given ∷ [])
 
 abbrev pub answer : Order → Option Reason → Result Order Reason
 answer o None = Ok o

@@ -5,4 +5,4 @@ mod name;
 mod order;
 
 pub use name::{Name, Names};
-pub use order::{Command, Key, Order, Reason};
+pub use order::{Command, Key, Order, Reason, Topic};

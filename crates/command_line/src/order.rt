@@ -17,6 +17,18 @@ pub enum Command {
     List,
     Asm,
     Harts,
+    Help,
+    Version,
+}
+
+/// What `help` and `version` tell of.
+#[derive(Clone, Copy, Debug, PartialEq, Eq)]
+pub enum Topic {
+    /// All commands.
+    All,
+    One(Command),
+    /// The program's version.
+    Version,
 }
 
 /// A command with its files and options.
@@ -40,6 +52,8 @@ pub enum Order {
     /// The files, the numbers of the harts that make the turns, which are repeated, and the number of turns. Without
     /// numbers the harts take turns from 0 upwards.
     Harts(Names, Option<Bytes>, u64),
+    /// What is told, without any file.
+    Tell(Topic),
 }
 
 /// An option that has a value.
@@ -86,7 +100,7 @@ impl Key {
 pub enum Reason {
     /// There is no word.
     NoCommand,
-    /// Word 0 names no command.
+    /// Word 0 names no command, or that behind `help` does not.
     UnknownCommand,
     EmptyWord(u64),
     /// The word begins with `-` and is no option of the command.

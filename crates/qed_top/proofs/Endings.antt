@@ -12,7 +12,7 @@ use Rattle.elf_types.specs.declared.file.ElfFile.{ElfFile}
 use Rattle.qed_model.specs.declared.options.Options.{Options}
 use Rattle.command_line.specs.declared.order.Order.{Order}
 use Rattle.command_line.specs.declared.order.Order.TheVariants as order
-use Rattle.command_line.specs.declared.order.Order.TheVariants.{Transform, Plan, Run, Campaign, Gen, Asm, Harts}
+use Rattle.command_line.specs.declared.order.Order.TheVariants.{Transform, Plan, Run, Campaign, Gen, Asm, Harts, Tell}
 use Rattle.command_line.specs.declared.order.Reason.{Reason}
 use Rattle.qed_model.specs.declared.plan.Plan as plan
 use Rattle.qed_model.specs.Elf.File.{IsReadAs}
@@ -151,6 +151,7 @@ over_printed (Gen output seed size) bytes answer m = gens_printed output seed si
 over_printed (order.List file) bytes answer m = lists_printed bytes answer m
 over_printed (Asm text output) bytes answer m = asm_printed bytes output answer m
 over_printed (Harts files turns steps) bytes answer m = absurd m
+over_printed (Tell topic) bytes answer m = prints Done answer tt m.status
 
 source_printed : (order : Order) (source : Option (List ℕ)) (files : Files) (rose : List ℕ → Type 0) (answer : Answer) → CallsBy order source files rose answer → Printed answer.status
 source_printed order None files rose answer m = over_printed order [] answer m
@@ -319,6 +320,7 @@ over_settled (Gen output seed size) bytes answer t m d = gens_settled output see
 over_settled (order.List file) bytes answer t m d = read_unique bytes (λ f. Done) answer.status t (lists_decided bytes answer m) d
 over_settled (Asm text output) bytes answer t m d = asm_settled bytes output answer t m d
 over_settled (Harts files turns steps) bytes answer t m d = absurd m
+over_settled (Tell topic) bytes answer t m d = m.status ∙ sym d
 
 -- what an order decides by the name of its file
 abbrev DecidesBy : Order → Option (List ℕ) → Files → Status → Type 0
@@ -343,6 +345,7 @@ calm_one (Gen output seed size) rose calm = tt
 calm_one (order.List file) rose calm = All-head (λ name. rose name → ⊥) file [] calm
 calm_one (Asm text output) rose calm = All-head (λ name. rose name → ⊥) text [] calm
 calm_one (Harts names turns steps) rose calm = tt
+calm_one (Tell topic) rose calm = tt
 
 order_settled :
     (order : Order) (loads : Loads) (rose : List ℕ → Type 0) (answer : Answer) (t : Status) → All (λ name. rose name → ⊥) (source_names order)
@@ -426,6 +429,7 @@ over_store (Gen output seed size) bytes stores answer calm m r = gens_store outp
 over_store (order.List file) bytes stores answer calm m r = lists_store bytes stores answer m r
 over_store (Asm text output) bytes stores answer calm m r = asm_store bytes output stores answer calm m r
 over_store (Harts files turns steps) bytes stores answer calm m r = absurd m
+over_store (Tell topic) bytes stores answer calm m r = none_stored answer stores m.stored r
 
 source_store :
     (order : Order) (source : Option (List ℕ)) (files : Files) (rose stores : List ℕ → Type 0) (answer : Answer) → IfSome (stored_name order) (λ name. stores name → ⊥)

@@ -13,7 +13,7 @@ use Rattle.qed_model.specs.declared.change.Change.{Change}
 use Rattle.qed_model.specs.declared.options.Options.{Options}
 use Rattle.command_line.specs.declared.order.Order.{Order}
 use Rattle.command_line.specs.declared.order.Order.TheVariants as order
-use Rattle.command_line.specs.declared.order.Order.TheVariants.{Transform, Plan, Run, Campaign, Gen, Asm, Harts}
+use Rattle.command_line.specs.declared.order.Order.TheVariants.{Transform, Plan, Run, Campaign, Gen, Asm, Harts, Tell}
 use Rattle.qed_model.specs.Elf.File.{IsReadAs}
 use Rattle.qed_model.specs.Elf.Refusals.{IsRefused}
 use Rattle.qed_model.specs.Limits.{limit_of}
@@ -135,6 +135,7 @@ DecidesOver (Gen output seed size) bytes status = GenDecides seed size status
 DecidesOver (order.List file) bytes status = ReadDecides bytes (λ f. Done) status
 DecidesOver (Asm text output) bytes status = AsmDecides bytes status
 DecidesOver (Harts files turns steps) bytes status = ⊥
+DecidesOver (Tell topic) bytes status = status ≡ Done
 
 -- the same with the loading of the file
 abbrev pub SourceDecides : Order → Files → Status → Type 0

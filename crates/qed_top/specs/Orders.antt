@@ -5,10 +5,11 @@ use Rattle.qed_model.specs.declared.limits.Limit as limits
 use Rattle.qed_model.specs.declared.limits.Limit.TheVariants.{FileBytes, RunFileBytes}
 use Rattle.command_line.specs.declared.order.Order.{Order}
 use Rattle.command_line.specs.declared.order.Order.TheVariants as order
-use Rattle.command_line.specs.declared.order.Order.TheVariants.{Transform, Plan, Run, Campaign, Gen, Asm, Harts}
+use Rattle.command_line.specs.declared.order.Order.TheVariants.{Transform, Plan, Run, Campaign, Gen, Asm, Harts, Tell}
 use Rattle.command_line.specs.declared.order.Reason.{Reason}
 use Rattle.command_line.specs.Text.Usage.{reason_line}
 use Rattle.command_line.specs.Words.{asked}
+use Rattle.report.specs.Told.{told_text}
 use Rattle.qed_top.specs.Answer.{PrintsOnly, CallsFor}
 use Rattle.qed_top.specs.List.{Lists}
 use Rattle.qed_top.specs.Asm.{Assembles}
@@ -19,7 +20,7 @@ use Rattle.qed_top.specs.Loads.{Loads}
 use Rattle.qed_top.specs.Run.{Runs}
 use Rattle.qed_top.specs.World.{FilesCallFor}
 use Rattle.qed_top.specs.declared.answer.Answer.{Answer}
-use Rattle.qed_top.specs.declared.status.Status.TheVariants.{Usage}
+use Rattle.qed_top.specs.declared.status.Status.TheVariants.{Done, Usage}
 
 -- ---- files
 -- the name of the file that an order reads, where it reads one
@@ -32,6 +33,7 @@ source_name (Gen output seed size) = None
 source_name (order.List file) = Some file
 source_name (Asm text output) = Some text
 source_name (Harts files turns steps) = None
+source_name (Tell topic) = None
 
 -- the names of all files that it reads, in their order
 abbrev pub source_names : Order → List (List ℕ)
@@ -43,6 +45,7 @@ source_names (Gen output seed size) = []
 source_names (order.List file) = file ∷ []
 source_names (Asm text output) = text ∷ []
 source_names (Harts files turns steps) = files
+source_names (Tell topic) = []
 
 -- whether it reads several
 abbrev pub reads_several : Order → Bool
@@ -77,6 +80,7 @@ AnswersOver (Gen output seed size) bytes answer = Gens output seed size answer
 AnswersOver (order.List file) bytes answer = Lists bytes answer
 AnswersOver (Asm text output) bytes answer = Assembles bytes output answer
 AnswersOver (Harts files turns steps) bytes answer = ⊥
+AnswersOver (Tell topic) bytes answer = PrintsOnly Done (told_text topic) answer
 
 -- the same with the loading of the file; `rose` holds of a name whose count of failed loads rose
 abbrev pub SourceCallsFor : Order → Files → (List ℕ → Type 0) → Answer → Type 0

@@ -15,7 +15,7 @@ use crate::run::answer_run;
 use crate::status::Status;
 use command_line::{Order, Reason};
 use qed_model::Limit;
-use report::usage_text;
+use report::{told_text, usage_text};
 use std::alloc::{AllocError, Global};
 
 /// The name of the file that an order reads, where there is one.
@@ -31,6 +31,7 @@ pub fn source_name(order: &Order) -> Option<&str>
         Order::List(file) => Some(file.as_str()),
         Order::Asm(text, _) => Some(text.as_str()),
         Order::Harts(_, _, _) => None,
+        Order::Tell(_) => None,
     }
 }
 
@@ -87,6 +88,10 @@ pub fn answer_order(alloc: Global, order: Order, bytes: &[u8]) -> Result<Answer,
         Order::Campaign(_, options, seed, count, changes) => {
             let answer = answer_campaign(alloc, bytes, &options, seed, count, changes)?;
             Ok(answer)
+        }
+        Order::Tell(topic) => {
+            let text = told_text(alloc, topic)?;
+            Ok(plain(Status::Done, text))
         }
         Order::Harts(_, _, _) => unreachable!(),
     }

@@ -10,7 +10,7 @@ use Rattle.std.proofs.lemmas.List.Elements.{All-from_recursion}
 use Rattle.std.specs.Option.{option_or}
 use Rattle.qed_model.specs.declared.limits.TheConstants.{MAX_HALF}
 use Rattle.command_line.specs.declared.order.Command.{Command}
-use Rattle.command_line.specs.declared.order.Command.TheVariants.{Transform, Plan, Run, Campaign, Gen, Asm, Harts}
+use Rattle.command_line.specs.declared.order.Command.TheVariants.{Transform, Plan, Run, Campaign, Gen, Asm, Harts, Help, Version}
 use Rattle.command_line.specs.declared.order.Command.TheVariants as command
 use Rattle.command_line.specs.declared.order.Order.{Order}
 use Rattle.command_line.specs.declared.order.Key.{Key}
@@ -19,7 +19,7 @@ use Rattle.command_line.specs.declared.order.Reason.{Reason}
 use Rattle.command_line.specs.declared.order.Reason.TheVariants.{MissingFile, MissingOption, OutOfRange, Split}
 use Rattle.qed_model.specs.Promise.Changed.{Ordered}
 use Rattle.qed_model.specs.Weave.Places.{AreSoundOptions}
-use Rattle.command_line.specs.Words.{Argument, asked, asked_of, answer, fault, first_wrong, span_in, arguments, command_of, dump, files, first_reason, first_wrong_value, is_in_range, keys_of, lacks, missing, number_given, options, order_of, reason_of, span_of, split_reason, value_of, values, wrong_number, wrong_value, wrong_values, changes_given, is_digit, steps_given, turns, wrong_turns}
+use Rattle.command_line.specs.Words.{Argument, asked, asked_of, answer, fault, first_wrong, span_in, arguments, command_of, dump, files, first_reason, first_wrong_value, is_in_range, keys_of, lacks, missing, number_given, options, order_of, reason_of, span_of, split_reason, topic_reason, value_of, values, wrong_number, wrong_value, wrong_values, changes_given, is_digit, steps_given, turns, wrong_turns}
 use Rattle.texts.specs.Read.{colon, parted, number}
 use Rattle.ordered_changes.proofs.InOrder.{in_order_ordered}
 use Rattle.qed_words.specs.Sound.{IsSoundOrder}
@@ -189,8 +189,8 @@ record IsFaultless (command : Command) (given : List Argument) : Type 0 where
 faultless : (command : Command) (given : List Argument) → reason_of command given ≡ None → IsFaultless command given
 unfolding reason_of first_wrong_value
 faultless command given e =
-    let all : AllNone (first_wrong command [] given ∷ missing command given ∷ first_wrong_value command given ∷ split_reason given ∷ [])
-    = no_reason (first_wrong command [] given ∷ missing command given ∷ first_wrong_value command given ∷ split_reason given ∷ []) e in
+    let all : AllNone (first_wrong command [] given ∷ missing command given ∷ first_wrong_value command given ∷ split_reason given ∷ topic_reason command given ∷ [])
+    = no_reason (first_wrong command [] given ∷ missing command given ∷ first_wrong_value command given ∷ split_reason given ∷ topic_reason command given ∷ []) e in
     record { words = all.0; there = all.1.0; values = no_reason (map (wrong_values given) (keys_of command)) all.1.1.0; room = all.1.1.1.0 }
 
 count_fits : (n : Option ℕ) → IsSomeAnd n (IsInRange Count) → (1 ≤ unwrap_or n 0) × (unwrap_or n 0 ≤ 10000)
@@ -290,6 +290,8 @@ order_sound Harts given f =
       some_turns = turning.0;
       below = turning.1;
     }
+order_sound Help given f = tt
+order_sound Version given f = tt
 
 answer_sound : (command : Command) (given : List Argument) (reason : Option Reason) → reason_of command given ≡ reason → (o : Order) → answer (order_of command given) reason ≡ Ok o → IsSoundOrder o
 answer_sound command given None none o e =

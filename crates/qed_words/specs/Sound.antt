@@ -3,7 +3,7 @@ use Rattle.std.specs.Prelude.{ℕ, ◌+◌, ◌^◌, ◌≤◌, ◌<◌, List, O
 use Rattle.qed_model.specs.declared.change.Change.{Change}
 use Rattle.command_line.specs.declared.order.Order.{Order}
 use Rattle.command_line.specs.declared.order.Order.TheVariants as order
-use Rattle.command_line.specs.declared.order.Order.TheVariants.{Transform, Plan, Run, Campaign, Gen, Asm, Harts}
+use Rattle.command_line.specs.declared.order.Order.TheVariants.{Transform, Plan, Run, Campaign, Gen, Asm, Harts, Tell}
 use Rattle.qed_model.specs.Promise.Changed.{Ordered}
 use Rattle.qed_model.specs.Weave.Places.{AreSoundOptions}
 
@@ -31,3 +31,4 @@ IsSoundOrder (Gen output seed size) = (1 ≤ size) × (size ≤ 60000)
 IsSoundOrder (order.List file) = Unit {0}
 IsSoundOrder (Asm text output) = Unit {0}
 IsSoundOrder (Harts files turns steps) = IsSoundSchedule files turns steps
+IsSoundOrder (Tell topic) = Unit {0}

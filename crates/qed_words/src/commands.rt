@@ -24,6 +24,10 @@ pub fn command_named(word: &str) -> Option<Command>
         Some(Command::Asm)
     } else if word == "harts" {
         Some(Command::Harts)
+    } else if word == "help" || word == "--help" || word == "-h" {
+        Some(Command::Help)
+    } else if word == "version" || word == "--version" {
+        Some(Command::Version)
     } else {
         None
     }
@@ -41,6 +45,7 @@ pub fn least_files(command: Command) -> usize
         | Command::Gen
         | Command::List
         | Command::Harts => 1,
+        Command::Help | Command::Version => 0,
     }
 }
 
@@ -50,6 +55,7 @@ pub fn most_files(command: Command) -> usize
 {
     match command {
         Command::Harts => 8,
+        Command::Help => 1,
         _ => least_files(command),
     }
 }
@@ -73,7 +79,7 @@ pub fn keys(command: Command) -> &'static [Key]
             Key::Changes,
         ],
         Command::Gen => &[Key::Seed, Key::Size],
-        Command::List | Command::Asm => &[],
+        Command::List | Command::Asm | Command::Help | Command::Version => &[],
         Command::Harts => &[Key::Turns, Key::Steps],
     }
 }
@@ -88,7 +94,9 @@ pub fn required(command: Command) -> &'static [Key]
         | Command::Run
         | Command::List
         | Command::Asm
-        | Command::Harts => &[],
+        | Command::Harts
+        | Command::Help
+        | Command::Version => &[],
         Command::Campaign => &[Key::Seed, Key::Count],
         Command::Gen => &[Key::Seed, Key::Size],
     }
@@ -100,7 +108,13 @@ fn has_flags(command: Command) -> bool
 {
     match command {
         Command::Transform | Command::Plan | Command::Campaign => true,
-        Command::Run | Command::Gen | Command::List | Command::Asm | Command::Harts => false,
+        Command::Run
+        | Command::Gen
+        | Command::List
+        | Command::Asm
+        | Command::Harts
+        | Command::Help
+        | Command::Version => false,
     }
 }
 

@@ -1,9 +1,11 @@
 //! The first reason why arguments are no order.
 ghost use Rattle.std.specs.Prelude.{◌≡◌, map};
-ghost use Rattle.command_line.specs.Words.{split_reason as split_reason_of, reason_of};
+ghost use Rattle.command_line.specs.Words.{split_reason as split_reason_of, topic_reason as topic_reason_of, reason_of};
 ghost use Rattle.qed_words.specs.Seen.{seen};
 
 use crate::argument::Argument;
+use crate::commands::command_named;
+use crate::given::{count_files, file};
 use crate::options::{is_split, options};
 use crate::value::first_wrong_value;
 use crate::wrong::{first_wrong, missing};
@@ -14,6 +16,20 @@ fn split_reason(arguments: &[Argument<'_>]) -> Option<Reason>
     ensures { result ≡ split_reason_of (map seen arguments.now) }
 {
     is_split(&options(arguments)).then_some(Reason::Split)
+}
+
+/// That the word behind `help` names no command.
+#[tactic(auto, unfolding(command_line::specs::Words::topic_reason))]
+fn topic_reason(command: Command, arguments: &[Argument<'_>]) -> Option<Reason>
+    ensures { result ≡ topic_reason_of command (map seen arguments.now) }
+{
+    match command {
+        Command::Help => {
+            let is_known = command_named(file(arguments, 0)).is_some();
+            (count_files(arguments) > 0 && !is_known).then_some(Reason::UnknownCommand)
+        }
+        _ => None,
+    }
 }
 
 /// The first reason why arguments are no order.
@@ -30,5 +46,8 @@ pub fn first_reason(command: Command, arguments: &[Argument<'_>]) -> Option<Reas
     if let Some(reason) = first_wrong_value(command, arguments) {
         return Some(reason);
     }
-    split_reason(arguments)
+    if let Some(reason) = split_reason(arguments) {
+        return Some(reason);
+    }
+    topic_reason(command, arguments)
 }

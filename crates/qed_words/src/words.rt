@@ -1,7 +1,7 @@
 //! The order that words ask for.
 ghost use Rattle.std.specs.Prelude.{◌≡◌, Ok, IfOk, IfErr, map, option_and_then};
 ghost use Rattle.command_line.specs.declared.order.Key.TheVariants as key;
-ghost use Rattle.command_line.specs.Words.{texts, dump as dump_of, value_of, file as file_of, steps_given as steps_given_of, order_of, asked};
+ghost use Rattle.command_line.specs.Words.{texts, dump as dump_of, value_of, file as file_of, steps_given as steps_given_of, command_of, topic_of, order_of, asked};
 ghost use Rattle.qed_words.specs.Seen.{seen};
 ghost use Rattle.qed_words.specs.Sound.{IsSoundOrder};
 ghost use Rattle.qed_words.specs.WordsError.{Explains};
@@ -17,7 +17,7 @@ use crate::options::options;
 use crate::reason::first_reason;
 use crate::shape::dump;
 use crate::turns::turns_given;
-use command_line::{Command, Key, Name, Order, Reason};
+use command_line::{Command, Key, Name, Order, Reason, Topic};
 use std::alloc::{AllocError, Global};
 
 /// The steps of a run where no option says otherwise.
@@ -43,6 +43,16 @@ fn dump_given(arguments: &[Argument<'_>]) -> Option<(u64, u64)>
     ensures { result ≡ option_and_then dump_of (value_of key.Dump (map seen arguments.now)) }
 {
     dump(first_value(Key::Dump, arguments)?)
+}
+
+/// What `help` is to tell of.
+fn topic_given(arguments: &[Argument<'_>]) -> Topic
+    ensures { result ≡ topic_of (command_of (file_of (map seen arguments.now) 0)) }
+{
+    match command_named(file(arguments, 0)) {
+        None => Topic::All,
+        Some(command) => Topic::One(command),
+    }
 }
 
 /// The order that arguments ask for, where nothing is wrong with them.
@@ -86,6 +96,8 @@ fn make_order(
             let turns = turns_given(alloc, arguments)?;
             Ok(Order::Harts(files, turns, steps_given(arguments)))
         }
+        Command::Help => Ok(Order::Tell(topic_given(arguments))),
+        Command::Version => Ok(Order::Tell(Topic::Version)),
     }
 }
 

@@ -4,3 +4,4 @@ pub mod Tally
 pub mod Generated
 pub mod Assembly
 pub mod World
+pub mod Told

@@ -1,0 +1,20 @@
+-- What `help` and `version` tell: texts that stand in the code.
+use Rattle.std.specs.Prelude.{ℕ, List}
+use Rattle.command_line.specs.declared.order.Command.TheVariants as command
+use Rattle.command_line.specs.declared.order.Topic.{Topic}
+use Rattle.command_line.specs.declared.order.Topic.TheVariants as topic
+use Rattle.report.specs.declared.help.TheConstants.{HELP, TRANSFORM, PLAN, RUN, CAMPAIGN, GEN, LIST, ASM, HARTS, VERSION}
+
+abbrev pub told_text : Topic → List ℕ
+told_text topic.All = HELP.now
+told_text topic.Version = VERSION.now
+told_text (topic.One command.Transform) = TRANSFORM.now
+told_text (topic.One command.Plan) = PLAN.now
+told_text (topic.One command.Run) = RUN.now
+told_text (topic.One command.Campaign) = CAMPAIGN.now
+told_text (topic.One command.Gen) = GEN.now
+told_text (topic.One command.List) = LIST.now
+told_text (topic.One command.Asm) = ASM.now
+told_text (topic.One command.Harts) = HARTS.now
+told_text (topic.One command.Help) = HELP.now
+told_text (topic.One command.Version) = HELP.now
