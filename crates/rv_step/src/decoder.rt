@@ -151,6 +151,11 @@ impl Decoder {
         Ok(Decoder { kept })
     }
 
+    /// Where it has its memory from.
+    pub fn alloc(&self) -> Global {
+        *self.kept.all.allocator()
+    }
+
     /// The instruction of a word that stands at an address.
     #[inline(always)]
     pub fn decode(&mut self, address: u64, word: u32) -> Option<Ins>

@@ -169,7 +169,7 @@ impl Hart {
     /// One instruction. The pc is a multiple of 4, as it is where an instruction was fetched.
     #[tactic(auto, unfolding(qed_model::specs::Machine::Step::execute))]
     #[inline(always)]
-    fn execute(&mut self, ins: &Ins, image: &mut Image) -> Result<(), AllocError>
+    pub(crate) fn execute(&mut self, ins: &Ins, image: &mut Image) -> Result<(), AllocError>
         requires { self.old.pc % 4 ≡ 0 }
         ensures done { IfOk result (λ _. LeadsIn (execute (class_of ins.now.kind) ins.now) self.old image.old self.new image.new) }
         ensures kept { IfErr result (λ _. self.new ≡ self.old) }

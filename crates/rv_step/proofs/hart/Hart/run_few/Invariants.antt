@@ -1,7 +1,7 @@
 use Rattle.rv_step.specs.Harts.{with_memory}
 use Rattle.rv_step.specs.Known.{IsMade}
 use Rattle.rv_step.specs.Windows.{IsWindow}
-use Rattle.rv_step.proofs.hart.Hart.run_uncounted.Given as goal
+use Rattle.rv_step.proofs.hart.Hart.run_few.Given as goal
 
 -- the steps so far were made, and the window is one of the hart in its memory
 abbrev pub invariant-loop-made : goal.invariant-loop-made
