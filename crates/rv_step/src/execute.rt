@@ -52,7 +52,11 @@ impl Hart {
 
     /// The step of a hart that goes on, with the word at the pc; it is not counted here.
     #[inline(always)]
-    pub(crate) fn advance(&mut self, word: Option<u32>, image: &mut Image) -> Result<(), AllocError>
+    pub(crate) fn advance<const LOOP: u32>(
+        &mut self,
+        word: Option<u32>,
+        image: &mut Image,
+    ) -> Result<(), AllocError>
         requires { word ≡ word_at (with_memory self.old image.old).state self.old.pc }
         ensures advanced { IfOk result (λ _. LeadsIn (λ s. act (next s) s) self.old image.old self.new image.new) }
         ensures kept { IfErr result (λ _. self.new ≡ self.old) }
@@ -66,7 +70,7 @@ impl Hart {
             self.trap(Cause::Word(word));
             return Ok(());
         };
-        self.execute(&ins, image)?;
+        self.execute::<LOOP>(&ins, image)?;
         Ok(())
     }
 }
@@ -169,7 +173,11 @@ impl Hart {
     /// One instruction. The pc is a multiple of 4, as it is where an instruction was fetched.
     #[tactic(auto, unfolding(qed_model::specs::Machine::Step::execute))]
     #[inline(always)]
-    pub(crate) fn execute(&mut self, ins: &Ins, image: &mut Image) -> Result<(), AllocError>
+    pub(crate) fn execute<const LOOP: u32>(
+        &mut self,
+        ins: &Ins,
+        image: &mut Image,
+    ) -> Result<(), AllocError>
         requires { self.old.pc % 4 ≡ 0 }
         ensures done { IfOk result (λ _. LeadsIn (execute (class_of ins.now.kind) ins.now) self.old image.old self.new image.new) }
         ensures kept { IfErr result (λ _. self.new ≡ self.old) }

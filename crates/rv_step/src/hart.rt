@@ -24,7 +24,7 @@ use std::alloc::{AllocError, Global};
 use std::marker::Model;
 
 /// How many steps are made before a run is long, so that a table of its instructions is worth what it costs.
-const FEW: u64 = 16384;
+const FEW: u64 = 8192;
 
 /// One hart of RV64IM: registers, pc, code ranges, outcome and number of steps. Its memory is handed to each step.
 #[derive(Drop)]
@@ -207,7 +207,7 @@ impl Hart {
             self.step_new(image, window, table)?;
             return Ok(());
         };
-        self.execute(ins, image)?;
+        self.execute::<2>(ins, image)?;
         Ok(())
     }
 
@@ -229,7 +229,7 @@ impl Hart {
     {
         let word = self.word_in(image, window, true);
         self.learn_next(window, table);
-        self.advance(word, image)?;
+        self.advance::<1>(word, image)?;
         Ok(())
     }
 
@@ -266,7 +266,7 @@ impl Hart {
         ensures memory { IfErr result (λ _. image.new ≡ image.old) }
     {
         let word = self.word_in(image, window, more);
-        self.advance(word, image)?;
+        self.advance::<0>(word, image)?;
         Ok(())
     }
 
