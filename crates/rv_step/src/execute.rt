@@ -166,8 +166,8 @@ impl Hart {
     fn write_back(&mut self, rd: Reg, value: u64)
         ensures { Leads (λ s. moved (set_reg rd value s.regs) (next_pc s) s) self.old self.new }
     {
-        self.regs.set(rd, value);
         self.go_on();
+        self.regs.set(rd, value);
     }
 
     /// One instruction. The pc is a multiple of 4, as it is where an instruction was fetched.
@@ -292,6 +292,7 @@ impl Hart {
     }
 
     /// JAL or JALR. A target off the grain of 4 leaves the register that was to hold the link.
+    #[inline(always)]
     fn jump(&mut self, ins: &Ins)
         requires { IsJumping (class_of ins.now.kind) }
         ensures { Leads (execute (class_of ins.now.kind) ins.now) self.old self.new }

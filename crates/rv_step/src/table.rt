@@ -11,10 +11,25 @@ use std::marker::Model;
 const KEPT: usize = 16384;
 
 /// An instruction, and the address at which it stands. At an odd address there is none.
+///
+/// It has 32 bytes, so that its place is an address by a mask and one multiplication.
 #[derive(Clone, Copy)]
 pub struct Entry {
-    address: u64,
     ins: Ins,
+    address: u64,
+    _room: u64,
+}
+
+impl Entry {
+    fn new(address: u64, ins: &Ins) -> Entry
+        ensures { result ≡ record { ins = ins.now; address = address; _room = 0 } }
+    {
+        Entry {
+            ins: *ins,
+            address,
+            _room: 0,
+        }
+    }
 }
 
 /// Instructions that stand where no store changes them, each at a place that some bits of its address tell.
@@ -47,10 +62,7 @@ impl Table {
     pub fn new(alloc: Global) -> Result<Table, AllocError>
         ensures { IfOk result (λ table. (s : State) → IsTable s table) }
     {
-        let none = Entry {
-            address: 1,
-            ins: Ins::nop(),
-        };
+        let none = Entry::new(1, &Ins::nop());
         let all = vec![in alloc; none; KEPT]?;
         Ok(Table { all })
     }
@@ -72,6 +84,6 @@ impl Table {
     pub fn put(&mut self, address: u64, ins: &Ins)
         ensures { (s : State) → IsTable s self.old → IsHeld s address ins.now → IsTable s self.new }
     {
-        self.all[slot(address)] = Entry { address, ins: *ins };
+        self.all[slot(address)] = Entry::new(address, ins);
     }
 }
