@@ -7,7 +7,7 @@ use Rattle.qed_model.specs.declared.machine.Outcome.TheVariants.{Going, Ended, F
 use Rattle.qed_model.specs.Machine.Step.{State, step, step_at}
 use Rattle.qed_model.specs.Machine.Progress.{Progress, counted, advanced, steps_after, progress}
 use Rattle.qed_model.specs.Machine.Memory.{Memory}
-use Rattle.rv_step.specs.Known.{goes_on, IsMade, IsPart}
+use Rattle.rv_step.specs.Known.{at_state, goes_on, IsMade, IsPart}
 use Rattle.rv_step.specs.Harts.{HartState, with_memory}
 
 stays_at : (o : Outcome) (s : State) → goes_on o ≡ false → step_at o s ≡ s
@@ -67,7 +67,7 @@ state_advanced : (p : Progress) → (advanced p).state ≡ step p.state
 unfolding advanced
 state_advanced p = refl
 
-pub made_more : (p q r : Progress) (n : ℕ) → IsMade p n q → goes_on q.state.outcome ≡ true → r.state ≡ step q.state → r.steps ≡ q.steps → IsMade p (n + 1) r
+made_more : (p q r : Progress) (n : ℕ) → IsMade p n q → goes_on q.state.outcome ≡ true → r.state ≡ step q.state → r.steps ≡ q.steps → IsMade p (n + 1) r
 made_more p q r n h goes stepped same =
     let here : goes_on (progress p n).state.outcome ≡ true = ap (λ s. goes_on s.outcome) (sym h.state) ∙ goes in
     let more : suc n ≡ n + 1 = omega arith in
@@ -76,6 +76,10 @@ made_more p q r n h goes stepped same =
       before = same ∙ h.before;
       going = below_more (λ k. goes_on (progress p k).state.outcome ≡ true) n h.going here;
     }
+
+-- one that is a step
+pub step_made : (p here next : Progress) (n : ℕ) → IsMade p n here → goes_on here.state.outcome ≡ true → next ≡ at_state (step here.state) here → IsMade p (n + 1) next
+step_made p here next n h goes is = made_more p here next n h goes (ap (λ q. q.state) is) (ap (λ q. q.steps) is)
 
 one_counted : (o : Outcome) (n : ℕ) → goes_on o ≡ true → steps_after o n ≡ counted n
 one_counted Going n h = refl

@@ -131,13 +131,20 @@ impl Hart {
         ensures stopped { IfOk result.1 (λ _. result.0 < n → goes_on self.new.outcome ≡ false) }
         ensures part { IfErr result.1 (λ _. result.0 < n) }
     {
+        if !self.goes_on() {
+            return (0, Ok(()));
+        }
         let mut window = Window::none();
         for made in 0..n {
-            if !self.goes_on() {
-                return (made, Ok(()));
+            let on = match self.step_in(image, &mut window, n > 1) {
+                Ok(on) => on,
+                Err(error) => return (made, Err(error)),
+            };
+            if on {
+                continue;
             }
-            if let Err(error) = self.step_in(image, &mut window, n > 1) {
-                return (made, Err(error));
+            if !self.goes_on() {
+                return (made + 1, Ok(()));
             }
         }
         (n, Ok(()))
@@ -175,19 +182,27 @@ impl Hart {
         ensures stopped { IfOk result.1 (λ _. result.0 < n → goes_on self.new.outcome ≡ false) }
         ensures part { IfErr result.1 (λ _. result.0 < n) }
     {
+        if !self.goes_on() {
+            return (0, Ok(()));
+        }
         let mut window = Window::none();
         for made in 0..n {
-            if !self.goes_on() {
-                return (made, Ok(()));
+            let on = match self.step_known(image, &mut window, table) {
+                Ok(on) => on,
+                Err(error) => return (made, Err(error)),
+            };
+            if on {
+                continue;
             }
-            if let Err(error) = self.step_known(image, &mut window, table) {
-                return (made, Err(error));
+            if !self.goes_on() {
+                return (made + 1, Ok(()));
             }
         }
         (n, Ok(()))
     }
 
-    /// The step of a hart that goes on, with the instruction that the table has at the pc. It is not counted here.
+    /// The step of a hart that goes on, with the instruction that the table has at the pc, and whether the hart surely goes on. It is not
+    /// counted here.
     #[tactic(auto, unfolding(qed_model::specs::Machine::Step::step))]
     #[inline(always)]
     fn step_known(
@@ -195,20 +210,21 @@ impl Hart {
         image: &mut Image,
         window: &mut Window,
         table: &mut Table,
-    ) -> Result<(), AllocError>
+    ) -> Result<bool, AllocError>
         requires goes { goes_on self.old.outcome ≡ true }
         requires known { IsKnown (with_memory self.old image.old).state window.old table.old }
         ensures step { IfOk result (λ _. LeadsIn step self.old image.old self.new image.new) }
         ensures known { IfOk result (λ _. IsKnown (with_memory self.new image.new).state window.new table.new) }
+        ensures on { IfOk result (λ on. on ≡ true → goes_on self.new.outcome ≡ true) }
         ensures kept { IfErr result (λ _. self.new ≡ self.old) }
         ensures memory { IfErr result (λ _. image.new ≡ image.old) }
     {
         let Some(ins) = table.at(self.pc()) else {
-            self.step_new(image, window, table)?;
-            return Ok(());
+            let on = self.step_new(image, window, table)?;
+            return Ok(on);
         };
-        self.execute::<2>(ins, image)?;
-        Ok(())
+        let on = self.execute::<2>(ins, image)?;
+        Ok(on)
     }
 
     /// The same, with the word at the pc, whose instruction is put into the table where no store changes it.
@@ -219,18 +235,19 @@ impl Hart {
         image: &mut Image,
         window: &mut Window,
         table: &mut Table,
-    ) -> Result<(), AllocError>
+    ) -> Result<bool, AllocError>
         requires goes { goes_on self.old.outcome ≡ true }
         requires known { IsKnown (with_memory self.old image.old).state window.old table.old }
         ensures step { IfOk result (λ _. LeadsIn step self.old image.old self.new image.new) }
         ensures known { IfOk result (λ _. IsKnown (with_memory self.new image.new).state window.new table.new) }
+        ensures on { IfOk result (λ on. on ≡ true → goes_on self.new.outcome ≡ true) }
         ensures kept { IfErr result (λ _. self.new ≡ self.old) }
         ensures memory { IfErr result (λ _. image.new ≡ image.old) }
     {
         let word = self.word_in(image, window, true);
         self.learn_next(window, table);
-        self.advance::<1>(word, image)?;
-        Ok(())
+        let on = self.advance::<1>(word, image)?;
+        Ok(on)
     }
 
     /// Puts the instruction at the pc into the table, where the window has it.
@@ -248,8 +265,7 @@ impl Hart {
         table.put(self.pc, &ins);
     }
 
-    /// The step of a hart that goes on, with the word of a window on its code, or of a new one where `more` steps may follow. It is
-    /// not counted here.
+    /// The same, with the word of a window on the code, or of a new one where `more` steps may follow.
     #[tactic(auto, unfolding(qed_model::specs::Machine::Step::step))]
     #[inline(always)]
     fn step_in(
@@ -257,17 +273,18 @@ impl Hart {
         image: &mut Image,
         window: &mut Window,
         more: bool,
-    ) -> Result<(), AllocError>
+    ) -> Result<bool, AllocError>
         requires goes { goes_on self.old.outcome ≡ true }
         requires window { IsWindow (with_memory self.old image.old).state window.old }
         ensures step { IfOk result (λ _. LeadsIn step self.old image.old self.new image.new) }
         ensures window { IfOk result (λ _. IsWindow (with_memory self.new image.new).state window.new) }
+        ensures on { IfOk result (λ on. on ≡ true → goes_on self.new.outcome ≡ true) }
         ensures kept { IfErr result (λ _. self.new ≡ self.old) }
         ensures memory { IfErr result (λ _. image.new ≡ image.old) }
     {
         let word = self.word_in(image, window, more);
-        self.advance::<0>(word, image)?;
-        Ok(())
+        let on = self.advance::<0>(word, image)?;
+        Ok(on)
     }
 
     /// The word at the pc, where it may be executed, else None.

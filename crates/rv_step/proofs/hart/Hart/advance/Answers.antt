@@ -33,4 +33,4 @@ returns-clause-advanced g c =
     let i = c.in-Some-decode.ins in
     let some : word_at m.state m.state.pc ≡ Some w = sym c.requires ∙ c.in-Some.is in
     let known : decode_of w ≡ Some i = sym c.decode.ensures ∙ c.in-Some-decode.is in
-    c.in_ok-execute.ensures.done ∙ ap (λ (h : HartState). at_state (execute (class_of i.kind) i (with_memory h n).state) (with_memory h n)) c.self.view_is ∙ sym (ap (λ f. at_state (act f m.state) m) (fetched_some m.state m.state.pc w some ∙ ap (known_or w) known))
+    c.in_ok-on.ensures.done ∙ ap (λ (h : HartState). at_state (execute (class_of i.kind) i (with_memory h n).state) (with_memory h n)) c.self.view_is ∙ sym (ap (λ f. at_state (act f m.state) m) (fetched_some m.state m.state.pc w some ∙ ap (known_or w) known))

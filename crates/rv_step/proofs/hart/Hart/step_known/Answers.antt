@@ -12,7 +12,7 @@ returns-clause-step c =
     let p = with_memory c.args.self.now c.args.image.now in
     let i = c.in-Some.ins.now in
     let here : next p.state ≡ Known i = c.in-Some.ensures p.state c.requires.known.table c.pc.ensures in
-    c.in_ok-execute.ensures.done ∙ ap (λ s. at_state s p) (sym (step_executes p.state i c.requires.goes here))
+    c.in_ok-on-2.ensures.done ∙ ap (λ s. at_state s p) (sym (step_executes p.state i c.requires.goes here))
 
 pub returns-clause-known : goal.returns-clause-known
 returns-clause-known c =

@@ -8,6 +8,6 @@ use Rattle.rv_step.proofs.hart.Hart.step_new.Goals as goal
 pub returns-clause-known : goal.returns-clause-known
 returns-clause-known c =
     let here = with_memory c.learn_next.new.self c.word_in-word.new.image in
-    subst (λ (p : Progress). IsKnown p.state c.word_in-word.new.window c.learn_next.new.table) (sym c.in_ok-advance.ensures.advanced)
+    subst (λ (p : Progress). IsKnown p.state c.word_in-word.new.window c.learn_next.new.table) (sym c.in_ok-on.ensures.advanced)
     (known_acted here.state c.word_in-word.new.window c.learn_next.new.table
     (known_new c.args.self.now c.word_in-word.new.self c.learn_next.new.self c.args.image.now c.word_in-word.new.image _ _ _ _ c.requires.known c.word_in-word.ensures.same c.word_in-word.ensures.memory c.learn_next.ensures.same c.word_in-word.ensures.window c.learn_next.ensures.table))
