@@ -161,7 +161,7 @@ impl Hart {
         if self.pc % 4 != 0 {
             return self.run_few(image, n);
         }
-        match Table::new(self.decoder.alloc()) {
+        match self.decoder.table() {
             Ok(mut table) => self.run_known(image, &mut table, n),
             Err(_) => self.run_few(image, n),
         }
