@@ -1,12 +1,13 @@
 -- Runs of a machine: one step more, and none where it does not go on.
-use Rattle.std.proofs.Common.{◌≡◌, ℕ, zero, suc, ◌+◌, ◌-◌, ◌^◌, ◌<◌, min, true, false, refl, sym, ap, ◌∙◌, arith, Result, Ok, Err, IfErr}
+use Rattle.std.proofs.Common.{◌≡◌, ℕ, zero, suc, ◌+◌, ◌-◌, ◌^◌, ◌<◌, ◌≤◌, min, true, false, refl, sym, ap, ◌∙◌, arith, ⊎_elim, Result, Ok, Err, IfErr}
 use borrow.Author.Count.{below_more}
+use Rattle.std.proofs.lemmas.Bool.{cases_lt}
 use Rattle.qed_model.specs.declared.machine.Outcome.{Outcome}
 use Rattle.qed_model.specs.declared.machine.Outcome.TheVariants.{Going, Ended, Fired, Trapped}
 use Rattle.qed_model.specs.Machine.Step.{State, step, step_at}
 use Rattle.qed_model.specs.Machine.Progress.{Progress, counted, advanced, steps_after, progress}
 use Rattle.qed_model.specs.Machine.Memory.{Memory}
-use Rattle.rv_step.specs.Known.{goes_on, IsMade, IsPart}
+use Rattle.rv_step.specs.Known.{at_state, goes_on, IsMade, IsPart}
 use Rattle.rv_step.specs.Harts.{HartState, with_memory}
 
 stays_at : (o : Outcome) (s : State) → goes_on o ≡ false → step_at o s ≡ s
@@ -66,7 +67,7 @@ state_advanced : (p : Progress) → (advanced p).state ≡ step p.state
 unfolding advanced
 state_advanced p = refl
 
-pub made_more : (p q r : Progress) (n : ℕ) → IsMade p n q → goes_on q.state.outcome ≡ true → r.state ≡ step q.state → r.steps ≡ q.steps → IsMade p (n + 1) r
+made_more : (p q r : Progress) (n : ℕ) → IsMade p n q → goes_on q.state.outcome ≡ true → r.state ≡ step q.state → r.steps ≡ q.steps → IsMade p (n + 1) r
 made_more p q r n h goes stepped same =
     let here : goes_on (progress p n).state.outcome ≡ true = ap (λ s. goes_on s.outcome) (sym h.state) ∙ goes in
     let more : suc n ≡ n + 1 = omega arith in
@@ -75,6 +76,10 @@ made_more p q r n h goes stepped same =
       before = same ∙ h.before;
       going = below_more (λ k. goes_on (progress p k).state.outcome ≡ true) n h.going here;
     }
+
+-- one that is a step
+pub step_made : (p here next : Progress) (n : ℕ) → IsMade p n here → goes_on here.state.outcome ≡ true → next ≡ at_state (step here.state) here → IsMade p (n + 1) next
+step_made p here next n h goes is = made_more p here next n h goes (ap (λ q. q.state) is) (ap (λ q. q.steps) is)
 
 one_counted : (o : Outcome) (n : ℕ) → goes_on o ≡ true → steps_after o n ≡ counted n
 one_counted Going n h = refl
@@ -95,6 +100,32 @@ all_counted p (suc n) small going =
     let here : (advanced (progress p n)).steps ≡ counted (progress p n).steps = steps_advanced (progress p n) (going n (omega arith)) in
     let last : (advanced (progress p n)).steps ≡ (progress p (suc n)).steps = ap (λ q. q.steps) (sym (progress_last p n)) in
     omega (arith, before, here, last)
+
+-- states that are one stay one
+same_states : (p q : Progress) (n : ℕ) → p.state ≡ q.state → (progress p n).state ≡ (progress q n).state
+unfolding progress
+same_states p q zero h = h
+same_states p q (suc n) h = same_states (advanced p) (advanced q) n (state_advanced p ∙ ap step h ∙ sym (state_advanced q))
+
+-- n steps behind m
+pub made_join : (p q r : Progress) (m n : ℕ) → IsMade p m q → IsMade q n r → IsMade p (m + n) r
+made_join p q r m n h k = record {
+  state = k.state ∙ same_states q (progress p m) n h.state ∙ ap (λ x. x.state) (sym (progress_more p m n));
+  before = k.before ∙ h.before;
+  going = λ j l. ⊎_elim (λ less. h.going j less) (λ most. later j most l) (cases_lt j m);
+} where
+  later : (j : ℕ) → m ≤ j → j < m + n → goes_on (progress p j).state.outcome ≡ true
+  later j most l =
+      let e : m + (j - m) ≡ j = omega (arith, most) in
+      let there : (progress p j).state ≡ (progress q (j - m)).state = ap (λ i. (progress p i).state) (sym e) ∙ ap (λ x. x.state) (progress_more p m (j - m)) ∙ same_states (progress p m) q (j - m) (sym h.state) in
+      ap (λ s. goes_on s.outcome) there ∙ k.going (j - m) (omega (arith, most, l))
+
+-- where fewer were made than were to be, since the machine stopped, more of them change nothing
+pub all_made : (p q : Progress) (m n : ℕ) → IsMade p m q → m ≤ n → (m < n → goes_on q.state.outcome ≡ false) → progress p m ≡ progress p n
+all_made p q m n h most stop = ⊎_elim
+    (λ less. stopped_before p m n less (ap (λ s. goes_on s.outcome) (sym h.state) ∙ stop less))
+    (λ all. let e : m ≡ n = omega (arith, most, all) in ap (progress p) e)
+    (cases_lt m n)
 
 same_progress : (p q : Progress) → p.state ≡ q.state → p.steps ≡ q.steps → p ≡ q
 same_progress p q s n = ap (λ x. record { state = x; steps = p.steps }) s ∙ ap (λ x. record { state = q.state; steps = x }) n

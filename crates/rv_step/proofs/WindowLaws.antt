@@ -1,21 +1,28 @@
 -- A window on the code: the words in it, and that a step leaves it.
-use Rattle.std.proofs.Common.{◌≡◌, ℕ, ◌+◌, ◌%◌, ◌^◌, Bool, true, false, cond, ◌&&◌, List, Option, Some, None, refl, ap, ◌∙◌, subst, arith}
-use Rattle.std.specs.Prelude.{◌==◌, ◌-◌}
+use Rattle.std.proofs.Common.{◌≡◌, ℕ, ◌+◌, ◌%◌, ◌^◌, ◌<◌, Bool, true, false, cond, ◌&&◌, List, Option, Some, None, refl, sym, ap, ◌∙◌, subst, arith}
+use Rattle.std.specs.Prelude.{◌==◌, ◌-◌, length}
+use Rattle.std.proofs.Math.ListN.{replicate, get_or}
+use Rattle.std.proofs.lemmas.List.Elements.{All-replicate}
 use Rattle.std.proofs.lemmas.Bool.{eq-eqb, eqb-true}
 use Rattle.rv_isa.specs.declared.ins.Ins.{Ins}
 use Rattle.rv_isa.specs.declared.class.Class.{Class}
 use Rattle.rv_isa.specs.declared.class.Class.TheVariants as class
 use Rattle.rv_isa.specs.Kind.{class_of}
-use Rattle.qed_model.specs.Machine.Memory.{grants, number, put}
+use Rattle.qed_model.specs.Machine.Memory.{Memory, grants, number, put}
 use Rattle.qed_model.specs.Machine.Program.{LoadSegment}
 use Rattle.qed_model.specs.Machine.Values.{holds, width_of}
-use Rattle.qed_model.specs.Machine.Step.{State, Fetched, Refused, Unknown, Known, reg, place, target, in_range, jumped, execute, act, next}
-use Rattle.mem_image.specs.Segments.{has_all, number_in}
+use Rattle.qed_model.specs.Machine.Step.{State, Fetched, Refused, Unknown, Known, known_or, fetched_at, reg, place, target, in_range, jumped, execute, act, next, step, step_at}
+use Rattle.mem_image.specs.Segments.{number_in}
 use Rattle.mem_image.specs.Fixed.{IsFixed}
 use Rattle.mem_image.proofs.FixedLaws.{fixed_number, fixed_put}
-use Rattle.rv_step.specs.Known.{word_at}
-use Rattle.rv_step.specs.Windows.{IsIn, HasWord, IsKept, IsWindow}
+use Rattle.qed_model.specs.declared.machine.Outcome.{Outcome}
+use Rattle.qed_model.specs.declared.machine.Outcome.TheVariants.{Going, Ended, Fired, Trapped}
+use Rattle.rv_step.specs.Harts.{HartState, with_memory}
+use Rattle.rv_step.specs.Known.{goes_on, word_at}
+use Rattle.rv_step.specs.Windows.{IsIn, HasWord, IsKept, IsWindow, StandsFixed, IsHeld, IsTable, IsKnown}
+use Rattle.rv_step.specs.declared.table.Entry.{Entry}
 use Rattle.rv_step.specs.declared.window.Window.{Window}
+use Rattle.rv_step.proofs.Fetching.{fetched_some}
 
 -- ---- a word
 all_three : (a b c : Bool) (n w : ℕ) → a ≡ true → b ≡ true → cond c (Some n) None ≡ Some w → cond (a && (b && c)) (Some n) None ≡ Some w
@@ -23,15 +30,30 @@ all_three true true c n w x y e = e
 all_three true false c n w x y e = absurd (cc)
 all_three false b c n w x y e = absurd (cc)
 
+-- the word at an address where it is fixed
+pub fixed_word : (s : State) (a w : ℕ) → StandsFixed s a w → a % 4 ≡ 0 → word_at s a ≡ Some w
+fixed_word s a w h grain = all_three (a % 4 == 0) (in_range a s.ranges) (grants (λ f. f.execute) s.memory a 4) (number s.memory a 4) w (eq-eqb _ _ grain) h.range (fixed_number s.memory h.code a h.fixed h.inside ∙ ap Some h.word)
+
+-- a word of the window is
+pub window_fixed : (s : State) (w : Window) (code : LoadSegment) (a n : ℕ) → IsWindow s w → w.code ≡ Some code → IsIn w a → n ≡ number_in code.bytes (a - code.address) 4 → StandsFixed s a n
+window_fixed s w code a n h is i e = record {
+  code = code;
+  fixed = subst (IsKept s) is h.fixed;
+  inside = subst (λ o. HasWord o a) is (h.inside.bytes a i);
+  range = h.words a i;
+  word = sym e;
+}
+
 -- the word at the pc, which is one of the window
-pub window_word : (s : State) (w : Window) (code : LoadSegment) (a : ℕ) → IsWindow s w → w.code ≡ Some code → a ≡ s.pc → IsIn w a → word_at s a ≡ Some (number_in code.bytes (a - code.address) 4)
-window_word s w code a h is at i =
+pub window_word : (s : State) (w : Window) (code : LoadSegment) (a n : ℕ) → IsWindow s w → w.code ≡ Some code → a ≡ s.pc → IsIn w a → n ≡ number_in code.bytes (a - code.address) 4 → word_at s a ≡ Some n
+window_word s w code a n h is at i e =
     let low = i.low in
     let high = i.high in
-    let grain : a % 4 ≡ 0 = ap (λ q. q % 4) at ∙ h.grain (omega (arith, low, high)) in
-    let fixed : IsFixed s.memory code = subst (IsKept s) is h.fixed in
-    let has : has_all code a 4 ≡ true = subst (λ o. HasWord o a) is (h.inside.bytes a i) in
-    all_three (a % 4 == 0) (in_range a s.ranges) (grants (λ f. f.execute) s.memory a 4) (number s.memory a 4) _ (eq-eqb _ _ grain) (h.words a i) (fixed_number s.memory code a fixed has)
+    fixed_word s a n (window_fixed s w code a n h is i e) (ap (λ q. q % 4) at ∙ h.grain (omega (arith, low, high)))
+
+-- the instruction at the pc, which is held
+pub held_next : (s : State) (a : ℕ) (i : Ins) → IsHeld s a i → a ≡ s.pc → a % 4 ≡ 0 → next s ≡ Known i
+held_next s a i h at grain = subst (λ b. fetched_at s.memory s.ranges b ≡ Known i) at (fetched_some s a h.word (fixed_word s a h.word h.stands grain) ∙ ap (known_or h.word) h.decoded)
 
 -- ---- a step
 -- a segment that is kept in one memory, and in another with the same bytes
@@ -91,3 +113,63 @@ after_act (Known i) s = after_execute (class_of i.kind) i s
 -- a window of a state that goes on is one of it after a step
 pub window_acted : (s : State) (w : Window) → IsWindow s w → IsWindow (act (next s) s) w
 window_acted s w h = stays s _ w (after_act (next s) s) h
+
+-- and what is held stays so, as does what the loop of a long run keeps
+held : (s t : State) (a : ℕ) (i : Ins) → IsAfter s t → IsHeld s a i → IsHeld t a i
+held s t a i f h = record {
+  word = h.word;
+  stands = record {
+    code = h.stands.code;
+    fixed = f.fixed h.stands.code h.stands.fixed;
+    inside = h.stands.inside;
+    range = ap (in_range a) f.ranges ∙ h.stands.range;
+    word = h.stands.word;
+  };
+  decoded = h.decoded;
+}
+
+pub known_acted : (s : State) (w : Window) (es : List Entry) → IsKnown s w es → IsKnown (act (next s) s) w es
+known_acted s w es h =
+    let after = after_act (next s) s in
+    record { window = stays s _ w after h.window; table = λ k d l even. held s _ _ _ after (h.table k d l even); grain = after.grain h.grain }
+
+-- ---- a table
+-- one that has no instruction
+pub none_held : (s : State) (n : ℕ) (e : Entry) (es : List Entry) → e.address ≡ 1 → es ≡ replicate n e → IsTable s es
+none_held s n e es odd is = subst (λ xs. IsTable s xs) (sym is) (All-replicate (λ x. x.address % 4 ≡ 0 → IsHeld s x.address x.ins) n e (λ even. absurd (omega (arith, odd, even))))
+
+-- the instruction that it has at the pc
+pub table_next : (s : State) (es : List Entry) (k a : ℕ) (e : Entry) → IsTable s es → k < length es → get_or es k e ≡ e → e.address ≡ a → a % 4 ≡ 0 → a ≡ s.pc → next s ≡ Known e.ins
+table_next s es k a e h l is at grain here =
+    let held : IsHeld s e.address e.ins = subst (λ (x : Entry). x.address % 4 ≡ 0 → IsHeld s x.address x.ins) is (h k e l) (ap (λ q. q % 4) at ∙ grain) in
+    held_next s e.address e.ins held (at ∙ here) (ap (λ q. q % 4) at ∙ grain)
+
+-- what is known with one more instruction, of the hart k, which is g, and in the memory n, which are h and m
+pub known_new :
+    (h g k : HartState) (m n : Memory) (w v : Window) (es fs : List Entry)
+    → IsKnown (with_memory h m).state w es → g ≡ h → n ≡ m → k ≡ g → IsWindow (with_memory g n).state v
+    → ((s : State) → IsTable s es → IsWindow s v → IsTable s fs)
+    → IsKnown (with_memory k n).state v fs
+known_new h g k m n w v es fs known is same kept window put =
+    let whole : k ≡ h = kept ∙ is in
+    let here : IsWindow (with_memory k n).state v = subst (λ (x : HartState). IsWindow (with_memory x n).state v) (sym kept) window in
+    let before : IsTable (with_memory h n).state es = subst (λ (y : Memory). IsTable (with_memory h y).state es) (sym same) known.table in
+    let table : IsTable (with_memory k n).state es = subst (λ (x : HartState). IsTable (with_memory x n).state es) (sym whole) before in
+    record { window = here; table = put (with_memory k n).state table here; grain = subst (λ (x : HartState). x.pc % 4 ≡ 0) (sym whole) known.grain }
+
+-- ---- a step of a hart that goes on
+at_going : (o : Outcome) (s : State) → goes_on o ≡ true → step_at o s ≡ act (next s) s
+at_going Going s h = refl
+at_going Ended s h = absurd (cc)
+at_going Fired s h = absurd (cc)
+at_going (Trapped c pc) s h = absurd (cc)
+
+step_acts : (s : State) → goes_on s.outcome ≡ true → step s ≡ act (next s) s
+unfolding step
+step_acts s h = at_going s.outcome s h
+
+pub step_executes : (s : State) (i : Ins) → goes_on s.outcome ≡ true → next s ≡ Known i → step s ≡ execute (class_of i.kind) i s
+step_executes s i h is = step_acts s h ∙ ap (λ f. act f s) is
+
+pub known_stepped : (s : State) (w : Window) (es : List Entry) → goes_on s.outcome ≡ true → IsKnown s w es → IsKnown (step s) w es
+known_stepped s w es goes h = subst (λ t. IsKnown t w es) (sym (step_acts s goes)) (known_acted s w es h)

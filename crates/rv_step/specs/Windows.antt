@@ -1,9 +1,12 @@
--- A window on the code of a state.
-use Rattle.std.specs.Prelude.{◌≡◌, ℕ, ◌+◌, ◌%◌, ◌^◌, ◌<◌, ◌≤◌, true, Option, Some, None}
+-- What stands in the code of a state, where no store changes it.
+use Rattle.std.specs.Prelude.{◌≡◌, ℕ, ◌+◌, ◌-◌, ◌%◌, ◌^◌, ◌<◌, ◌≤◌, true, List, All, Option, Some, None}
+use Rattle.rv_isa.specs.declared.ins.Ins.{Ins}
+use Rattle.qed_model.specs.Machine.Table.{decode_of}
 use Rattle.qed_model.specs.Machine.Step.{State, in_range}
 use Rattle.qed_model.specs.Machine.Program.{LoadSegment}
-use Rattle.mem_image.specs.Segments.{has_all}
+use Rattle.mem_image.specs.Segments.{has_all, number_in}
 use Rattle.mem_image.specs.Fixed.{IsFixed}
+use Rattle.rv_step.specs.declared.table.Entry.{Entry}
 use Rattle.rv_step.specs.declared.window.Window.{Window}
 
 -- an address is one of those of the window's words
@@ -32,3 +35,27 @@ pub record IsWindow (s : State) (w : Window) : Type 0 where
   pub fixed : IsKept s w.code
   pub inside : HasWords w
   pub grain : 0 < w.count → s.pc % 4 ≡ 0
+
+-- the word stands at the address, in a code range, where no store changes it
+pub record StandsFixed (s : State) (a w : ℕ) : Type 0 where
+  pub code : LoadSegment
+  pub fixed : IsFixed s.memory code
+  pub inside : has_all code a 4 ≡ true
+  pub range : in_range a s.ranges ≡ true
+  pub word : number_in code.bytes (a - code.address) 4 ≡ w
+
+-- and it is the word of the instruction
+pub record IsHeld (s : State) (a : ℕ) (i : Ins) : Type 0 where
+  pub word : ℕ
+  pub stands : StandsFixed s a word
+  pub decoded : decode_of word ≡ Some i
+
+-- each instruction of the table is held at its address, if that is a multiple of 4
+abbrev pub IsTable : State → List Entry → Type 0
+IsTable s es = All (λ e. e.address % 4 ≡ 0 → IsHeld s e.address e.ins) es
+
+-- what the loop of a long run keeps
+pub record IsKnown (s : State) (w : Window) (es : List Entry) : Type 0 where
+  pub window : IsWindow s w
+  pub table : IsTable s es
+  pub grain : s.pc % 4 ≡ 0

@@ -1,7 +1,10 @@
 //! Instructions that were decoded, kept by their words.
 ghost use Rattle.std.specs.Prelude.{◌≡◌, ◌<◌, ◌==◌, length, IfOk, Some};
+ghost use Rattle.qed_model.specs.Machine.Step.{State};
 ghost use Rattle.qed_model.specs.Machine.Table.{decode_of};
+ghost use Rattle.rv_step.specs.Windows.{IsTable};
 
+use crate::table::Table;
 use rv_decode::decode;
 use rv_isa::{Ins, Kind, Reg};
 use std::alloc::{AllocError, Global};
@@ -149,6 +152,14 @@ impl Decoder {
     {
         let kept = self.kept.clone()?;
         Ok(Decoder { kept })
+    }
+
+    /// A table without instructions, whose memory comes from where this has its own.
+    pub fn table(&self) -> Result<Table, AllocError>
+        ensures { IfOk result (λ table. (s : State) → IsTable s table) }
+    {
+        let table = Table::new(*self.kept.all.allocator())?;
+        Ok(table)
     }
 
     /// The instruction of a word that stands at an address.

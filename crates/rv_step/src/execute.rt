@@ -1,5 +1,5 @@
 //! One step of a hart that goes on.
-ghost use Rattle.std.specs.Prelude.{◌≡◌, ◌≢◌, ◌+◌, ◌%◌, ◌^◌, ◌==◌, slice_index, Some, None, IfOk, IfErr};
+ghost use Rattle.std.specs.Prelude.{◌≡◌, ◌≢◌, ◌+◌, ◌%◌, ◌^◌, ◌==◌, slice_index, Some, None, IfOk, IfErr, true};
 ghost use Rattle.rv_isa.specs.Kind.{class_of};
 ghost use Rattle.rv_isa.specs.Regs.{set_reg};
 ghost use Rattle.rv_isa.specs.declared.class.Class.TheVariants as class;
@@ -52,22 +52,27 @@ impl Hart {
 
     /// The step of a hart that goes on, with the word at the pc; it is not counted here.
     #[inline(always)]
-    pub(crate) fn advance(&mut self, word: Option<u32>, image: &mut Image) -> Result<(), AllocError>
+    pub(crate) fn advance<const LOOP: u32>(
+        &mut self,
+        word: Option<u32>,
+        image: &mut Image,
+    ) -> Result<bool, AllocError>
         requires { word ≡ word_at (with_memory self.old image.old).state self.old.pc }
         ensures advanced { IfOk result (λ _. LeadsIn (λ s. act (next s) s) self.old image.old self.new image.new) }
+        ensures on { IfOk result (λ on. on ≡ true → self.new.outcome ≡ self.old.outcome) }
         ensures kept { IfErr result (λ _. self.new ≡ self.old) }
         ensures memory { IfErr result (λ _. image.new ≡ image.old) }
     {
         let Some(word) = word else {
             self.trap(Cause::Fetch);
-            return Ok(());
+            return Ok(false);
         };
         let Some(ins) = self.decoder.decode(self.pc, word) else {
             self.trap(Cause::Word(word));
-            return Ok(());
+            return Ok(false);
         };
-        self.execute(&ins, image)?;
-        Ok(())
+        let on = self.execute::<LOOP>(&ins, image)?;
+        Ok(on)
     }
 }
 
@@ -89,48 +94,36 @@ macro_rules! by_kind {
             $(Kind::$row => {
                 let second = second!($format $hart $ins);
                 $hart.compute(Kind::$row, $ins, second);
-                Ok(())
+                Ok(true)
             })*
             Kind::Lui => {
                 $hart.compute(Kind::Lui, $ins, 0);
-                Ok(())
+                Ok(true)
             }
             Kind::Auipc => {
                 $hart.compute(Kind::Auipc, $ins, 0);
-                Ok(())
+                Ok(true)
             }
-            $(Kind::$load => {
-                $hart.load(Kind::$load, $ins, $image);
-                Ok(())
-            })*
+            $(Kind::$load => Ok($hart.load(Kind::$load, $ins, $image)),)*
             $(Kind::$store => $hart.store(Kind::$store, $ins, $image),)*
-            $(Kind::$branch => {
-                $hart.branch(Kind::$branch, $ins);
-                Ok(())
-            })*
-            Kind::Jal => {
-                $hart.jump($ins);
-                Ok(())
-            }
-            Kind::Jalr => {
-                $hart.jump($ins);
-                Ok(())
-            }
+            $(Kind::$branch => Ok($hart.branch(Kind::$branch, $ins)),)*
+            Kind::Jal => Ok($hart.jump($ins)),
+            Kind::Jalr => Ok($hart.jump($ins)),
             Kind::Fence => {
                 $hart.pass($ins);
-                Ok(())
+                Ok(true)
             }
             Kind::Ecall => {
                 $hart.stop(Outcome::Ended);
-                Ok(())
+                Ok(false)
             }
             Kind::Ebreak => {
                 $hart.stop(Outcome::Fired);
-                Ok(())
+                Ok(false)
             }
             Kind::Illegal => {
                 $hart.trap(Cause::Word(0));
-                Ok(())
+                Ok(false)
             }
         }
     };
@@ -153,25 +146,33 @@ impl Hart {
 
     /// Goes to the next word.
     fn go_on(&mut self)
-        ensures { Leads (λ s. moved s.regs (next_pc s) s) self.old self.new }
+        ensures step { Leads (λ s. moved s.regs (next_pc s) s) self.old self.new }
+        ensures on { self.new.outcome ≡ self.old.outcome }
     {
         self.pc = self.pc.wrapping_add(4);
     }
 
     /// Sets a register, and goes to the next word.
     fn write_back(&mut self, rd: Reg, value: u64)
-        ensures { Leads (λ s. moved (set_reg rd value s.regs) (next_pc s) s) self.old self.new }
+        ensures step { Leads (λ s. moved (set_reg rd value s.regs) (next_pc s) s) self.old self.new }
+        ensures on { self.new.outcome ≡ self.old.outcome }
     {
-        self.regs.set(rd, value);
         self.go_on();
+        self.regs.set(rd, value);
     }
 
-    /// One instruction. The pc is a multiple of 4, as it is where an instruction was fetched.
+    /// One instruction, and whether it surely left the outcome. The pc is a multiple of 4, as it is where an instruction was fetched. Each
+    /// `LOOP` is a function of its own, with one caller, so that LLVM puts it there.
     #[tactic(auto, unfolding(qed_model::specs::Machine::Step::execute))]
     #[inline(always)]
-    fn execute(&mut self, ins: &Ins, image: &mut Image) -> Result<(), AllocError>
+    pub(crate) fn execute<const LOOP: u32>(
+        &mut self,
+        ins: &Ins,
+        image: &mut Image,
+    ) -> Result<bool, AllocError>
         requires { self.old.pc % 4 ≡ 0 }
         ensures done { IfOk result (λ _. LeadsIn (execute (class_of ins.now.kind) ins.now) self.old image.old self.new image.new) }
+        ensures on { IfOk result (λ on. on ≡ true → self.new.outcome ≡ self.old.outcome) }
         ensures kept { IfErr result (λ _. self.new ≡ self.old) }
         ensures memory { IfErr result (λ _. image.new ≡ image.old) }
     {
@@ -185,7 +186,8 @@ impl Hart {
         requires kind { ins.now.kind ≡ kind }
         requires class { IsComputing (class_of kind) }
         requires second { HasSecond kind ins.now self.old.regs second }
-        ensures { Leads (execute (class_of ins.now.kind) ins.now) self.old self.new }
+        ensures step { Leads (execute (class_of ins.now.kind) ins.now) self.old self.new }
+        ensures on { self.new.outcome ≡ self.old.outcome }
     {
         let value = self.computed(kind, ins, second);
         self.write_back(ins.rd, value);
@@ -209,7 +211,8 @@ impl Hart {
     /// FENCE.
     fn pass(&mut self, ins: &Ins)
         requires { IsPassing (class_of ins.now.kind) }
-        ensures { Leads (execute (class_of ins.now.kind) ins.now) self.old self.new }
+        ensures step { Leads (execute (class_of ins.now.kind) ins.now) self.old self.new }
+        ensures on { self.new.outcome ≡ self.old.outcome }
     {
         self.pc = Passing.act(ins, self.pc, &mut self.regs);
     }
@@ -224,24 +227,28 @@ impl Hart {
     /// A load of this kind.
     #[tactic(auto, unfolding(qed_model::specs::Machine::Step::execute))]
     #[inline(always)]
-    fn load(&mut self, kind: Kind, ins: &Ins, image: &mut Image)
+    fn load(&mut self, kind: Kind, ins: &Ins, image: &mut Image) -> bool
         requires { ins.now.kind ≡ kind }
-        ensures { LeadsIn (execute class.Load ins.now) self.old image.old self.new image.new }
+        ensures step { LeadsIn (execute class.Load ins.now) self.old image.old self.new image.new }
+        ensures on { result ≡ true → self.new.outcome ≡ self.old.outcome }
     {
         let address = self.place(ins);
-        match image.load(address, width(kind)) {
-            Some(number) => self.write_back(ins.rd, extended(kind, number)),
-            None => self.trap(Cause::Load(address)),
-        }
+        let Some(number) = image.load(address, width(kind)) else {
+            self.trap(Cause::Load(address));
+            return false;
+        };
+        self.write_back(ins.rd, extended(kind, number));
+        true
     }
 
     /// A store of this kind.
     #[tactic(auto, unfolding(qed_model::specs::Machine::Step::execute))]
     #[inline(always)]
-    fn store(&mut self, kind: Kind, ins: &Ins, image: &mut Image) -> Result<(), AllocError>
+    fn store(&mut self, kind: Kind, ins: &Ins, image: &mut Image) -> Result<bool, AllocError>
         requires kind { ins.now.kind ≡ kind }
         requires class { class_of kind ≡ class.Store }
         ensures done { IfOk result (λ _. LeadsIn (execute (class_of ins.now.kind) ins.now) self.old image.old self.new image.new) }
+        ensures on { IfOk result (λ on. on ≡ true → self.new.outcome ≡ self.old.outcome) }
         ensures kept { IfErr result (λ _. self.new ≡ self.old) }
         ensures memory { IfErr result (λ _. image.new ≡ image.old) }
     {
@@ -249,26 +256,28 @@ impl Hart {
         let value = self.reg(ins.rs2);
         if image.write(address, width(kind), value)? {
             self.go_on();
-            return Ok(());
+            return Ok(true);
         }
         self.trap(Cause::Store(address));
-        Ok(())
+        Ok(false)
     }
 
     /// A branch of this kind. Only a target that is taken can be off the grain of 4.
     #[inline(always)]
-    fn branch(&mut self, kind: Kind, ins: &Ins)
+    fn branch(&mut self, kind: Kind, ins: &Ins) -> bool
         requires kind { ins.now.kind ≡ kind }
         requires class { IsBranching (class_of kind) }
         requires grain { self.old.pc % 4 ≡ 0 }
-        ensures { Leads (execute (class_of ins.now.kind) ins.now) self.old self.new }
+        ensures step { Leads (execute (class_of ins.now.kind) ins.now) self.old self.new }
+        ensures on { result ≡ true → self.new.outcome ≡ self.old.outcome }
     {
         let target = self.arrival(kind, ins);
         if target % 4 == 0 {
             self.pc = target;
-        } else {
-            self.trap(Cause::Target(target));
+            return true;
         }
+        self.trap(Cause::Target(target));
+        false
     }
 
     /// Where a branch of this kind goes.
@@ -284,17 +293,20 @@ impl Hart {
     }
 
     /// JAL or JALR. A target off the grain of 4 leaves the register that was to hold the link.
-    fn jump(&mut self, ins: &Ins)
+    #[inline(always)]
+    fn jump(&mut self, ins: &Ins) -> bool
         requires { IsJumping (class_of ins.now.kind) }
-        ensures { Leads (execute (class_of ins.now.kind) ins.now) self.old self.new }
+        ensures step { Leads (execute (class_of ins.now.kind) ins.now) self.old self.new }
+        ensures on { result ≡ true → self.new.outcome ≡ self.old.outcome }
     {
         let before = self.reg(ins.rd);
         let target = Jumping.act(ins, self.pc, &mut self.regs);
         if target % 4 != 0 {
             self.regs.set(ins.rd, before);
             self.trap(Cause::Target(target));
-        } else {
-            self.pc = target;
+            return false;
         }
+        self.pc = target;
+        true
     }
 }

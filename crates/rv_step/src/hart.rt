@@ -4,15 +4,16 @@ ghost use Rattle.qed_model.specs.Machine.Memory.{Memory};
 ghost use Rattle.qed_model.specs.Machine.Loading.{loaded_file};
 ghost use Rattle.qed_model.specs.Machine.Program.{start};
 ghost use Rattle.qed_model.specs.Machine.Progress.{advanced, begun, progress};
-ghost use Rattle.qed_model.specs.Machine.Step.{step};
+ghost use Rattle.qed_model.specs.Machine.Step.{State, step};
 ghost use Rattle.qed_model.specs.declared.change.Place.TheVariants.{Reg as InReg};
 ghost use Rattle.rv_step.specs.Harts.{hart_of, with_memory, LeadsIn};
 ghost use Rattle.rv_step.specs.Known.{goes_on, struck_progress, word_at, AreMade, IsMade, IsPart};
 ghost use Rattle.rv_step.specs.Reached.{AreWords};
-ghost use Rattle.rv_step.specs.Windows.{IsWindow};
+ghost use Rattle.rv_step.specs.Windows.{HasWords, IsKnown, IsTable, IsWindow};
 
 use crate::decoder::Decoder;
 use crate::range::Ranges;
+use crate::table::Table;
 use crate::window::Window;
 use code_ranges::code_ranges;
 use elf_types::ElfFile;
@@ -21,6 +22,9 @@ use qed_model::Outcome;
 use rv_isa::{Reg, Regs};
 use std::alloc::{AllocError, Global};
 use std::marker::Model;
+
+/// How many steps are made before a run is long, so that a table of its instructions is worth what it costs.
+const FEW: u64 = 8192;
 
 /// One hart of RV64IM: registers, pc, code ranges, outcome and number of steps. Its memory is handed to each step.
 #[derive(Drop)]
@@ -100,30 +104,168 @@ impl Hart {
         Ok(made)
     }
 
-    /// The same, but for the hart's count of steps, which stays: the answer has how many were made. All steps are made here, so that
-    /// LLVM makes one loop of them.
-    #[inline(always)]
+    /// The same, but for the hart's count of steps, which stays: the answer has how many were made. Where the run is over sooner, the
+    /// hart stopped, or there was no memory for a page.
     fn run_uncounted(&mut self, image: &mut Image, n: u64) -> (u64, Result<(), AllocError>)
         ensures made { IsMade (with_memory self.old image.old) result.0 (with_memory self.new image.new) }
         ensures within { result.0 ≤ n }
-        ensures all { IfOk result.1 (λ _. progress (with_memory self.old image.old) result.0 ≡ progress (with_memory self.old image.old) n) }
         ensures stopped { IfOk result.1 (λ _. result.0 < n → goes_on self.new.outcome ≡ false) }
         ensures part { IfErr result.1 (λ _. result.0 < n) }
     {
+        if n <= FEW {
+            return self.run_few(image, n);
+        }
+        let (made, done) = self.run_few(image, FEW);
+        if done.is_err() || made < FEW {
+            return (made, done);
+        }
+        let (more, done) = self.run_long(image, n - made);
+        (made + more, done)
+    }
+
+    /// The same, each word sought in a window. All steps are made here, so that LLVM makes one loop of them.
+    #[inline(never)]
+    fn run_few(&mut self, image: &mut Image, n: u64) -> (u64, Result<(), AllocError>)
+        ensures made { IsMade (with_memory self.old image.old) result.0 (with_memory self.new image.new) }
+        ensures within { result.0 ≤ n }
+        ensures stopped { IfOk result.1 (λ _. result.0 < n → goes_on self.new.outcome ≡ false) }
+        ensures part { IfErr result.1 (λ _. result.0 < n) }
+    {
+        if !self.goes_on() {
+            return (0, Ok(()));
+        }
         let mut window = Window::none();
         for made in 0..n {
-            if !self.goes_on() {
-                return (made, Ok(()));
+            let on = match self.step_in(image, &mut window, n > 1) {
+                Ok(on) => on,
+                Err(error) => return (made, Err(error)),
+            };
+            if on {
+                continue;
             }
-            if let Err(error) = self.step_in(image, &mut window, n > 1) {
-                return (made, Err(error));
+            if !self.goes_on() {
+                return (made + 1, Ok(()));
             }
         }
         (n, Ok(()))
     }
 
-    /// The step of a hart that goes on, with the word of a window on its code, or of a new one where `more` steps may follow. It is
-    /// not counted here.
+    /// The same, with a table of instructions, where there is memory for one.
+    #[inline(never)]
+    fn run_long(&mut self, image: &mut Image, n: u64) -> (u64, Result<(), AllocError>)
+        ensures made { IsMade (with_memory self.old image.old) result.0 (with_memory self.new image.new) }
+        ensures within { result.0 ≤ n }
+        ensures stopped { IfOk result.1 (λ _. result.0 < n → goes_on self.new.outcome ≡ false) }
+        ensures part { IfErr result.1 (λ _. result.0 < n) }
+    {
+        if self.pc % 4 != 0 {
+            return self.run_few(image, n);
+        }
+        match self.decoder.table() {
+            Ok(mut table) => self.run_known(image, &mut table, n),
+            Err(_) => self.run_few(image, n),
+        }
+    }
+
+    /// The same, with a table. These steps, too, are one loop.
+    #[inline(always)]
+    fn run_known(
+        &mut self,
+        image: &mut Image,
+        table: &mut Table,
+        n: u64,
+    ) -> (u64, Result<(), AllocError>)
+        requires grain { self.old.pc % 4 ≡ 0 }
+        requires table { IsTable (with_memory self.old image.old).state table.old }
+        ensures made { IsMade (with_memory self.old image.old) result.0 (with_memory self.new image.new) }
+        ensures within { result.0 ≤ n }
+        ensures stopped { IfOk result.1 (λ _. result.0 < n → goes_on self.new.outcome ≡ false) }
+        ensures part { IfErr result.1 (λ _. result.0 < n) }
+    {
+        if !self.goes_on() {
+            return (0, Ok(()));
+        }
+        let mut window = Window::none();
+        for made in 0..n {
+            let on = match self.step_known(image, &mut window, table) {
+                Ok(on) => on,
+                Err(error) => return (made, Err(error)),
+            };
+            if on {
+                continue;
+            }
+            if !self.goes_on() {
+                return (made + 1, Ok(()));
+            }
+        }
+        (n, Ok(()))
+    }
+
+    /// The step of a hart that goes on, with the instruction that the table has at the pc, and whether the hart surely goes on. It is not
+    /// counted here.
+    #[tactic(auto, unfolding(qed_model::specs::Machine::Step::step))]
+    #[inline(always)]
+    fn step_known(
+        &mut self,
+        image: &mut Image,
+        window: &mut Window,
+        table: &mut Table,
+    ) -> Result<bool, AllocError>
+        requires goes { goes_on self.old.outcome ≡ true }
+        requires known { IsKnown (with_memory self.old image.old).state window.old table.old }
+        ensures step { IfOk result (λ _. LeadsIn step self.old image.old self.new image.new) }
+        ensures known { IfOk result (λ _. IsKnown (with_memory self.new image.new).state window.new table.new) }
+        ensures on { IfOk result (λ on. on ≡ true → goes_on self.new.outcome ≡ true) }
+        ensures kept { IfErr result (λ _. self.new ≡ self.old) }
+        ensures memory { IfErr result (λ _. image.new ≡ image.old) }
+    {
+        let Some(ins) = table.at(self.pc()) else {
+            let on = self.step_new(image, window, table)?;
+            return Ok(on);
+        };
+        let on = self.execute::<2>(ins, image)?;
+        Ok(on)
+    }
+
+    /// The same, with the word at the pc, whose instruction is put into the table where no store changes it.
+    #[tactic(auto, unfolding(qed_model::specs::Machine::Step::step))]
+    #[inline(never)]
+    fn step_new(
+        &mut self,
+        image: &mut Image,
+        window: &mut Window,
+        table: &mut Table,
+    ) -> Result<bool, AllocError>
+        requires goes { goes_on self.old.outcome ≡ true }
+        requires known { IsKnown (with_memory self.old image.old).state window.old table.old }
+        ensures step { IfOk result (λ _. LeadsIn step self.old image.old self.new image.new) }
+        ensures known { IfOk result (λ _. IsKnown (with_memory self.new image.new).state window.new table.new) }
+        ensures on { IfOk result (λ on. on ≡ true → goes_on self.new.outcome ≡ true) }
+        ensures kept { IfErr result (λ _. self.new ≡ self.old) }
+        ensures memory { IfErr result (λ _. image.new ≡ image.old) }
+    {
+        let word = self.word_in(image, window, true);
+        self.learn_next(window, table);
+        let on = self.advance::<1>(word, image)?;
+        Ok(on)
+    }
+
+    /// Puts the instruction at the pc into the table, where the window has it.
+    fn learn_next(&mut self, window: &Window, table: &mut Table)
+        requires { HasWords window.now }
+        ensures table { (s : State) → IsTable s table.old → IsWindow s window.now → IsTable s table.new }
+        ensures same { self.new ≡ self.old }
+    {
+        let Some(word) = window.word(self.pc) else {
+            return;
+        };
+        let Some(ins) = self.decoder.decode(self.pc, word) else {
+            return;
+        };
+        table.put(self.pc, &ins);
+    }
+
+    /// The same, with the word of a window on the code, or of a new one where `more` steps may follow.
     #[tactic(auto, unfolding(qed_model::specs::Machine::Step::step))]
     #[inline(always)]
     fn step_in(
@@ -131,17 +273,18 @@ impl Hart {
         image: &mut Image,
         window: &mut Window,
         more: bool,
-    ) -> Result<(), AllocError>
+    ) -> Result<bool, AllocError>
         requires goes { goes_on self.old.outcome ≡ true }
         requires window { IsWindow (with_memory self.old image.old).state window.old }
         ensures step { IfOk result (λ _. LeadsIn step self.old image.old self.new image.new) }
         ensures window { IfOk result (λ _. IsWindow (with_memory self.new image.new).state window.new) }
+        ensures on { IfOk result (λ on. on ≡ true → goes_on self.new.outcome ≡ true) }
         ensures kept { IfErr result (λ _. self.new ≡ self.old) }
         ensures memory { IfErr result (λ _. image.new ≡ image.old) }
     {
         let word = self.word_in(image, window, more);
-        self.advance(word, image)?;
-        Ok(())
+        let on = self.advance::<0>(word, image)?;
+        Ok(on)
     }
 
     /// The word at the pc, where it may be executed, else None.

@@ -5,7 +5,7 @@ ghost use Rattle.mem_image.specs.Fixed.{IsFixed};
 ghost use Rattle.mem_image.specs.Segments.{has_all};
 ghost use Rattle.rv_step.specs.Known.{word_at};
 ghost use Rattle.rv_step.specs.Reached.{AreWords};
-ghost use Rattle.rv_step.specs.Windows.{HasWords, IsIn, IsWindow};
+ghost use Rattle.rv_step.specs.Windows.{HasWords, IsIn, IsWindow, StandsFixed};
 
 use mem_image::Code;
 
@@ -57,6 +57,7 @@ impl Window {
     pub fn word(&self, address: u64) -> Option<u32>
         requires { HasWords self.now }
         ensures word { IfSome result (λ word. (s : State) → IsWindow s self.now → address ≡ s.pc → word_at s address ≡ Some word) }
+        ensures fixed { IfSome result (λ word. (s : State) → IsWindow s self.now → StandsFixed s address word) }
         ensures none { IfNone result (¬ (IsIn self.now address)) }
     {
         if address.wrapping_sub(self.first) >= self.count {

@@ -8,8 +8,8 @@ use Rattle.rv_step.specs.Harts.{HartState, with_memory}
 use Rattle.rv_step.proofs.Jumps.{lands, traps}
 use Rattle.rv_step.proofs.hart.Hart.branch.Goals as goal
 
-pub returns-then-target-eq0 : goal.returns-then-target-eq0
-returns-then-target-eq0 c = λ m.
+pub returns-then-target-eq0-clause-step : goal.returns-then-target-eq0-clause-step
+returns-then-target-eq0-clause-step c = λ m.
     let x = c.self.inside in
     let i = c.args.ins.now in
     let v : Progress = record { state = record { regs = x.regs; pc = x.pc; memory = m; ranges = x.ranges; outcome = x.outcome }; steps = x.steps } in
@@ -18,8 +18,8 @@ returns-then-target-eq0 c = λ m.
     let target : c.arrival-target.result ≡ branched i x.pc x.regs = c.arrival-target.ensures ∙ ap (λ (h : HartState). branched i h.pc h.regs) (sym c.self.view_is) in
     lands (with_memory c.args.self.now m) v (class_of i.kind) i x.regs c.arrival-target.result (ap (λ (h : HartState). with_memory h m) c.self.view_is) (branching_step i x.regs x.pc c.arrival-target.result class target v.state refl refl grain) c.if-target-eq0.true
 
-pub returns-else-target-eq0 : goal.returns-else-target-eq0
-returns-else-target-eq0 c = λ m.
+pub returns-clause-step : goal.returns-clause-step
+returns-clause-step c = λ m.
     let h : HartState = c.args.self.now in
     let i = c.args.ins.now in
     let v : Progress = with_memory h m in

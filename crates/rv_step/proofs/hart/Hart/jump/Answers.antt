@@ -7,14 +7,14 @@ use Rattle.rv_step.specs.Harts.{HartState, with_memory}
 use Rattle.rv_step.proofs.Jumps.{lands, traps, set_back}
 use Rattle.rv_step.proofs.hart.Hart.jump.Goals as goal
 
-pub returns-else-target-ne0 : goal.returns-else-target-ne0
-returns-else-target-ne0 c = λ m.
+pub returns-clause-step : goal.returns-clause-step
+returns-clause-step c = λ m.
     let x = c.self.inside in
     let v : Progress = record { state = record { regs = x.regs; pc = x.pc; memory = m; ranges = x.ranges; outcome = x.outcome }; steps = x.steps } in
     lands (with_memory c.args.self.now m) v (class_of c.args.ins.now.kind) c.args.ins.now c.act-target.new.regs c.act-target.result (ap (λ (h : HartState). with_memory h m) c.self.view_is) (c.act-target.ensures.step v.state refl refl) c.if-target-ne0.false
 
-pub returns-then-target-ne0 : goal.returns-then-target-ne0
-returns-then-target-ne0 c = λ m.
+pub returns-then-target-ne0-clause-step : goal.returns-then-target-ne0-clause-step
+returns-then-target-ne0-clause-step c = λ m.
     let x = c.self.inside in
     let rd = c.args.ins.now.rd in
     let v : Progress = record { state = record { regs = x.regs; pc = x.pc; memory = m; ranges = x.ranges; outcome = x.outcome }; steps = x.steps } in

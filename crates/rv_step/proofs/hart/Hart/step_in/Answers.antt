@@ -8,4 +8,4 @@ use Rattle.rv_step.proofs.hart.Hart.step_in.Goals as goal
 pub returns-clause-window : goal.returns-clause-window
 returns-clause-window c =
     let here = with_memory c.word_in-word.new.self c.word_in-word.new.image in
-    subst (λ (p : Progress). IsWindow p.state c.word_in-word.new.window) (sym c.in_ok-advance.ensures.advanced) (window_acted here.state c.word_in-word.new.window c.word_in-word.ensures.window)
+    subst (λ (p : Progress). IsWindow p.state c.word_in-word.new.window) (sym c.in_ok-on.ensures.advanced) (window_acted here.state c.word_in-word.new.window c.word_in-word.ensures.window)

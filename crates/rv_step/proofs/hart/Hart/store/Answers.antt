@@ -13,7 +13,7 @@ returns-then-branch-clause-done c =
     let i = c.args.ins.now in
     let p = with_memory c.args.self.now c.args.image.now in
     let store : class_of i.kind ≡ Store = ap class_of c.requires.kind ∙ c.requires.class in
-    store_writes i c.args.self.now c.go_on.new.self c.args.image.now c.args.image.now c.write.new.self c.place-address.result c.width.result c.reg-value.result c.in_ok-write.field-0 refl c.place-address.ensures (c.width.ensures ∙ ap width_of (sym c.requires.kind)) c.reg-value.ensures c.in_ok-write.ensures.granted c.in_ok-write.ensures.written c.if-branch.true (c.go_on.ensures c.write.new.self)
+    store_writes i c.args.self.now c.go_on.new.self c.args.image.now c.args.image.now c.write.new.self c.place-address.result c.width.result c.reg-value.result c.in_ok-write.field-0 refl c.place-address.ensures (c.width.ensures ∙ ap width_of (sym c.requires.kind)) c.reg-value.ensures c.in_ok-write.ensures.granted c.in_ok-write.ensures.written c.if-branch.true (c.go_on.ensures.step c.write.new.self)
     ∙ ap (λ k. at_state (execute k i p.state) p) (sym store)
 
 pub returns-clause-done : goal.returns-clause-done

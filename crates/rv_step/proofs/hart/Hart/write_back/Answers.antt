@@ -1,16 +1,17 @@
-use Rattle.std.proofs.Common.{List, ℕ, ap, ◌∙◌}
+use Rattle.std.proofs.Common.{ap, ◌∙◌}
 use Rattle.rv_isa.specs.Regs.{set_reg}
-use Rattle.qed_model.specs.Machine.Step.{State, moved, next_pc}
-use Rattle.rv_step.specs.Known.{at_state}
+use Rattle.qed_model.specs.Machine.Progress.{Progress}
 use Rattle.rv_step.specs.Harts.{HartState, with_memory}
 use Rattle.rv_step.proofs.hart.Hart.write_back.Goals as goal
 
-pub returns : goal.returns
-returns c = λ m.
+pub returns-clause-step : goal.returns-clause-step
+returns-clause-step c = λ m.
     let x = c.self.inside in
-    let hart : List ℕ → HartState = λ regs. record { regs = regs; pc = x.pc; ranges = x.ranges; outcome = x.outcome; steps = x.steps } in
-    let left : State → State = λ s. moved s.regs (next_pc s) s in
-    let set : State → State = λ s. moved (set_reg c.args.rd c.args.value s.regs) (next_pc s) s in
-    c.go_on.ensures m
-    ∙ ap (λ regs. at_state (left (with_memory (hart regs) m).state) (with_memory (hart regs) m)) c.set.ensures
-    ∙ ap (λ (h : HartState). at_state (set (with_memory h m).state) (with_memory h m)) c.self.view_is
+    let put : HartState → HartState = λ h. record { regs = set_reg c.args.rd c.args.value h.regs; pc = h.pc; ranges = h.ranges; outcome = h.outcome; steps = h.steps } in
+    let set : Progress → Progress = λ p. record { state = record { regs = set_reg c.args.rd c.args.value p.state.regs; pc = p.state.pc; memory = p.state.memory; ranges = p.state.ranges; outcome = p.state.outcome }; steps = p.steps } in
+    ap (λ regs. with_memory (record { regs = regs; pc = x.pc; ranges = x.ranges; outcome = x.outcome; steps = x.steps }) m) c.set.ensures
+    ∙ ap (λ (h : HartState). with_memory (put h) m) c.self.view_is
+    ∙ ap set (c.go_on.ensures.step m)
+
+pub returns-clause-on : goal.returns-clause-on
+returns-clause-on c = ap (λ (h : HartState). h.outcome) c.self.view_is ∙ c.go_on.ensures.on

@@ -1,7 +1,7 @@
-use Rattle.std.proofs.Common.{ℕ, ◌+◌, ◌-◌, ◌%◌, ◌^◌, ◌<◌, Some, ap, sym, ◌∙◌, subst, arith}
+use Rattle.std.proofs.Common.{ℕ, ◌+◌, ◌-◌, ◌%◌, ◌^◌, ◌<◌, subst, arith}
 use Rattle.rv_step.specs.Windows.{IsIn, HasWord, HasWords}
 use Rattle.rv_step.specs.declared.window.Window.{Window}
-use Rattle.rv_step.proofs.WindowLaws.{window_word}
+use Rattle.rv_step.proofs.WindowLaws.{window_word, window_fixed}
 use Rattle.rv_step.proofs.window.Window.word.Goals as goal
 
 -- an address that is less than the count behind the first, modulo 2^64
@@ -14,4 +14,7 @@ pub word-requires : goal.word-requires
 word-requires c = subst (λ o. HasWord o c.args.address) c.in-Some.is (c.requires.bytes c.args.address (is_in c.args.self.now c.args.address c.requires (omega arith) c.if-address-self.false))
 
 pub returns-clause-word : goal.returns-clause-word
-returns-clause-word c = λ s h at. window_word s c.args.self.now c.in-Some.code c.args.address h c.in-Some.is at (is_in c.args.self.now c.args.address c.requires (omega arith) c.if-address-self.false) ∙ ap Some (sym c.word.ensures)
+returns-clause-word c = λ s h at. window_word s c.args.self.now c.in-Some.code c.args.address _ h c.in-Some.is at (is_in c.args.self.now c.args.address c.requires (omega arith) c.if-address-self.false) c.word.ensures
+
+pub returns-clause-fixed : goal.returns-clause-fixed
+returns-clause-fixed c = λ s h. window_fixed s c.args.self.now c.in-Some.code c.args.address _ h c.in-Some.is (is_in c.args.self.now c.args.address c.requires (omega arith) c.if-address-self.false) c.word.ensures

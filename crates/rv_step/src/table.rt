@@ -1,0 +1,89 @@
+//! Instructions by the addresses at which they stand.
+ghost use Rattle.std.specs.Prelude.{◌≡◌, ◌<◌, ◌%◌, IfOk, IfSome};
+ghost use Rattle.qed_model.specs.Machine.Step.{State, Known, next};
+ghost use Rattle.rv_step.specs.Windows.{IsHeld, IsTable};
+
+use rv_isa::Ins;
+use std::alloc::{AllocError, Global};
+use std::marker::Model;
+
+/// How many instructions are kept: as many as 64 KiB of code have.
+const KEPT: usize = 16384;
+
+/// An instruction, and the address at which it stands. At an odd address there is none.
+///
+/// It has 32 bytes, so that its place is an address by a mask and one multiplication.
+#[derive(Clone, Copy)]
+pub struct Entry {
+    ins: Ins,
+    address: u64,
+    _room: u64,
+}
+
+impl Entry {
+    fn new(address: u64, ins: &Ins) -> Entry
+        ensures { result ≡ record { ins = ins.now; address = address; _room = 0 } }
+    {
+        Entry {
+            ins: *ins,
+            address,
+            _room: 0,
+        }
+    }
+}
+
+/// Instructions that stand where no store changes them, each at a place that some bits of its address tell.
+#[derive(Drop)]
+pub struct Table {
+    all: Vec<Entry>,
+}
+
+impl Model for Table {
+    ghost use Rattle.std.specs.Prelude.{◌≡◌, List, length};
+    ghost use Rattle.rv_step.specs.declared.table.Entry.{Entry};
+
+    ghost Value = { List Entry };
+
+    ghost view = { λ t. t.all.items };
+
+    ghost invariant = { λ t. length t.all.items ≡ 16384 };
+}
+
+/// The place of an address.
+#[inline(always)]
+fn slot(address: u64) -> usize
+    ensures { result < 16384 }
+{
+    ((address >> 2) % KEPT as u64) as usize
+}
+
+impl Table {
+    /// One that has no instruction.
+    pub fn new(alloc: Global) -> Result<Table, AllocError>
+        ensures { IfOk result (λ table. (s : State) → IsTable s table) }
+    {
+        let none = Entry::new(1, &Ins::nop());
+        let all = vec![in alloc; none; KEPT]?;
+        Ok(Table { all })
+    }
+
+    /// The instruction at an address, a multiple of 4, where it is kept.
+    #[inline(always)]
+    pub fn at(&self, address: u64) -> Option<&Ins>
+        requires { address % 4 ≡ 0 }
+        ensures { IfSome result (λ ins. (s : State) → IsTable s self.now → address ≡ s.pc → next s ≡ Known ins.now) }
+    {
+        let entry = &self.all[slot(address)];
+        if entry.address != address {
+            return None;
+        }
+        Some(&entry.ins)
+    }
+
+    /// Keeps the instruction at an address, in the place of another.
+    pub fn put(&mut self, address: u64, ins: &Ins)
+        ensures { (s : State) → IsTable s self.old → IsHeld s address ins.now → IsTable s self.new }
+    {
+        self.all[slot(address)] = Entry::new(address, ins);
+    }
+}
