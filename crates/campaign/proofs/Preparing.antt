@@ -32,19 +32,6 @@ has_words f o blocks plan told = record {
 }
 
 -- ---- both runs
--- a file goes on at its start
-pub starts_going : (bytes : List ℕ) (s : State) → StartsIn bytes s → s.outcome ≡ Going
-starts_going bytes s x = ap (λ t. t.outcome) x.is
-
-pub starts_as : (bytes : List ℕ) (s t : State) → t ≡ s → StartsIn bytes s → StartsIn bytes t
-starts_as bytes s t e x = subst (StartsIn bytes) (sym e) x
-
--- the input and the output can be read
-pub input_reads : (input output : List ℕ) (o : Options) (plan : Plan) → Transforms input o output plan → IsReadable input
-input_reads input output o plan t = record { file = t.woven.file.file; read = t.read }
-
-pub output_reads : (input output : List ℕ) (o : Options) (plan : Plan) → Transforms input o output plan → IsReadable output
-output_reads input output o plan t = record { file = file_read t.woven.out; read = t.reads }
 
 -- an output is no error
 pub never_error : {A : Type 0} (made : A) (e : TransformError) → IsErrorOr (Ok made) e → ⊥

@@ -54,9 +54,6 @@ pub record EntriesRead (table : List ℕ) (entries : List SymbolEntry) (symbols 
   pub shown_are : map (symbol_shown table) entries ≡ symbols
   pub ended : All (HasEnd table) entries
 
-abbrev symbol_with : Symbol → List ℕ → ℕ → ℕ → Symbol
-symbol_with s name kind binding = record { name = name; value = s.value; size = s.size; kind = kind; binding = binding; other = s.other; index = s.index }
-
 four_bits : (binding kind : ℕ) → kind < 16 → (16 * binding + kind) % 16 ≡ kind
 four_bits binding kind lt = omega arith
 

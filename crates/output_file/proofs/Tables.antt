@@ -89,9 +89,6 @@ word_at d a r rows e = let t : (r.input == a) ≡ true = eq-eqb r.input a (sym e
 word_later : (d a : ℕ) (r : EntryRow) (rows : List EntryRow) → r.input < a → table_word d (r ∷ rows) a ≡ table_word d rows a
 word_later d a r rows h = let t : (r.input == a) ≡ false = grind (arith, nat_tests) in rw t refl
 
-word_before : (d a low : ℕ) (rows : List EntryRow) → Up low rows → a < low → table_word d rows a ≡ 0
-word_before d a low rows u h = ap (distance_to (a + 2 * d)) (none_before low a rows u h)
-
 -- zeros up to the first entry, its word, and the words behind it
 head_words :
     (d at m c : ℕ) (r : EntryRow) (rows : List EntryRow) → at + 4 * m ≡ r.input → Up (r.input + 4) rows

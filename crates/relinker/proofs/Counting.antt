@@ -9,14 +9,6 @@ use Rattle.relinker.specs.Joined.{Join}
 use Rattle.relinker.specs.Counted.{capped, HasCounted}
 use Rattle.relinker.proofs.Joining.{parts_join}
 
--- a number of 64 bits is as it is
-pub capped_small : (n : ℕ) → n < 2 ^ 64 → capped n ≡ n
-capped_small n h = omega (arith, h)
-
--- a sum may be capped in between
-pub capped_sum : (a b : ℕ) → capped (capped a + b) ≡ capped (a + b)
-capped_sum a b = omega arith
-
 -- behind the last item the sum is that of all
 pub sum_done :
     (far : Bool) (items : List Item) (total k all : ℕ) → total < 2 ^ 64 → length items ≤ k → capped (total + sum_of_sizes far (drop k items)) ≡ capped all

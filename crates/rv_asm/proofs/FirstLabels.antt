@@ -31,10 +31,6 @@ or_none : {A : Type 0} (o : Option A) → option_or o None ≡ o
 or_none None = refl
 or_none (Some x) = refl
 
--- one that fails changes nothing
-pub first_same : {A B : Type 0} (f : ℕ → B) (p : A → Bool) (xs : List A) (y : A) → p y ≡ false → option_map f (position_from p 0 (xs ++ y ∷ [])) ≡ option_map f (position_from p 0 xs)
-first_same f p xs y e = first_push f p xs y ∙ (ap (λ b. option_or (option_map f (position_from p 0 xs)) (cond b (Some (f (length xs))) None)) e ∙ or_none (option_map f (position_from p 0 xs)))
-
 -- a value that is put where none was, for a name
 pub put_first : {A : Type 0} (name q : List ℕ) (old : List ℕ → Option A) (x : A) → old name ≡ None → cond (bytes_eq name q) (Some x) (old q) ≡ option_or (old q) (cond (bytes_eq q name) (Some x) None)
 put_first name q old x absent =

@@ -8,31 +8,7 @@ use Rattle.qed_model.specs.Admission.Refusals.{HasFault, place_of, IsRefusedBy, 
 use Rattle.qed_model.proofs.AdmissionLaws.{admitted_of}
 use Rattle.test_admission.specs.Order.{PassesBelow, IsCauseOf}
 
--- no rule comes before the first
-pub passes_none : (f : ElfFile) (o : Options) → PassesBelow f o 1
-passes_none f o = record { none = λ d lt h. nothing d lt } where
-  nothing : (d : AdmitError) → place_of d < 1 → ⊥
-  nothing error.Compressed lt = omega (arith, lt)
-  nothing d lt = omega (arith, lt)
-
 -- ---- where the next rule does not hold either
-pub passes_compressed : (f : ElfFile) (o : Options) → PassesBelow f o 1 → (HasFault f o error.Compressed → ⊥) → PassesBelow f o 2
-passes_compressed f o p x = record { none = by } where
-  by : (d : AdmitError) → place_of d < 2 → HasFault f o d → ⊥
-  by error.Compressed lt h = x h
-  by d lt h = p.none d (omega (arith, lt)) h
-
-pub passes_dynamic : (f : ElfFile) (o : Options) → PassesBelow f o 2 → (HasFault f o error.Dynamic → ⊥) → PassesBelow f o 3
-passes_dynamic f o p x = record { none = by } where
-  by : (d : AdmitError) → place_of d < 3 → HasFault f o d → ⊥
-  by error.Dynamic lt h = x h
-  by d lt h = p.none d (omega (arith, lt)) h
-
-pub passes_writable_code : (f : ElfFile) (o : Options) → PassesBelow f o 3 → ((i : ℕ) → HasFault f o (error.WritableCode i) → ⊥) → PassesBelow f o 4
-passes_writable_code f o p x = record { none = by } where
-  by : (d : AdmitError) → place_of d < 4 → HasFault f o d → ⊥
-  by (error.WritableCode i) lt h = x i h
-  by d lt h = p.none d (omega (arith, lt)) h
 
 pub passes_no_code : (f : ElfFile) (o : Options) → PassesBelow f o 4 → ((i : ℕ) → HasFault f o (error.NoCode i) → ⊥) → PassesBelow f o 5
 passes_no_code f o p x = record { none = by } where
@@ -76,28 +52,10 @@ passes_data_mixed f o p x = record { none = by } where
   by (error.DataMixed i) lt h = x i h
   by d lt h = p.none d (omega (arith, lt)) h
 
-pub passes_outside_half : (f : ElfFile) (o : Options) → PassesBelow f o 11 → ((i j : ℕ) → HasFault f o (error.OutsideHalf i j) → ⊥) → PassesBelow f o 12
-passes_outside_half f o p x = record { none = by } where
-  by : (d : AdmitError) → place_of d < 12 → HasFault f o d → ⊥
-  by (error.OutsideHalf i j) lt h = x i j h
-  by d lt h = p.none d (omega (arith, lt)) h
-
-pub passes_image_span : (f : ElfFile) (o : Options) → PassesBelow f o 12 → ((i : ℕ) → HasFault f o (error.ImageSpan i) → ⊥) → PassesBelow f o 13
-passes_image_span f o p x = record { none = by } where
-  by : (d : AdmitError) → place_of d < 13 → HasFault f o d → ⊥
-  by (error.ImageSpan i) lt h = x i h
-  by d lt h = p.none d (omega (arith, lt)) h
-
 pub passes_code_words : (f : ElfFile) (o : Options) → PassesBelow f o 13 → ((i : ℕ) → HasFault f o (error.CodeWords i) → ⊥) → PassesBelow f o 14
 passes_code_words f o p x = record { none = by } where
   by : (d : AdmitError) → place_of d < 14 → HasFault f o d → ⊥
   by (error.CodeWords i) lt h = x i h
-  by d lt h = p.none d (omega (arith, lt)) h
-
-pub passes_top_address : (f : ElfFile) (o : Options) → PassesBelow f o 14 → ((i : ℕ) → HasFault f o (error.TopAddress i) → ⊥) → PassesBelow f o 15
-passes_top_address f o p x = record { none = by } where
-  by : (d : AdmitError) → place_of d < 15 → HasFault f o d → ⊥
-  by (error.TopAddress i) lt h = x i h
   by d lt h = p.none d (omega (arith, lt)) h
 
 -- ---- where the next rule holds
@@ -113,6 +71,3 @@ admitted f o p = admitted_of f o by where
 
 pub cause_of : (f : ElfFile) (o : Options) (e : AdmitError) → IsRefusedBy f o e → IsCauseOf f o e
 cause_of f o e h = record { rule = λ n. h }
-
-pub cause_memory : (f : ElfFile) (o : Options) (e : AdmitError) → e ≡ error.Memory → IsCauseOf f o e
-cause_memory f o e h = record { rule = λ n. absurd (n h) }

@@ -79,10 +79,6 @@ module _ (input : List ℕ) (f : ElfFile) (o : Options) (t : Test) (blocks : Lis
   place : place_of t ≡ code_place o.half (image_of f)
   place = omega (arith, cut.told.base, cut.told.distance)
 
-  -- which form is taken
-  pub near_taken : IsWithinForm false (items_of t o false blocks) → is_far_code f o bs ≡ false
-  near_taken h = le-ltb 1048576 _ (omega (arith, size false, h))
-
   pub far_taken : (IsWithinForm false (items_of t o false blocks) → ⊥) → is_far_code f o bs ≡ true
   far_taken h = lt-ltb 1048576 _ (omega (arith, size false, h))
 
