@@ -1,6 +1,10 @@
-use Rattle.std.proofs.Common.{◌≤◌, length, ◌∙◌, arith}
+use Rattle.std.proofs.Common.{◌≡◌, ◌≤◌, length, ◌∙◌, subst, arith}
 use Rattle.qed_top.specs.Run.{memory_limit}
-use Rattle.qed_top.specs.World.{all_bytes}
+use Rattle.harts.specs.HartSteps.{counted_start}
+use Rattle.harts.specs.Played.{programs}
+use Rattle.harts.proofs.Keeping.{turns_keep}
+use Rattle.qed_top.specs.Turns.{TellsTurns}
+use Rattle.qed_top.specs.World.{all_bytes, takers, turns_of}
 use Rattle.qed_top.specs.World as world
 use Rattle.qed_top.proofs.Turning.{takers_below, takers_some}
 use Rattle.qed_top.proofs.world.play.Goals as goal
@@ -25,4 +29,11 @@ returns-in-Err-Shared c =
     })
 
 pub returns-in-Ok : goal.returns-in-Ok
-returns-in-Ok c = world.told ? ? ? (turns_keep (programs c.args.files.now) (turns_of c.args.files.now c.args.turns c.args.steps) c.requires.sound ?)
+returns-in-Ok c =
+    let same = c.memory_sizes-size.ensures in
+    let small : all_bytes c.args.files.now ≤ memory_limit = omega (arith, c.if-size-from.false, c.from.ensures, same) in
+    let keeps = turns_keep (programs c.args.files.now) (turns_of c.args.files.now c.args.turns c.args.steps) c.requires.sound c.in-Ok.ensures.apart in
+    let harts : c.deref.result.now ≡ takers (length c.args.files.now) c.args.turns = c.deref.ensures.value ∙ c.in_ok-harts-in-Ok.ensures in
+    let first : TellsTurns (counted_start (programs c.args.files.now)) c.deref.result.now c.args.steps c.in_ok-answer-in-Ok.answer = subst (λ w. TellsTurns w c.deref.result.now c.args.steps c.in_ok-answer-in-Ok.answer) c.in-Ok.ensures.started c.in_ok-answer-in-Ok.ensures in
+    let told : TellsTurns (counted_start (programs c.args.files.now)) (takers (length c.args.files.now) c.args.turns) c.args.steps c.in_ok-answer-in-Ok.answer = subst (λ hs. TellsTurns (counted_start (programs c.args.files.now)) hs c.args.steps c.in_ok-answer-in-Ok.answer) harts first in
+    world.told small c.in-Ok.ensures.apart told keeps
