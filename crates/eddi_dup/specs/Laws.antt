@@ -1,5 +1,5 @@
 -- The laws of the original part, of the mirror part and of the comparison.
-use Rattle.std.proofs.Common.{◌≡◌, ℕ, Bool, true, false, cond, [], ◌∷◌, refl, sym, subst, arith}
+use Rattle.std.proofs.Common.{◌≡◌, ℕ, Bool, true, false, cond, [], ◌∷◌, refl, arith}
 use Rattle.std.specs.Prelude.{pos}
 use Rattle.rv_isa.specs.declared.ins.Ins.{Ins}
 use Rattle.rv_isa.specs.declared.kind.Kind.TheVariants.{Add}
@@ -13,37 +13,20 @@ use Rattle.qed_model.specs.Weave.Sequences.{is_auipc, mirrored, mirror_as, compa
 use Rattle.rv_isa.specs.Operation.{pair, renamed}
 use Rattle.weave_core.specs.Blocks.{IsBody as InBody, FitsPiece}
 use Rattle.weave_core.specs.Kinds.{thirteen}
-use Rattle.weave_core.specs.KindItems.{LockItems, Straight}
-use Rattle.weave_core.proofs.KindItems.{original_items, mirror_items, compare_items}
-use Rattle.weave_core.proofs.Landing.{straight_lands, straight_none, straight_one, straight_compute, straight_load, straight_store, straight_constant, straight_mirrored, straight_compare}
-use Rattle.weave_core.proofs.PieceLaws.{guarded_original}
+use Rattle.weave_core.proofs.KindItems.{compare_items}
+use Rattle.weave_core.proofs.Landing.{straight_lands, straight_compare}
+use Rattle.weave_core.proofs.ScratchParts.{plain_mirrors_fit}
+use Rattle.weave_core.proofs.PartLaws.{lockstep_mirror}
 use Rattle.passes.specs.Honest.{HonestItems}
 use Rattle.passes.specs.Pass.{Honest, Lockstep, AllLow}
 use Rattle.passes.specs.Compose.{honest_items_then, honest_items_none}
 use Rattle.passes.proofs.HonestWords.{honest_on, honest_constant}
 use Rattle.passes.proofs.Guards.{honest_guards}
-use Rattle.passes.specs.Uses.{used}
 use Rattle.eddi_dup.specs.Parts.{bare}
 pub use Rattle.weave_core.specs.Parts.{any}
-pub use Rattle.weave_core.proofs.PartLaws.{quiet_original, quiet_mirrored, quiet_compare}
+pub use Rattle.weave_core.proofs.PartLaws.{quiet_original, quiet_mirrored, quiet_compare, lockstep_original}
 
--- ---- the kinds of both parts
-straight_as : (far : Bool) (c : Class) (i : Ins) → class_of i.kind ≡ c → InBody c → Straight far (Plain i ∷ [])
-straight_as far class.Compute i e b = straight_compute far i [] e (straight_none far)
-straight_as far class.Load i e b = straight_load far i [] e (straight_none far)
-straight_as far class.Store i e b = straight_store far i [] e (straight_none far)
-straight_as far class.Fence i e b = straight_one far i class.Fence [] e (λ c a. tt) (straight_none far)
-straight_as far c i e b = absurd b
-
-straight_bare : (far : Bool) (i : Ins) (at : ℕ) → FitsPiece i → Straight far (bare i at)
-straight_bare far i at f = elim (is_auipc i.kind) as (λ b. Straight far (cond b (Constant i.rd (target i at) ∷ []) (Plain i ∷ []))) [ true ↦ straight_constant far i.rd (target i at) [] (straight_none far) | false ↦ straight_as far (class_of i.kind) i refl f.body ]
-
-pub lockstep_original : (i : Ins) (at : ℕ) → FitsPiece i → Lockstep any (used i) (bare i at)
-lockstep_original i at f = record {
-  locks = λ far s. subst (LockItems far) (sym (guarded_original i at)) (original_items far i at f);
-  lands = λ far s. straight_lands far (bare i at) (straight_bare far i at f);
-}
-
+-- ---- the original part
 honest_word : (far : Bool) (c : Class) (i : Ins) → class_of i.kind ≡ c → InBody c → HonestItems far (Plain i ∷ [])
 honest_word far class.Compute i e b = honest_on far i class.Compute e tt
 honest_word far class.Load i e b = honest_on far i class.Load e tt
@@ -69,10 +52,7 @@ pub honest_mirrored : (i : Ins) (at : ℕ) → FitsPiece i → Honest any (mirro
 honest_mirrored i at f = record { honest = λ far s. elim (is_auipc i.kind) as (λ b. HonestItems far (cond b (Constant (pair i.rd) (target i at) ∷ []) (mirror_as (class_of i.kind) i at))) [ true ↦ honest_constant far (pair i.rd) (target i at) | false ↦ honest_mirror far (class_of i.kind) i at refl f.body ] }
 
 pub lockstep_mirrored : (i : Ins) (at : ℕ) → FitsPiece i → Lockstep any [] (mirrored i at)
-lockstep_mirrored i at f = record {
-  locks = λ far s. mirror_items far i at f;
-  lands = λ far s. straight_lands far (mirrored i at) (straight_mirrored far i at f);
-}
+lockstep_mirrored i at f = lockstep_mirror any mirrored (λ far s. plain_mirrors_fit far) i at f
 
 -- ---- the comparison
 abbrev pub all_low : AllLow thirteen

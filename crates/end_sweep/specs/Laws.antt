@@ -12,7 +12,8 @@ use Rattle.qed_model.specs.Weave.Sequences.{Form, sweep, sweep_range, compare, l
 use Rattle.weave_core.specs.Lock.{first_load, mirror_place, second_load, word_check}
 use Rattle.weave_core.specs.KindItems.{LockItems, LandItems, end_ends}
 use Rattle.weave_core.proofs.KindItems.{leave_items}
-use Rattle.weave_core.proofs.Landing.{land_leave, plain_mirrors_fit}
+use Rattle.weave_core.proofs.Landing.{land_leave}
+use Rattle.weave_core.proofs.ScratchParts.{plain_mirrors_fit}
 use Rattle.passes.specs.Honest.{NoBreak, words, HonestItems}
 use Rattle.passes.specs.Pass.{Honest, Lockstep}
 use Rattle.passes.specs.Compose.{honest_items_then, honest_items_none}

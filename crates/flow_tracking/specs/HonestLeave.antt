@@ -19,6 +19,7 @@ use Rattle.passes.specs.Pass.{Honest}
 use Rattle.passes.specs.Compose.{honest_items_then, honest_items_none}
 use Rattle.passes.proofs.HonestWords.{other_word, honest_on, honest_end, honest_constant, honest_go, honest_guard}
 use Rattle.flow_tracking.specs.Leaving.{left_as, left, IsLeft}
+use Rattle.weave_core.proofs.Landing.{small_size}
 
 module _ (far : Bool) where
   plain_then : (i : Ins) (xs : List Item) → HonestItems far (Plain i ∷ []) → HonestItems far xs → HonestItems far (Plain i ∷ xs)
@@ -104,10 +105,7 @@ honest_as class.Branch next far i at e f =
     let t = target i at in
     let last = Plain b ∷ Go n ∷ Go t ∷ [] in
     honest_items_then far (Plain first ∷ Constant 16 n ∷ Plain (ins Jal 0 0 0 (pos 12)) ∷ Constant 16 t ∷ []) (guards_of i ++ last) (honest_turn far first n t e refl)
-    (honest_items_then far (guards_of i) last (honest_both far i f.0 f.1) (honest_last far b n t e (small far))) where
-      small : (far : Bool) → (4 + go_size far) % 2 ^ 64 ≡ 4 + go_size far
-      small false = refl
-      small true = refl
+    (honest_items_then far (guards_of i) last (honest_both far i f.0 f.1) (honest_last far b n t e (small_size far)))
 honest_as class.JumpReg next far i at e f =
     let two = neg_ℤ (pos 2) in
     let look : List Item = Plain (ins Add 31 30 14 (pos 0)) ∷ Plain (ins Add 31 31 14 (pos 0)) ∷ Plain (ins Lw 30 31 0 (pos 0)) ∷ Plain (ins Add 30 30 31 (pos 0)) ∷ Plain (ins Jalr 0 30 0 (pos 0)) ∷ [] in

@@ -7,7 +7,8 @@ use Rattle.rv_isa.specs.Kind.{class_of}
 use Rattle.qed_model.specs.Weave.Sequences.{enter, leave_as}
 use Rattle.weave_core.specs.KindItems.{LockItems, LandItems, IsEnd, end_branches, end_jumps, end_jumps_reg, end_ends, end_illegal}
 use Rattle.weave_core.proofs.KindItems.{enter_items, go_items, leave_items}
-use Rattle.weave_core.proofs.Landing.{land_enter, land_go_on, land_leave, plain_mirrors_fit}
+use Rattle.weave_core.proofs.Landing.{land_enter, land_go_on, land_leave}
+use Rattle.weave_core.proofs.ScratchParts.{plain_mirrors_fit}
 use Rattle.passes.specs.Pass.{Honest, Lockstep}
 use Rattle.passes.proofs.HonestWords.{honest_enter}
 use Rattle.flow_tracking.specs.Leaving.{form_of, left_as, left, IsLeft}

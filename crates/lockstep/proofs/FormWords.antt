@@ -1,5 +1,5 @@
 -- Today's forms meet the laws of the words and of the entry, and so the promises of a plan follow from those of any weave.
-use Rattle.std.proofs.Common.{◌≡◌, ℕ, zero, suc, ◌+◌, ◌*◌, ◌≤◌, List, [], ◌∷◌, ◌++◌, length, sym, ap, ◌∙◌, subst, arith}
+use Rattle.std.proofs.Common.{◌≡◌, ℕ, zero, suc, ◌+◌, ◌*◌, ◌≤◌, List, [], ◌∷◌, ◌++◌, length, refl, sym, ap, ◌∙◌, subst, arith}
 use Rattle.rv_isa.specs.declared.ins.Ins.{Ins}
 use Rattle.qed_model.specs.Machine.Step.{Known}
 use Rattle.std.proofs.Math.Nat.{mul-le-mul}
@@ -11,8 +11,8 @@ use Rattle.qed_model.specs.declared.item.Item.{Item}
 use Rattle.qed_model.specs.Weave.Blocks.{begins_at}
 use Rattle.qed_model.specs.Weave.Sequences.{Form, Block, compare, visit, prologue}
 use Rattle.weave_core.specs.KindItems.{MirrorsFit}
-use Rattle.weave_core.proofs.KindItems.{enter_items, piece_items, end_items, prologue_items}
-use Rattle.weave_core.proofs.Landing.{land_enter, land_piece, land_end, land_prologue}
+use Rattle.weave_core.proofs.KindItems.{enter_items, end_items, prologue_items}
+use Rattle.weave_core.proofs.Landing.{land_enter, land_end, land_prologue}
 use Rattle.lockstep.specs.Promise.{IsBoundsOf, PlanCaught, PlanClean}
 use Rattle.weave_core.specs.Weave.{stage_steps}
 use Rattle.weave_core.specs.WeaveLaws.{Words}
@@ -24,20 +24,20 @@ use Rattle.weave_core.specs.Rows.{Mirrors}
 use Rattle.lockstep.specs.Closes.{Closes}
 use Rattle.weave_core.specs.WeavePromise.{PlanOf, OnlyCode, BoundsOf}
 use Rattle.weave_core.specs.WeaveForms.{weave_with, weave_of, ChecksLaws}
-use Rattle.weave_core.proofs.FormRows.{entries_same, both, both_steps, form_checks, rows_with, starts_with, form_rows, form_starts, new_plan}
+use Rattle.weave_core.proofs.FormRows.{entries_same, lockstep_piece, both, both_steps, form_checks, rows_with, starts_with, form_rows, form_starts, new_plan}
 use Rattle.lockstep.proofs.Promise.{weave_caught}
 use Rattle.lockstep.proofs.Cleaned.{weave_clean}
 
 -- ---- the words
 -- of a form with any checks
 pub words_with : (form : Form) (most : ℕ) (checks : List Item) (first steps : ℕ) → ChecksLaws form checks first steps → MirrorsFit form.far form.mirror → Words form.far (weave_with form most checks first steps)
-words_with form most checks first steps laws m = record {
+words_with form most checks first steps laws m = let piece = lockstep_piece form checks m (record { locks = λ far e. laws.lockstep.locks far tt; lands = λ far e. laws.lockstep.lands far tt }) in record {
   first_locks = λ d a. prologue_items form.far d form.spans a;
   first_lands = λ d a. land_prologue form.far d form.spans a;
   enter_locks = λ a. enter_items form.far a;
   enter_lands = λ a. land_enter form.far a;
-  piece_locks = λ is at h. piece_items form m checks (laws.lockstep.locks form.far tt) is at h;
-  piece_lands = λ is at h. land_piece form m checks (laws.lockstep.lands form.far tt) is at h;
+  piece_locks = λ is at h. (piece is at h).locks form.far refl;
+  piece_lands = λ is at h. (piece is at h).lands form.far refl;
   leave_locks = λ e at h. end_items form m e at h;
   leave_lands = λ e at h. land_end form m e at h;
 }

@@ -13,7 +13,7 @@ use Rattle.qed_model.specs.Machine.Values.{width_of}
 use Rattle.qed_model.proofs.MemoryLaws.{get-put, get-put_outside, same_memory, wrap_offset}
 use Rattle.qed_model.proofs.Steps.{flags-put}
 use Rattle.lockstep.specs.InstructionFaults.{word_around, StoresAny, stores, leaves}
-use Rattle.lockstep.proofs.Agreeing.{small_put}
+use Rattle.weave_core.proofs.Sized.{small_put}
 
 -- ---- a number is its bytes
 byte_of-more : (v i : ℕ) → byte_of v (i + 1) ≡ byte_of (v / 256) i

@@ -13,7 +13,7 @@ use Rattle.weave_core.specs.Blocks.{FitsPiece}
 use Rattle.weave_core.specs.Rows.{At, spent}
 use Rattle.weave_core.proofs.Diverse.{operates_class, diverse_row}
 use Rattle.weave_core.proofs.DiverseFit.{diverse_mirrors_fit}
-use Rattle.weave_core.proofs.Landing.{straight_lands}
+use Rattle.weave_core.proofs.PartLaws.{lockstep_mirror}
 use Rattle.passes.specs.Honest.{HonestItems}
 use Rattle.passes.specs.Pass.{Does, same, Quiet, Honest, Lockstep}
 use Rattle.passes.specs.Compose.{leads_led, honest_items_then, honest_items_none}
@@ -49,7 +49,4 @@ honest_diverse i at f = record { honest = λ far s. honest_as far i at (parts_of
 
 -- ---- Lockstep
 pub lockstep_diverse : (i : Ins) (at : ℕ) → FitsPiece i → Lockstep any [] (diverse i at)
-lockstep_diverse i at f = record {
-  locks = λ far s. (diverse_mirrors_fit far).fit i at f;
-  lands = λ far s. straight_lands far (diverse i at) ((diverse_mirrors_fit far).straight i at f);
-}
+lockstep_diverse i at f = lockstep_mirror any diverse (λ far s. diverse_mirrors_fit far) i at f

@@ -1,5 +1,5 @@
 -- Where the new code of a generated test is within its limit, the output is within the others, and its run ends.
-use Rattle.std.proofs.Common.{◌≡◌, ◌⊎◌, ⊎_elim, ℕ, zero, suc, ◌+◌, ◌-◌, ◌*◌, ◌%◌, ◌<◌, ◌≤◌, max, Bool, true, false, cond, ◌||◌, ◌==◌, List, [], ◌∷◌, ◌++◌, length, map, None, refl, sym, ap, ◌∙◌, subst, arith}
+use Rattle.std.proofs.Common.{◌≡◌, ◌⊎◌, ⊎_elim, ℕ, suc, ◌+◌, ◌-◌, ◌*◌, ◌%◌, ◌<◌, ◌≤◌, max, Bool, true, false, cond, ◌||◌, ◌==◌, List, [], ◌∷◌, ◌++◌, length, map, None, refl, sym, ap, ◌∙◌, subst, arith}
 use Rattle.std.specs.Prelude.{All, AllPairs, filter, nat_lt, nat_le, if◌then◌else◌}
 use Rattle.std.proofs.lemmas.Bool.{and_parts, or_cases, eqb-true, leb-true, ltb-true, false≢true}
 use Rattle.std.proofs.lemmas.List.{length-map}
@@ -41,6 +41,7 @@ use Rattle.qed_model.proofs.PlacedWords.{size-decoded}
 use Rattle.qed_model.proofs.RangeSegments.{AreLoads}
 use Rattle.qed_model.proofs.ReadFacts.{one_file}
 use Rattle.weave_core.proofs.FilesFit.{length-table}
+use Rattle.weave_core.proofs.Visit.{visit_some}
 use Rattle.weave_core.proofs.TestKept as kept
 use Rattle.elf_write.specs.Plain.{segment}
 use Rattle.test_gen.specs.Code.{function_count}
@@ -312,17 +313,12 @@ module _ (seed n x y z : ℕ) (some : 1 ≤ n) (few : n ≤ 1875) where
     start_few : start_steps shape_here ≤ 33
     start_few = elim far as (λ b. start_bound b false 2 0 ≤ 33) [ true ↦ omega arith | false ↦ omega arith ]
 
-    -- where there is a data word
-    piece_with : (words ranges : ℕ) → 1 ≤ words → piece_bound 5 16 words ranges 1 ≡ 117 + 3 * ranges
-    piece_with zero ranges h = absurd (omega (arith, h))
-    piece_with (suc words) ranges h = omega arith
-
     piece_is : piece_steps shape_here ≡ 123
     piece_is =
         let size = length-data_bytes in
         let one : 1 ≤ word_count (table_range ∷ data_range ∷ []) = omega (arith, size) in
         ap (λ spans. piece_bound 5 16 (word_count spans) (length spans) 1) ranges_are
-        ∙ piece_with (word_count (table_range ∷ data_range ∷ [])) 2 one
+        ∙ ap (λ v. 110 + v * 1) (visit_some (word_count (table_range ∷ data_range ∷ [])) 2 one)
 
     input_ends : EndsAfter (start (loaded_file f) zeros) (run_steps n)
     input_ends = file_ends seed n x y z some few zeros refl

@@ -13,7 +13,7 @@ use Rattle.weave_core.specs.Each.{items_each, ForEach, cost_each, NeedsEach, Giv
 use Rattle.weave_core.proofs.Rows.{led_none, led_on}
 use Rattle.weave_core.proofs.Words.{guard_row}
 use Rattle.weave_core.proofs.KindItems.{items_then, items_none}
-use Rattle.weave_core.proofs.Landing.{land_then, straight_lands, straight_none}
+use Rattle.weave_core.proofs.Landing.{land_then, land_behind, straight_lands, straight_none, straight_guards}
 
 -- ---- Quiet
 -- a row that moves the two states of the input
@@ -99,6 +99,13 @@ lockstep_then sa sb ua ub xs ys e a b = record {
 -- a pass that guards what it uses
 pub lockstep_alone : (s : Bool → Type 0) (uses : List ℕ) (xs : List Item) → uses ≡ [] → Lockstep s uses xs → Lockstep s [] xs
 lockstep_alone s uses xs e a = subst (λ u. Lockstep s u xs) e a
+
+-- a pass behind the guards of what it uses
+pub lockstep_guarded : (suits : Bool → Type 0) (qs uses : List ℕ) (xs : List Item) → uses ≡ qs → AllLow qs → Lockstep suits uses xs → Lockstep suits [] (guards qs ++ xs)
+lockstep_guarded suits qs uses xs e low a = record {
+  locks = λ far s. subst (λ u. LockItems far (guards u ++ xs)) e (a.locks far s);
+  lands = λ far s. land_behind far (guards qs) xs (straight_guards far qs low) (a.lands far s);
+}
 
 -- ---- each
 module _ (next : ℕ → ℕ) (suits : Bool → Type 0) (for : Ins → ℕ → Type 0) (uses : Ins → List ℕ) (part : Ins → ℕ → List Item) where

@@ -24,6 +24,7 @@ use Rattle.qed_model.proofs.Walk.{known_at, run-more, constant_walk, set_reg-pos
 use Rattle.weave_core.specs.World.{World, Twice}
 use Rattle.weave_core.specs.Blocks.{IsEntryOf, FitsPiece, AllFit, Leaves, EndStands}
 use Rattle.weave_core.specs.Rows.{At, Sourced, Mirrors, spent}
+use Rattle.weave_core.specs.KindItems.{MirrorsFit}
 use Rattle.weave_core.specs.Promise.{WovenIn}
 use Rattle.weave_core.specs.Plan.{Plan, PlanKept, PlanLanded}
 use Rattle.weave_core.specs.Promise.{start_of, ValuesKept, LandingsFire}
@@ -35,8 +36,8 @@ use Rattle.qed_model.specs.Admission.DataRanges.{word_count}
 use Rattle.weave_core.proofs.Leaves.{step-end, step-branch, step-break}
 use Rattle.weave_core.specs.Each.{items_each, cost_each, NeedsEach, GivesEach, LeavesEach}
 use Rattle.weave_core.specs.Parts.{any, used, bare, bare_cost, original_cost, Runs, NeedsOriginal, GivesOriginal, LeavesOriginal, GivesMirror, LeavesMirror, ForOriginal, NeedsPiece, GivesPiece, LeavesPiece, piece_items, piece_cost, Checks}
-use Rattle.weave_core.proofs.Compose.{leads_led, quiet_then, quiet_guarded, lockstep_then, quiet_each, each_front, each_same}
-use Rattle.weave_core.proofs.PartLaws.{quiet_original, quiet_compare, quiet_visit}
+use Rattle.weave_core.proofs.Compose.{leads_led, quiet_then, quiet_guarded, lockstep_then, lockstep_guarded, lockstep_each, quiet_each, each_front, each_same}
+use Rattle.weave_core.proofs.PartLaws.{quiet_original, quiet_compare, quiet_visit, lockstep_original, lockstep_mirror}
 use Rattle.weave_core.proofs.PieceLaws.{AreChecks, both_checks, never_originals, for_originals, for_mirrors, needs_originals, gives_originals, piece_leads, cost_parts, guarded_original, parts_are}
 use Rattle.weave_core.proofs.LeaveLaws.{quiet_enter, fall_law, leave_law, quiet_sweep}
 use Rattle.weave_core.proofs.KindItems.{items_then, compare_items, visits_items}
@@ -135,6 +136,17 @@ form_checks form = record {
     lands = λ far s. land_behind far compare (visit form.round form.spans) (straight_compare far) (land_visits far form.round form.spans);
   };
 }
+
+-- ---- the words of a piece
+-- by the laws of its passes
+pub lockstep_piece :
+    (form : Form) (checks : List Item) → MirrorsFit form.far form.mirror → Lockstep (λ far. far ≡ form.far) [] checks → (is : List Ins) (at : ℕ) → AllFit is
+    → Lockstep (λ far. far ≡ form.far) [] (each_part original is at ++ (each_part form.mirror is at ++ checks))
+lockstep_piece form checks m c is at h =
+    let os = lockstep_each plus any ForOriginal (λ i. []) (λ i at. guards (used i) ++ bare i at) (λ i at f. lockstep_guarded any (used i) (used i) (bare i at) refl f.1 (lockstep_original i at f.0)) is at (for_originals plus is at h) in
+    let ms = lockstep_each plus (λ far. far ≡ form.far) (λ i at. FitsPiece i) (λ i. []) form.mirror (lockstep_mirror (λ far. far ≡ form.far) form.mirror (λ far e. subst (λ b. MirrorsFit b form.mirror) (sym e) m)) is at (for_mirrors plus is at h) in
+    let all = lockstep_then any _ [] [] _ _ refl os (lockstep_then (λ far. far ≡ form.far) (λ far. far ≡ form.far) [] [] _ _ refl ms c) in
+    subst (Lockstep (λ far. far ≡ form.far) []) (parts_are plus form.mirror checks is at (λ part. each_plus part is at)) (record { locks = λ far e. all.locks far (tt, (e, e)); lands = λ far e. all.lands far (tt, (e, e)) })
 
 -- ---- inside a run
 -- behind the first n instructions of a run the original half has made n steps, whatever stands behind the original parts

@@ -1,5 +1,5 @@
 -- The parts of a piece lead on: the laws of their passes.
-use Rattle.std.proofs.Common.{◌≡◌, ℕ, ◌*◌, inl, ⊎_elim, true, false, cond, List, [], ◌∷◌, ◌++◌, length, refl, sym, subst, arith}
+use Rattle.std.proofs.Common.{◌≡◌, ℕ, ◌*◌, inl, ⊎_elim, Bool, true, false, cond, List, [], ◌∷◌, ◌++◌, length, refl, sym, subst, arith}
 use Rattle.rv_isa.specs.declared.ins.Ins.{Ins}
 use Rattle.rv_isa.specs.declared.class.Class.{Class}
 use Rattle.rv_isa.specs.declared.class.Class.TheVariants as class
@@ -15,14 +15,18 @@ use Rattle.qed_model.proofs.Walk.{known_at}
 use Rattle.weave_core.specs.World.{World}
 use Rattle.weave_core.specs.Blocks.{IsBody, IsLowAs, FitsPiece}
 use Rattle.weave_core.specs.Rows.{At, Led, Sourced}
-use Rattle.weave_core.specs.Pass.{Views, Does, same, Leads, Quiet}
-use Rattle.weave_core.specs.Parts.{any, bare, bare_cost, Runs, Compares, Rounds}
+use Rattle.weave_core.specs.Pass.{Views, Does, same, Leads, Quiet, Lockstep}
+use Rattle.weave_core.specs.KindItems.{LockItems, Straight, MirrorsFit}
+use Rattle.weave_core.specs.Parts.{any, used, bare, bare_cost, Runs, Compares, Rounds}
 use Rattle.weave_core.proofs.Rows.{led_more}
 use Rattle.weave_core.proofs.Words.{original_compute, original_auipc, original_fence, compare_row, compare_stands}
 use Rattle.weave_core.proofs.Access.{load_at, store_at, load_granted, store_granted}
 use Rattle.weave_core.proofs.Body.{auipc_is, low_auipc, mirrored_row}
 use Rattle.weave_core.proofs.Visit.{visit_row, Visited}
 use Rattle.weave_core.proofs.Compose.{leads_led}
+use Rattle.weave_core.proofs.KindItems.{original_items}
+use Rattle.weave_core.proofs.Landing.{straight_lands, straight_none, straight_one, straight_compute, straight_load, straight_store, straight_constant}
+use Rattle.weave_core.proofs.PieceLaws.{guarded_original}
 
 -- ---- the original part
 module _ (w : World) where
@@ -83,3 +87,30 @@ quiet_visit round spans = record { leads = λ w v rest s st need. row w v rest n
         walk = x.walk;
         ends = inl (x.at, record { original = refl; shadow = e; cursor = x.cursor; leads = refl; visits = x.visits });
       }
+
+-- ---- Lockstep
+-- an original part does not jump
+straight_as : (far : Bool) (c : Class) (i : Ins) → class_of i.kind ≡ c → IsBody c → Straight far (Plain i ∷ [])
+straight_as far class.Compute i e b = straight_compute far i [] e (straight_none far)
+straight_as far class.Load i e b = straight_load far i [] e (straight_none far)
+straight_as far class.Store i e b = straight_store far i [] e (straight_none far)
+straight_as far class.Fence i e b = straight_one far i class.Fence [] e (λ c a. tt) (straight_none far)
+straight_as far c i e b = absurd b
+
+straight_bare : (far : Bool) (i : Ins) (at : ℕ) → FitsPiece i → Straight far (bare i at)
+straight_bare far i at f = elim (is_auipc i.kind) as (λ b. Straight far (cond b (Constant i.rd (target i at) ∷ []) (Plain i ∷ []))) [ true ↦ straight_constant far i.rd (target i at) [] (straight_none far) | false ↦ straight_as far (class_of i.kind) i refl f.body ]
+
+pub lockstep_original : (i : Ins) (at : ℕ) → FitsPiece i → Lockstep any (used i) (bare i at)
+lockstep_original i at f = record {
+  locks = λ far s. subst (LockItems far) (sym (guarded_original i at)) (original_items far i at f);
+  lands = λ far s. straight_lands far (bare i at) (straight_bare far i at f);
+}
+
+-- a mirror part that fits
+pub lockstep_mirror :
+    (suits : Bool → Type 0) (mirror : Ins → ℕ → List Item) → ((far : Bool) → suits far → MirrorsFit far mirror) → (i : Ins) (at : ℕ) → FitsPiece i
+    → Lockstep suits [] (mirror i at)
+lockstep_mirror suits mirror m i at f = record {
+  locks = λ far s. (m far s).fit i at f;
+  lands = λ far s. straight_lands far (mirror i at) ((m far s).straight i at f);
+}

@@ -1,17 +1,21 @@
 -- Parts on x0 and x14 to x31 alone are words of the kinds, and do not jump.
-use Rattle.std.proofs.Common.{◌≡◌, ℕ, ◌≤◌, Bool, List, [], ◌∷◌}
+use Rattle.std.proofs.Common.{◌≡◌, ℕ, ◌≤◌, inr, Bool, true, false, cond, List, [], ◌∷◌, refl, arith}
 use Rattle.rv_isa.specs.declared.ins.Ins.{Ins}
 use Rattle.rv_isa.specs.declared.class.Class.TheVariants as class
 use Rattle.rv_isa.specs.Kind.{class_of}
+use Rattle.rv_isa.specs.Operation.{pair}
 use Rattle.qed_model.specs.declared.item.Item.{Item}
 use Rattle.qed_model.specs.declared.item.Item.TheVariants.{Mark, Plain, Constant, Go}
+use Rattle.qed_model.specs.Machine.Step.{target}
+use Rattle.qed_model.specs.Weave.Sequences.{is_auipc, mirrored, mirror_as}
 use Rattle.weave_core.specs.Lock.{Scratch}
 use Rattle.weave_core.specs.Blocks.{FitsPiece}
 use Rattle.weave_core.specs.Kinds.{Lockstep}
 use Rattle.weave_core.specs.KindItems.{LockItems, Straight, MirrorsFit}
+use Rattle.weave_core.proofs.BodyWords.{IsBodyWord, body_computes, body_loads, body_stores, body_fences, body_word}
 use Rattle.weave_core.proofs.KindWords.{scratch_compute, scratch_load, scratch_store}
-use Rattle.weave_core.proofs.KindItems.{items_none, items_one, items_constant}
-use Rattle.weave_core.proofs.Landing.{straight_none, straight_compute, straight_load, straight_store, straight_constant, low_or_high}
+use Rattle.weave_core.proofs.KindItems.{pair_scratch, low_or_high, items_none, items_one, items_constant}
+use Rattle.weave_core.proofs.Landing.{straight_none, straight_compute, straight_load, straight_store, straight_constant}
 
 -- such a word, which does not jump: it computes, loads with a base from x16 on, or stores
 pub data ScratchWord (i : Ins) : Type 0 where
@@ -56,3 +60,17 @@ scratch_straight far (Go t ∷ is) h = absurd h
 -- mirror parts of such words fit
 pub scratch_mirrors_fit : (far : Bool) (mirror : Ins → ℕ → List Item) → ((i : Ins) (at : ℕ) → FitsPiece i → AllScratchWords (mirror i at)) → MirrorsFit far mirror
 scratch_mirrors_fit far mirror h = record { fit = λ i at f. scratch_items far (mirror i at) (h i at f); straight = λ i at f. scratch_straight far (mirror i at) (h i at f) }
+
+-- ---- the mirror parts of a form that has no others
+-- they are such words, by the class
+mirror_words : (i : Ins) (at : ℕ) → IsBodyWord i → AllScratchWords (mirror_as (class_of i.kind) i at)
+mirror_words i at (body_computes k) = rw k (word_computes k (pair_scratch i.rs1) (pair_scratch i.rs2), tt)
+mirror_words i at (body_loads k) = rw k (word_computes refl (pair_scratch i.rs1) (inr (omega arith)), (word_loads k (omega arith), tt))
+mirror_words i at (body_stores k) = rw k (word_computes refl (pair_scratch i.rs1) (inr (omega arith)), (word_stores k (inr (omega arith)) (pair_scratch i.rs2), tt))
+mirror_words i at (body_fences k) = rw k tt
+
+pub mirrored_words : (i : Ins) (at : ℕ) → FitsPiece i → AllScratchWords (mirrored i at)
+mirrored_words i at f = elim (is_auipc i.kind) as (λ t. AllScratchWords (cond t (Constant (pair i.rd) (target i at) ∷ []) (mirror_as (class_of i.kind) i at))) [ true ↦ tt | false ↦ mirror_words i at (body_word i f) ]
+
+pub plain_mirrors_fit : (far : Bool) → MirrorsFit far mirrored
+plain_mirrors_fit far = scratch_mirrors_fit far mirrored mirrored_words

@@ -2,20 +2,14 @@
 use Rattle.std.proofs.Common.{◌≡◌, Bool, true, false, cond, List, [], ◌∷◌, ◌++◌, refl, ap, ◌∙◌}
 use Rattle.std.proofs.lemmas.Bool.{and_from, and_parts}
 use Rattle.rv_isa.specs.declared.ins.Ins.{Ins}
-use Rattle.rv_isa.specs.declared.class.Class.{Class}
-use Rattle.rv_isa.specs.declared.class.Class.TheVariants as class
 use Rattle.rv_isa.specs.Kind.{class_of}
-use Rattle.qed_model.specs.Weave.Pieces.{is_run, is_clean_as, whole}
+use Rattle.qed_model.specs.Weave.Pieces.{is_run, whole}
 use Rattle.weave_examples.specs.Joined.{all_runs, put_first, cut_runs}
+use Rattle.weave_core.proofs.FileBlocks.{clean_alone}
 
 -- one instruction alone is a run
-clean_none : (c : Class) (i : Ins) → is_clean_as c (λ r. false) i ≡ true
-clean_none class.Load i = refl
-clean_none class.Store i = refl
-clean_none c i = refl
-
 one_is_run : (i : Ins) → is_run (i ∷ []) ≡ true
-one_is_run i = and_from _ _ (clean_none (class_of i.kind) i) refl
+one_is_run i = and_from _ _ (clean_alone (class_of i.kind) i) refl
 
 put_list : (i : Ins) (rs : List (List Ins)) → whole (put_first i rs) ≡ i ∷ whole rs
 put_list i [] = refl

@@ -18,8 +18,8 @@ use Rattle.qed_model.proofs.Walked.{walk_on}
 use Rattle.weave_core.specs.World.{World, Quiet as Calm}
 use Rattle.weave_core.specs.Blocks.{FitsPiece, AllFit}
 use Rattle.weave_core.specs.Rows.{At, Sourced, Led, Mirrors}
-use Rattle.weave_core.specs.KindItems.{LockItems, Straight, MirrorsFit}
-use Rattle.weave_core.specs.Pass.{Views}
+use Rattle.weave_core.specs.KindItems.{MirrorsFit}
+use Rattle.weave_core.specs.Pass.{Views, Lockstep}
 use Rattle.weave_core.specs.Each.{items_each}
 use Rattle.weave_core.specs.Parts.{any, used, bare, GivesMirror, LeavesMirror}
 use Rattle.weave_core.specs.Weave.{Weave}
@@ -27,11 +27,10 @@ use Rattle.weave_core.specs.WeaveLaws.{PieceAt, Holds, GoesTo, Inside, Behind, W
 use Rattle.weave_core.proofs.Rows.{led_on, led_none, led_more}
 use Rattle.weave_core.proofs.Source.{source_run, not_trapped_front, has_front}
 use Rattle.weave_core.proofs.Visit.{checked_behind}
-use Rattle.weave_core.proofs.KindItems.{items_then, items_none, originals_each, mirrors_each}
-use Rattle.weave_core.proofs.Landing.{has_rest, straight_then, straight_none, straight_originals, straight_mirrors, land_behind}
+use Rattle.weave_core.proofs.Landing.{has_rest}
 use Rattle.weave_core.proofs.Compose.{quiet_then, quiet_each, each_same}
 use Rattle.weave_core.proofs.PieceLaws.{never_originals, never_mirrors, for_mirrors, needs_originals, needs_mirrors, gives_originals, gives_mirrors, cost_parts, guarded_original}
-use Rattle.weave_core.proofs.FormRows.{plus, each_plus, NeedsOther, other_cost, quiet_other, quiet_front, front_row, both, both_steps, form_checks, enter_law, leave_row, starts_with, form_guarded}
+use Rattle.weave_core.proofs.FormRows.{plus, each_plus, NeedsOther, other_cost, quiet_other, quiet_front, lockstep_piece, front_row, both, both_steps, form_checks, enter_law, leave_row, starts_with, form_guarded}
 use Rattle.weave_core.proofs.Values.{weave_kept}
 use Rattle.weave_core.proofs.Landings.{weave_landed}
 use Rattle.lockstep.proofs.FormWords.{form_words, visits_ten}
@@ -171,22 +170,18 @@ module _ (w : World) (law : Mirrors w) where
         }
 
 -- ---- the words
-module _ (form : Form) (m : MirrorsFit form.far form.mirror) where
-  runs_locks : (rs : List (List Ins)) (at : ℕ) → AllFit (whole rs) → LockItems form.far (runs_items form rs at)
-  runs_locks [] at h = items_none form.far
-  runs_locks (r ∷ rs) at h =
-      let f = fit_parts r (whole rs) h in
-      items_then form.far (each_part original r at ++ each_part form.mirror r at) (runs_items form rs (at + 4 * length r))
-      (items_then form.far (each_part original r at) (each_part form.mirror r at) (originals_each form.far r at f.0) (mirrors_each form.far form.mirror m r at f.0))
-      (runs_locks rs (at + 4 * length r) f.1)
-
-  runs_straight : (rs : List (List Ins)) (at : ℕ) → AllFit (whole rs) → Straight form.far (runs_items form rs at)
-  runs_straight [] at h = straight_none form.far
-  runs_straight (r ∷ rs) at h =
-      let f = fit_parts r (whole rs) h in
-      straight_then form.far (each_part original r at ++ each_part form.mirror r at) (runs_items form rs (at + 4 * length r))
-      (straight_then form.far (each_part original r at) (each_part form.mirror r at) (straight_originals form.far r at f.0) (straight_mirrors form.far form.mirror m r at f.0))
-      (runs_straight rs (at + 4 * length r) f.1)
+-- of all runs, with what stands behind them
+runs_lockstep :
+    (form : Form) (checks : List Item) → MirrorsFit form.far form.mirror → Lockstep (λ far. far ≡ form.far) [] checks → (rs : List (List Ins)) (at : ℕ)
+    → AllFit (whole rs) → Lockstep (λ far. far ≡ form.far) [] (runs_items form rs at ++ checks)
+runs_lockstep form checks m c [] at h = c
+runs_lockstep form checks m c (r ∷ rs) at h =
+    let f = fit_parts r (whole rs) h in
+    let os = each_part original r at in
+    let ms = each_part form.mirror r at in
+    let rest = runs_items form rs (at + 4 * length r) in
+    subst (Lockstep (λ far. far ≡ form.far) []) (sym (append_assoc (os ++ ms) rest checks ∙ append_assoc os ms (rest ++ checks)))
+    (lockstep_piece form (rest ++ checks) m (runs_lockstep form checks m c rs (at + 4 * length r) f.1) r at f.0)
 
 -- ---- the laws
 module _ (cut : List Ins → List (List Ins)) (keeps : (is : List Ins) → whole (cut is) ≡ is) where
@@ -195,13 +190,15 @@ module _ (cut : List Ins → List (List Ins)) (keeps : (is : List Ins) → whole
       let old = form_words form most m in
       let laws = (form_checks form).lockstep in
       let checks = compare ++ visit form.round form.spans in
+      let piece : (is : List Ins) (at : ℕ) → AllFit is → Lockstep (λ far. far ≡ form.far) [] (runs_items form (cut is) at ++ checks) =
+      λ is at h. runs_lockstep form checks m (record { locks = λ far e. laws.locks far tt; lands = λ far e. laws.lands far tt }) (cut is) at (subst AllFit (sym (keeps is)) h) in
       record {
         first_locks = old.first_locks;
         first_lands = old.first_lands;
         enter_locks = old.enter_locks;
         enter_lands = old.enter_lands;
-        piece_locks = λ is at h. items_then form.far (runs_items form (cut is) at) checks (runs_locks form m (cut is) at (subst AllFit (sym (keeps is)) h)) (laws.locks form.far tt);
-        piece_lands = λ is at h. land_behind form.far (runs_items form (cut is) at) checks (runs_straight form m (cut is) at (subst AllFit (sym (keeps is)) h)) (laws.lands form.far tt);
+        piece_locks = λ is at h. (piece is at h).locks form.far refl;
+        piece_lands = λ is at h. (piece is at h).lands form.far refl;
         leave_locks = old.leave_locks;
         leave_lands = old.leave_lands;
       }

@@ -15,6 +15,7 @@ use Rattle.qed_model.specs.Weave.Sequences.{Block, End, Falls, Stops, body_lengt
 use Rattle.qed_model.proofs.Among.{Among}
 use Rattle.qed_model.proofs.Fetches.{IsShapely, instruction_code}
 use Rattle.qed_model.proofs.PieceLaws.{EachPiece, Cut, Empty, Filled, pieces_whole, pieces_cut}
+use Rattle.weave_core.proofs.TestKnown.{body_size}
 
 -- ---- lists of numbers
 -- a list of which a member was taken: all above the member are left
@@ -35,10 +36,6 @@ without a (b ∷ bs) m =
     m
 
 -- ---- the parts of a block
-body_whole : (ps : List (List Ins)) → body_length ps ≡ length (whole ps)
-body_whole [] = omega arith
-body_whole (p ∷ ps) = let l = length-append p (whole ps) in let r = body_whole ps in omega (arith, l, r)
-
 few_pieces : (most : ℕ) (ps : List (List Ins)) → EachPiece most ps → length ps ≤ body_length ps
 few_pieces most [] each = omega arith
 few_pieces most (p ∷ ps) each = let r = few_pieces most ps each.3 in omega (arith, r, each.1)
@@ -115,7 +112,7 @@ module _ (f : ElfFile) (shape : IsShapely f) (most : ℕ) (some : 1 ≤ most) wh
 
   leader_weight : (b : Block) (l : IsLeaderBlock f most b) → body_length b.body + length b.body + 1 ≤ 2 * length l.body + 2
   leader_weight b l =
-      let same : body_length b.body ≡ length l.body = body_whole b.body ∙ ap length (pieces_whole most l.body b.body some l.pieces) in
+      let same : body_length b.body ≡ length l.body = body_size b.body ∙ ap length (pieces_whole most l.body b.body some l.pieces) in
       let few = leader_pieces l.body b.body (pieces_cut most l.body b.body some l.pieces) same in
       omega (arith, same, few)
 
