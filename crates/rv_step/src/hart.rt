@@ -24,7 +24,7 @@ use std::alloc::{AllocError, Global};
 use std::marker::Model;
 
 /// How many steps are made before a run is long, so that a table of its instructions is worth what it costs.
-const FEW: u64 = 8192;
+const FEW: u64 = 16384;
 
 /// One hart of RV64IM: registers, pc, code ranges, outcome and number of steps. Its memory is handed to each step.
 #[derive(Drop)]

@@ -7,8 +7,8 @@ use rv_isa::Ins;
 use std::alloc::{AllocError, Global};
 use std::marker::Model;
 
-/// How many instructions are kept: as many as 64 KiB of code have.
-const KEPT: usize = 16384;
+/// How many instructions are kept: as many as 32 KiB of code have.
+const KEPT: usize = 8192;
 
 /// An instruction, and the address at which it stands. At an odd address there is none.
 ///
@@ -46,13 +46,13 @@ impl Model for Table {
 
     ghost view = { λ t. t.all.items };
 
-    ghost invariant = { λ t. length t.all.items ≡ 16384 };
+    ghost invariant = { λ t. length t.all.items ≡ 8192 };
 }
 
 /// The place of an address.
 #[inline(always)]
 fn slot(address: u64) -> usize
-    ensures { result < 16384 }
+    ensures { result < 8192 }
 {
     ((address >> 2) % KEPT as u64) as usize
 }

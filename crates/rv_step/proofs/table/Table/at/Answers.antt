@@ -8,7 +8,7 @@ use Rattle.rv_step.proofs.table.Table.at.Goals as goal
 pub returns : goal.returns
 returns c = λ s h here.
     let e = c.index-entry.result.now in
-    let full : length c.self.inside.all.items ≡ 16384 = c.self.invariant in
+    let full : length c.self.inside.all.items ≡ 8192 = c.self.invariant in
     let below : c.slot.result < length c.self.inside.all.items = omega (arith, full, c.slot.ensures) in
     table_next s c.args.self.now c.slot.result c.args.address e h
     (subst (λ (xs : List Entry). c.slot.result < length xs) c.self.view_is below)
