@@ -5,7 +5,8 @@ here=$(cd "$(dirname "$0")" && pwd)
 program=$(realpath -m "${1:-${QED:-$here/../../crates/qed/out/qed}}")
 flags="-march=rv64im -mabi=lp64 -ffreestanding -fno-pic -mcmodel=medany -nostdlib -static $(printf -- '-ffixed-x%d ' {14..31})"
 
-qed() { "$program" "$@"; }
+# What is told on standard error is for who types the command, and differs by the compiler.
+qed() { "$program" "$@" 2> "/dev/null"; }
 
 # Ends with status 77 where one of these tools is missing.
 needs() {

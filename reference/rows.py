@@ -8,6 +8,7 @@ import tempfile
 from typing import Callable, Dict, List, Optional, Tuple
 
 import isa
+from advice import advice
 from admission import Options, admit, blocks, leaders
 from calls import WRITE_FAULT, Shelf, answer, transform
 from campaign import Course, is_closed, strikes_text
@@ -430,6 +431,7 @@ LINES: Dict[str, Callable[[Rows, List[str]], str]] = {
     "arguments": lambda rows, words: _qed(rows, words[1:]),
     "starved": lambda rows, words: f"= {NO_MEMORY}\n", "order": _order, "show": _show, "read": _read,
     "never": _never, "narrow": _narrow, "disk": _disk, "put": _put, "take": _take, "kind": _kind,
+    "advice": lambda rows, words: advice(words, rows.shelf),
     "test": _test, "course": _course, "strike": _strike, "closed": _closed, "bounds": _bounds, "link": _link}
 
 

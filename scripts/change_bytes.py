@@ -136,7 +136,7 @@ def begin_worker():
 def call(words, printed):
     """The status of a call, its processor time in seconds and its memory in KiB. What it prints goes to a file."""
     with open(printed, "wb") as out:
-        ran = subprocess.Popen(words, stdin=subprocess.DEVNULL, stdout=out, stderr=out)
+        ran = subprocess.Popen(words, stdin=subprocess.DEVNULL, stdout=out, stderr=subprocess.DEVNULL)
     resource.prlimit(ran.pid, resource.RLIMIT_CPU, (PATIENCE[0], PATIENCE[0]))
     # Such a descriptor can be read once the process has ended.
     process = os.pidfd_open(ran.pid)

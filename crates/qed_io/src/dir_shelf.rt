@@ -10,7 +10,7 @@ use elf_types::Bytes;
 use std::alloc::Global;
 use std::fs;
 use std::fs::OpenOptions;
-use std::io::ErrorKind;
+use std::io::{Error, ErrorKind};
 use std::marker::Model;
 use std::rt::Files;
 
@@ -28,6 +28,8 @@ pub struct DirShelf<R: Files + Drop> {
     machine: R,
     alloc: Global,
     faults: u64,
+    /// Why the last call that failed did, as the machine says.
+    pub last_error: Option<Error>,
 }
 
 // Whether a new file may take the name: there is none, or a plain one that may be written.
@@ -57,6 +59,7 @@ impl<R: Files + Drop> DirShelf<R> {
             machine,
             alloc,
             faults: 0,
+            last_error: None,
         }
     }
 
@@ -67,7 +70,9 @@ impl<R: Files + Drop> DirShelf<R> {
         ensures not_fell { self.old ≤ self.new }
     {
         let mut folder = NewFile::beside(&self.machine, self.alloc, name);
-        replace(&mut folder, bytes, &mut self.faults)
+        let replaced = replace(&mut folder, bytes, &mut self.faults);
+        self.last_error = folder.last_error;
+        replaced
     }
 }
 
@@ -86,7 +91,7 @@ impl<R: Files + Drop> Shelf for DirShelf<R> {
         ensures steady { result ≢ Err LoadError.Failed → self.new ≡ self.old }
     {
         let opened = fs::open(&self.machine, name);
-        load_opened(opened, alloc, limit, &mut self.faults)
+        load_opened(opened, alloc, limit, &mut self.faults, &mut self.last_error)
     }
 
     fn store(&mut self, name: &str, bytes: &[u8]) -> Result<(), StoreError>
@@ -104,6 +109,11 @@ impl<R: Files + Drop> Shelf for DirShelf<R> {
             }
         }
         let mut opened = fs::create(&self.machine, name).map(WriterSink::over);
-        store_opened(&mut opened, bytes, &mut self.faults)
+        let stored = store_opened(&mut opened, bytes, &mut self.faults);
+        self.last_error = match &opened {
+            Ok(file) => file.last_error,
+            Err(error) => Some(*error),
+        };
+        stored
     }
 }

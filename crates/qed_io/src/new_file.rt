@@ -20,6 +20,8 @@ pub struct NewFile<'a, R: Files> {
     /// The name of the new file, and that file, once it is made.
     beside: String,
     made: Option<WriterSink<R::File>>,
+    /// Why the last call that failed did, as the machine says.
+    pub(crate) last_error: Option<Error>,
 }
 
 // A file of a name that no file had; None where one has it.
@@ -44,7 +46,28 @@ impl<'a, R: Files> NewFile<'a, R> {
             name,
             beside: String::new(alloc),
             made: None,
+            last_error: None,
         }
+    }
+
+    // Keeps the error of a call.
+    fn noted(&mut self, done: io::Result<()>) -> io::Result<()> {
+        if let Err(error) = &done {
+            self.last_error = Some(*error);
+        }
+        done
+    }
+
+    // Makes a new file of the first name that no file has.
+    fn make_beside(&mut self) -> io::Result<()> {
+        for n in 0..NAMES_TRIED {
+            let name = self.name;
+            let beside = format!(in self.alloc; "{name}.{n}.new")?;
+            if self.make(beside)? {
+                return Ok(());
+            }
+        }
+        Err(Error::from(ErrorKind::AlreadyExists))
     }
 
     // Makes a file of that name, and tells whether it did: not where another has the name.
@@ -64,14 +87,8 @@ impl<'a, R: Files> Folder for NewFile<'a, R> {
     ghost held = { λ _. None };
 
     fn create(&mut self) -> io::Result<()> {
-        for n in 0..NAMES_TRIED {
-            let name = self.name;
-            let beside = format!(in self.alloc; "{name}.{n}.new")?;
-            if self.make(beside)? {
-                return Ok(());
-            }
-        }
-        Err(Error::from(ErrorKind::AlreadyExists))
+        let done = self.make_beside();
+        self.noted(done)
     }
 
     fn take_rights(&mut self) {
@@ -83,21 +100,27 @@ impl<'a, R: Files> Folder for NewFile<'a, R> {
     }
 
     fn append(&mut self, bytes: &[u8]) -> io::Result<()> {
-        match &mut self.made {
-            Some(file) => put_all(file, bytes).map_err(|_| Error::from(ErrorKind::Other)),
+        let done = match &mut self.made {
+            Some(file) => match put_all(file, bytes) {
+                Ok(()) => Ok(()),
+                Err(_) => Err(file.last_error.unwrap_or(Error::from(ErrorKind::Other))),
+            },
             None => Err(Error::from(ErrorKind::NotFound)),
-        }
+        };
+        self.noted(done)
     }
 
     fn sync(&mut self) -> io::Result<()> {
-        match &self.made {
+        let done = match &self.made {
             Some(file) => file.writer.sync_all(),
             None => Err(Error::from(ErrorKind::NotFound)),
-        }
+        };
+        self.noted(done)
     }
 
     fn rename(&mut self) -> io::Result<()> {
-        fs::rename(self.machine, self.beside.as_str(), self.name)
+        let done = fs::rename(self.machine, self.beside.as_str(), self.name);
+        self.noted(done)
     }
 
     fn remove(&mut self) {

@@ -15,6 +15,8 @@ use std::io::{Printer, Write};
 pub struct WriterSink<W: Write + Drop> {
     pub writer: W,
     pub faults: u64,
+    /// Why the last write that failed did, as the machine says.
+    pub last_error: Option<io::Error>,
 }
 
 /// Standard output. Contracts are told nothing of what was written: that the bytes of a write come out is trusted.
@@ -35,7 +37,11 @@ impl<W: Write + Drop> WriterSink<W> {
         ensures writer { result.writer ≡ writer }
         ensures faults { result.faults ≡ 0 }
     {
-        WriterSink { writer, faults: 0 }
+        WriterSink {
+            writer,
+            faults: 0,
+            last_error: None,
+        }
     }
 }
 
@@ -59,7 +65,8 @@ impl<W: Write + Drop> Sink for WriterSink<W> {
                 }
                 Ok(taken)
             }
-            Err(_) => {
+            Err(error) => {
+                self.last_error = Some(error);
                 self.faults = self.faults.saturating_add(1);
                 Err(WriteError::Failed)
             }

@@ -12,10 +12,11 @@ use std::alloc::Global;
 use std::io;
 use std::io::{Error, ErrorKind, Read, Write};
 
-/// What a load answers for an error of the machine: `Memory` exactly for want of memory, and else `Failed`.
-fn load_error(error: Error) -> LoadError
+/// What a load answers for an error of the machine, which is kept: `Memory` exactly for want of memory, and else `Failed`.
+fn load_error(error: Error, last_error: &mut Option<Error>) -> LoadError
     ensures { result ≡ load_error_of (error_kind error) }
 {
+    *last_error = Some(error);
     match error.kind() {
         ErrorKind::OutOfMemory => LoadError::Memory,
         _ => LoadError::Failed,
@@ -32,7 +33,11 @@ fn read_start<R: Read + Drop>(reader: R, alloc: Global, most: u64) -> io::Result
 }
 
 /// What a load answers where it read on to one byte behind the limit.
-fn within(read: io::Result<Vec<u8>>, limit: u64) -> Result<Bytes, LoadError>
+fn within(
+    read: io::Result<Vec<u8>>,
+    limit: u64,
+    last_error: &mut Option<Error>,
+) -> Result<Bytes, LoadError>
     ensures { result ≡ within_limit limit read }
 {
     match read {
@@ -42,7 +47,7 @@ fn within(read: io::Result<Vec<u8>>, limit: u64) -> Result<Bytes, LoadError>
             }
             Ok(Bytes::of(bytes))
         }
-        Err(error) => Err(load_error(error)),
+        Err(error) => Err(load_error(error, last_error)),
     }
 }
 
@@ -52,15 +57,21 @@ fn read_whole<R: Read + Drop>(
     opened: io::Result<R>,
     alloc: Global,
     limit: u64,
+    last_error: &mut Option<Error>,
 ) -> Result<Bytes, LoadError>
     ensures held { LoadsHeld R.remaining opened limit result }
     ensures unopened { IfErr opened (λ error. result ≡ Err (load_error_of (error_kind error))) }
 {
-    let file = opened.map_err(load_error)?;
-    within(read_start(file, alloc, limit.saturating_add(1)), limit)
+    match opened {
+        Ok(file) => {
+            let read = read_start(file, alloc, limit.saturating_add(1));
+            within(read, limit, last_error)
+        }
+        Err(error) => Err(load_error(error, last_error)),
+    }
 }
 
-/// Loads a file that was opened, and counts a fault exactly where it answers `Failed`.
+/// Loads a file that was opened, and counts a fault exactly where it answers `Failed`. The machine's error is kept.
 ///
 /// Errors: `TooLong` only where the file has more bytes than the limit, and `Failed` or `Memory` as the machine says.
 pub(crate) fn load_opened<R: Read + Drop>(
@@ -68,6 +79,7 @@ pub(crate) fn load_opened<R: Read + Drop>(
     alloc: Global,
     limit: u64,
     faults: &mut u64,
+    last_error: &mut Option<Error>,
 ) -> Result<Bytes, LoadError>
     ensures held { LoadsHeld R.remaining opened limit result }
     ensures unopened { IfErr opened (λ error. result ≡ Err (load_error_of (error_kind error))) }
@@ -75,7 +87,7 @@ pub(crate) fn load_opened<R: Read + Drop>(
     ensures steady { result ≢ Err LoadError.Failed → faults.new ≡ faults.old }
     ensures not_fell { faults.old ≤ faults.new }
 {
-    let loaded = read_whole(opened, alloc, limit);
+    let loaded = read_whole(opened, alloc, limit, last_error);
     if let Err(LoadError::Failed) = &loaded {
         *faults = faults.saturating_add(1);
     }

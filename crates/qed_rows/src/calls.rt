@@ -3,6 +3,7 @@
 use crate::asked::words;
 use crate::bench::Bench;
 use crate::digest::digest_of;
+use diagnose::advice;
 use qed_top::{exit_code, qed};
 use qed_words::order;
 use std::alloc::{AllocError, Global};
@@ -26,6 +27,18 @@ pub(crate) fn call(
     let mut out = bench.sink(alloc)?;
     let status = qed(alloc, words, &mut bench.shelf, &mut out);
     printed(alloc, out.bytes(), status.code())
+}
+
+/// What a person is told of a call.
+pub(crate) fn advise(
+    alloc: Global,
+    bench: &mut Bench,
+    words: &[String],
+) -> Result<String, AllocError> {
+    let mut out = bench.sink(alloc)?;
+    let _ = qed(alloc, words, &mut bench.shelf, &mut out);
+    let printed = str::from_utf8(out.bytes()).unwrap_or("");
+    advice(alloc, words, printed, None, &mut bench.shelf)
 }
 
 /// The size and the digest of what a call prints, and the exit code.

@@ -2,7 +2,7 @@
 
 use crate::asked::words;
 use crate::bench::Bench;
-use crate::calls::{ask, call, digest, start};
+use crate::calls::{advise, ask, call, digest, start};
 use crate::digest::digest_of;
 use crate::files::{first, with};
 use crate::layer::tell_layer;
@@ -169,6 +169,7 @@ pub(crate) fn tell(rt: &HostRuntime, bench: &mut Bench, line: &str) -> Result<St
         }
         "qed" => call(alloc, bench, &words(alloc, rest)?),
         "alone" => call(alloc, bench, &[]),
+        "advice" => advise(alloc, bench, &words(alloc, rest)?),
         "digest" => digest(alloc, bench, &words(alloc, rest)?),
         "arguments" | "unreadable" | "starved" => start(alloc, bench, what, rest),
         "order" => ask(alloc, &words(alloc, rest)?),

@@ -9,10 +9,11 @@ ghost use Rattle.qed_top.specs.Program.{words_after, Exits, ExitsUntold};
 
 use crate::status::Status;
 use crate::top::qed;
+use diagnose::{Heard, complain};
 use qed_io::{DirShelf, Shelf, Sink, StdSink};
 use std::alloc::{AllocError, Global};
 use std::env::Args;
-use std::io::ErrorKind;
+use std::io::{Eprint, ErrorKind};
 use std::process::ExitCode;
 use std::rt::{Env, Files};
 use std::{env, io};
@@ -78,15 +79,20 @@ pub fn exit_code<S: Shelf, K: Sink>(
     }
 }
 
-/// The whole program: over the machine's arguments, its files and its standard output.
+/// The whole program: over the machine's arguments, its files and its standard output. Behind it standard error tells why
+/// it did not do what it is for, which has no part in the rest.
 ///
 /// No contract can say what the machine's arguments are, nor what its files have: `exit_code` says what is done with
 /// them.
-pub fn run_program<R: Env + Files + Print + Alloc<A = Global>>(rt: &R) -> ExitCode
+pub fn run_program<R: Env + Files + Print + Eprint + Alloc<A = Global>>(rt: &R) -> ExitCode
     ensures { ExitsUntold result }
 {
     let alloc = rt.alloc();
     let mut shelf = DirShelf::new(alloc, rt);
-    let mut out = StdSink::new(rt);
-    exit_code(alloc, env::args(rt), &mut shelf, &mut out)
+    let mut out = Heard::over(alloc, StdSink::new(rt));
+    let code = exit_code(alloc, env::args(rt), &mut shelf, &mut out);
+    if let Ok(words) = words_of(alloc, env::args(rt)) {
+        complain(rt, &words, &code, shelf.last_error, &out);
+    }
+    code
 }

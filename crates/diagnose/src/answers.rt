@@ -1,0 +1,225 @@
+//! What is told of a call.
+ghost use Rattle.std.specs.Prelude.{◌≡◌};
+
+use crate::places::{abi_name, push_largest, push_place};
+use crate::run::of_run;
+use crate::sentences::rule_sentence;
+use crate::usage::usage;
+use command_line::{Name, Order};
+use elf_read::read_elf;
+use elf_types::ElfFile;
+use qed_io::{LoadError, Shelf};
+use qed_model::limits::MAX_RUN_FILE_BYTES;
+use qed_words::order;
+use std::alloc::{AllocError, Global};
+use std::io::Error;
+use std::slice;
+use texts::digits;
+
+/// The files that an order reads.
+fn sources(order: &Order) -> &[Name] {
+    match order {
+        Order::Transform(name, _, _)
+        | Order::Plan(name, _)
+        | Order::Run(name, _, _, _)
+        | Order::Campaign(name, _, _, _, _)
+        | Order::List(name)
+        | Order::Asm(name, _) => slice::from_ref(name),
+        Order::Harts(files, _, _) => files.as_slice(),
+        Order::Gen(_, _, _) | Order::Tell(_) => &[],
+    }
+}
+
+/// The file of a name, where it can be read.
+pub(crate) fn read<S: Shelf>(
+    alloc: Global,
+    name: &str,
+    shelf: &mut S,
+) -> Result<Option<ElfFile>, AllocError>
+    ensures { S.files shelf.new ≡ S.files shelf.old }
+{
+    match shelf.load(alloc, name, MAX_RUN_FILE_BYTES) {
+        Ok(bytes) => Ok(read_elf(alloc, bytes.as_slice()).ok()),
+        Err(LoadError::Memory) => Err(AllocError),
+        Err(_) => Ok(None),
+    }
+}
+
+/// The address behind a mark in a line.
+pub(crate) fn address_behind(line: &str, mark: &str) -> Option<u64> {
+    let (_, rest) = line.split_once(mark)?;
+    let (text, _) = rest.split_once(",").unwrap_or((rest, ""));
+    digits(16, 16, text.as_bytes())
+}
+
+/// Appends the name of the register that a line about a refusal has.
+fn push_register(alloc: Global, text: &mut String, line: &str) -> Result<(), AllocError> {
+    if let Some((_, number)) = line.split_once("register ") {
+        if let Some(name) = digits(10, 2, number.as_bytes()).and_then(abi_name) {
+            text.push_str(&format!(in alloc; ", and x{number} is {name}")?)?;
+        }
+    }
+    Ok(())
+}
+
+/// Appends the text of a line of a file, numbered from 1.
+fn push_line<S: Shelf>(
+    alloc: Global,
+    text: &mut String,
+    name: &str,
+    line: &str,
+    shelf: &mut S,
+) -> Result<(), AllocError>
+    ensures { S.files shelf.new ≡ S.files shelf.old }
+{
+    let number = match line.split_once("line ") {
+        Some((_, number)) => digits(10, 20, number.as_bytes()).unwrap_or(0),
+        None => 0,
+    };
+    if number == 0 {
+        return Ok(());
+    }
+    if let Ok(bytes) = shelf.load(alloc, name, MAX_RUN_FILE_BYTES) {
+        let all = str::from_utf8(bytes.as_slice()).unwrap_or("");
+        if let Some(found) = all.split('\n').nth((number - 1) as usize) {
+            text.push_str(found.trim())?;
+            text.push_str("\n")?;
+        }
+    }
+    Ok(())
+}
+
+/// Appends the place in a file of which a line tells, or, of a limit, what takes most of it.
+fn push_where<S: Shelf>(
+    alloc: Global,
+    text: &mut String,
+    name: &str,
+    line: &str,
+    shelf: &mut S,
+) -> Result<(), AllocError>
+    ensures { S.files shelf.new ≡ S.files shelf.old }
+{
+    let Some(file) = read(alloc, name, shelf)? else {
+        return Ok(());
+    };
+    if let Some(address) = address_behind(line, "address 0x") {
+        push_place(alloc, text, &file, address)?;
+        push_register(alloc, text, line)?;
+        return text.push_str("\n");
+    }
+    if line.starts_with('L') {
+        return push_largest(alloc, text, &file);
+    }
+    Ok(())
+}
+
+/// Where a file is refused, or a limit exceeded: why and what mends it, and the place.
+fn refused<S: Shelf>(
+    alloc: Global,
+    asked: &Order,
+    line: &str,
+    shelf: &mut S,
+) -> Result<String, AllocError>
+    ensures { S.files shelf.new ≡ S.files shelf.old }
+{
+    let sentence = rule_sentence(line);
+    let (_, found) = line.split_once(": ").unwrap_or(("", line));
+    let [name] = sources(asked) else {
+        return format!(in alloc; "qed: {sentence} ({found})\n");
+    };
+    let name = name.as_str();
+    let mut text = format!(in alloc; "qed: {name}: {sentence} ({found})\n")?;
+    push_where(alloc, &mut text, name, line, shelf)?;
+    push_line(alloc, &mut text, name, line, shelf)?;
+    Ok(text)
+}
+
+/// Ends a line with the machine's reason, where there is one.
+pub(crate) fn push_reason(
+    alloc: Global,
+    text: &mut String,
+    reason: Option<Error>,
+) -> Result<(), AllocError> {
+    if let Some(error) = reason {
+        text.push_str(&format!(in alloc; ": {error}")?)?;
+    }
+    text.push_str("\n")
+}
+
+/// Whether a file cannot be read.
+fn is_unread<S: Shelf>(alloc: Global, name: &str, shelf: &mut S) -> bool
+    ensures { S.files shelf.new ≡ S.files shelf.old }
+{
+    let loaded = shelf.load(alloc, name, 0);
+    matches!(&loaded, Err(LoadError::Failed))
+}
+
+/// The first of the files that cannot be read.
+fn first_unread<'a, S: Shelf>(alloc: Global, names: &'a [Name], shelf: &mut S) -> Option<&'a Name>
+    ensures { S.files shelf.new ≡ S.files shelf.old }
+{
+    let mut found = None;
+    for name in names {
+        let is_lost = is_unread(alloc, name.as_str(), shelf);
+        if is_lost && found.is_none() {
+            found = Some(name);
+        }
+    }
+    found
+}
+
+/// The file that could not be read, and the machine's reason.
+fn unread<S: Shelf>(
+    alloc: Global,
+    asked: &Order,
+    reason: Option<Error>,
+    shelf: &mut S,
+) -> Result<String, AllocError>
+    ensures { S.files shelf.new ≡ S.files shelf.old }
+{
+    let Some(name) = first_unread(alloc, sources(asked), shelf) else {
+        return Ok(String::new(alloc));
+    };
+    let name = name.as_str();
+    let mut text = format!(in alloc; "qed: {name} could not be read")?;
+    push_reason(alloc, &mut text, reason)?;
+    Ok(text)
+}
+
+/// That an output took the place of its input.
+fn replaced(alloc: Global, asked: &Order) -> Result<String, AllocError> {
+    match asked {
+        Order::Transform(input, output, _) if input.as_str() == output.as_str() => {
+            let name = output.as_str();
+            format!(in alloc; "qed: {name} is the output now, and the test is gone\n")
+        }
+        _ => Ok(String::new(alloc)),
+    }
+}
+
+/// What a person is told of a call that printed this text, by its first line: a sentence on what is wrong, and what may
+/// help. Empty where nothing is. The reason is the machine's, of a load that failed. No file is changed.
+pub fn advice<S: Shelf>(
+    alloc: Global,
+    words: &[String],
+    printed: &str,
+    reason: Option<Error>,
+    shelf: &mut S,
+) -> Result<String, AllocError>
+    ensures { S.files shelf.new ≡ S.files shelf.old }
+{
+    let line = printed.lines().next().unwrap_or("");
+    let (kind, rest) = line.split_once(" ").unwrap_or((line, ""));
+    if kind == "usage:" {
+        return usage(alloc, words, rest);
+    }
+    let Ok(asked) = order(alloc, words) else {
+        return Ok(String::new(alloc));
+    };
+    match kind {
+        "refused" | "limit" => refused(alloc, &asked, rest, shelf),
+        "read" => unread(alloc, &asked, reason, shelf),
+        "code" => replaced(alloc, &asked),
+        _ => of_run(alloc, &asked, line, shelf),
+    }
+}

@@ -1,0 +1,59 @@
+//! A sink that keeps the first bytes that it hands on.
+ghost use Rattle.std.specs.Prelude.{◌≡◌};
+
+use qed_io::{Sink, WriteError};
+use std::alloc::Global;
+
+/// How many bytes are kept: more than the first line of an answer has, but for lines of `plan` and `list`.
+const MOST_KEPT: usize = 256;
+
+/// A sink that hands its bytes on to another, and keeps the first of them.
+#[derive(Drop)]
+pub struct Heard<K: Sink + Drop> {
+    pub sink: K,
+    kept: Vec<u8>,
+}
+
+// Keeps those of the bytes for which there is room.
+fn keep(kept: &mut Vec<u8>, bytes: &[u8]) {
+    for byte in bytes {
+        if kept.len() >= MOST_KEPT || kept.push(*byte).is_err() {
+            break;
+        }
+    }
+}
+
+impl<K: Sink + Drop> Heard<K> {
+    /// Over a sink of which nothing is kept yet.
+    pub fn over(alloc: Global, sink: K) -> Self
+        ensures { result.sink ≡ sink }
+    {
+        Heard {
+            sink,
+            kept: Vec::new(alloc),
+        }
+    }
+
+    /// The first bytes as a text, empty where they are none, or where there was no memory.
+    pub(crate) fn text(&self) -> &str {
+        str::from_utf8(&self.kept).unwrap_or("")
+    }
+}
+
+impl<K: Sink + Drop> Sink for Heard<K> {
+    ghost written = { λ s. K.written s.sink };
+
+    ghost faults = { λ s. K.faults s.sink };
+
+    ghost calls = { λ s. K.calls s.sink };
+
+    fn write(&mut self, piece: &[u8]) -> Result<usize, WriteError> {
+        let answer = self.sink.write(piece);
+        if let Ok(taken) = &answer {
+            if let Some(front) = piece.get(..*taken) {
+                keep(&mut self.kept, front);
+            }
+        }
+        answer
+    }
+}

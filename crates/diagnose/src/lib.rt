@@ -1,0 +1,16 @@
+//! What a person is told on standard error where a call did not do what it is for. No other program reads it, and no
+//! contract speaks of it: rows hold its texts.
+#![tactic(auto)]
+
+mod answers;
+mod heard;
+mod machine;
+mod names;
+mod places;
+mod run;
+mod sentences;
+mod usage;
+
+pub use answers::advice;
+pub use heard::Heard;
+pub use machine::complain;

@@ -1,0 +1,90 @@
+//! What is told of a run.
+ghost use Rattle.std.specs.Prelude.{◌≡◌};
+
+use crate::answers::{address_behind, read};
+use crate::places::{is_word_mapped, push_place};
+use crate::sentences::sentence_of;
+use command_line::Order;
+use elf_types::ElfFile;
+use qed_io::Shelf;
+use qed_model::{Change, Place};
+use std::alloc::{AllocError, Global};
+use texts::digits;
+
+/// How many steps the line about a run tells.
+fn steps_of(line: &str) -> Option<u64> {
+    let (_, rest) = line.split_once(" after ")?;
+    let (steps, _) = rest.split_once(" ")?;
+    digits(10, 20, steps.as_bytes())
+}
+
+/// Appends a warning where a change was not made, or where not all of its word is mapped.
+fn push_warning(
+    alloc: Global,
+    text: &mut String,
+    file: &ElfFile,
+    made: u64,
+    change: Change,
+) -> Result<(), AllocError> {
+    let step = change.step;
+    if step >= made {
+        text.push_str(&format!(in alloc; "qed: the fault after step {step} was not made\n")?)?;
+        return Ok(());
+    }
+    if let Place::Word(address) = change.place {
+        if !is_word_mapped(file, address) {
+            text.push_str(&format!(in alloc;
+                "qed: the fault at 0x{address:x} was not made whole: nothing is mapped there\n"
+            )?)?;
+        }
+    }
+    Ok(())
+}
+
+/// What mends how a run ended, by the first two words of its line, and where it stands.
+fn ending(alloc: Global, file: &ElfFile, line: &str) -> Result<String, AllocError> {
+    let mut text = String::new(alloc);
+    let (kind, rest) = line.split_once(" ").unwrap_or((line, ""));
+    let (cause, _) = rest.split_once(" ").unwrap_or((rest, ""));
+    let Some(sentence) = sentence_of(kind).or(sentence_of(cause)) else {
+        return Ok(text);
+    };
+    text.push_str(&format!(in alloc; "qed: {sentence}\n")?)?;
+    if let Some(address) = address_behind(line, " at 0x") {
+        push_place(alloc, &mut text, file, address)?;
+        text.push_str("\n")?;
+    }
+    Ok(text)
+}
+
+/// Where a run trapped or did not end: why and what mends it, and the place. Then the faults that were not made.
+pub(crate) fn of_run<S: Shelf>(
+    alloc: Global,
+    asked: &Order,
+    line: &str,
+    shelf: &mut S,
+) -> Result<String, AllocError>
+    ensures { S.files shelf.new ≡ S.files shelf.old }
+{
+    let (Order::Run(name, _, changes, _), Some(steps)) = (asked, steps_of(line)) else {
+        return Ok(String::new(alloc));
+    };
+    let is_over = line.starts_with("ended") || line.starts_with("fired");
+    if is_over && changes.as_slice().is_empty() {
+        return Ok(String::new(alloc));
+    }
+    let Some(file) = read(alloc, name.as_str(), shelf)? else {
+        return Ok(String::new(alloc));
+    };
+    let mut text = ending(alloc, &file, line)?;
+    // A run that goes on has made the changes behind its last step too.
+    let made = if line.starts_with("going") {
+        steps.saturating_add(1)
+    } else {
+        steps
+    };
+    for change in changes.as_slice() {
+        push_warning(alloc, &mut text, &file, made, *change)?;
+    }
+    Ok(text)
+}

@@ -1,0 +1,187 @@
+"""What a person is told of a call (docs/FORMATS.md, "Standard error")."""
+
+from __future__ import annotations
+
+import re
+from typing import List, Optional, Tuple
+
+import isa
+from calls import MOST_FILE, Shelf, answer, told
+from elf import File, read_elf
+from machine import Memory, loads_of
+from texts import Stopped
+from words import COMMANDS, OTHER_NAMES, Order, change_of, order_of
+
+ABOVE_X13 = "a4 a5 a6 a7 s2 s3 s4 s5 s6 s7 s8 s9 s10 s11 t3 t4 t5 t6".split()
+SENTENCES = dict(line.split(" = ", 1) for line in told("sentences").splitlines())
+
+
+def _edits(first: str, second: str) -> int:
+    """How many letters have to be changed, put in or left out."""
+    row = list(range(len(second) + 1))
+    for number, letter in enumerate(first, 1):
+        above, row = row, [number]
+        for place, other in enumerate(second):
+            row.append(min(above[place] + (letter != other), above[place + 1] + 1, row[place] + 1))
+    return row[-1]
+
+
+def _near(word: str, names: List[str]) -> Optional[str]:
+    """The first of the nearest names, where one is near."""
+    close = [name for name in names if 2 * _edits(word, name) < len(name)]
+    return min(close, key=lambda name: _edits(word, name), default=None)
+
+
+def _lines(command: str) -> List[str]:
+    """The lines about the options of a command."""
+    pages = [command] + (["transform"] if command in ("plan", "campaign") else [])
+    return [line for page in pages for line in told(page).splitlines() if line.startswith("--")]
+
+
+def _name(line: str) -> str:
+    """The option that a line is about."""
+    return line[2:].split(" ")[0]
+
+
+def _value(words: List[str], name: str) -> Optional[Tuple[int, str]]:
+    """The number of the word with the value of an option that is at fault, and the value."""
+    for place, word in enumerate(words):
+        found = None
+        if word == f"--{name}" and place + 1 < len(words):
+            found = place + 1, words[place + 1]
+        elif word.startswith(f"--{name}="):
+            found = place, word.split("=", 1)[1]
+        if found and (name != "fault" or found[1].startswith("-") or not change_of(found[1])):
+            return found
+    return None
+
+
+def _usage(words: List[str], reason: str) -> str:
+    """Where the words ask for nothing."""
+    head, _, tail = reason.rpartition(" ")
+    if head not in SENTENCES:
+        head, tail = reason, ""
+    called = OTHER_NAMES.get(words[0], words[0]) if words else ""
+    command = called if called in COMMANDS else None
+    if head == "unknown command":
+        place = 1 if command == "help" and len(words) > 1 else 0
+        fault = place, words[place]
+    elif tail.isdigit():
+        fault = int(tail), words[int(tail)]
+    else:
+        fault = _value(words, tail) if tail else None
+    text = SENTENCES[head]
+    if fault:
+        text = f"'{fault[1]}', word {fault[0]}: {text}"
+    elif head == "missing option":
+        text = f"--{tail}: {text}"
+    near = None
+    if head == "unknown command":
+        near = _near(fault[1], [line[4:].split(" ")[0] for line in told("help").splitlines() if line.startswith("qed ")])
+    elif head == "unknown option at" and command:
+        name = _near(fault[1].split("=")[0].lstrip("-"), [_name(line) for line in _lines(command)])
+        near = f"--{name}" if name else None
+    text = f"qed: {text}: did you mean {near}?\n" if near else f"qed: {text}\n"
+    if command in (None, "help", "version"):
+        return text + "qed help tells all commands\n"
+    text += "".join(line + "\n" for line in _lines(command) if _name(line) == tail)
+    page = told(command)
+    return text + (page if fault and fault[1] in ("--help", "-h") else page.split("\n")[0] + "\n")
+
+
+def _place(file: File, address: int) -> str:
+    """The line about an address."""
+    text = f"at 0x{address:x}"
+    names = [symbol for symbol in file.symbols
+             if symbol.shndx != 0 and symbol.type in (0, 2) and symbol.value <= address and symbol.name]
+    if names:
+        symbol = max(names, key=lambda symbol: symbol.value)
+        text += f", {symbol.name.decode()}+0x{address - symbol.value:x}"
+    word = Memory(loads_of(file)).load(address, 4)
+    return text if word is None else f"{text}: {isa.text_of(word)}"
+
+
+def _named(order: Order) -> List[str]:
+    """The files that an order reads."""
+    return [] if order.command in ("gen", "help", "version") else order.files if order.command == "harts" else order.files[:1]
+
+
+def _read(shelf: Shelf, name: str) -> Optional[File]:
+    """A file, where it can be read."""
+    try:
+        data = shelf.load(name, MOST_FILE + 1)
+        return read_elf(data) if len(data) <= MOST_FILE else None
+    except (OSError, Stopped):
+        return None
+
+
+def _largest(file: File) -> str:
+    """The line about the largest section."""
+    section = max(file.sections, key=lambda section: section.size, default=None)
+    if section is None or section.size == 0:
+        return ""
+    return f"the largest section is {section.name.decode()} with {section.size} bytes\n"
+
+
+def _refused(order: Order, line: str, shelf: Shelf) -> str:
+    """Where a file is refused, or a limit exceeded."""
+    sentence = SENTENCES.get(line, SENTENCES.get(line.split(":")[0], ""))
+    found = line.split(": ", 1)[1]
+    if len(_named(order)) != 1:
+        return f"qed: {sentence} ({found})\n"
+    name = order.files[0]
+    text = f"qed: {name}: {sentence} ({found})\n"
+    address = re.search("address 0x([0-9a-f]{16})", line)
+    file = _read(shelf, name)
+    if file and address:
+        text += _place(file, int(address[1], 16))
+        register = re.search("register ([0-9]+)$", line)
+        text += f", and x{register[1]} is {ABOVE_X13[int(register[1]) - 14]}\n" if register else "\n"
+    elif file and line.startswith("L"):
+        text += _largest(file)
+    number = re.search("line ([0-9]+)$", line)
+    if number:
+        text += shelf.load(name, MOST_FILE).decode().split("\n")[int(number[1]) - 1].strip() + "\n"
+    return text
+
+
+def _unread(order: Order, shelf: Shelf) -> str:
+    """The first file that cannot be read."""
+    for name in _named(order):
+        try:
+            shelf.load(name, 1)
+        except OSError:
+            return f"qed: {name} could not be read\n"
+    return ""
+
+
+def _run(order: Order, line: str, shelf: Shelf) -> str:
+    """How a run ended, and the faults that were not made."""
+    file = read_elf(shelf.load(order.files[0], MOST_FILE))
+    kind, cause = line.split(" ")[:2]
+    sentence = SENTENCES.get(kind, SENTENCES.get(cause))
+    text = f"qed: {sentence}\n{_place(file, int(line[-16:], 16))}\n" if sentence else ""
+    made = int(re.search(" after ([0-9]+) ", line)[1]) + (kind == "going")
+    memory = Memory(loads_of(file))
+    for change in sorted(order.values.get("fault", []), key=lambda change: change.step):
+        if change.step >= made:
+            text += f"qed: the fault after step {change.step} was not made\n"
+        elif isinstance(change.place, int) and any(memory.load(change.place + i, 1) is None for i in range(8)):
+            text += f"qed: the fault at 0x{change.place:x} was not made whole: nothing is mapped there\n"
+    return text
+
+
+def advice(words: List[str], shelf: Shelf) -> str:
+    """What a person is told of a call, but for the machine's reasons."""
+    status, printed = answer(words, shelf)
+    line = printed.split("\n")[0]
+    if status == 2:
+        return _usage(words, line[len("usage: "):])
+    order = order_of(words)
+    if status in (3, 4):
+        return _refused(order, line.split(" ", 1)[1], shelf)
+    if status == 5:
+        return _unread(order, shelf)
+    if order.command == "transform" and order.files[0] == order.files[1]:
+        return f"qed: {order.files[0]} is the output now, and the test is gone\n"
+    return _run(order, line, shelf) if order.command == "run" else ""
