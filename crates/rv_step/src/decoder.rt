@@ -1,5 +1,5 @@
 //! Instructions that were decoded, kept by their words.
-ghost use Rattle.std.specs.Prelude.{◌≡◌, ◌<◌, ◌==◌, length, IfOk, Some};
+ghost use Rattle.std.specs.Prelude.{◌≡◌, ◌<◌, ◌==◌, length, IfOk, IfSome, Some};
 ghost use Rattle.qed_model.specs.Machine.Step.{State};
 ghost use Rattle.qed_model.specs.Machine.Table.{decode_of};
 ghost use Rattle.rv_step.specs.Windows.{IsTable};
@@ -160,6 +160,18 @@ impl Decoder {
     {
         let table = Table::new(*self.kept.all.allocator())?;
         Ok(table)
+    }
+
+    /// The instruction of a word that stands at an address, where it is kept.
+    #[inline(always)]
+    pub fn known(&self, address: u64, word: u32) -> Option<Ins>
+        ensures { IfSome result (λ ins. decode_of word ≡ Some ins) }
+    {
+        let known = &self.kept.all[((address >> 2) % KEPT) as usize];
+        if !known.is_of(word) {
+            return None;
+        }
+        Some(known.ins())
     }
 
     /// The instruction of a word that stands at an address.

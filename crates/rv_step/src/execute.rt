@@ -67,11 +67,28 @@ impl Hart {
             self.trap(Cause::Fetch);
             return Ok(false);
         };
+        let Some(ins) = self.decoder.known(self.pc, word) else {
+            let on = self.advance_new(word, image)?;
+            return Ok(on);
+        };
+        let on = self.execute::<LOOP>(&ins, image)?;
+        Ok(on)
+    }
+
+    /// The same, with a word that is decoded anew.
+    #[inline(never)]
+    fn advance_new(&mut self, word: u32, image: &mut Image) -> Result<bool, AllocError>
+        requires { word_at (with_memory self.old image.old).state self.old.pc ≡ Some word }
+        ensures advanced { IfOk result (λ _. LeadsIn (λ s. act (next s) s) self.old image.old self.new image.new) }
+        ensures on { IfOk result (λ on. on ≡ true → self.new.outcome ≡ self.old.outcome) }
+        ensures kept { IfErr result (λ _. self.new ≡ self.old) }
+        ensures memory { IfErr result (λ _. image.new ≡ image.old) }
+    {
         let Some(ins) = self.decoder.decode(self.pc, word) else {
             self.trap(Cause::Word(word));
             return Ok(false);
         };
-        let on = self.execute::<LOOP>(&ins, image)?;
+        let on = self.execute::<3>(&ins, image)?;
         Ok(on)
     }
 }

@@ -1,11 +1,8 @@
 use Rattle.std.proofs.Common.{◌≡◌, Some, None, sym, ap, ◌∙◌}
-use Rattle.qed_model.specs.Machine.Table.{decode_of}
-use Rattle.qed_model.specs.Machine.Step.{act, known_or, trapped, execute}
-use Rattle.qed_model.specs.declared.machine.Cause.TheVariants.{Word}
+use Rattle.qed_model.specs.Machine.Step.{act, known_or}
 use Rattle.qed_model.specs.Machine.Progress.{Progress}
-use Rattle.rv_isa.specs.Kind.{class_of}
 use Rattle.rv_step.specs.Known.{word_at, at_state}
-use Rattle.rv_step.specs.Harts.{HartState, with_memory}
+use Rattle.rv_step.specs.Harts.{with_memory}
 use Rattle.rv_step.proofs.Fetching.{fetched_none, fetched_some}
 use Rattle.rv_step.proofs.hart.Hart.advance.Goals as goal
 
@@ -16,21 +13,11 @@ returns-in_default-clause-advanced g c =
     let none : word_at m.state m.state.pc ≡ None = sym c.requires ∙ c.in_default.is in
     c.trap.ensures n ∙ sym (ap (λ f. at_state (act f m.state) m) (fetched_none m.state m.state.pc none))
 
-pub returns-in_default-decode-clause-advanced : goal.returns-in_default-decode-clause-advanced
-returns-in_default-decode-clause-advanced g c =
-    let n = c.args.image.now in
-    let m : Progress = with_memory c.args.self.now n in
-    let w = c.in-Some.word in
-    let some : word_at m.state m.state.pc ≡ Some w = sym c.requires ∙ c.in-Some.is in
-    let none : decode_of w ≡ None = sym c.decode.ensures ∙ c.in_default-decode.is in
-    c.trap-in_default-decode.ensures n ∙ ap (λ (h : HartState). at_state (trapped (Word w) (with_memory h n).state) (with_memory h n)) c.self.view_is ∙ sym (ap (λ f. at_state (act f m.state) m) (fetched_some m.state m.state.pc w some ∙ ap (known_or w) none))
-
 pub returns-clause-advanced : goal.returns-clause-advanced
 returns-clause-advanced g c =
     let n = c.args.image.now in
     let m : Progress = with_memory c.args.self.now n in
     let w = c.in-Some.word in
-    let i = c.in-Some-decode.ins in
+    let i = c.in-Some-known.ins in
     let some : word_at m.state m.state.pc ≡ Some w = sym c.requires ∙ c.in-Some.is in
-    let known : decode_of w ≡ Some i = sym c.decode.ensures ∙ c.in-Some-decode.is in
-    c.in_ok-on.ensures.done ∙ ap (λ (h : HartState). at_state (execute (class_of i.kind) i (with_memory h n).state) (with_memory h n)) c.self.view_is ∙ sym (ap (λ f. at_state (act f m.state) m) (fetched_some m.state m.state.pc w some ∙ ap (known_or w) known))
+    c.in_ok-on-2.ensures.done ∙ sym (ap (λ f. at_state (act f m.state) m) (fetched_some m.state m.state.pc w some ∙ ap (known_or w) c.in-Some-known.ensures))
