@@ -10,6 +10,9 @@ use std::marker::Model;
 /// How many instructions are kept: as many as 32 KiB of code have.
 const KEPT: usize = 8192;
 
+/// How many others an instruction outlives.
+const LIVES: u64 = 8;
+
 /// An instruction, and the address at which it stands. At an odd address there is none.
 ///
 /// It has 32 bytes, so that its place is an address by a mask and one multiplication.
@@ -17,17 +20,31 @@ const KEPT: usize = 8192;
 pub struct Entry {
     ins: Ins,
     address: u64,
-    _room: u64,
+    /// How many instructions with the same place it outlives, so that those of a loop that is longer than the table do not drop one
+    /// another in turn.
+    lives: u64,
 }
 
 impl Entry {
     fn new(address: u64, ins: &Ins) -> Entry
-        ensures { result ≡ record { ins = ins.now; address = address; _room = 0 } }
+        ensures { result ≡ record { ins = ins.now; address = address; lives = 8 } }
     {
         Entry {
             ins: *ins,
             address,
-            _room: 0,
+            lives: LIVES,
+        }
+    }
+
+    /// The same, which outlives one less.
+    fn older(&self) -> Entry
+        ensures address { result.address ≡ self.now.address }
+        ensures ins { result.ins ≡ self.now.ins }
+    {
+        Entry {
+            ins: self.ins,
+            address: self.address,
+            lives: self.lives.saturating_sub(1),
         }
     }
 }
@@ -62,7 +79,11 @@ impl Table {
     pub fn new(alloc: Global) -> Result<Table, AllocError>
         ensures { IfOk result (λ table. (s : State) → IsTable s table) }
     {
-        let none = Entry::new(1, &Ins::nop());
+        let none = Entry {
+            ins: Ins::nop(),
+            address: 1,
+            lives: 0,
+        };
         let all = vec![in alloc; none; KEPT]?;
         Ok(Table { all })
     }
@@ -80,10 +101,16 @@ impl Table {
         Some(&entry.ins)
     }
 
-    /// Keeps the instruction at an address, in the place of another.
+    /// Keeps the instruction at an address, in the place of another, unless that is to stay.
     pub fn put(&mut self, address: u64, ins: &Ins)
         ensures { (s : State) → IsTable s self.old → IsHeld s address ins.now → IsTable s self.new }
     {
-        self.all[slot(address)] = Entry::new(address, ins);
+        let at = slot(address);
+        let old = self.all[at];
+        if old.lives > 0 {
+            self.all[at] = old.older();
+            return;
+        }
+        self.all[at] = Entry::new(address, ins);
     }
 }

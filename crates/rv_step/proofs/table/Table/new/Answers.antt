@@ -1,8 +1,9 @@
-use Rattle.std.proofs.Common.{ap}
+use Rattle.std.proofs.Common.{refl}
 use Rattle.rv_step.specs.declared.table.Entry.{Entry}
 use Rattle.rv_step.proofs.WindowLaws.{none_held}
 use Rattle.rv_step.proofs.table.Table.new.Goals as goal
 
 pub returns : goal.returns
 returns c = λ s.
-    none_held s 8192 c.new-none.result c.in_ok-all.all.items (ap (λ (e : Entry). e.address) c.new-none.ensures) (c.in_ok-all.ensures.items_if_clones_equal (λ y h. h))
+    let none : Entry = record { ins = c.nop.result; address = 1; lives = 0 } in
+    none_held s 8192 none c.in_ok-all.all.items refl (c.in_ok-all.ensures.items_if_clones_equal (λ y h. h))
