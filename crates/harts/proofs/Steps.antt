@@ -9,7 +9,7 @@ use Rattle.qed_model.specs.declared.change.Change.{Change}
 use Rattle.qed_model.specs.declared.change.Place.{Place}
 use Rattle.qed_model.specs.Machine.Struck.{struck}
 use Rattle.qed_model.specs.Machine.Step.{State, step}
-use Rattle.qed_model.specs.Machine.Progress.{Progress, steps_after, advanced, progress, begun}
+use Rattle.qed_model.specs.Machine.Progress.{steps_after, advanced, progress, begun}
 use Rattle.qed_model.specs.Promise.Changed.{with_changes, changed_run}
 use Rattle.qed_model.specs.Machine.Program.{Program, start, zeros}
 use Rattle.harts.specs.Harts.{state_of, Hart, World, hart_of, made_of, on_hart, begin, hart_turns, with_first, count, turned, world_after}

@@ -1,10 +1,10 @@
 -- A run that was watched: where it traps later.
-use Rattle.std.proofs.Common.{◌≡◌, ℕ, ◌+◌, ◌<◌, ◌≤◌, true, sym, ap, ◌∙◌, arith}
-use Rattle.std.specs.Prelude.{◌≢◌, Option, None}
+use Rattle.std.proofs.Common.{◌≡◌, ℕ, ◌+◌, ◌<◌, ◌≤◌, sym, ap, ◌∙◌}
+use Rattle.std.specs.Prelude.{◌≢◌, None}
 use Rattle.qed_model.specs.declared.machine.Outcome.{Outcome}
 use Rattle.qed_model.specs.declared.machine.Outcome.TheVariants.{Going}
 use Rattle.qed_model.specs.Machine.Progress.{Progress, progress}
-use Rattle.qed_model.specs.Machine.Step.{State, run}
+use Rattle.qed_model.specs.Machine.Step.{run}
 use Rattle.qed_model.proofs.Walk.{run-more}
 use Rattle.strikes.specs.Found.{trap_pc_of}
 use Rattle.strikes.specs.Kept.{IsWatched}

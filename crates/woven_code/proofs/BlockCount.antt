@@ -3,14 +3,12 @@
 use Rattle.std.proofs.Common.{◌≡◌, ◌⊎◌, inl, inr, ⊎_elim, ℕ, suc, ◌+◌, ◌-◌, ◌*◌, ◌/◌, ◌%◌, ◌<◌, ◌≤◌, true, List, [], ◌∷◌, length, ap, ◌∙◌, subst, arith}
 use Rattle.std.specs.Prelude.{All, AllPairs, ◌==◌}
 use Rattle.std.proofs.lemmas.Bool.{and_parts, eqb-true, cases_lt}
-use Rattle.std.proofs.lemmas.List.{length-append}
 use Rattle.std.proofs.lemmas.List.Elements.{All-head, All-tail}
 use Rattle.elf_types.specs.declared.file.ElfFile.{ElfFile}
 use Rattle.rv_isa.specs.declared.ins.Ins.{Ins}
 use Rattle.qed_model.specs.Admission.CodeWords.{is_code}
 use Rattle.qed_model.specs.Admission.Leaders.{IsLeader}
 use Rattle.qed_model.specs.Weave.Blocks.{IsBodyAt, IsLeaderBlock, IsShort, IsOtherBlock, AreBlocks}
-use Rattle.qed_model.specs.Weave.Pieces.{whole}
 use Rattle.qed_model.specs.Weave.Sequences.{Block, End, Falls, Stops, body_length}
 use Rattle.qed_model.proofs.Among.{Among}
 use Rattle.qed_model.proofs.Fetches.{IsShapely, instruction_code}

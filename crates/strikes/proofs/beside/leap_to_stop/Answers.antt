@@ -1,4 +1,4 @@
-use Rattle.std.proofs.Common.{◌≡◌, ◌+◌, ◌-◌, ◌*◌, ◌/◌, ap, ◌∙◌, arith}
+use Rattle.std.proofs.Common.{◌≡◌, ◌*◌, ◌/◌, ap, ◌∙◌, arith}
 use Rattle.qed_model.specs.Machine.Progress.{progress}
 use Rattle.strikes.proofs.Leaping.{leap_goes, leap_on}
 use Rattle.strikes.proofs.Stopping.{progress_state}

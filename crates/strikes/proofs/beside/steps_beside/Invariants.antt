@@ -1,4 +1,4 @@
-use Rattle.std.proofs.Common.{◌≡◌, ◌+◌, ◌*◌, ◌≤◌}
+use Rattle.std.proofs.Common.{◌+◌, ◌*◌, ◌≤◌}
 use Rattle.strikes.specs.Found.{IsOn}
 use Rattle.strikes.proofs.beside.steps_beside.Given as goal
 

@@ -1,4 +1,4 @@
-use Rattle.std.proofs.Common.{◌≡◌, ◌+◌, ap, ◌∙◌, sym}
+use Rattle.std.proofs.Common.{ap, ◌∙◌, sym}
 use Rattle.qed_model.specs.Machine.Step.{run}
 use Rattle.qed_model.proofs.Walk.{run-more}
 use Rattle.strikes.proofs.Looking.{looked_first, looked_next, next_later}

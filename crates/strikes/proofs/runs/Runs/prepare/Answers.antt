@@ -1,4 +1,4 @@
-use Rattle.std.proofs.Common.{ap, sym, ◌∙◌, subst}
+use Rattle.std.proofs.Common.{subst}
 use Rattle.strikes.specs.Kept.{IsReach}
 use Rattle.strikes.proofs.Copying.{reach_positive}
 use Rattle.strikes.proofs.runs.Runs.prepare.Goals as goal

@@ -1,4 +1,4 @@
-use Rattle.std.proofs.Common.{◌≡◌, ◌+◌, ◌≤◌, ap, ◌∙◌, sym, subst, arith}
+use Rattle.std.proofs.Common.{◌≡◌, ◌+◌, ap, ◌∙◌, sym, subst, arith}
 use Rattle.std.specs.Prelude.{None, Some, Ok, Err}
 use Rattle.qed_model.specs.declared.verdict.Verdict.TheVariants as verdict
 use Rattle.qed_model.specs.Machine.Step.{State, run}
@@ -6,7 +6,7 @@ use Rattle.qed_model.specs.Promise.Caught.{bound_of}
 use Rattle.qed_model.specs.Promise.Changed.{Ordered, last_step}
 use Rattle.strikes.specs.declared.error.StrikeError.TheVariants as error
 use Rattle.strikes.specs.Found.{trap_pc_of, IsSilentAt}
-use Rattle.strikes.specs.Later.{all_from, first_step}
+use Rattle.strikes.specs.Later.{all_from}
 use Rattle.strikes.specs.Verdict.{Shows}
 use Rattle.strikes.proofs.Shifting.{not_before_all, ordered_later, strike_shows, trap_later}
 use Rattle.strikes.proofs.Showing.{shows_same, shows_trapped, where_none}
