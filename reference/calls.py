@@ -257,8 +257,8 @@ def _harts(order: Order, shelf: Shelf) -> Answer:
 
 
 def told(topic: str) -> str:
-    """The text of a topic, as the page has it ("Help")."""
-    with open(os.path.join(os.path.dirname(__file__), "..", "docs", "FORMATS.md"), encoding="utf-8") as page:
+    """The text of a topic, as TEXTS.md has it."""
+    with open(os.path.join(os.path.dirname(__file__), "TEXTS.md"), encoding="utf-8") as page:
         return page.read().split(f"\n```{topic}\n")[1].split("```\n")[0]
 
 
