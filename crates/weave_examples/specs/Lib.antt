@@ -1,3 +1,4 @@
 pub mod Laws
 pub mod Promise
 pub mod Joined
+pub mod FarTest

@@ -1,9 +1,10 @@
 //! Examples of weaves, which no program weaves. `CompareOne` is a pass of one's own: it compares x10 with its pair in the middle of a
 //! piece, behind the parts of its instructions and before the comparison of all registers. With its three laws the new code keeps the
-//! values and catches changes. `joined_pieces` is a leaner weave. No induction is made again for either.
+//! values and catches changes. `joined_pieces` is a leaner weave. No induction is made again for either. `far_test_promised` is a test.
 #![tactic(auto)]
 
 ghost use Rattle.weave_examples.specs.Promise.{OneKept, OneCaught};
+ghost use Rattle.weave_examples.specs.FarTest.{FarPromised};
 ghost use Rattle.weave_examples.specs.Joined.{cut_runs, CutsRuns, JoinedKept, JoinedLanded, JoinedCaught, JoinedClean};
 
 use passes::{Emit, Pass, put_guard, register};
@@ -66,4 +67,10 @@ pub fn joined_pieces()
     ensures landed { JoinedLanded cut_runs }
     ensures caught { JoinedCaught cut_runs }
     ensures clean { JoinedClean cut_runs }
+{}
+
+/// A known test with a JALR and its table, and two data ranges, of which one is read only, woven in the far form, with the sweep and with
+/// mirror parts of other kinds: all premises of the promises are met, with the numbers of the plan.
+pub fn far_test_promised()
+    ensures { FarPromised }
 {}

@@ -1,0 +1,166 @@
+-- A known test with a JALR and its table, and two data ranges, of which one is read only. It is woven in the far form, with the sweep
+-- and with mirror parts of other kinds. All promises hold of it, with the numbers that `reference/qed plan` gives.
+use Rattle.std.specs.Prelude.{◌≡◌, ℕ, ◌++◌, true, List, [], ◌∷◌, None, Some, pos}
+use Rattle.elf_types.specs.declared.file.ElfFile.{ElfFile}
+use Rattle.rv_isa.specs.declared.ins.Ins.{Ins}
+use Rattle.rv_isa.specs.declared.kind.Kind.TheVariants.{Lui, Jal, Ld, Sd, Mul, Sub, Ecall, Add, Jalr}
+use Rattle.qed_model.specs.declared.options.Options.{Options}
+use Rattle.qed_model.specs.declared.plan.Plan.{Plan}
+use Rattle.qed_model.specs.Elf.FileRead.{file_read}
+use Rattle.qed_model.specs.Machine.Loading.{loaded_file}
+use Rattle.qed_model.specs.Machine.Program.{Program}
+use Rattle.qed_model.specs.Machine.Table.{ins}
+use Rattle.qed_model.specs.Promise.Caught.{Caught}
+use Rattle.qed_model.specs.Promise.Clean.{Clean}
+use Rattle.qed_model.specs.Promise.Kept.{Kept}
+use Rattle.qed_model.specs.Promise.Landed.{Landed}
+use Rattle.qed_model.specs.Weave.OutputFile.{has_table, piece_rows}
+use Rattle.qed_model.specs.Weave.Sequences.{Block, Stops}
+use Rattle.qed_model.specs.Weave.Woven.{is_far_code, new_entries, woven_file, IsToldOf}
+use Rattle.weave_core.specs.Tests.{IsWovenTest}
+
+-- ---- its bytes
+-- the header
+abbrev header : List ℕ
+header =
+    0x7f ∷ 0x45 ∷ 0x4c ∷ 0x46 ∷ 2 ∷ 1 ∷ 1 ∷ 0 ∷ 0 ∷ 0 ∷ 0 ∷ 0 ∷ 0 ∷ 0 ∷ 0 ∷ 0 ∷
+    2 ∷ 0 ∷ 0xf3 ∷ 0 ∷ 1 ∷ 0 ∷ 0 ∷ 0 ∷ 0 ∷ 0 ∷ 1 ∷ 0 ∷ 0 ∷ 0 ∷ 0 ∷ 0 ∷
+    0x40 ∷ 0 ∷ 0 ∷ 0 ∷ 0 ∷ 0 ∷ 0 ∷ 0 ∷ 0 ∷ 0 ∷ 0 ∷ 0 ∷ 0 ∷ 0 ∷ 0 ∷ 0 ∷
+    0 ∷ 0 ∷ 0 ∷ 0 ∷ 0x40 ∷ 0 ∷ 0x38 ∷ 0 ∷ 3 ∷ 0 ∷ 0 ∷ 0 ∷ 0 ∷ 0 ∷ 0 ∷ 0 ∷ []
+
+-- three program headers
+abbrev program_headers : List ℕ
+program_headers =
+    1 ∷ 0 ∷ 0 ∷ 0 ∷ 5 ∷ 0 ∷ 0 ∷ 0 ∷ 0xe8 ∷ 0 ∷ 0 ∷ 0 ∷ 0 ∷ 0 ∷ 0 ∷ 0 ∷
+    0 ∷ 0 ∷ 1 ∷ 0 ∷ 0 ∷ 0 ∷ 0 ∷ 0 ∷ 0 ∷ 0 ∷ 1 ∷ 0 ∷ 0 ∷ 0 ∷ 0 ∷ 0 ∷
+    0x48 ∷ 0 ∷ 0 ∷ 0 ∷ 0 ∷ 0 ∷ 0 ∷ 0 ∷ 0x48 ∷ 0 ∷ 0 ∷ 0 ∷ 0 ∷ 0 ∷ 0 ∷ 0 ∷
+    0 ∷ 0x10 ∷ 0 ∷ 0 ∷ 0 ∷ 0 ∷ 0 ∷ 0 ∷ 1 ∷ 0 ∷ 0 ∷ 0 ∷ 4 ∷ 0 ∷ 0 ∷ 0 ∷
+    0x30 ∷ 1 ∷ 0 ∷ 0 ∷ 0 ∷ 0 ∷ 0 ∷ 0 ∷ 0 ∷ 0 ∷ 2 ∷ 0 ∷ 0 ∷ 0 ∷ 0 ∷ 0 ∷
+    0 ∷ 0 ∷ 2 ∷ 0 ∷ 0 ∷ 0 ∷ 0 ∷ 0 ∷ 8 ∷ 0 ∷ 0 ∷ 0 ∷ 0 ∷ 0 ∷ 0 ∷ 0 ∷
+    8 ∷ 0 ∷ 0 ∷ 0 ∷ 0 ∷ 0 ∷ 0 ∷ 0 ∷ 0 ∷ 0x10 ∷ 0 ∷ 0 ∷ 0 ∷ 0 ∷ 0 ∷ 0 ∷
+    1 ∷ 0 ∷ 0 ∷ 0 ∷ 6 ∷ 0 ∷ 0 ∷ 0 ∷ 0x38 ∷ 1 ∷ 0 ∷ 0 ∷ 0 ∷ 0 ∷ 0 ∷ 0 ∷
+    0 ∷ 0x10 ∷ 2 ∷ 0 ∷ 0 ∷ 0 ∷ 0 ∷ 0 ∷ 0 ∷ 0x10 ∷ 2 ∷ 0 ∷ 0 ∷ 0 ∷ 0 ∷ 0 ∷
+    8 ∷ 0 ∷ 0 ∷ 0 ∷ 0 ∷ 0 ∷ 0 ∷ 0 ∷ 8 ∷ 0 ∷ 0 ∷ 0 ∷ 0 ∷ 0 ∷ 0 ∷ 0 ∷
+    0 ∷ 0x10 ∷ 0 ∷ 0 ∷ 0 ∷ 0 ∷ 0 ∷ 0 ∷ []
+
+-- the code, at 232
+abbrev code_bytes : List ℕ
+code_bytes =
+    0x37 ∷ 4 ∷ 2 ∷ 0 ∷ 0x6f ∷ 0 ∷ 0x40 ∷ 0 ∷ 0x83 ∷ 0x32 ∷ 4 ∷ 0 ∷ 0x6f ∷ 0 ∷ 0x40 ∷ 0 ∷
+    0xb7 ∷ 0x14 ∷ 2 ∷ 0 ∷ 0x6f ∷ 0 ∷ 0x40 ∷ 0 ∷ 0x23 ∷ 0xb0 ∷ 0x54 ∷ 0 ∷ 0x6f ∷ 0 ∷ 0x40 ∷ 0 ∷
+    3 ∷ 0xb3 ∷ 4 ∷ 0 ∷ 0x6f ∷ 0 ∷ 0x40 ∷ 0 ∷ 0xb3 ∷ 3 ∷ 0x53 ∷ 2 ∷ 0x6f ∷ 0 ∷ 0x40 ∷ 0 ∷
+    0x33 ∷ 0x85 ∷ 0x63 ∷ 0x40 ∷ 0x6f ∷ 0 ∷ 0x40 ∷ 0 ∷ 0xef ∷ 0 ∷ 0x80 ∷ 0 ∷ 0x73 ∷ 0 ∷ 0 ∷ 0 ∷
+    0xb3 ∷ 5 ∷ 0x75 ∷ 0 ∷ 0x67 ∷ 0x80 ∷ 0 ∷ 0 ∷ []
+
+-- a word that is read only, and one that is written
+abbrev constant : List ℕ
+constant = 7 ∷ 0 ∷ 0 ∷ 0 ∷ 0 ∷ 0 ∷ 0 ∷ 0 ∷ []
+
+abbrev variable : List ℕ
+variable = 0 ∷ 0 ∷ 0 ∷ 0 ∷ 0 ∷ 0 ∷ 0 ∷ 0 ∷ []
+
+unfoldable pub far_bytes : List ℕ
+far_bytes = header ++ (program_headers ++ (code_bytes ++ (constant ++ variable)))
+
+-- the file that they are
+abbrev pub far_test : ElfFile
+far_test = record {
+  entry = 0x10000;
+  flags = 0;
+  segments =
+      record { kind = 1; flags = 5; address = 0x10000; memory = 72; bytes = code_bytes } ∷ record { kind = 1; flags = 4; address = 0x20000; memory = 8; bytes = constant }
+      ∷ record { kind = 1; flags = 6; address = 0x21000; memory = 8; bytes = variable } ∷ [];
+  sections = [];
+  symbols = [];
+  relas = [];
+}
+
+-- a round of 1,024 visits, the sweep, and mirror parts of other kinds
+abbrev pub far_options : Options
+far_options = record { inst_min = 4; inst_max = 16; round = 1024; half = None; sweep = true; diverse = true }
+
+-- ---- its instructions and blocks
+-- a jump to the next address, so that an entry stands there
+abbrev pub next : Ins
+next = ins Jal 0 0 0 (pos 4)
+
+abbrev pub lui_8 : Ins
+lui_8 = ins Lui 8 0 0 (pos 0x20000)
+
+abbrev pub ld_5 : Ins
+ld_5 = ins Ld 5 8 0 (pos 0)
+
+abbrev pub lui_9 : Ins
+lui_9 = ins Lui 9 0 0 (pos 0x21000)
+
+abbrev pub sd_5 : Ins
+sd_5 = ins Sd 0 9 5 (pos 0)
+
+abbrev pub ld_6 : Ins
+ld_6 = ins Ld 6 9 0 (pos 0)
+
+abbrev pub mul : Ins
+mul = ins Mul 7 6 5 (pos 0)
+
+abbrev pub sub : Ins
+sub = ins Sub 10 7 6 (pos 0)
+
+abbrev pub call : Ins
+call = ins Jal 1 0 0 (pos 8)
+
+abbrev pub ecall : Ins
+ecall = ins Ecall 0 0 0 (pos 0)
+
+abbrev pub add : Ins
+add = ins Add 11 10 7 (pos 0)
+
+abbrev pub jalr : Ins
+jalr = ins Jalr 0 1 0 (pos 0)
+
+abbrev pub far_code : List Ins
+far_code =
+    lui_8 ∷ next ∷ ld_5 ∷ next ∷ lui_9 ∷ next ∷ sd_5 ∷ next ∷ ld_6 ∷ next ∷ mul ∷ next ∷ sub ∷ next ∷ call ∷ ecall ∷ add ∷ jalr ∷ []
+
+-- a block of one instruction and the jump behind it, and one of an end alone
+abbrev one : ℕ → Ins → Ins → Block
+one a i e = record { start = a; body = (i ∷ []) ∷ []; end = Stops e }
+
+abbrev bare : ℕ → Ins → Block
+bare a e = record { start = a; body = [] ∷ []; end = Stops e }
+
+abbrev pub far_blocks : List Block
+far_blocks =
+    one 0x10000 lui_8 next ∷ bare 0x10004 next ∷ one 0x10008 ld_5 next ∷ bare 0x1000c next ∷ one 0x10010 lui_9 next ∷ bare 0x10014 next
+    ∷ one 0x10018 sd_5 next ∷ bare 0x1001c next ∷ one 0x10020 ld_6 next ∷ bare 0x10024 next ∷ one 0x10028 mul next ∷ bare 0x1002c next
+    ∷ one 0x10030 sub next ∷ bare 0x10034 next ∷ bare 0x10038 call ∷ bare 0x1003c ecall ∷ one 0x10040 add jalr ∷ bare 0x10044 jalr ∷ []
+
+-- ---- what is told of its output
+abbrev pub far_plan : Plan
+far_plan = record {
+  base = 0x10000;
+  distance = 0x12000;
+  words = 2;
+  code_bytes = 1182628;
+  entries = new_entries far_test far_options far_blocks;
+  pieces = piece_rows far_blocks;
+  span = record { start = 0x20000; end = 0x20008 } ∷ record { start = 0x21000; end = 0x21008 } ∷ [];
+  bounds = record { piece = 13470; register = 27007; word = Some 40477; start = 67 };
+}
+
+-- ---- what is promised of it
+abbrev pub far_ranges : List (ℕ × ℕ)
+far_ranges = (0x20000, 0x20008) ∷ (0x21000, 0x21008) ∷ []
+
+abbrev pub far_output : List ℕ → Program
+far_output words = loaded_file (file_read (woven_file far_test far_options far_blocks words))
+
+pub record FarPromised : Type 0 where
+  pub words : List ℕ
+  pub woven : IsWovenTest far_bytes far_test far_options far_blocks words
+  pub far : is_far_code far_test far_options far_blocks ≡ true
+  pub table : has_table far_blocks ≡ true
+  pub told : IsToldOf far_test far_options far_blocks far_plan
+  pub kept : Kept (loaded_file far_test) (far_output words) 67 13470
+  pub landed : Landed (loaded_file far_test) (far_output words) far_plan.entries
+  pub caught : Caught (loaded_file far_test) (far_output words) far_ranges far_plan.bounds
+  pub clean : Clean (loaded_file far_test) (far_output words) far_ranges 34
