@@ -54,6 +54,9 @@ COMMANDS = [
     ("gen out --seed 1 --size 1", "old"),
     ("campaign in --seed 1 --count 4 --changes 2", None),
     ("harts in --turns 0 --steps 20", None),
+    ("help run", None),
+    ("version", None),
+    ("transfrom in out", None),
 ]
 
 NAMES = ("in", "text", "out", "absent")
