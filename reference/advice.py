@@ -155,12 +155,25 @@ def _unread(order: Order, shelf: Shelf) -> str:
     return ""
 
 
+def _fired(file: File, ebreak: int) -> str:
+    """What differed where a check fired, by the comparison before the EBREAK."""
+    word = Memory(loads_of(file)).load((ebreak - 4) % 2**64, 4)
+    found = re.fullmatch(r"beq x(\d+), x(\d+), -?\d+", "" if word is None else isa.text_of(word))
+    if not found:
+        return ""
+    told_of = {"16": "the signature in x16 is not that of this entry",
+               "30": "the data word at the address in x15 and its duplicate differ"}
+    return f"qed: a check fired: {told_of.get(found[1], f'x{found[1]} and x{found[2]} differ')}\n"
+
+
 def _run(order: Order, line: str, shelf: Shelf) -> str:
     """How a run ended, and the faults that were not made."""
     file = read_elf(shelf.load(order.files[0], MOST_FILE))
     kind, cause = line.split(" ")[:2]
     sentence = SENTENCES.get(kind, SENTENCES.get(cause))
     text = f"qed: {sentence}\n{_place(file, int(line[-16:], 16))}\n" if sentence else ""
+    if kind == "fired":
+        text = _fired(file, int(line[-16:], 16))
     made = int(re.search(" after ([0-9]+) ", line)[1]) + (kind == "going")
     memory = Memory(loads_of(file))
     for change in sorted(order.values.get("fault", []), key=lambda change: change.step):

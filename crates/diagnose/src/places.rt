@@ -41,7 +41,7 @@ fn bytes_at(segment: &Segment, address: u64) -> &[u8] {
 }
 
 /// The word at an address.
-fn word_at(file: &ElfFile, address: u64) -> Option<u32> {
+pub(crate) fn word_at(file: &ElfFile, address: u64) -> Option<u32> {
     for segment in file.segments.as_slice() {
         if let [a, b, c, d, ..] = bytes_at(segment, address) {
             return Some(u32::from_le_bytes([*a, *b, *c, *d]));

@@ -2,12 +2,14 @@
 ghost use Rattle.std.specs.Prelude.{◌≡◌};
 
 use crate::answers::{address_behind, read};
-use crate::places::{is_word_mapped, push_place};
+use crate::places::{is_word_mapped, push_place, word_at};
 use crate::sentences::sentence_of;
 use command_line::Order;
 use elf_types::ElfFile;
 use qed_io::Shelf;
 use qed_model::{Change, Place};
+use rv_decode::decode;
+use rv_isa::Kind;
 use std::alloc::{AllocError, Global};
 use texts::digits;
 
@@ -41,8 +43,42 @@ fn push_warning(
     Ok(())
 }
 
+/// The registers that a check compares, by the word before its EBREAK.
+fn compared(file: &ElfFile, ebreak: u64) -> Option<(u8, u8)> {
+    let ins = decode(word_at(file, ebreak.wrapping_sub(4))?)?;
+    if ins.kind == Kind::Beq {
+        Some((ins.rs1.number(), ins.rs2.number()))
+    } else {
+        None
+    }
+}
+
+/// What differed where a check fired.
+fn fired(alloc: Global, file: &ElfFile, line: &str) -> Result<String, AllocError> {
+    let ebreak = address_behind(line, " at 0x").unwrap_or(0);
+    let Some((first, second)) = compared(file, ebreak) else {
+        return Ok(String::new(alloc));
+    };
+    if first == 16 {
+        return String::from_str(
+            alloc,
+            "qed: a check fired: the signature in x16 is not that of this entry\n",
+        );
+    }
+    if first == 30 {
+        return String::from_str(
+            alloc,
+            "qed: a check fired: the data word at the address in x15 and its duplicate differ\n",
+        );
+    }
+    format!(in alloc; "qed: a check fired: x{first} and x{second} differ\n")
+}
+
 /// What mends how a run ended, by the first two words of its line, and where it stands.
 fn ending(alloc: Global, file: &ElfFile, line: &str) -> Result<String, AllocError> {
+    if line.starts_with("fired") {
+        return fired(alloc, file, line);
+    }
     let mut text = String::new(alloc);
     let (kind, rest) = line.split_once(" ").unwrap_or((line, ""));
     let (cause, _) = rest.split_once(" ").unwrap_or((rest, ""));
@@ -57,7 +93,8 @@ fn ending(alloc: Global, file: &ElfFile, line: &str) -> Result<String, AllocErro
     Ok(text)
 }
 
-/// Where a run trapped or did not end: why and what mends it, and the place. Then the faults that were not made.
+/// Where a check fired: what differed. Where a run trapped or did not end: why and what mends it, and the place. Then the faults that
+/// were not made.
 pub(crate) fn of_run<S: Shelf>(
     alloc: Global,
     asked: &Order,
@@ -69,8 +106,7 @@ pub(crate) fn of_run<S: Shelf>(
     let (Order::Run(name, _, changes, _), Some(steps)) = (asked, steps_of(line)) else {
         return Ok(String::new(alloc));
     };
-    let is_over = line.starts_with("ended") || line.starts_with("fired");
-    if is_over && changes.as_slice().is_empty() {
+    if line.starts_with("ended") && changes.as_slice().is_empty() {
         return Ok(String::new(alloc));
     }
     let Some(file) = read(alloc, name.as_str(), shelf)? else {
