@@ -14,7 +14,7 @@ use Rattle.qed_model.specs.Machine.Loading.{loaded_file}
 use Rattle.qed_model.specs.Admission.DataRanges.{range_of, word_count}
 use Rattle.qed_model.specs.Weave.Bounds.{end_bound}
 use Rattle.qed_model.specs.Weave.Woven.{Woven, IsWithin, IsToldOf}
-use Rattle.qed_model.specs.Promise.Kept.{Kept}
+use Rattle.qed_model.specs.Promise.Kept.{any_address, Kept}
 use Rattle.qed_model.specs.Promise.Landed.{Landed}
 use Rattle.qed_model.specs.Promise.Caught.{Caught}
 use Rattle.qed_model.specs.Promise.Clean.{Clean}
@@ -39,10 +39,10 @@ pub record IsPromised (input : List ℕ) (options : Options) (output line : List
   pub plan : Plan
   pub reads_test : IsReadAs input test
   pub reads_program : IsReadAs output program
-  pub kept : Kept (loaded_file test) (loaded_file program) plan.bounds.start plan.bounds.piece
-  pub landed : Landed (loaded_file test) (loaded_file program) plan.entries
-  pub caught : Caught (loaded_file test) (loaded_file program) (map range_of plan.span) plan.bounds
-  pub clean : options.sweep ≡ true → Clean (loaded_file test) (loaded_file program) (map range_of plan.span) (sweep_bound (map range_of plan.span))
+  pub kept : Kept (loaded_file test) (loaded_file program) any_address plan.bounds.start plan.bounds.piece
+  pub landed : Landed (loaded_file test) (loaded_file program) any_address plan.entries
+  pub caught : Caught (loaded_file test) (loaded_file program) any_address (map range_of plan.span) plan.bounds
+  pub clean : options.sweep ≡ true → Clean (loaded_file test) (loaded_file program) any_address (map range_of plan.span) (sweep_bound (map range_of plan.span))
   pub woven : Woven input options output
   pub taken : length input ≤ limit_of FileBytes
   pub within : IsWithin woven.file.file options woven.file.blocks woven.out
