@@ -31,8 +31,8 @@ sweep_bound spans = end_bound true (length spans) (word_count spans)
 
 -- IN is a test and OUT a program that was woven from it, with these options, and both are within the limits. The program's run has the values of the test's run
 -- after each of its steps, and no check fires; a jump to a wrong entry fires; changes of original registers and of data words are
--- caught; with the sweep none is silent at the end. Bounds, entries and data ranges are those of the woven plan, whose numbers the
--- line tells: of its bounds those of a register and of a word.
+-- caught; with the sweep none is silent at the end. Any address may be reached, so this holds as far as the test does not trap. Bounds,
+-- entries and data ranges are those of the woven plan, whose numbers the line tells: of its bounds those of a register and of a word.
 pub record IsPromised (input : List ℕ) (options : Options) (output line : List ℕ) : Type 0 where
   pub test : ElfFile
   pub program : ElfFile
