@@ -26,16 +26,16 @@ module _ (gs : List Program) (ts : List ℕ) (sound : AreSound gs) (none : AreUn
   }
 
 pub turns_keep : (gs : List Program) (ts : List ℕ) → AreSound gs → AreUnshared gs → TurnsKeep gs ts
-turns_keep gs ts sound none calm i f g first bound e kept =
-    let all = per_hart.kept gs i f g first bound e kept in
+turns_keep gs ts sound none calm i f g reached first bound e kept =
+    let all = per_hart.kept gs i f g reached first bound e kept in
     record {
-      values = λ n no_trap.
-          let v = all.values n no_trap in
+      values = λ n steady.
+          let v = all.values n steady in
           record {
             turns = v.turns;
             within = v.within;
             halves = λ u s. v.halves u (seen gs ts sound none calm i v.turns u s);
             ends = λ u s. v.ends u (seen gs ts sound none calm i v.turns u s);
           };
-      quiet = λ m u no_trap s. all.quiet m u no_trap (seen gs ts sound none calm i m u s);
+      quiet = λ m u steady s. all.quiet m u steady (seen gs ts sound none calm i m u s);
     }

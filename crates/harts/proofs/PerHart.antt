@@ -1,5 +1,5 @@
 -- What is promised of a hart's file holds of the hart, in its own turns.
-use Rattle.std.proofs.Common.{◌≡◌, ℕ, zero, suc, ◌+◌, ◌≤◌, ◌⊎◌, inl, inr, true, List, [], is_some, refl, sym, ap, ◌∙◌, subst, arith}
+use Rattle.std.proofs.Common.{◌≡◌, ℕ, zero, suc, ◌+◌, ◌≤◌, ◌⊎◌, inl, inr, Bool, true, List, [], is_some, refl, sym, ap, ◌∙◌, subst, arith}
 use Rattle.std.specs.Prelude.{◌↔◌, slice_index, replicate}
 use Rattle.std.specs.FinMap.{get}
 use Rattle.std.proofs.lemmas.Option.{same_Some}
@@ -87,10 +87,10 @@ halves_mine f g a u s m h = record {
 }
 
 -- ---- both promises
-kept : (gs : List Program) (i : ℕ) (f g : Program) (first bound : ℕ) → IsProgram gs i g → Kept f g first bound → HartKept f first bound (IsSeen gs i [])
-kept gs i f g first bound e k = record {
-  values = λ n nt. values n (k.values zeros n zeros_are nt);
-  quiet = λ m u nt x. quiet m u (k.quiet zeros m zeros_are nt) (seen_plain gs i g m u e x);
+kept : (gs : List Program) (i : ℕ) (f g : Program) (reached : ℕ → Bool) (first bound : ℕ) → IsProgram gs i g → Kept f g reached first bound → HartKept f reached first bound (IsSeen gs i [])
+kept gs i f g reached first bound e k = record {
+  values = λ n steady. values n (k.values zeros n zeros_are steady);
+  quiet = λ m u steady x. quiet m u (k.quiet zeros m zeros_are steady) (seen_plain gs i g m u e x);
 } where
   values : (n : ℕ) → Preserved f g first bound n zeros → KeptInTurns f first bound n (IsSeen gs i [])
   values n h = record {
@@ -115,8 +115,8 @@ same_hart g u v s t x y e =
     let z = mine_as g u s t e x in
     record { hart = z.hart ∙ sym y.hart; bytes = λ q o. z.holds.cells q o ∙ sym (y.holds.cells q o) }
 
-caught : (gs : List Program) (i : ℕ) (f g : Program) (spans : List (ℕ × ℕ)) (bounds : Bounds) → IsProgram gs i g → Caught f g spans bounds → HartCaught f g spans bounds (IsSeen gs i)
-caught gs i f g spans bounds e k = record { settles = λ cs b ordered places bound nt going. settles cs b (k.settles zeros cs b zeros_are ordered places bound nt going) } where
+caught : (gs : List Program) (i : ℕ) (f g : Program) (reached : ℕ → Bool) (spans : List (ℕ × ℕ)) (bounds : Bounds) → IsProgram gs i g → Caught f g reached spans bounds → HartCaught f g reached spans bounds (IsSeen gs i)
+caught gs i f g reached spans bounds e k = record { settles = λ cs b ordered places bound steady going. settles cs b (k.settles zeros cs b zeros_are ordered places bound steady going) } where
   settles : (cs : List Change) (b : ℕ) → Settles spans (last_step cs) b (changed_run (start g zeros) cs) (after_output g zeros) → SettlesInTurns g (last_step cs) b (IsSeen gs i cs) (IsSeen gs i [])
   settles cs b h = record { turns = h.steps; within = h.within; settled = by h.settled } where
     by : ((changed_run (start g zeros) cs h.steps).outcome ≡ Fired) ⊎ (((changed_run (start g zeros) cs h.steps).outcome ≡ Ended) ⊎ ((last_step cs ≤ h.steps) × Same spans (changed_run (start g zeros) cs h.steps) (after_output g zeros h.steps))) →

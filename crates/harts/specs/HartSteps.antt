@@ -1,5 +1,5 @@
 -- Several harts with one memory, and the number of steps of each: its turns from states that went on.
-use Rattle.std.specs.Prelude.{◌≡◌, ℕ, zero, suc, ◌%◌, length, List, [], ◌∷◌, map, slice_get, slice_set, slice_index, Option, Some, None}
+use Rattle.std.specs.Prelude.{◌≡◌, ℕ, zero, suc, ◌%◌, Bool, length, List, [], ◌∷◌, map, slice_get, slice_set, slice_index, Option, Some, None}
 use Rattle.qed_model.specs.declared.change.Place.{Place}
 use Rattle.qed_model.specs.declared.change.Change.{Change}
 use Rattle.qed_model.specs.Machine.Memory.{Memory}
@@ -97,4 +97,4 @@ pub record StandsAfter (gs : List Program) (ts : List ℕ) (i k : ℕ) (u : Stat
 abbrev pub TurnsKeep : List Program → List ℕ → Type 0
 TurnsKeep gs ts =
     ((i : ℕ) (g : Program) → IsProgram gs i g → NotTrapped (own_run (λ i. []) ts i g))
-    → (i : ℕ) (f g : Program) (first bound : ℕ) → IsProgram gs i g → Kept f g first bound → HartKept f first bound (StandsAfter gs ts i)
+    → (i : ℕ) (f g : Program) (reached : ℕ → Bool) (first bound : ℕ) → IsProgram gs i g → Kept f g reached first bound → HartKept f reached first bound (StandsAfter gs ts i)

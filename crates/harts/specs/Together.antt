@@ -1,5 +1,5 @@
 -- What is promised of several harts with one memory: each runs as it runs alone.
-use Rattle.std.specs.Prelude.{◌≡◌, ◌≢◌, ℕ, ◌+◌, ◌*◌, ◌^◌, ◌<◌, ◌≤◌, ◌⊎◌, ◌↔◌, true, List, [], ◌∷◌, slice_get, Some}
+use Rattle.std.specs.Prelude.{◌≡◌, ◌≢◌, ℕ, ◌+◌, ◌*◌, ◌^◌, ◌<◌, ◌≤◌, ◌⊎◌, ◌↔◌, Bool, true, List, [], ◌∷◌, slice_get, Some}
 use Rattle.std.specs.FinMap.{get}
 use Rattle.qed_model.specs.declared.machine.Outcome.TheVariants.{Going, Ended, Fired}
 use Rattle.qed_model.specs.declared.change.Place.{Place}
@@ -9,7 +9,7 @@ use Rattle.qed_model.specs.declared.bounds.Bounds.{Bounds}
 use Rattle.qed_model.specs.Machine.Memory.{wrap}
 use Rattle.qed_model.specs.Machine.Step.{State}
 use Rattle.qed_model.specs.Machine.Program.{Program, start, zeros}
-use Rattle.qed_model.specs.Promise.Kept.{is_mapped, after_input, after_output, NotTrapped, Halves, Kept}
+use Rattle.qed_model.specs.Promise.Kept.{is_mapped, after_input, after_output, NotTrapped, Steady, Halves, Kept}
 use Rattle.qed_model.specs.Promise.Changed.{changed_run, Ordered, last_step}
 use Rattle.qed_model.specs.Promise.Caught.{bound_of, AllOpen, Caught}
 use Rattle.harts.specs.Harts.{Hart, World, state_of, hart_of, hart_turns, world_after}
@@ -80,10 +80,10 @@ pub record QuietInTurns (f : Program) (m : ℕ) (u : State) : Type 0 where
   pub no_trap : NotTrapped u
   pub ended : u.outcome ≡ Ended → ((after_input f m).outcome ≡ Ended) × Halves f (after_input f m) u
 
--- both
-pub record HartKept (f : Program) (first bound : ℕ) (seen : ℕ → State → Type 0) : Type 0 where
-  pub values : (n : ℕ) → NotTrapped (after_input f n) → KeptInTurns f first bound n seen
-  pub quiet : (m : ℕ) (u : State) → NotTrapped (after_input f m) → seen m u → QuietInTurns f m u
+-- both, as far as the input's run is steady
+pub record HartKept (f : Program) (reached : ℕ → Bool) (first bound : ℕ) (seen : ℕ → State → Type 0) : Type 0 where
+  pub values : (n : ℕ) → Steady f reached n → KeptInTurns f first bound n seen
+  pub quiet : (m : ℕ) (u : State) → Steady f reached m → seen m u → QuietInTurns f m u
 
 -- two states have the same hart, and the same byte wherever the file maps one
 pub record SameHart (g : Program) (u v : State) : Type 0 where
@@ -96,15 +96,15 @@ pub record SettlesInTurns (g : Program) (t b : ℕ) (changed unchanged : ℕ →
   pub within : turns ≤ t + b
   pub settled : ((u : State) → changed turns u → u.outcome ≡ Fired) ⊎ (((u : State) → changed turns u → u.outcome ≡ Ended) ⊎ ((t ≤ turns) × ((u v : State) → changed turns u → unchanged turns v → SameHart g u v)))
 
--- for any changes of original places that are open in the hart's run without changes, as far as the input's run does not trap
-pub record HartCaught (f g : Program) (spans : List (ℕ × ℕ)) (bounds : Bounds) (seen : List Change → ℕ → State → Type 0) : Type 0 where
+-- for any changes of original places that are open in the hart's run without changes, as far as the input's run is steady
+pub record HartCaught (f g : Program) (reached : ℕ → Bool) (spans : List (ℕ × ℕ)) (bounds : Bounds) (seen : List Change → ℕ → State → Type 0) : Type 0 where
   pub settles : (cs : List Change) (b : ℕ) →
       Ordered cs → AllOpen spans (after_output g zeros) cs → bound_of bounds cs ≡ Some b →
-      NotTrapped (after_input f (last_step cs + b)) → (after_output g zeros (last_step cs)).outcome ≡ Going →
+      Steady f reached (last_step cs + b) → (after_output g zeros (last_step cs)).outcome ≡ Going →
       SettlesInTurns g (last_step cs) b (seen cs) (seen [])
 
 -- where a hart's file is the output of some input, what is promised of the output's runs alone holds of the hart, in its own
 -- turns, in every schedule
 pub record PerHart : Type 0 where
-  pub kept : (gs : List Program) (i : ℕ) (f g : Program) (first bound : ℕ) → IsProgram gs i g → Kept f g first bound → HartKept f first bound (IsSeen gs i [])
-  pub caught : (gs : List Program) (i : ℕ) (f g : Program) (spans : List (ℕ × ℕ)) (bounds : Bounds) → IsProgram gs i g → Caught f g spans bounds → HartCaught f g spans bounds (IsSeen gs i)
+  pub kept : (gs : List Program) (i : ℕ) (f g : Program) (reached : ℕ → Bool) (first bound : ℕ) → IsProgram gs i g → Kept f g reached first bound → HartKept f reached first bound (IsSeen gs i [])
+  pub caught : (gs : List Program) (i : ℕ) (f g : Program) (reached : ℕ → Bool) (spans : List (ℕ × ℕ)) (bounds : Bounds) → IsProgram gs i g → Caught f g reached spans bounds → HartCaught f g reached spans bounds (IsSeen gs i)

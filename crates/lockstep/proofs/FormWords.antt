@@ -51,7 +51,7 @@ pub caught_with :
     (f g : Program) (w : World) (most : ℕ) (checks : List Item) (first steps : ℕ) (blocks : List Block) (bounds : Bounds) → ChecksLaws w.form checks first steps
     → PlanOf f g w (weave_with w.form most checks first steps) blocks → Mirrors w → MirrorsFit w.form.far w.form.mirror
     → OnlyCode f g w (weave_with w.form most checks first steps) blocks → 1 ≤ w.form.round → first + 17 ≤ steps
-    → BoundsOf w (weave_with w.form most checks first steps) bounds → Caught f g w.form.spans bounds
+    → BoundsOf w (weave_with w.form most checks first steps) bounds → Caught f g w.reached w.form.spans bounds
 caught_with f g w most checks first steps blocks bounds laws p law fit closed some room b =
     weave_caught f g w (weave_with w.form most checks first steps) blocks bounds p (rows_with w most checks first steps laws (begins_at blocks) law) (starts_with w most checks first steps laws (begins_at blocks) f g) (words_with w.form most checks first steps laws fit) closed some (omega arith) (omega (arith, room)) b
 

@@ -18,7 +18,7 @@ use Rattle.qed_model.specs.Machine.Values.{width_of}
 use Rattle.qed_model.specs.Promise.Caught.{Caught}
 use Rattle.qed_model.specs.Promise.Changed.{changed_run, IsDataWord}
 use Rattle.qed_model.specs.Promise.Closed.{IsOpen}
-use Rattle.qed_model.specs.Promise.Kept.{after_input, NotTrapped}
+use Rattle.qed_model.specs.Promise.Kept.{Steady}
 use Rattle.qed_model.specs.Weave.Blocks.{begins_at}
 use Rattle.qed_model.specs.Weave.Bounds.{word_bound}
 use Rattle.qed_model.specs.Weave.Sequences.{Block}
@@ -82,7 +82,7 @@ big_word (suc n) round first piece b h e =
     let m : 1 * 2 ≤ ((suc n + round - 1) / round + 2) * piece = mul-le-mul one h in
     omega (arith, is, m)
 
-module _ (f g : Program) (w : World) (v : Weave) (blocks : List Block) (plan : PlanOf f g w v blocks) (rows : Rows w v (begins_at blocks)) (starts : Starts f g w v (begins_at blocks)) (law : Words w.form.far v) (closes : OnlyCode f g w v blocks) (some : 1 ≤ v.round) (two : 2 ≤ v.leave_steps) (room : v.compare_steps + 17 ≤ v.piece_steps) (bounds : Bounds) (are_bounds : BoundsOf w v bounds) (caught : Caught f g w.form.spans bounds) (regs : List ℕ) (are : AreStartRegs regs) (n : ℕ) (i : Ins) (go : (run (start g regs) n).outcome ≡ Going) (at : next (run (start g regs) n) ≡ Known i) where
+module _ (f g : Program) (w : World) (v : Weave) (blocks : List Block) (plan : PlanOf f g w v blocks) (rows : Rows w v (begins_at blocks)) (starts : Starts f g w v (begins_at blocks)) (law : Words w.form.far v) (closes : OnlyCode f g w v blocks) (some : 1 ≤ v.round) (two : 2 ≤ v.leave_steps) (room : v.compare_steps + 17 ≤ v.piece_steps) (bounds : Bounds) (are_bounds : BoundsOf w v bounds) (caught : Caught f g w.reached w.form.spans bounds) (regs : List ℕ) (are : AreStartRegs regs) (n : ℕ) (i : Ins) (go : (run (start g regs) n).outcome ≡ Going) (at : next (run (start g regs) n) ≡ Known i) where
   abbrev u : State
   u = run (start g regs) n
 
@@ -91,8 +91,8 @@ module _ (f g : Program) (w : World) (v : Weave) (blocks : List Block) (plan : P
   loaded_at k = (stands_run w.code (span_bytes w.form.spans) k (start g regs) (begins f g w v blocks plan rows starts law closes some two room regs are)).loaded
 
   -- the run is quiet here
-  quiet_here : (b : ℕ) → 2 ≤ b → NotTrapped (after_input f (n + 1 + b)) → Undisturbed w.code (span_bytes w.form.spans) (run (start g regs) n)
-  quiet_here b big calm = (quiet_run f g w v blocks plan rows starts law closes some two room regs are (n + 1 + b) calm).each n (omega (arith, big)) go
+  quiet_here : (b : ℕ) → 2 ≤ b → Steady f w.reached (n + 1 + b) → Undisturbed w.code (span_bytes w.form.spans) (run (start g regs) n)
+  quiet_here b big steady = (quiet_run f g w v blocks plan rows starts law closes some two room regs are (n + 1 + b) steady).each n (omega (arith, big)) go
 
   -- a piece has two steps
   big_piece : 2 ≤ stage_steps v
@@ -103,9 +103,9 @@ module _ (f g : Program) (w : World) (v : Weave) (blocks : List Block) (plan : P
   fits q = subst (HasKind w.code (run (start g regs) n).pc) (same_known (sym q.quiet.known ∙ sym ((loaded_at n).code (run (start g regs) n).pc) ∙ at)) q.quiet.fits
 
   -- another number
-  results : (o : State) → WritesOriginal i → GivesAny i (run (start g regs) n) o → NotTrapped (after_input f (n + 1 + bounds.register)) → FoundOut w.form.spans bounds.register o (λ k. run (start g regs) (n + 1 + k))
-  results o wr any calm =
-      let q = quiet_here bounds.register (omega (arith, are_bounds.register, big_piece)) calm in
+  results : (o : State) → WritesOriginal i → GivesAny i (run (start g regs) n) o → Steady f w.reached (n + 1 + bounds.register) → FoundOut w.form.spans bounds.register o (λ k. run (start g regs) (n + 1 + k))
+  results o wr any steady =
+      let q = quiet_here bounds.register (omega (arith, are_bounds.register, big_piece)) steady in
       let did = wrote i u go at wr q.quiet.no_trap in
       let st = any_struck i u o did any in
       change st.number q did st.is where
@@ -127,12 +127,12 @@ module _ (f g : Program) (w : World) (v : Weave) (blocks : List Block) (plan : P
             found_out w.form.spans (start g regs) (changed_run (start g regs) (record { step = n + 1; place = Reg i.rd; value = x } ∷ [])) o (n + 1) bounds.register going
             (λ k h. unchanged_before (start g regs) (record { step = n + 1; place = Reg i.rd; value = x } ∷ []) k (h, tt))
             (λ k. changed_later (start g regs) (n + 1) k (record { step = n + 1; place = Reg i.rd; value = x } ∷ []) (omega arith, tt) ∙ ap (λ y. run y k) there)
-            (caught.settles regs (record { step = n + 1; place = Reg i.rd; value = x } ∷ []) bounds.register are tt ((wr.some, wr.low), free, tt) refl calm going)
+            (caught.settles regs (record { step = n + 1; place = Reg i.rd; value = x } ∷ []) bounds.register are tt ((wr.some, wr.low), free, tt) refl steady going)
 
   -- other bytes
-  stores : (o : State) (b : ℕ) → StoresOriginal w.form.spans i (run (start g regs) n) → StoresAny i (run (start g regs) n) o → bounds.word ≡ Some b → NotTrapped (after_input f (n + 1 + b)) → FoundOut w.form.spans b o (λ k. run (start g regs) (n + 1 + k))
-  stores o b so any bound calm =
-      let q = quiet_here b (big_word (word_count w.form.spans) v.round (start_steps v) (stage_steps v) b big_piece (sym are_bounds.word ∙ bound)) calm in
+  stores : (o : State) (b : ℕ) → StoresOriginal w.form.spans i (run (start g regs) n) → StoresAny i (run (start g regs) n) o → bounds.word ≡ Some b → Steady f w.reached (n + 1 + b) → FoundOut w.form.spans b o (λ k. run (start g regs) (n + 1 + k))
+  stores o b so any bound steady =
+      let q = quiet_here b (big_word (word_count w.form.spans) v.round (start_steps v) (stage_steps v) b big_piece (sym are_bounds.word ∙ bound)) steady in
       change (stored_step i u go at so.stores q.quiet.no_trap) (any_beside i u o (loaded_at n).small any) where
         -- as changes of two words
         change :
@@ -168,15 +168,15 @@ module _ (f g : Program) (w : World) (v : Weave) (blocks : List Block) (plan : P
                   found_out w.form.spans (start g regs) (changed_run (start g regs) (c ∷ d ∷ [])) o (n + 1) b going
                   (λ k h. unchanged_before (start g regs) (c ∷ d ∷ []) k (h, (h, tt)))
                   (λ k. changed_later (start g regs) (n + 1) k (c ∷ d ∷ []) (omega arith, (omega arith, tt)) ∙ ap (λ x. run x k) there)
-                  (caught.settles regs (c ∷ d ∷ []) b are (omega arith, tt) (df, tt, (dl, tt, tt)) bound calm going)
+                  (caught.settles regs (c ∷ d ∷ []) b are (omega arith, tt) (df, tt, (dl, tt, tt)) bound steady going)
 
 -- ---- in a plan of a form
 pub plan_faults :
     (f g : Program) (w : World) (most : ℕ) (blocks : List Block) (bounds : Bounds) → Plan f g w most blocks → Mirrors w → Closes f g w blocks → 1 ≤ w.form.round → IsBoundsOf w.form most bounds
-    → FaultsFound f g w.form.spans bounds
+    → FaultsFound f g w.reached w.form.spans bounds
 plan_faults f g w most blocks bounds p law closes some b = record {
-  results = λ regs n i o are go at wr any calm. results f g w (weave_of w.form most) blocks plan rows starts words only some (omega arith) room bounds are_bounds caught regs are n i go at o wr any calm;
-  stores = λ regs n x i o are go at so any bound calm. stores f g w (weave_of w.form most) blocks plan rows starts words only some (omega arith) room bounds are_bounds caught regs are n i go at o x so any bound calm;
+  results = λ regs n i o are go at wr any steady. results f g w (weave_of w.form most) blocks plan rows starts words only some (omega arith) room bounds are_bounds caught regs are n i go at o wr any steady;
+  stores = λ regs n x i o are go at so any bound steady. stores f g w (weave_of w.form most) blocks plan rows starts words only some (omega arith) room bounds are_bounds caught regs are n i go at o x so any bound steady;
 } where
   plan : PlanOf f g w (weave_of w.form most) blocks
   plan = new_plan w most f g blocks p
@@ -199,7 +199,7 @@ plan_faults f g w most blocks bounds p law closes some b = record {
   are_bounds : BoundsOf w (weave_of w.form most) bounds
   are_bounds = bounds_in w most bounds b
 
-  caught : Caught f g w.form.spans bounds
+  caught : Caught f g w.reached w.form.spans bounds
   caught = plan_caught f g w most blocks bounds p law closes some b
 
 -- ---- of each test

@@ -13,16 +13,17 @@ use Rattle.qed_model.specs.Machine.Values.{value, holds}
 use Rattle.qed_model.specs.Promise.Caught.{Caught, Settles}
 use Rattle.qed_model.specs.Promise.Changed.{changed_run}
 use Rattle.qed_model.specs.Promise.Closed.{is_closed, uses, guards_other}
-use Rattle.qed_model.specs.Promise.Kept.{after_output}
+use Rattle.qed_model.specs.Promise.Kept.{after_output, any_address}
 use Rattle.qed_model.proofs.ExampleCode.{defaults}
 use Rattle.qed_model.proofs.LoopFile.{loop_bytes, loop}
 use Rattle.qed_model.proofs.LoopExample.{loop_plan, loop_told, loop_blocks}
+use Rattle.qed_model.proofs.Steady.{steady_any}
 use Rattle.weave_core.proofs.ListedRuns.{are_zeros, state_of}
 use Rattle.weave_core.proofs.LoopKept.{loop_words, loop_input, loop_output, loop_new_code, loop_stand, output_run, input_ended}
 use Rattle.lockstep.proofs.ListedChanges.{changed_go, closed_there}
 use Rattle.lockstep.proofs.Tests.{tests_caught}
 
-loop_caught : Caught loop_input loop_output [] loop_plan.bounds
+loop_caught : Caught loop_input loop_output any_address [] loop_plan.bounds
 loop_caught = tests_caught loop_bytes loop defaults loop_blocks loop_words.0 loop_plan loop_words.1 loop_told
 
 -- 7 in x5 after some steps
@@ -49,7 +50,7 @@ unfolding uses guards_other
 is_open = ap (λ s. is_closed s 5) before_change ∙ closed_there loop_output 0x13000 loop_new_code loop_stand 5 (turn 1) 0x1319c (ins Beq 0 5 21 (pos 8)) (ins Bne 0 5 0 (pos 8)) refl refl
 
 open_settles : Settles [] 72 272 (changed_run (start loop_output zeros) (seven 72 ∷ [])) (after_output loop_output zeros)
-open_settles = loop_caught.settles zeros (seven 72 ∷ []) 272 are_zeros tt ((omega arith, omega arith), is_open, tt) refl (input_ended (72 + 272) (omega arith)) (ap (λ s. s.outcome) before_change)
+open_settles = loop_caught.settles zeros (seven 72 ∷ []) 272 are_zeros tt ((omega arith, omega arith), is_open, tt) refl ((steady_any loop_input (72 + 272)).1 (input_ended (72 + 272) (omega arith))) (ap (λ s. s.outcome) before_change)
 
 -- ---- a change at a closed place, which the promise leaves out: the use of x5 is next
 at_use : is_closed (after_output loop_output zeros 73) 5 ≡ true

@@ -15,13 +15,14 @@ use Rattle.qed_model.specs.Promise.Caught.{Same}
 use Rattle.qed_model.specs.Promise.Changed.{changed_run}
 use Rattle.qed_model.specs.Promise.Clean.{Clean}
 use Rattle.qed_model.specs.Promise.Closed.{is_closed, uses, guards_other}
-use Rattle.qed_model.specs.Promise.Kept.{after_output}
+use Rattle.qed_model.specs.Promise.Kept.{after_output, any_address}
 use Rattle.qed_model.specs.Weave.Placed.{placed}
 use Rattle.qed_model.specs.Weave.Woven.{woven_file, new_items}
 use Rattle.qed_model.proofs.ExampleCode.{swept, sound}
 use Rattle.qed_model.proofs.LoopFile.{loop_bytes, loop, loop_read, loop_fit}
 use Rattle.qed_model.proofs.LoopExample.{loop_swept_admitted, loop_blocks, loop_are}
 use Rattle.qed_model.proofs.Walk.{run-more}
+use Rattle.qed_model.proofs.Steady.{steady_any}
 use Rattle.weave_core.specs.Tests.{IsWovenTest}
 use Rattle.weave_core.proofs.ListedRuns.{are_zeros, is_simple_run, go, run_is}
 use Rattle.weave_core.proofs.LoopKept.{loop_loads, loop_input, input_ended}
@@ -39,7 +40,7 @@ abbrev output : Program
 output = loaded_file (file_read (woven_file loop swept loop_blocks words.0))
 
 -- no change is silent at the end that was made before the last 14 steps
-clean : Clean loop_input output [] 14
+clean : Clean loop_input output any_address [] 14
 clean = tests_clean loop_bytes loop swept loop_blocks words.0 words.1 refl
 
 -- ---- its run, over the instructions of its new code
@@ -75,4 +76,4 @@ is_open = ap (λ s. is_closed s 5) (output_run 72 refl) ∙ closed_there output 
 
 -- all premises of the promise are met
 not_silent : ((changed_run (start output zeros) (seven 72 ∷ []) 130).outcome ≡ Fired) ⊎ (((changed_run (start output zeros) (seven 72 ∷ []) 130).outcome ≡ Ended) × Same [] (changed_run (start output zeros) (seven 72 ∷ []) 130) (after_output output zeros 130))
-not_silent = clean.settles zeros (seven 72 ∷ []) 130 are_zeros tt ((omega arith, omega arith), is_open, tt) (omega arith) output_end not_before (input_ended 130 (omega arith))
+not_silent = clean.settles zeros (seven 72 ∷ []) 130 are_zeros tt ((omega arith, omega arith), is_open, tt) (omega arith) output_end not_before ((steady_any loop_input 130).1 (input_ended 130 (omega arith)))

@@ -4,14 +4,14 @@ use Rattle.std.proofs.lemmas.List.{append_assoc}
 use Rattle.rv_isa.specs.declared.ins.Ins.{Ins}
 use Rattle.qed_model.specs.declared.machine.Outcome.TheVariants.{Going, Ended}
 use Rattle.qed_model.specs.Machine.Step.{State, reg, run}
-use Rattle.qed_model.specs.Promise.Kept.{NotTrapped}
+use Rattle.qed_model.specs.Promise.Kept.{NotTrapped, IsSteady}
 use Rattle.qed_model.specs.Weave.Sequences.{Reads, End, Falls, Stops, body_length}
 use Rattle.qed_model.proofs.Walk.{run-more}
 use Rattle.qed_model.proofs.Walked.{Walk, walk_on}
 use Rattle.weave_core.specs.World.{World, Quiet, IsCursor}
 use Rattle.weave_core.specs.Blocks.{Full}
 use Rattle.weave_core.specs.Rows.{At, Sourced}
-use Rattle.weave_core.proofs.Source.{source_run, not_trapped_le}
+use Rattle.weave_core.proofs.Source.{source_run, not_trapped_le, steady_le}
 use Rattle.weave_core.proofs.Leaves.{no_code}
 use Rattle.weave_core.specs.Weave.{Weave, pieces_of, body_of}
 use Rattle.weave_core.specs.WeaveLaws.{PiecesAt, EntriesAt, Stands, stops, Left, Onward, lands, is_lost, Rows, Checked, Swept}
@@ -118,15 +118,15 @@ module _ (w : World) (v : Weave) (leader : ℕ → Bool) (rows : Rows w v leader
   -- from behind a piece
   behind_stage :
       (ps : List (List Ins)) (e : End) (x s : State) → At w x (body_of v ps e s.pc) s s → Sourced w s → PiecesAt w v leader ps e s.pc → Full ps e
-      → NotTrapped (run s (2 + v.piece_steps)) → Staged x s (v.leave_steps + v.enter_steps) ⊎ Finishes x
-  behind_stage (p ∷ ps) e x s at so q f calm =
+      → IsSteady w.reached s (2 + v.piece_steps) → Staged x s (v.leave_steps + v.enter_steps) ⊎ Finishes x
+  behind_stage (p ∷ ps) e x s at so q f steady =
       let h = rows.short p q.0.one in
-      inl (staged_more x s 0 (v.leave_steps + v.enter_steps) (omega arith) (piece_stage p ps e x s at so q f (not_trapped_le s (length p) (2 + v.piece_steps) (omega (arith, h)) calm)))
-  behind_stage [] e x s at so q f calm =
+      inl (staged_more x s 0 (v.leave_steps + v.enter_steps) (omega arith) (piece_stage p ps e x s at so q f (not_trapped_le s (length p) (2 + v.piece_steps) (omega (arith, h)) steady.no_trap)))
+  behind_stage [] e x s at so q f steady =
       let z : s.pc + 4 * 0 ≡ s.pc = omega arith in
       let at0 : At w x (v.leave e s.pc) s s = subst (λ k. At w x (v.leave e k) s s) z at in
       let o = one e in
-      from_left (rows.leave (λ a l. rows.known a (entries a l)) e x s at0 so q (not_trapped_le s (stops e) (2 + v.piece_steps) (omega (arith, o)) calm)) where
+      from_left (rows.leave (λ a l. rows.known a (entries a l)) e x s at0 so q (steady_le w.reached s (stops e) (2 + v.piece_steps) (omega (arith, o)) steady)) where
         one : (e : End) → stops e ≤ 1
         one Falls = omega arith
         one (Stops i) = omega arith
@@ -137,15 +137,15 @@ module _ (w : World) (v : Weave) (leader : ℕ → Bool) (rows : Rows w v leader
           onward : Onward w leader x (run s (stops e)) y.to → Staged x s (v.leave_steps + v.enter_steps) ⊎ Finishes x
           onward (is_lost going t so' lacks) =
               let o = one e in
-              let c : NotTrapped (run (run s (stops e)) 1) = subst NotTrapped (run-more s (stops e) 1) (not_trapped_le s (stops e + 1) (2 + v.piece_steps) (omega (arith, o)) calm) in
+              let c : NotTrapped (run (run s (stops e)) 1) = subst NotTrapped (run-more s (stops e) 1) (not_trapped_le s (stops e + 1) (2 + v.piece_steps) (omega (arith, o)) steady.no_trap) in
               absurd (no_code w (run s (stops e)) so' lacks (subst NotTrapped (one_run (run s (stops e))) c))
           onward (lands st at15 so') =
               let o = one e in
-              let c : NotTrapped (run (run s (stops e)) v.piece_steps) = subst NotTrapped (run-more s (stops e) v.piece_steps) (not_trapped_le s (stops e + v.piece_steps) (2 + v.piece_steps) (omega (arith, o)) calm) in
+              let c : NotTrapped (run (run s (stops e)) v.piece_steps) = subst NotTrapped (run-more s (stops e) v.piece_steps) (not_trapped_le s (stops e + v.piece_steps) (2 + v.piece_steps) (omega (arith, o)) steady.no_trap) in
               let g = staged_more y.to (run s (stops e)) (v.enter_steps + 0) v.enter_steps (omega arith) (entry_stage y.to (run s (stops e)) st so' c) in
               inl (staged_on x y.to s (stops e) y.steps v.leave_steps v.enter_steps y.walk at15 y.within y.at_least g)
 
   -- from any boundary
-  pub stage : (x s : State) → Bounded x s → NotTrapped (run s (2 + v.piece_steps)) → Staged x s (v.leave_steps + v.enter_steps) ⊎ Finishes x
-  stage x s (entering st so) calm = inl (staged_more x s (v.enter_steps + 0) (v.leave_steps + v.enter_steps) (omega arith) (entry_stage x s st so (not_trapped_le s v.piece_steps (2 + v.piece_steps) (omega arith) calm)))
-  stage x s (behind more end a so p f) calm = behind_stage more end x s a so p f calm
+  pub stage : (x s : State) → Bounded x s → IsSteady w.reached s (2 + v.piece_steps) → Staged x s (v.leave_steps + v.enter_steps) ⊎ Finishes x
+  stage x s (entering st so) steady = inl (staged_more x s (v.enter_steps + 0) (v.leave_steps + v.enter_steps) (omega arith) (entry_stage x s st so (not_trapped_le s v.piece_steps (2 + v.piece_steps) (omega arith) steady.no_trap)))
+  stage x s (behind more end a so p f) steady = behind_stage more end x s a so p f steady

@@ -1,5 +1,5 @@
 -- Wrong instructions: an original instruction of a test gives another result once, or is skipped once.
-use Rattle.std.specs.Prelude.{◌≡◌, ◌⊎◌, ℕ, ◌+◌, ◌-◌, ◌*◌, ◌/◌, ◌≤◌, List, Some}
+use Rattle.std.specs.Prelude.{◌≡◌, ◌⊎◌, ℕ, ◌+◌, ◌-◌, ◌*◌, ◌/◌, ◌≤◌, Bool, List, Some}
 use Rattle.elf_types.specs.declared.file.ElfFile.{ElfFile}
 use Rattle.rv_isa.specs.declared.ins.Ins.{Ins}
 use Rattle.rv_isa.specs.declared.class.Class.TheVariants as class
@@ -18,7 +18,7 @@ use Rattle.qed_model.specs.Machine.Step.{State, moved, stored, next_pc, place, K
 use Rattle.qed_model.specs.Machine.Values.{width_of}
 use Rattle.qed_model.specs.Promise.Caught.{Same}
 use Rattle.qed_model.specs.Promise.Changed.{IsDataWord}
-use Rattle.qed_model.specs.Promise.Kept.{after_input, after_output, NotTrapped}
+use Rattle.qed_model.specs.Promise.Kept.{after_output, Steady, any_address}
 use Rattle.qed_model.specs.Weave.Places.{image_of}
 use Rattle.qed_model.specs.Weave.Sequences.{Block}
 use Rattle.qed_model.specs.Weave.Woven.{woven_file, IsToldOf}
@@ -59,14 +59,14 @@ pub record FoundOut (spans : List (ℕ × ℕ)) (b : ℕ) (v : State) (unchanged
   pub within : steps ≤ b
   pub found : ((run v steps).outcome ≡ Fired) ⊎ (((run v steps).outcome ≡ Ended) ⊎ Same spans (run v steps) (unchanged steps))
 
--- wherever the output's run without faults goes on at such an instruction, as far as the input's run does not trap
-pub record FaultsFound (f g : Program) (spans : List (ℕ × ℕ)) (bounds : Bounds) : Type 0 where
+-- wherever the output's run without faults goes on at such an instruction, as far as the input's run is steady
+pub record FaultsFound (f g : Program) (reached : ℕ → Bool) (spans : List (ℕ × ℕ)) (bounds : Bounds) : Type 0 where
   pub results :
       (regs : List ℕ) (n : ℕ) (i : Ins) (v : State) → AreStartRegs regs → (after_output g regs n).outcome ≡ Going → next (after_output g regs n) ≡ Known i → WritesOriginal i
-      → GivesAny i (after_output g regs n) v → NotTrapped (after_input f (n + 1 + bounds.register)) → FoundOut spans bounds.register v (λ k. after_output g regs (n + 1 + k))
+      → GivesAny i (after_output g regs n) v → Steady f reached (n + 1 + bounds.register) → FoundOut spans bounds.register v (λ k. after_output g regs (n + 1 + k))
   pub stores :
       (regs : List ℕ) (n b : ℕ) (i : Ins) (v : State) → AreStartRegs regs → (after_output g regs n).outcome ≡ Going → next (after_output g regs n) ≡ Known i
-      → StoresOriginal spans i (after_output g regs n) → StoresAny i (after_output g regs n) v → bounds.word ≡ Some b → NotTrapped (after_input f (n + 1 + b))
+      → StoresOriginal spans i (after_output g regs n) → StoresAny i (after_output g regs n) v → bounds.word ≡ Some b → Steady f reached (n + 1 + b)
       → FoundOut spans b v (λ k. after_output g regs (n + 1 + k))
 
 -- ---- the law
@@ -74,4 +74,4 @@ pub record FaultsFound (f g : Program) (spans : List (ℕ × ℕ)) (bounds : Bou
 abbrev pub InstructionFaultsAreCaught : Type 0
 InstructionFaultsAreCaught =
     (input : List ℕ) (f : ElfFile) (o : Options) (blocks : List Block) (words : List ℕ) (plan : Plan) → IsWovenTest input f o blocks words → IsToldOf f o blocks plan
-    → FaultsFound (loaded_file f) (loaded_file (file_read (woven_file f o blocks words))) (data_ranges (image_of f)) plan.bounds
+    → FaultsFound (loaded_file f) (loaded_file (file_read (woven_file f o blocks words))) any_address (data_ranges (image_of f)) plan.bounds

@@ -14,7 +14,7 @@ use Rattle.qed_model.specs.Machine.Loading.{loaded_file}
 use Rattle.qed_model.specs.Admission.DataRanges.{range_of, word_count}
 use Rattle.qed_model.specs.Weave.Bounds.{end_bound}
 use Rattle.qed_model.specs.Weave.Woven.{Woven, IsWithin, IsToldOf}
-use Rattle.qed_model.specs.Promise.Kept.{Kept}
+use Rattle.qed_model.specs.Promise.Kept.{any_address, Kept}
 use Rattle.qed_model.specs.Promise.Landed.{Landed}
 use Rattle.qed_model.specs.Promise.Caught.{Caught}
 use Rattle.qed_model.specs.Promise.Clean.{Clean}
@@ -31,18 +31,18 @@ sweep_bound spans = end_bound true (length spans) (word_count spans)
 
 -- IN is a test and OUT a program that was woven from it, with these options, and both are within the limits. The program's run has the values of the test's run
 -- after each of its steps, and no check fires; a jump to a wrong entry fires; changes of original registers and of data words are
--- caught; with the sweep none is silent at the end. Bounds, entries and data ranges are those of the woven plan, whose numbers the
--- line tells: of its bounds those of a register and of a word.
+-- caught; with the sweep none is silent at the end. Any address may be reached, so this holds as far as the test does not trap. Bounds,
+-- entries and data ranges are those of the woven plan, whose numbers the line tells: of its bounds those of a register and of a word.
 pub record IsPromised (input : List ℕ) (options : Options) (output line : List ℕ) : Type 0 where
   pub test : ElfFile
   pub program : ElfFile
   pub plan : Plan
   pub reads_test : IsReadAs input test
   pub reads_program : IsReadAs output program
-  pub kept : Kept (loaded_file test) (loaded_file program) plan.bounds.start plan.bounds.piece
-  pub landed : Landed (loaded_file test) (loaded_file program) plan.entries
-  pub caught : Caught (loaded_file test) (loaded_file program) (map range_of plan.span) plan.bounds
-  pub clean : options.sweep ≡ true → Clean (loaded_file test) (loaded_file program) (map range_of plan.span) (sweep_bound (map range_of plan.span))
+  pub kept : Kept (loaded_file test) (loaded_file program) any_address plan.bounds.start plan.bounds.piece
+  pub landed : Landed (loaded_file test) (loaded_file program) any_address plan.entries
+  pub caught : Caught (loaded_file test) (loaded_file program) any_address (map range_of plan.span) plan.bounds
+  pub clean : options.sweep ≡ true → Clean (loaded_file test) (loaded_file program) any_address (map range_of plan.span) (sweep_bound (map range_of plan.span))
   pub woven : Woven input options output
   pub taken : length input ≤ limit_of FileBytes
   pub within : IsWithin woven.file.file options woven.file.blocks woven.out

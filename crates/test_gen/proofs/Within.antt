@@ -14,7 +14,7 @@ use Rattle.qed_model.specs.Numbers.{bytes_of}
 use Rattle.qed_model.specs.declared.bounds.Shape.{Shape}
 use Rattle.qed_model.specs.Machine.Loading.{load_segments, loaded_file}
 use Rattle.qed_model.specs.Machine.Program.{Program, AreStartRegs, start, zeros}
-use Rattle.qed_model.specs.Promise.Kept.{Kept, is_trapped}
+use Rattle.qed_model.specs.Promise.Kept.{any_address, Kept, is_trapped}
 use Rattle.qed_model.specs.Weave.Bounds.{start_bound, start_steps, piece_bound, piece_steps}
 use Rattle.test_gen.specs.Ends.{EndsAfter, EndsWithin, run_steps}
 use Rattle.test_gen.specs.Outputs.{HasSmallCode, IsWeavable, most_output_steps}
@@ -40,6 +40,7 @@ use Rattle.qed_model.proofs.Pairs.{Every}
 use Rattle.qed_model.proofs.PlacedWords.{size-decoded}
 use Rattle.qed_model.proofs.RangeSegments.{AreLoads}
 use Rattle.qed_model.proofs.ReadFacts.{one_file}
+use Rattle.qed_model.proofs.Steady.{steady_any}
 use Rattle.weave_core.proofs.FilesFit.{length-table}
 use Rattle.weave_core.proofs.Visit.{visit_some}
 use Rattle.weave_core.proofs.TestKept as kept
@@ -307,7 +308,7 @@ module _ (seed n x y z : ℕ) (some : 1 ≤ n) (few : n ≤ 1875) where
     abbrev shape_here : Shape
     shape_here = shape_of f default_options far
 
-    file_kept : Kept (loaded_file f) output (start_steps shape_here) (piece_steps shape_here)
+    file_kept : Kept (loaded_file f) output any_address (start_steps shape_here) (piece_steps shape_here)
     file_kept = kept.test_kept f default_options sound loads allowed bs are words new short
 
     start_few : start_steps shape_here ≤ 33
@@ -325,7 +326,7 @@ module _ (seed n x y z : ℕ) (some : 1 ≤ n) (few : n ≤ 1875) where
 
     file_output_ends : (regs : List ℕ) → AreStartRegs regs → EndsWithin (start output regs) most_output_steps
     file_output_ends regs start_regs =
-        let values = file_kept.values regs (run_steps n) start_regs (ap is_trapped input_ends.ends) in
+        let values = file_kept.values regs (run_steps n) start_regs ((steady_any (loaded_file f) (run_steps n)).1 (ap is_trapped input_ends.ends)) in
         let count = run_steps n + 1 in
         let each_piece : count * piece_steps shape_here ≡ count * 123 = ap (λ p. count * p) piece_is in
         record {

@@ -12,7 +12,7 @@ use Rattle.qed_model.specs.declared.machine.Outcome.TheVariants.{Ended}
 use Rattle.qed_model.specs.Machine.Values.{holds}
 use Rattle.qed_model.specs.Machine.Step.{State, reg, moved, stopped, Known, HasAt, step, run, jumped, imm, next_pc}
 use Rattle.qed_model.specs.Machine.Program.{Program}
-use Rattle.qed_model.specs.Promise.Kept.{NotTrapped, Kept}
+use Rattle.qed_model.specs.Promise.Kept.{NotTrapped, LeadsToReached, IsSteady, Kept}
 use Rattle.qed_model.specs.declared.item.Item.{Item}
 use Rattle.qed_model.specs.declared.item.Item.TheVariants.{Plain}
 use Rattle.qed_model.specs.Weave.Pieces.{is_run}
@@ -256,8 +256,8 @@ module _ (w : World) (most : ℕ) (checks : List Item) (first steps : ℕ) (laws
 
       stop_law :
           (c : Class) (u s : State) (i : Ins) → class_of i.kind ≡ c → At w u (leave_as w.form c i s.pc) s s → Sourced w s → w.source s.pc ≡ Known i
-          → Leaves c w leader i s.pc → NotTrapped (step s) → Left w v leader u (step s) 1
-      stop_law class.End u s i c a so h g calm = by w.form.sweep refl a where
+          → Leaves c w leader i s.pc → NotTrapped (step s) → LeadsToReached w.reached s → Left w v leader u (step s) 1
+      stop_law class.End u s i c a so h g calm leads = by w.form.sweep refl a where
         by : (b : Bool) → w.form.sweep ≡ b → At w u (cond b (sweep w.form.spans ++ compare) [] ++ (Plain i ∷ [])) s s → Left w v leader u (step s) 1
         by true is a =
             let e : step s ≡ stopped Ended s = step-end s i so.over.going (known_at w.source s i so.over h) c in
@@ -278,23 +278,23 @@ module _ (w : World) (most : ℕ) (checks : List Item) (first steps : ℕ) (laws
             }))
             x.ends
         by false is a =
-            let x = leave_law w [] (views u s) block class.End 0 i c tt a so (h, refl, tt, calm) in
+            let x = leave_law w [] (views u s) block class.End 0 i c tt a so (h, refl, tt, calm, leads) in
             ⊎_elim
             (λ e. absurd e.1)
             (λ l. inl (record { steps = x.steps; to = x.to.now; at_least = l.left.2; within = omega (arith, x.within); walk = x.walk; is = (l.left.0, λ sw. absurd (false≢true (sym is ∙ sw))) }))
             x.ends
-      stop_law class.Illegal u s i c a so h g calm = left_of u s (step s) 1 (leave_law w [] (views u s) block class.Illegal 0 i c tt a so (h, refl, tt, calm)) (λ n z l. l.left)
-      stop_law class.Jump u s i c a so h g calm = left_of u s (step s) 1 (leave_law w [] (views u s) block class.Jump 0 i c g.0 a so (h, refl, g, calm)) (λ n z l. l.left)
-      stop_law class.Branch u s i c a so h g calm = left_of u s (step s) 1 (leave_law w [] (views u s) block class.Branch ((s.pc + 4) % 2 ^ 64) i c (g.0, g.1, refl) a so (h, refl, g, calm)) (λ n z l. l.left)
-      stop_law class.JumpReg u s i c a so h g calm = left_of u s (step s) 1 (leave_law w [] (views u s) block class.JumpReg 0 i c (g.0, g.1) a so (h, refl, g, calm)) (λ n z l. l.left)
-      stop_law k u s i c a so h g calm = absurd g
+      stop_law class.Illegal u s i c a so h g calm leads = left_of u s (step s) 1 (leave_law w [] (views u s) block class.Illegal 0 i c tt a so (h, refl, tt, calm, leads)) (λ n z l. l.left)
+      stop_law class.Jump u s i c a so h g calm leads = left_of u s (step s) 1 (leave_law w [] (views u s) block class.Jump 0 i c g.0 a so (h, refl, g, calm, leads)) (λ n z l. l.left)
+      stop_law class.Branch u s i c a so h g calm leads = left_of u s (step s) 1 (leave_law w [] (views u s) block class.Branch ((s.pc + 4) % 2 ^ 64) i c (g.0, g.1, refl) a so (h, refl, g, calm, leads)) (λ n z l. l.left)
+      stop_law class.JumpReg u s i c a so h g calm leads = left_of u s (step s) 1 (leave_law w [] (views u s) block class.JumpReg 0 i c (g.0, g.1) a so (h, refl, g, calm, leads)) (λ n z l. l.left)
+      stop_law k u s i c a so h g calm leads = absurd g
 
       pub leave_row :
-          (e : End) (u s : State) → At w u (leave w.form e s.pc) s s → Sourced w s → EndStands w leader e s.pc → NotTrapped (run s (stops e))
+          (e : End) (u s : State) → At w u (leave w.form e s.pc) s s → Sourced w s → EndStands w leader e s.pc → IsSteady w.reached s (stops e)
           → Left w v leader u (run s (stops e)) (stops e)
       unfolding run
-      leave_row Falls u s a so g calm = left_of u s s 0 (fall_law w [] (views u s) block s.pc a so g refl) (λ n z l. (l.left, omega arith))
-      leave_row (Stops i) u s a so g calm = stop_law (class_of i.kind) u s i refl a so g.0 g.1 calm
+      leave_row Falls u s a so g st = left_of u s s 0 (fall_law w [] (views u s) block s.pc a so g refl) (λ n z l. (l.left, omega arith))
+      leave_row (Stops i) u s a so g st = stop_law (class_of i.kind) u s i refl a so g.0 g.1 st.no_trap (st.leads 0 (omega arith))
 
     short_law : (is : List Ins) → v.fits is ≡ true → length is ≤ v.piece_steps
     short_law is e = let h = leb-true (length is) most (and_parts _ _ e).1 in let m : 3 * most ≤ w.form.cost * most = mul-le-mul law.enough (omega arith) in omega (arith, h, m)
@@ -380,18 +380,18 @@ checks_after form xs checks m first steps quiet lock laws = record {
 pub kept_with :
     (f g : Program) (w : World) (most : ℕ) (checks : List Item) (first steps : ℕ) (blocks : List Block) → ChecksLaws w.form checks first steps
     → PlanOf f g w (weave_with w.form most checks first steps) blocks → Mirrors w
-    → Kept f g (start_steps (weave_with w.form most checks first steps)) (stage_steps (weave_with w.form most checks first steps))
+    → Kept f g w.reached (start_steps (weave_with w.form most checks first steps)) (stage_steps (weave_with w.form most checks first steps))
 kept_with f g w most checks first steps blocks laws p law = weave_kept f g w (weave_with w.form most checks first steps) blocks p (rows_with w most checks first steps laws (begins_at blocks) law) (starts_with w most checks first steps laws (begins_at blocks) f g)
 
 -- where each leader has its entry, the values are kept
 pub values_kept : ValuesKept
-values_kept f g w leader most x law = subst (λ n. Kept f g (start_of w.form) n) (omega arith) (kept f g w (weave_of w.form most) leader (woven_in w most f g leader x law))
+values_kept f g w leader most x law = subst (λ n. Kept f g w.reached (start_of w.form) n) (omega arith) (kept f g w (weave_of w.form most) leader (woven_in w most f g leader x law))
 
 -- a plan keeps the values
 pub plan_kept : PlanKept
 plan_kept f g w most blocks p law =
     let k = kept_with f g w most (both w most) 0 (both_steps w most) blocks (form_checks w.form) (new_plan w most f g blocks p) law in
-    subst (λ n. Kept f g (start_of w.form) n) (omega arith) k
+    subst (λ n. Kept f g w.reached (start_of w.form) n) (omega arith) k
 
 -- ---- the entry
 -- numbers that differ fail the test

@@ -152,13 +152,14 @@ module _ (w : World) (rest : List Item) (v : Views) (entries : (a : ℕ) → v.l
         goes false x y = y
   leave_law class.JumpReg next i c f a so g =
       let lp = leap_step w s i so g.0 c g.3 in
+      let there : w.reached (aim s i) ≡ true = ap w.reached (sym lp.pc) ∙ g.4 i so.over.going (known_at w.source s i so.over g.0) c in
       let r = aim_row w u s i a f.0 f.1 lp in
       let to = moved r.regs r.sets.pc u in
       let over = over_moved w.code u r.regs r.sets.pc a.over in
       ⊎_elim
-      (λ l. stepped 1 (omega arith) (to_entry (step s) to r.steps 5 5 1 r.sets.walk r.cursor (leap_row w to (step s) (aim s i) (g.2.3 (aim s i) l) over r.halved r.target v.leads (entries (aim s i) l) l lp.pc r.sign r.sets.reads) (omega arith) (omega (arith, r.within)) lp.sourced))
+      (λ l. stepped 1 (omega arith) (to_entry (step s) to r.steps 5 5 1 r.sets.walk r.cursor (leap_row w to (step s) (aim s i) (g.2.3 (aim s i) there l) over r.halved r.target v.leads (entries (aim s i) l) l lp.pc r.sign r.sets.reads) (omega arith) (omega (arith, r.within)) lp.sourced))
       (λ lacks. stepped 1 (omega arith) (to_none (step s) to r.steps 1 [] r.sets.walk r.cursor r.at_least (omega (arith, r.within)) (record { over = over; reads = tt; halved = r.halved }) lp.sourced (aim s i) lp.pc lacks))
-      (g.2.2 (aim s i) lp.grain)
+      (g.2.2 (aim s i) there lp.grain)
   leave_law k next i c f a so g = absurd f
 
 -- the pc of the input is the address that the leave is made for

@@ -7,7 +7,7 @@ use Rattle.qed_model.specs.Machine.Loading.{load_segments, loaded_file}
 use Rattle.qed_model.specs.Machine.Program.{Program, memory_of, start, zeros}
 use Rattle.qed_model.specs.Machine.Step.{HasAt, fetched_at, execute, jumped, computed_value}
 use Rattle.qed_model.specs.Machine.Values.{value, holds}
-use Rattle.qed_model.specs.Promise.Kept.{Halves, Kept, after_input, after_output, is_trapped, NotTrapped}
+use Rattle.qed_model.specs.Promise.Kept.{Halves, Kept, after_input, after_output, is_trapped, NotTrapped, any_address}
 use Rattle.qed_model.specs.Promise.Landed.{Landed, Fires, placed_at}
 use Rattle.qed_model.specs.Weave.Placed.{placed}
 use Rattle.qed_model.specs.Weave.Woven.{woven_file, new_items}
@@ -18,6 +18,7 @@ use Rattle.qed_model.proofs.LoopExample.{loop_plan, loop_told, loop_code, loop_k
 use Rattle.qed_model.proofs.RangeSegments.{AreLoads}
 use Rattle.qed_model.proofs.ReadLoads.{read_loads}
 use Rattle.qed_model.proofs.Walk.{run-more}
+use Rattle.qed_model.proofs.Steady.{steady_any}
 use Rattle.weave_core.specs.Tests.{IsWovenTest}
 use Rattle.weave_core.proofs.ListedRuns.{are_zeros, has_code, is_simple_run, go, run_is, state_of}
 use Rattle.weave_core.proofs.TestKept as kept
@@ -34,10 +35,10 @@ loop_input = loaded_file loop
 abbrev pub loop_output : Program
 loop_output = loaded_file (file_read (woven_file loop defaults loop_blocks loop_words.0))
 
-loop_kept : Kept loop_input loop_output 32 120
+loop_kept : Kept loop_input loop_output any_address 32 120
 loop_kept = tests_kept loop_bytes loop defaults loop_blocks loop_words.0 loop_plan loop_words.1 loop_told
 
-loop_landed : Landed loop_input loop_output loop_plan.entries
+loop_landed : Landed loop_input loop_output any_address loop_plan.entries
 loop_landed = tests_landed loop_bytes loop defaults loop_blocks loop_words.0 loop_words.1
 
 -- ---- what stands where
@@ -93,7 +94,7 @@ input_ended n l =
 -- after some steps, and not more than 872, the output has ended with what the input has at its end
 kept_end : (m : ℕ) × (m ≤ 872) × Halves loop_input (after_input loop_input 6) (after_output loop_output zeros m) × ((after_output loop_output zeros m).outcome ≡ Ended)
 kept_end =
-    let p = loop_kept.values zeros 6 are_zeros (input_ended 6 (omega arith)) in
+    let p = loop_kept.values zeros 6 are_zeros ((steady_any loop_input 6).1 (input_ended 6 (omega arith))) in
     let within = p.within in
     (p.steps, omega (arith, within), p.halves, p.ends.1 (ap (λ s. s.outcome) input_end))
 
@@ -105,4 +106,4 @@ at_entry = let e = output_run 30 refl in (ap (λ s. s.outcome) e, ap (λ s. s.pc
 -- at that of 0x1000c, the same state fires within 4 steps
 landed_wrong : Fires 4 (placed_at 0x131b0 (after_output loop_output zeros 30))
 landed_wrong =
-    loop_landed.fires zeros 30 0x10000 0x1000c 0x13078 0x131b0 are_zeros (input_ended 30 (omega arith)) (inl (refl, refl)) (inr (inr (inl (refl, refl)))) (λ e. absurd (omega (arith, e))) at_entry.0 at_entry.1
+    loop_landed.fires zeros 30 0x10000 0x1000c 0x13078 0x131b0 are_zeros ((steady_any loop_input 30).1 (input_ended 30 (omega arith))) (inl (refl, refl)) (inr (inr (inl (refl, refl)))) (λ e. absurd (omega (arith, e))) at_entry.0 at_entry.1

@@ -25,7 +25,7 @@ use Rattle.weave_core.specs.Pass.{Views, Stands, Leads, Quiet, AllLow, AllSame}
 use Rattle.weave_core.specs.Each.{items_each, ForEach, cost_each, NeedsEach, GivesEach, LeavesEach}
 use Rattle.weave_core.specs.Parts.{used, used_as, bare, original_cost, Runs, none, NeedsOriginal, GivesOriginal, LeavesOriginal, GivesMirror, LeavesMirror, NeedsChecks, GivesChecks, LeavesChecks, ForOriginal, NeedsPiece, GivesPiece, LeavesPiece, piece_items, piece_cost, Checks, Pieced}
 use Rattle.weave_core.proofs.Body.{auipc_is, spent_le}
-use Rattle.weave_core.proofs.Source.{body_step, not_trapped_front, Steady, steady_on, UsesUnwritten, clean_uses}
+use Rattle.weave_core.proofs.Source.{body_step, not_trapped_front, EqualBut, equal_on, UsesUnwritten, clean_uses}
 use Rattle.weave_core.proofs.Visit.{visit_later, checked_behind}
 use Rattle.weave_core.proofs.Trace.{none_run}
 use Rattle.weave_core.proofs.Compose.{each_same}
@@ -99,7 +99,7 @@ for_mirrors next [] at f = tt
 for_mirrors next (i ∷ is) at f = (f.0, refl, for_mirrors next is (next at) f.1)
 
 -- ---- what the input does
-same_as : (c : Class) (ws : ℕ → Bool) (i : Ins) (s s' : State) → UsesUnwritten c ws i → Steady ws s s' → AllSame (used_as c i) s s'
+same_as : (c : Class) (ws : ℕ → Bool) (i : Ins) (s s' : State) → UsesUnwritten c ws i → EqualBut ws s s' → AllSame (used_as c i) s s'
 same_as class.Load ws i s s' c st = (st i.rs1 c, tt)
 same_as class.Store ws i s s' c st = (st i.rs1 c.0, second (i.rs2 == i.rs1)) where
   second : (t : Bool) → AllSame (cond t [] (i.rs2 ∷ [])) s s'
@@ -114,7 +114,7 @@ module _ (next : ℕ → ℕ) (plus : (a : ℕ) → a + 8 ≤ 2 ^ 63 → next a 
 
   -- ---- the originals
   pub needs_originals :
-      (is : List Ins) (ws : ℕ → Bool) (at : ℕ) (v : Views) → AllFit is → is_run_after ws is ≡ true → Steady ws v.original v.shadow
+      (is : List Ins) (ws : ℕ → Bool) (at : ℕ) (v : Views) → AllFit is → is_run_after ws is ≡ true → EqualBut ws v.original v.shadow
       → Sourced w v.original → v.original.pc ≡ at → HasAt w.source v.original.pc is → NotTrapped (run v.original (length is))
       → NeedsEach next NeedsOriginal GivesOriginal is at w v
   unfolding run
@@ -131,7 +131,7 @@ module _ (next : ℕ → ℕ) (plus : (a : ℕ) → a + 8 ≤ 2 ^ 63 → next a 
             let so1 : Sourced w y.original = subst (Sourced w) (sym eo) m.sourced in
             let pc1 : y.original.pc ≡ next at = ap (λ s. s.pc) eo ∙ run_on i v.original at here h.0 m.pc in
             let h1 : HasAt w.source y.original.pc is = subst (λ s. HasAt w.source s.pc is) (sym eo) (subst (λ p. HasAt w.source p is) (sym m.pc) h.1) in
-            let st1 : Steady (and_written i ws) y.original y.shadow = subst (λ s. Steady (and_written i ws) s y.shadow) (sym eo) (subst (λ s. Steady (and_written i ws) (step v.original) s) (sym es) (steady_on w ws v.original v.shadow (step v.original) i m st)) in
+            let st1 : EqualBut (and_written i ws) y.original y.shadow = subst (λ s. EqualBut (and_written i ws) s y.shadow) (sym eo) (subst (λ s. EqualBut (and_written i ws) (step v.original) s) (sym es) (equal_on w ws v.original v.shadow (step v.original) i m st)) in
             let calm2 : NotTrapped (run y.original (length is)) = subst (λ s. NotTrapped (run s (length is))) (sym eo) calm in
             needs_originals is (and_written i ws) (next at) y f.1 clean.1 st1 so1 pc1 h1 calm2,
       )

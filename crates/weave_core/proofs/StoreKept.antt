@@ -3,7 +3,7 @@ use Rattle.std.proofs.Common.{ℕ, true, false, List, arith}
 use Rattle.qed_model.specs.Elf.FileRead.{file_read}
 use Rattle.qed_model.specs.Machine.Loading.{loaded_file}
 use Rattle.qed_model.specs.Machine.Program.{Program}
-use Rattle.qed_model.specs.Promise.Kept.{Kept}
+use Rattle.qed_model.specs.Promise.Kept.{Kept, any_address}
 use Rattle.qed_model.specs.Promise.Landed.{Landed}
 use Rattle.qed_model.specs.Weave.Woven.{woven_file}
 use Rattle.qed_model.proofs.ExampleCode.{defaults, swept, sound}
@@ -31,9 +31,9 @@ swept_output = loaded_file (file_read (woven_file store swept store_blocks swept
 
 -- ---- the promises
 -- the values are kept: 32 steps come first, and 120 are those of a piece
-pub store_kept : Kept store_input store_output 32 120
+pub store_kept : Kept store_input store_output any_address 32 120
 store_kept = tests_kept store_bytes store defaults store_blocks store_words.0 store_plan store_words.1 store_told
 
 -- a jump to a wrong entry fires
-pub store_landed : Landed store_input store_output store_plan.entries
+pub store_landed : Landed store_input store_output any_address store_plan.entries
 store_landed = tests_landed store_bytes store defaults store_blocks store_words.0 store_words.1

@@ -9,7 +9,7 @@ use Rattle.qed_model.specs.declared.machine.Outcome.TheVariants.{Ended}
 use Rattle.qed_model.specs.declared.item.Item.{Item}
 use Rattle.qed_model.specs.declared.item.Item.TheVariants.{Plain}
 use Rattle.qed_model.specs.Machine.Step.{State, reg, Known, step}
-use Rattle.qed_model.specs.Promise.Kept.{NotTrapped}
+use Rattle.qed_model.specs.Promise.Kept.{NotTrapped, LeadsToReached}
 use Rattle.qed_model.specs.Admission.DataRanges.{word_count}
 use Rattle.qed_model.specs.Weave.Sequences.{Form, leave_as, go_on, mirrored, sweep, compare}
 use Rattle.weave_core.specs.World.{World, Twice}
@@ -50,10 +50,10 @@ IsLeft class.Illegal next i at = Unit {0}
 IsLeft _ next i at = ⊥
 
 -- ---- what it needs
--- where the input goes on from the end, and that it may
+-- where the input goes on from the end, that it may, and that a JALR leads to an address that is reached
 abbrev pub GoesFrom : Class → World → (ℕ → Bool) → ℕ → Ins → ℕ → State → Type 0
 GoesFrom class.Compute w leader next i at s = Goes w leader next × (s.pc ≡ next)
-GoesFrom c w leader next i at s = (w.source at ≡ Known i) × (s.pc ≡ at) × Leaves c w leader i at × NotTrapped (step s)
+GoesFrom c w leader next i at s = (w.source at ≡ Known i) × (s.pc ≡ at) × Leaves c w leader i at × NotTrapped (step s) × LeadsToReached w.reached s
 
 -- both halves are those of one state of the input at the end of a block, from which it goes on to entries or to no code
 pub record Leaving (w : World) (next : ℕ) (i : Ins) (at : ℕ) (v : Views) : Type 0 where

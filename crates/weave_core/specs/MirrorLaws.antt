@@ -19,4 +19,4 @@ MirrorsHold = (other : Bool) (w : World) → w.form.mirror ≡ mirror_of other �
 
 -- any plan with those of other kinds keeps the values
 abbrev pub DiverseKept : Type 0
-DiverseKept = (f g : Program) (w : World) (most : ℕ) (blocks : List Block) → Plan f g w most blocks → w.form.mirror ≡ diverse → w.form.cost ≡ 8 → Kept f g (start_of w.form) (piece_of w.form most)
+DiverseKept = (f g : Program) (w : World) (most : ℕ) (blocks : List Block) → Plan f g w most blocks → w.form.mirror ≡ diverse → w.form.cost ≡ 8 → Kept f g w.reached (start_of w.form) (piece_of w.form most)

@@ -8,7 +8,7 @@ use Rattle.qed_model.specs.Machine.Memory.{byte_at}
 use Rattle.qed_model.specs.Machine.Step.{State, reg, Known, HasAt, run}
 use Rattle.qed_model.specs.Machine.Walks.{Over, Walk}
 use Rattle.qed_model.specs.Machine.Program.{Program, start, zeros, AreStartRegs}
-use Rattle.qed_model.specs.Promise.Kept.{NotTrapped}
+use Rattle.qed_model.specs.Promise.Kept.{NotTrapped, IsSteady}
 use Rattle.qed_model.specs.Promise.Changed.{IsDataWord}
 use Rattle.qed_model.specs.Weave.Halves.{Flagged}
 use Rattle.qed_model.specs.Weave.Sequences.{Reads, End, Falls, Stops, Block}
@@ -146,7 +146,7 @@ pub record Rows (w : World) (v : Weave) (leader : ℕ → Bool) : Type 0 where
       → NotTrapped (run s (length is)) → GoesTo w u (length is) v.piece_steps (Behind w v u s (length is) rest)
   pub leave :
       ((a : ℕ) → leader a ≡ true → IsEntryOf w a) → (e : End) (u s : State) → At w u (v.leave e s.pc) s s → Sourced w s
-      → EndStands w leader e s.pc → NotTrapped (run s (stops e)) → Left w v leader u (run s (stops e)) (stops e)
+      → EndStands w leader e s.pc → IsSteady w.reached s (stops e) → Left w v leader u (run s (stops e)) (stops e)
 
 -- of what runs first
 pub record Starts (f g : Program) (w : World) (v : Weave) (leader : ℕ → Bool) : Type 0 where

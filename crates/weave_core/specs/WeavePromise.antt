@@ -37,14 +37,14 @@ pub record PlanOf (f g : Program) (w : World) (v : Weave) (blocks : List Block) 
 abbrev pub WeaveKept : Type 0
 WeaveKept =
     (f g : Program) (w : World) (v : Weave) (blocks : List Block) → PlanOf f g w v blocks → Rows w v (begins_at blocks)
-    → Starts f g w v (begins_at blocks) → Kept f g (start_steps v) (stage_steps v)
+    → Starts f g w v (begins_at blocks) → Kept f g w.reached (start_steps v) (stage_steps v)
 
 -- and with those of the entry a jump to a wrong entry fires
 abbrev pub WeaveLanded : Type 0
 WeaveLanded =
     (f g : Program) (w : World) (v : Weave) (blocks : List Block) (entries : List EntryRow) → PlanOf f g w v blocks → Rows w v (begins_at blocks)
     → Starts f g w v (begins_at blocks) → Guarded w v 4
-    → ((a e : ℕ) → IsEntry entries a e → (begins_at blocks a ≡ true) × (e ≡ w.entry a)) → Landed f g entries
+    → ((a e : ℕ) → IsEntry entries a e → (begins_at blocks a ≡ true) × (e ≡ w.entry a)) → Landed f g w.reached entries
 
 -- nothing else is code
 pub record OnlyCode (f g : Program) (w : World) (v : Weave) (blocks : List Block) : Type 0 where
@@ -65,7 +65,7 @@ WeaveCaught =
     (f g : Program) (w : World) (v : Weave) (blocks : List Block) (bounds : Bounds) → PlanOf f g w v blocks → Rows w v (begins_at blocks)
     → Starts f g w v (begins_at blocks) → Words w.form.far v → OnlyCode f g w v blocks → 1 ≤ v.round
     → 2 ≤ v.leave_steps → v.compare_steps + 17 ≤ v.piece_steps
-    → BoundsOf w v bounds → Caught f g w.form.spans bounds
+    → BoundsOf w v bounds → Caught f g w.reached w.form.spans bounds
 
 -- and with the sweep no change before it is silent at the end
 abbrev pub WeaveClean : Type 0
@@ -73,4 +73,4 @@ WeaveClean =
     (f g : Program) (w : World) (v : Weave) (blocks : List Block) → PlanOf f g w v blocks → Rows w v (begins_at blocks)
     → Starts f g w v (begins_at blocks) → Words w.form.far v → OnlyCode f g w v blocks → 1 ≤ v.round → 2 ≤ v.leave_steps
     → v.compare_steps + 17 ≤ v.piece_steps → v.sweeps ≡ true
-    → Clean f g w.form.spans (v.sweep_steps + 14)
+    → Clean f g w.reached w.form.spans (v.sweep_steps + 14)

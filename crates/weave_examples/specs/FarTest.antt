@@ -12,7 +12,7 @@ use Rattle.qed_model.specs.Machine.Program.{Program}
 use Rattle.qed_model.specs.Machine.Table.{ins}
 use Rattle.qed_model.specs.Promise.Caught.{Caught}
 use Rattle.qed_model.specs.Promise.Clean.{Clean}
-use Rattle.qed_model.specs.Promise.Kept.{Kept}
+use Rattle.qed_model.specs.Promise.Kept.{any_address, Kept}
 use Rattle.qed_model.specs.Promise.Landed.{Landed}
 use Rattle.qed_model.specs.Weave.OutputFile.{has_table, piece_rows}
 use Rattle.qed_model.specs.Weave.Sequences.{Block, Stops}
@@ -160,7 +160,7 @@ pub record FarPromised : Type 0 where
   pub far : is_far_code far_test far_options far_blocks ≡ true
   pub table : has_table far_blocks ≡ true
   pub told : IsToldOf far_test far_options far_blocks far_plan
-  pub kept : Kept (loaded_file far_test) (far_output words) 67 13470
-  pub landed : Landed (loaded_file far_test) (far_output words) far_plan.entries
-  pub caught : Caught (loaded_file far_test) (far_output words) far_ranges far_plan.bounds
-  pub clean : Clean (loaded_file far_test) (far_output words) far_ranges 34
+  pub kept : Kept (loaded_file far_test) (far_output words) any_address 67 13470
+  pub landed : Landed (loaded_file far_test) (far_output words) any_address far_plan.entries
+  pub caught : Caught (loaded_file far_test) (far_output words) any_address far_ranges far_plan.bounds
+  pub clean : Clean (loaded_file far_test) (far_output words) any_address far_ranges 34

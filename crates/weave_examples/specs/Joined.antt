@@ -50,24 +50,24 @@ cut_runs (i ∷ is) = put_first i (cut_runs is)
 abbrev pub JoinedKept : (List Ins → List (List Ins)) → Type 0
 JoinedKept cut =
     (f g : Program) (w : World) (most : ℕ) (blocks : List Block) → PlanOf f g w (joined cut w.form most) blocks → Mirrors w
-    → Kept f g (start_steps (joined cut w.form most)) (stage_steps (joined cut w.form most))
+    → Kept f g w.reached (start_steps (joined cut w.form most)) (stage_steps (joined cut w.form most))
 
 abbrev pub JoinedLanded : (List Ins → List (List Ins)) → Type 0
 JoinedLanded cut =
     (f g : Program) (w : World) (most : ℕ) (blocks : List Block) (entries : List EntryRow) → PlanOf f g w (joined cut w.form most) blocks → Mirrors w
-    → ((a e : ℕ) → IsEntry entries a e → (begins_at blocks a ≡ true) × (e ≡ w.entry a)) → Landed f g entries
+    → ((a e : ℕ) → IsEntry entries a e → (begins_at blocks a ≡ true) × (e ≡ w.entry a)) → Landed f g w.reached entries
 
 abbrev pub JoinedCaught : (List Ins → List (List Ins)) → Type 0
 JoinedCaught cut =
     (f g : Program) (w : World) (most : ℕ) (blocks : List Block) (bounds : Bounds) → PlanOf f g w (joined cut w.form most) blocks → Mirrors w
     → MirrorsFit w.form.far w.form.mirror → OnlyCode f g w (joined cut w.form most) blocks → 1 ≤ w.form.round
-    → BoundsOf w (joined cut w.form most) bounds → Caught f g w.form.spans bounds
+    → BoundsOf w (joined cut w.form most) bounds → Caught f g w.reached w.form.spans bounds
 
 abbrev pub JoinedClean : (List Ins → List (List Ins)) → Type 0
 JoinedClean cut =
     (f g : Program) (w : World) (most : ℕ) (blocks : List Block) → PlanOf f g w (joined cut w.form most) blocks → Mirrors w
     → MirrorsFit w.form.far w.form.mirror → OnlyCode f g w (joined cut w.form most) blocks → 1 ≤ w.form.round → w.form.sweep ≡ true
-    → Clean f g w.form.spans ((joined cut w.form most).sweep_steps + 14)
+    → Clean f g w.reached w.form.spans ((joined cut w.form most).sweep_steps + 14)
 
 -- that the cut above keeps them, and gives runs: so each list of at most so many instructions is one piece
 abbrev pub CutsRuns : Type 0

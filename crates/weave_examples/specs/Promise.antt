@@ -29,10 +29,10 @@ with_one form most = weave_with form most (checks_of form) 1 (steps_of form)
 abbrev pub OneKept : Type 0
 OneKept =
     (f g : Program) (w : World) (most : ℕ) (blocks : List Block) → PlanOf f g w (with_one w.form most) blocks → Mirrors w
-    → Kept f g (start_steps (with_one w.form most)) (stage_steps (with_one w.form most))
+    → Kept f g w.reached (start_steps (with_one w.form most)) (stage_steps (with_one w.form most))
 
 abbrev pub OneCaught : Type 0
 OneCaught =
     (f g : Program) (w : World) (most : ℕ) (blocks : List Block) (bounds : Bounds) → PlanOf f g w (with_one w.form most) blocks → Mirrors w
     → MirrorsFit w.form.far w.form.mirror → OnlyCode f g w (with_one w.form most) blocks → 1 ≤ w.form.round
-    → BoundsOf w (with_one w.form most) bounds → Caught f g w.form.spans bounds
+    → BoundsOf w (with_one w.form most) bounds → Caught f g w.reached w.form.spans bounds

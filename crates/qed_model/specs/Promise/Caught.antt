@@ -1,10 +1,10 @@
 -- What is promised of the output's run with changes: within the bound it is found out, or has ended, or nothing of it is left.
-use Rattle.std.specs.Prelude.{◌≡◌, ℕ, ◌+◌, ◌≤◌, ◌⊎◌, cond, List, [], ◌∷◌, Option, Some}
+use Rattle.std.specs.Prelude.{◌≡◌, ℕ, ◌+◌, ◌≤◌, ◌⊎◌, Bool, cond, List, [], ◌∷◌, Option, Some}
 use Rattle.qed_model.specs.declared.change.Change.{Change}
 use Rattle.qed_model.specs.declared.bounds.Bounds.{Bounds}
 use Rattle.qed_model.specs.declared.machine.Outcome.TheVariants.{Going, Ended, Fired}
 use Rattle.qed_model.specs.Machine.Step.{State}
-use Rattle.qed_model.specs.Promise.Kept.{after_input, after_output, NotTrapped}
+use Rattle.qed_model.specs.Promise.Kept.{after_output, Steady}
 use Rattle.qed_model.specs.Machine.Program.{Program, start, AreStartRegs}
 use Rattle.qed_model.specs.Promise.Closed.{IsOpen}
 use Rattle.qed_model.specs.Promise.Changed.{changed_run, Ordered, last_step, has_word, IsOriginal, SameOriginal}
@@ -29,9 +29,9 @@ pub record Settles (spans : List (ℕ × ℕ)) (t b : ℕ) (changed unchanged : 
   pub within : steps ≤ t + b
   pub settled : ((changed steps).outcome ≡ Fired) ⊎ (((changed steps).outcome ≡ Ended) ⊎ ((t ≤ steps) × Same spans (changed steps) (unchanged steps)))
 
--- for any registers of the output's start and any changes of original places that are open, as far as the input's run does not trap
-pub record Caught (f g : Program) (spans : List (ℕ × ℕ)) (bounds : Bounds) : Type 0 where
+-- for any registers of the output's start and any changes of original places that are open, as far as the input's run is steady
+pub record Caught (f g : Program) (reached : ℕ → Bool) (spans : List (ℕ × ℕ)) (bounds : Bounds) : Type 0 where
   pub settles : (regs : List ℕ) (cs : List Change) (b : ℕ) →
       AreStartRegs regs → Ordered cs → AllOpen spans (after_output g regs) cs → bound_of bounds cs ≡ Some b →
-      NotTrapped (after_input f (last_step cs + b)) → (after_output g regs (last_step cs)).outcome ≡ Going →
+      Steady f reached (last_step cs + b) → (after_output g regs (last_step cs)).outcome ≡ Going →
       Settles spans (last_step cs) b (changed_run (start g regs) cs) (after_output g regs)

@@ -1,9 +1,12 @@
 -- What is promised of the input's run and the output's run: the input's values are kept, and no check fires.
-use Rattle.std.specs.Prelude.{◌≡◌, ◌≢◌, ℕ, ◌+◌, ◌*◌, ◌≤◌, ◌↔◌, Bool, true, false, List, is_some}
+use Rattle.std.specs.Prelude.{◌≡◌, ◌≢◌, ℕ, ◌+◌, ◌*◌, ◌<◌, ◌≤◌, ◌↔◌, Bool, true, false, List, is_some}
 use Rattle.std.specs.FinMap.{get}
+use Rattle.rv_isa.specs.declared.ins.Ins.{Ins}
+use Rattle.rv_isa.specs.declared.class.Class.TheVariants as class
+use Rattle.rv_isa.specs.Kind.{class_of}
 use Rattle.qed_model.specs.declared.machine.Outcome.{Outcome}
-use Rattle.qed_model.specs.declared.machine.Outcome.TheVariants.{Ended, Fired, Trapped}
-use Rattle.qed_model.specs.Machine.Step.{State, reg, run}
+use Rattle.qed_model.specs.declared.machine.Outcome.TheVariants.{Going, Ended, Fired, Trapped}
+use Rattle.qed_model.specs.Machine.Step.{State, reg, Known, next, step, run}
 use Rattle.qed_model.specs.Machine.Memory.{byte_at}
 use Rattle.qed_model.specs.Machine.Program.{Program, memory_of, start, zeros, AreStartRegs}
 
@@ -23,6 +26,24 @@ is_trapped _ = false
 -- the run goes on, has ended, or a check fired
 abbrev pub NotTrapped : State → Type 0
 NotTrapped s = is_trapped s.outcome ≡ false
+
+-- ---- what is asked of the input's run
+-- where a state goes on at a JALR, its step leads to an address that is reached
+abbrev pub LeadsToReached : (ℕ → Bool) → State → Type 0
+LeadsToReached reached s = (i : Ins) → s.outcome ≡ Going → next s ≡ Known i → class_of i.kind ≡ class.JumpReg → reached (step s).pc ≡ true
+
+-- n steps of a run do not trap, and each JALR among them leads to an address that is reached
+pub record IsSteady (reached : ℕ → Bool) (s : State) (n : ℕ) : Type 0 where
+  pub no_trap : NotTrapped (run s n)
+  pub leads : (k : ℕ) → k < n → LeadsToReached reached (run s k)
+
+-- so are the first n of the input
+abbrev pub Steady : Program → (ℕ → Bool) → ℕ → Type 0
+Steady f reached n = IsSteady reached (start f zeros) n
+
+-- each address is reached, so a run is steady where it does not trap
+abbrev pub any_address : ℕ → Bool
+any_address a = true
 
 -- ---- the halves
 -- the input has a byte at the address
@@ -51,8 +72,8 @@ pub record NoFalseAlarm (f g : Program) (m : ℕ) (regs : List ℕ) : Type 0 whe
   pub no_trap : NotTrapped (after_output g regs m)
   pub ended : (after_output g regs m).outcome ≡ Ended → ((after_input f m).outcome ≡ Ended) × Halves f (after_input f m) (after_output g regs m)
 
--- both, for any registers of the output's start, and as far as the input's run does not trap; `first` is the bound of what runs
+-- both, for any registers of the output's start, and as far as the input's run is steady; `first` is the bound of what runs
 -- first, and `bound` that of a piece, in steps
-pub record Kept (f g : Program) (first bound : ℕ) : Type 0 where
-  pub values : (regs : List ℕ) (n : ℕ) → AreStartRegs regs → NotTrapped (after_input f n) → Preserved f g first bound n regs
-  pub quiet : (regs : List ℕ) (m : ℕ) → AreStartRegs regs → NotTrapped (after_input f m) → NoFalseAlarm f g m regs
+pub record Kept (f g : Program) (reached : ℕ → Bool) (first bound : ℕ) : Type 0 where
+  pub values : (regs : List ℕ) (n : ℕ) → AreStartRegs regs → Steady f reached n → Preserved f g first bound n regs
+  pub quiet : (regs : List ℕ) (m : ℕ) → AreStartRegs regs → Steady f reached m → NoFalseAlarm f g m regs

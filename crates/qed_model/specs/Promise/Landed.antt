@@ -1,9 +1,9 @@
 -- What is promised of jumps that land wrong: an entry that is reached with the signature of another one fires.
-use Rattle.std.specs.Prelude.{◌≡◌, ◌≢◌, ℕ, ◌≤◌, ◌⊎◌, List, [], ◌∷◌}
+use Rattle.std.specs.Prelude.{◌≡◌, ◌≢◌, ℕ, ◌≤◌, ◌⊎◌, Bool, List, [], ◌∷◌}
 use Rattle.qed_model.specs.declared.machine.Outcome.TheVariants.{Going, Fired}
 use Rattle.qed_model.specs.declared.plan.EntryRow.{EntryRow}
 use Rattle.qed_model.specs.Machine.Step.{State, moved, run}
-use Rattle.qed_model.specs.Promise.Kept.{after_input, after_output, NotTrapped}
+use Rattle.qed_model.specs.Promise.Kept.{after_output, Steady}
 use Rattle.qed_model.specs.Machine.Program.{Program, AreStartRegs}
 
 -- the input address a has its entry at e
@@ -21,9 +21,9 @@ pub record Fires (most : ℕ) (s : State) : Type 0 where
 abbrev pub placed_at : ℕ → State → State
 placed_at pc s = moved s.regs pc s
 
--- for any registers of the output's start, and as far as the input's run does not trap: where the output stands at the entry of an
--- address, the same state at the entry of another fires within 4 steps
-pub record Landed (f g : Program) (entries : List EntryRow) : Type 0 where
+-- for any registers of the output's start, and as far as the input's run is steady: where the output stands at the entry of an address,
+-- the same state at the entry of another fires within 4 steps
+pub record Landed (f g : Program) (reached : ℕ → Bool) (entries : List EntryRow) : Type 0 where
   pub fires :
-      (regs : List ℕ) (t a c here there : ℕ) → AreStartRegs regs → NotTrapped (after_input f t) → IsEntry entries a here → IsEntry entries c there → a ≢ c
+      (regs : List ℕ) (t a c here there : ℕ) → AreStartRegs regs → Steady f reached t → IsEntry entries a here → IsEntry entries c there → a ≢ c
       → (after_output g regs t).outcome ≡ Going → (after_output g regs t).pc ≡ here → Fires 4 (placed_at there (after_output g regs t))

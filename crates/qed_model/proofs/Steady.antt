@@ -1,0 +1,14 @@
+-- Where each address is reached, a run is steady exactly where it does not trap; so the promises have no other premise then.
+use Rattle.std.proofs.Common.{ℕ, ◌↔◌, List, refl}
+use Rattle.qed_model.specs.Machine.Program.{Program, AreStartRegs}
+use Rattle.qed_model.specs.Promise.Kept.{after_input, NotTrapped, Steady, any_address, Preserved, NoFalseAlarm, Kept}
+
+-- both ways
+pub steady_any : (f : Program) (n : ℕ) → Steady f any_address n ↔ NotTrapped (after_input f n)
+steady_any f n = (λ s. s.no_trap, λ h. record { no_trap = h; leads = λ k l i going at jumps. refl })
+
+-- the values are kept, and there is no false alarm, as far as the input does not trap
+pub kept_any :
+    (f g : Program) (first bound : ℕ) → Kept f g any_address first bound → (regs : List ℕ) (n : ℕ) → AreStartRegs regs → NotTrapped (after_input f n)
+    → Preserved f g first bound n regs × NoFalseAlarm f g n regs
+kept_any f g first bound k regs n are h = let s = (steady_any f n).1 h in (k.values regs n are s, k.quiet regs n are s)
