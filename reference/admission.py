@@ -189,21 +189,75 @@ def is_end(instruction: isa.Instruction) -> bool:
     return instruction.group in ("branch", "jal", "jalr", "ecall", "zero")
 
 
+def named(file: File) -> Set[int]:
+    """The addresses that symbols and relocations name ("Blocks and pieces")."""
+    found = {s.value for s in file.symbols if s.shndx != 0 and s.type in (STT_NOTYPE, STT_FUNC)}
+    for relocation in file.relocations:
+        if relocation.type in RELOCATIONS_OF_LEADERS:
+            found.add(file.symbols[relocation.symbol].value + relocation.addend & WORD)
+    return found
+
+
 def leaders(test: Test) -> Set[int]:
     """The leaders ("Blocks and pieces")."""
-    found = {test.file.entry}
+    found = {test.file.entry} | named(test.file)
     for address, i in test.code.items():
         if i.group in ("branch", "jal"):
             found.add(address + i.imm & WORD)
         if is_end(i):
             found.add(address + 4 & WORD)
-    for symbol in test.file.symbols:
-        if symbol.shndx != 0 and symbol.type in (STT_NOTYPE, STT_FUNC):
-            found.add(symbol.value)
-    for relocation in test.file.relocations:
-        if relocation.type in RELOCATIONS_OF_LEADERS:
-            found.add(test.file.symbols[relocation.symbol].value + relocation.addend & WORD)
     return {address for address in found if address in test.code}
+
+
+# Reached addresses
+
+REACH = 16  # how many words behind a LUI or AUIPC are looked at
+
+
+def _constants(test: Test) -> Set[int]:
+    """What LUI and AUIPC make, with at most two immediates more ("Reached addresses")."""
+    code, found = list(test.code.items()), set()
+    for number, (address, i) in enumerate(code):
+        if i.group != "upper":
+            continue
+        near = [j for _, j in code[number + 1:number + 1 + REACH] if j.name in ("addi", "addiw", "jalr")]
+        made = {(i.rd, (address if i.name == "auipc" else 0) + i.imm & WORD)}
+        for _ in range(2):
+            made |= {(j.rd, value + j.imm & WORD) for register, value in made for j in near if j.rs1 == register}
+        found.update(value for _, value in made)
+    return found
+
+
+def _of_tables(test: Test, constants: Set[int]) -> Set[int]:
+    """Where tables of distances lead, each from a constant on as long as it leads to code ("Reached addresses")."""
+    found = set()
+    for constant in constants:
+        for segment in test.image:
+            for offset in range(constant - segment.vaddr, len(segment.data) - 3, 4) if constant >= segment.vaddr else ():
+                target = constant + isa.signed(int.from_bytes(segment.data[offset:offset + 4], "little"), 32) & WORD
+                if target not in test.code:
+                    break
+                found.add(target)
+    return found
+
+
+def _of_words(test: Test) -> Set[int]:
+    """The addresses of the image whose low 32 bits an aligned word of a segment has ("Reached addresses")."""
+    found = set()
+    for segment in test.image:
+        for offset in range(-segment.vaddr % 4, len(segment.data) - 3, 4):
+            word = int.from_bytes(segment.data[offset:offset + 4], "little")
+            found.add(test.base + (word - test.base) % (1 << 32))
+    return found
+
+
+def reached(test: Test) -> Set[int]:
+    """The code addresses to which a jump by register may lead ("Reached addresses")."""
+    found = {test.file.entry} | named(test.file)
+    found |= {address + 4 for address, i in test.code.items() if i.group in ("jal", "jalr") and i.rd != 0}
+    constants = _constants(test)
+    found |= constants | _of_tables(test, constants) | _of_words(test)
+    return found & test.code.keys()
 
 
 @dataclass

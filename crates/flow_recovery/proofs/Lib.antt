@@ -1,3 +1,4 @@
 pub mod SetLaws
 pub mod CodeLaws
 pub mod LeaderLaws
+pub mod ReachLaws
