@@ -211,20 +211,27 @@ def leaders(test: Test) -> Set[int]:
 
 # Reached addresses
 
-REACH = 16  # how many words behind a LUI or AUIPC are looked at
+NEAR = 16  # how many words behind the one that makes a constant are looked at
+GP = 3
+
+
+def _is_sum(instruction: isa.Instruction) -> bool:
+    """Whether an instruction adds its immediate to rs1 ("Reached addresses")."""
+    return instruction.name in ("addi", "addiw", "jalr")
 
 
 def _constants(test: Test) -> Set[int]:
-    """What LUI and AUIPC make, with at most two immediates more ("Reached addresses")."""
+    """What LUI and AUIPC make, and additions to x0, with at most two immediates more ("Reached addresses")."""
     code, found = list(test.code.items()), set()
+    sums = [i for _, i in code if _is_sum(i)]
     for number, (address, i) in enumerate(code):
-        if i.group != "upper":
-            continue
-        near = [j for _, j in code[number + 1:number + 1 + REACH] if j.name in ("addi", "addiw", "jalr")]
-        made = {(i.rd, (address if i.name == "auipc" else 0) + i.imm & WORD)}
-        for _ in range(2):
-            made |= {(j.rd, value + j.imm & WORD) for register, value in made for j in near if j.rs1 == register}
-        found.update(value for _, value in made)
+        if i.group == "upper" or _is_sum(i) and i.rs1 == 0:
+            near = [j for _, j in code[number + 1:number + 1 + NEAR]]
+            value = (address if i.name == "auipc" else 0) + i.imm & WORD
+            once = {(j.rd, value + j.imm & WORD) for j in near if _is_sum(j) and j.rs1 == i.rd}
+            found |= {value} | {made for _, made in once}
+            found |= {made + j.imm & WORD for register, made in once for j in (sums if register == GP else near)
+                      if _is_sum(j) and j.rs1 == register}
     return found
 
 

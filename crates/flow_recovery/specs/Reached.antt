@@ -71,6 +71,12 @@ abbrev pub is_by_table : Test → ℕ → ℕ → Segment → Bool
 is_by_table t base a s = is_in_table (map range_of t.ranges) base a (words_in (bytes_from base s))
 
 -- ---- constants
+-- LUI and AUIPC
+abbrev pub is_upper : Kind → Bool
+is_upper Lui = true
+is_upper Auipc = true
+is_upper _ = false
+
 -- the constant is the address, or a table stands there that leads to it
 unfoldable pub leads : Test → ℕ → ℕ → Bool
 leads t value a = (value == a) || list_any (is_by_table t value a) t.segments
@@ -93,26 +99,29 @@ sum_leads t register value a d = adds_to register d.ins && leads t (target d.ins
 unfoldable pub once : Test → List CodeWord → ℕ → ℕ → ℕ → Bool
 once t near register value a = leads t value a || list_any (sum_leads t register value a) near
 
+-- the words near by; of x3, the global pointer, which is set once (RISC-V psABI), all words
+abbrev pub near_by : Test → List CodeWord → ℕ → List CodeWord
+near_by t near register = cond (register == 3) t.code near
+
 -- or with the immediates of two
 abbrev pub sums_lead : Test → List CodeWord → ℕ → ℕ → ℕ → CodeWord → Bool
-sums_lead t near register value a d = adds_to register d.ins && once t near d.ins.rd (target d.ins value) a
+sums_lead t near register value a d = adds_to register d.ins && once t (near_by t near d.ins.rd) d.ins.rd (target d.ins value) a
 
 unfoldable pub twice : Test → List CodeWord → ℕ → ℕ → ℕ → Bool
 twice t near register value a = leads t value a || list_any (sums_lead t near register value a) near
 
--- what LUI and AUIPC make
-abbrev pub is_upper : Kind → Bool
-is_upper Lui = true
-is_upper Auipc = true
-is_upper _ = false
+-- LUI, AUIPC, and an addition to x0, into which linkers turn the other two where an address is small
+abbrev pub makes_constant : Ins → Bool
+makes_constant i = is_upper i.kind || adds_to 0 i
 
-abbrev pub upper : Kind → CodeWord → ℕ
-upper Auipc c = target c.ins c.at
-upper _ c = imm c.ins
+-- what such a word makes
+abbrev pub constant : Kind → CodeWord → ℕ
+constant Auipc c = target c.ins c.at
+constant _ c = imm c.ins
 
--- the word is LUI or AUIPC, and its constant leads to the address, by at most two of the words near it
-abbrev pub made_by : Test → List CodeWord → CodeWord → ℕ → Bool
-made_by t near c a = is_upper c.ins.kind && twice t near c.ins.rd (upper c.ins.kind c) a
+-- the word makes a constant that leads to the address, by at most two of the words near it
+unfoldable pub made_by : Test → List CodeWord → CodeWord → ℕ → Bool
+made_by t near c a = makes_constant c.ins && twice t near c.ins.rd (constant c.ins.kind c) a
 
 -- a word of these does, where the 16 words behind each are near it
 abbrev pub is_made : Test → ℕ → List CodeWord → Bool

@@ -1,9 +1,9 @@
-//! Addresses that LUI and AUIPC make, with at most two immediates more.
+//! Addresses that LUI, AUIPC and additions to x0 make, with at most two immediates more.
 ghost use Rattle.std.specs.Prelude.{◌≡◌, ◌==◌, ◌&&◌, ◌||◌, ◌+◌, ◌%◌, ◌^◌, take, cond, Some, None, OnOk};
 ghost use Rattle.std.specs.List.{list_any};
 ghost use Rattle.qed_model.specs.Machine.Step.{target, imm};
 ghost use Rattle.flow_recovery.specs.Sets.{Adds};
-ghost use Rattle.flow_recovery.specs.Reached.{leads, is_sum, adds_to, sum_leads, once, sums_lead, twice, is_upper, upper, made_by, is_made};
+ghost use Rattle.flow_recovery.specs.Reached.{leads, is_sum, adds_to, sum_leads, once, sums_lead, near_by, twice, is_upper, makes_constant, constant, made_by, is_made};
 
 use crate::data::add_tables;
 use crate::sets::add;
@@ -12,8 +12,11 @@ use qed_model::{CodeWord, Test};
 use rv_isa::{Ins, Kind, Reg};
 use std::alloc::AllocError;
 
-/// How many words behind a LUI or AUIPC are looked at.
+/// How many words behind the one that makes a constant are looked at.
 const NEAR: usize = 16;
+
+/// The global pointer, which is set once (RISC-V psABI, register convention).
+const GP: u8 = 3;
 
 /// Adds a constant, and where tables of distances from it lead.
 fn add_constant(list: &mut Vec<u64>, test: &Test, value: u64) -> Result<(), AllocError>
@@ -34,11 +37,11 @@ fn is_sum(kind: Kind) -> bool
     }
 }
 
-/// Whether an instruction adds its immediate to this register.
-fn adds_to(register: Reg, ins: &Ins) -> bool
+/// Whether an instruction adds its immediate to the register of this number.
+fn adds_to(register: u8, ins: &Ins) -> bool
     ensures { result ≡ adds_to register ins.now }
 {
-    is_sum(ins.kind) && ins.rs1.number() == register.number()
+    is_sum(ins.kind) && ins.rs1.number() == register
 }
 
 /// Adds what a word makes of a register's value.
@@ -51,7 +54,7 @@ fn add_sum(
 ) -> Result<(), AllocError>
     ensures { OnOk result (Adds list.old.items list.new.items (λ a. sum_leads test.now register value a word.now)) }
 {
-    if adds_to(register, &word.ins) {
+    if adds_to(register.number(), &word.ins) {
         add_constant(list, test, target_from(&word.ins, value))?;
     }
     Ok(())
@@ -74,6 +77,17 @@ fn add_once(
     Ok(())
 }
 
+/// The words near by; of the global pointer, all words of the code.
+fn near_by<'a>(test: &'a Test, near: &'a [CodeWord], register: Reg) -> &'a [CodeWord]
+    ensures { result.now ≡ near_by test.now near.now register }
+{
+    if register.number() == GP {
+        test.code.as_slice()
+    } else {
+        near
+    }
+}
+
 /// Adds what a word, and one more near by, make of a register's value.
 fn add_sums(
     list: &mut Vec<u64>,
@@ -85,7 +99,8 @@ fn add_sums(
 ) -> Result<(), AllocError>
     ensures { OnOk result (Adds list.old.items list.new.items (λ a. sums_lead test.now near.now register value a word.now)) }
 {
-    if adds_to(register, &word.ins) {
+    if adds_to(register.number(), &word.ins) {
+        let near = near_by(test, near, word.ins.rd);
         add_once(list, test, near, word.ins.rd, target_from(&word.ins, value))?;
     }
     Ok(())
@@ -108,18 +123,35 @@ fn add_twice(
     Ok(())
 }
 
-/// The constant that a LUI or AUIPC makes.
-fn upper(word: &CodeWord) -> Option<u64>
-    ensures { result ≡ cond (is_upper word.now.ins.kind) (Some (upper word.now.ins.kind word.now)) None }
+/// Whether a kind makes a constant of its own: LUI and AUIPC.
+fn is_upper(kind: Kind) -> bool
+    ensures { result ≡ is_upper kind }
+{
+    match kind {
+        Kind::Lui | Kind::Auipc => true,
+        _ => false,
+    }
+}
+
+/// Whether an instruction makes a constant: LUI, AUIPC, and an addition to x0.
+fn makes_constant(ins: &Ins) -> bool
+    ensures { result ≡ makes_constant ins.now }
+{
+    is_upper(ins.kind) || adds_to(0, ins)
+}
+
+/// The constant that such a word makes.
+fn constant(word: &CodeWord) -> u64
+    ensures { result ≡ constant word.now.ins.kind word.now }
 {
     match word.ins.kind {
-        Kind::Lui => Some(word.ins.imm.cast_unsigned()),
-        Kind::Auipc => Some(target_from(&word.ins, word.at)),
-        _ => None,
+        Kind::Auipc => target_from(&word.ins, word.at),
+        _ => word.ins.imm.cast_unsigned(),
     }
 }
 
 /// Adds the constants that a word makes with those near it.
+#[tactic(auto, unfolding(crate::specs::Reached::made_by))]
 fn add_made(
     list: &mut Vec<u64>,
     test: &Test,
@@ -128,8 +160,8 @@ fn add_made(
 ) -> Result<(), AllocError>
     ensures { OnOk result (Adds list.old.items list.new.items (made_by test.now near.now word.now)) }
 {
-    if let Some(value) = upper(word) {
-        add_twice(list, test, near, word.ins.rd, value)?;
+    if makes_constant(&word.ins) {
+        add_twice(list, test, near, word.ins.rd, constant(word))?;
     }
     Ok(())
 }
