@@ -2,3 +2,4 @@ pub mod SetLaws
 pub mod CodeLaws
 pub mod LeaderLaws
 pub mod ReachLaws
+pub mod ReachExample
