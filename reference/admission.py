@@ -226,12 +226,12 @@ def _constants(test: Test) -> Set[int]:
     sums = [i for _, i in code if _is_sum(i)]
     for number, (address, i) in enumerate(code):
         if i.group == "upper" or _is_sum(i) and i.rs1 == 0:
-            near = [j for _, j in code[number + 1:number + 1 + NEAR]]
+            near = [j for _, j in code[number + 1:number + 1 + NEAR] if _is_sum(j) and j.rs1 != 0]
             value = (address if i.name == "auipc" else 0) + i.imm & WORD
-            once = {(j.rd, value + j.imm & WORD) for j in near if _is_sum(j) and j.rs1 == i.rd}
+            once = {(j.rd, value + j.imm & WORD) for j in near if j.rs1 == i.rd}
             found |= {value} | {made for _, made in once}
             found |= {made + j.imm & WORD for register, made in once for j in (sums if register == GP else near)
-                      if _is_sum(j) and j.rs1 == register}
+                      if j.rs1 == register}
     return found
 
 

@@ -99,9 +99,13 @@ sum_leads t register value a d = adds_to register d.ins && leads t (target d.ins
 unfoldable pub once : Test → List CodeWord → ℕ → ℕ → ℕ → Bool
 once t near register value a = leads t value a || list_any (sum_leads t register value a) near
 
--- the words near by; of x3, the global pointer, which is set once (RISC-V psABI), all words
+-- the words near by that may use a register: of x0, which holds no value, none
+abbrev pub users : ℕ → List CodeWord → List CodeWord
+users register near = cond (register == 0) [] near
+
+-- of x3, the global pointer, which is set once (RISC-V psABI), all words
 abbrev pub near_by : Test → List CodeWord → ℕ → List CodeWord
-near_by t near register = cond (register == 3) t.code near
+near_by t near register = cond (register == 3) t.code (users register near)
 
 -- or with the immediates of two
 abbrev pub sums_lead : Test → List CodeWord → ℕ → ℕ → ℕ → CodeWord → Bool
@@ -121,7 +125,7 @@ constant _ c = imm c.ins
 
 -- the word makes a constant that leads to the address, by at most two of the words near it
 unfoldable pub made_by : Test → List CodeWord → CodeWord → ℕ → Bool
-made_by t near c a = makes_constant c.ins && twice t near c.ins.rd (constant c.ins.kind c) a
+made_by t near c a = makes_constant c.ins && twice t (users c.ins.rd near) c.ins.rd (constant c.ins.kind c) a
 
 -- a word of these does, where the 16 words behind each are near it
 abbrev pub is_made : Test → ℕ → List CodeWord → Bool

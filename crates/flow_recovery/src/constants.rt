@@ -3,7 +3,7 @@ ghost use Rattle.std.specs.Prelude.{◌≡◌, ◌==◌, ◌&&◌, ◌||◌, ◌
 ghost use Rattle.std.specs.List.{list_any};
 ghost use Rattle.qed_model.specs.Machine.Step.{target, imm};
 ghost use Rattle.flow_recovery.specs.Sets.{Adds};
-ghost use Rattle.flow_recovery.specs.Reached.{leads, is_sum, adds_to, sum_leads, once, sums_lead, near_by, twice, is_upper, makes_constant, constant, made_by, is_made};
+ghost use Rattle.flow_recovery.specs.Reached.{leads, is_sum, adds_to, sum_leads, once, sums_lead, users, near_by, twice, is_upper, makes_constant, constant, made_by, is_made};
 
 use crate::data::add_tables;
 use crate::sets::add;
@@ -77,14 +77,21 @@ fn add_once(
     Ok(())
 }
 
-/// The words near by; of the global pointer, all words of the code.
+/// The words near by that may use a register: of x0 none.
+fn users(register: Reg, near: &[CodeWord]) -> &[CodeWord]
+    ensures { result.now ≡ users register near.now }
+{
+    if register.number() == 0 { &[] } else { near }
+}
+
+/// The same; of the global pointer all words of the code.
 fn near_by<'a>(test: &'a Test, near: &'a [CodeWord], register: Reg) -> &'a [CodeWord]
     ensures { result.now ≡ near_by test.now near.now register }
 {
     if register.number() == GP {
         test.code.as_slice()
     } else {
-        near
+        users(register, near)
     }
 }
 
@@ -161,6 +168,7 @@ fn add_made(
     ensures { OnOk result (Adds list.old.items list.new.items (made_by test.now near.now word.now)) }
 {
     if makes_constant(&word.ins) {
+        let near = users(word.ins.rd, near);
         add_twice(list, test, near, word.ins.rd, constant(word))?;
     }
     Ok(())
