@@ -1,6 +1,6 @@
 -- Reached addresses: the code addresses to which a jump by register may lead, as far as the file shows. The form is this project's own:
 -- more addresses than a run uses do no harm.
-use Rattle.std.specs.Prelude.{ℕ, ◌+◌, ◌-◌, ◌*◌, ◌%◌, ◌^◌, ◌==◌, ◌&&◌, ◌||◌, not, nat_lt, nat_le, cond, Bool, true, false, List, [], ◌∷◌, map, take, drop, min, length}
+use Rattle.std.specs.Prelude.{ℕ, ◌+◌, ◌-◌, ◌*◌, ◌%◌, ◌^◌, ◌==◌, ◌&&◌, ◌||◌, not, nat_lt, nat_le, cond, Bool, true, false, List, [], ◌∷◌, map, take, drop}
 use Rattle.std.specs.List.{list_any}
 use Rattle.elf_types.specs.declared.file.Segment.{Segment}
 use Rattle.elf_types.specs.declared.file.ElfFile.{ElfFile}
@@ -35,13 +35,9 @@ abbrev pub words_in : List ℕ → List ℕ
 words_in (first ∷ second ∷ third ∷ fourth ∷ bytes) = (first + 256 * (second + 256 * (third + 256 * fourth))) ∷ words_in bytes
 words_in _ = []
 
--- the bytes from a number on
-abbrev pub rest_of : ℕ → List ℕ → List ℕ
-rest_of n bytes = drop (min n (length bytes)) bytes
-
 -- the words of the segment's bytes in the file that stand at multiples of 4
 abbrev pub data_words : Segment → List ℕ
-data_words s = words_in (rest_of ((4 - s.address % 4) % 4) s.bytes)
+data_words s = words_in (drop ((4 - s.address % 4) % 4) s.bytes)
 
 -- how far from a base on the first address is that has a word as its low 32 bits
 abbrev pub offset_of : ℕ → ℕ → ℕ
@@ -64,7 +60,7 @@ is_in_table ranges base a (w ∷ ws) =
 
 -- the segment's bytes from an address on
 abbrev pub bytes_from : ℕ → Segment → List ℕ
-bytes_from a s = cond (nat_le s.address a) (rest_of (a - s.address) s.bytes) []
+bytes_from a s = cond (nat_le s.address a) (drop (a - s.address) s.bytes) []
 
 -- a table at the base leads to the address
 abbrev pub is_by_table : Test → ℕ → ℕ → Segment → Bool

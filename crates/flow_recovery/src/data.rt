@@ -1,11 +1,11 @@
 //! Addresses that stand in the bytes of the segments: alone, and as distances in tables.
-ghost use Rattle.std.specs.Prelude.{◌≡◌, ℕ, ◌+◌, ◌*◌, ◌-◌, ◌%◌, ◌^◌, ◌<◌, ◌==◌, ◌&&◌, ◌||◌, List, map, OnOk};
+ghost use Rattle.std.specs.Prelude.{◌≡◌, ℕ, ◌+◌, ◌*◌, ◌-◌, ◌%◌, ◌^◌, ◌<◌, ◌==◌, ◌&&◌, ◌||◌, List, map, drop, OnOk};
 ghost use Rattle.std.specs.List.{list_any};
 ghost use Rattle.qed_model.specs.Machine.Values.{word as extended};
 ghost use Rattle.qed_model.specs.Admission.DataRanges.{is_in, range_of};
 ghost use Rattle.qed_model.specs.Admission.Terms.{is_in_any, is_code_address};
 ghost use Rattle.flow_recovery.specs.Sets.{Adds};
-ghost use Rattle.flow_recovery.specs.Reached.{words_in, rest_of, offset_of, is_low_half, is_in_data, is_in_table, bytes_from, is_by_table};
+ghost use Rattle.flow_recovery.specs.Reached.{words_in, offset_of, is_low_half, is_in_data, is_in_table, bytes_from, is_by_table};
 
 use crate::sets::add;
 use elf_types::Segment;
@@ -23,11 +23,16 @@ fn word_of(first: u8, second: u8, third: u8, fourth: u8) -> u64
 }
 
 /// The bytes from a number on, none where it is too great.
+#[tactic(auto, using(std::proofs::lemmas::List::drop_all))]
 fn rest_of(bytes: &[u8], number: u64) -> &[u8]
-    ensures { result.now ≡ rest_of number bytes.now }
+    ensures { result.now ≡ drop number bytes.now }
 {
-    let skipped = (number as usize).min(bytes.len());
-    &bytes[skipped..]
+    let skipped = number as usize;
+    if skipped < bytes.len() {
+        &bytes[skipped..]
+    } else {
+        &[]
+    }
 }
 
 /// How far from a base on the first address is that has the word as its low 32 bits.
