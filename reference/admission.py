@@ -189,21 +189,82 @@ def is_end(instruction: isa.Instruction) -> bool:
     return instruction.group in ("branch", "jal", "jalr", "ecall", "zero")
 
 
+def named(file: File) -> Set[int]:
+    """The addresses that symbols and relocations name ("Blocks and pieces")."""
+    found = {s.value for s in file.symbols if s.shndx != 0 and s.type in (STT_NOTYPE, STT_FUNC)}
+    for relocation in file.relocations:
+        if relocation.type in RELOCATIONS_OF_LEADERS:
+            found.add(file.symbols[relocation.symbol].value + relocation.addend & WORD)
+    return found
+
+
 def leaders(test: Test) -> Set[int]:
     """The leaders ("Blocks and pieces")."""
-    found = {test.file.entry}
+    found = {test.file.entry} | named(test.file)
     for address, i in test.code.items():
         if i.group in ("branch", "jal"):
             found.add(address + i.imm & WORD)
         if is_end(i):
             found.add(address + 4 & WORD)
-    for symbol in test.file.symbols:
-        if symbol.shndx != 0 and symbol.type in (STT_NOTYPE, STT_FUNC):
-            found.add(symbol.value)
-    for relocation in test.file.relocations:
-        if relocation.type in RELOCATIONS_OF_LEADERS:
-            found.add(test.file.symbols[relocation.symbol].value + relocation.addend & WORD)
     return {address for address in found if address in test.code}
+
+
+# Reached addresses
+
+NEAR = 16  # how many words behind the one that makes a constant are looked at
+GP = 3
+
+
+def _is_sum(instruction: isa.Instruction) -> bool:
+    """Whether an instruction adds its immediate to rs1 ("Reached addresses")."""
+    return instruction.name in ("addi", "addiw", "jalr")
+
+
+def _constants(test: Test) -> Set[int]:
+    """What LUI and AUIPC make, and additions to x0, with at most two immediates more ("Reached addresses")."""
+    code, found = list(test.code.items()), set()
+    sums = [i for _, i in code if _is_sum(i)]
+    for number, (address, i) in enumerate(code):
+        if i.group == "upper" or _is_sum(i) and i.rs1 == 0:
+            near = [j for _, j in code[number + 1:number + 1 + NEAR] if _is_sum(j) and j.rs1 != 0]
+            value = (address if i.name == "auipc" else 0) + i.imm & WORD
+            once = {(j.rd, value + j.imm & WORD) for j in near if j.rs1 == i.rd}
+            found |= {value} | {made for _, made in once}
+            found |= {made + j.imm & WORD for register, made in once for j in (sums if register == GP else near)
+                      if j.rs1 == register}
+    return found
+
+
+def _of_tables(test: Test, constants: Set[int]) -> Set[int]:
+    """Where tables of distances lead, each from a constant on as long as it leads to code ("Reached addresses")."""
+    found = set()
+    for constant in constants:
+        for segment in test.image:
+            for offset in range(constant - segment.vaddr, len(segment.data) - 3, 4) if constant >= segment.vaddr else ():
+                target = constant + isa.signed(int.from_bytes(segment.data[offset:offset + 4], "little"), 32) & WORD
+                if target not in test.code:
+                    break
+                found.add(target)
+    return found
+
+
+def _of_words(test: Test) -> Set[int]:
+    """The addresses of the image whose low 32 bits an aligned word of a segment has ("Reached addresses")."""
+    found = set()
+    for segment in test.image:
+        for offset in range(-segment.vaddr % 4, len(segment.data) - 3, 4):
+            word = int.from_bytes(segment.data[offset:offset + 4], "little")
+            found.add(test.base + (word - test.base) % (1 << 32))
+    return found
+
+
+def reached(test: Test) -> Set[int]:
+    """The code addresses to which a jump by register may lead ("Reached addresses")."""
+    found = {test.file.entry} | named(test.file)
+    found |= {address + 4 for address, i in test.code.items() if i.group in ("jal", "jalr") and i.rd != 0}
+    constants = _constants(test)
+    found |= constants | _of_tables(test, constants) | _of_words(test)
+    return found & test.code.keys()
 
 
 @dataclass

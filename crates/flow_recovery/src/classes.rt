@@ -1,6 +1,7 @@
 //! Classes of instruction, as blocks see them.
 ghost use Rattle.std.specs.Prelude.{◌≡◌};
 ghost use Rattle.qed_model.specs.Admission.Leaders.{has_target, is_end, is_indirect};
+ghost use Rattle.flow_recovery.specs.Reached.{is_jump};
 
 use rv_isa::Class;
 
@@ -30,6 +31,16 @@ pub fn is_indirect(class: Class) -> bool
 {
     match class {
         Class::JumpReg => true,
+        _ => false,
+    }
+}
+
+/// Whether it writes the address behind it to a register: JAL and JALR.
+pub(crate) fn is_jump(class: Class) -> bool
+    ensures { result ≡ is_jump class }
+{
+    match class {
+        Class::Jump | Class::JumpReg => true,
         _ => false,
     }
 }

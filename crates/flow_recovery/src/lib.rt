@@ -1,11 +1,15 @@
-//! Where the blocks of a test begin.
+//! Where the blocks of a test begin, and where jumps by register may lead.
 #![tactic(auto)]
 
 mod classes;
+mod constants;
+mod data;
 mod named;
+mod reach;
 mod recovery;
 mod sets;
 mod words;
 
 pub use classes::{has_target, is_end, is_indirect};
+pub use reach::reached;
 pub use recovery::{has_indirect, leaders};

@@ -10,13 +10,14 @@ ghost use Rattle.flow_recovery.specs.Words.{leads_to, ends_before, begins_by};
 use crate::classes::{has_target, is_end};
 use crate::sets::add;
 use qed_model::CodeWord;
+use rv_isa::Ins;
 use std::alloc::AllocError;
 
-/// The address of the word plus its immediate, modulo 2^64.
-fn target(word: &CodeWord) -> u64
-    ensures { result ≡ target word.now.ins word.now.at }
+/// A number plus the immediate, modulo 2^64.
+pub fn target_from(ins: &Ins, number: u64) -> u64
+    ensures { result ≡ target ins.now number }
 {
-    word.at.wrapping_add(word.ins.imm.cast_unsigned())
+    number.wrapping_add(ins.imm.cast_unsigned())
 }
 
 /// Adds the target of a JAL or a branch.
@@ -24,7 +25,7 @@ fn add_target(list: &mut Vec<u64>, word: &CodeWord) -> Result<(), AllocError>
     ensures { OnOk result (Adds list.old.items list.new.items (leads_to word.now)) }
 {
     if has_target(word.ins.class()) {
-        add(list, target(word))?;
+        add(list, target_from(&word.ins, word.at))?;
     }
     Ok(())
 }

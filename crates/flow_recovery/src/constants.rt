@@ -1,0 +1,188 @@
+//! Addresses that LUI, AUIPC and additions to x0 make, with at most two immediates more.
+ghost use Rattle.std.specs.Prelude.{◌≡◌, ◌==◌, ◌&&◌, ◌||◌, ◌+◌, ◌%◌, ◌^◌, take, cond, Some, None, OnOk};
+ghost use Rattle.std.specs.List.{list_any};
+ghost use Rattle.qed_model.specs.Machine.Step.{target, imm};
+ghost use Rattle.flow_recovery.specs.Sets.{Adds};
+ghost use Rattle.flow_recovery.specs.Reached.{leads, is_sum, adds_to, sum_leads, once, sums_lead, users, near_by, twice, is_upper, makes_constant, constant, made_by, is_made};
+
+use crate::data::add_tables;
+use crate::sets::add;
+use crate::words::target_from;
+use qed_model::{CodeWord, Test};
+use rv_isa::{Ins, Kind, Reg};
+use std::alloc::AllocError;
+
+/// How many words behind the one that makes a constant are looked at.
+const NEAR: usize = 16;
+
+/// The global pointer, which is set once (RISC-V psABI, register convention).
+const GP: u8 = 3;
+
+/// Adds a constant, and where tables of distances from it lead.
+fn add_constant(list: &mut Vec<u64>, test: &Test, value: u64) -> Result<(), AllocError>
+    ensures { OnOk result (Adds list.old.items list.new.items (leads test.now value)) }
+{
+    add(list, value)?;
+    add_tables(list, test, value)?;
+    Ok(())
+}
+
+/// Whether a kind adds its immediate to a register: ADDI, ADDIW and JALR.
+fn is_sum(kind: Kind) -> bool
+    ensures { result ≡ is_sum kind }
+{
+    match kind {
+        Kind::Addi | Kind::Addiw | Kind::Jalr => true,
+        _ => false,
+    }
+}
+
+/// Whether an instruction adds its immediate to the register of this number.
+fn adds_to(register: u8, ins: &Ins) -> bool
+    ensures { result ≡ adds_to register ins.now }
+{
+    is_sum(ins.kind) && ins.rs1.number() == register
+}
+
+/// Adds what a word makes of a register's value.
+fn add_sum(
+    list: &mut Vec<u64>,
+    test: &Test,
+    register: Reg,
+    value: u64,
+    word: &CodeWord,
+) -> Result<(), AllocError>
+    ensures { OnOk result (Adds list.old.items list.new.items (λ a. sum_leads test.now register value a word.now)) }
+{
+    if adds_to(register.number(), &word.ins) {
+        add_constant(list, test, target_from(&word.ins, value))?;
+    }
+    Ok(())
+}
+
+/// Adds a register's value, and what the immediate of one word near by makes of it.
+fn add_once(
+    list: &mut Vec<u64>,
+    test: &Test,
+    near: &[CodeWord],
+    register: Reg,
+    value: u64,
+) -> Result<(), AllocError>
+    ensures { OnOk result (Adds list.old.items list.new.items (once test.now near.now register value)) }
+{
+    add_constant(list, test, value)?;
+    for word in near {
+        add_sum(list, test, register, value, word)?;
+    }
+    Ok(())
+}
+
+/// The words near by that may use a register: of x0 none.
+fn users(register: Reg, near: &[CodeWord]) -> &[CodeWord]
+    ensures { result.now ≡ users register near.now }
+{
+    if register.number() == 0 { &[] } else { near }
+}
+
+/// The same; of the global pointer all words of the code.
+fn near_by<'a>(test: &'a Test, near: &'a [CodeWord], register: Reg) -> &'a [CodeWord]
+    ensures { result.now ≡ near_by test.now near.now register }
+{
+    if register.number() == GP {
+        test.code.as_slice()
+    } else {
+        users(register, near)
+    }
+}
+
+/// Adds what a word, and one more near by, make of a register's value.
+fn add_sums(
+    list: &mut Vec<u64>,
+    test: &Test,
+    near: &[CodeWord],
+    register: Reg,
+    value: u64,
+    word: &CodeWord,
+) -> Result<(), AllocError>
+    ensures { OnOk result (Adds list.old.items list.new.items (λ a. sums_lead test.now near.now register value a word.now)) }
+{
+    if adds_to(register.number(), &word.ins) {
+        let near = near_by(test, near, word.ins.rd);
+        add_once(list, test, near, word.ins.rd, target_from(&word.ins, value))?;
+    }
+    Ok(())
+}
+
+/// Adds a register's value, and what the immediates of at most two words near by make of it.
+fn add_twice(
+    list: &mut Vec<u64>,
+    test: &Test,
+    near: &[CodeWord],
+    register: Reg,
+    value: u64,
+) -> Result<(), AllocError>
+    ensures { OnOk result (Adds list.old.items list.new.items (twice test.now near.now register value)) }
+{
+    add_constant(list, test, value)?;
+    for word in near {
+        add_sums(list, test, near, register, value, word)?;
+    }
+    Ok(())
+}
+
+/// Whether a kind makes a constant of its own: LUI and AUIPC.
+fn is_upper(kind: Kind) -> bool
+    ensures { result ≡ is_upper kind }
+{
+    match kind {
+        Kind::Lui | Kind::Auipc => true,
+        _ => false,
+    }
+}
+
+/// Whether an instruction makes a constant: LUI, AUIPC, and an addition to x0.
+fn makes_constant(ins: &Ins) -> bool
+    ensures { result ≡ makes_constant ins.now }
+{
+    is_upper(ins.kind) || adds_to(0, ins)
+}
+
+/// The constant that such a word makes.
+fn constant(word: &CodeWord) -> u64
+    ensures { result ≡ constant word.now.ins.kind word.now }
+{
+    match word.ins.kind {
+        Kind::Auipc => target_from(&word.ins, word.at),
+        _ => word.ins.imm.cast_unsigned(),
+    }
+}
+
+/// Adds the constants that a word makes with those near it.
+#[tactic(auto, unfolding(crate::specs::Reached::made_by))]
+fn add_made(
+    list: &mut Vec<u64>,
+    test: &Test,
+    near: &[CodeWord],
+    word: &CodeWord,
+) -> Result<(), AllocError>
+    ensures { OnOk result (Adds list.old.items list.new.items (made_by test.now near.now word.now)) }
+{
+    if makes_constant(&word.ins) {
+        let near = users(word.ins.rd, near);
+        add_twice(list, test, near, word.ins.rd, constant(word))?;
+    }
+    Ok(())
+}
+
+/// Adds the constants that the code makes.
+pub fn add_constants(list: &mut Vec<u64>, test: &Test) -> Result<(), AllocError>
+    ensures { OnOk result (Adds list.old.items list.new.items (λ a. is_made test.now a test.now.code)) }
+{
+    let mut left = test.code.as_slice();
+    while let [word, rest @ ..] = left {
+        let near = &rest[..rest.len().min(NEAR)];
+        add_made(list, test, near, word)?;
+        left = rest;
+    }
+    Ok(())
+}

@@ -1,0 +1,168 @@
+//! Addresses that stand in the bytes of the segments: alone, and as distances in tables.
+ghost use Rattle.std.specs.Prelude.{◌≡◌, ℕ, ◌+◌, ◌*◌, ◌-◌, ◌%◌, ◌^◌, ◌<◌, ◌==◌, ◌&&◌, ◌||◌, List, map, drop, OnOk};
+ghost use Rattle.std.specs.List.{list_any};
+ghost use Rattle.qed_model.specs.Machine.Values.{word as extended};
+ghost use Rattle.qed_model.specs.Admission.DataRanges.{is_in, range_of};
+ghost use Rattle.qed_model.specs.Admission.Terms.{is_in_any, is_code_address};
+ghost use Rattle.flow_recovery.specs.Sets.{Adds};
+ghost use Rattle.flow_recovery.specs.Reached.{words_in, offset_of, is_low_half, is_in_data, is_in_table, bytes_from, is_by_table};
+
+use crate::sets::add;
+use elf_types::Segment;
+use qed_model::limits::MAX_IMAGE_SPAN;
+use qed_model::{Range, Test};
+use std::alloc::AllocError;
+
+/// The little-endian number of four bytes.
+fn word_of(first: u8, second: u8, third: u8, fourth: u8) -> u64
+    ensures value { result ≡ first + 256 * (second + 256 * (third + 256 * fourth)) }
+    ensures small { result < 2 ^ 32 }
+{
+    u64::from(first)
+        + 256 * (u64::from(second) + 256 * (u64::from(third) + 256 * u64::from(fourth)))
+}
+
+/// The bytes from a number on, none where it is too great.
+#[tactic(auto, using(std::proofs::lemmas::List::drop_all))]
+fn rest_of(bytes: &[u8], number: u64) -> &[u8]
+    ensures { result.now ≡ drop number bytes.now }
+{
+    let skipped = number as usize;
+    if skipped < bytes.len() {
+        &bytes[skipped..]
+    } else {
+        &[]
+    }
+}
+
+/// How far from a base on the first address is that has the word as its low 32 bits.
+fn offset_of(base: u64, word: u64) -> u64
+    requires { word < 2 ^ 32 }
+    ensures { result ≡ offset_of base word }
+{
+    (word + (0x1_0000_0000 - base % 0x1_0000_0000)) % 0x1_0000_0000
+}
+
+/// Adds that address, where it may be one of the image.
+fn add_low_half(list: &mut Vec<u64>, base: u64, word: u64) -> Result<(), AllocError>
+    requires { word < 2 ^ 32 }
+    ensures { OnOk result (Adds list.old.items list.new.items (λ a. is_low_half base a word)) }
+{
+    let offset = offset_of(base, word);
+    if offset < MAX_IMAGE_SPAN {
+        add(list, base.wrapping_add(offset))?;
+    }
+    Ok(())
+}
+
+/// Adds those of each word.
+fn add_low_halves(list: &mut Vec<u64>, base: u64, bytes: &[u8]) -> Result<(), AllocError>
+    ensures { OnOk result (Adds list.old.items list.new.items (λ a. list_any (is_low_half base a) (words_in bytes.now))) }
+{
+    let mut left = bytes;
+    while let [first, second, third, fourth, rest @ ..] = left {
+        add_low_half(list, base, word_of(*first, *second, *third, *fourth))?;
+        left = rest;
+    }
+    Ok(())
+}
+
+/// Adds the addresses whose low halves stand in the words of a segment.
+fn add_segment(list: &mut Vec<u64>, base: u64, segment: &Segment) -> Result<(), AllocError>
+    ensures { OnOk result (Adds list.old.items list.new.items (λ a. is_in_data base a segment.now)) }
+{
+    let skipped = (4 - segment.address % 4) % 4;
+    add_low_halves(list, base, rest_of(segment.bytes.as_slice(), skipped))
+}
+
+/// Adds those of all segments.
+pub fn add_data(list: &mut Vec<u64>, base: u64, segments: &[Segment]) -> Result<(), AllocError>
+    ensures { OnOk result (Adds list.old.items list.new.items (λ a. list_any (is_in_data base a) segments.now)) }
+{
+    for segment in segments {
+        add_segment(list, base, segment)?;
+    }
+    Ok(())
+}
+
+/// Whether an address is one of some range.
+fn is_in_any(ranges: &[Range], address: u64) -> bool
+    ensures { result ≡ is_in_any (map range_of ranges.now) address }
+{
+    for range in ranges {
+        if range.start <= address && address < range.end {
+            return true;
+        }
+    }
+    false
+}
+
+/// Whether an address is a code address.
+fn is_code_address(ranges: &[Range], address: u64) -> bool
+    ensures { result ≡ is_code_address (map range_of ranges.now) address }
+{
+    address % 4 == 0 && is_in_any(ranges, address)
+}
+
+/// A base and a word, sign-extended, modulo 2^64.
+fn distance_from(base: u64, word: u64) -> u64
+    requires { word < 2 ^ 32 }
+    ensures { result ≡ (base + extended word) % 2 ^ 64 }
+{
+    base.wrapping_add(i64::from((word as u32).cast_signed()).cast_unsigned())
+}
+
+/// Adds where a table of distances leads, as long as it leads to code.
+fn add_distances(
+    list: &mut Vec<u64>,
+    ranges: &[Range],
+    base: u64,
+    bytes: &[u8],
+) -> Result<(), AllocError>
+    ensures { OnOk result (Adds list.old.items list.new.items (λ a. is_in_table (map range_of ranges.now) base a (words_in bytes.now))) }
+{
+    let mut left = bytes;
+    while let [first, second, third, fourth, rest @ ..] = left {
+        let target = distance_from(base, word_of(*first, *second, *third, *fourth));
+        if !is_code_address(ranges, target) {
+            return Ok(());
+        }
+        add(list, target)?;
+        left = rest;
+    }
+    Ok(())
+}
+
+/// The bytes of a segment from an address on.
+fn bytes_from(segment: &Segment, address: u64) -> &[u8]
+    ensures { result.now ≡ bytes_from address segment.now }
+{
+    if segment.address <= address {
+        rest_of(segment.bytes.as_slice(), address - segment.address)
+    } else {
+        &[]
+    }
+}
+
+/// Adds where a table in a segment leads.
+fn add_table(
+    list: &mut Vec<u64>,
+    test: &Test,
+    base: u64,
+    segment: &Segment,
+) -> Result<(), AllocError>
+    ensures { OnOk result (Adds list.old.items list.new.items (λ a. is_by_table test.now base a segment.now)) }
+{
+    let bytes = bytes_from(segment, base);
+    add_distances(list, test.ranges.as_slice(), base, bytes)
+}
+
+/// Adds where tables of distances from a base lead.
+pub fn add_tables(list: &mut Vec<u64>, test: &Test, base: u64) -> Result<(), AllocError>
+    ensures { OnOk result (Adds list.old.items list.new.items (λ a. list_any (is_by_table test.now base a) test.now.segments)) }
+{
+    for segment in test.segments.as_slice() {
+        add_table(list, test, base, segment)?;
+    }
+    Ok(())
+}

@@ -1,0 +1,72 @@
+//! Which words of the code are reached.
+ghost use Rattle.std.specs.Prelude.{◌≡◌, ℕ, ◌==◌, map, OnOk, IfOk};
+ghost use Rattle.std.specs.List.{list_any};
+ghost use Rattle.flow_recovery.specs.Sets.{holds, lists, Adds};
+ghost use Rattle.flow_recovery.specs.Reached.{links_to, is_reached};
+
+use crate::classes::is_jump;
+use crate::constants::add_constants;
+use crate::data::add_data;
+use crate::named::{add_relocations, add_symbols};
+use crate::sets::{add, set_of};
+use elf_types::ElfFile;
+use qed_model::{CodeWord, Test};
+use std::alloc::{AllocError, Global};
+use std::collections::BTreeSet;
+
+/// Adds the address behind a linking jump.
+fn add_link(list: &mut Vec<u64>, word: &CodeWord) -> Result<(), AllocError>
+    ensures { OnOk result (Adds list.old.items list.new.items (links_to word.now)) }
+{
+    if is_jump(word.ins.class()) && word.ins.rd.number() != 0 {
+        add(list, word.at.wrapping_add(4))?;
+    }
+    Ok(())
+}
+
+/// Adds the addresses behind all linking jumps.
+fn add_links(list: &mut Vec<u64>, words: &[CodeWord]) -> Result<(), AllocError>
+    ensures { OnOk result (Adds list.old.items list.new.items (λ a. list_any (λ c. links_to c a) words.now)) }
+{
+    for word in words {
+        add_link(list, word)?;
+    }
+    Ok(())
+}
+
+/// The addresses that are reached, where they are code.
+fn listed(alloc: Global, test: &Test, file: &ElfFile) -> Result<Vec<u64>, AllocError>
+    ensures { IfOk result (λ list. (a : ℕ) → lists list.items a ≡ is_reached file.now test.now a) }
+{
+    let mut list = Vec::new(alloc);
+    let (symbols, relas) = (file.symbols.as_slice(), file.relas.as_slice());
+    add(&mut list, test.entry)?;
+    add_links(&mut list, test.code.as_slice())?;
+    add_symbols(&mut list, symbols)?;
+    add_relocations(&mut list, symbols, relas)?;
+    add_data(&mut list, test.base, test.segments.as_slice())?;
+    add_constants(&mut list, test)?;
+    Ok(list)
+}
+
+/// For each word, whether the set has its address.
+fn marks(alloc: Global, set: &BTreeSet<u64>, words: &[CodeWord]) -> Result<Vec<bool>, AllocError>
+    ensures { IfOk result (λ marks. marks.items ≡ map (λ c. holds set.now c.at) words.now) }
+{
+    let mut marks = Vec::new(alloc);
+    for word in words {
+        marks.push(set.contains(&word.at))?;
+    }
+    Ok(marks)
+}
+
+/// For each word of the code of a test, whether it is reached: whether a jump by register may lead to it, as far as `file`
+/// shows, from which the test was made. An Err is want of memory.
+pub fn reached(alloc: Global, test: &Test, file: &ElfFile) -> Result<Vec<bool>, AllocError>
+    ensures { IfOk result (λ marks. marks.items ≡ map (λ c. is_reached file.now test.now c.at) test.now.code) }
+{
+    let list = listed(alloc, test, file)?;
+    let set = set_of(alloc, list)?;
+    let marks = marks(alloc, &set, test.code.as_slice())?;
+    Ok(marks)
+}
