@@ -72,6 +72,17 @@ drop_front (x ∷ xs) ys k =
     let one : length (x ∷ xs) + k ≡ suc (length xs + k) = omega arith in
     ap (λ n. drop n (x ∷ (xs ++ ys))) one ∙ drop_front xs ys k
 
+seam : (xs ys : List Item) → drop (length xs) (xs ++ ys) ≡ ys
+seam [] ys = refl
+seam (x ∷ xs) ys = seam xs ys
+
+-- what stands behind the guards of a leave
+pub behind_guards :
+    (guards : List (Role × List Item)) (before known after : List Item) → joined guards ≡ known
+    → drop (length before + length (joined guards)) (before ++ (known ++ after)) ≡ after
+behind_guards guards before known after e =
+    drop_front before (known ++ after) (length (joined guards)) ∙ ap (λ l. drop (length l) (known ++ after)) e ∙ seam known after
+
 -- a leave with its guards inside
 way_joined :
     (guards : List (Role × List Item)) (before after : List Item) (at : ℕ)
@@ -80,13 +91,9 @@ way_joined guards before after at =
     let items = before ++ (joined guards ++ after) in
     let rest = drop (length before + length (joined guards)) items in
     let first : take (length before) items ≡ before = take-append_seam before (joined guards ++ after) in
-    let k = length (joined guards) in
-    let last : rest ≡ after = drop_front before (joined guards ++ after) k ∙ seam (joined guards) after in
+    let last : rest ≡ after = behind_guards guards before (joined guards) after refl in
     ap (λ l. l ++ joined (guards ++ ((role.Leave at, rest) ∷ []))) first
-    ∙ ap (λ l. before ++ l) (joined_append guards ((role.Leave at, rest) ∷ []) ∙ ap (λ l. joined guards ++ l) (append-nil rest ∙ last)) where
-  seam : (xs ys : List Item) → drop (length xs) (xs ++ ys) ≡ ys
-  seam [] ys = refl
-  seam (x ∷ xs) ys = seam xs ys
+    ∙ ap (λ l. before ++ l) (joined_append guards ((role.Leave at, rest) ∷ []) ∙ ap (λ l. joined guards ++ l) (append-nil rest ∙ last))
 
 way_of :
     (guards : List (Role × List Item)) (before known after : List Item) (at : ℕ) → joined guards ≡ known
@@ -94,7 +101,7 @@ way_of :
 way_of guards before known after at e =
     ap (λ l. joined (way_parts (length before) guards (before ++ (l ++ after)) at)) (sym e) ∙ way_joined guards before after at ∙ ap (λ l. before ++ (l ++ after)) e
 
-guards_joined : (of : ℕ → Role) (i : Ins) → joined (guard_parts of i) ≡ guards_of i
+pub guards_joined : (of : ℕ → Role) (i : Ins) → joined (guard_parts of i) ≡ guards_of i
 guards_joined of i = ap (λ l. guard i.rs1 ++ l) (append-nil (cond (i.rs2 == i.rs1) [] (guard i.rs2)))
 
 module _ (form : Form) where
