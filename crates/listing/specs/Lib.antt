@@ -1,3 +1,4 @@
 pub mod Listing
 pub mod Homes
 pub mod Addresses
+pub mod Roles

@@ -4,5 +4,7 @@
 mod home;
 mod line;
 mod listing;
+mod roles;
 
 pub use listing::list_text;
+pub use roles::role_text;

@@ -2,6 +2,7 @@
 ghost use Rattle.qed_model.specs.Admission.DataRanges.{DataRangesAreJoined};
 ghost use Rattle.qed_model.specs.Admission.Refusals.{AdmissionHasOneAnswer};
 ghost use Rattle.qed_model.specs.Machine.Operands.{OperandsGoByFormat};
+ghost use Rattle.qed_model.specs.Weave.Roles.{RolesCover};
 ghost use Rattle.qed_model.specs.Weave.Woven.{InputHasOneOutput};
 
 /// A file is admitted exactly where no rule holds; each other file is refused by one rule, at one place.
@@ -23,4 +24,9 @@ pub fn input_has_one_output()
 /// Which registers an instruction reads and writes is what its format says, but for x0 and for FENCE, which name none.
 pub fn operands_go_by_format()
     ensures { OperandsGoByFormat }
+{}
+
+/// Each item of the new code has one role.
+pub fn roles_cover()
+    ensures { RolesCover }
 {}

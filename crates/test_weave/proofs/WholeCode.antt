@@ -9,7 +9,7 @@ use Rattle.plc_rounds.specs.Spans.{spans_of}
 use Rattle.test_weave.specs.Form.{form_with, items_to_stub}
 use Rattle.test_weave.specs.WholeCode.{ItemsAreWhole}
 
-spans_are : (rs : List Range) → spans_of rs ≡ map range_of rs
+pub spans_are : (rs : List Range) → spans_of rs ≡ map range_of rs
 spans_are [] = refl
 spans_are (r ∷ rs) = ap (λ l. (r.start, r.end) ∷ l) (spans_are rs)
 

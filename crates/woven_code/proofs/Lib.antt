@@ -2,6 +2,7 @@ mod BlockCount
 mod ItemBytes
 mod Sizing
 mod RowLaws
+mod RoleRows
 pub mod DataWords
 mod CodeBytes
 mod Forms

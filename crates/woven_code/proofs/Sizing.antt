@@ -44,7 +44,7 @@ module _ (far : Bool) where
   size_cond true xs ys m n h k = h
   size_cond false xs ys m n h k = k
 
-  guard_is : (r : ℕ) → size (guard r) ≡ guard_bytes r
+  pub guard_is : (r : ℕ) → size (guard r) ≡ guard_bytes r
   guard_is r = size_cond (r == 0) [] (Plain (ins Beq 0 r (r + 16) (pos 8)) ∷ fired_check ∷ []) 0 8 refl refl
 
   guards_are : (i : Ins) → size (guards_of i) ≡ guards_bytes i
@@ -71,7 +71,7 @@ module _ (far : Bool) where
   diverse_is i at [] = mirrored_is i at
   diverse_is i at (p ∷ ps) = parts_size far i (p ∷ ps)
 
-  mirror_is : (other : Bool) (i : Ins) (at : ℕ) → size (mirror_of other i at) ≡ mirror_bytes other i
+  pub mirror_is : (other : Bool) (i : Ins) (at : ℕ) → size (mirror_of other i at) ≡ mirror_bytes other i
   mirror_is true i at = diverse_is i at (parts_of i.kind i.imm)
   mirror_is false i at = mirrored_is i at
 
@@ -88,7 +88,7 @@ module _ (far : Bool) where
       )
 
   -- ---- visits
-  spans_many : (rs : List Range) → length (spans_of rs) ≡ length rs
+  pub spans_many : (rs : List Range) → length (spans_of rs) ≡ length rs
   spans_many [] = refl
   spans_many (r ∷ rs) = ap suc (spans_many rs)
 
@@ -96,13 +96,13 @@ module _ (far : Bool) where
   word_is [] = refl
   word_is (r ∷ rs) = omega (arith, wraps_size far (spans_of (r ∷ rs)) r.start, spans_many rs)
 
-  visit_is : (n : ℕ) (rs : List Range) → size (visit n (spans_of rs)) ≡ n * word_bytes rs
+  pub visit_is : (n : ℕ) (rs : List Range) → size (visit n (spans_of rs)) ≡ n * word_bytes rs
   visit_is n rs = times_size far n (visit_word (spans_of rs)) ∙ ap (λ m. n * m) (word_is rs)
 
   end_is : (sweeps : Bool) (rs : List Range) → size (cond sweeps (sweep (spans_of rs) ++ compare) []) ≡ end_bytes sweeps rs
   end_is sweeps rs = size_cond sweeps (sweep (spans_of rs) ++ compare) [] (44 * length rs + 104) 0 (omega (arith, size-append far (sweep (spans_of rs)) compare, sweep_size far (spans_of rs), spans_many rs)) refl
 
-  links_are : (i : Ins) (at : ℕ) → size (links i at) ≡ links_bytes i
+  pub links_are : (i : Ins) (at : ℕ) → size (links i at) ≡ links_bytes i
   links_are i at = size_cond (i.rd == 0) [] (Constant i.rd ((at + 4) % 2 ^ 64) ∷ Constant (pair i.rd) ((at + 4) % 2 ^ 64) ∷ []) 0 16 refl refl
 
 -- ---- bodies

@@ -106,7 +106,7 @@ fn code_in(
 }
 
 /// Whether the near form has more bytes than it may have.
-fn is_far(test: &Test, options: &Options, blocks: &[CodeBlock]) -> bool
+pub(crate) fn is_far(test: &Test, options: &Options, blocks: &[CodeBlock]) -> bool
     requires { (input : List ℕ) × (f : ElfFile) × IsCut input f options.now test.now blocks.now }
     ensures { (input : List ℕ) (f : ElfFile) → IsCut input f options.now test.now blocks.now → is_far_code f options.now (map block_of blocks.now) ≡ result }
 {

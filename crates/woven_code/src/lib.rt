@@ -3,6 +3,8 @@
 
 mod code;
 mod count;
+mod roles;
 mod size;
 
 pub use code::{WovenCode, woven_code};
+pub use roles::code_roles;

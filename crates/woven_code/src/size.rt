@@ -13,7 +13,7 @@ use qed_model::{Options, Range, Test};
 use rv_isa::{Class, Ins, Kind, Reg};
 
 /// The bytes of the comparison of a register with its pair.
-fn guard_size(r: Reg) -> u64
+pub(crate) fn guard_size(r: Reg) -> u64
     ensures value { result ≡ guard_bytes r }
     ensures bound { result ≤ 8 }
 {
@@ -95,7 +95,7 @@ fn diverse_size(ins: &Ins) -> u64
 }
 
 /// The bytes of the mirror part of an instruction.
-fn mirror_size(ins: &Ins, diverse: bool) -> u64
+pub(crate) fn mirror_size(ins: &Ins, diverse: bool) -> u64
     ensures value { result ≡ mirror_bytes diverse ins.now }
     ensures bound { result ≤ 28 }
 {
@@ -170,7 +170,7 @@ pub(crate) fn sizes_of(test: &Test, options: &Options, far: bool) -> Sizes
 }
 
 /// The bytes of the return address of a jump, in rd and in its pair.
-fn links_size(ins: &Ins) -> u64
+pub(crate) fn links_size(ins: &Ins) -> u64
     ensures value { result ≡ links_bytes ins.now }
     ensures bound { result ≤ 16 }
 {

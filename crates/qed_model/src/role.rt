@@ -1,0 +1,41 @@
+//! What the words of the new code are for.
+
+use rv_isa::Reg;
+
+/// What a word of the new code is for. Addresses are those of the input, in bytes; a comparison is of a register of x1 to x13 with
+/// its pair.
+#[derive(Clone, Copy, Debug, PartialEq, Eq)]
+pub enum Role {
+    /// It runs first.
+    Start,
+    /// It tests the signature, at the entry of an address.
+    Entry(u64),
+    /// The instruction at an address, on the originals.
+    Original(u64),
+    /// The same on the pairs.
+    Mirror(u64),
+    /// A comparison just before the instruction at an address uses the register.
+    Guard(Reg, u64),
+    /// A comparison behind the piece whose first and last instructions stand at these addresses.
+    Compare(Reg, u64, u64),
+    /// A visit of a data word behind such a piece.
+    Visit(u64, u64),
+    /// It leaves the block that ends at an address, or falls to it.
+    Leave(u64),
+    /// A comparison on the way.
+    LeaveGuard(Reg, u64),
+    /// The comparison of all data words before the end.
+    Sweep,
+    /// A comparison before the end.
+    End(Reg),
+    /// The zero word behind the code.
+    Stub,
+}
+
+/// Words of one role, which stand one behind the other.
+#[derive(Clone, Copy, Debug)]
+pub struct RoleRow {
+    pub role: Role,
+    /// How many bytes they have, which may be none.
+    pub bytes: u64,
+}

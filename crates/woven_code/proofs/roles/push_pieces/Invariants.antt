@@ -1,0 +1,14 @@
+use Rattle.std.proofs.Common.{◌≡◌, ◌++◌, drop}
+use Rattle.qed_model.specs.Weave.Pieces.{divided}
+use Rattle.test_weave.proofs.BodyLeft.{Left}
+use Rattle.woven_code.specs.Roles.{pieces_rows}
+use Rattle.woven_code.proofs.roles.push_pieces.Given as goal
+
+-- the pieces so far, and those of the rest of the body
+abbrev pub invariant-loop-length : goal.invariant-loop-length
+invariant-loop-length l = record {
+  left : Left (drop l.length-index l.block.lengths) l.rest l.at;
+  same :
+      l.rows.items ++ pieces_rows l.sizes (divided (drop l.length-index l.block.lengths) l.rest) l.at
+      ≡ l.initial.rows.items ++ pieces_rows l.sizes (divided l.block.lengths l.block.body) l.block.start;
+}
