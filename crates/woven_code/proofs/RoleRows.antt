@@ -1,8 +1,10 @@
 -- The rows that are made of blocks alone are those of the items: each part of one role has the bytes of its items.
-use Rattle.std.proofs.Common.{◌≡◌, ℕ, zero, suc, ◌+◌, ◌-◌, ◌*◌, ◌%◌, ◌^◌, Bool, true, false, cond, Option, Some, None, List, [], ◌∷◌, ◌++◌, length, map, sum, take, drop, refl, sym, ap, ◌∙◌, arith}
+use Rattle.std.proofs.Common.{◌≡◌, ℕ, ◌+◌, ◌-◌, ◌*◌, ◌%◌, ◌^◌, ◌<◌, Bool, true, false, cond, Option, Some, None, List, [], ◌∷◌, ◌++◌, length, map, sum, take, drop, refl, sym, ap, ◌∙◌, arith, append_assoc, get_or}
 use Rattle.std.specs.Prelude.{All, ◌==◌, pos, neg_ℤ, Result, Ok, Err, IfOk}
-use Rattle.std.proofs.lemmas.List.{append-nil, map-append}
+use Rattle.std.proofs.lemmas.List.{append-nil, map-append, length-take-le, drop_more}
+use Rattle.std.proofs.lemmas.List.Sums.{sum_by-cons}
 use Rattle.std.proofs.lemmas.List.Elements.{All-head, All-tail}
+use Rattle.std.proofs.lemmas.Bool.Decides.{nat_tests}
 use Rattle.rv_isa.specs.declared.ins.Ins.{Ins}
 use Rattle.rv_isa.specs.declared.kind.Kind.TheVariants.{Addi, Andi, Add, Jal, Jalr, Lw}
 use Rattle.rv_isa.specs.declared.class.Class.{Class}
@@ -23,8 +25,8 @@ use Rattle.qed_model.specs.Machine.Table.{ins}
 use Rattle.qed_model.specs.Weave.Pieces.{divided}
 use Rattle.qed_model.specs.Weave.Places.{image_of, half_of}
 use Rattle.qed_model.specs.Weave.Placed.{go_size, sum_of_sizes}
-use Rattle.qed_model.specs.Weave.Roles.{row_of, joined, guard_parts, compare_parts, originals, original_as_parts, original_parts, mirror_parts, each_parts, last_of, check_parts, piece_parts, pieces_parts, end_parts, way_parts, leave_as_parts, leave_parts, entry_parts, entries_parts, parts_with, new_roles}
-use Rattle.qed_model.specs.Weave.Sequences.{Form, End, guard, guards_of, visit, sweep, is_auipc, original_as, links, leave_as, leave, body_length, enter, prologue, stub}
+use Rattle.qed_model.specs.Weave.Roles.{row_of, joined, guard_parts, compare_parts, originals, original_as_parts, original_parts, mirror_parts, each_parts, last_of, check_parts, piece_parts, pieces_parts, end_parts, leave_as_parts, leave_parts, entry_parts, entries_parts, parts_with, new_roles}
+use Rattle.qed_model.specs.Weave.Sequences.{Form, Falls, guard, guards_of, visit, sweep, is_auipc, original_as, links, leave_as, leave, body_length, prologue, stub}
 use Rattle.qed_model.specs.Weave.Woven.{mirror_of, form_of, is_far_code}
 use Rattle.qed_model.proofs.PlacedWords.{size-append}
 use Rattle.qed_model.proofs.RoleParts.{behind_guards, guards_joined}
@@ -33,14 +35,18 @@ use Rattle.block_list.specs.Listed.{block_of, end_of}
 use Rattle.plc_rounds.specs.Spans.{spans_of}
 use Rattle.test_weave.specs.Fits.{FitsBlock}
 use Rattle.test_weave.specs.Form.{form_with}
-use Rattle.test_weave.proofs.BodyLeft.{whole_length}
+use Rattle.test_weave.proofs.BodyLeft.{Left, whole_length}
 use Rattle.test_weave.proofs.WholeCode.{spans_are}
 use Rattle.woven_code.specs.declared.size.Sizes.{Sizes}
 use Rattle.woven_code.specs.Code.{IsCut}
-use Rattle.woven_code.specs.Sizes.{guard_bytes, mirror_bytes, word_bytes, end_bytes, AreSizes, links_bytes, prologue_bytes}
-use Rattle.woven_code.specs.Roles.{row, guard_role, guard_rows, compare_rows, original_as_rows, original_rows, part_rows, each_rows, check_rows, piece_rows, pieces_rows, end_rows, jump_reg_rows, leave_as_rows, leave_rows, block_rows, blocks_rows, code_rows}
+use Rattle.woven_code.specs.Sizes.{guard_bytes, mirror_bytes, end_bytes, AreSizes, links_bytes, prologue_bytes}
+use Rattle.woven_code.specs.Roles.{row, guard_role, guard_rows, compare_rows, original_as_rows, original_rows, part_rows, each_rows, check_rows, piece_rows, pieces_rows, end_rows, leave_as_rows, leave_rows, block_rows, blocks_rows, code_rows}
 use Rattle.woven_code.proofs.ItemBytes.{sweep_size}
 use Rattle.woven_code.proofs.Sizing.{guard_is, mirror_is, spans_many, visit_is, links_are, prologue_is}
+
+-- a number that is not 0
+pub not_none : (n : ℕ) → 0 < n → (n == 0) ≡ false
+not_none n h = grind (arith, nat_tests)
 
 module _ (far : Bool) where
   abbrev rows : List (Role × List Item) → List RoleRow
@@ -58,9 +64,9 @@ module _ (far : Bool) where
       let one = row_is (guard_role leaves at i.rs1) (guard_bytes i.rs1) (guard i.rs1) (guard_is far i.rs1) in
       let two = row_is (guard_role leaves at i.rs2) (cond (i.rs2 == i.rs1) 0 (guard_bytes i.rs2)) (cond (i.rs2 == i.rs1) [] (guard i.rs2)) (second (i.rs2 == i.rs1)) in
       ap (λ x. x ∷ row (guard_role leaves at i.rs2) (cond (i.rs2 == i.rs1) 0 (guard_bytes i.rs2)) ∷ []) one ∙ ap (λ x. row_of far (guard_role leaves at i.rs1, guard i.rs1) ∷ x ∷ []) two where
-    second : (b : Bool) → size (cond b [] (guard i.rs2)) ≡ cond b 0 (guard_bytes i.rs2)
-    second true = refl
-    second false = guard_is far i.rs2
+        second : (b : Bool) → size (cond b [] (guard i.rs2)) ≡ cond b 0 (guard_bytes i.rs2)
+        second true = refl
+        second false = guard_is far i.rs2
 
   -- ---- parts of instructions
   original_rows_are : (i : Ins) (at : ℕ) → original_rows i at ≡ rows (original_parts i at)
@@ -121,9 +127,8 @@ module _ (far : Bool) (o : Options) (span : List Range) (s : Sizes) (are : AreSi
   -- ---- leaves
   end_rows_are : (b : Bool) → s.end ≡ end_bytes b span → end_rows s ≡ listed (cond b ((role.Sweep, sweep (spans_of span)) ∷ compare_parts role.End originals) [])
   end_rows_are true e =
-      let more : s.end ≡ suc (44 * length span + 103) = omega (arith, e) in
       let size : s.end - 104 ≡ sum_of_sizes far (sweep (spans_of span)) = omega (arith, e, sweep_size far (spans_of span), spans_many far span) in
-      ap (λ n. cond (n == 0) [] (row role.Sweep (s.end - 104) ∷ compare_rows None originals)) more
+      ap (λ b. cond b [] (row role.Sweep (s.end - 104) ∷ compare_rows None originals)) (not_none s.end (omega (arith, e)))
       ∙ ap (λ n. row role.Sweep n ∷ compare_rows None originals) size
   end_rows_are false e = ap (λ n. cond (n == 0) [] (row role.Sweep (s.end - 104) ∷ compare_rows None originals)) e
 
@@ -155,7 +160,7 @@ module _ (far : Bool) (o : Options) (span : List Range) (s : Sizes) (are : AreSi
   leave_as_rows_are c i at = refl
 
   leave_rows_are : (e : Option Ins) (at : ℕ) → leave_rows s e at ≡ listed (leave_parts form (end_of e) at)
-  leave_rows_are None at = ap (λ n. row (role.Leave at) (8 + n) ∷ []) are.go
+  leave_rows_are None at = ap (λ x. x ∷ []) (row_is far (role.Leave at) (8 + s.go) (leave form Falls at) (omega (arith, are.go)))
   leave_rows_are (Some i) at = leave_as_rows_are (class_of i.kind) i at
 
   -- ---- blocks
@@ -183,6 +188,31 @@ module _ (far : Bool) (o : Options) (span : List Range) (s : Sizes) (are : AreSi
       ap (λ n. row role.Start n ∷ (blocks_rows s bs ++ (row role.Stub 4 ∷ []))) first
       ∙ ap (λ l. row_of far (role.Start, prologue d (spans_of span) entry) ∷ (l ++ (row role.Stub 4 ∷ []))) (blocks_rows_are bs fit)
       ∙ ap (λ l. row_of far (role.Start, prologue d (spans_of span) entry) ∷ l) (sym (map-append (row_of far) ps ((role.Stub, stub) ∷ [])))
+
+-- ---- in a loop
+-- a piece more
+pub pieces_more :
+    (s : Sizes) (old new all : List RoleRow) (n : ℕ) (ns : List ℕ) (is : List Ins) (at : ℕ) → Left (n ∷ ns) is at → old ++ pieces_rows s (divided (n ∷ ns) is) at ≡ all
+    → new ≡ old ++ piece_rows s (take n is) at → new ++ pieces_rows s (divided ns (drop n is)) (at + 4 * n) ≡ all
+pieces_more s old new all n ns is at l e f =
+    let w : n + sum ns ≡ length is = sym (sum_by-cons (λ n. n) n ns) ∙ l.whole in
+    let t : length (take n is) ≡ n = length-take-le n is (omega (arith, w)) in
+    let piece = piece_rows s (take n is) at in
+    ap (λ k. k ++ pieces_rows s (divided ns (drop n is)) (at + 4 * n)) f
+    ∙ append_assoc old piece (pieces_rows s (divided ns (drop n is)) (at + 4 * n))
+    ∙ ap (λ m. old ++ (piece ++ pieces_rows s (divided ns (drop n is)) (at + 4 * m))) (sym t)
+    ∙ e
+
+-- a block more
+pub blocks_more :
+    (s : Sizes) (old new all : List RoleRow) (bs : List CodeBlock) (k : ℕ) (b : CodeBlock) → k < length bs → get_or bs k b ≡ b → old ++ blocks_rows s (drop k bs) ≡ all
+    → new ≡ old ++ block_rows s b → new ++ blocks_rows s (drop (k + 1) bs) ≡ all
+blocks_more s old new all bs k b less is e f =
+    let rest = blocks_rows s (drop (k + 1) bs) in
+    ap (λ l. l ++ rest) f
+    ∙ append_assoc old (block_rows s b) rest
+    ∙ ap (λ l. old ++ blocks_rows s l) (sym (drop_more bs k b less ∙ ap (λ x. x ∷ drop (k + 1) bs) is))
+    ∙ e
 
 -- ---- of a test
 module _ (input : List ℕ) (f : ElfFile) (o : Options) (t : Test) (blocks : List CodeBlock) (cut : IsCut input f o t blocks) where

@@ -1,23 +1,21 @@
 //! What the words of new code are for, by its blocks alone: no item is made.
-ghost use Rattle.std.specs.Prelude.{◌≡◌, ℕ, ◌+◌, ◌*◌, ◌^◌, ◌<◌, ◌≤◌, ◌++◌, ◌∷◌, [], List, All, IfOk, OnOk, length, map};
+ghost use Rattle.std.specs.Prelude.{◌≡◌, ℕ, ◌+◌, ◌-◌, ◌*◌, ◌^◌, ◌<◌, ◌≤◌, ◌++◌, ◌∷◌, [], None, List, All, IfOk, OnOk, length, map};
 ghost use Rattle.rv_isa.specs.Kind.{class_of};
 ghost use Rattle.elf_types.specs.declared.file.ElfFile.{ElfFile};
 ghost use Rattle.qed_model.specs.Weave.Pieces.{divided};
-ghost use Rattle.qed_model.specs.Weave.Roles.{originals, parts_with, row_of as row_of_part, new_roles};
+ghost use Rattle.qed_model.specs.Weave.Roles.{originals, last_of, parts_with, row_of as row_of_part, new_roles};
 ghost use Rattle.block_list.specs.Listed.{block_of};
 ghost use Rattle.plc_rounds.specs.Spans.{spans_of};
 ghost use Rattle.test_weave.specs.Fits.{FitsBlock};
 ghost use Rattle.test_weave.specs.Form.{form_with};
 ghost use Rattle.woven_code.specs.Code.{IsCut};
-ghost use Rattle.woven_code.specs.Roles.{row as row_of, guard_role as guard_role_of, guard_rows as guard_rows_of, compare_role as compare_role_of, compare_rows as compare_rows_of, original_rows, part_rows, each_rows, check_rows, piece_rows, pieces_rows, end_rows, jump_reg_rows as jump_reg_rows_of, leave_as_rows, leave_rows, block_rows, blocks_rows};
+ghost use Rattle.woven_code.specs.Roles.{row as row_of, guard_role as guard_role_of, guard_rows as guard_rows_of, compare_role as compare_role_of, compare_rows as compare_rows_of, original_rows, part_rows, each_rows, check_rows, piece_rows, pieces_rows, end_rows, jump_reg_rows as jump_reg_rows_of, leave_as_rows, leave_rows, block_rows, blocks_rows, code_rows};
 
 use crate::code::is_far;
-use crate::size::{
-    Sizes, guard_size, links_size, mirror_size, prologue_size, sizes_of,
-};
+use crate::size::{Sizes, guard_size, links_size, mirror_size, prologue_size, sizes_of};
 use block_list::CodeBlock;
 use passes::register;
-use qed_model::{Options, Role, RoleRow, Test};
+use qed_model::{Options, Range, Role, RoleRow, Test};
 use rv_isa::{Class, Ins, Kind, Reg};
 use std::alloc::{AllocError, Global};
 
@@ -148,11 +146,16 @@ fn push_checks(
     ensures { OnOk result (rows.new.items ≡ rows.old.items ++ check_rows sizes.now (first, last)) }
 {
     rows.extend_from_slice(&compare_rows(Some((first, last))))?;
-    rows.push(row(
-        Role::Visit(first, last),
-        sizes.piece.saturating_sub(104),
-    ))?;
+    rows.push(row(Role::Visit(first, last), sizes.piece.saturating_sub(104)))?;
     Ok(())
+}
+
+/// The address of the last of some instructions, of which the first stands at an address.
+fn last_of(list: &[Ins], at: u64) -> u64
+    requires { at + 4 * length list.now < 2 ^ 64 }
+    ensures { result ≡ last_of list.now at }
+{
+    at + 4 * (list.len() as u64).saturating_sub(1)
 }
 
 /// Appends a piece whose first instruction stands at an input address.
@@ -165,19 +168,14 @@ fn push_piece(
     requires { at + 4 * length list.now < 2 ^ 64 }
     ensures { OnOk result (rows.new.items ≡ rows.old.items ++ piece_rows sizes.now list.now at) }
 {
-    let last = at + 4 * (list.len() as u64).saturating_sub(1);
     push_parts(rows, None, list, at)?;
     push_parts(rows, Some(sizes.diverse), list, at)?;
-    push_checks(rows, sizes, at, last)?;
+    push_checks(rows, sizes, at, last_of(list, at))?;
     Ok(())
 }
 
 /// Appends the pieces of a block.
-fn push_pieces(
-    rows: &mut Vec<RoleRow>,
-    sizes: &Sizes,
-    block: &CodeBlock,
-) -> Result<(), AllocError>
+fn push_pieces(rows: &mut Vec<RoleRow>, sizes: &Sizes, block: &CodeBlock) -> Result<(), AllocError>
     requires { FitsBlock block.now }
     ensures { OnOk result (rows.new.items ≡ rows.old.items ++ pieces_rows sizes.now (divided block.now.lengths block.now.body) block.now.start) }
 {
@@ -192,6 +190,15 @@ fn push_pieces(
     Ok(())
 }
 
+/// Appends the comparisons of all data words and of all registers.
+fn push_sweep(rows: &mut Vec<RoleRow>, sizes: &Sizes) -> Result<(), AllocError>
+    ensures { OnOk result (rows.new.items ≡ rows.old.items ++ row_of Role.Sweep (sizes.now.end - 104) ∷ compare_rows_of None originals) }
+{
+    rows.push(row(Role::Sweep, sizes.end.saturating_sub(104)))?;
+    rows.extend_from_slice(&compare_rows(None))?;
+    Ok(())
+}
+
 /// Appends what stands before an ECALL.
 fn push_end(rows: &mut Vec<RoleRow>, sizes: &Sizes) -> Result<(), AllocError>
     ensures { OnOk result (rows.new.items ≡ rows.old.items ++ end_rows sizes.now) }
@@ -199,18 +206,12 @@ fn push_end(rows: &mut Vec<RoleRow>, sizes: &Sizes) -> Result<(), AllocError>
     if sizes.end == 0 {
         return Ok(());
     }
-    rows.push(row(Role::Sweep, sizes.end.saturating_sub(104)))?;
-    rows.extend_from_slice(&compare_rows(None))?;
+    push_sweep(rows, sizes)?;
     Ok(())
 }
 
 /// Appends the leave of a branch.
-fn push_branch(
-    rows: &mut Vec<RoleRow>,
-    sizes: &Sizes,
-    ins: &Ins,
-    at: u64,
-) -> Result<(), AllocError>
+fn push_branch(rows: &mut Vec<RoleRow>, sizes: &Sizes, ins: &Ins, at: u64) -> Result<(), AllocError>
     requires { sizes.now.go ≤ 8 }
     ensures { OnOk result (rows.new.items ≡ rows.old.items ++ leave_as_rows sizes.now Class.Branch ins.now at) }
 {
@@ -232,12 +233,7 @@ fn jump_reg_rows(ins: &Ins, at: u64) -> [RoleRow; 3]
 }
 
 /// Appends the leave of the instruction that ends a block.
-fn push_stop(
-    rows: &mut Vec<RoleRow>,
-    sizes: &Sizes,
-    ins: &Ins,
-    at: u64,
-) -> Result<(), AllocError>
+fn push_stop(rows: &mut Vec<RoleRow>, sizes: &Sizes, ins: &Ins, at: u64) -> Result<(), AllocError>
     requires { sizes.now.go ≤ 8 }
     ensures { OnOk result (rows.new.items ≡ rows.old.items ++ leave_as_rows sizes.now (class_of ins.now.kind) ins.now at) }
 {
@@ -272,11 +268,7 @@ fn push_leave(
 }
 
 /// Appends a block.
-fn push_block(
-    rows: &mut Vec<RoleRow>,
-    sizes: &Sizes,
-    block: &CodeBlock,
-) -> Result<(), AllocError>
+fn push_block(rows: &mut Vec<RoleRow>, sizes: &Sizes, block: &CodeBlock) -> Result<(), AllocError>
     requires go { sizes.now.go ≤ 8 }
     requires fits { FitsBlock block.now }
     ensures { OnOk result (rows.new.items ≡ rows.old.items ++ block_rows sizes.now block.now) }
@@ -304,6 +296,24 @@ fn push_blocks(
     Ok(())
 }
 
+/// What the words of code with blocks of these sizes are for.
+fn rows_in(
+    alloc: Global,
+    sizes: &Sizes,
+    span: &[Range],
+    blocks: &[CodeBlock],
+) -> Result<Vec<RoleRow>, AllocError>
+    requires go { sizes.now.go ≤ 8 }
+    requires fit { All FitsBlock blocks.now }
+    ensures { IfOk result (λ rows. rows.items ≡ code_rows sizes.now span.now blocks.now) }
+{
+    let mut rows = Vec::new(alloc);
+    rows.push(row(Role::Start, prologue_size(span, sizes.go)))?;
+    push_blocks(&mut rows, sizes, blocks)?;
+    rows.push(row(Role::Stub, 4))?;
+    Ok(rows)
+}
+
 /// What the words of new code in one form are for.
 fn roles_in(
     alloc: Global,
@@ -318,13 +328,7 @@ fn roles_in(
     ensures { IfOk result (λ rows. rows.items ≡ map (row_of_part far) (parts_with test.now.distance test.now.entry (form_with (spans_of test.now.span) options.now far) (map block_of blocks.now))) }
 {
     let sizes = sizes_of(test, options, far);
-    let mut rows = Vec::new(alloc);
-    rows.push(row(
-        Role::Start,
-        prologue_size(test.span.as_slice(), sizes.go),
-    ))?;
-    push_blocks(&mut rows, &sizes, blocks)?;
-    rows.push(row(Role::Stub, 4))?;
+    let rows = rows_in(alloc, &sizes, test.span.as_slice(), blocks)?;
     Ok(rows)
 }
 
