@@ -1,4 +1,5 @@
-"""Which files are tests, and what is told of them (docs/PROFILE.md, "Memory", "Blocks and pieces" and "Admission")."""
+"""Which files are tests, and what is told of them (docs/PROFILE.md, "Memory", "Blocks and pieces", "Reached addresses"
+and "Admission")."""
 
 from __future__ import annotations
 

@@ -17,7 +17,8 @@ use Rattle.flow_recovery.proofs.SetLaws.{adds_then, adds_first}
 pub reached_found :
     (f : ElfFile) (t : Test) (words : List CodeWord) (symbols : List Symbol) (relas : List Rela) (segments : List Segment) (s u v w x y z : List ℕ)
     → words ≡ t.code → symbols ≡ f.symbols → relas ≡ f.relas → segments ≡ t.segments → s ≡ []
-    → Adds s u (λ a. t.entry == a) → Adds u v (λ a. list_any (λ c. links_to c a) words) → Adds v w (is_named symbols) → Adds w x (is_relocated symbols relas)
+    → Adds s u (λ a. t.entry == a) → Adds u v (λ a. list_any (λ c. links_to c a) words)
+    → Adds v w (is_named symbols) → Adds w x (is_relocated symbols relas)
     → Adds x y (λ a. list_any (is_in_data t.base a) segments) → Adds y z (λ a. is_made t a t.code)
     → (a : ℕ) → lists z a ≡ is_reached f t a
 reached_found f t words symbols relas segments s u v w x y z code by_symbols by_relas image empty entry links named relocated held made =

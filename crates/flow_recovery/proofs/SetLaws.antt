@@ -36,7 +36,11 @@ pub adds_first : (s t : List ℕ) (p : ℕ → Bool) → s ≡ [] → Adds s t p
 adds_first s t p empty h a = h.each a ∙ ap (λ xs. lists xs a || p a) empty
 
 -- and behind it all elements of a list
-pub adds_all : {X : Type 0} (p : X → ℕ → Bool) (q : ℕ → Bool) (xs : List X) (k : ℕ) (s t u : List ℕ) → length xs ≤ k → Adds s t q → Adds t u (λ a. list_any (λ y. p y a) (take k xs)) → Adds s u (λ a. q a || list_any (λ y. p y a) xs)
+pub adds_all :
+    {X : Type 0} (p : X → ℕ → Bool) (q : ℕ → Bool) (xs : List X) (k : ℕ) (s t u : List ℕ)
+    → length xs ≤ k → Adds s t q → Adds t u (λ a. list_any (λ y. p y a) (take k xs)) → Adds s u (λ a. q a || list_any (λ y. p y a) xs)
 adds_all p q xs k s t u all h g = record {
-  each = λ a. (adds_then s t u q (λ b. list_any (λ y. p y b) (take k xs)) h g).each a ∙ ap (λ ys. lists s a || (q a || list_any (λ y. p y a) ys)) (take_all k xs all);
+  each = λ a.
+      (adds_then s t u q (λ b. list_any (λ y. p y b) (take k xs)) h g).each a
+      ∙ ap (λ ys. lists s a || (q a || list_any (λ y. p y a) ys)) (take_all k xs all);
 }

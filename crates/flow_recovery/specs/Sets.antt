@@ -16,6 +16,6 @@ lists addresses a = list_any (λ b. b == a) addresses
 pub record Adds (old new : List ℕ) (test : ℕ → Bool) : Type 0 where
   pub each : (a : ℕ) → lists new a ≡ (lists old a || test a)
 
--- what the old list and a test have, the new list and the rest of the test have
-pub record Leaves (old new : List ℕ) (all rest : ℕ → Bool) : Type 0 where
-  pub each : (a : ℕ) → (lists new a || rest a) ≡ (lists old a || all a)
+-- the new list has what the old one has, and what passes the test, where some of that is to come
+pub record AddsBut (old new : List ℕ) (test rest : ℕ → Bool) : Type 0 where
+  pub each : (a : ℕ) → (lists new a || rest a) ≡ (lists old a || test a)

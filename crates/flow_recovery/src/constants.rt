@@ -5,8 +5,8 @@ ghost use Rattle.qed_model.specs.Machine.Step.{target, imm};
 ghost use Rattle.flow_recovery.specs.Sets.{Adds};
 ghost use Rattle.flow_recovery.specs.Reached.{leads, is_sum, adds_to, sum_leads, once, sums_lead, users, near_by, twice, is_upper, makes_constant, constant, made_by, is_made};
 
-use crate::data::add_tables;
 use crate::sets::add;
+use crate::stored::add_tables;
 use crate::words::target_from;
 use qed_model::{CodeWord, Test};
 use rv_isa::{Ins, Kind, Reg};

@@ -3,11 +3,11 @@
 
 mod classes;
 mod constants;
-mod data;
 mod named;
 mod reach;
 mod recovery;
 mod sets;
+mod stored;
 mod words;
 
 pub use classes::{has_target, is_end, is_indirect};

@@ -6,9 +6,9 @@ ghost use Rattle.flow_recovery.specs.Reached.{links_to, is_reached};
 
 use crate::classes::is_jump;
 use crate::constants::add_constants;
-use crate::data::add_data;
 use crate::named::{add_relocations, add_symbols};
 use crate::sets::{add, set_of};
+use crate::stored::add_data;
 use elf_types::ElfFile;
 use qed_model::{CodeWord, Test};
 use std::alloc::{AllocError, Global};

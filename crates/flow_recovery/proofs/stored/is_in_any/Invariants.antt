@@ -1,6 +1,6 @@
 use Rattle.std.proofs.Common.{◌≡◌, drop, map}
 use Rattle.qed_model.specs.Admission.DataRanges.{is_in_any, range_of}
-use Rattle.flow_recovery.proofs.data.is_in_any.Given as goal
+use Rattle.flow_recovery.proofs.stored.is_in_any.Given as goal
 
 -- the rest decides
 abbrev pub invariant-loop-range : goal.invariant-loop-range
