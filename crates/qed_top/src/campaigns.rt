@@ -7,7 +7,7 @@ use crate::answer::{Answer, plain};
 use crate::refusal::refused;
 use crate::status::Status;
 use campaign::Course;
-use qed_model::Options;
+use qed_model::{Draws, Options};
 use report::campaign_text;
 use std::alloc::{AllocError, Global};
 
@@ -21,17 +21,11 @@ fn status_of(trapped: Option<u64>) -> Status
     }
 }
 
-/// What `campaign` answers where the test was transformed: so many strikes, of so many changes each, that a seed draws.
-fn strike(
-    alloc: Global,
-    course: &Course,
-    seed: u64,
-    count: u64,
-    changes: u64,
-) -> Result<Answer, AllocError>
-    ensures { IfOk result (TellsCampaign course.now seed count changes) }
+/// What `campaign` answers where the test was transformed.
+fn strike(alloc: Global, course: &Course, draws: &Draws) -> Result<Answer, AllocError>
+    ensures { IfOk result (TellsCampaign course.now draws.now) }
 {
-    let strikes = course.draw(alloc, seed, count, changes)?;
+    let strikes = course.draw(alloc, draws)?;
     let reach = course.reach();
     let campaign = course.strike_all(alloc, &strikes)?;
     let text = campaign_text(alloc, &campaign.struck, course.plan(), campaign.trapped)?;
@@ -43,16 +37,14 @@ pub fn answer_campaign(
     alloc: Global,
     bytes: &[u8],
     options: &Options,
-    seed: u64,
-    count: u64,
-    changes: u64,
+    draws: &Draws,
 ) -> Result<Answer, AllocError>
     requires { AreSoundOptions options.now }
-    ensures { IfOk result (Campaigns bytes.now options.now seed count changes) }
+    ensures { IfOk result (Campaigns bytes.now options.now draws.now) }
 {
     match Course::prepare(alloc, bytes, options) {
         Ok(course) => {
-            let answer = strike(alloc, &course, seed, count, changes)?;
+            let answer = strike(alloc, &course, draws)?;
             Ok(answer)
         }
         Err(error) => {
