@@ -8,12 +8,14 @@ ghost use Rattle.qed_model.specs.Weave.Places.{AreSoundOptions};
 ghost use Rattle.transform.specs.Transform.{HasCause, IsTransformable, IsErrorOr, IsDoneOr};
 ghost use Rattle.strikes.specs.Draw.{drawn_strikes};
 ghost use Rattle.strikes.specs.Kept.{IsReach, copies_up_to};
+ghost use Rattle.qed_model.specs.Promise.Changed.{Ordered};
+ghost use Rattle.strikes.specs.Right.{rights as rights_of};
 ghost use Rattle.strikes.specs.Struck.{IsStrike, AreStruck};
 ghost use Rattle.strikes.specs.Verdict.{IsVerdict};
 ghost use Rattle.campaign.specs.Course.{IsCourse, StartsIn};
 
 use elf_read::read_known;
-use qed_model::{Change, Changes, Draws, Options, Plan, Verdict};
+use qed_model::{Change, Changes, Draws, Options, Plan, Struck, Verdict};
 use rv_step::Machine;
 use std::alloc::{AllocError, Global};
 use std::marker::Model;
@@ -149,8 +151,18 @@ impl Course {
     /// Strikes one after the other, each from the start of the runs, up to the first where the input traps.
     pub fn strike_all(&self, alloc: Global, strikes: &[Changes]) -> Result<Campaign, AllocError>
         requires { All (IsStrike self.now.plan.bounds) strikes.now }
-        ensures { IfOk result (λ campaign. AreStruck self.now.runs strikes.now campaign.struck.items campaign.trapped) }
+        ensures struck { IfOk result (λ campaign. AreStruck self.now.runs strikes.now campaign.struck.items campaign.trapped) }
+        ensures ordered { IfOk result (λ campaign. All (λ s. Ordered s.changes) campaign.struck.items) }
     {
         self.runs.strike_all(alloc, strikes)
+    }
+
+    /// Whether the test ended right in each of some strikes: by the end of the struck run the input had ended too, and x1 to x13 and
+    /// the data words of the original half hold what they held at its end. False where it did not end.
+    pub fn rights(&self, alloc: Global, struck: &[Struck]) -> Result<Vec<bool>, AllocError>
+        requires { All (λ s. Ordered s.changes) struck.now }
+        ensures { IfOk result (λ found. found.items ≡ rights_of self.now.runs (map range_of self.now.plan.span) struck.now) }
+    {
+        self.runs.rights(alloc, self.plan.span.as_slice(), struck)
     }
 }

@@ -197,8 +197,14 @@ most_of _ = 1
 unfoldable pub key_named : Command → List ℕ → Option Key
 key_named command name = find (λ k. bytes_eq (name_of k) name) (keys_of command)
 
+-- whether `--results` is an option
+abbrev pub has_results : Command → Bool
+has_results Campaign = true
+has_results _ = false
+
 abbrev pub is_flag : Command → List ℕ → Bool
-is_flag command name = has_flags command && (bytes_eq name (codes "sweep") || bytes_eq name (codes "diverse"))
+is_flag command name =
+    (has_flags command && (bytes_eq name (codes "sweep") || bytes_eq name (codes "diverse"))) || (has_results command && bytes_eq name (codes "results"))
 
 -- ---- what the words are
 
@@ -416,7 +422,7 @@ order_of Transform given = order.Transform (file given 0) (file given 1) (option
 order_of Plan given = order.Plan (file given 0) (options given)
 order_of Run given =
     order.Run (file given 0) (steps_given given) (changes_given given) (option_and_then dump (value_of Dump given))
-order_of Campaign given = order.Campaign (file given 0) (options given) (draws given)
+order_of Campaign given = order.Campaign (file given 0) (options given) (draws given) (has_flag (codes "results") given)
 order_of Gen given = order.Gen (file given 0) (unwrap_or (number_given Seed given) 0) (unwrap_or (number_given Size given) 0)
 order_of command.List given = order.List (file given 0)
 order_of Asm given = order.Asm (file given 0) (file given 1)

@@ -41,8 +41,8 @@ pub enum Order {
     /// The file, the greatest number of steps, the changes in the order of their steps, and the address and the length of
     /// the dump in bytes.
     Run(Name, u64, Changes, Option<(u64, u64)>),
-    /// The input, and the strikes.
-    Campaign(Name, Options, Draws),
+    /// The input, the strikes, and whether it is told of each end whether it is right.
+    Campaign(Name, Options, Draws, bool),
     /// The output, the seed and the size.
     Gen(Name, u64, u64),
     /// The file.

@@ -1,5 +1,5 @@
 -- What `campaign` answers.
-use Rattle.std.specs.Prelude.{◌≡◌, ◌≢◌, ℕ, List, Option, None, Some, map}
+use Rattle.std.specs.Prelude.{◌≡◌, ◌≢◌, ℕ, Bool, true, false, List, Option, None, Some, map}
 use Rattle.campaign.specs.Course.{IsCourse}
 use Rattle.campaign.specs.Prepared.{Prepared}
 use Rattle.qed_model.specs.declared.aim.Draws.{Draws}
@@ -10,6 +10,7 @@ use Rattle.qed_model.specs.Admission.DataRanges.{range_of}
 use Rattle.command_line.specs.Text.Campaign.{campaign_text}
 use Rattle.strikes.specs.Draw.{drawn_strikes}
 use Rattle.strikes.specs.Kept.{IsReach}
+use Rattle.strikes.specs.Right.{rights}
 use Rattle.strikes.specs.Struck.{AreStruck}
 use Rattle.transform.specs.declared.error.TransformError.{TransformError}
 use Rattle.transform.specs.declared.error.TransformError.TheVariants as transform
@@ -34,23 +35,28 @@ abbrev pub campaign_status : Option ℕ → Status
 campaign_status None = Done
 campaign_status (Some pc) = Trapped
 
+-- whether each strike ended right, where `--results` asks for it
+abbrev pub told_rights : Prepared → Bool → List Struck → Option (List Bool)
+told_rights course false struck = None
+told_rights course true struck = Some (rights course.runs (map range_of course.plan.span) struck)
+
 -- a campaign was carried out, and its text is printed
-pub record TellsCampaign (course : Prepared) (draws : Draws) (answer : Answer) : Type 0 where
+pub record TellsCampaign (course : Prepared) (draws : Draws) (results : Bool) (answer : Answer) : Type 0 where
   pub struck : List Struck
   pub trapped : Option ℕ
   pub carried_out : IsCarriedOut course draws struck trapped
-  pub plain : PrintsOnly (campaign_status trapped) (campaign_text struck course.plan trapped) answer
+  pub plain : PrintsOnly (campaign_status trapped) (campaign_text struck (told_rights course results struck) course.plan trapped) answer
 
 -- the test was transformed, and its output struck
-pub record IsStruck (bytes : List ℕ) (o : Options) (draws : Draws) (answer : Answer) : Type 0 where
+pub record IsStruck (bytes : List ℕ) (o : Options) (draws : Draws) (results : Bool) (answer : Answer) : Type 0 where
   pub course : Prepared
   pub made : IsCourse bytes o course
-  pub tells : TellsCampaign course draws answer
+  pub tells : TellsCampaign course draws results answer
 
 -- the answer over the bytes of the file, which are within the limit
-pub data Campaigns (bytes : List ℕ) (o : Options) (draws : Draws) (answer : Answer) : Type 0 where
-  refused : IsRefused bytes o answer → Campaigns bytes o draws answer
-  struck : IsStruck bytes o draws answer → Campaigns bytes o draws answer
+pub data Campaigns (bytes : List ℕ) (o : Options) (draws : Draws) (results : Bool) (answer : Answer) : Type 0 where
+  refused : IsRefused bytes o answer → Campaigns bytes o draws results answer
+  struck : IsStruck bytes o draws results answer → Campaigns bytes o draws results answer
 
 -- the status by what is true of the bytes; of a test that can be transformed it is that of the campaign
 pub data CampaignDecides (bytes : List ℕ) (o : Options) (draws : Draws) (status : Status) : Type 0 where

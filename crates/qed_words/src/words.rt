@@ -12,7 +12,7 @@ use crate::changes::changes;
 use crate::commands::command_named;
 use crate::error::WordsError;
 use crate::files::names;
-use crate::given::{file, first_value, number_given};
+use crate::given::{file, first_value, has_flag, number_given};
 use crate::options::options;
 use crate::reason::first_reason;
 use crate::shape::{dump, places};
@@ -101,7 +101,10 @@ fn make_order(
             let changes = changes(alloc, arguments)?;
             Ok(Order::Run(first, steps, changes, dump_given(arguments)))
         }
-        Command::Campaign => Ok(Order::Campaign(first, options(arguments), draws(arguments))),
+        Command::Campaign => {
+            let results = has_flag(b"results", arguments);
+            Ok(Order::Campaign(first, options(arguments), draws(arguments), results))
+        }
         Command::Gen => {
             let seed = number_given(Key::Seed, arguments).unwrap_or(0);
             let size = number_given(Key::Size, arguments).unwrap_or(0);

@@ -28,7 +28,7 @@ pub fn word_address(ranges: &[Range], number: u64) -> u64
 }
 
 /// Register x1 to x13, by its number from 0.
-fn register(number: u64) -> Reg
+pub fn register(number: u64) -> Reg
     requires { number < 13 }
     ensures { result ≡ number + 1 }
 {
