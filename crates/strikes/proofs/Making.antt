@@ -65,4 +65,4 @@ all_ordered p [] struck trapped are fits = subst (All (λ s. Ordered s.changes))
 all_ordered p (cs ∷ rest) [] trapped are fits = All-nil (λ (s : Struck). Ordered s.changes)
 all_ordered p (cs ∷ rest) (s ∷ struck) trapped are fits =
     All-cons (λ (s : Struck). Ordered s.changes) s struck (subst Ordered (sym are.0) (All-head (IsStrike p.bounds) cs rest fits).ordered)
-    (all_ordered p rest struck trapped are.1.1 (All-tail (IsStrike p.bounds) cs rest fits))
+    (all_ordered p rest struck trapped are.2 (All-tail (IsStrike p.bounds) cs rest fits))

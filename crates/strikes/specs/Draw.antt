@@ -45,7 +45,7 @@ drawn_place None spans word = place_of spans (word % (13 + word_count spans))
 drawn_place (Some Registers) spans word = Reg (word % 13 + 1)
 drawn_place (Some Words) spans word = Word (word_address spans (word % word_count spans))
 
--- in how many steps, from the least on, an output is struck that is struck at most up to `reach`
+-- how many steps there are, from the least on, for an output that goes on before `reach`; one at least
 abbrev pub window : Aim → ℕ → ℕ
 window aim reach = max 1 (unwrap_or aim.to reach - aim.from)
 

@@ -23,7 +23,7 @@ abbrev pub same_regs : State → State → Bool
 same_regs u v = same_from (reg u) (reg v) 1 13
 
 -- the bytes of a range are the same
-abbrev pub same_bytes : Memory → Memory → ℕ × ℕ → Bool
+unfoldable pub same_bytes : Memory → Memory → ℕ × ℕ → Bool
 same_bytes m k r = same_from (byte_at m) (byte_at k) r.0 (r.1 - r.0)
 
 -- x1 to x13 and the data words

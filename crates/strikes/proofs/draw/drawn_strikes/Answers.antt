@@ -20,9 +20,9 @@ loop-preserved c =
     let before = c.loop.invariant.rng in
     let spans = map range_of c.args.plan.now.span in
     record {
-      made = push_each c.loop.counter (λ i. drawn_strike spans c.args.reach c.args.draws.now.aim c.args.draws.now.changes (after (3 * c.args.draws.now.changes * i) (seeded c.args.draws.now.seed))) c.loop.strikes.items c.push.new.self.items c.in_ok-drawn_strike.field-0 c.in_ok-push.ensures.items c.loop.invariant.made
-          (c.in_ok-drawn_strike.ensures.strike ∙ ap (drawn_strike spans c.args.reach c.args.draws.now.aim c.args.draws.now.changes) before);
-      rng = c.in_ok-drawn_strike.ensures.rng ∙ ap (after (3 * c.args.draws.now.changes)) before ∙ more_words c.args.draws.now.changes c.loop.counter (seeded c.args.draws.now.seed);
+      made = push_each c.loop.counter (λ i. drawn_strike spans c.args.reach c.args.draws.now.aim c.args.draws.now.changes (after (3 * c.args.draws.now.changes * i) (seeded c.args.draws.now.seed))) c.loop.strikes.items c.push.new.self.items c.in_ok-strike.strike c.in_ok-push.ensures.items c.loop.invariant.made
+          (c.in_ok-strike.ensures.strike ∙ ap (drawn_strike spans c.args.reach c.args.draws.now.aim c.args.draws.now.changes) before);
+      rng = c.in_ok-strike.ensures.rng ∙ ap (after (3 * c.args.draws.now.changes)) before ∙ more_words c.args.draws.now.changes c.loop.counter (seeded c.args.draws.now.seed);
     }
 
 pub drawn_strike-requires-clause-place : goal.drawn_strike-requires-clause-place
@@ -33,7 +33,8 @@ pub returns-clause-drawn : goal.returns-clause-drawn
 unfolding drawn_strikes
 returns-clause-drawn c =
     let spans = map range_of c.args.plan.now.span in
-    let all : c.loop.counter ≡ strike_count c.args.draws.now (word_count spans) = omega arith in
+    let count : strike_count c.args.draws.now c.args.plan.now.words ≡ strike_count c.args.draws.now (word_count spans) = ap (strike_count c.args.draws.now) c.requires.count in
+    let all : c.loop.counter ≡ strike_count c.args.draws.now (word_count spans) = omega (arith, count) in
     c.loop.invariant.made
     ∙ ap (λ n. each n (λ i. drawn_strike spans c.args.reach c.args.draws.now.aim c.args.draws.now.changes (after (3 * c.args.draws.now.changes * i) (seeded c.args.draws.now.seed)))) all
 
