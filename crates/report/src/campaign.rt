@@ -1,6 +1,6 @@
 //! What is printed about strikes.
 ghost use Rattle.std.specs.Prelude.{◌≡◌, ◌++◌, Some, IfOk, codes, string_bytes};
-ghost use Rattle.std.specs.Option.{option_map};
+ghost use Rattle.std.specs.Option.{option_copied};
 ghost use Rattle.texts.specs.Printed.{hex_text};
 ghost use Rattle.command_line.specs.Text.Campaign.{place_text, change_text, changes_text, verdict_text, right_at as right_at_of, end_text, strike_line, strike_lines, trapped_line, campaign_text};
 
@@ -111,7 +111,7 @@ fn changes_text(alloc: Global, changes: &[Change]) -> Result<Vec<u8>, AllocError
 
 /// Whether a strike ended right, where that is told.
 fn right_at(rights: Option<&[bool]>, number: usize) -> Option<bool>
-    ensures { result ≡ right_at_of (option_map (λ r. r.now) rights) number }
+    ensures { result ≡ right_at_of (option_copied rights.entry) number }
 {
     rights?.get(number).copied()
 }
@@ -144,7 +144,7 @@ fn strike_lines(
     strikes: &[Struck],
     rights: Option<&[bool]>,
 ) -> Result<Vec<u8>, AllocError>
-    ensures { IfOk result (λ text. text.items ≡ strike_lines (option_map (λ r. r.now) rights) 0 strikes.now) }
+    ensures { IfOk result (λ text. text.items ≡ strike_lines (option_copied rights.entry) 0 strikes.now) }
 {
     let mut text = Vec::new(alloc);
     for (number, struck) in strikes.iter().enumerate() {
@@ -171,7 +171,7 @@ pub fn campaign_text(
     plan: &Plan,
     trapped: Option<u64>,
 ) -> Result<Bytes, AllocError>
-    ensures { IfOk result (λ text. text ≡ campaign_text struck.now (option_map (λ r. r.now) rights) plan.now trapped) }
+    ensures { IfOk result (λ text. text ≡ campaign_text struck.now (option_copied rights.entry) plan.now trapped) }
 {
     let mut text = strike_lines(alloc, struck, rights)?;
     let last = match trapped {

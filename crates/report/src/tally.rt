@@ -1,6 +1,6 @@
 //! What the last line about strikes tells of them.
 ghost use Rattle.std.specs.Prelude.{◌≡◌, ◌+◌, ◌-◌, ◌^◌, ◌<◌, Some, IfOk, length, string_bytes};
-ghost use Rattle.std.specs.Option.{option_map};
+ghost use Rattle.std.specs.Option.{option_copied, option_map};
 ghost use Rattle.command_line.specs.Text.Campaign.{ends_text, how_many_right as how_many_right_of, summary_line};
 ghost use Rattle.report.specs.Tally.{counted, tally_of, tally_text, with_verdict};
 
@@ -24,7 +24,7 @@ fn how_many_right(rights: &[bool]) -> u64
 
 /// The same, where that is told.
 fn right_count(rights: Option<&[bool]>) -> Option<u64>
-    ensures { result ≡ option_map how_many_right_of (option_map (λ r. r.now) rights) }
+    ensures { result ≡ option_map how_many_right_of (option_copied rights.entry) }
 {
     Some(how_many_right(rights?))
 }
@@ -126,7 +126,7 @@ pub fn summary_line(
     rights: Option<&[bool]>,
     plan: &Plan,
 ) -> Result<String, AllocError>
-    ensures { IfOk result (λ text. string_bytes text ≡ summary_line (option_map (λ r. r.now) rights) strikes.now plan.now) }
+    ensures { IfOk result (λ text. string_bytes text ≡ summary_line (option_copied rights.entry) strikes.now plan.now) }
 {
     let count = strikes.len();
     let tally = Tally::of(strikes, right_count(rights));
