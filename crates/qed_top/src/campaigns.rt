@@ -1,9 +1,8 @@
 //! What `campaign` answers.
 ghost use Rattle.std.specs.Prelude.{◌≡◌, All, IfOk};
 ghost use Rattle.qed_model.specs.Promise.Changed.{Ordered};
-ghost use Rattle.command_line.specs.Text.Campaign.{campaign_text as campaign_text_of};
 ghost use Rattle.qed_model.specs.Weave.Places.{AreSoundOptions};
-ghost use Rattle.qed_top.specs.Campaign.{campaign_status, told_rights, Campaigns, TellsCampaign};
+ghost use Rattle.qed_top.specs.Campaign.{campaign_status, text_of as text_of_campaign, Campaigns, TellsCampaign};
 
 use crate::answer::{Answer, plain};
 use crate::refusal::refused;
@@ -33,7 +32,7 @@ fn text_of(
     results: bool,
 ) -> Result<Bytes, AllocError>
     requires { All (λ s. Ordered s.changes) campaign.now.struck.items }
-    ensures { IfOk result (λ text. text ≡ campaign_text_of campaign.now.struck.items (told_rights course.now results campaign.now.struck.items) course.now.plan campaign.now.trapped) }
+    ensures { IfOk result (λ text. text ≡ text_of_campaign course.now results campaign.now.struck.items campaign.now.trapped) }
 {
     let struck = campaign.struck.as_slice();
     if results {
