@@ -11,7 +11,7 @@ from typing import Callable, Dict, List, Optional, Tuple
 import isa
 from admission import Options, Test, admit, blocks
 from assembler import CODE, DATA, assemble
-from campaign import Course, strikes_text
+from campaign import Aim, Course, strikes_text
 from elf import STB_LOCAL, STT_NOTYPE, File, first_sharing, read_elf
 from generator import generate
 from machine import ENDED, FIRED, GOING, Hart, Memory, code_ranges, loads_of, run_changed, start
@@ -209,8 +209,10 @@ def _campaign(order: Order, shelf: Shelf) -> Answer:
     """`campaign`."""
     done = transform(load(shelf, order.files[0], MOST_INPUT), order.options())
     course = Course(done.test, done.woven, done.output)
-    strikes = course.draw(order.values["seed"], order.values["count"], order.values.get("changes", 1))
-    return strikes_text(course, strikes)
+    values = order.values
+    aim = Aim(values.get("only"), values.get("from", 0), values.get("to"))
+    strikes = course.draw(values["seed"], values["count"], values.get("changes", 1), aim)
+    return strikes_text(course, strikes, "results" in order.flags)
 
 
 def _gen(order: Order, shelf: Shelf) -> Answer:

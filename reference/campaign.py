@@ -31,10 +31,22 @@ class Verdict:
     """What a strike showed, with the steps behind the last change where a check fired or the test ended."""
     name: str
     steps: Optional[int] = None
+    is_right: bool = False
 
-    def text(self) -> str:
+    def text(self, results: bool) -> str:
         """VERDICT ("Printed lines")."""
-        return self.name if self.steps is None else f"{self.name} {self.steps}"
+        words = [self.name] + ([] if self.steps is None else [str(self.steps)])
+        if results and self.name == ENDED:
+            words.append("right" if self.is_right else "wrong")
+        return " ".join(words)
+
+
+@dataclass
+class Aim:
+    """Where an output is struck: one kind of places or both, the least step, and the step behind the greatest."""
+    only: Optional[str] = None
+    first: int = 0
+    end: Optional[int] = None
 
 
 def _is_use(i: Optional[isa.Instruction], register: int) -> bool:
@@ -106,7 +118,8 @@ class Course:
         struck = states[0]
         run_changed(struck, changes, last + bound)
         if struck.outcome in (ENDED, FIRED):
-            return Verdict(struck.outcome, max(struck.steps - last, 0))
+            steps = max(struck.steps - last, 0)
+            return Verdict(struck.outcome, steps, struck.outcome == ENDED and self.is_right(struck, last + steps))
         trap = self.input_trap(last + bound)
         if trap is not None:
             raise InputTrapped(trap)
@@ -114,35 +127,57 @@ class Course:
             raise AssertionError(f"the bound does not hold for {changes}")
         return Verdict("same")
 
+    def is_right(self, struck: Hart, steps: int) -> bool:
+        """Whether the input has ended after so many steps, with the values that the struck output has ("Printed lines")."""
+        self.input.run(steps)
+        if self.input.outcome != ENDED or self.input.steps > steps:
+            return False
+        words = (address for data in self.test.data for address in range(data.start, data.end, 8))
+        return (self.input.x[1:14] == struck.x[1:14]
+                and all(self.input.memory.load(word, 8) == struck.memory.load(word, 8) for word in words))
+
     def is_held(self, place: Place) -> bool:
         """Whether the bounds speak of changes of a place: x1 to x13 and data words (PROFILE.md, "Bounds")."""
         if isinstance(place, str):
             return 1 <= int(place[1:]) <= 13
         return any(data.start <= place < data.end for data in self.test.data)
 
-    def draw(self, seed: int, count: int, most: int) -> List[List[Change]]:
+    def draw(self, seed: int, count: int, most: int, aim: Aim) -> List[List[Change]]:
         """The strikes of a seed ("Printed lines")."""
         stream = random_words(seed)
+        registers = [] if aim.only == "words" else [f"x{number}" for number in range(1, 14)]
+        places = len(registers) + (0 if aim.only == "registers" else self.test.data_words)
+        window = max((self.reach if aim.end is None else aim.end) - aim.first, 1)
         strikes = []
-        for _ in range(count):
+        for _ in range(count if places else 0):
             changes = []
             for _ in range(most):
-                step = next(stream) % self.reach
-                number = next(stream) % (13 + self.test.data_words)
-                place = f"x{number + 1}" if number < 13 else self.test.data_word(number - 13)
+                step = aim.first + next(stream) % window
+                number = next(stream) % places
+                place = (registers[number] if number < len(registers)
+                         else self.test.data_word(number - len(registers)))
                 changes.append(Change(step, place, next(stream)))
             strikes.append(sorted(changes, key=lambda change: change.step))
         return strikes
 
 
-def strike_line(number: int, changes: List[Change], verdict: Verdict) -> str:
+def strike_line(number: int, changes: List[Change], verdict: Verdict, results: bool) -> str:
     """The line of a strike ("Printed lines")."""
     places = [f"step {c.step} {c.place if isinstance(c.place, str) else hex16(c.place)}={hex16(c.value)}"
               for c in changes]
-    return f"{number} {' '.join(places)} {verdict.text()}\n"
+    return f"{number} {' '.join(places)} {verdict.text(results)}\n"
 
 
-def strikes_text(course: Course, strikes: List[List[Change]]) -> Tuple[int, str]:
+def _count(name: str, verdicts: List[Verdict], results: bool) -> str:
+    """How often a verdict came, in the last line ("Printed lines")."""
+    found = [verdict for verdict in verdicts if verdict.name == name]
+    if name != ENDED or not results:
+        return f"{name} {len(found)}"
+    right = sum(verdict.is_right for verdict in found)
+    return f"{name} {len(found)} ({right} right, {len(found) - right} wrong)"
+
+
+def strikes_text(course: Course, strikes: List[List[Change]], results: bool = False) -> Tuple[int, str]:
     """The exit code, and the lines of strikes with the last one ("Printed lines")."""
     lines, verdicts = [], []
     for number, changes in enumerate(strikes):
@@ -150,8 +185,8 @@ def strikes_text(course: Course, strikes: List[List[Change]]) -> Tuple[int, str]
             verdicts.append(course.strike(changes))
         except InputTrapped as trapped:
             return 11, "".join(lines) + f"input trapped at {hex16(trapped.pc)}\n"
-        lines.append(strike_line(number, changes, verdicts[-1]))
-    counts = ", ".join(f"{name} {sum(v.name == name for v in verdicts)}" for name in VERDICTS)
+        lines.append(strike_line(number, changes, verdicts[-1], results))
+    counts = ", ".join(_count(name, verdicts, results) for name in VERDICTS)
     longest = max((v.steps for v in verdicts if v.name == "fired"), default=0)
     return 0, (f"{''.join(lines)}strikes {len(strikes)}, {counts}, longest {longest}, "
                f"register bound {course.bounds.register}, word bound {number_or_none(course.bounds.word)}\n")

@@ -475,6 +475,14 @@ def draw_campaign(rng: random.Random) -> Case:
              *draw_options(rng)]
     if chance(rng, 40):
         words += ["--changes", str(rng.choice([2, 3, 16]))]
+    if chance(rng, 30):
+        words += ["--only", rng.choice(["registers", "words"])]
+    if chance(rng, 30):
+        words += ["--from", str(rng.choice([0, 1, 7, 40, 1000]))]
+    if chance(rng, 30):
+        words += ["--to", str(rng.choice([1, 8, 41, 2000]))]
+    if chance(rng, 40):
+        words.append("--results")
     return Case({"IN": draft}, (tuple(words),))
 
 
@@ -574,9 +582,9 @@ VALUES = ["0", "1", "2", "4", "8", "9", "16", "17", "1024", "1025", "4096", "409
           "0x20001000", "1000000000000", "1000000000001", "18446744073709551615", "18446744073709551616", "0x", "0xg",
           "x", "-1", "", "0:x1=1", "5:x31=0xff", "0:x32=1", "0:x01=1", "1:8=1", "1:9=1", ":8=1", "1:8", "0:1",
           "0:65536", "0:65537", "0xffffffffffffffff:1", "0xffffffffffffffff:2", "01", "012345678", "9", "10000",
-          "10001", "60000", "60001"]
+          "10001", "60000", "60001", "1000000", "1000001", "registers", "words"]
 OPTIONS = ["inst-min", "inst-max", "round", "half", "sweep", "diverse", "steps", "fault", "dump", "seed", "count",
-           "changes", "size", "turns", "help", ""]
+           "changes", "only", "from", "to", "results", "size", "turns", "help", ""]
 
 
 def draw_words(rng: random.Random) -> Case:

@@ -125,7 +125,11 @@ def order_text(order: Order) -> str:
         changes = _listed([_change(change) for change in values.get("fault", [])])
         parts += [str(values.get("steps", 1000000)), changes, dump]
     elif order.command == "campaign":
-        parts += [str(values["seed"]), str(values["count"]), str(values.get("changes", 1))]
+        only = f"Some({values['only'].capitalize()})" if "only" in values else "None"
+        end = f"Some({values['to']})" if "to" in values else "None"
+        parts += [f"Draws {{ seed: {values['seed']}, count: {values['count']}, changes: {values.get('changes', 1)}, "
+                  f"aim: Aim {{ only: {only}, from: {values.get('from', 0)}, to: {end} }} }}",
+                  str("results" in order.flags).lower()]
     elif order.command == "gen":
         parts += [str(values["seed"]), str(values["size"])]
     elif order.command == "harts":

@@ -28,7 +28,8 @@ COMMANDS = {
     "transform": Command(2, 2, WEAVING, [], ["sweep", "diverse"]),
     "plan": Command(1, 1, WEAVING, [], ["sweep", "diverse"]),
     "run": Command(1, 1, ["steps", "fault", "dump"]),
-    "campaign": Command(1, 1, WEAVING + ["seed", "count", "changes"], ["seed", "count"], ["sweep", "diverse"]),
+    "campaign": Command(1, 1, WEAVING + ["seed", "count", "changes", "only", "from", "to"], ["seed", "count"],
+                        ["sweep", "diverse", "results"]),
     "gen": Command(1, 1, ["seed", "size"], ["seed", "size"]),
     "list": Command(1, 1),
     "asm": Command(2, 2),
@@ -40,9 +41,9 @@ OTHER_NAMES = {"--help": "help", "-h": "help", "--version": "version"}
 
 RANGES = {"inst-min": (1, 1024), "inst-max": (1, 1024), "round": (1, 1024), "half": (4096, 512 << 20),
           "steps": (0, 10 ** 12), "seed": (0, (1 << 64) - 1), "count": (1, 10000), "changes": (1, 16),
-          "size": (1, 60000)}
+          "size": (1, 60000), "from": (0, 1000000), "to": (1, 1000000)}
 
-Value = Union[int, List[Change], Tuple[int, int], List[int]]
+Value = Union[int, List[Change], Tuple[int, int], List[int], str]
 
 
 @dataclass
@@ -88,7 +89,13 @@ def turns_of(text: str) -> Optional[List[int]]:
     return [int(digit) for digit in text] if re.fullmatch("[0-9]{1,64}", text) else None
 
 
-SHAPES: Dict[str, Callable[[str], Optional[Value]]] = {"fault": change_of, "dump": dump_of, "turns": turns_of}
+def places_of(text: str) -> Optional[str]:
+    """The kind of places that a value of `only` is, or None (the table of values)."""
+    return text if text in ("registers", "words") else None
+
+
+SHAPES: Dict[str, Callable[[str], Optional[Value]]] = {"fault": change_of, "dump": dump_of, "turns": turns_of,
+                                                       "only": places_of}
 
 
 def _collect(words: List[str], command: Command) -> Tuple[List[str], Dict[str, List[str]], List[str]]:
@@ -164,6 +171,8 @@ def order_of(words: List[str]) -> Order:
             order.values[name] = _value_of(name, texts[name], len(files))
     if "inst-max" in command.options and 2 * order.options().inst_min > order.options().inst_max + 1:
         raise Usage("split")
+    if "from" in order.values and "to" in order.values and order.values["from"] >= order.values["to"]:
+        raise Usage("out of range to")
     if called == "help" and files and files[0] not in COMMANDS:
         raise Usage("unknown command")
     return order

@@ -22,8 +22,8 @@ from collections import Counter
 VERDICTS = ("fired", "ended", "same", "closed", "not reached")
 COLOURS = dict(zip(VERDICTS, ("#2a7f62", "#c0392b", "#7f8c8d", "#d4ac0d", "#d5d8dc")))
 CHANGE = re.compile(r"step (\d+) (x\d+|0x[0-9a-f]{16})=(0x[0-9a-f]{16}) ")
-LINE = re.compile(r"(\d+) ((?:step \d+ \S+ )+)(fired|ended|same|closed|not reached)(?: (\d+))?")
-LAST = re.compile(r"strikes (\d+), fired (\d+), ended (\d+), same (\d+), closed (\d+), not reached (\d+), longest (\d+), "
+LINE = re.compile(r"(\d+) ((?:step \d+ \S+ )+)(fired|ended|same|closed|not reached)(?: (\d+))?(?: (right|wrong))?")
+LAST = re.compile(r"strikes (\d+), fired \d+, ended \d+( \(\d+ right, \d+ wrong\))?, same \d+, closed \d+, not reached \d+, longest \d+, "
                   r"register bound (\d+), word bound (\d+|none)")
 BARS, WIDTH = 24, 50
 
@@ -33,7 +33,7 @@ class NotWhole(Exception):
 
 
 class Strike:
-    """One line: its changes, the verdict, and the steps behind the last change, or None."""
+    """One line: its changes, the verdict, the steps behind the last change, or None, and whether it ended right or wrong."""
 
     def __init__(self, line):
         found = LINE.fullmatch(line)
@@ -42,6 +42,7 @@ class Strike:
         self.number, self.verdict = int(found[1]), found[3]
         self.changes = [(int(step), place, value) for step, place, value in CHANGE.findall(found[2])]
         self.latency = int(found[4]) if found[4] else None
+        self.result = found[5] or ""
 
     @property
     def has_word(self):
@@ -62,18 +63,19 @@ def read(name):
     strikes = [Strike(line) for line in lines[:-1]]
     if [strike.number for strike in strikes] != list(range(int(last[1]))):
         raise NotWhole("strikes are missing")
-    counts = Counter(strike.verdict for strike in strikes)
-    longest = max((strike.latency for strike in strikes if strike.verdict == "fired"), default=0)
-    if [counts[verdict] for verdict in VERDICTS] + [longest] != [int(last[i]) for i in range(2, 8)]:
+    bounds = int(last[3]), None if last[4] == "none" else int(last[4])
+    if totals(strikes, bounds, bool(last[2])) != lines[-1]:
         raise NotWhole("the last line is not the sum of the others")
-    return strikes, (int(last[8]), None if last[9] == "none" else int(last[9]))
+    return strikes, bounds
 
 
-def totals(strikes, bounds):
+def totals(strikes, bounds, results):
     """The last line of a campaign, over all strikes."""
     counts = Counter(strike.verdict for strike in strikes)
+    counts.update(strike.result for strike in strikes)
     longest = max((strike.latency for strike in strikes if strike.verdict == "fired"), default=0)
-    shown = ", ".join(f"{verdict} {counts[verdict]}" for verdict in VERDICTS)
+    told = {"ended": f" ({counts['right']} right, {counts['wrong']} wrong)"} if results else {}
+    shown = ", ".join(f"{verdict} {counts[verdict]}{told.get(verdict, '')}" for verdict in VERDICTS)
     word = "none" if bounds[1] is None else bounds[1]
     return f"strikes {len(strikes)}, {shown}, longest {longest}, register bound {bounds[0]}, word bound {word}"
 
@@ -209,10 +211,11 @@ def store_table(name, found):
     """A row for each strike."""
     with open(name, "w", encoding="ascii", newline="") as file:
         writer = csv.writer(file)
-        writer.writerow(("text", "strike", "step", "place", "value", "changes", "verdict", "latency"))
+        writer.writerow(("text", "strike", "step", "place", "value", "changes", "verdict", "latency", "result"))
         for text_name, strikes in found:
             for strike in strikes:
-                writer.writerow((text_name, strike.number, *strike.changes[-1], len(strike.changes), strike.verdict, strike.latency))
+                writer.writerow((text_name, strike.number, *strike.changes[-1], len(strike.changes), strike.verdict, strike.latency,
+                                 strike.result))
 
 
 def gathered(names):
@@ -250,7 +253,8 @@ def main():
     if not found:
         return 1
     strikes = [strike for _, text_strikes in found for strike in text_strikes]
-    print(totals(strikes, bounds))
+    ends = [strike for strike in strikes if strike.verdict == "ended"]
+    print(totals(strikes, bounds, any(strike.result for strike in ends) and all(strike.result for strike in ends)))
     print_histograms(strikes, bounds)
     rows = rows_of_map(strikes, given.out)
     print_map(rows)

@@ -8,12 +8,14 @@ ghost use Rattle.qed_model.specs.Weave.Places.{AreSoundOptions};
 ghost use Rattle.transform.specs.Transform.{HasCause, IsTransformable, IsErrorOr, IsDoneOr};
 ghost use Rattle.strikes.specs.Draw.{drawn_strikes};
 ghost use Rattle.strikes.specs.Kept.{IsReach, copies_up_to};
+ghost use Rattle.qed_model.specs.Promise.Changed.{Ordered};
+ghost use Rattle.strikes.specs.Right.{rights as rights_of};
 ghost use Rattle.strikes.specs.Struck.{IsStrike, AreStruck};
 ghost use Rattle.strikes.specs.Verdict.{IsVerdict};
 ghost use Rattle.campaign.specs.Course.{IsCourse, StartsIn};
 
 use elf_read::read_known;
-use qed_model::{Change, Changes, Options, Plan, Verdict};
+use qed_model::{Change, Changes, Draws, Options, Plan, Struck, Verdict};
 use rv_step::Machine;
 use std::alloc::{AllocError, Global};
 use std::marker::Model;
@@ -135,27 +137,32 @@ impl Course {
         self.runs.strike(alloc, changes)
     }
 
-    /// So many strikes, of so many changes each, that the random words of a seed make. Each change has three words: the step is the
-    /// first modulo `reach`; the place is number q, the second modulo 13 and the number of data words, which is register q + 1, or
-    /// from 13 on data word q - 13; the value is the third.
-    pub fn draw(
-        &self,
-        alloc: Global,
-        seed: u64,
-        count: u64,
-        changes: u64,
-    ) -> Result<Vec<Changes>, AllocError>
-        ensures drawn { IfOk result (λ strikes. strikes.items ≡ drawn_strikes (map range_of self.now.plan.span) self.now.runs.reach changes count seed) }
+    /// The strikes that the random words of a seed make; none where only data words are struck and there are none. Each change has
+    /// three words. Its step is `from` and the first modulo `to - from`, or modulo 1 where that is less; without `to` it is `reach`.
+    /// Its place is the second modulo 13 and the number of data words: register q + 1 for number q, or from 13 on data word q - 13;
+    /// of one kind alone, it is the second modulo 13 or modulo the number of data words. Its value is the third.
+    pub fn draw(&self, alloc: Global, draws: &Draws) -> Result<Vec<Changes>, AllocError>
+        ensures drawn { IfOk result (λ strikes. strikes.items ≡ drawn_strikes (map range_of self.now.plan.span) self.now.runs.reach draws.now) }
         ensures fit { IfOk result (λ strikes. All (IsStrike self.now.plan.bounds) strikes.items) }
     {
-        drawn_strikes(alloc, &self.plan, self.runs.reach(), seed, count, changes)
+        drawn_strikes(alloc, &self.plan, self.runs.reach(), draws)
     }
 
     /// Strikes one after the other, each from the start of the runs, up to the first where the input traps.
     pub fn strike_all(&self, alloc: Global, strikes: &[Changes]) -> Result<Campaign, AllocError>
         requires { All (IsStrike self.now.plan.bounds) strikes.now }
-        ensures { IfOk result (λ campaign. AreStruck self.now.runs strikes.now campaign.struck.items campaign.trapped) }
+        ensures struck { IfOk result (λ campaign. AreStruck self.now.runs strikes.now campaign.struck.items campaign.trapped) }
+        ensures ordered { IfOk result (λ campaign. All (λ s. Ordered s.changes) campaign.struck.items) }
     {
         self.runs.strike_all(alloc, strikes)
+    }
+
+    /// Whether the test ended right in each of some strikes: by the end of the struck run the input had ended too, and x1 to x13 and
+    /// the data words of the original half hold what they held at its end. False where it did not end.
+    pub fn rights(&self, alloc: Global, struck: &[Struck]) -> Result<Vec<bool>, AllocError>
+        requires { All (λ s. Ordered s.changes) struck.now }
+        ensures { IfOk result (λ found. found.items ≡ rights_of self.now.runs (map range_of self.now.plan.span) struck.now) }
+    {
+        self.runs.rights(alloc, self.plan.span.as_slice(), struck)
     }
 }

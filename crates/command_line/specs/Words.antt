@@ -4,6 +4,9 @@ use Rattle.std.specs.Option.{option_or}
 use Rattle.std.specs.Str.{bytes_eq}
 use Rattle.std.specs.List.{list_any, list_all}
 use Rattle.std.specs.Char.{digit_value}
+use Rattle.qed_model.specs.declared.aim.Draws.{Draws}
+use Rattle.qed_model.specs.declared.aim.Places.{Places}
+use Rattle.qed_model.specs.declared.aim.Places.TheVariants as aim
 use Rattle.qed_model.specs.declared.change.Place.{Place}
 use Rattle.qed_model.specs.declared.change.Place.TheVariants.{Reg, Word}
 use Rattle.qed_model.specs.declared.change.Change.{Change}
@@ -17,7 +20,7 @@ use Rattle.command_line.specs.declared.order.Order.TheVariants as order
 use Rattle.command_line.specs.declared.order.Topic.{Topic}
 use Rattle.command_line.specs.declared.order.Topic.TheVariants as topic
 use Rattle.command_line.specs.declared.order.Key.{Key}
-use Rattle.command_line.specs.declared.order.Key.TheVariants.{InstMin, InstMax, Round, Half, Steps, Fault, Dump, Seed, Count, Size, Changes, Turns}
+use Rattle.command_line.specs.declared.order.Key.TheVariants.{InstMin, InstMax, Round, Half, Steps, Fault, Dump, Seed, Count, Size, Changes, Only, From, To, Turns}
 use Rattle.command_line.specs.declared.order.Reason.{Reason}
 use Rattle.command_line.specs.declared.order.Reason.TheVariants.{NoCommand, UnknownCommand, EmptyWord, UnknownOption, Repeated, MissingValue, ExtraWord, MissingFile, MissingOption, BadNumber, BadShape, OutOfRange, Split}
 use Rattle.qed_model.specs.Options.{default_options}
@@ -70,6 +73,12 @@ span_in (Some parts) = span_of (number parts.0) (number parts.1)
 -- a dump: `ADDR:LEN`
 unfoldable pub dump : List ℕ → Option (ℕ × ℕ)
 dump text = span_in (parted colon text)
+
+-- ---- places
+
+-- `registers` or `words`
+unfoldable pub places : List ℕ → Option Places
+places text = if bytes_eq text (codes "registers") then Some aim.Registers else if bytes_eq text (codes "words") then Some aim.Words else None
 
 -- ---- turns
 
@@ -127,7 +136,7 @@ abbrev pub keys_of : Command → List Key
 keys_of Transform = InstMin ∷ InstMax ∷ Round ∷ Half ∷ []
 keys_of Plan = InstMin ∷ InstMax ∷ Round ∷ Half ∷ []
 keys_of Run = Steps ∷ Fault ∷ Dump ∷ []
-keys_of Campaign = InstMin ∷ InstMax ∷ Round ∷ Half ∷ Seed ∷ Count ∷ Changes ∷ []
+keys_of Campaign = InstMin ∷ InstMax ∷ Round ∷ Half ∷ Seed ∷ Count ∷ Changes ∷ Only ∷ From ∷ To ∷ []
 keys_of Gen = Seed ∷ Size ∷ []
 keys_of command.List = []
 keys_of Asm = []
@@ -174,6 +183,9 @@ name_of Seed = codes "seed"
 name_of Count = codes "count"
 name_of Size = codes "size"
 name_of Changes = codes "changes"
+name_of Only = codes "only"
+name_of From = codes "from"
+name_of To = codes "to"
 name_of Turns = codes "turns"
 
 -- how often an option may be given
@@ -185,8 +197,14 @@ most_of _ = 1
 unfoldable pub key_named : Command → List ℕ → Option Key
 key_named command name = find (λ k. bytes_eq (name_of k) name) (keys_of command)
 
+-- whether `--results` is an option
+abbrev pub has_results : Command → Bool
+has_results Campaign = true
+has_results _ = false
+
 abbrev pub is_flag : Command → List ℕ → Bool
-is_flag command name = has_flags command && (bytes_eq name (codes "sweep") || bytes_eq name (codes "diverse"))
+is_flag command name =
+    (has_flags command && (bytes_eq name (codes "sweep") || bytes_eq name (codes "diverse"))) || (has_results command && bytes_eq name (codes "results"))
 
 -- ---- what the words are
 
@@ -315,6 +333,8 @@ is_in_range Steps n = nat_le n 1000000000000
 is_in_range Count n = nat_le 1 n && nat_le n 10000
 is_in_range Size n = nat_le 1 n && nat_le n 60000
 is_in_range Changes n = nat_le 1 n && nat_le n 16
+is_in_range From n = nat_le n 1000000
+is_in_range To n = nat_le 1 n && nat_le n 1000000
 is_in_range _ n = true
 
 abbrev pub wrong_number : Key → Option ℕ → Option Reason
@@ -330,6 +350,7 @@ wrong_turns count (Some harts) = if list_all (λ hart. nat_lt hart count) harts 
 unfoldable pub wrong_value : ℕ → Key → List ℕ → Option Reason
 wrong_value count Fault value = if is_some (fault value) then None else Some (BadShape Fault)
 wrong_value count Dump value = if is_some (dump value) then None else Some (BadShape Dump)
+wrong_value count Only value = if is_some (places value) then None else Some (BadShape Only)
 wrong_value count Turns value = wrong_turns count (turns value)
 wrong_value count key value = wrong_number key (number value)
 
@@ -387,19 +408,21 @@ topic_of (Some command) = topic.One command
 unfoldable pub steps_given : List Argument → ℕ
 steps_given given = unwrap_or (number_given Steps given) 1000000
 
--- without `--changes` a strike is one change
+-- without `--changes` a strike is one change, and without the options behind it the output is struck in all places and steps
+unfoldable pub draws : List Argument → Draws
+draws given = record {
+  seed = unwrap_or (number_given Seed given) 0;
+  count = unwrap_or (number_given Count given) 0;
+  changes = unwrap_or (number_given Changes given) 1;
+  aim = record { only = option_and_then places (value_of Only given); from = unwrap_or (number_given From given) 0; to = number_given To given };
+}
+
 unfoldable pub order_of : Command → List Argument → Order
 order_of Transform given = order.Transform (file given 0) (file given 1) (options given)
 order_of Plan given = order.Plan (file given 0) (options given)
 order_of Run given =
     order.Run (file given 0) (steps_given given) (changes_given given) (option_and_then dump (value_of Dump given))
-order_of Campaign given =
-    order.Campaign
-    (file given 0)
-    (options given)
-    (unwrap_or (number_given Seed given) 0)
-    (unwrap_or (number_given Count given) 0)
-    (unwrap_or (number_given Changes given) 1)
+order_of Campaign given = order.Campaign (file given 0) (options given) (draws given) (has_flag (codes "results") given)
 order_of Gen given = order.Gen (file given 0) (unwrap_or (number_given Seed given) 0) (unwrap_or (number_given Size given) 0)
 order_of command.List given = order.List (file given 0)
 order_of Asm given = order.Asm (file given 0) (file given 1)
@@ -413,6 +436,14 @@ order_of Version given = order.Tell topic.Version
 unfoldable pub split_reason : List Argument → Option Reason
 split_reason given = if is_split (options given) then Some Split else None
 
+-- the least step is below the end of the steps, where both are given
+abbrev pub is_empty : Option ℕ → Option ℕ → Bool
+is_empty (Some from) (Some to) = nat_le to from
+is_empty _ _ = false
+
+unfoldable pub window_reason : List Argument → Option Reason
+window_reason given = if is_empty (number_given From given) (number_given To given) then Some (OutOfRange To) else None
+
 -- the word behind `help`, where there is one, names a command
 unfoldable pub topic_reason : Command → List Argument → Option Reason
 topic_reason Help given = if length (files given) == 0 || is_some (command_of (file given 0)) then None else Some UnknownCommand
@@ -422,7 +453,7 @@ topic_reason _ given = None
 unfoldable pub reason_of : Command → List Argument → Option Reason
 reason_of command given =
     first_reason
-    (first_wrong command [] given ∷ missing command given ∷ first_wrong_value command given ∷ split_reason given ∷ topic_reason command given ∷ [])
+    (first_wrong command [] given ∷ missing command given ∷ first_wrong_value command given ∷ split_reason given ∷ window_reason given ∷ topic_reason command given ∷ [])
 
 abbrev pub answer : Order → Option Reason → Result Order Reason
 answer o None = Ok o

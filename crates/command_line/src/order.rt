@@ -4,7 +4,7 @@ ghost use Rattle.command_line.specs.Words.{name_of};
 
 use crate::{Name, Names};
 use elf_types::Bytes;
-use qed_model::{Changes, Options};
+use qed_model::{Changes, Draws, Options};
 
 /// A command, without its files and options.
 #[derive(Clone, Copy, Debug, PartialEq, Eq)]
@@ -41,8 +41,8 @@ pub enum Order {
     /// The file, the greatest number of steps, the changes in the order of their steps, and the address and the length of
     /// the dump in bytes.
     Run(Name, u64, Changes, Option<(u64, u64)>),
-    /// The input, the seed, the number of strikes, and the number of changes in each.
-    Campaign(Name, Options, u64, u64, u64),
+    /// The input, the strikes, and whether it is told of each end whether it is right.
+    Campaign(Name, Options, Draws, bool),
     /// The output, the seed and the size.
     Gen(Name, u64, u64),
     /// The file.
@@ -70,6 +70,9 @@ pub enum Key {
     Count,
     Size,
     Changes,
+    Only,
+    From,
+    To,
     Turns,
 }
 
@@ -90,6 +93,9 @@ impl Key {
             Key::Count => "count",
             Key::Size => "size",
             Key::Changes => "changes",
+            Key::Only => "only",
+            Key::From => "from",
+            Key::To => "to",
             Key::Turns => "turns",
         }
     }
@@ -114,7 +120,7 @@ pub enum Reason {
     MissingFile,
     MissingOption(Key),
     BadNumber(Key),
-    /// A fault, a dump or turns of another form.
+    /// A fault, a dump, places or turns of another form.
     BadShape(Key),
     OutOfRange(Key),
     /// The floor of a piece leaves no room: `2 * inst_min` is above `inst_max + 1`.

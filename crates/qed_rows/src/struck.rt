@@ -38,8 +38,14 @@ pub(crate) fn strike(
         return String::from_str(alloc, "no strike\n");
     }
     let text = match course.strike(alloc, changes.as_slice()) {
-        Ok(verdict) => campaign_text(alloc, &[Struck { changes, verdict }], course.plan(), None)?,
-        Err(StrikeError::Trapped(pc)) => campaign_text(alloc, &[], course.plan(), Some(pc))?,
+        Ok(verdict) => campaign_text(
+            alloc,
+            &[Struck { changes, verdict }],
+            None,
+            course.plan(),
+            None,
+        )?,
+        Err(StrikeError::Trapped(pc)) => campaign_text(alloc, &[], None, course.plan(), Some(pc))?,
         Err(StrikeError::Memory) => return Err(AllocError),
     };
     text_of(alloc, &text)

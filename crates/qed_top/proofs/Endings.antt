@@ -1,5 +1,5 @@
 -- From what was decided and carried out to how the call ends.
-use Rattle.std.proofs.Common.{◌≡◌, ◌≢◌, ℕ, List, [], Option, None, Some, IfSome, ◌⊎◌, inl, inr, refl, sym, ap, ◌∙◌, subst, arith}
+use Rattle.std.proofs.Common.{◌≡◌, ◌≢◌, ℕ, Bool, List, [], Option, None, Some, IfSome, ◌⊎◌, inl, inr, refl, sym, ap, ◌∙◌, subst, arith}
 use Rattle.std.specs.Prelude.{MatchOption, MatchResult, Result, Ok, Err, IfOk, IsSome, IsSomeAnd}
 use Rattle.std.specs.Prelude.{All}
 use Rattle.std.proofs.lemmas.List.Elements.{All-head, recursion_from_All}
@@ -7,6 +7,7 @@ use Rattle.std.specs.Io.KnownBytes.{Appends}
 use Rattle.qed_io.specs.Sink.{AppendsPart}
 use Rattle.qed_io.specs.Files.{Files, file_bytes}
 use Rattle.qed_io.specs.Counts.{Rose, RoseAt, NoneFell}
+use Rattle.qed_model.specs.declared.aim.Draws.{Draws}
 use Rattle.qed_model.specs.declared.change.Change.{Change}
 use Rattle.elf_types.specs.declared.file.ElfFile.{ElfFile}
 use Rattle.qed_model.specs.declared.options.Options.{Options}
@@ -134,9 +135,9 @@ trapped_printed : (trapped : Option ℕ) → Printed (campaign_status trapped)
 trapped_printed None = tt
 trapped_printed (Some pc) = tt
 
-campaign_printed : (bytes : List ℕ) (o : Options) (seed count changes : ℕ) (answer : Answer) → Campaigns bytes o seed count changes answer → Printed answer.status
-campaign_printed bytes o seed count changes answer (campaigns.refused r) = prints (refusal_status r.error) answer (refusal_printed (refusal_status r.error) (refusal_refuses r.error)) r.plain.status
-campaign_printed bytes o seed count changes answer (campaigns.struck s) = prints (campaign_status s.tells.trapped) answer (trapped_printed s.tells.trapped) s.tells.plain.status
+campaign_printed : (bytes : List ℕ) (o : Options) (draws : Draws) (results : Bool) (answer : Answer) → Campaigns bytes o draws results answer → Printed answer.status
+campaign_printed bytes o draws results answer (campaigns.refused r) = prints (refusal_status r.error) answer (refusal_printed (refusal_status r.error) (refusal_refuses r.error)) r.plain.status
+campaign_printed bytes o draws results answer (campaigns.struck s) = prints (campaign_status s.tells.trapped) answer (trapped_printed s.tells.trapped) s.tells.plain.status
 
 gens_printed : (output : List ℕ) (seed size : ℕ) (answer : Answer) → Gens output seed size answer → Printed answer.status
 gens_printed output seed size answer (gens.large_code l) = prints Limit answer tt l.plain.status
@@ -146,7 +147,7 @@ over_printed : (order : Order) (bytes : List ℕ) (answer : Answer) → AnswersO
 over_printed (Transform input output o) bytes answer m = makes_printed bytes o (Delivers output) answer (λ file p d. delivered_done output file p answer d) m
 over_printed (Plan input o) bytes answer m = makes_printed bytes o TellsPlan answer (λ file p t. told_done file p answer t) m
 over_printed (Run file steps changes dump) bytes answer m = runs_printed bytes steps changes dump answer m
-over_printed (Campaign input o seed count changes) bytes answer m = campaign_printed bytes o seed count changes answer m
+over_printed (Campaign input o draws results) bytes answer m = campaign_printed bytes o draws results answer m
 over_printed (Gen output seed size) bytes answer m = gens_printed output seed size answer m
 over_printed (order.List file) bytes answer m = lists_printed bytes answer m
 over_printed (Asm text output) bytes answer m = asm_printed bytes output answer m
@@ -291,14 +292,14 @@ asm_settled text output answer t (asm.assembled a) (asm.has_fault e x n b) = abs
 asm_settled text output answer t (asm.assembled a) (asm.is_file g x b) = a.status ∙ sym b
 
 campaign_settled :
-    (bytes : List ℕ) (o : Options) (seed count changes : ℕ) (answer : Answer) (t : Status) → Campaigns bytes o seed count changes answer
-    → CampaignDecides bytes o seed count changes t → answer.status ≡ t
-campaign_settled bytes o seed count changes answer t (campaigns.refused r) (campaigns.not_made e x n b) =
+    (bytes : List ℕ) (o : Options) (draws : Draws) (results : Bool) (answer : Answer) (t : Status) → Campaigns bytes o draws results answer
+    → CampaignDecides bytes o draws t → answer.status ≡ t
+campaign_settled bytes o draws results answer t (campaigns.refused r) (campaigns.not_made e x n b) =
     transform_unique bytes o answer.status t (decide.refused r.error r.cause r.known r.plain.status) (decide.refused e x n b)
-campaign_settled bytes o seed count changes answer t (campaigns.refused r) (campaigns.carried_out f h) = absurd (r.known (memory_only bytes o r.error r.cause f))
-campaign_settled bytes o seed count changes answer t (campaigns.struck s) (campaigns.not_made e x n b) =
+campaign_settled bytes o draws results answer t (campaigns.refused r) (campaigns.carried_out f h) = absurd (r.known (memory_only bytes o r.error r.cause f))
+campaign_settled bytes o draws results answer t (campaigns.struck s) (campaigns.not_made e x n b) =
     absurd (n (memory_only bytes o e x (transformable_of bytes o s.made.output s.course.plan s.made.transforms)))
-campaign_settled bytes o seed count changes answer t (campaigns.struck s) (campaigns.carried_out f h) =
+campaign_settled bytes o draws results answer t (campaigns.struck s) (campaigns.carried_out f h) =
     s.tells.plain.status ∙ sym (h s.course s.tells.struck s.tells.trapped s.made s.tells.carried_out)
 
 gens_settled : (output : List ℕ) (seed size : ℕ) (answer : Answer) (t : Status) → Gens output seed size answer → GenDecides seed size t → answer.status ≡ t
@@ -315,7 +316,7 @@ over_settled (Transform input output o) bytes answer t m d =
     transform_unique bytes o answer.status t (makes_decided bytes o (Delivers output) answer (λ file p x. delivered_done output file p answer x) m) d
 over_settled (Plan input o) bytes answer t m d = transform_unique bytes o answer.status t (makes_decided bytes o TellsPlan answer (λ file p x. told_done file p answer x) m) d
 over_settled (Run file steps changes dump) bytes answer t m d = read_unique bytes (ran_status steps changes) answer.status t (runs_decided bytes steps changes dump answer m) d
-over_settled (Campaign input o seed count changes) bytes answer t m d = campaign_settled bytes o seed count changes answer t m d
+over_settled (Campaign input o draws results) bytes answer t m d = campaign_settled bytes o draws results answer t m d
 over_settled (Gen output seed size) bytes answer t m d = gens_settled output seed size answer t m d
 over_settled (order.List file) bytes answer t m d = read_unique bytes (λ f. Done) answer.status t (lists_decided bytes answer m) d
 over_settled (Asm text output) bytes answer t m d = asm_settled bytes output answer t m d
@@ -340,7 +341,7 @@ calm_one : (order : Order) (rose : List ℕ → Type 0) → All (λ name. rose n
 calm_one (Transform input output o) rose calm = All-head (λ name. rose name → ⊥) input [] calm
 calm_one (Plan input o) rose calm = All-head (λ name. rose name → ⊥) input [] calm
 calm_one (Run file steps changes dump) rose calm = All-head (λ name. rose name → ⊥) file [] calm
-calm_one (Campaign input o seed count changes) rose calm = All-head (λ name. rose name → ⊥) input [] calm
+calm_one (Campaign input o draws results) rose calm = All-head (λ name. rose name → ⊥) input [] calm
 calm_one (Gen output seed size) rose calm = tt
 calm_one (order.List file) rose calm = All-head (λ name. rose name → ⊥) file [] calm
 calm_one (Asm text output) rose calm = All-head (λ name. rose name → ⊥) text [] calm
@@ -407,10 +408,10 @@ asm_store text output stores answer calm (asm.faulty f) r = none_stored answer s
 asm_store text output stores answer calm (asm.assembled a) r = calm (stored_as answer.stored stores output a.file a.stored r)
 
 campaign_store :
-    (bytes : List ℕ) (o : Options) (seed count changes : ℕ) (stores : List ℕ → Type 0) (answer : Answer) → Campaigns bytes o seed count changes answer
+    (bytes : List ℕ) (o : Options) (draws : Draws) (results : Bool) (stores : List ℕ → Type 0) (answer : Answer) → Campaigns bytes o draws results answer
     → StoreRose answer.stored stores → ⊥
-campaign_store bytes o seed count changes stores answer (campaigns.refused x) r = none_stored answer stores x.plain.stored r
-campaign_store bytes o seed count changes stores answer (campaigns.struck s) r = none_stored answer stores s.tells.plain.stored r
+campaign_store bytes o draws results stores answer (campaigns.refused x) r = none_stored answer stores x.plain.stored r
+campaign_store bytes o draws results stores answer (campaigns.struck s) r = none_stored answer stores s.tells.plain.stored r
 
 gens_store :
     (output : List ℕ) (seed size : ℕ) (stores : List ℕ → Type 0) (answer : Answer) → (stores output → ⊥) → Gens output seed size answer
@@ -424,7 +425,7 @@ over_store :
 over_store (Transform input output o) bytes stores answer calm m r = made_store bytes o (Delivers output) stores answer (delivered_store output stores answer calm) m r
 over_store (Plan input o) bytes stores answer calm m r = made_store bytes o TellsPlan stores answer (told_store stores answer) m r
 over_store (Run file steps changes dump) bytes stores answer calm m r = runs_store bytes steps changes dump stores answer m r
-over_store (Campaign input o seed count changes) bytes stores answer calm m r = campaign_store bytes o seed count changes stores answer m r
+over_store (Campaign input o draws results) bytes stores answer calm m r = campaign_store bytes o draws results stores answer m r
 over_store (Gen output seed size) bytes stores answer calm m r = gens_store output seed size stores answer calm m r
 over_store (order.List file) bytes stores answer calm m r = lists_store bytes stores answer m r
 over_store (Asm text output) bytes stores answer calm m r = asm_store bytes output stores answer calm m r

@@ -1,7 +1,8 @@
 -- What `campaign` answers.
-use Rattle.std.specs.Prelude.{◌≡◌, ◌≢◌, ℕ, List, Option, None, Some, map}
+use Rattle.std.specs.Prelude.{◌≡◌, ◌≢◌, ℕ, Bool, true, false, List, Option, None, Some, map}
 use Rattle.campaign.specs.Course.{IsCourse}
 use Rattle.campaign.specs.Prepared.{Prepared}
+use Rattle.qed_model.specs.declared.aim.Draws.{Draws}
 use Rattle.qed_model.specs.declared.change.Change.{Change}
 use Rattle.qed_model.specs.declared.options.Options.{Options}
 use Rattle.qed_model.specs.declared.verdict.Struck.{Struck}
@@ -9,6 +10,7 @@ use Rattle.qed_model.specs.Admission.DataRanges.{range_of}
 use Rattle.command_line.specs.Text.Campaign.{campaign_text}
 use Rattle.strikes.specs.Draw.{drawn_strikes}
 use Rattle.strikes.specs.Kept.{IsReach}
+use Rattle.strikes.specs.Right.{rights}
 use Rattle.strikes.specs.Struck.{AreStruck}
 use Rattle.transform.specs.declared.error.TransformError.{TransformError}
 use Rattle.transform.specs.declared.error.TransformError.TheVariants as transform
@@ -20,41 +22,50 @@ use Rattle.qed_top.specs.declared.status.Status.{Status}
 use Rattle.qed_top.specs.declared.status.Status.TheVariants.{Done, Trapped}
 
 -- the strikes of a course that a seed draws
-abbrev pub strikes_of : Prepared → ℕ → ℕ → ℕ → List (List Change)
-strikes_of course seed count changes = drawn_strikes (map range_of course.plan.span) course.runs.reach changes count seed
+abbrev pub strikes_of : Prepared → Draws → List (List Change)
+strikes_of course draws = drawn_strikes (map range_of course.plan.span) course.runs.reach draws
 
 -- each drawn strike has its verdict, up to the first where the input traps, and the pc of that trap
-pub record IsCarriedOut (course : Prepared) (seed count changes : ℕ) (struck : List Struck) (trapped : Option ℕ) : Type 0 where
+pub record IsCarriedOut (course : Prepared) (draws : Draws) (struck : List Struck) (trapped : Option ℕ) : Type 0 where
   pub reach : IsReach course.runs.output course.runs.reach
-  pub verdicts : AreStruck course.runs (strikes_of course seed count changes) struck trapped
+  pub verdicts : AreStruck course.runs (strikes_of course draws) struck trapped
 
 -- the status where the input trapped, or where it did not
 abbrev pub campaign_status : Option ℕ → Status
 campaign_status None = Done
 campaign_status (Some pc) = Trapped
 
+-- whether each strike ended right, where `--results` asks for it
+abbrev pub told_rights : Prepared → Bool → List Struck → Option (List Bool)
+told_rights course false struck = None
+told_rights course true struck = Some (rights course.runs (map range_of course.plan.span) struck)
+
+-- the text about strikes
+abbrev pub text_of : Prepared → Bool → List Struck → Option ℕ → List ℕ
+text_of course results struck trapped = campaign_text struck (told_rights course results struck) course.plan trapped
+
 -- a campaign was carried out, and its text is printed
-pub record TellsCampaign (course : Prepared) (seed count changes : ℕ) (answer : Answer) : Type 0 where
+pub record TellsCampaign (course : Prepared) (draws : Draws) (results : Bool) (answer : Answer) : Type 0 where
   pub struck : List Struck
   pub trapped : Option ℕ
-  pub carried_out : IsCarriedOut course seed count changes struck trapped
-  pub plain : PrintsOnly (campaign_status trapped) (campaign_text struck course.plan trapped) answer
+  pub carried_out : IsCarriedOut course draws struck trapped
+  pub plain : PrintsOnly (campaign_status trapped) (text_of course results struck trapped) answer
 
 -- the test was transformed, and its output struck
-pub record IsStruck (bytes : List ℕ) (o : Options) (seed count changes : ℕ) (answer : Answer) : Type 0 where
+pub record IsStruck (bytes : List ℕ) (o : Options) (draws : Draws) (results : Bool) (answer : Answer) : Type 0 where
   pub course : Prepared
   pub made : IsCourse bytes o course
-  pub tells : TellsCampaign course seed count changes answer
+  pub tells : TellsCampaign course draws results answer
 
 -- the answer over the bytes of the file, which are within the limit
-pub data Campaigns (bytes : List ℕ) (o : Options) (seed count changes : ℕ) (answer : Answer) : Type 0 where
-  refused : IsRefused bytes o answer → Campaigns bytes o seed count changes answer
-  struck : IsStruck bytes o seed count changes answer → Campaigns bytes o seed count changes answer
+pub data Campaigns (bytes : List ℕ) (o : Options) (draws : Draws) (results : Bool) (answer : Answer) : Type 0 where
+  refused : IsRefused bytes o answer → Campaigns bytes o draws results answer
+  struck : IsStruck bytes o draws results answer → Campaigns bytes o draws results answer
 
 -- the status by what is true of the bytes; of a test that can be transformed it is that of the campaign
-pub data CampaignDecides (bytes : List ℕ) (o : Options) (seed count changes : ℕ) (status : Status) : Type 0 where
-  not_made : (e : TransformError) → HasCause bytes o e → e ≢ transform.Memory → status ≡ refusal_status e → CampaignDecides bytes o seed count changes status
+pub data CampaignDecides (bytes : List ℕ) (o : Options) (draws : Draws) (status : Status) : Type 0 where
+  not_made : (e : TransformError) → HasCause bytes o e → e ≢ transform.Memory → status ≡ refusal_status e → CampaignDecides bytes o draws status
   carried_out :
       IsTransformable bytes o
-      → ((course : Prepared) (struck : List Struck) (trapped : Option ℕ) → IsCourse bytes o course → IsCarriedOut course seed count changes struck trapped → status ≡ campaign_status trapped)
-      → CampaignDecides bytes o seed count changes status
+      → ((course : Prepared) (struck : List Struck) (trapped : Option ℕ) → IsCourse bytes o course → IsCarriedOut course draws struck trapped → status ≡ campaign_status trapped)
+      → CampaignDecides bytes o draws status

@@ -130,7 +130,7 @@ abbrev pub DecidesOver : Order → List ℕ → Status → Type 0
 DecidesOver (Transform input output options) bytes status = TransformDecides bytes options status
 DecidesOver (Plan input options) bytes status = TransformDecides bytes options status
 DecidesOver (Run file steps changes dump) bytes status = ReadDecides bytes (ran_status steps changes) status
-DecidesOver (Campaign input options seed count changes) bytes status = CampaignDecides bytes options seed count changes status
+DecidesOver (Campaign input options draws results) bytes status = CampaignDecides bytes options draws status
 DecidesOver (Gen output seed size) bytes status = GenDecides seed size status
 DecidesOver (order.List file) bytes status = ReadDecides bytes (λ f. Done) status
 DecidesOver (Asm text output) bytes status = AsmDecides bytes status

@@ -28,7 +28,7 @@ abbrev pub source_name : Order → Option (List ℕ)
 source_name (Transform input output options) = Some input
 source_name (Plan input options) = Some input
 source_name (Run file steps changes dump) = Some file
-source_name (Campaign input options seed count changes) = Some input
+source_name (Campaign input options draws results) = Some input
 source_name (Gen output seed size) = None
 source_name (order.List file) = Some file
 source_name (Asm text output) = Some text
@@ -40,7 +40,7 @@ abbrev pub source_names : Order → List (List ℕ)
 source_names (Transform input output options) = input ∷ []
 source_names (Plan input options) = input ∷ []
 source_names (Run file steps changes dump) = file ∷ []
-source_names (Campaign input options seed count changes) = input ∷ []
+source_names (Campaign input options draws results) = input ∷ []
 source_names (Gen output seed size) = []
 source_names (order.List file) = file ∷ []
 source_names (Asm text output) = text ∷ []
@@ -75,7 +75,7 @@ abbrev pub AnswersOver : Order → List ℕ → Answer → Type 0
 AnswersOver (Transform input output options) bytes answer = Makes bytes options (Delivers output) answer
 AnswersOver (Plan input options) bytes answer = Makes bytes options TellsPlan answer
 AnswersOver (Run file steps changes dump) bytes answer = Runs bytes steps changes dump answer
-AnswersOver (Campaign input options seed count changes) bytes answer = Campaigns bytes options seed count changes answer
+AnswersOver (Campaign input options draws results) bytes answer = Campaigns bytes options draws results answer
 AnswersOver (Gen output seed size) bytes answer = Gens output seed size answer
 AnswersOver (order.List file) bytes answer = Lists bytes answer
 AnswersOver (Asm text output) bytes answer = Assembles bytes output answer

@@ -1,15 +1,18 @@
 //! What `campaign` answers.
-ghost use Rattle.std.specs.Prelude.{◌≡◌, IfOk};
+ghost use Rattle.std.specs.Prelude.{◌≡◌, All, IfOk};
+ghost use Rattle.qed_model.specs.Promise.Changed.{Ordered};
 ghost use Rattle.qed_model.specs.Weave.Places.{AreSoundOptions};
-ghost use Rattle.qed_top.specs.Campaign.{campaign_status, Campaigns, TellsCampaign};
+ghost use Rattle.qed_top.specs.Campaign.{campaign_status, text_of as text_of_campaign, Campaigns, TellsCampaign};
 
 use crate::answer::{Answer, plain};
 use crate::refusal::refused;
 use crate::status::Status;
 use campaign::Course;
-use qed_model::Options;
+use elf_types::Bytes;
+use qed_model::{Draws, Options};
 use report::campaign_text;
 use std::alloc::{AllocError, Global};
+use strikes::Campaign;
 
 /// The status where the input trapped at a pc, or where it did not.
 fn status_of(trapped: Option<u64>) -> Status
@@ -21,20 +24,46 @@ fn status_of(trapped: Option<u64>) -> Status
     }
 }
 
-/// What `campaign` answers where the test was transformed: so many strikes, of so many changes each, that a seed draws.
+/// The text about strikes, with `results` where that is told.
+fn text_of(
+    alloc: Global,
+    course: &Course,
+    campaign: &Campaign,
+    results: bool,
+) -> Result<Bytes, AllocError>
+    requires { All (λ s. Ordered s.changes) campaign.now.struck.items }
+    ensures { IfOk result (λ text. text ≡ text_of_campaign course.now results campaign.now.struck.items campaign.now.trapped) }
+{
+    let struck = campaign.struck.as_slice();
+    if results {
+        let rights = course.rights(alloc, struck)?;
+        let text = campaign_text(
+            alloc,
+            struck,
+            Some(rights.as_slice()),
+            course.plan(),
+            campaign.trapped,
+        )?;
+        Ok(text)
+    } else {
+        let text = campaign_text(alloc, struck, None, course.plan(), campaign.trapped)?;
+        Ok(text)
+    }
+}
+
+/// What `campaign` answers where the test was transformed.
 fn strike(
     alloc: Global,
     course: &Course,
-    seed: u64,
-    count: u64,
-    changes: u64,
+    draws: &Draws,
+    results: bool,
 ) -> Result<Answer, AllocError>
-    ensures { IfOk result (TellsCampaign course.now seed count changes) }
+    ensures { IfOk result (TellsCampaign course.now draws.now results) }
 {
-    let strikes = course.draw(alloc, seed, count, changes)?;
+    let strikes = course.draw(alloc, draws)?;
     let reach = course.reach();
     let campaign = course.strike_all(alloc, &strikes)?;
-    let text = campaign_text(alloc, &campaign.struck, course.plan(), campaign.trapped)?;
+    let text = text_of(alloc, course, &campaign, results)?;
     Ok(plain(status_of(campaign.trapped), text))
 }
 
@@ -43,16 +72,15 @@ pub fn answer_campaign(
     alloc: Global,
     bytes: &[u8],
     options: &Options,
-    seed: u64,
-    count: u64,
-    changes: u64,
+    draws: &Draws,
+    results: bool,
 ) -> Result<Answer, AllocError>
     requires { AreSoundOptions options.now }
-    ensures { IfOk result (Campaigns bytes.now options.now seed count changes) }
+    ensures { IfOk result (Campaigns bytes.now options.now draws.now results) }
 {
     match Course::prepare(alloc, bytes, options) {
         Ok(course) => {
-            let answer = strike(alloc, &course, seed, count, changes)?;
+            let answer = strike(alloc, &course, draws, results)?;
             Ok(answer)
         }
         Err(error) => {

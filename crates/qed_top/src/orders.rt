@@ -26,7 +26,7 @@ pub fn source_name(order: &Order) -> Option<&str>
         Order::Transform(input, _, _) => Some(input.as_str()),
         Order::Plan(input, _) => Some(input.as_str()),
         Order::Run(file, _, _, _) => Some(file.as_str()),
-        Order::Campaign(input, _, _, _, _) => Some(input.as_str()),
+        Order::Campaign(input, _, _, _) => Some(input.as_str()),
         Order::Gen(_, _, _) => None,
         Order::List(file) => Some(file.as_str()),
         Order::Asm(text, _) => Some(text.as_str()),
@@ -85,8 +85,8 @@ pub fn answer_order(alloc: Global, order: Order, bytes: &[u8]) -> Result<Answer,
             let answer = answer_asm(alloc, bytes, output)?;
             Ok(answer)
         }
-        Order::Campaign(_, options, seed, count, changes) => {
-            let answer = answer_campaign(alloc, bytes, &options, seed, count, changes)?;
+        Order::Campaign(_, options, draws, results) => {
+            let answer = answer_campaign(alloc, bytes, &options, &draws, results)?;
             Ok(answer)
         }
         Order::Tell(topic) => {

@@ -19,7 +19,7 @@ use Rattle.command_line.specs.declared.order.Reason.{Reason}
 use Rattle.command_line.specs.declared.order.Reason.TheVariants.{MissingFile, MissingOption, OutOfRange, Split}
 use Rattle.qed_model.specs.Promise.Changed.{Ordered}
 use Rattle.qed_model.specs.Weave.Places.{AreSoundOptions}
-use Rattle.command_line.specs.Words.{Argument, asked, asked_of, answer, fault, first_wrong, span_in, arguments, command_of, dump, files, first_reason, first_wrong_value, is_in_range, keys_of, lacks, missing, number_given, options, order_of, reason_of, span_of, split_reason, topic_reason, value_of, values, wrong_number, wrong_value, wrong_values, changes_given, is_digit, steps_given, turns, wrong_turns}
+use Rattle.command_line.specs.Words.{Argument, asked, asked_of, answer, fault, first_wrong, span_in, arguments, command_of, dump, files, first_reason, first_wrong_value, is_in_range, keys_of, lacks, missing, number_given, options, order_of, reason_of, span_of, split_reason, window_reason, topic_reason, value_of, values, wrong_number, wrong_value, wrong_values, changes_given, draws, is_digit, steps_given, turns, wrong_turns}
 use Rattle.texts.specs.Read.{colon, parted, number}
 use Rattle.ordered_changes.proofs.InOrder.{in_order_ordered}
 use Rattle.qed_words.specs.Sound.{IsSoundOrder}
@@ -189,8 +189,8 @@ record IsFaultless (command : Command) (given : List Argument) : Type 0 where
 faultless : (command : Command) (given : List Argument) → reason_of command given ≡ None → IsFaultless command given
 unfolding reason_of first_wrong_value
 faultless command given e =
-    let all : AllNone (first_wrong command [] given ∷ missing command given ∷ first_wrong_value command given ∷ split_reason given ∷ topic_reason command given ∷ [])
-    = no_reason (first_wrong command [] given ∷ missing command given ∷ first_wrong_value command given ∷ split_reason given ∷ topic_reason command given ∷ []) e in
+    let all : AllNone (first_wrong command [] given ∷ missing command given ∷ first_wrong_value command given ∷ split_reason given ∷ window_reason given ∷ topic_reason command given ∷ [])
+    = no_reason (first_wrong command [] given ∷ missing command given ∷ first_wrong_value command given ∷ split_reason given ∷ window_reason given ∷ topic_reason command given ∷ []) e in
     record { words = all.0; there = all.1.0; values = no_reason (map (wrong_values given) (keys_of command)) all.1.1.0; room = all.1.1.1.0 }
 
 count_fits : (n : Option ℕ) → IsSomeAnd n (IsInRange Count) → (1 ≤ unwrap_or n 0) × (unwrap_or n 0 ≤ 10000)
@@ -261,7 +261,7 @@ schedule_parts count None fits = (tt, tt)
 schedule_parts count (Some harts) fits = (fits.some, fits.below)
 
 order_sound : (command : Command) (given : List Argument) → IsFaultless command given → IsSoundOrder (order_of command given)
-unfolding order_of wrong_value missing steps_given
+unfolding order_of wrong_value missing steps_given draws
 order_sound Transform given f = options_fit given f.values.0 f.values.1.0 f.values.1.1.0 f.values.1.1.1.0 f.room
 order_sound Plan given f = options_fit given f.values.0 f.values.1.0 f.values.1.1.0 f.values.1.1.1.0 f.room
 order_sound Run given f = record {

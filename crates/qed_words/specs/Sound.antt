@@ -25,8 +25,8 @@ abbrev pub IsSoundOrder : Order → Type 0
 IsSoundOrder (Transform input output options) = AreSoundOptions options
 IsSoundOrder (Plan input options) = AreSoundOptions options
 IsSoundOrder (Run file steps changes dump) = IsSoundRun steps changes dump
-IsSoundOrder (Campaign input options seed count changes) =
-    AreSoundOptions options × ((1 ≤ count) × (count ≤ 10000)) × ((1 ≤ changes) × (changes ≤ 16))
+IsSoundOrder (Campaign input options draws results) =
+    AreSoundOptions options × ((1 ≤ draws.count) × (draws.count ≤ 10000)) × ((1 ≤ draws.changes) × (draws.changes ≤ 16))
 IsSoundOrder (Gen output seed size) = (1 ≤ size) × (size ≤ 60000)
 IsSoundOrder (order.List file) = Unit {0}
 IsSoundOrder (Asm text output) = Unit {0}

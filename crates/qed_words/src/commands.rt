@@ -1,6 +1,6 @@
 //! Commands and their options.
 ghost use Rattle.std.specs.Prelude.{◌≡◌};
-ghost use Rattle.command_line.specs.Words.{command_of, least_files as least_files_of, most_files as most_files_of, keys_of, required_of, has_flags as has_flags_of, most_of, key_named as key_named_of, is_flag as is_flag_of};
+ghost use Rattle.command_line.specs.Words.{command_of, least_files as least_files_of, most_files as most_files_of, keys_of, required_of, has_flags as has_flags_of, has_results as has_results_of, most_of, key_named as key_named_of, is_flag as is_flag_of};
 
 use command_line::{Command, Key};
 
@@ -77,6 +77,9 @@ pub fn keys(command: Command) -> &'static [Key]
             Key::Seed,
             Key::Count,
             Key::Changes,
+            Key::Only,
+            Key::From,
+            Key::To,
         ],
         Command::Gen => &[Key::Seed, Key::Size],
         Command::List | Command::Asm | Command::Help | Command::Version => &[],
@@ -141,9 +144,17 @@ pub fn key_named(command: Command, name: &[u8]) -> Option<Key>
     None
 }
 
+/// Whether `--results` is an option of a command.
+fn has_results(command: Command) -> bool
+    ensures { result ≡ has_results_of command }
+{
+    matches!(command, Command::Campaign)
+}
+
 /// Whether a name is that of an option without a value.
 pub fn is_flag(command: Command, name: &[u8]) -> bool
     ensures { result ≡ is_flag_of command name.now }
 {
     has_flags(command) && (name == b"sweep".as_slice() || name == b"diverse".as_slice())
+        || has_results(command) && name == b"results".as_slice()
 }

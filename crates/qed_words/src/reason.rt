@@ -1,21 +1,43 @@
 //! The first reason why arguments are no order.
 ghost use Rattle.std.specs.Prelude.{◌≡◌, map};
-ghost use Rattle.command_line.specs.Words.{split_reason as split_reason_of, topic_reason as topic_reason_of, reason_of};
+ghost use Rattle.command_line.specs.Words.{split_reason as split_reason_of, is_empty as is_empty_of, window_reason as window_reason_of, topic_reason as topic_reason_of, reason_of};
 ghost use Rattle.qed_words.specs.Seen.{seen};
 
 use crate::argument::Argument;
 use crate::commands::command_named;
-use crate::given::{count_files, file};
+use crate::given::{count_files, file, number_given};
 use crate::options::{is_split, options};
 use crate::value::first_wrong_value;
 use crate::wrong::{first_wrong, missing};
-use command_line::{Command, Reason};
+use command_line::{Command, Key, Reason};
 
 #[tactic(auto, unfolding(command_line::specs::Words::split_reason))]
 fn split_reason(arguments: &[Argument<'_>]) -> Option<Reason>
     ensures { result ≡ split_reason_of (map seen arguments.now) }
 {
     is_split(&options(arguments)).then_some(Reason::Split)
+}
+
+/// Whether the least step is not below the end of the steps, where both are given.
+fn is_empty(from: Option<u64>, to: Option<u64>) -> bool
+    ensures { result ≡ is_empty_of from to }
+{
+    match (from, to) {
+        (Some(from), Some(to)) => to <= from,
+        _ => false,
+    }
+}
+
+/// That there is no step to strike in.
+#[tactic(auto, unfolding(command_line::specs::Words::window_reason))]
+fn window_reason(arguments: &[Argument<'_>]) -> Option<Reason>
+    ensures { result ≡ window_reason_of (map seen arguments.now) }
+{
+    let (from, to) = (
+        number_given(Key::From, arguments),
+        number_given(Key::To, arguments),
+    );
+    is_empty(from, to).then_some(Reason::OutOfRange(Key::To))
 }
 
 /// That the word behind `help` names no command.
@@ -47,6 +69,9 @@ pub fn first_reason(command: Command, arguments: &[Argument<'_>]) -> Option<Reas
         return Some(reason);
     }
     if let Some(reason) = split_reason(arguments) {
+        return Some(reason);
+    }
+    if let Some(reason) = window_reason(arguments) {
         return Some(reason);
     }
     topic_reason(command, arguments)

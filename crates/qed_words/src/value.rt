@@ -6,7 +6,7 @@ ghost use Rattle.qed_words.specs.Seen.{seen};
 use crate::argument::Argument;
 use crate::commands::keys;
 use crate::given::{count_files, value_in};
-use crate::shape::{dump, fault};
+use crate::shape::{dump, fault, places};
 use crate::turns::wrong_turns;
 use command_line::{Command, Key, Reason};
 use qed_model::limits::MAX_HALF;
@@ -23,7 +23,9 @@ fn is_in_range(key: Key, number: u64) -> bool
         Key::Count => 1 <= number && number <= 10_000,
         Key::Size => 1 <= number && number <= 60_000,
         Key::Changes => 1 <= number && number <= 16,
-        Key::Fault | Key::Dump | Key::Seed | Key::Turns => true,
+        Key::From => number <= 1_000_000,
+        Key::To => 1 <= number && number <= 1_000_000,
+        Key::Fault | Key::Dump | Key::Seed | Key::Only | Key::Turns => true,
     }
 }
 
@@ -44,6 +46,7 @@ fn wrong_value(count: usize, key: Key, value: &[u8]) -> Option<Reason>
     match key {
         Key::Fault => fault(value).is_none().then_some(Reason::BadShape(key)),
         Key::Dump => dump(value).is_none().then_some(Reason::BadShape(key)),
+        Key::Only => places(value).is_none().then_some(Reason::BadShape(key)),
         Key::Turns => wrong_turns(count, value),
         _ => wrong_number(key, number(value)),
     }

@@ -1,7 +1,7 @@
 //! The order that words ask for.
 ghost use Rattle.std.specs.Prelude.{◌≡◌, Ok, IfOk, IfErr, map, option_and_then};
 ghost use Rattle.command_line.specs.declared.order.Key.TheVariants as key;
-ghost use Rattle.command_line.specs.Words.{texts, dump as dump_of, value_of, file as file_of, steps_given as steps_given_of, command_of, topic_of, order_of, asked};
+ghost use Rattle.command_line.specs.Words.{texts, dump as dump_of, places as places_of, draws as draws_of, value_of, file as file_of, steps_given as steps_given_of, command_of, topic_of, order_of, asked};
 ghost use Rattle.qed_words.specs.Seen.{seen};
 ghost use Rattle.qed_words.specs.Sound.{IsSoundOrder};
 ghost use Rattle.qed_words.specs.WordsError.{Explains};
@@ -12,12 +12,13 @@ use crate::changes::changes;
 use crate::commands::command_named;
 use crate::error::WordsError;
 use crate::files::names;
-use crate::given::{file, first_value, number_given};
+use crate::given::{file, first_value, has_flag, number_given};
 use crate::options::options;
 use crate::reason::first_reason;
-use crate::shape::dump;
+use crate::shape::{dump, places};
 use crate::turns::turns_given;
 use command_line::{Command, Key, Name, Order, Reason, Topic};
+use qed_model::{Aim, Draws, Places};
 use std::alloc::{AllocError, Global};
 
 /// The steps of a run where no option says otherwise.
@@ -45,6 +46,30 @@ fn dump_given(arguments: &[Argument<'_>]) -> Option<(u64, u64)>
     dump(first_value(Key::Dump, arguments)?)
 }
 
+/// The kind of places that is struck; None is both.
+fn places_given(arguments: &[Argument<'_>]) -> Option<Places>
+    ensures { result ≡ option_and_then places_of (value_of key.Only (map seen arguments.now)) }
+{
+    places(first_value(Key::Only, arguments)?)
+}
+
+/// The strikes that arguments ask for.
+#[tactic(auto, unfolding(command_line::specs::Words::draws))]
+fn draws(arguments: &[Argument<'_>]) -> Draws
+    ensures { result ≡ draws_of (map seen arguments.now) }
+{
+    Draws {
+        seed: number_given(Key::Seed, arguments).unwrap_or(0),
+        count: number_given(Key::Count, arguments).unwrap_or(0),
+        changes: number_given(Key::Changes, arguments).unwrap_or(1),
+        aim: Aim {
+            only: places_given(arguments),
+            from: number_given(Key::From, arguments).unwrap_or(0),
+            to: number_given(Key::To, arguments),
+        },
+    }
+}
+
 /// What `help` is to tell of.
 fn topic_given(arguments: &[Argument<'_>]) -> Topic
     ensures { result ≡ topic_of (command_of (file_of (map seen arguments.now) 0)) }
@@ -65,7 +90,6 @@ fn make_order(
     ensures { IfOk result (λ order. order ≡ order_of command (map seen arguments.now)) }
 {
     let first = name(alloc, arguments, 0)?;
-    let seed = number_given(Key::Seed, arguments).unwrap_or(0);
     match command {
         Command::Transform => {
             let second = name(alloc, arguments, 1)?;
@@ -78,11 +102,11 @@ fn make_order(
             Ok(Order::Run(first, steps, changes, dump_given(arguments)))
         }
         Command::Campaign => {
-            let count = number_given(Key::Count, arguments).unwrap_or(0);
-            let changes = number_given(Key::Changes, arguments).unwrap_or(1);
-            Ok(Order::Campaign(first, options(arguments), seed, count, changes))
+            let results = has_flag(b"results", arguments);
+            Ok(Order::Campaign(first, options(arguments), draws(arguments), results))
         }
         Command::Gen => {
+            let seed = number_given(Key::Seed, arguments).unwrap_or(0);
             let size = number_given(Key::Size, arguments).unwrap_or(0);
             Ok(Order::Gen(first, seed, size))
         }

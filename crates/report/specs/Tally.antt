@@ -1,15 +1,16 @@
 -- What the last line about strikes tells of their verdicts.
-use Rattle.std.specs.Prelude.{ℕ, ◌+◌, max, cond, List, ◌++◌, codes}
+use Rattle.std.specs.Prelude.{ℕ, ◌+◌, max, cond, List, ◌++◌, codes, Option}
 use Rattle.std.specs.Fmt.{decimal}
 use Rattle.qed_model.specs.declared.verdict.Verdict.{Verdict}
 use Rattle.qed_model.specs.declared.verdict.Struck.{Struck}
-use Rattle.command_line.specs.Text.Campaign.{how_many, is_fired, is_ended, is_same, is_closed, is_not_reached, longest, fired_steps}
+use Rattle.command_line.specs.Text.Campaign.{how_many, is_fired, is_ended, is_same, is_closed, is_not_reached, longest, fired_steps, ends_text}
 use Rattle.report.specs.declared.tally.Tally.{Tally}
 
-abbrev pub tally_of : List Struck → Tally
-tally_of ss = record {
+-- the verdicts of strikes, of which so many ended right
+abbrev pub tally_of : List Struck → Option ℕ → Tally
+tally_of ss right = record {
   fired = how_many is_fired ss;
-  ended = how_many is_ended ss;
+  ended = record { count = how_many is_ended ss; right = right };
   same = how_many is_same ss;
   closed = how_many is_closed ss;
   not_reached = how_many is_not_reached ss;
@@ -20,7 +21,7 @@ tally_of ss = record {
 abbrev pub with_verdict : Tally → Verdict → Tally
 with_verdict t v = record {
   fired = t.fired + cond (is_fired v) 1 0;
-  ended = t.ended + cond (is_ended v) 1 0;
+  ended = record { count = t.ended.count + cond (is_ended v) 1 0; right = t.ended.right };
   same = t.same + cond (is_same v) 1 0;
   closed = t.closed + cond (is_closed v) 1 0;
   not_reached = t.not_reached + cond (is_not_reached v) 1 0;
@@ -29,9 +30,9 @@ with_verdict t v = record {
 
 -- how many verdicts were counted
 abbrev pub counted : Tally → ℕ
-counted t = t.fired + t.ended + t.same + t.closed + t.not_reached
+counted t = t.fired + t.ended.count + t.same + t.closed + t.not_reached
 
 abbrev pub tally_text : Tally → List ℕ
 tally_text t =
-    codes "fired " ++ (decimal t.fired ++ (codes ", ended " ++ (decimal t.ended ++ (codes ", same " ++ (decimal t.same ++ (codes ", closed " ++ (decimal t.closed
+    codes "fired " ++ (decimal t.fired ++ (codes ", ended " ++ (ends_text t.ended.count t.ended.right ++ (codes ", same " ++ (decimal t.same ++ (codes ", closed " ++ (decimal t.closed
     ++ (codes ", not reached " ++ (decimal t.not_reached ++ (codes ", longest " ++ decimal t.longest))))))))))

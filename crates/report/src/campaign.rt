@@ -1,7 +1,8 @@
 //! What is printed about strikes.
 ghost use Rattle.std.specs.Prelude.{◌≡◌, ◌++◌, Some, IfOk, codes, string_bytes};
+ghost use Rattle.std.specs.Option.{option_copied};
 ghost use Rattle.texts.specs.Printed.{hex_text};
-ghost use Rattle.command_line.specs.Text.Campaign.{place_text, change_text, changes_text, verdict_text, strike_line, strike_lines, trapped_line, campaign_text};
+ghost use Rattle.command_line.specs.Text.Campaign.{place_text, change_text, changes_text, verdict_text, right_at as right_at_of, end_text, strike_line, strike_lines, trapped_line, campaign_text};
 
 use crate::hex::Hex;
 use crate::tally::summary_line;
@@ -49,6 +50,25 @@ impl fmt::Display for VerdictText {
     }
 }
 
+/// Whether a test ended right, as ` right` or ` wrong`, where that is told.
+#[derive(Clone, Copy)]
+struct EndText {
+    verdict: Verdict,
+    right: Option<bool>,
+}
+
+impl fmt::Display for EndText {
+    ghost output = { λ e. Some (end_text e.verdict e.right) };
+
+    fn fmt<W: fmt::Write>(&self, f: &mut fmt::Formatter<W>) -> fmt::Result {
+        match (self.verdict, self.right) {
+            (Verdict::Ended(_), Some(true)) => write!(f, " right"),
+            (Verdict::Ended(_), Some(false)) => write!(f, " wrong"),
+            _ => Ok(()),
+        }
+    }
+}
+
 /// What a place holds then, printed as `x5=0x0000000000000001`.
 #[derive(Clone, Copy)]
 struct Set {
@@ -89,26 +109,46 @@ fn changes_text(alloc: Global, changes: &[Change]) -> Result<Vec<u8>, AllocError
     Ok(text)
 }
 
+/// Whether a strike ended right, where that is told.
+fn right_at(rights: Option<&[bool]>, number: usize) -> Option<bool>
+    ensures { result ≡ right_at_of (option_copied rights.entry) number }
+{
+    rights?.get(number).copied()
+}
+
 /// The line about a strike.
-fn strike_line(alloc: Global, number: usize, struck: &Struck) -> Result<Vec<u8>, AllocError>
-    ensures { IfOk result (λ line. line.items ≡ strike_line number struck.now) }
+fn strike_line(
+    alloc: Global,
+    number: usize,
+    struck: &Struck,
+    right: Option<bool>,
+) -> Result<Vec<u8>, AllocError>
+    ensures { IfOk result (λ line. line.items ≡ strike_line number struck.now right) }
 {
     let mut line = format!(in alloc; "{number}")?.into_bytes();
     let changes = changes_text(alloc, struck.changes.as_slice())?;
     line.extend_from_slice(&changes)?;
     let verdict = VerdictText(struck.verdict);
-    let end = format!(in alloc; " {verdict}\n")?;
-    line.extend_from_slice(end.as_bytes())?;
+    let end = EndText {
+        verdict: struck.verdict,
+        right,
+    };
+    let rest = format!(in alloc; " {verdict}{end}\n")?;
+    line.extend_from_slice(rest.as_bytes())?;
     Ok(line)
 }
 
 /// The lines about strikes, which are numbered from 0.
-fn strike_lines(alloc: Global, strikes: &[Struck]) -> Result<Vec<u8>, AllocError>
-    ensures { IfOk result (λ text. text.items ≡ strike_lines 0 strikes.now) }
+fn strike_lines(
+    alloc: Global,
+    strikes: &[Struck],
+    rights: Option<&[bool]>,
+) -> Result<Vec<u8>, AllocError>
+    ensures { IfOk result (λ text. text.items ≡ strike_lines (option_copied rights.entry) 0 strikes.now) }
 {
     let mut text = Vec::new(alloc);
     for (number, struck) in strikes.iter().enumerate() {
-        let line = strike_line(alloc, number, struck)?;
+        let line = strike_line(alloc, number, struck, right_at(rights, number))?;
         text.extend_from_slice(&line)?;
     }
     Ok(text)
@@ -123,19 +163,20 @@ fn trapped_line(alloc: Global, pc: u64) -> Result<String, AllocError>
 }
 
 /// What is printed about strikes of an output: a line for each, and then their verdicts with the bounds of its plan, or
-/// the pc at which the input's own run trapped.
+/// the pc at which the input's own run trapped. `rights` tells of each strike, where that is told, whether the test ended right.
 pub fn campaign_text(
     alloc: Global,
     struck: &[Struck],
+    rights: Option<&[bool]>,
     plan: &Plan,
     trapped: Option<u64>,
 ) -> Result<Bytes, AllocError>
-    ensures { IfOk result (λ text. text ≡ campaign_text struck.now plan.now trapped) }
+    ensures { IfOk result (λ text. text ≡ campaign_text struck.now (option_copied rights.entry) plan.now trapped) }
 {
-    let mut text = strike_lines(alloc, struck)?;
+    let mut text = strike_lines(alloc, struck, rights)?;
     let last = match trapped {
         Some(pc) => trapped_line(alloc, pc)?,
-        None => summary_line(alloc, struck, plan)?,
+        None => summary_line(alloc, struck, rights, plan)?,
     };
     text.extend_from_slice(last.as_bytes())?;
     Ok(Bytes::of(text))

@@ -75,6 +75,10 @@ is printed is what came of each, and how often each came. The other options are 
 --seed N      what is drawn from, any number: it must be given
 --count N     how many strikes, 1 to 10000: it must be given
 --changes N   how many changes in each, 1 to 16: by default 1
+--only KIND   changes nothing but registers, or nothing but words
+--from T      the least step of a change, 0 to 1000000: by default 0
+--to T        the step behind the greatest, up to 1000000 and above --from: by default the output's end
+--results     says of each end whether it is right: with the values of the end of IN
 
 $ qed campaign two_sums.elf --seed 7 --count 1
 0 step 2 x10=0xe6ceaafb3f2a01d4 ended 49

@@ -1,6 +1,7 @@
 //! What the last line about strikes tells of them.
 ghost use Rattle.std.specs.Prelude.{◌≡◌, ◌+◌, ◌-◌, ◌^◌, ◌<◌, Some, IfOk, length, string_bytes};
-ghost use Rattle.command_line.specs.Text.Campaign.{summary_line};
+ghost use Rattle.std.specs.Option.{option_copied, option_map};
+ghost use Rattle.command_line.specs.Text.Campaign.{ends_text, how_many_right as how_many_right_of, summary_line};
 ghost use Rattle.report.specs.Tally.{counted, tally_of, tally_text, with_verdict};
 
 use crate::transform::BoundsText;
@@ -8,11 +9,53 @@ use qed_model::{Plan, Struck, Verdict};
 use std::alloc::{AllocError, Global};
 use std::fmt;
 
+/// How many of some ends were right.
+fn how_many_right(rights: &[bool]) -> u64
+    ensures { result ≡ how_many_right_of rights.now }
+{
+    let mut count = 0;
+    for &right in rights {
+        if right {
+            count += 1;
+        }
+    }
+    count
+}
+
+/// The same, where that is told.
+fn right_count(rights: Option<&[bool]>) -> Option<u64>
+    ensures { result ≡ option_map how_many_right_of (option_copied rights.entry) }
+{
+    Some(how_many_right(rights?))
+}
+
+/// How many strikes ended, and how many of them right, where that is told.
+#[derive(Clone, Copy)]
+struct Ends {
+    count: u64,
+    right: Option<u64>,
+}
+
+impl fmt::Display for Ends {
+    ghost output = { λ e. Some (ends_text e.count e.right) };
+
+    fn fmt<W: fmt::Write>(&self, f: &mut fmt::Formatter<W>) -> fmt::Result {
+        let count = self.count;
+        match self.right {
+            None => write!(f, "{count}"),
+            Some(right) => {
+                let wrong = count.saturating_sub(right);
+                write!(f, "{count} ({right} right, {wrong} wrong)")
+            }
+        }
+    }
+}
+
 /// How often each verdict came.
 #[derive(Clone, Copy)]
 struct Tally {
     fired: u64,
-    ended: u64,
+    ended: Ends,
     same: u64,
     closed: u64,
     not_reached: u64,
@@ -33,18 +76,18 @@ impl Tally {
                 self.fired += 1;
                 self.longest = self.longest.max(steps);
             }
-            Verdict::Ended(_) => self.ended += 1,
+            Verdict::Ended(_) => self.ended.count += 1,
             Verdict::Same => self.same += 1,
         }
     }
 
-    /// The verdicts of strikes.
-    fn of(strikes: &[Struck]) -> Tally
-        ensures { result ≡ tally_of strikes.now }
+    /// The verdicts of strikes, of which so many ended right.
+    fn of(strikes: &[Struck], right: Option<u64>) -> Tally
+        ensures { result ≡ tally_of strikes.now right }
     {
         let mut tally = Tally {
             fired: 0,
-            ended: 0,
+            ended: Ends { count: 0, right },
             same: 0,
             closed: 0,
             not_reached: 0,
@@ -77,11 +120,16 @@ impl fmt::Display for Tally {
 }
 
 /// The last line about strikes: their verdicts, and the bounds of the plan of the output.
-pub fn summary_line(alloc: Global, strikes: &[Struck], plan: &Plan) -> Result<String, AllocError>
-    ensures { IfOk result (λ text. string_bytes text ≡ summary_line strikes.now plan.now) }
+pub fn summary_line(
+    alloc: Global,
+    strikes: &[Struck],
+    rights: Option<&[bool]>,
+    plan: &Plan,
+) -> Result<String, AllocError>
+    ensures { IfOk result (λ text. string_bytes text ≡ summary_line (option_copied rights.entry) strikes.now plan.now) }
 {
     let count = strikes.len();
-    let tally = Tally::of(strikes);
+    let tally = Tally::of(strikes, right_count(rights));
     let bounds = BoundsText {
         register: plan.bounds.register,
         word: plan.bounds.word,

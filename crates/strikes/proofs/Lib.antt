@@ -7,3 +7,4 @@ pub mod Copying
 pub mod Making
 pub mod Leaping
 pub mod Watching
+pub mod Comparing

@@ -1,6 +1,7 @@
 -- Strikes that are made one after the other.
 use Rattle.std.proofs.Common.{◌≡◌, ℕ, suc, ◌+◌, ◌<◌, ◌≤◌, true, false, List, [], ◌∷◌, ◌++◌, length, get_or, drop, drop-cons, add-one, refl, sym, ap, ◌∙◌, subst, append_assoc}
-use Rattle.std.specs.Prelude.{Option, Some, None, is_some, Result, Ok, Err}
+use Rattle.std.specs.Prelude.{Option, Some, None, is_some, Result, Ok, Err, All}
+use Rattle.std.proofs.lemmas.List.Elements.{All-nil, All-cons, All-head, All-tail}
 use Rattle.std.proofs.lemmas.List.{append-nil, drop_all}
 use Rattle.qed_model.specs.declared.change.Change.{Change}
 use Rattle.qed_model.specs.declared.verdict.Struck.{Struck}
@@ -8,7 +9,8 @@ use Rattle.qed_model.specs.declared.verdict.Verdict.{Verdict}
 use Rattle.strikes.specs.declared.error.StrikeError.{StrikeError}
 use Rattle.strikes.specs.declared.error.StrikeError.TheVariants.{Trapped}
 use Rattle.strikes.specs.Kept.{Pair}
-use Rattle.strikes.specs.Struck.{IsStruckNext, AreStruck}
+use Rattle.qed_model.specs.Promise.Changed.{Ordered}
+use Rattle.strikes.specs.Struck.{IsStrike, IsStruckNext, AreStruck}
 use Rattle.strikes.specs.Verdict.{IsVerdict}
 
 -- a strike with its verdict is added
@@ -56,3 +58,11 @@ pub ends_whole : (p : Pair) (strikes : List (List Change)) (k : ℕ) (struck : L
 ends_whole p strikes k struck all so_far =
     let here : AreStruck p (drop k strikes) [] None = subst (λ rest. AreStruck p rest [] None) (sym (drop_all k strikes all)) (refl, refl) in
     subst (λ ss. AreStruck p strikes ss None) (append-nil struck) (so_far [] None here)
+
+-- the steps of the changes of what was struck do not fall
+pub all_ordered : (p : Pair) (strikes : List (List Change)) (struck : List Struck) (trapped : Option ℕ) → AreStruck p strikes struck trapped → All (IsStrike p.bounds) strikes → All (λ s. Ordered s.changes) struck
+all_ordered p [] struck trapped are fits = subst (All (λ s. Ordered s.changes)) (sym are.0) (All-nil (λ (s : Struck). Ordered s.changes))
+all_ordered p (cs ∷ rest) [] trapped are fits = All-nil (λ (s : Struck). Ordered s.changes)
+all_ordered p (cs ∷ rest) (s ∷ struck) trapped are fits =
+    All-cons (λ (s : Struck). Ordered s.changes) s struck (subst Ordered (sym are.0) (All-head (IsStrike p.bounds) cs rest fits).ordered)
+    (all_ordered p rest struck trapped are.2 (All-tail (IsStrike p.bounds) cs rest fits))

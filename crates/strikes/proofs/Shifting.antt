@@ -22,7 +22,7 @@ use Rattle.strikes.specs.declared.error.StrikeError.{StrikeError}
 use Rattle.strikes.specs.Found.{trap_pc_of}
 use Rattle.strikes.specs.Later.{counted_from, all_from, first_step}
 use Rattle.strikes.specs.Verdict.{IsReached, has_closed, IsTried, IsFound, IsSilent, Shows, IsVerdict}
-use Rattle.strikes.proofs.Stopping.{going_before, run-last, progress_state, first_last}
+use Rattle.strikes.proofs.Stopping.{going_before, run-last, progress_state, first_last, behind}
 
 -- ---- where no change comes before
 -- a run with no changes
@@ -223,3 +223,17 @@ not_before_all cs m o h = all_of cs (from_first cs m o h) where
   all_of : (ds : List Change) → AllFrom m ds → All (λ c. m ≤ c.step) ds
   all_of [] from = All-nil (λ c. m ≤ c.step)
   all_of (d ∷ ds) from = All-cons (λ c. m ≤ c.step) d ds from.0 (all_of ds from.1)
+
+-- ---- behind the last change
+-- the changed run, where its changes are made from a later state on
+pub behind_later :
+    (s t u v : State) (cs ds : List Change) (m k : ℕ) → Ordered cs → m ≡ first_step cs → t ≡ run s m → ds ≡ all_from m cs → u ≡ changed_run t ds (last_step ds) → v ≡ run u k
+    → v ≡ changed_run s cs (last_step cs + k)
+behind_later s t u v cs ds m k ordered first there later made more =
+    let low : m ≤ first_step cs = omega (arith, first) in
+    let last : last_step ds ≡ last_step cs - m = ap last_step later ∙ last_later cs m in
+    let fits : m ≤ last_step cs = last_from cs m ordered low in
+    let sum : m + (last_step ds + k) ≡ last_step cs + k = omega (arith, last, fits) in
+    more ∙ ap (λ x. run x k) made ∙ sym (behind t ds k (subst Ordered (sym later) (ordered_later cs m ordered)))
+    ∙ ap (λ es. changed_run t es (last_step ds + k)) later ∙ ap (λ x. changed_run x (all_from m cs) (last_step ds + k)) there
+    ∙ sym (shifted s cs m (last_step ds + k) (from_first cs m ordered low)) ∙ ap (changed_run s cs) sum

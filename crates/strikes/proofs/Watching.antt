@@ -15,9 +15,12 @@ going_no_trap : (o : Outcome) → o ≡ Going → None ≡ trap_pc_of o
 going_no_trap o e = sym (ap trap_pc_of e)
 
 -- before all the steps that were watched it goes on
+pub still_going : (p start later : Progress) (steps n : ℕ) → IsWatched start later steps → start ≡ p → n < steps → (run p.state n).outcome ≡ Going
+still_going p start later steps n w e l =
+    ap (λ q. (run q.state n).outcome) (sym e) ∙ ap (λ s. s.outcome) (sym (progress_state start n)) ∙ goes (progress start n).state.outcome (w.going n l)
+
 pub trap_none : (p start later : Progress) (steps n : ℕ) → IsWatched start later steps → start ≡ p → n < steps → None ≡ trap_pc_of (run p.state n).outcome
-trap_none p start later steps n w e l =
-    going_no_trap (run p.state n).outcome (ap (λ q. (run q.state n).outcome) (sym e) ∙ ap (λ s. s.outcome) (sym (progress_state start n)) ∙ goes (progress start n).state.outcome (w.going n l))
+trap_none p start later steps n w e l = going_no_trap (run p.state n).outcome (still_going p start later steps n w e l)
 
 later_state : (p start later : Progress) (steps : ℕ) → IsWatched start later steps → start ≡ p → later.state ≡ run p.state steps
 later_state p start later steps w e = ap (λ q. q.state) w.there ∙ progress_state start steps ∙ ap (λ q. run q.state steps) e

@@ -1,6 +1,10 @@
 -- How the strikes of a campaign are drawn: three random words for each change, in this order: for its step, its place and its value.
-use Rattle.std.specs.Prelude.{◌≡◌, ◌≤◌, ℕ, ◌+◌, ◌-◌, ◌*◌, ◌/◌, ◌%◌, nat_lt, if◌then◌else◌, List, [], ◌∷◌, map, IsSome}
+use Rattle.std.specs.Prelude.{◌≡◌, ◌≤◌, ℕ, ◌+◌, ◌-◌, ◌*◌, ◌/◌, ◌%◌, nat_lt, max, Bool, true, if◌then◌else◌, List, [], ◌∷◌, map, Option, None, Some, IsSome, unwrap_or}
 use Rattle.rand_pcg.specs.Lcg.{Lcg}
+use Rattle.qed_model.specs.declared.aim.Aim.{Aim}
+use Rattle.qed_model.specs.declared.aim.Draws.{Draws}
+use Rattle.qed_model.specs.declared.aim.Places.{Places}
+use Rattle.qed_model.specs.declared.aim.Places.TheVariants.{Registers, Words}
 use Rattle.qed_model.specs.declared.change.Place.{Place}
 use Rattle.qed_model.specs.declared.change.Place.TheVariants.{Reg, Word}
 use Rattle.qed_model.specs.declared.change.Change.{Change}
@@ -29,20 +33,41 @@ pub record HasWords (plan : Plan) : Type 0 where
   pub count : plan.words ≡ word_count (map range_of plan.span)
   pub bound : 1 ≤ plan.words → IsSome plan.bounds.word
 
+-- ---- what is drawn from
+-- whether there is a place to strike
+abbrev pub has_place : Option Places → ℕ → Bool
+has_place (Some Words) words = nat_lt 0 words
+has_place _ words = true
+
+-- the place that a word gives: of 13 and the data words, of x1 to x13, or of the data words
+unfoldable pub drawn_place : Option Places → List (ℕ × ℕ) → ℕ → Place
+drawn_place None spans word = place_of spans (word % (13 + word_count spans))
+drawn_place (Some Registers) spans word = Reg (word % 13 + 1)
+drawn_place (Some Words) spans word = Word (word_address spans (word % word_count spans))
+
+-- how many steps there are, from the least on, for an output that goes on before `reach`; one at least
+abbrev pub window : Aim → ℕ → ℕ
+window aim reach = max 1 (unwrap_or aim.to reach - aim.from)
+
 -- ---- changes
 -- by three words
-abbrev pub change_of : List (ℕ × ℕ) → ℕ → ℕ → ℕ → ℕ → Change
-change_of spans reach first second third = record { step = first % reach; place = place_of spans (second % (13 + word_count spans)); value = third }
+abbrev pub change_of : List (ℕ × ℕ) → ℕ → Aim → ℕ → ℕ → ℕ → Change
+change_of spans reach aim first second third = record { step = aim.from + first % window aim reach; place = drawn_place aim.only spans second; value = third }
 
 -- by the next three words
-unfoldable pub drawn_change : List (ℕ × ℕ) → ℕ → Lcg → Change
-drawn_change spans reach g = change_of spans reach (drawn g) (drawn (next g)) (drawn (next (next g)))
+unfoldable pub drawn_change : List (ℕ × ℕ) → ℕ → Aim → Lcg → Change
+drawn_change spans reach aim g = change_of spans reach aim (drawn g) (drawn (next g)) (drawn (next (next g)))
 
 -- ---- strikes
 -- so many changes, in the order of their steps, those of equal steps as they were drawn
-unfoldable pub drawn_strike : List (ℕ × ℕ) → ℕ → ℕ → Lcg → List Change
-drawn_strike spans reach changes g = in_order (each changes (λ k. drawn_change spans reach (after (3 * k) g)))
+unfoldable pub drawn_strike : List (ℕ × ℕ) → ℕ → Aim → ℕ → Lcg → List Change
+drawn_strike spans reach aim changes g = in_order (each changes (λ k. drawn_change spans reach aim (after (3 * k) g)))
+
+-- how many there are: none without a place
+abbrev pub strike_count : Draws → ℕ → ℕ
+strike_count d words = if has_place d.aim.only words then d.count else 0
 
 -- so many strikes of a seed, one after another
-unfoldable pub drawn_strikes : List (ℕ × ℕ) → ℕ → ℕ → ℕ → ℕ → List (List Change)
-drawn_strikes spans reach changes count seed = each count (λ i. drawn_strike spans reach changes (after (3 * changes * i) (seeded seed)))
+unfoldable pub drawn_strikes : List (ℕ × ℕ) → ℕ → Draws → List (List Change)
+drawn_strikes spans reach d =
+    each (strike_count d (word_count spans)) (λ i. drawn_strike spans reach d.aim d.changes (after (3 * d.changes * i) (seeded d.seed)))

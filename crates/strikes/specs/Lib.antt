@@ -4,3 +4,4 @@ pub mod Later
 pub mod Kept
 pub mod Draw
 pub mod Struck
+pub mod Right

@@ -1,12 +1,12 @@
 //! Strikes that are drawn at random.
-ghost use Rattle.std.specs.Prelude.{◌≡◌, ◌+◌, ◌*◌, ◌%◌, ◌≤◌, ◌<◌, All, IfOk, OnOk, map};
+ghost use Rattle.std.specs.Prelude.{◌≡◌, ◌+◌, ◌*◌, ◌%◌, ◌<◌, true, All, IfOk, OnOk, map};
 ghost use Rattle.qed_model.specs.Admission.DataRanges.{range_of};
 ghost use Rattle.random_words.specs.Random.{after};
-ghost use Rattle.strikes.specs.Draw.{word_address as word_address_of, place_of as place_of_number, drawn_change as drawn_change_of, drawn_strike as drawn_strike_of, drawn_strikes as drawn_strikes_of, HasWords};
+ghost use Rattle.strikes.specs.Draw.{word_address as word_address_of, place_of as place_of_number, has_place as has_place_of, drawn_place as drawn_place_of, window as window_of, drawn_change as drawn_change_of, drawn_strike as drawn_strike_of, strike_count as strike_count_of, drawn_strikes as drawn_strikes_of, HasWords};
 ghost use Rattle.strikes.specs.Struck.{IsStrike};
 
 use ordered_changes::add_change;
-use qed_model::{Change, Changes, Place, Plan, Range};
+use qed_model::{Aim, Change, Changes, Draws, Place, Places, Plan, Range};
 use rand_pcg::Pcg64;
 use random_words::{drawn, seeded};
 use rv_isa::Reg;
@@ -28,7 +28,7 @@ pub fn word_address(ranges: &[Range], number: u64) -> u64
 }
 
 /// Register x1 to x13, by its number from 0.
-fn register(number: u64) -> Reg
+pub fn register(number: u64) -> Reg
     requires { number < 13 }
     ensures { result ≡ number + 1 }
 {
@@ -57,16 +57,39 @@ fn place_number(word: u64, words: u64) -> u64
     (u128::from(word) % (13 + u128::from(words))) as u64
 }
 
+/// The place that a random word gives.
+#[tactic(auto, unfolding(crate::specs::Draw::drawn_place))]
+fn drawn_place(plan: &Plan, only: Option<Places>, word: u64) -> Place
+    requires words { HasWords plan.now }
+    requires place { has_place_of only plan.now.words ≡ true }
+    ensures { result ≡ drawn_place_of only (map range_of plan.now.span) word }
+{
+    let ranges = plan.span.as_slice();
+    match only {
+        None => place_of(ranges, place_number(word, plan.words)),
+        Some(Places::Registers) => Place::Reg(register(word % 13)),
+        Some(Places::Words) => Place::Word(word_address(ranges, word % plan.words)),
+    }
+}
+
+/// The step that a random word gives.
+fn drawn_step(aim: Aim, reach: u64, word: u64) -> u64
+    ensures { result ≡ aim.from + word % window_of aim reach }
+{
+    let window = aim.to.unwrap_or(reach).saturating_sub(aim.from).max(1);
+    aim.from + word % window
+}
+
 /// The change that the next three random words make.
 #[tactic(auto, unfolding(crate::specs::Draw::drawn_change))]
-fn drawn_change(rng: &mut Pcg64, plan: &Plan, reach: u64) -> Change
+fn drawn_change(rng: &mut Pcg64, plan: &Plan, reach: u64, aim: Aim) -> Change
     requires words { HasWords plan.now }
-    requires reach { 1 ≤ reach }
-    ensures change { result ≡ drawn_change_of (map range_of plan.now.span) reach rng.old }
+    requires place { has_place_of aim.only plan.now.words ≡ true }
+    ensures change { result ≡ drawn_change_of (map range_of plan.now.span) reach aim rng.old }
     ensures rng { rng.new ≡ after 3 rng.old }
 {
-    let step = drawn(rng) % reach;
-    let place = place_of(plan.span.as_slice(), place_number(drawn(rng), plan.words));
+    let step = drawn_step(aim, reach, drawn(rng));
+    let place = drawn_place(plan, aim.only, drawn(rng));
     let value = drawn(rng);
     Change { step, place, value }
 }
@@ -78,40 +101,60 @@ fn drawn_strike(
     rng: &mut Pcg64,
     plan: &Plan,
     reach: u64,
+    aim: Aim,
     changes: u64,
 ) -> Result<Changes, AllocError>
     requires words { HasWords plan.now }
-    requires reach { 1 ≤ reach }
-    ensures strike { IfOk result (λ strike. strike ≡ drawn_strike_of (map range_of plan.now.span) reach changes rng.old) }
+    requires place { has_place_of aim.only plan.now.words ≡ true }
+    ensures strike { IfOk result (λ strike. strike ≡ drawn_strike_of (map range_of plan.now.span) reach aim changes rng.old) }
     ensures rng { OnOk result (rng.new ≡ after (3 * changes) rng.old) }
 {
     let mut made = Vec::new(alloc);
     for _ in 0..changes {
-        let change = drawn_change(rng, plan, reach);
+        let change = drawn_change(rng, plan, reach, aim);
         add_change(&mut made, change)?;
     }
     Ok(Changes::of(made))
 }
 
-/// So many strikes, of so many changes each, that the random words of a seed make, for an output with this plan that is struck after
-/// fewer than `reach` steps. The steps of the changes of a strike do not fall.
+/// Whether there is a place to strike.
+fn has_place(only: Option<Places>, words: u64) -> bool
+    ensures { result ≡ has_place_of only words }
+{
+    match only {
+        Some(Places::Words) => 0 < words,
+        _ => true,
+    }
+}
+
+/// How many strikes are drawn: none without a place.
+fn strike_count(draws: &Draws, words: u64) -> u64
+    ensures { result ≡ strike_count_of draws.now words }
+{
+    if has_place(draws.aim.only, words) {
+        draws.count
+    } else {
+        0
+    }
+}
+
+/// The strikes that the random words of a seed make, for an output with this plan that first does not go on after `reach` steps. The
+/// steps of the changes of a strike do not fall.
 pub fn drawn_strikes(
     alloc: Global,
     plan: &Plan,
     reach: u64,
-    seed: u64,
-    count: u64,
-    changes: u64,
+    draws: &Draws,
 ) -> Result<Vec<Changes>, AllocError>
-    requires words { HasWords plan.now }
-    requires reach { 1 ≤ reach }
-    ensures drawn { IfOk result (λ strikes. strikes.items ≡ drawn_strikes_of (map range_of plan.now.span) reach changes count seed) }
+    requires { HasWords plan.now }
+    ensures drawn { IfOk result (λ strikes. strikes.items ≡ drawn_strikes_of (map range_of plan.now.span) reach draws.now) }
     ensures fit { IfOk result (λ strikes. All (IsStrike plan.now.bounds) strikes.items) }
 {
-    let mut rng = seeded(seed);
+    let mut rng = seeded(draws.seed);
     let mut strikes = Vec::new(alloc);
-    for _ in 0..count {
-        strikes.push(drawn_strike(alloc, &mut rng, plan, reach, changes)?)?;
+    for _ in 0..strike_count(draws, plan.words) {
+        let strike = drawn_strike(alloc, &mut rng, plan, reach, draws.aim, draws.changes)?;
+        strikes.push(strike)?;
     }
     Ok(strikes)
 }

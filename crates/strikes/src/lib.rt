@@ -8,6 +8,7 @@ mod beside;
 mod draw;
 mod error;
 mod later;
+mod right;
 mod runs;
 mod snapshots;
 mod stop;

@@ -1,19 +1,23 @@
 //! The runs of an input and of its output, which are struck.
-ghost use Rattle.std.specs.Prelude.{◌≡◌, ◌↔◌, ◌+◌, ◌*◌, ◌≤◌, All, IfOk, IfSome, IsNone, IsTrue};
+ghost use Rattle.std.specs.Prelude.{◌≡◌, ◌↔◌, ◌+◌, ◌*◌, ◌≤◌, All, IfOk, IfSome, IsNone, IsTrue, map};
+ghost use Rattle.qed_model.specs.Admission.DataRanges.{range_of};
 ghost use Rattle.qed_model.specs.declared.machine.Outcome.TheVariants as outcome;
 ghost use Rattle.qed_model.specs.Machine.Step.{run};
 ghost use Rattle.qed_model.specs.Promise.Caught.{bound_of as bound_of_changes};
-ghost use Rattle.qed_model.specs.Promise.Changed.{Ordered, has_word as has_word_of, is_word as is_word_of};
+ghost use Rattle.qed_model.specs.Promise.Changed.{Ordered, changed_run, has_word as has_word_of, is_word as is_word_of, last_step as last_step_of};
 ghost use Rattle.strikes.specs.Kept.{IsReach, copies_up_to};
+ghost use Rattle.strikes.specs.Right.{ends_right as ends_right_of, is_right as is_right_of, rights as rights_of};
 ghost use Rattle.strikes.specs.Struck.{IsStrike, IsStruckNext, AreStruck};
 ghost use Rattle.strikes.specs.Verdict.{IsVerdict};
 
 use crate::error::StrikeError;
 use crate::later::{all_from, first_step};
+use crate::right::same_values;
 use crate::snapshots::{SPACING, Snapshots};
 use crate::verdict::{last_step, output_verdict};
 use crate::watched::Watched;
-use qed_model::{Bounds, Change, Changes, Place, Struck, Verdict};
+use fault_inject::run_changed;
+use qed_model::{Bounds, Change, Changes, Outcome, Place, Range, Struck, Verdict};
 use rv_step::Machine;
 use std::alloc::{AllocError, Global};
 use std::marker::Model;
@@ -177,6 +181,73 @@ impl Runs {
         }
     }
 
+    /// The output so many steps behind the last change.
+    fn changed(&self, alloc: Global, changes: &[Change], steps: u64) -> Result<Machine, AllocError>
+        requires { Ordered changes.now }
+        ensures { IfOk result (λ machine. machine.state ≡ changed_run self.now.output changes.now (last_step_of changes.now + steps)) }
+    {
+        let start = first_step(changes);
+        let later = all_from(alloc, changes, start)?;
+        let mut output = self.output.machine_at(alloc, start)?;
+        run_changed(&mut output, &later, last_step(&later))?;
+        output.run(steps)?;
+        Ok(output)
+    }
+
+    /// Whether a test that ended so many steps behind the last change ended right.
+    #[tactic(auto, unfolding(crate::specs::Right::ends_right))]
+    fn ends_right(
+        &self,
+        alloc: Global,
+        spans: &[Range],
+        changes: &[Change],
+        steps: u64,
+    ) -> Result<bool, AllocError>
+        requires { Ordered changes.now }
+        ensures { IfOk result (λ right. right ≡ ends_right_of self.now.input self.now.output (map range_of spans.now) changes.now steps) }
+    {
+        let Some(input) = self.input.later(alloc, last_step(changes), steps)? else {
+            return Ok(false);
+        };
+        if input.outcome() != Outcome::Ended {
+            return Ok(false);
+        }
+        let output = self.changed(alloc, changes, steps)?;
+        Ok(same_values(&output, &input, spans))
+    }
+
+    /// The same of a strike; false where the test did not end.
+    fn is_right(&self, alloc: Global, spans: &[Range], struck: &Struck) -> Result<bool, AllocError>
+        requires { Ordered struck.now.changes }
+        ensures { IfOk result (λ right. right ≡ is_right_of self.now (map range_of spans.now) struck.now) }
+    {
+        match struck.verdict {
+            Verdict::Ended(steps) => {
+                self.ends_right(alloc, spans, struck.changes.as_slice(), steps)
+            }
+            _ => Ok(false),
+        }
+    }
+
+    /// Whether the test ended right in each of some strikes, with these data ranges: by the end of the struck run the input had ended
+    /// too, and x1 to x13 and the data words hold what they held at its end. False where it did not end.
+    pub fn rights(
+        &self,
+        alloc: Global,
+        spans: &[Range],
+        struck: &[Struck],
+    ) -> Result<Vec<bool>, AllocError>
+        requires { All (λ s. Ordered s.changes) struck.now }
+        ensures { IfOk result (λ found. found.items ≡ rights_of self.now (map range_of spans.now) struck.now) }
+    {
+        let mut found = Vec::new(alloc);
+        for strike in struck {
+            let right = self.is_right(alloc, spans, strike)?;
+            found.push(right)?;
+        }
+        Ok(found)
+    }
+
     /// Makes a strike, and adds it with its verdict, or gives the pc where the input traps.
     fn strike_next(
         &self,
@@ -199,7 +270,8 @@ impl Runs {
     /// Strikes one after the other, each from the start of the runs, up to the first where the input traps.
     pub fn strike_all(&self, alloc: Global, strikes: &[Changes]) -> Result<Campaign, AllocError>
         requires { All (IsStrike self.now.bounds) strikes.now }
-        ensures { IfOk result (λ campaign. AreStruck self.now strikes.now campaign.struck.items campaign.trapped) }
+        ensures struck { IfOk result (λ campaign. AreStruck self.now strikes.now campaign.struck.items campaign.trapped) }
+        ensures ordered { IfOk result (λ campaign. All (λ s. Ordered s.changes) campaign.struck.items) }
     {
         let mut struck = Vec::new(alloc);
         for changes in strikes {

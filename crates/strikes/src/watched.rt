@@ -1,5 +1,6 @@
 //! A run that is watched for a trap.
-ghost use Rattle.std.specs.Prelude.{◌≡◌, ◌+◌, IfOk};
+ghost use Rattle.std.specs.Prelude.{◌≡◌, ◌+◌, IfOk, IfSome, IfNone};
+ghost use Rattle.qed_model.specs.declared.machine.Outcome.TheVariants as outcome;
 ghost use Rattle.qed_model.specs.Machine.Step.{run};
 ghost use Rattle.strikes.specs.Found.{trap_pc_of};
 
@@ -69,5 +70,19 @@ impl Watched {
         machine.run(last.saturating_sub(self.steps))?;
         let outcome = machine.run(bound - self.steps.saturating_sub(last))?;
         Ok(trap_pc(outcome))
+    }
+
+    /// The machine after two numbers of steps; None where it goes on before and after them.
+    pub fn later(&self, alloc: Global, last: u64, more: u64) -> Result<Option<Machine>, AllocError>
+        ensures there { IfOk result (λ r. IfSome r (λ machine. machine.state ≡ run self.now.state (last + more))) }
+        ensures going { IfOk result (λ r. IfNone r ((run self.now.state (last + more)).outcome ≡ outcome.Going)) }
+    {
+        if u128::from(last) + u128::from(more) < u128::from(self.steps) {
+            return Ok(None);
+        }
+        let mut machine = self.later.copy(alloc)?;
+        machine.run(last.saturating_sub(self.steps))?;
+        machine.run(more - self.steps.saturating_sub(last))?;
+        Ok(Some(machine))
     }
 }

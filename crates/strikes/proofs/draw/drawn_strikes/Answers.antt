@@ -1,18 +1,18 @@
 use Rattle.std.proofs.Common.{◌≡◌, ◌*◌, map, ap, ◌∙◌, subst, sym, arith}
 use Rattle.std.specs.Prelude.{All}
-use Rattle.qed_model.specs.Admission.DataRanges.{range_of}
+use Rattle.qed_model.specs.Admission.DataRanges.{range_of, word_count}
 use Rattle.qed_model.specs.Below.{each}
 use Rattle.qed_model.proofs.BelowLaws.{each_none, push_each}
 use Rattle.random_words.specs.Random.{seeded, after}
-use Rattle.strikes.specs.Draw.{drawn_strike, drawn_strikes}
+use Rattle.strikes.specs.Draw.{drawn_strike, strike_count, drawn_strikes}
 use Rattle.strikes.specs.Struck.{IsStrike}
-use Rattle.strikes.proofs.Drawing.{none_drawn, more_words, drawn_all_fit}
+use Rattle.strikes.proofs.Drawing.{none_drawn, more_words, place_of_some, drawn_all_fit}
 use Rattle.strikes.proofs.draw.drawn_strikes.Goals as goal
 
 pub loop-init : goal.loop-init
 loop-init c = record {
-  made = c.new-strikes.ensures.items ∙ each_none (λ i. drawn_strike (map range_of c.args.plan.now.span) c.args.reach c.args.changes (after (3 * c.args.changes * i) (seeded c.args.seed)));
-  rng = c.seeded-rng.ensures ∙ none_drawn c.args.changes (seeded c.args.seed);
+  made = c.new-strikes.ensures.items ∙ each_none (λ i. drawn_strike (map range_of c.args.plan.now.span) c.args.reach c.args.draws.now.aim c.args.draws.now.changes (after (3 * c.args.draws.now.changes * i) (seeded c.args.draws.now.seed)));
+  rng = c.seeded-rng.ensures ∙ none_drawn c.args.draws.now.changes (seeded c.args.draws.now.seed);
 }
 
 pub loop-preserved : goal.loop-preserved
@@ -20,16 +20,23 @@ loop-preserved c =
     let before = c.loop.invariant.rng in
     let spans = map range_of c.args.plan.now.span in
     record {
-      made = push_each c.loop.counter (λ i. drawn_strike spans c.args.reach c.args.changes (after (3 * c.args.changes * i) (seeded c.args.seed))) c.loop.strikes.items c.push.new.self.items c.in_ok-drawn_strike.field-0 c.in_ok-push.ensures.items c.loop.invariant.made
-          (c.in_ok-drawn_strike.ensures.strike ∙ ap (drawn_strike spans c.args.reach c.args.changes) before);
-      rng = c.in_ok-drawn_strike.ensures.rng ∙ ap (after (3 * c.args.changes)) before ∙ more_words c.args.changes c.loop.counter (seeded c.args.seed);
+      made = push_each c.loop.counter (λ i. drawn_strike spans c.args.reach c.args.draws.now.aim c.args.draws.now.changes (after (3 * c.args.draws.now.changes * i) (seeded c.args.draws.now.seed))) c.loop.strikes.items c.push.new.self.items c.in_ok-strike.strike c.in_ok-push.ensures.items c.loop.invariant.made
+          (c.in_ok-strike.ensures.strike ∙ ap (drawn_strike spans c.args.reach c.args.draws.now.aim c.args.draws.now.changes) before);
+      rng = c.in_ok-strike.ensures.rng ∙ ap (after (3 * c.args.draws.now.changes)) before ∙ more_words c.args.draws.now.changes c.loop.counter (seeded c.args.draws.now.seed);
     }
+
+pub drawn_strike-requires-clause-place : goal.drawn_strike-requires-clause-place
+drawn_strike-requires-clause-place c =
+    place_of_some c.args.draws.now c.args.plan.now.words c.loop.counter (omega arith)
 
 pub returns-clause-drawn : goal.returns-clause-drawn
 unfolding drawn_strikes
 returns-clause-drawn c =
-    let all : c.loop.counter ≡ c.args.count = omega arith in
-    c.loop.invariant.made ∙ ap (λ n. each n (λ i. drawn_strike (map range_of c.args.plan.now.span) c.args.reach c.args.changes (after (3 * c.args.changes * i) (seeded c.args.seed)))) all
+    let spans = map range_of c.args.plan.now.span in
+    let count : strike_count c.args.draws.now c.args.plan.now.words ≡ strike_count c.args.draws.now (word_count spans) = ap (strike_count c.args.draws.now) c.requires.count in
+    let all : c.loop.counter ≡ strike_count c.args.draws.now (word_count spans) = omega (arith, count) in
+    c.loop.invariant.made
+    ∙ ap (λ n. each n (λ i. drawn_strike spans c.args.reach c.args.draws.now.aim c.args.draws.now.changes (after (3 * c.args.draws.now.changes * i) (seeded c.args.draws.now.seed)))) all
 
 pub returns-clause-fit : goal.returns-clause-fit
-returns-clause-fit c = subst (All (IsStrike c.args.plan.now.bounds)) (sym (returns-clause-drawn c)) (drawn_all_fit c.args.plan.now c.args.reach c.args.changes c.args.count c.args.seed c.requires.words)
+returns-clause-fit c = subst (All (IsStrike c.args.plan.now.bounds)) (sym (returns-clause-drawn c)) (drawn_all_fit c.args.plan.now c.args.reach c.args.draws.now c.requires)

@@ -8,6 +8,6 @@ use Rattle.strikes.proofs.draw.drawn_strikes.Given as goal
 -- those so far
 abbrev pub invariant-loop : goal.invariant-loop
 invariant-loop l = record {
-  made : l.strikes.items ≡ each l.counter (λ i. drawn_strike (map range_of l.plan.span) l.reach l.changes (after (3 * l.changes * i) (seeded l.seed)));
-  rng : l.rng ≡ after (3 * l.changes * l.counter) (seeded l.seed);
+  made : l.strikes.items ≡ each l.counter (λ i. drawn_strike (map range_of l.plan.span) l.reach l.draws.aim l.draws.changes (after (3 * l.draws.changes * i) (seeded l.draws.seed)));
+  rng : l.rng ≡ after (3 * l.draws.changes * l.counter) (seeded l.draws.seed);
 }
