@@ -14,7 +14,7 @@ missing option = the option must be given
 bad number = this is no number: digits, or 0x and hexadecimal digits, below 2^64
 bad shape = this is not of the option's form
 out of range = this is out of the option's range
-split = the fewest instructions of a piece are more than half of the most: lower --inst-min or raise --inst-max
+split = twice --inst-min is above --inst-max and one: lower --inst-min or raise --inst-max
 E1 = this is no ELF file
 E2: class 1 = this is an ELF file of 32 bits: compile with -march=rv64im -mabi=lp64
 E2 = this is no ELF file of 64 bits

@@ -31,7 +31,7 @@ pub const TRANSFORM: &str = "qed transform IN OUT [OPTION..]
 IN is a test: an ELF file for RV64IM, linked statically, on the registers x0 to x13. OUT does what
 IN does twice, and compares. What is printed are the sizes of OUT, and its bounds in steps.
 
---inst-min N   the fewest instructions of a piece, 1 to 1024: by default 4
+--inst-min N   the floor of --inst-max, 1 to 1024: by default 4; no output depends on it
 --inst-max N   the most instructions of a piece, 1 to 1024: by default 16
 --round N      the data words that are compared behind a piece, 1 to 1024: by default 1
 --half N       the bytes from half to half, a multiple of 4096 up to 536870912: by default what fits
