@@ -1,7 +1,6 @@
 //! Addresses that LUI, AUIPC and additions to x0 make, with at most two immediates more.
-ghost use Rattle.std.specs.Prelude.{◌≡◌, ◌==◌, ◌&&◌, ◌||◌, ◌+◌, ◌%◌, ◌^◌, take, cond, Some, None, OnOk};
-ghost use Rattle.std.specs.List.{list_any};
-ghost use Rattle.qed_model.specs.Machine.Step.{target, imm};
+ghost use Rattle.std.specs.Prelude.{◌≡◌, OnOk};
+ghost use Rattle.qed_model.specs.Machine.Step.{target};
 ghost use Rattle.flow_recovery.specs.Sets.{Adds};
 ghost use Rattle.flow_recovery.specs.Reached.{leads, is_sum, adds_to, sum_leads, once, sums_lead, users, near_by, twice, is_upper, makes_constant, constant, made_by, is_made};
 

@@ -1,5 +1,5 @@
 //! Which words of the code are reached.
-ghost use Rattle.std.specs.Prelude.{◌≡◌, ℕ, ◌==◌, map, OnOk, IfOk};
+ghost use Rattle.std.specs.Prelude.{◌≡◌, ℕ, map, OnOk, IfOk};
 ghost use Rattle.std.specs.List.{list_any};
 ghost use Rattle.flow_recovery.specs.Sets.{holds, lists, Adds};
 ghost use Rattle.flow_recovery.specs.Reached.{links_to, is_reached};

@@ -1,8 +1,8 @@
 //! Addresses that stand in the bytes of the segments: alone, and as distances in tables.
-ghost use Rattle.std.specs.Prelude.{◌≡◌, ℕ, ◌+◌, ◌*◌, ◌-◌, ◌%◌, ◌^◌, ◌<◌, ◌==◌, ◌&&◌, ◌||◌, List, map, drop, OnOk};
+ghost use Rattle.std.specs.Prelude.{◌≡◌, ◌+◌, ◌*◌, ◌%◌, ◌^◌, ◌<◌, map, drop, OnOk};
 ghost use Rattle.std.specs.List.{list_any};
 ghost use Rattle.qed_model.specs.Machine.Values.{word as extended};
-ghost use Rattle.qed_model.specs.Admission.DataRanges.{is_in, range_of};
+ghost use Rattle.qed_model.specs.Admission.DataRanges.{range_of};
 ghost use Rattle.qed_model.specs.Admission.Terms.{is_in_any, is_code_address};
 ghost use Rattle.flow_recovery.specs.Sets.{Adds};
 ghost use Rattle.flow_recovery.specs.Reached.{words_in, offset_of, is_low_half, is_in_data, is_in_table, bytes_from, is_by_table};
