@@ -9,7 +9,7 @@ from typing import Callable, Dict, List, Optional, Tuple
 
 import isa
 from advice import advice
-from admission import Options, admit, blocks, leaders
+from admission import Options, admit, blocks, leaders, reached
 from calls import WRITE_FAULT, Shelf, answer, transform
 from campaign import Course, is_closed, strikes_text
 from elf import read_elf
@@ -365,6 +365,13 @@ def _test(rows: Rows, words: List[str]) -> str:
     return "\n".join(lines) + "\n"
 
 
+def _reached(rows: Rows, words: List[str]) -> str:
+    """`reached`."""
+    order = rows.order(words)
+    test = admit(read_elf(rows.file(order.files[0])), order.options())
+    return "".join(f"reached 0x{address:x}\n" for address in sorted(reached(test)))
+
+
 def _course(rows: Rows, words: List[str]) -> str:
     """`course`."""
     course = rows.course(words)
@@ -436,7 +443,7 @@ LINES: Dict[str, Callable[[Rows, List[str]], str]] = {
     "starved": lambda rows, words: f"= {NO_MEMORY}\n", "order": _order, "show": _show, "read": _read,
     "never": _never, "narrow": _narrow, "disk": _disk, "put": _put, "take": _take, "kind": _kind,
     "advice": lambda rows, words: advice(words, rows.shelf),
-    "test": _test, "course": _course, "strike": _strike, "closed": _closed, "bounds": _bounds, "link": _link}
+    "test": _test, "reached": _reached, "course": _course, "strike": _strike, "closed": _closed, "bounds": _bounds, "link": _link}
 
 
 def answer_of(rows: Rows, line: str) -> str:

@@ -17,7 +17,7 @@ fn read_line(alloc: Global, bench: &Bench, name: &str) -> Result<Option<String>,
     }
 }
 
-/// `test NAME [OPTIONS]` and `course NAME [OPTIONS]`.
+/// `test NAME [OPTIONS]`, `reached NAME [OPTIONS]` and `course NAME [OPTIONS]`.
 fn test_line(
     alloc: Global,
     bench: &Bench,
@@ -31,7 +31,10 @@ fn test_line(
         return Ok(None);
     };
     match what {
-        "test" => Ok(Some(test(alloc, bytes, &asked.options)?)),
+        "test" | "reached" => {
+            let told = test(alloc, bytes, &asked.options, what == "reached")?;
+            Ok(Some(told))
+        }
         _ => Ok(Some(reach(alloc, bytes, &asked.options)?)),
     }
 }
@@ -73,7 +76,7 @@ pub(crate) fn tell_layer(
 ) -> Result<Option<String>, AllocError> {
     match what {
         "read" => read_line(alloc, bench, rest),
-        "test" | "course" => test_line(alloc, bench, what, rest),
+        "test" | "reached" | "course" => test_line(alloc, bench, what, rest),
         "strike" => strike_line(alloc, bench, rest),
         "closed" => closed_line(alloc, bench, rest),
         "bounds" => bounds_line(alloc, rest),

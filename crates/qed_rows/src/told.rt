@@ -7,7 +7,7 @@ use crate::line::Lines;
 use block_list::{CodeBlock, blocks};
 use elf_read::read_elf;
 use elf_types::ElfFile;
-use flow_recovery::leaders;
+use flow_recovery::{leaders, reached};
 use qed_model::{Options, Range, Test};
 use report::admit_text;
 use std::alloc::{AllocError, Global};
@@ -73,6 +73,12 @@ fn leader(lines: &mut Lines, address: u64) -> Result<(), AllocError> {
     lines.end()
 }
 
+fn reach(lines: &mut Lines, address: u64) -> Result<(), AllocError> {
+    lines.begin("reached")?;
+    lines.hex(address)?;
+    lines.end()
+}
+
 /// The leaders and the blocks of a test.
 fn cut(
     alloc: Global,
@@ -93,8 +99,30 @@ fn cut(
     Ok(())
 }
 
-/// What is told of the test that bytes are, or why they are none.
-pub(crate) fn test(alloc: Global, bytes: &[u8], options: &Options) -> Result<String, AllocError>
+/// The addresses of the words of a test that are reached.
+fn reaches(
+    alloc: Global,
+    lines: &mut Lines,
+    file: &ElfFile,
+    test: &Test,
+) -> Result<(), AllocError> {
+    let marks = reached(alloc, test, file)?;
+    for (i, it) in test.code.as_slice().iter().enumerate() {
+        match marks.get(i) {
+            Some(mark) if *mark => reach(lines, it.at)?,
+            _ => {}
+        }
+    }
+    Ok(())
+}
+
+/// What is told of the test that bytes are, or the words of it that are reached, or why they are none.
+pub(crate) fn test(
+    alloc: Global,
+    bytes: &[u8],
+    options: &Options,
+    is_reaching: bool,
+) -> Result<String, AllocError>
     requires { AreSoundOptions options.now }
 {
     let file = match read_elf(alloc, bytes) {
@@ -104,8 +132,12 @@ pub(crate) fn test(alloc: Global, bytes: &[u8], options: &Options) -> Result<Str
     match admit(alloc, &file, options) {
         Ok(test) => {
             let mut lines = Lines::new(alloc);
-            parts(alloc, &mut lines, &test)?;
-            cut(alloc, &mut lines, &file, &test, options)?;
+            if is_reaching {
+                reaches(alloc, &mut lines, &file, &test)?;
+            } else {
+                parts(alloc, &mut lines, &test)?;
+                cut(alloc, &mut lines, &file, &test, options)?;
+            }
             Ok(lines.into_text())
         }
         Err(error) => text_of(alloc, &admit_text(alloc, &error)?),
