@@ -1,22 +1,17 @@
 -- What an output is made ready with.
-use Rattle.std.proofs.Common.{◌≡◌, ℕ, zero, suc, ◌≤◌, List, map, inl, inr, refl, sym, ap, ◌∙◌, subst, arith}
+use Rattle.std.proofs.Common.{ℕ, zero, suc, ◌≤◌, List, inl, inr, refl, sym, ap, ◌∙◌, subst, arith}
 use Rattle.std.specs.Prelude.{IsSome, Ok}
 use Rattle.elf_types.specs.declared.file.ElfFile.{ElfFile}
 use Rattle.qed_model.specs.declared.options.Options.{Options}
 use Rattle.qed_model.specs.declared.plan.Plan.{Plan}
-use Rattle.qed_model.specs.Admission.DataRanges.{range_of, word_count, data_ranges}
-use Rattle.qed_model.specs.Weave.Bounds.{word_bound, bounds_of, start_steps, piece_steps}
+use Rattle.qed_model.specs.Admission.DataRanges.{word_count, data_ranges}
+use Rattle.qed_model.specs.Weave.Bounds.{word_bound, start_steps, piece_steps}
 use Rattle.qed_model.specs.Weave.Places.{image_of}
 use Rattle.qed_model.specs.Weave.Sequences.{Block}
 use Rattle.qed_model.specs.Weave.Woven.{IsToldOf, shape_of, is_far_code}
-use Rattle.qed_model.specs.declared.machine.Outcome.TheVariants.{Going}
-use Rattle.qed_model.specs.Elf.FileRead.{file_read}
-use Rattle.qed_model.specs.Machine.Step.{State}
-use Rattle.elf_read.specs.Known.{IsReadable}
 use Rattle.transform.specs.declared.error.TransformError.{TransformError}
-use Rattle.transform.specs.Transform.{Transforms, IsErrorOr}
+use Rattle.transform.specs.Transform.{IsErrorOr}
 use Rattle.strikes.specs.Draw.{HasWords}
-use Rattle.campaign.specs.Course.{StartsIn}
 
 -- where there are data words there is a bound for them
 some_bound : (n round start piece : ℕ) → 1 ≤ n → IsSome (word_bound n round start piece)
