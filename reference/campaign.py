@@ -128,13 +128,14 @@ class Course:
         return Verdict("same")
 
     def is_right(self, struck: Hart, steps: int) -> bool:
-        """Whether the input has ended after so many steps, with the values that the struck output has ("Printed lines")."""
+        """Whether the input has ended after so many steps, with the values that the struck output has ("Printed lines"); a byte that it
+        does not map counts as 0."""
         self.input.run(steps)
         if self.input.outcome != ENDED or self.input.steps > steps:
             return False
-        words = (address for data in self.test.data for address in range(data.start, data.end, 8))
+        places = (address for data in self.test.data for address in range(data.start, data.end))
         return (self.input.x[1:14] == struck.x[1:14]
-                and all(self.input.memory.load(word, 8) == struck.memory.load(word, 8) for word in words))
+                and all((self.input.memory.load(place, 1) or 0) == struck.memory.load(place, 1) for place in places))
 
     def is_held(self, place: Place) -> bool:
         """Whether the bounds speak of changes of a place: x1 to x13 and data words (PROFILE.md, "Bounds")."""
