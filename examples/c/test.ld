@@ -1,5 +1,5 @@
-/* A segment for each kind of memory, and a stack of 16 KiB: each of its words is a data word, and the word bound grows
-   with them. */
+/* A segment for each kind of memory. The stack of 16 KiB stands below the data, so that a test that overruns it traps. Each of
+   its words is a data word, and the word bound grows with them. */
 ENTRY(_start)
 PHDRS { text PT_LOAD FLAGS(5); rodata PT_LOAD FLAGS(4); data PT_LOAD FLAGS(6); }
 SECTIONS {
@@ -8,6 +8,7 @@ SECTIONS {
     . = ALIGN(4096);
     .rodata : { *(.rodata .rodata.* .srodata .srodata.*) . = ALIGN(8); } :rodata
     . = ALIGN(4096);
+    .stack (NOLOAD) : { . += 16384; . = ALIGN(16); stack_top = .; } :data
     .data : { *(.data .data.* .sdata .sdata.*) } :data
-    .bss : { *(.sbss .sbss.* .bss .bss.* COMMON) . = ALIGN(16); . += 16384; stack_top = .; } :data
+    .bss : { *(.sbss .sbss.* .bss .bss.* COMMON) } :data
 }
