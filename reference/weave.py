@@ -49,8 +49,14 @@ class Role(NamedTuple):
         return f"{self.name}{register} {place}".rstrip()
 
 
-# Items that are for one thing.
+# Items that are for one thing; those behind a piece, which every piece has, are for several.
 Part = Tuple[Role, List[Item]]
+CHECKS = "checks"
+
+
+def items_of(parts: List[Part]) -> List[Item]:
+    """The items of parts."""
+    return [*chain.from_iterable(items for _, items in parts)]
 
 
 def pair(register: int) -> int:
@@ -176,6 +182,7 @@ class Weave:
     def __init__(self, test: Test, options: Options, far: bool) -> None:
         self.test, self.diverse, self.far = test, options.diverse, far
         self.visited = visit(test.data, options.round)
+        self.checks = items_of(compare(())) + self.visited
         self.end = [(Role("sweep"), sweep(test.data)), *compare(())] if options.sweep else []
 
     def leave(self, block: Block) -> List[Part]:
@@ -216,7 +223,7 @@ class Weave:
             for address, i in piece:
                 parts += original_part(i, address)
             parts += [(Role("mirror", (address,)), mirror_part(i, address, self.diverse)) for address, i in piece]
-            parts += [*compare(span), (Role("visit", span), self.visited)]
+            parts.append((Role(CHECKS, span), self.checks))
         return parts + self.leave(block)
 
     def prologue(self) -> List[Part]:
@@ -229,11 +236,14 @@ class Weave:
 
     def parts(self, blocks: List[Block]) -> List[List[Item]]:
         """The new code but for the stub: the prologue and the entries ("Pieces, entries, the whole code")."""
-        return [[item for _, items in parts for item in items] for parts in (self.prologue(), *map(self.entry, blocks))]
+        return [items_of(parts) for parts in (self.prologue(), *map(self.entry, blocks))]
 
     def roles(self, blocks: List[Block]) -> List[Role]:
         """What each word of the new code is for ("Roles")."""
-        parts = chain(self.prologue(), *map(self.entry, blocks))
+        parts: List[Part] = []
+        for role, items in chain(self.prologue(), *map(self.entry, blocks)):
+            is_one = role.name != CHECKS
+            parts += [(role, items)] if is_one else [*compare(role.addresses), (Role("visit", role.addresses), self.visited)]
         return [role for role, items in parts for _ in range(size_of(items, self.far) // 4)] + [Role("stub")]
 
 
