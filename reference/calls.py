@@ -12,12 +12,12 @@ import isa
 from admission import Options, Test, admit, blocks
 from assembler import CODE, DATA, assemble
 from campaign import Aim, Course, strikes_text
-from elf import STB_LOCAL, STT_NOTYPE, File, first_sharing, read_elf
+from elf import STB_LOCAL, STT_FUNC, STT_NOTYPE, File, first_sharing, read_elf
 from generator import generate
 from machine import ENDED, FIRED, GOING, Hart, Memory, code_ranges, loads_of, run_changed, start
 from output import output_file, packed, plain_file
-from texts import Exceeded, Refused, Stopped, hex16, number_or_none
-from weave import Woven, weave
+from texts import Exceeded, Refused, Stopped, encoded, hex16, number_or_none
+from weave import Role, Weave, Woven, pair, weave
 from words import Order, order_of
 
 MOST_INPUT = 64 << 20
@@ -113,6 +113,45 @@ def plan_text(done: Transformed) -> str:
     return json.dumps(plan, separators=(",", ":")) + "\n"
 
 
+# What words are for
+
+def role_line(address: int, word: int, role: Role) -> str:
+    """The line of a word of the new code ("Printed lines", explain)."""
+    return f"{isa.text_of(word)} # {hex16(address)} {role.text()}\n"
+
+
+def symbol_line(file: File, role: Role) -> str:
+    """The symbol of the input address of a role, where there is one ("Printed lines", explain)."""
+    near = [s for s in file.symbols if s.shndx != 0 and s.type in (STT_NOTYPE, STT_FUNC) and s.name
+            and role.addresses and s.value <= role.addresses[0]]
+    if not near:
+        return ""
+    symbol = max(near, key=lambda s: s.value)
+    return f"symbol {symbol.name.decode(errors='surrogateescape')}+0x{role.addresses[0] - symbol.value:x}\n"
+
+
+def fired_line(role: Role) -> str:
+    """What differed where the EBREAK of a role is reached ("Printed lines", explain)."""
+    if role.register:
+        return f"fired: x{role.register} and x{pair(role.register)} differ\n"
+    if role.name == "entry":
+        return f"fired: the signature is not that of {hex16(role.addresses[0])}\n"
+    return "fired: a data word and its duplicate differ, its address is in x15\n"
+
+
+def explained(done: Transformed, options: Options, at: Optional[int]) -> str:
+    """What each word of the new code is for, or the word at one address ("Printed lines", explain)."""
+    base, words = done.test.new_code, done.woven.words
+    roles = Weave(done.test, options, done.woven.far).roles(done.woven.blocks)
+    if at is None:
+        return "".join(role_line(base + 4 * k, word, role) for k, (word, role) in enumerate(zip(words, roles)))
+    if at % 4 != 0 or not base <= at < base + 4 * len(words):
+        raise Refused(f"N1: address {hex16(at)}")
+    word, role = words[(at - base) // 4], roles[(at - base) // 4]
+    fired = fired_line(role) if isa.decode(word) == isa.EBREAK else ""
+    return role_line(at, word, role) + symbol_line(done.test.file, role) + fired
+
+
 # Runs
 
 def check_memory(files: List[File]) -> None:
@@ -193,6 +232,12 @@ def _transform(order: Order, shelf: Shelf) -> Answer:
 def _plan(order: Order, shelf: Shelf) -> Answer:
     """`plan`."""
     return 0, plan_text(transform(load(shelf, order.files[0], MOST_INPUT), order.options()))
+
+
+def _explain(order: Order, shelf: Shelf) -> Answer:
+    """`explain`."""
+    done = transform(load(shelf, order.files[0], MOST_INPUT), order.options())
+    return 0, explained(done, order.options(), order.values.get("at"))
 
 
 def _run(order: Order, shelf: Shelf) -> Answer:
@@ -276,8 +321,8 @@ def _version(order: Order, shelf: Shelf) -> Answer:
 
 
 CALLS: Dict[str, Callable[[Order, Shelf], Answer]] = {
-    "transform": _transform, "plan": _plan, "run": _run, "campaign": _campaign, "gen": _gen, "list": _list,
-    "asm": _asm, "harts": _harts, "help": _help, "version": _version}
+    "transform": _transform, "plan": _plan, "explain": _explain, "run": _run, "campaign": _campaign, "gen": _gen,
+    "list": _list, "asm": _asm, "harts": _harts, "help": _help, "version": _version}
 
 
 def answer(words: List[str], shelf: Shelf) -> Answer:
@@ -301,7 +346,7 @@ def main() -> int:
     """The program: one call over the files of the disk."""
     status, text = answer(arguments() or [], Shelf("."))
     try:
-        sys.stdout.buffer.write(text.encode())
+        sys.stdout.buffer.write(encoded(text))
         sys.stdout.buffer.flush()
     except OSError:
         return WRITE_FAULT

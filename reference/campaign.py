@@ -78,6 +78,12 @@ def is_closed(hart: Hart, place: Place) -> bool:
             and _is_use(_next(hart, 8), register))
 
 
+def _data_word(hart: Hart, address: int) -> int:
+    """The number in a data word; bytes that are not mapped are 0 (PROFILE.md, "Memory")."""
+    whole = hart.memory.load(address, 8)
+    return whole if whole is not None else sum((hart.memory.load(address + i, 1) or 0) << 8 * i for i in range(8))
+
+
 class Course:
     """An output that is struck, beside its input."""
 
@@ -128,14 +134,13 @@ class Course:
         return Verdict("same")
 
     def is_right(self, struck: Hart, steps: int) -> bool:
-        """Whether the input has ended after so many steps, with the values that the struck output has ("Printed lines"); a byte that it
-        does not map counts as 0."""
+        """Whether the input has ended after so many steps, with the values that the struck output has ("Printed lines")."""
         self.input.run(steps)
         if self.input.outcome != ENDED or self.input.steps > steps:
             return False
-        places = (address for data in self.test.data for address in range(data.start, data.end))
+        words = (address for data in self.test.data for address in range(data.start, data.end, 8))
         return (self.input.x[1:14] == struck.x[1:14]
-                and all((self.input.memory.load(place, 1) or 0) == struck.memory.load(place, 1) for place in places))
+                and all(_data_word(self.input, word) == _data_word(struck, word) for word in words))
 
     def is_held(self, place: Place) -> bool:
         """Whether the bounds speak of changes of a place: x1 to x13 and data words (PROFILE.md, "Bounds")."""

@@ -8,10 +8,11 @@ from dataclasses import dataclass, replace
 from typing import Callable, Dict, List, Optional, Tuple, Union
 
 import isa
+from admission import admit
 from elf import HEADER, PROGRAM_HEADER, RELA, SECTION_HEADER, SYMBOL, read_elf
 from machine import GOING, start
 from texts import Stopped
-from words import COMMANDS, number_of
+from words import COMMANDS, number_of, order_of
 
 NOP = 0x13
 ECALL = 0x73
@@ -448,11 +449,30 @@ def draw_plan(rng: random.Random) -> Case:
     return Case({"IN": draw_draft(rng, rng.choice([0, 5, 30]))}, (("plan", "IN", *draw_options(rng)),))
 
 
+def new_code(draft: Draft, words: List[str]) -> int:
+    """Where the new code of a test begins, or 0 where there is none."""
+    try:
+        return admit(read_elf(draft.build()), order_of(words).options()).new_code
+    except Stopped:
+        return 0
+
+
+def draw_explain(rng: random.Random) -> Case:
+    """What the words of new code are for: all of them, and some by their addresses."""
+    draft = draw_draft(rng, rng.choice([0, 5, 30]))
+    words = ["explain", "IN", *draw_options(rng, 0)]
+    first, calls = new_code(draft, words), [tuple(words)]
+    for _ in range(rng.choice([0, 1, 3])):
+        at = first + rng.choice([4 * rng.randrange(70), 4 * rng.randrange(70), 4 * rng.randrange(300), rng.randrange(999), -4])
+        calls.append((*words, "--at", rng.choice([str, hex])(at % (1 << 64))))
+    return Case({"IN": draft}, tuple(calls))
+
+
 def draw_read(rng: random.Random) -> Case:
     """A damaged file, read by each command."""
     draft = draw_damaged(rng)
     calls = [("transform", "IN", "OUT"), ("list", "IN"), ("run", "IN", "--steps", "20"),
-             ("plan", "IN"), ("harts", "IN", "--steps", "9")]
+             ("plan", "IN"), ("explain", "IN"), ("harts", "IN", "--steps", "9")]
     return Case({"IN": draft}, tuple(rng.sample(calls, 2)))
 
 
@@ -584,7 +604,7 @@ VALUES = ["0", "1", "2", "4", "8", "9", "16", "17", "1024", "1025", "4096", "409
           "0:65536", "0:65537", "0xffffffffffffffff:1", "0xffffffffffffffff:2", "01", "012345678", "9", "10000",
           "10001", "60000", "60001", "1000000", "1000001", "registers", "words"]
 OPTIONS = ["inst-min", "inst-max", "round", "half", "sweep", "diverse", "steps", "fault", "dump", "seed", "count",
-           "changes", "only", "from", "to", "results", "size", "turns", "help", ""]
+           "changes", "only", "from", "to", "results", "size", "turns", "at", "help", ""]
 
 
 def draw_words(rng: random.Random) -> Case:
@@ -610,8 +630,8 @@ def draw_words(rng: random.Random) -> Case:
 
 
 KINDS: Dict[str, Callable[[random.Random], Case]] = {
-    "transform": draw_transform, "plan": draw_plan, "read": draw_read, "run": draw_run, "campaign": draw_campaign,
-    "gen": draw_gen, "list": draw_list, "asm": draw_asm, "harts": draw_harts, "words": draw_words}
+    "transform": draw_transform, "plan": draw_plan, "explain": draw_explain, "read": draw_read, "run": draw_run,
+    "campaign": draw_campaign, "gen": draw_gen, "list": draw_list, "asm": draw_asm, "harts": draw_harts, "words": draw_words}
 
 
 # Smaller cases

@@ -14,7 +14,7 @@ from calls import WRITE_FAULT, Shelf, answer, transform
 from campaign import Course, is_closed, strikes_text
 from elf import read_elf
 from machine import Change, start
-from texts import Stopped, Usage, number_or_none
+from texts import Stopped, Usage, encoded, number_or_none
 from weave import bounds
 from words import Order, change_of, number_of, order_of
 
@@ -118,8 +118,10 @@ def order_text(order: Order) -> str:
     """An order."""
     values = order.values
     parts = [_name(file) for file in order.files]
-    if order.command in ("transform", "plan", "campaign"):
+    if order.command in ("transform", "plan", "explain", "campaign"):
         parts.append(_options(order.options()))
+    if order.command == "explain":
+        parts.append(f"Some({values['at']})" if "at" in values else "None")
     if order.command == "run":
         dump = "Some(({}, {}))".format(*values["dump"]) if "dump" in values else "None"
         changes = _listed([_change(change) for change in values.get("fault", [])])
@@ -159,7 +161,7 @@ class Rows:
 
     def printed(self, text: str) -> Tuple[bytes, bool]:
         """What a sink takes of a text, and whether it takes all of it."""
-        data, taken, call = text.encode(), 0, 0
+        data, taken, call = encoded(text), 0, 0
         while taken < len(data):
             count = len(data) - taken if self.most is None else min(self.most, len(data) - taken)
             if call == self.failing_write or count == 0:
@@ -216,13 +218,13 @@ def _never(rows: Rows, words: List[str]) -> str:
     shelf = MemoryShelf()
     shelf.files = {word: rows.shelf.files.get(word, bytearray()) for word in words}
     status, text = answer(words, shelf)
-    return _shown(text.encode(), status)
+    return _shown(encoded(text), status)
 
 
 def _narrow(rows: Rows, words: List[str]) -> str:
     """`narrow`: a writer with room for so many bytes."""
     status, text = answer(words[1:], rows.shelf)
-    data, room = text.encode(), _number(words[0])
+    data, room = encoded(text), _number(words[0])
     return _shown(data[:room], status if len(data) <= room else WRITE_FAULT)
 
 

@@ -24,7 +24,7 @@ class Usage(Stopped):
 
 
 class Refused(Stopped):
-    """A rule refuses the file: E, A, S or H ("Refusals of the reader")."""
+    """A rule refuses the file or the address: E, A, S, H or N ("Printed lines")."""
 
     def __init__(self, rule: str) -> None:
         super().__init__(3, f"refused {rule}\n")
@@ -40,6 +40,11 @@ class Exceeded(Stopped):
 def hex16(number: int) -> str:
     """HEX of the page: 0x and 16 digits, one more for 2^64 ("Printed lines")."""
     return f"0x{number:016x}"
+
+
+def encoded(text: str) -> bytes:
+    """The bytes of a text, in which bytes of names that are no UTF-8 stand as surrogates."""
+    return text.encode(errors="surrogateescape")
 
 
 def number_or_none(number: Optional[int]) -> str:

@@ -1,4 +1,5 @@
-"""The new code, its form, its places and its bounds (docs/PROFILE.md, "Code sequences" and "Bounds")."""
+"""The new code, its form, its places, its bounds, and what its words are for (docs/PROFILE.md, "Code sequences", "Bounds";
+FORMATS.md, "Roles")."""
 
 from __future__ import annotations
 
@@ -6,15 +7,15 @@ import re
 from collections import Counter
 from dataclasses import dataclass
 from functools import lru_cache
-from itertools import accumulate
-from typing import Dict, List, NamedTuple, Optional, Tuple, Union
+from itertools import accumulate, chain
+from typing import Dict, Iterable, List, NamedTuple, Optional, Tuple, Union
 
 import isa
 from admission import Block, DataRange, MOST_NEW_CODE, Options, Test
 from assembler import words_of
 from isa import Instruction, encode
 from machine import WORD
-from texts import Exceeded
+from texts import Exceeded, hex16
 
 MOST_NEAR_CODE = 1 << 20
 T, CURSOR, SIGNATURE = 30, 15, 16
@@ -35,6 +36,29 @@ class Go(NamedTuple):
 Item = Union[int, Const, Go]
 
 
+class Role(NamedTuple):
+    """What words are for: a name, the register that is compared, and the input addresses that are told ("Roles")."""
+    name: str
+    addresses: Tuple[int, ...] = ()
+    register: int = 0
+
+    def text(self) -> str:
+        """The role in a line."""
+        register = f" x{self.register}" if self.register else ""
+        place = "..".join(map(hex16, self.addresses)) or ("end" if self.name == "compare" else "")
+        return f"{self.name}{register} {place}".rstrip()
+
+
+# Items that are for one thing; those behind a piece, which every piece has, are for several.
+Part = Tuple[Role, List[Item]]
+CHECKS = "checks"
+
+
+def items_of(parts: List[Part]) -> List[Item]:
+    """The items of parts."""
+    return [*chain.from_iterable(items for _, items in parts)]
+
+
 def pair(register: int) -> int:
     """The pair of a register ("Registers")."""
     return register + 16 if register else 0
@@ -47,17 +71,18 @@ def guard(register: int) -> List[Item]:
     return [*words_of(f"beq x{register}, x{pair(register)}, 8; ebreak")] if register else []
 
 
-def guards(rs1: int, rs2: int) -> List[Item]:
-    """The guards of two registers, one where they are the same."""
-    return guard(rs1) + (guard(rs2) if rs2 != rs1 else [])
+def guards(name: str, addresses: Tuple[int, ...], registers: Iterable[int]) -> List[Part]:
+    """The guards of registers, one where they are the same."""
+    return [(Role(name, addresses, register), guard(register)) for register in dict.fromkeys(registers)]
 
 
-def original_part(i: Instruction, address: int) -> List[Item]:
+def original_part(i: Instruction, address: int) -> List[Part]:
     """The original part of an instruction ("The parts of an instruction")."""
+    role = Role("original", (address,))
     if i.name == "auipc":
-        return [Const(i.rd, address + i.imm & WORD)]
-    before = guard(i.rs1) if i.group == "load" else guards(i.rs1, i.rs2) if i.group == "store" else []
-    return before + [encode(i)]
+        return [(role, [Const(i.rd, address + i.imm & WORD)])]
+    used = (i.rs1,) if i.group == "load" else (i.rs1, i.rs2) if i.group == "store" else ()
+    return guards("guard", (address,), used) + [(role, [encode(i)])]
 
 
 def mirror_part(i: Instruction, address: int, diverse: bool) -> List[Item]:
@@ -121,7 +146,10 @@ def other_form(i: Instruction) -> Tuple[int, ...]:
 
 # Comparisons
 
-COMPARE: List[Item] = [word for register in range(1, 14) for word in guard(register)]
+def compare(addresses: Tuple[int, ...]) -> List[Part]:
+    """Compare, behind the piece from one address to another, or before the end ("Code sequences")."""
+    return guards("compare", addresses, range(1, 14))
+
 
 COMPARE_WORD: List[Item] = [*words_of("ld x30, 0(x15); add x31, x15, x14; ld x31, 0(x31); beq x30, x31, 8; ebreak; "
                                       "addi x15, x15, 8")]
@@ -153,55 +181,70 @@ class Weave:
 
     def __init__(self, test: Test, options: Options, far: bool) -> None:
         self.test, self.diverse, self.far = test, options.diverse, far
-        self.comparisons = COMPARE + visit(test.data, options.round)
-        self.end = (sweep(test.data) + COMPARE if options.sweep else []) + [*words_of("ecall")]
+        self.visited = visit(test.data, options.round)
+        self.checks = items_of(compare(())) + self.visited
+        self.end = [(Role("sweep"), sweep(test.data)), *compare(())] if options.sweep else []
 
-    def leave(self, block: Block) -> List[Item]:
+    def leave(self, block: Block) -> List[Part]:
         """The leave of a block ("Pieces, entries, the whole code")."""
         end, at = block.end, block.end_address
+        role = Role("leave", (at,))
         if end is None:
-            return [Const(SIGNATURE, at), Go(at)]
+            return [(role, [Const(SIGNATURE, at), Go(at)])]
         if end.name == "zero":
-            return [0]
+            return [(role, [0])]
         if end.name == "ecall":
-            return self.end
+            return self.end + [(role, [*words_of("ecall")])]
         link: List[Item] = [Const(end.rd, at + 4), Const(pair(end.rd), at + 4)] if end.rd else []
         target = at + end.imm & WORD
         if end.name == "jal":
-            return link + [Const(SIGNATURE, target), Go(target)]
+            return [(role, link + [Const(SIGNATURE, target), Go(target)])]
         if end.name == "jalr":
-            return [*words_of(f"addi x16, x{pair(end.rs1)}, {end.imm}; andi x16, x16, -2"), *guard(end.rs1),
-                    *words_of(f"addi x30, x{end.rs1}, {end.imm}; andi x30, x30, -2"), *link,
-                    *words_of("add x31, x30, x14; add x31, x31, x14; lw x30, 0(x31); add x30, x30, x31; jalr x0, 0(x30)")]
-        return [*words_of(f"{end.name} x{pair(end.rs1)}, x{pair(end.rs2)}, 16"), Const(SIGNATURE, at + 4),
-                *words_of("jal x0, 12"), Const(SIGNATURE, target), *guards(end.rs1, end.rs2),
-                *words_of(f"{end.name} x{end.rs1}, x{end.rs2}, {12 if self.far else 8}"), Go(at + 4), Go(target)]
+            return [(role, [*words_of(f"addi x16, x{pair(end.rs1)}, {end.imm}; andi x16, x16, -2")]),
+                    *guards("leave guard", (at,), (end.rs1,)),
+                    (role, [*words_of(f"addi x30, x{end.rs1}, {end.imm}; andi x30, x30, -2"), *link,
+                            *words_of("add x31, x30, x14; add x31, x31, x14; lw x30, 0(x31); add x30, x30, x31; "
+                                      "jalr x0, 0(x30)")])]
+        return [(role, [*words_of(f"{end.name} x{pair(end.rs1)}, x{pair(end.rs2)}, 16"), Const(SIGNATURE, at + 4),
+                        *words_of("jal x0, 12"), Const(SIGNATURE, target)]),
+                *guards("leave guard", (at,), (end.rs1, end.rs2)),
+                (role, [*words_of(f"{end.name} x{end.rs1}, x{end.rs2}, {12 if self.far else 8}"),
+                        Go(at + 4), Go(target)])]
 
-    def entry(self, block: Block) -> List[Item]:
+    def entry(self, block: Block) -> List[Part]:
         """The entry of a block ("Pieces, entries, the whole code")."""
-        items: List[Item] = [Const(T, block.start), *words_of("beq x16, x30, 8; ebreak")]
+        parts: List[Part] = [(Role("entry", (block.start,)),
+                              [Const(T, block.start), *words_of("beq x16, x30, 8; ebreak")])]
         first = 0
         for length in block.pieces:
             piece = [(block.start + 4 * k, block.body[k]) for k in range(first, first + length)]
+            span = block.start + 4 * first, block.start + 4 * (first + max(length, 1) - 1)
             first += length
             for address, i in piece:
-                items += original_part(i, address)
-            for address, i in piece:
-                items += mirror_part(i, address, self.diverse)
-            items += self.comparisons
-        return items + self.leave(block)
+                parts += original_part(i, address)
+            parts += [(Role("mirror", (address,)), mirror_part(i, address, self.diverse)) for address, i in piece]
+            parts.append((Role(CHECKS, span), self.checks))
+        return parts + self.leave(block)
 
-    def prologue(self) -> List[Item]:
+    def prologue(self) -> List[Part]:
         """The prologue ("Pieces, entries, the whole code")."""
         items = [word for r in (*range(1, 14), *range(17, 30)) for word in words_of(f"addi x{r}, x0, 0")]
         items.append(encode(Instruction("lui", 14, imm=self.test.distance)))
         if self.test.data:
             items.append(Const(CURSOR, self.test.data[0].start))
-        return items + [Const(SIGNATURE, self.test.file.entry), Go(self.test.file.entry)]
+        return [(Role("start"), items + [Const(SIGNATURE, self.test.file.entry), Go(self.test.file.entry)])]
 
     def parts(self, blocks: List[Block]) -> List[List[Item]]:
         """The new code but for the stub: the prologue and the entries ("Pieces, entries, the whole code")."""
-        return [self.prologue(), *map(self.entry, blocks)]
+        return [items_of(parts) for parts in (self.prologue(), *map(self.entry, blocks))]
+
+    def roles(self, blocks: List[Block]) -> List[Role]:
+        """What each word of the new code is for ("Roles")."""
+        parts: List[Part] = []
+        for role, items in chain(self.prologue(), *map(self.entry, blocks)):
+            is_one = role.name != CHECKS
+            parts += [(role, items)] if is_one else [*compare(role.addresses), (Role("visit", role.addresses), self.visited)]
+        return [role for role, items in parts for _ in range(size_of(items, self.far) // 4)] + [Role("stub")]
 
 
 # Places
@@ -213,11 +256,15 @@ def const_words(rd: int, value: int, at: int) -> List[int]:
     return [encode(Instruction("auipc", rd, imm=high << 12)), encode(Instruction("addi", rd, rd, 0, distance - (high << 12)))]
 
 
+def size_of(items: List[Item], far: bool) -> int:
+    """How many bytes items have ("Code sequences")."""
+    count = Counter(map(type, items))
+    return 4 * (count[int] + 2 * count[Const] + (2 if far else 1) * count[Go])
+
+
 def starts_of(parts: List[List[Item]], base: int, far: bool) -> List[int]:
     """Where each part begins, from an address on, and last where the stub does ("Code sequences")."""
-    counts = [Counter(map(type, items)) for items in parts]
-    sizes = [4 * (count[int] + 2 * count[Const] + (2 if far else 1) * count[Go]) for count in counts]
-    return list(accumulate(sizes, initial=base))
+    return list(accumulate((size_of(items, far) for items in parts), initial=base))
 
 
 def linked(items: List[Item], base: int, entries: Dict[int, int], stub: int, far: bool) -> List[int]:
@@ -260,11 +307,12 @@ def bounds(words: int, ranges: int, options: Options, far: bool) -> Bounds:
 
 @dataclass
 class Woven:
-    """The new code of a test with its blocks, entries and bounds ("Code sequences")."""
+    """The new code of a test with its blocks, entries and bounds, and whether it is far ("Code sequences")."""
     words: List[int]
     blocks: List[Block]
     entries: Dict[int, int]
     bounds: Bounds
+    far: bool
 
 
 def weave(test: Test, options: Options, blocks: List[Block]) -> Woven:
@@ -281,4 +329,4 @@ def weave(test: Test, options: Options, blocks: List[Block]) -> Woven:
     words: List[int] = []
     for part, start in zip(parts, starts):
         words += linked(part, start, entries, starts[-1], far)
-    return Woven(words + [0], blocks, entries, bounds(test.data_words, len(test.data), options, far))
+    return Woven(words + [0], blocks, entries, bounds(test.data_words, len(test.data), options, far), far)

@@ -27,6 +27,7 @@ class Command:
 COMMANDS = {
     "transform": Command(2, 2, WEAVING, [], ["sweep", "diverse"]),
     "plan": Command(1, 1, WEAVING, [], ["sweep", "diverse"]),
+    "explain": Command(1, 1, WEAVING + ["at"], [], ["sweep", "diverse"]),
     "run": Command(1, 1, ["steps", "fault", "dump"]),
     "campaign": Command(1, 1, WEAVING + ["seed", "count", "changes", "only", "from", "to"], ["seed", "count"],
                         ["sweep", "diverse", "results"]),
@@ -41,7 +42,7 @@ OTHER_NAMES = {"--help": "help", "-h": "help", "--version": "version"}
 
 RANGES = {"inst-min": (1, 1024), "inst-max": (1, 1024), "round": (1, 1024), "half": (4096, 512 << 20),
           "steps": (0, 10 ** 12), "seed": (0, (1 << 64) - 1), "count": (1, 10000), "changes": (1, 16),
-          "size": (1, 60000), "from": (0, 1000000), "to": (1, 1000000)}
+          "size": (1, 60000), "from": (0, 1000000), "to": (1, 1000000), "at": (0, (1 << 64) - 1)}
 
 Value = Union[int, List[Change], Tuple[int, int], List[int], str]
 

@@ -46,6 +46,7 @@ COMMANDS = [
     ("transform text out", "old"),
     ("transform absent out", None),
     ("plan in", None),
+    ("explain in --at 0x1309c", None),
     ("run in --steps 5 --fault 1:x10=5 --dump 0x10000:32", None),
     ("list in", None),
     ("asm text out", None),
