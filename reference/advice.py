@@ -93,7 +93,7 @@ def _place(file: File, address: int) -> str:
     """The line about an address."""
     text = f"at 0x{address:x}"
     names = [symbol for symbol in file.symbols
-             if symbol.shndx != 0 and symbol.type in (0, 2) and symbol.value <= address and symbol.name]
+             if symbol.shndx != 0 and symbol.type in (0, 2) and symbol.value <= address and symbol.is_telling]
     if names:
         symbol = max(names, key=lambda symbol: symbol.value)
         text += f", {symbol.name.decode()}+0x{address - symbol.value:x}"
@@ -133,7 +133,7 @@ def _refused(order: Order, line: str, shelf: Shelf) -> str:
     text = f"qed: {name}: {sentence} ({found})\n"
     address = re.search("address 0x([0-9a-f]{16})", line)
     file = _read(shelf, name)
-    if file and address:
+    if file and address and not line.startswith("N"):
         text += _place(file, int(address[1], 16))
         register = re.search("register ([0-9]+)$", line)
         text += f", and x{register[1]} is {ABOVE_X13[int(register[1]) - 14]}\n" if register else "\n"

@@ -122,7 +122,7 @@ def role_line(address: int, word: int, role: Role) -> str:
 
 def symbol_line(file: File, role: Role) -> str:
     """The symbol of the input address of a role, where there is one ("Printed lines", explain)."""
-    near = [s for s in file.symbols if s.shndx != 0 and s.type in (STT_NOTYPE, STT_FUNC) and s.name
+    near = [s for s in file.symbols if s.shndx != 0 and s.type in (STT_NOTYPE, STT_FUNC) and s.is_telling
             and role.addresses and s.value <= role.addresses[0]]
     if not near:
         return ""

@@ -84,6 +84,11 @@ class Symbol:
     value: int
     size: int
 
+    @property
+    def is_telling(self) -> bool:
+        """It has a name, and none of a mapping symbol, which begin with `$` (RISC-V ELF psABI)."""
+        return self.name != b"" and not self.name.startswith(b"$")
+
 
 @dataclass
 class Relocation:
