@@ -13,14 +13,14 @@ use Rattle.qed_model.specs.declared.change.Change.{Change}
 use Rattle.qed_model.specs.declared.limits.TheConstants.{MAX_HALF}
 use Rattle.qed_model.specs.declared.options.Options.{Options}
 use Rattle.command_line.specs.declared.order.Command.{Command}
-use Rattle.command_line.specs.declared.order.Command.TheVariants.{Transform, Plan, Run, Campaign, Gen, Asm, Harts, Help, Version}
+use Rattle.command_line.specs.declared.order.Command.TheVariants.{Transform, Plan, Explain, Run, Campaign, Gen, Asm, Harts, Help, Version}
 use Rattle.command_line.specs.declared.order.Command.TheVariants as command
 use Rattle.command_line.specs.declared.order.Order.{Order}
 use Rattle.command_line.specs.declared.order.Order.TheVariants as order
 use Rattle.command_line.specs.declared.order.Topic.{Topic}
 use Rattle.command_line.specs.declared.order.Topic.TheVariants as topic
 use Rattle.command_line.specs.declared.order.Key.{Key}
-use Rattle.command_line.specs.declared.order.Key.TheVariants.{InstMin, InstMax, Round, Half, Steps, Fault, Dump, Seed, Count, Size, Changes, Only, From, To, Turns}
+use Rattle.command_line.specs.declared.order.Key.TheVariants.{InstMin, InstMax, Round, Half, Steps, Fault, Dump, Seed, Count, Size, Changes, Only, From, To, Turns, At}
 use Rattle.command_line.specs.declared.order.Reason.{Reason}
 use Rattle.command_line.specs.declared.order.Reason.TheVariants.{NoCommand, UnknownCommand, EmptyWord, UnknownOption, Repeated, MissingValue, ExtraWord, MissingFile, MissingOption, BadNumber, BadShape, OutOfRange, Split}
 use Rattle.qed_model.specs.Options.{default_options}
@@ -95,6 +95,7 @@ abbrev pub command_of : List ℕ → Option Command
 command_of word =
     if bytes_eq word (codes "transform") then Some Transform
     else if bytes_eq word (codes "plan") then Some Plan
+    else if bytes_eq word (codes "explain") then Some Explain
     else if bytes_eq word (codes "run") then Some Run
     else if bytes_eq word (codes "campaign") then Some Campaign
     else if bytes_eq word (codes "gen") then Some Gen
@@ -109,6 +110,7 @@ command_of word =
 abbrev pub least_files : Command → ℕ
 least_files Transform = 2
 least_files Plan = 1
+least_files Explain = 1
 least_files Run = 1
 least_files Campaign = 1
 least_files Gen = 1
@@ -122,6 +124,7 @@ least_files Version = 0
 abbrev pub most_files : Command → ℕ
 most_files Transform = 2
 most_files Plan = 1
+most_files Explain = 1
 most_files Run = 1
 most_files Campaign = 1
 most_files Gen = 1
@@ -135,6 +138,7 @@ most_files Version = 0
 abbrev pub keys_of : Command → List Key
 keys_of Transform = InstMin ∷ InstMax ∷ Round ∷ Half ∷ []
 keys_of Plan = InstMin ∷ InstMax ∷ Round ∷ Half ∷ []
+keys_of Explain = InstMin ∷ InstMax ∷ Round ∷ Half ∷ At ∷ []
 keys_of Run = Steps ∷ Fault ∷ Dump ∷ []
 keys_of Campaign = InstMin ∷ InstMax ∷ Round ∷ Half ∷ Seed ∷ Count ∷ Changes ∷ Only ∷ From ∷ To ∷ []
 keys_of Gen = Seed ∷ Size ∷ []
@@ -148,6 +152,7 @@ keys_of Version = []
 abbrev pub required_of : Command → List Key
 required_of Transform = []
 required_of Plan = []
+required_of Explain = []
 required_of Run = []
 required_of Campaign = Seed ∷ Count ∷ []
 required_of Gen = Seed ∷ Size ∷ []
@@ -161,6 +166,7 @@ required_of Version = []
 abbrev pub has_flags : Command → Bool
 has_flags Transform = true
 has_flags Plan = true
+has_flags Explain = true
 has_flags Run = false
 has_flags Campaign = true
 has_flags Gen = false
@@ -187,6 +193,7 @@ name_of Only = codes "only"
 name_of From = codes "from"
 name_of To = codes "to"
 name_of Turns = codes "turns"
+name_of At = codes "at"
 
 -- how often an option may be given
 abbrev pub most_of : Key → ℕ
@@ -420,6 +427,7 @@ draws given = record {
 unfoldable pub order_of : Command → List Argument → Order
 order_of Transform given = order.Transform (file given 0) (file given 1) (options given)
 order_of Plan given = order.Plan (file given 0) (options given)
+order_of Explain given = order.Explain (file given 0) (options given) (number_given At given)
 order_of Run given =
     order.Run (file given 0) (steps_given given) (changes_given given) (option_and_then dump (value_of Dump given))
 order_of Campaign given = order.Campaign (file given 0) (options given) (draws given) (has_flag (codes "results") given)

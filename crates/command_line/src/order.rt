@@ -11,6 +11,7 @@ use qed_model::{Changes, Draws, Options};
 pub enum Command {
     Transform,
     Plan,
+    Explain,
     Run,
     Campaign,
     Gen,
@@ -38,6 +39,8 @@ pub enum Order {
     Transform(Name, Name, Options),
     /// The input.
     Plan(Name, Options),
+    /// The input, and the address of the word that is told of alone.
+    Explain(Name, Options, Option<u64>),
     /// The file, the greatest number of steps, the changes in the order of their steps, and the address and the length of
     /// the dump in bytes.
     Run(Name, u64, Changes, Option<(u64, u64)>),
@@ -74,6 +77,7 @@ pub enum Key {
     From,
     To,
     Turns,
+    At,
 }
 
 impl Key {
@@ -97,6 +101,7 @@ impl Key {
             Key::From => "from",
             Key::To => "to",
             Key::Turns => "turns",
+            Key::At => "at",
         }
     }
 }

@@ -21,6 +21,7 @@ fn sources(order: &Order) -> &[Name] {
     match order {
         Order::Transform(name, _, _)
         | Order::Plan(name, _)
+        | Order::Explain(name, _, _)
         | Order::Run(name, _, _, _)
         | Order::Campaign(name, _, _, _)
         | Order::List(name)

@@ -20,7 +20,9 @@ pub(crate) fn command_of(alloc: Global, name: &str) -> Result<Option<Command>, A
 /// The texts with a command's options: its own, and that of `transform` where these are its options too.
 pub(crate) fn pages(command: Command) -> [&'static str; 2] {
     let shared = match command {
-        Command::Plan | Command::Campaign => told(Topic::One(Command::Transform)),
+        Command::Plan | Command::Explain | Command::Campaign => told(Topic::One(
+            Command::Transform,
+        )),
         _ => "",
     };
     [told(Topic::One(command)), shared]

@@ -64,6 +64,7 @@ S4 = no line has the label
 S5 = an earlier line has the same label
 S6 = the text has too many words
 S7 = the text has no instruction
+N1 = no word of the new code stands at this address: addresses are those of the output, multiples of 4
 H1 = the files stand at the same addresses: link one of them elsewhere
 going = the steps were spent: give more by --steps
 fetch = the test goes on where no code is: end it by an ecall

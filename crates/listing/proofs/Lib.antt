@@ -2,3 +2,4 @@ pub mod Lines
 pub mod Words
 pub mod Ranges
 pub mod Whole
+pub mod RowBytes

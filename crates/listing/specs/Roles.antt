@@ -1,11 +1,13 @@
 -- The words of new code with what each is for: a line for each word, as in a listing, with its role in the place of the word.
-use Rattle.std.specs.Prelude.{ℕ, ◌+◌, ◌/◌, List, [], ◌∷◌, ◌++◌, codes, take, drop}
+use Rattle.std.specs.Prelude.{ℕ, ◌+◌, ◌-◌, ◌/◌, ◌==◌, ◌&&◌, nat_lt, nat_le, not, Bool, if◌then◌else◌, Option, Some, None, List, [], ◌∷◌, ◌++◌, codes, length, take, drop}
 use Rattle.std.specs.Fmt.{decimal}
+use Rattle.elf_types.specs.declared.file.Symbol.{Symbol}
+use Rattle.elf_types.specs.Symbol.{is_code_symbol}
 use Rattle.qed_model.specs.declared.role.Role.{Role}
 use Rattle.qed_model.specs.declared.role.Role.TheVariants.{Start, Entry, Original, Mirror, Guard, Compare, Visit, Leave, LeaveGuard, Sweep, End, Stub}
 use Rattle.qed_model.specs.declared.role.RoleRow.{RoleRow}
 use Rattle.rv_text.specs.Text.{text_of}
-use Rattle.texts.specs.Printed.{hex_text}
+use Rattle.texts.specs.Printed.{hex_digits, hex_text}
 
 -- from one address to another
 abbrev pub span_text : ℕ → ℕ → List ℕ
@@ -47,3 +49,70 @@ role_lines (row ∷ rows) words a = words_lines row.role (take (row.bytes / 4) w
 abbrev pub rows_bytes : List RoleRow → ℕ
 rows_bytes [] = 0
 rows_bytes (row ∷ rows) = row.bytes + rows_bytes rows
+
+-- ---- one word
+-- what the byte at an offset into rows is for
+abbrev pub role_at : List RoleRow → ℕ → Option Role
+role_at [] offset = None
+role_at (row ∷ rows) offset = if nat_lt offset row.bytes then Some row.role else role_at rows (offset - row.bytes)
+
+-- the input address of which a role tells, of a piece its first
+abbrev pub input_address : Role → Option ℕ
+input_address (Entry at) = Some at
+input_address (Original at) = Some at
+input_address (Mirror at) = Some at
+input_address (Guard r at) = Some at
+input_address (Compare r first last) = Some first
+input_address (Visit first last) = Some first
+input_address (Leave at) = Some at
+input_address (LeaveGuard r at) = Some at
+input_address _ = None
+
+-- a symbol that names code and has a name, at an address or before it
+abbrev pub is_before : ℕ → Symbol → Bool
+is_before a s = (is_code_symbol s && nat_le s.value a) && not (length s.name == 0)
+
+-- of the nearest so far and of another the nearer, the first where both are
+abbrev pub nearer : ℕ → Option Symbol → Symbol → Option Symbol
+nearer a None s = if is_before a s then Some s else None
+nearer a (Some t) s = if is_before a s && nat_lt t.value s.value then Some s else Some t
+
+-- the nearest of symbols, where one is the nearest before them
+abbrev pub nearest : ℕ → Option Symbol → List Symbol → Option Symbol
+nearest a found [] = found
+nearest a found (s ∷ ss) = nearest a (nearer a found s) ss
+
+abbrev pub symbol_line : ℕ → Option Symbol → List ℕ
+symbol_line a None = []
+symbol_line a (Some s) = codes "symbol " ++ (s.name ++ (codes "+0x" ++ (hex_digits 1 (a - s.value) ++ codes "\n")))
+
+-- the symbol at the input address of a role or before it, where there is one
+abbrev pub symbol_text : Option ℕ → List Symbol → List ℕ
+symbol_text None symbols = []
+symbol_text (Some a) symbols = symbol_line a (nearest a None symbols)
+
+-- a register and its pair
+abbrev pub pair_text : ℕ → List ℕ
+pair_text r = codes "fired: x" ++ (decimal r ++ (codes " and x" ++ (decimal (r + 16) ++ codes " differ\n")))
+
+-- what a check that fires has found
+abbrev pub found_text : Role → List ℕ
+found_text (Entry at) = codes "fired: the signature is not that of " ++ (hex_text at ++ codes "\n")
+found_text (Guard r at) = pair_text r
+found_text (Compare r first last) = pair_text r
+found_text (LeaveGuard r at) = pair_text r
+found_text (End r) = pair_text r
+found_text (Visit first last) = codes "fired: a data word and its duplicate differ, its address is in x15\n"
+found_text Sweep = codes "fired: a data word and its duplicate differ, its address is in x15\n"
+found_text _ = []
+
+-- EBREAK, which a check reaches where it fires (RISC-V unprivileged ISA, 2.8)
+abbrev pub ebreak : ℕ
+ebreak = 1048691
+
+abbrev pub fired_text : Role → ℕ → List ℕ
+fired_text role w = if w == ebreak then found_text role else []
+
+-- the line of a word, with its symbol and, of a check, what differed
+abbrev pub word_text : Role → ℕ → ℕ → List Symbol → List ℕ
+word_text role a w symbols = role_line role a w ++ (symbol_text (input_address role) symbols ++ fired_text role w)

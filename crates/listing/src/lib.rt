@@ -4,7 +4,9 @@
 mod home;
 mod line;
 mod listing;
+mod place;
 mod roles;
 
 pub use listing::list_text;
+pub use place::{role_at, word_text};
 pub use roles::role_text;

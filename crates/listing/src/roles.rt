@@ -88,7 +88,7 @@ impl fmt::Display for RoleText {
 
 /// Appends the line of a word.
 #[tactic(auto, unfolding(crate::specs::Roles::role_line))]
-fn push_role_line(
+pub(crate) fn push_role_line(
     alloc: Global,
     text: &mut Vec<u8>,
     role: &Role,

@@ -10,7 +10,7 @@ use Rattle.std.proofs.lemmas.List.Elements.{All-from_recursion}
 use Rattle.std.specs.Option.{option_or}
 use Rattle.qed_model.specs.declared.limits.TheConstants.{MAX_HALF}
 use Rattle.command_line.specs.declared.order.Command.{Command}
-use Rattle.command_line.specs.declared.order.Command.TheVariants.{Transform, Plan, Run, Campaign, Gen, Asm, Harts, Help, Version}
+use Rattle.command_line.specs.declared.order.Command.TheVariants.{Transform, Plan, Explain, Run, Campaign, Gen, Asm, Harts, Help, Version}
 use Rattle.command_line.specs.declared.order.Command.TheVariants as command
 use Rattle.command_line.specs.declared.order.Order.{Order}
 use Rattle.command_line.specs.declared.order.Key.{Key}
@@ -264,6 +264,7 @@ order_sound : (command : Command) (given : List Argument) → IsFaultless comman
 unfolding order_of wrong_value missing steps_given draws
 order_sound Transform given f = options_fit given f.values.0 f.values.1.0 f.values.1.1.0 f.values.1.1.1.0 f.room
 order_sound Plan given f = options_fit given f.values.0 f.values.1.0 f.values.1.1.0 f.values.1.1.1.0 f.room
+order_sound Explain given f = options_fit given f.values.0 f.values.1.0 f.values.1.1.0 f.values.1.1.1.0 f.room
 order_sound Run given f = record {
   few = steps_fit (number_given Steps given) (number_given_fits Steps given (λ _ _. refl) f.values.0);
   ordered = changes_ordered given;

@@ -3,7 +3,7 @@ use Rattle.std.specs.Prelude.{ℕ, ◌+◌, ◌^◌, ◌≤◌, ◌<◌, List, O
 use Rattle.qed_model.specs.declared.change.Change.{Change}
 use Rattle.command_line.specs.declared.order.Order.{Order}
 use Rattle.command_line.specs.declared.order.Order.TheVariants as order
-use Rattle.command_line.specs.declared.order.Order.TheVariants.{Transform, Plan, Run, Campaign, Gen, Asm, Harts, Tell}
+use Rattle.command_line.specs.declared.order.Order.TheVariants.{Transform, Plan, Explain, Run, Campaign, Gen, Asm, Harts, Tell}
 use Rattle.qed_model.specs.Promise.Changed.{Ordered}
 use Rattle.qed_model.specs.Weave.Places.{AreSoundOptions}
 
@@ -24,6 +24,7 @@ pub record IsSoundSchedule (files : List (List ℕ)) (turns : Option (List ℕ))
 abbrev pub IsSoundOrder : Order → Type 0
 IsSoundOrder (Transform input output options) = AreSoundOptions options
 IsSoundOrder (Plan input options) = AreSoundOptions options
+IsSoundOrder (Explain input options at) = AreSoundOptions options
 IsSoundOrder (Run file steps changes dump) = IsSoundRun steps changes dump
 IsSoundOrder (Campaign input options draws results) =
     AreSoundOptions options × ((1 ≤ draws.count) × (draws.count ≤ 10000)) × ((1 ≤ draws.changes) × (draws.changes ≤ 16))

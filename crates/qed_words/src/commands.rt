@@ -12,6 +12,8 @@ pub fn command_named(word: &str) -> Option<Command>
         Some(Command::Transform)
     } else if word == "plan" {
         Some(Command::Plan)
+    } else if word == "explain" {
+        Some(Command::Explain)
     } else if word == "run" {
         Some(Command::Run)
     } else if word == "campaign" {
@@ -40,6 +42,7 @@ pub fn least_files(command: Command) -> usize
     match command {
         Command::Transform | Command::Asm => 2,
         Command::Plan
+        | Command::Explain
         | Command::Run
         | Command::Campaign
         | Command::Gen
@@ -68,6 +71,7 @@ pub fn keys(command: Command) -> &'static [Key]
         Command::Transform | Command::Plan => {
             &[Key::InstMin, Key::InstMax, Key::Round, Key::Half]
         }
+        Command::Explain => &[Key::InstMin, Key::InstMax, Key::Round, Key::Half, Key::At],
         Command::Run => &[Key::Steps, Key::Fault, Key::Dump],
         Command::Campaign => &[
             Key::InstMin,
@@ -94,6 +98,7 @@ pub fn required(command: Command) -> &'static [Key]
     match command {
         Command::Transform
         | Command::Plan
+        | Command::Explain
         | Command::Run
         | Command::List
         | Command::Asm
@@ -110,7 +115,7 @@ fn has_flags(command: Command) -> bool
     ensures { result ≡ has_flags_of command }
 {
     match command {
-        Command::Transform | Command::Plan | Command::Campaign => true,
+        Command::Transform | Command::Plan | Command::Explain | Command::Campaign => true,
         Command::Run
         | Command::Gen
         | Command::List

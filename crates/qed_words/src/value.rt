@@ -25,7 +25,7 @@ fn is_in_range(key: Key, number: u64) -> bool
         Key::Changes => 1 <= number && number <= 16,
         Key::From => number <= 1_000_000,
         Key::To => 1 <= number && number <= 1_000_000,
-        Key::Fault | Key::Dump | Key::Seed | Key::Only | Key::Turns => true,
+        Key::Fault | Key::Dump | Key::Seed | Key::Only | Key::Turns | Key::At => true,
     }
 }
 

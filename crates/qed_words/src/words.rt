@@ -96,6 +96,10 @@ fn make_order(
             Ok(Order::Transform(first, second, options(arguments)))
         }
         Command::Plan => Ok(Order::Plan(first, options(arguments))),
+        Command::Explain => {
+            let at = number_given(Key::At, arguments);
+            Ok(Order::Explain(first, options(arguments), at))
+        }
         Command::Run => {
             let steps = steps_given(arguments);
             let changes = changes(alloc, arguments)?;

@@ -10,6 +10,10 @@ use Rattle.command_line.specs.Text.Errors.{numbered, limit_line, high_register_l
 abbrev pub addressed : List ℕ → ℕ → List ℕ
 addressed front a = front ++ (hex_text a ++ codes "\n")
 
+-- no word of new code stands at an address
+abbrev pub no_word_line : ℕ → List ℕ
+no_word_line a = addressed (codes "refused N1: address ") a
+
 -- an image ends behind its half
 abbrev pub outside_line : ℕ → ℕ → List ℕ
 outside_line high end = codes "refused A11: image end " ++ (hex_text high ++ (codes ", half end " ++ (hex_text end ++ codes "\n")))

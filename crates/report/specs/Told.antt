@@ -3,13 +3,14 @@ use Rattle.std.specs.Prelude.{ℕ, List}
 use Rattle.command_line.specs.declared.order.Command.TheVariants as command
 use Rattle.command_line.specs.declared.order.Topic.{Topic}
 use Rattle.command_line.specs.declared.order.Topic.TheVariants as topic
-use Rattle.report.specs.declared.help.TheConstants.{HELP, TRANSFORM, PLAN, RUN, CAMPAIGN, GEN, LIST, ASM, HARTS, VERSION}
+use Rattle.report.specs.declared.help.TheConstants.{HELP, TRANSFORM, PLAN, EXPLAIN, RUN, CAMPAIGN, GEN, LIST, ASM, HARTS, VERSION}
 
 abbrev pub told_text : Topic → List ℕ
 told_text topic.All = HELP.now
 told_text topic.Version = VERSION.now
 told_text (topic.One command.Transform) = TRANSFORM.now
 told_text (topic.One command.Plan) = PLAN.now
+told_text (topic.One command.Explain) = EXPLAIN.now
 told_text (topic.One command.Run) = RUN.now
 told_text (topic.One command.Campaign) = CAMPAIGN.now
 told_text (topic.One command.Gen) = GEN.now

@@ -1,7 +1,7 @@
 //! What is printed where a test is not admitted.
 ghost use Rattle.std.specs.Prelude.{◌≡◌, ◌≢◌, ◌^◌, ◌≤◌, IfOk, OnOk, string_bytes};
 ghost use Rattle.qed_model.specs.Admission.Ends.{HasEnds};
-ghost use Rattle.report.specs.Admission.{admit_line, outside_line};
+ghost use Rattle.report.specs.Admission.{admit_line, no_word_line, outside_line};
 
 use crate::hex::{Hex, HexWord};
 use crate::limits::limit_line;
@@ -54,6 +54,14 @@ fn admit_line(alloc: Global, error: &AdmitError) -> Result<String, AllocError>
         AdmitError::TopAddress(n) => limit_line(alloc, Limit::TopAddress, *n),
         AdmitError::Memory => Err(AllocError),
     }
+}
+
+/// The line about an address where no word of new code stands: N1.
+pub fn no_word_text(alloc: Global, address: u64) -> Result<Bytes, AllocError>
+    ensures { IfOk result (λ text. text ≡ no_word_line address) }
+{
+    let text = addressed(alloc, "refused N1: address ", address)?;
+    Ok(Bytes::of(text.into_bytes()))
 }
 
 /// The line about a test that is not admitted: A1 to A11, L2, L3 or L7. An end of 2^64 has 17 digits. Want of memory has

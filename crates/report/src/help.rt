@@ -12,6 +12,7 @@ pub const HELP: &str =
 
 qed transform IN OUT    makes the output of a test
 qed plan IN             prints what transform would make
+qed explain IN          prints what each word of the output is for
 qed run FILE            runs a file
 qed campaign IN         strikes the output of a test many times
 qed gen OUT             makes a test from random words
@@ -50,6 +51,20 @@ those of transform.
 
 $ qed plan two_sums.elf --inst-max 2
 {\"base\":65536,\"bounds\":{\"piece\":50,\"register\":132,\"word\":null},\"code\":264,\"entries\":[[65536,77944]],\"half\":4096,\"pieces\":[[65536,65536,2]],\"words\":0}
+";
+
+/// The command `explain`: its options with their ranges and defaults, and an example.
+pub const EXPLAIN: &str = "qed explain IN [OPTION..]
+
+Prints what each word of the new code of IN is for: its text, its address, its role. The options
+are those of transform, and
+
+--at ADDR   the word at this address alone, with its symbol and, of a check, what differed
+
+$ qed explain first.elf --at 0x431d0
+ebreak # 0x00000000000431d0 compare x10 0x000000000001000c..0x0000000000010018
+symbol next+0x0
+fired: x10 and x26 differ
 ";
 
 /// The command `run`: its options with their ranges and defaults, and an example.
@@ -143,6 +158,7 @@ pub fn told(topic: Topic) -> &'static str
         Topic::All | Topic::One(Command::Help | Command::Version) => HELP,
         Topic::One(Command::Transform) => TRANSFORM,
         Topic::One(Command::Plan) => PLAN,
+        Topic::One(Command::Explain) => EXPLAIN,
         Topic::One(Command::Run) => RUN,
         Topic::One(Command::Campaign) => CAMPAIGN,
         Topic::One(Command::Gen) => GEN,

@@ -18,7 +18,7 @@ mod transform;
 mod usage;
 mod world;
 
-pub use admission::admit_text;
+pub use admission::{admit_text, no_word_text};
 pub use assembly::{asm_error_text, assembly_text};
 pub use campaign::campaign_text;
 pub use errors::{error_text, read_fault_text};

@@ -116,9 +116,16 @@ module _ (input : List ℕ) (o : Options) where
   memory_only (error.TooManySegments y) c h = let most = h.outputs c.out c.file in absurd (omega (arith, c.over, c.count, most.segments))
   memory_only (error.FileTooLong y) c h = let most = h.outputs c.out c.file in absurd (omega (arith, c.over, c.size, most.size))
 
-  pub complete_of : (r : Result Transformed TransformError) → IfErr r (HasCause input o) → IsTransformable input o → IsDoneOr r
+  pub complete_of : {A : Type 0} (r : Result A TransformError) → IfErr r (HasCause input o) → IsTransformable input o → IsDoneOr r
   complete_of (Ok made) refused h = tt
   complete_of (Err x) refused h = memory_only x refused h
+
+  -- the same of what is made where there is an output
+  pub exact_where :
+      {A : Type 0} (Done : A → Type 0) → ((made : A) → Done made → IsTransformable input o) → (r : Result A TransformError) → IfOk r Done → IfErr r (HasCause input o)
+      → (e : TransformError) → e ≢ error.Memory → HasCause input o e → IsErrorOr r e
+  exact_where Done fits (Ok made) done refused e n h = absurd (n (memory_only e h (fits made done)))
+  exact_where Done fits (Err x) done refused e n h = error_or x e n refused h
 
   -- ---- what was transformed is transformable
   read_as : (f : ElfFile) (out : OutFile) (w : WovenFile input o out) → IsReadAs input f → IsReadAs input w.file

@@ -34,7 +34,11 @@ pub(crate) struct Made {
 }
 
 /// The new code.
-fn code_of(alloc: Global, cut: &CutTest, options: &Options) -> Result<WovenCode, TransformError>
+pub(crate) fn code_of(
+    alloc: Global,
+    cut: &CutTest,
+    options: &Options,
+) -> Result<WovenCode, TransformError>
     requires { (input : List ℕ) × IsCut input cut.now.file options.now cut.now.test cut.now.blocks }
     ensures code { IfOk result (λ made. IsCodeOf cut.now.file options.now cut.now.blocks made) }
     ensures refused { IfErr result (λ e. (input : List ℕ) → IsReadAs input cut.now.file → IsCut input cut.now.file options.now cut.now.test cut.now.blocks → HasCause input options.now e) }

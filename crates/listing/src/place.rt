@@ -1,0 +1,166 @@
+//! One word of new code: its line, its symbol, and what differed where it is a check that fired.
+ghost use Rattle.std.specs.Prelude.{◌≡◌, ◌<◌, ◌++◌, None, Some, IfOk, OnOk, string_bytes};
+ghost use Rattle.std.specs.Option.{option_copied};
+ghost use Rattle.listing.specs.Roles.{role_at as role_at_of, rows_bytes, input_address as input_address_of, is_before as is_before_of, nearer as nearer_of, nearest as nearest_of, symbol_line, symbol_text, pair_text, found_text, fired_text, word_text as word_text_of};
+
+use crate::roles::push_role_line;
+use elf_types::{Bytes, Symbol};
+use qed_model::{Role, RoleRow};
+use rv_isa::Reg;
+use rv_text::Address;
+use std::alloc::{AllocError, Global};
+
+/// EBREAK, which a check reaches where it fires.
+const EBREAK: u32 = 0x0010_0073;
+
+/// What the byte at an offset into rows is for. The rows have more bytes.
+pub fn role_at(rows: &[RoleRow], offset: u64) -> Role
+    requires { offset < rows_bytes rows.now }
+    ensures { role_at_of rows.now offset ≡ Some result }
+{
+    let mut rest = offset;
+    for row in rows {
+        if rest < row.bytes {
+            return row.role;
+        }
+        rest -= row.bytes;
+    }
+    unreachable!()
+}
+
+/// The input address of which a role tells, of a piece its first.
+fn input_address(role: Role) -> Option<u64>
+    ensures { result ≡ input_address_of role }
+{
+    match role {
+        Role::Entry(at) => Some(at),
+        Role::Original(at) => Some(at),
+        Role::Mirror(at) => Some(at),
+        Role::Guard(_, at) => Some(at),
+        Role::Compare(_, first, _) => Some(first),
+        Role::Visit(first, _) => Some(first),
+        Role::Leave(at) => Some(at),
+        Role::LeaveGuard(_, at) => Some(at),
+        Role::Start | Role::Sweep | Role::End(_) | Role::Stub => None,
+    }
+}
+
+/// Whether a symbol names code and has a name, at an address or before it.
+fn is_before(address: u64, symbol: &Symbol) -> bool
+    ensures { result ≡ is_before_of address symbol.now }
+{
+    symbol.is_code() && symbol.value <= address && !symbol.name.as_slice().is_empty()
+}
+
+/// Of the nearest symbol so far and of another the nearer, the first where both are.
+fn nearer<'a>(address: u64, found: Option<&'a Symbol>, symbol: &'a Symbol) -> Option<&'a Symbol>
+    ensures { option_copied result ≡ nearer_of address (option_copied found.entry) symbol.now }
+{
+    let is_one = is_before(address, symbol);
+    match found {
+        None => is_one.then_some(symbol),
+        Some(other) => {
+            if is_one && other.value < symbol.value {
+                Some(symbol)
+            } else {
+                Some(other)
+            }
+        }
+    }
+}
+
+/// The symbol of code that is nearest at an address or before it, the first where several are.
+fn nearest(address: u64, symbols: &[Symbol]) -> Option<&Symbol>
+    ensures { option_copied result ≡ nearest_of address None symbols.now }
+{
+    let mut found = None;
+    for symbol in symbols {
+        found = nearer(address, found, symbol);
+    }
+    found
+}
+
+/// Appends the line of the symbol at the input address of a role or before it, where there is one.
+fn push_symbol(
+    alloc: Global,
+    text: &mut Vec<u8>,
+    role: Role,
+    symbols: &[Symbol],
+) -> Result<(), AllocError>
+    ensures { OnOk result (text.new.items ≡ text.old.items ++ symbol_text (input_address_of role) symbols.now) }
+{
+    let Some(address) = input_address(role) else {
+        return Ok(());
+    };
+    let Some(symbol) = nearest(address, symbols) else {
+        return Ok(());
+    };
+    let offset = address.saturating_sub(symbol.value);
+    let digits = format!(in alloc; "+0x{offset:01x}\n")?;
+    text.extend_from_slice(b"symbol ")?;
+    text.extend_from_slice(symbol.name.as_slice())?;
+    text.extend_from_slice(digits.as_bytes())?;
+    Ok(())
+}
+
+/// The line about a register that differs from its pair.
+fn pair_line(alloc: Global, register: Reg) -> Result<String, AllocError>
+    ensures { IfOk result (λ text. string_bytes text ≡ pair_text register) }
+{
+    let number = register.number();
+    let pair = number + 16;
+    format!(in alloc; "fired: x{number} and x{pair} differ\n")
+}
+
+/// What a check of a role has found where it fires.
+fn found_line(alloc: Global, role: Role) -> Result<String, AllocError>
+    ensures { IfOk result (λ text. string_bytes text ≡ found_text role) }
+{
+    match role {
+        Role::Entry(at) => {
+            let at = Address(at);
+            format!(in alloc; "fired: the signature is not that of {at}\n")
+        }
+        Role::Guard(r, _) => pair_line(alloc, r),
+        Role::Compare(r, _, _) => pair_line(alloc, r),
+        Role::LeaveGuard(r, _) => pair_line(alloc, r),
+        Role::End(r) => pair_line(alloc, r),
+        Role::Visit(_, _) | Role::Sweep => String::from_str(
+            alloc,
+            "fired: a data word and its duplicate differ, its address is in x15\n",
+        ),
+        Role::Start | Role::Original(_) | Role::Mirror(_) | Role::Leave(_) | Role::Stub => {
+            Ok(String::new(alloc))
+        }
+    }
+}
+
+/// Appends what a check has found where it fires, if the word is the EBREAK of one.
+fn push_fired(alloc: Global, text: &mut Vec<u8>, role: Role, word: u32) -> Result<(), AllocError>
+    ensures { OnOk result (text.new.items ≡ text.old.items ++ fired_text role word) }
+{
+    if word != EBREAK {
+        return Ok(());
+    }
+    let line = found_line(alloc, role)?;
+    text.extend_from_slice(line.as_bytes())?;
+    Ok(())
+}
+
+/// The line of a word of new code at an address, with its symbol, from the symbols of the input, and, of a check, what differed
+/// where it fires.
+pub fn word_text(
+    alloc: Global,
+    role: Role,
+    address: u64,
+    word: u32,
+    symbols: &[Symbol],
+) -> Result<Bytes, AllocError>
+    ensures { IfOk result (λ text. text ≡ word_text_of role address word symbols.now) }
+{
+    let mut text = Vec::new(alloc);
+    push_role_line(alloc, &mut text, &role, address, word)?;
+    push_symbol(alloc, &mut text, role, symbols)?;
+    push_fired(alloc, &mut text, role, word)?;
+    Ok(Bytes::of(text))
+}

@@ -1,0 +1,20 @@
+use Rattle.std.proofs.Common.{◌≡◌, ◌+◌, ◌*◌, map, refl, sym, subst}
+use Rattle.qed_model.specs.Weave.Roles.{new_roles}
+use Rattle.block_list.specs.Listed.{block_of}
+use Rattle.woven_code.specs.Code.{IsCut}
+use Rattle.transform.proofs.Explaining.{explained_of}
+use Rattle.transform.proofs.explained.explain_made.Goals as goal
+
+pub returns-clause-done : goal.returns-clause-done
+returns-clause-done c =
+    let input = c.args.bytes.now in
+    let o = c.args.options.now in
+    let cut = c.in_ok-cut.cut in
+    let is = c.in_ok-cut.ensures.cut in
+    let code = c.in_ok-code.code in
+    let roles = c.in_ok-roles.roles in
+    let are = subst (λ bs. roles.items ≡ new_roles cut.file o (map block_of bs)) c.as_slice.ensures
+    (c.in_ok-roles.ensures input cut.file (subst (λ bs. IsCut input cut.file o cut.test bs) (sym c.as_slice.ensures) is)) in
+    explained_of input o cut.test cut.blocks c.args.made.now.file c.args.made.now.plan
+    (record { file = cut.file; base = cut.test.base + 3 * cut.test.distance; words = code.linked.words; roles = roles })
+    code c.requires.made is c.in_ok-code.ensures.code refl refl are

@@ -1,0 +1,23 @@
+-- The new code of a test, and what each of its words is for.
+use Rattle.std.specs.Prelude.{◌≡◌, ℕ, ◌+◌, ◌*◌, ◌^◌, ◌<◌, List, length}
+use Rattle.qed_model.specs.declared.options.Options.{Options}
+use Rattle.qed_model.specs.declared.plan.Plan.{Plan}
+use Rattle.qed_model.specs.Weave.Places.{image_of, code_place}
+use Rattle.qed_model.specs.Weave.Roles.{new_roles}
+use Rattle.qed_model.specs.Weave.Sequences.{Block}
+use Rattle.qed_model.specs.Weave.Woven.{code_size, HasNewCode}
+use Rattle.transform.specs.declared.explained.Explained.{Explained}
+use Rattle.transform.specs.Transform.{Transforms}
+
+-- there is an output of the input; these are the words of its new code, the place where they begin, and what they are for; each has an
+-- address below 2^64
+pub record IsExplained (input : List ℕ) (o : Options) (x : Explained) : Type 0 where
+  pub output : List ℕ
+  pub plan : Plan
+  pub made : Transforms input o output plan
+  pub blocks : List Block
+  pub code : HasNewCode input o x.file blocks x.words.items
+  pub base : x.base ≡ code_place o.half (image_of x.file)
+  pub roles : x.roles.items ≡ new_roles x.file o blocks
+  pub size : 4 * length x.words.items ≡ code_size x.file o blocks
+  pub fits : x.base + code_size x.file o blocks < 2 ^ 64
