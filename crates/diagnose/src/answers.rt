@@ -100,6 +100,9 @@ fn push_where<S: Shelf>(
 ) -> Result<(), AllocError>
     ensures { S.files shelf.new ≡ S.files shelf.old }
 {
+    if line.starts_with('N') {
+        return Ok(());
+    }
     let Some(file) = read(alloc, name, shelf)? else {
         return Ok(());
     };

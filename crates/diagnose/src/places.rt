@@ -50,9 +50,17 @@ pub(crate) fn word_at(file: &ElfFile, address: u64) -> Option<u32> {
     None
 }
 
+/// Whether a name tells something: it is not empty, and not that of a mapping symbol (RISC-V ELF psABI, mapping symbols).
+fn is_telling(name: &[u8]) -> bool {
+    match name {
+        [] => false,
+        [first, ..] => *first != b'$',
+    }
+}
+
 /// The symbol of the two that is nearer below an address, the first where both are.
 fn nearer<'a>(found: Option<&'a Symbol>, symbol: &'a Symbol, address: u64) -> Option<&'a Symbol> {
-    let is_one = symbol.is_code() && symbol.value <= address && !symbol.name.as_slice().is_empty();
+    let is_one = symbol.is_code() && symbol.value <= address && is_telling(symbol.name.as_slice());
     match found {
         Some(other) if !is_one || symbol.value <= other.value => Some(other),
         _ if is_one => Some(symbol),

@@ -1,5 +1,5 @@
 -- The words of new code with what each is for: a line for each word, as in a listing, with its role in the place of the word.
-use Rattle.std.specs.Prelude.{ℕ, ◌+◌, ◌-◌, ◌/◌, ◌==◌, ◌&&◌, nat_lt, nat_le, not, Bool, if◌then◌else◌, Option, Some, None, List, [], ◌∷◌, ◌++◌, codes, length, take, drop}
+use Rattle.std.specs.Prelude.{ℕ, ◌+◌, ◌-◌, ◌/◌, ◌==◌, ◌&&◌, nat_lt, nat_le, not, Bool, false, if◌then◌else◌, Option, Some, None, List, [], ◌∷◌, ◌++◌, codes, take, drop}
 use Rattle.std.specs.Fmt.{decimal}
 use Rattle.elf_types.specs.declared.file.Symbol.{Symbol}
 use Rattle.elf_types.specs.Symbol.{is_code_symbol}
@@ -68,9 +68,14 @@ input_address (Leave at) = Some at
 input_address (LeaveGuard r at) = Some at
 input_address _ = None
 
--- a symbol that names code and has a name, at an address or before it
+-- a name that tells something: not empty, and not that of a mapping symbol, which begins with `$` (RISC-V ELF psABI, mapping symbols)
+abbrev pub is_telling : List ℕ → Bool
+is_telling [] = false
+is_telling (c ∷ cs) = not (c == 36)
+
+-- a symbol that names code and has such a name, at an address or before it
 abbrev pub is_before : ℕ → Symbol → Bool
-is_before a s = (is_code_symbol s && nat_le s.value a) && not (length s.name == 0)
+is_before a s = (is_code_symbol s && nat_le s.value a) && is_telling s.name
 
 -- of the nearest so far and of another the nearer, the first where both are
 abbrev pub nearer : ℕ → Option Symbol → Symbol → Option Symbol

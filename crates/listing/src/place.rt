@@ -1,7 +1,7 @@
 //! One word of new code: its line, its symbol, and what differed where it is a check that fired.
 ghost use Rattle.std.specs.Prelude.{◌≡◌, ◌<◌, ◌++◌, None, Some, IfOk, OnOk, string_bytes};
 ghost use Rattle.std.specs.Option.{option_copied};
-ghost use Rattle.listing.specs.Roles.{role_at as role_at_of, rows_bytes, input_address as input_address_of, is_before as is_before_of, nearer as nearer_of, nearest as nearest_of, symbol_line, symbol_text, pair_text, found_text, fired_text, word_text as word_text_of};
+ghost use Rattle.listing.specs.Roles.{role_at as role_at_of, rows_bytes, input_address as input_address_of, is_telling as is_telling_of, is_before as is_before_of, nearer as nearer_of, nearest as nearest_of, symbol_line, symbol_text, pair_text, found_text, fired_text, word_text as word_text_of};
 
 use crate::roles::push_role_line;
 use elf_types::{Bytes, Symbol};
@@ -45,11 +45,21 @@ fn input_address(role: Role) -> Option<u64>
     }
 }
 
-/// Whether a symbol names code and has a name, at an address or before it.
+/// Whether a name tells something: it is not empty, and not that of a mapping symbol.
+fn is_telling(name: &[u8]) -> bool
+    ensures { result ≡ is_telling_of name.now }
+{
+    match name {
+        [] => false,
+        [first, ..] => *first != b'$',
+    }
+}
+
+/// Whether a symbol names code and has such a name, at an address or before it.
 fn is_before(address: u64, symbol: &Symbol) -> bool
     ensures { result ≡ is_before_of address symbol.now }
 {
-    symbol.is_code() && symbol.value <= address && !symbol.name.as_slice().is_empty()
+    symbol.is_code() && symbol.value <= address && is_telling(symbol.name.as_slice())
 }
 
 /// Of the nearest symbol so far and of another the nearer, the first where both are.
