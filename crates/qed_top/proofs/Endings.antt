@@ -1,6 +1,6 @@
 -- From what was decided and carried out to how the call ends.
-use Rattle.std.proofs.Common.{◌≡◌, ◌≢◌, ℕ, Bool, List, [], Option, None, Some, IfSome, ◌⊎◌, inl, inr, refl, sym, ap, ◌∙◌, subst, arith}
-use Rattle.std.specs.Prelude.{MatchOption, MatchResult, Result, Ok, Err, IfOk, IsSome, IsSomeAnd}
+use Rattle.std.proofs.Common.{◌≡◌, ◌≢◌, ℕ, ◌-◌, Bool, List, [], Option, None, Some, IfSome, ◌⊎◌, inl, inr, refl, sym, ap, ◌∙◌, subst, arith}
+use Rattle.std.specs.Prelude.{MatchOption, MatchResult, Result, Ok, Err, IfOk, IsSome, IsSomeAnd, slice_index}
 use Rattle.std.specs.Prelude.{All}
 use Rattle.std.proofs.lemmas.List.Elements.{All-head, recursion_from_All}
 use Rattle.std.specs.Io.KnownBytes.{Appends}
@@ -13,13 +13,16 @@ use Rattle.elf_types.specs.declared.file.ElfFile.{ElfFile}
 use Rattle.qed_model.specs.declared.options.Options.{Options}
 use Rattle.command_line.specs.declared.order.Order.{Order}
 use Rattle.command_line.specs.declared.order.Order.TheVariants as order
-use Rattle.command_line.specs.declared.order.Order.TheVariants.{Transform, Plan, Run, Campaign, Gen, Asm, Harts, Tell}
+use Rattle.command_line.specs.declared.order.Order.TheVariants.{Transform, Plan, Explain, Run, Campaign, Gen, Asm, Harts, Tell}
 use Rattle.command_line.specs.declared.order.Reason.{Reason}
 use Rattle.qed_model.specs.declared.plan.Plan as plan
 use Rattle.qed_model.specs.Elf.File.{IsReadAs}
 use Rattle.qed_model.specs.Limits.{limit_of}
 use Rattle.command_line.specs.Words.{asked}
-use Rattle.qed_top.specs.Answer.{CallsFor, FilesAfter, FilesInPart, StoreRose, ShelfSteady, SteadyOrReadFault}
+use Rattle.qed_model.specs.declared.role.Role.{Role}
+use Rattle.listing.specs.Roles.{role_at, word_text}
+use Rattle.report.specs.Admission.{no_word_line}
+use Rattle.qed_top.specs.Answer.{PrintsOnly, CallsFor, FilesAfter, FilesInPart, StoreRose, ShelfSteady, SteadyOrReadFault}
 use Rattle.qed_top.specs.Refused.{error_status, refusal_status}
 use Rattle.qed_top.specs.Makes.{Makes, refused, made, Delivers, TellsPlan}
 use Rattle.qed_top.specs.Run.{memory_bytes, outcome_status, run_of, FileRuns, too_large, ran, Runs, unread, run}
@@ -31,9 +34,12 @@ use Rattle.qed_top.specs.Asm as asm
 use Rattle.qed_top.proofs.Assembling.{never_both}
 use Rattle.qed_top.specs.Campaign.{Campaigns, CampaignDecides, campaign_status}
 use Rattle.qed_top.specs.Campaign as campaigns
+use Rattle.qed_top.specs.Explain.{Explains, ExplainDecides, TellsRoles, number_at, word_status, told_status}
+use Rattle.qed_top.specs.Explain as explains
 use Rattle.qed_top.specs.Gen.{Gens, GenDecides, test_bytes}
 use Rattle.qed_top.specs.Gen as gens
 use Rattle.transform.specs.declared.error.TransformError.TheVariants as transform
+use Rattle.transform.specs.declared.explained.Explained.{Explained}
 use Rattle.qed_top.specs.Loads.{Decided, Loads, OverLoads}
 use Rattle.qed_top.specs.Orders.{AnswersOver, IsUsage, OrderCallsFor, WordsCallFor, source_limit, source_name, source_names, stored_name}
 use Rattle.qed_top.specs.Ends.{Call, load_rose, store_rose, sink_rose, KeepsShelf, IsAnswered, EndsOver, Ends, TransformDecides, ReadDecides, ran_status, DecidesOver, OrderDecides, Decides, NoFault, IsComplete}
@@ -139,6 +145,38 @@ campaign_printed : (bytes : List ℕ) (o : Options) (draws : Draws) (results : B
 campaign_printed bytes o draws results answer (campaigns.refused r) = prints (refusal_status r.error) answer (refusal_printed (refusal_status r.error) (refusal_refuses r.error)) r.plain.status
 campaign_printed bytes o draws results answer (campaigns.struck s) = prints (campaign_status s.tells.trapped) answer (trapped_printed s.tells.trapped) s.tells.plain.status
 
+-- what is told of the word at an address
+abbrev TellsNumber : Explained → ℕ → Answer → Option ℕ → Type 0
+TellsNumber x a answer number =
+    MatchOption number (PrintsOnly Refused (no_word_line a) answer)
+    (λ n. IsSomeAnd (role_at x.roles.items (a - x.base)) (λ role. PrintsOnly Done (word_text role a (slice_index x.words.items n) x.file.symbols) answer))
+
+role_told :
+    (x : Explained) (a n : ℕ) (answer : Answer) (r : Option Role) → IsSomeAnd r (λ role. PrintsOnly Done (word_text role a (slice_index x.words.items n) x.file.symbols) answer)
+    → (answer.status ≡ Done) × (answer.stored ≡ None)
+role_told x a n answer None t = absurd t
+role_told x a n answer (Some role) t = (t.status, t.stored)
+
+word_is : (x : Explained) (a : ℕ) (answer : Answer) (number : Option ℕ) → TellsNumber x a answer number → answer.status ≡ word_status number
+word_is x a answer None t = t.status
+word_is x a answer (Some n) t = (role_told x a n answer (role_at x.roles.items (a - x.base)) t).0
+
+-- what is told of new code has its status
+told_is : (x : Explained) (at : Option ℕ) (answer : Answer) → TellsRoles x at answer → answer.status ≡ told_status x at
+told_is x None answer t = t.status
+told_is x (Some a) answer t = word_is x a answer (number_at x a) t
+
+told_printed : (x : Explained) (at : Option ℕ) → Printed (told_status x at)
+told_printed x None = tt
+told_printed x (Some a) = word_printed (number_at x a) where
+  word_printed : (number : Option ℕ) → Printed (word_status number)
+  word_printed None = tt
+  word_printed (Some n) = tt
+
+explain_printed : (bytes : List ℕ) (o : Options) (at : Option ℕ) (answer : Answer) → Explains bytes o at answer → Printed answer.status
+explain_printed bytes o at answer (explains.refused r) = prints (refusal_status r.error) answer (refusal_printed (refusal_status r.error) (refusal_refuses r.error)) r.plain.status
+explain_printed bytes o at answer (explains.told t) = prints (told_status t.code at) answer (told_printed t.code at) (told_is t.code at answer t.tells)
+
 gens_printed : (output : List ℕ) (seed size : ℕ) (answer : Answer) → Gens output seed size answer → Printed answer.status
 gens_printed output seed size answer (gens.large_code l) = prints Limit answer tt l.plain.status
 gens_printed output seed size answer (gens.generates m) = prints Done answer tt m.uses.status
@@ -146,6 +184,7 @@ gens_printed output seed size answer (gens.generates m) = prints Done answer tt 
 over_printed : (order : Order) (bytes : List ℕ) (answer : Answer) → AnswersOver order bytes answer → Printed answer.status
 over_printed (Transform input output o) bytes answer m = makes_printed bytes o (Delivers output) answer (λ file p d. delivered_done output file p answer d) m
 over_printed (Plan input o) bytes answer m = makes_printed bytes o TellsPlan answer (λ file p t. told_done file p answer t) m
+over_printed (Explain input o at) bytes answer m = explain_printed bytes o at answer m
 over_printed (Run file steps changes dump) bytes answer m = runs_printed bytes steps changes dump answer m
 over_printed (Campaign input o draws results) bytes answer m = campaign_printed bytes o draws results answer m
 over_printed (Gen output seed size) bytes answer m = gens_printed output seed size answer m
@@ -302,6 +341,15 @@ campaign_settled bytes o draws results answer t (campaigns.struck s) (campaigns.
 campaign_settled bytes o draws results answer t (campaigns.struck s) (campaigns.carried_out f h) =
     s.tells.plain.status ∙ sym (h s.course s.tells.struck s.tells.trapped s.made s.tells.carried_out)
 
+explain_settled :
+    (bytes : List ℕ) (o : Options) (at : Option ℕ) (answer : Answer) (t : Status) → Explains bytes o at answer → ExplainDecides bytes o at t → answer.status ≡ t
+explain_settled bytes o at answer t (explains.refused r) (explains.not_made e x n b) =
+    transform_unique bytes o answer.status t (decide.refused r.error r.cause r.known r.plain.status) (decide.refused e x n b)
+explain_settled bytes o at answer t (explains.refused r) (explains.is_told f h) = absurd (r.known (memory_only bytes o r.error r.cause f))
+explain_settled bytes o at answer t (explains.told s) (explains.not_made e x n b) =
+    absurd (n (memory_only bytes o e x (transformable_of bytes o s.is.output s.is.plan s.is.made)))
+explain_settled bytes o at answer t (explains.told s) (explains.is_told f h) = told_is s.code at answer s.tells ∙ sym (h s.code s.is)
+
 gens_settled : (output : List ℕ) (seed size : ℕ) (answer : Answer) (t : Status) → Gens output seed size answer → GenDecides seed size t → answer.status ≡ t
 gens_settled output seed size answer t (gens.large_code l) (gens.has_large_code n c e) = l.plain.status ∙ sym e
 gens_settled output seed size answer t (gens.large_code l) (gens.has_small_code none e) = absurd (none l.bytes l.cause)
@@ -315,6 +363,7 @@ over_settled : (order : Order) (bytes : List ℕ) (answer : Answer) (t : Status)
 over_settled (Transform input output o) bytes answer t m d =
     transform_unique bytes o answer.status t (makes_decided bytes o (Delivers output) answer (λ file p x. delivered_done output file p answer x) m) d
 over_settled (Plan input o) bytes answer t m d = transform_unique bytes o answer.status t (makes_decided bytes o TellsPlan answer (λ file p x. told_done file p answer x) m) d
+over_settled (Explain input o at) bytes answer t m d = explain_settled bytes o at answer t m d
 over_settled (Run file steps changes dump) bytes answer t m d = read_unique bytes (ran_status steps changes) answer.status t (runs_decided bytes steps changes dump answer m) d
 over_settled (Campaign input o draws results) bytes answer t m d = campaign_settled bytes o draws results answer t m d
 over_settled (Gen output seed size) bytes answer t m d = gens_settled output seed size answer t m d
@@ -340,6 +389,7 @@ source_settled order (Some name) files rose answer t calm m d =
 calm_one : (order : Order) (rose : List ℕ → Type 0) → All (λ name. rose name → ⊥) (source_names order) → IfSome (source_name order) (λ name. rose name → ⊥)
 calm_one (Transform input output o) rose calm = All-head (λ name. rose name → ⊥) input [] calm
 calm_one (Plan input o) rose calm = All-head (λ name. rose name → ⊥) input [] calm
+calm_one (Explain input o at) rose calm = All-head (λ name. rose name → ⊥) input [] calm
 calm_one (Run file steps changes dump) rose calm = All-head (λ name. rose name → ⊥) file [] calm
 calm_one (Campaign input o draws results) rose calm = All-head (λ name. rose name → ⊥) input [] calm
 calm_one (Gen output seed size) rose calm = tt
@@ -413,6 +463,19 @@ campaign_store :
 campaign_store bytes o draws results stores answer (campaigns.refused x) r = none_stored answer stores x.plain.stored r
 campaign_store bytes o draws results stores answer (campaigns.struck s) r = none_stored answer stores s.tells.plain.stored r
 
+word_none : (x : Explained) (a : ℕ) (answer : Answer) (number : Option ℕ) → TellsNumber x a answer number → answer.stored ≡ None
+word_none x a answer None t = t.stored
+word_none x a answer (Some n) t = (role_told x a n answer (role_at x.roles.items (a - x.base)) t).1
+
+told_none : (x : Explained) (at : Option ℕ) (answer : Answer) → TellsRoles x at answer → answer.stored ≡ None
+told_none x None answer t = t.stored
+told_none x (Some a) answer t = word_none x a answer (number_at x a) t
+
+explain_store :
+    (bytes : List ℕ) (o : Options) (at : Option ℕ) (stores : List ℕ → Type 0) (answer : Answer) → Explains bytes o at answer → StoreRose answer.stored stores → ⊥
+explain_store bytes o at stores answer (explains.refused x) r = none_stored answer stores x.plain.stored r
+explain_store bytes o at stores answer (explains.told t) r = none_stored answer stores (told_none t.code at answer t.tells) r
+
 gens_store :
     (output : List ℕ) (seed size : ℕ) (stores : List ℕ → Type 0) (answer : Answer) → (stores output → ⊥) → Gens output seed size answer
     → StoreRose answer.stored stores → ⊥
@@ -424,6 +487,7 @@ over_store :
     → StoreRose answer.stored stores → ⊥
 over_store (Transform input output o) bytes stores answer calm m r = made_store bytes o (Delivers output) stores answer (delivered_store output stores answer calm) m r
 over_store (Plan input o) bytes stores answer calm m r = made_store bytes o TellsPlan stores answer (told_store stores answer) m r
+over_store (Explain input o at) bytes stores answer calm m r = explain_store bytes o at stores answer m r
 over_store (Run file steps changes dump) bytes stores answer calm m r = runs_store bytes steps changes dump stores answer m r
 over_store (Campaign input o draws results) bytes stores answer calm m r = campaign_store bytes o draws results stores answer m r
 over_store (Gen output seed size) bytes stores answer calm m r = gens_store output seed size stores answer calm m r

@@ -13,7 +13,7 @@ use Rattle.qed_model.specs.declared.change.Change.{Change}
 use Rattle.qed_model.specs.declared.options.Options.{Options}
 use Rattle.command_line.specs.declared.order.Order.{Order}
 use Rattle.command_line.specs.declared.order.Order.TheVariants as order
-use Rattle.command_line.specs.declared.order.Order.TheVariants.{Transform, Plan, Run, Campaign, Gen, Asm, Harts, Tell}
+use Rattle.command_line.specs.declared.order.Order.TheVariants.{Transform, Plan, Explain, Run, Campaign, Gen, Asm, Harts, Tell}
 use Rattle.qed_model.specs.Elf.File.{IsReadAs}
 use Rattle.qed_model.specs.Elf.Refusals.{IsRefused}
 use Rattle.qed_model.specs.Limits.{limit_of}
@@ -23,6 +23,7 @@ use Rattle.qed_top.specs.Refused.{error_status, refusal_status}
 use Rattle.qed_top.specs.Run.{memory_bytes, memory_limit, outcome_status, run_of}
 use Rattle.qed_top.specs.Asm.{AsmDecides}
 use Rattle.qed_top.specs.Campaign.{CampaignDecides}
+use Rattle.qed_top.specs.Explain.{ExplainDecides}
 use Rattle.qed_top.specs.Gen.{GenDecides}
 use Rattle.qed_top.specs.Loads.{Decided, Loads, OverLoads}
 use Rattle.qed_top.specs.Orders.{WordsCallFor, source_name, source_names, source_limit, stored_name}
@@ -129,6 +130,7 @@ ran_status steps changes f = outcome_status (run_of f steps changes).state.outco
 abbrev pub DecidesOver : Order → List ℕ → Status → Type 0
 DecidesOver (Transform input output options) bytes status = TransformDecides bytes options status
 DecidesOver (Plan input options) bytes status = TransformDecides bytes options status
+DecidesOver (Explain input options at) bytes status = ExplainDecides bytes options at status
 DecidesOver (Run file steps changes dump) bytes status = ReadDecides bytes (ran_status steps changes) status
 DecidesOver (Campaign input options draws results) bytes status = CampaignDecides bytes options draws status
 DecidesOver (Gen output seed size) bytes status = GenDecides seed size status

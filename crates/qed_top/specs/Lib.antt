@@ -7,6 +7,7 @@ pub mod World
 pub mod Turns
 pub mod Gen
 pub mod Campaign
+pub mod Explain
 pub mod Asm
 pub mod List
 pub mod Orders

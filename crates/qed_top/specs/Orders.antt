@@ -5,7 +5,7 @@ use Rattle.qed_model.specs.declared.limits.Limit as limits
 use Rattle.qed_model.specs.declared.limits.Limit.TheVariants.{FileBytes, RunFileBytes}
 use Rattle.command_line.specs.declared.order.Order.{Order}
 use Rattle.command_line.specs.declared.order.Order.TheVariants as order
-use Rattle.command_line.specs.declared.order.Order.TheVariants.{Transform, Plan, Run, Campaign, Gen, Asm, Harts, Tell}
+use Rattle.command_line.specs.declared.order.Order.TheVariants.{Transform, Plan, Explain, Run, Campaign, Gen, Asm, Harts, Tell}
 use Rattle.command_line.specs.declared.order.Reason.{Reason}
 use Rattle.command_line.specs.Text.Usage.{reason_line}
 use Rattle.command_line.specs.Words.{asked}
@@ -14,6 +14,7 @@ use Rattle.qed_top.specs.Answer.{PrintsOnly, CallsFor}
 use Rattle.qed_top.specs.List.{Lists}
 use Rattle.qed_top.specs.Asm.{Assembles}
 use Rattle.qed_top.specs.Campaign.{Campaigns}
+use Rattle.qed_top.specs.Explain.{Explains}
 use Rattle.qed_top.specs.Gen.{Gens}
 use Rattle.qed_top.specs.Makes.{Makes, Delivers, TellsPlan}
 use Rattle.qed_top.specs.Loads.{Loads}
@@ -27,6 +28,7 @@ use Rattle.qed_top.specs.declared.status.Status.TheVariants.{Done, Usage}
 abbrev pub source_name : Order → Option (List ℕ)
 source_name (Transform input output options) = Some input
 source_name (Plan input options) = Some input
+source_name (Explain input options at) = Some input
 source_name (Run file steps changes dump) = Some file
 source_name (Campaign input options draws results) = Some input
 source_name (Gen output seed size) = None
@@ -39,6 +41,7 @@ source_name (Tell topic) = None
 abbrev pub source_names : Order → List (List ℕ)
 source_names (Transform input output options) = input ∷ []
 source_names (Plan input options) = input ∷ []
+source_names (Explain input options at) = input ∷ []
 source_names (Run file steps changes dump) = file ∷ []
 source_names (Campaign input options draws results) = input ∷ []
 source_names (Gen output seed size) = []
@@ -74,6 +77,7 @@ IsUsage reason answer = PrintsOnly Usage (reason_line reason) answer
 abbrev pub AnswersOver : Order → List ℕ → Answer → Type 0
 AnswersOver (Transform input output options) bytes answer = Makes bytes options (Delivers output) answer
 AnswersOver (Plan input options) bytes answer = Makes bytes options TellsPlan answer
+AnswersOver (Explain input options at) bytes answer = Explains bytes options at answer
 AnswersOver (Run file steps changes dump) bytes answer = Runs bytes steps changes dump answer
 AnswersOver (Campaign input options draws results) bytes answer = Campaigns bytes options draws results answer
 AnswersOver (Gen output seed size) bytes answer = Gens output seed size answer

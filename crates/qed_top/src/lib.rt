@@ -6,6 +6,7 @@ mod answer;
 mod asm;
 mod campaigns;
 mod decide;
+mod explained;
 mod fault;
 mod generated;
 mod list;

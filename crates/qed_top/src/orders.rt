@@ -8,6 +8,7 @@ ghost use Rattle.qed_top.specs.Orders.{AnswersOver, IsUsage, reads_several, sour
 use crate::answer::{Answer, plain};
 use crate::asm::answer_asm;
 use crate::campaigns::answer_campaign;
+use crate::explained::answer_explain;
 use crate::generated::answer_gen;
 use crate::list::answer_list;
 use crate::make::{answer_plan, answer_transform};
@@ -25,6 +26,7 @@ pub fn source_name(order: &Order) -> Option<&str>
     match order {
         Order::Transform(input, _, _) => Some(input.as_str()),
         Order::Plan(input, _) => Some(input.as_str()),
+        Order::Explain(input, _, _) => Some(input.as_str()),
         Order::Run(file, _, _, _) => Some(file.as_str()),
         Order::Campaign(input, _, _, _) => Some(input.as_str()),
         Order::Gen(_, _, _) => None,
@@ -67,6 +69,10 @@ pub fn answer_order(alloc: Global, order: Order, bytes: &[u8]) -> Result<Answer,
         }
         Order::Plan(_, options) => {
             let answer = answer_plan(alloc, bytes, &options)?;
+            Ok(answer)
+        }
+        Order::Explain(_, options, at) => {
+            let answer = answer_explain(alloc, bytes, &options, at)?;
             Ok(answer)
         }
         Order::Run(_, steps, changes, dump) => {
