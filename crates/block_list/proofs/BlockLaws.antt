@@ -4,6 +4,8 @@ use Rattle.std.specs.Prelude.{All, ◌==◌, ◌↔◌, IsTrue, if◌then◌else
 use Rattle.std.proofs.lemmas.Bool.{false≢true, eq-eqb, or_left, or_right}
 use Rattle.std.proofs.lemmas.List.Elements.{All-nil, All-cons}
 use Rattle.elf_types.specs.declared.file.ElfFile.{ElfFile}
+use Rattle.qed_model.specs.declared.options.Options.{Options}
+use Rattle.qed_model.specs.declared.options.Entries.TheVariants as entries
 use Rattle.qed_model.specs.declared.test.CodeWord.{CodeWord}
 use Rattle.qed_model.specs.Weave.Sequences.{Block}
 use Rattle.qed_model.specs.Weave.Pieces.{divided}
@@ -37,15 +39,15 @@ rising_pairs low (b ∷ bs) r i zero d lt le = absurd (omega (arith, lt))
 rising_pairs low (b ∷ bs) r zero (suc j) d lt le = let h = rising_at (b.start + 1) bs j d r.1 (omega (arith, le)) in omega (arith, h)
 rising_pairs low (b ∷ bs) r (suc i) (suc j) d lt le = rising_pairs (b.start + 1) bs r.1 i j d (omega (arith, lt)) (omega (arith, le))
 
-module _ (f : ElfFile) (leads : ℕ → Bool) (exact : (a : ℕ) → IsTrue (leads a) ↔ IsLeader f a) (indirect : Bool) (jalr : IsTrue indirect ↔ HasIndirect f) (most : ℕ) where
+module _ (f : ElfFile) (o : Options) (leads : ℕ → Bool) (exact : (a : ℕ) → IsTrue (leads a) ↔ IsLeader f o a) (every : Bool) (when : IsTrue every ↔ ((o.entries ≡ entries.All) × HasIndirect f)) where
   -- ---- one block
-  long_block : (low : ℕ) (w : CodeWord) (ws : List CodeWord) (b : CodeBlock) → Rest f low (w ∷ ws) → leads w.at ≡ true → IsLong leads most (w ∷ ws) b → IsLeaderBlock f most (block_of b)
+  long_block : (low : ℕ) (w : CodeWord) (ws : List CodeWord) (b : CodeBlock) → Rest f low (w ∷ ws) → leads w.at ≡ true → IsLong leads o.inst_max (w ∷ ws) b → IsLeaderBlock f o (block_of b)
   long_block low w ws b r e l =
-      let body = subst (λ xs. IsBody f leads exact b.start xs (end_of b.end)) (sym l.body)
-      (subst (λ i. IsBody f leads exact b.start (instructions (take (body_size leads (w ∷ ws)) (w ∷ ws))) (end_of i)) (sym l.end)
-      (subst (λ a. IsBody f leads exact a (instructions (take (body_size leads (w ∷ ws)) (w ∷ ws))) (end_of (body_end leads (w ∷ ws)))) (sym l.start) (body_is f leads exact low w ws r))) in
+      let body = subst (λ xs. IsBody f o leads exact b.start xs (end_of b.end)) (sym l.body)
+      (subst (λ i. IsBody f o leads exact b.start (instructions (take (body_size leads (w ∷ ws)) (w ∷ ws))) (end_of i)) (sym l.end)
+      (subst (λ a. IsBody f o leads exact a (instructions (take (body_size leads (w ∷ ws)) (w ∷ ws))) (end_of (body_end leads (w ∷ ws)))) (sym l.start) (body_is f o leads exact low w ws r))) in
       record {
-        leader = subst (IsLeader f) (sym l.start) ((exact w.at).0 e);
+        leader = subst (IsLeader f o) (sym l.start) ((exact w.at).0 e);
         body = b.body;
         stands = body.stands;
         inside = body.inside;
@@ -57,10 +59,11 @@ module _ (f : ElfFile) (leads : ℕ → Bool) (exact : (a : ℕ) → IsTrue (lea
   short_by w true e = (e, refl, refl)
   short_by w false e = (e, refl)
 
-  short_block : (low : ℕ) (w : CodeWord) (ws : List CodeWord) (b : CodeBlock) → Rest f low (w ∷ ws) → leads w.at ≡ false → HasIndirect f → IsShort w b → IsOtherBlock f (block_of b)
+  short_block : (low : ℕ) (w : CodeWord) (ws : List CodeWord) (b : CodeBlock) → Rest f low (w ∷ ws) → leads w.at ≡ false → (o.entries ≡ entries.All) × HasIndirect f → IsShort w b → IsOtherBlock f o (block_of b)
   short_block low w ws b r e h s = record {
-    indirect = h;
-    other = λ l. false≢true (sym e ∙ (exact w.at).1 (subst (IsLeader f) s.start l));
+    all = h.0;
+    indirect = h.1;
+    other = λ l. false≢true (sym e ∙ (exact w.at).1 (subst (IsLeader f o) s.start l));
     instruction = w.ins;
     stands = ap (instruction_at f) s.start ∙ r.ascend.2;
     short = subst (λ n. IsShortOf w.ins (divided n b.body) (end_of b.end)) (sym s.lengths)
@@ -70,13 +73,13 @@ module _ (f : ElfFile) (leads : ℕ → Bool) (exact : (a : ℕ) → IsTrue (lea
 
   -- ---- all blocks, from an address on
   abbrev Good : Block → Type 0
-  Good b = IsLeaderBlock f most b ⊎ IsOtherBlock f b
+  Good b = IsLeaderBlock f o b ⊎ IsOtherBlock f o b
 
   record From (low : ℕ) (bs : List Block) : Type 0 where
     rising : Rising low bs
     each : All Good bs
-    leaders : (a : ℕ) → low ≤ a → IsLeader f a → begins_at bs a ≡ true
-    others : indirect ≡ true → (a : ℕ) → low ≤ a → is_code f a ≡ true → begins_at bs a ≡ true
+    leaders : (a : ℕ) → low ≤ a → IsLeader f o a → begins_at bs a ≡ true
+    others : every ≡ true → (a : ℕ) → low ≤ a → is_code f a ≡ true → begins_at bs a ≡ true
 
   -- an address from the first word on is that of the word, or behind it
   next_at : (low : ℕ) (w : CodeWord) (ws : List CodeWord) (a : ℕ) → Rest f low (w ∷ ws) → low ≤ a → is_code f a ≡ true → (a ≡ w.at) ⊎ (w.at + 1 ≤ a)
@@ -95,7 +98,7 @@ module _ (f : ElfFile) (leads : ℕ → Bool) (exact : (a : ℕ) → IsTrue (lea
     later : (a : ℕ) → begins_at bs a ≡ true → begins_at (b ∷ bs) a ≡ true
     later a e = or_right (b.start == a) (begins_at bs a) e
 
-  without_block : (low : ℕ) (w : CodeWord) (ws : List CodeWord) (bs : List Block) → Rest f low (w ∷ ws) → leads w.at ≡ false → indirect ≡ false → From (w.at + 1) bs → From low bs
+  without_block : (low : ℕ) (w : CodeWord) (ws : List CodeWord) (bs : List Block) → Rest f low (w ∷ ws) → leads w.at ≡ false → every ≡ false → From (w.at + 1) bs → From low bs
   without_block low w ws bs r free none rest = record {
     rising = let l = r.ascend.0 in rising_less low (w.at + 1) bs (omega (arith, l)) rest.rising;
     each = rest.each;
@@ -103,18 +106,18 @@ module _ (f : ElfFile) (leads : ℕ → Bool) (exact : (a : ℕ) → IsTrue (lea
     others = λ i a le e. absurd (false≢true (sym none ∙ i));
   }
 
-  step : (low : ℕ) (w : CodeWord) (ws : List CodeWord) (front back : List CodeBlock) (x y : Bool) → leads w.at ≡ x → indirect ≡ y → Rest f low (w ∷ ws) → Begun x y leads most (w ∷ ws) front → From (w.at + 1) (map block_of back) → From low (map block_of (front ++ back))
+  step : (low : ℕ) (w : CodeWord) (ws : List CodeWord) (front back : List CodeBlock) (x y : Bool) → leads w.at ≡ x → every ≡ y → Rest f low (w ∷ ws) → Begun x y leads o.inst_max (w ∷ ws) front → From (w.at + 1) (map block_of back) → From low (map block_of (front ++ back))
   step low w ws front back true y ex ey r one rest =
       subst (λ bs. From low (map block_of (bs ++ back))) (sym one.is)
       (with_block low w ws (block_of one.block) (map block_of back) r one.holds.start (inl (long_block low w ws one.block r ex one.holds)) rest)
   step low w ws front back false true ex ey r one rest =
       subst (λ bs. From low (map block_of (bs ++ back))) (sym one.is)
-      (with_block low w ws (block_of one.block) (map block_of back) r one.holds.start (inr (short_block low w ws one.block r ex (jalr.0 ey) one.holds)) rest)
+      (with_block low w ws (block_of one.block) (map block_of back) r one.holds.start (inr (short_block low w ws one.block r ex (when.0 ey) one.holds)) rest)
   step low w ws front back false false ex ey r none rest =
       subst (λ bs. From low (map block_of (bs ++ back))) (sym none)
       (without_block low w ws (map block_of back) r ex ey rest)
 
-  from_built : (low : ℕ) (ws : List CodeWord) (bs : List CodeBlock) → Rest f low ws → Built leads indirect most ws bs → From low (map block_of bs)
+  from_built : (low : ℕ) (ws : List CodeWord) (bs : List CodeBlock) → Rest f low ws → Built leads every o.inst_max ws bs → From low (map block_of bs)
   from_built low [] bs r e = subst (λ cs. From low (map block_of cs)) (sym e)
       (record {
         rising = tt;
@@ -124,14 +127,14 @@ module _ (f : ElfFile) (leads : ℕ → Bool) (exact : (a : ℕ) → IsTrue (lea
       })
   from_built low (w ∷ ws) bs r p =
       subst (λ cs. From low (map block_of cs)) (sym p.is)
-      (step low w ws p.front p.back (leads w.at) indirect refl refl r p.first (from_built (w.at + 1) ws p.back (rest_tail f low w ws r) p.rest))
+      (step low w ws p.front p.back (leads w.at) every refl refl r p.first (from_built (w.at + 1) ws p.back (rest_tail f low w ws r) p.rest))
 
-  pub are_blocks : (code : List CodeWord) (bs : List CodeBlock) → AreCodeWords f code → Built leads indirect most code bs → AreBlocks f most (map block_of bs)
+  pub are_blocks : (code : List CodeWord) (bs : List CodeBlock) → AreCodeWords f code → Built leads every o.inst_max code bs → AreBlocks f o (map block_of bs)
   are_blocks code bs words built =
       let all = from_built 0 code bs (rest_all f code words) built in
       record {
         ascend = λ i j d lt le. rising_pairs 0 (map block_of bs) all.rising i j d lt le;
         each = all.each;
         leaders = λ a l. all.leaders a (omega arith) l;
-        others = λ h a e. all.others (jalr.1 h) a (omega arith) e;
+        others = λ z h a e. all.others (when.1 (z, h)) a (omega arith) e;
       }

@@ -5,13 +5,15 @@ use Rattle.std.proofs.lemmas.Bool.{false≢true, eqb-true, eqb-false, and_parts,
 use Rattle.elf_types.specs.declared.file.ElfFile.{ElfFile}
 use Rattle.rv_isa.specs.declared.ins.Ins.{Ins}
 use Rattle.rv_isa.specs.Kind.{class_of}
+use Rattle.qed_model.specs.declared.options.Options.{Options}
 use Rattle.qed_model.specs.declared.test.CodeWord.{CodeWord}
 use Rattle.qed_model.specs.Weave.Sequences.{End, Falls, Stops}
 use Rattle.qed_model.specs.Weave.Blocks.{IsBodyAt, StopsAt}
 use Rattle.qed_model.specs.Admission.CodeWords.{is_code, instruction_at}
 use Rattle.qed_model.specs.Admission.Leaders.{IsLeader, is_end}
 use Rattle.qed_model.specs.Admission.Test.{AreCodeWords}
-use Rattle.qed_model.proofs.Among.{Among, among_of}
+use Rattle.qed_model.proofs.Among.{among_of}
+use Rattle.qed_model.specs.Members.{Among}
 use Rattle.flow_recovery.proofs.CodeLaws.{word_code, word_stands}
 use Rattle.block_list.specs.Bodies.{ends, size_behind, end_behind, body_size, body_end}
 use Rattle.block_list.specs.Listed.{end_of}
@@ -87,23 +89,23 @@ module _ (f : ElfFile) where
       (λ m. let h = above (w.at + 1) (p + 4) ws r.ascend.3 m in omega (arith, low, at, here, h))
       (r.complete (p + 4) (omega arith) e))
 
-  module _ (leads : ℕ → Bool) (exact : (a : ℕ) → IsTrue (leads a) ↔ IsLeader f a) where
-    no_leader : (a : ℕ) → leads a ≡ false → IsLeader f a → ⊥
+  module _ (o : Options) (leads : ℕ → Bool) (exact : (a : ℕ) → IsTrue (leads a) ↔ IsLeader f o a) where
+    no_leader : (a : ℕ) → leads a ≡ false → IsLeader f o a → ⊥
     no_leader a e l = false≢true (sym e ∙ (exact a).1 l)
 
     -- ---- how a body goes on behind its word at p
     record GoesOn (p n : ℕ) (xs : List Ins) (e : End) : Type 0 where
       stands : IsBodyAt f (p + 4) xs
       size : length xs ≡ n
-      inside : (k : ℕ) → k < n → IsLeader f (p + 4 + 4 * k) → ⊥
-      stops : (m : ℕ) → StopsAt f e (suc m) (p + 4 + 4 * n)
+      inside : (k : ℕ) → k < n → IsLeader f o (p + 4 + 4 * k) → ⊥
+      stops : (m : ℕ) → StopsAt f o e (suc m) (p + 4 + 4 * n)
 
-    at_once : (p : ℕ) (e : End) → ((m : ℕ) → StopsAt f e (suc m) (p + 4)) → GoesOn p 0 [] e
+    at_once : (p : ℕ) (e : End) → ((m : ℕ) → StopsAt f o e (suc m) (p + 4)) → GoesOn p 0 [] e
     at_once p e h = record {
       stands = tt;
       size = refl;
       inside = λ k lt l. omega (arith, lt);
-      stops = λ m. let z : p + 4 + 4 * 0 ≡ p + 4 = omega arith in subst (λ a. StopsAt f e (suc m) a) (sym z) (h m);
+      stops = λ m. let z : p + 4 + 4 * 0 ≡ p + 4 = omega arith in subst (λ a. StopsAt f o e (suc m) a) (sym z) (h m);
     }
 
     one_more : (p n : ℕ) (i : Ins) (xs : List Ins) (e : End) → instruction_at f (p + 4) ≡ Some i → is_end (class_of i.kind) ≡ false → leads (p + 4) ≡ false → GoesOn (p + 4) n xs e → GoesOn p (n + 1) (i ∷ xs) e
@@ -111,18 +113,18 @@ module _ (f : ElfFile) where
       stands = (at, go, g.stands);
       size = let s = g.size in omega (arith, s);
       inside = λ k lt l. within k lt l;
-      stops = λ m. let z : p + 4 + 4 * (n + 1) ≡ p + 4 + 4 + 4 * n = omega arith in subst (λ a. StopsAt f e (suc m) a) (sym z) (g.stops m);
+      stops = λ m. let z : p + 4 + 4 * (n + 1) ≡ p + 4 + 4 + 4 * n = omega arith in subst (λ a. StopsAt f o e (suc m) a) (sym z) (g.stops m);
     } where
-      within : (k : ℕ) → k < n + 1 → IsLeader f (p + 4 + 4 * k) → ⊥
-      within zero lt l = let z : p + 4 + 4 * 0 ≡ p + 4 = omega arith in no_leader (p + 4) free (subst (IsLeader f) z l)
-      within (suc k) lt l = let z : p + 4 + 4 * suc k ≡ p + 4 + 4 + 4 * k = omega arith in g.inside k (omega (arith, lt)) (subst (IsLeader f) z l)
+      within : (k : ℕ) → k < n + 1 → IsLeader f o (p + 4 + 4 * k) → ⊥
+      within zero lt l = let z : p + 4 + 4 * 0 ≡ p + 4 = omega arith in no_leader (p + 4) free (subst (IsLeader f o) z l)
+      within (suc k) lt l = let z : p + 4 + 4 * suc k ≡ p + 4 + 4 + 4 * k = omega arith in g.inside k (omega (arith, lt)) (subst (IsLeader f o) z l)
 
     -- one word, by what it is
     goes_by : (p : ℕ) (w : CodeWord) (ws : List CodeWord) → is_code f p ≡ true → Rest (p + 1) (w ∷ ws) → GoesOn w.at (size_behind leads w.at ws) (instructions (take (size_behind leads w.at ws) ws)) (end_of (end_behind leads w.at ws)) → (x y z : Bool) → (w.at == p + 4) ≡ x → leads w.at ≡ y → ends w ≡ z → GoesOn p (if (x && not y) && not z then size_behind leads w.at ws + 1 else 0) (instructions (take (if (x && not y) && not z then size_behind leads w.at ws + 1 else 0) (w ∷ ws))) (end_of (if x && not y then (if z then Some w.ins else end_behind leads w.at ws) else None))
     goes_by p w ws c r rec false y z ex ey ez = at_once p Falls (λ m. (omega arith, inr (gap_behind p w ws c r (eqb-false w.at (p + 4) ex))))
     goes_by p w ws c r rec true true z ex ey ez =
         let at : w.at ≡ p + 4 = eqb-true w.at (p + 4) ex in
-        at_once p Falls (λ m. (omega arith, inl (subst (IsLeader f) at ((exact w.at).0 ey))))
+        at_once p Falls (λ m. (omega arith, inl (subst (IsLeader f o) at ((exact w.at).0 ey))))
     goes_by p w ws c r rec true false true ex ey ez =
         let at : w.at ≡ p + 4 = eqb-true w.at (p + 4) ex in
         at_once p (Stops w.ins) (λ m. (ap (instruction_at f) (sym at) ∙ r.ascend.2, ez, inr (no_leader (p + 4) (ap leads (sym at) ∙ ey))))
@@ -142,8 +144,8 @@ module _ (f : ElfFile) where
     -- ---- the body that begins with a word
     pub record IsBody (a : ℕ) (xs : List Ins) (e : End) : Type 0 where
       pub stands : IsBodyAt f a xs
-      pub inside : (k : ℕ) → 1 ≤ k → k < length xs → IsLeader f (a + 4 * k) → ⊥
-      pub stops : StopsAt f e (length xs) (a + 4 * length xs)
+      pub inside : (k : ℕ) → 1 ≤ k → k < length xs → IsLeader f o (a + 4 * k) → ⊥
+      pub stops : StopsAt f o e (length xs) (a + 4 * length xs)
 
     begins : (w : CodeWord) (n : ℕ) (xs : List Ins) (e : End) → instruction_at f w.at ≡ Some w.ins → ends w ≡ false → GoesOn w.at n xs e → IsBody w.at (w.ins ∷ xs) e
     begins w n xs e at go g = record {
@@ -152,14 +154,14 @@ module _ (f : ElfFile) where
       stops =
           let s = g.size in
           let z : w.at + 4 * suc (length xs) ≡ w.at + 4 + 4 * n = omega (arith, s) in
-          subst (λ a. StopsAt f e (suc (length xs)) a) (sym z) (g.stops (length xs));
+          subst (λ a. StopsAt f o e (suc (length xs)) a) (sym z) (g.stops (length xs));
     } where
-      within : (k : ℕ) → 1 ≤ k → k < suc (length xs) → IsLeader f (w.at + 4 * k) → ⊥
+      within : (k : ℕ) → 1 ≤ k → k < suc (length xs) → IsLeader f o (w.at + 4 * k) → ⊥
       within zero one lt l = omega (arith, one)
       within (suc k) one lt l =
           let s = g.size in
           let z : w.at + 4 * suc k ≡ w.at + 4 + 4 * k = omega arith in
-          g.inside k (omega (arith, lt, s)) (subst (IsLeader f) z l)
+          g.inside k (omega (arith, lt, s)) (subst (IsLeader f o) z l)
 
     body_by : (low : ℕ) (w : CodeWord) (ws : List CodeWord) → Rest low (w ∷ ws) → (z : Bool) → ends w ≡ z → IsBody w.at (instructions (take (if z then 0 else size_behind leads w.at ws + 1) (w ∷ ws))) (end_of (if z then Some w.ins else end_behind leads w.at ws))
     body_by low w ws r true ez = record {

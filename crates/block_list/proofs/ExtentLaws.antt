@@ -4,6 +4,7 @@ use Rattle.std.specs.Prelude.{All, ◌↔◌, IsTrue, sum, if◌then◌else◌}
 use Rattle.std.proofs.lemmas.List.Elements.{All-nil, All-cons, All-append, All-contains, All-same}
 use Rattle.elf_types.specs.declared.file.ElfFile.{ElfFile}
 use Rattle.rv_isa.specs.declared.ins.Ins.{Ins}
+use Rattle.qed_model.specs.declared.options.Options.{Options}
 use Rattle.qed_model.specs.declared.test.CodeWord.{CodeWord}
 use Rattle.qed_model.specs.Weave.Blocks.{IsBodyAt}
 use Rattle.qed_model.specs.Admission.CodeWords.{is_code}
@@ -26,13 +27,13 @@ module _ (f : ElfFile) (top : ℕ) (reach : (a : ℕ) → is_code f a ≡ true �
       let h = body_below (a + 4) is next b.2 in
       omega (arith, h)
 
-  module _ (leads : ℕ → Bool) (exact : (a : ℕ) → IsTrue (leads a) ↔ IsLeader f a) (indirect : Bool) (most : ℕ) where
+  module _ (o : Options) (leads : ℕ → Bool) (exact : (a : ℕ) → IsTrue (leads a) ↔ IsLeader f o a) (every : Bool) (most : ℕ) where
     long_within : (low : ℕ) (w : CodeWord) (ws : List CodeWord) (b : CodeBlock) → Rest f low (w ∷ ws) → IsLong leads most (w ∷ ws) b → IsWithin top b
     long_within low w ws b r l = record {
       whole = l.pieces.total;
       below =
           let here = reach w.at r.ascend.1 in
-          let h = body_below w.at _ (omega (arith, here)) (body_is f leads exact low w ws r).stands in
+          let h = body_below w.at _ (omega (arith, here)) (body_is f o leads exact low w ws r).stands in
           let s = l.start in
           let n = ap length l.body in
           omega (arith, h, s, n);
@@ -62,20 +63,20 @@ module _ (f : ElfFile) (top : ℕ) (reach : (a : ℕ) → is_code f a ≡ true �
     begun_within low w ws bs false true r one = one_within one.block bs one.is (short_within low w ws one.block r one.holds)
     begun_within low w ws bs false false r none = All-same (IsWithin top) bs [] none (All-nil (IsWithin top))
 
-    built_within : (low : ℕ) (ws : List CodeWord) (bs : List CodeBlock) → Rest f low ws → Built leads indirect most ws bs → All (IsWithin top) bs
+    built_within : (low : ℕ) (ws : List CodeWord) (bs : List CodeBlock) → Rest f low ws → Built leads every most ws bs → All (IsWithin top) bs
     built_within low [] bs r e = All-same (IsWithin top) bs [] e (All-nil (IsWithin top))
     built_within low (w ∷ ws) bs r p =
         All-same (IsWithin top) bs (p.front ++ p.back) p.is
         (All-append (IsWithin top) p.front p.back
-        (begun_within low w ws p.front (leads w.at) indirect r p.first)
+        (begun_within low w ws p.front (leads w.at) every r p.first)
         (built_within (w.at + 1) ws p.back (rest_tail f low w ws r) p.rest))
 
 -- where no word stands past `top`, no block does
 pub blocks_within :
-    (f : ElfFile) (leads : ℕ → Bool) (exact : (a : ℕ) → IsTrue (leads a) ↔ IsLeader f a) (indirect : Bool) (most : ℕ) (code : List CodeWord) (bs : List CodeBlock)
-    → AreCodeWords f code → Built leads indirect most code bs → (top : ℕ) → All (λ c. c.at + 4 ≤ top) code → All (IsWithin top) bs
-blocks_within f leads exact indirect most code bs words built top small =
-    built_within f top reach leads exact indirect most 0 code bs (rest_all f code words) built where
+    (f : ElfFile) (o : Options) (leads : ℕ → Bool) (exact : (a : ℕ) → IsTrue (leads a) ↔ IsLeader f o a) (every : Bool) (most : ℕ) (code : List CodeWord) (bs : List CodeBlock)
+    → AreCodeWords f code → Built leads every most code bs → (top : ℕ) → All (λ c. c.at + 4 ≤ top) code → All (IsWithin top) bs
+blocks_within f o leads exact every most code bs words built top small =
+    built_within f top reach o leads exact every most 0 code bs (rest_all f code words) built where
       reach : (a : ℕ) → is_code f a ≡ true → a + 4 ≤ top
       reach a e =
           let w = code_word f code words a e in

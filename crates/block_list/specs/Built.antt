@@ -32,16 +32,16 @@ pub record One (P : CodeBlock → Type 0) (bs : List CodeBlock) : Type 0 where
 
 -- the blocks that begin with the first word: one at a leader, one where each address has a block, else none
 abbrev pub Begun : Bool → Bool → (ℕ → Bool) → ℕ → List CodeWord → List CodeBlock → Type 0
-Begun leader indirect leads most [] bs = bs ≡ []
-Begun true indirect leads most (w ∷ ws) bs = One (IsLong leads most (w ∷ ws)) bs
+Begun leader every leads most [] bs = bs ≡ []
+Begun true every leads most (w ∷ ws) bs = One (IsLong leads most (w ∷ ws)) bs
 Begun false true leads most (w ∷ ws) bs = One (IsShort w) bs
 Begun false false leads most (w ∷ ws) bs = bs ≡ []
 
 -- these were added
-pub record AddsBlock (leads : ℕ → Bool) (indirect : Bool) (most : ℕ) (words : List CodeWord) (old new : List CodeBlock) : Type 0 where
+pub record AddsBlock (leads : ℕ → Bool) (every : Bool) (most : ℕ) (words : List CodeWord) (old new : List CodeBlock) : Type 0 where
   pub added : List CodeBlock
   pub new_is : new ≡ old ++ added
-  pub begun : Begun (leads (first_at words)) indirect leads most words added
+  pub begun : Begun (leads (first_at words)) every leads most words added
 
 -- a list in two parts
 pub record Parts (P Q : List CodeBlock → Type 0) (bs : List CodeBlock) : Type 0 where
@@ -53,5 +53,5 @@ pub record Parts (P Q : List CodeBlock → Type 0) (bs : List CodeBlock) : Type 
 
 -- the blocks that begin with any of the words
 abbrev pub Built : (ℕ → Bool) → Bool → ℕ → List CodeWord → List CodeBlock → Type 0
-Built leads indirect most [] bs = bs ≡ []
-Built leads indirect most (w ∷ ws) bs = Parts (Begun (leads w.at) indirect leads most (w ∷ ws)) (Built leads indirect most ws) bs
+Built leads every most [] bs = bs ≡ []
+Built leads every most (w ∷ ws) bs = Parts (Begun (leads w.at) every leads most (w ∷ ws)) (Built leads every most ws) bs

@@ -1,7 +1,10 @@
 //! The list of the blocks.
-ghost use Rattle.std.specs.Prelude.{◌≡◌, ℕ, ◌+◌, ◌≤◌, All, IfOk, OnOk, length, map};
+ghost use Rattle.std.specs.Prelude.{◌≡◌, ℕ, ◌+◌, ◌≤◌, ◌↔◌, All, IfOk, IsTrue, OnOk, length, map};
 ghost use Rattle.flow_recovery.specs.Sets.{holds};
-ghost use Rattle.flow_recovery.specs.Leaders.{IsCodeOf};
+ghost use Rattle.elf_types.specs.declared.file.ElfFile.{ElfFile};
+ghost use Rattle.qed_model.specs.declared.options.Entries.TheVariants as entries;
+ghost use Rattle.qed_model.specs.Admission.Leaders.{HasIndirect};
+ghost use Rattle.qed_model.specs.Admission.Test.{AreCodeWords, IsTestOf};
 ghost use Rattle.qed_model.specs.Weave.Blocks.{AreBlocks};
 ghost use Rattle.qed_model.specs.Weave.Places.{AreSoundOptions};
 ghost use Rattle.block_list.specs.Built.{IsLong, IsShort, AddsBlock, Built};
@@ -12,7 +15,7 @@ use crate::bodies::{body_extent, ends};
 use block_split::split;
 use elf_types::{ElfFile, Listed};
 use flow_recovery::{has_indirect, leaders};
-use qed_model::{CodeWord, Options, Test};
+use qed_model::{CodeWord, Entries, Options, Test};
 use rv_isa::Ins;
 use std::alloc::{AllocError, Global};
 use std::collections::BTreeSet;
@@ -76,17 +79,17 @@ fn push_block(
     blocks: &mut Vec<CodeBlock>,
     words: &[CodeWord],
     leaders: &BTreeSet<u64>,
-    indirect: bool,
+    every: bool,
     options: &Options,
 ) -> Result<(), AllocError>
     requires some { 1 ≤ length words.now }
     requires sound { AreSoundOptions options.now }
-    ensures { OnOk result (AddsBlock (holds leaders.now) indirect options.now.inst_max words.now blocks.old.items blocks.new.items) }
+    ensures { OnOk result (AddsBlock (holds leaders.now) every options.now.inst_max words.now blocks.old.items blocks.new.items) }
 {
     let alloc = *blocks.allocator();
     if leaders.contains(&words[0].at) {
         blocks.push(long_block(alloc, words, leaders, options)?)?;
-    } else if indirect {
+    } else if every {
         blocks.push(short_block(alloc, &words[0])?)?;
     }
     Ok(())
@@ -97,35 +100,45 @@ pub(crate) fn list(
     alloc: Global,
     words: &[CodeWord],
     leaders: &BTreeSet<u64>,
-    indirect: bool,
+    every: bool,
     options: &Options,
 ) -> Result<Vec<CodeBlock>, AllocError>
     requires { AreSoundOptions options.now }
-    ensures { IfOk result (λ blocks. Built (holds leaders.now) indirect options.now.inst_max words.now blocks.items) }
+    ensures { IfOk result (λ blocks. Built (holds leaders.now) every options.now.inst_max words.now blocks.items) }
 {
     let mut blocks = Vec::new(alloc);
     for at in 0..words.len() {
-        push_block(&mut blocks, &words[at..], leaders, indirect, options)?;
+        push_block(&mut blocks, &words[at..], leaders, every, options)?;
     }
     Ok(blocks)
 }
 
-/// The blocks of the file, of which `test` has the entry and the code, in ascending order: that of each leader, and where the
-/// code has a JALR that of each other code address. The lengths of a block's pieces add up to that of its body, and where all
-/// words of the code end at `top` or below, so do the bodies.
+/// Whether every code address has a block: where the code has a JALR and all have entries.
+fn has_every(test: &Test, options: &Options) -> bool
+    ensures { (f : ElfFile) → AreCodeWords f test.now.code → IsTrue result ↔ ((options.now.entries ≡ entries.All) × HasIndirect f) }
+{
+    match options.entries {
+        Entries::All => has_indirect(test),
+        Entries::Reached => false,
+    }
+}
+
+/// The blocks of the file that `test` is, in ascending order: that of each leader, and where the code has a JALR and all code
+/// addresses have entries that of each other code address. The lengths of a block's pieces add up to that of its body, and
+/// where all words of the code end at `top` or below, so do the bodies.
 pub fn blocks(
     alloc: Global,
     test: &Test,
     file: &ElfFile,
     options: &Options,
 ) -> Result<Blocks, AllocError>
-    requires code { IsCodeOf file.now test.now }
+    requires test { IsTestOf file.now options.now test.now }
     requires sound { AreSoundOptions options.now }
-    ensures exact { IfOk result (λ blocks. AreBlocks file.now options.now.inst_max (map block_of blocks)) }
+    ensures exact { IfOk result (λ blocks. AreBlocks file.now options.now (map block_of blocks)) }
     ensures within { IfOk result (λ blocks. (top : ℕ) → All (λ c. c.at + 4 ≤ top) test.now.code → All (IsWithin top) blocks) }
 {
-    let leaders = leaders(alloc, test, file)?;
-    let indirect = has_indirect(test);
-    let list = list(alloc, test.code.as_slice(), &leaders, indirect, options)?;
+    let leaders = leaders(alloc, test, file, options)?;
+    let every = has_every(test, options);
+    let list = list(alloc, test.code.as_slice(), &leaders, every, options)?;
     Ok(Listed::of(list))
 }

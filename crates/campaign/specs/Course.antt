@@ -2,7 +2,7 @@
 use Rattle.std.specs.Prelude.{◌≡◌, ℕ, List}
 use Rattle.elf_types.specs.declared.file.ElfFile.{ElfFile}
 use Rattle.qed_model.specs.declared.options.Options.{Options}
-use Rattle.qed_model.specs.Elf.File.{File}
+use Rattle.elf_files.specs.File.{File}
 use Rattle.qed_model.specs.Machine.Loading.{loaded_file}
 use Rattle.qed_model.specs.Machine.Program.{start, zeros}
 use Rattle.qed_model.specs.Machine.Step.{State}

@@ -4,3 +4,4 @@
 mod course;
 
 pub use course::Course;
+pub use strikes::{Campaign, StrikeError};

@@ -4,9 +4,9 @@ use Rattle.std.specs.List.{Contains}
 use Rattle.std.specs.List.Sorted.{IsNonDecreasingBy}
 use Rattle.std.proofs.lemmas.Bool.{and_parts, and_from, ltb-true, false_from_ne_true, cases_order}
 use Rattle.std.proofs.lemmas.List.{get_or_default}
-use Rattle.qed_model.specs.Elf.Header.{e_phnum}
-use Rattle.qed_model.specs.Elf.Fields.{program_header}
-use Rattle.qed_model.specs.Elf.Rules.{do_overlap, overlapped}
+use Rattle.elf_files.specs.Header.{e_phnum}
+use Rattle.elf_files.specs.Fields.{program_header}
+use Rattle.elf_files.specs.Rules.{do_overlap, overlapped}
 use Rattle.qed_model.proofs.BelowLaws.{first_none}
 use Rattle.elf_types.specs.Abi.{is_load}
 use Rattle.elf_types.specs.Overlap.{share_byte}

@@ -3,7 +3,7 @@ use Rattle.std.proofs.Common.{◌≡◌, ◌≢◌, ℕ, zero, suc, ◌+◌, ◌
 use Rattle.std.specs.Option.{is_some}
 use Rattle.std.proofs.lemmas.Bool.{cases_lt}
 use Rattle.std.proofs.lemmas.Bool.Decides.{nat_tests}
-use Rattle.qed_model.specs.Elf.Rules.{name_length, is_unended}
+use Rattle.elf_files.specs.Rules.{name_length, is_unended}
 use Rattle.elf_read.specs.Strings.{IsLastZero}
 use Rattle.qed_model.proofs.BelowLaws.{first_none, each_fails}
 

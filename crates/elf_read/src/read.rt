@@ -2,11 +2,12 @@
 ghost use Rattle.std.specs.Prelude.{◌≡◌, ◌<◌, ◌/◌, ◌⊎◌, length, List, ℕ, Ok, Err, Some, IfOk, IfErr, IfSome, OnOk};
 ghost use Rattle.elf_types.specs.declared.error.ElfError.TheVariants as error;
 ghost use Rattle.qed_model.specs.Below.{each, gather};
-ghost use Rattle.qed_model.specs.Elf.Header.{e_phnum, e_shnum};
-ghost use Rattle.qed_model.specs.Elf.Fields.{section_header};
-ghost use Rattle.qed_model.specs.Elf.Rules.{section_strings, strings_of, symbol_table, verdict, read_verdict};
-ghost use Rattle.qed_model.specs.Elf.File.{File, segment_of, section_of, symbol_of, symbols_at, relas_of, WithinReadLimits, IsReadAs};
-ghost use Rattle.qed_model.specs.Elf.Refusals.{IsAccepted, IsRefused};
+ghost use Rattle.elf_files.specs.Header.{e_phnum, e_shnum};
+ghost use Rattle.elf_files.specs.Fields.{section_header};
+ghost use Rattle.elf_files.specs.Rules.{section_strings, strings_of, symbol_table, verdict, read_verdict};
+ghost use Rattle.elf_files.specs.File.{File, segment_of, section_of, symbol_of, symbols_at, relas_of, WithinReadLimits, IsReadAs};
+ghost use Rattle.elf_files.specs.Refusals.{IsAccepted, IsRefused};
+ghost use Rattle.qed_model.specs.Elf.Sound.{IsSound};
 ghost use Rattle.qed_model.specs.Machine.Loading.{load_segments};
 ghost use Rattle.qed_model.specs.Machine.Apart.{AllFitMemory, AreApart};
 ghost use Rattle.elf_read.specs.Sound.{HasLinks};
@@ -38,7 +39,7 @@ impl<'a> Model for Sound<'a> {
     ghost invariant = { λ s. HasLinks s.parts };
 }
 
-#[tactic(auto, unfolding(qed_model::specs::Elf::File::section_of, qed_model::specs::Elf::Rules::section_name))]
+#[tactic(auto, unfolding(elf_files::specs::File::section_of, elf_files::specs::Rules::section_name))]
 fn section(file: &Parts, names: &Names, i: u64) -> Result<Section, AllocError>
     requires below { i < e_shnum file.now }
     requires names { names.now ≡ section_strings file.now }
@@ -54,7 +55,7 @@ fn section(file: &Parts, names: &Names, i: u64) -> Result<Section, AllocError>
     })
 }
 
-#[tactic(auto, unfolding(qed_model::specs::Elf::File::segment_of))]
+#[tactic(auto, unfolding(elf_files::specs::File::segment_of))]
 fn segment(file: &Parts, alloc: Global, i: u64) -> Result<Segment, AllocError>
     requires { i < e_phnum file.now }
     ensures { IfOk result (λ x. x ≡ segment_of file.now i) }
@@ -69,7 +70,7 @@ fn segment(file: &Parts, alloc: Global, i: u64) -> Result<Segment, AllocError>
     })
 }
 
-#[tactic(auto, unfolding(qed_model::specs::Elf::File::symbol_of, qed_model::specs::Elf::Rules::symbol_name, qed_model::specs::Elf::Rules::name_at))]
+#[tactic(auto, unfolding(elf_files::specs::File::symbol_of, elf_files::specs::Rules::symbol_name, elf_files::specs::Rules::name_at))]
 fn symbol(file: &Parts, names: &Names, i: u64, j: u64) -> Result<Symbol, AllocError>
     requires below { i < e_shnum file.now }
     requires kind { (section_header file.now i).kind ≡ SHT_SYMTAB }
@@ -91,7 +92,7 @@ fn symbol(file: &Parts, names: &Names, i: u64, j: u64) -> Result<Symbol, AllocEr
 
 impl<'a> Sound<'a> {
     /// The file, where no rule refuses it and it is within the limits.
-    #[tactic(auto, unfolding(qed_model::specs::Elf::Rules::verdict, qed_model::specs::Elf::Rules::read_verdict))]
+    #[tactic(auto, unfolding(elf_files::specs::Rules::verdict, elf_files::specs::Rules::read_verdict))]
     fn new(alloc: Global, bytes: &'a [u8]) -> Result<Sound<'a>, ElfError>
         ensures same { IfOk result (λ s. s ≡ bytes.now) }
         ensures rules { OnOk result (verdict bytes.now ≡ Ok tt) }
@@ -170,10 +171,11 @@ impl<'a> Sound<'a> {
 ///
 /// `Memory` where no rule refuses the bytes, they are within the limits, and there is no memory for the copy. Each other error comes exactly where
 /// it is the first that holds.
-#[tactic(auto, using(qed_model::proofs::RefusalLaws::refused, qed_model::proofs::AcceptanceLaws::accepted, qed_model::proofs::LoadsApart::file_fits))]
+#[tactic(auto, using(elf_files::proofs::RefusalLaws::refused, elf_files::proofs::AcceptanceLaws::accepted, elf_files::proofs::LoadsApart::file_fits))]
 pub fn read_elf(alloc: Global, bytes: &[u8]) -> Result<ElfFile, ElfError>
     ensures read { IfOk result (λ f. IsReadAs bytes.now f) }
     ensures accepted { OnOk result (IsAccepted bytes.now) }
+    ensures sound { IfOk result IsSound }
     ensures fit { IfOk result (λ f. AllFitMemory (load_segments f.segments)) }
     ensures apart { IfOk result (λ f. AreApart (load_segments f.segments)) }
     ensures refused { IfErr result (λ e. IsRefused bytes.now e ⊎ ((e ≡ error.Memory) × (read_verdict bytes.now ≡ Ok tt))) }

@@ -1,8 +1,8 @@
 //! The rule on symbols, and their table.
 ghost use Rattle.std.specs.Prelude.{◌≡◌, ◌<◌, ◌+◌, ◌*◌, ◌/◌, ◌≤◌, length, IfSome, OnOk};
-ghost use Rattle.qed_model.specs.Elf.Header.{e_shnum};
-ghost use Rattle.qed_model.specs.Elf.Fields.{section_header, symbol_entry};
-ghost use Rattle.qed_model.specs.Elf.Rules.{symbol_table, section_bytes, strings_of, symbols_rule, symbol_shape_rule, symbol_name};
+ghost use Rattle.elf_files.specs.Header.{e_shnum};
+ghost use Rattle.elf_files.specs.Fields.{section_header, symbol_entry};
+ghost use Rattle.elf_files.specs.Rules.{symbol_table, section_bytes, strings_of, symbols_rule, symbol_shape_rule, symbol_name};
 
 use crate::below::first_of;
 use crate::fields::{u16_at, u32_at, u64_at};
@@ -12,7 +12,7 @@ use elf_types::abi::{SHT_SYMTAB, SYM_SIZE};
 use elf_types::{ElfError, SymbolEntry};
 use std::alloc::Global;
 
-#[tactic(auto, unfolding(qed_model::specs::Elf::Fields::symbol_entry))]
+#[tactic(auto, unfolding(elf_files::specs::Fields::symbol_entry))]
 fn entry_at(table: &[u8], j: u64) -> SymbolEntry
     requires { 24 * j + 24 ≤ length table.now }
     ensures { result ≡ symbol_entry table.now j }
@@ -29,7 +29,7 @@ fn entry_at(table: &[u8], j: u64) -> SymbolEntry
 }
 
 /// The number of the first symbol table.
-#[tactic(auto, unfolding(qed_model::specs::Elf::Rules::symbol_table))]
+#[tactic(auto, unfolding(elf_files::specs::Rules::symbol_table))]
 pub fn symbol_table(file: &Parts) -> Option<u64>
     ensures found { result ≡ symbol_table file.now }
     ensures below { IfSome result (λ i. i < e_shnum file.now) }
@@ -41,7 +41,7 @@ pub fn symbol_table(file: &Parts) -> Option<u64>
     )
 }
 
-#[tactic(auto, unfolding(qed_model::specs::Elf::Rules::symbols_rule, qed_model::specs::Elf::Rules::is_misnamed, qed_model::specs::Elf::Rules::strings_of))]
+#[tactic(auto, unfolding(elf_files::specs::Rules::symbols_rule, elf_files::specs::Rules::is_misnamed, elf_files::specs::Rules::strings_of))]
 fn check_symbols(file: &Parts, alloc: Global, i: u64) -> Result<(), ElfError>
     requires below { i < e_shnum file.now }
     requires kind { (section_header file.now i).kind ≡ SHT_SYMTAB }
@@ -71,7 +71,7 @@ fn check_symbols(file: &Parts, alloc: Global, i: u64) -> Result<(), ElfError>
 }
 
 /// Whether the first symbol table has entries and a string table, and each symbol a name.
-#[tactic(auto, unfolding(qed_model::specs::Elf::Rules::symbol_shape_rule))]
+#[tactic(auto, unfolding(elf_files::specs::Rules::symbol_shape_rule))]
 pub fn check_symbol_shape(file: &Parts, alloc: Global) -> Result<(), ElfError>
     ensures gives { result ≡ symbol_shape_rule file.now }
     ensures links { OnOk result (IfSome (symbol_table file.now) (λ i. (section_header file.now i).link < e_shnum file.now)) }
@@ -96,7 +96,7 @@ pub fn symbol_entry(file: &Parts, i: u64, j: u64) -> SymbolEntry
 }
 
 /// The string table of the symbol table at a number.
-#[tactic(auto, unfolding(qed_model::specs::Elf::Rules::strings_of))]
+#[tactic(auto, unfolding(elf_files::specs::Rules::strings_of))]
 pub fn symbol_strings<'a>(file: &Parts<'a>, alloc: Global, i: u64) -> Strings<'a>
     requires below { i < e_shnum file.now }
     requires link { (section_header file.now i).link < e_shnum file.now }
@@ -107,7 +107,7 @@ pub fn symbol_strings<'a>(file: &Parts<'a>, alloc: Global, i: u64) -> Strings<'a
 }
 
 /// The name of a symbol of the table at a number; that of the null symbol is empty.
-#[tactic(auto, unfolding(qed_model::specs::Elf::Rules::symbol_name))]
+#[tactic(auto, unfolding(elf_files::specs::Rules::symbol_name))]
 pub fn symbol_name<'a>(file: &Parts<'a>, strings: &Strings<'a>, i: u64, j: u64) -> &'a [u8]
     requires below { i < e_shnum file.now }
     requires kind { (section_header file.now i).kind ≡ SHT_SYMTAB }

@@ -3,8 +3,8 @@ use Rattle.std.proofs.Common.{◌≡◌, ℕ, ◌+◌, ◌-◌, ◌^◌, ◌<◌
 use Rattle.std.proofs.lemmas.List.{length-replicate}
 use Rattle.elf_types.specs.declared.output.OutFile.{OutFile}
 use Rattle.qed_model.specs.Numbers.{field}
-use Rattle.qed_model.specs.Elf.Header.{e_type, e_machine, e_version, e_entry, e_phoff, e_shoff, e_flags, e_ehsize, e_phentsize, e_phnum, e_shnum}
-use Rattle.qed_model.specs.Elf.Fields.{e_class, e_encoding, e_ident_version, e_shentsize, e_shstrndx}
+use Rattle.elf_files.specs.Header.{e_type, e_machine, e_version, e_entry, e_phoff, e_shoff, e_flags, e_ehsize, e_phentsize, e_phnum, e_shnum}
+use Rattle.elf_files.specs.Fields.{e_class, e_encoding, e_ident_version, e_shentsize, e_shstrndx}
 use Rattle.qed_model.specs.Elf.Written.{fields_bytes, program_headers, segments_bytes}
 use Rattle.qed_model.specs.Elf.Layout.{own_bytes, symbols_bytes, entries_of, string_table, symbol_names, section_names, headers_bytes, headers_of, file_fields, start_of, own_place, symbols_place, strings_place, names_place, headers_place, tables_bytes, written}
 use Rattle.qed_model.proofs.Fields.{slice_index-field, field-fields_bytes, size_before, size_at, value_at}

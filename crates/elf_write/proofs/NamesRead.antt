@@ -2,7 +2,7 @@
 use Rattle.std.proofs.Common.{◌≡◌, ◌≢◌, ℕ, zero, suc, ◌+◌, ◌-◌, ◌<◌, false, eqb, List, [], ◌∷◌, ◌++◌, length, get_or, Some, refl, ◌∙◌, arith, length-append}
 use Rattle.std.proofs.lemmas.Bool.Decides.{nat_tests}
 use Rattle.std.proofs.lemmas.List.{get_or_append_left, get_or_at}
-use Rattle.qed_model.specs.Elf.Rules.{name_length, name_at, is_unended}
+use Rattle.elf_files.specs.Rules.{name_length, name_at, is_unended}
 use Rattle.qed_model.specs.Elf.Layout.{IsName, names_bytes, string_table}
 use Rattle.qed_model.proofs.BelowLaws.{first_found}
 use Rattle.elf_write.proofs.Stands.{Stands, stands_whole, stands_left, stands_right, stands_within, stands_slice, stands_item}

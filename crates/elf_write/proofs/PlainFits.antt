@@ -8,7 +8,8 @@ use Rattle.elf_types.specs.declared.output.OutFile.{OutFile}
 use Rattle.elf_types.specs.Abi.{has_alloc}
 use Rattle.qed_model.specs.Elf.Written.{offset_from}
 use Rattle.qed_model.specs.Elf.Layout.{written, string_table, symbol_names, own_bytes, own_place, symbols_place, strings_place, names_place, headers_place, section_names, is_inside, do_share, IsLoadable, IsPlaced}
-use Rattle.qed_model.proofs.Among.{Among, any_passing}
+use Rattle.qed_model.proofs.Among.{any_passing}
+use Rattle.qed_model.specs.Members.{Among}
 use Rattle.elf_write.proofs.Sizes.{length-written}
 use Rattle.elf_write.specs.Plain.{segment, section}
 

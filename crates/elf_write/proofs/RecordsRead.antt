@@ -6,8 +6,8 @@ use Rattle.elf_types.specs.declared.records.ProgramHeader.{ProgramHeader}
 use Rattle.elf_types.specs.declared.records.SectionHeader.{SectionHeader}
 use Rattle.elf_types.specs.declared.records.SymbolEntry.{SymbolEntry}
 use Rattle.qed_model.specs.Numbers.{field}
-use Rattle.qed_model.specs.Elf.Header.{e_phoff, e_shoff}
-use Rattle.qed_model.specs.Elf.Fields.{program_header, section_header, symbol_entry}
+use Rattle.elf_files.specs.Header.{e_phoff, e_shoff}
+use Rattle.elf_files.specs.Fields.{program_header, section_header, symbol_entry}
 use Rattle.qed_model.specs.Elf.Written.{fields_bytes, program_fields, program_headers, offset_from}
 use Rattle.qed_model.specs.Elf.Layout.{symbol_fields, symbol_bytes, symbols_bytes, section_fields, header_bytes, headers_bytes, alignment}
 use Rattle.qed_model.proofs.Fields.{slice_index-field, length-fields_bytes}

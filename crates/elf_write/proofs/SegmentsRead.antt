@@ -9,10 +9,10 @@ use Rattle.elf_types.specs.declared.file.Segment.{Segment}
 use Rattle.elf_types.specs.declared.records.ProgramHeader.{ProgramHeader}
 use Rattle.elf_types.specs.Abi.{is_load}
 use Rattle.qed_model.specs.Below.{first, sum_below, each}
-use Rattle.qed_model.specs.Elf.Header.{e_phnum}
-use Rattle.qed_model.specs.Elf.Fields.{program_header}
-use Rattle.qed_model.specs.Elf.Rules.{is_segment_outside, segment_place_rule, is_misshapen, segment_shape_rule, do_overlap, overlapped, segment_overlap_rule, file_size}
-use Rattle.qed_model.specs.Elf.File.{load_bytes, segment_of}
+use Rattle.elf_files.specs.Header.{e_phnum}
+use Rattle.elf_files.specs.Fields.{program_header}
+use Rattle.elf_files.specs.Rules.{is_segment_outside, segment_place_rule, is_misshapen, segment_shape_rule, do_overlap, overlapped, segment_overlap_rule, file_size}
+use Rattle.elf_files.specs.File.{load_bytes, segment_of}
 use Rattle.qed_model.specs.Elf.Written.{segments_bytes, offset_from, end_from}
 use Rattle.qed_model.specs.Elf.Layout.{IsLoadable, do_share}
 use Rattle.qed_model.proofs.BelowLaws.{first_none}

@@ -8,10 +8,10 @@ use Rattle.elf_types.specs.declared.output.OutFile.{OutFile}
 use Rattle.elf_types.specs.declared.records.SectionHeader.{SectionHeader}
 use Rattle.elf_types.specs.declared.records.SymbolEntry.{SymbolEntry}
 use Rattle.qed_model.specs.Below.{sum_below, each}
-use Rattle.qed_model.specs.Elf.Header.{e_shnum}
-use Rattle.qed_model.specs.Elf.Fields.{symbol_entry}
-use Rattle.qed_model.specs.Elf.Rules.{is_unended, name_at, section_bytes, strings_of, is_misnamed, symbols_rule, symbol_shape_rule, symbol_table, symbol_name, symbol_name_bytes}
-use Rattle.qed_model.specs.Elf.File.{symbol_of, symbols_at}
+use Rattle.elf_files.specs.Header.{e_shnum}
+use Rattle.elf_files.specs.Fields.{symbol_entry}
+use Rattle.elf_files.specs.Rules.{is_unended, name_at, section_bytes, strings_of, is_misnamed, symbols_rule, symbol_shape_rule, symbol_table, symbol_name, symbol_name_bytes}
+use Rattle.elf_files.specs.File.{symbol_of, symbols_at}
 use Rattle.qed_model.specs.Elf.Layout.{string_table, symbol_names, names_bytes, symbols_bytes, entry_with, entries_from, null_entry, entries_of, symtab_header, null_symbol, IsName, IsSymbol}
 use Rattle.qed_model.proofs.BelowLaws.{first_none}
 use Rattle.elf_write.specs.Widths.{SymbolFits}

@@ -12,10 +12,10 @@ use Rattle.elf_types.specs.declared.output.OutFile.{OutFile}
 use Rattle.elf_types.specs.declared.output.OutSection.{OutSection}
 use Rattle.elf_types.specs.declared.records.SectionHeader.{SectionHeader}
 use Rattle.qed_model.specs.Below.{sum_below, each, gather}
-use Rattle.qed_model.specs.Elf.Header.{e_phoff, e_shoff, e_phnum, e_shnum}
-use Rattle.qed_model.specs.Elf.Fields.{program_header, section_header}
-use Rattle.qed_model.specs.Elf.Rules.{magic_rule, header_rule, class_rule, encoding_rule, version_rule, file_type_rule, machine_rule, header_shape_rule, header_rules, program_table_rule, section_table_rule, table_rules, part_rules, section_strings, section_name, rela_fault, rela_shape_rule, file_size, counted_bytes, verdict}
-use Rattle.qed_model.specs.Elf.File.{section_of, relas_of, WithinReadLimits, IsReadAs}
+use Rattle.elf_files.specs.Header.{e_phoff, e_shoff, e_phnum, e_shnum}
+use Rattle.elf_files.specs.Fields.{program_header, section_header}
+use Rattle.elf_files.specs.Rules.{magic_rule, header_rule, class_rule, encoding_rule, version_rule, file_type_rule, machine_rule, header_shape_rule, header_rules, program_table_rule, section_table_rule, table_rules, part_rules, section_strings, section_name, rela_fault, rela_shape_rule, file_size, counted_bytes, verdict}
+use Rattle.elf_files.specs.File.{section_of, relas_of, WithinReadLimits, IsReadAs}
 use Rattle.qed_model.specs.Elf.Written.{program_headers}
 use Rattle.qed_model.specs.Elf.Layout.{IsWritable, IsName, names_bytes, string_table, symbol_names, section_names, table_names, symtab_name, strtab_name, shstrtab_name, first_global, headers_bytes, headers_of, null_header, symtab_header, strtab_header, shstrtab_header, start_of, own_place, headers_place, written}
 use Rattle.qed_model.specs.Elf.FileRead.{null_section, section_read, tables_read, file_read}

@@ -1,6 +1,6 @@
 //! The whole file.
 ghost use Rattle.std.specs.Prelude.{◌≡◌, IfOk, length};
-ghost use Rattle.qed_model.specs.Elf.File.{IsReadAs};
+ghost use Rattle.elf_files.specs.File.{IsReadAs};
 ghost use Rattle.qed_model.specs.Elf.FileRead.{file_read};
 ghost use Rattle.qed_model.specs.Elf.Layout.{IsWritable, written};
 

@@ -11,7 +11,8 @@ use Rattle.qed_model.specs.Machine.Table.{decode_of}
 use Rattle.qed_model.specs.Admission.CodeWords.{is_code, word_at, instruction_at}
 use Rattle.qed_model.specs.Admission.Test.{IsCodeWord, AreCodeWords}
 use Rattle.qed_model.specs.Admission.Leaders.{HasInstruction}
-use Rattle.qed_model.proofs.Among.{Among, among_of, contains_of, among-map, source_of}
+use Rattle.qed_model.proofs.Among.{among_of, contains_of, among-map, source_of}
+use Rattle.qed_model.specs.Members.{Among}
 
 -- ---- where an instruction stands is a code address
 code_of : (f : ElfFile) (a : ℕ) (i : Ins) (b : Bool) → is_code f a ≡ b → (if b then decode_of (word_at f a) else None) ≡ Some i → is_code f a ≡ true

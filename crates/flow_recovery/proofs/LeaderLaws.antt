@@ -4,23 +4,29 @@ use Rattle.std.specs.Prelude.{All, ◌==◌, ◌&&◌, ◌||◌, ◌↔◌, IsTr
 use Rattle.std.specs.List.{list_any}
 use Rattle.std.specs.BTreeSet.{BTreeSet}
 use Rattle.std.proofs.Math.Bool.{or_assoc}
-use Rattle.std.proofs.lemmas.Bool.{eqb-true, eq-eqb, lt-ltb, and_parts, and_from, or_cases, or_left, or_right}
+use Rattle.std.proofs.lemmas.Bool.{false≢true, eqb-true, eq-eqb, lt-ltb, and_parts, and_from, or_cases, or_left, or_right}
 use Rattle.std.proofs.lemmas.List.Elements.{All-contains}
 use Rattle.elf_types.specs.declared.file.ElfFile.{ElfFile}
 use Rattle.elf_types.specs.declared.file.Symbol.{Symbol}
 use Rattle.elf_types.specs.declared.file.Rela.{Rela}
 use Rattle.rv_isa.specs.Kind.{class_of}
+use Rattle.qed_model.specs.declared.options.Options.{Options}
+use Rattle.qed_model.specs.declared.options.Entries.{Entries}
+use Rattle.qed_model.specs.declared.options.Entries.TheVariants as entries
 use Rattle.qed_model.specs.declared.test.CodeWord.{CodeWord}
 use Rattle.qed_model.specs.declared.test.Test.{Test}
 use Rattle.qed_model.specs.Machine.Step.{target}
 use Rattle.qed_model.specs.Admission.Terms.{is_named, is_relocated, is_named_in}
-use Rattle.qed_model.specs.Admission.Leaders.{has_target, is_end, is_indirect, Begins, Entry, Target, After, Named, IsLeader, HasIndirect}
+use Rattle.qed_model.specs.Admission.Leaders.{has_target, is_end, is_indirect, Begins, Entry, Target, After, Named, Reached, IsLeader, HasIndirect}
+use Rattle.qed_model.specs.Admission.Reached.{is_reached}
 use Rattle.qed_model.specs.Admission.CodeWords.{is_code}
-use Rattle.qed_model.specs.Admission.Test.{AreCodeWords}
-use Rattle.qed_model.proofs.Among.{Among, contains_of, passing, any_passing}
+use Rattle.qed_model.specs.Admission.Test.{AreCodeWords, IsTestOf}
+use Rattle.qed_model.proofs.Among.{contains_of, passing, any_passing}
+use Rattle.qed_model.specs.Members.{Among}
 use Rattle.flow_recovery.specs.Sets.{holds, lists, Adds}
-use Rattle.flow_recovery.specs.Words.{leads_to, ends_before, begins_by, is_begun}
-use Rattle.flow_recovery.specs.Leaders.{IsCodeOf, AreLeaders}
+use Rattle.qed_model.proofs.OneTest.{reached_by}
+use Rattle.flow_recovery.specs.Words.{leads_to, ends_before, begins_by, is_begun, is_chosen, is_entered}
+use Rattle.flow_recovery.specs.Leaders.{AreLeaders}
 use Rattle.flow_recovery.proofs.CodeLaws.{word_code, code_word, standing_word, stands_word}
 
 -- ---- what was collected
@@ -40,25 +46,50 @@ collected entry words symbols relas s t u v w empty first begun by_symbols by_re
     ∙ or_assoc ((entry == a) || some) named relocated
     ∙ or_assoc (entry == a) some (named || relocated)
 
-alike : (named : BTreeSet ℕ) (test : ℕ → Bool) → ((a : ℕ) → holds named a ≡ test a) → (a : ℕ) (cs : List CodeWord) → list_any (λ c. (c.at == a) && holds named c.at) cs ≡ list_any (λ c. (c.at == a) && test c.at) cs
-alike named test same a [] = refl
-alike named test same a (c ∷ cs) =
-    ap (λ b. ((c.at == a) && b) || list_any (λ (d : CodeWord). (d.at == a) && holds named d.at) cs) (same c.at)
-    ∙ ap (λ b. ((c.at == a) && test c.at) || b) (alike named test same a cs)
+alike : (p q : ℕ → Bool) → ((a : ℕ) → p a ≡ q a) → (a : ℕ) (cs : List CodeWord) → list_any (λ c. (c.at == a) && p c.at) cs ≡ list_any (λ c. (c.at == a) && q c.at) cs
+alike p q same a [] = refl
+alike p q same a (c ∷ cs) =
+    ap (λ b. ((c.at == a) && b) || list_any (λ (d : CodeWord). (d.at == a) && p d.at) cs) (same c.at)
+    ∙ ap (λ b. ((c.at == a) && q c.at) || b) (alike p q same a cs)
 
 -- of a set of which nothing else is known, those of words
 pub of_words :
     (words : List CodeWord) (kept : BTreeSet ℕ) (named : BTreeSet ℕ) (test : ℕ → Bool)
     → ((a : ℕ) → holds named a ≡ test a) → ((a : ℕ) → holds kept a ≡ list_any (λ c. (c.at == a) && holds named c.at) words)
     → (a : ℕ) → holds kept a ≡ list_any (λ c. (c.at == a) && test c.at) words
-of_words words kept named test same each a = each a ∙ alike named test same a words
+of_words words kept named test same each a = each a ∙ alike (holds named) test same a words
+
+-- ---- JALR
+abbrev has_jalr : List CodeWord → Bool
+has_jalr code = list_any (λ c. is_indirect (class_of c.ins.kind)) code
+
+pub indirect_is : (f : ElfFile) (code : List CodeWord) (b : Bool) → AreCodeWords f code → b ≡ list_any (λ c. is_indirect (class_of c.ins.kind)) code → IsTrue b ↔ HasIndirect f
+indirect_is f code b words e = (
+  λ h. let p = passing (λ (c : CodeWord). is_indirect (class_of c.ins.kind)) code (sym e ∙ h) in (p.member.at, stands_word f code words is_indirect p.member p.among p.passes),
+  λ h. let w = standing_word f code words is_indirect h.0 h.1 in e ∙ any_passing (λ (c : CodeWord). is_indirect (class_of c.ins.kind)) w.word code w.among w.class,
+)
 
 -- ---- what begins a block
-abbrev is_named_by : ElfFile → ℕ → List CodeWord → ℕ → Bool
-is_named_by f entry code a = is_begun entry code f.symbols f.relas a
+only : (e : Entries) → is_chosen e ≡ true → e ≡ entries.Reached
+only entries.All e = absurd (false≢true e)
+only entries.Reached e = refl
 
-module _ (f : ElfFile) (entry : ℕ) (code : List CodeWord) (words : AreCodeWords f code) (same : entry ≡ f.entry) where
-  by_word : (c : CodeWord) (a : ℕ) → Among c code → begins_by c a ≡ true → Begins f a
+module _ (f : ElfFile) (o : Options) (t : Test) (told : IsTestOf f o t) where
+  abbrev code : List CodeWord
+  code = t.code
+
+  abbrev words : AreCodeWords f code
+  words = told.code
+
+  -- by the entry, the words, the symbols and the relocations
+  abbrev is_named_by : ℕ → Bool
+  is_named_by a = is_begun t.entry code f.symbols f.relas a
+
+  -- or because it is reached
+  abbrev is_found : ℕ → Bool
+  is_found a = is_named_by a || is_entered f o t a
+
+  by_word : (c : CodeWord) (a : ℕ) → Among c code → begins_by c a ≡ true → Begins f o a
   by_word c a m e =
       ⊎_elim
       (λ h.
@@ -70,75 +101,89 @@ module _ (f : ElfFile) (entry : ℕ) (code : List CodeWord) (words : AreCodeWord
       After c.at (stands_word f code words is_end c m p.0) (sym (eqb-true (c.at + 4) a q.1)))
       (or_cases (leads_to c a) (ends_before c a) e)
 
-  begun : (a : ℕ) → is_named_by f entry code a ≡ true → Begins f a
-  begun a e =
+  by_name : (a : ℕ) → is_named_by a ≡ true → Begins f o a
+  by_name a e =
       ⊎_elim
-      (λ h. Entry (sym (eqb-true entry a h) ∙ same))
+      (λ h. Entry (sym (eqb-true t.entry a h) ∙ told.entry))
       (λ h.
       ⊎_elim
       (λ k. let p = passing (λ c. begins_by c a) code k in by_word p.member a p.among p.passes)
       (λ k. Named k)
       (or_cases (list_any (λ c. begins_by c a) code) (is_named_in f a) h))
-      (or_cases (entry == a) (list_any (λ c. begins_by c a) code || is_named_in f a) e)
+      (or_cases (t.entry == a) (list_any (λ c. begins_by c a) code || is_named_in f a) e)
+
+  by_reach : (a : ℕ) → is_entered f o t a ≡ true → Begins f o a
+  by_reach a e =
+      let p = and_parts (is_chosen o.entries) (has_jalr code && is_reached f t a) e in
+      let q = and_parts (has_jalr code) (is_reached f t a) p.1 in
+      Reached (only o.entries p.0) ((indirect_is f code (has_jalr code) words refl).0 q.0) (record { test = t; told = told; reached = q.1 })
+
+  begun : (a : ℕ) → is_found a ≡ true → Begins f o a
+  begun a e = ⊎_elim (λ n. by_name a n) (λ r. by_reach a r) (or_cases (is_named_by a) (is_entered f o t a) e)
 
   -- ---- and the other way
-  by_any : (c : CodeWord) (a : ℕ) → Among c code → begins_by c a ≡ true → is_named_by f entry code a ≡ true
-  by_any c a m e = or_right (entry == a) (list_any (λ c. begins_by c a) code || is_named_in f a) (or_left (list_any (λ c. begins_by c a) code) (is_named_in f a) (any_passing (λ c. begins_by c a) c code m e))
+  by_any : (c : CodeWord) (a : ℕ) → Among c code → begins_by c a ≡ true → is_found a ≡ true
+  by_any c a m e =
+      or_left (is_named_by a) (is_entered f o t a)
+      (or_right (t.entry == a) (list_any (λ c. begins_by c a) code || is_named_in f a) (or_left (list_any (λ c. begins_by c a) code) (is_named_in f a) (any_passing (λ c. begins_by c a) c code m e)))
 
-  named : (a : ℕ) → a < 2 ^ 64 → Begins f a → is_named_by f entry code a ≡ true
-  named a lt (Entry e) = or_left (entry == a) (list_any (λ c. begins_by c a) code || is_named_in f a) (eq-eqb entry a (same ∙ sym e))
-  named a lt (Target i s e) =
+  found : (a : ℕ) → a < 2 ^ 64 → Begins f o a → is_found a ≡ true
+  found a lt (Entry e) =
+      or_left (is_named_by a) (is_entered f o t a) (or_left (t.entry == a) (list_any (λ c. begins_by c a) code || is_named_in f a) (eq-eqb t.entry a (told.entry ∙ sym e)))
+  found a lt (Target i s e) =
       let w = standing_word f code words has_target i s in
       let is : target w.word.ins w.word.at ≡ a = ap (λ x. target x w.word.at) (sym w.instruction) ∙ ap (λ x. target s.instruction x) (sym w.at) ∙ sym e in
       by_any w.word a w.among (or_left (leads_to w.word a) (ends_before w.word a) (and_from (has_target (class_of w.word.ins.kind)) (target w.word.ins w.word.at == a) w.class (eq-eqb (target w.word.ins w.word.at) a is)))
-  named a lt (After i s e) =
+  found a lt (After i s e) =
       let w = standing_word f code words is_end i s in
       let is : w.word.at + 4 ≡ a = ap (λ x. x + 4) (sym w.at) ∙ sym e in
       by_any w.word a w.among
       (or_right (leads_to w.word a) (ends_before w.word a)
       (and_from (is_end (class_of w.word.ins.kind)) (nat_lt a (2 ^ 64) && (w.word.at + 4 == a)) w.class
       (and_from (nat_lt a (2 ^ 64)) (w.word.at + 4 == a) (lt-ltb a (2 ^ 64) lt) (eq-eqb (w.word.at + 4) a is))))
-  named a lt (Named e) = or_right (entry == a) (list_any (λ c. begins_by c a) code || is_named_in f a) (or_right (list_any (λ c. begins_by c a) code) (is_named_in f a) e)
+  found a lt (Named e) =
+      or_left (is_named_by a) (is_entered f o t a) (or_right (t.entry == a) (list_any (λ c. begins_by c a) code || is_named_in f a) (or_right (list_any (λ c. begins_by c a) code) (is_named_in f a) e))
+  found a lt (Reached e h r) =
+      or_right (is_named_by a) (is_entered f o t a)
+      (and_from (is_chosen o.entries) (has_jalr code && is_reached f t a) (ap is_chosen e)
+      (and_from (has_jalr code) (is_reached f t a) ((indirect_is f code (has_jalr code) words refl).1 h) (reached_by f o t a told r)))
 
   -- ---- those of the code
   module _ (small : All (λ c. c.at < 2 ^ 64) code) where
     abbrev keeps : ℕ → CodeWord → Bool
-    keeps a c = (c.at == a) && is_named_by f entry code c.at
+    keeps a c = (c.at == a) && is_found c.at
 
-    leader : (a : ℕ) → list_any (keeps a) code ≡ true → IsLeader f a
+    leader : (a : ℕ) → list_any (keeps a) code ≡ true → IsLeader f o a
     leader a e =
         let p = passing (keeps a) code e in
-        let q = and_parts (p.member.at == a) (is_named_by f entry code p.member.at) p.passes in
+        let q = and_parts (p.member.at == a) (is_found p.member.at) p.passes in
         let at : p.member.at ≡ a = eqb-true p.member.at a q.0 in
         record {
           code = ap (is_code f) (sym at) ∙ word_code f code words p.member p.among;
-          begins = begun a (ap (is_named_by f entry code) (sym at) ∙ q.1);
+          begins = begun a (ap is_found (sym at) ∙ q.1);
         }
 
-    kept : (a : ℕ) → IsLeader f a → list_any (keeps a) code ≡ true
+    kept : (a : ℕ) → IsLeader f o a → list_any (keeps a) code ≡ true
     kept a l =
         let w = code_word f code words a l.code in
         let lt : a < 2 ^ 64 = subst (λ x. x < 2 ^ 64) (sym w.at) (All-contains (λ (c : CodeWord). c.at < 2 ^ 64) code w.word small (contains_of w.word code w.among)) in
         any_passing (keeps a) w.word code w.among
-        (and_from (w.word.at == a) (is_named_by f entry code w.word.at) (eq-eqb w.word.at a (sym w.at)) (ap (is_named_by f entry code) (sym w.at) ∙ named a lt l.begins))
+        (and_from (w.word.at == a) (is_found w.word.at) (eq-eqb w.word.at a (sym w.at)) (ap is_found (sym w.at) ∙ found a lt l.begins))
 
-    leaders_are : (leaders : BTreeSet ℕ) → ((a : ℕ) → holds leaders a ≡ list_any (keeps a) code) → AreLeaders f leaders
+    leaders_are : (leaders : BTreeSet ℕ) → ((a : ℕ) → holds leaders a ≡ list_any (keeps a) code) → AreLeaders f o leaders
     leaders_are leaders each = record { exact = λ a. (λ e. leader a (sym (each a) ∙ e), λ l. each a ∙ kept a l) }
 
--- the same of lists that are those of the test and of the file
+-- the same of lists that are those of the test and of the file, in which what is named and what is reached were listed
 pub leaders_found :
-    (f : ElfFile) (test : Test) (words : List CodeWord) (symbols : List Symbol) (relas : List Rela) (leaders : BTreeSet ℕ)
-    → words ≡ test.code → symbols ≡ f.symbols → relas ≡ f.relas → IsCodeOf f test
-    → All (λ c. c.at < 2 ^ 64) words → ((a : ℕ) → holds leaders a ≡ list_any (λ c. (c.at == a) && is_begun test.entry words symbols relas c.at) words)
-    → AreLeaders f leaders
-leaders_found f test words symbols relas leaders code by_symbols by_relas is small each =
-    leaders_are f test.entry words (subst (AreCodeWords f) (sym code) is.code) is.entry small leaders
-    (subst (λ rs. (a : ℕ) → holds leaders a ≡ list_any (λ (c : CodeWord). (c.at == a) && is_begun test.entry words f.symbols rs c.at) words) by_relas
-    (subst (λ ss. (a : ℕ) → holds leaders a ≡ list_any (λ (c : CodeWord). (c.at == a) && is_begun test.entry words ss relas c.at) words) by_symbols each))
-
--- ---- JALR
-pub indirect_is : (f : ElfFile) (code : List CodeWord) (b : Bool) → AreCodeWords f code → b ≡ list_any (λ c. is_indirect (class_of c.ins.kind)) code → IsTrue b ↔ HasIndirect f
-indirect_is f code b words e = (
-  λ h. let p = passing (λ (c : CodeWord). is_indirect (class_of c.ins.kind)) code (sym e ∙ h) in (p.member.at, stands_word f code words is_indirect p.member p.among p.passes),
-  λ h. let w = standing_word f code words is_indirect h.0 h.1 in e ∙ any_passing (λ (c : CodeWord). is_indirect (class_of c.ins.kind)) w.word code w.among w.class,
-)
+    (f : ElfFile) (o : Options) (t : Test) (listed : List CodeWord) (symbols : List Symbol) (relas : List Rela) (u v : List ℕ) (leaders : BTreeSet ℕ)
+    → listed ≡ t.code → symbols ≡ f.symbols → relas ≡ f.relas → IsTestOf f o t → All (λ c. c.at < 2 ^ 64) listed
+    → ((a : ℕ) → lists u a ≡ is_begun t.entry listed symbols relas a) → Adds u v (is_entered f o t)
+    → ((a : ℕ) → holds leaders a ≡ list_any (λ c. (c.at == a) && lists v c.at) listed) → AreLeaders f o leaders
+leaders_found f o t listed symbols relas u v leaders code by_symbols by_relas told small named entered each =
+    leaders_are f o t told (subst (All (λ (c : CodeWord). c.at < 2 ^ 64)) code small) leaders
+    (λ a. each a ∙ ap (λ ws. list_any (λ (c : CodeWord). (c.at == a) && lists v c.at) ws) code ∙ alike (lists v) (is_found f o t told) found_in a t.code) where
+      found_in : (a : ℕ) → lists v a ≡ is_found f o t told a
+      found_in a =
+          entered.each a
+          ∙ ap (λ b. b || is_entered f o t a)
+          (named a ∙ ap (λ ws. is_begun t.entry ws symbols relas a) code ∙ ap (λ ss. is_begun t.entry t.code ss relas a) by_symbols ∙ ap (λ rs. is_begun t.entry t.code f.symbols rs a) by_relas)

@@ -9,7 +9,7 @@ use Rattle.rv_isa.specs.declared.kind.Kind.TheVariants.{Auipc, Addi, Jalr, Ecall
 use Rattle.qed_model.specs.declared.test.CodeWord.{CodeWord}
 use Rattle.qed_model.specs.declared.test.Test.{Test}
 use Rattle.qed_model.specs.Machine.Table.{ins}
-use Rattle.flow_recovery.specs.Reached.{leads, once, twice, made_by, is_reached}
+use Rattle.qed_model.specs.Admission.Reached.{leads, once, twice, made_by, is_reached}
 
 -- constants at 4144 and 4097, a linking jump to 4116, and ends; `word` is not looked at
 abbrev code_from : ℕ → List Ins → List CodeWord

@@ -1,4 +1,3 @@
 pub mod Sets
 pub mod Words
 pub mod Leaders
-pub mod Reached

@@ -1,12 +1,18 @@
--- Where blocks begin, by lists of words, symbols and relocations.
-use Rattle.std.specs.Prelude.{ℕ, ◌+◌, ◌^◌, ◌==◌, ◌&&◌, ◌||◌, Bool, nat_lt, List}
+-- Where blocks begin, by lists of words, symbols and relocations, and by what is reached.
+use Rattle.std.specs.Prelude.{ℕ, ◌+◌, ◌^◌, ◌==◌, ◌&&◌, ◌||◌, Bool, true, false, nat_lt, List}
 use Rattle.std.specs.List.{list_any}
 use Rattle.elf_types.specs.declared.file.Symbol.{Symbol}
 use Rattle.elf_types.specs.declared.file.Rela.{Rela}
+use Rattle.elf_types.specs.declared.file.ElfFile.{ElfFile}
 use Rattle.rv_isa.specs.Kind.{class_of}
+use Rattle.qed_model.specs.declared.options.Options.{Options}
+use Rattle.qed_model.specs.declared.options.Entries.{Entries}
+use Rattle.qed_model.specs.declared.options.Entries.TheVariants as entries
 use Rattle.qed_model.specs.declared.test.CodeWord.{CodeWord}
+use Rattle.qed_model.specs.declared.test.Test.{Test}
 use Rattle.qed_model.specs.Machine.Step.{target}
-use Rattle.qed_model.specs.Admission.Leaders.{has_target, is_end}
+use Rattle.qed_model.specs.Admission.Leaders.{has_target, is_end, is_indirect}
+use Rattle.qed_model.specs.Admission.Reached.{is_reached}
 use Rattle.qed_model.specs.Admission.Terms.{is_named, is_relocated}
 
 -- the address is the target of the word
@@ -24,3 +30,12 @@ begins_by c a = leads_to c a || ends_before c a
 -- the address is the entry, or a word, a symbol or a relocation names it
 abbrev pub is_begun : ℕ → List CodeWord → List Symbol → List Rela → ℕ → Bool
 is_begun entry words symbols relas a = (entry == a) || (list_any (λ c. begins_by c a) words || (is_named symbols a || is_relocated symbols relas a))
+
+-- of other addresses those alone have entries that are reached
+abbrev pub is_chosen : Entries → Bool
+is_chosen entries.All = false
+is_chosen entries.Reached = true
+
+-- the address is such a one, and some word is a JALR
+abbrev pub is_entered : ElfFile → Options → Test → ℕ → Bool
+is_entered f o t a = is_chosen o.entries && (list_any (λ c. is_indirect (class_of c.ins.kind)) t.code && is_reached f t a)

@@ -2,7 +2,7 @@
 ghost use Rattle.std.specs.Prelude.{◌≡◌, ℕ, map, OnOk, IfOk};
 ghost use Rattle.std.specs.List.{list_any};
 ghost use Rattle.flow_recovery.specs.Sets.{holds, lists, Adds};
-ghost use Rattle.flow_recovery.specs.Reached.{links_to, is_reached};
+ghost use Rattle.qed_model.specs.Admission.Reached.{links_to, is_reached};
 
 use crate::classes::is_jump;
 use crate::constants::add_constants;
@@ -34,18 +34,30 @@ fn add_links(list: &mut Vec<u64>, words: &[CodeWord]) -> Result<(), AllocError>
     Ok(())
 }
 
-/// The addresses that are reached, where they are code.
+/// Adds the addresses that are reached, where they are code.
+pub(crate) fn add_reached(
+    list: &mut Vec<u64>,
+    test: &Test,
+    file: &ElfFile,
+) -> Result<(), AllocError>
+    ensures { OnOk result (Adds list.old.items list.new.items (is_reached file.now test.now)) }
+{
+    let (symbols, relas) = (file.symbols.as_slice(), file.relas.as_slice());
+    add(list, test.entry)?;
+    add_links(list, test.code.as_slice())?;
+    add_symbols(list, symbols)?;
+    add_relocations(list, symbols, relas)?;
+    add_data(list, test.base, test.segments.as_slice())?;
+    add_constants(list, test)?;
+    Ok(())
+}
+
+/// These addresses.
 fn listed(alloc: Global, test: &Test, file: &ElfFile) -> Result<Vec<u64>, AllocError>
     ensures { IfOk result (λ list. (a : ℕ) → lists list.items a ≡ is_reached file.now test.now a) }
 {
     let mut list = Vec::new(alloc);
-    let (symbols, relas) = (file.symbols.as_slice(), file.relas.as_slice());
-    add(&mut list, test.entry)?;
-    add_links(&mut list, test.code.as_slice())?;
-    add_symbols(&mut list, symbols)?;
-    add_relocations(&mut list, symbols, relas)?;
-    add_data(&mut list, test.base, test.segments.as_slice())?;
-    add_constants(&mut list, test)?;
+    add_reached(&mut list, test, file)?;
     Ok(list)
 }
 

@@ -5,7 +5,7 @@ ghost use Rattle.qed_model.specs.Machine.Values.{word as extended};
 ghost use Rattle.qed_model.specs.Admission.DataRanges.{range_of};
 ghost use Rattle.qed_model.specs.Admission.Terms.{is_in_any, is_code_address};
 ghost use Rattle.flow_recovery.specs.Sets.{Adds};
-ghost use Rattle.flow_recovery.specs.Reached.{words_in, offset_of, is_low_half, is_in_data, is_in_table, bytes_from, is_by_table};
+ghost use Rattle.qed_model.specs.Admission.Reached.{words_in, offset_of, is_low_half, is_in_data, is_in_table, bytes_from, is_by_table};
 
 use crate::sets::add;
 use elf_types::Segment;

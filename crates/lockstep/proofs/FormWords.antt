@@ -1,15 +1,12 @@
 -- Today's forms meet the laws of the words and of the entry, and so the promises of a plan follow from those of any weave.
-use Rattle.std.proofs.Common.{◌≡◌, ℕ, zero, suc, ◌+◌, ◌*◌, ◌≤◌, List, [], ◌∷◌, ◌++◌, length, refl, sym, ap, ◌∙◌, subst, arith}
-use Rattle.rv_isa.specs.declared.ins.Ins.{Ins}
-use Rattle.qed_model.specs.Machine.Step.{Known}
+use Rattle.std.proofs.Common.{◌≡◌, ℕ, zero, suc, ◌+◌, ◌*◌, ◌≤◌, List, [], ◌∷◌, ◌++◌, length, refl, ap, ◌∙◌, arith}
 use Rattle.std.proofs.Math.Nat.{mul-le-mul}
 use Rattle.qed_model.specs.Weave.Bounds.{visit_bound, word_bound}
 use Rattle.qed_model.specs.Admission.DataRanges.{word_count}
 use Rattle.weave_core.specs.Promise.{piece_of, start_of}
-use Rattle.qed_model.specs.Weave.Placed.{instructions_from}
 use Rattle.qed_model.specs.declared.item.Item.{Item}
 use Rattle.qed_model.specs.Weave.Blocks.{begins_at}
-use Rattle.qed_model.specs.Weave.Sequences.{Form, Block, compare, visit, prologue}
+use Rattle.qed_model.specs.Weave.Sequences.{Form, Block, compare, visit}
 use Rattle.weave_core.specs.KindItems.{MirrorsFit}
 use Rattle.weave_core.proofs.KindItems.{enter_items, end_items, prologue_items}
 use Rattle.weave_core.proofs.Landing.{land_enter, land_end, land_prologue}
@@ -21,10 +18,9 @@ use Rattle.qed_model.specs.declared.bounds.Bounds.{Bounds}
 use Rattle.qed_model.specs.Promise.Caught.{Caught}
 use Rattle.weave_core.specs.World.{World}
 use Rattle.weave_core.specs.Rows.{Mirrors}
-use Rattle.lockstep.specs.Closes.{Closes}
 use Rattle.weave_core.specs.WeavePromise.{PlanOf, OnlyCode, BoundsOf}
 use Rattle.weave_core.specs.WeaveForms.{weave_with, weave_of, ChecksLaws}
-use Rattle.weave_core.proofs.FormRows.{entries_same, lockstep_piece, both, both_steps, form_checks, rows_with, starts_with, form_rows, form_starts, new_plan}
+use Rattle.weave_core.proofs.FormRows.{lockstep_piece, both, both_steps, form_checks, rows_with, starts_with, form_rows, form_starts}
 use Rattle.lockstep.proofs.Promise.{weave_caught}
 use Rattle.lockstep.proofs.Cleaned.{weave_clean}
 
@@ -50,17 +46,10 @@ form_words form most m = words_with form most (compare ++ visit form.round form.
 pub caught_with :
     (f g : Program) (w : World) (most : ℕ) (checks : List Item) (first steps : ℕ) (blocks : List Block) (bounds : Bounds) → ChecksLaws w.form checks first steps
     → PlanOf f g w (weave_with w.form most checks first steps) blocks → Mirrors w → MirrorsFit w.form.far w.form.mirror
-    → OnlyCode f g w (weave_with w.form most checks first steps) blocks → 1 ≤ w.form.round → first + 17 ≤ steps
+    → OnlyCode f g w (weave_with w.form most checks first steps).code blocks → 1 ≤ w.form.round → first + 17 ≤ steps
     → BoundsOf w (weave_with w.form most checks first steps) bounds → Caught f g w.reached w.form.spans bounds
 caught_with f g w most checks first steps blocks bounds laws p law fit closed some room b =
     weave_caught f g w (weave_with w.form most checks first steps) blocks bounds p (rows_with w most checks first steps laws (begins_at blocks) law) (starts_with w most checks first steps laws (begins_at blocks) f g) (words_with w.form most checks first steps laws fit) closed some (omega arith) (omega (arith, room)) b
-
--- a plan's code is all code
-pub closed_in : (f g : Program) (w : World) (most : ℕ) (blocks : List Block) → Closes f g w blocks → OnlyCode f g w (weave_of w.form most) blocks
-closed_in f g w most blocks closes = record {
-  only = subst (λ l. (a : ℕ) (i : Ins) → w.code a ≡ Known i → (k : ℕ) × (a ≡ g.entry + 4 * k) × (a ≤ g.entry + 4 * length (instructions_from w.form.far w.entry g.entry (prologue w.distance w.form.spans f.entry ++ l)))) (sym (entries_same w.form most blocks)) closes.only;
-  stubbed = closes.stubbed;
-}
 
 -- the visits of a piece take ten steps at least
 pub visits_ten : (spans : List (ℕ × ℕ)) (n : ℕ) → 1 ≤ n → 10 ≤ visit_bound (word_count spans) (length spans) * n
@@ -86,10 +75,10 @@ bounds_in w most bounds b = record {
 pub plan_caught : PlanCaught
 plan_caught f g w most blocks bounds p law closes some b =
     let ten = visits_ten w.form.spans w.form.round some in
-    caught_with f g w most (both w most) 0 (both_steps w most) blocks bounds (form_checks w.form) (new_plan w most f g blocks p) law closes.mirrors (closed_in f g w most blocks closes) some (omega (arith, ten)) (bounds_in w most bounds b)
+    caught_with f g w most (both w most) 0 (both_steps w most) blocks bounds (form_checks w.form) p law closes.mirrors closes.only some (omega (arith, ten)) (bounds_in w most bounds b)
 
 -- and the sweep lets none end silently
 pub plan_clean : PlanClean
 plan_clean f g w most blocks p law closes some sweeps =
     let ten = visits_ten w.form.spans w.form.round some in
-    weave_clean f g w (weave_of w.form most) blocks (new_plan w most f g blocks p) (form_rows w most (begins_at blocks) law) (form_starts w most (begins_at blocks) f g) (form_words w.form most closes.mirrors) (closed_in f g w most blocks closes) some (omega arith) (omega (arith, ten)) sweeps
+    weave_clean f g w (weave_of w.form most) blocks p (form_rows w most (begins_at blocks) law) (form_starts w most (begins_at blocks) f g) (form_words w.form most closes.mirrors) closes.only some (omega arith) (omega (arith, ten)) sweeps

@@ -21,23 +21,24 @@ use Rattle.qed_model.specs.Promise.Closed.{IsOpen}
 use Rattle.qed_model.specs.Promise.Kept.{Steady}
 use Rattle.qed_model.specs.Weave.Blocks.{begins_at}
 use Rattle.qed_model.specs.Weave.Bounds.{word_bound}
+use Rattle.qed_model.specs.Weave.Code.{sequences}
 use Rattle.qed_model.specs.Weave.Sequences.{Block}
 use Rattle.weave_core.specs.Lock.{span_bytes, Opens, HasKind, Loaded, Undisturbed}
-use Rattle.weave_core.specs.Plan.{Plan}
+use Rattle.weave_core.specs.WeavePromise.{PlanOf}
+use Rattle.weave_core.specs.WeaveForms.{weave_of}
 use Rattle.weave_core.specs.Rows.{Mirrors}
 use Rattle.weave_core.specs.Weave.{Weave, start_steps, stage_steps}
-use Rattle.weave_core.specs.WeaveForms.{weave_of}
 use Rattle.weave_core.specs.WeaveLaws.{Rows, Starts, Words}
 use Rattle.weave_core.specs.WeavePromise.{PlanOf, OnlyCode, BoundsOf}
 use Rattle.weave_core.specs.World.{World, AllBelow}
 use Rattle.weave_core.proofs.FormMirrors.{mirrors_of}
-use Rattle.weave_core.proofs.FormRows.{form_rows, form_starts, new_plan}
+use Rattle.weave_core.proofs.FormRows.{form_rows, form_starts}
 use Rattle.weave_core.proofs.Sized.{width_le}
 use Rattle.weave_core.proofs.TestKept as kept
 use Rattle.lockstep.specs.Closes.{Closes}
 use Rattle.lockstep.specs.InstructionFaults.{WritesOriginal, StoresOriginal, word_around, GivesAny, StoresAny, FoundOut, FaultsFound, InstructionFaultsAreCaught}
 use Rattle.lockstep.specs.Promise.{IsBoundsOf}
-use Rattle.lockstep.proofs.FormWords.{form_words, closed_in, visits_ten, bounds_in, plan_caught}
+use Rattle.lockstep.proofs.FormWords.{form_words, visits_ten, bounds_in, plan_caught}
 use Rattle.lockstep.proofs.Made.{changed_later}
 use Rattle.lockstep.proofs.Promise.{begins, quiet_run}
 use Rattle.lockstep.proofs.Runs.{run-last}
@@ -82,7 +83,7 @@ big_word (suc n) round first piece b h e =
     let m : 1 * 2 ≤ ((suc n + round - 1) / round + 2) * piece = mul-le-mul one h in
     omega (arith, is, m)
 
-module _ (f g : Program) (w : World) (v : Weave) (blocks : List Block) (plan : PlanOf f g w v blocks) (rows : Rows w v (begins_at blocks)) (starts : Starts f g w v (begins_at blocks)) (law : Words w.form.far v) (closes : OnlyCode f g w v blocks) (some : 1 ≤ v.round) (two : 2 ≤ v.leave_steps) (room : v.compare_steps + 17 ≤ v.piece_steps) (bounds : Bounds) (are_bounds : BoundsOf w v bounds) (caught : Caught f g w.reached w.form.spans bounds) (regs : List ℕ) (are : AreStartRegs regs) (n : ℕ) (i : Ins) (go : (run (start g regs) n).outcome ≡ Going) (at : next (run (start g regs) n) ≡ Known i) where
+module _ (f g : Program) (w : World) (v : Weave) (blocks : List Block) (plan : PlanOf f g w v blocks) (rows : Rows w v (begins_at blocks)) (starts : Starts f g w v (begins_at blocks)) (law : Words w.form.far v) (closes : OnlyCode f g w v.code blocks) (some : 1 ≤ v.round) (two : 2 ≤ v.leave_steps) (room : v.compare_steps + 17 ≤ v.piece_steps) (bounds : Bounds) (are_bounds : BoundsOf w v bounds) (caught : Caught f g w.reached w.form.spans bounds) (regs : List ℕ) (are : AreStartRegs regs) (n : ℕ) (i : Ins) (go : (run (start g regs) n).outcome ≡ Going) (at : next (run (start g regs) n) ≡ Known i) where
   abbrev u : State
   u = run (start g regs) n
 
@@ -172,14 +173,14 @@ module _ (f g : Program) (w : World) (v : Weave) (blocks : List Block) (plan : P
 
 -- ---- in a plan of a form
 pub plan_faults :
-    (f g : Program) (w : World) (most : ℕ) (blocks : List Block) (bounds : Bounds) → Plan f g w most blocks → Mirrors w → Closes f g w blocks → 1 ≤ w.form.round → IsBoundsOf w.form most bounds
+    (f g : Program) (w : World) (most : ℕ) (blocks : List Block) (bounds : Bounds) → PlanOf f g w (weave_of w.form most) blocks → Mirrors w → Closes f g w blocks → 1 ≤ w.form.round → IsBoundsOf w.form most bounds
     → FaultsFound f g w.reached w.form.spans bounds
 plan_faults f g w most blocks bounds p law closes some b = record {
   results = λ regs n i o are go at wr any steady. results f g w (weave_of w.form most) blocks plan rows starts words only some (omega arith) room bounds are_bounds caught regs are n i go at o wr any steady;
   stores = λ regs n x i o are go at so any bound steady. stores f g w (weave_of w.form most) blocks plan rows starts words only some (omega arith) room bounds are_bounds caught regs are n i go at o x so any bound steady;
 } where
   plan : PlanOf f g w (weave_of w.form most) blocks
-  plan = new_plan w most f g blocks p
+  plan = p
 
   rows : Rows w (weave_of w.form most) (begins_at blocks)
   rows = form_rows w most (begins_at blocks) law
@@ -190,8 +191,8 @@ plan_faults f g w most blocks bounds p law closes some b = record {
   words : Words w.form.far (weave_of w.form most)
   words = form_words w.form most closes.mirrors
 
-  only : OnlyCode f g w (weave_of w.form most) blocks
-  only = closed_in f g w most blocks closes
+  only : OnlyCode f g w (sequences w.form) blocks
+  only = closes.only
 
   room : (weave_of w.form most).compare_steps + 17 ≤ (weave_of w.form most).piece_steps
   room = let ten = visits_ten w.form.spans w.form.round some in omega (arith, ten)
@@ -204,9 +205,9 @@ plan_faults f g w most blocks bounds p law closes some b = record {
 
 -- ---- of each test
 pub instruction_faults_are_caught : InstructionFaultsAreCaught
-instruction_faults_are_caught input f o blocks words plan t told =
-    let loads = tests.loads_of input f o blocks words t in
-    let w = kept.w f o t.sound loads t.has.admitted blocks t.has.are words t.has.code t.few in
-    plan_faults (tests.input f o t.sound loads t.has.admitted blocks t.has.are words t.has.code t.few) (tests.output f o t.sound loads t.has.admitted blocks t.has.are words t.has.code t.few) w o.inst_max blocks plan.bounds
-    (kept.plan f o t.sound loads t.has.admitted blocks t.has.are words t.has.code t.few)
-    (mirrors_of o.diverse w refl refl) (tests.closes f o t.sound loads t.has.admitted blocks t.has.are words t.has.code t.few) t.sound.visits (tests.told_bounds f o blocks plan told)
+instruction_faults_are_caught f o blocks words plan t told reached aims =
+    let loads = t.file.loads in
+    let w = kept.w f o t.sound loads t.admitted blocks t.are words t.code t.few reached aims in
+    plan_faults (tests.input f o t.sound loads t.admitted blocks t.are words t.code t.few reached aims) (tests.output f o t.sound loads t.admitted blocks t.are words t.code t.few reached aims) w o.inst_max blocks plan.bounds
+    (kept.plan f o t.sound loads t.admitted blocks t.are words t.code t.few reached aims)
+    (mirrors_of o.diverse w refl refl) (tests.closes f o t.sound loads t.admitted blocks t.are words t.code t.few reached aims) t.sound.visits (tests.told_bounds f o blocks plan told)

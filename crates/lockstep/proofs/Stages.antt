@@ -13,7 +13,8 @@ use Rattle.weave_core.specs.Blocks.{Full}
 use Rattle.weave_core.specs.Rows.{At, Sourced}
 use Rattle.weave_core.proofs.Source.{source_run, not_trapped_le, steady_le}
 use Rattle.weave_core.proofs.Leaves.{no_code}
-use Rattle.weave_core.specs.Weave.{Weave, pieces_of, body_of}
+use Rattle.weave_core.specs.Weave.{Weave}
+use Rattle.qed_model.specs.Weave.Code.{body_of, pieces_of}
 use Rattle.weave_core.specs.WeaveLaws.{PiecesAt, EntriesAt, Stands, stops, Left, Onward, lands, is_lost, Rows, Checked, Swept}
 use Rattle.weave_core.proofs.Visit.{checked_behind}
 use Rattle.weave_core.proofs.Trace.{none_run, one_run, full_rest}
@@ -22,7 +23,7 @@ module _ (w : World) (v : Weave) (leader : ℕ → Bool) (rows : Rows w v leader
   -- ---- boundaries: an entry, or behind a piece
   pub data Bounded (x s : State) : Type 0 where
     entering : Stands w leader x s → Sourced w s → Bounded x s
-    behind : (more : List (List Ins)) (end : End) → At w x (body_of v more end s.pc) s s → Sourced w s → PiecesAt w v leader more end s.pc → Full more end → Bounded x s
+    behind : (more : List (List Ins)) (end : End) → At w x (body_of v.code more end s.pc) s s → Sourced w s → PiecesAt w v leader more end s.pc → Full more end → Bounded x s
 
   pub bounded_going : (x s : State) → Bounded x s → x.outcome ≡ Going
   bounded_going x s (entering st so) = st.over.going
@@ -62,7 +63,7 @@ module _ (w : World) (v : Weave) (leader : ℕ → Bool) (rows : Rows w v leader
 
   -- through a piece
   piece_stage :
-      (p : List Ins) (ps : List (List Ins)) (e : End) (u s : State) → At w u (body_of v (p ∷ ps) e s.pc) s s → Sourced w s
+      (p : List Ins) (ps : List (List Ins)) (e : End) (u s : State) → At w u (body_of v.code (p ∷ ps) e s.pc) s s → Sourced w s
       → PiecesAt w v leader (p ∷ ps) e s.pc → Full (p ∷ ps) e → NotTrapped (run s (length p)) → Staged u s 0
   piece_stage p ps e u s a so q f calm =
       let k = length p in
@@ -70,9 +71,9 @@ module _ (w : World) (v : Weave) (leader : ℕ → Bool) (rows : Rows w v leader
       let x = source_run w p k s (omega arith) q.0.fit so q.0.has calm in
       let there : t.pc ≡ s.pc + 4 * length p = x.pc in
       let far : s.pc + 4 * body_length (p ∷ ps) ≡ s.pc + 4 * length p + 4 * body_length ps = omega arith in
-      let rest = body_of v ps e (s.pc + 4 * length p) in
-      let a1 : At w u (v.piece p s.pc ++ (pieces_of v ps (s.pc + 4 * length p) ++ v.leave e (s.pc + 4 * body_length (p ∷ ps)))) s s = subst (λ l. At w u l s s) (append_assoc (v.piece p s.pc) (pieces_of v ps (s.pc + 4 * length p)) (v.leave e (s.pc + 4 * body_length (p ∷ ps)))) a in
-      let a2 : At w u (v.piece p s.pc ++ rest) s s = subst (λ k. At w u (v.piece p s.pc ++ (pieces_of v ps (s.pc + 4 * length p) ++ v.leave e k)) s s) far a1 in
+      let rest = body_of v.code ps e (s.pc + 4 * length p) in
+      let a1 : At w u (v.code.piece p s.pc ++ (pieces_of v.code ps (s.pc + 4 * length p) ++ v.code.leave e (s.pc + 4 * body_length (p ∷ ps)))) s s = subst (λ l. At w u l s s) (append_assoc (v.code.piece p s.pc) (pieces_of v.code ps (s.pc + 4 * length p)) (v.code.leave e (s.pc + 4 * body_length (p ∷ ps)))) a in
+      let a2 : At w u (v.code.piece p s.pc ++ rest) s s = subst (λ k. At w u (v.code.piece p s.pc ++ (pieces_of v.code ps (s.pc + 4 * length p) ++ v.code.leave e k)) s s) far a1 in
       let r = rows.piece p u s rest q.0 a2 so calm in
       let zero : v.compare_steps ≡ 0 + v.compare_steps = omega arith in
       record {
@@ -83,18 +84,18 @@ module _ (w : World) (v : Weave) (leader : ℕ → Bool) (rows : Rows w v leader
         slow = r.at_least;
         walk = r.walk;
         checked = subst (λ l. Checked w l v.round u r.steps r.to) zero r.is.1;
-        next = behind ps e (subst (λ k. At w r.to (body_of v ps e k) t t) (sym there) r.is.0) x.sourced (subst (λ k. PiecesAt w v leader ps e k) (sym there) q.1) (full_rest p ps e f);
+        next = behind ps e (subst (λ k. At w r.to (body_of v.code ps e k) t t) (sym there) r.is.0) x.sourced (subst (λ k. PiecesAt w v leader ps e k) (sym there) q.1) (full_rest p ps e f);
       }
 
   -- from an entry
   entry_stage : (u s : State) → Stands w leader u s → Sourced w s → NotTrapped (run s v.piece_steps) → Staged u s (v.enter_steps + 0)
   entry_stage u s st so calm =
       let b = entries s.pc st.leads in
-      let reads : Reads w.form.far w.code w.entry u.pc (v.enter s.pc ++ body_of v b.body b.end s.pc) = subst (λ a. Reads w.form.far w.code w.entry a (v.enter s.pc ++ body_of v b.body b.end s.pc)) (sym st.pc) b.reads.1 in
-      let r = rows.enter u s (body_of v b.body b.end s.pc) st b.good.low reads in
+      let reads : Reads w.form.far w.code w.entry u.pc (v.code.enter s.pc ++ body_of v.code b.body b.end s.pc) = subst (λ a. Reads w.form.far w.code w.entry a (v.code.enter s.pc ++ body_of v.code b.body b.end s.pc)) (sym st.pc) b.reads.1 in
+      let r = rows.enter u s (body_of v.code b.body b.end s.pc) st b.good.low reads in
       let p = b.good.some.0 in
       let ps = b.good.some.1 in
-      let at : At w r.to (body_of v (p ∷ ps) b.end s.pc) s s = subst (λ l. At w r.to (body_of v l b.end s.pc) s s) b.good.some.2 r.is.0 in
+      let at : At w r.to (body_of v.code (p ∷ ps) b.end s.pc) s s = subst (λ l. At w r.to (body_of v.code l b.end s.pc) s s) b.good.some.2 r.is.0 in
       let full : Full (p ∷ ps) b.end = subst (λ l. Full l b.end) b.good.some.2 b.good.full in
       let have : PiecesAt w v leader (p ∷ ps) b.end s.pc = subst (λ l. PiecesAt w v leader l b.end s.pc) b.good.some.2 b.good.pieces in
       let g = piece_stage p ps b.end r.to s at so have full (not_trapped_le s (length p) v.piece_steps (rows.short p have.0.one) calm) in
@@ -117,14 +118,14 @@ module _ (w : World) (v : Weave) (leader : ℕ → Bool) (rows : Rows w v leader
 
   -- from behind a piece
   behind_stage :
-      (ps : List (List Ins)) (e : End) (x s : State) → At w x (body_of v ps e s.pc) s s → Sourced w s → PiecesAt w v leader ps e s.pc → Full ps e
+      (ps : List (List Ins)) (e : End) (x s : State) → At w x (body_of v.code ps e s.pc) s s → Sourced w s → PiecesAt w v leader ps e s.pc → Full ps e
       → IsSteady w.reached s (2 + v.piece_steps) → Staged x s (v.leave_steps + v.enter_steps) ⊎ Finishes x
   behind_stage (p ∷ ps) e x s at so q f steady =
       let h = rows.short p q.0.one in
       inl (staged_more x s 0 (v.leave_steps + v.enter_steps) (omega arith) (piece_stage p ps e x s at so q f (not_trapped_le s (length p) (2 + v.piece_steps) (omega (arith, h)) steady.no_trap)))
   behind_stage [] e x s at so q f steady =
       let z : s.pc + 4 * 0 ≡ s.pc = omega arith in
-      let at0 : At w x (v.leave e s.pc) s s = subst (λ k. At w x (v.leave e k) s s) z at in
+      let at0 : At w x (v.code.leave e s.pc) s s = subst (λ k. At w x (v.code.leave e k) s s) z at in
       let o = one e in
       from_left (rows.leave (λ a l. rows.known a (entries a l)) e x s at0 so q (steady_le w.reached s (stops e) (2 + v.piece_steps) (omega (arith, o)) steady)) where
         one : (e : End) → stops e ≤ 1

@@ -10,6 +10,7 @@ use Rattle.qed_model.specs.declared.machine.Outcome.TheVariants.{Going, Ended, F
 use Rattle.qed_model.specs.declared.options.Options.{Options}
 use Rattle.qed_model.specs.declared.plan.Plan.{Plan}
 use Rattle.qed_model.specs.Admission.DataRanges.{data_ranges}
+use Rattle.qed_model.specs.Admission.Reached.{AreReached}
 use Rattle.qed_model.specs.Elf.FileRead.{file_read}
 use Rattle.qed_model.specs.Machine.Loading.{loaded_file}
 use Rattle.qed_model.specs.Machine.Memory.{put}
@@ -18,7 +19,7 @@ use Rattle.qed_model.specs.Machine.Step.{State, moved, stored, next_pc, place, K
 use Rattle.qed_model.specs.Machine.Values.{width_of}
 use Rattle.qed_model.specs.Promise.Caught.{Same}
 use Rattle.qed_model.specs.Promise.Changed.{IsDataWord}
-use Rattle.qed_model.specs.Promise.Kept.{after_output, Steady, any_address}
+use Rattle.qed_model.specs.Promise.Kept.{after_output, Steady}
 use Rattle.qed_model.specs.Weave.Places.{image_of}
 use Rattle.qed_model.specs.Weave.Sequences.{Block}
 use Rattle.qed_model.specs.Weave.Woven.{woven_file, IsToldOf}
@@ -73,5 +74,6 @@ pub record FaultsFound (f g : Program) (reached : ℕ → Bool) (spans : List (�
 -- of each test that was woven, with the bounds that are told of it
 abbrev pub InstructionFaultsAreCaught : Type 0
 InstructionFaultsAreCaught =
-    (input : List ℕ) (f : ElfFile) (o : Options) (blocks : List Block) (words : List ℕ) (plan : Plan) → IsWovenTest input f o blocks words → IsToldOf f o blocks plan
-    → FaultsFound (loaded_file f) (loaded_file (file_read (woven_file f o blocks words))) any_address (data_ranges (image_of f)) plan.bounds
+    (f : ElfFile) (o : Options) (blocks : List Block) (words : List ℕ) (plan : Plan) → IsWovenTest f o blocks words → IsToldOf f o blocks plan
+    → (reached : ℕ → Bool) → AreReached f o reached
+    → FaultsFound (loaded_file f) (loaded_file (file_read (woven_file f o blocks words))) reached (data_ranges (image_of f)) plan.bounds

@@ -15,7 +15,7 @@ use Rattle.qed_model.specs.Admission.Rules.{passes_at, is_mixed}
 use Rattle.qed_model.specs.Weave.OutputParts.{code_segment}
 use Rattle.qed_model.specs.Weave.OutputFile.{halves, table_segment, file_sections, file_of}
 use Rattle.qed_model.specs.Weave.Places.{image_of, half_of, code_place}
-use Rattle.qed_model.proofs.Among.{Among}
+use Rattle.qed_model.specs.Members.{Among}
 use Rattle.qed_model.proofs.Pairs.{every_all, among_every}
 use Rattle.qed_model.proofs.ImageLaws.{high_most}
 use Rattle.output_file.specs.Images.{IsImage, EndLow}

@@ -8,10 +8,10 @@ use Rattle.qed_model.specs.declared.range.Range.{Range}
 use Rattle.qed_model.specs.Admission.DataRanges.{range_of, rounded, is_data, data_segments, data_parts, data_ranges, is_in, is_in_any}
 use Rattle.qed_model.specs.Weave.OutputParts.{copied, copies}
 use Rattle.qed_model.specs.Weave.OutputFile.{other_segments, range_segment, original_half}
-use Rattle.qed_model.proofs.Among.{Among, among-kept, among-either, any_passing, passing, source_of}
-use Rattle.qed_model.proofs.Pairs.{Pairs, every_all, every_among, among_every}
+use Rattle.qed_model.proofs.Among.{among-kept, among-either, any_passing, passing, source_of, all_among}
+use Rattle.qed_model.specs.Members.{Among, Pairs}
+use Rattle.qed_model.proofs.Pairs.{every_all, every_among, among_every}
 use Rattle.qed_model.proofs.DataRangesLaws.{Spaced, spaced_from, in_from, in_parts, in_data}
-use Rattle.qed_model.proofs.ReadLoads.{all_among}
 use Rattle.qed_model.proofs.ImageLaws.{ordered_among}
 use Rattle.output_file.specs.Images.{IsImage, HasRoom, EndLow}
 use Rattle.output_file.specs.Runs.{run_segment}

@@ -14,8 +14,9 @@ use Rattle.qed_model.specs.Machine.Loading.{load_segment, load_segments}
 use Rattle.qed_model.specs.Admission.Terms.{is_in_image, image_segments}
 use Rattle.qed_model.specs.Admission.DataRanges.{range_of, rounded, do_meet, is_data, data_segments, data_parts, data_ranges, is_in, is_in_any}
 use Rattle.qed_model.specs.Admission.Rules.{passes_at, segment_range, is_mixed}
-use Rattle.qed_model.proofs.Among.{Among, among-filter, among-kept, among-map, any_passing, none_passing, place_of}
-use Rattle.qed_model.proofs.Pairs.{Pairs, pairs_all, every_among, among_every}
+use Rattle.qed_model.proofs.Among.{among-filter, among-kept, among-map, any_passing, none_passing, place_of}
+use Rattle.qed_model.specs.Members.{Among, Pairs}
+use Rattle.qed_model.proofs.Pairs.{pairs_all, every_among, among_every}
 use Rattle.qed_model.proofs.DataRangesLaws.{AllRoom, Spaced, spaced_data, spaced_from, in_from, in_parts, one_range, Inside, inside-joined}
 use Rattle.qed_model.proofs.ImageLaws.{among_load, image_parts, image_room}
 use Rattle.output_file.specs.Images.{AreSpaced, IsImage}

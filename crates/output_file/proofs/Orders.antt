@@ -9,9 +9,9 @@ use Rattle.std.proofs.lemmas.List.Sums.{sum_by-cons}
 use Rattle.std.proofs.lemmas.List.Sorted.{sum_by-IsPermutation, All-permutation, IsPermutation-sym}
 use Rattle.elf_types.specs.declared.file.Segment.{Segment}
 use Rattle.qed_model.specs.Weave.OutputFile.{insert_segment, in_order}
-use Rattle.qed_model.proofs.Among.{Among}
+use Rattle.qed_model.proofs.Among.{all_among}
+use Rattle.qed_model.specs.Members.{Among}
 use Rattle.qed_model.proofs.Pairs.{every_all, among_every}
-use Rattle.qed_model.proofs.ReadLoads.{all_among}
 use Rattle.qed_model.proofs.ImageLaws.{ordered_among, among-ordered}
 
 -- ---- members of a list in another order

@@ -13,7 +13,8 @@ use Rattle.qed_model.specs.Machine.Cells.{has, cell_at, cell_among, byte_among}
 use Rattle.qed_model.specs.Admission.DataRanges.{is_written, is_data, data_segments, data_ranges, is_in}
 use Rattle.qed_model.specs.Weave.OutputFile.{data_in, range_flags, file_end, range_bytes, range_segment}
 use Rattle.qed_model.proofs.BelowLaws.{length-each}
-use Rattle.qed_model.proofs.Among.{Among, among-filter, among-kept, any_passing, passing}
+use Rattle.qed_model.proofs.Among.{among-filter, among-kept, any_passing, passing}
+use Rattle.qed_model.specs.Members.{Among}
 use Rattle.qed_model.proofs.CellsAmong.{has_from, has_parts, found_among, among_agreed}
 use Rattle.qed_model.proofs.DataRangesLaws.{spaced_from, in_from, in_parts}
 use Rattle.qed_model.proofs.ImageLaws.{among_load, load_source}

@@ -50,15 +50,15 @@ blocks =
     ∷ record { start = 0x1000c; body = [] ∷ []; end = Stops jalr }
     ∷ []
 
-are_blocks : AreBlocks test 16 blocks
+are_blocks : AreBlocks test defaults blocks
 are_blocks =
-    made.are_blocks test 0x10000 all known 16 blocks refl refl (
-      inl (made.stopping test 0x10000 all known 16 [] [] jal (addi ∷ ecall ∷ jalr ∷ []) refl refl refl),
+    made.are_blocks test 0x10000 all known defaults refl blocks refl refl (
+      inl (made.stopping test 0x10000 all known defaults refl [] [] jal (addi ∷ ecall ∷ jalr ∷ []) refl refl refl),
       (
-        inl (made.stopping test 0x10000 all known 16 (jal ∷ []) ((addi ∷ []) ∷ []) ecall (jalr ∷ []) refl refl refl),
+        inl (made.stopping test 0x10000 all known defaults refl (jal ∷ []) ((addi ∷ []) ∷ []) ecall (jalr ∷ []) refl refl refl),
         (
-          inr (made.other test 0x10000 all known (jal ∷ addi ∷ []) ecall (jalr ∷ []) refl refl),
-          (inl (made.stopping test 0x10000 all known 16 (jal ∷ addi ∷ ecall ∷ []) [] jalr [] refl refl refl), tt),
+          inr (made.other test 0x10000 all known defaults refl (jal ∷ addi ∷ []) ecall (jalr ∷ []) refl refl),
+          (inl (made.stopping test 0x10000 all known defaults refl (jal ∷ addi ∷ ecall ∷ []) [] jalr [] refl refl refl), tt),
         ),
       ),
     )

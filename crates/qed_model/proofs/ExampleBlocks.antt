@@ -6,15 +6,18 @@ use Rattle.std.specs.List.{list_any}
 use Rattle.std.proofs.lemmas.Bool.{and_parts, eqb-true, eq-eqb, leb-true, ltb-true, or_cases, false≢true, not-true}
 use Rattle.elf_types.specs.declared.file.ElfFile.{ElfFile}
 use Rattle.rv_isa.specs.declared.ins.Ins.{Ins}
+use Rattle.qed_model.specs.declared.options.Options.{Options}
+use Rattle.qed_model.specs.declared.options.Entries.TheVariants as entries
 use Rattle.rv_isa.specs.Kind.{class_of}
 use Rattle.qed_model.specs.Machine.Step.{target}
 use Rattle.qed_model.specs.Admission.Terms.{is_named_in}
 use Rattle.qed_model.specs.Admission.CodeWords.{is_code, instruction_at}
-use Rattle.qed_model.specs.Admission.Leaders.{has_target, is_end, is_indirect, Begins, Entry, Target, After, Named, IsLeader, HasIndirect}
+use Rattle.qed_model.specs.Admission.Leaders.{has_target, is_end, is_indirect, Begins, Entry, Target, After, Named, Reached, IsLeader, HasIndirect}
 use Rattle.qed_model.specs.Weave.Sequences.{Block, End, Falls, Stops}
 use Rattle.qed_model.specs.Weave.Pieces.{is_run, Breaks, AreRuns, all_pieces, whole, ArePieces}
 use Rattle.qed_model.specs.Weave.Blocks.{IsBodyAt, StopsAt, IsLeaderBlock, IsOtherBlock, begins_at, AreBlocks}
-use Rattle.qed_model.proofs.Pairs.{Every, Pairs, every_all, pairs_all}
+use Rattle.qed_model.proofs.Pairs.{every_all, pairs_all}
+use Rattle.qed_model.specs.Members.{Pairs, Every}
 use Rattle.qed_model.proofs.ExampleCode.{StandFrom, IsCodeOf, IsAt, each_at, code_of, one_of, tested}
 
 -- ---- pieces
@@ -87,7 +90,8 @@ led a b i from (j ∷ js) m h =
 abbrev pub has_indirect : List Ins → Bool
 has_indirect code = list_any (λ (i : Ins). is_indirect (class_of i.kind)) code
 
-module _ (f : ElfFile) (from : ℕ) (code : List Ins) (known : IsCodeOf f from code) where
+-- where all code addresses have entries
+module _ (f : ElfFile) (from : ℕ) (code : List Ins) (known : IsCodeOf f from code) (o : Options) (all : o.entries ≡ entries.All) where
   -- ---- leaders
   abbrev pub is_begun : ℕ → Bool
   is_begun a = a == f.entry || (is_named_in f a || leads_to a from code)
@@ -95,7 +99,7 @@ module _ (f : ElfFile) (from : ℕ) (code : List Ins) (known : IsCodeOf f from c
   led_on : (a b : ℕ) (i : Ins) → instruction_at f b ≡ Some i → leads a b i ≡ true → is_begun a ≡ true
   led_on a b i h e = or_right (a == f.entry) (is_named_in f a || leads_to a from code) (or_right (is_named_in f a) (leads_to a from code) (led a b i from code (one_of f from code known b i h) e))
 
-  begun_of : (a : ℕ) → Begins f a → is_begun a ≡ true
+  begun_of : (a : ℕ) → Begins f o a → is_begun a ≡ true
   begun_of a (Entry e) = ap (λ b. b || (is_named_in f a || leads_to a from code)) (eq-eqb a f.entry e)
   begun_of a (Target i s e) =
       let j = s.instruction in
@@ -104,8 +108,11 @@ module _ (f : ElfFile) (from : ℕ) (code : List Ins) (known : IsCodeOf f from c
       let j = s.instruction in
       led_on a i j s.stands (or_right (has_target (class_of j.kind) && a == target j i) (is_end (class_of j.kind) && a == i + 4) (ap (λ b. b && a == i + 4) s.class ∙ eq-eqb a (i + 4) e))
   begun_of a (Named e) = or_right (a == f.entry) (is_named_in f a || leads_to a from code) (ap (λ b. b || leads_to a from code) e)
+  begun_of a (Reached only h r) = absurd (two_kinds (sym all ∙ only)) where
+    two_kinds : entries.All ≡ entries.Reached → ⊥
+    two_kinds e = cc
 
-  led_from : (a b : ℕ) (is : List Ins) → StandFrom f b is → leads_to a b is ≡ true → Begins f a
+  led_from : (a b : ℕ) (is : List Ins) → StandFrom f b is → leads_to a b is ≡ true → Begins f o a
   led_from a b [] s e = absurd (false≢true e)
   led_from a b (i ∷ is) s e =
       ⊎_elim
@@ -117,14 +124,14 @@ module _ (f : ElfFile) (from : ℕ) (code : List Ins) (known : IsCodeOf f from c
       (λ r. led_from a (b + 4) is s.1 r)
       (or_cases (leads a b i) (leads_to a (b + 4) is) e)
 
-  begins_of : (a : ℕ) → is_begun a ≡ true → Begins f a
+  begins_of : (a : ℕ) → is_begun a ≡ true → Begins f o a
   begins_of a e =
       ⊎_elim
       (λ x. Entry (eqb-true a f.entry x))
       (λ x. ⊎_elim (λ n. Named n) (λ l. led_from a from code known.stand l) (or_cases (is_named_in f a) (leads_to a from code) x))
       (or_cases (a == f.entry) (is_named_in f a || leads_to a from code) e)
 
-  no_leader : (a : ℕ) → is_begun a ≡ false → IsLeader f a → ⊥
+  no_leader : (a : ℕ) → is_begun a ≡ false → IsLeader f o a → ⊥
   no_leader a e l = false≢true (sym e ∙ begun_of a l.begins)
 
   -- ---- parts of the code
@@ -158,7 +165,7 @@ module _ (f : ElfFile) (from : ℕ) (code : List Ins) (known : IsCodeOf f from c
       let at : b + 4 + 4 * k ≡ b + 4 * suc k = omega arith in
       ap is_begun (sym at) ∙ none_there is (b + 4) k (and_parts (not (is_begun b)) (none_begun (b + 4) is) e).1 (omega (arith, l))
 
-  inside_of : (body : List Ins) (b : ℕ) → is_closed b body ≡ true → (k : ℕ) → 1 ≤ k → k < length body → IsLeader f (b + 4 * k) → ⊥
+  inside_of : (body : List Ins) (b : ℕ) → is_closed b body ≡ true → (k : ℕ) → 1 ≤ k → k < length body → IsLeader f o (b + 4 * k) → ⊥
   inside_of [] b e k some l = absurd (omega (arith, l))
   inside_of (i ∷ is) b e zero some l = absurd (omega (arith, some))
   inside_of (i ∷ is) b e (suc k) some l =
@@ -167,7 +174,7 @@ module _ (f : ElfFile) (from : ℕ) (code : List Ins) (known : IsCodeOf f from c
 
   -- ---- the blocks of leaders
   -- what stands behind so many instructions, and the body behind it, up to a further instruction
-  module _ (most : ℕ) (front : List Ins) (runs : List (List Ins)) (i : Ins) (rest : List Ins) (split : code ≡ front ++ (whole runs ++ i ∷ rest)) (cut : are_runs runs ≡ true) where
+  module _ (front : List Ins) (runs : List (List Ins)) (i : Ins) (rest : List Ins) (split : code ≡ front ++ (whole runs ++ i ∷ rest)) (cut : are_runs runs ≡ true) where
     abbrev start : ℕ
     start = from + 4 * length front
 
@@ -188,8 +195,8 @@ module _ (f : ElfFile) (from : ℕ) (code : List Ins) (known : IsCodeOf f from c
     is_block = is_begun start && (no_end (whole runs) && is_closed start (whole runs))
 
     block_of :
-        (end : End) → is_block ≡ true → StopsAt f end (length (whole runs)) stop
-        → IsLeaderBlock f most (record { start = start; body = all_pieces most runs; end = end })
+        (end : End) → is_block ≡ true → StopsAt f o end (length (whole runs)) stop
+        → IsLeaderBlock f o (record { start = start; body = all_pieces o.inst_max runs; end = end })
     block_of end e stops =
         let p = and_parts (is_begun start) (no_end (whole runs) && is_closed start (whole runs)) e in
         let q = and_parts (no_end (whole runs)) (is_closed start (whole runs)) p.1 in
@@ -199,13 +206,13 @@ module _ (f : ElfFile) (from : ℕ) (code : List Ins) (known : IsCodeOf f from c
           stands = body_of (whole runs) (i ∷ rest) start part q.0;
           inside = inside_of (whole runs) start q.1;
           stops = stops;
-          pieces = pieces_of most runs cut;
+          pieces = pieces_of o.inst_max runs cut;
         }
 
     -- one that stops at an end
     pub stopping :
         is_block && (is_end (class_of i.kind) && (length (whole runs) == 0 || not (is_begun stop))) ≡ true
-        → IsLeaderBlock f most (record { start = start; body = all_pieces most runs; end = Stops i })
+        → IsLeaderBlock f o (record { start = start; body = all_pieces o.inst_max runs; end = Stops i })
     stopping e =
         let p = and_parts is_block (is_end (class_of i.kind) && (length (whole runs) == 0 || not (is_begun stop))) e in
         let q = and_parts (is_end (class_of i.kind)) (length (whole runs) == 0 || not (is_begun stop)) p.1 in
@@ -215,7 +222,7 @@ module _ (f : ElfFile) (from : ℕ) (code : List Ins) (known : IsCodeOf f from c
     -- one that falls to the next leader
     pub falling :
         is_block && (nat_le 1 (length (whole runs)) && is_begun stop) ≡ true
-        → IsLeaderBlock f most (record { start = start; body = all_pieces most runs; end = Falls })
+        → IsLeaderBlock f o (record { start = start; body = all_pieces o.inst_max runs; end = Falls })
     falling e =
         let p = and_parts is_block (nat_le 1 (length (whole runs)) && is_begun stop) e in
         let q = and_parts (nat_le 1 (length (whole runs))) (is_begun stop) p.1 in
@@ -231,11 +238,12 @@ module _ (f : ElfFile) (from : ℕ) (code : List Ins) (known : IsCodeOf f from c
   pub other :
       (front : List Ins) (i : Ins) (rest : List Ins) → code ≡ front ++ i ∷ rest
       → has_indirect code && (is_end (class_of i.kind) && not (is_begun (from + 4 * length front))) ≡ true
-      → IsOtherBlock f (record { start = from + 4 * length front; body = [] ∷ []; end = Stops i })
+      → IsOtherBlock f o (record { start = from + 4 * length front; body = [] ∷ []; end = Stops i })
   other front i rest split e =
       let p = and_parts (has_indirect code) (is_end (class_of i.kind) && not (is_begun (from + 4 * length front))) e in
       let q = and_parts (is_end (class_of i.kind)) (not (is_begun (from + 4 * length front))) p.1 in
       record {
+        all = all;
         indirect = indirect_in code from known.stand p.0;
         other = no_leader (from + 4 * length front) (not-true (is_begun (from + 4 * length front)) q.1);
         instruction = i;
@@ -257,13 +265,13 @@ module _ (f : ElfFile) (from : ℕ) (code : List Ins) (known : IsCodeOf f from c
   is_served blocks a = begins_at blocks a || not (is_begun a || has_indirect code)
 
   pub are_blocks :
-      (most : ℕ) (blocks : List Block) → do_ascend blocks ≡ true → each_at (λ a i. is_served blocks a) from code ≡ true
-      → Every (λ b. IsLeaderBlock f most b ⊎ IsOtherBlock f b) blocks → AreBlocks f most blocks
-  are_blocks most blocks ascend served every = record {
+      (blocks : List Block) → do_ascend blocks ≡ true → each_at (λ a i. is_served blocks a) from code ≡ true
+      → Every (λ b. IsLeaderBlock f o b ⊎ IsOtherBlock f o b) blocks → AreBlocks f o blocks
+  are_blocks blocks ascend served every = record {
     ascend = pairs_all (λ (b c : Block). b.start < c.start) blocks (ascends blocks ascend);
-    each = every_all (λ b. IsLeaderBlock f most b ⊎ IsOtherBlock f b) blocks every;
+    each = every_all (λ b. IsLeaderBlock f o b ⊎ IsOtherBlock f o b) blocks every;
     leaders = λ a l. by a l.code (ap (λ b. b || has_indirect code) (begun_of a l.begins));
-    others = λ h a e. by a e (or_right (is_begun a) (has_indirect code) (indirect_there h.0 h.1.instruction from code (one_of f from code known h.0 h.1.instruction h.1.stands) h.1.class));
+    others = λ z h a e. by a e (or_right (is_begun a) (has_indirect code) (indirect_there h.0 h.1.instruction from code (one_of f from code known h.0 h.1.instruction h.1.stands) h.1.class));
   } where
     by : (a : ℕ) → is_code f a ≡ true → is_begun a || has_indirect code ≡ true → begins_at blocks a ≡ true
     by a e b =

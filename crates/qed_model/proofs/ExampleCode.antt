@@ -8,6 +8,7 @@ use Rattle.std.proofs.lemmas.List.Elements.{Contains-get_or}
 use Rattle.elf_types.specs.declared.file.ElfFile.{ElfFile}
 use Rattle.rv_isa.specs.declared.ins.Ins.{Ins}
 use Rattle.qed_model.specs.declared.options.Options.{Options}
+use Rattle.qed_model.specs.declared.options.Entries.TheVariants as entries
 use Rattle.qed_model.specs.Machine.Table.{decode_of}
 use Rattle.qed_model.specs.Machine.Step.{target}
 use Rattle.qed_model.specs.Admission.Terms.{is_compressed, is_dynamic, is_code_address, high_register}
@@ -35,7 +36,7 @@ none_passes test (x ∷ xs) e (suc i) = none_passes test xs (neither (test x) (l
 -- ---- options
 -- where none is given, and with the sweep alone
 abbrev pub options : Bool → Options
-options sweep = record { inst_min = 4; inst_max = 16; round = 1; half = None; sweep = sweep; diverse = false }
+options sweep = record { inst_min = 4; inst_max = 16; round = 1; half = None; sweep = sweep; diverse = false; entries = entries.All }
 
 abbrev pub defaults : Options
 defaults = options false

@@ -20,7 +20,8 @@ use Rattle.qed_model.specs.Machine.Step.{target}
 use Rattle.qed_model.specs.Weave.Places.{image_of, half_of}
 use Rattle.qed_model.specs.Weave.Placed.{go_size}
 use Rattle.qed_model.specs.Weave.Roles.{joined, guard_parts, compare_parts, originals, original_as_parts, original_parts, mirror_parts, each_parts, last_of, check_parts, piece_parts, pieces_parts, end_parts, way_parts, leave_as_parts, leave_parts, entry_parts, entries_parts, parts_with, new_parts}
-use Rattle.qed_model.specs.Weave.Sequences.{Form, Block, End, Falls, Stops, guard, guards_of, compare, enter, visit, sweep, is_auipc, original, original_as, each_part, piece, pieces, links, leave_as, leave, body_length, entry_items, all_entries, prologue, stub}
+use Rattle.qed_model.specs.Weave.Sequences.{Form, Block, End, Falls, Stops, guard, guards_of, compare, enter, visit, sweep, is_auipc, original, original_as, each_part, piece, links, leave_as, leave, body_length, prologue, stub}
+use Rattle.qed_model.specs.Weave.Code.{block_items, entries_of, pieces_of, sequences}
 use Rattle.qed_model.specs.Weave.Woven.{form_of, is_far_code, new_items}
 
 joined_append : (ps qs : List (Role × List Item)) → joined (ps ++ qs) ≡ joined ps ++ joined qs
@@ -59,7 +60,7 @@ module _ (form : Form) where
       ∙ ap (λ l. each_part original is at ++ (l ++ joined c)) (each_joined (mirror_parts form) form.mirror (λ i k. append-nil (form.mirror i k)) is at)
       ∙ ap (λ l. each_part original is at ++ (each_part form.mirror is at ++ l)) (check_joined at (last_of is at))
 
-  pieces_joined : (ps : List (List Ins)) (at : ℕ) → joined (pieces_parts form ps at) ≡ pieces form ps at
+  pieces_joined : (ps : List (List Ins)) (at : ℕ) → joined (pieces_parts form ps at) ≡ pieces_of (sequences form) ps at
   pieces_joined [] at = refl
   pieces_joined (p ∷ ps) at =
       let rest = pieces_parts form ps (at + 4 * length p) in
@@ -132,19 +133,19 @@ module _ (form : Form) where
   leave_joined (Stops i) at = leave_as_joined (class_of i.kind) i at
 
   -- ---- all
-  entry_joined : (b : Block) → joined (entry_parts form b) ≡ entry_items form b
+  entry_joined : (b : Block) → joined (entry_parts form b) ≡ block_items (sequences form) b
   entry_joined b =
       let n = b.start + 4 * body_length b.body in
       ap (λ l. enter b.start ++ l)
       (joined_append (pieces_parts form b.body b.start) (leave_parts form b.end n) ∙ ap (λ l. l ++ joined (leave_parts form b.end n)) (pieces_joined form b.body b.start)
-      ∙ ap (λ l. pieces form b.body b.start ++ l) (leave_joined b.end n))
+      ∙ ap (λ l. pieces_of (sequences form) b.body b.start ++ l) (leave_joined b.end n))
 
-  entries_joined : (bs : List Block) → joined (entries_parts form bs) ≡ all_entries form bs
+  entries_joined : (bs : List Block) → joined (entries_parts form bs) ≡ entries_of (sequences form) bs
   entries_joined [] = refl
   entries_joined (b ∷ bs) =
-      joined_append (entry_parts form b) (entries_parts form bs) ∙ ap (λ l. l ++ joined (entries_parts form bs)) (entry_joined b) ∙ ap (λ l. entry_items form b ++ l) (entries_joined bs)
+      joined_append (entry_parts form b) (entries_parts form bs) ∙ ap (λ l. l ++ joined (entries_parts form bs)) (entry_joined b) ∙ ap (λ l. block_items (sequences form) b ++ l) (entries_joined bs)
 
-  with_joined : (distance entry : ℕ) (bs : List Block) → joined (parts_with distance entry form bs) ≡ prologue distance form.spans entry ++ (all_entries form bs ++ stub)
+  with_joined : (distance entry : ℕ) (bs : List Block) → joined (parts_with distance entry form bs) ≡ prologue distance form.spans entry ++ (entries_of (sequences form) bs ++ stub)
   with_joined distance entry bs =
       ap (λ l. prologue distance form.spans entry ++ l) (joined_append (entries_parts form bs) ((role.Stub, stub) ∷ []) ∙ ap (λ l. l ++ stub) (entries_joined bs))
 

@@ -1,9 +1,5 @@
--- ELF files for RISC-V: what bytes are one, why others are refused, and what is written.
-pub mod Header
-pub mod Fields
-pub mod Rules
-pub mod Refusals
-pub mod File
+-- ELF files for RISC-V: what is written, what is read of it, and what is true of each file that is read.
 pub mod Written
 pub mod Layout
 pub mod FileRead
+pub mod Sound

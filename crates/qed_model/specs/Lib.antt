@@ -1,5 +1,6 @@
 pub mod Numbers
 pub mod Below
+pub mod Members
 pub mod Limits
 pub mod Options
 pub mod Machine

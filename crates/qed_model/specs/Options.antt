@@ -1,7 +1,8 @@
 -- How a test is transformed where no option says otherwise.
 use Rattle.std.specs.Prelude.{false, None}
 use Rattle.qed_model.specs.declared.options.Options.{Options}
+use Rattle.qed_model.specs.declared.options.Entries.TheVariants as entries
 
--- 4 to 16 instructions in a piece, one visited word behind it, and the least distance of the halves
+-- 4 to 16 instructions in a piece, one visited word behind it, the least distance of the halves, and entries of all code addresses
 abbrev pub default_options : Options
-default_options = record { inst_min = 4; inst_max = 16; round = 1; half = None; sweep = false; diverse = false }
+default_options = record { inst_min = 4; inst_max = 16; round = 1; half = None; sweep = false; diverse = false; entries = entries.All }

@@ -3,7 +3,6 @@ ghost use Rattle.qed_model.specs.Admission.DataRanges.{DataRangesAreJoined};
 ghost use Rattle.qed_model.specs.Admission.Refusals.{AdmissionHasOneAnswer};
 ghost use Rattle.qed_model.specs.Machine.Operands.{OperandsGoByFormat};
 ghost use Rattle.qed_model.specs.Weave.Roles.{RolesCover};
-ghost use Rattle.qed_model.specs.Weave.Woven.{InputHasOneOutput};
 
 /// A file is admitted exactly where no rule holds; each other file is refused by one rule, at one place.
 pub fn admission_has_one_answer()
@@ -14,11 +13,6 @@ pub fn admission_has_one_answer()
 /// addresses of its data segments, rounded out to aligned words.
 pub fn data_ranges_are_joined()
     ensures { DataRangesAreJoined }
-{}
-
-/// With the same options the same bytes have one output.
-pub fn input_has_one_output()
-    ensures { InputHasOneOutput }
 {}
 
 /// Which registers an instruction reads and writes is what its format says, but for x0 and for FENCE, which name none.

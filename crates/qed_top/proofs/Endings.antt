@@ -16,7 +16,7 @@ use Rattle.command_line.specs.declared.order.Order.TheVariants as order
 use Rattle.command_line.specs.declared.order.Order.TheVariants.{Transform, Plan, Explain, Run, Campaign, Gen, Asm, Harts, Tell}
 use Rattle.command_line.specs.declared.order.Reason.{Reason}
 use Rattle.qed_model.specs.declared.plan.Plan as plan
-use Rattle.qed_model.specs.Elf.File.{IsReadAs}
+use Rattle.elf_files.specs.File.{IsReadAs}
 use Rattle.qed_model.specs.Limits.{limit_of}
 use Rattle.command_line.specs.Words.{asked}
 use Rattle.qed_model.specs.declared.role.Role.{Role}
@@ -48,8 +48,8 @@ use Rattle.qed_top.specs.declared.answer.Answer.{Answer}
 use Rattle.qed_top.specs.declared.answer.Stored.{Stored}
 use Rattle.qed_top.specs.declared.status.Status.{Status}
 use Rattle.qed_top.specs.declared.status.Status.TheVariants.{Done, Usage, Refused, Limit, ReadFault, WriteFault, Memory, Fired, Trapped, StepsSpent}
-use Rattle.qed_model.proofs.ReadFacts.{one_file}
-use Rattle.qed_model.proofs.AcceptanceLaws.{read_or_refused}
+use Rattle.elf_files.proofs.ReadFacts.{one_file}
+use Rattle.elf_files.proofs.AcceptanceLaws.{read_or_refused}
 use Rattle.transform.proofs.OneAnswer.{same_refusal, one_cause, memory_only, transformable_of}
 use Rattle.qed_top.proofs.Statuses.{error_refuses, refusal_refuses, Printed, refusal_printed, outcome_printed}
 use Rattle.qed_top.specs.Headline.{HoldsOver, Answers}

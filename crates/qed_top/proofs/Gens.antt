@@ -7,7 +7,7 @@ use Rattle.qed_model.specs.Elf.FileRead.{file_read}
 use Rattle.qed_model.specs.Machine.Loading.{loaded_file}
 use Rattle.qed_model.specs.Machine.Program.{start, zeros}
 use Rattle.qed_model.specs.Machine.Progress.{Progress, begun, progress}
-use Rattle.qed_model.proofs.ReadFacts.{one_file}
+use Rattle.elf_files.proofs.ReadFacts.{one_file}
 use Rattle.test_gen.specs.Ends.{HasEnded, test_steps}
 use Rattle.test_gen.proofs.Counted.{own_ended, output_ended}
 use Rattle.test_gen.proofs.Readable.{test_not_refused, test_not_denied}

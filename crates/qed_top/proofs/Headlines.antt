@@ -8,12 +8,9 @@ use Rattle.qed_model.specs.declared.options.Options.{Options}
 use Rattle.command_line.specs.declared.order.Order.{Order}
 use Rattle.command_line.specs.declared.order.Order.TheVariants.{Transform}
 use Rattle.command_line.specs.declared.order.Reason.{Reason}
-use Rattle.qed_model.specs.Admission.DataRanges.{range_of}
 use Rattle.qed_model.specs.Elf.FileRead.{file_read}
 use Rattle.qed_model.specs.Limits.{limit_of}
-use Rattle.qed_model.specs.Machine.Loading.{loaded_file}
 use Rattle.command_line.specs.Words.{asked}
-use Rattle.transform.specs.Transform.{Promised}
 use Rattle.qed_top.specs.Answer.{CallsFor, read_fault, too_long, within, FilesAfter}
 use Rattle.qed_top.specs.Loads.{Loads}
 use Rattle.qed_top.specs.Makes.{IsMade, Makes, refused, made, Delivers}
@@ -63,11 +60,6 @@ stored_of (Some s) None new output file h after = tt
 stored_of (Some s) (Some f) new output file h after = after ∙ ap Some ((λ i. insert f (h.0 i) (h.1 i)))
 
 module _ (call : Call) (files : Files) (input output : List ℕ) (o : Options) where
-  both :
-      (answer : Answer) (d : MadeOf input output o (file_bytes files input) answer)
-      → Promised (loaded_file d.1.made.woven.file.file) (loaded_file (file_read d.1.made.woven.out)) (map range_of d.1.plan.span) o d.1.plan
-  both answer d = d.1.made.promised d.1.made.woven.file.file (file_read d.1.made.woven.out) d.1.made.read.file d.1.made.reads.file
-
   promised_of : (answer : Answer) (d : MadeOf input output o (file_bytes files input) answer) → IsPromised (file_bytes files input) o d.1.file answer.text
   promised_of answer d = record {
     test = d.1.made.woven.file.file;
@@ -75,10 +67,7 @@ module _ (call : Call) (files : Files) (input output : List ℕ) (o : Options) w
     plan = d.1.plan;
     reads_test = d.1.made.read;
     reads_program = d.1.made.reads;
-    kept = (both answer d).kept;
-    landed = (both answer d).landed;
-    caught = (both answer d).caught;
-    clean = (both answer d).clean;
+    promises = d.1.made.promised d.1.made.woven.file.file (file_read d.1.made.woven.out) d.1.made.read.file d.1.made.reads.file;
     woven = d.1.made.woven;
     taken = d.0;
     within = d.1.made.within;

@@ -10,8 +10,7 @@ use Rattle.qed_io.specs.Files.{Files, file_bytes}
 use Rattle.qed_model.specs.declared.limits.Limit.TheVariants.{RunFileBytes}
 use Rattle.qed_model.specs.Machine.Apart.{AllFitMemory, AreApart}
 use Rattle.qed_model.specs.Machine.Loading.{load_segments}
-use Rattle.qed_model.proofs.BelowLaws.{length-each}
-use Rattle.qed_model.proofs.ReadFacts.{All-each}
+use Rattle.qed_model.proofs.BelowLaws.{length-each, All-each}
 use Rattle.qed_top.specs.Answer.{CallsFor, within}
 use Rattle.qed_top.specs.Loads.{Loads, OverFiles, OverLoads}
 use Rattle.qed_top.specs.Refused.{IsUnread}

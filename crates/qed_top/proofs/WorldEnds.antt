@@ -7,8 +7,8 @@ use Rattle.harts.specs.HartSteps.{Counted}
 use Rattle.harts.specs.Standing.{has_one, is_fired, is_going, is_trapped}
 use Rattle.qed_io.specs.Files.{file_bytes}
 use Rattle.qed_model.specs.declared.limits.Limit.TheVariants.{RunFileBytes}
-use Rattle.qed_model.proofs.AcceptanceLaws.{read_or_refused}
-use Rattle.qed_model.proofs.ReadFacts.{one_file}
+use Rattle.elf_files.proofs.AcceptanceLaws.{read_or_refused}
+use Rattle.elf_files.proofs.ReadFacts.{one_file}
 use Rattle.qed_top.specs.Answer.{StoreRose}
 use Rattle.qed_top.specs.Loads.{Loads}
 use Rattle.qed_top.specs.Refused.{error_status}

@@ -14,8 +14,8 @@ use Rattle.qed_model.specs.declared.options.Options.{Options}
 use Rattle.command_line.specs.declared.order.Order.{Order}
 use Rattle.command_line.specs.declared.order.Order.TheVariants as order
 use Rattle.command_line.specs.declared.order.Order.TheVariants.{Transform, Plan, Explain, Run, Campaign, Gen, Asm, Harts, Tell}
-use Rattle.qed_model.specs.Elf.File.{IsReadAs}
-use Rattle.qed_model.specs.Elf.Refusals.{IsRefused}
+use Rattle.elf_files.specs.File.{IsReadAs}
+use Rattle.elf_files.specs.Refusals.{IsRefused}
 use Rattle.qed_model.specs.Limits.{limit_of}
 use Rattle.command_line.specs.Words.{asked}
 use Rattle.qed_top.specs.Answer.{FilesAfter, FilesInPart, StoreRose, ShelfSteady}

@@ -1,5 +1,5 @@
 -- The headline: what the top call promises of both files when `transform IN OUT` is done.
-use Rattle.std.specs.Prelude.{◌≡◌, ◌≤◌, ℕ, List, length, map, true, Some, Ok, IfSome}
+use Rattle.std.specs.Prelude.{◌≡◌, ◌≤◌, ℕ, Bool, List, length, map, Some, Ok, IfSome}
 use Rattle.std.specs.FinMap.{insert}
 use Rattle.std.specs.Io.KnownBytes.{Appends}
 use Rattle.elf_types.specs.declared.file.ElfFile.{ElfFile}
@@ -8,30 +8,25 @@ use Rattle.qed_model.specs.declared.limits.Limit.TheVariants.{FileBytes}
 use Rattle.qed_model.specs.declared.options.Options.{Options}
 use Rattle.command_line.specs.declared.order.Order.TheVariants.{Transform}
 use Rattle.qed_model.specs.declared.plan.Plan.{Plan}
-use Rattle.qed_model.specs.Elf.File.{IsReadAs}
+use Rattle.elf_files.specs.File.{IsReadAs}
 use Rattle.qed_model.specs.Limits.{limit_of}
 use Rattle.qed_model.specs.Machine.Loading.{loaded_file}
-use Rattle.qed_model.specs.Admission.DataRanges.{range_of, word_count}
-use Rattle.qed_model.specs.Weave.Bounds.{end_bound}
-use Rattle.qed_model.specs.Weave.Woven.{Woven, IsWithin, IsToldOf}
-use Rattle.qed_model.specs.Promise.Kept.{any_address, Kept}
-use Rattle.qed_model.specs.Promise.Landed.{Landed}
-use Rattle.qed_model.specs.Promise.Caught.{Caught}
-use Rattle.qed_model.specs.Promise.Clean.{Clean}
+use Rattle.qed_model.specs.Admission.DataRanges.{range_of}
+use Rattle.qed_model.specs.Admission.Reached.{AreReached}
+use Rattle.qed_model.specs.Weave.Woven.{IsWithin, IsToldOf}
+use Rattle.elf_files.specs.Output.{Woven}
 use Rattle.command_line.specs.Text.Plan.{plan_line}
 use Rattle.command_line.specs.Words.{asked}
+use Rattle.transform.specs.Transform.{Promised}
 use Rattle.qed_top.specs.Ends.{Call, EndsOver, IsComplete}
 use Rattle.qed_top.specs.Loads.{Loads, OverLoads}
 use Rattle.qed_top.specs.declared.status.Status.{Status}
 use Rattle.qed_top.specs.declared.status.Status.TheVariants.{Done}
 
--- the steps of a sweep and what ends the test
-abbrev pub sweep_bound : List (ℕ × ℕ) → ℕ
-sweep_bound spans = end_bound true (length spans) (word_count spans)
-
 -- IN is a test and OUT a program that was woven from it, with these options, and both are within the limits. The program's run has the values of the test's run
 -- after each of its steps, and no check fires; a jump to a wrong entry fires; changes of original registers and of data words are
--- caught; with the sweep none is silent at the end. Any address may be reached, so this holds as far as the test does not trap. Bounds,
+-- caught; with the sweep none is silent at the end. This holds as far as the test does not trap, for any addresses that are reached; where only
+-- those have entries of which the file shows that they are, its jumps by register have to lead to these. Bounds,
 -- entries and data ranges are those of the woven plan, whose numbers the line tells: of its bounds those of a register and of a word.
 pub record IsPromised (input : List ℕ) (options : Options) (output line : List ℕ) : Type 0 where
   pub test : ElfFile
@@ -39,10 +34,9 @@ pub record IsPromised (input : List ℕ) (options : Options) (output line : List
   pub plan : Plan
   pub reads_test : IsReadAs input test
   pub reads_program : IsReadAs output program
-  pub kept : Kept (loaded_file test) (loaded_file program) any_address plan.bounds.start plan.bounds.piece
-  pub landed : Landed (loaded_file test) (loaded_file program) any_address plan.entries
-  pub caught : Caught (loaded_file test) (loaded_file program) any_address (map range_of plan.span) plan.bounds
-  pub clean : options.sweep ≡ true → Clean (loaded_file test) (loaded_file program) any_address (map range_of plan.span) (sweep_bound (map range_of plan.span))
+  pub promises :
+      (reached : ℕ → Bool) → AreReached test options reached
+      → Promised (loaded_file test) (loaded_file program) reached (map range_of plan.span) options plan
   pub woven : Woven input options output
   pub taken : length input ≤ limit_of FileBytes
   pub within : IsWithin woven.file.file options woven.file.blocks woven.out

@@ -7,7 +7,7 @@ use Rattle.qed_model.specs.declared.admit.AdmitError.TheVariants as admit
 use Rattle.qed_model.specs.declared.limits.Limit.TheVariants as limit
 use Rattle.qed_model.specs.declared.options.Options.{Options}
 use Rattle.qed_model.specs.Admission.Ends.{HasEnds}
-use Rattle.qed_model.specs.Elf.Refusals as Refusals
+use Rattle.elf_files.specs.Refusals as Refusals
 use Rattle.command_line.specs.Text.Errors.{error_line, limit_line}
 use Rattle.report.specs.Admission.{admit_line}
 use Rattle.transform.specs.declared.error.TransformError.{TransformError}

@@ -8,7 +8,7 @@ use Rattle.qed_model.specs.declared.change.Change.{Change}
 use Rattle.qed_model.specs.declared.limits.Limit.TheVariants as limit
 use Rattle.qed_model.specs.declared.machine.Outcome.{Outcome}
 use Rattle.qed_model.specs.declared.machine.Outcome.TheVariants as outcome
-use Rattle.qed_model.specs.Elf.File.{IsReadAs}
+use Rattle.elf_files.specs.File.{IsReadAs}
 use Rattle.qed_model.specs.Limits.{limit_of}
 use Rattle.qed_model.specs.Machine.Loading.{loaded_file}
 use Rattle.qed_model.specs.Machine.Program.{start, zeros}

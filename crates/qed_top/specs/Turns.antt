@@ -5,7 +5,7 @@ use Rattle.harts.specs.HartSteps.{Counted, counted_turns, cycled}
 use Rattle.qed_io.specs.Counts.{RoseAt}
 use Rattle.qed_io.specs.Files.{Files}
 use Rattle.qed_model.specs.declared.limits.Limit.TheVariants.{RunFileBytes}
-use Rattle.qed_model.specs.Elf.File.{IsReadAs}
+use Rattle.elf_files.specs.File.{IsReadAs}
 use Rattle.qed_model.specs.Limits.{limit_of}
 use Rattle.report.specs.World.{world_text}
 use Rattle.qed_top.specs.Answer.{PrintsOnly}

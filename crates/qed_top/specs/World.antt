@@ -9,8 +9,8 @@ use Rattle.harts.specs.Standing.{has_one, is_fired, is_going, is_trapped}
 use Rattle.qed_io.specs.Files.{file_bytes}
 use Rattle.qed_model.specs.declared.limits.Limit.TheVariants as limit
 use Rattle.qed_model.specs.Below.{each}
-use Rattle.qed_model.specs.Elf.File.{IsReadAs}
-use Rattle.qed_model.specs.Elf.Refusals.{IsRefused}
+use Rattle.elf_files.specs.File.{IsReadAs}
+use Rattle.elf_files.specs.Refusals.{IsRefused}
 use Rattle.qed_model.specs.Limits.{limit_of}
 use Rattle.command_line.specs.Text.Errors.{limit_line}
 use Rattle.report.specs.World.{shared_line, world_text}

@@ -7,7 +7,7 @@ ghost use Rattle.harts.specs.Shared.{AreSound};
 ghost use Rattle.qed_io.specs.Counts.{RoseAt, NoneFell};
 ghost use Rattle.qed_io.specs.Files.{file_bytes};
 ghost use Rattle.qed_model.specs.Below.{each};
-ghost use Rattle.qed_model.specs.Elf.File.{IsReadAs};
+ghost use Rattle.elf_files.specs.File.{IsReadAs};
 ghost use Rattle.qed_model.specs.Limits.{limit_of};
 ghost use Rattle.qed_model.specs.declared.limits.Limit.TheVariants.{RunFileBytes};
 ghost use Rattle.qed_model.specs.Machine.Apart.{AllFitMemory, AreApart};

@@ -17,7 +17,7 @@ use Rattle.qed_model.specs.Admission.DataRanges.{range_of, word_count}
 use Rattle.qed_model.specs.Below.{each}
 use Rattle.qed_model.specs.Promise.Caught.{bound_of}
 use Rattle.qed_model.specs.Promise.Changed.{has_word, is_word, with_change, in_order}
-use Rattle.qed_model.proofs.ReadFacts.{All-each}
+use Rattle.qed_model.proofs.BelowLaws.{All-each}
 use Rattle.ordered_changes.proofs.InOrder.{in_order_ordered}
 use Rattle.random_words.specs.Random.{seeded, drawn, next, after}
 use Rattle.random_words.proofs.Words.{after-more}

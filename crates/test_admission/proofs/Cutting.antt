@@ -18,9 +18,9 @@ use Rattle.qed_model.specs.Admission.Terms.{is_ragged, is_cut}
 use Rattle.qed_model.specs.Admission.DataRanges.{is_in, is_in_any, is_executed}
 use Rattle.qed_model.specs.Admission.Rules.{passes_at, is_misshapen_section, is_misshapen_segment, is_empty, section_range, segment_range}
 use Rattle.qed_model.specs.Admission.CodeWords.{loads_of, ranges_of}
-use Rattle.qed_model.proofs.Among.{Among, place_of}
+use Rattle.qed_model.proofs.Among.{place_of, all_among}
+use Rattle.qed_model.specs.Members.{Among}
 use Rattle.qed_model.proofs.ImageLaws.{among_load}
-use Rattle.qed_model.proofs.ReadLoads.{all_among}
 use Rattle.test_admission.specs.declared.stretches.Stretch.{Stretch}
 use Rattle.test_admission.specs.Read.{AreRead}
 use Rattle.test_admission.specs.Shape.{IsShaped}

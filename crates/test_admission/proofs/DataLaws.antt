@@ -12,7 +12,8 @@ use Rattle.qed_model.specs.Admission.DataRanges.{is_executed, rounded, do_meet, 
 use Rattle.qed_model.specs.Admission.Rules.{passes_at, is_mixed}
 use Rattle.qed_model.specs.Admission.Refusals.{IsFirstOf, IsRefusedBy}
 use Rattle.qed_model.specs.Weave.Places.{image_of}
-use Rattle.qed_model.proofs.Among.{Among, passing, any_passing}
+use Rattle.qed_model.proofs.Among.{passing, any_passing}
+use Rattle.qed_model.specs.Members.{Among}
 use Rattle.qed_model.proofs.DataRangesLaws.{Spaced, AllSome, AllRoom, in_from, in_parts, in_any-joined, spaced-joined}
 use Rattle.qed_model.proofs.ImageLaws.{image_room}
 use Rattle.test_admission.specs.declared.spans.Span.{Span}

@@ -17,7 +17,8 @@ use Rattle.qed_model.specs.Admission.CodeWords.{loads_of, ranges_of}
 use Rattle.qed_model.specs.Admission.Refusals.{IsAdmitted}
 use Rattle.qed_model.specs.Weave.OutputParts.{high_of}
 use Rattle.qed_model.specs.Weave.Places.{image_of}
-use Rattle.qed_model.proofs.Among.{Among, among-kept, source_of, passing, any_passing}
+use Rattle.qed_model.proofs.Among.{among-kept, source_of, passing, any_passing}
+use Rattle.qed_model.specs.Members.{Among}
 use Rattle.qed_model.proofs.DataRangesLaws.{spaced_data, spaced_from, in_data, in_from, in_parts}
 use Rattle.qed_model.proofs.ImageLaws.{load_source, image_room, in_image, high_most}
 use Rattle.test_admission.specs.declared.spans.Span.{Span}

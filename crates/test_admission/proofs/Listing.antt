@@ -13,7 +13,8 @@ use Rattle.qed_model.specs.Admission.DataRanges.{is_in, is_in_any}
 use Rattle.qed_model.specs.Admission.CodeWords.{loads_of, ranges_of, word_at, AreCodeAddresses}
 use Rattle.qed_model.specs.Admission.Refusals.{IsRefusedBy}
 use Rattle.qed_model.specs.Admission.Test.{IsCodeWord, AreCodeWords}
-use Rattle.qed_model.proofs.Among.{Among, among_of, contains_of, among-left, among-right, among-either}
+use Rattle.qed_model.proofs.Among.{among_of, contains_of, among-left, among-right, among-either}
+use Rattle.qed_model.specs.Members.{Among}
 use Rattle.qed_model.proofs.DataRangesLaws.{in_parts, in_from}
 use Rattle.qed_model.proofs.OneRefusal.{addresses_only}
 use Rattle.test_admission.specs.declared.rules.CodeRule.TheVariants as rule

@@ -9,7 +9,8 @@ use Rattle.qed_model.specs.Machine.Memory.{byte_in}
 use Rattle.qed_model.specs.Machine.Program.{LoadSegment}
 use Rattle.qed_model.specs.Machine.Loading.{load_segment, load_segments, lies_in_code}
 use Rattle.qed_model.specs.Machine.Cells.{has, cell_at, byte_among}
-use Rattle.qed_model.proofs.Among.{Among, among_of, place_of}
+use Rattle.qed_model.proofs.Among.{among_of, place_of}
+use Rattle.qed_model.specs.Members.{Among}
 use Rattle.qed_model.proofs.CellsAmong.{has_from, among_agreed}
 use Rattle.qed_model.proofs.ImageLaws.{among_load}
 use Rattle.test_admission.specs.Read.{AreRead}

@@ -13,7 +13,7 @@ use Rattle.qed_model.specs.Admission.Refusals.{HasFault}
 use Rattle.qed_model.specs.Admission.Ends.{HasEnds}
 use Rattle.qed_model.specs.Weave.OutputParts.{high_of}
 use Rattle.qed_model.specs.Weave.Places.{image_of}
-use Rattle.qed_model.proofs.Among.{Among}
+use Rattle.qed_model.specs.Members.{Among}
 use Rattle.qed_model.proofs.ImageLaws.{among_load, image_parts}
 use Rattle.test_admission.specs.Order.{IsCauseOf}
 

@@ -10,11 +10,11 @@ use Rattle.qed_model.specs.Machine.Cells.{has}
 use Rattle.qed_model.specs.Machine.Program.{LoadSegment}
 use Rattle.qed_model.specs.Machine.Loading.{load_segment}
 use Rattle.qed_model.specs.Admission.CodeWords.{loads_of}
-use Rattle.qed_model.proofs.Among.{Among}
+use Rattle.qed_model.specs.Members.{Among, Every}
 use Rattle.qed_model.proofs.CellsAmong.{has_parts}
 use Rattle.qed_model.proofs.Fields.{bytes_of_fit}
-use Rattle.qed_model.proofs.Pairs.{Every, every_among}
-use Rattle.qed_model.proofs.RangeSegments.{AreLoads}
+use Rattle.qed_model.proofs.Pairs.{every_among}
+use Rattle.qed_model.specs.Elf.Sound.{AreLoads}
 use Rattle.test_gen.specs.Code.{code}
 use Rattle.elf_write.specs.Plain.{segment}
 use Rattle.test_gen.specs.Generated.{word_of, code_bytes, table_bytes, data_bytes, function_at}

@@ -5,14 +5,14 @@ use Rattle.elf_types.specs.declared.output.OutFile.{OutFile}
 use Rattle.qed_model.specs.declared.machine.Outcome.TheVariants.{Going, Ended}
 use Rattle.qed_model.specs.Machine.Step.{State, step_at, step, run}
 use Rattle.qed_model.specs.Machine.Progress.{Progress, counted, steps_after, advanced, progress, begun}
-use Rattle.qed_model.specs.Elf.File.{IsReadAs}
+use Rattle.elf_files.specs.File.{IsReadAs}
 use Rattle.qed_model.specs.Elf.FileRead.{file_read}
 use Rattle.qed_model.specs.Elf.Layout.{written}
 use Rattle.qed_model.specs.Machine.Loading.{loaded_file}
 use Rattle.qed_model.specs.Machine.Program.{AreStartRegs, start, zeros}
 use Rattle.qed_model.specs.Options.{default_options}
-use Rattle.qed_model.specs.Weave.Woven.{WovenFile}
-use Rattle.qed_model.proofs.ExampleFile.{are_bytes}
+use Rattle.elf_files.specs.Output.{WovenFile}
+use Rattle.qed_model.proofs.Fields.{are_bytes}
 use Rattle.qed_model.proofs.Walk.{run-more}
 use Rattle.test_gen.specs.Ends.{EndsAfter, EndsWithin, HasEnded, test_steps}
 use Rattle.test_gen.specs.Generated.{generated}

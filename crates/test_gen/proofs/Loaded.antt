@@ -22,7 +22,7 @@ use Rattle.qed_model.proofs.Fetches.{IsShapely, known_instruction}
 use Rattle.qed_model.proofs.Fields.{field-number_bytes}
 use Rattle.qed_model.proofs.ImageLaws.{all_sized_among}
 use Rattle.qed_model.proofs.MemoryLaws.{grants_from}
-use Rattle.qed_model.proofs.RangeSegments.{AreLoads}
+use Rattle.qed_model.specs.Elf.Sound.{AreLoads}
 use Rattle.test_gen.specs.Code.{function, main, code}
 use Rattle.elf_write.specs.Plain.{segment}
 use Rattle.test_gen.specs.Generated.{function_at, table_bytes}

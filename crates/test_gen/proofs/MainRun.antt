@@ -19,7 +19,7 @@ use Rattle.qed_model.specs.Machine.Values.{value, holds, loaded}
 use Rattle.qed_model.specs.Machine.Step.{State, reg, moved, trapped, imm, target, place, result, computed_value, next, next_pc, step, execute, jumped, Fetched, Known, HasAt, fetched_at}
 use Rattle.qed_model.proofs.BelowLaws.{length-each}
 use Rattle.qed_model.proofs.MemoryLaws.{same_number}
-use Rattle.qed_model.proofs.Pairs.{Every}
+use Rattle.qed_model.specs.Members.{Every}
 use Rattle.qed_model.proofs.Steps.{grants-flags, step-class, step-compute, step-load}
 use Rattle.qed_model.proofs.Walked.{Walk, walk_one, walk_on}
 use Rattle.random_words.specs.Random.{random_word}

@@ -15,7 +15,8 @@ use Rattle.qed_model.specs.Machine.Table.{R, ins, fits_signed, word_of, encode_o
 use Rattle.qed_model.specs.Admission.Terms.{if_high, high_register}
 use Rattle.qed_model.specs.Admission.Rules.{is_ebreak}
 use Rattle.qed_model.specs.Weave.Sequences.{is_auipc}
-use Rattle.qed_model.proofs.Pairs.{Every, every-append}
+use Rattle.qed_model.proofs.Pairs.{every-append}
+use Rattle.qed_model.specs.Members.{Every}
 use Rattle.qed_model.proofs.Reach.{has_word, is_some-some_if, addi_word}
 use Rattle.random_words.specs.Random.{random_word}
 use Rattle.test_gen.specs.Code.{body_registers, register_from, body_forms, body_instruction, return, function, main, code}

@@ -6,11 +6,11 @@ use Rattle.elf_types.specs.declared.file.ElfFile.{ElfFile}
 use Rattle.qed_model.specs.declared.admit.AdmitError.{AdmitError}
 use Rattle.qed_model.specs.Options.{default_options}
 use Rattle.qed_model.specs.Admission.Refusals.{IsAdmitted, IsRefusedBy}
-use Rattle.qed_model.specs.Elf.File.{IsReadAs}
+use Rattle.elf_files.specs.File.{IsReadAs}
 use Rattle.qed_model.specs.Elf.FileRead.{file_read}
 use Rattle.qed_model.specs.Elf.Layout.{written}
-use Rattle.qed_model.specs.Elf.Refusals.{IsRefused}
-use Rattle.qed_model.proofs.AcceptanceLaws.{read_or_refused}
+use Rattle.elf_files.specs.Refusals.{IsRefused}
+use Rattle.elf_files.proofs.AcceptanceLaws.{read_or_refused}
 use Rattle.qed_model.proofs.AdmissionLaws.{no_fault}
 use Rattle.qed_model.proofs.Pairs.{every_all}
 use Rattle.elf_write.specs.Widths.{SegmentFits, SectionFits, SymbolFits}

@@ -15,7 +15,7 @@ use Rattle.qed_model.specs.Machine.Table.{decode_of}
 use Rattle.qed_model.specs.Machine.Values.{width_of, loaded}
 use Rattle.qed_model.specs.Machine.Step.{State, reg, moved, stored, imm, place, result, next, next_pc, in_range, Known, Refused, known_or, HasAt, fetched_at}
 use Rattle.qed_model.proofs.MemoryLaws.{same_number, get-put_outside, grants_from}
-use Rattle.qed_model.proofs.Pairs.{Every}
+use Rattle.qed_model.specs.Members.{Every}
 use Rattle.qed_model.proofs.Steps.{grants-flags, flags-put, step-compute, step-load, step-store}
 use Rattle.qed_model.proofs.Walked.{Walk, walk_none, walk_one, walk_on}
 

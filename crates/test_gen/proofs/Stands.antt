@@ -18,7 +18,7 @@ use Rattle.qed_model.specs.Weave.Sequences.{is_auipc}
 use Rattle.qed_model.proofs.CellsAmong.{has_from}
 use Rattle.qed_model.proofs.ExampleCode.{StandFrom, IsCodeOf, each_at, is_fine}
 use Rattle.qed_model.proofs.Fields.{length-number_bytes, length-bytes_of, field-number_bytes}
-use Rattle.qed_model.proofs.Pairs.{Every}
+use Rattle.qed_model.specs.Members.{Every}
 use Rattle.qed_model.proofs.Reach.{has_word}
 use Rattle.qed_model.proofs.Tables.{decode_encode}
 use Rattle.test_gen.specs.Generated.{word_of}

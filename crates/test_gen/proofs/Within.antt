@@ -24,7 +24,7 @@ use Rattle.qed_model.specs.Admission.DataRanges.{is_in, is_data, data_segments, 
 use Rattle.qed_model.specs.Admission.Refusals.{IsAdmitted}
 use Rattle.qed_model.specs.Admission.Terms.{is_code_address}
 use Rattle.qed_model.specs.Machine.Cells.{byte_among}
-use Rattle.qed_model.specs.Elf.File.{File}
+use Rattle.elf_files.specs.File.{File}
 use Rattle.qed_model.specs.Elf.FileRead.{file_read}
 use Rattle.qed_model.specs.Elf.Layout.{written, string_table, symbol_names, section_names, null_symbol}
 use Rattle.qed_model.specs.Weave.Blocks.{IsLeaderBlock, IsOtherBlock, AreBlocks}
@@ -32,14 +32,16 @@ use Rattle.qed_model.specs.Weave.OutputFile.{has_table, last_input, data_in, fil
 use Rattle.qed_model.specs.Weave.OutputParts.{copied, copies}
 use Rattle.qed_model.specs.Weave.Places.{AreSoundOptions, image_of, half_of, code_place}
 use Rattle.qed_model.specs.Weave.Sequences.{Block}
-use Rattle.qed_model.specs.Weave.Woven.{is_far_code, new_items, code_size, new_entries, IsNewCode, shape_of, woven_file, WovenFile, IsWithin}
+use Rattle.qed_model.specs.Weave.Woven.{is_far_code, new_items, code_size, new_entries, IsNewCode, shape_of, woven_file, IsWithin}
+use Rattle.elf_files.specs.Output.{WovenFile}
 use Rattle.qed_model.proofs.BelowLaws.{length-each}
 use Rattle.qed_model.proofs.Fetches.{IsShapely, instruction_code}
+use Rattle.qed_model.proofs.OneTest.{any_reached}
 use Rattle.qed_model.proofs.Fields.{length-bytes_of}
-use Rattle.qed_model.proofs.Pairs.{Every}
+use Rattle.qed_model.specs.Members.{Every}
 use Rattle.qed_model.proofs.PlacedWords.{size-decoded}
-use Rattle.qed_model.proofs.RangeSegments.{AreLoads}
-use Rattle.qed_model.proofs.ReadFacts.{one_file}
+use Rattle.qed_model.specs.Elf.Sound.{AreLoads}
+use Rattle.elf_files.proofs.ReadFacts.{one_file}
 use Rattle.qed_model.proofs.Steady.{steady_any}
 use Rattle.weave_core.proofs.FilesFit.{length-table}
 use Rattle.weave_core.proofs.Visit.{visit_some}
@@ -224,7 +226,7 @@ module _ (seed n x y z : ℕ) (some : 1 ≤ n) (few : n ≤ 1875) where
       )
 
   -- ---- the output, of these blocks
-  module _ (bs : List Block) (words : List ℕ) (are : AreBlocks f 16 bs) (new : IsNewCode f default_options bs words)
+  module _ (bs : List Block) (words : List ℕ) (are : AreBlocks f default_options bs) (new : IsNewCode f default_options bs words)
       (short : IsSmallCode f bs) where
     abbrev far : Bool
     far = is_far_code f default_options bs
@@ -238,12 +240,12 @@ module _ (seed n x y z : ℕ) (some : 1 ≤ n) (few : n ≤ 1875) where
     -- they begin at code addresses
     starts_few : Every (λ (b : Block). (0x10000 ≤ b.start) × (b.start < code_end)) bs
     starts_few =
-        every_better (λ b. IsLeaderBlock f 16 b ⊎ IsOtherBlock f b) (λ b. (0x10000 ≤ b.start) × (b.start < code_end)) bs
+        every_better (λ b. IsLeaderBlock f default_options b ⊎ IsOtherBlock f default_options b) (λ b. (0x10000 ≤ b.start) × (b.start < code_end)) bs
         (λ b g.
         let here = ⊎_elim (λ l. l.leader.code) (λ q. (instruction_code f shapely b.start q.instruction q.stands).0) g in
         let place = is_placed b.start here in
         (place.1, place.2))
-        (all_every (λ b. IsLeaderBlock f 16 b ⊎ IsOtherBlock f b) bs are.each)
+        (all_every (λ b. IsLeaderBlock f default_options b ⊎ IsOtherBlock f default_options b) bs are.each)
 
     inputs_are : map (λ (r : EntryRow). r.input) rows ≡ map (λ (b : Block). b.start) bs
     inputs_are = (kept.are_rows f default_options sound loads allowed bs are).inputs_are
@@ -309,7 +311,7 @@ module _ (seed n x y z : ℕ) (some : 1 ≤ n) (few : n ≤ 1875) where
     shape_here = shape_of f default_options far
 
     file_kept : Kept (loaded_file f) output any_address (start_steps shape_here) (piece_steps shape_here)
-    file_kept = kept.test_kept f default_options sound loads allowed bs are words new short
+    file_kept = kept.test_kept f default_options sound loads allowed bs are words new short any_address (any_reached f default_options refl)
 
     start_few : start_steps shape_here ≤ 33
     start_few = elim far as (λ b. start_bound b false 2 0 ≤ 33) [ true ↦ omega arith | false ↦ omega arith ]
@@ -345,7 +347,7 @@ record IsGood (f : ElfFile) (bs : List Block) (words : List ℕ) : Type 0 where
 
 abbrev AreGood : ElfFile → Type 0
 AreGood f =
-    (bs : List Block) (words : List ℕ) → AreBlocks f 16 bs → IsNewCode f default_options bs words → IsSmallCode f bs → IsGood f bs words
+    (bs : List Block) (words : List ℕ) → AreBlocks f default_options bs → IsNewCode f default_options bs words → IsSmallCode f bs → IsGood f bs words
 
 with_functions : (seed n : ℕ) → 1 ≤ n → n ≤ 1875 → AreGood (file_read (file_with seed n))
 unfolding file_with

@@ -7,7 +7,8 @@ use Rattle.qed_model.specs.Options.{default_options}
 use Rattle.qed_model.specs.Elf.FileRead.{file_read}
 use Rattle.qed_model.specs.Machine.Loading.{loaded_file}
 use Rattle.qed_model.specs.Machine.Program.{AreStartRegs, start}
-use Rattle.qed_model.specs.Weave.Woven.{code_size, WovenFile, IsWithin}
+use Rattle.qed_model.specs.Weave.Woven.{code_size, IsWithin}
+use Rattle.elf_files.specs.Output.{WovenFile}
 use Rattle.test_gen.specs.Ends.{EndsWithin}
 
 -- the most steps of an output: 33 of what runs first, and 123 of a piece for each of the 213,765 steps of the largest test and for one more

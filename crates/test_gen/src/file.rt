@@ -2,7 +2,7 @@
 ghost use Rattle.std.specs.Prelude.{◌≡◌, ◌<◌, ◌≤◌, IfOk, ℕ, List};
 ghost use Rattle.elf_types.specs.declared.file.ElfFile.{ElfFile};
 ghost use Rattle.qed_model.specs.Admission.Refusals.{IsAdmitted};
-ghost use Rattle.qed_model.specs.Elf.File.{IsReadAs};
+ghost use Rattle.elf_files.specs.File.{IsReadAs};
 ghost use Rattle.qed_model.specs.Elf.FileRead.{file_read};
 ghost use Rattle.qed_model.specs.Elf.Layout.{written};
 ghost use Rattle.qed_model.specs.Machine.Loading.{loaded_file};

@@ -6,6 +6,7 @@ use Rattle.std.proofs.lemmas.List.{take-append-drop, length-drop, length-map, ge
 use Rattle.std.proofs.lemmas.List.Sums.{sum_by-cons}
 use Rattle.std.proofs.lemmas.List.Elements.{All-nil, All-cons, All-head, All-tail}
 use Rattle.elf_types.specs.declared.file.ElfFile.{ElfFile}
+use Rattle.qed_model.specs.declared.options.Options.{Options}
 use Rattle.rv_isa.specs.declared.ins.Ins.{Ins}
 use Rattle.rv_isa.specs.declared.class.Class.{Class}
 use Rattle.rv_isa.specs.declared.class.Class.TheVariants as class
@@ -17,7 +18,6 @@ use Rattle.qed_model.specs.Admission.Test.{AreCodeWords}
 use Rattle.qed_model.specs.Weave.Pieces.{divided, whole}
 use Rattle.qed_model.specs.Weave.Blocks.{IsBodyAt, StopsAt, IsLeaderBlock, IsShort, IsOtherBlock}
 use Rattle.qed_model.proofs.PieceLaws.{pieces_whole}
-use Rattle.qed_model.proofs.ReadLoads.{read_loads}
 use Rattle.weave_core.specs.Blocks.{AllFit}
 use Rattle.weave_core.proofs.FileBlocks.{is_fence_class, IsKnownCode, low_instruction, fits_piece, body_fits}
 use Rattle.weave_core.proofs.TestKept as kept
@@ -48,19 +48,19 @@ module _ (f : ElfFile) (code : IsKnownCode f) where
   leaves : (a : ℕ) (i : Ins) → instruction_at f a ≡ Some i → is_end (class_of i.kind) ≡ true → FitsEnd (Some i)
   leaves a i h n = leaves_as a i h (class_of i.kind) refl n
 
-  stop_fits : (e : Option Ins) (n a : ℕ) → StopsAt f (end_of e) n a → FitsEnd e
-  stop_fits None n a s = tt
-  stop_fits (Some i) n a s = leaves a i s.0 s.1
+  stop_fits : (o : Options) (e : Option Ins) (n a : ℕ) → StopsAt f o (end_of e) n a → FitsEnd e
+  stop_fits o None n a s = tt
+  stop_fits o (Some i) n a s = leaves a i s.0 s.1
 
-  module _ (most top : ℕ) (some : 1 ≤ most) (small : top < 2 ^ 64) where
-    leader_fits : (b : CodeBlock) → IsWithin top b → IsLeaderBlock f most (block_of b) → FitsBlock b
+  module _ (o : Options) (top : ℕ) (some : 1 ≤ o.inst_max) (small : top < 2 ^ 64) where
+    leader_fits : (b : CodeBlock) → IsWithin top b → IsLeaderBlock f o (block_of b) → FitsBlock b
     leader_fits b w l =
-        let same : l.body ≡ b.body = sym (pieces_whole most l.body (divided b.lengths b.body) some l.pieces) ∙ pieces_make b.lengths b.body w.whole in
+        let same : l.body ≡ b.body = sym (pieces_whole o.inst_max l.body (divided b.lengths b.body) some l.pieces) ∙ pieces_make b.lengths b.body w.whole in
         let low = w.below in
         let fit : b.start + 4 * length b.body < 2 ^ 64 = omega (arith, low, small) in
         record {
           body = body_fits f code b.start b.body (subst (IsBodyAt f b.start) same l.stands);
-          end = stop_fits b.end (length b.body) (b.start + 4 * length b.body) (subst (λ is. StopsAt f (end_of b.end) (length is) (b.start + 4 * length is)) same l.stops);
+          end = stop_fits o b.end (length b.body) (b.start + 4 * length b.body) (subst (λ is. StopsAt f o (end_of b.end) (length is) (b.start + 4 * length is)) same l.stops);
           whole = w.whole;
           low = fit;
         }
@@ -73,20 +73,20 @@ module _ (f : ElfFile) (code : IsKnownCode f) where
         let same : [] ≡ b.body = sym (ap whole s.1) ∙ pieces_make b.lengths b.body w.whole in
         (subst AllFit same tt, subst (λ j. FitsEnd (Some j)) (sym s.2) (leaves b.start i h s.0))
 
-    other_fits : (b : CodeBlock) → IsWithin top b → IsOtherBlock f (block_of b) → FitsBlock b
+    other_fits : (b : CodeBlock) → IsWithin top b → IsOtherBlock f o (block_of b) → FitsBlock b
     other_fits b w q =
         let low = w.below in
         let p = short_fits b w q.instruction q.stands b.end q.short in
         record { body = p.0; end = p.1; whole = w.whole; low = omega (arith, low, small) }
 
-    all_fit : (bs : List CodeBlock) → All (IsWithin top) bs → All (λ b. IsLeaderBlock f most b ⊎ IsOtherBlock f b) (map block_of bs) → All FitsBlock bs
+    all_fit : (bs : List CodeBlock) → All (IsWithin top) bs → All (λ b. IsLeaderBlock f o b ⊎ IsOtherBlock f o b) (map block_of bs) → All FitsBlock bs
     all_fit [] w h = All-nil FitsBlock
     all_fit (b ∷ bs) w h =
-        let x = All-head (λ c. IsLeaderBlock f most c ⊎ IsOtherBlock f c) (block_of b) (map block_of bs) h in
+        let x = All-head (λ c. IsLeaderBlock f o c ⊎ IsOtherBlock f o c) (block_of b) (map block_of bs) h in
         let v = All-head (IsWithin top) b bs w in
         All-cons FitsBlock b bs
         (⊎_elim (λ l. leader_fits b v l) (λ q. other_fits b v q) x)
-        (all_fit bs (All-tail (IsWithin top) b bs w) (All-tail (λ c. IsLeaderBlock f most c ⊎ IsOtherBlock f c) (block_of b) (map block_of bs) h))
+        (all_fit bs (All-tail (IsWithin top) b bs w) (All-tail (λ c. IsLeaderBlock f o c ⊎ IsOtherBlock f o c) (block_of b) (map block_of bs) h))
 
 -- ---- all blocks of a test
 -- its words stand at code addresses
@@ -97,10 +97,10 @@ words_below f top code words reach k d lt =
     reach (get_or code k d).at ((words.addresses.all (get_or code k d).at).0 (k, n, get_or-map (λ (w : CodeWord). w.at) code k d (get_or code k d).at lt))
 
 pub blocks_fit : BlocksFit
-blocks_fit input f o code blocks t =
-    let bounds = kept.code_bounds f o t.sound (read_loads input f (record { fit = t.bytes }) t.read) t.admitted (map block_of blocks) t.are in
-    let top = (kept.is f o t.sound (read_loads input f (record { fit = t.bytes }) t.read) t.admitted (map block_of blocks) t.are).top in
+blocks_fit f o code blocks t =
+    let bounds = kept.code_bounds f o t.sound t.file.loads t.admitted (map block_of blocks) t.are in
+    let top = (kept.is f o t.sound t.file.loads t.admitted (map block_of blocks) t.are).top in
     let below : (a : ℕ) → is_code f a ≡ true → a + 4 ≤ 2 ^ 63 = λ a e. let b = bounds a e in omega (arith, b.1, top) in
     let some = t.sound.some in
     let room = t.sound.room in
-    all_fit f (kept.known f o t.sound (read_loads input f (record { fit = t.bytes }) t.read) t.admitted (map block_of blocks) t.are) o.inst_max (2 ^ 63) (omega (arith, some, room)) (omega arith) blocks (t.within (2 ^ 63) (words_below f (2 ^ 63) code t.words below)) t.are.each
+    all_fit f (kept.known f o t.sound t.file.loads t.admitted (map block_of blocks) t.are) o (2 ^ 63) (omega (arith, some, room)) (omega arith) blocks (t.within (2 ^ 63) (words_below f (2 ^ 63) code t.words below)) t.are.each

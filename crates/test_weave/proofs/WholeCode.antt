@@ -3,7 +3,8 @@ use Rattle.std.proofs.Common.{◌≡◌, List, [], ◌∷◌, ◌++◌, map, ref
 use Rattle.qed_model.specs.declared.range.Range.{Range}
 use Rattle.qed_model.specs.Admission.DataRanges.{range_of}
 use Rattle.qed_model.specs.Weave.Places.{image_of, half_of}
-use Rattle.qed_model.specs.Weave.Sequences.{prologue, all_entries, stub}
+use Rattle.qed_model.specs.Weave.Sequences.{prologue, stub}
+use Rattle.qed_model.specs.Weave.Code.{entries_of, sequences}
 use Rattle.qed_model.specs.Weave.Woven.{form_of}
 use Rattle.plc_rounds.specs.Spans.{spans_of}
 use Rattle.test_weave.specs.Form.{form_with, items_to_stub}
@@ -18,4 +19,4 @@ items_are_whole f o far span blocks e =
     let d = half_of o.half (image_of f) in
     let form = form_of f o far in
     ap (λ s. items_to_stub d f.entry (form_with s o far) blocks ++ stub) (spans_are span ∙ e)
-    ∙ append_assoc (prologue d form.spans f.entry) (all_entries form blocks) stub
+    ∙ append_assoc (prologue d form.spans f.entry) (entries_of (sequences form) blocks) stub

@@ -1,9 +1,9 @@
 -- The blocks of an admitted test can be woven.
-use Rattle.std.specs.Prelude.{ℕ, ◌+◌, ◌<◌, ◌≤◌, List, All, map, slice_index}
+use Rattle.std.specs.Prelude.{ℕ, ◌+◌, ◌≤◌, List, All, map}
 use Rattle.elf_types.specs.declared.file.ElfFile.{ElfFile}
 use Rattle.qed_model.specs.declared.options.Options.{Options}
 use Rattle.qed_model.specs.declared.test.CodeWord.{CodeWord}
-use Rattle.qed_model.specs.Elf.File.{File}
+use Rattle.qed_model.specs.Elf.Sound.{IsSound}
 use Rattle.qed_model.specs.Admission.Refusals.{IsAdmitted}
 use Rattle.qed_model.specs.Admission.Test.{AreCodeWords}
 use Rattle.qed_model.specs.Weave.Places.{AreSoundOptions}
@@ -12,16 +12,15 @@ use Rattle.block_list.specs.declared.block.CodeBlock.{CodeBlock}
 use Rattle.block_list.specs.Listed.{block_of, IsWithin}
 use Rattle.test_weave.specs.Fits.{FitsBlock}
 
--- the bytes are an admitted test with these words of its code, and these are its blocks, whose bodies are in pieces and go no further
+-- the file is an admitted test with these words of its code, and these are its blocks, whose bodies are in pieces and go no further
 -- than the words
-pub record IsTestInBlocks (input : List ℕ) (f : ElfFile) (o : Options) (code : List CodeWord) (blocks : List CodeBlock) : Type 0 where
-  pub bytes : (k : ℕ) → slice_index input k < 256
-  pub read : File input f
+pub record IsTestInBlocks (f : ElfFile) (o : Options) (code : List CodeWord) (blocks : List CodeBlock) : Type 0 where
+  pub file : IsSound f
   pub sound : AreSoundOptions o
   pub admitted : IsAdmitted f o
   pub words : AreCodeWords f code
-  pub are : AreBlocks f o.inst_max (map block_of blocks)
+  pub are : AreBlocks f o (map block_of blocks)
   pub within : (top : ℕ) → All (λ c. c.at + 4 ≤ top) code → All (IsWithin top) blocks
 
 abbrev pub BlocksFit : Type 0
-BlocksFit = (input : List ℕ) (f : ElfFile) (o : Options) (code : List CodeWord) (blocks : List CodeBlock) → IsTestInBlocks input f o code blocks → All FitsBlock blocks
+BlocksFit = (f : ElfFile) (o : Options) (code : List CodeWord) (blocks : List CodeBlock) → IsTestInBlocks f o code blocks → All FitsBlock blocks

@@ -2,7 +2,8 @@
 use Rattle.std.specs.Prelude.{ℕ, Bool, List, ◌++◌, is_some}
 use Rattle.qed_model.specs.declared.item.Item.{Item}
 use Rattle.qed_model.specs.declared.options.Options.{Options}
-use Rattle.qed_model.specs.Weave.Sequences.{Form, Block, prologue, all_entries}
+use Rattle.qed_model.specs.Weave.Sequences.{Form, Block, prologue}
+use Rattle.qed_model.specs.Weave.Code.{entries_of, sequences}
 use Rattle.qed_model.specs.Weave.Bounds.{cost_of}
 use Rattle.qed_model.specs.Weave.Woven.{mirror_of}
 use Rattle.test_weave.specs.declared.weaver.Weaver.{Weaver}
@@ -18,4 +19,4 @@ form w = record { spans = spans_in w.pieces; round = round_in w.pieces; far = w.
 
 -- the new code up to the stub: the prologue, and the entries of the blocks
 abbrev pub items_to_stub : ℕ → ℕ → Form → List Block → List Item
-items_to_stub d entry form blocks = prologue d form.spans entry ++ all_entries form blocks
+items_to_stub d entry form blocks = prologue d form.spans entry ++ entries_of (sequences form) blocks

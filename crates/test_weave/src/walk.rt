@@ -1,6 +1,7 @@
 //! The new code, one part after the other.
 ghost use Rattle.std.specs.Prelude.{◌≡◌, ◌+◌, ◌*◌, ◌^◌, ◌<◌, ◌++◌, All, OnOk, length, map};
-ghost use Rattle.qed_model.specs.Weave.Sequences.{prologue, enter, piece, pieces, leave, entry_items, all_entries};
+ghost use Rattle.qed_model.specs.Weave.Sequences.{prologue, enter, piece, leave};
+ghost use Rattle.qed_model.specs.Weave.Code.{block_items, entries_of, sequences, pieces_of};
 ghost use Rattle.qed_model.specs.Weave.Pieces.{divided};
 ghost use Rattle.weave_core.specs.Blocks.{AllFit};
 ghost use Rattle.block_list.specs.Listed.{block_of, end_of};
@@ -43,8 +44,8 @@ fn weave_pieces<S: ItemSink>(
     sink: &mut S,
 ) -> Result<(), AllocError>
     requires fits { FitsBlock block.now }
-    requires come { ComeNext (S.took sink.old) (pieces (form weaver.now) (divided block.now.lengths block.now.body) block.now.start) }
-    ensures { OnOk result (Takes (S.took sink.old) (S.took sink.new) (pieces (form weaver.now) (divided block.now.lengths block.now.body) block.now.start)) }
+    requires come { ComeNext (S.took sink.old) (pieces_of (sequences (form weaver.now)) (divided block.now.lengths block.now.body) block.now.start) }
+    ensures { OnOk result (Takes (S.took sink.old) (S.took sink.new) (pieces_of (sequences (form weaver.now)) (divided block.now.lengths block.now.body) block.now.start)) }
 {
     let mut rest = block.body.as_slice();
     let mut at = block.start;
@@ -99,8 +100,8 @@ fn weave_block<S: ItemSink>(
     sink: &mut S,
 ) -> Result<(), AllocError>
     requires fits { FitsBlock block.now }
-    requires come { ComeNext (S.took sink.old) (entry_items (form weaver.now) (block_of block.now)) }
-    ensures { OnOk result (Takes (S.took sink.old) (S.took sink.new) (entry_items (form weaver.now) (block_of block.now))) }
+    requires come { ComeNext (S.took sink.old) (block_items (sequences (form weaver.now)) (block_of block.now)) }
+    ensures { OnOk result (Takes (S.took sink.old) (S.took sink.new) (block_items (sequences (form weaver.now)) (block_of block.now))) }
 {
     weave_enter(weaver, block.start, part, sink)?;
     weave_pieces(weaver, block, part, sink)?;
@@ -118,8 +119,8 @@ fn weave_blocks<S: ItemSink>(
     sink: &mut S,
 ) -> Result<(), AllocError>
     requires fit { All FitsBlock blocks.now }
-    requires come { ComeNext (S.took sink.old) (all_entries (form weaver.now) (map block_of blocks.now)) }
-    ensures { OnOk result (Takes (S.took sink.old) (S.took sink.new) (all_entries (form weaver.now) (map block_of blocks.now))) }
+    requires come { ComeNext (S.took sink.old) (entries_of (sequences (form weaver.now)) (map block_of blocks.now)) }
+    ensures { OnOk result (Takes (S.took sink.old) (S.took sink.new) (entries_of (sequences (form weaver.now)) (map block_of blocks.now))) }
 {
     for block in blocks {
         weave_block(weaver, block, part, sink)?;

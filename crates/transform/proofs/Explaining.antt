@@ -5,7 +5,8 @@ use Rattle.qed_model.specs.declared.options.Options.{Options}
 use Rattle.qed_model.specs.declared.plan.Plan.{Plan}
 use Rattle.qed_model.specs.declared.test.Test.{Test}
 use Rattle.qed_model.specs.Weave.Roles.{new_roles}
-use Rattle.qed_model.specs.Weave.Woven.{HasNewCode}
+use Rattle.elf_files.specs.File.{File}
+use Rattle.elf_files.specs.Output.{HasNewCode}
 use Rattle.block_list.specs.declared.block.CodeBlock.{CodeBlock}
 use Rattle.block_list.specs.Listed.{block_of}
 use Rattle.woven_code.specs.declared.code.WovenCode.{WovenCode}
@@ -17,17 +18,18 @@ use Rattle.transform.proofs.Making.{woven_test, size_is}
 
 pub explained_of :
     (input : List ℕ) (o : Options) (t : Test) (blocks : List CodeBlock) (output : List ℕ) (plan : Plan) (x : Explained) (code : WovenCode)
-    → Transforms input o output plan → IsCut input x.file o t blocks → IsCodeOf x.file o blocks code → x.words.items ≡ code.linked.words.items
+    → Transforms input o output plan → File input x.file → IsCut x.file o t blocks → IsCodeOf x.file o blocks code → x.words.items ≡ code.linked.words.items
     → x.base ≡ place_of t → x.roles.items ≡ new_roles x.file o (map block_of blocks) → IsExplained input o x
-explained_of input o t blocks output plan x code made cut is same base roles =
+explained_of input o t blocks output plan x code made read cut is same base roles =
     let size : 4 * length x.words.items ≡ 4 * length code.linked.words.items = ap (λ ws. 4 * length ws) same in
-    let whole = size_is input x.file o t blocks cut code is in
+    let whole = size_is x.file o t blocks cut code is in
+    let test = woven_test x.file o t blocks cut code is in
     record {
       output = output;
       plan = plan;
       made = made;
       blocks = map block_of blocks;
-      code = subst (λ ws. HasNewCode input o x.file (map block_of blocks) ws) (sym same) (woven_test input x.file o t blocks cut code is).has;
+      code = subst (λ ws. HasNewCode input o x.file (map block_of blocks) ws) (sym same) (record { read = read; admitted = test.admitted; are = test.are; code = test.code });
       base = omega (arith, base, cut.told.base, cut.told.distance);
       roles = roles;
       size = size ∙ whole;

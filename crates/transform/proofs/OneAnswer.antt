@@ -10,18 +10,19 @@ use Rattle.qed_model.specs.declared.options.Options.{Options}
 use Rattle.qed_model.specs.declared.plan.Plan.{Plan}
 use Rattle.qed_model.specs.Limits.{limit_of}
 use Rattle.qed_model.specs.Admission.Refusals.{IsAdmitted, IsRefusedBy}
-use Rattle.qed_model.specs.Elf.File.{IsReadAs}
+use Rattle.elf_files.specs.File.{IsReadAs}
 use Rattle.qed_model.specs.Elf.Layout.{written}
-use Rattle.qed_model.specs.Elf.Refusals.{IsRefused}
+use Rattle.elf_files.specs.Refusals.{IsRefused}
 use Rattle.qed_model.specs.Weave.Blocks.{AreBlocks}
 use Rattle.qed_model.specs.Weave.Sequences.{Block}
-use Rattle.qed_model.specs.Weave.Woven.{code_size, WovenFile, IsWithin}
-use Rattle.qed_model.proofs.AcceptanceLaws.{read_or_refused}
+use Rattle.qed_model.specs.Weave.Woven.{code_size, IsWithin}
+use Rattle.elf_files.specs.Output.{WovenFile}
+use Rattle.elf_files.proofs.AcceptanceLaws.{read_or_refused}
 use Rattle.qed_model.proofs.AdmissionLaws.{no_fault}
 use Rattle.qed_model.proofs.BlocksOnly.{blocks_only}
 use Rattle.qed_model.proofs.OneRefusal.{one_refusal}
-use Rattle.qed_model.proofs.OneWovenTest.{one_woven_test}
-use Rattle.qed_model.proofs.ReadFacts.{one_file}
+use Rattle.elf_files.proofs.OneOutput.{one_woven_test}
+use Rattle.elf_files.proofs.ReadFacts.{one_file}
 use Rattle.transform.specs.declared.error.TransformError.{TransformError}
 use Rattle.transform.specs.declared.error.TransformError.TheVariants as error
 use Rattle.transform.specs.declared.whole.Transformed.{Transformed}
@@ -40,13 +41,13 @@ module _ (input : List ℕ) (o : Options) where
   not_admitted e f x read a = no_fault f o a e (subst (λ g. IsRefusedBy g o e) (one_file input x.file f x.read.file read.file) x.refused).fault
 
   -- the new code has one size
-  one_size : (f g : ElfFile) (bs cs : List Block) → IsReadAs input f → IsReadAs input g → AreBlocks f o.inst_max bs → AreBlocks g o.inst_max cs → code_size f o bs ≡ code_size g o cs
+  one_size : (f g : ElfFile) (bs cs : List Block) → IsReadAs input f → IsReadAs input g → AreBlocks f o bs → AreBlocks g o cs → code_size f o bs ≡ code_size g o cs
   one_size f g bs cs rf rg ab ac =
       let same = one_file input f g rf.file rg.file in
-      ap (λ x. code_size x o bs) same ∙ ap (λ bs. code_size g o bs) (blocks_only g o.inst_max bs cs (subst (λ x. AreBlocks x o.inst_max bs) same ab) ac)
+      ap (λ x. code_size x o bs) same ∙ ap (λ bs. code_size g o bs) (blocks_only g o bs cs (subst (λ x. AreBlocks x o bs) same ab) ac)
 
   -- it is too large, or within its limit
-  too_large : (n : ℕ) (f : ElfFile) (bs : List Block) → HasTooMuchCode input o n → IsReadAs input f → AreBlocks f o.inst_max bs → code_size f o bs ≤ limit_of limit.CodeBytes → ⊥
+  too_large : (n : ℕ) (f : ElfFile) (bs : List Block) → HasTooMuchCode input o n → IsReadAs input f → AreBlocks f o bs → code_size f o bs ≤ limit_of limit.CodeBytes → ⊥
   too_large n f bs x read are small = omega (arith, x.over, x.count, small, one_size x.file f x.blocks bs x.read read x.are are)
 
   -- so is an input by one cause
@@ -111,7 +112,7 @@ module _ (input : List ℕ) (o : Options) where
   memory_only (error.Admit y) c h = absurd (not_admitted y h.file c h.read h.admitted)
   memory_only (error.TooLarge y) c h =
       let same = one_file input c.file h.file c.read.file h.read.file in
-      let small = h.code c.blocks (subst (λ f. AreBlocks f o.inst_max c.blocks) same c.are) in
+      let small = h.code c.blocks (subst (λ f. AreBlocks f o c.blocks) same c.are) in
       absurd (omega (arith, c.over, c.count, small, ap (λ f. code_size f o c.blocks) same))
   memory_only (error.TooManySegments y) c h = let most = h.outputs c.out c.file in absurd (omega (arith, c.over, c.count, most.segments))
   memory_only (error.FileTooLong y) c h = let most = h.outputs c.out c.file in absurd (omega (arith, c.over, c.size, most.size))

@@ -16,8 +16,7 @@ use Rattle.qed_model.specs.Weave.Places.{image_of, half_of}
 use Rattle.qed_model.specs.Weave.Sequences.{Block}
 use Rattle.qed_model.specs.Weave.Woven.{new_entries, shape_of}
 use Rattle.qed_model.proofs.Fetches.{IsShapely, instruction_code}
-use Rattle.qed_model.proofs.RangeSegments.{AreLoads}
-use Rattle.qed_model.proofs.ReadLoads.{read_loads}
+use Rattle.qed_model.specs.Elf.Sound.{AreLoads}
 use Rattle.bound_calc.specs.Fitting.{AreSmall}
 use Rattle.block_list.specs.declared.block.CodeBlock.{CodeBlock}
 use Rattle.block_list.specs.Listed.{block_of}
@@ -36,7 +35,7 @@ use Rattle.transform.proofs.BoundsSmall.{shape_small}
 code_grain : (f : ElfFile) (a : ℕ) → is_code f a ≡ true → a % 4 ≡ 0
 code_grain f a e = eqb-true (a % 4) 0 (and_parts (a % 4 == 0) _ e).0
 
-module _ (input : List ℕ) (f : ElfFile) (o : Options) (t : Test) (blocks : List CodeBlock) (cut : IsCut input f o t blocks) where
+module _ (f : ElfFile) (o : Options) (t : Test) (blocks : List CodeBlock) (cut : IsCut f o t blocks) where
   abbrev image : List Segment
   image = image_of f
 
@@ -47,7 +46,7 @@ module _ (input : List ℕ) (f : ElfFile) (o : Options) (t : Test) (blocks : Lis
   bs = map block_of blocks
 
   loads : AreLoads (load_segments f.segments)
-  loads = read_loads input f (record { fit = cut.blocked.bytes }) cut.blocked.read
+  loads = cut.blocked.file.loads
 
   is_image : IsImage f.segments d
   is_image = admitted_image f o cut.blocked.sound loads cut.blocked.admitted
@@ -62,7 +61,7 @@ module _ (input : List ℕ) (f : ElfFile) (o : Options) (t : Test) (blocks : Lis
   shape : IsShapely f
   shape = record { loads = loads; sections = cut.blocked.admitted.sections; segments = cut.blocked.admitted.segments }
 
-  block_code : (b : Block) → IsLeaderBlock f o.inst_max b ⊎ IsOtherBlock f b → is_code f b.start ≡ true
+  block_code : (b : Block) → IsLeaderBlock f o b ⊎ IsOtherBlock f o b → is_code f b.start ≡ true
   block_code b x = ⊎_elim (λ l. l.leader.code) (λ q. (instruction_code f shape b.start q.instruction q.stands).0) x
 
   bounded : (a : ℕ) → is_code f a ≡ true → (base_of image ≤ a) × (a + 4 ≤ base_of image + d)

@@ -5,7 +5,8 @@ use Rattle.qed_model.specs.declared.plan.Plan.{Plan}
 use Rattle.qed_model.specs.Weave.Places.{image_of, code_place}
 use Rattle.qed_model.specs.Weave.Roles.{new_roles}
 use Rattle.qed_model.specs.Weave.Sequences.{Block}
-use Rattle.qed_model.specs.Weave.Woven.{code_size, HasNewCode}
+use Rattle.qed_model.specs.Weave.Woven.{code_size}
+use Rattle.elf_files.specs.Output.{HasNewCode}
 use Rattle.transform.specs.declared.explained.Explained.{Explained}
 use Rattle.transform.specs.Transform.{Transforms}
 

@@ -15,9 +15,9 @@ use Rattle.transform.specs.declared.error.TransformError.{TransformError}
 use Rattle.transform.specs.declared.error.TransformError.TheVariants as error
 
 -- the file with the new code of the test, and what is told of it
-pub record IsMade (input : List ℕ) (f : ElfFile) (o : Options) (blocks : List CodeBlock) (out : OutFile) (plan : Plan) : Type 0 where
+pub record IsMade (f : ElfFile) (o : Options) (blocks : List CodeBlock) (out : OutFile) (plan : Plan) : Type 0 where
   pub words : List ℕ
-  pub test : IsWovenTest input f o (map block_of blocks) words
+  pub test : IsWovenTest f o (map block_of blocks) words
   pub file : out ≡ woven_file f o (map block_of blocks) words
   pub told : IsToldOf f o (map block_of blocks) plan
 

@@ -1,7 +1,8 @@
 //! A file as a test, with its blocks.
 ghost use Rattle.std.specs.Prelude.{ℕ, List, IfOk, IfErr};
 ghost use Rattle.qed_model.specs.declared.options.Options.{Options as TestOptions};
-ghost use Rattle.qed_model.specs.Elf.File.{IsReadAs};
+ghost use Rattle.elf_files.specs.File.{IsReadAs};
+ghost use Rattle.qed_model.specs.Elf.Sound.{IsSound};
 ghost use Rattle.qed_model.specs.Machine.Apart.{AllFitMemory, AreApart};
 ghost use Rattle.qed_model.specs.Machine.Loading.{load_segments};
 ghost use Rattle.qed_model.specs.Weave.Places.{AreSoundOptions};
@@ -28,6 +29,7 @@ pub(crate) struct CutTest {
 /// The file that bytes are.
 fn read(alloc: Global, bytes: &[u8]) -> Result<ElfFile, TransformError>
     ensures read { IfOk result (λ f. IsReadAs bytes.now f) }
+    ensures sound { IfOk result IsSound }
     ensures fit { IfOk result (λ f. AllFitMemory (load_segments f.segments)) }
     ensures apart { IfOk result (λ f. AreApart (load_segments f.segments)) }
     ensures refused { IfErr result (λ e. (o : TestOptions) → HasCause bytes.now o e) }
@@ -64,7 +66,7 @@ pub(crate) fn cut_test(
     ensures read { IfOk result (λ c. IsReadAs bytes.now c.file) }
     ensures fit { IfOk result (λ c. AllFitMemory (load_segments c.file.segments)) }
     ensures apart { IfOk result (λ c. AreApart (load_segments c.file.segments)) }
-    ensures cut { IfOk result (λ c. IsCut bytes.now c.file options.now c.test c.blocks) }
+    ensures cut { IfOk result (λ c. IsCut c.file options.now c.test c.blocks) }
     ensures refused { IfErr result (HasCause bytes.now options.now) }
 {
     let file = read(alloc, bytes)?;

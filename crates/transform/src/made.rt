@@ -5,7 +5,7 @@ ghost use Rattle.elf_types.specs.declared.file.Symbol.{Symbol};
 ghost use Rattle.block_list.specs.Listed.{block_of};
 ghost use Rattle.output_file.specs.Sizes.{symbols_room};
 ghost use Rattle.qed_model.specs.Elf.Layout.{names_bytes, written};
-ghost use Rattle.qed_model.specs.Elf.File.{IsReadAs};
+ghost use Rattle.elf_files.specs.File.{IsReadAs};
 ghost use Rattle.qed_model.specs.Machine.Apart.{AllFitMemory, AreApart};
 ghost use Rattle.qed_model.specs.Machine.Loading.{load_segments};
 ghost use Rattle.qed_model.specs.Weave.Bounds.{bounds_of};
@@ -39,9 +39,9 @@ pub(crate) fn code_of(
     cut: &CutTest,
     options: &Options,
 ) -> Result<WovenCode, TransformError>
-    requires { (input : List ℕ) × IsCut input cut.now.file options.now cut.now.test cut.now.blocks }
+    requires { IsCut cut.now.file options.now cut.now.test cut.now.blocks }
     ensures code { IfOk result (λ made. IsCodeOf cut.now.file options.now cut.now.blocks made) }
-    ensures refused { IfErr result (λ e. (input : List ℕ) → IsReadAs input cut.now.file → IsCut input cut.now.file options.now cut.now.test cut.now.blocks → HasCause input options.now e) }
+    ensures refused { IfErr result (λ e. (input : List ℕ) → IsReadAs input cut.now.file → IsCut cut.now.file options.now cut.now.test cut.now.blocks → HasCause input options.now e) }
 {
     match woven_code(alloc, &cut.test, options, cut.blocks.as_slice()) {
         Ok(code) => Ok(code),
@@ -52,7 +52,7 @@ pub(crate) fn code_of(
 
 /// What the bounds depend on.
 fn shape_of(cut: &CutTest, options: &Options, far: bool) -> Shape
-    requires { (input : List ℕ) × IsCut input cut.now.file options.now cut.now.test cut.now.blocks }
+    requires { IsCut cut.now.file options.now cut.now.test cut.now.blocks }
     ensures { result ≡ shape_of_test cut.now.file options.now far }
 {
     let span = cut.test.span.as_slice();
@@ -69,7 +69,7 @@ fn shape_of(cut: &CutTest, options: &Options, far: bool) -> Shape
 
 /// The bounds. They fit 64 bits, since an admitted test has few data words.
 fn bounds_in(cut: &CutTest, options: &Options, far: bool) -> Bounds
-    requires { (input : List ℕ) × IsCut input cut.now.file options.now cut.now.test cut.now.blocks }
+    requires { IsCut cut.now.file options.now cut.now.test cut.now.blocks }
     ensures { result ≡ bounds_of (shape_of_test cut.now.file options.now far) }
 {
     match bounds(&shape_of(cut, options, far)) {
@@ -121,9 +121,9 @@ fn check_bare(bare: &OutFile, room: u128) -> Result<(), TransformError>
 pub(crate) fn make(alloc: Global, cut: &CutTest, options: &Options) -> Result<Made, TransformError>
     requires fit { AllFitMemory (load_segments cut.now.file.segments) }
     requires apart { AreApart (load_segments cut.now.file.segments) }
-    requires cut { (input : List ℕ) × IsCut input cut.now.file options.now cut.now.test cut.now.blocks }
-    ensures made { IfOk result (λ made. (input : List ℕ) → IsCut input cut.now.file options.now cut.now.test cut.now.blocks → IsMade input cut.now.file options.now cut.now.blocks made.out made.plan) }
-    ensures refused { IfErr result (λ e. (input : List ℕ) → IsReadAs input cut.now.file → IsCut input cut.now.file options.now cut.now.test cut.now.blocks → HasCause input options.now e) }
+    requires cut { IsCut cut.now.file options.now cut.now.test cut.now.blocks }
+    ensures made { IfOk result (λ made. IsMade cut.now.file options.now cut.now.blocks made.out made.plan) }
+    ensures refused { IfErr result (λ e. (input : List ℕ) → IsReadAs input cut.now.file → IsCut cut.now.file options.now cut.now.test cut.now.blocks → HasCause input options.now e) }
 {
     let code = code_of(alloc, cut, options)?;
     let (blocks, entries) = (cut.blocks.as_slice(), code.linked.entries.as_slice());

@@ -15,7 +15,8 @@ use Rattle.qed_model.specs.Weave.Sequences.{Reads, Block, stub}
 use Rattle.weave_core.specs.World.{World}
 use Rattle.weave_core.specs.Rows.{Sourced}
 use Rattle.weave_core.specs.Describes.{Describes}
-use Rattle.weave_core.specs.Weave.{Weave, block_items, entries_of}
+use Rattle.weave_core.specs.Weave.{Weave}
+use Rattle.qed_model.specs.Weave.Code.{entries_of, block_items}
 use Rattle.weave_core.specs.WeaveLaws.{EntryAt, EntriesAt}
 use Rattle.weave_core.specs.WeavePromise.{AllBlocksOf, PlanOf}
 use Rattle.weave_core.proofs.Prologue.{start_zero}
@@ -61,19 +62,19 @@ reads_rest far c e a (Go t ∷ xs) ys r = reads_rest far c e (a + go_size far) x
 module _ (w : World) (v : Weave) (leader : ℕ → Bool) where
   -- the entry of a leader among blocks that stand one after the other
   pub entry_at :
-      (bs : List Block) (p a : ℕ) (rest : List Item) → Reads w.form.far w.code w.entry p (entries_of v bs ++ rest) → AllBlocksOf w v leader bs
+      (bs : List Block) (p a : ℕ) (rest : List Item) → Reads w.form.far w.code w.entry p (entries_of v.code bs ++ rest) → AllBlocksOf w v leader bs
       → begins_at bs a ≡ true → EntryAt w v leader a
   entry_at [] p a rest r good e = absurd (false≢true e)
   entry_at (b ∷ bs) p a rest r good e =
-      let split : Reads w.form.far w.code w.entry p (block_items v b ++ (entries_of v bs ++ rest)) = subst (λ l. Reads w.form.far w.code w.entry p l) (append_assoc (block_items v b) (entries_of v bs) rest) r in
-      let front : Reads w.form.far w.code w.entry p (block_items v b) = reads_front w.form.far w.code w.entry p (block_items v b) (entries_of v bs ++ rest) split in
+      let split : Reads w.form.far w.code w.entry p (block_items v.code b ++ (entries_of v.code bs ++ rest)) = subst (λ l. Reads w.form.far w.code w.entry p l) (append_assoc (block_items v.code b) (entries_of v.code bs) rest) r in
+      let front : Reads w.form.far w.code w.entry p (block_items v.code b) = reads_front w.form.far w.code w.entry p (block_items v.code b) (entries_of v.code bs ++ rest) split in
       let here : EntryAt w v leader b.start = record {
         body = b.body;
         end = b.end;
-        reads = subst (λ q. Reads w.form.far w.code w.entry q (block_items v b)) (sym front.0) front;
+        reads = subst (λ q. Reads w.form.far w.code w.entry q (block_items v.code b)) (sym front.0) front;
         good = good.0;
       } in
-      let next = reads_rest w.form.far w.code w.entry p (block_items v b) (entries_of v bs ++ rest) split in
+      let next = reads_rest w.form.far w.code w.entry p (block_items v.code b) (entries_of v.code bs ++ rest) split in
       ⊎_elim
       (λ x. subst (EntryAt w v leader) (eqb-true b.start a x) here)
       (λ x. entry_at bs next.0 a rest next.1 good.1 x)
@@ -82,9 +83,9 @@ module _ (w : World) (v : Weave) (leader : ℕ → Bool) where
 -- each leader of a plan has its entry
 pub entries_at : (f g : Program) (w : World) (v : Weave) (blocks : List Block) → PlanOf f g w v blocks → EntriesAt w v (begins_at blocks)
 entries_at f g w v blocks p a h =
-    let next = reads_rest w.form.far w.code w.entry g.entry (v.first w.distance f.entry) (entries_of v blocks ++ stub) p.words in
+    let next = reads_rest w.form.far w.code w.entry g.entry (v.code.first w.distance f.entry) (entries_of v.code blocks ++ stub) p.words in
     entry_at w v (begins_at blocks) blocks next.0 a stub next.1 p.good h
 
 -- what runs first stands at the entry point
-pub first_at : (f g : Program) (w : World) (v : Weave) (blocks : List Block) → PlanOf f g w v blocks → Reads w.form.far w.code w.entry g.entry (v.first w.distance f.entry)
-first_at f g w v blocks p = reads_front w.form.far w.code w.entry g.entry (v.first w.distance f.entry) (entries_of v blocks ++ stub) p.words
+pub first_at : (f g : Program) (w : World) (v : Weave) (blocks : List Block) → PlanOf f g w v blocks → Reads w.form.far w.code w.entry g.entry (v.code.first w.distance f.entry)
+first_at f g w v blocks p = reads_front w.form.far w.code w.entry g.entry (v.code.first w.distance f.entry) (entries_of v.code blocks ++ stub) p.words

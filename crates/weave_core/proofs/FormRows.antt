@@ -17,7 +17,7 @@ use Rattle.qed_model.specs.declared.item.Item.{Item}
 use Rattle.qed_model.specs.declared.item.Item.TheVariants.{Plain}
 use Rattle.qed_model.specs.Weave.Pieces.{is_run}
 use Rattle.qed_model.specs.Weave.Blocks.{begins_at}
-use Rattle.qed_model.specs.Weave.Sequences.{Form, Reads, End, Falls, Stops, Block, body_length, original, each_part, guards, sweep, compare, visit, piece, pieces, leave, leave_as, enter, entry_items, all_entries, prologue, stub}
+use Rattle.qed_model.specs.Weave.Sequences.{Form, Reads, End, Falls, Stops, Block, original, each_part, guards, sweep, compare, visit, leave, leave_as}
 use Rattle.qed_model.specs.Weave.Placed.{distance_between, upper_part}
 use Rattle.qed_model.specs.Weave.Bounds.{end_bound}
 use Rattle.qed_model.proofs.Walk.{known_at, run-more, constant_walk, set_reg-pos}
@@ -26,7 +26,7 @@ use Rattle.weave_core.specs.Blocks.{IsEntryOf, FitsPiece, AllFit, Leaves, EndSta
 use Rattle.weave_core.specs.Rows.{At, Sourced, Mirrors, spent}
 use Rattle.weave_core.specs.KindItems.{MirrorsFit}
 use Rattle.weave_core.specs.Promise.{WovenIn}
-use Rattle.weave_core.specs.Plan.{Plan, PlanKept, PlanLanded}
+use Rattle.weave_core.specs.Plan.{PlanKept, PlanLanded}
 use Rattle.weave_core.specs.Promise.{start_of, ValuesKept, LandingsFire}
 use Rattle.weave_core.specs.Pass.{Views, Leads, Quiet, Lockstep, Does, same}
 use Rattle.weave_core.specs.Leaving.{swept_end}
@@ -43,7 +43,7 @@ use Rattle.weave_core.proofs.LeaveLaws.{quiet_enter, fall_law, leave_law, quiet_
 use Rattle.weave_core.proofs.KindItems.{items_then, compare_items, visits_items}
 use Rattle.weave_core.proofs.Landing.{land_behind, straight_compare, land_visits}
 use Rattle.weave_core.proofs.Prologue.{prologue_row}
-use Rattle.weave_core.specs.Weave.{Weave, pieces_of, block_items, entries_of, start_steps, stage_steps}
+use Rattle.weave_core.specs.Weave.{Weave, start_steps, stage_steps}
 use Rattle.weave_core.specs.WeaveLaws.{PieceAt, EntryAt, Holds, Stands, GoesTo, Inside, Behind, stops, Onward, Left, Rows, Starts, Guarded}
 use Rattle.weave_core.specs.WeavePromise.{PlanOf}
 use Rattle.weave_core.specs.WeaveForms.{weave_with, weave_of, ChecksLaws}
@@ -56,21 +56,6 @@ use Rattle.qed_model.specs.Machine.Table.{ins}
 use Rattle.qed_model.specs.Machine.Walks.{Over}
 use Rattle.weave_core.proofs.Landings.{landed, weave_landed}
 use Rattle.weave_core.proofs.Trace.{none_run}
-
--- ---- the same items
--- pieces one after the other
-pub pieces_same : (form : Form) (most : ℕ) (ps : List (List Ins)) (at : ℕ) → pieces_of (weave_of form most) ps at ≡ pieces form ps at
-pieces_same form most [] at = refl
-pieces_same form most (p ∷ ps) at = ap (λ l. piece form p at ++ l) (pieces_same form most ps (at + 4 * length p))
-
--- an entry
-pub entry_same : (form : Form) (most : ℕ) (b : Block) → block_items (weave_of form most) b ≡ entry_items form b
-entry_same form most b = ap (λ l. enter b.start ++ (l ++ leave form b.end (b.start + 4 * body_length b.body))) (pieces_same form most b.body b.start)
-
--- and all
-pub entries_same : (form : Form) (most : ℕ) (bs : List Block) → entries_of (weave_of form most) bs ≡ all_entries form bs
-entries_same form most [] = refl
-entries_same form most (b ∷ bs) = ap (λ l. l ++ entries_of (weave_of form most) bs) (entry_same form most b) ∙ ap (λ l. entry_items form b ++ l) (entries_same form most bs)
 
 -- ---- the piece, as passes
 -- where the next instruction stands
@@ -197,7 +182,7 @@ module _ (w : World) (most : ℕ) (checks : List Item) (first steps : ℕ) (laws
 
   -- ---- the entry
   pub enter_law :
-      (u s : State) (rest : List Item) → Stands w leader u s → s.pc < 2 ^ 64 → Reads w.form.far w.code w.entry u.pc (v.enter s.pc ++ rest)
+      (u s : State) (rest : List Item) → Stands w leader u s → s.pc < 2 ^ 64 → Reads w.form.far w.code w.entry u.pc (v.code.enter s.pc ++ rest)
       → GoesTo w u 0 3 (λ n x. At w x rest s s × (reg x 15 ≡ reg u 15))
   enter_law u s rest st low r =
       let g = (quiet_enter s.pc).leads w (views u s) rest tt (record { over = st.over; reads = (sym st.pc, r); halved = st.halved }) (record { same = refl; sign = st.sign; here = refl; low = low }) in
@@ -209,7 +194,7 @@ module _ (w : World) (most : ℕ) (checks : List Item) (first steps : ℕ) (laws
   module _ (law : Mirrors w) where
     -- ---- a piece
     inside_law :
-        (is : List Ins) (n : ℕ) (u s : State) (rest : List Item) → n < length is → PieceAt w v s.pc is → At w u (v.piece is s.pc ++ rest) s s
+        (is : List Ins) (n : ℕ) (u s : State) (rest : List Item) → n < length is → PieceAt w v s.pc is → At w u (v.code.piece is s.pc ++ rest) s s
         → Sourced w s → NotTrapped (run s n) → GoesTo w u n v.piece_steps (λ k x. Inside w s n x)
     inside_law is n u s rest l p a so calm =
         let both = and_parts _ _ p.one in
@@ -219,7 +204,7 @@ module _ (w : World) (most : ℕ) (checks : List Item) (first steps : ℕ) (laws
         record { steps = g.steps; to = g.to; at_least = g.at_least; within = omega (arith, g.within, few); walk = g.walk; is = g.is }
 
     piece_law :
-        (is : List Ins) (u s : State) (rest : List Item) → PieceAt w v s.pc is → At w u (v.piece is s.pc ++ rest) s s → Sourced w s
+        (is : List Ins) (u s : State) (rest : List Item) → PieceAt w v s.pc is → At w u (v.code.piece is s.pc ++ rest) s s → Sourced w s
         → NotTrapped (run s (length is)) → GoesTo w u (length is) v.piece_steps (Behind w v u s (length is) rest)
     piece_law is u s rest p a so calm =
         let both = and_parts _ _ p.one in
@@ -340,15 +325,6 @@ module _ (w : World) (most : ℕ) where
     begins = x.begins;
   }
 
-  -- ---- plans
-  pub new_plan : (f g : Program) (blocks : List Block) → Plan f g w most blocks → PlanOf f g w wv blocks
-  new_plan f g blocks p = record {
-    world = p.world;
-    words = subst (λ l. Reads w.form.far w.code w.entry g.entry (prologue w.distance w.form.spans f.entry ++ (l ++ stub))) (sym (entries_same w.form most blocks)) p.words;
-    good = p.good;
-    begins = p.begins;
-  }
-
 -- ---- a pass before the checks
 -- where it leaves both halves as they are, they have the laws with it
 pub checks_after :
@@ -390,7 +366,7 @@ values_kept f g w leader most x law = subst (λ n. Kept f g w.reached (start_of 
 -- a plan keeps the values
 pub plan_kept : PlanKept
 plan_kept f g w most blocks p law =
-    let k = kept_with f g w most (both w most) 0 (both_steps w most) blocks (form_checks w.form) (new_plan w most f g blocks p) law in
+    let k = kept_with f g w most (both w most) 0 (both_steps w most) blocks (form_checks w.form) p law in
     subst (λ n. Kept f g w.reached (start_of w.form) n) (omega arith) k
 
 -- ---- the entry
@@ -428,7 +404,7 @@ form_guarded w most checks first steps = record {
 
 -- and its jumps land
 pub plan_landed : PlanLanded
-plan_landed f g w most blocks entries p law known = weave_landed f g w (weave_of w.form most) blocks entries (new_plan w most f g blocks p) (form_rows w most (begins_at blocks) law) (form_starts w most (begins_at blocks) f g) (form_guarded w most (both w most) 0 (both_steps w most)) known
+plan_landed f g w most blocks entries p law known = weave_landed f g w (weave_of w.form most) blocks entries p (form_rows w most (begins_at blocks) law) (form_starts w most (begins_at blocks) f g) (form_guarded w most (both w most) 0 (both_steps w most)) known
 
 -- and so they do wherever the entries stand
 pub landings_fire : LandingsFire

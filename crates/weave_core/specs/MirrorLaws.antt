@@ -11,7 +11,8 @@ use Rattle.weave_core.specs.World.{World}
 use Rattle.weave_core.specs.Rows.{Mirrors}
 use Rattle.weave_core.specs.KindItems.{MirrorsFit}
 use Rattle.weave_core.specs.Promise.{piece_of, start_of}
-use Rattle.weave_core.specs.Plan.{Plan}
+use Rattle.weave_core.specs.WeavePromise.{PlanOf}
+use Rattle.weave_core.specs.WeaveForms.{weave_of}
 
 -- each does in the duplicate half what its instruction does in the input, and its words are of the kinds and do not jump
 abbrev pub MirrorsHold : Type 0
@@ -19,4 +20,4 @@ MirrorsHold = (other : Bool) (w : World) → w.form.mirror ≡ mirror_of other �
 
 -- any plan with those of other kinds keeps the values
 abbrev pub DiverseKept : Type 0
-DiverseKept = (f g : Program) (w : World) (most : ℕ) (blocks : List Block) → Plan f g w most blocks → w.form.mirror ≡ diverse → w.form.cost ≡ 8 → Kept f g w.reached (start_of w.form) (piece_of w.form most)
+DiverseKept = (f g : Program) (w : World) (most : ℕ) (blocks : List Block) → PlanOf f g w (weave_of w.form most) blocks → w.form.mirror ≡ diverse → w.form.cost ≡ 8 → Kept f g w.reached (start_of w.form) (piece_of w.form most)

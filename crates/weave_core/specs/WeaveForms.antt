@@ -1,14 +1,12 @@
 -- The forms of the code are a weave: near and far, with or without the sweep, with either kind of mirror part. So are they with other
 -- checks behind the parts of a piece.
-use Rattle.std.specs.Prelude.{◌≡◌, ℕ, ◌+◌, ◌*◌, ◌&&◌, nat_le, cond, List, [], ◌∷◌, ◌++◌, length, pos}
-use Rattle.rv_isa.specs.declared.kind.Kind.TheVariants.{Beq}
-use Rattle.qed_model.specs.Machine.Table.{ins}
+use Rattle.std.specs.Prelude.{◌≡◌, ℕ, ◌+◌, ◌*◌, ◌&&◌, nat_le, cond, List, [], ◌++◌, length}
 use Rattle.qed_model.specs.declared.item.Item.{Item}
-use Rattle.qed_model.specs.declared.item.Item.TheVariants.{Plain, Constant}
 use Rattle.qed_model.specs.Admission.DataRanges.{word_count}
 use Rattle.qed_model.specs.Weave.Bounds.{visit_bound, end_bound}
 use Rattle.qed_model.specs.Weave.Pieces.{is_run}
-use Rattle.qed_model.specs.Weave.Sequences.{Form, fired_check, original, each_part, compare, visit, leave, prologue}
+use Rattle.qed_model.specs.Weave.Sequences.{Form, original, each_part, compare, visit}
+use Rattle.qed_model.specs.Weave.Code.{sequences}
 use Rattle.weave_core.specs.Pass.{Quiet, Lockstep}
 use Rattle.weave_core.specs.Parts.{any, Checks}
 use Rattle.weave_core.specs.Weave.{Weave}
@@ -16,11 +14,8 @@ use Rattle.weave_core.specs.Weave.{Weave}
 -- `checks` are woven behind the parts of a piece: in at most so many steps, of which at most `first` before all registers are compared
 abbrev pub weave_with : Form → ℕ → List Item → ℕ → ℕ → Weave
 weave_with form most checks first steps = record {
-  first = λ d a. prologue d form.spans a;
-  enter = λ a. Constant 30 a ∷ Plain (ins Beq 0 16 30 (pos 8)) ∷ fired_check ∷ [];
+  code = record (sequences form) { piece = λ is at. each_part original is at ++ (each_part form.mirror is at ++ checks) };
   fits = λ is. is_run is && nat_le (length is) most;
-  piece = λ is at. each_part original is at ++ (each_part form.mirror is at ++ checks);
-  leave = leave form;
   first_steps = cond form.far 33 32;
   enter_steps = 3;
   piece_steps = form.cost * most + steps;

@@ -19,7 +19,8 @@ use Rattle.weave_core.specs.Describes.{Describes}
 use Rattle.weave_core.specs.Lock.{first_load, ComparesFrom}
 use Rattle.weave_core.specs.KindItems.{LockItems, LandItems, GoodEnd}
 use Rattle.weave_core.specs.Kinds.{thirteen}
-use Rattle.weave_core.specs.Weave.{Weave, block_items}
+use Rattle.weave_core.specs.Weave.{Weave}
+use Rattle.qed_model.specs.Weave.Code.{block_items}
 
 -- ---- what stands in the two programs
 -- the instructions of a piece stand in the input from `at` on
@@ -44,7 +45,7 @@ pub record BlockOf (w : World) (v : Weave) (leader : ℕ → Bool) (b : Block) :
 pub record EntryAt (w : World) (v : Weave) (leader : ℕ → Bool) (a : ℕ) : Type 0 where
   pub body : List (List Ins)
   pub end : End
-  pub reads : Reads w.form.far w.code w.entry (w.entry a) (block_items v (record { start = a; body = body; end = end }))
+  pub reads : Reads w.form.far w.code w.entry (w.entry a) (block_items v.code (record { start = a; body = body; end = end }))
   pub good : BlockOf w v leader (record { start = a; body = body; end = end })
 
 -- of each leader
@@ -136,42 +137,42 @@ pub record Rows (w : World) (v : Weave) (leader : ℕ → Bool) : Type 0 where
   -- an entry that reads as the words of a block is an address on the grain
   pub known : (a : ℕ) → EntryAt w v leader a → IsEntryOf w a
   pub enter :
-      (u s : State) (rest : List Item) → Stands w leader u s → s.pc < 2 ^ 64 → Reads w.form.far w.code w.entry u.pc (v.enter s.pc ++ rest)
+      (u s : State) (rest : List Item) → Stands w leader u s → s.pc < 2 ^ 64 → Reads w.form.far w.code w.entry u.pc (v.code.enter s.pc ++ rest)
       → GoesTo w u 0 v.enter_steps (λ n x. At w x rest s s × (reg x 15 ≡ reg u 15))
   pub inside :
-      (is : List Ins) (n : ℕ) (u s : State) (rest : List Item) → n < length is → PieceAt w v s.pc is → At w u (v.piece is s.pc ++ rest) s s
+      (is : List Ins) (n : ℕ) (u s : State) (rest : List Item) → n < length is → PieceAt w v s.pc is → At w u (v.code.piece is s.pc ++ rest) s s
       → Sourced w s → NotTrapped (run s n) → GoesTo w u n v.piece_steps (λ k x. Inside w s n x)
   pub piece :
-      (is : List Ins) (u s : State) (rest : List Item) → PieceAt w v s.pc is → At w u (v.piece is s.pc ++ rest) s s → Sourced w s
+      (is : List Ins) (u s : State) (rest : List Item) → PieceAt w v s.pc is → At w u (v.code.piece is s.pc ++ rest) s s → Sourced w s
       → NotTrapped (run s (length is)) → GoesTo w u (length is) v.piece_steps (Behind w v u s (length is) rest)
   pub leave :
-      ((a : ℕ) → leader a ≡ true → IsEntryOf w a) → (e : End) (u s : State) → At w u (v.leave e s.pc) s s → Sourced w s
+      ((a : ℕ) → leader a ≡ true → IsEntryOf w a) → (e : End) (u s : State) → At w u (v.code.leave e s.pc) s s → Sourced w s
       → EndStands w leader e s.pc → IsSteady w.reached s (stops e) → Left w v leader u (run s (stops e)) (stops e)
 
 -- of what runs first
 pub record Starts (f g : Program) (w : World) (v : Weave) (leader : ℕ → Bool) : Type 0 where
   pub first :
-      Describes f g w → IsEntryOf w f.entry → leader f.entry ≡ true → Reads w.form.far w.code w.entry g.entry (v.first w.distance f.entry)
+      Describes f g w → IsEntryOf w f.entry → leader f.entry ≡ true → Reads w.form.far w.code w.entry g.entry (v.code.first w.distance f.entry)
       → (regs : List ℕ) → AreStartRegs regs → GoesTo w (start g regs) 1 v.first_steps (λ n x. Stands w leader x (start f zeros))
 
 -- ---- the laws of the entry
 pub record Guarded (w : World) (v : Weave) (most : ℕ) : Type 0 where
   -- a quiet state at an entry has its signature
   pub signed :
-      (u : State) (a : ℕ) (rest : List Item) → a < 2 ^ 64 → Reads w.form.far w.code w.entry u.pc (v.enter a ++ rest) → Over w.code u → Quiet w u
+      (u : State) (a : ℕ) (rest : List Item) → a < 2 ^ 64 → Reads w.form.far w.code w.entry u.pc (v.code.enter a ++ rest) → Over w.code u → Quiet w u
       → reg u 16 ≡ a
   -- with another signature it fires
   pub fires :
-      (u : State) (a : ℕ) (rest : List Item) → a < 2 ^ 64 → Reads w.form.far w.code w.entry u.pc (v.enter a ++ rest) → Over w.code u
+      (u : State) (a : ℕ) (rest : List Item) → a < 2 ^ 64 → Reads w.form.far w.code w.entry u.pc (v.code.enter a ++ rest) → Over w.code u
       → length u.regs ≡ 32 → (reg u 16 ≡ a → ⊥) → (run u most).outcome ≡ Fired
 
 -- ---- the laws of the words: each is of a kind that is woven, and each branch and jump leads to no register that is closed
 pub record Words (far : Bool) (v : Weave) : Type 0 where
-  pub first_locks : (d a : ℕ) → LockItems far (v.first d a)
-  pub first_lands : (d a : ℕ) → LandItems far (v.first d a)
-  pub enter_locks : (a : ℕ) → LockItems far (v.enter a)
-  pub enter_lands : (a : ℕ) → LandItems far (v.enter a)
-  pub piece_locks : (is : List Ins) (at : ℕ) → AllFit is → LockItems far (v.piece is at)
-  pub piece_lands : (is : List Ins) (at : ℕ) → AllFit is → LandItems far (v.piece is at)
-  pub leave_locks : (e : End) (at : ℕ) → GoodEnd e → LockItems far (v.leave e at)
-  pub leave_lands : (e : End) (at : ℕ) → GoodEnd e → LandItems far (v.leave e at)
+  pub first_locks : (d a : ℕ) → LockItems far (v.code.first d a)
+  pub first_lands : (d a : ℕ) → LandItems far (v.code.first d a)
+  pub enter_locks : (a : ℕ) → LockItems far (v.code.enter a)
+  pub enter_lands : (a : ℕ) → LandItems far (v.code.enter a)
+  pub piece_locks : (is : List Ins) (at : ℕ) → AllFit is → LockItems far (v.code.piece is at)
+  pub piece_lands : (is : List Ins) (at : ℕ) → AllFit is → LandItems far (v.code.piece is at)
+  pub leave_locks : (e : End) (at : ℕ) → GoodEnd e → LockItems far (v.code.leave e at)
+  pub leave_lands : (e : End) (at : ℕ) → GoodEnd e → LandItems far (v.code.leave e at)

@@ -18,7 +18,8 @@ use Rattle.qed_model.specs.Weave.Sequences.{Reads, Block}
 use Rattle.qed_model.specs.Admission.DataRanges.{word_count}
 use Rattle.weave_core.specs.World.{World}
 use Rattle.weave_core.specs.Describes.{Describes}
-use Rattle.weave_core.specs.Weave.{Weave, entries_of, code_of, start_steps, stage_steps}
+use Rattle.weave_core.specs.Weave.{Weave, start_steps, stage_steps}
+use Rattle.qed_model.specs.Weave.Code.{Sequences, code_of, entries_of}
 use Rattle.weave_core.specs.WeaveLaws.{BlockOf, Rows, Starts, Guarded, Words}
 
 -- each of the blocks is a block of the input
@@ -29,7 +30,7 @@ AllBlocksOf w v leader (b ∷ bs) = BlockOf w v leader b × AllBlocksOf w v lead
 -- the new code of g reads as the items of the weave for the blocks
 pub record PlanOf (f g : Program) (w : World) (v : Weave) (blocks : List Block) : Type 0 where
   pub world : Describes f g w
-  pub words : Reads w.form.far w.code w.entry g.entry (code_of v w.distance f.entry blocks)
+  pub words : Reads w.form.far w.code w.entry g.entry (code_of v.code w.distance f.entry blocks)
   pub good : AllBlocksOf w v (begins_at blocks) blocks
   pub begins : begins_at blocks f.entry ≡ true
 
@@ -47,11 +48,11 @@ WeaveLanded =
     → ((a e : ℕ) → IsEntry entries a e → (begins_at blocks a ≡ true) × (e ≡ w.entry a)) → Landed f g w.reached entries
 
 -- nothing else is code
-pub record OnlyCode (f g : Program) (w : World) (v : Weave) (blocks : List Block) : Type 0 where
+pub record OnlyCode (f g : Program) (w : World) (s : Sequences) (blocks : List Block) : Type 0 where
   pub only :
       (a : ℕ) (i : Ins) → w.code a ≡ Known i
       → (k : ℕ) × (a ≡ g.entry + 4 * k)
-      × (a ≤ g.entry + 4 * length (instructions_from w.form.far w.entry g.entry (v.first w.distance f.entry ++ entries_of v blocks)))
+      × (a ≤ g.entry + 4 * length (instructions_from w.form.far w.entry g.entry (s.first w.distance f.entry ++ entries_of s blocks)))
   pub stubbed : (t : ℕ) → (begins_at blocks t ≡ true) ⊎ (w.code (w.entry t) ≡ Known (ins Illegal 0 0 0 (pos 0)))
 
 -- the bounds are those of the weave
@@ -63,7 +64,7 @@ pub record BoundsOf (w : World) (v : Weave) (bounds : Bounds) : Type 0 where
 abbrev pub WeaveCaught : Type 0
 WeaveCaught =
     (f g : Program) (w : World) (v : Weave) (blocks : List Block) (bounds : Bounds) → PlanOf f g w v blocks → Rows w v (begins_at blocks)
-    → Starts f g w v (begins_at blocks) → Words w.form.far v → OnlyCode f g w v blocks → 1 ≤ v.round
+    → Starts f g w v (begins_at blocks) → Words w.form.far v → OnlyCode f g w v.code blocks → 1 ≤ v.round
     → 2 ≤ v.leave_steps → v.compare_steps + 17 ≤ v.piece_steps
     → BoundsOf w v bounds → Caught f g w.reached w.form.spans bounds
 
@@ -71,6 +72,6 @@ WeaveCaught =
 abbrev pub WeaveClean : Type 0
 WeaveClean =
     (f g : Program) (w : World) (v : Weave) (blocks : List Block) → PlanOf f g w v blocks → Rows w v (begins_at blocks)
-    → Starts f g w v (begins_at blocks) → Words w.form.far v → OnlyCode f g w v blocks → 1 ≤ v.round → 2 ≤ v.leave_steps
+    → Starts f g w v (begins_at blocks) → Words w.form.far v → OnlyCode f g w v.code blocks → 1 ≤ v.round → 2 ≤ v.leave_steps
     → v.compare_steps + 17 ≤ v.piece_steps → v.sweeps ≡ true
     → Clean f g w.reached w.form.spans (v.sweep_steps + 14)

@@ -5,7 +5,7 @@ use Rattle.qed_model.specs.declared.limits.TheConstants.{MAX_NEAR_CODE_BYTES}
 use Rattle.qed_model.specs.Machine.Cells.{number_among}
 use Rattle.qed_model.specs.Machine.Table.{ins_of, decode_of}
 use Rattle.qed_model.specs.Admission.Refusals.{IsAdmitted}
-use Rattle.qed_model.specs.Elf.File.{File}
+use Rattle.elf_files.specs.File.{File}
 use Rattle.qed_model.specs.Weave.Blocks.{AreBlocks}
 use Rattle.qed_model.specs.Weave.Bounds.{bounds_of}
 use Rattle.qed_model.specs.Weave.Places.{AreSoundOptions}
@@ -14,7 +14,11 @@ use Rattle.qed_model.specs.Weave.Woven.{is_far_code, code_size, items_in, shape_
 use Rattle.qed_model.proofs.ExampleBlocks as made
 use Rattle.qed_model.proofs.ExampleCode as code
 use Rattle.qed_model.proofs.ExampleCode.{IsCodeOf}
-use Rattle.qed_model.proofs.ExampleFile.{opened_verdict, read_of, is_file, are_bytes}
+use Rattle.elf_files.proofs.ReadLoads.{read_sound}
+use Rattle.elf_files.proofs.ExampleFile.{opened_verdict, read_of, is_file}
+use Rattle.qed_model.proofs.Fields.{are_bytes}
+use Rattle.qed_model.specs.Promise.Kept.{any_address}
+use Rattle.qed_model.proofs.OneTest.{any_reached}
 use Rattle.weave_core.specs.Tests.{IsWovenTest}
 use Rattle.weave_core.proofs.Tests.{tests_have_words, tests_kept, tests_landed}
 use Rattle.lockstep.proofs.Tests.{tests_caught, tests_clean}
@@ -45,44 +49,44 @@ admitted : IsAdmitted far_test far_options
 admitted = code.admitted far_test 0x10000 far_code known refl far_options refl refl (omega arith) (omega arith) (omega arith) (omega arith)
 
 -- ---- its blocks
-are : AreBlocks far_test 16 far_blocks
+are : AreBlocks far_test far_options far_blocks
 are =
-    made.are_blocks far_test 0x10000 far_code known 16 far_blocks refl refl ((
-      inl (made.stopping far_test 0x10000 far_code known 16 [] ((lui_8 ∷ []) ∷ []) next (ld_5 ∷ next ∷ lui_9 ∷ next ∷ sd_5 ∷ next ∷ ld_6 ∷ next ∷ mul ∷ next ∷ sub ∷ next ∷ call ∷ ecall ∷ add ∷ jalr ∷ []) refl refl refl),
+    made.are_blocks far_test 0x10000 far_code known far_options refl far_blocks refl refl ((
+      inl (made.stopping far_test 0x10000 far_code known far_options refl [] ((lui_8 ∷ []) ∷ []) next (ld_5 ∷ next ∷ lui_9 ∷ next ∷ sd_5 ∷ next ∷ ld_6 ∷ next ∷ mul ∷ next ∷ sub ∷ next ∷ call ∷ ecall ∷ add ∷ jalr ∷ []) refl refl refl),
       (
-        inr (made.other far_test 0x10000 far_code known (lui_8 ∷ []) next (ld_5 ∷ next ∷ lui_9 ∷ next ∷ sd_5 ∷ next ∷ ld_6 ∷ next ∷ mul ∷ next ∷ sub ∷ next ∷ call ∷ ecall ∷ add ∷ jalr ∷ []) refl refl),
+        inr (made.other far_test 0x10000 far_code known far_options refl (lui_8 ∷ []) next (ld_5 ∷ next ∷ lui_9 ∷ next ∷ sd_5 ∷ next ∷ ld_6 ∷ next ∷ mul ∷ next ∷ sub ∷ next ∷ call ∷ ecall ∷ add ∷ jalr ∷ []) refl refl),
         (
-          inl (made.stopping far_test 0x10000 far_code known 16 (lui_8 ∷ next ∷ []) ((ld_5 ∷ []) ∷ []) next (lui_9 ∷ next ∷ sd_5 ∷ next ∷ ld_6 ∷ next ∷ mul ∷ next ∷ sub ∷ next ∷ call ∷ ecall ∷ add ∷ jalr ∷ []) refl refl refl),
+          inl (made.stopping far_test 0x10000 far_code known far_options refl (lui_8 ∷ next ∷ []) ((ld_5 ∷ []) ∷ []) next (lui_9 ∷ next ∷ sd_5 ∷ next ∷ ld_6 ∷ next ∷ mul ∷ next ∷ sub ∷ next ∷ call ∷ ecall ∷ add ∷ jalr ∷ []) refl refl refl),
           (
-            inr (made.other far_test 0x10000 far_code known (lui_8 ∷ next ∷ ld_5 ∷ []) next (lui_9 ∷ next ∷ sd_5 ∷ next ∷ ld_6 ∷ next ∷ mul ∷ next ∷ sub ∷ next ∷ call ∷ ecall ∷ add ∷ jalr ∷ []) refl refl),
+            inr (made.other far_test 0x10000 far_code known far_options refl (lui_8 ∷ next ∷ ld_5 ∷ []) next (lui_9 ∷ next ∷ sd_5 ∷ next ∷ ld_6 ∷ next ∷ mul ∷ next ∷ sub ∷ next ∷ call ∷ ecall ∷ add ∷ jalr ∷ []) refl refl),
             (
-              inl (made.stopping far_test 0x10000 far_code known 16 (lui_8 ∷ next ∷ ld_5 ∷ next ∷ []) ((lui_9 ∷ []) ∷ []) next (sd_5 ∷ next ∷ ld_6 ∷ next ∷ mul ∷ next ∷ sub ∷ next ∷ call ∷ ecall ∷ add ∷ jalr ∷ []) refl refl refl),
+              inl (made.stopping far_test 0x10000 far_code known far_options refl (lui_8 ∷ next ∷ ld_5 ∷ next ∷ []) ((lui_9 ∷ []) ∷ []) next (sd_5 ∷ next ∷ ld_6 ∷ next ∷ mul ∷ next ∷ sub ∷ next ∷ call ∷ ecall ∷ add ∷ jalr ∷ []) refl refl refl),
               (
-                inr (made.other far_test 0x10000 far_code known (lui_8 ∷ next ∷ ld_5 ∷ next ∷ lui_9 ∷ []) next (sd_5 ∷ next ∷ ld_6 ∷ next ∷ mul ∷ next ∷ sub ∷ next ∷ call ∷ ecall ∷ add ∷ jalr ∷ []) refl refl),
+                inr (made.other far_test 0x10000 far_code known far_options refl (lui_8 ∷ next ∷ ld_5 ∷ next ∷ lui_9 ∷ []) next (sd_5 ∷ next ∷ ld_6 ∷ next ∷ mul ∷ next ∷ sub ∷ next ∷ call ∷ ecall ∷ add ∷ jalr ∷ []) refl refl),
                 (
-                  inl (made.stopping far_test 0x10000 far_code known 16 (lui_8 ∷ next ∷ ld_5 ∷ next ∷ lui_9 ∷ next ∷ []) ((sd_5 ∷ []) ∷ []) next (ld_6 ∷ next ∷ mul ∷ next ∷ sub ∷ next ∷ call ∷ ecall ∷ add ∷ jalr ∷ []) refl refl refl),
+                  inl (made.stopping far_test 0x10000 far_code known far_options refl (lui_8 ∷ next ∷ ld_5 ∷ next ∷ lui_9 ∷ next ∷ []) ((sd_5 ∷ []) ∷ []) next (ld_6 ∷ next ∷ mul ∷ next ∷ sub ∷ next ∷ call ∷ ecall ∷ add ∷ jalr ∷ []) refl refl refl),
                   (
-                    inr (made.other far_test 0x10000 far_code known (lui_8 ∷ next ∷ ld_5 ∷ next ∷ lui_9 ∷ next ∷ sd_5 ∷ []) next (ld_6 ∷ next ∷ mul ∷ next ∷ sub ∷ next ∷ call ∷ ecall ∷ add ∷ jalr ∷ []) refl refl),
+                    inr (made.other far_test 0x10000 far_code known far_options refl (lui_8 ∷ next ∷ ld_5 ∷ next ∷ lui_9 ∷ next ∷ sd_5 ∷ []) next (ld_6 ∷ next ∷ mul ∷ next ∷ sub ∷ next ∷ call ∷ ecall ∷ add ∷ jalr ∷ []) refl refl),
                     (
-                      inl (made.stopping far_test 0x10000 far_code known 16 (lui_8 ∷ next ∷ ld_5 ∷ next ∷ lui_9 ∷ next ∷ sd_5 ∷ next ∷ []) ((ld_6 ∷ []) ∷ []) next (mul ∷ next ∷ sub ∷ next ∷ call ∷ ecall ∷ add ∷ jalr ∷ []) refl refl refl),
+                      inl (made.stopping far_test 0x10000 far_code known far_options refl (lui_8 ∷ next ∷ ld_5 ∷ next ∷ lui_9 ∷ next ∷ sd_5 ∷ next ∷ []) ((ld_6 ∷ []) ∷ []) next (mul ∷ next ∷ sub ∷ next ∷ call ∷ ecall ∷ add ∷ jalr ∷ []) refl refl refl),
                       (
-                        inr (made.other far_test 0x10000 far_code known (lui_8 ∷ next ∷ ld_5 ∷ next ∷ lui_9 ∷ next ∷ sd_5 ∷ next ∷ ld_6 ∷ []) next (mul ∷ next ∷ sub ∷ next ∷ call ∷ ecall ∷ add ∷ jalr ∷ []) refl refl),
+                        inr (made.other far_test 0x10000 far_code known far_options refl (lui_8 ∷ next ∷ ld_5 ∷ next ∷ lui_9 ∷ next ∷ sd_5 ∷ next ∷ ld_6 ∷ []) next (mul ∷ next ∷ sub ∷ next ∷ call ∷ ecall ∷ add ∷ jalr ∷ []) refl refl),
                         (
-                          inl (made.stopping far_test 0x10000 far_code known 16 (lui_8 ∷ next ∷ ld_5 ∷ next ∷ lui_9 ∷ next ∷ sd_5 ∷ next ∷ ld_6 ∷ next ∷ []) ((mul ∷ []) ∷ []) next (sub ∷ next ∷ call ∷ ecall ∷ add ∷ jalr ∷ []) refl refl refl),
+                          inl (made.stopping far_test 0x10000 far_code known far_options refl (lui_8 ∷ next ∷ ld_5 ∷ next ∷ lui_9 ∷ next ∷ sd_5 ∷ next ∷ ld_6 ∷ next ∷ []) ((mul ∷ []) ∷ []) next (sub ∷ next ∷ call ∷ ecall ∷ add ∷ jalr ∷ []) refl refl refl),
                           (
-                            inr (made.other far_test 0x10000 far_code known (lui_8 ∷ next ∷ ld_5 ∷ next ∷ lui_9 ∷ next ∷ sd_5 ∷ next ∷ ld_6 ∷ next ∷ mul ∷ []) next (sub ∷ next ∷ call ∷ ecall ∷ add ∷ jalr ∷ []) refl refl),
+                            inr (made.other far_test 0x10000 far_code known far_options refl (lui_8 ∷ next ∷ ld_5 ∷ next ∷ lui_9 ∷ next ∷ sd_5 ∷ next ∷ ld_6 ∷ next ∷ mul ∷ []) next (sub ∷ next ∷ call ∷ ecall ∷ add ∷ jalr ∷ []) refl refl),
                             (
-                              inl (made.stopping far_test 0x10000 far_code known 16 (lui_8 ∷ next ∷ ld_5 ∷ next ∷ lui_9 ∷ next ∷ sd_5 ∷ next ∷ ld_6 ∷ next ∷ mul ∷ next ∷ []) ((sub ∷ []) ∷ []) next (call ∷ ecall ∷ add ∷ jalr ∷ []) refl refl refl),
+                              inl (made.stopping far_test 0x10000 far_code known far_options refl (lui_8 ∷ next ∷ ld_5 ∷ next ∷ lui_9 ∷ next ∷ sd_5 ∷ next ∷ ld_6 ∷ next ∷ mul ∷ next ∷ []) ((sub ∷ []) ∷ []) next (call ∷ ecall ∷ add ∷ jalr ∷ []) refl refl refl),
                               (
-                                inr (made.other far_test 0x10000 far_code known (lui_8 ∷ next ∷ ld_5 ∷ next ∷ lui_9 ∷ next ∷ sd_5 ∷ next ∷ ld_6 ∷ next ∷ mul ∷ next ∷ sub ∷ []) next (call ∷ ecall ∷ add ∷ jalr ∷ []) refl refl),
+                                inr (made.other far_test 0x10000 far_code known far_options refl (lui_8 ∷ next ∷ ld_5 ∷ next ∷ lui_9 ∷ next ∷ sd_5 ∷ next ∷ ld_6 ∷ next ∷ mul ∷ next ∷ sub ∷ []) next (call ∷ ecall ∷ add ∷ jalr ∷ []) refl refl),
                                 (
-                                  inl (made.stopping far_test 0x10000 far_code known 16 (lui_8 ∷ next ∷ ld_5 ∷ next ∷ lui_9 ∷ next ∷ sd_5 ∷ next ∷ ld_6 ∷ next ∷ mul ∷ next ∷ sub ∷ next ∷ []) [] call (ecall ∷ add ∷ jalr ∷ []) refl refl refl),
+                                  inl (made.stopping far_test 0x10000 far_code known far_options refl (lui_8 ∷ next ∷ ld_5 ∷ next ∷ lui_9 ∷ next ∷ sd_5 ∷ next ∷ ld_6 ∷ next ∷ mul ∷ next ∷ sub ∷ next ∷ []) [] call (ecall ∷ add ∷ jalr ∷ []) refl refl refl),
                                   (
-                                    inl (made.stopping far_test 0x10000 far_code known 16 (lui_8 ∷ next ∷ ld_5 ∷ next ∷ lui_9 ∷ next ∷ sd_5 ∷ next ∷ ld_6 ∷ next ∷ mul ∷ next ∷ sub ∷ next ∷ call ∷ []) [] ecall (add ∷ jalr ∷ []) refl refl refl),
+                                    inl (made.stopping far_test 0x10000 far_code known far_options refl (lui_8 ∷ next ∷ ld_5 ∷ next ∷ lui_9 ∷ next ∷ sd_5 ∷ next ∷ ld_6 ∷ next ∷ mul ∷ next ∷ sub ∷ next ∷ call ∷ []) [] ecall (add ∷ jalr ∷ []) refl refl refl),
                                     (
-                                      inl (made.stopping far_test 0x10000 far_code known 16 (lui_8 ∷ next ∷ ld_5 ∷ next ∷ lui_9 ∷ next ∷ sd_5 ∷ next ∷ ld_6 ∷ next ∷ mul ∷ next ∷ sub ∷ next ∷ call ∷ ecall ∷ []) ((add ∷ []) ∷ []) jalr [] refl refl refl),
+                                      inl (made.stopping far_test 0x10000 far_code known far_options refl (lui_8 ∷ next ∷ ld_5 ∷ next ∷ lui_9 ∷ next ∷ sd_5 ∷ next ∷ ld_6 ∷ next ∷ mul ∷ next ∷ sub ∷ next ∷ call ∷ ecall ∷ []) ((add ∷ []) ∷ []) jalr [] refl refl refl),
                                       (
-                                        inr (made.other far_test 0x10000 far_code known (lui_8 ∷ next ∷ ld_5 ∷ next ∷ lui_9 ∷ next ∷ sd_5 ∷ next ∷ ld_6 ∷ next ∷ mul ∷ next ∷ sub ∷ next ∷ call ∷ ecall ∷ add ∷ []) jalr [] refl refl),
+                                        inr (made.other far_test 0x10000 far_code known far_options refl (lui_8 ∷ next ∷ ld_5 ∷ next ∷ lui_9 ∷ next ∷ sd_5 ∷ next ∷ ld_6 ∷ next ∷ mul ∷ next ∷ sub ∷ next ∷ call ∷ ecall ∷ add ∷ []) jalr [] refl refl),
                                         tt,
                                       ),
                                     ),
@@ -131,18 +135,19 @@ told = record {
 }
 
 -- ---- the promises
-words : (words : List ℕ) × IsWovenTest far_bytes far_test far_options far_blocks words
-words = tests_have_words far_bytes far_test far_options far_blocks fit read sound admitted are (omega (arith, size))
+words : (words : List ℕ) × IsWovenTest far_test far_options far_blocks words
+words = tests_have_words far_test far_options far_blocks (read_sound far_bytes far_test fit read) sound admitted are (omega (arith, size))
 
 pub far_promised : FarPromised
 far_promised = record {
+  read = read;
   words = words.0;
   woven = words.1;
   far = far;
   table = refl;
   told = told;
-  kept = tests_kept far_bytes far_test far_options far_blocks words.0 far_plan words.1 told;
-  landed = tests_landed far_bytes far_test far_options far_blocks words.0 words.1;
-  caught = tests_caught far_bytes far_test far_options far_blocks words.0 far_plan words.1 told;
-  clean = tests_clean far_bytes far_test far_options far_blocks words.0 words.1 refl;
+  kept = tests_kept far_test far_options far_blocks words.0 far_plan words.1 told any_address (any_reached far_test far_options refl);
+  landed = tests_landed far_test far_options far_blocks words.0 words.1 any_address (any_reached far_test far_options refl);
+  caught = tests_caught far_test far_options far_blocks words.0 far_plan words.1 told any_address (any_reached far_test far_options refl);
+  clean = tests_clean far_test far_options far_blocks words.0 words.1 refl any_address (any_reached far_test far_options refl);
 }

@@ -214,7 +214,7 @@ module _ (cut : List Ins → List (List Ins)) (keeps : (is : List Ins) → whole
     few is e = mul-le-mul_left w.form.cost (leb-true (length is) most (and_parts _ _ e).1)
 
     inside_law :
-        (is : List Ins) (n : ℕ) (u s : State) (rest : List Item) → n < length is → PieceAt w j s.pc is → At w u (j.piece is s.pc ++ rest) s s
+        (is : List Ins) (n : ℕ) (u s : State) (rest : List Item) → n < length is → PieceAt w j s.pc is → At w u (j.code.piece is s.pc ++ rest) s s
         → Sourced w s → NotTrapped (run s n) → GoesTo w u n j.piece_steps (λ k x. Inside w s n x)
     inside_law is n u s rest l p a so calm =
         let a1 = subst (λ l. At w u l s s) (append_assoc (runs_items w.form (cut is) s.pc) checks rest) a in
@@ -225,7 +225,7 @@ module _ (cut : List Ins → List (List Ins)) (keeps : (is : List Ins) → whole
         record { steps = g.steps; to = g.to; at_least = g.at_least; within = omega (arith, g.within, m, same); walk = g.walk; is = g.is }
 
     piece_law :
-        (is : List Ins) (u s : State) (rest : List Item) → PieceAt w j s.pc is → At w u (j.piece is s.pc ++ rest) s s → Sourced w s
+        (is : List Ins) (u s : State) (rest : List Item) → PieceAt w j s.pc is → At w u (j.code.piece is s.pc ++ rest) s s → Sourced w s
         → NotTrapped (run s (length is)) → GoesTo w u (length is) j.piece_steps (Behind w j u s (length is) rest)
     piece_law is u s rest p a so calm =
         let t = run s (length is) in

@@ -3,3 +3,15 @@ pub mod Cut
 pub mod Joined
 pub mod Sizes
 pub mod FarTest
+pub mod ListedRuns
+pub mod ListedChanges
+pub mod LoopFile
+pub mod LoopExample
+pub mod LoopKept
+mod LoopCaught
+mod LoopClean
+pub mod StoreFile
+pub mod StoreExample
+pub mod StoreKept
+pub mod StoreRun
+mod StoreCaught

@@ -7,7 +7,8 @@ use Rattle.qed_model.specs.declared.options.Options.{Options}
 use Rattle.qed_model.specs.Admission.DataRanges.{data_ranges}
 use Rattle.qed_model.specs.Weave.Places.{image_of, half_of}
 use Rattle.qed_model.specs.Weave.Placed.{sum_of_sizes}
-use Rattle.qed_model.specs.Weave.Sequences.{Form, Block, original, each_part, compare, visit, visit_word, times, piece, pieces, enter, leave, body_length, entry_items, all_entries, prologue, stub}
+use Rattle.qed_model.specs.Weave.Sequences.{Form, Block, original, each_part, compare, visit, visit_word, times, piece, enter, leave, body_length, prologue, stub}
+use Rattle.qed_model.specs.Weave.Code.{block_items, entries_of, pieces_of, sequences}
 use Rattle.qed_model.specs.Weave.Woven.{form_of, items_in}
 use Rattle.qed_model.proofs.PlacedWords.{size-append}
 
@@ -25,11 +26,11 @@ module _ (far : Bool) (form : Form) where
   bare_pieces [] at = 0
   bare_pieces (p ∷ ps) at = (sum_of_sizes far (each_part original p at) + (sum_of_sizes far (each_part form.mirror p at) + sum_of_sizes far compare)) + bare_pieces ps (at + 4 * length p)
 
-  pieces_size : (ps : List (List Ins)) (at : ℕ) → sum_of_sizes far (pieces form ps at) ≡ bare_pieces ps at + length ps * (form.round * one_visit)
+  pieces_size : (ps : List (List Ins)) (at : ℕ) → sum_of_sizes far (pieces_of (sequences form) ps at) ≡ bare_pieces ps at + length ps * (form.round * one_visit)
   pieces_size [] at = omega arith
   pieces_size (p ∷ ps) at =
       let checks = compare ++ visit form.round form.spans in
-      let a = size-append far (piece form p at) (pieces form ps (at + 4 * length p)) in
+      let a = size-append far (piece form p at) (pieces_of (sequences form) ps (at + 4 * length p)) in
       let b = size-append far (each_part original p at) (each_part form.mirror p at ++ checks) in
       let c = size-append far (each_part form.mirror p at) checks in
       let d = size-append far compare (visit form.round form.spans) in
@@ -46,13 +47,13 @@ module _ (far : Bool) (form : Form) where
   count_pieces [] = 0
   count_pieces (b ∷ bs) = length b.body + count_pieces bs
 
-  entries_size : (bs : List Block) → sum_of_sizes far (all_entries form bs) ≡ bare_entries bs + count_pieces bs * (form.round * one_visit)
+  entries_size : (bs : List Block) → sum_of_sizes far (entries_of (sequences form) bs) ≡ bare_entries bs + count_pieces bs * (form.round * one_visit)
   entries_size [] = omega arith
   entries_size (b ∷ bs) =
       let end = leave form b.end (b.start + 4 * body_length b.body) in
-      let a = size-append far (entry_items form b) (all_entries form bs) in
-      let c = size-append far (enter b.start) (pieces form b.body b.start ++ end) in
-      let d = size-append far (pieces form b.body b.start) end in
+      let a = size-append far (block_items (sequences form) b) (entries_of (sequences form) bs) in
+      let c = size-append far (enter b.start) (pieces_of (sequences form) b.body b.start ++ end) in
+      let d = size-append far (pieces_of (sequences form) b.body b.start) end in
       let e = pieces_size b.body b.start in
       let rest = entries_size bs in
       omega (arith, a, c, d, e, rest)
@@ -67,7 +68,7 @@ pub code_counted : (f : ElfFile) (o : Options) (far : Bool) (blocks : List Block
 code_counted f o far blocks =
     let form = form_of f o far in
     let first = prologue (half_of o.half (image_of f)) (data_ranges (image_of f)) f.entry in
-    let a = size-append far first (all_entries form blocks ++ stub) in
-    let b = size-append far (all_entries form blocks) stub in
+    let a = size-append far first (entries_of (sequences form) blocks ++ stub) in
+    let b = size-append far (entries_of (sequences form) blocks) stub in
     let c = entries_size far form blocks in
     omega (arith, a, b, c)

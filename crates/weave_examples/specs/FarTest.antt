@@ -5,7 +5,9 @@ use Rattle.elf_types.specs.declared.file.ElfFile.{ElfFile}
 use Rattle.rv_isa.specs.declared.ins.Ins.{Ins}
 use Rattle.rv_isa.specs.declared.kind.Kind.TheVariants.{Lui, Jal, Ld, Sd, Mul, Sub, Ecall, Add, Jalr}
 use Rattle.qed_model.specs.declared.options.Options.{Options}
+use Rattle.qed_model.specs.declared.options.Entries.TheVariants as entries
 use Rattle.qed_model.specs.declared.plan.Plan.{Plan}
+use Rattle.elf_files.specs.File.{File}
 use Rattle.qed_model.specs.Elf.FileRead.{file_read}
 use Rattle.qed_model.specs.Machine.Loading.{loaded_file}
 use Rattle.qed_model.specs.Machine.Program.{Program}
@@ -77,7 +79,7 @@ far_test = record {
 
 -- a round of 1,024 visits, the sweep, and mirror parts of other kinds
 abbrev pub far_options : Options
-far_options = record { inst_min = 4; inst_max = 16; round = 1024; half = None; sweep = true; diverse = true }
+far_options = record { inst_min = 4; inst_max = 16; round = 1024; half = None; sweep = true; diverse = true; entries = entries.All }
 
 -- ---- its instructions and blocks
 -- a jump to the next address, so that an entry stands there
@@ -155,8 +157,9 @@ abbrev pub far_output : List ℕ → Program
 far_output words = loaded_file (file_read (woven_file far_test far_options far_blocks words))
 
 pub record FarPromised : Type 0 where
+  pub read : File far_bytes far_test
   pub words : List ℕ
-  pub woven : IsWovenTest far_bytes far_test far_options far_blocks words
+  pub woven : IsWovenTest far_test far_options far_blocks words
   pub far : is_far_code far_test far_options far_blocks ≡ true
   pub table : has_table far_blocks ≡ true
   pub told : IsToldOf far_test far_options far_blocks far_plan

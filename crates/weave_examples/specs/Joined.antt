@@ -12,6 +12,7 @@ use Rattle.qed_model.specs.Promise.Kept.{Kept}
 use Rattle.qed_model.specs.Promise.Landed.{IsEntry, Landed}
 use Rattle.qed_model.specs.Weave.Blocks.{begins_at}
 use Rattle.qed_model.specs.Weave.Pieces.{is_run, whole}
+use Rattle.qed_model.specs.Weave.Code.{sequences}
 use Rattle.qed_model.specs.Weave.Sequences.{Form, Block, original, each_part, compare, visit}
 use Rattle.weave_core.specs.World.{World}
 use Rattle.weave_core.specs.Rows.{Mirrors}
@@ -33,8 +34,8 @@ runs_items form (r ∷ rs) at = (each_part original r at ++ each_part form.mirro
 -- with a way of cutting instructions into runs, and `most` instructions in a piece
 abbrev pub joined : (List Ins → List (List Ins)) → Form → ℕ → Weave
 joined cut form most = record (weave_of form most) {
+  code = record (sequences form) { piece = λ is at. runs_items form (cut is) at ++ (compare ++ visit form.round form.spans) };
   fits = λ is. all_runs (cut is) && nat_le (length is) most;
-  piece = λ is at. runs_items form (cut is) at ++ (compare ++ visit form.round form.spans);
 }
 
 -- a way of cutting: from the end on, each run as long as it can be
@@ -60,13 +61,13 @@ JoinedLanded cut =
 abbrev pub JoinedCaught : (List Ins → List (List Ins)) → Type 0
 JoinedCaught cut =
     (f g : Program) (w : World) (most : ℕ) (blocks : List Block) (bounds : Bounds) → PlanOf f g w (joined cut w.form most) blocks → Mirrors w
-    → MirrorsFit w.form.far w.form.mirror → OnlyCode f g w (joined cut w.form most) blocks → 1 ≤ w.form.round
+    → MirrorsFit w.form.far w.form.mirror → OnlyCode f g w (joined cut w.form most).code blocks → 1 ≤ w.form.round
     → BoundsOf w (joined cut w.form most) bounds → Caught f g w.reached w.form.spans bounds
 
 abbrev pub JoinedClean : (List Ins → List (List Ins)) → Type 0
 JoinedClean cut =
     (f g : Program) (w : World) (most : ℕ) (blocks : List Block) → PlanOf f g w (joined cut w.form most) blocks → Mirrors w
-    → MirrorsFit w.form.far w.form.mirror → OnlyCode f g w (joined cut w.form most) blocks → 1 ≤ w.form.round → w.form.sweep ≡ true
+    → MirrorsFit w.form.far w.form.mirror → OnlyCode f g w (joined cut w.form most).code blocks → 1 ≤ w.form.round → w.form.sweep ≡ true
     → Clean f g w.reached w.form.spans ((joined cut w.form most).sweep_steps + 14)
 
 -- that the cut above keeps them, and gives runs: so each list of at most so many instructions is one piece

@@ -34,5 +34,5 @@ OneKept =
 abbrev pub OneCaught : Type 0
 OneCaught =
     (f g : Program) (w : World) (most : ℕ) (blocks : List Block) (bounds : Bounds) → PlanOf f g w (with_one w.form most) blocks → Mirrors w
-    → MirrorsFit w.form.far w.form.mirror → OnlyCode f g w (with_one w.form most) blocks → 1 ≤ w.form.round
+    → MirrorsFit w.form.far w.form.mirror → OnlyCode f g w (with_one w.form most).code blocks → 1 ≤ w.form.round
     → BoundsOf w (with_one w.form most) bounds → Caught f g w.reached w.form.spans bounds

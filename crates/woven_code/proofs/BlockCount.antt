@@ -5,12 +5,13 @@ use Rattle.std.specs.Prelude.{All, AllPairs, ◌==◌}
 use Rattle.std.proofs.lemmas.Bool.{and_parts, eqb-true, cases_lt}
 use Rattle.std.proofs.lemmas.List.Elements.{All-head, All-tail}
 use Rattle.elf_types.specs.declared.file.ElfFile.{ElfFile}
+use Rattle.qed_model.specs.declared.options.Options.{Options}
 use Rattle.rv_isa.specs.declared.ins.Ins.{Ins}
 use Rattle.qed_model.specs.Admission.CodeWords.{is_code}
 use Rattle.qed_model.specs.Admission.Leaders.{IsLeader}
 use Rattle.qed_model.specs.Weave.Blocks.{IsBodyAt, IsLeaderBlock, IsShort, IsOtherBlock, AreBlocks}
 use Rattle.qed_model.specs.Weave.Sequences.{Block, End, Falls, Stops, body_length}
-use Rattle.qed_model.proofs.Among.{Among}
+use Rattle.qed_model.specs.Members.{Among}
 use Rattle.qed_model.proofs.Fetches.{IsShapely, instruction_code}
 use Rattle.qed_model.proofs.PieceLaws.{EachPiece, Cut, Empty, Filled, pieces_whole, pieces_cut}
 use Rattle.weave_core.proofs.TestKnown.{body_size}
@@ -43,7 +44,7 @@ abbrev pub weight : List Block → ℕ
 weight [] = 0
 weight (b ∷ bs) = body_length b.body + length b.body + 1 + weight bs
 
-module _ (f : ElfFile) (shape : IsShapely f) (most : ℕ) (some : 1 ≤ most) where
+module _ (f : ElfFile) (shape : IsShapely f) (o : Options) (some : 1 ≤ o.inst_max) where
   -- ---- code addresses
   -- the list has each code address from `low` on
   record HasFrom (low : ℕ) (ns : List ℕ) : Type 0 where
@@ -69,7 +70,7 @@ module _ (f : ElfFile) (shape : IsShapely f) (most : ℕ) (some : 1 ≤ most) wh
 
   -- ---- lists of blocks
   abbrev Good : Block → Type 0
-  Good b = IsLeaderBlock f most b ⊎ IsOtherBlock f b
+  Good b = IsLeaderBlock f o b ⊎ IsOtherBlock f o b
 
   -- they ascend from `low` on
   abbrev Rising : ℕ → List Block → Type 0
@@ -79,39 +80,39 @@ module _ (f : ElfFile) (shape : IsShapely f) (most : ℕ) (some : 1 ≤ most) wh
   -- their leaders stand from `low` on
   abbrev LeadersFrom : ℕ → List Block → Type 0
   LeadersFrom low [] = Unit {0}
-  LeadersFrom low (b ∷ bs) = (IsLeader f b.start → low ≤ b.start) × LeadersFrom low bs
+  LeadersFrom low (b ∷ bs) = (IsLeader f o b.start → low ≤ b.start) × LeadersFrom low bs
 
   grain : (a : ℕ) → is_code f a ≡ true → a % 4 ≡ 0
   grain a e = eqb-true (a % 4) 0 (and_parts (a % 4 == 0) _ e).0
 
   -- a leader that stands behind the first address of a body stands behind the body
-  outside : (s n a : ℕ) → s % 4 ≡ 0 → ((k : ℕ) → 1 ≤ k → k < n → IsLeader f (s + 4 * k) → ⊥) → s < a → IsLeader f a → s + 4 * n ≤ a
+  outside : (s n a : ℕ) → s % 4 ≡ 0 → ((k : ℕ) → 1 ≤ k → k < n → IsLeader f o (s + 4 * k) → ⊥) → s < a → IsLeader f o a → s + 4 * n ≤ a
   outside s n a g inside lt l =
       let h = grain a l.code in
       ⊎_elim
       (λ x.
       let k : ℕ = (a - s) / 4 in
       let e : a ≡ s + 4 * ((a - s) / 4) = omega (arith, g, h, lt) in
-      absurd (inside k (omega (arith, e, lt)) (omega (arith, e, x)) (subst (IsLeader f) e l)))
+      absurd (inside k (omega (arith, e, lt)) (omega (arith, e, x)) (subst (IsLeader f o) e l)))
       (λ x. x)
       (cases_lt a (s + 4 * n))
 
   leaders_behind :
-      (s n : ℕ) → s % 4 ≡ 0 → ((k : ℕ) → 1 ≤ k → k < n → IsLeader f (s + 4 * k) → ⊥)
+      (s n : ℕ) → s % 4 ≡ 0 → ((k : ℕ) → 1 ≤ k → k < n → IsLeader f o (s + 4 * k) → ⊥)
       → (low : ℕ) (bs : List Block) → s < low → Rising low bs → LeadersFrom (s + 4 * n) bs
   leaders_behind s n g inside low [] lt up = tt
   leaders_behind s n g inside low (b ∷ bs) lt up = (outside s n b.start g inside (omega (arith, lt, up.0)), leaders_behind s n g inside (b.start + 1) bs (omega (arith, lt, up.0)) up.2)
 
   -- ---- the weight of blocks
   -- of a leader's block
-  leader_pieces : (body : List Ins) (ps : List (List Ins)) → Cut most body ps → body_length ps ≡ length body → length ps ≤ length body + 1
+  leader_pieces : (body : List Ins) (ps : List (List Ins)) → Cut o.inst_max body ps → body_length ps ≡ length body → length ps ≤ length body + 1
   leader_pieces body ps (Empty e p) same = omega (arith, ap length p)
-  leader_pieces body ps (Filled n each) same = omega (arith, few_pieces most ps each, same)
+  leader_pieces body ps (Filled n each) same = omega (arith, few_pieces o.inst_max ps each, same)
 
-  leader_weight : (b : Block) (l : IsLeaderBlock f most b) → body_length b.body + length b.body + 1 ≤ 2 * length l.body + 2
+  leader_weight : (b : Block) (l : IsLeaderBlock f o b) → body_length b.body + length b.body + 1 ≤ 2 * length l.body + 2
   leader_weight b l =
-      let same : body_length b.body ≡ length l.body = body_size b.body ∙ ap length (pieces_whole most l.body b.body some l.pieces) in
-      let few = leader_pieces l.body b.body (pieces_cut most l.body b.body some l.pieces) same in
+      let same : body_length b.body ≡ length l.body = body_size b.body ∙ ap length (pieces_whole o.inst_max l.body b.body some l.pieces) in
+      let few = leader_pieces l.body b.body (pieces_cut o.inst_max l.body b.body some l.pieces) same in
       omega (arith, same, few)
 
   -- of any other
@@ -160,7 +161,7 @@ module _ (f : ElfFile) (shape : IsShapely f) (most : ℕ) (some : 1 ≤ most) wh
   leaders_any [] = tt
   leaders_any (b ∷ bs) = (λ l. omega arith, leaders_any bs)
 
-  pub few_blocks : (bs : List Block) (ns : List ℕ) → AreBlocks f most bs → ((a : ℕ) → is_code f a ≡ true → Among a ns) → weight bs ≤ 5 * length ns
+  pub few_blocks : (bs : List Block) (ns : List ℕ) → AreBlocks f o bs → ((a : ℕ) → is_code f a ≡ true → Among a ns) → weight bs ≤ 5 * length ns
   few_blocks bs ns are all =
       let has : HasFrom 0 ns = record { all = λ a l c. all a c } in
       let sum = weight_below bs 0 0 ns ns (rising 0 bs (first_any bs) are.ascend are.each) (leaders_any bs) has has in

@@ -10,17 +10,18 @@ use Rattle.qed_model.specs.Machine.Loading.{load_segments}
 use Rattle.qed_model.specs.Weave.Blocks.{AreBlocks}
 use Rattle.qed_model.specs.Weave.Placed.{sum_of_sizes}
 use Rattle.qed_model.specs.Weave.Places.{AreSoundOptions, image_of, half_of}
-use Rattle.qed_model.specs.Weave.Sequences.{Block, prologue, all_entries, stub}
+use Rattle.qed_model.specs.Weave.Sequences.{Block, prologue, stub}
+use Rattle.qed_model.specs.Weave.Code.{entries_of, sequences}
 use Rattle.qed_model.specs.Weave.Woven.{form_of, items_in, is_far_code, code_size}
 use Rattle.qed_model.proofs.Addresses.{addresses_there}
 use Rattle.qed_model.proofs.Among.{among_of}
 use Rattle.qed_model.proofs.PlacedWords.{size-append}
-use Rattle.qed_model.proofs.RangeSegments.{AreLoads}
+use Rattle.qed_model.specs.Elf.Sound.{AreLoads}
 use Rattle.woven_code.proofs.BlockCount.{weight, few_blocks}
 use Rattle.woven_code.proofs.DataWords.{few_data}
 use Rattle.woven_code.proofs.ItemBytes.{mirror_small, prologue_small, entries_small}
 
-module _ (f : ElfFile) (o : Options) (sound : AreSoundOptions o) (loads : AreLoads (load_segments f.segments)) (admitted : IsAdmitted f o) (blocks : List Block) (are : AreBlocks f o.inst_max blocks) where
+module _ (f : ElfFile) (o : Options) (sound : AreSoundOptions o) (loads : AreLoads (load_segments f.segments)) (admitted : IsAdmitted f o) (blocks : List Block) (are : AreBlocks f o blocks) where
   -- there are no more code words than the limit
   few_words : (ns : List ℕ) → AreCodeAddresses f ns → length ns ≤ 1_048_576
   few_words ns all = ⊎_elim (λ x. absurd (admitted.words (length ns) (record { addresses = ns; all = all; count = refl; over = x }))) (λ x. x) (cases_lt 1_048_576 (length ns))
@@ -31,7 +32,7 @@ module _ (f : ElfFile) (o : Options) (sound : AreSoundOptions o) (loads : AreLoa
       let there = addresses_there f in
       let words = few_words there.0 there.1 in
       let some = most_some sound.some sound.room in
-      let sum = few_blocks f (record { loads = loads; sections = admitted.sections; segments = admitted.segments }) o.inst_max some blocks there.0 are (λ a e. among_of a there.0 ((there.1.all a).1 e)) in
+      let sum = few_blocks f (record { loads = loads; sections = admitted.sections; segments = admitted.segments }) o some blocks there.0 are (λ a e. among_of a there.0 ((there.1.all a).1 e)) in
       omega (arith, words, sum) where
         most_some : 1 ≤ o.inst_min → 2 * o.inst_min ≤ o.inst_max + 1 → 1 ≤ o.inst_max
         most_some x y = omega (arith, x, y)
@@ -42,7 +43,7 @@ module _ (f : ElfFile) (o : Options) (sound : AreSoundOptions o) (loads : AreLoa
       let form = form_of f o far in
       let first = prologue (half_of o.half (image_of f)) (data_ranges (image_of f)) f.entry in
       let entries = entries_small form (mirror_small far o.diverse) sound.few_visits (few_data f o sound loads admitted).ranges blocks in
-      omega (arith, few, entries, prologue_small far (half_of o.half (image_of f)) (data_ranges (image_of f)) f.entry, size-append far first (all_entries form blocks ++ stub), size-append far (all_entries form blocks) stub)
+      omega (arith, few, entries, prologue_small far (half_of o.half (image_of f)) (data_ranges (image_of f)) f.entry, size-append far first (entries_of (sequences form) blocks ++ stub), size-append far (entries_of (sequences form) blocks) stub)
 
   pub few_bytes : code_size f o blocks < 2 ^ 64 - 1
   few_bytes = form_bytes (is_far_code f o blocks)

@@ -9,7 +9,7 @@ use Rattle.qed_model.specs.Admission.Refusals.{IsAdmitted}
 use Rattle.qed_model.specs.Machine.Loading.{load_segments}
 use Rattle.qed_model.specs.Weave.OutputParts.{base_of, distance_of}
 use Rattle.qed_model.specs.Weave.Places.{AreSoundOptions, image_of, half_of}
-use Rattle.qed_model.proofs.RangeSegments.{AreLoads}
+use Rattle.qed_model.specs.Elf.Sound.{AreLoads}
 use Rattle.weave_core.specs.World.{GoodSpans, AllBelow}
 use Rattle.weave_core.proofs.FilesFit.{admitted_image}
 use Rattle.weave_core.proofs.ImageHalves.{are_spans}

@@ -19,7 +19,6 @@ use Rattle.qed_model.specs.Weave.Places.{image_of, half_of, code_place}
 use Rattle.qed_model.specs.Weave.Sequences.{Block, Falls, stub}
 use Rattle.qed_model.specs.Weave.Woven.{items_in, is_far_code, code_size, new_entries}
 use Rattle.qed_model.proofs.PlacedWords.{size-append}
-use Rattle.qed_model.proofs.ReadLoads.{read_loads}
 use Rattle.qed_model.proofs.Tables.{encode_decode}
 use Rattle.block_list.specs.declared.block.CodeBlock.{CodeBlock}
 use Rattle.block_list.specs.Listed.{block_of}
@@ -62,7 +61,7 @@ ascending rows blocks same up i j d l m =
     omega (arith, at i, at j, less)
 
 -- ---- either form of a test
-module _ (input : List ℕ) (f : ElfFile) (o : Options) (t : Test) (blocks : List CodeBlock) (cut : IsCut input f o t blocks) where
+module _ (f : ElfFile) (o : Options) (t : Test) (blocks : List CodeBlock) (cut : IsCut f o t blocks) where
   abbrev bs : List Block
   bs = map block_of blocks
 
@@ -112,12 +111,11 @@ module _ (input : List ℕ) (f : ElfFile) (o : Options) (t : Test) (blocks : Lis
   pub links : (far : Bool) → is_far_code f o bs ≡ far → LinksWithin far (place_of t) (items_of t o far blocks)
   links far e h =
       let b = cut.blocked in
-      let loads = read_loads input f (record { fit = b.bytes }) b.read in
-      let words = tests_have_words input f o bs b.bytes b.read b.sound b.admitted b.are (few far e h) in
-      let rows = are_rows f o b.sound loads b.admitted bs b.are in
+      let words = tests_have_words f o bs b.file b.sound b.admitted b.are (few far e h) in
+      let rows = are_rows f o b.sound b.file.loads b.admitted bs b.are in
       record {
         ascend = subst EntriesAscend (entries far e) (ascending (new_entries f o bs) bs rows.inputs_are b.are.ascend);
-        encoded = ap (λ is. list_all is_encoded is) (sym (instructions far e)) ∙ decoded words.0 (placed (is_far_code f o bs) (code_place o.half (image_of f)) (items_in f o (is_far_code f o bs) bs)) words.1.has.code.small words.1.has.code.code;
+        encoded = ap (λ is. list_all is_encoded is) (sym (instructions far e)) ∙ decoded words.0 (placed (is_far_code f o bs) (code_place o.half (image_of f)) (items_in f o (is_far_code f o bs) bs)) words.1.code.small words.1.code.code;
       }
 
   -- and what is linked is the new code of the test
@@ -135,7 +133,7 @@ module _ (input : List ℕ) (f : ElfFile) (o : Options) (t : Test) (blocks : Lis
   pub cause_of : (far : Bool) (x : LinkError) → is_far_code f o bs ≡ far → HasLinkCause far (items_of t o far blocks) x → far ≡ true → HasCause f o blocks x
   cause_of far (error.TooLarge n) e c is_far =
       let b = cut.blocked in
-      let exact = few_bytes f o b.sound (read_loads input f (record { fit = b.bytes }) b.read) b.admitted bs b.are in
+      let exact = few_bytes f o b.sound b.file.loads b.admitted bs b.are in
       (omega (arith, c.0, code_bytes far e, exact), subst (λ b. most_bytes b < n) is_far c.1)
   cause_of far error.Memory e c is_far = tt
 
@@ -144,7 +142,7 @@ module _ (input : List ℕ) (f : ElfFile) (o : Options) (t : Test) (blocks : Lis
   pub few_ranges : length t.span ≤ 67_108_864
   few_ranges =
       let b = cut.blocked in
-      let few = few_data f o b.sound (read_loads input f (record { fit = b.bytes }) b.read) b.admitted in
+      let few = few_data f o b.sound b.file.loads b.admitted in
       omega (arith, few.ranges, length-map t.span range_of, ap length cut.told.span)
 
   -- the form is that of the counted bytes

@@ -18,7 +18,8 @@ use Rattle.qed_model.specs.Machine.Step.{target}
 use Rattle.qed_model.specs.Machine.Table.{ins, kinds}
 use Rattle.qed_model.specs.Weave.Diverse.{Part, part_items, parts_of, diverse_as, diverse}
 use Rattle.qed_model.specs.Weave.Placed.{go_size, sum_of_sizes}
-use Rattle.qed_model.specs.Weave.Sequences.{Form, Block, End, Falls, Stops, fired_check, guard, guards_of, compare, wraps, visit_word, times, visit, sweep_range, sweep, is_auipc, original_as, original, mirror_as, mirrored, each_part, piece, pieces, links, before_end, leave_as, leave, go_on, body_length, entry_items, all_entries, prologue}
+use Rattle.qed_model.specs.Weave.Sequences.{Form, Block, End, Falls, Stops, fired_check, guard, guards_of, compare, wraps, visit_word, times, visit, sweep_range, sweep, is_auipc, original_as, original, mirror_as, mirrored, each_part, piece, links, before_end, leave_as, leave, go_on, body_length, prologue}
+use Rattle.qed_model.specs.Weave.Code.{block_items, entries_of, pieces_of, sequences}
 use Rattle.qed_model.specs.Weave.Woven.{mirror_of}
 use Rattle.qed_model.proofs.EachKind.{each_kind}
 use Rattle.qed_model.proofs.PlacedWords.{size-append}
@@ -140,10 +141,10 @@ module _ (form : Form) (mirror : (i : Ins) (at : ℕ) → sum_of_sizes form.far 
       let z = size-append far compare (visit form.round form.spans) in
       omega (arith, a, b, v, x, y, z)
 
-  pieces_small : (ps : List (List Ins)) (at : ℕ) → bytes (pieces form ps at) ≤ 56 * body_length ps + 1_374_389_559_400 * length ps
+  pieces_small : (ps : List (List Ins)) (at : ℕ) → bytes (pieces_of (sequences form) ps at) ≤ 56 * body_length ps + 1_374_389_559_400 * length ps
   pieces_small [] at = omega arith
   pieces_small (p ∷ ps) at =
-      omega (arith, size-append form.far (piece form p at) (pieces form ps (at + 4 * length p)), piece_small p at, pieces_small ps (at + 4 * length p))
+      omega (arith, size-append form.far (piece form p at) (pieces_of (sequences form) ps (at + 4 * length p)), piece_small p at, pieces_small ps (at + 4 * length p))
 
   -- the sweep has 44 bytes for each range
   end_small : bytes (before_end form) ≤ 2_952_790_120
@@ -165,11 +166,11 @@ module _ (form : Form) (mirror : (i : Ins) (at : ℕ) → sum_of_sizes form.far 
   ends_small Falls at = omega (arith, go_small form.far)
   ends_small (Stops i) at = leave_small (class_of i.kind) i at
 
-  entry_small : (b : Block) → bytes (entry_items form b) ≤ 1_374_389_559_400 * (body_length b.body + length b.body + 1)
+  entry_small : (b : Block) → bytes (block_items (sequences form) b) ≤ 1_374_389_559_400 * (body_length b.body + length b.body + 1)
   entry_small b =
       let n = b.start + 4 * body_length b.body in
-      omega (arith, size-append form.far (pieces form b.body b.start) (leave form b.end n), pieces_small b.body b.start, ends_small b.end n)
+      omega (arith, size-append form.far (pieces_of (sequences form) b.body b.start) (leave form b.end n), pieces_small b.body b.start, ends_small b.end n)
 
-  pub entries_small : (bs : List Block) → bytes (all_entries form bs) ≤ 1_374_389_559_400 * weight bs
+  pub entries_small : (bs : List Block) → bytes (entries_of (sequences form) bs) ≤ 1_374_389_559_400 * weight bs
   entries_small [] = omega arith
-  entries_small (b ∷ bs) = omega (arith, size-append form.far (entry_items form b) (all_entries form bs), entry_small b, entries_small bs)
+  entries_small (b ∷ bs) = omega (arith, size-append form.far (block_items (sequences form) b) (entries_of (sequences form) bs), entry_small b, entries_small bs)

@@ -215,7 +215,7 @@ blocks_more s old new all bs k b less is e f =
     ∙ e
 
 -- ---- of a test
-module _ (input : List ℕ) (f : ElfFile) (o : Options) (t : Test) (blocks : List CodeBlock) (cut : IsCut input f o t blocks) where
+module _ (f : ElfFile) (o : Options) (t : Test) (blocks : List CodeBlock) (cut : IsCut f o t blocks) where
   new_parts_are : (far : Bool) → is_far_code f o (map block_of blocks) ≡ far
       → map (row_of far) (parts_with t.distance t.entry (form_with (spans_of t.span) o far) (map block_of blocks)) ≡ new_roles f o (map block_of blocks)
   new_parts_are far e =
@@ -224,10 +224,10 @@ module _ (input : List ℕ) (f : ElfFile) (o : Options) (t : Test) (blocks : Lis
       ∙ ap (λ s. map (row_of far) (parts_with (half_of o.half (image_of f)) f.entry (form_with s o far) (map block_of blocks))) (spans_are t.span ∙ cut.told.span)
       ∙ ap (λ b. map (row_of b) (parts_with (half_of o.half (image_of f)) f.entry (form_of f o b) (map block_of blocks))) (sym e)
 
-module _ (o : Options) (t : Test) (blocks : List CodeBlock) (far : Bool) (taken : (input : List ℕ) (f : ElfFile) → IsCut input f o t blocks → is_far_code f o (map block_of blocks) ≡ far) where
+module _ (o : Options) (t : Test) (blocks : List CodeBlock) (far : Bool) (taken : (f : ElfFile) → IsCut f o t blocks → is_far_code f o (map block_of blocks) ≡ far) where
   pub roles_result :
       {A E : Type 0} (items : A → List RoleRow) (r : Result A E)
       → IfOk r (λ rows. items rows ≡ map (row_of far) (parts_with t.distance t.entry (form_with (spans_of t.span) o far) (map block_of blocks)))
-      → IfOk r (λ rows. (input : List ℕ) (f : ElfFile) → IsCut input f o t blocks → items rows ≡ new_roles f o (map block_of blocks))
-  roles_result items (Ok rows) e = λ input f cut. e ∙ new_parts_are input f o t blocks cut far (taken input f cut)
+      → IfOk r (λ rows. (f : ElfFile) → IsCut f o t blocks → items rows ≡ new_roles f o (map block_of blocks))
+  roles_result items (Ok rows) e = λ f cut. e ∙ new_parts_are f o t blocks cut far (taken f cut)
   roles_result items (Err x) e = tt

@@ -1,18 +1,16 @@
 -- The marks of new code stand where its blocks begin, by the bytes of the blocks alone.
 use Rattle.std.proofs.Common.{◌≡◌, ℕ, ◌+◌, ◌-◌, ◌^◌, ◌<◌, ◌≤◌, Bool, List, [], ◌∷◌, ◌++◌, length, map, drop, refl, sym, ap, ◌∙◌, subst, arith, get_or}
-use Rattle.std.specs.Prelude.{All, pos}
+use Rattle.std.specs.Prelude.{All}
 use Rattle.std.proofs.lemmas.List.{append-nil, append_assoc, drop_more, drop_all}
 use Rattle.std.proofs.lemmas.List.Elements.{All-head, All-tail}
-use Rattle.rv_isa.specs.declared.kind.Kind.TheVariants.{Beq}
 use Rattle.qed_model.specs.declared.item.Item.{Item}
-use Rattle.qed_model.specs.declared.item.Item.TheVariants.{Plain, Constant}
-use Rattle.qed_model.specs.Machine.Table.{ins}
 use Rattle.qed_model.specs.declared.options.Options.{Options}
 use Rattle.qed_model.specs.declared.plan.EntryRow.{EntryRow}
 use Rattle.qed_model.specs.declared.range.Range.{Range}
 use Rattle.qed_model.specs.declared.test.Test.{Test}
 use Rattle.qed_model.specs.Weave.Placed.{sum_of_sizes, rows_from}
-use Rattle.qed_model.specs.Weave.Sequences.{Form, fired_check, all_entries, prologue}
+use Rattle.qed_model.specs.Weave.Sequences.{Form, prologue}
+use Rattle.qed_model.specs.Weave.Code.{entries_of, sequences}
 use Rattle.block_list.specs.declared.block.CodeBlock.{CodeBlock}
 use Rattle.block_list.specs.Listed.{block_of}
 use Rattle.plc_rounds.specs.Spans.{spans_of}
@@ -20,7 +18,7 @@ use Rattle.relinker.specs.Counted.{capped}
 use Rattle.test_weave.specs.Fits.{FitsBlock}
 use Rattle.test_weave.specs.Form.{form_with}
 use Rattle.weave_core.proofs.FormMirrors.{unmarked_of}
-use Rattle.weave_core.proofs.Marks.{unmarked_prologue, behind, unmarked_behind}
+use Rattle.weave_core.proofs.Marks.{unmarked_prologue, unmarked_form, behind, unmarked_behind}
 use Rattle.weave_core.proofs.PlacingForm.{rows_behind}
 use Rattle.woven_code.specs.declared.size.Sizes.{Sizes}
 use Rattle.woven_code.specs.Code.{items_of}
@@ -69,15 +67,15 @@ module _ (far : Bool) (o : Options) (span : List Range) (s : Sizes) (are : AreSi
   abbrev form : Form
   form = form_with (spans_of span) o far
 
-  blocks_marked : (bs : List CodeBlock) (at : ℕ) → All FitsBlock bs → rows_from far at (all_entries form (map block_of bs)) ≡ rows_of s at bs
+  blocks_marked : (bs : List CodeBlock) (at : ℕ) → All FitsBlock bs → rows_from far at (entries_of (sequences form) (map block_of bs)) ≡ rows_of s at bs
   blocks_marked [] at fit = refl
   blocks_marked (b ∷ bs) at fit =
-      let mirrors = unmarked_of o.diverse in
-      let part : List Item = Constant 30 b.start ∷ Plain (ins Beq 0 16 30 (pos 8)) ∷ fired_check ∷ behind form mirrors (block_of b) in
-      let rest = all_entries form (map block_of bs) in
+      let law = unmarked_form form (unmarked_of o.diverse) in
+      let part : List Item = behind (sequences form) law (block_of b) in
+      let rest = entries_of (sequences form) (map block_of bs) in
       let size : sum_of_sizes far part ≡ block_bytes s b = omega (arith, block_is far o span s are b (All-head FitsBlock b bs fit)) in
       ap (λ l. record { input = b.start; output = at } ∷ l)
-      (rows_behind far at part rest (unmarked_behind form mirrors (block_of b)) ∙ ap (λ n. rows_from far (at + n) rest) size
+      (rows_behind far at part rest (unmarked_behind (sequences form) law (block_of b)) ∙ ap (λ n. rows_from far (at + n) rest) size
       ∙ blocks_marked bs (at + block_bytes s b) (All-tail FitsBlock b bs fit))
 
 pub items_marked :
@@ -86,6 +84,6 @@ pub items_marked :
 items_marked far o t s blocks are fit =
     let first = prologue t.distance (spans_of t.span) t.entry in
     let size : 0 + sum_of_sizes far first ≡ prologue_bytes s.go t.span = omega (arith, prologue_is far t.distance t.span t.entry, ap (λ g. prologue_bytes g t.span) are.go) in
-    rows_behind far 0 first (all_entries (form_with (spans_of t.span) o far) (map block_of blocks)) (unmarked_prologue t.distance (spans_of t.span) t.entry)
-    ∙ ap (λ n. rows_from far n (all_entries (form_with (spans_of t.span) o far) (map block_of blocks))) size
+    rows_behind far 0 first (entries_of (sequences (form_with (spans_of t.span) o far)) (map block_of blocks)) (unmarked_prologue t.distance (spans_of t.span) t.entry)
+    ∙ ap (λ n. rows_from far n (entries_of (sequences (form_with (spans_of t.span) o far)) (map block_of blocks))) size
     ∙ blocks_marked far o t.span s are blocks (prologue_bytes s.go t.span) fit

@@ -21,7 +21,8 @@ use Rattle.qed_model.specs.Machine.Table.{ins}
 use Rattle.qed_model.specs.Weave.Diverse.{Part, parts_of, diverse_as}
 use Rattle.qed_model.specs.Weave.Placed.{go_size, sum_of_sizes}
 use Rattle.qed_model.specs.Weave.Pieces.{divided}
-use Rattle.qed_model.specs.Weave.Sequences.{Form, fired_check, guard, guards_of, compare, visit_word, visit, sweep, is_auipc, original_as, original, mirror_as, mirrored, each_part, piece, pieces, links, before_end, leave_as, leave, go_on, body_length, entry_items, all_entries, prologue}
+use Rattle.qed_model.specs.Weave.Sequences.{Form, fired_check, guard, guards_of, compare, visit_word, visit, sweep, is_auipc, original_as, original, mirror_as, mirrored, each_part, piece, links, before_end, leave_as, leave, go_on, body_length, prologue}
+use Rattle.qed_model.specs.Weave.Code.{block_items, entries_of, pieces_of, sequences}
 use Rattle.qed_model.specs.Weave.Woven.{mirror_of}
 use Rattle.qed_model.proofs.PlacedWords.{size-append}
 use Rattle.block_list.specs.declared.block.CodeBlock.{CodeBlock}
@@ -127,7 +128,7 @@ module _ (far : Bool) (o : Options) (span : List Range) (s : Sizes) (are : AreSi
       let z = size-append far compare (visit o.round (spans_of span)) in
       omega (arith, parts, x, y, z, visit_is far o.round span, are.piece)
 
-  pieces_are : (ns : List ℕ) (is : List Ins) (at : ℕ) → sum ns ≡ length is → bytes (pieces form (divided ns is) at) ≡ body_bytes s.diverse is + length ns * s.piece
+  pieces_are : (ns : List ℕ) (is : List Ins) (at : ℕ) → sum ns ≡ length is → bytes (pieces_of (sequences form) (divided ns is) at) ≡ body_bytes s.diverse is + length ns * s.piece
   pieces_are [] [] at e = omega arith
   pieces_are [] (i ∷ is) at e = absurd (omega (arith, e))
   pieces_are (n ∷ ns) is at e =
@@ -135,7 +136,7 @@ module _ (far : Bool) (o : Options) (span : List Range) (s : Sizes) (are : AreSi
       let later = at + 4 * length (take n is) in
       let rest = pieces_are ns (drop n is) later (omega (arith, w, length-drop n is)) in
       omega
-      (arith, size-append far (piece form (take n is) at) (pieces form (divided ns (drop n is)) later), piece_is (take n is) at, rest, body_split s.diverse n is, suc-mul (length ns) s.piece)
+      (arith, size-append far (piece form (take n is) at) (pieces_of (sequences form) (divided ns (drop n is)) later), piece_is (take n is) at, rest, body_split s.diverse n is, suc-mul (length ns) s.piece)
 
   leave_as_is : (c : Class) (i : Ins) (at : ℕ) → bytes (leave_as form c i at) ≡ leave_as_bytes s c i
   leave_as_is class.End i at = omega (arith, end_is far o.sweep span, size-append far (before_end form) (Plain i ∷ []), are.end)
@@ -153,17 +154,17 @@ module _ (far : Bool) (o : Options) (span : List Range) (s : Sizes) (are : AreSi
   leave_is None at = omega (arith, are.go)
   leave_is (Some i) at = leave_as_is (class_of i.kind) i at
 
-  pub block_is : (b : CodeBlock) → FitsBlock b → bytes (entry_items form (block_of b)) ≡ block_bytes s b
+  pub block_is : (b : CodeBlock) → FitsBlock b → bytes (block_items (sequences form) (block_of b)) ≡ block_bytes s b
   block_is b fits =
       let ps = divided b.lengths b.body in
       let n = b.start + 4 * body_length ps in
-      omega (arith, size-append far (pieces form ps b.start) (leave form (end_of b.end) n), pieces_are b.lengths b.body b.start fits.whole, leave_is b.end n)
+      omega (arith, size-append far (pieces_of (sequences form) ps b.start) (leave form (end_of b.end) n), pieces_are b.lengths b.body b.start fits.whole, leave_is b.end n)
 
-  blocks_are : (bs : List CodeBlock) → All FitsBlock bs → bytes (all_entries form (map block_of bs)) ≡ blocks_bytes s bs
+  blocks_are : (bs : List CodeBlock) → All FitsBlock bs → bytes (entries_of (sequences form) (map block_of bs)) ≡ blocks_bytes s bs
   blocks_are [] fit = refl
   blocks_are (b ∷ bs) fit =
       omega
-      (arith, size-append far (entry_items form (block_of b)) (all_entries form (map block_of bs)), block_is b (All-head FitsBlock b bs fit), blocks_are bs (All-tail FitsBlock b bs fit))
+      (arith, size-append far (block_items (sequences form) (block_of b)) (entries_of (sequences form) (map block_of bs)), block_is b (All-head FitsBlock b bs fit), blocks_are bs (All-tail FitsBlock b bs fit))
 
 -- ---- what runs first
 pub prologue_is : (far : Bool) (d : ℕ) (rs : List Range) (entry : ℕ) → sum_of_sizes far (prologue d (spans_of rs) entry) ≡ prologue_bytes (go_size far) rs
@@ -178,7 +179,7 @@ code_is far o t s blocks are fit =
     let form = form_with (spans_of t.span) o far in
     omega (
       arith,
-      size-append far (prologue t.distance (spans_of t.span) t.entry) (all_entries form (map block_of blocks)),
+      size-append far (prologue t.distance (spans_of t.span) t.entry) (entries_of (sequences form) (map block_of blocks)),
       prologue_is far t.distance t.span t.entry,
       ap (λ g. prologue_bytes g t.span) are.go,
       blocks_are far o t.span s are blocks fit,

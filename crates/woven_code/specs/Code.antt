@@ -32,10 +32,10 @@ abbrev pub place_of : Test → ℕ
 place_of t = t.base + 3 * t.distance
 
 -- ---- of a test
--- the bytes are an admitted test, of which this is told, and these are its blocks
-pub record IsCut (input : List ℕ) (f : ElfFile) (o : Options) (t : Test) (blocks : List CodeBlock) : Type 0 where
+-- the file is an admitted test, of which this is told, and these are its blocks
+pub record IsCut (f : ElfFile) (o : Options) (t : Test) (blocks : List CodeBlock) : Type 0 where
   pub told : IsTestOf f o t
-  pub blocked : IsTestInBlocks input f o t.code blocks
+  pub blocked : IsTestInBlocks f o t.code blocks
 
 -- the words are the new code of the file, which is within the limit, and the entries are its entries
 pub record IsCodeOf (f : ElfFile) (o : Options) (blocks : List CodeBlock) (made : WovenCode) : Type 0 where

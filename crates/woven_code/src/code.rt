@@ -107,8 +107,8 @@ fn code_in(
 
 /// Whether the near form has more bytes than it may have.
 pub(crate) fn is_far(test: &Test, options: &Options, blocks: &[CodeBlock]) -> bool
-    requires { (input : List ℕ) × (f : ElfFile) × IsCut input f options.now test.now blocks.now }
-    ensures { (input : List ℕ) (f : ElfFile) → IsCut input f options.now test.now blocks.now → is_far_code f options.now (map block_of blocks.now) ≡ result }
+    requires { (f : ElfFile) × IsCut f options.now test.now blocks.now }
+    ensures { (f : ElfFile) → IsCut f options.now test.now blocks.now → is_far_code f options.now (map block_of blocks.now) ≡ result }
 {
     code_size(test, options, false, blocks) > MAX_NEAR_CODE_BYTES
 }
@@ -120,9 +120,9 @@ fn check_far(
     blocks: &[CodeBlock],
     far: bool,
 ) -> Result<(), LinkError>
-    requires cut { (input : List ℕ) × (f : ElfFile) × IsCut input f options.now test.now blocks.now }
-    requires form { (input : List ℕ) (f : ElfFile) → IsCut input f options.now test.now blocks.now → is_far_code f options.now (map block_of blocks.now) ≡ far }
-    ensures { IfErr result (λ e. (input : List ℕ) (f : ElfFile) → IsCut input f options.now test.now blocks.now → HasCause f options.now blocks.now e) }
+    requires cut { (f : ElfFile) × IsCut f options.now test.now blocks.now }
+    requires form { (f : ElfFile) → IsCut f options.now test.now blocks.now → is_far_code f options.now (map block_of blocks.now) ≡ far }
+    ensures { IfErr result (λ e. (f : ElfFile) → IsCut f options.now test.now blocks.now → HasCause f options.now blocks.now e) }
 {
     if !far {
         return Ok(());
@@ -144,9 +144,9 @@ pub fn woven_code(
     options: &Options,
     blocks: &[CodeBlock],
 ) -> Result<WovenCode, LinkError>
-    requires { (input : List ℕ) × (f : ElfFile) × IsCut input f options.now test.now blocks.now }
-    ensures code { IfOk result (λ code. (input : List ℕ) (f : ElfFile) → IsCut input f options.now test.now blocks.now → IsCodeOf f options.now blocks.now code) }
-    ensures cause { IfErr result (λ e. (input : List ℕ) (f : ElfFile) → IsCut input f options.now test.now blocks.now → HasCause f options.now blocks.now e) }
+    requires { (f : ElfFile) × IsCut f options.now test.now blocks.now }
+    ensures code { IfOk result (λ code. (f : ElfFile) → IsCut f options.now test.now blocks.now → IsCodeOf f options.now blocks.now code) }
+    ensures cause { IfErr result (λ e. (f : ElfFile) → IsCut f options.now test.now blocks.now → HasCause f options.now blocks.now e) }
 {
     let far = is_far(test, options, blocks);
     check_far(test, options, blocks, far)?;

@@ -342,8 +342,8 @@ pub fn code_roles(
     options: &Options,
     blocks: &[CodeBlock],
 ) -> Result<Vec<RoleRow>, AllocError>
-    requires { (input : List ℕ) × (f : ElfFile) × IsCut input f options.now test.now blocks.now }
-    ensures { IfOk result (λ rows. (input : List ℕ) (f : ElfFile) → IsCut input f options.now test.now blocks.now → rows.items ≡ new_roles f options.now (map block_of blocks.now)) }
+    requires { (f : ElfFile) × IsCut f options.now test.now blocks.now }
+    ensures { IfOk result (λ rows. (f : ElfFile) → IsCut f options.now test.now blocks.now → rows.items ≡ new_roles f options.now (map block_of blocks.now)) }
 {
     let far = is_far(test, options, blocks);
     roles_in(alloc, test, options, blocks, far)

@@ -5,9 +5,12 @@ use Rattle.rv_isa.specs.declared.ins.Ins.{Ins}
 use Rattle.rv_isa.specs.declared.class.Class.{Class}
 use Rattle.rv_isa.specs.Kind.{class_of}
 use Rattle.rv_isa.specs.declared.class.Class.TheVariants as class
+use Rattle.qed_model.specs.declared.options.Options.{Options}
+use Rattle.qed_model.specs.declared.options.Entries.TheVariants as entries
 use Rattle.qed_model.specs.Machine.Step.{target}
 use Rattle.qed_model.specs.Admission.Terms.{is_named_in}
 use Rattle.qed_model.specs.Admission.CodeWords.{is_code, instruction_at}
+use Rattle.qed_model.specs.Admission.Reached.{IsReached}
 
 -- JAL and branches, whose target is known
 abbrev pub has_target : Class → Bool
@@ -35,22 +38,24 @@ pub record HasInstruction (f : ElfFile) (of : Class → Bool) (a : ℕ) : Type 0
   pub stands : instruction_at f a ≡ Some instruction
   pub class : of (class_of instruction.kind) ≡ true
 
--- what makes an address the first of a block
-pub data Begins (f : ElfFile) (a : ℕ) : Type 0 where
-  -- the entry point
-  Entry : a ≡ f.entry → Begins f a
-  -- the target of a JAL or a branch
-  Target : (i : ℕ) (s : HasInstruction f has_target i) → a ≡ target s.instruction i → Begins f a
-  -- the address after an end
-  After : (i : ℕ) → HasInstruction f is_end i → a ≡ i + 4 → Begins f a
-  -- a symbol or a relocation names it
-  Named : is_named_in f a ≡ true → Begins f a
-
--- a leader
-pub record IsLeader (f : ElfFile) (a : ℕ) : Type 0 where
-  pub code : is_code f a ≡ true
-  pub begins : Begins f a
-
--- some code word is a JALR, so that each code address has an entry
+-- some code word is a JALR
 abbrev pub HasIndirect : ElfFile → Type 0
 HasIndirect f = (a : ℕ) × HasInstruction f is_indirect a
+
+-- what makes an address the first of a block
+pub data Begins (f : ElfFile) (o : Options) (a : ℕ) : Type 0 where
+  -- the entry point
+  Entry : a ≡ f.entry → Begins f o a
+  -- the target of a JAL or a branch
+  Target : (i : ℕ) (s : HasInstruction f has_target i) → a ≡ target s.instruction i → Begins f o a
+  -- the address after an end
+  After : (i : ℕ) → HasInstruction f is_end i → a ≡ i + 4 → Begins f o a
+  -- a symbol or a relocation names it
+  Named : is_named_in f a ≡ true → Begins f o a
+  -- a JALR may lead to it, where only such addresses have entries
+  Reached : o.entries ≡ entries.Reached → HasIndirect f → IsReached f o a → Begins f o a
+
+-- a leader
+pub record IsLeader (f : ElfFile) (o : Options) (a : ℕ) : Type 0 where
+  pub code : is_code f a ≡ true
+  pub begins : Begins f o a

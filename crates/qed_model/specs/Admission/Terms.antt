@@ -16,7 +16,7 @@ use Rattle.rv_isa.specs.declared.ins.Ins.{Ins}
 use Rattle.rv_isa.specs.Ins.{writes, reads}
 use Rattle.qed_model.specs.Machine.Values.{wrapped}
 use Rattle.qed_model.specs.Machine.Program.{LoadSegment}
-use Rattle.qed_model.specs.Elf.Rules.{is_at}
+use Rattle.qed_model.specs.Numbers.{is_at}
 use Rattle.qed_model.specs.Machine.Loading.{is_code_section, lies_in_code}
 
 -- ---- ranges

@@ -4,6 +4,8 @@ use Rattle.std.specs.List.{list_any}
 use Rattle.elf_types.specs.declared.file.ElfFile.{ElfFile}
 use Rattle.rv_isa.specs.declared.ins.Ins.{Ins}
 use Rattle.rv_isa.specs.Kind.{class_of}
+use Rattle.qed_model.specs.declared.options.Options.{Options}
+use Rattle.qed_model.specs.declared.options.Entries.TheVariants as entries
 use Rattle.qed_model.specs.Weave.Sequences.{Block, End, Falls, Stops}
 use Rattle.qed_model.specs.Admission.CodeWords.{is_code, instruction_at}
 use Rattle.qed_model.specs.Admission.Leaders.{IsLeader, HasIndirect, is_end}
@@ -17,28 +19,29 @@ IsBodyAt f a (i ∷ is) = (instruction_at f a ≡ Some i) × (is_end (class_of i
 
 -- how a body of n instructions stops at an address: before an end, which is no leader where the body has an instruction; or, with an
 -- instruction, before a leader or an address that is not code
-abbrev pub StopsAt : ElfFile → End → ℕ → ℕ → Type 0
-StopsAt f (Stops i) n a = (instruction_at f a ≡ Some i) × (is_end (class_of i.kind) ≡ true) × ((n ≡ 0) ⊎ (IsLeader f a → ⊥))
-StopsAt f Falls n a = (1 ≤ n) × (IsLeader f a ⊎ (is_code f a ≡ false))
+abbrev pub StopsAt : ElfFile → Options → End → ℕ → ℕ → Type 0
+StopsAt f o (Stops i) n a = (instruction_at f a ≡ Some i) × (is_end (class_of i.kind) ≡ true) × ((n ≡ 0) ⊎ (IsLeader f o a → ⊥))
+StopsAt f o Falls n a = (1 ≤ n) × (IsLeader f o a ⊎ (is_code f a ≡ false))
 
--- the block that begins at a leader: no leader stands inside of its body, which is cut into pieces of at most `most` instructions
-pub record IsLeaderBlock (f : ElfFile) (most : ℕ) (b : Block) : Type 0 where
-  pub leader : IsLeader f b.start
+-- the block that begins at a leader: no leader stands inside of its body, which is cut into pieces of at most `inst_max` instructions
+pub record IsLeaderBlock (f : ElfFile) (o : Options) (b : Block) : Type 0 where
+  pub leader : IsLeader f o b.start
   pub body : List Ins
   pub stands : IsBodyAt f b.start body
-  pub inside : (k : ℕ) → 1 ≤ k → k < length body → IsLeader f (b.start + 4 * k) → ⊥
-  pub stops : StopsAt f b.end (length body) (b.start + 4 * length body)
-  pub pieces : ArePieces most body b.body
+  pub inside : (k : ℕ) → 1 ≤ k → k < length body → IsLeader f o (b.start + 4 * k) → ⊥
+  pub stops : StopsAt f o b.end (length body) (b.start + 4 * length body)
+  pub pieces : ArePieces o.inst_max body b.body
 
--- ---- the block of another code address, where the code has a JALR
+-- ---- the block of another code address, where the code has a JALR and all code addresses have entries
 -- a piece of one instruction, which falls to the next address; or an empty piece and the end
 abbrev pub IsShort : Ins → List (List Ins) → End → Type 0
 IsShort i pieces Falls = (is_end (class_of i.kind) ≡ false) × (pieces ≡ (i ∷ []) ∷ [])
 IsShort i pieces (Stops e) = (is_end (class_of i.kind) ≡ true) × (pieces ≡ [] ∷ []) × (e ≡ i)
 
-pub record IsOtherBlock (f : ElfFile) (b : Block) : Type 0 where
+pub record IsOtherBlock (f : ElfFile) (o : Options) (b : Block) : Type 0 where
+  pub all : o.entries ≡ entries.All
   pub indirect : HasIndirect f
-  pub other : IsLeader f b.start → ⊥
+  pub other : IsLeader f o b.start → ⊥
   pub instruction : Ins
   pub stands : instruction_at f b.start ≡ Some instruction
   pub short : IsShort instruction b.body b.end
@@ -48,9 +51,9 @@ pub record IsOtherBlock (f : ElfFile) (b : Block) : Type 0 where
 abbrev pub begins_at : List Block → ℕ → Bool
 begins_at blocks a = list_any (λ b. b.start == a) blocks
 
--- each leader has its block, where the code has a JALR each code address has one, and there is no other
-pub record AreBlocks (f : ElfFile) (most : ℕ) (blocks : List Block) : Type 0 where
+-- each leader has its block, where the code has a JALR and all have entries each code address has one, and there is no other
+pub record AreBlocks (f : ElfFile) (o : Options) (blocks : List Block) : Type 0 where
   pub ascend : AllPairs (λ b c. b.start < c.start) blocks
-  pub each : All (λ b. IsLeaderBlock f most b ⊎ IsOtherBlock f b) blocks
-  pub leaders : (a : ℕ) → IsLeader f a → begins_at blocks a ≡ true
-  pub others : HasIndirect f → (a : ℕ) → is_code f a ≡ true → begins_at blocks a ≡ true
+  pub each : All (λ b. IsLeaderBlock f o b ⊎ IsOtherBlock f o b) blocks
+  pub leaders : (a : ℕ) → IsLeader f o a → begins_at blocks a ≡ true
+  pub others : o.entries ≡ entries.All → HasIndirect f → (a : ℕ) → is_code f a ≡ true → begins_at blocks a ≡ true

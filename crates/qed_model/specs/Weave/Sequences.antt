@@ -1,7 +1,7 @@
 -- The code sequences of the new code (this project's profile), as lists of items, and what it means that words stand for them.
 -- x17 to x29 hold the duplicates of x1 to x13, x14 the distance of the halves, x15 the address of the next visited data word, x16
 -- the signature, and x30 and x31 are temporaries.
-use Rattle.std.specs.Prelude.{◌≡◌, ℕ, zero, suc, ◌+◌, ◌*◌, ◌%◌, ◌^◌, Bool, true, false, cond, ◌==◌, List, [], ◌∷◌, ◌++◌, length, pos, neg_ℤ}
+use Rattle.std.specs.Prelude.{◌≡◌, ℕ, zero, suc, ◌+◌, ◌%◌, ◌^◌, Bool, true, false, cond, ◌==◌, List, [], ◌∷◌, ◌++◌, length, pos, neg_ℤ}
 use Rattle.rv_isa.specs.declared.kind.Kind.{Kind}
 use Rattle.rv_isa.specs.declared.kind.Kind.TheVariants.{Illegal, Lui, Auipc, Addi, Andi, Add, Beq, Bne, Ebreak, Jal, Jalr, Ld, Lw}
 use Rattle.rv_isa.specs.declared.ins.Ins.{Ins}
@@ -57,9 +57,13 @@ guards (q ∷ qs) = guard q ++ guards qs
 abbrev pub compare : List Item
 compare = guards (1 ∷ 2 ∷ 3 ∷ 4 ∷ 5 ∷ 6 ∷ 7 ∷ 8 ∷ 9 ∷ 10 ∷ 11 ∷ 12 ∷ 13 ∷ [])
 
--- begins the entry of an input address: fires where the signature in x16 is another
+-- fires where the signature in x16 is not that of an input address
+abbrev pub check_sign : ℕ → List Item
+check_sign a = Constant 30 a ∷ Plain (ins Beq 0 16 30 (pos 8)) ∷ fired_check ∷ []
+
+-- begins the entry of an input address
 abbrev pub enter : ℕ → List Item
-enter a = Mark a ∷ Constant 30 a ∷ Plain (ins Beq 0 16 30 (pos 8)) ∷ fired_check ∷ []
+enter a = Mark a ∷ check_sign a
 
 -- ---- visits
 -- behind the last word of a range the cursor in x15 goes on at the next range, behind that of the last range at `first`
@@ -137,11 +141,6 @@ each_part part (i ∷ is) at = part i at ++ each_part part is (at + 4)
 abbrev pub piece : Form → List Ins → ℕ → List Item
 piece form is at = each_part original is at ++ (each_part form.mirror is at ++ (compare ++ visit form.round form.spans))
 
--- pieces one after the other
-abbrev pub pieces : Form → List (List Ins) → ℕ → List Item
-pieces form [] at = []
-pieces form (p ∷ ps) at = piece form p at ++ pieces form ps (at + 4 * length p)
-
 -- ---- the leave of a block
 -- a block falls to the next address, or ends with a jump, a branch, an ECALL or a zero word
 pub data End : Type 0 where
@@ -190,15 +189,6 @@ pub record Block : Type 0 where
 abbrev pub body_length : List (List Ins) → ℕ
 body_length [] = 0
 body_length (p ∷ ps) = length p + body_length ps
-
--- the entry of a block: the check of the signature, the pieces, and the leave
-abbrev pub entry_items : Form → Block → List Item
-entry_items form b = enter b.start ++ (pieces form b.body b.start ++ leave form b.end (b.start + 4 * body_length b.body))
-
--- entries one after the other
-abbrev pub all_entries : Form → List Block → List Item
-all_entries form [] = []
-all_entries form (b ∷ bs) = entry_items form b ++ all_entries form bs
 
 -- ---- before and behind the entries
 -- sets n registers from x(a) on to 0

@@ -1,5 +1,5 @@
--- What is woven from a test: the output file, word for word, and what is told of it.
-use Rattle.std.specs.Prelude.{◌≡◌, ℕ, ◌^◌, ◌<◌, ◌≤◌, nat_lt, Bool, false, cond, List, ◌++◌, length, map, slice_index}
+-- What is woven from the file of a test: its new code, word for word, the file that has it, and what is told of it.
+use Rattle.std.specs.Prelude.{◌≡◌, ℕ, ◌^◌, ◌<◌, ◌≤◌, nat_lt, Bool, false, cond, List, length, map, slice_index}
 use Rattle.rv_isa.specs.declared.ins.Ins.{Ins}
 use Rattle.elf_types.specs.declared.file.ElfFile.{ElfFile}
 use Rattle.elf_types.specs.declared.output.OutFile.{OutFile}
@@ -12,16 +12,14 @@ use Rattle.qed_model.specs.declared.plan.EntryRow.{EntryRow}
 use Rattle.qed_model.specs.declared.plan.Plan.{Plan}
 use Rattle.qed_model.specs.declared.bounds.Shape.{Shape}
 use Rattle.qed_model.specs.Numbers.{bytes_of}
-use Rattle.qed_model.specs.Weave.Sequences.{Form, Block, mirrored, prologue, all_entries, stub}
+use Rattle.qed_model.specs.Weave.Sequences.{Form, Block, mirrored}
+use Rattle.qed_model.specs.Weave.Code.{sequences, code_of}
 use Rattle.qed_model.specs.Weave.Diverse.{diverse}
 use Rattle.qed_model.specs.Weave.Placed.{Decode, sum_of_sizes, rows_from, placed}
-use Rattle.qed_model.specs.Elf.File.{File}
 use Rattle.qed_model.specs.Elf.Layout.{written}
 use Rattle.qed_model.specs.Weave.OutputParts.{base_of}
 use Rattle.qed_model.specs.Admission.DataRanges.{range_of, data_ranges, word_count}
 use Rattle.qed_model.specs.Weave.Places.{image_of, half_of, code_place}
-use Rattle.qed_model.specs.Admission.Refusals.{IsAdmitted}
-use Rattle.qed_model.specs.Weave.Blocks.{AreBlocks}
 use Rattle.qed_model.specs.Weave.OutputFile.{has_table, file_of, piece_rows}
 use Rattle.qed_model.specs.Weave.Bounds.{cost_of, bounds_of}
 
@@ -34,9 +32,9 @@ mirror_of other = cond other diverse mirrored
 abbrev pub form_of : ElfFile → Options → Bool → Form
 form_of f o far = record { spans = data_ranges (image_of f); round = o.round; far = far; sweep = o.sweep; mirror = mirror_of o.diverse; cost = cost_of o.diverse }
 
--- its items: the prologue, the entries one after the other, and the stub
+-- its items
 abbrev pub items_in : ElfFile → Options → Bool → List Block → List Item
-items_in f o far blocks = prologue (half_of o.half (image_of f)) (data_ranges (image_of f)) f.entry ++ (all_entries (form_of f o far) blocks ++ stub)
+items_in f o far blocks = code_of (sequences (form_of f o far)) (half_of o.half (image_of f)) f.entry blocks
 
 -- the far form is taken where the near one has more bytes than a JAL spans
 abbrev pub is_far_code : ElfFile → Options → List Block → Bool
@@ -58,35 +56,10 @@ pub record IsNewCode (f : ElfFile) (o : Options) (blocks : List Block) (words : 
   pub small : (k : ℕ) → slice_index words k < 2 ^ 32
   pub code : Decode words (placed (is_far_code f o blocks) (code_place o.half (image_of f)) (new_items f o blocks))
 
--- the input is admitted, these are its blocks, and the words are its new code
-pub record HasNewCode (input : List ℕ) (o : Options) (f : ElfFile) (blocks : List Block) (words : List ℕ) : Type 0 where
-  pub read : File input f
-  pub admitted : IsAdmitted f o
-  pub are : AreBlocks f o.inst_max blocks
-  pub code : IsNewCode f o blocks words
-
 -- ---- the file
 -- in which these words are written
 abbrev pub woven_file : ElfFile → Options → List Block → List ℕ → OutFile
 woven_file f o blocks words = file_of f o.half (has_table blocks) (new_entries f o blocks) (bytes_of words)
-
--- this is the file with the new code of the input
-pub record WovenFile (input : List ℕ) (o : Options) (out : OutFile) : Type 0 where
-  pub file : ElfFile
-  pub blocks : List Block
-  pub words : List ℕ
-  pub has : HasNewCode input o file blocks words
-  pub woven : out ≡ woven_file file o blocks words
-
--- the output is that file, written
-pub record Woven (input : List ℕ) (o : Options) (output : List ℕ) : Type 0 where
-  pub out : OutFile
-  pub file : WovenFile input o out
-  pub bytes : output ≡ written out
-
--- an input has one output
-abbrev pub InputHasOneOutput : Type 0
-InputHasOneOutput = (input : List ℕ) (o : Options) (a b : List ℕ) → Woven input o a → Woven input o b → a ≡ b
 
 -- the new code has at most 67,108,864 bytes, and the output at most 4,000 segments and 536,870,912 bytes
 pub record IsWithin (f : ElfFile) (o : Options) (blocks : List Block) (out : OutFile) : Type 0 where

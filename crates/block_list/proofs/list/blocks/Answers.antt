@@ -13,14 +13,14 @@ returns-clause-exact c =
     let f = c.args.file.now in
     let most = c.args.options.now.inst_max in
     let leads = holds c.in_ok-leaders.leaders in
-    let built = subst (λ ws. Built leads c.has_indirect-indirect.result most ws c.in_ok-list.list.items) c.as_slice.ensures c.in_ok-list.ensures in
-    let all = are_blocks f leads c.in_ok-leaders.ensures.exact c.has_indirect-indirect.result (c.has_indirect-indirect.ensures.exact f c.requires.code.code) most c.args.test.now.code c.in_ok-list.list.items c.requires.code.code built in
-    subst (λ bs. AreBlocks f most (map block_of bs)) (sym c.of.ensures) all
+    let built = subst (λ ws. Built leads c.has_every-every.result most ws c.in_ok-list.list.items) c.as_slice.ensures c.in_ok-list.ensures in
+    let all = are_blocks f c.args.options.now leads c.in_ok-leaders.ensures.exact c.has_every-every.result (c.has_every-every.ensures f c.requires.test.code) c.args.test.now.code c.in_ok-list.list.items c.requires.test.code built in
+    subst (λ bs. AreBlocks f c.args.options.now (map block_of bs)) (sym c.of.ensures) all
 
 pub returns-clause-within : goal.returns-clause-within
 returns-clause-within c =
     let f = c.args.file.now in
     let most = c.args.options.now.inst_max in
     let leads = holds c.in_ok-leaders.leaders in
-    let built = subst (λ ws. Built leads c.has_indirect-indirect.result most ws c.in_ok-list.list.items) c.as_slice.ensures c.in_ok-list.ensures in
-    λ top small. subst (All (IsWithin top)) (sym c.of.ensures) (blocks_within f leads c.in_ok-leaders.ensures.exact c.has_indirect-indirect.result most c.args.test.now.code c.in_ok-list.list.items c.requires.code.code built top small)
+    let built = subst (λ ws. Built leads c.has_every-every.result most ws c.in_ok-list.list.items) c.as_slice.ensures c.in_ok-list.ensures in
+    λ top small. subst (All (IsWithin top)) (sym c.of.ensures) (blocks_within f c.args.options.now leads c.in_ok-leaders.ensures.exact c.has_every-every.result most c.args.test.now.code c.in_ok-list.list.items c.requires.test.code built top small)

@@ -1,7 +1,9 @@
-use Rattle.std.proofs.Common.{List, ℕ, subst}
-use Rattle.qed_model.specs.Elf.File.{File}
-use Rattle.qed_model.proofs.AcceptanceLaws.{read_as}
-use Rattle.qed_model.proofs.LoadsApart.{file_apart}
+use Rattle.std.proofs.Common.{rules, List, ℕ, ◌<◌, subst}
+use Rattle.std.specs.Prelude.{slice_index}
+use Rattle.elf_files.specs.File.{File}
+use Rattle.elf_files.proofs.AcceptanceLaws.{read_as}
+use Rattle.elf_files.proofs.LoadsApart.{file_apart}
+use Rattle.elf_files.proofs.ReadLoads.{read_sound}
 use Rattle.elf_read.proofs.read.read_elf.Goals as goal
 
 pub returns-clause-read : goal.returns-clause-read
@@ -14,3 +16,9 @@ pub returns-clause-apart : goal.returns-clause-apart
 returns-clause-apart c =
     let f = c.in_ok-file.field-0 in
     file_apart c.args.bytes.now f (subst (λ (b : List ℕ). File b f) c.in_ok-sound.ensures.same c.in_ok-file.ensures)
+
+pub returns-clause-sound : goal.returns-clause-sound
+returns-clause-sound c =
+    let f = c.in_ok-file.field-0 in
+    let fit : (k : ℕ) → slice_index c.args.bytes.now k < 256 = search rules in
+    read_sound c.args.bytes.now f fit (subst (λ (b : List ℕ). File b f) c.in_ok-sound.ensures.same c.in_ok-file.ensures)

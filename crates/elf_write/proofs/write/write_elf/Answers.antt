@@ -1,5 +1,5 @@
 use Rattle.std.proofs.Common.{◌≡◌, ◌++◌, ◌∙◌, ℕ, List, [], length, append_assoc, subst, sym}
-use Rattle.qed_model.specs.Elf.File.{IsReadAs}
+use Rattle.elf_files.specs.File.{IsReadAs}
 use Rattle.qed_model.specs.Elf.FileRead.{file_read}
 use Rattle.qed_model.specs.Elf.Written.{fields_bytes, program_headers, segments_bytes}
 use Rattle.qed_model.specs.Elf.Layout.{written, file_fields, start_of, headers_place, tables_bytes}

@@ -1,9 +1,6 @@
-use Rattle.flow_recovery.proofs.ReachLaws.{reached_found}
+use Rattle.qed_model.specs.Admission.Reached.{is_reached}
+use Rattle.flow_recovery.proofs.SetLaws.{adds_first}
 use Rattle.flow_recovery.proofs.reach.listed.Goals as goal
 
 pub returns : goal.returns
-returns c =
-    reached_found c.args.file.now c.args.test.now _ _ _ _ _ _ _ _ _ _ _
-    c.as_slice.ensures c.as_slice-symbols.ensures c.as_slice-relas.ensures c.as_slice-2.ensures c.new-list.ensures.items
-    c.in_ok-add.ensures c.in_ok-add_links.ensures c.in_ok-add_symbols.ensures
-    c.in_ok-add_relocations.ensures c.in_ok-add_data.ensures c.in_ok-add_constants.ensures
+returns c = adds_first _ _ (is_reached c.args.file.now c.args.test.now) c.new-list.ensures.items c.in_ok-add_reached.ensures

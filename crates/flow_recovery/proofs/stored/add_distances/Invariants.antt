@@ -1,7 +1,7 @@
 use Rattle.std.proofs.Common.{length, map}
 use Rattle.qed_model.specs.Admission.DataRanges.{range_of}
 use Rattle.flow_recovery.specs.Sets.{AddsBut}
-use Rattle.flow_recovery.specs.Reached.{words_in, is_in_table}
+use Rattle.qed_model.specs.Admission.Reached.{words_in, is_in_table}
 use Rattle.flow_recovery.proofs.stored.add_distances.Given as goal
 
 -- those of the rest are to come

@@ -1,7 +1,7 @@
 use Rattle.std.proofs.Common.{length}
 use Rattle.std.specs.List.{list_any}
 use Rattle.flow_recovery.specs.Sets.{AddsBut}
-use Rattle.flow_recovery.specs.Reached.{words_in, is_low_half}
+use Rattle.qed_model.specs.Admission.Reached.{words_in, is_low_half}
 use Rattle.flow_recovery.proofs.stored.add_low_halves.Given as goal
 
 -- those of the rest are to come

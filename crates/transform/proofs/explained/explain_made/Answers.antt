@@ -14,7 +14,7 @@ returns-clause-done c =
     let code = c.in_ok-code.code in
     let roles = c.in_ok-roles.roles in
     let are = subst (λ bs. roles.items ≡ new_roles cut.file o (map block_of bs)) c.as_slice.ensures
-    (c.in_ok-roles.ensures input cut.file (subst (λ bs. IsCut input cut.file o cut.test bs) (sym c.as_slice.ensures) is)) in
+    (c.in_ok-roles.ensures cut.file (subst (λ bs. IsCut cut.file o cut.test bs) (sym c.as_slice.ensures) is)) in
     explained_of input o cut.test cut.blocks c.args.made.now.file c.args.made.now.plan
     (record { file = cut.file; base = cut.test.base + 3 * cut.test.distance; words = code.linked.words; roles = roles })
-    code c.requires.made is c.in_ok-code.ensures.code refl refl are
+    code c.requires.made c.in_ok-cut.ensures.read.file is c.in_ok-code.ensures.code refl refl are

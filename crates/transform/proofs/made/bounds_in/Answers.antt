@@ -6,6 +6,5 @@ use Rattle.transform.proofs.made.bounds_in.Goals as goal
 
 pub unreachable-requires : goal.unreachable-requires
 unreachable-requires c =
-    let r = c.requires in
     c.in-None.ensures (subst (λ s. AreSmall (bounds_of s)) (sym c.shape_of.ensures)
-    (bounds_small r.0 c.args.cut.now.file c.args.options.now c.args.cut.now.test c.args.cut.now.blocks r.1 c.args.far))
+    (bounds_small c.args.cut.now.file c.args.options.now c.args.cut.now.test c.args.cut.now.blocks c.requires c.args.far))

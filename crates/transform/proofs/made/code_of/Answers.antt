@@ -1,5 +1,7 @@
-use Rattle.std.proofs.Common.{sym, subst}
-use Rattle.woven_code.specs.Code.{IsCut, IsCodeOf}
+use Rattle.std.proofs.Common.{◌≡◌, sym, subst}
+use Rattle.relinker.specs.declared.error.LinkError.TheVariants as link
+use Rattle.woven_code.specs.Code.{IsCut, IsCodeOf, HasCause}
+use Rattle.transform.proofs.Making.{too_much}
 use Rattle.transform.proofs.made.code_of.Goals as goal
 
 pub returns-in-Ok-clause-code : goal.returns-in-Ok-clause-code
@@ -8,4 +10,18 @@ returns-in-Ok-clause-code c =
     let f = c.args.cut.now.file in
     let o = c.args.options.now in
     subst (λ bs. IsCodeOf f o bs c.in-Ok.code) c.as_slice.ensures
-    (subst (λ x. IsCodeOf f o c.as_slice.result.now x) c.in-Ok.code-is (c.in-Ok.ensures.code r.0 f (subst (λ bs. IsCut r.0 f o c.args.cut.now.test bs) (sym c.as_slice.ensures) r.1)))
+    (subst (λ x. IsCodeOf f o c.as_slice.result.now x) c.in-Ok.code-is (c.in-Ok.ensures.code f (subst (λ bs. IsCut f o c.args.cut.now.test bs) (sym c.as_slice.ensures) r)))
+
+pub returns-in-Err-TooLarge-clause-refused : goal.returns-in-Err-TooLarge-clause-refused
+returns-in-Err-TooLarge-clause-refused c input read cut =
+    let f = c.args.cut.now.file in
+    let o = c.args.options.now in
+    let t = c.args.cut.now.test in
+    let bs = c.as_slice.result.now in
+    let n = c.in-Err-TooLarge.size in
+    let why = c.in-Err-TooLarge.ensures.cause f (subst (λ x. IsCut f o t x) (sym c.as_slice.ensures) cut) in
+    let outer = c.in-Err-TooLarge.field-0-is in
+    let inner = c.in-Err-TooLarge.size-is in
+    let same : c.in-Err-TooLarge.field-0 ≡ link.TooLarge n = cc in
+    too_much input f o t c.args.cut.now.blocks n cut read
+    (subst (λ x. HasCause f o x (link.TooLarge n)) c.as_slice.ensures (subst (λ e. HasCause f o bs e) same why))

@@ -1,9 +1,9 @@
 use Rattle.std.proofs.Common.{◌≡◌, ℕ, ◌*◌, List, ap, ◌∙◌}
 use Rattle.elf_types.specs.declared.output.OutFile.{OutFile}
-use Rattle.qed_model.specs.Elf.File.{IsReadAs}
+use Rattle.elf_files.specs.File.{IsReadAs}
+use Rattle.woven_code.specs.Code.{IsCut}
 use Rattle.qed_model.specs.Weave.OutputParts.{out_symbols}
 use Rattle.output_file.specs.Sizes.{symbols_room}
-use Rattle.woven_code.specs.Code.{IsCut}
 use Rattle.transform.specs.declared.error.TransformError.{TransformError}
 use Rattle.transform.specs.Transform.{HasCause}
 use Rattle.transform.proofs.Making.{made_of, no_symbols}
@@ -11,10 +11,10 @@ use Rattle.transform.proofs.Promises.{exceeded, if_err}
 use Rattle.transform.proofs.made.make.Goals as goal
 
 pub returns-clause-made : goal.returns-clause-made
-returns-clause-made c input cut =
+returns-clause-made c =
     let code = c.in_ok-code.code in
     let rows = c.as_slice-entries.result.now in
-    made_of input c.args.cut.now.file c.args.options.now c.args.cut.now.test c.args.cut.now.blocks cut code c.in_ok-code.ensures.code
+    made_of c.args.cut.now.file c.args.options.now c.args.cut.now.test c.args.cut.now.blocks c.requires.cut code c.in_ok-code.ensures.code
     c.as_slice-blocks.result.now rows c.deref.result.now (4 * c.len.result) c.bounds_in-bounds.result c.has_table-table.result c.in_ok-out.out c.in_ok-plan.plan
     c.as_slice-blocks.ensures c.as_slice-entries.ensures.value c.deref.ensures.value (ap (λ n. 4 * n) (c.len.ensures ∙ code.linked.words.ok.0)) c.bounds_in-bounds.ensures c.has_table-table.ensures
     c.requires.fit c.requires.apart
@@ -33,12 +33,12 @@ returns-in_err-check_bare-clause-refused c =
     let out : OutFile = record c.in_ok-bare.bare { symbols = symbols } in
     let e = c.in_err-check_bare.field-0.0 in
     let room : c.symbols_size.result ≡ symbols_room symbols = c.symbols_size.ensures rows ∙ ap (λ s. symbols_room (out_symbols rows s)) c.as_slice-symbols.ensures in
-    let P : TransformError → Type 0 = λ e. (input : List ℕ) → IsReadAs input f → IsCut input f o t blocks → HasCause input o e in
+    let P : TransformError → Type 0 = λ e. (input : List ℕ) → IsReadAs input f → IsCut f o t blocks → HasCause input o e in
     if_err c.from_residual-in_err-check_bare.result e P c.from_residual-in_err-check_bare.ensures.1
     (λ input read cut.
-    let made = made_of input f o t blocks cut code c.in_ok-code.ensures.code
+    let made = made_of f o t blocks cut code c.in_ok-code.ensures.code
     c.as_slice-blocks.result.now rows c.deref.result.now (4 * c.len.result) c.bounds_in-bounds.result c.has_table-table.result out c.in_ok-plan.plan
     c.as_slice-blocks.ensures c.as_slice-entries.ensures.value c.deref.ensures.value (ap (λ n. 4 * n) (c.len.ensures ∙ code.linked.words.ok.0)) c.bounds_in-bounds.ensures c.has_table-table.ensures
     c.requires.fit c.requires.apart (λ o e i. record (c.in_ok-bare.ensures o e i) { symbols = symbols }) c.in_ok-plan.ensures in
-    let none = no_symbols input f o t blocks cut code c.in_ok-code.ensures.code rows c.has_table-table.result c.deref.result.now c.in_ok-bare.bare c.as_slice-entries.ensures.value c.requires.fit c.requires.apart c.in_ok-bare.ensures in
-    exceeded input f o blocks out c.in_ok-plan.plan made read e (c.in_err-check_bare.ensures symbols none room))
+    let none = no_symbols f o t blocks cut code c.in_ok-code.ensures.code rows c.has_table-table.result c.deref.result.now c.in_ok-bare.bare c.as_slice-entries.ensures.value c.requires.fit c.requires.apart c.in_ok-bare.ensures in
+    exceeded input f o blocks out c.in_ok-plan.plan read made e (c.in_err-check_bare.ensures symbols none room))

@@ -10,7 +10,7 @@ pub returns : goal.returns
 returns c =
     let f = c.args.cut.now.file in
     let rs = c.as_slice-span.result.now in
-    let span : map range_of rs ≡ data_ranges (image_of f) = ap (λ l. map range_of l) c.as_slice-span.ensures ∙ c.requires.1.told.span in
+    let span : map range_of rs ≡ data_ranges (image_of f) = ap (λ l. map range_of l) c.as_slice-span.ensures ∙ c.requires.told.span in
     same_shape f c.args.options.now c.args.far c.word_count.result (length rs)
     (c.word_count.ensures (test_spaced f rs span) ∙ ap word_count span)
     (sym (length-map rs range_of) ∙ ap length span)

@@ -1,0 +1,69 @@
+-- The PT_LOAD segments of a file that was read fit into memory, and share no byte.
+use Rattle.std.proofs.Common.{◌≡◌, ℕ, zero, suc, ◌+◌, ◌<◌, Bool, true, false, cond, ◌==◌, List, [], ◌∷◌, Some, refl, sym, ap, ◌∙◌, subst, inl, inr, arith}
+use Rattle.std.specs.Prelude.{slice_get}
+use Rattle.std.proofs.lemmas.Bool.{eqb-true}
+use Rattle.std.proofs.lemmas.Bool.Decides.{nat_tests}
+use Rattle.elf_types.specs.declared.file.ElfFile.{ElfFile}
+use Rattle.elf_types.specs.declared.file.Segment.{Segment}
+use Rattle.elf_files.specs.Header.{e_phnum}
+use Rattle.elf_files.specs.File.{File, segment_of}
+use Rattle.qed_model.specs.Machine.Program.{LoadSegment}
+use Rattle.qed_model.specs.Machine.Loading.{load_segment, load_segments}
+use Rattle.qed_model.specs.Machine.Apart.{FitsMemory, AllFitMemory, share, Overlaps, AreApart}
+use Rattle.elf_files.proofs.AcceptanceLaws.{accepted}
+use Rattle.qed_model.specs.Members.{Among, Every, Pairs}
+use Rattle.elf_files.proofs.ReadFacts.{sized_segment}
+use Rattle.elf_files.proofs.ReadLoads.{among_each, read_apart, segment_low}
+use Rattle.qed_model.specs.Elf.Sound.{ApartLoads, Apart}
+
+-- ---- each fits
+all_fit : (ss : List Segment) → ((s : Segment) → Among s ss → s.kind ≡ 1 → FitsMemory (load_segment s)) → AllFitMemory (load_segments ss)
+all_fit [] h = tt
+all_fit (s ∷ ss) h =
+    elim (s.kind == 1) as (λ t. (s.kind == 1) ≡ t → AllFitMemory (cond t (load_segment s ∷ load_segments ss) (load_segments ss))) [
+      | true ↦ λ e. (h s (inl refl) (eqb-true s.kind 1 e), all_fit ss (λ t m. h t (inr m)))
+      | false ↦ λ e. all_fit ss (λ t m. h t (inr m))
+    ] refl
+
+pub file_fits : (file : List ℕ) (f : ElfFile) → File file f → AllFitMemory (load_segments f.segments)
+file_fits file f read =
+    all_fit f.segments (λ s m k.
+    let l = among_each (e_phnum file) (segment_of file) s (subst (λ ss. Among s ss) read.segments m) in
+    let shape = (accepted file read.accepted).segment_shapes l.place l.below in
+    subst (λ x. FitsMemory (load_segment x)) (sym l.is) (sized_segment file l.place shape, segment_low file l.place (ap (λ x. x.kind) (sym l.is) ∙ k) shape))
+
+-- ---- no two share a byte
+unshared : (s t : Segment) → s.kind ≡ 1 → t.kind ≡ 1 → ApartLoads s t → share (load_segment s) (load_segment t) ≡ true → ⊥
+unshared s t k l h e = by (h k l some.0 some.1) where
+  some : (0 < s.memory) × (0 < t.memory) × (s.address < t.address + t.memory) × (t.address < s.address + s.memory)
+  some = (grind (arith, nat_tests), grind (arith, nat_tests), grind (arith, nat_tests), grind (arith, nat_tests))
+
+  by : Apart s t → ⊥
+  by (inl x) = let a = some.3 in absurd (omega (arith, x, a))
+  by (inr x) = let a = some.2 in absurd (omega (arith, x, a))
+
+-- what a loaded one shares with none of, by its place
+alone : (s : Segment) (ss : List Segment) → s.kind ≡ 1 → Every (ApartLoads s) ss → (j : ℕ) (t : LoadSegment) → slice_get (load_segments ss) j ≡ Some t → share (load_segment s) t ≡ true → ⊥
+alone s [] k h j t e = λ x. absurd (cc)
+alone s (u ∷ ss) k h j t e = by (λ i. alone s ss k h.1 i t) (u.kind == 1) refl j e where
+  by : ((i : ℕ) → slice_get (load_segments ss) i ≡ Some t → share (load_segment s) t ≡ true → ⊥) → (b : Bool) → (u.kind == 1) ≡ b → (i : ℕ) → slice_get (cond b (load_segment u ∷ load_segments ss) (load_segments ss)) i ≡ Some t → share (load_segment s) t ≡ true → ⊥
+  by rest true is zero e x = let same : load_segment u ≡ t = cc in unshared s u k (eqb-true u.kind 1 is) h.0 (subst (λ y. share (load_segment s) y ≡ true) (sym same) x)
+  by rest true is (suc i) e x = rest i e x
+  by rest false is i e x = rest i e x
+
+apart : (ss : List Segment) → Pairs ApartLoads ss → AreApart (load_segments ss)
+apart [] h = λ i j o. let e = o.first_at in absurd (cc)
+apart (s ∷ ss) h = by (apart ss h.1) (s.kind == 1) refl where
+  by : AreApart (load_segments ss) → (b : Bool) → (s.kind == 1) ≡ b → (i j : ℕ) → Overlaps (cond b (load_segment s ∷ load_segments ss) (load_segments ss)) i j → ⊥
+  by rest false is i j o = rest i j o
+  by rest true is i zero o = let l = o.order in absurd (omega arith)
+  by rest true is zero (suc j) o =
+      let e = o.first_at in
+      let same : load_segment s ≡ o.first = cc in
+      alone s ss (eqb-true s.kind 1 is) h.0 j o.second o.second_at (subst (λ x. share x o.second ≡ true) (sym same) o.share)
+  by rest true is (suc i) (suc j) o =
+      let l = o.order in
+      rest i j (record { order = omega arith; first = o.first; second = o.second; first_at = o.first_at; second_at = o.second_at; share = o.share })
+
+pub file_apart : (file : List ℕ) (f : ElfFile) → File file f → AreApart (load_segments f.segments)
+file_apart file f read = apart f.segments (read_apart file f read)

@@ -1,0 +1,56 @@
+-- What is woven from a test is one file.
+use Rattle.std.proofs.Common.{◌≡◌, ℕ, suc, ◌^◌, ◌<◌, List, [], ◌∷◌, Some, refl, sym, ap, ◌∙◌, subst}
+use Rattle.std.specs.Prelude.{slice_index}
+use Rattle.rv_isa.specs.declared.ins.Ins.{Ins}
+use Rattle.elf_types.specs.declared.file.ElfFile.{ElfFile}
+use Rattle.elf_types.specs.declared.output.OutFile.{OutFile}
+use Rattle.qed_model.specs.declared.options.Options.{Options}
+use Rattle.qed_model.specs.Machine.Table.{decode_of}
+use Rattle.qed_model.specs.Weave.Placed.{Decode, placed}
+use Rattle.qed_model.specs.Weave.Sequences.{Block}
+use Rattle.qed_model.specs.Elf.Layout.{written}
+use Rattle.qed_model.specs.Weave.Places.{image_of, code_place}
+use Rattle.qed_model.specs.Weave.Blocks.{AreBlocks}
+use Rattle.qed_model.specs.Weave.Woven.{is_far_code, new_items, IsNewCode, woven_file}
+use Rattle.elf_files.specs.Output.{Woven, WovenFile}
+use Rattle.qed_model.proofs.Tables.{encode_decode}
+use Rattle.elf_files.proofs.ReadFacts.{one_file}
+use Rattle.qed_model.proofs.BlocksOnly.{blocks_only}
+
+-- each instruction has one word
+pub same_words : (xs ys : List ℕ) (is : List Ins) → ((k : ℕ) → slice_index xs k < 2 ^ 32) → ((k : ℕ) → slice_index ys k < 2 ^ 32) → Decode xs is → Decode ys is → xs ≡ ys
+same_words [] [] is p q a b = refl
+same_words [] (y ∷ ys) [] p q a b = absurd (cc)
+same_words [] (y ∷ ys) (i ∷ is) p q a b = absurd (cc)
+same_words (x ∷ xs) ys [] p q a b = absurd (cc)
+same_words (x ∷ xs) [] (i ∷ is) p q a b = absurd (cc)
+same_words (x ∷ xs) (y ∷ ys) (i ∷ is) p q a b =
+    let dx : decode_of x ≡ Some i = cc in
+    let dy : decode_of y ≡ Some i = cc in
+    let ex = encode_decode x i (p 0) dx in
+    let ey = encode_decode y i (q 0) dy in
+    let one : x ≡ y = cc in
+    let ra : Decode xs is = cc in
+    let rb : Decode ys is = cc in
+    ap (λ z. z ∷ xs) one ∙ ap (λ zs. y ∷ zs) (same_words xs ys is (λ k. p (suc k)) (λ k. q (suc k)) ra rb)
+
+-- a test has one file, and its blocks have one code
+pub one_new_code : (f : ElfFile) (o : Options) (blocks : List Block) (xs ys : List ℕ) → IsNewCode f o blocks xs → IsNewCode f o blocks ys → xs ≡ ys
+one_new_code f o blocks xs ys a b = same_words xs ys (placed (is_far_code f o blocks) (code_place o.half (image_of f)) (new_items f o blocks)) a.small b.small a.code b.code
+
+pub one_woven_test : (input : List ℕ) (o : Options) (a b : OutFile) → WovenFile input o a → WovenFile input o b → a ≡ b
+one_woven_test input o a b x y =
+    let f = x.file in
+    let same : y.file ≡ f = one_file input y.file f y.has.read x.has.read in
+    let are : AreBlocks f o y.blocks = subst (λ g. AreBlocks g o y.blocks) same y.has.are in
+    let blocks : y.blocks ≡ x.blocks = blocks_only f o y.blocks x.blocks are x.has.are in
+    let there : IsNewCode f o y.blocks y.words = subst (λ g. IsNewCode g o y.blocks y.words) same y.has.code in
+    let code : IsNewCode f o x.blocks y.words = subst (λ bs. IsNewCode f o bs y.words) blocks there in
+    let words : y.words ≡ x.words = one_new_code f o x.blocks y.words x.words code x.has.code in
+    let moved : woven_file y.file o y.blocks y.words ≡ woven_file f o y.blocks y.words = ap (λ g. woven_file g o y.blocks y.words) same in
+    let kept : woven_file f o y.blocks y.words ≡ woven_file f o x.blocks y.words = ap (λ bs. woven_file f o bs y.words) blocks in
+    x.woven ∙ sym (y.woven ∙ moved ∙ kept ∙ ap (λ ws. woven_file f o x.blocks ws) words)
+
+-- so it has one output
+pub one_output : (input : List ℕ) (o : Options) (a b : List ℕ) → Woven input o a → Woven input o b → a ≡ b
+one_output input o a b x y = x.bytes ∙ ap written (one_woven_test input o x.out y.out x.file y.file) ∙ sym y.bytes

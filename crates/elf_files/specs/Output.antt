@@ -1,0 +1,36 @@
+-- The output of an input: the bytes of both, and the file between them.
+use Rattle.std.specs.Prelude.{◌≡◌, ℕ, List}
+use Rattle.elf_types.specs.declared.file.ElfFile.{ElfFile}
+use Rattle.elf_types.specs.declared.output.OutFile.{OutFile}
+use Rattle.qed_model.specs.declared.options.Options.{Options}
+use Rattle.qed_model.specs.Weave.Sequences.{Block}
+use Rattle.qed_model.specs.Elf.Layout.{written}
+use Rattle.qed_model.specs.Admission.Refusals.{IsAdmitted}
+use Rattle.qed_model.specs.Weave.Blocks.{AreBlocks}
+use Rattle.qed_model.specs.Weave.Woven.{IsNewCode, woven_file}
+use Rattle.elf_files.specs.File.{File}
+
+-- the input is admitted, these are its blocks, and the words are its new code
+pub record HasNewCode (input : List ℕ) (o : Options) (f : ElfFile) (blocks : List Block) (words : List ℕ) : Type 0 where
+  pub read : File input f
+  pub admitted : IsAdmitted f o
+  pub are : AreBlocks f o blocks
+  pub code : IsNewCode f o blocks words
+
+-- this is the file with the new code of the input
+pub record WovenFile (input : List ℕ) (o : Options) (out : OutFile) : Type 0 where
+  pub file : ElfFile
+  pub blocks : List Block
+  pub words : List ℕ
+  pub has : HasNewCode input o file blocks words
+  pub woven : out ≡ woven_file file o blocks words
+
+-- the output is that file, written
+pub record Woven (input : List ℕ) (o : Options) (output : List ℕ) : Type 0 where
+  pub out : OutFile
+  pub file : WovenFile input o out
+  pub bytes : output ≡ written out
+
+-- an input has one output
+abbrev pub InputHasOneOutput : Type 0
+InputHasOneOutput = (input : List ℕ) (o : Options) (a b : List ℕ) → Woven input o a → Woven input o b → a ≡ b

@@ -1,0 +1,128 @@
+-- Runs that are worked out over a list of instructions: of code without loads and stores, whose instructions are known.
+use Rattle.std.proofs.Common.{◌≡◌, ℕ, zero, suc, ◌+◌, ◌%◌, ◌^◌, Bool, true, false, cond, ◌&&◌, List, [], ◌∷◌, Option, Some, None, refl, sym, ap, ◌∙◌, arith}
+use Rattle.std.specs.Prelude.{◌==◌}
+use Rattle.std.proofs.lemmas.Bool.{eqb-true, and_parts}
+use Rattle.rv_isa.specs.declared.ins.Ins.{Ins}
+use Rattle.rv_isa.specs.declared.class.Class.{Class}
+use Rattle.rv_isa.specs.declared.class.Class.TheVariants as class
+use Rattle.rv_isa.specs.Kind.{class_of}
+use Rattle.rv_isa.specs.Regs.{set_reg}
+use Rattle.qed_model.specs.declared.machine.Outcome.{Outcome}
+use Rattle.qed_model.specs.declared.machine.Outcome.TheVariants.{Going}
+use Rattle.qed_model.specs.declared.machine.Cause.TheVariants as cause
+use Rattle.qed_model.specs.Machine.Memory.{Memory}
+use Rattle.qed_model.specs.Machine.Values.{holds}
+use Rattle.qed_model.specs.Machine.Step.{State, reg, moved, imm, next_pc, Fetched, Known, HasAt, fetched_at, next, jumped, execute, trapped, step, run}
+use Rattle.qed_model.specs.Machine.Program.{Program, AreStartRegs, memory_of, zeros}
+use Rattle.elf_types.specs.declared.file.ElfFile.{ElfFile}
+use Rattle.qed_model.specs.Machine.Loading.{loaded_file}
+use Rattle.qed_model.proofs.ExampleCode.{StandFrom}
+use Rattle.qed_model.proofs.Fields.{are_bytes}
+use Rattle.qed_model.proofs.Fetches.{IsShapely, known_instruction}
+use Rattle.qed_model.proofs.Steps.{step-known}
+
+-- a start from registers 0
+pub are_zeros : AreStartRegs zeros
+are_zeros = record { count = refl; fit = λ r. let b = are_bytes zeros refl r in omega (arith, b) }
+
+-- the instruction at an address, of some that stand one after the other
+abbrev pub instruction_at : ℕ → List Ins → ℕ → Option Ins
+instruction_at base [] a = None
+instruction_at base (i ∷ is) a = cond (a == base) (Some i) (instruction_at (base + 4) is a)
+
+-- no load or store
+abbrev pub is_simple : Class → Bool
+is_simple class.Compute = true
+is_simple class.Branch = true
+is_simple class.Jump = true
+is_simple class.End = true
+is_simple class.Break = true
+is_simple _ = false
+
+abbrev pub is_simple_at : Option Ins → Bool
+is_simple_at None = false
+is_simple_at (Some i) = is_simple (class_of i.kind)
+
+abbrev pub is_going : Outcome → Bool
+is_going Going = true
+is_going _ = false
+
+-- what an instruction does, if there is one
+abbrev pub go_at : Option Ins → State → State
+go_at None s = s
+go_at (Some i) s = execute (class_of i.kind) i s
+
+-- some steps, with the instructions of the list
+abbrev pub go : ℕ → List Ins → ℕ → State → State
+go base is zero s = s
+go base is (suc n) s = go base is n (go_at (instruction_at base is s.pc) s)
+
+-- each of the steps starts at such an instruction
+abbrev pub is_simple_run : ℕ → List Ins → ℕ → State → Bool
+is_simple_run base is zero s = true
+is_simple_run base is (suc n) s = is_going s.outcome && (is_simple_at (instruction_at base is s.pc) && is_simple_run base is n (go_at (instruction_at base is s.pc) s))
+
+pub found : (c : ℕ → Fetched) (base : ℕ) (is : List Ins) (a : ℕ) (i : Ins) → HasAt c base is → instruction_at base is a ≡ Some i → c a ≡ Known i
+found c base [] a i h e = absurd (cc)
+found c base (j ∷ is) a i h e = by (a == base) refl (λ o. found c (base + 4) is a i h.1 o) where
+  by : (b : Bool) → (a == base) ≡ b → (instruction_at (base + 4) is a ≡ Some i → c a ≡ Known i) → c a ≡ Known i
+  by true t rest =
+      let same : Some j ≡ Some i = sym (ap (λ b. cond b (Some j) (instruction_at (base + 4) is a)) t) ∙ e in
+      let this : j ≡ i = cc in
+      ap c (eqb-true a base t) ∙ h.0 ∙ ap Known this
+  by false t rest = rest (sym (ap (λ b. cond b (Some j) (instruction_at (base + 4) is a)) t) ∙ e)
+
+-- the memory and the code ranges are those of the other state
+abbrev pub SameCode : State → State → Type 0
+SameCode t s = (t.memory ≡ s.memory) × (t.ranges ≡ s.ranges)
+
+either : (b : Bool) (t u s : State) → SameCode t s → SameCode u s → SameCode (cond b t u) s
+either true t u s x y = x
+either false t u s x y = y
+
+jump_leaves : (regs : List ℕ) (target : ℕ) (s : State) → SameCode (jumped regs target s) s
+unfolding jumped
+jump_leaves regs target s = either (target % 4 == 0) (moved regs target s) (trapped (cause.Target target) s) s (refl, refl) (refl, refl)
+
+-- such an instruction leaves the memory and the code ranges
+leaves : (k : Class) (i : Ins) (s : State) → is_simple k ≡ true → SameCode (execute k i s) s
+unfolding execute
+leaves class.Compute i s e = (refl, refl)
+leaves class.Branch i s e = either (holds i.kind (reg s i.rs1) (reg s i.rs2)) (jumped s.regs ((s.pc + imm i) % 2 ^ 64) s) (moved s.regs (next_pc s) s) s (jump_leaves s.regs ((s.pc + imm i) % 2 ^ 64) s) (refl, refl)
+leaves class.Jump i s e = jump_leaves (set_reg i.rd (next_pc s) s.regs) ((s.pc + imm i) % 2 ^ 64) s
+leaves class.End i s e = (refl, refl)
+leaves class.Break i s e = (refl, refl)
+leaves _ i s e = absurd (cc)
+
+going : (o : Outcome) → is_going o ≡ true → o ≡ Going
+going Going e = refl
+going _ e = absurd (cc)
+
+-- where the instructions stand in the code, the run is that of the list
+module _ (m : Memory) (ranges : List (ℕ × ℕ)) (base : ℕ) (is : List Ins) (stand : HasAt (fetched_at m ranges) base is) where
+  step_is :
+      (x : Option Ins) (s : State) → instruction_at base is s.pc ≡ x → is_going s.outcome ≡ true → is_simple_at x ≡ true → s.memory ≡ m
+      → s.ranges ≡ ranges → (step s ≡ go_at x s) × SameCode (go_at x s) s
+  step_is None s e g p n r = absurd (cc)
+  step_is (Some i) s e g p n r =
+      let here : next s ≡ Known i = ap (λ m. fetched_at m s.ranges s.pc) n ∙ ap (λ r. fetched_at m r s.pc) r ∙ found (fetched_at m ranges) base is s.pc i stand e in
+      (step-known s i (going s.outcome g) here, leaves (class_of i.kind) i s p)
+
+  pub run_is : (n : ℕ) (s : State) → is_simple_run base is n s ≡ true → s.memory ≡ m → s.ranges ≡ ranges → run s n ≡ go base is n s
+  unfolding run
+  run_is zero s p e r = refl
+  run_is (suc n) s p e r =
+      let x = instruction_at base is s.pc in
+      let both = and_parts (is_going s.outcome) (is_simple_at x && is_simple_run base is n (go_at x s)) p in
+      let rest = and_parts (is_simple_at x) (is_simple_run base is n (go_at x s)) both.1 in
+      let first = step_is x s refl both.0 rest.0 e r in
+      ap (λ t. run t n) first.0 ∙ run_is n (go_at x s) rest.1 (first.1.0 ∙ e) (first.1.1 ∙ r)
+
+-- a state of a run that has left the memory of a file as it was
+abbrev pub state_of : Program → List ℕ → ℕ → Outcome → State
+state_of f regs pc outcome = record { regs = regs; pc = pc; memory = memory_of f.segments; ranges = f.ranges; outcome = outcome }
+
+-- the code of a file whose instructions are known
+pub has_code : (f : ElfFile) → IsShapely f → (a : ℕ) (is : List Ins) → StandFrom f a is → HasAt (fetched_at (memory_of (loaded_file f).segments) (loaded_file f).ranges) a is
+has_code f h a [] s = tt
+has_code f h a (i ∷ is) s = (known_instruction f h a i s.0, has_code f h (a + 4) is s.1)

@@ -1,0 +1,80 @@
+-- The promise on the end of a test at work, on a known test with a loop and with the sweep: a change of x5, made before the sweep, is
+-- not silent at the end.
+use Rattle.std.proofs.Common.{◌≡◌, ◌≢◌, ◌⊎◌, ℕ, ◌+◌, ◌-◌, ◌<◌, true, false, List, [], ◌∷◌, refl, sym, ap, ◌∙◌, arith}
+use Rattle.std.specs.Prelude.{pos}
+use Rattle.rv_isa.specs.declared.ins.Ins.{Ins}
+use Rattle.rv_isa.specs.declared.kind.Kind.TheVariants.{Beq, Bne}
+use Rattle.qed_model.specs.Machine.Table.{ins}
+use Rattle.qed_model.specs.declared.machine.Outcome.TheVariants.{Going, Ended, Fired}
+use Rattle.qed_model.specs.Elf.FileRead.{file_read}
+use Rattle.qed_model.specs.Machine.Loading.{loaded_file}
+use Rattle.qed_model.specs.Machine.Program.{Program, memory_of, start, zeros}
+use Rattle.qed_model.specs.Machine.Step.{HasAt, fetched_at, execute, jumped, computed_value}
+use Rattle.qed_model.specs.Machine.Values.{value, holds}
+use Rattle.qed_model.specs.Promise.Caught.{Same}
+use Rattle.qed_model.specs.Promise.Changed.{changed_run}
+use Rattle.qed_model.specs.Promise.Clean.{Clean}
+use Rattle.qed_model.specs.Promise.Closed.{is_closed, uses, guards_other}
+use Rattle.qed_model.specs.Promise.Kept.{after_output, any_address}
+use Rattle.qed_model.specs.Weave.Placed.{placed}
+use Rattle.qed_model.specs.Weave.Woven.{woven_file, new_items}
+use Rattle.qed_model.proofs.ExampleCode.{swept, sound}
+use Rattle.weave_examples.proofs.LoopFile.{loop, loop_sound}
+use Rattle.weave_examples.proofs.LoopExample.{loop_swept_admitted, loop_blocks, loop_are}
+use Rattle.qed_model.proofs.Walk.{run-more}
+use Rattle.qed_model.proofs.Steady.{steady_any}
+use Rattle.qed_model.proofs.OneTest.{any_reached}
+use Rattle.weave_core.specs.Tests.{IsWovenTest}
+use Rattle.weave_examples.proofs.ListedRuns.{are_zeros, is_simple_run, go, run_is}
+use Rattle.weave_examples.proofs.LoopKept.{loop_loads, loop_input, input_ended}
+use Rattle.weave_core.proofs.TestKept as kept
+use Rattle.weave_core.proofs.Tests.{tests_have_words}
+use Rattle.weave_core.proofs.Trace.{run-ended}
+use Rattle.weave_examples.proofs.ListedChanges.{closed_there}
+use Rattle.weave_examples.proofs.LoopCaught.{seven, turn}
+use Rattle.lockstep.proofs.Tests.{tests_clean}
+
+words : (words : List ℕ) × IsWovenTest loop swept loop_blocks words
+words = tests_have_words loop swept loop_blocks loop_sound (sound true) loop_swept_admitted (loop_are true) (omega arith)
+
+abbrev output : Program
+output = loaded_file (file_read (woven_file loop swept loop_blocks words.0))
+
+-- no change is silent at the end that was made before the last 14 steps
+clean : Clean loop_input output any_address [] 14
+clean = tests_clean loop swept loop_blocks words.0 words.1 refl any_address (any_reached loop swept refl)
+
+-- ---- its run, over the instructions of its new code
+abbrev new_code : List Ins
+new_code = placed false 0x13000 (new_items loop swept loop_blocks)
+
+stand : HasAt (fetched_at (memory_of output.segments) output.ranges) 0x13000 new_code
+stand = kept.stand loop swept (sound true) loop_loads loop_swept_admitted loop_blocks (loop_are true) words.0 words.1.code words.1.few
+
+output_run : (n : ℕ) → is_simple_run 0x13000 new_code n (start output zeros) ≡ true → after_output output zeros n ≡ go 0x13000 new_code n (start output zeros)
+output_run n simple = run_is (memory_of output.segments) output.ranges 0x13000 new_code stand n (start output zeros) simple refl refl
+
+-- it ends with step 130: with the 13 comparisons of the sweep behind the 117 steps that it has without it
+output_end : (after_output output zeros 130).outcome ≡ Ended
+unfolding execute jumped computed_value value holds
+output_end = ap (λ s. s.outcome) (output_run 130 refl)
+
+output_goes_on : (after_output output zeros 129).outcome ≡ Going
+unfolding execute jumped computed_value value holds
+output_goes_on = ap (λ s. s.outcome) (output_run 129 refl)
+
+not_before : (k : ℕ) → k < 130 → (after_output output zeros k).outcome ≢ Ended
+not_before k l e =
+    let sum : k + (129 - k) ≡ 129 = omega (arith, l) in
+    let stays : after_output output zeros 129 ≡ after_output output zeros k = ap (after_output output zeros) (sym sum) ∙ run-more (start output zeros) k (129 - k) ∙ run-ended (129 - k) (after_output output zeros k) e in
+    let both : Going ≡ Ended = sym output_goes_on ∙ ap (λ s. s.outcome) stays ∙ e in
+    absurd (cc)
+
+-- ---- the change: 7 in x5 after 72 steps, where its guard is next
+is_open : is_closed (after_output output zeros 72) 5 ≡ false
+unfolding uses guards_other execute jumped computed_value value holds
+is_open = ap (λ s. is_closed s 5) (output_run 72 refl) ∙ closed_there output 0x13000 new_code stand 5 (turn 1) 0x1319c (ins Beq 0 5 21 (pos 8)) (ins Bne 0 5 0 (pos 8)) refl refl
+
+-- all premises of the promise are met
+not_silent : ((changed_run (start output zeros) (seven 72 ∷ []) 130).outcome ≡ Fired) ⊎ (((changed_run (start output zeros) (seven 72 ∷ []) 130).outcome ≡ Ended) × Same [] (changed_run (start output zeros) (seven 72 ∷ []) 130) (after_output output zeros 130))
+not_silent = clean.settles zeros (seven 72 ∷ []) 130 are_zeros tt ((omega arith, omega arith), is_open, tt) (omega arith) output_end not_before ((steady_any loop_input 130).1 (input_ended 130 (omega arith)))
