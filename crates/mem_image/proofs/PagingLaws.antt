@@ -1,9 +1,14 @@
 -- Pages that are made from segments.
 use Rattle.std.proofs.Common.{◌≡◌, ℕ, zero, suc, ◌+◌, ◌-◌, ◌<◌, ◌≤◌, Bool, true, false, cond, List, [], ◌∷◌, ◌++◌, length, Option, Some, None, refl, sym, ap, subst, ◌∙◌, arith, get_or, ⊎_elim, ◌⊎◌, inl, inr}
-use Rattle.std.specs.Prelude.{All, Contains, IsPermutation, slice_get, slice_index}
-use Rattle.std.proofs.lemmas.Option.{slice_get-get_or, slice_get_within}
-use Rattle.std.proofs.lemmas.List.Elements.{Contains-append_left, Contains-push}
-use Rattle.std.proofs.lemmas.List.Sorted.{Contains-permutation}
+use Rattle.std.specs.Prelude.{All, IsPermutation, nat_eq, slice_get, slice_index}
+use Rattle.std.specs.List.{IsDistinct}
+use Rattle.std.specs.List.Sorted.{IsNonDecreasingBy}
+use Rattle.std.proofs.lemmas.Cmp.{nat_eq_equiv, on_equiv}
+use Rattle.std.proofs.lemmas.Option.{slice_get-get_or, slice_get_within, get_or_from_slice_get}
+use Rattle.std.proofs.lemmas.List.Elements.{All-push, Contains-append_left, Contains-push}
+use Rattle.std.proofs.lemmas.List.Folds.{list_any_none}
+use Rattle.std.proofs.lemmas.List.Sorted.{All-permutation, Contains-permutation}
+use Rattle.std.proofs.lemmas.Map.Keys.{IsDistinct-push, IsDistinct-IsPermutation, apart_from_distinct}
 use Rattle.std.proofs.lemmas.Bool.Decides.{nat_tests}
 use Rattle.std.proofs.lemmas.Bool.{cases_lt, false≢true}
 use Rattle.qed_model.specs.Machine.Memory.{Cell}
@@ -11,11 +16,11 @@ use Rattle.qed_model.specs.Machine.Program.{LoadSegment}
 use Rattle.qed_model.specs.Machine.Cells.{has, cell_at, cell_among}
 use Rattle.qed_model.specs.Machine.Apart.{AllFitMemory, FitsMemory, share, AreApart}
 use Rattle.mem_image.specs.Overlap.{segment_of, segments_of, Ascends, AreSound}
-use Rattle.mem_image.specs.Pages.{IsPageOf, Below, first_part, IsPaged, Names, AreNamed, HasOne, Covers}
+use Rattle.mem_image.specs.Pages.{IsPageOf, Below, first_part, IsPaged, IsPlace, Orders, Names, HasOne, Covers}
 use Rattle.mem_image.proofs.SegmentLaws.{cell_among-none, cell_among-first}
 use Rattle.mem_image.specs.declared.spec.SegmentSpec.{SegmentSpec}
 use Rattle.mem_image.proofs.OverlapLaws.{segment_there}
-use Rattle.mem_image.proofs.WholeLaws.{before_apart}
+use Rattle.mem_image.proofs.WholeLaws.{before_apart, shared}
 use Rattle.qed_model.proofs.CellsAmong.{has_from, has_parts}
 use Rattle.mem_image.proofs.PlaceLaws.{outside}
 
@@ -99,7 +104,7 @@ some_same a b e = cc
 
 names_same : (ss : List LoadSegment) (order : List (ℕ × ℕ)) (j : ℕ) (s t : LoadSegment) → Names ss order j s → Names ss order j t → s ≡ t
 names_same ss order j s t x y =
-    let e : x.number ≡ y.number = ap (λ (p : ℕ × ℕ). p.1) (some_same (x.address, x.number) (y.address, y.number) (sym x.stands ∙ y.stands)) in
+    let e : x.number ≡ y.number = ap (λ (p : ℕ × ℕ). p.1) (some_same (s.address, x.number) (t.address, y.number) (sym x.stands ∙ y.stands)) in
     some_same s t (sym x.segment ∙ ap (slice_get ss) e ∙ y.segment)
 
 -- the last place, or one before it
@@ -128,15 +133,21 @@ module _ (ss : List LoadSegment) (order : List (ℕ × ℕ)) (pages new : List L
     | false ↦ λ h. let o = c.only q d (sym (old_cell q h) ∙ e) in let l = o.below in record { place = o.place; segment = o.segment; below = omega (arith, l); names = o.names; inside = o.inside }
   ] refl
 
+  last_more : (q : ℕ) → q + 1 ≡ s.address + s.size → HasOne ss order (n + 1) q
+  last_more q e = let some = x.some in record { place = n; segment = s; below = omega arith; names = x; inside = has_from s q (omega (arith, e, some)) (omega (arith, e)) }
+
   pub covers_more : Covers ss order new (s.address + s.size) (n + 1)
-  covers_more = record { below = p.below; ends = ends_more; apart = apart_more; cells = cells_more; only = only_more }
+  covers_more = record { below = p.below; ends = ends_more; apart = apart_more; cells = cells_more; only = only_more; last = last_more }
 
 -- ---- all segments
 -- a segment with bytes has its place in the order
-named_at : (ss : List LoadSegment) (order : List (ℕ × ℕ)) (k : ℕ) (s : LoadSegment) → AreNamed ss order → slice_get ss k ≡ Some s → 0 < s.size → (j : ℕ) × ((j < length order) × (slice_get order j ≡ Some (s.address, k)))
-named_at ss order k s all e some = let c = all k s e some in (c.0, (c.1, slice_get-get_or order c.0 (s.address, k) c.1 ∙ ap Some c.2))
+named_at : (ss : List LoadSegment) (order : List (ℕ × ℕ)) (m k : ℕ) (s : LoadSegment) → Orders ss order m → length ss ≡ m → slice_get ss k ≡ Some s → 0 < s.size → (j : ℕ) × ((j < length order) × (slice_get order j ≡ Some (s.address, k)))
+named_at ss order m k s all every e some =
+    let l = slice_get_within ss k s e in
+    let c = all.named k s (omega (arith, l, every)) e some in
+    (c.0, (c.1, slice_get-get_or order c.0 (s.address, k) c.1 ∙ ap Some c.2))
 
-module _ (ss : List LoadSegment) (order : List (ℕ × ℕ)) (pages : List LoadSegment) (bound n : ℕ) (all : AreNamed ss order) (whole : length order ≤ n) (c : Covers ss order pages bound n) where
+module _ (ss : List LoadSegment) (order : List (ℕ × ℕ)) (pages : List LoadSegment) (bound n m : ℕ) (all : Orders ss order m) (every : length ss ≡ m) (whole : length order ≤ n) (c : Covers ss order pages bound n) where
   -- segments that share a byte have bytes, and neither ends before the other
   sharing : (s t : LoadSegment) → share s t ≡ true → ((0 < s.size) × (0 < t.size)) × ((t.address < s.address + s.size) × (s.address < t.address + t.size))
   sharing s t h = ((grind (arith, nat_tests), grind (arith, nat_tests)), (grind (arith, nat_tests), grind (arith, nat_tests)))
@@ -144,10 +155,10 @@ module _ (ss : List LoadSegment) (order : List (ℕ × ℕ)) (pages : List LoadS
   pub covers_apart : AreApart ss
   covers_apart i j o =
       let h = sharing o.first o.second o.share in
-      let x = named_at ss order i o.first all o.first_at h.0.0 in
-      let y = named_at ss order j o.second all o.second_at h.0.1 in
-      let a : Names ss order x.0 o.first = record { address = o.first.address; number = i; stands = x.1.1; segment = o.first_at } in
-      let b : Names ss order y.0 o.second = record { address = o.second.address; number = j; stands = y.1.1; segment = o.second_at } in
+      let x = named_at ss order m i o.first all every o.first_at h.0.0 in
+      let y = named_at ss order m j o.second all every o.second_at h.0.1 in
+      let a : Names ss order x.0 o.first = record { number = i; stands = x.1.1; segment = o.first_at; some = h.0.0 } in
+      let b : Names ss order y.0 o.second = record { number = j; stands = y.1.1; segment = o.second_at; some = h.0.1 } in
       ⊎_elim (λ l. let e = c.apart x.0 y.0 o.first o.second l (let m = y.1.0 in omega (arith, m, whole)) a b in omega (arith, e, h))
       (λ l. ⊎_elim (λ m. let e = c.apart y.0 x.0 o.second o.first m (let k = x.1.0 in omega (arith, k, whole)) b a in omega (arith, e, h)) (λ m. let e : y.0 ≡ x.0 = omega (arith, l, m) in let d = o.order in let there : slice_get order x.0 ≡ Some (o.second.address, j) = rw e at y.1.1 in let same : i ≡ j = ap (λ (p : ℕ × ℕ). p.1) (some_same (o.first.address, i) (o.second.address, j) (sym x.1.1 ∙ there)) in omega (arith, same, d)) (cases_lt y.0 x.0)) (cases_lt x.0 y.0)
 
@@ -156,8 +167,9 @@ module _ (ss : List LoadSegment) (order : List (ℕ × ℕ)) (pages : List LoadS
     by : (b : Bool) → has s q ≡ b → has s q ≡ false
     by true h =
         let i = has_parts s q h in
-        let x = named_at ss order k s all g (omega (arith, i)) in
-        let there = c.cells x.0 s q (let m = x.1.0 in omega (arith, m, whole)) (record { address = s.address; number = k; stands = x.1.1; segment = g }) h in
+        let some : 0 < s.size = omega (arith, i) in
+        let x = named_at ss order m k s all every g some in
+        let there = c.cells x.0 s q (let l = x.1.0 in omega (arith, l, whole)) (record { number = k; stands = x.1.1; segment = g; some = some }) h in
         absurd (cc)
     by false h = h
 
@@ -172,25 +184,62 @@ module _ (ss : List LoadSegment) (order : List (ℕ × ℕ)) (pages : List LoadS
   pub covers_sound : AreSound pages
   covers_sound = record { fit = c.below.fit; ascends = c.below.ascends }
 
--- ---- the order
--- it has the numbers of those of the first n segments that have bytes
-abbrev pub NamedBefore : List LoadSegment → List (ℕ × ℕ) → ℕ → Type 0
-NamedBefore ss order n = (k : ℕ) (s : LoadSegment) → k < n → slice_get ss k ≡ Some s → 0 < s.size → Contains order (s.address, k)
+-- ---- two that share a byte
+-- the segment of a place begins below the end of those before it, so that one of these has its first byte too
+pub covers_shared : (ss : List LoadSegment) (order : List (ℕ × ℕ)) (pages : List LoadSegment) (bound n m : ℕ) (t : LoadSegment) → Orders ss order m → IsNonDecreasingBy (λ p. p.0) order → Covers ss order pages bound n → Names ss order n t → t.address < bound → AreApart ss → ⊥
+covers_shared ss order pages bound n m t all ascends c y low apart =
+    let o = c.last (bound - 1) (omega (arith, low)) in
+    let x = o.names in
+    let before = o.below in
+    let within = slice_get_within order n (t.address, y.number) y.stands in
+    let first = get_or_from_slice_get order o.place (o.segment.address, x.number) (0, 0) x.stands in
+    let second = get_or_from_slice_get order n (t.address, y.number) (0, 0) y.stands in
+    let rises : o.segment.address ≤ t.address = rw (first, second) at (ascends o.place n (0, 0) (omega (arith, before)) within) in
+    let differ : nat_eq x.number y.number ≡ false = rw (first, second) at (apart_from_distinct _ order o.place n (0, 0) all.once before within) in
+    let room = has_parts o.segment (bound - 1) o.inside in
+    let some = y.some in
+    let a = has_from o.segment t.address rises (omega (arith, room, low)) in
+    let b = has_from t t.address (omega arith) (omega (arith, some)) in
+    ⊎_elim (λ l. apart x.number y.number (record { order = l; first = o.segment; second = t; first_at = x.segment; second_at = y.segment; share = shared o.segment t t.address a b }))
+    (λ l. apart y.number x.number (record { order = grind (arith, nat_tests); first = t; second = o.segment; first_at = y.segment; second_at = x.segment; share = shared t o.segment t.address b a })) (cases_lt x.number y.number)
 
-pub named_none : (ss : List LoadSegment) → NamedBefore ss [] 0
-named_none ss k s l e some = absurd (omega arith)
+-- ---- the order
+-- places are below any later number too
+places_later : (ss : List LoadSegment) (order : List (ℕ × ℕ)) (n : ℕ) → Orders ss order n → All (IsPlace ss (n + 1)) order
+places_later ss order n o = λ k d l. let h = o.places k d l in let below = h.below in record { segment = h.segment; below = omega (arith, below); stands = h.stands; address = h.address; some = h.some }
+
+-- the last number, or one before it
+number_last : (ss : List LoadSegment) (n k : ℕ) (r s : LoadSegment) → slice_get ss n ≡ Some r → k < n + 1 → slice_get ss k ≡ Some s → (k < n) ⊎ ((k ≡ n) × (s ≡ r))
+number_last ss n k r s at l e = ⊎_elim (λ m. inl m) (λ m. let is : k ≡ n = omega arith in inr (is, some_same s r (sym e ∙ ap (slice_get ss) is ∙ at))) (cases_lt k n)
+
+-- none so far
+pub orders_none : (ss : List LoadSegment) → Orders ss [] 0
+unfolding IsDistinct
+orders_none ss = record { places = λ k d l. absurd (omega arith); named = λ k s l e some. absurd (omega arith); once = tt }
 
 -- a segment without bytes
-pub named_passed : (ss : List LoadSegment) (order : List (ℕ × ℕ)) (n : ℕ) (r : LoadSegment) → slice_get ss n ≡ Some r → r.size ≤ 0 → NamedBefore ss order n → NamedBefore ss order (n + 1)
-named_passed ss order n r at none before k s l e some = ⊎_elim (λ m. before k s m e some) (λ m. let is : k ≡ n = omega arith in let there : slice_get ss n ≡ Some s = rw is at e in let same : s ≡ r = cc in absurd (let z : 0 < r.size = rw same at some in omega (arith, z, none))) (cases_lt k n)
+pub orders_passed : (ss : List LoadSegment) (order : List (ℕ × ℕ)) (n : ℕ) (r : LoadSegment) → slice_get ss n ≡ Some r → r.size ≤ 0 → Orders ss order n → Orders ss order (n + 1)
+orders_passed ss order n r at none o = record {
+  places = places_later ss order n o;
+  named = λ k s l e some. ⊎_elim (λ m. o.named k s m e some) (λ m. let has : 0 < r.size = rw m.1 at some in absurd (omega (arith, has, none))) (number_last ss n k r s at l e);
+  once = o.once;
+}
 
 -- one that has some
-pub named_more : (ss : List LoadSegment) (order : List (ℕ × ℕ)) (n : ℕ) (r : LoadSegment) → slice_get ss n ≡ Some r → NamedBefore ss order n → NamedBefore ss (order ++ (r.address, n) ∷ []) (n + 1)
-named_more ss order n r at before k s l e some = ⊎_elim (λ m. Contains-append_left order ((r.address, n) ∷ []) (s.address, k) (before k s m e some)) (λ m. let is : k ≡ n = omega arith in let there : slice_get ss n ≡ Some s = rw is at e in let same : s ≡ r = cc in let both : (s.address, k) ≡ (r.address, n) = rw (same, is) refl in subst (Contains (order ++ (r.address, n) ∷ [])) (sym both) (Contains-push order (r.address, n))) (cases_lt k n)
+pub orders_more : (ss : List LoadSegment) (order : List (ℕ × ℕ)) (n : ℕ) (r : LoadSegment) → slice_get ss n ≡ Some r → 0 < r.size → Orders ss order n → Orders ss (order ++ (r.address, n) ∷ []) (n + 1)
+orders_more ss order n r at has o = record {
+  places = All-push (IsPlace ss (n + 1)) order (r.address, n) (places_later ss order n o) (record { segment = r; below = omega arith; stands = at; address = refl; some = has });
+  named = λ k s l e some. ⊎_elim (λ m. Contains-append_left order ((r.address, n) ∷ []) (s.address, k) (o.named k s m e some)) (λ m. rw (m.0, m.1) (Contains-push order (r.address, n))) (number_last ss n k r s at l e);
+  once = IsDistinct-push (on_equiv (λ (p : ℕ × ℕ). p.1) nat_eq_equiv) order (r.address, n) o.once (list_any_none (λ (p : ℕ × ℕ). nat_eq n p.1) order (λ k d l. let m = (o.places k d l).below in grind (arith, nat_tests)));
+}
 
 -- in any order
-pub named_all : (ss : List LoadSegment) (xs ys : List (ℕ × ℕ)) (n : ℕ) → length ss ≤ n → NamedBefore ss xs n → IsPermutation xs ys → AreNamed ss ys
-named_all ss xs ys n whole before moved k s e some = let l = slice_get_within ss k s e in Contains-permutation xs ys (s.address, k) moved (before k s (omega (arith, l, whole)) e some)
+pub orders_moved : (ss : List LoadSegment) (xs ys : List (ℕ × ℕ)) (n : ℕ) → IsPermutation xs ys → Orders ss xs n → Orders ss ys n
+orders_moved ss xs ys n moved o = record {
+  places = All-permutation (IsPlace ss n) xs ys moved o.places;
+  named = λ k s l e some. Contains-permutation xs ys (s.address, k) moved (o.named k s l e some);
+  once = IsDistinct-IsPermutation (λ (p q : ℕ × ℕ). nat_eq p.1 q.1) (λ p q. nat_eq_equiv.symm p.1 q.1) xs ys moved o.once;
+}
 
 -- ---- what the code reads
 pub fits_at : (ss : List LoadSegment) (k : ℕ) (s : LoadSegment) → AllFitMemory ss → slice_get ss k ≡ Some s → FitsMemory s
@@ -199,7 +248,10 @@ fits_at (x ∷ xs) zero s f e = let is : x ≡ s = cc in rw is at f.0
 fits_at (x ∷ xs) (suc k) s f e = fits_at xs k s f.1 e
 
 -- the segment that is read by its number in the order
-pub names_read : (specs : List SegmentSpec) (order : List (ℕ × ℕ)) (j : ℕ) (p : ℕ × ℕ) (a : SegmentSpec) → All (λ q. q.1 < length specs) order → j < length order → p ≡ get_or order j p → a ≡ get_or specs p.1 a → Names (segments_of specs) order j (segment_of a)
-names_read specs order j p a places l e r =
-    let below : p.1 < length specs = subst (λ (q : ℕ × ℕ). q.1 < length specs) (sym e) (places j p l) in
-    record { address = p.0; number = p.1; stands = slice_get-get_or order j p l ∙ ap Some (sym e); segment = segment_there specs p.1 a below r }
+pub names_read : (specs : List SegmentSpec) (order : List (ℕ × ℕ)) (j : ℕ) (p : ℕ × ℕ) (a : SegmentSpec) → Orders (segments_of specs) order (length specs) → j < length order → p ≡ get_or order j p → a ≡ get_or specs p.1 a → Names (segments_of specs) order j (segment_of a)
+names_read specs order j p a o l e r =
+    let place : IsPlace (segments_of specs) (length specs) p = subst (IsPlace (segments_of specs) (length specs)) (sym e) (o.places j p l) in
+    let there = segment_there specs p.1 a place.below r in
+    let is : place.segment ≡ segment_of a = some_same place.segment (segment_of a) (sym place.stands ∙ there) in
+    let at : p.0 ≡ a.address = place.address ∙ ap (λ (s : LoadSegment). s.address) is in
+    record { number = p.1; stands = slice_get-get_or order j p l ∙ ap Some (sym e) ∙ ap (λ q. Some (q, p.1)) at; segment = there; some = subst (λ (s : LoadSegment). 0 < s.size) is place.some }

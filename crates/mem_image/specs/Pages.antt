@@ -1,5 +1,6 @@
 -- Pages that are made from segments.
-use Rattle.std.specs.Prelude.{◌≡◌, ℕ, ◌+◌, ◌-◌, ◌<◌, ◌≤◌, true, cond, List, length, Some, Contains, slice_get, slice_index, min}
+use Rattle.std.specs.Prelude.{◌≡◌, ℕ, ◌+◌, ◌-◌, ◌<◌, ◌≤◌, nat_eq, true, cond, List, length, Some, All, Contains, slice_get, slice_index, min}
+use Rattle.std.specs.List.{IsDistinct}
 use Rattle.qed_model.specs.Machine.Memory.{Cell}
 use Rattle.qed_model.specs.Machine.Program.{LoadSegment}
 use Rattle.mem_image.specs.Overlap.{Ascends}
@@ -34,16 +35,26 @@ pub record IsPaged (old : List LoadSegment) (s : LoadSegment) (pages : List Load
   pub below : Below pages (s.address + d)
   pub cells : (q : ℕ) → cell_among pages q ≡ cond (has (first_part s d) q) (Some (cell_at s q)) (cell_among old q)
 
--- place j of the order has the number of the segment
-pub record Names (ss : List LoadSegment) (order : List (ℕ × ℕ)) (j : ℕ) (s : LoadSegment) : Type 0 where
-  pub address : ℕ
-  pub number : ℕ
-  pub stands : slice_get order j ≡ Some (address, number)
-  pub segment : slice_get ss number ≡ Some s
+-- the address and the number, below n, of a segment that has bytes in memory
+pub record IsPlace (ss : List LoadSegment) (n : ℕ) (p : ℕ × ℕ) : Type 0 where
+  pub segment : LoadSegment
+  pub below : p.1 < n
+  pub stands : slice_get ss p.1 ≡ Some segment
+  pub address : p.0 ≡ segment.address
+  pub some : 0 < segment.size
 
--- the order has the number of each segment that has bytes in memory, behind its address
-abbrev pub AreNamed : List LoadSegment → List (ℕ × ℕ) → Type 0
-AreNamed ss order = (k : ℕ) (s : LoadSegment) → slice_get ss k ≡ Some s → 0 < s.size → Contains order (s.address, k)
+-- the order has the places of those of the first n segments that have bytes in memory, each once
+pub record Orders (ss : List LoadSegment) (order : List (ℕ × ℕ)) (n : ℕ) : Type 0 where
+  pub places : All (IsPlace ss n) order
+  pub named : (k : ℕ) (s : LoadSegment) → k < n → slice_get ss k ≡ Some s → 0 < s.size → Contains order (s.address, k)
+  pub once : IsDistinct (λ x y. nat_eq x.1 y.1) order
+
+-- place j of the order is that of the segment, which has bytes
+pub record Names (ss : List LoadSegment) (order : List (ℕ × ℕ)) (j : ℕ) (s : LoadSegment) : Type 0 where
+  pub number : ℕ
+  pub stands : slice_get order j ≡ Some (s.address, number)
+  pub segment : slice_get ss number ≡ Some s
+  pub some : 0 < s.size
 
 -- one of the first n segments of the order has the address
 pub record HasOne (ss : List LoadSegment) (order : List (ℕ × ℕ)) (n q : ℕ) : Type 0 where
@@ -53,10 +64,11 @@ pub record HasOne (ss : List LoadSegment) (order : List (ℕ × ℕ)) (n q : ℕ
   pub names : Names ss order place segment
   pub inside : has segment q ≡ true
 
--- the pages hold what the first n segments of the order hold, which lie one behind the other and below the bound
+-- the pages hold what the first n segments of the order hold, which lie one behind the other and end at the bound
 pub record Covers (ss : List LoadSegment) (order : List (ℕ × ℕ)) (pages : List LoadSegment) (bound n : ℕ) : Type 0 where
   pub below : Below pages bound
   pub ends : (j : ℕ) (s : LoadSegment) → j < n → Names ss order j s → s.address + s.size ≤ bound
   pub apart : (i j : ℕ) (s t : LoadSegment) → i < j → j < n → Names ss order i s → Names ss order j t → s.address + s.size ≤ t.address
   pub cells : (j : ℕ) (s : LoadSegment) (q : ℕ) → j < n → Names ss order j s → has s q ≡ true → cell_among pages q ≡ Some (cell_at s q)
   pub only : (q : ℕ) (c : Cell) → cell_among pages q ≡ Some c → HasOne ss order n q
+  pub last : (q : ℕ) → q + 1 ≡ bound → HasOne ss order n q

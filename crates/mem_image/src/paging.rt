@@ -1,7 +1,8 @@
 //! The pages of segments.
-ghost use Rattle.std.specs.Prelude.{◌≡◌, ℕ, ◌+◌, ◌<◌, ◌≤◌, ◌^◌, [], length, All, IfOk, IfSome};
+ghost use Rattle.std.specs.Prelude.{◌≡◌, ℕ, ◌+◌, ◌<◌, ◌≤◌, ◌^◌, [], length, IfOk, IfNone, IfSome};
+ghost use Rattle.std.specs.List.Sorted.{IsNonDecreasingBy};
 ghost use Rattle.mem_image.specs.Overlap.{segment_of, segments_of, AreSound};
-ghost use Rattle.mem_image.specs.Pages.{Below, HoldsFrom, IsPaged, AreNamed};
+ghost use Rattle.mem_image.specs.Pages.{Below, HoldsFrom, IsPaged, Orders};
 ghost use Rattle.qed_model.specs.Machine.Apart.{AllFitMemory, FitsMemory, AreApart};
 ghost use Rattle.qed_model.specs.Machine.Cells.{cell_among};
 
@@ -11,10 +12,10 @@ use crate::spec::SegmentSpec;
 use std::alloc::{AllocError, Global};
 use std::rc::Rc;
 
-/// The segments that have bytes in memory, each by its address and its number, in order.
+/// The segments that have bytes in memory, each by its address and its number, in the order of their addresses.
 fn in_order(alloc: Global, specs: &[SegmentSpec]) -> Result<Vec<(u64, usize)>, AllocError>
-    ensures places { IfOk result (λ order. All (λ p. p.1 < length specs.now) order.items) }
-    ensures named { IfOk result (λ order. AreNamed (segments_of specs.now) order.items) }
+    ensures all { IfOk result (λ order. Orders (segments_of specs.now) order.items (length specs.now)) }
+    ensures ascends { IfOk result (λ order. IsNonDecreasingBy (λ p. p.0) order.items) }
 {
     let mut order = Vec::new(alloc);
     for i in 0..specs.len() {
@@ -24,7 +25,7 @@ fn in_order(alloc: Global, specs: &[SegmentSpec]) -> Result<Vec<(u64, usize)>, A
         }
         order.push((spec.address, i))?;
     }
-    order.sort()?;
+    order.sort_by_key(|place| place.0)?;
     Ok(order)
 }
 
@@ -54,6 +55,7 @@ fn push_pages(
 pub fn pages_of(alloc: Global, specs: &[SegmentSpec]) -> Result<Option<Vec<Held>>, AllocError>
     requires { AllFitMemory (segments_of specs.now) }
     ensures apart { IfOk result (λ made. IfSome made (λ _. AreApart (segments_of specs.now))) }
+    ensures shared { IfOk result (λ made. IfNone made (¬ (AreApart (segments_of specs.now)))) }
     ensures sound { IfOk result (λ made. IfSome made (λ pages. AreSound pages.items)) }
     ensures same { IfOk result (λ made. IfSome made (λ pages. (q : ℕ) → cell_among pages.items q ≡ cell_among (segments_of specs.now) q)) }
 {
