@@ -1,17 +1,18 @@
 -- What the words of the command line ask for: an order, or the first reason why they ask for none. A text is its bytes.
-use Rattle.std.specs.Prelude.{ℕ, ◌+◌, ◌*◌, ◌/◌, ◌%◌, ◌^◌, ◌==◌, nat_lt, nat_le, min, Bool, true, false, not, ◌&&◌, ◌||◌, if◌then◌else◌, Option, Some, None, is_some, unwrap_or, option_map, option_and_then, Result, Ok, Err, List, [], ◌∷◌, ◌++◌, map, length, filter_map, find, slice_get, slice_index_or, codes, String, string_bytes}
+use Rattle.std.specs.Prelude.{ℕ, ◌+◌, ◌*◌, ◌/◌, ◌%◌, ◌^◌, ◌==◌, nat_lt, nat_le, min, Bool, true, false, not, ◌&&◌, ◌||◌, if◌then◌else◌, Option, Some, None, is_some, unwrap_or, option_map, option_and_then, Result, Ok, Err, List, [], ◌∷◌, ◌++◌, map, length, filter_map, find, slice_get, slice_index_or, String, string_bytes}
 use Rattle.std.specs.Option.{option_or}
 use Rattle.std.specs.Str.{bytes_eq}
-use Rattle.std.specs.List.{list_any, list_all}
+use Rattle.std.specs.List.{list_all}
 use Rattle.std.specs.Char.{digit_value}
 use Rattle.qed_model.specs.declared.aim.Draws.{Draws}
 use Rattle.qed_model.specs.declared.aim.Places.{Places}
 use Rattle.qed_model.specs.declared.aim.Places.TheVariants as aim
 use Rattle.qed_model.specs.declared.change.Place.{Place}
-use Rattle.qed_model.specs.declared.change.Place.TheVariants.{Reg, Word}
+use Rattle.qed_model.specs.declared.change.Place.TheVariants as change
 use Rattle.qed_model.specs.declared.change.Change.{Change}
-use Rattle.qed_model.specs.declared.limits.TheConstants.{MAX_HALF}
 use Rattle.qed_model.specs.declared.options.Options.{Options}
+use Rattle.qed_model.specs.declared.options.Entries as weave
+use Rattle.qed_model.specs.declared.options.Entries.TheVariants as entry
 use Rattle.command_line.specs.declared.order.Command.{Command}
 use Rattle.command_line.specs.declared.order.Command.TheVariants.{Transform, Plan, Explain, Run, Campaign, Gen, Asm, Harts, Help, Version}
 use Rattle.command_line.specs.declared.order.Command.TheVariants as command
@@ -20,10 +21,14 @@ use Rattle.command_line.specs.declared.order.Order.TheVariants as order
 use Rattle.command_line.specs.declared.order.Topic.{Topic}
 use Rattle.command_line.specs.declared.order.Topic.TheVariants as topic
 use Rattle.command_line.specs.declared.order.Key.{Key}
-use Rattle.command_line.specs.declared.order.Key.TheVariants.{InstMin, InstMax, Round, Half, Steps, Fault, Dump, Seed, Count, Size, Changes, Only, From, To, Turns, At}
+use Rattle.command_line.specs.declared.order.Key.TheVariants.{InstMin, InstMax, Round, Half, Entries, Steps, Fault, Dump, Seed, Count, Size, Changes, Only, From, To, Turns, At, Sweep, Diverse, Results}
+use Rattle.command_line.specs.declared.keys.Value.{Value}
+use Rattle.command_line.specs.declared.keys.Value.TheVariants.{Flag, Number, Pages, Word}
+use Rattle.command_line.specs.declared.keys.Value.TheVariants as value
 use Rattle.command_line.specs.declared.order.Reason.{Reason}
 use Rattle.command_line.specs.declared.order.Reason.TheVariants.{NoCommand, UnknownCommand, EmptyWord, UnknownOption, Repeated, MissingValue, ExtraWord, MissingFile, MissingOption, BadNumber, BadShape, OutOfRange, Split}
 use Rattle.qed_model.specs.Options.{default_options}
+use Rattle.command_line.specs.Tables.{place_among, option_of, row_of, command_of, key_named}
 use Rattle.texts.specs.Read.{dash, colon, equals, letter_x, digits, number, parted, register}
 use Rattle.qed_model.specs.Promise.Changed.{in_order}
 
@@ -36,12 +41,12 @@ texts words = map string_bytes words
 -- ---- faults and dumps
 
 abbrev pub word_at : ℕ → Option Place
-word_at address = if address % 8 == 0 then Some (Word address) else None
+word_at address = if address % 8 == 0 then Some (change.Word address) else None
 
 -- a place: `x` and a register, or the address of an aligned word
 unfoldable pub place : List ℕ → Option Place
 place [] = None
-place (c ∷ cs) = if c == letter_x then option_map Reg (register cs) else option_and_then word_at (number (c ∷ cs))
+place (c ∷ cs) = if c == letter_x then option_map change.Reg (register cs) else option_and_then word_at (number (c ∷ cs))
 
 abbrev pub change_of : Option ℕ → Option Place → Option ℕ → Option Change
 change_of (Some step) (Some place) (Some value) = Some (record { step = step; place = place; value = value })
@@ -74,12 +79,6 @@ span_in (Some parts) = span_of (number parts.0) (number parts.1)
 unfoldable pub dump : List ℕ → Option (ℕ × ℕ)
 dump text = span_in (parted colon text)
 
--- ---- places
-
--- `registers` or `words`
-unfoldable pub places : List ℕ → Option Places
-places text = if bytes_eq text (codes "registers") then Some aim.Registers else if bytes_eq text (codes "words") then Some aim.Words else None
-
 -- ---- turns
 
 abbrev pub is_digit : ℕ → Bool
@@ -89,130 +88,6 @@ is_digit c = nat_lt (digit_value c) 10
 unfoldable pub turns : List ℕ → Option (List ℕ)
 turns text = if (nat_le 1 (length text) && nat_le (length text) 64) && list_all is_digit text then Some (map digit_value text) else None
 
--- ---- commands and their options
-
-abbrev pub command_of : List ℕ → Option Command
-command_of word =
-    if bytes_eq word (codes "transform") then Some Transform
-    else if bytes_eq word (codes "plan") then Some Plan
-    else if bytes_eq word (codes "explain") then Some Explain
-    else if bytes_eq word (codes "run") then Some Run
-    else if bytes_eq word (codes "campaign") then Some Campaign
-    else if bytes_eq word (codes "gen") then Some Gen
-    else if bytes_eq word (codes "list") then Some command.List
-    else if bytes_eq word (codes "asm") then Some Asm
-    else if bytes_eq word (codes "harts") then Some Harts
-    else if bytes_eq word (codes "help") || bytes_eq word (codes "--help") || bytes_eq word (codes "-h") then Some Help
-    else if bytes_eq word (codes "version") || bytes_eq word (codes "--version") then Some Version
-    else None
-
--- how many files a command has at least
-abbrev pub least_files : Command → ℕ
-least_files Transform = 2
-least_files Plan = 1
-least_files Explain = 1
-least_files Run = 1
-least_files Campaign = 1
-least_files Gen = 1
-least_files command.List = 1
-least_files Asm = 2
-least_files Harts = 1
-least_files Help = 0
-least_files Version = 0
-
--- how many it has at most
-abbrev pub most_files : Command → ℕ
-most_files Transform = 2
-most_files Plan = 1
-most_files Explain = 1
-most_files Run = 1
-most_files Campaign = 1
-most_files Gen = 1
-most_files command.List = 1
-most_files Asm = 2
-most_files Harts = 8
-most_files Help = 1
-most_files Version = 0
-
--- the options with a value, in their order
-abbrev pub keys_of : Command → List Key
-keys_of Transform = InstMin ∷ InstMax ∷ Round ∷ Half ∷ []
-keys_of Plan = InstMin ∷ InstMax ∷ Round ∷ Half ∷ []
-keys_of Explain = InstMin ∷ InstMax ∷ Round ∷ Half ∷ At ∷ []
-keys_of Run = Steps ∷ Fault ∷ Dump ∷ []
-keys_of Campaign = InstMin ∷ InstMax ∷ Round ∷ Half ∷ Seed ∷ Count ∷ Changes ∷ Only ∷ From ∷ To ∷ []
-keys_of Gen = Seed ∷ Size ∷ []
-keys_of command.List = []
-keys_of Asm = []
-keys_of Harts = Turns ∷ Steps ∷ []
-keys_of Help = []
-keys_of Version = []
-
--- those that must be given
-abbrev pub required_of : Command → List Key
-required_of Transform = []
-required_of Plan = []
-required_of Explain = []
-required_of Run = []
-required_of Campaign = Seed ∷ Count ∷ []
-required_of Gen = Seed ∷ Size ∷ []
-required_of command.List = []
-required_of Asm = []
-required_of Harts = []
-required_of Help = []
-required_of Version = []
-
--- whether `--sweep` and `--diverse` are options
-abbrev pub has_flags : Command → Bool
-has_flags Transform = true
-has_flags Plan = true
-has_flags Explain = true
-has_flags Run = false
-has_flags Campaign = true
-has_flags Gen = false
-has_flags command.List = false
-has_flags Asm = false
-has_flags Harts = false
-has_flags Help = false
-has_flags Version = false
-
--- an option's name, without its dashes
-abbrev pub name_of : Key → List ℕ
-name_of InstMin = codes "inst-min"
-name_of InstMax = codes "inst-max"
-name_of Round = codes "round"
-name_of Half = codes "half"
-name_of Steps = codes "steps"
-name_of Fault = codes "fault"
-name_of Dump = codes "dump"
-name_of Seed = codes "seed"
-name_of Count = codes "count"
-name_of Size = codes "size"
-name_of Changes = codes "changes"
-name_of Only = codes "only"
-name_of From = codes "from"
-name_of To = codes "to"
-name_of Turns = codes "turns"
-name_of At = codes "at"
-
--- how often an option may be given
-abbrev pub most_of : Key → ℕ
-most_of Fault = 64
-most_of _ = 1
-
--- the option of a command with a name
-unfoldable pub key_named : Command → List ℕ → Option Key
-key_named command name = find (λ k. bytes_eq (name_of k) name) (keys_of command)
-
--- whether `--results` is an option
-abbrev pub has_results : Command → Bool
-has_results Campaign = true
-has_results _ = false
-
-abbrev pub is_flag : Command → List ℕ → Bool
-is_flag command name =
-    (has_flags command && (bytes_eq name (codes "sweep") || bytes_eq name (codes "diverse"))) || (has_results command && bytes_eq name (codes "results"))
-
 -- ---- what the words are
 
 -- an argument, with the number of its word
@@ -220,9 +95,7 @@ pub data Argument : Type 0 where
   Empty : ℕ → Argument
   -- it begins with `-` and is no option of the command
   Unknown : ℕ → Argument
-  -- an option without a value, by its name
-  Flag : ℕ → List ℕ → Argument
-  -- an option and its value, which is empty where there is none
+  -- an option and its value, which is empty where there is none, and of a flag is not looked at
   Given : ℕ → Key → List ℕ → Argument
   File : ℕ → List ℕ → Argument
 
@@ -231,11 +104,20 @@ unfoldable pub behind_dashes : List ℕ → Option (List ℕ)
 behind_dashes (a ∷ b ∷ rest) = if a == dash && b == dash then Some rest else None
 behind_dashes _ = None
 
+abbrev pub is_flag : Value → Bool
+is_flag Flag = true
+is_flag _ = false
+
+-- an option, where it is no flag
+abbrev pub valued : Option Key → Option Key
+valued None = None
+valued (Some key) = if is_flag (option_of key).value then None else Some key
+
 -- whether the next word is this word's value: it is `--name`, and the option has a value
 unfoldable pub takes_next : Command → List ℕ → Bool
-takes_next command word = is_some (option_and_then (key_named command) (behind_dashes word))
+takes_next command word = is_some (valued (option_and_then (key_named command) (behind_dashes word)))
 
--- what an option with a value is, by its name
+-- what an option is, where it is one of the command
 abbrev pub key_argument : ℕ → Option Key → List ℕ → Argument
 key_argument i None value = Unknown i
 key_argument i (Some key) value = Given i key value
@@ -243,11 +125,11 @@ key_argument i (Some key) value = Given i key value
 -- `name` with the next word, or `name=value`
 abbrev pub named : Command → ℕ → List ℕ → List ℕ → Option (List ℕ × List ℕ) → Argument
 named command i text next None = key_argument i (key_named command text) next
-named command i text next (Some parts) = key_argument i (key_named command parts.0) parts.1
+named command i text next (Some parts) = key_argument i (valued (key_named command parts.0)) parts.1
 
 abbrev pub option_argument : Command → ℕ → List ℕ → Option (List ℕ) → Argument
 option_argument command i next None = Unknown i
-option_argument command i next (Some text) = if is_flag command text then Flag i text else named command i text next (parted equals text)
+option_argument command i next (Some text) = named command i text next (parted equals text)
 
 -- what word i is, with the word behind it
 unfoldable pub argument : Command → ℕ → List ℕ → List ℕ → Argument
@@ -276,20 +158,16 @@ unfoldable pub files : List Argument → List (List ℕ)
 files given = filter_map name_in given
 
 abbrev pub value_in : Key → Argument → Option (List ℕ)
-value_in key (Given i other value) = if bytes_eq (name_of other) (name_of key) then Some value else None
+value_in key (Given i other value) = if bytes_eq (option_of other).name (option_of key).name then Some value else None
 value_in key _ = None
 
 -- the values that an option was given, in the order of the words
 unfoldable pub values : Key → List Argument → List (List ℕ)
 values key given = filter_map (value_in key) given
 
-abbrev pub is_flag_named : List ℕ → Argument → Bool
-is_flag_named name (Flag i other) = bytes_eq other name
-is_flag_named name _ = false
-
--- whether an option without a value was given
-unfoldable pub has_flag : List ℕ → List Argument → Bool
-has_flag name given = list_any (is_flag_named name) given
+-- whether an option was not given
+unfoldable pub lacks : List Argument → Key → Bool
+lacks given key = length (values key given) == 0
 
 -- ---- what is wrong with a word
 
@@ -302,12 +180,11 @@ is_value (c ∷ cs) = not (c == dash)
 unfoldable pub wrong : Command → List Argument → Argument → Option Reason
 wrong command before (Empty i) = Some (EmptyWord i)
 wrong command before (Unknown i) = Some (UnknownOption i)
-wrong command before (Flag i name) = if has_flag name before then Some (Repeated i) else None
 wrong command before (Given i key value) =
-    if nat_le (most_of key) (length (values key before)) then Some (Repeated i)
-    else if is_value value then None
+    if nat_le (option_of key).most (length (values key before)) then Some (Repeated i)
+    else if is_flag (option_of key).value || is_value value then None
     else Some (MissingValue i)
-wrong command before (File i name) = if nat_le (most_files command) (length (files before)) then Some (ExtraWord i) else None
+wrong command before (File i name) = if nat_le (row_of command).most_files (length (files before)) then Some (ExtraWord i) else None
 
 -- the first reason of some
 abbrev pub first_reason : List (Option Reason) → Option Reason
@@ -321,45 +198,41 @@ first_wrong command before (a ∷ rest) = option_or (wrong command before a) (fi
 
 -- ---- what is missing
 
-unfoldable pub lacks : List Argument → Key → Bool
-lacks given key = length (values key given) == 0
-
 unfoldable pub missing : Command → List Argument → Option Reason
 missing command given =
-    if nat_lt (length (files given)) (least_files command) then Some MissingFile
-    else option_map MissingOption (find (lacks given) (required_of command))
+    if nat_lt (length (files given)) (row_of command).least_files then Some MissingFile
+    else option_map MissingOption (find (lacks given) (row_of command).required)
 
 -- ---- what is wrong with a value
 
-abbrev pub is_in_range : Key → ℕ → Bool
-is_in_range InstMin n = nat_le 1 n && nat_le n 1024
-is_in_range InstMax n = nat_le 1 n && nat_le n 1024
-is_in_range Round n = nat_le 1 n && nat_le n 1024
-is_in_range Half n = n % 4096 == 0 && (nat_le 4096 n && nat_le n MAX_HALF)
-is_in_range Steps n = nat_le n 1000000000000
-is_in_range Count n = nat_le 1 n && nat_le n 10000
-is_in_range Size n = nat_le 1 n && nat_le n 60000
-is_in_range Changes n = nat_le 1 n && nat_le n 16
-is_in_range From n = nat_le n 1000000
-is_in_range To n = nat_le 1 n && nat_le n 1000000
+abbrev pub is_in_range : Value → ℕ → Bool
+is_in_range (Number least most) n = nat_le least n && nat_le n most
+is_in_range (Pages most) n = n % 4096 == 0 && (nat_le 4096 n && nat_le n most)
 is_in_range _ n = true
 
 abbrev pub wrong_number : Key → Option ℕ → Option Reason
 wrong_number key None = Some (BadNumber key)
-wrong_number key (Some n) = if is_in_range key n then None else Some (OutOfRange key)
+wrong_number key (Some n) = if is_in_range (option_of key).value n then None else Some (OutOfRange key)
 
 -- each hart has a file
 abbrev pub wrong_turns : ℕ → Option (List ℕ) → Option Reason
 wrong_turns count None = Some (BadShape Turns)
 wrong_turns count (Some harts) = if list_all (λ hart. nat_lt hart count) harts then None else Some (OutOfRange Turns)
 
+abbrev pub wrong_shape : Key → Bool → Option Reason
+wrong_shape key is_shaped = if is_shaped then None else Some (BadShape key)
+
+abbrev pub wrong_text : ℕ → Key → Value → List ℕ → Option Reason
+wrong_text count key Flag text = None
+wrong_text count key value.Fault text = wrong_shape key (is_some (fault text))
+wrong_text count key value.Dump text = wrong_shape key (is_some (dump text))
+wrong_text count key value.Turns text = wrong_turns count (turns text)
+wrong_text count key Word text = wrong_shape key (is_some (place_among (option_of key).words text))
+wrong_text count key _ text = wrong_number key (number text)
+
 -- what is wrong with a value, where there are `count` files
 unfoldable pub wrong_value : ℕ → Key → List ℕ → Option Reason
-wrong_value count Fault value = if is_some (fault value) then None else Some (BadShape Fault)
-wrong_value count Dump value = if is_some (dump value) then None else Some (BadShape Dump)
-wrong_value count Only value = if is_some (places value) then None else Some (BadShape Only)
-wrong_value count Turns value = wrong_turns count (turns value)
-wrong_value count key value = wrong_number key (number value)
+wrong_value count key text = wrong_text count key (option_of key).value text
 
 -- what is wrong with the first value of an option of which something is
 unfoldable pub wrong_values : List Argument → Key → Option Reason
@@ -367,7 +240,7 @@ wrong_values given key = first_reason (map (wrong_value (length (files given)) k
 
 -- the same, of the first option of which something is
 unfoldable pub first_wrong_value : Command → List Argument → Option Reason
-first_wrong_value command given = first_reason (map (wrong_values given) (keys_of command))
+first_wrong_value command given = first_reason (map (wrong_values given) (row_of command).keys)
 
 -- ---- the options of a transformation
 
@@ -377,6 +250,14 @@ value_of key given = slice_get (values key given) 0
 
 unfoldable pub number_given : Key → List Argument → Option ℕ
 number_given key given = option_and_then number (value_of key given)
+
+-- the place of the word that an option was given among its words
+unfoldable pub word_given : Key → List Argument → Option ℕ
+word_given key given = option_and_then (place_among (option_of key).words) (value_of key given)
+
+-- the entries that the words of `--entries` name, by their place
+abbrev pub entries : ℕ → weave.Entries
+entries n = if n == 0 then entry.All else entry.Reached
 
 abbrev pub greatest_piece : List Argument → ℕ
 greatest_piece given = unwrap_or (number_given InstMax given) default_options.inst_max
@@ -388,8 +269,9 @@ options given = record {
   inst_max = greatest_piece given;
   round = unwrap_or (number_given Round given) default_options.round;
   half = number_given Half given;
-  sweep = has_flag (codes "sweep") given;
-  diverse = has_flag (codes "diverse") given;
+  sweep = not (lacks given Sweep);
+  diverse = not (lacks given Diverse);
+  entries = unwrap_or (option_map entries (word_given Entries given)) default_options.entries;
 }
 
 -- the floor leaves no room
@@ -411,6 +293,10 @@ abbrev pub topic_of : Option Command → Topic
 topic_of None = topic.All
 topic_of (Some command) = topic.One command
 
+-- the places that the words of `--only` name, by their place
+abbrev pub places : ℕ → Places
+places n = if n == 0 then aim.Registers else aim.Words
+
 -- without `--steps` a run has 1,000,000 steps
 unfoldable pub steps_given : List Argument → ℕ
 steps_given given = unwrap_or (number_given Steps given) 1000000
@@ -421,7 +307,7 @@ draws given = record {
   seed = unwrap_or (number_given Seed given) 0;
   count = unwrap_or (number_given Count given) 0;
   changes = unwrap_or (number_given Changes given) 1;
-  aim = record { only = option_and_then places (value_of Only given); from = unwrap_or (number_given From given) 0; to = number_given To given };
+  aim = record { only = option_map places (word_given Only given); from = unwrap_or (number_given From given) 0; to = number_given To given };
 }
 
 unfoldable pub order_of : Command → List Argument → Order
@@ -430,7 +316,7 @@ order_of Plan given = order.Plan (file given 0) (options given)
 order_of Explain given = order.Explain (file given 0) (options given) (number_given At given)
 order_of Run given =
     order.Run (file given 0) (steps_given given) (changes_given given) (option_and_then dump (value_of Dump given))
-order_of Campaign given = order.Campaign (file given 0) (options given) (draws given) (has_flag (codes "results") given)
+order_of Campaign given = order.Campaign (file given 0) (options given) (draws given) (not (lacks given Results))
 order_of Gen given = order.Gen (file given 0) (unwrap_or (number_given Seed given) 0) (unwrap_or (number_given Size given) 0)
 order_of command.List given = order.List (file given 0)
 order_of Asm given = order.Asm (file given 0) (file given 1)

@@ -1,6 +1,4 @@
 //! What the words of the command line ask for.
-ghost use Rattle.std.specs.Prelude.{◌≡◌};
-ghost use Rattle.command_line.specs.Words.{name_of};
 
 use crate::{Name, Names};
 use elf_types::Bytes;
@@ -59,13 +57,14 @@ pub enum Order {
     Tell(Topic),
 }
 
-/// An option that has a value.
+/// An option of a command.
 #[derive(Clone, Copy, Debug, PartialEq, Eq)]
 pub enum Key {
     InstMin,
     InstMax,
     Round,
     Half,
+    Entries,
     Steps,
     Fault,
     Dump,
@@ -78,32 +77,9 @@ pub enum Key {
     To,
     Turns,
     At,
-}
-
-impl Key {
-    /// The option's name, without its dashes.
-    pub fn name(self) -> &'static str
-        ensures { result.now ≡ name_of self }
-    {
-        match self {
-            Key::InstMin => "inst-min",
-            Key::InstMax => "inst-max",
-            Key::Round => "round",
-            Key::Half => "half",
-            Key::Steps => "steps",
-            Key::Fault => "fault",
-            Key::Dump => "dump",
-            Key::Seed => "seed",
-            Key::Count => "count",
-            Key::Size => "size",
-            Key::Changes => "changes",
-            Key::Only => "only",
-            Key::From => "from",
-            Key::To => "to",
-            Key::Turns => "turns",
-            Key::At => "at",
-        }
-    }
+    Sweep,
+    Diverse,
+    Results,
 }
 
 /// Why words ask for nothing. A number is that of a word; word 0 names the command.

@@ -1,46 +1,24 @@
-//! Names of commands and options, as the texts of `help` have them.
+//! Names of commands and options that are near to a word, and what `help` tells of an option.
 
-use command_line::{Command, Order, Topic};
-use qed_words::order;
+use command_line::{COMMANDS, Command, Topic};
 use report::told;
 use std::alloc::{AllocError, Global};
 use strsim::levenshtein;
 
-/// The command of a name.
-pub(crate) fn command_of(alloc: Global, name: &str) -> Result<Option<Command>, AllocError> {
-    let mut words = Vec::new(alloc);
-    words.push(String::from_str(alloc, "help")?)?;
-    words.push(String::from_str(alloc, name)?)?;
-    match order(alloc, &words) {
-        Ok(Order::Tell(Topic::One(command))) => Ok(Some(command)),
-        _ => Ok(None),
-    }
-}
-
-/// The texts with a command's options: its own, and that of `transform` where these are its options too.
-pub(crate) fn pages(command: Command) -> [&'static str; 2] {
-    let shared = match command {
-        Command::Plan | Command::Explain | Command::Campaign => told(Topic::One(
-            Command::Transform,
-        )),
-        _ => "",
+/// Appends the lines of `help` about an option of a command: those of `transform`, where it is one of its options.
+pub(crate) fn push_lines(
+    alloc: Global,
+    text: &mut String,
+    command: Command,
+    name: &str,
+) -> Result<(), AllocError> {
+    let front = format!(in alloc; "--{name} ")?;
+    let home = match Command::Transform.key(name.as_bytes()) {
+        Some(_) => Command::Transform,
+        None => command,
     };
-    [told(Topic::One(command)), shared]
-}
-
-/// The name that a line of a text tells of, behind `--` or `qed `.
-fn name_in<'a>(line: &'a str, mark: &str) -> Option<&'a str> {
-    let rest = line.strip_prefix(mark)?;
-    match rest.split_once(" ") {
-        Some((name, _)) => Some(name),
-        None => Some(rest),
-    }
-}
-
-/// Appends the lines of a text about an option.
-pub(crate) fn push_lines(text: &mut String, page: &str, name: &str) -> Result<(), AllocError> {
-    for line in page.lines() {
-        if name_in(line, "--") == Some(name) {
+    for line in told(Topic::One(home)).lines() {
+        if line.starts_with(front.as_str()) {
             text.push_str(line)?;
             text.push_str("\n")?;
         }
@@ -50,35 +28,34 @@ pub(crate) fn push_lines(text: &mut String, page: &str, name: &str) -> Result<()
 
 /// A name, and how many letters lead to it.
 #[derive(Clone, Copy)]
-struct Near<'a> {
-    name: &'a str,
+struct Near {
+    name: &'static str,
     edits: usize,
 }
 
-/// The nearer of what was found and of the names of a text.
-fn nearer<'a>(
+/// The nearer to a word of what was found and of a name.
+fn nearer(
     alloc: Global,
-    found: Option<Near<'a>>,
+    found: Option<Near>,
     word: &str,
-    page: &'a str,
-    mark: &str,
-) -> Result<Option<Near<'a>>, AllocError> {
-    let mut best = found;
-    for line in page.lines() {
-        if let Some(name) = name_in(line, mark) {
-            let edits = levenshtein(alloc, word, name)?;
-            let most = best.map_or(usize::MAX, |near| near.edits);
-            if edits < most && edits < name.len().div_ceil(2) {
-                best = Some(Near { name, edits });
-            }
-        }
+    name: &'static str,
+) -> Result<Option<Near>, AllocError> {
+    let edits = levenshtein(alloc, word, name)?;
+    let most = found.map_or(usize::MAX, |near| near.edits);
+    if edits < most && edits < name.len().div_ceil(2) {
+        return Ok(Some(Near { name, edits }));
     }
-    Ok(best)
+    Ok(found)
 }
 
 /// The command whose name is near to a word.
 pub(crate) fn near_command(alloc: Global, word: &str) -> Result<Option<&'static str>, AllocError> {
-    let found = nearer(alloc, None, word, told(Topic::All), "qed ")?;
+    let mut found = None;
+    for command in COMMANDS {
+        if let Some(name) = command.row().names.first() {
+            found = nearer(alloc, found, word, name)?;
+        }
+    }
     Ok(found.map(|near| near.name))
 }
 
@@ -91,8 +68,8 @@ pub(crate) fn near_option(
     let (front, _) = word.split_once("=").unwrap_or((word, ""));
     let name = front.trim_start_matches('-');
     let mut found = None;
-    for page in pages(command) {
-        found = nearer(alloc, found, name, page, "--")?;
+    for key in command.row().keys {
+        found = nearer(alloc, found, name, key.name())?;
     }
     Ok(found.map(|near| near.name))
 }

@@ -1,6 +1,7 @@
 //! Places of a file, as its sections and symbols name them.
 
-use elf_types::{ElfFile, Segment, Symbol};
+use elf_types::{ElfFile, Segment};
+use listing::nearest;
 use rv_text::text_of;
 use std::alloc::{AllocError, Global};
 
@@ -50,24 +51,6 @@ pub(crate) fn word_at(file: &ElfFile, address: u64) -> Option<u32> {
     None
 }
 
-/// Whether a name tells something: it is not empty, and not that of a mapping symbol (RISC-V ELF psABI, mapping symbols).
-fn is_telling(name: &[u8]) -> bool {
-    match name {
-        [] => false,
-        [first, ..] => *first != b'$',
-    }
-}
-
-/// The symbol of the two that is nearer below an address, the first where both are.
-fn nearer<'a>(found: Option<&'a Symbol>, symbol: &'a Symbol, address: u64) -> Option<&'a Symbol> {
-    let is_one = symbol.is_code() && symbol.value <= address && is_telling(symbol.name.as_slice());
-    match found {
-        Some(other) if !is_one || symbol.value <= other.value => Some(other),
-        _ if is_one => Some(symbol),
-        _ => found,
-    }
-}
-
 /// Appends an address by the nearest symbol of code below it, where there is one: `, NAME+0xN`.
 fn push_symbol(
     alloc: Global,
@@ -75,11 +58,7 @@ fn push_symbol(
     file: &ElfFile,
     address: u64,
 ) -> Result<(), AllocError> {
-    let mut found = None;
-    for symbol in file.symbols.as_slice() {
-        found = nearer(found, symbol, address);
-    }
-    let Some(symbol) = found else {
+    let Some(symbol) = nearest(address, file.symbols.as_slice()) else {
         return Ok(());
     };
     let Ok(name) = str::from_utf8(symbol.name.as_slice()) else {

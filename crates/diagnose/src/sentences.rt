@@ -41,8 +41,8 @@ A2 = this is linked dynamically: link with -static, and without shared libraries
 A3 = the segment can be written and executed: give .data a page of its own, by -Tdata or . = ALIGN(4096) in the linker script
 A4 = the entry is no code: name it by ENTRY in the linker script, and give its section the flags AX
 A5 = the part does not begin and end at a multiple of 4, or is not all in an executable segment: put texts and constants into .rodata
-A6 = a word is no instruction of RV64IM: move data out of .text, and leave CSRs, fence.i, atomics and floats to what starts the test
-A7 = an instruction uses a register above x13: compile with -ffixed-x14 to -ffixed-x31; no function may have more than four arguments; an output is no test
+A6 = a word is no instruction of RV64IM: move data out of .text, leave out unimp and Clang's __builtin_trap(), and leave CSRs, fence.i, atomics and floats to what starts the test
+A7 = an instruction uses a register above x13: compile with -ffixed-x14 to -ffixed-x31; no function may have more than four arguments; neither assembler nor helpers of libgcc may use such a register; an output is no test
 A8 = there is an ebreak: leave __builtin_trap() out, and uses of a null pointer
 A9 = an auipc reaches 256 MiB or more beyond the test: write the address as a number, or move the data
 A10 = data begins where code or its constants end: put . = ALIGN(4096) between them in the linker script

@@ -1,9 +1,9 @@
 //! Words that ask for nothing.
 
-use crate::names::{command_of, near_command, near_option, pages, push_lines};
+use crate::names::{near_command, near_option, push_lines};
 use crate::sentences::sentence_of;
 use command_line::{Command, Topic};
-use qed_words::order;
+use qed_words::fault;
 use report::told;
 use std::alloc::{AllocError, Global};
 use texts::number;
@@ -24,15 +24,6 @@ fn word_at(words: &[String], number: usize) -> Option<Word<'_>> {
     })
 }
 
-/// Whether a text is a fault as `run` takes it.
-fn is_fault(alloc: Global, text: &str) -> Result<bool, AllocError> {
-    let mut words = Vec::new(alloc);
-    for word in ["run", "file", "--fault", text] {
-        words.push(String::from_str(alloc, word)?)?;
-    }
-    Ok(order(alloc, &words).is_ok())
-}
-
 /// The value that the word of this number gives an option.
 fn value_at<'a>(words: &'a [String], place: usize, name: &str) -> Option<Word<'a>> {
     let given = words.get(place)?.as_str().strip_prefix("--")?;
@@ -51,19 +42,9 @@ fn value_at<'a>(words: &'a [String], place: usize, name: &str) -> Option<Word<'a
 }
 
 /// The word with the value of an option that is at fault.
-fn wrong_value<'a>(
-    alloc: Global,
-    words: &'a [String],
-    name: &str,
-) -> Result<Option<Word<'a>>, AllocError> {
-    for place in 0..words.len() {
-        if let Some(word) = value_at(words, place, name) {
-            if name != "fault" || !is_fault(alloc, word.text)? {
-                return Ok(Some(word));
-            }
-        }
-    }
-    Ok(None)
+fn wrong_value<'a>(words: &'a [String], name: &str) -> Option<Word<'a>> {
+    let mut values = (0..words.len()).filter_map(|place| value_at(words, place, name));
+    values.find(|word| name != "fault" || fault(word.text.as_bytes()).is_none())
 }
 
 /// A reason in two parts: what is wrong, and the number of a word or the name of an option.
@@ -76,33 +57,17 @@ fn parts(reason: &str) -> (&str, &str) {
 
 /// The word that is at fault.
 fn at_fault<'a>(
-    alloc: Global,
     words: &'a [String],
+    command: Option<Command>,
     head: &str,
     tail: &str,
-) -> Result<Option<Word<'a>>, AllocError> {
+) -> Option<Word<'a>> {
     if head == "unknown command" {
-        let behind_help = words.len() > 1;
-        return Ok(word_at(
-            words,
-            if behind_help && near_help(words) {
-                1
-            } else {
-                0
-            },
-        ));
+        return word_at(words, usize::from(command == Some(Command::Help)));
     }
     match number(tail.as_bytes()) {
-        Some(place) => Ok(word_at(words, place as usize)),
-        None => wrong_value(alloc, words, tail),
-    }
-}
-
-/// Whether the first word is `help`.
-fn near_help(words: &[String]) -> bool {
-    match words.first() {
-        Some(word) => matches!(word.as_str(), "help" | "--help" | "-h"),
-        None => false,
+        Some(place) => word_at(words, place as usize),
+        None => wrong_value(words, tail),
     }
 }
 
@@ -111,17 +76,11 @@ fn meant(
     alloc: Global,
     command: Option<Command>,
     head: &str,
-    word: Option<Word<'_>>,
+    word: &str,
 ) -> Result<Option<&'static str>, AllocError> {
-    let (Some(word), Some(command)) = (word, command) else {
-        return match word {
-            Some(word) if head == "unknown command" => near_command(alloc, word.text),
-            _ => Ok(None),
-        };
-    };
-    match head {
-        "unknown command" => near_command(alloc, word.text),
-        "unknown option at" => near_option(alloc, command, word.text),
+    match (head, command) {
+        ("unknown command", _) => near_command(alloc, word),
+        ("unknown option at", Some(command)) => near_option(alloc, command, word),
         _ => Ok(None),
     }
 }
@@ -160,21 +119,16 @@ fn synopsis(command: Option<Command>, word: Option<Word<'_>>) -> &'static str {
 /// option, and how the command is called.
 pub(crate) fn usage(alloc: Global, words: &[String], reason: &str) -> Result<String, AllocError> {
     let (head, tail) = parts(reason);
-    let command = match words.first() {
-        Some(word) => command_of(alloc, word.as_str())?,
-        None => None,
-    };
-    let word = at_fault(alloc, words, head, tail)?;
+    let command = words.first().and_then(|word| Command::named(word.as_str()));
+    let word = at_fault(words, command, head, tail);
     let mut text = first_line(alloc, head, tail, word)?;
-    if let Some(name) = meant(alloc, command, head, word)? {
+    if let Some(name) = meant(alloc, command, head, word.map_or("", |word| word.text))? {
         let dashes = if head == "unknown command" { "" } else { "--" };
         text.push_str(&format!(in alloc; ": did you mean {dashes}{name}?")?)?;
     }
     text.push_str("\n")?;
     if let Some(command) = command {
-        for page in pages(command) {
-            push_lines(&mut text, page, tail)?;
-        }
+        push_lines(alloc, &mut text, command, tail)?;
     }
     text.push_str(synopsis(command, word))?;
     if !text.as_str().ends_with("\n") {

@@ -12,7 +12,7 @@ use Rattle.code_ranges.specs.Ranges.{span, spans}
 use Rattle.qed_model.specs.Machine.Program.{LoadSegment}
 use Rattle.qed_model.specs.Machine.Loading.{is_code_section, lies_in_code, lies_in_any, section_ranges, segment_ranges, first_some}
 use Rattle.qed_model.specs.Admission.CodeWords.{loads_of, ranges_of}
-use Rattle.qed_model.proofs.Among.{Among}
+use Rattle.qed_model.specs.Members.{Among}
 use Rattle.listing.specs.Homes.{holds_range, is_held, IsHeld}
 
 -- ---- sections

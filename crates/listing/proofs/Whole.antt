@@ -10,7 +10,8 @@ use Rattle.code_ranges.specs.declared.range.CodeRange.{CodeRange}
 use Rattle.code_ranges.specs.Ranges.{span, spans}
 use Rattle.qed_model.specs.Machine.Step.{in_range}
 use Rattle.qed_model.specs.Admission.CodeWords.{ranges_of, word_at}
-use Rattle.qed_model.proofs.Among.{Among, among_of, contains_of, among-left, among-right, among-either}
+use Rattle.qed_model.proofs.Among.{among_of, contains_of, among-left, among-right, among-either}
+use Rattle.qed_model.specs.Members.{Among}
 use Rattle.listing.specs.Listing.{lines, AreWordAddresses, IsListing}
 use Rattle.listing.specs.Addresses.{from_on, up, down, words_of, addresses}
 

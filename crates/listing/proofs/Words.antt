@@ -9,7 +9,8 @@ use Rattle.qed_model.specs.Machine.Memory.{byte_in}
 use Rattle.qed_model.specs.Machine.Program.{LoadSegment}
 use Rattle.qed_model.specs.Machine.Loading.{load_segment, load_segments}
 use Rattle.qed_model.specs.Machine.Cells.{has, cell_at, byte_among, number_among}
-use Rattle.qed_model.proofs.Among.{Among, PlaceOf, place_of, among_of, contains_of}
+use Rattle.qed_model.proofs.Among.{PlaceOf, place_of, among_of, contains_of}
+use Rattle.qed_model.specs.Members.{Among}
 use Rattle.qed_model.proofs.CellsAmong.{has_from, has_parts, among_agreed}
 use Rattle.qed_model.proofs.ImageLaws.{among_load}
 use Rattle.listing.specs.Homes.{holds_range, IsHome, image_word, word_in}

@@ -8,5 +8,5 @@ mod place;
 mod roles;
 
 pub use listing::list_text;
-pub use place::{role_at, word_text};
+pub use place::{nearest, role_at, word_text};
 pub use roles::role_text;

@@ -80,7 +80,7 @@ fn nearer<'a>(address: u64, found: Option<&'a Symbol>, symbol: &'a Symbol) -> Op
 }
 
 /// The symbol of code that is nearest at an address or before it, the first where several are.
-fn nearest(address: u64, symbols: &[Symbol]) -> Option<&Symbol>
+pub fn nearest(address: u64, symbols: &[Symbol]) -> Option<&Symbol>
     ensures { option_copied result ≡ nearest_of address None symbols.now }
 {
     let mut found = None;

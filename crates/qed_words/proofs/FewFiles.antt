@@ -8,7 +8,8 @@ use Rattle.std.specs.Option.{option_or}
 use Rattle.command_line.specs.declared.order.Command.{Command}
 use Rattle.command_line.specs.declared.order.Reason.{Reason}
 use Rattle.command_line.specs.declared.order.Reason.TheVariants.{ExtraWord}
-use Rattle.command_line.specs.Words.{Argument, Empty, Unknown, Flag, Given, File, files, first_wrong, most_files, name_in, wrong}
+use Rattle.command_line.specs.Tables.{row_of}
+use Rattle.command_line.specs.Words.{Argument, Empty, Unknown, Given, File, files, first_wrong, name_in, wrong}
 
 -- how many files arguments have with one more
 more_files : (before : List Argument) (a : Argument) → length (files (before ++ a ∷ [])) ≡ length (files before) + length (filter_map name_in (a ∷ []))
@@ -21,29 +22,28 @@ no_extra most count i e =
     as (λ t. nat_le most count ≡ t → (if t then Some (ExtraWord i) else None) ≡ None → count + 1 ≤ most)
     [ true ↦ λ _ h. cc | false ↦ λ h _. grind (arith, nat_tests) ] refl e
 
-one_fits : (command : Command) (before : List Argument) (a : Argument) → wrong command before a ≡ None → length (files before) ≤ most_files command → length (files before) + length (filter_map name_in (a ∷ [])) ≤ most_files command
+one_fits : (command : Command) (before : List Argument) (a : Argument) → wrong command before a ≡ None → length (files before) ≤ (row_of command).most_files → length (files before) + length (filter_map name_in (a ∷ [])) ≤ (row_of command).most_files
 unfolding wrong
 one_fits command before (Empty i) e fits = cc
 one_fits command before (Unknown i) e fits = cc
-one_fits command before (Flag i name) e fits = omega (arith, fits)
 one_fits command before (Given i key value) e fits = omega (arith, fits)
-one_fits command before (File i name) e fits = no_extra (most_files command) (length (files before)) i e
+one_fits command before (File i name) e fits = no_extra (row_of command).most_files (length (files before)) i e
 
-neither : (a b : Option Reason) → option_or a b ≡ None → (a ≡ None) × (b ≡ None)
+pub neither : (a b : Option Reason) → option_or a b ≡ None → (a ≡ None) × (b ≡ None)
 neither None b e = (refl, e)
 neither (Some reason) b e = cc
 
-all_fit : (command : Command) (before given : List Argument) → first_wrong command before given ≡ None → length (files before) ≤ most_files command → length (files (before ++ given)) ≤ most_files command
-all_fit command before [] e fits = subst (λ (g : List Argument). length (files g) ≤ most_files command) (sym (append-nil before)) fits
+all_fit : (command : Command) (before given : List Argument) → first_wrong command before given ≡ None → length (files before) ≤ (row_of command).most_files → length (files (before ++ given)) ≤ (row_of command).most_files
+all_fit command before [] e fits = subst (λ (g : List Argument). length (files g) ≤ (row_of command).most_files) (sym (append-nil before)) fits
 all_fit command before (a ∷ given) e fits =
     let both : (wrong command before a ≡ None) × (first_wrong command (before ++ a ∷ []) given ≡ None) = neither (wrong command before a) (first_wrong command (before ++ a ∷ []) given) e in
-    let one : length (files (before ++ a ∷ [])) ≤ most_files command = subst (λ n. n ≤ most_files command) (sym (more_files before a)) (one_fits command before a both.0 fits) in
-    subst (λ (g : List Argument). length (files g) ≤ most_files command) (append_assoc before (a ∷ []) given) (all_fit command (before ++ a ∷ []) given both.1 one)
+    let one : length (files (before ++ a ∷ [])) ≤ (row_of command).most_files = subst (λ n. n ≤ (row_of command).most_files) (sym (more_files before a)) (one_fits command before a both.0 fits) in
+    subst (λ (g : List Argument). length (files g) ≤ (row_of command).most_files) (append_assoc before (a ∷ []) given) (all_fit command (before ++ a ∷ []) given both.1 one)
 
-none_yet : (command : Command) → length (files []) ≤ most_files command
+none_yet : (command : Command) → length (files []) ≤ (row_of command).most_files
 unfolding files
 none_yet command = omega arith
 
 -- where nothing is wrong with an argument
-pub few_files : (command : Command) (given : List Argument) → first_wrong command [] given ≡ None → length (files given) ≤ most_files command
+pub few_files : (command : Command) (given : List Argument) → first_wrong command [] given ≡ None → length (files given) ≤ (row_of command).most_files
 few_files command given e = all_fit command [] given e (none_yet command)

@@ -7,7 +7,6 @@ use Rattle.std.specs.Char.{digit_value}
 use Rattle.std.specs.List.{list_all, AllByRecursion}
 use Rattle.std.proofs.lemmas.Bool.{and_parts}
 use Rattle.std.proofs.lemmas.List.Elements.{All-from_recursion}
-use Rattle.std.specs.Option.{option_or}
 use Rattle.qed_model.specs.declared.limits.TheConstants.{MAX_HALF}
 use Rattle.command_line.specs.declared.order.Command.{Command}
 use Rattle.command_line.specs.declared.order.Command.TheVariants.{Transform, Plan, Explain, Run, Campaign, Gen, Asm, Harts, Help, Version}
@@ -19,17 +18,14 @@ use Rattle.command_line.specs.declared.order.Reason.{Reason}
 use Rattle.command_line.specs.declared.order.Reason.TheVariants.{MissingFile, MissingOption, OutOfRange, Split}
 use Rattle.qed_model.specs.Promise.Changed.{Ordered}
 use Rattle.qed_model.specs.Weave.Places.{AreSoundOptions}
-use Rattle.command_line.specs.Words.{Argument, asked, asked_of, answer, fault, first_wrong, span_in, arguments, command_of, dump, files, first_reason, first_wrong_value, is_in_range, keys_of, lacks, missing, number_given, options, order_of, reason_of, span_of, split_reason, window_reason, topic_reason, value_of, values, wrong_number, wrong_value, wrong_values, changes_given, draws, is_digit, steps_given, turns, wrong_turns}
+use Rattle.command_line.specs.Tables.{option_of, row_of, command_of}
+use Rattle.command_line.specs.Words.{Argument, asked, asked_of, answer, fault, first_wrong, span_in, arguments, dump, files, first_reason, first_wrong_value, is_in_range, lacks, missing, number_given, options, order_of, reason_of, span_of, split_reason, window_reason, topic_reason, value_of, values, wrong_number, wrong_value, wrong_values, changes_given, draws, is_digit, steps_given, turns, wrong_turns}
 use Rattle.texts.specs.Read.{colon, parted, number}
 use Rattle.ordered_changes.proofs.InOrder.{in_order_ordered}
 use Rattle.qed_words.specs.Sound.{IsSoundOrder}
-use Rattle.qed_words.proofs.FewFiles.{few_files}
+use Rattle.qed_words.proofs.FewFiles.{few_files, neither}
 
 -- ---- where there is no reason
-
-no_first : (a b : Option Reason) → option_or a b ≡ None → (a ≡ None) × (b ≡ None)
-no_first None b e = (refl, e)
-no_first (Some reason) b e = cc
 
 abbrev AllNone : List (Option Reason) → Type 0
 AllNone [] = Unit {0}
@@ -38,7 +34,7 @@ AllNone (reason ∷ reasons) = (reason ≡ None) × AllNone reasons
 no_reason : (reasons : List (Option Reason)) → first_reason reasons ≡ None → AllNone reasons
 no_reason [] e = tt
 no_reason (reason ∷ reasons) e =
-    let both : (reason ≡ None) × (first_reason reasons ≡ None) = no_first reason (first_reason reasons) e in (both.0, no_reason reasons both.1)
+    let both : (reason ≡ None) × (first_reason reasons ≡ None) = neither reason (first_reason reasons) e in (both.0, no_reason reasons both.1)
 
 -- ---- numbers
 
@@ -47,12 +43,12 @@ abbrev IsNumbered : Key → Type 0
 IsNumbered key = (count : ℕ) (value : List ℕ) → wrong_value count key value ≡ wrong_number key (number value)
 
 abbrev IsInRange : Key → ℕ → Type 0
-IsInRange key n = is_in_range key n ≡ true
+IsInRange key n = is_in_range (option_of key).value n ≡ true
 
 number_fits : (key : Key) (n : Option ℕ) → wrong_number key n ≡ None → IsSomeAnd n (IsInRange key)
 number_fits key None e = cc
 number_fits key (Some m) e =
-    elim (is_in_range key m)
+    elim (is_in_range (option_of key).value m)
     as (λ t. (if t then None else Some (OutOfRange key)) ≡ None → t ≡ true)
     [ true ↦ λ _. refl | false ↦ λ h. cc ] e
 
@@ -64,7 +60,7 @@ if_there key (Some m) fits = fits
 given_fits : (count : ℕ) (key : Key) (texts : List (List ℕ)) → IsNumbered key → first_reason (map (wrong_value count key) texts) ≡ None → IfSome (option_and_then number (slice_get texts 0)) (IsInRange key)
 given_fits count key [] is e = tt
 given_fits count key (text ∷ texts) is e =
-    if_there key (number text) (number_fits key (number text) (sym (is count text) ∙ (no_first (wrong_value count key text) (first_reason (map (wrong_value count key) texts)) e).0))
+    if_there key (number text) (number_fits key (number text) (sym (is count text) ∙ (neither (wrong_value count key text) (first_reason (map (wrong_value count key) texts)) e).0))
 
 number_given_fits : (key : Key) (given : List Argument) → IsNumbered key → wrong_values given key ≡ None → IfSome (number_given key given) (IsInRange key)
 unfolding wrong_values number_given value_of
@@ -74,7 +70,7 @@ number_given_fits key given is e = given_fits (length (files given)) key (values
 asked_fits : (count : ℕ) (key : Key) (texts : List (List ℕ)) → IsNumbered key → (length texts == 0) ≡ false → first_reason (map (wrong_value count key) texts) ≡ None → IsSomeAnd (option_and_then number (slice_get texts 0)) (IsInRange key)
 asked_fits count key [] is some e = cc
 asked_fits count key (text ∷ texts) is some e =
-    number_fits key (number text) (sym (is count text) ∙ (no_first (wrong_value count key text) (first_reason (map (wrong_value count key) texts)) e).0)
+    number_fits key (number text) (sym (is count text) ∙ (neither (wrong_value count key text) (first_reason (map (wrong_value count key) texts)) e).0)
 
 number_there_fits : (key : Key) (given : List Argument) → IsNumbered key → lacks given key ≡ false → wrong_values given key ≡ None → IsSomeAnd (number_given key given) (IsInRange key)
 unfolding wrong_values number_given value_of lacks
@@ -82,20 +78,19 @@ number_there_fits key given is some e = asked_fits (length (files given)) key (v
 
 -- ---- options
 
-in_thousand : (n : ℕ) → (nat_le 1 n && nat_le n 1024) ≡ true → (1 ≤ n) × (n ≤ 1024)
-in_thousand n e = (grind (arith, nat_tests), grind (arith, nat_tests))
+-- a number that was given is in a range, or its default is
+in_range : (least most d : ℕ) (n : Option ℕ) → IfSome n (λ m. (nat_le least m && nat_le m most) ≡ true) → (least ≤ d) × (d ≤ most) → (least ≤ unwrap_or n d) × (unwrap_or n d ≤ most)
+in_range least most d None fits default = default
+in_range least most d (Some m) fits default = (grind (arith, nat_tests), grind (arith, nat_tests))
 
-greatest_fits : (greatest : Option ℕ) → IfSome greatest (IsInRange InstMax) → (1 ≤ unwrap_or greatest 16) × (unwrap_or greatest 16 ≤ 1024)
-greatest_fits None fits = (omega arith, omega arith)
-greatest_fits (Some n) fits = in_thousand n fits
-
-round_fits : (round : Option ℕ) → IfSome round (IsInRange Round) → (1 ≤ unwrap_or round 1) × (unwrap_or round 1 ≤ 1024)
-round_fits None fits = (omega arith, omega arith)
-round_fits (Some n) fits = in_thousand n fits
+-- the same of a number that must be given
+there_in_range : (least most d : ℕ) (n : Option ℕ) → IsSomeAnd n (λ m. (nat_le least m && nat_le m most) ≡ true) → (least ≤ unwrap_or n d) × (unwrap_or n d ≤ most)
+there_in_range least most d None fits = absurd fits
+there_in_range least most d (Some m) fits = (grind (arith, nat_tests), grind (arith, nat_tests))
 
 least_fits : (least : Option ℕ) (greatest : ℕ) → IfSome least (IsInRange InstMin) → 1 ≤ greatest → 1 ≤ unwrap_or least (min 4 ((greatest + 1) / 2))
 least_fits None greatest fits some = omega arith
-least_fits (Some n) greatest fits some = (in_thousand n fits).0
+least_fits (Some n) greatest fits some = grind (arith, nat_tests)
 
 half_fits : (half : Option ℕ) → IfSome half (IsInRange Half) → IfSome half (λ h. (h % 4096 ≡ 0) × (4096 ≤ h) × (h ≤ MAX_HALF))
 half_fits None fits = tt
@@ -119,9 +114,9 @@ options_fit :
 unfolding options split_reason wrong_value
 options_fit given least greatest round half room =
     let great : (1 ≤ unwrap_or (number_given InstMax given) 16) × (unwrap_or (number_given InstMax given) 16 ≤ 1024)
-    = greatest_fits (number_given InstMax given) (number_given_fits InstMax given (λ _ _. refl) greatest) in
+    = in_range 1 1024 16 (number_given InstMax given) (number_given_fits InstMax given (λ _ _. refl) greatest) (omega arith, omega arith) in
     let visits : (1 ≤ unwrap_or (number_given Round given) 1) × (unwrap_or (number_given Round given) 1 ≤ 1024)
-    = round_fits (number_given Round given) (number_given_fits Round given (λ _ _. refl) round) in
+    = in_range 1 1024 1 (number_given Round given) (number_given_fits Round given (λ _ _. refl) round) (omega arith, omega arith) in
     record {
       some = least_fits (number_given InstMin given) (unwrap_or (number_given InstMax given) 16) (number_given_fits InstMin given (λ _ _. refl) least) great.0;
       room = leaves_room (options given).inst_min (options given).inst_max room;
@@ -133,9 +128,9 @@ options_fit given least greatest round half room =
 
 -- ---- runs
 
-steps_fit : (steps : Option ℕ) → IfSome steps (IsInRange Steps) → unwrap_or steps 1000000 ≤ 1000000000000
-steps_fit None fits = omega arith
-steps_fit (Some n) fits = grind (arith, nat_tests)
+steps_fit : (given : List Argument) → wrong_values given Steps ≡ None → steps_given given ≤ 1000000000000
+unfolding steps_given wrong_value
+steps_fit given e = (in_range 0 1000000000000 1000000 (number_given Steps given) (number_given_fits Steps given (λ _ _. refl) e) (omega arith, omega arith)).1
 
 changes_ordered : (given : List Argument) → Ordered (changes_given given)
 unfolding changes_given
@@ -183,7 +178,7 @@ both_there given x y test e =
 record IsFaultless (command : Command) (given : List Argument) : Type 0 where
   words : first_wrong command [] given ≡ None
   there : missing command given ≡ None
-  values : AllNone (map (wrong_values given) (keys_of command))
+  values : AllNone (map (wrong_values given) (row_of command).keys)
   room : split_reason given ≡ None
 
 faultless : (command : Command) (given : List Argument) → reason_of command given ≡ None → IsFaultless command given
@@ -191,19 +186,7 @@ unfolding reason_of first_wrong_value
 faultless command given e =
     let all : AllNone (first_wrong command [] given ∷ missing command given ∷ first_wrong_value command given ∷ split_reason given ∷ window_reason given ∷ topic_reason command given ∷ [])
     = no_reason (first_wrong command [] given ∷ missing command given ∷ first_wrong_value command given ∷ split_reason given ∷ window_reason given ∷ topic_reason command given ∷ []) e in
-    record { words = all.0; there = all.1.0; values = no_reason (map (wrong_values given) (keys_of command)) all.1.1.0; room = all.1.1.1.0 }
-
-count_fits : (n : Option ℕ) → IsSomeAnd n (IsInRange Count) → (1 ≤ unwrap_or n 0) × (unwrap_or n 0 ≤ 10000)
-count_fits None fits = absurd fits
-count_fits (Some n) fits = (grind (arith, nat_tests), grind (arith, nat_tests))
-
-size_fits : (n : Option ℕ) → IsSomeAnd n (IsInRange Size) → (1 ≤ unwrap_or n 0) × (unwrap_or n 0 ≤ 60000)
-size_fits None fits = absurd fits
-size_fits (Some n) fits = (grind (arith, nat_tests), grind (arith, nat_tests))
-
-changes_fit : (n : Option ℕ) → IfSome n (IsInRange Changes) → (1 ≤ unwrap_or n 1) × (unwrap_or n 1 ≤ 16)
-changes_fit None fits = (omega arith, omega arith)
-changes_fit (Some n) fits = (grind (arith, nat_tests), grind (arith, nat_tests))
+    record { words = all.0; there = all.1.0; values = no_reason (map (wrong_values given) (row_of command).keys) all.1.1.0; room = all.1.1.1.0 }
 
 files_there : (count : ℕ) (other : Option Reason) → (if nat_lt count 1 then Some MissingFile else other) ≡ None → 1 ≤ count
 files_there count other e =
@@ -250,7 +233,7 @@ turns_text count text e =
 turns_first : (count : ℕ) (texts : List (List ℕ)) → first_reason (map (wrong_value count Turns) texts) ≡ None → IfSome (option_and_then turns (slice_get texts 0)) (IsSchedule count)
 unfolding wrong_value
 turns_first count [] e = tt
-turns_first count (text ∷ texts) e = turns_text count text (no_first (wrong_turns count (turns text)) (first_reason (map (wrong_value count Turns) texts)) e).0
+turns_first count (text ∷ texts) e = turns_text count text (neither (wrong_turns count (turns text)) (first_reason (map (wrong_value count Turns) texts)) e).0
 
 turns_given_fit : (given : List Argument) → wrong_values given Turns ≡ None → IfSome (option_and_then turns (value_of Turns given)) (IsSchedule (length (files given)))
 unfolding wrong_values value_of
@@ -261,24 +244,24 @@ schedule_parts count None fits = (tt, tt)
 schedule_parts count (Some harts) fits = (fits.some, fits.below)
 
 order_sound : (command : Command) (given : List Argument) → IsFaultless command given → IsSoundOrder (order_of command given)
-unfolding order_of wrong_value missing steps_given draws
+unfolding order_of wrong_value missing draws
 order_sound Transform given f = options_fit given f.values.0 f.values.1.0 f.values.1.1.0 f.values.1.1.1.0 f.room
 order_sound Plan given f = options_fit given f.values.0 f.values.1.0 f.values.1.1.0 f.values.1.1.1.0 f.room
 order_sound Explain given f = options_fit given f.values.0 f.values.1.0 f.values.1.1.0 f.values.1.1.1.0 f.room
 order_sound Run given f = record {
-  few = steps_fit (number_given Steps given) (number_given_fits Steps given (λ _ _. refl) f.values.0);
+  few = steps_fit given f.values.0;
   ordered = changes_ordered given;
   shown = dump_fits (value_of Dump given);
 }
 order_sound Campaign given f =
     let there : (lacks given Seed ≡ false) × (lacks given Count ≡ false) = both_there given Seed Count _ f.there in (
       options_fit given f.values.0 f.values.1.0 f.values.1.1.0 f.values.1.1.1.0 f.room,
-      count_fits (number_given Count given) (number_there_fits Count given (λ _ _. refl) there.1 f.values.1.1.1.1.1.0),
-      changes_fit (number_given Changes given) (number_given_fits Changes given (λ _ _. refl) f.values.1.1.1.1.1.1.0),
+      there_in_range 1 10000 0 (number_given Count given) (number_there_fits Count given (λ _ _. refl) there.1 f.values.1.1.1.1.1.1.1.1.0),
+      in_range 1 16 1 (number_given Changes given) (number_given_fits Changes given (λ _ _. refl) f.values.1.1.1.1.1.1.1.1.1.0) (omega arith, omega arith),
     )
 order_sound Gen given f =
     let there : (lacks given Seed ≡ false) × (lacks given Size ≡ false) = both_there given Seed Size _ f.there in
-    size_fits (number_given Size given) (number_there_fits Size given (λ _ _. refl) there.1 f.values.1.0)
+    there_in_range 1 60000 0 (number_given Size given) (number_there_fits Size given (λ _ _. refl) there.1 f.values.1.0)
 order_sound command.List given f = tt
 order_sound Asm given f = tt
 order_sound Harts given f =
@@ -287,7 +270,7 @@ order_sound Harts given f =
     record {
       some = files_there (length (files given)) _ f.there;
       most = few_files Harts given f.words;
-      few = steps_fit (number_given Steps given) (number_given_fits Steps given (λ _ _. refl) f.values.1.0);
+      few = steps_fit given f.values.1.0;
       some_turns = turning.0;
       below = turning.1;
     }

@@ -1,11 +1,11 @@
 //! What a word is.
 ghost use Rattle.std.specs.Prelude.{◌≡◌};
 ghost use Rattle.std.specs.Option.{option_copied};
-ghost use Rattle.command_line.specs.Words.{behind_dashes as behind_dashes_of, takes_next as takes_next_of, key_argument as key_argument_of, option_argument as option_argument_of, argument as argument_of};
+ghost use Rattle.command_line.specs.Tables.{option_of};
+ghost use Rattle.command_line.specs.Words.{behind_dashes as behind_dashes_of, is_flag as is_flag_of, valued as valued_of, takes_next as takes_next_of, key_argument as key_argument_of, option_argument as option_argument_of, argument as argument_of};
 ghost use Rattle.qed_words.specs.Seen.{seen};
 
-use crate::commands::{is_flag, key_named};
-use command_line::{Command, Key};
+use command_line::{Command, Key, Value};
 use texts::split_once;
 
 /// An argument, with the number of its word.
@@ -14,9 +14,7 @@ pub enum Argument<'a> {
     Empty(u64),
     /// It begins with `-` and is no option of the command.
     Unknown(u64),
-    /// An option without a value, by its name.
-    Flag(u64, &'a [u8]),
-    /// An option and its value, which is empty where there is none.
+    /// An option and its value, which is empty where there is none, and of a flag is not looked at.
     Given(u64, Key, &'a [u8]),
     File(u64, &'a str),
 }
@@ -32,18 +30,33 @@ fn behind_dashes(word: &[u8]) -> Option<&[u8]>
     }
 }
 
+/// Whether an option has no value.
+pub fn is_flag(key: Key) -> bool
+    ensures { result ≡ is_flag_of (option_of key).value }
+{
+    matches!(key.row().value, Value::Flag)
+}
+
+/// An option, where it is no flag.
+fn valued(key: Option<Key>) -> Option<Key>
+    ensures { result ≡ valued_of key }
+{
+    let key = key?;
+    (!is_flag(key)).then_some(key)
+}
+
 /// Whether the next word is this word's value.
 #[tactic(auto, unfolding(command_line::specs::Words::takes_next))]
 pub fn takes_next(command: Command, word: &[u8]) -> bool
     ensures { result ≡ takes_next_of command word.now }
 {
     match behind_dashes(word) {
-        Some(name) => key_named(command, name).is_some(),
+        Some(name) => valued(command.key(name)).is_some(),
         None => false,
     }
 }
 
-/// What an option with a value is.
+/// What an option is, where it is one of the command.
 fn key_argument<'a>(number: u64, key: Option<Key>, value: &'a [u8]) -> Argument<'a>
     ensures { seen result ≡ key_argument_of number key value.now }
 {
@@ -65,12 +78,9 @@ fn option_argument<'a>(
     let Some(text) = behind_dashes(word) else {
         return Argument::Unknown(number);
     };
-    if is_flag(command, text) {
-        return Argument::Flag(number, text);
-    }
     match split_once(text, b'=') {
-        None => key_argument(number, key_named(command, text), next),
-        Some((name, value)) => key_argument(number, key_named(command, name), value),
+        None => key_argument(number, command.key(text), next),
+        Some((name, value)) => key_argument(number, valued(command.key(name)), value),
     }
 }
 

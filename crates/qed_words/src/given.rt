@@ -1,11 +1,11 @@
 //! What was given.
-ghost use Rattle.std.specs.Prelude.{◌≡◌, ◌≤◌, IfOk, map, length};
+ghost use Rattle.std.specs.Prelude.{◌≡◌, map, length};
 ghost use Rattle.std.specs.Option.{option_copied};
-ghost use Rattle.command_line.specs.Words.{name_in as name_in_of, files, file as file_of, value_in as value_in_of, values, value_of, is_flag_named as is_flag_named_of, has_flag as has_flag_of, number_given as number_given_of};
+ghost use Rattle.command_line.specs.Words.{name_in as name_in_of, files, file as file_of, value_in as value_in_of, values, value_of, lacks as lacks_of, number_given as number_given_of, word_given as word_given_of};
 ghost use Rattle.qed_words.specs.Seen.{seen};
 
 use crate::argument::Argument;
-use command_line::Key;
+use command_line::{Key, place_among};
 use texts::number;
 
 pub fn name_in<'a>(argument: Argument<'a>) -> Option<&'a str>
@@ -83,26 +83,20 @@ pub fn number_given(key: Key, arguments: &[Argument<'_>]) -> Option<u64>
     number(first_value(key, arguments)?)
 }
 
-fn is_flag_named(name: &[u8], argument: Argument<'_>) -> bool
-    ensures { result ≡ is_flag_named_of name.now (seen argument.entry) }
+/// The place of the word that an option was given among its words.
+#[tactic(auto, unfolding(command_line::specs::Words::word_given))]
+pub fn word_given(key: Key, arguments: &[Argument<'_>]) -> Option<usize>
+    ensures { result ≡ word_given_of key (map seen arguments.now) }
 {
-    match argument {
-        Argument::Flag(_, other) => other == name,
-        _ => false,
-    }
+    place_among(key.row().words, first_value(key, arguments)?)
 }
 
-/// Whether an option without a value was given.
-#[tactic(auto, unfolding(command_line::specs::Words::has_flag))]
-pub fn has_flag(name: &[u8], arguments: &[Argument<'_>]) -> bool
-    ensures { result ≡ has_flag_of name.now (map seen arguments.now) }
+/// Whether an option was not given.
+#[tactic(auto, unfolding(command_line::specs::Words::lacks))]
+pub fn lacks(arguments: &[Argument<'_>], key: Key) -> bool
+    ensures { result ≡ lacks_of (map seen arguments.now) key }
 {
-    for argument in arguments {
-        if is_flag_named(name, *argument) {
-            return true;
-        }
-    }
-    false
+    count_values(key, arguments) == 0
 }
 
 /// The name of file number `place`, empty where there is none.

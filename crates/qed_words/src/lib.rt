@@ -4,9 +4,7 @@
 mod argument;
 mod arguments;
 mod changes;
-mod commands;
 mod error;
-mod files;
 mod given;
 mod options;
 mod reason;
@@ -17,4 +15,5 @@ mod words;
 mod wrong;
 
 pub use error::WordsError;
+pub use shape::fault;
 pub use words::order;

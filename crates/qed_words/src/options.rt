@@ -1,18 +1,29 @@
 //! The options of a transformation.
 ghost use Rattle.std.specs.Prelude.{◌≡◌, ◌+◌, ◌/◌, map};
-ghost use Rattle.command_line.specs.Words.{options as options_of, is_split as is_split_of};
+ghost use Rattle.command_line.specs.Words.{entries as entries_of, options as options_of, is_split as is_split_of};
 ghost use Rattle.qed_words.specs.Seen.{seen};
 
 use crate::argument::Argument;
-use crate::given::{has_flag, number_given};
+use crate::given::{lacks, number_given, word_given};
 use command_line::Key;
-use qed_model::Options;
+use qed_model::{Entries, Options};
 
 /// Half of a number, rounded up: the greatest floor that leaves room.
 fn room(inst_max: u64) -> u64
     ensures { result ≡ (inst_max + 1) / 2 }
 {
     inst_max / 2 + inst_max % 2
+}
+
+/// The entries that the words of `--entries` name, by their place.
+fn entries(place: usize) -> Entries
+    ensures { result ≡ entries_of place }
+{
+    if place == 0 {
+        Entries::All
+    } else {
+        Entries::Reached
+    }
 }
 
 /// The options that arguments ask for.
@@ -28,8 +39,11 @@ pub fn options(arguments: &[Argument<'_>]) -> Options
         inst_max,
         round: number_given(Key::Round, arguments).unwrap_or(default.round),
         half: number_given(Key::Half, arguments),
-        sweep: has_flag(b"sweep", arguments),
-        diverse: has_flag(b"diverse", arguments),
+        sweep: !lacks(arguments, Key::Sweep),
+        diverse: !lacks(arguments, Key::Diverse),
+        entries: word_given(Key::Entries, arguments)
+            .map(entries)
+            .unwrap_or(default.entries),
     }
 }
 

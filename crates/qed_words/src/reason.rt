@@ -4,7 +4,6 @@ ghost use Rattle.command_line.specs.Words.{split_reason as split_reason_of, is_e
 ghost use Rattle.qed_words.specs.Seen.{seen};
 
 use crate::argument::Argument;
-use crate::commands::command_named;
 use crate::given::{count_files, file, number_given};
 use crate::options::{is_split, options};
 use crate::value::first_wrong_value;
@@ -47,7 +46,7 @@ fn topic_reason(command: Command, arguments: &[Argument<'_>]) -> Option<Reason>
 {
     match command {
         Command::Help => {
-            let is_known = command_named(file(arguments, 0)).is_some();
+            let is_known = Command::named(file(arguments, 0)).is_some();
             (count_files(arguments) > 0 && !is_known).then_some(Reason::UnknownCommand)
         }
         _ => None,

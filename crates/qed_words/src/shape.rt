@@ -1,8 +1,8 @@
-//! The shapes of faults, dumps and places.
+//! The shapes of faults and dumps.
 ghost use Rattle.std.specs.Prelude.{◌≡◌};
-ghost use Rattle.command_line.specs.Words.{place as place_of, fault as fault_of, dump as dump_of, places as places_of};
+ghost use Rattle.command_line.specs.Words.{place as place_of, fault as fault_of, dump as dump_of};
 
-use qed_model::{Change, Place, Places};
+use qed_model::{Change, Place};
 use texts::{number, register, split_once};
 
 /// A register, or the address of an aligned word.
@@ -51,18 +51,4 @@ pub fn dump(text: &[u8]) -> Option<(u64, u64)>
     // The last byte has an address; the end may be 2^64.
     address.checked_add(size - 1)?;
     Some((address, size))
-}
-
-/// The kind of places: `registers` or `words`.
-#[tactic(auto, unfolding(command_line::specs::Words::places))]
-pub fn places(text: &[u8]) -> Option<Places>
-    ensures { result ≡ places_of text.now }
-{
-    if text == b"registers".as_slice() {
-        Some(Places::Registers)
-    } else if text == b"words".as_slice() {
-        Some(Places::Words)
-    } else {
-        None
-    }
 }

@@ -26,24 +26,15 @@ fn digit(byte: u8) -> u8
 fn are_digits(text: &[u8]) -> bool
     ensures { result ≡ list_all is_digit_of text.now }
 {
-    for &byte in text {
-        if digit(byte) >= 10 {
-            return false;
-        }
-    }
-    true
+    text.iter().all(|&byte| digit(byte) < 10)
 }
 
 /// Whether each hart has one of `count` files.
 fn are_below(text: &[u8], count: usize) -> bool
     ensures { result ≡ list_all (λ hart. nat_lt hart count) (map digit_value text.now) }
 {
-    for &byte in text {
-        if usize::from(digit(byte)) >= count {
-            return false;
-        }
-    }
-    true
+    let mut harts = text.iter().map(|&byte| digit(byte));
+    harts.all(|hart| usize::from(hart) < count)
 }
 
 /// Whether a text is 1 to 64 decimal digits.
@@ -68,11 +59,7 @@ pub fn wrong_turns(count: usize, text: &[u8]) -> Option<Reason>
 fn digits(alloc: Global, text: &[u8]) -> Result<Vec<u8>, AllocError>
     ensures { IfOk result (λ values. values.items ≡ map digit_value text.now) }
 {
-    let mut values = Vec::new(alloc);
-    for &byte in text {
-        values.push(digit(byte))?;
-    }
-    Ok(values)
+    text.iter().map(|&byte| digit(byte)).collect(alloc)
 }
 
 /// The harts that make the turns, by their numbers.

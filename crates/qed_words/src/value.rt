@@ -4,28 +4,20 @@ ghost use Rattle.command_line.specs.Words.{is_in_range as is_in_range_of, wrong_
 ghost use Rattle.qed_words.specs.Seen.{seen};
 
 use crate::argument::Argument;
-use crate::commands::keys;
 use crate::given::{count_files, value_in};
-use crate::shape::{dump, fault, places};
+use crate::shape::{dump, fault};
 use crate::turns::wrong_turns;
-use command_line::{Command, Key, Reason};
-use qed_model::limits::MAX_HALF;
+use command_line::{Command, Key, Reason, Value, place_among};
 use texts::number;
 
-/// Whether a number is in an option's range.
-fn is_in_range(key: Key, number: u64) -> bool
-    ensures { result ≡ is_in_range_of key number }
+/// Whether a number may be the value of an option.
+fn is_in_range(value: Value, number: u64) -> bool
+    ensures { result ≡ is_in_range_of value number }
 {
-    match key {
-        Key::InstMin | Key::InstMax | Key::Round => 1 <= number && number <= 1024,
-        Key::Half => number % 4096 == 0 && (4096 <= number && number <= MAX_HALF),
-        Key::Steps => number <= 1_000_000_000_000,
-        Key::Count => 1 <= number && number <= 10_000,
-        Key::Size => 1 <= number && number <= 60_000,
-        Key::Changes => 1 <= number && number <= 16,
-        Key::From => number <= 1_000_000,
-        Key::To => 1 <= number && number <= 1_000_000,
-        Key::Fault | Key::Dump | Key::Seed | Key::Only | Key::Turns | Key::At => true,
+    match value {
+        Value::Number(least, most) => least <= number && number <= most,
+        Value::Pages(most) => number % 4096 == 0 && (4096 <= number && number <= most),
+        _ => true,
     }
 }
 
@@ -34,22 +26,27 @@ fn wrong_number(key: Key, number: Option<u64>) -> Option<Reason>
 {
     match number {
         None => Some(Reason::BadNumber(key)),
-        Some(number) => (!is_in_range(key, number)).then_some(Reason::OutOfRange(key)),
+        Some(number) => {
+            (!is_in_range(key.row().value, number)).then_some(Reason::OutOfRange(key))
+        }
     }
 }
 
 /// What is wrong with an option's value, where there are `count` files.
 #[tactic(auto, unfolding(command_line::specs::Words::wrong_value))]
-fn wrong_value(count: usize, key: Key, value: &[u8]) -> Option<Reason>
-    ensures { result ≡ wrong_value_of count key value.now }
+fn wrong_value(count: usize, key: Key, text: &[u8]) -> Option<Reason>
+    ensures { result ≡ wrong_value_of count key text.now }
 {
-    match key {
-        Key::Fault => fault(value).is_none().then_some(Reason::BadShape(key)),
-        Key::Dump => dump(value).is_none().then_some(Reason::BadShape(key)),
-        Key::Only => places(value).is_none().then_some(Reason::BadShape(key)),
-        Key::Turns => wrong_turns(count, value),
-        _ => wrong_number(key, number(value)),
-    }
+    let row = key.row();
+    let is_shaped = match row.value {
+        Value::Flag => true,
+        Value::Fault => fault(text).is_some(),
+        Value::Dump => dump(text).is_some(),
+        Value::Word => place_among(row.words, text).is_some(),
+        Value::Turns => return wrong_turns(count, text),
+        Value::Number(_, _) | Value::Pages(_) => return wrong_number(key, number(text)),
+    };
+    (!is_shaped).then_some(Reason::BadShape(key))
 }
 
 /// What is wrong with the first value of an option of which something is.
@@ -74,7 +71,7 @@ fn wrong_values(arguments: &[Argument<'_>], key: Key) -> Option<Reason>
 pub fn first_wrong_value(command: Command, arguments: &[Argument<'_>]) -> Option<Reason>
     ensures { result ≡ first_wrong_value_of command (map seen arguments.now) }
 {
-    for &key in keys(command) {
+    for &key in command.row().keys {
         let found = wrong_values(arguments, key);
         if found.is_some() {
             return found;

@@ -1,7 +1,8 @@
 //! The order that words ask for.
 ghost use Rattle.std.specs.Prelude.{◌≡◌, Ok, IfOk, IfErr, map, option_and_then};
 ghost use Rattle.command_line.specs.declared.order.Key.TheVariants as key;
-ghost use Rattle.command_line.specs.Words.{texts, dump as dump_of, places as places_of, draws as draws_of, value_of, file as file_of, steps_given as steps_given_of, command_of, topic_of, order_of, asked};
+ghost use Rattle.command_line.specs.Tables.{command_of};
+ghost use Rattle.command_line.specs.Words.{texts, dump as dump_of, places as places_of, draws as draws_of, value_of, file as file_of, files, steps_given as steps_given_of, topic_of, order_of, asked};
 ghost use Rattle.qed_words.specs.Seen.{seen};
 ghost use Rattle.qed_words.specs.Sound.{IsSoundOrder};
 ghost use Rattle.qed_words.specs.WordsError.{Explains};
@@ -9,15 +10,13 @@ ghost use Rattle.qed_words.specs.WordsError.{Explains};
 use crate::argument::Argument;
 use crate::arguments::arguments;
 use crate::changes::changes;
-use crate::commands::command_named;
 use crate::error::WordsError;
-use crate::files::names;
-use crate::given::{file, first_value, has_flag, number_given};
+use crate::given::{file, first_value, lacks, name_in, number_given, word_given};
 use crate::options::options;
 use crate::reason::first_reason;
-use crate::shape::{dump, places};
+use crate::shape::dump;
 use crate::turns::turns_given;
-use command_line::{Command, Key, Name, Order, Reason, Topic};
+use command_line::{Command, Key, Name, Names, Order, Reason, Topic};
 use qed_model::{Aim, Draws, Places};
 use std::alloc::{AllocError, Global};
 
@@ -29,6 +28,20 @@ fn name(alloc: Global, arguments: &[Argument<'_>], place: usize) -> Result<Name,
     ensures { IfOk result (λ name. name ≡ file_of (map seen arguments.now) place) }
 {
     Ok(Name::of(String::from_str(alloc, file(arguments, place))?))
+}
+
+/// The names of all files, in the order of the words.
+#[tactic(auto, unfolding(command_line::specs::Words::files))]
+pub fn names(alloc: Global, arguments: &[Argument<'_>]) -> Result<Names, AllocError>
+    ensures { IfOk result (λ names. names ≡ files (map seen arguments.now)) }
+{
+    let mut names = Vec::new(alloc);
+    for argument in arguments {
+        if let Some(name) = name_in(*argument) {
+            names.push(Name::of(String::from_str(alloc, name)?))?;
+        }
+    }
+    Ok(Names::of(names))
 }
 
 /// The greatest number of steps, or of turns.
@@ -46,11 +59,15 @@ fn dump_given(arguments: &[Argument<'_>]) -> Option<(u64, u64)>
     dump(first_value(Key::Dump, arguments)?)
 }
 
-/// The kind of places that is struck; None is both.
-fn places_given(arguments: &[Argument<'_>]) -> Option<Places>
-    ensures { result ≡ option_and_then places_of (value_of key.Only (map seen arguments.now)) }
+/// The places that the words of `--only` name, by their place.
+fn places(place: usize) -> Places
+    ensures { result ≡ places_of place }
 {
-    places(first_value(Key::Only, arguments)?)
+    if place == 0 {
+        Places::Registers
+    } else {
+        Places::Words
+    }
 }
 
 /// The strikes that arguments ask for.
@@ -63,7 +80,7 @@ fn draws(arguments: &[Argument<'_>]) -> Draws
         count: number_given(Key::Count, arguments).unwrap_or(0),
         changes: number_given(Key::Changes, arguments).unwrap_or(1),
         aim: Aim {
-            only: places_given(arguments),
+            only: word_given(Key::Only, arguments).map(places),
             from: number_given(Key::From, arguments).unwrap_or(0),
             to: number_given(Key::To, arguments),
         },
@@ -74,7 +91,7 @@ fn draws(arguments: &[Argument<'_>]) -> Draws
 fn topic_given(arguments: &[Argument<'_>]) -> Topic
     ensures { result ≡ topic_of (command_of (file_of (map seen arguments.now) 0)) }
 {
-    match command_named(file(arguments, 0)) {
+    match Command::named(file(arguments, 0)) {
         None => Topic::All,
         Some(command) => Topic::One(command),
     }
@@ -106,7 +123,7 @@ fn make_order(
             Ok(Order::Run(first, steps, changes, dump_given(arguments)))
         }
         Command::Campaign => {
-            let results = has_flag(b"results", arguments);
+            let results = !lacks(arguments, Key::Results);
             Ok(Order::Campaign(first, options(arguments), draws(arguments), results))
         }
         Command::Gen => {
@@ -139,7 +156,7 @@ pub fn order(alloc: Global, words: &[String]) -> Result<Order, WordsError>
     let [word, rest @ ..] = words else {
         return Err(WordsError::Usage(Reason::NoCommand));
     };
-    let Some(command) = command_named(word.as_str()) else {
+    let Some(command) = Command::named(word.as_str()) else {
         return Err(WordsError::Usage(Reason::UnknownCommand));
     };
     let arguments = arguments(alloc, command, rest)?;

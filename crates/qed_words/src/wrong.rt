@@ -1,12 +1,11 @@
 //! What is wrong with words, and what is missing.
 ghost use Rattle.std.specs.Prelude.{◌≡◌, [], map};
-ghost use Rattle.command_line.specs.Words.{is_value as is_value_of, wrong as wrong_of, first_wrong as first_wrong_of, lacks as lacks_of, missing as missing_of};
+ghost use Rattle.command_line.specs.Words.{is_value as is_value_of, wrong as wrong_of, first_wrong as first_wrong_of, missing as missing_of};
 ghost use Rattle.qed_words.specs.Seen.{seen};
 
-use crate::argument::Argument;
-use crate::commands::{least_files, most, most_files, required};
-use crate::given::{count_files, count_values, has_flag};
-use command_line::{Command, Key, Reason};
+use crate::argument::{Argument, is_flag};
+use crate::given::{count_files, count_values, lacks};
+use command_line::{Command, Reason};
 
 fn is_value(value: &[u8]) -> bool
     ensures { result ≡ is_value_of value.now }
@@ -25,16 +24,15 @@ fn wrong(command: Command, before: &[Argument<'_>], argument: Argument<'_>) -> O
     match argument {
         Argument::Empty(word) => Some(Reason::EmptyWord(word)),
         Argument::Unknown(word) => Some(Reason::UnknownOption(word)),
-        Argument::Flag(word, name) => has_flag(name, before).then_some(Reason::Repeated(word)),
         Argument::Given(word, key, value) => {
-            if most(key) <= count_values(key, before) {
+            if key.row().most <= count_values(key, before) {
                 Some(Reason::Repeated(word))
             } else {
-                (!is_value(value)).then_some(Reason::MissingValue(word))
+                (!is_flag(key) && !is_value(value)).then_some(Reason::MissingValue(word))
             }
         }
         Argument::File(word, _) => {
-            (most_files(command) <= count_files(before)).then_some(Reason::ExtraWord(word))
+            (command.row().most_files <= count_files(before)).then_some(Reason::ExtraWord(word))
         }
     }
 }
@@ -52,26 +50,16 @@ pub fn first_wrong(command: Command, arguments: &[Argument<'_>]) -> Option<Reaso
     None
 }
 
-/// Whether an option is not given.
-#[tactic(auto, unfolding(command_line::specs::Words::lacks))]
-fn lacks(arguments: &[Argument<'_>], key: Key) -> bool
-    ensures { result ≡ lacks_of (map seen arguments.now) key }
-{
-    count_values(key, arguments) == 0
-}
-
 /// What is missing: a file, or else the first option that must be given.
 #[tactic(auto, unfolding(command_line::specs::Words::missing))]
 pub fn missing(command: Command, arguments: &[Argument<'_>]) -> Option<Reason>
     ensures { result ≡ missing_of command (map seen arguments.now) }
 {
-    if count_files(arguments) < least_files(command) {
+    if count_files(arguments) < command.row().least_files {
         return Some(Reason::MissingFile);
     }
-    for &key in required(command) {
-        if lacks(arguments, key) {
-            return Some(Reason::MissingOption(key));
-        }
-    }
-    None
+    let mut required = command.row().required.iter().copied();
+    required
+        .find(|key| lacks(arguments, *key))
+        .map(Reason::MissingOption)
 }

@@ -36,6 +36,7 @@ IN does twice, and compares. What is printed are the sizes of OUT, and its bound
 --inst-max N   the most instructions of a piece, 1 to 1024: by default 16
 --round N      the data words that are compared behind a piece, 1 to 1024: by default 1
 --half N       the bytes from half to half, a multiple of 4096 up to 536870912: by default what fits
+--entries SET  where jumps by register may go: all words, or reached ones alone: by default all
 --sweep        compares all registers and data words before the end
 --diverse      does the second computation by other instructions
 

@@ -4,11 +4,11 @@ use Rattle.command_line.specs.declared.order.Key.{Key}
 use Rattle.command_line.specs.declared.order.Reason.{Reason}
 use Rattle.command_line.specs.declared.order.Reason.TheVariants as reason
 use Rattle.command_line.specs.Text.Errors.{numbered}
-use Rattle.command_line.specs.Words.{name_of}
+use Rattle.command_line.specs.Tables.{option_of}
 
 -- a line with the name of an option, without its dashes
 abbrev pub keyed : List ℕ → Key → List ℕ
-keyed front key = front ++ (name_of key ++ codes "\n")
+keyed front key = front ++ ((option_of key).name ++ codes "\n")
 
 abbrev pub reason_line : Reason → List ℕ
 reason_line reason.NoCommand = codes "usage: no command\n"

@@ -1,9 +1,10 @@
 use Rattle.std.proofs.Common.{◌≡◌, map, drop}
-use Rattle.command_line.specs.Words.{first_reason, wrong_values, keys_of}
+use Rattle.command_line.specs.Tables.{row_of}
+use Rattle.command_line.specs.Words.{first_reason, wrong_values}
 use Rattle.qed_words.specs.Seen.{seen}
 use Rattle.qed_words.proofs.value.first_wrong_value.Given as goal
 
 -- the rest decides
 abbrev pub invariant-loop-key : goal.invariant-loop-key
 invariant-loop-key l =
-    first_reason (map (wrong_values (map seen l.arguments)) (drop l.key-index l.key-items)) ≡ first_reason (map (wrong_values (map seen l.arguments)) (keys_of l.fn.command))
+    first_reason (map (wrong_values (map seen l.arguments)) (drop l.key-index l.key-items)) ≡ first_reason (map (wrong_values (map seen l.arguments)) (row_of l.fn.command).keys)

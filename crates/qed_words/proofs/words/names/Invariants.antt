@@ -1,7 +1,7 @@
 use Rattle.std.proofs.Common.{◌≡◌, ◌++◌, drop, map}
 use Rattle.command_line.specs.Words.{files}
 use Rattle.qed_words.specs.Seen.{seen}
-use Rattle.qed_words.proofs.files.names.Given as goal
+use Rattle.qed_words.proofs.words.names.Given as goal
 
 -- those so far and those of the rest are all
 abbrev pub invariant-loop-argument : goal.invariant-loop-argument
