@@ -27,6 +27,7 @@ class Options:
     half: Optional[int] = None
     sweep: bool = False
     diverse: bool = False
+    entries: str = "all"
 
 
 @dataclass
@@ -199,9 +200,11 @@ def named(file: File) -> Set[int]:
     return found
 
 
-def leaders(test: Test) -> Set[int]:
+def leaders(test: Test, options: Options) -> Set[int]:
     """The leaders ("Blocks and pieces")."""
     found = {test.file.entry} | named(test.file)
+    if options.entries == "reached" and test.has_indirect:
+        found |= reached(test)
     for address, i in test.code.items():
         if i.group in ("branch", "jal"):
             found.add(address + i.imm & WORD)
@@ -306,8 +309,8 @@ def split(body: List[isa.Instruction], most: int) -> List[int]:
 
 def blocks(test: Test, options: Options) -> List[Block]:
     """The blocks in ascending order ("Blocks and pieces")."""
-    starts = leaders(test)
-    has_all = test.has_indirect
+    starts = leaders(test, options)
+    has_all = options.entries == "all" and test.has_indirect
     found = []
     for address in test.code:
         if address in starts:

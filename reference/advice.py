@@ -34,7 +34,7 @@ def _near(word: str, names: List[str]) -> Optional[str]:
 
 def _lines(command: str) -> List[str]:
     """The lines about the options of a command."""
-    pages = [command] + (["transform"] if command in ("plan", "explain", "campaign") else [])
+    pages = (["transform"] if command in ("plan", "explain", "campaign") else []) + [command]
     return [line for page in pages for line in told(page).splitlines() if line.startswith("--")]
 
 

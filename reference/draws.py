@@ -385,6 +385,8 @@ def draw_options(rng: random.Random, many: float = 5) -> List[str]:
         words += [f"--round={rng.choice([1, 2, 3, 4, 7, 16] + ([300, 1024] if chance(rng, many) else []))}"]
     if chance(rng, 12):
         words += ["--half", hex(rng.choice([0x1000, 0x2000, 0x11000, 0x12000, 0x20000, 0x100000, 0x20000000]))]
+    if chance(rng, 30):
+        words += ["--entries", rng.choice(["reached", "reached", "reached", "all"])]
     return words + [flag for flag in ("--sweep", "--diverse") if chance(rng, 25)]
 
 
@@ -602,9 +604,9 @@ VALUES = ["0", "1", "2", "4", "8", "9", "16", "17", "1024", "1025", "4096", "409
           "0x20001000", "1000000000000", "1000000000001", "18446744073709551615", "18446744073709551616", "0x", "0xg",
           "x", "-1", "", "0:x1=1", "5:x31=0xff", "0:x32=1", "0:x01=1", "1:8=1", "1:9=1", ":8=1", "1:8", "0:1",
           "0:65536", "0:65537", "0xffffffffffffffff:1", "0xffffffffffffffff:2", "01", "012345678", "9", "10000",
-          "10001", "60000", "60001", "1000000", "1000001", "registers", "words"]
-OPTIONS = ["inst-min", "inst-max", "round", "half", "sweep", "diverse", "steps", "fault", "dump", "seed", "count",
-           "changes", "only", "from", "to", "results", "size", "turns", "at", "help", ""]
+          "10001", "60000", "60001", "1000000", "1000001", "registers", "words", "all", "reached"]
+OPTIONS = ["inst-min", "inst-max", "round", "half", "entries", "sweep", "diverse", "steps", "fault", "dump", "seed",
+           "count", "changes", "only", "from", "to", "results", "size", "turns", "at", "help", ""]
 
 
 def draw_words(rng: random.Random) -> Case:

@@ -87,7 +87,8 @@ def _options(options: Options) -> str:
     """The options of the weave."""
     half = "None" if options.half is None else f"Some({options.half})"
     return (f"Options {{ inst_min: {options.inst_min}, inst_max: {options.inst_max}, round: {options.round}, "
-            f"half: {half}, sweep: {str(options.sweep).lower()}, diverse: {str(options.diverse).lower()} }}")
+            f"half: {half}, sweep: {str(options.sweep).lower()}, diverse: {str(options.diverse).lower()}, "
+            f"entries: {options.entries.capitalize()} }}")
 
 
 def _change(change: Change) -> str:
@@ -359,7 +360,7 @@ def _test(rows: Rows, words: List[str]) -> str:
     lines += [f"range 0x{start:x} to 0x{end:x}" for start, end in test.ranges.ranges]
     lines += [f"data 0x{data.start:x} to 0x{data.end:x}" for data in test.data]
     lines += [f"word 0x{address:x} 0x{isa.encode(i):08x}" for address, i in test.code.items()]
-    lines += [f"leader 0x{address:x}" for address in sorted(leaders(test))]
+    lines += [f"leader 0x{address:x}" for address in sorted(leaders(test, order.options()))]
     for block in blocks(test, order.options()):
         end = "None" if block.end is None else "Some({})".format(
             "Illegal" if block.end == isa.ZERO else block.end.name.capitalize())

@@ -11,7 +11,7 @@ from machine import Change, Place
 from texts import Usage, number_of
 
 MOST_FAULTS = 64
-WEAVING = ["inst-min", "inst-max", "round", "half"]
+WEAVING = ["inst-min", "inst-max", "round", "half", "entries"]
 
 
 @dataclass(frozen=True)
@@ -59,7 +59,8 @@ class Order:
         """The options of the weave, with their defaults ("Words of the command line")."""
         most = self.values.get("inst-max", 16)
         return Options(self.values.get("inst-min", min(4, (most + 1) // 2)), most, self.values.get("round", 1),
-                       self.values.get("half"), "sweep" in self.flags, "diverse" in self.flags)
+                       self.values.get("half"), "sweep" in self.flags, "diverse" in self.flags,
+                       self.values.get("entries", "all"))
 
 
 def change_of(text: str) -> Optional[Change]:
@@ -90,13 +91,14 @@ def turns_of(text: str) -> Optional[List[int]]:
     return [int(digit) for digit in text] if re.fullmatch("[0-9]{1,64}", text) else None
 
 
-def places_of(text: str) -> Optional[str]:
-    """The kind of places that a value of `only` is, or None (the table of values)."""
-    return text if text in ("registers", "words") else None
+def one_of(*words: str) -> Callable[[str], Optional[str]]:
+    """What takes a value that is one of these words (the table of values)."""
+    return lambda text: text if text in words else None
 
 
-SHAPES: Dict[str, Callable[[str], Optional[Value]]] = {"fault": change_of, "dump": dump_of, "turns": turns_of,
-                                                       "only": places_of}
+SHAPES: Dict[str, Callable[[str], Optional[Value]]] = {
+    "fault": change_of, "dump": dump_of, "turns": turns_of, "only": one_of("registers", "words"),
+    "entries": one_of("all", "reached")}
 
 
 def _collect(words: List[str], command: Command) -> Tuple[List[str], Dict[str, List[str]], List[str]]:

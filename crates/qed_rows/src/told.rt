@@ -1,6 +1,6 @@
 //! What is told of a test: its places, its code and data, its leaders and its blocks.
 ghost use Rattle.qed_model.specs.Weave.Places.{AreSoundOptions};
-ghost use Rattle.flow_recovery.specs.Leaders.{IsCodeOf};
+ghost use Rattle.qed_model.specs.Admission.Test.{IsTestOf};
 
 use crate::file_parts::{refusal, text_of};
 use crate::line::Lines;
@@ -87,10 +87,10 @@ fn cut(
     test: &Test,
     options: &Options,
 ) -> Result<(), AllocError>
-    requires code { IsCodeOf file.now test.now }
+    requires test { IsTestOf file.now options.now test.now }
     requires sound { AreSoundOptions options.now }
 {
-    for it in &leaders(alloc, test, file)? {
+    for it in &leaders(alloc, test, file, options)? {
         leader(lines, *it)?;
     }
     for it in blocks(alloc, test, file, options)?.as_slice() {
