@@ -1,5 +1,5 @@
-/* A segment for each kind of memory. The stack has 2,048 bytes: each of its
-   words is a data word, and the word bound grows with them. */
+/* A segment for each kind of memory. The stack of 2,048 bytes stands below the data, so that a kernel that overruns it traps. Each of
+   its words is a data word, and the word bound grows with them. */
 ENTRY(_start)
 PHDRS { text PT_LOAD FLAGS(5); rodata PT_LOAD FLAGS(4); data PT_LOAD FLAGS(6); }
 SECTIONS {
@@ -8,6 +8,7 @@ SECTIONS {
     . = ALIGN(4096);
     .rodata : { *(.rodata .rodata.* .srodata .srodata.*) . = ALIGN(8); } :rodata
     . = ALIGN(4096);
+    .stack (NOLOAD) : { . += 2048; stack_top = .; } :data
     .data : { *(.data .data.* .sdata .sdata.*) } :data
-    .bss : { *(.sbss .sbss.* .bss .bss.* COMMON) . = ALIGN(16); . += 2048; stack_top = .; } :data
+    .bss : { *(.sbss .sbss.* .bss .bss.* COMMON) . = ALIGN(16); } :data
 }
