@@ -23,7 +23,7 @@ use Rattle.qed_model.specs.Promise.Closed.{IsOpen, closed_at}
 use Rattle.qed_model.specs.Promise.Kept.{is_trapped, NotTrapped}
 use Rattle.qed_model.proofs.Steps.{step-class}
 use Rattle.qed_model.proofs.Walk.{run-more}
-use Rattle.weave_core.specs.Lock.{Bytes, Opens, HasKind, scratch_compute, scratch_load, scratch_store, scratch_branch, jumps, scratch_jump, computes, fences, loads, stores as stores_kind, guards, breaks, takes, branches, ends, no_word, visits, Loaded}
+use Rattle.weave_core.specs.Lock.{Bytes, Opens, HasKind, scratch_compute, scratch_load, scratch_store, scratch_branch, jumps, scratch_jump, computes, fences, loads, stores as stores_kind, guards, guards_back, breaks, takes, branches, forks, ends, no_word, visits, Loaded}
 use Rattle.weave_core.proofs.Trace.{run-ended}
 use Rattle.lockstep.specs.InstructionFaults.{WritesOriginal, GivesAny, gives, skips, FoundOut}
 use Rattle.lockstep.proofs.Ground.{run-fired}
@@ -43,7 +43,7 @@ no_other i k e none straight = absurd (false≢true (sym none ∙ sym (ap is_str
 
 pub opens_behind : (c : ℕ → Fetched) (a : ℕ) (i : Ins) → HasKind c a i → is_straight (class_of i.kind) ≡ true → Opens c (a + 4)
 opens_behind c a i (scratch_compute e x y o) h = o
-opens_behind c a i (scratch_load e x o) h = o
+opens_behind c a i (scratch_load e x free o) h = o
 opens_behind c a i (scratch_store e x y o) h = o
 opens_behind c a i (scratch_branch e x y o) h = o
 opens_behind c a i (jumps e) h = no_other i class.Jump e refl h
@@ -53,12 +53,14 @@ opens_behind c a i (fences e o) h = o
 opens_behind c a i (loads e x y o) h = o
 opens_behind c a i (stores_kind e x y o) h = o
 opens_behind c a i (guards q is low most brk b) h = no_other i class.Branch (ap (λ j. class_of j.kind) is) refl h
+opens_behind c a i (guards_back q d is low most brk b) h = no_other i class.Branch (ap (λ j. class_of j.kind) is) refl h
 opens_behind c a i (breaks e) h = no_other i class.Break e refl h
 opens_behind c a i (takes e d x o) h = o
-opens_behind c a i (branches e x y o) h = o
+opens_behind c a i (branches e x y free o) h = o
+opens_behind c a i (forks e x y checks o) h = o
 opens_behind c a i (ends e) h = no_other i class.End e refl h
 opens_behind c a i (no_word e) h = no_other i class.Illegal e refl h
-opens_behind c a i (visits is words o) h = o
+opens_behind c a i (visits x d is high n few tail o) h = o
 
 -- an instruction that writes an original register is one of them
 pub writes_straight : (i : Ins) → WritesOriginal i → is_straight (class_of i.kind) ≡ true

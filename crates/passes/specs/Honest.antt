@@ -9,7 +9,7 @@ use Rattle.qed_model.specs.Machine.Table.{ins}
 use Rattle.qed_model.specs.declared.item.Item.{Item}
 use Rattle.qed_model.specs.Weave.Placed.{distance_between, upper_part, lower_part, instructions_from}
 use Rattle.qed_model.specs.Machine.Step.{Fetched, Known, HasAt, imm, ebreak}
-use Rattle.weave_core.specs.Lock.{comparison, word_check, VisitWords}
+use Rattle.weave_core.specs.Lock.{comparison, first_load, mirror_place, second_load, word_check}
 
 -- no EBREAK stands at an address
 abbrev pub NoBreak : (ℕ → Fetched) → ℕ → Type 0
@@ -23,6 +23,14 @@ sign_check = ins Beq 0 16 30 (pos 8)
 pub record EntryWords (c : ℕ → Fetched) (a t : ℕ) : Type 0 where
   pub upper : c a ≡ Known (ins Auipc 30 0 0 (upper_part (distance_between a t)))
   pub lower : c (a + 4) ≡ Known (ins Addi 30 30 0 (lower_part (distance_between a t)))
+
+-- the words of a visited word stand from an address on, up to its EBREAK
+pub record VisitWords (c : ℕ → Fetched) (a : ℕ) : Type 0 where
+  pub first : c a ≡ Known first_load
+  pub mirror : c (a + 4) ≡ Known mirror_place
+  pub second : c (a + 8) ≡ Known second_load
+  pub check : c (a + 12) ≡ Known word_check
+  pub brk : c (a + 16) ≡ ebreak
 
 -- the instruction i at a compares a register with its pair, a word with its duplicate, or a signature with its entry
 pub data Checks (c : ℕ → Fetched) (a : ℕ) (i : Ins) : Type 0 where

@@ -25,7 +25,7 @@ leads_led w v least most rest f g l = record {
   to = record { now = l.to; original = f v.original; shadow = g v.shadow; leads = v.leads };
   within = l.within;
   walk = l.walk;
-  ends = inl (l.at, record { original = refl; shadow = refl; at_least = l.at_least; cursor = l.cursor; leads = refl });
+  ends = inl (l.at, record { original = refl; shadow = refl; at_least = l.at_least; cursor = l.cursor; sign = l.sign; leads = refl });
 }
 
 -- one pass after another

@@ -4,6 +4,8 @@ use Rattle.rv_isa.specs.declared.ins.Ins.{Ins}
 use Rattle.rv_isa.specs.declared.class.Class.{Class}
 use Rattle.rv_isa.specs.declared.class.Class.TheVariants as class
 use Rattle.rv_isa.specs.Kind.{class_of}
+use Rattle.rv_isa.specs.Regs.{set_reg}
+use Rattle.rv_isa.proofs.RegsLaws.{slice_index-set_reg_other}
 use Rattle.qed_model.specs.declared.machine.Outcome.TheVariants.{Ended}
 use Rattle.qed_model.specs.declared.item.Item.{Item}
 use Rattle.qed_model.specs.declared.item.Item.TheVariants.{Plain, Go}
@@ -22,8 +24,8 @@ use Rattle.weave_core.specs.Pass.{Views, Leads, Quiet, Does, same}
 use Rattle.weave_core.proofs.Compose.{leads_led}
 use Rattle.weave_core.specs.WeaveLaws.{Holds, GoesTo, Onward, lands, is_lost}
 use Rattle.weave_core.specs.Leaving.{Enters, left_as, left, IsLeft, GoesFrom, Leaving, LeavesOn, swept_end, sweep_cost, Sweeps, SweptTo}
-use Rattle.weave_core.proofs.Rows.{led_on}
-use Rattle.weave_core.proofs.Words.{const_free, free_16}
+use Rattle.weave_core.proofs.Rows.{halved_free}
+use Rattle.weave_core.proofs.Words.{const_walk, const_signed, free_16}
 use Rattle.weave_core.proofs.Leaves.{enter_row, Lands, lands_behind, go_row, go_most, go_most_le, links_row, jump_step, step-end, step-illegal, end_walk}
 use Rattle.weave_core.proofs.Branch.{branch_to, branch_step, second_part, turn_row, turn_go}
 use Rattle.weave_core.proofs.Indirect.{aim, leap_step, aim_row, leap_row}
@@ -136,8 +138,12 @@ module _ (w : World) (rest : List Item) (v : Views) (entries : (a : ℕ) → v.l
       ⊎_elim
       (λ l. stepped 1 (omega arith) (to_entry (step s) r.to r.steps 3 (2 + go_most w.form.far) 1 r.walk r.cursor (go_row w v.leads r.to (step s) t [] (entries t l) l j.pc r.at) (omega arith) (let h = go_most_le w.form.far in omega (arith, r.within, h)) j.sourced))
       (λ lacks.
-      let x = led_on w u 0 4 2 2 (go_on t) (Go t ∷ []) (step s) (step s) (step s) (step s) r (λ y b. const_free w y 16 t (Go t ∷ []) (step s) (step s) b (omega arith) (omega arith) (λ e. absurd (omega arith)) free_16) in
-      stepped 1 (omega arith) (to_none (step s) x.to x.steps 1 (Go t ∷ []) x.walk x.cursor (omega (arith, x.at_least)) (omega (arith, x.within)) x.at j.sourced t j.pc lacks))
+      let x = r.to in
+      let y = moved (set_reg 16 t x.regs) (x.pc + 8) x in
+      let two : Walk (Calm w) x 2 y = const_walk w x 16 t (Go t ∷ []) r.at.over r.at.reads (omega arith) (omega (arith, r.at.halved.output.regs)) (const_signed w x 16 t (Go t ∷ []) r.at.over r.at.reads (λ e. absurd (omega arith))) in
+      let there : At w y (Go t ∷ []) (step s) (step s) = record { over = over_moved w.code x (set_reg 16 t x.regs) (x.pc + 8) r.at.over; reads = r.at.reads.2; halved = halved_free w x (step s) (step s) 16 t (x.pc + 8) free_16 r.at.halved } in
+      let kept : reg y 15 ≡ reg u 15 = slice_index-set_reg_other x.regs 16 t 15 (λ e. absurd (omega arith)) ∙ r.cursor in
+      stepped 1 (omega arith) (to_none (step s) y (r.steps + 2) 1 (Go t ∷ []) (walk_on (Calm w) u x y r.steps 2 r.walk two) kept (omega arith) (omega (arith, r.within)) there j.sourced t j.pc lacks))
       g.2.1
   leave_law class.Branch next i c f a so g =
       let br = branch_step w s i so g.0 c g.3 in

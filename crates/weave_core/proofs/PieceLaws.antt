@@ -136,18 +136,19 @@ module _ (next : ℕ → ℕ) (plus : (a : ℕ) → a + 8 ≤ 2 ^ 63 → next a 
             needs_originals is (and_written i ws) (next at) y f.1 clean.1 st1 so1 pc1 h1 calm2,
       )
 
-  -- both halves are those of two states, in no fewer than k steps, and the cursor stays
+  -- both halves are those of two states, in no fewer than k steps, and the cursor and the signature stay
   pub record Moved (v : Views) (n k : ℕ) (z : Views) (s s' : State) : Type 0 where
     pub original : z.original ≡ s
     pub shadow : z.shadow ≡ s'
     pub slow : k ≤ n
     pub cursor : reg z.now 15 ≡ reg v.now 15
+    pub sign : reg z.now 16 ≡ reg v.now 16
 
   pub gives_originals :
       (is : List Ins) (at : ℕ) (v z : Views) (n : ℕ) → GivesEach next original_cost GivesOriginal is at w v n z
       → Moved v n (length is) z (run v.original (length is)) v.shadow
   unfolding run
-  gives_originals [] at v z n g = record { original = ap (λ x. x.original) g.1; shadow = ap (λ x. x.shadow) g.1; slow = omega arith; cursor = ap (λ (x : Views). reg x.now 15) g.1 }
+  gives_originals [] at v z n g = record { original = ap (λ x. x.original) g.1; shadow = ap (λ x. x.shadow) g.1; slow = omega arith; cursor = ap (λ (x : Views). reg x.now 15) g.1; sign = ap (λ (x : Views). reg x.now 16) g.1 }
   gives_originals (i ∷ is) at v z n g =
       let d = g.first in
       let r = gives_originals is (next at) g.middle z g.more g.last in
@@ -157,6 +158,7 @@ module _ (next : ℕ → ℕ) (plus : (a : ℕ) → a + 8 ≤ 2 ^ 63 → next a 
         shadow = r.shadow ∙ d.last.shadow ∙ d.first.shadow;
         slow = omega (arith, r.slow, g.sum, d.sum, d.last.at_least);
         cursor = r.cursor ∙ d.last.cursor ∙ d.first.cursor;
+        sign = r.sign ∙ d.last.sign ∙ d.first.sign;
       }
 
   -- ---- the mirrors
@@ -182,7 +184,7 @@ module _ (next : ℕ → ℕ) (plus : (a : ℕ) → a + 8 ≤ 2 ^ 63 → next a 
       (cost : Ins → ℕ) (is : List Ins) (at : ℕ) (v z : Views) (n : ℕ) → GivesEach next cost GivesMirror is at w v n z
       → Moved v n 0 z v.original (run v.shadow (length is))
   unfolding run
-  gives_mirrors cost [] at v z n g = record { original = ap (λ x. x.original) g.1; shadow = ap (λ x. x.shadow) g.1; slow = omega arith; cursor = ap (λ (x : Views). reg x.now 15) g.1 }
+  gives_mirrors cost [] at v z n g = record { original = ap (λ x. x.original) g.1; shadow = ap (λ x. x.shadow) g.1; slow = omega arith; cursor = ap (λ (x : Views). reg x.now 15) g.1; sign = ap (λ (x : Views). reg x.now 16) g.1 }
   gives_mirrors cost (i ∷ is) at v z n g =
       let d = g.first in
       let r = gives_mirrors cost is (next at) g.middle z g.more g.last in
@@ -191,6 +193,7 @@ module _ (next : ℕ → ℕ) (plus : (a : ℕ) → a + 8 ≤ 2 ^ 63 → next a 
         shadow = r.shadow ∙ ap (λ s. run s (length is)) d.shadow;
         slow = omega arith;
         cursor = r.cursor ∙ d.cursor;
+        sign = r.sign ∙ d.sign;
       }
 
   -- ---- the piece

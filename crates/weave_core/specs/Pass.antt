@@ -37,12 +37,13 @@ pub record Chain (v : Views) (most : ℕ) (gives : ℕ → Views → Type 0) (ne
 abbrev pub NeedsBoth : (Views → Type 0) → (Views → ℕ → Views → Type 0) → (Views → Type 0) → Views → Type 0
 NeedsBoth needs gives next v = needs v × ((n : ℕ) (y : Views) → gives v n y → next y)
 
--- each half has one step of the input more or none, in `least` steps, and the cursor and the entries stay
+-- each half has one step of the input more or none, in `least` steps, and the cursor, the signature and the entries stay
 pub record Does (f g : State → State) (least : ℕ) (v : Views) (n : ℕ) (z : Views) : Type 0 where
   pub original : z.original ≡ f v.original
   pub shadow : z.shadow ≡ g v.shadow
   pub at_least : least ≤ n
   pub cursor : reg z.now 15 ≡ reg v.now 15
+  pub sign : reg z.now 16 ≡ reg v.now 16
   pub leads : z.leads ≡ v.leads
 
 -- the same state

@@ -75,6 +75,7 @@ module _ (w : World) (law : Mirrors w) where
         walk = g.walk;
         at = subst (λ y. At w g.to.now rest (run s (length r)) y) (m.shadow ∙ ap (λ s. run s (length r)) o.shadow) a1;
         cursor = m.cursor ∙ o.cursor;
+        sign = m.sign ∙ o.sign;
       })
       (λ l. absurd (⊎_elim (λ f. never_originals plus r s.pc w v g.to g.steps f) (λ c. never_mirrors plus (other_cost w.form) r s.pc w c.middle g.to c.more c.last) l))
       g.ends

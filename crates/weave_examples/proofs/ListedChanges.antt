@@ -1,6 +1,6 @@
 -- Runs with one change that are worked out over a list of instructions, and whether a register is closed on the way.
 use Rattle.std.proofs.Common.{◌≡◌, ℕ, zero, suc, ◌+◌, ◌<◌, true, cond, List, [], ◌∷◌, Some, refl, sym, ap, ◌∙◌, arith}
-use Rattle.std.specs.Prelude.{◌%◌, ◌^◌, ◌||◌, ◌&&◌, Bool, nat_le}
+use Rattle.std.specs.Prelude.{◌%◌, ◌^◌, ◌||◌, ◌&&◌, not, Bool, nat_le}
 use Rattle.std.proofs.lemmas.Bool.{eq-eqb, ne_eqb}
 use Rattle.rv_isa.specs.declared.ins.Ins.{Ins}
 use Rattle.qed_model.specs.declared.change.Change.{Change}
@@ -8,7 +8,7 @@ use Rattle.qed_model.specs.declared.machine.Outcome.TheVariants.{Going}
 use Rattle.qed_model.specs.Machine.Program.{Program, memory_of, start, zeros}
 use Rattle.qed_model.specs.Machine.Step.{State, Known, HasAt, fetched_at, step, run}
 use Rattle.qed_model.specs.Promise.Changed.{changed, with_changes, changed_run}
-use Rattle.qed_model.specs.Promise.Closed.{is_closed, uses, guards_other}
+use Rattle.qed_model.specs.Promise.Closed.{is_closed, uses, guards_other, guard_bytes, is_checked}
 use Rattle.weave_examples.proofs.ListedRuns.{instruction_at, is_simple_run, go, found, run_is, state_of}
 use Rattle.lockstep.proofs.Made.{changed_later}
 use Rattle.lockstep.proofs.Runs.{run-last}
@@ -33,9 +33,9 @@ changed_there s c n e =
     ∙ ap (λ u. changed c (step u)) (unchanged s c n (omega (arith, e)))
     ∙ ap (changed c) (sym (run-last s n) ∙ ap (run s) next)
 
--- a register is closed where an instruction is next, and another stands 8 bytes on
-abbrev pub closed_by : ℕ → Ins → Ins → Bool
-closed_by r i j = (nat_le 1 r && nat_le r 13) && (uses r (Known i) || (guards_other r (Known i) && uses r (Known j)))
+-- a register is closed where an instruction is next, another stands behind it, and a third where it ends as a guard
+abbrev pub closed_by : ℕ → Ins → Ins → Ins → Bool
+closed_by r i m j = (nat_le 1 r && nat_le r 13) && ((uses r (Known i) && not (is_checked (Known i) (Known m))) || (guards_other r (Known i) && uses r (Known j)))
 
 module _ (g : Program) (base : ℕ) (is : List Ins) (stand : HasAt (fetched_at (memory_of g.segments) g.ranges) base is) where
   -- the changed run, from registers 0, from a known state on
@@ -48,11 +48,13 @@ module _ (g : Program) (base : ℕ) (is : List Ins) (stand : HasAt (fetched_at (
       ∙ ap (λ s. run s k) (changed_there (start g zeros) c n e ∙ ap (changed c) (run_is (memory_of g.segments) g.ranges base is stand (suc n) (start g zeros) first refl refl) ∙ there)
       ∙ run_is (memory_of g.segments) g.ranges base is stand k (state_of g regs pc Going) later refl refl
 
-  -- whether a register is closed, by the word at the pc and the one behind the next
-  pub closed_there : (r : ℕ) (regs : List ℕ) (pc : ℕ) (i j : Ins) → instruction_at base is pc ≡ Some i → instruction_at base is ((pc + 8) % 2 ^ 64) ≡ Some j
-      → is_closed (state_of g regs pc Going) r ≡ closed_by r i j
-  closed_there r regs pc i j here behind =
+  -- whether a register is closed, by the word at the pc, the next, and that where it ends as a guard
+  pub closed_there :
+      (r : ℕ) (regs : List ℕ) (pc : ℕ) (i m j : Ins) → instruction_at base is pc ≡ Some i → instruction_at base is ((pc + 4) % 2 ^ 64) ≡ Some m
+      → instruction_at base is ((pc + guard_bytes (Known i)) % 2 ^ 64) ≡ Some j → is_closed (state_of g regs pc Going) r ≡ closed_by r i m j
+  closed_there r regs pc i m j here next behind =
       let code = fetched_at (memory_of g.segments) g.ranges in
       let known = λ (a : ℕ) (k : Ins) (e : instruction_at base is a ≡ Some k). found code base is a k stand e in
-      ap (λ x. (nat_le 1 r && nat_le r 13) && (uses r x || (guards_other r x && uses r (code ((pc + 8) % 2 ^ 64))))) (known pc i here)
-      ∙ ap (λ x. (nat_le 1 r && nat_le r 13) && (uses r (Known i) || (guards_other r (Known i) && uses r x))) (known ((pc + 8) % 2 ^ 64) j behind)
+      ap (λ x. (nat_le 1 r && nat_le r 13) && ((uses r x && not (is_checked x (code ((pc + 4) % 2 ^ 64)))) || (guards_other r x && uses r (code ((pc + guard_bytes x) % 2 ^ 64))))) (known pc i here)
+      ∙ ap (λ x. (nat_le 1 r && nat_le r 13) && ((uses r (Known i) && not (is_checked (Known i) x)) || (guards_other r (Known i) && uses r (code ((pc + guard_bytes (Known i)) % 2 ^ 64))))) (known ((pc + 4) % 2 ^ 64) m next)
+      ∙ ap (λ x. (nat_le 1 r && nat_le r 13) && ((uses r (Known i) && not (is_checked (Known i) (Known m))) || (guards_other r (Known i) && uses r x))) (known ((pc + guard_bytes (Known i)) % 2 ^ 64) j behind)

@@ -1,7 +1,7 @@
 -- The promise on changes at work, on a known test with a loop: changes of x5, whose runs are worked out.
 use Rattle.std.proofs.Common.{◌≡◌, ℕ, ◌+◌, true, false, List, [], ◌∷◌, refl, ap, ◌∙◌, arith}
 use Rattle.std.specs.Prelude.{pos, neg_ℤ}
-use Rattle.rv_isa.specs.declared.kind.Kind.TheVariants.{Beq, Bne, Jal}
+use Rattle.rv_isa.specs.declared.kind.Kind.TheVariants.{Beq, Bne, Ebreak, Jal}
 use Rattle.qed_model.specs.Machine.Table.{ins}
 use Rattle.qed_model.specs.declared.change.Change.{Change}
 use Rattle.qed_model.specs.declared.change.Place.TheVariants.{Reg}
@@ -12,7 +12,7 @@ use Rattle.qed_model.specs.Machine.Struck.{struck}
 use Rattle.qed_model.specs.Machine.Values.{value, holds}
 use Rattle.qed_model.specs.Promise.Caught.{Caught, Settles}
 use Rattle.qed_model.specs.Promise.Changed.{changed_run}
-use Rattle.qed_model.specs.Promise.Closed.{is_closed, uses, guards_other}
+use Rattle.qed_model.specs.Promise.Closed.{is_closed, uses, guards_other, is_checked}
 use Rattle.qed_model.specs.Promise.Kept.{after_output, any_address}
 use Rattle.qed_model.proofs.ExampleCode.{defaults}
 use Rattle.weave_examples.proofs.LoopFile.{loop}
@@ -47,16 +47,16 @@ open_fired = changed_go loop_output 0x13000 loop_new_code loop_stand (seven 72) 
 
 -- the promise is of this change: all of its premises are met
 is_open : is_closed (after_output loop_output zeros 72) 5 ≡ false
-unfolding uses guards_other
-is_open = ap (λ s. is_closed s 5) before_change ∙ closed_there loop_output 0x13000 loop_new_code loop_stand 5 (turn 1) 0x1319c (ins Beq 0 5 21 (pos 8)) (ins Bne 0 5 0 (pos 8)) refl refl
+unfolding uses is_checked guards_other
+is_open = ap (λ s. is_closed s 5) before_change ∙ closed_there loop_output 0x13000 loop_new_code loop_stand 5 (turn 1) 0x1319c (ins Beq 0 5 21 (pos 8)) (ins Ebreak 0 0 0 (pos 0)) (ins Bne 0 5 0 (pos 8)) refl refl refl
 
 open_settles : Settles [] 72 272 (changed_run (start loop_output zeros) (seven 72 ∷ [])) (after_output loop_output zeros)
 open_settles = loop_caught.settles zeros (seven 72 ∷ []) 272 are_zeros tt ((omega arith, omega arith), is_open, tt) refl ((steady_any loop_input (72 + 272)).1 (input_ended (72 + 272) (omega arith))) (ap (λ s. s.outcome) before_change)
 
 -- ---- a change at a closed place, which the promise leaves out: the use of x5 is next
 at_use : is_closed (after_output loop_output zeros 73) 5 ≡ true
-unfolding uses guards_other execute jumped computed_value value holds
-at_use = ap (λ s. is_closed s 5) (output_run 73 refl) ∙ closed_there loop_output 0x13000 loop_new_code loop_stand 5 (turn 1) 0x131a4 (ins Bne 0 5 0 (pos 8)) (ins Jal 0 0 0 (neg_ℤ (pos 168))) refl refl
+unfolding uses is_checked guards_other execute jumped computed_value value holds
+at_use = ap (λ s. is_closed s 5) (output_run 73 refl) ∙ closed_there loop_output 0x13000 loop_new_code loop_stand 5 (turn 1) 0x131a4 (ins Bne 0 5 0 (pos 8)) (ins Jal 0 0 0 (pos 8)) (ins Jal 0 0 0 (pos 8)) refl refl refl
 
 -- this one is found later, by the comparison of the next piece, with step 86
 closed_fired : changed_run (start loop_output zeros) (seven 73 ∷ []) 86 ≡ state_of loop_output (0 ∷ 0 ∷ 0 ∷ 0 ∷ 0 ∷ 6 ∷ 0 ∷ 0 ∷ 0 ∷ 0 ∷ 0 ∷ 0 ∷ 0 ∷ 0 ∷ 4096 ∷ 0 ∷ 0x10004 ∷ 0 ∷ 0 ∷ 0 ∷ 0 ∷ 0 ∷ 0 ∷ 0 ∷ 0 ∷ 0 ∷ 0 ∷ 0 ∷ 0 ∷ 0 ∷ 0x10004 ∷ 0 ∷ []) 0x13140 Fired

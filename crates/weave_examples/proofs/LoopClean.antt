@@ -3,7 +3,7 @@
 use Rattle.std.proofs.Common.{◌≡◌, ◌≢◌, ◌⊎◌, ℕ, ◌+◌, ◌-◌, ◌<◌, true, false, List, [], ◌∷◌, refl, sym, ap, ◌∙◌, arith}
 use Rattle.std.specs.Prelude.{pos}
 use Rattle.rv_isa.specs.declared.ins.Ins.{Ins}
-use Rattle.rv_isa.specs.declared.kind.Kind.TheVariants.{Beq, Bne}
+use Rattle.rv_isa.specs.declared.kind.Kind.TheVariants.{Beq, Bne, Ebreak}
 use Rattle.qed_model.specs.Machine.Table.{ins}
 use Rattle.qed_model.specs.declared.machine.Outcome.TheVariants.{Going, Ended, Fired}
 use Rattle.qed_model.specs.Elf.FileRead.{file_read}
@@ -14,7 +14,7 @@ use Rattle.qed_model.specs.Machine.Values.{value, holds}
 use Rattle.qed_model.specs.Promise.Caught.{Same}
 use Rattle.qed_model.specs.Promise.Changed.{changed_run}
 use Rattle.qed_model.specs.Promise.Clean.{Clean}
-use Rattle.qed_model.specs.Promise.Closed.{is_closed, uses, guards_other}
+use Rattle.qed_model.specs.Promise.Closed.{is_closed, uses, guards_other, is_checked}
 use Rattle.qed_model.specs.Promise.Kept.{after_output, any_address}
 use Rattle.qed_model.specs.Weave.Placed.{placed}
 use Rattle.qed_model.specs.Weave.Woven.{woven_file, new_items}
@@ -72,8 +72,8 @@ not_before k l e =
 
 -- ---- the change: 7 in x5 after 72 steps, where its guard is next
 is_open : is_closed (after_output output zeros 72) 5 ≡ false
-unfolding uses guards_other execute jumped computed_value value holds
-is_open = ap (λ s. is_closed s 5) (output_run 72 refl) ∙ closed_there output 0x13000 new_code stand 5 (turn 1) 0x1319c (ins Beq 0 5 21 (pos 8)) (ins Bne 0 5 0 (pos 8)) refl refl
+unfolding uses is_checked guards_other execute jumped computed_value value holds
+is_open = ap (λ s. is_closed s 5) (output_run 72 refl) ∙ closed_there output 0x13000 new_code stand 5 (turn 1) 0x1319c (ins Beq 0 5 21 (pos 8)) (ins Ebreak 0 0 0 (pos 0)) (ins Bne 0 5 0 (pos 8)) refl refl refl
 
 -- all premises of the promise are met
 not_silent : ((changed_run (start output zeros) (seven 72 ∷ []) 130).outcome ≡ Fired) ⊎ (((changed_run (start output zeros) (seven 72 ∷ []) 130).outcome ≡ Ended) × Same [] (changed_run (start output zeros) (seven 72 ∷ []) 130) (after_output output zeros 130))

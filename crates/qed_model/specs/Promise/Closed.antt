@@ -1,12 +1,13 @@
 -- Where a register is closed: between its guard and the use that the guard checks (this project's profile). There a wrong value may
 -- reach memory or a branch before any check; everywhere else a register is open.
-use Rattle.std.specs.Prelude.{◌≡◌, ℕ, ◌+◌, ◌%◌, ◌^◌, Bool, true, false, not, ◌&&◌, ◌||◌, nat_le, ◌==◌, ℤ, pos, negsuc}
+use Rattle.std.specs.Prelude.{◌≡◌, ℕ, ◌+◌, ◌%◌, ◌^◌, Bool, true, false, not, cond, ◌&&◌, ◌||◌, nat_le, ◌==◌, ℤ, pos, negsuc}
 use Rattle.rv_isa.specs.declared.kind.Kind.{Kind}
-use Rattle.rv_isa.specs.declared.kind.Kind.TheVariants.{Addi, Beq}
+use Rattle.rv_isa.specs.declared.kind.Kind.TheVariants.{Addi, Beq, Bne}
 use Rattle.rv_isa.specs.declared.ins.Ins.{Ins}
 use Rattle.rv_isa.specs.declared.class.Class.{Class}
 use Rattle.rv_isa.specs.declared.class.Class.TheVariants as class
 use Rattle.rv_isa.specs.Kind.{class_of}
+use Rattle.rv_isa.specs.Operation.{pair}
 use Rattle.qed_model.specs.declared.change.Place.{Place}
 use Rattle.qed_model.specs.declared.change.Place.TheVariants.{Reg, Word}
 use Rattle.qed_model.specs.Machine.Step.{State, Fetched, Known, fetched_at}
@@ -20,6 +21,11 @@ is_addi _ = false
 abbrev pub is_beq : Kind → Bool
 is_beq Beq = true
 is_beq _ = false
+
+-- the kind is BNE
+abbrev pub is_bne : Kind → Bool
+is_bne Bne = true
+is_bne _ = false
 
 -- an instruction of a class uses a register: as the base of an access, as a stored value, in a branch on x0 to x13, or where ADDI
 -- takes it into x30
@@ -40,15 +46,42 @@ abbrev pub is_eight : ℤ → Bool
 is_eight (pos n) = n == 8
 is_eight (negsuc n) = false
 
--- what was fetched compares another of x1 to x13 with its pair, and skips the next word where they are equal
+-- BEQ that skips the next word, or BNE
+abbrev pub is_guard_kind : Ins → Bool
+is_guard_kind i = (is_beq i.kind && is_eight i.imm) || is_bne i.kind
+
+-- what was fetched compares another of x1 to x13 with its pair: BEQ skips the next word where they are equal, BNE goes elsewhere where
+-- they differ
 unfoldable pub guards_other : ℕ → Fetched → Bool
-guards_other r (Known i) = is_beq i.kind && ((i.rs2 == i.rs1 + 16) && (is_eight i.imm && (not (i.rs1 == r) && (nat_le 1 i.rs1 && nat_le i.rs1 13))))
+guards_other r (Known i) = is_guard_kind i && ((i.rs2 == i.rs1 + 16) && (not (i.rs1 == r) && (nat_le 1 i.rs1 && nat_le i.rs1 13)))
 guards_other r _ = false
 
--- a register is closed at an address of the code: it is one of x1 to x13, and used there, or used behind the guard of another
--- that stands there
+-- how many bytes behind its begin a guard ends that finds no difference
+abbrev pub guard_bytes : Fetched → ℕ
+guard_bytes (Known i) = cond (is_bne i.kind) 4 8
+guard_bytes _ = 8
+
+-- a branch
+abbrev pub is_branch : Class → Bool
+is_branch class.Branch = true
+is_branch _ = false
+
+-- what was fetched is a branch on the pairs of the registers of an instruction
+abbrev pub is_on_pairs : Ins → Fetched → Bool
+is_on_pairs i (Known j) = is_branch (class_of j.kind) && ((j.rs1 == pair i.rs1) && (j.rs2 == pair i.rs2))
+is_on_pairs i _ = false
+
+-- a branch that is checked behind it, by one on the pairs: a wrong value may lead it astray, but reaches nothing before that check
+unfoldable pub is_checked : Fetched → Fetched → Bool
+is_checked (Known i) behind = is_branch (class_of i.kind) && is_on_pairs i behind
+is_checked _ behind = false
+
+-- a register is closed at an address of the code: it is one of x1 to x13, and used there, but by no branch that is checked behind it, or
+-- used behind the guard of another that stands there
 abbrev pub closed_at : (ℕ → Fetched) → ℕ → ℕ → Bool
-closed_at code a r = (nat_le 1 r && nat_le r 13) && (uses r (code a) || (guards_other r (code a) && uses r (code ((a + 8) % 2 ^ 64))))
+closed_at code a r =
+    (nat_le 1 r && nat_le r 13)
+    && ((uses r (code a) && not (is_checked (code a) (code ((a + 4) % 2 ^ 64)))) || (guards_other r (code a) && uses r (code ((a + guard_bytes (code a)) % 2 ^ 64))))
 
 -- a register is closed in a state
 abbrev pub is_closed : State → ℕ → Bool
