@@ -51,7 +51,7 @@ unfolding with_changes
 with_change c s = ap (λ b. cond b (changed c s) s) (eq-eqb c.step c.step refl)
 
 -- ---- changes that come later
-later_run : (s : State) (cs ds : List Change) (t n : ℕ) → AllFrom t ds → n < t → changed_run s (cs ++ ds) n ≡ changed_run s cs n
+pub later_run : (s : State) (cs ds : List Change) (t n : ℕ) → AllFrom t ds → n < t → changed_run s (cs ++ ds) n ≡ changed_run s cs n
 unfolding changed_run
 later_run s cs ds t zero from h = with_changes-append cs ds 0 s ∙ none_yet 0 t ds (with_changes cs 0 s) from h
 later_run s cs ds t (suc n) from h =
@@ -142,6 +142,15 @@ drop_at cs k c lt e = drop-cons cs k c lt ∙ ap (λ d. d ∷ drop (suc k) cs) (
 take_at : (cs : List Change) (k : ℕ) (c : Change) → k < length cs → c ≡ get_or cs k c → take (k + 1) cs ≡ take k cs ++ c ∷ []
 take_at cs k c lt e = rw add-one (take-suc cs k c lt) ∙ ap (λ d. take k cs ++ d ∷ []) (sym e)
 
+-- those that are left come late where the next one does, or where none is left
+pub left_before : (cs : List Change) (k last : ℕ) (c : Change) → Ordered cs → k < length cs → c ≡ get_or cs k c → last ≤ c.step → AllFrom last (drop k cs)
+left_before cs k last c o lt e late =
+    let split = drop_at cs k c lt e in
+    subst (AllFrom last) (sym split) (late, ordered_from last c (drop (k + 1) cs) late (subst Ordered split (ordered_drop cs k o)))
+
+pub left_none : (cs : List Change) (k last : ℕ) → length cs ≤ k → AllFrom last (drop k cs)
+left_none cs k last all = subst (AllFrom last) (sym (drop_all k cs all)) tt
+
 -- it does not come before what was made
 pub next_later : (m : Progress) (cs : List Change) (k done : ℕ) (p : Progress) (c : Change) → k < length cs → c ≡ get_or cs k c → Reached m cs k done p → done ≤ c.step
 next_later m cs k done p c lt e r = (subst (AllFrom done) (drop_at cs k c lt e) r.from).0
@@ -177,13 +186,11 @@ ends m cs k done n p r h late = runs_on m cs k done n p r h ∙ sym (not_made m 
 pub ends_before :
     (m : Progress) (cs : List Change) (k done n : ℕ) (p : Progress) (c : Change) → Ordered cs → k < length cs → c ≡ get_or cs k c → Reached m cs k done p → done ≤ n → n < c.step
     → progress p (n - done) ≡ changed_progress m cs n
-ends_before m cs k done n p c o lt e r h late =
-    let split = drop_at cs k c lt e in
-    ends m cs k done n p r h (subst (AllFrom (n + 1)) (sym split) (omega arith, ordered_from (n + 1) c (drop (k + 1) cs) (omega arith) (subst Ordered split (ordered_drop cs k o))))
+ends_before m cs k done n p c o lt e r h late = ends m cs k done n p r h (left_before cs k (n + 1) c o lt e (omega arith))
 
 -- or where none is left
 pub ends_behind : (m : Progress) (cs : List Change) (k done n : ℕ) (p : Progress) → length cs ≤ k → Reached m cs k done p → done ≤ n → progress p (n - done) ≡ changed_progress m cs n
-ends_behind m cs k done n p all r h = ends m cs k done n p r h (subst (AllFrom (n + 1)) (sym (drop_all k cs all)) tt)
+ends_behind m cs k done n p all r h = ends m cs k done n p r h (left_none cs k (n + 1) all)
 
 -- ---- a part of the run
 all_by : (t : ℕ) (cs : List Change) → AllBy t cs → All (λ c. c.step ≤ t) cs
@@ -222,14 +229,12 @@ part_made m cs k done n j last p q r most l late e =
 pub part_before :
     (m : Progress) (cs : List Change) (k done n j : ℕ) (p q : Progress) (c : Change) → Ordered cs → k < length cs → c ≡ get_or cs k c → Reached m cs k done p → done + j ≤ n → done + j ≤ c.step
     → q ≡ progress p j → IsPartOf m cs n q
-part_before m cs k done n j p q c o lt e r most l is =
-    let split = drop_at cs k c lt e in
-    part_made m cs k done n j c.step p q r most l (subst (AllFrom c.step) (sym split) (omega arith, ordered_from c.step c (drop (k + 1) cs) (omega arith) (subst Ordered split (ordered_drop cs k o)))) is
+part_before m cs k done n j p q c o lt e r most l is = part_made m cs k done n j c.step p q r most l (left_before cs k c.step c o lt e (omega arith)) is
 
 -- behind the last one
 pub part_behind :
     (m : Progress) (cs : List Change) (k done n j : ℕ) (p q : Progress) → length cs ≤ k → Reached m cs k done p → done + j ≤ n → q ≡ progress p j → IsPartOf m cs n q
-part_behind m cs k done n j p q all r most is = part_made m cs k done n j (done + j) p q r most (omega arith) (subst (AllFrom (done + j)) (sym (drop_all k cs all)) tt) is
+part_behind m cs k done n j p q all r most is = part_made m cs k done n j (done + j) p q r most (omega arith) (left_none cs k (done + j) all) is
 
 -- what holds at any error
 pub any_err : {T E : Type 0} (r : Result T E) (P : Type 0) → P → IfErr r (λ _. P)

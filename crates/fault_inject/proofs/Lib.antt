@@ -1,2 +1,4 @@
 pub mod Closing
 pub mod Changing
+pub mod Straying
+pub mod Steadiness

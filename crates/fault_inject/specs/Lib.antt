@@ -1,2 +1,3 @@
+pub mod Astray
 pub mod Closed
 pub mod Counted

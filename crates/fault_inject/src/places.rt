@@ -1,9 +1,10 @@
 //! Places that are closed.
-ghost use Rattle.std.specs.Prelude.{◌≡◌, ◌↔◌, false};
+ghost use Rattle.std.specs.Prelude.{◌≡◌, ◌↔◌, ◌&&◌, ◌||◌, not, false};
 ghost use Rattle.rv_isa.specs.Kind.{class_of};
 ghost use Rattle.qed_model.specs.Machine.Step.{Fetched, Known};
 ghost use Rattle.rv_step.specs.Known.{instruction_of};
-ghost use Rattle.qed_model.specs.Promise.Closed.{is_closed, uses as uses_register, uses_as, guards_other, IsOpen};
+ghost use Rattle.rv_isa.specs.Operation.{pair};
+ghost use Rattle.qed_model.specs.Promise.Closed.{is_closed, uses as uses_register, uses_as, guards_other, guard_bytes, is_on_pairs as on_pairs, is_checked, IsOpen};
 ghost use Rattle.fault_inject.specs.Closed.{is_closed_place};
 
 use qed_model::Place;
@@ -26,18 +27,52 @@ fn uses(ins: &Ins, r: Reg) -> bool
     }
 }
 
-/// Whether an instruction compares another of x1 to x13 with its pair, and skips the next word where they are equal.
+/// Whether an instruction compares another of x1 to x13 with its pair: BEQ skips the next word where they are equal, BNE goes
+/// elsewhere where they differ.
 #[tactic(auto, unfolding(qed_model::specs::Promise::Closed::guards_other))]
 fn guards_another(ins: &Ins, r: Reg) -> bool
     ensures { result ≡ guards_other r (Known ins.now) }
 {
     let other = ins.rs1.number();
-    ins.kind == Kind::Beq
+    (ins.kind == Kind::Beq && ins.imm == 8 || ins.kind == Kind::Bne)
         && ins.rs2.number() == other + 16
-        && ins.imm == 8
         && ins.rs1 != r
         && 1 <= other
         && other <= 13
+}
+
+/// How many bytes behind its begin a guard ends that finds no difference.
+fn guard_length(ins: &Ins) -> u64
+    ensures { result ≡ guard_bytes (Known ins.now) }
+{
+    if ins.kind == Kind::Bne { 4 } else { 8 }
+}
+
+/// The number of the register that holds the duplicate of this one.
+fn pair_number(r: Reg) -> u8
+    ensures { result ≡ pair r }
+{
+    if r.number() == 0 { 0 } else { r.number() + 16 }
+}
+
+/// Whether an instruction is a branch on the pairs of the registers of another.
+fn is_on_pairs(ins: &Ins, other: &Ins) -> bool
+    ensures { result ≡ on_pairs other.now (Known ins.now) }
+{
+    ins.class() == Class::Branch
+        && ins.rs1.number() == pair_number(other.rs1)
+        && ins.rs2.number() == pair_number(other.rs2)
+}
+
+/// Whether an instruction is a branch that the one behind it, where there is one, checks.
+#[tactic(auto, unfolding(qed_model::specs::Promise::Closed::is_checked))]
+fn is_checked_by(ins: &Ins, behind: Option<Ins>) -> bool
+    ensures { (f : Fetched) → behind ≡ instruction_of f → result ≡ is_checked (Known ins.now) f }
+{
+    match behind {
+        Some(check) => ins.class() == Class::Branch && is_on_pairs(&check, ins),
+        None => false,
+    }
 }
 
 /// Whether an instruction, where there is one, uses a register.
@@ -50,7 +85,15 @@ fn is_used_by(ins: Option<Ins>, r: Reg) -> bool
     }
 }
 
-/// Whether a register is closed: it is one of x1 to x13, and used next, or used behind the guard of another that is next.
+/// Whether a use closes a register, which a word behind may check, or a use behind a guard does.
+fn closes(used: bool, checked: bool, guarded: bool, used_behind: bool) -> bool
+    ensures { result ≡ ((used && not checked) || (guarded && used_behind)) }
+{
+    used && !checked || guarded && used_behind
+}
+
+/// Whether a register is closed: it is one of x1 to x13, and used next, but by no branch that is checked behind it, or used behind
+/// the guard of another that is next.
 fn register_closed(machine: &Machine, r: Reg) -> bool
     ensures { result ≡ is_closed machine.now.state r }
 {
@@ -58,7 +101,11 @@ fn register_closed(machine: &Machine, r: Reg) -> bool
         return false;
     }
     match machine.next() {
-        Some(ins) => { uses(&ins, r) || guards_another(&ins, r) && is_used_by(machine.ahead(8), r) }
+        Some(ins) => {
+            let open = is_checked_by(&ins, machine.ahead(4));
+            let guarded = is_used_by(machine.ahead(guard_length(&ins)), r);
+            closes(uses(&ins, r), open, guards_another(&ins, r), guarded)
+        }
         None => false,
     }
 }

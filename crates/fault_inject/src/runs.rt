@@ -8,7 +8,7 @@ use rv_step::Machine;
 use std::alloc::AllocError;
 
 /// Makes a change, unless the machine has stopped. Where there is no memory for a page, nothing changes.
-fn make_change(machine: &mut Machine, change: &Change) -> Result<(), AllocError>
+pub(crate) fn make_change(machine: &mut Machine, change: &Change) -> Result<(), AllocError>
     ensures state { IfOk result (λ _. machine.new.state ≡ changed change.now machine.old.state) }
     ensures steps { IfOk result (λ _. machine.new.steps ≡ machine.old.steps) }
     ensures kept { IfErr result (λ _. machine.new ≡ machine.old) }

@@ -14,6 +14,9 @@ use std::rc::Rc;
 /// How many instructions are kept.
 const KEPT: u64 = 1024;
 
+/// How many words are decoded anew before what is shared is copied.
+const FEW: u32 = 32;
+
 /// A word and its instruction, in 16 bytes.
 #[derive(Drop)]
 struct Known {
@@ -111,6 +114,8 @@ impl Clone for Kept {
 #[derive(Drop)]
 pub struct Decoder {
     kept: Rc<Kept>,
+    /// How many words it has decoded anew while it shared what is kept. Nothing rests on it.
+    missed: u32,
 }
 
 impl Model for Decoder {
@@ -143,7 +148,7 @@ impl Decoder {
             all.push(Known::of(0, &ins))?;
         }
         let kept = Rc::new(alloc, Kept { all })?;
-        Ok(Decoder { kept })
+        Ok(Decoder { kept, missed: 0 })
     }
 
     /// One that has kept the same.
@@ -151,7 +156,7 @@ impl Decoder {
         ensures { IfOk result (λ decoder. decoder ≡ self.now) }
     {
         let kept = self.kept.clone()?;
-        Ok(Decoder { kept })
+        Ok(Decoder { kept, missed: 0 })
     }
 
     /// A table without instructions, whose memory comes from where this has its own.
@@ -193,9 +198,27 @@ impl Decoder {
         ensures { result ≡ decode_of word }
     {
         let ins = decode(word)?;
-        if let Ok(kept) = Rc::make_mut(&mut self.kept) {
+        if let Some(kept) = Rc::get_mut(&mut self.kept) {
             keep(kept, at, word, &ins);
+            return Some(ins);
         }
+        self.keep_apart(at, word, &ins);
         Some(ins)
+    }
+
+    /// Keeps the instruction of a word where what is kept may be shared. That is copied first, but not for the first few words, so that a
+    /// short run leaves it.
+    fn keep_apart(&mut self, at: usize, word: u32, ins: &Ins)
+        requires at { at < 1024 }
+        requires right { decode_of word ≡ Some ins.now }
+        ensures { self.new ≡ self.old }
+    {
+        if self.missed < FEW {
+            self.missed += 1;
+            return;
+        }
+        if let Ok(kept) = Rc::make_mut(&mut self.kept) {
+            keep(kept, at, word, ins);
+        }
     }
 }

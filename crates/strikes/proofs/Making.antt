@@ -1,8 +1,11 @@
 -- Strikes that are made one after the other.
-use Rattle.std.proofs.Common.{◌≡◌, ℕ, suc, ◌+◌, ◌<◌, ◌≤◌, true, false, List, [], ◌∷◌, ◌++◌, length, get_or, drop, drop-cons, add-one, refl, sym, ap, ◌∙◌, subst, append_assoc}
-use Rattle.std.specs.Prelude.{Option, Some, None, is_some, Result, Ok, Err, All}
+use Rattle.std.proofs.Common.{◌≡◌, ◌⊎◌, inl, inr, ℕ, suc, ◌+◌, ◌<◌, ◌≤◌, true, false, List, [], ◌∷◌, ◌++◌, length, get_or, drop, drop-cons, add-one, refl, sym, ap, ◌∙◌, subst, append_assoc, arith}
+use Rattle.std.specs.Prelude.{Option, Some, None, is_some, Result, Ok, Err, All, slice_get}
+use Rattle.std.proofs.Math.ListN.{set, replicate}
+use Rattle.std.proofs.lemmas.Bool.{cases_eq}
+use Rattle.std.proofs.lemmas.Option.{slice_get_within, slice_get-get_or, get_or_from_slice_get}
 use Rattle.std.proofs.lemmas.List.Elements.{All-nil, All-cons, All-head, All-tail}
-use Rattle.std.proofs.lemmas.List.{append-nil, drop_all}
+use Rattle.std.proofs.lemmas.List.{append-nil, drop_all, get_or-replicate, length-replicate, get_or-set_same, get_or-set_other, length-set}
 use Rattle.qed_model.specs.declared.change.Change.{Change}
 use Rattle.qed_model.specs.declared.verdict.Struck.{Struck}
 use Rattle.qed_model.specs.declared.verdict.Verdict.{Verdict}
@@ -10,7 +13,7 @@ use Rattle.strikes.specs.declared.error.StrikeError.{StrikeError}
 use Rattle.strikes.specs.declared.error.StrikeError.TheVariants.{Trapped}
 use Rattle.strikes.specs.Kept.{Pair}
 use Rattle.qed_model.specs.Promise.Changed.{Ordered}
-use Rattle.strikes.specs.Struck.{IsStrike, IsStruckNext, AreStruck}
+use Rattle.strikes.specs.Struck.{AreKnown, AreStruck, IsKnown, IsStrike, IsStruckNext}
 use Rattle.strikes.specs.Verdict.{IsVerdict}
 
 -- a strike with its verdict is added
@@ -66,3 +69,40 @@ all_ordered p (cs ∷ rest) [] trapped are fits = All-nil (λ (s : Struck). Orde
 all_ordered p (cs ∷ rest) (s ∷ struck) trapped are fits =
     All-cons (λ (s : Struck). Ordered s.changes) s struck (subst Ordered (sym are.0) (All-head (IsStrike p.bounds) cs rest fits).ordered)
     (all_ordered p rest struck trapped are.2 (All-tail (IsStrike p.bounds) cs rest fits))
+
+-- ---- verdicts that are known
+-- none
+pub none_known : (p : Pair) (strikes : List (List Change)) (n : ℕ) (found : List (Option Verdict)) → found ≡ replicate n None → AreKnown p strikes found
+none_known p strikes n found e k cs known there got =
+    let all : slice_get (replicate n None) k ≡ Some known = subst (λ xs. slice_get xs k ≡ Some known) e got in
+    let within : k < length (replicate {A = Option Verdict} n None) = slice_get_within (replicate n None) k known all in
+    let size : length (replicate {A = Option Verdict} n None) ≡ n = length-replicate n None in
+    let none : known ≡ None = sym (get_or_from_slice_get (replicate n None) k known None all) ∙ get_or-replicate n k None None (omega (arith, within, size)) in
+    subst (IsKnown p cs) (sym none) tt
+
+some_same : {A : Type 0} {x y : A} → Some x ≡ Some y → x ≡ y
+some_same e = cc
+
+-- one more
+known_at :
+    (p : Pair) (found after : List (Option Verdict)) (k j : ℕ) (ds : List Change) (r q : Option Verdict) → k < length found → after ≡ set found k r → slice_get after j ≡ Some q
+    → (j ≡ k → IsKnown p ds r) → (slice_get found j ≡ Some q → IsKnown p ds q) → (j ≡ k) ⊎ (j ≡ k → ⊥) → IsKnown p ds q
+known_at p found after k j ds r q lt e got here before (inl same) =
+    let at : get_or after j q ≡ q = get_or_from_slice_get after j q q got in
+    let new : get_or after j q ≡ r = ap (λ xs. get_or xs j q) e ∙ ap (λ i. get_or (set found k r) i q) same ∙ get_or-set_same found k r q lt in
+    subst (IsKnown p ds) (sym new ∙ at) (here same)
+known_at p found after k j ds r q lt e got here before (inr other) =
+    let at : get_or after j q ≡ q = get_or_from_slice_get after j q q got in
+    let old : get_or found j q ≡ q = sym (get_or-set_other found k j r q other) ∙ ap (λ xs. get_or xs j q) (sym e) ∙ at in
+    let size : length after ≡ length found = ap length e ∙ length-set found k r in
+    let within : j < length after = slice_get_within after j q got in
+    before (slice_get-get_or found j q (omega (arith, size, within)) ∙ ap Some old)
+
+pub known_more :
+    (p : Pair) (strikes : List (List Change)) (found after : List (Option Verdict)) (k : ℕ) (cs : List Change) (r : Option Verdict) → k < length found → slice_get strikes k ≡ Some cs
+    → after ≡ set found k r → IsKnown p cs r → AreKnown p strikes found → AreKnown p strikes after
+known_more p strikes found after k cs r lt here e is so_far j ds q there got =
+    known_at p found after k j ds r q lt e got (λ same. subst (λ xs. IsKnown p xs r) (the_same same) is) (so_far j ds q there) (cases_eq j k)
+  where
+    the_same : j ≡ k → cs ≡ ds
+    the_same same = some_same (sym here ∙ ap (slice_get strikes) (sym same) ∙ there)

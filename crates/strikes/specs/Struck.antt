@@ -1,8 +1,9 @@
 -- Strikes that are made one after the other.
-use Rattle.std.specs.Prelude.{◌≡◌, ℕ, List, [], ◌∷◌, ◌++◌, Option, Some, None, IsSome, Ok, Err}
+use Rattle.std.specs.Prelude.{◌≡◌, ℕ, List, [], ◌∷◌, ◌++◌, slice_get, Option, Some, None, IfSome, IsSome, Ok, Err}
 use Rattle.qed_model.specs.declared.bounds.Bounds.{Bounds}
 use Rattle.qed_model.specs.declared.change.Change.{Change}
 use Rattle.qed_model.specs.declared.verdict.Struck.{Struck}
+use Rattle.qed_model.specs.declared.verdict.Verdict.{Verdict}
 use Rattle.qed_model.specs.Promise.Caught.{bound_of}
 use Rattle.qed_model.specs.Promise.Changed.{Ordered}
 use Rattle.strikes.specs.declared.error.StrikeError.TheVariants.{Trapped}
@@ -13,6 +14,14 @@ use Rattle.strikes.specs.Verdict.{IsVerdict}
 pub record IsStrike (bounds : Bounds) (cs : List Change) : Type 0 where
   pub ordered : Ordered cs
   pub bounded : IsSome (bound_of bounds cs)
+
+-- a verdict, where it is known, is that of a strike
+abbrev pub IsKnown : Pair → List Change → Option Verdict → Type 0
+IsKnown p cs known = IfSome known (λ v. IsVerdict p.input p.output p.bounds cs (Ok v))
+
+-- those that are known, by the numbers of their strikes
+abbrev pub AreKnown : Pair → List (List Change) → List (Option Verdict) → Type 0
+AreKnown p strikes found = (k : ℕ) (cs : List Change) (known : Option Verdict) → slice_get strikes k ≡ Some cs → slice_get found k ≡ Some known → IsKnown p cs known
 
 -- a strike is added with its verdict, or the input traps at a pc and nothing is added
 abbrev pub IsStruckNext : Pair → List Change → List Struck → List Struck → Option ℕ → Type 0

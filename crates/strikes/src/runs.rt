@@ -1,13 +1,15 @@
 //! The runs of an input and of its output, which are struck.
-ghost use Rattle.std.specs.Prelude.{◌≡◌, ◌↔◌, ◌+◌, ◌*◌, ◌≤◌, All, IfOk, IfSome, IsNone, IsTrue, map};
+ghost use Rattle.std.specs.Prelude.{◌≡◌, ◌↔◌, ◌+◌, ◌*◌, ◌<◌, ◌≤◌, All, IfOk, IfSome, IsNone, IsTrue, length, map};
+ghost use Rattle.std.specs.List.Sorted.{IsNonDecreasingBy};
 ghost use Rattle.qed_model.specs.Admission.DataRanges.{range_of};
 ghost use Rattle.qed_model.specs.declared.machine.Outcome.TheVariants as outcome;
 ghost use Rattle.qed_model.specs.Machine.Step.{run};
 ghost use Rattle.qed_model.specs.Promise.Caught.{bound_of as bound_of_changes};
 ghost use Rattle.qed_model.specs.Promise.Changed.{Ordered, changed_run, has_word as has_word_of, is_word as is_word_of, last_step as last_step_of};
 ghost use Rattle.strikes.specs.Kept.{IsReach, copies_up_to};
+ghost use Rattle.strikes.specs.Later.{first_step as first_step_of};
 ghost use Rattle.strikes.specs.Right.{ends_right as ends_right_of, is_right as is_right_of, rights as rights_of};
-ghost use Rattle.strikes.specs.Struck.{IsStrike, IsStruckNext, AreStruck};
+ghost use Rattle.strikes.specs.Struck.{AreKnown, AreStruck, IsKnown, IsStrike, IsStruckNext};
 ghost use Rattle.strikes.specs.Verdict.{IsVerdict};
 
 use crate::error::StrikeError;
@@ -167,11 +169,25 @@ impl Runs {
         requires { IsStrike self.now.bounds changes.now }
         ensures { IsVerdict self.now.input self.now.output self.now.bounds changes.now result }
     {
+        let output = self.output.machine_at(alloc, first_step(changes))?;
+        self.strike_at(alloc, output, changes)
+    }
+
+    /// The same, with the output as it stands at the first change.
+    fn strike_at(
+        &self,
+        alloc: Global,
+        output: Machine,
+        changes: &[Change],
+    ) -> Result<Verdict, StrikeError>
+        requires strike { IsStrike self.now.bounds changes.now }
+        requires there { output.state ≡ run self.now.output (first_step_of changes.now) }
+        ensures { IsVerdict self.now.input self.now.output self.now.bounds changes.now result }
+    {
         let bound = bound_of(&self.bounds, changes).unwrap();
         let last = last_step(changes);
         let start = first_step(changes);
         let later = all_from(alloc, changes, start)?;
-        let output = self.output.machine_at(alloc, start)?;
         if let Some(verdict) = output_verdict(alloc, &self.output, start, output, &later, bound)? {
             return Ok(verdict);
         }
@@ -179,6 +195,58 @@ impl Runs {
             Some(pc) => Err(StrikeError::Trapped(pc)),
             None => Ok(Verdict::Same),
         }
+    }
+
+    /// The same, with the output on its way, after `made` steps, which is brought to the first change. None where the input traps.
+    fn strike_on(
+        &self,
+        alloc: Global,
+        output: &mut Machine,
+        made: u64,
+        changes: &[Change],
+    ) -> Result<Option<Verdict>, AllocError>
+        requires strike { IsStrike self.now.bounds changes.now }
+        requires there { output.old.state ≡ run self.now.output made }
+        ensures there { IfOk result (λ _. output.new.state ≡ run self.now.output (first_step_of changes.now)) }
+        ensures verdict { IfOk result (IsKnown self.now changes.now) }
+    {
+        self.output.go_to(alloc, output, made, first_step(changes))?;
+        let there = output.copy(alloc)?;
+        match self.strike_at(alloc, there, changes) {
+            Ok(verdict) => Ok(Some(verdict)),
+            Err(StrikeError::Trapped(_)) => Ok(None),
+            Err(StrikeError::Memory) => Err(AllocError),
+        }
+    }
+
+    /// The verdicts of strikes, which are made in the order of their first changes, so that the output goes along its run once. None where
+    /// one is not known: where the input traps, and behind that.
+    fn verdicts(
+        &self,
+        alloc: Global,
+        strikes: &[Changes],
+    ) -> Result<Vec<Option<Verdict>>, AllocError>
+        requires { All (IsStrike self.now.bounds) strikes.now }
+        ensures known { IfOk result (λ found. AreKnown self.now strikes.now found.items) }
+        ensures count { IfOk result (λ found. length found.items ≡ length strikes.now) }
+    {
+        let order = in_order(alloc, strikes)?;
+        let mut found = vec![in alloc; None; strikes.len()]?;
+        let mut output = self.output.machine_at(alloc, 0)?;
+        let mut made = 0;
+        let mut end = strikes.len();
+        for i in 0..order.len() {
+            let number = order[i].1;
+            if number >= end {
+                continue;
+            }
+            let changes = &strikes[number];
+            let verdict = self.strike_on(alloc, &mut output, made, changes.as_slice())?;
+            made = first_step(changes.as_slice());
+            end = end_behind(end, number, verdict);
+            found[number] = verdict;
+        }
+        Ok(found)
     }
 
     /// The output so many steps behind the last change.
@@ -248,16 +316,22 @@ impl Runs {
         Ok(found)
     }
 
-    /// Makes a strike, and adds it with its verdict, or gives the pc where the input traps.
+    /// Adds a strike with its verdict, which is made where it is not known, or gives the pc where the input traps.
     fn strike_next(
         &self,
         alloc: Global,
         changes: &Changes,
+        known: Option<Verdict>,
         struck: &mut Vec<Struck>,
     ) -> Result<Option<u64>, AllocError>
-        requires { IsStrike self.now.bounds changes.now }
+        requires strike { IsStrike self.now.bounds changes.now }
+        requires known { IsKnown self.now changes.now known }
         ensures { IfOk result (IsStruckNext self.now changes.now struck.old.items struck.new.items) }
     {
+        if let Some(verdict) = known {
+            struck.push(struck_with(alloc, changes, verdict)?)?;
+            return Ok(None);
+        }
         let verdict = match self.strike(alloc, changes.as_slice()) {
             Ok(verdict) => verdict,
             Err(StrikeError::Trapped(pc)) => return Ok(Some(pc)),
@@ -267,15 +341,16 @@ impl Runs {
         Ok(None)
     }
 
-    /// Strikes one after the other, each from the start of the runs, up to the first where the input traps.
+    /// Strikes one after the other, each of the runs from their start, up to the first where the input traps.
     pub fn strike_all(&self, alloc: Global, strikes: &[Changes]) -> Result<Campaign, AllocError>
         requires { All (IsStrike self.now.bounds) strikes.now }
         ensures struck { IfOk result (λ campaign. AreStruck self.now strikes.now campaign.struck.items campaign.trapped) }
         ensures ordered { IfOk result (λ campaign. All (λ s. Ordered s.changes) campaign.struck.items) }
     {
+        let known = self.verdicts(alloc, strikes)?;
         let mut struck = Vec::new(alloc);
-        for changes in strikes {
-            let trapped = self.strike_next(alloc, changes, &mut struck)?;
+        for i in 0..strikes.len() {
+            let trapped = self.strike_next(alloc, &strikes[i], known[i], &mut struck)?;
             if trapped.is_some() {
                 return Ok(Campaign { struck, trapped });
             }
@@ -285,6 +360,29 @@ impl Runs {
             trapped: None,
         })
     }
+}
+
+/// Before which number strikes are made yet, behind one with a number below it: where its input traps, no later one is asked for.
+fn end_behind(end: usize, number: usize, verdict: Option<Verdict>) -> usize
+    requires { number < end }
+    ensures { result ≤ end }
+{
+    match verdict {
+        Some(_) => end,
+        None => number,
+    }
+}
+
+/// The numbers of strikes, each behind the step of its first change, in the order of these.
+fn in_order(alloc: Global, strikes: &[Changes]) -> Result<Vec<(u64, usize)>, AllocError>
+    ensures { IfOk result (λ order. IsNonDecreasingBy (λ p. p.0) order.items) }
+{
+    let mut order = Vec::new(alloc);
+    for i in 0..strikes.len() {
+        order.push((first_step(strikes[i].as_slice()), i))?;
+    }
+    order.sort_by_key(|place| place.0)?;
+    Ok(order)
 }
 
 /// A strike and its verdict.

@@ -111,6 +111,26 @@ impl Snapshots {
         Ok(machine)
     }
 
+    /// Brings a machine of this run, which has made `made` steps, to where it has made `steps`: from there, or from the last copy before
+    /// that, where this takes fewer.
+    pub fn go_to(
+        &self,
+        alloc: Global,
+        machine: &mut Machine,
+        made: u64,
+        steps: u64,
+    ) -> Result<(), AllocError>
+        requires { machine.old.state ≡ run self.now.start.state made }
+        ensures { IfOk result (λ _. machine.new.state ≡ run self.now.start.state steps) }
+    {
+        if made <= steps && steps - made <= steps % SPACING {
+            machine.run(steps - made)?;
+            return Ok(());
+        }
+        *machine = self.machine_at(alloc, steps)?;
+        Ok(())
+    }
+
     /// Brings a machine of this run on: it has made `from` steps behind the first `start`, and then has made `to`.
     pub fn bring(
         &self,

@@ -47,29 +47,53 @@ fn has_closed(
     Ok(is_closed)
 }
 
-/// The verdict that needs no change: the output, which has made `start` steps, does not go on up to the last one, or a place is closed;
-/// None where neither is so.
-fn unchanged_verdict(
+/// What a machine of the run without changes shows that needs no change, which has made `start` steps and makes those up to the last
+/// change: it does not go on, or a place is closed; None where neither is so.
+fn shown_by(
     alloc: Global,
     way: &Snapshots,
     start: u64,
-    output: &Machine,
+    machine: &mut Machine,
     changes: &[Change],
 ) -> Result<Option<Verdict>, AllocError>
-    requires there { output.now.state ≡ run way.now.start.state start }
+    requires there { machine.old.state ≡ run way.now.start.state start }
     requires ordered { Ordered changes.now }
-    ensures shown { IfOk result (λ v. IfSome v (ShowsUnchanged output.now.state changes.now)) }
-    ensures none { IfOk result (λ v. IfNone v (IsTried output.now.state changes.now)) }
+    ensures shown { IfOk result (λ v. IfSome v (ShowsUnchanged machine.old.state changes.now)) }
+    ensures none { IfOk result (λ v. IfNone v (IsTried machine.old.state changes.now)) }
+    ensures there { IfOk result (λ _. machine.new.state ≡ run machine.old.state (last_step_of changes.now)) }
 {
-    let mut output = output.copy(alloc)?;
-    let is_closed = has_closed(alloc, way, start, &mut output, changes)?;
-    if output.outcome() != Outcome::Going {
+    let is_closed = has_closed(alloc, way, start, machine, changes)?;
+    if machine.outcome() != Outcome::Going {
         return Ok(Some(Verdict::NotReached));
     }
     if is_closed {
         return Ok(Some(Verdict::Closed));
     }
     Ok(None)
+}
+
+/// The verdict that needs no change: the output, which has made `start` steps, does not go on up to the last one, or a place is closed;
+/// None where neither is so. The output stays; it is copied where there are steps to be made.
+fn unchanged_verdict(
+    alloc: Global,
+    way: &Snapshots,
+    start: u64,
+    output: &mut Machine,
+    changes: &[Change],
+) -> Result<Option<Verdict>, AllocError>
+    requires there { output.old.state ≡ run way.now.start.state start }
+    requires ordered { Ordered changes.now }
+    ensures shown { IfOk result (λ v. IfSome v (ShowsUnchanged output.old.state changes.now)) }
+    ensures none { IfOk result (λ v. IfNone v (IsTried output.old.state changes.now)) }
+    ensures same { IfOk result (λ _. output.new.state ≡ output.old.state) }
+{
+    if last_step(changes) == 0 {
+        let verdict = shown_by(alloc, way, start, output, changes)?;
+        return Ok(verdict);
+    }
+    let mut copy = output.copy(alloc)?;
+    let verdict = shown_by(alloc, way, start, &mut copy, changes)?;
+    Ok(verdict)
 }
 
 /// What is shown by a machine that stopped so many steps after the last change; None where it trapped.
@@ -116,10 +140,10 @@ pub fn output_verdict(
     ensures shown { IfOk result (λ v. IfSome v (λ v. (input : State) → Shows input output.state bound changes.now (Ok v))) }
     ensures none { IfOk result (λ v. IfNone v (IsSilentAt output.state bound changes.now)) }
 {
-    if let Some(verdict) = unchanged_verdict(alloc, way, start, &output, changes)? {
+    let mut output = output;
+    if let Some(verdict) = unchanged_verdict(alloc, way, start, &mut output, changes)? {
         return Ok(Some(verdict));
     }
-    let mut output = output;
     let last = last_step(changes);
     run_changed(&mut output, changes, last)?;
     let verdict = later_verdict(alloc, way, start.saturating_add(last), &mut output, bound)?;

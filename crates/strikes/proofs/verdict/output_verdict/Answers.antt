@@ -10,6 +10,6 @@ pub returns-clause-shown : goal.returns-clause-shown
 returns-clause-shown c =
     let tried : IsTried c.args.output.state c.args.changes.now = where_none c.in_ok-verdict.field-0 (IsTried c.args.output.state c.args.changes.now) c.in_default.not-Some c.in_ok-verdict.ensures.none in
     let there : c.run_changed.new.machine.state ≡ changed_run c.args.output.state c.args.changes.now (last_step c.args.changes.now) =
-    c.in_ok-run_changed.ensures.state ∙ ap (changed_run c.args.output.state c.args.changes.now) c.last_step-last.ensures in
+    c.in_ok-run_changed.ensures.state ∙ ap (λ s. changed_run s c.args.changes.now c.last_step-last.result) c.in_ok-verdict.ensures.same ∙ ap (changed_run c.args.output.state c.args.changes.now) c.last_step-last.ensures in
     shown_all c.args.output.state c.args.bound c.args.changes.now c.in_ok-verdict-2.verdict c.requires.ordered tried
     (subst (λ s. IfSome c.in_ok-verdict-2.verdict (Stops s c.args.bound)) there c.in_ok-verdict-2.ensures.shown)

@@ -1,0 +1,98 @@
+-- Where a run does not trap and no jump leads astray in it, it is steady: each jump by register leads to an address that is reached.
+use Rattle.std.proofs.Common.{◌≡◌, ℕ, zero, suc, ◌+◌, ◌-◌, ◌%◌, ◌≤◌, Bool, true, false, cond, ◌&&◌, Option, Some, None, List, [], refl, sym, ap, ◌∙◌, subst, arith}
+use Rattle.std.specs.Prelude.{◌==◌, not}
+use Rattle.std.specs.Option.{option_map}
+use Rattle.rv_isa.specs.declared.ins.Ins.{Ins}
+use Rattle.rv_isa.specs.declared.class.Class.TheVariants as class
+use Rattle.rv_isa.specs.Kind.{class_of}
+use Rattle.qed_model.specs.Admission.Leaders.{is_indirect}
+use Rattle.qed_model.specs.declared.machine.Cause.TheVariants as cause
+use Rattle.qed_model.specs.declared.machine.Outcome.{Outcome}
+use Rattle.qed_model.specs.declared.machine.Outcome.TheVariants.{Going, Ended, Fired, Trapped}
+use Rattle.qed_model.specs.Machine.Step.{State, Known, execute, jumped, moved, trapped, next, step, run}
+use Rattle.qed_model.specs.Promise.Changed.{with_changes, changed_run}
+use Rattle.qed_model.specs.Promise.Kept.{is_trapped, NotTrapped, IsSteady}
+use Rattle.qed_model.proofs.BelowLaws.{each_fails}
+use Rattle.qed_model.proofs.Steps.{step-class}
+use Rattle.qed_model.proofs.Walk.{run-more}
+use Rattle.rv_step.specs.Known.{instruction_of, known_at, goes_on}
+use Rattle.fault_inject.specs.Astray.{is_jalr, is_astray, jump_of, first_jump, first_astray}
+use Rattle.fault_inject.proofs.Straying.{step_stays}
+
+-- ---- runs
+run-last : (s : State) (n : ℕ) → run s (n + 1) ≡ step (run s n)
+unfolding run
+run-last s n = run-more s n 1
+
+-- one with no changes
+pub run_unchanged : (s : State) (n : ℕ) → changed_run s [] n ≡ run s n
+unfolding changed_run with_changes run
+run_unchanged s zero = refl
+run_unchanged s (suc n) = let e : n + 1 ≡ suc n = omega arith in ap step (run_unchanged s n) ∙ sym (run-last s n) ∙ ap (run s) e
+
+-- one that has trapped stays
+not_going : (o : Outcome) → is_trapped o ≡ true → goes_on o ≡ false
+not_going Going h = absurd (cc)
+not_going Ended h = refl
+not_going Fired h = refl
+not_going (Trapped c pc) h = refl
+
+trapped_stays : (s : State) (n : ℕ) → is_trapped s.outcome ≡ true → run s n ≡ s
+unfolding run
+trapped_stays s zero h = refl
+trapped_stays s (suc n) h = ap (λ t. run t n) (step_stays s (not_going s.outcome h)) ∙ trapped_stays s n h
+
+-- so where n steps do not trap, no fewer do
+calm_before : (s : State) (k n : ℕ) → k ≤ n → NotTrapped (run s n) → NotTrapped (run s k)
+calm_before s k n le calm =
+    let sum : k + (n - k) ≡ n = omega arith in
+    let stays = λ (h : is_trapped (run s k).outcome ≡ true). ap (run s) (sym sum) ∙ run-more s k (n - k) ∙ trapped_stays (run s k) (n - k) h in
+    not_true (is_trapped (run s k).outcome) (λ h. sym h ∙ ap (λ t. is_trapped t.outcome) (sym (stays h)) ∙ calm) where
+      not_true : (b : Bool) → (b ≡ true → true ≡ false) → b ≡ false
+      not_true true h = h refl
+      not_true false h = refl
+
+-- ---- jumps by register
+-- one that does not trap goes on
+either : (b : Bool) (s t : State) → s.outcome ≡ Going → is_trapped t.outcome ≡ true → NotTrapped (cond b s t) → goes_on (cond b s t).outcome ≡ true
+either true s t going stop calm = ap goes_on going
+either false s t going stop calm = absurd (cc)
+
+jumped_on : (regs : List ℕ) (target : ℕ) (s : State) → s.outcome ≡ Going → NotTrapped (jumped regs target s) → goes_on (jumped regs target s).outcome ≡ true
+unfolding jumped
+jumped_on regs target s going calm = either (target % 4 == 0) (moved regs target s) (trapped (cause.Target target) s) going refl calm
+
+jalr_on : (s : State) (i : Ins) → s.outcome ≡ Going → next s ≡ Known i → class_of i.kind ≡ class.JumpReg → NotTrapped (step s) → goes_on (step s).outcome ≡ true
+unfolding execute
+jalr_on s i going at jumps calm =
+    let is = step-class s i class.JumpReg going at jumps in
+    subst (λ t. goes_on t.outcome ≡ true) (sym is) (jumped_on _ _ s going (subst NotTrapped is calm))
+
+-- where it is not astray, its target is reached
+third : (a b c : Bool) → a ≡ true → b ≡ true → (a && (b && not c)) ≡ false → c ≡ true
+third true true true p q h = refl
+third true true false p q h = absurd (cc)
+third true false c p q h = absurd (cc)
+third false b c p q h = absurd (cc)
+
+leads_on : (r : ℕ → Bool) (s : State) (i : Ins) → is_astray r s ≡ false → s.outcome ≡ Going → next s ≡ Known i → class_of i.kind ≡ class.JumpReg → NotTrapped (step s) → r (step s).pc ≡ true
+unfolding is_astray
+leads_on r s i never going at jumps calm =
+    third (is_jalr (known_at s s.pc)) (goes_on (step s).outcome) (r (step s).pc) (ap (λ f. is_jalr (instruction_of f)) at ∙ ap is_indirect jumps) (jalr_on s i going at jumps calm) never
+
+-- ---- a run
+none_mapped : {A : Type 0} (g : ℕ → A) (o : Option ℕ) → option_map g o ≡ None → o ≡ None
+none_mapped g None h = refl
+none_mapped g (Some k) h = absurd (cc)
+
+each_not : (r : ℕ → Bool) (f : ℕ → State) (n : ℕ) → first_jump r f n ≡ None → (k : ℕ) → suc k ≤ n → is_astray r (f k) ≡ false
+unfolding first_jump
+each_not r f n none k lt = each_fails n (λ j. is_astray r (f j)) (none_mapped (λ j. jump_of (f j)) _ none) k (omega (arith, lt))
+
+pub steady_of : (reached : ℕ → Bool) (s : State) (n : ℕ) → first_astray reached s [] n ≡ None → NotTrapped (run s n) → IsSteady reached s n
+steady_of reached s n none calm = record {
+  no_trap = calm;
+  leads = λ k lt i going at jumps.
+      let here : is_astray reached (run s k) ≡ false = ap (is_astray reached) (sym (run_unchanged s k)) ∙ each_not reached (changed_run s []) n none k (omega (arith, lt)) in
+      leads_on reached (run s k) i here going at jumps (subst NotTrapped (run-last s k) (calm_before s (k + 1) n (omega (arith, lt)) calm));
+}

@@ -1,0 +1,43 @@
+-- Jumps by register that lead astray: to an address that is in none of a set.
+use Rattle.std.specs.Prelude.{ℕ, Bool, false, ◌&&◌, not, List, Option, None, Some, if◌then◌else◌}
+use Rattle.std.specs.Option.{option_map}
+use Rattle.std.specs.Ordering.{nat_cmp}
+use Rattle.std.specs.BTreeSet.{BTreeSet, contains}
+use Rattle.rv_isa.specs.declared.ins.Ins.{Ins}
+use Rattle.rv_isa.specs.Kind.{class_of}
+use Rattle.qed_model.specs.declared.change.Change.{Change}
+use Rattle.qed_model.specs.Admission.Leaders.{is_indirect}
+use Rattle.qed_model.specs.Below.{first}
+use Rattle.qed_model.specs.Machine.Step.{State, step}
+use Rattle.qed_model.specs.Promise.Changed.{changed_run}
+use Rattle.rv_step.specs.Known.{known_at, goes_on}
+
+-- whether the set has an address
+abbrev pub holds : BTreeSet ℕ → ℕ → Bool
+holds set a = contains nat_cmp set a
+
+-- the instruction, where there is one, is a JALR
+abbrev pub is_jalr : Option Ins → Bool
+is_jalr None = false
+is_jalr (Some i) = is_indirect (class_of i.kind)
+
+-- the next step is a JALR, and the state goes on behind it, at an address that is not reached; a state that has stopped does
+-- not, nor does one whose JALR leads to no multiple of 4
+unfoldable pub is_astray : (ℕ → Bool) → State → Bool
+is_astray reached s = is_jalr (known_at s s.pc) && (goes_on (step s).outcome && not (reached (step s).pc))
+
+-- the address of the next instruction, and the one to which its step leads
+abbrev pub jump_of : State → ℕ × ℕ
+jump_of s = (s.pc, (step s).pc)
+
+-- the jump of a state, where it leads astray
+abbrev pub astray_of : (ℕ → Bool) → State → Option (ℕ × ℕ)
+astray_of reached s = if is_astray reached s then Some (jump_of s) else None
+
+-- the first jump that leads astray, of those of n states
+unfoldable pub first_jump : (ℕ → Bool) → (ℕ → State) → ℕ → Option (ℕ × ℕ)
+first_jump reached states n = option_map (λ k. jump_of (states k)) (first n (λ k. is_astray reached (states k)))
+
+-- the first jump astray in n steps with changes
+abbrev pub first_astray : (ℕ → Bool) → State → List Change → ℕ → Option (ℕ × ℕ)
+first_astray reached s cs n = first_jump reached (changed_run s cs) n

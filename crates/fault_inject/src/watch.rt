@@ -1,0 +1,102 @@
+//! Runs with changes, and where a jump by register leads astray in them.
+ghost use Rattle.std.specs.Prelude.{◌≡◌, IfOk};
+ghost use Rattle.qed_model.specs.Machine.Progress.{advanced, progress};
+ghost use Rattle.qed_model.specs.Promise.Changed.{Ordered, changed_run};
+ghost use Rattle.rv_step.specs.Known.{goes_on, known_at};
+ghost use Rattle.fault_inject.specs.Astray.{holds, is_jalr, astray_of, first_jump, first_astray};
+ghost use Rattle.fault_inject.specs.Counted.{changed_steps};
+
+use crate::runs::make_change;
+use qed_model::{Change, Outcome};
+use rv_isa::Class;
+use rv_step::Machine;
+use std::alloc::AllocError;
+use std::collections::BTreeSet;
+
+/// Whether the next instruction is a JALR.
+fn is_next_jalr(machine: &Machine) -> bool
+    ensures { result ≡ is_jalr (known_at machine.now.state machine.now.state.pc) }
+{
+    match machine.next() {
+        Some(ins) => matches!(ins.class(), Class::JumpReg),
+        None => false,
+    }
+}
+
+/// Whether the machine has not stopped.
+fn is_going(machine: &Machine) -> bool
+    ensures { result ≡ goes_on machine.now.state.outcome }
+{
+    matches!(machine.outcome(), Outcome::Going)
+}
+
+/// Makes a step, and tells its jump, from where to where, if that leads astray.
+#[tactic(auto, unfolding(crate::specs::Astray::is_astray, qed_model::specs::Machine::Progress::advanced))]
+fn watched_step(
+    machine: &mut Machine,
+    reached: &BTreeSet<u64>,
+) -> Result<Option<(u64, u64)>, AllocError>
+    ensures step { IfOk result (λ _. machine.new ≡ advanced machine.old) }
+    ensures astray { IfOk result (λ found. found ≡ astray_of (holds reached.now) machine.old.state) }
+{
+    let jumps = is_next_jalr(machine);
+    let at = machine.pc();
+    machine.step()?;
+    let to = machine.pc();
+    if jumps && is_going(machine) && !reached.contains(&to) {
+        return Ok(Some((at, to)));
+    }
+    Ok(None)
+}
+
+/// Runs the machine for n steps, and tells the first jump that leads astray.
+fn watch(
+    machine: &mut Machine,
+    n: u64,
+    reached: &BTreeSet<u64>,
+) -> Result<Option<(u64, u64)>, AllocError>
+    ensures run { IfOk result (λ _. machine.new ≡ progress machine.old n) }
+    ensures astray { IfOk result (λ found. found ≡ first_jump (holds reached.now) (λ k. (progress machine.old k).state) n) }
+{
+    let mut found = None;
+    for made in 0..n {
+        if !is_going(machine) {
+            return Ok(found);
+        }
+        let jump = watched_step(machine, reached)?;
+        found = found.or(jump);
+    }
+    Ok(found)
+}
+
+/// Runs the machine for n steps with changes, as `run_changed` does, and tells the first jump by register that leads to an address
+/// that is in none of the set: the address of the JALR, and the one to which it leads.
+///
+/// A JALR that traps leads nowhere. The time is that of the steps that are made, each by itself, and of one look at each change.
+/// An Err is want of memory for a page; how the machine stands then is left open.
+pub fn run_watched(
+    machine: &mut Machine,
+    changes: &[Change],
+    n: u64,
+    reached: &BTreeSet<u64>,
+) -> Result<Option<(u64, u64)>, AllocError>
+    requires { Ordered changes.now }
+    ensures state { IfOk result (λ _. machine.new.state ≡ changed_run machine.old.state changes.now n) }
+    ensures steps { IfOk result (λ _. machine.new.steps ≡ changed_steps machine.old changes.now n) }
+    ensures astray { IfOk result (λ astray. astray ≡ first_astray (holds reached.now) machine.old.state changes.now n) }
+{
+    let mut steps = 0;
+    let mut found = None;
+    for change in changes {
+        if change.step > n {
+            let more = watch(machine, n - steps, reached)?;
+            return Ok(found.or(more));
+        }
+        let more = watch(machine, change.step - steps, reached)?;
+        found = found.or(more);
+        steps = change.step;
+        make_change(machine, change)?;
+    }
+    let more = watch(machine, n - steps, reached)?;
+    Ok(found.or(more))
+}
