@@ -9,12 +9,12 @@ from dataclasses import dataclass
 from typing import Callable, Dict, List, Optional, Tuple
 
 import isa
-from admission import Options, Test, admit, blocks
+from admission import Options, Test, admit, blocks, reached
 from assembler import CODE, DATA, assemble
 from campaign import Aim, Course, strikes_text
 from elf import STB_LOCAL, STT_FUNC, STT_NOTYPE, File, first_sharing, read_elf
 from generator import generate
-from machine import ENDED, FIRED, GOING, Hart, Memory, code_ranges, loads_of, run_changed, start
+from machine import ENDED, FIRED, GOING, Hart, Memory, Watched, code_ranges, loads_of, run_changed, start, start_watched
 from output import output_file, packed, plain_file
 from texts import Exceeded, Refused, Stopped, encoded, hex16, number_or_none
 from weave import Role, Weave, Woven, pair, weave
@@ -170,9 +170,18 @@ def status_of(outcomes: List[str]) -> int:
     return GOING_STATUS if GOING in outcomes else ENDED_STATUS
 
 
+def jumps_line(hart: Watched) -> str:
+    """The line of `--reached` ("Printed lines", run)."""
+    if hart.astray is None:
+        return "jumps reached\n"
+    return f"jump at {hex16(hart.astray[0])} to {hex16(hart.astray[1])} not reached\n"
+
+
 def hart_text(hart: Hart) -> str:
     """The lines of `run` about a hart ("Printed lines")."""
     lines = [f"{hart.outcome} after {hart.steps} steps at {hex16(hart.pc)}\n"]
+    if isinstance(hart, Watched):
+        lines.append(jumps_line(hart))
     lines += [f"x{register} {hex16(hart.x[register])}\n" for register in range(1, 32)]
     return "".join(lines)
 
@@ -243,8 +252,9 @@ def _explain(order: Order, shelf: Shelf) -> Answer:
 def _run(order: Order, shelf: Shelf) -> Answer:
     """`run`."""
     file = read_elf(load(shelf, order.files[0], MOST_FILE))
+    test = admit(file, Options()) if "reached" in order.flags else None
     check_memory([file])
-    hart = start(file)
+    hart = start_watched(file, reached(test)) if test else start(file)
     run_changed(hart, order.values.get("fault", []), order.values.get("steps", DEFAULT_STEPS))
     dump = order.values.get("dump")
     return status_of([hart.outcome]), hart_text(hart) + (dump_text(hart.memory, *dump) if dump else "")

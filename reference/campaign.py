@@ -65,17 +65,25 @@ def _next(hart: Hart, ahead: int) -> Optional[isa.Instruction]:
     return None if word is None else isa.decode(word)
 
 
+def _is_checked(instruction: isa.Instruction, behind: Optional[isa.Instruction]) -> bool:
+    """Whether a branch is checked by the one behind it, on the pairs."""
+    return (behind is not None and instruction.group == behind.group == "branch"
+            and behind.rs1 == pair(instruction.rs1) and behind.rs2 == pair(instruction.rs2))
+
+
 def is_closed(hart: Hart, place: Place) -> bool:
     """Whether a place is closed in a state (PROFILE.md, "Closed places")."""
     if not isinstance(place, str) or not 1 <= int(place[1:]) <= 13:
         return False
     register = int(place[1:])
     following = _next(hart, 0)
-    if _is_use(following, register):
+    if following is None:
+        return False
+    if _is_use(following, register) and not _is_checked(following, _next(hart, 4)):
         return True
-    return (following is not None and following.name == "beq" and following.imm == 8
-            and 1 <= following.rs1 <= 13 and following.rs1 != register and following.rs2 == pair(following.rs1)
-            and _is_use(_next(hart, 8), register))
+    ahead = 4 if following.name == "bne" else 8 if following.name == "beq" and following.imm == 8 else 0
+    return (ahead > 0 and 1 <= following.rs1 <= 13 and following.rs1 != register and following.rs2 == following.rs1 + 16
+            and _is_use(_next(hart, ahead), register))
 
 
 def _data_word(hart: Hart, address: int) -> int:

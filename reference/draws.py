@@ -432,7 +432,8 @@ def draw_run(rng: random.Random) -> Case:
     if chance(rng, 40):
         steps = rng.choice([0, 1, 5, 100, 300])
         dump = ["--dump", f"{rng.choice(words)}:{rng.choice([1, 8, 16, 17, 40])}"] if chance(rng, 40) else []
-        return Case({"IN": draft}, (("run", "IN", "--steps", str(steps), *draw_faults(rng, places, 40), *dump),))
+        watched = ["--reached"] if chance(rng, 60) else []
+        return Case({"IN": draft}, (("run", "IN", "--steps", str(steps), *draw_faults(rng, places, 40), *dump, *watched),))
     steps = rng.choice([50, 300, 1000, 3000])
     runs = [("transform", "IN", "OUT", *draw_options(rng))]
     for _ in range(rng.choice([1, 2, 3])):
@@ -473,7 +474,7 @@ def draw_explain(rng: random.Random) -> Case:
 def draw_read(rng: random.Random) -> Case:
     """A damaged file, read by each command."""
     draft = draw_damaged(rng)
-    calls = [("transform", "IN", "OUT"), ("list", "IN"), ("run", "IN", "--steps", "20"),
+    calls = [("transform", "IN", "OUT"), ("list", "IN"), ("run", "IN", "--steps", "20"), ("run", "IN", "--reached"),
              ("plan", "IN"), ("explain", "IN"), ("harts", "IN", "--steps", "9")]
     return Case({"IN": draft}, tuple(rng.sample(calls, 2)))
 
@@ -606,7 +607,7 @@ VALUES = ["0", "1", "2", "4", "8", "9", "16", "17", "1024", "1025", "4096", "409
           "0:65536", "0:65537", "0xffffffffffffffff:1", "0xffffffffffffffff:2", "01", "012345678", "9", "10000",
           "10001", "60000", "60001", "1000000", "1000001", "registers", "words", "all", "reached"]
 OPTIONS = ["inst-min", "inst-max", "round", "half", "entries", "sweep", "diverse", "steps", "fault", "dump", "seed",
-           "count", "changes", "only", "from", "to", "results", "size", "turns", "at", "help", ""]
+           "count", "changes", "only", "from", "to", "results", "reached", "size", "turns", "at", "help", ""]
 
 
 def draw_words(rng: random.Random) -> Case:

@@ -6,7 +6,7 @@ from bisect import bisect_right
 from dataclasses import dataclass
 from functools import lru_cache
 from itertools import accumulate
-from typing import Callable, Dict, Iterable, List, Optional, Tuple, Union
+from typing import Callable, Dict, Iterable, List, Optional, Set, Tuple, Union
 
 import isa
 from elf import File, PF_R, PF_W, PF_X, Segment
@@ -211,9 +211,31 @@ class Hart:
                 self.memory.store(change.place + number, 1, byte)
 
 
+class Watched(Hart):
+    """A hart that keeps its first jump by register to an address that is not among some, as where from and where to."""
+
+    def __init__(self, memory: Memory, code: Ranges, pc: int, reached: Set[int]) -> None:
+        super().__init__(memory, code, pc)
+        self.reached = reached
+        self.astray: Optional[Tuple[int, int]] = None
+
+    def step(self) -> None:
+        """Makes a step; a jump that traps leads nowhere."""
+        at, word = self.pc, self.next_word()
+        super().step()
+        i = None if word is None else isa.decode(word)
+        if i is not None and i.group == "jalr" and self.outcome == GOING and self.pc not in self.reached:
+            self.astray = self.astray or (at, self.pc)
+
+
 def start(file: File) -> Hart:
     """The hart of a file, with all registers 0 ("A file in memory")."""
     return Hart(Memory(loads_of(file)), code_ranges(file), file.entry)
+
+
+def start_watched(file: File, reached: Set[int]) -> Watched:
+    """The same, watched."""
+    return Watched(Memory(loads_of(file)), code_ranges(file), file.entry, reached)
 
 
 def run_changed(hart: Hart, changes: List[Change], most: int) -> None:

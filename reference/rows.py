@@ -126,7 +126,7 @@ def order_text(order: Order) -> str:
     if order.command == "run":
         dump = "Some(({}, {}))".format(*values["dump"]) if "dump" in values else "None"
         changes = _listed([_change(change) for change in values.get("fault", [])])
-        parts += [str(values.get("steps", 1000000)), changes, dump]
+        parts += [str(values.get("steps", 1000000)), changes, dump, str("reached" in order.flags).lower()]
     elif order.command == "campaign":
         only = f"Some({values['only'].capitalize()})" if "only" in values else "None"
         end = f"Some({values['to']})" if "to" in values else "None"

@@ -28,7 +28,7 @@ COMMANDS = {
     "transform": Command(2, 2, WEAVING, [], ["sweep", "diverse"]),
     "plan": Command(1, 1, WEAVING, [], ["sweep", "diverse"]),
     "explain": Command(1, 1, WEAVING + ["at"], [], ["sweep", "diverse"]),
-    "run": Command(1, 1, ["steps", "fault", "dump"]),
+    "run": Command(1, 1, ["steps", "fault", "dump"], [], ["reached"]),
     "campaign": Command(1, 1, WEAVING + ["seed", "count", "changes", "only", "from", "to"], ["seed", "count"],
                         ["sweep", "diverse", "results"]),
     "gen": Command(1, 1, ["seed", "size"], ["seed", "size"]),

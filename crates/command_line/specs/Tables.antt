@@ -7,7 +7,7 @@ use Rattle.command_line.specs.declared.order.Command.{Command}
 use Rattle.command_line.specs.declared.order.Command.TheVariants.{Transform, Plan, Explain, Run, Campaign, Gen, Asm, Harts, Help, Version}
 use Rattle.command_line.specs.declared.order.Command.TheVariants as command
 use Rattle.command_line.specs.declared.order.Key.{Key}
-use Rattle.command_line.specs.declared.order.Key.TheVariants.{InstMin, InstMax, Round, Half, Entries, Steps, Fault, Dump, Seed, Count, Size, Changes, Only, From, To, Turns, At, Sweep, Diverse, Results}
+use Rattle.command_line.specs.declared.order.Key.TheVariants.{InstMin, InstMax, Round, Half, Entries, Steps, Fault, Dump, Seed, Count, Size, Changes, Only, From, To, Turns, At, Sweep, Diverse, Results, Reached}
 use Rattle.command_line.specs.declared.keys.Value.{Value}
 use Rattle.command_line.specs.declared.keys.Value.TheVariants.{Flag, Number, Pages, Word}
 use Rattle.command_line.specs.declared.keys.Value.TheVariants as value
@@ -49,6 +49,7 @@ option_of At = once (codes "at") (Number 0 (2 ^ 64 - 1))
 option_of Sweep = once (codes "sweep") Flag
 option_of Diverse = once (codes "diverse") Flag
 option_of Results = once (codes "results") Flag
+option_of Reached = once (codes "reached") Flag
 
 -- ---- commands
 
@@ -71,7 +72,7 @@ abbrev pub row_of : Command → CommandRow
 row_of Transform = row (codes "transform" ∷ []) 2 2 (weave []) []
 row_of Plan = row (codes "plan" ∷ []) 1 1 (weave []) []
 row_of Explain = row (codes "explain" ∷ []) 1 1 (weave (At ∷ [])) []
-row_of Run = row (codes "run" ∷ []) 1 1 (Steps ∷ Fault ∷ Dump ∷ []) []
+row_of Run = row (codes "run" ∷ []) 1 1 (Steps ∷ Fault ∷ Dump ∷ Reached ∷ []) []
 row_of Campaign = row (codes "campaign" ∷ []) 1 1 (weave (Seed ∷ Count ∷ Changes ∷ Only ∷ From ∷ To ∷ Results ∷ [])) (Seed ∷ Count ∷ [])
 row_of Gen = row (codes "gen" ∷ []) 1 1 (Seed ∷ Size ∷ []) (Seed ∷ Size ∷ [])
 row_of command.List = row (codes "list" ∷ []) 1 1 [] []

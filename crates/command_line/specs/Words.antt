@@ -21,7 +21,7 @@ use Rattle.command_line.specs.declared.order.Order.TheVariants as order
 use Rattle.command_line.specs.declared.order.Topic.{Topic}
 use Rattle.command_line.specs.declared.order.Topic.TheVariants as topic
 use Rattle.command_line.specs.declared.order.Key.{Key}
-use Rattle.command_line.specs.declared.order.Key.TheVariants.{InstMin, InstMax, Round, Half, Entries, Steps, Fault, Dump, Seed, Count, Size, Changes, Only, From, To, Turns, At, Sweep, Diverse, Results}
+use Rattle.command_line.specs.declared.order.Key.TheVariants.{InstMin, InstMax, Round, Half, Entries, Steps, Fault, Dump, Seed, Count, Size, Changes, Only, From, To, Turns, At, Sweep, Diverse, Results, Reached}
 use Rattle.command_line.specs.declared.keys.Value.{Value}
 use Rattle.command_line.specs.declared.keys.Value.TheVariants.{Flag, Number, Pages, Word}
 use Rattle.command_line.specs.declared.keys.Value.TheVariants as value
@@ -315,7 +315,7 @@ order_of Transform given = order.Transform (file given 0) (file given 1) (option
 order_of Plan given = order.Plan (file given 0) (options given)
 order_of Explain given = order.Explain (file given 0) (options given) (number_given At given)
 order_of Run given =
-    order.Run (file given 0) (steps_given given) (changes_given given) (option_and_then dump (value_of Dump given))
+    order.Run (file given 0) (steps_given given) (changes_given given) (option_and_then dump (value_of Dump given)) (not (lacks given Reached))
 order_of Campaign given = order.Campaign (file given 0) (options given) (draws given) (not (lacks given Results))
 order_of Gen given = order.Gen (file given 0) (unwrap_or (number_given Seed given) 0) (unwrap_or (number_given Size given) 0)
 order_of command.List given = order.List (file given 0)

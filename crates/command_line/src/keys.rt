@@ -80,6 +80,7 @@ impl Key {
             Key::Sweep => row!("sweep", Value::Flag),
             Key::Diverse => row!("diverse", Value::Flag),
             Key::Results => row!("results", Value::Flag),
+            Key::Reached => row!("reached", Value::Flag),
         }
     }
 

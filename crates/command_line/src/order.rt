@@ -39,9 +39,9 @@ pub enum Order {
     Plan(Name, Options),
     /// The input, and the address of the word that is told of alone.
     Explain(Name, Options, Option<u64>),
-    /// The file, the greatest number of steps, the changes in the order of their steps, and the address and the length of
-    /// the dump in bytes.
-    Run(Name, u64, Changes, Option<(u64, u64)>),
+    /// The file, the greatest number of steps, the changes in the order of their steps, the address and the length of the
+    /// dump in bytes, and whether it is told of the jumps by register whether they led to addresses that are reached.
+    Run(Name, u64, Changes, Option<(u64, u64)>, bool),
     /// The input, the strikes, and whether it is told of each end whether it is right.
     Campaign(Name, Options, Draws, bool),
     /// The output, the seed and the size.
@@ -80,6 +80,7 @@ pub enum Key {
     Sweep,
     Diverse,
     Results,
+    Reached,
 }
 
 /// Why words ask for nothing. A number is that of a word; word 0 names the command.

@@ -22,7 +22,7 @@ fn sources(order: &Order) -> &[Name] {
         Order::Transform(name, _, _)
         | Order::Plan(name, _)
         | Order::Explain(name, _, _)
-        | Order::Run(name, _, _, _)
+        | Order::Run(name, _, _, _, _)
         | Order::Campaign(name, _, _, _)
         | Order::List(name)
         | Order::Asm(name, _) => slice::from_ref(name),

@@ -103,7 +103,7 @@ pub(crate) fn of_run<S: Shelf>(
 ) -> Result<String, AllocError>
     ensures { S.files shelf.new ≡ S.files shelf.old }
 {
-    let (Order::Run(name, _, changes, _), Some(steps)) = (asked, steps_of(line)) else {
+    let (Order::Run(name, _, changes, _, _), Some(steps)) = (asked, steps_of(line)) else {
         return Ok(String::new(alloc));
     };
     if line.starts_with("ended") && changes.as_slice().is_empty() {

@@ -43,7 +43,7 @@ pub(crate) fn changes(alloc: Global, line: &str) -> Result<Option<Changes>, Allo
         all.push(String::from_str(alloc, word)?)?;
     }
     match order(alloc, &all) {
-        Ok(Order::Run(_, _, changes, _)) => Ok(Some(changes)),
+        Ok(Order::Run(_, _, changes, _, _)) => Ok(Some(changes)),
         Err(WordsError::Memory) => Err(AllocError),
         _ => Ok(None),
     }

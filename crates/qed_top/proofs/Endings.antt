@@ -1,5 +1,5 @@
 -- From what was decided and carried out to how the call ends.
-use Rattle.std.proofs.Common.{◌≡◌, ◌≢◌, ℕ, ◌-◌, Bool, List, [], Option, None, Some, IfSome, ◌⊎◌, inl, inr, refl, sym, ap, ◌∙◌, subst, arith}
+use Rattle.std.proofs.Common.{◌≡◌, ◌≢◌, ℕ, ◌-◌, Bool, true, false, List, [], Option, None, Some, IfSome, ◌⊎◌, inl, inr, refl, sym, ap, ◌∙◌, subst, arith}
 use Rattle.std.specs.Prelude.{MatchOption, MatchResult, Result, Ok, Err, IfOk, IsSome, IsSomeAnd, slice_index}
 use Rattle.std.specs.Prelude.{All}
 use Rattle.std.proofs.lemmas.List.Elements.{All-head, recursion_from_All}
@@ -23,9 +23,9 @@ use Rattle.qed_model.specs.declared.role.Role.{Role}
 use Rattle.listing.specs.Roles.{role_at, word_text}
 use Rattle.report.specs.Admission.{no_word_line}
 use Rattle.qed_top.specs.Answer.{PrintsOnly, CallsFor, FilesAfter, FilesInPart, StoreRose, ShelfSteady, SteadyOrReadFault}
-use Rattle.qed_top.specs.Refused.{error_status, refusal_status}
+use Rattle.qed_top.specs.Refused.{admit_status, error_status, refusal_status}
 use Rattle.qed_top.specs.Makes.{Makes, refused, made, Delivers, TellsPlan}
-use Rattle.qed_top.specs.Run.{memory_bytes, outcome_status, run_of, FileRuns, too_large, ran, Runs, unread, run}
+use Rattle.qed_top.specs.Run.{memory_bytes, outcome_status, run_of, FileRuns, too_large, ran, Runs, unread, run, Watches, unread_test, no_test, watched, RunsAs}
 use Rattle.qed_model.specs.Options.{default_options}
 use Rattle.qed_top.specs.List.{FileLists, Lists}
 use Rattle.qed_top.specs.List as lists
@@ -42,7 +42,7 @@ use Rattle.transform.specs.declared.error.TransformError.TheVariants as transfor
 use Rattle.transform.specs.declared.explained.Explained.{Explained}
 use Rattle.qed_top.specs.Loads.{Decided, Loads, OverLoads}
 use Rattle.qed_top.specs.Orders.{AnswersOver, IsUsage, OrderCallsFor, WordsCallFor, source_limit, source_name, source_names, stored_name}
-use Rattle.qed_top.specs.Ends.{Call, load_rose, store_rose, sink_rose, KeepsShelf, IsAnswered, EndsOver, Ends, TransformDecides, ReadDecides, ran_status, DecidesOver, OrderDecides, Decides, NoFault, IsComplete}
+use Rattle.qed_top.specs.Ends.{Call, load_rose, store_rose, sink_rose, KeepsShelf, IsAnswered, EndsOver, Ends, TransformDecides, ReadDecides, WatchDecides, RunDecides, ran_status, DecidesOver, OrderDecides, Decides, NoFault, IsComplete}
 use Rattle.qed_top.specs.Ends as decide
 use Rattle.qed_top.specs.declared.answer.Answer.{Answer}
 use Rattle.qed_top.specs.declared.answer.Stored.{Stored}
@@ -50,8 +50,10 @@ use Rattle.qed_top.specs.declared.status.Status.{Status}
 use Rattle.qed_top.specs.declared.status.Status.TheVariants.{Done, Usage, Refused, Limit, ReadFault, WriteFault, Memory, Fired, Trapped, StepsSpent}
 use Rattle.elf_files.proofs.ReadFacts.{one_file}
 use Rattle.elf_files.proofs.AcceptanceLaws.{read_or_refused}
+use Rattle.qed_model.specs.Admission.Refusals.{IsAdmitted}
+use Rattle.qed_model.proofs.AdmissionLaws.{not_refused}
 use Rattle.transform.proofs.OneAnswer.{same_refusal, one_cause, memory_only, transformable_of}
-use Rattle.qed_top.proofs.Statuses.{error_refuses, refusal_refuses, Printed, refusal_printed, outcome_printed}
+use Rattle.qed_top.proofs.Statuses.{error_refuses, admit_refuses, refusal_refuses, Printed, refusal_printed, outcome_printed}
 use Rattle.qed_top.specs.Headline.{HoldsOver, Answers}
 use Rattle.qed_top.proofs.Headlines.{holds_headline}
 use Rattle.qed_top.proofs.Meanings.{always_loads, loads_map, calls_more}
@@ -117,13 +119,22 @@ told_done : (file : List ℕ) (p : plan.Plan) (answer : Answer) → TellsPlan fi
 told_done file p answer t = t.status
 
 file_printed :
-    (file : _) (steps : ℕ) (changes : List Change) (dump : Option (ℕ × ℕ)) (answer : Answer) → FileRuns file steps changes dump answer → Printed answer.status
-file_printed file steps changes dump answer (too_large over plain) = prints Limit answer tt plain.status
-file_printed file steps changes dump answer (ran small plain) = prints (outcome_status (run_of file steps changes).state.outcome) answer (outcome_printed (run_of file steps changes).state.outcome) plain.status
+    (file : _) (steps : ℕ) (changes : List Change) (jumps : List ℕ) (dump : Option (ℕ × ℕ)) (answer : Answer) → FileRuns file steps changes jumps dump answer → Printed answer.status
+file_printed file steps changes jumps dump answer (too_large over plain) = prints Limit answer tt plain.status
+file_printed file steps changes jumps dump answer (ran small plain) = prints (outcome_status (run_of file steps changes).state.outcome) answer (outcome_printed (run_of file steps changes).state.outcome) plain.status
 
 runs_printed : (bytes : List ℕ) (steps : ℕ) (changes : List Change) (dump : Option (ℕ × ℕ)) (answer : Answer) → Runs bytes steps changes dump answer → Printed answer.status
 runs_printed bytes steps changes dump answer (unread u) = prints (error_status u.error) answer (refusal_printed (error_status u.error) (error_refuses u.error)) u.plain.status
-runs_printed bytes steps changes dump answer (run r) = file_printed r.file steps changes dump answer r.runs
+runs_printed bytes steps changes dump answer (run r) = file_printed r.file steps changes [] dump answer r.runs
+
+watches_printed : (bytes : List ℕ) (steps : ℕ) (changes : List Change) (dump : Option (ℕ × ℕ)) (answer : Answer) → Watches bytes steps changes dump answer → Printed answer.status
+watches_printed bytes steps changes dump answer (unread_test u) = prints (error_status u.error) answer (refusal_printed (error_status u.error) (error_refuses u.error)) u.plain.status
+watches_printed bytes steps changes dump answer (no_test u) = prints (admit_status u.error) answer (refusal_printed (admit_status u.error) (admit_refuses u.error)) u.plain.status
+watches_printed bytes steps changes dump answer (watched w) = file_printed w.file steps changes _ dump answer w.runs
+
+run_printed : (reached : Bool) (bytes : List ℕ) (steps : ℕ) (changes : List Change) (dump : Option (ℕ × ℕ)) (answer : Answer) → RunsAs reached bytes steps changes dump answer → Printed answer.status
+run_printed false bytes steps changes dump answer r = runs_printed bytes steps changes dump answer r
+run_printed true bytes steps changes dump answer w = watches_printed bytes steps changes dump answer w
 
 file_listed_printed : (file : _) (answer : Answer) → FileLists file answer → Printed answer.status
 file_listed_printed file answer (lists.list_too_large over plain) = prints Limit answer tt plain.status
@@ -185,7 +196,7 @@ over_printed : (order : Order) (bytes : List ℕ) (answer : Answer) → AnswersO
 over_printed (Transform input output o) bytes answer m = makes_printed bytes o (Delivers output) answer (λ file p d. delivered_done output file p answer d) m
 over_printed (Plan input o) bytes answer m = makes_printed bytes o TellsPlan answer (λ file p t. told_done file p answer t) m
 over_printed (Explain input o at) bytes answer m = explain_printed bytes o at answer m
-over_printed (Run file steps changes dump) bytes answer m = runs_printed bytes steps changes dump answer m
+over_printed (Run file steps changes dump reached) bytes answer m = run_printed reached bytes steps changes dump answer m
 over_printed (Campaign input o draws results) bytes answer m = campaign_printed bytes o draws results answer m
 over_printed (Gen output seed size) bytes answer m = gens_printed output seed size answer m
 over_printed (order.List file) bytes answer m = lists_printed bytes answer m
@@ -296,6 +307,18 @@ read_unique bytes done s t (decide.taken f x k a) (decide.unread d y b) = absurd
 read_unique bytes done s t (decide.taken f x k a) (decide.too_large g y l b) = let same = ap (λ h. memory_bytes h.segments) (one_file bytes f g x.file y.file) in absurd (omega (arith, k, l, same))
 read_unique bytes done s t (decide.taken f x k a) (decide.taken g y l b) = a ∙ ap done (one_file bytes f g x.file y.file) ∙ sym b
 
+-- and under one that takes those of them that are admitted
+watch_unique : (bytes : List ℕ) (done : ElfFile → Status) (s t : Status) → WatchDecides bytes done s → WatchDecides bytes done t → s ≡ t
+watch_unique bytes done s t (decide.no_test e x a) (decide.no_test d y b) =
+    transform_unique bytes default_options s t (decide.refused (transform.Admit e) x (λ m. absurd (cc)) a) (decide.refused (transform.Admit d) y (λ m. absurd (cc)) b)
+watch_unique bytes done s t (decide.no_test e x a) (decide.as_run all r) = absurd (not_refused x.file default_options e (all x.file x.read) x.refused)
+watch_unique bytes done s t (decide.as_run all r) (decide.no_test e x b) = absurd (not_refused x.file default_options e (all x.file x.read) x.refused)
+watch_unique bytes done s t (decide.as_run all r) (decide.as_run some q) = read_unique bytes done s t r q
+
+run_unique : (reached : Bool) (bytes : List ℕ) (done : ElfFile → Status) (s t : Status) → RunDecides reached bytes done s → RunDecides reached bytes done t → s ≡ t
+run_unique false bytes done s t r q = read_unique bytes done s t r q
+run_unique true bytes done s t r q = watch_unique bytes done s t r q
+
 code_is_no_memory : (n : ℕ) → transform.TooLarge n ≡ transform.Memory → ⊥
 code_is_no_memory n e = absurd (cc)
 
@@ -307,14 +330,29 @@ makes_decided bytes o Uses answer done (refused r) = decide.refused r.error r.ca
 makes_decided bytes o Uses answer done (made m) = decide.done (transformable_of bytes o m.file m.plan m.made) (done m.file m.plan m.uses)
 
 file_decided :
-    (bytes : List ℕ) (file : _) (steps : ℕ) (changes : List Change) (dump : Option (ℕ × ℕ)) (answer : Answer) → IsReadAs bytes file → FileRuns file steps changes dump answer
+    (bytes : List ℕ) (file : _) (steps : ℕ) (changes : List Change) (jumps : List ℕ) (dump : Option (ℕ × ℕ)) (answer : Answer) → IsReadAs bytes file → FileRuns file steps changes jumps dump answer
     → ReadDecides bytes (ran_status steps changes) answer.status
-file_decided bytes file steps changes dump answer read (too_large over plain) = decide.too_large file read over plain.status
-file_decided bytes file steps changes dump answer read (ran small plain) = decide.taken file read small plain.status
+file_decided bytes file steps changes jumps dump answer read (too_large over plain) = decide.too_large file read over plain.status
+file_decided bytes file steps changes jumps dump answer read (ran small plain) = decide.taken file read small plain.status
 
 runs_decided : (bytes : List ℕ) (steps : ℕ) (changes : List Change) (dump : Option (ℕ × ℕ)) (answer : Answer) → Runs bytes steps changes dump answer → ReadDecides bytes (ran_status steps changes) answer.status
 runs_decided bytes steps changes dump answer (unread u) = decide.unread u.error u.cause u.plain.status
-runs_decided bytes steps changes dump answer (run r) = file_decided bytes r.file steps changes dump answer r.read r.runs
+runs_decided bytes steps changes dump answer (run r) = file_decided bytes r.file steps changes [] dump answer r.read r.runs
+
+watches_decided :
+    (bytes : List ℕ) (steps : ℕ) (changes : List Change) (dump : Option (ℕ × ℕ)) (answer : Answer) → Watches bytes steps changes dump answer
+    → WatchDecides bytes (ran_status steps changes) answer.status
+watches_decided bytes steps changes dump answer (unread_test u) = decide.as_run (λ f read. absurd (read_or_refused bytes f u.error read u.cause)) (decide.unread u.error u.cause u.plain.status)
+watches_decided bytes steps changes dump answer (no_test u) = decide.no_test u.error u.cause u.plain.status
+watches_decided bytes steps changes dump answer (watched w) =
+    decide.as_run (λ f read. subst (λ g. IsAdmitted g default_options) (one_file bytes w.file f w.read.file read.file) w.admitted.admitted)
+    (file_decided bytes w.file steps changes _ dump answer w.read w.runs)
+
+run_decided :
+    (reached : Bool) (bytes : List ℕ) (steps : ℕ) (changes : List Change) (dump : Option (ℕ × ℕ)) (answer : Answer) → RunsAs reached bytes steps changes dump answer
+    → RunDecides reached bytes (ran_status steps changes) answer.status
+run_decided false bytes steps changes dump answer r = runs_decided bytes steps changes dump answer r
+run_decided true bytes steps changes dump answer w = watches_decided bytes steps changes dump answer w
 
 file_lists_decided : (bytes : List ℕ) (file : _) (answer : Answer) → IsReadAs bytes file → FileLists file answer → ReadDecides bytes (λ f. Done) answer.status
 file_lists_decided bytes file answer read (lists.list_too_large over plain) = decide.too_large file read over plain.status
@@ -364,7 +402,7 @@ over_settled (Transform input output o) bytes answer t m d =
     transform_unique bytes o answer.status t (makes_decided bytes o (Delivers output) answer (λ file p x. delivered_done output file p answer x) m) d
 over_settled (Plan input o) bytes answer t m d = transform_unique bytes o answer.status t (makes_decided bytes o TellsPlan answer (λ file p x. told_done file p answer x) m) d
 over_settled (Explain input o at) bytes answer t m d = explain_settled bytes o at answer t m d
-over_settled (Run file steps changes dump) bytes answer t m d = read_unique bytes (ran_status steps changes) answer.status t (runs_decided bytes steps changes dump answer m) d
+over_settled (Run file steps changes dump reached) bytes answer t m d = run_unique reached bytes (ran_status steps changes) answer.status t (run_decided reached bytes steps changes dump answer m) d
 over_settled (Campaign input o draws results) bytes answer t m d = campaign_settled bytes o draws results answer t m d
 over_settled (Gen output seed size) bytes answer t m d = gens_settled output seed size answer t m d
 over_settled (order.List file) bytes answer t m d = read_unique bytes (λ f. Done) answer.status t (lists_decided bytes answer m) d
@@ -390,7 +428,7 @@ calm_one : (order : Order) (rose : List ℕ → Type 0) → All (λ name. rose n
 calm_one (Transform input output o) rose calm = All-head (λ name. rose name → ⊥) input [] calm
 calm_one (Plan input o) rose calm = All-head (λ name. rose name → ⊥) input [] calm
 calm_one (Explain input o at) rose calm = All-head (λ name. rose name → ⊥) input [] calm
-calm_one (Run file steps changes dump) rose calm = All-head (λ name. rose name → ⊥) file [] calm
+calm_one (Run file steps changes dump reached) rose calm = All-head (λ name. rose name → ⊥) file [] calm
 calm_one (Campaign input o draws results) rose calm = All-head (λ name. rose name → ⊥) input [] calm
 calm_one (Gen output seed size) rose calm = tt
 calm_one (order.List file) rose calm = All-head (λ name. rose name → ⊥) file [] calm
@@ -433,16 +471,29 @@ told_store : (stores : List ℕ → Type 0) (answer : Answer) (file : List ℕ) 
 told_store stores answer file p t r = none_stored answer stores t.stored r
 
 file_store :
-    (file : _) (steps : ℕ) (changes : List Change) (dump : Option (ℕ × ℕ)) (stores : List ℕ → Type 0) (answer : Answer) → FileRuns file steps changes dump answer
+    (file : _) (steps : ℕ) (changes : List Change) (jumps : List ℕ) (dump : Option (ℕ × ℕ)) (stores : List ℕ → Type 0) (answer : Answer) → FileRuns file steps changes jumps dump answer
     → StoreRose answer.stored stores → ⊥
-file_store file steps changes dump stores answer (too_large over plain) r = none_stored answer stores plain.stored r
-file_store file steps changes dump stores answer (ran small plain) r = none_stored answer stores plain.stored r
+file_store file steps changes jumps dump stores answer (too_large over plain) r = none_stored answer stores plain.stored r
+file_store file steps changes jumps dump stores answer (ran small plain) r = none_stored answer stores plain.stored r
 
 runs_store :
     (bytes : List ℕ) (steps : ℕ) (changes : List Change) (dump : Option (ℕ × ℕ)) (stores : List ℕ → Type 0) (answer : Answer) → Runs bytes steps changes dump answer
     → StoreRose answer.stored stores → ⊥
 runs_store bytes steps changes dump stores answer (unread u) r = none_stored answer stores u.plain.stored r
-runs_store bytes steps changes dump stores answer (run x) r = file_store x.file steps changes dump stores answer x.runs r
+runs_store bytes steps changes dump stores answer (run x) r = file_store x.file steps changes [] dump stores answer x.runs r
+
+watches_store :
+    (bytes : List ℕ) (steps : ℕ) (changes : List Change) (dump : Option (ℕ × ℕ)) (stores : List ℕ → Type 0) (answer : Answer) → Watches bytes steps changes dump answer
+    → StoreRose answer.stored stores → ⊥
+watches_store bytes steps changes dump stores answer (unread_test u) r = none_stored answer stores u.plain.stored r
+watches_store bytes steps changes dump stores answer (no_test u) r = none_stored answer stores u.plain.stored r
+watches_store bytes steps changes dump stores answer (watched x) r = file_store x.file steps changes _ dump stores answer x.runs r
+
+run_store :
+    (reached : Bool) (bytes : List ℕ) (steps : ℕ) (changes : List Change) (dump : Option (ℕ × ℕ)) (stores : List ℕ → Type 0) (answer : Answer)
+    → RunsAs reached bytes steps changes dump answer → StoreRose answer.stored stores → ⊥
+run_store false bytes steps changes dump stores answer m r = runs_store bytes steps changes dump stores answer m r
+run_store true bytes steps changes dump stores answer m r = watches_store bytes steps changes dump stores answer m r
 
 file_lists_store : (file : _) (stores : List ℕ → Type 0) (answer : Answer) → FileLists file answer → StoreRose answer.stored stores → ⊥
 file_lists_store file stores answer (lists.list_too_large over plain) r = none_stored answer stores plain.stored r
@@ -488,7 +539,7 @@ over_store :
 over_store (Transform input output o) bytes stores answer calm m r = made_store bytes o (Delivers output) stores answer (delivered_store output stores answer calm) m r
 over_store (Plan input o) bytes stores answer calm m r = made_store bytes o TellsPlan stores answer (told_store stores answer) m r
 over_store (Explain input o at) bytes stores answer calm m r = explain_store bytes o at stores answer m r
-over_store (Run file steps changes dump) bytes stores answer calm m r = runs_store bytes steps changes dump stores answer m r
+over_store (Run file steps changes dump reached) bytes stores answer calm m r = run_store reached bytes steps changes dump stores answer m r
 over_store (Campaign input o draws results) bytes stores answer calm m r = campaign_store bytes o draws results stores answer m r
 over_store (Gen output seed size) bytes stores answer calm m r = gens_store output seed size stores answer calm m r
 over_store (order.List file) bytes stores answer calm m r = lists_store bytes stores answer m r

@@ -1,5 +1,5 @@
 -- From how a call ends to its headline.
-use Rattle.std.proofs.Common.{◌≡◌, ◌≤◌, ℕ, List, length, map, Option, None, Some, IfSome, sym, ap, ◌∙◌, subst}
+use Rattle.std.proofs.Common.{◌≡◌, ◌≤◌, ℕ, List, length, Option, None, Some, IfSome, sym, ap, ◌∙◌, subst}
 use Rattle.std.specs.Prelude.{MatchResult, Result, Ok, IsSomeAnd}
 use Rattle.std.specs.FinMap.{insert}
 use Rattle.qed_io.specs.Files.{Files, file_bytes}

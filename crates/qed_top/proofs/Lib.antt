@@ -8,3 +8,4 @@ pub mod WorldEnds
 pub mod Headlines
 pub mod Endings
 pub mod Exits
+pub mod Watching

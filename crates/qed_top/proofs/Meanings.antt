@@ -1,5 +1,5 @@
 -- From what was read and made to what is meant.
-use Rattle.std.proofs.Common.{◌≡◌, ◌≤◌, ◌<◌, ◌+◌, ℕ, false, List, [], length, Option, None, Some, IfSome, refl, ap, sym, ◌∙◌, subst, arith}
+use Rattle.std.proofs.Common.{◌≡◌, ◌≤◌, ◌<◌, ◌+◌, ℕ, Bool, false, List, [], length, Option, None, Some, IfSome, refl, ap, sym, ◌∙◌, subst, arith}
 use Rattle.std.specs.Prelude.{MatchOption, MatchResult, Result, Ok, Err, replicate, unwrap_or, cond}
 use Rattle.std.specs.Cmp.{eq_by_cmp_equiv}
 use Rattle.std.specs.Cmp.Lexicographic.{nat_list_cmp_total}
@@ -9,6 +9,7 @@ use Rattle.qed_io.specs.Files.{Files, file_bytes}
 use Rattle.elf_types.specs.declared.file.ElfFile.{ElfFile}
 use Rattle.qed_model.specs.declared.change.Change.{Change}
 use Rattle.qed_model.specs.declared.limits.Limit.{Limit}
+use Rattle.qed_model.specs.declared.test.Test.{Test}
 use Rattle.command_line.specs.declared.order.Order.{Order}
 use Rattle.command_line.specs.declared.order.Order.TheVariants.{Harts}
 use Rattle.command_line.specs.declared.order.Reason.{Reason}
@@ -22,9 +23,10 @@ use Rattle.qed_model.specs.Machine.Progress.{Progress, begun}
 use Rattle.qed_model.specs.declared.machine.Outcome.{Outcome}
 use Rattle.command_line.specs.Words.{asked}
 use Rattle.qed_model.specs.Promise.Changed.{changed_run}
+use Rattle.fault_inject.specs.Astray.{first_astray}
 use Rattle.fault_inject.specs.Counted.{changed_steps}
 use Rattle.qed_top.specs.Answer.{PrintsOnly, CallsFor, read_fault, too_long, within}
-use Rattle.qed_top.specs.Run.{memory_bytes, memory_limit, outcome_status, run_of, FileRuns}
+use Rattle.qed_top.specs.Run.{memory_bytes, memory_limit, outcome_status, run_of, FileRuns, is_reached_word, astray_of}
 use Rattle.qed_top.specs.Run as run
 use Rattle.qed_top.specs.Orders.{AnswersOver, IsUsage, OrderCallsFor, SourceCallsFor, WordsCallFor, reads_several, source_limit, source_name}
 use Rattle.qed_top.specs.Loads.{Loads, OverFiles, OverLoads}
@@ -171,14 +173,24 @@ was_changed f steps changes machine ended begins state count =
     let second : ended.steps ≡ changed_steps (begun (start (loaded_file f) zeros)) changes steps = count ∙ ap (λ m. changed_steps m changes steps) begins in
     (λ i. record { state = first i; steps = second i })
 
+-- what is told of its jumps, by a set of addresses
+pub was_told :
+    (f : ElfFile) (t : Test) (steps : ℕ) (changes : List Change) (reached : ℕ → Bool) (machine : Progress) (astray : Option (ℕ × ℕ))
+    → ((a : ℕ) → reached a ≡ is_reached_word f t a) → machine ≡ begun (start (loaded_file f) zeros)
+    → astray ≡ first_astray reached machine.state changes steps → astray ≡ astray_of f t steps changes
+was_told f t steps changes reached machine astray same begins is =
+    is
+    ∙ ap (λ m. first_astray reached m.state changes steps) begins
+    ∙ ap (λ r. first_astray r (start (loaded_file f) zeros) changes steps) (λ i a. same a i)
+
 -- the machine of a file that is small enough was run
 pub was_run :
-    (f : ElfFile) (steps : ℕ) (changes : List Change) (dump : Option (ℕ × ℕ)) (size : ℕ) (ended : Progress) (o : Outcome) (text : List ℕ) (s : Status) (answer : Answer)
+    (f : ElfFile) (steps : ℕ) (changes : List Change) (jumps : List ℕ) (dump : Option (ℕ × ℕ)) (size : ℕ) (ended : Progress) (o : Outcome) (text : List ℕ) (s : Status) (answer : Answer)
     → size ≡ memory_bytes f.segments → size ≤ memory_limit → ended ≡ run_of f steps changes → o ≡ ended.state.outcome
-    → text ≡ run_text ended dump → s ≡ outcome_status o → PrintsOnly s text answer → FileRuns f steps changes dump answer
-was_run f steps changes dump size ended o text s answer same small is how lines gives plain =
+    → text ≡ run_text ended jumps dump → s ≡ outcome_status o → PrintsOnly s text answer → FileRuns f steps changes jumps dump answer
+was_run f steps changes jumps dump size ended o text s answer same small is how lines gives plain =
     run.ran (omega (arith, same, small)) (record {
       status = plain.status ∙ gives ∙ ap outcome_status (how ∙ ap (λ p. p.state.outcome) is);
-      text = plain.text ∙ lines ∙ ap (λ p. run_text p dump) is;
+      text = plain.text ∙ lines ∙ ap (λ p. run_text p jumps dump) is;
       stored = plain.stored;
     })

@@ -36,7 +36,7 @@ error_refuses (error.TooManySections n) = tt
 error_refuses (error.TooManyBytes n) = tt
 error_refuses error.Memory = tt
 
-admit_refuses : (e : AdmitError) → IsRefusal (admit_status e)
+pub admit_refuses : (e : AdmitError) → IsRefusal (admit_status e)
 admit_refuses admit.Compressed = tt
 admit_refuses admit.Dynamic = tt
 admit_refuses (admit.WritableCode i) = tt

@@ -1,5 +1,5 @@
 -- How the top call ends.
-use Rattle.std.specs.Prelude.{◌≡◌, ◌≢◌, ◌⊎◌, ◌<◌, ◌≤◌, ℕ, List, [], Option, MatchOption, MatchResult, IfOk, IfSome, All}
+use Rattle.std.specs.Prelude.{◌≡◌, ◌≢◌, ◌⊎◌, ◌<◌, ◌≤◌, ℕ, Bool, true, false, List, [], Option, MatchOption, MatchResult, IfOk, IfSome, All}
 use Rattle.std.specs.Io.KnownBytes.{Appends}
 use Rattle.qed_io.specs.Files.{Files, file_bytes}
 use Rattle.qed_io.specs.Counts.{Rose, RoseAt}
@@ -8,7 +8,8 @@ use Rattle.elf_types.specs.declared.file.ElfFile.{ElfFile}
 use Rattle.elf_types.specs.declared.error.ElfError.{ElfError}
 use Rattle.transform.specs.declared.error.TransformError.{TransformError}
 use Rattle.transform.specs.declared.error.TransformError.TheVariants as transform
-use Rattle.transform.specs.Transform.{HasCause, IsTransformable}
+use Rattle.transform.specs.Transform.{HasCause, IsNotAdmitted, IsTransformable}
+use Rattle.qed_model.specs.declared.admit.AdmitError.{AdmitError}
 use Rattle.qed_model.specs.declared.change.Change.{Change}
 use Rattle.qed_model.specs.declared.options.Options.{Options}
 use Rattle.command_line.specs.declared.order.Order.{Order}
@@ -16,10 +17,12 @@ use Rattle.command_line.specs.declared.order.Order.TheVariants as order
 use Rattle.command_line.specs.declared.order.Order.TheVariants.{Transform, Plan, Explain, Run, Campaign, Gen, Asm, Harts, Tell}
 use Rattle.elf_files.specs.File.{IsReadAs}
 use Rattle.elf_files.specs.Refusals.{IsRefused}
+use Rattle.qed_model.specs.Admission.Refusals.{IsAdmitted}
 use Rattle.qed_model.specs.Limits.{limit_of}
+use Rattle.qed_model.specs.Options.{default_options}
 use Rattle.command_line.specs.Words.{asked}
 use Rattle.qed_top.specs.Answer.{FilesAfter, FilesInPart, StoreRose, ShelfSteady}
-use Rattle.qed_top.specs.Refused.{error_status, refusal_status}
+use Rattle.qed_top.specs.Refused.{admit_status, error_status, refusal_status}
 use Rattle.qed_top.specs.Run.{memory_bytes, memory_limit, outcome_status, run_of}
 use Rattle.qed_top.specs.Asm.{AsmDecides}
 use Rattle.qed_top.specs.Campaign.{CampaignDecides}
@@ -126,12 +129,22 @@ pub data ReadDecides (bytes : List ℕ) (done : ElfFile → Status) (status : St
 abbrev pub ran_status : ℕ → List Change → ElfFile → Status
 ran_status steps changes f = outcome_status (run_of f steps changes).state.outcome
 
+-- the status of `run --reached`: a file that is read and not admitted has that of its refusal, each other the one of `run`
+pub data WatchDecides (bytes : List ℕ) (done : ElfFile → Status) (status : Status) : Type 0 where
+  no_test : (e : AdmitError) → IsNotAdmitted bytes default_options e → status ≡ admit_status e → WatchDecides bytes done status
+  as_run : ((f : ElfFile) → IsReadAs bytes f → IsAdmitted f default_options) → ReadDecides bytes done status → WatchDecides bytes done status
+
+-- the status of both
+abbrev pub RunDecides : Bool → List ℕ → (ElfFile → Status) → Status → Type 0
+RunDecides false bytes status_of status = ReadDecides bytes status_of status
+RunDecides true bytes status_of status = WatchDecides bytes status_of status
+
 -- the status of an order that reads no more than one file, over its bytes, which are within the limit
 abbrev pub DecidesOver : Order → List ℕ → Status → Type 0
 DecidesOver (Transform input output options) bytes status = TransformDecides bytes options status
 DecidesOver (Plan input options) bytes status = TransformDecides bytes options status
 DecidesOver (Explain input options at) bytes status = ExplainDecides bytes options at status
-DecidesOver (Run file steps changes dump) bytes status = ReadDecides bytes (ran_status steps changes) status
+DecidesOver (Run file steps changes dump reached) bytes status = RunDecides reached bytes (ran_status steps changes) status
 DecidesOver (Campaign input options draws results) bytes status = CampaignDecides bytes options draws status
 DecidesOver (Gen output seed size) bytes status = GenDecides seed size status
 DecidesOver (order.List file) bytes status = ReadDecides bytes (λ f. Done) status

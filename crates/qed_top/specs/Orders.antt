@@ -18,7 +18,7 @@ use Rattle.qed_top.specs.Explain.{Explains}
 use Rattle.qed_top.specs.Gen.{Gens}
 use Rattle.qed_top.specs.Makes.{Makes, Delivers, TellsPlan}
 use Rattle.qed_top.specs.Loads.{Loads}
-use Rattle.qed_top.specs.Run.{Runs}
+use Rattle.qed_top.specs.Run.{RunsAs}
 use Rattle.qed_top.specs.World.{FilesCallFor}
 use Rattle.qed_top.specs.declared.answer.Answer.{Answer}
 use Rattle.qed_top.specs.declared.status.Status.TheVariants.{Done, Usage}
@@ -29,7 +29,7 @@ abbrev pub source_name : Order → Option (List ℕ)
 source_name (Transform input output options) = Some input
 source_name (Plan input options) = Some input
 source_name (Explain input options at) = Some input
-source_name (Run file steps changes dump) = Some file
+source_name (Run file steps changes dump reached) = Some file
 source_name (Campaign input options draws results) = Some input
 source_name (Gen output seed size) = None
 source_name (order.List file) = Some file
@@ -42,7 +42,7 @@ abbrev pub source_names : Order → List (List ℕ)
 source_names (Transform input output options) = input ∷ []
 source_names (Plan input options) = input ∷ []
 source_names (Explain input options at) = input ∷ []
-source_names (Run file steps changes dump) = file ∷ []
+source_names (Run file steps changes dump reached) = file ∷ []
 source_names (Campaign input options draws results) = input ∷ []
 source_names (Gen output seed size) = []
 source_names (order.List file) = file ∷ []
@@ -57,7 +57,7 @@ reads_several _ = false
 
 -- the limit on its bytes
 abbrev pub source_limit : Order → limits.Limit
-source_limit (Run file steps changes dump) = RunFileBytes
+source_limit (Run file steps changes dump reached) = RunFileBytes
 source_limit (order.List file) = RunFileBytes
 source_limit _ = FileBytes
 
@@ -78,7 +78,7 @@ abbrev pub AnswersOver : Order → List ℕ → Answer → Type 0
 AnswersOver (Transform input output options) bytes answer = Makes bytes options (Delivers output) answer
 AnswersOver (Plan input options) bytes answer = Makes bytes options TellsPlan answer
 AnswersOver (Explain input options at) bytes answer = Explains bytes options at answer
-AnswersOver (Run file steps changes dump) bytes answer = Runs bytes steps changes dump answer
+AnswersOver (Run file steps changes dump reached) bytes answer = RunsAs reached bytes steps changes dump answer
 AnswersOver (Campaign input options draws results) bytes answer = Campaigns bytes options draws results answer
 AnswersOver (Gen output seed size) bytes answer = Gens output seed size answer
 AnswersOver (order.List file) bytes answer = Lists bytes answer

@@ -12,7 +12,7 @@ use Rattle.command_line.specs.Text.Errors.{error_line, limit_line}
 use Rattle.report.specs.Admission.{admit_line}
 use Rattle.transform.specs.declared.error.TransformError.{TransformError}
 use Rattle.transform.specs.declared.error.TransformError.TheVariants as transform
-use Rattle.transform.specs.Transform.{HasCause}
+use Rattle.transform.specs.Transform.{HasCause, IsNotAdmitted}
 use Rattle.qed_top.specs.Answer.{PrintsOnly}
 use Rattle.qed_top.specs.declared.answer.Answer.{Answer}
 use Rattle.qed_top.specs.declared.status.Status.{Status}
@@ -31,7 +31,7 @@ pub record IsUnread (bytes : List ℕ) (answer : Answer) : Type 0 where
   pub cause : Refusals.IsRefused bytes error
   pub plain : PrintsOnly (error_status error) (error_line error) answer
 
--- ---- files that are not transformed
+-- ---- files that are not admitted
 -- L2, L3 and L7 are limits, the rules A1 to A11 refuse
 abbrev pub admit_status : AdmitError → Status
 admit_status (admit.ImageSpan n) = Limit
@@ -39,6 +39,13 @@ admit_status (admit.CodeWords n) = Limit
 admit_status (admit.TopAddress n) = Limit
 admit_status _ = Refused
 
+-- A1 to A11, L2, L3 or L7: the file is read, and this is the first rule of admission that holds, with its place or number
+pub record IsUnadmitted (bytes : List ℕ) (o : Options) (answer : Answer) : Type 0 where
+  pub error : AdmitError
+  pub cause : IsNotAdmitted bytes o error
+  pub plain : PrintsOnly (admit_status error) (admit_line error) answer
+
+-- ---- files that are not transformed
 -- the status that goes with an error of the transformation, and its line
 abbrev pub refusal_status : TransformError → Status
 refusal_status (transform.Elf e) = error_status e

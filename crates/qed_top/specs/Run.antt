@@ -1,23 +1,29 @@
 -- What `run` answers.
-use Rattle.std.specs.Prelude.{◌<◌, ◌≤◌, ℕ, ◌+◌, cond, List, [], ◌∷◌, Option}
+use Rattle.std.specs.Prelude.{◌<◌, ◌≤◌, ℕ, ◌+◌, ◌==◌, ◌&&◌, cond, Bool, true, false, List, [], ◌∷◌, Option}
+use Rattle.std.specs.List.{list_any}
 use Rattle.elf_types.specs.declared.file.Segment.{Segment}
 use Rattle.elf_types.specs.declared.file.ElfFile.{ElfFile}
 use Rattle.elf_types.specs.Abi.{is_load}
+use Rattle.fault_inject.specs.Astray.{first_astray}
 use Rattle.fault_inject.specs.Counted.{changed_steps}
 use Rattle.qed_model.specs.declared.change.Change.{Change}
 use Rattle.qed_model.specs.declared.limits.Limit.TheVariants as limit
 use Rattle.qed_model.specs.declared.machine.Outcome.{Outcome}
 use Rattle.qed_model.specs.declared.machine.Outcome.TheVariants as outcome
+use Rattle.qed_model.specs.declared.test.Test.{Test}
 use Rattle.elf_files.specs.File.{IsReadAs}
+use Rattle.qed_model.specs.Admission.Reached.{is_reached}
 use Rattle.qed_model.specs.Limits.{limit_of}
 use Rattle.qed_model.specs.Machine.Loading.{loaded_file}
 use Rattle.qed_model.specs.Machine.Program.{start, zeros}
 use Rattle.qed_model.specs.Machine.Progress.{Progress, begun}
+use Rattle.qed_model.specs.Options.{default_options}
 use Rattle.qed_model.specs.Promise.Changed.{changed_run}
 use Rattle.command_line.specs.Text.Errors.{limit_line}
-use Rattle.command_line.specs.Text.Run.{run_text}
+use Rattle.command_line.specs.Text.Run.{jumps_line, run_text}
 use Rattle.qed_top.specs.Answer.{PrintsOnly}
-use Rattle.qed_top.specs.Refused.{IsUnread}
+use Rattle.test_admission.specs.Admit.{IsAdmittedAs}
+use Rattle.qed_top.specs.Refused.{IsUnadmitted, IsUnread}
 use Rattle.qed_top.specs.declared.answer.Answer.{Answer}
 use Rattle.qed_top.specs.declared.status.Status.{Status}
 use Rattle.qed_top.specs.declared.status.Status.TheVariants.{Done, Limit, Fired, Trapped, StepsSpent}
@@ -45,18 +51,46 @@ outcome_status outcome.Fired = Fired
 outcome_status (outcome.Trapped c pc) = Trapped
 outcome_status outcome.Going = StepsSpent
 
--- L6: the segments of a file have too many bytes in memory, or it is run
-pub data FileRuns (f : ElfFile) (steps : ℕ) (changes : List Change) (dump : Option (ℕ × ℕ)) (answer : Answer) : Type 0 where
-  too_large : memory_limit < memory_bytes f.segments → PrintsOnly Limit (limit_line limit.MemoryBytes (memory_bytes f.segments)) answer → FileRuns f steps changes dump answer
-  ran : memory_bytes f.segments ≤ memory_limit → PrintsOnly (outcome_status (run_of f steps changes).state.outcome) (run_text (run_of f steps changes) dump) answer → FileRuns f steps changes dump answer
+-- L6: the segments of a file have too many bytes in memory, or it is run, and a text about its jumps, which may be empty, is printed too
+pub data FileRuns (f : ElfFile) (steps : ℕ) (changes : List Change) (jumps : List ℕ) (dump : Option (ℕ × ℕ)) (answer : Answer) : Type 0 where
+  too_large : memory_limit < memory_bytes f.segments → PrintsOnly Limit (limit_line limit.MemoryBytes (memory_bytes f.segments)) answer → FileRuns f steps changes jumps dump answer
+  ran : memory_bytes f.segments ≤ memory_limit → PrintsOnly (outcome_status (run_of f steps changes).state.outcome) (run_text (run_of f steps changes) jumps dump) answer → FileRuns f steps changes jumps dump answer
 
 -- the file was read
 pub record IsRun (bytes : List ℕ) (steps : ℕ) (changes : List Change) (dump : Option (ℕ × ℕ)) (answer : Answer) : Type 0 where
   pub file : ElfFile
   pub read : IsReadAs bytes file
-  pub runs : FileRuns file steps changes dump answer
+  pub runs : FileRuns file steps changes [] dump answer
 
 -- the answer over the bytes of the file, which are within the limit
 pub data Runs (bytes : List ℕ) (steps : ℕ) (changes : List Change) (dump : Option (ℕ × ℕ)) (answer : Answer) : Type 0 where
   unread : IsUnread bytes answer → Runs bytes steps changes dump answer
   run : IsRun bytes steps changes dump answer → Runs bytes steps changes dump answer
+
+-- ---- `run --reached`
+-- a code word of the test stands at the address, and that is reached
+abbrev pub is_reached_word : ElfFile → Test → ℕ → Bool
+is_reached_word f t a = list_any (λ c. (c.at == a) && is_reached f t c.at) t.code
+
+-- of so many steps of a file with changes the first jump by register that leads to no such address, and where it leads
+abbrev pub astray_of : ElfFile → Test → ℕ → List Change → Option (ℕ × ℕ)
+astray_of f t steps changes = first_astray (is_reached_word f t) (start (loaded_file f) zeros) changes steps
+
+-- the file was read, and is a test by the rules of `transform` without options; its jumps by register are told of
+pub record IsWatched (bytes : List ℕ) (steps : ℕ) (changes : List Change) (dump : Option (ℕ × ℕ)) (answer : Answer) : Type 0 where
+  pub file : ElfFile
+  pub read : IsReadAs bytes file
+  pub test : Test
+  pub admitted : IsAdmittedAs file default_options test
+  pub runs : FileRuns file steps changes (jumps_line (astray_of file test steps changes)) dump answer
+
+-- the answer over the bytes of the file, which are within the limit; one that is no test is refused as `transform` refuses it
+pub data Watches (bytes : List ℕ) (steps : ℕ) (changes : List Change) (dump : Option (ℕ × ℕ)) (answer : Answer) : Type 0 where
+  unread_test : IsUnread bytes answer → Watches bytes steps changes dump answer
+  no_test : IsUnadmitted bytes default_options answer → Watches bytes steps changes dump answer
+  watched : IsWatched bytes steps changes dump answer → Watches bytes steps changes dump answer
+
+-- ---- both
+abbrev pub RunsAs : Bool → List ℕ → ℕ → List Change → Option (ℕ × ℕ) → Answer → Type 0
+RunsAs false bytes steps changes dump answer = Runs bytes steps changes dump answer
+RunsAs true bytes steps changes dump answer = Watches bytes steps changes dump answer

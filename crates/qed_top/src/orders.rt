@@ -27,7 +27,7 @@ pub fn source_name(order: &Order) -> Option<&str>
         Order::Transform(input, _, _) => Some(input.as_str()),
         Order::Plan(input, _) => Some(input.as_str()),
         Order::Explain(input, _, _) => Some(input.as_str()),
-        Order::Run(file, _, _, _) => Some(file.as_str()),
+        Order::Run(file, _, _, _, _) => Some(file.as_str()),
         Order::Campaign(input, _, _, _) => Some(input.as_str()),
         Order::Gen(_, _, _) => None,
         Order::List(file) => Some(file.as_str()),
@@ -42,7 +42,7 @@ pub fn source_limit(order: &Order) -> Limit
     ensures { result ≡ source_limit_of order.now }
 {
     match order {
-        Order::Run(_, _, _, _) | Order::List(_) => Limit::RunFileBytes,
+        Order::Run(_, _, _, _, _) | Order::List(_) => Limit::RunFileBytes,
         _ => Limit::FileBytes,
     }
 }
@@ -75,8 +75,8 @@ pub fn answer_order(alloc: Global, order: Order, bytes: &[u8]) -> Result<Answer,
             let answer = answer_explain(alloc, bytes, &options, at)?;
             Ok(answer)
         }
-        Order::Run(_, steps, changes, dump) => {
-            let answer = answer_run(alloc, bytes, steps, changes.as_slice(), dump)?;
+        Order::Run(_, steps, changes, dump, reached) => {
+            let answer = answer_run(alloc, bytes, steps, changes.as_slice(), dump, reached)?;
             Ok(answer)
         }
         Order::Gen(output, seed, size) => {

@@ -2,6 +2,8 @@
 ghost use Rattle.std.specs.Prelude.{◌≡◌, ◌≢◌, IfOk, OnOk};
 ghost use Rattle.command_line.specs.Text.Errors.{error_line};
 ghost use Rattle.qed_top.specs.Answer.{PrintsOnly};
+ghost use Rattle.qed_model.specs.Admission.Ends.{HasEnds};
+ghost use Rattle.report.specs.Admission.{admit_line};
 ghost use Rattle.qed_top.specs.Refused.{TellsEnds, admit_status, error_status, refusal_line, refusal_status};
 
 use crate::answer::{Answer, plain};
@@ -61,6 +63,16 @@ fn admit_status_of(rule: AdmitError) -> Status
         }
         _ => Status::Refused,
     }
+}
+
+/// The answer for a test that is not admitted. Want of memory is answered as such.
+pub fn not_admitted(alloc: Global, rule: &AdmitError) -> Result<Answer, AllocError>
+    requires { HasEnds rule.now }
+    ensures answer { IfOk result (PrintsOnly (admit_status rule.now) (admit_line rule.now)) }
+    ensures memory { OnOk result (rule.now ≢ AdmitError.Memory) }
+{
+    let text = admit_text(alloc, rule)?;
+    Ok(plain(admit_status_of(*rule), text))
 }
 
 /// The status that goes with a file that is not transformed.

@@ -1,21 +1,27 @@
 //! What `run` answers.
-ghost use Rattle.std.specs.Prelude.{◌≡◌, ◌*◌, ◌^◌, ◌≤◌, IfOk, length};
+ghost use Rattle.std.specs.Prelude.{◌≡◌, ◌*◌, ◌^◌, ◌≤◌, ℕ, ◌==◌, ◌&&◌, [], IfOk, OnOk, length};
+ghost use Rattle.command_line.specs.Text.Run.{jumps_line};
+ghost use Rattle.fault_inject.specs.Astray.{holds};
+ghost use Rattle.flow_recovery.specs.Sets.{lists, Adds};
 ghost use Rattle.qed_model.specs.Machine.Loading.{load_segments};
 ghost use Rattle.qed_model.specs.Machine.Apart.{AllFitMemory, AreApart};
-ghost use Rattle.qed_top.specs.Run.{FileRuns, Runs, memory_bytes, outcome_status};
+ghost use Rattle.qed_top.specs.Run.{FileRuns, Runs, RunsAs, Watches, astray_of, is_reached_word, memory_bytes, outcome_status};
 ghost use Rattle.qed_words.specs.Sound.{IsSoundRun};
 
 use crate::answer::{Answer, above_limit, plain};
-use crate::refusal::unread;
+use crate::refusal::{not_admitted, unread};
 use crate::status::Status;
 use elf_read::read_elf;
 use elf_types::{ElfFile, Segment};
-use fault_inject::run_changed;
+use fault_inject::{run_changed, run_watched};
+use flow_recovery::reached;
 use qed_model::limits::MAX_MEMORY_BYTES;
-use qed_model::{Change, Limit, Outcome};
-use report::run_text;
+use qed_model::{Change, CodeWord, Limit, Options, Outcome, Test};
+use report::{jumps_text, run_text};
 use rv_step::Machine;
 use std::alloc::{AllocError, Global};
+use std::collections::BTreeSet;
+use test_admission::admit;
 
 /// The memory sizes of the PT_LOAD segments together, in bytes.
 pub fn memory_size(segments: &[Segment]) -> u128
@@ -54,7 +60,7 @@ fn answer_file(
     requires fit { AllFitMemory (load_segments file.now.segments) }
     requires apart { AreApart (load_segments file.now.segments) }
     requires sound { IsSoundRun steps changes.now dump }
-    ensures { IfOk result (FileRuns file.now steps changes.now dump) }
+    ensures { IfOk result (FileRuns file.now steps changes.now [] dump) }
 {
     let size = memory_size(file.segments.as_slice());
     if size > u128::from(MAX_MEMORY_BYTES) {
@@ -63,12 +69,12 @@ fn answer_file(
     }
     let mut machine = Machine::start(alloc, file, &[0; 32])?;
     let outcome = run_changed(&mut machine, changes, steps)?;
-    let text = run_text(alloc, &machine, dump)?;
+    let text = run_text(alloc, &machine, &[], dump)?;
     Ok(plain(status_of(outcome), text))
 }
 
 /// What `run` answers over the bytes of its file.
-pub fn answer_run(
+fn answer_plain(
     alloc: Global,
     bytes: &[u8],
     steps: u64,
@@ -87,5 +93,115 @@ pub fn answer_run(
             let answer = unread(alloc, error)?;
             Ok(answer)
         }
+    }
+}
+
+/// Adds the address of a word that is marked.
+fn add_marked(list: &mut Vec<u64>, word: &CodeWord, is_marked: bool) -> Result<(), AllocError>
+    ensures { OnOk result (Adds list.old.items list.new.items (λ a. (word.now.at == a) && is_marked)) }
+{
+    if is_marked {
+        list.push(word.at)?;
+    }
+    Ok(())
+}
+
+/// The addresses of the code words of a test that are reached, as a list.
+fn reached_list(alloc: Global, test: &Test, file: &ElfFile) -> Result<Vec<u64>, AllocError>
+    ensures { IfOk result (λ list. (a : ℕ) → lists list.items a ≡ is_reached_word file.now test.now a) }
+{
+    let marks = reached(alloc, test, file)?;
+    let words = test.code.as_slice();
+    let mut list = Vec::new(alloc);
+    for place in 0..words.len() {
+        add_marked(&mut list, &words[place], marks[place])?;
+    }
+    Ok(list)
+}
+
+/// These addresses as a set.
+fn reached_words(alloc: Global, test: &Test, file: &ElfFile) -> Result<BTreeSet<u64>, AllocError>
+    ensures { IfOk result (λ set. (a : ℕ) → holds set a ≡ is_reached_word file.now test.now a) }
+{
+    let list = reached_list(alloc, test, file)?;
+    let set = list.into_iter().collect(alloc)?;
+    Ok(set)
+}
+
+/// What `run --reached` answers for a file that is a test.
+fn answer_test(
+    alloc: Global,
+    file: &ElfFile,
+    test: &Test,
+    steps: u64,
+    changes: &[Change],
+    dump: Option<(u64, u64)>,
+) -> Result<Answer, AllocError>
+    requires fit { AllFitMemory (load_segments file.now.segments) }
+    requires apart { AreApart (load_segments file.now.segments) }
+    requires sound { IsSoundRun steps changes.now dump }
+    ensures { IfOk result (FileRuns file.now steps changes.now (jumps_line (astray_of file.now test.now steps changes.now)) dump) }
+{
+    let size = memory_size(file.segments.as_slice());
+    if size > u128::from(MAX_MEMORY_BYTES) {
+        let answer = above_limit(alloc, Limit::MemoryBytes, size)?;
+        return Ok(answer);
+    }
+    let reached = reached_words(alloc, test, file)?;
+    let mut machine = Machine::start(alloc, file, &[0; 32])?;
+    let astray = run_watched(&mut machine, changes, steps, &reached)?;
+    let jumps = jumps_text(alloc, astray)?;
+    let text = run_text(alloc, &machine, jumps.as_bytes(), dump)?;
+    Ok(plain(status_of(machine.outcome()), text))
+}
+
+/// What `run --reached` answers over the bytes of its file.
+fn answer_watched(
+    alloc: Global,
+    bytes: &[u8],
+    steps: u64,
+    changes: &[Change],
+    dump: Option<(u64, u64)>,
+) -> Result<Answer, AllocError>
+    requires { IsSoundRun steps changes.now dump }
+    ensures { IfOk result (Watches bytes.now steps changes.now dump) }
+{
+    let file = match read_elf(alloc, bytes) {
+        Ok(file) => file,
+        Err(error) => {
+            let answer = unread(alloc, error)?;
+            return Ok(answer);
+        }
+    };
+    match admit(alloc, &file, &Options::default()) {
+        Ok(test) => {
+            let answer = answer_test(alloc, &file, &test, steps, changes, dump)?;
+            Ok(answer)
+        }
+        Err(rule) => {
+            let answer = not_admitted(alloc, &rule)?;
+            Ok(answer)
+        }
+    }
+}
+
+/// What `run` answers over the bytes of its file, where asked with a line about its jumps by register.
+pub fn answer_run(
+    alloc: Global,
+    bytes: &[u8],
+    steps: u64,
+    changes: &[Change],
+    dump: Option<(u64, u64)>,
+    reached: bool,
+) -> Result<Answer, AllocError>
+    requires { IsSoundRun steps changes.now dump }
+    ensures { IfOk result (RunsAs reached bytes.now steps changes.now dump) }
+{
+    if reached {
+        let answer = answer_watched(alloc, bytes, steps, changes, dump)?;
+        Ok(answer)
+    } else {
+        let answer = answer_plain(alloc, bytes, steps, changes, dump)?;
+        Ok(answer)
     }
 }

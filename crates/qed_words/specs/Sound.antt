@@ -25,7 +25,7 @@ abbrev pub IsSoundOrder : Order → Type 0
 IsSoundOrder (Transform input output options) = AreSoundOptions options
 IsSoundOrder (Plan input options) = AreSoundOptions options
 IsSoundOrder (Explain input options at) = AreSoundOptions options
-IsSoundOrder (Run file steps changes dump) = IsSoundRun steps changes dump
+IsSoundOrder (Run file steps changes dump reached) = IsSoundRun steps changes dump
 IsSoundOrder (Campaign input options draws results) =
     AreSoundOptions options × ((1 ≤ draws.count) × (draws.count ≤ 10000)) × ((1 ≤ draws.changes) × (draws.changes ≤ 16))
 IsSoundOrder (Gen output seed size) = (1 ≤ size) × (size ≤ 60000)

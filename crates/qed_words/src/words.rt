@@ -120,7 +120,8 @@ fn make_order(
         Command::Run => {
             let steps = steps_given(arguments);
             let changes = changes(alloc, arguments)?;
-            Ok(Order::Run(first, steps, changes, dump_given(arguments)))
+            let reached = !lacks(arguments, Key::Reached);
+            Ok(Order::Run(first, steps, changes, dump_given(arguments), reached))
         }
         Command::Campaign => {
             let results = !lacks(arguments, Key::Results);

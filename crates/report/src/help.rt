@@ -77,6 +77,7 @@ Runs an ELF file for RV64IM from registers 0, and prints how the run stands and 
 --fault STEP:xR=V     sets x1 to x31 to V after so many steps: up to 64 faults
 --fault STEP:ADDR=V   the same with the 8 bytes at a multiple of 8
 --dump ADDR:LEN       prints 1 to 65536 bytes of memory too
+--reached             tells of a test whether all its jumps by register led to reached words
 
 $ qed run out.elf --fault 40:x10=5
 fired after 48 steps at 0x00000000000130e4

@@ -26,7 +26,7 @@ pub use generated::{Drawn, generated_text};
 pub use help::{told, told_text};
 pub use limits::limit_text;
 pub use plan::plan_text;
-pub use run::run_text;
+pub use run::{jumps_text, run_text};
 pub use transform::transform_text;
 pub use usage::usage_text;
 pub use world::{shared_text, world_text};

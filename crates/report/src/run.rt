@@ -1,7 +1,7 @@
 //! What is printed about a run.
-ghost use Rattle.std.specs.Prelude.{◌≡◌, ◌+◌, ◌^◌, ◌<◌, ◌≤◌, Some, IfSome, IfOk, string_bytes};
+ghost use Rattle.std.specs.Prelude.{◌≡◌, ◌+◌, ◌^◌, ◌<◌, ◌≤◌, ◌++◌, Some, IfSome, IfOk, string_bytes};
 ghost use Rattle.qed_model.specs.Machine.Memory.{Memory};
-ghost use Rattle.command_line.specs.Text.Run.{cause_text, outcome_text, outcome_line, register_line, run_lines, run_text};
+ghost use Rattle.command_line.specs.Text.Run.{cause_text, outcome_text, outcome_line, jumps_line, register_line, register_lines, run_lines, run_text};
 ghost use Rattle.rv_step.specs.Harts.{with_memory};
 
 use crate::dump::dump_text;
@@ -83,11 +83,11 @@ fn register_text(alloc: Global, hart: &Hart, number: u8) -> Result<String, Alloc
     format!(in alloc; "x{number} {value}\n")
 }
 
-/// How a run stands, after how many steps, at which pc, and then the registers x1 to x31, a line each.
-pub fn run_lines(alloc: Global, hart: &Hart) -> Result<Vec<u8>, AllocError>
-    ensures { IfOk result (λ text. (m : Memory) → text.items ≡ run_lines (with_memory hart.now m)) }
+/// The registers x1 to x31, a line each.
+fn registers_text(alloc: Global, hart: &Hart) -> Result<Vec<u8>, AllocError>
+    ensures { IfOk result (λ text. (m : Memory) → text.items ≡ register_lines (with_memory hart.now m).state 31) }
 {
-    let mut text = outcome_text(alloc, hart)?.into_bytes();
+    let mut text = Vec::new(alloc);
     for number in 1..32 {
         let line = register_text(alloc, hart, number)?;
         text.extend_from_slice(line.as_bytes())?;
@@ -95,17 +95,57 @@ pub fn run_lines(alloc: Global, hart: &Hart) -> Result<Vec<u8>, AllocError>
     Ok(text)
 }
 
-/// What is printed about a run: how it stands, after how many steps, at which pc, then the registers x1 to x31, a line
-/// each, and then the bytes of a dump, by its address and its length in bytes, 16 to a line.
+/// The first line about a run, a text about its jumps, and the registers.
+fn lines_with(alloc: Global, hart: &Hart, jumps: &[u8]) -> Result<Vec<u8>, AllocError>
+    ensures { IfOk result (λ text. (m : Memory) → text.items ≡ outcome_line (with_memory hart.now m) ++ jumps.now ++ register_lines (with_memory hart.now m).state 31) }
+{
+    let mut text = outcome_text(alloc, hart)?.into_bytes();
+    text.extend_from_slice(jumps)?;
+    let registers = registers_text(alloc, hart)?;
+    text.extend_from_slice(&registers)?;
+    Ok(text)
+}
+
+/// How a run stands, after how many steps, at which pc, and then the registers x1 to x31, a line each.
+pub fn run_lines(alloc: Global, hart: &Hart) -> Result<Vec<u8>, AllocError>
+    ensures { IfOk result (λ text. (m : Memory) → text.items ≡ run_lines (with_memory hart.now m)) }
+{
+    let text = lines_with(alloc, hart, &[])?;
+    Ok(text)
+}
+
+/// The line about a jump by register, at an address, that led to one that is not reached.
+fn astray_text(alloc: Global, at: u64, to: u64) -> Result<String, AllocError>
+    ensures { IfOk result (λ text. string_bytes text ≡ jumps_line (Some (at, to))) }
+{
+    let (at, to) = (Hex(at), Hex(to));
+    format!(in alloc; "jump at {at} to {to} not reached\n")
+}
+
+/// The line that tells of the first jump by register that led to an address that is not reached, by its own address and
+/// that one, or that there was none.
+pub fn jumps_text(alloc: Global, astray: Option<(u64, u64)>) -> Result<String, AllocError>
+    ensures { IfOk result (λ text. string_bytes text ≡ jumps_line astray) }
+{
+    match astray {
+        Some((at, to)) => astray_text(alloc, at, to),
+        None => String::from_str(alloc, "jumps reached\n"),
+    }
+}
+
+/// What is printed about a run: how it stands, after how many steps, at which pc, then a text about its jumps, which may be
+/// empty, then the registers x1 to x31, a line each, and then the bytes of a dump, by its address and its length in bytes,
+/// 16 to a line.
 pub fn run_text(
     alloc: Global,
     machine: &Machine,
+    jumps: &[u8],
     dump: Option<(u64, u64)>,
 ) -> Result<Bytes, AllocError>
     requires { IfSome dump (λ d. (1 ≤ d.1) × (d.1 ≤ 65536) × (d.0 + d.1 ≤ 2 ^ 64)) }
-    ensures { IfOk result (λ text. text ≡ run_text machine.now dump) }
+    ensures { IfOk result (λ text. text ≡ run_text machine.now jumps.now dump) }
 {
-    let mut text = run_lines(alloc, machine.hart())?;
+    let mut text = lines_with(alloc, machine.hart(), jumps)?;
     if let Some((address, length)) = dump {
         let shown = dump_text(alloc, machine, address, length)?;
         text.extend_from_slice(&shown)?;

@@ -65,6 +65,11 @@ dump_text m (Some d) = dump_lines m d.0 d.1 ((d.1 + 15) / 16)
 abbrev pub run_lines : Progress → List ℕ
 run_lines p = outcome_line p ++ register_lines p.state 31
 
--- the same, and what a dump shows
-abbrev pub run_text : Progress → Option (ℕ × ℕ) → List ℕ
-run_text p dump = run_lines p ++ dump_text p.state.memory dump
+-- the first jump by register that led to an address that is not reached, by its own address and that one; or there was none
+abbrev pub jumps_line : Option (ℕ × ℕ) → List ℕ
+jumps_line None = codes "jumps reached\n"
+jumps_line (Some j) = codes "jump at " ++ (hex_text j.0 ++ (codes " to " ++ (hex_text j.1 ++ codes " not reached\n")))
+
+-- the same, with a text about jumps behind the outcome, which may be empty, and what a dump shows
+abbrev pub run_text : Progress → List ℕ → Option (ℕ × ℕ) → List ℕ
+run_text p jumps dump = outcome_line p ++ jumps ++ register_lines p.state 31 ++ dump_text p.state.memory dump
