@@ -37,6 +37,12 @@ pub record IsLinked (far : Bool) (base : ℕ) (items : List Item) (linked : Link
   pub words : AreWords linked.words.items
   pub entries : linked.entries.items ≡ rows_from far base items
 
+-- the same items from the same base on have one code
+abbrev pub OneCode : Type 0
+OneCode =
+    (far : Bool) (base : ℕ) (items : List Item) (a b : Linked) → IsLinked far base items a → IsLinked far base items b
+    → (a.words.items ≡ b.words.items) × (a.entries.items ≡ b.entries.items)
+
 -- the code of counted items has so many bytes with the stub, past the limit of its form; or it is within the limit, and there is no
 -- memory
 abbrev pub HasCause : Count → LinkError → Type 0

@@ -48,6 +48,7 @@ fn original_size(ins: &Ins) -> u64
 }
 
 /// The bytes of the mirror part of the same kind.
+#[inline(always)]
 fn mirrored_size(ins: &Ins) -> u64
     ensures value { result ≡ mirrored_bytes ins.now }
     ensures bound { result ≤ 8 }
@@ -95,6 +96,7 @@ fn diverse_size(ins: &Ins) -> u64
 }
 
 /// The bytes of the mirror part of an instruction.
+#[inline(always)]
 pub(crate) fn mirror_size(ins: &Ins, diverse: bool) -> u64
     ensures value { result ≡ mirror_bytes diverse ins.now }
     ensures bound { result ≤ 28 }
