@@ -28,7 +28,7 @@ use Rattle.weave_core.specs.WeavePromise.{PlanOf}
 use Rattle.weave_core.specs.WeaveForms.{weave_of}
 use Rattle.weave_core.specs.Rows.{Mirrors}
 use Rattle.weave_core.specs.Weave.{Weave, start_steps, stage_steps}
-use Rattle.weave_core.specs.WeaveLaws.{Rows, Starts, Words}
+use Rattle.weave_core.specs.WeaveLaws.{CheckedRows, Starts, Words}
 use Rattle.weave_core.specs.WeavePromise.{PlanOf, OnlyCode, BoundsOf}
 use Rattle.weave_core.specs.World.{World, AllBelow}
 use Rattle.weave_core.proofs.FormMirrors.{mirrors_of}
@@ -83,7 +83,7 @@ big_word (suc n) round first piece b h e =
     let m : 1 * 2 ≤ ((suc n + round - 1) / round + 2) * piece = mul-le-mul one h in
     omega (arith, is, m)
 
-module _ (f g : Program) (w : World) (v : Weave) (blocks : List Block) (plan : PlanOf f g w v blocks) (rows : Rows w v (begins_at blocks)) (starts : Starts f g w v (begins_at blocks)) (law : Words w.form.far v) (closes : OnlyCode f g w v.code blocks) (some : 1 ≤ v.round) (two : 2 ≤ v.leave_steps) (room : v.compare_steps + 17 ≤ v.piece_steps) (bounds : Bounds) (are_bounds : BoundsOf w v bounds) (caught : Caught f g w.reached w.form.spans bounds) (regs : List ℕ) (are : AreStartRegs regs) (n : ℕ) (i : Ins) (go : (run (start g regs) n).outcome ≡ Going) (at : next (run (start g regs) n) ≡ Known i) where
+module _ (f g : Program) (w : World) (v : Weave) (blocks : List Block) (plan : PlanOf f g w v blocks) (rows : CheckedRows w v (begins_at blocks)) (starts : Starts f g w v (begins_at blocks)) (law : Words w.form.far v) (closes : OnlyCode f g w v.code blocks) (some : 1 ≤ v.round) (two : 2 ≤ v.leave_steps) (room : v.compare_steps + 17 ≤ v.piece_steps) (bounds : Bounds) (are_bounds : BoundsOf w v bounds) (caught : Caught f g w.reached w.form.spans bounds) (regs : List ℕ) (are : AreStartRegs regs) (n : ℕ) (i : Ins) (go : (run (start g regs) n).outcome ≡ Going) (at : next (run (start g regs) n) ≡ Known i) where
   abbrev u : State
   u = run (start g regs) n
 
@@ -182,7 +182,7 @@ plan_faults f g w most blocks bounds p law closes some b = record {
   plan : PlanOf f g w (weave_of w.form most) blocks
   plan = p
 
-  rows : Rows w (weave_of w.form most) (begins_at blocks)
+  rows : CheckedRows w (weave_of w.form most) (begins_at blocks)
   rows = form_rows w most (begins_at blocks) law
 
   starts : Starts f g w (weave_of w.form most) (begins_at blocks)

@@ -5,6 +5,8 @@ use Rattle.qed_model.specs.declared.item.Item.{Item}
 use Rattle.qed_model.specs.Weave.Sequences.{Form, original, each_part, compare, visit, piece}
 use Rattle.qed_model.specs.Admission.DataRanges.{word_count}
 use Rattle.qed_model.specs.Weave.Bounds.{visit_bound}
+use Rattle.qed_model.specs.Machine.Step.{reg}
+use Rattle.weave_core.specs.World.{IsCursor}
 use Rattle.weave_core.specs.Blocks.{AllFit}
 use Rattle.weave_core.specs.Rows.{spent}
 use Rattle.weave_core.specs.Parts.{NeedsMirror, NeedsChecks, GivesChecks, LeavesChecks, NeedsPiece, GivesPiece, LeavesPiece, piece_cost, Pieced, ForPiece as ForParts, piece_items as parts_items}
@@ -45,8 +47,8 @@ pub piece_laws :
     → Quiet suits items (NeedsPiece next_at NeedsMirror cost (NeedsChecks spans) is at) (GivesPiece next_at cost (GivesChecks round spans) is at) (LeavesPiece next_at cost LeavesChecks is at) (piece_cost cost (13 + visit_bound (word_count spans) (length spans) * round) is)
     → PieceLeads part round spans items is at
 piece_laws suits all cost part three few round spans items is at q = record {
-  leads = λ w v rest f e here has fit run so calm st.
-      let x = piece_leads next_at (λ a h. omega (arith, h)) w NeedsMirror (λ i at v r. r) cost (NeedsChecks spans) (GivesChecks round spans) LeavesChecks 0 round (both_checks w round spans f) is at suits (all w.form.far) (part * length is) (13 + visit_bound (word_count spans) (length spans) * round) items (cost_parts part cost three few is) q v rest e here has fit run so calm st in
+  leads = λ w v rest f cur e here has fit run so calm st.
+      let x = piece_leads next_at (λ a h. omega (arith, h)) w NeedsMirror (λ i at v r. r) cost (NeedsChecks spans) (GivesChecks round spans) LeavesChecks 0 round (both_checks w round spans f) is at suits (all w.form.far) (part * length is) (13 + visit_bound (word_count spans) (length spans) * round) items (cost_parts part cost three few is) q v rest (subst (λ l. IsCursor l (reg v.now 15)) (sym f) cur) e here has fit run so calm st in
       let none : part * length is + 0 ≡ part * length is = omega arith in
       subst (λ k. Leads w v (part * length is + (13 + visit_bound (word_count spans) (length spans) * round)) rest (Pieced w k round is v.original v) (λ n z. ⊥)) none x;
 }

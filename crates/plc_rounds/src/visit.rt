@@ -72,7 +72,9 @@ fn put_word(spans: &[Range], out: &mut Emit) -> Result<(), AllocError>
 
 impl Pass for Visit {
     ghost use Rattle.std.specs.Prelude.{◌≡◌, ◌*◌, [], length};
+    ghost use Rattle.qed_model.specs.Machine.Step.{reg};
     ghost use Rattle.qed_model.specs.Weave.Sequences.{visit};
+    ghost use Rattle.weave_core.specs.World.{IsCursor};
     ghost use Rattle.qed_model.specs.Admission.DataRanges.{word_count};
     ghost use Rattle.qed_model.specs.Weave.Bounds.{visit_bound};
     ghost use Rattle.plc_rounds.specs.Spans.{spans_of, Rounds};
@@ -88,7 +90,7 @@ impl Pass for Visit {
 
     ghost cost = { λ p i. visit_bound (word_count (spans_of p.span)) (length (spans_of p.span)) * p.round };
 
-    ghost needs = { λ p i at w v. (v.original ≡ v.shadow) × (w.form.spans ≡ spans_of p.span) };
+    ghost needs = { λ p i at w v. (v.original ≡ v.shadow) × (w.form.spans ≡ spans_of p.span) × IsCursor (spans_of p.span) (reg v.now 15) };
 
     ghost gives = { λ p i at w. Rounds w p.round (spans_of p.span) };
 

@@ -1,7 +1,7 @@
 -- The forms of the code are a weave: they meet the laws of the rows and of the entry, so the promises follow from those of any weave.
 use Rattle.std.proofs.Common.{◌≡◌, ℕ, suc, ◌+◌, ◌*◌, ◌%◌, ◌^◌, ◌<◌, ◌≤◌, inl, inr, ⊎_elim, Bool, true, false, cond, List, [], ◌∷◌, ◌++◌, length, take, drop, refl, sym, ap, ◌∙◌, subst, arith, append_assoc, ◌-◌}
 use Rattle.std.specs.Prelude.{pos, slice_set}
-use Rattle.std.proofs.lemmas.Bool.{false≢true, and_parts, leb-true, ne_eqb}
+use Rattle.std.proofs.lemmas.Bool.{false≢true, and_parts, and_from, leb-true, ne_eqb, eq-eqb, eqb-true}
 use Rattle.std.proofs.lemmas.List.{append-nil, take-append-drop, length-take-le}
 use Rattle.std.proofs.Math.Nat.{mul-le-mul, mul-le-mul_left}
 use Rattle.rv_isa.specs.declared.ins.Ins.{Ins}
@@ -21,7 +21,7 @@ use Rattle.qed_model.specs.Weave.Sequences.{Form, Reads, End, Falls, Stops, Bloc
 use Rattle.qed_model.specs.Weave.Placed.{distance_between, upper_part}
 use Rattle.qed_model.specs.Weave.Bounds.{end_bound}
 use Rattle.qed_model.proofs.Walk.{known_at, run-more, constant_walk, set_reg-pos}
-use Rattle.weave_core.specs.World.{World, Twice}
+use Rattle.weave_core.specs.World.{World, Twice, IsCursor}
 use Rattle.weave_core.specs.Blocks.{IsEntryOf, FitsPiece, AllFit, Leaves, EndStands}
 use Rattle.weave_core.specs.Rows.{At, Sourced, Mirrors, spent}
 use Rattle.weave_core.specs.KindItems.{MirrorsFit}
@@ -29,8 +29,8 @@ use Rattle.weave_core.specs.Promise.{WovenIn}
 use Rattle.weave_core.specs.Plan.{PlanKept, PlanLanded}
 use Rattle.weave_core.specs.Promise.{start_of, ValuesKept, LandingsFire}
 use Rattle.weave_core.specs.Pass.{Views, Leads, Quiet, Lockstep, Does, same}
-use Rattle.weave_core.specs.Leaving.{swept_end}
-use Rattle.weave_core.proofs.Visit.{checked_behind}
+use Rattle.weave_core.specs.Leaving.{swept_end, Signs}
+use Rattle.weave_core.proofs.Visit.{checked_behind, words_within, cursor_decided, cursor_is}
 use Rattle.weave_core.proofs.Source.{fit_front, has_front, run_front}
 use Rattle.qed_model.specs.Admission.DataRanges.{word_count}
 use Rattle.weave_core.proofs.Leaves.{step-end, step-branch, step-break}
@@ -44,9 +44,9 @@ use Rattle.weave_core.proofs.KindItems.{items_then, compare_items, visits_items}
 use Rattle.weave_core.proofs.Landing.{land_behind, straight_compare, land_visits}
 use Rattle.weave_core.proofs.Prologue.{prologue_row}
 use Rattle.weave_core.specs.Weave.{Weave, start_steps, stage_steps}
-use Rattle.weave_core.specs.WeaveLaws.{PieceAt, EntryAt, Holds, Stands, GoesTo, Inside, Behind, stops, Onward, Left, Rows, Starts, Guarded}
+use Rattle.weave_core.specs.WeaveLaws.{PieceAt, EntryAt, Holds, Stands, GoesTo, Inside, Checked, stops, Onward, lands, is_lost, Left, Keeps, CheckedRows, Starts, Guarded}
 use Rattle.weave_core.specs.WeavePromise.{PlanOf}
-use Rattle.weave_core.specs.WeaveForms.{weave_with, weave_of, ChecksLaws}
+use Rattle.weave_core.specs.WeaveForms.{is_signed_at, weave_with, weave_of, ChecksLaws}
 use Rattle.qed_model.specs.Weave.Bounds.{visit_bound}
 use Rattle.weave_core.proofs.Values.{WeaveIn, kept, weave_kept}
 use Rattle.rv_isa.specs.declared.kind.Kind.TheVariants.{Beq, Auipc}
@@ -94,9 +94,9 @@ module _ (form : Form) where
   abbrev suits : Bool → Type 0
   suits far = any far × (any far × any far)
 
-  -- the checks need that both halves are equal
+  -- the checks need that both halves are equal and the cursor is at a word
   abbrev Alike : World → Views → Type 0
-  Alike w v = (v.original ≡ v.shadow) × (w.form ≡ form)
+  Alike w v = (v.original ≡ v.shadow) × (w.form ≡ form) × IsCursor w.form.spans (reg v.now 15)
 
   -- all of it
   quiet_piece :
@@ -113,7 +113,7 @@ form_checks form = record {
     leads = λ w v rest s st need.
         let q = quiet_then any any _ _ _ _ _ _ _ _ _ _ quiet_compare (quiet_visit form.round form.spans) in
         let b = both_checks w form.round form.spans (ap (λ (f : Form). f.spans) need.1) in
-        let x = q.leads w v rest (tt, tt) st (b.ready v need.0) in
+        let x = q.leads w v rest (tt, tt) st (b.ready v need.0 need.2) in
         record { steps = x.steps; to = x.to; within = x.within; walk = x.walk; ends = ⊎_elim (λ g. inl (g.0, b.checks v x.to x.steps g.1)) (λ l. inr (b.never v x.to x.steps l)) x.ends };
   };
   lockstep = record {
@@ -168,6 +168,17 @@ front_row w is n u s tail l fit clean has a so calm =
     (λ e. absurd (never_originals plus xs s.pc w v g.to g.steps e))
     g.ends
 
+-- ---- what holds from the entry of a block to its leave
+pub held_parts : (w : World) (u : State) (a : ℕ) → is_signed_at w u a ≡ true → (reg u 16 ≡ a) × IsCursor w.form.spans (reg u 15)
+held_parts w u a e = let p = and_parts _ _ e in (eqb-true (reg u 16) a p.0, cursor_decided w.form.spans (reg u 15) p.1)
+
+pub held_is : (w : World) (u : State) (a : ℕ) → reg u 16 ≡ a → IsCursor w.form.spans (reg u 15) → is_signed_at w u a ≡ true
+held_is w u a sign c = and_from _ _ (eq-eqb (reg u 16) a sign) (cursor_is w.form.spans (reg u 15) c)
+
+-- where a walk leads, without what is said of the way there
+abbrev pub goes_is : {w : World} {u : State} {least most : ℕ} {P Q : ℕ → State → Type 0} → GoesTo w u least most (λ n x. P n x × Q n x) → GoesTo w u least most P
+goes_is g = record { steps = g.steps; to = g.to; at_least = g.at_least; within = g.within; walk = g.walk; is = g.is.0 }
+
 -- ---- the rows, with any checks
 module _ (w : World) (most : ℕ) (checks : List Item) (first steps : ℕ) (laws : ChecksLaws w.form checks first steps) (leader : ℕ → Bool) where
   abbrev v : Weave
@@ -182,12 +193,13 @@ module _ (w : World) (most : ℕ) (checks : List Item) (first steps : ℕ) (laws
 
   -- ---- the entry
   pub enter_law :
-      (u s : State) (rest : List Item) → Stands w leader u s → s.pc < 2 ^ 64 → Reads w.form.far w.code w.entry u.pc (v.code.enter s.pc ++ rest)
-      → GoesTo w u 0 3 (λ n x. At w x rest s s × (reg x 15 ≡ reg u 15))
-  enter_law u s rest st low r =
-      let g = (quiet_enter s.pc).leads w (views u s) rest tt (record { over = st.over; reads = (sym st.pc, r); halved = st.halved }) (record { same = refl; sign = st.sign; here = refl; low = low }) in
+      (u s : State) (rest : List Item) → Stands w leader u s → v.held w u s.pc ≡ true → s.pc < 2 ^ 64 → Reads w.form.far w.code w.entry u.pc (v.code.enter s.pc ++ rest)
+      → GoesTo w u 0 3 (λ n x. (At w x rest s s × (v.held w x s.pc ≡ true)) × (reg x 15 ≡ reg u 15))
+  enter_law u s rest st held low r =
+      let own = held_parts w u s.pc held in
+      let g = (quiet_enter s.pc).leads w (views u s) rest tt (record { over = st.over; reads = (sym st.pc, r); halved = st.halved }) (record { same = refl; sign = own.0; here = refl; low = low }) in
       ⊎_elim
-      (λ e. record { steps = g.steps; to = g.to.now; at_least = omega arith; within = g.within; walk = g.walk; is = (at_views g.to s rest e.0 e.1.original e.1.shadow, e.1.cursor) })
+      (λ e. record { steps = g.steps; to = g.to.now; at_least = omega arith; within = g.within; walk = g.walk; is = ((at_views g.to s rest e.0 e.1.original e.1.shadow, held_is w g.to.now s.pc (e.1.sign ∙ own.0) (subst (IsCursor w.form.spans) (sym e.1.cursor) own.1)), e.1.cursor) })
       (λ l. absurd l)
       g.ends
 
@@ -204,15 +216,16 @@ module _ (w : World) (most : ℕ) (checks : List Item) (first steps : ℕ) (laws
         record { steps = g.steps; to = g.to; at_least = g.at_least; within = omega (arith, g.within, few); walk = g.walk; is = g.is }
 
     piece_law :
-        (is : List Ins) (u s : State) (rest : List Item) → PieceAt w v s.pc is → At w u (v.code.piece is s.pc ++ rest) s s → Sourced w s
-        → NotTrapped (run s (length is)) → GoesTo w u (length is) v.piece_steps (Behind w v u s (length is) rest)
-    piece_law is u s rest p a so calm =
+        (is : List Ins) (b : ℕ) (u s : State) (rest : List Item) → v.held w u b ≡ true → PieceAt w v s.pc is → At w u (v.code.piece is s.pc ++ rest) s s
+        → Sourced w s → NotTrapped (run s (length is)) → GoesTo w u (length is) v.piece_steps (λ n x. (At w x rest (run s (length is)) (run s (length is)) × (v.held w x b ≡ true)) × Checked w v.compare_steps v.round u n x)
+    piece_law is b u s rest held p a so calm =
+        let own = held_parts w u b held in
         let both = and_parts _ _ p.one in
         let same = sym (parts_are plus w.form.mirror checks is s.pc (λ part. each_plus part is s.pc)) in
         let few = cost_parts w.form.cost (other_cost w.form) law.enough (λ i. omega arith) is in
         let m : w.form.cost * length is ≤ w.form.cost * most = mul-le-mul_left w.form.cost (leb-true (length is) most both.1) in
-        let are : AreChecks w (Alike w.form) (λ w'. Checks w' first w.form.round) (λ w v n z. ⊥) first w.form.round = record { ready = λ v h. (h, refl); checks = λ v z n c. c; never = λ v z n l. l } in
-        let g = piece_leads plus (λ a h. refl) w (NeedsOther w.form) (λ i at v r. (refl, law, r)) (other_cost w.form) (Alike w.form) (λ w'. Checks w' first w.form.round) (λ w v n z. ⊥) first w.form.round are is s.pc (suits w.form) (tt, (tt, tt)) (w.form.cost * length is) steps (piece_items plus w.form.mirror checks is s.pc) few (quiet_piece w.form checks first steps laws is s.pc p.fit) (views u s) rest refl refl p.has p.fit both.0 so calm (subst (λ l. At w u (l ++ rest) s s) same a) in
+        let are : AreChecks w (Alike w.form) (λ w'. Checks w' first w.form.round) (λ w v n z. ⊥) first w.form.round = record { ready = λ v h c. (h, refl, c); checks = λ v z n c. c; never = λ v z n l. l } in
+        let g = piece_leads plus (λ a h. refl) w (NeedsOther w.form) (λ i at v r. (refl, law, r)) (other_cost w.form) (Alike w.form) (λ w'. Checks w' first w.form.round) (λ w v n z. ⊥) first w.form.round are is s.pc (suits w.form) (tt, (tt, tt)) (w.form.cost * length is) steps (piece_items plus w.form.mirror checks is s.pc) few (quiet_piece w.form checks first steps laws is s.pc p.fit) (views u s) rest own.1 refl refl p.has p.fit both.0 so calm (subst (λ l. At w u (l ++ rest) s s) same a) in
         ⊎_elim
         (λ e.
         let c = e.1.checked in
@@ -222,28 +235,37 @@ module _ (w : World) (most : ℕ) (checks : List Item) (first steps : ℕ) (laws
           at_least = e.1.slow;
           within = omega (arith, g.within, m);
           walk = g.walk;
-          is = (at_views g.to (run s (length is)) rest e.0 e.1.original e.1.shadow, record { compare = c.compare; soon = omega (arith, c.soon, m); inside = c.inside; compares = c.compares; cursor = c.cursor; visits = c.visits });
+          is = ((at_views g.to (run s (length is)) rest e.0 e.1.original e.1.shadow, held_is w g.to.now b (e.1.sign ∙ own.0) (subst (IsCursor w.form.spans) (sym c.cursor) (words_within w.form.spans w.base w.form.round (reg u 15) w.spans_good own.1))), record { compare = c.compare; soon = omega (arith, c.soon, m); inside = c.inside; compares = c.compares; cursor = c.cursor; visits = c.visits });
         })
         (λ e. absurd e)
         g.ends
 
     -- ---- leaves
     module _ (block : (a : ℕ) → leader a ≡ true → IsEntryOf w a) where
+      -- a leave, with what is seen on it
+      abbrev Seen : State → State → ℕ → Type 0
+      Seen u t least = (l : Left w v leader u t least) × Keeps w v leader u t least l
+
+      -- the cursor is at a word
+      onward_held : (t x : State) → IsCursor w.form.spans (reg x 15) → Onward w leader Signs t x → Onward w leader (λ y a. v.held w y a ≡ true) t x
+      onward_held t x cur (lands st sign so) = lands st (held_is w x t.pc sign cur) so
+      onward_held t x cur (is_lost going t' so lacks) = is_lost going t' so lacks
+
       -- from the law of the pass
       left_of :
-          (u s t : State) (least : ℕ) {Is : ℕ → Views → Type 0} → Leads w (views u s) 14 [] (λ n z. ⊥) Is
-          → ((n : ℕ) (z : Views) → Is n z → Onward w leader u t z.now × (least ≤ n)) → Left w v leader u t least
-      left_of u s t least g f =
+          (u s t : State) (least : ℕ) {Is : ℕ → Views → Type 0} → IsCursor w.form.spans (reg u 15) → Leads w (views u s) 14 [] (λ n z. ⊥) Is
+          → ((n : ℕ) (z : Views) → Is n z → Onward w leader Signs t z.now × (least ≤ n) × (reg z.now 15 ≡ reg u 15)) → Seen u t least
+      left_of u s t least cur g f =
           ⊎_elim
           (λ e. absurd e.1)
-          (λ l. let x = f g.steps g.to l in inr (record { steps = g.steps; to = g.to.now; at_least = x.1; within = g.within; walk = g.walk; is = x.0 }))
+          (λ l. let x = f g.steps g.to l in (inr (record { steps = g.steps; to = g.to.now; at_least = x.1; within = g.within; walk = g.walk; is = onward_held t g.to.now (subst (IsCursor w.form.spans) (sym x.2) cur) x.0 }), x.2))
           g.ends
 
       stop_law :
-          (c : Class) (u s : State) (i : Ins) → class_of i.kind ≡ c → At w u (leave_as w.form c i s.pc) s s → Sourced w s → w.source s.pc ≡ Known i
-          → Leaves c w leader i s.pc → NotTrapped (step s) → LeadsToReached w.reached s → Left w v leader u (step s) 1
-      stop_law class.End u s i c a so h g calm leads = by w.form.sweep refl a where
-        by : (b : Bool) → w.form.sweep ≡ b → At w u (cond b (sweep w.form.spans ++ compare) [] ++ (Plain i ∷ [])) s s → Left w v leader u (step s) 1
+          (c : Class) (u s : State) (i : Ins) → IsCursor w.form.spans (reg u 15) → class_of i.kind ≡ c → At w u (leave_as w.form c i s.pc) s s → Sourced w s → w.source s.pc ≡ Known i
+          → Leaves c w leader i s.pc → NotTrapped (step s) → LeadsToReached w.reached s → Seen u (step s) 1
+      stop_law class.End u s i cur c a so h g calm leads = by w.form.sweep refl a where
+        by : (b : Bool) → w.form.sweep ≡ b → At w u (cond b (sweep w.form.spans ++ compare) [] ++ (Plain i ∷ [])) s s → Seen u (step s) 1
         by true is a =
             let e : step s ≡ stopped Ended s = step-end s i so.over.going (known_at w.source s i so.over h) c in
             let a1 : At w u (swept_end w.form.spans i ++ []) s s = subst (λ l. At w u l s s) (sym (append-nil (swept_end w.form.spans i))) a in
@@ -252,34 +274,36 @@ module _ (w : World) (most : ℕ) (checks : List Item) (first steps : ℕ) (laws
             ⊎_elim
             (λ e. absurd e.1)
             (λ l.
-            let has : Holds w x.to.now (stopped Ended s) = record { output = l.holds.output; originals = l.holds.originals; bytes = l.holds.bytes } in
-            inl (record {
-              steps = x.steps;
-              to = x.to.now;
-              at_least = omega (arith, l.swept.exact);
-              within = omega (arith, high);
-              walk = x.walk;
-              is = (record { ended = l.ended; holds = subst (Holds w x.to.now) (sym e) has; input = ap (λ x. x.outcome) e }, λ sw. l.swept);
-            }))
+            let has : Holds w x.to.now (stopped Ended s) = record { output = l.holds.output; originals = l.holds.originals; bytes = l.holds.bytes } in (
+              inl (record {
+                steps = x.steps;
+                to = x.to.now;
+                at_least = omega (arith, l.swept.exact);
+                within = omega (arith, high);
+                walk = x.walk;
+                is = record { ended = l.ended; holds = subst (Holds w x.to.now) (sym e) has; input = ap (λ x. x.outcome) e };
+              }),
+              λ sw. l.swept,
+            ))
             x.ends
         by false is a =
             let x = leave_law w [] (views u s) block class.End 0 i c tt a so (h, refl, tt, calm, leads) in
             ⊎_elim
             (λ e. absurd e.1)
-            (λ l. inl (record { steps = x.steps; to = x.to.now; at_least = l.left.2; within = omega (arith, x.within); walk = x.walk; is = (l.left.0, λ sw. absurd (false≢true (sym is ∙ sw))) }))
+            (λ l. (inl (record { steps = x.steps; to = x.to.now; at_least = l.left.2; within = omega (arith, x.within); walk = x.walk; is = l.left.0 }), λ sw. absurd (false≢true (sym is ∙ sw))))
             x.ends
-      stop_law class.Illegal u s i c a so h g calm leads = left_of u s (step s) 1 (leave_law w [] (views u s) block class.Illegal 0 i c tt a so (h, refl, tt, calm, leads)) (λ n z l. l.left)
-      stop_law class.Jump u s i c a so h g calm leads = left_of u s (step s) 1 (leave_law w [] (views u s) block class.Jump 0 i c g.0 a so (h, refl, g, calm, leads)) (λ n z l. l.left)
-      stop_law class.Branch u s i c a so h g calm leads = left_of u s (step s) 1 (leave_law w [] (views u s) block class.Branch ((s.pc + 4) % 2 ^ 64) i c (g.0, g.1, refl) a so (h, refl, g, calm, leads)) (λ n z l. l.left)
-      stop_law class.JumpReg u s i c a so h g calm leads = left_of u s (step s) 1 (leave_law w [] (views u s) block class.JumpReg 0 i c (g.0, g.1) a so (h, refl, g, calm, leads)) (λ n z l. l.left)
-      stop_law k u s i c a so h g calm leads = absurd g
+      stop_law class.Illegal u s i cur c a so h g calm leads = left_of u s (step s) 1 cur (leave_law w [] (views u s) block class.Illegal 0 i c tt a so (h, refl, tt, calm, leads)) (λ n z l. (l.left.0, l.left.1, l.cursor))
+      stop_law class.Jump u s i cur c a so h g calm leads = left_of u s (step s) 1 cur (leave_law w [] (views u s) block class.Jump 0 i c g.0 a so (h, refl, g, calm, leads)) (λ n z l. (l.left.0, l.left.1, l.cursor))
+      stop_law class.Branch u s i cur c a so h g calm leads = left_of u s (step s) 1 cur (leave_law w [] (views u s) block class.Branch ((s.pc + 4) % 2 ^ 64) i c (g.0, g.1, refl) a so (h, refl, g, calm, leads)) (λ n z l. (l.left.0, l.left.1, l.cursor))
+      stop_law class.JumpReg u s i cur c a so h g calm leads = left_of u s (step s) 1 cur (leave_law w [] (views u s) block class.JumpReg 0 i c (g.0, g.1) a so (h, refl, g, calm, leads)) (λ n z l. (l.left.0, l.left.1, l.cursor))
+      stop_law k u s i cur c a so h g calm leads = absurd g
 
       pub leave_row :
-          (e : End) (u s : State) → At w u (leave w.form e s.pc) s s → Sourced w s → EndStands w leader e s.pc → IsSteady w.reached s (stops e)
-          → Left w v leader u (run s (stops e)) (stops e)
+          (e : End) (b : ℕ) (u s : State) → v.held w u b ≡ true → At w u (leave w.form e s.pc) s s → Sourced w s → EndStands w leader e s.pc → IsSteady w.reached s (stops e)
+          → Seen u (run s (stops e)) (stops e)
       unfolding run
-      leave_row Falls u s a so g st = left_of u s s 0 (fall_law w [] (views u s) block s.pc a so g refl) (λ n z l. (l.left, omega arith))
-      leave_row (Stops i) u s a so g st = stop_law (class_of i.kind) u s i refl a so g.0 g.1 st.no_trap (st.leads 0 (omega arith))
+      leave_row Falls b u s held a so g st = left_of u s s 0 (held_parts w u b held).1 (fall_law w [] (views u s) block s.pc a so g refl) (λ n z l. (l.left, omega arith, l.cursor))
+      leave_row (Stops i) b u s held a so g st = stop_law (class_of i.kind) u s i (held_parts w u b held).1 refl a so g.0 g.1 st.no_trap (st.leads 0 (omega arith))
 
     short_law : (is : List Ins) → v.fits is ≡ true → length is ≤ v.piece_steps
     short_law is e = let h = leb-true (length is) most (and_parts _ _ e).1 in let m : 3 * most ≤ w.form.cost * most = mul-le-mul law.enough (omega arith) in omega (arith, h, m)
@@ -290,12 +314,29 @@ module _ (w : World) (most : ℕ) (checks : List Item) (first steps : ℕ) (laws
         record { low = b.good.low; entry_low = omega (arith, w.low (w.entry a) i b.reads.1.0); grain = w.grain (w.entry a) i b.reads.1.0 }
 
     -- ---- all of them
-    pub rows_with : Rows w v leader
-    rows_with = record { short = short_law; known = entry_known; enter = enter_law; inside = inside_law; piece = piece_law; leave = leave_row }
+    pub rows_with : CheckedRows w v leader
+    rows_with = record {
+      rows = record {
+        short = short_law;
+        known = entry_known;
+        enter = λ u s rest st held low r. goes_is (enter_law u s rest st held low r);
+        inside = inside_law;
+        piece = λ is b u s rest held p a so calm. goes_is (piece_law is b u s rest held p a so calm);
+        leave = λ known e b u s held a so g steady. (leave_row known e b u s held a so g steady).0;
+      };
+      word = λ u b held. (held_parts w u b held).1;
+      enter = λ u s rest st held low r. (enter_law u s rest st held low r).is.1;
+      piece = λ is b u s rest held p a so calm. (piece_law is b u s rest held p a so calm).is.1;
+      leave = λ known e b u s held a so g steady. (leave_row known e b u s held a so g steady).1;
+    }
 
   -- ---- what runs first
   pub starts_with : (f g : Program) → Starts f g w v leader
-  starts_with f g = record { first = λ d entry leads begins regs are. prologue_row f g w leader (record { world = d; begins = begins; leads = leads; entry = entry }) regs are }
+  starts_with f g = record {
+    first = λ d entry leads begins regs are.
+        let x = prologue_row f g w leader (record { world = d; begins = begins; leads = leads; entry = entry }) regs are in
+        record { steps = x.steps; to = x.to; at_least = x.at_least; within = x.within; walk = x.walk; is = (x.is.0, held_is w x.to f.entry x.is.1.0 x.is.1.1) };
+  }
 
 -- ---- a form
 module _ (w : World) (most : ℕ) where
@@ -308,7 +349,7 @@ module _ (w : World) (most : ℕ) where
   abbrev pub both_steps : ℕ
   both_steps = 13 + visit_bound (word_count w.form.spans) (length w.form.spans) * w.form.round
 
-  pub form_rows : (leader : ℕ → Bool) → Mirrors w → Rows w wv leader
+  pub form_rows : (leader : ℕ → Bool) → Mirrors w → CheckedRows w wv leader
   form_rows leader law = rows_with w most both 0 both_steps (form_checks w.form) leader law
 
   pub form_starts : (leader : ℕ → Bool) (f g : Program) → Starts f g w wv leader
@@ -317,7 +358,7 @@ module _ (w : World) (most : ℕ) where
   -- ---- leaders with their entries
   pub woven_in : (f g : Program) (leader : ℕ → Bool) → WovenIn f g w leader most → Mirrors w → WeaveIn f g w wv leader
   woven_in f g leader x law = record {
-    rows = form_rows leader law;
+    rows = (form_rows leader law).rows;
     starts = form_starts leader f g;
     world = x.world;
     entries = x.entries;
@@ -333,7 +374,7 @@ pub checks_after :
 checks_after form xs checks m first steps quiet lock laws = record {
   quiet = record {
     leads = λ w v rest s st need.
-        let x = (quiet_then any any _ _ _ _ _ _ _ _ _ _ quiet laws.quiet).leads w v rest (tt, tt) st (need.0, λ n y d. (d.original ∙ need.0 ∙ sym d.shadow, need.1)) in
+        let x = (quiet_then any any _ _ _ _ _ _ _ _ _ _ quiet laws.quiet).leads w v rest (tt, tt) st (need.0, λ n y d. (d.original ∙ need.0 ∙ sym d.shadow, need.1, subst (IsCursor w.form.spans) (sym d.cursor) need.2)) in
         record {
           steps = x.steps;
           to = x.to;
@@ -343,7 +384,7 @@ checks_after form xs checks m first steps quiet lock laws = record {
               (λ g.
               let c = g.1 in
               let d = c.first in
-              inl (g.0, record { original = c.last.original ∙ d.original; shadow = c.last.shadow ∙ d.shadow; checked = checked_behind w first form.round v.now c.middle.now x.to.now c.some m c.more x.steps c.runs d.cursor c.within (sym c.sum) c.last.checked }))
+              inl (g.0, record { original = c.last.original ∙ d.original; shadow = c.last.shadow ∙ d.shadow; sign = c.last.sign ∙ d.sign; checked = checked_behind w first form.round v.now c.middle.now x.to.now c.some m c.more x.steps c.runs d.cursor c.within (sym c.sum) c.last.checked }))
               (λ l. inr (⊎_elim (λ f. f) (λ c. c.last) l))
               x.ends;
         };
@@ -357,7 +398,7 @@ pub kept_with :
     (f g : Program) (w : World) (most : ℕ) (checks : List Item) (first steps : ℕ) (blocks : List Block) → ChecksLaws w.form checks first steps
     → PlanOf f g w (weave_with w.form most checks first steps) blocks → Mirrors w
     → Kept f g w.reached (start_steps (weave_with w.form most checks first steps)) (stage_steps (weave_with w.form most checks first steps))
-kept_with f g w most checks first steps blocks laws p law = weave_kept f g w (weave_with w.form most checks first steps) blocks p (rows_with w most checks first steps laws (begins_at blocks) law) (starts_with w most checks first steps laws (begins_at blocks) f g)
+kept_with f g w most checks first steps blocks laws p law = weave_kept f g w (weave_with w.form most checks first steps) blocks p (rows_with w most checks first steps laws (begins_at blocks) law).rows (starts_with w most checks first steps laws (begins_at blocks) f g)
 
 -- where each leader has its entry, the values are kept
 pub values_kept : ValuesKept
@@ -404,7 +445,7 @@ form_guarded w most checks first steps = record {
 
 -- and its jumps land
 pub plan_landed : PlanLanded
-plan_landed f g w most blocks entries p law known = weave_landed f g w (weave_of w.form most) blocks entries p (form_rows w most (begins_at blocks) law) (form_starts w most (begins_at blocks) f g) (form_guarded w most (both w most) 0 (both_steps w most)) known
+plan_landed f g w most blocks entries p law known = weave_landed f g w (weave_of w.form most) blocks entries p (form_rows w most (begins_at blocks) law).rows (form_starts w most (begins_at blocks) f g) (form_guarded w most (both w most) 0 (both_steps w most)) known
 
 -- and so they do wherever the entries stand
 pub landings_fire : LandingsFire

@@ -23,7 +23,7 @@ use Rattle.weave_core.specs.Rows.{Led}
 use Rattle.weave_core.specs.Pass.{Views, Leads, Quiet, Does, same}
 use Rattle.weave_core.proofs.Compose.{leads_led}
 use Rattle.weave_core.specs.WeaveLaws.{Holds, GoesTo, Onward, lands, is_lost}
-use Rattle.weave_core.specs.Leaving.{Enters, left_as, left, IsLeft, GoesFrom, Leaving, LeavesOn, swept_end, sweep_cost, Sweeps, SweptTo}
+use Rattle.weave_core.specs.Leaving.{Enters, left_as, left, IsLeft, GoesFrom, Leaving, LeavesOn, Signs, swept_end, sweep_cost, Sweeps, SweptTo}
 use Rattle.weave_core.proofs.Rows.{halved_free}
 use Rattle.weave_core.proofs.Words.{const_walk, const_signed, free_16}
 use Rattle.weave_core.proofs.Leaves.{enter_row, Lands, lands_behind, go_row, go_most, go_most_le, links_row, jump_step, step-end, step-illegal, end_walk}
@@ -54,13 +54,13 @@ module _ (w : World) (rest : List Item) (v : Views) (entries : (a : ℕ) → v.l
 
   -- from u, where the input is in t, to an entry or to no code
   abbrev Went : State → ℕ → Type 0
-  Went t least = GoesTo w u least 14 (λ n x. Onward w v.leads u t x × (reg x 15 ≡ reg u 15))
+  Went t least = GoesTo w u least 14 (λ n x. Onward w v.leads Signs t x × (reg x 15 ≡ reg u 15))
 
   -- behind a walk of m steps to x
   to_entry : (t x : State) (m l k least : ℕ) → Walk (Calm w) u m x → reg x 15 ≡ reg u 15 → Lands w v.leads x l k t → least ≤ m + l → m + k ≤ 14 → Sourced w t → Went t least
   to_entry t x m l k least a c b low high so =
       let y = lands_behind w v.leads u x t m l k least 14 a c b low high in
-      record { steps = y.steps; to = y.to; at_least = y.at_least; within = y.within; walk = y.walk; is = (lands y.is.0 y.is.1 so, y.is.1) }
+      record { steps = y.steps; to = y.to; at_least = y.at_least; within = y.within; walk = y.walk; is = (lands y.is.0 y.is.1 so, y.is.2) }
 
   to_none :
       (t x : State) (m least : ℕ) (xs : List Item) → Walk (Calm w) u m x → reg x 15 ≡ reg u 15 → least ≤ m → m ≤ 14 → At w x xs t t → Sourced w t
@@ -89,7 +89,6 @@ module _ (w : World) (rest : List Item) (v : Views) (entries : (a : ℕ) → v.l
     bytes = t.bytes;
     mirror_bytes = t.mirror_bytes;
     fixed = t.fixed;
-    cursor = t.cursor;
     spare = t.spare;
   }
 

@@ -6,13 +6,13 @@ use Rattle.rv_isa.specs.declared.class.Class.TheVariants as class
 use Rattle.rv_isa.specs.Kind.{class_of}
 use Rattle.qed_model.specs.declared.item.Item.{Item}
 use Rattle.qed_model.specs.declared.item.Item.TheVariants.{Plain, Constant}
-use Rattle.qed_model.specs.Machine.Step.{State, Known, step, target}
+use Rattle.qed_model.specs.Machine.Step.{State, reg, Known, step, target}
 use Rattle.qed_model.specs.Promise.Kept.{NotTrapped}
 use Rattle.qed_model.specs.Admission.DataRanges.{word_count}
 use Rattle.qed_model.specs.Weave.Bounds.{visit_bound}
 use Rattle.qed_model.specs.Weave.Sequences.{is_auipc, mirrored, compare, visit}
 use Rattle.qed_model.proofs.Walk.{known_at}
-use Rattle.weave_core.specs.World.{World}
+use Rattle.weave_core.specs.World.{World, IsCursor}
 use Rattle.weave_core.specs.Blocks.{IsBody, IsLowAs, FitsPiece}
 use Rattle.weave_core.specs.Rows.{At, Led, Sourced}
 use Rattle.weave_core.specs.Pass.{Views, Does, same, Leads, Quiet, Lockstep}
@@ -71,21 +71,21 @@ quiet_compare = record {
 -- ---- the visits
 pub quiet_visit :
     (round : ℕ) (spans : List (ℕ × ℕ))
-    → Quiet any (visit round spans) (λ w v. (v.original ≡ v.shadow) × (w.form.spans ≡ spans)) (λ w. Rounds w round spans) (λ w v n z. ⊥) (visit_bound (word_count spans) (length spans) * round)
-quiet_visit round spans = record { leads = λ w v rest s st need. row w v rest need.0 need.1 st } where
+    → Quiet any (visit round spans) (λ w v. (v.original ≡ v.shadow) × (w.form.spans ≡ spans) × IsCursor spans (reg v.now 15)) (λ w. Rounds w round spans) (λ w v n z. ⊥) (visit_bound (word_count spans) (length spans) * round)
+quiet_visit round spans = record { leads = λ w v rest s st need. row w v rest need.0 need.1 need.2 st } where
   row :
-      (w : World) (v : Views) (rest : List Item) → v.original ≡ v.shadow → w.form.spans ≡ spans
+      (w : World) (v : Views) (rest : List Item) → v.original ≡ v.shadow → w.form.spans ≡ spans → IsCursor spans (reg v.now 15)
       → At w v.now (visit round spans ++ rest) v.original v.shadow
       → Leads w v (visit_bound (word_count spans) (length spans) * round) rest (Rounds w round spans v) (λ n z. ⊥)
-  row w v rest e f st =
+  row w v rest e f c st =
       let a : At w v.now (visit round w.form.spans ++ rest) v.original v.original = subst (λ l. At w v.now (visit round l ++ rest) v.original v.original) (sym f) (subst (λ t. At w v.now (visit round spans ++ rest) v.original t) (sym e) st) in
-      let x : Visited w spans v.now v.original round (visit_bound (word_count spans) (length spans) * round) rest = subst (λ l. Visited w l v.now v.original round (visit_bound (word_count l) (length l) * round) rest) f (visit_row w round v.now v.original rest a) in
+      let x : Visited w spans v.now v.original round (visit_bound (word_count spans) (length spans) * round) rest = subst (λ l. Visited w l v.now v.original round (visit_bound (word_count l) (length l) * round) rest) f (visit_row w round v.now v.original rest a (subst (λ l. IsCursor l (reg v.now 15)) (sym f) c)) in
       record {
         steps = x.steps;
         to = record { now = x.to; original = v.original; shadow = v.original; leads = v.leads };
         within = x.within;
         walk = x.walk;
-        ends = inl (x.at, record { original = refl; shadow = e; cursor = x.cursor; leads = refl; visits = x.visits });
+        ends = inl (x.at, record { original = refl; shadow = e; cursor = x.cursor; sign = x.sign; leads = refl; visits = x.visits });
       }
 
 -- ---- Lockstep

@@ -15,7 +15,7 @@ use Rattle.qed_model.specs.Promise.Kept.{NotTrapped}
 use Rattle.qed_model.specs.Weave.Pieces.{is_clean, and_written, is_run, is_run_after}
 use Rattle.qed_model.specs.Weave.Sequences.{guard, guards, is_auipc, original, original_as, each_part}
 use Rattle.qed_model.proofs.Walk.{run-more}
-use Rattle.weave_core.specs.World.{World, words_on}
+use Rattle.weave_core.specs.World.{World, IsCursor, words_on}
 use Rattle.weave_core.specs.Blocks.{IsLowAs, FitsPiece, AllFit}
 use Rattle.weave_core.specs.Rows.{Sourced, spent, spent_as}
 use Rattle.weave_core.specs.Kinds.{thirteen}
@@ -46,16 +46,16 @@ pub never_mirrors : (next : ℕ → ℕ) (cost : Ins → ℕ) (is : List Ins) (a
 never_mirrors next cost is at w v z n l = never_each next cost GivesMirror LeavesMirror (λ i at w v n z l. l) is at w v z n l
 
 -- ---- the checks of a piece
--- what a pass behind the parts needs, gives and leaves: it needs no more than that both halves are equal and `also`, and does not leave
+-- what a pass behind the parts needs, gives and leaves: it needs no more than that both halves are equal and the cursor is at a word, and does not leave
 pub record AreChecks (w : World) (needs : World → Views → Type 0) (gives leaves : World → Views → ℕ → Views → Type 0) (first round : ℕ) : Type 0 where
-  pub ready : (v : Views) → v.original ≡ v.shadow → needs w v
+  pub ready : (v : Views) → v.original ≡ v.shadow → IsCursor w.form.spans (reg v.now 15) → needs w v
   pub checks : (v z : Views) (n : ℕ) → gives w v n z → Checks w first round v n z
   pub never : (v z : Views) (n : ℕ) → leaves w v n z → ⊥
 
 -- the comparison, and the visits behind it
 pub both_checks : (w : World) (round : ℕ) (spans : List (ℕ × ℕ)) → w.form.spans ≡ spans → AreChecks w (NeedsChecks spans) (GivesChecks round spans) LeavesChecks 0 round
 both_checks w round spans e = record {
-  ready = λ v h. (h, λ n y d. (d.0.original ∙ h ∙ sym d.0.shadow, e));
+  ready = λ v h c. (h, λ n y d. (d.0.original ∙ h ∙ sym d.0.shadow, e, subst (IsCursor spans) (sym d.0.cursor) (subst (λ l. IsCursor l (reg v.now 15)) e c)));
   checks = λ v z n c.
       let d = c.first.0 in
       let l = c.last in
@@ -63,6 +63,7 @@ both_checks w round spans e = record {
       record {
         original = l.original ∙ d.original;
         shadow = l.shadow ∙ d.shadow;
+        sign = l.sign ∙ d.sign;
         checked = record {
           compare = 0;
           soon = omega arith;
@@ -200,9 +201,9 @@ module _ (next : ℕ → ℕ) (plus : (a : ℕ) → a + 8 ≤ 2 ^ 63 → next a 
   module _ (needs : Ins → ℕ → World → Views → Type 0) (have : (i : Ins) (at : ℕ) (v : Views) → Runs w i at v.shadow → needs i at w v) (cost : Ins → ℕ) where
     module _ (nc : World → Views → Type 0) (gc lc : World → Views → ℕ → Views → Type 0) (first round : ℕ) (are : AreChecks w nc gc lc first round) (is : List Ins) (at : ℕ) where
       needs_piece :
-          (v : Views) → v.original ≡ v.shadow → v.original.pc ≡ at → HasAt w.source at is → AllFit is → is_run is ≡ true → Sourced w v.original
+          (v : Views) → IsCursor w.form.spans (reg v.now 15) → v.original ≡ v.shadow → v.original.pc ≡ at → HasAt w.source at is → AllFit is → is_run is ≡ true → Sourced w v.original
           → NotTrapped (run v.original (length is)) → NeedsPiece next needs cost nc is at w v
-      needs_piece v e here p fit clean so calm =
+      needs_piece v cur e here p fit clean so calm =
           let has : HasAt w.source v.original.pc is = subst (λ a. HasAt w.source a is) (sym here) p in (
             needs_originals is (λ r. false) at v fit clean (λ r x. ap (λ t. reg t r) e) so here has calm,
             λ n y g.
@@ -211,7 +212,7 @@ module _ (next : ℕ → ℕ) (plus : (a : ℕ) → a + 8 ≤ 2 ^ 63 → next a 
                   needs_mirrors needs have is at y fit (subst (Sourced w) (sym es) so) (ap (λ s. s.pc) es ∙ here) (subst (λ s. HasAt w.source s.pc is) (sym es) has) (subst (λ s. NotTrapped (run s (length is))) (sym es) calm),
                   λ k x h.
                       let r = gives_mirrors cost is at y x k h in
-                      are.ready x (r.original ∙ o.original ∙ ap (λ s. run s (length is)) (sym es) ∙ sym r.shadow),
+                      are.ready x (r.original ∙ o.original ∙ ap (λ s. run s (length is)) (sym es) ∙ sym r.shadow) (subst (IsCursor w.form.spans) (sym (r.cursor ∙ o.cursor)) cur),
                 ),
           )
 
@@ -229,6 +230,7 @@ module _ (next : ℕ → ℕ) (plus : (a : ℕ) → a + 8 ≤ 2 ^ 63 → next a 
             original = c.original ∙ r.original ∙ o.original;
             shadow = c.shadow ∙ r.shadow ∙ ap (λ s. run s (length is)) es;
             slow = omega (arith, o.slow, g.sum);
+            sign = c.sign ∙ r.sign ∙ o.sign;
             checked = checked_behind w first round v.now h.middle.now z.now (g.some + h.some) most h.more n here (r.cursor ∙ o.cursor) (omega (arith, g.within, h.within, few)) (omega (arith, g.sum, h.sum)) c.checked;
           }
 
@@ -242,11 +244,11 @@ module _ (next : ℕ → ℕ) (plus : (a : ℕ) → a + 8 ≤ 2 ^ 63 → next a 
       pub piece_leads :
           (suits : Bool → Type 0) → suits w.form.far → (most steps : ℕ) (items : List Item) → cost_each original_cost is + cost_each cost is ≤ most
           → Quiet suits items (NeedsPiece next needs cost nc is at) (GivesPiece next cost gc is at) (LeavesPiece next cost lc is at) (piece_cost cost steps is)
-          → (v : Views) (rest : List Item) → v.original ≡ v.shadow → v.original.pc ≡ at → HasAt w.source at is → AllFit is → is_run is ≡ true
+          → (v : Views) (rest : List Item) → IsCursor w.form.spans (reg v.now 15) → v.original ≡ v.shadow → v.original.pc ≡ at → HasAt w.source at is → AllFit is → is_run is ≡ true
           → Sourced w v.original → NotTrapped (run v.original (length is)) → Stands w v (items ++ rest)
           → Leads w v (most + steps) rest (Pieced w (most + first) round is v.original v) none
-      piece_leads suits here most steps items few q v rest e pc has fit clean so calm st =
-          let x = q.leads w v rest here st (needs_piece v e pc has fit clean so calm) in
+      piece_leads suits here most steps items few q v rest cur e pc has fit clean so calm st =
+          let x = q.leads w v rest here st (needs_piece v cur e pc has fit clean so calm) in
           record {
             steps = x.steps;
             to = x.to;

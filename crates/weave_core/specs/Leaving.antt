@@ -68,12 +68,16 @@ abbrev pub ended_as : Class → State → State
 ended_as class.Compute s = s
 ended_as _ s = step s
 
+-- with the signature
+abbrev pub Signs : State → ℕ → Type 0
+Signs u a = reg u 16 ≡ a
+
 -- an ECALL ends; a fall leads to the entry where the input is, if there is code; so does any other end, in at least one step, to where
 -- the input is behind it
 abbrev pub LeftAs : Class → World → Views → ℕ → Views → Type 0
 LeftAs class.End w v n z = Ends w (step v.original) z.now × Twice w z.now v.original v.original × (1 ≤ n)
-LeftAs class.Compute w v n z = Onward w v.leads v.now v.original z.now
-LeftAs _ w v n z = Onward w v.leads v.now (step v.original) z.now × (1 ≤ n)
+LeftAs class.Compute w v n z = Onward w v.leads Signs v.original z.now
+LeftAs _ w v n z = Onward w v.leads Signs (step v.original) z.now × (1 ≤ n)
 
 -- the views there are those of the input behind the end, and the cursor stays
 pub record LeadsOn (t : State) (v z : Views) (Is : Type 0) : Type 0 where

@@ -1,15 +1,21 @@
 -- The forms of the code are a weave: near and far, with or without the sweep, with either kind of mirror part. So are they with other
 -- checks behind the parts of a piece.
-use Rattle.std.specs.Prelude.{◌≡◌, ℕ, ◌+◌, ◌*◌, ◌&&◌, nat_le, cond, List, [], ◌++◌, length}
+use Rattle.std.specs.Prelude.{◌≡◌, ℕ, ◌+◌, ◌*◌, Bool, ◌&&◌, ◌==◌, nat_le, cond, List, [], ◌++◌, length}
 use Rattle.qed_model.specs.declared.item.Item.{Item}
 use Rattle.qed_model.specs.Admission.DataRanges.{word_count}
 use Rattle.qed_model.specs.Weave.Bounds.{visit_bound, end_bound}
 use Rattle.qed_model.specs.Weave.Pieces.{is_run}
 use Rattle.qed_model.specs.Weave.Sequences.{Form, original, each_part, compare, visit}
 use Rattle.qed_model.specs.Weave.Code.{sequences}
+use Rattle.qed_model.specs.Machine.Step.{State, reg}
+use Rattle.weave_core.specs.World.{World, IsCursor, is_cursor}
 use Rattle.weave_core.specs.Pass.{Quiet, Lockstep}
 use Rattle.weave_core.specs.Parts.{any, Checks}
 use Rattle.weave_core.specs.Weave.{Weave}
+
+-- the signature is an input address, and the cursor is at a word
+abbrev pub is_signed_at : World → State → ℕ → Bool
+is_signed_at w u a = (reg u 16 == a) && is_cursor w.form.spans (reg u 15)
 
 -- `checks` are woven behind the parts of a piece: in at most so many steps, of which at most `first` before all registers are compared
 abbrev pub weave_with : Form → ℕ → List Item → ℕ → ℕ → Weave
@@ -25,6 +31,7 @@ weave_with form most checks first steps = record {
   sweeps = form.sweep;
   sweep_steps = 2 * length form.spans + 8 * word_count form.spans;
   round = form.round;
+  held = is_signed_at;
 }
 
 -- those of a form are the comparison of all registers and the visits
@@ -33,5 +40,5 @@ weave_of form most = weave_with form most (compare ++ visit form.round form.span
 
 -- what is asked of others: the laws of a pass that, where both halves are equal, makes the checks of a round
 pub record ChecksLaws (form : Form) (checks : List Item) (first steps : ℕ) : Type 0 where
-  pub quiet : Quiet any checks (λ w v. (v.original ≡ v.shadow) × (w.form ≡ form)) (λ w. Checks w first form.round) (λ w v n z. ⊥) steps
+  pub quiet : Quiet any checks (λ w v. (v.original ≡ v.shadow) × (w.form ≡ form) × IsCursor w.form.spans (reg v.now 15)) (λ w. Checks w first form.round) (λ w v n z. ⊥) steps
   pub lockstep : Lockstep any [] checks

@@ -1,5 +1,6 @@
 -- The laws of a weave: all that the inductions over the run of the output use of its sequences.
 use Rattle.std.specs.Prelude.{◌≡◌, ℕ, ◌+◌, ◌*◌, ◌^◌, ◌<◌, ◌≤◌, ◌⊎◌, Bool, true, List, [], ◌∷◌, ◌++◌, length, is_some}
+use Rattle.std.proofs.Common.{inl, inr}
 use Rattle.std.specs.FinMap.{get}
 use Rattle.rv_isa.specs.declared.ins.Ins.{Ins}
 use Rattle.qed_model.specs.declared.item.Item.{Item}
@@ -12,7 +13,7 @@ use Rattle.qed_model.specs.Promise.Kept.{NotTrapped, IsSteady}
 use Rattle.qed_model.specs.Promise.Changed.{IsDataWord}
 use Rattle.qed_model.specs.Weave.Halves.{Flagged}
 use Rattle.qed_model.specs.Weave.Sequences.{Reads, End, Falls, Stops, Block}
-use Rattle.weave_core.specs.World.{World, Quiet, Twice, words_on}
+use Rattle.weave_core.specs.World.{World, Quiet, Twice, IsCursor, words_on}
 use Rattle.weave_core.specs.Blocks.{AllFit, Full, EndStands, IsEntryOf}
 use Rattle.weave_core.specs.Rows.{At, Sourced}
 use Rattle.weave_core.specs.Describes.{Describes}
@@ -59,12 +60,11 @@ pub record Holds (w : World) (u s : State) : Type 0 where
   pub originals : (r : ℕ) → r ≤ 13 → reg u r ≡ reg s r
   pub bytes : (q : ℕ) → is_some (get w.input q) ≡ true → byte_at u.memory q ≡ byte_at s.memory q
 
--- at the entry of the input's pc, with its signature
+-- at the entry of the input's pc
 pub record Stands (w : World) (leader : ℕ → Bool) (u s : State) : Type 0 where
   pub over : Over w.code u
   pub halved : Twice w u s s
   pub pc : u.pc ≡ w.entry s.pc
-  pub sign : reg u 16 ≡ s.pc
   pub leads : leader s.pc ≡ true
 
 -- ---- where the sequences lead
@@ -98,10 +98,6 @@ pub record Checked (w : World) (first round : ℕ) (u : State) (n : ℕ) (to : S
   pub cursor : reg to 15 ≡ words_on w.form.spans round (reg u 15)
   pub visits : (j : ℕ) → j < round → 1 ≤ length w.form.spans → Visits w u n (words_on w.form.spans j (reg u 15))
 
--- behind a piece: both halves are n steps on
-abbrev pub Behind : World → Weave → State → State → ℕ → List Item → ℕ → State → Type 0
-Behind w v u s n rest steps to = At w to rest (run s n) (run s n) × Checked w v.compare_steps v.round u steps to
-
 -- the test ends n steps from u on: each data word is visited in the first of them, then all registers are compared, and then it ends
 pub record Swept (w : World) (first : ℕ) (u : State) (n : ℕ) : Type 0 where
   pub exact : n ≡ first + 14
@@ -120,15 +116,15 @@ pub record Ends (w : World) (t x : State) : Type 0 where
   pub holds : Holds w x t
   pub input : t.outcome ≡ Ended
 
--- from u to an entry, or to where the input goes no further, since there is no code
-pub data Onward (w : World) (leader : ℕ → Bool) (u t x : State) : Type 0 where
-  lands : Stands w leader x t → reg x 15 ≡ reg u 15 → Sourced w t → Onward w leader u t x
-  is_lost : x.outcome ≡ Going → Twice w x t t → Sourced w t → ((i : Ins) → w.source t.pc ≡ Known i → ⊥) → Onward w leader u t x
+-- at an entry, where a property holds with its input address, or where the input goes no further, since there is no code
+pub data Onward (w : World) (leader : ℕ → Bool) (held : State → ℕ → Type 0) (t x : State) : Type 0 where
+  lands : Stands w leader x t → held x t.pc → Sourced w t → Onward w leader held t x
+  is_lost : x.outcome ≡ Going → Twice w x t t → Sourced w t → ((i : Ins) → w.source t.pc ≡ Known i → ⊥) → Onward w leader held t x
 
 -- either
 abbrev pub Left : World → Weave → (ℕ → Bool) → State → State → ℕ → Type 0
 Left w v leader u t least =
-    GoesTo w u 1 (v.leave_steps + v.end_steps) (λ n x. Ends w t x × (v.sweeps ≡ true → Swept w v.sweep_steps u n)) ⊎ GoesTo w u least v.leave_steps (λ n x. Onward w leader u t x)
+    GoesTo w u 1 (v.leave_steps + v.end_steps) (λ n x. Ends w t x) ⊎ GoesTo w u least v.leave_steps (λ n x. Onward w leader (λ y a. v.held w y a ≡ true) t x)
 
 -- ---- the laws of the rows: where each sequence leads
 pub record Rows (w : World) (v : Weave) (leader : ℕ → Bool) : Type 0 where
@@ -137,23 +133,47 @@ pub record Rows (w : World) (v : Weave) (leader : ℕ → Bool) : Type 0 where
   -- an entry that reads as the words of a block is an address on the grain
   pub known : (a : ℕ) → EntryAt w v leader a → IsEntryOf w a
   pub enter :
-      (u s : State) (rest : List Item) → Stands w leader u s → s.pc < 2 ^ 64 → Reads w.form.far w.code w.entry u.pc (v.code.enter s.pc ++ rest)
-      → GoesTo w u 0 v.enter_steps (λ n x. At w x rest s s × (reg x 15 ≡ reg u 15))
+      (u s : State) (rest : List Item) → Stands w leader u s → v.held w u s.pc ≡ true → s.pc < 2 ^ 64 → Reads w.form.far w.code w.entry u.pc (v.code.enter s.pc ++ rest)
+      → GoesTo w u 0 v.enter_steps (λ n x. At w x rest s s × (v.held w x s.pc ≡ true))
   pub inside :
       (is : List Ins) (n : ℕ) (u s : State) (rest : List Item) → n < length is → PieceAt w v s.pc is → At w u (v.code.piece is s.pc ++ rest) s s
       → Sourced w s → NotTrapped (run s n) → GoesTo w u n v.piece_steps (λ k x. Inside w s n x)
   pub piece :
-      (is : List Ins) (u s : State) (rest : List Item) → PieceAt w v s.pc is → At w u (v.code.piece is s.pc ++ rest) s s → Sourced w s
-      → NotTrapped (run s (length is)) → GoesTo w u (length is) v.piece_steps (Behind w v u s (length is) rest)
+      (is : List Ins) (b : ℕ) (u s : State) (rest : List Item) → v.held w u b ≡ true → PieceAt w v s.pc is → At w u (v.code.piece is s.pc ++ rest) s s → Sourced w s
+      → NotTrapped (run s (length is)) → GoesTo w u (length is) v.piece_steps (λ n x. At w x rest (run s (length is)) (run s (length is)) × (v.held w x b ≡ true))
   pub leave :
-      ((a : ℕ) → leader a ≡ true → IsEntryOf w a) → (e : End) (u s : State) → At w u (v.code.leave e s.pc) s s → Sourced w s
+      ((a : ℕ) → leader a ≡ true → IsEntryOf w a) → (e : End) (b : ℕ) (u s : State) → v.held w u b ≡ true → At w u (v.code.leave e s.pc) s s → Sourced w s
       → EndStands w leader e s.pc → IsSteady w.reached s (stops e) → Left w v leader u (run s (stops e)) (stops e)
+
+-- ---- the laws of the checks: what is seen on the way there
+-- where the test ends, all data words and registers, if it sweeps; else the cursor stays
+abbrev pub Keeps : (w : World) (v : Weave) (leader : ℕ → Bool) (u t : State) (least : ℕ) → Left w v leader u t least → Type 0
+Keeps w v leader u t least (inl x) = v.sweeps ≡ true → Swept w v.sweep_steps u x.steps
+Keeps w v leader u t least (inr x) = reg x.to 15 ≡ reg u 15
+
+pub record CheckedRows (w : World) (v : Weave) (leader : ℕ → Bool) : Type 0 where
+  pub rows : Rows w v leader
+  -- the cursor is at a word
+  pub word : (u : State) (b : ℕ) → v.held w u b ≡ true → IsCursor w.form.spans (reg u 15)
+  -- the entry leaves it where it is
+  pub enter :
+      (u s : State) (rest : List Item) (st : Stands w leader u s) (held : v.held w u s.pc ≡ true) (low : s.pc < 2 ^ 64)
+      (reads : Reads w.form.far w.code w.entry u.pc (v.code.enter s.pc ++ rest)) → reg (rows.enter u s rest st held low reads).to 15 ≡ reg u 15
+  -- in a piece all registers are compared, and a round of words is visited
+  pub piece :
+      (is : List Ins) (b : ℕ) (u s : State) (rest : List Item) (held : v.held w u b ≡ true) (p : PieceAt w v s.pc is)
+      (a : At w u (v.code.piece is s.pc ++ rest) s s) (so : Sourced w s) (calm : NotTrapped (run s (length is)))
+      → Checked w v.compare_steps v.round u (rows.piece is b u s rest held p a so calm).steps (rows.piece is b u s rest held p a so calm).to
+  pub leave :
+      (known : (a : ℕ) → leader a ≡ true → IsEntryOf w a) (e : End) (b : ℕ) (u s : State) (held : v.held w u b ≡ true)
+      (a : At w u (v.code.leave e s.pc) s s) (so : Sourced w s) (g : EndStands w leader e s.pc) (steady : IsSteady w.reached s (stops e))
+      → Keeps w v leader u (run s (stops e)) (stops e) (rows.leave known e b u s held a so g steady)
 
 -- of what runs first
 pub record Starts (f g : Program) (w : World) (v : Weave) (leader : ℕ → Bool) : Type 0 where
   pub first :
       Describes f g w → IsEntryOf w f.entry → leader f.entry ≡ true → Reads w.form.far w.code w.entry g.entry (v.code.first w.distance f.entry)
-      → (regs : List ℕ) → AreStartRegs regs → GoesTo w (start g regs) 1 v.first_steps (λ n x. Stands w leader x (start f zeros))
+      → (regs : List ℕ) → AreStartRegs regs → GoesTo w (start g regs) 1 v.first_steps (λ n x. Stands w leader x (start f zeros) × (v.held w x f.entry ≡ true))
 
 -- ---- the laws of the entry
 pub record Guarded (w : World) (v : Weave) (most : ℕ) : Type 0 where

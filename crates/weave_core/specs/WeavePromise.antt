@@ -20,7 +20,7 @@ use Rattle.weave_core.specs.World.{World}
 use Rattle.weave_core.specs.Describes.{Describes}
 use Rattle.weave_core.specs.Weave.{Weave, start_steps, stage_steps}
 use Rattle.qed_model.specs.Weave.Code.{Sequences, code_of, entries_of}
-use Rattle.weave_core.specs.WeaveLaws.{BlockOf, Rows, Starts, Guarded, Words}
+use Rattle.weave_core.specs.WeaveLaws.{BlockOf, Rows, CheckedRows, Starts, Guarded, Words}
 
 -- each of the blocks is a block of the input
 abbrev pub AllBlocksOf : World → Weave → (ℕ → Bool) → List Block → Type 0
@@ -63,7 +63,7 @@ pub record BoundsOf (w : World) (v : Weave) (bounds : Bounds) : Type 0 where
 -- and with those of the words changes are caught
 abbrev pub WeaveCaught : Type 0
 WeaveCaught =
-    (f g : Program) (w : World) (v : Weave) (blocks : List Block) (bounds : Bounds) → PlanOf f g w v blocks → Rows w v (begins_at blocks)
+    (f g : Program) (w : World) (v : Weave) (blocks : List Block) (bounds : Bounds) → PlanOf f g w v blocks → CheckedRows w v (begins_at blocks)
     → Starts f g w v (begins_at blocks) → Words w.form.far v → OnlyCode f g w v.code blocks → 1 ≤ v.round
     → 2 ≤ v.leave_steps → v.compare_steps + 17 ≤ v.piece_steps
     → BoundsOf w v bounds → Caught f g w.reached w.form.spans bounds
@@ -71,7 +71,7 @@ WeaveCaught =
 -- and with the sweep no change before it is silent at the end
 abbrev pub WeaveClean : Type 0
 WeaveClean =
-    (f g : Program) (w : World) (v : Weave) (blocks : List Block) → PlanOf f g w v blocks → Rows w v (begins_at blocks)
+    (f g : Program) (w : World) (v : Weave) (blocks : List Block) → PlanOf f g w v blocks → CheckedRows w v (begins_at blocks)
     → Starts f g w v (begins_at blocks) → Words w.form.far v → OnlyCode f g w v.code blocks → 1 ≤ v.round → 2 ≤ v.leave_steps
     → v.compare_steps + 17 ≤ v.piece_steps → v.sweeps ≡ true
     → Clean f g w.reached w.form.spans (v.sweep_steps + 14)

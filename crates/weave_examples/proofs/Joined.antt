@@ -6,7 +6,7 @@ use Rattle.rv_isa.specs.declared.ins.Ins.{Ins}
 use Rattle.rv_isa.specs.declared.kind.Kind.TheVariants.{Auipc}
 use Rattle.qed_model.specs.declared.item.Item.{Item}
 use Rattle.qed_model.specs.Machine.Table.{ins}
-use Rattle.qed_model.specs.Machine.Step.{State, HasAt, run}
+use Rattle.qed_model.specs.Machine.Step.{State, reg, HasAt, run}
 use Rattle.qed_model.specs.Machine.Program.{Program}
 use Rattle.qed_model.specs.Promise.Kept.{NotTrapped}
 use Rattle.qed_model.specs.Weave.Blocks.{begins_at}
@@ -15,7 +15,7 @@ use Rattle.qed_model.specs.Weave.Placed.{distance_between, upper_part}
 use Rattle.qed_model.specs.Weave.Sequences.{Form, guards, original, each_part, compare, visit}
 use Rattle.qed_model.proofs.Walk.{run-more}
 use Rattle.qed_model.proofs.Walked.{walk_on}
-use Rattle.weave_core.specs.World.{World, Quiet as Calm}
+use Rattle.weave_core.specs.World.{World, Quiet as Calm, IsCursor}
 use Rattle.weave_core.specs.Blocks.{FitsPiece, AllFit}
 use Rattle.weave_core.specs.Rows.{At, Sourced, Led, Mirrors}
 use Rattle.weave_core.specs.KindItems.{MirrorsFit}
@@ -23,14 +23,14 @@ use Rattle.weave_core.specs.Pass.{Views, Lockstep}
 use Rattle.weave_core.specs.Each.{items_each}
 use Rattle.weave_core.specs.Parts.{any, used, bare, GivesMirror, LeavesMirror}
 use Rattle.weave_core.specs.Weave.{Weave}
-use Rattle.weave_core.specs.WeaveLaws.{PieceAt, Holds, GoesTo, Inside, Behind, Words, Rows, Starts}
+use Rattle.weave_core.specs.WeaveLaws.{PieceAt, Holds, GoesTo, Inside, Checked, Words, CheckedRows, Starts}
 use Rattle.weave_core.proofs.Rows.{led_on, led_none, led_more}
 use Rattle.weave_core.proofs.Source.{source_run, not_trapped_front, has_front}
-use Rattle.weave_core.proofs.Visit.{checked_behind}
+use Rattle.weave_core.proofs.Visit.{checked_behind, words_within}
 use Rattle.weave_core.proofs.Landing.{has_rest}
 use Rattle.weave_core.proofs.Compose.{quiet_then, quiet_each, each_same}
 use Rattle.weave_core.proofs.PieceLaws.{never_originals, never_mirrors, for_mirrors, needs_originals, needs_mirrors, gives_originals, gives_mirrors, cost_parts, guarded_original}
-use Rattle.weave_core.proofs.FormRows.{plus, each_plus, NeedsOther, other_cost, quiet_other, quiet_front, lockstep_piece, front_row, both, both_steps, form_checks, enter_law, leave_row, starts_with, form_guarded}
+use Rattle.weave_core.proofs.FormRows.{held_parts, held_is, goes_is, plus, each_plus, NeedsOther, other_cost, quiet_other, quiet_front, lockstep_piece, front_row, both, both_steps, form_checks, rows_with, starts_with, form_guarded}
 use Rattle.weave_core.proofs.Values.{weave_kept}
 use Rattle.weave_core.proofs.Landings.{weave_landed}
 use Rattle.lockstep.proofs.FormWords.{form_words, visits_ten}
@@ -226,51 +226,61 @@ module _ (cut : List Ins → List (List Ins)) (keeps : (is : List Ins) → whole
         record { steps = g.steps; to = g.to; at_least = g.at_least; within = omega (arith, g.within, m, same); walk = g.walk; is = g.is }
 
     piece_law :
-        (is : List Ins) (u s : State) (rest : List Item) → PieceAt w j s.pc is → At w u (j.code.piece is s.pc ++ rest) s s → Sourced w s
-        → NotTrapped (run s (length is)) → GoesTo w u (length is) j.piece_steps (Behind w j u s (length is) rest)
-    piece_law is u s rest p a so calm =
+        (is : List Ins) (b : ℕ) (u s : State) (rest : List Item) → j.held w u b ≡ true → PieceAt w j s.pc is → At w u (j.code.piece is s.pc ++ rest) s s
+        → Sourced w s → NotTrapped (run s (length is)) → GoesTo w u (length is) j.piece_steps (λ n x. (At w x rest (run s (length is)) (run s (length is)) × (j.held w x b ≡ true)) × Checked w j.compare_steps j.round u n x)
+    piece_law is b u s rest held p a so calm =
+        let own = held_parts w u b held in
         let t = run s (length is) in
         let count : length (whole (cut is)) ≡ length is = ap length (keeps is) in
         let a1 = subst (λ l. At w u l s s) (append_assoc (runs_items w.form (cut is) s.pc) checks rest) a in
-        let b0 = runs_row w law (cut is) u s (checks ++ rest) (and_parts _ _ p.one).0 (subst AllFit (sym (keeps is)) p.fit) (subst (HasAt w.source s.pc) (sym (keeps is)) p.has) a1 so (subst (λ n. NotTrapped (run s n)) (sym count) calm) in
-        let b : Led w u (length is) (w.form.cost * length is) (both w most ++ rest) t t = subst (λ n. Led w u n (w.form.cost * n) (both w most ++ rest) (run s n) (run s n)) count b0 in
-        let x = (form_checks w.form).quiet.leads w (record { now = b.to; original = t; shadow = t; leads = leader }) rest tt b.at (refl, refl) in
+        let y0 = runs_row w law (cut is) u s (checks ++ rest) (and_parts _ _ p.one).0 (subst AllFit (sym (keeps is)) p.fit) (subst (HasAt w.source s.pc) (sym (keeps is)) p.has) a1 so (subst (λ n. NotTrapped (run s n)) (sym count) calm) in
+        let y : Led w u (length is) (w.form.cost * length is) (both w most ++ rest) t t = subst (λ n. Led w u n (w.form.cost * n) (both w most ++ rest) (run s n) (run s n)) count y0 in
+        let x = (form_checks w.form).quiet.leads w (record { now = y.to; original = t; shadow = t; leads = leader }) rest tt y.at (refl, refl, subst (IsCursor w.form.spans) (sym y.cursor) own.1) in
         let m = few is p.one in
         ⊎_elim
         (λ e.
-        let a2 : At w x.to.now rest t x.to.shadow = subst (λ y. At w x.to.now rest y x.to.shadow) e.1.original e.0 in
+        let a2 : At w x.to.now rest t x.to.shadow = subst (λ z. At w x.to.now rest z x.to.shadow) e.1.original e.0 in
+        let c = checked_behind w 0 w.form.round u y.to x.to.now y.steps (w.form.cost * most) x.steps (y.steps + x.steps) y.walk.ends y.cursor (omega (arith, y.within, m)) refl e.1.checked in
         record {
-          steps = b.steps + x.steps;
+          steps = y.steps + x.steps;
           to = x.to.now;
-          at_least = omega (arith, b.at_least);
-          within = omega (arith, b.within, x.within, m);
-          walk = walk_on (Calm w) u b.to x.to.now b.steps x.steps b.walk x.walk;
-          is = (subst (λ y. At w x.to.now rest t y) e.1.shadow a2, checked_behind w 0 w.form.round u b.to x.to.now b.steps (w.form.cost * most) x.steps (b.steps + x.steps) b.walk.ends b.cursor (omega (arith, b.within, m)) refl e.1.checked);
+          at_least = omega (arith, y.at_least);
+          within = omega (arith, y.within, x.within, m);
+          walk = walk_on (Calm w) u y.to x.to.now y.steps x.steps y.walk x.walk;
+          is = ((subst (λ z. At w x.to.now rest t z) e.1.shadow a2, held_is w x.to.now b (e.1.sign ∙ y.sign ∙ own.0) (subst (IsCursor w.form.spans) (sym c.cursor) (words_within w.form.spans w.base w.form.round (reg u 15) w.spans_good own.1))), c);
         })
         (λ l. absurd l)
         x.ends
 
-    joined_rows : Rows w j leader
-    joined_rows = record {
-      short = λ is e. let m : 3 * length is ≤ w.form.cost * length is = mul-le-mul law.enough (omega arith) in let h = few is e in omega (arith, h, m);
-      known = λ a b.
-          let i = ins Auipc 30 0 0 (upper_part (distance_between (w.entry a) a)) in
-          record { low = b.good.low; entry_low = omega (arith, w.low (w.entry a) i b.reads.1.0); grain = w.grain (w.entry a) i b.reads.1.0 };
-      enter = enter_law w most checks 0 (both_steps w most) (form_checks w.form) leader;
-      inside = inside_law;
-      piece = piece_law;
-      leave = leave_row w most checks 0 (both_steps w most) (form_checks w.form) leader law;
-    }
+    joined_rows : CheckedRows w j leader
+    joined_rows =
+        let old = rows_with w most checks 0 (both_steps w most) (form_checks w.form) leader law in
+        record {
+          rows = record {
+            short = λ is e. let m : 3 * length is ≤ w.form.cost * length is = mul-le-mul law.enough (omega arith) in let h = few is e in omega (arith, h, m);
+            known = λ a b.
+                let i = ins Auipc 30 0 0 (upper_part (distance_between (w.entry a) a)) in
+                record { low = b.good.low; entry_low = omega (arith, w.low (w.entry a) i b.reads.1.0); grain = w.grain (w.entry a) i b.reads.1.0 };
+            enter = old.rows.enter;
+            inside = inside_law;
+            piece = λ is b u s rest held p a so calm. goes_is (piece_law is b u s rest held p a so calm);
+            leave = old.rows.leave;
+          };
+          word = old.word;
+          enter = old.enter;
+          piece = λ is b u s rest held p a so calm. (piece_law is b u s rest held p a so calm).is.1;
+          leave = old.leave;
+        }
 
     joined_starts : (f g : Program) → Starts f g w j leader
     joined_starts f g = let old = starts_with w most checks 0 (both_steps w most) (form_checks w.form) leader f g in record { first = old.first }
 
   -- ---- the promises
   pub kept : JoinedKept cut
-  kept f g w most blocks p law = weave_kept f g w (joined cut w.form most) blocks p (joined_rows w most (begins_at blocks) law) (joined_starts w most (begins_at blocks) law f g)
+  kept f g w most blocks p law = weave_kept f g w (joined cut w.form most) blocks p (joined_rows w most (begins_at blocks) law).rows (joined_starts w most (begins_at blocks) law f g)
 
   pub landed : JoinedLanded cut
-  landed f g w most blocks entries p law known = weave_landed f g w (joined cut w.form most) blocks entries p (joined_rows w most (begins_at blocks) law) (joined_starts w most (begins_at blocks) law f g) (let o = form_guarded w most (both w most) 0 (both_steps w most) in record { signed = o.signed; fires = o.fires }) known
+  landed f g w most blocks entries p law known = weave_landed f g w (joined cut w.form most) blocks entries p (joined_rows w most (begins_at blocks) law).rows (joined_starts w most (begins_at blocks) law f g) (let o = form_guarded w most (both w most) 0 (both_steps w most) in record { signed = o.signed; fires = o.fires }) known
 
   pub caught : JoinedCaught cut
   caught f g w most blocks bounds p law fit closed some b =

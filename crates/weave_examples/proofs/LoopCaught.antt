@@ -1,6 +1,6 @@
 -- The promise on changes at work, on a known test with a loop: changes of x5, whose runs are worked out.
 use Rattle.std.proofs.Common.{◌≡◌, ℕ, ◌+◌, true, false, List, [], ◌∷◌, refl, ap, ◌∙◌, arith}
-use Rattle.std.specs.Prelude.{pos, neg_ℤ}
+use Rattle.std.specs.Prelude.{pos}
 use Rattle.rv_isa.specs.declared.kind.Kind.TheVariants.{Beq, Bne, Ebreak, Jal}
 use Rattle.qed_model.specs.Machine.Table.{ins}
 use Rattle.qed_model.specs.declared.change.Change.{Change}
