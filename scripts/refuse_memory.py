@@ -48,6 +48,7 @@ COMMANDS = [
     ("plan in", None),
     ("explain in --at 0x1309c", None),
     ("run in --steps 5 --fault 1:x10=5 --dump 0x10000:32", None),
+    ("run in --steps 100 --reached", None),
     ("list in", None),
     ("asm text out", None),
     ("asm text out", "old"),
