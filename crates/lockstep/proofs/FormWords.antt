@@ -21,8 +21,7 @@ use Rattle.weave_core.specs.Rows.{Mirrors}
 use Rattle.weave_core.specs.WeavePromise.{PlanOf, OnlyCode, BoundsOf}
 use Rattle.weave_core.specs.WeaveForms.{weave_with, weave_of, ChecksLaws}
 use Rattle.weave_core.proofs.FormRows.{lockstep_piece, both, both_steps, form_checks, rows_with, starts_with, form_rows, form_starts}
-use Rattle.lockstep.proofs.Promise.{weave_caught}
-use Rattle.lockstep.proofs.Cleaned.{weave_clean}
+use Rattle.lockstep.proofs.Weaves.{weave_caught, weave_clean}
 
 -- ---- the words
 -- of a form with any checks

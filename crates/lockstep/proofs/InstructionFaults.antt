@@ -40,8 +40,10 @@ use Rattle.lockstep.specs.InstructionFaults.{WritesOriginal, StoresOriginal, wor
 use Rattle.lockstep.specs.Promise.{IsBoundsOf}
 use Rattle.lockstep.proofs.FormWords.{form_words, visits_ten, bounds_in, plan_caught}
 use Rattle.lockstep.proofs.Made.{changed_later}
-use Rattle.lockstep.proofs.Promise.{begins, quiet_run}
+use Rattle.lockstep.proofs.Calm.{CalmCode, begins, loaded_at, quiet_run}
+use Rattle.lockstep.proofs.Weaves.{calm_plan}
 use Rattle.lockstep.proofs.Runs.{run-last}
+use Rattle.lockstep.proofs.Sets.{word_below}
 use Rattle.lockstep.proofs.Standing.{stands_run}
 use Rattle.lockstep.proofs.Tests as tests
 use Rattle.lockstep.proofs.WrongSteps.{opens_behind, writes_straight, is_open, Wrote, wrote, stored_step, any_struck, changed_there, struck_outcome, unchanged_before, with_one, with_two, found_out}
@@ -68,12 +70,6 @@ width_some Lwu = omega arith
 width_some Sw = omega arith
 width_some k = omega arith
 
--- a data word ends before the end of the ranges
-word_low : (spans : List (ℕ × ℕ)) (top a : ℕ) → AllBelow spans top → IsDataWord spans a → a + 8 ≤ top
-word_low [] top a low d = absurd d
-word_low (r ∷ rs) top a low (inl d) = omega (arith, d.2, low.0)
-word_low (r ∷ rs) top a low (inr d) = word_low rs top a low.1 d
-
 -- the bound of a word has two pieces
 big_word : (words round first piece b : ℕ) → 2 ≤ piece → word_bound words round first piece ≡ Some b → 2 ≤ b
 big_word zero round first piece b h e = absurd (cc)
@@ -83,30 +79,22 @@ big_word (suc n) round first piece b h e =
     let m : 1 * 2 ≤ ((suc n + round - 1) / round + 2) * piece = mul-le-mul one h in
     omega (arith, is, m)
 
-module _ (f g : Program) (w : World) (v : Weave) (blocks : List Block) (plan : PlanOf f g w v blocks) (rows : CheckedRows w v (begins_at blocks)) (starts : Starts f g w v (begins_at blocks)) (law : Words w.form.far v) (closes : OnlyCode f g w v.code blocks) (some : 1 ≤ v.round) (two : 2 ≤ v.leave_steps) (room : v.compare_steps + 17 ≤ v.piece_steps) (bounds : Bounds) (are_bounds : BoundsOf w v bounds) (caught : Caught f g w.reached w.form.spans bounds) (regs : List ℕ) (are : AreStartRegs regs) (n : ℕ) (i : Ins) (go : (run (start g regs) n).outcome ≡ Going) (at : next (run (start g regs) n) ≡ Known i) where
+module _ (f g : Program) (w : World) (code : CalmCode f g w) (bounds : Bounds) (big : 2 ≤ bounds.register) (wide : (b : ℕ) → bounds.word ≡ Some b → 2 ≤ b) (caught : Caught f g w.reached w.form.spans bounds) (regs : List ℕ) (are : AreStartRegs regs) (n : ℕ) (i : Ins) (go : (run (start g regs) n).outcome ≡ Going) (at : next (run (start g regs) n) ≡ Known i) where
   abbrev u : State
   u = run (start g regs) n
 
-  -- each state has its code
-  loaded_at : (k : ℕ) → Loaded w.code (span_bytes w.form.spans) (run (start g regs) k)
-  loaded_at k = (stands_run w.code (span_bytes w.form.spans) k (start g regs) (begins f g w v blocks plan rows starts law closes some two room regs are)).loaded
-
   -- the run is quiet here
   quiet_here : (b : ℕ) → 2 ≤ b → Steady f w.reached (n + 1 + b) → Undisturbed w.code (span_bytes w.form.spans) (run (start g regs) n)
-  quiet_here b big steady = (quiet_run f g w v blocks plan rows starts law closes some two room regs are (n + 1 + b) steady).each n (omega (arith, big)) go
-
-  -- a piece has two steps
-  big_piece : 2 ≤ stage_steps v
-  big_piece = omega (arith, room)
+  quiet_here b big steady = (quiet_run f g w code regs are (n + 1 + b) steady).each n (omega (arith, big)) go
 
   -- the instruction is of a kind
   fits : Undisturbed w.code (span_bytes w.form.spans) (run (start g regs) n) → HasKind w.code (run (start g regs) n).pc i
-  fits q = subst (HasKind w.code (run (start g regs) n).pc) (same_known (sym q.quiet.known ∙ sym ((loaded_at n).code (run (start g regs) n).pc) ∙ at)) q.quiet.fits
+  fits q = subst (HasKind w.code (run (start g regs) n).pc) (same_known (sym q.quiet.known ∙ sym ((loaded_at f g w code regs are n).code (run (start g regs) n).pc) ∙ at)) q.quiet.fits
 
   -- another number
   results : (o : State) → WritesOriginal i → GivesAny i (run (start g regs) n) o → Steady f w.reached (n + 1 + bounds.register) → FoundOut w.form.spans bounds.register o (λ k. run (start g regs) (n + 1 + k))
   results o wr any steady =
-      let q = quiet_here bounds.register (omega (arith, are_bounds.register, big_piece)) steady in
+      let q = quiet_here bounds.register big steady in
       let did = wrote i u go at wr q.quiet.no_trap in
       let st = any_struck i u o did any in
       change st.number q did st.is where
@@ -119,7 +107,7 @@ module _ (f g : Program) (w : World) (v : Weave) (blocks : List Block) (plan : P
             let going : (run (start g regs) (n + 1)).outcome ≡ Going = ap (λ y. y.outcome) next_is ∙ go in
             let on : (run (start g regs) n).pc + 4 ≡ next_pc (run (start g regs) n) = omega (arith, q.quiet.near) in
             let place_is : (run (start g regs) n).pc + 4 ≡ (run (start g regs) (n + 1)).pc = on ∙ sym (ap (λ y. y.pc) next_is) in
-            let free : IsOpen (run (start g regs) (n + 1)) (Reg i.rd) = is_open w.code (span_bytes w.form.spans) (run (start g regs) (n + 1)) i.rd (loaded_at (n + 1)) (subst (Opens w.code) place_is (opens_behind w.code (run (start g regs) n).pc i (fits q) (writes_straight i wr))) in
+            let free : IsOpen (run (start g regs) (n + 1)) (Reg i.rd) = is_open w.code (span_bytes w.form.spans) (run (start g regs) (n + 1)) i.rd (loaded_at f g w code regs are (n + 1)) (subst (Opens w.code) place_is (opens_behind w.code (run (start g regs) n).pc i (fits q) (writes_straight i wr))) in
             let there : changed_run (start g regs) (record { step = n + 1; place = Reg i.rd; value = x } ∷ []) (n + 1) ≡ o =
             changed_there (start g regs) (record { step = n + 1; place = Reg i.rd; value = x } ∷ []) n (omega arith, tt)
             ∙ with_one (record { step = n + 1; place = Reg i.rd; value = x }) (n + 1) (run (start g regs) (n + 1)) refl going
@@ -133,8 +121,8 @@ module _ (f g : Program) (w : World) (v : Weave) (blocks : List Block) (plan : P
   -- other bytes
   stores : (o : State) (b : ℕ) → StoresOriginal w.form.spans i (run (start g regs) n) → StoresAny i (run (start g regs) n) o → bounds.word ≡ Some b → Steady f w.reached (n + 1 + b) → FoundOut w.form.spans b o (λ k. run (start g regs) (n + 1 + k))
   stores o b so any bound steady =
-      let q = quiet_here b (big_word (word_count w.form.spans) v.round (start_steps v) (stage_steps v) b big_piece (sym are_bounds.word ∙ bound)) steady in
-      change (stored_step i u go at so.stores q.quiet.no_trap) (any_beside i u o (loaded_at n).small any) where
+      let q = quiet_here b (wide b bound) steady in
+      change (stored_step i u go at so.stores q.quiet.no_trap) (any_beside i u o (loaded_at f g w code regs are n).small any) where
         -- as changes of two words
         change :
             step (run (start g regs) n) ≡ stored (put (run (start g regs) n).memory (place i (run (start g regs) n)) (width_of i.kind) (reg (run (start g regs) n) i.rs2)) (next_pc (run (start g regs) n)) (run (start g regs) n)
@@ -144,10 +132,10 @@ module _ (f g : Program) (w : World) (v : Weave) (blocks : List Block) (plan : P
             let last = word_around (place i (run (start g regs) n) + width_of i.kind - 1) in
             let y = number by.memory (word_around (place i (run (start g regs) n))) 8 in
             let z = number by.memory (word_around (place i (run (start g regs) n) + width_of i.kind - 1)) 8 in
-            two_changes first last y z so.first so.last did by.is (two_words (run (start g regs) n).memory by.memory (place i (run (start g regs) n)) (width_of i.kind) (reg (run (start g regs) n) i.rs2) (width_some i.kind) (width_le i.kind) (omega (arith, ends, width_some i.kind)) (omega (arith, ends)) by.beside (loaded_at n).keys) where
+            two_changes first last y z so.first so.last did by.is (two_words (run (start g regs) n).memory by.memory (place i (run (start g regs) n)) (width_of i.kind) (reg (run (start g regs) n) i.rs2) (width_some i.kind) (width_le i.kind) (omega (arith, ends, width_some i.kind)) (omega (arith, ends)) by.beside (loaded_at f g w code regs are n).keys) where
               -- the last word ends before the end of all addresses
               ends : word_around (place i (run (start g regs) n) + width_of i.kind - 1) + 8 ≤ 2 ^ 64
-              ends = let low = word_low w.form.spans (w.base + w.distance) (word_around (place i (run (start g regs) n) + width_of i.kind - 1)) w.spans_low so.last in omega (arith, low, w.layout.top)
+              ends = let low = word_below w.form.spans (word_around (place i (run (start g regs) n) + width_of i.kind - 1)) (w.base + w.distance) w.spans_low so.last in omega (arith, low, w.layout.top)
 
               two_changes :
                   (first last y z : ℕ) → IsDataWord w.form.spans first → IsDataWord w.form.spans last
@@ -176,29 +164,23 @@ pub plan_faults :
     (f g : Program) (w : World) (most : ℕ) (blocks : List Block) (bounds : Bounds) → PlanOf f g w (weave_of w.form most) blocks → Mirrors w → Closes f g w blocks → 1 ≤ w.form.round → IsBoundsOf w.form most bounds
     → FaultsFound f g w.reached w.form.spans bounds
 plan_faults f g w most blocks bounds p law closes some b = record {
-  results = λ regs n i o are go at wr any steady. results f g w (weave_of w.form most) blocks plan rows starts words only some (omega arith) room bounds are_bounds caught regs are n i go at o wr any steady;
-  stores = λ regs n x i o are go at so any bound steady. stores f g w (weave_of w.form most) blocks plan rows starts words only some (omega arith) room bounds are_bounds caught regs are n i go at o x so any bound steady;
+  results = λ regs n i o are go at wr any steady. results f g w code bounds big wide caught regs are n i go at o wr any steady;
+  stores = λ regs n x i o are go at so any bound steady. stores f g w code bounds big wide caught regs are n i go at o x so any bound steady;
 } where
-  plan : PlanOf f g w (weave_of w.form most) blocks
-  plan = p
-
-  rows : CheckedRows w (weave_of w.form most) (begins_at blocks)
-  rows = form_rows w most (begins_at blocks) law
-
-  starts : Starts f g w (weave_of w.form most) (begins_at blocks)
-  starts = form_starts w most (begins_at blocks) f g
-
-  words : Words w.form.far (weave_of w.form most)
-  words = form_words w.form most closes.mirrors
-
-  only : OnlyCode f g w (sequences w.form) blocks
-  only = closes.only
-
-  room : (weave_of w.form most).compare_steps + 17 ≤ (weave_of w.form most).piece_steps
-  room = let ten = visits_ten w.form.spans w.form.round some in omega (arith, ten)
+  code : CalmCode f g w
+  code = calm_plan f g w (weave_of w.form most) blocks p (form_rows w most (begins_at blocks) law).rows (form_starts w most (begins_at blocks) f g) (form_words w.form most closes.mirrors) closes.only
 
   are_bounds : BoundsOf w (weave_of w.form most) bounds
   are_bounds = bounds_in w most bounds b
+
+  big_piece : 2 ≤ stage_steps (weave_of w.form most)
+  big_piece = omega arith
+
+  big : 2 ≤ bounds.register
+  big = omega (arith, are_bounds.register)
+
+  wide : (n : ℕ) → bounds.word ≡ Some n → 2 ≤ n
+  wide n e = big_word (word_count w.form.spans) w.form.round (start_steps (weave_of w.form most)) (stage_steps (weave_of w.form most)) n big_piece (sym are_bounds.word ∙ e)
 
   caught : Caught f g w.reached w.form.spans bounds
   caught = plan_caught f g w most blocks bounds p law closes some b

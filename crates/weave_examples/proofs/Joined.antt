@@ -34,8 +34,7 @@ use Rattle.weave_core.proofs.FormRows.{held_parts, held_is, goes_is, plus, each_
 use Rattle.weave_core.proofs.Values.{weave_kept}
 use Rattle.weave_core.proofs.Landings.{weave_landed}
 use Rattle.lockstep.proofs.FormWords.{form_words, visits_ten}
-use Rattle.lockstep.proofs.Promise.{weave_caught}
-use Rattle.lockstep.proofs.Cleaned.{weave_clean}
+use Rattle.lockstep.proofs.Weaves.{weave_caught, weave_clean}
 use Rattle.weave_examples.specs.Joined.{all_runs, runs_items, joined, JoinedKept, JoinedLanded, JoinedCaught, JoinedClean}
 
 -- ---- lists in two parts

@@ -1,5 +1,5 @@
-use Rattle.lockstep.proofs.Promise as promise
+use Rattle.lockstep.proofs.Weaves as weaves
 use Rattle.lockstep.proofs.weave_caught.Goals as goal
 
 pub returns : goal.returns
-returns c = promise.weave_caught
+returns c = weaves.weave_caught

@@ -1,0 +1,121 @@
+-- Any weave: its code is calm, and by its trace changes are caught.
+use Rattle.std.proofs.Common.{◌≡◌, ℕ, zero, suc, ◌+◌, ◌*◌, ◌≤◌, true, List, [], ◌∷◌, Some, refl, ap, ◌∙◌, arith, Bool}
+use Rattle.rv_isa.specs.declared.ins.Ins.{Ins}
+use Rattle.rv_isa.specs.declared.class.Class.{Class}
+use Rattle.rv_isa.specs.declared.class.Class.TheVariants as class
+use Rattle.rv_isa.specs.Kind.{class_of}
+use Rattle.qed_model.specs.declared.bounds.Bounds.{Bounds}
+use Rattle.qed_model.specs.Admission.DataRanges.{word_count}
+use Rattle.qed_model.specs.Machine.Program.{Program}
+use Rattle.qed_model.specs.Promise.Caught.{Caught}
+use Rattle.qed_model.specs.Promise.Clean.{Clean}
+use Rattle.qed_model.specs.Weave.Blocks.{begins_at}
+use Rattle.qed_model.specs.Weave.Bounds.{word_bound}
+use Rattle.qed_model.specs.Weave.Pieces.{piece_count}
+use Rattle.qed_model.specs.Weave.Sequences.{Block, End, Falls, Stops}
+use Rattle.weave_core.specs.Blocks.{Leaves, EndStands}
+use Rattle.weave_core.specs.KindItems.{AllBlocks, IsEnd, end_branches, end_jumps, end_jumps_reg, end_ends, end_illegal, AllPieces, GoodEnd}
+use Rattle.weave_core.specs.Weave.{Weave, start_steps, stage_steps}
+use Rattle.weave_core.specs.WeaveLaws.{CheckedRows, Rows, Starts, Words, PiecesAt}
+use Rattle.weave_core.specs.WeavePromise.{AllBlocksOf, PlanOf, OnlyCode, BoundsOf, WeaveCaught, WeaveClean}
+use Rattle.weave_core.specs.World.{World}
+use Rattle.weave_core.proofs.Values.{WeaveIn, kept, quiet_at, plan_in}
+use Rattle.lockstep.proofs.Beating.{round_some, sizes, traced, Bound, swept_end}
+use Rattle.lockstep.proofs.Calm.{CalmCode}
+use Rattle.lockstep.proofs.Cleaned.{cleaned}
+use Rattle.lockstep.proofs.Coded.{word_at, entries_open}
+use Rattle.lockstep.proofs.Promise.{Times, BoundsBy, settles}
+use Rattle.lockstep.proofs.Trace.{Sizes}
+
+-- an instruction that ends a block
+end_of : (w : World) (leader : ℕ → Bool) (i : Ins) (at : ℕ) (k : Class) → class_of i.kind ≡ k → Leaves k w leader i at → IsEnd i
+end_of w leader i at class.End e l = end_ends e
+end_of w leader i at class.Illegal e l = end_illegal e
+end_of w leader i at class.Jump e l = end_jumps e l.0
+end_of w leader i at class.Branch e l = end_branches e l.0 l.1
+end_of w leader i at class.JumpReg e l = end_jumps_reg e l.0 l.1
+end_of w leader i at k e l = absurd l
+
+-- of any end
+good_end : (w : World) (leader : ℕ → Bool) (e : End) (at : ℕ) → EndStands w leader e at → GoodEnd e
+good_end w leader Falls at l = tt
+good_end w leader (Stops i) at l = end_of w leader i at (class_of i.kind) refl l.1
+
+-- pieces, and the end behind them
+record Whole (ps : List (List Ins)) (e : End) : Type 0 where
+  pieces : AllPieces ps
+  end : GoodEnd e
+
+-- of pieces and the end behind them
+whole : (w : World) (v : Weave) (leader : ℕ → Bool) (ps : List (List Ins)) (e : End) (at : ℕ) → PiecesAt w v leader ps e at → Whole ps e
+whole w v leader [] e at p = record { pieces = tt; end = good_end w leader e at p }
+whole w v leader (p ∷ ps) e at q = let r = whole w v leader ps e _ q.1 in record { pieces = (q.0.fit, r.pieces); end = r.end }
+
+-- of all blocks
+pub all_blocks : (w : World) (v : Weave) (leader : ℕ → Bool) (bs : List Block) → AllBlocksOf w v leader bs → AllBlocks bs
+all_blocks w v leader [] g = tt
+all_blocks w v leader (b ∷ bs) g = let x = whole w v leader b.body b.end b.start g.0.pieces in (x.pieces, x.end, all_blocks w v leader bs g.1)
+
+-- ---- the code of a plan
+pub calm_plan :
+    (f g : Program) (w : World) (v : Weave) (blocks : List Block) → PlanOf f g w v blocks → Rows w v (begins_at blocks) → Starts f g w v (begins_at blocks)
+    → Words w.form.far v → OnlyCode f g w v.code blocks → CalmCode f g w
+calm_plan f g w v blocks plan rows starts law closes =
+    let good = all_blocks w v (begins_at blocks) blocks plan.good in
+    let woven = plan_in f g w v blocks plan rows starts in
+    record {
+      world = plan.world;
+      words = word_at f g w v blocks law closes good plan.words;
+      entries = entries_open f g w v blocks law closes good plan.words;
+      calm = λ regs are m steady. (kept f g w v (begins_at blocks) woven).quiet regs m are steady;
+      quiet = quiet_at f g w v (begins_at blocks) woven;
+    }
+
+-- where there are words, the bound of a word
+word_bound_is : (words round first piece : ℕ) → 1 ≤ words → word_bound words round first piece ≡ Some (first + (piece_count round words + 2) * piece)
+word_bound_is zero round first piece h = absurd (omega (arith, h))
+word_bound_is (suc n) round first piece h = refl
+
+-- ---- the promises
+module _ (f g : Program) (w : World) (v : Weave) (blocks : List Block) (plan : PlanOf f g w v blocks) (rows : CheckedRows w v (begins_at blocks)) (starts : Starts f g w v (begins_at blocks)) (law : Words w.form.far v) (closes : OnlyCode f g w v.code blocks) (some : 1 ≤ v.round) (two : 2 ≤ v.leave_steps) (room : v.compare_steps + 17 ≤ v.piece_steps) where
+  -- the output is woven from the input
+  woven : WeaveIn f g w v (begins_at blocks)
+  woven = plan_in f g w v blocks plan rows.rows starts
+
+  -- its code is calm
+  code : CalmCode f g w
+  code = calm_plan f g w v blocks plan rows.rows starts law closes
+
+  -- the sizes of the trace
+  abbrev z : Sizes
+  z = sizes f g w v (begins_at blocks) rows woven two room
+
+  times : Times w z v.round
+  times = record { words = refl; same = λ h. round_some (word_count w.form.spans) v.round h; some = some; big = omega (arith, room); fits = omega arith }
+
+  -- the bounds by them
+  by : (bounds : Bounds) → BoundsOf w v bounds → BoundsBy w z v.round v.first_steps bounds
+  by bounds are = record {
+    register = let r = are.register in omega (arith, r);
+    word = λ h. are.word ∙ word_bound_is (word_count w.form.spans) v.round (start_steps v) (stage_steps v) h ∙ ap Some (omega arith);
+  }
+
+  -- changes are caught
+  pub catches : (bounds : Bounds) → BoundsOf w v bounds → Caught f g w.reached w.form.spans bounds
+  catches bounds are = record {
+    settles = λ regs cs b start ordered free bound steady going.
+        settles f g w code regs start z v.round v.first_steps (Bound f g w v (begins_at blocks) rows woven two room regs start) times (traced f g w v (begins_at blocks) rows woven two room regs start) bounds (by bounds are) cs b ordered free bound steady;
+  }
+
+  -- with the sweep none ends silently
+  pub cleans : v.sweeps ≡ true → Clean f g w.reached w.form.spans (v.sweep_steps + 14)
+  cleans sweeps = record {
+    settles = λ regs cs e start ordered free early ended first steady.
+        cleaned f g w code v.sweep_steps regs start cs e ordered free early ended first steady (λ always going. swept_end f g w v (begins_at blocks) rows woven two room regs start e always sweeps ended going);
+  }
+
+pub weave_caught : WeaveCaught
+weave_caught f g w v blocks bounds plan rows starts law closes some two room are = catches f g w v blocks plan rows starts law closes some two room bounds are
+
+pub weave_clean : WeaveClean
+weave_clean f g w v blocks plan rows starts law closes some two room sweeps = cleans f g w v blocks plan rows starts law closes some two room sweeps
