@@ -1,5 +1,5 @@
 -- The stages of any weave: from a boundary of pieces to the next, with one comparison of all registers and the visits.
-use Rattle.std.proofs.Common.{◌≡◌, ℕ, ◌+◌, ◌*◌, ◌≤◌, ◌⊎◌, inl, inr, Bool, true, List, [], ◌∷◌, ◌++◌, length, refl, sym, subst, arith}
+use Rattle.std.proofs.Common.{◌≡◌, ℕ, ◌+◌, ◌*◌, ◌≤◌, ◌⊎◌, inl, inr, Bool, true, List, [], ◌∷◌, ◌++◌, length, refl, sym, ap, ◌∙◌, subst, arith}
 use Rattle.std.proofs.lemmas.List.{append_assoc}
 use Rattle.rv_isa.specs.declared.ins.Ins.{Ins}
 use Rattle.qed_model.specs.declared.machine.Outcome.TheVariants.{Going, Ended}
@@ -23,15 +23,15 @@ module _ (w : World) (v : Weave) (leader : ℕ → Bool) (checks : CheckedRows w
   -- ---- boundaries: an entry, or behind a piece
   pub data Bounded (x s : State) : Type 0 where
     entering : Stands w leader x s → v.held w x s.pc ≡ true → Sourced w s → Bounded x s
-    behind : (more : List (List Ins)) (end : End) (b : ℕ) → v.held w x b ≡ true → At w x (body_of v.code more end s.pc) s s → Sourced w s → PiecesAt w v leader more end s.pc → Full more end → Bounded x s
+    behind : (more : List (List Ins)) (end : End) (b : ℕ) → v.held w x b ≡ true → v.ends_at b (s.pc + 4 * body_length more) ≡ true → At w x (body_of v.code more end s.pc) s s → Sourced w s → PiecesAt w v leader more end s.pc → Full more end → Bounded x s
 
   pub bounded_going : (x s : State) → Bounded x s → x.outcome ≡ Going
   bounded_going x s (entering st held so) = st.over.going
-  bounded_going x s (behind more end b held a so p f) = a.over.going
+  bounded_going x s (behind more end b held own a so p f) = a.over.going
 
   pub bounded_cursor : (x s : State) → Bounded x s → IsCursor w.form.spans (reg x 15)
   bounded_cursor x s (entering st held so) = checks.word x s.pc held
-  bounded_cursor x s (behind more end b held a so p f) = checks.word x b held
+  bounded_cursor x s (behind more end b held own a so p f) = checks.word x b held
 
   -- from a boundary to the next, with so many steps at most before the piece
   pub record Staged (x s : State) (before : ℕ) : Type 0 where
@@ -63,9 +63,9 @@ module _ (w : World) (v : Weave) (leader : ℕ → Bool) (checks : CheckedRows w
 
   -- through a piece
   piece_stage :
-      (p : List Ins) (ps : List (List Ins)) (e : End) (b : ℕ) (u s : State) → v.held w u b ≡ true → At w u (body_of v.code (p ∷ ps) e s.pc) s s → Sourced w s
+      (p : List Ins) (ps : List (List Ins)) (e : End) (b : ℕ) (u s : State) → v.held w u b ≡ true → v.ends_at b (s.pc + 4 * body_length (p ∷ ps)) ≡ true → At w u (body_of v.code (p ∷ ps) e s.pc) s s → Sourced w s
       → PiecesAt w v leader (p ∷ ps) e s.pc → Full (p ∷ ps) e → NotTrapped (run s (length p)) → Staged u s 0
-  piece_stage p ps e b u s held a so q f calm =
+  piece_stage p ps e b u s held own a so q f calm =
       let k = length p in
       let t = run s (length p) in
       let x = source_run w p k s (omega arith) q.0.fit so q.0.has calm in
@@ -84,7 +84,7 @@ module _ (w : World) (v : Weave) (leader : ℕ → Bool) (checks : CheckedRows w
         slow = r.at_least;
         walk = r.walk;
         checked = subst (λ l. Checked w l v.round u r.steps r.to) zero (checks.piece p b u s rest held q.0 a2 so calm);
-        next = behind ps e b r.is.1 (subst (λ k. At w r.to (body_of v.code ps e k) t t) (sym there) r.is.0) x.sourced (subst (λ k. PiecesAt w v leader ps e k) (sym there) q.1) (full_rest p ps e f);
+        next = behind ps e b r.is.1 (subst (λ k. v.ends_at b k ≡ true) (far ∙ ap (λ k. k + 4 * body_length ps) (sym there)) own) (subst (λ k. At w r.to (body_of v.code ps e k) t t) (sym there) r.is.0) x.sourced (subst (λ k. PiecesAt w v leader ps e k) (sym there) q.1) (full_rest p ps e f);
       }
 
   -- from an entry
@@ -98,7 +98,7 @@ module _ (w : World) (v : Weave) (leader : ℕ → Bool) (checks : CheckedRows w
       let at : At w r.to (body_of v.code (p ∷ ps) b.end s.pc) s s = subst (λ l. At w r.to (body_of v.code l b.end s.pc) s s) b.good.some.2 r.is.0 in
       let full : Full (p ∷ ps) b.end = subst (λ l. Full l b.end) b.good.some.2 b.good.full in
       let have : PiecesAt w v leader (p ∷ ps) b.end s.pc = subst (λ l. PiecesAt w v leader l b.end s.pc) b.good.some.2 b.good.pieces in
-      let g = piece_stage p ps b.end s.pc r.to s r.is.1 at so have full (not_trapped_le s (length p) v.piece_steps (checks.rows.short p have.0.one) calm) in
+      let g = piece_stage p ps b.end s.pc r.to s r.is.1 (subst (λ l. v.ends_at s.pc (s.pc + 4 * body_length l) ≡ true) b.good.some.2 b.good.own) at so have full (not_trapped_le s (length p) v.piece_steps (checks.rows.short p have.0.one) calm) in
       staged_on u r.to s 0 r.steps v.enter_steps 0 r.walk (checks.enter u s (body_of v.code b.body b.end s.pc) st held b.good.low reads) r.within (omega arith) (subst (λ t. Staged r.to t 0) (sym (none_run s)) g)
 
   -- the test has ended
@@ -118,18 +118,19 @@ module _ (w : World) (v : Weave) (leader : ℕ → Bool) (checks : CheckedRows w
 
   -- from behind a piece
   behind_stage :
-      (ps : List (List Ins)) (e : End) (b : ℕ) (x s : State) → v.held w x b ≡ true → At w x (body_of v.code ps e s.pc) s s → Sourced w s → PiecesAt w v leader ps e s.pc → Full ps e
+      (ps : List (List Ins)) (e : End) (b : ℕ) (x s : State) → v.held w x b ≡ true → v.ends_at b (s.pc + 4 * body_length ps) ≡ true → At w x (body_of v.code ps e s.pc) s s → Sourced w s → PiecesAt w v leader ps e s.pc → Full ps e
       → IsSteady w.reached s (2 + v.piece_steps) → Staged x s (v.leave_steps + v.enter_steps) ⊎ Finishes x
-  behind_stage (p ∷ ps) e b x s held at so q f steady =
+  behind_stage (p ∷ ps) e b x s held own at so q f steady =
       let h = checks.rows.short p q.0.one in
-      inl (staged_more x s 0 (v.leave_steps + v.enter_steps) (omega arith) (piece_stage p ps e b x s held at so q f (not_trapped_le s (length p) (2 + v.piece_steps) (omega (arith, h)) steady.no_trap)))
-  behind_stage [] e b x s held at so q f steady =
+      inl (staged_more x s 0 (v.leave_steps + v.enter_steps) (omega arith) (piece_stage p ps e b x s held own at so q f (not_trapped_le s (length p) (2 + v.piece_steps) (omega (arith, h)) steady.no_trap)))
+  behind_stage [] e b x s held own at so q f steady =
       let z : s.pc + 4 * 0 ≡ s.pc = omega arith in
       let at0 : At w x (v.code.leave e s.pc) s s = subst (λ k. At w x (v.code.leave e k) s s) z at in
+      let own0 : v.ends_at b s.pc ≡ true = subst (λ k. v.ends_at b k ≡ true) z own in
       let o = one e in
       let known : (a : ℕ) → leader a ≡ true → IsEntryOf w a = λ a l. checks.rows.known a (entries a l) in
       let calm = steady_le w.reached s (stops e) (2 + v.piece_steps) (omega (arith, o)) steady in
-      from_left (checks.rows.leave known e b x s held at0 so q calm) (checks.leave known e b x s held at0 so q calm) where
+      from_left (checks.rows.leave known e b x s held own0 at0 so q calm) (checks.leave known e b x s held own0 at0 so q calm) where
         one : (e : End) → stops e ≤ 1
         one Falls = omega arith
         one (Stops i) = omega arith
@@ -151,4 +152,4 @@ module _ (w : World) (v : Weave) (leader : ℕ → Bool) (checks : CheckedRows w
   -- from any boundary
   pub stage : (x s : State) → Bounded x s → IsSteady w.reached s (2 + v.piece_steps) → Staged x s (v.leave_steps + v.enter_steps) ⊎ Finishes x
   stage x s (entering st held so) steady = inl (staged_more x s (v.enter_steps + 0) (v.leave_steps + v.enter_steps) (omega arith) (entry_stage x s st held so (not_trapped_le s v.piece_steps (2 + v.piece_steps) (omega arith) steady.no_trap)))
-  stage x s (behind more end b held a so p f) steady = behind_stage more end b x s held a so p f steady
+  stage x s (behind more end b held own a so p f) steady = behind_stage more end b x s held own a so p f steady

@@ -322,12 +322,12 @@ module _ (w : World) (most : ℕ) (checks : List Item) (first steps : ℕ) (laws
         enter = λ u s rest st held low r. goes_is (enter_law u s rest st held low r);
         inside = inside_law;
         piece = λ is b u s rest held p a so calm. goes_is (piece_law is b u s rest held p a so calm);
-        leave = λ known e b u s held a so g steady. (leave_row known e b u s held a so g steady).0;
+        leave = λ known e b u s held own a so g steady. (leave_row known e b u s held a so g steady).0;
       };
       word = λ u b held. (held_parts w u b held).1;
       enter = λ u s rest st held low r. (enter_law u s rest st held low r).is.1;
       piece = λ is b u s rest held p a so calm. (piece_law is b u s rest held p a so calm).is.1;
-      leave = λ known e b u s held a so g steady. (leave_row known e b u s held a so g steady).1;
+      leave = λ known e b u s held own a so g steady. (leave_row known e b u s held a so g steady).1;
     }
 
   -- ---- what runs first

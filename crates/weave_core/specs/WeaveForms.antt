@@ -1,6 +1,6 @@
 -- The forms of the code are a weave: near and far, with or without the sweep, with either kind of mirror part. So are they with other
 -- checks behind the parts of a piece.
-use Rattle.std.specs.Prelude.{◌≡◌, ℕ, ◌+◌, ◌*◌, Bool, ◌&&◌, ◌==◌, nat_le, cond, List, [], ◌++◌, length}
+use Rattle.std.specs.Prelude.{◌≡◌, ℕ, ◌+◌, ◌*◌, Bool, true, ◌&&◌, ◌==◌, nat_le, cond, List, [], ◌++◌, length}
 use Rattle.qed_model.specs.declared.item.Item.{Item}
 use Rattle.qed_model.specs.Admission.DataRanges.{word_count}
 use Rattle.qed_model.specs.Weave.Bounds.{visit_bound, end_bound}
@@ -31,6 +31,7 @@ weave_with form most checks first steps = record {
   sweeps = form.sweep;
   sweep_steps = 2 * length form.spans + 8 * word_count form.spans;
   round = form.round;
+  ends_at = λ b at. true;
   held = is_signed_at;
 }
 

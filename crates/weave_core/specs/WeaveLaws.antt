@@ -12,7 +12,7 @@ use Rattle.qed_model.specs.Machine.Program.{Program, start, zeros, AreStartRegs}
 use Rattle.qed_model.specs.Promise.Kept.{NotTrapped, IsSteady}
 use Rattle.qed_model.specs.Promise.Changed.{IsDataWord}
 use Rattle.qed_model.specs.Weave.Halves.{Flagged}
-use Rattle.qed_model.specs.Weave.Sequences.{Reads, End, Falls, Stops, Block}
+use Rattle.qed_model.specs.Weave.Sequences.{Reads, End, Falls, Stops, Block, body_length}
 use Rattle.weave_core.specs.World.{World, Quiet, Twice, IsCursor, words_on}
 use Rattle.weave_core.specs.Blocks.{AllFit, Full, EndStands, IsEntryOf}
 use Rattle.weave_core.specs.Rows.{At, Sourced}
@@ -41,6 +41,7 @@ pub record BlockOf (w : World) (v : Weave) (leader : ℕ → Bool) (b : Block) :
   pub pieces : PiecesAt w v leader b.body b.end b.start
   pub some : (p : List Ins) × (ps : List (List Ins)) × (b.body ≡ p ∷ ps)
   pub full : Full b.body b.end
+  pub own : v.ends_at b.start (b.start + 4 * body_length b.body) ≡ true
 
 -- the entry of a leader stands in the output
 pub record EntryAt (w : World) (v : Weave) (leader : ℕ → Bool) (a : ℕ) : Type 0 where
@@ -142,8 +143,8 @@ pub record Rows (w : World) (v : Weave) (leader : ℕ → Bool) : Type 0 where
       (is : List Ins) (b : ℕ) (u s : State) (rest : List Item) → v.held w u b ≡ true → PieceAt w v s.pc is → At w u (v.code.piece is s.pc ++ rest) s s → Sourced w s
       → NotTrapped (run s (length is)) → GoesTo w u (length is) v.piece_steps (λ n x. At w x rest (run s (length is)) (run s (length is)) × (v.held w x b ≡ true))
   pub leave :
-      ((a : ℕ) → leader a ≡ true → IsEntryOf w a) → (e : End) (b : ℕ) (u s : State) → v.held w u b ≡ true → At w u (v.code.leave e s.pc) s s → Sourced w s
-      → EndStands w leader e s.pc → IsSteady w.reached s (stops e) → Left w v leader u (run s (stops e)) (stops e)
+      ((a : ℕ) → leader a ≡ true → IsEntryOf w a) → (e : End) (b : ℕ) (u s : State) → v.held w u b ≡ true → v.ends_at b s.pc ≡ true → At w u (v.code.leave e s.pc) s s
+      → Sourced w s → EndStands w leader e s.pc → IsSteady w.reached s (stops e) → Left w v leader u (run s (stops e)) (stops e)
 
 -- ---- the laws of the checks: what is seen on the way there
 -- where the test ends, all data words and registers, if it sweeps; else the cursor stays
@@ -165,9 +166,9 @@ pub record CheckedRows (w : World) (v : Weave) (leader : ℕ → Bool) : Type 0 
       (a : At w u (v.code.piece is s.pc ++ rest) s s) (so : Sourced w s) (calm : NotTrapped (run s (length is)))
       → Checked w v.compare_steps v.round u (rows.piece is b u s rest held p a so calm).steps (rows.piece is b u s rest held p a so calm).to
   pub leave :
-      (known : (a : ℕ) → leader a ≡ true → IsEntryOf w a) (e : End) (b : ℕ) (u s : State) (held : v.held w u b ≡ true)
+      (known : (a : ℕ) → leader a ≡ true → IsEntryOf w a) (e : End) (b : ℕ) (u s : State) (held : v.held w u b ≡ true) (own : v.ends_at b s.pc ≡ true)
       (a : At w u (v.code.leave e s.pc) s s) (so : Sourced w s) (g : EndStands w leader e s.pc) (steady : IsSteady w.reached s (stops e))
-      → Keeps w v leader u (run s (stops e)) (stops e) (rows.leave known e b u s held a so g steady)
+      → Keeps w v leader u (run s (stops e)) (stops e) (rows.leave known e b u s held own a so g steady)
 
 -- of what runs first
 pub record Starts (f g : Program) (w : World) (v : Weave) (leader : ℕ → Bool) : Type 0 where
