@@ -1,0 +1,112 @@
+-- Rows of the signature: straight words that change x16 and x30 alone.
+use Rattle.std.proofs.Common.{◌≡◌, ℕ, ◌+◌, ◌%◌, ◌^◌, ◌<◌, ◌≤◌, ⊎_elim, Bool, true, false, cond, List, [], ◌∷◌, ◌++◌, length, refl, sym, ap, ◌∙◌, subst, arith}
+use Rattle.std.specs.Prelude.{◌==◌, ℤ, pos, ◌+ℤ◌, ◌-ℤ◌, slice_index}
+use Rattle.std.proofs.lemmas.Bool.{cases_Bool, eqb-true}
+use Rattle.std.proofs.lemmas.Int.{ints}
+use Rattle.rv_isa.specs.declared.ins.Ins.{Ins}
+use Rattle.rv_isa.specs.declared.kind.Kind.TheVariants.{Lui, Addi, Add}
+use Rattle.rv_isa.specs.Regs.{set_reg}
+use Rattle.rv_isa.proofs.RegsLaws.{slice_index-set_reg_other, slice_index-set_reg_same, length-set_reg}
+use Rattle.qed_model.specs.declared.item.Item.{Item}
+use Rattle.qed_model.specs.declared.item.Item.TheVariants.{Plain}
+use Rattle.qed_model.specs.Machine.Table.{ins}
+use Rattle.qed_model.specs.Machine.Values.{wrapped}
+use Rattle.qed_model.specs.Machine.Step.{State, reg, moved, result, computed_value}
+use Rattle.qed_model.specs.Weave.Placed.{distance_between, upper_part, lower_part}
+use Rattle.qed_model.specs.Weave.Sequences.{Reads}
+use Rattle.qed_model.proofs.Walk.{Over, over_moved}
+use Rattle.qed_model.proofs.Walked.{walk_none}
+use Rattle.qed_model.proofs.Wrapped.{wrapped-add, wrapped-lt, difference}
+use Rattle.weave_core.specs.World.{World, Quiet}
+use Rattle.weave_core.proofs.Indirect.{addi_value}
+use Rattle.weave_core.proofs.Sets.{Sets, sets_on, sets_compute}
+use Rattle.weave_core.proofs.Visit.{add_result}
+use Rattle.lean_weave.specs.Lean.{is_short, turn_by, turn}
+
+-- what LUI gives
+lui_value : (u : State) (r : ℕ) (z : ℤ) → result Lui (ins Lui r 0 0 z) u ≡ wrapped z
+unfolding computed_value
+lui_value u r z = refl
+
+-- both parts together
+parts_sum : (d : ℤ) → (wrapped (upper_part d) + wrapped (lower_part d)) % 2 ^ 64 ≡ wrapped d
+parts_sum d = sym (wrapped-add (upper_part d) (lower_part d)) ∙ ap wrapped (both d (upper_part d)) where
+  both : (x y : ℤ) → y +ℤ (x -ℤ y) ≡ x
+  both x y = omega (arith, ints)
+
+-- in at most so many steps to the same state with x16 at a number, and some x30
+pub record Signed (w : World) (u : State) (rest : List Item) (most number : ℕ) : Type 0 where
+  pub steps : ℕ
+  pub regs : List ℕ
+  pub within : steps ≤ most
+  pub long : length regs ≡ 32
+  pub same : (q : ℕ) → (q ≡ 16 → ⊥) → (q ≡ 30 → ⊥) → slice_index regs q ≡ reg u q
+  pub sign : slice_index regs 16 ≡ number
+  pub sets : Sets w u steps rest regs
+
+module _ (w : World) (u : State) (rest : List Item) (o : Over w.code u) (long : length u.regs ≡ 32) where
+  -- a distance is added
+  turn_short : (d : ℤ) → Reads w.form.far w.code w.entry u.pc (Plain (ins Addi 16 16 0 d) ∷ rest) → Signed w u rest 3 ((reg u 16 + wrapped d) % 2 ^ 64)
+  turn_short d h =
+      let v = (reg u 16 + wrapped d) % 2 ^ 64 in
+      record {
+        steps = 1;
+        regs = set_reg 16 v u.regs;
+        within = omega arith;
+        long = length-set_reg u.regs 16 v ∙ long;
+        same = λ q a b. slice_index-set_reg_other u.regs 16 v q a;
+        sign = slice_index-set_reg_same u.regs 16 v (omega arith) (omega (arith, long));
+        sets = sets_compute w u (ins Addi 16 16 0 d) v rest o h refl (λ e. absurd (cc)) (addi_value u 16 16 (reg u 16) v d refl refl);
+      }
+
+  turn_far :
+      (d : ℤ) → Reads w.form.far w.code w.entry u.pc (Plain (ins Lui 30 0 0 (upper_part d)) ∷ Plain (ins Addi 30 30 0 (lower_part d)) ∷ Plain (ins Add 16 16 30 (pos 0)) ∷ rest)
+      → Signed w u rest 3 ((reg u 16 + wrapped d) % 2 ^ 64)
+  turn_far d h =
+      let x = wrapped (upper_part d) in
+      let y = wrapped d in
+      let v = (reg u 16 + wrapped d) % 2 ^ 64 in
+      let r1 = set_reg 30 x u.regs in
+      let r2 = set_reg 30 y r1 in
+      let long1 : length r1 ≡ 32 = length-set_reg u.regs 30 x ∙ long in
+      let long2 : length r2 ≡ 32 = length-set_reg r1 30 y ∙ long1 in
+      let tail2 = Plain (ins Add 16 16 30 (pos 0)) ∷ rest in
+      let tail1 = Plain (ins Addi 30 30 0 (lower_part d)) ∷ tail2 in
+      let at1 : slice_index r1 30 ≡ x = slice_index-set_reg_same u.regs 30 x (omega arith) (omega (arith, long)) in
+      let at2 : slice_index r2 30 ≡ y = slice_index-set_reg_same r1 30 y (omega arith) (omega (arith, long1)) in
+      let keeps : slice_index r2 16 ≡ reg u 16 = slice_index-set_reg_other r1 30 y 16 (λ e. absurd (omega arith)) ∙ slice_index-set_reg_other u.regs 30 x 16 (λ e. absurd (omega arith)) in
+      record {
+        steps = 3;
+        regs = set_reg 16 v r2;
+        within = omega arith;
+        long = length-set_reg r2 16 v ∙ long2;
+        same = λ q a b. slice_index-set_reg_other r2 16 v q a ∙ slice_index-set_reg_other r1 30 y q b ∙ slice_index-set_reg_other u.regs 30 x q b;
+        sign = slice_index-set_reg_same r2 16 v (omega arith) (omega (arith, long2));
+        sets = sets_on w u 1 2 tail1 rest r1 (set_reg 16 v r2) (sets_compute w u (ins Lui 30 0 0 (upper_part d)) x tail1 o h refl (λ e. absurd (cc)) (lui_value u 30 (upper_part d))) (λ p k.
+            sets_on w (moved r1 p u) 1 1 tail2 rest r2 (set_reg 16 v r2) (sets_compute w (moved r1 p u) (ins Addi 30 30 0 (lower_part d)) y tail2 (over_moved w.code u r1 p o) k refl (λ e. absurd (cc)) (addi_value (moved r1 p u) 30 30 x y (lower_part d) at1 (parts_sum d))) (λ p2 k2.
+            sets_compute w (moved r2 p2 u) (ins Add 16 16 30 (pos 0)) v rest (over_moved w.code u r2 p2 o) k2 refl (λ e. absurd (cc)) (add_result (moved r2 p2 u) 16 16 30 (reg u 16) y v keeps at2 refl)));
+      }
+
+  turn_by_row : (d : ℤ) → Reads w.form.far w.code w.entry u.pc (turn_by d ++ rest) → Signed w u rest 3 ((reg u 16 + wrapped d) % 2 ^ 64)
+  turn_by_row d h = by (is_short d) h where
+    by :
+        (b : Bool) → Reads w.form.far w.code w.entry u.pc (cond b (Plain (ins Addi 16 16 0 d) ∷ []) (Plain (ins Lui 30 0 0 (upper_part d)) ∷ Plain (ins Addi 30 30 0 (lower_part d)) ∷ Plain (ins Add 16 16 30 (pos 0)) ∷ []) ++ rest)
+        → Signed w u rest 3 ((reg u 16 + wrapped d) % 2 ^ 64)
+    by true h = turn_short d h
+    by false h = turn_far d h
+
+  -- from one input address to another, whatever the offset
+  pub turn_row : (a t k : ℕ) → a < 2 ^ 64 → t < 2 ^ 64 → reg u 16 ≡ (a + k) % 2 ^ 64 → Reads w.form.far w.code w.entry u.pc (turn a t ++ rest) → Signed w u rest 3 ((t + k) % 2 ^ 64)
+  turn_row a t k ha ht sign h =
+      ⊎_elim
+      (λ e.
+      let same : a ≡ t = eqb-true a t e in
+      let h1 : Reads w.form.far w.code w.entry u.pc rest = subst (λ b. Reads w.form.far w.code w.entry u.pc (cond b [] (turn_by (distance_between a t)) ++ rest)) e h in
+      record { steps = 0; regs = u.regs; within = omega arith; long = long; same = λ q x y. refl; sign = sign ∙ ap (λ y. (y + k) % 2 ^ 64) same; sets = record { pc = u.pc; walk = walk_none (Quiet w) u; reads = h1 } })
+      (λ e.
+      let h1 : Reads w.form.far w.code w.entry u.pc (turn_by (distance_between a t) ++ rest) = subst (λ b. Reads w.form.far w.code w.entry u.pc (cond b [] (turn_by (distance_between a t)) ++ rest)) e h in
+      let s = turn_by_row (distance_between a t) h1 in
+      subst (Signed w u rest 3) (there (wrapped (distance_between a t)) (difference a t ha ht)) s)
+      (cases_Bool (a == t)) where
+        there : (x : ℕ) → (a + x) % 2 ^ 64 ≡ t → (reg u 16 + x) % 2 ^ 64 ≡ (t + k) % 2 ^ 64
+        there x e = omega (arith, sign, e)

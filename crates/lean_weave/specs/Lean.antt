@@ -1,0 +1,123 @@
+-- The lean form of the new code (this project's profile): no comparison stands behind pieces. x15 counts the steps since the last check up
+-- from -`every`, x16 has the input address of the block, and the offset of the next visited data word times 2^32. Each block begins with a
+-- tick, which calls the check, one for all of the code, where the counter would reach 0. The check compares where it was called from with
+-- the entry of that address, compares all registers, visits a round of data words, and goes back to the entry by the table.
+use Rattle.std.specs.Prelude.{ℕ, ◌+◌, ◌-◌, ◌*◌, ◌/◌, ◌%◌, ◌^◌, Bool, false, cond, ◌==◌, ◌&&◌, nat_lt, nat_le, List, [], ◌∷◌, ◌++◌, ℤ, pos, neg_ℤ}
+use Rattle.rv_isa.specs.declared.kind.Kind.{Kind}
+use Rattle.rv_isa.specs.declared.kind.Kind.TheVariants.{Lui, Addi, Andi, Slli, Srli, Add, Sub, Beq, Bne, Blt, Bge, Bltu, Bgeu, Jal, Jalr, Lw}
+use Rattle.rv_isa.specs.declared.class.Class.{Class}
+use Rattle.rv_isa.specs.declared.class.Class.TheVariants as class
+use Rattle.rv_isa.specs.declared.ins.Ins.{Ins}
+use Rattle.rv_isa.specs.Kind.{class_of}
+use Rattle.rv_isa.specs.Operation.{pair}
+use Rattle.qed_model.specs.declared.item.Item.{Item}
+use Rattle.qed_model.specs.declared.item.Item.TheVariants.{Plain, Constant, Go}
+use Rattle.qed_model.specs.Machine.Table.{ins}
+use Rattle.qed_model.specs.Machine.Values.{wrapped}
+use Rattle.qed_model.specs.Machine.Step.{State, reg, target}
+use Rattle.qed_model.specs.Weave.Placed.{distance_between, upper_part, lower_part, sum_of_sizes}
+use Rattle.qed_model.specs.Weave.Sequences.{End, Falls, Stops, fired_check, guard, guards_of, compare, visit, links}
+use Rattle.weave_core.specs.World.{World, is_cursor}
+
+-- ---- the tick
+-- counts `most` steps, and calls the check at a distance where not so many are left; behind the call stands an EBREAK, to which nothing
+-- returns
+abbrev pub tick : ℕ → ℤ → List Item
+tick most d = Plain (ins Addi 15 15 0 (pos most)) ∷ Plain (ins Blt 0 15 0 (pos 12)) ∷ Plain (ins Jal 31 0 0 d) ∷ fired_check ∷ []
+
+-- ---- the signature
+-- a distance that one immediate has, from -2048 to 2047
+abbrev pub is_short : ℤ → Bool
+is_short d = nat_lt ((wrapped d + 2048) % 2 ^ 64) 4096
+
+-- adds a distance to the signature
+abbrev pub turn_by : ℤ → List Item
+turn_by d = cond (is_short d) (Plain (ins Addi 16 16 0 d) ∷ []) (Plain (ins Lui 30 0 0 (upper_part d)) ∷ Plain (ins Addi 30 30 0 (lower_part d)) ∷ Plain (ins Add 16 16 30 (pos 0)) ∷ [])
+
+-- turns the signature from one input address to another
+abbrev pub turn : ℕ → ℕ → List Item
+turn a t = cond (a == t) [] (turn_by (distance_between a t))
+
+-- ---- the table
+-- looks the entry of the input address in x30 up in the table and jumps to it
+abbrev pub look_up : List Item
+look_up = Plain (ins Add 31 30 14 (pos 0)) ∷ Plain (ins Add 31 31 14 (pos 0)) ∷ Plain (ins Lw 30 31 0 (pos 0)) ∷ Plain (ins Add 30 30 31 (pos 0)) ∷ Plain (ins Jalr 0 30 0 (pos 0)) ∷ []
+
+-- ---- the check
+-- the address of the first data word, 0 where there is none
+abbrev pub first_word : List (ℕ × ℕ) → ℕ
+first_word [] = 0
+first_word (r ∷ rs) = r.0
+
+-- x15 gets the input address from the signature, for an input that begins at `base`, and x16 the offset
+abbrev pub parted : ℕ → List Item
+parted base =
+    Constant 30 base ∷ Plain (ins Sub 15 16 30 (pos 0)) ∷ Plain (ins Slli 15 15 0 (pos 32)) ∷ Plain (ins Srli 15 15 0 (pos 32)) ∷ Plain (ins Add 15 15 30 (pos 0)) ∷
+    Plain (ins Sub 16 16 15 (pos 0)) ∷ Plain (ins Srli 16 16 0 (pos 32)) ∷ []
+
+-- fires where the link in x31 is not 12 bytes behind the entry of the input address in x15
+abbrev pub called : List Item
+called =
+    Plain (ins Add 30 15 14 (pos 0)) ∷ Plain (ins Add 30 30 14 (pos 0)) ∷ Plain (ins Sub 31 31 30 (pos 0)) ∷ Plain (ins Lw 30 30 0 (pos 0)) ∷ Plain (ins Addi 30 30 0 (pos 12)) ∷
+    Plain (ins Beq 0 30 31 (pos 8)) ∷ fired_check ∷ []
+
+-- x15 gets the address of the next data word, x16 the input address
+abbrev pub begun : ℕ → List Item
+begun first = Plain (ins Addi 30 15 0 (pos 0)) ∷ Constant 15 first ∷ Plain (ins Add 15 15 16 (pos 0)) ∷ Plain (ins Addi 16 30 0 (pos 0)) ∷ []
+
+-- x16 gets the signature again, x30 the input address, and the counter is set
+abbrev pub done : ℕ → ℕ → List Item
+done first every =
+    Constant 30 first ∷ Plain (ins Sub 15 15 30 (pos 0)) ∷ Plain (ins Slli 15 15 0 (pos 32)) ∷ Plain (ins Addi 30 16 0 (pos 0)) ∷ Plain (ins Add 16 16 15 (pos 0)) ∷
+    Plain (ins Addi 15 0 0 (neg_ℤ (pos every))) ∷ []
+
+-- all of it
+abbrev pub check : ℕ → ℕ → ℕ → List (ℕ × ℕ) → List Item
+check base every round spans = parted base ++ (called ++ (compare ++ (begun (first_word spans) ++ (visit round spans ++ (done (first_word spans) every ++ look_up)))))
+
+-- ---- the leaves
+-- the branch that is taken where another is not
+abbrev pub opposite : Kind → Kind
+opposite Beq = Bne
+opposite Bne = Beq
+opposite Blt = Bge
+opposite Bge = Blt
+opposite Bltu = Bgeu
+opposite Bgeu = Bltu
+opposite k = k
+
+-- goes to the entry of another input address
+abbrev pub goes : ℕ → ℕ → List Item
+goes a t = turn a t ++ (Go t ∷ [])
+
+-- fires where the signature is not that of an input address
+abbrev pub check_sign : ℕ → List Item
+check_sign a = Constant 30 a ∷ Plain (ins Sub 31 16 30 (pos 0)) ∷ Plain (ins Slli 31 31 0 (pos 32)) ∷ Plain (ins Beq 0 31 0 (pos 8)) ∷ fired_check ∷ []
+
+-- the leave of an instruction at `at`, in the block that begins at a; `fall` gives what leads to the entry behind the block. An ECALL compares
+-- all registers and the signature, a branch goes by guarded originals, and a JALR adds its target by the pair and goes by the guarded original
+abbrev pub leave_as : (ℕ → List Item) → Class → Ins → ℕ → ℕ → List Item
+leave_as fall class.End i a at = compare ++ (check_sign a ++ (Plain i ∷ []))
+leave_as fall class.Jump i a at = links i at ++ goes a (target i at)
+leave_as fall class.Branch i a at =
+    guards_of i ++ (Plain (ins (opposite i.kind) 0 i.rs1 i.rs2 (pos (4 + sum_of_sizes false (goes a (target i at))))) ∷ (goes a (target i at) ++ (turn a ((at + 4) % 2 ^ 64) ++ fall ((at + 4) % 2 ^ 64))))
+leave_as fall class.JumpReg i a at =
+    Plain (ins Add 16 16 (pair i.rs1) (pos 0)) ∷ Plain (ins Addi 16 16 0 i.imm) ∷ Plain (ins Andi 16 16 0 (neg_ℤ (pos 2))) ∷ Constant 30 a ∷ Plain (ins Sub 16 16 30 (pos 0)) ∷
+    (guard i.rs1 ++ (Plain (ins Addi 30 i.rs1 0 i.imm) ∷ Plain (ins Andi 30 30 0 (neg_ℤ (pos 2))) ∷ (links i at ++ look_up)))
+leave_as fall _ i a at = Plain i ∷ []
+
+-- of a block that begins at a and has its end at `at`
+abbrev pub leave : (ℕ → List Item) → End → ℕ → ℕ → List Item
+leave fall Falls a at = turn a at ++ fall at
+leave fall (Stops i) a at = leave_as fall (class_of i.kind) i a at
+
+-- ---- what holds of x15 and x16
+-- the offset in a signature
+abbrev pub offset_of : ℕ → ℕ → ℕ
+offset_of a sign = (sign + (2 ^ 64 - a)) % 2 ^ 64 / 2 ^ 32
+
+-- from the entry of a block at a to its leave: so many steps are left at most, one at least, and the signature is that of a, with the offset of a
+-- data word where there is one
+abbrev pub is_ticked_at : ℕ → World → State → ℕ → Bool
+is_ticked_at every w u a =
+    (nat_le (2 ^ 64 - every) (reg u 15) && (reg u 16 == (a + offset_of a (reg u 16) * 2 ^ 32) % 2 ^ 64)) && is_cursor w.form.spans (first_word w.form.spans + offset_of a (reg u 16))
