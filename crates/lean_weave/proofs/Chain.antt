@@ -10,13 +10,14 @@ use Rattle.rv_isa.specs.Kind.{class_of}
 use Rattle.rv_isa.specs.Regs.{set_reg}
 use Rattle.rv_isa.proofs.RegsLaws.{slice_index-set_reg_other, slice_index-set_reg_same, length-set_reg}
 use Rattle.qed_model.specs.declared.item.Item.{Item}
-use Rattle.qed_model.specs.declared.item.Item.TheVariants.{Plain, Constant}
+use Rattle.qed_model.specs.declared.item.Item.TheVariants.{Mark, Plain, Constant, Go}
 use Rattle.qed_model.specs.Machine.Table.{ins}
 use Rattle.qed_model.specs.Machine.Step.{State, reg, moved, result, Fetched, Known, fetched_at}
 use Rattle.qed_model.specs.Weave.Sequences.{Reads}
 use Rattle.qed_model.proofs.Walk.{Over, over_moved}
 use Rattle.qed_model.proofs.Walked.{walk_none}
 use Rattle.weave_core.specs.World.{World, Quiet}
+use Rattle.lean_weave.specs.Lean.{cost}
 use Rattle.weave_core.proofs.Sets.{Sets, AllTemps, writes, sets_on, sets_compute, sets_const}
 
 -- ---- what several writes leave
@@ -113,3 +114,11 @@ module _ (w : World) (u : State) (rest : List Item) (o : Over w.code u) where
   -- from the state itself
   pub chain : (xs : List Op) → length u.regs ≡ 32 → Gives u u.regs xs → Reads w.form.far w.code w.entry u.pc (items xs ++ rest) → Sets w u (steps xs) rest (writes (effects xs) u.regs)
   chain xs long g h = chain_from xs u.regs u.pc long g h
+
+-- ---- steps of items
+pub cost_append : (xs ys : List Item) → cost (xs ++ ys) ≡ cost xs + cost ys
+cost_append [] ys = omega arith
+cost_append (Mark a ∷ xs) ys = cost_append xs ys
+cost_append (Plain i ∷ xs) ys = let e = cost_append xs ys in omega (arith, e)
+cost_append (Constant r v ∷ xs) ys = let e = cost_append xs ys in omega (arith, e)
+cost_append (Go t ∷ xs) ys = let e = cost_append xs ys in omega (arith, e)

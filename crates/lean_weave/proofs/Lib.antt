@@ -1,3 +1,6 @@
 pub mod Chain
 pub mod Check
+pub mod Tick
 pub mod Turn
+pub mod Ways
+pub mod Leave

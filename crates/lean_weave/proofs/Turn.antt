@@ -21,7 +21,7 @@ use Rattle.weave_core.specs.World.{World, Quiet}
 use Rattle.weave_core.proofs.Indirect.{addi_value}
 use Rattle.weave_core.proofs.Sets.{Sets, sets_on, sets_compute}
 use Rattle.weave_core.proofs.Visit.{add_result}
-use Rattle.lean_weave.specs.Lean.{is_short, turn_by, turn}
+use Rattle.lean_weave.specs.Lean.{is_short, turn_by, turn, cost}
 
 -- what LUI gives
 lui_value : (u : State) (r : ℕ) (z : ℤ) → result Lui (ins Lui r 0 0 z) u ≡ wrapped z
@@ -34,10 +34,11 @@ parts_sum d = sym (wrapped-add (upper_part d) (lower_part d)) ∙ ap wrapped (bo
   both : (x y : ℤ) → y +ℤ (x -ℤ y) ≡ x
   both x y = omega (arith, ints)
 
--- in at most so many steps to the same state with x16 at a number, and some x30
-pub record Signed (w : World) (u : State) (rest : List Item) (most number : ℕ) : Type 0 where
+-- in `least` to `most` steps to the same state with x16 at a number, and some x30
+pub record Signed (w : World) (u : State) (rest : List Item) (least most number : ℕ) : Type 0 where
   pub steps : ℕ
   pub regs : List ℕ
+  pub at_least : least ≤ steps
   pub within : steps ≤ most
   pub long : length regs ≡ 32
   pub same : (q : ℕ) → (q ≡ 16 → ⊥) → (q ≡ 30 → ⊥) → slice_index regs q ≡ reg u q
@@ -46,12 +47,13 @@ pub record Signed (w : World) (u : State) (rest : List Item) (most number : ℕ)
 
 module _ (w : World) (u : State) (rest : List Item) (o : Over w.code u) (long : length u.regs ≡ 32) where
   -- a distance is added
-  turn_short : (d : ℤ) → Reads w.form.far w.code w.entry u.pc (Plain (ins Addi 16 16 0 d) ∷ rest) → Signed w u rest 3 ((reg u 16 + wrapped d) % 2 ^ 64)
+  turn_short : (d : ℤ) → Reads w.form.far w.code w.entry u.pc (Plain (ins Addi 16 16 0 d) ∷ rest) → Signed w u rest 1 1 ((reg u 16 + wrapped d) % 2 ^ 64)
   turn_short d h =
       let v = (reg u 16 + wrapped d) % 2 ^ 64 in
       record {
         steps = 1;
         regs = set_reg 16 v u.regs;
+        at_least = omega arith;
         within = omega arith;
         long = length-set_reg u.regs 16 v ∙ long;
         same = λ q a b. slice_index-set_reg_other u.regs 16 v q a;
@@ -61,7 +63,7 @@ module _ (w : World) (u : State) (rest : List Item) (o : Over w.code u) (long : 
 
   turn_far :
       (d : ℤ) → Reads w.form.far w.code w.entry u.pc (Plain (ins Lui 30 0 0 (upper_part d)) ∷ Plain (ins Addi 30 30 0 (lower_part d)) ∷ Plain (ins Add 16 16 30 (pos 0)) ∷ rest)
-      → Signed w u rest 3 ((reg u 16 + wrapped d) % 2 ^ 64)
+      → Signed w u rest 1 3 ((reg u 16 + wrapped d) % 2 ^ 64)
   turn_far d h =
       let x = wrapped (upper_part d) in
       let y = wrapped d in
@@ -78,6 +80,7 @@ module _ (w : World) (u : State) (rest : List Item) (o : Over w.code u) (long : 
       record {
         steps = 3;
         regs = set_reg 16 v r2;
+        at_least = omega arith;
         within = omega arith;
         long = length-set_reg r2 16 v ∙ long2;
         same = λ q a b. slice_index-set_reg_other r2 16 v q a ∙ slice_index-set_reg_other r1 30 y q b ∙ slice_index-set_reg_other u.regs 30 x q b;
@@ -87,26 +90,26 @@ module _ (w : World) (u : State) (rest : List Item) (o : Over w.code u) (long : 
             sets_compute w (moved r2 p2 u) (ins Add 16 16 30 (pos 0)) v rest (over_moved w.code u r2 p2 o) k2 refl (λ e. absurd (cc)) (add_result (moved r2 p2 u) 16 16 30 (reg u 16) y v keeps at2 refl)));
       }
 
-  turn_by_row : (d : ℤ) → Reads w.form.far w.code w.entry u.pc (turn_by d ++ rest) → Signed w u rest 3 ((reg u 16 + wrapped d) % 2 ^ 64)
+  turn_by_row : (d : ℤ) → Reads w.form.far w.code w.entry u.pc (turn_by d ++ rest) → Signed w u rest 1 (cost (turn_by d)) ((reg u 16 + wrapped d) % 2 ^ 64)
   turn_by_row d h = by (is_short d) h where
     by :
         (b : Bool) → Reads w.form.far w.code w.entry u.pc (cond b (Plain (ins Addi 16 16 0 d) ∷ []) (Plain (ins Lui 30 0 0 (upper_part d)) ∷ Plain (ins Addi 30 30 0 (lower_part d)) ∷ Plain (ins Add 16 16 30 (pos 0)) ∷ []) ++ rest)
-        → Signed w u rest 3 ((reg u 16 + wrapped d) % 2 ^ 64)
+        → Signed w u rest 1 (cost (cond b (Plain (ins Addi 16 16 0 d) ∷ []) (Plain (ins Lui 30 0 0 (upper_part d)) ∷ Plain (ins Addi 30 30 0 (lower_part d)) ∷ Plain (ins Add 16 16 30 (pos 0)) ∷ []))) ((reg u 16 + wrapped d) % 2 ^ 64)
     by true h = turn_short d h
     by false h = turn_far d h
 
   -- from one input address to another, whatever the offset
-  pub turn_row : (a t k : ℕ) → a < 2 ^ 64 → t < 2 ^ 64 → reg u 16 ≡ (a + k) % 2 ^ 64 → Reads w.form.far w.code w.entry u.pc (turn a t ++ rest) → Signed w u rest 3 ((t + k) % 2 ^ 64)
-  turn_row a t k ha ht sign h =
-      ⊎_elim
-      (λ e.
-      let same : a ≡ t = eqb-true a t e in
-      let h1 : Reads w.form.far w.code w.entry u.pc rest = subst (λ b. Reads w.form.far w.code w.entry u.pc (cond b [] (turn_by (distance_between a t)) ++ rest)) e h in
-      record { steps = 0; regs = u.regs; within = omega arith; long = long; same = λ q x y. refl; sign = sign ∙ ap (λ y. (y + k) % 2 ^ 64) same; sets = record { pc = u.pc; walk = walk_none (Quiet w) u; reads = h1 } })
-      (λ e.
-      let h1 : Reads w.form.far w.code w.entry u.pc (turn_by (distance_between a t) ++ rest) = subst (λ b. Reads w.form.far w.code w.entry u.pc (cond b [] (turn_by (distance_between a t)) ++ rest)) e h in
-      let s = turn_by_row (distance_between a t) h1 in
-      subst (Signed w u rest 3) (there (wrapped (distance_between a t)) (difference a t ha ht)) s)
-      (cases_Bool (a == t)) where
-        there : (x : ℕ) → (a + x) % 2 ^ 64 ≡ t → (reg u 16 + x) % 2 ^ 64 ≡ (t + k) % 2 ^ 64
-        there x e = omega (arith, sign, e)
+  pub turn_row :
+      (a t k : ℕ) → a < 2 ^ 64 → t < 2 ^ 64 → reg u 16 ≡ (a + k) % 2 ^ 64 → Reads w.form.far w.code w.entry u.pc (turn a t ++ rest)
+      → Signed w u rest (cond (a == t) 0 1) (cost (turn a t)) ((t + k) % 2 ^ 64)
+  turn_row a t k ha ht sign h = by (a == t) refl h where
+    there : (x : ℕ) → (a + x) % 2 ^ 64 ≡ t → (reg u 16 + x) % 2 ^ 64 ≡ (t + k) % 2 ^ 64
+    there x e = omega (arith, sign, e)
+
+    by :
+        (b : Bool) → (a == t) ≡ b → Reads w.form.far w.code w.entry u.pc (cond b [] (turn_by (distance_between a t)) ++ rest)
+        → Signed w u rest (cond b 0 1) (cost (cond b [] (turn_by (distance_between a t)))) ((t + k) % 2 ^ 64)
+    by true e h =
+        let same : a ≡ t = eqb-true a t e in
+        record { steps = 0; regs = u.regs; at_least = omega arith; within = omega arith; long = long; same = λ q x y. refl; sign = sign ∙ ap (λ y. (y + k) % 2 ^ 64) same; sets = record { pc = u.pc; walk = walk_none (Quiet w) u; reads = h } }
+    by false e h = subst (Signed w u rest 1 (cost (turn_by (distance_between a t)))) (there (wrapped (distance_between a t)) (difference a t ha ht)) (turn_by_row (distance_between a t) h)

@@ -2,16 +2,16 @@
 -- from -`every`, x16 has the input address of the block, and the offset of the next visited data word times 2^32. Each block begins with a
 -- tick, which calls the check, one for all of the code, where the counter would reach 0. The check compares where it was called from with
 -- the entry of that address, compares all registers, visits a round of data words, and goes back to the entry by the table.
-use Rattle.std.specs.Prelude.{ℕ, ◌+◌, ◌-◌, ◌*◌, ◌/◌, ◌%◌, ◌^◌, Bool, false, cond, ◌==◌, ◌&&◌, nat_lt, nat_le, List, [], ◌∷◌, ◌++◌, ℤ, pos, neg_ℤ}
+use Rattle.std.specs.Prelude.{ℕ, ◌+◌, ◌-◌, ◌*◌, ◌/◌, ◌%◌, ◌^◌, Bool, true, false, cond, ◌==◌, ◌&&◌, nat_lt, nat_le, max, List, [], ◌∷◌, ◌++◌, ℤ, pos, neg_ℤ}
 use Rattle.rv_isa.specs.declared.kind.Kind.{Kind}
-use Rattle.rv_isa.specs.declared.kind.Kind.TheVariants.{Lui, Addi, Andi, Slli, Srli, Add, Sub, Beq, Bne, Blt, Bge, Bltu, Bgeu, Jal, Jalr, Lw}
+use Rattle.rv_isa.specs.declared.kind.Kind.TheVariants.{Lui, Addi, Andi, Slli, Srli, Add, Sub, Beq, Bne, Blt, Bge, Bltu, Bgeu, Jal, Jalr, Lw, Ebreak}
 use Rattle.rv_isa.specs.declared.class.Class.{Class}
 use Rattle.rv_isa.specs.declared.class.Class.TheVariants as class
 use Rattle.rv_isa.specs.declared.ins.Ins.{Ins}
 use Rattle.rv_isa.specs.Kind.{class_of}
 use Rattle.rv_isa.specs.Operation.{pair}
 use Rattle.qed_model.specs.declared.item.Item.{Item}
-use Rattle.qed_model.specs.declared.item.Item.TheVariants.{Plain, Constant, Go}
+use Rattle.qed_model.specs.declared.item.Item.TheVariants.{Mark, Plain, Constant, Go}
 use Rattle.qed_model.specs.Machine.Table.{ins}
 use Rattle.qed_model.specs.Machine.Values.{wrapped}
 use Rattle.qed_model.specs.Machine.Step.{State, reg, target}
@@ -110,6 +110,28 @@ leave_as fall _ i a at = Plain i ∷ []
 abbrev pub leave : (ℕ → List Item) → End → ℕ → ℕ → List Item
 leave fall Falls a at = turn a at ++ fall at
 leave fall (Stops i) a at = leave_as fall (class_of i.kind) i a at
+
+-- ---- the steps
+-- of straight words, where no check fires
+abbrev is_break : Kind → Bool
+is_break Ebreak = true
+is_break k = false
+
+abbrev pub cost : List Item → ℕ
+cost [] = 0
+cost (Mark a ∷ xs) = cost xs
+cost (Plain i ∷ xs) = cond (is_break i.kind) 0 1 + cost xs
+cost (Constant r v ∷ xs) = 2 + cost xs
+cost (Go t ∷ xs) = 1 + cost xs
+
+-- the most steps of a leave; of a branch, the longer of its two ways
+abbrev pub leave_cost_as : (ℕ → List Item) → Class → Ins → ℕ → ℕ → ℕ
+leave_cost_as fall class.Branch i a at = cost (guards_of i) + (1 + max (cost (goes a (target i at))) (cost (turn a ((at + 4) % 2 ^ 64) ++ fall ((at + 4) % 2 ^ 64))))
+leave_cost_as fall k i a at = cost (leave_as fall k i a at)
+
+abbrev pub leave_cost : (ℕ → List Item) → End → ℕ → ℕ → ℕ
+leave_cost fall Falls a at = cost (leave fall Falls a at)
+leave_cost fall (Stops i) a at = leave_cost_as fall (class_of i.kind) i a at
 
 -- ---- what holds of x15 and x16
 -- the offset in a signature
