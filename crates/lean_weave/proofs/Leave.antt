@@ -170,7 +170,7 @@ module _ (w : World) (leader : ℕ → Bool) (entries : (a : ℕ) → leader a �
 
 -- ---- guards and return addresses, with their exact steps
 module _ (w : World) where
-  guard_cost : (u : State) (q : ℕ) (rest : List Item) → Over w.code u → Reads w.form.far w.code w.entry u.pc (guard q ++ rest) → (1 ≤ q → reg u q ≡ reg u (q + 16)) → Passes w u (cost (guard q)) rest
+  pub guard_cost : (u : State) (q : ℕ) (rest : List Item) → Over w.code u → Reads w.form.far w.code w.entry u.pc (guard q ++ rest) → (1 ≤ q → reg u q ≡ reg u (q + 16)) → Passes w u (cost (guard q)) rest
   guard_cost u q rest o h same = by (q == 0) refl where
     by : (b : Bool) → (q == 0) ≡ b → Passes w u (cost (cond b [] (Plain (ins Beq 0 q (q + 16) (pos 8)) ∷ fired_check ∷ []))) rest
     by true e = pass_none w u rest (subst (λ b. Reads w.form.far w.code w.entry u.pc (cond b [] (Plain (ins Beq 0 q (q + 16) (pos 8)) ∷ fired_check ∷ []) ++ rest)) e h)
@@ -190,11 +190,11 @@ module _ (w : World) where
         maybe false p x = guard_cost (moved u.regs p u) i.rs2 rest (over_moved w.code u u.regs p o) x e2
 
   -- the words of a return address
-  abbrev linking : ℕ → ℕ → List Item
+  abbrev pub linking : ℕ → ℕ → List Item
   linking r v = cond (r == 0) [] (Constant r v ∷ Constant (pair r) v ∷ [])
 
   -- of x0 there are none
-  link_words : (r v : ℕ) → 4 ≤ cost (linking (suc r) v)
+  pub link_words : (r v : ℕ) → 4 ≤ cost (linking (suc r) v)
   link_words r v = let e : (suc r == 0) ≡ false = ne_eqb (suc r) 0 (λ e. absurd (omega arith)) in subst (λ b. 4 ≤ cost (cond b [] (Constant (suc r) v ∷ Constant (pair (suc r)) v ∷ []))) (sym e) (omega arith)
 
   links_led :

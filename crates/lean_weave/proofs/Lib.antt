@@ -4,3 +4,5 @@ pub mod Tick
 pub mod Turn
 pub mod Ways
 pub mod Leave
+pub mod Leap
+pub mod End

@@ -113,7 +113,7 @@ leave fall (Stops i) a at = leave_as fall (class_of i.kind) i a at
 
 -- ---- the steps
 -- of straight words, where no check fires
-abbrev is_break : Kind → Bool
+abbrev pub is_break : Kind → Bool
 is_break Ebreak = true
 is_break k = false
 
