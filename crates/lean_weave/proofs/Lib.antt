@@ -6,3 +6,4 @@ pub mod Ways
 pub mod Leave
 pub mod Leap
 pub mod End
+pub mod Piece
