@@ -27,9 +27,10 @@ use Rattle.weave_core.proofs.Rows.{halved_original, halved_pair, halved_moved, p
 use Rattle.weave_core.proofs.Sets.{Sets, writes, writes_long, halved_writes}
 use Rattle.weave_core.proofs.Visit.{add_result}
 use Rattle.lean_weave.specs.Lean.{look_up, leave_as, cost}
+use Rattle.lean_weave.specs.Woven.{fall_to}
 use Rattle.lean_weave.proofs.Chain.{Op, plain, constant, effects, Gives, read_back, all_temps, chain, cost_append}
 use Rattle.lean_weave.proofs.Check.{sub_value}
-use Rattle.lean_weave.proofs.Leave.{fall_to, SignedAs, Went, guard_cost, linking, link_words}
+use Rattle.lean_weave.proofs.Leave.{SignedAs, Went, guard_cost, linking, link_words}
 
 -- taking the block's address away leaves the target and the offset
 leaves_target : (a k x y : ℕ) → a % 2 ≡ 0 → k % 2 ≡ 0 → a < 2 ^ 64 → ((((a + k) % 2 ^ 64 + x) % 2 ^ 64 + y) % 2 ^ 64 / 2 * 2 + (2 ^ 64 - a)) % 2 ^ 64 ≡ ((x + y) % 2 ^ 64 / 2 * 2 + k) % 2 ^ 64

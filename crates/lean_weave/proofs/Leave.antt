@@ -31,13 +31,10 @@ use Rattle.weave_core.proofs.Branch.{Passes, pass_none, pass_on, guard_pass, own
 use Rattle.weave_core.proofs.Leaves.{go_most, go_most_le, go_walk, halved_gone, jump_step, links_as, branch_taken, branch_passed}
 use Rattle.weave_core.proofs.Rows.{halved_regs, halved_views, halved_moved, led_none, led_more}
 use Rattle.lean_weave.specs.Lean.{turn, goes, opposite, leave_as, cost, leave_cost_as}
+use Rattle.lean_weave.specs.Woven.{fall_to}
 use Rattle.lean_weave.proofs.Chain.{cost_append}
 use Rattle.lean_weave.proofs.Ways.{opposite_is, reads_behind}
 use Rattle.lean_weave.proofs.Turn.{Signed, turn_row}
-
--- behind the entry of a block stands that of a leader, or there is no code
-abbrev pub fall_to : (ℕ → Bool) → ℕ → List Item
-fall_to leader t = cond (leader t) (Mark t ∷ []) (Go t ∷ [])
 
 -- x16 has the signature of an address with an offset, and x15 is as in u
 abbrev pub SignedAs : State → ℕ → State → ℕ → Type 0

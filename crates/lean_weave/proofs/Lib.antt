@@ -7,3 +7,6 @@ pub mod Leave
 pub mod Leap
 pub mod End
 pub mod Piece
+pub mod Held
+pub mod Costs
+pub mod Rows

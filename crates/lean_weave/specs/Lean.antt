@@ -142,4 +142,4 @@ offset_of a sign = (sign + (2 ^ 64 - a)) % 2 ^ 64 / 2 ^ 32
 -- data word where there is one
 abbrev pub is_ticked_at : ℕ → World → State → ℕ → Bool
 is_ticked_at every w u a =
-    (nat_le (2 ^ 64 - every) (reg u 15) && (reg u 16 == (a + offset_of a (reg u 16) * 2 ^ 32) % 2 ^ 64)) && is_cursor w.form.spans (first_word w.form.spans + offset_of a (reg u 16))
+    ((nat_le (2 ^ 64 - every) (reg u 15) && nat_lt (reg u 15) (2 ^ 64)) && (reg u 16 == (a + offset_of a (reg u 16) * 2 ^ 32) % 2 ^ 64)) && is_cursor w.form.spans (first_word w.form.spans + offset_of a (reg u 16))

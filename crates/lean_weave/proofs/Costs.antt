@@ -1,0 +1,83 @@
+-- The most steps of parts of leaves.
+use Rattle.std.proofs.Common.{◌≡◌, ℕ, ◌+◌, ◌%◌, ◌^◌, ◌≤◌, Bool, true, false, cond, List, [], ◌∷◌, ◌++◌, arith}
+use Rattle.std.specs.Prelude.{◌==◌, max, ℤ, pos, neg_ℤ}
+use Rattle.std.proofs.Math.Nat.{max-le}
+use Rattle.rv_isa.specs.declared.ins.Ins.{Ins}
+use Rattle.rv_isa.specs.declared.kind.Kind.TheVariants.{Lui, Addi, Andi, Add, Beq}
+use Rattle.rv_isa.specs.declared.class.Class.{Class}
+use Rattle.rv_isa.specs.declared.class.Class.TheVariants as class
+use Rattle.rv_isa.specs.Operation.{pair}
+use Rattle.qed_model.specs.declared.item.Item.{Item}
+use Rattle.qed_model.specs.declared.item.Item.TheVariants.{Mark, Plain, Constant, Go}
+use Rattle.qed_model.specs.Machine.Table.{ins}
+use Rattle.qed_model.specs.Machine.Step.{target}
+use Rattle.qed_model.specs.Weave.Placed.{distance_between, upper_part, lower_part}
+use Rattle.qed_model.specs.Weave.Sequences.{fired_check, guard, guards_of, links}
+use Rattle.lean_weave.specs.Lean.{is_short, turn_by, turn, goes, look_up, leave_as, cost, leave_cost_as}
+use Rattle.lean_weave.specs.Woven.{fall_to}
+use Rattle.lean_weave.proofs.Chain.{cost_append}
+
+guard_most : (q : ℕ) → cost (guard q) ≤ 1
+guard_most q = by (q == 0) where
+  by : (b : Bool) → cost (cond b [] (Plain (ins Beq 0 q (q + 16) (pos 8)) ∷ fired_check ∷ [])) ≤ 1
+  by true = omega arith
+  by false = omega arith
+
+guards_most : (i : Ins) → cost (guards_of i) ≤ 2
+guards_most i = let e = cost_append (guard i.rs1) (cond (i.rs2 == i.rs1) [] (guard i.rs2)) in let a = guard_most i.rs1 in let b = by (i.rs2 == i.rs1) in omega (arith, e, a, b) where
+  by : (b : Bool) → cost (cond b [] (guard i.rs2)) ≤ 1
+  by true = omega arith
+  by false = guard_most i.rs2
+
+links_most : (i : Ins) (at : ℕ) → cost (links i at) ≤ 4
+links_most i at = by (i.rd == 0) where
+  by : (b : Bool) → cost (cond b [] (Constant i.rd ((at + 4) % 2 ^ 64) ∷ Constant (pair i.rd) ((at + 4) % 2 ^ 64) ∷ [])) ≤ 4
+  by true = omega arith
+  by false = omega arith
+
+turn_most : (a t : ℕ) → cost (turn a t) ≤ 3
+turn_most a t = by (a == t) where
+  short : (b : Bool) (d : ℤ) → cost (cond b (Plain (ins Addi 16 16 0 d) ∷ []) (Plain (ins Lui 30 0 0 (upper_part d)) ∷ Plain (ins Addi 30 30 0 (lower_part d)) ∷ Plain (ins Add 16 16 30 (pos 0)) ∷ [])) ≤ 3
+  short true d = omega arith
+  short false d = omega arith
+
+  by : (b : Bool) → cost (cond b [] (turn_by (distance_between a t))) ≤ 3
+  by true = omega arith
+  by false = short (is_short (distance_between a t)) (distance_between a t)
+
+goes_most : (a t : ℕ) → cost (goes a t) ≤ 4
+goes_most a t = let e = cost_append (turn a t) (Go t ∷ []) in let b = turn_most a t in omega (arith, e, b)
+
+fall_most : (leader : ℕ → Bool) (t : ℕ) → cost (fall_to leader t) ≤ 1
+fall_most leader t = by (leader t) where
+  by : (b : Bool) → cost (cond b (Mark t ∷ []) (Go t ∷ [])) ≤ 1
+  by true = omega arith
+  by false = omega arith
+
+-- ---- of leaves
+pub falls_cost : (leader : ℕ → Bool) (a t : ℕ) → cost (turn a t ++ fall_to leader t) ≤ 18
+falls_cost leader a t = let e = cost_append (turn a t) (fall_to leader t) in let b = turn_most a t in let c = fall_most leader t in omega (arith, e, b, c)
+
+pub jump_cost : (leader : ℕ → Bool) (i : Ins) (a at : ℕ) → cost (leave_as (fall_to leader) class.Jump i a at) ≤ 18
+jump_cost leader i a at = let e = cost_append (links i at) (goes a (target i at)) in let b = links_most i at in let c = goes_most a (target i at) in omega (arith, e, b, c)
+
+pub branch_cost : (leader : ℕ → Bool) (i : Ins) (a at : ℕ) → leave_cost_as (fall_to leader) class.Branch i a at ≤ 18
+branch_cost leader i a at =
+    let n = (at + 4) % 2 ^ 64 in
+    let b = guards_most i in
+    let e = cost_append (turn a n) (fall_to leader n) in
+    let t = turn_most a n in
+    let f = fall_most leader n in
+    let c = goes_most a (target i at) in
+    let d = ways (cost (goes a (target i at))) (cost (turn a n ++ fall_to leader n)) c (omega (arith, e, t, f)) in
+    omega (arith, b, d) where
+      ways : (x y : ℕ) → x ≤ 4 → y ≤ 4 → max x y ≤ 4
+      ways x y h k = max-le h k
+
+pub leap_cost : (leader : ℕ → Bool) (i : Ins) (a at : ℕ) → cost (leave_as (fall_to leader) class.JumpReg i a at) ≤ 18
+leap_cost leader i a at =
+    let b = guard_most i.rs1 in
+    let c = links_most i at in
+    let e = cost_append (guard i.rs1) (Plain (ins Addi 30 i.rs1 0 i.imm) ∷ Plain (ins Andi 30 30 0 (neg_ℤ (pos 2))) ∷ (links i at ++ look_up)) in
+    let f = cost_append (links i at) look_up in
+    omega (arith, b, c, e, f)

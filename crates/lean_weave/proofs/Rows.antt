@@ -1,0 +1,192 @@
+-- The lean form meets the laws of the rows, so it keeps the values.
+use Rattle.std.proofs.Common.{◌≡◌, ℕ, ◌+◌, ◌-◌, ◌*◌, ◌%◌, ◌^◌, ◌<◌, ◌≤◌, inl, inr, ⊎_elim, Bool, true, false, cond, List, [], ◌∷◌, ◌++◌, length, refl, sym, ap, ◌∙◌, subst, arith, append_assoc}
+use Rattle.std.specs.Prelude.{◌==◌, ◌&&◌, nat_le, max, pos, ℤ}
+use Rattle.std.proofs.lemmas.Bool.{and_parts, leb-true, eqb-true, cases_lt}
+use Rattle.std.proofs.Math.Nat.{mul-le-mul_left}
+use Rattle.rv_isa.specs.declared.ins.Ins.{Ins}
+use Rattle.rv_isa.specs.declared.kind.Kind.TheVariants.{Addi, Auipc}
+use Rattle.rv_isa.specs.declared.class.Class.{Class}
+use Rattle.rv_isa.specs.declared.class.Class.TheVariants as class
+use Rattle.rv_isa.specs.Kind.{class_of}
+use Rattle.rv_isa.specs.Regs.{set_reg}
+use Rattle.qed_model.specs.declared.item.Item.{Item}
+use Rattle.qed_model.specs.Machine.Table.{ins}
+use Rattle.qed_model.specs.Machine.Step.{State, reg, moved, Known, run, step}
+use Rattle.qed_model.specs.Promise.Kept.{NotTrapped}
+use Rattle.qed_model.specs.Weave.Pieces.{is_run}
+use Rattle.qed_model.specs.Weave.Placed.{distance_between, upper_part}
+use Rattle.qed_model.specs.Weave.Sequences.{Reads, original, mirrored, each_part}
+use Rattle.qed_model.proofs.Walk.{Over, over_moved}
+use Rattle.qed_model.proofs.Walked.{Walk, walk_on}
+use Rattle.weave_core.specs.World.{World, Quiet, Twice, IsCursor, words_on}
+use Rattle.weave_core.specs.Blocks.{IsEntryOf}
+use Rattle.weave_core.specs.Each.{cost_each}
+use Rattle.weave_core.specs.Parts.{original_cost}
+use Rattle.weave_core.specs.Rows.{At, Sourced, mirror_steps, spent}
+use Rattle.weave_core.specs.Weave.{Weave}
+use Rattle.weave_core.specs.WeaveLaws.{PieceAt, EntryAt, Stands, GoesTo, Inside}
+use Rattle.weave_core.proofs.Body.{mirror_steps_le, spent_le}
+use Rattle.weave_core.proofs.FormRows.{front_row}
+use Rattle.weave_core.proofs.PieceLaws.{cost_parts}
+use Rattle.weave_core.proofs.Sets.{writes, halved_writes}
+use Rattle.weave_core.proofs.Visit.{words_within}
+use Rattle.lean_weave.specs.Lean.{first_word, tick, check, is_ticked_at}
+use Rattle.lean_weave.specs.Woven.{Lean, check_steps, weave_of, LeanIn}
+use Rattle.lean_weave.proofs.Chain.{read_back, all_temps}
+use Rattle.lean_weave.proofs.Check.{Back, check_row}
+use Rattle.lean_weave.proofs.Held.{Ticked, ticked_of, ticked_is, ticked_same}
+use Rattle.lean_weave.proofs.Piece.{piece_steps, piece_row}
+use Rattle.lean_weave.proofs.Tick.{counter, pass_row, call_row}
+
+module _ (w : World) (l : Lean) (leader : ℕ → Bool) (x : LeanIn w l leader) where
+  abbrev v : Weave
+  v = weave_of w l leader
+
+  -- ---- the tick
+  -- at the begin of a block, with what holds there
+  record Enters (u s : State) (rest : List Item) (a : ℕ) : Type 0 where
+    over : Over w.code u
+    halved : Twice w u s s
+    reads : Reads w.form.far w.code w.entry u.pc (tick (l.most a) (distance_between (w.entry a + 8) l.check) ++ rest)
+    low : a < 2 ^ 64
+    ticked : Ticked l.every w u a
+    begins : u.pc ≡ w.entry a
+
+  -- behind the tick
+  abbrev Entered : State → List Item → ℕ → ℕ → State → Type 0
+  Entered s rest a n y = At w y rest s s × (is_ticked_at l.every w y a ≡ true)
+
+  -- where enough steps are left it passes
+  passes :
+      (u s : State) (rest : List Item) (a : ℕ) (e : Enters u s rest a) → l.most a < e.ticked.left → l.most a ≤ 2048
+      → GoesTo w u 2 2 (λ n y. Entered s rest a n y × (reg y 15 ≡ counter (e.ticked.left - l.most a)))
+  passes u s rest a e lt small =
+      let t = e.ticked in
+      let most = l.most a in
+      let long = e.halved.output.regs in
+      let p = pass_row w u most t.left l.every e.over long e.halved.output.zero_reg t.fifteen t.some t.most x.few small rest (distance_between (w.entry a + 8) l.check) lt e.reads in
+      let c = counter (t.left - most) in
+      let ws : List (ℕ × ℕ) = (15, c) ∷ [] in
+      let y = moved (writes ws u.regs) p.pc u in
+      let here : reg y 15 ≡ c = read_back ws u.regs 15 long refl in
+      let sign : reg y 16 ≡ (a + t.offset * 2 ^ 32) % 2 ^ 64 = read_back ws u.regs 16 long refl ∙ t.sign in
+      record {
+        steps = 2;
+        to = y;
+        at_least = omega arith;
+        within = omega arith;
+        walk = p.walk;
+        is = ((record { over = over_moved w.code u (writes ws u.regs) p.pc e.over; reads = p.reads; halved = halved_writes w u s s ws p.pc (all_temps ws refl) e.halved }, ticked_is l.every w y a (t.left - most) t.offset e.low (some t.left most lt) (less t.left most l.every t.most) x.few here t.few sign t.cursor), here);
+      } where
+        some : (n m : ℕ) → m < n → 1 ≤ n - m
+        some n m h = omega (arith, h)
+
+        less : (n m b : ℕ) → n ≤ b → n - m ≤ b
+        less n m b h = omega (arith, h)
+
+  -- where not, the check is called, and leads back to the entry
+  calls :
+      (u s : State) (rest : List Item) (a : ℕ) (e : Enters u s rest a) → s.pc ≡ a → leader a ≡ true → IsEntryOf w a → e.ticked.left ≤ l.most a → l.most a ≤ 2048
+      → (to : State) × Walk (Quiet w) u 3 to × Back w leader to s a e.ticked.offset l.every w.form.round
+  calls u s rest a e here leads entry le small =
+      let t = e.ticked in
+      let most = l.most a in
+      let long = e.halved.output.regs in
+      let at_entry = e.begins in
+      let reads : Reads w.form.far w.code w.entry u.pc (tick most (distance_between (u.pc + 8) l.check) ++ rest) = subst (λ p. Reads w.form.far w.code w.entry u.pc (tick most (distance_between (p + 8) l.check) ++ rest)) (sym at_entry) e.reads in
+      let first = ins Auipc 30 0 0 (upper_part (distance_between l.check w.base)) in
+      let near = w.low l.check first x.check.0 in
+      let walk = call_row w u most t.left l.every e.over long e.halved.output.zero_reg t.fifteen t.some t.most x.few small rest l.check le (omega (arith, near)) (w.grain l.check first x.check.0) reads in
+      let ws : List (ℕ × ℕ) = (15, most - t.left) ∷ (31, u.pc + 12) ∷ [] in
+      let y = moved (writes ws u.regs) l.check u in
+      let link : reg y 31 ≡ w.entry a + 12 = read_back ws u.regs 31 long refl ∙ ap (λ p. p + 12) at_entry in
+      let tb = x.table a leads in
+      let back = check_row w leader x.small y s a t.offset l.every w.form.round tb entry leads x.some (far l.every x.few) (over_moved w.code u (writes ws u.regs) l.check e.over) (halved_writes w u s s ws l.check (all_temps ws refl) e.halved) x.check here tb.from (x.within a leads) t.few t.cursor (read_back ws u.regs 16 long refl ∙ t.sign) link in
+      (y, walk, back) where
+        far : (n : ℕ) → n ≤ 2048 → n < 2 ^ 63
+        far n h = omega (arith, h)
+
+  -- back from the check it passes
+  again :
+      (u s : State) (rest : List Item) (a : ℕ) (e : Enters u s rest a) → s.pc ≡ a → leader a ≡ true → l.most a ≤ 2048
+      → (to : State) × Walk (Quiet w) u 3 to × Back w leader to s a e.ticked.offset l.every w.form.round
+      → GoesTo w u 0 (5 + check_steps w) (λ n y. Entered s rest a n y)
+  again u s rest a e here leads small c =
+      let b = c.2 in
+      let t = e.ticked in
+      let same : b.to.pc ≡ w.entry a = b.stands.pc ∙ ap w.entry here in
+      let at_entry : Reads w.form.far w.code w.entry b.to.pc (tick (l.most a) (distance_between (w.entry a + 8) l.check) ++ rest) = subst (λ p. Reads w.form.far w.code w.entry p (tick (l.most a) (distance_between (w.entry a + 8) l.check) ++ rest)) (sym same) (subst (λ p. Reads w.form.far w.code w.entry p (tick (l.most a) (distance_between (w.entry a + 8) l.check) ++ rest)) e.begins e.reads) in
+      let f : Enters b.to s rest a = record {
+        over = b.stands.over;
+        halved = b.stands.halved;
+        reads = at_entry;
+        low = e.low;
+        begins = same;
+        ticked = record { left = l.every; some = x.some; most = omega arith; fifteen = b.counter; offset = b.next; few = b.few; sign = b.sign; cursor = subst (IsCursor w.form.spans) (sym b.word) (words_in t.offset t.cursor) };
+      } in
+      let g = passes b.to s rest a f (x.ticks a leads) small in
+      record {
+        steps = 3 + (b.steps + g.steps);
+        to = g.to;
+        at_least = omega arith;
+        within = all_in b.steps g.steps b.within g.within;
+        walk = walk_on (Quiet w) u c.0 g.to 3 (b.steps + g.steps) c.1 (walk_on (Quiet w) c.0 b.to g.to b.steps g.steps b.walk g.walk);
+        is = g.is.0;
+      } where
+        words_in : (k : ℕ) → IsCursor w.form.spans (first_word w.form.spans + k) → IsCursor w.form.spans (words_on w.form.spans w.form.round (first_word w.form.spans + k))
+        words_in k c = words_within w.form.spans w.base w.form.round (first_word w.form.spans + k) w.spans_good c
+
+        all_in : (m n : ℕ) → m ≤ check_steps w → n ≤ 2 → 3 + (m + n) ≤ 5 + check_steps w
+        all_in m n h k = omega (arith, h, k)
+
+  -- any entry
+  pub enter_law :
+      (u s : State) (rest : List Item) → Stands w leader u s → is_ticked_at l.every w u s.pc ≡ true → s.pc < 2 ^ 64
+      → Reads w.form.far w.code w.entry u.pc (tick (l.most s.pc) (distance_between (w.entry s.pc + 8) l.check) ++ rest) → GoesTo w u 0 (5 + check_steps w) (λ n y. Entered s rest s.pc n y)
+  enter_law u s rest st held low r =
+      let a = s.pc in
+      let t = ticked_of l.every w u a held in
+      let first = ins Addi 15 15 0 (pos (l.most a)) in
+      let near = subst (λ p. p + 8 ≤ 2 ^ 63) st.pc (w.low u.pc first r.0) in
+      let grain = subst (λ p. p % 4 ≡ 0) st.pc (w.grain u.pc first r.0) in
+      let entry : IsEntryOf w a = record { low = low; entry_low = omega (arith, near); grain = grain } in
+      let e : Enters u s rest a = record { over = st.over; halved = st.halved; reads = r; low = low; ticked = t; begins = st.pc } in
+      let small : l.most a ≤ 2048 = fewer (l.most a) l.every (x.ticks a st.leads) x.few in
+      ⊎_elim
+      (λ lt. let g = passes u s rest a e lt small in record { steps = g.steps; to = g.to; at_least = omega arith; within = two g.steps g.within; walk = g.walk; is = g.is.0 })
+      (λ ge. again u s rest a e refl st.leads small (calls u s rest a e refl st.leads entry ge small))
+      (cases_lt (l.most a) t.left) where
+        fewer : (m n : ℕ) → m < n → n ≤ 2048 → m ≤ 2048
+        fewer m n h k = omega (arith, h, k)
+
+        two : (n : ℕ) → n ≤ 2 → n ≤ 5 + check_steps w
+        two n h = omega (arith, h)
+
+  -- ---- pieces
+  -- its steps
+  piece_few : (is : List Ins) → v.fits is ≡ true → piece_steps is ≤ 5 * l.inst_max
+  piece_few is fits =
+      let few = leb-true (length is) l.inst_max (and_parts _ _ fits).1 in
+      let m : 5 * length is ≤ 5 * l.inst_max = mul-le-mul_left 5 few in
+      let c = cost_parts 5 mirror_steps (omega arith) (λ i. let a = mirror_steps_le i in let b = spent_le i in omega (arith, a, b)) is in
+      omega (arith, c, m)
+
+  pub piece_law :
+      (is : List Ins) (b : ℕ) (u s : State) (rest : List Item) → is_ticked_at l.every w u b ≡ true → PieceAt w v s.pc is → At w u (v.code.piece is s.pc ++ rest) s s → Sourced w s
+      → NotTrapped (run s (length is)) → GoesTo w u (length is) (5 * l.inst_max) (λ n y. At w y rest (run s (length is)) (run s (length is)) × (is_ticked_at l.every w y b ≡ true))
+  piece_law is b u s rest held p a so calm =
+      let g = piece_row w is s p.fit (and_parts _ _ p.one).0 p.has so calm u rest a in
+      let few = piece_few is p.one in
+      record { steps = g.steps; to = g.to; at_least = g.at_least; within = omega (arith, g.within, few); walk = g.walk; is = (g.at, ticked_same l.every w u g.to b g.counter g.sign held) }
+
+  pub inside_law :
+      (is : List Ins) (n : ℕ) (u s : State) (rest : List Item) → n < length is → PieceAt w v s.pc is → At w u (v.code.piece is s.pc ++ rest) s s → Sourced w s → NotTrapped (run s n)
+      → GoesTo w u n (5 * l.inst_max) (λ k y. Inside w s n y)
+  inside_law is n u s rest lt p a so calm =
+      let b = subst (λ l. At w u l s s) (append_assoc (each_part original is s.pc) (each_part mirrored is s.pc) rest) a in
+      let g = front_row w is n u s (each_part mirrored is s.pc ++ rest) lt p.fit (and_parts _ _ p.one).0 p.has b so calm in
+      let few = leb-true (length is) l.inst_max (and_parts _ _ p.one).1 in
+      let m : 3 * n ≤ 3 * l.inst_max = mul-le-mul_left 3 (less n (length is) l.inst_max lt few) in
+      record { steps = g.steps; to = g.to; at_least = g.at_least; within = omega (arith, g.within, m); walk = g.walk; is = g.is } where
+        less : (n k b : ℕ) → n < k → k ≤ b → n ≤ b
+        less n k b h e = omega (arith, h, e)
