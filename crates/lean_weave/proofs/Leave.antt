@@ -34,7 +34,7 @@ use Rattle.lean_weave.specs.Lean.{turn, goes, opposite, leave_as, cost, leave_co
 use Rattle.lean_weave.specs.Woven.{fall_to}
 use Rattle.lean_weave.proofs.Chain.{cost_append}
 use Rattle.lean_weave.proofs.Ways.{opposite_is, reads_behind}
-use Rattle.lean_weave.proofs.Turn.{Signed, turn_row}
+use Rattle.lean_weave.proofs.Turn.{Signed, turned, turn_any, turn_row}
 
 -- x16 has the signature of an address with an offset, and x15 is as in u
 abbrev pub SignedAs : State → ℕ → State → ℕ → Type 0
@@ -89,7 +89,6 @@ module _ (w : World) (leader : ℕ → Bool) (entries : (a : ℕ) → leader a �
   pub record Turning (u t : State) (a p k : ℕ) (rest : List Item) : Type 0 where
     pub at : At w u (turn a p ++ rest) t t
     pub low : a < 2 ^ 64
-    pub aim : p < 2 ^ 64
     pub sourced : Sourced w t
     pub here : t.pc ≡ p
     pub sign : reg u 16 ≡ (a + k) % 2 ^ 64
@@ -99,7 +98,7 @@ module _ (w : World) (leader : ℕ → Bool) (entries : (a : ℕ) → leader a �
   lost_row :
       (u t : State) (a p k : ℕ) (rest : List Item) → Turning u t a p k rest → ((i : Ins) → w.source p ≡ Known i → ⊥) → Went w leader u t 1 (cost (turn a p)) k
   lost_row u t a p k rest x lacks =
-      let s = turn_row w u rest x.at.over x.at.halved.output.regs a p k x.low x.aim x.sign x.at.reads in
+      let s = turn_any w u rest x.at.over x.at.halved.output.regs a p x.at.reads in
       let other : (a == p) ≡ false = ne_eqb a p (λ e. let c = codes a x.leads in lacks c.0 (ap w.source (sym e) ∙ c.1)) in
       let some : cond {A = ℕ} (a == p) 0 1 ≡ 1 = ap (λ b. cond {A = ℕ} b 0 1) other in
       record {
@@ -108,14 +107,14 @@ module _ (w : World) (leader : ℕ → Bool) (entries : (a : ℕ) → leader a �
         at_least = omega (arith, s.at_least, some);
         within = s.within;
         walk = s.sets.walk;
-        is = is_lost x.at.over.going (halved_signed u t rest (cond (a == p) 0 1) (cost (turn a p)) ((p + k) % 2 ^ 64) s x.at.halved) x.sourced (λ i h. lacks i (ap w.source (sym x.here) ∙ h));
+        is = is_lost x.at.over.going (halved_signed u t rest (cond (a == p) 0 1) (cost (turn a p)) (turned w u rest x.at.over x.at.halved.output.regs a p) s x.at.halved) x.sourced (λ i h. lacks i (ap w.source (sym x.here) ∙ h));
       }
 
   -- to a leader, by a jump
   reach_row :
       (near : w.form.far ≡ false) (u t : State) (a p k : ℕ) (rest : List Item) → Turning u t a p k (Go p ∷ rest) → leader p ≡ true → Went w leader u t 1 (cost (turn a p) + 1) k
   reach_row near u t a p k rest x l =
-      let s = turn_row w u (Go p ∷ rest) x.at.over x.at.halved.output.regs a p k x.low x.aim x.sign x.at.reads in
+      let s = turn_row w u (Go p ∷ rest) x.at.over x.at.halved.output.regs a p k x.low (entries p l).low x.sign x.at.reads in
       let y = moved s.regs s.sets.pc u in
       let hy = halved_signed u t (Go p ∷ rest) (cond (a == p) 0 1) (cost (turn a p)) ((p + k) % 2 ^ 64) s x.at.halved in
       let e = entries p l in
@@ -147,7 +146,7 @@ module _ (w : World) (leader : ℕ → Bool) (entries : (a : ℕ) → leader a �
       let sum = cost_append (turn a p) (fall_to leader p) in
       ⊎_elim
       (λ l.
-      let s = turn_row w u (fall_to leader p) x.at.over x.at.halved.output.regs a p k x.low x.aim x.sign x.at.reads in
+      let s = turn_row w u (fall_to leader p) x.at.over x.at.halved.output.regs a p k x.low (entries p l).low x.sign x.at.reads in
       let marked : Reads w.form.far w.code w.entry s.sets.pc (Mark p ∷ []) = subst (λ b. Reads w.form.far w.code w.entry s.sets.pc (cond b (Mark p ∷ []) (Go p ∷ []))) l s.sets.reads in
       record {
         steps = s.steps;
@@ -213,7 +212,7 @@ module _ (w : World) where
         let j = jump_step w s i so h c calm in
         let t = target i s.pc in
         let r : Led w u 0 (cost (links i s.pc)) (goes a t) (step s) (step s) = subst (λ x. Led w u 0 (cost (links i s.pc)) (goes a t) x x) (sym j.is) (links_led i.rd (next_pc s) (target i s.pc) u s (goes a t) at (omega arith) hd) in
-        let x : Turning w leader entries codes r.to (step s) a t k (Go t ∷ []) = record { at = r.at; low = low; aim = omega arith; sourced = j.sourced; here = j.pc; sign = r.sign ∙ sign; leads = leads } in
+        let x : Turning w leader entries codes r.to (step s) a t k (Go t ∷ []) = record { at = r.at; low = low; sourced = j.sourced; here = j.pc; sign = r.sign ∙ sign; leads = leads } in
         let y = went_behind w leader u r.to (step s) r.steps (cost (links i s.pc)) 1 (cost (goes a t)) k r.walk r.cursor r.within (goes_row w leader entries codes near r.to (step s) a t k [] x g) in
         let sum = cost_append (links i s.pc) (goes a t) in
         record { steps = y.steps; to = y.to; at_least = omega (arith, y.at_least); within = omega (arith, y.within, sum); walk = y.walk; is = y.is }
@@ -224,8 +223,8 @@ module _ (w : World) where
     ways i a at = goes a (target i at) ++ (turn a ((at + 4) % 2 ^ 64) ++ fall_to leader ((at + 4) % 2 ^ 64))
 
     -- the branch of the output
-    abbrev turned : Ins → ℕ → ℕ → Ins
-    turned i a at = ins (opposite i.kind) 0 i.rs1 i.rs2 (pos (4 + sum_of_sizes false (goes a (target i at))))
+    abbrev branched : Ins → ℕ → ℕ → Ins
+    branched i a at = ins (opposite i.kind) 0 i.rs1 i.rs2 (pos (4 + sum_of_sizes false (goes a (target i at))))
 
     -- where its other way begins
     record Beyond (p : ℕ) (xs : List Item) (size : ℕ) : Type 0 where
@@ -258,12 +257,12 @@ module _ (w : World) where
 
     -- behind the branch of the output, on its way
     way_row :
-        (b : Bool) (u s : State) (i : Ins) (a k : ℕ) (x : Branching u s i a k) → Branches w s i b → (g : Passes w u (cost (guards_of i)) (Plain (turned i a s.pc) ∷ ways i a s.pc))
+        (b : Bool) (u s : State) (i : Ins) (a k : ℕ) (x : Branching u s i a k) → Branches w s i b → (g : Passes w u (cost (guards_of i)) (Plain (branched i a s.pc) ∷ ways i a s.pc))
         → holds (opposite i.kind) (reg u i.rs1) (reg u i.rs2) ≡ not b
         → Went w leader u (step s) 1 (leave_cost_as (fall_to leader) class.Branch i a s.pc) k
     way_row true u s i a k x br g test =
         let t = target i s.pc in
-        let j = turned i a s.pc in
+        let j = branched i a s.pc in
         let y = moved u.regs g.pc u in
         let z = moved u.regs (g.pc + 4) u in
         let more = turn a ((s.pc + 4) % 2 ^ 64) ++ fall_to leader ((s.pc + 4) % 2 ^ 64) in
@@ -272,7 +271,6 @@ module _ (w : World) where
         let tn : Turning w leader entries codes z (step s) a t k (Go t ∷ more) = record {
           at = record { over = over_moved w.code u u.regs (g.pc + 4) x.at.over; reads = subst (λ l. Reads w.form.far w.code w.entry (g.pc + 4) l) (append_assoc (turn a t) (Go t ∷ []) more) g.reads.1; halved = views };
           low = x.low;
-          aim = omega arith;
           sourced = br.sourced;
           here = br.pc;
           sign = x.sign;
@@ -283,7 +281,7 @@ module _ (w : World) where
         record { steps = r.steps; to = r.to; at_least = first_le g.steps r.steps r.at_least; within = first_max (cost (guards_of i)) (cost (goes a t)) (cost (turn a ((s.pc + 4) % 2 ^ 64) ++ fall_to leader ((s.pc + 4) % 2 ^ 64))) r.steps r.within; walk = r.walk; is = r.is }
     way_row false u s i a k x br g test =
         let n = (s.pc + 4) % 2 ^ 64 in
-        let j = turned i a s.pc in
+        let j = branched i a s.pc in
         let y = moved u.regs g.pc u in
         let b = beyond_goes (g.pc + 4) a (target i s.pc) (turn a n ++ fall_to leader n) g.reads.1 in
         let size = sum_of_sizes false (goes a (target i s.pc)) in
@@ -294,7 +292,6 @@ module _ (w : World) where
         let tn : Turning w leader entries codes z (step s) a n k (fall_to leader n) = record {
           at = record { over = over_moved w.code u u.regs to x.at.over; reads = b.reads; halved = views };
           low = x.low;
-          aim = omega arith;
           sourced = br.sourced;
           here = br.pc;
           sign = x.sign;
@@ -311,6 +308,6 @@ module _ (w : World) where
         let br = branch_step w s i x.sourced h x.branch calm in
         let b = holds i.kind (reg s i.rs1) (reg s i.rs2) in
         let t = x.at.halved in
-        let g = guards_cost u i (Plain (turned i a s.pc) ∷ ways i a s.pc) x.at.over x.at.reads (own_pair w u s i.rs1 t x.first) (own_pair w u s i.rs2 t x.second) in
+        let g = guards_cost u i (Plain (branched i a s.pc) ∷ ways i a s.pc) x.at.over x.at.reads (own_pair w u s i.rs1 t x.first) (own_pair w u s i.rs2 t x.second) in
         let test : holds (opposite i.kind) (reg u i.rs1) (reg u i.rs2) ≡ not b = (opposite_is i.kind x.branch).1 (reg u i.rs1) (reg u i.rs2) ∙ ap not (ap (λ p. holds i.kind p (reg u i.rs2)) (t.originals i.rs1 x.first) ∙ ap (λ p. holds i.kind (reg s i.rs1) p) (t.originals i.rs2 x.second)) in
         way_row b u s i a k x br g test

@@ -10,3 +10,4 @@ pub mod Piece
 pub mod Held
 pub mod Costs
 pub mod Rows
+pub mod Left

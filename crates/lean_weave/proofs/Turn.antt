@@ -98,18 +98,26 @@ module _ (w : World) (u : State) (rest : List Item) (o : Over w.code u) (long : 
     by true h = turn_short d h
     by false h = turn_far d h
 
+  -- what a turn leaves
+  abbrev pub turned : ℕ → ℕ → ℕ
+  turned a t = cond (a == t) (reg u 16) ((reg u 16 + wrapped (distance_between a t)) % 2 ^ 64)
+
+  pub turn_any : (a t : ℕ) → Reads w.form.far w.code w.entry u.pc (turn a t ++ rest) → Signed w u rest (cond (a == t) 0 1) (cost (turn a t)) (turned a t)
+  turn_any a t h = by (a == t) h where
+    by :
+        (b : Bool) → Reads w.form.far w.code w.entry u.pc (cond b [] (turn_by (distance_between a t)) ++ rest)
+        → Signed w u rest (cond b 0 1) (cost (cond b [] (turn_by (distance_between a t)))) (cond b (reg u 16) ((reg u 16 + wrapped (distance_between a t)) % 2 ^ 64))
+    by true h = record { steps = 0; regs = u.regs; at_least = omega arith; within = omega arith; long = long; same = λ q x y. refl; sign = refl; sets = record { pc = u.pc; walk = walk_none (Quiet w) u; reads = h } }
+    by false h = turn_by_row (distance_between a t) h
+
   -- from one input address to another, whatever the offset
   pub turn_row :
       (a t k : ℕ) → a < 2 ^ 64 → t < 2 ^ 64 → reg u 16 ≡ (a + k) % 2 ^ 64 → Reads w.form.far w.code w.entry u.pc (turn a t ++ rest)
       → Signed w u rest (cond (a == t) 0 1) (cost (turn a t)) ((t + k) % 2 ^ 64)
-  turn_row a t k ha ht sign h = by (a == t) refl h where
+  turn_row a t k ha ht sign h = subst (Signed w u rest (cond (a == t) 0 1) (cost (turn a t))) (is (a == t) refl) (turn_any a t h) where
     there : (x : ℕ) → (a + x) % 2 ^ 64 ≡ t → (reg u 16 + x) % 2 ^ 64 ≡ (t + k) % 2 ^ 64
     there x e = omega (arith, sign, e)
 
-    by :
-        (b : Bool) → (a == t) ≡ b → Reads w.form.far w.code w.entry u.pc (cond b [] (turn_by (distance_between a t)) ++ rest)
-        → Signed w u rest (cond b 0 1) (cost (cond b [] (turn_by (distance_between a t)))) ((t + k) % 2 ^ 64)
-    by true e h =
-        let same : a ≡ t = eqb-true a t e in
-        record { steps = 0; regs = u.regs; at_least = omega arith; within = omega arith; long = long; same = λ q x y. refl; sign = sign ∙ ap (λ y. (y + k) % 2 ^ 64) same; sets = record { pc = u.pc; walk = walk_none (Quiet w) u; reads = h } }
-    by false e h = subst (Signed w u rest 1 (cost (turn_by (distance_between a t)))) (there (wrapped (distance_between a t)) (difference a t ha ht)) (turn_by_row (distance_between a t) h)
+    is : (b : Bool) → (a == t) ≡ b → cond b (reg u 16) ((reg u 16 + wrapped (distance_between a t)) % 2 ^ 64) ≡ (t + k) % 2 ^ 64
+    is true e = sign ∙ ap (λ y. (y + k) % 2 ^ 64) (eqb-true a t e)
+    is false e = there (wrapped (distance_between a t)) (difference a t ha ht)
