@@ -12,8 +12,11 @@ use Rattle.qed_model.specs.declared.item.Item.TheVariants.{Mark, Plain, Constant
 use Rattle.qed_model.specs.Machine.Table.{ins}
 use Rattle.qed_model.specs.Machine.Step.{target}
 use Rattle.qed_model.specs.Weave.Placed.{distance_between, upper_part, lower_part}
-use Rattle.qed_model.specs.Weave.Sequences.{fired_check, guard, guards_of, links}
-use Rattle.lean_weave.specs.Lean.{is_short, turn_by, turn, goes, look_up, leave_as, cost, leave_cost_as}
+use Rattle.qed_model.specs.Weave.Sequences.{End, Falls, Stops, fired_check, guard, guards_of, links}
+use Rattle.rv_isa.specs.Kind.{class_of}
+use Rattle.weave_core.specs.World.{World}
+use Rattle.weave_core.specs.Blocks.{Leaves, EndStands}
+use Rattle.lean_weave.specs.Lean.{is_short, turn_by, turn, goes, look_up, leave_as, is_break, cost, leave_cost, leave_cost_as}
 use Rattle.lean_weave.specs.Woven.{fall_to}
 use Rattle.lean_weave.proofs.Chain.{cost_append}
 
@@ -55,13 +58,13 @@ fall_most leader t = by (leader t) where
   by false = omega arith
 
 -- ---- of leaves
-pub falls_cost : (leader : ℕ → Bool) (a t : ℕ) → cost (turn a t ++ fall_to leader t) ≤ 18
+falls_cost : (leader : ℕ → Bool) (a t : ℕ) → cost (turn a t ++ fall_to leader t) ≤ 19
 falls_cost leader a t = let e = cost_append (turn a t) (fall_to leader t) in let b = turn_most a t in let c = fall_most leader t in omega (arith, e, b, c)
 
-pub jump_cost : (leader : ℕ → Bool) (i : Ins) (a at : ℕ) → cost (leave_as (fall_to leader) class.Jump i a at) ≤ 18
+jump_cost : (leader : ℕ → Bool) (i : Ins) (a at : ℕ) → cost (leave_as (fall_to leader) class.Jump i a at) ≤ 19
 jump_cost leader i a at = let e = cost_append (links i at) (goes a (target i at)) in let b = links_most i at in let c = goes_most a (target i at) in omega (arith, e, b, c)
 
-pub branch_cost : (leader : ℕ → Bool) (i : Ins) (a at : ℕ) → leave_cost_as (fall_to leader) class.Branch i a at ≤ 18
+branch_cost : (leader : ℕ → Bool) (i : Ins) (a at : ℕ) → leave_cost_as (fall_to leader) class.Branch i a at ≤ 19
 branch_cost leader i a at =
     let n = (at + 4) % 2 ^ 64 in
     let b = guards_most i in
@@ -74,10 +77,32 @@ branch_cost leader i a at =
       ways : (x y : ℕ) → x ≤ 4 → y ≤ 4 → max x y ≤ 4
       ways x y h k = max-le h k
 
-pub leap_cost : (leader : ℕ → Bool) (i : Ins) (a at : ℕ) → cost (leave_as (fall_to leader) class.JumpReg i a at) ≤ 18
+leap_cost : (leader : ℕ → Bool) (i : Ins) (a at : ℕ) → cost (leave_as (fall_to leader) class.JumpReg i a at) ≤ 19
 leap_cost leader i a at =
     let b = guard_most i.rs1 in
     let c = links_most i at in
     let e = cost_append (guard i.rs1) (Plain (ins Addi 30 i.rs1 0 i.imm) ∷ Plain (ins Andi 30 30 0 (neg_ℤ (pos 2))) ∷ (links i at ++ look_up)) in
     let f = cost_append (links i at) look_up in
     omega (arith, b, c, e, f)
+
+end_cost : (leader : ℕ → Bool) (i : Ins) (a at : ℕ) → cost (leave_as (fall_to leader) class.End i a at) ≤ 19
+end_cost leader i a at = let b = one (is_break i.kind) in omega (arith, b) where
+  one : (b : Bool) → cond {A = ℕ} b 0 1 ≤ 1
+  one true = omega arith
+  one false = omega arith
+
+-- of any that stands at the end of a block
+stop_cost : (c : Class) (w : World) (leader : ℕ → Bool) (i : Ins) (a at : ℕ) → Leaves c w leader i at → leave_cost_as (fall_to leader) c i a at ≤ 19
+stop_cost class.End w leader i a at g = end_cost leader i a at
+stop_cost class.Illegal w leader i a at g = let b = one (is_break i.kind) in omega (arith, b) where
+  one : (b : Bool) → cond {A = ℕ} b 0 1 ≤ 1
+  one true = omega arith
+  one false = omega arith
+stop_cost class.Jump w leader i a at g = jump_cost leader i a at
+stop_cost class.Branch w leader i a at g = branch_cost leader i a at
+stop_cost class.JumpReg w leader i a at g = leap_cost leader i a at
+stop_cost c w leader i a at g = absurd g
+
+pub leave_most : (e : End) (w : World) (leader : ℕ → Bool) (a at : ℕ) → EndStands w leader e at → leave_cost (fall_to leader) e a at ≤ 19
+leave_most Falls w leader a at g = falls_cost leader a at
+leave_most (Stops i) w leader a at g = stop_cost (class_of i.kind) w leader i a at g.1

@@ -1,11 +1,14 @@
 -- Each leave meets the law of the rows.
-use Rattle.std.proofs.Common.{◌≡◌, ℕ, ◌+◌, ◌*◌, ◌%◌, ◌^◌, ◌<◌, ◌≤◌, ◌⊎◌, inl, inr, Bool, true, false, List, [], ◌∷◌, ◌++◌, refl, sym, ap, ◌∙◌, subst, arith}
-use Rattle.std.specs.Prelude.{◌==◌, ◌&&◌}
-use Rattle.std.proofs.lemmas.Bool.{and_parts, eqb-true}
+use Rattle.std.proofs.Common.{◌≡◌, ℕ, ◌+◌, ◌*◌, ◌%◌, ◌^◌, ◌<◌, ◌≤◌, ◌⊎◌, inl, inr, Bool, true, false, List, [], ◌∷◌, ◌++◌, length, refl, sym, ap, ◌∙◌, subst, arith}
+use Rattle.std.specs.Prelude.{◌==◌, ◌&&◌, nat_le, pos}
+use Rattle.std.proofs.lemmas.Bool.{and_parts, eqb-true, leb-true}
 use Rattle.rv_isa.specs.declared.ins.Ins.{Ins}
 use Rattle.rv_isa.specs.declared.class.Class.{Class}
 use Rattle.rv_isa.specs.declared.class.Class.TheVariants as class
 use Rattle.rv_isa.specs.Kind.{class_of}
+use Rattle.rv_isa.specs.declared.kind.Kind.TheVariants.{Addi}
+use Rattle.qed_model.specs.Machine.Table.{ins}
+use Rattle.qed_model.specs.Weave.Pieces.{is_run}
 use Rattle.qed_model.specs.Machine.Step.{State, reg, Known, run, step, target}
 use Rattle.qed_model.specs.Promise.Kept.{NotTrapped, LeadsToReached, IsSteady}
 use Rattle.qed_model.specs.Weave.Sequences.{End, Falls, Stops}
@@ -14,12 +17,13 @@ use Rattle.weave_core.specs.World.{World}
 use Rattle.weave_core.specs.Blocks.{IsEntryOf, Leaves, EndStands, Goes}
 use Rattle.weave_core.specs.Rows.{At, Sourced}
 use Rattle.weave_core.specs.Weave.{Weave}
-use Rattle.weave_core.specs.WeaveLaws.{Ends, GoesTo, stops, Onward, lands, is_lost, Left, Rows}
+use Rattle.weave_core.specs.WeaveLaws.{EntryAt, Ends, GoesTo, stops, Onward, lands, is_lost, Left, Rows}
 use Rattle.weave_core.proofs.Indirect.{aim, leap_step}
 use Rattle.weave_core.proofs.Leaves.{step-illegal}
 use Rattle.lean_weave.specs.Lean.{leave, leave_as, leave_cost, leave_cost_as, is_ticked_at, cost}
 use Rattle.lean_weave.specs.Woven.{Lean, fall_to, weave_of, LeanIn}
-use Rattle.lean_weave.proofs.Costs.{falls_cost, jump_cost, branch_cost, leap_cost}
+use Rattle.lean_weave.proofs.Costs.{leave_most}
+use Rattle.lean_weave.proofs.Rows.{enter_law, inside_law, piece_law}
 use Rattle.lean_weave.proofs.End.{end_leave}
 use Rattle.lean_weave.proofs.Held.{Ticked, ticked_of, ticked_is}
 use Rattle.lean_weave.proofs.Leap.{leap_leave}
@@ -61,3 +65,43 @@ module _ (w : World) (l : Lean) (leader : ℕ → Bool) (x : LeanIn w l leader) 
     unfolding run
     leave_row Falls u s at so g st sign = inr (falls_row w leader entries x.codes u s a s.pc k (record { at = at; low = low; sourced = so; here = refl; sign = sign; leads = leads }) g)
     leave_row (Stops i) u s at so g st sign = stop_row (class_of i.kind) u s i refl at so g.0 g.1 st.no_trap (st.leads 0 (omega arith)) sign
+
+  -- ---- in the words of the rows
+  -- where the block's address and offset are those of the state
+  from_parts : (b : ℕ) (u t : State) (least most : ℕ) (k : Ticked l.every w u b) → most ≤ 19 → Parts u t least most (k.offset * 2 ^ 32) → Left w v leader u t least
+  from_parts b u t least most k le (inl g) = inl (record { steps = g.steps; to = g.to; at_least = g.at_least; within = omega (arith, g.within, le); walk = g.walk; is = g.is })
+  from_parts b u t least most k le (inr g) = inr (record { steps = g.steps; to = g.to; at_least = g.at_least; within = omega (arith, g.within, le); walk = g.walk; is = onward g.is }) where
+    onward : Onward w leader (SignedAs u (k.offset * 2 ^ 32)) t g.to → Onward w leader (λ z a. is_ticked_at l.every w z a ≡ true) t g.to
+    onward (lands st s so) = lands st (ticked_is l.every w g.to t.pc k.left k.offset (entries t.pc st.leads).low k.some k.most x.few (s.1 ∙ k.fifteen) k.few s.0 k.cursor) so
+    onward (is_lost going h so lacks) = is_lost going h so lacks
+
+  pub leave_law :
+      (e : End) (b : ℕ) (u s : State) → is_ticked_at l.every w u b ≡ true → ((l.start_of s.pc == b) && leader b) ≡ true → At w u (leave (fall_to leader) e (l.start_of s.pc) s.pc) s s → Sourced w s
+      → EndStands w leader e s.pc → IsSteady w.reached s (stops e) → Left w v leader u (run s (stops e)) (stops e)
+  leave_law e b u s held own at so g steady =
+      let p = and_parts _ _ own in
+      let at_b : At w u (leave (fall_to leader) e b s.pc) s s = subst (λ a. At w u (leave (fall_to leader) e a s.pc) s s) (eqb-true (l.start_of s.pc) b p.0) at in
+      let low = (entries b p.1).low in
+      let k = ticked_of l.every w u b held in
+      from_parts b u (run s (stops e)) (stops e) (leave_cost (fall_to leader) e b s.pc) k (leave_most e w leader b s.pc g) (leave_row b k.offset p.1 k.few e u s at_b so g steady k.sign)
+
+-- ---- all rows
+module _ (w : World) (l : Lean) (leader : ℕ → Bool) (x : LeanIn w l leader) where
+  short_law : (is : List Ins) → (is_run is && nat_le (length is) l.inst_max) ≡ true → length is ≤ 5 * l.inst_max
+  short_law is e = let h = leb-true (length is) l.inst_max (and_parts _ _ e).1 in omega (arith, h)
+
+  entry_known : (a : ℕ) → EntryAt w (weave_of w l leader) leader a → IsEntryOf w a
+  entry_known a b =
+      let i = ins Addi 15 15 0 (pos (l.most a)) in
+      record { low = b.good.low; entry_low = omega (arith, w.low (w.entry a) i b.reads.1.0); grain = w.grain (w.entry a) i b.reads.1.0 }
+
+  -- the lean form meets the laws of the rows
+  pub lean_rows : Rows w (weave_of w l leader) leader
+  lean_rows = record {
+    short = short_law;
+    known = entry_known;
+    enter = λ u s rest st held low r. enter_law w l leader x u s rest st held low r;
+    inside = inside_law w l leader x;
+    piece = piece_law w l leader x;
+    leave = λ known e b u s held own a so g steady. leave_law w l leader x known e b u s held own a so g steady;
+  }
