@@ -11,3 +11,4 @@ pub mod Held
 pub mod Costs
 pub mod Rows
 pub mod Left
+pub mod Begin

@@ -16,7 +16,7 @@ use Rattle.qed_model.specs.Machine.Table.{ins}
 use Rattle.qed_model.specs.Machine.Values.{wrapped}
 use Rattle.qed_model.specs.Machine.Step.{State, reg, target}
 use Rattle.qed_model.specs.Weave.Placed.{distance_between, upper_part, lower_part, sum_of_sizes}
-use Rattle.qed_model.specs.Weave.Sequences.{End, Falls, Stops, fired_check, guard, guards_of, compare, visit, links}
+use Rattle.qed_model.specs.Weave.Sequences.{End, Falls, Stops, fired_check, guard, guards_of, compare, visit, links, zero_from}
 use Rattle.weave_core.specs.World.{World, is_cursor}
 
 -- ---- the tick
@@ -110,6 +110,11 @@ leave_as fall _ i a at = Plain i ∷ []
 abbrev pub leave : (ℕ → List Item) → End → ℕ → ℕ → List Item
 leave fall Falls a at = turn a at ++ fall at
 leave fall (Stops i) a at = leave_as fall (class_of i.kind) i a at
+
+-- ---- what runs first
+-- all originals and pairs are 0, x14 is the distance of the halves, the counter is set, and the test begins at its entry, with the first data word
+abbrev pub begin : ℕ → ℕ → ℕ → List Item
+begin every d a = zero_from 1 13 ++ (zero_from 17 13 ++ (Plain (ins Lui 14 0 0 (pos d)) ∷ Constant 16 a ∷ Plain (ins Addi 15 0 0 (neg_ℤ (pos every))) ∷ Go a ∷ []))
 
 -- ---- the steps
 -- of straight words, where no check fires

@@ -9,21 +9,23 @@ use Rattle.qed_model.specs.Weave.Bounds.{visit_bound}
 use Rattle.qed_model.specs.Weave.Pieces.{is_run}
 use Rattle.qed_model.specs.Weave.Placed.{distance_between}
 use Rattle.qed_model.specs.Weave.Sequences.{Reads, original, mirrored, each_part}
+use Rattle.qed_model.specs.Machine.Program.{Program}
+use Rattle.qed_model.specs.Promise.Kept.{Kept}
+use Rattle.weave_core.specs.Describes.{Describes}
+use Rattle.weave_core.specs.WeaveLaws.{EntriesAt}
 use Rattle.weave_core.specs.World.{World}
 use Rattle.weave_core.specs.Blocks.{TableAt}
 use Rattle.weave_core.specs.Weave.{Weave}
-use Rattle.lean_weave.specs.Lean.{tick, check, leave, is_ticked_at}
+use Rattle.lean_weave.specs.Lean.{tick, check, leave, begin, is_ticked_at}
 
 -- what the form depends on besides the world: what x15 counts from, the most instructions of a piece, the address of the check, the steps that the
--- tick of a block counts, where a block begins that has its end at an address, and what runs first
+-- tick of a block counts, and where a block begins that has its end at an address
 pub record Lean : Type 0 where
   pub every : ℕ
   pub inst_max : ℕ
   pub check : ℕ
   pub most : ℕ → ℕ
   pub start_of : ℕ → ℕ
-  pub first : ℕ → ℕ → List Item
-  pub first_steps : ℕ
 
 -- behind a block stands the entry of a leader, or there is no code
 abbrev pub fall_to : (ℕ → Bool) → ℕ → List Item
@@ -37,13 +39,13 @@ check_steps w = 44 + visit_bound (word_count w.form.spans) (length w.form.spans)
 abbrev pub weave_of : World → Lean → (ℕ → Bool) → Weave
 weave_of w l leader = record {
   code = record {
-    first = l.first;
+    first = begin l.every;
     enter = λ a. tick (l.most a) (distance_between (w.entry a + 8) l.check);
     piece = λ is at. each_part original is at ++ each_part mirrored is at;
     leave = λ e at. leave (fall_to leader) e (l.start_of at) at;
   };
   fits = λ is. is_run is && nat_le (length is) l.inst_max;
-  first_steps = l.first_steps;
+  first_steps = 31;
   enter_steps = 5 + check_steps w;
   piece_steps = 5 * l.inst_max;
   compare_steps = 0;
@@ -69,3 +71,10 @@ pub record LeanIn (w : World) (l : Lean) (leader : ℕ → Bool) : Type 0 where
   pub grain : (a : ℕ) → leader a ≡ true → a % 2 ≡ 0
   pub table : (a : ℕ) → leader a ≡ true → TableAt w a
   pub within : (a : ℕ) → leader a ≡ true → a < w.base + 2 ^ 32
+
+-- ---- the law
+-- where each leader has its entry, the lean form keeps the values
+abbrev pub LeanKept : Type 0
+LeanKept =
+    (f g : Program) (w : World) (l : Lean) (leader : ℕ → Bool) → LeanIn w l leader → Describes f g w → EntriesAt w (weave_of w l leader) leader → leader f.entry ≡ true
+    → Reads w.form.far w.code w.entry g.entry (begin l.every w.distance f.entry) → Kept f g w.reached 31 (24 + check_steps w + 5 * l.inst_max)
