@@ -1,6 +1,7 @@
 -- The blocks of a list of words of the code, word by word.
-use Rattle.std.specs.Prelude.{◌≡◌, ℕ, Bool, true, false, if◌then◌else◌, Some, None, List, [], ◌∷◌, ◌++◌, map, take}
+use Rattle.std.specs.Prelude.{◌≡◌, ℕ, Bool, true, false, ◌==◌, if◌then◌else◌, Option, Some, None, List, [], ◌∷◌, ◌++◌, ◌<◌, AllPairs, filter, map, take}
 use Rattle.qed_model.specs.declared.test.CodeWord.{CodeWord}
+use Rattle.flow_recovery.specs.Sets.{lists}
 use Rattle.block_split.specs.Lengths.{AreLengths}
 use Rattle.block_list.specs.declared.block.CodeBlock.{CodeBlock}
 use Rattle.block_list.specs.Bodies.{ends, body_size, body_end}
@@ -9,6 +10,21 @@ use Rattle.block_list.specs.Bodies.{ends, body_size, body_end}
 abbrev pub first_at : List CodeWord → ℕ
 first_at [] = 0
 first_at (w ∷ ws) = w.at
+
+-- the words ascend, and the leaders stand at some of them, in the same order
+pub record AreAlong (words : List CodeWord) (leaders : List ℕ) : Type 0 where
+  pub ascend : AllPairs (λ a b. a < b) (map (λ c. c.at) words)
+  pub along : leaders ≡ filter (lists leaders) (map (λ c. c.at) words)
+
+-- the first of some leaders
+abbrev pub first : List ℕ → Option ℕ
+first [] = None
+first (b ∷ bs) = Some b
+
+-- those behind a, of leaders from there on
+abbrev pub behind : ℕ → List ℕ → List ℕ
+behind a [] = []
+behind a (b ∷ bs) = if b == a then bs else b ∷ bs
 
 -- the block that begins with the first word, at a leader
 pub record IsLong (leads : ℕ → Bool) (most : ℕ) (words : List CodeWord) (b : CodeBlock) : Type 0 where
@@ -38,10 +54,10 @@ Begun false true leads most (w ∷ ws) bs = One (IsShort w) bs
 Begun false false leads most (w ∷ ws) bs = bs ≡ []
 
 -- these were added
-pub record AddsBlock (leads : ℕ → Bool) (every : Bool) (most : ℕ) (words : List CodeWord) (old new : List CodeBlock) : Type 0 where
+pub record AddsBlock (leader : Bool) (leads : ℕ → Bool) (every : Bool) (most : ℕ) (words : List CodeWord) (old new : List CodeBlock) : Type 0 where
   pub added : List CodeBlock
   pub new_is : new ≡ old ++ added
-  pub begun : Begun (leads (first_at words)) every leads most words added
+  pub begun : Begun leader every leads most words added
 
 -- a list in two parts
 pub record Parts (P Q : List CodeBlock → Type 0) (bs : List CodeBlock) : Type 0 where

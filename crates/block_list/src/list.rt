@@ -1,24 +1,24 @@
 //! The list of the blocks.
 ghost use Rattle.std.specs.Prelude.{◌≡◌, ℕ, ◌+◌, ◌≤◌, ◌↔◌, All, IfOk, IsTrue, OnOk, length, map};
-ghost use Rattle.flow_recovery.specs.Sets.{holds};
+ghost use Rattle.flow_recovery.specs.Sets.{lists};
+ghost use Rattle.qed_model.specs.Numbers.{is_at};
 ghost use Rattle.elf_types.specs.declared.file.ElfFile.{ElfFile};
 ghost use Rattle.qed_model.specs.declared.options.Entries.TheVariants as entries;
 ghost use Rattle.qed_model.specs.Admission.Leaders.{HasIndirect};
 ghost use Rattle.qed_model.specs.Admission.Test.{AreCodeWords, IsTestOf};
 ghost use Rattle.qed_model.specs.Weave.Blocks.{AreBlocks};
 ghost use Rattle.qed_model.specs.Weave.Places.{AreSoundOptions};
-ghost use Rattle.block_list.specs.Built.{IsLong, IsShort, AddsBlock, Built};
+ghost use Rattle.block_list.specs.Built.{first, behind, AreAlong, IsLong, IsShort, AddsBlock, Built};
 ghost use Rattle.block_list.specs.Listed.{block_of, IsWithin};
 
 use crate::block::{Blocks, CodeBlock};
-use crate::bodies::{body_extent, ends};
+use crate::bodies::{body_extent, ends, is_at};
 use block_split::split;
 use elf_types::{ElfFile, Listed};
 use flow_recovery::{has_indirect, leaders};
 use qed_model::{CodeWord, Entries, Options, Test};
 use rv_isa::Ins;
 use std::alloc::{AllocError, Global};
-use std::collections::BTreeSet;
 
 /// The instructions of words.
 fn instructions(alloc: Global, words: &[CodeWord]) -> Result<Vec<Ins>, AllocError>
@@ -27,18 +27,18 @@ fn instructions(alloc: Global, words: &[CodeWord]) -> Result<Vec<Ins>, AllocErro
     words.iter().map(|word| word.ins).collect(alloc)
 }
 
-/// The block that begins with the first of these words, which is at a leader.
+/// The block that begins with the first of these words, which is at a leader. The first leader behind it is `next`.
 fn long_block(
     alloc: Global,
     words: &[CodeWord],
-    leaders: &BTreeSet<u64>,
+    next: Option<u64>,
     options: &Options,
 ) -> Result<CodeBlock, AllocError>
     requires some { 1 ≤ length words.now }
     requires sound { AreSoundOptions options.now }
-    ensures { IfOk result (IsLong (holds leaders.now) options.now.inst_max words.now) }
+    ensures { IfOk result (IsLong (is_at next) options.now.inst_max words.now) }
 {
-    let found = body_extent(words, leaders);
+    let found = body_extent(words, next);
     let body = instructions(alloc, &words[..found.size])?;
     let lengths = split(alloc, &body, options.inst_min, options.inst_max)?;
     Ok(CodeBlock {
@@ -74,41 +74,74 @@ fn short_block(alloc: Global, word: &CodeWord) -> Result<CodeBlock, AllocError>
     })
 }
 
-/// Adds the block that begins with the first of these words, where one does.
+/// Adds the block that begins with the first of these words, where one does: `leads` says whether that is a leader.
 fn push_block(
     blocks: &mut Vec<CodeBlock>,
     words: &[CodeWord],
-    leaders: &BTreeSet<u64>,
+    leads: bool,
+    next: Option<u64>,
     every: bool,
     options: &Options,
 ) -> Result<(), AllocError>
     requires some { 1 ≤ length words.now }
     requires sound { AreSoundOptions options.now }
-    ensures { OnOk result (AddsBlock (holds leaders.now) every options.now.inst_max words.now blocks.old.items blocks.new.items) }
+    ensures { OnOk result (AddsBlock leads (is_at next) every options.now.inst_max words.now blocks.old.items blocks.new.items) }
 {
     let alloc = *blocks.allocator();
-    if leaders.contains(&words[0].at) {
-        blocks.push(long_block(alloc, words, leaders, options)?)?;
+    if leads {
+        blocks.push(long_block(alloc, words, next, options)?)?;
     } else if every {
         blocks.push(short_block(alloc, &words[0])?)?;
     }
     Ok(())
 }
 
-/// The blocks of words.
+/// The first of some leaders.
+fn first(leaders: &[u64]) -> Option<u64>
+    ensures { result ≡ first leaders.now }
+{
+    match leaders {
+        [leader, ..] => Some(*leader),
+        [] => None,
+    }
+}
+
+/// The leaders behind an address, of those from there on.
+fn behind(address: u64, leaders: &[u64]) -> &[u64]
+    ensures { result.now ≡ behind address leaders.now }
+{
+    match leaders {
+        [leader, rest @ ..] if *leader == address => rest,
+        _ => leaders,
+    }
+}
+
+/// The blocks of words, with the leaders at them.
 pub(crate) fn list(
     alloc: Global,
     words: &[CodeWord],
-    leaders: &BTreeSet<u64>,
+    leaders: &[u64],
     every: bool,
     options: &Options,
 ) -> Result<Vec<CodeBlock>, AllocError>
-    requires { AreSoundOptions options.now }
-    ensures { IfOk result (λ blocks. Built (holds leaders.now) every options.now.inst_max words.now blocks.items) }
+    requires sound { AreSoundOptions options.now }
+    requires along { AreAlong words.now leaders.now }
+    ensures { IfOk result (λ blocks. Built (lists leaders.now) every options.now.inst_max words.now blocks.items) }
 {
     let mut blocks = Vec::new(alloc);
+    let mut left = leaders;
     for at in 0..words.len() {
-        push_block(&mut blocks, &words[at..], leaders, every, options)?;
+        let address = words[at].at;
+        let leads = is_at(first(left), address);
+        left = behind(address, left);
+        push_block(
+            &mut blocks,
+            &words[at..],
+            leads,
+            first(left),
+            every,
+            options,
+        )?;
     }
     Ok(blocks)
 }
@@ -139,6 +172,12 @@ pub fn blocks(
 {
     let leaders = leaders(alloc, test, file, options)?;
     let every = has_every(test, options);
-    let list = list(alloc, test.code.as_slice(), &leaders, every, options)?;
+    let list = list(
+        alloc,
+        test.code.as_slice(),
+        leaders.as_slice(),
+        every,
+        options,
+    )?;
     Ok(Listed::of(list))
 }

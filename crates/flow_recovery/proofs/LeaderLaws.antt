@@ -1,8 +1,10 @@
 -- What was collected are the leaders.
-use Rattle.std.proofs.Common.{◌≡◌, ⊎_elim, ℕ, ◌+◌, ◌<◌, ◌^◌, Bool, true, false, List, [], ◌∷◌, refl, sym, ap, ◌∙◌, subst}
-use Rattle.std.specs.Prelude.{All, ◌==◌, ◌&&◌, ◌||◌, ◌↔◌, IsTrue, nat_lt}
+use Rattle.std.proofs.Common.{◌≡◌, ⊎_elim, ℕ, ◌+◌, ◌<◌, ◌^◌, Bool, true, false, List, [], map, refl, sym, ap, ◌∙◌, subst}
+use Rattle.std.specs.Prelude.{All, AllPairs, ◌==◌, ◌&&◌, ◌||◌, ◌↔◌, IsTrue, nat_lt, filter}
 use Rattle.std.specs.List.{list_any}
-use Rattle.std.specs.BTreeSet.{BTreeSet}
+use Rattle.std.specs.List.Sorted.{IsPermutation, IsSorted}
+use Rattle.std.specs.Ordering.{nat_cmp}
+use Rattle.std.proofs.lemmas.List.Sorted.{IsNonDecreasingBy-from_sort, list_any-IsPermutation}
 use Rattle.std.proofs.Math.Bool.{or_assoc}
 use Rattle.std.proofs.lemmas.Bool.{false≢true, eqb-true, eq-eqb, lt-ltb, and_parts, and_from, or_cases, or_left, or_right}
 use Rattle.std.proofs.lemmas.List.Elements.{All-contains}
@@ -21,13 +23,14 @@ use Rattle.qed_model.specs.Admission.Leaders.{has_target, is_end, is_indirect, B
 use Rattle.qed_model.specs.Admission.Reached.{is_reached}
 use Rattle.qed_model.specs.Admission.CodeWords.{is_code}
 use Rattle.qed_model.specs.Admission.Test.{AreCodeWords, IsTestOf}
-use Rattle.qed_model.proofs.Among.{contains_of, passing, any_passing}
+use Rattle.qed_model.proofs.Among.{among_of, contains_of, passing, any_passing, among-filter, among-kept}
 use Rattle.qed_model.specs.Members.{Among}
-use Rattle.flow_recovery.specs.Sets.{holds, lists, Adds}
+use Rattle.flow_recovery.specs.Sets.{lists, Adds}
 use Rattle.qed_model.proofs.OneTest.{reached_by}
-use Rattle.flow_recovery.specs.Words.{leads_to, ends_before, begins_by, is_begun, is_chosen, is_entered}
+use Rattle.flow_recovery.specs.Words.{leads_to, ends_before, begins_by, is_begun, is_chosen, is_entered, of_code}
 use Rattle.flow_recovery.specs.Leaders.{AreLeaders}
-use Rattle.flow_recovery.proofs.CodeLaws.{word_code, code_word, standing_word, stands_word}
+use Rattle.flow_recovery.proofs.CodeLaws.{code_word, standing_word, stands_word}
+use Rattle.flow_recovery.proofs.OrderLaws.{pairs_of, rising, listed, among_listed, filter_alike, kept_lists, of_code_is}
 
 -- ---- what was collected
 -- one step behind the other, from an empty set on
@@ -45,19 +48,6 @@ collected entry words symbols relas s t u v w empty first begun by_symbols by_re
     ∙ ap (λ b. b || relocated) (by_symbols.each a ∙ ap (λ b. b || named) (begun.each a ∙ ap (λ b. b || some) one))
     ∙ or_assoc ((entry == a) || some) named relocated
     ∙ or_assoc (entry == a) some (named || relocated)
-
-alike : (p q : ℕ → Bool) → ((a : ℕ) → p a ≡ q a) → (a : ℕ) (cs : List CodeWord) → list_any (λ c. (c.at == a) && p c.at) cs ≡ list_any (λ c. (c.at == a) && q c.at) cs
-alike p q same a [] = refl
-alike p q same a (c ∷ cs) =
-    ap (λ b. ((c.at == a) && b) || list_any (λ (d : CodeWord). (d.at == a) && p d.at) cs) (same c.at)
-    ∙ ap (λ b. ((c.at == a) && q c.at) || b) (alike p q same a cs)
-
--- of a set of which nothing else is known, those of words
-pub of_words :
-    (words : List CodeWord) (kept : BTreeSet ℕ) (named : BTreeSet ℕ) (test : ℕ → Bool)
-    → ((a : ℕ) → holds named a ≡ test a) → ((a : ℕ) → holds kept a ≡ list_any (λ c. (c.at == a) && holds named c.at) words)
-    → (a : ℕ) → holds kept a ≡ list_any (λ c. (c.at == a) && test c.at) words
-of_words words kept named test same each a = each a ∙ alike (holds named) test same a words
 
 -- ---- JALR
 abbrev has_jalr : List CodeWord → Bool
@@ -150,40 +140,59 @@ module _ (f : ElfFile) (o : Options) (t : Test) (told : IsTestOf f o t) where
 
   -- ---- those of the code
   module _ (small : All (λ c. c.at < 2 ^ 64) code) where
-    abbrev keeps : ℕ → CodeWord → Bool
-    keeps a c = (c.at == a) && is_found c.at
+    abbrev keeps : ℕ → Bool
+    keeps a = is_code f a && is_found a
 
-    leader : (a : ℕ) → list_any (keeps a) code ≡ true → IsLeader f o a
-    leader a e =
-        let p = passing (keeps a) code e in
-        let q = and_parts (p.member.at == a) (is_found p.member.at) p.passes in
-        let at : p.member.at ≡ a = eqb-true p.member.at a q.0 in
-        record {
-          code = ap (is_code f) (sym at) ∙ word_code f code words p.member p.among;
-          begins = begun a (ap is_found (sym at) ∙ q.1);
-        }
+    leader : (a : ℕ) → keeps a ≡ true → IsLeader f o a
+    leader a e = let p = and_parts (is_code f a) (is_found a) e in record { code = p.0; begins = begun a p.1 }
 
-    kept : (a : ℕ) → IsLeader f o a → list_any (keeps a) code ≡ true
+    kept : (a : ℕ) → IsLeader f o a → keeps a ≡ true
     kept a l =
         let w = code_word f code words a l.code in
         let lt : a < 2 ^ 64 = subst (λ x. x < 2 ^ 64) (sym w.at) (All-contains (λ (c : CodeWord). c.at < 2 ^ 64) code w.word small (contains_of w.word code w.among)) in
-        any_passing (keeps a) w.word code w.among
-        (and_from (w.word.at == a) (is_found w.word.at) (eq-eqb w.word.at a (sym w.at)) (ap is_found (sym w.at) ∙ found a lt l.begins))
+        and_from (is_code f a) (is_found a) l.code (found a lt l.begins)
 
-    leaders_are : (leaders : BTreeSet ℕ) → ((a : ℕ) → holds leaders a ≡ list_any (keeps a) code) → AreLeaders f o leaders
-    leaders_are leaders each = record { exact = λ a. (λ e. leader a (sym (each a) ∙ e), λ l. each a ∙ kept a l) }
+    abbrev addresses : List ℕ
+    addresses = map (λ (c : CodeWord). c.at) code
+
+    stand : (a : ℕ) → Among a addresses → is_code f a ≡ true
+    stand a m = (words.addresses.all a).0 (contains_of a addresses m)
+
+    -- of what was listed
+    leaders_are : (v leaders : List ℕ) → ((a : ℕ) → lists v a ≡ is_found a) → leaders ≡ filter (lists v) addresses → AreLeaders f o code leaders
+    leaders_are v leaders listed_are is =
+        let kept_are : leaders ≡ filter keeps addresses =
+        is ∙ filter_alike (lists v) keeps addresses (λ a m. listed_are a ∙ ap (λ b. b && is_found a) (sym (stand a m))) in
+        record {
+          exact = λ a. (
+            λ e. leader a (among-kept keeps a addresses (among_listed (filter keeps addresses) a (ap (λ xs. lists xs a) (sym kept_are) ∙ e))).1,
+            λ l. ap (λ xs. lists xs a) kept_are ∙ listed (filter keeps addresses) a (among-filter keeps a addresses (kept a l) (stands_at a l)),
+          );
+          along = kept_are ∙ filter_alike keeps (lists leaders) addresses (λ a m. sym (ap (λ xs. lists xs a) kept_are ∙ kept_lists keeps addresses a m));
+        } where
+          stands_at : (a : ℕ) → IsLeader f o a → Among a addresses
+          stands_at a l = among_of a addresses ((words.addresses.all a).1 l.code)
 
 -- the same of lists that are those of the test and of the file, in which what is named and what is reached were listed
 pub leaders_found :
-    (f : ElfFile) (o : Options) (t : Test) (listed : List CodeWord) (symbols : List Symbol) (relas : List Rela) (u v : List ℕ) (leaders : BTreeSet ℕ)
+    (f : ElfFile) (o : Options) (t : Test) (listed : List CodeWord) (symbols : List Symbol) (relas : List Rela) (u v leaders : List ℕ)
     → listed ≡ t.code → symbols ≡ f.symbols → relas ≡ f.relas → IsTestOf f o t → All (λ c. c.at < 2 ^ 64) listed
     → ((a : ℕ) → lists u a ≡ is_begun t.entry listed symbols relas a) → Adds u v (is_entered f o t)
-    → ((a : ℕ) → holds leaders a ≡ list_any (λ c. (c.at == a) && lists v c.at) listed) → AreLeaders f o leaders
-leaders_found f o t listed symbols relas u v leaders code by_symbols by_relas told small named entered each =
-    leaders_are f o t told (subst (All (λ (c : CodeWord). c.at < 2 ^ 64)) code small) leaders
-    (λ a. each a ∙ ap (λ ws. list_any (λ (c : CodeWord). (c.at == a) && lists v c.at) ws) code ∙ alike (lists v) (is_found f o t told) found_in a t.code) where
+    → (AllPairs (λ a b. a < b) (map (λ c. c.at) listed) → leaders ≡ filter (lists v) (map (λ c. c.at) listed)) → AreLeaders f o t.code leaders
+leaders_found f o t listed symbols relas u v leaders code by_symbols by_relas told small named entered kept =
+    leaders_are f o t told (subst (All (λ (c : CodeWord). c.at < 2 ^ 64)) code small) v leaders found_in
+    ((subst (λ (cs : List CodeWord). AllPairs (λ a b. a < b) (map (λ c. c.at) cs) → leaders ≡ filter (lists v) (map (λ c. c.at) cs)) code kept) told.code.addresses.ascend) where
       found_in : (a : ℕ) → lists v a ≡ is_found f o t told a
       found_in a =
           entered.each a
           ∙ ap (λ b. b || is_entered f o t a)
           (named a ∙ ap (λ ws. is_begun t.entry ws symbols relas a) code ∙ ap (λ ss. is_begun t.entry t.code ss relas a) by_symbols ∙ ap (λ rs. is_begun t.entry t.code f.symbols rs a) by_relas)
+
+-- what was sorted, along the words
+pub begun_is : (list sorted slice kept : List ℕ) (words : List CodeWord) → IsPermutation list sorted → IsSorted nat_cmp sorted → slice ≡ sorted → kept ≡ of_code slice words → AllPairs (λ a b. a < b) (map (λ c. c.at) words) → kept ≡ filter (lists list) (map (λ c. c.at) words)
+begun_is list sorted slice kept words moved order lent is ascend =
+    let addresses = map (λ (c : CodeWord). c.at) words in
+    is
+    ∙ ap (λ xs. of_code xs words) lent
+    ∙ of_code_is sorted words (rising sorted (IsNonDecreasingBy-from_sort (λ x. x) sorted order)) (pairs_of (λ a b. a < b) addresses ascend)
+    ∙ filter_alike (lists sorted) (lists list) addresses (λ a m. sym (list_any-IsPermutation (λ b. b == a) list sorted moved))

@@ -1,11 +1,12 @@
 -- What is told of a test's leaders.
-use Rattle.std.specs.Prelude.{ℕ, ◌↔◌, IsTrue}
-use Rattle.std.specs.BTreeSet.{BTreeSet}
+use Rattle.std.specs.Prelude.{◌≡◌, ℕ, ◌↔◌, IsTrue, List, filter, map}
 use Rattle.elf_types.specs.declared.file.ElfFile.{ElfFile}
 use Rattle.qed_model.specs.declared.options.Options.{Options}
+use Rattle.qed_model.specs.declared.test.CodeWord.{CodeWord}
 use Rattle.qed_model.specs.Admission.Leaders.{IsLeader}
-use Rattle.flow_recovery.specs.Sets.{holds}
+use Rattle.flow_recovery.specs.Sets.{lists}
 
--- the set has the leaders of the file, and nothing else
-pub record AreLeaders (f : ElfFile) (o : Options) (leaders : BTreeSet ℕ) : Type 0 where
-  pub exact : (a : ℕ) → IsTrue (holds leaders a) ↔ IsLeader f o a
+-- the list has the leaders of the file, and nothing else, in the order of the words of the code
+pub record AreLeaders (f : ElfFile) (o : Options) (code : List CodeWord) (leaders : List ℕ) : Type 0 where
+  pub exact : (a : ℕ) → IsTrue (lists leaders a) ↔ IsLeader f o a
+  pub along : leaders ≡ filter (lists leaders) (map (λ c. c.at) code)

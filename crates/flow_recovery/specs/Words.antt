@@ -1,5 +1,5 @@
 -- Where blocks begin, by lists of words, symbols and relocations, and by what is reached.
-use Rattle.std.specs.Prelude.{ℕ, ◌+◌, ◌^◌, ◌==◌, ◌&&◌, ◌||◌, Bool, true, false, nat_lt, List}
+use Rattle.std.specs.Prelude.{ℕ, ◌+◌, ◌^◌, ◌==◌, ◌&&◌, ◌||◌, Bool, true, false, if◌then◌else◌, nat_lt, List, [], ◌∷◌}
 use Rattle.std.specs.List.{list_any}
 use Rattle.elf_types.specs.declared.file.Symbol.{Symbol}
 use Rattle.elf_types.specs.declared.file.Rela.{Rela}
@@ -14,6 +14,7 @@ use Rattle.qed_model.specs.Machine.Step.{target}
 use Rattle.qed_model.specs.Admission.Leaders.{has_target, is_end, is_indirect}
 use Rattle.qed_model.specs.Admission.Reached.{is_reached}
 use Rattle.qed_model.specs.Admission.Terms.{is_named, is_relocated}
+use Rattle.flow_recovery.specs.Sets.{from_on, is_first}
 
 -- the address is the target of the word
 abbrev pub leads_to : CodeWord → ℕ → Bool
@@ -39,3 +40,8 @@ is_chosen entries.Reached = true
 -- the address is such a one, and some word is a JALR
 abbrev pub is_entered : ElfFile → Options → Test → ℕ → Bool
 is_entered f o t a = is_chosen o.entries && (list_any (λ c. is_indirect (class_of c.ins.kind)) t.code && is_reached f t a)
+
+-- those of ascending addresses at which words stand
+abbrev pub of_code : List ℕ → List CodeWord → List ℕ
+of_code named [] = []
+of_code named (c ∷ cs) = if is_first c.at (from_on c.at named) then c.at ∷ of_code (from_on c.at named) cs else of_code (from_on c.at named) cs

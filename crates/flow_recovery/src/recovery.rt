@@ -1,41 +1,58 @@
 //! The leaders of a test.
-ghost use Rattle.std.specs.Prelude.{◌≡◌, ℕ, ◌<◌, ◌^◌, ◌==◌, ◌&&◌, ◌↔◌, All, OnOk, IfOk, IsTrue};
+ghost use Rattle.std.specs.Prelude.{◌≡◌, ℕ, ◌<◌, ◌^◌, ◌↔◌, All, AllPairs, OnOk, IfOk, IsTrue, filter, map};
 ghost use Rattle.std.specs.List.{list_any};
 ghost use Rattle.rv_isa.specs.Kind.{class_of};
 ghost use Rattle.elf_types.specs.declared.file.ElfFile.{ElfFile};
 ghost use Rattle.qed_model.specs.Admission.Leaders.{is_indirect, HasIndirect};
 ghost use Rattle.qed_model.specs.Admission.Test.{AreCodeWords, IsTestOf};
-ghost use Rattle.flow_recovery.specs.Sets.{holds, lists, Adds};
-ghost use Rattle.flow_recovery.specs.Words.{is_begun, is_chosen, is_entered};
+ghost use Rattle.flow_recovery.specs.Sets.{lists, Adds, from_on, is_first};
+ghost use Rattle.flow_recovery.specs.Words.{is_begun, is_chosen, is_entered, of_code};
 ghost use Rattle.flow_recovery.specs.Leaders.{AreLeaders};
 
 use crate::classes::is_indirect;
 use crate::named::{add_relocations, add_symbols};
 use crate::reach::add_reached;
-use crate::sets::{add, set_of};
+use crate::sets::add;
 use crate::words::add_words;
 use elf_types::{ElfFile, Rela, Symbol};
 use qed_model::{CodeWord, Entries, Options, Test};
 use std::alloc::{AllocError, Global};
-use std::collections::BTreeSet;
 
-/// Adds the address of a word that is named.
-fn add_named(list: &mut Vec<u64>, named: &BTreeSet<u64>, word: &CodeWord) -> Result<(), AllocError>
-    ensures { OnOk result (Adds list.old.items list.new.items (λ a. (word.now.at == a) && holds named.now word.now.at)) }
+/// Those of ascending addresses that are not below one.
+fn from_on(address: u64, addresses: &[u64]) -> &[u64]
+    ensures { result.now ≡ from_on address addresses.now }
 {
-    if named.contains(&word.at) {
-        add(list, word.at)?;
+    let mut left = addresses;
+    while let [first, rest @ ..] = left {
+        if *first >= address {
+            return left;
+        }
+        left = rest;
     }
-    Ok(())
+    left
 }
 
-/// Those of the addresses at which words of the code stand.
-fn of_code(alloc: Global, named: &BTreeSet<u64>, words: &[CodeWord]) -> Result<Vec<u64>, AllocError>
-    ensures { IfOk result (λ kept. (a : ℕ) → lists kept.items a ≡ list_any (λ c. (c.at == a) && holds named.now c.at) words.now) }
+/// Whether the first of some addresses is this one.
+fn is_first(address: u64, addresses: &[u64]) -> bool
+    ensures { result ≡ is_first address addresses.now }
+{
+    match addresses {
+        [first, ..] => *first == address,
+        [] => false,
+    }
+}
+
+/// Those of ascending addresses at which words of the code stand, which ascend too.
+fn of_code(alloc: Global, named: &[u64], words: &[CodeWord]) -> Result<Vec<u64>, AllocError>
+    ensures { IfOk result (λ kept. kept.items ≡ of_code named.now words.now) }
 {
     let mut kept = Vec::new(alloc);
+    let mut left = named;
     for word in words {
-        add_named(&mut kept, named, word)?;
+        left = from_on(word.at, left);
+        if is_first(word.at, left) {
+            kept.push(word.at)?;
+        }
     }
     Ok(kept)
 }
@@ -85,25 +102,24 @@ fn add_entered(
     Ok(())
 }
 
-/// Those of the addresses at which words of the code stand, as a set.
-fn begun(alloc: Global, list: Vec<u64>, words: &[CodeWord]) -> Result<BTreeSet<u64>, AllocError>
-    ensures { IfOk result (λ begun. (a : ℕ) → holds begun a ≡ list_any (λ c. (c.at == a) && lists list.items c.at) words.now) }
+/// Those of the addresses at which words of the code stand, in ascending order.
+fn begun(alloc: Global, mut list: Vec<u64>, words: &[CodeWord]) -> Result<Vec<u64>, AllocError>
+    ensures { IfOk result (λ begun. AllPairs (λ a b. a < b) (map (λ c. c.at) words.now) → begun.items ≡ filter (lists list.items) (map (λ c. c.at) words.now)) }
 {
-    let named = set_of(alloc, list)?;
-    let kept = of_code(alloc, &named, words)?;
-    let begun = set_of(alloc, kept)?;
-    Ok(begun)
+    list.sort_unstable();
+    let kept = of_code(alloc, &list, words)?;
+    Ok(kept)
 }
 
-/// The leaders of the file that `test` is: the code addresses at which blocks begin.
+/// The leaders of the file that `test` is, in ascending order: the code addresses at which blocks begin.
 pub fn leaders(
     alloc: Global,
     test: &Test,
     file: &ElfFile,
     options: &Options,
-) -> Result<BTreeSet<u64>, AllocError>
+) -> Result<Vec<u64>, AllocError>
     requires { IsTestOf file.now options.now test.now }
-    ensures { IfOk result (AreLeaders file.now options.now) }
+    ensures { IfOk result (λ leaders. AreLeaders file.now options.now test.now.code leaders.items) }
 {
     let words = test.code.as_slice();
     let (symbols, relas) = (file.symbols.as_slice(), file.relas.as_slice());

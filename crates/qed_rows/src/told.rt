@@ -90,7 +90,7 @@ fn cut(
     requires test { IsTestOf file.now options.now test.now }
     requires sound { AreSoundOptions options.now }
 {
-    for it in &leaders(alloc, test, file, options)? {
+    for it in leaders(alloc, test, file, options)?.as_slice() {
         leader(lines, *it)?;
     }
     for it in blocks(alloc, test, file, options)?.as_slice() {

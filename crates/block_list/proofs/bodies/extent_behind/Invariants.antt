@@ -1,5 +1,5 @@
 use Rattle.std.proofs.Common.{◌≡◌, ◌+◌, drop}
-use Rattle.flow_recovery.specs.Sets.{holds}
+use Rattle.qed_model.specs.Numbers.{is_at}
 use Rattle.block_list.specs.Bodies.{size_behind, end_behind}
 use Rattle.block_list.proofs.bodies.extent_behind.Given as goal
 
@@ -7,6 +7,6 @@ use Rattle.block_list.proofs.bodies.extent_behind.Given as goal
 abbrev pub invariant-loop-word : goal.invariant-loop-word
 invariant-loop-word l = record {
   counted : l.size ≡ l.word-index;
-  size : l.size + size_behind (holds l.leaders) l.previous (drop l.word-index l.words) ≡ size_behind (holds l.leaders) l.start l.words;
-  end : end_behind (holds l.leaders) l.previous (drop l.word-index l.words) ≡ end_behind (holds l.leaders) l.start l.words;
+  size : l.size + size_behind (is_at l.next) l.previous (drop l.word-index l.words) ≡ size_behind (is_at l.next) l.start l.words;
+  end : end_behind (is_at l.next) l.previous (drop l.word-index l.words) ≡ end_behind (is_at l.next) l.start l.words;
 }

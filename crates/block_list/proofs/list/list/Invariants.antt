@@ -1,10 +1,7 @@
-use Rattle.std.proofs.Common.{◌++◌, List, drop}
-use Rattle.flow_recovery.specs.Sets.{holds}
-use Rattle.block_list.specs.declared.block.CodeBlock.{CodeBlock}
-use Rattle.block_list.specs.Built.{Built}
+use Rattle.flow_recovery.specs.Sets.{lists}
+use Rattle.block_list.proofs.BuiltLaws.{Done}
 use Rattle.block_list.proofs.list.list.Given as goal
 
--- with the blocks of the rest, those so far are all
+-- the blocks so far, and the leaders that are left
 abbrev pub invariant-loop-at : goal.invariant-loop-at
-invariant-loop-at l =
-    (later : List CodeBlock) → Built (holds l.leaders) l.every l.options.inst_max (drop l.at l.words) later → Built (holds l.leaders) l.every l.options.inst_max l.words (l.blocks.items ++ later)
+invariant-loop-at l = Done (lists l.leaders) l.every l.options.inst_max l.words l.at l.left l.blocks.items
