@@ -36,10 +36,10 @@ fn symbol_name_bytes(file: &Parts, alloc: Global) -> u128
         None => 0,
         Some(i) => {
             let strings = symbol_strings(file, alloc, i);
-            let size = file.section(i).size;
+            let s = file.section(i);
             sum_of(
-                size / SYM_SIZE,
-                &|j| symbol_name(file, &strings, i, j).len() as u64,
+                s.size / SYM_SIZE,
+                &|j| symbol_name(file, &strings, s, j).len() as u64,
             )
         }
     }

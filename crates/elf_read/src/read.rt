@@ -1,10 +1,10 @@
 //! The file that bytes are.
-ghost use Rattle.std.specs.Prelude.{◌≡◌, ◌<◌, ◌/◌, ◌⊎◌, length, List, ℕ, Ok, Err, Some, IfOk, IfErr, IfSome, OnOk};
+ghost use Rattle.std.specs.Prelude.{◌≡◌, false, ◌<◌, ◌/◌, ◌⊎◌, length, List, ℕ, Ok, Err, Some, IfOk, IfErr, IfSome, OnOk};
 ghost use Rattle.elf_types.specs.declared.error.ElfError.TheVariants as error;
 ghost use Rattle.qed_model.specs.Below.{each, gather};
 ghost use Rattle.elf_files.specs.Header.{e_phnum, e_shnum};
 ghost use Rattle.elf_files.specs.Fields.{section_header};
-ghost use Rattle.elf_files.specs.Rules.{section_strings, strings_of, symbol_table, verdict, read_verdict};
+ghost use Rattle.elf_files.specs.Rules.{is_section_outside, section_strings, strings_of, symbol_table, verdict, read_verdict};
 ghost use Rattle.elf_files.specs.File.{File, segment_of, section_of, symbol_of, symbols_at, relas_of, WithinReadLimits, IsReadAs};
 ghost use Rattle.elf_files.specs.Refusals.{IsAccepted, IsRefused};
 ghost use Rattle.qed_model.specs.Elf.Sound.{IsSound};
@@ -21,7 +21,7 @@ use crate::segments::{check_segment_overlap, check_segment_shape};
 use crate::strings::Names;
 use crate::symbols::{check_symbol_shape, symbol_entry, symbol_strings, symbol_table};
 use elf_types::abi::{SHT_SYMTAB, SYM_SIZE};
-use elf_types::{Bytes, ElfError, ElfFile, Listed, Section, Segment, Symbol};
+use elf_types::{Bytes, ElfError, ElfFile, Listed, Section, SectionHeader, Segment, Symbol};
 use std::alloc::{AllocError, Global};
 use std::marker::Model;
 
@@ -71,14 +71,14 @@ fn segment(file: &Parts, alloc: Global, i: u64) -> Result<Segment, AllocError>
 }
 
 #[tactic(auto, unfolding(elf_files::specs::File::symbol_of, elf_files::specs::Rules::symbol_name, elf_files::specs::Rules::name_at))]
-fn symbol(file: &Parts, names: &Names, i: u64, j: u64) -> Result<Symbol, AllocError>
-    requires below { i < e_shnum file.now }
-    requires kind { (section_header file.now i).kind ≡ SHT_SYMTAB }
-    requires names { names.now ≡ strings_of file.now (section_header file.now i) }
-    requires entry { j < (section_header file.now i).size / 24 }
-    ensures { IfOk result (λ x. x ≡ symbol_of file.now (section_header file.now i) j) }
+fn symbol(file: &Parts, names: &Names, s: SectionHeader, j: u64) -> Result<Symbol, AllocError>
+    requires inside { is_section_outside file.now s ≡ false }
+    requires kind { s.kind ≡ SHT_SYMTAB }
+    requires names { names.now ≡ strings_of file.now s }
+    requires entry { j < s.size / 24 }
+    ensures { IfOk result (λ x. x ≡ symbol_of file.now s j) }
 {
-    let e = symbol_entry(file, i, j);
+    let e = symbol_entry(file, s, j);
     Ok(Symbol {
         name: names.name(if j == 0 { 0 } else { e.name })?,
         value: e.value,
@@ -138,11 +138,11 @@ impl<'a> Sound<'a> {
             None => Ok(Vec::new(alloc)),
             Some(i) => {
                 let names = Names::new(alloc, symbol_strings(&self.parts, alloc, i))?;
-                let size = self.parts.section(i).size;
+                let s = self.parts.section(i);
                 list_of(
                     alloc,
-                    size / SYM_SIZE,
-                    &|j| symbol(&self.parts, &names, i, j),
+                    s.size / SYM_SIZE,
+                    &|j| symbol(&self.parts, &names, s, j),
                 )
             }
         }

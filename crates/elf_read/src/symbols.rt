@@ -1,15 +1,15 @@
 //! The rule on symbols, and their table.
-ghost use Rattle.std.specs.Prelude.{◌≡◌, ◌<◌, ◌+◌, ◌*◌, ◌/◌, ◌≤◌, length, IfSome, OnOk};
+ghost use Rattle.std.specs.Prelude.{◌≡◌, false, ◌<◌, ◌+◌, ◌*◌, ◌/◌, ◌≤◌, length, IfSome, OnOk};
 ghost use Rattle.elf_files.specs.Header.{e_shnum};
 ghost use Rattle.elf_files.specs.Fields.{section_header, symbol_entry};
-ghost use Rattle.elf_files.specs.Rules.{symbol_table, section_bytes, strings_of, symbols_rule, symbol_shape_rule, symbol_name};
+ghost use Rattle.elf_files.specs.Rules.{is_section_outside, symbol_table, section_bytes, strings_of, symbols_rule, symbol_shape_rule, symbol_name};
 
 use crate::below::first_of;
 use crate::fields::{u16_at, u32_at, u64_at};
 use crate::parts::Parts;
 use crate::strings::Strings;
 use elf_types::abi::{SHT_SYMTAB, SYM_SIZE};
-use elf_types::{ElfError, SymbolEntry};
+use elf_types::{ElfError, SectionHeader, SymbolEntry};
 use std::alloc::Global;
 
 #[tactic(auto, unfolding(elf_files::specs::Fields::symbol_entry))]
@@ -85,14 +85,14 @@ pub fn check_symbol_shape(file: &Parts, alloc: Global) -> Result<(), ElfError>
     }
 }
 
-/// An entry of the symbol table at a number.
-pub fn symbol_entry(file: &Parts, i: u64, j: u64) -> SymbolEntry
-    requires below { i < e_shnum file.now }
-    requires kind { (section_header file.now i).kind ≡ SHT_SYMTAB }
-    requires entry { j < (section_header file.now i).size / 24 }
-    ensures { result ≡ symbol_entry (section_bytes file.now (section_header file.now i)) j }
+/// An entry of a symbol table.
+pub fn symbol_entry(file: &Parts, s: SectionHeader, j: u64) -> SymbolEntry
+    requires inside { is_section_outside file.now s ≡ false }
+    requires kind { s.kind ≡ SHT_SYMTAB }
+    requires entry { j < s.size / 24 }
+    ensures { result ≡ symbol_entry (section_bytes file.now s) j }
 {
-    entry_at(file.section_bytes(file.section(i)), j)
+    entry_at(file.section_bytes(s), j)
 }
 
 /// The string table of the symbol table at a number.
@@ -106,17 +106,22 @@ pub fn symbol_strings<'a>(file: &Parts<'a>, alloc: Global, i: u64) -> Strings<'a
     Strings::new(alloc, file.section_bytes(file.section(u64::from(s.link))))
 }
 
-/// The name of a symbol of the table at a number; that of the null symbol is empty.
+/// The name of a symbol of a table; that of the null symbol is empty.
 #[tactic(auto, unfolding(elf_files::specs::Rules::symbol_name))]
-pub fn symbol_name<'a>(file: &Parts<'a>, strings: &Strings<'a>, i: u64, j: u64) -> &'a [u8]
-    requires below { i < e_shnum file.now }
-    requires kind { (section_header file.now i).kind ≡ SHT_SYMTAB }
-    requires names { strings.now ≡ strings_of file.now (section_header file.now i) }
-    requires entry { j < (section_header file.now i).size / 24 }
-    ensures { result.now ≡ symbol_name file.now (section_header file.now i) j }
+pub fn symbol_name<'a>(
+    file: &Parts<'a>,
+    strings: &Strings<'a>,
+    s: SectionHeader,
+    j: u64,
+) -> &'a [u8]
+    requires inside { is_section_outside file.now s ≡ false }
+    requires kind { s.kind ≡ SHT_SYMTAB }
+    requires names { strings.now ≡ strings_of file.now s }
+    requires entry { j < s.size / 24 }
+    ensures { result.now ≡ symbol_name file.now s j }
 {
     if j == 0 {
         return &[];
     }
-    strings.name(symbol_entry(file, i, j).name)
+    strings.name(symbol_entry(file, s, j).name)
 }
