@@ -3,13 +3,16 @@
 from __future__ import annotations
 
 import re
+from dataclasses import replace
 from typing import List, Optional, Tuple
 
 import isa
+from admission import admit, blocks
 from calls import MOST_FILE, Shelf, answer, told
 from elf import File, read_elf
 from machine import Memory, loads_of
 from texts import Stopped
+from weave import bounds
 from words import COMMANDS, OTHER_NAMES, Order, change_of, order_of
 
 ABOVE_X13 = "a4 a5 a6 a7 s2 s3 s4 s5 s6 s7 s8 s9 s10 s11 t3 t4 t5 t6".split()
@@ -184,8 +187,27 @@ def _run(order: Order, line: str, shelf: Shelf) -> str:
     return text
 
 
+def _times(number: int, part: int) -> str:
+    """How many times a number has another, to tenths, rounded up."""
+    tenths = -(-10 * number // part)
+    return f"{tenths // 10}.{tenths % 10}"
+
+
+def _growth(order: Order, line: str, shelf: Shelf) -> str:
+    """How much longer an output is than its test."""
+    options = order.options()
+    test = admit(_read(shelf, order.files[0]), options)
+    text = f"qed: the code is {_times(int(line.split(' ')[1]), 4 * len(test.code))} times that of the test"
+    lengths = [length for block in blocks(test, options) for length in block.pieces if length]
+    if not lengths:
+        return f"{text}\n"
+    low, high = (_times(bounds(test.data_words, len(test.data), replace(options, inst_max=length), False).piece, length)
+                 for length in (max(lengths), min(lengths)))
+    return f"{text}, and a piece makes at most {low} to {high} steps for each instruction\n"
+
+
 def advice(words: List[str], shelf: Shelf) -> str:
-    """What a person is told of a call, but for the machine's reasons."""
+    """What a person is told of a call on a terminal, but for the machine's reasons."""
     status, printed = answer(words, shelf)
     line = printed.split("\n")[0]
     if status == 2:
@@ -195,6 +217,8 @@ def advice(words: List[str], shelf: Shelf) -> str:
         return _refused(order, line.split(" ", 1)[1], shelf)
     if status == 5:
         return _unread(order, shelf)
-    if order.command == "transform" and order.files[0] == order.files[1]:
-        return f"qed: {order.files[0]} is the output now, and the test is gone\n"
+    if order.command == "transform":
+        if order.files[0] == order.files[1]:
+            return f"qed: {order.files[0]} is the output now, and the test is gone\n"
+        return _growth(order, line, shelf)
     return _run(order, line, shelf) if order.command == "run" else ""

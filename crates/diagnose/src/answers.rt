@@ -1,6 +1,8 @@
 //! What is told of a call.
 ghost use Rattle.std.specs.Prelude.{◌≡◌};
+ghost use Rattle.qed_words.specs.Sound.{IsSoundOrder};
 
+use crate::growth::growth;
 use crate::places::{abi_name, push_largest, push_place};
 use crate::run::of_run;
 use crate::sentences::rule_sentence;
@@ -190,24 +192,40 @@ fn unread<S: Shelf>(
     Ok(text)
 }
 
-/// That an output took the place of its input.
-fn replaced(alloc: Global, asked: &Order) -> Result<String, AllocError> {
+/// That an output took the place of its input, or else, on a terminal, how much longer it is.
+fn made<S: Shelf>(
+    alloc: Global,
+    asked: &Order,
+    line: &str,
+    on_terminal: bool,
+    shelf: &mut S,
+) -> Result<String, AllocError>
+    requires { IsSoundOrder asked.now }
+    ensures { S.files shelf.new ≡ S.files shelf.old }
+{
+    let (code, _) = line.split_once(" ").unwrap_or((line, ""));
+    let bytes = digits(10, 20, code.as_bytes()).unwrap_or(0);
     match asked {
         Order::Transform(input, output, _) if input.as_str() == output.as_str() => {
             let name = output.as_str();
             format!(in alloc; "qed: {name} is the output now, and the test is gone\n")
+        }
+        Order::Transform(input, _, options) if on_terminal => {
+            growth(alloc, input.as_str(), options, bytes / 4, shelf)
         }
         _ => Ok(String::new(alloc)),
     }
 }
 
 /// What a person is told of a call that printed this text, by its first line: a sentence on what is wrong, and what may
-/// help. Empty where nothing is. The reason is the machine's, of a load that failed. No file is changed.
+/// help. Empty where nothing is. The reason is the machine's, of a load that failed. On a terminal it is told too how much
+/// longer an output is than its test. No file is changed.
 pub fn advice<S: Shelf>(
     alloc: Global,
     words: &[String],
     printed: &str,
     reason: Option<Error>,
+    on_terminal: bool,
     shelf: &mut S,
 ) -> Result<String, AllocError>
     ensures { S.files shelf.new ≡ S.files shelf.old }
@@ -223,7 +241,7 @@ pub fn advice<S: Shelf>(
     match kind {
         "refused" | "limit" => refused(alloc, &asked, rest, shelf),
         "read" => unread(alloc, &asked, reason, shelf),
-        "code" => replaced(alloc, &asked),
+        "code" => made(alloc, &asked, rest, on_terminal, shelf),
         _ => of_run(alloc, &asked, line, shelf),
     }
 }

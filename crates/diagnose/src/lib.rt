@@ -3,6 +3,7 @@
 #![tactic(auto)]
 
 mod answers;
+mod growth;
 mod heard;
 mod machine;
 mod names;

@@ -7,7 +7,7 @@ use qed_io::{DirShelf, MemoryShelf, StdSink};
 use qed_words::order;
 use std::alloc::{AllocError, Global};
 use std::fs;
-use std::io::{Eprint, Error};
+use std::io::{Eprint, Error, IsTerminal};
 use std::process::ExitCode;
 use std::rt::Files;
 
@@ -63,18 +63,22 @@ fn told<R: Files + Alloc<A = Global>>(
     words: &[String],
     printed: &str,
     reason: Option<Error>,
+    on_terminal: bool,
 ) -> Result<String, AllocError> {
     let alloc = rt.alloc();
     if has_pipe(rt, words) {
-        return advice(alloc, words, printed, reason, &mut MemoryShelf::new(alloc));
+        let mut none = MemoryShelf::new(alloc);
+        return advice(alloc, words, printed, reason, on_terminal, &mut none);
     }
-    advice(alloc, words, printed, reason, &mut DirShelf::new(alloc, rt))
+    let mut files = DirShelf::new(alloc, rt);
+    advice(alloc, words, printed, reason, on_terminal, &mut files)
 }
 
 /// Tells on standard error why a call with these words, which ended with this code, did not do what it is for, by what it
 /// printed and by the machine's reasons, of files and of standard output. That nothing can be told changes nothing.
-pub fn complain<R: Files + Print + Eprint + Alloc<A = Global>>(
+pub fn complain<R: Files + Print + Alloc<A = Global>, E: Eprint + IsTerminal>(
     rt: &R,
+    err: &E,
     words: &[String],
     code: &ExitCode,
     reason: Option<Error>,
@@ -86,9 +90,9 @@ pub fn complain<R: Files + Print + Eprint + Alloc<A = Global>>(
     } else if *code == ExitCode::from(7) {
         String::from_str(alloc, "qed: there was no memory\n")
     } else {
-        told(rt, words, out.text(), reason)
+        told(rt, words, out.text(), reason, err.is_terminal())
     };
     if let Ok(text) = text {
-        let _ = rt.eprint(text);
+        let _ = err.eprint(text);
     }
 }

@@ -29,7 +29,7 @@ pub(crate) fn call(
     printed(alloc, out.bytes(), status.code())
 }
 
-/// What a person is told of a call.
+/// What a person is told of a call, on a terminal.
 pub(crate) fn advise(
     alloc: Global,
     bench: &mut Bench,
@@ -38,7 +38,7 @@ pub(crate) fn advise(
     let mut out = bench.sink(alloc)?;
     let _ = qed(alloc, words, &mut bench.shelf, &mut out);
     let printed = str::from_utf8(out.bytes()).unwrap_or("");
-    advice(alloc, words, printed, None, &mut bench.shelf)
+    advice(alloc, words, printed, None, true, &mut bench.shelf)
 }
 
 /// The size and the digest of what a call prints, and the exit code.

@@ -13,7 +13,7 @@ use diagnose::{Heard, complain};
 use qed_io::{DirShelf, Shelf, Sink, StdSink};
 use std::alloc::{AllocError, Global};
 use std::env::Args;
-use std::io::{Eprint, ErrorKind};
+use std::io::{Eprint, ErrorKind, IsTerminal};
 use std::process::ExitCode;
 use std::rt::{Env, Files};
 use std::{env, io};
@@ -84,7 +84,10 @@ pub fn exit_code<S: Shelf, K: Sink>(
 ///
 /// No contract can say what the machine's arguments are, nor what its files have: `exit_code` says what is done with
 /// them.
-pub fn run_program<R: Env + Files + Print + Eprint + Alloc<A = Global>>(rt: &R) -> ExitCode
+pub fn run_program<R: Env + Files + Print + Alloc<A = Global>, E: Eprint + IsTerminal>(
+    rt: &R,
+    err: &E,
+) -> ExitCode
     ensures { ExitsUntold result }
 {
     let alloc = rt.alloc();
@@ -92,7 +95,7 @@ pub fn run_program<R: Env + Files + Print + Eprint + Alloc<A = Global>>(rt: &R) 
     let mut out = Heard::over(alloc, StdSink::new(rt));
     let code = exit_code(alloc, env::args(rt), &mut shelf, &mut out);
     if let Ok(words) = words_of(alloc, env::args(rt)) {
-        complain(rt, &words, &code, shelf.last_error, &out);
+        complain(rt, err, &words, &code, shelf.last_error, &out);
     }
     code
 }
