@@ -1,3 +1,12 @@
-//! The lean form of the new code: one check for all of it, called by a counter. Laws alone, so far: what its sequences do. No program
-//! weaves it yet.
+//! The lean form of the new code, as a weave: one check for all of it, called by a counter, in place of comparisons behind pieces.
+//!
+//! Definitions and laws alone. No program weaves it yet.
 #![tactic(auto)]
+
+ghost use Rattle.lean_weave.specs.Woven.{LeanKept};
+
+/// Where each leader has its entry and the check stands in its place, the lean form keeps the input's values, with a bound on the
+/// steps of the output for each step of the input, and no check fires without changes.
+pub fn lean_kept()
+    ensures { LeanKept }
+{}
