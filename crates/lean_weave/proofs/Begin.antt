@@ -1,13 +1,11 @@
 -- What runs first, and that the lean form keeps the values.
-use Rattle.std.proofs.Common.{◌≡◌, ℕ, zero, suc, ◌+◌, ◌-◌, ◌*◌, ◌%◌, ◌^◌, ◌<◌, ◌≤◌, inl, Bool, true, List, [], ◌∷◌, ◌++◌, length, refl, sym, ap, ◌∙◌, subst, arith}
+use Rattle.std.proofs.Common.{◌≡◌, ℕ, ◌+◌, ◌*◌, ◌%◌, ◌^◌, ◌<◌, ◌≤◌, inl, Bool, List, [], ◌∷◌, length, refl, ap, ◌∙◌, subst, arith}
 use Rattle.std.specs.Prelude.{pos, neg_ℤ}
-use Rattle.rv_isa.specs.declared.ins.Ins.{Ins}
 use Rattle.rv_isa.specs.declared.kind.Kind.TheVariants.{Addi}
 use Rattle.qed_model.specs.declared.item.Item.{Item}
 use Rattle.qed_model.specs.declared.item.Item.TheVariants.{Plain, Constant, Go}
 use Rattle.qed_model.specs.Machine.Program.{Program, start, zeros}
 use Rattle.qed_model.specs.Machine.Table.{ins}
-use Rattle.qed_model.specs.Machine.Values.{wrapped}
 use Rattle.qed_model.specs.Machine.Step.{State, reg, moved}
 use Rattle.qed_model.specs.Promise.Kept.{Kept}
 use Rattle.qed_model.proofs.Walk.{over_moved}
@@ -19,7 +17,7 @@ use Rattle.weave_core.proofs.Leaves.{go_most, go_walk, halved_gone}
 use Rattle.weave_core.proofs.Prologue.{begin_row}
 use Rattle.weave_core.proofs.Sets.{writes, halved_writes}
 use Rattle.weave_core.proofs.Values.{WeaveIn, kept}
-use Rattle.lean_weave.specs.Lean.{first_word, begin}
+use Rattle.lean_weave.specs.Lean.{first_word}
 use Rattle.lean_weave.specs.Woven.{Lean, LeanIn, LeanKept, weave_of, check_steps}
 use Rattle.lean_weave.proofs.Chain.{Op, plain, constant, effects, Gives, read_back, all_temps, chain}
 use Rattle.lean_weave.proofs.Held.{ticked_is}
@@ -31,31 +29,23 @@ first_is : (base : ℕ) (spans : List (ℕ × ℕ)) → GoodSpans base spans →
 first_is base [] g = tt
 first_is base (r ∷ rs) g = inl (omega (arith, g.0.start), omega arith, omega (arith, g.0.some))
 
--- the counter at first
-pub minus : (n : ℕ) → 1 ≤ n → n < 2 ^ 63 → (0 + wrapped (neg_ℤ (pos n))) % 2 ^ 64 ≡ counter n
-minus zero h k = absurd (omega (arith, h))
-minus (suc n) h k = omega (arith, k)
-
 module _ (w : World) (l : Lean) (leader : ℕ → Bool) (x : LeanIn w l leader) (a : ℕ) (low : a < 2 ^ 64) where
   abbrev begin_ops : List Op
-  begin_ops = constant 16 a ∷ plain (ins Addi 15 0 0 (neg_ℤ (pos l.every))) (counter l.every) ∷ []
+  begin_ops = constant 16 a ∷ plain (ins Addi 15 0 0 (neg_ℤ (pos 1))) (counter 1) ∷ []
 
   begin_gives : (u : State) → length u.regs ≡ 32 → reg u 0 ≡ 0 → Gives u u.regs begin_ops
   begin_gives u long zero_reg =
-      let e1 : List (ℕ × ℕ) = (16, a) ∷ [] in
-      (
+      let e1 : List (ℕ × ℕ) = (16, a) ∷ [] in (
         low,
         omega arith,
         refl,
         (
           refl,
           λ e. absurd (cc),
-          λ p. addi_value (moved (writes e1 u.regs) p u) 15 0 0 (counter l.every) (neg_ℤ (pos l.every)) (read_back e1 u.regs 0 long refl ∙ zero_reg) (minus l.every x.some (far l.every x.few)),
+          λ p. addi_value (moved (writes e1 u.regs) p u) 15 0 0 (counter 1) (neg_ℤ (pos 1)) (read_back e1 u.regs 0 long refl ∙ zero_reg) (omega arith),
           tt,
         ),
-      ) where
-        far : (n : ℕ) → n ≤ 2048 → n < 2 ^ 63
-        far n h = omega (arith, h)
+      )
 
 -- of the words that run first
 pub lean_starts : (f g : Program) (w : World) (l : Lean) (leader : ℕ → Bool) → LeanIn w l leader → Starts f g w (weave_of w l leader) leader
@@ -73,7 +63,7 @@ lean_starts f g w l leader x = record {
       let go = go_walk w y f.entry [] oy s.reads hy.output.regs entry.entry_low entry.grain in
       let z = moved go.regs (w.entry f.entry) y in
       let one : go_most w.form.far ≡ 1 = ap go_most x.near in
-      let fifteen : reg z 15 ≡ counter l.every = go.same 15 (λ e. absurd (omega arith)) ∙ read_back ws b.to.regs 15 long refl in
+      let fifteen : reg z 15 ≡ counter 1 = go.same 15 (λ e. absurd (omega arith)) ∙ read_back ws b.to.regs 15 long refl in
       let sixteen : reg z 16 ≡ f.entry = go.same 16 (λ e. absurd (omega arith)) ∙ read_back ws b.to.regs 16 long refl in
       record {
         steps = 27 + (3 + go.steps);
@@ -81,18 +71,17 @@ lean_starts f g w l leader x = record {
         at_least = omega arith;
         within = all_in go.steps (go_most w.form.far) go.within one;
         walk = walk_on (Quiet w) (start g regs) b.to z 27 (3 + go.steps) b.walk (walk_on (Quiet w) b.to y z 3 go.steps s.walk go.walk);
-        is = (record { over = over_moved w.code y go.regs (w.entry f.entry) oy; halved = halved_gone w y s0 s0 f.entry (go_most w.form.far) go hy; pc = refl; leads = leads },
-            ticked_is l.every w z f.entry l.every 0 entry.low x.some (same_le l.every) x.few fifteen (omega arith) (sixteen ∙ whole f.entry entry.low) (first_is w.base w.form.spans w.spans_good));
+        is = (
+          record { over = over_moved w.code y go.regs (w.entry f.entry) oy; halved = halved_gone w y s0 s0 f.entry (go_most w.form.far) go hy; pc = refl; leads = leads },
+          ticked_is l.every w z f.entry 1 0 entry.low (omega arith) x.some x.few fifteen (omega arith) (sixteen ∙ whole f.entry entry.low) (first_is w.base w.form.spans w.spans_good),
+        );
       };
 } where
   begin_rest : ℕ → List Item
-  begin_rest a = Constant 16 a ∷ Plain (ins Addi 15 0 0 (neg_ℤ (pos l.every))) ∷ Go a ∷ []
+  begin_rest a = Constant 16 a ∷ Plain (ins Addi 15 0 0 (neg_ℤ (pos 1))) ∷ Go a ∷ []
 
   all_in : (m n : ℕ) → m ≤ n → n ≡ 1 → 27 + (3 + m) ≤ 31
   all_in m n h e = omega (arith, h, e)
-
-  same_le : (n : ℕ) → n ≤ n
-  same_le n = omega arith
 
   whole : (a : ℕ) → a < 2 ^ 64 → a ≡ (a + 0 * 2 ^ 32) % 2 ^ 64
   whole a h = omega (arith, h)

@@ -1,19 +1,16 @@
 -- The check, from its first word to the entry that it goes back to.
-use Rattle.std.proofs.Common.{◌≡◌, ℕ, zero, suc, inl, inr, ◌+◌, ◌-◌, ◌*◌, ◌/◌, ◌%◌, ◌^◌, ◌<◌, ◌≤◌, Bool, true, List, [], ◌∷◌, ◌++◌, length, refl, sym, ap, ◌∙◌, subst, arith, append_assoc}
-use Rattle.std.specs.Prelude.{ℤ, pos, neg_ℤ, slice_index}
-use Rattle.rv_isa.specs.declared.ins.Ins.{Ins}
+use Rattle.std.proofs.Common.{◌≡◌, ℕ, zero, suc, inl, inr, ◌+◌, ◌-◌, ◌*◌, ◌/◌, ◌%◌, ◌^◌, ◌<◌, ◌≤◌, Bool, true, List, [], ◌∷◌, ◌++◌, length, refl, sym, ap, ◌∙◌, subst, arith}
+use Rattle.std.specs.Prelude.{pos, neg_ℤ}
 use Rattle.rv_isa.specs.declared.kind.Kind.TheVariants.{Addi, Slli, Srli, Add, Sub, Beq, Lw}
-use Rattle.rv_isa.specs.Regs.{set_reg}
-use Rattle.rv_isa.proofs.RegsLaws.{length-set_reg}
 use Rattle.qed_model.specs.declared.item.Item.{Item}
-use Rattle.qed_model.specs.declared.item.Item.TheVariants.{Plain, Constant}
+use Rattle.qed_model.specs.declared.item.Item.TheVariants.{Plain}
 use Rattle.qed_model.specs.Machine.Table.{ins}
 use Rattle.qed_model.specs.Machine.Values.{value, wrapped}
 use Rattle.qed_model.specs.Machine.Step.{State, reg, moved, result, run, computed_value}
 use Rattle.qed_model.specs.Weave.Sequences.{Reads, fired_check, compare, visit}
 use Rattle.qed_model.specs.Weave.Bounds.{visit_bound}
 use Rattle.qed_model.specs.Admission.DataRanges.{word_count}
-use Rattle.qed_model.proofs.Walk.{Over, over_moved, run-more}
+use Rattle.qed_model.proofs.Walk.{Over, over_moved}
 use Rattle.qed_model.proofs.Walked.{Walk, walk_on}
 use Rattle.weave_core.specs.World.{World, Quiet, Twice, IsCursor, GoodSpans, AllBelow, words_on}
 use Rattle.weave_core.specs.Blocks.{IsEntryOf, TableAt}
@@ -25,7 +22,7 @@ use Rattle.weave_core.proofs.Branch.{own_pair}
 use Rattle.weave_core.proofs.Endings.{guards_pass, visit_more}
 use Rattle.weave_core.proofs.Indirect.{addi_value, word, table_word, table_load, leap_there}
 use Rattle.weave_core.proofs.Rows.{halved_moved}
-use Rattle.weave_core.proofs.Sets.{Sets, writes, writes_long, AllTemps, halved_writes, sets_on, sets_compute, sets_equal}
+use Rattle.weave_core.proofs.Sets.{Sets, writes, halved_writes, sets_on, sets_compute, sets_equal}
 use Rattle.weave_core.proofs.Visit.{add_result, visit_row, visit_later, words_within, word_low}
 use Rattle.weave_core.proofs.Words.{all_small, compare_stands}
 use Rattle.lockstep.proofs.Sets.{word_below}
@@ -73,8 +70,7 @@ module _ (w : World) (u : State) (rest : List Item) (o : Over w.code u) (long : 
         let e3 : List (ℕ × ℕ) = (30, w.base) ∷ (15, v1) ∷ (15, v2) ∷ [] in
         let e4 : List (ℕ × ℕ) = (30, w.base) ∷ (15, v1) ∷ (15, v2) ∷ (15, v3) ∷ [] in
         let e5 : List (ℕ × ℕ) = (30, w.base) ∷ (15, v1) ∷ (15, v2) ∷ (15, v3) ∷ (15, a) ∷ [] in
-        let e6 : List (ℕ × ℕ) = (30, w.base) ∷ (15, v1) ∷ (15, v2) ∷ (15, v3) ∷ (15, a) ∷ (16, k) ∷ [] in
-        (
+        let e6 : List (ℕ × ℕ) = (30, w.base) ∷ (15, v1) ∷ (15, v2) ∷ (15, v3) ∷ (15, a) ∷ (16, k) ∷ [] in (
           omega (arith, w.layout.top),
           omega arith,
           refl,
@@ -132,8 +128,7 @@ module _ (w : World) (u t : State) (a : ℕ) (tb : TableAt w a) (o : Over w.code
       let l = u.regs in
       let long = h.output.regs in
       let e1 : List (ℕ × ℕ) = (30, a + w.distance) ∷ [] in
-      let e2 : List (ℕ × ℕ) = (30, a + w.distance) ∷ (30, a + 2 * w.distance) ∷ [] in
-      (
+      let e2 : List (ℕ × ℕ) = (30, a + w.distance) ∷ (30, a + 2 * w.distance) ∷ [] in (
         refl,
         λ e. absurd (cc),
         λ p. add_result (moved l p u) 30 15 14 a w.distance (a + w.distance) at h.distance (omega (arith, tb.low)),
@@ -214,8 +209,7 @@ module _ (w : World) (leader : ℕ → Bool) (small : w.distance ≤ 2 ^ 32) (u 
   begin_gives x long at15 at16 few low =
       let l = x.regs in
       let e2 : List (ℕ × ℕ) = (30, a) ∷ (15, first) ∷ [] in
-      let e3 : List (ℕ × ℕ) = (30, a) ∷ (15, first) ∷ (15, first + off) ∷ [] in
-      (
+      let e3 : List (ℕ × ℕ) = (30, a) ∷ (15, first) ∷ (15, first + off) ∷ [] in (
         refl,
         λ e. absurd (cc),
         λ p. copy_value (moved l p x) 30 15 a at15 entry.low,
@@ -252,8 +246,7 @@ module _ (w : World) (leader : ℕ → Bool) (small : w.distance ≤ 2 ^ 32) (u 
       let e2 : List (ℕ × ℕ) = (30, first) ∷ (15, k) ∷ [] in
       let e3 : List (ℕ × ℕ) = (30, first) ∷ (15, k) ∷ (15, k * 2 ^ 32) ∷ [] in
       let e4 : List (ℕ × ℕ) = (30, first) ∷ (15, k) ∷ (15, k * 2 ^ 32) ∷ (30, a) ∷ [] in
-      let e5 : List (ℕ × ℕ) = (30, first) ∷ (15, k) ∷ (15, k * 2 ^ 32) ∷ (30, a) ∷ (16, s) ∷ [] in
-      (
+      let e5 : List (ℕ × ℕ) = (30, first) ∷ (15, k) ∷ (15, k * 2 ^ 32) ∷ (30, a) ∷ (16, s) ∷ [] in (
         omega (arith, low),
         omega arith,
         refl,

@@ -1,5 +1,5 @@
 -- The most steps of parts of leaves.
-use Rattle.std.proofs.Common.{◌≡◌, ℕ, ◌+◌, ◌%◌, ◌^◌, ◌≤◌, Bool, true, false, cond, List, [], ◌∷◌, ◌++◌, arith}
+use Rattle.std.proofs.Common.{ℕ, ◌+◌, ◌%◌, ◌^◌, ◌≤◌, Bool, true, false, cond, [], ◌∷◌, ◌++◌, arith}
 use Rattle.std.specs.Prelude.{◌==◌, max, ℤ, pos, neg_ℤ}
 use Rattle.std.proofs.Math.Nat.{max-le}
 use Rattle.rv_isa.specs.declared.ins.Ins.{Ins}
@@ -7,7 +7,6 @@ use Rattle.rv_isa.specs.declared.kind.Kind.TheVariants.{Lui, Addi, Andi, Add, Be
 use Rattle.rv_isa.specs.declared.class.Class.{Class}
 use Rattle.rv_isa.specs.declared.class.Class.TheVariants as class
 use Rattle.rv_isa.specs.Operation.{pair}
-use Rattle.qed_model.specs.declared.item.Item.{Item}
 use Rattle.qed_model.specs.declared.item.Item.TheVariants.{Mark, Plain, Constant, Go}
 use Rattle.qed_model.specs.Machine.Table.{ins}
 use Rattle.qed_model.specs.Machine.Step.{target}

@@ -1,6 +1,6 @@
 -- The leave of an ECALL: all registers and the signature are compared, and the test ends.
-use Rattle.std.proofs.Common.{◌≡◌, ℕ, ◌+◌, ◌*◌, ◌%◌, ◌^◌, ◌<◌, ◌≤◌, ⊎_elim, Bool, true, false, cond, List, [], ◌∷◌, ◌++◌, length, refl, sym, ap, ◌∙◌, subst, arith, append_assoc}
-use Rattle.std.specs.Prelude.{pos, slice_index}
+use Rattle.std.proofs.Common.{◌≡◌, ℕ, ◌+◌, ◌*◌, ◌%◌, ◌^◌, ◌<◌, ⊎_elim, true, false, cond, List, [], ◌∷◌, ◌++◌, length, refl, sym, ap, ◌∙◌, subst, arith}
+use Rattle.std.specs.Prelude.{pos}
 use Rattle.rv_isa.specs.declared.ins.Ins.{Ins}
 use Rattle.std.proofs.lemmas.Bool.{false≢true, cases_Bool}
 use Rattle.rv_isa.specs.declared.kind.Kind.{Kind}
@@ -12,7 +12,7 @@ use Rattle.qed_model.specs.declared.item.Item.TheVariants.{Plain}
 use Rattle.qed_model.specs.declared.machine.Outcome.TheVariants.{Ended}
 use Rattle.qed_model.specs.Machine.Table.{ins}
 use Rattle.qed_model.specs.Machine.Step.{State, reg, moved, stopped, Known, step}
-use Rattle.qed_model.specs.Weave.Sequences.{Reads, fired_check}
+use Rattle.qed_model.specs.Weave.Sequences.{fired_check}
 use Rattle.qed_model.proofs.Walk.{over_moved, known_at}
 use Rattle.qed_model.proofs.Walked.{walk_on}
 use Rattle.weave_core.specs.World.{World, Quiet, Twice}
@@ -22,7 +22,7 @@ use Rattle.weave_core.specs.WeaveLaws.{Holds, GoesTo, Ends}
 use Rattle.weave_core.proofs.Branch.{own_pair}
 use Rattle.weave_core.proofs.Endings.{guards_pass}
 use Rattle.weave_core.proofs.Leaves.{step-end, end_walk}
-use Rattle.weave_core.proofs.Sets.{writes, writes_long, halved_writes, sets_equal}
+use Rattle.weave_core.proofs.Sets.{writes, halved_writes, sets_equal}
 use Rattle.weave_core.proofs.Words.{all_small}
 use Rattle.lean_weave.specs.Lean.{check_sign, leave_as, is_break, cost}
 use Rattle.lean_weave.proofs.Chain.{Op, plain, constant, effects, Gives, read_back, all_temps, chain}
@@ -48,8 +48,7 @@ module _ (w : World) (u s : State) (i : Ins) (fall : ℕ → List Item) (a off :
   sign_gives x long at16 =
       let l = x.regs in
       let e1 : List (ℕ × ℕ) = (30, a) ∷ [] in
-      let e2 : List (ℕ × ℕ) = (30, a) ∷ (31, off * 2 ^ 32) ∷ [] in
-      (
+      let e2 : List (ℕ × ℕ) = (30, a) ∷ (31, off * 2 ^ 32) ∷ [] in (
         low,
         omega arith,
         refl,

@@ -1,17 +1,15 @@
 -- The leave of a JALR: the pair turns the signature, the guarded original is looked up in the table.
-use Rattle.std.proofs.Common.{◌≡◌, ℕ, zero, suc, ◌+◌, ◌-◌, ◌*◌, ◌/◌, ◌%◌, ◌^◌, ◌<◌, ◌≤◌, ◌⊎◌, inl, inr, ⊎_elim, Bool, true, false, cond, List, [], ◌∷◌, ◌++◌, length, refl, sym, ap, ◌∙◌, subst, arith, append_assoc}
-use Rattle.std.specs.Prelude.{◌==◌, ℤ, pos, neg_ℤ, slice_index}
-use Rattle.std.proofs.lemmas.Bool.{ne_eqb}
+use Rattle.std.proofs.Common.{◌≡◌, ℕ, zero, suc, ◌+◌, ◌-◌, ◌*◌, ◌/◌, ◌%◌, ◌^◌, ◌<◌, ◌≤◌, inl, inr, ⊎_elim, Bool, true, List, [], ◌∷◌, ◌++◌, length, refl, sym, ap, ◌∙◌, subst, arith}
+use Rattle.std.specs.Prelude.{pos, neg_ℤ}
 use Rattle.rv_isa.specs.declared.ins.Ins.{Ins}
-use Rattle.rv_isa.specs.declared.kind.Kind.TheVariants.{Add, Addi, Andi, Sub, Beq}
+use Rattle.rv_isa.specs.declared.kind.Kind.TheVariants.{Add, Addi, Andi, Sub}
 use Rattle.rv_isa.specs.declared.class.Class.TheVariants as class
 use Rattle.rv_isa.specs.Kind.{class_of}
 use Rattle.rv_isa.specs.Operation.{pair}
 use Rattle.rv_isa.specs.Regs.{set_reg}
 use Rattle.qed_model.specs.declared.item.Item.{Item}
-use Rattle.qed_model.specs.declared.item.Item.TheVariants.{Plain, Constant}
+use Rattle.qed_model.specs.declared.item.Item.TheVariants.{Plain}
 use Rattle.qed_model.specs.Machine.Table.{ins}
-use Rattle.qed_model.specs.Machine.Values.{wrapped}
 use Rattle.qed_model.specs.Machine.Step.{State, reg, moved, imm, next_pc, Known, step}
 use Rattle.qed_model.specs.Promise.Kept.{NotTrapped}
 use Rattle.qed_model.specs.Weave.Sequences.{Reads, guard, links}
@@ -20,17 +18,17 @@ use Rattle.qed_model.proofs.Walked.{Walk, walk_none, walk_on}
 use Rattle.weave_core.specs.World.{World, Quiet, Twice}
 use Rattle.weave_core.specs.Blocks.{IsEntryOf, Goes, TableAt}
 use Rattle.weave_core.specs.Rows.{At, Sourced}
-use Rattle.weave_core.specs.WeaveLaws.{GoesTo, Onward, lands, is_lost}
-use Rattle.weave_core.proofs.Branch.{Passes, own_pair}
+use Rattle.weave_core.specs.WeaveLaws.{lands, is_lost}
+use Rattle.weave_core.proofs.Branch.{own_pair}
 use Rattle.weave_core.proofs.Indirect.{aim, Leaps, leap_step, addi_value, andi_value, linked, linked_out, links_sets, leap_there}
 use Rattle.weave_core.proofs.Rows.{halved_original, halved_pair, halved_moved, pair_value}
-use Rattle.weave_core.proofs.Sets.{Sets, writes, writes_long, halved_writes}
+use Rattle.weave_core.proofs.Sets.{Sets, writes, halved_writes}
 use Rattle.weave_core.proofs.Visit.{add_result}
 use Rattle.lean_weave.specs.Lean.{look_up, leave_as, cost}
 use Rattle.lean_weave.specs.Woven.{fall_to}
 use Rattle.lean_weave.proofs.Chain.{Op, plain, constant, effects, Gives, read_back, all_temps, chain, cost_append}
 use Rattle.lean_weave.proofs.Check.{sub_value}
-use Rattle.lean_weave.proofs.Leave.{SignedAs, Went, guard_cost, linking, link_words}
+use Rattle.lean_weave.proofs.Leave.{Went, guard_cost, linking, link_words}
 
 -- taking the block's address away leaves the target and the offset
 leaves_target : (a k x y : ℕ) → a % 2 ≡ 0 → k % 2 ≡ 0 → a < 2 ^ 64 → ((((a + k) % 2 ^ 64 + x) % 2 ^ 64 + y) % 2 ^ 64 / 2 * 2 + (2 ^ 64 - a)) % 2 ^ 64 ≡ ((x + y) % 2 ^ 64 / 2 * 2 + k) % 2 ^ 64
@@ -79,8 +77,7 @@ module _ (w : World) (leader : ℕ → Bool) (entries : (a : ℕ) → leader a �
         let long = x.at.halved.output.regs in
         let e1 : List (ℕ × ℕ) = (16, v1) ∷ [] in
         let e2 : List (ℕ × ℕ) = (16, v1) ∷ (16, v2) ∷ [] in
-        let e4 : List (ℕ × ℕ) = (16, v1) ∷ (16, v2) ∷ (16, v2 / 2 * 2) ∷ (30, a) ∷ [] in
-        (
+        let e4 : List (ℕ × ℕ) = (16, v1) ∷ (16, v2) ∷ (16, v2 / 2 * 2) ∷ (30, a) ∷ [] in (
           refl,
           λ e. absurd (cc),
           λ p. add_result (moved l p u) 16 16 (pair i.rs1) ((a + k) % 2 ^ 64) value v1 x.sign (pair_value w u s s i.rs1 x.at.halved x.first) refl,
@@ -114,8 +111,7 @@ module _ (w : World) (leader : ℕ → Bool) (entries : (a : ℕ) → leader a �
     aim_gives : (y : State) → length y.regs ≡ 32 → reg y i.rs1 ≡ value → Gives y y.regs aim_ops
     aim_gives y long at1 =
         let l = y.regs in
-        let e1 : List (ℕ × ℕ) = (30, sum) ∷ [] in
-        (
+        let e1 : List (ℕ × ℕ) = (30, sum) ∷ [] in (
           refl,
           λ e. absurd (cc),
           λ p. addi_value (moved l p y) 30 i.rs1 value sum i.imm at1 refl,

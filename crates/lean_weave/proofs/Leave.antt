@@ -1,12 +1,9 @@
 -- The leaves: where each leads, with the signature turned and the counter as it was.
-use Rattle.std.proofs.Common.{◌≡◌, ℕ, zero, suc, ◌+◌, ◌-◌, ◌*◌, ◌/◌, ◌%◌, ◌^◌, ◌<◌, ◌≤◌, ◌⊎◌, inl, inr, ⊎_elim, Bool, true, false, cond, not, List, [], ◌∷◌, ◌++◌, length, refl, sym, ap, ◌∙◌, subst, arith, append_assoc}
-use Rattle.std.specs.Prelude.{◌==◌, max, ℤ, pos, neg_ℤ, slice_index}
-use Rattle.std.proofs.lemmas.Bool.{false≢true, cases_Bool, ne_eqb, eqb-true}
-use Rattle.std.proofs.lemmas.List.{append-nil}
+use Rattle.std.proofs.Common.{◌≡◌, ℕ, zero, suc, ◌+◌, ◌%◌, ◌^◌, ◌<◌, ◌≤◌, ⊎_elim, Bool, true, false, cond, not, List, [], ◌∷◌, ◌++◌, refl, sym, ap, ◌∙◌, subst, arith, append_assoc}
+use Rattle.std.specs.Prelude.{◌==◌, max, pos}
+use Rattle.std.proofs.lemmas.Bool.{ne_eqb}
 use Rattle.std.proofs.Math.Nat.{le-max_left, le-max_right}
 use Rattle.rv_isa.specs.declared.ins.Ins.{Ins}
-use Rattle.rv_isa.specs.declared.kind.Kind.{Kind}
-use Rattle.rv_isa.specs.declared.class.Class.{Class}
 use Rattle.rv_isa.specs.declared.class.Class.TheVariants as class
 use Rattle.rv_isa.specs.Kind.{class_of}
 use Rattle.qed_model.specs.declared.item.Item.{Item}
@@ -22,13 +19,13 @@ use Rattle.qed_model.specs.Weave.Placed.{distance_between, sum_of_sizes}
 use Rattle.qed_model.proofs.PlacedWords.{size-append}
 use Rattle.qed_model.specs.Weave.Sequences.{Reads, fired_check, guard, guards_of, links}
 use Rattle.qed_model.proofs.Walk.{Over, over_moved}
-use Rattle.qed_model.proofs.Walked.{Walk, walk_none, walk_on}
+use Rattle.qed_model.proofs.Walked.{Walk, walk_on}
 use Rattle.weave_core.specs.World.{World, Quiet, Twice}
 use Rattle.weave_core.specs.Blocks.{IsEntryOf, Goes}
 use Rattle.weave_core.specs.Rows.{At, Led, Sourced}
-use Rattle.weave_core.specs.WeaveLaws.{Stands, GoesTo, Onward, lands, is_lost}
+use Rattle.weave_core.specs.WeaveLaws.{GoesTo, Onward, lands, is_lost}
 use Rattle.weave_core.proofs.Branch.{Passes, pass_none, pass_on, guard_pass, own_pair, Branches, branch_step}
-use Rattle.weave_core.proofs.Leaves.{go_most, go_most_le, go_walk, halved_gone, jump_step, links_as, branch_taken, branch_passed}
+use Rattle.weave_core.proofs.Leaves.{go_most, go_walk, halved_gone, jump_step, links_as, branch_taken, branch_passed}
 use Rattle.weave_core.proofs.Rows.{halved_regs, halved_views, halved_moved, led_none, led_more}
 use Rattle.lean_weave.specs.Lean.{turn, goes, opposite, leave_as, cost, leave_cost_as}
 use Rattle.lean_weave.specs.Woven.{fall_to}

@@ -1,5 +1,5 @@
 -- Each leave meets the law of the rows.
-use Rattle.std.proofs.Common.{◌≡◌, ℕ, ◌+◌, ◌*◌, ◌%◌, ◌^◌, ◌<◌, ◌≤◌, ◌⊎◌, inl, inr, Bool, true, false, List, [], ◌∷◌, ◌++◌, length, refl, sym, ap, ◌∙◌, subst, arith}
+use Rattle.std.proofs.Common.{◌≡◌, ℕ, ◌+◌, ◌*◌, ◌%◌, ◌^◌, ◌<◌, ◌≤◌, ◌⊎◌, inl, inr, Bool, true, List, length, refl, sym, ap, ◌∙◌, subst, arith}
 use Rattle.std.specs.Prelude.{◌==◌, ◌&&◌, nat_le, pos}
 use Rattle.std.proofs.lemmas.Bool.{and_parts, eqb-true, leb-true}
 use Rattle.rv_isa.specs.declared.ins.Ins.{Ins}
@@ -9,18 +9,18 @@ use Rattle.rv_isa.specs.Kind.{class_of}
 use Rattle.rv_isa.specs.declared.kind.Kind.TheVariants.{Addi}
 use Rattle.qed_model.specs.Machine.Table.{ins}
 use Rattle.qed_model.specs.Weave.Pieces.{is_run}
-use Rattle.qed_model.specs.Machine.Step.{State, reg, Known, run, step, target}
+use Rattle.qed_model.specs.Machine.Step.{State, reg, Known, run, step}
 use Rattle.qed_model.specs.Promise.Kept.{NotTrapped, LeadsToReached, IsSteady}
 use Rattle.qed_model.specs.Weave.Sequences.{End, Falls, Stops}
 use Rattle.qed_model.proofs.Walk.{known_at}
 use Rattle.weave_core.specs.World.{World}
-use Rattle.weave_core.specs.Blocks.{IsEntryOf, Leaves, EndStands, Goes}
+use Rattle.weave_core.specs.Blocks.{IsEntryOf, Leaves, EndStands}
 use Rattle.weave_core.specs.Rows.{At, Sourced}
 use Rattle.weave_core.specs.Weave.{Weave}
 use Rattle.weave_core.specs.WeaveLaws.{EntryAt, Ends, GoesTo, stops, Onward, lands, is_lost, Left, Rows}
 use Rattle.weave_core.proofs.Indirect.{aim, leap_step}
 use Rattle.weave_core.proofs.Leaves.{step-illegal}
-use Rattle.lean_weave.specs.Lean.{leave, leave_as, leave_cost, leave_cost_as, is_ticked_at, cost}
+use Rattle.lean_weave.specs.Lean.{leave, leave_as, leave_cost, leave_cost_as, is_ticked_at}
 use Rattle.lean_weave.specs.Woven.{Lean, fall_to, weave_of, LeanIn}
 use Rattle.lean_weave.proofs.Costs.{leave_most}
 use Rattle.lean_weave.proofs.Rows.{enter_law, inside_law, piece_law}

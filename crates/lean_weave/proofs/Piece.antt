@@ -1,5 +1,5 @@
 -- A piece: its original parts and its mirror parts, with nothing behind.
-use Rattle.std.proofs.Common.{◌≡◌, ℕ, ◌+◌, ◌≤◌, inl, ⊎_elim, Bool, true, false, List, [], ◌∷◌, ◌++◌, length, refl, sym, ap, ◌∙◌, subst, arith, append_assoc}
+use Rattle.std.proofs.Common.{◌≡◌, ℕ, ◌+◌, ◌≤◌, ⊎_elim, true, false, List, [], ◌++◌, length, refl, sym, ap, ◌∙◌, subst, arith, append_assoc}
 use Rattle.rv_isa.specs.declared.ins.Ins.{Ins}
 use Rattle.qed_model.specs.declared.item.Item.{Item}
 use Rattle.qed_model.specs.Machine.Step.{State, reg, run, step, HasAt}
@@ -10,9 +10,9 @@ use Rattle.qed_model.proofs.Walked.{Walk, walk_on}
 use Rattle.weave_core.specs.World.{World, Quiet as Calm}
 use Rattle.weave_core.specs.Blocks.{FitsPiece, AllFit}
 use Rattle.weave_core.specs.Rows.{At, Sourced, mirror_steps}
-use Rattle.weave_core.specs.Each.{items_each, cost_each}
-use Rattle.weave_core.specs.Parts.{any, used, bare, original_cost, Runs, NeedsMirror, GivesMirror, LeavesMirror}
-use Rattle.weave_core.specs.Pass.{Views, Quiet, Does, same}
+use Rattle.weave_core.specs.Each.{cost_each}
+use Rattle.weave_core.specs.Parts.{any, used, bare, original_cost, NeedsMirror, GivesMirror, LeavesMirror}
+use Rattle.weave_core.specs.Pass.{Views, Quiet, same}
 use Rattle.weave_core.proofs.Body.{mirrored_part}
 use Rattle.weave_core.proofs.Compose.{leads_led, quiet_each, each_same}
 use Rattle.weave_core.proofs.FormRows.{plus, each_plus, quiet_front}

@@ -1,36 +1,29 @@
 -- The lean form meets the laws of the rows, so it keeps the values.
-use Rattle.std.proofs.Common.{◌≡◌, ℕ, ◌+◌, ◌-◌, ◌*◌, ◌%◌, ◌^◌, ◌<◌, ◌≤◌, inl, inr, ⊎_elim, Bool, true, false, cond, List, [], ◌∷◌, ◌++◌, length, refl, sym, ap, ◌∙◌, subst, arith, append_assoc}
-use Rattle.std.specs.Prelude.{◌==◌, ◌&&◌, nat_le, max, pos, ℤ}
-use Rattle.std.proofs.lemmas.Bool.{and_parts, leb-true, eqb-true, cases_lt}
+use Rattle.std.proofs.Common.{◌≡◌, ℕ, ◌+◌, ◌-◌, ◌*◌, ◌%◌, ◌^◌, ◌<◌, ◌≤◌, ⊎_elim, Bool, true, List, [], ◌∷◌, ◌++◌, length, refl, sym, ap, ◌∙◌, subst, arith, append_assoc}
+use Rattle.std.specs.Prelude.{pos}
+use Rattle.std.proofs.lemmas.Bool.{and_parts, leb-true, cases_lt}
 use Rattle.std.proofs.Math.Nat.{mul-le-mul_left}
 use Rattle.rv_isa.specs.declared.ins.Ins.{Ins}
 use Rattle.rv_isa.specs.declared.kind.Kind.TheVariants.{Addi, Auipc}
-use Rattle.rv_isa.specs.declared.class.Class.{Class}
-use Rattle.rv_isa.specs.declared.class.Class.TheVariants as class
-use Rattle.rv_isa.specs.Kind.{class_of}
-use Rattle.rv_isa.specs.Regs.{set_reg}
 use Rattle.qed_model.specs.declared.item.Item.{Item}
 use Rattle.qed_model.specs.Machine.Table.{ins}
-use Rattle.qed_model.specs.Machine.Step.{State, reg, moved, Known, run, step}
+use Rattle.qed_model.specs.Machine.Step.{State, reg, moved, run}
 use Rattle.qed_model.specs.Promise.Kept.{NotTrapped}
-use Rattle.qed_model.specs.Weave.Pieces.{is_run}
 use Rattle.qed_model.specs.Weave.Placed.{distance_between, upper_part}
 use Rattle.qed_model.specs.Weave.Sequences.{Reads, original, mirrored, each_part}
 use Rattle.qed_model.proofs.Walk.{Over, over_moved}
 use Rattle.qed_model.proofs.Walked.{Walk, walk_on}
 use Rattle.weave_core.specs.World.{World, Quiet, Twice, IsCursor, words_on}
 use Rattle.weave_core.specs.Blocks.{IsEntryOf}
-use Rattle.weave_core.specs.Each.{cost_each}
-use Rattle.weave_core.specs.Parts.{original_cost}
-use Rattle.weave_core.specs.Rows.{At, Sourced, mirror_steps, spent}
+use Rattle.weave_core.specs.Rows.{At, Sourced, mirror_steps}
 use Rattle.weave_core.specs.Weave.{Weave}
-use Rattle.weave_core.specs.WeaveLaws.{PieceAt, EntryAt, Stands, GoesTo, Inside}
+use Rattle.weave_core.specs.WeaveLaws.{PieceAt, Stands, GoesTo, Inside}
 use Rattle.weave_core.proofs.Body.{mirror_steps_le, spent_le}
 use Rattle.weave_core.proofs.FormRows.{front_row}
 use Rattle.weave_core.proofs.PieceLaws.{cost_parts}
 use Rattle.weave_core.proofs.Sets.{writes, halved_writes}
 use Rattle.weave_core.proofs.Visit.{words_within}
-use Rattle.lean_weave.specs.Lean.{first_word, tick, check, is_ticked_at}
+use Rattle.lean_weave.specs.Lean.{first_word, tick, is_ticked_at}
 use Rattle.lean_weave.specs.Woven.{Lean, check_steps, weave_of, LeanIn}
 use Rattle.lean_weave.proofs.Chain.{read_back, all_temps}
 use Rattle.lean_weave.proofs.Check.{Back, check_row}

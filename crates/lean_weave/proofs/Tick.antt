@@ -1,15 +1,14 @@
 -- The tick: it counts, and goes on or calls the check.
-use Rattle.std.proofs.Common.{◌≡◌, ℕ, ◌+◌, ◌-◌, ◌%◌, ◌^◌, ◌<◌, ◌≤◌, true, false, List, [], ◌∷◌, ◌++◌, length, refl, sym, ap, ◌∙◌, subst, arith}
-use Rattle.std.specs.Prelude.{◌==◌, ℤ, pos, nat_lt, slice_index}
+use Rattle.std.proofs.Common.{◌≡◌, ℕ, ◌+◌, ◌-◌, ◌%◌, ◌^◌, ◌<◌, ◌≤◌, true, false, List, ◌∷◌, ◌++◌, length, refl, ap, ◌∙◌, subst, arith}
+use Rattle.std.specs.Prelude.{ℤ, pos}
 use Rattle.std.proofs.lemmas.Bool.{lt-ltb, le-ltb}
-use Rattle.rv_isa.specs.declared.ins.Ins.{Ins}
 use Rattle.rv_isa.specs.declared.kind.Kind.TheVariants.{Addi, Blt, Jal}
 use Rattle.rv_isa.specs.declared.class.Class.TheVariants as class
 use Rattle.rv_isa.specs.Regs.{set_reg}
-use Rattle.rv_isa.proofs.RegsLaws.{slice_index-set_reg_other, slice_index-set_reg_same, length-set_reg}
+use Rattle.rv_isa.proofs.RegsLaws.{slice_index-set_reg_other, slice_index-set_reg_same}
 use Rattle.qed_model.specs.declared.item.Item.{Item}
 use Rattle.qed_model.specs.declared.item.Item.TheVariants.{Plain}
-use Rattle.qed_model.specs.Machine.Table.{ins, signed}
+use Rattle.qed_model.specs.Machine.Table.{ins}
 use Rattle.qed_model.specs.Machine.Values.{holds}
 use Rattle.qed_model.specs.Machine.Step.{State, reg, moved, jumped, next_pc, Known}
 use Rattle.qed_model.specs.Weave.Placed.{distance_between}

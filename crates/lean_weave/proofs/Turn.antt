@@ -1,9 +1,8 @@
 -- Rows of the signature: straight words that change x16 and x30 alone.
-use Rattle.std.proofs.Common.{◌≡◌, ℕ, ◌+◌, ◌%◌, ◌^◌, ◌<◌, ◌≤◌, ⊎_elim, Bool, true, false, cond, List, [], ◌∷◌, ◌++◌, length, refl, sym, ap, ◌∙◌, subst, arith}
+use Rattle.std.proofs.Common.{◌≡◌, ℕ, ◌+◌, ◌%◌, ◌^◌, ◌<◌, ◌≤◌, Bool, true, false, cond, List, [], ◌∷◌, ◌++◌, length, refl, sym, ap, ◌∙◌, subst, arith}
 use Rattle.std.specs.Prelude.{◌==◌, ℤ, pos, ◌+ℤ◌, ◌-ℤ◌, slice_index}
-use Rattle.std.proofs.lemmas.Bool.{cases_Bool, eqb-true}
+use Rattle.std.proofs.lemmas.Bool.{eqb-true}
 use Rattle.std.proofs.lemmas.Int.{ints}
-use Rattle.rv_isa.specs.declared.ins.Ins.{Ins}
 use Rattle.rv_isa.specs.declared.kind.Kind.TheVariants.{Lui, Addi, Add}
 use Rattle.rv_isa.specs.Regs.{set_reg}
 use Rattle.rv_isa.proofs.RegsLaws.{slice_index-set_reg_other, slice_index-set_reg_same, length-set_reg}
@@ -16,7 +15,7 @@ use Rattle.qed_model.specs.Weave.Placed.{distance_between, upper_part, lower_par
 use Rattle.qed_model.specs.Weave.Sequences.{Reads}
 use Rattle.qed_model.proofs.Walk.{Over, over_moved}
 use Rattle.qed_model.proofs.Walked.{walk_none}
-use Rattle.qed_model.proofs.Wrapped.{wrapped-add, wrapped-lt, difference}
+use Rattle.qed_model.proofs.Wrapped.{wrapped-add, difference}
 use Rattle.weave_core.specs.World.{World, Quiet}
 use Rattle.weave_core.proofs.Indirect.{addi_value}
 use Rattle.weave_core.proofs.Sets.{Sets, sets_on, sets_compute}

@@ -112,9 +112,10 @@ leave fall Falls a at = turn a at ++ fall at
 leave fall (Stops i) a at = leave_as fall (class_of i.kind) i a at
 
 -- ---- what runs first
--- all originals and pairs are 0, x14 is the distance of the halves, the counter is set, and the test begins at its entry, with the first data word
-abbrev pub begin : ℕ → ℕ → ℕ → List Item
-begin every d a = zero_from 1 13 ++ (zero_from 17 13 ++ (Plain (ins Lui 14 0 0 (pos d)) ∷ Constant 16 a ∷ Plain (ins Addi 15 0 0 (neg_ℤ (pos every))) ∷ Go a ∷ []))
+-- all originals and pairs are 0, x14 is the distance of the halves, and the test begins at its entry, with the first data word and one step left, so
+-- that its first tick calls the check
+abbrev pub begin : ℕ → ℕ → List Item
+begin d a = zero_from 1 13 ++ (zero_from 17 13 ++ (Plain (ins Lui 14 0 0 (pos d)) ∷ Constant 16 a ∷ Plain (ins Addi 15 0 0 (neg_ℤ (pos 1))) ∷ Go a ∷ []))
 
 -- ---- the steps
 -- of straight words, where no check fires

@@ -2,7 +2,7 @@
 use Rattle.std.specs.Prelude.{◌≡◌, ℕ, ◌+◌, ◌*◌, ◌%◌, ◌^◌, ◌<◌, ◌≤◌, Bool, true, false, cond, ◌==◌, ◌&&◌, nat_le, List, [], ◌∷◌, ◌++◌, length}
 use Rattle.rv_isa.specs.declared.ins.Ins.{Ins}
 use Rattle.qed_model.specs.declared.item.Item.{Item}
-use Rattle.qed_model.specs.declared.item.Item.TheVariants.{Mark, Plain, Constant, Go}
+use Rattle.qed_model.specs.declared.item.Item.TheVariants.{Mark, Go}
 use Rattle.qed_model.specs.Admission.DataRanges.{word_count}
 use Rattle.qed_model.specs.Machine.Step.{Known}
 use Rattle.qed_model.specs.Weave.Bounds.{visit_bound}
@@ -39,7 +39,7 @@ check_steps w = 44 + visit_bound (word_count w.form.spans) (length w.form.spans)
 abbrev pub weave_of : World → Lean → (ℕ → Bool) → Weave
 weave_of w l leader = record {
   code = record {
-    first = begin l.every;
+    first = begin;
     enter = λ a. tick (l.most a) (distance_between (w.entry a + 8) l.check);
     piece = λ is at. each_part original is at ++ each_part mirrored is at;
     leave = λ e at. leave (fall_to leader) e (l.start_of at) at;
@@ -77,4 +77,4 @@ pub record LeanIn (w : World) (l : Lean) (leader : ℕ → Bool) : Type 0 where
 abbrev pub LeanKept : Type 0
 LeanKept =
     (f g : Program) (w : World) (l : Lean) (leader : ℕ → Bool) → LeanIn w l leader → Describes f g w → EntriesAt w (weave_of w l leader) leader → leader f.entry ≡ true
-    → Reads w.form.far w.code w.entry g.entry (begin l.every w.distance f.entry) → Kept f g w.reached 31 (24 + check_steps w + 5 * l.inst_max)
+    → Reads w.form.far w.code w.entry g.entry (begin w.distance f.entry) → Kept f g w.reached 31 (24 + check_steps w + 5 * l.inst_max)

@@ -1,5 +1,5 @@
 -- A wrong instruction is caught, in any weave, in a plan of a form, and in each woven test.
-use Rattle.std.proofs.Common.{◌≡◌, ℕ, zero, suc, ◌+◌, ◌-◌, ◌*◌, ◌/◌, ◌^◌, ◌≤◌, inl, inr, List, [], ◌∷◌, Some, refl, sym, ap, ◌∙◌, subst, arith}
+use Rattle.std.proofs.Common.{◌≡◌, ℕ, zero, suc, ◌+◌, ◌-◌, ◌*◌, ◌/◌, ◌^◌, ◌≤◌, List, [], ◌∷◌, Some, refl, sym, ap, ◌∙◌, subst, arith}
 use Rattle.std.proofs.Math.Nat.{mul-le-mul}
 use Rattle.rv_isa.specs.declared.ins.Ins.{Ins}
 use Rattle.rv_isa.specs.declared.kind.Kind.{Kind}
@@ -21,16 +21,14 @@ use Rattle.qed_model.specs.Promise.Closed.{IsOpen}
 use Rattle.qed_model.specs.Promise.Kept.{Steady}
 use Rattle.qed_model.specs.Weave.Blocks.{begins_at}
 use Rattle.qed_model.specs.Weave.Bounds.{word_bound}
-use Rattle.qed_model.specs.Weave.Code.{sequences}
 use Rattle.qed_model.specs.Weave.Sequences.{Block}
-use Rattle.weave_core.specs.Lock.{span_bytes, Opens, HasKind, Loaded, Undisturbed}
+use Rattle.weave_core.specs.Lock.{span_bytes, Opens, HasKind, Undisturbed}
 use Rattle.weave_core.specs.WeavePromise.{PlanOf}
 use Rattle.weave_core.specs.WeaveForms.{weave_of}
 use Rattle.weave_core.specs.Rows.{Mirrors}
-use Rattle.weave_core.specs.Weave.{Weave, start_steps, stage_steps}
-use Rattle.weave_core.specs.WeaveLaws.{CheckedRows, Starts, Words}
-use Rattle.weave_core.specs.WeavePromise.{PlanOf, OnlyCode, BoundsOf}
-use Rattle.weave_core.specs.World.{World, AllBelow}
+use Rattle.weave_core.specs.Weave.{start_steps, stage_steps}
+use Rattle.weave_core.specs.WeavePromise.{PlanOf, BoundsOf}
+use Rattle.weave_core.specs.World.{World}
 use Rattle.weave_core.proofs.FormMirrors.{mirrors_of}
 use Rattle.weave_core.proofs.FormRows.{form_rows, form_starts}
 use Rattle.weave_core.proofs.Sized.{width_le}
@@ -38,13 +36,12 @@ use Rattle.weave_core.proofs.TestKept as kept
 use Rattle.lockstep.specs.Closes.{Closes}
 use Rattle.lockstep.specs.InstructionFaults.{WritesOriginal, StoresOriginal, word_around, GivesAny, StoresAny, FoundOut, FaultsFound, InstructionFaultsAreCaught}
 use Rattle.lockstep.specs.Promise.{IsBoundsOf}
-use Rattle.lockstep.proofs.FormWords.{form_words, visits_ten, bounds_in, plan_caught}
+use Rattle.lockstep.proofs.FormWords.{form_words, bounds_in, plan_caught}
 use Rattle.lockstep.proofs.Made.{changed_later}
-use Rattle.lockstep.proofs.Calm.{CalmCode, begins, loaded_at, quiet_run}
+use Rattle.lockstep.proofs.Calm.{CalmCode, loaded_at, quiet_run}
 use Rattle.lockstep.proofs.Weaves.{calm_plan}
 use Rattle.lockstep.proofs.Runs.{run-last}
 use Rattle.lockstep.proofs.Sets.{word_below}
-use Rattle.lockstep.proofs.Standing.{stands_run}
 use Rattle.lockstep.proofs.Tests as tests
 use Rattle.lockstep.proofs.WrongSteps.{opens_behind, writes_straight, is_open, Wrote, wrote, stored_step, any_struck, changed_there, struck_outcome, unchanged_before, with_one, with_two, found_out}
 use Rattle.lockstep.proofs.WrongStores.{IsBeside, two_words, any_beside, struck_words}
