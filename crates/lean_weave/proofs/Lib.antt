@@ -12,3 +12,4 @@ pub mod Costs
 pub mod Rows
 pub mod Left
 pub mod Begin
+pub mod Cells

@@ -23,7 +23,7 @@ use Rattle.weave_core.proofs.FormRows.{front_row}
 use Rattle.weave_core.proofs.PieceLaws.{cost_parts}
 use Rattle.weave_core.proofs.Sets.{writes, halved_writes}
 use Rattle.weave_core.proofs.Visit.{words_within}
-use Rattle.lean_weave.specs.Lean.{first_word, tick, is_ticked_at}
+use Rattle.lean_weave.specs.Lean.{first_word, tick, check, is_ticked_at}
 use Rattle.lean_weave.specs.Woven.{Lean, check_steps, weave_of, LeanIn}
 use Rattle.lean_weave.proofs.Chain.{read_back, all_temps}
 use Rattle.lean_weave.proofs.Check.{Back, check_row}
@@ -37,22 +37,22 @@ module _ (w : World) (l : Lean) (leader : ℕ → Bool) (x : LeanIn w l leader) 
 
   -- ---- the tick
   -- at the begin of a block, with what holds there
-  record Enters (u s : State) (rest : List Item) (a : ℕ) : Type 0 where
-    over : Over w.code u
-    halved : Twice w u s s
-    reads : Reads w.form.far w.code w.entry u.pc (tick (l.most a) (distance_between (w.entry a + 8) l.check) ++ rest)
-    low : a < 2 ^ 64
-    ticked : Ticked l.every w u a
-    begins : u.pc ≡ w.entry a
+  pub record Enters (u s : State) (rest : List Item) (a : ℕ) : Type 0 where
+    pub over : Over w.code u
+    pub halved : Twice w u s s
+    pub reads : Reads w.form.far w.code w.entry u.pc (tick (l.most a) (distance_between (w.entry a + 8) l.check) ++ rest)
+    pub low : a < 2 ^ 64
+    pub ticked : Ticked l.every w u a
+    pub begins : u.pc ≡ w.entry a
 
   -- behind the tick
-  abbrev Entered : State → List Item → ℕ → ℕ → State → Type 0
+  abbrev pub Entered : State → List Item → ℕ → ℕ → State → Type 0
   Entered s rest a n y = At w y rest s s × (is_ticked_at l.every w y a ≡ true)
 
   -- where enough steps are left it passes
-  passes :
+  pub passes :
       (u s : State) (rest : List Item) (a : ℕ) (e : Enters u s rest a) → l.most a < e.ticked.left → l.most a ≤ 2048
-      → GoesTo w u 2 2 (λ n y. Entered s rest a n y × (reg y 15 ≡ counter (e.ticked.left - l.most a)))
+      → GoesTo w u 2 2 (λ n y. Entered s rest a n y × (reg y 15 ≡ counter (e.ticked.left - l.most a)) × (reg y 16 ≡ reg u 16))
   passes u s rest a e lt small =
       let t = e.ticked in
       let most = l.most a in
@@ -62,14 +62,14 @@ module _ (w : World) (l : Lean) (leader : ℕ → Bool) (x : LeanIn w l leader) 
       let ws : List (ℕ × ℕ) = (15, c) ∷ [] in
       let y = moved (writes ws u.regs) p.pc u in
       let here : reg y 15 ≡ c = read_back ws u.regs 15 long refl in
-      let sign : reg y 16 ≡ (a + t.offset * 2 ^ 32) % 2 ^ 64 = read_back ws u.regs 16 long refl ∙ t.sign in
+      let keeps : reg y 16 ≡ reg u 16 = read_back ws u.regs 16 long refl in
       record {
         steps = 2;
         to = y;
         at_least = omega arith;
         within = omega arith;
         walk = p.walk;
-        is = ((record { over = over_moved w.code u (writes ws u.regs) p.pc e.over; reads = p.reads; halved = halved_writes w u s s ws p.pc (all_temps ws refl) e.halved }, ticked_is l.every w y a (t.left - most) t.offset e.low (some t.left most lt) (less t.left most l.every t.most) x.few here t.few sign t.cursor), here);
+        is = ((record { over = over_moved w.code u (writes ws u.regs) p.pc e.over; reads = p.reads; halved = halved_writes w u s s ws p.pc (all_temps ws refl) e.halved }, ticked_is l.every w y a (t.left - most) t.offset e.low (some t.left most lt) (less t.left most l.every t.most) x.few here t.few (keeps ∙ t.sign) t.cursor), here, keeps);
       } where
         some : (n m : ℕ) → m < n → 1 ≤ n - m
         some n m h = omega (arith, h)
@@ -77,37 +77,59 @@ module _ (w : World) (l : Lean) (leader : ℕ → Bool) (x : LeanIn w l leader) 
         less : (n m b : ℕ) → n ≤ b → n - m ≤ b
         less n m b h = omega (arith, h)
 
-  -- where not, the check is called, and leads back to the entry
-  calls :
-      (u s : State) (rest : List Item) (a : ℕ) (e : Enters u s rest a) → s.pc ≡ a → leader a ≡ true → IsEntryOf w a → e.ticked.left ≤ l.most a → l.most a ≤ 2048
-      → (to : State) × Walk (Quiet w) u 3 to × Back w leader to s a e.ticked.offset l.every w.form.round
-  calls u s rest a e here leads entry le small =
+  -- before the check, called from the block that begins at the input's pc
+  pub record AtCheck (y s : State) (off : ℕ) : Type 0 where
+    pub over : Over w.code y
+    pub halved : Twice w y s s
+    pub pc : y.pc ≡ l.check
+    pub leads : leader s.pc ≡ true
+    pub few : off < 2 ^ 32
+    pub sign : reg y 16 ≡ (s.pc + off * 2 ^ 32) % 2 ^ 64
+    pub cursor : IsCursor w.form.spans (first_word w.form.spans + off)
+    pub link : reg y 31 ≡ w.entry s.pc + 12
+
+  -- where not, the check is called
+  pub calls :
+      (u s : State) (rest : List Item) (e : Enters u s rest s.pc) → leader s.pc ≡ true → e.ticked.left ≤ l.most s.pc → l.most s.pc ≤ 2048
+      → (y : State) × Walk (Quiet w) u 3 y × AtCheck y s e.ticked.offset
+  calls u s rest e leads le small =
       let t = e.ticked in
-      let most = l.most a in
+      let most = l.most s.pc in
       let long = e.halved.output.regs in
-      let at_entry = e.begins in
-      let reads : Reads w.form.far w.code w.entry u.pc (tick most (distance_between (u.pc + 8) l.check) ++ rest) = subst (λ p. Reads w.form.far w.code w.entry u.pc (tick most (distance_between (p + 8) l.check) ++ rest)) (sym at_entry) e.reads in
+      let reads : Reads w.form.far w.code w.entry u.pc (tick most (distance_between (u.pc + 8) l.check) ++ rest) = subst (λ p. Reads w.form.far w.code w.entry u.pc (tick most (distance_between (p + 8) l.check) ++ rest)) (sym e.begins) e.reads in
       let first = ins Auipc 30 0 0 (upper_part (distance_between l.check w.base)) in
       let near = w.low l.check first x.check.0 in
       let walk = call_row w u most t.left l.every e.over long e.halved.output.zero_reg t.fifteen t.some t.most x.few small rest l.check le (omega (arith, near)) (w.grain l.check first x.check.0) reads in
       let ws : List (ℕ × ℕ) = (15, most - t.left) ∷ (31, u.pc + 12) ∷ [] in
       let y = moved (writes ws u.regs) l.check u in
-      let link : reg y 31 ≡ w.entry a + 12 = read_back ws u.regs 31 long refl ∙ ap (λ p. p + 12) at_entry in
-      let tb = x.table a leads in
-      let back = check_row w leader x.small y s a t.offset l.every w.form.round tb entry leads x.some (far l.every x.few) (over_moved w.code u (writes ws u.regs) l.check e.over) (halved_writes w u s s ws l.check (all_temps ws refl) e.halved) x.check here tb.from (x.within a leads) t.few t.cursor (read_back ws u.regs 16 long refl ∙ t.sign) link in
-      (y, walk, back) where
+      (y, walk, record {
+        over = over_moved w.code u (writes ws u.regs) l.check e.over;
+        halved = halved_writes w u s s ws l.check (all_temps ws refl) e.halved;
+        pc = refl;
+        leads = leads;
+        few = t.few;
+        sign = read_back ws u.regs 16 long refl ∙ t.sign;
+        cursor = t.cursor;
+        link = read_back ws u.regs 31 long refl ∙ ap (λ p. p + 12) e.begins;
+      })
+
+  -- the check leads back to the entry
+  pub checks : (y s : State) (off : ℕ) → AtCheck y s off → IsEntryOf w s.pc → Back w leader y s s.pc off l.every w.form.round
+  checks y s off c entry =
+      let tb = x.table s.pc c.leads in
+      check_row w leader x.small y s s.pc off l.every w.form.round tb entry c.leads x.some (far l.every x.few) c.over c.halved (subst (λ p. Reads w.form.far w.code w.entry p (check w.base l.every w.form.round w.form.spans)) (sym c.pc) x.check) refl tb.from (x.within s.pc c.leads) c.few c.cursor c.sign c.link where
         far : (n : ℕ) → n ≤ 2048 → n < 2 ^ 63
         far n h = omega (arith, h)
 
   -- back from the check it passes
   again :
-      (u s : State) (rest : List Item) (a : ℕ) (e : Enters u s rest a) → s.pc ≡ a → leader a ≡ true → l.most a ≤ 2048
-      → (to : State) × Walk (Quiet w) u 3 to × Back w leader to s a e.ticked.offset l.every w.form.round
-      → GoesTo w u 0 (5 + check_steps w) (λ n y. Entered s rest a n y)
-  again u s rest a e here leads small c =
-      let b = c.2 in
+      (u s : State) (rest : List Item) (e : Enters u s rest s.pc) → l.most s.pc ≤ 2048 → IsEntryOf w s.pc → (to : State) × Walk (Quiet w) u 3 to × AtCheck to s e.ticked.offset
+      → GoesTo w u 0 (5 + check_steps w) (λ n y. Entered s rest s.pc n y)
+  again u s rest e small entry c =
+      let a = s.pc in
+      let b = checks c.0 s e.ticked.offset c.2 entry in
       let t = e.ticked in
-      let same : b.to.pc ≡ w.entry a = b.stands.pc ∙ ap w.entry here in
+      let same : b.to.pc ≡ w.entry a = b.stands.pc in
       let at_entry : Reads w.form.far w.code w.entry b.to.pc (tick (l.most a) (distance_between (w.entry a + 8) l.check) ++ rest) = subst (λ p. Reads w.form.far w.code w.entry p (tick (l.most a) (distance_between (w.entry a + 8) l.check) ++ rest)) (sym same) (subst (λ p. Reads w.form.far w.code w.entry p (tick (l.most a) (distance_between (w.entry a + 8) l.check) ++ rest)) e.begins e.reads) in
       let f : Enters b.to s rest a = record {
         over = b.stands.over;
@@ -117,7 +139,7 @@ module _ (w : World) (l : Lean) (leader : ℕ → Bool) (x : LeanIn w l leader) 
         begins = same;
         ticked = record { left = l.every; some = x.some; most = omega arith; fifteen = b.counter; offset = b.next; few = b.few; sign = b.sign; cursor = subst (IsCursor w.form.spans) (sym b.word) (words_in t.offset t.cursor) };
       } in
-      let g = passes b.to s rest a f (x.ticks a leads) small in
+      let g = passes b.to s rest a f (x.ticks a c.2.leads) small in
       record {
         steps = 3 + (b.steps + g.steps);
         to = g.to;
@@ -147,7 +169,7 @@ module _ (w : World) (l : Lean) (leader : ℕ → Bool) (x : LeanIn w l leader) 
       let small : l.most a ≤ 2048 = fewer (l.most a) l.every (x.ticks a st.leads) x.few in
       ⊎_elim
       (λ lt. let g = passes u s rest a e lt small in record { steps = g.steps; to = g.to; at_least = omega arith; within = two g.steps g.within; walk = g.walk; is = g.is.0 })
-      (λ ge. again u s rest a e refl st.leads small (calls u s rest a e refl st.leads entry ge small))
+      (λ ge. again u s rest e small entry (calls u s rest e st.leads ge small))
       (cases_lt (l.most a) t.left) where
         fewer : (m n : ℕ) → m < n → n ≤ 2048 → m ≤ 2048
         fewer m n h k = omega (arith, h, k)
