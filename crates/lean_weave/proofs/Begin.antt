@@ -1,17 +1,21 @@
 -- What runs first, and that the lean form keeps the values.
-use Rattle.std.proofs.Common.{◌≡◌, ℕ, ◌+◌, ◌*◌, ◌%◌, ◌^◌, ◌<◌, ◌≤◌, inl, Bool, List, [], ◌∷◌, length, refl, ap, ◌∙◌, subst, arith}
+use Rattle.std.proofs.Common.{◌≡◌, ℕ, ◌+◌, ◌*◌, ◌%◌, ◌^◌, ◌<◌, ◌≤◌, true, inl, Bool, List, [], ◌∷◌, length, refl, ap, ◌∙◌, subst, arith}
+use Rattle.lean_weave.specs.Lean.{begin}
+use Rattle.qed_model.specs.Weave.Sequences.{Reads}
 use Rattle.std.specs.Prelude.{pos, neg_ℤ}
 use Rattle.rv_isa.specs.declared.kind.Kind.TheVariants.{Addi}
 use Rattle.qed_model.specs.declared.item.Item.{Item}
 use Rattle.qed_model.specs.declared.item.Item.TheVariants.{Plain, Constant, Go}
-use Rattle.qed_model.specs.Machine.Program.{Program, start, zeros}
+use Rattle.qed_model.specs.Machine.Program.{Program, start, zeros, AreStartRegs}
 use Rattle.qed_model.specs.Machine.Table.{ins}
 use Rattle.qed_model.specs.Machine.Step.{State, reg, moved}
 use Rattle.qed_model.specs.Promise.Kept.{Kept}
 use Rattle.qed_model.proofs.Walk.{over_moved}
 use Rattle.qed_model.proofs.Walked.{walk_on}
+use Rattle.weave_core.specs.Blocks.{IsEntryOf}
+use Rattle.weave_core.specs.Describes.{Describes}
 use Rattle.weave_core.specs.World.{World, Quiet, GoodSpans, IsCursor}
-use Rattle.weave_core.specs.WeaveLaws.{Starts}
+use Rattle.weave_core.specs.WeaveLaws.{GoesTo, Stands, Starts}
 use Rattle.weave_core.proofs.Indirect.{addi_value}
 use Rattle.weave_core.proofs.Leaves.{go_most, go_walk, halved_gone}
 use Rattle.weave_core.proofs.Prologue.{begin_row}
@@ -25,7 +29,7 @@ use Rattle.lean_weave.proofs.Left.{lean_rows}
 use Rattle.lean_weave.proofs.Tick.{counter}
 
 -- the first word is one
-first_is : (base : ℕ) (spans : List (ℕ × ℕ)) → GoodSpans base spans → IsCursor spans (first_word spans + 0)
+pub first_is : (base : ℕ) (spans : List (ℕ × ℕ)) → GoodSpans base spans → IsCursor spans (first_word spans + 0)
 first_is base [] g = tt
 first_is base (r ∷ rs) g = inl (omega (arith, g.0.start), omega arith, omega (arith, g.0.some))
 
@@ -47,10 +51,12 @@ module _ (w : World) (l : Lean) (leader : ℕ → Bool) (x : LeanIn w l leader) 
         ),
       )
 
--- of the words that run first
-pub lean_starts : (f g : Program) (w : World) (l : Lean) (leader : ℕ → Bool) → LeanIn w l leader → Starts f g w (weave_of w l leader) leader
-lean_starts f g w l leader x = record {
-  first = λ of entry leads h regs are.
+-- what runs first leads to the entry of the test, with one step left and the first data word
+pub begin_law :
+    (f g : Program) (w : World) (l : Lean) (leader : ℕ → Bool) → LeanIn w l leader → Describes f g w → IsEntryOf w f.entry → leader f.entry ≡ true
+    → Reads w.form.far w.code w.entry g.entry (begin w.distance f.entry) → (regs : List ℕ) → AreStartRegs regs
+    → GoesTo w (start g regs) 1 31 (λ n y. Stands w leader y (start f zeros) × (reg y 15 ≡ counter 1) × (reg y 16 ≡ (f.entry + 0 * 2 ^ 32) % 2 ^ 64))
+begin_law f g w l leader x of entry leads h regs are =
       let s0 = start f zeros in
       let b = begin_row f g w of regs are (begin_rest f.entry) h in
       let long = b.at.halved.output.regs in
@@ -73,10 +79,10 @@ lean_starts f g w l leader x = record {
         walk = walk_on (Quiet w) (start g regs) b.to z 27 (3 + go.steps) b.walk (walk_on (Quiet w) b.to y z 3 go.steps s.walk go.walk);
         is = (
           record { over = over_moved w.code y go.regs (w.entry f.entry) oy; halved = halved_gone w y s0 s0 f.entry (go_most w.form.far) go hy; pc = refl; leads = leads },
-          ticked_is l.every w z f.entry 1 0 entry.low (omega arith) x.some x.few fifteen (omega arith) (sixteen ∙ whole f.entry entry.low) (first_is w.base w.form.spans w.spans_good),
+          fifteen,
+          sixteen ∙ whole f.entry entry.low,
         );
-      };
-} where
+      } where
   begin_rest : ℕ → List Item
   begin_rest a = Constant 16 a ∷ Plain (ins Addi 15 0 0 (neg_ℤ (pos 1))) ∷ Go a ∷ []
 
@@ -85,6 +91,21 @@ lean_starts f g w l leader x = record {
 
   whole : (a : ℕ) → a < 2 ^ 64 → a ≡ (a + 0 * 2 ^ 32) % 2 ^ 64
   whole a h = omega (arith, h)
+
+-- of the words that run first
+pub lean_starts : (f g : Program) (w : World) (l : Lean) (leader : ℕ → Bool) → LeanIn w l leader → Starts f g w (weave_of w l leader) leader
+lean_starts f g w l leader x = record {
+  first = λ of entry leads h regs are.
+      let b = begin_law f g w l leader x of entry leads h regs are in
+      record {
+        steps = b.steps;
+        to = b.to;
+        at_least = b.at_least;
+        within = b.within;
+        walk = b.walk;
+        is = (b.is.0, ticked_is l.every w b.to f.entry 1 0 entry.low (omega arith) x.some x.few b.is.1 (omega arith) b.is.2 (first_is w.base w.form.spans w.spans_good));
+      };
+}
 
 -- ---- the law
 pub lean_kept : LeanKept

@@ -230,7 +230,7 @@ module _ (w : World) (l : Lean) (leader : ℕ → Bool) (x : LeanIn w l leader) 
             enough a b c m n h k lt = omega (arith, h, k, lt)
 
       -- where not, to the check
-      called : l.most s.pc ≤ 2048 → left ≤ l.most s.pc → Called u s off (left + 2)
+      pub called : l.most s.pc ≤ 2048 → left ≤ l.most s.pc → Called u s off (left + 2)
       unfolding enters
       called small ge =
           let c = calls w l leader x u s rest enters b.stands.leads ge small in

@@ -13,3 +13,4 @@ pub mod Rows
 pub mod Left
 pub mod Begin
 pub mod Cells
+pub mod Beats
