@@ -14,3 +14,4 @@ pub mod Left
 pub mod Begin
 pub mod Cells
 pub mod Beats
+pub mod Words

@@ -11,16 +11,13 @@ use Rattle.qed_model.specs.declared.item.Item.{Item}
 use Rattle.qed_model.specs.declared.item.Item.TheVariants.{Mark, Plain, Constant, Go}
 use Rattle.qed_model.specs.Machine.Step.{Fetched}
 use Rattle.qed_model.specs.Machine.Values.{holds, s64}
+use Rattle.qed_model.specs.Promise.Closed.{is_branch}
 use Rattle.qed_model.specs.Weave.Placed.{go_size, sum_of_sizes}
 use Rattle.qed_model.specs.Weave.Sequences.{Reads}
 use Rattle.qed_model.proofs.EachKind.{each_kind}
 use Rattle.lean_weave.specs.Lean.{opposite}
 
 -- ---- branches
-abbrev is_branch : Class → Bool
-is_branch class.Branch = true
-is_branch c = false
-
 -- the six kinds
 abbrev is_way : Kind → Bool
 is_way Beq = true
