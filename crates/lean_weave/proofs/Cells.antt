@@ -23,17 +23,12 @@ use Rattle.weave_core.proofs.Leaves.{no_code}
 use Rattle.weave_core.proofs.Source.{source_run, not_trapped_le, steady_le, steady_rest}
 use Rattle.weave_core.proofs.Trace.{none_run, one_run}
 use Rattle.lean_weave.specs.Lean.{first_word, leave, leave_cost}
-use Rattle.lean_weave.specs.Woven.{Lean, fall_to, weave_of, LeanIn}
+use Rattle.lean_weave.specs.Woven.{Lean, piece_steps, body_steps, fall_to, weave_of, LeanIn}
 use Rattle.lean_weave.proofs.Leave.{Went, SignedAs}
 use Rattle.lean_weave.proofs.Left.{Parts, leave_row}
-use Rattle.lean_weave.proofs.Piece.{piece_steps, piece_row}
+use Rattle.lean_weave.proofs.Piece.{piece_row}
 use Rattle.lean_weave.proofs.Rows.{Enters, AtCheck, passes, calls}
 use Rattle.lean_weave.proofs.Tick.{counter}
-
--- the steps of pieces
-abbrev pub body_steps : List (List Ins) → ℕ
-body_steps [] = 0
-body_steps (p ∷ ps) = piece_steps p + body_steps ps
 
 -- the tick of each block counts its steps
 pub record Counts (w : World) (l : Lean) (leader : ℕ → Bool) : Type 0 where

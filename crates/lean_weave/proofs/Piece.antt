@@ -13,14 +13,11 @@ use Rattle.weave_core.specs.Rows.{At, Sourced, mirror_steps}
 use Rattle.weave_core.specs.Each.{cost_each}
 use Rattle.weave_core.specs.Parts.{any, used, bare, original_cost, NeedsMirror, GivesMirror, LeavesMirror}
 use Rattle.weave_core.specs.Pass.{Views, Quiet, same}
+use Rattle.lean_weave.specs.Woven.{piece_steps}
 use Rattle.weave_core.proofs.Body.{mirrored_part}
 use Rattle.weave_core.proofs.Compose.{leads_led, quiet_each, each_same}
 use Rattle.weave_core.proofs.FormRows.{plus, each_plus, quiet_front}
 use Rattle.weave_core.proofs.PieceLaws.{never_originals, never_mirrors, for_mirrors, needs_originals, gives_originals, needs_mirrors, gives_mirrors, guarded_original}
-
--- its most steps
-abbrev pub piece_steps : List Ins → ℕ
-piece_steps is = cost_each original_cost is + cost_each mirror_steps is
 
 -- a mirror part, with its exact steps
 quiet_mirror : (i : Ins) (at : ℕ) → FitsPiece i → Quiet any (mirrored i at) (NeedsMirror i at) (GivesMirror i at) (LeavesMirror i at) (mirror_steps i)

@@ -24,11 +24,11 @@ use Rattle.weave_core.proofs.PieceLaws.{cost_parts}
 use Rattle.weave_core.proofs.Sets.{writes, halved_writes}
 use Rattle.weave_core.proofs.Visit.{words_within}
 use Rattle.lean_weave.specs.Lean.{first_word, tick, check, is_ticked_at}
-use Rattle.lean_weave.specs.Woven.{Lean, check_steps, weave_of, LeanIn}
+use Rattle.lean_weave.specs.Woven.{Lean, piece_steps, check_steps, weave_of, LeanIn}
 use Rattle.lean_weave.proofs.Chain.{read_back, all_temps}
 use Rattle.lean_weave.proofs.Check.{Back, check_row}
 use Rattle.lean_weave.proofs.Held.{Ticked, ticked_of, ticked_is, ticked_same}
-use Rattle.lean_weave.proofs.Piece.{piece_steps, piece_row}
+use Rattle.lean_weave.proofs.Piece.{piece_row}
 use Rattle.lean_weave.proofs.Tick.{counter, pass_row, call_row}
 
 module _ (w : World) (l : Lean) (leader : ℕ → Bool) (x : LeanIn w l leader) where

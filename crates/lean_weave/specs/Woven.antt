@@ -1,5 +1,5 @@
 -- The lean form as a weave, and what is asked of the words and the table that it is woven in.
-use Rattle.std.specs.Prelude.{◌≡◌, ℕ, ◌+◌, ◌*◌, ◌%◌, ◌^◌, ◌<◌, ◌≤◌, Bool, true, false, cond, ◌==◌, ◌&&◌, nat_le, List, [], ◌∷◌, ◌++◌, length}
+use Rattle.std.specs.Prelude.{◌≡◌, ℕ, ◌+◌, ◌*◌, ◌%◌, ◌^◌, ◌<◌, ◌≤◌, ◌⊎◌, pos, Bool, true, false, cond, ◌==◌, ◌&&◌, nat_le, List, [], ◌∷◌, ◌++◌, length}
 use Rattle.rv_isa.specs.declared.ins.Ins.{Ins}
 use Rattle.qed_model.specs.declared.item.Item.{Item}
 use Rattle.qed_model.specs.declared.item.Item.TheVariants.{Mark, Go}
@@ -7,16 +7,26 @@ use Rattle.qed_model.specs.Admission.DataRanges.{word_count}
 use Rattle.qed_model.specs.Machine.Step.{Known}
 use Rattle.qed_model.specs.Weave.Bounds.{visit_bound}
 use Rattle.qed_model.specs.Weave.Pieces.{is_run}
-use Rattle.qed_model.specs.Weave.Placed.{distance_between}
-use Rattle.qed_model.specs.Weave.Sequences.{Reads, original, mirrored, each_part}
+use Rattle.qed_model.specs.Weave.Placed.{distance_between, sum_of_sizes, instructions_from}
+use Rattle.qed_model.specs.Weave.Sequences.{Reads, End, Falls, Stops, Block, body_length, original, mirrored, each_part, stub}
 use Rattle.qed_model.specs.Machine.Program.{Program}
 use Rattle.qed_model.specs.Promise.Kept.{Kept}
 use Rattle.weave_core.specs.Describes.{Describes}
-use Rattle.weave_core.specs.WeaveLaws.{EntriesAt}
+use Rattle.weave_core.specs.WeaveLaws.{EntriesAt, BlockOf}
+use Rattle.weave_core.specs.WeavePromise.{AllBlocksOf}
+use Rattle.weave_core.specs.Each.{cost_each}
+use Rattle.weave_core.specs.Parts.{original_cost}
+use Rattle.weave_core.specs.Rows.{mirror_steps}
+use Rattle.qed_model.specs.Weave.Blocks.{begins_at}
+use Rattle.qed_model.specs.Weave.Code.{pieces_of}
+use Rattle.qed_model.specs.Promise.Closed.{is_branch}
+use Rattle.qed_model.specs.Machine.Table.{ins}
+use Rattle.rv_isa.specs.declared.kind.Kind.TheVariants.{Illegal}
+use Rattle.rv_isa.specs.Kind.{class_of}
 use Rattle.weave_core.specs.World.{World}
 use Rattle.weave_core.specs.Blocks.{TableAt}
 use Rattle.weave_core.specs.Weave.{Weave}
-use Rattle.lean_weave.specs.Lean.{tick, check, leave, begin, is_ticked_at}
+use Rattle.lean_weave.specs.Lean.{tick, check, leave, begin, leave_cost, is_ticked_at}
 
 -- what the form depends on besides the world: what x15 counts from, the most instructions of a piece, the address of the check, the steps that the
 -- tick of a block counts, and where a block begins that has its end at an address
@@ -78,3 +88,62 @@ abbrev pub LeanKept : Type 0
 LeanKept =
     (f g : Program) (w : World) (l : Lean) (leader : ℕ → Bool) → LeanIn w l leader → Describes f g w → EntriesAt w (weave_of w l leader) leader → leader f.entry ≡ true
     → Reads w.form.far w.code w.entry g.entry (begin w.distance f.entry) → Kept f g w.reached 31 (24 + check_steps w + 5 * l.inst_max)
+
+-- ---- the steps of a block
+-- of a piece: its original parts and its mirror parts
+abbrev pub piece_steps : List Ins → ℕ
+piece_steps is = cost_each original_cost is + cost_each mirror_steps is
+
+abbrev pub body_steps : List (List Ins) → ℕ
+body_steps [] = 0
+body_steps (p ∷ ps) = piece_steps p + body_steps ps
+
+-- ---- the code
+-- what leads behind a block, as words: nothing, where a block stands there
+abbrev pub fall_words : (ℕ → Bool) → ℕ → List Item
+fall_words leader t = cond (leader t) [] (Go t ∷ [])
+
+-- a block, behind its mark
+abbrev pub cell_body : World → Lean → (ℕ → Bool) → Block → List Item
+cell_body w l leader b = pieces_of (weave_of w l leader).code b.body b.start ++ leave (fall_words leader) b.end b.start (b.start + 4 * body_length b.body)
+
+abbrev pub cell : World → Lean → (ℕ → Bool) → Block → List Item
+cell w l leader b = Mark b.start ∷ (tick (l.most b.start) (distance_between (w.entry b.start + 8) l.check) ++ cell_body w l leader b)
+
+abbrev pub cells : World → Lean → (ℕ → Bool) → List Block → List Item
+cells w l leader [] = []
+cells w l leader (b ∷ bs) = cell w l leader b ++ cells w l leader bs
+
+-- what runs first, the check, and the blocks; behind them stands the zero word
+abbrev pub code_of : World → Lean → (ℕ → Bool) → ℕ → List Block → List Item
+code_of w l leader entry blocks = begin w.distance entry ++ (check w.base l.every w.form.round w.form.spans ++ cells w l leader blocks)
+
+-- ---- which blocks fall to the next
+-- a block that falls, or ends in a branch, goes on behind its end
+abbrev pub goes_on : End → ℕ → ℕ → Bool
+goes_on Falls at t = at == t
+goes_on (Stops i) at t = is_branch (class_of i.kind) && ((at + 4) % 2 ^ 64 == t)
+
+abbrev pub begins_with : List Block → ℕ → Type 0
+begins_with [] t = ⊥
+begins_with (b ∷ bs) t = b.start ≡ t
+
+-- where a block goes on at a leader, the next block begins there
+abbrev pub InOrder : (ℕ → Bool) → List Block → Type 0
+InOrder leader [] = Unit {0}
+InOrder leader (b ∷ bs) = ((t : ℕ) → goes_on b.end (b.start + 4 * body_length b.body) t ≡ true → leader t ≡ true → begins_with bs t) × InOrder leader bs
+
+-- the new code of g reads as the code of the blocks, and nothing else is code
+pub record LeanPlan (f g : Program) (w : World) (l : Lean) (blocks : List Block) : Type 0 where
+  pub world : Describes f g w
+  pub near : w.form.far ≡ false
+  pub words : Reads false w.code w.entry g.entry (code_of w l (begins_at blocks) f.entry blocks ++ stub)
+  pub check : l.check ≡ g.entry + sum_of_sizes false (begin w.distance f.entry)
+  pub good : AllBlocksOf w (weave_of w l (begins_at blocks)) (begins_at blocks) blocks
+  pub begins : begins_at blocks f.entry ≡ true
+  pub order : InOrder (begins_at blocks) blocks
+  pub only :
+      (a : ℕ) (i : Ins) → w.code a ≡ Known i
+      → (k : ℕ) × (a ≡ g.entry + 4 * k) × (a ≤ g.entry + 4 * length (instructions_from false w.entry g.entry (code_of w l (begins_at blocks) f.entry blocks)))
+  pub stubbed : (t : ℕ) → (begins_at blocks t ≡ true) ⊎ (w.code (w.entry t) ≡ Known (ins Illegal 0 0 0 (pos 0)))
+  pub counts : (b : Block) → BlockOf w (weave_of w l (begins_at blocks)) (begins_at blocks) b → 2 + (body_steps b.body + leave_cost (fall_to (begins_at blocks)) b.end b.start (b.start + 4 * body_length b.body)) ≤ l.most b.start
