@@ -15,3 +15,4 @@ pub mod Begin
 pub mod Cells
 pub mod Beats
 pub mod Words
+pub mod Plan

@@ -1,0 +1,126 @@
+-- The code of a plan: where its parts stand, the entries of its blocks, and where its words lead.
+use Rattle.std.proofs.Common.{◌≡◌, ℕ, zero, suc, ◌+◌, ◌*◌, ◌%◌, ◌^◌, ◌<◌, ◌≤◌, ◌⊎◌, inl, inr, ⊎_elim, Bool, true, false, cond, List, [], ◌∷◌, ◌++◌, length, refl, sym, ap, ◌∙◌, subst, arith, append_assoc, length-append}
+use Rattle.std.specs.Prelude.{◌==◌, ◌&&◌, ◌||◌, pos}
+use Rattle.std.proofs.lemmas.Bool.{and_from, and_parts, cases_Bool, eq-eqb, eqb-true, false≢true, or_cases}
+use Rattle.std.proofs.lemmas.List.{append-nil}
+use Rattle.rv_isa.specs.declared.ins.Ins.{Ins}
+use Rattle.rv_isa.specs.declared.class.Class.{Class}
+use Rattle.rv_isa.specs.declared.class.Class.TheVariants as class
+use Rattle.rv_isa.specs.Kind.{class_of}
+use Rattle.qed_model.specs.declared.item.Item.{Item}
+use Rattle.qed_model.specs.declared.item.Item.TheVariants.{Mark, Plain, Go}
+use Rattle.qed_model.specs.Machine.Table.{ins}
+use Rattle.qed_model.specs.Machine.Step.{Fetched, Known, HasAt, target}
+use Rattle.qed_model.specs.Machine.Program.{Program}
+use Rattle.qed_model.specs.Promise.Closed.{is_branch}
+use Rattle.qed_model.specs.Weave.Blocks.{begins_at}
+use Rattle.qed_model.specs.Weave.Code.{pieces_of}
+use Rattle.qed_model.specs.Weave.Placed.{distance_between, sum_of_sizes, instructions_from}
+use Rattle.qed_model.specs.Weave.Sequences.{Reads, End, Falls, Stops, Block, body_length, guards_of, stub}
+use Rattle.weave_core.specs.World.{World}
+use Rattle.weave_core.specs.Weave.{Weave}
+use Rattle.weave_core.specs.WeaveLaws.{BlockOf, EntryAt, EntriesAt}
+use Rattle.weave_core.specs.WeavePromise.{AllBlocksOf}
+use Rattle.weave_core.proofs.Entries.{reads_front}
+use Rattle.lean_weave.specs.Lean.{tick, turn, goes, opposite, check, leave, leave_as, begin}
+use Rattle.lean_weave.specs.Woven.{Lean, LeanPlan, weave_of, fall_to, fall_words, cell, cell_body, cells, code_of, goes_on, begins_with, InOrder}
+use Rattle.lean_weave.proofs.Ways.{reads_behind, reads_join}
+
+-- ---- what stands behind a block
+-- items that begin with a mark
+record Marked (rest : List Item) (t : ℕ) : Type 0 where
+  more : List Item
+  is : rest ≡ Mark t ∷ more
+
+module _ (c : ℕ → Fetched) (en : ℕ → ℕ) (leader : ℕ → Bool) where
+  abbrev R : ℕ → List Item → Type 0
+  R p xs = Reads false c en p xs
+
+  -- a fall to the block behind reads as its mark
+  swap_fall : (xs : List Item) (t p : ℕ) (rest : List Item) → R p ((xs ++ fall_words leader t) ++ rest) → (leader t ≡ true → Marked rest t) → R p (xs ++ fall_to leader t)
+  swap_fall xs t p rest r m = by (leader t) refl r where
+    by : (b : Bool) → leader t ≡ b → R p ((xs ++ cond b [] (Go t ∷ [])) ++ rest) → R p (xs ++ cond b (Mark t ∷ []) (Go t ∷ []))
+    by true e r =
+        let k = m e in
+        let flat : R p (xs ++ rest) = subst (λ l. R p (l ++ rest)) (append-nil xs) r in
+        let marked : R p (xs ++ (Mark t ∷ k.more)) = subst (λ l. R p (xs ++ l)) k.is flat in
+        reads_front false c en p (xs ++ (Mark t ∷ [])) k.more (subst (λ l. R p l) (sym (append_assoc xs (Mark t ∷ []) k.more)) marked)
+    by false e r = reads_front false c en p (xs ++ (Go t ∷ [])) rest r
+
+  -- the words of a branch before the fall
+  abbrev front : Ins → ℕ → ℕ → List Item
+  front i a at = guards_of i ++ (Plain (ins (opposite i.kind) 0 i.rs1 i.rs2 (pos (4 + sum_of_sizes false (goes a (target i at))))) ∷ (goes a (target i at) ++ turn a ((at + 4) % 2 ^ 64)))
+
+  front_is : (fall : ℕ → List Item) (i : Ins) (a at : ℕ) → leave_as fall class.Branch i a at ≡ front i a at ++ fall ((at + 4) % 2 ^ 64)
+  front_is fall i a at =
+      let n = (at + 4) % 2 ^ 64 in
+      let b = Plain (ins (opposite i.kind) 0 i.rs1 i.rs2 (pos (4 + sum_of_sizes false (goes a (target i at))))) in
+      let g = goes a (target i at) in
+      ap (λ l. guards_of i ++ (b ∷ l)) (sym (append_assoc g (turn a n) (fall n))) ∙ sym (append_assoc (guards_of i) (b ∷ (g ++ turn a n)) (fall n))
+
+  swap_as :
+      (k : Class) (i : Ins) (a at p : ℕ) (rest : List Item) → R p (leave_as (fall_words leader) k i a at ++ rest)
+      → ((t : ℕ) → (is_branch k && ((at + 4) % 2 ^ 64 == t)) ≡ true → leader t ≡ true → Marked rest t) → R p (leave_as (fall_to leader) k i a at)
+  swap_as class.Branch i a at p rest r m =
+      let n = (at + 4) % 2 ^ 64 in
+      let x = swap_fall (front i a at) n p rest (subst (λ l. R p (l ++ rest)) (front_is (fall_words leader) i a at) r) (λ e. m n (eq-eqb n n refl) e) in
+      subst (λ l. R p l) (sym (front_is (fall_to leader) i a at)) x
+  swap_as k i a at p rest r m = reads_front false c en p (leave_as (fall_to leader) k i a at) rest r
+
+  swap_leave :
+      (e : End) (a at p : ℕ) (rest : List Item) → R p (leave (fall_words leader) e a at ++ rest) → ((t : ℕ) → goes_on e at t ≡ true → leader t ≡ true → Marked rest t)
+      → R p (leave (fall_to leader) e a at)
+  swap_leave Falls a at p rest r m = swap_fall (turn a at) at p rest r (λ e. m at (eq-eqb at at refl) e)
+  swap_leave (Stops i) a at p rest r m = swap_as (class_of i.kind) i a at p rest r m
+
+-- ---- the entries
+module _ (w : World) (l : Lean) (leader : ℕ → Bool) where
+  abbrev v : Weave
+  v = weave_of w l leader
+
+  -- the block behind begins with its mark
+  next_marked :
+      (b : Block) (bs : List Block) (rest : List Item) → InOrder leader (b ∷ bs) → (t : ℕ) → goes_on b.end (b.start + 4 * body_length b.body) t ≡ true → leader t ≡ true
+      → Marked (cells w l leader bs ++ rest) t
+  next_marked b bs rest o t g h = by bs (o.0 t g h) where
+    by : (bs : List Block) → begins_with bs t → Marked (cells w l leader bs ++ rest) t
+    by [] x = absurd x
+    by (d ∷ ds) x = record {
+      more = ((tick (l.most d.start) (distance_between (w.entry d.start + 8) l.check) ++ cell_body w l leader d) ++ cells w l leader ds) ++ rest;
+      is = ap (λ k. Mark k ∷ (((tick (l.most d.start) (distance_between (w.entry d.start + 8) l.check) ++ cell_body w l leader d) ++ cells w l leader ds) ++ rest)) x;
+    }
+
+  -- a block reads as its sequences
+  cell_entry :
+      (near : w.form.far ≡ false) (b : Block) (p : ℕ) (rest : List Item) → Reads false w.code w.entry p (cell w l leader b ++ rest) → BlockOf w (weave_of w l leader) leader b
+      → ((t : ℕ) → goes_on b.end (b.start + 4 * body_length b.body) t ≡ true → leader t ≡ true → Marked rest t) → EntryAt w (weave_of w l leader) leader b.start
+  cell_entry near b p rest r good next =
+      let t = tick (l.most b.start) (distance_between (w.entry b.start + 8) l.check) in
+      let ps = pieces_of (weave_of w l leader).code b.body b.start in
+      let at = b.start + 4 * body_length b.body in
+      let words = leave (fall_words leader) b.end b.start at in
+      let shape : (t ++ (ps ++ words)) ++ rest ≡ (t ++ ps) ++ (words ++ rest) = ap (λ k. k ++ rest) (sym (append_assoc t ps words)) ∙ append_assoc (t ++ ps) words rest in
+      let whole : Reads false w.code w.entry p ((t ++ ps) ++ (words ++ rest)) = subst (λ k. Reads false w.code w.entry p k) shape r.1 in
+      let first = reads_front false w.code w.entry p (t ++ ps) (words ++ rest) whole in
+      let behind = reads_behind false w.code w.entry p (t ++ ps) (words ++ rest) whole in
+      let left = swap_leave w.code w.entry leader b.end b.start at (p + sum_of_sizes false (t ++ ps)) rest behind next in
+      let start : b.start ≡ l.start_of at = sym (eqb-true (l.start_of at) b.start (and_parts _ _ good.own).0) in
+      let joined : Reads false w.code w.entry p (t ++ (ps ++ leave (fall_to leader) b.end b.start at)) = subst (λ k. Reads false w.code w.entry p k) (append_assoc t ps (leave (fall_to leader) b.end b.start at)) (reads_join false w.code w.entry p (t ++ ps) (leave (fall_to leader) b.end b.start at) first left) in
+      let read : Reads false w.code w.entry p (t ++ (ps ++ leave (fall_to leader) b.end (l.start_of at) at)) = subst (λ a. Reads false w.code w.entry p (t ++ (ps ++ leave (fall_to leader) b.end a at))) start joined in
+      record {
+        body = b.body;
+        end = b.end;
+        reads = (refl, subst (λ f. Reads f w.code w.entry (w.entry b.start) (t ++ (ps ++ leave (fall_to leader) b.end (l.start_of at) at))) (sym near) (subst (λ q. Reads false w.code w.entry q (t ++ (ps ++ leave (fall_to leader) b.end (l.start_of at) at))) (sym r.0) read));
+        good = good;
+      }
+
+  entry_of :
+      (near : w.form.far ≡ false) (bs : List Block) (p a : ℕ) (rest : List Item) → Reads false w.code w.entry p (cells w l leader bs ++ rest) → AllBlocksOf w (weave_of w l leader) leader bs
+      → InOrder leader bs → begins_at bs a ≡ true → EntryAt w (weave_of w l leader) leader a
+  entry_of near [] p a rest r good o e = absurd (false≢true e)
+  entry_of near (b ∷ bs) p a rest r good o e =
+      let split : Reads false w.code w.entry p (cell w l leader b ++ (cells w l leader bs ++ rest)) = subst (λ k. Reads false w.code w.entry p k) (append_assoc (cell w l leader b) (cells w l leader bs) rest) r in
+      ⊎_elim
+      (λ x. subst (EntryAt w (weave_of w l leader) leader) (eqb-true b.start a x) (cell_entry near b p (cells w l leader bs ++ rest) split good.0 (next_marked b bs rest o)))
+      (λ x. entry_of near bs (p + sum_of_sizes false (cell w l leader b)) a rest (reads_behind false w.code w.entry p (cell w l leader b) (cells w l leader bs ++ rest) split) good.1 o.1 x)
+      (or_cases (b.start == a) (begins_at bs a) e)
