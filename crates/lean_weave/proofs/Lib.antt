@@ -16,3 +16,4 @@ pub mod Cells
 pub mod Beats
 pub mod Words
 pub mod Plan
+pub mod Lands

@@ -97,7 +97,7 @@ straight_as far class.Store i e b = straight_store far i [] e (straight_none far
 straight_as far class.Fence i e b = straight_one far i class.Fence [] e (λ c a. tt) (straight_none far)
 straight_as far c i e b = absurd b
 
-straight_bare : (far : Bool) (i : Ins) (at : ℕ) → FitsPiece i → Straight far (bare i at)
+pub straight_bare : (far : Bool) (i : Ins) (at : ℕ) → FitsPiece i → Straight far (bare i at)
 straight_bare far i at f = elim (is_auipc i.kind) as (λ b. Straight far (cond b (Constant i.rd (target i at) ∷ []) (Plain i ∷ []))) [ true ↦ straight_constant far i.rd (target i at) [] (straight_none far) | false ↦ straight_as far (class_of i.kind) i refl f.body ]
 
 pub lockstep_original : (i : Ins) (at : ℕ) → FitsPiece i → Lockstep any (used i) (bare i at)

@@ -1,0 +1,173 @@
+-- The words of the blocks of a plan: of the kinds, and where they lead.
+use Rattle.std.proofs.Common.{◌≡◌, ℕ, zero, suc, ◌+◌, ◌*◌, ◌%◌, ◌^◌, ◌<◌, ◌≤◌, ◌⊎◌, inl, inr, ⊎_elim, Bool, true, false, cond, List, [], ◌∷◌, ◌++◌, length, refl, sym, ap, ◌∙◌, subst, arith, append_assoc, length-append}
+use Rattle.std.specs.Prelude.{◌==◌, pos}
+use Rattle.std.proofs.lemmas.Bool.{cases_Bool, eqb-true, false≢true, or_cases}
+use Rattle.rv_isa.specs.declared.ins.Ins.{Ins}
+use Rattle.rv_isa.specs.declared.kind.Kind.TheVariants.{Addi, Blt, Jal, Illegal}
+use Rattle.rv_isa.specs.Kind.{class_of}
+use Rattle.qed_model.specs.declared.item.Item.{Item}
+use Rattle.qed_model.specs.declared.item.Item.TheVariants.{Mark, Plain, Go}
+use Rattle.qed_model.specs.Machine.Table.{ins}
+use Rattle.qed_model.specs.Machine.Step.{Known, HasAt}
+use Rattle.qed_model.specs.Machine.Values.{wrapped}
+use Rattle.qed_model.specs.Weave.Blocks.{begins_at}
+use Rattle.qed_model.specs.Weave.Code.{pieces_of}
+use Rattle.qed_model.specs.Weave.Placed.{distance_between, instructions_from}
+use Rattle.qed_model.specs.Weave.Sequences.{Reads, Block, body_length, guards, original, mirrored, each_part, stub}
+use Rattle.qed_model.proofs.Wrapped.{difference}
+use Rattle.weave_core.specs.World.{World}
+use Rattle.weave_core.specs.Blocks.{FitsPiece, AllFit}
+use Rattle.weave_core.specs.Lock.{Opens}
+use Rattle.weave_core.specs.Kinds.{opens}
+use Rattle.weave_core.specs.KindItems.{LockItems, LandItems, Straight, AllLand, OpenEntries, AllPieces, GoodEnd, AllBlocks}
+use Rattle.weave_core.proofs.KindWords.{brk}
+use Rattle.weave_core.proofs.KindItems.{instructions_then, reads_words, stub_opens, items_then, items_none, items_go, original_items}
+use Rattle.weave_core.proofs.Listed.{opens_behind}
+use Rattle.weave_core.proofs.Landing.{all_land_append, has_rest, over_words, straight_none, straight_then, straight_lands, straight_guards, land_then, land_behind, land_go}
+use Rattle.weave_core.specs.Parts.{used, bare}
+use Rattle.weave_core.proofs.PartLaws.{straight_bare}
+use Rattle.weave_core.proofs.PieceLaws.{guarded_original, used_low}
+use Rattle.weave_core.proofs.ScratchParts.{plain_mirrors_fit}
+use Rattle.lockstep.proofs.Coded.{stub_words, reads_rest}
+use Rattle.lean_weave.specs.Lean.{tick, leave}
+use Rattle.lean_weave.specs.Woven.{Lean, weave_of, fall_words, cell, cell_body, cells}
+use Rattle.lean_weave.proofs.Words.{tick_items, leave_items, leave_lands}
+
+-- ---- pieces
+each_items : (part : Ins → ℕ → List Item) → ((i : Ins) (at : ℕ) → FitsPiece i → LockItems false (part i at)) → (is : List Ins) (at : ℕ) → AllFit is → LockItems false (each_part part is at)
+each_items part h [] at f = items_none false
+each_items part h (i ∷ is) at f = items_then false (part i at) (each_part part is (at + 4)) (h i at f.0) (each_items part h is (at + 4) f.1)
+
+straight_each : (part : Ins → ℕ → List Item) → ((i : Ins) (at : ℕ) → FitsPiece i → Straight false (part i at)) → (is : List Ins) (at : ℕ) → AllFit is → Straight false (each_part part is at)
+straight_each part h [] at f = straight_none false
+straight_each part h (i ∷ is) at f = straight_then false (part i at) (each_part part is (at + 4)) (h i at f.0) (straight_each part h is (at + 4) f.1)
+
+straight_original : (i : Ins) (at : ℕ) → FitsPiece i → Straight false (original i at)
+straight_original i at f = subst (Straight false) (guarded_original i at) (straight_then false (guards (used i)) (bare i at) (straight_guards false (used i) (used_low i f)) (straight_bare false i at f))
+
+-- ---- falls
+fall_items : (leader : ℕ → Bool) (t : ℕ) → LockItems false (fall_words leader t)
+fall_items leader t = by (leader t) where
+  by : (b : Bool) → LockItems false (cond b [] (Go t ∷ []))
+  by true = items_none false
+  by false = items_go false t [] (items_none false)
+
+fall_lands : (leader : ℕ → Bool) (t : ℕ) → LandItems false (fall_words leader t)
+fall_lands leader t = by (leader t) where
+  by : (b : Bool) → LandItems false (cond b [] (Go t ∷ []))
+  by true = straight_lands false [] (straight_none false)
+  by false = land_go false t
+
+module _ (w : World) (l : Lean) (leader : ℕ → Bool) where
+  pieces_items : (ps : List (List Ins)) (at : ℕ) → AllPieces ps → LockItems false (pieces_of (weave_of w l leader).code ps at)
+  pieces_items [] at f = items_none false
+  pieces_items (p ∷ ps) at f =
+      items_then false (each_part original p at ++ each_part mirrored p at) (pieces_of (weave_of w l leader).code ps (at + 4 * length p))
+      (items_then false (each_part original p at) (each_part mirrored p at) (each_items original (λ i at h. original_items false i at h) p at f.0) (each_items mirrored (λ i at h. (plain_mirrors_fit false).fit i at h) p at f.0))
+      (pieces_items ps (at + 4 * length p) f.1)
+
+  straight_pieces : (ps : List (List Ins)) (at : ℕ) → AllPieces ps → Straight false (pieces_of (weave_of w l leader).code ps at)
+  straight_pieces [] at f = straight_none false
+  straight_pieces (p ∷ ps) at f =
+      straight_then false (each_part original p at ++ each_part mirrored p at) (pieces_of (weave_of w l leader).code ps (at + 4 * length p))
+      (straight_then false (each_part original p at) (each_part mirrored p at) (straight_each original straight_original p at f.0) (straight_each mirrored (λ i at h. (plain_mirrors_fit false).straight i at h) p at f.0))
+      (straight_pieces ps (at + 4 * length p) f.1)
+
+  -- ---- blocks
+  body_items : (b : Block) → AllPieces b.body → GoodEnd b.end → LockItems false (cell_body w l leader b)
+  body_items b f g =
+      let at = b.start + 4 * body_length b.body in
+      items_then false (pieces_of (weave_of w l leader).code b.body b.start) (leave (fall_words leader) b.end b.start at) (pieces_items b.body b.start f) (leave_items (fall_words leader) b.end b.start at (fall_items leader) g)
+
+  body_lands : (b : Block) → AllPieces b.body → GoodEnd b.end → LandItems false (cell_body w l leader b)
+  body_lands b f g =
+      let at = b.start + 4 * body_length b.body in
+      land_behind false (pieces_of (weave_of w l leader).code b.body b.start) (leave (fall_words leader) b.end b.start at) (straight_pieces b.body b.start f) (leave_lands (fall_words leader) b.end b.start at (fall_items leader) (fall_lands leader) g)
+
+  cell_items : (b : Block) → AllPieces b.body → GoodEnd b.end → LockItems false (cell w l leader b)
+  cell_items b f g = items_then false (tick (l.most b.start) (distance_between (w.entry b.start + 8) l.check)) (cell_body w l leader b) (tick_items false (l.most b.start) (distance_between (w.entry b.start + 8) l.check)) (body_items b f g)
+
+  pub cells_items : (bs : List Block) → AllBlocks bs → LockItems false (cells w l leader bs)
+  cells_items [] f = items_none false
+  cells_items (b ∷ bs) f = items_then false (cell w l leader b) (cells w l leader bs) (cell_items b f.0 f.1) (cells_items bs f.2)
+
+  -- ---- where they stand
+  -- the blocks behind one
+  rest_of :
+      (b : Block) (bs : List Block) (p : ℕ) → Reads false w.code w.entry p (cells w l leader (b ∷ bs) ++ stub)
+      → Reads false w.code w.entry (p + 4 * length (instructions_from false w.entry p (cell w l leader b))) (cells w l leader bs ++ stub)
+  rest_of b bs p r = reads_rest false w.code w.entry p (cell w l leader b) (cells w l leader bs ++ stub) (subst (λ k. Reads false w.code w.entry p k) (append_assoc (cell w l leader b) (cells w l leader bs) stub) r)
+
+  -- the words of some blocks stand before the stub
+  stands : (bs : List Block) (p : ℕ) → Reads false w.code w.entry p (cells w l leader bs ++ stub) → HasAt w.code p (instructions_from false w.entry p (cells w l leader bs) ++ stub_words)
+  stands bs p r = subst (HasAt w.code p) (instructions_then false w.entry p (cells w l leader bs) stub) (reads_words false w.code w.entry p (cells w l leader bs ++ stub) r)
+
+  free : (bs : List Block) (p : ℕ) → AllBlocks bs → opens (instructions_from false w.entry p (cells w l leader bs) ++ stub_words) ≡ true
+  free bs p f = (cells_items bs f w.entry p).front stub_words stub_opens
+
+  -- no register is closed at the entries
+  abbrev pub AllOpen : List Block → Type 0
+  AllOpen [] = Unit {0}
+  AllOpen (b ∷ bs) = ((w.entry b.start < 2 ^ 64) × Opens w.code (w.entry b.start)) × AllOpen bs
+
+  pub cells_open : (bs : List Block) (p : ℕ) → AllBlocks bs → p + 4 * length (instructions_from false w.entry p (cells w l leader bs)) + 64 < 2 ^ 64 → Reads false w.code w.entry p (cells w l leader bs ++ stub) → AllOpen bs
+  cells_open [] p f near r = tt
+  cells_open (b ∷ bs) p f near r =
+      let here : Opens w.code (p + 0) = opens_behind w.code p [] (instructions_from false w.entry p (cells w l leader (b ∷ bs)) ++ stub_words) (omega (arith, near)) (stands (b ∷ bs) p r) (free (b ∷ bs) p f) in
+      let begins : w.entry b.start ≡ p = r.0 in
+      let same : p + 0 ≡ w.entry b.start = omega (arith, begins) in
+      let x = instructions_from false w.entry p (cell w l leader b) in
+      let next = p + 4 * length (instructions_from false w.entry p (cell w l leader b)) in
+      let count = ap length (instructions_then false w.entry p (cell w l leader b) (cells w l leader bs)) ∙ length-append x (instructions_from false w.entry next (cells w l leader bs)) in
+      ((omega (arith, near, begins), subst (Opens w.code) same here), cells_open bs next f.2 (omega (arith, near, count)) (rest_of b bs p r))
+
+  pub open_of : (bs : List Block) (t : ℕ) → AllOpen bs → begins_at bs t ≡ true → (w.entry t < 2 ^ 64) × Opens w.code (w.entry t)
+  open_of [] t m h = absurd (false≢true h)
+  open_of (b ∷ bs) t m h = ⊎_elim (λ s. subst (λ x. (w.entry x < 2 ^ 64) × Opens w.code (w.entry x)) (eqb-true b.start t s) m.0) (λ r. open_of bs t m.1 r) (or_cases (b.start == t) (begins_at bs t) h)
+
+  -- ---- where they lead
+  module _ (low : l.check < 2 ^ 64) (checked : Opens w.code l.check) (entries : OpenEntries w.code w.entry) where
+    -- a tick, behind which no register is closed
+    tick_lands :
+        (b : Block) (p : ℕ) (ys : List Ins) → w.entry b.start ≡ p → p + 128 < 2 ^ 64
+        → HasAt w.code p (instructions_from false w.entry p (tick (l.most b.start) (distance_between (w.entry b.start + 8) l.check)) ++ ys) → opens ys ≡ true
+        → AllLand w.code p (instructions_from false w.entry p (tick (l.most b.start) (distance_between (w.entry b.start + 8) l.check)))
+    tick_lands b p ys is near has o =
+        let j = ins Jal 31 0 0 (distance_between (w.entry b.start + 8) l.check) in
+        let i = ins Blt 0 15 0 (pos 12) in
+        let over : Opens w.code ((p + 4 + 12) % 2 ^ 64) = over_words w.code (p + 4) 12 (i ∷ j ∷ brk ∷ []) ys refl (omega (arith, near)) has.1 o in
+        let place : p + 4 + 4 ≡ w.entry b.start + 8 = omega (arith, is) in
+        let there : Opens w.code ((p + 4 + 4 + wrapped (distance_between (w.entry b.start + 8) l.check)) % 2 ^ 64) = subst (λ q. Opens w.code ((q + wrapped (distance_between (w.entry b.start + 8) l.check)) % 2 ^ 64)) (sym place) (subst (Opens w.code) (sym (difference (w.entry b.start + 8) l.check (omega (arith, is, near)) low)) checked) in
+        (tt, ((λ g. over), (there, (tt, tt))))
+
+    -- a block
+    cell_lands :
+        (b : Block) (p : ℕ) (ys : List Ins) → AllPieces b.body → GoodEnd b.end → w.entry b.start ≡ p → p + 4 * length (instructions_from false w.entry p (cell w l leader b)) + 128 < 2 ^ 64
+        → HasAt w.code p (instructions_from false w.entry p (cell w l leader b) ++ ys) → opens ys ≡ true → AllLand w.code p (instructions_from false w.entry p (cell w l leader b))
+    cell_lands b p ys f g is near has o =
+        let t = tick (l.most b.start) (distance_between (w.entry b.start + 8) l.check) in
+        let body = cell_body w l leader b in
+        let ts = instructions_from false w.entry p t in
+        let bs = instructions_from false w.entry (p + 4 * 4) body in
+        let whole : instructions_from false w.entry p (t ++ body) ≡ ts ++ bs = instructions_then false w.entry p t body in
+        let count = ap length whole ∙ length-append ts bs in
+        let split : HasAt w.code p (ts ++ (bs ++ ys)) = subst (HasAt w.code p) (ap (λ k. k ++ ys) whole ∙ append_assoc ts bs ys) has in
+        let open_body : opens (bs ++ ys) ≡ true = (body_items b f g w.entry (p + 4 * 4)).front ys o in
+        let first = tick_lands b p (bs ++ ys) is (omega (arith, near)) split open_body in
+        let second = body_lands b f g w.code w.entry (p + 4 * 4) ys (omega (arith, near, count)) (has_rest w.code p ts (bs ++ ys) split) o entries in
+        subst (AllLand w.code p) (sym whole) (all_land_append w.code p ts bs first second)
+
+    pub cells_land :
+        (bs : List Block) (p : ℕ) → AllBlocks bs → p + 4 * length (instructions_from false w.entry p (cells w l leader bs)) + 128 < 2 ^ 64 → Reads false w.code w.entry p (cells w l leader bs ++ stub)
+        → AllLand w.code p (instructions_from false w.entry p (cells w l leader bs))
+    cells_land [] p f near r = tt
+    cells_land (b ∷ bs) p f near r =
+        let x = instructions_from false w.entry p (cell w l leader b) in
+        let next = p + 4 * length (instructions_from false w.entry p (cell w l leader b)) in
+        let y = instructions_from false w.entry next (cells w l leader bs) in
+        let whole : instructions_from false w.entry p (cells w l leader (b ∷ bs)) ≡ x ++ y = instructions_then false w.entry p (cell w l leader b) (cells w l leader bs) in
+        let count = ap length whole ∙ length-append x y in
+        let has : HasAt w.code p (x ++ (y ++ stub_words)) = subst (HasAt w.code p) (ap (λ k. k ++ stub_words) whole ∙ append_assoc x y stub_words) (stands (b ∷ bs) p r) in
+        let first = cell_lands b p (y ++ stub_words) f.0 f.1 r.0 (omega (arith, near, count)) has (free bs next f.2) in
+        let second = cells_land bs next f.2 (omega (arith, near, count)) (rest_of b bs p r) in
+        subst (AllLand w.code p) (sym whole) (all_land_append w.code p x y first second)
