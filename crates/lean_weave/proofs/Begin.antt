@@ -1,4 +1,4 @@
--- What runs first, and that the lean form keeps the values.
+-- What runs first.
 use Rattle.std.proofs.Common.{◌≡◌, ℕ, ◌+◌, ◌*◌, ◌%◌, ◌^◌, ◌<◌, ◌≤◌, true, inl, Bool, List, [], ◌∷◌, length, refl, ap, ◌∙◌, subst, arith}
 use Rattle.lean_weave.specs.Lean.{begin}
 use Rattle.qed_model.specs.Weave.Sequences.{Reads}
@@ -22,7 +22,7 @@ use Rattle.weave_core.proofs.Prologue.{begin_row}
 use Rattle.weave_core.proofs.Sets.{writes, halved_writes}
 use Rattle.weave_core.proofs.Values.{WeaveIn, kept}
 use Rattle.lean_weave.specs.Lean.{first_word}
-use Rattle.lean_weave.specs.Woven.{Lean, LeanIn, LeanKept, weave_of, check_steps}
+use Rattle.lean_weave.specs.Woven.{Lean, LeanIn, weave_of}
 use Rattle.lean_weave.proofs.Chain.{Op, plain, constant, effects, Gives, read_back, all_temps, chain}
 use Rattle.lean_weave.proofs.Held.{ticked_is}
 use Rattle.lean_weave.proofs.Left.{lean_rows}
@@ -57,40 +57,40 @@ pub begin_law :
     → Reads w.form.far w.code w.entry g.entry (begin w.distance f.entry) → (regs : List ℕ) → AreStartRegs regs
     → GoesTo w (start g regs) 1 31 (λ n y. Stands w leader y (start f zeros) × (reg y 15 ≡ counter 1) × (reg y 16 ≡ (f.entry + 0 * 2 ^ 32) % 2 ^ 64))
 begin_law f g w l leader x of entry leads h regs are =
-      let s0 = start f zeros in
-      let b = begin_row f g w of regs are (begin_rest f.entry) h in
-      let long = b.at.halved.output.regs in
-      let ops = begin_ops w l leader x f.entry entry.low in
-      let s = chain w b.to (Go f.entry ∷ []) b.at.over ops long (begin_gives w l leader x f.entry entry.low b.to long b.at.halved.output.zero_reg) b.at.reads in
-      let ws = effects ops in
-      let y = moved (writes ws b.to.regs) s.pc b.to in
-      let hy = halved_writes w b.to s0 s0 ws s.pc (all_temps ws refl) b.at.halved in
-      let oy = over_moved w.code b.to (writes ws b.to.regs) s.pc b.at.over in
-      let go = go_walk w y f.entry [] oy s.reads hy.output.regs entry.entry_low entry.grain in
-      let z = moved go.regs (w.entry f.entry) y in
-      let one : go_most w.form.far ≡ 1 = ap go_most x.near in
-      let fifteen : reg z 15 ≡ counter 1 = go.same 15 (λ e. absurd (omega arith)) ∙ read_back ws b.to.regs 15 long refl in
-      let sixteen : reg z 16 ≡ f.entry = go.same 16 (λ e. absurd (omega arith)) ∙ read_back ws b.to.regs 16 long refl in
-      record {
-        steps = 27 + (3 + go.steps);
-        to = z;
-        at_least = omega arith;
-        within = all_in go.steps (go_most w.form.far) go.within one;
-        walk = walk_on (Quiet w) (start g regs) b.to z 27 (3 + go.steps) b.walk (walk_on (Quiet w) b.to y z 3 go.steps s.walk go.walk);
-        is = (
-          record { over = over_moved w.code y go.regs (w.entry f.entry) oy; halved = halved_gone w y s0 s0 f.entry (go_most w.form.far) go hy; pc = refl; leads = leads },
-          fifteen,
-          sixteen ∙ whole f.entry entry.low,
-        );
-      } where
-  begin_rest : ℕ → List Item
-  begin_rest a = Constant 16 a ∷ Plain (ins Addi 15 0 0 (neg_ℤ (pos 1))) ∷ Go a ∷ []
+    let s0 = start f zeros in
+    let b = begin_row f g w of regs are (begin_rest f.entry) h in
+    let long = b.at.halved.output.regs in
+    let ops = begin_ops w l leader x f.entry entry.low in
+    let s = chain w b.to (Go f.entry ∷ []) b.at.over ops long (begin_gives w l leader x f.entry entry.low b.to long b.at.halved.output.zero_reg) b.at.reads in
+    let ws = effects ops in
+    let y = moved (writes ws b.to.regs) s.pc b.to in
+    let hy = halved_writes w b.to s0 s0 ws s.pc (all_temps ws refl) b.at.halved in
+    let oy = over_moved w.code b.to (writes ws b.to.regs) s.pc b.at.over in
+    let go = go_walk w y f.entry [] oy s.reads hy.output.regs entry.entry_low entry.grain in
+    let z = moved go.regs (w.entry f.entry) y in
+    let one : go_most w.form.far ≡ 1 = ap go_most x.near in
+    let fifteen : reg z 15 ≡ counter 1 = go.same 15 (λ e. absurd (omega arith)) ∙ read_back ws b.to.regs 15 long refl in
+    let sixteen : reg z 16 ≡ f.entry = go.same 16 (λ e. absurd (omega arith)) ∙ read_back ws b.to.regs 16 long refl in
+    record {
+      steps = 27 + (3 + go.steps);
+      to = z;
+      at_least = omega arith;
+      within = all_in go.steps (go_most w.form.far) go.within one;
+      walk = walk_on (Quiet w) (start g regs) b.to z 27 (3 + go.steps) b.walk (walk_on (Quiet w) b.to y z 3 go.steps s.walk go.walk);
+      is = (
+        record { over = over_moved w.code y go.regs (w.entry f.entry) oy; halved = halved_gone w y s0 s0 f.entry (go_most w.form.far) go hy; pc = refl; leads = leads },
+        fifteen,
+        sixteen ∙ whole f.entry entry.low,
+      );
+    } where
+      begin_rest : ℕ → List Item
+      begin_rest a = Constant 16 a ∷ Plain (ins Addi 15 0 0 (neg_ℤ (pos 1))) ∷ Go a ∷ []
 
-  all_in : (m n : ℕ) → m ≤ n → n ≡ 1 → 27 + (3 + m) ≤ 31
-  all_in m n h e = omega (arith, h, e)
+      all_in : (m n : ℕ) → m ≤ n → n ≡ 1 → 27 + (3 + m) ≤ 31
+      all_in m n h e = omega (arith, h, e)
 
-  whole : (a : ℕ) → a < 2 ^ 64 → a ≡ (a + 0 * 2 ^ 32) % 2 ^ 64
-  whole a h = omega (arith, h)
+      whole : (a : ℕ) → a < 2 ^ 64 → a ≡ (a + 0 * 2 ^ 32) % 2 ^ 64
+      whole a h = omega (arith, h)
 
 -- of the words that run first
 pub lean_starts : (f g : Program) (w : World) (l : Lean) (leader : ℕ → Bool) → LeanIn w l leader → Starts f g w (weave_of w l leader) leader
@@ -106,12 +106,3 @@ lean_starts f g w l leader x = record {
         is = (b.is.0, ticked_is l.every w b.to f.entry 1 0 entry.low (omega arith) x.some x.few b.is.1 (omega arith) b.is.2 (first_is w.base w.form.spans w.spans_good));
       };
 }
-
--- ---- the law
-pub lean_kept : LeanKept
-lean_kept f g w l leader x of entries leads begins =
-    let v = weave_of w l leader in
-    let woven : WeaveIn f g w (weave_of w l leader) leader = record { rows = lean_rows w l leader x; starts = lean_starts f g w l leader x; world = of; entries = entries; leads = leads; begins = begins } in
-    subst (λ n. Kept f g w.reached 31 n) (sum (check_steps w) l.inst_max) (kept f g w (weave_of w l leader) leader woven) where
-      sum : (c m : ℕ) → 5 + c + (5 * m + 19) ≡ 24 + c + 5 * m
-      sum c m = omega arith

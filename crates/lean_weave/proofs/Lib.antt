@@ -17,3 +17,4 @@ pub mod Beats
 pub mod Words
 pub mod Plan
 pub mod Lands
+pub mod Promise

@@ -114,7 +114,7 @@ module _ (w : World) (l : Lean) (leader : ℕ → Bool) where
         good = good;
       }
 
-  entry_of :
+  pub entry_of :
       (near : w.form.far ≡ false) (bs : List Block) (p a : ℕ) (rest : List Item) → Reads false w.code w.entry p (cells w l leader bs ++ rest) → AllBlocksOf w (weave_of w l leader) leader bs
       → InOrder leader bs → begins_at bs a ≡ true → EntryAt w (weave_of w l leader) leader a
   entry_of near [] p a rest r good o e = absurd (false≢true e)

@@ -101,17 +101,20 @@ module _ (w : World) (l : Lean) (leader : ℕ → Bool) (x : LeanIn w l leader) 
       let near = w.low l.check first x.check.0 in
       let walk = call_row w u most t.left l.every e.over long e.halved.output.zero_reg t.fifteen t.some t.most x.few small rest l.check le (omega (arith, near)) (w.grain l.check first x.check.0) reads in
       let ws : List (ℕ × ℕ) = (15, most - t.left) ∷ (31, u.pc + 12) ∷ [] in
-      let y = moved (writes ws u.regs) l.check u in
-      (y, walk, record {
-        over = over_moved w.code u (writes ws u.regs) l.check e.over;
-        halved = halved_writes w u s s ws l.check (all_temps ws refl) e.halved;
-        pc = refl;
-        leads = leads;
-        few = t.few;
-        sign = read_back ws u.regs 16 long refl ∙ t.sign;
-        cursor = t.cursor;
-        link = read_back ws u.regs 31 long refl ∙ ap (λ p. p + 12) e.begins;
-      })
+      let y = moved (writes ws u.regs) l.check u in (
+        y,
+        walk,
+        record {
+          over = over_moved w.code u (writes ws u.regs) l.check e.over;
+          halved = halved_writes w u s s ws l.check (all_temps ws refl) e.halved;
+          pc = refl;
+          leads = leads;
+          few = t.few;
+          sign = read_back ws u.regs 16 long refl ∙ t.sign;
+          cursor = t.cursor;
+          link = read_back ws u.regs 31 long refl ∙ ap (λ p. p + 12) e.begins;
+        },
+      )
 
   -- the check leads back to the entry
   pub checks : (y s : State) (off : ℕ) → AtCheck y s off → IsEntryOf w s.pc → Back w leader y s s.pc off l.every w.form.round

@@ -1,25 +1,27 @@
 -- The lean form as a weave, and what is asked of the words and the table that it is woven in.
-use Rattle.std.specs.Prelude.{◌≡◌, ℕ, ◌+◌, ◌*◌, ◌%◌, ◌^◌, ◌<◌, ◌≤◌, ◌⊎◌, pos, Bool, true, false, cond, ◌==◌, ◌&&◌, nat_le, List, [], ◌∷◌, ◌++◌, length}
+use Rattle.std.specs.Prelude.{◌≡◌, ℕ, ◌+◌, ◌*◌, ◌%◌, ◌^◌, ◌<◌, ◌≤◌, ◌⊎◌, pos, Some, Bool, true, false, cond, ◌==◌, ◌&&◌, nat_le, List, [], ◌∷◌, ◌++◌, length}
 use Rattle.rv_isa.specs.declared.ins.Ins.{Ins}
 use Rattle.qed_model.specs.declared.item.Item.{Item}
 use Rattle.qed_model.specs.declared.item.Item.TheVariants.{Mark, Go}
 use Rattle.qed_model.specs.Admission.DataRanges.{word_count}
 use Rattle.qed_model.specs.Machine.Step.{Known}
 use Rattle.qed_model.specs.Weave.Bounds.{visit_bound}
-use Rattle.qed_model.specs.Weave.Pieces.{is_run}
+use Rattle.qed_model.specs.Weave.Pieces.{is_run, piece_count}
 use Rattle.qed_model.specs.Weave.Placed.{distance_between, sum_of_sizes, instructions_from}
 use Rattle.qed_model.specs.Weave.Sequences.{Reads, End, Falls, Stops, Block, body_length, original, mirrored, each_part, stub}
 use Rattle.qed_model.specs.Machine.Program.{Program}
 use Rattle.qed_model.specs.Promise.Kept.{Kept}
 use Rattle.weave_core.specs.Describes.{Describes}
-use Rattle.weave_core.specs.WeaveLaws.{EntriesAt, BlockOf}
+use Rattle.weave_core.specs.WeaveLaws.{BlockOf}
 use Rattle.weave_core.specs.WeavePromise.{AllBlocksOf}
 use Rattle.weave_core.specs.Each.{cost_each}
 use Rattle.weave_core.specs.Parts.{original_cost}
 use Rattle.weave_core.specs.Rows.{mirror_steps}
 use Rattle.qed_model.specs.Weave.Blocks.{begins_at}
 use Rattle.qed_model.specs.Weave.Code.{pieces_of}
+use Rattle.qed_model.specs.Promise.Caught.{Caught}
 use Rattle.qed_model.specs.Promise.Closed.{is_branch}
+use Rattle.qed_model.specs.declared.bounds.Bounds.{Bounds}
 use Rattle.qed_model.specs.Machine.Table.{ins}
 use Rattle.rv_isa.specs.declared.kind.Kind.TheVariants.{Illegal}
 use Rattle.rv_isa.specs.Kind.{class_of}
@@ -82,13 +84,6 @@ pub record LeanIn (w : World) (l : Lean) (leader : ℕ → Bool) : Type 0 where
   pub table : (a : ℕ) → leader a ≡ true → TableAt w a
   pub within : (a : ℕ) → leader a ≡ true → a < w.base + 2 ^ 32
 
--- ---- the law
--- where each leader has its entry, the lean form keeps the values
-abbrev pub LeanKept : Type 0
-LeanKept =
-    (f g : Program) (w : World) (l : Lean) (leader : ℕ → Bool) → LeanIn w l leader → Describes f g w → EntriesAt w (weave_of w l leader) leader → leader f.entry ≡ true
-    → Reads w.form.far w.code w.entry g.entry (begin w.distance f.entry) → Kept f g w.reached 31 (24 + check_steps w + 5 * l.inst_max)
-
 -- ---- the steps of a block
 -- of a piece: its original parts and its mirror parts
 abbrev pub piece_steps : List Ins → ℕ
@@ -136,7 +131,7 @@ InOrder leader (b ∷ bs) = ((t : ℕ) → goes_on b.end (b.start + 4 * body_len
 -- the new code of g reads as the code of the blocks, and nothing else is code
 pub record LeanPlan (f g : Program) (w : World) (l : Lean) (blocks : List Block) : Type 0 where
   pub world : Describes f g w
-  pub near : w.form.far ≡ false
+  pub sound : LeanIn w l (begins_at blocks)
   pub words : Reads false w.code w.entry g.entry (code_of w l (begins_at blocks) f.entry blocks ++ stub)
   pub check : l.check ≡ g.entry + sum_of_sizes false (begin w.distance f.entry)
   pub good : AllBlocksOf w (weave_of w l (begins_at blocks)) (begins_at blocks) blocks
@@ -147,3 +142,18 @@ pub record LeanPlan (f g : Program) (w : World) (l : Lean) (blocks : List Block)
       → (k : ℕ) × (a ≡ g.entry + 4 * k) × (a ≤ g.entry + 4 * length (instructions_from false w.entry g.entry (code_of w l (begins_at blocks) f.entry blocks)))
   pub stubbed : (t : ℕ) → (begins_at blocks t ≡ true) ⊎ (w.code (w.entry t) ≡ Known (ins Illegal 0 0 0 (pos 0)))
   pub counts : (b : Block) → BlockOf w (weave_of w l (begins_at blocks)) (begins_at blocks) b → 2 + (body_steps b.body + leave_cost (fall_to (begins_at blocks)) b.end b.start (b.start + 4 * body_length b.body)) ≤ l.most b.start
+
+-- ---- the laws
+-- a plan keeps the values
+abbrev pub LeanKept : Type 0
+LeanKept = (f g : Program) (w : World) (l : Lean) (blocks : List Block) → LeanPlan f g w l blocks → Kept f g w.reached 31 (24 + check_steps w + 5 * l.inst_max)
+
+-- a changed register: what runs first, a period from check to check, the comparison, and the end; a changed data word: as many periods more as there are
+-- rounds
+pub record IsBoundsOf (w : World) (l : Lean) (bounds : Bounds) : Type 0 where
+  pub register : bounds.register ≡ 67 + (check_steps w + (l.every + 2))
+  pub word : 1 ≤ word_count w.form.spans → bounds.word ≡ Some (67 + (piece_count w.form.round (word_count w.form.spans) + 1) * (check_steps w + (l.every + 2)))
+
+-- in a plan changes are caught
+abbrev pub LeanCaught : Type 0
+LeanCaught = (f g : Program) (w : World) (l : Lean) (blocks : List Block) (bounds : Bounds) → LeanPlan f g w l blocks → 1 ≤ w.form.round → IsBoundsOf w l bounds → Caught f g w.reached w.form.spans bounds

@@ -3,10 +3,15 @@
 //! Definitions and laws alone. No program weaves it yet.
 #![tactic(auto)]
 
-ghost use Rattle.lean_weave.specs.Woven.{LeanKept};
+ghost use Rattle.lean_weave.specs.Woven.{LeanKept, LeanCaught};
 
-/// Where each leader has its entry and the check stands in its place, the lean form keeps the input's values, with a bound on the
-/// steps of the output for each step of the input, and no check fires without changes.
+/// A plan of the form keeps the input's values, with a bound on the steps of the output for each step of the input, and no check
+/// fires without changes.
 pub fn lean_kept()
     ensures { LeanKept }
+{}
+
+/// In a plan of the form changes of original registers and data words at open places are caught within the bounds.
+pub fn lean_caught()
+    ensures { LeanCaught }
 {}
