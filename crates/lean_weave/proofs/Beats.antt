@@ -1,26 +1,23 @@
 -- The trace of the lean form: its boundaries are the calls of the check.
-use Rattle.std.proofs.Common.{◌≡◌, ℕ, zero, suc, ◌+◌, ◌-◌, ◌*◌, ◌%◌, ◌^◌, ◌<◌, ◌≤◌, ◌⊎◌, inl, inr, ⊎_elim, Bool, true, cond, List, [], ◌∷◌, ◌++◌, length, refl, sym, ap, ◌∙◌, subst, arith}
-use Rattle.std.specs.Prelude.{◌==◌, pos}
+use Rattle.std.proofs.Common.{◌≡◌, ℕ, ◌+◌, ◌^◌, ◌<◌, ◌≤◌, ◌⊎◌, inl, inr, ⊎_elim, Bool, true, List, sym, ap, ◌∙◌, subst, arith}
+use Rattle.std.specs.Prelude.{pos}
 use Rattle.std.proofs.lemmas.Bool.{cases_eq}
-use Rattle.qed_model.specs.declared.machine.Outcome.TheVariants.{Going, Ended}
 use Rattle.qed_model.specs.Admission.DataRanges.{word_count}
 use Rattle.qed_model.specs.Machine.Program.{Program, start, zeros, AreStartRegs}
-use Rattle.qed_model.specs.Machine.Step.{State, reg, run, place, Known}
-use Rattle.qed_model.specs.Promise.Changed.{IsDataWord}
+use Rattle.qed_model.specs.Machine.Step.{State, reg, run}
 use Rattle.qed_model.specs.Promise.Kept.{after_input, after_output, IsSteady, Steady}
 use Rattle.qed_model.specs.Weave.Sequences.{Reads}
 use Rattle.qed_model.proofs.Walk.{run-more}
-use Rattle.qed_model.proofs.Walked.{Walk, walk_on}
+use Rattle.qed_model.proofs.Walked.{walk_on}
 use Rattle.weave_core.specs.World.{World, Quiet, IsCursor, words_on}
 use Rattle.weave_core.specs.Describes.{Describes}
 use Rattle.weave_core.specs.Blocks.{IsEntryOf}
 use Rattle.weave_core.specs.Rows.{Sourced}
 use Rattle.weave_core.specs.Kinds.{thirteen}
-use Rattle.weave_core.specs.Lock.{ComparesFrom, first_load}
-use Rattle.weave_core.specs.WeaveLaws.{EntriesAt, Stands, Visits}
+use Rattle.weave_core.specs.Lock.{ComparesFrom}
+use Rattle.weave_core.specs.WeaveLaws.{EntriesAt}
 use Rattle.weave_core.proofs.Entries.{first_sourced}
 use Rattle.weave_core.proofs.Source.{steady_le, steady_rest}
-use Rattle.weave_core.proofs.Trace.{none_run}
 use Rattle.weave_core.proofs.Visit.{words_within}
 use Rattle.lockstep.proofs.Beating.{round_of, round_some, round_none, place_is, some_spans, at_word}
 use Rattle.lockstep.proofs.Numbered.{nth_word, nth_low, number_of, words_are, advance_below}
@@ -30,10 +27,8 @@ use Rattle.lean_weave.specs.Woven.{Lean, weave_of, LeanIn, check_steps}
 use Rattle.lean_weave.proofs.Begin.{begin_law, first_is}
 use Rattle.lean_weave.proofs.Cells.{Counts, Called, Finished, Begins, called, to_check}
 use Rattle.lean_weave.proofs.Check.{Back}
-use Rattle.lean_weave.proofs.Held.{Ticked, ticked_of}
 use Rattle.lean_weave.proofs.Left.{lean_rows}
 use Rattle.lean_weave.proofs.Rows.{AtCheck, checks}
-use Rattle.lean_weave.proofs.Tick.{counter}
 
 -- the check has 44 steps at least
 check_big : (w : World) → 44 ≤ check_steps w

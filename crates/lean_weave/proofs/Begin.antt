@@ -1,5 +1,5 @@
 -- What runs first.
-use Rattle.std.proofs.Common.{◌≡◌, ℕ, ◌+◌, ◌*◌, ◌%◌, ◌^◌, ◌<◌, ◌≤◌, true, inl, Bool, List, [], ◌∷◌, length, refl, ap, ◌∙◌, subst, arith}
+use Rattle.std.proofs.Common.{◌≡◌, ℕ, ◌+◌, ◌*◌, ◌%◌, ◌^◌, ◌<◌, ◌≤◌, true, inl, Bool, List, [], ◌∷◌, length, refl, ap, ◌∙◌, arith}
 use Rattle.lean_weave.specs.Lean.{begin}
 use Rattle.qed_model.specs.Weave.Sequences.{Reads}
 use Rattle.std.specs.Prelude.{pos, neg_ℤ}
@@ -9,7 +9,6 @@ use Rattle.qed_model.specs.declared.item.Item.TheVariants.{Plain, Constant, Go}
 use Rattle.qed_model.specs.Machine.Program.{Program, start, zeros, AreStartRegs}
 use Rattle.qed_model.specs.Machine.Table.{ins}
 use Rattle.qed_model.specs.Machine.Step.{State, reg, moved}
-use Rattle.qed_model.specs.Promise.Kept.{Kept}
 use Rattle.qed_model.proofs.Walk.{over_moved}
 use Rattle.qed_model.proofs.Walked.{walk_on}
 use Rattle.weave_core.specs.Blocks.{IsEntryOf}
@@ -20,12 +19,10 @@ use Rattle.weave_core.proofs.Indirect.{addi_value}
 use Rattle.weave_core.proofs.Leaves.{go_most, go_walk, halved_gone}
 use Rattle.weave_core.proofs.Prologue.{begin_row}
 use Rattle.weave_core.proofs.Sets.{writes, halved_writes}
-use Rattle.weave_core.proofs.Values.{WeaveIn, kept}
 use Rattle.lean_weave.specs.Lean.{first_word}
 use Rattle.lean_weave.specs.Woven.{Lean, LeanIn, weave_of}
 use Rattle.lean_weave.proofs.Chain.{Op, plain, constant, effects, Gives, read_back, all_temps, chain}
 use Rattle.lean_weave.proofs.Held.{ticked_is}
-use Rattle.lean_weave.proofs.Left.{lean_rows}
 use Rattle.lean_weave.proofs.Tick.{counter}
 
 -- the first word is one

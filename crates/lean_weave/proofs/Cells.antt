@@ -1,30 +1,28 @@
 -- From an entry to the next call of the check, or to the end of the test: block after block, as long as steps are left.
 use Rattle.std.proofs.Common.{◌≡◌, ℕ, zero, suc, ◌+◌, ◌-◌, ◌*◌, ◌%◌, ◌^◌, ◌<◌, ◌≤◌, ◌⊎◌, inl, inr, ⊎_elim, Bool, true, false, cond, List, [], ◌∷◌, ◌++◌, length, refl, sym, ap, ◌∙◌, subst, arith, append_assoc}
-use Rattle.std.specs.Prelude.{◌==◌, ◌&&◌}
 use Rattle.std.proofs.lemmas.Bool.{and_parts, eqb-true, cases_lt}
 use Rattle.rv_isa.specs.declared.ins.Ins.{Ins}
-use Rattle.qed_model.specs.declared.machine.Outcome.TheVariants.{Going, Ended}
-use Rattle.qed_model.specs.Machine.Step.{State, reg, run, Known}
+use Rattle.qed_model.specs.declared.machine.Outcome.TheVariants.{Ended}
+use Rattle.qed_model.specs.Machine.Step.{State, reg, run}
 use Rattle.qed_model.specs.Promise.Kept.{NotTrapped, IsSteady}
 use Rattle.qed_model.specs.Weave.Code.{body_of, pieces_of}
-use Rattle.qed_model.specs.Weave.Pieces.{is_run}
 use Rattle.qed_model.specs.Weave.Sequences.{Reads, End, Falls, Stops, Block, body_length, is_auipc}
-use Rattle.qed_model.proofs.Walk.{Over, run-more}
-use Rattle.qed_model.proofs.Walked.{Walk, walk_none, walk_on}
-use Rattle.weave_core.specs.World.{World, Quiet, Twice, IsCursor}
-use Rattle.weave_core.specs.Blocks.{IsEntryOf, EndStands}
+use Rattle.qed_model.proofs.Walk.{run-more}
+use Rattle.qed_model.proofs.Walked.{Walk, walk_on}
+use Rattle.weave_core.specs.World.{World, Quiet, IsCursor}
+use Rattle.weave_core.specs.Blocks.{IsEntryOf}
 use Rattle.weave_core.specs.Each.{cost_each}
 use Rattle.weave_core.specs.Parts.{original_cost}
 use Rattle.qed_model.specs.declared.item.Item.{Item}
 use Rattle.weave_core.specs.Rows.{At, Sourced}
 use Rattle.weave_core.specs.Weave.{Weave}
-use Rattle.weave_core.specs.WeaveLaws.{PiecesAt, BlockOf, EntriesAt, Stands, GoesTo, Ends, stops, Onward, lands, is_lost}
+use Rattle.weave_core.specs.WeaveLaws.{PiecesAt, BlockOf, EntriesAt, Stands, stops, Onward, lands, is_lost}
 use Rattle.weave_core.proofs.Leaves.{no_code}
 use Rattle.weave_core.proofs.Source.{source_run, not_trapped_le, steady_le, steady_rest}
 use Rattle.weave_core.proofs.Trace.{none_run, one_run}
 use Rattle.lean_weave.specs.Lean.{first_word, leave, leave_cost}
 use Rattle.lean_weave.specs.Woven.{Lean, piece_steps, body_steps, fall_to, weave_of, LeanIn}
-use Rattle.lean_weave.proofs.Leave.{Went, SignedAs}
+use Rattle.lean_weave.proofs.Leave.{SignedAs}
 use Rattle.lean_weave.proofs.Left.{Parts, leave_row}
 use Rattle.lean_weave.proofs.Piece.{piece_row}
 use Rattle.lean_weave.proofs.Rows.{Enters, AtCheck, passes, calls}

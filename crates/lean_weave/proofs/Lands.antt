@@ -1,14 +1,13 @@
 -- The words of the blocks of a plan: of the kinds, and where they lead.
-use Rattle.std.proofs.Common.{◌≡◌, ℕ, zero, suc, ◌+◌, ◌*◌, ◌%◌, ◌^◌, ◌<◌, ◌≤◌, ◌⊎◌, inl, inr, ⊎_elim, Bool, true, false, cond, List, [], ◌∷◌, ◌++◌, length, refl, sym, ap, ◌∙◌, subst, arith, append_assoc, length-append}
+use Rattle.std.proofs.Common.{◌≡◌, ℕ, ◌+◌, ◌*◌, ◌%◌, ◌^◌, ◌<◌, ⊎_elim, Bool, true, false, cond, List, [], ◌∷◌, ◌++◌, length, refl, sym, ap, ◌∙◌, subst, arith, append_assoc, length-append}
 use Rattle.std.specs.Prelude.{◌==◌, pos}
-use Rattle.std.proofs.lemmas.Bool.{cases_Bool, eqb-true, false≢true, or_cases}
+use Rattle.std.proofs.lemmas.Bool.{eqb-true, false≢true, or_cases}
 use Rattle.rv_isa.specs.declared.ins.Ins.{Ins}
-use Rattle.rv_isa.specs.declared.kind.Kind.TheVariants.{Addi, Blt, Jal, Illegal}
-use Rattle.rv_isa.specs.Kind.{class_of}
+use Rattle.rv_isa.specs.declared.kind.Kind.TheVariants.{Blt, Jal}
 use Rattle.qed_model.specs.declared.item.Item.{Item}
-use Rattle.qed_model.specs.declared.item.Item.TheVariants.{Mark, Plain, Go}
+use Rattle.qed_model.specs.declared.item.Item.TheVariants.{Go}
 use Rattle.qed_model.specs.Machine.Table.{ins}
-use Rattle.qed_model.specs.Machine.Step.{Known, HasAt}
+use Rattle.qed_model.specs.Machine.Step.{HasAt}
 use Rattle.qed_model.specs.Machine.Values.{wrapped}
 use Rattle.qed_model.specs.Weave.Blocks.{begins_at}
 use Rattle.qed_model.specs.Weave.Code.{pieces_of}
@@ -23,7 +22,7 @@ use Rattle.weave_core.specs.KindItems.{LockItems, LandItems, Straight, AllLand, 
 use Rattle.weave_core.proofs.KindWords.{brk}
 use Rattle.weave_core.proofs.KindItems.{instructions_then, reads_words, stub_opens, items_then, items_none, items_go, original_items}
 use Rattle.weave_core.proofs.Listed.{opens_behind}
-use Rattle.weave_core.proofs.Landing.{all_land_append, has_rest, over_words, straight_none, straight_then, straight_lands, straight_guards, land_then, land_behind, land_go}
+use Rattle.weave_core.proofs.Landing.{all_land_append, has_rest, over_words, straight_none, straight_then, straight_lands, straight_guards, land_behind, land_go}
 use Rattle.weave_core.specs.Parts.{used, bare}
 use Rattle.weave_core.proofs.PartLaws.{straight_bare}
 use Rattle.weave_core.proofs.PieceLaws.{guarded_original, used_low}

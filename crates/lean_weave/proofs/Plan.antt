@@ -1,7 +1,7 @@
 -- The code of a plan: where its parts stand, the entries of its blocks, and where its words lead.
-use Rattle.std.proofs.Common.{◌≡◌, ℕ, zero, suc, ◌+◌, ◌*◌, ◌%◌, ◌^◌, ◌<◌, ◌≤◌, ◌⊎◌, inl, inr, ⊎_elim, Bool, true, false, cond, List, [], ◌∷◌, ◌++◌, length, refl, sym, ap, ◌∙◌, subst, arith, append_assoc, length-append}
-use Rattle.std.specs.Prelude.{◌==◌, ◌&&◌, ◌||◌, pos}
-use Rattle.std.proofs.lemmas.Bool.{and_from, and_parts, cases_Bool, eq-eqb, eqb-true, false≢true, or_cases}
+use Rattle.std.proofs.Common.{◌≡◌, ℕ, ◌+◌, ◌*◌, ◌%◌, ◌^◌, ⊎_elim, Bool, true, false, cond, List, [], ◌∷◌, ◌++◌, refl, sym, ap, ◌∙◌, subst, append_assoc}
+use Rattle.std.specs.Prelude.{◌==◌, ◌&&◌, pos}
+use Rattle.std.proofs.lemmas.Bool.{and_parts, eq-eqb, eqb-true, false≢true, or_cases}
 use Rattle.std.proofs.lemmas.List.{append-nil}
 use Rattle.rv_isa.specs.declared.ins.Ins.{Ins}
 use Rattle.rv_isa.specs.declared.class.Class.{Class}
@@ -10,20 +10,19 @@ use Rattle.rv_isa.specs.Kind.{class_of}
 use Rattle.qed_model.specs.declared.item.Item.{Item}
 use Rattle.qed_model.specs.declared.item.Item.TheVariants.{Mark, Plain, Go}
 use Rattle.qed_model.specs.Machine.Table.{ins}
-use Rattle.qed_model.specs.Machine.Step.{Fetched, Known, HasAt, target}
-use Rattle.qed_model.specs.Machine.Program.{Program}
+use Rattle.qed_model.specs.Machine.Step.{Fetched, target}
 use Rattle.qed_model.specs.Promise.Closed.{is_branch}
 use Rattle.qed_model.specs.Weave.Blocks.{begins_at}
 use Rattle.qed_model.specs.Weave.Code.{pieces_of}
-use Rattle.qed_model.specs.Weave.Placed.{distance_between, sum_of_sizes, instructions_from}
-use Rattle.qed_model.specs.Weave.Sequences.{Reads, End, Falls, Stops, Block, body_length, guards_of, stub}
+use Rattle.qed_model.specs.Weave.Placed.{distance_between, sum_of_sizes}
+use Rattle.qed_model.specs.Weave.Sequences.{Reads, End, Falls, Stops, Block, body_length, guards_of}
 use Rattle.weave_core.specs.World.{World}
 use Rattle.weave_core.specs.Weave.{Weave}
-use Rattle.weave_core.specs.WeaveLaws.{BlockOf, EntryAt, EntriesAt}
+use Rattle.weave_core.specs.WeaveLaws.{BlockOf, EntryAt}
 use Rattle.weave_core.specs.WeavePromise.{AllBlocksOf}
 use Rattle.weave_core.proofs.Entries.{reads_front}
-use Rattle.lean_weave.specs.Lean.{tick, turn, goes, opposite, check, leave, leave_as, begin}
-use Rattle.lean_weave.specs.Woven.{Lean, LeanPlan, weave_of, fall_to, fall_words, cell, cell_body, cells, code_of, goes_on, begins_with, InOrder}
+use Rattle.lean_weave.specs.Lean.{tick, turn, goes, opposite, leave, leave_as}
+use Rattle.lean_weave.specs.Woven.{Lean, weave_of, fall_to, fall_words, cell, cell_body, cells, goes_on, begins_with, InOrder}
 use Rattle.lean_weave.proofs.Ways.{reads_behind, reads_join}
 
 -- ---- what stands behind a block

@@ -1,17 +1,16 @@
 -- A plan of the lean form keeps the values, its code is calm, and by its trace changes are caught.
-use Rattle.std.proofs.Common.{◌≡◌, ℕ, zero, suc, ◌+◌, ◌*◌, ◌%◌, ◌^◌, ◌<◌, ◌≤◌, ◌⊎◌, inl, inr, ⊎_elim, Bool, true, false, List, [], ◌∷◌, ◌++◌, length, Some, refl, sym, ap, ◌∙◌, subst, arith, append_assoc, length-append}
-use Rattle.std.specs.Prelude.{pos}
+use Rattle.std.proofs.Common.{◌≡◌, ℕ, ◌+◌, ◌*◌, ◌^◌, ◌<◌, ◌≤◌, ⊎_elim, Bool, true, false, List, [], ◌++◌, length, Some, refl, sym, ap, ◌∙◌, subst, arith, append_assoc, length-append}
 use Rattle.rv_isa.specs.declared.ins.Ins.{Ins}
 use Rattle.qed_model.specs.declared.bounds.Bounds.{Bounds}
 use Rattle.qed_model.specs.declared.item.Item.{Item}
 use Rattle.qed_model.specs.Admission.DataRanges.{word_count}
-use Rattle.qed_model.specs.Machine.Program.{Program, start, AreStartRegs}
+use Rattle.qed_model.specs.Machine.Program.{Program}
 use Rattle.qed_model.specs.Machine.Step.{Known, HasAt}
 use Rattle.qed_model.specs.Promise.Caught.{Caught}
 use Rattle.qed_model.specs.Promise.Kept.{Kept}
 use Rattle.qed_model.specs.Weave.Blocks.{begins_at}
 use Rattle.qed_model.specs.Weave.Pieces.{piece_count}
-use Rattle.qed_model.specs.Weave.Placed.{sum_of_sizes, instructions_from}
+use Rattle.qed_model.specs.Weave.Placed.{instructions_from}
 use Rattle.qed_model.specs.Weave.Sequences.{Reads, Block, stub}
 use Rattle.weave_core.specs.World.{World}
 use Rattle.weave_core.specs.KindItems.{LockItems, AllLand, OpenEntries, AllBlocks}
@@ -31,7 +30,7 @@ use Rattle.lockstep.proofs.Promise.{Times, BoundsBy, settles}
 use Rattle.lockstep.proofs.Trace.{Sizes}
 use Rattle.lockstep.proofs.Weaves.{all_blocks}
 use Rattle.lean_weave.specs.Lean.{check, begin}
-use Rattle.lean_weave.specs.Woven.{Lean, LeanIn, LeanPlan, LeanKept, LeanCaught, IsBoundsOf, weave_of, cells, code_of, check_steps}
+use Rattle.lean_weave.specs.Woven.{Lean, LeanPlan, LeanKept, LeanCaught, IsBoundsOf, weave_of, cells, check_steps}
 use Rattle.lean_weave.proofs.Beats.{sizes, traced, Bound}
 use Rattle.lean_weave.proofs.Begin.{lean_starts}
 use Rattle.lean_weave.proofs.Cells.{Counts}

@@ -4,7 +4,6 @@ use Rattle.std.specs.Prelude.{◌||◌, ◌==◌, nat_lt, int_lt}
 use Rattle.std.proofs.lemmas.Bool.{false≢true}
 use Rattle.rv_isa.specs.declared.kind.Kind.{Kind}
 use Rattle.rv_isa.specs.declared.kind.Kind.TheVariants.{Beq, Bne, Blt, Bge, Bltu, Bgeu}
-use Rattle.rv_isa.specs.declared.class.Class.{Class}
 use Rattle.rv_isa.specs.declared.class.Class.TheVariants as class
 use Rattle.rv_isa.specs.Kind.{class_of}
 use Rattle.qed_model.specs.declared.item.Item.{Item}

@@ -1,5 +1,5 @@
 -- The words of the lean form are of the kinds that two runs in lockstep know, and lead to where no register is closed.
-use Rattle.std.proofs.Common.{◌≡◌, ℕ, zero, suc, ◌+◌, ◌*◌, ◌%◌, ◌^◌, ◌<◌, ◌≤◌, inl, inr, Bool, true, false, cond, List, [], ◌∷◌, ◌++◌, length, refl, sym, ap, ◌∙◌, subst, arith, append_assoc, length-append}
+use Rattle.std.proofs.Common.{◌≡◌, ℕ, ◌+◌, ◌*◌, ◌%◌, ◌^◌, ◌≤◌, inl, inr, Bool, true, false, cond, List, [], ◌∷◌, ◌++◌, length, refl, sym, ap, ◌∙◌, subst, arith, append_assoc, length-append}
 use Rattle.std.specs.Prelude.{◌==◌, ℤ, pos, neg_ℤ}
 use Rattle.rv_isa.specs.declared.kind.Kind.TheVariants.{Lui, Auipc, Addi, Andi, Slli, Srli, Add, Sub, Beq, Blt, Jal, Jalr, Lw}
 use Rattle.rv_isa.specs.declared.ins.Ins.{Ins}
@@ -8,7 +8,7 @@ use Rattle.rv_isa.specs.Kind.{class_of}
 use Rattle.rv_isa.specs.Operation.{pair}
 use Rattle.qed_model.specs.Machine.Table.{ins}
 use Rattle.qed_model.specs.declared.item.Item.{Item}
-use Rattle.qed_model.specs.declared.item.Item.TheVariants.{Mark, Plain, Constant, Go}
+use Rattle.qed_model.specs.declared.item.Item.TheVariants.{Plain, Constant, Go}
 use Rattle.qed_model.specs.Weave.Placed.{distance_between, upper_part, lower_part, go_words, go_size, sum_of_sizes, instructions_from}
 use Rattle.qed_model.specs.Weave.Sequences.{End, Falls, Stops, compare, visit, guard, guards_of, links, fired_check, zero_from}
 use Rattle.weave_core.specs.KindItems.{LockItems, LandItems, LandsAs, Straight, GoodEnd, end_branches, end_jumps, end_jumps_reg, end_ends, end_illegal}
@@ -20,7 +20,7 @@ use Rattle.qed_model.specs.Machine.Values.{wrapped}
 use Rattle.weave_core.proofs.KindWords.{brk, guard_if, leave_branch, scratch_compute, scratch_load, scratch_branch, a_jump, a_jump_reg, an_end, an_illegal, a_break, if_guarded}
 use Rattle.weave_core.proofs.KindItems.{instructions_then, items_then, items_none, items_one, items_constant, items_go, one_guard, two_guards, compare_items, visits_items, links_items, zero_items, pair_scratch, takes_use}
 use Rattle.weave_core.proofs.PlacingForm.{length-instructions}
-use Rattle.weave_core.proofs.Landing.{straight_none, straight_compute, straight_load, straight_constant, straight_then, straight_lands, straight_compare, straight_guard, straight_both, over_words, straight_links, straight_zeros, straight_one, land_then, land_behind, land_check, land_visits, land_go}
+use Rattle.weave_core.proofs.Landing.{straight_none, straight_compute, straight_constant, straight_then, straight_lands, straight_compare, straight_guard, straight_both, over_words, straight_links, straight_zeros, straight_one, land_then, land_behind, land_check, land_visits, land_go}
 use Rattle.lean_weave.specs.Lean.{tick, is_short, turn_by, turn, look_up, first_word, parted, called, begun, done, check, goes, check_sign, opposite, leave, leave_as, begin}
 use Rattle.lean_weave.proofs.Ways.{opposite_is}
 
