@@ -3,6 +3,7 @@ use Rattle.std.proofs.Common.{◌≡◌, ℕ, ◌+◌, ◌^◌, ◌<◌, ◌≤�
 use Rattle.std.specs.Prelude.{pos}
 use Rattle.std.proofs.lemmas.Bool.{cases_eq}
 use Rattle.qed_model.specs.Admission.DataRanges.{word_count}
+use Rattle.qed_model.specs.declared.machine.Outcome.TheVariants.{Going, Ended}
 use Rattle.qed_model.specs.Machine.Program.{Program, start, zeros, AreStartRegs}
 use Rattle.qed_model.specs.Machine.Step.{State, reg, run}
 use Rattle.qed_model.specs.Promise.Kept.{after_input, after_output, IsSteady, Steady}
@@ -15,18 +16,21 @@ use Rattle.weave_core.specs.Blocks.{IsEntryOf}
 use Rattle.weave_core.specs.Rows.{Sourced}
 use Rattle.weave_core.specs.Kinds.{thirteen}
 use Rattle.weave_core.specs.Lock.{ComparesFrom}
-use Rattle.weave_core.specs.WeaveLaws.{EntriesAt}
+use Rattle.weave_core.specs.Leaving.{sweep_cost}
+use Rattle.weave_core.specs.WeaveLaws.{EntriesAt, Swept}
 use Rattle.weave_core.proofs.Entries.{first_sourced}
 use Rattle.weave_core.proofs.Source.{steady_le, steady_rest}
 use Rattle.weave_core.proofs.Visit.{words_within}
 use Rattle.lockstep.proofs.Beating.{round_of, round_some, round_none, place_is, some_spans, at_word}
 use Rattle.lockstep.proofs.Numbered.{nth_word, nth_low, number_of, words_are, advance_below}
-use Rattle.lockstep.proofs.Trace.{advance, Sizes, VisitIn, NextSteps, PieceSteps, EndsSoon, Trace}
+use Rattle.lockstep.proofs.Trace.{advance, Sizes, VisitIn, NextSteps, PieceSteps, EndsSoon, Trace, SweptEnd}
 use Rattle.lean_weave.specs.Lean.{first_word, begin}
-use Rattle.lean_weave.specs.Woven.{Lean, weave_of, LeanIn, check_steps}
+use Rattle.lean_weave.specs.Woven.{Lean, weave_of, LeanIn, check_steps, swept_steps}
 use Rattle.lean_weave.proofs.Begin.{begin_law, first_is}
 use Rattle.lean_weave.proofs.Cells.{Counts, Called, Finished, Begins, called, to_check}
 use Rattle.lean_weave.proofs.Check.{Back}
+use Rattle.lean_weave.proofs.End.{Sweeps, swept_on}
+use Rattle.lean_weave.proofs.Ending.{Closing, Reached, to_end, swept_is}
 use Rattle.lean_weave.proofs.Left.{lean_rows}
 use Rattle.lean_weave.proofs.Rows.{AtCheck, checks}
 
@@ -37,7 +41,7 @@ check_big w = omega arith
 module _ (f g : Program) (w : World) (l : Lean) (leader : ℕ → Bool) (x : LeanIn w l leader) (of : Describes f g w) (entries : EntriesAt w (weave_of w l leader) leader) (counts : Counts w l leader) (leads : leader f.entry ≡ true) (begins : Reads w.form.far w.code w.entry g.entry (begin w.distance f.entry)) where
   -- from a call of the check to the next, to behind its comparison with four steps left, and what runs before the end besides
   abbrev pub sizes : Sizes
-  sizes = record { piece = check_steps w + (l.every + 2); check = 31; last = 2; words = word_count w.form.spans; round = round_of (word_count w.form.spans) w.form.round }
+  sizes = record { piece = check_steps w + (l.every + 2); check = 31; last = 2 + swept_steps w; words = word_count w.form.spans; round = round_of (word_count w.form.spans) w.form.round }
 
   abbrev nth : ℕ → ℕ
   nth i = nth_word w.form.spans i
@@ -145,10 +149,25 @@ module _ (f g : Program) (w : World) (l : Lean) (leader : ℕ → Bool) (x : Lea
           }
 
       -- or to the end
-      ends_at : Finished w l leader x blocks back.to l.every → EndsSoon (start g regs) p (check_steps w + (l.every + 2) + 2)
+      ends_at : Finished w l leader x blocks back.to l.every → EndsSoon (start g regs) p (check_steps w + (l.every + 2) + (2 + swept_steps w))
       ends_at e =
           let to = (walk_on (Quiet w) u back.to e.to back.steps e.steps back.walk e.walk).ends in
           record { at = back.steps + e.steps; room = omega (arith, back.within, e.within); ended = ap (λ s. s.outcome) (there (back.steps + e.steps) ∙ to) ∙ e.ended }
+
+      -- to the one or the other, where the input is steady
+      onward_at : (h : ℕ) → p + (l.every + 3) ≤ h → Steady f w.reached h → Called w l leader x blocks back.to s back.next (l.every + 2) ⊎ Finished w l leader x blocks back.to l.every
+      onward_at h le steady =
+          let c : IsSteady w.reached (after_input f b.moves) (l.every + 3) = steady_rest w.reached (start f zeros) b.moves (l.every + 3) (steady_le w.reached (start f zeros) (b.moves + (l.every + 3)) h (omega (arith, b.slow, le)) steady) in
+          to_check w l leader x blocks entries counts l.every back.to s l.every back.next (omega arith) (record {
+            stands = back.stands;
+            sourced = b.sourced;
+            some = x.some;
+            most = omega arith;
+            fifteen = back.counter;
+            few = back.few;
+            sign = back.sign;
+            cursor = subst (IsCursor w.form.spans) (sym back.word) (words_within w.form.spans w.base w.form.round (first_word w.form.spans + b.offset) w.spans_good b.here.cursor);
+          }) c
 
       -- with one comparison
       piece_at : (h : ℕ) → Steady f w.reached h → PieceSteps w.code (start g regs) sizes (λ i. nth_word w.form.spans i) h Bound p i
@@ -158,21 +177,18 @@ module _ (f g : Program) (w : World) (l : Lean) (leader : ℕ → Bool) (x : Lea
             compare = 14;
             room = omega arith;
             at = record { going = ap (λ s. s.outcome) e ∙ (back.walk.each 14 (omega (arith, back.some))).going; words = subst (λ s. ComparesFrom w.code s.pc thirteen) (sym e) back.compares };
-            on = λ le.
-                let c : IsSteady w.reached (after_input f b.moves) (l.every + 3) = steady_rest w.reached (start f zeros) b.moves (l.every + 3) (steady_le w.reached (start f zeros) (b.moves + (l.every + 3)) h (omega (arith, b.slow, le)) steady) in
-                ⊎_elim
-                (λ d. inl (next_at d))
-                (λ d. inr (ends_at d))
-                (to_check w l leader x blocks entries counts l.every back.to s l.every back.next (omega arith) (record {
-                  stands = back.stands;
-                  sourced = b.sourced;
-                  some = x.some;
-                  most = omega arith;
-                  fifteen = back.counter;
-                  few = back.few;
-                  sign = back.sign;
-                  cursor = subst (IsCursor w.form.spans) (sym back.word) (words_within w.form.spans w.base w.form.round (first_word w.form.spans + b.offset) w.spans_good b.here.cursor);
-                }) c);
+            on = λ le. ⊎_elim (λ d. inl (next_at d)) (λ d. inr (ends_at d)) (onward_at h (omega (arith, le)) steady);
+          }
+
+      -- the end, with its sweep
+      closing_at : Finished w l leader x blocks back.to l.every → Closing (start g regs) (λ q n. Sweeps w (after_output g regs q) n) p
+      closing_at d =
+          let walk = walk_on (Quiet w) u back.to d.to back.steps d.steps back.walk d.walk in
+          record {
+            steps = back.steps + d.steps;
+            going = λ k h. ap (λ y. y.outcome) (there k) ∙ (walk.each k h).going;
+            ended = ap (λ y. y.outcome) (there (back.steps + d.steps) ∙ walk.ends) ∙ d.ended;
+            last = swept_on w u back.to back.steps d.steps back.walk d.swept;
           }
 
     -- ---- from the first word
@@ -233,3 +249,31 @@ module _ (f g : Program) (w : World) (l : Lean) (leader : ℕ → Bool) (x : Lea
           inside = λ p i b. ⊎_elim (λ y. inl y.0) (λ z. inr z) b.at;
           goes_on = λ p i b le. inl (piece_at p i b h steady);
         }
+
+    -- ---- the end of a test with the sweep
+    -- the check is called, with the number of some word
+    record Numbered (p : ℕ) : Type 0 where
+      index : ℕ
+      bound : Bound p index
+
+    pub swept_end :
+        (e : ℕ) → ((h : ℕ) → Steady f w.reached h) → w.form.sweep ≡ true → (after_output g regs e).outcome ≡ Ended → ((k : ℕ) → k < e → (after_output g regs k).outcome ≡ Going)
+        → SweptEnd w g regs (sweep_cost w.form.spans) e
+    swept_end e steady sw end before = swept reached where
+      reached : Reached (λ q n. Sweeps w (after_output g regs q) n) e
+      reached =
+          let first = first_call in
+          to_end (start g regs) e end before Numbered (λ q n. Sweeps w (after_output g regs q) n)
+          (λ p b. b.bound.here.over.going)
+          (λ p b.
+          ⊎_elim
+          (λ c. let n = next_at p b.index b.bound c in inl (record { steps = n.length; some = n.some; next = record { index = advance (word_count w.form.spans) (round_of (word_count w.form.spans) w.form.round) b.index; bound = n.next } }))
+          (λ d. inr (closing_at p b.index b.bound d))
+          (onward_at p b.index b.bound (p + (l.every + 3)) (omega arith) (steady (p + (l.every + 3)))))
+          e first.steps (omega arith) (record { index = first.index; bound = first.bound })
+
+      swept : Reached (λ q n. Sweeps w (after_output g regs q) n) e → SweptEnd w g regs (sweep_cost w.form.spans) e
+      swept r =
+          let y = r.last sw in
+          let there : after_output g regs (r.from + y.from) ≡ run (after_output g regs r.from) y.from = run-more (start g regs) r.from y.from in
+          swept_is g w regs (sweep_cost w.form.spans) (r.from + y.from) y.rest e (subst (λ z. Swept w (sweep_cost w.form.spans) z y.rest) (sym there) y.swept) (omega (arith, y.sum, r.is)) before

@@ -6,7 +6,7 @@ use Rattle.qed_model.specs.declared.machine.Outcome.TheVariants.{Ended}
 use Rattle.qed_model.specs.Machine.Step.{State, reg, run}
 use Rattle.qed_model.specs.Promise.Kept.{NotTrapped, IsSteady}
 use Rattle.qed_model.specs.Weave.Code.{body_of, pieces_of}
-use Rattle.qed_model.specs.Weave.Sequences.{Reads, End, Falls, Stops, Block, body_length, is_auipc}
+use Rattle.qed_model.specs.Weave.Sequences.{Reads, End, Falls, Stops, Block, body_length, before_end, is_auipc}
 use Rattle.qed_model.proofs.Walk.{run-more}
 use Rattle.qed_model.proofs.Walked.{Walk, walk_on}
 use Rattle.weave_core.specs.World.{World, Quiet, IsCursor}
@@ -21,7 +21,8 @@ use Rattle.weave_core.proofs.Leaves.{no_code}
 use Rattle.weave_core.proofs.Source.{source_run, not_trapped_le, steady_le, steady_rest}
 use Rattle.weave_core.proofs.Trace.{none_run, one_run}
 use Rattle.lean_weave.specs.Lean.{first_word, leave, leave_cost}
-use Rattle.lean_weave.specs.Woven.{Lean, piece_steps, body_steps, fall_to, weave_of, LeanIn}
+use Rattle.lean_weave.specs.Woven.{Lean, piece_steps, body_steps, fall_to, weave_of, LeanIn, swept_steps}
+use Rattle.lean_weave.proofs.End.{Sweeps, swept_on}
 use Rattle.lean_weave.proofs.Leave.{SignedAs}
 use Rattle.lean_weave.proofs.Left.{Parts, leave_row}
 use Rattle.lean_weave.proofs.Piece.{piece_row}
@@ -38,13 +39,14 @@ module _ (w : World) (l : Lean) (leader : ℕ → Bool) (x : LeanIn w l leader) 
   abbrev v : Weave
   v = weave_of w l leader
 
-  -- the test has ended, in so many steps at most
+  -- the test has ended, in so many steps at most, and those of the sweep
   pub record Finished (u : State) (most : ℕ) : Type 0 where
     pub steps : ℕ
     pub to : State
-    pub within : steps ≤ most
+    pub within : steps ≤ most + swept_steps w
     pub walk : Walk (Quiet w) u steps to
     pub ended : to.outcome ≡ Ended
+    pub swept : Sweeps w u steps
 
   -- the output is at an entry, with the counter as it was
   pub record Next (u s : State) (off most : ℕ) : Type 0 where
@@ -61,7 +63,7 @@ module _ (w : World) (l : Lean) (leader : ℕ → Bool) (x : LeanIn w l leader) 
 
   -- behind a walk
   finished_on : (u y : State) (m most most' : ℕ) → Walk (Quiet w) u m y → m + most ≤ most' → Finished y most → Finished u most'
-  finished_on u y m most most' a le f = record { steps = m + f.steps; to = f.to; within = omega (arith, f.within, le); walk = walk_on (Quiet w) u y f.to m f.steps a f.walk; ended = f.ended }
+  finished_on u y m most most' a le f = record { steps = m + f.steps; to = f.to; within = omega (arith, f.within, le); walk = walk_on (Quiet w) u y f.to m f.steps a f.walk; ended = f.ended; swept = swept_on w u y m f.steps a f.swept }
 
   next_on : (u y s : State) (off m k most most' : ℕ) → Walk (Quiet w) u m y → k ≤ m → m + most ≤ most' → reg y 15 ≡ reg u 15 → Next y (run s k) off most → Next u s off most'
   next_on u y s off m k most most' a slow le keeps n = record {
@@ -87,7 +89,7 @@ module _ (w : World) (l : Lean) (leader : ℕ → Bool) (x : LeanIn w l leader) 
     leave_through :
         (e : End) (u s : State) (most : ℕ) → most ≡ leave_cost (fall_to leader) e b s.pc → Parts w l leader x block u (run s (stops e)) (stops e) most (off * 2 ^ 32)
         → NotTrapped (run s (stops e + 1)) → Next u s off most ⊎ Finished u most
-    leave_through e u s most is (inl g) calm = inr (record { steps = g.steps; to = g.to; within = g.within; walk = g.walk; ended = g.is.ended })
+    leave_through e u s most is (inl g) calm = inr (record { steps = g.steps; to = g.to; within = g.within; walk = g.walk; ended = g.is.0.ended; swept = g.is.1 })
     leave_through e u s most is (inr g) calm = onward g.is where
       onward : Onward w leader (SignedAs u (off * 2 ^ 32)) (run s (stops e)) g.to → Next u s off most ⊎ Finished u most
       onward (lands st sg so) = inl (record { moves = stops e; steps = g.steps; to = g.to; slow = g.at_least; within = g.within; walk = g.walk; stands = st; sourced = so; sign = sg.0; counter = sg.1 })
@@ -100,7 +102,7 @@ module _ (w : World) (l : Lean) (leader : ℕ → Bool) (x : LeanIn w l leader) 
     through [] e u s at so q own sign steady =
         let z : s.pc + 4 * 0 ≡ s.pc = omega arith in
         let start : l.start_of s.pc ≡ b = ap l.start_of (sym z) ∙ own in
-        let at0 : At w u (leave (fall_to leader) e b s.pc) s s = subst (λ k. At w u (leave (fall_to leader) e k s.pc) s s) start (subst (λ k. At w u (leave (fall_to leader) e (l.start_of k) k) s s) z at) in
+        let at0 : At w u (leave (before_end w.form) (fall_to leader) e b s.pc) s s = subst (λ k. At w u (leave (before_end w.form) (fall_to leader) e k s.pc) s s) start (subst (λ k. At w u (leave (before_end w.form) (fall_to leader) e (l.start_of k) k) s s) z at) in
         let o = one e in
         let p = leave_row w l leader x block b off leads few e u s at0 so q (steady_le w.reached s (stops e) 2 (omega (arith, o)) steady) sign in
         let sum : leave_cost (fall_to leader) e b s.pc ≡ 0 + leave_cost (fall_to leader) e b (s.pc + 4 * 0) = zero_on (leave_cost (fall_to leader) e b s.pc) ∙ ap (λ k. 0 + leave_cost (fall_to leader) e b k) (sym z) in

@@ -60,7 +60,7 @@ fall_most leader t = by (leader t) where
 falls_cost : (leader : ℕ → Bool) (a t : ℕ) → cost (turn a t ++ fall_to leader t) ≤ 19
 falls_cost leader a t = let e = cost_append (turn a t) (fall_to leader t) in let b = turn_most a t in let c = fall_most leader t in omega (arith, e, b, c)
 
-jump_cost : (leader : ℕ → Bool) (i : Ins) (a at : ℕ) → cost (leave_as (fall_to leader) class.Jump i a at) ≤ 19
+jump_cost : (leader : ℕ → Bool) (i : Ins) (a at : ℕ) → cost (leave_as [] (fall_to leader) class.Jump i a at) ≤ 19
 jump_cost leader i a at = let e = cost_append (links i at) (goes a (target i at)) in let b = links_most i at in let c = goes_most a (target i at) in omega (arith, e, b, c)
 
 branch_cost : (leader : ℕ → Bool) (i : Ins) (a at : ℕ) → leave_cost_as (fall_to leader) class.Branch i a at ≤ 19
@@ -76,7 +76,7 @@ branch_cost leader i a at =
       ways : (x y : ℕ) → x ≤ 4 → y ≤ 4 → max x y ≤ 4
       ways x y h k = max-le h k
 
-leap_cost : (leader : ℕ → Bool) (i : Ins) (a at : ℕ) → cost (leave_as (fall_to leader) class.JumpReg i a at) ≤ 19
+leap_cost : (leader : ℕ → Bool) (i : Ins) (a at : ℕ) → cost (leave_as [] (fall_to leader) class.JumpReg i a at) ≤ 19
 leap_cost leader i a at =
     let b = guard_most i.rs1 in
     let c = links_most i at in
@@ -84,7 +84,7 @@ leap_cost leader i a at =
     let f = cost_append (links i at) look_up in
     omega (arith, b, c, e, f)
 
-end_cost : (leader : ℕ → Bool) (i : Ins) (a at : ℕ) → cost (leave_as (fall_to leader) class.End i a at) ≤ 19
+end_cost : (leader : ℕ → Bool) (i : Ins) (a at : ℕ) → cost (leave_as [] (fall_to leader) class.End i a at) ≤ 19
 end_cost leader i a at = let b = one (is_break i.kind) in omega (arith, b) where
   one : (b : Bool) → cond {A = ℕ} b 0 1 ≤ 1
   one true = omega arith

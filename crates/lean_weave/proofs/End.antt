@@ -1,8 +1,9 @@
--- The leave of an ECALL: all registers and the signature are compared, and the test ends.
-use Rattle.std.proofs.Common.{◌≡◌, ℕ, ◌+◌, ◌*◌, ◌%◌, ◌^◌, ◌<◌, ⊎_elim, true, false, cond, List, [], ◌∷◌, ◌++◌, length, refl, sym, ap, ◌∙◌, subst, arith}
+-- The leave of an ECALL: all registers and the signature are compared, with the sweep all data words and once more all registers, and the test ends.
+use Rattle.std.proofs.Common.{◌≡◌, ℕ, ◌+◌, ◌*◌, ◌%◌, ◌^◌, ◌<◌, ◌≤◌, ⊎_elim, Bool, true, false, cond, List, [], ◌∷◌, ◌++◌, length, refl, sym, ap, ◌∙◌, subst, arith}
 use Rattle.std.specs.Prelude.{pos}
 use Rattle.rv_isa.specs.declared.ins.Ins.{Ins}
 use Rattle.std.proofs.lemmas.Bool.{false≢true, cases_Bool}
+use Rattle.std.proofs.lemmas.List.{append-nil}
 use Rattle.rv_isa.specs.declared.kind.Kind.{Kind}
 use Rattle.rv_isa.specs.declared.kind.Kind.TheVariants.{Sub, Slli, Beq, Ebreak}
 use Rattle.rv_isa.specs.declared.class.Class.TheVariants as class
@@ -11,20 +12,26 @@ use Rattle.qed_model.specs.declared.item.Item.{Item}
 use Rattle.qed_model.specs.declared.item.Item.TheVariants.{Plain}
 use Rattle.qed_model.specs.declared.machine.Outcome.TheVariants.{Ended}
 use Rattle.qed_model.specs.Machine.Table.{ins}
-use Rattle.qed_model.specs.Machine.Step.{State, reg, moved, stopped, Known, step}
-use Rattle.qed_model.specs.Weave.Sequences.{fired_check}
-use Rattle.qed_model.proofs.Walk.{over_moved, known_at}
-use Rattle.qed_model.proofs.Walked.{walk_on}
+use Rattle.qed_model.specs.Machine.Step.{State, reg, moved, stopped, Known, step, run}
+use Rattle.qed_model.specs.Admission.DataRanges.{word_count}
+use Rattle.qed_model.specs.Weave.Bounds.{end_bound}
+use Rattle.qed_model.specs.Weave.Sequences.{fired_check, compare, sweep, before_end}
+use Rattle.qed_model.proofs.Walk.{over_moved, known_at, run-more}
+use Rattle.qed_model.proofs.Walked.{Walk, walk_on}
 use Rattle.weave_core.specs.World.{World, Quiet, Twice}
 use Rattle.weave_core.specs.Kinds.{thirteen}
 use Rattle.weave_core.specs.Rows.{At, Sourced}
-use Rattle.weave_core.specs.WeaveLaws.{Holds, GoesTo, Ends}
+use Rattle.weave_core.specs.Leaving.{swept_end, sweep_cost}
+use Rattle.weave_core.specs.WeaveLaws.{Holds, GoesTo, Ends, Swept}
 use Rattle.weave_core.proofs.Branch.{own_pair}
 use Rattle.weave_core.proofs.Endings.{guards_pass}
+use Rattle.weave_core.proofs.LeaveLaws.{quiet_sweep}
 use Rattle.weave_core.proofs.Leaves.{step-end, end_walk}
 use Rattle.weave_core.proofs.Sets.{writes, halved_writes, sets_equal}
+use Rattle.weave_core.proofs.Trace.{none_run}
 use Rattle.weave_core.proofs.Words.{all_small}
 use Rattle.lean_weave.specs.Lean.{check_sign, leave_as, is_break, cost}
+use Rattle.lean_weave.specs.Woven.{swept_steps}
 use Rattle.lean_weave.proofs.Chain.{Op, plain, constant, effects, Gives, read_back, all_temps, chain}
 use Rattle.lean_weave.proofs.Check.{sub_value, slli_value}
 
@@ -40,7 +47,64 @@ no_break k c = ⊎_elim (λ e. let x : class.Break ≡ class.End = sym (break_is
 ended_holds : (w : World) (u s : State) → Twice w u s s → Holds w (stopped Ended u) (stopped Ended s)
 ended_holds w u s t = record { output = record { flags = t.output.flags; regs = t.output.regs; zero_reg = t.output.zero_reg }; originals = t.originals; bytes = t.bytes }
 
-module _ (w : World) (u s : State) (i : Ins) (fall : ℕ → List Item) (a off : ℕ) (at : At w u (leave_as fall class.End i a s.pc) s s) (so : Sourced w s) (low : a < 2 ^ 64) (few : off < 2 ^ 32) (sign : reg u 16 ≡ (a + off * 2 ^ 32) % 2 ^ 64) where
+-- ---- the sweep
+-- with some steps before it the end with the sweep is what is left of n steps
+pub record SweptAfter (w : World) (u : State) (n : ℕ) : Type 0 where
+  pub from : ℕ
+  pub rest : ℕ
+  pub sum : from + rest ≡ n
+  pub swept : Swept w (sweep_cost w.form.spans) (run u from) rest
+
+-- where there is a sweep
+abbrev pub Sweeps : World → State → ℕ → Type 0
+Sweeps w u n = w.form.sweep ≡ true → SweptAfter w u n
+
+-- behind a walk
+pub swept_on : (w : World) (u y : State) (m n : ℕ) → Walk (Quiet w) u m y → Sweeps w y n → Sweeps w u (m + n)
+swept_on w u y m n a s h =
+    let x = s h in
+    let same : run u (m + x.from) ≡ run y x.from = run-more u m x.from ∙ ap (λ z. run z x.from) a.ends in
+    record { from = m + x.from; rest = x.rest; sum = omega (arith, x.sum); swept = subst (λ z. Swept w (sweep_cost w.form.spans) z x.rest) (sym same) x.swept }
+
+-- from behind the signature to the end
+end_rest :
+    (w : World) (u s : State) (i : Ins) → At w u (before_end w.form ++ (Plain i ∷ [])) s s → Sourced w s → w.source s.pc ≡ Known i → class_of i.kind ≡ class.End
+    → GoesTo w u 1 (1 + swept_steps w) (λ n x. Ends w (step s) x × Sweeps w u n)
+end_rest w u s i at so h c = by w.form.sweep refl at where
+  e : step s ≡ stopped Ended s
+  e = step-end s i so.over.going (known_at w.source s i so.over h) c
+
+  input : (step s).outcome ≡ Ended
+  input = ap (λ x. x.outcome) e
+
+  by : (b : Bool) → w.form.sweep ≡ b → At w u (cond b (sweep w.form.spans ++ compare) [] ++ (Plain i ∷ [])) s s → GoesTo w u 1 (1 + swept_steps w) (λ n x. Ends w (step s) x × Sweeps w u n)
+  by true is a =
+      let a1 : At w u (swept_end w.form.spans i ++ []) s s = subst (λ l. At w u l s s) (sym (append-nil (swept_end w.form.spans i))) a in
+      let x = (quiet_sweep w.form.spans i c).leads w (record { now = u; original = s; shadow = s; leads = λ t. false }) [] tt a1 (record { same = refl; spans_are = refl }) in
+      let high : x.steps ≤ end_bound w.form.sweep (length w.form.spans) (word_count w.form.spans) = subst (λ b. x.steps ≤ end_bound b (length w.form.spans) (word_count w.form.spans)) (sym is) x.within in
+      ⊎_elim
+      (λ f. absurd f.1)
+      (λ l.
+      let has : Holds w x.to.now (stopped Ended s) = record { output = l.holds.output; originals = l.holds.originals; bytes = l.holds.bytes } in
+      record {
+        steps = x.steps;
+        to = x.to.now;
+        at_least = omega (arith, l.swept.exact);
+        within = omega (arith, high);
+        walk = x.walk;
+        is = (record { ended = l.ended; holds = subst (Holds w x.to.now) (sym e) has; input = input }, λ sw. record { from = 0; rest = x.steps; sum = omega arith; swept = subst (λ z. Swept w (sweep_cost w.form.spans) z x.steps) (sym (none_run u)) l.swept });
+      })
+      x.ends
+  by false is a = record {
+    steps = 1;
+    to = stopped Ended u;
+    at_least = omega arith;
+    within = omega arith;
+    walk = end_walk w u i a.over a.reads.0 c;
+    is = (record { ended = refl; holds = subst (Holds w (stopped Ended u)) (sym e) (ended_holds w u s a.halved); input = input }, λ sw. absurd (false≢true (sym is ∙ sw)));
+  }
+
+module _ (w : World) (u s : State) (i : Ins) (fall : ℕ → List Item) (a off : ℕ) (at : At w u (leave_as (before_end w.form) fall class.End i a s.pc) s s) (so : Sourced w s) (low : a < 2 ^ 64) (few : off < 2 ^ 32) (sign : reg u 16 ≡ (a + off * 2 ^ 32) % 2 ^ 64) where
   abbrev sign_ops : List Op
   sign_ops = constant 30 a ∷ plain (ins Sub 31 16 30 (pos 0)) (off * 2 ^ 32) ∷ plain (ins Slli 31 31 0 (pos 32)) 0 ∷ []
 
@@ -65,30 +129,29 @@ module _ (w : World) (u s : State) (i : Ins) (fall : ℕ → List Item) (a off :
         ),
       )
 
-  pub end_leave : w.source s.pc ≡ Known i → class_of i.kind ≡ class.End → GoesTo w u 1 (cost (leave_as fall class.End i a s.pc)) (λ n x. Ends w (step s) x)
+  pub end_leave : w.source s.pc ≡ Known i → class_of i.kind ≡ class.End → GoesTo w u 1 (cost (leave_as [] fall class.End i a s.pc) + swept_steps w) (λ n x. Ends w (step s) x × Sweeps w u n)
   end_leave h c =
       let t = at.halved in
-      let tail2 = Plain (ins Beq 0 31 0 (pos 8)) ∷ fired_check ∷ Plain i ∷ [] in
-      let s1 = guards_pass w thirteen u (check_sign a ++ (Plain i ∷ [])) at.over (λ q one m. own_pair w u s q t m one) (all_small w) at.reads in
+      let last = before_end w.form ++ (Plain i ∷ []) in
+      let s1 = guards_pass w thirteen u (check_sign a ++ last) at.over (λ q one m. own_pair w u s q t m one) (all_small w) at.reads in
       let x1 = moved u.regs s1.pc u in
       let o1 = over_moved w.code u u.regs s1.pc at.over in
-      let s2 = chain w x1 tail2 o1 sign_ops t.output.regs (sign_gives x1 t.output.regs sign) s1.reads in
+      let s2 = chain w x1 (Plain (ins Beq 0 31 0 (pos 8)) ∷ fired_check ∷ last) o1 sign_ops t.output.regs (sign_gives x1 t.output.regs sign) s1.reads in
       let ws = effects sign_ops in
       let l = writes ws u.regs in
       let x2 = moved l s2.pc u in
       let o2 = over_moved w.code u l s2.pc at.over in
       let zero : reg x2 31 ≡ reg x2 0 = read_back ws u.regs 31 t.output.regs refl ∙ sym (read_back ws u.regs 0 t.output.regs refl ∙ t.output.zero_reg) in
-      let s3 = sets_equal w x2 31 0 (Plain i ∷ []) o2 s2.reads zero in
+      let s3 = sets_equal w x2 31 0 last o2 s2.reads zero in
       let x3 = moved l s3.pc u in
-      let last = end_walk w x3 i (over_moved w.code u l s3.pc at.over) s3.reads.0 c in
+      let r = end_rest w x3 s i (record { over = over_moved w.code u l s3.pc at.over; reads = s3.reads; halved = halved_writes w u s s ws s3.pc (all_temps ws refl) t }) so h c in
+      let walk : Walk (Quiet w) u 18 x3 = walk_on (Quiet w) u x1 x3 13 5 s1.walk (walk_on (Quiet w) x1 x2 x3 4 1 s2.walk s3.walk) in
       let one : cond {A = ℕ} (is_break i.kind) 0 1 ≡ 1 = ap (λ b. cond {A = ℕ} b 0 1) (no_break i.kind c) in
-      let e : step s ≡ stopped Ended s = step-end s i so.over.going (known_at w.source s i so.over h) c in
-      let h3 = halved_writes w u s s ws s3.pc (all_temps ws refl) t in
       record {
-        steps = 19;
-        to = stopped Ended x3;
+        steps = 18 + r.steps;
+        to = r.to;
         at_least = omega arith;
-        within = omega (arith, one);
-        walk = walk_on (Quiet w) u x1 (stopped Ended x3) 13 6 s1.walk (walk_on (Quiet w) x1 x2 (stopped Ended x3) 4 2 s2.walk (walk_on (Quiet w) x2 x3 (stopped Ended x3) 1 1 s3.walk last));
-        is = record { ended = refl; holds = subst (Holds w (stopped Ended x3)) (sym e) (ended_holds w x3 s h3); input = ap (λ x. x.outcome) e };
+        within = omega (arith, one, r.within);
+        walk = walk_on (Quiet w) u x3 r.to 18 r.steps walk r.walk;
+        is = (r.is.0, swept_on w u x3 18 r.steps walk r.is.1);
       }

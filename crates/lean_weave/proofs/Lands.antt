@@ -12,7 +12,7 @@ use Rattle.qed_model.specs.Machine.Values.{wrapped}
 use Rattle.qed_model.specs.Weave.Blocks.{begins_at}
 use Rattle.qed_model.specs.Weave.Code.{pieces_of}
 use Rattle.qed_model.specs.Weave.Placed.{distance_between, instructions_from}
-use Rattle.qed_model.specs.Weave.Sequences.{Reads, Block, body_length, guards, original, mirrored, each_part, stub}
+use Rattle.qed_model.specs.Weave.Sequences.{Reads, Block, body_length, guards, original, mirrored, each_part, before_end, stub}
 use Rattle.qed_model.proofs.Wrapped.{difference}
 use Rattle.weave_core.specs.World.{World}
 use Rattle.weave_core.specs.Blocks.{FitsPiece, AllFit}
@@ -76,12 +76,12 @@ module _ (w : World) (l : Lean) (leader : ℕ → Bool) where
   body_items : (b : Block) → AllPieces b.body → GoodEnd b.end → LockItems false (cell_body w l leader b)
   body_items b f g =
       let at = b.start + 4 * body_length b.body in
-      items_then false (pieces_of (weave_of w l leader).code b.body b.start) (leave (fall_words leader) b.end b.start at) (pieces_items b.body b.start f) (leave_items (fall_words leader) b.end b.start at (fall_items leader) g)
+      items_then false (pieces_of (weave_of w l leader).code b.body b.start) (leave (before_end w.form) (fall_words leader) b.end b.start at) (pieces_items b.body b.start f) (leave_items w.form (fall_words leader) b.end b.start at (fall_items leader) g)
 
   body_lands : (b : Block) → AllPieces b.body → GoodEnd b.end → LandItems false (cell_body w l leader b)
   body_lands b f g =
       let at = b.start + 4 * body_length b.body in
-      land_behind false (pieces_of (weave_of w l leader).code b.body b.start) (leave (fall_words leader) b.end b.start at) (straight_pieces b.body b.start f) (leave_lands (fall_words leader) b.end b.start at (fall_items leader) (fall_lands leader) g)
+      land_behind false (pieces_of (weave_of w l leader).code b.body b.start) (leave (before_end w.form) (fall_words leader) b.end b.start at) (straight_pieces b.body b.start f) (leave_lands w.form (fall_words leader) b.end b.start at (fall_items leader) (fall_lands leader) g)
 
   cell_items : (b : Block) → AllPieces b.body → GoodEnd b.end → LockItems false (cell w l leader b)
   cell_items b f g = items_then false (tick (l.most b.start) (distance_between (w.entry b.start + 8) l.check)) (cell_body w l leader b) (tick_items false (l.most b.start) (distance_between (w.entry b.start + 8) l.check)) (body_items b f g)

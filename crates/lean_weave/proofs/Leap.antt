@@ -37,7 +37,7 @@ leaves_target a k x y ea ek low = omega (arith, ea, ek, low)
 module _ (w : World) (leader : ℕ → Bool) (entries : (a : ℕ) → leader a ≡ true → IsEntryOf w a) where
   -- what is asked of a JALR of the input
   pub record Leaping (u s : State) (i : Ins) (a k : ℕ) : Type 0 where
-    pub at : At w u (leave_as (fall_to leader) class.JumpReg i a s.pc) s s
+    pub at : At w u (leave_as [] (fall_to leader) class.JumpReg i a s.pc) s s
     pub sourced : Sourced w s
     pub first : i.rs1 ≤ 13
     pub link : i.rd ≤ 13
@@ -189,13 +189,13 @@ module _ (w : World) (leader : ℕ → Bool) (entries : (a : ℕ) → leader a �
           add_up m c n d h e = omega (arith, h, e)
 
     -- ---- all of it
-    leap_cost : cost (leave_as (fall_to leader) class.JumpReg i a s.pc) ≡ 6 + (cost (guard i.rs1) + (2 + cost (links i s.pc))) + 5
+    leap_cost : cost (leave_as [] (fall_to leader) class.JumpReg i a s.pc) ≡ 6 + (cost (guard i.rs1) + (2 + cost (links i s.pc))) + 5
     leap_cost =
         let e = cost_append (guard i.rs1) (Plain (ins Addi 30 i.rs1 0 i.imm) ∷ Plain (ins Andi 30 30 0 (neg_ℤ (pos 2))) ∷ (links i s.pc ++ look_up)) in
         let f = cost_append (links i s.pc) look_up in
         omega (arith, e, f)
 
-    pub leap_leave : w.source s.pc ≡ Known i → class_of i.kind ≡ class.JumpReg → NotTrapped (step s) → Went w leader u (step s) 1 (cost (leave_as (fall_to leader) class.JumpReg i a s.pc)) k
+    pub leap_leave : w.source s.pc ≡ Known i → class_of i.kind ≡ class.JumpReg → NotTrapped (step s) → Went w leader u (step s) 1 (cost (leave_as [] (fall_to leader) class.JumpReg i a s.pc)) k
     leap_leave h c calm =
         let lp = leap_step w s i x.sourced h c calm in
         let y = aimed lp in

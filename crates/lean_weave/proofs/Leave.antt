@@ -203,8 +203,8 @@ module _ (w : World) where
   -- ---- a jump
   module _ (leader : ℕ → Bool) (entries : (a : ℕ) → leader a ≡ true → IsEntryOf w a) (codes : (a : ℕ) → leader a ≡ true → (i : Ins) × (w.source a ≡ Known i)) (near : w.form.far ≡ false) where
     pub jump_leave :
-        (u s : State) (i : Ins) (a k : ℕ) → At w u (leave_as (fall_to leader) class.Jump i a s.pc) s s → Sourced w s → w.source s.pc ≡ Known i → class_of i.kind ≡ class.Jump → NotTrapped (step s)
-        → i.rd ≤ 13 → Goes w leader (target i s.pc) → a < 2 ^ 64 → leader a ≡ true → reg u 16 ≡ (a + k) % 2 ^ 64 → Went w leader u (step s) 1 (cost (leave_as (fall_to leader) class.Jump i a s.pc)) k
+        (u s : State) (i : Ins) (a k : ℕ) → At w u (leave_as [] (fall_to leader) class.Jump i a s.pc) s s → Sourced w s → w.source s.pc ≡ Known i → class_of i.kind ≡ class.Jump → NotTrapped (step s)
+        → i.rd ≤ 13 → Goes w leader (target i s.pc) → a < 2 ^ 64 → leader a ≡ true → reg u 16 ≡ (a + k) % 2 ^ 64 → Went w leader u (step s) 1 (cost (leave_as [] (fall_to leader) class.Jump i a s.pc)) k
     jump_leave u s i a k at so h c calm hd g low leads sign =
         let j = jump_step w s i so h c calm in
         let t = target i s.pc in
@@ -241,7 +241,7 @@ module _ (w : World) where
 
     -- what is asked of a branch of the input
     pub record Branching (u s : State) (i : Ins) (a k : ℕ) : Type 0 where
-      pub at : At w u (leave_as (fall_to leader) class.Branch i a s.pc) s s
+      pub at : At w u (leave_as [] (fall_to leader) class.Branch i a s.pc) s s
       pub sourced : Sourced w s
       pub branch : class_of i.kind ≡ class.Branch
       pub first : i.rs1 ≤ 13

@@ -11,7 +11,7 @@ use Rattle.qed_model.specs.Machine.Table.{ins}
 use Rattle.qed_model.specs.Weave.Pieces.{is_run}
 use Rattle.qed_model.specs.Machine.Step.{State, reg, Known, run, step}
 use Rattle.qed_model.specs.Promise.Kept.{NotTrapped, LeadsToReached, IsSteady}
-use Rattle.qed_model.specs.Weave.Sequences.{End, Falls, Stops}
+use Rattle.qed_model.specs.Weave.Sequences.{End, Falls, Stops, before_end}
 use Rattle.qed_model.proofs.Walk.{known_at}
 use Rattle.weave_core.specs.World.{World}
 use Rattle.weave_core.specs.Blocks.{IsEntryOf, Leaves, EndStands}
@@ -21,10 +21,10 @@ use Rattle.weave_core.specs.WeaveLaws.{EntryAt, Ends, GoesTo, stops, Onward, lan
 use Rattle.weave_core.proofs.Indirect.{aim, leap_step}
 use Rattle.weave_core.proofs.Leaves.{step-illegal}
 use Rattle.lean_weave.specs.Lean.{leave, leave_as, leave_cost, leave_cost_as, is_ticked_at}
-use Rattle.lean_weave.specs.Woven.{Lean, fall_to, weave_of, LeanIn}
+use Rattle.lean_weave.specs.Woven.{Lean, fall_to, weave_of, LeanIn, swept_steps}
 use Rattle.lean_weave.proofs.Costs.{leave_most}
 use Rattle.lean_weave.proofs.Rows.{enter_law, inside_law, piece_law}
-use Rattle.lean_weave.proofs.End.{end_leave}
+use Rattle.lean_weave.proofs.End.{end_leave, Sweeps}
 use Rattle.lean_weave.proofs.Held.{Ticked, ticked_of, ticked_is}
 use Rattle.lean_weave.proofs.Leap.{leap_leave}
 use Rattle.lean_weave.proofs.Leave.{Went, SignedAs, falls_row, jump_leave, branch_leave}
@@ -35,7 +35,7 @@ module _ (w : World) (l : Lean) (leader : ℕ → Bool) (x : LeanIn w l leader) 
 
   -- where a leave leads, in at most so many steps
   abbrev pub Parts : State → State → ℕ → ℕ → ℕ → Type 0
-  Parts u t least most k = GoesTo w u 1 most (λ n y. Ends w t y) ⊎ Went w leader u t least most k
+  Parts u t least most k = GoesTo w u 1 (most + swept_steps w) (λ n y. Ends w t y × Sweeps w u n) ⊎ Went w leader u t least most k
 
   -- the leave of an instruction in the block that begins at a, which may be left by its address and an offset
   module _ (a off : ℕ) (leads : leader a ≡ true) (few : off < 2 ^ 32) where
@@ -46,7 +46,7 @@ module _ (w : World) (l : Lean) (leader : ℕ → Bool) (x : LeanIn w l leader) 
     low = (entries a leads).low
 
     stop_row :
-        (c : Class) (u s : State) (i : Ins) → class_of i.kind ≡ c → At w u (leave_as (fall_to leader) c i a s.pc) s s → Sourced w s → w.source s.pc ≡ Known i → Leaves c w leader i s.pc
+        (c : Class) (u s : State) (i : Ins) → class_of i.kind ≡ c → At w u (leave_as (before_end w.form) (fall_to leader) c i a s.pc) s s → Sourced w s → w.source s.pc ≡ Known i → Leaves c w leader i s.pc
         → NotTrapped (step s) → LeadsToReached w.reached s → reg u 16 ≡ (a + k) % 2 ^ 64 → Parts u (step s) 1 (leave_cost_as (fall_to leader) c i a s.pc) k
     stop_row class.End u s i c at so h g calm leads sign = inl (end_leave w u s i (fall_to leader) a off at so low few sign h c)
     stop_row class.Illegal u s i c at so h g calm leads sign = absurd (step-illegal s i so.over.going (known_at w.source s i so.over h) c calm)
@@ -60,7 +60,7 @@ module _ (w : World) (l : Lean) (leader : ℕ → Bool) (x : LeanIn w l leader) 
 
     -- of any end
     pub leave_row :
-        (e : End) (u s : State) → At w u (leave (fall_to leader) e a s.pc) s s → Sourced w s → EndStands w leader e s.pc → IsSteady w.reached s (stops e) → reg u 16 ≡ (a + k) % 2 ^ 64
+        (e : End) (u s : State) → At w u (leave (before_end w.form) (fall_to leader) e a s.pc) s s → Sourced w s → EndStands w leader e s.pc → IsSteady w.reached s (stops e) → reg u 16 ≡ (a + k) % 2 ^ 64
         → Parts u (run s (stops e)) (stops e) (leave_cost (fall_to leader) e a s.pc) k
     unfolding run
     leave_row Falls u s at so g st sign = inr (falls_row w leader entries x.codes u s a s.pc k (record { at = at; low = low; sourced = so; here = refl; sign = sign; leads = leads }) g)
@@ -69,18 +69,18 @@ module _ (w : World) (l : Lean) (leader : ℕ → Bool) (x : LeanIn w l leader) 
   -- ---- in the words of the rows
   -- where the block's address and offset are those of the state
   from_parts : (b : ℕ) (u t : State) (least most : ℕ) (k : Ticked l.every w u b) → most ≤ 19 → Parts u t least most (k.offset * 2 ^ 32) → Left w v leader u t least
-  from_parts b u t least most k le (inl g) = inl (record { steps = g.steps; to = g.to; at_least = g.at_least; within = omega (arith, g.within, le); walk = g.walk; is = g.is })
+  from_parts b u t least most k le (inl g) = inl (record { steps = g.steps; to = g.to; at_least = g.at_least; within = omega (arith, g.within, le); walk = g.walk; is = g.is.0 })
   from_parts b u t least most k le (inr g) = inr (record { steps = g.steps; to = g.to; at_least = g.at_least; within = omega (arith, g.within, le); walk = g.walk; is = onward g.is }) where
     onward : Onward w leader (SignedAs u (k.offset * 2 ^ 32)) t g.to → Onward w leader (λ z a. is_ticked_at l.every w z a ≡ true) t g.to
     onward (lands st s so) = lands st (ticked_is l.every w g.to t.pc k.left k.offset (entries t.pc st.leads).low k.some k.most x.few (s.1 ∙ k.fifteen) k.few s.0 k.cursor) so
     onward (is_lost going h so lacks) = is_lost going h so lacks
 
   pub leave_law :
-      (e : End) (b : ℕ) (u s : State) → is_ticked_at l.every w u b ≡ true → ((l.start_of s.pc == b) && leader b) ≡ true → At w u (leave (fall_to leader) e (l.start_of s.pc) s.pc) s s → Sourced w s
+      (e : End) (b : ℕ) (u s : State) → is_ticked_at l.every w u b ≡ true → ((l.start_of s.pc == b) && leader b) ≡ true → At w u (leave (before_end w.form) (fall_to leader) e (l.start_of s.pc) s.pc) s s → Sourced w s
       → EndStands w leader e s.pc → IsSteady w.reached s (stops e) → Left w v leader u (run s (stops e)) (stops e)
   leave_law e b u s held own at so g steady =
       let p = and_parts _ _ own in
-      let at_b : At w u (leave (fall_to leader) e b s.pc) s s = subst (λ a. At w u (leave (fall_to leader) e a s.pc) s s) (eqb-true (l.start_of s.pc) b p.0) at in
+      let at_b : At w u (leave (before_end w.form) (fall_to leader) e b s.pc) s s = subst (λ a. At w u (leave (before_end w.form) (fall_to leader) e a s.pc) s s) (eqb-true (l.start_of s.pc) b p.0) at in
       let low = (entries b p.1).low in
       let k = ticked_of l.every w u b held in
       from_parts b u (run s (stops e)) (stops e) (leave_cost (fall_to leader) e b s.pc) k (leave_most e w leader b s.pc g) (leave_row b k.offset p.1 k.few e u s at_b so g steady k.sign)

@@ -13,6 +13,7 @@ pub mod Rows
 pub mod Left
 pub mod Begin
 pub mod Cells
+pub mod Ending
 pub mod Beats
 pub mod Words
 pub mod Plan

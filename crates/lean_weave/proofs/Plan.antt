@@ -15,7 +15,7 @@ use Rattle.qed_model.specs.Promise.Closed.{is_branch}
 use Rattle.qed_model.specs.Weave.Blocks.{begins_at}
 use Rattle.qed_model.specs.Weave.Code.{pieces_of}
 use Rattle.qed_model.specs.Weave.Placed.{distance_between, sum_of_sizes}
-use Rattle.qed_model.specs.Weave.Sequences.{Reads, End, Falls, Stops, Block, body_length, guards_of}
+use Rattle.qed_model.specs.Weave.Sequences.{Reads, End, Falls, Stops, Block, body_length, before_end, guards_of}
 use Rattle.weave_core.specs.World.{World}
 use Rattle.weave_core.specs.Weave.{Weave}
 use Rattle.weave_core.specs.WeaveLaws.{BlockOf, EntryAt}
@@ -31,7 +31,7 @@ record Marked (rest : List Item) (t : ℕ) : Type 0 where
   more : List Item
   is : rest ≡ Mark t ∷ more
 
-module _ (c : ℕ → Fetched) (en : ℕ → ℕ) (leader : ℕ → Bool) where
+module _ (c : ℕ → Fetched) (en : ℕ → ℕ) (leader : ℕ → Bool) (before : List Item) where
   abbrev R : ℕ → List Item → Type 0
   R p xs = Reads false c en p xs
 
@@ -50,7 +50,7 @@ module _ (c : ℕ → Fetched) (en : ℕ → ℕ) (leader : ℕ → Bool) where
   abbrev front : Ins → ℕ → ℕ → List Item
   front i a at = guards_of i ++ (Plain (ins (opposite i.kind) 0 i.rs1 i.rs2 (pos (4 + sum_of_sizes false (goes a (target i at))))) ∷ (goes a (target i at) ++ turn a ((at + 4) % 2 ^ 64)))
 
-  front_is : (fall : ℕ → List Item) (i : Ins) (a at : ℕ) → leave_as fall class.Branch i a at ≡ front i a at ++ fall ((at + 4) % 2 ^ 64)
+  front_is : (fall : ℕ → List Item) (i : Ins) (a at : ℕ) → leave_as before fall class.Branch i a at ≡ front i a at ++ fall ((at + 4) % 2 ^ 64)
   front_is fall i a at =
       let n = (at + 4) % 2 ^ 64 in
       let b = Plain (ins (opposite i.kind) 0 i.rs1 i.rs2 (pos (4 + sum_of_sizes false (goes a (target i at))))) in
@@ -58,17 +58,17 @@ module _ (c : ℕ → Fetched) (en : ℕ → ℕ) (leader : ℕ → Bool) where
       ap (λ l. guards_of i ++ (b ∷ l)) (sym (append_assoc g (turn a n) (fall n))) ∙ sym (append_assoc (guards_of i) (b ∷ (g ++ turn a n)) (fall n))
 
   swap_as :
-      (k : Class) (i : Ins) (a at p : ℕ) (rest : List Item) → R p (leave_as (fall_words leader) k i a at ++ rest)
-      → ((t : ℕ) → (is_branch k && ((at + 4) % 2 ^ 64 == t)) ≡ true → leader t ≡ true → Marked rest t) → R p (leave_as (fall_to leader) k i a at)
+      (k : Class) (i : Ins) (a at p : ℕ) (rest : List Item) → R p (leave_as before (fall_words leader) k i a at ++ rest)
+      → ((t : ℕ) → (is_branch k && ((at + 4) % 2 ^ 64 == t)) ≡ true → leader t ≡ true → Marked rest t) → R p (leave_as before (fall_to leader) k i a at)
   swap_as class.Branch i a at p rest r m =
       let n = (at + 4) % 2 ^ 64 in
       let x = swap_fall (front i a at) n p rest (subst (λ l. R p (l ++ rest)) (front_is (fall_words leader) i a at) r) (λ e. m n (eq-eqb n n refl) e) in
       subst (λ l. R p l) (sym (front_is (fall_to leader) i a at)) x
-  swap_as k i a at p rest r m = reads_front false c en p (leave_as (fall_to leader) k i a at) rest r
+  swap_as k i a at p rest r m = reads_front false c en p (leave_as before (fall_to leader) k i a at) rest r
 
   swap_leave :
-      (e : End) (a at p : ℕ) (rest : List Item) → R p (leave (fall_words leader) e a at ++ rest) → ((t : ℕ) → goes_on e at t ≡ true → leader t ≡ true → Marked rest t)
-      → R p (leave (fall_to leader) e a at)
+      (e : End) (a at p : ℕ) (rest : List Item) → R p (leave before (fall_words leader) e a at ++ rest) → ((t : ℕ) → goes_on e at t ≡ true → leader t ≡ true → Marked rest t)
+      → R p (leave before (fall_to leader) e a at)
   swap_leave Falls a at p rest r m = swap_fall (turn a at) at p rest r (λ e. m at (eq-eqb at at refl) e)
   swap_leave (Stops i) a at p rest r m = swap_as (class_of i.kind) i a at p rest r m
 
@@ -97,19 +97,19 @@ module _ (w : World) (l : Lean) (leader : ℕ → Bool) where
       let t = tick (l.most b.start) (distance_between (w.entry b.start + 8) l.check) in
       let ps = pieces_of (weave_of w l leader).code b.body b.start in
       let at = b.start + 4 * body_length b.body in
-      let words = leave (fall_words leader) b.end b.start at in
+      let words = leave (before_end w.form) (fall_words leader) b.end b.start at in
       let shape : (t ++ (ps ++ words)) ++ rest ≡ (t ++ ps) ++ (words ++ rest) = ap (λ k. k ++ rest) (sym (append_assoc t ps words)) ∙ append_assoc (t ++ ps) words rest in
       let whole : Reads false w.code w.entry p ((t ++ ps) ++ (words ++ rest)) = subst (λ k. Reads false w.code w.entry p k) shape r.1 in
       let first = reads_front false w.code w.entry p (t ++ ps) (words ++ rest) whole in
       let behind = reads_behind false w.code w.entry p (t ++ ps) (words ++ rest) whole in
-      let left = swap_leave w.code w.entry leader b.end b.start at (p + sum_of_sizes false (t ++ ps)) rest behind next in
+      let left = swap_leave w.code w.entry leader (before_end w.form) b.end b.start at (p + sum_of_sizes false (t ++ ps)) rest behind next in
       let start : b.start ≡ l.start_of at = sym (eqb-true (l.start_of at) b.start (and_parts _ _ good.own).0) in
-      let joined : Reads false w.code w.entry p (t ++ (ps ++ leave (fall_to leader) b.end b.start at)) = subst (λ k. Reads false w.code w.entry p k) (append_assoc t ps (leave (fall_to leader) b.end b.start at)) (reads_join false w.code w.entry p (t ++ ps) (leave (fall_to leader) b.end b.start at) first left) in
-      let read : Reads false w.code w.entry p (t ++ (ps ++ leave (fall_to leader) b.end (l.start_of at) at)) = subst (λ a. Reads false w.code w.entry p (t ++ (ps ++ leave (fall_to leader) b.end a at))) start joined in
+      let joined : Reads false w.code w.entry p (t ++ (ps ++ leave (before_end w.form) (fall_to leader) b.end b.start at)) = subst (λ k. Reads false w.code w.entry p k) (append_assoc t ps (leave (before_end w.form) (fall_to leader) b.end b.start at)) (reads_join false w.code w.entry p (t ++ ps) (leave (before_end w.form) (fall_to leader) b.end b.start at) first left) in
+      let read : Reads false w.code w.entry p (t ++ (ps ++ leave (before_end w.form) (fall_to leader) b.end (l.start_of at) at)) = subst (λ a. Reads false w.code w.entry p (t ++ (ps ++ leave (before_end w.form) (fall_to leader) b.end a at))) start joined in
       record {
         body = b.body;
         end = b.end;
-        reads = (refl, subst (λ f. Reads f w.code w.entry (w.entry b.start) (t ++ (ps ++ leave (fall_to leader) b.end (l.start_of at) at))) (sym near) (subst (λ q. Reads false w.code w.entry q (t ++ (ps ++ leave (fall_to leader) b.end (l.start_of at) at))) (sym r.0) read));
+        reads = (refl, subst (λ f. Reads f w.code w.entry (w.entry b.start) (t ++ (ps ++ leave (before_end w.form) (fall_to leader) b.end (l.start_of at) at))) (sym near) (subst (λ q. Reads false w.code w.entry q (t ++ (ps ++ leave (before_end w.form) (fall_to leader) b.end (l.start_of at) at))) (sym r.0) read));
         good = good;
       }
 

@@ -1,4 +1,4 @@
--- A plan of the lean form keeps the values, its code is calm, and by its trace changes are caught.
+-- A plan of the lean form keeps the values, its code is calm, by its trace changes are caught, and with the sweep none is silent at the end.
 use Rattle.std.proofs.Common.{◌≡◌, ℕ, ◌+◌, ◌*◌, ◌^◌, ◌<◌, ◌≤◌, ⊎_elim, Bool, true, false, List, [], ◌++◌, length, Some, refl, sym, ap, ◌∙◌, subst, arith, append_assoc, length-append}
 use Rattle.rv_isa.specs.declared.ins.Ins.{Ins}
 use Rattle.qed_model.specs.declared.bounds.Bounds.{Bounds}
@@ -7,6 +7,7 @@ use Rattle.qed_model.specs.Admission.DataRanges.{word_count}
 use Rattle.qed_model.specs.Machine.Program.{Program}
 use Rattle.qed_model.specs.Machine.Step.{Known, HasAt}
 use Rattle.qed_model.specs.Promise.Caught.{Caught}
+use Rattle.qed_model.specs.Promise.Clean.{Clean}
 use Rattle.qed_model.specs.Promise.Kept.{Kept}
 use Rattle.qed_model.specs.Weave.Blocks.{begins_at}
 use Rattle.qed_model.specs.Weave.Pieces.{piece_count}
@@ -16,6 +17,7 @@ use Rattle.weave_core.specs.World.{World}
 use Rattle.weave_core.specs.KindItems.{LockItems, AllLand, OpenEntries, AllBlocks}
 use Rattle.weave_core.specs.Kinds.{opens}
 use Rattle.weave_core.specs.Lock.{Opens}
+use Rattle.weave_core.specs.Leaving.{sweep_cost}
 use Rattle.weave_core.specs.WeaveLaws.{EntriesAt}
 use Rattle.weave_core.proofs.Entries.{reads_front}
 use Rattle.weave_core.proofs.KindItems.{instructions_then, reads_words, stub_opens, items_then}
@@ -25,13 +27,14 @@ use Rattle.weave_core.proofs.PlacingForm.{length-instructions}
 use Rattle.weave_core.proofs.Values.{WeaveIn, kept, quiet_at}
 use Rattle.lockstep.proofs.Beating.{round_some}
 use Rattle.lockstep.proofs.Calm.{CalmCode}
+use Rattle.lockstep.proofs.Cleaned.{cleaned}
 use Rattle.lockstep.proofs.Coded.{WordAt, stub_words, reads_rest, word_of, stub_open}
 use Rattle.lockstep.proofs.Promise.{Times, BoundsBy, settles}
 use Rattle.lockstep.proofs.Trace.{Sizes}
 use Rattle.lockstep.proofs.Weaves.{all_blocks}
 use Rattle.lean_weave.specs.Lean.{check, begin}
-use Rattle.lean_weave.specs.Woven.{Lean, LeanPlan, LeanKept, LeanCaught, IsBoundsOf, weave_of, cells, check_steps}
-use Rattle.lean_weave.proofs.Beats.{sizes, traced, Bound}
+use Rattle.lean_weave.specs.Woven.{Lean, LeanPlan, LeanKept, LeanCaught, LeanClean, IsBoundsOf, weave_of, cells, check_steps, swept_steps}
+use Rattle.lean_weave.proofs.Beats.{sizes, traced, Bound, swept_end}
 use Rattle.lean_weave.proofs.Begin.{lean_starts}
 use Rattle.lean_weave.proofs.Cells.{Counts}
 use Rattle.lean_weave.proofs.Lands.{cells_items, cells_open, open_of, cells_land}
@@ -170,10 +173,10 @@ module _ (f g : Program) (w : World) (l : Lean) (blocks : List Block) (p : LeanP
     by : BoundsBy w z w.form.round 34 bounds
     by = record {
       register = let r = are.register in omega (arith, r);
-      word = λ h. are.word h ∙ ap Some (sum ((piece_count w.form.round (word_count w.form.spans) + 1) * (check_steps w + (l.every + 2))));
+      word = λ h. are.word h ∙ ap Some (sum (swept_steps w) ((piece_count w.form.round (word_count w.form.spans) + 1) * (check_steps w + (l.every + 2))));
     } where
-      sum : (n : ℕ) → 67 + n ≡ 34 + 2 + (n + 31)
-      sum n = omega arith
+      sum : (s n : ℕ) → 67 + s + n ≡ 34 + (2 + s) + (n + 31)
+      sum s n = omega arith
 
     pub catches : Caught f g w.reached w.form.spans bounds
     catches = record {
@@ -181,11 +184,21 @@ module _ (f g : Program) (w : World) (l : Lean) (blocks : List Block) (p : LeanP
           settles f g w calm regs start z w.form.round 34 (Bound f g w l leader p.sound p.world entries counts p.begins begins regs start) times (traced f g w l leader p.sound p.world entries counts p.begins begins regs start) bounds by cs b ordered free bound steady;
     }
 
+  -- ---- with the sweep none ends silently
+  pub cleans : w.form.sweep ≡ true → Clean f g w.reached w.form.spans (sweep_cost w.form.spans + 14)
+  cleans sweeps = record {
+    settles = λ regs cs e start ordered free early ended first steady.
+        cleaned f g w calm (sweep_cost w.form.spans) regs start cs e ordered free early ended first steady (λ always going. swept_end f g w l leader p.sound p.world entries counts p.begins begins regs start e always sweeps ended going);
+  }
+
 -- ---- the laws
 pub lean_kept : LeanKept
-lean_kept f g w l blocks p = subst (λ n. Kept f g w.reached 31 n) (sum (check_steps w) l.inst_max) (kept f g w (weave_of w l (begins_at blocks)) (begins_at blocks) (woven f g w l blocks p)) where
+lean_kept f g w l blocks p = subst (λ n. Kept f g w.reached (31 + swept_steps w) n) (sum (check_steps w) l.inst_max) (kept f g w (weave_of w l (begins_at blocks)) (begins_at blocks) (woven f g w l blocks p)) where
   sum : (c m : ℕ) → 5 + c + (5 * m + 19) ≡ 24 + c + 5 * m
   sum c m = omega arith
 
 pub lean_caught : LeanCaught
 lean_caught f g w l blocks bounds p round are = catches f g w l blocks p round bounds are
+
+pub lean_clean : LeanClean
+lean_clean f g w l blocks p sweeps = cleans f g w l blocks p sweeps

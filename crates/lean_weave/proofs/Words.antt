@@ -10,7 +10,7 @@ use Rattle.qed_model.specs.Machine.Table.{ins}
 use Rattle.qed_model.specs.declared.item.Item.{Item}
 use Rattle.qed_model.specs.declared.item.Item.TheVariants.{Plain, Constant, Go}
 use Rattle.qed_model.specs.Weave.Placed.{distance_between, upper_part, lower_part, go_words, go_size, sum_of_sizes, instructions_from}
-use Rattle.qed_model.specs.Weave.Sequences.{End, Falls, Stops, compare, visit, guard, guards_of, links, fired_check, zero_from}
+use Rattle.qed_model.specs.Weave.Sequences.{Form, End, Falls, Stops, compare, visit, guard, guards_of, links, fired_check, zero_from, sweep, before_end}
 use Rattle.weave_core.specs.KindItems.{LockItems, LandItems, LandsAs, Straight, GoodEnd, end_branches, end_jumps, end_jumps_reg, end_ends, end_illegal}
 use Rattle.weave_core.specs.Lock.{Scratch, Opens}
 use Rattle.weave_core.specs.Kinds.{Lockstep}
@@ -18,9 +18,9 @@ use Rattle.qed_model.specs.Promise.Closed.{is_branch}
 use Rattle.qed_model.specs.Machine.Step.{HasAt, imm, target}
 use Rattle.qed_model.specs.Machine.Values.{wrapped}
 use Rattle.weave_core.proofs.KindWords.{brk, guard_if, leave_branch, scratch_compute, scratch_load, scratch_branch, a_jump, a_jump_reg, an_end, an_illegal, a_break, if_guarded}
-use Rattle.weave_core.proofs.KindItems.{instructions_then, items_then, items_none, items_one, items_constant, items_go, one_guard, two_guards, compare_items, visits_items, links_items, zero_items, pair_scratch, takes_use}
+use Rattle.weave_core.proofs.KindItems.{instructions_then, items_then, items_none, items_one, items_constant, items_go, one_guard, two_guards, compare_items, visits_items, sweep_items, links_items, zero_items, pair_scratch, takes_use}
 use Rattle.weave_core.proofs.PlacingForm.{length-instructions}
-use Rattle.weave_core.proofs.Landing.{straight_none, straight_compute, straight_constant, straight_then, straight_lands, straight_compare, straight_guard, straight_both, over_words, straight_links, straight_zeros, straight_one, land_then, land_behind, land_check, land_visits, land_go}
+use Rattle.weave_core.proofs.Landing.{straight_none, straight_compute, straight_constant, straight_then, straight_lands, straight_compare, straight_guard, straight_both, over_words, straight_links, straight_zeros, straight_one, land_then, land_behind, land_check, land_visits, land_sweep, land_go}
 use Rattle.lean_weave.specs.Lean.{tick, is_short, turn_by, turn, look_up, first_word, parted, called, begun, done, check, goes, check_sign, opposite, leave, leave_as, begin}
 use Rattle.lean_weave.proofs.Ways.{opposite_is}
 
@@ -208,25 +208,24 @@ module _ (far : Bool) where
       land_behind far (parted base) (called ++ compares_of first every round spans) (straight_parted base) (land_then far called (compares_of first every round spans) called_lands (compares_items first every round spans) from)
 
   -- ---- leaves
-  sign_items : (a : ℕ) (i : Ins) → class_of i.kind ≡ class.End → LockItems far (check_sign a ++ (Plain i ∷ []))
-  sign_items a i c =
+  sign_items : (a : ℕ) (ys : List Item) → LockItems far ys → LockItems far (check_sign a ++ ys)
+  sign_items a ys y =
       let b = ins Sub 31 16 30 (pos 0) in
       let d = ins Slli 31 31 0 (pos 32) in
       let f = ins Beq 0 31 0 (pos 8) in
-      items_constant far 30 a (Plain b ∷ Plain d ∷ Plain f ∷ fired_check ∷ Plain i ∷ []) (inr (omega arith))
-      (computes b (Plain d ∷ Plain f ∷ fired_check ∷ Plain i ∷ []) refl x16 x30
-      (computes d (Plain f ∷ fired_check ∷ Plain i ∷ []) refl x31 x0 (compares f (Plain i ∷ []) refl x31 x0 refl (items_one far i [] (an_end i c) (items_none far)))))
+      items_constant far 30 a (Plain b ∷ Plain d ∷ Plain f ∷ fired_check ∷ ys) (inr (omega arith))
+      (computes b (Plain d ∷ Plain f ∷ fired_check ∷ ys) refl x16 x30
+      (computes d (Plain f ∷ fired_check ∷ ys) refl x31 x0 (compares f ys refl x31 x0 refl y)))
 
-  sign_lands : (a : ℕ) (i : Ins) → class_of i.kind ≡ class.End → LandItems far (check_sign a ++ (Plain i ∷ []))
-  sign_lands a i c =
+  sign_lands : (a : ℕ) (ys : List Item) → LockItems far ys → LandItems far ys → LandItems far (check_sign a ++ ys)
+  sign_lands a ys y h =
       let front = Constant 30 a ∷ Plain (ins Sub 31 16 30 (pos 0)) ∷ Plain (ins Slli 31 31 0 (pos 32)) ∷ [] in
       let check = Plain (ins Beq 0 31 0 (pos 8)) ∷ fired_check ∷ [] in
-      let last : LockItems far (Plain i ∷ []) = items_one far i [] (an_end i c) (items_none far) in
-      let both : LandItems far (Plain (ins Beq 0 31 0 (pos 8)) ∷ fired_check ∷ Plain i ∷ []) = land_then far (Plain (ins Beq 0 31 0 (pos 8)) ∷ fired_check ∷ []) (Plain i ∷ []) (land_check far (ins Beq 0 31 0 (pos 8)) refl refl) last (straight_lands far (Plain i ∷ []) (straight_one far i class.End [] c (λ c a. tt) (straight_none far))) in
-      land_behind far front (Plain (ins Beq 0 31 0 (pos 8)) ∷ fired_check ∷ Plain i ∷ []) (straight_constant far 30 a (Plain (ins Sub 31 16 30 (pos 0)) ∷ Plain (ins Slli 31 31 0 (pos 32)) ∷ []) (λ c e a. (tt, (tt, tt)))) both
+      let both : LandItems far (Plain (ins Beq 0 31 0 (pos 8)) ∷ fired_check ∷ ys) = land_then far check ys (land_check far (ins Beq 0 31 0 (pos 8)) refl refl) y h in
+      land_behind far front (check ++ ys) (straight_constant far 30 a (Plain (ins Sub 31 16 30 (pos 0)) ∷ Plain (ins Slli 31 31 0 (pos 32)) ∷ []) (λ c e a. (tt, (tt, tt)))) both
 
   -- of a JALR
-  leap_items : (fall : ℕ → List Item) (i : Ins) (a at : ℕ) → i.rd ≤ 13 → i.rs1 ≤ 13 → LockItems far (leave_as fall class.JumpReg i a at)
+  leap_items : (fall : ℕ → List Item) (i : Ins) (a at : ℕ) → i.rd ≤ 13 → i.rs1 ≤ 13 → LockItems far (leave_as [] fall class.JumpReg i a at)
   leap_items fall i a at hd h1 =
       let two = neg_ℤ (pos 2) in
       let use_it = ins Addi 30 i.rs1 0 i.imm in
@@ -242,7 +241,7 @@ module _ (far : Bool) where
       (computes b (Plain d ∷ Constant 30 a ∷ Plain f ∷ tail) refl x16 x0
       (computes d (Constant 30 a ∷ Plain f ∷ tail) refl x16 x0 (items_constant far 30 a (Plain f ∷ tail) (inr (omega arith)) (computes f tail refl x16 x30 both))))
 
-  straight_leap : (fall : ℕ → List Item) (i : Ins) (a at : ℕ) → i.rs1 ≤ 13 → Straight far (leave_as fall class.JumpReg i a at)
+  straight_leap : (fall : ℕ → List Item) (i : Ins) (a at : ℕ) → i.rs1 ≤ 13 → Straight far (leave_as [] fall class.JumpReg i a at)
   straight_leap fall i a at h1 =
       let two = neg_ℤ (pos 2) in
       let aims : List Item = Plain (ins Addi 30 i.rs1 0 i.imm) ∷ Plain (ins Andi 30 30 0 (neg_ℤ (pos 2))) ∷ [] in
@@ -299,7 +298,7 @@ module _ (far : Bool) where
 
   branch_items :
       (fall : ℕ → List Item) (i : Ins) (a at : ℕ) → ((t : ℕ) → LockItems far (fall t)) → class_of i.kind ≡ class.Branch → i.rs1 ≤ 13 → i.rs2 ≤ 13
-      → LockItems far (leave_as fall class.Branch i a at)
+      → LockItems far (leave_as [] fall class.Branch i a at)
   branch_items fall i a at f c h1 h2 =
       let n = (at + 4) % 2 ^ 64 in
       let b = ins (opposite i.kind) 0 i.rs1 i.rs2 (pos (4 + sum_of_sizes false (goes a (target i at)))) in
@@ -332,7 +331,7 @@ skip_lands b a t more k e items lands c en x ys near has o ent =
 
 branch_lands :
     (fall : ℕ → List Item) (i : Ins) (a at : ℕ) → ((t : ℕ) → LockItems false (fall t)) → ((t : ℕ) → LandItems false (fall t)) → class_of i.kind ≡ class.Branch → i.rs1 ≤ 13 → i.rs2 ≤ 13
-    → LandItems false (leave_as fall class.Branch i a at)
+    → LandItems false (leave_as [] fall class.Branch i a at)
 branch_lands fall i a at f g c h1 h2 =
     let n = (at + 4) % 2 ^ 64 in
     let t = target i at in
@@ -341,21 +340,40 @@ branch_lands fall i a at f g c h1 h2 =
     land_behind false (guards_of i) (Plain b ∷ (goes a t ++ more)) (straight_both false i h1 h2) (skip_lands b a t more (opposite_is i.kind c).0 refl (more_items fall a n f) (more_lands fall a n g))
 
 -- ---- any leave
-pub leave_items : (fall : ℕ → List Item) (e : End) (a at : ℕ) → ((t : ℕ) → LockItems false (fall t)) → GoodEnd e → LockItems false (leave fall e a at)
-leave_items fall Falls a at f g = more_items fall a at f
-leave_items fall (Stops i) a at f (end_branches c h1 h2) = rw c (branch_items false fall i a at f c h1 h2)
-leave_items fall (Stops i) a at f (end_jumps c hd) = rw c (items_then false (links i at) (goes a (target i at)) (links_items false i at hd) (goes_items false a (target i at)))
-leave_items fall (Stops i) a at f (end_jumps_reg c hd h1) = rw c (leap_items false fall i a at hd h1)
-leave_items fall (Stops i) a at f (end_ends c) = rw c (items_then false compare (check_sign a ++ (Plain i ∷ [])) (compare_items false) (sign_items false a i c))
-leave_items fall (Stops i) a at f (end_illegal c) = rw c (items_one false i [] (an_illegal i c) (items_none false))
+-- what stands before the end
+before_items : (form : Form) → LockItems false (before_end form)
+before_items form = by form.sweep where
+  by : (b : Bool) → LockItems false (cond b (sweep form.spans ++ compare) [])
+  by true = items_then false (sweep form.spans) compare (sweep_items false form.spans) (compare_items false)
+  by false = items_none false
 
-pub leave_lands : (fall : ℕ → List Item) (e : End) (a at : ℕ) → ((t : ℕ) → LockItems false (fall t)) → ((t : ℕ) → LandItems false (fall t)) → GoodEnd e → LandItems false (leave fall e a at)
-leave_lands fall Falls a at f h g = more_lands fall a at h
-leave_lands fall (Stops i) a at f h (end_branches c h1 h2) = rw c (branch_lands fall i a at f h c h1 h2)
-leave_lands fall (Stops i) a at f h (end_jumps c hd) = rw c (land_behind false (links i at) (goes a (target i at)) (straight_links false i at) (goes_lands false a (target i at)))
-leave_lands fall (Stops i) a at f h (end_jumps_reg c hd h1) = rw c (straight_lands false (leave_as fall class.JumpReg i a at) (straight_leap false fall i a at h1))
-leave_lands fall (Stops i) a at f h (end_ends c) = rw c (land_behind false compare (check_sign a ++ (Plain i ∷ [])) (straight_compare false) (sign_lands false a i c))
-leave_lands fall (Stops i) a at f h (end_illegal c) = rw c (straight_lands false (Plain i ∷ []) (straight_one false i class.Illegal [] c (λ c a. tt) (straight_none false)))
+before_lands : (form : Form) → LandItems false (before_end form)
+before_lands form = by form.sweep where
+  by : (b : Bool) → LandItems false (cond b (sweep form.spans ++ compare) [])
+  by true = land_then false (sweep form.spans) compare (land_sweep false form.spans) (compare_items false) (straight_lands false compare (straight_compare false))
+  by false = straight_lands false [] (straight_none false)
+
+ecall_items : (form : Form) (i : Ins) → class_of i.kind ≡ class.End → LockItems false (before_end form ++ (Plain i ∷ []))
+ecall_items form i c = items_then false (before_end form) (Plain i ∷ []) (before_items form) (items_one false i [] (an_end i c) (items_none false))
+
+ecall_lands : (form : Form) (i : Ins) → class_of i.kind ≡ class.End → LandItems false (before_end form ++ (Plain i ∷ []))
+ecall_lands form i c = land_then false (before_end form) (Plain i ∷ []) (before_lands form) (items_one false i [] (an_end i c) (items_none false)) (straight_lands false (Plain i ∷ []) (straight_one false i class.End [] c (λ c a. tt) (straight_none false)))
+
+pub leave_items : (form : Form) (fall : ℕ → List Item) (e : End) (a at : ℕ) → ((t : ℕ) → LockItems false (fall t)) → GoodEnd e → LockItems false (leave (before_end form) fall e a at)
+leave_items form fall Falls a at f g = more_items fall a at f
+leave_items form fall (Stops i) a at f (end_branches c h1 h2) = rw c (branch_items false fall i a at f c h1 h2)
+leave_items form fall (Stops i) a at f (end_jumps c hd) = rw c (items_then false (links i at) (goes a (target i at)) (links_items false i at hd) (goes_items false a (target i at)))
+leave_items form fall (Stops i) a at f (end_jumps_reg c hd h1) = rw c (leap_items false fall i a at hd h1)
+leave_items form fall (Stops i) a at f (end_ends c) = rw c (items_then false compare (check_sign a ++ (before_end form ++ (Plain i ∷ []))) (compare_items false) (sign_items false a (before_end form ++ (Plain i ∷ [])) (ecall_items form i c)))
+leave_items form fall (Stops i) a at f (end_illegal c) = rw c (items_one false i [] (an_illegal i c) (items_none false))
+
+pub leave_lands : (form : Form) (fall : ℕ → List Item) (e : End) (a at : ℕ) → ((t : ℕ) → LockItems false (fall t)) → ((t : ℕ) → LandItems false (fall t)) → GoodEnd e → LandItems false (leave (before_end form) fall e a at)
+leave_lands form fall Falls a at f h g = more_lands fall a at h
+leave_lands form fall (Stops i) a at f h (end_branches c h1 h2) = rw c (branch_lands fall i a at f h c h1 h2)
+leave_lands form fall (Stops i) a at f h (end_jumps c hd) = rw c (land_behind false (links i at) (goes a (target i at)) (straight_links false i at) (goes_lands false a (target i at)))
+leave_lands form fall (Stops i) a at f h (end_jumps_reg c hd h1) = rw c (straight_lands false (leave_as [] fall class.JumpReg i a at) (straight_leap false fall i a at h1))
+leave_lands form fall (Stops i) a at f h (end_ends c) = rw c (land_behind false compare (check_sign a ++ (before_end form ++ (Plain i ∷ []))) (straight_compare false) (sign_lands false a (before_end form ++ (Plain i ∷ [])) (ecall_items form i c) (ecall_lands form i c)))
+leave_lands form fall (Stops i) a at f h (end_illegal c) = rw c (straight_lands false (Plain i ∷ []) (straight_one false i class.Illegal [] c (λ c a. tt) (straight_none false)))
 
 -- ---- what runs first
 pub begin_items : (d a : ℕ) → LockItems false (begin d a)

@@ -94,22 +94,23 @@ goes a t = turn a t ++ (Go t ∷ [])
 abbrev pub check_sign : ℕ → List Item
 check_sign a = Constant 30 a ∷ Plain (ins Sub 31 16 30 (pos 0)) ∷ Plain (ins Slli 31 31 0 (pos 32)) ∷ Plain (ins Beq 0 31 0 (pos 8)) ∷ fired_check ∷ []
 
--- the leave of an instruction at `at`, in the block that begins at a; `fall` gives what leads to the entry behind the block. An ECALL compares
--- all registers and the signature, a branch goes by guarded originals, and a JALR adds its target by the pair and goes by the guarded original
-abbrev pub leave_as : (ℕ → List Item) → Class → Ins → ℕ → ℕ → List Item
-leave_as fall class.End i a at = compare ++ (check_sign a ++ (Plain i ∷ []))
-leave_as fall class.Jump i a at = links i at ++ goes a (target i at)
-leave_as fall class.Branch i a at =
+-- the leave of an instruction at `at`, in the block that begins at a; `fall` gives what leads to the entry behind the block, and `before` is what stands
+-- before an ECALL, which compares all registers and the signature first. A branch goes by guarded originals, and a JALR adds its target by the pair and goes by the
+-- guarded original
+abbrev pub leave_as : List Item → (ℕ → List Item) → Class → Ins → ℕ → ℕ → List Item
+leave_as before fall class.End i a at = compare ++ (check_sign a ++ (before ++ (Plain i ∷ [])))
+leave_as before fall class.Jump i a at = links i at ++ goes a (target i at)
+leave_as before fall class.Branch i a at =
     guards_of i ++ (Plain (ins (opposite i.kind) 0 i.rs1 i.rs2 (pos (4 + sum_of_sizes false (goes a (target i at))))) ∷ (goes a (target i at) ++ (turn a ((at + 4) % 2 ^ 64) ++ fall ((at + 4) % 2 ^ 64))))
-leave_as fall class.JumpReg i a at =
+leave_as before fall class.JumpReg i a at =
     Plain (ins Add 16 16 (pair i.rs1) (pos 0)) ∷ Plain (ins Addi 16 16 0 i.imm) ∷ Plain (ins Andi 16 16 0 (neg_ℤ (pos 2))) ∷ Constant 30 a ∷ Plain (ins Sub 16 16 30 (pos 0)) ∷
     (guard i.rs1 ++ (Plain (ins Addi 30 i.rs1 0 i.imm) ∷ Plain (ins Andi 30 30 0 (neg_ℤ (pos 2))) ∷ (links i at ++ look_up)))
-leave_as fall _ i a at = Plain i ∷ []
+leave_as before fall _ i a at = Plain i ∷ []
 
 -- of a block that begins at a and has its end at `at`
-abbrev pub leave : (ℕ → List Item) → End → ℕ → ℕ → List Item
-leave fall Falls a at = turn a at ++ fall at
-leave fall (Stops i) a at = leave_as fall (class_of i.kind) i a at
+abbrev pub leave : List Item → (ℕ → List Item) → End → ℕ → ℕ → List Item
+leave before fall Falls a at = turn a at ++ fall at
+leave before fall (Stops i) a at = leave_as before fall (class_of i.kind) i a at
 
 -- ---- what runs first
 -- all originals and pairs are 0, x14 is the distance of the halves, and the test begins at its entry, with the first data word and one step left, so
@@ -130,13 +131,13 @@ cost (Plain i ∷ xs) = cond (is_break i.kind) 0 1 + cost xs
 cost (Constant r v ∷ xs) = 2 + cost xs
 cost (Go t ∷ xs) = 1 + cost xs
 
--- the most steps of a leave; of a branch, the longer of its two ways
+-- the most steps of a leave, but for what stands before an ECALL; of a branch, the longer of its two ways
 abbrev pub leave_cost_as : (ℕ → List Item) → Class → Ins → ℕ → ℕ → ℕ
 leave_cost_as fall class.Branch i a at = cost (guards_of i) + (1 + max (cost (goes a (target i at))) (cost (turn a ((at + 4) % 2 ^ 64) ++ fall ((at + 4) % 2 ^ 64))))
-leave_cost_as fall k i a at = cost (leave_as fall k i a at)
+leave_cost_as fall k i a at = cost (leave_as [] fall k i a at)
 
 abbrev pub leave_cost : (ℕ → List Item) → End → ℕ → ℕ → ℕ
-leave_cost fall Falls a at = cost (leave fall Falls a at)
+leave_cost fall Falls a at = cost (leave [] fall Falls a at)
 leave_cost fall (Stops i) a at = leave_cost_as fall (class_of i.kind) i a at
 
 -- ---- what holds of x15 and x16

@@ -5,10 +5,10 @@ use Rattle.qed_model.specs.declared.item.Item.{Item}
 use Rattle.qed_model.specs.declared.item.Item.TheVariants.{Mark, Go}
 use Rattle.qed_model.specs.Admission.DataRanges.{word_count}
 use Rattle.qed_model.specs.Machine.Step.{Known}
-use Rattle.qed_model.specs.Weave.Bounds.{visit_bound}
+use Rattle.qed_model.specs.Weave.Bounds.{visit_bound, end_bound}
 use Rattle.qed_model.specs.Weave.Pieces.{is_run, piece_count}
 use Rattle.qed_model.specs.Weave.Placed.{distance_between, sum_of_sizes, instructions_from}
-use Rattle.qed_model.specs.Weave.Sequences.{Reads, End, Falls, Stops, Block, body_length, original, mirrored, each_part, stub}
+use Rattle.qed_model.specs.Weave.Sequences.{Reads, End, Falls, Stops, Block, body_length, original, mirrored, each_part, before_end, stub}
 use Rattle.qed_model.specs.Machine.Program.{Program}
 use Rattle.qed_model.specs.Promise.Kept.{Kept}
 use Rattle.weave_core.specs.Describes.{Describes}
@@ -17,9 +17,11 @@ use Rattle.weave_core.specs.WeavePromise.{AllBlocksOf}
 use Rattle.weave_core.specs.Each.{cost_each}
 use Rattle.weave_core.specs.Parts.{original_cost}
 use Rattle.weave_core.specs.Rows.{mirror_steps}
+use Rattle.weave_core.specs.Leaving.{sweep_cost}
 use Rattle.qed_model.specs.Weave.Blocks.{begins_at}
 use Rattle.qed_model.specs.Weave.Code.{pieces_of}
 use Rattle.qed_model.specs.Promise.Caught.{Caught}
+use Rattle.qed_model.specs.Promise.Clean.{Clean}
 use Rattle.qed_model.specs.Promise.Closed.{is_branch}
 use Rattle.qed_model.specs.declared.bounds.Bounds.{Bounds}
 use Rattle.qed_model.specs.Machine.Table.{ins}
@@ -47,6 +49,10 @@ fall_to leader t = cond (leader t) (Mark t ∷ []) (Go t ∷ [])
 abbrev pub check_steps : World → ℕ
 check_steps w = 44 + visit_bound (word_count w.form.spans) (length w.form.spans) * w.form.round
 
+-- what stands before the end besides, with the sweep
+abbrev pub swept_steps : World → ℕ
+swept_steps w = end_bound w.form.sweep (length w.form.spans) (word_count w.form.spans)
+
 -- the weave: an entry is a tick, which may call the check and then is made once more; pieces have nothing behind them
 abbrev pub weave_of : World → Lean → (ℕ → Bool) → Weave
 weave_of w l leader = record {
@@ -54,7 +60,7 @@ weave_of w l leader = record {
     first = begin;
     enter = λ a. tick (l.most a) (distance_between (w.entry a + 8) l.check);
     piece = λ is at. each_part original is at ++ each_part mirrored is at;
-    leave = λ e at. leave (fall_to leader) e (l.start_of at) at;
+    leave = λ e at. leave (before_end w.form) (fall_to leader) e (l.start_of at) at;
   };
   fits = λ is. is_run is && nat_le (length is) l.inst_max;
   first_steps = 31;
@@ -62,9 +68,9 @@ weave_of w l leader = record {
   piece_steps = 5 * l.inst_max;
   compare_steps = 0;
   leave_steps = 19;
-  end_steps = 0;
-  sweeps = false;
-  sweep_steps = 0;
+  end_steps = swept_steps w;
+  sweeps = w.form.sweep;
+  sweep_steps = sweep_cost w.form.spans;
   round = w.form.round;
   ends_at = λ b at. (l.start_of at == b) && leader b;
   held = is_ticked_at l.every;
@@ -100,7 +106,7 @@ fall_words leader t = cond (leader t) [] (Go t ∷ [])
 
 -- a block, behind its mark
 abbrev pub cell_body : World → Lean → (ℕ → Bool) → Block → List Item
-cell_body w l leader b = pieces_of (weave_of w l leader).code b.body b.start ++ leave (fall_words leader) b.end b.start (b.start + 4 * body_length b.body)
+cell_body w l leader b = pieces_of (weave_of w l leader).code b.body b.start ++ leave (before_end w.form) (fall_words leader) b.end b.start (b.start + 4 * body_length b.body)
 
 abbrev pub cell : World → Lean → (ℕ → Bool) → Block → List Item
 cell w l leader b = Mark b.start ∷ (tick (l.most b.start) (distance_between (w.entry b.start + 8) l.check) ++ cell_body w l leader b)
@@ -146,14 +152,20 @@ pub record LeanPlan (f g : Program) (w : World) (l : Lean) (blocks : List Block)
 -- ---- the laws
 -- a plan keeps the values
 abbrev pub LeanKept : Type 0
-LeanKept = (f g : Program) (w : World) (l : Lean) (blocks : List Block) → LeanPlan f g w l blocks → Kept f g w.reached 31 (24 + check_steps w + 5 * l.inst_max)
+LeanKept = (f g : Program) (w : World) (l : Lean) (blocks : List Block) → LeanPlan f g w l blocks → Kept f g w.reached (31 + swept_steps w) (24 + check_steps w + 5 * l.inst_max)
 
--- a changed register: what runs first, a period from check to check, the comparison, and the end; a changed data word: as many periods more as there are
--- rounds
+-- a changed register: what runs first, a period from check to check, the comparison, and the end with its sweep; a changed data word: as many periods
+-- more as there are rounds
 pub record IsBoundsOf (w : World) (l : Lean) (bounds : Bounds) : Type 0 where
-  pub register : bounds.register ≡ 67 + (check_steps w + (l.every + 2))
-  pub word : 1 ≤ word_count w.form.spans → bounds.word ≡ Some (67 + (piece_count w.form.round (word_count w.form.spans) + 1) * (check_steps w + (l.every + 2)))
+  pub register : bounds.register ≡ 67 + swept_steps w + (check_steps w + (l.every + 2))
+  pub word : 1 ≤ word_count w.form.spans → bounds.word ≡ Some (67 + swept_steps w + (piece_count w.form.round (word_count w.form.spans) + 1) * (check_steps w + (l.every + 2)))
 
 -- in a plan changes are caught
 abbrev pub LeanCaught : Type 0
 LeanCaught = (f g : Program) (w : World) (l : Lean) (blocks : List Block) (bounds : Bounds) → LeanPlan f g w l blocks → 1 ≤ w.form.round → IsBoundsOf w l bounds → Caught f g w.reached w.form.spans bounds
+
+-- and with the sweep no change before it is silent at the end
+abbrev pub LeanClean : Type 0
+LeanClean =
+    (f g : Program) (w : World) (l : Lean) (blocks : List Block) → LeanPlan f g w l blocks → w.form.sweep ≡ true
+    → Clean f g w.reached w.form.spans (sweep_cost w.form.spans + 14)

@@ -3,7 +3,7 @@
 //! Definitions and laws alone. No program weaves it yet.
 #![tactic(auto)]
 
-ghost use Rattle.lean_weave.specs.Woven.{LeanKept, LeanCaught};
+ghost use Rattle.lean_weave.specs.Woven.{LeanKept, LeanCaught, LeanClean};
 
 /// A plan of the form keeps the input's values, with a bound on the steps of the output for each step of the input, and no check
 /// fires without changes.
@@ -14,4 +14,9 @@ pub fn lean_kept()
 /// In a plan of the form changes of original registers and data words at open places are caught within the bounds.
 pub fn lean_caught()
     ensures { LeanCaught }
+{}
+
+/// In a plan of the form with the sweep no change before it is silent at the end.
+pub fn lean_clean()
+    ensures { LeanClean }
 {}

@@ -1,0 +1,95 @@
+-- From boundary to boundary to the end of a test, and the sweep before it.
+use Rattle.std.proofs.Common.{◌≡◌, ℕ, zero, suc, ◌+◌, ◌-◌, ◌<◌, ◌≤◌, ◌⊎◌, ⊎_elim, List, sym, ap, ◌∙◌, subst, arith}
+use Rattle.std.specs.Prelude.{pos}
+use Rattle.std.proofs.lemmas.Bool.{cases_lt}
+use Rattle.qed_model.specs.declared.machine.Outcome.TheVariants.{Going, Ended}
+use Rattle.qed_model.specs.Machine.Program.{Program, start}
+use Rattle.qed_model.specs.Machine.Step.{State, reg, run}
+use Rattle.qed_model.specs.Promise.Kept.{after_output}
+use Rattle.qed_model.proofs.Walk.{run-more}
+use Rattle.weave_core.specs.World.{World}
+use Rattle.weave_core.specs.Kinds.{thirteen}
+use Rattle.weave_core.specs.Lock.{ComparesFrom}
+use Rattle.weave_core.specs.WeaveLaws.{Swept}
+use Rattle.weave_core.proofs.Trace.{run-ended}
+use Rattle.weave_core.proofs.Values.{going_ended}
+use Rattle.lockstep.proofs.Beating.{place_is}
+use Rattle.lockstep.proofs.Sets.{word_below}
+use Rattle.lockstep.proofs.Trace.{SweptEnd}
+
+-- ---- the boundary before the end
+-- from a boundary to the next
+pub record Nearer (Boundary : ℕ → Type 0) (p : ℕ) : Type 0 where
+  pub steps : ℕ
+  pub some : 1 ≤ steps
+  pub next : Boundary (p + steps)
+
+-- or to the end
+pub record Closing (s : State) (Last : ℕ → ℕ → Type 0) (p : ℕ) : Type 0 where
+  pub steps : ℕ
+  pub going : (k : ℕ) → k < steps → (run s (p + k)).outcome ≡ Going
+  pub ended : (run s (p + steps)).outcome ≡ Ended
+  pub last : Last p steps
+
+-- the last one
+pub record Reached (Last : ℕ → ℕ → Type 0) (e : ℕ) : Type 0 where
+  pub from : ℕ
+  pub steps : ℕ
+  pub last : Last from steps
+  pub is : from + steps ≡ e
+
+module _ (s : State) (e : ℕ) (end : (run s e).outcome ≡ Ended) (before : (k : ℕ) → k < e → (run s k).outcome ≡ Going) where
+  -- what has ended stays
+  stays : (p : ℕ) → e ≤ p → (run s p).outcome ≡ Ended
+  stays p l = let sum : e + (p - e) ≡ p = omega (arith, l) in ap (λ x. x.outcome) (ap (run s) (sym sum) ∙ run-more s e (p - e) ∙ run-ended (p - e) (run s e) end) ∙ end
+
+  pub to_end :
+      (Boundary : ℕ → Type 0) (Last : ℕ → ℕ → Type 0) → ((p : ℕ) → Boundary p → (run s p).outcome ≡ Going)
+      → ((p : ℕ) → Boundary p → Nearer Boundary p ⊎ Closing s Last p) → (fuel p : ℕ) → e ≤ p + fuel → Boundary p → Reached Last e
+  to_end Boundary Last going on zero p l b = absurd (going_ended (run s p).outcome (going p b) (stays p (omega (arith, l))))
+  to_end Boundary Last going on (suc fuel) p l b =
+      ⊎_elim
+      (λ n. to_end Boundary Last going on fuel (p + n.steps) (omega (arith, l, n.some)) n.next)
+      (λ c.
+      ⊎_elim
+      (λ lt. absurd (going_ended (run s (p + c.steps)).outcome (before (p + c.steps) lt) c.ended))
+      (λ ge. record { from = p; steps = c.steps; last = c.last; is = same c ge })
+      (cases_lt (p + c.steps) e))
+      (on p b) where
+        inside : (c : Closing s Last p) → e < p + c.steps → ⊥
+        inside c lt =
+            ⊎_elim
+            (λ low. going_ended (run s p).outcome (going p b) (stays p (omega (arith, low))))
+            (λ high. let sum : p + (e - p) ≡ e = omega (arith, high) in going_ended (run s e).outcome (ap (λ k. (run s k).outcome) (sym sum) ∙ c.going (e - p) (omega (arith, high, lt))) end)
+            (cases_lt e p)
+
+        same : (c : Closing s Last p) → e ≤ p + c.steps → p + c.steps ≡ e
+        same c ge = ⊎_elim (λ lt. absurd (inside c lt)) (λ g. omega (arith, g, ge)) (cases_lt e (p + c.steps))
+
+-- ---- the sweep
+module _ (g : Program) (w : World) (regs : List ℕ) where
+  -- from where it begins
+  pub swept_is :
+      (first p n e : ℕ) → Swept w first (after_output g regs p) n → p + n ≡ e → ((k : ℕ) → k < e → (after_output g regs k).outcome ≡ Going) → SweptEnd w g regs first e
+  swept_is first p n e c is before = record {
+    start = p;
+    exact = ap (λ n. p + n) (sym c.exact) ∙ is;
+    visits = λ a h.
+        let y = c.visits a h in
+        let there : after_output g regs (p + y.at) ≡ run (after_output g regs p) y.at = run-more (start g regs) p y.at in
+        let low = word_below w.form.spans a (w.base + w.distance) w.spans_low h in
+        record {
+          at = p + y.at;
+          late = omega arith;
+          early = omega (arith, y.before);
+          visit = record {
+            going = before (p + y.at) (omega (arith, y.before, c.exact, is));
+            base = 15;
+            high = omega arith;
+            offset = pos 0;
+            first = ap (λ s. w.code s.pc) there ∙ y.first;
+            cursor = place_is (after_output g regs (p + y.at)) a (ap (λ s. reg s 15) there ∙ y.cursor) (omega (arith, low, w.layout.top));
+          };
+        };
+    words = subst (λ y. ComparesFrom w.code y.pc thirteen) (sym (run-more (start g regs) p first)) c.compares;
+  }
