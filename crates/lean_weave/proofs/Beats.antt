@@ -21,7 +21,7 @@ use Rattle.weave_core.specs.WeaveLaws.{EntriesAt, Swept}
 use Rattle.weave_core.proofs.Entries.{first_sourced}
 use Rattle.weave_core.proofs.Source.{steady_le, steady_rest}
 use Rattle.weave_core.proofs.Visit.{words_within}
-use Rattle.lockstep.proofs.Beating.{round_of, round_some, round_none, place_is, some_spans, at_word}
+use Rattle.lockstep.proofs.Beating.{round_of, round_some, round_none, some_spans, at_word}
 use Rattle.lockstep.proofs.Numbered.{nth_word, nth_low, number_of, words_are, advance_below}
 use Rattle.lockstep.proofs.Trace.{advance, Sizes, VisitIn, NextSteps, PieceSteps, EndsSoon, Trace, SweptEnd}
 use Rattle.lean_weave.specs.Lean.{first_word, begin}
@@ -30,7 +30,7 @@ use Rattle.lean_weave.proofs.Begin.{begin_law, first_is}
 use Rattle.lean_weave.proofs.Cells.{Counts, Called, Finished, Begins, called, to_check}
 use Rattle.lean_weave.proofs.Check.{Back}
 use Rattle.lean_weave.proofs.End.{Sweeps, swept_on}
-use Rattle.lean_weave.proofs.Ending.{Closing, Reached, to_end, swept_is}
+use Rattle.lockstep.proofs.Ending.{Closing, Reached, place_is, to_end, swept_is}
 use Rattle.lean_weave.proofs.Left.{lean_rows}
 use Rattle.lean_weave.proofs.Rows.{AtCheck, checks}
 

@@ -13,7 +13,6 @@ pub mod Rows
 pub mod Left
 pub mod Begin
 pub mod Cells
-pub mod Ending
 pub mod Beats
 pub mod Words
 pub mod Plan

@@ -1,21 +1,24 @@
 -- From boundary to boundary to the end of a test, and the sweep before it.
-use Rattle.std.proofs.Common.{◌≡◌, ℕ, zero, suc, ◌+◌, ◌-◌, ◌<◌, ◌≤◌, ◌⊎◌, ⊎_elim, List, sym, ap, ◌∙◌, subst, arith}
+use Rattle.std.proofs.Common.{◌≡◌, ℕ, zero, suc, ◌+◌, ◌-◌, ◌%◌, ◌^◌, ◌<◌, ◌≤◌, ◌⊎◌, ⊎_elim, List, sym, ap, ◌∙◌, subst, arith}
 use Rattle.std.specs.Prelude.{pos}
 use Rattle.std.proofs.lemmas.Bool.{cases_lt}
 use Rattle.qed_model.specs.declared.machine.Outcome.TheVariants.{Going, Ended}
 use Rattle.qed_model.specs.Machine.Program.{Program, start}
-use Rattle.qed_model.specs.Machine.Step.{State, reg, run}
+use Rattle.qed_model.specs.Machine.Step.{State, reg, place, run}
 use Rattle.qed_model.specs.Promise.Kept.{after_output}
 use Rattle.qed_model.proofs.Walk.{run-more}
 use Rattle.weave_core.specs.World.{World}
 use Rattle.weave_core.specs.Kinds.{thirteen}
-use Rattle.weave_core.specs.Lock.{ComparesFrom}
+use Rattle.weave_core.specs.Lock.{first_load, ComparesFrom}
 use Rattle.weave_core.specs.WeaveLaws.{Swept}
 use Rattle.weave_core.proofs.Trace.{run-ended}
 use Rattle.weave_core.proofs.Values.{going_ended}
-use Rattle.lockstep.proofs.Beating.{place_is}
 use Rattle.lockstep.proofs.Sets.{word_below}
 use Rattle.lockstep.proofs.Trace.{SweptEnd}
+
+-- the place of the first load is the cursor
+pub place_is : (u : State) (x : ℕ) → reg u 15 ≡ x → x < 2 ^ 64 → place first_load u ≡ x
+place_is u x e h = ap (λ y. (y + 0) % 2 ^ 64) e ∙ omega (arith, h)
 
 -- ---- the boundary before the end
 -- from a boundary to the next
