@@ -1,7 +1,7 @@
 #!/usr/bin/env python3
 """Weaves the lean form of the new code, which the program does not have yet, so that its cost can be measured.
 
-    scripts/lean_form.py IN OUT [--every N] [--round G] [--inst-max M]
+    scripts/lean_form.py IN OUT [--every N] [--round G] [--inst-max M] [--sweep]
 
 Stands on the reference program's reader, admission, pieces and output file. The form is that of crates/lean_weave: a *cell* is a block
 of at most so many instructions, a tick before its pieces, which have nothing behind them, and its leave. The tick counts the steps of
@@ -22,13 +22,13 @@ from assembler import words_of                                                  
 from elf import read_elf                                                              # noqa: E402
 from isa import Instruction, encode                                                   # noqa: E402
 from machine import WORD                                                              # noqa: E402
-from weave import Const, Go, compare, const_words, guard, items_of, mirror_part, original_part, pair, visit  # noqa: E402
+from weave import Const, Go, compare, const_words, guard, items_of, mirror_part, original_part, pair, sweep, visit  # noqa: E402
 
 OPPOSITE = {"beq": "bne", "bne": "beq", "blt": "bge", "bge": "blt", "bltu": "bgeu", "bgeu": "bltu"}
 EBREAK = encode(isa.EBREAK)
 LOOK_UP = [*words_of("add x31, x30, x14; add x31, x31, x14; lw x30, 0(x31); add x30, x30, x31; jalr x0, 0(x30)")]
 
-Parameters = namedtuple("Parameters", "every round inst_max")
+Parameters = namedtuple("Parameters", "every round inst_max sweep")
 Cell = namedtuple("Cell", "start body end")    # the first input address, the instructions before the end, the end or None
 Done = namedtuple("Done", "test words entries bounds pieces")
 Call = namedtuple("Call", "rd", defaults=(31,))  # a jump to the check
@@ -109,7 +109,10 @@ class Weave:
         elif end.name == "zero":
             items = [0]
         elif end.name == "ecall":
-            items = items_of(compare(())) + [Const(30, a), *words_of("sub x31, x16, x30; slli x31, x31, 32; beq x31, x0, 8; ebreak; ecall")]
+            signed = [Const(30, a), *words_of("sub x31, x16, x30; slli x31, x31, 32; beq x31, x0, 8; ebreak")]
+            swept = sweep(self.test.data) + items_of(compare(())) if self.p.sweep else []
+            items = items_of(compare(())) + signed + swept + [*words_of("ecall")]
+            return items, cost(items) - cost(swept)
         else:
             link = [Const(end.rd, at + 4 & WORD), Const(pair(end.rd), at + 4 & WORD)] if end.rd else []
             target, after = at + end.imm & WORD, at + 4 & WORD
@@ -178,8 +181,9 @@ class Weave:
     def bounds(self):
         """The bounds of crates/lean_weave."""
         ranges, words = len(self.test.data), self.test.data_words
+        swept = 2 * ranges + 8 * words + 14 if self.p.sweep else 0
         period = 44 + (7 + 3 * ranges if words else 10) * self.p.round + self.p.every + 2
-        return {"register": 67 + period, "word": 67 + (-(-words // self.p.round) + 1) * period if words else None}
+        return {"register": 67 + swept + period, "word": 67 + swept + (-(-words // self.p.round) + 1) * period if words else None}
 
 
 def output_of(done):
@@ -202,10 +206,11 @@ def main():
     parser.add_argument("output")
     for name, value in (("every", 1200), ("round", 4), ("inst-max", 64)):
         parser.add_argument(f"--{name}", type=int, default=value)
+    parser.add_argument("--sweep", action="store_true")
     given = parser.parse_args()
     with open(given.input, "rb") as file:
         test = admit(read_elf(file.read()), Options(entries="reached"))
-    done = Weave(test, Parameters(given.every, given.round, given.inst_max)).woven()
+    done = Weave(test, Parameters(given.every, given.round, given.inst_max, given.sweep)).woven()
     with open(given.output, "wb") as file:
         file.write(output_of(done))
     print(line_of(done))
