@@ -33,7 +33,7 @@ use Rattle.lean_weave.proofs.Tick.{counter}
 pub record Counts (w : World) (l : Lean) (leader : ℕ → Bool) : Type 0 where
   pub each :
       (b : Block) → BlockOf w (weave_of w l leader) leader b
-      → 2 + (body_steps b.body + leave_cost (fall_to leader) b.end b.start (b.start + 4 * body_length b.body)) ≤ l.most b.start
+      → 2 + (body_steps l.diverse b.body + leave_cost (fall_to leader) b.end b.start (b.start + 4 * body_length b.body)) ≤ l.most b.start
 
 module _ (w : World) (l : Lean) (leader : ℕ → Bool) (x : LeanIn w l leader) (block : (a : ℕ) → leader a ≡ true → IsEntryOf w a) where
   abbrev v : Weave
@@ -83,7 +83,7 @@ module _ (w : World) (l : Lean) (leader : ℕ → Bool) (x : LeanIn w l leader) 
   module _ (b off : ℕ) (leads : leader b ≡ true) (few : off < 2 ^ 32) where
     -- the steps from before some pieces
     abbrev rest_steps : List (List Ins) → End → ℕ → ℕ
-    rest_steps ps e at = body_steps ps + leave_cost (fall_to leader) e b (at + 4 * body_length ps)
+    rest_steps ps e at = body_steps l.diverse ps + leave_cost (fall_to leader) e b (at + 4 * body_length ps)
 
     -- the leave
     leave_through :
@@ -123,15 +123,15 @@ module _ (w : World) (l : Lean) (leader : ℕ → Bool) (x : LeanIn w l leader) 
         let rest = body_of v.code ps e (s.pc + 4 * length p) in
         let a1 : At w u (v.code.piece p s.pc ++ (pieces_of v.code ps (s.pc + 4 * length p) ++ v.code.leave e (s.pc + 4 * body_length (p ∷ ps)))) s s = subst (λ l. At w u l s s) (append_assoc (v.code.piece p s.pc) (pieces_of v.code ps (s.pc + 4 * length p)) (v.code.leave e (s.pc + 4 * body_length (p ∷ ps)))) at in
         let a2 : At w u (v.code.piece p s.pc ++ rest) s s = subst (λ k. At w u (v.code.piece p s.pc ++ (pieces_of v.code ps (s.pc + 4 * length p) ++ v.code.leave e k)) s s) far a1 in
-        let r = piece_row w p s q.0.fit (and_parts _ _ q.0.one).0 q.0.has so calm u rest a2 in
+        let r = piece_row l.diverse w p s q.0.fit (and_parts _ _ q.0.one).0 q.0.has so calm u rest a2 in
         let next_pc : s.pc + 4 * body_length (p ∷ ps) ≡ t.pc + 4 * body_length ps = far ∙ ap (λ k. k + 4 * body_length ps) (sym there) in
         let count : length p + (body_length ps + 2) ≡ body_length (p ∷ ps) + 2 = omega arith in
         let more = through ps e r.to t (subst (λ k. At w r.to (body_of v.code ps e k) t t) (sym there) r.at) y.sourced (subst (λ k. PiecesAt w v leader ps e k) (sym there) q.1) (ap l.start_of (sym next_pc) ∙ own) (r.sign ∙ sign) (steady_rest w.reached s k (body_length ps + 2) (subst (IsSteady w.reached s) (sym count) steady)) in
-        let sum : piece_steps p + rest_steps ps e t.pc ≡ rest_steps (p ∷ ps) e s.pc = sums (piece_steps p) (body_steps ps) (leave_cost (fall_to leader) e b (t.pc + 4 * body_length ps)) ∙ ap (λ k. piece_steps p + body_steps ps + leave_cost (fall_to leader) e b k) (sym next_pc) in
+        let sum : piece_steps l.diverse p + rest_steps ps e t.pc ≡ rest_steps (p ∷ ps) e s.pc = sums (piece_steps l.diverse p) (body_steps l.diverse ps) (leave_cost (fall_to leader) e b (t.pc + 4 * body_length ps)) ∙ ap (λ k. piece_steps l.diverse p + body_steps l.diverse ps + leave_cost (fall_to leader) e b k) (sym next_pc) in
         subst (λ n. Next u s off n ⊎ Finished u n) sum
         (⊎_elim
-        (λ n. inl (next_on u r.to s off r.steps k (rest_steps ps e t.pc) (piece_steps p + rest_steps ps e t.pc) r.walk r.at_least (both r.steps (piece_steps p) (rest_steps ps e t.pc) r.within) r.counter n))
-        (λ f. inr (finished_on u r.to r.steps (rest_steps ps e t.pc) (piece_steps p + rest_steps ps e t.pc) r.walk (both r.steps (piece_steps p) (rest_steps ps e t.pc) r.within) f))
+        (λ n. inl (next_on u r.to s off r.steps k (rest_steps ps e t.pc) (piece_steps l.diverse p + rest_steps ps e t.pc) r.walk r.at_least (both r.steps (piece_steps l.diverse p) (rest_steps ps e t.pc) r.within) r.counter n))
+        (λ f. inr (finished_on u r.to r.steps (rest_steps ps e t.pc) (piece_steps l.diverse p + rest_steps ps e t.pc) r.walk (both r.steps (piece_steps l.diverse p) (rest_steps ps e t.pc) r.within) f))
         more) where
           sums : (a b c : ℕ) → a + (b + c) ≡ a + b + c
           sums a b c = omega arith
@@ -184,7 +184,7 @@ module _ (w : World) (l : Lean) (leader : ℕ → Bool) (x : LeanIn w l leader) 
       bare_some true = omega arith
       bare_some false = omega arith
 
-    body_le : (ps : List (List Ins)) → body_length ps ≤ body_steps ps
+    body_le : (ps : List (List Ins)) → body_length ps ≤ body_steps l.diverse ps
     body_le [] = omega arith
     body_le (p ∷ ps) = let a = pieces_le p in let b = body_le ps in omega (arith, a, b)
 
@@ -216,7 +216,7 @@ module _ (w : World) (l : Lean) (leader : ℕ → Bool) (x : LeanIn w l leader) 
           let few = body_le e.body in
           let own = eqb-true (l.start_of (s.pc + 4 * body_length e.body)) s.pc (and_parts _ _ e.good.own).0 in
           let walk : Walk (Quiet w) u 2 g.to = subst (λ k. Walk (Quiet w) u k g.to) (two g.steps g.at_least g.within) g.walk in
-          let t = through s.pc off b.stands.leads b.few e.body e.end g.to s g.is.0.0 b.sourced e.good.pieces own (g.is.2 ∙ b.sign) (steady_le w.reached s (body_length e.body + 2) (left + 3) (enough (body_length e.body) (body_steps e.body) (leave_cost (fall_to leader) e.end s.pc (s.pc + 4 * body_length e.body)) (l.most s.pc) left few c lt) steady) in
+          let t = through s.pc off b.stands.leads b.few e.body e.end g.to s g.is.0.0 b.sourced e.good.pieces own (g.is.2 ∙ b.sign) (steady_le w.reached s (body_length e.body + 2) (left + 3) (enough (body_length e.body) (body_steps l.diverse e.body) (leave_cost (fall_to leader) e.end s.pc (s.pc + 4 * body_length e.body)) (l.most s.pc) left few c lt) steady) in
           (g.to, walk, g.is.1, n, c, t) where
             two : (n : ℕ) → 2 ≤ n → n ≤ 2 → n ≡ 2
             two n h k = omega (arith, h, k)

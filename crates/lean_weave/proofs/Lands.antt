@@ -12,7 +12,7 @@ use Rattle.qed_model.specs.Machine.Values.{wrapped}
 use Rattle.qed_model.specs.Weave.Blocks.{begins_at}
 use Rattle.qed_model.specs.Weave.Code.{pieces_of}
 use Rattle.qed_model.specs.Weave.Placed.{distance_between, instructions_from}
-use Rattle.qed_model.specs.Weave.Sequences.{Reads, Block, body_length, guards, original, mirrored, each_part, before_end, stub}
+use Rattle.qed_model.specs.Weave.Sequences.{Reads, Block, body_length, guards, original, each_part, before_end, stub}
 use Rattle.qed_model.proofs.Wrapped.{difference}
 use Rattle.weave_core.specs.World.{World}
 use Rattle.weave_core.specs.Blocks.{FitsPiece, AllFit}
@@ -26,7 +26,8 @@ use Rattle.weave_core.proofs.Landing.{all_land_append, has_rest, over_words, str
 use Rattle.weave_core.specs.Parts.{used, bare}
 use Rattle.weave_core.proofs.PartLaws.{straight_bare}
 use Rattle.weave_core.proofs.PieceLaws.{guarded_original, used_low}
-use Rattle.weave_core.proofs.ScratchParts.{plain_mirrors_fit}
+use Rattle.qed_model.specs.Weave.Woven.{mirror_of}
+use Rattle.weave_core.proofs.FormMirrors.{mirrors_fit_of}
 use Rattle.lockstep.proofs.Coded.{stub_words, reads_rest}
 use Rattle.lean_weave.specs.Lean.{tick, leave}
 use Rattle.lean_weave.specs.Woven.{Lean, weave_of, fall_words, cell, cell_body, cells}
@@ -61,15 +62,15 @@ module _ (w : World) (l : Lean) (leader : ℕ → Bool) where
   pieces_items : (ps : List (List Ins)) (at : ℕ) → AllPieces ps → LockItems false (pieces_of (weave_of w l leader).code ps at)
   pieces_items [] at f = items_none false
   pieces_items (p ∷ ps) at f =
-      items_then false (each_part original p at ++ each_part mirrored p at) (pieces_of (weave_of w l leader).code ps (at + 4 * length p))
-      (items_then false (each_part original p at) (each_part mirrored p at) (each_items original (λ i at h. original_items false i at h) p at f.0) (each_items mirrored (λ i at h. (plain_mirrors_fit false).fit i at h) p at f.0))
+      items_then false (each_part original p at ++ each_part (mirror_of l.diverse) p at) (pieces_of (weave_of w l leader).code ps (at + 4 * length p))
+      (items_then false (each_part original p at) (each_part (mirror_of l.diverse) p at) (each_items original (λ i at h. original_items false i at h) p at f.0) (each_items (mirror_of l.diverse) (λ i at h. (mirrors_fit_of l.diverse false).fit i at h) p at f.0))
       (pieces_items ps (at + 4 * length p) f.1)
 
   straight_pieces : (ps : List (List Ins)) (at : ℕ) → AllPieces ps → Straight false (pieces_of (weave_of w l leader).code ps at)
   straight_pieces [] at f = straight_none false
   straight_pieces (p ∷ ps) at f =
-      straight_then false (each_part original p at ++ each_part mirrored p at) (pieces_of (weave_of w l leader).code ps (at + 4 * length p))
-      (straight_then false (each_part original p at) (each_part mirrored p at) (straight_each original straight_original p at f.0) (straight_each mirrored (λ i at h. (plain_mirrors_fit false).straight i at h) p at f.0))
+      straight_then false (each_part original p at ++ each_part (mirror_of l.diverse) p at) (pieces_of (weave_of w l leader).code ps (at + 4 * length p))
+      (straight_then false (each_part original p at) (each_part (mirror_of l.diverse) p at) (straight_each original straight_original p at f.0) (straight_each (mirror_of l.diverse) (λ i at h. (mirrors_fit_of l.diverse false).straight i at h) p at f.0))
       (straight_pieces ps (at + 4 * length p) f.1)
 
   -- ---- blocks

@@ -1,5 +1,5 @@
 -- Each leave meets the law of the rows.
-use Rattle.std.proofs.Common.{◌≡◌, ℕ, ◌+◌, ◌*◌, ◌%◌, ◌^◌, ◌<◌, ◌≤◌, ◌⊎◌, inl, inr, Bool, true, List, length, refl, sym, ap, ◌∙◌, subst, arith}
+use Rattle.std.proofs.Common.{◌≡◌, ℕ, ◌+◌, ◌*◌, ◌%◌, ◌^◌, ◌<◌, ◌≤◌, ◌⊎◌, inl, inr, Bool, true, false, List, length, refl, sym, ap, ◌∙◌, subst, arith}
 use Rattle.std.specs.Prelude.{◌==◌, ◌&&◌, nat_le, pos}
 use Rattle.std.proofs.lemmas.Bool.{and_parts, eqb-true, leb-true}
 use Rattle.rv_isa.specs.declared.ins.Ins.{Ins}
@@ -8,6 +8,7 @@ use Rattle.rv_isa.specs.declared.class.Class.TheVariants as class
 use Rattle.rv_isa.specs.Kind.{class_of}
 use Rattle.rv_isa.specs.declared.kind.Kind.TheVariants.{Addi}
 use Rattle.qed_model.specs.Machine.Table.{ins}
+use Rattle.qed_model.specs.Weave.Bounds.{cost_of}
 use Rattle.qed_model.specs.Weave.Pieces.{is_run}
 use Rattle.qed_model.specs.Machine.Step.{State, reg, Known, run, step}
 use Rattle.qed_model.specs.Promise.Kept.{NotTrapped, LeadsToReached, IsSteady}
@@ -87,8 +88,11 @@ module _ (w : World) (l : Lean) (leader : ℕ → Bool) (x : LeanIn w l leader) 
 
 -- ---- all rows
 module _ (w : World) (l : Lean) (leader : ℕ → Bool) (x : LeanIn w l leader) where
-  short_law : (is : List Ins) → (is_run is && nat_le (length is) l.inst_max) ≡ true → length is ≤ 5 * l.inst_max
-  short_law is e = let h = leb-true (length is) l.inst_max (and_parts _ _ e).1 in omega (arith, h)
+  short_law : (is : List Ins) → (is_run is && nat_le (length is) l.inst_max) ≡ true → length is ≤ cost_of l.diverse * l.inst_max
+  short_law is e = by l.diverse (leb-true (length is) l.inst_max (and_parts _ _ e).1) where
+    by : (b : Bool) → length is ≤ l.inst_max → length is ≤ cost_of b * l.inst_max
+    by true h = omega (arith, h)
+    by false h = omega (arith, h)
 
   entry_known : (a : ℕ) → EntryAt w (weave_of w l leader) leader a → IsEntryOf w a
   entry_known a b =

@@ -1,28 +1,38 @@
 -- A piece: its original parts and its mirror parts, with nothing behind.
-use Rattle.std.proofs.Common.{◌≡◌, ℕ, ◌+◌, ◌≤◌, ⊎_elim, true, false, List, [], ◌++◌, length, refl, sym, ap, ◌∙◌, subst, arith, append_assoc}
+use Rattle.std.proofs.Common.{◌≡◌, ℕ, ◌+◌, ◌≤◌, ⊎_elim, Bool, true, false, List, [], ◌++◌, length, refl, sym, ap, ◌∙◌, subst, arith, append_assoc}
 use Rattle.rv_isa.specs.declared.ins.Ins.{Ins}
 use Rattle.qed_model.specs.declared.item.Item.{Item}
-use Rattle.qed_model.specs.Machine.Step.{State, reg, run, step, HasAt}
+use Rattle.qed_model.specs.Machine.Step.{State, Known, reg, run, step, HasAt}
 use Rattle.qed_model.specs.Promise.Kept.{NotTrapped}
 use Rattle.qed_model.specs.Weave.Pieces.{is_run}
-use Rattle.qed_model.specs.Weave.Sequences.{guards, original, mirrored, each_part}
+use Rattle.qed_model.specs.Weave.Sequences.{guards, original, each_part}
 use Rattle.qed_model.proofs.Walked.{Walk, walk_on}
 use Rattle.weave_core.specs.World.{World, Quiet as Calm}
 use Rattle.weave_core.specs.Blocks.{FitsPiece, AllFit}
-use Rattle.weave_core.specs.Rows.{At, Sourced, mirror_steps}
+use Rattle.weave_core.specs.Rows.{At, Sourced, Led}
 use Rattle.weave_core.specs.Each.{cost_each}
 use Rattle.weave_core.specs.Parts.{any, used, bare, original_cost, NeedsMirror, GivesMirror, LeavesMirror}
 use Rattle.weave_core.specs.Pass.{Views, Quiet, same}
-use Rattle.lean_weave.specs.Woven.{piece_steps}
+use Rattle.lean_weave.specs.Woven.{mirror_steps_of, piece_steps}
+use Rattle.qed_model.specs.Weave.Woven.{mirror_of}
 use Rattle.weave_core.proofs.Body.{mirrored_part}
+use Rattle.weave_core.proofs.Diverse.{diverse_row}
 use Rattle.weave_core.proofs.Compose.{leads_led, quiet_each, each_same}
 use Rattle.weave_core.proofs.FormRows.{plus, each_plus, quiet_front}
 use Rattle.weave_core.proofs.PieceLaws.{never_originals, never_mirrors, for_mirrors, needs_originals, gives_originals, needs_mirrors, gives_mirrors, guarded_original}
 
--- a mirror part, with its exact steps
-quiet_mirror : (i : Ins) (at : ℕ) → FitsPiece i → Quiet any (mirrored i at) (NeedsMirror i at) (GivesMirror i at) (LeavesMirror i at) (mirror_steps i)
-quiet_mirror i at f = record {
-  leads = λ w v rest s st r. leads_led w v 0 (mirror_steps i) rest same step (mirrored_part w v.now v.original v.shadow i rest f (subst (λ p. At w v.now (mirrored i p ++ rest) v.original v.shadow) (sym r.here) st) r.sourced r.known r.calm);
+-- a mirror part of either kind
+mirror_row :
+    (diverse : Bool) (w : World) (u s s' : State) (i : Ins) (rest : List Item) → FitsPiece i → At w u (mirror_of diverse i s'.pc ++ rest) s s' → Sourced w s' → w.source s'.pc ≡ Known i
+    → NotTrapped (step s') → Led w u 0 (mirror_steps_of diverse i) rest s (step s')
+mirror_row true w u s s' i rest f a so h calm = diverse_row w u s s' i rest f a so h calm
+mirror_row false w u s s' i rest f a so h calm = mirrored_part w u s s' i rest f a so h calm
+
+quiet_mirror : (diverse : Bool) (i : Ins) (at : ℕ) → FitsPiece i → Quiet any (mirror_of diverse i at) (NeedsMirror i at) (GivesMirror i at) (LeavesMirror i at) (mirror_steps_of diverse i)
+quiet_mirror diverse i at f = record {
+  leads = λ w v rest s st r.
+      leads_led w v 0 (mirror_steps_of diverse i) rest same step
+      (mirror_row diverse w v.now v.original v.shadow i rest f (subst (λ p. At w v.now (mirror_of diverse i p ++ rest) v.original v.shadow) (sym r.here) st) r.sourced r.known r.calm);
 }
 
 -- behind some instructions, with x15 and x16 as they were
@@ -36,7 +46,7 @@ pub record Pieced (w : World) (u : State) (least most : ℕ) (rest : List Item) 
   pub counter : reg to 15 ≡ reg u 15
   pub sign : reg to 16 ≡ reg u 16
 
-module _ (w : World) (is : List Ins) (s : State) (fit : AllFit is) (clean : is_run is ≡ true) (has : HasAt w.source s.pc is) (so : Sourced w s) (calm : NotTrapped (run s (length is))) where
+module _ (diverse : Bool) (w : World) (is : List Ins) (s : State) (fit : AllFit is) (clean : is_run is ≡ true) (has : HasAt w.source s.pc is) (so : Sourced w s) (calm : NotTrapped (run s (length is))) where
   -- behind the original parts
   record Half (u : State) (rest : List Item) : Type 0 where
     steps : ℕ
@@ -63,16 +73,16 @@ module _ (w : World) (is : List Ins) (s : State) (fit : AllFit is) (clean : is_r
       (λ e. absurd (never_originals plus is s.pc w v g.to g.steps e))
       g.ends
 
-  mirrors_row : (u : State) (rest : List Item) → Half u (each_part mirrored is s.pc ++ rest) → Pieced w u (length is) (piece_steps is) rest (run s (length is))
+  mirrors_row : (u : State) (rest : List Item) → Half u (each_part (mirror_of diverse) is s.pc ++ rest) → Pieced w u (length is) (piece_steps diverse is) rest (run s (length is))
   mirrors_row u rest h =
       let v = h.to in
-      let st = subst (λ l. At w v.now (l ++ rest) v.original v.shadow) (sym (each_plus mirrored is s.pc)) h.at in
+      let st = subst (λ l. At w v.now (l ++ rest) v.original v.shadow) (sym (each_plus (mirror_of diverse) is s.pc)) h.at in
       let back = sym h.shadow in
       let needs = needs_mirrors plus (λ a h. refl) w NeedsMirror (λ i at v r. r) is s.pc v fit (subst (Sourced w) back so) (ap (λ x. x.pc) h.shadow) (subst (λ x. HasAt w.source x.pc is) back has) (subst (λ x. NotTrapped (run x (length is))) back calm) in
-      let g = (quiet_each plus any (λ i at. FitsPiece i) (λ i. []) mirrored NeedsMirror GivesMirror LeavesMirror mirror_steps quiet_mirror is s.pc (for_mirrors plus is s.pc fit)).leads w v rest tt st needs in
+      let g = (quiet_each plus any (λ i at. FitsPiece i) (λ i. []) (mirror_of diverse) NeedsMirror GivesMirror LeavesMirror (mirror_steps_of diverse) (quiet_mirror diverse) is s.pc (for_mirrors plus is s.pc fit)).leads w v rest tt st needs in
       ⊎_elim
       (λ e.
-      let m = gives_mirrors plus (λ a h. refl) w mirror_steps is s.pc v g.to g.steps e.1 in
+      let m = gives_mirrors plus (λ a h. refl) w (mirror_steps_of diverse) is s.pc v g.to g.steps e.1 in
       let same_original : g.to.original ≡ run s (length is) = m.original ∙ h.original in
       let same_shadow : g.to.shadow ≡ run s (length is) = m.shadow ∙ ap (λ x. run x (length is)) h.shadow in
       record {
@@ -85,11 +95,11 @@ module _ (w : World) (is : List Ins) (s : State) (fit : AllFit is) (clean : is_r
         counter = m.cursor ∙ h.counter;
         sign = m.sign ∙ h.sign;
       })
-      (λ e. absurd (never_mirrors plus mirror_steps is s.pc w v g.to g.steps e))
+      (λ e. absurd (never_mirrors plus (mirror_steps_of diverse) is s.pc w v g.to g.steps e))
       g.ends
 
   -- through the piece
-  pub piece_row : (u : State) (rest : List Item) → At w u ((each_part original is s.pc ++ each_part mirrored is s.pc) ++ rest) s s → Pieced w u (length is) (piece_steps is) rest (run s (length is))
+  pub piece_row : (u : State) (rest : List Item) → At w u ((each_part original is s.pc ++ each_part (mirror_of diverse) is s.pc) ++ rest) s s → Pieced w u (length is) (piece_steps diverse is) rest (run s (length is))
   piece_row u rest a =
-      let b = subst (λ l. At w u l s s) (append_assoc (each_part original is s.pc) (each_part mirrored is s.pc) rest) a in
-      mirrors_row u rest (originals_row u (each_part mirrored is s.pc ++ rest) b)
+      let b = subst (λ l. At w u l s s) (append_assoc (each_part original is s.pc) (each_part (mirror_of diverse) is s.pc) rest) a in
+      mirrors_row u rest (originals_row u (each_part (mirror_of diverse) is s.pc ++ rest) b)

@@ -10,6 +10,7 @@ use Rattle.qed_model.specs.Promise.Caught.{Caught}
 use Rattle.qed_model.specs.Promise.Clean.{Clean}
 use Rattle.qed_model.specs.Promise.Kept.{Kept}
 use Rattle.qed_model.specs.Weave.Blocks.{begins_at}
+use Rattle.qed_model.specs.Weave.Bounds.{cost_of}
 use Rattle.qed_model.specs.Weave.Pieces.{piece_count}
 use Rattle.qed_model.specs.Weave.Placed.{instructions_from}
 use Rattle.qed_model.specs.Weave.Sequences.{Reads, Block, stub}
@@ -193,8 +194,8 @@ module _ (f g : Program) (w : World) (l : Lean) (blocks : List Block) (p : LeanP
 
 -- ---- the laws
 pub lean_kept : LeanKept
-lean_kept f g w l blocks p = subst (λ n. Kept f g w.reached (31 + swept_steps w) n) (sum (check_steps w) l.inst_max) (kept f g w (weave_of w l (begins_at blocks)) (begins_at blocks) (woven f g w l blocks p)) where
-  sum : (c m : ℕ) → 5 + c + (5 * m + 19) ≡ 24 + c + 5 * m
+lean_kept f g w l blocks p = subst (λ n. Kept f g w.reached (31 + swept_steps w) n) (sum (check_steps w) (cost_of l.diverse * l.inst_max)) (kept f g w (weave_of w l (begins_at blocks)) (begins_at blocks) (woven f g w l blocks p)) where
+  sum : (c m : ℕ) → 5 + c + (m + 19) ≡ 24 + c + m
   sum c m = omega arith
 
 pub lean_caught : LeanCaught

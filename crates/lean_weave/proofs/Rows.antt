@@ -1,5 +1,5 @@
 -- The lean form meets the laws of the rows, so it keeps the values.
-use Rattle.std.proofs.Common.{◌≡◌, ℕ, ◌+◌, ◌-◌, ◌*◌, ◌%◌, ◌^◌, ◌<◌, ◌≤◌, ⊎_elim, Bool, true, List, [], ◌∷◌, ◌++◌, length, refl, sym, ap, ◌∙◌, subst, arith, append_assoc}
+use Rattle.std.proofs.Common.{◌≡◌, ℕ, ◌+◌, ◌-◌, ◌*◌, ◌%◌, ◌^◌, ◌<◌, ◌≤◌, ⊎_elim, Bool, true, false, List, [], ◌∷◌, ◌++◌, length, refl, sym, ap, ◌∙◌, subst, arith, append_assoc}
 use Rattle.std.specs.Prelude.{pos}
 use Rattle.std.proofs.lemmas.Bool.{and_parts, leb-true, cases_lt}
 use Rattle.std.proofs.Math.Nat.{mul-le-mul_left}
@@ -10,12 +10,12 @@ use Rattle.qed_model.specs.Machine.Table.{ins}
 use Rattle.qed_model.specs.Machine.Step.{State, reg, moved, run}
 use Rattle.qed_model.specs.Promise.Kept.{NotTrapped}
 use Rattle.qed_model.specs.Weave.Placed.{distance_between, upper_part}
-use Rattle.qed_model.specs.Weave.Sequences.{Reads, original, mirrored, each_part}
+use Rattle.qed_model.specs.Weave.Sequences.{Reads, original, each_part}
 use Rattle.qed_model.proofs.Walk.{Over, over_moved}
 use Rattle.qed_model.proofs.Walked.{Walk, walk_on}
 use Rattle.weave_core.specs.World.{World, Quiet, Twice, IsCursor, words_on}
 use Rattle.weave_core.specs.Blocks.{IsEntryOf}
-use Rattle.weave_core.specs.Rows.{At, Sourced, mirror_steps}
+use Rattle.weave_core.specs.Rows.{At, Sourced, spent, mirror_steps}
 use Rattle.weave_core.specs.Weave.{Weave}
 use Rattle.weave_core.specs.WeaveLaws.{PieceAt, Stands, GoesTo, Inside}
 use Rattle.weave_core.proofs.Body.{mirror_steps_le, spent_le}
@@ -24,6 +24,8 @@ use Rattle.weave_core.proofs.PieceLaws.{cost_parts}
 use Rattle.weave_core.proofs.Sets.{writes, halved_writes}
 use Rattle.weave_core.proofs.Visit.{words_within}
 use Rattle.lean_weave.specs.Lean.{first_word, tick, check, is_ticked_at}
+use Rattle.qed_model.specs.Weave.Bounds.{cost_of}
+use Rattle.qed_model.specs.Weave.Woven.{mirror_of}
 use Rattle.lean_weave.specs.Woven.{Lean, piece_steps, check_steps, weave_of, LeanIn}
 use Rattle.lean_weave.proofs.Chain.{read_back, all_temps}
 use Rattle.lean_weave.proofs.Check.{Back, check_row}
@@ -182,29 +184,36 @@ module _ (w : World) (l : Lean) (leader : ℕ → Bool) (x : LeanIn w l leader) 
 
   -- ---- pieces
   -- its steps
-  piece_few : (is : List Ins) → v.fits is ≡ true → piece_steps is ≤ 5 * l.inst_max
+  piece_few : (is : List Ins) → v.fits is ≡ true → piece_steps l.diverse is ≤ cost_of l.diverse * l.inst_max
   piece_few is fits =
       let few = leb-true (length is) l.inst_max (and_parts _ _ fits).1 in
-      let m : 5 * length is ≤ 5 * l.inst_max = mul-le-mul_left 5 few in
-      let c = cost_parts 5 mirror_steps (omega arith) (λ i. let a = mirror_steps_le i in let b = spent_le i in omega (arith, a, b)) is in
-      omega (arith, c, m)
+      let m : cost_of l.diverse * length is ≤ cost_of l.diverse * l.inst_max = mul-le-mul_left (cost_of l.diverse) few in
+      let c = by l.diverse in
+      omega (arith, c, m) where
+        by : (b : Bool) → piece_steps b is ≤ cost_of b * length is
+        by true = cost_parts 8 (λ i. 8 - spent i) (omega arith) (λ i. omega arith) is
+        by false = cost_parts 5 mirror_steps (omega arith) (λ i. let a = mirror_steps_le i in let b = spent_le i in omega (arith, a, b)) is
 
   pub piece_law :
       (is : List Ins) (b : ℕ) (u s : State) (rest : List Item) → is_ticked_at l.every w u b ≡ true → PieceAt w v s.pc is → At w u (v.code.piece is s.pc ++ rest) s s → Sourced w s
-      → NotTrapped (run s (length is)) → GoesTo w u (length is) (5 * l.inst_max) (λ n y. At w y rest (run s (length is)) (run s (length is)) × (is_ticked_at l.every w y b ≡ true))
+      → NotTrapped (run s (length is)) → GoesTo w u (length is) (cost_of l.diverse * l.inst_max) (λ n y. At w y rest (run s (length is)) (run s (length is)) × (is_ticked_at l.every w y b ≡ true))
   piece_law is b u s rest held p a so calm =
-      let g = piece_row w is s p.fit (and_parts _ _ p.one).0 p.has so calm u rest a in
+      let g = piece_row l.diverse w is s p.fit (and_parts _ _ p.one).0 p.has so calm u rest a in
       let few = piece_few is p.one in
       record { steps = g.steps; to = g.to; at_least = g.at_least; within = omega (arith, g.within, few); walk = g.walk; is = (g.at, ticked_same l.every w u g.to b g.counter g.sign held) }
 
   pub inside_law :
       (is : List Ins) (n : ℕ) (u s : State) (rest : List Item) → n < length is → PieceAt w v s.pc is → At w u (v.code.piece is s.pc ++ rest) s s → Sourced w s → NotTrapped (run s n)
-      → GoesTo w u n (5 * l.inst_max) (λ k y. Inside w s n y)
+      → GoesTo w u n (cost_of l.diverse * l.inst_max) (λ k y. Inside w s n y)
   inside_law is n u s rest lt p a so calm =
-      let b = subst (λ l. At w u l s s) (append_assoc (each_part original is s.pc) (each_part mirrored is s.pc) rest) a in
-      let g = front_row w is n u s (each_part mirrored is s.pc ++ rest) lt p.fit (and_parts _ _ p.one).0 p.has b so calm in
+      let b = subst (λ l. At w u l s s) (append_assoc (each_part original is s.pc) (each_part (mirror_of l.diverse) is s.pc) rest) a in
+      let g = front_row w is n u s (each_part (mirror_of l.diverse) is s.pc ++ rest) lt p.fit (and_parts _ _ p.one).0 p.has b so calm in
       let few = leb-true (length is) l.inst_max (and_parts _ _ p.one).1 in
-      let m : 3 * n ≤ 3 * l.inst_max = mul-le-mul_left 3 (less n (length is) l.inst_max lt few) in
+      let m : 3 * n ≤ cost_of l.diverse * l.inst_max = by l.diverse (less n (length is) l.inst_max lt few) in
       record { steps = g.steps; to = g.to; at_least = g.at_least; within = omega (arith, g.within, m); walk = g.walk; is = g.is } where
         less : (n k b : ℕ) → n < k → k ≤ b → n ≤ b
         less n k b h e = omega (arith, h, e)
+
+        by : (b : Bool) → n ≤ l.inst_max → 3 * n ≤ cost_of b * l.inst_max
+        by true h = omega (arith, h)
+        by false h = omega (arith, h)

@@ -1,14 +1,14 @@
 -- The lean form as a weave, and what is asked of the words and the table that it is woven in.
-use Rattle.std.specs.Prelude.{◌≡◌, ℕ, ◌+◌, ◌*◌, ◌%◌, ◌^◌, ◌<◌, ◌≤◌, ◌⊎◌, pos, Some, Bool, true, false, cond, ◌==◌, ◌&&◌, nat_le, List, [], ◌∷◌, ◌++◌, length}
+use Rattle.std.specs.Prelude.{◌≡◌, ℕ, ◌+◌, ◌-◌, ◌*◌, ◌%◌, ◌^◌, ◌<◌, ◌≤◌, ◌⊎◌, pos, Some, Bool, true, false, cond, ◌==◌, ◌&&◌, nat_le, List, [], ◌∷◌, ◌++◌, length}
 use Rattle.rv_isa.specs.declared.ins.Ins.{Ins}
 use Rattle.qed_model.specs.declared.item.Item.{Item}
 use Rattle.qed_model.specs.declared.item.Item.TheVariants.{Mark, Go}
 use Rattle.qed_model.specs.Admission.DataRanges.{word_count}
 use Rattle.qed_model.specs.Machine.Step.{Known}
-use Rattle.qed_model.specs.Weave.Bounds.{visit_bound, end_bound}
+use Rattle.qed_model.specs.Weave.Bounds.{visit_bound, end_bound, cost_of}
 use Rattle.qed_model.specs.Weave.Pieces.{is_run, piece_count}
 use Rattle.qed_model.specs.Weave.Placed.{distance_between, sum_of_sizes, instructions_from}
-use Rattle.qed_model.specs.Weave.Sequences.{Reads, End, Falls, Stops, Block, body_length, original, mirrored, each_part, before_end, stub}
+use Rattle.qed_model.specs.Weave.Sequences.{Reads, End, Falls, Stops, Block, body_length, original, each_part, before_end, stub}
 use Rattle.qed_model.specs.Machine.Program.{Program}
 use Rattle.qed_model.specs.Promise.Kept.{Kept}
 use Rattle.weave_core.specs.Describes.{Describes}
@@ -16,10 +16,11 @@ use Rattle.weave_core.specs.WeaveLaws.{BlockOf}
 use Rattle.weave_core.specs.WeavePromise.{AllBlocksOf}
 use Rattle.weave_core.specs.Each.{cost_each}
 use Rattle.weave_core.specs.Parts.{original_cost}
-use Rattle.weave_core.specs.Rows.{mirror_steps}
+use Rattle.weave_core.specs.Rows.{spent, mirror_steps}
 use Rattle.weave_core.specs.Leaving.{sweep_cost}
 use Rattle.qed_model.specs.Weave.Blocks.{begins_at}
 use Rattle.qed_model.specs.Weave.Code.{pieces_of}
+use Rattle.qed_model.specs.Weave.Woven.{mirror_of}
 use Rattle.qed_model.specs.Promise.Caught.{Caught}
 use Rattle.qed_model.specs.Promise.Clean.{Clean}
 use Rattle.qed_model.specs.Promise.Closed.{is_branch}
@@ -32,11 +33,12 @@ use Rattle.weave_core.specs.Blocks.{TableAt}
 use Rattle.weave_core.specs.Weave.{Weave}
 use Rattle.lean_weave.specs.Lean.{tick, check, leave, begin, leave_cost, is_ticked_at}
 
--- what the form depends on besides the world: what x15 counts from, the most instructions of a piece, the address of the check, the steps that the
+-- what the form depends on besides the world: what x15 counts from, the most instructions of a piece, whether its mirror parts are of other kinds, the address of the check, the steps that the
 -- tick of a block counts, and where a block begins that has its end at an address
 pub record Lean : Type 0 where
   pub every : ℕ
   pub inst_max : ℕ
+  pub diverse : Bool
   pub check : ℕ
   pub most : ℕ → ℕ
   pub start_of : ℕ → ℕ
@@ -59,13 +61,13 @@ weave_of w l leader = record {
   code = record {
     first = begin;
     enter = λ a. tick (l.most a) (distance_between (w.entry a + 8) l.check);
-    piece = λ is at. each_part original is at ++ each_part mirrored is at;
+    piece = λ is at. each_part original is at ++ each_part (mirror_of l.diverse) is at;
     leave = λ e at. leave (before_end w.form) (fall_to leader) e (l.start_of at) at;
   };
   fits = λ is. is_run is && nat_le (length is) l.inst_max;
   first_steps = 31;
   enter_steps = 5 + check_steps w;
-  piece_steps = 5 * l.inst_max;
+  piece_steps = cost_of l.diverse * l.inst_max;
   compare_steps = 0;
   leave_steps = 19;
   end_steps = swept_steps w;
@@ -91,13 +93,17 @@ pub record LeanIn (w : World) (l : Lean) (leader : ℕ → Bool) : Type 0 where
   pub within : (a : ℕ) → leader a ≡ true → a < w.base + 2 ^ 32
 
 -- ---- the steps of a block
--- of a piece: its original parts and its mirror parts
-abbrev pub piece_steps : List Ins → ℕ
-piece_steps is = cost_each original_cost is + cost_each mirror_steps is
+-- of a mirror part
+abbrev pub mirror_steps_of : Bool → Ins → ℕ
+mirror_steps_of diverse i = cond diverse (cost_of true - spent i) (mirror_steps i)
 
-abbrev pub body_steps : List (List Ins) → ℕ
-body_steps [] = 0
-body_steps (p ∷ ps) = piece_steps p + body_steps ps
+-- of a piece: its original parts and its mirror parts
+abbrev pub piece_steps : Bool → List Ins → ℕ
+piece_steps diverse is = cost_each original_cost is + cost_each (mirror_steps_of diverse) is
+
+abbrev pub body_steps : Bool → List (List Ins) → ℕ
+body_steps diverse [] = 0
+body_steps diverse (p ∷ ps) = piece_steps diverse p + body_steps diverse ps
 
 -- ---- the code
 -- what leads behind a block, as words: nothing, where a block stands there
@@ -147,12 +153,12 @@ pub record LeanPlan (f g : Program) (w : World) (l : Lean) (blocks : List Block)
       (a : ℕ) (i : Ins) → w.code a ≡ Known i
       → (k : ℕ) × (a ≡ g.entry + 4 * k) × (a ≤ g.entry + 4 * length (instructions_from false w.entry g.entry (code_of w l (begins_at blocks) f.entry blocks)))
   pub stubbed : (t : ℕ) → (begins_at blocks t ≡ true) ⊎ (w.code (w.entry t) ≡ Known (ins Illegal 0 0 0 (pos 0)))
-  pub counts : (b : Block) → BlockOf w (weave_of w l (begins_at blocks)) (begins_at blocks) b → 2 + (body_steps b.body + leave_cost (fall_to (begins_at blocks)) b.end b.start (b.start + 4 * body_length b.body)) ≤ l.most b.start
+  pub counts : (b : Block) → BlockOf w (weave_of w l (begins_at blocks)) (begins_at blocks) b → 2 + (body_steps l.diverse b.body + leave_cost (fall_to (begins_at blocks)) b.end b.start (b.start + 4 * body_length b.body)) ≤ l.most b.start
 
 -- ---- the laws
 -- a plan keeps the values
 abbrev pub LeanKept : Type 0
-LeanKept = (f g : Program) (w : World) (l : Lean) (blocks : List Block) → LeanPlan f g w l blocks → Kept f g w.reached (31 + swept_steps w) (24 + check_steps w + 5 * l.inst_max)
+LeanKept = (f g : Program) (w : World) (l : Lean) (blocks : List Block) → LeanPlan f g w l blocks → Kept f g w.reached (31 + swept_steps w) (24 + check_steps w + cost_of l.diverse * l.inst_max)
 
 -- a changed register: what runs first, a period from check to check, the comparison, and the end with its sweep; a changed data word: as many periods
 -- more as there are rounds
