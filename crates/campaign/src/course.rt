@@ -19,7 +19,7 @@ use qed_model::{Change, Changes, Draws, Options, Plan, Struck, Verdict};
 use rv_step::Machine;
 use std::alloc::{AllocError, Global};
 use std::marker::Model;
-use strikes::{Campaign, Runs, StrikeError, drawn_strikes};
+use strikes::{Campaign, Progress, Runs, StrikeError, drawn_strikes};
 use transform::{TransformError, Transformed, transform};
 
 /// A test and its output, with what is told of the output, and both runs from registers that are all 0.
@@ -148,13 +148,18 @@ impl Course {
         drawn_strikes(alloc, &self.plan, self.runs.reach(), draws)
     }
 
-    /// Strikes one after the other, each from the start of the runs, up to the first where the input traps.
-    pub fn strike_all(&self, alloc: Global, strikes: &[Changes]) -> Result<Campaign, AllocError>
+    /// Strikes one after the other, each from the start of the runs, up to the first where the input traps, and tells how far it is.
+    pub fn strike_all(
+        &self,
+        alloc: Global,
+        strikes: &[Changes],
+        progress: &dyn Progress,
+    ) -> Result<Campaign, AllocError>
         requires { All (IsStrike self.now.plan.bounds) strikes.now }
         ensures struck { IfOk result (λ campaign. AreStruck self.now.runs strikes.now campaign.struck.items campaign.trapped) }
         ensures ordered { IfOk result (λ campaign. All (λ s. Ordered s.changes) campaign.struck.items) }
     {
-        self.runs.strike_all(alloc, strikes)
+        self.runs.strike_all(alloc, strikes, progress)
     }
 
     /// Whether the test ended right in each of some strikes: by the end of the struck run the input had ended too, and x1 to x13 and

@@ -4,4 +4,4 @@
 mod course;
 
 pub use course::Course;
-pub use strikes::{Campaign, StrikeError};
+pub use strikes::{Campaign, Progress, Silent, StrikeError};

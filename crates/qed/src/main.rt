@@ -5,5 +5,5 @@ use qed_top::run_program;
 use std::process::ExitCode;
 
 fn main(rt: HostRuntime) -> ExitCode {
-    run_program(&rt, &rt.stderr())
+    run_program(&rt)
 }

@@ -3,6 +3,7 @@
 use crate::asked::words;
 use crate::bench::Bench;
 use crate::digest::digest_of;
+use campaign::Silent;
 use diagnose::advice;
 use qed_top::{exit_code, qed};
 use qed_words::order;
@@ -25,7 +26,7 @@ pub(crate) fn call(
     words: &[String],
 ) -> Result<String, AllocError> {
     let mut out = bench.sink(alloc)?;
-    let status = qed(alloc, words, &mut bench.shelf, &mut out);
+    let status = qed(alloc, words, &mut bench.shelf, &mut out, &Silent);
     printed(alloc, out.bytes(), status.code())
 }
 
@@ -36,7 +37,7 @@ pub(crate) fn advise(
     words: &[String],
 ) -> Result<String, AllocError> {
     let mut out = bench.sink(alloc)?;
-    let _ = qed(alloc, words, &mut bench.shelf, &mut out);
+    let _ = qed(alloc, words, &mut bench.shelf, &mut out, &Silent);
     let printed = str::from_utf8(out.bytes()).unwrap_or("");
     advice(alloc, words, printed, None, true, &mut bench.shelf)
 }
@@ -48,7 +49,7 @@ pub(crate) fn digest(
     words: &[String],
 ) -> Result<String, AllocError> {
     let mut out = bench.sink(alloc)?;
-    let status = qed(alloc, words, &mut bench.shelf, &mut out);
+    let status = qed(alloc, words, &mut bench.shelf, &mut out, &Silent);
     let text = digest_of(alloc, out.bytes())?;
     let code = status.code();
     format!(in alloc; "{text}\n= {code}\n")
@@ -77,7 +78,7 @@ fn hand_over(
     arguments: io::Result<Args>,
 ) -> Result<String, AllocError> {
     let mut out = bench.sink(alloc)?;
-    let code = exit_code(alloc, arguments, &mut bench.shelf, &mut out);
+    let code = exit_code(alloc, arguments, &mut bench.shelf, &mut out, &Silent);
     printed(alloc, out.bytes(), number_of(code))
 }
 

@@ -3,6 +3,7 @@
 use crate::asked::words;
 use crate::bench::Bench;
 use crate::calls::printed;
+use campaign::Silent;
 use qed_io::{DirShelf, NeverShelf, NeverSink, WriterSink};
 use qed_top::qed;
 use std::alloc::{AllocError, Global};
@@ -46,7 +47,13 @@ fn print_narrow(alloc: Global, bench: &mut Bench, line: &str) -> Result<String, 
         room: number(room.as_bytes()).unwrap_or(0) as usize,
         is_interrupted: true,
     });
-    let status = qed(alloc, &words(alloc, rest)?, &mut bench.shelf, &mut out);
+    let status = qed(
+        alloc,
+        &words(alloc, rest)?,
+        &mut bench.shelf,
+        &mut out,
+        &Silent,
+    );
     printed(alloc, &out.writer.taken, status.code())
 }
 
@@ -60,7 +67,7 @@ fn never(alloc: Global, bench: &Bench, line: &str) -> Result<String, AllocError>
         }
     }
     let mut out = NeverSink::new(alloc);
-    let status = qed(alloc, &words, &mut shelf, &mut out);
+    let status = qed(alloc, &words, &mut shelf, &mut out, &Silent);
     printed(alloc, out.bytes(), status.code())
 }
 
@@ -69,7 +76,7 @@ fn disk(rt: &HostRuntime, bench: &Bench, line: &str) -> Result<String, AllocErro
     let alloc = rt.alloc();
     let mut out = bench.sink(alloc)?;
     let mut shelf = DirShelf::new(alloc, rt);
-    let status = qed(alloc, &words(alloc, line)?, &mut shelf, &mut out);
+    let status = qed(alloc, &words(alloc, line)?, &mut shelf, &mut out, &Silent);
     printed(alloc, out.bytes(), status.code())
 }
 

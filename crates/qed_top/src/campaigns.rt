@@ -7,7 +7,7 @@ ghost use Rattle.qed_top.specs.Campaign.{campaign_status, text_of as text_of_cam
 use crate::answer::{Answer, plain};
 use crate::refusal::refused;
 use crate::status::Status;
-use campaign::Course;
+use campaign::{Course, Progress};
 use elf_types::Bytes;
 use qed_model::{Draws, Options};
 use report::campaign_text;
@@ -57,12 +57,13 @@ fn strike(
     course: &Course,
     draws: &Draws,
     results: bool,
+    progress: &dyn Progress,
 ) -> Result<Answer, AllocError>
     ensures { IfOk result (TellsCampaign course.now draws.now results) }
 {
     let strikes = course.draw(alloc, draws)?;
     let reach = course.reach();
-    let campaign = course.strike_all(alloc, &strikes)?;
+    let campaign = course.strike_all(alloc, &strikes, progress)?;
     let text = text_of(alloc, course, &campaign, results)?;
     Ok(plain(status_of(campaign.trapped), text))
 }
@@ -74,13 +75,14 @@ pub fn answer_campaign(
     options: &Options,
     draws: &Draws,
     results: bool,
+    progress: &dyn Progress,
 ) -> Result<Answer, AllocError>
     requires { AreSoundOptions options.now }
     ensures { IfOk result (Campaigns bytes.now options.now draws.now results) }
 {
     match Course::prepare(alloc, bytes, options) {
         Ok(course) => {
-            let answer = strike(alloc, &course, draws, results)?;
+            let answer = strike(alloc, &course, draws, results, progress)?;
             Ok(answer)
         }
         Err(error) => {

@@ -11,13 +11,19 @@ use crate::answer::Answer;
 use crate::load::read_file;
 use crate::orders::{answer_order, source_limit, source_name, usage};
 use crate::world::answer_harts;
+use campaign::Progress;
 use command_line::Order;
 use qed_io::Shelf;
 use qed_words::{WordsError, order};
 use std::alloc::{AllocError, Global};
 
 /// What an order calls for that reads no more than one file.
-fn decide_source<S: Shelf>(alloc: Global, order: Order, shelf: &mut S) -> Result<Answer, AllocError>
+fn decide_source<S: Shelf>(
+    alloc: Global,
+    order: Order,
+    shelf: &mut S,
+    progress: &dyn Progress,
+) -> Result<Answer, AllocError>
     requires sound { IsSoundOrder order }
     requires one { reads_several order ≡ false }
     ensures meant { IfOk result (λ answer. OverFiles (S.files shelf.old) (λ files. SourceCallsFor order files (RoseAt (S.load_faults shelf.old) (S.load_faults shelf.new)) answer)) }
@@ -31,21 +37,26 @@ fn decide_source<S: Shelf>(alloc: Global, order: Order, shelf: &mut S) -> Result
             let read = read_file(alloc, name, source_limit(&order), shelf)?;
             match read {
                 Ok(bytes) => {
-                    let answer = answer_order(alloc, order, bytes.as_slice())?;
+                    let answer = answer_order(alloc, order, bytes.as_slice(), progress)?;
                     Ok(answer)
                 }
                 Err(answer) => Ok(answer),
             }
         }
         None => {
-            let answer = answer_order(alloc, order, &[])?;
+            let answer = answer_order(alloc, order, &[], progress)?;
             Ok(answer)
         }
     }
 }
 
 /// What an order calls for over the files.
-fn decide_order<S: Shelf>(alloc: Global, order: Order, shelf: &mut S) -> Result<Answer, AllocError>
+fn decide_order<S: Shelf>(
+    alloc: Global,
+    order: Order,
+    shelf: &mut S,
+    progress: &dyn Progress,
+) -> Result<Answer, AllocError>
     requires { IsSoundOrder order }
     ensures meant { IfOk result (λ answer. OverLoads (S.files shelf.old) (λ loads. OrderCallsFor order loads (RoseAt (S.load_faults shelf.old) (S.load_faults shelf.new)) answer)) }
     ensures files { S.files shelf.new ≡ S.files shelf.old }
@@ -59,7 +70,7 @@ fn decide_order<S: Shelf>(alloc: Global, order: Order, shelf: &mut S) -> Result<
             Ok(answer)
         }
         order => {
-            let answer = decide_source(alloc, order, shelf)?;
+            let answer = decide_source(alloc, order, shelf, progress)?;
             Ok(answer)
         }
     }
@@ -70,6 +81,7 @@ pub fn decide<S: Shelf>(
     alloc: Global,
     words: &[String],
     shelf: &mut S,
+    progress: &dyn Progress,
 ) -> Result<Answer, AllocError>
     ensures meant { IfOk result (λ answer. OverLoads (S.files shelf.old) (λ loads. WordsCallFor (texts words.now) loads (RoseAt (S.load_faults shelf.old) (S.load_faults shelf.new)) answer)) }
     ensures files { S.files shelf.new ≡ S.files shelf.old }
@@ -79,7 +91,7 @@ pub fn decide<S: Shelf>(
 {
     match order(alloc, words) {
         Ok(order) => {
-            let answer = decide_order(alloc, order, shelf)?;
+            let answer = decide_order(alloc, order, shelf, progress)?;
             Ok(answer)
         }
         Err(WordsError::Usage(reason)) => {

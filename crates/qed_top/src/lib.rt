@@ -17,6 +17,7 @@ mod program;
 mod refusal;
 mod run;
 mod status;
+mod ticker;
 mod top;
 mod world;
 

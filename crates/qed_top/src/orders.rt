@@ -14,6 +14,7 @@ use crate::list::answer_list;
 use crate::make::{answer_plan, answer_transform};
 use crate::run::answer_run;
 use crate::status::Status;
+use campaign::Progress;
 use command_line::{Order, Reason};
 use qed_model::Limit;
 use report::{told_text, usage_text};
@@ -56,7 +57,12 @@ pub fn usage(alloc: Global, reason: Reason) -> Result<Answer, AllocError>
 }
 
 /// What an order that reads no more than one file calls for over its bytes.
-pub fn answer_order(alloc: Global, order: Order, bytes: &[u8]) -> Result<Answer, AllocError>
+pub fn answer_order(
+    alloc: Global,
+    order: Order,
+    bytes: &[u8],
+    progress: &dyn Progress,
+) -> Result<Answer, AllocError>
     requires sound { IsSoundOrder order }
     requires one { reads_several order ≡ false }
     requires within { length bytes.now ≤ limit_of (source_limit_of order) }
@@ -92,7 +98,7 @@ pub fn answer_order(alloc: Global, order: Order, bytes: &[u8]) -> Result<Answer,
             Ok(answer)
         }
         Order::Campaign(_, options, draws, results) => {
-            let answer = answer_campaign(alloc, bytes, &options, &draws, results)?;
+            let answer = answer_campaign(alloc, bytes, &options, &draws, results, progress)?;
             Ok(answer)
         }
         Order::Tell(topic) => {

@@ -8,14 +8,15 @@ ghost use Rattle.command_line.specs.Words.{texts};
 ghost use Rattle.qed_top.specs.Program.{words_after, Exits, ExitsUntold};
 
 use crate::status::Status;
+use crate::ticker::Ticker;
 use crate::top::qed;
+use campaign::Progress;
 use diagnose::{Heard, complain};
 use qed_io::{DirShelf, Shelf, Sink, StdSink};
 use std::alloc::{AllocError, Global};
 use std::env::Args;
-use std::io::{Eprint, ErrorKind, IsTerminal};
+use std::io::ErrorKind;
 use std::process::ExitCode;
-use std::rt::{Env, Files};
 use std::{env, io};
 
 /// The words that are left.
@@ -56,6 +57,7 @@ pub fn exit_code<S: Shelf, K: Sink>(
     arguments: io::Result<Args>,
     shelf: &mut S,
     out: &mut K,
+    progress: &dyn Progress,
 ) -> ExitCode
     ensures exits { Exits (record {
       words = words_after arguments;
@@ -72,7 +74,7 @@ pub fn exit_code<S: Shelf, K: Sink>(
 {
     match words_of(alloc, arguments) {
         Ok(words) => {
-            let status = qed(alloc, &words, shelf, out);
+            let status = qed(alloc, &words, shelf, out, progress);
             ExitCode::from(status.code())
         }
         Err(_) => ExitCode::from(Status::Memory.code()),
@@ -84,18 +86,15 @@ pub fn exit_code<S: Shelf, K: Sink>(
 ///
 /// No contract can say what the machine's arguments are, nor what its files have: `exit_code` says what is done with
 /// them.
-pub fn run_program<R: Env + Files + Print + Alloc<A = Global>, E: Eprint + IsTerminal>(
-    rt: &R,
-    err: &E,
-) -> ExitCode
+pub fn run_program(rt: &HostRuntime) -> ExitCode
     ensures { ExitsUntold result }
 {
     let alloc = rt.alloc();
     let mut shelf = DirShelf::new(alloc, rt);
     let mut out = Heard::over(alloc, StdSink::new(rt));
-    let code = exit_code(alloc, env::args(rt), &mut shelf, &mut out);
+    let code = exit_code(alloc, env::args(rt), &mut shelf, &mut out, &Ticker::of(rt));
     if let Ok(words) = words_of(alloc, env::args(rt)) {
-        complain(rt, err, &words, &code, shelf.last_error, &out);
+        complain(rt, &rt.stderr(), &words, &code, shelf.last_error, &out);
     }
     code
 }

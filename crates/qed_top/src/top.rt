@@ -6,11 +6,19 @@ use crate::answer::carry_out;
 use crate::decide::decide;
 use crate::fault::Fault;
 use crate::status::Status;
+use campaign::Progress;
 use qed_io::{Shelf, Sink};
 use std::alloc::Global;
 
-/// Does what the words after the program's name ask for: decides the answer, stores its file, and prints its text.
-pub fn qed<S: Shelf, K: Sink>(alloc: Global, words: &[String], shelf: &mut S, out: &mut K) -> Status
+/// Does what the words after the program's name ask for: decides the answer, stores its file, and prints its text. Of a campaign it
+/// tells how far it is.
+pub fn qed<S: Shelf, K: Sink>(
+    alloc: Global,
+    words: &[String],
+    shelf: &mut S,
+    out: &mut K,
+    progress: &dyn Progress,
+) -> Status
     // The headline: after `transform IN OUT` with Done, IN is a test and OUT a program whose runs keep its values and in which
     // changes are caught. Then why each status comes, with what was stored and printed; and which one comes with no fault.
     ensures { Answers (record {
@@ -23,7 +31,7 @@ pub fn qed<S: Shelf, K: Sink>(alloc: Global, words: &[String], shelf: &mut S, ou
       after = record { load = S.load_faults shelf.new; store = S.store_faults shelf.new; sink = K.faults out.new };
     }) result }
 {
-    match decide(alloc, words, shelf) {
+    match decide(alloc, words, shelf, progress) {
         Ok(answer) => match carry_out(&answer, shelf, out) {
             Ok(()) => answer.status,
             Err(Fault::Print) => Status::WriteFault,

@@ -14,6 +14,7 @@ ghost use Rattle.strikes.specs.Verdict.{IsVerdict};
 
 use crate::error::StrikeError;
 use crate::later::{all_from, first_step};
+use crate::progress::Progress;
 use crate::right::same_values;
 use crate::snapshots::{SPACING, Snapshots};
 use crate::verdict::{last_step, output_verdict};
@@ -225,6 +226,7 @@ impl Runs {
         &self,
         alloc: Global,
         strikes: &[Changes],
+        progress: &dyn Progress,
     ) -> Result<Vec<Option<Verdict>>, AllocError>
         requires { All (IsStrike self.now.bounds) strikes.now }
         ensures known { IfOk result (λ found. AreKnown self.now strikes.now found.items) }
@@ -236,6 +238,7 @@ impl Runs {
         let mut made = 0;
         let mut end = strikes.len();
         for i in 0..order.len() {
+            progress.tell(i as u64, strikes.len() as u64);
             let number = order[i].1;
             if number >= end {
                 continue;
@@ -246,6 +249,7 @@ impl Runs {
             end = end_behind(end, number, verdict);
             found[number] = verdict;
         }
+        progress.tell(strikes.len() as u64, strikes.len() as u64);
         Ok(found)
     }
 
@@ -341,13 +345,19 @@ impl Runs {
         Ok(None)
     }
 
-    /// Strikes one after the other, each of the runs from their start, up to the first where the input traps.
-    pub fn strike_all(&self, alloc: Global, strikes: &[Changes]) -> Result<Campaign, AllocError>
+    /// Strikes one after the other, each of the runs from their start, up to the first where the input traps, and tells of how many
+    /// the verdict is known.
+    pub fn strike_all(
+        &self,
+        alloc: Global,
+        strikes: &[Changes],
+        progress: &dyn Progress,
+    ) -> Result<Campaign, AllocError>
         requires { All (IsStrike self.now.bounds) strikes.now }
         ensures struck { IfOk result (λ campaign. AreStruck self.now strikes.now campaign.struck.items campaign.trapped) }
         ensures ordered { IfOk result (λ campaign. All (λ s. Ordered s.changes) campaign.struck.items) }
     {
-        let known = self.verdicts(alloc, strikes)?;
+        let known = self.verdicts(alloc, strikes, progress)?;
         let mut struck = Vec::new(alloc);
         for i in 0..strikes.len() {
             let trapped = self.strike_next(alloc, &strikes[i], known[i], &mut struck)?;

@@ -9,7 +9,7 @@ use Rattle.strikes.proofs.Stopping.{progress_state}
 use Rattle.strikes.proofs.runs.Runs.verdicts.Goals as goal
 
 pub loop-i-init : goal.loop-i-init
-loop-i-init c = record {
+loop-i-init g c = record {
   known = none_known c.args.self.now c.args.strikes.now (length c.args.strikes.now) c.in_ok-found.found.items (c.in_ok-found.ensures.items_if_clones_equal (λ y h. search rules));
   count = search rules;
   there = ap (λ p. p.state) c.in_ok-output.ensures ∙ progress_state c.self.inside.output.start 0 ∙ ap (λ p. run p.output 0) c.self.view_is;
@@ -17,7 +17,7 @@ loop-i-init c = record {
 }
 
 pub loop-i-preserved : goal.loop-i-preserved
-loop-i-preserved c =
+loop-i-preserved g c =
     let k = c.index.result.now.1 in
     let cs = c.index-strikes-number.result in
     let count = c.loop-i.invariant.count in

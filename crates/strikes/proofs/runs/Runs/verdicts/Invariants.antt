@@ -5,7 +5,7 @@ use Rattle.strikes.proofs.runs.Runs.verdicts.Given as goal
 
 -- what is known so far, and the output where the last strike began
 abbrev pub invariant-loop-i : goal.invariant-loop-i
-invariant-loop-i l = record {
+invariant-loop-i g l = record {
   known : AreKnown l.self l.strikes l.found.items;
   count : length l.found.items ≡ length l.strikes;
   there : l.output.state ≡ run l.self.output l.made;

@@ -1,0 +1,54 @@
+//! How far a campaign is, for a person.
+
+use campaign::Progress;
+use std::cell::Cell;
+use std::io::{Eprint, IsTerminal};
+use std::time::Instant;
+
+/// Tells on standard error once a second how many strikes are made, in a line that is written over and taken away in the end.
+/// It tells nothing where that is no terminal, or where there is no clock.
+#[derive(Drop)]
+pub(crate) struct Ticker<'a> {
+    rt: &'a HostRuntime,
+    start: Option<Instant>,
+    /// For how many seconds it was told.
+    told: Cell<u64>,
+}
+
+impl<'a> Ticker<'a> {
+    /// From now on.
+    pub fn of(rt: &'a HostRuntime) -> Self {
+        let start = if rt.stderr().is_terminal() {
+            Instant::now(rt).ok()
+        } else {
+            None
+        };
+        Ticker {
+            rt,
+            start,
+            told: Cell::new(0),
+        }
+    }
+
+    /// For how many seconds there is something to tell.
+    fn seconds(&self) -> u64 {
+        match self.start.map(|start| start.elapsed(self.rt)) {
+            Some(Ok(time)) => time.as_secs(),
+            _ => 0,
+        }
+    }
+}
+
+impl Progress for Ticker<'_> {
+    fn tell(&self, done: u64, all: u64) {
+        let seconds = self.seconds();
+        if done == all && self.told.get() > 0 {
+            let _ = self.rt.eprint("\x1b[K");
+        } else if seconds > self.told.get() {
+            self.told.set(seconds);
+            let _ = self
+                .rt
+                .eprint(format_args!("qed: {done} of {all} strikes\r"));
+        }
+    }
+}

@@ -1,0 +1,14 @@
+//! How far long work is.
+
+/// What is told how far work is.
+pub trait Progress {
+    /// So many parts of all are done. The last call of some work has both numbers alike.
+    fn tell(&self, done: u64, all: u64);
+}
+
+/// Tells nobody.
+pub struct Silent;
+
+impl Progress for Silent {
+    fn tell(&self, _: u64, _: u64) {}
+}
