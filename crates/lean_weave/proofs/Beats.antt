@@ -38,7 +38,7 @@ use Rattle.lean_weave.proofs.Rows.{AtCheck, checks}
 check_big : (w : World) → 44 ≤ check_steps w
 check_big w = omega arith
 
-module _ (f g : Program) (w : World) (l : Lean) (leader : ℕ → Bool) (x : LeanIn w l leader) (of : Describes f g w) (entries : EntriesAt w (weave_of w l leader) leader) (counts : Counts w l leader) (leads : leader f.entry ≡ true) (begins : Reads w.form.far w.code w.entry g.entry (begin w.distance f.entry)) where
+module _ (f g : Program) (w : World) (l : Lean) (leader : ℕ → Bool) (x : LeanIn w l leader) (of : Describes f g w) (entries : EntriesAt w (weave_of w l leader) leader) (counts : Counts w l leader entries) (leads : leader f.entry ≡ true) (begins : Reads w.form.far w.code w.entry g.entry (begin w.distance f.entry)) where
   -- from a call of the check to the next, to behind its comparison with four steps left, and what runs before the end besides
   abbrev pub sizes : Sizes
   sizes = record { piece = check_steps w + (l.every + 2); check = 31; last = 2 + swept_steps w; words = word_count w.form.spans; round = round_of (word_count w.form.spans) w.form.round }
@@ -194,7 +194,7 @@ module _ (f g : Program) (w : World) (l : Lean) (leader : ℕ → Bool) (x : Lea
     -- ---- from the first word
     -- a tick counts a step
     tick_some : (a : ℕ) → leader a ≡ true → 1 ≤ l.most a
-    tick_some a h = let e = entries a h in let c = counts.each (record { start = a; body = e.body; end = e.end }) e.good in omega (arith, c)
+    tick_some a h = let c = counts.each a h in omega (arith, c)
 
     record First : Type 0 where
       steps : ℕ

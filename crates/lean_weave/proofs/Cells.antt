@@ -16,12 +16,12 @@ use Rattle.weave_core.specs.Parts.{original_cost}
 use Rattle.qed_model.specs.declared.item.Item.{Item}
 use Rattle.weave_core.specs.Rows.{At, Sourced}
 use Rattle.weave_core.specs.Weave.{Weave}
-use Rattle.weave_core.specs.WeaveLaws.{PiecesAt, BlockOf, EntriesAt, Stands, stops, Onward, lands, is_lost}
+use Rattle.weave_core.specs.WeaveLaws.{PiecesAt, EntriesAt, Stands, stops, Onward, lands, is_lost}
 use Rattle.weave_core.proofs.Leaves.{no_code}
 use Rattle.weave_core.proofs.Source.{source_run, not_trapped_le, steady_le, steady_rest}
 use Rattle.weave_core.proofs.Trace.{none_run, one_run}
 use Rattle.lean_weave.specs.Lean.{first_word, leave, leave_cost}
-use Rattle.lean_weave.specs.Woven.{Lean, piece_steps, body_steps, fall_to, weave_of, LeanIn, swept_steps}
+use Rattle.lean_weave.specs.Woven.{Lean, piece_steps, body_steps, block_steps, fall_to, weave_of, LeanIn, swept_steps}
 use Rattle.lean_weave.proofs.End.{Sweeps, swept_on}
 use Rattle.lean_weave.proofs.Leave.{SignedAs}
 use Rattle.lean_weave.proofs.Left.{Parts, leave_row}
@@ -30,10 +30,8 @@ use Rattle.lean_weave.proofs.Rows.{Enters, AtCheck, passes, calls}
 use Rattle.lean_weave.proofs.Tick.{counter}
 
 -- the tick of each block counts its steps
-pub record Counts (w : World) (l : Lean) (leader : ℕ → Bool) : Type 0 where
-  pub each :
-      (b : Block) → BlockOf w (weave_of w l leader) leader b
-      → 2 + (body_steps l.diverse b.body + leave_cost (fall_to leader) b.end b.start (b.start + 4 * body_length b.body)) ≤ l.most b.start
+pub record Counts (w : World) (l : Lean) (leader : ℕ → Bool) (entries : EntriesAt w (weave_of w l leader) leader) : Type 0 where
+  pub each : (a : ℕ) (h : leader a ≡ true) → block_steps l.diverse leader (record { start = a; body = (entries a h).body; end = (entries a h).end }) ≤ l.most a
 
 module _ (w : World) (l : Lean) (leader : ℕ → Bool) (x : LeanIn w l leader) (block : (a : ℕ) → leader a ≡ true → IsEntryOf w a) where
   abbrev v : Weave
@@ -97,12 +95,12 @@ module _ (w : World) (l : Lean) (leader : ℕ → Bool) (x : LeanIn w l leader) 
 
     through :
         (ps : List (List Ins)) (e : End) (u s : State) → At w u (body_of v.code ps e s.pc) s s → Sourced w s → PiecesAt w v leader ps e s.pc
-        → l.start_of (s.pc + 4 * body_length ps) ≡ b → reg u 16 ≡ (b + off * 2 ^ 32) % 2 ^ 64 → IsSteady w.reached s (body_length ps + 2)
+        → l.start_of e (s.pc + 4 * body_length ps) ≡ b → reg u 16 ≡ (b + off * 2 ^ 32) % 2 ^ 64 → IsSteady w.reached s (body_length ps + 2)
         → Next u s off (rest_steps ps e s.pc) ⊎ Finished u (rest_steps ps e s.pc)
     through [] e u s at so q own sign steady =
         let z : s.pc + 4 * 0 ≡ s.pc = omega arith in
-        let start : l.start_of s.pc ≡ b = ap l.start_of (sym z) ∙ own in
-        let at0 : At w u (leave (before_end w.form) (fall_to leader) e b s.pc) s s = subst (λ k. At w u (leave (before_end w.form) (fall_to leader) e k s.pc) s s) start (subst (λ k. At w u (leave (before_end w.form) (fall_to leader) e (l.start_of k) k) s s) z at) in
+        let start : l.start_of e s.pc ≡ b = ap (l.start_of e) (sym z) ∙ own in
+        let at0 : At w u (leave (before_end w.form) (fall_to leader) e b s.pc) s s = subst (λ k. At w u (leave (before_end w.form) (fall_to leader) e k s.pc) s s) start (subst (λ k. At w u (leave (before_end w.form) (fall_to leader) e (l.start_of e k) k) s s) z at) in
         let o = one e in
         let p = leave_row w l leader x block b off leads few e u s at0 so q (steady_le w.reached s (stops e) 2 (omega (arith, o)) steady) sign in
         let sum : leave_cost (fall_to leader) e b s.pc ≡ 0 + leave_cost (fall_to leader) e b (s.pc + 4 * 0) = zero_on (leave_cost (fall_to leader) e b s.pc) ∙ ap (λ k. 0 + leave_cost (fall_to leader) e b k) (sym z) in
@@ -126,7 +124,7 @@ module _ (w : World) (l : Lean) (leader : ℕ → Bool) (x : LeanIn w l leader) 
         let r = piece_row l.diverse w p s q.0.fit (and_parts _ _ q.0.one).0 q.0.has so calm u rest a2 in
         let next_pc : s.pc + 4 * body_length (p ∷ ps) ≡ t.pc + 4 * body_length ps = far ∙ ap (λ k. k + 4 * body_length ps) (sym there) in
         let count : length p + (body_length ps + 2) ≡ body_length (p ∷ ps) + 2 = omega arith in
-        let more = through ps e r.to t (subst (λ k. At w r.to (body_of v.code ps e k) t t) (sym there) r.at) y.sourced (subst (λ k. PiecesAt w v leader ps e k) (sym there) q.1) (ap l.start_of (sym next_pc) ∙ own) (r.sign ∙ sign) (steady_rest w.reached s k (body_length ps + 2) (subst (IsSteady w.reached s) (sym count) steady)) in
+        let more = through ps e r.to t (subst (λ k. At w r.to (body_of v.code ps e k) t t) (sym there) r.at) y.sourced (subst (λ k. PiecesAt w v leader ps e k) (sym there) q.1) (ap (l.start_of e) (sym next_pc) ∙ own) (r.sign ∙ sign) (steady_rest w.reached s k (body_length ps + 2) (subst (IsSteady w.reached s) (sym count) steady)) in
         let sum : piece_steps l.diverse p + rest_steps ps e t.pc ≡ rest_steps (p ∷ ps) e s.pc = sums (piece_steps l.diverse p) (body_steps l.diverse ps) (leave_cost (fall_to leader) e b (t.pc + 4 * body_length ps)) ∙ ap (λ k. piece_steps l.diverse p + body_steps l.diverse ps + leave_cost (fall_to leader) e b k) (sym next_pc) in
         subst (λ n. Next u s off n ⊎ Finished u n) sum
         (⊎_elim
@@ -175,7 +173,7 @@ module _ (w : World) (l : Lean) (leader : ℕ → Bool) (x : LeanIn w l leader) 
     pub sign : reg u 16 ≡ (s.pc + off * 2 ^ 32) % 2 ^ 64
     pub cursor : IsCursor w.form.spans (first_word w.form.spans + off)
 
-  module _ (entries : EntriesAt w (weave_of w l leader) leader) (counts : Counts w l leader) where
+  module _ (entries : EntriesAt w (weave_of w l leader) leader) (counts : Counts w l leader entries) where
     -- a block has no more instructions than steps
     pieces_le : (is : List Ins) → length is ≤ cost_each original_cost is
     pieces_le [] = omega arith
@@ -212,9 +210,9 @@ module _ (w : World) (l : Lean) (leader : ℕ → Bool) (x : LeanIn w l leader) 
           let e = entries s.pc b.stands.leads in
           let g = passes w l leader x u s rest s.pc enters lt small in
           let n = rest_steps s.pc off b.stands.leads b.few e.body e.end s.pc in
-          let c = counts.each (record { start = s.pc; body = e.body; end = e.end }) e.good in
+          let c = counts.each s.pc b.stands.leads in
           let few = body_le e.body in
-          let own = eqb-true (l.start_of (s.pc + 4 * body_length e.body)) s.pc (and_parts _ _ e.good.own).0 in
+          let own = eqb-true (l.start_of e.end (s.pc + 4 * body_length e.body)) s.pc (and_parts _ _ e.good.own).0 in
           let walk : Walk (Quiet w) u 2 g.to = subst (λ k. Walk (Quiet w) u k g.to) (two g.steps g.at_least g.within) g.walk in
           let t = through s.pc off b.stands.leads b.few e.body e.end g.to s g.is.0.0 b.sourced e.good.pieces own (g.is.2 ∙ b.sign) (steady_le w.reached s (body_length e.body + 2) (left + 3) (enough (body_length e.body) (body_steps l.diverse e.body) (leave_cost (fall_to leader) e.end s.pc (s.pc + 4 * body_length e.body)) (l.most s.pc) left few c lt) steady) in
           (g.to, walk, g.is.1, n, c, t) where

@@ -10,7 +10,7 @@ use Rattle.qed_model.specs.Machine.Table.{ins}
 use Rattle.qed_model.specs.Machine.Step.{HasAt}
 use Rattle.qed_model.specs.Machine.Values.{wrapped}
 use Rattle.qed_model.specs.Weave.Blocks.{begins_at}
-use Rattle.qed_model.specs.Weave.Code.{pieces_of}
+use Rattle.qed_model.specs.Weave.Code.{Sequences, pieces_of, body_of, block_items, entries_of}
 use Rattle.qed_model.specs.Weave.Placed.{distance_between, instructions_from}
 use Rattle.qed_model.specs.Weave.Sequences.{Reads, Block, body_length, guards, original, each_part, before_end, stub}
 use Rattle.qed_model.proofs.Wrapped.{difference}
@@ -30,7 +30,7 @@ use Rattle.qed_model.specs.Weave.Woven.{mirror_of}
 use Rattle.weave_core.proofs.FormMirrors.{mirrors_fit_of}
 use Rattle.lockstep.proofs.Coded.{stub_words, reads_rest}
 use Rattle.lean_weave.specs.Lean.{tick, leave}
-use Rattle.lean_weave.specs.Woven.{Lean, weave_of, fall_words, cell, cell_body, cells}
+use Rattle.lean_weave.specs.Woven.{Lean, worded, fall_words}
 use Rattle.lean_weave.proofs.Words.{tick_items, leave_items, leave_lands}
 
 -- ---- pieces
@@ -59,67 +59,70 @@ fall_lands leader t = by (leader t) where
   by false = land_go false t
 
 module _ (w : World) (l : Lean) (leader : ℕ → Bool) where
-  pieces_items : (ps : List (List Ins)) (at : ℕ) → AllPieces ps → LockItems false (pieces_of (weave_of w l leader).code ps at)
+  abbrev s : Sequences
+  s = worded w.form w.base w.entry l leader
+
+  pieces_items : (ps : List (List Ins)) (at : ℕ) → AllPieces ps → LockItems false (pieces_of s ps at)
   pieces_items [] at f = items_none false
   pieces_items (p ∷ ps) at f =
-      items_then false (each_part original p at ++ each_part (mirror_of l.diverse) p at) (pieces_of (weave_of w l leader).code ps (at + 4 * length p))
+      items_then false (each_part original p at ++ each_part (mirror_of l.diverse) p at) (pieces_of s ps (at + 4 * length p))
       (items_then false (each_part original p at) (each_part (mirror_of l.diverse) p at) (each_items original (λ i at h. original_items false i at h) p at f.0) (each_items (mirror_of l.diverse) (λ i at h. (mirrors_fit_of l.diverse false).fit i at h) p at f.0))
       (pieces_items ps (at + 4 * length p) f.1)
 
-  straight_pieces : (ps : List (List Ins)) (at : ℕ) → AllPieces ps → Straight false (pieces_of (weave_of w l leader).code ps at)
+  straight_pieces : (ps : List (List Ins)) (at : ℕ) → AllPieces ps → Straight false (pieces_of s ps at)
   straight_pieces [] at f = straight_none false
   straight_pieces (p ∷ ps) at f =
-      straight_then false (each_part original p at ++ each_part (mirror_of l.diverse) p at) (pieces_of (weave_of w l leader).code ps (at + 4 * length p))
+      straight_then false (each_part original p at ++ each_part (mirror_of l.diverse) p at) (pieces_of s ps (at + 4 * length p))
       (straight_then false (each_part original p at) (each_part (mirror_of l.diverse) p at) (straight_each original straight_original p at f.0) (straight_each (mirror_of l.diverse) (λ i at h. (mirrors_fit_of l.diverse false).straight i at h) p at f.0))
       (straight_pieces ps (at + 4 * length p) f.1)
 
   -- ---- blocks
-  body_items : (b : Block) → AllPieces b.body → GoodEnd b.end → LockItems false (cell_body w l leader b)
+  body_items : (b : Block) → AllPieces b.body → GoodEnd b.end → LockItems false (body_of s b.body b.end b.start)
   body_items b f g =
       let at = b.start + 4 * body_length b.body in
-      items_then false (pieces_of (weave_of w l leader).code b.body b.start) (leave (before_end w.form) (fall_words leader) b.end b.start at) (pieces_items b.body b.start f) (leave_items w.form (fall_words leader) b.end b.start at (fall_items leader) g)
+      items_then false (pieces_of s b.body b.start) (leave (before_end w.form) (fall_words leader) b.end (l.start_of b.end at) at) (pieces_items b.body b.start f) (leave_items w.form (fall_words leader) b.end (l.start_of b.end at) at (fall_items leader) g)
 
-  body_lands : (b : Block) → AllPieces b.body → GoodEnd b.end → LandItems false (cell_body w l leader b)
+  body_lands : (b : Block) → AllPieces b.body → GoodEnd b.end → LandItems false (body_of s b.body b.end b.start)
   body_lands b f g =
       let at = b.start + 4 * body_length b.body in
-      land_behind false (pieces_of (weave_of w l leader).code b.body b.start) (leave (before_end w.form) (fall_words leader) b.end b.start at) (straight_pieces b.body b.start f) (leave_lands w.form (fall_words leader) b.end b.start at (fall_items leader) (fall_lands leader) g)
+      land_behind false (pieces_of s b.body b.start) (leave (before_end w.form) (fall_words leader) b.end (l.start_of b.end at) at) (straight_pieces b.body b.start f) (leave_lands w.form (fall_words leader) b.end (l.start_of b.end at) at (fall_items leader) (fall_lands leader) g)
 
-  cell_items : (b : Block) → AllPieces b.body → GoodEnd b.end → LockItems false (cell w l leader b)
-  cell_items b f g = items_then false (tick (l.most b.start) (distance_between (w.entry b.start + 8) l.check)) (cell_body w l leader b) (tick_items false (l.most b.start) (distance_between (w.entry b.start + 8) l.check)) (body_items b f g)
+  block_locks : (b : Block) → AllPieces b.body → GoodEnd b.end → LockItems false (block_items s b)
+  block_locks b f g = items_then false (tick (l.most b.start) (distance_between (w.entry b.start + 8) l.check)) (body_of s b.body b.end b.start) (tick_items false (l.most b.start) (distance_between (w.entry b.start + 8) l.check)) (body_items b f g)
 
-  pub cells_items : (bs : List Block) → AllBlocks bs → LockItems false (cells w l leader bs)
-  cells_items [] f = items_none false
-  cells_items (b ∷ bs) f = items_then false (cell w l leader b) (cells w l leader bs) (cell_items b f.0 f.1) (cells_items bs f.2)
+  pub entries_locks : (bs : List Block) → AllBlocks bs → LockItems false (entries_of s bs)
+  entries_locks [] f = items_none false
+  entries_locks (b ∷ bs) f = items_then false (block_items s b) (entries_of s bs) (block_locks b f.0 f.1) (entries_locks bs f.2)
 
   -- ---- where they stand
   -- the blocks behind one
   rest_of :
-      (b : Block) (bs : List Block) (p : ℕ) → Reads false w.code w.entry p (cells w l leader (b ∷ bs) ++ stub)
-      → Reads false w.code w.entry (p + 4 * length (instructions_from false w.entry p (cell w l leader b))) (cells w l leader bs ++ stub)
-  rest_of b bs p r = reads_rest false w.code w.entry p (cell w l leader b) (cells w l leader bs ++ stub) (subst (λ k. Reads false w.code w.entry p k) (append_assoc (cell w l leader b) (cells w l leader bs) stub) r)
+      (b : Block) (bs : List Block) (p : ℕ) → Reads false w.code w.entry p (entries_of s (b ∷ bs) ++ stub)
+      → Reads false w.code w.entry (p + 4 * length (instructions_from false w.entry p (block_items s b))) (entries_of s bs ++ stub)
+  rest_of b bs p r = reads_rest false w.code w.entry p (block_items s b) (entries_of s bs ++ stub) (subst (λ k. Reads false w.code w.entry p k) (append_assoc (block_items s b) (entries_of s bs) stub) r)
 
   -- the words of some blocks stand before the stub
-  stands : (bs : List Block) (p : ℕ) → Reads false w.code w.entry p (cells w l leader bs ++ stub) → HasAt w.code p (instructions_from false w.entry p (cells w l leader bs) ++ stub_words)
-  stands bs p r = subst (HasAt w.code p) (instructions_then false w.entry p (cells w l leader bs) stub) (reads_words false w.code w.entry p (cells w l leader bs ++ stub) r)
+  stands : (bs : List Block) (p : ℕ) → Reads false w.code w.entry p (entries_of s bs ++ stub) → HasAt w.code p (instructions_from false w.entry p (entries_of s bs) ++ stub_words)
+  stands bs p r = subst (HasAt w.code p) (instructions_then false w.entry p (entries_of s bs) stub) (reads_words false w.code w.entry p (entries_of s bs ++ stub) r)
 
-  free : (bs : List Block) (p : ℕ) → AllBlocks bs → opens (instructions_from false w.entry p (cells w l leader bs) ++ stub_words) ≡ true
-  free bs p f = (cells_items bs f w.entry p).front stub_words stub_opens
+  free : (bs : List Block) (p : ℕ) → AllBlocks bs → opens (instructions_from false w.entry p (entries_of s bs) ++ stub_words) ≡ true
+  free bs p f = (entries_locks bs f w.entry p).front stub_words stub_opens
 
   -- no register is closed at the entries
   abbrev pub AllOpen : List Block → Type 0
   AllOpen [] = Unit {0}
   AllOpen (b ∷ bs) = ((w.entry b.start < 2 ^ 64) × Opens w.code (w.entry b.start)) × AllOpen bs
 
-  pub cells_open : (bs : List Block) (p : ℕ) → AllBlocks bs → p + 4 * length (instructions_from false w.entry p (cells w l leader bs)) + 64 < 2 ^ 64 → Reads false w.code w.entry p (cells w l leader bs ++ stub) → AllOpen bs
-  cells_open [] p f near r = tt
-  cells_open (b ∷ bs) p f near r =
-      let here : Opens w.code (p + 0) = opens_behind w.code p [] (instructions_from false w.entry p (cells w l leader (b ∷ bs)) ++ stub_words) (omega (arith, near)) (stands (b ∷ bs) p r) (free (b ∷ bs) p f) in
+  pub blocks_open : (bs : List Block) (p : ℕ) → AllBlocks bs → p + 4 * length (instructions_from false w.entry p (entries_of s bs)) + 64 < 2 ^ 64 → Reads false w.code w.entry p (entries_of s bs ++ stub) → AllOpen bs
+  blocks_open [] p f near r = tt
+  blocks_open (b ∷ bs) p f near r =
+      let here : Opens w.code (p + 0) = opens_behind w.code p [] (instructions_from false w.entry p (entries_of s (b ∷ bs)) ++ stub_words) (omega (arith, near)) (stands (b ∷ bs) p r) (free (b ∷ bs) p f) in
       let begins : w.entry b.start ≡ p = r.0 in
       let same : p + 0 ≡ w.entry b.start = omega (arith, begins) in
-      let x = instructions_from false w.entry p (cell w l leader b) in
-      let next = p + 4 * length (instructions_from false w.entry p (cell w l leader b)) in
-      let count = ap length (instructions_then false w.entry p (cell w l leader b) (cells w l leader bs)) ∙ length-append x (instructions_from false w.entry next (cells w l leader bs)) in
-      ((omega (arith, near, begins), subst (Opens w.code) same here), cells_open bs next f.2 (omega (arith, near, count)) (rest_of b bs p r))
+      let x = instructions_from false w.entry p (block_items s b) in
+      let next = p + 4 * length (instructions_from false w.entry p (block_items s b)) in
+      let count = ap length (instructions_then false w.entry p (block_items s b) (entries_of s bs)) ∙ length-append x (instructions_from false w.entry next (entries_of s bs)) in
+      ((omega (arith, near, begins), subst (Opens w.code) same here), blocks_open bs next f.2 (omega (arith, near, count)) (rest_of b bs p r))
 
   pub open_of : (bs : List Block) (t : ℕ) → AllOpen bs → begins_at bs t ≡ true → (w.entry t < 2 ^ 64) × Opens w.code (w.entry t)
   open_of [] t m h = absurd (false≢true h)
@@ -141,12 +144,12 @@ module _ (w : World) (l : Lean) (leader : ℕ → Bool) where
         (tt, ((λ g. over), (there, (tt, tt))))
 
     -- a block
-    cell_lands :
-        (b : Block) (p : ℕ) (ys : List Ins) → AllPieces b.body → GoodEnd b.end → w.entry b.start ≡ p → p + 4 * length (instructions_from false w.entry p (cell w l leader b)) + 128 < 2 ^ 64
-        → HasAt w.code p (instructions_from false w.entry p (cell w l leader b) ++ ys) → opens ys ≡ true → AllLand w.code p (instructions_from false w.entry p (cell w l leader b))
-    cell_lands b p ys f g is near has o =
+    block_lands :
+        (b : Block) (p : ℕ) (ys : List Ins) → AllPieces b.body → GoodEnd b.end → w.entry b.start ≡ p → p + 4 * length (instructions_from false w.entry p (block_items s b)) + 128 < 2 ^ 64
+        → HasAt w.code p (instructions_from false w.entry p (block_items s b) ++ ys) → opens ys ≡ true → AllLand w.code p (instructions_from false w.entry p (block_items s b))
+    block_lands b p ys f g is near has o =
         let t = tick (l.most b.start) (distance_between (w.entry b.start + 8) l.check) in
-        let body = cell_body w l leader b in
+        let body = body_of s b.body b.end b.start in
         let ts = instructions_from false w.entry p t in
         let bs = instructions_from false w.entry (p + 4 * 4) body in
         let whole : instructions_from false w.entry p (t ++ body) ≡ ts ++ bs = instructions_then false w.entry p t body in
@@ -157,17 +160,17 @@ module _ (w : World) (l : Lean) (leader : ℕ → Bool) where
         let second = body_lands b f g w.code w.entry (p + 4 * 4) ys (omega (arith, near, count)) (has_rest w.code p ts (bs ++ ys) split) o entries in
         subst (AllLand w.code p) (sym whole) (all_land_append w.code p ts bs first second)
 
-    pub cells_land :
-        (bs : List Block) (p : ℕ) → AllBlocks bs → p + 4 * length (instructions_from false w.entry p (cells w l leader bs)) + 128 < 2 ^ 64 → Reads false w.code w.entry p (cells w l leader bs ++ stub)
-        → AllLand w.code p (instructions_from false w.entry p (cells w l leader bs))
-    cells_land [] p f near r = tt
-    cells_land (b ∷ bs) p f near r =
-        let x = instructions_from false w.entry p (cell w l leader b) in
-        let next = p + 4 * length (instructions_from false w.entry p (cell w l leader b)) in
-        let y = instructions_from false w.entry next (cells w l leader bs) in
-        let whole : instructions_from false w.entry p (cells w l leader (b ∷ bs)) ≡ x ++ y = instructions_then false w.entry p (cell w l leader b) (cells w l leader bs) in
+    pub entries_land :
+        (bs : List Block) (p : ℕ) → AllBlocks bs → p + 4 * length (instructions_from false w.entry p (entries_of s bs)) + 128 < 2 ^ 64 → Reads false w.code w.entry p (entries_of s bs ++ stub)
+        → AllLand w.code p (instructions_from false w.entry p (entries_of s bs))
+    entries_land [] p f near r = tt
+    entries_land (b ∷ bs) p f near r =
+        let x = instructions_from false w.entry p (block_items s b) in
+        let next = p + 4 * length (instructions_from false w.entry p (block_items s b)) in
+        let y = instructions_from false w.entry next (entries_of s bs) in
+        let whole : instructions_from false w.entry p (entries_of s (b ∷ bs)) ≡ x ++ y = instructions_then false w.entry p (block_items s b) (entries_of s bs) in
         let count = ap length whole ∙ length-append x y in
         let has : HasAt w.code p (x ++ (y ++ stub_words)) = subst (HasAt w.code p) (ap (λ k. k ++ stub_words) whole ∙ append_assoc x y stub_words) (stands (b ∷ bs) p r) in
-        let first = cell_lands b p (y ++ stub_words) f.0 f.1 r.0 (omega (arith, near, count)) has (free bs next f.2) in
-        let second = cells_land bs next f.2 (omega (arith, near, count)) (rest_of b bs p r) in
+        let first = block_lands b p (y ++ stub_words) f.0 f.1 r.0 (omega (arith, near, count)) has (free bs next f.2) in
+        let second = entries_land bs next f.2 (omega (arith, near, count)) (rest_of b bs p r) in
         subst (AllLand w.code p) (sym whole) (all_land_append w.code p x y first second)

@@ -77,11 +77,11 @@ module _ (w : World) (l : Lean) (leader : ℕ → Bool) (x : LeanIn w l leader) 
     onward (is_lost going h so lacks) = is_lost going h so lacks
 
   pub leave_law :
-      (e : End) (b : ℕ) (u s : State) → is_ticked_at l.every w u b ≡ true → ((l.start_of s.pc == b) && leader b) ≡ true → At w u (leave (before_end w.form) (fall_to leader) e (l.start_of s.pc) s.pc) s s → Sourced w s
+      (e : End) (b : ℕ) (u s : State) → is_ticked_at l.every w u b ≡ true → ((l.start_of e s.pc == b) && leader b) ≡ true → At w u (leave (before_end w.form) (fall_to leader) e (l.start_of e s.pc) s.pc) s s → Sourced w s
       → EndStands w leader e s.pc → IsSteady w.reached s (stops e) → Left w v leader u (run s (stops e)) (stops e)
   leave_law e b u s held own at so g steady =
       let p = and_parts _ _ own in
-      let at_b : At w u (leave (before_end w.form) (fall_to leader) e b s.pc) s s = subst (λ a. At w u (leave (before_end w.form) (fall_to leader) e a s.pc) s s) (eqb-true (l.start_of s.pc) b p.0) at in
+      let at_b : At w u (leave (before_end w.form) (fall_to leader) e b s.pc) s s = subst (λ a. At w u (leave (before_end w.form) (fall_to leader) e a s.pc) s s) (eqb-true (l.start_of e s.pc) b p.0) at in
       let low = (entries b p.1).low in
       let k = ticked_of l.every w u b held in
       from_parts b u (run s (stops e)) (stops e) (leave_cost (fall_to leader) e b s.pc) k (leave_most e w leader b s.pc g) (leave_row b k.offset p.1 k.few e u s at_b so g steady k.sign)

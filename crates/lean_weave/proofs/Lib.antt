@@ -18,3 +18,6 @@ pub mod Words
 pub mod Plan
 pub mod Lands
 pub mod Promise
+pub mod Unmarked
+pub mod Blocks
+pub mod Tests

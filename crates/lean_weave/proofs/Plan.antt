@@ -1,5 +1,5 @@
 -- The code of a plan: where its parts stand, the entries of its blocks, and where its words lead.
-use Rattle.std.proofs.Common.{◌≡◌, ℕ, ◌+◌, ◌*◌, ◌%◌, ◌^◌, ⊎_elim, Bool, true, false, cond, List, [], ◌∷◌, ◌++◌, refl, sym, ap, ◌∙◌, subst, append_assoc}
+use Rattle.std.proofs.Common.{◌≡◌, ℕ, ◌+◌, ◌*◌, ◌%◌, ◌^◌, ◌≤◌, length, ⊎_elim, Bool, true, false, cond, List, [], ◌∷◌, ◌++◌, refl, sym, ap, ◌∙◌, subst, append_assoc}
 use Rattle.std.specs.Prelude.{◌==◌, ◌&&◌, pos}
 use Rattle.std.proofs.lemmas.Bool.{and_parts, eq-eqb, eqb-true, false≢true, or_cases}
 use Rattle.std.proofs.lemmas.List.{append-nil}
@@ -13,16 +13,15 @@ use Rattle.qed_model.specs.Machine.Table.{ins}
 use Rattle.qed_model.specs.Machine.Step.{Fetched, target}
 use Rattle.qed_model.specs.Promise.Closed.{is_branch}
 use Rattle.qed_model.specs.Weave.Blocks.{begins_at}
-use Rattle.qed_model.specs.Weave.Code.{pieces_of}
-use Rattle.qed_model.specs.Weave.Placed.{distance_between, sum_of_sizes}
+use Rattle.qed_model.specs.Weave.Code.{Sequences, pieces_of, body_of, block_items, entries_of}
+use Rattle.qed_model.specs.Weave.Placed.{sum_of_sizes}
 use Rattle.qed_model.specs.Weave.Sequences.{Reads, End, Falls, Stops, Block, body_length, before_end, guards_of}
 use Rattle.weave_core.specs.World.{World}
-use Rattle.weave_core.specs.Weave.{Weave}
 use Rattle.weave_core.specs.WeaveLaws.{BlockOf, EntryAt}
 use Rattle.weave_core.specs.WeavePromise.{AllBlocksOf}
 use Rattle.weave_core.proofs.Entries.{reads_front}
-use Rattle.lean_weave.specs.Lean.{tick, turn, goes, opposite, leave, leave_as}
-use Rattle.lean_weave.specs.Woven.{Lean, weave_of, fall_to, fall_words, cell, cell_body, cells, goes_on, begins_with, InOrder}
+use Rattle.lean_weave.specs.Lean.{turn, goes, opposite, leave, leave_as}
+use Rattle.lean_weave.specs.Woven.{Lean, weave_of, worded, block_steps, fall_to, fall_words, goes_on, begins_with, InOrder, AreCounted}
 use Rattle.lean_weave.proofs.Ways.{reads_behind, reads_join}
 
 -- ---- what stands behind a block
@@ -73,53 +72,67 @@ module _ (c : ℕ → Fetched) (en : ℕ → ℕ) (leader : ℕ → Bool) (befor
   swap_leave (Stops i) a at p rest r m = swap_as (class_of i.kind) i a at p rest r m
 
 -- ---- the entries
+-- what stands at the entry of a leader, whose tick counts it
+pub record Counted (w : World) (l : Lean) (leader : ℕ → Bool) (a : ℕ) : Type 0 where
+  pub entry : EntryAt w (weave_of w l leader) leader a
+  pub counts : block_steps l.diverse leader (record { start = a; body = entry.body; end = entry.end }) ≤ l.most a
+
 module _ (w : World) (l : Lean) (leader : ℕ → Bool) where
-  abbrev v : Weave
-  v = weave_of w l leader
+  abbrev s : Sequences
+  s = worded w.form w.base w.entry l leader
+
+  -- the pieces are those of the weave
+  pieces_same : (ps : List (List Ins)) (at : ℕ) → pieces_of s ps at ≡ pieces_of (weave_of w l leader).code ps at
+  pieces_same [] at = refl
+  pieces_same (p ∷ ps) at = ap (λ k. (weave_of w l leader).code.piece p at ++ k) (pieces_same ps (at + 4 * length p))
 
   -- the block behind begins with its mark
   next_marked :
       (b : Block) (bs : List Block) (rest : List Item) → InOrder leader (b ∷ bs) → (t : ℕ) → goes_on b.end (b.start + 4 * body_length b.body) t ≡ true → leader t ≡ true
-      → Marked (cells w l leader bs ++ rest) t
+      → Marked (entries_of s bs ++ rest) t
   next_marked b bs rest o t g h = by bs (o.0 t g h) where
-    by : (bs : List Block) → begins_with bs t → Marked (cells w l leader bs ++ rest) t
+    by : (bs : List Block) → begins_with bs t → Marked (entries_of s bs ++ rest) t
     by [] x = absurd x
     by (d ∷ ds) x = record {
-      more = ((tick (l.most d.start) (distance_between (w.entry d.start + 8) l.check) ++ cell_body w l leader d) ++ cells w l leader ds) ++ rest;
-      is = ap (λ k. Mark k ∷ (((tick (l.most d.start) (distance_between (w.entry d.start + 8) l.check) ++ cell_body w l leader d) ++ cells w l leader ds) ++ rest)) x;
+      more = ((s.enter d.start ++ body_of s d.body d.end d.start) ++ entries_of s ds) ++ rest;
+      is = ap (λ k. Mark k ∷ (((s.enter d.start ++ body_of s d.body d.end d.start) ++ entries_of s ds) ++ rest)) x;
     }
 
   -- a block reads as its sequences
-  cell_entry :
-      (near : w.form.far ≡ false) (b : Block) (p : ℕ) (rest : List Item) → Reads false w.code w.entry p (cell w l leader b ++ rest) → BlockOf w (weave_of w l leader) leader b
-      → ((t : ℕ) → goes_on b.end (b.start + 4 * body_length b.body) t ≡ true → leader t ≡ true → Marked rest t) → EntryAt w (weave_of w l leader) leader b.start
-  cell_entry near b p rest r good next =
-      let t = tick (l.most b.start) (distance_between (w.entry b.start + 8) l.check) in
-      let ps = pieces_of (weave_of w l leader).code b.body b.start in
+  block_entry :
+      (near : w.form.far ≡ false) (b : Block) (p : ℕ) (rest : List Item) → Reads false w.code w.entry p (block_items s b ++ rest) → BlockOf w (weave_of w l leader) leader b
+      → block_steps l.diverse leader b ≤ l.most b.start → ((t : ℕ) → goes_on b.end (b.start + 4 * body_length b.body) t ≡ true → leader t ≡ true → Marked rest t) → Counted w l leader b.start
+  block_entry near b p rest r good counted next =
       let at = b.start + 4 * body_length b.body in
-      let words = leave (before_end w.form) (fall_words leader) b.end b.start at in
+      let t = s.enter b.start in
+      let ps = pieces_of s b.body b.start in
+      let a = l.start_of b.end at in
+      let words = leave (before_end w.form) (fall_words leader) b.end a at in
+      let falls = leave (before_end w.form) (fall_to leader) b.end a at in
       let shape : (t ++ (ps ++ words)) ++ rest ≡ (t ++ ps) ++ (words ++ rest) = ap (λ k. k ++ rest) (sym (append_assoc t ps words)) ∙ append_assoc (t ++ ps) words rest in
       let whole : Reads false w.code w.entry p ((t ++ ps) ++ (words ++ rest)) = subst (λ k. Reads false w.code w.entry p k) shape r.1 in
       let first = reads_front false w.code w.entry p (t ++ ps) (words ++ rest) whole in
       let behind = reads_behind false w.code w.entry p (t ++ ps) (words ++ rest) whole in
-      let left = swap_leave w.code w.entry leader (before_end w.form) b.end b.start at (p + sum_of_sizes false (t ++ ps)) rest behind next in
-      let start : b.start ≡ l.start_of at = sym (eqb-true (l.start_of at) b.start (and_parts _ _ good.own).0) in
-      let joined : Reads false w.code w.entry p (t ++ (ps ++ leave (before_end w.form) (fall_to leader) b.end b.start at)) = subst (λ k. Reads false w.code w.entry p k) (append_assoc t ps (leave (before_end w.form) (fall_to leader) b.end b.start at)) (reads_join false w.code w.entry p (t ++ ps) (leave (before_end w.form) (fall_to leader) b.end b.start at) first left) in
-      let read : Reads false w.code w.entry p (t ++ (ps ++ leave (before_end w.form) (fall_to leader) b.end (l.start_of at) at)) = subst (λ a. Reads false w.code w.entry p (t ++ (ps ++ leave (before_end w.form) (fall_to leader) b.end a at))) start joined in
+      let left = swap_leave w.code w.entry leader (before_end w.form) b.end a at (p + sum_of_sizes false (t ++ ps)) rest behind next in
+      let joined : Reads false w.code w.entry p (t ++ (ps ++ falls)) = subst (λ k. Reads false w.code w.entry p k) (append_assoc t ps falls) (reads_join false w.code w.entry p (t ++ ps) falls first left) in
+      let read : Reads false w.code w.entry p (t ++ (pieces_of (weave_of w l leader).code b.body b.start ++ falls)) = subst (λ k. Reads false w.code w.entry p (t ++ (k ++ falls))) (pieces_same b.body b.start) joined in
       record {
-        body = b.body;
-        end = b.end;
-        reads = (refl, subst (λ f. Reads f w.code w.entry (w.entry b.start) (t ++ (ps ++ leave (before_end w.form) (fall_to leader) b.end (l.start_of at) at))) (sym near) (subst (λ q. Reads false w.code w.entry q (t ++ (ps ++ leave (before_end w.form) (fall_to leader) b.end (l.start_of at) at))) (sym r.0) read));
-        good = good;
+        entry = record {
+          body = b.body;
+          end = b.end;
+          reads = (refl, subst (λ f. Reads f w.code w.entry (w.entry b.start) (t ++ (pieces_of (weave_of w l leader).code b.body b.start ++ falls))) (sym near) (subst (λ q. Reads false w.code w.entry q (t ++ (pieces_of (weave_of w l leader).code b.body b.start ++ falls))) (sym r.0) read));
+          good = good;
+        };
+        counts = counted;
       }
 
   pub entry_of :
-      (near : w.form.far ≡ false) (bs : List Block) (p a : ℕ) (rest : List Item) → Reads false w.code w.entry p (cells w l leader bs ++ rest) → AllBlocksOf w (weave_of w l leader) leader bs
-      → InOrder leader bs → begins_at bs a ≡ true → EntryAt w (weave_of w l leader) leader a
-  entry_of near [] p a rest r good o e = absurd (false≢true e)
-  entry_of near (b ∷ bs) p a rest r good o e =
-      let split : Reads false w.code w.entry p (cell w l leader b ++ (cells w l leader bs ++ rest)) = subst (λ k. Reads false w.code w.entry p k) (append_assoc (cell w l leader b) (cells w l leader bs) rest) r in
+      (near : w.form.far ≡ false) (bs : List Block) (p a : ℕ) (rest : List Item) → Reads false w.code w.entry p (entries_of s bs ++ rest) → AllBlocksOf w (weave_of w l leader) leader bs
+      → AreCounted l leader bs → InOrder leader bs → begins_at bs a ≡ true → Counted w l leader a
+  entry_of near [] p a rest r good counted o e = absurd (false≢true e)
+  entry_of near (b ∷ bs) p a rest r good counted o e =
+      let split : Reads false w.code w.entry p (block_items s b ++ (entries_of s bs ++ rest)) = subst (λ k. Reads false w.code w.entry p k) (append_assoc (block_items s b) (entries_of s bs) rest) r in
       ⊎_elim
-      (λ x. subst (EntryAt w (weave_of w l leader) leader) (eqb-true b.start a x) (cell_entry near b p (cells w l leader bs ++ rest) split good.0 (next_marked b bs rest o)))
-      (λ x. entry_of near bs (p + sum_of_sizes false (cell w l leader b)) a rest (reads_behind false w.code w.entry p (cell w l leader b) (cells w l leader bs ++ rest) split) good.1 o.1 x)
+      (λ x. subst (Counted w l leader) (eqb-true b.start a x) (block_entry near b p (entries_of s bs ++ rest) split good.0 counted.0 (next_marked b bs rest o)))
+      (λ x. entry_of near bs (p + sum_of_sizes false (block_items s b)) a rest (reads_behind false w.code w.entry p (block_items s b) (entries_of s bs ++ rest) split) good.1 counted.1 o.1 x)
       (or_cases (b.start == a) (begins_at bs a) e)

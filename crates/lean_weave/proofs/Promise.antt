@@ -1,5 +1,5 @@
 -- A plan of the lean form keeps the values, its code is calm, by its trace changes are caught, and with the sweep none is silent at the end.
-use Rattle.std.proofs.Common.{◌≡◌, ℕ, ◌+◌, ◌*◌, ◌^◌, ◌<◌, ◌≤◌, ⊎_elim, Bool, true, false, List, [], ◌++◌, length, Some, refl, sym, ap, ◌∙◌, subst, arith, append_assoc, length-append}
+use Rattle.std.proofs.Common.{◌≡◌, ℕ, zero, suc, ◌+◌, ◌*◌, ◌^◌, ◌<◌, ◌≤◌, ⊎_elim, Bool, true, false, List, [], ◌++◌, length, Some, refl, sym, ap, ◌∙◌, subst, arith, append_assoc, length-append}
 use Rattle.rv_isa.specs.declared.ins.Ins.{Ins}
 use Rattle.qed_model.specs.declared.bounds.Bounds.{Bounds}
 use Rattle.qed_model.specs.declared.item.Item.{Item}
@@ -10,6 +10,7 @@ use Rattle.qed_model.specs.Promise.Caught.{Caught}
 use Rattle.qed_model.specs.Promise.Clean.{Clean}
 use Rattle.qed_model.specs.Promise.Kept.{Kept}
 use Rattle.qed_model.specs.Weave.Blocks.{begins_at}
+use Rattle.qed_model.specs.Weave.Code.{Sequences, entries_of}
 use Rattle.qed_model.specs.Weave.Bounds.{cost_of}
 use Rattle.qed_model.specs.Weave.Pieces.{piece_count}
 use Rattle.qed_model.specs.Weave.Placed.{instructions_from}
@@ -34,18 +35,21 @@ use Rattle.lockstep.proofs.Promise.{Times, BoundsBy, settles}
 use Rattle.lockstep.proofs.Trace.{Sizes}
 use Rattle.lockstep.proofs.Weaves.{all_blocks}
 use Rattle.lean_weave.specs.Lean.{check, begin}
-use Rattle.lean_weave.specs.Woven.{Lean, LeanPlan, LeanKept, LeanCaught, LeanClean, IsBoundsOf, weave_of, cells, check_steps, swept_steps}
+use Rattle.lean_weave.specs.Woven.{Lean, LeanPlan, LeanKept, LeanCaught, LeanClean, IsBoundsOf, weave_of, worded, check_steps, swept_steps, period, word_bound}
 use Rattle.lean_weave.proofs.Beats.{sizes, traced, Bound, swept_end}
 use Rattle.lean_weave.proofs.Begin.{lean_starts}
 use Rattle.lean_weave.proofs.Cells.{Counts}
-use Rattle.lean_weave.proofs.Lands.{cells_items, cells_open, open_of, cells_land}
+use Rattle.lean_weave.proofs.Lands.{entries_locks, blocks_open, open_of, entries_land}
 use Rattle.lean_weave.proofs.Left.{lean_rows}
-use Rattle.lean_weave.proofs.Plan.{entry_of}
+use Rattle.lean_weave.proofs.Plan.{Counted, entry_of}
 use Rattle.lean_weave.proofs.Words.{begin_items, begin_lands, check_items, check_lands}
 
 module _ (f g : Program) (w : World) (l : Lean) (blocks : List Block) (p : LeanPlan f g w l blocks) where
   abbrev leader : ℕ → Bool
   leader a = begins_at blocks a
+
+  abbrev sequences : Sequences
+  sequences = worded w.form w.base w.entry l leader
 
   -- the three parts of the code
   abbrev first : List Item
@@ -55,7 +59,7 @@ module _ (f g : Program) (w : World) (l : Lean) (blocks : List Block) (p : LeanP
   middle = check w.base l.every w.form.round w.form.spans
 
   abbrev last : List Item
-  last = cells w l leader blocks
+  last = entries_of sequences blocks
 
   -- where they stand
   abbrev at_check : ℕ
@@ -69,35 +73,45 @@ module _ (f g : Program) (w : World) (l : Lean) (blocks : List Block) (p : LeanP
   check_is = let s = length-instructions false w.entry g.entry first in let e = p.check in omega (arith, s, e)
 
   -- their words
+  whole_words : Reads false w.code w.entry g.entry (first ++ ((middle ++ last) ++ stub))
+  whole_words = subst (λ k. Reads false w.code w.entry g.entry k) (append_assoc first middle (last ++ stub) ∙ ap (λ k. first ++ k) (sym (append_assoc middle last stub))) p.words
+
+  code_words : Reads false w.code w.entry g.entry ((first ++ (middle ++ last)) ++ stub)
+  code_words = subst (λ k. Reads false w.code w.entry g.entry k) (sym (append_assoc first (middle ++ last) stub)) whole_words
+
   reads_check : Reads false w.code w.entry at_check ((middle ++ last) ++ stub)
-  reads_check = reads_rest false w.code w.entry g.entry first ((middle ++ last) ++ stub) (subst (λ k. Reads false w.code w.entry g.entry k) (append_assoc first (middle ++ last) stub) p.words)
+  reads_check = reads_rest false w.code w.entry g.entry first ((middle ++ last) ++ stub) (whole_words)
 
   reads_cells : Reads false w.code w.entry at_cells (last ++ stub)
   reads_cells = reads_rest false w.code w.entry at_check middle (last ++ stub) (subst (λ k. Reads false w.code w.entry at_check k) (append_assoc middle last stub) reads_check)
 
   -- the entries
-  entries : EntriesAt w (weave_of w l leader) leader
-  entries a h = entry_of w l leader p.sound.near blocks at_cells a stub reads_cells p.good p.order h
+  counted : (a : ℕ) → leader a ≡ true → Counted w l leader a
+  counted a h = entry_of w l leader p.sound.near blocks at_cells a stub reads_cells p.good p.counts p.order h
 
-  counts : Counts w l leader
-  counts = record { each = p.counts }
+  entries : EntriesAt w (weave_of w l leader) leader
+  entries a h = (counted a h).entry
+
+  counts : Counts w l leader entries
+  unfolding entries
+  counts = record { each = λ a h. (counted a h).counts }
 
   begins : Reads w.form.far w.code w.entry g.entry (begin w.distance f.entry)
-  begins = subst (λ b. Reads b w.code w.entry g.entry first) (sym p.sound.near) (reads_front false w.code w.entry g.entry first ((middle ++ last) ++ stub) (subst (λ k. Reads false w.code w.entry g.entry k) (append_assoc first (middle ++ last) stub) p.words))
+  begins = subst (λ b. Reads b w.code w.entry g.entry first) (sym p.sound.near) (reads_front false w.code w.entry g.entry first ((middle ++ last) ++ stub) (whole_words))
 
   -- ---- the words
   good : AllBlocks blocks
   good = all_blocks w (weave_of w l leader) leader blocks p.good
 
   rest_items : LockItems false (middle ++ last)
-  rest_items = items_then false middle last (check_items false w.base l.every w.form.round w.form.spans) (cells_items w l leader blocks good)
+  rest_items = items_then false middle last (check_items false w.base l.every w.form.round w.form.spans) (entries_locks w l leader blocks good)
 
   body_items : LockItems false (first ++ (middle ++ last))
   body_items = items_then false first (middle ++ last) (begin_items w.distance f.entry) rest_items
 
   -- all words stand before the stub, far below 2^64
   words_has : HasAt w.code g.entry (instructions_from false w.entry g.entry (first ++ (middle ++ last)) ++ stub_words)
-  words_has = subst (HasAt w.code g.entry) (instructions_then false w.entry g.entry (first ++ (middle ++ last)) stub) (reads_words false w.code w.entry g.entry ((first ++ (middle ++ last)) ++ stub) p.words)
+  words_has = subst (HasAt w.code g.entry) (instructions_then false w.entry g.entry (first ++ (middle ++ last)) stub) (reads_words false w.code w.entry g.entry ((first ++ (middle ++ last)) ++ stub) code_words)
 
   near : g.entry + 4 * length (instructions_from false w.entry g.entry (first ++ (middle ++ last))) + 128 < 2 ^ 64
   near = let low = w.low (g.entry + 4 * length (instructions_from false w.entry g.entry (first ++ (middle ++ last)))) _ (has_rest w.code g.entry (instructions_from false w.entry g.entry (first ++ (middle ++ last))) stub_words words_has).0 in omega (arith, low)
@@ -124,7 +138,7 @@ module _ (f g : Program) (w : World) (l : Lean) (blocks : List Block) (p : LeanP
         zero_on n = omega arith
 
   entries_open : OpenEntries w.code w.entry
-  entries_open t = ⊎_elim (λ h. open_of w l leader blocks t (cells_open w l leader blocks at_cells good (omega (arith, near, count)) reads_cells) h) (λ z. stub_open w t z) (p.stubbed t)
+  entries_open t = ⊎_elim (λ h. open_of w l leader blocks t (blocks_open w l leader blocks at_cells good (omega (arith, near, count)) reads_cells) h) (λ z. stub_open w t z) (p.only.stubbed t)
 
   -- where all lead
   lands : AllLand w.code g.entry (instructions_from false w.entry g.entry (first ++ (middle ++ last)))
@@ -135,21 +149,27 @@ module _ (f g : Program) (w : World) (l : Lean) (blocks : List Block) (p : LeanP
       let has : HasAt w.code g.entry (x ++ ((y ++ z) ++ stub_words)) = subst (HasAt w.code g.entry) (ap (λ k. k ++ stub_words) whole ∙ append_assoc x (y ++ z) stub_words) words_has in
       let has_y : HasAt w.code at_check (y ++ (z ++ stub_words)) = subst (HasAt w.code at_check) (append_assoc y z stub_words) (has_rest w.code g.entry x ((y ++ z) ++ stub_words) has) in
       let open_yz : opens ((y ++ z) ++ stub_words) ≡ true = subst (λ k. opens (k ++ stub_words) ≡ true) (instructions_then false w.entry at_check middle last) ((rest_items w.entry at_check).front stub_words stub_opens) in
-      let open_z : opens (z ++ stub_words) ≡ true = (cells_items w l leader blocks good w.entry at_cells).front stub_words stub_opens in
+      let open_z : opens (z ++ stub_words) ≡ true = (entries_locks w l leader blocks good w.entry at_cells).front stub_words stub_opens in
       let one = begin_lands w.distance f.entry w.code w.entry g.entry ((y ++ z) ++ stub_words) (omega (arith, near, count)) has open_yz entries_open in
       let two = check_lands false w.base l.every w.form.round w.form.spans w.code w.entry at_check (z ++ stub_words) (omega (arith, near, count)) has_y open_z entries_open in
-      let three = cells_land w l leader (omega (arith, near, count, check_is)) check_open entries_open blocks at_cells good (omega (arith, near, count)) reads_cells in
+      let three = entries_land w l leader (omega (arith, near, count, check_is)) check_open entries_open blocks at_cells good (omega (arith, near, count)) reads_cells in
       subst (AllLand w.code g.entry) (sym whole) (all_land_append w.code g.entry x (y ++ z) one (all_land_append w.code at_check y z two three))
 
   -- ---- the code is calm
+  -- nothing else is code
+  only : (a : ℕ) (i : Ins) → w.code a ≡ Known i → (k : ℕ) × (a ≡ g.entry + 4 * k) × (a ≤ g.entry + 4 * length (instructions_from false w.entry g.entry (first ++ (middle ++ last))))
+  only =
+      subst (λ k. (a : ℕ) (i : Ins) → w.code a ≡ Known i → (n : ℕ) × (a ≡ g.entry + 4 * n) × (a ≤ g.entry + 4 * length (instructions_from false w.entry g.entry k))) (append_assoc first middle last)
+      (subst (λ b. (a : ℕ) (i : Ins) → w.code a ≡ Known i → (n : ℕ) × (a ≡ g.entry + 4 * n) × (a ≤ g.entry + 4 * length (instructions_from b w.entry g.entry ((first ++ middle) ++ last)))) p.sound.near p.only.only)
+
   words : (a : ℕ) (i : Ins) → w.code a ≡ Known i → WordAt w.code a i
   words =
       let body = first ++ (middle ++ last) in
       let far = sym p.sound.near in
       let items : LockItems w.form.far (first ++ (middle ++ last)) = subst (λ b. LockItems b (first ++ (middle ++ last))) far body_items in
-      let reads : Reads w.form.far w.code w.entry g.entry ((first ++ (middle ++ last)) ++ stub) = subst (λ b. Reads b w.code w.entry g.entry ((first ++ (middle ++ last)) ++ stub)) far p.words in
+      let reads : Reads w.form.far w.code w.entry g.entry ((first ++ (middle ++ last)) ++ stub) = subst (λ b. Reads b w.code w.entry g.entry ((first ++ (middle ++ last)) ++ stub)) far code_words in
       word_of w g.entry body items reads (subst (λ b. AllLand w.code g.entry (instructions_from b w.entry g.entry (first ++ (middle ++ last)))) far lands)
-      (subst (λ b. (a : ℕ) (i : Ins) → w.code a ≡ Known i → (k : ℕ) × (a ≡ g.entry + 4 * k) × (a ≤ g.entry + 4 * length (instructions_from b w.entry g.entry (first ++ (middle ++ last))))) far p.only)
+      (subst (λ b. (a : ℕ) (i : Ins) → w.code a ≡ Known i → (k : ℕ) × (a ≡ g.entry + 4 * k) × (a ≤ g.entry + 4 * length (instructions_from b w.entry g.entry (first ++ (middle ++ last))))) far only)
 
   woven : WeaveIn f g w (weave_of w l leader) leader
   woven = record { rows = lean_rows w l leader p.sound; starts = lean_starts f g w l leader p.sound; world = p.world; entries = entries; leads = p.begins; begins = begins }
@@ -174,8 +194,12 @@ module _ (f g : Program) (w : World) (l : Lean) (blocks : List Block) (p : LeanP
     by : BoundsBy w z w.form.round 34 bounds
     by = record {
       register = let r = are.register in omega (arith, r);
-      word = λ h. are.word h ∙ ap Some (sum (swept_steps w) ((piece_count w.form.round (word_count w.form.spans) + 1) * (check_steps w + (l.every + 2))));
+      word = λ h. are.word ∙ word_some (word_count w.form.spans) h ∙ ap Some (sum (swept_steps w) ((piece_count w.form.round (word_count w.form.spans) + 1) * (check_steps w + (l.every + 2))));
     } where
+      word_some : (n : ℕ) → 1 ≤ n → word_bound n w.form.round (swept_steps w) (period (check_steps w) l.every) ≡ Some (67 + swept_steps w + (piece_count w.form.round n + 1) * (check_steps w + (l.every + 2)))
+      word_some zero h = absurd (omega (arith, h))
+      word_some (suc n) h = refl
+
       sum : (s n : ℕ) → 67 + s + n ≡ 34 + (2 + s) + (n + 31)
       sum s n = omega arith
 

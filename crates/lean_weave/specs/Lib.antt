@@ -1,2 +1,3 @@
 pub mod Lean
 pub mod Woven
+pub mod Tests

@@ -1,5 +1,5 @@
 -- The lean form as a weave, and what is asked of the words and the table that it is woven in.
-use Rattle.std.specs.Prelude.{◌≡◌, ℕ, ◌+◌, ◌-◌, ◌*◌, ◌%◌, ◌^◌, ◌<◌, ◌≤◌, ◌⊎◌, pos, Some, Bool, true, false, cond, ◌==◌, ◌&&◌, nat_le, List, [], ◌∷◌, ◌++◌, length}
+use Rattle.std.specs.Prelude.{◌≡◌, ℕ, zero, suc, Option, None, ◌+◌, ◌-◌, ◌*◌, ◌%◌, ◌^◌, ◌<◌, ◌≤◌, ◌⊎◌, pos, Some, Bool, true, false, cond, ◌==◌, ◌&&◌, nat_le, List, [], ◌∷◌, ◌++◌, length}
 use Rattle.rv_isa.specs.declared.ins.Ins.{Ins}
 use Rattle.qed_model.specs.declared.item.Item.{Item}
 use Rattle.qed_model.specs.declared.item.Item.TheVariants.{Mark, Go}
@@ -8,18 +8,18 @@ use Rattle.qed_model.specs.Machine.Step.{Known}
 use Rattle.qed_model.specs.Weave.Bounds.{visit_bound, end_bound, cost_of}
 use Rattle.qed_model.specs.Weave.Pieces.{is_run, piece_count}
 use Rattle.qed_model.specs.Weave.Placed.{distance_between, sum_of_sizes, instructions_from}
-use Rattle.qed_model.specs.Weave.Sequences.{Reads, End, Falls, Stops, Block, body_length, original, each_part, before_end, stub}
+use Rattle.qed_model.specs.Weave.Sequences.{Form, Reads, End, Falls, Stops, Block, body_length, original, each_part, before_end, stub}
 use Rattle.qed_model.specs.Machine.Program.{Program}
 use Rattle.qed_model.specs.Promise.Kept.{Kept}
 use Rattle.weave_core.specs.Describes.{Describes}
 use Rattle.weave_core.specs.WeaveLaws.{BlockOf}
-use Rattle.weave_core.specs.WeavePromise.{AllBlocksOf}
+use Rattle.weave_core.specs.WeavePromise.{AllBlocksOf, OnlyCode}
 use Rattle.weave_core.specs.Each.{cost_each}
 use Rattle.weave_core.specs.Parts.{original_cost}
 use Rattle.weave_core.specs.Rows.{spent, mirror_steps}
 use Rattle.weave_core.specs.Leaving.{sweep_cost}
 use Rattle.qed_model.specs.Weave.Blocks.{begins_at}
-use Rattle.qed_model.specs.Weave.Code.{pieces_of}
+use Rattle.qed_model.specs.Weave.Code.{Sequences, code_of}
 use Rattle.qed_model.specs.Weave.Woven.{mirror_of}
 use Rattle.qed_model.specs.Promise.Caught.{Caught}
 use Rattle.qed_model.specs.Promise.Clean.{Clean}
@@ -34,36 +34,44 @@ use Rattle.weave_core.specs.Weave.{Weave}
 use Rattle.lean_weave.specs.Lean.{tick, check, leave, begin, leave_cost, is_ticked_at}
 
 -- what the form depends on besides the world: what x15 counts from, the most instructions of a piece, whether its mirror parts are of other kinds, the address of the check, the steps that the
--- tick of a block counts, and where a block begins that has its end at an address
+-- tick of a block counts, and where a block begins that has such an end at an address
 pub record Lean : Type 0 where
   pub every : ℕ
   pub inst_max : ℕ
   pub diverse : Bool
   pub check : ℕ
   pub most : ℕ → ℕ
-  pub start_of : ℕ → ℕ
+  pub start_of : End → ℕ → ℕ
 
 -- behind a block stands the entry of a leader, or there is no code
 abbrev pub fall_to : (ℕ → Bool) → ℕ → List Item
 fall_to leader t = cond (leader t) (Mark t ∷ []) (Go t ∷ [])
 
--- the most steps of the check, with the look-up behind it
+-- the most steps of the check, with the look-up behind it, by how many data words and ranges there are, and the words of a round
+abbrev pub check_bound : ℕ → ℕ → ℕ → ℕ
+check_bound words ranges round = 44 + visit_bound words ranges * round
+
 abbrev pub check_steps : World → ℕ
-check_steps w = 44 + visit_bound (word_count w.form.spans) (length w.form.spans) * w.form.round
+check_steps w = check_bound (word_count w.form.spans) (length w.form.spans) w.form.round
 
 -- what stands before the end besides, with the sweep
 abbrev pub swept_steps : World → ℕ
 swept_steps w = end_bound w.form.sweep (length w.form.spans) (word_count w.form.spans)
 
--- the weave: an entry is a tick, which may call the check and then is made once more; pieces have nothing behind them
+-- the sequences: an entry is a tick, and pieces have nothing behind them; with what leads behind a block, and what runs first, where an input
+-- address has its entry
+abbrev pub sequences : Form → (ℕ → ℕ) → Lean → (ℕ → List Item) → (ℕ → ℕ → List Item) → Sequences
+sequences form entry l fall first = record {
+  first = first;
+  enter = λ a. tick (l.most a) (distance_between (entry a + 8) l.check);
+  piece = λ is at. each_part original is at ++ each_part (mirror_of l.diverse) is at;
+  leave = λ e at. leave (before_end form) fall e (l.start_of e at) at;
+}
+
+-- the weave: a tick may call the check, and then is made once more
 abbrev pub weave_of : World → Lean → (ℕ → Bool) → Weave
 weave_of w l leader = record {
-  code = record {
-    first = begin;
-    enter = λ a. tick (l.most a) (distance_between (w.entry a + 8) l.check);
-    piece = λ is at. each_part original is at ++ each_part (mirror_of l.diverse) is at;
-    leave = λ e at. leave (before_end w.form) (fall_to leader) e (l.start_of at) at;
-  };
+  code = sequences w.form w.entry l (fall_to leader) begin;
   fits = λ is. is_run is && nat_le (length is) l.inst_max;
   first_steps = 31;
   enter_steps = 5 + check_steps w;
@@ -74,7 +82,7 @@ weave_of w l leader = record {
   sweeps = w.form.sweep;
   sweep_steps = sweep_cost w.form.spans;
   round = w.form.round;
-  ends_at = λ b at. (l.start_of at == b) && leader b;
+  ends_at = λ e b at. (l.start_of e at == b) && leader b;
   held = is_ticked_at l.every;
 }
 
@@ -105,25 +113,18 @@ abbrev pub body_steps : Bool → List (List Ins) → ℕ
 body_steps diverse [] = 0
 body_steps diverse (p ∷ ps) = piece_steps diverse p + body_steps diverse ps
 
+-- the steps that the tick of a block counts: its own, those of its pieces, and the most of its leave
+abbrev pub block_steps : Bool → (ℕ → Bool) → Block → ℕ
+block_steps diverse leader b = 2 + (body_steps diverse b.body + leave_cost (fall_to leader) b.end b.start (b.start + 4 * body_length b.body))
+
 -- ---- the code
 -- what leads behind a block, as words: nothing, where a block stands there
 abbrev pub fall_words : (ℕ → Bool) → ℕ → List Item
 fall_words leader t = cond (leader t) [] (Go t ∷ [])
 
--- a block, behind its mark
-abbrev pub cell_body : World → Lean → (ℕ → Bool) → Block → List Item
-cell_body w l leader b = pieces_of (weave_of w l leader).code b.body b.start ++ leave (before_end w.form) (fall_words leader) b.end b.start (b.start + 4 * body_length b.body)
-
-abbrev pub cell : World → Lean → (ℕ → Bool) → Block → List Item
-cell w l leader b = Mark b.start ∷ (tick (l.most b.start) (distance_between (w.entry b.start + 8) l.check) ++ cell_body w l leader b)
-
-abbrev pub cells : World → Lean → (ℕ → Bool) → List Block → List Item
-cells w l leader [] = []
-cells w l leader (b ∷ bs) = cell w l leader b ++ cells w l leader bs
-
--- what runs first, the check, and the blocks; behind them stands the zero word
-abbrev pub code_of : World → Lean → (ℕ → Bool) → ℕ → List Block → List Item
-code_of w l leader entry blocks = begin w.distance entry ++ (check w.base l.every w.form.round w.form.spans ++ cells w l leader blocks)
+-- the sequences as words, for an input that begins at `base`: behind what runs first stands the check
+abbrev pub worded : Form → ℕ → (ℕ → ℕ) → Lean → (ℕ → Bool) → Sequences
+worded form base entry l leader = sequences form entry l (fall_words leader) (λ d a. begin d a ++ check base l.every form.round form.spans)
 
 -- ---- which blocks fall to the next
 -- a block that falls, or ends in a branch, goes on behind its end
@@ -140,31 +141,44 @@ abbrev pub InOrder : (ℕ → Bool) → List Block → Type 0
 InOrder leader [] = Unit {0}
 InOrder leader (b ∷ bs) = ((t : ℕ) → goes_on b.end (b.start + 4 * body_length b.body) t ≡ true → leader t ≡ true → begins_with bs t) × InOrder leader bs
 
+-- the tick of each block counts its steps
+abbrev pub AreCounted : Lean → (ℕ → Bool) → List Block → Type 0
+AreCounted l leader [] = Unit {0}
+AreCounted l leader (b ∷ bs) = (block_steps l.diverse leader b ≤ l.most b.start) × AreCounted l leader bs
+
 -- the new code of g reads as the code of the blocks, and nothing else is code
 pub record LeanPlan (f g : Program) (w : World) (l : Lean) (blocks : List Block) : Type 0 where
   pub world : Describes f g w
   pub sound : LeanIn w l (begins_at blocks)
-  pub words : Reads false w.code w.entry g.entry (code_of w l (begins_at blocks) f.entry blocks ++ stub)
+  pub words : Reads false w.code w.entry g.entry (code_of (worded w.form w.base w.entry l (begins_at blocks)) w.distance f.entry blocks)
   pub check : l.check ≡ g.entry + sum_of_sizes false (begin w.distance f.entry)
   pub good : AllBlocksOf w (weave_of w l (begins_at blocks)) (begins_at blocks) blocks
   pub begins : begins_at blocks f.entry ≡ true
   pub order : InOrder (begins_at blocks) blocks
-  pub only :
-      (a : ℕ) (i : Ins) → w.code a ≡ Known i
-      → (k : ℕ) × (a ≡ g.entry + 4 * k) × (a ≤ g.entry + 4 * length (instructions_from false w.entry g.entry (code_of w l (begins_at blocks) f.entry blocks)))
-  pub stubbed : (t : ℕ) → (begins_at blocks t ≡ true) ⊎ (w.code (w.entry t) ≡ Known (ins Illegal 0 0 0 (pos 0)))
-  pub counts : (b : Block) → BlockOf w (weave_of w l (begins_at blocks)) (begins_at blocks) b → 2 + (body_steps l.diverse b.body + leave_cost (fall_to (begins_at blocks)) b.end b.start (b.start + 4 * body_length b.body)) ≤ l.most b.start
+  pub only : OnlyCode f g w (worded w.form w.base w.entry l (begins_at blocks)) blocks
+  pub counts : AreCounted l (begins_at blocks) blocks
 
 -- ---- the laws
 -- a plan keeps the values
 abbrev pub LeanKept : Type 0
 LeanKept = (f g : Program) (w : World) (l : Lean) (blocks : List Block) → LeanPlan f g w l blocks → Kept f g w.reached (31 + swept_steps w) (24 + check_steps w + cost_of l.diverse * l.inst_max)
 
--- a changed register: what runs first, a period from check to check, the comparison, and the end with its sweep; a changed data word: as many periods
--- more as there are rounds
+-- the most steps from check to check: those of the check, and of the blocks between
+abbrev pub period : ℕ → ℕ → ℕ
+period check every = check + (every + 2)
+
+-- a changed register: what runs first, the end with its sweep, a period, and the comparison
+abbrev pub register_bound : ℕ → ℕ → ℕ
+register_bound ends period = 67 + ends + period
+
+-- a changed data word, of `words` of them: as many periods more as there are rounds; none where there is no data word
+abbrev pub word_bound : ℕ → ℕ → ℕ → ℕ → Option ℕ
+word_bound zero round ends period = None
+word_bound (suc n) round ends period = Some (67 + ends + (piece_count round (suc n) + 1) * period)
+
 pub record IsBoundsOf (w : World) (l : Lean) (bounds : Bounds) : Type 0 where
-  pub register : bounds.register ≡ 67 + swept_steps w + (check_steps w + (l.every + 2))
-  pub word : 1 ≤ word_count w.form.spans → bounds.word ≡ Some (67 + swept_steps w + (piece_count w.form.round (word_count w.form.spans) + 1) * (check_steps w + (l.every + 2)))
+  pub register : bounds.register ≡ register_bound (swept_steps w) (period (check_steps w) l.every)
+  pub word : bounds.word ≡ word_bound (word_count w.form.spans) w.form.round (swept_steps w) (period (check_steps w) l.every)
 
 -- in a plan changes are caught
 abbrev pub LeanCaught : Type 0

@@ -3,6 +3,7 @@
 //! Definitions and laws alone. No program weaves it yet.
 #![tactic(auto)]
 
+ghost use Rattle.lean_weave.specs.Tests.{LeanTestsKept, LeanTestsCaught, LeanTestsClean};
 ghost use Rattle.lean_weave.specs.Woven.{LeanKept, LeanCaught, LeanClean};
 
 /// A plan of the form keeps the input's values, with a bound on the steps of the output for each step of the input, and no check
@@ -19,4 +20,19 @@ pub fn lean_caught()
 /// In a plan of the form with the sweep no change before it is silent at the end.
 pub fn lean_clean()
     ensures { LeanClean }
+{}
+
+/// The lean form of an admitted test, whose blocks have fewer steps than there are from check to check, keeps the test's values.
+pub fn lean_tests_kept()
+    ensures { LeanTestsKept }
+{}
+
+/// And changes are caught in it.
+pub fn lean_tests_caught()
+    ensures { LeanTestsCaught }
+{}
+
+/// And with the sweep no change before it is silent at the end.
+pub fn lean_tests_clean()
+    ensures { LeanTestsClean }
 {}

@@ -23,7 +23,7 @@ module _ (w : World) (v : Weave) (leader : ℕ → Bool) (checks : CheckedRows w
   -- ---- boundaries: an entry, or behind a piece
   pub data Bounded (x s : State) : Type 0 where
     entering : Stands w leader x s → v.held w x s.pc ≡ true → Sourced w s → Bounded x s
-    behind : (more : List (List Ins)) (end : End) (b : ℕ) → v.held w x b ≡ true → v.ends_at b (s.pc + 4 * body_length more) ≡ true → At w x (body_of v.code more end s.pc) s s → Sourced w s → PiecesAt w v leader more end s.pc → Full more end → Bounded x s
+    behind : (more : List (List Ins)) (end : End) (b : ℕ) → v.held w x b ≡ true → v.ends_at end b (s.pc + 4 * body_length more) ≡ true → At w x (body_of v.code more end s.pc) s s → Sourced w s → PiecesAt w v leader more end s.pc → Full more end → Bounded x s
 
   pub bounded_going : (x s : State) → Bounded x s → x.outcome ≡ Going
   bounded_going x s (entering st held so) = st.over.going
@@ -63,7 +63,7 @@ module _ (w : World) (v : Weave) (leader : ℕ → Bool) (checks : CheckedRows w
 
   -- through a piece
   piece_stage :
-      (p : List Ins) (ps : List (List Ins)) (e : End) (b : ℕ) (u s : State) → v.held w u b ≡ true → v.ends_at b (s.pc + 4 * body_length (p ∷ ps)) ≡ true → At w u (body_of v.code (p ∷ ps) e s.pc) s s → Sourced w s
+      (p : List Ins) (ps : List (List Ins)) (e : End) (b : ℕ) (u s : State) → v.held w u b ≡ true → v.ends_at e b (s.pc + 4 * body_length (p ∷ ps)) ≡ true → At w u (body_of v.code (p ∷ ps) e s.pc) s s → Sourced w s
       → PiecesAt w v leader (p ∷ ps) e s.pc → Full (p ∷ ps) e → NotTrapped (run s (length p)) → Staged u s 0
   piece_stage p ps e b u s held own a so q f calm =
       let k = length p in
@@ -84,7 +84,7 @@ module _ (w : World) (v : Weave) (leader : ℕ → Bool) (checks : CheckedRows w
         slow = r.at_least;
         walk = r.walk;
         checked = subst (λ l. Checked w l v.round u r.steps r.to) zero (checks.piece p b u s rest held q.0 a2 so calm);
-        next = behind ps e b r.is.1 (subst (λ k. v.ends_at b k ≡ true) (far ∙ ap (λ k. k + 4 * body_length ps) (sym there)) own) (subst (λ k. At w r.to (body_of v.code ps e k) t t) (sym there) r.is.0) x.sourced (subst (λ k. PiecesAt w v leader ps e k) (sym there) q.1) (full_rest p ps e f);
+        next = behind ps e b r.is.1 (subst (λ k. v.ends_at e b k ≡ true) (far ∙ ap (λ k. k + 4 * body_length ps) (sym there)) own) (subst (λ k. At w r.to (body_of v.code ps e k) t t) (sym there) r.is.0) x.sourced (subst (λ k. PiecesAt w v leader ps e k) (sym there) q.1) (full_rest p ps e f);
       }
 
   -- from an entry
@@ -98,7 +98,7 @@ module _ (w : World) (v : Weave) (leader : ℕ → Bool) (checks : CheckedRows w
       let at : At w r.to (body_of v.code (p ∷ ps) b.end s.pc) s s = subst (λ l. At w r.to (body_of v.code l b.end s.pc) s s) b.good.some.2 r.is.0 in
       let full : Full (p ∷ ps) b.end = subst (λ l. Full l b.end) b.good.some.2 b.good.full in
       let have : PiecesAt w v leader (p ∷ ps) b.end s.pc = subst (λ l. PiecesAt w v leader l b.end s.pc) b.good.some.2 b.good.pieces in
-      let g = piece_stage p ps b.end s.pc r.to s r.is.1 (subst (λ l. v.ends_at s.pc (s.pc + 4 * body_length l) ≡ true) b.good.some.2 b.good.own) at so have full (not_trapped_le s (length p) v.piece_steps (checks.rows.short p have.0.one) calm) in
+      let g = piece_stage p ps b.end s.pc r.to s r.is.1 (subst (λ l. v.ends_at b.end s.pc (s.pc + 4 * body_length l) ≡ true) b.good.some.2 b.good.own) at so have full (not_trapped_le s (length p) v.piece_steps (checks.rows.short p have.0.one) calm) in
       staged_on u r.to s 0 r.steps v.enter_steps 0 r.walk (checks.enter u s (body_of v.code b.body b.end s.pc) st held b.good.low reads) r.within (omega arith) (subst (λ t. Staged r.to t 0) (sym (none_run s)) g)
 
   -- the test has ended
@@ -118,7 +118,7 @@ module _ (w : World) (v : Weave) (leader : ℕ → Bool) (checks : CheckedRows w
 
   -- from behind a piece
   behind_stage :
-      (ps : List (List Ins)) (e : End) (b : ℕ) (x s : State) → v.held w x b ≡ true → v.ends_at b (s.pc + 4 * body_length ps) ≡ true → At w x (body_of v.code ps e s.pc) s s → Sourced w s → PiecesAt w v leader ps e s.pc → Full ps e
+      (ps : List (List Ins)) (e : End) (b : ℕ) (x s : State) → v.held w x b ≡ true → v.ends_at e b (s.pc + 4 * body_length ps) ≡ true → At w x (body_of v.code ps e s.pc) s s → Sourced w s → PiecesAt w v leader ps e s.pc → Full ps e
       → IsSteady w.reached s (2 + v.piece_steps) → Staged x s (v.leave_steps + v.enter_steps) ⊎ Finishes x
   behind_stage (p ∷ ps) e b x s held own at so q f steady =
       let h = checks.rows.short p q.0.one in
@@ -126,7 +126,7 @@ module _ (w : World) (v : Weave) (leader : ℕ → Bool) (checks : CheckedRows w
   behind_stage [] e b x s held own at so q f steady =
       let z : s.pc + 4 * 0 ≡ s.pc = omega arith in
       let at0 : At w x (v.code.leave e s.pc) s s = subst (λ k. At w x (v.code.leave e k) s s) z at in
-      let own0 : v.ends_at b s.pc ≡ true = subst (λ k. v.ends_at b k ≡ true) z own in
+      let own0 : v.ends_at e b s.pc ≡ true = subst (λ k. v.ends_at e b k ≡ true) z own in
       let o = one e in
       let known : (a : ℕ) → leader a ≡ true → IsEntryOf w a = λ a l. checks.rows.known a (entries a l) in
       let calm = steady_le w.reached s (stops e) (2 + v.piece_steps) (omega (arith, o)) steady in

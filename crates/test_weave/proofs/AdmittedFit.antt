@@ -20,7 +20,7 @@ use Rattle.qed_model.specs.Weave.Blocks.{IsBodyAt, StopsAt, IsLeaderBlock, IsSho
 use Rattle.qed_model.proofs.PieceLaws.{pieces_whole}
 use Rattle.weave_core.specs.Blocks.{AllFit}
 use Rattle.weave_core.proofs.FileBlocks.{is_fence_class, IsKnownCode, low_instruction, fits_piece, body_fits}
-use Rattle.weave_core.proofs.TestKept as kept
+use Rattle.weave_core.proofs.FileOfItems as file
 use Rattle.block_list.specs.declared.block.CodeBlock.{CodeBlock}
 use Rattle.block_list.specs.Listed.{end_of, block_of, IsWithin}
 use Rattle.test_weave.specs.Fits.{FitsLeave, FitsEnd, FitsBlock}
@@ -98,9 +98,9 @@ words_below f top code words reach k d lt =
 
 pub blocks_fit : BlocksFit
 blocks_fit f o code blocks t =
-    let bounds = kept.code_bounds f o t.sound t.file.loads t.admitted (map block_of blocks) t.are in
-    let top = (kept.is f o t.sound t.file.loads t.admitted (map block_of blocks) t.are).top in
+    let bounds = file.code_bounds f o t.sound t.file.loads t.admitted (map block_of blocks) t.are in
+    let top = (file.is f o t.sound t.file.loads t.admitted (map block_of blocks) t.are).top in
     let below : (a : ℕ) → is_code f a ≡ true → a + 4 ≤ 2 ^ 63 = λ a e. let b = bounds a e in omega (arith, b.1, top) in
     let some = t.sound.some in
     let room = t.sound.room in
-    all_fit f (kept.known f o t.sound t.file.loads t.admitted (map block_of blocks) t.are) o (2 ^ 63) (omega (arith, some, room)) (omega arith) blocks (t.within (2 ^ 63) (words_below f (2 ^ 63) code t.words below)) t.are.each
+    all_fit f (file.known f o t.sound t.file.loads t.admitted (map block_of blocks) t.are) o (2 ^ 63) (omega (arith, some, room)) (omega arith) blocks (t.within (2 ^ 63) (words_below f (2 ^ 63) code t.words below)) t.are.each

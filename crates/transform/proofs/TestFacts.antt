@@ -26,7 +26,8 @@ use Rattle.output_file.proofs.BlockEntries.{entries_are}
 use Rattle.test_weave.proofs.AdmittedFit.{words_below}
 use Rattle.weave_core.proofs.FilesFit.{admitted_image}
 use Rattle.weave_core.proofs.ImageHalves.{IsImage}
-use Rattle.weave_core.proofs.TestKept.{code_bounds, are_rows}
+use Rattle.weave_core.proofs.TestKept.{are_rows}
+use Rattle.weave_core.proofs.FileOfItems.{code_bounds}
 use Rattle.woven_code.specs.Code.{IsCut}
 use Rattle.woven_code.proofs.DataWords.{few_data}
 use Rattle.transform.proofs.BoundsSmall.{shape_small}

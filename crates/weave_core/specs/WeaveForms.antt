@@ -31,7 +31,7 @@ weave_with form most checks first steps = record {
   sweeps = form.sweep;
   sweep_steps = 2 * length form.spans + 8 * word_count form.spans;
   round = form.round;
-  ends_at = λ b at. true;
+  ends_at = λ e b at. true;
   held = is_signed_at;
 }
 

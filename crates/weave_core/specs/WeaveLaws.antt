@@ -41,7 +41,7 @@ pub record BlockOf (w : World) (v : Weave) (leader : ℕ → Bool) (b : Block) :
   pub pieces : PiecesAt w v leader b.body b.end b.start
   pub some : (p : List Ins) × (ps : List (List Ins)) × (b.body ≡ p ∷ ps)
   pub full : Full b.body b.end
-  pub own : v.ends_at b.start (b.start + 4 * body_length b.body) ≡ true
+  pub own : v.ends_at b.end b.start (b.start + 4 * body_length b.body) ≡ true
 
 -- the entry of a leader stands in the output
 pub record EntryAt (w : World) (v : Weave) (leader : ℕ → Bool) (a : ℕ) : Type 0 where
@@ -143,7 +143,7 @@ pub record Rows (w : World) (v : Weave) (leader : ℕ → Bool) : Type 0 where
       (is : List Ins) (b : ℕ) (u s : State) (rest : List Item) → v.held w u b ≡ true → PieceAt w v s.pc is → At w u (v.code.piece is s.pc ++ rest) s s → Sourced w s
       → NotTrapped (run s (length is)) → GoesTo w u (length is) v.piece_steps (λ n x. At w x rest (run s (length is)) (run s (length is)) × (v.held w x b ≡ true))
   pub leave :
-      ((a : ℕ) → leader a ≡ true → IsEntryOf w a) → (e : End) (b : ℕ) (u s : State) → v.held w u b ≡ true → v.ends_at b s.pc ≡ true → At w u (v.code.leave e s.pc) s s
+      ((a : ℕ) → leader a ≡ true → IsEntryOf w a) → (e : End) (b : ℕ) (u s : State) → v.held w u b ≡ true → v.ends_at e b s.pc ≡ true → At w u (v.code.leave e s.pc) s s
       → Sourced w s → EndStands w leader e s.pc → IsSteady w.reached s (stops e) → Left w v leader u (run s (stops e)) (stops e)
 
 -- ---- the laws of the checks: what is seen on the way there
@@ -166,7 +166,7 @@ pub record CheckedRows (w : World) (v : Weave) (leader : ℕ → Bool) : Type 0 
       (a : At w u (v.code.piece is s.pc ++ rest) s s) (so : Sourced w s) (calm : NotTrapped (run s (length is)))
       → Checked w v.compare_steps v.round u (rows.piece is b u s rest held p a so calm).steps (rows.piece is b u s rest held p a so calm).to
   pub leave :
-      (known : (a : ℕ) → leader a ≡ true → IsEntryOf w a) (e : End) (b : ℕ) (u s : State) (held : v.held w u b ≡ true) (own : v.ends_at b s.pc ≡ true)
+      (known : (a : ℕ) → leader a ≡ true → IsEntryOf w a) (e : End) (b : ℕ) (u s : State) (held : v.held w u b ≡ true) (own : v.ends_at e b s.pc ≡ true)
       (a : At w u (v.code.leave e s.pc) s s) (so : Sourced w s) (g : EndStands w leader e s.pc) (steady : IsSteady w.reached s (stops e))
       → Keeps w v leader u (run s (stops e)) (stops e) (rows.leave known e b u s held own a so g steady)
 
