@@ -146,7 +146,7 @@ class Weave:
     def check(self):
         """The check."""
         data = self.test.data
-        first = data[0].start if data else 0
+        first = data[0].start if data else self.test.base
         return [Const(30, self.test.base),
                 *words_of("sub x15, x16, x30; slli x15, x15, 32; srli x15, x15, 32; add x15, x15, x30; sub x16, x16, x15; srli x16, x16, 32"),
                 *words_of("add x30, x15, x14; add x30, x30, x14; sub x31, x31, x30; lw x30, 0(x30); addi x30, x30, 12; beq x30, x31, 8; ebreak"),

@@ -65,7 +65,7 @@ module _ (f g : Program) (w : World) (l : Lean) (leader : ℕ → Bool) (x : Lea
       pub offset : ℕ
       pub here : AtCheck w l leader x (after_output g regs p) (after_input f moves) offset
       pub sourced : Sourced w (after_input f moves)
-      pub at : At i (first_word w.form.spans + offset)
+      pub at : At i (first_word w.base w.form.spans + offset)
 
     record Placed (y : ℕ) : Type 0 where
       index : ℕ
@@ -94,17 +94,17 @@ module _ (f g : Program) (w : World) (l : Lean) (leader : ℕ → Bool) (x : Lea
       there n = run-more (start g regs) p n
 
       -- the number of the word behind the round
-      at_next : At i (first_word w.form.spans + b.offset) → At (advance (word_count w.form.spans) (round_of (word_count w.form.spans) w.form.round) i) (first_word w.form.spans + back.next)
+      at_next : At i (first_word w.base w.form.spans + b.offset) → At (advance (word_count w.form.spans) (round_of (word_count w.form.spans) w.form.round) i) (first_word w.base w.form.spans + back.next)
       at_next (inr z) = inr z
       at_next (inl h) =
           let k = round_some (word_count w.form.spans) w.form.round (omega (arith, h.0)) in
           let round = w.form.round in
-          let to : first_word w.form.spans + back.next ≡ nth_word w.form.spans (advance (word_count w.form.spans) w.form.round i) = back.word ∙ ap (words_on w.form.spans w.form.round) h.1 ∙ words_are w.base w.form.spans w.form.round i w.spans_good h.0 in
-          subst (λ n. At (advance (word_count w.form.spans) n i) (first_word w.form.spans + back.next)) (sym k) (inl (advance_below (word_count w.form.spans) w.form.round i h.0, to))
+          let to : first_word w.base w.form.spans + back.next ≡ nth_word w.form.spans (advance (word_count w.form.spans) w.form.round i) = back.word ∙ ap (words_on w.form.spans w.form.round) h.1 ∙ words_are w.base w.form.spans w.form.round i w.spans_good h.0 in
+          subst (λ n. At (advance (word_count w.form.spans) n i) (first_word w.base w.form.spans + back.next)) (sym k) (inl (advance_below (word_count w.form.spans) w.form.round i h.0, to))
 
       -- the visits of the check
       visit :
-          (j n : ℕ) → back.steps ≤ n → j < round_of (word_count w.form.spans) w.form.round → At i (first_word w.form.spans + b.offset)
+          (j n : ℕ) → back.steps ≤ n → j < round_of (word_count w.form.spans) w.form.round → At i (first_word w.base w.form.spans + b.offset)
           → VisitIn w.code (start g regs) p (p + n) (nth_word w.form.spans (advance (word_count w.form.spans) j i))
       visit j n le h (inr z) = let k = round_none (word_count w.form.spans) w.form.round z in absurd (omega (arith, h, k))
       visit j n le h (inl a) =
@@ -113,7 +113,7 @@ module _ (f g : Program) (w : World) (l : Lean) (leader : ℕ → Bool) (x : Lea
           let y = back.visits j (omega (arith, h, k)) (some_spans w.form.spans one) in
           let e = run-more (start g regs) p y.at in
           let number = advance (word_count w.form.spans) j i in
-          let word : words_on w.form.spans j (first_word w.form.spans + b.offset) ≡ nth_word w.form.spans (advance (word_count w.form.spans) j i) = ap (words_on w.form.spans j) a.1 ∙ words_are w.base w.form.spans j i w.spans_good a.0 in
+          let word : words_on w.form.spans j (first_word w.base w.form.spans + b.offset) ≡ nth_word w.form.spans (advance (word_count w.form.spans) j i) = ap (words_on w.form.spans j) a.1 ∙ words_are w.base w.form.spans j i w.spans_good a.0 in
           record {
             at = p + y.at;
             late = omega arith;
@@ -166,7 +166,7 @@ module _ (f g : Program) (w : World) (l : Lean) (leader : ℕ → Bool) (x : Lea
             fifteen = back.counter;
             few = back.few;
             sign = back.sign;
-            cursor = subst (IsCursor w.form.spans) (sym back.word) (words_within w.form.spans w.base w.form.round (first_word w.form.spans + b.offset) w.spans_good b.here.cursor);
+            cursor = subst (IsCursor w.form.spans) (sym back.word) (words_within w.form.spans w.base w.form.round (first_word w.base w.form.spans + b.offset) w.spans_good b.here.cursor);
           }) c
 
       -- with one comparison
@@ -220,7 +220,7 @@ module _ (f g : Program) (w : World) (l : Lean) (leader : ℕ → Bool) (x : Lea
         } in
         let c = called w l leader x blocks entries counts y.to s0 1 0 b (fewer (l.most f.entry) l.every (x.ticks f.entry leads) x.few) (tick_some f.entry leads) in
         let walk = walk_on (Quiet w) (start g regs) y.to c.to y.steps c.steps y.walk c.walk in
-        let n = placed (first_word w.form.spans + 0) (first_is w.base w.form.spans w.spans_good) in
+        let n = placed (first_word w.base w.form.spans + 0) (first_is w.base w.form.spans w.spans_good) in
         record {
           steps = y.steps + c.steps;
           within = omega (arith, y.within, c.within);

@@ -26,7 +26,7 @@ use Rattle.lean_weave.proofs.Held.{ticked_is}
 use Rattle.lean_weave.proofs.Tick.{counter}
 
 -- the first word is one
-pub first_is : (base : ℕ) (spans : List (ℕ × ℕ)) → GoodSpans base spans → IsCursor spans (first_word spans + 0)
+pub first_is : (base : ℕ) (spans : List (ℕ × ℕ)) → GoodSpans base spans → IsCursor spans (first_word base spans + 0)
 first_is base [] g = tt
 first_is base (r ∷ rs) g = inl (omega (arith, g.0.start), omega arith, omega (arith, g.0.some))
 

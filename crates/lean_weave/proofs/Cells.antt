@@ -171,7 +171,7 @@ module _ (w : World) (l : Lean) (leader : ℕ → Bool) (x : LeanIn w l leader) 
     pub fifteen : reg u 15 ≡ counter left
     pub few : off < 2 ^ 32
     pub sign : reg u 16 ≡ (s.pc + off * 2 ^ 32) % 2 ^ 64
-    pub cursor : IsCursor w.form.spans (first_word w.form.spans + off)
+    pub cursor : IsCursor w.form.spans (first_word w.base w.form.spans + off)
 
   module _ (entries : EntriesAt w (weave_of w l leader) leader) (counts : Counts w l leader entries) where
     -- a block has no more instructions than steps

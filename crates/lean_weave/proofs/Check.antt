@@ -165,9 +165,9 @@ module _ (w : World) (u t : State) (a : ℕ) (tb : TableAt w a) (o : Over w.code
 -- ---- the offset
 -- the words that are visited from a word on stand near the first
 offset_near :
-    (w : World) (spans : List (ℕ × ℕ)) (n off : ℕ) → GoodSpans w.base spans → AllBelow spans (w.base + w.distance) → w.distance ≤ 2 ^ 32 → off < 2 ^ 32 → IsCursor spans (first_word spans + off)
-    → (first_word spans ≤ words_on spans n (first_word spans + off)) × (words_on spans n (first_word spans + off) < first_word spans + 2 ^ 32)
-offset_near w [] n off good low small few c = let same : words_on [] n (first_word [] + off) ≡ first_word [] + off = none n (first_word [] + off) in (omega (arith, same), omega (arith, same, few)) where
+    (w : World) (spans : List (ℕ × ℕ)) (n off : ℕ) → GoodSpans w.base spans → AllBelow spans (w.base + w.distance) → w.distance ≤ 2 ^ 32 → off < 2 ^ 32 → IsCursor spans (first_word w.base spans + off)
+    → (first_word w.base spans ≤ words_on spans n (first_word w.base spans + off)) × (words_on spans n (first_word w.base spans + off) < first_word w.base spans + 2 ^ 32)
+offset_near w [] n off good low small few c = let same : words_on [] n (first_word w.base [] + off) ≡ first_word w.base [] + off = none n (first_word w.base [] + off) in (omega (arith, same), omega (arith, same, few)) where
   none : (n x : ℕ) → words_on [] n x ≡ x
   none zero x = refl
   none (suc n) x = none n x
@@ -192,14 +192,14 @@ pub record Back (w : World) (leader : ℕ → Bool) (u t : State) (a off every r
   pub counter : reg to 15 ≡ 2 ^ 64 - every
   pub next : ℕ
   pub few : next < 2 ^ 32
-  pub word : first_word w.form.spans + next ≡ words_on w.form.spans round (first_word w.form.spans + off)
+  pub word : first_word w.base w.form.spans + next ≡ words_on w.form.spans round (first_word w.base w.form.spans + off)
   pub sign : reg to 16 ≡ (a + next * 2 ^ 32) % 2 ^ 64
   pub compares : ComparesFrom w.code (run u 14).pc thirteen
-  pub visits : (j : ℕ) → j < round → 1 ≤ length w.form.spans → Visits w u steps (words_on w.form.spans j (first_word w.form.spans + off))
+  pub visits : (j : ℕ) → j < round → 1 ≤ length w.form.spans → Visits w u steps (words_on w.form.spans j (first_word w.base w.form.spans + off))
 
 module _ (w : World) (leader : ℕ → Bool) (small : w.distance ≤ 2 ^ 32) (u t : State) (a off every round : ℕ) (tb : TableAt w a) (entry : IsEntryOf w a) (leads : leader a ≡ true) (some : 1 ≤ every) (most : every < 2 ^ 63) where
   abbrev first : ℕ
-  first = first_word w.form.spans
+  first = first_word w.base w.form.spans
 
   -- ---- the begin of the visits
   abbrev begin_ops : List Op
@@ -382,7 +382,7 @@ module _ (w : World) (leader : ℕ → Bool) (small : w.distance ≤ 2 ^ 32) (u 
       }
 
   -- the first word is far below 2^64
-  first_low : (spans : List (ℕ × ℕ)) → AllBelow spans (w.base + w.distance) → GoodSpans w.base spans → first_word spans + 2 ^ 32 ≤ 2 ^ 64
+  first_low : (spans : List (ℕ × ℕ)) → AllBelow spans (w.base + w.distance) → GoodSpans w.base spans → first_word w.base spans + 2 ^ 32 ≤ 2 ^ 64
   first_low [] low good = omega arith
   first_low (r ∷ rs) low good = omega (arith, low.0, good.0.some, w.layout.top)
 

@@ -17,7 +17,7 @@ pub record Ticked (every : ℕ) (w : World) (u : State) (a : ℕ) : Type 0 where
   pub offset : ℕ
   pub few : offset < 2 ^ 32
   pub sign : reg u 16 ≡ (a + offset * 2 ^ 32) % 2 ^ 64
-  pub cursor : IsCursor w.form.spans (first_word w.form.spans + offset)
+  pub cursor : IsCursor w.form.spans (first_word w.base w.form.spans + offset)
 
 pub ticked_of : (every : ℕ) (w : World) (u : State) (a : ℕ) → is_ticked_at every w u a ≡ true → Ticked every w u a
 ticked_of every w u a e =
@@ -34,7 +34,7 @@ ticked_of every w u a e =
       offset = offset_of a (reg u 16);
       few = omega arith;
       sign = eqb-true _ _ q.1;
-      cursor = cursor_decided w.form.spans (first_word w.form.spans + offset_of a (reg u 16)) p.1;
+      cursor = cursor_decided w.form.spans (first_word w.base w.form.spans + offset_of a (reg u 16)) p.1;
     }
 
 -- the offset of a signature that was made with one
@@ -43,14 +43,14 @@ same_offset a k x h l e = omega (arith, h, l, e)
 
 pub ticked_is :
     (every : ℕ) (w : World) (u : State) (a left offset : ℕ) → a < 2 ^ 64 → 1 ≤ left → left ≤ every → every ≤ 2048 → reg u 15 ≡ counter left → offset < 2 ^ 32
-    → reg u 16 ≡ (a + offset * 2 ^ 32) % 2 ^ 64 → IsCursor w.form.spans (first_word w.form.spans + offset) → is_ticked_at every w u a ≡ true
+    → reg u 16 ≡ (a + offset * 2 ^ 32) % 2 ^ 64 → IsCursor w.form.spans (first_word w.base w.form.spans + offset) → is_ticked_at every w u a ≡ true
 ticked_is every w u a left offset low some most high at few sign cur =
     let same = same_offset a offset (reg u 16) low few sign in
     and_from _ _ (and_from _ _ (and_from _ _ (le-leb (2 ^ 64 - every) (reg u 15) (omega (arith, at, most))) (lt-ltb (reg u 15) (2 ^ 64) (omega (arith, at, some, most, high)))) (eq-eqb (reg u 16) _ (sign ∙ ap (λ k. (a + k * 2 ^ 32) % 2 ^ 64) (sym same))))
-    (cursor_is w.form.spans (first_word w.form.spans + offset_of a (reg u 16)) (subst (λ k. IsCursor w.form.spans (first_word w.form.spans + k)) (sym same) cur))
+    (cursor_is w.form.spans (first_word w.base w.form.spans + offset_of a (reg u 16)) (subst (λ k. IsCursor w.form.spans (first_word w.base w.form.spans + k)) (sym same) cur))
 
 -- in a state with the same x15 and x16
 pub ticked_same : (every : ℕ) (w : World) (u x : State) (a : ℕ) → reg x 15 ≡ reg u 15 → reg x 16 ≡ reg u 16 → is_ticked_at every w u a ≡ true → is_ticked_at every w x a ≡ true
 ticked_same every w u x a e f h =
-    ap (λ r. ((nat_le (2 ^ 64 - every) r && nat_lt r (2 ^ 64)) && (reg x 16 == (a + offset_of a (reg x 16) * 2 ^ 32) % 2 ^ 64)) && is_cursor w.form.spans (first_word w.form.spans + offset_of a (reg x 16))) e
-    ∙ ap (λ r. ((nat_le (2 ^ 64 - every) (reg u 15) && nat_lt (reg u 15) (2 ^ 64)) && (r == (a + offset_of a r * 2 ^ 32) % 2 ^ 64)) && is_cursor w.form.spans (first_word w.form.spans + offset_of a r)) f ∙ h
+    ap (λ r. ((nat_le (2 ^ 64 - every) r && nat_lt r (2 ^ 64)) && (reg x 16 == (a + offset_of a (reg x 16) * 2 ^ 32) % 2 ^ 64)) && is_cursor w.form.spans (first_word w.base w.form.spans + offset_of a (reg x 16))) e
+    ∙ ap (λ r. ((nat_le (2 ^ 64 - every) (reg u 15) && nat_lt (reg u 15) (2 ^ 64)) && (r == (a + offset_of a r * 2 ^ 32) % 2 ^ 64)) && is_cursor w.form.spans (first_word w.base w.form.spans + offset_of a r)) f ∙ h

@@ -21,3 +21,5 @@ pub mod Promise
 pub mod Unmarked
 pub mod Blocks
 pub mod Tests
+pub mod Near
+pub mod TestWords

@@ -87,7 +87,7 @@ module _ (w : World) (l : Lean) (leader : ℕ → Bool) (x : LeanIn w l leader) 
     pub leads : leader s.pc ≡ true
     pub few : off < 2 ^ 32
     pub sign : reg y 16 ≡ (s.pc + off * 2 ^ 32) % 2 ^ 64
-    pub cursor : IsCursor w.form.spans (first_word w.form.spans + off)
+    pub cursor : IsCursor w.form.spans (first_word w.base w.form.spans + off)
     pub link : reg y 31 ≡ w.entry s.pc + 12
 
   -- where not, the check is called
@@ -153,8 +153,8 @@ module _ (w : World) (l : Lean) (leader : ℕ → Bool) (x : LeanIn w l leader) 
         walk = walk_on (Quiet w) u c.0 g.to 3 (b.steps + g.steps) c.1 (walk_on (Quiet w) c.0 b.to g.to b.steps g.steps b.walk g.walk);
         is = g.is.0;
       } where
-        words_in : (k : ℕ) → IsCursor w.form.spans (first_word w.form.spans + k) → IsCursor w.form.spans (words_on w.form.spans w.form.round (first_word w.form.spans + k))
-        words_in k c = words_within w.form.spans w.base w.form.round (first_word w.form.spans + k) w.spans_good c
+        words_in : (k : ℕ) → IsCursor w.form.spans (first_word w.base w.form.spans + k) → IsCursor w.form.spans (words_on w.form.spans w.form.round (first_word w.base w.form.spans + k))
+        words_in k c = words_within w.form.spans w.base w.form.round (first_word w.base w.form.spans + k) w.spans_good c
 
         all_in : (m n : ℕ) → m ≤ check_steps w → n ≤ 2 → 3 + (m + n) ≤ 5 + check_steps w
         all_in m n h k = omega (arith, h, k)

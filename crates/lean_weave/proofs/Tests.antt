@@ -78,13 +78,13 @@ module _ (f : ElfFile) (o : Options) (every : ℕ) (blocks : List Block) (words 
   items = lean_items f o every blocks
 
   some_most : 1 ≤ o.inst_max
-  some_most = let a = t.sound.some in let b = t.sound.room in omega (arith, a, b)
+  some_most = let a = t.cut.sound.some in let b = t.cut.sound.room in omega (arith, a, b)
 
   unmarked : AreUnmarked (s placed_at)
   unmarked = unmarked_worded form base placed_at l (begins_at blocks)
 
   ascend : Ascend 0 blocks
-  ascend = of.ascend f o t.sound t.file.loads t.admitted blocks t.are
+  ascend = of.ascend f o t.cut.sound t.cut.file.loads t.cut.admitted blocks t.cut.are
 
   abbrev first : List Item
   first = (s placed_at).first d f.entry
@@ -99,7 +99,7 @@ module _ (f : ElfFile) (o : Options) (every : ℕ) (blocks : List Block) (words 
     inputs_are = ap (λ l. map (λ (r : EntryRow). r.input) l) (rows_behind false at first behind (unmarked.first d f.entry)) ∙ rows_inputs (s placed_at) unmarked false (at + sum_of_sizes false first) blocks;
     marked = λ a e. let m = marked (s placed_at) unmarked false (at + sum_of_sizes false first) blocks stub a e in (m.0, mark_behind false at first behind a (unmarked.first d f.entry) ∙ m.1);
     some = let a = size-append false first behind in let b = size-append false (entries_of (s placed_at) blocks) stub in omega (arith, a, b);
-    few = t.size;
+    few = let z = t.size in omega (arith, z);
     small = t.small;
     code = t.code;
   }
@@ -108,28 +108,28 @@ module _ (f : ElfFile) (o : Options) (every : ℕ) (blocks : List Block) (words 
   input = loaded_file f
 
   abbrev pub output : Program
-  output = loaded_file (of.g f o t.sound t.file.loads t.admitted blocks t.are false true items words are_items)
+  output = loaded_file (of.g f o t.cut.sound t.cut.file.loads t.cut.admitted blocks t.cut.are false true items words are_items)
 
   module _ (reached : ℕ → Bool) (aims : AreReached f o reached) where
     abbrev w : World
-    w = of.w f o t.sound t.file.loads t.admitted blocks t.are false true items words are_items reached aims
+    w = of.w f o t.cut.sound t.cut.file.loads t.cut.admitted blocks t.cut.are false true items words are_items reached aims
 
     -- the ticks know where the entries are
     same_items : items ≡ code_of (s w.entry) d f.entry blocks
     same_items = same_code form base l (begins_at blocks) placed_at w.entry (λ a. entry_same form base l (begins_at blocks) (λ a. 0) placed_at d f.entry blocks at a) d f.entry blocks
 
     reads : Reads false w.code w.entry output.entry (code_of (s w.entry) d f.entry blocks)
-    reads = subst (λ k. Reads false w.code w.entry output.entry k) same_items (of.reads f o t.sound t.file.loads t.admitted blocks t.are false true items words are_items)
+    reads = subst (λ k. Reads false w.code w.entry output.entry k) same_items (of.reads f o t.cut.sound t.cut.file.loads t.cut.admitted blocks t.cut.are false true items words are_items)
 
     -- ---- the blocks
     grain : (a : ℕ) → begins_at blocks a ≡ true → a % 4 ≡ 0
-    grain a e = of.block_grain f o t.sound t.file.loads t.admitted blocks t.are a e
+    grain a e = of.block_grain f o t.cut.sound t.cut.file.loads t.cut.admitted blocks t.cut.are a e
 
     -- an instruction stands where one begins
     codes : (a : ℕ) → begins_at blocks a ≡ true → (i : Ins) × (w.source a ≡ Known i)
-    codes a e = let b = begun blocks a e in subst (λ x. (i : Ins) × (w.source x ≡ Known i)) b.2 (of_block b.0 (leading f o some_most blocks t.are t.reached grain b.0 b.1)) where
+    codes a e = let b = begun blocks a e in subst (λ x. (i : Ins) × (w.source x ≡ Known i)) b.2 (of_block b.0 (leading f o some_most blocks t.cut.are t.cut.reached grain b.0 b.1)) where
       known : (x : ℕ) (i : Ins) → instruction_at f x ≡ Some i → (i : Ins) × (w.source x ≡ Known i)
-      known x i h = (i, known_instruction f (of.shape f o t.sound t.file.loads t.admitted blocks t.are) x i h)
+      known x i h = (i, known_instruction f (of.shape f o t.cut.sound t.cut.file.loads t.cut.admitted blocks t.cut.are) x i h)
 
       of_block : (b : Block) → IsLeaderBlock f o b → (i : Ins) × (w.source b.start ≡ Known i)
       of_block b k = by k.body k.stands k.stops where
@@ -144,33 +144,33 @@ module _ (f : ElfFile) (o : Options) (every : ℕ) (blocks : List Block) (words 
     good : AllBlocksOf w (weave_of w l (begins_at blocks)) (begins_at blocks) blocks
     good =
         all_good w l (begins_at blocks) blocks
-        (λ b m. and_from _ _ (eq-eqb (start_at blocks b.end (b.start + 4 * body_length b.body)) b.start (starts f o some_most blocks t.are t.reached grain ascend b m)) (begins blocks b m))
-        (of.good f o t.sound t.file.loads t.admitted blocks t.are false true items words are_items reached aims (λ e. refl))
+        (λ b m. and_from _ _ (eq-eqb (start_at blocks b.end (b.start + 4 * body_length b.body)) b.start (starts f o some_most blocks t.cut.are t.cut.reached grain ascend b m)) (begins blocks b m))
+        (of.good f o t.cut.sound t.cut.file.loads t.cut.admitted blocks t.cut.are false true items words are_items reached aims (λ e. refl))
 
     -- ---- the plan
     ticks : (a : ℕ) → begins_at blocks a ≡ true → l.most a < every
     ticks a e =
         let b = begun blocks a e in
-        let is = steps f o some_most blocks t.are t.reached grain ascend o.diverse (begins_at blocks) b.0 b.1 in
-        let short = all_among (λ x. block_steps o.diverse (begins_at blocks) x < every) b.0 blocks t.short b.1 in
+        let is = steps f o some_most blocks t.cut.are t.cut.reached grain ascend o.diverse (begins_at blocks) b.0 b.1 in
+        let short = all_among (λ x. block_steps o.diverse (begins_at blocks) x < every) b.0 blocks t.cut.short b.1 in
         let here : steps_at o.diverse (begins_at blocks) blocks a ≡ steps_at o.diverse (begins_at blocks) blocks b.0.start = ap (steps_at o.diverse (begins_at blocks) blocks) (sym b.2) in
         omega (arith, is, short, here)
 
     begins_entry : begins_at blocks f.entry ≡ true
-    begins_entry = of.begins f o t.sound t.file.loads t.admitted blocks t.are
+    begins_entry = of.begins f o t.cut.sound t.cut.file.loads t.cut.admitted blocks t.cut.are
 
     sound : LeanIn w l (begins_at blocks)
     sound = record {
       near = refl;
-      small = let h = of.half_small (image_of f) o.half t.admitted.span t.sound.half in omega (arith, h);
+      small = let h = of.half_small (image_of f) o.half t.cut.admitted.span t.cut.sound.half in omega (arith, h);
       some = let k = ticks f.entry begins_entry in omega (arith, k);
-      few = t.few;
+      few = t.cut.few;
       check = check_reads;
       ticks = ticks;
       codes = codes;
       grain = λ a e. let g = grain a e in omega (arith, g);
-      table = λ a e. of.table_at f o t.sound t.file.loads t.admitted blocks t.are false true items words are_items reached aims refl a e;
-      within = λ a e. let b = of.block_bounds f o t.sound t.file.loads t.admitted blocks t.are a e in let h = of.half_small (image_of f) o.half t.admitted.span t.sound.half in omega (arith, b.1, h);
+      table = λ a e. of.table_at f o t.cut.sound t.cut.file.loads t.cut.admitted blocks t.cut.are false true items words are_items reached aims refl a e;
+      within = λ a e. let b = of.block_bounds f o t.cut.sound t.cut.file.loads t.cut.admitted blocks t.cut.are a e in let h = of.half_small (image_of f) o.half t.cut.admitted.span t.cut.sound.half in omega (arith, b.1, h);
     } where
       middle : List Item
       middle = check base every form.round form.spans
@@ -190,44 +190,44 @@ module _ (f : ElfFile) (o : Options) (every : ℕ) (blocks : List Block) (words 
 
     only : OnlyCode input output w (s w.entry) blocks
     only = record {
-      only = only_inside input output w _ last (of.both f o t.sound t.file.loads t.admitted blocks t.are false true items words are_items reached aims) reads.0 range;
+      only = only_inside input output w _ last (of.both f o t.cut.sound t.cut.file.loads t.cut.admitted blocks t.cut.are false true items words are_items reached aims) reads.0 range;
       stubbed = λ a. entry_or_stub w (s w.entry) output.entry d f.entry blocks reads (unmarked_worded form base w.entry l (begins_at blocks)) a (ap (λ k. entry_of false at k a) same_items);
     } where
       range : output.ranges ≡ (output.entry, last + 4) ∷ []
       range =
-          let size = of.length-code f o t.sound t.file.loads t.admitted blocks t.are false true items words are_items in
+          let size = of.length-code f o t.cut.sound t.cut.file.loads t.cut.admitted blocks t.cut.are false true items words are_items in
           let same = ap (sum_of_sizes false) same_items in
           let body = length-instructions false w.entry at (front ++ entries_of (s w.entry) blocks) in
           let a = size-append false front (entries_of (s w.entry) blocks) in
           let b = size-append false front (entries_of (s w.entry) blocks ++ stub) in
           let c = size-append false (entries_of (s w.entry) blocks) stub in
           let e : at + length (bytes_of words) ≡ last + 4 = omega (arith, size, same, body, a, b, c) in
-          loaded_ranges f o t.sound t.file.loads t.admitted true (rows_from false at items) (bytes_of words) (of.are_placed f o t.sound t.file.loads t.admitted blocks t.are false true items words are_items) ∙ ap (λ n. (at, n) ∷ []) e
+          loaded_ranges f o t.cut.sound t.cut.file.loads t.cut.admitted true (rows_from false at items) (bytes_of words) (of.are_placed f o t.cut.sound t.cut.file.loads t.cut.admitted blocks t.cut.are false true items words are_items) ∙ ap (λ n. (at, n) ∷ []) e
 
     plan : LeanPlan input output w l blocks
     plan = record {
-      world = of.both f o t.sound t.file.loads t.admitted blocks t.are false true items words are_items reached aims;
+      world = of.both f o t.cut.sound t.cut.file.loads t.cut.admitted blocks t.cut.are false true items words are_items reached aims;
       sound = sound;
       words = reads;
       check = refl;
       good = good;
       begins = begins_entry;
-      order = in_order f o some_most blocks t.are t.reached grain ascend room;
+      order = in_order f o some_most blocks t.cut.are t.cut.reached grain ascend room;
       only = only;
-      counts = counted f o some_most blocks t.are t.reached grain ascend l refl;
+      counts = counted f o some_most blocks t.cut.are t.cut.reached grain ascend l refl;
     } where
       -- a block ends far below 2^64
       room : (b : Block) → Among b blocks → b.start + 4 * body_length b.body + 4 < 2 ^ 64
       room b m =
-          let k = leading f o some_most blocks t.are t.reached grain b m in
+          let k = leading f o some_most blocks t.cut.are t.cut.reached grain b m in
           let n = length_is f o some_most b k in
-          let code = of.known f o t.sound t.file.loads t.admitted blocks t.are in
+          let code = of.known f o t.cut.sound t.cut.file.loads t.cut.admitted blocks t.cut.are in
           let from = code.below b.start k.leader.code in
           let low = stands b.start k.body k.stands (omega (arith, from)) in
           omega (arith, n, low) where
             stands : (a : ℕ) (is : List Ins) → IsBodyAt f a is → a ≤ 2 ^ 63 → a + 4 * length is ≤ 2 ^ 63
             stands a [] q h = omega (arith, h)
-            stands a (i ∷ is) q h = let p = place_low f (of.known f o t.sound t.file.loads t.admitted blocks t.are) a i q.0 in let r = stands (a + 4) is q.2 p in omega (arith, r)
+            stands a (i ∷ is) q h = let p = place_low f (of.known f o t.cut.sound t.cut.file.loads t.cut.admitted blocks t.cut.are) a i q.0 in let r = stands (a + 4) is q.2 p in omega (arith, r)
 
 -- ---- the laws
 pub tests_kept : LeanTestsKept
@@ -235,7 +235,7 @@ tests_kept f o every blocks words t reached aims = lean_kept (input f o every bl
 
 pub tests_caught : LeanTestsCaught
 tests_caught f o every blocks words t reached aims =
-    lean_caught (input f o every blocks words t) (output f o every blocks words t) (w f o every blocks words t reached aims) (l f o every blocks words t) blocks (lean_bounds f o every) (plan f o every blocks words t reached aims) t.sound.visits (record { register = refl; word = refl })
+    lean_caught (input f o every blocks words t) (output f o every blocks words t) (w f o every blocks words t reached aims) (l f o every blocks words t) blocks (lean_bounds f o every) (plan f o every blocks words t reached aims) t.cut.sound.visits (record { register = refl; word = refl })
 
 pub tests_clean : LeanTestsClean
 tests_clean f o every blocks words t swept reached aims =

@@ -39,7 +39,7 @@ unmarked_before : (form : Form) → NoMarks (before_end form)
 unmarked_before form = unmarked_cond form.sweep (sweep form.spans ++ compare) [] (unmarked_append (sweep form.spans) compare (unmarked_sweep form.spans) tt) tt
 
 unmarked_check : (base every round : ℕ) (spans : List (ℕ × ℕ)) → NoMarks (check base every round spans)
-unmarked_check base every round spans = unmarked_append (visit round spans) (done (first_word spans) every ++ look_up) (unmarked_visit round spans) tt
+unmarked_check base every round spans = unmarked_append (visit round spans) (done (first_word base spans) every ++ look_up) (unmarked_visit round spans) tt
 
 unmarked_begin : (d a : ℕ) → NoMarks (begin d a)
 unmarked_begin d a =

@@ -196,15 +196,15 @@ module _ (far : Bool) where
 
   pub check_items : (base every round : ℕ) (spans : List (ℕ × ℕ)) → LockItems far (check base every round spans)
   check_items base every round spans =
-      let first = first_word spans in
-      items_then far (parted base) (called ++ compares_of (first_word spans) every round spans) (parted_items base) (items_then far called (compares_of (first_word spans) every round spans) called_items (compares_items first every round spans))
+      let first = first_word base spans in
+      items_then far (parted base) (called ++ compares_of (first_word base spans) every round spans) (parted_items base) (items_then far called (compares_of (first_word base spans) every round spans) called_items (compares_items first every round spans))
 
   pub check_lands : (base every round : ℕ) (spans : List (ℕ × ℕ)) → LandItems far (check base every round spans)
   check_lands base every round spans =
-      let first = first_word spans in
-      let last : Straight far (end_of (first_word spans) every) = straight_then far (done first every) look_up (straight_done first every) straight_look in
-      let visits : LandItems far (visits_of (first_word spans) every round spans) = land_then far (visit round spans) (end_of first every) (land_visits far round spans) (end_items first every) (straight_lands far (end_of first every) last) in
-      let from : LandItems far (compares_of (first_word spans) every round spans) = land_behind far compare (begun first ++ visits_of first every round spans) (straight_compare far) (land_behind far (begun first) (visits_of first every round spans) (straight_begun first) visits) in
+      let first = first_word base spans in
+      let last : Straight far (end_of (first_word base spans) every) = straight_then far (done first every) look_up (straight_done first every) straight_look in
+      let visits : LandItems far (visits_of (first_word base spans) every round spans) = land_then far (visit round spans) (end_of first every) (land_visits far round spans) (end_items first every) (straight_lands far (end_of first every) last) in
+      let from : LandItems far (compares_of (first_word base spans) every round spans) = land_behind far compare (begun first ++ visits_of first every round spans) (straight_compare far) (land_behind far (begun first) (visits_of first every round spans) (straight_begun first) visits) in
       land_behind far (parted base) (called ++ compares_of first every round spans) (straight_parted base) (land_then far called (compares_of first every round spans) called_lands (compares_items first every round spans) from)
 
   -- ---- leaves

@@ -44,10 +44,10 @@ abbrev pub look_up : List Item
 look_up = Plain (ins Add 31 30 14 (pos 0)) ∷ Plain (ins Add 31 31 14 (pos 0)) ∷ Plain (ins Lw 30 31 0 (pos 0)) ∷ Plain (ins Add 30 30 31 (pos 0)) ∷ Plain (ins Jalr 0 30 0 (pos 0)) ∷ []
 
 -- ---- the check
--- the address of the first data word, 0 where there is none
-abbrev pub first_word : List (ℕ × ℕ) → ℕ
-first_word [] = 0
-first_word (r ∷ rs) = r.0
+-- the address of the first data word, or where there is none the begin of the input
+abbrev pub first_word : ℕ → List (ℕ × ℕ) → ℕ
+first_word base [] = base
+first_word base (r ∷ rs) = r.0
 
 -- x15 gets the input address from the signature, for an input that begins at `base`, and x16 the offset
 abbrev pub parted : ℕ → List Item
@@ -73,7 +73,7 @@ done first every =
 
 -- all of it
 abbrev pub check : ℕ → ℕ → ℕ → List (ℕ × ℕ) → List Item
-check base every round spans = parted base ++ (called ++ (compare ++ (begun (first_word spans) ++ (visit round spans ++ (done (first_word spans) every ++ look_up)))))
+check base every round spans = parted base ++ (called ++ (compare ++ (begun (first_word base spans) ++ (visit round spans ++ (done (first_word base spans) every ++ look_up)))))
 
 -- ---- the leaves
 -- the branch that is taken where another is not
@@ -149,4 +149,4 @@ offset_of a sign = (sign + (2 ^ 64 - a)) % 2 ^ 64 / 2 ^ 32
 -- data word where there is one
 abbrev pub is_ticked_at : ℕ → World → State → ℕ → Bool
 is_ticked_at every w u a =
-    ((nat_le (2 ^ 64 - every) (reg u 15) && nat_lt (reg u 15) (2 ^ 64)) && (reg u 16 == (a + offset_of a (reg u 16) * 2 ^ 32) % 2 ^ 64)) && is_cursor w.form.spans (first_word w.form.spans + offset_of a (reg u 16))
+    ((nat_le (2 ^ 64 - every) (reg u 15) && nat_lt (reg u 15) (2 ^ 64)) && (reg u 16 == (a + offset_of a (reg u 16) * 2 ^ 32) % 2 ^ 64)) && is_cursor w.form.spans (first_word w.base w.form.spans + offset_of a (reg u 16))

@@ -5,10 +5,9 @@ use Rattle.elf_types.specs.declared.output.OutFile.{OutFile}
 use Rattle.qed_model.specs.declared.bounds.Shape.{Shape}
 use Rattle.qed_model.specs.declared.bounds.Bounds.{Bounds}
 use Rattle.qed_model.specs.declared.item.Item.{Item}
-use Rattle.qed_model.specs.declared.limits.Limit.TheVariants as limit
+use Rattle.qed_model.specs.declared.limits.TheConstants.{MAX_NEAR_CODE_BYTES}
 use Rattle.qed_model.specs.declared.options.Options.{Options}
 use Rattle.qed_model.specs.declared.options.Entries.TheVariants as entries
-use Rattle.qed_model.specs.Limits.{limit_of}
 use Rattle.qed_model.specs.Numbers.{bytes_of}
 use Rattle.qed_model.specs.Admission.DataRanges.{data_ranges}
 use Rattle.qed_model.specs.Admission.Reached.{AreReached}
@@ -72,8 +71,8 @@ lean_items f o every blocks = items_with f o every blocks (entry_of false (code_
 
 -- ---- the test
 -- the file is admitted, with sound options and entries where a jump by register can lead; these are its blocks, each of fewer steps than there
--- are from check to check; and the words decode to the items in their places
-pub record IsLeanTest (f : ElfFile) (o : Options) (every : ℕ) (blocks : List Block) (words : List ℕ) : Type 0 where
+-- are from check to check
+pub record AreLeanBlocks (f : ElfFile) (o : Options) (every : ℕ) (blocks : List Block) : Type 0 where
   pub file : IsSound f
   pub sound : AreSoundOptions o
   pub admitted : IsAdmitted f o
@@ -81,9 +80,13 @@ pub record IsLeanTest (f : ElfFile) (o : Options) (every : ℕ) (blocks : List B
   pub are : AreBlocks f o blocks
   pub short : All (λ b. block_steps o.diverse (begins_at blocks) b < every) blocks
   pub few : every ≤ 2048
+
+-- the words decode to the items in their places, which have no more bytes than a JAL spans
+pub record IsLeanTest (f : ElfFile) (o : Options) (every : ℕ) (blocks : List Block) (words : List ℕ) : Type 0 where
+  pub cut : AreLeanBlocks f o every blocks
+  pub size : sum_of_sizes false (lean_items f o every blocks) ≤ MAX_NEAR_CODE_BYTES
   pub small : (k : ℕ) → slice_index words k < 2 ^ 32
   pub code : Decode words (placed false (code_place o.half (image_of f)) (lean_items f o every blocks))
-  pub size : sum_of_sizes false (lean_items f o every blocks) ≤ limit_of limit.CodeBytes
 
 -- its output, which always has a table
 abbrev pub lean_file : ElfFile → Options → ℕ → List Block → List ℕ → OutFile
@@ -105,6 +108,12 @@ abbrev pub lean_bounds : ElfFile → Options → ℕ → Bounds
 lean_bounds f o every = bounds_of (shape_of f o false) every
 
 -- ---- the laws
+-- there are such words, where the items have no more bytes
+abbrev pub LeanTestsHaveWords : Type 0
+LeanTestsHaveWords =
+    (f : ElfFile) (o : Options) (every : ℕ) (blocks : List Block) → AreLeanBlocks f o every blocks → sum_of_sizes false (lean_items f o every blocks) ≤ MAX_NEAR_CODE_BYTES
+    → (words : List ℕ) × IsLeanTest f o every blocks words
+
 -- the output keeps the input's values
 abbrev pub LeanTestsKept : Type 0
 LeanTestsKept =

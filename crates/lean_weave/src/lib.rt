@@ -3,7 +3,7 @@
 //! Definitions and laws alone. No program weaves it yet.
 #![tactic(auto)]
 
-ghost use Rattle.lean_weave.specs.Tests.{LeanTestsKept, LeanTestsCaught, LeanTestsClean};
+ghost use Rattle.lean_weave.specs.Tests.{LeanTestsHaveWords, LeanTestsKept, LeanTestsCaught, LeanTestsClean};
 ghost use Rattle.lean_weave.specs.Woven.{LeanKept, LeanCaught, LeanClean};
 
 /// A plan of the form keeps the input's values, with a bound on the steps of the output for each step of the input, and no check
@@ -20,6 +20,11 @@ pub fn lean_caught()
 /// In a plan of the form with the sweep no change before it is silent at the end.
 pub fn lean_clean()
     ensures { LeanClean }
+{}
+
+/// The lean form of an admitted test has words, where it has no more bytes than a JAL spans.
+pub fn lean_tests_have_words()
+    ensures { LeanTestsHaveWords }
 {}
 
 /// The lean form of an admitted test, whose blocks have fewer steps than there are from check to check, keeps the test's values.
