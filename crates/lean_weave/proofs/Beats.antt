@@ -27,7 +27,7 @@ use Rattle.lean_weave.proofs.Begin.{begin_law, first_is}
 use Rattle.lean_weave.proofs.Cells.{Counts, Called, Finished, Begins, called, to_check}
 use Rattle.lean_weave.proofs.Check.{Back}
 use Rattle.lean_weave.proofs.End.{Sweeps, swept_on}
-use Rattle.lockstep.proofs.Ending.{Closing, Reached, to_end, Numbered, next_numbered, visits_in, swept_is}
+use Rattle.lockstep.proofs.Ending.{ToEnd, LastBoundary, to_end, Numbered, next_numbered, visits_in, swept_is}
 use Rattle.lean_weave.proofs.Left.{lean_rows}
 use Rattle.lean_weave.proofs.Rows.{AtCheck, checks}
 
@@ -125,7 +125,7 @@ module _ (f g : Program) (w : World) (l : Lean) (leader : ℕ → Bool) (x : Lea
           }
 
       -- the end, with its sweep
-      closing_at : Finished w l leader x blocks back.to l.every → Closing (start g regs) (λ q n. Sweeps w (after_output g regs q) n) p
+      closing_at : Finished w l leader x blocks back.to l.every → ToEnd (start g regs) (λ q n. Sweeps w (after_output g regs q) n) p
       closing_at d =
           let walk = walk_on (Quiet w) u back.to d.to back.steps d.steps back.walk d.walk in
           record {
@@ -199,7 +199,7 @@ module _ (f g : Program) (w : World) (l : Lean) (leader : ℕ → Bool) (x : Lea
         (e : ℕ) → ((h : ℕ) → Steady f w.reached h) → w.form.sweep ≡ true → (after_output g regs e).outcome ≡ Ended → ((k : ℕ) → k < e → (after_output g regs k).outcome ≡ Going)
         → SweptEnd w g regs (sweep_cost w.form.spans) e
     swept_end e steady sw end before = swept reached where
-      reached : Reached (λ q n. Sweeps w (after_output g regs q) n) e
+      reached : LastBoundary (λ q n. Sweeps w (after_output g regs q) n) e
       reached =
           let first = first_call in
           to_end (start g regs) e end before (Numbered Bound) (λ q n. Sweeps w (after_output g regs q) n)
@@ -211,7 +211,7 @@ module _ (f g : Program) (w : World) (l : Lean) (leader : ℕ → Bool) (x : Lea
           (onward_at p b.index b.bound (p + (l.every + 3)) (omega arith) (steady (p + (l.every + 3)))))
           e first.steps (omega arith) (record { index = first.index; bound = first.bound })
 
-      swept : Reached (λ q n. Sweeps w (after_output g regs q) n) e → SweptEnd w g regs (sweep_cost w.form.spans) e
+      swept : LastBoundary (λ q n. Sweeps w (after_output g regs q) n) e → SweptEnd w g regs (sweep_cost w.form.spans) e
       swept r =
           let y = r.last sw in
           let there : after_output g regs (r.from + y.from) ≡ run (after_output g regs r.from) y.from = run-more (start g regs) r.from y.from in

@@ -24,20 +24,20 @@ place_is u x e h = ap (λ y. (y + 0) % 2 ^ 64) e ∙ omega (arith, h)
 
 -- ---- the boundary before the end
 -- from a boundary to the next
-pub record Nearer (Boundary : ℕ → Type 0) (p : ℕ) : Type 0 where
+pub record ToNext (Boundary : ℕ → Type 0) (p : ℕ) : Type 0 where
   pub steps : ℕ
   pub some : 1 ≤ steps
   pub next : Boundary (p + steps)
 
 -- or to the end
-pub record Closing (s : State) (Last : ℕ → ℕ → Type 0) (p : ℕ) : Type 0 where
+pub record ToEnd (s : State) (Last : ℕ → ℕ → Type 0) (p : ℕ) : Type 0 where
   pub steps : ℕ
   pub going : (k : ℕ) → k < steps → (run s (p + k)).outcome ≡ Going
   pub ended : (run s (p + steps)).outcome ≡ Ended
   pub last : Last p steps
 
 -- the last one
-pub record Reached (Last : ℕ → ℕ → Type 0) (e : ℕ) : Type 0 where
+pub record LastBoundary (Last : ℕ → ℕ → Type 0) (e : ℕ) : Type 0 where
   pub from : ℕ
   pub steps : ℕ
   pub last : Last from steps
@@ -50,7 +50,7 @@ module _ (s : State) (e : ℕ) (end : (run s e).outcome ≡ Ended) (before : (k 
 
   pub to_end :
       (Boundary : ℕ → Type 0) (Last : ℕ → ℕ → Type 0) → ((p : ℕ) → Boundary p → (run s p).outcome ≡ Going)
-      → ((p : ℕ) → Boundary p → Nearer Boundary p ⊎ Closing s Last p) → (fuel p : ℕ) → e ≤ p + fuel → Boundary p → Reached Last e
+      → ((p : ℕ) → Boundary p → ToNext Boundary p ⊎ ToEnd s Last p) → (fuel p : ℕ) → e ≤ p + fuel → Boundary p → LastBoundary Last e
   to_end Boundary Last going on zero p l b = absurd (going_ended (run s p).outcome (going p b) (stays p (omega (arith, l))))
   to_end Boundary Last going on (suc fuel) p l b =
       ⊎_elim
@@ -61,14 +61,14 @@ module _ (s : State) (e : ℕ) (end : (run s e).outcome ≡ Ended) (before : (k 
       (λ ge. record { from = p; steps = c.steps; last = c.last; is = same c ge })
       (cases_lt (p + c.steps) e))
       (on p b) where
-        inside : (c : Closing s Last p) → e < p + c.steps → ⊥
+        inside : (c : ToEnd s Last p) → e < p + c.steps → ⊥
         inside c lt =
             ⊎_elim
             (λ low. going_ended (run s p).outcome (going p b) (stays p (omega (arith, low))))
             (λ high. let sum : p + (e - p) ≡ e = omega (arith, high) in going_ended (run s e).outcome (ap (λ k. (run s k).outcome) (sym sum) ∙ c.going (e - p) (omega (arith, high, lt))) end)
             (cases_lt e p)
 
-        same : (c : Closing s Last p) → e ≤ p + c.steps → p + c.steps ≡ e
+        same : (c : ToEnd s Last p) → e ≤ p + c.steps → p + c.steps ≡ e
         same c ge = ⊎_elim (λ lt. absurd (inside c lt)) (λ g. omega (arith, g, ge)) (cases_lt e (p + c.steps))
 
 -- a boundary with some number
@@ -77,7 +77,7 @@ pub record Numbered (Bound : ℕ → ℕ → Type 0) (p : ℕ) : Type 0 where
   pub bound : Bound p index
 
 -- from it to the next
-pub next_numbered : (c : ℕ → Fetched) (s : State) (z : Sizes) (word : ℕ → ℕ) (Bound : ℕ → ℕ → Type 0) (p i : ℕ) → NextSteps c s z word Bound p i → Nearer (Numbered Bound) p
+pub next_numbered : (c : ℕ → Fetched) (s : State) (z : Sizes) (word : ℕ → ℕ) (Bound : ℕ → ℕ → Type 0) (p i : ℕ) → NextSteps c s z word Bound p i → ToNext (Numbered Bound) p
 next_numbered c s z word Bound p i n = record { steps = n.length; some = n.some; next = record { index = advance z.words z.round i; bound = n.next } }
 
 -- ---- visits
