@@ -86,7 +86,7 @@ module _ (f g : Program) (w : World) (l : Lean) (leader : ℕ → Bool) (x : Lea
               moves = b.moves + c.moves;
               slow = omega (arith, b.slow, c.slow);
               offset = back.next;
-              here = subst (λ y. AtCheck w l leader x y (after_input f (b.moves + c.moves)) back.next) (sym (there (back.steps + c.steps) ∙ to)) (subst (λ t. AtCheck w l leader x c.to t back.next) (sym (run-more (start f zeros) b.moves c.moves)) c.here);
+              here = subst (λ y. AtCheck w l leader x y (after_input f (b.moves + c.moves)) back.next) (sym (there (back.steps + c.steps) ∙ to)) (subst (λ t. AtCheck w l leader x c.to t back.next) (sym (run-more (start f zeros) b.moves c.moves)) c.is);
               sourced = subst (Sourced w) (sym (run-more (start f zeros) b.moves c.moves)) c.sourced;
               at = round_on w w.form.round i (first_word w.form.spans + b.offset) (first_word w.form.spans + back.next) back.word b.at;
             };
@@ -173,7 +173,7 @@ module _ (f g : Program) (w : World) (l : Lean) (leader : ℕ → Bool) (x : Lea
             moves = c.moves;
             slow = omega (arith, c.slow);
             offset = 0;
-            here = subst (λ z. AtCheck w l leader x z (after_input f c.moves) 0) (sym walk.ends) c.here;
+            here = subst (λ z. AtCheck w l leader x z (after_input f c.moves) 0) (sym walk.ends) c.is;
             sourced = c.sourced;
             at = n.at;
           };
