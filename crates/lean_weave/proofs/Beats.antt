@@ -1,16 +1,14 @@
 -- The trace of the lean form: its boundaries are the calls of the check.
-use Rattle.std.proofs.Common.{◌≡◌, ℕ, ◌+◌, ◌^◌, ◌<◌, ◌≤◌, ◌⊎◌, inl, inr, ⊎_elim, Bool, true, List, sym, ap, ◌∙◌, subst, arith}
-use Rattle.std.specs.Prelude.{pos}
-use Rattle.std.proofs.lemmas.Bool.{cases_eq}
+use Rattle.std.proofs.Common.{◌≡◌, ℕ, ◌+◌, ◌<◌, ◌≤◌, ◌⊎◌, inl, inr, ⊎_elim, Bool, true, List, sym, ap, ◌∙◌, subst, arith}
 use Rattle.qed_model.specs.Admission.DataRanges.{word_count}
 use Rattle.qed_model.specs.declared.machine.Outcome.TheVariants.{Going, Ended}
 use Rattle.qed_model.specs.Machine.Program.{Program, start, zeros, AreStartRegs}
-use Rattle.qed_model.specs.Machine.Step.{State, reg, run}
+use Rattle.qed_model.specs.Machine.Step.{State, run}
 use Rattle.qed_model.specs.Promise.Kept.{after_input, after_output, IsSteady, Steady}
 use Rattle.qed_model.specs.Weave.Sequences.{Reads}
 use Rattle.qed_model.proofs.Walk.{run-more}
 use Rattle.qed_model.proofs.Walked.{walk_on}
-use Rattle.weave_core.specs.World.{World, Quiet, IsCursor, words_on}
+use Rattle.weave_core.specs.World.{World, Quiet, IsCursor}
 use Rattle.weave_core.specs.Describes.{Describes}
 use Rattle.weave_core.specs.Blocks.{IsEntryOf}
 use Rattle.weave_core.specs.Rows.{Sourced}
@@ -21,16 +19,15 @@ use Rattle.weave_core.specs.WeaveLaws.{EntriesAt, Swept}
 use Rattle.weave_core.proofs.Entries.{first_sourced}
 use Rattle.weave_core.proofs.Source.{steady_le, steady_rest}
 use Rattle.weave_core.proofs.Visit.{words_within}
-use Rattle.lockstep.proofs.Beating.{round_of, round_some, round_none, some_spans, at_word}
-use Rattle.lockstep.proofs.Numbered.{nth_word, nth_low, number_of, words_are, advance_below}
-use Rattle.lockstep.proofs.Trace.{advance, Sizes, VisitIn, NextSteps, PieceSteps, EndsSoon, Trace, SweptEnd}
+use Rattle.lockstep.proofs.Numbered.{nth_word, AtNumber, placed, round_of, round_on}
+use Rattle.lockstep.proofs.Trace.{Sizes, NextSteps, PieceSteps, EndsSoon, Trace, SweptEnd}
 use Rattle.lean_weave.specs.Lean.{first_word, begin}
 use Rattle.lean_weave.specs.Woven.{Lean, weave_of, LeanIn, check_steps, swept_steps}
 use Rattle.lean_weave.proofs.Begin.{begin_law, first_is}
 use Rattle.lean_weave.proofs.Cells.{Counts, Called, Finished, Begins, called, to_check}
 use Rattle.lean_weave.proofs.Check.{Back}
 use Rattle.lean_weave.proofs.End.{Sweeps, swept_on}
-use Rattle.lockstep.proofs.Ending.{Closing, Reached, place_is, to_end, swept_is}
+use Rattle.lockstep.proofs.Ending.{ToEnd, LastBoundary, to_end, Numbered, next_numbered, visits_in, swept_is}
 use Rattle.lean_weave.proofs.Left.{lean_rows}
 use Rattle.lean_weave.proofs.Rows.{AtCheck, checks}
 
@@ -46,18 +43,11 @@ module _ (f g : Program) (w : World) (l : Lean) (leader : ℕ → Bool) (x : Lea
   abbrev nth : ℕ → ℕ
   nth i = nth_word w.form.spans i
 
-  nth_small : (i : ℕ) → i < word_count w.form.spans → nth_word w.form.spans i < 2 ^ 64
-  nth_small i h = let a = nth_low w.base (w.base + w.distance) w.form.spans i w.spans_good w.spans_low h in omega (arith, a, w.layout.top)
-
   -- each leader has an entry on the grain
   blocks : (a : ℕ) → leader a ≡ true → IsEntryOf w a
   blocks a h = (lean_rows w l leader x).known a (entries a h)
 
   module _ (regs : List ℕ) (are : AreStartRegs regs) where
-    -- the next data word has this number, where there are words
-    abbrev At : ℕ → ℕ → Type 0
-    At i y = ((i < word_count w.form.spans) × (y ≡ nth_word w.form.spans i)) ⊎ (word_count w.form.spans ≡ 0)
-
     -- the check is called, with the number of the next word
     pub record Bound (p i : ℕ) : Type 0 where
       pub moves : ℕ
@@ -65,18 +55,7 @@ module _ (f g : Program) (w : World) (l : Lean) (leader : ℕ → Bool) (x : Lea
       pub offset : ℕ
       pub here : AtCheck w l leader x (after_output g regs p) (after_input f moves) offset
       pub sourced : Sourced w (after_input f moves)
-      pub at : At i (first_word w.base w.form.spans + offset)
-
-    record Placed (y : ℕ) : Type 0 where
-      index : ℕ
-      at : At index y
-
-    placed : (y : ℕ) → IsCursor w.form.spans y → Placed y
-    placed y c =
-        ⊎_elim
-        (λ z. record { index = 0; at = inr z })
-        (λ nz. let n = number_of w.base w.form.spans y w.spans_good (at_word w.form.spans y (omega (arith, nz)) c) in record { index = n.index; at = inl (n.below, sym n.is) })
-        (cases_eq (word_count w.form.spans) 0)
+      pub at : AtNumber w.form.spans i (first_word w.base w.form.spans + offset)
 
     -- ---- from a boundary
     module _ (p i : ℕ) (b : Bound p i) where
@@ -93,41 +72,6 @@ module _ (f g : Program) (w : World) (l : Lean) (leader : ℕ → Bool) (x : Lea
       there : (n : ℕ) → run (start g regs) (p + n) ≡ run (after_output g regs p) n
       there n = run-more (start g regs) p n
 
-      -- the number of the word behind the round
-      at_next : At i (first_word w.base w.form.spans + b.offset) → At (advance (word_count w.form.spans) (round_of (word_count w.form.spans) w.form.round) i) (first_word w.base w.form.spans + back.next)
-      at_next (inr z) = inr z
-      at_next (inl h) =
-          let k = round_some (word_count w.form.spans) w.form.round (omega (arith, h.0)) in
-          let round = w.form.round in
-          let to : first_word w.base w.form.spans + back.next ≡ nth_word w.form.spans (advance (word_count w.form.spans) w.form.round i) = back.word ∙ ap (words_on w.form.spans w.form.round) h.1 ∙ words_are w.base w.form.spans w.form.round i w.spans_good h.0 in
-          subst (λ n. At (advance (word_count w.form.spans) n i) (first_word w.base w.form.spans + back.next)) (sym k) (inl (advance_below (word_count w.form.spans) w.form.round i h.0, to))
-
-      -- the visits of the check
-      visit :
-          (j n : ℕ) → back.steps ≤ n → j < round_of (word_count w.form.spans) w.form.round → At i (first_word w.base w.form.spans + b.offset)
-          → VisitIn w.code (start g regs) p (p + n) (nth_word w.form.spans (advance (word_count w.form.spans) j i))
-      visit j n le h (inr z) = let k = round_none (word_count w.form.spans) w.form.round z in absurd (omega (arith, h, k))
-      visit j n le h (inl a) =
-          let one : 1 ≤ word_count w.form.spans = omega (arith, a.0) in
-          let k = round_some (word_count w.form.spans) w.form.round one in
-          let y = back.visits j (omega (arith, h, k)) (some_spans w.form.spans one) in
-          let e = run-more (start g regs) p y.at in
-          let number = advance (word_count w.form.spans) j i in
-          let word : words_on w.form.spans j (first_word w.base w.form.spans + b.offset) ≡ nth_word w.form.spans (advance (word_count w.form.spans) j i) = ap (words_on w.form.spans j) a.1 ∙ words_are w.base w.form.spans j i w.spans_good a.0 in
-          record {
-            at = p + y.at;
-            late = omega arith;
-            early = omega (arith, y.before, le);
-            visit = record {
-              going = ap (λ s. s.outcome) e ∙ (back.walk.each y.at y.before).going;
-              base = 15;
-              high = omega arith;
-              offset = pos 0;
-              first = ap (λ s. w.code s.pc) e ∙ y.first;
-              cursor = place_is (after_output g regs (p + y.at)) (nth_word w.form.spans number) (ap (λ s. reg s 15) e ∙ y.cursor ∙ word) (nth_small number (advance_below (word_count w.form.spans) j i a.0));
-            };
-          }
-
       -- to the next call
       next_at : Called w l leader x blocks back.to (after_input f b.moves) back.next (l.every + 2) → NextSteps w.code (start g regs) sizes (λ i. nth_word w.form.spans i) Bound p i
       next_at c =
@@ -137,14 +81,14 @@ module _ (f g : Program) (w : World) (l : Lean) (leader : ℕ → Bool) (x : Lea
             length = back.steps + c.steps;
             some = omega (arith, back.some);
             short = omega (arith, back.within, c.within);
-            visits = λ j h. visit j (back.steps + c.steps) (omega arith) h b.at;
+            visits = λ j h. visits_in g w regs p back.steps (back.steps + c.steps) w.form.round i j (first_word w.base w.form.spans + b.offset) (omega arith) (λ k l. ap (λ s. s.outcome) (there k) ∙ (back.walk.each k l).going) back.visits b.at h;
             next = record {
               moves = b.moves + c.moves;
               slow = omega (arith, b.slow, c.slow);
               offset = back.next;
-              here = subst (λ y. AtCheck w l leader x y (after_input f (b.moves + c.moves)) back.next) (sym (there (back.steps + c.steps) ∙ to)) (subst (λ t. AtCheck w l leader x c.to t back.next) (sym (run-more (start f zeros) b.moves c.moves)) c.here);
+              here = subst (λ y. AtCheck w l leader x y (after_input f (b.moves + c.moves)) back.next) (sym (there (back.steps + c.steps) ∙ to)) (subst (λ t. AtCheck w l leader x c.to t back.next) (sym (run-more (start f zeros) b.moves c.moves)) c.is);
               sourced = subst (Sourced w) (sym (run-more (start f zeros) b.moves c.moves)) c.sourced;
-              at = at_next b.at;
+              at = round_on w w.form.round i (first_word w.base w.form.spans + b.offset) (first_word w.base w.form.spans + back.next) back.word b.at;
             };
           }
 
@@ -181,7 +125,7 @@ module _ (f g : Program) (w : World) (l : Lean) (leader : ℕ → Bool) (x : Lea
           }
 
       -- the end, with its sweep
-      closing_at : Finished w l leader x blocks back.to l.every → Closing (start g regs) (λ q n. Sweeps w (after_output g regs q) n) p
+      closing_at : Finished w l leader x blocks back.to l.every → ToEnd (start g regs) (λ q n. Sweeps w (after_output g regs q) n) p
       closing_at d =
           let walk = walk_on (Quiet w) u back.to d.to back.steps d.steps back.walk d.walk in
           record {
@@ -220,7 +164,7 @@ module _ (f g : Program) (w : World) (l : Lean) (leader : ℕ → Bool) (x : Lea
         } in
         let c = called w l leader x blocks entries counts y.to s0 1 0 b (fewer (l.most f.entry) l.every (x.ticks f.entry leads) x.few) (tick_some f.entry leads) in
         let walk = walk_on (Quiet w) (start g regs) y.to c.to y.steps c.steps y.walk c.walk in
-        let n = placed (first_word w.base w.form.spans + 0) (first_is w.base w.form.spans w.spans_good) in
+        let n = placed w (first_word w.base w.form.spans + 0) (first_is w.base w.form.spans w.spans_good) in
         record {
           steps = y.steps + c.steps;
           within = omega (arith, y.within, c.within);
@@ -229,7 +173,7 @@ module _ (f g : Program) (w : World) (l : Lean) (leader : ℕ → Bool) (x : Lea
             moves = c.moves;
             slow = omega (arith, c.slow);
             offset = 0;
-            here = subst (λ z. AtCheck w l leader x z (after_input f c.moves) 0) (sym walk.ends) c.here;
+            here = subst (λ z. AtCheck w l leader x z (after_input f c.moves) 0) (sym walk.ends) c.is;
             sourced = c.sourced;
             at = n.at;
           };
@@ -251,28 +195,23 @@ module _ (f g : Program) (w : World) (l : Lean) (leader : ℕ → Bool) (x : Lea
         }
 
     -- ---- the end of a test with the sweep
-    -- the check is called, with the number of some word
-    record Numbered (p : ℕ) : Type 0 where
-      index : ℕ
-      bound : Bound p index
-
     pub swept_end :
         (e : ℕ) → ((h : ℕ) → Steady f w.reached h) → w.form.sweep ≡ true → (after_output g regs e).outcome ≡ Ended → ((k : ℕ) → k < e → (after_output g regs k).outcome ≡ Going)
         → SweptEnd w g regs (sweep_cost w.form.spans) e
     swept_end e steady sw end before = swept reached where
-      reached : Reached (λ q n. Sweeps w (after_output g regs q) n) e
+      reached : LastBoundary (λ q n. Sweeps w (after_output g regs q) n) e
       reached =
           let first = first_call in
-          to_end (start g regs) e end before Numbered (λ q n. Sweeps w (after_output g regs q) n)
+          to_end (start g regs) e end before (Numbered Bound) (λ q n. Sweeps w (after_output g regs q) n)
           (λ p b. b.bound.here.over.going)
           (λ p b.
           ⊎_elim
-          (λ c. let n = next_at p b.index b.bound c in inl (record { steps = n.length; some = n.some; next = record { index = advance (word_count w.form.spans) (round_of (word_count w.form.spans) w.form.round) b.index; bound = n.next } }))
+          (λ c. inl (next_numbered w.code (start g regs) sizes nth Bound p b.index (next_at p b.index b.bound c)))
           (λ d. inr (closing_at p b.index b.bound d))
           (onward_at p b.index b.bound (p + (l.every + 3)) (omega arith) (steady (p + (l.every + 3)))))
           e first.steps (omega arith) (record { index = first.index; bound = first.bound })
 
-      swept : Reached (λ q n. Sweeps w (after_output g regs q) n) e → SweptEnd w g regs (sweep_cost w.form.spans) e
+      swept : LastBoundary (λ q n. Sweeps w (after_output g regs q) n) e → SweptEnd w g regs (sweep_cost w.form.spans) e
       swept r =
           let y = r.last sw in
           let there : after_output g regs (r.from + y.from) ≡ run (after_output g regs r.from) y.from = run-more (start g regs) r.from y.from in

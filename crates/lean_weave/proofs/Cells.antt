@@ -46,35 +46,45 @@ module _ (w : World) (l : Lean) (leader : ℕ → Bool) (x : LeanIn w l leader) 
     pub ended : to.outcome ≡ Ended
     pub swept : Sweeps w u steps
 
-  -- the output is at an entry, with the counter as it was
-  pub record Next (u s : State) (off most : ℕ) : Type 0 where
+  -- a walk of the output, in no fewer steps than the input makes, to where something is true of both
+  pub record Way (Is : State → State → Type 0) (u s : State) (most : ℕ) : Type 0 where
     pub moves : ℕ
     pub steps : ℕ
     pub to : State
     pub slow : moves ≤ steps
     pub within : steps ≤ most
     pub walk : Walk (Quiet w) u steps to
-    pub stands : Stands w leader to (run s moves)
     pub sourced : Sourced w (run s moves)
-    pub sign : reg to 16 ≡ ((run s moves).pc + off * 2 ^ 32) % 2 ^ 64
-    pub counter : reg to 15 ≡ reg u 15
+    pub is : Is to (run s moves)
+
+  -- the output is at an entry, with this counter
+  pub record Entered (off count : ℕ) (y t : State) : Type 0 where
+    pub stands : Stands w leader y t
+    pub sign : reg y 16 ≡ (t.pc + off * 2 ^ 32) % 2 ^ 64
+    pub counter : reg y 15 ≡ count
+
+  -- to an entry, with the counter as it was
+  abbrev pub Next : State → State → ℕ → ℕ → Type 0
+  Next u s off most = Way (Entered off (reg u 15)) u s most
+
+  -- to a call of the check
+  abbrev pub Called : State → State → ℕ → ℕ → Type 0
+  Called u s off most = Way (λ y t. AtCheck w l leader x y t off) u s most
 
   -- behind a walk
   finished_on : (u y : State) (m most most' : ℕ) → Walk (Quiet w) u m y → m + most ≤ most' → Finished y most → Finished u most'
   finished_on u y m most most' a le f = record { steps = m + f.steps; to = f.to; within = omega (arith, f.within, le); walk = walk_on (Quiet w) u y f.to m f.steps a f.walk; ended = f.ended; swept = swept_on w u y m f.steps a f.swept }
 
-  next_on : (u y s : State) (off m k most most' : ℕ) → Walk (Quiet w) u m y → k ≤ m → m + most ≤ most' → reg y 15 ≡ reg u 15 → Next y (run s k) off most → Next u s off most'
-  next_on u y s off m k most most' a slow le keeps n = record {
+  way_on : (Is : State → State → Type 0) (u y s : State) (m k most most' : ℕ) → Walk (Quiet w) u m y → k ≤ m → m + most ≤ most' → Way Is y (run s k) most → Way Is u s most'
+  way_on Is u y s m k most most' a slow le n = record {
     moves = k + n.moves;
     steps = m + n.steps;
     to = n.to;
     slow = omega (arith, slow, n.slow);
     within = omega (arith, n.within, le);
     walk = walk_on (Quiet w) u y n.to m n.steps a n.walk;
-    stands = subst (Stands w leader n.to) (sym (run-more s k n.moves)) n.stands;
     sourced = subst (Sourced w) (sym (run-more s k n.moves)) n.sourced;
-    sign = n.sign ∙ ap (λ t. (t.pc + off * 2 ^ 32) % 2 ^ 64) (sym (run-more s k n.moves));
-    counter = n.counter ∙ keeps;
+    is = subst (Is n.to) (sym (run-more s k n.moves)) n.is;
   }
 
   -- ---- a block, behind its tick
@@ -90,7 +100,7 @@ module _ (w : World) (l : Lean) (leader : ℕ → Bool) (x : LeanIn w l leader) 
     leave_through e u s most is (inl g) calm = inr (record { steps = g.steps; to = g.to; within = g.within; walk = g.walk; ended = g.is.0.ended; swept = g.is.1 })
     leave_through e u s most is (inr g) calm = onward g.is where
       onward : Onward w leader (SignedAs u (off * 2 ^ 32)) (run s (stops e)) g.to → Next u s off most ⊎ Finished u most
-      onward (lands st sg so) = inl (record { moves = stops e; steps = g.steps; to = g.to; slow = g.at_least; within = g.within; walk = g.walk; stands = st; sourced = so; sign = sg.0; counter = sg.1 })
+      onward (lands st sg so) = inl (record { moves = stops e; steps = g.steps; to = g.to; slow = g.at_least; within = g.within; walk = g.walk; sourced = so; is = record { stands = st; sign = sg.0; counter = sg.1 } })
       onward (is_lost going h so lacks) = absurd (no_code w (run s (stops e)) so lacks (subst NotTrapped (run-more s (stops e) 1 ∙ one_run (run s (stops e))) calm))
 
     through :
@@ -128,7 +138,7 @@ module _ (w : World) (l : Lean) (leader : ℕ → Bool) (x : LeanIn w l leader) 
         let sum : piece_steps l.diverse p + rest_steps ps e t.pc ≡ rest_steps (p ∷ ps) e s.pc = sums (piece_steps l.diverse p) (body_steps l.diverse ps) (leave_cost (fall_to leader) e b (t.pc + 4 * body_length ps)) ∙ ap (λ k. piece_steps l.diverse p + body_steps l.diverse ps + leave_cost (fall_to leader) e b k) (sym next_pc) in
         subst (λ n. Next u s off n ⊎ Finished u n) sum
         (⊎_elim
-        (λ n. inl (next_on u r.to s off r.steps k (rest_steps ps e t.pc) (piece_steps l.diverse p + rest_steps ps e t.pc) r.walk r.at_least (both r.steps (piece_steps l.diverse p) (rest_steps ps e t.pc) r.within) r.counter n))
+        (λ n. inl (way_on (Entered off (reg u 15)) u r.to s r.steps k (rest_steps ps e t.pc) (piece_steps l.diverse p + rest_steps ps e t.pc) r.walk r.at_least (both r.steps (piece_steps l.diverse p) (rest_steps ps e t.pc) r.within) (subst (λ c. Way (Entered off c) r.to t (rest_steps ps e t.pc)) r.counter n)))
         (λ f. inr (finished_on u r.to r.steps (rest_steps ps e t.pc) (piece_steps l.diverse p + rest_steps ps e t.pc) r.walk (both r.steps (piece_steps l.diverse p) (rest_steps ps e t.pc) r.within) f))
         more) where
           sums : (a b c : ℕ) → a + (b + c) ≡ a + b + c
@@ -138,30 +148,6 @@ module _ (w : World) (l : Lean) (leader : ℕ → Bool) (x : LeanIn w l leader) 
           both m a c h = omega (arith, h)
 
   -- ---- block after block
-  -- the check is called
-  pub record Called (u s : State) (off most : ℕ) : Type 0 where
-    pub moves : ℕ
-    pub steps : ℕ
-    pub to : State
-    pub slow : moves ≤ steps
-    pub within : steps ≤ most
-    pub walk : Walk (Quiet w) u steps to
-    pub here : AtCheck w l leader x to (run s moves) off
-    pub sourced : Sourced w (run s moves)
-
-  -- behind a walk
-  called_on : (u y s : State) (off m k most most' : ℕ) → Walk (Quiet w) u m y → k ≤ m → m + most ≤ most' → Called y (run s k) off most → Called u s off most'
-  called_on u y s off m k most most' a slow le c = record {
-    moves = k + c.moves;
-    steps = m + c.steps;
-    to = c.to;
-    slow = omega (arith, slow, c.slow);
-    within = omega (arith, c.within, le);
-    walk = walk_on (Quiet w) u y c.to m c.steps a c.walk;
-    here = subst (λ t. AtCheck w l leader x c.to t off) (sym (run-more s k c.moves)) c.here;
-    sourced = subst (Sourced w) (sym (run-more s k c.moves)) c.sourced;
-  }
-
   -- what is asked of the begin of a block: so many steps are left
   pub record Begins (u s : State) (left off : ℕ) : Type 0 where
     pub stands : Stands w leader u s
@@ -234,8 +220,8 @@ module _ (w : World) (l : Lean) (leader : ℕ → Bool) (x : LeanIn w l leader) 
             slow = omega arith;
             within = omega (arith, b.some);
             walk = c.1;
-            here = subst (λ t. AtCheck w l leader x c.0 t off) (sym (none_run s)) c.2;
             sourced = subst (Sourced w) (sym (none_run s)) b.sourced;
+            is = subst (λ t. AtCheck w l leader x c.0 t off) (sym (none_run s)) c.2;
           }
 
     -- from any block to the next call of the check, or to the end of the test
@@ -260,18 +246,18 @@ module _ (w : World) (l : Lean) (leader : ℕ → Bool) (x : LeanIn w l leader) 
               ⊎_elim
               (λ n.
               let c = rec n.to (run s n.moves) (left - m) (record {
-                stands = n.stands;
+                stands = n.is.stands;
                 sourced = n.sourced;
                 some = omega (arith, lt);
                 most = omega (arith, b.most);
-                fifteen = n.counter ∙ p.2;
+                fifteen = n.is.counter ∙ p.2;
                 few = b.few;
-                sign = n.sign;
+                sign = n.is.sign;
                 cursor = b.cursor;
               }) (omega (arith, l1, lt, p.4)) (steady_rest w.reached s n.moves (left - m + 3) (steady_le w.reached s (n.moves + (left - m + 3)) (left + 3) (omega (arith, lt, p.4, n.slow, n.within)) steady)) in
               let w2 = walk_on (Quiet w) u p.0 n.to 2 n.steps p.1 n.walk in
               ⊎_elim
-              (λ d. inl (called_on u n.to s off (2 + n.steps) n.moves (left - m + 2) (left + 2) w2 (omega (arith, n.slow)) (omega (arith, lt, p.4, n.within)) d))
+              (λ d. inl (way_on (λ y t. AtCheck w l leader x y t off) u n.to s (2 + n.steps) n.moves (left - m + 2) (left + 2) w2 (omega (arith, n.slow)) (omega (arith, lt, p.4, n.within)) d))
               (λ f. inr (finished_on u n.to (2 + n.steps) (left - m) left w2 (omega (arith, lt, p.4, n.within)) f))
               c)
               (λ f. inr (finished_on u p.0 2 p.3 left p.1 (omega (arith, lt, p.4)) f))

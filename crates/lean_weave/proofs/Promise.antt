@@ -27,7 +27,7 @@ use Rattle.weave_core.proofs.Landing.{all_land_append, has_rest}
 use Rattle.weave_core.proofs.Listed.{opens_behind}
 use Rattle.weave_core.proofs.PlacingForm.{length-instructions}
 use Rattle.weave_core.proofs.Values.{WeaveIn, kept, quiet_at}
-use Rattle.lockstep.proofs.Beating.{round_some}
+use Rattle.lockstep.proofs.Numbered.{round_some}
 use Rattle.lockstep.proofs.Calm.{CalmCode}
 use Rattle.lockstep.proofs.Cleaned.{cleaned}
 use Rattle.lockstep.proofs.Coded.{WordAt, stub_words, reads_rest, word_of, stub_open}

@@ -20,7 +20,8 @@ use Rattle.weave_core.specs.WeaveLaws.{CheckedRows, Rows, Starts, Words, PiecesA
 use Rattle.weave_core.specs.WeavePromise.{AllBlocksOf, PlanOf, OnlyCode, BoundsOf, WeaveCaught, WeaveClean}
 use Rattle.weave_core.specs.World.{World}
 use Rattle.weave_core.proofs.Values.{WeaveIn, kept, quiet_at, plan_in}
-use Rattle.lockstep.proofs.Beating.{round_some, sizes, traced, Bound, swept_end}
+use Rattle.lockstep.proofs.Numbered.{round_some}
+use Rattle.lockstep.proofs.Beating.{sizes, traced, Bound, swept_end}
 use Rattle.lockstep.proofs.Calm.{CalmCode}
 use Rattle.lockstep.proofs.Cleaned.{cleaned}
 use Rattle.lockstep.proofs.Coded.{word_at, entries_open}

@@ -5,7 +5,8 @@ use crate::bench::Bench;
 use crate::digest::digest_of;
 use campaign::Silent;
 use diagnose::advice;
-use qed_top::{exit_code, qed};
+use qed_io::MemorySink;
+use qed_top::{Status, exit_code, qed};
 use qed_words::order;
 use std::alloc::{AllocError, Global};
 use std::env::Args;
@@ -19,14 +20,24 @@ pub(crate) fn printed(alloc: Global, out: &[u8], code: u8) -> Result<String, All
     format!(in alloc; "{text}= {code}\n")
 }
 
+/// What a call prints, and its status.
+fn done(
+    alloc: Global,
+    bench: &mut Bench,
+    words: &[String],
+) -> Result<(MemorySink, Status), AllocError> {
+    let mut out = bench.sink(alloc)?;
+    let status = qed(alloc, words, &mut bench.shelf, &mut out, &Silent);
+    Ok((out, status))
+}
+
 /// What a call prints, and the exit code.
 pub(crate) fn call(
     alloc: Global,
     bench: &mut Bench,
     words: &[String],
 ) -> Result<String, AllocError> {
-    let mut out = bench.sink(alloc)?;
-    let status = qed(alloc, words, &mut bench.shelf, &mut out, &Silent);
+    let (out, status) = done(alloc, bench, words)?;
     printed(alloc, out.bytes(), status.code())
 }
 
@@ -36,8 +47,7 @@ pub(crate) fn advise(
     bench: &mut Bench,
     words: &[String],
 ) -> Result<String, AllocError> {
-    let mut out = bench.sink(alloc)?;
-    let _ = qed(alloc, words, &mut bench.shelf, &mut out, &Silent);
+    let (out, _) = done(alloc, bench, words)?;
     let printed = str::from_utf8(out.bytes()).unwrap_or("");
     advice(alloc, words, printed, None, true, &mut bench.shelf)
 }
@@ -48,8 +58,7 @@ pub(crate) fn digest(
     bench: &mut Bench,
     words: &[String],
 ) -> Result<String, AllocError> {
-    let mut out = bench.sink(alloc)?;
-    let status = qed(alloc, words, &mut bench.shelf, &mut out, &Silent);
+    let (out, status) = done(alloc, bench, words)?;
     let text = digest_of(alloc, out.bytes())?;
     let code = status.code();
     format!(in alloc; "{text}\n= {code}\n")

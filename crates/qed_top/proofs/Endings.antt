@@ -120,7 +120,7 @@ told_done file p answer t = t.status
 
 file_printed :
     (file : _) (steps : ℕ) (changes : List Change) (jumps : List ℕ) (dump : Option (ℕ × ℕ)) (answer : Answer) → FileRuns file steps changes jumps dump answer → Printed answer.status
-file_printed file steps changes jumps dump answer (too_large over plain) = prints Limit answer tt plain.status
+file_printed file steps changes jumps dump answer (too_large a) = prints Limit answer tt a.plain.status
 file_printed file steps changes jumps dump answer (ran small plain) = prints (outcome_status (run_of file steps changes).state.outcome) answer (outcome_printed (run_of file steps changes).state.outcome) plain.status
 
 runs_printed : (bytes : List ℕ) (steps : ℕ) (changes : List Change) (dump : Option (ℕ × ℕ)) (answer : Answer) → Runs bytes steps changes dump answer → Printed answer.status
@@ -137,7 +137,7 @@ run_printed false bytes steps changes dump answer r = runs_printed bytes steps c
 run_printed true bytes steps changes dump answer w = watches_printed bytes steps changes dump answer w
 
 file_listed_printed : (file : _) (answer : Answer) → FileLists file answer → Printed answer.status
-file_listed_printed file answer (lists.list_too_large over plain) = prints Limit answer tt plain.status
+file_listed_printed file answer (lists.list_too_large a) = prints Limit answer tt a.plain.status
 file_listed_printed file answer (lists.listed small p) = prints Done answer tt p.plain.status
 
 lists_printed : (bytes : List ℕ) (answer : Answer) → Lists bytes answer → Printed answer.status
@@ -332,7 +332,7 @@ makes_decided bytes o Uses answer done (made m) = decide.done (transformable_of 
 file_decided :
     (bytes : List ℕ) (file : _) (steps : ℕ) (changes : List Change) (jumps : List ℕ) (dump : Option (ℕ × ℕ)) (answer : Answer) → IsReadAs bytes file → FileRuns file steps changes jumps dump answer
     → ReadDecides bytes (ran_status steps changes) answer.status
-file_decided bytes file steps changes jumps dump answer read (too_large over plain) = decide.too_large file read over plain.status
+file_decided bytes file steps changes jumps dump answer read (too_large a) = decide.too_large file read a.over a.plain.status
 file_decided bytes file steps changes jumps dump answer read (ran small plain) = decide.taken file read small plain.status
 
 runs_decided : (bytes : List ℕ) (steps : ℕ) (changes : List Change) (dump : Option (ℕ × ℕ)) (answer : Answer) → Runs bytes steps changes dump answer → ReadDecides bytes (ran_status steps changes) answer.status
@@ -355,7 +355,7 @@ run_decided false bytes steps changes dump answer r = runs_decided bytes steps c
 run_decided true bytes steps changes dump answer w = watches_decided bytes steps changes dump answer w
 
 file_lists_decided : (bytes : List ℕ) (file : _) (answer : Answer) → IsReadAs bytes file → FileLists file answer → ReadDecides bytes (λ f. Done) answer.status
-file_lists_decided bytes file answer read (lists.list_too_large over plain) = decide.too_large file read over plain.status
+file_lists_decided bytes file answer read (lists.list_too_large a) = decide.too_large file read a.over a.plain.status
 file_lists_decided bytes file answer read (lists.listed small p) = decide.taken file read small p.plain.status
 
 lists_decided : (bytes : List ℕ) (answer : Answer) → Lists bytes answer → ReadDecides bytes (λ f. Done) answer.status
@@ -473,7 +473,7 @@ told_store stores answer file p t r = none_stored answer stores t.stored r
 file_store :
     (file : _) (steps : ℕ) (changes : List Change) (jumps : List ℕ) (dump : Option (ℕ × ℕ)) (stores : List ℕ → Type 0) (answer : Answer) → FileRuns file steps changes jumps dump answer
     → StoreRose answer.stored stores → ⊥
-file_store file steps changes jumps dump stores answer (too_large over plain) r = none_stored answer stores plain.stored r
+file_store file steps changes jumps dump stores answer (too_large a) r = none_stored answer stores a.plain.stored r
 file_store file steps changes jumps dump stores answer (ran small plain) r = none_stored answer stores plain.stored r
 
 runs_store :
@@ -496,7 +496,7 @@ run_store false bytes steps changes dump stores answer m r = runs_store bytes st
 run_store true bytes steps changes dump stores answer m r = watches_store bytes steps changes dump stores answer m r
 
 file_lists_store : (file : _) (stores : List ℕ → Type 0) (answer : Answer) → FileLists file answer → StoreRose answer.stored stores → ⊥
-file_lists_store file stores answer (lists.list_too_large over plain) r = none_stored answer stores plain.stored r
+file_lists_store file stores answer (lists.list_too_large a) r = none_stored answer stores a.plain.stored r
 file_lists_store file stores answer (lists.listed small p) r = none_stored answer stores p.plain.stored r
 
 lists_store : (bytes : List ℕ) (stores : List ℕ → Type 0) (answer : Answer) → Lists bytes answer → StoreRose answer.stored stores → ⊥

@@ -185,11 +185,11 @@ was_told f t steps changes reached machine astray same begins is =
 
 -- the machine of a file that is small enough was run
 pub was_run :
-    (f : ElfFile) (steps : ℕ) (changes : List Change) (jumps : List ℕ) (dump : Option (ℕ × ℕ)) (size : ℕ) (ended : Progress) (o : Outcome) (text : List ℕ) (s : Status) (answer : Answer)
-    → size ≡ memory_bytes f.segments → size ≤ memory_limit → ended ≡ run_of f steps changes → o ≡ ended.state.outcome
+    (f : ElfFile) (steps : ℕ) (changes : List Change) (jumps : List ℕ) (dump : Option (ℕ × ℕ)) (ended : Progress) (o : Outcome) (text : List ℕ) (s : Status) (answer : Answer)
+    → memory_bytes f.segments ≤ memory_limit → ended ≡ run_of f steps changes → o ≡ ended.state.outcome
     → text ≡ run_text ended jumps dump → s ≡ outcome_status o → PrintsOnly s text answer → FileRuns f steps changes jumps dump answer
-was_run f steps changes jumps dump size ended o text s answer same small is how lines gives plain =
-    run.ran (omega (arith, same, small)) (record {
+was_run f steps changes jumps dump ended o text s answer small is how lines gives plain =
+    run.ran small (record {
       status = plain.status ∙ gives ∙ ap outcome_status (how ∙ ap (λ p. p.state.outcome) is);
       text = plain.text ∙ lines ∙ ap (λ p. run_text p jumps dump) is;
       stored = plain.stored;

@@ -1,15 +1,13 @@
 -- What `list` answers.
-use Rattle.std.specs.Prelude.{◌<◌, ◌≤◌, ℕ, List}
+use Rattle.std.specs.Prelude.{◌≤◌, ℕ, List}
 use Rattle.elf_types.specs.declared.file.ElfFile.{ElfFile}
 use Rattle.listing.specs.Listing.{IsListing}
-use Rattle.qed_model.specs.declared.limits.Limit.TheVariants as limit
 use Rattle.elf_files.specs.File.{IsReadAs}
-use Rattle.command_line.specs.Text.Errors.{limit_line}
 use Rattle.qed_top.specs.Answer.{PrintsOnly}
 use Rattle.qed_top.specs.Refused.{IsUnread}
-use Rattle.qed_top.specs.Run.{memory_bytes, memory_limit}
+use Rattle.qed_top.specs.Run.{memory_bytes, memory_limit, IsAboveMemory}
 use Rattle.qed_top.specs.declared.answer.Answer.{Answer}
-use Rattle.qed_top.specs.declared.status.Status.TheVariants.{Done, Limit}
+use Rattle.qed_top.specs.declared.status.Status.TheVariants.{Done}
 
 -- the listing is printed
 pub record IsPrinted (f : ElfFile) (answer : Answer) : Type 0 where
@@ -17,9 +15,9 @@ pub record IsPrinted (f : ElfFile) (answer : Answer) : Type 0 where
   pub listing : IsListing f text
   pub plain : PrintsOnly Done text answer
 
--- L6: the segments of a file have too many bytes in memory, or its code is listed
+-- the segments of a file have too many bytes in memory, or its code is listed
 pub data FileLists (f : ElfFile) (answer : Answer) : Type 0 where
-  list_too_large : memory_limit < memory_bytes f.segments → PrintsOnly Limit (limit_line limit.MemoryBytes (memory_bytes f.segments)) answer → FileLists f answer
+  list_too_large : IsAboveMemory f answer → FileLists f answer
   listed : memory_bytes f.segments ≤ memory_limit → IsPrinted f answer → FileLists f answer
 
 -- the file was read

@@ -51,9 +51,14 @@ outcome_status outcome.Fired = Fired
 outcome_status (outcome.Trapped c pc) = Trapped
 outcome_status outcome.Going = StepsSpent
 
--- L6: the segments of a file have too many bytes in memory, or it is run, and a text about its jumps, which may be empty, is printed too
+-- L6: the segments of a file have too many bytes in memory
+pub record IsAboveMemory (f : ElfFile) (answer : Answer) : Type 0 where
+  pub over : memory_limit < memory_bytes f.segments
+  pub plain : PrintsOnly Limit (limit_line limit.MemoryBytes (memory_bytes f.segments)) answer
+
+-- they have, or it is run, and a text about its jumps, which may be empty, is printed too
 pub data FileRuns (f : ElfFile) (steps : ℕ) (changes : List Change) (jumps : List ℕ) (dump : Option (ℕ × ℕ)) (answer : Answer) : Type 0 where
-  too_large : memory_limit < memory_bytes f.segments → PrintsOnly Limit (limit_line limit.MemoryBytes (memory_bytes f.segments)) answer → FileRuns f steps changes jumps dump answer
+  too_large : IsAboveMemory f answer → FileRuns f steps changes jumps dump answer
   ran : memory_bytes f.segments ≤ memory_limit → PrintsOnly (outcome_status (run_of f steps changes).state.outcome) (run_text (run_of f steps changes) jumps dump) answer → FileRuns f steps changes jumps dump answer
 
 -- the file was read

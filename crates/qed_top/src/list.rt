@@ -4,15 +4,13 @@ ghost use Rattle.qed_model.specs.Machine.Loading.{load_segments};
 ghost use Rattle.qed_model.specs.Machine.Apart.{AllFitMemory, AreApart};
 ghost use Rattle.qed_top.specs.List.{FileLists, Lists};
 
-use crate::answer::{Answer, above_limit, plain};
+use crate::answer::{Answer, plain};
 use crate::refusal::unread;
-use crate::run::memory_size;
+use crate::run::above_memory;
 use crate::status::Status;
 use elf_read::read_elf;
 use elf_types::ElfFile;
 use listing::list_text;
-use qed_model::Limit;
-use qed_model::limits::MAX_MEMORY_BYTES;
 use std::alloc::{AllocError, Global};
 
 /// What `list` answers for a file that was read.
@@ -21,9 +19,7 @@ fn answer_file(alloc: Global, file: &ElfFile) -> Result<Answer, AllocError>
     requires apart { AreApart (load_segments file.now.segments) }
     ensures { IfOk result (FileLists file.now) }
 {
-    let size = memory_size(file.segments.as_slice());
-    if size > u128::from(MAX_MEMORY_BYTES) {
-        let answer = above_limit(alloc, Limit::MemoryBytes, size)?;
+    if let Some(answer) = above_memory(alloc, file)? {
         return Ok(answer);
     }
     let text = list_text(alloc, file)?;

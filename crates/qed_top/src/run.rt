@@ -1,11 +1,11 @@
 //! What `run` answers.
-ghost use Rattle.std.specs.Prelude.{◌≡◌, ◌*◌, ◌^◌, ◌≤◌, ℕ, ◌==◌, ◌&&◌, [], IfOk, OnOk, length};
+ghost use Rattle.std.specs.Prelude.{◌≡◌, ◌*◌, ◌^◌, ◌≤◌, ℕ, ◌==◌, ◌&&◌, [], IfOk, OnOk, MatchOption, length};
 ghost use Rattle.command_line.specs.Text.Run.{jumps_line};
 ghost use Rattle.fault_inject.specs.Astray.{holds};
 ghost use Rattle.flow_recovery.specs.Sets.{lists, Adds};
 ghost use Rattle.qed_model.specs.Machine.Loading.{load_segments};
 ghost use Rattle.qed_model.specs.Machine.Apart.{AllFitMemory, AreApart};
-ghost use Rattle.qed_top.specs.Run.{FileRuns, Runs, RunsAs, Watches, astray_of, is_reached_word, memory_bytes, outcome_status};
+ghost use Rattle.qed_top.specs.Run.{FileRuns, IsAboveMemory, Runs, RunsAs, Watches, astray_of, is_reached_word, memory_bytes, memory_limit, outcome_status};
 ghost use Rattle.qed_words.specs.Sound.{IsSoundRun};
 
 use crate::answer::{Answer, above_limit, plain};
@@ -37,6 +37,18 @@ pub fn memory_size(segments: &[Segment]) -> u128
     size
 }
 
+/// The answer where the segments of a file have more bytes of memory than can be run, and none where they do not.
+pub fn above_memory(alloc: Global, file: &ElfFile) -> Result<Option<Answer>, AllocError>
+    ensures { IfOk result (λ above. MatchOption above (memory_bytes file.now.segments ≤ memory_limit) (IsAboveMemory file.now)) }
+{
+    let size = memory_size(file.segments.as_slice());
+    if size <= u128::from(MAX_MEMORY_BYTES) {
+        return Ok(None);
+    }
+    let answer = above_limit(alloc, Limit::MemoryBytes, size)?;
+    Ok(Some(answer))
+}
+
 /// The status that goes with the end of a run.
 fn status_of(outcome: Outcome) -> Status
     ensures { result ≡ outcome_status outcome }
@@ -62,9 +74,7 @@ fn answer_file(
     requires sound { IsSoundRun steps changes.now dump }
     ensures { IfOk result (FileRuns file.now steps changes.now [] dump) }
 {
-    let size = memory_size(file.segments.as_slice());
-    if size > u128::from(MAX_MEMORY_BYTES) {
-        let answer = above_limit(alloc, Limit::MemoryBytes, size)?;
+    if let Some(answer) = above_memory(alloc, file)? {
         return Ok(answer);
     }
     let mut machine = Machine::start(alloc, file, &[0; 32])?;
@@ -142,9 +152,7 @@ fn answer_test(
     requires sound { IsSoundRun steps changes.now dump }
     ensures { IfOk result (FileRuns file.now steps changes.now (jumps_line (astray_of file.now test.now steps changes.now)) dump) }
 {
-    let size = memory_size(file.segments.as_slice());
-    if size > u128::from(MAX_MEMORY_BYTES) {
-        let answer = above_limit(alloc, Limit::MemoryBytes, size)?;
+    if let Some(answer) = above_memory(alloc, file)? {
         return Ok(answer);
     }
     let reached = reached_words(alloc, test, file)?;

@@ -16,8 +16,8 @@ pub(crate) struct Ticker<'a> {
 }
 
 impl<'a> Ticker<'a> {
-    /// From now on.
-    pub fn of(rt: &'a HostRuntime) -> Self {
+    /// From now on. Nothing is known of a clock and a terminal, so no contract says what it tells.
+    pub(crate) fn of(rt: &'a HostRuntime) -> Self {
         let start = if rt.stderr().is_terminal() {
             Instant::now(rt).ok()
         } else {

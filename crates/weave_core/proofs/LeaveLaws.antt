@@ -24,7 +24,7 @@ use Rattle.weave_core.specs.Pass.{Views, Leads, Quiet, Does, same}
 use Rattle.weave_core.proofs.Compose.{leads_led}
 use Rattle.weave_core.specs.WeaveLaws.{Holds, GoesTo, Onward, lands, is_lost}
 use Rattle.weave_core.specs.Leaving.{Enters, left_as, left, IsLeft, GoesFrom, Leaving, LeavesOn, Signs, swept_end, sweep_cost, Sweeps, SweptTo}
-use Rattle.weave_core.proofs.Rows.{halved_free}
+use Rattle.weave_core.proofs.Rows.{halved_free, halved_stopped}
 use Rattle.weave_core.proofs.Words.{const_walk, const_signed, free_16}
 use Rattle.weave_core.proofs.Leaves.{enter_row, Lands, lands_behind, go_row, go_most, go_most_le, links_row, jump_step, step-end, step-illegal, end_walk}
 use Rattle.weave_core.proofs.Branch.{branch_to, branch_step, second_part, turn_row, turn_go}
@@ -78,20 +78,6 @@ module _ (w : World) (rest : List Item) (v : Views) (entries : (a : ℕ) → v.l
     ends = inr (record { original = refl; shadow = refl; cursor = x.is.1; left = (x.is.0, omega (arith, x.at_least, one)) });
   }
 
-  halved_ended : (u s : State) → Twice w u s s → Twice w (stopped Ended u) s s
-  halved_ended u s t = record {
-    output = record { flags = t.output.flags; regs = t.output.regs; zero_reg = t.output.zero_reg };
-    input = t.input;
-    shadow = t.shadow;
-    originals = t.originals;
-    pairs = t.pairs;
-    distance = t.distance;
-    bytes = t.bytes;
-    mirror_bytes = t.mirror_bytes;
-    fixed = t.fixed;
-    spare = t.spare;
-  }
-
   -- a fall
   pub fall_law : (next : ℕ) → At w u (go_on next) s s → Sourced w s → Goes w v.leads next → s.pc ≡ next → Gone class.Compute
   fall_law next a so g e = on (
@@ -116,7 +102,7 @@ module _ (w : World) (rest : List Item) (v : Views) (entries : (a : ℕ) → v.l
   leave_law class.Compute next i c f a so g = fall_law next a so g.0 g.1
   leave_law class.End next i c f a so g =
       let e : step s ≡ stopped Ended s = step-end s i so.over.going (known_at w.source s i so.over g.0) c in
-      let h : Twice w (stopped Ended u) s s = halved_ended u s a.halved in
+      let h : Twice w (stopped Ended u) s s = halved_stopped w Ended u s s u.regs u.pc a.halved.output.regs (λ q l. refl) (λ q one l. refl) a.halved in
       record {
         steps = 1;
         to = record { now = stopped Ended u; original = step s; shadow = step s; leads = v.leads };
