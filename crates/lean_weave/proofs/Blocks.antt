@@ -1,25 +1,21 @@
 -- The blocks of a test with entries where a jump by register can lead: each begins behind the words of those before it. So an address and the kind of an end tell
 -- a block, and where one goes on at a leader, the next begins.
-use Rattle.std.proofs.Common.{◌≡◌, ℕ, ◌+◌, ◌-◌, ◌*◌, ◌/◌, ◌%◌, ◌^◌, ◌<◌, ◌≤◌, ◌⊎◌, inl, inr, ⊎_elim, Bool, true, false, cond, List, [], ◌∷◌, length, Some, refl, sym, ap, ◌∙◌, subst, arith}
-use Rattle.std.specs.Prelude.{All, ◌==◌, ◌&&◌}
+use Rattle.std.proofs.Common.{◌≡◌, ℕ, ◌+◌, ◌-◌, ◌*◌, ◌/◌, ◌%◌, ◌^◌, ◌<◌, ◌≤◌, ◌⊎◌, inl, inr, ⊎_elim, Bool, true, false, cond, List, [], ◌∷◌, length, refl, sym, ap, ◌∙◌, subst, arith}
+use Rattle.std.specs.Prelude.{◌==◌, ◌&&◌}
 use Rattle.std.proofs.lemmas.Bool.{and_parts, cases_lt, eq-eqb, eqb-true, false≢true, ne_eqb, or_cases, or_left, or_right}
 use Rattle.elf_types.specs.declared.file.ElfFile.{ElfFile}
 use Rattle.rv_isa.specs.declared.ins.Ins.{Ins}
-use Rattle.rv_isa.specs.Kind.{class_of}
 use Rattle.qed_model.specs.declared.options.Options.{Options}
 use Rattle.qed_model.specs.declared.options.Entries.TheVariants as entries
 use Rattle.qed_model.specs.Admission.Leaders.{IsLeader}
 use Rattle.qed_model.specs.Members.{Among}
-use Rattle.qed_model.specs.Promise.Closed.{is_branch}
 use Rattle.qed_model.specs.Weave.Blocks.{StopsAt, IsLeaderBlock, IsOtherBlock, begins_at, AreBlocks}
-use Rattle.qed_model.specs.Weave.Pieces.{whole}
 use Rattle.qed_model.specs.Weave.Sequences.{End, Falls, Stops, Block, body_length}
 use Rattle.qed_model.proofs.Among.{all_among}
 use Rattle.qed_model.proofs.PieceLaws.{pieces_whole}
 use Rattle.weave_core.specs.World.{World}
-use Rattle.weave_core.specs.Weave.{Weave}
 use Rattle.weave_core.specs.WeaveForms.{weave_of as form_weave}
-use Rattle.weave_core.specs.WeaveLaws.{BlockOf, PiecesAt, stops}
+use Rattle.weave_core.specs.WeaveLaws.{PiecesAt, stops}
 use Rattle.weave_core.specs.WeavePromise.{AllBlocksOf}
 use Rattle.weave_core.proofs.Marks.{Ascend}
 use Rattle.weave_core.proofs.TestKnown.{body_size}

@@ -6,7 +6,7 @@ use Rattle.qed_model.specs.declared.machine.Outcome.TheVariants.{Ended}
 use Rattle.qed_model.specs.Machine.Step.{State, reg, run}
 use Rattle.qed_model.specs.Promise.Kept.{NotTrapped, IsSteady}
 use Rattle.qed_model.specs.Weave.Code.{body_of, pieces_of}
-use Rattle.qed_model.specs.Weave.Sequences.{Reads, End, Falls, Stops, Block, body_length, before_end, is_auipc}
+use Rattle.qed_model.specs.Weave.Sequences.{Reads, End, Falls, Stops, body_length, before_end, is_auipc}
 use Rattle.qed_model.proofs.Walk.{run-more}
 use Rattle.qed_model.proofs.Walked.{Walk, walk_on}
 use Rattle.weave_core.specs.World.{World, Quiet, IsCursor}

@@ -1,8 +1,8 @@
 -- The items of the lean form of a test have words.
-use Rattle.std.proofs.Common.{◌≡◌, ℕ, zero, suc, ◌+◌, ◌-◌, ◌*◌, ◌%◌, ◌^◌, ◌<◌, ◌≤◌, ◌⊎◌, inl, inr, ⊎_elim, Bool, true, false, cond, List, [], ◌∷◌, ◌++◌, length, refl, sym, ap, ◌∙◌, subst, arith}
-use Rattle.std.specs.Prelude.{All, ◌==◌, ◌||◌, ℤ, pos, negsuc, neg_ℤ, nat_lt, nat_le}
+use Rattle.std.proofs.Common.{◌≡◌, ℕ, zero, suc, ◌+◌, ◌-◌, ◌*◌, ◌%◌, ◌^◌, ◌<◌, ◌≤◌, ◌⊎◌, inl, inr, ⊎_elim, Bool, true, false, cond, List, [], ◌∷◌, ◌++◌, refl, sym, ◌∙◌, arith}
+use Rattle.std.specs.Prelude.{◌==◌, ℤ, pos, negsuc, neg_ℤ, nat_lt, nat_le}
 use Rattle.std.specs.List.{list_all}
-use Rattle.std.proofs.lemmas.Bool.{and_from, and_parts, cases_lt, le-leb, lt-ltb, ltb-true, ltb-false, or_cases, or_left, or_right, leb-true}
+use Rattle.std.proofs.lemmas.Bool.{and_parts, cases_lt, le-leb, lt-ltb, ltb-true, ltb-false, or_cases, or_left, or_right, leb-true}
 use Rattle.rv_isa.specs.declared.ins.Ins.{Ins}
 use Rattle.rv_isa.specs.declared.class.Class.{Class}
 use Rattle.rv_isa.specs.declared.class.Class.TheVariants as class
@@ -12,12 +12,11 @@ use Rattle.rv_isa.specs.Operation.{pair}
 use Rattle.qed_model.specs.declared.item.Item.{Item}
 use Rattle.qed_model.specs.declared.item.Item.TheVariants.{Plain, Constant, Go}
 use Rattle.qed_model.specs.Machine.Step.{target}
-use Rattle.qed_model.specs.Machine.Table.{ins, signed, is_reg, fits_signed, encode_of, word_of}
+use Rattle.qed_model.specs.Machine.Table.{ins, fits_signed, encode_of, word_of}
 use Rattle.qed_model.specs.Machine.Values.{wrapped}
 use Rattle.qed_model.specs.Weave.Placed.{distance_between, upper_part, lower_part, sum_of_sizes}
 use Rattle.qed_model.specs.Weave.Sequences.{Form, End, Falls, Stops, fired_check, guard, guards_of, compare, visit, sweep, before_end, links, zero_from}
 use Rattle.qed_model.proofs.Nearby.{is_within, near_constant}
-use Rattle.qed_model.proofs.PlacedWords.{size-append}
 use Rattle.qed_model.proofs.Reach.{has_word, is_some-some_if, lui_word, addi_word}
 use Rattle.qed_model.proofs.MirrorWords.{pair_reg}
 use Rattle.qed_model.proofs.WovenWords.{add_word, branch_word, branch_imm, jump_imm, leap_imm}

@@ -1,5 +1,5 @@
 -- All of the lean form of a test has words, where it has no more bytes than a JAL spans.
-use Rattle.std.proofs.Common.{◌≡◌, ℕ, ◌+◌, ◌-◌, ◌*◌, ◌%◌, ◌^◌, ◌<◌, ◌≤◌, inl, inr, Bool, true, false, cond, List, [], ◌∷◌, ◌++◌, length, refl, sym, ap, ◌∙◌, subst, arith}
+use Rattle.std.proofs.Common.{◌≡◌, ℕ, ◌+◌, ◌-◌, ◌*◌, ◌%◌, ◌^◌, ◌<◌, ◌≤◌, inl, inr, Bool, true, false, List, [], ◌∷◌, ◌++◌, length, refl, sym, ap, ◌∙◌, subst, arith}
 use Rattle.std.specs.Prelude.{All, pos, unwrap_or}
 use Rattle.std.specs.List.{list_all}
 use Rattle.std.proofs.lemmas.List.{append_assoc}
@@ -14,9 +14,9 @@ use Rattle.qed_model.specs.Admission.DataRanges.{data_ranges}
 use Rattle.qed_model.specs.Machine.Table.{ins}
 use Rattle.qed_model.specs.Members.{Among}
 use Rattle.qed_model.specs.Weave.Blocks.{begins_at}
-use Rattle.qed_model.specs.Weave.Code.{Sequences, NoMarks, pieces_of, body_of, block_items, entries_of, code_of}
+use Rattle.qed_model.specs.Weave.Code.{Sequences, NoMarks, pieces_of, body_of, block_items, entries_of}
 use Rattle.qed_model.specs.Weave.OutputParts.{base_of}
-use Rattle.qed_model.specs.Weave.Placed.{distance_between, sum_of_sizes, rows_from, entry_at, entry_of, placed}
+use Rattle.qed_model.specs.Weave.Placed.{distance_between, sum_of_sizes, entry_of, placed}
 use Rattle.qed_model.specs.Weave.Places.{image_of, half_of, code_place}
 use Rattle.qed_model.specs.Weave.Sequences.{Form, Block, body_length, original, each_part, before_end, stub}
 use Rattle.qed_model.specs.Weave.Woven.{form_of, mirror_of}
@@ -31,7 +31,7 @@ use Rattle.weave_core.proofs.TestKnown as there
 use Rattle.weave_core.proofs.TestWords.{down, up, both_all, if_all, near, AllPieces, IsKnownBlock, InImage}
 use Rattle.weave_core.proofs.TestWords as words
 use Rattle.lean_weave.specs.Lean.{check, begin, leave}
-use Rattle.lean_weave.specs.Tests.{AreLeanBlocks, IsLeanTest, LeanTestsHaveWords, lean_of, lean_items, items_with, start_at, steps_at}
+use Rattle.lean_weave.specs.Tests.{AreLeanBlocks, IsLeanTest, LeanTestsHaveWords, lean_of, lean_items, items_with, start_at}
 use Rattle.lean_weave.specs.Woven.{Lean, worded, block_steps, fall_words}
 use Rattle.lean_weave.proofs.Blocks.{begins, starts, steps}
 use Rattle.lean_weave.proofs.Near.{check_near, begin_near, tick_near, leave_near, before_near}

@@ -1,6 +1,6 @@
 -- The lean form of an admitted test is a plan, and so are the promises over tests.
 use Rattle.std.proofs.Common.{◌≡◌, ℕ, ◌+◌, ◌*◌, ◌%◌, ◌^◌, ◌<◌, ◌≤◌, Bool, true, false, List, [], ◌∷◌, ◌++◌, length, Some, refl, sym, ap, ◌∙◌, subst, arith, append_assoc}
-use Rattle.std.specs.Prelude.{map, ◌==◌, ◌&&◌}
+use Rattle.std.specs.Prelude.{map}
 use Rattle.std.proofs.lemmas.Bool.{and_from, eq-eqb}
 use Rattle.elf_types.specs.declared.file.ElfFile.{ElfFile}
 use Rattle.rv_isa.specs.declared.ins.Ins.{Ins}
@@ -9,15 +9,11 @@ use Rattle.qed_model.specs.declared.options.Options.{Options}
 use Rattle.qed_model.specs.declared.plan.EntryRow.{EntryRow}
 use Rattle.qed_model.specs.Numbers.{bytes_of}
 use Rattle.qed_model.specs.Admission.CodeWords.{instruction_at}
-use Rattle.qed_model.specs.Admission.DataRanges.{data_ranges}
 use Rattle.qed_model.specs.Admission.Reached.{AreReached}
-use Rattle.qed_model.specs.Machine.Loading.{load_segments, loaded_file}
+use Rattle.qed_model.specs.Machine.Loading.{loaded_file}
 use Rattle.qed_model.specs.Machine.Program.{Program}
 use Rattle.qed_model.specs.Machine.Step.{Known}
 use Rattle.qed_model.specs.Members.{Among}
-use Rattle.qed_model.specs.Promise.Caught.{Caught}
-use Rattle.qed_model.specs.Promise.Clean.{Clean}
-use Rattle.qed_model.specs.Promise.Kept.{Kept}
 use Rattle.qed_model.specs.Weave.Blocks.{StopsAt, IsBodyAt, IsLeaderBlock, begins_at}
 use Rattle.qed_model.specs.Weave.Code.{Sequences, AreUnmarked, entries_of, code_of}
 use Rattle.qed_model.specs.Weave.OutputParts.{base_of}
@@ -29,7 +25,6 @@ use Rattle.qed_model.proofs.Among.{all_among}
 use Rattle.qed_model.proofs.Fetches.{known_instruction}
 use Rattle.qed_model.proofs.PlacedWords.{size-append}
 use Rattle.weave_core.specs.World.{World}
-use Rattle.weave_core.specs.Leaving.{sweep_cost}
 use Rattle.weave_core.specs.WeavePromise.{AllBlocksOf, OnlyCode}
 use Rattle.weave_core.proofs.BlockMarks.{marked, rows_inputs}
 use Rattle.weave_core.proofs.Entries.{reads_front}

@@ -1,15 +1,14 @@
 -- No sequence of the lean form has a mark, and its entries stand where they do whatever distances its ticks take.
-use Rattle.std.proofs.Common.{◌≡◌, ℕ, ◌+◌, ◌-◌, ◌*◌, ◌%◌, ◌^◌, Bool, true, false, cond, List, [], ◌∷◌, ◌++◌, length, refl, sym, ap, ◌∙◌}
+use Rattle.std.proofs.Common.{◌≡◌, ℕ, ◌+◌, ◌-◌, ◌*◌, ◌%◌, ◌^◌, Bool, false, List, [], ◌∷◌, ◌++◌, length, refl, sym, ap, ◌∙◌}
 use Rattle.std.specs.Prelude.{◌==◌, ℤ, pos, neg_ℤ, unwrap_or}
 use Rattle.std.proofs.lemmas.List.{append_assoc}
 use Rattle.rv_isa.specs.declared.ins.Ins.{Ins}
 use Rattle.rv_isa.specs.declared.class.Class.{Class}
 use Rattle.rv_isa.specs.declared.class.Class.TheVariants as class
-use Rattle.rv_isa.specs.declared.kind.Kind.TheVariants.{Lui, Addi, Andi, Add}
+use Rattle.rv_isa.specs.declared.kind.Kind.TheVariants.{Lui, Addi, Andi}
 use Rattle.rv_isa.specs.Kind.{class_of}
 use Rattle.qed_model.specs.declared.item.Item.{Item}
 use Rattle.qed_model.specs.declared.item.Item.TheVariants.{Mark, Plain, Constant, Go}
-use Rattle.qed_model.specs.declared.plan.EntryRow.{EntryRow}
 use Rattle.qed_model.specs.Machine.Step.{target}
 use Rattle.qed_model.specs.Machine.Table.{ins}
 use Rattle.qed_model.specs.Weave.Code.{Sequences, NoMarks, AreUnmarked, pieces_of, body_of, block_items, entries_of, code_of}
@@ -21,8 +20,8 @@ use Rattle.weave_core.proofs.FormMirrors.{unmarked_of}
 use Rattle.weave_core.proofs.Marks.{unmarked_cond, unmarked_guard, unmarked_guards, unmarked_original, unmarked_each, unmarked_visit, unmarked_sweep, unmarked_links, unmarked_zero}
 use Rattle.weave_core.proofs.Placing.{unmarked_append}
 use Rattle.weave_core.proofs.PlacingForm.{rows_behind}
-use Rattle.lean_weave.specs.Lean.{is_short, turn_by, turn, look_up, first_word, parted, called, begun, done, check, goes, check_sign, leave, leave_as, begin}
-use Rattle.lean_weave.specs.Woven.{Lean, sequences, worded, fall_words}
+use Rattle.lean_weave.specs.Lean.{is_short, turn_by, turn, look_up, first_word, done, check, goes, leave, leave_as, begin}
+use Rattle.lean_weave.specs.Woven.{Lean, worded, fall_words}
 
 unmarked_turn : (a t : ℕ) → NoMarks (turn a t)
 unmarked_turn a t = unmarked_cond (a == t) [] (turn_by (distance_between a t)) tt (by (distance_between a t)) where

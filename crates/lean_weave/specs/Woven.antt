@@ -1,5 +1,5 @@
 -- The lean form as a weave, and what is asked of the words and the table that it is woven in.
-use Rattle.std.specs.Prelude.{◌≡◌, ℕ, zero, suc, Option, None, ◌+◌, ◌-◌, ◌*◌, ◌%◌, ◌^◌, ◌<◌, ◌≤◌, ◌⊎◌, pos, Some, Bool, true, false, cond, ◌==◌, ◌&&◌, nat_le, List, [], ◌∷◌, ◌++◌, length}
+use Rattle.std.specs.Prelude.{◌≡◌, ℕ, zero, suc, Option, None, ◌+◌, ◌-◌, ◌*◌, ◌%◌, ◌^◌, ◌<◌, ◌≤◌, Some, Bool, true, false, cond, ◌==◌, ◌&&◌, nat_le, List, [], ◌∷◌, ◌++◌, length}
 use Rattle.rv_isa.specs.declared.ins.Ins.{Ins}
 use Rattle.qed_model.specs.declared.item.Item.{Item}
 use Rattle.qed_model.specs.declared.item.Item.TheVariants.{Mark, Go}
@@ -7,12 +7,11 @@ use Rattle.qed_model.specs.Admission.DataRanges.{word_count}
 use Rattle.qed_model.specs.Machine.Step.{Known}
 use Rattle.qed_model.specs.Weave.Bounds.{visit_bound, end_bound, cost_of}
 use Rattle.qed_model.specs.Weave.Pieces.{is_run, piece_count}
-use Rattle.qed_model.specs.Weave.Placed.{distance_between, sum_of_sizes, instructions_from}
-use Rattle.qed_model.specs.Weave.Sequences.{Form, Reads, End, Falls, Stops, Block, body_length, original, each_part, before_end, stub}
+use Rattle.qed_model.specs.Weave.Placed.{distance_between, sum_of_sizes}
+use Rattle.qed_model.specs.Weave.Sequences.{Form, Reads, End, Falls, Stops, Block, body_length, original, each_part, before_end}
 use Rattle.qed_model.specs.Machine.Program.{Program}
 use Rattle.qed_model.specs.Promise.Kept.{Kept}
 use Rattle.weave_core.specs.Describes.{Describes}
-use Rattle.weave_core.specs.WeaveLaws.{BlockOf}
 use Rattle.weave_core.specs.WeavePromise.{AllBlocksOf, OnlyCode}
 use Rattle.weave_core.specs.Each.{cost_each}
 use Rattle.weave_core.specs.Parts.{original_cost}
@@ -25,8 +24,6 @@ use Rattle.qed_model.specs.Promise.Caught.{Caught}
 use Rattle.qed_model.specs.Promise.Clean.{Clean}
 use Rattle.qed_model.specs.Promise.Closed.{is_branch}
 use Rattle.qed_model.specs.declared.bounds.Bounds.{Bounds}
-use Rattle.qed_model.specs.Machine.Table.{ins}
-use Rattle.rv_isa.specs.declared.kind.Kind.TheVariants.{Illegal}
 use Rattle.rv_isa.specs.Kind.{class_of}
 use Rattle.weave_core.specs.World.{World}
 use Rattle.weave_core.specs.Blocks.{TableAt}

@@ -17,10 +17,8 @@ use Rattle.qed_model.specs.Numbers.{number_bytes, words_of, bytes_of}
 use Rattle.qed_model.specs.Machine.Table.{decode_of}
 use Rattle.qed_model.specs.Machine.Values.{loaded}
 use Rattle.qed_model.specs.Machine.Step.{Fetched, HasAt, fetched_at}
-use Rattle.qed_model.specs.Promise.Kept.{Kept}
 use Rattle.qed_model.specs.Admission.Reached.{AreReached}
 use Rattle.qed_model.specs.Machine.Program.{LoadSegment, memory_of}
-use Rattle.qed_model.specs.Promise.Landed.{Landed}
 use Rattle.qed_model.specs.Machine.Loading.{load_segment, load_segments, loaded_file}
 use Rattle.qed_model.specs.Elf.FileRead.{file_read}
 use Rattle.qed_model.specs.Machine.Cells.{has, cell_at, cell_among}
@@ -33,9 +31,8 @@ use Rattle.qed_model.specs.Admission.Leaders.{Entry}
 use Rattle.qed_model.specs.Weave.Blocks.{IsLeaderBlock, IsOtherBlock, begins_at, AreBlocks}
 use Rattle.qed_model.specs.Weave.Placed.{Decode, sum_of_sizes, entry_at, rows_from, entry_of, placed}
 use Rattle.qed_model.specs.Weave.OutputFile.{original_half, first_input, last_input, distance_to, table_word, table_bytes, table_segment, has_table, file_of}
-use Rattle.qed_model.specs.Weave.Sequences.{Form, Reads, Block, prologue, stub}
-use Rattle.qed_model.specs.Weave.Code.{AreUnmarked, sequences, entries_of}
-use Rattle.qed_model.specs.Weave.Woven.{form_of, is_far_code, new_items, code_size, new_entries, IsNewCode, woven_file}
+use Rattle.qed_model.specs.Weave.Sequences.{Form, Reads, Block}
+use Rattle.qed_model.specs.Weave.Woven.{form_of}
 use Rattle.qed_model.proofs.Fields.{words_of-bytes_of, length-bytes_of, bytes_of_fit}
 use Rattle.qed_model.proofs.Among.{source_of}
 use Rattle.qed_model.proofs.CellsAmong.{has_from, has_not, get_among, skip_front, moved_by}
@@ -45,21 +42,16 @@ use Rattle.weave_core.specs.World.{World}
 use Rattle.weave_core.specs.Blocks.{TableAt}
 use Rattle.weave_core.specs.Describes.{Describes}
 use Rattle.weave_core.specs.Plan.{FilesFit}
-use Rattle.weave_core.specs.WeavePromise.{AllBlocksOf, PlanOf}
+use Rattle.weave_core.specs.WeavePromise.{AllBlocksOf}
 use Rattle.weave_core.specs.WeaveForms.{weave_of}
-use Rattle.weave_core.specs.Promise.{piece_of, start_of}
-use Rattle.weave_core.proofs.FormMirrors.{unmarked_of, mirrors_of}
 use Rattle.weave_core.proofs.Placing.{Distinct, FetchesAt, fetches_words, has_decoded, reads_placed}
 use Rattle.weave_core.proofs.Planned.{world, describes}
-use Rattle.weave_core.proofs.FormRows.{plan_kept}
 use Rattle.weave_core.proofs.HalvesFit.{halved, AreHalves}
 use Rattle.weave_core.proofs.ImageHalves.{IsImage, loads_place, are_halves}
 use Rattle.weave_core.proofs.FilesFit.{admitted_image, ArePlaced, behind_halves, length-table, behind, loaded_segments, loaded_ranges, files_fit}
-use Rattle.weave_core.proofs.FileBlocks.{IsKnownCode, blocks_good, entry_leads}
-use Rattle.qed_model.proofs.PlacedWords.{size-append}
-use Rattle.weave_core.proofs.PlacingForm.{length-instructions, mark_place, mark_behind, rows_behind}
+use Rattle.weave_core.proofs.FileBlocks.{IsKnownCode, blocks_good}
+use Rattle.weave_core.proofs.PlacingForm.{length-instructions, mark_place}
 use Rattle.weave_core.proofs.Marks.{Ascend}
-use Rattle.weave_core.proofs.BlockMarks.{marked, rows_inputs}
 use Rattle.weave_core.proofs.TestTable.{AreRows, first_leads, last_leads_of, row_between, table_word_bytes, table_number, loaded_small}
 
 -- ---- blocks in ascending order
