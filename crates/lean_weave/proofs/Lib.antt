@@ -22,4 +22,3 @@ pub mod Unmarked
 pub mod Blocks
 pub mod Tests
 pub mod Near
-pub mod TestWords

@@ -1,5 +1,5 @@
-use Rattle.lean_weave.proofs.TestWords as words
+use Rattle.lean_weave.proofs.Tests as tests
 use Rattle.lean_weave.proofs.lean_tests_have_words.Goals as goal
 
 pub returns : goal.returns
-returns c = words.tests_have_words
+returns c = tests.tests_have_words
