@@ -1,5 +1,5 @@
 -- Pages that are made from segments.
-use Rattle.std.specs.Prelude.{◌≡◌, ℕ, ◌+◌, ◌-◌, ◌<◌, ◌≤◌, nat_eq, true, cond, List, length, Some, All, Contains, slice_get, slice_index, min}
+use Rattle.std.specs.Prelude.{◌≡◌, ℕ, ◌+◌, ◌-◌, ◌^◌, ◌<◌, ◌≤◌, nat_eq, Bool, true, cond, List, length, Some, All, Contains, slice_get, slice_index, min}
 use Rattle.std.specs.List.{IsDistinct}
 use Rattle.qed_model.specs.Machine.Memory.{Cell}
 use Rattle.qed_model.specs.Machine.Program.{LoadSegment}
@@ -11,6 +11,18 @@ use Rattle.qed_model.specs.Machine.Cells.{has, cell_at, cell_among}
 pub record HoldsFrom (bs : List ℕ) (d : ℕ) (page : List ℕ) : Type 0 where
   pub count : length page ≡ 4096
   pub bytes : (i : ℕ) → i < 4096 → slice_index page i ≡ slice_index bs (d + i)
+
+-- from so many of the first addresses of a page on it has eight bytes, and where there are any, they have the permission
+pub record HasRoom (allowed : Bool) (size room : ℕ) : Type 0 where
+  pub granted : 0 < room → allowed ≡ true
+  pub within : 0 < room → room + 7 ≤ size
+
+-- a page of at most 4,096 bytes, which ends at 2^64 or before, with room for reads and for writes
+pub record IsRoomy (start size : ℕ) (readable : Bool) (reads : ℕ) (writable : Bool) (writes : ℕ) : Type 0 where
+  pub most : size ≤ 4096
+  pub ends : start + size ≤ 2 ^ 64
+  pub read : HasRoom readable size reads
+  pub write : HasRoom writable size writes
 
 -- the segment h holds the bytes of the segment s from number d on, up to its own end or that of s
 pub record IsPageOf (s : LoadSegment) (d : ℕ) (h : LoadSegment) : Type 0 where

@@ -1,8 +1,8 @@
 //! Pages in memory.
-ghost use Rattle.std.specs.Prelude.{◌≡◌, ◌+◌, ◌-◌, ◌<◌, ◌≤◌, ◌^◌, true, [], length, IfOk, IfErr};
+ghost use Rattle.std.specs.Prelude.{◌≡◌, ◌+◌, ◌-◌, ◌<◌, ◌≤◌, ◌^◌, false, true, [], length, IfOk, IfErr};
 ghost use Rattle.mem_image.specs.Access.{needs};
 ghost use Rattle.mem_image.specs.Overlap.{segment_of};
-ghost use Rattle.mem_image.specs.Pages.{HoldsFrom, IsPageOf};
+ghost use Rattle.mem_image.specs.Pages.{HasRoom, HoldsFrom, IsPageOf};
 ghost use Rattle.qed_model.specs.Machine.Cells.{has, cell_at};
 ghost use Rattle.mem_image.specs.Segments.{has_all, number_in, with_bytes_at, IsLike};
 
@@ -24,22 +24,27 @@ pub enum Access {
 #[derive(Drop)]
 pub struct Held {
     start: u64,
-    size: u64,
+    /// From how many addresses on, the first of them `start`, eight bytes may be read,
+    reads: u64,
+    /// and from how many they may be written, so that an access takes one comparison.
+    writes: u64,
+    page: Rc<Page>,
+    size: u32,
     readable: bool,
     writable: bool,
     executable: bool,
-    page: Rc<Page>,
 }
 
 impl Model for Held {
-    ghost use Rattle.std.specs.Prelude.{◌≤◌, take};
+    ghost use Rattle.std.specs.Prelude.{take};
     ghost use Rattle.qed_model.specs.Machine.Program.{LoadSegment};
+    ghost use Rattle.mem_image.specs.Pages.{IsRoomy};
 
     ghost Value = { LoadSegment };
 
     ghost view = { λ h. record { address = h.start; size = h.size; flags = record { read = h.readable; write = h.writable; execute = h.executable }; bytes = take h.size h.page.value.bytes } };
 
-    ghost invariant = { λ h. h.size ≤ 4096 };
+    ghost invariant = { λ h. IsRoomy h.start h.size h.readable h.reads h.writable h.writes };
 }
 
 impl Clone for Held {
@@ -69,6 +74,16 @@ fn page_from(
     Ok(page)
 }
 
+/// From how many of the first addresses of a page on eight bytes are here, where they have a permission.
+fn room(allowed: bool, size: u64) -> u64
+    ensures { HasRoom allowed size result }
+{
+    if !allowed {
+        return 0;
+    }
+    size.saturating_sub(7)
+}
+
 impl Held {
     /// The bytes of a segment from number `from` on, as many as a page has. Where there are none in the file, the page of
     /// zeros is shared.
@@ -84,13 +99,18 @@ impl Held {
         ensures { IfOk result (IsPageOf (segment_of spec.now) from) }
     {
         let page = page_from(alloc, zeros, spec.bytes.as_slice(), from)?;
+        let size = (spec.memory - from).min(4096);
+        let readable = spec.is_readable();
+        let writable = spec.is_writable();
         Ok(Held {
             start: spec.address + from,
-            size: (spec.memory - from).min(4096),
-            readable: spec.is_readable(),
-            writable: spec.is_writable(),
-            executable: spec.is_executable(),
+            reads: room(readable, size),
+            writes: room(writable, size),
             page,
+            size: size as u32,
+            readable,
+            writable,
+            executable: spec.is_executable(),
         })
     }
 
@@ -106,7 +126,7 @@ impl Held {
     pub fn size(&self) -> u64
         ensures { result ≡ self.now.size }
     {
-        self.size
+        u64::from(self.size)
     }
 
     /// Whether it has the address.
@@ -114,7 +134,7 @@ impl Held {
     pub fn has(&self, address: u64) -> bool
         ensures { result ≡ has self.now address }
     {
-        self.start <= address && address - self.start < self.size
+        self.start <= address && address - self.start < self.size()
     }
 
     /// Whether it has each of the `width` addresses from this one on.
@@ -122,7 +142,20 @@ impl Held {
     pub fn has_all(&self, address: u64, width: u64) -> bool
         ensures { result ≡ has_all self.now address width }
     {
-        self.has(address) && width <= self.size - (address - self.start)
+        self.has(address) && width <= self.size() - (address - self.start)
+    }
+
+    /// Whether it has eight bytes from an address on, and they may be read or written. It says no where they are to be executed.
+    #[inline(always)]
+    pub fn has_room(&self, access: Access, address: u64) -> bool
+        ensures all { result ≡ true → has_all self.now address 8 ≡ true }
+        ensures allowed { result ≡ true → needs access self.now.flags ≡ true }
+    {
+        match access {
+            Access::Read => address.wrapping_sub(self.start) < self.reads,
+            Access::Write => address.wrapping_sub(self.start) < self.writes,
+            Access::Execute => false,
+        }
     }
 
     /// Whether its bytes have the permission.
@@ -166,13 +199,29 @@ impl Held {
         ensures whole { IfOk result (λ _. length self.old.bytes ≡ self.old.size) }
         ensures shape { IsLike self.old self.new }
     {
-        let at = (address - self.start) as usize;
-        if let Some(page) = Rc::get_mut(&mut self.page) {
-            page.put(at, width, value);
+        if self.put_own(address, width, value) {
             return Ok(());
         }
         self.put_shared(address, width, value)?;
         Ok(())
+    }
+
+    /// The same, where the page has no other owner, and whether it has none. Else nothing changes.
+    #[inline(always)]
+    pub fn put_own(&mut self, address: u64, width: u64, value: u64) -> bool
+        requires has { has_all self.old address width ≡ true }
+        requires small { width ≤ 8 }
+        ensures put { result ≡ true → self.new ≡ with_bytes_at self.old address width value }
+        ensures kept { result ≡ false → self.new ≡ self.old }
+        ensures whole { result ≡ true → length self.old.bytes ≡ self.old.size }
+        ensures shape { IsLike self.old self.new }
+    {
+        let at = (address - self.start) as usize;
+        if let Some(page) = Rc::get_mut(&mut self.page) {
+            page.put(at, width, value);
+            return true;
+        }
+        false
     }
 
     /// The same, where the page may have other owners.
@@ -209,11 +258,13 @@ impl Held {
     {
         Ok(Held {
             start: self.start,
+            reads: self.reads,
+            writes: self.writes,
+            page: self.page.clone()?,
             size: self.size,
             readable: self.readable,
             writable: self.writable,
             executable: self.executable,
-            page: self.page.clone()?,
         })
     }
 }

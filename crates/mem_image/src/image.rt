@@ -16,14 +16,14 @@ use crate::held::{Access, Held};
 use crate::overlap::why_not;
 use crate::pages::Pages;
 use crate::paging::pages_of;
-use crate::places::{near_at, place, whole_at};
+use crate::places::{place, whole_at};
 use crate::spec::{ImageError, SegmentSpec};
-use crate::within::number_within;
+use crate::within::{number_near, number_within};
 use std::alloc::{AllocError, Global};
 use std::marker::Model;
 
-/// 2^64 divided by the golden ratio, by which neighbours, and pages at the same offset of several files, are spread.
-const SPREAD: u64 = 0x9e37_79b9_7f4a_7c15;
+/// 2^32 divided by the golden ratio, by which neighbours, and pages at the same offset of several files, are spread.
+const SPREAD: u32 = 0x9e37_79b9;
 
 /// The memory of a machine. Addresses are in bytes, and are taken modulo 2^64, byte by byte; numbers are little endian.
 ///
@@ -51,7 +51,8 @@ impl Model for Image {
 fn slot(address: u64) -> usize
     ensures { result < 64 }
 {
-    ((address >> 12).wrapping_mul(SPREAD) >> 58) as usize
+    let page = ((address >> 12) & 0xffff_ffff) as u32;
+    (page.wrapping_mul(SPREAD) >> 26) as usize
 }
 
 impl Image {
@@ -65,7 +66,7 @@ impl Image {
     {
         match pages_of(alloc, specs) {
             Ok(Some(pages)) => Ok(Image {
-                pages: Pages::of(alloc, pages)?,
+                pages: Pages::of(pages),
                 near: [0; 64],
             }),
             _ => Err(why_not(specs)),
@@ -92,16 +93,11 @@ impl Image {
         ensures written { IfOk result (λ done. self.new ≡ cond done (put self.old address width value) self.old) }
         ensures kept { IfErr result (λ _. self.new ≡ self.old) }
     {
-        let Some(at) = near_at(
-            self.pages.as_slice(),
-            self.near[slot(address)],
-            address,
-            width,
-        ) else {
-            let done = self.write_far(address, width, value)?;
-            return Ok(done);
-        };
-        let done = self.pages.write(at, address, width, value)?;
+        let near = self.near[slot(address)];
+        if self.pages.write_near(near, address, width, value) {
+            return Ok(true);
+        }
+        let done = self.write_far(address, width, value)?;
         Ok(done)
     }
 
@@ -244,15 +240,11 @@ impl Image {
         ensures small { IfSome result (λ n. n < 256 ^ width) }
         ensures same { self.new ≡ self.old }
     {
-        let Some(at) = near_at(
-            self.pages.as_slice(),
-            self.near[slot(address)],
-            address,
-            width,
-        ) else {
-            return self.number_far(access, address, width);
-        };
-        number_within(self.pages.as_slice(), at, access, address, width)
+        let near = self.near[slot(address)];
+        if let Some(number) = number_near(self.pages.as_slice(), near, access, address, width) {
+            return Some(number);
+        }
+        self.number_far(access, address, width)
     }
 
     /// The same, where the page has to be found.

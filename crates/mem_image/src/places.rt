@@ -57,7 +57,7 @@ pub fn place(pages: &[Held], near: usize, address: u64) -> Option<usize>
 
 /// Page number `near`, where it has all of the bytes of an access.
 #[inline(always)]
-pub fn near_at(pages: &[Held], near: usize, address: u64, width: u64) -> Option<usize>
+fn near_at(pages: &[Held], near: usize, address: u64, width: u64) -> Option<usize>
     requires { AreSound pages.now }
     ensures some { IfSome result (λ k. IsWholeAt pages.now address width k) }
     ensures below { IfSome result (λ k. k < length pages.now) }

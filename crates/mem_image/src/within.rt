@@ -1,5 +1,5 @@
 //! Bytes that are read or set within one page.
-ghost use Rattle.std.specs.Prelude.{◌≡◌, ◌<◌, ◌≤◌, ◌^◌, cond, length, IfOk, IfErr, IfSome};
+ghost use Rattle.std.specs.Prelude.{◌≡◌, ◌<◌, ◌≤◌, ◌^◌, cond, false, true, length, IfOk, IfErr, IfSome, Some};
 ghost use Rattle.qed_model.specs.Machine.Memory.{grants, put};
 ghost use Rattle.qed_model.specs.Machine.Program.{memory_of};
 ghost use Rattle.mem_image.specs.Access.{needs, allowed_number};
@@ -31,6 +31,50 @@ pub fn number_within(
         return None;
     }
     Some(page.number(address, width))
+}
+
+/// The same, where page number `near` has eight bytes from the address on, with the permission. None tells nothing.
+#[inline(always)]
+pub fn number_near(
+    pages: &[Held],
+    near: usize,
+    access: Access,
+    address: u64,
+    width: u64,
+) -> Option<u64>
+    requires sound { AreSound pages.now }
+    requires small { width ≤ 8 }
+    ensures number { IfSome result (λ n. Some n ≡ allowed_number (needs access) (memory_of pages.now) address width) }
+    ensures small { IfSome result (λ n. n < 256 ^ width) }
+{
+    if near >= pages.len() {
+        return None;
+    }
+    let page = &pages[near];
+    if !page.has_room(access, address) {
+        return None;
+    }
+    Some(page.number(address, width))
+}
+
+/// Sets the low bytes of a value at at most 8 addresses, where page number `near` has eight bytes from the first on, they may be
+/// written, and the page has no other owner. Else nothing changes, and the answer is false.
+#[inline(always)]
+pub fn put_near(pages: &mut [Held], near: usize, address: u64, width: u64, value: u64) -> bool
+    requires sound { AreSound pages.old }
+    requires small { width ≤ 8 }
+    ensures sound { AreSound pages.new }
+    ensures granted { result ≡ true → grants (λ f. f.write) (memory_of pages.old) address width ≡ true }
+    ensures written { result ≡ true → memory_of pages.new ≡ put (memory_of pages.old) address width value }
+    ensures kept { result ≡ false → pages.new ≡ pages.old }
+{
+    if near >= pages.len() {
+        return false;
+    }
+    if !pages[near].has_room(Access::Write, address) {
+        return false;
+    }
+    pages[near].put_own(address, width, value)
 }
 
 /// Sets the low bytes of a value at at most 8 addresses, which the page of this number has. Where it may not be written, nothing

@@ -47,8 +47,7 @@ impl Regs {
     pub fn set(&mut self, r: Reg, value: u64)
         ensures { self.new ≡ set_reg r value self.old }
     {
-        if r.number() != 0 {
-            self.values[r.number() as usize] = value;
-        }
+        self.values[r.number() as usize] = value;
+        self.values[0] = 0;
     }
 }

@@ -1,5 +1,5 @@
 -- Runs of a machine: one step more, and none where it does not go on.
-use Rattle.std.proofs.Common.{◌≡◌, ℕ, zero, suc, ◌+◌, ◌-◌, ◌^◌, ◌<◌, ◌≤◌, min, true, false, refl, sym, ap, ◌∙◌, arith, ⊎_elim, Result, Ok, Err, IfErr}
+use Rattle.std.proofs.Common.{◌≡◌, ℕ, zero, suc, ◌+◌, ◌-◌, ◌^◌, ◌<◌, ◌≤◌, min, true, false, refl, sym, ap, ◌∙◌, subst, arith, ⊎_elim, Result, Ok, Err, IfErr}
 use borrow.Author.Count.{below_more}
 use Rattle.std.proofs.lemmas.Bool.{cases_lt}
 use Rattle.qed_model.specs.declared.machine.Outcome.{Outcome}
@@ -157,3 +157,14 @@ none_of_one p q h =
 pub any_err : {T E : Type 0} (r : Result T E) (P : Type 0) → P → IfErr r (λ _. P)
 any_err (Ok x) P p = tt
 any_err (Err e) P p = p
+
+-- ---- steps by how many of n are left
+pub none_left : (p : Progress) (n : ℕ) → IsMade p (n - n) p
+none_left p n = let none : 0 ≡ n - n = omega arith in subst (λ m. IsMade p m p) none (made_none p)
+
+pub step_left : (p here next : Progress) (n left after : ℕ) → IsMade p (n - left) here → goes_on here.state.outcome ≡ true → next ≡ at_state (step here.state) here → left ≡ after + 1 → left ≤ n → IsMade p (n - after) next
+step_left p here next n left after h goes is one most = let more : n - left + 1 ≡ n - after = omega arith in subst (λ m. IsMade p m next) more (step_made p here next (n - left) h goes is)
+
+-- the first few, all, and of the others all but those that are left
+pub join_left : (p q r : Progress) (n few left rest : ℕ) → IsMade p (few - left) q → IsMade q (n - few - rest) r → left ≡ 0 → few ≤ n → rest ≤ n - few → IsMade p (n - rest) r
+join_left p q r n few left rest h k none most within = let all : few - left + (n - few - rest) ≡ n - rest = omega arith in subst (λ m. IsMade p m r) all (made_join p q r (few - left) (n - few - rest) h k)

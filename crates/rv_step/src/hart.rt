@@ -1,5 +1,5 @@
 //! A hart, whose memory is another's.
-ghost use Rattle.std.specs.Prelude.{◌≡◌, ◌%◌, ◌<◌, ◌≤◌, true, false, IfOk, IfErr, slice_index};
+ghost use Rattle.std.specs.Prelude.{◌≡◌, ◌-◌, ◌%◌, ◌<◌, ◌≤◌, true, false, IfOk, IfErr, slice_index};
 ghost use Rattle.qed_model.specs.Machine.Memory.{Memory};
 ghost use Rattle.qed_model.specs.Machine.Loading.{loaded_file};
 ghost use Rattle.qed_model.specs.Machine.Program.{start};
@@ -113,50 +113,52 @@ impl Hart {
         ensures part { IfErr result.1 (λ _. result.0 < n) }
     {
         if n <= FEW {
-            return self.run_few(image, n);
+            let (rest, done) = self.run_few(image, n);
+            return (n - rest, done);
         }
-        let (made, done) = self.run_few(image, FEW);
-        if done.is_err() || made < FEW {
-            return (made, done);
+        let (left, done) = self.run_few(image, FEW);
+        if done.is_err() || left > 0 {
+            return (FEW - left, done);
         }
-        let (more, done) = self.run_long(image, n - made);
-        (made + more, done)
+        let (rest, done) = self.run_long(image, n - FEW);
+        (n - rest, done)
     }
 
-    /// The same, each word sought in a window. All steps are made here, so that LLVM makes one loop of them.
+    /// The same, but the answer has how many steps are left, so that the loop has one counter. Each word is sought in a window. All steps
+    /// are made here, so that LLVM makes one loop of them.
     #[inline(never)]
     fn run_few(&mut self, image: &mut Image, n: u64) -> (u64, Result<(), AllocError>)
-        ensures made { IsMade (with_memory self.old image.old) result.0 (with_memory self.new image.new) }
+        ensures made { IsMade (with_memory self.old image.old) (n - result.0) (with_memory self.new image.new) }
         ensures within { result.0 ≤ n }
-        ensures stopped { IfOk result.1 (λ _. result.0 < n → goes_on self.new.outcome ≡ false) }
-        ensures part { IfErr result.1 (λ _. result.0 < n) }
+        ensures stopped { IfOk result.1 (λ _. 0 < result.0 → goes_on self.new.outcome ≡ false) }
+        ensures part { IfErr result.1 (λ _. 0 < result.0) }
     {
         if !self.goes_on() {
-            return (0, Ok(()));
+            return (n, Ok(()));
         }
         let mut window = Window::none();
-        for made in 0..n {
+        for left in (0..n).rev() {
             let on = match self.step_in(image, &mut window, n > 1) {
                 Ok(on) => on,
-                Err(error) => return (made, Err(error)),
+                Err(error) => return (left + 1, Err(error)),
             };
             if on {
                 continue;
             }
             if !self.goes_on() {
-                return (made + 1, Ok(()));
+                return (left, Ok(()));
             }
         }
-        (n, Ok(()))
+        (0, Ok(()))
     }
 
     /// The same, with a table of instructions, where there is memory for one.
     #[inline(never)]
     fn run_long(&mut self, image: &mut Image, n: u64) -> (u64, Result<(), AllocError>)
-        ensures made { IsMade (with_memory self.old image.old) result.0 (with_memory self.new image.new) }
+        ensures made { IsMade (with_memory self.old image.old) (n - result.0) (with_memory self.new image.new) }
         ensures within { result.0 ≤ n }
-        ensures stopped { IfOk result.1 (λ _. result.0 < n → goes_on self.new.outcome ≡ false) }
-        ensures part { IfErr result.1 (λ _. result.0 < n) }
+        ensures stopped { IfOk result.1 (λ _. 0 < result.0 → goes_on self.new.outcome ≡ false) }
+        ensures part { IfErr result.1 (λ _. 0 < result.0) }
     {
         if self.pc % 4 != 0 {
             return self.run_few(image, n);
@@ -177,28 +179,28 @@ impl Hart {
     ) -> (u64, Result<(), AllocError>)
         requires grain { self.old.pc % 4 ≡ 0 }
         requires table { IsTable (with_memory self.old image.old).state table.old }
-        ensures made { IsMade (with_memory self.old image.old) result.0 (with_memory self.new image.new) }
+        ensures made { IsMade (with_memory self.old image.old) (n - result.0) (with_memory self.new image.new) }
         ensures within { result.0 ≤ n }
-        ensures stopped { IfOk result.1 (λ _. result.0 < n → goes_on self.new.outcome ≡ false) }
-        ensures part { IfErr result.1 (λ _. result.0 < n) }
+        ensures stopped { IfOk result.1 (λ _. 0 < result.0 → goes_on self.new.outcome ≡ false) }
+        ensures part { IfErr result.1 (λ _. 0 < result.0) }
     {
         if !self.goes_on() {
-            return (0, Ok(()));
+            return (n, Ok(()));
         }
         let mut window = Window::none();
-        for made in 0..n {
+        for left in (0..n).rev() {
             let on = match self.step_known(image, &mut window, table) {
                 Ok(on) => on,
-                Err(error) => return (made, Err(error)),
+                Err(error) => return (left + 1, Err(error)),
             };
             if on {
                 continue;
             }
             if !self.goes_on() {
-                return (made + 1, Ok(()));
+                return (left, Ok(()));
             }
         }
-        (n, Ok(()))
+        (0, Ok(()))
     }
 
     /// The step of a hart that goes on, with the instruction that the table has at the pc, and whether the hart surely goes on. It is not
@@ -220,10 +222,35 @@ impl Hart {
         ensures memory { IfErr result (λ _. image.new ≡ image.old) }
     {
         let Some(ins) = table.at(self.pc()) else {
-            let on = self.step_new(image, window, table)?;
+            let on = self.step_second(image, window, table)?;
             return Ok(on);
         };
         let on = self.execute::<2>(ins, image)?;
+        Ok(on)
+    }
+
+    /// The same, where the instruction may be at its second place.
+    #[tactic(auto, unfolding(qed_model::specs::Machine::Step::step))]
+    #[inline(never)]
+    fn step_second(
+        &mut self,
+        image: &mut Image,
+        window: &mut Window,
+        table: &mut Table,
+    ) -> Result<bool, AllocError>
+        requires goes { goes_on self.old.outcome ≡ true }
+        requires known { IsKnown (with_memory self.old image.old).state window.old table.old }
+        ensures step { IfOk result (λ _. LeadsIn step self.old image.old self.new image.new) }
+        ensures known { IfOk result (λ _. IsKnown (with_memory self.new image.new).state window.new table.new) }
+        ensures on { IfOk result (λ on. on ≡ true → goes_on self.new.outcome ≡ true) }
+        ensures kept { IfErr result (λ _. self.new ≡ self.old) }
+        ensures memory { IfErr result (λ _. image.new ≡ image.old) }
+    {
+        let Some(ins) = table.at_second(self.pc()) else {
+            let on = self.step_new(image, window, table)?;
+            return Ok(on);
+        };
+        let on = self.execute::<4>(ins, image)?;
         Ok(on)
     }
 

@@ -49,7 +49,7 @@ impl Entry {
     }
 }
 
-/// Instructions that stand where no store changes them, each at a place that some bits of its address tell.
+/// Instructions that stand where no store changes them, each at one of two places that its address tells.
 #[derive(Drop)]
 pub struct Table {
     all: Vec<Entry>,
@@ -66,12 +66,21 @@ impl Model for Table {
     ghost invariant = { λ t. length t.all.items ≡ 8192 };
 }
 
-/// The place of an address.
+/// The first place of an address, next to those of the words around it.
 #[inline(always)]
 fn slot(address: u64) -> usize
     ensures { result < 8192 }
 {
     ((address >> 2) % KEPT as u64) as usize
+}
+
+/// The second place of an address, which all of its low bits tell, for words whose pages or ranges have their first places in common.
+#[inline(always)]
+fn second_slot(address: u64) -> usize
+    ensures { result < 8192 }
+{
+    let word = address >> 2;
+    ((word ^ (word >> 13) ^ (word >> 26)) % KEPT as u64) as usize
 }
 
 impl Table {
@@ -88,7 +97,7 @@ impl Table {
         Ok(Table { all })
     }
 
-    /// The instruction at an address, a multiple of 4, where it is kept.
+    /// The instruction at an address, a multiple of 4, where it is kept at its first place.
     #[inline(always)]
     pub fn at(&self, address: u64) -> Option<&Ins>
         requires { address % 4 ≡ 0 }
@@ -101,16 +110,39 @@ impl Table {
         Some(&entry.ins)
     }
 
-    /// Keeps the instruction at an address, in the place of another, unless that is to stay.
+    /// The same, where it is kept at its second place.
+    #[inline(always)]
+    pub fn at_second(&self, address: u64) -> Option<&Ins>
+        requires { address % 4 ≡ 0 }
+        ensures { IfSome result (λ ins. (s : State) → IsTable s self.now → address ≡ s.pc → next s ≡ Known ins.now) }
+    {
+        let entry = &self.all[second_slot(address)];
+        if entry.address != address {
+            return None;
+        }
+        Some(&entry.ins)
+    }
+
+    /// Keeps the instruction at an address, in the place of another, unless both of those are to stay.
     pub fn put(&mut self, address: u64, ins: &Ins)
         ensures { (s : State) → IsTable s self.old → IsHeld s address ins.now → IsTable s self.new }
     {
-        let at = slot(address);
+        if !self.put_at(slot(address), address, ins) {
+            self.put_at(second_slot(address), address, ins);
+        }
+    }
+
+    /// Keeps the instruction at an address in this place, unless what is there is to stay, and whether it did.
+    fn put_at(&mut self, at: usize, address: u64, ins: &Ins) -> bool
+        requires { at < 8192 }
+        ensures { (s : State) → IsTable s self.old → IsHeld s address ins.now → IsTable s self.new }
+    {
         let old = self.all[at];
         if old.lives > 0 {
             self.all[at] = old.older();
-            return;
+            return false;
         }
         self.all[at] = Entry::new(address, ins);
+        true
     }
 }

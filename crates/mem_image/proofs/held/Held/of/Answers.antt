@@ -6,12 +6,12 @@ use Rattle.mem_image.proofs.held.Held.of.Goals as goal
 pub returns : goal.returns
 returns c =
     let page = c.in_ok-page.ensures in
-    let size = c.min.ensures in
+    let size = c.min-size.ensures in
     let count = page.count in
     record {
       address = refl;
       size = size;
-      flags = rw (c.is_readable.ensures, c.is_writable.ensures, c.is_executable.ensures) refl;
-      whole = length_first c.min.result c.in_ok-page.page.value.bytes (omega (arith, size, count));
-      bytes = λ i h. index-take c.min.result c.in_ok-page.page.value.bytes i h ∙ page.bytes i (omega (arith, size, h)) ∙ ap (λ bs. slice_index bs (c.args.from + i)) c.as_slice.ensures;
+      flags = rw (c.is_readable-readable.ensures, c.is_writable-writable.ensures, c.is_executable.ensures) refl;
+      whole = length_first c.min-size.result c.in_ok-page.page.value.bytes (omega (arith, size, count));
+      bytes = λ i h. index-take c.min-size.result c.in_ok-page.page.value.bytes i h ∙ page.bytes i (omega (arith, size, h)) ∙ ap (λ bs. slice_index bs (c.args.from + i)) c.as_slice.ensures;
     }

@@ -8,7 +8,7 @@ use Rattle.mem_image.proofs.held.Held.put_shared.Goals as goal
 pub returns-clause-whole : goal.returns-clause-whole
 returns-clause-whole c =
     let x = c.self.inside in
-    let most = c.self.invariant in
+    let most = c.self.invariant.most in
     let same : c.in_ok-own.own.now ≡ x.page.value = ⊎_elim (λ e. e) (λ e. e) c.in_ok-own.ensures.value in
     let count : length x.page.value.bytes ≡ 4096 = ap (λ p. length p.bytes) (sym same) ∙ c.put.ensures.count in
     ap (λ s. length s.bytes) (sym c.self.view_is) ∙ length_first x.size x.page.value.bytes (omega (arith, most, count)) ∙ ap (λ s. s.size) c.self.view_is

@@ -7,8 +7,8 @@ use Rattle.mem_image.specs.Overlap.{segments_of, AreSound}
 use Rattle.mem_image.proofs.SegmentLaws.{get-memory_of}
 use Rattle.mem_image.proofs.image.Image.make.Goals as goal
 
-pub returns-in_ok-of-in-Ok-Some-clause-made : goal.returns-in_ok-of-in-Ok-Some-clause-made
-returns-in_ok-of-in-Ok-Some-clause-made c =
+pub returns-in-Ok-Some-clause-made : goal.returns-in-Ok-Some-clause-made
+returns-in-Ok-Some-clause-made c =
     let sound : AreSound c.in-Ok-Some.pages.items = subst (λ o. IfSome o (λ pages. AreSound pages.items)) c.in-Ok-Some.field-0-is c.in-Ok-Some.ensures.sound in
     let same : (q : ℕ) → cell_among c.in-Ok-Some.pages.items q ≡ cell_among (segments_of c.args.specs.now) q = subst (λ o. IfSome o (λ pages. (q : ℕ) → cell_among pages.items q ≡ cell_among (segments_of c.args.specs.now) q)) c.in-Ok-Some.field-0-is c.in-Ok-Some.ensures.same in
-    ap memory_of c.in_ok-of-in-Ok-Some.ensures ∙ same_memory _ _ (λ q. get-memory_of c.in-Ok-Some.pages.items q sound.fit ∙ same q ∙ sym (get-memory_of (segments_of c.args.specs.now) q c.requires))
+    ap memory_of c.of.ensures ∙ same_memory _ _ (λ q. get-memory_of c.in-Ok-Some.pages.items q sound.fit ∙ same q ∙ sym (get-memory_of (segments_of c.args.specs.now) q c.requires))

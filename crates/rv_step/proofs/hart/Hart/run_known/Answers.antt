@@ -1,29 +1,29 @@
-use Rattle.std.proofs.Common.{sym, ◌∙◌}
+use Rattle.std.proofs.Common.{sym, ◌∙◌, arith}
 use Rattle.rv_step.specs.Harts.{with_memory}
-use Rattle.rv_step.proofs.Running.{made_none, step_made}
+use Rattle.rv_step.proofs.Running.{none_left, step_left}
 use Rattle.rv_step.proofs.hart.Hart.run_known.Goals as goal
 
-pub loop-made-init : goal.loop-made-init
-loop-made-init c =
+pub loop-left-init : goal.loop-left-init
+loop-left-init c =
     let p = with_memory c.args.self.now c.args.image.now in
-    record { goes = sym c.goes_on.ensures ∙ c.if-not-goes_on.false; steps = made_none p; known = record { window = c.none-window.ensures p.state; table = c.requires.table; grain = c.requires.grain } }
+    record { goes = sym c.goes_on.ensures ∙ c.if-not-goes_on.false; steps = none_left p c.args.n; known = record { window = c.none-window.ensures p.state; table = c.requires.table; grain = c.requires.grain } }
 
-pub loop-made-preserved-then-on : goal.loop-made-preserved-then-on
-loop-made-preserved-then-on c = record {
+pub loop-left-preserved-then-on : goal.loop-left-preserved-then-on
+loop-left-preserved-then-on c = record {
   goes = c.in-Ok.ensures.on c.if-on.true;
-  steps = step_made (with_memory c.args.self.now c.args.image.now) (with_memory c.loop-made.self c.loop-made.image) (with_memory c.step_known.new.self c.step_known.new.image) c.loop-made.made c.loop-made.invariant.steps c.loop-made.invariant.goes c.in-Ok.ensures.step;
+  steps = step_left (with_memory c.args.self.now c.args.image.now) (with_memory c.loop-left.self c.loop-left.image) (with_memory c.step_known.new.self c.step_known.new.image) c.args.n c.loop-left.left _ c.loop-left.invariant.steps c.loop-left.invariant.goes c.in-Ok.ensures.step (omega arith) (omega arith);
   known = c.in-Ok.ensures.known;
 }
 
-pub loop-made-preserved : goal.loop-made-preserved
-loop-made-preserved c = record {
-  goes = sym c.goes_on-in-loop-made.ensures ∙ c.if-not-goes_on-2.false;
-  steps = step_made (with_memory c.args.self.now c.args.image.now) (with_memory c.loop-made.self c.loop-made.image) (with_memory c.step_known.new.self c.step_known.new.image) c.loop-made.made c.loop-made.invariant.steps c.loop-made.invariant.goes c.in-Ok.ensures.step;
+pub loop-left-preserved : goal.loop-left-preserved
+loop-left-preserved c = record {
+  goes = sym c.goes_on-in-loop-left.ensures ∙ c.if-not-goes_on-2.false;
+  steps = step_left (with_memory c.args.self.now c.args.image.now) (with_memory c.loop-left.self c.loop-left.image) (with_memory c.step_known.new.self c.step_known.new.image) c.args.n c.loop-left.left _ c.loop-left.invariant.steps c.loop-left.invariant.goes c.in-Ok.ensures.step (omega arith) (omega arith);
   known = c.in-Ok.ensures.known;
 }
 
 pub returns-then-not-goes_on-clause-made : goal.returns-then-not-goes_on-clause-made
-returns-then-not-goes_on-clause-made c = made_none (with_memory c.args.self.now c.args.image.now)
+returns-then-not-goes_on-clause-made c = none_left (with_memory c.args.self.now c.args.image.now) c.args.n
 
 pub returns-then-not-goes_on-2-clause-made : goal.returns-then-not-goes_on-2-clause-made
-returns-then-not-goes_on-2-clause-made c = step_made (with_memory c.args.self.now c.args.image.now) (with_memory c.loop-made.self c.loop-made.image) (with_memory c.step_known.new.self c.step_known.new.image) c.loop-made.made c.loop-made.invariant.steps c.loop-made.invariant.goes c.in-Ok.ensures.step
+returns-then-not-goes_on-2-clause-made c = step_left (with_memory c.args.self.now c.args.image.now) (with_memory c.loop-left.self c.loop-left.image) (with_memory c.step_known.new.self c.step_known.new.image) c.args.n c.loop-left.left _ c.loop-left.invariant.steps c.loop-left.invariant.goes c.in-Ok.ensures.step (omega arith) (omega arith)
