@@ -30,16 +30,17 @@ impl<'a> Model for Strings<'a> {
     ghost invariant = { λ s. record { last : IsLastZero s.bytes.now s.end; next : AreNextZeros s.bytes.now s.zeros.items } };
 }
 
+// One past the last zero byte, which mostly is the last byte, or 0 where there is none.
 fn zeros_end(bytes: &[u8]) -> u64
     ensures { IsLastZero bytes.now result }
 {
-    let mut end = 0;
-    for (i, b) in bytes.iter().enumerate() {
-        if *b == 0 {
-            end = i as u64 + 1;
+    for behind in 0..bytes.len() {
+        let end = bytes.len() - behind;
+        if bytes[end - 1] == 0 {
+            return end as u64;
         }
     }
-    end
+    0
 }
 
 // The place of the first zero byte at or behind a place, up to an end.

@@ -56,7 +56,7 @@ impl Clone for Held {
     }
 }
 
-/// The page of the bytes from number `from` on. Where there are none, the page of zeros is shared.
+/// The page of the bytes from number `from` on. Where they are zeros, or none, the page of zeros is shared.
 fn page_from(
     alloc: Global,
     zeros: &Rc<Page>,
@@ -67,8 +67,11 @@ fn page_from(
     ensures { IfOk result (λ page. HoldsFrom bytes.now from page.value.bytes) }
 {
     if from < bytes.len() as u64 {
-        let page = Rc::new(alloc, Page::of(&bytes[from as usize..]))?;
-        return Ok(page);
+        let page = Page::of(&bytes[from as usize..]);
+        if !page.is_same(zeros) {
+            let page = Rc::new(alloc, page)?;
+            return Ok(page);
+        }
     }
     let page = zeros.clone()?;
     Ok(page)
@@ -85,8 +88,8 @@ fn room(allowed: bool, size: u64) -> u64
 }
 
 impl Held {
-    /// The bytes of a segment from number `from` on, as many as a page has. Where there are none in the file, the page of
-    /// zeros is shared.
+    /// The bytes of a segment from number `from` on, as many as a page has. Where they are zeros, or none in the file, the
+    /// page of zeros is shared.
     pub fn of(
         alloc: Global,
         zeros: &Rc<Page>,

@@ -50,7 +50,23 @@ not_found (r ∷ rows) a h = by (r.input == a) refl (not_found rows a (λ k d l.
   by true e rest = absurd (h 0 r (omega arith) (eqb-true r.input a e))
   by false e rest = rest
 
+row_same : (xs : List EntryRow) (k : ℕ) (x y : EntryRow) → k < length xs → get_or xs k x ≡ get_or xs k y
+row_same [] k x y h = absurd (omega (arith, h))
+row_same (z ∷ xs) zero x y h = refl
+row_same (z ∷ xs) (suc k) x y h = row_same xs k x y (omega (arith, h))
+
 module _ (rows : List EntryRow) (ascend : AllPairs (λ r t. r.input < t.input) rows) where
+  -- a row with the address is its entry
+  pub entry_near : (a i : ℕ) (d : EntryRow) → i < length rows → (get_or rows i d).input ≡ a → Some (get_or rows i d).output ≡ entry_at rows a
+  entry_near a i d l here =
+      sym
+      (found_at rows a i d l
+      (λ k e lt.
+      let p = ascend k i e lt l in
+      let same : (get_or rows i e).input ≡ (get_or rows i d).input = ap (λ r. r.input) (row_same rows i e d l) in
+      omega (arith, p, same, here))
+      here)
+
   pub rows_ascend : IsNonDecreasingBy (λ r. r.input) rows
   rows_ascend i j d le lt =
       ⊎_elim
@@ -72,16 +88,11 @@ module _ (rows : List EntryRow) (ascend : AllPairs (λ r t. r.input < t.input) r
 
     pub entry_other : (d : EntryRow) → place < length rows → ((get_or rows place d).input ≡ a → ⊥) → None ≡ entry_at rows a
     entry_other d lt ne = sym (not_found rows a (λ k x l e. ⊎_elim (λ y. let b = before k x y in absurd (omega (arith, b, e))) (λ y. ⊎_elim (later k x l e) (λ z. let p : place ≡ k = omega (arith, y, z) in here k x e l p) (cases_lt place k)) (cases_lt k place))) where
-      same : (xs : List EntryRow) (k : ℕ) (x y : EntryRow) → k < length xs → get_or xs k x ≡ get_or xs k y
-      same [] k x y h = absurd (omega (arith, h))
-      same (z ∷ xs) zero x y h = refl
-      same (z ∷ xs) (suc k) x y h = same xs k x y (omega (arith, h))
-
       later : (k : ℕ) (x : EntryRow) → k < length rows → (get_or rows k x).input ≡ a → place < k → ⊥
       later k x l e y = let p = ascend place k x y l in let q = ltb-false (get_or rows place x).input a (point.1 place x (omega arith) lt) in absurd (omega (arith, p, q, e))
 
       here : (k : ℕ) (x : EntryRow) → (get_or rows k x).input ≡ a → k < length rows → place ≡ k → ⊥
-      here k x e l p = ne (ap (λ r. r.input) (same rows place d x lt) ∙ ap (λ n. (get_or rows n x).input) p ∙ e)
+      here k x e l p = ne (ap (λ r. r.input) (row_same rows place d x lt) ∙ ap (λ n. (get_or rows n x).input) p ∙ e)
 
 -- ---- ranges
 in_at : (rs : List Range) (q k : ℕ) (d : Range) → k < length rs → is_in (range_of (get_or rs k d)) q ≡ true → is_in_any (map range_of rs) q ≡ true

@@ -45,12 +45,19 @@ fn is_in_group(local: bool, symbol: &Symbol) -> bool
     is_kept(symbol) && symbol.is_local() == local
 }
 
-/// The new address of an input address that has an entry.
-fn entry_at(entries: &[EntryRow], address: u64) -> Option<u64>
+/// The new address of an input address that has an entry. The row behind the one that was found last is looked at first,
+/// since symbols often stand in the order of their addresses. Nothing rests on it.
+fn entry_at(entries: &[EntryRow], next: &mut usize, address: u64) -> Option<u64>
     ensures { EntriesAscend entries.now → result ≡ entry_at_of entries.now address }
 {
+    let near = *next;
+    if near < entries.len() && entries[near].input == address {
+        *next = near + 1;
+        return Some(entries[near].output);
+    }
     let place = entries.partition_point(|row| row.input < address);
     if place < entries.len() && entries[place].input == address {
+        *next = place + 1;
         return Some(entries[place].output);
     }
     None
@@ -72,11 +79,11 @@ fn valued(symbol: &Symbol, value: u64, size: u64) -> Result<Symbol, AllocError>
 }
 
 /// The symbol at its new address, where it has one.
-fn out_symbol(entries: &[EntryRow], symbol: &Symbol) -> Result<Symbol, AllocError>
+fn out_symbol(entries: &[EntryRow], next: &mut usize, symbol: &Symbol) -> Result<Symbol, AllocError>
     ensures { IfOk result (λ s. EntriesAscend entries.now → s ≡ out_symbol_of entries.now symbol.now) }
 {
     let entry = if symbol.may_name_code() {
-        entry_at(entries, symbol.value)
+        entry_at(entries, next, symbol.value)
     } else {
         None
     };
@@ -95,9 +102,10 @@ fn push_group(
 ) -> Result<(), AllocError>
     ensures { OnOk result (EntriesAscend entries.now → out.new.items ≡ out.old.items ++ symbol_group local entries.now symbols.now) }
 {
+    let mut next = 0;
     for symbol in symbols {
         if is_in_group(local, symbol) {
-            out.push(out_symbol(entries, symbol)?)?;
+            out.push(out_symbol(entries, &mut next, symbol)?)?;
         }
     }
     Ok(())

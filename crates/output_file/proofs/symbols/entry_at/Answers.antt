@@ -1,9 +1,12 @@
 use Rattle.std.proofs.Common.{rules}
 use Rattle.std.specs.Prelude.{nat_lt}
 use Rattle.std.proofs.lemmas.List.Sorted.{IsPartitionPoint-from_clause, IsPartitionedBy-ltb}
-use Rattle.output_file.proofs.Finding.{rows_ascend, entry_here, entry_past, entry_other}
+use Rattle.output_file.proofs.Finding.{rows_ascend, entry_near, entry_here, entry_past, entry_other}
 use Rattle.output_file.proofs.symbols.entry_at.Goals as goal
 use Rattle.output_file.proofs.symbols.entry_at.Goals.{else-place-entries-via-then-place-entries+else-entries-place, else-place-entries-via-else-place-entries}
+
+pub returns-then-entries-near : goal.returns-then-entries-near
+returns-then-entries-near c = λ h. entry_near c.args.entries.now h c.args.address c.args.next.now _ c.if-near-entries.true c.if-entries-near.true
 
 pub returns-then-entries-place : goal.returns-then-entries-place
 returns-then-entries-place c = λ h.
