@@ -20,7 +20,7 @@ use Rattle.fault_inject.specs.Astray.{is_jalr, is_astray, jump_of, first_jump, f
 use Rattle.fault_inject.proofs.Straying.{step_stays}
 
 -- ---- runs
-run-last : (s : State) (n : ℕ) → run s (n + 1) ≡ step (run s n)
+pub run-last : (s : State) (n : ℕ) → run s (n + 1) ≡ step (run s n)
 unfolding run
 run-last s n = run-more s n 1
 

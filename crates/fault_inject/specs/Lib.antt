@@ -1,3 +1,4 @@
 pub mod Astray
 pub mod Closed
 pub mod Counted
+pub mod Touched

@@ -4,8 +4,10 @@
 
 mod places;
 mod runs;
+mod trace;
 mod watch;
 
 pub use places::closed;
 pub use runs::run_changed;
+pub use trace::Trace;
 pub use watch::run_watched;

@@ -1,8 +1,5 @@
 -- Copies of a machine on its way.
 use Rattle.std.proofs.Common.{◌≡◌, ◌⊎◌, inl, inr, ℕ, zero, suc, ◌+◌, ◌-◌, ◌*◌, ◌<◌, ◌≤◌, List, [], ◌∷◌, ◌++◌, length, get_or, refl, sym, ap, ◌∙◌, arith, Bor}
-use Rattle.std.proofs.lemmas.Bool.{cases_lt}
-use Rattle.std.proofs.Math.Seq.{get_or-append_seam}
-use Rattle.std.proofs.Math.ListN.{get_or-append}
 use Rattle.std.specs.Prelude.{Option, Some, None, IfSome}
 use Rattle.std.specs.Slice.{IsItemAt}
 use Rattle.qed_model.specs.declared.machine.Outcome.TheVariants.{Going}
@@ -11,6 +8,7 @@ use Rattle.qed_model.specs.Machine.Progress.{Progress, progress}
 use Rattle.qed_model.specs.Machine.Step.{State, run}
 use Rattle.qed_model.proofs.BelowLaws.{length-each}
 use Rattle.rv_step.proofs.Running.{progress_more}
+use Rattle.fault_inject.proofs.Tracing.{each_at}
 use Rattle.rv_step.specs.Known.{AreMade}
 use Rattle.strikes.specs.Kept.{AreCopies, IsReach}
 use Rattle.strikes.specs.Found.{IsOn}
@@ -30,20 +28,6 @@ pub next_copy : (p m n : Progress) (k : ℕ) → m ≡ progress p (4096 * k) →
 next_copy p m n k e ran =
     let sum : 4096 * k + 4096 ≡ 4096 * (k + 1) = omega arith in
     ran ∙ ap (λ q. progress q 4096) e ∙ sym (progress_more p (4096 * k) 4096) ∙ ap (progress p) sum
-
--- what a function gives at a number stands there
-last_each : {A : Type 0} (n : ℕ) (f : ℕ → A) (k : ℕ) (d : A) → (k < n → get_or (each n f) k d ≡ f k) → k < n + 1 → (k < n) ⊎ (n ≤ k) → get_or (each n f ++ f n ∷ []) k d ≡ f k
-last_each n f k d before l (inl x) = let size = length-each n f in get_or-append (each n f) (f n ∷ []) d k (omega (arith, x, size)) ∙ before x
-last_each n f k d before l (inr x) =
-    let size = length-each n f in
-    let here : k ≡ length (each n f) = omega (arith, x, l, size) in
-    let e : n ≡ k = omega (arith, x, l) in
-    ap (λ i. get_or (each n f ++ f n ∷ []) i d) here ∙ get_or-append_seam (each n f) (f n) [] d ∙ ap f e
-
-pub each_at : {A : Type 0} (n : ℕ) (f : ℕ → A) (k : ℕ) (d : A) → k < n → get_or (each n f) k d ≡ f k
-unfolding each
-each_at zero f k d l = absurd (omega arith)
-each_at (suc n) f k d l = last_each n f k d (λ x. each_at n f k d x) (omega (arith, l)) (cases_lt k n)
 
 -- the copy of a number
 pub copy_at :

@@ -8,3 +8,4 @@ pub mod Making
 pub mod Leaping
 pub mod Watching
 pub mod Comparing
+pub mod Untouched

@@ -1,5 +1,9 @@
--- Changes as they are counted from a later step.
-use Rattle.std.specs.Prelude.{ℕ, ◌-◌, List, [], ◌∷◌, map}
+-- Changes as they are counted from a later step, and those that are one of a word.
+use Rattle.std.specs.Prelude.{◌≡◌, ℕ, ◌-◌, ◌==◌, if◌then◌else◌, List, [], ◌∷◌, map, Option, None, Some}
+use Rattle.qed_model.specs.declared.change.Place.{Place}
+use Rattle.qed_model.specs.declared.change.Place.TheVariants.{Reg, Word}
+use Rattle.qed_model.specs.Machine.Step.{State}
+use Rattle.qed_model.specs.Machine.Struck.{struck}
 use Rattle.qed_model.specs.declared.change.Change.{Change}
 
 -- a change whose steps are counted from a later one
@@ -13,3 +17,19 @@ all_from start cs = map (counted_from start) cs
 abbrev pub first_step : List Change → ℕ
 first_step [] = 0
 first_step (c ∷ cs) = c.step
+
+-- ---- one word
+-- the address and the value of changes that are one of a word, made where they are counted from
+abbrev pub word_in : Place → ℕ → ℕ → Option (ℕ × ℕ)
+word_in (Word a) step x = if step == 0 then Some (a, x) else None
+word_in (Reg r) step x = None
+
+abbrev pub one_word : List Change → Option (ℕ × ℕ)
+one_word [] = None
+one_word (c ∷ []) = word_in c.place c.step c.value
+one_word (c ∷ d ∷ cs) = None
+
+-- a state that is another but for that word, where there is one
+abbrev pub IsChangedAt : State → Option (ℕ × ℕ) → State → Type 0
+IsChangedAt s None t = Unit {0}
+IsChangedAt s (Some w) t = t ≡ struck (Word w.0) w.1 s

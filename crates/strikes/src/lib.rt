@@ -12,6 +12,7 @@ mod progress;
 mod right;
 mod runs;
 mod snapshots;
+mod spared;
 mod stop;
 mod verdict;
 mod watched;

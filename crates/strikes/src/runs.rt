@@ -6,6 +6,7 @@ ghost use Rattle.qed_model.specs.declared.machine.Outcome.TheVariants as outcome
 ghost use Rattle.qed_model.specs.Machine.Step.{run};
 ghost use Rattle.qed_model.specs.Promise.Caught.{bound_of as bound_of_changes};
 ghost use Rattle.qed_model.specs.Promise.Changed.{Ordered, changed_run, has_word as has_word_of, is_word as is_word_of, last_step as last_step_of};
+ghost use Rattle.fault_inject.specs.Touched.{IsTrace};
 ghost use Rattle.strikes.specs.Kept.{IsReach, copies_up_to};
 ghost use Rattle.strikes.specs.Later.{first_step as first_step_of};
 ghost use Rattle.strikes.specs.Right.{ends_right as ends_right_of, is_right as is_right_of, rights as rights_of};
@@ -19,7 +20,7 @@ use crate::right::same_values;
 use crate::snapshots::{SPACING, Snapshots};
 use crate::verdict::{last_step, output_verdict};
 use crate::watched::Watched;
-use fault_inject::run_changed;
+use fault_inject::{Trace, run_changed};
 use qed_model::{Bounds, Change, Changes, Outcome, Place, Range, Struck, Verdict};
 use rv_step::Machine;
 use std::alloc::{AllocError, Global};
@@ -48,6 +49,9 @@ impl Model for Runs {
 
     ghost invariant = { λ r. 1 ≤ r.output.reach };
 }
+
+/// How many steps, which strikes may take at most, are worth one that is traced.
+const TRACED: u64 = 100;
 
 /// For how many steps the input is watched: up to the end of most strikes.
 fn watched_for(reach: u64, bounds: &Bounds) -> u64 {
@@ -171,16 +175,18 @@ impl Runs {
         ensures { IsVerdict self.now.input self.now.output self.now.bounds changes.now result }
     {
         let output = self.output.machine_at(alloc, first_step(changes))?;
-        self.strike_at(alloc, output, changes)
+        self.strike_at(alloc, &Trace::none(alloc), output, changes)
     }
 
     /// The same, with the output as it stands at the first change.
     fn strike_at(
         &self,
         alloc: Global,
+        trace: &Trace,
         output: Machine,
         changes: &[Change],
     ) -> Result<Verdict, StrikeError>
+        requires trace { IsTrace self.now.output trace.now }
         requires strike { IsStrike self.now.bounds changes.now }
         requires there { output.state ≡ run self.now.output (first_step_of changes.now) }
         ensures { IsVerdict self.now.input self.now.output self.now.bounds changes.now result }
@@ -189,7 +195,15 @@ impl Runs {
         let last = last_step(changes);
         let start = first_step(changes);
         let later = all_from(alloc, changes, start)?;
-        if let Some(verdict) = output_verdict(alloc, &self.output, start, output, &later, bound)? {
+        if let Some(verdict) = output_verdict(
+            alloc,
+            &self.output,
+            trace,
+            start,
+            output,
+            &later,
+            bound,
+        )? {
             return Ok(verdict);
         }
         match self.input.trap(alloc, last, bound)? {
@@ -202,10 +216,12 @@ impl Runs {
     fn strike_on(
         &self,
         alloc: Global,
+        trace: &Trace,
         output: &mut Machine,
         made: u64,
         changes: &[Change],
     ) -> Result<Option<Verdict>, AllocError>
+        requires trace { IsTrace self.now.output trace.now }
         requires strike { IsStrike self.now.bounds changes.now }
         requires there { output.old.state ≡ run self.now.output made }
         ensures there { IfOk result (λ _. output.new.state ≡ run self.now.output (first_step_of changes.now)) }
@@ -213,11 +229,25 @@ impl Runs {
     {
         self.output.go_to(alloc, output, made, first_step(changes))?;
         let there = output.copy(alloc)?;
-        match self.strike_at(alloc, there, changes) {
+        match self.strike_at(alloc, trace, there, changes) {
             Ok(verdict) => Ok(Some(verdict)),
             Err(StrikeError::Trapped(_)) => Ok(None),
             Err(StrikeError::Memory) => Err(AllocError),
         }
+    }
+
+    /// What the output's run touches, as far as it is struck, where so many strikes are worth that it is traced.
+    fn traced(&self, alloc: Global, strikes: &[Changes]) -> Result<Trace, AllocError>
+        ensures { IfOk result (IsTrace self.now.output) }
+    {
+        let reach = self.output.reach();
+        let steps = count_words(strikes).saturating_mul(self.bounds.word.unwrap_or(0));
+        if reach < SPACING || steps / TRACED < reach {
+            return Ok(Trace::none(alloc));
+        }
+        let mut machine = self.output.machine_at(alloc, 0)?;
+        let trace = Trace::of(alloc, &mut machine, reach)?;
+        Ok(trace)
     }
 
     /// The verdicts of strikes, which are made in the order of their first changes, so that the output goes along its run once. None where
@@ -233,6 +263,7 @@ impl Runs {
         ensures count { IfOk result (λ found. length found.items ≡ length strikes.now) }
     {
         let order = in_order(alloc, strikes)?;
+        let trace = self.traced(alloc, strikes)?;
         let mut found = vec![in alloc; None; strikes.len()]?;
         let mut output = self.output.machine_at(alloc, 0)?;
         let mut made = 0;
@@ -244,7 +275,7 @@ impl Runs {
                 continue;
             }
             let changes = &strikes[number];
-            let verdict = self.strike_on(alloc, &mut output, made, changes.as_slice())?;
+            let verdict = self.strike_on(alloc, &trace, &mut output, made, changes.as_slice())?;
             made = first_step(changes.as_slice());
             end = end_behind(end, number, verdict);
             found[number] = verdict;
@@ -370,6 +401,18 @@ impl Runs {
             trapped: None,
         })
     }
+}
+
+/// How many of some strikes are one change of a word.
+fn count_words(strikes: &[Changes]) -> u64 {
+    let mut count: u64 = 0;
+    for strike in strikes {
+        let changes = strike.as_slice();
+        if changes.len() == 1 && has_word(changes) {
+            count = count.saturating_add(1);
+        }
+    }
+    count
 }
 
 /// Before which number strikes are made yet, behind one with a number below it: where its input traps, no later one is asked for.

@@ -1,13 +1,17 @@
 //! What changes show, where both machines stand at the step from which the changes are counted.
 ghost use Rattle.std.specs.Prelude.{◌≡◌, IfOk, IfSome, IfNone, Ok};
+ghost use Rattle.qed_model.specs.declared.machine.Outcome.TheVariants as outcome;
 ghost use Rattle.qed_model.specs.Machine.Step.{State, run};
 ghost use Rattle.qed_model.specs.Promise.Changed.{Ordered, last_step as last_step_of};
 ghost use Rattle.strikes.specs.Verdict.{has_closed as has_closed_of, IsTried, Shows};
-ghost use Rattle.strikes.specs.Found.{verdict_of, Stops, IsStill, IsSilentAt, ShowsUnchanged};
+ghost use Rattle.fault_inject.specs.Touched.{IsTrace};
+ghost use Rattle.strikes.specs.Found.{verdict_of, Stops, StopsWithin, IsStill, IsSilentAt, ShowsUnchanged};
+ghost use Rattle.strikes.specs.Later.{one_word as one_word_of, IsChangedAt};
 
 use crate::beside::steps_beside;
 use crate::snapshots::Snapshots;
-use fault_inject::{closed, run_changed};
+use crate::spared::{one_word, steps_spared};
+use fault_inject::{Trace, closed, run_changed};
 use qed_model::{Change, Outcome, Verdict};
 use rv_step::Machine;
 use std::alloc::{AllocError, Global};
@@ -107,19 +111,46 @@ fn stopped_verdict(outcome: Outcome, steps: u64) -> Option<Verdict>
     }
 }
 
+/// What `steps_to_stop` gives of a machine that has made its changes, the last where the run that is kept has made `at` steps.
+fn steps_behind(
+    alloc: Global,
+    way: &Snapshots,
+    trace: &Trace,
+    at: u64,
+    machine: &mut Machine,
+    changes: &[Change],
+    most: u64,
+) -> Result<Option<u64>, AllocError>
+    requires trace { IsTrace way.now.start.state trace.now }
+    requires there { IsChangedAt (run way.now.start.state at) (one_word_of changes.now) machine.old.state }
+    ensures stops { IfOk result (λ r. IfSome r (StopsWithin machine.old.state most machine.new.state)) }
+    ensures goes_on { IfOk result (λ r. IfNone r ((run machine.old.state most).outcome ≡ outcome.Going)) }
+{
+    match one_word(changes) {
+        Some((address, value)) => {
+            steps_spared(alloc, way, trace, at, machine, address, value, most)
+        }
+        None => steps_beside(alloc, way, at, machine, most),
+    }
+}
+
 /// What the run of a machine that has made its last change shows, within so many steps; None where no check fires and the test does
 /// not end. The run without changes, which is kept, has made `at` steps where the last change was made.
 fn later_verdict(
     alloc: Global,
     way: &Snapshots,
+    trace: &Trace,
     at: u64,
     machine: &mut Machine,
+    changes: &[Change],
     bound: u64,
 ) -> Result<Option<Verdict>, AllocError>
+    requires trace { IsTrace way.now.start.state trace.now }
+    requires there { IsChangedAt (run way.now.start.state at) (one_word_of changes.now) machine.old.state }
     ensures shown { IfOk result (λ v. IfSome v (Stops machine.old.state bound)) }
     ensures none { IfOk result (λ v. IfNone v (IsStill machine.old.state bound)) }
 {
-    let Some(steps) = steps_beside(alloc, way, at, machine, bound)? else {
+    let Some(steps) = steps_behind(alloc, way, trace, at, machine, changes, bound)? else {
         return Ok(None);
     };
     Ok(stopped_verdict(machine.outcome(), steps))
@@ -130,11 +161,13 @@ fn later_verdict(
 pub fn output_verdict(
     alloc: Global,
     way: &Snapshots,
+    trace: &Trace,
     start: u64,
     output: Machine,
     changes: &[Change],
     bound: u64,
 ) -> Result<Option<Verdict>, AllocError>
+    requires trace { IsTrace way.now.start.state trace.now }
     requires there { output.state ≡ run way.now.start.state start }
     requires ordered { Ordered changes.now }
     ensures shown { IfOk result (λ v. IfSome v (λ v. (input : State) → Shows input output.state bound changes.now (Ok v))) }
@@ -146,6 +179,7 @@ pub fn output_verdict(
     }
     let last = last_step(changes);
     run_changed(&mut output, changes, last)?;
-    let verdict = later_verdict(alloc, way, start.saturating_add(last), &mut output, bound)?;
+    let at = start.saturating_add(last);
+    let verdict = later_verdict(alloc, way, trace, at, &mut output, changes, bound)?;
     Ok(verdict)
 }

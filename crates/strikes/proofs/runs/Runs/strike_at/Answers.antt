@@ -4,6 +4,7 @@ use Rattle.qed_model.specs.declared.verdict.Verdict.TheVariants as verdict
 use Rattle.qed_model.specs.Machine.Step.{State, run}
 use Rattle.qed_model.specs.Promise.Caught.{bound_of}
 use Rattle.qed_model.specs.Promise.Changed.{Ordered, last_step}
+use Rattle.fault_inject.specs.Touched.{IsTrace}
 use Rattle.strikes.specs.declared.error.StrikeError.TheVariants as error
 use Rattle.strikes.specs.Found.{trap_pc_of, IsSilentAt}
 use Rattle.strikes.specs.Later.{all_from}
@@ -16,6 +17,9 @@ pub all_from-requires : goal.all_from-requires
 all_from-requires c =
     let first = c.first_step-start.ensures in
     not_before_all c.args.changes.now c.first_step-start.result c.requires.strike.ordered (omega (arith, first))
+
+pub output_verdict-requires-clause-trace : goal.output_verdict-requires-clause-trace
+output_verdict-requires-clause-trace c = subst (λ p. IsTrace p.output c.args.trace.now) (sym c.self.view_is) c.requires.trace
 
 pub output_verdict-requires-clause-there : goal.output_verdict-requires-clause-there
 output_verdict-requires-clause-there c =

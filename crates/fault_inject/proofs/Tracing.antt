@@ -1,0 +1,90 @@
+-- What the steps of a run touch: one step more, and steps that touch no byte of a word.
+use Rattle.std.proofs.Common.{◌≡◌, ◌⊎◌, inl, inr, ℕ, zero, suc, ◌+◌, ◌<◌, ◌≤◌, [], ◌∷◌, ◌++◌, length, get_or, refl, sym, ap, ◌∙◌, subst, arith}
+use Rattle.std.proofs.lemmas.Bool.{cases_lt}
+use Rattle.std.proofs.Math.Seq.{get_or-append_seam}
+use Rattle.std.proofs.Math.ListN.{get_or-append}
+use Rattle.std.proofs.lemmas.List.{length-append}
+use Rattle.qed_model.specs.declared.machine.Outcome.TheVariants.{Going}
+use Rattle.qed_model.specs.Below.{each}
+use Rattle.qed_model.specs.Machine.Progress.{Progress, advanced}
+use Rattle.qed_model.specs.Machine.Step.{State, run, step}
+use Rattle.qed_model.proofs.BelowLaws.{each_none, length-each, push_each}
+use Rattle.fault_inject.specs.declared.trace.Trace.{Trace}
+use Rattle.fault_inject.specs.Touched.{touched, IsFar, IsLonger, IsTrace}
+use Rattle.fault_inject.proofs.Steadiness.{run-last}
+
+-- ---- what a function gives at a number stands there
+last_each : {A : Type 0} (n : ℕ) (f : ℕ → A) (k : ℕ) (d : A) → (k < n → get_or (each n f) k d ≡ f k) → k < n + 1 → (k < n) ⊎ (n ≤ k) → get_or (each n f ++ f n ∷ []) k d ≡ f k
+last_each n f k d before l (inl x) = let size = length-each n f in get_or-append (each n f) (f n ∷ []) d k (omega (arith, x, size)) ∙ before x
+last_each n f k d before l (inr x) =
+    let size = length-each n f in
+    let here : k ≡ length (each n f) = omega (arith, x, l, size) in
+    let e : n ≡ k = omega (arith, x, l) in
+    ap (λ i. get_or (each n f ++ f n ∷ []) i d) here ∙ get_or-append_seam (each n f) (f n) [] d ∙ ap f e
+
+pub each_at : {A : Type 0} (n : ℕ) (f : ℕ → A) (k : ℕ) (d : A) → k < n → get_or (each n f) k d ≡ f k
+unfolding each
+each_at zero f k d l = absurd (omega arith)
+each_at (suc n) f k d l = last_each n f k d (λ x. each_at n f k d x) (omega (arith, l)) (cases_lt k n)
+
+-- ---- a trace
+-- of no step
+pub trace_none : (s : State) (t : Trace) → t.places.items ≡ [] → IsTrace s t
+trace_none s t e =
+    let none : length t.places.items ≡ 0 = ap length e in
+    record {
+      places = e ∙ each_none (λ k. touched (run s k)) ∙ ap (λ n. each n (λ k. touched (run s k))) (sym none);
+      going = λ k l. absurd (omega (arith, none, l));
+      low = λ k l. absurd (omega (arith, none, l));
+      high = λ k l. absurd (omega (arith, none, l));
+    }
+
+-- the step behind those so far
+at_last : (P : ℕ → Type 0) (k n : ℕ) → ((j : ℕ) → j < n → P j) → P n → k < n + 1 → (k < n) ⊎ (n ≤ k) → P k
+at_last P k n before here l (inl x) = before k x
+at_last P k n before here l (inr x) = let e : n ≡ k = omega (arith, l, x) in subst P e here
+
+-- of one more
+pub longer : (before after : Trace) (u : State) (n : ℕ) → length before.places.items ≡ n → IsLonger before u after → length after.places.items ≡ n + 1
+longer before after u n count l = ap length l.places ∙ omega (arith, length-append before.places.items (touched u ∷ []), count)
+
+pub trace_more :
+    (s u : State) (before after : Trace) (n : ℕ) → IsTrace s before → length before.places.items ≡ n → u ≡ run s n → u.outcome ≡ Going → IsLonger before u after → IsTrace s after
+trace_more s u before after n is count here going l =
+    let f : ℕ → ℕ = λ k. touched (run s k) in
+    let size : length after.places.items ≡ n + 1 = longer before after u n count l in
+    let so_far : before.places.items ≡ each n f = is.places ∙ ap (λ k. each k f) count in
+    let low = l.low in
+    let high = l.high in
+    record {
+      places = push_each n f before.places.items after.places.items (touched u) l.places so_far (ap touched here) ∙ ap (λ k. each k f) (sym size);
+      going = λ k x. at_last (λ j. (run s j).outcome ≡ Going) k n (λ j y. is.going j (omega (arith, y, count))) (ap (λ t. t.outcome) (sym here) ∙ going) (omega (arith, x, size)) (cases_lt k n);
+      low = λ k x. at_last (λ j. after.low ≤ (run s j).pc) k n (λ j y. let z = is.low j (omega (arith, y, count)) in omega (arith, z, low.0)) (subst (λ t. after.low ≤ t.pc) here low.1) (omega (arith, x, size)) (cases_lt k n);
+      high = λ k x. at_last (λ j. (run s j).pc ≤ after.high) k n (λ j y. let z = is.high j (omega (arith, y, count)) in omega (arith, z, high.0)) (subst (λ t. t.pc ≤ after.high) here high.1) (omega (arith, x, size)) (cases_lt k n);
+    }
+
+-- no step
+pub no_steps : (s : State) → s ≡ run s 0
+unfolding run
+no_steps s = refl
+
+-- a machine goes one step on
+pub steps_on : (s : State) (p q : Progress) (n : ℕ) → p.state ≡ run s n → q ≡ advanced p → q.state ≡ run s (n + 1)
+unfolding advanced
+steps_on s p q n here ran = ap (λ m. m.state) ran ∙ ap step here ∙ sym (run-last s n)
+
+-- ---- steps that touch no byte of a word
+-- so many so far
+abbrev pub AreFar : Trace → ℕ → ℕ → ℕ → Type 0
+AreFar t a from n = (s : State) → IsTrace s t → (k : ℕ) → k < n → IsFar a (touched (run s (from + k))) 8
+
+pub none_far : (t : Trace) (a from : ℕ) → AreFar t a from 0
+none_far t a from s is k l = absurd (omega (arith, l))
+
+-- one more
+pub more_far :
+    (t : Trace) (a from n i p : ℕ) → AreFar t a from n → i ≡ from + n → i < length t.places.items → p ≡ get_or t.places.items i p → IsFar a p 8
+    → AreFar t a from (n + 1)
+more_far t a from n i p are at within got far s is k l =
+    let here : p ≡ touched (run s i) = got ∙ ap (λ xs. get_or xs i p) is.places ∙ each_at (length t.places.items) (λ j. touched (run s j)) i p within in
+    at_last (λ j. IsFar a (touched (run s (from + j))) 8) k n (are s is) (subst (λ q. IsFar a q 8) (here ∙ ap (λ j. touched (run s j)) at) far) l (cases_lt k n)

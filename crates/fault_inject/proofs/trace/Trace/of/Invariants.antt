@@ -1,0 +1,12 @@
+use Rattle.std.proofs.Common.{◌≡◌, length}
+use Rattle.qed_model.specs.Machine.Step.{run}
+use Rattle.fault_inject.specs.Touched.{IsTrace}
+use Rattle.fault_inject.proofs.trace.Trace.of.Given as goal
+
+-- so many steps were made, and are traced
+abbrev pub invariant-loop-made : goal.invariant-loop-made
+invariant-loop-made l = record {
+  there : l.machine.state ≡ run l.initial.machine.state l.made;
+  trace : IsTrace l.initial.machine.state l.trace;
+  count : length l.trace.places.items ≡ l.made;
+}

@@ -1,0 +1,90 @@
+-- A run with one word changed, which goes the way of the run without changes as long as that touches no byte of the word.
+use Rattle.std.proofs.Common.{◌≡◌, ◌⊎◌, inl, inr, ℕ, zero, suc, ◌+◌, ◌-◌, ◌^◌, ◌<◌, ◌≤◌, Bool, true, false, cond, List, [], ◌∷◌, Some, None, refl, sym, ap, ◌∙◌, subst, arith}
+use Rattle.std.specs.Prelude.{◌==◌}
+use Rattle.std.proofs.lemmas.Bool.{cases_lt, eq-eqb, eqb-true}
+use Rattle.qed_model.specs.declared.change.Change.{Change}
+use Rattle.qed_model.specs.declared.change.Place.{Place}
+use Rattle.qed_model.specs.declared.change.Place.TheVariants.{Reg, Word}
+use Rattle.qed_model.specs.declared.machine.Outcome.TheVariants.{Going}
+use Rattle.qed_model.specs.Machine.Progress.{Progress, progress}
+use Rattle.qed_model.specs.Machine.Step.{State, run}
+use Rattle.qed_model.specs.Machine.Struck.{struck}
+use Rattle.qed_model.specs.Promise.Changed.{changed, changed_as, with_changes, changed_run, last_step}
+use Rattle.qed_model.proofs.Walk.{run-more}
+use Rattle.rv_step.specs.Known.{struck_progress}
+use Rattle.fault_inject.specs.Touched.{IsSpared, AreSpared}
+use Rattle.fault_inject.proofs.Sparing.{spared_run}
+use Rattle.strikes.specs.Found.{IsOn, StopsWithin}
+use Rattle.strikes.specs.Later.{word_in, one_word, IsChangedAt}
+use Rattle.strikes.specs.Verdict.{IsReached}
+use Rattle.strikes.proofs.Stopping.{progress_state, run_none}
+
+-- ---- steps that touch no byte of the word
+spared_to : (a x at n : ℕ) (start : State) → a < 2 ^ 64 → ((k : ℕ) → k < n → IsSpared a (run start (at + k))) → run (struck (Word a) x (run start at)) n ≡ struck (Word a) x (run start (at + n))
+spared_to a x at n start ha are =
+    spared_run a x (run start at) n ha (λ k l. subst (IsSpared a) (run-more start at k) (are k l)) ∙ ap (struck (Word a) x) (sym (run-more start at n))
+
+same_outcome : (a x : ℕ) (s : State) → (struck (Word a) x s).outcome ≡ s.outcome
+unfolding struck
+same_outcome a x s = refl
+
+pub spared_on : (a x at n : ℕ) (start s t : State) → a < 2 ^ 64 → AreSpared a at n start → s ≡ struck (Word a) x (run start at) → t ≡ struck (Word a) x (run start (at + n)) → IsOn s n t
+spared_on a x at n start s t ha are from to = record {
+  there = to ∙ sym (spared_to a x at n start ha are.spared) ∙ ap (λ u. run u n) (sym from);
+  before = λ k l.
+      ap (λ u. (run u k).outcome) from ∙ ap (λ u. u.outcome) (spared_to a x at k start ha (λ j m. are.spared j (omega (arith, l, m))))
+      ∙ same_outcome a x (run start (at + k)) ∙ are.going k l;
+}
+
+-- the machine of the kept run, with the word changed
+pub word_changed : (p : Place) (x n : ℕ) (start m q : Progress) → m ≡ progress start n → q ≡ struck_progress p x m → q.state ≡ struck p x (run start.state n)
+word_changed p x n start m q there made = ap (λ r. r.state) made ∙ ap (λ r. struck p x r.state) there ∙ ap (struck p x) (progress_state start n)
+
+-- ---- what is found behind them
+later_state : (s t : State) (n k : ℕ) → IsOn s n t → run s (n + k) ≡ run t k
+later_state s t n k on = run-more s n k ∙ ap (λ u. run u k) (sym on.there)
+
+before_later :
+    (s t : State) (n steps k : ℕ) → IsOn s n t → ((i : ℕ) → i < steps → (run t i).outcome ≡ Going) → k < n + steps → (k < n) ⊎ (n ≤ k) → (run s k).outcome ≡ Going
+before_later s t n steps k on going l (inl h) = on.before k h
+before_later s t n steps k on going l (inr h) =
+    let e : n + (k - n) ≡ k = omega (arith, h) in
+    ap (λ i. (run s i).outcome) (sym e) ∙ ap (λ u. u.outcome) (later_state s t n (k - n) on) ∙ going (k - n) (omega (arith, l, h))
+
+pub stops_later : (s t u : State) (n most steps : ℕ) → IsOn s n t → n ≤ most → StopsWithin t (most - n) u steps → StopsWithin s most u (n + steps)
+stops_later s t u n most steps on fits x =
+    let within = x.within in
+    record {
+      within = omega (arith, within, fits);
+      stops = record {
+        stopped = λ g. x.stops.stopped (ap (λ v. v.outcome) (sym (later_state s t n steps on)) ∙ g);
+        before = λ k l. before_later s t n steps k on x.stops.before l (cases_lt k n);
+      };
+      there = x.there ∙ sym (later_state s t n steps on);
+    }
+
+pub goes_later : (s t : State) (n most : ℕ) → IsOn s n t → n ≤ most → (run t (most - n)).outcome ≡ Going → (run s most).outcome ≡ Going
+goes_later s t n most on fits going =
+    let e : n + (most - n) ≡ most = omega (arith, fits) in
+    ap (λ i. (run s i).outcome) (sym e) ∙ ap (λ u. u.outcome) (later_state s t n (most - n) on) ∙ going
+
+-- ---- one change of a word
+at_once : (c : Change) (s : State) (a : ℕ) → c.step ≡ 0 → c.place ≡ Word a → s.outcome ≡ Going → changed_run s (c ∷ []) c.step ≡ struck (Word a) c.value s
+unfolding changed_run with_changes
+at_once c s a first word going =
+    ap (changed_run s (c ∷ [])) first ∙ ap (λ b. cond b (changed c s) s) (eq-eqb c.step 0 first) ∙ ap (λ o. changed_as o c s) going ∙ ap (λ p. struck p c.value s) word
+
+pub changed_word : (cs : List Change) (output s t : State) → IsReached output cs → (last_step cs ≡ 0 → output ≡ s) → t ≡ changed_run output cs (last_step cs) → IsChangedAt s (one_word cs) t
+changed_word [] output s t reached here made = tt
+changed_word (c ∷ d ∷ cs) output s t reached here made = tt
+changed_word (c ∷ []) output s t reached here made = by_place c.place refl where
+  by_step : (a : ℕ) (b : Bool) → c.place ≡ Word a → (c.step == 0) ≡ b → IsChangedAt s (cond b (Some (a, c.value)) None) t
+  by_step a false e f = tt
+  by_step a true e f =
+      let first : c.step ≡ 0 = eqb-true c.step 0 f in
+      let going : output.outcome ≡ Going = ap (λ u. u.outcome) (run_none output ∙ ap (run output) (sym first)) ∙ reached in
+      made ∙ at_once c output a first e going ∙ ap (struck (Word a) c.value) (here first)
+
+  by_place : (p : Place) → c.place ≡ p → IsChangedAt s (word_in p c.step c.value) t
+  by_place (Reg r) e = tt
+  by_place (Word a) e = by_step a (c.step == 0) e refl
