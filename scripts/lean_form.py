@@ -45,9 +45,9 @@ def cost(items):
 
 
 def cells_of(test, p):
-    """The blocks of `--entries reached`, cut evenly into the fewest cells of at most so many instructions."""
+    """The blocks of `--entries reached`, which begin also at each multiple of as many words as `--inst-max` says."""
     starts, found = leaders(test, Options(entries="reached")), []
-    most = max(1, min(p.inst_max, (p.every - 22) // 5))
+    starts |= {address for address in test.code if address % (4 * p.inst_max) == 0}
     for address in test.code:
         if address not in starts:
             continue
@@ -55,13 +55,7 @@ def cells_of(test, p):
         while at in test.code and not is_end(test.code[at]) and (at == address or at not in starts):
             body.append(test.code[at])
             at += 4
-        end = test.code[at] if at in test.code and (at == address or at not in starts) else None
-        count = max(1, -(-len(body) // most))
-        lengths = [len(body) // count + 1] * (len(body) % count) + [len(body) // count] * (count - len(body) % count)
-        first = 0
-        for number, length in enumerate(lengths):
-            found.append(Cell(address + 4 * first, body[first:first + length], end if number == count - 1 else None))
-            first += length
+        found.append(Cell(address, body, test.code[at] if at in test.code and (at == address or at not in starts) else None))
     return found
 
 
@@ -204,7 +198,7 @@ def main():
     parser = argparse.ArgumentParser()
     parser.add_argument("input")
     parser.add_argument("output")
-    for name, value in (("every", 1200), ("round", 4), ("inst-max", 64)):
+    for name, value in (("every", 1200), ("round", 4), ("inst-max", 128)):
         parser.add_argument(f"--{name}", type=int, default=value)
     parser.add_argument("--sweep", action="store_true")
     given = parser.parse_args()
