@@ -74,23 +74,23 @@ goes_size a t = by (a == t) (is_short (distance_between a t)) where
   by false false = inr (inr refl)
 
 module _ (at base d : ℕ) (at_is : at ≡ base + 3 * d) (top : base + 3 * d + 134217728 ≤ 2 ^ 63) (small : d ≤ 536870912) where
-  abbrev is : Item → Bool
-  is = near at base d at_is top small
+  abbrev near_code : Item → Bool
+  near_code = near at base d at_is top small
 
-  abbrev N : ℕ → Type 0
-  N v = IsNear at base d at_is top small v
+  abbrev Nearby : ℕ → Type 0
+  Nearby v = IsNear at base d at_is top small v
 
-  plain : (i : Ins) (rest : List Item) → has_word i ≡ true → list_all is rest ≡ true → list_all is (Plain i ∷ rest) ≡ true
+  plain : (i : Ins) (rest : List Item) → has_word i ≡ true → list_all near_code rest ≡ true → list_all near_code (Plain i ∷ rest) ≡ true
   plain i rest a b = words.plain at base d at_is top small i rest a b
 
-  sets : (r v : ℕ) (rest : List Item) → r < 32 → N v → list_all is rest ≡ true → list_all is (Constant r v ∷ rest) ≡ true
+  sets : (r v : ℕ) (rest : List Item) → r < 32 → Nearby v → list_all near_code rest ≡ true → list_all near_code (Constant r v ∷ rest) ≡ true
   sets r v rest l h b = words.sets at base d at_is top small r v rest l h b
 
-  place : (v : ℕ) → base ≤ v → v ≤ base + d → N v
+  place : (v : ℕ) → base ≤ v → v ≤ base + d → Nearby v
   place v a b = words.place_near at base d at_is top small v a b
 
   -- ---- the signature
-  long_turn : (a t : ℕ) → base ≤ a → a ≤ base + d → N t → list_all is (Plain (ins Lui 30 0 0 (upper_part (distance_between a t))) ∷ Plain (ins Addi 30 30 0 (lower_part (distance_between a t))) ∷ Plain (ins Add 16 16 30 (pos 0)) ∷ []) ≡ true
+  long_turn : (a t : ℕ) → base ≤ a → a ≤ base + d → Nearby t → list_all near_code (Plain (ins Lui 30 0 0 (upper_part (distance_between a t))) ∷ Plain (ins Addi 30 30 0 (lower_part (distance_between a t))) ∷ Plain (ins Add 16 16 30 (pos 0)) ∷ []) ≡ true
   long_turn a t low high n =
       let p = and_parts (nat_lt t (2 ^ 64)) (is_within at down up t) n in
       let lt = ltb-true t (2 ^ 64) p.0 in
@@ -100,30 +100,30 @@ module _ (at base d : ℕ) (at_is : at ≡ base + 3 * d) (top : base + 3 * d + 1
       plain (ins Lui 30 0 0 (upper_part (distance_between a t))) (Plain (ins Addi 30 30 0 (lower_part (distance_between a t))) ∷ last) (lui_as 30 (upper_part (distance_between a t)) both.0)
       (plain (ins Addi 30 30 0 (lower_part (distance_between a t))) last both.1 (plain (ins Add 16 16 30 (pos 0)) [] (add_word 16 16 30 refl refl refl) refl))
 
-  turn_near : (a t : ℕ) → base ≤ a → a ≤ base + d → N t → list_all is (turn a t) ≡ true
+  turn_near : (a t : ℕ) → base ≤ a → a ≤ base + d → Nearby t → list_all near_code (turn a t) ≡ true
   turn_near a t low high n =
-      if_all is (a == t) [] (turn_by (distance_between a t)) (λ e. refl)
-      (λ e. if_all is (is_short (distance_between a t)) (Plain (ins Addi 16 16 0 (distance_between a t)) ∷ []) _ (λ s. plain (ins Addi 16 16 0 (distance_between a t)) [] (addi_word 16 16 (distance_between a t) (omega arith) (omega arith) (short_fits a t s)) refl) (λ s. long_turn a t low high n))
+      if_all near_code (a == t) [] (turn_by (distance_between a t)) (λ e. refl)
+      (λ e. if_all near_code (is_short (distance_between a t)) (Plain (ins Addi 16 16 0 (distance_between a t)) ∷ []) _ (λ s. plain (ins Addi 16 16 0 (distance_between a t)) [] (addi_word 16 16 (distance_between a t) (omega arith) (omega arith) (short_fits a t s)) refl) (λ s. long_turn a t low high n))
 
-  goes_near : (a t : ℕ) → base ≤ a → a ≤ base + d → N t → list_all is (goes a t) ≡ true
-  goes_near a t low high n = both_all is (turn a t) (Go t ∷ []) (turn_near a t low high n) refl
+  goes_near : (a t : ℕ) → base ≤ a → a ≤ base + d → Nearby t → list_all near_code (goes a t) ≡ true
+  goes_near a t low high n = both_all near_code (turn a t) (Go t ∷ []) (turn_near a t low high n) refl
 
   -- ---- the check, and what runs first
-  look_near : list_all is look_up ≡ true
+  look_near : list_all near_code look_up ≡ true
   look_near = words.jumps_near at base d at_is top small
 
-  parted_near : list_all is (parted base) ≡ true
+  parted_near : list_all near_code (parted base) ≡ true
   unfolding encode_of word_of
   parted_near =
       sets 30 base
       (Plain (ins Sub 15 16 30 (pos 0)) ∷ Plain (ins Slli 15 15 0 (pos 32)) ∷ Plain (ins Srli 15 15 0 (pos 32)) ∷ Plain (ins Add 15 15 30 (pos 0)) ∷ Plain (ins Sub 16 16 15 (pos 0)) ∷ Plain (ins Srli 16 16 0 (pos 32)) ∷ [])
       (omega arith) (place base (omega arith) (omega arith)) refl
 
-  called_near : list_all is called ≡ true
+  called_near : list_all near_code called ≡ true
   unfolding encode_of word_of
   called_near = refl
 
-  begun_near : (first : ℕ) → N first → list_all is (begun first) ≡ true
+  begun_near : (first : ℕ) → Nearby first → list_all near_code (begun first) ≡ true
   unfolding encode_of word_of
   begun_near first n =
       let last = Plain (ins Add 15 15 16 (pos 0)) ∷ Plain (ins Addi 16 30 0 (pos 0)) ∷ [] in
@@ -139,20 +139,20 @@ module _ (at base d : ℕ) (at_is : at ≡ base + 3 * d) (top : base + 3 * d + 1
   abbrev done_front : List Item
   done_front = Plain (ins Sub 15 15 30 (pos 0)) ∷ Plain (ins Slli 15 15 0 (pos 32)) ∷ Plain (ins Addi 30 16 0 (pos 0)) ∷ Plain (ins Add 16 16 15 (pos 0)) ∷ []
 
-  done_words : list_all is done_front ≡ true
+  done_words : list_all near_code done_front ≡ true
   unfolding encode_of word_of
   done_words = refl
 
-  done_near : (first every : ℕ) → N first → every ≤ 2048 → list_all is (done first every) ≡ true
+  done_near : (first every : ℕ) → Nearby first → every ≤ 2048 → list_all near_code (done first every) ≡ true
   done_near first every n few =
       let last : List Item = Plain (ins Addi 15 0 0 (neg_ℤ (pos every))) ∷ [] in
-      sets 30 first (done_front ++ last) (omega arith) n (both_all is done_front last done_words (plain (ins Addi 15 0 0 (neg_ℤ (pos every))) [] (every_word every few) refl))
+      sets 30 first (done_front ++ last) (omega arith) n (both_all near_code done_front last done_words (plain (ins Addi 15 0 0 (neg_ℤ (pos every))) [] (every_word every few) refl))
 
-  first_near : (spans : List (ℕ × ℕ)) → InImage at base d at_is top small spans → N (first_word base spans)
+  first_near : (spans : List (ℕ × ℕ)) → InImage at base d at_is top small spans → Nearby (first_word base spans)
   first_near [] s = place base (omega arith) (omega arith)
   first_near (r ∷ rs) s = place r.0 s.0.0 (omega (arith, s.0.1, s.0.2))
 
-  pub check_near : (every round : ℕ) (spans : List (ℕ × ℕ)) → InImage at base d at_is top small spans → every ≤ 2048 → list_all is (check base every round spans) ≡ true
+  pub check_near : (every round : ℕ) (spans : List (ℕ × ℕ)) → InImage at base d at_is top small spans → every ≤ 2048 → list_all near_code (check base every round spans) ≡ true
   check_near every round spans s few =
       let first = first_word base spans in
       let n = first_near spans s in
@@ -160,23 +160,23 @@ module _ (at base d : ℕ) (at_is : at ≡ base + 3 * d) (top : base + 3 * d + 1
       let four : List Item = visit round spans ++ five in
       let three : List Item = begun first ++ four in
       let two : List Item = compare ++ three in
-      both_all is (parted base) (called ++ two) parted_near
-      (both_all is called two called_near
-      (both_all is compare three (words.compare_near at base d at_is top small)
-      (both_all is (begun first) four (begun_near first n)
-      (both_all is (visit round spans) five (words.visit_near at base d at_is top small round spans s)
-      (both_all is (done first every) look_up (done_near first every n few) look_near)))))
+      both_all near_code (parted base) (called ++ two) parted_near
+      (both_all near_code called two called_near
+      (both_all near_code compare three (words.compare_near at base d at_is top small)
+      (both_all near_code (begun first) four (begun_near first n)
+      (both_all near_code (visit round spans) five (words.visit_near at base d at_is top small round spans s)
+      (both_all near_code (done first every) look_up (done_near first every n few) look_near)))))
 
-  pub begin_near : (a : ℕ) → d % 4096 ≡ 0 → base ≤ a → a ≤ base + d → list_all is (begin d a) ≡ true
+  pub begin_near : (a : ℕ) → d % 4096 ≡ 0 → base ≤ a → a ≤ base + d → list_all near_code (begin d a) ≡ true
   begin_near a grain low high =
       let two : List Item = Plain (ins Addi 15 0 0 (neg_ℤ (pos 1))) ∷ Go a ∷ [] in
       let last : List Item = Plain (ins Lui 14 0 0 (pos d)) ∷ Constant 16 a ∷ two in
-      both_all is (zero_from 1 13) (zero_from 17 13 ++ last) (words.zeros_near at base d at_is top small)
-      (both_all is (zero_from 17 13) last (words.pairs_near at base d at_is top small)
+      both_all near_code (zero_from 1 13) (zero_from 17 13 ++ last) (words.zeros_near at base d at_is top small)
+      (both_all near_code (zero_from 17 13) last (words.pairs_near at base d at_is top small)
       (plain (ins Lui 14 0 0 (pos d)) (Constant 16 a ∷ two) (lui_word 14 d (omega arith) grain (omega (arith, small)))
       (sets 16 a two (omega arith) (place a low high) (plain (ins Addi 15 0 0 (neg_ℤ (pos 1))) (Go a ∷ []) (every_word 1 (omega arith)) refl))))
 
-  pub tick_near : (most : ℕ) (z : ℤ) → most < 2048 → has_word (ins Jal 0 0 0 z) ≡ true → list_all is (tick most z) ≡ true
+  pub tick_near : (most : ℕ) (z : ℤ) → most < 2048 → has_word (ins Jal 0 0 0 z) ≡ true → list_all near_code (tick most z) ≡ true
   unfolding encode_of word_of
   tick_near most z few h =
       let call : List Item = Plain (ins Jal 31 0 0 z) ∷ fired_check ∷ [] in
@@ -184,22 +184,22 @@ module _ (at base d : ℕ) (at_is : at ≡ base + 3 * d) (top : base + 3 * d + 1
       (plain (ins Blt 0 15 0 (pos 12)) call refl (plain (ins Jal 31 0 0 z) (fired_check ∷ []) (jal_as z h) refl))
 
   -- ---- the leaves
-  module _ (before : List Item) (fall : ℕ → List Item) (before_near : list_all is before ≡ true) (fall_near : (t : ℕ) → list_all is (fall t) ≡ true) (a : ℕ) (low : base ≤ a) (high : a ≤ base + d) where
-    sign_near : list_all is (check_sign a) ≡ true
+  module _ (before : List Item) (fall : ℕ → List Item) (before_near : list_all near_code before ≡ true) (fall_near : (t : ℕ) → list_all near_code (fall t) ≡ true) (a : ℕ) (low : base ≤ a) (high : a ≤ base + d) where
+    sign_near : list_all near_code (check_sign a) ≡ true
     unfolding encode_of word_of
     sign_near = sets 30 a (Plain (ins Sub 31 16 30 (pos 0)) ∷ Plain (ins Slli 31 31 0 (pos 32)) ∷ Plain (ins Beq 0 31 0 (pos 8)) ∷ fired_check ∷ []) (omega arith) (place a low high) refl
 
-    end_near : (i : Ins) → has_word i ≡ true → list_all is (leave_as before fall class.End i a 0) ≡ true
+    end_near : (i : Ins) → has_word i ≡ true → list_all near_code (leave_as before fall class.End i a 0) ≡ true
     end_near i k =
         let last : List Item = before ++ (Plain i ∷ []) in
-        both_all is compare (check_sign a ++ last) (words.compare_near at base d at_is top small) (both_all is (check_sign a) last sign_near (both_all is before (Plain i ∷ []) before_near (plain i [] k refl)))
+        both_all near_code compare (check_sign a ++ last) (words.compare_near at base d at_is top small) (both_all near_code (check_sign a) last sign_near (both_all near_code before (Plain i ∷ []) before_near (plain i [] k refl)))
 
-    jump_near : (i : Ins) (x : ℕ) → class_of i.kind ≡ class.Jump → KnownEnd at base d at_is top small i x → list_all is (leave_as before fall class.Jump i a x) ≡ true
+    jump_near : (i : Ins) (x : ℕ) → class_of i.kind ≡ class.Jump → KnownEnd at base d at_is top small i x → list_all near_code (leave_as before fall class.Jump i a x) ≡ true
     jump_near i x c k =
-        both_all is (links i x) (goes a (target i x)) (words.links_near at base d at_is top small i x k)
+        both_all near_code (links i x) (goes a (target i x)) (words.links_near at base d at_is top small i x k)
         (goes_near a (target i x) low high (words.goal_near at base d at_is top small i x 21 k (jump_imm i c k.word) (omega arith)))
 
-    branch_near : (i : Ins) (x : ℕ) → class_of i.kind ≡ class.Branch → KnownEnd at base d at_is top small i x → list_all is (leave_as before fall class.Branch i a x) ≡ true
+    branch_near : (i : Ins) (x : ℕ) → class_of i.kind ≡ class.Branch → KnownEnd at base d at_is top small i x → list_all near_code (leave_as before fall class.Branch i a x) ≡ true
     branch_near i x c k =
         let n = (x + 4) % 2 ^ 64 in
         let t = target i x in
@@ -209,11 +209,11 @@ module _ (at base d : ℕ) (at_is : at ≡ base + 3 * d) (top : base + 3 * d + 1
         let small_size : (4 + sum_of_sizes false (goes a t) < 4096) × ((4 + sum_of_sizes false (goes a t)) % 2 ≡ 0) = ⊎_elim (λ e. (omega (arith, e), omega (arith, e))) (λ h. ⊎_elim (λ e. (omega (arith, e), omega (arith, e))) (λ e. (omega (arith, e), omega (arith, e))) h) (goes_size a t) in
         let ways : List Item = turn a n ++ fall n in
         let over : List Item = goes a t ++ ways in
-        both_all is (guards_of i) (Plain (ins (opposite i.kind) 0 i.rs1 i.rs2 (pos (4 + size))) ∷ over) (words.guards_of_near at base d at_is top small i k.low.1 k.low.2)
+        both_all near_code (guards_of i) (Plain (ins (opposite i.kind) 0 i.rs1 i.rs2 (pos (4 + size))) ∷ over) (words.guards_of_near at base d at_is top small i k.low.1 k.low.2)
         (plain (ins (opposite i.kind) 0 i.rs1 i.rs2 (pos (4 + size))) over (branch_word (opposite i.kind) i.rs1 i.rs2 (4 + size) (opposite_is i.kind c).0 (lt-ltb i.rs1 32 (let l = k.low.1 in omega (arith, l))) (lt-ltb i.rs2 32 (let l = k.low.2 in omega (arith, l))) small_size.0 small_size.1)
-        (both_all is (goes a t) ways (goes_near a t low high far) (both_all is (turn a n) (fall n) (turn_near a n low high next) (fall_near n))))
+        (both_all near_code (goes a t) ways (goes_near a t low high far) (both_all near_code (turn a n) (fall n) (turn_near a n low high next) (fall_near n))))
 
-    even_words : list_all is (Plain (ins Andi 30 30 0 (neg_ℤ (pos 2))) ∷ []) ≡ true
+    even_words : list_all near_code (Plain (ins Andi 30 30 0 (neg_ℤ (pos 2))) ∷ []) ≡ true
     unfolding encode_of word_of
     even_words = refl
 
@@ -225,7 +225,7 @@ module _ (at base d : ℕ) (at_is : at ≡ base + 3 * d) (top : base + 3 * d + 1
     unfolding encode_of word_of
     sub_word = refl
 
-    leap_near : (i : Ins) (x : ℕ) → class_of i.kind ≡ class.JumpReg → KnownEnd at base d at_is top small i x → list_all is (leave_as before fall class.JumpReg i a x) ≡ true
+    leap_near : (i : Ins) (x : ℕ) → class_of i.kind ≡ class.JumpReg → KnownEnd at base d at_is top small i x → list_all near_code (leave_as before fall class.JumpReg i a x) ≡ true
     leap_near i x c k =
         let z = leap_imm i c k.word in
         let r1 = k.low.1 in
@@ -239,20 +239,20 @@ module _ (at base d : ℕ) (at_is : at ≡ base + 3 * d) (top : base + 3 * d + 1
         (plain (ins Andi 16 16 0 (neg_ℤ (pos 2))) away even_word
         (sets 30 a (Plain (ins Sub 16 16 30 (pos 0)) ∷ guarded) (omega arith) (place a low high)
         (plain (ins Sub 16 16 30 (pos 0)) guarded sub_word
-        (both_all is (guard i.rs1) goal (words.guard_near at base d at_is top small i.rs1 k.low.1)
+        (both_all near_code (guard i.rs1) goal (words.guard_near at base d at_is top small i.rs1 k.low.1)
         (plain (ins Addi 30 i.rs1 0 i.imm) (Plain (ins Andi 30 30 0 (neg_ℤ (pos 2))) ∷ last) (addi_word 30 i.rs1 i.imm (omega arith) (omega (arith, r1)) z)
-        (both_all is (Plain (ins Andi 30 30 0 (neg_ℤ (pos 2))) ∷ []) last even_words (both_all is (links i x) look_up (words.links_near at base d at_is top small i x k) look_near))))))))
+        (both_all near_code (Plain (ins Andi 30 30 0 (neg_ℤ (pos 2))) ∷ []) last even_words (both_all near_code (links i x) look_up (words.links_near at base d at_is top small i x k) look_near))))))))
 
-    stop_near : (c : Class) (i : Ins) (x : ℕ) → class_of i.kind ≡ c → KnownEnd at base d at_is top small i x → list_all is (leave_as before fall c i a x) ≡ true
+    stop_near : (c : Class) (i : Ins) (x : ℕ) → class_of i.kind ≡ c → KnownEnd at base d at_is top small i x → list_all near_code (leave_as before fall c i a x) ≡ true
     stop_near class.End i x e k = end_near i k.word
     stop_near class.Jump i x e k = jump_near i x e k
     stop_near class.Branch i x e k = branch_near i x e k
     stop_near class.JumpReg i x e k = leap_near i x e k
     stop_near _ i x e k = plain i [] k.word refl
 
-    pub leave_near : (e : End) (x : ℕ) → IsKnownEnd at base d at_is top small e x → list_all is (leave before fall e a x) ≡ true
-    leave_near Falls x k = both_all is (turn a x) (fall x) (turn_near a x low high (place x k.0 k.1)) (fall_near x)
+    pub leave_near : (e : End) (x : ℕ) → IsKnownEnd at base d at_is top small e x → list_all near_code (leave before fall e a x) ≡ true
+    leave_near Falls x k = both_all near_code (turn a x) (fall x) (turn_near a x low high (place x k.0 k.1)) (fall_near x)
     leave_near (Stops i) x k = stop_near (class_of i.kind) i x refl k
 
-  pub before_near : (form : Form) → InImage at base d at_is top small form.spans → list_all is (before_end form) ≡ true
-  before_near form s = if_all is form.sweep (sweep form.spans ++ compare) [] (λ e. both_all is (sweep form.spans) compare (words.sweep_near at base d at_is top small form.spans s) (words.compare_near at base d at_is top small)) (λ e. refl)
+  pub before_near : (form : Form) → InImage at base d at_is top small form.spans → list_all near_code (before_end form) ≡ true
+  before_near form s = if_all near_code form.sweep (sweep form.spans ++ compare) [] (λ e. both_all near_code (sweep form.spans) compare (words.sweep_near at base d at_is top small form.spans s) (words.compare_near at base d at_is top small)) (λ e. refl)

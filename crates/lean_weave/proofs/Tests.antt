@@ -84,8 +84,8 @@ module _ (f : ElfFile) (o : Options) (every : ℕ) (blocks : List Block) (t : Ar
   abbrev bounds : (d % 4096 ≡ 0) × (d ≤ 536870912)
   bounds = there.bounds f o t.sound t.file.loads t.admitted blocks t.are
 
-  abbrev is : Item → Bool
-  is = is_near at down up
+  abbrev near_code : Item → Bool
+  near_code = is_near at down up
 
   spans : InImage at base d refl top bounds.1 (data_ranges (image_of f))
   spans = there.spans_there f o t.sound t.file.loads t.admitted blocks t.are (data_ranges (image_of f)) (λ r m. m)
@@ -145,17 +145,17 @@ module _ (f : ElfFile) (o : Options) (every : ℕ) (blocks : List Block) (t : Ar
         (omega (arith, top, whole, size, long)) (omega (arith, whole, size)) (omega (arith, g)) (omega (arith, c, k))
 
     -- ---- the blocks
-    fall_near : (a : ℕ) → list_all is (fall_words (begins_at blocks) a) ≡ true
-    fall_near a = if_all is (begins_at blocks a) [] (Go a ∷ []) (λ e. refl) (λ e. refl)
+    fall_near : (a : ℕ) → list_all near_code (fall_words (begins_at blocks) a) ≡ true
+    fall_near a = if_all near_code (begins_at blocks a) [] (Go a ∷ []) (λ e. refl) (λ e. refl)
 
-    pieces_near : (ps : List (List Ins)) (a : ℕ) → AllPieces at base d refl top bounds.1 ps a → list_all is (pieces_of (s placed_at) ps a) ≡ true
+    pieces_near : (ps : List (List Ins)) (a : ℕ) → AllPieces at base d refl top bounds.1 ps a → list_all near_code (pieces_of (s placed_at) ps a) ≡ true
     pieces_near [] a k = refl
     pieces_near (p ∷ ps) a k =
-        both_all is (each_part original p a ++ each_part (mirror_of o.diverse) p a) (pieces_of (s placed_at) ps (a + 4 * length p))
-        (both_all is (each_part original p a) (each_part (mirror_of o.diverse) p a) (words.each_near at base d refl top bounds.1 original (words.original_near at base d refl top bounds.1) p a k.0) (words.each_near at base d refl top bounds.1 (mirror_of o.diverse) (there.mirrors_near f o t.sound t.file.loads t.admitted blocks t.are o.diverse) p a k.0))
+        both_all near_code (each_part original p a ++ each_part (mirror_of o.diverse) p a) (pieces_of (s placed_at) ps (a + 4 * length p))
+        (both_all near_code (each_part original p a) (each_part (mirror_of o.diverse) p a) (words.each_near at base d refl top bounds.1 original (words.original_near at base d refl top bounds.1) p a k.0) (words.each_near at base d refl top bounds.1 (mirror_of o.diverse) (there.mirrors_near f o t.sound t.file.loads t.admitted blocks t.are o.diverse) p a k.0))
         (pieces_near ps (a + 4 * length p) k.1)
 
-    block_near : (b : Block) → Among b blocks → IsKnownBlock at base d refl top bounds.1 b → list_all is (block_items (s placed_at) b) ≡ true
+    block_near : (b : Block) → Among b blocks → IsKnownBlock at base d refl top bounds.1 b → list_all near_code (block_items (s placed_at) b) ≡ true
     block_near b m k =
         let n = b.start + 4 * body_length b.body in
         let a = start_at blocks b.end (b.start + 4 * body_length b.body) in
@@ -163,14 +163,14 @@ module _ (f : ElfFile) (o : Options) (every : ℕ) (blocks : List Block) (t : Ar
         let counts = steps f o some_most blocks t.are t.reached grain (of.ascend f o t.sound t.file.loads t.admitted blocks t.are) o.diverse (begins_at blocks) b m in
         let short = all_among (λ x. block_steps o.diverse (begins_at blocks) x < every) b blocks t.short m in
         let few = t.few in
-        both_all is ((s placed_at).enter b.start) (body_of (s placed_at) b.body b.end b.start) (tick_near at base d refl top bounds.1 (l.most b.start) (distance_between (placed_at b.start + 8) l.check) (omega (arith, counts, short, few)) (calls b.start (begins blocks b m)))
-        (both_all is (pieces_of (s placed_at) b.body b.start) (leave (before_end form) (fall_words (begins_at blocks)) b.end a n) (pieces_near b.body b.start k.2)
+        both_all near_code ((s placed_at).enter b.start) (body_of (s placed_at) b.body b.end b.start) (tick_near at base d refl top bounds.1 (l.most b.start) (distance_between (placed_at b.start + 8) l.check) (omega (arith, counts, short, few)) (calls b.start (begins blocks b m)))
+        (both_all near_code (pieces_of (s placed_at) b.body b.start) (leave (before_end form) (fall_words (begins_at blocks)) b.end a n) (pieces_near b.body b.start k.2)
         (leave_near at base d refl top bounds.1 (before_end form) (fall_words (begins_at blocks)) (before_near at base d refl top bounds.1 form spans) fall_near a (let low = k.0 in omega (arith, own, low)) (let high = k.1 in omega (arith, own, high)) b.end n k.3))
 
-    entries_near : (bs : List Block) → ((b : Block) → Among b bs → Among b blocks) → All (IsKnownBlock at base d refl top bounds.1) bs → list_all is (entries_of (s placed_at) bs) ≡ true
+    entries_near : (bs : List Block) → ((b : Block) → Among b bs → Among b blocks) → All (IsKnownBlock at base d refl top bounds.1) bs → list_all near_code (entries_of (s placed_at) bs) ≡ true
     entries_near [] h k = refl
     entries_near (b ∷ bs) h k =
-        both_all is (block_items (s placed_at) b) (entries_of (s placed_at) bs) (block_near b (h b (inl refl)) (All-head (IsKnownBlock at base d refl top bounds.1) b bs k))
+        both_all near_code (block_items (s placed_at) b) (entries_of (s placed_at) bs) (block_near b (h b (inl refl)) (All-head (IsKnownBlock at base d refl top bounds.1) b bs k))
         (entries_near bs (λ c m. h c (inr m)) (All-tail (IsKnownBlock at base d refl top bounds.1) b bs k))
 
     -- ---- all of it
@@ -180,19 +180,19 @@ module _ (f : ElfFile) (o : Options) (every : ℕ) (blocks : List Block) (t : Ar
     joined : front ++ stub ≡ lean_items f o every blocks
     joined = append_assoc first (entries_of (s placed_at) blocks) stub
 
-    all_near : list_all is (lean_items f o every blocks) ≡ true
+    all_near : list_all near_code (lean_items f o every blocks) ≡ true
     all_near =
         let b = there.in_bounds f o t.sound t.file.loads t.admitted blocks t.are f.entry t.admitted.entry in
         let high = b.1 in
-        both_all is first (entries_of (s placed_at) blocks ++ stub)
-        (both_all is (begin d f.entry) (check base every form.round form.spans) (begin_near at base d refl top bounds.1 f.entry bounds.0 b.0 (omega (arith, high))) (check_near at base d refl top bounds.1 every form.round form.spans spans t.few))
-        (both_all is (entries_of (s placed_at) blocks) stub (entries_near blocks (λ b m. m) (there.blocks_there f o t.sound t.file.loads t.admitted blocks t.are blocks t.are.each)) (words.stub_near at base d refl top bounds.1))
+        both_all near_code first (entries_of (s placed_at) blocks ++ stub)
+        (both_all near_code (begin d f.entry) (check base every form.round form.spans) (begin_near at base d refl top bounds.1 f.entry bounds.0 b.0 (omega (arith, high))) (check_near at base d refl top bounds.1 every form.round form.spans spans t.few))
+        (both_all near_code (entries_of (s placed_at) blocks) stub (entries_near blocks (λ b m. m) (there.blocks_there f o t.sound t.file.loads t.admitted blocks t.are blocks t.are.each)) (words.stub_near at base d refl top bounds.1))
 
     have_words : (ws : List ℕ) × IsLeanTest f o every blocks ws
     have_words =
         let same : sum_of_sizes false (front ++ stub) ≡ sum_of_sizes false (lean_items f o every blocks) = ap (sum_of_sizes false) joined in
         let near : IsNearCode false at (sum_of_sizes false (front ++ stub)) down up = record { grain = code_grain; top = omega (arith, top, size, same); short = omega (arith, size, same); below = omega (arith, size, same); above = omega arith } in
-        let all : list_all is (front ++ stub) ≡ true = ap (list_all is) joined ∙ all_near in
+        let all : list_all near_code (front ++ stub) ≡ true = ap (list_all near_code) joined ∙ all_near in
         let words : list_all has_word (placed false at (lean_items f o every blocks)) ≡ true = subst (λ xs. list_all has_word (placed false at xs) ≡ true) joined (near_words false at down up front (ins Illegal 0 0 0 (pos 0)) near all) in
         let r = there.all_words (placed false at (lean_items f o every blocks)) words in
         (r.0, record { cut = t; size = size; small = r.1; code = r.2 })
@@ -282,9 +282,6 @@ module _ (f : ElfFile) (o : Options) (every : ℕ) (blocks : List Block) (t : Ar
         table = λ a e. of.table_at f o t.sound t.file.loads t.admitted blocks t.are false true items words are_items reached aims refl a e;
         within = λ a e. let b = of.block_bounds f o t.sound t.file.loads t.admitted blocks t.are a e in let h = of.half_small (image_of f) o.half t.admitted.span t.sound.half in omega (arith, b.1, h);
       } where
-        middle : List Item
-        middle = check base every form.round form.spans
-
         check_reads : Reads false w.code w.entry l.check (check base every form.round form.spans)
         check_reads =
             let rest = entries_of (s w.entry) blocks ++ stub in

@@ -22,22 +22,23 @@ pub fn lean_clean()
     ensures { LeanClean }
 {}
 
-/// The lean form of an admitted test has words, where it has no more bytes than a JAL spans.
+/// The lean form of an admitted test, whose blocks have fewer steps than there are from check to check, has words, where it has no more
+/// bytes than a JAL spans.
 pub fn lean_tests_have_words()
     ensures { LeanTestsHaveWords }
 {}
 
-/// The lean form of an admitted test, whose blocks have fewer steps than there are from check to check, keeps the test's values.
+/// Then it keeps the test's values.
 pub fn lean_tests_kept()
     ensures { LeanTestsKept }
 {}
 
-/// And changes are caught in it.
+/// Changes are caught in it.
 pub fn lean_tests_caught()
     ensures { LeanTestsCaught }
 {}
 
-/// And with the sweep no change before it is silent at the end.
+/// With the sweep no change before it is silent at the end.
 pub fn lean_tests_clean()
     ensures { LeanTestsClean }
 {}
