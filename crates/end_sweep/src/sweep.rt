@@ -39,9 +39,11 @@ fn put_range(range: Range, out: &mut Emit) -> Result<(), AllocError>
     Ok(())
 }
 
-/// Appends those of all ranges.
+/// Appends the comparisons of the data words of all ranges with their duplicates.
+///
+/// Errors: want of memory, and then the first of them are appended.
 #[tactic(auto, using(passes::specs::Emitted::part_none, passes::specs::Emitted::done_none, passes::specs::Emitted::done_more, passes::specs::Emitted::done_part, passes::specs::Emitted::done_all))]
-fn put_ranges(spans: &[Range], out: &mut Emit) -> Result<(), AllocError>
+pub fn put_sweep(spans: &[Range], out: &mut Emit) -> Result<(), AllocError>
     ensures all { OnOk result (out.new ≡ out.old ++ sweep (spans_of spans.now)) }
     ensures part { OnErr result (AppendsPart out.old out.new (sweep (spans_of spans.now))) }
 {
@@ -57,7 +59,7 @@ fn put_checks(spans: &[Range], ins: &Ins, at: u64, out: &mut Emit) -> Result<(),
     ensures all { OnOk result (out.new ≡ out.old ++ (sweep (spans_of spans.now) ++ compare)) }
     ensures part { OnErr result (AppendsPart out.old out.new (sweep (spans_of spans.now) ++ compare)) }
 {
-    put_ranges(spans, out)?;
+    put_sweep(spans, out)?;
     CompareAll.emit(ins, at, out)?;
     Ok(())
 }

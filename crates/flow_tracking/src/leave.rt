@@ -20,8 +20,8 @@ pub struct Leave {
     pub far: bool,
 }
 
-/// pc + immediate.
-fn target(ins: &Ins, at: u64) -> u64
+/// pc + immediate, modulo 2^64.
+pub fn target(ins: &Ins, at: u64) -> u64
     ensures { result ≡ target_of ins.now at }
 {
     at.wrapping_add(ins.imm.cast_unsigned())
@@ -36,8 +36,10 @@ fn put_go_on(next: u64, out: &mut Emit) -> Result<(), AllocError>
     Ok(())
 }
 
-/// The return address of a jump, in rd and in its pair.
-fn put_links(ins: &Ins, at: u64, out: &mut Emit) -> Result<(), AllocError>
+/// Appends the return address of a jump, in rd up to x13 and in its pair.
+///
+/// Errors: want of memory, and then nothing is appended.
+pub fn put_links(ins: &Ins, at: u64, out: &mut Emit) -> Result<(), AllocError>
     requires { ins.now.rd ≤ 13 }
     ensures all { OnOk result (out.new ≡ out.old ++ links_of ins.now at) }
     ensures none { OnErr result (out.new ≡ out.old) }
@@ -53,9 +55,11 @@ fn put_links(ins: &Ins, at: u64, out: &mut Emit) -> Result<(), AllocError>
     Ok(())
 }
 
-/// The guards of both source registers.
+/// Appends the comparisons of both source registers, up to x13, with their pairs.
+///
+/// Errors: want of memory, and then the first of them are appended.
 #[tactic(auto, using(passes::specs::Emitted::part_none, passes::specs::Emitted::part_first, passes::specs::Emitted::part_second))]
-fn put_guards_of(ins: &Ins, out: &mut Emit) -> Result<(), AllocError>
+pub fn put_guards_of(ins: &Ins, out: &mut Emit) -> Result<(), AllocError>
     requires rs1 { ins.now.rs1 ≤ 13 }
     requires rs2 { ins.now.rs2 ≤ 13 }
     ensures all { OnOk result (out.new ≡ out.old ++ guards_of ins.now) }
@@ -121,14 +125,13 @@ fn put_branch(ins: &Ins, at: u64, far: bool, out: &mut Emit) -> Result<(), Alloc
     Ok(())
 }
 
-/// The look-up of a target in the table, and the jump.
-#[tactic(auto, using(passes::specs::Emitted::part_none, passes::specs::Emitted::part_first, passes::specs::Emitted::part_second))]
-fn put_look_up(ins: &Ins, at: u64, out: &mut Emit) -> Result<(), AllocError>
-    requires { ins.now.rd ≤ 13 }
-    ensures all { OnOk result (out.new ≡ out.old ++ (links_of ins.now at ++ look_up)) }
-    ensures part { OnErr result (AppendsPart out.old out.new (links_of ins.now at ++ look_up)) }
+/// Appends the look-up of the target in x30 in the table, and the jump.
+///
+/// Errors: want of memory, and then nothing is appended.
+pub fn put_look_up(out: &mut Emit) -> Result<(), AllocError>
+    ensures all { OnOk result (out.new ≡ out.old ++ look_up) }
+    ensures none { OnErr result (out.new ≡ out.old) }
 {
-    put_links(ins, at, out)?;
     let zero = register(0);
     let half = register(14);
     let to = register(30);
@@ -140,6 +143,18 @@ fn put_look_up(ins: &Ins, at: u64, out: &mut Emit) -> Result<(), AllocError>
         plain(Kind::Add, to, to, place, 0),
         plain(Kind::Jalr, zero, to, zero, 0),
     ])?;
+    Ok(())
+}
+
+/// The return address of a JALR, the look-up of its target, and the jump.
+#[tactic(auto, using(passes::specs::Emitted::part_none, passes::specs::Emitted::part_first, passes::specs::Emitted::part_second))]
+fn put_linked(ins: &Ins, at: u64, out: &mut Emit) -> Result<(), AllocError>
+    requires { ins.now.rd ≤ 13 }
+    ensures all { OnOk result (out.new ≡ out.old ++ (links_of ins.now at ++ look_up)) }
+    ensures part { OnErr result (AppendsPart out.old out.new (links_of ins.now at ++ look_up)) }
+{
+    put_links(ins, at, out)?;
+    put_look_up(out)?;
     Ok(())
 }
 
@@ -156,7 +171,7 @@ fn put_aim(ins: &Ins, at: u64, out: &mut Emit) -> Result<(), AllocError>
         plain(Kind::Addi, to, ins.rs1, register(0), ins.imm),
         plain(Kind::Andi, to, to, register(0), -2),
     ])?;
-    put_look_up(ins, at, out)?;
+    put_linked(ins, at, out)?;
     Ok(())
 }
 

@@ -47,7 +47,7 @@ short_fits a t h = by ((t + (2 ^ 64 - a)) % 2 ^ 64) (omega arith) (nat_lt ((t + 
   by x lt false e h = let g = ltb-false x (2 ^ 63) e in let k = ltb-true ((wrapped (negsuc (2 ^ 64 - suc x)) + 2048) % 2 ^ 64) 4096 h in lt-ltb (2 ^ 64 - suc x) 2048 (omega (arith, k, lt, g))
 
 -- how far an address is from another, if it is near the new code behind both
-nearer :
+pub nearer :
     (a at t : ℕ) → a ≤ at → at ≤ a + 1610612736 → at < 2 ^ 63 → t < 2 ^ 64 → is_within at down up t ≡ true → is_within a 2147481600 2147481599 t ≡ true
 nearer a at t le few top lt h =
     let x = (t + (2 ^ 64 - at)) % 2 ^ 64 in

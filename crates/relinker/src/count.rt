@@ -4,6 +4,7 @@ ghost use Rattle.qed_model.specs.declared.item.Item.{Item};
 ghost use Rattle.qed_model.specs.Weave.Placed.{size_of, sum_of_sizes, rows_from};
 ghost use Rattle.relinker.specs.Counted.{capped, HasCounted};
 
+use crate::ItemSink;
 use passes::Emit;
 use qed_model::{EntryRow, Item};
 use std::alloc::{AllocError, Global};
@@ -96,5 +97,16 @@ impl Count {
         self.marks.extend_from_slice(&marks)?;
         self.bytes = self.bytes.saturating_add(size_of_all(self.far, items));
         Ok(())
+    }
+}
+
+impl ItemSink for Count {
+    ghost use Rattle.std.specs.Prelude.{◌≡◌};
+    ghost use Rattle.relinker.specs.Counted.{HasCounted};
+
+    ghost took = { λ count form done rest. (count.far ≡ form.0) × HasCounted count done };
+
+    fn take(&mut self, items: &Emit) -> Result<(), AllocError> {
+        self.add(items)
     }
 }

@@ -94,6 +94,20 @@ pub fn lay(alloc: Global, count: Count, base: u64) -> Result<Layout, LinkError>
 }
 
 impl Layout {
+    /// Where all entries are.
+    pub fn entries(&self) -> &[EntryRow]
+        ensures { result.now ≡ self.now.entries.items }
+    {
+        &self.entries
+    }
+
+    /// Where the stub is.
+    pub fn last(&self) -> u64
+        ensures { result ≡ self.now.last }
+    {
+        self.last
+    }
+
     /// Appends the words of items, which are the next that were counted. It takes no memory.
     pub fn add(&mut self, items: &Emit)
         requires { ComeNext (IsLaidIn self.old) items.now }

@@ -15,3 +15,4 @@ pub use layout::{Layout, Linked, lay, link};
 pub use parts::parts_join;
 pub use search::place_of;
 pub use sink::ItemSink;
+pub use write::{distance_between, upper_part};

@@ -13,14 +13,14 @@ use rv_encode::encode;
 use rv_isa::{Ins, Kind, Reg};
 
 /// The distance from one address to another, modulo 2^64 and read as signed.
-fn distance_between(from: u64, to: u64) -> i64
+pub fn distance_between(from: u64, to: u64) -> i64
     ensures { result ≡ distance_of from to }
 {
     to.wrapping_sub(from).cast_signed()
 }
 
-/// The part of a distance that AUIPC adds.
-fn upper_part(distance: i64) -> i64
+/// The part of a distance that AUIPC adds, a multiple of 4096; the rest is from -2048 to 2047.
+pub fn upper_part(distance: i64) -> i64
     requires { distance ≤ℤ pos (2 ^ 63 - 2049) }
     ensures { result ≡ upper_of distance }
 {

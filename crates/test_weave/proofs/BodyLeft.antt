@@ -6,8 +6,8 @@ use Rattle.std.proofs.lemmas.List.Sums.{sum_by-cons}
 use Rattle.rv_isa.specs.declared.ins.Ins.{Ins}
 use Rattle.qed_model.specs.declared.item.Item.{Item}
 use Rattle.qed_model.specs.Weave.Pieces.{divided}
-use Rattle.qed_model.specs.Weave.Sequences.{Form, piece, body_length}
-use Rattle.qed_model.specs.Weave.Code.{pieces_of, sequences}
+use Rattle.qed_model.specs.Weave.Sequences.{body_length}
+use Rattle.qed_model.specs.Weave.Code.{Sequences, pieces_of}
 use Rattle.weave_core.specs.Blocks.{AllFit}
 use Rattle.relinker.specs.Sink.{ComeNext, Takes}
 use Rattle.test_weave.proofs.Taking.{TakenUpTo, come_first, taken_more}
@@ -40,25 +40,25 @@ left_on n ns is at l =
     let low = l.low in
     record { fits = drop_fits n is l.fits; whole = omega (arith, w, d); low = omega (arith, w, d, low) }
 
-module _ (form : Form) where
-  piece_next : (n : ℕ) (ns : List ℕ) (is : List Ins) (at : ℕ) → Left (n ∷ ns) is at → pieces_of (sequences form) (divided (n ∷ ns) is) at ≡ piece form (take n is) at ++ pieces_of (sequences form) (divided ns (drop n is)) (at + 4 * n)
+module _ (s : Sequences) where
+  piece_next : (n : ℕ) (ns : List ℕ) (is : List Ins) (at : ℕ) → Left (n ∷ ns) is at → pieces_of s (divided (n ∷ ns) is) at ≡ s.piece (take n is) at ++ pieces_of s (divided ns (drop n is)) (at + 4 * n)
   piece_next n ns is at l =
       let w : n + sum ns ≡ length is = sym (sum_by-cons (λ n. n) n ns) ∙ l.whole in
       let t : length (take n is) ≡ n = length-take-le n is (omega (arith, w)) in
-      ap (λ m. piece form (take n is) at ++ pieces_of (sequences form) (divided ns (drop n is)) (at + 4 * m)) t
+      ap (λ m. s.piece (take n is) at ++ pieces_of s (divided ns (drop n is)) (at + 4 * m)) t
 
   -- the next piece comes next
   pub piece_comes :
-      (t : Bool × ℕ → List Item → List Item → Type 0) (n : ℕ) (ns : List ℕ) (is : List Ins) (at : ℕ) → Left (n ∷ ns) is at → ComeNext t (pieces_of (sequences form) (divided (n ∷ ns) is) at)
-      → ComeNext t (piece form (take n is) at)
-  piece_comes t n ns is at l c = come_first t (piece form (take n is) at) (pieces_of (sequences form) (divided ns (drop n is)) (at + 4 * n)) (subst (ComeNext t) (piece_next n ns is at l) c)
+      (t : Bool × ℕ → List Item → List Item → Type 0) (n : ℕ) (ns : List ℕ) (is : List Ins) (at : ℕ) → Left (n ∷ ns) is at → ComeNext t (pieces_of s (divided (n ∷ ns) is) at)
+      → ComeNext t (s.piece (take n is) at)
+  piece_comes t n ns is at l c = come_first t (s.piece (take n is) at) (pieces_of s (divided ns (drop n is)) (at + 4 * n)) (subst (ComeNext t) (piece_next n ns is at l) c)
 
   -- and behind it the others
   pub more_pieces :
       (old now new : Bool × ℕ → List Item → List Item → Type 0) (all : List Item) (n : ℕ) (ns : List ℕ) (is : List Ins) (at : ℕ) → Left (n ∷ ns) is at
-      → TakenUpTo old now all (pieces_of (sequences form) (divided (n ∷ ns) is) at) → Takes now new (piece form (take n is) at)
-      → TakenUpTo old new all (pieces_of (sequences form) (divided ns (drop n is)) (at + 4 * n))
-  more_pieces old now new all n ns is at l g took = taken_more old now new all (piece form (take n is) at) (pieces_of (sequences form) (divided ns (drop n is)) (at + 4 * n)) (subst (TakenUpTo old now all) (piece_next n ns is at l) g) took
+      → TakenUpTo old now all (pieces_of s (divided (n ∷ ns) is) at) → Takes now new (s.piece (take n is) at)
+      → TakenUpTo old new all (pieces_of s (divided ns (drop n is)) (at + 4 * n))
+  more_pieces old now new all n ns is at l g took = taken_more old now new all (s.piece (take n is) at) (pieces_of s (divided ns (drop n is)) (at + 4 * n)) (subst (TakenUpTo old now all) (piece_next n ns is at l) g) took
 
 -- ---- behind the pieces
 -- a body that is all in pieces

@@ -2,8 +2,8 @@
 use Rattle.std.specs.Prelude.{ℕ, Bool, List, ◌++◌, is_some}
 use Rattle.qed_model.specs.declared.item.Item.{Item}
 use Rattle.qed_model.specs.declared.options.Options.{Options}
-use Rattle.qed_model.specs.Weave.Sequences.{Form, Block, prologue}
-use Rattle.qed_model.specs.Weave.Code.{entries_of, sequences}
+use Rattle.qed_model.specs.Weave.Sequences.{Form, Block}
+use Rattle.qed_model.specs.Weave.Code.{Sequences, entries_of, sequences}
 use Rattle.qed_model.specs.Weave.Bounds.{cost_of}
 use Rattle.qed_model.specs.Weave.Woven.{mirror_of}
 use Rattle.test_weave.specs.declared.weaver.Weaver.{Weaver}
@@ -17,6 +17,10 @@ form_with spans o far = record { spans = spans; round = o.round; far = far; swee
 abbrev pub form : Weaver → Form
 form w = record { spans = spans_in w.pieces; round = round_in w.pieces; far = w.far; sweep = is_some w.sweep; mirror = mirror_of (is_diverse w.pieces); cost = cost_of (is_diverse w.pieces) }
 
--- the new code up to the stub: the prologue, and the entries of the blocks
+-- the new code up to the stub: what runs first, and the entries of the blocks
+abbrev pub parts_to_stub : Sequences → ℕ → ℕ → List Block → List Item
+parts_to_stub s d entry blocks = s.first d entry ++ entries_of s blocks
+
+-- that of a form
 abbrev pub items_to_stub : ℕ → ℕ → Form → List Block → List Item
-items_to_stub d entry form blocks = prologue d form.spans entry ++ entries_of (sequences form) blocks
+items_to_stub d entry form blocks = parts_to_stub (sequences form) d entry blocks

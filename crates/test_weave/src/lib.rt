@@ -11,9 +11,13 @@ mod parts;
 mod prologue;
 mod walk;
 mod weaver;
+mod weaving;
 
+pub use make::copied;
+pub use prologue::put_zeros;
 pub use walk::weave;
 pub use weaver::Weaver;
+pub use weaving::Weaving;
 
 /// The blocks of an admitted test can be woven.
 pub fn blocks_fit()

@@ -11,8 +11,10 @@ use pieces::{diverse_piece, piece};
 use qed_model::{Options, Ranges};
 use std::alloc::{AllocError, Global};
 
-/// The same ranges.
-fn copied(alloc: Global, span: &Ranges) -> Result<Ranges, AllocError>
+/// The same ranges once more.
+///
+/// Errors: want of memory.
+pub fn copied(alloc: Global, span: &Ranges) -> Result<Ranges, AllocError>
     ensures { IfOk result (λ copy. copy ≡ span.now) }
 {
     Ok(Listed::of(Vec::from_slice(alloc, span.as_slice())?))

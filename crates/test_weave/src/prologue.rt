@@ -13,8 +13,10 @@ use qed_model::{Item, Range};
 use rv_isa::{Ins, Kind};
 use std::alloc::AllocError;
 
-/// Sets so many registers from x`first` on to 0.
-fn put_zeros(first: u8, count: u8, out: &mut Emit) -> Result<(), AllocError>
+/// Appends what sets so many registers from x`first` on to 0.
+///
+/// Errors: want of memory. What is appended then is not told.
+pub fn put_zeros(first: u8, count: u8, out: &mut Emit) -> Result<(), AllocError>
     requires { first + count ≤ 32 }
     ensures { OnOk result (out.new ≡ out.old ++ zero_from first count) }
 {

@@ -1,15 +1,15 @@
 //! The new code, one part after the other.
-ghost use Rattle.std.specs.Prelude.{◌≡◌, ◌+◌, ◌*◌, ◌^◌, ◌<◌, ◌++◌, All, OnOk, length, map};
-ghost use Rattle.qed_model.specs.Weave.Sequences.{prologue, enter, piece, leave};
-ghost use Rattle.qed_model.specs.Weave.Code.{block_items, entries_of, sequences, pieces_of};
+ghost use Rattle.std.specs.Prelude.{◌≡◌, ◌+◌, ◌*◌, ◌^◌, ◌<◌, ◌∷◌, ◌++◌, All, OnOk, length, map};
+ghost use Rattle.qed_model.specs.declared.item.Item.TheVariants.{Mark};
+ghost use Rattle.qed_model.specs.Weave.Code.{block_items, entries_of, pieces_of};
 ghost use Rattle.qed_model.specs.Weave.Pieces.{divided};
 ghost use Rattle.weave_core.specs.Blocks.{AllFit};
 ghost use Rattle.block_list.specs.Listed.{block_of, end_of};
 ghost use Rattle.relinker.specs.Sink.{ComeNext, Takes};
-ghost use Rattle.test_weave.specs.Fits.{FitsBlock, FitsEnd};
-ghost use Rattle.test_weave.specs.Form.{form, items_to_stub};
+ghost use Rattle.test_weave.specs.Fits.{FitsBlock};
+ghost use Rattle.test_weave.specs.Form.{parts_to_stub};
 
-use crate::Weaver;
+use crate::Weaving;
 use block_list::CodeBlock;
 use passes::Emit;
 use relinker::ItemSink;
@@ -17,8 +17,8 @@ use rv_isa::Ins;
 use std::alloc::{AllocError, Global};
 
 /// Hands on a piece.
-fn weave_piece<S: ItemSink>(
-    weaver: &Weaver,
+fn weave_piece<W: Weaving, S: ItemSink>(
+    weaver: &W,
     list: &[Ins],
     at: u64,
     part: &mut Emit,
@@ -26,8 +26,8 @@ fn weave_piece<S: ItemSink>(
 ) -> Result<(), AllocError>
     requires fits { AllFit list.now }
     requires low { at + 4 * length list.now < 2 ^ 64 }
-    requires come { ComeNext (S.took sink.old) (piece (form weaver.now) list.now at) }
-    ensures { OnOk result (Takes (S.took sink.old) (S.took sink.new) (piece (form weaver.now) list.now at)) }
+    requires come { ComeNext (S.took sink.old) ((W.code weaver.now).piece list.now at) }
+    ensures { OnOk result (Takes (S.took sink.old) (S.took sink.new) ((W.code weaver.now).piece list.now at)) }
 {
     part.clear();
     weaver.piece(list, at, part)?;
@@ -37,15 +37,15 @@ fn weave_piece<S: ItemSink>(
 
 /// Hands on the pieces of a block.
 #[tactic(auto, using(crate::proofs::Taking::taken_none, crate::proofs::Taking::taken_all))]
-fn weave_pieces<S: ItemSink>(
-    weaver: &Weaver,
+fn weave_pieces<W: Weaving, S: ItemSink>(
+    weaver: &W,
     block: &CodeBlock,
     part: &mut Emit,
     sink: &mut S,
 ) -> Result<(), AllocError>
     requires fits { FitsBlock block.now }
-    requires come { ComeNext (S.took sink.old) (pieces_of (sequences (form weaver.now)) (divided block.now.lengths block.now.body) block.now.start) }
-    ensures { OnOk result (Takes (S.took sink.old) (S.took sink.new) (pieces_of (sequences (form weaver.now)) (divided block.now.lengths block.now.body) block.now.start)) }
+    requires come { ComeNext (S.took sink.old) (pieces_of (W.code weaver.now) (divided block.now.lengths block.now.body) block.now.start) }
+    ensures { OnOk result (Takes (S.took sink.old) (S.took sink.new) (pieces_of (W.code weaver.now) (divided block.now.lengths block.now.body) block.now.start)) }
 {
     let mut rest = block.body.as_slice();
     let mut at = block.start;
@@ -59,68 +59,71 @@ fn weave_pieces<S: ItemSink>(
 }
 
 /// Hands on the leave of a block.
-fn weave_leave<S: ItemSink>(
-    weaver: &Weaver,
-    end: &Option<Ins>,
-    at: u64,
-    part: &mut Emit,
-    sink: &mut S,
-) -> Result<(), AllocError>
-    requires fits { FitsEnd end.now }
-    requires come { ComeNext (S.took sink.old) (leave (form weaver.now) (end_of end.now) at) }
-    ensures { OnOk result (Takes (S.took sink.old) (S.took sink.new) (leave (form weaver.now) (end_of end.now) at)) }
-{
-    part.clear();
-    weaver.leave(end, at, part)?;
-    sink.take(part)?;
-    Ok(())
-}
-
-/// Hands on what begins an entry.
-fn weave_enter<S: ItemSink>(
-    weaver: &Weaver,
-    at: u64,
-    part: &mut Emit,
-    sink: &mut S,
-) -> Result<(), AllocError>
-    requires { ComeNext (S.took sink.old) (enter at) }
-    ensures { OnOk result (Takes (S.took sink.old) (S.took sink.new) (enter at)) }
-{
-    part.clear();
-    weaver.enter(at, part)?;
-    sink.take(part)?;
-    Ok(())
-}
-
-/// Hands on the entry of a block.
-fn weave_block<S: ItemSink>(
-    weaver: &Weaver,
+fn weave_leave<W: Weaving, S: ItemSink>(
+    weaver: &W,
     block: &CodeBlock,
     part: &mut Emit,
     sink: &mut S,
 ) -> Result<(), AllocError>
     requires fits { FitsBlock block.now }
-    requires come { ComeNext (S.took sink.old) (block_items (sequences (form weaver.now)) (block_of block.now)) }
-    ensures { OnOk result (Takes (S.took sink.old) (S.took sink.new) (block_items (sequences (form weaver.now)) (block_of block.now))) }
+    requires own { W.is_for weaver.now block.now }
+    requires come { ComeNext (S.took sink.old) ((W.code weaver.now).leave (end_of block.now.end) (block.now.start + 4 * length block.now.body)) }
+    ensures { OnOk result (Takes (S.took sink.old) (S.took sink.new) ((W.code weaver.now).leave (end_of block.now.end) (block.now.start + 4 * length block.now.body))) }
 {
-    weave_enter(weaver, block.start, part, sink)?;
+    part.clear();
+    weaver.leave(block, part)?;
+    sink.take(part)?;
+    Ok(())
+}
+
+/// Hands on the mark of a block, and what begins its entry.
+fn weave_enter<W: Weaving, S: ItemSink>(
+    weaver: &W,
+    block: &CodeBlock,
+    part: &mut Emit,
+    sink: &mut S,
+) -> Result<(), AllocError>
+    requires fits { FitsBlock block.now }
+    requires own { W.is_for weaver.now block.now }
+    requires come { ComeNext (S.took sink.old) (Mark block.now.start ∷ (W.code weaver.now).enter block.now.start) }
+    ensures { OnOk result (Takes (S.took sink.old) (S.took sink.new) (Mark block.now.start ∷ (W.code weaver.now).enter block.now.start)) }
+{
+    part.clear();
+    weaver.enter(block, part)?;
+    sink.take(part)?;
+    Ok(())
+}
+
+/// Hands on the entry of a block.
+fn weave_block<W: Weaving, S: ItemSink>(
+    weaver: &W,
+    block: &CodeBlock,
+    part: &mut Emit,
+    sink: &mut S,
+) -> Result<(), AllocError>
+    requires fits { FitsBlock block.now }
+    requires own { W.is_for weaver.now block.now }
+    requires come { ComeNext (S.took sink.old) (block_items (W.code weaver.now) (block_of block.now)) }
+    ensures { OnOk result (Takes (S.took sink.old) (S.took sink.new) (block_items (W.code weaver.now) (block_of block.now))) }
+{
+    weave_enter(weaver, block, part, sink)?;
     weave_pieces(weaver, block, part, sink)?;
-    let at = block.start + 4 * block.body.as_slice().len() as u64;
-    weave_leave(weaver, &block.end, at, part, sink)?;
+    weave_leave(weaver, block, part, sink)?;
     Ok(())
 }
 
 /// Hands on the entries of the blocks, one after the other.
 #[tactic(auto, using(crate::proofs::Taking::taken_none, crate::proofs::Taking::taken_all))]
-fn weave_blocks<S: ItemSink>(
-    weaver: &Weaver,
+fn weave_blocks<W: Weaving, S: ItemSink>(
+    weaver: &W,
     blocks: &[CodeBlock],
     part: &mut Emit,
     sink: &mut S,
 ) -> Result<(), AllocError>
     requires fit { All FitsBlock blocks.now }
-    requires come { ComeNext (S.took sink.old) (entries_of (sequences (form weaver.now)) (map block_of blocks.now)) }
-    ensures { OnOk result (Takes (S.took sink.old) (S.took sink.new) (entries_of (sequences (form weaver.now)) (map block_of blocks.now))) }
+    requires own { All (W.is_for weaver.now) blocks.now }
+    requires come { ComeNext (S.took sink.old) (entries_of (W.code weaver.now) (map block_of blocks.now)) }
+    ensures { OnOk result (Takes (S.took sink.old) (S.took sink.new) (entries_of (W.code weaver.now) (map block_of blocks.now))) }
 {
     for block in blocks {
         weave_block(weaver, block, part, sink)?;
@@ -129,19 +132,19 @@ fn weave_blocks<S: ItemSink>(
 }
 
 /// Hands on what runs first.
-fn weave_prologue<S: ItemSink>(
-    weaver: &Weaver,
+fn weave_first<W: Weaving, S: ItemSink>(
+    weaver: &W,
     distance: u64,
     entry: u64,
     part: &mut Emit,
     sink: &mut S,
 ) -> Result<(), AllocError>
     requires half { distance < 2 ^ 63 }
-    requires come { ComeNext (S.took sink.old) (prologue distance (form weaver.now).spans entry) }
-    ensures { OnOk result (Takes (S.took sink.old) (S.took sink.new) (prologue distance (form weaver.now).spans entry)) }
+    requires come { ComeNext (S.took sink.old) ((W.code weaver.now).first distance entry) }
+    ensures { OnOk result (Takes (S.took sink.old) (S.took sink.new) ((W.code weaver.now).first distance entry)) }
 {
     part.clear();
-    weaver.prologue(distance, entry, part)?;
+    weaver.first(distance, entry, part)?;
     sink.take(part)?;
     Ok(())
 }
@@ -150,9 +153,9 @@ fn weave_prologue<S: ItemSink>(
 /// part. `distance` is that of the halves, in bytes. It takes time with the items, and memory for one part at a time.
 ///
 /// Errors: want of memory. What the sink has taken then is not told.
-pub fn weave<S: ItemSink>(
+pub fn weave<W: Weaving, S: ItemSink>(
     alloc: Global,
-    weaver: &Weaver,
+    weaver: &W,
     distance: u64,
     entry: u64,
     blocks: &[CodeBlock],
@@ -160,11 +163,12 @@ pub fn weave<S: ItemSink>(
 ) -> Result<(), AllocError>
     requires half { distance < 2 ^ 63 }
     requires fit { All FitsBlock blocks.now }
-    requires come { ComeNext (S.took sink.old) (items_to_stub distance entry (form weaver.now) (map block_of blocks.now)) }
-    ensures { OnOk result (Takes (S.took sink.old) (S.took sink.new) (items_to_stub distance entry (form weaver.now) (map block_of blocks.now))) }
+    requires own { All (W.is_for weaver.now) blocks.now }
+    requires come { ComeNext (S.took sink.old) (parts_to_stub (W.code weaver.now) distance entry (map block_of blocks.now)) }
+    ensures { OnOk result (Takes (S.took sink.old) (S.took sink.new) (parts_to_stub (W.code weaver.now) distance entry (map block_of blocks.now))) }
 {
     let mut part = Emit::new(alloc);
-    weave_prologue(weaver, distance, entry, &mut part, sink)?;
+    weave_first(weaver, distance, entry, &mut part, sink)?;
     weave_blocks(weaver, blocks, &mut part, sink)?;
     Ok(())
 }

@@ -1,25 +1,21 @@
 -- The new code of a test in either form: it can be linked where it fits, and what is linked is the new code.
-use Rattle.std.proofs.Common.{◌≡◌, ⊎_elim, ℕ, ◌+◌, ◌^◌, ◌<◌, ◌≤◌, suc, Bool, true, false, List, [], ◌∷◌, ◌++◌, length, map, Some, refl, sym, ap, ◌∙◌, subst, arith}
-use Rattle.std.specs.Prelude.{◌&&◌, get_or, slice_index, is_some, nat_lt, AllPairs}
+use Rattle.std.proofs.Common.{◌≡◌, ⊎_elim, ℕ, ◌+◌, ◌<◌, ◌≤◌, Bool, true, false, List, ◌++◌, length, map, refl, sym, ap, ◌∙◌, subst, arith}
+use Rattle.std.specs.Prelude.{nat_lt}
 use Rattle.std.specs.List.{list_all}
 use Rattle.std.proofs.lemmas.Bool.{lt-ltb, le-ltb, cases_lt}
 use Rattle.std.proofs.lemmas.List.{append-nil}
-use Rattle.std.proofs.Math.ListN.{get_or-map, length-map}
+use Rattle.std.proofs.Math.ListN.{length-map}
 use Rattle.elf_types.specs.declared.file.ElfFile.{ElfFile}
-use Rattle.rv_isa.specs.declared.ins.Ins.{Ins}
 use Rattle.qed_model.specs.declared.limits.Limit.TheVariants as limit
 use Rattle.qed_model.specs.declared.options.Options.{Options}
-use Rattle.qed_model.specs.declared.plan.EntryRow.{EntryRow}
 use Rattle.qed_model.specs.declared.test.Test.{Test}
 use Rattle.qed_model.specs.Limits.{limit_of}
-use Rattle.qed_model.specs.Machine.Table.{decode_of}
 use Rattle.qed_model.specs.Weave.Placed.{sum_of_sizes, rows_from, placed, Decode, EntriesAscend}
 use Rattle.qed_model.specs.Admission.DataRanges.{range_of}
 use Rattle.qed_model.specs.Weave.Places.{image_of, half_of, code_place}
-use Rattle.qed_model.specs.Weave.Sequences.{Block, Falls, stub}
+use Rattle.qed_model.specs.Weave.Sequences.{Block, stub}
 use Rattle.qed_model.specs.Weave.Woven.{items_in, is_far_code, code_size, new_entries}
 use Rattle.qed_model.proofs.PlacedWords.{size-append}
-use Rattle.qed_model.proofs.Tables.{encode_decode}
 use Rattle.block_list.specs.declared.block.CodeBlock.{CodeBlock}
 use Rattle.block_list.specs.Listed.{block_of}
 use Rattle.plc_rounds.specs.Spans.{spans_of}
@@ -30,6 +26,7 @@ use Rattle.relinker.specs.Counted.{capped}
 use Rattle.relinker.specs.Laid.{IsLinked, HasLinkCause}
 use Rattle.relinker.specs.Link.{is_encoded, most_bytes, IsWithinForm, LinksWithin}
 use Rattle.relinker.proofs.Joining.{parts_join}
+use Rattle.relinker.proofs.Linkable.{decoded, ascending}
 use Rattle.test_weave.specs.Form.{form_with, items_to_stub}
 use Rattle.test_weave.proofs.WholeCode.{items_are_whole}
 use Rattle.weave_core.proofs.TestKept.{are_rows}
@@ -37,28 +34,6 @@ use Rattle.weave_core.proofs.Tests.{tests_have_words}
 use Rattle.woven_code.specs.Code.{items_of, place_of, IsCut, IsCodeOf, HasCause}
 use Rattle.woven_code.proofs.CodeBytes.{few_bytes}
 use Rattle.woven_code.proofs.DataWords.{few_data}
-
--- ---- words
--- the instructions of words have words
-decoded : (words : List ℕ) (is : List Ins) → ((k : ℕ) → slice_index words k < 2 ^ 32) → Decode words is → list_all is_encoded is ≡ true
-decoded [] [] small e = refl
-decoded [] (i ∷ is) small e = absurd (cc)
-decoded (w ∷ ws) [] small e = absurd (cc)
-decoded (w ∷ ws) (i ∷ is) small e =
-    let here : decode_of w ≡ Some i = cc in
-    let later : map decode_of ws ≡ map Some is = cc in
-    ap (λ o. is_some o && list_all is_encoded is) (encode_decode w i (small 0) here) ∙ decoded ws is (λ k. small (suc k)) later
-
--- ---- marks
--- the first addresses of blocks ascend, and the marks are theirs
-ascending : (rows : List EntryRow) (blocks : List Block) → map (λ (r : EntryRow). r.input) rows ≡ map (λ b. b.start) blocks → AllPairs (λ (b c : Block). b.start < c.start) blocks → EntriesAscend rows
-ascending rows blocks same up i j d l m =
-    let e : Block = record { start = d.input; body = []; end = Falls } in
-    let many : length rows ≡ length blocks = sym (length-map rows (λ (r : EntryRow). r.input)) ∙ ap length same ∙ length-map blocks (λ (b : Block). b.start) in
-    let at : (k : ℕ) → (get_or rows k d).input ≡ (get_or blocks k e).start =
-    λ k. sym (get_or-map (λ (r : EntryRow). r.input) rows k d) ∙ ap (λ ns. get_or ns k d.input) same ∙ get_or-map (λ (b : Block). b.start) blocks k e in
-    let less = up i j e l (omega (arith, m, many)) in
-    omega (arith, at i, at j, less)
 
 -- ---- either form of a test
 module _ (f : ElfFile) (o : Options) (t : Test) (blocks : List CodeBlock) (cut : IsCut f o t blocks) where

@@ -1,8 +1,6 @@
 use Rattle.std.proofs.Common.{drop}
-use Rattle.qed_model.specs.Weave.Sequences.{}
-use Rattle.qed_model.specs.Weave.Code.{pieces_of, sequences}
+use Rattle.qed_model.specs.Weave.Code.{pieces_of}
 use Rattle.qed_model.specs.Weave.Pieces.{divided}
-use Rattle.test_weave.specs.Form.{form}
 use Rattle.test_weave.proofs.Taking.{TakenUpTo}
 use Rattle.test_weave.proofs.BodyLeft.{Left}
 use Rattle.test_weave.proofs.walk.weave_pieces.Given as goal
@@ -11,5 +9,5 @@ use Rattle.test_weave.proofs.walk.weave_pieces.Given as goal
 abbrev pub invariant-loop-length : goal.invariant-loop-length
 invariant-loop-length g l = record {
   left : Left (drop l.length-index l.block.lengths) l.rest l.at;
-  taken : TakenUpTo (g.S.ItemSink.took l.initial.sink) (g.S.ItemSink.took l.sink) (pieces_of (sequences (form l.weaver)) (divided l.block.lengths l.block.body) l.block.start) (pieces_of (sequences (form l.weaver)) (divided (drop l.length-index l.block.lengths) l.rest) l.at);
+  taken : TakenUpTo (g.S.ItemSink.took l.initial.sink) (g.S.ItemSink.took l.sink) (pieces_of (g.W.Weaving.code l.weaver) (divided l.block.lengths l.block.body) l.block.start) (pieces_of (g.W.Weaving.code l.weaver) (divided (drop l.length-index l.block.lengths) l.rest) l.at);
 }

@@ -2,7 +2,7 @@ use Rattle.std.proofs.Common.{refl, ap, ◌∙◌, ◌++◌}
 use Rattle.pieces.specs.Piece.{for_piece}
 use Rattle.test_weave.specs.declared.weaver.PiecePasses.TheVariants.{Same, Other}
 use Rattle.test_weave.proofs.PieceItems.{piece_of_passes}
-use Rattle.test_weave.proofs.weaver.Weaver.piece.Goals as goal
+use Rattle.test_weave.proofs.weaver.Weaver.woven_piece.Goals as goal
 
 -- the passes are for what fits
 pub emit_all-requires : goal.emit_all-requires

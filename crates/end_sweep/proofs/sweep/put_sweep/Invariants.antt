@@ -2,7 +2,7 @@ use Rattle.std.proofs.Common.{drop}
 use Rattle.qed_model.specs.Weave.Sequences.{sweep}
 use Rattle.passes.specs.Emitted.{Done}
 use Rattle.plc_rounds.specs.Spans.{spans_of}
-use Rattle.end_sweep.proofs.sweep.put_ranges.Given as goal
+use Rattle.end_sweep.proofs.sweep.put_sweep.Given as goal
 
 -- the ranges so far, and the rest
 abbrev pub invariant-loop-range : goal.invariant-loop-range

@@ -1,0 +1,226 @@
+-- The lean form of a test: its items are those of its file, they can be linked where they are few, and what is linked is its code.
+use Rattle.std.proofs.Common.{◌≡◌, ⊎_elim, ℕ, ◌+◌, ◌-◌, ◌*◌, ◌%◌, ◌^◌, ◌<◌, ◌≤◌, Bool, true, false, List, [], ◌∷◌, ◌++◌, length, map, refl, sym, ap, ◌∙◌, subst, arith, append_assoc}
+use Rattle.std.specs.Prelude.{All, AllPairs, Result, Ok, Err, IfOk, IfErr, get_or}
+use Rattle.std.specs.List.{list_all}
+use Rattle.std.proofs.Math.ListN.{get_or-map, length-map}
+use Rattle.std.proofs.lemmas.List.{append-nil}
+use Rattle.elf_types.specs.declared.file.ElfFile.{ElfFile}
+use Rattle.qed_model.specs.declared.item.Item.{Item}
+use Rattle.qed_model.specs.declared.options.Options.{Options}
+use Rattle.qed_model.specs.declared.plan.EntryRow.{EntryRow}
+use Rattle.qed_model.specs.declared.test.Test.{Test}
+use Rattle.qed_model.specs.Weave.Blocks.{begins_at}
+use Rattle.qed_model.specs.Weave.Code.{Sequences, entries_of}
+use Rattle.qed_model.specs.Weave.OutputParts.{base_of}
+use Rattle.qed_model.specs.Weave.Placed.{sum_of_sizes, rows_from, placed, leads_to, Decode, EntriesAscend}
+use Rattle.qed_model.specs.Weave.Places.{image_of, half_of, code_place}
+use Rattle.qed_model.specs.Weave.Sequences.{Form, Block, stub}
+use Rattle.qed_model.specs.Weave.Woven.{form_of}
+use Rattle.qed_model.proofs.PlacedWords.{size-append, entry_inside}
+use Rattle.weave_core.proofs.TestKnown as there
+use Rattle.block_list.specs.declared.block.CodeBlock.{CodeBlock}
+use Rattle.block_list.specs.Listed.{block_of}
+use Rattle.plc_rounds.specs.Spans.{spans_of}
+use Rattle.relinker.specs.declared.count.Count.{Count}
+use Rattle.relinker.specs.declared.error.LinkError.{LinkError}
+use Rattle.relinker.specs.declared.error.LinkError.TheVariants as error
+use Rattle.relinker.specs.declared.layout.Layout.{Layout}
+use Rattle.relinker.specs.declared.layout.Linked.{Linked}
+use Rattle.relinker.specs.Counted.{capped, HasCounted}
+use Rattle.relinker.specs.Laid.{IsLaid, IsLaidIn, IsLinked, HasCause as HasCountCause}
+use Rattle.relinker.specs.Link.{is_encoded, most_bytes, IsLinkable}
+use Rattle.relinker.proofs.Joining.{parts_join}
+use Rattle.relinker.proofs.Linkable.{decoded, ascending}
+use Rattle.test_weave.specs.Form.{form_with, parts_to_stub}
+use Rattle.test_weave.specs.Fits.{FitsBlock}
+use Rattle.test_weave.proofs.AdmittedFit.{blocks_fit}
+use Rattle.test_weave.proofs.WholeCode.{spans_are}
+use Rattle.lean_weave.specs.Tests.{IsLeanTest, lean_of, lean_items, items_with as file_items, steps_at, start_at}
+use Rattle.lean_weave.specs.Woven.{Lean, worded}
+use Rattle.lean_weave.proofs.Tests.{tests_have_words, are_items}
+use Rattle.lean_weave.proofs.Unmarked.{code_rows, code_size}
+use Rattle.lean_code.specs.declared.weaver.LeanWeaver.{LeanWeaver}
+use Rattle.lean_code.specs.Code.{place_of, lean_with, code_with, items_with, placed_at, IsLeanCut, IsLaidOut, IsLeanCodeOf, HasCause}
+use Rattle.lean_code.specs.Form.{code_of}
+
+module _ (f : ElfFile) (o : Options) (every : ℕ) (t : Test) (blocks : List CodeBlock) (c : IsLeanCut f o every t blocks) where
+  abbrev bs : List Block
+  bs = map block_of blocks
+
+  abbrev at : ℕ
+  at = code_place o.half (image_of f)
+
+  abbrev d : ℕ
+  d = half_of o.half (image_of f)
+
+  pub place : place_of t ≡ at
+  place = omega (arith, c.told.base, c.told.distance)
+
+  -- ---- the blocks fit
+  pub fit : All FitsBlock blocks
+  fit = blocks_fit f o t.code blocks (record { file = c.cut.file; sound = c.cut.sound; admitted = c.cut.admitted; words = c.told.code; are = c.cut.are; within = c.within })
+
+  pub blocks_ascend : AllPairs (λ (x y : CodeBlock). x.start < y.start) blocks
+  blocks_ascend i j e l m =
+      let at : (k : ℕ) → (get_or bs k (block_of e)).start ≡ (get_or blocks k e).start = λ k. ap (λ (b : Block). b.start) (get_or-map block_of blocks k e) in
+      let less = c.cut.are.ascend i j (block_of e) l (omega (arith, m, length-map blocks block_of)) in
+      omega (arith, less, at i, at j)
+
+  pub half_small : t.distance < 2 ^ 63
+  half_small = let b = (there.bounds f o c.cut.sound c.cut.file.loads c.cut.admitted bs c.cut.are).1 in omega (arith, b, c.told.distance)
+
+  pub place_small : place_of t + 134217728 ≤ 2 ^ 63
+  place_small = let p = (there.is f o c.cut.sound c.cut.file.loads c.cut.admitted bs c.cut.are).top in omega (arith, p, place)
+
+  -- ---- the items are those of the file
+  abbrev file_code : (ℕ → ℕ) → Sequences
+  file_code entry = worded (form_of f o false) (base_of (image_of f)) entry (lean_of f o every bs) (begins_at bs)
+
+  abbrev of_file : (ℕ → ℕ) → List Item
+  of_file = file_items f o every bs
+
+  abbrev of_test : (ℕ → ℕ) → List Item
+  of_test = items_with t o every bs
+
+  same_code : (entry : ℕ → ℕ) → code_with t o every bs entry ≡ file_code entry
+  same_code entry =
+      let spans = spans_are t.span ∙ c.told.span in
+      ap (λ s. worded (form_with s o false) t.base entry (lean_with t o every bs) (begins_at bs)) spans
+      ∙ ap (λ b. worded (form_of f o false) b entry (lean_with t o every bs) (begins_at bs)) c.told.base
+      ∙ ap (λ n. worded (form_of f o false) (base_of (image_of f)) entry (record { every = every; inst_max = o.inst_max; diverse = o.diverse; check = n + 124; most = steps_at o.diverse (begins_at bs) bs; start_of = start_at bs }) (begins_at bs)) place
+
+  whole : (entry : ℕ → ℕ) → of_test entry ++ stub ≡ of_file entry
+  whole entry =
+      ap (λ s. parts_to_stub s t.distance t.entry bs ++ stub) (same_code entry)
+      ∙ ap (λ n. parts_to_stub (file_code entry) n t.entry bs ++ stub) c.told.distance
+      ∙ ap (λ n. parts_to_stub (file_code entry) d n bs ++ stub) c.told.entry
+      ∙ append_assoc ((file_code entry).first d f.entry) (entries_of (file_code entry) bs) stub
+
+  size : (entry : ℕ → ℕ) → sum_of_sizes false (of_file entry) ≡ sum_of_sizes false (of_test entry) + 4
+  size entry = ap (sum_of_sizes false) (sym (whole entry)) ∙ size-append false (of_test entry) stub
+
+  rows : (n : ℕ) (entry : ℕ → ℕ) → rows_from false n (of_file entry) ≡ rows_from false n (of_test entry)
+  rows n entry = ap (rows_from false n) (sym (whole entry)) ∙ (parts_join false (λ a. a) n (of_test entry) stub).marks ∙ append-nil (rows_from false n (of_test entry))
+
+  -- ---- wherever the entries are, the bytes and the marks are the same
+  module _ (x y : ℕ → ℕ) where
+    same_size : sum_of_sizes false (of_test x) ≡ sum_of_sizes false (of_test y)
+    same_size = let e = code_size (form_of f o false) (base_of (image_of f)) (lean_of f o every bs) (begins_at bs) x y d f.entry bs in omega (arith, e, size x, size y)
+
+    same_rows : (n : ℕ) → rows_from false n (of_test x) ≡ rows_from false n (of_test y)
+    same_rows n = sym (rows n x) ∙ code_rows (form_of f o false) (base_of (image_of f)) (lean_of f o every bs) (begins_at bs) x y d f.entry bs n ∙ rows n y
+
+    pub counted_too : (count : Count) → count.far ≡ false → HasCounted count (of_test x) → HasCounted count (of_test y)
+    counted_too count e h = record {
+      bytes = h.bytes ∙ ap (λ b. capped (sum_of_sizes b (of_test x))) e ∙ ap capped same_size ∙ ap (λ b. capped (sum_of_sizes b (of_test y))) (sym e);
+      marks = λ small.
+      let less : sum_of_sizes count.far (of_test x) < 2 ^ 64 - 1 = subst (λ b. sum_of_sizes b (of_test x) < 2 ^ 64 - 1) (sym e) (let l : sum_of_sizes false (of_test y) < 2 ^ 64 - 1 = subst (λ b. sum_of_sizes b (of_test y) < 2 ^ 64 - 1) e small in omega (arith, l, same_size)) in
+      h.marks less ∙ ap (λ b. rows_from b 0 (of_test x)) e ∙ same_rows 0 ∙ ap (λ b. rows_from b 0 (of_test y)) (sym e);
+    }
+
+  -- ---- the items with their entries
+  abbrev own : ℕ → ℕ
+  own = placed_at f o every bs
+
+  abbrev items : List Item
+  items = of_test own
+
+  -- they can be linked, where they are few
+  pub linkable : sum_of_sizes false (lean_items f o every bs) ≤ 1048576 → IsLinkable false (place_of t) items
+  linkable few =
+      let u = tests_have_words f o every bs c.cut few in
+      let marks = ap (λ p. rows_from false p items) place ∙ sym (rows at own) in
+      let all = ap (λ p. placed false p (items ++ stub)) place ∙ ap (placed false at) (whole own) in
+      record {
+        ascend = subst EntriesAscend (sym marks) (ascending (rows_from false at (lean_items f o every bs)) bs (are_items f o every bs c.cut u.0 u.1).inputs_are c.cut.are.ascend);
+        encoded = ap (list_all is_encoded) all ∙ decoded u.0 (placed false at (lean_items f o every bs)) u.1.small u.1.code;
+      }
+
+  -- ---- what was counted
+  module _ (count : Count) (near : count.far ≡ false) (h : HasCounted count items) where
+    bytes_are : count.bytes ≡ capped (sum_of_sizes false items)
+    bytes_are = h.bytes ∙ ap (λ b. capped (sum_of_sizes b items)) near
+
+    pub few_counted : count.bytes + 4 ≤ 1048576 → sum_of_sizes false (lean_items f o every bs) ≤ 1048576
+    few_counted less = let e = bytes_are in omega (arith, less, e, size own)
+
+    pub laid_out :
+        (layout : Layout) → layout.far ≡ false → layout.base ≡ place_of t → count.bytes + 4 ≤ 1048576
+        → ((xs : List Item) → HasCounted count xs → IsLinkable false (place_of t) xs → IsLaid layout [] xs) → IsLaidOut f o every t blocks layout
+    laid_out layout far base less laid = record { far = far; base = base; laid = laid items h (linkable (few_counted less)); few = few_counted less }
+
+    pub cause : (e : LinkError) → HasCountCause count e → HasCause f o every blocks e
+    cause (error.TooLarge n) k =
+        let e = bytes_are in
+        let over : 1048576 < n = subst (λ b. most_bytes b < n) near k.1 in
+        (omega (arith, k.0, e, size own), over)
+    cause error.Memory k = tt
+
+  -- ---- the layout knows the entries
+  module _ (layout : Layout) (l : IsLaidOut f o every t blocks layout) where
+    rows_are : layout.entries.items ≡ rows_from false at (of_file (λ a. 0))
+    rows_are =
+        l.laid.entries
+        ∙ ap (λ b. rows_from b layout.base items) l.far
+        ∙ ap (λ n. rows_from false n items) (l.base ∙ place)
+        ∙ same_rows own (λ a. 0) at
+        ∙ sym (rows at (λ a. 0))
+
+    last_is : layout.last ≡ at + sum_of_sizes false (of_file (λ a. 0)) - 4
+    last_is =
+        let e : layout.last ≡ layout.base + sum_of_sizes false items = l.laid.last ∙ ap (λ b. layout.base + sum_of_sizes b items) l.far in
+        let b = l.base in
+        omega (arith, e, b, place, same_size own (λ a. 0), size (λ a. 0))
+
+    pub entries_are : leads_to layout.entries.items layout.last ≡ own
+    entries_are = ap (λ r. leads_to r layout.last) rows_are ∙ ap (leads_to (rows_from false at (of_file (λ a. 0)))) last_is
+
+    pub low : (a : ℕ) → leads_to layout.entries.items layout.last a + 8 < 2 ^ 64
+    low a =
+        let grain = (there.bounds f o c.cut.sound c.cut.file.loads c.cut.admitted bs c.cut.are).0 in
+        let inside = entry_inside false at (of_file (λ a. 0)) a (omega (arith, grain)) (omega (arith, size (λ a. 0))) in
+        let is : leads_to layout.entries.items layout.last a ≡ own a = ap (λ (e : ℕ → ℕ). e a) entries_are in
+        let high = inside.high in
+        let few = l.few in
+        omega (arith, is, high, few, size own, size (λ a. 0), same_size own (λ a. 0), place_small, place)
+
+    -- so its weaver hands on the items
+    pub handed : (w : LeanWeaver) → code_of w ≡ code_with t o every bs (leads_to layout.entries.items layout.last) → parts_to_stub (code_of w) t.distance t.entry bs ≡ items
+    handed w e = ap (λ s. parts_to_stub s t.distance t.entry bs) (e ∙ ap (code_with t o every bs) entries_are)
+
+    pub come : (w : LeanWeaver) → code_of w ≡ code_with t o every bs (leads_to layout.entries.items layout.last) → IsLaid layout [] (parts_to_stub (code_of w) t.distance t.entry bs ++ [])
+    come w e = subst (IsLaid layout []) (sym (append-nil (parts_to_stub (code_of w) t.distance t.entry bs) ∙ handed w e)) l.laid
+
+    -- and what is linked is the code
+    linked_is : (linked : Linked) → IsLinked layout.far layout.base items linked → IsLeanCodeOf f o every blocks linked
+    linked_is linked k =
+        let all = ap (λ b. placed b layout.base (items ++ stub)) l.far ∙ ap (λ n. placed false n (items ++ stub)) (l.base ∙ place) ∙ ap (placed false at) (whole own) in
+        record {
+          small = k.words;
+          code = subst (Decode linked.words.items) all k.decode;
+          entries = k.entries ∙ ap (λ b. rows_from b layout.base items) l.far ∙ ap (λ n. rows_from false n items) (l.base ∙ place) ∙ sym (rows at own);
+          few = l.few;
+        }
+
+    pub written :
+        (w : LeanWeaver) → code_of w ≡ code_with t o every bs (leads_to layout.entries.items layout.last) → (last : Layout) (linked : Linked) → last.far ≡ layout.far → last.base ≡ layout.base
+        → IsLinked last.far last.base (parts_to_stub (code_of w) t.distance t.entry bs) linked → IsLeanCodeOf f o every blocks linked
+    written w e last linked far base k =
+        linked_is linked
+        (subst (λ is. IsLinked layout.far layout.base is linked) (handed w e)
+        (subst (λ b. IsLinked b layout.base (parts_to_stub (code_of w) t.distance t.entry bs) linked) far (subst (λ n. IsLinked last.far n (parts_to_stub (code_of w) t.distance t.entry bs) linked) base k)))
+
+-- ---- what the layout of the count is, and why there is none
+module _ (o : Options) (every : ℕ) (t : Test) (blocks : List CodeBlock) (count : Count) (near : count.far ≡ false) (h : (entry : ℕ → ℕ) → HasCounted count (items_with t o every (map block_of blocks) entry)) where
+  pub if_laid :
+      (r : Result Layout LinkError) → IfOk r (λ l. l.far ≡ count.far) → IfOk r (λ l. l.base ≡ place_of t) → IfOk r (λ l. count.bytes + 4 ≤ most_bytes count.far)
+      → IfOk r (λ l. (xs : List Item) → HasCounted count xs → IsLinkable count.far (place_of t) xs → IsLaid l [] xs)
+      → IfOk r (λ l. (f : ElfFile) → IsLeanCut f o every t blocks → IsLaidOut f o every t blocks l)
+  if_laid (Ok l) far base few laid = λ f c.
+      laid_out f o every t blocks c count near (h (placed_at f o every (map block_of blocks))) l (far ∙ near) base (subst (λ b. count.bytes + 4 ≤ most_bytes b) near few)
+      (λ xs has links. laid xs has (subst (λ b. IsLinkable b (place_of t) xs) (sym near) links))
+  if_laid (Err e) far base few laid = tt
+
+  pub if_not_laid : (r : Result Layout LinkError) → IfErr r (HasCountCause count) → IfErr r (λ e. (f : ElfFile) → IsLeanCut f o every t blocks → HasCause f o every blocks e)
+  if_not_laid (Ok l) k = tt
+  if_not_laid (Err e) k = λ f c. cause f o every t blocks c count near (h (placed_at f o every (map block_of blocks))) e k

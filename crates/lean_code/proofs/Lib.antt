@@ -1,0 +1,5 @@
+mod BodySteps
+mod Finding
+mod Forms
+mod Owned
+mod Parts

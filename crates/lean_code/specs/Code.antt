@@ -1,0 +1,79 @@
+-- The lean form of a test as words.
+use Rattle.std.specs.Prelude.{◌≡◌, ℕ, ◌+◌, ◌*◌, ◌^◌, ◌<◌, ◌≤◌, false, List, [], All, map, slice_index}
+use Rattle.elf_types.specs.declared.file.ElfFile.{ElfFile}
+use Rattle.qed_model.specs.declared.item.Item.{Item}
+use Rattle.qed_model.specs.declared.limits.TheConstants.{MAX_NEAR_CODE_BYTES}
+use Rattle.qed_model.specs.declared.options.Options.{Options}
+use Rattle.qed_model.specs.declared.test.Test.{Test}
+use Rattle.qed_model.specs.Admission.Test.{IsTestOf}
+use Rattle.qed_model.specs.Weave.Blocks.{begins_at}
+use Rattle.qed_model.specs.Weave.Code.{Sequences}
+use Rattle.qed_model.specs.Weave.Placed.{Decode, sum_of_sizes, rows_from, placed, entry_of}
+use Rattle.qed_model.specs.Weave.Places.{image_of, code_place}
+use Rattle.qed_model.specs.Weave.Sequences.{Block}
+use Rattle.block_list.specs.declared.block.CodeBlock.{CodeBlock}
+use Rattle.block_list.specs.Listed.{block_of, IsWithin}
+use Rattle.plc_rounds.specs.Spans.{spans_of}
+use Rattle.relinker.specs.declared.error.LinkError.{LinkError}
+use Rattle.relinker.specs.declared.error.LinkError.TheVariants as error
+use Rattle.relinker.specs.declared.layout.Layout.{Layout}
+use Rattle.relinker.specs.declared.layout.Linked.{Linked}
+use Rattle.relinker.specs.Counted.{capped}
+use Rattle.relinker.specs.Laid.{IsLaid}
+use Rattle.test_weave.specs.Form.{form_with, parts_to_stub}
+use Rattle.lean_weave.specs.Tests.{AreLeanBlocks, lean_items, items_with as file_items, steps_at, start_at}
+use Rattle.lean_weave.specs.Woven.{Lean, worded}
+
+-- ---- of a test that was admitted
+-- where its new code begins
+abbrev pub place_of : Test → ℕ
+place_of t = t.base + 3 * t.distance
+
+-- what runs before the check has 124 bytes
+abbrev pub lean_with : Test → Options → ℕ → List Block → Lean
+lean_with t o every blocks = record {
+  every = every;
+  inst_max = o.inst_max;
+  diverse = o.diverse;
+  check = place_of t + 124;
+  most = steps_at o.diverse (begins_at blocks) blocks;
+  start_of = start_at blocks;
+}
+
+-- its sequences, where an input address has its entry
+abbrev pub code_with : Test → Options → ℕ → List Block → (ℕ → ℕ) → Sequences
+code_with t o every blocks entry = worded (form_with (spans_of t.span) o false) t.base entry (lean_with t o every blocks) (begins_at blocks)
+
+-- its items, all but the stub
+abbrev pub items_with : Test → Options → ℕ → List Block → (ℕ → ℕ) → List Item
+items_with t o every blocks entry = parts_to_stub (code_with t o every blocks entry) t.distance t.entry blocks
+
+-- ---- of a file
+-- the file is an admitted test, of which this is told, and these are its blocks
+pub record IsLeanCut (f : ElfFile) (o : Options) (every : ℕ) (t : Test) (blocks : List CodeBlock) : Type 0 where
+  pub told : IsTestOf f o t
+  pub cut : AreLeanBlocks f o every (map block_of blocks)
+  pub within : (top : ℕ) → All (λ c. c.at + 4 ≤ top) t.code → All (IsWithin top) blocks
+
+-- the words are its lean form, which has no more bytes than a JAL spans, and the entries are its entries
+pub record IsLeanCodeOf (f : ElfFile) (o : Options) (every : ℕ) (blocks : List CodeBlock) (linked : Linked) : Type 0 where
+  pub small : (k : ℕ) → slice_index linked.words.items k < 2 ^ 32
+  pub code : Decode linked.words.items (placed false (code_place o.half (image_of f)) (lean_items f o every (map block_of blocks)))
+  pub entries : linked.entries.items ≡ rows_from false (code_place o.half (image_of f)) (lean_items f o every (map block_of blocks))
+  pub few : sum_of_sizes false (lean_items f o every (map block_of blocks)) ≤ MAX_NEAR_CODE_BYTES
+
+-- the lean form has so many bytes, or 2^64 and more, which are too many
+abbrev pub HasCause : ElfFile → Options → ℕ → List CodeBlock → LinkError → Type 0
+HasCause f o every blocks (error.TooLarge n) = (n ≡ capped (sum_of_sizes false (lean_items f o every (map block_of blocks)))) × (MAX_NEAR_CODE_BYTES < n)
+HasCause f o every blocks error.Memory = Unit {0}
+
+-- where the entries are
+abbrev pub placed_at : ElfFile → Options → ℕ → List Block → ℕ → ℕ
+placed_at f o every blocks = entry_of false (code_place o.half (image_of f)) (file_items f o every blocks (λ a. 0))
+
+-- the layout has the memory for the items of the test in its lean form, in their places, none of which has its words yet
+pub record IsLaidOut (f : ElfFile) (o : Options) (every : ℕ) (t : Test) (blocks : List CodeBlock) (layout : Layout) : Type 0 where
+  pub far : layout.far ≡ false
+  pub base : layout.base ≡ place_of t
+  pub laid : IsLaid layout [] (items_with t o every (map block_of blocks) (placed_at f o every (map block_of blocks)))
+  pub few : sum_of_sizes false (lean_items f o every (map block_of blocks)) ≤ MAX_NEAR_CODE_BYTES

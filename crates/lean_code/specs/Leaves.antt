@@ -1,0 +1,52 @@
+-- The parts of leaves, and the addresses to which the signature turns.
+use Rattle.std.specs.Prelude.{◌≡◌, ℕ, ◌+◌, ◌-◌, ◌%◌, ◌^◌, Bool, cond, List, [], ◌∷◌, ◌++◌, pos, neg_ℤ, ◌≤ℤ◌}
+use Rattle.rv_isa.specs.declared.kind.Kind.TheVariants.{Add, Addi, Andi, Sub}
+use Rattle.rv_isa.specs.declared.ins.Ins.{Ins}
+use Rattle.rv_isa.specs.declared.class.Class.{Class}
+use Rattle.rv_isa.specs.declared.class.Class.TheVariants as class
+use Rattle.rv_isa.specs.Kind.{class_of}
+use Rattle.rv_isa.specs.Operation.{pair}
+use Rattle.qed_model.specs.declared.item.Item.{Item}
+use Rattle.qed_model.specs.declared.item.Item.TheVariants.{Plain, Constant}
+use Rattle.qed_model.specs.Machine.Step.{target}
+use Rattle.qed_model.specs.Machine.Table.{ins}
+use Rattle.qed_model.specs.Weave.Placed.{distance_between}
+use Rattle.qed_model.specs.Weave.Sequences.{End, Falls, Stops, sweep, compare, links}
+use Rattle.lean_weave.specs.Lean.{turn, goes, look_up}
+
+-- ---- parts
+-- what stands before an ECALL besides, with the sweep
+abbrev pub before : Bool → List (ℕ × ℕ) → List Item
+before sweeps spans = cond sweeps (sweep spans ++ compare) []
+
+-- a turn, and what leads behind a block
+abbrev pub falls : (ℕ → List Item) → ℕ → ℕ → List Item
+falls fall a t = turn a t ++ fall t
+
+-- both ways of a branch
+abbrev pub ways : (ℕ → List Item) → ℕ → ℕ → ℕ → List Item
+ways fall a t n = goes a t ++ falls fall a n
+
+-- the target of a JALR by the guarded original
+abbrev pub aim_of : Ins → ℕ → List Item
+aim_of i at = Plain (ins Addi 30 i.rs1 0 i.imm) ∷ Plain (ins Andi 30 30 0 (neg_ℤ (pos 2))) ∷ (links i at ++ look_up)
+
+-- its turn of the signature by the pair
+abbrev pub leap_sign : Ins → ℕ → List Item
+leap_sign i a =
+    Plain (ins Add 16 16 (pair i.rs1) (pos 0)) ∷ Plain (ins Addi 16 16 0 i.imm) ∷ Plain (ins Andi 16 16 0 (neg_ℤ (pos 2))) ∷ Constant 30 a ∷ Plain (ins Sub 16 16 30 (pos 0)) ∷ []
+
+-- ---- where the signature turns
+-- the sum with 2048 is below 2^63
+abbrev pub IsNear : ℕ → ℕ → Type 0
+IsNear a t = distance_between a t ≤ℤ pos (2 ^ 63 - 2049)
+
+abbrev pub TurnsAs : Class → Ins → ℕ → ℕ → Type 0
+TurnsAs class.Jump i a at = IsNear a (target i at)
+TurnsAs class.Branch i a at = IsNear a (target i at) × IsNear a ((at + 4) % 2 ^ 64)
+TurnsAs _ i a at = Unit {0}
+
+-- at the leave of a block that begins at a and has its end at `at`
+abbrev pub Turns : End → ℕ → ℕ → Type 0
+Turns Falls a at = IsNear a at
+Turns (Stops i) a at = TurnsAs (class_of i.kind) i a at

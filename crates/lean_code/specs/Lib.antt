@@ -1,0 +1,5 @@
+pub mod Steps
+pub mod Leaves
+pub mod Passes
+pub mod Form
+pub mod Code

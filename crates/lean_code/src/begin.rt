@@ -1,0 +1,47 @@
+//! What runs first, before the check.
+ghost use Rattle.std.specs.Prelude.{◌≡◌, ◌^◌, ◌<◌, [], ◌∷◌, ◌++◌, OnOk, pos, neg_ℤ};
+ghost use Rattle.rv_isa.specs.declared.kind.Kind.TheVariants.{Addi, Lui};
+ghost use Rattle.qed_model.specs.declared.item.Item.TheVariants.{Plain, Constant, Go};
+ghost use Rattle.qed_model.specs.Machine.Table.{ins};
+ghost use Rattle.qed_model.specs.Weave.Sequences.{zero_from};
+ghost use Rattle.lean_weave.specs.Lean.{begin};
+
+use passes::{Emit, plain, register};
+use qed_model::Item;
+use rv_isa::Kind;
+use std::alloc::AllocError;
+use test_weave::put_zeros;
+
+/// The distance of the halves, the signature of the test's entry, one step that is left, and the jump there.
+fn put_start(distance: u64, entry: u64, out: &mut Emit) -> Result<(), AllocError>
+    requires { distance < 2 ^ 63 }
+    ensures { OnOk result (out.new ≡ out.old ++ Plain (ins Lui 14 0 0 (pos distance)) ∷ Constant 16 entry ∷ Plain (ins Addi 15 0 0 (neg_ℤ (pos 1))) ∷ Go entry ∷ []) }
+{
+    let zero = register(0);
+    out.put(&[
+        plain(Kind::Lui, register(14), zero, zero, distance.cast_signed()),
+        Item::Constant(register(16), entry),
+        plain(Kind::Addi, register(15), zero, zero, -1),
+        Item::Go(entry),
+    ])?;
+    Ok(())
+}
+
+/// The pairs and the start.
+fn put_pairs(distance: u64, entry: u64, out: &mut Emit) -> Result<(), AllocError>
+    requires { distance < 2 ^ 63 }
+    ensures { OnOk result (out.new ≡ out.old ++ zero_from 17 13 ++ (Plain (ins Lui 14 0 0 (pos distance)) ∷ Constant 16 entry ∷ Plain (ins Addi 15 0 0 (neg_ℤ (pos 1))) ∷ Go entry ∷ [])) }
+{
+    put_zeros(17, 13, out)?;
+    put_start(distance, entry, out)
+}
+
+/// All registers of both halves are 0, x14 is the distance of the halves, and the test begins at its entry, with the first data word
+/// and one step left.
+pub(crate) fn put_begin(distance: u64, entry: u64, out: &mut Emit) -> Result<(), AllocError>
+    requires { distance < 2 ^ 63 }
+    ensures { OnOk result (out.new ≡ out.old ++ begin distance entry) }
+{
+    put_zeros(1, 13, out)?;
+    put_pairs(distance, entry, out)
+}

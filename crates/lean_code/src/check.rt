@@ -1,0 +1,150 @@
+//! The check, one for all of the code.
+ghost use Rattle.std.specs.Prelude.{◌≡◌, ◌^◌, ◌≤◌, ◌<◌, ◌++◌, OnOk};
+ghost use Rattle.qed_model.specs.Weave.Sequences.{compare, visit};
+ghost use Rattle.plc_rounds.specs.Spans.{spans_of};
+ghost use Rattle.lean_weave.specs.Lean.{first_word as first_word_of, parted, called, begun, done, check, look_up};
+
+use eddi_dup::CompareAll;
+use flow_tracking::put_look_up;
+use passes::{Emit, Pass, plain, register};
+use plc_rounds::Visit;
+use qed_model::{Item, Range};
+use rv_isa::{Ins, Kind};
+use std::alloc::AllocError;
+
+/// The address of the first data word, or where there is none the begin of the input.
+fn first_word(base: u64, span: &[Range]) -> u64
+    ensures { result ≡ first_word_of base (spans_of span.now) }
+{
+    if span.is_empty() { base } else { span[0].start }
+}
+
+/// Takes the signature apart.
+fn put_parted(base: u64, out: &mut Emit) -> Result<(), AllocError>
+    ensures { OnOk result (out.new ≡ out.old ++ parted base) }
+{
+    let zero = register(0);
+    let (address, sign, begin) = (register(15), register(16), register(30));
+    out.put(&[
+        Item::Constant(begin, base),
+        plain(Kind::Sub, address, sign, begin, 0),
+        plain(Kind::Slli, address, address, zero, 32),
+        plain(Kind::Srli, address, address, zero, 32),
+        plain(Kind::Add, address, address, begin, 0),
+        plain(Kind::Sub, sign, sign, address, 0),
+        plain(Kind::Srli, sign, sign, zero, 32),
+    ])?;
+    Ok(())
+}
+
+/// Fires where the link is not that of the entry of the address.
+fn put_called(out: &mut Emit) -> Result<(), AllocError>
+    ensures { OnOk result (out.new ≡ out.old ++ called) }
+{
+    let zero = register(0);
+    let (half, address, place, link) = (register(14), register(15), register(30), register(31));
+    out.put(&[
+        plain(Kind::Add, place, address, half, 0),
+        plain(Kind::Add, place, place, half, 0),
+        plain(Kind::Sub, link, link, place, 0),
+        plain(Kind::Lw, place, place, zero, 0),
+        plain(Kind::Addi, place, place, zero, 12),
+        plain(Kind::Beq, zero, place, link, 8),
+        plain(Kind::Ebreak, zero, zero, zero, 0),
+    ])?;
+    Ok(())
+}
+
+/// Compares all registers.
+pub(crate) fn put_compare(out: &mut Emit) -> Result<(), AllocError>
+    ensures { OnOk result (out.new ≡ out.old ++ compare) }
+{
+    CompareAll.emit(&Ins::nop(), 0, out)?;
+    Ok(())
+}
+
+/// Gives the address of the next data word.
+fn put_begun(first: u64, out: &mut Emit) -> Result<(), AllocError>
+    ensures { OnOk result (out.new ≡ out.old ++ begun first) }
+{
+    let zero = register(0);
+    let (cursor, sign, address) = (register(15), register(16), register(30));
+    out.put(&[
+        plain(Kind::Addi, address, cursor, zero, 0),
+        Item::Constant(cursor, first),
+        plain(Kind::Add, cursor, cursor, sign, 0),
+        plain(Kind::Addi, sign, address, zero, 0),
+    ])?;
+    Ok(())
+}
+
+/// Puts the signature together, and sets the counter.
+fn put_done(first: u64, every: u64, out: &mut Emit) -> Result<(), AllocError>
+    requires { every ≤ 2048 }
+    ensures { OnOk result (out.new ≡ out.old ++ done first every) }
+{
+    let zero = register(0);
+    let (count, sign, address) = (register(15), register(16), register(30));
+    out.put(&[
+        Item::Constant(address, first),
+        plain(Kind::Sub, count, count, address, 0),
+        plain(Kind::Slli, count, count, zero, 32),
+        plain(Kind::Addi, address, sign, zero, 0),
+        plain(Kind::Add, sign, sign, count, 0),
+        plain(Kind::Addi, count, zero, zero, -every.cast_signed()),
+    ])?;
+    Ok(())
+}
+
+/// The end of the check, which goes back to the entry.
+fn put_back(first: u64, every: u64, out: &mut Emit) -> Result<(), AllocError>
+    requires { every ≤ 2048 }
+    ensures { OnOk result (out.new ≡ out.old ++ (done first every ++ look_up)) }
+{
+    put_done(first, every, out)?;
+    put_look_up(out)?;
+    Ok(())
+}
+
+/// The visits, and what stands behind them.
+fn put_round(first: u64, every: u64, visits: &Visit, out: &mut Emit) -> Result<(), AllocError>
+    requires { every ≤ 2048 }
+    ensures { OnOk result (out.new ≡ out.old ++ (visit visits.now.round (spans_of visits.now.span) ++ (done first every ++ look_up))) }
+{
+    visits.emit(&Ins::nop(), 0, out)?;
+    put_back(first, every, out)
+}
+
+/// The comparison, and what stands behind it.
+fn put_compared(first: u64, every: u64, visits: &Visit, out: &mut Emit) -> Result<(), AllocError>
+    requires { every ≤ 2048 }
+    ensures { OnOk result (out.new ≡ out.old ++ (compare ++ (begun first ++ (visit visits.now.round (spans_of visits.now.span) ++ (done first every ++ look_up))))) }
+{
+    put_compare(out)?;
+    put_begun(first, out)?;
+    put_round(first, every, visits, out)
+}
+
+/// The link, and what stands behind it.
+fn put_linked(first: u64, every: u64, visits: &Visit, out: &mut Emit) -> Result<(), AllocError>
+    requires { every ≤ 2048 }
+    ensures { OnOk result (out.new ≡ out.old ++ (called ++ (compare ++ (begun first ++ (visit visits.now.round (spans_of visits.now.span) ++ (done first every ++ look_up)))))) }
+{
+    put_called(out)?;
+    put_compared(first, every, visits, out)
+}
+
+/// The check of an input that begins at `base`, which sets the counter to less `every`.
+pub(crate) fn put_check(
+    base: u64,
+    every: u64,
+    visits: &Visit,
+    out: &mut Emit,
+) -> Result<(), AllocError>
+    requires { every ≤ 2048 }
+    ensures { OnOk result (out.new ≡ out.old ++ check base every visits.now.round (spans_of visits.now.span)) }
+{
+    put_parted(base, out)?;
+    put_linked(first_word(base, visits.span.as_slice()), every, visits, out)?;
+    Ok(())
+}

@@ -1,0 +1,15 @@
+//! The lean form of a test as words: its parts are made one after the other, counted, and laid out.
+#![tactic(auto)]
+
+mod begin;
+mod blocks;
+mod check;
+mod code;
+mod leave;
+mod steps;
+mod tick;
+mod turn;
+mod weaver;
+
+pub use code::lean_code;
+pub use weaver::LeanWeaver;

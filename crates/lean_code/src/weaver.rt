@@ -1,0 +1,130 @@
+//! What makes the parts of the lean form of a test.
+ghost use Rattle.std.specs.Prelude.{◌≡◌, ◌+◌, ◌^◌, ◌<◌, ◌≤◌, ℕ, AllPairs};
+ghost use Rattle.qed_model.specs.Weave.Placed.{EntriesAscend, leads_to};
+ghost use Rattle.lean_code.specs.Passes.{is_diverse as is_diverse_of};
+
+use crate::begin::put_begin;
+use crate::check::put_check;
+use crate::leave::{Leaves, put_leave};
+use crate::steps::block_steps;
+use crate::tick::put_tick;
+use block_list::CodeBlock;
+use eddi_dup::{Mirrored, Original};
+use guard_insert::Guarded;
+use mirror_forms::Diverse;
+use passes::{Each, Emit, PassAll, Then};
+use plc_rounds::Visit;
+use qed_model::{EntryRow, Item};
+use relinker::{distance_between, place_of};
+use rv_isa::Ins;
+use std::alloc::AllocError;
+use test_weave::Weaving;
+
+/// The passes of a piece, whose mirror parts are of the same kinds or of others.
+#[derive(Drop)]
+pub enum LeanPasses {
+    Same(Then<Each<Guarded<Original>>, Each<Mirrored>>),
+    Other(Then<Each<Guarded<Original>>, Each<Diverse>>),
+}
+
+impl LeanPasses {
+    /// Those of options.
+    pub(crate) fn of(diverse: bool) -> LeanPasses
+        ensures { is_diverse_of result ≡ diverse }
+    {
+        let first = Each {
+            pass: Guarded { pass: Original },
+        };
+        if diverse {
+            LeanPasses::Other(Then {
+                first,
+                second: Each { pass: Diverse },
+            })
+        } else {
+            LeanPasses::Same(Then {
+                first,
+                second: Each { pass: Mirrored },
+            })
+        }
+    }
+
+    /// Whether mirror parts are of other kinds.
+    fn is_diverse(&self) -> bool
+        ensures { result ≡ is_diverse_of self.now }
+    {
+        match self {
+            LeanPasses::Same(_) => false,
+            LeanPasses::Other(_) => true,
+        }
+    }
+}
+
+/// Makes the parts of the lean form of a test with these blocks.
+#[derive(Drop)]
+pub struct LeanWeaver<'a> {
+    pub(crate) passes: LeanPasses,
+    pub(crate) visits: Visit,
+    pub(crate) sweeps: bool,
+    /// Where the input begins.
+    pub(crate) base: u64,
+    /// The most steps from check to check.
+    pub(crate) every: u64,
+    /// Where the check stands.
+    pub(crate) check: u64,
+    pub(crate) blocks: &'a [CodeBlock],
+    /// Where the entries stand, as far as that is known: from the entry of a block its tick calls the check.
+    pub(crate) entries: Vec<EntryRow>,
+    /// Where others are.
+    pub(crate) last: u64,
+    ghost ascend: { AllPairs (λ b c. b.start < c.start) blocks.now },
+    ghost rows: { EntriesAscend entries.items },
+    ghost low: { (a : ℕ) → leads_to entries.items last a + 8 < 2 ^ 64 },
+    ghost few: { every ≤ 2048 },
+}
+
+impl<'a> LeanWeaver<'a> {
+    /// Where the entry of an input address stands.
+    fn entry(&self, address: u64) -> u64
+        ensures { result ≡ leads_to self.now.entries.items self.now.last address }
+    {
+        place_of(&self.entries, address).unwrap_or(self.last)
+    }
+}
+
+impl<'a> Weaving for LeanWeaver<'a> {
+    ghost use Rattle.lean_code.specs.Form.{code_of, IsOwn};
+
+    ghost code = { λ w. code_of w };
+
+    ghost is_for = { λ w b. IsOwn w b };
+
+    fn first(&self, distance: u64, entry: u64, out: &mut Emit) -> Result<(), AllocError> {
+        put_begin(distance, entry, out)?;
+        put_check(self.base, self.every, &self.visits, out)
+    }
+
+    fn enter(&self, block: &CodeBlock, out: &mut Emit) -> Result<(), AllocError> {
+        let steps = block_steps(self.passes.is_diverse(), self.blocks, block);
+        let call = self.entry(block.start) + 8;
+        out.push(Item::Mark(block.start))?;
+        put_tick(steps, distance_between(call, self.check), out)
+    }
+
+    fn piece(&self, list: &[Ins], at: u64, out: &mut Emit) -> Result<(), AllocError> {
+        match &self.passes {
+            LeanPasses::Same(passes) => passes.emit_all(list, at, out)?,
+            LeanPasses::Other(passes) => passes.emit_all(list, at, out)?,
+        }
+        Ok(())
+    }
+
+    fn leave(&self, block: &CodeBlock, out: &mut Emit) -> Result<(), AllocError> {
+        let at = block.start + 4 * block.body.as_slice().len() as u64;
+        let leaves = Leaves {
+            blocks: self.blocks,
+            span: self.visits.span.as_slice(),
+            sweeps: self.sweeps,
+        };
+        put_leave(&leaves, &block.end, block.start, at, out)
+    }
+}
