@@ -1,6 +1,6 @@
 -- In the lean form blocks are short: each multiple of so many words as a piece has at most begins one. So a block has no more instructions than a piece, and its
 -- tick counts fewer steps than there are from check to check.
-use Rattle.std.proofs.Common.{◌≡◌, ℕ, ◌+◌, ◌-◌, ◌*◌, ◌/◌, ◌%◌, ◌<◌, ◌≤◌, ⊎_elim, Bool, true, List, length, Some, is_some, refl, sym, ap, ◌∙◌, subst, arith}
+use Rattle.std.proofs.Common.{◌≡◌, ℕ, ◌+◌, ◌-◌, ◌*◌, ◌/◌, ◌%◌, ◌<◌, ◌≤◌, ⊎_elim, Bool, true, List, length, Some, is_some, ap, ◌∙◌, subst, arith}
 use Rattle.std.specs.Prelude.{IfSome}
 use Rattle.std.proofs.lemmas.Bool.{cases_lt}
 use Rattle.std.proofs.lemmas.Nat.{mod_below}
@@ -15,8 +15,7 @@ use Rattle.qed_model.specs.Weave.Bounds.{cost_of}
 use Rattle.qed_model.specs.Weave.Places.{AreSoundOptions}
 use Rattle.qed_model.specs.Weave.Sequences.{Block, End, Falls, Stops, body_length}
 use Rattle.qed_model.proofs.BlocksOnly.{body_code}
-use Rattle.lean_weave.specs.Woven.{block_steps, fall_to}
-use Rattle.lean_weave.specs.Lean.{leave_cost}
+use Rattle.lean_weave.specs.Woven.{block_steps}
 use Rattle.lean_weave.proofs.Blocks.{begins, length_is, leading}
 use Rattle.lean_weave.proofs.Costs.{IsEnd, body_most, end_most}
 

@@ -36,7 +36,7 @@ use Rattle.weave_core.proofs.PlacingForm.{length-instructions, mark_behind, rows
 use Rattle.lockstep.proofs.Closing.{only_inside}
 use Rattle.lean_weave.specs.Lean.{check, begin, leave}
 use Rattle.lean_weave.specs.Tests.{IsLeanTest, LeanTestsKept, LeanTestsCaught, LeanTestsClean, lean_of, lean_items, lean_bounds, items_with, start_at, steps_at, AreLeanBlocks, LeanTestsHaveWords}
-use Rattle.lean_weave.specs.Woven.{Lean, LeanIn, LeanPlan, worded, weave_of, block_steps, fall_words}
+use Rattle.lean_weave.specs.Woven.{Lean, LeanIn, LeanPlan, worded, weave_of, fall_words}
 use Rattle.lean_weave.proofs.Ways.{reads_behind}
 use Rattle.lean_weave.proofs.Blocks.{begun, begins, length_is, leading, starts, steps, counted, in_order, all_good}
 use Rattle.lean_weave.proofs.Short.{only_reached, few_steps, short}
