@@ -28,6 +28,7 @@ class Options:
     sweep: bool = False
     diverse: bool = False
     entries: str = "all"
+    lean: Optional[int] = None
 
 
 @dataclass
@@ -205,6 +206,8 @@ def leaders(test: Test, options: Options) -> Set[int]:
     found = {test.file.entry} | named(test.file)
     if options.entries == "reached" and test.has_indirect:
         found |= reached(test)
+    if options.lean is not None:
+        found |= {address for address in test.code if address % (4 * options.inst_max) == 0}
     for address, i in test.code.items():
         if i.group in ("branch", "jal"):
             found.add(address + i.imm & WORD)

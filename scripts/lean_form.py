@@ -46,8 +46,7 @@ def cost(items):
 
 def cells_of(test, p):
     """The blocks of `--entries reached`, which begin also at each multiple of as many words as `--inst-max` says."""
-    starts, found = leaders(test, Options(entries="reached")), []
-    starts |= {address for address in test.code if address % (4 * p.inst_max) == 0}
+    starts, found = leaders(test, Options(inst_max=p.inst_max, entries="reached", lean=p.every)), []
     for address in test.code:
         if address not in starts:
             continue

@@ -272,6 +272,7 @@ options given = record {
   sweep = not (lacks given Sweep);
   diverse = not (lacks given Diverse);
   entries = unwrap_or (option_map entries (word_given Entries given)) default_options.entries;
+  lean = default_options.lean;
 }
 
 -- the floor leaves no room

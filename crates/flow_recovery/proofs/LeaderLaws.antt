@@ -1,5 +1,5 @@
 -- What was collected are the leaders.
-use Rattle.std.proofs.Common.{◌≡◌, ⊎_elim, ℕ, ◌+◌, ◌<◌, ◌^◌, Bool, true, false, List, [], map, refl, sym, ap, ◌∙◌, subst}
+use Rattle.std.proofs.Common.{◌≡◌, ⊎_elim, ℕ, ◌+◌, ◌*◌, ◌%◌, ◌<◌, ◌^◌, Bool, true, false, is_some, List, [], map, refl, sym, ap, ◌∙◌, subst}
 use Rattle.std.specs.Prelude.{All, AllPairs, ◌==◌, ◌&&◌, ◌||◌, ◌↔◌, IsTrue, nat_lt, filter}
 use Rattle.std.specs.List.{list_any}
 use Rattle.std.specs.List.Sorted.{IsPermutation, IsSorted}
@@ -19,7 +19,7 @@ use Rattle.qed_model.specs.declared.test.CodeWord.{CodeWord}
 use Rattle.qed_model.specs.declared.test.Test.{Test}
 use Rattle.qed_model.specs.Machine.Step.{target}
 use Rattle.qed_model.specs.Admission.Terms.{is_named, is_relocated, is_named_in}
-use Rattle.qed_model.specs.Admission.Leaders.{has_target, is_end, is_indirect, Begins, Entry, Target, After, Named, Reached, IsLeader, HasIndirect}
+use Rattle.qed_model.specs.Admission.Leaders.{has_target, is_end, is_indirect, Begins, Entry, Target, After, Named, Reached, Even, IsLeader, HasIndirect}
 use Rattle.qed_model.specs.Admission.Reached.{is_reached}
 use Rattle.qed_model.specs.Admission.CodeWords.{is_code}
 use Rattle.qed_model.specs.Admission.Test.{AreCodeWords, IsTestOf}
@@ -27,7 +27,7 @@ use Rattle.qed_model.proofs.Among.{among_of, contains_of, passing, any_passing, 
 use Rattle.qed_model.specs.Members.{Among}
 use Rattle.flow_recovery.specs.Sets.{lists, Adds}
 use Rattle.qed_model.proofs.OneTest.{reached_by}
-use Rattle.flow_recovery.specs.Words.{leads_to, ends_before, begins_by, is_begun, is_chosen, is_entered, of_code}
+use Rattle.flow_recovery.specs.Words.{leads_to, ends_before, begins_by, is_begun, is_chosen, is_entered, is_even, is_leveled, of_code}
 use Rattle.flow_recovery.specs.Leaders.{AreLeaders}
 use Rattle.flow_recovery.proofs.CodeLaws.{code_word, standing_word, stands_word}
 use Rattle.flow_recovery.proofs.OrderLaws.{pairs_of, rising, listed, among_listed, filter_alike, kept_lists, of_code_is}
@@ -76,8 +76,12 @@ module _ (f : ElfFile) (o : Options) (t : Test) (told : IsTestOf f o t) where
   is_named_by a = is_begun t.entry code f.symbols f.relas a
 
   -- or because it is reached
+  abbrev is_known : ℕ → Bool
+  is_known a = is_named_by a || is_entered f o t a
+
+  -- or as a multiple
   abbrev is_found : ℕ → Bool
-  is_found a = is_named_by a || is_entered f o t a
+  is_found a = is_known a || is_leveled o code a
 
   by_word : (c : CodeWord) (a : ℕ) → Among c code → begins_by c a ≡ true → Begins f o a
   by_word c a m e =
@@ -108,35 +112,55 @@ module _ (f : ElfFile) (o : Options) (t : Test) (told : IsTestOf f o t) where
       let q = and_parts (has_jalr code) (is_reached f t a) p.1 in
       Reached (only o.entries p.0) ((indirect_is f code (has_jalr code) words refl).0 q.0) (record { test = t; told = told; reached = q.1 })
 
+  by_level : (a : ℕ) → is_leveled o code a ≡ true → Begins f o a
+  by_level a e =
+      let p = and_parts (is_some o.lean) (list_any (λ c. is_even (4 * o.inst_max) c a) code) e in
+      let k = passing (λ c. is_even (4 * o.inst_max) c a) code p.1 in
+      let q = and_parts (k.member.at % (4 * o.inst_max) == 0) (k.member.at == a) k.passes in
+      Even p.0 (ap (λ x. x % (4 * o.inst_max)) (sym (eqb-true k.member.at a q.1)) ∙ eqb-true (k.member.at % (4 * o.inst_max)) 0 q.0)
+
   begun : (a : ℕ) → is_found a ≡ true → Begins f o a
-  begun a e = ⊎_elim (λ n. by_name a n) (λ r. by_reach a r) (or_cases (is_named_by a) (is_entered f o t a) e)
+  begun a e = ⊎_elim (λ k. ⊎_elim (λ n. by_name a n) (λ r. by_reach a r) (or_cases (is_named_by a) (is_entered f o t a) k)) (λ v. by_level a v) (or_cases (is_known a) (is_leveled o code a) e)
 
   -- ---- and the other way
-  by_any : (c : CodeWord) (a : ℕ) → Among c code → begins_by c a ≡ true → is_found a ≡ true
+  by_any : (c : CodeWord) (a : ℕ) → Among c code → begins_by c a ≡ true → is_known a ≡ true
   by_any c a m e =
       or_left (is_named_by a) (is_entered f o t a)
       (or_right (t.entry == a) (list_any (λ c. begins_by c a) code || is_named_in f a) (or_left (list_any (λ c. begins_by c a) code) (is_named_in f a) (any_passing (λ c. begins_by c a) c code m e)))
 
-  found : (a : ℕ) → a < 2 ^ 64 → Begins f o a → is_found a ≡ true
-  found a lt (Entry e) =
-      or_left (is_named_by a) (is_entered f o t a) (or_left (t.entry == a) (list_any (λ c. begins_by c a) code || is_named_in f a) (eq-eqb t.entry a (told.entry ∙ sym e)))
-  found a lt (Target i s e) =
+  by_word_at : (c : CodeWord) (a : ℕ) → Among c code → a ≡ c.at → is_some o.lean ≡ true → a % (4 * o.inst_max) ≡ 0 → is_leveled o code a ≡ true
+  by_word_at c a m at lean multiple =
+      and_from (is_some o.lean) (list_any (λ d. is_even (4 * o.inst_max) d a) code) lean
+      (any_passing (λ d. is_even (4 * o.inst_max) d a) c code m
+      (and_from (c.at % (4 * o.inst_max) == 0) (c.at == a) (eq-eqb (c.at % (4 * o.inst_max)) 0 (ap (λ x. x % (4 * o.inst_max)) (sym at) ∙ multiple)) (eq-eqb c.at a (sym at))))
+
+  level : (a : ℕ) → is_known a ≡ true → is_found a ≡ true
+  level a e = or_left (is_known a) (is_leveled o code a) e
+
+  found : (a : ℕ) → a < 2 ^ 64 → is_code f a ≡ true → Begins f o a → is_found a ≡ true
+  found a lt stands (Entry e) =
+      level a (or_left (is_named_by a) (is_entered f o t a) (or_left (t.entry == a) (list_any (λ c. begins_by c a) code || is_named_in f a) (eq-eqb t.entry a (told.entry ∙ sym e))))
+  found a lt stands (Target i s e) =
       let w = standing_word f code words has_target i s in
       let is : target w.word.ins w.word.at ≡ a = ap (λ x. target x w.word.at) (sym w.instruction) ∙ ap (λ x. target s.instruction x) (sym w.at) ∙ sym e in
-      by_any w.word a w.among (or_left (leads_to w.word a) (ends_before w.word a) (and_from (has_target (class_of w.word.ins.kind)) (target w.word.ins w.word.at == a) w.class (eq-eqb (target w.word.ins w.word.at) a is)))
-  found a lt (After i s e) =
+      level a (by_any w.word a w.among (or_left (leads_to w.word a) (ends_before w.word a) (and_from (has_target (class_of w.word.ins.kind)) (target w.word.ins w.word.at == a) w.class (eq-eqb (target w.word.ins w.word.at) a is))))
+  found a lt stands (After i s e) =
       let w = standing_word f code words is_end i s in
       let is : w.word.at + 4 ≡ a = ap (λ x. x + 4) (sym w.at) ∙ sym e in
-      by_any w.word a w.among
+      level a
+      (by_any w.word a w.among
       (or_right (leads_to w.word a) (ends_before w.word a)
       (and_from (is_end (class_of w.word.ins.kind)) (nat_lt a (2 ^ 64) && (w.word.at + 4 == a)) w.class
-      (and_from (nat_lt a (2 ^ 64)) (w.word.at + 4 == a) (lt-ltb a (2 ^ 64) lt) (eq-eqb (w.word.at + 4) a is))))
-  found a lt (Named e) =
-      or_left (is_named_by a) (is_entered f o t a) (or_right (t.entry == a) (list_any (λ c. begins_by c a) code || is_named_in f a) (or_right (list_any (λ c. begins_by c a) code) (is_named_in f a) e))
-  found a lt (Reached e h r) =
-      or_right (is_named_by a) (is_entered f o t a)
+      (and_from (nat_lt a (2 ^ 64)) (w.word.at + 4 == a) (lt-ltb a (2 ^ 64) lt) (eq-eqb (w.word.at + 4) a is)))))
+  found a lt stands (Named e) =
+      level a
+      (or_left (is_named_by a) (is_entered f o t a) (or_right (t.entry == a) (list_any (λ c. begins_by c a) code || is_named_in f a) (or_right (list_any (λ c. begins_by c a) code) (is_named_in f a) e)))
+  found a lt stands (Reached e h r) =
+      level a
+      (or_right (is_named_by a) (is_entered f o t a)
       (and_from (is_chosen o.entries) (has_jalr code && is_reached f t a) (ap is_chosen e)
-      (and_from (has_jalr code) (is_reached f t a) ((indirect_is f code (has_jalr code) words refl).1 h) (reached_by f o t a told r)))
+      (and_from (has_jalr code) (is_reached f t a) ((indirect_is f code (has_jalr code) words refl).1 h) (reached_by f o t a told r))))
+  found a lt stands (Even lean multiple) = let w = code_word f code words a stands in or_right (is_known a) (is_leveled o code a) (by_word_at w.word a w.among w.at lean multiple)
 
   -- ---- those of the code
   module _ (small : All (λ c. c.at < 2 ^ 64) code) where
@@ -150,7 +174,7 @@ module _ (f : ElfFile) (o : Options) (t : Test) (told : IsTestOf f o t) where
     kept a l =
         let w = code_word f code words a l.code in
         let lt : a < 2 ^ 64 = subst (λ x. x < 2 ^ 64) (sym w.at) (All-contains (λ (c : CodeWord). c.at < 2 ^ 64) code w.word small (contains_of w.word code w.among)) in
-        and_from (is_code f a) (is_found a) l.code (found a lt l.begins)
+        and_from (is_code f a) (is_found a) l.code (found a lt l.code l.begins)
 
     abbrev addresses : List ℕ
     addresses = map (λ (c : CodeWord). c.at) code
@@ -175,18 +199,21 @@ module _ (f : ElfFile) (o : Options) (t : Test) (told : IsTestOf f o t) where
 
 -- the same of lists that are those of the test and of the file, in which what is named and what is reached were listed
 pub leaders_found :
-    (f : ElfFile) (o : Options) (t : Test) (listed : List CodeWord) (symbols : List Symbol) (relas : List Rela) (u v leaders : List ℕ)
+    (f : ElfFile) (o : Options) (t : Test) (listed : List CodeWord) (symbols : List Symbol) (relas : List Rela) (u v w leaders : List ℕ)
     → listed ≡ t.code → symbols ≡ f.symbols → relas ≡ f.relas → IsTestOf f o t → All (λ c. c.at < 2 ^ 64) listed
-    → ((a : ℕ) → lists u a ≡ is_begun t.entry listed symbols relas a) → Adds u v (is_entered f o t)
-    → (AllPairs (λ a b. a < b) (map (λ c. c.at) listed) → leaders ≡ filter (lists v) (map (λ c. c.at) listed)) → AreLeaders f o t.code leaders
-leaders_found f o t listed symbols relas u v leaders code by_symbols by_relas told small named entered kept =
-    leaders_are f o t told (subst (All (λ (c : CodeWord). c.at < 2 ^ 64)) code small) v leaders found_in
-    ((subst (λ (cs : List CodeWord). AllPairs (λ a b. a < b) (map (λ c. c.at) cs) → leaders ≡ filter (lists v) (map (λ c. c.at) cs)) code kept) told.code.addresses.ascend) where
-      found_in : (a : ℕ) → lists v a ≡ is_found f o t told a
-      found_in a =
+    → ((a : ℕ) → lists u a ≡ is_begun t.entry listed symbols relas a) → Adds u v (is_entered f o t) → Adds v w (is_leveled o listed)
+    → (AllPairs (λ a b. a < b) (map (λ c. c.at) listed) → leaders ≡ filter (lists w) (map (λ c. c.at) listed)) → AreLeaders f o t.code leaders
+leaders_found f o t listed symbols relas u v w leaders code by_symbols by_relas told small named entered leveled kept =
+    leaders_are f o t told (subst (All (λ (c : CodeWord). c.at < 2 ^ 64)) code small) w leaders found_in
+    ((subst (λ (cs : List CodeWord). AllPairs (λ a b. a < b) (map (λ c. c.at) cs) → leaders ≡ filter (lists w) (map (λ c. c.at) cs)) code kept) told.code.addresses.ascend) where
+      known_in : (a : ℕ) → lists v a ≡ is_known f o t told a
+      known_in a =
           entered.each a
           ∙ ap (λ b. b || is_entered f o t a)
           (named a ∙ ap (λ ws. is_begun t.entry ws symbols relas a) code ∙ ap (λ ss. is_begun t.entry t.code ss relas a) by_symbols ∙ ap (λ rs. is_begun t.entry t.code f.symbols rs a) by_relas)
+
+      found_in : (a : ℕ) → lists w a ≡ is_found f o t told a
+      found_in a = leveled.each a ∙ ap (λ b. b || is_leveled o listed a) (known_in a) ∙ ap (λ ws. is_known f o t told a || is_leveled o ws a) code
 
 -- what was sorted, along the words
 pub begun_is : (list sorted slice kept : List ℕ) (words : List CodeWord) → IsPermutation list sorted → IsSorted nat_cmp sorted → slice ≡ sorted → kept ≡ of_code slice words → AllPairs (λ a b. a < b) (map (λ c. c.at) words) → kept ≡ filter (lists list) (map (λ c. c.at) words)

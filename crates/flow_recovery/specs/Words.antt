@@ -1,5 +1,5 @@
--- Where blocks begin, by lists of words, symbols and relocations, and by what is reached.
-use Rattle.std.specs.Prelude.{ℕ, ◌+◌, ◌^◌, ◌==◌, ◌&&◌, ◌||◌, Bool, true, false, if◌then◌else◌, nat_lt, List, [], ◌∷◌}
+-- Where blocks begin, by lists of words, symbols and relocations, by what is reached, and in the lean form by multiples.
+use Rattle.std.specs.Prelude.{ℕ, ◌+◌, ◌*◌, ◌%◌, ◌^◌, ◌==◌, ◌&&◌, ◌||◌, Bool, true, false, if◌then◌else◌, nat_lt, is_some, List, [], ◌∷◌}
 use Rattle.std.specs.List.{list_any}
 use Rattle.elf_types.specs.declared.file.Symbol.{Symbol}
 use Rattle.elf_types.specs.declared.file.Rela.{Rela}
@@ -40,6 +40,14 @@ is_chosen entries.Reached = true
 -- the address is such a one, and some word is a JALR
 abbrev pub is_entered : ElfFile → Options → Test → ℕ → Bool
 is_entered f o t a = is_chosen o.entries && (list_any (λ c. is_indirect (class_of c.ins.kind)) t.code && is_reached f t a)
+
+-- the address, a multiple of so many bytes, is that of the word
+abbrev pub is_even : ℕ → CodeWord → ℕ → Bool
+is_even size c a = (c.at % size == 0) && (c.at == a)
+
+-- in the lean form it is that of some word, and a multiple of so many words as a piece has at most
+abbrev pub is_leveled : Options → List CodeWord → ℕ → Bool
+is_leveled o words a = is_some o.lean && list_any (λ c. is_even (4 * o.inst_max) c a) words
 
 -- those of ascending addresses at which words stand
 abbrev pub of_code : List ℕ → List CodeWord → List ℕ

@@ -3,6 +3,7 @@
 
 mod classes;
 mod constants;
+mod even;
 mod named;
 mod reach;
 mod recovery;

@@ -5,11 +5,13 @@ ghost use Rattle.rv_isa.specs.Kind.{class_of};
 ghost use Rattle.elf_types.specs.declared.file.ElfFile.{ElfFile};
 ghost use Rattle.qed_model.specs.Admission.Leaders.{is_indirect, HasIndirect};
 ghost use Rattle.qed_model.specs.Admission.Test.{AreCodeWords, IsTestOf};
+ghost use Rattle.qed_model.specs.Weave.Places.{AreSoundOptions};
 ghost use Rattle.flow_recovery.specs.Sets.{lists, Adds, from_on, is_first};
 ghost use Rattle.flow_recovery.specs.Words.{is_begun, is_chosen, is_entered, of_code};
 ghost use Rattle.flow_recovery.specs.Leaders.{AreLeaders};
 
 use crate::classes::is_indirect;
+use crate::even::add_leveled;
 use crate::named::{add_relocations, add_symbols};
 use crate::reach::add_reached;
 use crate::sets::add;
@@ -118,13 +120,15 @@ pub fn leaders(
     file: &ElfFile,
     options: &Options,
 ) -> Result<Vec<u64>, AllocError>
-    requires { IsTestOf file.now options.now test.now }
+    requires test { IsTestOf file.now options.now test.now }
+    requires sound { AreSoundOptions options.now }
     ensures { IfOk result (λ leaders. AreLeaders file.now options.now test.now.code leaders.items) }
 {
     let words = test.code.as_slice();
     let (symbols, relas) = (file.symbols.as_slice(), file.relas.as_slice());
     let mut list = named(alloc, test.entry, words, symbols, relas)?;
     add_entered(&mut list, test, file, options)?;
+    add_leveled(&mut list, words, options)?;
     let leaders = begun(alloc, list, words)?;
     Ok(leaders)
 }

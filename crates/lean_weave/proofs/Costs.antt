@@ -1,7 +1,8 @@
--- The most steps of parts of leaves.
-use Rattle.std.proofs.Common.{ℕ, ◌+◌, ◌%◌, ◌^◌, ◌≤◌, Bool, true, false, cond, [], ◌∷◌, ◌++◌, arith}
+-- The most steps of pieces, and of parts of leaves.
+use Rattle.std.proofs.Common.{◌≡◌, ℕ, ◌+◌, ◌-◌, ◌*◌, ◌%◌, ◌^◌, ◌≤◌, Bool, true, false, cond, List, [], ◌∷◌, ◌++◌, length, refl, arith}
 use Rattle.std.specs.Prelude.{◌==◌, max, ℤ, pos, neg_ℤ}
-use Rattle.std.proofs.Math.Nat.{max-le}
+use Rattle.std.proofs.lemmas.Bool.{false≢true}
+use Rattle.std.proofs.Math.Nat.{max-le, mul-add}
 use Rattle.rv_isa.specs.declared.ins.Ins.{Ins}
 use Rattle.rv_isa.specs.declared.kind.Kind.TheVariants.{Lui, Addi, Andi, Add, Beq}
 use Rattle.rv_isa.specs.declared.class.Class.{Class}
@@ -11,14 +12,33 @@ use Rattle.qed_model.specs.declared.item.Item.TheVariants.{Mark, Plain, Constant
 use Rattle.qed_model.specs.Machine.Table.{ins}
 use Rattle.qed_model.specs.Machine.Step.{target}
 use Rattle.qed_model.specs.Weave.Placed.{distance_between, upper_part, lower_part}
-use Rattle.qed_model.specs.Weave.Sequences.{End, Falls, Stops, fired_check, guard, guards_of, links}
+use Rattle.qed_model.specs.Admission.Leaders.{is_end}
+use Rattle.qed_model.specs.Weave.Bounds.{cost_of}
+use Rattle.qed_model.specs.Weave.Sequences.{End, Falls, Stops, body_length, fired_check, guard, guards_of, links}
 use Rattle.rv_isa.specs.Kind.{class_of}
 use Rattle.weave_core.specs.World.{World}
 use Rattle.weave_core.specs.Blocks.{Leaves, EndStands}
+use Rattle.weave_core.specs.Rows.{spent, mirror_steps}
 use Rattle.lean_weave.specs.Lean.{is_short, turn_by, turn, goes, look_up, leave_as, is_break, cost, leave_cost, leave_cost_as}
-use Rattle.lean_weave.specs.Woven.{fall_to}
+use Rattle.lean_weave.specs.Woven.{piece_steps, body_steps, fall_to}
+use Rattle.weave_core.proofs.Body.{mirror_steps_le, spent_le}
+use Rattle.weave_core.proofs.PieceLaws.{cost_parts}
 use Rattle.lean_weave.proofs.Chain.{cost_append}
 
+-- ---- of pieces
+pub piece_most : (diverse : Bool) (is : List Ins) → piece_steps diverse is ≤ cost_of diverse * length is
+piece_most true is = cost_parts 8 (λ i. 8 - spent i) (omega arith) (λ i. omega arith) is
+piece_most false is = cost_parts 5 mirror_steps (omega arith) (λ i. let a = mirror_steps_le i in let b = spent_le i in omega (arith, a, b)) is
+
+pub body_most : (diverse : Bool) (ps : List (List Ins)) → body_steps diverse ps ≤ cost_of diverse * body_length ps
+body_most diverse [] = omega arith
+body_most diverse (p ∷ ps) =
+    let a = piece_most diverse p in
+    let b = body_most diverse ps in
+    let c = mul-add (cost_of diverse) (length p) (body_length ps) in
+    omega (arith, a, b, c)
+
+-- ---- of parts of leaves
 guard_most : (q : ℕ) → cost (guard q) ≤ 1
 guard_most q = by (q == 0) where
   by : (b : Bool) → cost (cond b [] (Plain (ins Beq 0 q (q + 16) (pos 8)) ∷ fired_check ∷ [])) ≤ 1
@@ -90,18 +110,36 @@ end_cost leader i a at = let b = one (is_break i.kind) in omega (arith, b) where
   one true = omega arith
   one false = omega arith
 
--- of any that stands at the end of a block
-stop_cost : (c : Class) (w : World) (leader : ℕ → Bool) (i : Ins) (a at : ℕ) → Leaves c w leader i at → leave_cost_as (fall_to leader) c i a at ≤ 19
-stop_cost class.End w leader i a at g = end_cost leader i a at
-stop_cost class.Illegal w leader i a at g = let b = one (is_break i.kind) in omega (arith, b) where
+-- an end that stops is one by its class
+abbrev pub IsEnd : End → Type 0
+IsEnd Falls = Unit {0}
+IsEnd (Stops i) = is_end (class_of i.kind) ≡ true
+
+-- of any end of a block
+stop_cost : (c : Class) (leader : ℕ → Bool) (i : Ins) (a at : ℕ) → is_end c ≡ true → leave_cost_as (fall_to leader) c i a at ≤ 19
+stop_cost class.End leader i a at e = end_cost leader i a at
+stop_cost class.Illegal leader i a at e = let b = one (is_break i.kind) in omega (arith, b) where
   one : (b : Bool) → cond {A = ℕ} b 0 1 ≤ 1
   one true = omega arith
   one false = omega arith
-stop_cost class.Jump w leader i a at g = jump_cost leader i a at
-stop_cost class.Branch w leader i a at g = branch_cost leader i a at
-stop_cost class.JumpReg w leader i a at g = leap_cost leader i a at
-stop_cost c w leader i a at g = absurd g
+stop_cost class.Jump leader i a at e = jump_cost leader i a at
+stop_cost class.Branch leader i a at e = branch_cost leader i a at
+stop_cost class.JumpReg leader i a at e = leap_cost leader i a at
+stop_cost c leader i a at e = absurd (false≢true e)
+
+pub end_most : (e : End) (leader : ℕ → Bool) (a at : ℕ) → IsEnd e → leave_cost (fall_to leader) e a at ≤ 19
+end_most Falls leader a at h = falls_cost leader a at
+end_most (Stops i) leader a at h = stop_cost (class_of i.kind) leader i a at h
+
+-- and of what stands at the end of a block
+leaving : (c : Class) (w : World) (leader : ℕ → Bool) (i : Ins) (at : ℕ) → Leaves c w leader i at → is_end c ≡ true
+leaving class.End w leader i at g = refl
+leaving class.Illegal w leader i at g = refl
+leaving class.Jump w leader i at g = refl
+leaving class.Branch w leader i at g = refl
+leaving class.JumpReg w leader i at g = refl
+leaving c w leader i at g = absurd g
 
 pub leave_most : (e : End) (w : World) (leader : ℕ → Bool) (a at : ℕ) → EndStands w leader e at → leave_cost (fall_to leader) e a at ≤ 19
-leave_most Falls w leader a at g = falls_cost leader a at
-leave_most (Stops i) w leader a at g = stop_cost (class_of i.kind) w leader i a at g.1
+leave_most Falls w leader a at g = end_most Falls leader a at tt
+leave_most (Stops i) w leader a at g = end_most (Stops i) leader a at (leaving (class_of i.kind) w leader i at g.1)

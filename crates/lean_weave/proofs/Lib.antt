@@ -20,5 +20,6 @@ pub mod Lands
 pub mod Promise
 pub mod Unmarked
 pub mod Blocks
+pub mod Short
 pub mod Tests
 pub mod Near

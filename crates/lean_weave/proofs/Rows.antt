@@ -15,12 +15,10 @@ use Rattle.qed_model.proofs.Walk.{Over, over_moved}
 use Rattle.qed_model.proofs.Walked.{Walk, walk_on}
 use Rattle.weave_core.specs.World.{World, Quiet, Twice, IsCursor, words_on}
 use Rattle.weave_core.specs.Blocks.{IsEntryOf}
-use Rattle.weave_core.specs.Rows.{At, Sourced, spent, mirror_steps}
+use Rattle.weave_core.specs.Rows.{At, Sourced}
 use Rattle.weave_core.specs.Weave.{Weave}
 use Rattle.weave_core.specs.WeaveLaws.{PieceAt, Stands, GoesTo, Inside}
-use Rattle.weave_core.proofs.Body.{mirror_steps_le, spent_le}
 use Rattle.weave_core.proofs.FormRows.{front_row}
-use Rattle.weave_core.proofs.PieceLaws.{cost_parts}
 use Rattle.weave_core.proofs.Sets.{writes, halved_writes}
 use Rattle.weave_core.proofs.Visit.{words_within}
 use Rattle.lean_weave.specs.Lean.{first_word, tick, check, is_ticked_at}
@@ -29,6 +27,7 @@ use Rattle.qed_model.specs.Weave.Woven.{mirror_of}
 use Rattle.lean_weave.specs.Woven.{Lean, piece_steps, check_steps, weave_of, LeanIn}
 use Rattle.lean_weave.proofs.Chain.{read_back, all_temps}
 use Rattle.lean_weave.proofs.Check.{Back, check_row}
+use Rattle.lean_weave.proofs.Costs.{piece_most}
 use Rattle.lean_weave.proofs.Held.{Ticked, ticked_of, ticked_is, ticked_same}
 use Rattle.lean_weave.proofs.Piece.{piece_row}
 use Rattle.lean_weave.proofs.Tick.{counter, pass_row, call_row}
@@ -188,11 +187,8 @@ module _ (w : World) (l : Lean) (leader : ℕ → Bool) (x : LeanIn w l leader) 
   piece_few is fits =
       let few = leb-true (length is) l.inst_max (and_parts _ _ fits).1 in
       let m : cost_of l.diverse * length is ≤ cost_of l.diverse * l.inst_max = mul-le-mul_left (cost_of l.diverse) few in
-      let c = by l.diverse in
-      omega (arith, c, m) where
-        by : (b : Bool) → piece_steps b is ≤ cost_of b * length is
-        by true = cost_parts 8 (λ i. 8 - spent i) (omega arith) (λ i. omega arith) is
-        by false = cost_parts 5 mirror_steps (omega arith) (λ i. let a = mirror_steps_le i in let b = spent_le i in omega (arith, a, b)) is
+      let c = piece_most l.diverse is in
+      omega (arith, c, m)
 
   pub piece_law :
       (is : List Ins) (b : ℕ) (u s : State) (rest : List Item) → is_ticked_at l.every w u b ≡ true → PieceAt w v s.pc is → At w u (v.code.piece is s.pc ++ rest) s s → Sourced w s

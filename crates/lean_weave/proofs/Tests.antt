@@ -6,6 +6,7 @@ use Rattle.elf_types.specs.declared.file.ElfFile.{ElfFile}
 use Rattle.rv_isa.specs.declared.ins.Ins.{Ins}
 use Rattle.qed_model.specs.declared.item.Item.{Item}
 use Rattle.qed_model.specs.declared.options.Options.{Options}
+use Rattle.qed_model.specs.declared.options.Entries.TheVariants as entries
 use Rattle.qed_model.specs.declared.plan.EntryRow.{EntryRow}
 use Rattle.qed_model.specs.Numbers.{bytes_of}
 use Rattle.qed_model.specs.Admission.CodeWords.{instruction_at}
@@ -21,7 +22,6 @@ use Rattle.qed_model.specs.Weave.Placed.{sum_of_sizes, rows_from, entry_of, inst
 use Rattle.qed_model.specs.Weave.Places.{image_of, half_of, code_place}
 use Rattle.qed_model.specs.Weave.Sequences.{Form, End, Falls, Stops, Reads, Block, body_length, stub, original, each_part, before_end}
 use Rattle.qed_model.specs.Weave.Woven.{form_of, mirror_of}
-use Rattle.qed_model.proofs.Among.{all_among}
 use Rattle.qed_model.proofs.Fetches.{known_instruction}
 use Rattle.qed_model.proofs.PlacedWords.{size-append, IsInside, mark_inside, grain_of_sizes}
 use Rattle.weave_core.specs.World.{World}
@@ -36,9 +36,10 @@ use Rattle.weave_core.proofs.PlacingForm.{length-instructions, mark_behind, rows
 use Rattle.lockstep.proofs.Closing.{only_inside}
 use Rattle.lean_weave.specs.Lean.{check, begin, leave}
 use Rattle.lean_weave.specs.Tests.{IsLeanTest, LeanTestsKept, LeanTestsCaught, LeanTestsClean, lean_of, lean_items, lean_bounds, items_with, start_at, steps_at, AreLeanBlocks, LeanTestsHaveWords}
-use Rattle.lean_weave.specs.Woven.{Lean, LeanIn, LeanPlan, worded, weave_of, block_steps, fall_words}
+use Rattle.lean_weave.specs.Woven.{Lean, LeanIn, LeanPlan, worded, weave_of, fall_words}
 use Rattle.lean_weave.proofs.Ways.{reads_behind}
 use Rattle.lean_weave.proofs.Blocks.{begun, begins, length_is, leading, starts, steps, counted, in_order, all_good}
+use Rattle.lean_weave.proofs.Short.{only_reached, few_steps, short}
 use Rattle.lean_weave.proofs.Promise.{lean_kept, lean_caught, lean_clean}
 use Rattle.lean_weave.proofs.Unmarked.{unmarked_worded, entry_same, same_code, code_size}
 use Rattle.std.specs.List.{list_all}
@@ -92,6 +93,9 @@ module _ (f : ElfFile) (o : Options) (every : ℕ) (blocks : List Block) (t : Ar
 
   some_most : 1 ≤ o.inst_max
   some_most = let a = t.sound.some in let b = t.sound.room in omega (arith, a, b)
+
+  reached_only : o.entries ≡ entries.Reached
+  reached_only = only_reached f o every t.sound t.lean
 
   grain : (a : ℕ) → begins_at blocks a ≡ true → a % 4 ≡ 0
   grain a e = of.block_grain f o t.sound t.file.loads t.admitted blocks t.are a e
@@ -159,11 +163,11 @@ module _ (f : ElfFile) (o : Options) (every : ℕ) (blocks : List Block) (t : Ar
     block_near b m k =
         let n = b.start + 4 * body_length b.body in
         let a = start_at blocks b.end (b.start + 4 * body_length b.body) in
-        let own : start_at blocks b.end (b.start + 4 * body_length b.body) ≡ b.start = starts f o some_most blocks t.are t.reached grain (of.ascend f o t.sound t.file.loads t.admitted blocks t.are) b m in
-        let counts = steps f o some_most blocks t.are t.reached grain (of.ascend f o t.sound t.file.loads t.admitted blocks t.are) o.diverse (begins_at blocks) b m in
-        let short = all_among (λ x. block_steps o.diverse (begins_at blocks) x < every) b blocks t.short m in
-        let few = t.few in
-        both_all near_code ((s placed_at).enter b.start) (body_of (s placed_at) b.body b.end b.start) (tick_near at base d refl top bounds.1 (l.most b.start) (distance_between (placed_at b.start + 8) l.check) (omega (arith, counts, short, few)) (calls b.start (begins blocks b m)))
+        let own : start_at blocks b.end (b.start + 4 * body_length b.body) ≡ b.start = starts f o some_most blocks t.are reached_only grain (of.ascend f o t.sound t.file.loads t.admitted blocks t.are) b m in
+        let counts = steps f o some_most blocks t.are reached_only grain (of.ascend f o t.sound t.file.loads t.admitted blocks t.are) o.diverse (begins_at blocks) b m in
+        let less = short f o every t.sound t.lean blocks t.are grain b m in
+        let few = few_steps f o every t.sound t.lean in
+        both_all near_code ((s placed_at).enter b.start) (body_of (s placed_at) b.body b.end b.start) (tick_near at base d refl top bounds.1 (l.most b.start) (distance_between (placed_at b.start + 8) l.check) (omega (arith, counts, less, few)) (calls b.start (begins blocks b m)))
         (both_all near_code (pieces_of (s placed_at) b.body b.start) (leave (before_end form) (fall_words (begins_at blocks)) b.end a n) (pieces_near b.body b.start k.2)
         (leave_near at base d refl top bounds.1 (before_end form) (fall_words (begins_at blocks)) (before_near at base d refl top bounds.1 form spans) fall_near a (let low = k.0 in omega (arith, own, low)) (let high = k.1 in omega (arith, own, high)) b.end n k.3))
 
@@ -185,7 +189,7 @@ module _ (f : ElfFile) (o : Options) (every : ℕ) (blocks : List Block) (t : Ar
         let b = there.in_bounds f o t.sound t.file.loads t.admitted blocks t.are f.entry t.admitted.entry in
         let high = b.1 in
         both_all near_code first (entries_of (s placed_at) blocks ++ stub)
-        (both_all near_code (begin d f.entry) (check base every form.round form.spans) (begin_near at base d refl top bounds.1 f.entry bounds.0 b.0 (omega (arith, high))) (check_near at base d refl top bounds.1 every form.round form.spans spans t.few))
+        (both_all near_code (begin d f.entry) (check base every form.round form.spans) (begin_near at base d refl top bounds.1 f.entry bounds.0 b.0 (omega (arith, high))) (check_near at base d refl top bounds.1 every form.round form.spans spans (few_steps f o every t.sound t.lean)))
         (both_all near_code (entries_of (s placed_at) blocks) stub (entries_near blocks (λ b m. m) (there.blocks_there f o t.sound t.file.loads t.admitted blocks t.are blocks t.are.each)) (words.stub_near at base d refl top bounds.1))
 
     have_words : (ws : List ℕ) × IsLeanTest f o every blocks ws
@@ -237,7 +241,7 @@ module _ (f : ElfFile) (o : Options) (every : ℕ) (blocks : List Block) (t : Ar
       -- ---- the blocks
       -- an instruction stands where one begins
       codes : (a : ℕ) → begins_at blocks a ≡ true → (i : Ins) × (w.source a ≡ Known i)
-      codes a e = let b = begun blocks a e in subst (λ x. (i : Ins) × (w.source x ≡ Known i)) b.2 (of_block b.0 (leading f o some_most blocks t.are t.reached grain b.0 b.1)) where
+      codes a e = let b = begun blocks a e in subst (λ x. (i : Ins) × (w.source x ≡ Known i)) b.2 (of_block b.0 (leading f o some_most blocks t.are reached_only grain b.0 b.1)) where
         known : (x : ℕ) (i : Ins) → instruction_at f x ≡ Some i → (i : Ins) × (w.source x ≡ Known i)
         known x i h = (i, known_instruction f (of.shape f o t.sound t.file.loads t.admitted blocks t.are) x i h)
 
@@ -254,17 +258,17 @@ module _ (f : ElfFile) (o : Options) (every : ℕ) (blocks : List Block) (t : Ar
       good : AllBlocksOf w (weave_of w l (begins_at blocks)) (begins_at blocks) blocks
       good =
           all_good w l (begins_at blocks) blocks
-          (λ b m. and_from _ _ (eq-eqb (start_at blocks b.end (b.start + 4 * body_length b.body)) b.start (starts f o some_most blocks t.are t.reached grain ascend b m)) (begins blocks b m))
+          (λ b m. and_from _ _ (eq-eqb (start_at blocks b.end (b.start + 4 * body_length b.body)) b.start (starts f o some_most blocks t.are reached_only grain ascend b m)) (begins blocks b m))
           (of.good f o t.sound t.file.loads t.admitted blocks t.are false true items words are_items reached aims (λ e. refl))
 
       -- ---- the plan
       ticks : (a : ℕ) → begins_at blocks a ≡ true → l.most a < every
       ticks a e =
           let b = begun blocks a e in
-          let is = steps f o some_most blocks t.are t.reached grain ascend o.diverse (begins_at blocks) b.0 b.1 in
-          let short = all_among (λ x. block_steps o.diverse (begins_at blocks) x < every) b.0 blocks t.short b.1 in
+          let is = steps f o some_most blocks t.are reached_only grain ascend o.diverse (begins_at blocks) b.0 b.1 in
+          let less = short f o every t.sound t.lean blocks t.are grain b.0 b.1 in
           let here : steps_at o.diverse (begins_at blocks) blocks a ≡ steps_at o.diverse (begins_at blocks) blocks b.0.start = ap (steps_at o.diverse (begins_at blocks) blocks) (sym b.2) in
-          omega (arith, is, short, here)
+          omega (arith, is, less, here)
 
       begins_entry : begins_at blocks f.entry ≡ true
       begins_entry = of.begins f o t.sound t.file.loads t.admitted blocks t.are
@@ -274,7 +278,7 @@ module _ (f : ElfFile) (o : Options) (every : ℕ) (blocks : List Block) (t : Ar
         near = refl;
         small = let h = of.half_small (image_of f) o.half t.admitted.span t.sound.half in omega (arith, h);
         some = let k = ticks f.entry begins_entry in omega (arith, k);
-        few = t.few;
+        few = few_steps f o every t.sound t.lean;
         check = check_reads;
         ticks = ticks;
         codes = codes;
@@ -319,14 +323,14 @@ module _ (f : ElfFile) (o : Options) (every : ℕ) (blocks : List Block) (t : Ar
         check = refl;
         good = good;
         begins = begins_entry;
-        order = in_order f o some_most blocks t.are t.reached grain ascend room;
+        order = in_order f o some_most blocks t.are reached_only grain ascend room;
         only = only;
-        counts = counted f o some_most blocks t.are t.reached grain ascend l refl;
+        counts = counted f o some_most blocks t.are reached_only grain ascend l refl;
       } where
         -- a block ends far below 2^64
         room : (b : Block) → Among b blocks → b.start + 4 * body_length b.body + 4 < 2 ^ 64
         room b m =
-            let k = leading f o some_most blocks t.are t.reached grain b m in
+            let k = leading f o some_most blocks t.are reached_only grain b m in
             let n = length_is f o some_most b k in
             let code = of.known f o t.sound t.file.loads t.admitted blocks t.are in
             let from = code.below b.start k.leader.code in

@@ -1,5 +1,5 @@
 -- The lean form of a test: its new code, its file and its bounds, and the promises over them.
-use Rattle.std.specs.Prelude.{◌≡◌, ℕ, ◌+◌, ◌*◌, ◌^◌, ◌<◌, ◌≤◌, ◌==◌, ◌&&◌, Bool, true, false, cond, All, List, [], ◌∷◌, slice_index}
+use Rattle.std.specs.Prelude.{◌≡◌, ℕ, ◌+◌, ◌*◌, ◌^◌, ◌<◌, ◌≤◌, ◌==◌, ◌&&◌, Bool, true, false, cond, Some, List, [], ◌∷◌, slice_index}
 use Rattle.elf_types.specs.declared.file.ElfFile.{ElfFile}
 use Rattle.elf_types.specs.declared.output.OutFile.{OutFile}
 use Rattle.qed_model.specs.declared.bounds.Shape.{Shape}
@@ -7,7 +7,6 @@ use Rattle.qed_model.specs.declared.bounds.Bounds.{Bounds}
 use Rattle.qed_model.specs.declared.item.Item.{Item}
 use Rattle.qed_model.specs.declared.limits.TheConstants.{MAX_NEAR_CODE_BYTES}
 use Rattle.qed_model.specs.declared.options.Options.{Options}
-use Rattle.qed_model.specs.declared.options.Entries.TheVariants as entries
 use Rattle.qed_model.specs.Numbers.{bytes_of}
 use Rattle.qed_model.specs.Admission.DataRanges.{data_ranges}
 use Rattle.qed_model.specs.Admission.Reached.{AreReached}
@@ -70,16 +69,13 @@ abbrev pub lean_items : ElfFile → Options → ℕ → List Block → List Item
 lean_items f o every blocks = items_with f o every blocks (entry_of false (code_place o.half (image_of f)) (items_with f o every blocks (λ a. 0)))
 
 -- ---- the test
--- the file is admitted, with sound options and entries where a jump by register can lead; these are its blocks, each of fewer steps than there
--- are from check to check
+-- the file is admitted, with sound options of the lean form, and these are its blocks
 pub record AreLeanBlocks (f : ElfFile) (o : Options) (every : ℕ) (blocks : List Block) : Type 0 where
   pub file : IsSound f
   pub sound : AreSoundOptions o
   pub admitted : IsAdmitted f o
-  pub reached : o.entries ≡ entries.Reached
+  pub lean : o.lean ≡ Some every
   pub are : AreBlocks f o blocks
-  pub short : All (λ b. block_steps o.diverse (begins_at blocks) b < every) blocks
-  pub few : every ≤ 2048
 
 -- the words decode to the items in their places, which have no more bytes than a JAL spans
 pub record IsLeanTest (f : ElfFile) (o : Options) (every : ℕ) (blocks : List Block) (words : List ℕ) : Type 0 where

@@ -22,8 +22,7 @@ pub fn lean_clean()
     ensures { LeanClean }
 {}
 
-/// The lean form of an admitted test, whose blocks have fewer steps than there are from check to check, has words, where it has no more
-/// bytes than a JAL spans.
+/// The lean form of an admitted test has words, where it has no more bytes than a JAL spans.
 pub fn lean_tests_have_words()
     ensures { LeanTestsHaveWords }
 {}

@@ -52,13 +52,13 @@ blocks =
 
 are_blocks : AreBlocks test defaults blocks
 are_blocks =
-    made.are_blocks test 0x10000 all known defaults refl blocks refl refl (
-      inl (made.stopping test 0x10000 all known defaults refl [] [] jal (addi ∷ ecall ∷ jalr ∷ []) refl refl refl),
+    made.are_blocks test 0x10000 all known defaults refl refl blocks refl refl (
+      inl (made.stopping test 0x10000 all known defaults refl refl [] [] jal (addi ∷ ecall ∷ jalr ∷ []) refl refl refl),
       (
-        inl (made.stopping test 0x10000 all known defaults refl (jal ∷ []) ((addi ∷ []) ∷ []) ecall (jalr ∷ []) refl refl refl),
+        inl (made.stopping test 0x10000 all known defaults refl refl (jal ∷ []) ((addi ∷ []) ∷ []) ecall (jalr ∷ []) refl refl refl),
         (
-          inr (made.other test 0x10000 all known defaults refl (jal ∷ addi ∷ []) ecall (jalr ∷ []) refl refl),
-          (inl (made.stopping test 0x10000 all known defaults refl (jal ∷ addi ∷ ecall ∷ []) [] jalr [] refl refl refl), tt),
+          inr (made.other test 0x10000 all known defaults refl refl (jal ∷ addi ∷ []) ecall (jalr ∷ []) refl refl),
+          (inl (made.stopping test 0x10000 all known defaults refl refl (jal ∷ addi ∷ ecall ∷ []) [] jalr [] refl refl refl), tt),
         ),
       ),
     )

@@ -1,6 +1,6 @@
 -- The blocks of a known file whose instructions are known: which addresses are leaders, and that a list of blocks is all of them, from
 -- tests that are computed.
-use Rattle.std.proofs.Common.{◌≡◌, ◌⊎◌, inl, inr, ⊎_elim, ℕ, zero, suc, ◌+◌, ◌*◌, ◌<◌, ◌≤◌, Bool, true, false, ◌&&◌, ◌||◌, not, List, [], ◌∷◌, ◌++◌, length, Some, refl, sym, ap, ◌∙◌, subst, arith}
+use Rattle.std.proofs.Common.{◌≡◌, ◌⊎◌, inl, inr, ⊎_elim, ℕ, zero, suc, ◌+◌, ◌*◌, ◌<◌, ◌≤◌, Bool, true, false, ◌&&◌, ◌||◌, not, List, [], ◌∷◌, ◌++◌, length, Some, None, is_some, refl, sym, ap, ◌∙◌, subst, arith}
 use Rattle.std.specs.Prelude.{nat_le, nat_lt, ◌==◌}
 use Rattle.std.specs.List.{list_any}
 use Rattle.std.proofs.lemmas.Bool.{and_parts, eqb-true, eq-eqb, leb-true, ltb-true, or_cases, false≢true, not-true}
@@ -12,7 +12,7 @@ use Rattle.rv_isa.specs.Kind.{class_of}
 use Rattle.qed_model.specs.Machine.Step.{target}
 use Rattle.qed_model.specs.Admission.Terms.{is_named_in}
 use Rattle.qed_model.specs.Admission.CodeWords.{is_code, instruction_at}
-use Rattle.qed_model.specs.Admission.Leaders.{has_target, is_end, is_indirect, Begins, Entry, Target, After, Named, Reached, IsLeader, HasIndirect}
+use Rattle.qed_model.specs.Admission.Leaders.{has_target, is_end, is_indirect, Begins, Entry, Target, After, Named, Reached, Even, IsLeader, HasIndirect}
 use Rattle.qed_model.specs.Weave.Sequences.{Block, End, Falls, Stops}
 use Rattle.qed_model.specs.Weave.Pieces.{is_run, Breaks, AreRuns, all_pieces, whole, ArePieces}
 use Rattle.qed_model.specs.Weave.Blocks.{IsBodyAt, StopsAt, IsLeaderBlock, IsOtherBlock, begins_at, AreBlocks}
@@ -90,8 +90,8 @@ led a b i from (j ∷ js) m h =
 abbrev pub has_indirect : List Ins → Bool
 has_indirect code = list_any (λ (i : Ins). is_indirect (class_of i.kind)) code
 
--- where all code addresses have entries
-module _ (f : ElfFile) (from : ℕ) (code : List Ins) (known : IsCodeOf f from code) (o : Options) (all : o.entries ≡ entries.All) where
+-- where all code addresses have entries, and a comparison stands behind each piece
+module _ (f : ElfFile) (from : ℕ) (code : List Ins) (known : IsCodeOf f from code) (o : Options) (all : o.entries ≡ entries.All) (compared : o.lean ≡ None) where
   -- ---- leaders
   abbrev pub is_begun : ℕ → Bool
   is_begun a = a == f.entry || (is_named_in f a || leads_to a from code)
@@ -111,6 +111,7 @@ module _ (f : ElfFile) (from : ℕ) (code : List Ins) (known : IsCodeOf f from c
   begun_of a (Reached only h r) = absurd (two_kinds (sym all ∙ only)) where
     two_kinds : entries.All ≡ entries.Reached → ⊥
     two_kinds e = cc
+  begun_of a (Even lean multiple) = absurd (false≢true (sym (ap is_some compared) ∙ lean))
 
   led_from : (a b : ℕ) (is : List Ins) → StandFrom f b is → leads_to a b is ≡ true → Begins f o a
   led_from a b [] s e = absurd (false≢true e)

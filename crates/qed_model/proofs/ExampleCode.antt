@@ -36,7 +36,7 @@ none_passes test (x ∷ xs) e (suc i) = none_passes test xs (neither (test x) (l
 -- ---- options
 -- where none is given, and with the sweep alone
 abbrev pub options : Bool → Options
-options sweep = record { inst_min = 4; inst_max = 16; round = 1; half = None; sweep = sweep; diverse = false; entries = entries.All }
+options sweep = record { inst_min = 4; inst_max = 16; round = 1; half = None; sweep = sweep; diverse = false; entries = entries.All; lean = None }
 
 abbrev pub defaults : Options
 defaults = options false
@@ -45,7 +45,7 @@ abbrev pub swept : Options
 swept = options true
 
 pub sound : (sweep : Bool) → AreSoundOptions (options sweep)
-sound sweep = record { some = omega arith; room = omega arith; most = omega arith; visits = omega arith; few_visits = omega arith; half = tt }
+sound sweep = record { some = omega arith; room = omega arith; most = omega arith; visits = omega arith; few_visits = omega arith; half = tt; lean = tt }
 
 -- ---- the code
 -- the instructions stand one behind the other from an address on

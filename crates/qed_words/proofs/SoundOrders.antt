@@ -124,6 +124,7 @@ options_fit given least greatest round half room =
       visits = visits.0;
       few_visits = visits.1;
       half = half_fits (number_given Half given) (number_given_fits Half given (λ _ _. refl) half);
+      lean = tt;
     }
 
 -- ---- runs

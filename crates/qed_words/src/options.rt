@@ -44,6 +44,7 @@ pub fn options(arguments: &[Argument<'_>]) -> Options
         entries: word_given(Key::Entries, arguments)
             .map(entries)
             .unwrap_or(default.entries),
+        lean: default.lean,
     }
 }
 

@@ -123,7 +123,7 @@ count_below low high (b ∷ bs) room h up =
 
 -- ---- options
 sound : AreSoundOptions default_options
-sound = record { some = omega arith; room = omega arith; most = omega arith; visits = omega arith; few_visits = omega arith; half = tt }
+sound = record { some = omega arith; room = omega arith; most = omega arith; visits = omega arith; few_visits = omega arith; half = tt; lean = tt }
 
 -- ---- a test of n functions
 -- the new code is within its limit

@@ -43,7 +43,7 @@ known = record {
 }
 
 sound : AreSoundOptions far_options
-sound = record { some = omega arith; room = omega arith; most = omega arith; visits = omega arith; few_visits = omega arith; half = tt }
+sound = record { some = omega arith; room = omega arith; most = omega arith; visits = omega arith; few_visits = omega arith; half = tt; lean = tt }
 
 admitted : IsAdmitted far_test far_options
 admitted = code.admitted far_test 0x10000 far_code known refl far_options refl refl (omega arith) (omega arith) (omega arith) (omega arith)
@@ -51,42 +51,42 @@ admitted = code.admitted far_test 0x10000 far_code known refl far_options refl r
 -- ---- its blocks
 are : AreBlocks far_test far_options far_blocks
 are =
-    made.are_blocks far_test 0x10000 far_code known far_options refl far_blocks refl refl ((
-      inl (made.stopping far_test 0x10000 far_code known far_options refl [] ((lui_8 ∷ []) ∷ []) next (ld_5 ∷ next ∷ lui_9 ∷ next ∷ sd_5 ∷ next ∷ ld_6 ∷ next ∷ mul ∷ next ∷ sub ∷ next ∷ call ∷ ecall ∷ add ∷ jalr ∷ []) refl refl refl),
+    made.are_blocks far_test 0x10000 far_code known far_options refl refl far_blocks refl refl ((
+      inl (made.stopping far_test 0x10000 far_code known far_options refl refl [] ((lui_8 ∷ []) ∷ []) next (ld_5 ∷ next ∷ lui_9 ∷ next ∷ sd_5 ∷ next ∷ ld_6 ∷ next ∷ mul ∷ next ∷ sub ∷ next ∷ call ∷ ecall ∷ add ∷ jalr ∷ []) refl refl refl),
       (
-        inr (made.other far_test 0x10000 far_code known far_options refl (lui_8 ∷ []) next (ld_5 ∷ next ∷ lui_9 ∷ next ∷ sd_5 ∷ next ∷ ld_6 ∷ next ∷ mul ∷ next ∷ sub ∷ next ∷ call ∷ ecall ∷ add ∷ jalr ∷ []) refl refl),
+        inr (made.other far_test 0x10000 far_code known far_options refl refl (lui_8 ∷ []) next (ld_5 ∷ next ∷ lui_9 ∷ next ∷ sd_5 ∷ next ∷ ld_6 ∷ next ∷ mul ∷ next ∷ sub ∷ next ∷ call ∷ ecall ∷ add ∷ jalr ∷ []) refl refl),
         (
-          inl (made.stopping far_test 0x10000 far_code known far_options refl (lui_8 ∷ next ∷ []) ((ld_5 ∷ []) ∷ []) next (lui_9 ∷ next ∷ sd_5 ∷ next ∷ ld_6 ∷ next ∷ mul ∷ next ∷ sub ∷ next ∷ call ∷ ecall ∷ add ∷ jalr ∷ []) refl refl refl),
+          inl (made.stopping far_test 0x10000 far_code known far_options refl refl (lui_8 ∷ next ∷ []) ((ld_5 ∷ []) ∷ []) next (lui_9 ∷ next ∷ sd_5 ∷ next ∷ ld_6 ∷ next ∷ mul ∷ next ∷ sub ∷ next ∷ call ∷ ecall ∷ add ∷ jalr ∷ []) refl refl refl),
           (
-            inr (made.other far_test 0x10000 far_code known far_options refl (lui_8 ∷ next ∷ ld_5 ∷ []) next (lui_9 ∷ next ∷ sd_5 ∷ next ∷ ld_6 ∷ next ∷ mul ∷ next ∷ sub ∷ next ∷ call ∷ ecall ∷ add ∷ jalr ∷ []) refl refl),
+            inr (made.other far_test 0x10000 far_code known far_options refl refl (lui_8 ∷ next ∷ ld_5 ∷ []) next (lui_9 ∷ next ∷ sd_5 ∷ next ∷ ld_6 ∷ next ∷ mul ∷ next ∷ sub ∷ next ∷ call ∷ ecall ∷ add ∷ jalr ∷ []) refl refl),
             (
-              inl (made.stopping far_test 0x10000 far_code known far_options refl (lui_8 ∷ next ∷ ld_5 ∷ next ∷ []) ((lui_9 ∷ []) ∷ []) next (sd_5 ∷ next ∷ ld_6 ∷ next ∷ mul ∷ next ∷ sub ∷ next ∷ call ∷ ecall ∷ add ∷ jalr ∷ []) refl refl refl),
+              inl (made.stopping far_test 0x10000 far_code known far_options refl refl (lui_8 ∷ next ∷ ld_5 ∷ next ∷ []) ((lui_9 ∷ []) ∷ []) next (sd_5 ∷ next ∷ ld_6 ∷ next ∷ mul ∷ next ∷ sub ∷ next ∷ call ∷ ecall ∷ add ∷ jalr ∷ []) refl refl refl),
               (
-                inr (made.other far_test 0x10000 far_code known far_options refl (lui_8 ∷ next ∷ ld_5 ∷ next ∷ lui_9 ∷ []) next (sd_5 ∷ next ∷ ld_6 ∷ next ∷ mul ∷ next ∷ sub ∷ next ∷ call ∷ ecall ∷ add ∷ jalr ∷ []) refl refl),
+                inr (made.other far_test 0x10000 far_code known far_options refl refl (lui_8 ∷ next ∷ ld_5 ∷ next ∷ lui_9 ∷ []) next (sd_5 ∷ next ∷ ld_6 ∷ next ∷ mul ∷ next ∷ sub ∷ next ∷ call ∷ ecall ∷ add ∷ jalr ∷ []) refl refl),
                 (
-                  inl (made.stopping far_test 0x10000 far_code known far_options refl (lui_8 ∷ next ∷ ld_5 ∷ next ∷ lui_9 ∷ next ∷ []) ((sd_5 ∷ []) ∷ []) next (ld_6 ∷ next ∷ mul ∷ next ∷ sub ∷ next ∷ call ∷ ecall ∷ add ∷ jalr ∷ []) refl refl refl),
+                  inl (made.stopping far_test 0x10000 far_code known far_options refl refl (lui_8 ∷ next ∷ ld_5 ∷ next ∷ lui_9 ∷ next ∷ []) ((sd_5 ∷ []) ∷ []) next (ld_6 ∷ next ∷ mul ∷ next ∷ sub ∷ next ∷ call ∷ ecall ∷ add ∷ jalr ∷ []) refl refl refl),
                   (
-                    inr (made.other far_test 0x10000 far_code known far_options refl (lui_8 ∷ next ∷ ld_5 ∷ next ∷ lui_9 ∷ next ∷ sd_5 ∷ []) next (ld_6 ∷ next ∷ mul ∷ next ∷ sub ∷ next ∷ call ∷ ecall ∷ add ∷ jalr ∷ []) refl refl),
+                    inr (made.other far_test 0x10000 far_code known far_options refl refl (lui_8 ∷ next ∷ ld_5 ∷ next ∷ lui_9 ∷ next ∷ sd_5 ∷ []) next (ld_6 ∷ next ∷ mul ∷ next ∷ sub ∷ next ∷ call ∷ ecall ∷ add ∷ jalr ∷ []) refl refl),
                     (
-                      inl (made.stopping far_test 0x10000 far_code known far_options refl (lui_8 ∷ next ∷ ld_5 ∷ next ∷ lui_9 ∷ next ∷ sd_5 ∷ next ∷ []) ((ld_6 ∷ []) ∷ []) next (mul ∷ next ∷ sub ∷ next ∷ call ∷ ecall ∷ add ∷ jalr ∷ []) refl refl refl),
+                      inl (made.stopping far_test 0x10000 far_code known far_options refl refl (lui_8 ∷ next ∷ ld_5 ∷ next ∷ lui_9 ∷ next ∷ sd_5 ∷ next ∷ []) ((ld_6 ∷ []) ∷ []) next (mul ∷ next ∷ sub ∷ next ∷ call ∷ ecall ∷ add ∷ jalr ∷ []) refl refl refl),
                       (
-                        inr (made.other far_test 0x10000 far_code known far_options refl (lui_8 ∷ next ∷ ld_5 ∷ next ∷ lui_9 ∷ next ∷ sd_5 ∷ next ∷ ld_6 ∷ []) next (mul ∷ next ∷ sub ∷ next ∷ call ∷ ecall ∷ add ∷ jalr ∷ []) refl refl),
+                        inr (made.other far_test 0x10000 far_code known far_options refl refl (lui_8 ∷ next ∷ ld_5 ∷ next ∷ lui_9 ∷ next ∷ sd_5 ∷ next ∷ ld_6 ∷ []) next (mul ∷ next ∷ sub ∷ next ∷ call ∷ ecall ∷ add ∷ jalr ∷ []) refl refl),
                         (
-                          inl (made.stopping far_test 0x10000 far_code known far_options refl (lui_8 ∷ next ∷ ld_5 ∷ next ∷ lui_9 ∷ next ∷ sd_5 ∷ next ∷ ld_6 ∷ next ∷ []) ((mul ∷ []) ∷ []) next (sub ∷ next ∷ call ∷ ecall ∷ add ∷ jalr ∷ []) refl refl refl),
+                          inl (made.stopping far_test 0x10000 far_code known far_options refl refl (lui_8 ∷ next ∷ ld_5 ∷ next ∷ lui_9 ∷ next ∷ sd_5 ∷ next ∷ ld_6 ∷ next ∷ []) ((mul ∷ []) ∷ []) next (sub ∷ next ∷ call ∷ ecall ∷ add ∷ jalr ∷ []) refl refl refl),
                           (
-                            inr (made.other far_test 0x10000 far_code known far_options refl (lui_8 ∷ next ∷ ld_5 ∷ next ∷ lui_9 ∷ next ∷ sd_5 ∷ next ∷ ld_6 ∷ next ∷ mul ∷ []) next (sub ∷ next ∷ call ∷ ecall ∷ add ∷ jalr ∷ []) refl refl),
+                            inr (made.other far_test 0x10000 far_code known far_options refl refl (lui_8 ∷ next ∷ ld_5 ∷ next ∷ lui_9 ∷ next ∷ sd_5 ∷ next ∷ ld_6 ∷ next ∷ mul ∷ []) next (sub ∷ next ∷ call ∷ ecall ∷ add ∷ jalr ∷ []) refl refl),
                             (
-                              inl (made.stopping far_test 0x10000 far_code known far_options refl (lui_8 ∷ next ∷ ld_5 ∷ next ∷ lui_9 ∷ next ∷ sd_5 ∷ next ∷ ld_6 ∷ next ∷ mul ∷ next ∷ []) ((sub ∷ []) ∷ []) next (call ∷ ecall ∷ add ∷ jalr ∷ []) refl refl refl),
+                              inl (made.stopping far_test 0x10000 far_code known far_options refl refl (lui_8 ∷ next ∷ ld_5 ∷ next ∷ lui_9 ∷ next ∷ sd_5 ∷ next ∷ ld_6 ∷ next ∷ mul ∷ next ∷ []) ((sub ∷ []) ∷ []) next (call ∷ ecall ∷ add ∷ jalr ∷ []) refl refl refl),
                               (
-                                inr (made.other far_test 0x10000 far_code known far_options refl (lui_8 ∷ next ∷ ld_5 ∷ next ∷ lui_9 ∷ next ∷ sd_5 ∷ next ∷ ld_6 ∷ next ∷ mul ∷ next ∷ sub ∷ []) next (call ∷ ecall ∷ add ∷ jalr ∷ []) refl refl),
+                                inr (made.other far_test 0x10000 far_code known far_options refl refl (lui_8 ∷ next ∷ ld_5 ∷ next ∷ lui_9 ∷ next ∷ sd_5 ∷ next ∷ ld_6 ∷ next ∷ mul ∷ next ∷ sub ∷ []) next (call ∷ ecall ∷ add ∷ jalr ∷ []) refl refl),
                                 (
-                                  inl (made.stopping far_test 0x10000 far_code known far_options refl (lui_8 ∷ next ∷ ld_5 ∷ next ∷ lui_9 ∷ next ∷ sd_5 ∷ next ∷ ld_6 ∷ next ∷ mul ∷ next ∷ sub ∷ next ∷ []) [] call (ecall ∷ add ∷ jalr ∷ []) refl refl refl),
+                                  inl (made.stopping far_test 0x10000 far_code known far_options refl refl (lui_8 ∷ next ∷ ld_5 ∷ next ∷ lui_9 ∷ next ∷ sd_5 ∷ next ∷ ld_6 ∷ next ∷ mul ∷ next ∷ sub ∷ next ∷ []) [] call (ecall ∷ add ∷ jalr ∷ []) refl refl refl),
                                   (
-                                    inl (made.stopping far_test 0x10000 far_code known far_options refl (lui_8 ∷ next ∷ ld_5 ∷ next ∷ lui_9 ∷ next ∷ sd_5 ∷ next ∷ ld_6 ∷ next ∷ mul ∷ next ∷ sub ∷ next ∷ call ∷ []) [] ecall (add ∷ jalr ∷ []) refl refl refl),
+                                    inl (made.stopping far_test 0x10000 far_code known far_options refl refl (lui_8 ∷ next ∷ ld_5 ∷ next ∷ lui_9 ∷ next ∷ sd_5 ∷ next ∷ ld_6 ∷ next ∷ mul ∷ next ∷ sub ∷ next ∷ call ∷ []) [] ecall (add ∷ jalr ∷ []) refl refl refl),
                                     (
-                                      inl (made.stopping far_test 0x10000 far_code known far_options refl (lui_8 ∷ next ∷ ld_5 ∷ next ∷ lui_9 ∷ next ∷ sd_5 ∷ next ∷ ld_6 ∷ next ∷ mul ∷ next ∷ sub ∷ next ∷ call ∷ ecall ∷ []) ((add ∷ []) ∷ []) jalr [] refl refl refl),
+                                      inl (made.stopping far_test 0x10000 far_code known far_options refl refl (lui_8 ∷ next ∷ ld_5 ∷ next ∷ lui_9 ∷ next ∷ sd_5 ∷ next ∷ ld_6 ∷ next ∷ mul ∷ next ∷ sub ∷ next ∷ call ∷ ecall ∷ []) ((add ∷ []) ∷ []) jalr [] refl refl refl),
                                       (
-                                        inr (made.other far_test 0x10000 far_code known far_options refl (lui_8 ∷ next ∷ ld_5 ∷ next ∷ lui_9 ∷ next ∷ sd_5 ∷ next ∷ ld_6 ∷ next ∷ mul ∷ next ∷ sub ∷ next ∷ call ∷ ecall ∷ add ∷ []) jalr [] refl refl),
+                                        inr (made.other far_test 0x10000 far_code known far_options refl refl (lui_8 ∷ next ∷ ld_5 ∷ next ∷ lui_9 ∷ next ∷ sd_5 ∷ next ∷ ld_6 ∷ next ∷ mul ∷ next ∷ sub ∷ next ∷ call ∷ ecall ∷ add ∷ []) jalr [] refl refl),
                                         tt,
                                       ),
                                     ),

@@ -53,11 +53,11 @@ loop_blocks =
 
 pub loop_are : (sweep : Bool) → AreBlocks loop (options sweep) loop_blocks
 loop_are sweep =
-    made.are_blocks loop 0x10000 loop_code loop_known (options sweep) refl loop_blocks refl refl (
-      inl (made.falling loop 0x10000 loop_code loop_known (options sweep) refl [] ((two ∷ []) ∷ []) less (bne ∷ ecall ∷ []) refl refl refl),
+    made.are_blocks loop 0x10000 loop_code loop_known (options sweep) refl refl loop_blocks refl refl (
+      inl (made.falling loop 0x10000 loop_code loop_known (options sweep) refl refl [] ((two ∷ []) ∷ []) less (bne ∷ ecall ∷ []) refl refl refl),
       (
-        inl (made.stopping loop 0x10000 loop_code loop_known (options sweep) refl (two ∷ []) ((less ∷ []) ∷ []) bne (ecall ∷ []) refl refl refl),
-        (inl (made.stopping loop 0x10000 loop_code loop_known (options sweep) refl (two ∷ less ∷ bne ∷ []) [] ecall [] refl refl refl), tt),
+        inl (made.stopping loop 0x10000 loop_code loop_known (options sweep) refl refl (two ∷ []) ((less ∷ []) ∷ []) bne (ecall ∷ []) refl refl refl),
+        (inl (made.stopping loop 0x10000 loop_code loop_known (options sweep) refl refl (two ∷ less ∷ bne ∷ []) [] ecall [] refl refl refl), tt),
       ),
     )
 

@@ -79,7 +79,7 @@ far_test = record {
 
 -- a round of 1,024 visits, the sweep, and mirror parts of other kinds
 abbrev pub far_options : Options
-far_options = record { inst_min = 4; inst_max = 16; round = 1024; half = None; sweep = true; diverse = true; entries = entries.All }
+far_options = record { inst_min = 4; inst_max = 16; round = 1024; half = None; sweep = true; diverse = true; entries = entries.All; lean = None }
 
 -- ---- its instructions and blocks
 -- a jump to the next address, so that an entry stands there

@@ -1,5 +1,5 @@
 -- Leaders: the code addresses at which blocks begin (this project's profile).
-use Rattle.std.specs.Prelude.{◌≡◌, ℕ, ◌+◌, Bool, true, false, Some}
+use Rattle.std.specs.Prelude.{◌≡◌, ℕ, ◌+◌, ◌*◌, ◌%◌, Bool, true, false, Some, is_some}
 use Rattle.elf_types.specs.declared.file.ElfFile.{ElfFile}
 use Rattle.rv_isa.specs.declared.ins.Ins.{Ins}
 use Rattle.rv_isa.specs.declared.class.Class.{Class}
@@ -54,6 +54,8 @@ pub data Begins (f : ElfFile) (o : Options) (a : ℕ) : Type 0 where
   Named : is_named_in f a ≡ true → Begins f o a
   -- a JALR may lead to it, where only such addresses have entries
   Reached : o.entries ≡ entries.Reached → HasIndirect f → IsReached f o a → Begins f o a
+  -- in the lean form: each multiple of so many words as a piece has at most
+  Even : is_some o.lean ≡ true → a % (4 * o.inst_max) ≡ 0 → Begins f o a
 
 -- a leader
 pub record IsLeader (f : ElfFile) (o : Options) (a : ℕ) : Type 0 where
