@@ -122,11 +122,17 @@ class Weave:
                 return guards + [over] + taken + other, cost(guards) + 1 + max(cost(taken), cost(other))
         return items, cost(items)
 
+    @staticmethod
+    def guards_of_x0(body):
+        """The guards that an access would have, were its base or its stored register not x0. The tick counts a step for each."""
+        loads = sum(i.group == "load" and i.rs1 == 0 for i in body)
+        return loads + sum(i.group == "store" and 0 in (i.rs1, i.rs2) for i in body)
+
     def cell(self, cell):
         """The items of a cell: the tick counts the steps of all."""
         pieces = self.pieces(cell)
         leave, leave_cost = self.leave(cell)
-        most = 2 + cost(pieces) + leave_cost
+        most = 2 + cost(pieces) + self.guards_of_x0(cell.body) + leave_cost
         assert most < self.p.every, (most, self.p.every)
         return [*words_of(f"addi x15, x15, {most}; blt x15, x0, 12"), Call(), EBREAK] + pieces + leave
 

@@ -8,6 +8,8 @@ mod folders;
 #[cfg(test)]
 mod jumps;
 #[cfg(test)]
+mod lean;
+#[cfg(test)]
 mod too_large;
 #[cfg(test)]
 mod world;

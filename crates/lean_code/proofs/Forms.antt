@@ -37,6 +37,7 @@ use Rattle.test_weave.proofs.AdmittedFit.{blocks_fit}
 use Rattle.test_weave.proofs.WholeCode.{spans_are}
 use Rattle.lean_weave.specs.Tests.{IsLeanTest, lean_of, lean_items, items_with as file_items, steps_at, start_at}
 use Rattle.lean_weave.specs.Woven.{Lean, worded}
+use Rattle.lean_weave.proofs.Short.{few_steps}
 use Rattle.lean_weave.proofs.Tests.{tests_have_words, are_items}
 use Rattle.lean_weave.proofs.Unmarked.{code_rows, code_size}
 use Rattle.lean_code.specs.declared.weaver.LeanWeaver.{LeanWeaver}
@@ -65,6 +66,9 @@ module _ (f : ElfFile) (o : Options) (every : ℕ) (t : Test) (blocks : List Cod
       let at : (k : ℕ) → (get_or bs k (block_of e)).start ≡ (get_or blocks k e).start = λ k. ap (λ (b : Block). b.start) (get_or-map block_of blocks k e) in
       let less = c.cut.are.ascend i j (block_of e) l (omega (arith, m, length-map blocks block_of)) in
       omega (arith, less, at i, at j)
+
+  pub few_every : every ≤ 2048
+  few_every = few_steps f o every c.cut.sound c.cut.lean
 
   pub half_small : t.distance < 2 ^ 63
   half_small = let b = (there.bounds f o c.cut.sound c.cut.file.loads c.cut.admitted bs c.cut.are).1 in omega (arith, b, c.told.distance)

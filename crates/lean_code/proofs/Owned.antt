@@ -17,7 +17,6 @@ use Rattle.qed_model.specs.Weave.OutputParts.{base_of}
 use Rattle.qed_model.specs.Weave.Placed.{distance_between}
 use Rattle.qed_model.specs.Weave.Places.{image_of, half_of, code_place}
 use Rattle.qed_model.specs.Weave.Sequences.{End, Falls, Stops, Block, body_length}
-use Rattle.qed_model.proofs.Among.{all_among}
 use Rattle.qed_model.proofs.Nearby.{is_within}
 use Rattle.qed_model.proofs.WovenWords.{branch_imm, jump_imm}
 use Rattle.weave_core.proofs.FileOfItems as of
@@ -32,6 +31,7 @@ use Rattle.lean_weave.specs.Tests.{AreLeanBlocks, steps_at, start_at}
 use Rattle.lean_weave.specs.Woven.{block_steps}
 use Rattle.lean_weave.proofs.Blocks.{starts, steps}
 use Rattle.lean_weave.proofs.Near.{nearer}
+use Rattle.lean_weave.proofs.Short.{only_reached, few_steps, short}
 use Rattle.lean_code.specs.declared.weaver.LeanWeaver.{LeanWeaver}
 use Rattle.lean_code.specs.Form.{blocks_in, IsOwn}
 use Rattle.lean_code.specs.Leaves.{IsNear, TurnsAs, Turns}
@@ -108,13 +108,14 @@ module _ (f : ElfFile) (o : Options) (every : ℕ) (blocks : List CodeBlock) (t 
         let ascend = of.ascend f o t.sound t.file.loads t.admitted bs t.are in
         let same : blocks_in w ≡ bs = ap (map block_of) are in
         let long : body_length (block_of b).body ≡ length b.body = whole_length b.lengths b.body fit.whole in
-        let counts = steps f o some_most bs t.are t.reached grain ascend o.diverse (begins_at bs) (block_of b) m in
-        let found = starts f o some_most bs t.are t.reached grain ascend (block_of b) m in
-        let short = all_among (λ x. block_steps o.diverse (begins_at bs) x < every) (block_of b) bs t.short m in
-        let few = t.few in
+        let reached = only_reached f o every t.sound t.lean in
+        let counts = steps f o some_most bs t.are reached grain ascend o.diverse (begins_at bs) (block_of b) m in
+        let found = starts f o some_most bs t.are reached grain ascend (block_of b) m in
+        let less = short f o every t.sound t.lean bs t.are grain (block_of b) m in
+        let few = few_steps f o every t.sound t.lean in
         record {
           steps = subst (λ v. steps_at v (begins_at (blocks_in w)) (blocks_in w) b.start ≡ block_steps v (begins_at (blocks_in w)) (block_of b)) (sym kinds) (subst (λ l. steps_at o.diverse (begins_at l) l b.start ≡ block_steps o.diverse (begins_at l) (block_of b)) (sym same) counts);
-          few = subst (λ v. block_steps v (begins_at (blocks_in w)) (block_of b) < 2048) (sym kinds) (subst (λ l. block_steps o.diverse (begins_at l) (block_of b) < 2048) (sym same) (omega (arith, short, few)));
+          few = subst (λ v. block_steps v (begins_at (blocks_in w)) (block_of b) < 2048) (sym kinds) (subst (λ l. block_steps o.diverse (begins_at l) (block_of b) < 2048) (sym same) (omega (arith, less, few)));
           starts = subst (λ l. start_at l (end_of b.end) (b.start + 4 * length b.body) ≡ b.start) (sym same) (ap (λ n. start_at bs (end_of b.end) (b.start + 4 * n)) (sym long) ∙ found);
           near = subst (λ n. Turns (end_of b.end) b.start (b.start + 4 * n)) long (turns b.start k.0 k.1 (end_of b.end) (b.start + 4 * body_length (block_of b).body) k.3);
         }

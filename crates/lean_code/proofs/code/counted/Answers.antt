@@ -6,12 +6,15 @@ use Rattle.relinker.specs.Counted.{HasCounted}
 use Rattle.test_weave.specs.Form.{parts_to_stub}
 use Rattle.lean_code.specs.Form.{code_of}
 use Rattle.lean_code.specs.Code.{items_with}
-use Rattle.lean_code.proofs.Forms.{blocks_ascend, fit, half_small, place_small, counted_too}
+use Rattle.lean_code.proofs.Forms.{blocks_ascend, few_every, fit, half_small, place_small, counted_too}
 use Rattle.lean_code.proofs.Owned.{owned}
 use Rattle.lean_code.proofs.code.counted.Goals as goal
 
 pub weaver-requires-clause-ascend : goal.weaver-requires-clause-ascend
 weaver-requires-clause-ascend c = blocks_ascend c.requires.0 c.args.options.now c.args.every c.args.test.now c.args.blocks.now c.requires.1
+
+pub weaver-requires-clause-few : goal.weaver-requires-clause-few
+weaver-requires-clause-few c = few_every c.requires.0 c.args.options.now c.args.every c.args.test.now c.args.blocks.now c.requires.1
 
 pub weave-requires-clause-fit : goal.weave-requires-clause-fit
 weave-requires-clause-fit c = fit c.requires.0 c.args.options.now c.args.every c.args.test.now c.args.blocks.now c.requires.1

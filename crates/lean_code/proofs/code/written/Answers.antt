@@ -5,7 +5,7 @@ use Rattle.block_list.specs.Listed.{block_of}
 use Rattle.test_weave.specs.Form.{parts_to_stub}
 use Rattle.lean_code.specs.Form.{code_of}
 use Rattle.lean_code.specs.Code.{code_with}
-use Rattle.lean_code.proofs.Forms.{blocks_ascend, fit, low, come, written}
+use Rattle.lean_code.proofs.Forms.{blocks_ascend, few_every, fit, low, come, written}
 use Rattle.lean_code.proofs.Owned.{owned}
 use Rattle.lean_code.proofs.code.written.Goals as goal
 
@@ -23,6 +23,9 @@ weaver-requires-clause-low c =
     let same : c.in_ok-entries.entries.items ≡ c.args.layout.entries.items = c.in_ok-entries.ensures.items ∙ c.entries.ensures in
     let both : leads_to c.in_ok-entries.entries.items c.last-last.result ≡ leads_to c.args.layout.entries.items c.args.layout.last = ap (λ r. leads_to r c.last-last.result) same ∙ ap (leads_to c.args.layout.entries.items) c.last-last.ensures in
     λ a. subst (λ (e : ℕ → ℕ). e a + 8 < 2 ^ 64) (sym both) (low c.requires.0 c.args.options.now c.args.every c.args.test.now c.args.blocks.now c.requires.1.0 c.args.layout c.requires.1.1 a)
+
+pub weaver-requires-clause-few : goal.weaver-requires-clause-few
+weaver-requires-clause-few c = few_every c.requires.0 c.args.options.now c.args.every c.args.test.now c.args.blocks.now c.requires.1.0
 
 pub weave-requires-clause-fit : goal.weave-requires-clause-fit
 weave-requires-clause-fit c = fit c.requires.0 c.args.options.now c.args.every c.args.test.now c.args.blocks.now c.requires.1.0
