@@ -1,7 +1,0 @@
-use Rattle.std.proofs.Common.{◌≡◌, ◌++◌, drop}
-use Rattle.qed_model.specs.Numbers.{bytes_of}
-use Rattle.output_file.proofs.bytes.bytes_of.Given as goal
-
--- the bytes so far and those of the rest are those of all
-abbrev pub invariant-loop-word : goal.invariant-loop-word
-invariant-loop-word l = l.bytes.items ++ bytes_of (drop l.word-index l.words) ≡ bytes_of l.words
