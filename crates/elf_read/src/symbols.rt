@@ -28,6 +28,15 @@ fn entry_at(table: &[u8], j: u64) -> SymbolEntry
     }
 }
 
+/// Where the name of a symbol begins, of which the other fields are not read.
+#[tactic(auto, unfolding(elf_files::specs::Fields::symbol_entry))]
+fn name_at(table: &[u8], j: u64) -> u32
+    requires { 24 * j + 24 ≤ length table.now }
+    ensures { result ≡ (symbol_entry table.now j).name }
+{
+    u32_at(table, SYM_SIZE as usize * j as usize)
+}
+
 /// The number of the first symbol table.
 #[tactic(auto, unfolding(elf_files::specs::Rules::symbol_table))]
 pub fn symbol_table(file: &Parts) -> Option<u64>
@@ -63,7 +72,7 @@ fn check_symbols(file: &Parts, alloc: Global, i: u64) -> Result<(), ElfError>
     let table = file.section_bytes(s);
     match first_of(
         s.size / SYM_SIZE,
-        &|j| j > 0 && strings.is_unended(entry_at(table, j).name),
+        &|j| j > 0 && strings.is_unended(name_at(table, j)),
     ) {
         Some(j) => Err(ElfError::SymbolShape(j)),
         None => Ok(()),
@@ -123,5 +132,5 @@ pub fn symbol_name<'a>(
     if j == 0 {
         return &[];
     }
-    strings.name(symbol_entry(file, s, j).name)
+    strings.name(name_at(file.section_bytes(s), j))
 }

@@ -6,6 +6,7 @@ ghost use Rattle.elf_write.specs.Widths.{SegmentFits};
 ghost use Rattle.qed_model.specs.Elf.Layout.{file_fields, symbol_bytes, header_bytes, alignment as alignment_of};
 
 use crate::numbers::{Number, push_numbers};
+use byteorder::{ByteOrder, LittleEndian};
 use elf_types::abi::{
     EHDR_SIZE, ELFCLASS64, ELFDATA2LSB, ELFMAG, EM_RISCV, ET_EXEC, EV_CURRENT, PHDR_SIZE,
     SHDR_SIZE, SHT_NULL, SHT_SYMTAB,
@@ -81,22 +82,26 @@ pub fn push_program_header(
     )
 }
 
+/// The bytes of an entry of the symbol table.
+#[tactic(auto, unfolding(qed_model::specs::Elf::Layout::symbol_bytes, qed_model::specs::Numbers::number_bytes))]
+fn symbol_bytes(entry: SymbolEntry) -> [u8; 24]
+    ensures { result ≡ symbol_bytes entry }
+{
+    let mut bytes = [0; 24];
+    LittleEndian::write_u32(&mut bytes, entry.name);
+    bytes[4] = entry.info;
+    bytes[5] = entry.other;
+    LittleEndian::write_u16(&mut bytes[6..], entry.index);
+    LittleEndian::write_u64(&mut bytes[8..], entry.value);
+    LittleEndian::write_u64(&mut bytes[16..], entry.size);
+    bytes
+}
+
 /// Appends an entry of the symbol table.
-#[tactic(auto, unfolding(qed_model::specs::Elf::Layout::symbol_bytes))]
 pub fn push_symbol_entry(out: &mut Vec<u8>, entry: SymbolEntry) -> Result<(), AllocError>
     ensures { OnOk result (out.new.items ≡ out.old.items ++ symbol_bytes entry) }
 {
-    push_numbers(
-        out,
-        &[
-            Number::Word(entry.name),
-            Number::Byte(entry.info),
-            Number::Byte(entry.other),
-            Number::Half(entry.index),
-            Number::Long(entry.value),
-            Number::Long(entry.size),
-        ],
-    )
+    out.extend_from_slice(&symbol_bytes(entry))
 }
 
 /// The alignment that the header of a section of this type tells, in bytes.

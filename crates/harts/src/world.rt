@@ -1,5 +1,5 @@
 //! The world of several harts.
-ghost use Rattle.std.specs.Prelude.{◌≡◌, ℕ, ◌+◌, ◌%◌, ◌<◌, false, length, slice_get, slice_index, Some, IfOk, IfErr};
+ghost use Rattle.std.specs.Prelude.{◌≡◌, ℕ, ◌+◌, ◌%◌, ◌<◌, ◌∷◌, [], false, length, slice_get, slice_index, Some, IfOk, IfErr};
 ghost use Rattle.std.specs.Option.{option_map};
 ghost use Rattle.std.specs.FinMap.{get};
 ghost use Rattle.harts.specs.HartSteps.{bare, counted_start, counted_turn, counted_strike, counted_turns, cycled};
@@ -84,6 +84,17 @@ impl World {
         Ok(outcome)
     }
 
+    /// As many turns of one hart as the number says, which are a run of it.
+    fn play_one(&mut self, hart: u64, n: u64) -> Result<(), AllocError>
+        requires { hart < length self.old.world.harts }
+        ensures played { IfOk result (λ _. self.new ≡ counted_turns self.old (cycled (hart ∷ []) n)) }
+        ensures count { length self.new.world.harts ≡ length self.old.world.harts }
+        ensures part { IfErr result (λ _. IsPartPlayed self.old (hart ∷ []) n self.new) }
+    {
+        self.harts[hart as usize].run(&mut self.image, n)?;
+        Ok(())
+    }
+
     /// As many turns as the number says, by the harts of the list, again and again. None is made any more where none of these harts goes
     /// on: they would change nothing.
     pub fn play(&mut self, harts: &[u64], n: u64) -> Result<(), AllocError>
@@ -95,6 +106,10 @@ impl World {
         // Where there is no memory for a page, the turns before were made.
         ensures part { IfErr result (λ _. IsPartPlayed self.old harts.now n self.new) }
     {
+        if harts.len() == 1 {
+            self.play_one(harts[0], n)?;
+            return Ok(());
+        }
         let mut place = 0;
         for _ in 0..n {
             if place == 0 && !self.one_goes_on(harts) {

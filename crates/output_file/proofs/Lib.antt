@@ -8,3 +8,5 @@ pub mod Entered
 pub mod Counting
 pub mod BlockEntries
 pub mod Rooms
+pub mod WordBytes
+pub mod Alone

@@ -1,18 +1,38 @@
 //! Bytes that stand at places, with zeros between them.
-ghost use Rattle.std.specs.Prelude.{◌≡◌, ◌++◌, IfOk, OnOk, replicate};
+ghost use Rattle.std.specs.Prelude.{◌≡◌, ◌≤◌, ◌++◌, IfOk, OnOk, length, replicate};
 ghost use Rattle.qed_model.specs.Numbers.{bytes_of as bytes_of_words};
 
+use byteorder::{ByteOrder, LittleEndian};
 use std::alloc::{AllocError, Global};
 
-/// The bytes of 32-bit words, each the lowest first.
-#[tactic(auto, unfolding(qed_model::specs::Numbers::number_bytes))]
+/// How many words are made bytes at once.
+const BATCH: usize = 64;
+
+/// Appends the bytes of at most 64 words.
+fn push_batch(bytes: &mut Vec<u8>, words: &[u32]) -> Result<(), AllocError>
+    requires { length words.now ≤ 64 }
+    ensures { OnOk result (bytes.new.items ≡ bytes.old.items ++ bytes_of_words words.now) }
+{
+    let mut batch = [0; 4 * BATCH];
+    let (part, _) = batch.split_at_mut(4 * words.len());
+    LittleEndian::write_u32_into(words, part);
+    bytes.extend_from_slice(part)?;
+    Ok(())
+}
+
+/// The bytes of 32-bit words, each the lowest first. They are made in batches, since to append takes much longer than to make
+/// those of a word.
 pub fn bytes_of(alloc: Global, words: &[u32]) -> Result<Vec<u8>, AllocError>
     ensures { IfOk result (λ bytes. bytes.items ≡ bytes_of_words words.now) }
 {
     let mut bytes = Vec::new(alloc);
-    for word in words {
-        bytes.extend_from_slice(&word.to_le_bytes())?;
+    let mut left = words;
+    while left.len() > BATCH {
+        let (batch, rest) = left.split_at(BATCH);
+        push_batch(&mut bytes, batch)?;
+        left = rest;
     }
+    push_batch(&mut bytes, left)?;
     Ok(bytes)
 }
 

@@ -45,7 +45,7 @@ fn range_flags(held: &[&Segment]) -> u32
 }
 
 /// The bytes from an address on, of segments in ascending order, up to the last that one of them has in the file.
-fn range_bytes(alloc: Global, start: u64, held: &[&Segment]) -> Result<Vec<u8>, AllocError>
+fn laid_bytes(alloc: Global, start: u64, held: &[&Segment]) -> Result<Vec<u8>, AllocError>
     ensures { IfOk result (λ bytes. bytes.items ≡ run_bytes start (map (λ s. s.now) held.now)) }
 {
     let mut bytes = Vec::new(alloc);
@@ -58,6 +58,20 @@ fn range_bytes(alloc: Global, start: u64, held: &[&Segment]) -> Result<Vec<u8>, 
         }
     }
     Ok(bytes)
+}
+
+/// The same. A segment that stands alone shares its bytes.
+fn range_bytes(alloc: Global, start: u64, held: &[&Segment]) -> Result<Bytes, AllocError>
+    ensures { IfOk result (λ bytes. bytes ≡ run_bytes start (map (λ s. s.now) held.now)) }
+{
+    if let [segment] = held {
+        if segment.address <= start {
+            let bytes = segment.bytes.clone()?;
+            return Ok(bytes);
+        }
+    }
+    let bytes = laid_bytes(alloc, start, held)?;
+    Ok(Bytes::of(bytes))
 }
 
 /// The segments that begin in a range, of segments in ascending order.
@@ -82,7 +96,7 @@ fn range_segment(alloc: Global, sorted: &[&Segment], range: Range) -> Result<Seg
         flags: range_flags(held),
         address: range.start,
         memory: range.end.saturating_sub(range.start),
-        bytes: Bytes::of(range_bytes(alloc, range.start, held)?),
+        bytes: range_bytes(alloc, range.start, held)?,
     })
 }
 

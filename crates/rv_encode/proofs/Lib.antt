@@ -1,4 +1,3 @@
 pub mod LowBits
-pub mod Groups
 pub mod Inverse
 pub mod FieldWords

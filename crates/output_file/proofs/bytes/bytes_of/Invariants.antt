@@ -1,7 +1,10 @@
-use Rattle.std.proofs.Common.{◌≡◌, ◌++◌, drop}
+use Rattle.std.proofs.Common.{◌≡◌, ◌++◌, length}
 use Rattle.qed_model.specs.Numbers.{bytes_of}
 use Rattle.output_file.proofs.bytes.bytes_of.Given as goal
 
 -- the bytes so far and those of the rest are those of all
-abbrev pub invariant-loop-word : goal.invariant-loop-word
-invariant-loop-word l = l.bytes.items ++ bytes_of (drop l.word-index l.words) ≡ bytes_of l.words
+abbrev pub invariant-loop-left : goal.invariant-loop-left
+invariant-loop-left l = l.bytes.items ++ bytes_of l.left ≡ bytes_of l.words
+
+abbrev pub decreases-loop-left : goal.decreases-loop-left
+decreases-loop-left l = length l.left

@@ -39,7 +39,7 @@ pub returns-clause-played : goal.returns-clause-played
 returns-clause-played c = let e : c.loop.counter ≡ c.args.n = omega arith in c.loop.invariant.made ∙ ap (λ n. counted_turns c.args.self.now (cycled c.args.harts.now n)) e
 
 pub returns-in_err-turn-clause-part : goal.returns-in_err-turn-clause-part
-returns-in_err-turn-clause-part c = any_err c.from_residual.result _ (record { count = c.loop.counter; most = omega arith; made = c.in_err-turn.ensures.kept ∙ c.loop.invariant.made })
+returns-in_err-turn-clause-part c = any_err c.from_residual-in_err-turn.result _ (record { count = c.loop.counter; most = omega arith; made = c.in_err-turn.ensures.kept ∙ c.loop.invariant.made })
 
 pub returns-clause-count : goal.returns-clause-count
 returns-clause-count c = ap (λ w. length w.world.harts) (returns-clause-played c) ∙ length_turns c.args.self.now (cycled c.args.harts.now c.args.n)

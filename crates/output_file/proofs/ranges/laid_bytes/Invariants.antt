@@ -2,7 +2,7 @@ use Rattle.std.proofs.Common.{◌≡◌, ◌++◌, drop, map, length}
 use Rattle.std.specs.Prelude.{filter}
 use Rattle.output_file.specs.Laid.{laid}
 use Rattle.output_file.specs.Runs.{has_bytes, placed_bytes}
-use Rattle.output_file.proofs.ranges.range_bytes.Given as goal
+use Rattle.output_file.proofs.ranges.laid_bytes.Given as goal
 
 -- the bytes so far and those of the rest are those of all
 abbrev pub invariant-loop-segment : goal.invariant-loop-segment
