@@ -102,9 +102,9 @@ fn register_closed(machine: &Machine, r: Reg) -> bool
     }
     match machine.next() {
         Some(ins) => {
-            let open = is_checked_by(&ins, machine.ahead(4));
-            let guarded = is_used_by(machine.ahead(guard_length(&ins)), r);
-            closes(uses(&ins, r), open, guards_another(&ins, r), guarded)
+            let checked = is_checked_by(&ins, machine.ahead(4));
+            let used_behind = is_used_by(machine.ahead(guard_length(&ins)), r);
+            closes(uses(&ins, r), checked, guards_another(&ins, r), used_behind)
         }
         None => false,
     }

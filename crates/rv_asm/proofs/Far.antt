@@ -1,5 +1,5 @@
 -- An immediate that does not fit 64 bits has no word.
-use Rattle.std.proofs.Common.{◌≡◌, ℕ, ◌^◌, ◌%◌, Bool, true, false, ◌&&◌, ◌==◌, None, ℤ, pos, negsuc, refl, sym, ap, subst, ◌∙◌, arith}
+use Rattle.std.proofs.Common.{◌≡◌, ℕ, ◌-◌, ◌^◌, ◌%◌, ◌≤◌, Bool, true, false, ◌&&◌, ◌==◌, None, ℤ, pos, negsuc, refl, sym, ap, subst, ◌∙◌, arith}
 use Rattle.std.proofs.lemmas.Bool.{ltb-true}
 use Rattle.std.proofs.lemmas.Bool.Decides.{nat_tests}
 use Rattle.std.proofs.lemmas.Int.{ints, to_z-of_z}
@@ -14,29 +14,13 @@ none3 true true false w = refl
 none3 true false c w = refl
 none3 false b c w = refl
 
-far_12 : (z : ℤ) → fits_signed 64 z ≡ false → fits_signed 12 z ≡ false
-far_12 (pos x) h = grind (arith, nat_tests)
-far_12 (negsuc x) h = grind (arith, nat_tests)
+far_signed : (n : ℕ) (z : ℤ) → 2 ^ (n - 1) ≤ 2 ^ 63 → fits_signed 64 z ≡ false → fits_signed n z ≡ false
+far_signed n (pos x) few h = grind (arith, nat_tests)
+far_signed n (negsuc x) few h = grind (arith, nat_tests)
 
-far_13 : (z : ℤ) → fits_signed 64 z ≡ false → fits_signed 13 z ≡ false
-far_13 (pos x) h = grind (arith, nat_tests)
-far_13 (negsuc x) h = grind (arith, nat_tests)
-
-far_21 : (z : ℤ) → fits_signed 64 z ≡ false → fits_signed 21 z ≡ false
-far_21 (pos x) h = grind (arith, nat_tests)
-far_21 (negsuc x) h = grind (arith, nat_tests)
-
-far_32 : (z : ℤ) → fits_signed 64 z ≡ false → fits_signed 32 z ≡ false
-far_32 (pos x) h = grind (arith, nat_tests)
-far_32 (negsuc x) h = grind (arith, nat_tests)
-
-far_6 : (z : ℤ) → fits_signed 64 z ≡ false → fits_below 6 z ≡ false
-far_6 (pos x) h = grind (arith, nat_tests)
-far_6 (negsuc x) h = refl
-
-far_5 : (z : ℤ) → fits_signed 64 z ≡ false → fits_below 5 z ≡ false
-far_5 (pos x) h = grind (arith, nat_tests)
-far_5 (negsuc x) h = refl
+far_below : (n : ℕ) (z : ℤ) → 2 ^ n ≤ 2 ^ 63 → fits_signed 64 z ≡ false → fits_below n z ≡ false
+far_below n (pos x) few h = grind (arith, nat_tests)
+far_below n (negsuc x) few h = refl
 
 far_0 : (z : ℤ) → fits_signed 64 z ≡ false → is_zero z ≡ false
 far_0 (pos x) h = grind (arith, nat_tests)
@@ -45,13 +29,13 @@ far_0 (negsuc x) h = refl
 far_in : (f : Format) (m : ℕ) (k : Kind) (d a b : ℕ) (z : ℤ) → fits_signed 64 z ≡ false → word_of f m (ins k d a b z) ≡ None
 unfolding word_of
 far_in R m k d a b z h = ap (λ t. some_if (is_reg d && (is_reg a && (is_reg b && t))) (word_R m d a b)) (far_0 z h) ∙ none3 (is_reg d) (is_reg a) (is_reg b) (word_R m d a b)
-far_in I m k d a b z h = ap (λ t. some_if (is_reg d && (is_reg a && ((b == 0) && t))) (word_I m d a (to_bits 12 z))) (far_12 z h) ∙ none3 (is_reg d) (is_reg a) (b == 0) (word_I m d a (to_bits 12 z))
-far_in H m k d a b z h = ap (λ t. some_if (is_reg d && (is_reg a && ((b == 0) && t))) (word_I m d a (to_bits 12 z))) (far_6 z h) ∙ none3 (is_reg d) (is_reg a) (b == 0) (word_I m d a (to_bits 12 z))
-far_in G m k d a b z h = ap (λ t. some_if (is_reg d && (is_reg a && ((b == 0) && t))) (word_I m d a (to_bits 12 z))) (far_5 z h) ∙ none3 (is_reg d) (is_reg a) (b == 0) (word_I m d a (to_bits 12 z))
-far_in S m k d a b z h = ap (λ t. some_if ((d == 0) && (is_reg a && (is_reg b && t))) (word_S m a b (to_bits 12 z))) (far_12 z h) ∙ none3 (d == 0) (is_reg a) (is_reg b) (word_S m a b (to_bits 12 z))
-far_in B m k d a b z h = ap (λ t. some_if ((d == 0) && (is_reg a && (is_reg b && (t && (to_bits 13 z % 2 == 0))))) (word_B m a b (to_bits 13 z))) (far_13 z h) ∙ none3 (d == 0) (is_reg a) (is_reg b) (word_B m a b (to_bits 13 z))
-far_in U m k d a b z h = ap (λ t. some_if (is_reg d && ((a == 0) && ((b == 0) && (t && (to_bits 32 z % 4096 == 0))))) (word_U m d (to_bits 32 z))) (far_32 z h) ∙ none3 (is_reg d) (a == 0) (b == 0) (word_U m d (to_bits 32 z))
-far_in J m k d a b z h = ap (λ t. some_if (is_reg d && ((a == 0) && ((b == 0) && (t && (to_bits 21 z % 2 == 0))))) (word_J m d (to_bits 21 z))) (far_21 z h) ∙ none3 (is_reg d) (a == 0) (b == 0) (word_J m d (to_bits 21 z))
+far_in I m k d a b z h = ap (λ t. some_if (is_reg d && (is_reg a && ((b == 0) && t))) (word_I m d a (to_bits 12 z))) (far_signed 12 z (omega arith) h) ∙ none3 (is_reg d) (is_reg a) (b == 0) (word_I m d a (to_bits 12 z))
+far_in H m k d a b z h = ap (λ t. some_if (is_reg d && (is_reg a && ((b == 0) && t))) (word_I m d a (to_bits 12 z))) (far_below 6 z (omega arith) h) ∙ none3 (is_reg d) (is_reg a) (b == 0) (word_I m d a (to_bits 12 z))
+far_in G m k d a b z h = ap (λ t. some_if (is_reg d && (is_reg a && ((b == 0) && t))) (word_I m d a (to_bits 12 z))) (far_below 5 z (omega arith) h) ∙ none3 (is_reg d) (is_reg a) (b == 0) (word_I m d a (to_bits 12 z))
+far_in S m k d a b z h = ap (λ t. some_if ((d == 0) && (is_reg a && (is_reg b && t))) (word_S m a b (to_bits 12 z))) (far_signed 12 z (omega arith) h) ∙ none3 (d == 0) (is_reg a) (is_reg b) (word_S m a b (to_bits 12 z))
+far_in B m k d a b z h = ap (λ t. some_if ((d == 0) && (is_reg a && (is_reg b && (t && (to_bits 13 z % 2 == 0))))) (word_B m a b (to_bits 13 z))) (far_signed 13 z (omega arith) h) ∙ none3 (d == 0) (is_reg a) (is_reg b) (word_B m a b (to_bits 13 z))
+far_in U m k d a b z h = ap (λ t. some_if (is_reg d && ((a == 0) && ((b == 0) && (t && (to_bits 32 z % 4096 == 0))))) (word_U m d (to_bits 32 z))) (far_signed 32 z (omega arith) h) ∙ none3 (is_reg d) (a == 0) (b == 0) (word_U m d (to_bits 32 z))
+far_in J m k d a b z h = ap (λ t. some_if (is_reg d && ((a == 0) && ((b == 0) && (t && (to_bits 21 z % 2 == 0))))) (word_J m d (to_bits 21 z))) (far_signed 21 z (omega arith) h) ∙ none3 (is_reg d) (a == 0) (b == 0) (word_J m d (to_bits 21 z))
 far_in N m k d a b z h = ap (λ t. some_if ((d == 0) && ((a == 0) && ((b == 0) && t))) m) (far_0 z h) ∙ none3 (d == 0) (a == 0) (b == 0) m
 
 pub far : (k : Kind) (d a b : ℕ) (z : ℤ) → fits_signed 64 z ≡ false → encode_of (ins k d a b z) ≡ None

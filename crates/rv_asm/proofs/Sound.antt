@@ -148,25 +148,24 @@ next_at lines n h =
     ap (place_at lines) (let e : suc n ≡ n + 1 = omega arith in e)
     ∙ (ap place_behind (take_more lines n [] h) ∙ place_push (take n lines) (line_at lines n))
 
+-- of all lines, by what each adds
+few_lines :
+    (lines : List (List ℕ)) (words : Result Given Fault → List ℕ) (count : Place → ℕ) (most : ℕ)
+    → ((r : Result Given Fault) (p : Place) (h : Head) → ((g : Given) → r ≡ Ok g → IsFrom h p g) → IsAdded (words r) (count p) (count (next_place p h)) most)
+    → length (gather (length lines) (λ i. words (given_at lines i))) ≤ most
+few_lines lines words count most each =
+    let here = λ (i : ℕ). words (given_at lines i) in
+    let at = λ (i : ℕ). place_at lines i in
+    let added = λ (i : ℕ). each (given_at lines i) (at i) (head_in (line_at lines i)) (given_is lines i) in
+    (few_words here (λ i. count (at i)) most (length lines) (λ i less. subst (λ p. IsAdded (here i) (count (at i)) (count p) most) (sym (next_at lines i less)) (added i))).1
+
 pub few_code : (lines : List (List ℕ)) → length (code_of lines (length lines)) ≤ 16384
 unfolding code_of
-few_code lines =
-    let words = λ (i : ℕ). code_in (given_at lines i) in
-    let count = λ (p : Place). p.code_words in
-    let here = λ (i : ℕ). code_added (given_at lines i) (place_at lines i) (head_in (line_at lines i)) (given_is lines i) in
-    let at = λ (i : ℕ). count (place_at lines i) in
-    (few_words words at max_code (length lines)
-    (λ i less. subst (λ p. IsAdded (words i) (at i) (count p) max_code) (sym (next_at lines i less)) (here i))).1
+few_code lines = few_lines lines code_in (λ p. p.code_words) max_code code_added
 
 pub few_data : (lines : List (List ℕ)) → length (data_of lines (length lines)) ≤ 131072
 unfolding data_of
-few_data lines =
-    let words = λ (i : ℕ). data_in (given_at lines i) in
-    let count = λ (p : Place). p.data_words in
-    let here = λ (i : ℕ). data_added (given_at lines i) (place_at lines i) (head_in (line_at lines i)) (given_is lines i) in
-    let at = λ (i : ℕ). count (place_at lines i) in
-    (few_words words at max_data (length lines)
-    (λ i less. subst (λ p. IsAdded (words i) (at i) (count p) max_data) (sym (next_at lines i less)) (here i))).1
+few_data lines = few_lines lines data_in (λ p. p.data_words) max_data data_added
 
 -- ---- labels
 head_cases : (a b c d e : Bool) (o : Option Kind) → cond a Blank (cond b Label (cond c Word (cond d DataStart (cond e DataWord (named_head o))))) ≡ Label → b ≡ true

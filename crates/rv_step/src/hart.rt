@@ -13,6 +13,7 @@ ghost use Rattle.rv_step.specs.Windows.{HasWords, IsKnown, IsTable, IsWindow};
 
 use crate::decoder::Decoder;
 use crate::range::Ranges;
+use crate::source::{Instructions, Source, Words};
 use crate::table::Table;
 use crate::window::Window;
 use code_ranges::code_ranges;
@@ -124,8 +125,7 @@ impl Hart {
         (n - rest, done)
     }
 
-    /// The same, but the answer has how many steps are left, so that the loop has one counter. Each word is sought in a window. All steps
-    /// are made here, so that LLVM makes one loop of them.
+    /// The same, but the answer has how many steps are left, so that the loop has one counter. Each word is sought in a window.
     #[inline(never)]
     fn run_few(&mut self, image: &mut Image, n: u64) -> (u64, Result<(), AllocError>)
         ensures made { IsMade (with_memory self.old image.old) (n - result.0) (with_memory self.new image.new) }
@@ -133,23 +133,9 @@ impl Hart {
         ensures stopped { IfOk result.1 (λ _. 0 < result.0 → goes_on self.new.outcome ≡ false) }
         ensures part { IfErr result.1 (λ _. 0 < result.0) }
     {
-        if !self.goes_on() {
-            return (n, Ok(()));
-        }
-        let mut window = Window::none();
-        for left in (0..n).rev() {
-            let on = match self.step_in(image, &mut window, n > 1) {
-                Ok(on) => on,
-                Err(error) => return (left + 1, Err(error)),
-            };
-            if on {
-                continue;
-            }
-            if !self.goes_on() {
-                return (left, Ok(()));
-            }
-        }
-        (0, Ok(()))
+        let window = Window::none();
+        let more = n > 1;
+        self.run_by(image, &mut Words { window, more }, n)
     }
 
     /// The same, with a table of instructions, where there is memory for one.
@@ -163,22 +149,22 @@ impl Hart {
         if self.pc % 4 != 0 {
             return self.run_few(image, n);
         }
-        match self.decoder.table() {
-            Ok(mut table) => self.run_known(image, &mut table, n),
-            Err(_) => self.run_few(image, n),
-        }
+        let Ok(table) = self.decoder.table() else {
+            return self.run_few(image, n);
+        };
+        let window = Window::none();
+        self.run_by(image, &mut Instructions { window, table }, n)
     }
 
-    /// The same, with a table. These steps, too, are one loop.
+    /// The same, with what each step has its instruction from. All steps are made here, so that LLVM makes one loop of them.
     #[inline(always)]
-    fn run_known(
+    fn run_by<S: Source>(
         &mut self,
         image: &mut Image,
-        table: &mut Table,
+        source: &mut S,
         n: u64,
     ) -> (u64, Result<(), AllocError>)
-        requires grain { self.old.pc % 4 ≡ 0 }
-        requires table { IsTable (with_memory self.old image.old).state table.old }
+        requires { S.stands (with_memory self.old image.old).state source.old }
         ensures made { IsMade (with_memory self.old image.old) (n - result.0) (with_memory self.new image.new) }
         ensures within { result.0 ≤ n }
         ensures stopped { IfOk result.1 (λ _. 0 < result.0 → goes_on self.new.outcome ≡ false) }
@@ -187,9 +173,8 @@ impl Hart {
         if !self.goes_on() {
             return (n, Ok(()));
         }
-        let mut window = Window::none();
         for left in (0..n).rev() {
-            let on = match self.step_known(image, &mut window, table) {
+            let on = match source.take_step(self, image) {
                 Ok(on) => on,
                 Err(error) => return (left + 1, Err(error)),
             };
@@ -203,61 +188,10 @@ impl Hart {
         (0, Ok(()))
     }
 
-    /// The step of a hart that goes on, with the instruction that the table has at the pc, and whether the hart surely goes on. It is not
-    /// counted here.
-    #[tactic(auto, unfolding(qed_model::specs::Machine::Step::step))]
-    #[inline(always)]
-    fn step_known(
-        &mut self,
-        image: &mut Image,
-        window: &mut Window,
-        table: &mut Table,
-    ) -> Result<bool, AllocError>
-        requires goes { goes_on self.old.outcome ≡ true }
-        requires known { IsKnown (with_memory self.old image.old).state window.old table.old }
-        ensures step { IfOk result (λ _. LeadsIn step self.old image.old self.new image.new) }
-        ensures known { IfOk result (λ _. IsKnown (with_memory self.new image.new).state window.new table.new) }
-        ensures on { IfOk result (λ on. on ≡ true → goes_on self.new.outcome ≡ true) }
-        ensures kept { IfErr result (λ _. self.new ≡ self.old) }
-        ensures memory { IfErr result (λ _. image.new ≡ image.old) }
-    {
-        let Some(ins) = table.at(self.pc()) else {
-            let on = self.step_second(image, window, table)?;
-            return Ok(on);
-        };
-        let on = self.execute::<2>(ins, image)?;
-        Ok(on)
-    }
-
-    /// The same, where the instruction may be at its second place.
+    /// The step of a hart that goes on, with the word at the pc, whose instruction is put into the table where no store changes it.
     #[tactic(auto, unfolding(qed_model::specs::Machine::Step::step))]
     #[inline(never)]
-    fn step_second(
-        &mut self,
-        image: &mut Image,
-        window: &mut Window,
-        table: &mut Table,
-    ) -> Result<bool, AllocError>
-        requires goes { goes_on self.old.outcome ≡ true }
-        requires known { IsKnown (with_memory self.old image.old).state window.old table.old }
-        ensures step { IfOk result (λ _. LeadsIn step self.old image.old self.new image.new) }
-        ensures known { IfOk result (λ _. IsKnown (with_memory self.new image.new).state window.new table.new) }
-        ensures on { IfOk result (λ on. on ≡ true → goes_on self.new.outcome ≡ true) }
-        ensures kept { IfErr result (λ _. self.new ≡ self.old) }
-        ensures memory { IfErr result (λ _. image.new ≡ image.old) }
-    {
-        let Some(ins) = table.at_second(self.pc()) else {
-            let on = self.step_new(image, window, table)?;
-            return Ok(on);
-        };
-        let on = self.execute::<4>(ins, image)?;
-        Ok(on)
-    }
-
-    /// The same, with the word at the pc, whose instruction is put into the table where no store changes it.
-    #[tactic(auto, unfolding(qed_model::specs::Machine::Step::step))]
-    #[inline(never)]
-    fn step_new(
+    pub(crate) fn step_new(
         &mut self,
         image: &mut Image,
         window: &mut Window,
@@ -292,31 +226,14 @@ impl Hart {
         table.put(self.pc, &ins);
     }
 
-    /// The same, with the word of a window on the code, or of a new one where `more` steps may follow.
-    #[tactic(auto, unfolding(qed_model::specs::Machine::Step::step))]
+    /// The word at the pc, where it may be executed, else None.
     #[inline(always)]
-    fn step_in(
+    pub(crate) fn word_in(
         &mut self,
         image: &mut Image,
         window: &mut Window,
         more: bool,
-    ) -> Result<bool, AllocError>
-        requires goes { goes_on self.old.outcome ≡ true }
-        requires window { IsWindow (with_memory self.old image.old).state window.old }
-        ensures step { IfOk result (λ _. LeadsIn step self.old image.old self.new image.new) }
-        ensures window { IfOk result (λ _. IsWindow (with_memory self.new image.new).state window.new) }
-        ensures on { IfOk result (λ on. on ≡ true → goes_on self.new.outcome ≡ true) }
-        ensures kept { IfErr result (λ _. self.new ≡ self.old) }
-        ensures memory { IfErr result (λ _. image.new ≡ image.old) }
-    {
-        let word = self.word_in(image, window, more);
-        let on = self.advance::<0>(word, image)?;
-        Ok(on)
-    }
-
-    /// The word at the pc, where it may be executed, else None.
-    #[inline(always)]
-    fn word_in(&mut self, image: &mut Image, window: &mut Window, more: bool) -> Option<u32>
+    ) -> Option<u32>
         requires { IsWindow (with_memory self.old image.old).state window.old }
         ensures word { result ≡ word_at (with_memory self.new image.new).state self.new.pc }
         ensures same { self.new ≡ self.old }

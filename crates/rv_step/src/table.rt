@@ -97,26 +97,26 @@ impl Table {
         Ok(Table { all })
     }
 
-    /// The instruction at an address, a multiple of 4, where it is kept at its first place.
+    /// The instruction at an address, a multiple of 4, where it is kept.
     #[inline(always)]
     pub fn at(&self, address: u64) -> Option<&Ins>
         requires { address % 4 ≡ 0 }
         ensures { IfSome result (λ ins. (s : State) → IsTable s self.now → address ≡ s.pc → next s ≡ Known ins.now) }
     {
-        let entry = &self.all[slot(address)];
-        if entry.address != address {
-            return None;
+        match self.at_place(slot(address), address) {
+            None => self.at_place(second_slot(address), address),
+            first => first,
         }
-        Some(&entry.ins)
     }
 
-    /// The same, where it is kept at its second place.
+    /// The same, where it is kept at this place.
     #[inline(always)]
-    pub fn at_second(&self, address: u64) -> Option<&Ins>
-        requires { address % 4 ≡ 0 }
+    fn at_place(&self, place: usize, address: u64) -> Option<&Ins>
+        requires place { place < 8192 }
+        requires grain { address % 4 ≡ 0 }
         ensures { IfSome result (λ ins. (s : State) → IsTable s self.now → address ≡ s.pc → next s ≡ Known ins.now) }
     {
-        let entry = &self.all[second_slot(address)];
+        let entry = &self.all[place];
         if entry.address != address {
             return None;
         }

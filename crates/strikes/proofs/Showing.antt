@@ -1,6 +1,6 @@
 -- From what the machines show to the verdict.
 use Rattle.std.proofs.Common.{◌≡◌, ◌⊎◌, inl, inr, ℕ, zero, suc, ◌+◌, ◌-◌, ◌<◌, ◌≤◌, false, List, Option, Some, None, refl, sym, ap, ◌∙◌, subst, arith}
-use Rattle.std.specs.Prelude.{◌≢◌, Ok, Err, IfNone, IfSome}
+use Rattle.std.specs.Prelude.{◌≢◌, Ok, MatchOption}
 use Rattle.std.proofs.lemmas.Bool.{cases_lt}
 use Rattle.qed_model.specs.declared.change.Change.{Change}
 use Rattle.qed_model.specs.declared.machine.Cause.{Cause}
@@ -11,8 +11,7 @@ use Rattle.qed_model.specs.declared.verdict.Verdict.TheVariants as verdict
 use Rattle.qed_model.specs.Machine.Step.{State, run}
 use Rattle.qed_model.specs.Promise.Changed.{changed_run, Ordered, last_step}
 use Rattle.qed_model.specs.Promise.Kept.{is_trapped}
-use Rattle.strikes.specs.declared.error.StrikeError.TheVariants as error
-use Rattle.strikes.specs.Found.{ShowsUnchanged, StopsWithin, trap_pc_of, verdict_of, Stops, IsStill, IsSilentAt}
+use Rattle.strikes.specs.Found.{ShowsUnchanged, StopsWithin, trap_pc_of, verdict_of, input_shows, Stops, IsStill, IsSilentAt}
 use Rattle.strikes.specs.Verdict.{IsTried, IsFound, IsSilent, StopsAt, Shows}
 use Rattle.strikes.proofs.Stopping.{run_as, changed_as_at, changed_before, first_stop, behind, StopsBy}
 
@@ -127,10 +126,10 @@ no_verdict Ended k e = absurd (cc)
 no_verdict Fired k e = absurd (cc)
 no_verdict (Trapped c p) k e = refl
 
-pub still_where_none :
-    (s after : State) (b steps : ℕ) (o : Outcome) (r : Option Verdict) → StopsWithin s b after steps → o ≡ after.outcome → r ≡ verdict_of o steps → IfNone r (IsStill s b)
-still_where_none s after b steps o (Some v) w e is = tt
-still_where_none s after b steps o None w e is =
+pub stop_shows :
+    (s after : State) (b steps : ℕ) (o : Outcome) (r : Option Verdict) → StopsWithin s b after steps → o ≡ after.outcome → r ≡ verdict_of o steps → MatchOption r (IsStill s b) (Stops s b)
+stop_shows s after b steps o (Some v) w e is = record { steps = steps; within = w.within; stops = w.stops; shows = ap (λ x. verdict_of x steps) (sym (e ∙ ap (λ x. x.outcome) w.there)) ∙ sym is }
+stop_shows s after b steps o None w e is =
     let same : run s b ≡ run s steps = run_as s steps b w.within w.stops.stopped in
     let there : o ≡ (run s b).outcome = e ∙ ap (λ x. x.outcome) (w.there ∙ sym same) in
     record { shows_none = subst (λ x. verdict_of x 0 ≡ None) there (no_verdict o steps (sym is)) }
@@ -149,33 +148,24 @@ no_trap Fired e = refl
 no_trap (Trapped cause p) e = absurd (cc)
 
 -- where the output shows nothing, the input's run decides
-pub shows_trapped :
-    (input output : State) (b pc : ℕ) (cs : List Change) → Ordered cs → IsTried output cs → IsStill (changed_run output cs (last_step cs)) b
-    → Some pc ≡ trap_pc_of (run input (last_step cs + b)).outcome → Shows input output b cs (Err (error.Trapped pc))
-shows_trapped input output b pc cs o t x e =
+pub shows_input :
+    (input output : State) (b : ℕ) (cs : List Change) (trap : Option ℕ) → Ordered cs → IsSilentAt output b cs → trap ≡ trap_pc_of (run input (last_step cs + b)).outcome
+    → Shows input output b cs (input_shows trap)
+shows_input input output b cs (Some pc) o x e =
     let p = trap_of (run input (last_step cs + b)).outcome pc (sym e) in
-    (t, is_silent output cs b o x, record { cause = p.0; trapped = p.1 })
-
-pub shows_same :
-    (input output : State) (b : ℕ) (cs : List Change) → Ordered cs → IsTried output cs → IsStill (changed_run output cs (last_step cs)) b
-    → None ≡ trap_pc_of (run input (last_step cs + b)).outcome → Shows input output b cs (Ok verdict.Same)
-shows_same input output b cs o t x e = (t, is_silent output cs b o x, no_trap (run input (last_step cs + b)).outcome (sym e))
+    (x.tried, is_silent output cs b o x.still, record { cause = p.0; trapped = p.1 })
+shows_input input output b cs None o x e = (x.tried, is_silent output cs b o x.still, no_trap (run input (last_step cs + b)).outcome (sym e))
 
 -- ---- the output alone
 -- what is shown whatever the input is
 pub shown_all :
-    (output : State) (b : ℕ) (cs : List Change) (r : Option Verdict) → Ordered cs → IsTried output cs → IfSome r (Stops (changed_run output cs (last_step cs)) b)
-    → IfSome r (λ v. (input : State) → Shows input output b cs (Ok v))
-shown_all output b cs None o t x = tt
+    (output : State) (b : ℕ) (cs : List Change) (r : Option Verdict) → Ordered cs → IsTried output cs
+    → (let s = changed_run output cs (last_step cs) in MatchOption r (IsStill s b) (Stops s b))
+    → MatchOption r (IsSilentAt output b cs) (λ v. (input : State) → Shows input output b cs (Ok v))
+shown_all output b cs None o t x = record { tried = t; still = x }
 shown_all output b cs (Some v) o t x = λ input. shows_found input output b cs v o t x
 
-pub silent_all :
-    (output : State) (b : ℕ) (cs : List Change) (r : Option Verdict) → IsTried output cs → IfNone r (IsStill (changed_run output cs (last_step cs)) b)
-    → IfNone r (IsSilentAt output b cs)
-silent_all output b cs None t x = record { tried = t; still = x }
-silent_all output b cs (Some v) t x = tt
-
 -- where there is no verdict
-pub where_none : (r : Option Verdict) (P : Type 0) → ((v : Verdict) → r ≡ Some v → ⊥) → IfNone r P → P
-where_none None P n x = x
-where_none (Some v) P n x = absurd (n v refl)
+pub where_none : (r : Option Verdict) (P : Type 0) (Q : Verdict → Type 0) → ((v : Verdict) → r ≡ Some v → ⊥) → MatchOption r P Q → P
+where_none None P Q n x = x
+where_none (Some v) P Q n x = absurd (n v refl)

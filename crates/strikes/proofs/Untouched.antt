@@ -28,7 +28,7 @@ same_outcome : (a x : ℕ) (s : State) → (struck (Word a) x s).outcome ≡ s.o
 unfolding struck
 same_outcome a x s = refl
 
-pub spared_on : (a x at n : ℕ) (start s t : State) → a < 2 ^ 64 → AreSpared a at n start → s ≡ struck (Word a) x (run start at) → t ≡ struck (Word a) x (run start (at + n)) → IsOn s n t
+spared_on : (a x at n : ℕ) (start s t : State) → a < 2 ^ 64 → AreSpared a at n start → s ≡ struck (Word a) x (run start at) → t ≡ struck (Word a) x (run start (at + n)) → IsOn s n t
 spared_on a x at n start s t ha are from to = record {
   there = to ∙ sym (spared_to a x at n start ha are.spared) ∙ ap (λ u. run u n) (sym from);
   before = λ k l.
@@ -37,8 +37,14 @@ spared_on a x at n start s t ha are from to = record {
 }
 
 -- the machine of the kept run, with the word changed
-pub word_changed : (p : Place) (x n : ℕ) (start m q : Progress) → m ≡ progress start n → q ≡ struck_progress p x m → q.state ≡ struck p x (run start.state n)
+word_changed : (p : Place) (x n : ℕ) (start m q : Progress) → m ≡ progress start n → q ≡ struck_progress p x m → q.state ≡ struck p x (run start.state n)
 word_changed p x n start m q there made = ap (λ r. r.state) made ∙ ap (λ r. struck p x r.state) there ∙ ap (struck p x) (progress_state start n)
+
+-- so it stands as that run would
+pub spared_there :
+    (a x at n : ℕ) (start m q : Progress) (s : State) → a < 2 ^ 64 → AreSpared a at n start.state → s ≡ struck (Word a) x (run start.state at) → m ≡ progress start (at + n)
+    → q ≡ struck_progress (Word a) x m → IsOn s n q.state
+spared_there a x at n start m q s ha are from there made = spared_on a x at n start.state s q.state ha are from (word_changed (Word a) x (at + n) start m q there made)
 
 -- ---- what is found behind them
 later_state : (s t : State) (n k : ℕ) → IsOn s n t → run s (n + k) ≡ run t k

@@ -1,12 +1,14 @@
 -- What the parts of a strike show: the run without changes, and the run behind the last change.
-use Rattle.std.specs.Prelude.{◌≡◌, ℕ, ◌<◌, ◌≤◌, true, List, Option, Some, None}
+use Rattle.std.specs.Prelude.{◌≡◌, ℕ, ◌<◌, ◌≤◌, true, List, Option, Some, None, MatchOption, Result, Ok, Err}
 use Rattle.qed_model.specs.declared.change.Change.{Change}
 use Rattle.qed_model.specs.declared.machine.Outcome.{Outcome}
 use Rattle.qed_model.specs.declared.machine.Outcome.TheVariants as outcome
 use Rattle.qed_model.specs.declared.verdict.Verdict.{Verdict}
-use Rattle.qed_model.specs.declared.verdict.Verdict.TheVariants.{Closed, NotReached, Fired, Ended}
+use Rattle.qed_model.specs.declared.verdict.Verdict.TheVariants.{Closed, NotReached, Fired, Ended, Same}
 use Rattle.qed_model.specs.Machine.Step.{State, run}
 use Rattle.qed_model.specs.Promise.Changed.{changed_run, last_step}
+use Rattle.strikes.specs.declared.error.StrikeError.{StrikeError}
+use Rattle.strikes.specs.declared.error.StrikeError.TheVariants as error
 use Rattle.strikes.specs.Verdict.{IsReached, IsTried, has_closed, StopsAt}
 
 -- ---- the run without changes
@@ -34,6 +36,10 @@ pub record StopsWithin (state : State) (n : ℕ) (after : State) (steps : ℕ) :
   pub stops : StopsAt (run state) steps
   pub there : after ≡ run state steps
 
+-- what is told of n steps: those after which it first does not go on, and the state there; None where it goes on
+abbrev pub TellsStop : State → ℕ → State → Option ℕ → Type 0
+TellsStop s n after r = MatchOption r ((run s n).outcome ≡ outcome.Going) (StopsWithin s n after)
+
 -- within the bound it first does not go on, and shows this verdict
 pub record Stops (state : State) (b : ℕ) (v : Verdict) : Type 0 where
   pub steps : ℕ
@@ -55,3 +61,8 @@ pub record IsSilentAt (output : State) (b : ℕ) (cs : List Change) : Type 0 whe
 abbrev pub trap_pc_of : Outcome → Option ℕ
 trap_pc_of (outcome.Trapped cause pc) = Some pc
 trap_pc_of _ = None
+
+-- what is answered where the output shows nothing
+abbrev pub input_shows : Option ℕ → Result Verdict StrikeError
+input_shows (Some pc) = Err (error.Trapped pc)
+input_shows None = Ok Same

@@ -1,8 +1,7 @@
 //! A changed run that comes beside the run without changes: both go on in the same state, and the same way from there.
-ghost use Rattle.std.specs.Prelude.{◌≡◌, ◌+◌, ◌*◌, ◌≤◌, true, IfOk, IfSome, IfNone};
-ghost use Rattle.qed_model.specs.declared.machine.Outcome.TheVariants as outcome;
+ghost use Rattle.std.specs.Prelude.{◌≡◌, ◌+◌, ◌*◌, ◌≤◌, true, IfOk};
 ghost use Rattle.qed_model.specs.Machine.Step.{State, run};
-ghost use Rattle.strikes.specs.Found.{IsOn, StopsWithin};
+ghost use Rattle.strikes.specs.Found.{IsOn, TellsStop};
 ghost use Rattle.strikes.specs.Kept.{copies_up_to};
 
 use crate::snapshots::{SPACING, Snapshots};
@@ -37,8 +36,7 @@ fn leap_to_stop(
     requires part { made ≤ most }
     requires number { number + 1 ≤ copies_up_to way.now.reach }
     requires beside { machine.old.state ≡ run way.now.start.state (4096 * number) }
-    ensures stops { (s : State) → IsOn s made machine.old.state → IfOk result (λ r. IfSome r (StopsWithin s most machine.new.state)) }
-    ensures goes_on { (s : State) → IsOn s made machine.old.state → IfOk result (λ r. IfNone r ((run s most).outcome ≡ outcome.Going)) }
+    ensures { (s : State) → IsOn s made machine.old.state → IfOk result (TellsStop s most machine.new.state) }
 {
     let reach = way.reach();
     let here = SPACING * number;
@@ -60,8 +58,7 @@ pub fn steps_beside(
     machine: &mut Machine,
     most: u64,
 ) -> Result<Option<u64>, AllocError>
-    ensures stops { IfOk result (λ r. IfSome r (StopsWithin machine.old.state most machine.new.state)) }
-    ensures goes_on { IfOk result (λ r. IfNone r ((run machine.old.state most).outcome ≡ outcome.Going)) }
+    ensures { IfOk result (TellsStop machine.old.state most machine.new.state) }
 {
     let mut made = 0;
     for number in at / SPACING + 1..way.reach() / SPACING + 1 {

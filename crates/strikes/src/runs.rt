@@ -7,6 +7,7 @@ ghost use Rattle.qed_model.specs.Machine.Step.{run};
 ghost use Rattle.qed_model.specs.Promise.Caught.{bound_of as bound_of_changes};
 ghost use Rattle.qed_model.specs.Promise.Changed.{Ordered, changed_run, has_word as has_word_of, is_word as is_word_of, last_step as last_step_of};
 ghost use Rattle.fault_inject.specs.Touched.{IsTrace};
+ghost use Rattle.strikes.specs.Found.{input_shows};
 ghost use Rattle.strikes.specs.Kept.{IsReach, copies_up_to};
 ghost use Rattle.strikes.specs.Later.{first_step as first_step_of};
 ghost use Rattle.strikes.specs.Right.{ends_right as ends_right_of, is_right as is_right_of, rights as rights_of};
@@ -101,6 +102,16 @@ fn is_ordered(changes: &[Change]) -> bool
         last = change.step;
     }
     true
+}
+
+/// What is answered where the output shows nothing, by the pc at which the input traps, where it does.
+fn input_verdict(trap: Option<u64>) -> Result<Verdict, StrikeError>
+    ensures { result ≡ input_shows trap }
+{
+    match trap {
+        Some(pc) => Err(StrikeError::Trapped(pc)),
+        None => Ok(Verdict::Same),
+    }
 }
 
 /// The strikes of a campaign with their verdicts, in their order.
@@ -206,10 +217,8 @@ impl Runs {
         )? {
             return Ok(verdict);
         }
-        match self.input.trap(alloc, last, bound)? {
-            Some(pc) => Err(StrikeError::Trapped(pc)),
-            None => Ok(Verdict::Same),
-        }
+        let trap = self.input.trap(alloc, last, bound)?;
+        input_verdict(trap)
     }
 
     /// The same, with the output on its way, after `made` steps, which is brought to the first change. None where the input traps.

@@ -1,11 +1,10 @@
 //! A run with one word changed, which goes the way of the run without changes until it touches the word.
-ghost use Rattle.std.specs.Prelude.{◌≡◌, IfOk, IfSome, IfNone};
+ghost use Rattle.std.specs.Prelude.{◌≡◌, IfOk};
 ghost use Rattle.qed_model.specs.declared.change.Place.TheVariants.{Word as InWord};
-ghost use Rattle.qed_model.specs.declared.machine.Outcome.TheVariants as outcome;
 ghost use Rattle.qed_model.specs.Machine.Step.{run};
 ghost use Rattle.qed_model.specs.Machine.Struck.{struck};
 ghost use Rattle.fault_inject.specs.Touched.{IsTrace};
-ghost use Rattle.strikes.specs.Found.{StopsWithin};
+ghost use Rattle.strikes.specs.Found.{TellsStop};
 ghost use Rattle.strikes.specs.Later.{word_in, one_word as one_word_of};
 
 use crate::beside::steps_beside;
@@ -54,8 +53,7 @@ pub fn steps_spared(
 ) -> Result<Option<u64>, AllocError>
     requires trace { IsTrace way.now.start.state trace.now }
     requires there { machine.old.state ≡ struck (InWord address) value (run way.now.start.state at) }
-    ensures stops { IfOk result (λ r. IfSome r (StopsWithin machine.old.state most machine.new.state)) }
-    ensures goes_on { IfOk result (λ r. IfNone r ((run machine.old.state most).outcome ≡ outcome.Going)) }
+    ensures { IfOk result (TellsStop machine.old.state most machine.new.state) }
 {
     let made = trace.spared(address, at, most);
     if made < SPACING {

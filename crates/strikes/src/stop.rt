@@ -1,8 +1,7 @@
 //! When a machine stops.
-ghost use Rattle.std.specs.Prelude.{◌≡◌, ◌≤◌, IfOk, IfSome, IfNone};
-ghost use Rattle.qed_model.specs.declared.machine.Outcome.TheVariants as outcome;
-ghost use Rattle.qed_model.specs.Machine.Step.{State, run};
-ghost use Rattle.strikes.specs.Found.{IsOn, StopsWithin};
+ghost use Rattle.std.specs.Prelude.{◌≤◌, IfOk};
+ghost use Rattle.qed_model.specs.Machine.Step.{State};
+ghost use Rattle.strikes.specs.Found.{IsOn, TellsStop};
 
 use qed_model::Outcome;
 use rv_step::Machine;
@@ -12,8 +11,7 @@ use std::alloc::AllocError;
 /// it first does not go on; None where it still goes on after all of them.
 pub fn steps_to_stop(machine: &mut Machine, made: u64, most: u64) -> Result<Option<u64>, AllocError>
     requires { made ≤ most }
-    ensures stops { (s : State) → IsOn s made machine.old.state → IfOk result (λ r. IfSome r (StopsWithin s most machine.new.state)) }
-    ensures goes_on { (s : State) → IsOn s made machine.old.state → IfOk result (λ r. IfNone r ((run s most).outcome ≡ outcome.Going)) }
+    ensures { (s : State) → IsOn s made machine.old.state → IfOk result (TellsStop s most machine.new.state) }
 {
     let more = machine.run_made(most - made)?;
     if machine.outcome() == Outcome::Going {

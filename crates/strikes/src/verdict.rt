@@ -1,11 +1,10 @@
 //! What changes show, where both machines stand at the step from which the changes are counted.
-ghost use Rattle.std.specs.Prelude.{◌≡◌, IfOk, IfSome, IfNone, Ok};
-ghost use Rattle.qed_model.specs.declared.machine.Outcome.TheVariants as outcome;
+ghost use Rattle.std.specs.Prelude.{◌≡◌, IfOk, MatchOption, Ok};
 ghost use Rattle.qed_model.specs.Machine.Step.{State, run};
 ghost use Rattle.qed_model.specs.Promise.Changed.{Ordered, last_step as last_step_of};
 ghost use Rattle.strikes.specs.Verdict.{has_closed as has_closed_of, IsTried, Shows};
 ghost use Rattle.fault_inject.specs.Touched.{IsTrace};
-ghost use Rattle.strikes.specs.Found.{verdict_of, Stops, StopsWithin, IsStill, IsSilentAt, ShowsUnchanged};
+ghost use Rattle.strikes.specs.Found.{verdict_of, Stops, TellsStop, IsStill, IsSilentAt, ShowsUnchanged};
 ghost use Rattle.strikes.specs.Later.{one_word as one_word_of, IsChangedAt};
 
 use crate::beside::steps_beside;
@@ -62,8 +61,7 @@ fn shown_by(
 ) -> Result<Option<Verdict>, AllocError>
     requires there { machine.old.state ≡ run way.now.start.state start }
     requires ordered { Ordered changes.now }
-    ensures shown { IfOk result (λ v. IfSome v (ShowsUnchanged machine.old.state changes.now)) }
-    ensures none { IfOk result (λ v. IfNone v (IsTried machine.old.state changes.now)) }
+    ensures shown { IfOk result (λ v. MatchOption v (IsTried machine.old.state changes.now) (ShowsUnchanged machine.old.state changes.now)) }
     ensures there { IfOk result (λ _. machine.new.state ≡ run machine.old.state (last_step_of changes.now)) }
 {
     let is_closed = has_closed(alloc, way, start, machine, changes)?;
@@ -87,8 +85,7 @@ fn unchanged_verdict(
 ) -> Result<Option<Verdict>, AllocError>
     requires there { output.old.state ≡ run way.now.start.state start }
     requires ordered { Ordered changes.now }
-    ensures shown { IfOk result (λ v. IfSome v (ShowsUnchanged output.old.state changes.now)) }
-    ensures none { IfOk result (λ v. IfNone v (IsTried output.old.state changes.now)) }
+    ensures shown { IfOk result (λ v. MatchOption v (IsTried output.old.state changes.now) (ShowsUnchanged output.old.state changes.now)) }
     ensures same { IfOk result (λ _. output.new.state ≡ output.old.state) }
 {
     if last_step(changes) == 0 {
@@ -123,8 +120,7 @@ fn steps_behind(
 ) -> Result<Option<u64>, AllocError>
     requires trace { IsTrace way.now.start.state trace.now }
     requires there { IsChangedAt (run way.now.start.state at) (one_word_of changes.now) machine.old.state }
-    ensures stops { IfOk result (λ r. IfSome r (StopsWithin machine.old.state most machine.new.state)) }
-    ensures goes_on { IfOk result (λ r. IfNone r ((run machine.old.state most).outcome ≡ outcome.Going)) }
+    ensures { IfOk result (TellsStop machine.old.state most machine.new.state) }
 {
     match one_word(changes) {
         Some((address, value)) => {
@@ -147,8 +143,7 @@ fn later_verdict(
 ) -> Result<Option<Verdict>, AllocError>
     requires trace { IsTrace way.now.start.state trace.now }
     requires there { IsChangedAt (run way.now.start.state at) (one_word_of changes.now) machine.old.state }
-    ensures shown { IfOk result (λ v. IfSome v (Stops machine.old.state bound)) }
-    ensures none { IfOk result (λ v. IfNone v (IsStill machine.old.state bound)) }
+    ensures { IfOk result (λ v. MatchOption v (IsStill machine.old.state bound) (Stops machine.old.state bound)) }
 {
     let Some(steps) = steps_behind(alloc, way, trace, at, machine, changes, bound)? else {
         return Ok(None);
@@ -170,8 +165,7 @@ pub fn output_verdict(
     requires trace { IsTrace way.now.start.state trace.now }
     requires there { output.state ≡ run way.now.start.state start }
     requires ordered { Ordered changes.now }
-    ensures shown { IfOk result (λ v. IfSome v (λ v. (input : State) → Shows input output.state bound changes.now (Ok v))) }
-    ensures none { IfOk result (λ v. IfNone v (IsSilentAt output.state bound changes.now)) }
+    ensures { IfOk result (λ v. MatchOption v (IsSilentAt output.state bound changes.now) (λ v. (input : State) → Shows input output.state bound changes.now (Ok v))) }
 {
     let mut output = output;
     if let Some(verdict) = unchanged_verdict(alloc, way, start, &mut output, changes)? {

@@ -106,79 +106,59 @@ module _ (labels : List ℕ → Option Label) (at : ℕ) (k : Kind) (w : ℕ) wh
   abbrev taken : Form → Option Operands → Result ℕ Fault
   taken f o = word_as f k (ok_or o IllegalOperands)
 
+  -- two and three operands, by what is made of them
+  two : (f : Form) (i : Ins) (a b : List ℕ) (made : Option (List ℕ × List ℕ) → Result ℕ Fault) → IsOperand a → IsOperand b → operands_text f i w ≡ 32 ∷ pair_text a b
+      → word_as f i.kind (operands_in labels at f (pair_text a b)) ≡ made (pair_in (pair_text a b)) → made (Some (a, b)) ≡ ok_or (encode_of i) OutOfRange → IsRead labels at f i w
+  two f i a b made p q text reads is =
+      let t = pair_of a b p q in
+      record { operands = pair_text a b; behind = subst (λ x. IsBehind x (pair_text a b)) (sym text) t.behind; reads = reads ∙ ap made t.parts ∙ is }
+
+  three : (f : Form) (i : Ins) (a b c : List ℕ) (made : Option (List ℕ × List ℕ × List ℕ) → Result ℕ Fault) → IsOperand a → IsOperand b → IsOperand c
+      → operands_text f i w ≡ 32 ∷ pair_text a (pair_text b c) → word_as f i.kind (operands_in labels at f (pair_text a (pair_text b c))) ≡ made (triple_in (pair_text a (pair_text b c)))
+      → made (Some (a, b, c)) ≡ ok_or (encode_of i) OutOfRange → IsRead labels at f i w
+  three f i a b c made p q r text reads is =
+      let t = triple_of a b c p q r in
+      record { operands = pair_text a (pair_text b c); behind = subst (λ x. IsBehind x (pair_text a (pair_text b c))) (sym text) t.behind; reads = reads ∙ ap made t.parts ∙ is }
+
   registers_back : (d a b : ℕ) → IsRegister d → IsRegister a → IsRegister b → IsRead labels at Registers (ins k d a b (pos 0)) w
   unfolding operands_text operands_in word_as
   registers_back d a b p q r =
-      let t = triple_of (register_text d) (register_text a) (register_text b) p.operand q.operand r.operand in
-      record {
-        operands = pair_text (register_text d) (pair_text (register_text a) (register_text b));
-        behind = t.behind;
-        reads = ap (λ o. taken Registers (registers_from o)) t.parts
-            ∙ λ i. taken Registers (operands_with (p.reads i) (q.reads i) (r.reads i) (Some (pos 0)));
-      }
+      three Registers (ins k d a b (pos 0)) (register_text d) (register_text a) (register_text b) (λ o. taken Registers (registers_from o)) p.operand q.operand r.operand refl refl
+      (λ i. taken Registers (operands_with (p.reads i) (q.reads i) (r.reads i) (Some (pos 0))))
 
   immediate_back : (d a : ℕ) (z : ℤ) → IsRegister d → IsRegister a → IsImmediate z → IsRead labels at Immediate (ins k d a 0 z) w
   unfolding operands_text operands_in word_as
   immediate_back d a z p q r =
-      let t = triple_of (register_text d) (register_text a) (signed_decimal z) p.operand q.operand r.operand in
-      record {
-        operands = pair_text (register_text d) (pair_text (register_text a) (signed_decimal z));
-        behind = t.behind;
-        reads = ap (λ o. taken Immediate (immediate_from o)) t.parts
-            ∙ λ i. taken Immediate (operands_with (p.reads i) (q.reads i) (Some 0) (r.reads i));
-      }
+      three Immediate (ins k d a 0 z) (register_text d) (register_text a) (signed_decimal z) (λ o. taken Immediate (immediate_from o)) p.operand q.operand r.operand refl refl
+      (λ i. taken Immediate (operands_with (p.reads i) (q.reads i) (Some 0) (r.reads i)))
 
   branch_back : (a b : ℕ) (z : ℤ) → IsRegister a → IsRegister b → IsImmediate z → IsRead labels at Branch (ins k 0 a b z) w
   unfolding operands_text operands_in word_as target_in
   branch_back a b z p q r =
-      let t = triple_of (register_text a) (register_text b) (signed_decimal z) p.operand q.operand r.operand in
-      let text = signed_decimal z in
       let registers = λ (x y : Option ℕ). operands_with (Some 0) x y (Some (pos 0)) in
-      record {
-        operands = pair_text (register_text a) (pair_text (register_text b) (signed_decimal z));
-        behind = t.behind;
-        reads = ap (λ o. word_as Branch k (branch_from labels at o)) t.parts
-            ∙ λ i. word_as Branch k (with_target (registers (p.reads i) (q.reads i)) (target_with labels at text (r.reads i)));
-      }
+      three Branch (ins k 0 a b z) (register_text a) (register_text b) (signed_decimal z) (λ o. word_as Branch k (branch_from labels at o)) p.operand q.operand r.operand refl refl
+      (λ i. word_as Branch k (with_target (registers (p.reads i) (q.reads i)) (target_with labels at (signed_decimal z) (r.reads i))))
 
   load_back : (d a : ℕ) (z : ℤ) → IsRegister d → IsRegister a → IsImmediate z → IsRead labels at Load (ins k d a 0 z) w
   unfolding operands_text operands_in word_as
   load_back d a z p q r =
       let place = address_is z a r q in
-      let t = pair_of (register_text d) (place_text z a) p.operand place.operand in
-      record {
-        operands = pair_text (register_text d) (place_text z a);
-        behind = t.behind;
-        reads = ap (λ o. taken Load (load_from o)) t.parts
-            ∙ (ap (λ o. taken Load (load_with (register_in (register_text d)) o)) place.parts
-            ∙ λ i. taken Load (operands_with (p.reads i) (q.reads i) (Some 0) (r.reads i)));
-      }
+      two Load (ins k d a 0 z) (register_text d) (place_text z a) (λ o. taken Load (load_from o)) p.operand place.operand refl refl
+      (ap (λ o. taken Load (load_with (register_in (register_text d)) o)) place.parts ∙ λ i. taken Load (operands_with (p.reads i) (q.reads i) (Some 0) (r.reads i)))
 
   store_back : (a b : ℕ) (z : ℤ) → IsRegister a → IsRegister b → IsImmediate z → IsRead labels at Store (ins k 0 a b z) w
   unfolding operands_text operands_in word_as
   store_back a b z q p r =
       let place = address_is z a r q in
-      let t = pair_of (register_text b) (place_text z a) p.operand place.operand in
-      record {
-        operands = pair_text (register_text b) (place_text z a);
-        behind = t.behind;
-        reads = ap (λ o. taken Store (store_from o)) t.parts
-            ∙ (ap (λ o. taken Store (store_with (register_in (register_text b)) o)) place.parts
-            ∙ λ i. taken Store (operands_with (Some 0) (q.reads i) (p.reads i) (r.reads i)));
-      }
+      two Store (ins k 0 a b z) (register_text b) (place_text z a) (λ o. taken Store (store_from o)) p.operand place.operand refl refl
+      (ap (λ o. taken Store (store_with (register_in (register_text b)) o)) place.parts ∙ λ i. taken Store (operands_with (Some 0) (q.reads i) (p.reads i) (r.reads i)))
 
   jump_back : (d : ℕ) (z : ℤ) → IsRegister d → IsImmediate z → IsRead labels at Jump (ins k d 0 0 z) w
   unfolding operands_text operands_in word_as target_in
   jump_back d z p r =
-      let t = pair_of (register_text d) (signed_decimal z) p.operand r.operand in
-      let text = signed_decimal z in
       let registers = λ (x : Option ℕ). operands_with x (Some 0) (Some 0) (Some (pos 0)) in
-      record {
-        operands = pair_text (register_text d) (signed_decimal z);
-        behind = t.behind;
-        reads = ap (λ o. word_as Jump k (jump_from labels at o)) t.parts
-            ∙ λ i. word_as Jump k (with_target (registers (p.reads i)) (target_with labels at text (r.reads i)));
-      }
+      two Jump (ins k d 0 0 z) (register_text d) (signed_decimal z) (λ o. word_as Jump k (jump_from labels at o)) p.operand r.operand refl refl
+      (λ i. word_as Jump k (with_target (registers (p.reads i)) (target_with labels at (signed_decimal z) (r.reads i))))
 
   upper_back : (d : ℕ) → IsRegister d → bits w 12 20 < 2 ^ 20 → IsUpper (bits w 12 20)
       → IsRead labels at Upper (ins k d 0 0 (signed 32 (bits w 12 20 * 2 ^ 12))) w
@@ -186,15 +166,9 @@ module _ (labels : List ℕ → Option Label) (at : ℕ) (k : Kind) (w : ℕ) wh
   upper_back d p h r =
       let n = bits w 12 20 in
       let imm = signed 32 (n * 2 ^ 12) in
-      let t = pair_of (register_text d) (upper_text n) p.operand r.operand in
       let read : Operands = record { rd = d; rs1 = 0; rs2 = 0; imm = pos n } in
-      record {
-        operands = pair_text (register_text d) (upper_text n);
-        behind = t.behind;
-        reads = ap (λ o. taken Upper (upper_from o)) t.parts
-            ∙ ((λ i. taken Upper (operands_with (p.reads i) (Some 0) (Some 0) (r.reads i)))
-            ∙ ap (λ b. ok_or (encoded_with k read (cond b (Some imm) None)) OutOfRange) (lt-ltb n (2 ^ 20) h));
-      }
+      two Upper (ins k d 0 0 imm) (register_text d) (upper_text n) (λ o. taken Upper (upper_from o)) p.operand r.operand refl refl
+      ((λ i. taken Upper (operands_with (p.reads i) (Some 0) (Some 0) (r.reads i))) ∙ ap (λ b. ok_or (encoded_with k read (cond b (Some imm) None)) OutOfRange) (lt-ltb n (2 ^ 20) h))
 
   bare_back : IsRead labels at Bare (ins k 0 0 0 (pos 0)) w
   unfolding operands_text operands_in word_as

@@ -4,27 +4,17 @@ use Rattle.strikes.proofs.Leaping.{leap_goes, leap_on}
 use Rattle.strikes.proofs.Stopping.{progress_state}
 use Rattle.strikes.proofs.beside.leap_to_stop.Goals as goal
 
-pub returns-then-most-made-clause-goes_on : goal.returns-then-most-made-clause-goes_on
-returns-then-most-made-clause-goes_on c = λ s on.
+pub returns-then-most-made : goal.returns-then-most-made
+returns-then-most-made c = λ s on.
     let short = c.if-most-made.true in
     leap_goes s c.args.machine.now.state c.args.way.now.start.state c.args.made (4096 * c.args.number) c.args.most c.reach-reach.result c.reach-reach.ensures.reach on c.requires.beside c.requires.part (omega (arith, short))
 
-pub returns-clause-stops : goal.returns-clause-stops
-returns-clause-stops c = λ s on.
+pub returns : goal.returns
+returns c = λ s on.
     let there : c.unwrap.result.now ≡ progress c.args.way.now.start (4096 * (c.reach-reach.result / 4096)) = rw c.unwrap.ensures at c.at.ensures.there in
     let state = ap (λ p. p.state) c.in_ok-machine.ensures ∙ ap (λ p. p.state) there ∙ progress_state c.args.way.now.start (4096 * (c.reach-reach.result / 4096)) in
     let number = c.requires.number in
     let is = c.reach-reach.ensures.value in
-    c.in_ok-steps.ensures.stops s
-    (leap_on s c.args.machine.now.state c.in_ok-machine.field-0.state c.args.way.now.start.state c.args.made (4096 * c.args.number) (4096 * (c.reach-reach.result / 4096)) c.reach-reach.result c.reach-reach.ensures.reach on c.requires.beside
-    (omega (arith, number, is)) (omega arith) state)
-
-pub returns-clause-goes_on : goal.returns-clause-goes_on
-returns-clause-goes_on c = λ s on.
-    let there : c.unwrap.result.now ≡ progress c.args.way.now.start (4096 * (c.reach-reach.result / 4096)) = rw c.unwrap.ensures at c.at.ensures.there in
-    let state = ap (λ p. p.state) c.in_ok-machine.ensures ∙ ap (λ p. p.state) there ∙ progress_state c.args.way.now.start (4096 * (c.reach-reach.result / 4096)) in
-    let number = c.requires.number in
-    let is = c.reach-reach.ensures.value in
-    c.in_ok-steps.ensures.goes_on s
+    c.in_ok-steps.ensures s
     (leap_on s c.args.machine.now.state c.in_ok-machine.field-0.state c.args.way.now.start.state c.args.made (4096 * c.args.number) (4096 * (c.reach-reach.result / 4096)) c.reach-reach.result c.reach-reach.ensures.reach on c.requires.beside
     (omega (arith, number, is)) (omega arith) state)

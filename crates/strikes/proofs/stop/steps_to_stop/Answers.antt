@@ -4,14 +4,14 @@ use Rattle.qed_model.specs.declared.machine.Outcome.TheVariants.{Going}
 use Rattle.strikes.proofs.Leaping.{on_goes, on_stops}
 use Rattle.strikes.proofs.stop.steps_to_stop.Goals as goal
 
-pub returns-then-eq-clause-goes_on : goal.returns-then-eq-clause-goes_on
-returns-then-eq-clause-goes_on c = λ s on.
+pub returns-then-eq : goal.returns-then-eq
+returns-then-eq c = λ s on.
     let going : c.run_made.new.self.state.outcome ≡ Going = search rules in
     let fits = c.requires in
     on_goes s c.args.made (c.args.most - c.args.made) c.args.most c.args.machine.now c.run_made.new.self on c.in_ok-more.ensures.run (omega (arith, fits)) going
 
-pub returns-clause-stops : goal.returns-clause-stops
-returns-clause-stops c = λ s on.
+pub returns : goal.returns
+returns c = λ s on.
     let stopped : c.run_made.new.self.state.outcome ≢ Going = search rules in
     let fits = c.requires in
     on_stops s c.args.made (c.args.most - c.args.made) c.in_ok-more.more c.args.most c.args.machine.now c.run_made.new.self on c.in_ok-more.ensures.run c.in_ok-more.ensures.made (omega (arith, fits)) stopped

@@ -1,29 +1,5 @@
-use Rattle.std.proofs.Common.{sym, ◌∙◌, arith}
 use Rattle.rv_step.specs.Harts.{with_memory}
-use Rattle.rv_step.proofs.Running.{none_left, step_left}
 use Rattle.rv_step.proofs.hart.Hart.run_few.Goals as goal
 
-pub loop-left-init : goal.loop-left-init
-loop-left-init c =
-    let p = with_memory c.args.self.now c.args.image.now in
-    record { goes = sym c.goes_on.ensures ∙ c.if-not-goes_on.false; steps = none_left p c.args.n; window = c.none-window.ensures p.state }
-
-pub loop-left-preserved-then-on : goal.loop-left-preserved-then-on
-loop-left-preserved-then-on c = record {
-  goes = c.in-Ok.ensures.on c.if-on.true;
-  steps = step_left (with_memory c.args.self.now c.args.image.now) (with_memory c.loop-left.self c.loop-left.image) (with_memory c.step_in.new.self c.step_in.new.image) c.args.n c.loop-left.left _ c.loop-left.invariant.steps c.loop-left.invariant.goes c.in-Ok.ensures.step (omega arith) (omega arith);
-  window = c.in-Ok.ensures.window;
-}
-
-pub loop-left-preserved : goal.loop-left-preserved
-loop-left-preserved c = record {
-  goes = sym c.goes_on-in-loop-left.ensures ∙ c.if-not-goes_on-2.false;
-  steps = step_left (with_memory c.args.self.now c.args.image.now) (with_memory c.loop-left.self c.loop-left.image) (with_memory c.step_in.new.self c.step_in.new.image) c.args.n c.loop-left.left _ c.loop-left.invariant.steps c.loop-left.invariant.goes c.in-Ok.ensures.step (omega arith) (omega arith);
-  window = c.in-Ok.ensures.window;
-}
-
-pub returns-then-not-goes_on-clause-made : goal.returns-then-not-goes_on-clause-made
-returns-then-not-goes_on-clause-made c = none_left (with_memory c.args.self.now c.args.image.now) c.args.n
-
-pub returns-then-not-goes_on-2-clause-made : goal.returns-then-not-goes_on-2-clause-made
-returns-then-not-goes_on-2-clause-made c = step_left (with_memory c.args.self.now c.args.image.now) (with_memory c.loop-left.self c.loop-left.image) (with_memory c.step_in.new.self c.step_in.new.image) c.args.n c.loop-left.left _ c.loop-left.invariant.steps c.loop-left.invariant.goes c.in-Ok.ensures.step (omega arith) (omega arith)
+pub run_by-requires : goal.run_by-requires
+run_by-requires c = c.none-window.ensures (with_memory c.args.self.now c.args.image.now).state

@@ -1,16 +1,14 @@
 use Rattle.std.proofs.Common.{◌≡◌, ◌+◌, ap, ◌∙◌, sym, subst, arith}
-use Rattle.std.specs.Prelude.{None, Some, Ok, Err}
-use Rattle.qed_model.specs.declared.verdict.Verdict.TheVariants as verdict
+use Rattle.std.specs.Prelude.{Some, Ok}
 use Rattle.qed_model.specs.Machine.Step.{State, run}
 use Rattle.qed_model.specs.Promise.Caught.{bound_of}
 use Rattle.qed_model.specs.Promise.Changed.{Ordered, last_step}
 use Rattle.fault_inject.specs.Touched.{IsTrace}
-use Rattle.strikes.specs.declared.error.StrikeError.TheVariants as error
-use Rattle.strikes.specs.Found.{trap_pc_of, IsSilentAt}
+use Rattle.strikes.specs.Found.{input_shows, trap_pc_of, IsSilentAt}
 use Rattle.strikes.specs.Later.{all_from}
-use Rattle.strikes.specs.Verdict.{Shows}
+use Rattle.strikes.specs.Verdict.{IsVerdict, Shows}
 use Rattle.strikes.proofs.Shifting.{not_before_all, ordered_later, strike_shows, trap_later}
-use Rattle.strikes.proofs.Showing.{shows_same, shows_trapped, where_none}
+use Rattle.strikes.proofs.Showing.{shows_input, where_none}
 use Rattle.strikes.proofs.runs.Runs.strike_at.Goals as goal
 
 pub all_from-requires : goal.all_from-requires
@@ -38,27 +36,9 @@ returns-in-Some c =
     let output : c.args.output.state ≡ run c.args.self.now.output m = c.requires.there ∙ ap (run c.args.self.now.output) (sym first) in
     let bound : bound_of c.args.self.now.bounds c.args.changes.now ≡ Some c.unwrap-bound.result =
     sym (ap (λ p. bound_of p.bounds c.args.changes.now) c.self.view_is) ∙ sym c.bound_of.ensures ∙ c.unwrap-bound.ensures in
-    let shown : (s : State) → Shows s c.args.output.state c.unwrap-bound.result c.deref.result.now (Ok c.in-Some.verdict) = rw c.in-Some.is at c.in_ok-verdict.ensures.shown in
+    let shown : (s : State) → Shows s c.args.output.state c.unwrap-bound.result c.deref.result.now (Ok c.in-Some.verdict) = rw c.in-Some.is at c.in_ok-verdict.ensures in
     strike_shows c.args.self.now.input c.args.self.now.output c.args.output.state c.args.self.now.bounds c.args.changes.now c.deref.result.now m c.unwrap-bound.result (Ok c.in-Some.verdict)
     bound c.requires.strike.ordered (omega (arith, first)) output later (shown (run c.args.self.now.input m))
-
-pub returns-in-Some-2 : goal.returns-in-Some-2
-returns-in-Some-2 c =
-    let first = c.first_step-start.ensures in
-    let m = c.first_step-start.result in
-    let later : c.deref.result.now ≡ all_from m c.args.changes.now = c.deref.ensures.value ∙ c.in_ok-later.ensures in
-    let output : c.args.output.state ≡ run c.args.self.now.output m = c.requires.there ∙ ap (run c.args.self.now.output) (sym first) in
-    let bound : bound_of c.args.self.now.bounds c.args.changes.now ≡ Some c.unwrap-bound.result =
-    sym (ap (λ p. bound_of p.bounds c.args.changes.now) c.self.view_is) ∙ sym c.bound_of.ensures ∙ c.unwrap-bound.ensures in
-    let silent : IsSilentAt c.args.output.state c.unwrap-bound.result c.deref.result.now =
-    where_none c.in_ok-verdict.field-0 (IsSilentAt c.args.output.state c.unwrap-bound.result c.deref.result.now) c.in_default.not-Some c.in_ok-verdict.ensures.none in
-    let pc : Some c.in-Some-2.pc ≡ trap_pc_of (run c.args.self.now.input (last_step c.args.changes.now + c.unwrap-bound.result)).outcome =
-    sym c.in-Some-2.is ∙ c.in_ok-pc.ensures ∙ ap (λ p. trap_pc_of (run p.input (c.last_step-last.result + c.unwrap-bound.result)).outcome) c.self.view_is
-    ∙ ap (λ n. trap_pc_of (run c.args.self.now.input (n + c.unwrap-bound.result)).outcome) c.last_step-last.ensures in
-    strike_shows c.args.self.now.input c.args.self.now.output c.args.output.state c.args.self.now.bounds c.args.changes.now c.deref.result.now m c.unwrap-bound.result (Err (error.Trapped c.in-Some-2.pc))
-    bound c.requires.strike.ordered (omega (arith, first)) output later
-    (shows_trapped (run c.args.self.now.input m) c.args.output.state c.unwrap-bound.result c.in-Some-2.pc c.deref.result.now (subst Ordered (sym later) (ordered_later c.args.changes.now m c.requires.strike.ordered)) silent.tried silent.still
-    (trap_later c.args.self.now.input c.args.changes.now c.deref.result.now m c.unwrap-bound.result (Some c.in-Some-2.pc) c.requires.strike.ordered (omega (arith, first)) later pc))
 
 pub returns : goal.returns
 returns c =
@@ -69,11 +49,12 @@ returns c =
     let bound : bound_of c.args.self.now.bounds c.args.changes.now ≡ Some c.unwrap-bound.result =
     sym (ap (λ p. bound_of p.bounds c.args.changes.now) c.self.view_is) ∙ sym c.bound_of.ensures ∙ c.unwrap-bound.ensures in
     let silent : IsSilentAt c.args.output.state c.unwrap-bound.result c.deref.result.now =
-    where_none c.in_ok-verdict.field-0 (IsSilentAt c.args.output.state c.unwrap-bound.result c.deref.result.now) c.in_default.not-Some c.in_ok-verdict.ensures.none in
-    let pc : None ≡ trap_pc_of (run c.args.self.now.input (last_step c.args.changes.now + c.unwrap-bound.result)).outcome =
-    sym c.in-None.is ∙ c.in_ok-pc.ensures ∙ ap (λ p. trap_pc_of (run p.input (c.last_step-last.result + c.unwrap-bound.result)).outcome) c.self.view_is
+    where_none c.in_ok-verdict.field-0 (IsSilentAt c.args.output.state c.unwrap-bound.result c.deref.result.now) (λ v. (s : State) → Shows s c.args.output.state c.unwrap-bound.result c.deref.result.now (Ok v)) c.in_default.not-Some c.in_ok-verdict.ensures in
+    let pc : c.in_ok-trap.trap ≡ trap_pc_of (run c.args.self.now.input (last_step c.args.changes.now + c.unwrap-bound.result)).outcome =
+    c.in_ok-trap.ensures ∙ ap (λ p. trap_pc_of (run p.input (c.last_step-last.result + c.unwrap-bound.result)).outcome) c.self.view_is
     ∙ ap (λ n. trap_pc_of (run c.args.self.now.input (n + c.unwrap-bound.result)).outcome) c.last_step-last.ensures in
-    strike_shows c.args.self.now.input c.args.self.now.output c.args.output.state c.args.self.now.bounds c.args.changes.now c.deref.result.now m c.unwrap-bound.result (Ok verdict.Same)
+    subst (IsVerdict c.args.self.now.input c.args.self.now.output c.args.self.now.bounds c.args.changes.now) (sym c.input_verdict.ensures)
+    (strike_shows c.args.self.now.input c.args.self.now.output c.args.output.state c.args.self.now.bounds c.args.changes.now c.deref.result.now m c.unwrap-bound.result (input_shows c.in_ok-trap.trap)
     bound c.requires.strike.ordered (omega (arith, first)) output later
-    (shows_same (run c.args.self.now.input m) c.args.output.state c.unwrap-bound.result c.deref.result.now (subst Ordered (sym later) (ordered_later c.args.changes.now m c.requires.strike.ordered)) silent.tried silent.still
-    (trap_later c.args.self.now.input c.args.changes.now c.deref.result.now m c.unwrap-bound.result None c.requires.strike.ordered (omega (arith, first)) later pc))
+    (shows_input (run c.args.self.now.input m) c.args.output.state c.unwrap-bound.result c.deref.result.now c.in_ok-trap.trap (subst Ordered (sym later) (ordered_later c.args.changes.now m c.requires.strike.ordered)) silent
+    (trap_later c.args.self.now.input c.args.changes.now c.deref.result.now m c.unwrap-bound.result c.in_ok-trap.trap c.requires.strike.ordered (omega (arith, first)) later pc)))
