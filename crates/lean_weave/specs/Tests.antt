@@ -1,10 +1,7 @@
--- The lean form of a test: its new code, its file and its bounds, and the promises over them.
-use Rattle.std.specs.Prelude.{◌≡◌, ℕ, ◌+◌, ◌*◌, ◌^◌, ◌<◌, ◌≤◌, ◌==◌, ◌&&◌, Bool, true, false, cond, Some, List, [], ◌∷◌, slice_index}
+-- The lean form of a test: its words and its file, and the promises over them.
+use Rattle.std.specs.Prelude.{◌≡◌, ℕ, ◌+◌, ◌^◌, ◌<◌, ◌≤◌, Bool, true, false, Some, List, slice_index}
 use Rattle.elf_types.specs.declared.file.ElfFile.{ElfFile}
 use Rattle.elf_types.specs.declared.output.OutFile.{OutFile}
-use Rattle.qed_model.specs.declared.bounds.Shape.{Shape}
-use Rattle.qed_model.specs.declared.bounds.Bounds.{Bounds}
-use Rattle.qed_model.specs.declared.item.Item.{Item}
 use Rattle.qed_model.specs.declared.limits.TheConstants.{MAX_NEAR_CODE_BYTES}
 use Rattle.qed_model.specs.declared.options.Options.{Options}
 use Rattle.qed_model.specs.Numbers.{bytes_of}
@@ -17,18 +14,14 @@ use Rattle.qed_model.specs.Machine.Loading.{loaded_file}
 use Rattle.qed_model.specs.Promise.Caught.{Caught}
 use Rattle.qed_model.specs.Promise.Clean.{Clean}
 use Rattle.qed_model.specs.Promise.Kept.{Kept}
-use Rattle.qed_model.specs.Weave.Blocks.{AreBlocks, begins_at}
-use Rattle.qed_model.specs.Weave.Bounds.{end_bound, cost_of}
-use Rattle.qed_model.specs.Weave.Code.{code_of}
+use Rattle.qed_model.specs.Weave.Blocks.{AreBlocks}
 use Rattle.qed_model.specs.Weave.OutputFile.{file_of}
-use Rattle.qed_model.specs.Weave.OutputParts.{base_of}
-use Rattle.qed_model.specs.Weave.Placed.{Decode, sum_of_sizes, rows_from, entry_of, placed}
-use Rattle.qed_model.specs.Weave.Places.{AreSoundOptions, image_of, half_of, code_place}
-use Rattle.qed_model.specs.Weave.Sequences.{Block, End, Falls, Stops, body_length}
-use Rattle.weave_core.specs.Leaving.{sweep_cost}
+use Rattle.qed_model.specs.Weave.Placed.{Decode, sum_of_sizes, rows_from, placed}
+use Rattle.qed_model.specs.Weave.Places.{AreSoundOptions, image_of, code_place}
+use Rattle.qed_model.specs.Weave.Sequences.{Block}
 use Rattle.qed_model.specs.Weave.LeanCode.{lean_items}
 use Rattle.qed_model.specs.Weave.LeanBounds.{lean_bounds}
-use Rattle.qed_model.specs.Weave.Forms.{form_of, shape_of}
+use Rattle.weave_core.specs.Leaving.{sweep_cost}
 
 -- ---- the test
 -- the file is admitted, with sound options of the lean form, and these are its blocks

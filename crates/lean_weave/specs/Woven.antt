@@ -1,36 +1,33 @@
 -- The lean form as a weave, and what is asked of the words and the table that it is woven in.
-use Rattle.std.specs.Prelude.{◌≡◌, ℕ, zero, suc, Option, None, ◌+◌, ◌-◌, ◌*◌, ◌%◌, ◌^◌, ◌<◌, ◌≤◌, Some, Bool, true, false, cond, ◌==◌, ◌&&◌, nat_le, List, [], ◌∷◌, ◌++◌, length}
+use Rattle.std.specs.Prelude.{◌≡◌, ℕ, ◌+◌, ◌*◌, ◌%◌, ◌^◌, ◌<◌, ◌≤◌, Bool, true, false, ◌==◌, ◌&&◌, nat_le, List, [], ◌∷◌, length}
 use Rattle.rv_isa.specs.declared.ins.Ins.{Ins}
-use Rattle.qed_model.specs.declared.item.Item.{Item}
-use Rattle.qed_model.specs.declared.item.Item.TheVariants.{Mark, Go}
+use Rattle.rv_isa.specs.Kind.{class_of}
 use Rattle.qed_model.specs.Admission.DataRanges.{word_count}
 use Rattle.qed_model.specs.Machine.Step.{Known}
-use Rattle.qed_model.specs.Weave.Bounds.{visit_bound, end_bound, cost_of}
-use Rattle.qed_model.specs.Weave.Pieces.{is_run, piece_count}
-use Rattle.qed_model.specs.Weave.Placed.{distance_between, sum_of_sizes}
-use Rattle.qed_model.specs.Weave.Sequences.{Form, Reads, End, Falls, Stops, Block, body_length, original, each_part, before_end}
+use Rattle.qed_model.specs.Weave.Bounds.{end_bound, cost_of}
+use Rattle.qed_model.specs.Weave.Pieces.{is_run}
+use Rattle.qed_model.specs.Weave.Placed.{sum_of_sizes}
+use Rattle.qed_model.specs.Weave.Sequences.{Reads, End, Falls, Stops, Block, body_length}
 use Rattle.qed_model.specs.Machine.Program.{Program}
 use Rattle.qed_model.specs.Promise.Kept.{Kept}
-use Rattle.weave_core.specs.Describes.{Describes}
-use Rattle.weave_core.specs.WeavePromise.{AllBlocksOf, OnlyCode}
-use Rattle.weave_core.specs.Leaving.{sweep_cost}
 use Rattle.qed_model.specs.Weave.Blocks.{begins_at}
-use Rattle.qed_model.specs.Weave.Code.{Sequences, code_of}
+use Rattle.qed_model.specs.Weave.Code.{code_of}
 use Rattle.qed_model.specs.Promise.Caught.{Caught}
 use Rattle.qed_model.specs.Promise.Clean.{Clean}
 use Rattle.qed_model.specs.Promise.Closed.{is_branch}
 use Rattle.qed_model.specs.declared.bounds.Bounds.{Bounds}
-use Rattle.rv_isa.specs.Kind.{class_of}
-use Rattle.weave_core.specs.World.{World}
-use Rattle.weave_core.specs.Blocks.{TableAt}
-use Rattle.weave_core.specs.Weave.{Weave}
 use Rattle.qed_model.specs.Weave.Lean.{check, begin}
 use Rattle.qed_model.specs.Weave.LeanCode.{Lean, fall_to, sequences, worded, block_steps}
 use Rattle.qed_model.specs.Weave.LeanBounds.{check_bound, period, register_bound, word_bound}
-use Rattle.qed_model.specs.Weave.Costs.{cost_each, original_cost, spent, mirror_steps}
-use Rattle.qed_model.specs.Weave.Forms.{mirror_of}
+use Rattle.weave_core.specs.Describes.{Describes}
+use Rattle.weave_core.specs.WeavePromise.{AllBlocksOf, OnlyCode}
+use Rattle.weave_core.specs.Leaving.{sweep_cost}
+use Rattle.weave_core.specs.World.{World}
+use Rattle.weave_core.specs.Blocks.{TableAt}
+use Rattle.weave_core.specs.Weave.{Weave}
 use Rattle.lean_weave.specs.Ticked.{is_ticked_at}
 
+-- the most steps of the check, with the look-up behind it
 abbrev pub check_steps : World → ℕ
 check_steps w = check_bound (word_count w.form.spans) (length w.form.spans) w.form.round
 

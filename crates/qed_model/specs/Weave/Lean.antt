@@ -2,7 +2,7 @@
 -- from -`every`, x16 has the input address of the block, and the offset of the next visited data word times 2^32. Each block begins with a
 -- tick, which calls the check, one for all of the code, where the counter would reach 0. The check compares where it was called from with
 -- the entry of that address, compares all registers, visits a round of data words, and goes back to the entry by the table.
-use Rattle.std.specs.Prelude.{ℕ, ◌+◌, ◌-◌, ◌*◌, ◌/◌, ◌%◌, ◌^◌, Bool, true, false, cond, ◌==◌, ◌&&◌, nat_lt, nat_le, max, List, [], ◌∷◌, ◌++◌, ℤ, pos, neg_ℤ}
+use Rattle.std.specs.Prelude.{ℕ, ◌+◌, ◌%◌, ◌^◌, Bool, true, false, cond, ◌==◌, nat_lt, max, List, [], ◌∷◌, ◌++◌, ℤ, pos, neg_ℤ}
 use Rattle.rv_isa.specs.declared.kind.Kind.{Kind}
 use Rattle.rv_isa.specs.declared.kind.Kind.TheVariants.{Lui, Addi, Andi, Slli, Srli, Add, Sub, Beq, Bne, Blt, Bge, Bltu, Bgeu, Jal, Jalr, Lw, Ebreak}
 use Rattle.rv_isa.specs.declared.class.Class.{Class}
