@@ -1,5 +1,5 @@
 -- The bounds of the lean form, in steps (this project's profile).
-use Rattle.std.specs.Prelude.{ℕ, zero, suc, ◌+◌, ◌*◌, Option, Some, None}
+use Rattle.std.specs.Prelude.{ℕ, zero, suc, ◌+◌, ◌*◌, Option, Some, None, false}
 use Rattle.elf_types.specs.declared.file.ElfFile.{ElfFile}
 use Rattle.qed_model.specs.declared.bounds.Bounds.{Bounds}
 use Rattle.qed_model.specs.declared.bounds.Shape.{Shape}
