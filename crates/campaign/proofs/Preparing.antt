@@ -8,7 +8,8 @@ use Rattle.qed_model.specs.Admission.DataRanges.{word_count, data_ranges}
 use Rattle.qed_model.specs.Weave.Bounds.{word_bound, start_steps, piece_steps}
 use Rattle.qed_model.specs.Weave.Places.{image_of}
 use Rattle.qed_model.specs.Weave.Sequences.{Block}
-use Rattle.qed_model.specs.Weave.Woven.{IsToldOf, shape_of, is_far_code}
+use Rattle.qed_model.specs.Weave.Woven.{IsToldOf, is_far_code}
+use Rattle.qed_model.specs.Weave.Forms.{shape_of}
 use Rattle.transform.specs.declared.error.TransformError.{TransformError}
 use Rattle.transform.specs.Transform.{IsErrorOr}
 use Rattle.strikes.specs.Draw.{HasWords}

@@ -6,6 +6,8 @@ use Rattle.qed_model.specs.Machine.Program.{Program, start, zeros, AreStartRegs}
 use Rattle.qed_model.specs.Machine.Step.{State, run}
 use Rattle.qed_model.specs.Promise.Kept.{after_input, after_output, IsSteady, Steady}
 use Rattle.qed_model.specs.Weave.Sequences.{Reads}
+use Rattle.qed_model.specs.Weave.Lean.{first_word, begin}
+use Rattle.qed_model.specs.Weave.LeanCode.{Lean}
 use Rattle.qed_model.proofs.Walk.{run-more}
 use Rattle.qed_model.proofs.Walked.{walk_on}
 use Rattle.weave_core.specs.World.{World, Quiet, IsCursor}
@@ -21,8 +23,7 @@ use Rattle.weave_core.proofs.Source.{steady_le, steady_rest}
 use Rattle.weave_core.proofs.Visit.{words_within}
 use Rattle.lockstep.proofs.Numbered.{nth_word, AtNumber, placed, round_of, round_on}
 use Rattle.lockstep.proofs.Trace.{Sizes, NextSteps, PieceSteps, EndsSoon, Trace, SweptEnd}
-use Rattle.lean_weave.specs.Lean.{first_word, begin}
-use Rattle.lean_weave.specs.Woven.{Lean, weave_of, LeanIn, check_steps, swept_steps}
+use Rattle.lean_weave.specs.Woven.{weave_of, LeanIn, check_steps, swept_steps}
 use Rattle.lean_weave.proofs.Begin.{begin_law, first_is}
 use Rattle.lean_weave.proofs.Cells.{Counts, Called, Finished, Begins, called, to_check}
 use Rattle.lean_weave.proofs.Check.{Back}

@@ -1,7 +1,8 @@
 -- What runs first.
 use Rattle.std.proofs.Common.{◌≡◌, ℕ, ◌+◌, ◌*◌, ◌%◌, ◌^◌, ◌<◌, ◌≤◌, true, inl, Bool, List, [], ◌∷◌, length, refl, ap, ◌∙◌, arith}
-use Rattle.lean_weave.specs.Lean.{begin}
 use Rattle.qed_model.specs.Weave.Sequences.{Reads}
+use Rattle.qed_model.specs.Weave.Lean.{begin, first_word}
+use Rattle.qed_model.specs.Weave.LeanCode.{Lean}
 use Rattle.std.specs.Prelude.{pos, neg_ℤ}
 use Rattle.rv_isa.specs.declared.kind.Kind.TheVariants.{Addi}
 use Rattle.qed_model.specs.declared.item.Item.{Item}
@@ -19,8 +20,7 @@ use Rattle.weave_core.proofs.Indirect.{addi_value}
 use Rattle.weave_core.proofs.Leaves.{go_most, go_walk, halved_gone}
 use Rattle.weave_core.proofs.Prologue.{begin_row}
 use Rattle.weave_core.proofs.Sets.{writes, halved_writes}
-use Rattle.lean_weave.specs.Lean.{first_word}
-use Rattle.lean_weave.specs.Woven.{Lean, LeanIn, weave_of}
+use Rattle.lean_weave.specs.Woven.{LeanIn, weave_of}
 use Rattle.lean_weave.proofs.Chain.{Op, plain, constant, effects, Gives, read_back, all_temps, chain}
 use Rattle.lean_weave.proofs.Held.{ticked_is}
 use Rattle.lean_weave.proofs.Tick.{counter}

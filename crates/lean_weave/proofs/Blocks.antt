@@ -11,6 +11,7 @@ use Rattle.qed_model.specs.Admission.Leaders.{IsLeader}
 use Rattle.qed_model.specs.Members.{Among}
 use Rattle.qed_model.specs.Weave.Blocks.{StopsAt, IsLeaderBlock, IsOtherBlock, begins_at, AreBlocks}
 use Rattle.qed_model.specs.Weave.Sequences.{End, Falls, Stops, Block, body_length}
+use Rattle.qed_model.specs.Weave.LeanCode.{is_alike, start_at, steps_at, Lean, block_steps}
 use Rattle.qed_model.proofs.Among.{all_among}
 use Rattle.qed_model.proofs.PieceLaws.{pieces_whole}
 use Rattle.weave_core.specs.World.{World}
@@ -19,8 +20,7 @@ use Rattle.weave_core.specs.WeaveLaws.{PiecesAt, stops}
 use Rattle.weave_core.specs.WeavePromise.{AllBlocksOf}
 use Rattle.weave_core.proofs.Marks.{Ascend}
 use Rattle.weave_core.proofs.TestKnown.{body_size}
-use Rattle.lean_weave.specs.Tests.{is_alike, start_at, steps_at}
-use Rattle.lean_weave.specs.Woven.{Lean, block_steps, weave_of, goes_on, begins_with, InOrder, AreCounted}
+use Rattle.lean_weave.specs.Woven.{weave_of, goes_on, begins_with, InOrder, AreCounted}
 
 -- ---- members
 -- a leader begins a block of the list

@@ -7,12 +7,13 @@ use Rattle.qed_model.specs.Machine.Step.{State, reg, run}
 use Rattle.qed_model.specs.Promise.Kept.{NotTrapped, IsSteady}
 use Rattle.qed_model.specs.Weave.Code.{body_of, pieces_of}
 use Rattle.qed_model.specs.Weave.Sequences.{Reads, End, Falls, Stops, body_length, before_end, is_auipc}
+use Rattle.qed_model.specs.Weave.Costs.{cost_each, original_cost}
+use Rattle.qed_model.specs.Weave.Lean.{first_word, leave, leave_cost}
+use Rattle.qed_model.specs.Weave.LeanCode.{Lean, piece_steps, body_steps, block_steps, fall_to}
 use Rattle.qed_model.proofs.Walk.{run-more}
 use Rattle.qed_model.proofs.Walked.{Walk, walk_on}
 use Rattle.weave_core.specs.World.{World, Quiet, IsCursor}
 use Rattle.weave_core.specs.Blocks.{IsEntryOf}
-use Rattle.weave_core.specs.Each.{cost_each}
-use Rattle.weave_core.specs.Parts.{original_cost}
 use Rattle.qed_model.specs.declared.item.Item.{Item}
 use Rattle.weave_core.specs.Rows.{At, Sourced}
 use Rattle.weave_core.specs.Weave.{Weave}
@@ -20,8 +21,7 @@ use Rattle.weave_core.specs.WeaveLaws.{PiecesAt, EntriesAt, Stands, stops, Onwar
 use Rattle.weave_core.proofs.Leaves.{no_code}
 use Rattle.weave_core.proofs.Source.{source_run, not_trapped_le, steady_le, steady_rest}
 use Rattle.weave_core.proofs.Trace.{none_run, one_run}
-use Rattle.lean_weave.specs.Lean.{first_word, leave, leave_cost}
-use Rattle.lean_weave.specs.Woven.{Lean, piece_steps, body_steps, block_steps, fall_to, weave_of, LeanIn, swept_steps}
+use Rattle.lean_weave.specs.Woven.{weave_of, LeanIn, swept_steps}
 use Rattle.lean_weave.proofs.End.{Sweeps, swept_on}
 use Rattle.lean_weave.proofs.Leave.{SignedAs}
 use Rattle.lean_weave.proofs.Left.{Parts, leave_row}

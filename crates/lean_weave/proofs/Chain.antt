@@ -13,10 +13,10 @@ use Rattle.qed_model.specs.declared.item.Item.TheVariants.{Mark, Plain, Constant
 use Rattle.qed_model.specs.Machine.Table.{ins}
 use Rattle.qed_model.specs.Machine.Step.{State, moved, result, Fetched, Known, fetched_at}
 use Rattle.qed_model.specs.Weave.Sequences.{Reads}
+use Rattle.qed_model.specs.Weave.Lean.{cost}
 use Rattle.qed_model.proofs.Walk.{Over, over_moved}
 use Rattle.qed_model.proofs.Walked.{walk_none}
 use Rattle.weave_core.specs.World.{World, Quiet}
-use Rattle.lean_weave.specs.Lean.{cost}
 use Rattle.weave_core.proofs.Sets.{Sets, AllTemps, writes, sets_on, sets_compute, sets_const}
 
 -- ---- what several writes leave

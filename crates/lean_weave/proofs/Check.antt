@@ -9,6 +9,7 @@ use Rattle.qed_model.specs.Machine.Values.{value, wrapped}
 use Rattle.qed_model.specs.Machine.Step.{State, reg, moved, result, run, computed_value}
 use Rattle.qed_model.specs.Weave.Sequences.{Reads, fired_check, compare, visit}
 use Rattle.qed_model.specs.Weave.Bounds.{visit_bound}
+use Rattle.qed_model.specs.Weave.Lean.{look_up, first_word, parted, called, begun, done, check}
 use Rattle.qed_model.specs.Admission.DataRanges.{word_count}
 use Rattle.qed_model.proofs.Walk.{Over, over_moved}
 use Rattle.qed_model.proofs.Walked.{Walk, walk_on}
@@ -27,7 +28,6 @@ use Rattle.weave_core.proofs.Visit.{add_result, visit_row, visit_later, words_wi
 use Rattle.weave_core.proofs.Words.{all_small, compare_stands}
 use Rattle.lockstep.proofs.Sets.{word_below}
 use Rattle.qed_model.specs.Promise.Changed.{IsDataWord}
-use Rattle.lean_weave.specs.Lean.{look_up, first_word, parted, called, begun, done, check}
 use Rattle.lean_weave.proofs.Chain.{Op, plain, constant, effects, Gives, read_back, all_temps, chain}
 
 -- ---- what the words give

@@ -15,12 +15,12 @@ use Rattle.qed_model.specs.Weave.Placed.{distance_between, upper_part, lower_par
 use Rattle.qed_model.specs.Admission.Leaders.{is_end}
 use Rattle.qed_model.specs.Weave.Bounds.{cost_of}
 use Rattle.qed_model.specs.Weave.Sequences.{End, Falls, Stops, body_length, fired_check, guard, guards_of, links}
+use Rattle.qed_model.specs.Weave.Costs.{spent, mirror_steps}
+use Rattle.qed_model.specs.Weave.Lean.{is_short, turn_by, turn, goes, look_up, leave_as, is_break, cost, leave_cost, leave_cost_as}
+use Rattle.qed_model.specs.Weave.LeanCode.{piece_steps, body_steps, fall_to}
 use Rattle.rv_isa.specs.Kind.{class_of}
 use Rattle.weave_core.specs.World.{World}
 use Rattle.weave_core.specs.Blocks.{Leaves, EndStands}
-use Rattle.weave_core.specs.Rows.{spent, mirror_steps}
-use Rattle.lean_weave.specs.Lean.{is_short, turn_by, turn, goes, look_up, leave_as, is_break, cost, leave_cost, leave_cost_as}
-use Rattle.lean_weave.specs.Woven.{piece_steps, body_steps, fall_to}
 use Rattle.weave_core.proofs.Body.{mirror_steps_le, spent_le}
 use Rattle.weave_core.proofs.PieceLaws.{cost_parts}
 use Rattle.lean_weave.proofs.Chain.{cost_append}

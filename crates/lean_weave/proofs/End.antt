@@ -16,6 +16,7 @@ use Rattle.qed_model.specs.Machine.Step.{State, reg, moved, stopped, Known, step
 use Rattle.qed_model.specs.Admission.DataRanges.{word_count}
 use Rattle.qed_model.specs.Weave.Bounds.{end_bound}
 use Rattle.qed_model.specs.Weave.Sequences.{fired_check, compare, sweep, before_end}
+use Rattle.qed_model.specs.Weave.Lean.{check_sign, leave_as, is_break, cost}
 use Rattle.qed_model.proofs.Walk.{over_moved, known_at, run-more}
 use Rattle.qed_model.proofs.Walked.{Walk, walk_on}
 use Rattle.weave_core.specs.World.{World, Quiet, Twice}
@@ -30,7 +31,6 @@ use Rattle.weave_core.proofs.Leaves.{step-end, end_walk}
 use Rattle.weave_core.proofs.Sets.{writes, halved_writes, sets_equal}
 use Rattle.weave_core.proofs.Trace.{none_run}
 use Rattle.weave_core.proofs.Words.{all_small}
-use Rattle.lean_weave.specs.Lean.{check_sign, leave_as, is_break, cost}
 use Rattle.lean_weave.specs.Woven.{swept_steps}
 use Rattle.lean_weave.proofs.Chain.{Op, plain, constant, effects, Gives, read_back, all_temps, chain}
 use Rattle.lean_weave.proofs.Check.{sub_value, slli_value}

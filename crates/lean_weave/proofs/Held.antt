@@ -5,7 +5,8 @@ use Rattle.std.proofs.lemmas.Bool.{and_parts, and_from, eqb-true, eq-eqb, leb-tr
 use Rattle.qed_model.specs.Machine.Step.{State, reg}
 use Rattle.weave_core.specs.World.{World, IsCursor, is_cursor}
 use Rattle.weave_core.proofs.Visit.{cursor_decided, cursor_is}
-use Rattle.lean_weave.specs.Lean.{first_word, offset_of, is_ticked_at}
+use Rattle.qed_model.specs.Weave.Lean.{first_word}
+use Rattle.lean_weave.specs.Ticked.{offset_of, is_ticked_at}
 use Rattle.lean_weave.proofs.Tick.{counter}
 
 -- so many steps are left, and the signature is that of an address, with the offset of a word

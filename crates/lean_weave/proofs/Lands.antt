@@ -13,6 +13,10 @@ use Rattle.qed_model.specs.Weave.Blocks.{begins_at}
 use Rattle.qed_model.specs.Weave.Code.{Sequences, pieces_of, body_of, block_items, entries_of}
 use Rattle.qed_model.specs.Weave.Placed.{distance_between, instructions_from}
 use Rattle.qed_model.specs.Weave.Sequences.{Reads, Block, body_length, guards, original, each_part, before_end, stub}
+use Rattle.qed_model.specs.Weave.Costs.{used}
+use Rattle.qed_model.specs.Weave.Forms.{mirror_of}
+use Rattle.qed_model.specs.Weave.Lean.{tick, leave}
+use Rattle.qed_model.specs.Weave.LeanCode.{Lean, worded, fall_words}
 use Rattle.qed_model.proofs.Wrapped.{difference}
 use Rattle.weave_core.specs.World.{World}
 use Rattle.weave_core.specs.Blocks.{FitsPiece, AllFit}
@@ -23,14 +27,11 @@ use Rattle.weave_core.proofs.KindWords.{brk}
 use Rattle.weave_core.proofs.KindItems.{instructions_then, reads_words, stub_opens, items_then, items_none, items_go, original_items}
 use Rattle.weave_core.proofs.Listed.{opens_behind}
 use Rattle.weave_core.proofs.Landing.{all_land_append, has_rest, over_words, straight_none, straight_then, straight_lands, straight_guards, land_behind, land_go}
-use Rattle.weave_core.specs.Parts.{used, bare}
+use Rattle.weave_core.specs.Parts.{bare}
 use Rattle.weave_core.proofs.PartLaws.{straight_bare}
 use Rattle.weave_core.proofs.PieceLaws.{guarded_original, used_low}
-use Rattle.qed_model.specs.Weave.Woven.{mirror_of}
 use Rattle.weave_core.proofs.FormMirrors.{mirrors_fit_of}
 use Rattle.lockstep.proofs.Coded.{stub_words, reads_rest}
-use Rattle.lean_weave.specs.Lean.{tick, leave}
-use Rattle.lean_weave.specs.Woven.{Lean, worded, fall_words}
 use Rattle.lean_weave.proofs.Words.{tick_items, leave_items, leave_lands}
 
 -- ---- pieces

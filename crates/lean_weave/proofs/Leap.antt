@@ -13,6 +13,8 @@ use Rattle.qed_model.specs.Machine.Table.{ins}
 use Rattle.qed_model.specs.Machine.Step.{State, reg, moved, imm, next_pc, Known, step}
 use Rattle.qed_model.specs.Promise.Kept.{NotTrapped}
 use Rattle.qed_model.specs.Weave.Sequences.{Reads, guard, links}
+use Rattle.qed_model.specs.Weave.Lean.{look_up, leave_as, cost}
+use Rattle.qed_model.specs.Weave.LeanCode.{fall_to}
 use Rattle.qed_model.proofs.Walk.{Over, over_moved}
 use Rattle.qed_model.proofs.Walked.{Walk, walk_none, walk_on}
 use Rattle.weave_core.specs.World.{World, Quiet, Twice}
@@ -24,8 +26,6 @@ use Rattle.weave_core.proofs.Indirect.{aim, Leaps, leap_step, addi_value, andi_v
 use Rattle.weave_core.proofs.Rows.{halved_original, halved_pair, halved_moved, pair_value}
 use Rattle.weave_core.proofs.Sets.{Sets, writes, halved_writes}
 use Rattle.weave_core.proofs.Visit.{add_result}
-use Rattle.lean_weave.specs.Lean.{look_up, leave_as, cost}
-use Rattle.lean_weave.specs.Woven.{fall_to}
 use Rattle.lean_weave.proofs.Chain.{Op, plain, constant, effects, Gives, read_back, all_temps, chain, cost_append}
 use Rattle.lean_weave.proofs.Check.{sub_value}
 use Rattle.lean_weave.proofs.Leave.{Went, guard_cost, linking, link_words}

@@ -18,6 +18,8 @@ use Rattle.qed_model.specs.Machine.Values.{holds, wrapped}
 use Rattle.qed_model.specs.Weave.Placed.{distance_between, sum_of_sizes}
 use Rattle.qed_model.proofs.PlacedWords.{size-append}
 use Rattle.qed_model.specs.Weave.Sequences.{Reads, fired_check, guard, guards_of, links}
+use Rattle.qed_model.specs.Weave.Lean.{turn, goes, opposite, leave_as, cost, leave_cost_as}
+use Rattle.qed_model.specs.Weave.LeanCode.{fall_to}
 use Rattle.qed_model.proofs.Walk.{Over, over_moved}
 use Rattle.qed_model.proofs.Walked.{Walk, walk_on}
 use Rattle.weave_core.specs.World.{World, Quiet, Twice}
@@ -27,8 +29,6 @@ use Rattle.weave_core.specs.WeaveLaws.{GoesTo, Onward, lands, is_lost}
 use Rattle.weave_core.proofs.Branch.{Passes, pass_none, pass_on, guard_pass, own_pair, Branches, branch_step}
 use Rattle.weave_core.proofs.Leaves.{go_most, go_walk, halved_gone, jump_step, links_as, branch_taken, branch_passed}
 use Rattle.weave_core.proofs.Rows.{halved_regs, halved_views, halved_moved, led_none, led_more}
-use Rattle.lean_weave.specs.Lean.{turn, goes, opposite, leave_as, cost, leave_cost_as}
-use Rattle.lean_weave.specs.Woven.{fall_to}
 use Rattle.lean_weave.proofs.Chain.{cost_append}
 use Rattle.lean_weave.proofs.Ways.{opposite_is, reads_behind}
 use Rattle.lean_weave.proofs.Turn.{Signed, turned, turn_any, turn_row}

@@ -13,6 +13,8 @@ use Rattle.qed_model.specs.Weave.Pieces.{is_run}
 use Rattle.qed_model.specs.Machine.Step.{State, reg, Known, run, step}
 use Rattle.qed_model.specs.Promise.Kept.{NotTrapped, LeadsToReached, IsSteady}
 use Rattle.qed_model.specs.Weave.Sequences.{End, Falls, Stops, before_end}
+use Rattle.qed_model.specs.Weave.Lean.{leave, leave_as, leave_cost, leave_cost_as}
+use Rattle.qed_model.specs.Weave.LeanCode.{Lean, fall_to}
 use Rattle.qed_model.proofs.Walk.{known_at}
 use Rattle.weave_core.specs.World.{World}
 use Rattle.weave_core.specs.Blocks.{IsEntryOf, Leaves, EndStands}
@@ -21,8 +23,8 @@ use Rattle.weave_core.specs.Weave.{Weave}
 use Rattle.weave_core.specs.WeaveLaws.{EntryAt, Ends, GoesTo, stops, Onward, lands, is_lost, Left, Rows}
 use Rattle.weave_core.proofs.Indirect.{aim, leap_step}
 use Rattle.weave_core.proofs.Leaves.{step-illegal}
-use Rattle.lean_weave.specs.Lean.{leave, leave_as, leave_cost, leave_cost_as, is_ticked_at}
-use Rattle.lean_weave.specs.Woven.{Lean, fall_to, weave_of, LeanIn, swept_steps}
+use Rattle.lean_weave.specs.Ticked.{is_ticked_at}
+use Rattle.lean_weave.specs.Woven.{weave_of, LeanIn, swept_steps}
 use Rattle.lean_weave.proofs.Costs.{leave_most}
 use Rattle.lean_weave.proofs.Rows.{enter_law, inside_law, piece_law}
 use Rattle.lean_weave.proofs.End.{end_leave, Sweeps}

@@ -16,13 +16,13 @@ use Rattle.qed_model.specs.Machine.Table.{ins, fits_signed, encode_of, word_of}
 use Rattle.qed_model.specs.Machine.Values.{wrapped}
 use Rattle.qed_model.specs.Weave.Placed.{distance_between, upper_part, lower_part, sum_of_sizes}
 use Rattle.qed_model.specs.Weave.Sequences.{Form, End, Falls, Stops, fired_check, guard, guards_of, compare, visit, sweep, before_end, links, zero_from}
+use Rattle.qed_model.specs.Weave.Lean.{is_short, turn_by, turn, goes, look_up, first_word, parted, called, begun, done, check, opposite, check_sign, leave, leave_as, begin, tick}
 use Rattle.qed_model.proofs.Nearby.{is_within, near_constant}
 use Rattle.qed_model.proofs.Reach.{has_word, is_some-some_if, lui_word, addi_word}
 use Rattle.qed_model.proofs.MirrorWords.{pair_reg}
 use Rattle.qed_model.proofs.WovenWords.{add_word, branch_word, branch_imm, jump_imm, leap_imm}
 use Rattle.weave_core.proofs.TestWords.{down, up, both_all, if_all, near, IsNear, KnownEnd, IsKnownEnd, InImage}
 use Rattle.weave_core.proofs.TestWords as words
-use Rattle.lean_weave.specs.Lean.{is_short, turn_by, turn, goes, look_up, first_word, parted, called, begun, done, check, opposite, check_sign, leave, leave_as, begin, tick}
 use Rattle.lean_weave.proofs.Ways.{opposite_is}
 
 -- ---- words that differ in one field

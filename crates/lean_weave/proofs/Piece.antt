@@ -6,15 +6,15 @@ use Rattle.qed_model.specs.Machine.Step.{State, Known, reg, run, step, HasAt}
 use Rattle.qed_model.specs.Promise.Kept.{NotTrapped}
 use Rattle.qed_model.specs.Weave.Pieces.{is_run}
 use Rattle.qed_model.specs.Weave.Sequences.{guards, original, each_part}
+use Rattle.qed_model.specs.Weave.Costs.{cost_each, used, original_cost}
+use Rattle.qed_model.specs.Weave.LeanCode.{mirror_steps_of, piece_steps}
+use Rattle.qed_model.specs.Weave.Forms.{mirror_of}
 use Rattle.qed_model.proofs.Walked.{Walk, walk_on}
 use Rattle.weave_core.specs.World.{World, Quiet as Calm}
 use Rattle.weave_core.specs.Blocks.{FitsPiece, AllFit}
 use Rattle.weave_core.specs.Rows.{At, Sourced, Led}
-use Rattle.weave_core.specs.Each.{cost_each}
-use Rattle.weave_core.specs.Parts.{any, used, bare, original_cost, NeedsMirror, GivesMirror, LeavesMirror}
+use Rattle.weave_core.specs.Parts.{any, bare, NeedsMirror, GivesMirror, LeavesMirror}
 use Rattle.weave_core.specs.Pass.{Views, Quiet, same}
-use Rattle.lean_weave.specs.Woven.{mirror_steps_of, piece_steps}
-use Rattle.qed_model.specs.Weave.Woven.{mirror_of}
 use Rattle.weave_core.proofs.Body.{mirrored_part}
 use Rattle.weave_core.proofs.Diverse.{diverse_row}
 use Rattle.weave_core.proofs.Compose.{leads_led, quiet_each, each_same}

@@ -16,12 +16,13 @@ use Rattle.qed_model.specs.Weave.Blocks.{begins_at}
 use Rattle.qed_model.specs.Weave.Code.{Sequences, pieces_of, body_of, block_items, entries_of}
 use Rattle.qed_model.specs.Weave.Placed.{sum_of_sizes}
 use Rattle.qed_model.specs.Weave.Sequences.{Reads, End, Falls, Stops, Block, body_length, before_end, guards_of}
+use Rattle.qed_model.specs.Weave.Lean.{turn, goes, opposite, leave, leave_as}
+use Rattle.qed_model.specs.Weave.LeanCode.{Lean, worded, block_steps, fall_to, fall_words}
 use Rattle.weave_core.specs.World.{World}
 use Rattle.weave_core.specs.WeaveLaws.{BlockOf, EntryAt}
 use Rattle.weave_core.specs.WeavePromise.{AllBlocksOf}
 use Rattle.weave_core.proofs.Entries.{reads_front}
-use Rattle.lean_weave.specs.Lean.{turn, goes, opposite, leave, leave_as}
-use Rattle.lean_weave.specs.Woven.{Lean, weave_of, worded, block_steps, fall_to, fall_words, goes_on, begins_with, InOrder, AreCounted}
+use Rattle.lean_weave.specs.Woven.{weave_of, goes_on, begins_with, InOrder, AreCounted}
 use Rattle.lean_weave.proofs.Ways.{reads_behind, reads_join}
 
 -- ---- what stands behind a block

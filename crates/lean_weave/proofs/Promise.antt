@@ -15,6 +15,9 @@ use Rattle.qed_model.specs.Weave.Bounds.{cost_of}
 use Rattle.qed_model.specs.Weave.Pieces.{piece_count}
 use Rattle.qed_model.specs.Weave.Placed.{instructions_from}
 use Rattle.qed_model.specs.Weave.Sequences.{Reads, Block, stub}
+use Rattle.qed_model.specs.Weave.Lean.{check, begin}
+use Rattle.qed_model.specs.Weave.LeanCode.{Lean, worded}
+use Rattle.qed_model.specs.Weave.LeanBounds.{period, word_bound}
 use Rattle.weave_core.specs.World.{World}
 use Rattle.weave_core.specs.KindItems.{LockItems, AllLand, OpenEntries, AllBlocks}
 use Rattle.weave_core.specs.Kinds.{opens}
@@ -34,8 +37,7 @@ use Rattle.lockstep.proofs.Coded.{WordAt, stub_words, reads_rest, word_of, stub_
 use Rattle.lockstep.proofs.Promise.{Times, BoundsBy, settles}
 use Rattle.lockstep.proofs.Trace.{Sizes}
 use Rattle.lockstep.proofs.Weaves.{all_blocks}
-use Rattle.lean_weave.specs.Lean.{check, begin}
-use Rattle.lean_weave.specs.Woven.{Lean, LeanPlan, LeanKept, LeanCaught, LeanClean, IsBoundsOf, weave_of, worded, check_steps, swept_steps, period, word_bound}
+use Rattle.lean_weave.specs.Woven.{LeanPlan, LeanKept, LeanCaught, LeanClean, IsBoundsOf, weave_of, check_steps, swept_steps}
 use Rattle.lean_weave.proofs.Beats.{sizes, traced, Bound, swept_end}
 use Rattle.lean_weave.proofs.Begin.{lean_starts}
 use Rattle.lean_weave.proofs.Cells.{Counts}

@@ -21,10 +21,12 @@ use Rattle.weave_core.specs.WeaveLaws.{PieceAt, Stands, GoesTo, Inside}
 use Rattle.weave_core.proofs.FormRows.{front_row}
 use Rattle.weave_core.proofs.Sets.{writes, halved_writes}
 use Rattle.weave_core.proofs.Visit.{words_within}
-use Rattle.lean_weave.specs.Lean.{first_word, tick, check, is_ticked_at}
+use Rattle.lean_weave.specs.Ticked.{is_ticked_at}
 use Rattle.qed_model.specs.Weave.Bounds.{cost_of}
-use Rattle.qed_model.specs.Weave.Woven.{mirror_of}
-use Rattle.lean_weave.specs.Woven.{Lean, piece_steps, check_steps, weave_of, LeanIn}
+use Rattle.qed_model.specs.Weave.Lean.{first_word, tick, check}
+use Rattle.qed_model.specs.Weave.Forms.{mirror_of}
+use Rattle.qed_model.specs.Weave.LeanCode.{Lean, piece_steps}
+use Rattle.lean_weave.specs.Woven.{check_steps, weave_of, LeanIn}
 use Rattle.lean_weave.proofs.Chain.{read_back, all_temps}
 use Rattle.lean_weave.proofs.Check.{Back, check_row}
 use Rattle.lean_weave.proofs.Costs.{piece_most}

@@ -14,8 +14,8 @@ use Rattle.qed_model.specs.Weave.Blocks.{StopsAt, IsLeaderBlock, begins_at, AreB
 use Rattle.qed_model.specs.Weave.Bounds.{cost_of}
 use Rattle.qed_model.specs.Weave.Places.{AreSoundOptions}
 use Rattle.qed_model.specs.Weave.Sequences.{Block, End, Falls, Stops, body_length}
+use Rattle.qed_model.specs.Weave.LeanCode.{block_steps}
 use Rattle.qed_model.proofs.BlocksOnly.{body_code}
-use Rattle.lean_weave.specs.Woven.{block_steps}
 use Rattle.lean_weave.proofs.Blocks.{begins, length_is, leading}
 use Rattle.lean_weave.proofs.Costs.{IsEnd, body_most, end_most}
 

@@ -21,7 +21,10 @@ use Rattle.qed_model.specs.Weave.OutputParts.{base_of}
 use Rattle.qed_model.specs.Weave.Placed.{sum_of_sizes, rows_from, entry_of, instructions_from, distance_between, placed}
 use Rattle.qed_model.specs.Weave.Places.{image_of, half_of, code_place}
 use Rattle.qed_model.specs.Weave.Sequences.{Form, End, Falls, Stops, Reads, Block, body_length, stub, original, each_part, before_end}
-use Rattle.qed_model.specs.Weave.Woven.{form_of, mirror_of}
+use Rattle.qed_model.specs.Weave.Forms.{form_of, mirror_of}
+use Rattle.qed_model.specs.Weave.Lean.{check, begin, leave}
+use Rattle.qed_model.specs.Weave.LeanCode.{lean_of, lean_items, items_with, start_at, steps_at, Lean, worded, fall_words}
+use Rattle.qed_model.specs.Weave.LeanBounds.{lean_bounds}
 use Rattle.qed_model.proofs.Fetches.{known_instruction}
 use Rattle.qed_model.proofs.PlacedWords.{size-append, IsInside, mark_inside, grain_of_sizes}
 use Rattle.weave_core.specs.World.{World}
@@ -34,9 +37,8 @@ use Rattle.weave_core.proofs.FilesFit.{loaded_ranges}
 use Rattle.weave_core.proofs.Marks.{Ascend, code_distinct, entry_or_stub}
 use Rattle.weave_core.proofs.PlacingForm.{length-instructions, mark_behind, rows_behind}
 use Rattle.lockstep.proofs.Closing.{only_inside}
-use Rattle.lean_weave.specs.Lean.{check, begin, leave}
-use Rattle.lean_weave.specs.Tests.{IsLeanTest, LeanTestsKept, LeanTestsCaught, LeanTestsClean, lean_of, lean_items, lean_bounds, items_with, start_at, steps_at, AreLeanBlocks, LeanTestsHaveWords}
-use Rattle.lean_weave.specs.Woven.{Lean, LeanIn, LeanPlan, worded, weave_of, fall_words}
+use Rattle.lean_weave.specs.Tests.{IsLeanTest, LeanTestsKept, LeanTestsCaught, LeanTestsClean, AreLeanBlocks, LeanTestsHaveWords}
+use Rattle.lean_weave.specs.Woven.{LeanIn, LeanPlan, weave_of}
 use Rattle.lean_weave.proofs.Ways.{reads_behind}
 use Rattle.lean_weave.proofs.Blocks.{begun, begins, length_is, leading, starts, steps, counted, in_order, all_good}
 use Rattle.lean_weave.proofs.Short.{only_reached, few_steps, short}

@@ -13,6 +13,7 @@ use Rattle.qed_model.specs.Machine.Values.{holds}
 use Rattle.qed_model.specs.Machine.Step.{State, reg, moved, jumped, next_pc, Known}
 use Rattle.qed_model.specs.Weave.Placed.{distance_between}
 use Rattle.qed_model.specs.Weave.Sequences.{Reads, fired_check}
+use Rattle.qed_model.specs.Weave.Lean.{tick}
 use Rattle.qed_model.proofs.Walk.{Over, over_moved, known_at}
 use Rattle.qed_model.proofs.Walked.{Walk, walk_one, walk_on}
 use Rattle.qed_model.proofs.Wrapped.{difference}
@@ -21,7 +22,6 @@ use Rattle.weave_core.proofs.Indirect.{addi_value}
 use Rattle.weave_core.proofs.Leaves.{branch_taken, branch_passed, jumped_to, step-jump}
 use Rattle.weave_core.proofs.Rows.{quiet_as, compute_walk, signed_other}
 use Rattle.weave_core.proofs.Sets.{Sets, sets_compute}
-use Rattle.lean_weave.specs.Lean.{tick}
 
 -- a number with its highest bit is below 0
 low_holds : (x : ℕ) → 2 ^ 63 ≤ x → holds Blt x 0 ≡ true

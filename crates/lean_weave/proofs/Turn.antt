@@ -13,6 +13,7 @@ use Rattle.qed_model.specs.Machine.Values.{wrapped}
 use Rattle.qed_model.specs.Machine.Step.{State, reg, moved, result, computed_value}
 use Rattle.qed_model.specs.Weave.Placed.{distance_between, upper_part, lower_part}
 use Rattle.qed_model.specs.Weave.Sequences.{Reads}
+use Rattle.qed_model.specs.Weave.Lean.{is_short, turn_by, turn, cost}
 use Rattle.qed_model.proofs.Walk.{Over, over_moved}
 use Rattle.qed_model.proofs.Walked.{walk_none}
 use Rattle.qed_model.proofs.Wrapped.{wrapped-add, difference}
@@ -20,7 +21,6 @@ use Rattle.weave_core.specs.World.{World, Quiet}
 use Rattle.weave_core.proofs.Indirect.{addi_value}
 use Rattle.weave_core.proofs.Sets.{Sets, sets_on, sets_compute}
 use Rattle.weave_core.proofs.Visit.{add_result}
-use Rattle.lean_weave.specs.Lean.{is_short, turn_by, turn, cost}
 
 -- what LUI gives
 lui_value : (u : State) (r : ℕ) (z : ℤ) → result Lui (ins Lui r 0 0 z) u ≡ wrapped z

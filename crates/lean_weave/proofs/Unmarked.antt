@@ -14,14 +14,14 @@ use Rattle.qed_model.specs.Machine.Table.{ins}
 use Rattle.qed_model.specs.Weave.Code.{Sequences, NoMarks, AreUnmarked, pieces_of, body_of, block_items, entries_of, code_of}
 use Rattle.qed_model.specs.Weave.Placed.{distance_between, sum_of_sizes, rows_from, entry_of, entry_at}
 use Rattle.qed_model.specs.Weave.Sequences.{Form, End, Falls, Stops, Block, body_length, guard, guards_of, original, each_part, compare, visit, sweep, before_end, links, zero_from, stub}
-use Rattle.qed_model.specs.Weave.Woven.{mirror_of}
+use Rattle.qed_model.specs.Weave.Forms.{mirror_of}
+use Rattle.qed_model.specs.Weave.Lean.{is_short, turn_by, turn, look_up, first_word, done, check, goes, leave, leave_as, begin}
+use Rattle.qed_model.specs.Weave.LeanCode.{Lean, worded, fall_words}
 use Rattle.qed_model.proofs.PlacedWords.{size-append}
 use Rattle.weave_core.proofs.FormMirrors.{unmarked_of}
 use Rattle.weave_core.proofs.Marks.{unmarked_cond, unmarked_guard, unmarked_guards, unmarked_original, unmarked_each, unmarked_visit, unmarked_sweep, unmarked_links, unmarked_zero}
 use Rattle.weave_core.proofs.Placing.{unmarked_append}
 use Rattle.weave_core.proofs.PlacingForm.{rows_behind}
-use Rattle.lean_weave.specs.Lean.{is_short, turn_by, turn, look_up, first_word, done, check, goes, leave, leave_as, begin}
-use Rattle.lean_weave.specs.Woven.{Lean, worded, fall_words}
 
 unmarked_turn : (a t : ℕ) → NoMarks (turn a t)
 unmarked_turn a t = unmarked_cond (a == t) [] (turn_by (distance_between a t)) tt (by (distance_between a t)) where

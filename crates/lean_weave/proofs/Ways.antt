@@ -13,8 +13,8 @@ use Rattle.qed_model.specs.Machine.Values.{holds, s64}
 use Rattle.qed_model.specs.Promise.Closed.{is_branch}
 use Rattle.qed_model.specs.Weave.Placed.{go_size, sum_of_sizes}
 use Rattle.qed_model.specs.Weave.Sequences.{Reads}
+use Rattle.qed_model.specs.Weave.Lean.{opposite}
 use Rattle.qed_model.proofs.EachKind.{each_kind}
-use Rattle.lean_weave.specs.Lean.{opposite}
 
 -- ---- branches
 -- the six kinds

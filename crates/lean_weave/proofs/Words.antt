@@ -11,6 +11,7 @@ use Rattle.qed_model.specs.declared.item.Item.{Item}
 use Rattle.qed_model.specs.declared.item.Item.TheVariants.{Plain, Constant, Go}
 use Rattle.qed_model.specs.Weave.Placed.{distance_between, upper_part, lower_part, go_words, go_size, sum_of_sizes, instructions_from}
 use Rattle.qed_model.specs.Weave.Sequences.{Form, End, Falls, Stops, compare, visit, guard, guards_of, links, fired_check, zero_from, sweep, before_end}
+use Rattle.qed_model.specs.Weave.Lean.{tick, is_short, turn_by, turn, look_up, first_word, parted, called, begun, done, check, goes, check_sign, opposite, leave, leave_as, begin}
 use Rattle.weave_core.specs.KindItems.{LockItems, LandItems, LandsAs, Straight, GoodEnd, end_branches, end_jumps, end_jumps_reg, end_ends, end_illegal}
 use Rattle.weave_core.specs.Lock.{Scratch, Opens}
 use Rattle.weave_core.specs.Kinds.{Lockstep}
@@ -21,7 +22,6 @@ use Rattle.weave_core.proofs.KindWords.{brk, guard_if, leave_branch, scratch_com
 use Rattle.weave_core.proofs.KindItems.{instructions_then, items_then, items_none, items_one, items_constant, items_go, one_guard, two_guards, compare_items, visits_items, sweep_items, links_items, zero_items, pair_scratch, takes_use}
 use Rattle.weave_core.proofs.PlacingForm.{length-instructions}
 use Rattle.weave_core.proofs.Landing.{straight_none, straight_compute, straight_constant, straight_then, straight_lands, straight_compare, straight_guard, straight_both, over_words, straight_links, straight_zeros, straight_one, land_then, land_behind, land_check, land_visits, land_sweep, land_go}
-use Rattle.lean_weave.specs.Lean.{tick, is_short, turn_by, turn, look_up, first_word, parted, called, begun, done, check, goes, check_sign, opposite, leave, leave_as, begin}
 use Rattle.lean_weave.proofs.Ways.{opposite_is}
 
 -- x15, x16, x30, x31

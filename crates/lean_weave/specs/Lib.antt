@@ -1,3 +1,3 @@
-pub mod Lean
+pub mod Ticked
 pub mod Woven
 pub mod Tests

@@ -1,10 +1,7 @@
--- The lean form of a test: its new code, its file and its bounds, and the promises over them.
-use Rattle.std.specs.Prelude.{◌≡◌, ℕ, ◌+◌, ◌*◌, ◌^◌, ◌<◌, ◌≤◌, ◌==◌, ◌&&◌, Bool, true, false, cond, Some, List, [], ◌∷◌, slice_index}
+-- The lean form of a test: its words and its file, and the promises over them.
+use Rattle.std.specs.Prelude.{◌≡◌, ℕ, ◌+◌, ◌^◌, ◌<◌, ◌≤◌, Bool, true, false, Some, List, slice_index}
 use Rattle.elf_types.specs.declared.file.ElfFile.{ElfFile}
 use Rattle.elf_types.specs.declared.output.OutFile.{OutFile}
-use Rattle.qed_model.specs.declared.bounds.Shape.{Shape}
-use Rattle.qed_model.specs.declared.bounds.Bounds.{Bounds}
-use Rattle.qed_model.specs.declared.item.Item.{Item}
 use Rattle.qed_model.specs.declared.limits.TheConstants.{MAX_NEAR_CODE_BYTES}
 use Rattle.qed_model.specs.declared.options.Options.{Options}
 use Rattle.qed_model.specs.Numbers.{bytes_of}
@@ -17,56 +14,14 @@ use Rattle.qed_model.specs.Machine.Loading.{loaded_file}
 use Rattle.qed_model.specs.Promise.Caught.{Caught}
 use Rattle.qed_model.specs.Promise.Clean.{Clean}
 use Rattle.qed_model.specs.Promise.Kept.{Kept}
-use Rattle.qed_model.specs.Weave.Blocks.{AreBlocks, begins_at}
-use Rattle.qed_model.specs.Weave.Bounds.{end_bound, cost_of}
-use Rattle.qed_model.specs.Weave.Code.{code_of}
+use Rattle.qed_model.specs.Weave.Blocks.{AreBlocks}
 use Rattle.qed_model.specs.Weave.OutputFile.{file_of}
-use Rattle.qed_model.specs.Weave.OutputParts.{base_of}
-use Rattle.qed_model.specs.Weave.Placed.{Decode, sum_of_sizes, rows_from, entry_of, placed}
-use Rattle.qed_model.specs.Weave.Places.{AreSoundOptions, image_of, half_of, code_place}
-use Rattle.qed_model.specs.Weave.Sequences.{Block, End, Falls, Stops, body_length}
-use Rattle.qed_model.specs.Weave.Woven.{form_of, shape_of}
+use Rattle.qed_model.specs.Weave.Placed.{Decode, sum_of_sizes, rows_from, placed}
+use Rattle.qed_model.specs.Weave.Places.{AreSoundOptions, image_of, code_place}
+use Rattle.qed_model.specs.Weave.Sequences.{Block}
+use Rattle.qed_model.specs.Weave.LeanCode.{lean_items}
+use Rattle.qed_model.specs.Weave.LeanBounds.{lean_bounds}
 use Rattle.weave_core.specs.Leaving.{sweep_cost}
-use Rattle.lean_weave.specs.Lean.{begin}
-use Rattle.lean_weave.specs.Woven.{Lean, block_steps, worded, check_bound, period, register_bound, word_bound}
-
--- ---- what the form depends on
--- the steps of the block that begins at an address
-abbrev pub steps_at : Bool → (ℕ → Bool) → List Block → ℕ → ℕ
-steps_at diverse leader [] a = 0
-steps_at diverse leader (b ∷ bs) a = cond (b.start == a) (block_steps diverse leader b) (steps_at diverse leader bs a)
-
--- two ends fall, or neither does
-abbrev pub is_alike : End → End → Bool
-is_alike Falls Falls = true
-is_alike (Stops i) (Stops j) = true
-is_alike _ _ = false
-
--- where the block begins that has such an end at an address
-abbrev pub start_at : List Block → End → ℕ → ℕ
-start_at [] e at = 0
-start_at (b ∷ bs) e at = cond (is_alike b.end e && (b.start + 4 * body_length b.body == at)) b.start (start_at bs e at)
-
--- of a file with its blocks, where the check sets the counter to less `every`
-abbrev pub lean_of : ElfFile → Options → ℕ → List Block → Lean
-lean_of f o every blocks = record {
-  every = every;
-  inst_max = o.inst_max;
-  diverse = o.diverse;
-  check = code_place o.half (image_of f) + sum_of_sizes false (begin (half_of o.half (image_of f)) f.entry);
-  most = steps_at o.diverse (begins_at blocks) blocks;
-  start_of = start_at blocks;
-}
-
--- ---- the new code
--- its items, where an input address has its entry
-abbrev pub items_with : ElfFile → Options → ℕ → List Block → (ℕ → ℕ) → List Item
-items_with f o every blocks entry =
-    code_of (worded (form_of f o false) (base_of (image_of f)) entry (lean_of f o every blocks) (begins_at blocks)) (half_of o.half (image_of f)) f.entry blocks
-
--- the entries stand where their marks do, whatever the ticks take for their distances
-abbrev pub lean_items : ElfFile → Options → ℕ → List Block → List Item
-lean_items f o every blocks = items_with f o every blocks (entry_of false (code_place o.half (image_of f)) (items_with f o every blocks (λ a. 0)))
 
 -- ---- the test
 -- the file is admitted, with sound options of the lean form, and these are its blocks
@@ -87,21 +42,6 @@ pub record IsLeanTest (f : ElfFile) (o : Options) (every : ℕ) (blocks : List B
 -- its output, which always has a table
 abbrev pub lean_file : ElfFile → Options → ℕ → List Block → List ℕ → OutFile
 lean_file f o every blocks words = file_of f o.half true (rows_from false (code_place o.half (image_of f)) (lean_items f o every blocks)) (bytes_of words)
-
--- ---- the bounds
-abbrev pub bounds_of : Shape → ℕ → Bounds
-bounds_of s every =
-    let ends = end_bound s.sweep s.ranges s.words in
-    let check = check_bound s.words s.ranges s.round in
-    record {
-      start = 31 + ends;
-      piece = 24 + check + cost_of s.diverse * s.inst_max;
-      register = register_bound ends (period check every);
-      word = word_bound s.words s.round ends (period check every);
-    }
-
-abbrev pub lean_bounds : ElfFile → Options → ℕ → Bounds
-lean_bounds f o every = bounds_of (shape_of f o false) every
 
 -- ---- the laws
 -- there are such words, where the items have no more bytes

@@ -1,69 +1,39 @@
 -- The lean form as a weave, and what is asked of the words and the table that it is woven in.
-use Rattle.std.specs.Prelude.{◌≡◌, ℕ, zero, suc, Option, None, ◌+◌, ◌-◌, ◌*◌, ◌%◌, ◌^◌, ◌<◌, ◌≤◌, Some, Bool, true, false, cond, ◌==◌, ◌&&◌, nat_le, List, [], ◌∷◌, ◌++◌, length}
+use Rattle.std.specs.Prelude.{◌≡◌, ℕ, ◌+◌, ◌*◌, ◌%◌, ◌^◌, ◌<◌, ◌≤◌, Bool, true, false, ◌==◌, ◌&&◌, nat_le, List, [], ◌∷◌, length}
 use Rattle.rv_isa.specs.declared.ins.Ins.{Ins}
-use Rattle.qed_model.specs.declared.item.Item.{Item}
-use Rattle.qed_model.specs.declared.item.Item.TheVariants.{Mark, Go}
+use Rattle.rv_isa.specs.Kind.{class_of}
 use Rattle.qed_model.specs.Admission.DataRanges.{word_count}
 use Rattle.qed_model.specs.Machine.Step.{Known}
-use Rattle.qed_model.specs.Weave.Bounds.{visit_bound, end_bound, cost_of}
-use Rattle.qed_model.specs.Weave.Pieces.{is_run, piece_count}
-use Rattle.qed_model.specs.Weave.Placed.{distance_between, sum_of_sizes}
-use Rattle.qed_model.specs.Weave.Sequences.{Form, Reads, End, Falls, Stops, Block, body_length, original, each_part, before_end}
+use Rattle.qed_model.specs.Weave.Bounds.{end_bound, cost_of}
+use Rattle.qed_model.specs.Weave.Pieces.{is_run}
+use Rattle.qed_model.specs.Weave.Placed.{sum_of_sizes}
+use Rattle.qed_model.specs.Weave.Sequences.{Reads, End, Falls, Stops, Block, body_length}
 use Rattle.qed_model.specs.Machine.Program.{Program}
 use Rattle.qed_model.specs.Promise.Kept.{Kept}
-use Rattle.weave_core.specs.Describes.{Describes}
-use Rattle.weave_core.specs.WeavePromise.{AllBlocksOf, OnlyCode}
-use Rattle.weave_core.specs.Each.{cost_each}
-use Rattle.weave_core.specs.Parts.{original_cost}
-use Rattle.weave_core.specs.Rows.{spent, mirror_steps}
-use Rattle.weave_core.specs.Leaving.{sweep_cost}
 use Rattle.qed_model.specs.Weave.Blocks.{begins_at}
-use Rattle.qed_model.specs.Weave.Code.{Sequences, code_of}
-use Rattle.qed_model.specs.Weave.Woven.{mirror_of}
+use Rattle.qed_model.specs.Weave.Code.{code_of}
 use Rattle.qed_model.specs.Promise.Caught.{Caught}
 use Rattle.qed_model.specs.Promise.Clean.{Clean}
 use Rattle.qed_model.specs.Promise.Closed.{is_branch}
 use Rattle.qed_model.specs.declared.bounds.Bounds.{Bounds}
-use Rattle.rv_isa.specs.Kind.{class_of}
+use Rattle.qed_model.specs.Weave.Lean.{check, begin}
+use Rattle.qed_model.specs.Weave.LeanCode.{Lean, fall_to, sequences, worded, block_steps}
+use Rattle.qed_model.specs.Weave.LeanBounds.{check_bound, period, register_bound, word_bound}
+use Rattle.weave_core.specs.Describes.{Describes}
+use Rattle.weave_core.specs.WeavePromise.{AllBlocksOf, OnlyCode}
+use Rattle.weave_core.specs.Leaving.{sweep_cost}
 use Rattle.weave_core.specs.World.{World}
 use Rattle.weave_core.specs.Blocks.{TableAt}
 use Rattle.weave_core.specs.Weave.{Weave}
-use Rattle.lean_weave.specs.Lean.{tick, check, leave, begin, leave_cost, is_ticked_at}
+use Rattle.lean_weave.specs.Ticked.{is_ticked_at}
 
--- what the form depends on besides the world: what x15 counts from, the most instructions of a piece, whether its mirror parts are of other kinds, the address of the check, the steps that the
--- tick of a block counts, and where a block begins that has such an end at an address
-pub record Lean : Type 0 where
-  pub every : ℕ
-  pub inst_max : ℕ
-  pub diverse : Bool
-  pub check : ℕ
-  pub most : ℕ → ℕ
-  pub start_of : End → ℕ → ℕ
-
--- behind a block stands the entry of a leader, or there is no code
-abbrev pub fall_to : (ℕ → Bool) → ℕ → List Item
-fall_to leader t = cond (leader t) (Mark t ∷ []) (Go t ∷ [])
-
--- the most steps of the check, with the look-up behind it, by how many data words and ranges there are, and the words of a round
-abbrev pub check_bound : ℕ → ℕ → ℕ → ℕ
-check_bound words ranges round = 44 + visit_bound words ranges * round
-
+-- the most steps of the check, with the look-up behind it
 abbrev pub check_steps : World → ℕ
 check_steps w = check_bound (word_count w.form.spans) (length w.form.spans) w.form.round
 
 -- what stands before the end besides, with the sweep
 abbrev pub swept_steps : World → ℕ
 swept_steps w = end_bound w.form.sweep (length w.form.spans) (word_count w.form.spans)
-
--- the sequences: an entry is a tick, and pieces have nothing behind them; with what leads behind a block, and what runs first, where an input
--- address has its entry
-abbrev pub sequences : Form → (ℕ → ℕ) → Lean → (ℕ → List Item) → (ℕ → ℕ → List Item) → Sequences
-sequences form entry l fall first = record {
-  first = first;
-  enter = λ a. tick (l.most a) (distance_between (entry a + 8) l.check);
-  piece = λ is at. each_part original is at ++ each_part (mirror_of l.diverse) is at;
-  leave = λ e at. leave (before_end form) fall e (l.start_of e at) at;
-}
 
 -- the weave: a tick may call the check, and then is made once more
 abbrev pub weave_of : World → Lean → (ℕ → Bool) → Weave
@@ -96,32 +66,6 @@ pub record LeanIn (w : World) (l : Lean) (leader : ℕ → Bool) : Type 0 where
   pub grain : (a : ℕ) → leader a ≡ true → a % 2 ≡ 0
   pub table : (a : ℕ) → leader a ≡ true → TableAt w a
   pub within : (a : ℕ) → leader a ≡ true → a < w.base + 2 ^ 32
-
--- ---- the steps of a block
--- of a mirror part
-abbrev pub mirror_steps_of : Bool → Ins → ℕ
-mirror_steps_of diverse i = cond diverse (cost_of true - spent i) (mirror_steps i)
-
--- of a piece: its original parts and its mirror parts
-abbrev pub piece_steps : Bool → List Ins → ℕ
-piece_steps diverse is = cost_each original_cost is + cost_each (mirror_steps_of diverse) is
-
-abbrev pub body_steps : Bool → List (List Ins) → ℕ
-body_steps diverse [] = 0
-body_steps diverse (p ∷ ps) = piece_steps diverse p + body_steps diverse ps
-
--- the steps that the tick of a block counts: its own, those of its pieces, and the most of its leave
-abbrev pub block_steps : Bool → (ℕ → Bool) → Block → ℕ
-block_steps diverse leader b = 2 + (body_steps diverse b.body + leave_cost (fall_to leader) b.end b.start (b.start + 4 * body_length b.body))
-
--- ---- the code
--- what leads behind a block, as words: nothing, where a block stands there
-abbrev pub fall_words : (ℕ → Bool) → ℕ → List Item
-fall_words leader t = cond (leader t) [] (Go t ∷ [])
-
--- the sequences as words, for an input that begins at `base`: behind what runs first stands the check
-abbrev pub worded : Form → ℕ → (ℕ → ℕ) → Lean → (ℕ → Bool) → Sequences
-worded form base entry l leader = sequences form entry l (fall_words leader) (λ d a. begin d a ++ check base l.every form.round form.spans)
 
 -- ---- which blocks fall to the next
 -- a block that falls, or ends in a branch, goes on behind its end
@@ -159,19 +103,6 @@ pub record LeanPlan (f g : Program) (w : World) (l : Lean) (blocks : List Block)
 -- a plan keeps the values
 abbrev pub LeanKept : Type 0
 LeanKept = (f g : Program) (w : World) (l : Lean) (blocks : List Block) → LeanPlan f g w l blocks → Kept f g w.reached (31 + swept_steps w) (24 + check_steps w + cost_of l.diverse * l.inst_max)
-
--- the most steps from check to check: those of the check, and of the blocks between
-abbrev pub period : ℕ → ℕ → ℕ
-period check every = check + (every + 2)
-
--- a changed register: what runs first, the end with its sweep, a period, and the comparison
-abbrev pub register_bound : ℕ → ℕ → ℕ
-register_bound ends period = 67 + ends + period
-
--- a changed data word, of `words` of them: as many periods more as there are rounds; none where there is no data word
-abbrev pub word_bound : ℕ → ℕ → ℕ → ℕ → Option ℕ
-word_bound zero round ends period = None
-word_bound (suc n) round ends period = Some (67 + ends + (piece_count round (suc n) + 1) * period)
 
 pub record IsBoundsOf (w : World) (l : Lean) (bounds : Bounds) : Type 0 where
   pub register : bounds.register ≡ register_bound (swept_steps w) (period (check_steps w) l.every)

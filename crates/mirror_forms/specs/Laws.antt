@@ -7,10 +7,11 @@ use Rattle.rv_isa.specs.declared.class.Class.TheVariants as class
 use Rattle.qed_model.specs.declared.item.Item.TheVariants.{Plain}
 use Rattle.qed_model.specs.Machine.Step.{step}
 use Rattle.qed_model.specs.Weave.Diverse.{Part, part_word, part_items, parts_of, diverse_as, diverse}
+use Rattle.qed_model.specs.Weave.Costs.{spent}
 use Rattle.qed_model.proofs.DiverseWorth.{fine_part}
 use Rattle.qed_model.proofs.DiverseRows.{all_fine}
 use Rattle.weave_core.specs.Blocks.{FitsPiece}
-use Rattle.weave_core.specs.Rows.{At, spent}
+use Rattle.weave_core.specs.Rows.{At}
 use Rattle.weave_core.proofs.Diverse.{operates_class, diverse_row}
 use Rattle.weave_core.proofs.DiverseFit.{diverse_mirrors_fit}
 use Rattle.weave_core.proofs.PartLaws.{lockstep_mirror}

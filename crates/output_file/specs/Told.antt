@@ -11,7 +11,8 @@ use Rattle.qed_model.specs.Weave.Bounds.{bounds_of}
 use Rattle.qed_model.specs.Weave.Sequences.{Block}
 use Rattle.block_list.specs.declared.block.CodeBlock.{CodeBlock}
 use Rattle.block_list.specs.Listed.{IsWithin}
-use Rattle.qed_model.specs.Weave.Woven.{is_far_code, code_size, new_entries, shape_of}
+use Rattle.qed_model.specs.Weave.Woven.{is_far_code, code_size, new_entries}
+use Rattle.qed_model.specs.Weave.Forms.{shape_of}
 
 -- these are the test, the new code's size, the entries and the bounds that go with the blocks
 pub record AreParts (f : ElfFile) (o : Options) (blocks : List Block) (t : Test) (entries : List EntryRow) (code_bytes : ℕ) (bounds : Bounds) : Type 0 where

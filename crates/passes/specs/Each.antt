@@ -6,7 +6,8 @@ use Rattle.qed_model.specs.Weave.Sequences.{each_part}
 use Rattle.passes.specs.Pass.{Honest}
 use Rattle.passes.specs.Emitted.{AppendsPart, Done, done_part}
 use Rattle.passes.specs.Compose.{honest_then, honest_items_none}
-pub use Rattle.weave_core.specs.Each.{items_each, ForEach, cost_each, NeedsEach, GivesEach, LeavesEach}
+pub use Rattle.weave_core.specs.Each.{items_each, ForEach, NeedsEach, GivesEach, LeavesEach}
+pub use Rattle.qed_model.specs.Weave.Costs.{cost_each}
 pub use Rattle.weave_core.proofs.Compose.{quiet_each, lockstep_each}
 
 -- the address of the next instruction

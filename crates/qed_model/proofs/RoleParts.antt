@@ -22,7 +22,8 @@ use Rattle.qed_model.specs.Weave.Placed.{go_size}
 use Rattle.qed_model.specs.Weave.Roles.{joined, guard_parts, compare_parts, originals, original_as_parts, original_parts, mirror_parts, each_parts, last_of, check_parts, piece_parts, pieces_parts, end_parts, way_parts, leave_as_parts, leave_parts, entry_parts, entries_parts, parts_with, new_parts}
 use Rattle.qed_model.specs.Weave.Sequences.{Form, Block, End, Falls, Stops, guard, guards_of, compare, enter, visit, sweep, is_auipc, original, original_as, each_part, piece, links, leave_as, leave, body_length, prologue, stub}
 use Rattle.qed_model.specs.Weave.Code.{block_items, entries_of, pieces_of, sequences}
-use Rattle.qed_model.specs.Weave.Woven.{form_of, is_far_code, new_items}
+use Rattle.qed_model.specs.Weave.Woven.{is_far_code, new_items}
+use Rattle.qed_model.specs.Weave.Forms.{form_of}
 
 joined_append : (ps qs : List (Role × List Item)) → joined (ps ++ qs) ≡ joined ps ++ joined qs
 joined_append [] qs = refl

@@ -32,7 +32,8 @@ use Rattle.qed_model.specs.Weave.OutputFile.{has_table, last_input, data_in, fil
 use Rattle.qed_model.specs.Weave.OutputParts.{copied, copies}
 use Rattle.qed_model.specs.Weave.Places.{AreSoundOptions, image_of, half_of, code_place}
 use Rattle.qed_model.specs.Weave.Sequences.{Block}
-use Rattle.qed_model.specs.Weave.Woven.{is_far_code, new_items, code_size, new_entries, IsNewCode, shape_of, woven_file, IsWithin}
+use Rattle.qed_model.specs.Weave.Woven.{is_far_code, new_items, code_size, new_entries, IsNewCode, woven_file, IsWithin}
+use Rattle.qed_model.specs.Weave.Forms.{shape_of}
 use Rattle.elf_files.specs.Output.{WovenFile}
 use Rattle.qed_model.proofs.BelowLaws.{length-each}
 use Rattle.qed_model.proofs.Fetches.{IsShapely, instruction_code}

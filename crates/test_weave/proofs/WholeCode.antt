@@ -5,7 +5,7 @@ use Rattle.qed_model.specs.Admission.DataRanges.{range_of}
 use Rattle.qed_model.specs.Weave.Places.{image_of, half_of}
 use Rattle.qed_model.specs.Weave.Sequences.{prologue, stub}
 use Rattle.qed_model.specs.Weave.Code.{entries_of, sequences}
-use Rattle.qed_model.specs.Weave.Woven.{form_of}
+use Rattle.qed_model.specs.Weave.Forms.{form_of}
 use Rattle.plc_rounds.specs.Spans.{spans_of}
 use Rattle.test_weave.specs.Form.{form_with, items_to_stub}
 use Rattle.test_weave.specs.WholeCode.{ItemsAreWhole}

@@ -5,7 +5,7 @@ use Rattle.qed_model.specs.declared.options.Options.{Options}
 use Rattle.qed_model.specs.Weave.Sequences.{Form, Block}
 use Rattle.qed_model.specs.Weave.Code.{Sequences, entries_of, sequences}
 use Rattle.qed_model.specs.Weave.Bounds.{cost_of}
-use Rattle.qed_model.specs.Weave.Woven.{mirror_of}
+use Rattle.qed_model.specs.Weave.Forms.{mirror_of}
 use Rattle.test_weave.specs.declared.weaver.Weaver.{Weaver}
 use Rattle.test_weave.specs.Passes.{spans_in, round_in, is_diverse}
 

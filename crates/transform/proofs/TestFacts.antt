@@ -14,7 +14,8 @@ use Rattle.qed_model.specs.Weave.Bounds.{bounds_of}
 use Rattle.qed_model.specs.Weave.OutputParts.{base_of}
 use Rattle.qed_model.specs.Weave.Places.{image_of, half_of}
 use Rattle.qed_model.specs.Weave.Sequences.{Block}
-use Rattle.qed_model.specs.Weave.Woven.{new_entries, shape_of}
+use Rattle.qed_model.specs.Weave.Woven.{new_entries}
+use Rattle.qed_model.specs.Weave.Forms.{shape_of}
 use Rattle.qed_model.proofs.Fetches.{IsShapely, instruction_code}
 use Rattle.qed_model.specs.Elf.Sound.{AreLoads}
 use Rattle.bound_calc.specs.Fitting.{AreSmall}

@@ -4,12 +4,13 @@ use Rattle.rv_isa.specs.declared.ins.Ins.{Ins}
 use Rattle.qed_model.specs.declared.item.Item.{Item}
 use Rattle.qed_model.specs.Machine.Step.{State}
 use Rattle.qed_model.specs.Weave.Sequences.{guard, guards}
+use Rattle.qed_model.specs.Weave.Costs.{cost_each}
 use Rattle.qed_model.proofs.Walked.{walk_none, walk_on}
 use Rattle.weave_core.specs.World.{World, Quiet as Calm}
 use Rattle.weave_core.specs.Rows.{At, Led}
 use Rattle.weave_core.specs.KindItems.{LockItems}
 use Rattle.weave_core.specs.Pass.{Views, Stands, Chain, NeedsBoth, Does, same, Leads, Quiet, Lockstep, AllLow, AllSame}
-use Rattle.weave_core.specs.Each.{items_each, ForEach, cost_each, NeedsEach, GivesEach, LeavesEach}
+use Rattle.weave_core.specs.Each.{items_each, ForEach, NeedsEach, GivesEach, LeavesEach}
 use Rattle.weave_core.proofs.Rows.{led_none, led_on}
 use Rattle.weave_core.proofs.Words.{guard_row}
 use Rattle.weave_core.proofs.KindItems.{items_then, items_none}

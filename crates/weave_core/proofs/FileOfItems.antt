@@ -32,7 +32,7 @@ use Rattle.qed_model.specs.Weave.Blocks.{IsLeaderBlock, IsOtherBlock, begins_at,
 use Rattle.qed_model.specs.Weave.Placed.{Decode, sum_of_sizes, entry_at, rows_from, entry_of, placed}
 use Rattle.qed_model.specs.Weave.OutputFile.{original_half, first_input, last_input, distance_to, table_word, table_bytes, table_segment, has_table, file_of}
 use Rattle.qed_model.specs.Weave.Sequences.{Form, Reads, Block}
-use Rattle.qed_model.specs.Weave.Woven.{form_of}
+use Rattle.qed_model.specs.Weave.Forms.{form_of}
 use Rattle.qed_model.proofs.Fields.{words_of-bytes_of, length-bytes_of, bytes_of_fit}
 use Rattle.qed_model.proofs.Among.{source_of}
 use Rattle.qed_model.proofs.CellsAmong.{has_from, has_not, get_among, skip_front, moved_by}

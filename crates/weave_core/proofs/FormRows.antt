@@ -23,7 +23,7 @@ use Rattle.qed_model.specs.Weave.Bounds.{end_bound}
 use Rattle.qed_model.proofs.Walk.{known_at, run-more, constant_walk, set_reg-pos}
 use Rattle.weave_core.specs.World.{World, Twice, IsCursor}
 use Rattle.weave_core.specs.Blocks.{IsEntryOf, FitsPiece, AllFit, Leaves, EndStands}
-use Rattle.weave_core.specs.Rows.{At, Sourced, Mirrors, spent}
+use Rattle.weave_core.specs.Rows.{At, Sourced, Mirrors}
 use Rattle.weave_core.specs.KindItems.{MirrorsFit}
 use Rattle.weave_core.specs.Promise.{WovenIn}
 use Rattle.weave_core.specs.Plan.{PlanKept, PlanLanded}
@@ -34,8 +34,8 @@ use Rattle.weave_core.proofs.Visit.{checked_behind, words_within, cursor_decided
 use Rattle.weave_core.proofs.Source.{fit_front, has_front, run_front}
 use Rattle.qed_model.specs.Admission.DataRanges.{word_count}
 use Rattle.weave_core.proofs.Leaves.{step-end, step-branch, step-break}
-use Rattle.weave_core.specs.Each.{items_each, cost_each, NeedsEach, GivesEach, LeavesEach}
-use Rattle.weave_core.specs.Parts.{any, used, bare, bare_cost, original_cost, Runs, NeedsOriginal, GivesOriginal, LeavesOriginal, GivesMirror, LeavesMirror, ForOriginal, NeedsPiece, GivesPiece, LeavesPiece, piece_items, piece_cost, Checks}
+use Rattle.weave_core.specs.Each.{items_each, NeedsEach, GivesEach, LeavesEach}
+use Rattle.weave_core.specs.Parts.{any, bare, Runs, NeedsOriginal, GivesOriginal, LeavesOriginal, GivesMirror, LeavesMirror, ForOriginal, NeedsPiece, GivesPiece, LeavesPiece, piece_items, piece_cost, Checks}
 use Rattle.weave_core.proofs.Compose.{leads_led, quiet_then, quiet_guarded, lockstep_then, lockstep_guarded, lockstep_each, quiet_each, each_front, each_same}
 use Rattle.weave_core.proofs.PartLaws.{quiet_original, quiet_compare, quiet_visit, lockstep_original, lockstep_mirror}
 use Rattle.weave_core.proofs.PieceLaws.{AreChecks, both_checks, never_originals, for_originals, for_mirrors, needs_originals, gives_originals, piece_leads, cost_parts, guarded_original, parts_are}
@@ -48,6 +48,7 @@ use Rattle.weave_core.specs.WeaveLaws.{PieceAt, EntryAt, Holds, Stands, GoesTo, 
 use Rattle.weave_core.specs.WeavePromise.{PlanOf}
 use Rattle.weave_core.specs.WeaveForms.{is_signed_at, weave_with, weave_of, ChecksLaws}
 use Rattle.qed_model.specs.Weave.Bounds.{visit_bound}
+use Rattle.qed_model.specs.Weave.Costs.{spent, cost_each, used, bare_cost, original_cost}
 use Rattle.weave_core.proofs.Values.{WeaveIn, kept, weave_kept}
 use Rattle.rv_isa.specs.declared.kind.Kind.TheVariants.{Beq, Auipc}
 use Rattle.rv_isa.specs.Regs.{set_reg}

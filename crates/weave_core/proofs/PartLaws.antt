@@ -11,13 +11,14 @@ use Rattle.qed_model.specs.Promise.Kept.{NotTrapped}
 use Rattle.qed_model.specs.Admission.DataRanges.{word_count}
 use Rattle.qed_model.specs.Weave.Bounds.{visit_bound}
 use Rattle.qed_model.specs.Weave.Sequences.{is_auipc, mirrored, compare, visit}
+use Rattle.qed_model.specs.Weave.Costs.{used, bare_cost}
 use Rattle.qed_model.proofs.Walk.{known_at}
 use Rattle.weave_core.specs.World.{World, IsCursor}
 use Rattle.weave_core.specs.Blocks.{IsBody, IsLowAs, FitsPiece}
 use Rattle.weave_core.specs.Rows.{At, Led, Sourced}
 use Rattle.weave_core.specs.Pass.{Views, Does, same, Leads, Quiet, Lockstep}
 use Rattle.weave_core.specs.KindItems.{LockItems, Straight, MirrorsFit}
-use Rattle.weave_core.specs.Parts.{any, used, bare, bare_cost, Runs, Compares, Rounds}
+use Rattle.weave_core.specs.Parts.{any, bare, Runs, Compares, Rounds}
 use Rattle.weave_core.proofs.Rows.{led_more}
 use Rattle.weave_core.proofs.Words.{original_compute, original_auipc, original_fence, compare_row, compare_stands}
 use Rattle.weave_core.proofs.Access.{load_at, store_at, load_granted, store_granted}

@@ -14,16 +14,17 @@ use Rattle.qed_model.specs.Machine.Step.{State, reg, Known, step, run, HasAt, ta
 use Rattle.qed_model.specs.Promise.Kept.{NotTrapped}
 use Rattle.qed_model.specs.Weave.Pieces.{is_clean, and_written, is_run, is_run_after}
 use Rattle.qed_model.specs.Weave.Sequences.{guard, guards, is_auipc, original, original_as, each_part}
+use Rattle.qed_model.specs.Weave.Costs.{spent, spent_as, cost_each, used, used_as, original_cost}
 use Rattle.qed_model.proofs.Walk.{run-more}
 use Rattle.weave_core.specs.World.{World, IsCursor, words_on}
 use Rattle.weave_core.specs.Blocks.{IsLowAs, FitsPiece, AllFit}
-use Rattle.weave_core.specs.Rows.{Sourced, spent, spent_as}
+use Rattle.weave_core.specs.Rows.{Sourced}
 use Rattle.weave_core.specs.Kinds.{thirteen}
 use Rattle.weave_core.specs.Lock.{ComparesFrom}
 use Rattle.weave_core.specs.WeaveLaws.{Visits}
 use Rattle.weave_core.specs.Pass.{Views, Stands, Leads, Quiet, AllLow, AllSame}
-use Rattle.weave_core.specs.Each.{items_each, ForEach, cost_each, NeedsEach, GivesEach, LeavesEach}
-use Rattle.weave_core.specs.Parts.{used, used_as, bare, original_cost, Runs, none, NeedsOriginal, GivesOriginal, LeavesOriginal, GivesMirror, LeavesMirror, NeedsChecks, GivesChecks, LeavesChecks, ForOriginal, NeedsPiece, GivesPiece, LeavesPiece, piece_items, piece_cost, Checks, Pieced}
+use Rattle.weave_core.specs.Each.{items_each, ForEach, NeedsEach, GivesEach, LeavesEach}
+use Rattle.weave_core.specs.Parts.{bare, Runs, none, NeedsOriginal, GivesOriginal, LeavesOriginal, GivesMirror, LeavesMirror, NeedsChecks, GivesChecks, LeavesChecks, ForOriginal, NeedsPiece, GivesPiece, LeavesPiece, piece_items, piece_cost, Checks, Pieced}
 use Rattle.weave_core.proofs.Body.{auipc_is, spent_le}
 use Rattle.weave_core.proofs.Source.{body_step, not_trapped_front, EqualBut, equal_on, UsesUnwritten, clean_uses}
 use Rattle.weave_core.proofs.Visit.{visit_later, checked_behind}

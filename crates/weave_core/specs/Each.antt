@@ -15,10 +15,6 @@ abbrev pub ForEach : (ℕ → ℕ) → (Ins → ℕ → Type 0) → (Ins → Lis
 ForEach next for uses [] at = Unit {0}
 ForEach next for uses (i ∷ is) at = for i at × (uses i ≡ []) × ForEach next for uses is (next at)
 
-abbrev pub cost_each : (Ins → ℕ) → List Ins → ℕ
-cost_each cost [] = 0
-cost_each cost (i ∷ is) = cost i + cost_each cost is
-
 abbrev pub GivesEach : (ℕ → ℕ) → (Ins → ℕ) → (Ins → ℕ → World → Views → ℕ → Views → Type 0) → List Ins → ℕ → World → Views → ℕ → Views → Type 0
 GivesEach next cost gives [] at w v n z = (n ≡ 0) × (z ≡ v)
 GivesEach next cost gives (i ∷ is) at w v n z = Chain v (cost i) (gives i at w v) (GivesEach next cost gives is (next at) w) n z

@@ -6,7 +6,7 @@ use Rattle.qed_model.specs.Machine.Program.{Program}
 use Rattle.qed_model.specs.Weave.Bounds.{cost_of}
 use Rattle.qed_model.specs.Weave.Sequences.{Block}
 use Rattle.qed_model.specs.Weave.Diverse.{diverse}
-use Rattle.qed_model.specs.Weave.Woven.{mirror_of}
+use Rattle.qed_model.specs.Weave.Forms.{mirror_of}
 use Rattle.weave_core.specs.World.{World}
 use Rattle.weave_core.specs.Rows.{Mirrors}
 use Rattle.weave_core.specs.KindItems.{MirrorsFit}

@@ -1,15 +1,14 @@
 -- The parts of a piece, as passes: what each needs and gives.
-use Rattle.std.specs.Prelude.{◌≡◌, ℕ, ◌+◌, ◌*◌, ◌<◌, ◌≤◌, ◌⊎◌, ◌==◌, cond, Bool, true, List, [], ◌∷◌, ◌++◌, length}
+use Rattle.std.specs.Prelude.{◌≡◌, ℕ, ◌+◌, ◌*◌, ◌<◌, ◌≤◌, ◌⊎◌, cond, Bool, true, List, [], ◌∷◌, ◌++◌, length}
 use Rattle.rv_isa.specs.declared.ins.Ins.{Ins}
-use Rattle.rv_isa.specs.declared.class.Class.{Class}
 use Rattle.rv_isa.specs.declared.class.Class.TheVariants as class
-use Rattle.rv_isa.specs.Kind.{class_of}
 use Rattle.qed_model.specs.declared.item.Item.{Item}
 use Rattle.qed_model.specs.declared.item.Item.TheVariants.{Plain, Constant}
 use Rattle.qed_model.specs.Machine.Step.{State, reg, Known, HasAt, step, run, target}
 use Rattle.qed_model.specs.Promise.Kept.{NotTrapped}
 use Rattle.qed_model.specs.Admission.DataRanges.{word_count}
 use Rattle.qed_model.specs.Weave.Bounds.{visit_bound}
+use Rattle.qed_model.specs.Weave.Costs.{used, original_cost, cost_each}
 use Rattle.qed_model.specs.Weave.Pieces.{is_run}
 use Rattle.qed_model.specs.Weave.Sequences.{guards, is_auipc}
 use Rattle.weave_core.specs.World.{World, IsCursor, words_on}
@@ -19,32 +18,16 @@ use Rattle.weave_core.specs.Kinds.{thirteen}
 use Rattle.weave_core.specs.Lock.{ComparesFrom}
 use Rattle.weave_core.specs.WeaveLaws.{Visits, Checked}
 use Rattle.weave_core.specs.Pass.{Views, Stands, Chain, NeedsBoth, Does, same, Leads, AllLow, AllSame}
-use Rattle.weave_core.specs.Each.{items_each, ForEach, cost_each, NeedsEach, GivesEach, LeavesEach}
+use Rattle.weave_core.specs.Each.{items_each, ForEach, NeedsEach, GivesEach, LeavesEach}
 
 -- every form of the code suits
 abbrev pub any : Bool → Type 0
 any far = Unit {0}
 
 -- ---- one instruction
--- registers that are used unseen by any comparison behind: the base of an access, and a stored register
-abbrev pub used_as : Class → Ins → List ℕ
-used_as class.Load i = i.rs1 ∷ []
-used_as class.Store i = i.rs1 ∷ cond (i.rs2 == i.rs1) [] (i.rs2 ∷ [])
-used_as _ i = []
-
-abbrev pub used : Ins → List ℕ
-used i = used_as (class_of i.kind) i
-
 -- the original part without its guards: the instruction itself, or its value
 abbrev pub bare : Ins → ℕ → List Item
 bare i at = cond (is_auipc i.kind) (Constant i.rd (target i at) ∷ []) (Plain i ∷ [])
-
--- its most steps, without and with the guards
-abbrev pub bare_cost : Ins → ℕ
-bare_cost i = cond (is_auipc i.kind) 2 1
-
-abbrev pub original_cost : Ins → ℕ
-original_cost i = length (used i) + bare_cost i
 
 -- a state of the input stands before the instruction at an address, which does not trap
 pub record Runs (w : World) (i : Ins) (at : ℕ) (s : State) : Type 0 where

@@ -10,7 +10,8 @@ use Rattle.qed_model.specs.Weave.Blocks.{AreBlocks}
 use Rattle.qed_model.specs.Weave.Bounds.{bounds_of}
 use Rattle.qed_model.specs.Weave.Places.{AreSoundOptions}
 use Rattle.qed_model.specs.Weave.Placed.{sum_of_sizes}
-use Rattle.qed_model.specs.Weave.Woven.{is_far_code, code_size, items_in, shape_of, IsToldOf}
+use Rattle.qed_model.specs.Weave.Woven.{is_far_code, code_size, items_in, IsToldOf}
+use Rattle.qed_model.specs.Weave.Forms.{shape_of}
 use Rattle.qed_model.proofs.ExampleBlocks as made
 use Rattle.qed_model.proofs.ExampleCode as code
 use Rattle.qed_model.proofs.ExampleCode.{IsCodeOf}

@@ -13,6 +13,7 @@ use Rattle.qed_model.specs.Weave.Blocks.{begins_at}
 use Rattle.qed_model.specs.Weave.Pieces.{is_run, whole}
 use Rattle.qed_model.specs.Weave.Placed.{distance_between, upper_part}
 use Rattle.qed_model.specs.Weave.Sequences.{Form, guards, original, each_part, compare, visit}
+use Rattle.qed_model.specs.Weave.Costs.{used}
 use Rattle.qed_model.proofs.Walk.{run-more}
 use Rattle.qed_model.proofs.Walked.{walk_on}
 use Rattle.weave_core.specs.World.{World, Quiet as Calm, IsCursor}
@@ -21,7 +22,7 @@ use Rattle.weave_core.specs.Rows.{At, Sourced, Led, Mirrors}
 use Rattle.weave_core.specs.KindItems.{MirrorsFit}
 use Rattle.weave_core.specs.Pass.{Views, Lockstep}
 use Rattle.weave_core.specs.Each.{items_each}
-use Rattle.weave_core.specs.Parts.{any, used, bare, GivesMirror, LeavesMirror}
+use Rattle.weave_core.specs.Parts.{any, bare, GivesMirror, LeavesMirror}
 use Rattle.weave_core.specs.Weave.{Weave}
 use Rattle.weave_core.specs.WeaveLaws.{PieceAt, Holds, GoesTo, Inside, Checked, Words, CheckedRows, Starts}
 use Rattle.weave_core.proofs.Rows.{led_on, led_none, led_more}

@@ -9,7 +9,8 @@ use Rattle.qed_model.specs.Weave.Places.{image_of, half_of}
 use Rattle.qed_model.specs.Weave.Placed.{sum_of_sizes}
 use Rattle.qed_model.specs.Weave.Sequences.{Form, Block, original, each_part, compare, visit, visit_word, times, piece, enter, leave, body_length, prologue, stub}
 use Rattle.qed_model.specs.Weave.Code.{block_items, entries_of, pieces_of, sequences}
-use Rattle.qed_model.specs.Weave.Woven.{form_of, items_in}
+use Rattle.qed_model.specs.Weave.Woven.{items_in}
+use Rattle.qed_model.specs.Weave.Forms.{form_of}
 use Rattle.qed_model.proofs.PlacedWords.{size-append}
 
 module _ (far : Bool) (form : Form) where

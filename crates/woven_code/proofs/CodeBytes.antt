@@ -12,7 +12,8 @@ use Rattle.qed_model.specs.Weave.Placed.{sum_of_sizes}
 use Rattle.qed_model.specs.Weave.Places.{AreSoundOptions, image_of, half_of}
 use Rattle.qed_model.specs.Weave.Sequences.{Block, prologue, stub}
 use Rattle.qed_model.specs.Weave.Code.{entries_of, sequences}
-use Rattle.qed_model.specs.Weave.Woven.{form_of, items_in, is_far_code, code_size}
+use Rattle.qed_model.specs.Weave.Woven.{items_in, is_far_code, code_size}
+use Rattle.qed_model.specs.Weave.Forms.{form_of}
 use Rattle.qed_model.proofs.Addresses.{addresses_there}
 use Rattle.qed_model.proofs.Among.{among_of}
 use Rattle.qed_model.proofs.PlacedWords.{size-append}

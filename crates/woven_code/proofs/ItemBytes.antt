@@ -20,7 +20,7 @@ use Rattle.qed_model.specs.Weave.Diverse.{Part, part_items, parts_of, diverse_as
 use Rattle.qed_model.specs.Weave.Placed.{go_size, sum_of_sizes}
 use Rattle.qed_model.specs.Weave.Sequences.{Form, Block, End, Falls, Stops, fired_check, guard, guards_of, compare, wraps, visit_word, times, visit, sweep_range, sweep, is_auipc, original_as, original, mirror_as, mirrored, each_part, piece, links, before_end, leave_as, leave, go_on, body_length, prologue}
 use Rattle.qed_model.specs.Weave.Code.{block_items, entries_of, pieces_of, sequences}
-use Rattle.qed_model.specs.Weave.Woven.{mirror_of}
+use Rattle.qed_model.specs.Weave.Forms.{mirror_of}
 use Rattle.qed_model.proofs.EachKind.{each_kind}
 use Rattle.qed_model.proofs.PlacedWords.{size-append}
 use Rattle.woven_code.proofs.BlockCount.{weight}

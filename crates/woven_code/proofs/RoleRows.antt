@@ -27,7 +27,8 @@ use Rattle.qed_model.specs.Weave.Places.{image_of, half_of}
 use Rattle.qed_model.specs.Weave.Placed.{go_size, sum_of_sizes}
 use Rattle.qed_model.specs.Weave.Roles.{row_of, joined, guard_parts, compare_parts, originals, original_as_parts, original_parts, mirror_parts, each_parts, last_of, check_parts, piece_parts, pieces_parts, end_parts, leave_as_parts, leave_parts, entry_parts, entries_parts, parts_with, new_roles}
 use Rattle.qed_model.specs.Weave.Sequences.{Form, Falls, guard, guards_of, visit, sweep, is_auipc, original_as, links, leave_as, leave, body_length, prologue, stub}
-use Rattle.qed_model.specs.Weave.Woven.{mirror_of, form_of, is_far_code}
+use Rattle.qed_model.specs.Weave.Woven.{is_far_code}
+use Rattle.qed_model.specs.Weave.Forms.{mirror_of, form_of}
 use Rattle.qed_model.proofs.PlacedWords.{size-append}
 use Rattle.qed_model.proofs.RoleParts.{behind_guards, guards_joined}
 use Rattle.block_list.specs.declared.block.CodeBlock.{CodeBlock}

@@ -23,7 +23,7 @@ use Rattle.qed_model.specs.Weave.Placed.{go_size, sum_of_sizes}
 use Rattle.qed_model.specs.Weave.Pieces.{divided}
 use Rattle.qed_model.specs.Weave.Sequences.{Form, fired_check, guard, guards_of, compare, visit_word, visit, sweep, is_auipc, original_as, original, mirror_as, mirrored, each_part, piece, links, before_end, leave_as, leave, go_on, body_length, prologue}
 use Rattle.qed_model.specs.Weave.Code.{block_items, entries_of, pieces_of, sequences}
-use Rattle.qed_model.specs.Weave.Woven.{mirror_of}
+use Rattle.qed_model.specs.Weave.Forms.{mirror_of}
 use Rattle.qed_model.proofs.PlacedWords.{size-append}
 use Rattle.block_list.specs.declared.block.CodeBlock.{CodeBlock}
 use Rattle.block_list.specs.Listed.{block_of, end_of}

@@ -14,7 +14,8 @@ use Rattle.qed_model.specs.declared.role.RoleRow.{RoleRow}
 use Rattle.qed_model.specs.Weave.Places.{image_of, half_of}
 use Rattle.qed_model.specs.Weave.Placed.{sum_of_sizes}
 use Rattle.qed_model.specs.Weave.Sequences.{Form, Block, End, Falls, Stops, guard, enter, visit, sweep, is_auipc, original, leave_as, leave, body_length, prologue, stub}
-use Rattle.qed_model.specs.Weave.Woven.{form_of, is_far_code, new_items}
+use Rattle.qed_model.specs.Weave.Woven.{is_far_code, new_items}
+use Rattle.qed_model.specs.Weave.Forms.{form_of}
 
 -- ---- parts
 -- the items of parts, one part after the other

@@ -1,6 +1,5 @@
 -- What is woven from the file of a test: its new code, word for word, the file that has it, and what is told of it.
-use Rattle.std.specs.Prelude.{◌≡◌, ℕ, ◌^◌, ◌<◌, ◌≤◌, nat_lt, Bool, false, cond, List, length, map, slice_index}
-use Rattle.rv_isa.specs.declared.ins.Ins.{Ins}
+use Rattle.std.specs.Prelude.{◌≡◌, ℕ, ◌^◌, ◌<◌, ◌≤◌, nat_lt, Bool, false, List, length, map, slice_index}
 use Rattle.elf_types.specs.declared.file.ElfFile.{ElfFile}
 use Rattle.elf_types.specs.declared.output.OutFile.{OutFile}
 use Rattle.qed_model.specs.declared.limits.Limit.TheVariants as limit
@@ -10,28 +9,19 @@ use Rattle.qed_model.specs.declared.item.Item.{Item}
 use Rattle.qed_model.specs.declared.options.Options.{Options}
 use Rattle.qed_model.specs.declared.plan.EntryRow.{EntryRow}
 use Rattle.qed_model.specs.declared.plan.Plan.{Plan}
-use Rattle.qed_model.specs.declared.bounds.Shape.{Shape}
 use Rattle.qed_model.specs.Numbers.{bytes_of}
-use Rattle.qed_model.specs.Weave.Sequences.{Form, Block, mirrored}
+use Rattle.qed_model.specs.Weave.Sequences.{Block}
 use Rattle.qed_model.specs.Weave.Code.{sequences, code_of}
-use Rattle.qed_model.specs.Weave.Diverse.{diverse}
+use Rattle.qed_model.specs.Weave.Forms.{form_of, shape_of}
 use Rattle.qed_model.specs.Weave.Placed.{Decode, sum_of_sizes, rows_from, placed}
 use Rattle.qed_model.specs.Elf.Layout.{written}
 use Rattle.qed_model.specs.Weave.OutputParts.{base_of}
 use Rattle.qed_model.specs.Admission.DataRanges.{range_of, data_ranges, word_count}
 use Rattle.qed_model.specs.Weave.Places.{image_of, half_of, code_place}
 use Rattle.qed_model.specs.Weave.OutputFile.{has_table, file_of, piece_rows}
-use Rattle.qed_model.specs.Weave.Bounds.{cost_of, bounds_of}
+use Rattle.qed_model.specs.Weave.Bounds.{bounds_of}
 
 -- ---- the new code
--- the mirror part of an instruction: the same on the pairs, or where it is asked for of other kinds
-abbrev pub mirror_of : Bool → Ins → ℕ → List Item
-mirror_of other = cond other diverse mirrored
-
--- what it depends on besides the blocks, in the near or in the far form
-abbrev pub form_of : ElfFile → Options → Bool → Form
-form_of f o far = record { spans = data_ranges (image_of f); round = o.round; far = far; sweep = o.sweep; mirror = mirror_of o.diverse; cost = cost_of o.diverse }
-
 -- its items
 abbrev pub items_in : ElfFile → Options → Bool → List Block → List Item
 items_in f o far blocks = code_of (sequences (form_of f o far)) (half_of o.half (image_of f)) f.entry blocks
@@ -68,18 +58,6 @@ pub record IsWithin (f : ElfFile) (o : Options) (blocks : List Block) (out : Out
   pub size : length (written out) ≤ limit_of limit.OutputBytes
 
 -- ---- what is told of it
--- what the bounds depend on
-abbrev pub shape_of : ElfFile → Options → Bool → Shape
-shape_of f o far = record {
-  words = word_count (data_ranges (image_of f));
-  ranges = length (data_ranges (image_of f));
-  round = o.round;
-  inst_max = o.inst_max;
-  far = far;
-  sweep = o.sweep;
-  diverse = o.diverse;
-}
-
 -- the places, the data words, the size of the new code, its entries and pieces, and the bounds
 pub record IsToldOf (f : ElfFile) (o : Options) (blocks : List Block) (plan : Plan) : Type 0 where
   pub base : plan.base ≡ base_of (image_of f)

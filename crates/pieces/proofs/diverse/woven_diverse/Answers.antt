@@ -1,7 +1,7 @@
 use Rattle.std.proofs.Common.{◌-◌, refl, sym, ◌∙◌, Bool, arith}
 use Rattle.plc_rounds.specs.Spans.{spans_of}
 use Rattle.qed_model.specs.Weave.Diverse.{diverse}
-use Rattle.weave_core.specs.Rows.{spent}
+use Rattle.qed_model.specs.Weave.Costs.{spent}
 use Rattle.pieces.specs.Piece.{for_piece, piece_is, piece_same, piece_laws, honest_any, lockstep_any}
 use Rattle.pieces.proofs.diverse.woven_diverse.Goals as goal
 

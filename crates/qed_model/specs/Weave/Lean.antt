@@ -2,7 +2,7 @@
 -- from -`every`, x16 has the input address of the block, and the offset of the next visited data word times 2^32. Each block begins with a
 -- tick, which calls the check, one for all of the code, where the counter would reach 0. The check compares where it was called from with
 -- the entry of that address, compares all registers, visits a round of data words, and goes back to the entry by the table.
-use Rattle.std.specs.Prelude.{ℕ, ◌+◌, ◌-◌, ◌*◌, ◌/◌, ◌%◌, ◌^◌, Bool, true, false, cond, ◌==◌, ◌&&◌, nat_lt, nat_le, max, List, [], ◌∷◌, ◌++◌, ℤ, pos, neg_ℤ}
+use Rattle.std.specs.Prelude.{ℕ, ◌+◌, ◌%◌, ◌^◌, Bool, true, false, cond, ◌==◌, nat_lt, max, List, [], ◌∷◌, ◌++◌, ℤ, pos, neg_ℤ}
 use Rattle.rv_isa.specs.declared.kind.Kind.{Kind}
 use Rattle.rv_isa.specs.declared.kind.Kind.TheVariants.{Lui, Addi, Andi, Slli, Srli, Add, Sub, Beq, Bne, Blt, Bge, Bltu, Bgeu, Jal, Jalr, Lw, Ebreak}
 use Rattle.rv_isa.specs.declared.class.Class.{Class}
@@ -14,10 +14,9 @@ use Rattle.qed_model.specs.declared.item.Item.{Item}
 use Rattle.qed_model.specs.declared.item.Item.TheVariants.{Mark, Plain, Constant, Go}
 use Rattle.qed_model.specs.Machine.Table.{ins}
 use Rattle.qed_model.specs.Machine.Values.{wrapped}
-use Rattle.qed_model.specs.Machine.Step.{State, reg, target}
+use Rattle.qed_model.specs.Machine.Step.{target}
 use Rattle.qed_model.specs.Weave.Placed.{distance_between, upper_part, lower_part, sum_of_sizes}
 use Rattle.qed_model.specs.Weave.Sequences.{End, Falls, Stops, fired_check, guard, guards_of, compare, visit, links, zero_from}
-use Rattle.weave_core.specs.World.{World, is_cursor}
 
 -- ---- the tick
 -- counts `most` steps, and calls the check at a distance where not so many are left; behind the call stands an EBREAK, to which nothing
@@ -139,14 +138,3 @@ leave_cost_as fall k i a at = cost (leave_as [] fall k i a at)
 abbrev pub leave_cost : (ℕ → List Item) → End → ℕ → ℕ → ℕ
 leave_cost fall Falls a at = cost (leave [] fall Falls a at)
 leave_cost fall (Stops i) a at = leave_cost_as fall (class_of i.kind) i a at
-
--- ---- what holds of x15 and x16
--- the offset in a signature
-abbrev pub offset_of : ℕ → ℕ → ℕ
-offset_of a sign = (sign + (2 ^ 64 - a)) % 2 ^ 64 / 2 ^ 32
-
--- from the entry of a block at a to its leave: so many steps are left at most, one at least, and the signature is that of a, with the offset of a
--- data word where there is one
-abbrev pub is_ticked_at : ℕ → World → State → ℕ → Bool
-is_ticked_at every w u a =
-    ((nat_le (2 ^ 64 - every) (reg u 15) && nat_lt (reg u 15) (2 ^ 64)) && (reg u 16 == (a + offset_of a (reg u 16) * 2 ^ 32) % 2 ^ 64)) && is_cursor w.form.spans (first_word w.base w.form.spans + offset_of a (reg u 16))

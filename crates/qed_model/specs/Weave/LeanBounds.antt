@@ -1,0 +1,41 @@
+-- The bounds of the lean form, in steps (this project's profile).
+use Rattle.std.specs.Prelude.{ℕ, zero, suc, ◌+◌, ◌*◌, Option, Some, None, false}
+use Rattle.elf_types.specs.declared.file.ElfFile.{ElfFile}
+use Rattle.qed_model.specs.declared.bounds.Bounds.{Bounds}
+use Rattle.qed_model.specs.declared.bounds.Shape.{Shape}
+use Rattle.qed_model.specs.declared.options.Options.{Options}
+use Rattle.qed_model.specs.Weave.Bounds.{visit_bound, end_bound, cost_of}
+use Rattle.qed_model.specs.Weave.Forms.{shape_of}
+use Rattle.qed_model.specs.Weave.Pieces.{piece_count}
+
+-- the most steps of the check, with the look-up behind it, by how many data words and ranges there are, and the words of a round
+abbrev pub check_bound : ℕ → ℕ → ℕ → ℕ
+check_bound words ranges round = 44 + visit_bound words ranges * round
+
+-- the most steps from check to check: those of the check, and of the blocks between
+abbrev pub period : ℕ → ℕ → ℕ
+period check every = check + (every + 2)
+
+-- a changed register: what runs first, the end with its sweep, a period, and the comparison
+abbrev pub register_bound : ℕ → ℕ → ℕ
+register_bound ends period = 67 + ends + period
+
+-- a changed data word, of `words` of them: as many periods more as there are rounds; none where there is no data word
+abbrev pub word_bound : ℕ → ℕ → ℕ → ℕ → Option ℕ
+word_bound zero round ends period = None
+word_bound (suc n) round ends period = Some (67 + ends + (piece_count round (suc n) + 1) * period)
+
+-- ---- over a shape, and of a file
+abbrev pub bounds_of : Shape → ℕ → Bounds
+bounds_of s every =
+    let ends = end_bound s.sweep s.ranges s.words in
+    let check = check_bound s.words s.ranges s.round in
+    record {
+      start = 31 + ends;
+      piece = 24 + check + cost_of s.diverse * s.inst_max;
+      register = register_bound ends (period check every);
+      word = word_bound s.words s.round ends (period check every);
+    }
+
+abbrev pub lean_bounds : ElfFile → Options → ℕ → Bounds
+lean_bounds f o every = bounds_of (shape_of f o false) every

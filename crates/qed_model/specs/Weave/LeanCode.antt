@@ -1,0 +1,105 @@
+-- The new code of a test in the lean form: its sequences, the steps that its ticks count, and its items (this project's profile).
+use Rattle.std.specs.Prelude.{ℕ, ◌+◌, ◌-◌, ◌*◌, Bool, true, false, cond, ◌==◌, ◌&&◌, List, [], ◌∷◌, ◌++◌}
+use Rattle.elf_types.specs.declared.file.ElfFile.{ElfFile}
+use Rattle.rv_isa.specs.declared.ins.Ins.{Ins}
+use Rattle.qed_model.specs.declared.item.Item.{Item}
+use Rattle.qed_model.specs.declared.item.Item.TheVariants.{Mark, Go}
+use Rattle.qed_model.specs.declared.options.Options.{Options}
+use Rattle.qed_model.specs.Weave.Blocks.{begins_at}
+use Rattle.qed_model.specs.Weave.Bounds.{cost_of}
+use Rattle.qed_model.specs.Weave.Code.{Sequences, code_of}
+use Rattle.qed_model.specs.Weave.Costs.{cost_each, original_cost, spent, mirror_steps}
+use Rattle.qed_model.specs.Weave.Forms.{mirror_of, form_of}
+use Rattle.qed_model.specs.Weave.Lean.{tick, check, leave, begin, leave_cost}
+use Rattle.qed_model.specs.Weave.OutputParts.{base_of}
+use Rattle.qed_model.specs.Weave.Placed.{distance_between, sum_of_sizes, entry_of}
+use Rattle.qed_model.specs.Weave.Places.{image_of, half_of, code_place}
+use Rattle.qed_model.specs.Weave.Sequences.{Form, Block, End, Falls, Stops, body_length, original, each_part, before_end}
+
+-- what it depends on besides its blocks and the form: what x15 counts from, the most instructions of a piece, whether its mirror parts are of other
+-- kinds, the address of the check, the steps that the tick of a block counts, and where a block begins that has such an end at an address
+pub record Lean : Type 0 where
+  pub every : ℕ
+  pub inst_max : ℕ
+  pub diverse : Bool
+  pub check : ℕ
+  pub most : ℕ → ℕ
+  pub start_of : End → ℕ → ℕ
+
+-- ---- the sequences
+-- behind a block stands the entry of a leader, or there is no code
+abbrev pub fall_to : (ℕ → Bool) → ℕ → List Item
+fall_to leader t = cond (leader t) (Mark t ∷ []) (Go t ∷ [])
+
+-- an entry is a tick, and pieces have nothing behind them; with what leads behind a block, and what runs first, where an input
+-- address has its entry
+abbrev pub sequences : Form → (ℕ → ℕ) → Lean → (ℕ → List Item) → (ℕ → ℕ → List Item) → Sequences
+sequences form entry l fall first = record {
+  first = first;
+  enter = λ a. tick (l.most a) (distance_between (entry a + 8) l.check);
+  piece = λ is at. each_part original is at ++ each_part (mirror_of l.diverse) is at;
+  leave = λ e at. leave (before_end form) fall e (l.start_of e at) at;
+}
+
+-- what leads behind a block, as words: nothing, where a block stands there
+abbrev pub fall_words : (ℕ → Bool) → ℕ → List Item
+fall_words leader t = cond (leader t) [] (Go t ∷ [])
+
+-- the sequences as words, for an input that begins at `base`: behind what runs first stands the check
+abbrev pub worded : Form → ℕ → (ℕ → ℕ) → Lean → (ℕ → Bool) → Sequences
+worded form base entry l leader = sequences form entry l (fall_words leader) (λ d a. begin d a ++ check base l.every form.round form.spans)
+
+-- ---- the steps of a block
+-- of a mirror part
+abbrev pub mirror_steps_of : Bool → Ins → ℕ
+mirror_steps_of diverse i = cond diverse (cost_of true - spent i) (mirror_steps i)
+
+-- of a piece: its original parts and its mirror parts
+abbrev pub piece_steps : Bool → List Ins → ℕ
+piece_steps diverse is = cost_each original_cost is + cost_each (mirror_steps_of diverse) is
+
+abbrev pub body_steps : Bool → List (List Ins) → ℕ
+body_steps diverse [] = 0
+body_steps diverse (p ∷ ps) = piece_steps diverse p + body_steps diverse ps
+
+-- the steps that the tick of a block counts: its own, those of its pieces, and the most of its leave
+abbrev pub block_steps : Bool → (ℕ → Bool) → Block → ℕ
+block_steps diverse leader b = 2 + (body_steps diverse b.body + leave_cost (fall_to leader) b.end b.start (b.start + 4 * body_length b.body))
+
+-- ---- of a file
+-- the steps of the block that begins at an address
+abbrev pub steps_at : Bool → (ℕ → Bool) → List Block → ℕ → ℕ
+steps_at diverse leader [] a = 0
+steps_at diverse leader (b ∷ bs) a = cond (b.start == a) (block_steps diverse leader b) (steps_at diverse leader bs a)
+
+-- two ends fall, or neither does
+abbrev pub is_alike : End → End → Bool
+is_alike Falls Falls = true
+is_alike (Stops i) (Stops j) = true
+is_alike _ _ = false
+
+-- where the block begins that has such an end at an address
+abbrev pub start_at : List Block → End → ℕ → ℕ
+start_at [] e at = 0
+start_at (b ∷ bs) e at = cond (is_alike b.end e && (b.start + 4 * body_length b.body == at)) b.start (start_at bs e at)
+
+-- of a file with its blocks, where the check sets the counter to less `every`
+abbrev pub lean_of : ElfFile → Options → ℕ → List Block → Lean
+lean_of f o every blocks = record {
+  every = every;
+  inst_max = o.inst_max;
+  diverse = o.diverse;
+  check = code_place o.half (image_of f) + sum_of_sizes false (begin (half_of o.half (image_of f)) f.entry);
+  most = steps_at o.diverse (begins_at blocks) blocks;
+  start_of = start_at blocks;
+}
+
+-- ---- the new code
+-- its items, where an input address has its entry
+abbrev pub items_with : ElfFile → Options → ℕ → List Block → (ℕ → ℕ) → List Item
+items_with f o every blocks entry =
+    code_of (worded (form_of f o false) (base_of (image_of f)) entry (lean_of f o every blocks) (begins_at blocks)) (half_of o.half (image_of f)) f.entry blocks
+
+-- the entries stand where their marks do, whatever the ticks take for their distances
+abbrev pub lean_items : ElfFile → Options → ℕ → List Block → List Item
+lean_items f o every blocks = items_with f o every blocks (entry_of false (code_place o.half (image_of f)) (items_with f o every blocks (λ a. 0)))
