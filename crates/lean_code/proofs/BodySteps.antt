@@ -3,16 +3,15 @@ use Rattle.std.proofs.Common.{◌≡◌, ℕ, zero, suc, ◌+◌, ◌*◌, ◌^�
 use Rattle.std.proofs.lemmas.List.Sums.{sum_by-cons}
 use Rattle.rv_isa.specs.declared.ins.Ins.{Ins}
 use Rattle.qed_model.specs.Weave.Pieces.{divided}
-use Rattle.weave_core.specs.Each.{cost_each}
-use Rattle.weave_core.specs.Parts.{original_cost}
 use Rattle.qed_model.specs.Weave.Sequences.{body_length}
+use Rattle.qed_model.specs.Weave.Costs.{cost_each, original_cost}
+use Rattle.qed_model.specs.Weave.Lean.{leave_cost}
+use Rattle.qed_model.specs.Weave.LeanCode.{fall_to, mirror_steps_of, body_steps, block_steps}
 use Rattle.block_list.specs.declared.block.CodeBlock.{CodeBlock}
 use Rattle.block_list.specs.Listed.{block_of, end_of}
 use Rattle.relinker.specs.Counted.{capped}
 use Rattle.test_weave.specs.Fits.{FitsBlock}
 use Rattle.test_weave.proofs.BodyLeft.{whole_length}
-use Rattle.lean_weave.specs.Lean.{leave_cost}
-use Rattle.lean_weave.specs.Woven.{fall_to, mirror_steps_of, body_steps, block_steps}
 use Rattle.lean_code.specs.Steps.{both_cost}
 
 cost_split : (f : Ins → ℕ) (n : ℕ) (is : List Ins) → cost_each f is ≡ cost_each f (take n is) + cost_each f (drop n is)

@@ -15,7 +15,8 @@ use Rattle.qed_model.specs.Weave.OutputParts.{base_of}
 use Rattle.qed_model.specs.Weave.Placed.{sum_of_sizes, rows_from, placed, leads_to, Decode, EntriesAscend}
 use Rattle.qed_model.specs.Weave.Places.{image_of, half_of, code_place}
 use Rattle.qed_model.specs.Weave.Sequences.{Form, Block, stub}
-use Rattle.qed_model.specs.Weave.Woven.{form_of}
+use Rattle.qed_model.specs.Weave.Forms.{form_of}
+use Rattle.qed_model.specs.Weave.LeanCode.{lean_of, lean_items, items_with as file_items, steps_at, start_at, Lean, worded}
 use Rattle.qed_model.proofs.PlacedWords.{size-append, entry_inside}
 use Rattle.weave_core.proofs.TestKnown as there
 use Rattle.block_list.specs.declared.block.CodeBlock.{CodeBlock}
@@ -35,8 +36,7 @@ use Rattle.test_weave.specs.Form.{form_with, parts_to_stub}
 use Rattle.test_weave.specs.Fits.{FitsBlock}
 use Rattle.test_weave.proofs.AdmittedFit.{blocks_fit}
 use Rattle.test_weave.proofs.WholeCode.{spans_are}
-use Rattle.lean_weave.specs.Tests.{IsLeanTest, lean_of, lean_items, items_with as file_items, steps_at, start_at}
-use Rattle.lean_weave.specs.Woven.{Lean, worded}
+use Rattle.lean_weave.specs.Tests.{IsLeanTest}
 use Rattle.lean_weave.proofs.Short.{few_steps}
 use Rattle.lean_weave.proofs.Tests.{tests_have_words, are_items}
 use Rattle.lean_weave.proofs.Unmarked.{code_rows, code_size}

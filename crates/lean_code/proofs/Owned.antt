@@ -17,6 +17,7 @@ use Rattle.qed_model.specs.Weave.OutputParts.{base_of}
 use Rattle.qed_model.specs.Weave.Placed.{distance_between}
 use Rattle.qed_model.specs.Weave.Places.{image_of, half_of, code_place}
 use Rattle.qed_model.specs.Weave.Sequences.{End, Falls, Stops, Block, body_length}
+use Rattle.qed_model.specs.Weave.LeanCode.{steps_at, start_at, block_steps}
 use Rattle.qed_model.proofs.Nearby.{is_within}
 use Rattle.qed_model.proofs.WovenWords.{branch_imm, jump_imm}
 use Rattle.weave_core.proofs.FileOfItems as of
@@ -27,8 +28,7 @@ use Rattle.block_list.specs.declared.block.CodeBlock.{CodeBlock}
 use Rattle.block_list.specs.Listed.{block_of, end_of}
 use Rattle.test_weave.specs.Fits.{FitsBlock}
 use Rattle.test_weave.proofs.BodyLeft.{whole_length}
-use Rattle.lean_weave.specs.Tests.{AreLeanBlocks, steps_at, start_at}
-use Rattle.lean_weave.specs.Woven.{block_steps}
+use Rattle.lean_weave.specs.Tests.{AreLeanBlocks}
 use Rattle.lean_weave.proofs.Blocks.{starts, steps}
 use Rattle.lean_weave.proofs.Near.{nearer}
 use Rattle.lean_weave.proofs.Short.{only_reached, few_steps, short}

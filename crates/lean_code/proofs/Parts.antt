@@ -4,8 +4,9 @@ use Rattle.std.proofs.lemmas.List.{append-nil}
 use Rattle.rv_isa.specs.declared.ins.Ins.{Ins}
 use Rattle.qed_model.specs.declared.item.Item.{Item}
 use Rattle.qed_model.specs.Weave.Sequences.{original, each_part, guards}
+use Rattle.qed_model.specs.Weave.Costs.{used}
 use Rattle.weave_core.specs.Each.{items_each}
-use Rattle.weave_core.specs.Parts.{used, bare}
+use Rattle.weave_core.specs.Parts.{bare}
 use Rattle.weave_core.proofs.PieceLaws.{parts_are}
 use Rattle.passes.specs.Each.{next_at, each_is}
 

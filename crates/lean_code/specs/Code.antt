@@ -11,6 +11,7 @@ use Rattle.qed_model.specs.Weave.Code.{Sequences}
 use Rattle.qed_model.specs.Weave.Placed.{Decode, sum_of_sizes, rows_from, placed, entry_of}
 use Rattle.qed_model.specs.Weave.Places.{image_of, code_place}
 use Rattle.qed_model.specs.Weave.Sequences.{Block}
+use Rattle.qed_model.specs.Weave.LeanCode.{lean_items, items_with as file_items, steps_at, start_at, Lean, worded}
 use Rattle.block_list.specs.declared.block.CodeBlock.{CodeBlock}
 use Rattle.block_list.specs.Listed.{block_of, IsWithin}
 use Rattle.plc_rounds.specs.Spans.{spans_of}
@@ -21,8 +22,7 @@ use Rattle.relinker.specs.declared.layout.Linked.{Linked}
 use Rattle.relinker.specs.Counted.{capped}
 use Rattle.relinker.specs.Laid.{IsLaid}
 use Rattle.test_weave.specs.Form.{form_with, parts_to_stub}
-use Rattle.lean_weave.specs.Tests.{AreLeanBlocks, lean_items, items_with as file_items, steps_at, start_at}
-use Rattle.lean_weave.specs.Woven.{Lean, worded}
+use Rattle.lean_weave.specs.Tests.{AreLeanBlocks}
 
 -- ---- of a test that was admitted
 -- where its new code begins

@@ -5,12 +5,11 @@ use Rattle.qed_model.specs.Weave.Bounds.{cost_of}
 use Rattle.qed_model.specs.Weave.Code.{Sequences}
 use Rattle.qed_model.specs.Weave.Placed.{leads_to}
 use Rattle.qed_model.specs.Weave.Sequences.{Form, Block}
-use Rattle.qed_model.specs.Weave.Woven.{mirror_of}
+use Rattle.qed_model.specs.Weave.Forms.{mirror_of}
+use Rattle.qed_model.specs.Weave.LeanCode.{steps_at, start_at, Lean, worded, block_steps}
 use Rattle.block_list.specs.declared.block.CodeBlock.{CodeBlock}
 use Rattle.block_list.specs.Listed.{block_of, end_of}
 use Rattle.plc_rounds.specs.Spans.{spans_of}
-use Rattle.lean_weave.specs.Tests.{steps_at, start_at}
-use Rattle.lean_weave.specs.Woven.{Lean, worded, block_steps}
 use Rattle.lean_code.specs.declared.weaver.LeanWeaver.{LeanWeaver}
 use Rattle.lean_code.specs.Leaves.{Turns}
 use Rattle.lean_code.specs.Passes.{is_diverse}

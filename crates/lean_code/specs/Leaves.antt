@@ -12,7 +12,7 @@ use Rattle.qed_model.specs.Machine.Step.{target}
 use Rattle.qed_model.specs.Machine.Table.{ins}
 use Rattle.qed_model.specs.Weave.Placed.{distance_between}
 use Rattle.qed_model.specs.Weave.Sequences.{End, Falls, Stops, sweep, compare, links}
-use Rattle.lean_weave.specs.Lean.{turn, goes, look_up}
+use Rattle.qed_model.specs.Weave.Lean.{turn, goes, look_up}
 
 -- ---- parts
 -- what stands before an ECALL besides, with the sweep

@@ -4,7 +4,7 @@ ghost use Rattle.rv_isa.specs.declared.kind.Kind.TheVariants.{Addi, Lui};
 ghost use Rattle.qed_model.specs.declared.item.Item.TheVariants.{Plain, Constant, Go};
 ghost use Rattle.qed_model.specs.Machine.Table.{ins};
 ghost use Rattle.qed_model.specs.Weave.Sequences.{zero_from};
-ghost use Rattle.lean_weave.specs.Lean.{begin};
+ghost use Rattle.qed_model.specs.Weave.Lean.{begin};
 
 use passes::{Emit, plain, register};
 use qed_model::Item;

@@ -1,8 +1,8 @@
 //! The check, one for all of the code.
 ghost use Rattle.std.specs.Prelude.{◌≡◌, ◌^◌, ◌≤◌, ◌<◌, ◌++◌, OnOk};
 ghost use Rattle.qed_model.specs.Weave.Sequences.{compare, visit};
+ghost use Rattle.qed_model.specs.Weave.Lean.{first_word as first_word_of, parted, called, begun, done, check, look_up};
 ghost use Rattle.plc_rounds.specs.Spans.{spans_of};
-ghost use Rattle.lean_weave.specs.Lean.{first_word as first_word_of, parted, called, begun, done, check, look_up};
 
 use eddi_dup::CompareAll;
 use flow_tracking::put_look_up;

@@ -8,10 +8,10 @@ ghost use Rattle.qed_model.specs.Weave.Blocks.{begins_at as begins};
 ghost use Rattle.qed_model.specs.Machine.Table.{ins as ins_of};
 ghost use Rattle.qed_model.specs.Weave.Placed.{sum_of_sizes};
 ghost use Rattle.qed_model.specs.Weave.Sequences.{compare, guard, links};
+ghost use Rattle.qed_model.specs.Weave.Lean.{opposite as opposite_of, leave as leave_of, leave_as, check_sign, goes};
+ghost use Rattle.qed_model.specs.Weave.LeanCode.{fall_words};
 ghost use Rattle.plc_rounds.specs.Spans.{spans_of};
 ghost use Rattle.block_list.specs.Listed.{block_of, end_of};
-ghost use Rattle.lean_weave.specs.Lean.{opposite as opposite_of, leave as leave_of, leave_as, check_sign, goes};
-ghost use Rattle.lean_weave.specs.Woven.{fall_words};
 ghost use Rattle.test_weave.specs.Fits.{FitsEnd, FitsLeave};
 ghost use Rattle.lean_code.specs.Leaves.{before, falls, ways, aim_of, leap_sign, IsNear, TurnsAs, Turns};
 

@@ -3,12 +3,10 @@ ghost use Rattle.std.specs.Prelude.{◌≡◌, ◌+◌, ◌*◌, ◌^◌, ◌<�
 ghost use Rattle.rv_isa.specs.Kind.{class_of};
 ghost use Rattle.qed_model.specs.Weave.Blocks.{begins_at as begins};
 ghost use Rattle.qed_model.specs.Weave.Sequences.{guard, guards_of, links};
-ghost use Rattle.weave_core.specs.Each.{cost_each};
-ghost use Rattle.weave_core.specs.Parts.{original_cost};
-ghost use Rattle.weave_core.specs.Rows.{mirror_steps as mirror_cost, spent as spent_of};
+ghost use Rattle.qed_model.specs.Weave.Costs.{cost_each, original_cost, mirror_steps as mirror_cost, spent as spent_of};
+ghost use Rattle.qed_model.specs.Weave.Lean.{cost, is_break, leave_cost, leave_cost_as};
+ghost use Rattle.qed_model.specs.Weave.LeanCode.{fall_to, mirror_steps_of, block_steps as block_cost};
 ghost use Rattle.block_list.specs.Listed.{block_of, end_of};
-ghost use Rattle.lean_weave.specs.Lean.{cost, is_break, leave_cost, leave_cost_as};
-ghost use Rattle.lean_weave.specs.Woven.{fall_to, mirror_steps_of, block_steps as block_cost};
 ghost use Rattle.relinker.specs.Counted.{capped};
 ghost use Rattle.test_weave.specs.Fits.{FitsBlock};
 ghost use Rattle.lean_code.specs.Steps.{both_cost};

@@ -1,6 +1,6 @@
 //! The tick that begins an entry.
 ghost use Rattle.std.specs.Prelude.{◌≡◌, ◌^◌, ◌<◌, ◌++◌, OnOk};
-ghost use Rattle.lean_weave.specs.Lean.{tick};
+ghost use Rattle.qed_model.specs.Weave.Lean.{tick};
 
 use passes::{Emit, plain, register};
 use rv_isa::Kind;

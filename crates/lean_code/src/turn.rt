@@ -1,7 +1,7 @@
 //! The signature, and how it turns from one block to another.
 ghost use Rattle.std.specs.Prelude.{◌≡◌, ◌^◌, ◌-◌, ◌≤◌, ◌++◌, false, OnOk, pos, ◌≤ℤ◌};
 ghost use Rattle.qed_model.specs.Weave.Placed.{distance_between as distance_of, sum_of_sizes};
-ghost use Rattle.lean_weave.specs.Lean.{is_short as is_short_of, turn_by, turn, goes, check_sign, cost};
+ghost use Rattle.qed_model.specs.Weave.Lean.{is_short as is_short_of, turn_by, turn, goes, check_sign, cost};
 
 use passes::{Emit, plain, register};
 use qed_model::Item;

@@ -1,9 +1,9 @@
 use Rattle.std.proofs.Common.{◌≡◌, ℕ, List, ◌++◌, ap, ◌∙◌}
 use Rattle.qed_model.specs.declared.item.Item.{Item}
 use Rattle.qed_model.specs.Weave.Sequences.{compare, visit}
+use Rattle.qed_model.specs.Weave.Lean.{first_word, parted, called, begun, done, look_up}
 use Rattle.plc_rounds.specs.Spans.{spans_of}
 use Rattle.test_weave.proofs.Joined.{append_both}
-use Rattle.lean_weave.specs.Lean.{first_word, parted, called, begun, done, look_up}
 use Rattle.lean_code.proofs.check.put_check.Goals as goal
 
 -- the front, and the rest with the address of the first data word

@@ -1,10 +1,10 @@
 use Rattle.std.proofs.Common.{◌≡◌, ◌+◌, ◌*◌, length, map, ap, ◌∙◌, arith}
 use Rattle.qed_model.specs.Weave.Blocks.{begins_at}
-use Rattle.weave_core.specs.Each.{cost_each}
+use Rattle.qed_model.specs.Weave.Costs.{cost_each}
+use Rattle.qed_model.specs.Weave.Lean.{leave_cost}
+use Rattle.qed_model.specs.Weave.LeanCode.{fall_to}
 use Rattle.block_list.specs.Listed.{block_of, end_of}
 use Rattle.relinker.specs.Counted.{capped}
-use Rattle.lean_weave.specs.Lean.{leave_cost}
-use Rattle.lean_weave.specs.Woven.{fall_to}
 use Rattle.lean_code.specs.Steps.{both_cost}
 use Rattle.lean_code.proofs.BodySteps.{steps_are}
 use Rattle.lean_code.proofs.steps.block_steps.Goals as goal

@@ -1,5 +1,5 @@
 use Rattle.std.proofs.Common.{◌≡◌, ◌+◌, ◌^◌, ◌<◌, drop}
-use Rattle.weave_core.specs.Each.{cost_each}
+use Rattle.qed_model.specs.Weave.Costs.{cost_each}
 use Rattle.relinker.specs.Counted.{capped}
 use Rattle.lean_code.specs.Steps.{both_cost}
 use Rattle.lean_code.proofs.steps.body_steps.Given as goal

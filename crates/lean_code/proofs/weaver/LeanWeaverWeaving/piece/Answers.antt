@@ -1,6 +1,6 @@
 use Rattle.std.proofs.Common.{sym, ap, ◌∙◌, ◌++◌}
 use Rattle.qed_model.specs.Weave.Sequences.{original, each_part}
-use Rattle.qed_model.specs.Weave.Woven.{mirror_of}
+use Rattle.qed_model.specs.Weave.Forms.{mirror_of}
 use Rattle.pieces.specs.Piece.{for_piece}
 use Rattle.lean_code.specs.declared.weaver.LeanPasses.TheVariants.{Same, Other}
 use Rattle.lean_code.specs.Passes.{is_diverse}
