@@ -8,7 +8,7 @@ ghost use Rattle.bound_calc.specs.Fitting.{fitting, AreSmall};
 use qed_model::{Bounds, Shape};
 
 /// A number, where it is below 2^64.
-fn fitting(number: u128) -> Option<u64>
+pub(crate) fn fitting(number: u128) -> Option<u64>
     ensures { result ≡ fitting number }
 {
     u64::try_from(number).ok()
@@ -26,7 +26,7 @@ fn visit(words: u64, ranges: u64) -> Option<u64>
 }
 
 /// The steps of a visit of `round` data words.
-fn round(shape: &Shape) -> Option<u64>
+pub(crate) fn round(shape: &Shape) -> Option<u64>
     requires { 1 ≤ shape.now.round }
     ensures { result ≡ fitting (visit_bound shape.now.words shape.now.ranges * shape.now.round) }
 {
@@ -45,7 +45,7 @@ fn piece(shape: &Shape) -> Option<u64>
 }
 
 /// What runs before the end.
-fn end(shape: &Shape) -> u128
+pub(crate) fn end(shape: &Shape) -> u128
     ensures value { result ≡ end_bound shape.now.sweep shape.now.ranges shape.now.words }
     ensures low { result < 2 ^ 68 }
 {

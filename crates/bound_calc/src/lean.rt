@@ -1,0 +1,66 @@
+//! The bounds of the lean form.
+ghost use Rattle.std.specs.Prelude.{◌≡◌, ◌+◌, ◌*◌, ◌≤◌, ◌<◌, ◌^◌};
+ghost use Rattle.std.specs.Option.{SomeIff};
+ghost use Rattle.qed_model.specs.Weave.Bounds.{cost_of, end_bound};
+ghost use Rattle.qed_model.specs.Weave.LeanBounds.{check_bound, period as period_of, bounds_of};
+ghost use Rattle.qed_model.specs.Weave.Pieces.{piece_count};
+ghost use Rattle.bound_calc.specs.Fitting.{fitting, AreSmall};
+
+use crate::steps::{end, fitting, round};
+use qed_model::{Bounds, Shape};
+
+/// The check.
+fn check(shape: &Shape) -> Option<u64>
+    requires { 1 ≤ shape.now.round }
+    ensures { result ≡ fitting (check_bound shape.now.words shape.now.ranges shape.now.round) }
+{
+    let round = round(shape)?;
+    fitting(44 + u128::from(round))
+}
+
+/// The longest piece, with a check before it and the leave.
+fn piece(shape: &Shape, check: u64) -> Option<u64>
+    ensures { result ≡ fitting (24 + check + cost_of shape.now.diverse * shape.now.inst_max) }
+{
+    let cost: u128 = if shape.diverse { 8 } else { 5 };
+    fitting(24 + cost * u128::from(shape.inst_max) + u128::from(check))
+}
+
+/// The checks in which all words are visited, and one more.
+fn checks(words: u64, round: u64) -> u128
+    requires some { 1 ≤ words }
+    requires visits { 1 ≤ round }
+    ensures value { result ≡ piece_count round words + 1 }
+    ensures low { result ≤ 2 ^ 64 }
+{
+    (u128::from(words) + u128::from(round) - 1) / u128::from(round) + 1
+}
+
+/// The bounds of an output in the lean form with `every` steps from check to check, in steps. None exactly where one of them is
+/// 2^64 or above.
+pub fn lean_bounds(shape: &Shape, every: u64) -> Option<Bounds>
+    requires { 1 ≤ shape.now.round }
+    ensures { SomeIff result (AreSmall (bounds_of shape.now every)) (bounds_of shape.now every) }
+{
+    let check = check(shape)?;
+    let piece = piece(shape, check)?;
+    let start = fitting(31 + end(shape))?;
+    let period = fitting(u128::from(check) + u128::from(every) + 2)?;
+    let register = fitting(36 + u128::from(start) + u128::from(period))?;
+    if shape.words == 0 {
+        return Some(Bounds {
+            piece,
+            register,
+            word: None,
+            start,
+        });
+    }
+    let checks = fitting(checks(shape.words, shape.round))?;
+    let word = fitting(36 + u128::from(start) + u128::from(checks) * u128::from(period))?;
+    Some(Bounds {
+        piece,
+        register,
+        word: Some(word),
+        start,
+    })
+}
