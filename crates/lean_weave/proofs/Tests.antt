@@ -37,7 +37,7 @@ use Rattle.weave_core.proofs.FilesFit.{loaded_ranges}
 use Rattle.weave_core.proofs.Marks.{Ascend, code_distinct, entry_or_stub}
 use Rattle.weave_core.proofs.PlacingForm.{length-instructions, mark_behind, rows_behind}
 use Rattle.lockstep.proofs.Closing.{only_inside}
-use Rattle.lean_weave.specs.Tests.{IsLeanTest, LeanTestsKept, LeanTestsCaught, LeanTestsClean, AreLeanBlocks, LeanTestsHaveWords}
+use Rattle.lean_weave.specs.Tests.{IsLeanTest, LeanTestsKept, LeanTestsCaught, LeanTestsClean, AreLeanBlocks, LeanTestsHaveWords, LeanTestsWritable}
 use Rattle.lean_weave.specs.Woven.{LeanIn, LeanPlan, weave_of}
 use Rattle.lean_weave.proofs.Ways.{reads_behind}
 use Rattle.lean_weave.proofs.Blocks.{begun, begins, length_is, leading, starts, steps, counted, in_order, all_good}
@@ -56,7 +56,9 @@ use Rattle.qed_model.proofs.Reach.{has_word}
 use Rattle.weave_core.proofs.TestWords.{down, up, both_all, if_all, near, AllPieces, IsKnownBlock, InImage}
 use Rattle.lean_weave.proofs.Near.{check_near, begin_near, tick_near, leave_near, before_near}
 use Rattle.weave_core.proofs.FileOfItems as of
+use Rattle.weave_core.proofs.FilesFit.{admitted_image}
 use Rattle.weave_core.proofs.TestKnown as there
+use Rattle.weave_core.proofs.TestWritable.{test_writable}
 use Rattle.weave_core.proofs.TestWords as words
 
 module _ (f : ElfFile) (o : Options) (every : ℕ) (blocks : List Block) (t : AreLeanBlocks f o every blocks) where
@@ -356,3 +358,9 @@ tests_clean f o every blocks words t swept reached aims =
 
 pub tests_have_words : LeanTestsHaveWords
 tests_have_words f o every blocks t size = have_words f o every blocks t size
+
+pub tests_writable : LeanTestsWritable
+tests_writable f o every blocks words u segments size =
+    let t = u.cut in
+    test_writable f o.half true (rows_from false (code_place o.half (image_of f)) (lean_items f o every blocks)) (bytes_of words) (admitted_image f o t.sound t.file.loads t.admitted) t.file.apart t.file.read
+    (of.are_placed f o t.sound t.file.loads t.admitted blocks t.are false true (lean_items f o every blocks) words (are_items f o every blocks t words u)) segments (omega (arith, size))

@@ -1,7 +1,9 @@
 -- The lean form of a test: its words and its file, and the promises over them.
-use Rattle.std.specs.Prelude.{◌≡◌, ℕ, ◌+◌, ◌^◌, ◌<◌, ◌≤◌, Bool, true, false, Some, List, slice_index}
+use Rattle.std.specs.Prelude.{◌≡◌, ℕ, ◌+◌, ◌^◌, ◌<◌, ◌≤◌, Bool, true, false, Some, List, length, slice_index}
 use Rattle.elf_types.specs.declared.file.ElfFile.{ElfFile}
 use Rattle.elf_types.specs.declared.output.OutFile.{OutFile}
+use Rattle.qed_model.specs.declared.limits.Limit.TheVariants as limit
+use Rattle.qed_model.specs.Limits.{limit_of}
 use Rattle.qed_model.specs.declared.limits.TheConstants.{MAX_NEAR_CODE_BYTES}
 use Rattle.qed_model.specs.declared.options.Options.{Options}
 use Rattle.qed_model.specs.Numbers.{bytes_of}
@@ -9,6 +11,7 @@ use Rattle.qed_model.specs.Admission.DataRanges.{data_ranges}
 use Rattle.qed_model.specs.Admission.Reached.{AreReached}
 use Rattle.qed_model.specs.Admission.Refusals.{IsAdmitted}
 use Rattle.qed_model.specs.Elf.FileRead.{file_read}
+use Rattle.qed_model.specs.Elf.Layout.{written, IsWritable}
 use Rattle.qed_model.specs.Elf.Sound.{IsSound}
 use Rattle.qed_model.specs.Machine.Loading.{loaded_file}
 use Rattle.qed_model.specs.Promise.Caught.{Caught}
@@ -49,6 +52,13 @@ abbrev pub LeanTestsHaveWords : Type 0
 LeanTestsHaveWords =
     (f : ElfFile) (o : Options) (every : ℕ) (blocks : List Block) → AreLeanBlocks f o every blocks → sum_of_sizes false (lean_items f o every blocks) ≤ MAX_NEAR_CODE_BYTES
     → (words : List ℕ) × IsLeanTest f o every blocks words
+
+-- within the limits the output can be written
+abbrev pub LeanTestsWritable : Type 0
+LeanTestsWritable =
+    (f : ElfFile) (o : Options) (every : ℕ) (blocks : List Block) (words : List ℕ) → IsLeanTest f o every blocks words
+    → length (lean_file f o every blocks words).segments ≤ limit_of limit.OutputSegments → length (written (lean_file f o every blocks words)) ≤ limit_of limit.OutputBytes
+    → IsWritable (lean_file f o every blocks words)
 
 -- the output keeps the input's values
 abbrev pub LeanTestsKept : Type 0

@@ -3,7 +3,7 @@
 //! Definitions and laws alone. No program weaves it yet.
 #![tactic(auto)]
 
-ghost use Rattle.lean_weave.specs.Tests.{LeanTestsHaveWords, LeanTestsKept, LeanTestsCaught, LeanTestsClean};
+ghost use Rattle.lean_weave.specs.Tests.{LeanTestsHaveWords, LeanTestsWritable, LeanTestsKept, LeanTestsCaught, LeanTestsClean};
 ghost use Rattle.lean_weave.specs.Woven.{LeanKept, LeanCaught, LeanClean};
 
 /// A plan of the form keeps the input's values, with a bound on the steps of the output for each step of the input, and no check
@@ -25,6 +25,11 @@ pub fn lean_clean()
 /// The lean form of an admitted test has words, where it has no more bytes than a JAL spans.
 pub fn lean_tests_have_words()
     ensures { LeanTestsHaveWords }
+{}
+
+/// Within the limits its file can be written.
+pub fn lean_tests_writable()
+    ensures { LeanTestsWritable }
 {}
 
 /// Then it keeps the test's values.

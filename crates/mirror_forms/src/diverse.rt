@@ -17,7 +17,7 @@ pub struct Diverse;
 impl Pass for Diverse {
     ghost use Rattle.std.specs.Prelude.{◌-◌, []};
     ghost use Rattle.weave_core.specs.Blocks.{FitsPiece};
-    ghost use Rattle.weave_core.specs.Rows.{spent};
+    ghost use Rattle.qed_model.specs.Weave.Costs.{spent};
     ghost use Rattle.qed_model.specs.Machine.Step.{step};
     ghost use Rattle.qed_model.specs.Weave.Diverse.{diverse};
     ghost use Rattle.passes.specs.Pass.{Does, same};

@@ -28,7 +28,7 @@ module _ (f : ElfFile) (o : Options) (sound : AreSoundOptions o) (loads : AreLoa
   few_words ns all = ⊎_elim (λ x. absurd (admitted.words (length ns) (record { addresses = ns; all = all; count = refl; over = x }))) (λ x. x) (cases_lt 1_048_576 (length ns))
 
   -- so all blocks together have few instructions and pieces
-  few : weight blocks ≤ 5_242_880
+  pub few : weight blocks ≤ 5_242_880
   few =
       let there = addresses_there f in
       let words = few_words there.0 there.1 in

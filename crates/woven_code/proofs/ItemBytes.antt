@@ -41,22 +41,22 @@ module _ (far : Bool) where
   abbrev size : List Item → ℕ
   size items = sum_of_sizes far items
 
-  cond_small : (b : Bool) (xs ys : List Item) (n : ℕ) → size xs ≤ n → size ys ≤ n → size (cond b xs ys) ≤ n
+  pub cond_small : (b : Bool) (xs ys : List Item) (n : ℕ) → size xs ≤ n → size ys ≤ n → size (cond b xs ys) ≤ n
   cond_small true xs ys n h k = h
   cond_small false xs ys n h k = k
 
   -- ---- checks
-  guard_small : (r : ℕ) → size (guard r) ≤ 8
+  pub guard_small : (r : ℕ) → size (guard r) ≤ 8
   guard_small r = cond_small (r == 0) [] (Plain (ins Beq 0 r (r + 16) (pos 8)) ∷ fired_check ∷ []) 8 (omega arith) (omega arith)
 
-  guards_small : (i : Ins) → size (guards_of i) ≤ 16
+  pub guards_small : (i : Ins) → size (guards_of i) ≤ 16
   guards_small i =
       let a = guard_small i.rs1 in
       let b = cond_small (i.rs2 == i.rs1) [] (guard i.rs2) 8 (omega arith) (guard_small i.rs2) in
       omega (arith, a, b, size-append far (guard i.rs1) (cond (i.rs2 == i.rs1) [] (guard i.rs2)))
 
   -- ---- both parts of an instruction
-  original_small : (i : Ins) (at : ℕ) → size (original i at) ≤ 28
+  pub original_small : (i : Ins) (at : ℕ) → size (original i at) ≤ 28
   original_small i at = cond_small (is_auipc i.kind) (Constant i.rd (target i at) ∷ []) (original_as (class_of i.kind) i at) 28 (omega arith) (by (class_of i.kind)) where
     by : (c : Class) → size (original_as c i at) ≤ 28
     by class.Load = omega (arith, guard_small i.rs1, size-append far (guard i.rs1) (Plain i ∷ []))
@@ -85,7 +85,7 @@ module _ (far : Bool) where
   mirror_small true i at = diverse_small i at
   mirror_small false i at = mirrored_small i at
 
-  each_small : (part : Ins → ℕ → List Item) → ((i : Ins) (at : ℕ) → size (part i at) ≤ 28) → (is : List Ins) (at : ℕ) → size (each_part part is at) ≤ 28 * length is
+  pub each_small : (part : Ins → ℕ → List Item) → ((i : Ins) (at : ℕ) → size (part i at) ≤ 28) → (is : List Ins) (at : ℕ) → size (each_part part is at) ≤ 28 * length is
   each_small part h [] at = omega arith
   each_small part h (i ∷ is) at = omega (arith, size-append far (part i at) (each_part part is (at + 4)), h i at, each_small part h is (at + 4))
 
@@ -104,7 +104,7 @@ module _ (far : Bool) where
   times_size (suc n) is = omega (arith, size-append far is (times n is), times_size n is, suc-mul n (size is))
 
   -- 1024 times 24 bytes and 20 for each range
-  visit_small : (n : ℕ) (rs : List (ℕ × ℕ)) → n ≤ 1024 → length rs ≤ 67_108_864 → size (visit n rs) ≤ 1_374_389_559_296
+  pub visit_small : (n : ℕ) (rs : List (ℕ × ℕ)) → n ≤ 1024 → length rs ≤ 67_108_864 → size (visit n rs) ≤ 1_374_389_559_296
   visit_small n rs h k =
       let w = word_small rs in
       let one : size (visit_word rs) ≤ 1_342_177_304 = omega (arith, w, k) in
@@ -116,7 +116,7 @@ module _ (far : Bool) where
   sweep_size (r ∷ rs) = omega (arith, size-append far (sweep_range r) (sweep rs), sweep_size rs)
 
   -- ---- the leave
-  links_small : (i : Ins) (at : ℕ) → size (links i at) ≤ 16
+  pub links_small : (i : Ins) (at : ℕ) → size (links i at) ≤ 16
   links_small i at = cond_small (i.rd == 0) [] (Constant i.rd ((at + 4) % 2 ^ 64) ∷ Constant (pair i.rd) ((at + 4) % 2 ^ 64) ∷ []) 16 (omega arith) (omega arith)
 
   -- ---- what runs first
@@ -147,7 +147,7 @@ module _ (form : Form) (mirror : (i : Ins) (at : ℕ) → sum_of_sizes form.far 
       omega (arith, size-append form.far (piece form p at) (pieces_of (sequences form) ps (at + 4 * length p)), piece_small p at, pieces_small ps (at + 4 * length p))
 
   -- the sweep has 44 bytes for each range
-  end_small : bytes (before_end form) ≤ 2_952_790_120
+  pub end_small : bytes (before_end form) ≤ 2_952_790_120
   end_small = cond_small form.far form.sweep (sweep form.spans ++ compare) [] 2_952_790_120 (omega (arith, size-append form.far (sweep form.spans) compare, sweep_size form.far form.spans, spans)) (omega arith)
 
   leave_small : (c : Class) (i : Ins) (at : ℕ) → bytes (leave_as form c i at) ≤ 2_952_790_124

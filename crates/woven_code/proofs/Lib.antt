@@ -7,3 +7,4 @@ pub mod DataWords
 mod CodeBytes
 mod Forms
 mod Results
+pub mod LeanBytes
