@@ -118,8 +118,8 @@ module _ (f : ElfFile) (o : Options) (every : ℕ) (t : Test) (blocks : List Cod
     counted_too count e h = record {
       bytes = h.bytes ∙ ap (λ b. capped (sum_of_sizes b (of_test x))) e ∙ ap capped same_size ∙ ap (λ b. capped (sum_of_sizes b (of_test y))) (sym e);
       marks = λ small.
-      let less : sum_of_sizes count.far (of_test x) < 2 ^ 64 - 1 = subst (λ b. sum_of_sizes b (of_test x) < 2 ^ 64 - 1) (sym e) (let l : sum_of_sizes false (of_test y) < 2 ^ 64 - 1 = subst (λ b. sum_of_sizes b (of_test y) < 2 ^ 64 - 1) e small in omega (arith, l, same_size)) in
-      h.marks less ∙ ap (λ b. rows_from b 0 (of_test x)) e ∙ same_rows 0 ∙ ap (λ b. rows_from b 0 (of_test y)) (sym e);
+          let less : sum_of_sizes count.far (of_test x) < 2 ^ 64 - 1 = subst (λ b. sum_of_sizes b (of_test x) < 2 ^ 64 - 1) (sym e) (let l : sum_of_sizes false (of_test y) < 2 ^ 64 - 1 = subst (λ b. sum_of_sizes b (of_test y) < 2 ^ 64 - 1) e small in omega (arith, l, same_size)) in
+          h.marks less ∙ ap (λ b. rows_from b 0 (of_test x)) e ∙ same_rows 0 ∙ ap (λ b. rows_from b 0 (of_test y)) (sym e);
     }
 
   -- ---- the items with their entries

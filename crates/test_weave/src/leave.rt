@@ -33,7 +33,12 @@ impl Weaver {
     }
 
     /// Appends the leave of a block whose end stands at an input address, or which falls to that address.
-    pub(crate) fn leave_at(&self, end: &Option<Ins>, at: u64, out: &mut Emit) -> Result<(), AllocError>
+    pub(crate) fn leave_at(
+        &self,
+        end: &Option<Ins>,
+        at: u64,
+        out: &mut Emit,
+    ) -> Result<(), AllocError>
         requires { FitsEnd end.now }
         ensures { OnOk result (out.new ≡ out.old ++ leave_of (form self.now) (end_of end.now) at) }
     {

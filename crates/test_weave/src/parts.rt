@@ -33,7 +33,12 @@ impl Weaver {
     }
 
     /// Appends a piece whose first instruction stands at an input address.
-    pub(crate) fn woven_piece(&self, list: &[Ins], at: u64, out: &mut Emit) -> Result<(), AllocError>
+    pub(crate) fn woven_piece(
+        &self,
+        list: &[Ins],
+        at: u64,
+        out: &mut Emit,
+    ) -> Result<(), AllocError>
         requires fits { AllFit list.now }
         requires low { at + 4 * length list.now < 2 ^ 64 }
         ensures { OnOk result (out.new ≡ out.old ++ piece_of (form self.now) list.now at) }
