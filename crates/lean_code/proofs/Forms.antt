@@ -1,5 +1,5 @@
 -- The lean form of a test: its items are those of its file, they can be linked where they are few, and what is linked is its code.
-use Rattle.std.proofs.Common.{◌≡◌, ⊎_elim, ℕ, ◌+◌, ◌-◌, ◌*◌, ◌%◌, ◌^◌, ◌<◌, ◌≤◌, Bool, true, false, List, [], ◌∷◌, ◌++◌, length, map, refl, sym, ap, ◌∙◌, subst, arith, append_assoc}
+use Rattle.std.proofs.Common.{◌≡◌, ℕ, ◌+◌, ◌-◌, ◌^◌, ◌<◌, ◌≤◌, false, List, [], ◌++◌, map, sym, ap, ◌∙◌, subst, arith, append_assoc}
 use Rattle.std.specs.Prelude.{All, AllPairs, Result, Ok, Err, IfOk, IfErr, get_or}
 use Rattle.std.specs.List.{list_all}
 use Rattle.std.proofs.Math.ListN.{get_or-map, length-map}
@@ -7,28 +7,26 @@ use Rattle.std.proofs.lemmas.List.{append-nil}
 use Rattle.elf_types.specs.declared.file.ElfFile.{ElfFile}
 use Rattle.qed_model.specs.declared.item.Item.{Item}
 use Rattle.qed_model.specs.declared.options.Options.{Options}
-use Rattle.qed_model.specs.declared.plan.EntryRow.{EntryRow}
 use Rattle.qed_model.specs.declared.test.Test.{Test}
 use Rattle.qed_model.specs.Weave.Blocks.{begins_at}
 use Rattle.qed_model.specs.Weave.Code.{Sequences, entries_of}
 use Rattle.qed_model.specs.Weave.OutputParts.{base_of}
 use Rattle.qed_model.specs.Weave.Placed.{sum_of_sizes, rows_from, placed, leads_to, Decode, EntriesAscend}
 use Rattle.qed_model.specs.Weave.Places.{image_of, half_of, code_place}
-use Rattle.qed_model.specs.Weave.Sequences.{Form, Block, stub}
+use Rattle.qed_model.specs.Weave.Sequences.{Block, stub}
 use Rattle.qed_model.specs.Weave.Forms.{form_of}
-use Rattle.qed_model.specs.Weave.LeanCode.{lean_of, lean_items, items_with as file_items, steps_at, start_at, Lean, worded}
+use Rattle.qed_model.specs.Weave.LeanCode.{lean_of, lean_items, items_with as file_items, steps_at, start_at, worded}
 use Rattle.qed_model.proofs.PlacedWords.{size-append, entry_inside}
 use Rattle.weave_core.proofs.TestKnown as there
 use Rattle.block_list.specs.declared.block.CodeBlock.{CodeBlock}
 use Rattle.block_list.specs.Listed.{block_of}
-use Rattle.plc_rounds.specs.Spans.{spans_of}
 use Rattle.relinker.specs.declared.count.Count.{Count}
 use Rattle.relinker.specs.declared.error.LinkError.{LinkError}
 use Rattle.relinker.specs.declared.error.LinkError.TheVariants as error
 use Rattle.relinker.specs.declared.layout.Layout.{Layout}
 use Rattle.relinker.specs.declared.layout.Linked.{Linked}
 use Rattle.relinker.specs.Counted.{capped, HasCounted}
-use Rattle.relinker.specs.Laid.{IsLaid, IsLaidIn, IsLinked, HasCause as HasCountCause}
+use Rattle.relinker.specs.Laid.{IsLaid, IsLinked, HasCause as HasCountCause}
 use Rattle.relinker.specs.Link.{is_encoded, most_bytes, IsLinkable}
 use Rattle.relinker.proofs.Joining.{parts_join}
 use Rattle.relinker.proofs.Linkable.{decoded, ascending}
@@ -36,7 +34,6 @@ use Rattle.test_weave.specs.Form.{form_with, parts_to_stub}
 use Rattle.test_weave.specs.Fits.{FitsBlock}
 use Rattle.test_weave.proofs.AdmittedFit.{blocks_fit}
 use Rattle.test_weave.proofs.WholeCode.{spans_are}
-use Rattle.lean_weave.specs.Tests.{IsLeanTest}
 use Rattle.lean_weave.proofs.Short.{few_steps}
 use Rattle.lean_weave.proofs.Tests.{tests_have_words, are_items}
 use Rattle.lean_weave.proofs.Unmarked.{code_rows, code_size}

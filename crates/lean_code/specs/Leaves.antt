@@ -1,5 +1,5 @@
 -- The parts of leaves, and the addresses to which the signature turns.
-use Rattle.std.specs.Prelude.{◌≡◌, ℕ, ◌+◌, ◌-◌, ◌%◌, ◌^◌, Bool, cond, List, [], ◌∷◌, ◌++◌, pos, neg_ℤ, ◌≤ℤ◌}
+use Rattle.std.specs.Prelude.{ℕ, ◌+◌, ◌-◌, ◌%◌, ◌^◌, Bool, cond, List, [], ◌∷◌, ◌++◌, pos, neg_ℤ, ◌≤ℤ◌}
 use Rattle.rv_isa.specs.declared.kind.Kind.TheVariants.{Add, Addi, Andi, Sub}
 use Rattle.rv_isa.specs.declared.ins.Ins.{Ins}
 use Rattle.rv_isa.specs.declared.class.Class.{Class}

@@ -19,12 +19,12 @@ use Rattle.qed_model.specs.Machine.Table.{ins}
 use Rattle.qed_model.specs.Weave.Blocks.{AreBlocks, begins_at}
 use Rattle.qed_model.specs.Weave.Code.{Sequences, block_items, entries_of, pieces_of}
 use Rattle.qed_model.specs.Weave.Forms.{mirror_of, form_of}
-use Rattle.qed_model.specs.Weave.Lean.{is_short, turn_by, turn, goes, look_up, first_word, done, check, check_sign, opposite, leave, leave_as}
+use Rattle.qed_model.specs.Weave.Lean.{is_short, turn_by, turn, goes, look_up, first_word, done, check, opposite, leave, leave_as}
 use Rattle.qed_model.specs.Weave.LeanCode.{Lean, worded, fall_words, lean_of, items_with, lean_items}
 use Rattle.qed_model.specs.Weave.OutputParts.{base_of}
 use Rattle.qed_model.specs.Weave.Placed.{distance_between, sum_of_sizes, entry_of}
 use Rattle.qed_model.specs.Weave.Places.{AreSoundOptions, image_of, half_of, code_place}
-use Rattle.qed_model.specs.Weave.Sequences.{Form, Block, End, Falls, Stops, body_length, original, each_part, guard, guards_of, compare, links, before_end, visit, stub}
+use Rattle.qed_model.specs.Weave.Sequences.{Form, Block, End, Falls, Stops, body_length, original, each_part, guard, guards_of, links, before_end, visit, stub}
 use Rattle.qed_model.proofs.PlacedWords.{size-append}
 use Rattle.woven_code.proofs.BlockCount.{weight}
 use Rattle.woven_code.proofs.CodeBytes.{few}

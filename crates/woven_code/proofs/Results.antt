@@ -1,5 +1,5 @@
 -- What the code in the form that is taken says of each test that it is made of.
-use Rattle.std.proofs.Common.{◌≡◌, ℕ, Bool, List, map, ap}
+use Rattle.std.proofs.Common.{◌≡◌, Bool, List, map, ap}
 use Rattle.std.specs.Prelude.{Result, Ok, Err, IfOk, IfErr}
 use Rattle.elf_types.specs.declared.file.ElfFile.{ElfFile}
 use Rattle.qed_model.specs.declared.options.Options.{Options}

@@ -1,12 +1,11 @@
-use Rattle.std.proofs.Common.{◌≡◌, ℕ, Bool, false, List, [], ◌++◌, map, ap, subst, sym}
-use Rattle.std.proofs.lemmas.List.{append-nil}
+use Rattle.std.proofs.Common.{◌≡◌, false, [], map, ap, subst}
 use Rattle.block_list.specs.Listed.{block_of}
 use Rattle.qed_model.specs.Weave.Placed.{leads_to}
 use Rattle.relinker.specs.Counted.{HasCounted}
 use Rattle.test_weave.specs.Form.{parts_to_stub}
 use Rattle.lean_code.specs.Form.{code_of}
 use Rattle.lean_code.specs.Code.{items_with}
-use Rattle.lean_code.proofs.Forms.{blocks_ascend, few_every, fit, half_small, place_small, counted_too}
+use Rattle.lean_code.proofs.Forms.{blocks_ascend, few_every, fit, counted_too}
 use Rattle.lean_code.proofs.Owned.{owned}
 use Rattle.lean_code.proofs.code.counted.Goals as goal
 

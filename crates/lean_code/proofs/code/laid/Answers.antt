@@ -1,4 +1,4 @@
-use Rattle.std.proofs.Common.{ℕ, map}
+use Rattle.std.proofs.Common.{map}
 use Rattle.block_list.specs.Listed.{block_of}
 use Rattle.lean_code.specs.Code.{items_with}
 use Rattle.lean_code.proofs.Forms.{if_laid, if_not_laid}

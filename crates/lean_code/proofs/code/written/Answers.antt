@@ -1,5 +1,4 @@
-use Rattle.std.proofs.Common.{◌≡◌, ◌+◌, ◌^◌, ◌<◌, ℕ, List, [], ◌++◌, length, map, refl, sym, ap, ◌∙◌, subst}
-use Rattle.elf_types.specs.declared.file.ElfFile.{ElfFile}
+use Rattle.std.proofs.Common.{◌≡◌, ◌+◌, ◌^◌, ◌<◌, ℕ, [], map, refl, sym, ap, ◌∙◌, subst}
 use Rattle.qed_model.specs.Weave.Placed.{leads_to, EntriesAscend}
 use Rattle.block_list.specs.Listed.{block_of}
 use Rattle.test_weave.specs.Form.{parts_to_stub}
