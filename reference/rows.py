@@ -85,10 +85,10 @@ def _key(name: str) -> str:
 
 def _options(options: Options) -> str:
     """The options of the weave."""
-    half = "None" if options.half is None else f"Some({options.half})"
+    half, lean = ("None" if number is None else f"Some({number})" for number in (options.half, options.lean))
     return (f"Options {{ inst_min: {options.inst_min}, inst_max: {options.inst_max}, round: {options.round}, "
             f"half: {half}, sweep: {str(options.sweep).lower()}, diverse: {str(options.diverse).lower()}, "
-            f"entries: {options.entries.capitalize()} }}")
+            f"entries: {options.entries.capitalize()}, lean: {lean} }}")
 
 
 def _change(change: Change) -> str:
