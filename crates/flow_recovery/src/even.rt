@@ -1,7 +1,6 @@
 //! The addresses at which blocks begin in the lean form, so that none has more instructions than a piece.
-ghost use Rattle.std.specs.Prelude.{◌≡◌, ◌≤◌, OnOk};
+ghost use Rattle.std.specs.Prelude.{◌≡◌, OnOk};
 ghost use Rattle.std.specs.List.{list_any};
-ghost use Rattle.qed_model.specs.Weave.Places.{AreSoundOptions};
 ghost use Rattle.flow_recovery.specs.Sets.{Adds};
 ghost use Rattle.flow_recovery.specs.Words.{is_even, is_leveled};
 
@@ -10,19 +9,17 @@ use qed_model::{CodeWord, Options};
 use std::alloc::AllocError;
 
 /// Adds the address of a word, where it is a multiple of so many bytes.
-fn add_even(list: &mut Vec<u64>, size: u64, word: &CodeWord) -> Result<(), AllocError>
-    requires { 1 ≤ size }
+fn add_even(list: &mut Vec<u64>, size: u128, word: &CodeWord) -> Result<(), AllocError>
     ensures { OnOk result (Adds list.old.items list.new.items (is_even size word.now)) }
 {
-    if word.at % size == 0 {
+    if u128::from(word.at).is_multiple_of(size) {
         add(list, word.at)?;
     }
     Ok(())
 }
 
 /// Adds those of all words.
-fn add_all_even(list: &mut Vec<u64>, size: u64, words: &[CodeWord]) -> Result<(), AllocError>
-    requires { 1 ≤ size }
+fn add_all_even(list: &mut Vec<u64>, size: u128, words: &[CodeWord]) -> Result<(), AllocError>
     ensures { OnOk result (Adds list.old.items list.new.items (λ a. list_any (λ c. is_even size c a) words.now)) }
 {
     for word in words {
@@ -37,11 +34,10 @@ pub fn add_leveled(
     words: &[CodeWord],
     options: &Options,
 ) -> Result<(), AllocError>
-    requires { AreSoundOptions options.now }
     ensures { OnOk result (Adds list.old.items list.new.items (is_leveled options.now words.now)) }
 {
     if options.lean.is_some() {
-        add_all_even(list, 4 * options.inst_max, words)?;
+        add_all_even(list, 4 * u128::from(options.inst_max), words)?;
     }
     Ok(())
 }

@@ -5,7 +5,6 @@ ghost use Rattle.rv_isa.specs.Kind.{class_of};
 ghost use Rattle.elf_types.specs.declared.file.ElfFile.{ElfFile};
 ghost use Rattle.qed_model.specs.Admission.Leaders.{is_indirect, HasIndirect};
 ghost use Rattle.qed_model.specs.Admission.Test.{AreCodeWords, IsTestOf};
-ghost use Rattle.qed_model.specs.Weave.Places.{AreSoundOptions};
 ghost use Rattle.flow_recovery.specs.Sets.{lists, Adds, from_on, is_first};
 ghost use Rattle.flow_recovery.specs.Words.{is_begun, is_chosen, is_entered, of_code};
 ghost use Rattle.flow_recovery.specs.Leaders.{AreLeaders};
@@ -120,8 +119,7 @@ pub fn leaders(
     file: &ElfFile,
     options: &Options,
 ) -> Result<Vec<u64>, AllocError>
-    requires test { IsTestOf file.now options.now test.now }
-    requires sound { AreSoundOptions options.now }
+    requires { IsTestOf file.now options.now test.now }
     ensures { IfOk result (λ leaders. AreLeaders file.now options.now test.now.code leaders.items) }
 {
     let words = test.code.as_slice();

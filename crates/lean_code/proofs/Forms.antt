@@ -7,6 +7,7 @@ use Rattle.std.proofs.lemmas.List.{append-nil}
 use Rattle.elf_types.specs.declared.file.ElfFile.{ElfFile}
 use Rattle.qed_model.specs.declared.item.Item.{Item}
 use Rattle.qed_model.specs.declared.options.Options.{Options}
+use Rattle.qed_model.specs.declared.plan.EntryRow.{EntryRow}
 use Rattle.qed_model.specs.declared.test.Test.{Test}
 use Rattle.qed_model.specs.Weave.Blocks.{begins_at}
 use Rattle.qed_model.specs.Weave.Code.{Sequences, entries_of}
@@ -38,7 +39,9 @@ use Rattle.lean_weave.proofs.Short.{few_steps}
 use Rattle.lean_weave.proofs.Tests.{tests_have_words, are_items}
 use Rattle.lean_weave.proofs.Unmarked.{code_rows, code_size}
 use Rattle.lean_code.specs.declared.weaver.LeanWeaver.{LeanWeaver}
-use Rattle.lean_code.specs.Code.{place_of, lean_with, code_with, items_with, placed_at, IsLeanCut, IsLaidOut, IsLeanCodeOf, HasCause}
+use Rattle.woven_code.specs.Code.{place_of}
+use Rattle.woven_code.proofs.LeanBytes.{few_lean_bytes}
+use Rattle.lean_code.specs.Code.{lean_with, code_with, items_with, placed_at, IsLeanCut, IsLaidOut, IsLeanCodeOf, HasCause}
 use Rattle.lean_code.specs.Form.{code_of}
 
 module _ (f : ElfFile) (o : Options) (every : ℕ) (t : Test) (blocks : List CodeBlock) (c : IsLeanCut f o every t blocks) where
@@ -154,7 +157,7 @@ module _ (f : ElfFile) (o : Options) (every : ℕ) (t : Test) (blocks : List Cod
     cause (error.TooLarge n) k =
         let e = bytes_are in
         let over : 1048576 < n = subst (λ b. most_bytes b < n) near k.1 in
-        (omega (arith, k.0, e, size own), over)
+        (omega (arith, k.0, e, size own, few_lean_bytes f o c.cut.sound c.cut.file.loads c.cut.admitted bs c.cut.are every), over)
     cause error.Memory k = tt
 
   -- ---- the layout knows the entries
@@ -173,24 +176,8 @@ module _ (f : ElfFile) (o : Options) (every : ℕ) (t : Test) (blocks : List Cod
         let b = l.base in
         omega (arith, e, b, place, same_size own (λ a. 0), size (λ a. 0))
 
-    pub entries_are : leads_to layout.entries.items layout.last ≡ own
+    entries_are : leads_to layout.entries.items layout.last ≡ own
     entries_are = ap (λ r. leads_to r layout.last) rows_are ∙ ap (leads_to (rows_from false at (of_file (λ a. 0)))) last_is
-
-    pub low : (a : ℕ) → leads_to layout.entries.items layout.last a + 8 < 2 ^ 64
-    low a =
-        let grain = (there.bounds f o c.cut.sound c.cut.file.loads c.cut.admitted bs c.cut.are).0 in
-        let inside = entry_inside false at (of_file (λ a. 0)) a (omega (arith, grain)) (omega (arith, size (λ a. 0))) in
-        let is : leads_to layout.entries.items layout.last a ≡ own a = ap (λ (e : ℕ → ℕ). e a) entries_are in
-        let high = inside.high in
-        let few = l.few in
-        omega (arith, is, high, few, size own, size (λ a. 0), same_size own (λ a. 0), place_small, place)
-
-    -- so its weaver hands on the items
-    pub handed : (w : LeanWeaver) → code_of w ≡ code_with t o every bs (leads_to layout.entries.items layout.last) → parts_to_stub (code_of w) t.distance t.entry bs ≡ items
-    handed w e = ap (λ s. parts_to_stub s t.distance t.entry bs) (e ∙ ap (code_with t o every bs) entries_are)
-
-    pub come : (w : LeanWeaver) → code_of w ≡ code_with t o every bs (leads_to layout.entries.items layout.last) → IsLaid layout [] (parts_to_stub (code_of w) t.distance t.entry bs ++ [])
-    come w e = subst (IsLaid layout []) (sym (append-nil (parts_to_stub (code_of w) t.distance t.entry bs) ∙ handed w e)) l.laid
 
     -- and what is linked is the code
     linked_is : (linked : Linked) → IsLinked layout.far layout.base items linked → IsLeanCodeOf f o every blocks linked
@@ -203,13 +190,39 @@ module _ (f : ElfFile) (o : Options) (every : ℕ) (t : Test) (blocks : List Cod
           few = l.few;
         }
 
-    pub written :
-        (w : LeanWeaver) → code_of w ≡ code_with t o every bs (leads_to layout.entries.items layout.last) → (last : Layout) (linked : Linked) → last.far ≡ layout.far → last.base ≡ layout.base
-        → IsLinked last.far last.base (parts_to_stub (code_of w) t.distance t.entry bs) linked → IsLeanCodeOf f o every blocks linked
-    written w e last linked far base k =
-        linked_is linked
-        (subst (λ is. IsLinked layout.far layout.base is linked) (handed w e)
-        (subst (λ b. IsLinked b layout.base (parts_to_stub (code_of w) t.distance t.entry bs) linked) far (subst (λ n. IsLinked last.far n (parts_to_stub (code_of w) t.distance t.entry bs) linked) base k)))
+    -- so does who has a copy of its rows
+    module _ (copy : List EntryRow) (last : ℕ) (same_copy : copy ≡ layout.entries.items) (same_last : last ≡ layout.last) where
+      known : leads_to copy last ≡ own
+      known = ap (λ r. leads_to r last) same_copy ∙ ap (leads_to layout.entries.items) same_last ∙ entries_are
+
+      pub ascend : EntriesAscend copy
+      ascend = subst EntriesAscend (sym same_copy) l.laid.ascend
+
+      pub low : (a : ℕ) → leads_to copy last a + 8 < 2 ^ 64
+      low a =
+          let grain = (there.bounds f o c.cut.sound c.cut.file.loads c.cut.admitted bs c.cut.are).0 in
+          let inside = entry_inside false at (of_file (λ a. 0)) a (omega (arith, grain)) (omega (arith, size (λ a. 0))) in
+          let is : leads_to copy last a ≡ own a = ap (λ (e : ℕ → ℕ). e a) known in
+          let high = inside.high in
+          let few = l.few in
+          omega (arith, is, high, few, size own, size (λ a. 0), same_size own (λ a. 0), place_small, place)
+
+      -- and its weaver hands on the items
+      module _ (w : LeanWeaver) (code : code_of w ≡ code_with t o every bs (leads_to copy last)) where
+        abbrev parts : List Item
+        parts = parts_to_stub (code_of w) t.distance t.entry bs
+
+        handed : parts ≡ items
+        handed = ap (λ s. parts_to_stub s t.distance t.entry bs) (code ∙ ap (code_with t o every bs) known)
+
+        pub come : IsLaid layout [] (parts ++ [])
+        come = subst (IsLaid layout []) (sym (append-nil parts ∙ handed)) l.laid
+
+        pub written : (filled : Layout) (linked : Linked) → filled.far ≡ layout.far → filled.base ≡ layout.base → IsLinked filled.far filled.base parts linked → IsLeanCodeOf f o every blocks linked
+        written filled linked far base k =
+            linked_is linked
+            (subst (λ is. IsLinked layout.far layout.base is linked) handed
+            (subst (λ b. IsLinked b layout.base parts linked) far (subst (λ n. IsLinked filled.far n parts linked) base k)))
 
 -- ---- what the layout of the count is, and why there is none
 module _ (o : Options) (every : ℕ) (t : Test) (blocks : List CodeBlock) (count : Count) (near : count.far ≡ false) (h : (entry : ℕ → ℕ) → HasCounted count (items_with t o every (map block_of blocks) entry)) where

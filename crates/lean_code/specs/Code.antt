@@ -1,5 +1,5 @@
 -- The lean form of a test as words.
-use Rattle.std.specs.Prelude.{◌≡◌, ℕ, ◌+◌, ◌*◌, ◌^◌, ◌<◌, ◌≤◌, false, List, [], All, map, slice_index}
+use Rattle.std.specs.Prelude.{◌≡◌, ℕ, ◌+◌, ◌^◌, ◌<◌, ◌≤◌, false, List, [], All, map, slice_index}
 use Rattle.elf_types.specs.declared.file.ElfFile.{ElfFile}
 use Rattle.qed_model.specs.declared.item.Item.{Item}
 use Rattle.qed_model.specs.declared.limits.TheConstants.{MAX_NEAR_CODE_BYTES}
@@ -19,16 +19,12 @@ use Rattle.relinker.specs.declared.error.LinkError.{LinkError}
 use Rattle.relinker.specs.declared.error.LinkError.TheVariants as error
 use Rattle.relinker.specs.declared.layout.Layout.{Layout}
 use Rattle.relinker.specs.declared.layout.Linked.{Linked}
-use Rattle.relinker.specs.Counted.{capped}
 use Rattle.relinker.specs.Laid.{IsLaid}
 use Rattle.test_weave.specs.Form.{form_with, parts_to_stub}
+use Rattle.woven_code.specs.Code.{place_of}
 use Rattle.lean_weave.specs.Tests.{AreLeanBlocks}
 
 -- ---- of a test that was admitted
--- where its new code begins
-abbrev pub place_of : Test → ℕ
-place_of t = t.base + 3 * t.distance
-
 -- what runs before the check has 124 bytes
 abbrev pub lean_with : Test → Options → ℕ → List Block → Lean
 lean_with t o every blocks = record {
@@ -62,9 +58,9 @@ pub record IsLeanCodeOf (f : ElfFile) (o : Options) (every : ℕ) (blocks : List
   pub entries : linked.entries.items ≡ rows_from false (code_place o.half (image_of f)) (lean_items f o every (map block_of blocks))
   pub few : sum_of_sizes false (lean_items f o every (map block_of blocks)) ≤ MAX_NEAR_CODE_BYTES
 
--- the lean form has so many bytes, or 2^64 and more, which are too many
+-- the lean form has so many bytes, which are too many
 abbrev pub HasCause : ElfFile → Options → ℕ → List CodeBlock → LinkError → Type 0
-HasCause f o every blocks (error.TooLarge n) = (n ≡ capped (sum_of_sizes false (lean_items f o every (map block_of blocks)))) × (MAX_NEAR_CODE_BYTES < n)
+HasCause f o every blocks (error.TooLarge n) = (n ≡ sum_of_sizes false (lean_items f o every (map block_of blocks))) × (MAX_NEAR_CODE_BYTES < n)
 HasCause f o every blocks error.Memory = Unit {0}
 
 -- where the entries are

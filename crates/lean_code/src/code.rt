@@ -4,7 +4,8 @@ ghost use Rattle.elf_types.specs.declared.file.ElfFile.{ElfFile};
 ghost use Rattle.block_list.specs.Listed.{block_of};
 ghost use Rattle.qed_model.specs.Weave.Placed.{EntriesAscend, leads_to};
 ghost use Rattle.relinker.specs.Counted.{HasCounted};
-ghost use Rattle.lean_code.specs.Code.{place_of as place_of_test, code_with, items_with, IsLeanCut, IsLaidOut, IsLeanCodeOf, HasCause};
+ghost use Rattle.woven_code.specs.Code.{place_of as place_of_test};
+ghost use Rattle.lean_code.specs.Code.{code_with, items_with, IsLeanCut, IsLaidOut, IsLeanCodeOf, HasCause};
 ghost use Rattle.lean_code.specs.Form.{code_of};
 ghost use Rattle.lean_code.specs.Passes.{is_diverse};
 
@@ -123,7 +124,7 @@ fn written(
 
 /// The lean form of a test that was admitted, with `every` steps from check to check at most.
 ///
-/// Errors: `TooLarge` exactly where it has more than 1,048,576 bytes: how many, 2^64 - 1 at most; want of memory.
+/// Errors: `TooLarge` exactly where it has more than 1,048,576 bytes: how many; want of memory.
 pub fn lean_code(
     alloc: Global,
     test: &Test,

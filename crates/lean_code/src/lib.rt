@@ -12,4 +12,3 @@ mod turn;
 mod weaver;
 
 pub use code::lean_code;
-pub use weaver::LeanWeaver;

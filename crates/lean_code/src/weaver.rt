@@ -22,7 +22,7 @@ use test_weave::Weaving;
 
 /// The passes of a piece, whose mirror parts are of the same kinds or of others.
 #[derive(Drop)]
-pub enum LeanPasses {
+pub(crate) enum LeanPasses {
     Same(Then<Each<Guarded<Original>>, Each<Mirrored>>),
     Other(Then<Each<Guarded<Original>>, Each<Diverse>>),
 }
@@ -61,7 +61,7 @@ impl LeanPasses {
 
 /// Makes the parts of the lean form of a test with these blocks.
 #[derive(Drop)]
-pub struct LeanWeaver<'a> {
+pub(crate) struct LeanWeaver<'a> {
     pub(crate) passes: LeanPasses,
     pub(crate) visits: Visit,
     pub(crate) sweeps: bool,
