@@ -11,7 +11,7 @@ use Rattle.qed_model.specs.Weave.Sequences.{Block}
 use Rattle.qed_model.specs.Elf.Layout.{written}
 use Rattle.qed_model.specs.Weave.Places.{image_of, code_place}
 use Rattle.qed_model.specs.Weave.Blocks.{AreBlocks}
-use Rattle.qed_model.specs.Weave.Woven.{is_far_code, new_items, IsNewCode, woven_file}
+use Rattle.qed_model.specs.Weave.Woven.{NewCode, new_code, IsCodeFor, file_with}
 use Rattle.elf_files.specs.Output.{Woven, WovenFile}
 use Rattle.qed_model.proofs.Tables.{encode_decode}
 use Rattle.elf_files.proofs.ReadFacts.{one_file}
@@ -35,8 +35,8 @@ same_words (x ∷ xs) (y ∷ ys) (i ∷ is) p q a b =
     ap (λ z. z ∷ xs) one ∙ ap (λ zs. y ∷ zs) (same_words xs ys is (λ k. p (suc k)) (λ k. q (suc k)) ra rb)
 
 -- a test has one file, and its blocks have one code
-pub one_new_code : (f : ElfFile) (o : Options) (blocks : List Block) (xs ys : List ℕ) → IsNewCode f o blocks xs → IsNewCode f o blocks ys → xs ≡ ys
-one_new_code f o blocks xs ys a b = same_words xs ys (placed (is_far_code f o blocks) (code_place o.half (image_of f)) (new_items f o blocks)) a.small b.small a.code b.code
+pub one_code : (c : NewCode) (f : ElfFile) (o : Options) (xs ys : List ℕ) → IsCodeFor c f o xs → IsCodeFor c f o ys → xs ≡ ys
+one_code c f o xs ys a b = same_words xs ys (placed c.far (code_place o.half (image_of f)) c.items) a.small b.small a.code b.code
 
 pub one_woven_test : (input : List ℕ) (o : Options) (a b : OutFile) → WovenFile input o a → WovenFile input o b → a ≡ b
 one_woven_test input o a b x y =
@@ -44,12 +44,12 @@ one_woven_test input o a b x y =
     let same : y.file ≡ f = one_file input y.file f y.has.read x.has.read in
     let are : AreBlocks f o y.blocks = subst (λ g. AreBlocks g o y.blocks) same y.has.are in
     let blocks : y.blocks ≡ x.blocks = blocks_only f o y.blocks x.blocks are x.has.are in
-    let there : IsNewCode f o y.blocks y.words = subst (λ g. IsNewCode g o y.blocks y.words) same y.has.code in
-    let code : IsNewCode f o x.blocks y.words = subst (λ bs. IsNewCode f o bs y.words) blocks there in
-    let words : y.words ≡ x.words = one_new_code f o x.blocks y.words x.words code x.has.code in
-    let moved : woven_file y.file o y.blocks y.words ≡ woven_file f o y.blocks y.words = ap (λ g. woven_file g o y.blocks y.words) same in
-    let kept : woven_file f o y.blocks y.words ≡ woven_file f o x.blocks y.words = ap (λ bs. woven_file f o bs y.words) blocks in
-    x.woven ∙ sym (y.woven ∙ moved ∙ kept ∙ ap (λ ws. woven_file f o x.blocks ws) words)
+    let there : IsCodeFor (new_code f o y.blocks) f o y.words = subst (λ g. IsCodeFor (new_code g o y.blocks) g o y.words) same y.has.code in
+    let code : IsCodeFor (new_code f o x.blocks) f o y.words = subst (λ bs. IsCodeFor (new_code f o bs) f o y.words) blocks there in
+    let words : y.words ≡ x.words = one_code (new_code f o x.blocks) f o y.words x.words code x.has.code in
+    let moved : file_with (new_code y.file o y.blocks) y.file o y.words ≡ file_with (new_code f o y.blocks) f o y.words = ap (λ g. file_with (new_code g o y.blocks) g o y.words) same in
+    let kept : file_with (new_code f o y.blocks) f o y.words ≡ file_with (new_code f o x.blocks) f o y.words = ap (λ bs. file_with (new_code f o bs) f o y.words) blocks in
+    x.woven ∙ sym (y.woven ∙ moved ∙ kept ∙ ap (λ ws. file_with (new_code f o x.blocks) f o ws) words)
 
 -- so it has one output
 pub one_output : (input : List ℕ) (o : Options) (a b : List ℕ) → Woven input o a → Woven input o b → a ≡ b

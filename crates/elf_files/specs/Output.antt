@@ -7,15 +7,15 @@ use Rattle.qed_model.specs.Weave.Sequences.{Block}
 use Rattle.qed_model.specs.Elf.Layout.{written}
 use Rattle.qed_model.specs.Admission.Refusals.{IsAdmitted}
 use Rattle.qed_model.specs.Weave.Blocks.{AreBlocks}
-use Rattle.qed_model.specs.Weave.Woven.{IsNewCode, woven_file}
+use Rattle.qed_model.specs.Weave.Woven.{new_code, IsCodeFor, file_with}
 use Rattle.elf_files.specs.File.{File}
 
--- the input is admitted, these are its blocks, and the words are its new code
+-- the input is admitted, these are its blocks, and the words are its new code in the form that is asked for
 pub record HasNewCode (input : List ℕ) (o : Options) (f : ElfFile) (blocks : List Block) (words : List ℕ) : Type 0 where
   pub read : File input f
   pub admitted : IsAdmitted f o
   pub are : AreBlocks f o blocks
-  pub code : IsNewCode f o blocks words
+  pub code : IsCodeFor (new_code f o blocks) f o words
 
 -- this is the file with the new code of the input
 pub record WovenFile (input : List ℕ) (o : Options) (out : OutFile) : Type 0 where
@@ -23,7 +23,7 @@ pub record WovenFile (input : List ℕ) (o : Options) (out : OutFile) : Type 0 w
   pub blocks : List Block
   pub words : List ℕ
   pub has : HasNewCode input o file blocks words
-  pub woven : out ≡ woven_file file o blocks words
+  pub woven : out ≡ file_with (new_code file o blocks) file o words
 
 -- the output is that file, written
 pub record Woven (input : List ℕ) (o : Options) (output : List ℕ) : Type 0 where

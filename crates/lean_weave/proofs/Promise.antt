@@ -33,6 +33,8 @@ use Rattle.weave_core.proofs.Values.{WeaveIn, kept, quiet_at}
 use Rattle.lockstep.proofs.Numbered.{round_some}
 use Rattle.lockstep.proofs.Calm.{CalmCode}
 use Rattle.lockstep.proofs.Cleaned.{cleaned}
+use Rattle.lockstep.proofs.InstructionFaults.{faults_found}
+use Rattle.lockstep.specs.InstructionFaults.{FaultsFound}
 use Rattle.lockstep.proofs.Coded.{WordAt, stub_words, reads_rest, word_of, stub_open}
 use Rattle.lockstep.proofs.Promise.{Times, BoundsBy, settles}
 use Rattle.lockstep.proofs.Trace.{Sizes}
@@ -211,6 +213,15 @@ module _ (f g : Program) (w : World) (l : Lean) (blocks : List Block) (p : LeanP
           settles f g w calm regs start z w.form.round 34 (Bound f g w l leader p.sound p.world entries counts p.begins begins regs start) times (traced f g w l leader p.sound p.world entries counts p.begins begins regs start) bounds by cs b ordered free bound steady;
     }
 
+    -- so are wrong results, as changes
+    pub finds : FaultsFound f g w.reached w.form.spans bounds
+    finds = faults_found f g w bounds calm (omega (arith, are.register)) (λ b e. wide (word_count w.form.spans) b (sym are.word ∙ e)) catches where
+      wide : (n b : ℕ) → word_bound n w.form.round (swept_steps w) (period (check_steps w) l.every) ≡ Some b → 2 ≤ b
+      wide zero b e = absurd (cc)
+      wide (suc n) b e =
+          let is : 67 + swept_steps w + (piece_count w.form.round (suc n) + 1) * period (check_steps w) l.every ≡ b = cc in
+          omega (arith, is)
+
   -- ---- with the sweep none ends silently
   pub cleans : w.form.sweep ≡ true → Clean f g w.reached w.form.spans (sweep_cost w.form.spans + 14)
   cleans sweeps = record {
@@ -226,6 +237,10 @@ lean_kept f g w l blocks p = subst (λ n. Kept f g w.reached (31 + swept_steps w
 
 pub lean_caught : LeanCaught
 lean_caught f g w l blocks bounds p round are = catches f g w l blocks p round bounds are
+
+pub lean_faults :
+    (f g : Program) (w : World) (l : Lean) (blocks : List Block) (bounds : Bounds) → LeanPlan f g w l blocks → 1 ≤ w.form.round → IsBoundsOf w l bounds → FaultsFound f g w.reached w.form.spans bounds
+lean_faults f g w l blocks bounds p round are = finds f g w l blocks p round bounds are
 
 pub lean_clean : LeanClean
 lean_clean f g w l blocks p sweeps = cleans f g w l blocks p sweeps

@@ -37,12 +37,12 @@ use Rattle.weave_core.proofs.FilesFit.{loaded_ranges}
 use Rattle.weave_core.proofs.Marks.{Ascend, code_distinct, entry_or_stub}
 use Rattle.weave_core.proofs.PlacingForm.{length-instructions, mark_behind, rows_behind}
 use Rattle.lockstep.proofs.Closing.{only_inside}
-use Rattle.lean_weave.specs.Tests.{IsLeanTest, LeanTestsKept, LeanTestsCaught, LeanTestsClean, AreLeanBlocks, LeanTestsHaveWords, LeanTestsWritable}
+use Rattle.lean_weave.specs.Tests.{IsLeanTest, LeanTestsKept, LeanTestsCaught, LeanTestsFaults, LeanTestsClean, AreLeanBlocks, LeanTestsHaveWords, LeanTestsWritable}
 use Rattle.lean_weave.specs.Woven.{LeanIn, LeanPlan, weave_of}
 use Rattle.lean_weave.proofs.Ways.{reads_behind}
 use Rattle.lean_weave.proofs.Blocks.{begun, begins, length_is, leading, starts, steps, counted, in_order, all_good}
 use Rattle.lean_weave.proofs.Short.{only_reached, few_steps, short}
-use Rattle.lean_weave.proofs.Promise.{lean_kept, lean_caught, lean_clean}
+use Rattle.lean_weave.proofs.Promise.{lean_kept, lean_caught, lean_faults, lean_clean}
 use Rattle.lean_weave.proofs.Unmarked.{unmarked_worded, entry_same, same_code, code_size}
 use Rattle.std.specs.List.{list_all}
 use Rattle.std.proofs.lemmas.List.{append_assoc}
@@ -351,6 +351,10 @@ tests_kept f o every blocks words t reached aims = lean_kept (input f o every bl
 pub tests_caught : LeanTestsCaught
 tests_caught f o every blocks words t reached aims =
     lean_caught (input f o every blocks t.cut words t) (output f o every blocks t.cut words t) (w f o every blocks t.cut words t reached aims) (lean_of f o every blocks) blocks (lean_bounds f o every) (plan f o every blocks t.cut words t reached aims) t.cut.sound.visits (record { register = refl; word = refl })
+
+pub tests_faults : LeanTestsFaults
+tests_faults f o every blocks words t reached aims =
+    lean_faults (input f o every blocks t.cut words t) (output f o every blocks t.cut words t) (w f o every blocks t.cut words t reached aims) (lean_of f o every blocks) blocks (lean_bounds f o every) (plan f o every blocks t.cut words t reached aims) t.cut.sound.visits (record { register = refl; word = refl })
 
 pub tests_clean : LeanTestsClean
 tests_clean f o every blocks words t swept reached aims =

@@ -25,6 +25,7 @@ use Rattle.qed_model.specs.Weave.Sequences.{Block}
 use Rattle.qed_model.specs.Weave.LeanCode.{lean_items}
 use Rattle.qed_model.specs.Weave.LeanBounds.{lean_bounds}
 use Rattle.weave_core.specs.Leaving.{sweep_cost}
+use Rattle.lockstep.specs.InstructionFaults.{FaultsFound}
 
 -- ---- the test
 -- the file is admitted, with sound options of the lean form, and these are its blocks
@@ -71,6 +72,12 @@ abbrev pub LeanTestsCaught : Type 0
 LeanTestsCaught =
     (f : ElfFile) (o : Options) (every : ℕ) (blocks : List Block) (words : List ℕ) → IsLeanTest f o every blocks words → (reached : ℕ → Bool) → AreReached f o reached
     → Caught (loaded_file f) (loaded_file (file_read (lean_file f o every blocks words))) reached (data_ranges (image_of f)) (lean_bounds f o every)
+
+-- so is a wrong result of an instruction
+abbrev pub LeanTestsFaults : Type 0
+LeanTestsFaults =
+    (f : ElfFile) (o : Options) (every : ℕ) (blocks : List Block) (words : List ℕ) → IsLeanTest f o every blocks words → (reached : ℕ → Bool) → AreReached f o reached
+    → FaultsFound (loaded_file f) (loaded_file (file_read (lean_file f o every blocks words))) reached (data_ranges (image_of f)) (lean_bounds f o every)
 
 -- and with the sweep no change before it is silent at the end
 abbrev pub LeanTestsClean : Type 0

@@ -3,7 +3,7 @@
 //! Definitions and laws alone. No program weaves it yet.
 #![tactic(auto)]
 
-ghost use Rattle.lean_weave.specs.Tests.{LeanTestsHaveWords, LeanTestsWritable, LeanTestsKept, LeanTestsCaught, LeanTestsClean};
+ghost use Rattle.lean_weave.specs.Tests.{LeanTestsHaveWords, LeanTestsWritable, LeanTestsKept, LeanTestsCaught, LeanTestsFaults, LeanTestsClean};
 ghost use Rattle.lean_weave.specs.Woven.{LeanKept, LeanCaught, LeanClean};
 
 /// A plan of the form keeps the input's values, with a bound on the steps of the output for each step of the input, and no check
@@ -40,6 +40,11 @@ pub fn lean_tests_kept()
 /// Changes are caught in it.
 pub fn lean_tests_caught()
     ensures { LeanTestsCaught }
+{}
+
+/// So is a wrong result of an instruction of the test, as changes behind it.
+pub fn lean_tests_faults()
+    ensures { LeanTestsFaults }
 {}
 
 /// With the sweep no change before it is silent at the end.

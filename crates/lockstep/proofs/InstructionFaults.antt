@@ -156,14 +156,20 @@ module _ (f g : Program) (w : World) (code : CalmCode f g w) (bounds : Bounds) (
                   (λ k. changed_later (start g regs) (n + 1) k (c ∷ d ∷ []) (omega arith, (omega arith, tt)) ∙ ap (λ x. run x k) there)
                   (caught.settles regs (c ∷ d ∷ []) b are (omega arith, tt) (df, tt, (dl, tt, tt)) bound steady going)
 
+-- ---- where changes are caught
+pub faults_found :
+    (f g : Program) (w : World) (bounds : Bounds) → CalmCode f g w → 2 ≤ bounds.register → ((b : ℕ) → bounds.word ≡ Some b → 2 ≤ b) → Caught f g w.reached w.form.spans bounds
+    → FaultsFound f g w.reached w.form.spans bounds
+faults_found f g w bounds code big wide caught = record {
+  results = λ regs n i o are go at wr any steady. results f g w code bounds big wide caught regs are n i go at o wr any steady;
+  stores = λ regs n x i o are go at so any bound steady. stores f g w code bounds big wide caught regs are n i go at o x so any bound steady;
+}
+
 -- ---- in a plan of a form
 pub plan_faults :
     (f g : Program) (w : World) (most : ℕ) (blocks : List Block) (bounds : Bounds) → PlanOf f g w (weave_of w.form most) blocks → Mirrors w → Closes f g w blocks → 1 ≤ w.form.round → IsBoundsOf w.form most bounds
     → FaultsFound f g w.reached w.form.spans bounds
-plan_faults f g w most blocks bounds p law closes some b = record {
-  results = λ regs n i o are go at wr any steady. results f g w code bounds big wide caught regs are n i go at o wr any steady;
-  stores = λ regs n x i o are go at so any bound steady. stores f g w code bounds big wide caught regs are n i go at o x so any bound steady;
-} where
+plan_faults f g w most blocks bounds p law closes some b = faults_found f g w bounds code big wide (plan_caught f g w most blocks bounds p law closes some b) where
   code : CalmCode f g w
   code = calm_plan f g w (weave_of w.form most) blocks p (form_rows w most (begins_at blocks) law).rows (form_starts w most (begins_at blocks) f g) (form_words w.form most closes.mirrors) closes.only
 
@@ -178,9 +184,6 @@ plan_faults f g w most blocks bounds p law closes some b = record {
 
   wide : (n : ℕ) → bounds.word ≡ Some n → 2 ≤ n
   wide n e = big_word (word_count w.form.spans) w.form.round (start_steps (weave_of w.form most)) (stage_steps (weave_of w.form most)) n big_piece (sym are_bounds.word ∙ e)
-
-  caught : Caught f g w.reached w.form.spans bounds
-  caught = plan_caught f g w most blocks bounds p law closes some b
 
 -- ---- of each test
 pub instruction_faults_are_caught : InstructionFaultsAreCaught

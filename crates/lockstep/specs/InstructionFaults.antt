@@ -22,7 +22,7 @@ use Rattle.qed_model.specs.Promise.Changed.{IsDataWord}
 use Rattle.qed_model.specs.Promise.Kept.{after_output, Steady}
 use Rattle.qed_model.specs.Weave.Places.{image_of}
 use Rattle.qed_model.specs.Weave.Sequences.{Block}
-use Rattle.qed_model.specs.Weave.Woven.{woven_file, IsToldOf}
+use Rattle.qed_model.specs.Weave.Woven.{compared, woven_file, IsToldOf}
 use Rattle.weave_core.specs.Tests.{IsWovenTest}
 
 -- ---- the instructions
@@ -74,6 +74,6 @@ pub record FaultsFound (f g : Program) (reached : ℕ → Bool) (spans : List (�
 -- of each test that was woven, with the bounds that are told of it
 abbrev pub InstructionFaultsAreCaught : Type 0
 InstructionFaultsAreCaught =
-    (f : ElfFile) (o : Options) (blocks : List Block) (words : List ℕ) (plan : Plan) → IsWovenTest f o blocks words → IsToldOf f o blocks plan
+    (f : ElfFile) (o : Options) (blocks : List Block) (words : List ℕ) (plan : Plan) → IsWovenTest f o blocks words → IsToldOf (compared f o blocks) f o blocks plan
     → (reached : ℕ → Bool) → AreReached f o reached
     → FaultsFound (loaded_file f) (loaded_file (file_read (woven_file f o blocks words))) reached (data_ranges (image_of f)) plan.bounds

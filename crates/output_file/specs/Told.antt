@@ -7,19 +7,16 @@ use Rattle.qed_model.specs.declared.plan.EntryRow.{EntryRow}
 use Rattle.qed_model.specs.declared.plan.PieceRow.{PieceRow}
 use Rattle.qed_model.specs.declared.test.Test.{Test}
 use Rattle.qed_model.specs.Admission.Test.{IsTestOf}
-use Rattle.qed_model.specs.Weave.Bounds.{bounds_of}
-use Rattle.qed_model.specs.Weave.Sequences.{Block}
 use Rattle.block_list.specs.declared.block.CodeBlock.{CodeBlock}
 use Rattle.block_list.specs.Listed.{IsWithin}
-use Rattle.qed_model.specs.Weave.Woven.{is_far_code, code_size, new_entries}
-use Rattle.qed_model.specs.Weave.Forms.{shape_of}
+use Rattle.qed_model.specs.Weave.Woven.{NewCode, size_of_code, entries_in}
 
--- these are the test, the new code's size, the entries and the bounds that go with the blocks
-pub record AreParts (f : ElfFile) (o : Options) (blocks : List Block) (t : Test) (entries : List EntryRow) (code_bytes : ℕ) (bounds : Bounds) : Type 0 where
+-- these are the test, the size of its new code, the entries and the bounds
+pub record AreParts (c : NewCode) (f : ElfFile) (o : Options) (t : Test) (entries : List EntryRow) (code_bytes : ℕ) (bounds : Bounds) : Type 0 where
   pub test : IsTestOf f o t
-  pub code_bytes_is : code_bytes ≡ code_size f o blocks
-  pub entries_are : entries ≡ new_entries f o blocks
-  pub bounds_are : bounds ≡ bounds_of (shape_of f o (is_far_code f o blocks))
+  pub code_bytes_is : code_bytes ≡ size_of_code c
+  pub entries_are : entries ≡ entries_in c f o
+  pub bounds_are : bounds ≡ c.bounds
 
 -- the pieces make up the body of the block, which ends at 2^63 or before
 abbrev pub IsWhole : CodeBlock → Type 0

@@ -4,7 +4,7 @@ ghost use Rattle.elf_types.specs.declared.file.ElfFile.{ElfFile};
 ghost use Rattle.qed_model.specs.declared.options.Options.{Options};
 ghost use Rattle.qed_model.specs.Admission.DataRanges.{range_of, word_count as word_count_of};
 ghost use Rattle.qed_model.specs.Weave.OutputFile.{rows_of_pieces, piece_rows as piece_rows_of};
-ghost use Rattle.qed_model.specs.Weave.Woven.{IsToldOf};
+ghost use Rattle.qed_model.specs.Weave.Woven.{NewCode, IsToldOf};
 ghost use Rattle.block_list.specs.Listed.{block_of};
 ghost use Rattle.output_file.specs.Images.{AreSpaced};
 ghost use Rattle.output_file.specs.Told.{IsWhole, AreParts};
@@ -76,7 +76,7 @@ pub fn plan(
     code_bytes: u64,
     bounds: Bounds,
 ) -> Result<Plan, AllocError>
-    ensures { IfOk result (λ plan. (f : ElfFile) (o : Options) → All IsWhole blocks.now → AreParts f o (map block_of blocks.now) test.now entries.now code_bytes bounds → IsToldOf f o (map block_of blocks.now) plan) }
+    ensures { IfOk result (λ plan. (c : NewCode) (f : ElfFile) (o : Options) → All IsWhole blocks.now → AreParts c f o test.now entries.now code_bytes bounds → IsToldOf c f o (map block_of blocks.now) plan) }
 {
     let pieces = piece_rows(alloc, blocks)?;
     Ok(Plan {

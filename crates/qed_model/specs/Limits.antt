@@ -1,8 +1,8 @@
 -- The limits of what is read, woven, written and run (this project's profile).
 use Rattle.std.specs.Prelude.{ℕ, Bool, true, false}
 use Rattle.qed_model.specs.declared.limits.Limit.{Limit}
-use Rattle.qed_model.specs.declared.limits.Limit.TheVariants.{FileBytes, RunFileBytes, ImageSpan, CodeWords, CodeBytes, Sections, MemoryBytes, TopAddress, OutputSegments, OutputBytes, CountedBytes}
-use Rattle.qed_model.specs.declared.limits.TheConstants.{MAX_FILE_BYTES, MAX_RUN_FILE_BYTES, MAX_IMAGE_SPAN, MAX_CODE_WORDS, MAX_CODE_BYTES, MAX_SECTIONS, MAX_MEMORY_BYTES, MAX_TOP_ADDRESS, MAX_OUTPUT_SEGMENTS, MAX_OUTPUT_BYTES, MAX_COUNTED_BYTES}
+use Rattle.qed_model.specs.declared.limits.Limit.TheVariants.{FileBytes, RunFileBytes, ImageSpan, CodeWords, CodeBytes, Sections, MemoryBytes, TopAddress, OutputSegments, OutputBytes, CountedBytes, LeanBytes}
+use Rattle.qed_model.specs.declared.limits.TheConstants.{MAX_FILE_BYTES, MAX_RUN_FILE_BYTES, MAX_IMAGE_SPAN, MAX_CODE_WORDS, MAX_CODE_BYTES, MAX_SECTIONS, MAX_MEMORY_BYTES, MAX_TOP_ADDRESS, MAX_OUTPUT_SEGMENTS, MAX_OUTPUT_BYTES, MAX_COUNTED_BYTES, MAX_NEAR_CODE_BYTES}
 
 -- the greatest number that is taken
 abbrev pub limit_of : Limit → ℕ
@@ -17,6 +17,7 @@ limit_of TopAddress = MAX_TOP_ADDRESS
 limit_of OutputSegments = MAX_OUTPUT_SEGMENTS
 limit_of OutputBytes = MAX_OUTPUT_BYTES
 limit_of CountedBytes = MAX_COUNTED_BYTES
+limit_of LeanBytes = MAX_NEAR_CODE_BYTES
 
 -- the number in its printed name
 abbrev pub limit_number : Limit → ℕ
@@ -31,6 +32,7 @@ limit_number TopAddress = 7
 limit_number OutputSegments = 8
 limit_number OutputBytes = 9
 limit_number CountedBytes = 10
+limit_number LeanBytes = 11
 
 -- whether the counted number is printed: nobody counts the bytes of a file that is too long to be loaded
 abbrev pub is_counted : Limit → Bool

@@ -45,13 +45,14 @@ pub const MAX_OUTPUT_SECTIONS: u64 = 4_000;
 /// The bytes of room for the new code behind both halves and the table, 128 MiB.
 pub const CODE_ROOM: u64 = 134_217_728;
 
-/// The bytes of new code in the near form, 1 MiB, within which each JAL reaches.
+/// L11: the bytes of new code in the lean form, and of the near form, 1 MiB, within which each JAL
+/// reaches.
 pub const MAX_NEAR_CODE_BYTES: u64 = 1_048_576;
 
 /// The greatest distance of the halves that can be asked for, in bytes, 512 MiB.
 pub const MAX_HALF: u64 = 536_870_912;
 
-/// A limit, by what it counts. The printed texts name them L1 to L10; L1 is another for `run`, `list`
+/// A limit, by what it counts. The printed texts name them L1 to L11; L1 is another for `run`, `list`
 /// and `harts`.
 #[derive(Clone, Copy, Debug, PartialEq, Eq)]
 pub enum Limit {
@@ -77,6 +78,8 @@ pub enum Limit {
     OutputBytes,
     /// L10: the bytes of segments and names.
     CountedBytes,
+    /// L11: the bytes of the new code in the lean form.
+    LeanBytes,
 }
 
 impl Limit {
@@ -96,10 +99,11 @@ impl Limit {
             Limit::OutputSegments => MAX_OUTPUT_SEGMENTS,
             Limit::OutputBytes => MAX_OUTPUT_BYTES,
             Limit::CountedBytes => MAX_COUNTED_BYTES,
+            Limit::LeanBytes => MAX_NEAR_CODE_BYTES,
         }
     }
 
-    /// The number in the limit's name, from 1 to 10.
+    /// The number in the limit's name, from 1 to 11.
     pub fn number(self) -> u64
         ensures { result ≡ limit_number self }
     {
@@ -114,6 +118,7 @@ impl Limit {
             Limit::OutputSegments => 8,
             Limit::OutputBytes => 9,
             Limit::CountedBytes => 10,
+            Limit::LeanBytes => 11,
         }
     }
 

@@ -5,7 +5,7 @@ use Rattle.elf_types.specs.declared.error.ElfError.{ElfError}
 use Rattle.elf_types.specs.declared.file.ElfFile.{ElfFile}
 use Rattle.elf_types.specs.declared.output.OutFile.{OutFile}
 use Rattle.qed_model.specs.declared.admit.AdmitError.{AdmitError}
-use Rattle.qed_model.specs.declared.limits.Limit.TheVariants as limit
+use Rattle.qed_model.specs.declared.limits.Limit.{Limit}
 use Rattle.qed_model.specs.declared.options.Options.{Options}
 use Rattle.qed_model.specs.declared.plan.Plan.{Plan}
 use Rattle.qed_model.specs.Limits.{limit_of}
@@ -15,7 +15,7 @@ use Rattle.qed_model.specs.Elf.Layout.{written}
 use Rattle.elf_files.specs.Refusals.{IsRefused}
 use Rattle.qed_model.specs.Weave.Blocks.{AreBlocks}
 use Rattle.qed_model.specs.Weave.Sequences.{Block}
-use Rattle.qed_model.specs.Weave.Woven.{code_size, IsWithin}
+use Rattle.qed_model.specs.Weave.Woven.{new_code, size_of_code, IsWithin}
 use Rattle.elf_files.specs.Output.{WovenFile}
 use Rattle.elf_files.proofs.AcceptanceLaws.{read_or_refused}
 use Rattle.qed_model.proofs.AdmissionLaws.{no_fault}
@@ -26,7 +26,7 @@ use Rattle.elf_files.proofs.ReadFacts.{one_file}
 use Rattle.transform.specs.declared.error.TransformError.{TransformError}
 use Rattle.transform.specs.declared.error.TransformError.TheVariants as error
 use Rattle.transform.specs.declared.whole.Transformed.{Transformed}
-use Rattle.transform.specs.Transform.{HasCause, IsNotAdmitted, HasTooMuchCode, Transforms, IsTransformable, IsErrorOr, IsDoneOr}
+use Rattle.transform.specs.Transform.{HasCause, IsNotAdmitted, HasTooMuchCode, IsFew, Transforms, IsTransformable, IsErrorOr, IsDoneOr}
 
 -- bytes are refused by one rule
 pub same_refusal : (input : List ℕ) (a b : ElfError) → IsRefused input a → IsRefused input b → a ≡ b
@@ -40,15 +40,17 @@ module _ (input : List ℕ) (o : Options) where
   not_admitted : (e : AdmitError) (f : ElfFile) → IsNotAdmitted input o e → IsReadAs input f → IsAdmitted f o → ⊥
   not_admitted e f x read a = no_fault f o a e (subst (λ g. IsRefusedBy g o e) (one_file input x.file f x.read.file read.file) x.refused).fault
 
-  -- the new code has one size
-  one_size : (f g : ElfFile) (bs cs : List Block) → IsReadAs input f → IsReadAs input g → AreBlocks f o bs → AreBlocks g o cs → code_size f o bs ≡ code_size g o cs
-  one_size f g bs cs rf rg ab ac =
+  -- there is one new code
+  one_code : (f g : ElfFile) (bs cs : List Block) → IsReadAs input f → IsReadAs input g → AreBlocks f o bs → AreBlocks g o cs → new_code f o bs ≡ new_code g o cs
+  one_code f g bs cs rf rg ab ac =
       let same = one_file input f g rf.file rg.file in
-      ap (λ x. code_size x o bs) same ∙ ap (λ bs. code_size g o bs) (blocks_only g o bs cs (subst (λ x. AreBlocks x o bs) same ab) ac)
+      ap (λ x. new_code x o bs) same ∙ ap (λ bs. new_code g o bs) (blocks_only g o bs cs (subst (λ x. AreBlocks x o bs) same ab) ac)
 
   -- it is too large, or within its limit
-  too_large : (n : ℕ) (f : ElfFile) (bs : List Block) → HasTooMuchCode input o n → IsReadAs input f → AreBlocks f o bs → code_size f o bs ≤ limit_of limit.CodeBytes → ⊥
-  too_large n f bs x read are small = omega (arith, x.over, x.count, small, one_size x.file f x.blocks bs x.read read x.are are)
+  too_large : (most : Limit) (n : ℕ) (f : ElfFile) (bs : List Block) → HasTooMuchCode input o most n → IsReadAs input f → AreBlocks f o bs → IsFew (new_code f o bs) → ⊥
+  too_large most n f bs x read are small =
+      let few : IsFew (new_code x.file o x.blocks) = subst IsFew (one_code f x.file bs x.blocks read x.read are x.are) small in
+      omega (arith, x.over, x.count, few, ap limit_of x.limit)
 
   -- so is an input by one cause
   pub one_cause : (a b : TransformError) → a ≢ error.Memory → b ≢ error.Memory → HasCause input o a → HasCause input o b → a ≡ b
@@ -56,37 +58,39 @@ module _ (input : List ℕ) (o : Options) where
   one_cause a error.Memory n m x y = absurd (m refl)
   one_cause (error.Elf a) (error.Elf b) n m x y = ap error.Elf (same_refusal input a b x y)
   one_cause (error.Elf a) (error.Admit b) n m x y = absurd (read_or_refused input y.file a y.read x)
-  one_cause (error.Elf a) (error.TooLarge b) n m x y = absurd (read_or_refused input y.file a y.read x)
+  one_cause (error.Elf a) (error.TooLarge l b) n m x y = absurd (read_or_refused input y.file a y.read x)
   one_cause (error.Elf a) (error.TooManySegments b) n m x y = absurd (read_or_refused input y.file.file a y.read x)
   one_cause (error.Elf a) (error.FileTooLong b) n m x y = absurd (read_or_refused input y.file.file a y.read x)
   one_cause (error.Admit a) (error.Elf b) n m x y = absurd (read_or_refused input x.file b x.read y)
   one_cause (error.Admit a) (error.Admit b) n m x y = ap error.Admit (same_rule a b x y)
-  one_cause (error.Admit a) (error.TooLarge b) n m x y = absurd (not_admitted a y.file x y.read y.admitted)
+  one_cause (error.Admit a) (error.TooLarge l b) n m x y = absurd (not_admitted a y.file x y.read y.admitted)
   one_cause (error.Admit a) (error.TooManySegments b) n m x y = absurd (not_admitted a y.file.file x y.read y.file.has.admitted)
   one_cause (error.Admit a) (error.FileTooLong b) n m x y = absurd (not_admitted a y.file.file x y.read y.file.has.admitted)
-  one_cause (error.TooLarge a) (error.Elf b) n m x y = absurd (read_or_refused input x.file b x.read y)
-  one_cause (error.TooLarge a) (error.Admit b) n m x y = absurd (not_admitted b x.file y x.read x.admitted)
-  one_cause (error.TooLarge a) (error.TooLarge b) n m x y = ap error.TooLarge (x.count ∙ one_size x.file y.file x.blocks y.blocks x.read y.read x.are y.are ∙ sym y.count)
-  one_cause (error.TooLarge a) (error.TooManySegments b) n m x y = absurd (too_large a y.file.file y.file.blocks x y.read y.file.has.are y.code)
-  one_cause (error.TooLarge a) (error.FileTooLong b) n m x y = absurd (too_large a y.file.file y.file.blocks x y.read y.file.has.are y.code)
+  one_cause (error.TooLarge k a) (error.Elf b) n m x y = absurd (read_or_refused input x.file b x.read y)
+  one_cause (error.TooLarge k a) (error.Admit b) n m x y = absurd (not_admitted b x.file y x.read x.admitted)
+  one_cause (error.TooLarge k a) (error.TooLarge l b) n m x y =
+      let one = one_code x.file y.file x.blocks y.blocks x.read y.read x.are y.are in
+      ap (λ i. error.TooLarge i a) (x.limit ∙ ap (λ c. c.limit) one ∙ sym y.limit) ∙ ap (λ i. error.TooLarge l i) (x.count ∙ ap size_of_code one ∙ sym y.count)
+  one_cause (error.TooLarge k a) (error.TooManySegments b) n m x y = absurd (too_large k a y.file.file y.file.blocks x y.read y.file.has.are y.code)
+  one_cause (error.TooLarge k a) (error.FileTooLong b) n m x y = absurd (too_large k a y.file.file y.file.blocks x y.read y.file.has.are y.code)
   one_cause (error.TooManySegments a) (error.Elf b) n m x y = absurd (read_or_refused input x.file.file b x.read y)
   one_cause (error.TooManySegments a) (error.Admit b) n m x y = absurd (not_admitted b x.file.file y x.read x.file.has.admitted)
-  one_cause (error.TooManySegments a) (error.TooLarge b) n m x y = absurd (too_large b x.file.file x.file.blocks y x.read x.file.has.are x.code)
+  one_cause (error.TooManySegments a) (error.TooLarge l b) n m x y = absurd (too_large l b x.file.file x.file.blocks y x.read x.file.has.are x.code)
   one_cause (error.TooManySegments a) (error.TooManySegments b) n m x y =
       ap error.TooManySegments (x.count ∙ ap (λ out. length out.segments) (one_woven_test input o x.out y.out x.file y.file) ∙ sym y.count)
   one_cause (error.TooManySegments a) (error.FileTooLong b) n m x y = absurd (omega (arith, x.over, x.count, y.segments, ap (λ out. length out.segments) (one_woven_test input o x.out y.out x.file y.file)))
   one_cause (error.FileTooLong a) (error.Elf b) n m x y = absurd (read_or_refused input x.file.file b x.read y)
   one_cause (error.FileTooLong a) (error.Admit b) n m x y = absurd (not_admitted b x.file.file y x.read x.file.has.admitted)
-  one_cause (error.FileTooLong a) (error.TooLarge b) n m x y = absurd (too_large b x.file.file x.file.blocks y x.read x.file.has.are x.code)
+  one_cause (error.FileTooLong a) (error.TooLarge l b) n m x y = absurd (too_large l b x.file.file x.file.blocks y x.read x.file.has.are x.code)
   one_cause (error.FileTooLong a) (error.TooManySegments b) n m x y = absurd (omega (arith, y.over, y.count, x.segments, ap (λ out. length out.segments) (one_woven_test input o x.out y.out x.file y.file)))
   one_cause (error.FileTooLong a) (error.FileTooLong b) n m x y =
       ap error.FileTooLong (x.size ∙ ap (λ out. length (written out)) (one_woven_test input o x.out y.out x.file y.file) ∙ sym y.size)
 
   -- and an output within the limits has none
-  no_cause : (out : OutFile) (w : WovenFile input o out) (e : TransformError) → e ≢ error.Memory → HasCause input o e → IsReadAs input w.file → IsWithin w.file o w.blocks out → ⊥
+  no_cause : (out : OutFile) (w : WovenFile input o out) (e : TransformError) → e ≢ error.Memory → HasCause input o e → IsReadAs input w.file → IsWithin (new_code w.file o w.blocks) out → ⊥
   no_cause out w (error.Elf e) n x read within = read_or_refused input w.file e read x
   no_cause out w (error.Admit e) n x read within = not_admitted e w.file x read w.has.admitted
-  no_cause out w (error.TooLarge k) n x read within = too_large k w.file w.blocks x read w.has.are within.code
+  no_cause out w (error.TooLarge l k) n x read within = too_large l k w.file w.blocks x read w.has.are within.code
   no_cause out w (error.TooManySegments k) n x read within = absurd (omega (arith, x.over, x.count, within.segments, ap (λ out. length out.segments) (one_woven_test input o x.out out x.file w)))
   no_cause out w (error.FileTooLong k) n x read within = absurd (omega (arith, x.over, x.size, within.size, ap (λ out. length (written out)) (one_woven_test input o x.out out x.file w)))
   no_cause out w error.Memory n x read within = n refl
@@ -96,7 +100,7 @@ module _ (input : List ℕ) (o : Options) where
   error_or error.Memory e n c h = inr refl
   error_or (error.Elf y) e n c h = inl (ap Err (one_cause (error.Elf y) e (λ m. absurd (cc)) n c h))
   error_or (error.Admit y) e n c h = inl (ap Err (one_cause (error.Admit y) e (λ m. absurd (cc)) n c h))
-  error_or (error.TooLarge y) e n c h = inl (ap Err (one_cause (error.TooLarge y) e (λ m. absurd (cc)) n c h))
+  error_or (error.TooLarge l y) e n c h = inl (ap Err (one_cause (error.TooLarge l y) e (λ m. absurd (cc)) n c h))
   error_or (error.TooManySegments y) e n c h = inl (ap Err (one_cause (error.TooManySegments y) e (λ m. absurd (cc)) n c h))
   error_or (error.FileTooLong y) e n c h = inl (ap Err (one_cause (error.FileTooLong y) e (λ m. absurd (cc)) n c h))
 
@@ -110,10 +114,9 @@ module _ (input : List ℕ) (o : Options) where
   memory_only error.Memory c h = refl
   memory_only (error.Elf y) c h = absurd (read_or_refused input h.file y h.read c)
   memory_only (error.Admit y) c h = absurd (not_admitted y h.file c h.read h.admitted)
-  memory_only (error.TooLarge y) c h =
+  memory_only (error.TooLarge l y) c h =
       let same = one_file input c.file h.file c.read.file h.read.file in
-      let small = h.code c.blocks (subst (λ f. AreBlocks f o c.blocks) same c.are) in
-      absurd (omega (arith, c.over, c.count, small, ap (λ f. code_size f o c.blocks) same))
+      absurd (too_large l y h.file c.blocks c h.read (subst (λ f. AreBlocks f o c.blocks) same c.are) (h.code c.blocks (subst (λ f. AreBlocks f o c.blocks) same c.are)))
   memory_only (error.TooManySegments y) c h = let most = h.outputs c.out c.file in absurd (omega (arith, c.over, c.count, most.segments))
   memory_only (error.FileTooLong y) c h = let most = h.outputs c.out c.file in absurd (omega (arith, c.over, c.size, most.size))
 
@@ -139,11 +142,11 @@ module _ (input : List ℕ) (o : Options) where
         file = w.file;
         read = t.read;
         admitted = w.has.admitted;
-        code = λ bs are. omega (arith, t.within.code, one_size w.file w.file bs w.blocks t.read t.read are w.has.are);
+        code = λ bs are. subst IsFew (one_code w.file w.file w.blocks bs t.read t.read w.has.are are) t.within.code;
         outputs = λ out v.
             let same = one_woven_test input o out t.woven.out v w in
             record {
-              code = omega (arith, t.within.code, one_size v.file w.file v.blocks w.blocks (read_as w.file out v t.read) t.read v.has.are w.has.are);
+              code = subst IsFew (one_code w.file v.file w.blocks v.blocks t.read (read_as w.file out v t.read) w.has.are v.has.are) t.within.code;
               segments = omega (arith, t.within.segments, ap (λ x. length x.segments) same);
               size = omega (arith, t.within.size, ap (λ x. length (written x)) same);
             };

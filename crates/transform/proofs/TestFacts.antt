@@ -5,6 +5,7 @@ use Rattle.std.proofs.lemmas.Bool.{and_parts, eqb-true}
 use Rattle.elf_types.specs.declared.file.ElfFile.{ElfFile}
 use Rattle.elf_types.specs.declared.file.Segment.{Segment}
 use Rattle.qed_model.specs.declared.options.Options.{Options}
+use Rattle.qed_model.specs.declared.plan.EntryRow.{EntryRow}
 use Rattle.qed_model.specs.declared.test.Test.{Test}
 use Rattle.qed_model.specs.Admission.CodeWords.{is_code}
 use Rattle.qed_model.specs.Admission.DataRanges.{data_ranges, word_count}
@@ -14,7 +15,7 @@ use Rattle.qed_model.specs.Weave.Bounds.{bounds_of}
 use Rattle.qed_model.specs.Weave.OutputParts.{base_of}
 use Rattle.qed_model.specs.Weave.Places.{image_of, half_of}
 use Rattle.qed_model.specs.Weave.Sequences.{Block}
-use Rattle.qed_model.specs.Weave.Woven.{new_entries}
+use Rattle.qed_model.specs.Weave.LeanBounds.{lean_bounds}
 use Rattle.qed_model.specs.Weave.Forms.{shape_of}
 use Rattle.qed_model.proofs.Fetches.{IsShapely, instruction_code}
 use Rattle.qed_model.specs.Elf.Sound.{AreLoads}
@@ -27,11 +28,10 @@ use Rattle.output_file.proofs.BlockEntries.{entries_are}
 use Rattle.test_weave.proofs.AdmittedFit.{words_below}
 use Rattle.weave_core.proofs.FilesFit.{admitted_image}
 use Rattle.weave_core.proofs.ImageHalves.{IsImage}
-use Rattle.weave_core.proofs.TestKept.{are_rows}
 use Rattle.weave_core.proofs.FileOfItems.{code_bounds}
 use Rattle.woven_code.specs.Code.{IsCut}
 use Rattle.woven_code.proofs.DataWords.{few_data}
-use Rattle.transform.proofs.BoundsSmall.{shape_small}
+use Rattle.transform.proofs.BoundsSmall.{shape_small, lean_shape_small}
 
 -- a code address is a multiple of 4
 code_grain : (f : ElfFile) (a : ℕ) → is_code f a ≡ true → a % 4 ≡ 0
@@ -59,6 +59,11 @@ module _ (f : ElfFile) (o : Options) (t : Test) (blocks : List CodeBlock) (cut :
       let few = few_data f o cut.blocked.sound loads cut.blocked.admitted in
       shape_small (shape_of f o far) cut.blocked.sound.most cut.blocked.sound.visits cut.blocked.sound.few_visits few.ranges few.words
 
+  pub lean_bounds_small : (every : ℕ) → every ≤ 2048 → AreSmall (lean_bounds f o every)
+  lean_bounds_small every few_steps =
+      let few = few_data f o cut.blocked.sound loads cut.blocked.admitted in
+      lean_shape_small (shape_of f o false) every cut.blocked.sound.most cut.blocked.sound.visits cut.blocked.sound.few_visits few.ranges few.words few_steps
+
   -- ---- the blocks
   shape : IsShapely f
   shape = record { loads = loads; sections = cut.blocked.admitted.sections; segments = cut.blocked.admitted.segments }
@@ -69,11 +74,11 @@ module _ (f : ElfFile) (o : Options) (t : Test) (blocks : List CodeBlock) (cut :
   bounded : (a : ℕ) → is_code f a ≡ true → (base_of image ≤ a) × (a + 4 ≤ base_of image + d)
   bounded a e = code_bounds f o cut.blocked.sound loads cut.blocked.admitted bs cut.blocked.are a e
 
-  -- the entries are those of the blocks
-  pub are_entries : AreEntries (t.base + t.distance) (new_entries f o bs)
-  are_entries =
+  -- rows whose inputs are those of the blocks are entries
+  pub are_entries : (rows : List EntryRow) → map (λ r. r.input) rows ≡ map (λ b. b.start) bs → AreEntries (t.base + t.distance) rows
+  are_entries rows inputs =
       let code : (k : ℕ) (x : Block) → k < length bs → is_code f (get_or bs k x).start ≡ true = λ k x h. block_code (get_or bs k x) (cut.blocked.are.each k x h) in
-      entries_are (new_entries f o bs) bs (t.base + t.distance) (are_rows f o cut.blocked.sound loads cut.blocked.admitted bs cut.blocked.are).inputs_are cut.blocked.are.ascend
+      entries_are rows bs (t.base + t.distance) inputs cut.blocked.are.ascend
       (λ k x h. code_grain f (get_or bs k x).start (code k x h))
       (λ k x h. let b = bounded (get_or bs k x).start (code k x h) in omega (arith, b.1, cut.told.base, cut.told.distance))
 

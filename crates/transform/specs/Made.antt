@@ -7,19 +7,31 @@ use Rattle.qed_model.specs.declared.options.Options.{Options}
 use Rattle.qed_model.specs.declared.plan.Plan.{Plan}
 use Rattle.qed_model.specs.Limits.{limit_of}
 use Rattle.qed_model.specs.Elf.Layout.{written}
-use Rattle.qed_model.specs.Weave.Woven.{woven_file, IsToldOf}
+use Rattle.qed_model.specs.Weave.Woven.{NewCode, new_code, size_of_code, entries_in, IsCodeFor, file_with, IsToldOf}
 use Rattle.block_list.specs.declared.block.CodeBlock.{CodeBlock}
 use Rattle.block_list.specs.Listed.{block_of}
-use Rattle.weave_core.specs.Tests.{IsWovenTest}
+use Rattle.weave_core.specs.Tests.{IsTest}
+use Rattle.woven_code.specs.declared.code.WovenCode.{WovenCode}
 use Rattle.transform.specs.declared.error.TransformError.{TransformError}
 use Rattle.transform.specs.declared.error.TransformError.TheVariants as error
+
+-- the new code in the form that is asked for
+abbrev pub code_for : ElfFile → Options → List CodeBlock → NewCode
+code_for f o blocks = new_code f o (map block_of blocks)
+
+-- these are its words and entries, which are within the limit, in the near or in the far form
+pub record IsCoded (c : NewCode) (f : ElfFile) (o : Options) (made : WovenCode) : Type 0 where
+  pub code : IsCodeFor c f o made.linked.words.items
+  pub entries : made.linked.entries.items ≡ entries_in c f o
+  pub far : made.far ≡ c.far
+  pub few : size_of_code c ≤ limit_of c.limit
 
 -- the file with the new code of the test, and what is told of it
 pub record IsMade (f : ElfFile) (o : Options) (blocks : List CodeBlock) (out : OutFile) (plan : Plan) : Type 0 where
   pub words : List ℕ
-  pub test : IsWovenTest f o (map block_of blocks) words
-  pub file : out ≡ woven_file f o (map block_of blocks) words
-  pub told : IsToldOf f o (map block_of blocks) plan
+  pub test : IsTest (code_for f o blocks) f o (map block_of blocks) words
+  pub file : out ≡ file_with (code_for f o blocks) f o words
+  pub told : IsToldOf (code_for f o blocks) f o (map block_of blocks) plan
 
 -- no more segments and bytes than the limits
 pub record IsShort (out : OutFile) : Type 0 where

@@ -1,5 +1,5 @@
 //! The output of a test with its blocks, before it is written.
-ghost use Rattle.std.specs.Prelude.{◌≡◌, ◌≤◌, ◌<◌, ◌*◌, ◌^◌, ℕ, List, [], length, map, IfSome, IfOk, IfErr};
+ghost use Rattle.std.specs.Prelude.{◌≡◌, ◌≤◌, ◌<◌, ◌*◌, ◌^◌, ℕ, List, [], length, map, Some, None, IfSome, IfOk, IfErr};
 ghost use Rattle.elf_types.specs.declared.file.ElfFile.{ElfFile as TestFile};
 ghost use Rattle.elf_types.specs.declared.file.Symbol.{Symbol};
 ghost use Rattle.block_list.specs.Listed.{block_of};
@@ -9,20 +9,21 @@ ghost use Rattle.elf_files.specs.File.{IsReadAs};
 ghost use Rattle.qed_model.specs.Machine.Apart.{AllFitMemory, AreApart};
 ghost use Rattle.qed_model.specs.Machine.Loading.{load_segments};
 ghost use Rattle.qed_model.specs.Weave.Bounds.{bounds_of};
-ghost use Rattle.qed_model.specs.Weave.Woven.{is_far_code};
+ghost use Rattle.qed_model.specs.Weave.LeanBounds.{lean_bounds as lean_bounds_of};
 ghost use Rattle.qed_model.specs.Weave.Forms.{shape_of as shape_of_test};
-ghost use Rattle.woven_code.specs.Code.{IsCut, IsCodeOf};
-ghost use Rattle.transform.specs.Made.{IsMade, Exceeds};
+ghost use Rattle.woven_code.specs.Code.{IsCut};
+ghost use Rattle.transform.specs.Made.{code_for, IsCoded, IsMade, Exceeds};
 ghost use Rattle.transform.specs.Transform.{HasCause};
 
 use crate::cut::CutTest;
 use crate::error::TransformError;
-use bound_calc::bounds;
+use bound_calc::{bounds, lean_bounds};
 use elf_types::{OutFile, OutSection};
 use elf_write::file_size;
+use lean_code::lean_code;
 use output_file::{bare_file, has_table, plan, symbols_size, with_symbols, word_count};
 use qed_model::limits::{MAX_OUTPUT_BYTES, MAX_OUTPUT_SEGMENTS};
-use qed_model::{Bounds, Options, Plan, Shape};
+use qed_model::{Bounds, Limit, Options, Plan, Shape};
 use relinker::LinkError;
 use std::alloc::{AllocError, Global};
 use woven_code::{WovenCode, woven_code};
@@ -34,20 +35,56 @@ pub(crate) struct Made {
     pub plan: Plan,
 }
 
-/// The new code.
+/// The new code with comparisons behind pieces.
+fn compared_code(
+    alloc: Global,
+    cut: &CutTest,
+    options: &Options,
+) -> Result<WovenCode, TransformError>
+    requires cut { IsCut cut.now.file options.now cut.now.test cut.now.blocks }
+    requires form { options.now.lean ≡ None }
+    ensures code { IfOk result (IsCoded (code_for cut.now.file options.now cut.now.blocks) cut.now.file options.now) }
+    ensures refused { IfErr result (λ e. (input : List ℕ) → IsReadAs input cut.now.file → IsCut cut.now.file options.now cut.now.test cut.now.blocks → HasCause input options.now e) }
+{
+    match woven_code(alloc, &cut.test, options, cut.blocks.as_slice()) {
+        Ok(code) => Ok(code),
+        Err(LinkError::TooLarge(size)) => Err(TransformError::TooLarge(Limit::CodeBytes, size)),
+        Err(LinkError::Memory) => Err(TransformError::Memory),
+    }
+}
+
+/// The lean form of the new code, with so many steps from check to check at most.
+fn lean_form(
+    alloc: Global,
+    cut: &CutTest,
+    options: &Options,
+    every: u64,
+) -> Result<WovenCode, TransformError>
+    requires cut { IsCut cut.now.file options.now cut.now.test cut.now.blocks }
+    requires form { options.now.lean ≡ Some every }
+    ensures code { IfOk result (IsCoded (code_for cut.now.file options.now cut.now.blocks) cut.now.file options.now) }
+    ensures refused { IfErr result (λ e. (input : List ℕ) → IsReadAs input cut.now.file → IsCut cut.now.file options.now cut.now.test cut.now.blocks → HasCause input options.now e) }
+{
+    match lean_code(alloc, &cut.test, options, every, cut.blocks.as_slice()) {
+        Ok(linked) => Ok(WovenCode { linked, far: false }),
+        Err(LinkError::TooLarge(size)) => Err(TransformError::TooLarge(Limit::LeanBytes, size)),
+        Err(LinkError::Memory) => Err(TransformError::Memory),
+    }
+}
+
+/// The new code in the form that is asked for.
 pub(crate) fn code_of(
     alloc: Global,
     cut: &CutTest,
     options: &Options,
 ) -> Result<WovenCode, TransformError>
     requires { IsCut cut.now.file options.now cut.now.test cut.now.blocks }
-    ensures code { IfOk result (λ made. IsCodeOf cut.now.file options.now cut.now.blocks made) }
+    ensures code { IfOk result (IsCoded (code_for cut.now.file options.now cut.now.blocks) cut.now.file options.now) }
     ensures refused { IfErr result (λ e. (input : List ℕ) → IsReadAs input cut.now.file → IsCut cut.now.file options.now cut.now.test cut.now.blocks → HasCause input options.now e) }
 {
-    match woven_code(alloc, &cut.test, options, cut.blocks.as_slice()) {
-        Ok(code) => Ok(code),
-        Err(LinkError::TooLarge(size)) => Err(TransformError::TooLarge(size)),
-        Err(LinkError::Memory) => Err(TransformError::Memory),
+    match options.lean {
+        None => compared_code(alloc, cut, options),
+        Some(every) => lean_form(alloc, cut, options, every),
     }
 }
 
@@ -68,8 +105,8 @@ fn shape_of(cut: &CutTest, options: &Options, far: bool) -> Shape
     }
 }
 
-/// The bounds. They fit 64 bits, since an admitted test has few data words.
-fn bounds_in(cut: &CutTest, options: &Options, far: bool) -> Bounds
+/// The bounds with comparisons behind pieces. They fit 64 bits, since an admitted test has few data words.
+fn compared_bounds(cut: &CutTest, options: &Options, far: bool) -> Bounds
     requires { IsCut cut.now.file options.now cut.now.test cut.now.blocks }
     ensures { result ≡ bounds_of (shape_of_test cut.now.file options.now far) }
 {
@@ -77,6 +114,36 @@ fn bounds_in(cut: &CutTest, options: &Options, far: bool) -> Bounds
         Some(bounds) => bounds,
         None => unreachable!(),
     }
+}
+
+/// The bounds of the lean form. They fit as well.
+fn bounds_of_lean(cut: &CutTest, options: &Options, every: u64) -> Bounds
+    requires cut { IsCut cut.now.file options.now cut.now.test cut.now.blocks }
+    requires few { every ≤ 2048 }
+    ensures { result ≡ lean_bounds_of cut.now.file options.now every }
+{
+    match lean_bounds(&shape_of(cut, options, false), every) {
+        Some(bounds) => bounds,
+        None => unreachable!(),
+    }
+}
+
+/// The bounds in the form that is asked for, where it is far code or not.
+fn bounds_in(cut: &CutTest, options: &Options, far: bool) -> Bounds
+    requires { IsCut cut.now.file options.now cut.now.test cut.now.blocks }
+    ensures { far ≡ (code_for cut.now.file options.now cut.now.blocks).far → result ≡ (code_for cut.now.file options.now cut.now.blocks).bounds }
+{
+    match options.lean {
+        None => compared_bounds(cut, options, far),
+        Some(every) => bounds_of_lean(cut, options, every),
+    }
+}
+
+/// Whether the output has a table.
+fn is_tabled(cut: &CutTest, options: &Options) -> bool
+    ensures { result ≡ (code_for cut.now.file options.now cut.now.blocks).table }
+{
+    options.lean.is_some() || has_table(cut.blocks.as_slice())
 }
 
 /// The bytes of the names of sections, each with a zero byte.
@@ -130,7 +197,7 @@ pub(crate) fn make(alloc: Global, cut: &CutTest, options: &Options) -> Result<Ma
     let (blocks, entries) = (cut.blocks.as_slice(), code.linked.entries.as_slice());
     let bounds = bounds_in(cut, options, code.far);
     let size = 4 * code.linked.words.len() as u64;
-    let table = has_table(blocks);
+    let table = is_tabled(cut, options);
     let bare = bare_file(
         alloc,
         &cut.file,

@@ -1,10 +1,13 @@
--- What is woven from the file of a test: its new code, word for word, the file that has it, and what is told of it.
-use Rattle.std.specs.Prelude.{◌≡◌, ℕ, ◌^◌, ◌<◌, ◌≤◌, nat_lt, Bool, false, List, length, map, slice_index}
+-- What is woven from the file of a test: its new code in the form that is asked for, word for word, the file that has it, and what is
+-- told of it.
+use Rattle.std.specs.Prelude.{◌≡◌, ℕ, ◌^◌, ◌<◌, ◌≤◌, nat_lt, Bool, true, false, Option, Some, None, List, length, map, slice_index}
 use Rattle.elf_types.specs.declared.file.ElfFile.{ElfFile}
 use Rattle.elf_types.specs.declared.output.OutFile.{OutFile}
+use Rattle.qed_model.specs.declared.limits.Limit.{Limit}
 use Rattle.qed_model.specs.declared.limits.Limit.TheVariants as limit
 use Rattle.qed_model.specs.declared.limits.TheConstants.{MAX_NEAR_CODE_BYTES}
 use Rattle.qed_model.specs.Limits.{limit_of}
+use Rattle.qed_model.specs.declared.bounds.Bounds.{Bounds}
 use Rattle.qed_model.specs.declared.item.Item.{Item}
 use Rattle.qed_model.specs.declared.options.Options.{Options}
 use Rattle.qed_model.specs.declared.plan.EntryRow.{EntryRow}
@@ -20,8 +23,10 @@ use Rattle.qed_model.specs.Admission.DataRanges.{range_of, data_ranges, word_cou
 use Rattle.qed_model.specs.Weave.Places.{image_of, half_of, code_place}
 use Rattle.qed_model.specs.Weave.OutputFile.{has_table, file_of, piece_rows}
 use Rattle.qed_model.specs.Weave.Bounds.{bounds_of}
+use Rattle.qed_model.specs.Weave.LeanBounds.{lean_bounds}
+use Rattle.qed_model.specs.Weave.LeanCode.{lean_items}
 
--- ---- the new code
+-- ---- with a comparison behind each piece
 -- its items
 abbrev pub items_in : ElfFile → Options → Bool → List Block → List Item
 items_in f o far blocks = code_of (sequences (form_of f o far)) (half_of o.half (image_of f)) f.entry blocks
@@ -41,30 +46,79 @@ code_size f o blocks = sum_of_sizes (is_far_code f o blocks) (new_items f o bloc
 abbrev pub new_entries : ElfFile → Options → List Block → List EntryRow
 new_entries f o blocks = rows_from (is_far_code f o blocks) (code_place o.half (image_of f)) (new_items f o blocks)
 
--- words below 2^32, which decode to the items in their places
-pub record IsNewCode (f : ElfFile) (o : Options) (blocks : List Block) (words : List ℕ) : Type 0 where
+-- ---- the new code in some form
+-- whether it is far code, its items, whether the output has a table, the limit on its bytes, and the bounds of the output
+pub record NewCode : Type 0 where
+  pub far : Bool
+  pub items : List Item
+  pub table : Bool
+  pub limit : Limit
+  pub bounds : Bounds
+
+-- with a comparison behind each piece
+abbrev pub compared : ElfFile → Options → List Block → NewCode
+compared f o blocks = record {
+  far = is_far_code f o blocks;
+  items = new_items f o blocks;
+  table = has_table blocks;
+  limit = limit.CodeBytes;
+  bounds = bounds_of (shape_of f o (is_far_code f o blocks));
+}
+
+-- with one check for all of the code, which has no more bytes than a JAL spans, and a table
+abbrev pub lean : ElfFile → Options → ℕ → List Block → NewCode
+lean f o every blocks = record { far = false; items = lean_items f o every blocks; table = true; limit = limit.LeanBytes; bounds = lean_bounds f o every }
+
+-- the one that is asked for
+abbrev pub code_as : Option ℕ → ElfFile → Options → List Block → NewCode
+code_as None f o blocks = compared f o blocks
+code_as (Some every) f o blocks = lean f o every blocks
+
+abbrev pub new_code : ElfFile → Options → List Block → NewCode
+new_code f o blocks = code_as o.lean f o blocks
+
+-- how many bytes it has
+abbrev pub size_of_code : NewCode → ℕ
+size_of_code c = sum_of_sizes c.far c.items
+
+-- words below 2^32, which decode to its items in their places from an address on
+pub record IsCode (c : NewCode) (at : ℕ) (words : List ℕ) : Type 0 where
   pub small : (k : ℕ) → slice_index words k < 2 ^ 32
-  pub code : Decode words (placed (is_far_code f o blocks) (code_place o.half (image_of f)) (new_items f o blocks))
+  pub code : Decode words (placed c.far at c.items)
+
+abbrev pub IsCodeFor : NewCode → ElfFile → Options → List ℕ → Type 0
+IsCodeFor c f o words = IsCode c (code_place o.half (image_of f)) words
+
+-- the new addresses of its entries
+abbrev pub entries_in : NewCode → ElfFile → Options → List EntryRow
+entries_in c f o = rows_from c.far (code_place o.half (image_of f)) c.items
 
 -- ---- the file
 -- in which these words are written
-abbrev pub woven_file : ElfFile → Options → List Block → List ℕ → OutFile
-woven_file f o blocks words = file_of f o.half (has_table blocks) (new_entries f o blocks) (bytes_of words)
+abbrev pub file_with : NewCode → ElfFile → Options → List ℕ → OutFile
+file_with c f o words = file_of f o.half c.table (entries_in c f o) (bytes_of words)
 
--- the new code has at most 67,108,864 bytes, and the output at most 4,000 segments and 536,870,912 bytes
-pub record IsWithin (f : ElfFile) (o : Options) (blocks : List Block) (out : OutFile) : Type 0 where
-  pub code : code_size f o blocks ≤ limit_of limit.CodeBytes
+-- the new code has at most 67,108,864 bytes, or 1,048,576 with one check, and the output at most 4,000 segments and 536,870,912 bytes
+pub record IsWithin (c : NewCode) (out : OutFile) : Type 0 where
+  pub code : size_of_code c ≤ limit_of c.limit
   pub segments : length out.segments ≤ limit_of limit.OutputSegments
   pub size : length (written out) ≤ limit_of limit.OutputBytes
 
 -- ---- what is told of it
 -- the places, the data words, the size of the new code, its entries and pieces, and the bounds
-pub record IsToldOf (f : ElfFile) (o : Options) (blocks : List Block) (plan : Plan) : Type 0 where
+pub record IsToldOf (c : NewCode) (f : ElfFile) (o : Options) (blocks : List Block) (plan : Plan) : Type 0 where
   pub base : plan.base ≡ base_of (image_of f)
   pub distance : plan.distance ≡ half_of o.half (image_of f)
   pub words : plan.words ≡ word_count (data_ranges (image_of f))
-  pub code_bytes : plan.code_bytes ≡ code_size f o blocks
-  pub entries : plan.entries ≡ new_entries f o blocks
+  pub code_bytes : plan.code_bytes ≡ size_of_code c
+  pub entries : plan.entries ≡ entries_in c f o
   pub pieces : plan.pieces ≡ piece_rows blocks
   pub span : map range_of plan.span ≡ data_ranges (image_of f)
-  pub bounds : plan.bounds ≡ bounds_of (shape_of f o (is_far_code f o blocks))
+  pub bounds : plan.bounds ≡ c.bounds
+
+-- ---- the same of the one with comparisons
+abbrev pub IsNewCode : ElfFile → Options → List Block → List ℕ → Type 0
+IsNewCode f o blocks words = IsCodeFor (compared f o blocks) f o words
+
+abbrev pub woven_file : ElfFile → Options → List Block → List ℕ → OutFile
+woven_file f o blocks words = file_with (compared f o blocks) f o words

@@ -4,7 +4,7 @@ use Rattle.output_file.proofs.Counting.{test_spaced}
 use Rattle.output_file.proofs.told.plan.Goals as goal
 
 pub returns : goal.returns
-returns c = λ f o whole p.
+returns c = λ n f o whole p.
     let span = ap (map range_of) c.as_slice.ensures ∙ p.test.span in
     record {
       base = p.test.base;

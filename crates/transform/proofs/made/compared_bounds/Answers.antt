@@ -2,7 +2,7 @@ use Rattle.std.proofs.Common.{sym, subst}
 use Rattle.qed_model.specs.Weave.Bounds.{bounds_of}
 use Rattle.bound_calc.specs.Fitting.{AreSmall}
 use Rattle.transform.proofs.TestFacts.{bounds_small}
-use Rattle.transform.proofs.made.bounds_in.Goals as goal
+use Rattle.transform.proofs.made.compared_bounds.Goals as goal
 
 pub unreachable-requires : goal.unreachable-requires
 unreachable-requires c =

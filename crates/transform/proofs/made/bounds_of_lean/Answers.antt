@@ -1,0 +1,10 @@
+use Rattle.std.proofs.Common.{sym, subst}
+use Rattle.qed_model.specs.Weave.LeanBounds.{bounds_of}
+use Rattle.bound_calc.specs.Fitting.{AreSmall}
+use Rattle.transform.proofs.TestFacts.{lean_bounds_small}
+use Rattle.transform.proofs.made.bounds_of_lean.Goals as goal
+
+pub unreachable-requires : goal.unreachable-requires
+unreachable-requires c =
+    c.in-None.ensures (subst (λ s. AreSmall (bounds_of s c.args.every)) (sym c.shape_of.ensures)
+    (lean_bounds_small c.args.cut.now.file c.args.options.now c.args.cut.now.test c.args.cut.now.blocks c.requires.cut c.args.every c.requires.few))

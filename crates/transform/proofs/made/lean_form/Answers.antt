@@ -1,0 +1,38 @@
+use Rattle.std.proofs.Common.{◌≡◌, refl, sym, subst}
+use Rattle.relinker.specs.declared.error.LinkError.TheVariants as link
+use Rattle.woven_code.specs.Code.{IsCut}
+use Rattle.lean_code.specs.Code.{IsLeanCut, IsLeanCodeOf, HasCause}
+use Rattle.transform.proofs.Making.{lean_cut, lean_is, too_much_lean}
+use Rattle.transform.proofs.made.lean_form.Goals as goal
+
+pub lean_code-requires : goal.lean_code-requires
+lean_code-requires c =
+    let f = c.args.cut.now.file in
+    let o = c.args.options.now in
+    let t = c.args.cut.now.test in
+    (f, subst (IsLeanCut f o c.args.every t) (sym c.as_slice.ensures) (lean_cut f o t c.args.cut.now.blocks c.requires.cut c.args.every c.requires.form))
+
+pub returns-in-Ok-clause-code : goal.returns-in-Ok-clause-code
+returns-in-Ok-clause-code c =
+    let f = c.args.cut.now.file in
+    let o = c.args.options.now in
+    let t = c.args.cut.now.test in
+    let blocks = c.args.cut.now.blocks in
+    lean_is f o t blocks c.requires.cut c.args.every (record { linked = c.in-Ok.linked; far = false }) c.requires.form refl
+    (subst (λ bs. IsLeanCodeOf f o c.args.every bs c.in-Ok.linked) c.as_slice.ensures
+    (subst (λ x. IsLeanCodeOf f o c.args.every c.as_slice.result.now x) c.in-Ok.linked-is
+    (c.in-Ok.ensures.code f (subst (IsLeanCut f o c.args.every t) (sym c.as_slice.ensures) (lean_cut f o t blocks c.requires.cut c.args.every c.requires.form)))))
+
+pub returns-in-Err-TooLarge-clause-refused : goal.returns-in-Err-TooLarge-clause-refused
+returns-in-Err-TooLarge-clause-refused c input read cut =
+    let f = c.args.cut.now.file in
+    let o = c.args.options.now in
+    let t = c.args.cut.now.test in
+    let blocks = c.args.cut.now.blocks in
+    let n = c.in-Err-TooLarge.size in
+    let why = c.in-Err-TooLarge.ensures.cause f (subst (IsLeanCut f o c.args.every t) (sym c.as_slice.ensures) (lean_cut f o t blocks cut c.args.every c.requires.form)) in
+    let outer = c.in-Err-TooLarge.field-0-is in
+    let inner = c.in-Err-TooLarge.size-is in
+    let same : c.in-Err-TooLarge.field-0 ≡ link.TooLarge n = cc in
+    too_much_lean f o t blocks cut input c.args.every n c.requires.form read
+    (subst (λ x. HasCause f o c.args.every x (link.TooLarge n)) c.as_slice.ensures (subst (λ e. HasCause f o c.args.every c.as_slice.result.now e) same why))
