@@ -1,5 +1,5 @@
 -- What an output is made ready with.
-use Rattle.std.proofs.Common.{ℕ, zero, suc, ◌≤◌, List, inl, inr, refl, sym, ap, ◌∙◌, subst, arith}
+use Rattle.std.proofs.Common.{ℕ, zero, suc, ◌≤◌, Option, Some, None, List, inl, inr, refl, sym, ap, ◌∙◌, subst, arith}
 use Rattle.std.specs.Prelude.{IsSome, Ok}
 use Rattle.elf_types.specs.declared.file.ElfFile.{ElfFile}
 use Rattle.qed_model.specs.declared.options.Options.{Options}
@@ -8,7 +8,8 @@ use Rattle.qed_model.specs.Admission.DataRanges.{word_count, data_ranges}
 use Rattle.qed_model.specs.Weave.Bounds.{word_bound, start_steps, piece_steps}
 use Rattle.qed_model.specs.Weave.Places.{image_of}
 use Rattle.qed_model.specs.Weave.Sequences.{Block}
-use Rattle.qed_model.specs.Weave.Woven.{IsToldOf, is_far_code}
+use Rattle.qed_model.specs.Weave.Woven.{is_far_code, code_as, new_code, IsToldOf}
+use Rattle.qed_model.specs.Weave.LeanBounds as lean
 use Rattle.qed_model.specs.Weave.Forms.{shape_of}
 use Rattle.transform.specs.declared.error.TransformError.{TransformError}
 use Rattle.transform.specs.Transform.{IsErrorOr}
@@ -19,12 +20,18 @@ some_bound : (n round start piece : ℕ) → 1 ≤ n → IsSome (word_bound n ro
 some_bound zero round start piece h = absurd (omega arith)
 some_bound (suc n) round start piece h = refl
 
-pub has_words : (f : ElfFile) (o : Options) (blocks : List Block) (plan : Plan) → IsToldOf f o blocks plan → HasWords plan
+some_lean_bound : (n round ends period : ℕ) → 1 ≤ n → IsSome (lean.word_bound n round ends period)
+some_lean_bound zero round ends period h = absurd (omega arith)
+some_lean_bound (suc n) round ends period h = refl
+
+some_word : (l : Option ℕ) (f : ElfFile) (o : Options) (blocks : List Block) → 1 ≤ word_count (data_ranges (image_of f)) → IsSome (code_as l f o blocks).bounds.word
+some_word None f o blocks h = let shape = shape_of f o (is_far_code f o blocks) in some_bound (word_count (data_ranges (image_of f))) shape.round (start_steps shape) (piece_steps shape) h
+some_word (Some every) f o blocks h = some_lean_bound (word_count (data_ranges (image_of f))) _ _ _ h
+
+pub has_words : (f : ElfFile) (o : Options) (blocks : List Block) (plan : Plan) → IsToldOf (new_code f o blocks) f o blocks plan → HasWords plan
 has_words f o blocks plan told = record {
   count = told.words ∙ ap word_count (sym told.span);
-  bound = λ h.
-      let shape = shape_of f o (is_far_code f o blocks) in
-      subst (λ b. IsSome b.word) (sym told.bounds) (some_bound (word_count (data_ranges (image_of f))) shape.round (start_steps shape) (piece_steps shape) (subst (λ n. 1 ≤ n) told.words h));
+  bound = λ h. subst (λ b. IsSome b.word) (sym told.bounds) (some_word o.lean f o blocks (subst (λ n. 1 ≤ n) told.words h));
 }
 
 -- ---- both runs

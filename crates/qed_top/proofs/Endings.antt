@@ -10,6 +10,7 @@ use Rattle.qed_io.specs.Counts.{Rose, RoseAt, NoneFell}
 use Rattle.qed_model.specs.declared.aim.Draws.{Draws}
 use Rattle.qed_model.specs.declared.change.Change.{Change}
 use Rattle.elf_types.specs.declared.file.ElfFile.{ElfFile}
+use Rattle.qed_model.specs.declared.limits.Limit.TheVariants as limit
 use Rattle.qed_model.specs.declared.options.Options.{Options}
 use Rattle.command_line.specs.declared.order.Order.{Order}
 use Rattle.command_line.specs.declared.order.Order.TheVariants as order
@@ -319,7 +320,7 @@ run_unique : (reached : Bool) (bytes : List ℕ) (done : ElfFile → Status) (s 
 run_unique false bytes done s t r q = read_unique bytes done s t r q
 run_unique true bytes done s t r q = watch_unique bytes done s t r q
 
-code_is_no_memory : (n : ℕ) → transform.TooLarge n ≡ transform.Memory → ⊥
+code_is_no_memory : (n : ℕ) → transform.TooLarge limit.CodeBytes n ≡ transform.Memory → ⊥
 code_is_no_memory n e = absurd (cc)
 
 -- what is answered has the status that is decided
@@ -393,7 +394,7 @@ gens_settled output seed size answer t (gens.large_code l) (gens.has_large_code 
 gens_settled output seed size answer t (gens.large_code l) (gens.has_small_code none e) = absurd (none l.bytes l.cause)
 gens_settled output seed size answer t (gens.generates m) (gens.has_large_code n c e) =
     let bytes = test_bytes seed size in
-    absurd (code_is_no_memory n (memory_only bytes default_options (transform.TooLarge n) c (transformable_of bytes default_options m.file m.plan m.made)))
+    absurd (code_is_no_memory n (memory_only bytes default_options (transform.TooLarge limit.CodeBytes n) c (transformable_of bytes default_options m.file m.plan m.made)))
 gens_settled output seed size answer t (gens.generates m) (gens.has_small_code none e) = m.uses.status ∙ sym e
 
 -- an order, over the bytes of its file

@@ -1,5 +1,6 @@
 -- What `gen` comes to: no rule refuses its test and no limit but that of new code is exceeded, and both runs have ended.
 use Rattle.std.proofs.Common.{◌≡◌, ◌≢◌, ◌⊎◌, inl, inr, ℕ, ◌≤◌, List, refl, sym, ap, ◌∙◌, subst, arith}
+use Rattle.qed_model.specs.declared.limits.Limit.TheVariants as limit
 use Rattle.qed_model.specs.declared.machine.Outcome.TheVariants.{Ended}
 use Rattle.qed_model.specs.declared.plan.Plan.{Plan}
 use Rattle.qed_model.specs.Options.{default_options}
@@ -23,13 +24,13 @@ use Rattle.qed_top.specs.declared.answer.Answer.{Answer}
 module _ (seed size : ℕ) (some : 1 ≤ size) (most : size ≤ 60000) where
   -- want of memory, or new code that is too large
   abbrev pub IsLarge : TransformError → Type 0
-  IsLarge e = (e ≡ error.Memory) ⊎ ((n : ℕ) × (e ≡ error.TooLarge n))
+  IsLarge e = (e ≡ error.Memory) ⊎ ((n : ℕ) × (e ≡ error.TooLarge limit.CodeBytes n))
 
   -- an error has no other cause
   pub only_large : (e : TransformError) → HasCause (test_bytes seed size) default_options e → IsLarge e
   only_large (error.Elf x) c = absurd (test_not_refused seed size some most x c)
   only_large (error.Admit x) c = absurd (test_not_denied seed size some most c.file c.read x c.refused)
-  only_large (error.TooLarge n) c = inr (n, refl)
+  only_large (error.TooLarge l n) c = inr (n, ap (λ k. error.TooLarge k n) c.limit)
   only_large (error.TooManySegments n) c =
       let within = (test_weavable seed size some most).within c.out c.file c.code in
       absurd (omega (arith, c.over, c.count, within.segments))

@@ -56,7 +56,7 @@ admit_refuses admit.Memory = tt
 pub refusal_refuses : (e : TransformError) → IsRefusal (refusal_status e)
 refusal_refuses (transform.Elf e) = error_refuses e
 refusal_refuses (transform.Admit e) = admit_refuses e
-refusal_refuses (transform.TooLarge n) = tt
+refusal_refuses (transform.TooLarge most n) = tt
 refusal_refuses (transform.TooManySegments n) = tt
 refusal_refuses (transform.FileTooLong n) = tt
 refusal_refuses transform.Memory = tt

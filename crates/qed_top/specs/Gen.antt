@@ -55,7 +55,7 @@ pub record Generates (output : List ℕ) (seed size : ℕ) (file : List ℕ) (pl
 -- L4: the new code of the test would have too many bytes
 pub record HasLargeCode (seed size : ℕ) (answer : Answer) : Type 0 where
   pub bytes : ℕ
-  pub cause : HasTooMuchCode (test_bytes seed size) default_options bytes
+  pub cause : HasTooMuchCode (test_bytes seed size) default_options limit.CodeBytes bytes
   pub plain : PrintsOnly Limit (limit_line limit.CodeBytes bytes) answer
 
 -- the answer for an output, a seed and a size: the test is never refused, and exceeds no other limit
@@ -65,5 +65,5 @@ pub data Gens (output : List ℕ) (seed size : ℕ) (answer : Answer) : Type 0 w
 
 -- the status, by what is true of the test
 pub data GenDecides (seed size : ℕ) (status : Status) : Type 0 where
-  has_large_code : (n : ℕ) → HasTooMuchCode (test_bytes seed size) default_options n → status ≡ Limit → GenDecides seed size status
-  has_small_code : ((n : ℕ) → HasTooMuchCode (test_bytes seed size) default_options n → ⊥) → status ≡ Done → GenDecides seed size status
+  has_large_code : (n : ℕ) → HasTooMuchCode (test_bytes seed size) default_options limit.CodeBytes n → status ≡ Limit → GenDecides seed size status
+  has_small_code : ((n : ℕ) → HasTooMuchCode (test_bytes seed size) default_options limit.CodeBytes n → ⊥) → status ≡ Done → GenDecides seed size status

@@ -13,7 +13,7 @@ use Rattle.qed_model.specs.Limits.{limit_of}
 use Rattle.qed_model.specs.Machine.Loading.{loaded_file}
 use Rattle.qed_model.specs.Admission.DataRanges.{range_of}
 use Rattle.qed_model.specs.Admission.Reached.{AreReached}
-use Rattle.qed_model.specs.Weave.Woven.{IsWithin, IsToldOf}
+use Rattle.qed_model.specs.Weave.Woven.{new_code, IsWithin, IsToldOf}
 use Rattle.elf_files.specs.Output.{Woven}
 use Rattle.command_line.specs.Text.Plan.{plan_line}
 use Rattle.command_line.specs.Words.{asked}
@@ -24,7 +24,7 @@ use Rattle.qed_top.specs.declared.status.Status.{Status}
 use Rattle.qed_top.specs.declared.status.Status.TheVariants.{Done}
 
 -- IN is a test and OUT a program that was woven from it, with these options, and both are within the limits. The program's run has the values of the test's run
--- after each of its steps, and no check fires; a jump to a wrong entry fires; changes of original registers and of data words are
+-- after each of its steps, and no check fires; a jump to a wrong entry fires, in the form with comparisons; changes of original registers and of data words are
 -- caught; with the sweep none is silent at the end. This holds as far as the test does not trap, for any addresses that are reached; where only
 -- those have entries of which the file shows that they are, its jumps by register have to lead to these. Bounds,
 -- entries and data ranges are those of the woven plan, whose numbers the line tells: of its bounds those of a register and of a word.
@@ -39,8 +39,8 @@ pub record IsPromised (input : List ℕ) (options : Options) (output line : List
       → Promised (loaded_file test) (loaded_file program) reached (map range_of plan.span) options plan
   pub woven : Woven input options output
   pub taken : length input ≤ limit_of FileBytes
-  pub within : IsWithin woven.file.file options woven.file.blocks woven.out
-  pub told : IsToldOf woven.file.file options woven.file.blocks plan
+  pub within : IsWithin (new_code woven.file.file options woven.file.blocks) woven.out
+  pub told : IsToldOf (new_code woven.file.file options woven.file.blocks) woven.file.file options woven.file.blocks plan
   pub printed : line ≡ plan_line plan
 
 -- OUT was stored, all other files are as they were, and the line was printed

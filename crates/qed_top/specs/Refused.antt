@@ -50,7 +50,7 @@ pub record IsUnadmitted (bytes : List ℕ) (o : Options) (answer : Answer) : Typ
 abbrev pub refusal_status : TransformError → Status
 refusal_status (transform.Elf e) = error_status e
 refusal_status (transform.Admit e) = admit_status e
-refusal_status (transform.TooLarge n) = Limit
+refusal_status (transform.TooLarge most n) = Limit
 refusal_status (transform.TooManySegments n) = Limit
 refusal_status (transform.FileTooLong n) = Limit
 refusal_status transform.Memory = Refused
@@ -58,7 +58,7 @@ refusal_status transform.Memory = Refused
 abbrev pub refusal_line : TransformError → List ℕ
 refusal_line (transform.Elf e) = error_line e
 refusal_line (transform.Admit e) = admit_line e
-refusal_line (transform.TooLarge n) = limit_line limit.CodeBytes n
+refusal_line (transform.TooLarge most n) = limit_line most n
 refusal_line (transform.TooManySegments n) = limit_line limit.OutputSegments n
 refusal_line (transform.FileTooLong n) = limit_line limit.OutputBytes n
 refusal_line transform.Memory = []

@@ -42,7 +42,7 @@ fn refusal_text(alloc: Global, error: &TransformError) -> Result<Bytes, AllocErr
     match error {
         TransformError::Elf(unread) => Ok(error_text(alloc, *unread)?),
         TransformError::Admit(rule) => Ok(admit_text(alloc, rule)?),
-        TransformError::TooLarge(n) => Ok(limit_text(alloc, Limit::CodeBytes, u128::from(*n))?),
+        TransformError::TooLarge(most, n) => Ok(limit_text(alloc, *most, u128::from(*n))?),
         TransformError::TooManySegments(n) => Ok(limit_text(
             alloc,
             Limit::OutputSegments,
@@ -82,7 +82,7 @@ fn refusal_status_of(error: &TransformError) -> Status
     match error {
         TransformError::Elf(unread) => status_of(*unread),
         TransformError::Admit(rule) => admit_status_of(*rule),
-        TransformError::TooLarge(_) => Status::Limit,
+        TransformError::TooLarge(..) => Status::Limit,
         TransformError::TooManySegments(_) => Status::Limit,
         TransformError::FileTooLong(_) => Status::Limit,
         TransformError::Memory => Status::Refused,

@@ -32,7 +32,7 @@ use Rattle.qed_model.specs.Weave.OutputFile.{has_table, last_input, data_in, fil
 use Rattle.qed_model.specs.Weave.OutputParts.{copied, copies}
 use Rattle.qed_model.specs.Weave.Places.{AreSoundOptions, image_of, half_of, code_place}
 use Rattle.qed_model.specs.Weave.Sequences.{Block}
-use Rattle.qed_model.specs.Weave.Woven.{is_far_code, new_items, code_size, new_entries, IsNewCode, woven_file, IsWithin}
+use Rattle.qed_model.specs.Weave.Woven.{is_far_code, new_items, code_size, new_entries, compared, IsNewCode, woven_file, IsWithin}
 use Rattle.qed_model.specs.Weave.Forms.{shape_of}
 use Rattle.elf_files.specs.Output.{WovenFile}
 use Rattle.qed_model.proofs.BelowLaws.{length-each}
@@ -297,7 +297,7 @@ module _ (seed n x y z : ℕ) (some : 1 ≤ n) (few : n ≤ 1875) where
               (all_symbols IsShortName n few (omega arith) (λ i l. function_name_size i l));
         }
 
-    file_within : IsWithin f default_options bs out
+    file_within : IsWithin (compared f default_options bs) out
     file_within = record {
       code = short;
       segments = omega (arith, few_segments f None (has_table bs) rows (bytes_of words) small);
@@ -341,7 +341,7 @@ module _ (seed n x y z : ℕ) (some : 1 ≤ n) (few : n ≤ 1875) where
 -- ---- the test of a seed and a size
 -- what is woven from a file is within the limits, where its new code is, and its run ends
 record IsGood (f : ElfFile) (bs : List Block) (words : List ℕ) : Type 0 where
-  within : IsWithin f default_options bs (woven_file f default_options bs words)
+  within : IsWithin (compared f default_options bs) (woven_file f default_options bs words)
   ends :
       (regs : List ℕ) → AreStartRegs regs
       → EndsWithin (start (loaded_file (file_read (woven_file f default_options bs words))) regs) most_output_steps
@@ -373,7 +373,7 @@ test_weavable seed size some most =
     let woven : (out : OutFile) (w : WovenFile test default_options out) → HasSmallCode test out w → IsGood w.file w.blocks w.words =
     λ out w short. good w.file w.has.read w.blocks w.words w.has.are w.has.code short in
     record {
-      within = λ out w short. subst (IsWithin w.file default_options w.blocks) (sym w.woven) (woven out w short).within;
+      within = λ out w short. subst (IsWithin (compared w.file default_options w.blocks)) (sym w.woven) (woven out w short).within;
       ends = λ out w short regs start_regs.
           subst (λ o. EndsWithin (start (loaded_file (file_read o)) regs) most_output_steps) (sym w.woven)
           ((woven out w short).ends regs start_regs);

@@ -7,7 +7,7 @@ use Rattle.qed_model.specs.Options.{default_options}
 use Rattle.qed_model.specs.Elf.FileRead.{file_read}
 use Rattle.qed_model.specs.Machine.Loading.{loaded_file}
 use Rattle.qed_model.specs.Machine.Program.{AreStartRegs, start}
-use Rattle.qed_model.specs.Weave.Woven.{code_size, IsWithin}
+use Rattle.qed_model.specs.Weave.Woven.{code_size, compared, IsWithin}
 use Rattle.elf_files.specs.Output.{WovenFile}
 use Rattle.test_gen.specs.Ends.{EndsWithin}
 
@@ -23,7 +23,7 @@ HasSmallCode bytes out w = code_size w.file default_options w.blocks ≤ limit_o
 pub record IsWeavable (bytes : List ℕ) : Type 0 where
   pub within :
       (out : OutFile) (w : WovenFile bytes default_options out) → HasSmallCode bytes out w
-      → IsWithin w.file default_options w.blocks out
+      → IsWithin (compared w.file default_options w.blocks) out
   pub ends :
       (out : OutFile) (w : WovenFile bytes default_options out) → HasSmallCode bytes out w → (regs : List ℕ) → AreStartRegs regs
       → EndsWithin (start (loaded_file (file_read out)) regs) most_output_steps

@@ -1,29 +1,39 @@
 -- What is told of the new code of a test.
-use Rattle.std.proofs.Common.{◌≡◌, ℕ, ◌*◌, List, length, map, arith, ◌∙◌, sym, ap, subst}
+use Rattle.std.proofs.Common.{◌≡◌, ℕ, ◌*◌, ◌≤◌, Option, Some, None, List, length, map, arith, ◌∙◌, sym, ap, subst}
 use Rattle.elf_types.specs.declared.file.ElfFile.{ElfFile}
 use Rattle.qed_model.specs.declared.options.Options.{Options}
 use Rattle.qed_model.specs.declared.plan.Plan.{Plan}
 use Rattle.qed_model.specs.declared.test.Test.{Test}
+use Rattle.qed_model.specs.Limits.{limit_of}
 use Rattle.qed_model.specs.Weave.Roles.{new_roles}
+use Rattle.qed_model.specs.Weave.Sequences.{Block}
+use Rattle.qed_model.specs.Weave.Woven.{code_as, size_of_code}
 use Rattle.elf_files.specs.File.{File}
 use Rattle.elf_files.specs.Output.{HasNewCode}
 use Rattle.block_list.specs.declared.block.CodeBlock.{CodeBlock}
 use Rattle.block_list.specs.Listed.{block_of}
 use Rattle.woven_code.specs.declared.code.WovenCode.{WovenCode}
-use Rattle.woven_code.specs.Code.{place_of, IsCut, IsCodeOf}
+use Rattle.woven_code.specs.Code.{place_of, IsCut}
 use Rattle.transform.specs.declared.explained.Explained.{Explained}
 use Rattle.transform.specs.Explained.{IsExplained}
 use Rattle.transform.specs.Transform.{Transforms}
-use Rattle.transform.proofs.Making.{woven_test, size_is}
+use Rattle.transform.specs.Made.{code_for, IsCoded}
+use Rattle.transform.proofs.Making.{test, size_is}
+
+-- both limits are within the room for the new code
+most_room : (f : ElfFile) (o : Options) (bs : List Block) (l : Option ℕ) → size_of_code (code_as l f o bs) ≤ limit_of (code_as l f o bs).limit → size_of_code (code_as l f o bs) ≤ 67108864
+most_room f o bs None few = few
+most_room f o bs (Some every) few = omega (arith, few)
 
 pub explained_of :
     (input : List ℕ) (o : Options) (t : Test) (blocks : List CodeBlock) (output : List ℕ) (plan : Plan) (x : Explained) (code : WovenCode)
-    → Transforms input o output plan → File input x.file → IsCut x.file o t blocks → IsCodeOf x.file o blocks code → x.words.items ≡ code.linked.words.items
+    → Transforms input o output plan → File input x.file → IsCut x.file o t blocks → IsCoded (code_for x.file o blocks) x.file o code → x.words.items ≡ code.linked.words.items
     → x.base ≡ place_of t → x.roles.items ≡ new_roles x.file o (map block_of blocks) → IsExplained input o x
 explained_of input o t blocks output plan x code made read cut is same base roles =
     let size : 4 * length x.words.items ≡ 4 * length code.linked.words.items = ap (λ ws. 4 * length ws) same in
     let whole = size_is x.file o t blocks cut code is in
-    let test = woven_test x.file o t blocks cut code is in
+    let test = test x.file o t blocks cut code is in
+    let small = most_room x.file o (map block_of blocks) o.lean is.few in
     record {
       output = output;
       plan = plan;
@@ -33,5 +43,5 @@ explained_of input o t blocks output plan x code made read cut is same base role
       base = omega (arith, base, cut.told.base, cut.told.distance);
       roles = roles;
       size = size ∙ whole;
-      fits = omega (arith, base, cut.told.base, cut.told.distance, cut.blocked.admitted.top, is.few);
+      fits = omega (arith, base, cut.told.base, cut.told.distance, cut.blocked.admitted.top, small);
     }

@@ -5,7 +5,7 @@ use Rattle.qed_model.specs.declared.plan.Plan.{Plan}
 use Rattle.qed_model.specs.Weave.Places.{image_of, code_place}
 use Rattle.qed_model.specs.Weave.Roles.{new_roles}
 use Rattle.qed_model.specs.Weave.Sequences.{Block}
-use Rattle.qed_model.specs.Weave.Woven.{code_size}
+use Rattle.qed_model.specs.Weave.Woven.{new_code, size_of_code}
 use Rattle.elf_files.specs.Output.{HasNewCode}
 use Rattle.transform.specs.declared.explained.Explained.{Explained}
 use Rattle.transform.specs.Transform.{Transforms}
@@ -20,5 +20,5 @@ pub record IsExplained (input : List ℕ) (o : Options) (x : Explained) : Type 0
   pub code : HasNewCode input o x.file blocks x.words.items
   pub base : x.base ≡ code_place o.half (image_of x.file)
   pub roles : x.roles.items ≡ new_roles x.file o blocks
-  pub size : 4 * length x.words.items ≡ code_size x.file o blocks
-  pub fits : x.base + code_size x.file o blocks < 2 ^ 64
+  pub size : 4 * length x.words.items ≡ size_of_code (new_code x.file o blocks)
+  pub fits : x.base + size_of_code (new_code x.file o blocks) < 2 ^ 64

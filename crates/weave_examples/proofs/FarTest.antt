@@ -10,7 +10,7 @@ use Rattle.qed_model.specs.Weave.Blocks.{AreBlocks}
 use Rattle.qed_model.specs.Weave.Bounds.{bounds_of}
 use Rattle.qed_model.specs.Weave.Places.{AreSoundOptions}
 use Rattle.qed_model.specs.Weave.Placed.{sum_of_sizes}
-use Rattle.qed_model.specs.Weave.Woven.{is_far_code, code_size, items_in, IsToldOf}
+use Rattle.qed_model.specs.Weave.Woven.{is_far_code, code_size, items_in, compared, IsToldOf}
 use Rattle.qed_model.specs.Weave.Forms.{shape_of}
 use Rattle.qed_model.proofs.ExampleBlocks as made
 use Rattle.qed_model.proofs.ExampleCode as code
@@ -123,7 +123,7 @@ size : code_size far_test far_options far_blocks ≡ 1182628
 size = ap (λ b. sum_of_sizes b (items_in far_test far_options b far_blocks)) far ∙ far_size
 
 -- ---- what is told of its output
-told : IsToldOf far_test far_options far_blocks far_plan
+told : IsToldOf (compared far_test far_options far_blocks) far_test far_options far_blocks far_plan
 told = record {
   base = refl;
   distance = refl;

@@ -10,7 +10,7 @@ use Rattle.qed_model.specs.Machine.Cells.{number_among}
 use Rattle.qed_model.specs.Admission.Refusals.{IsAdmitted}
 use Rattle.qed_model.specs.Weave.Sequences.{Block, Falls, Stops}
 use Rattle.qed_model.specs.Weave.Blocks.{AreBlocks}
-use Rattle.qed_model.specs.Weave.Woven.{IsToldOf}
+use Rattle.qed_model.specs.Weave.Woven.{compared, IsToldOf}
 use Rattle.qed_model.proofs.ExampleCode as code
 use Rattle.qed_model.proofs.ExampleBlocks as made
 use Rattle.qed_model.proofs.ExampleCode.{IsCodeOf, options, defaults, swept}
@@ -74,5 +74,5 @@ loop_plan = record {
   bounds = record { piece = 120; register = 272; word = None; start = 32 };
 }
 
-pub loop_told : IsToldOf loop defaults loop_blocks loop_plan
+pub loop_told : IsToldOf (compared loop defaults loop_blocks) loop defaults loop_blocks loop_plan
 loop_told = record { base = refl; distance = refl; words = refl; code_bytes = refl; entries = refl; pieces = refl; span = refl; bounds = refl }

@@ -10,7 +10,7 @@ use Rattle.qed_model.specs.Machine.Cells.{number_among}
 use Rattle.qed_model.specs.Admission.Refusals.{IsAdmitted}
 use Rattle.qed_model.specs.Weave.Sequences.{Block, Stops}
 use Rattle.qed_model.specs.Weave.Blocks.{AreBlocks}
-use Rattle.qed_model.specs.Weave.Woven.{IsToldOf}
+use Rattle.qed_model.specs.Weave.Woven.{compared, IsToldOf}
 use Rattle.qed_model.proofs.ExampleCode as code
 use Rattle.qed_model.proofs.ExampleBlocks as made
 use Rattle.qed_model.proofs.ExampleCode.{IsCodeOf, options, defaults, swept}
@@ -66,5 +66,5 @@ store_plan = record {
   bounds = record { piece = 120; register = 272; word = Some 392; start = 32 };
 }
 
-pub store_told : IsToldOf store defaults store_blocks store_plan
+pub store_told : IsToldOf (compared store defaults store_blocks) store defaults store_blocks store_plan
 store_told = record { base = refl; distance = refl; words = refl; code_bytes = refl; entries = refl; pieces = refl; span = refl; bounds = refl }

@@ -18,7 +18,7 @@ use Rattle.qed_model.specs.Promise.Kept.{any_address, Kept}
 use Rattle.qed_model.specs.Promise.Landed.{Landed}
 use Rattle.qed_model.specs.Weave.OutputFile.{has_table, piece_rows}
 use Rattle.qed_model.specs.Weave.Sequences.{Block, Stops}
-use Rattle.qed_model.specs.Weave.Woven.{is_far_code, new_entries, woven_file, IsToldOf}
+use Rattle.qed_model.specs.Weave.Woven.{is_far_code, new_entries, compared, woven_file, IsToldOf}
 use Rattle.weave_core.specs.Tests.{IsWovenTest}
 
 -- ---- its bytes
@@ -162,7 +162,7 @@ pub record FarPromised : Type 0 where
   pub woven : IsWovenTest far_test far_options far_blocks words
   pub far : is_far_code far_test far_options far_blocks ≡ true
   pub table : has_table far_blocks ≡ true
-  pub told : IsToldOf far_test far_options far_blocks far_plan
+  pub told : IsToldOf (compared far_test far_options far_blocks) far_test far_options far_blocks far_plan
   pub kept : Kept (loaded_file far_test) (far_output words) any_address 67 13470
   pub landed : Landed (loaded_file far_test) (far_output words) any_address far_plan.entries
   pub caught : Caught (loaded_file far_test) (far_output words) any_address far_ranges far_plan.bounds

@@ -1,4 +1,4 @@
-use Rattle.std.proofs.Common.{◌≡◌, refl, sym, subst}
+use Rattle.std.proofs.Common.{◌≡◌, false, refl, sym, subst}
 use Rattle.relinker.specs.declared.error.LinkError.TheVariants as link
 use Rattle.woven_code.specs.Code.{IsCut}
 use Rattle.lean_code.specs.Code.{IsLeanCut, IsLeanCodeOf, HasCause}

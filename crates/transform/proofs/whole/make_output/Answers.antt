@@ -1,4 +1,5 @@
 use Rattle.transform.specs.Made.{IsMade}
+use Rattle.transform.specs.declared.error.TransformError.TheVariants as error
 use Rattle.transform.specs.Transform.{HasCause}
 use Rattle.transform.proofs.Promises.{writes, done, exceeded, if_err}
 use Rattle.transform.proofs.whole.make_output.Goals as goal
@@ -17,6 +18,10 @@ write_elf-requires c =
     let cut = c.in_ok-cut.cut in
     let made = c.in_ok-made.made in
     writes c.args.bytes.now cut.file c.args.options.now cut.blocks made.out made.plan c.in_ok-cut.ensures.read c.in_ok-made.ensures.made c.in_ok-check_limits.ensures.short
+
+pub returns-in_err-write_elf-clause-refused : goal.returns-in_err-write_elf-clause-refused
+returns-in_err-write_elf-clause-refused c =
+    if_err c.from_residual-in_err-write_elf.result error.Memory (HasCause c.args.bytes.now c.args.options.now) c.from_residual-in_err-write_elf.ensures.1 tt
 
 pub returns-clause-done : goal.returns-clause-done
 returns-clause-done c =
