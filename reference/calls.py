@@ -17,6 +17,7 @@ from generator import generate
 from machine import ENDED, FIRED, GOING, Hart, Memory, Watched, code_ranges, loads_of, run_changed, start, start_watched
 from output import output_file, packed, plain_file
 from texts import Exceeded, Refused, Stopped, encoded, hex16, number_or_none
+from lean import Lean, weave_lean
 from weave import Role, Weave, Woven, pair, weave
 from words import Order, order_of
 
@@ -80,7 +81,7 @@ class Transformed:
 def transform(data: bytes, options: Options) -> Transformed:
     """What a file is transformed to, by all rules and limits in their order ("Printed lines")."""
     test = admit(read_elf(data), options)
-    woven = weave(test, options, blocks(test, options))
+    woven = (weave if options.lean is None else weave_lean)(test, options, blocks(test, options))
     return Transformed(test, woven, output_file(test, woven))
 
 
@@ -134,15 +135,18 @@ def fired_line(role: Role) -> str:
     """What differed where the EBREAK of a role is reached ("Printed lines", explain)."""
     if role.register:
         return f"fired: x{role.register} and x{pair(role.register)} differ\n"
-    if role.name == "entry":
+    if role.name in ("entry", "signature"):
         return f"fired: the signature is not that of {hex16(role.addresses[0])}\n"
+    if role.name in ("check", "tick"):
+        return "fired: the check was called from another block than that of the signature\n" if role.name == "check" else ""
     return "fired: a data word and its duplicate differ, its address is in x15\n"
 
 
 def explained(done: Transformed, options: Options, at: Optional[int]) -> str:
     """What each word of the new code is for, or the word at one address ("Printed lines", explain)."""
     base, words = done.test.new_code, done.woven.words
-    roles = Weave(done.test, options, done.woven.far).roles(done.woven.blocks)
+    of = done.woven
+    roles = Weave(done.test, options, of.far).roles(of.blocks) if options.lean is None else Lean(done.test, options, of.blocks).roles()
     if at is None:
         return "".join(role_line(base + 4 * k, word, role) for k, (word, role) in enumerate(zip(words, roles)))
     if at % 4 != 0 or not base <= at < base + 4 * len(words):

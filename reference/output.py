@@ -71,7 +71,7 @@ def output_file(test: Test, woven: Woven) -> bytes:
     segments = half + [load_segment(s.flags, s.vaddr + test.distance, s.data, s.memsz) for s in half]
     code = load_segment(5, test.new_code, packed("I", woven.words), 4 * len(woven.words))
     sections: List[Written] = [(b".qed.text", code)]
-    if any(block.end is not None and block.end.name == "jalr" for block in woven.blocks):
+    if woven.has_table:
         table = _table(test, woven.entries)
         segments.append(table)
         sections.append((b".qed.table", table))

@@ -37,15 +37,16 @@ Item = Union[int, Const, Go]
 
 
 class Role(NamedTuple):
-    """What words are for: a name, the register that is compared, and the input addresses that are told ("Roles")."""
+    """What words are for: a name, the register that is compared, and the input addresses or else the place that are told ("Roles")."""
     name: str
     addresses: Tuple[int, ...] = ()
     register: int = 0
+    place: str = ""
 
     def text(self) -> str:
         """The role in a line."""
         register = f" x{self.register}" if self.register else ""
-        place = "..".join(map(hex16, self.addresses)) or ("end" if self.name == "compare" else "")
+        place = "..".join(map(hex16, self.addresses)) or self.place
         return f"{self.name}{register} {place}".rstrip()
 
 
@@ -71,9 +72,9 @@ def guard(register: int) -> List[Item]:
     return [*words_of(f"beq x{register}, x{pair(register)}, 8; ebreak")] if register else []
 
 
-def guards(name: str, addresses: Tuple[int, ...], registers: Iterable[int]) -> List[Part]:
+def guards(name: str, addresses: Tuple[int, ...], registers: Iterable[int], place: str = "") -> List[Part]:
     """The guards of registers, one where they are the same."""
-    return [(Role(name, addresses, register), guard(register)) for register in dict.fromkeys(registers)]
+    return [(Role(name, addresses, register, place), guard(register)) for register in dict.fromkeys(registers)]
 
 
 def original_part(i: Instruction, address: int) -> List[Part]:
@@ -146,9 +147,9 @@ def other_form(i: Instruction) -> Tuple[int, ...]:
 
 # Comparisons
 
-def compare(addresses: Tuple[int, ...]) -> List[Part]:
-    """Compare, behind the piece from one address to another, or before the end ("Code sequences")."""
-    return guards("compare", addresses, range(1, 14))
+def compare(addresses: Tuple[int, ...], place: str = "") -> List[Part]:
+    """Compare, behind the piece from one address to another, or at a place ("Code sequences")."""
+    return guards("compare", addresses, range(1, 14), place)
 
 
 COMPARE_WORD: List[Item] = [*words_of("ld x30, 0(x15); add x31, x15, x14; ld x31, 0(x31); beq x30, x31, 8; ebreak; "
@@ -183,7 +184,7 @@ class Weave:
         self.test, self.diverse, self.far = test, options.diverse, far
         self.visited = visit(test.data, options.round)
         self.checks = items_of(compare(())) + self.visited
-        self.end = [(Role("sweep"), sweep(test.data)), *compare(())] if options.sweep else []
+        self.end = [(Role("sweep"), sweep(test.data)), *compare((), "end")] if options.sweep else []
 
     def leave(self, block: Block) -> List[Part]:
         """The leave of a block ("Pieces, entries, the whole code")."""
@@ -307,12 +308,14 @@ def bounds(words: int, ranges: int, options: Options, far: bool) -> Bounds:
 
 @dataclass
 class Woven:
-    """The new code of a test with its blocks, entries and bounds, and whether it is far ("Code sequences")."""
+    """The new code of a test with its blocks, entries and bounds, whether it is far, and whether the output has a table
+    ("Code sequences")."""
     words: List[int]
     blocks: List[Block]
     entries: Dict[int, int]
     bounds: Bounds
     far: bool
+    has_table: bool
 
 
 def weave(test: Test, options: Options, blocks: List[Block]) -> Woven:
@@ -329,4 +332,5 @@ def weave(test: Test, options: Options, blocks: List[Block]) -> Woven:
     words: List[int] = []
     for part, start in zip(parts, starts):
         words += linked(part, start, entries, starts[-1], far)
-    return Woven(words + [0], blocks, entries, bounds(test.data_words, len(test.data), options, far), far)
+    has_table = any(block.end is not None and block.end.name == "jalr" for block in blocks)
+    return Woven(words + [0], blocks, entries, bounds(test.data_words, len(test.data), options, far), far, has_table)
