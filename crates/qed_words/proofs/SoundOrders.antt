@@ -13,7 +13,7 @@ use Rattle.command_line.specs.declared.order.Command.TheVariants.{Transform, Pla
 use Rattle.command_line.specs.declared.order.Command.TheVariants as command
 use Rattle.command_line.specs.declared.order.Order.{Order}
 use Rattle.command_line.specs.declared.order.Key.{Key}
-use Rattle.command_line.specs.declared.order.Key.TheVariants.{InstMin, InstMax, Round, Half, Every, Lean, Steps, Fault, Dump, Seed, Count, Size, Changes, Turns}
+use Rattle.command_line.specs.declared.order.Key.TheVariants.{InstMin, InstMax, Round, Half, Every, Lean, Steps, Fault, Dump, Seed, Count, Size, Changes, Only, From, To, Turns, At, Results}
 use Rattle.command_line.specs.declared.order.Reason.{Reason}
 use Rattle.command_line.specs.declared.order.Reason.TheVariants.{MissingFile, MissingOption, OutOfRange, Split, FewSteps}
 use Rattle.qed_model.specs.Promise.Changed.{Ordered}
@@ -299,9 +299,9 @@ schedule_parts count (Some harts) fits = (fits.some, fits.below)
 
 order_sound : (command : Command) (given : List Argument) → IsFaultless command given → IsSoundOrder (order_of command given)
 unfolding order_of wrong_value missing draws
-order_sound Transform given f = options_fit _ given f.values f.room f.lean
-order_sound Plan given f = options_fit _ given f.values f.room f.lean
-order_sound Explain given f = options_fit _ given f.values f.room f.lean
+order_sound Transform given f = options_fit [] given f.values f.room f.lean
+order_sound Plan given f = options_fit [] given f.values f.room f.lean
+order_sound Explain given f = options_fit (At ∷ []) given f.values f.room f.lean
 order_sound Run given f = record {
   few = steps_fit given f.values.0;
   ordered = changes_ordered given;
@@ -309,7 +309,7 @@ order_sound Run given f = record {
 }
 order_sound Campaign given f =
     let there : (lacks given Seed ≡ false) × (lacks given Count ≡ false) = both_there given Seed Count _ f.there in (
-      options_fit _ given f.values f.room f.lean,
+      options_fit (Seed ∷ Count ∷ Changes ∷ Only ∷ From ∷ To ∷ Results ∷ []) given f.values f.room f.lean,
       there_in_range 1 10000 0 (number_given Count given) (number_there_fits Count given (λ _ _. refl) there.1 f.values.1.1.1.1.1.1.1.1.1.1.0),
       in_range 1 16 1 (number_given Changes given) (number_given_fits Changes given (λ _ _. refl) f.values.1.1.1.1.1.1.1.1.1.1.1.0) (omega arith, omega arith),
     )
