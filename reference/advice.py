@@ -64,6 +64,8 @@ def _usage(words: List[str], reason: str) -> str:
     head, _, tail = reason.rpartition(" ")
     if head not in SENTENCES:
         head, tail = reason, ""
+    steps = f" {tail}" if head == "few steps" else ""
+    tail = {"all entries": "entries", "few steps": "every"}.get(head, tail)
     called = OTHER_NAMES.get(words[0], words[0]) if words else ""
     command = called if called in COMMANDS else None
     if head == "unknown command":
@@ -73,7 +75,7 @@ def _usage(words: List[str], reason: str) -> str:
         fault = int(tail), words[int(tail)]
     else:
         fault = _value(words, tail) if tail else None
-    text = SENTENCES[head]
+    text = SENTENCES[head] + steps
     if fault:
         text = f"'{fault[1]}', word {fault[0]}: {text}"
     elif head == "missing option":
@@ -199,7 +201,7 @@ def _growth(order: Order, line: str, shelf: Shelf) -> str:
     test = admit(_read(shelf, order.files[0]), options)
     text = f"qed: the code is {_times(int(line.split(' ')[1]), 4 * len(test.code))} times that of the test"
     lengths = [length for block in blocks(test, options) for length in block.pieces if length]
-    if not lengths:
+    if not lengths or options.lean is not None:
         return f"{text}\n"
     low, high = (_times(bounds(test.data_words, len(test.data), replace(options, inst_max=length), False).piece, length)
                  for length in (max(lengths), min(lengths)))

@@ -107,7 +107,8 @@ def reason_text(reason: str) -> str:
     """A reason for a usage line."""
     forms = [("empty word", "EmptyWord"), ("unknown option at", "UnknownOption"), ("repeated option at", "Repeated"),
              ("missing value at", "MissingValue"), ("extra word", "ExtraWord"), ("missing option", "MissingOption"),
-             ("bad number", "BadNumber"), ("bad shape", "BadShape"), ("out of range", "OutOfRange")]
+             ("bad number", "BadNumber"), ("bad shape", "BadShape"), ("out of range", "OutOfRange"),
+             ("few steps", "FewSteps")]
     for words, variant in forms:
         if reason.startswith(words + " "):
             last = reason[len(words) + 1:]

@@ -11,7 +11,7 @@ from machine import Change, Place
 from texts import Usage, number_of
 
 MOST_FAULTS = 64
-WEAVING = ["inst-min", "inst-max", "round", "half", "entries"]
+WEAVING = ["inst-min", "inst-max", "round", "half", "entries", "every"]
 
 
 @dataclass(frozen=True)
@@ -24,13 +24,15 @@ class Command:
     flags: List[str] = field(default_factory=list)
 
 
+WEAVING_FLAGS = ["sweep", "diverse", "lean"]
+
 COMMANDS = {
-    "transform": Command(2, 2, WEAVING, [], ["sweep", "diverse"]),
-    "plan": Command(1, 1, WEAVING, [], ["sweep", "diverse"]),
-    "explain": Command(1, 1, WEAVING + ["at"], [], ["sweep", "diverse"]),
+    "transform": Command(2, 2, WEAVING, [], WEAVING_FLAGS),
+    "plan": Command(1, 1, WEAVING, [], WEAVING_FLAGS),
+    "explain": Command(1, 1, WEAVING + ["at"], [], WEAVING_FLAGS),
     "run": Command(1, 1, ["steps", "fault", "dump"], [], ["reached"]),
     "campaign": Command(1, 1, WEAVING + ["seed", "count", "changes", "only", "from", "to"], ["seed", "count"],
-                        ["sweep", "diverse", "results"]),
+                        WEAVING_FLAGS + ["results"]),
     "gen": Command(1, 1, ["seed", "size"], ["seed", "size"]),
     "list": Command(1, 1),
     "asm": Command(2, 2),
@@ -42,7 +44,7 @@ OTHER_NAMES = {"--help": "help", "-h": "help", "--version": "version"}
 
 RANGES = {"inst-min": (1, 1024), "inst-max": (1, 1024), "round": (1, 1024), "half": (4096, 512 << 20),
           "steps": (0, 10 ** 12), "seed": (0, (1 << 64) - 1), "count": (1, 10000), "changes": (1, 16),
-          "size": (1, 60000), "from": (0, 1000000), "to": (1, 1000000), "at": (0, (1 << 64) - 1)}
+          "size": (1, 60000), "from": (0, 1000000), "to": (1, 1000000), "at": (0, (1 << 64) - 1), "every": (1, 2048)}
 
 Value = Union[int, List[Change], Tuple[int, int], List[int], str]
 
@@ -57,10 +59,12 @@ class Order:
 
     def options(self) -> Options:
         """The options of the weave, with their defaults ("Words of the command line")."""
-        most = self.values.get("inst-max", 16)
-        return Options(self.values.get("inst-min", min(4, (most + 1) // 2)), most, self.values.get("round", 1),
-                       self.values.get("half"), "sweep" in self.flags, "diverse" in self.flags,
-                       self.values.get("entries", "all"))
+        is_lean = "lean" in self.flags
+        most = self.values.get("inst-max", 64 if is_lean else 16)
+        return Options(self.values.get("inst-min", min(4, (most + 1) // 2)), most,
+                       self.values.get("round", 16 if is_lean else 1), self.values.get("half"), "sweep" in self.flags,
+                       "diverse" in self.flags, self.values.get("entries", "reached" if is_lean else "all"),
+                       self.values.get("every", 1000) if is_lean else None)
 
 
 def change_of(text: str) -> Optional[Change]:
@@ -154,6 +158,15 @@ def _value_of(name: str, texts: List[str], files: int) -> Value:
     return number
 
 
+def _lean(options: Options) -> None:
+    """The sixth group of reasons, of the lean form."""
+    if options.entries == "all":
+        raise Usage("all entries")
+    most = 21 + (8 if options.diverse else 5) * options.inst_max
+    if options.lean <= most:
+        raise Usage(f"few steps {most}")
+
+
 def order_of(words: List[str]) -> Order:
     """What the words ask for, or the first reason why they ask for none."""
     if not words:
@@ -174,6 +187,10 @@ def order_of(words: List[str]) -> Order:
             order.values[name] = _value_of(name, texts[name], len(files))
     if "inst-max" in command.options and 2 * order.options().inst_min > order.options().inst_max + 1:
         raise Usage("split")
+    if "every" in order.values and "lean" not in flags:
+        raise Usage("missing option lean")
+    if "lean" in flags:
+        _lean(order.options())
     if "from" in order.values and "to" in order.values and order.values["from"] >= order.values["to"]:
         raise Usage("out of range to")
     if called == "help" and files and files[0] not in COMMANDS:

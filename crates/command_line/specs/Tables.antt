@@ -7,7 +7,7 @@ use Rattle.command_line.specs.declared.order.Command.{Command}
 use Rattle.command_line.specs.declared.order.Command.TheVariants.{Transform, Plan, Explain, Run, Campaign, Gen, Asm, Harts, Help, Version}
 use Rattle.command_line.specs.declared.order.Command.TheVariants as command
 use Rattle.command_line.specs.declared.order.Key.{Key}
-use Rattle.command_line.specs.declared.order.Key.TheVariants.{InstMin, InstMax, Round, Half, Entries, Steps, Fault, Dump, Seed, Count, Size, Changes, Only, From, To, Turns, At, Sweep, Diverse, Results, Reached}
+use Rattle.command_line.specs.declared.order.Key.TheVariants.{InstMin, InstMax, Round, Half, Entries, Steps, Fault, Dump, Seed, Count, Size, Changes, Only, From, To, Turns, At, Sweep, Diverse, Results, Reached, Lean, Every}
 use Rattle.command_line.specs.declared.keys.Value.{Value}
 use Rattle.command_line.specs.declared.keys.Value.TheVariants.{Flag, Number, Pages, Word}
 use Rattle.command_line.specs.declared.keys.Value.TheVariants as value
@@ -50,6 +50,8 @@ option_of Sweep = once (codes "sweep") Flag
 option_of Diverse = once (codes "diverse") Flag
 option_of Results = once (codes "results") Flag
 option_of Reached = once (codes "reached") Flag
+option_of Lean = once (codes "lean") Flag
+option_of Every = once (codes "every") (Number 1 2048)
 
 -- ---- commands
 
@@ -66,7 +68,7 @@ row names least most keys required = record { names = names; least_files = least
 
 -- the options of a transformation, and more
 abbrev pub weave : List Key → List Key
-weave own = InstMin ∷ InstMax ∷ Round ∷ Half ∷ Entries ∷ Sweep ∷ Diverse ∷ own
+weave own = InstMin ∷ InstMax ∷ Round ∷ Half ∷ Entries ∷ Sweep ∷ Diverse ∷ Lean ∷ Every ∷ own
 
 abbrev pub row_of : Command → CommandRow
 row_of Transform = row (codes "transform" ∷ []) 2 2 (weave []) []

@@ -21,13 +21,14 @@ use Rattle.command_line.specs.declared.order.Order.TheVariants as order
 use Rattle.command_line.specs.declared.order.Topic.{Topic}
 use Rattle.command_line.specs.declared.order.Topic.TheVariants as topic
 use Rattle.command_line.specs.declared.order.Key.{Key}
-use Rattle.command_line.specs.declared.order.Key.TheVariants.{InstMin, InstMax, Round, Half, Entries, Steps, Fault, Dump, Seed, Count, Size, Changes, Only, From, To, Turns, At, Sweep, Diverse, Results, Reached}
+use Rattle.command_line.specs.declared.order.Key.TheVariants.{InstMin, InstMax, Round, Half, Entries, Steps, Fault, Dump, Seed, Count, Size, Changes, Only, From, To, Turns, At, Sweep, Diverse, Results, Reached, Lean, Every}
 use Rattle.command_line.specs.declared.keys.Value.{Value}
 use Rattle.command_line.specs.declared.keys.Value.TheVariants.{Flag, Number, Pages, Word}
 use Rattle.command_line.specs.declared.keys.Value.TheVariants as value
 use Rattle.command_line.specs.declared.order.Reason.{Reason}
-use Rattle.command_line.specs.declared.order.Reason.TheVariants.{NoCommand, UnknownCommand, EmptyWord, UnknownOption, Repeated, MissingValue, ExtraWord, MissingFile, MissingOption, BadNumber, BadShape, OutOfRange, Split}
+use Rattle.command_line.specs.declared.order.Reason.TheVariants.{NoCommand, UnknownCommand, EmptyWord, UnknownOption, Repeated, MissingValue, ExtraWord, MissingFile, MissingOption, BadNumber, BadShape, OutOfRange, Split, AllEntries, FewSteps}
 use Rattle.qed_model.specs.Options.{default_options}
+use Rattle.qed_model.specs.Weave.Bounds.{cost_of}
 use Rattle.command_line.specs.Tables.{place_among, option_of, row_of, command_of, key_named}
 use Rattle.texts.specs.Read.{dash, colon, equals, letter_x, digits, number, parted, register}
 use Rattle.qed_model.specs.Promise.Changed.{in_order}
@@ -259,20 +260,27 @@ word_given key given = option_and_then (place_among (option_of key).words) (valu
 abbrev pub entries : ℕ → weave.Entries
 entries n = if n == 0 then entry.All else entry.Reached
 
+-- the options of the lean form where no option says otherwise: longer pieces and more visits, since one check is for many blocks
+abbrev pub lean_options : Options
+lean_options = record { inst_min = 4; inst_max = 64; round = 16; half = None; sweep = false; diverse = false; entries = entry.Reached; lean = Some 1000 }
+
+unfoldable pub usual_options : List Argument → Options
+usual_options given = if lacks given Lean then default_options else lean_options
+
 abbrev pub greatest_piece : List Argument → ℕ
-greatest_piece given = unwrap_or (number_given InstMax given) default_options.inst_max
+greatest_piece given = unwrap_or (number_given InstMax given) (usual_options given).inst_max
 
 -- the floor, where none is given, is no greater than the greatest piece leaves room for
 unfoldable pub options : List Argument → Options
 options given = record {
-  inst_min = unwrap_or (number_given InstMin given) (min default_options.inst_min ((greatest_piece given + 1) / 2));
+  inst_min = unwrap_or (number_given InstMin given) (min (usual_options given).inst_min ((greatest_piece given + 1) / 2));
   inst_max = greatest_piece given;
-  round = unwrap_or (number_given Round given) default_options.round;
+  round = unwrap_or (number_given Round given) (usual_options given).round;
   half = number_given Half given;
   sweep = not (lacks given Sweep);
   diverse = not (lacks given Diverse);
-  entries = unwrap_or (option_map entries (word_given Entries given)) default_options.entries;
-  lean = default_options.lean;
+  entries = unwrap_or (option_map entries (word_given Entries given)) (usual_options given).entries;
+  lean = option_map (unwrap_or (number_given Every given)) (usual_options given).lean;
 }
 
 -- the floor leaves no room
@@ -331,6 +339,22 @@ order_of Version given = order.Tell topic.Version
 unfoldable pub split_reason : List Argument → Option Reason
 split_reason given = if is_split (options given) then Some Split else None
 
+-- only the lean form has steps from check to check
+unfoldable pub every_reason : List Argument → Option Reason
+every_reason given = if lacks given Lean && not (lacks given Every) then Some (MissingOption Lean) else None
+
+-- the most steps of a block of the lean form: 2 of its tick, those of one piece, which has 1024 instructions at most, and 19 of its leave
+abbrev pub block_steps : Options → ℕ
+block_steps o = 21 + cost_of o.diverse * min o.inst_max 1024
+
+-- the lean form has only entries that are reached, and more steps from check to check than a block has
+abbrev pub misfit : weave.Entries → ℕ → ℕ → Option Reason
+misfit entry.All most every = Some AllEntries
+misfit entry.Reached most every = if nat_le every most then Some (FewSteps most) else None
+
+unfoldable pub lean_reason : List Argument → Option Reason
+lean_reason given = option_and_then (misfit (options given).entries (block_steps (options given))) (options given).lean
+
 -- the least step is below the end of the steps, where both are given
 abbrev pub is_empty : Option ℕ → Option ℕ → Bool
 is_empty (Some from) (Some to) = nat_le to from
@@ -348,7 +372,7 @@ topic_reason _ given = None
 unfoldable pub reason_of : Command → List Argument → Option Reason
 reason_of command given =
     first_reason
-    (first_wrong command [] given ∷ missing command given ∷ first_wrong_value command given ∷ split_reason given ∷ window_reason given ∷ topic_reason command given ∷ [])
+    (first_wrong command [] given ∷ missing command given ∷ first_wrong_value command given ∷ split_reason given ∷ every_reason given ∷ lean_reason given ∷ window_reason given ∷ topic_reason command given ∷ [])
 
 abbrev pub answer : Order → Option Reason → Result Order Reason
 answer o None = Ok o

@@ -81,6 +81,8 @@ impl Key {
             Key::Diverse => row!("diverse", Value::Flag),
             Key::Results => row!("results", Value::Flag),
             Key::Reached => row!("reached", Value::Flag),
+            Key::Lean => row!("lean", Value::Flag),
+            Key::Every => row!("every", Value::Number(1, 2048)),
         }
     }
 

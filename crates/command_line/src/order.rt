@@ -81,6 +81,8 @@ pub enum Key {
     Diverse,
     Results,
     Reached,
+    Lean,
+    Every,
 }
 
 /// Why words ask for nothing. A number is that of a word; word 0 names the command.
@@ -107,4 +109,8 @@ pub enum Reason {
     OutOfRange(Key),
     /// The floor of a piece leaves no room: `2 * inst_min` is above `inst_max + 1`.
     Split,
+    /// All entries are asked for, and the lean form.
+    AllEntries,
+    /// The longest block of the lean form has so many steps, and there are no more from check to check.
+    FewSteps(u64),
 }

@@ -15,6 +15,8 @@ bad number = this is no number: digits, or 0x and hexadecimal digits, below 2^64
 bad shape = this is not of the option's form
 out of range = this is out of the option's range
 split = twice --inst-min is above --inst-max and one: lower --inst-min or raise --inst-max
+all entries = with --lean only reached words have entries: leave --entries all out
+few steps = a block may have as many steps as there are from check to check: lower --inst-max, or raise --every above
 E1 = this is no ELF file
 E2: class 1 = this is an ELF file of 32 bits: compile with -march=rv64im -mabi=lp64
 E2 = this is no ELF file of 64 bits

@@ -55,6 +55,15 @@ fn parts(reason: &str) -> (&str, &str) {
     }
 }
 
+/// The option that a reason is about, where it is about one.
+fn option_in<'a>(head: &str, tail: &'a str) -> &'a str {
+    match head {
+        "all entries" => "entries",
+        "few steps" => "every",
+        _ => tail,
+    }
+}
+
 /// The word that is at fault.
 fn at_fault<'a>(
     words: &'a [String],
@@ -120,15 +129,19 @@ fn synopsis(command: Option<Command>, word: Option<Word<'_>>) -> &'static str {
 pub(crate) fn usage(alloc: Global, words: &[String], reason: &str) -> Result<String, AllocError> {
     let (head, tail) = parts(reason);
     let command = words.first().and_then(|word| Command::named(word.as_str()));
-    let word = at_fault(words, command, head, tail);
-    let mut text = first_line(alloc, head, tail, word)?;
+    let option = option_in(head, tail);
+    let word = at_fault(words, command, head, option);
+    let mut text = first_line(alloc, head, option, word)?;
+    if head == "few steps" {
+        text.push_str(&format!(in alloc; " {tail}")?)?;
+    }
     if let Some(name) = meant(alloc, command, head, word.map_or("", |word| word.text))? {
         let dashes = if head == "unknown command" { "" } else { "--" };
         text.push_str(&format!(in alloc; ": did you mean {dashes}{name}?")?)?;
     }
     text.push_str("\n")?;
     if let Some(command) = command {
-        push_lines(alloc, &mut text, command, tail)?;
+        push_lines(alloc, &mut text, command, option)?;
     }
     text.push_str(synopsis(command, word))?;
     if !text.as_str().ends_with("\n") {

@@ -13,13 +13,18 @@ use Rattle.command_line.specs.declared.order.Command.TheVariants.{Transform, Pla
 use Rattle.command_line.specs.declared.order.Command.TheVariants as command
 use Rattle.command_line.specs.declared.order.Order.{Order}
 use Rattle.command_line.specs.declared.order.Key.{Key}
-use Rattle.command_line.specs.declared.order.Key.TheVariants.{InstMin, InstMax, Round, Half, Steps, Fault, Dump, Seed, Count, Size, Changes, Turns}
+use Rattle.command_line.specs.declared.order.Key.TheVariants.{InstMin, InstMax, Round, Half, Every, Lean, Steps, Fault, Dump, Seed, Count, Size, Changes, Only, From, To, Turns, At, Results}
 use Rattle.command_line.specs.declared.order.Reason.{Reason}
-use Rattle.command_line.specs.declared.order.Reason.TheVariants.{MissingFile, MissingOption, OutOfRange, Split}
+use Rattle.command_line.specs.declared.order.Reason.TheVariants.{MissingFile, MissingOption, OutOfRange, Split, FewSteps}
 use Rattle.qed_model.specs.Promise.Changed.{Ordered}
 use Rattle.qed_model.specs.Weave.Places.{AreSoundOptions}
-use Rattle.command_line.specs.Tables.{option_of, row_of, command_of}
-use Rattle.command_line.specs.Words.{Argument, asked, asked_of, answer, fault, first_wrong, span_in, arguments, dump, files, first_reason, first_wrong_value, is_in_range, lacks, missing, number_given, options, order_of, reason_of, span_of, split_reason, window_reason, topic_reason, value_of, values, wrong_number, wrong_value, wrong_values, changes_given, draws, is_digit, steps_given, turns, wrong_turns}
+use Rattle.qed_model.specs.Weave.Bounds.{cost_of}
+use Rattle.qed_model.specs.Options.{default_options}
+use Rattle.qed_model.specs.declared.options.Options.{Options}
+use Rattle.qed_model.specs.declared.options.Entries.{Entries}
+use Rattle.qed_model.specs.declared.options.Entries.TheVariants as entry
+use Rattle.command_line.specs.Tables.{option_of, weave, row_of, command_of}
+use Rattle.command_line.specs.Words.{Argument, asked, asked_of, answer, fault, first_wrong, span_in, arguments, dump, files, first_reason, first_wrong_value, is_in_range, lacks, missing, number_given, lean_options, usual_options, options, order_of, reason_of, span_of, split_reason, every_reason, block_steps, misfit, lean_reason, window_reason, topic_reason, value_of, values, wrong_number, wrong_value, wrong_values, changes_given, draws, is_digit, steps_given, turns, wrong_turns}
 use Rattle.texts.specs.Read.{colon, parted, number}
 use Rattle.ordered_changes.proofs.InOrder.{in_order_ordered}
 use Rattle.qed_words.specs.Sound.{IsSoundOrder}
@@ -88,9 +93,9 @@ there_in_range : (least most d : ℕ) (n : Option ℕ) → IsSomeAnd n (λ m. (n
 there_in_range least most d None fits = absurd fits
 there_in_range least most d (Some m) fits = (grind (arith, nat_tests), grind (arith, nat_tests))
 
-least_fits : (least : Option ℕ) (greatest : ℕ) → IfSome least (IsInRange InstMin) → 1 ≤ greatest → 1 ≤ unwrap_or least (min 4 ((greatest + 1) / 2))
-least_fits None greatest fits some = omega arith
-least_fits (Some n) greatest fits some = grind (arith, nat_tests)
+least_fits : (least : Option ℕ) (floor greatest : ℕ) → IfSome least (IsInRange InstMin) → 1 ≤ floor → 1 ≤ greatest → 1 ≤ unwrap_or least (min floor ((greatest + 1) / 2))
+least_fits None floor greatest fits low some = omega arith
+least_fits (Some n) floor greatest fits low some = grind (arith, nat_tests)
 
 half_fits : (half : Option ℕ) → IfSome half (IsInRange Half) → IfSome half (λ h. (h % 4096 ≡ 0) × (4096 ≤ h) × (h ≤ MAX_HALF))
 half_fits None fits = tt
@@ -102,29 +107,76 @@ leaves_room m n e =
     as (λ t. nat_lt (n + 1) (2 * m) ≡ t → (if t then Some Split else None) ≡ None → 2 * m ≤ n + 1)
     [ true ↦ λ _ h. cc | false ↦ λ h _. grind (arith, nat_tests) ] refl e
 
--- the options that are given are sound, where each value fits and the floor leaves room
+-- what holds of the options where no option says otherwise
+record AreUsual (o : Options) : Type 0 where
+  floor : 1 ≤ o.inst_min
+  some : 1 ≤ o.inst_max
+  most : o.inst_max ≤ 1024
+  visits : 1 ≤ o.round
+  few_visits : o.round ≤ 1024
+  lean : IfSome o.lean (λ every. every ≤ 2048)
+
+usual_fit : (given : List Argument) → AreUsual (usual_options given)
+unfolding usual_options
+usual_fit given =
+    elim (lacks given Lean)
+    as (λ t. AreUsual (if t then default_options else lean_options)) [
+      | true ↦ record { floor = omega arith; some = omega arith; most = omega arith; visits = omega arith; few_visits = omega arith; lean = tt }
+      | false ↦ record { floor = omega arith; some = omega arith; most = omega arith; visits = omega arith; few_visits = omega arith; lean = omega arith }
+    ]
+
+-- only entries that are reached, and more steps from check to check than a block has
+entries_fit : (entries : Entries) (most every : ℕ) → misfit entries most every ≡ None → (entries ≡ entry.Reached) × (most < every)
+entries_fit entry.All most every e = cc
+entries_fit entry.Reached most every e = (
+  refl,
+  elim (nat_le every most)
+      as (λ t. nat_le every most ≡ t → (if t then Some (FewSteps most) else None) ≡ None → most < every)
+      [ true ↦ λ _ h. cc | false ↦ λ h _. grind (arith, nat_tests) ] refl e,
+)
+
+-- a number of steps that was given, or the usual one
+every_fits : (every : Option ℕ) (usual : ℕ) → IfSome every (IsInRange Every) → usual ≤ 2048 → unwrap_or every usual ≤ 2048
+every_fits None usual fits most = most
+every_fits (Some n) usual fits most = grind (arith, nat_tests)
+
+least_is : (a b : ℕ) → a ≤ b → min a b ≡ a
+least_is a b low = omega arith
+
+lean_fits :
+    (o : Options) (every usual : Option ℕ)
+    → IfSome every (IsInRange Every)
+    → IfSome usual (λ n. n ≤ 2048)
+    → o.inst_max ≤ 1024
+    → option_and_then (misfit o.entries (block_steps o)) (option_map (unwrap_or every) usual) ≡ None
+    → IfSome (option_map (unwrap_or every) usual) (λ n. (o.entries ≡ entry.Reached) × (n ≤ 2048) × (21 + cost_of o.diverse * o.inst_max < n))
+lean_fits o every None fits few most e = tt
+lean_fits o every (Some usual) fits few most e =
+    let fit : (o.entries ≡ entry.Reached) × (block_steps o < unwrap_or every usual) = entries_fit o.entries (block_steps o) (unwrap_or every usual) e in
+    (fit.0, every_fits every usual fits few, subst (λ m. 21 + cost_of o.diverse * m < unwrap_or every usual) (least_is o.inst_max 1024 most) fit.1)
+
+-- the options that are given are sound, where each value fits, the floor leaves room, and so do the steps from check to check
 options_fit :
-    (given : List Argument)
-    → wrong_values given InstMin ≡ None
-    → wrong_values given InstMax ≡ None
-    → wrong_values given Round ≡ None
-    → wrong_values given Half ≡ None
+    (own : List Key) (given : List Argument)
+    → AllNone (map (wrong_values given) (weave own))
     → split_reason given ≡ None
+    → lean_reason given ≡ None
     → AreSoundOptions (options given)
-unfolding options split_reason wrong_value
-options_fit given least greatest round half room =
-    let great : (1 ≤ unwrap_or (number_given InstMax given) 16) × (unwrap_or (number_given InstMax given) 16 ≤ 1024)
-    = in_range 1 1024 16 (number_given InstMax given) (number_given_fits InstMax given (λ _ _. refl) greatest) (omega arith, omega arith) in
-    let visits : (1 ≤ unwrap_or (number_given Round given) 1) × (unwrap_or (number_given Round given) 1 ≤ 1024)
-    = in_range 1 1024 1 (number_given Round given) (number_given_fits Round given (λ _ _. refl) round) (omega arith, omega arith) in
+unfolding options split_reason lean_reason wrong_value
+options_fit own given values room lean =
+    let usual : AreUsual (usual_options given) = usual_fit given in
+    let great : (1 ≤ (options given).inst_max) × ((options given).inst_max ≤ 1024)
+    = in_range 1 1024 (usual_options given).inst_max (number_given InstMax given) (number_given_fits InstMax given (λ _ _. refl) values.1.0) (usual.some, usual.most) in
+    let visits : (1 ≤ (options given).round) × ((options given).round ≤ 1024)
+    = in_range 1 1024 (usual_options given).round (number_given Round given) (number_given_fits Round given (λ _ _. refl) values.1.1.0) (usual.visits, usual.few_visits) in
     record {
-      some = least_fits (number_given InstMin given) (unwrap_or (number_given InstMax given) 16) (number_given_fits InstMin given (λ _ _. refl) least) great.0;
+      some = least_fits (number_given InstMin given) (usual_options given).inst_min (options given).inst_max (number_given_fits InstMin given (λ _ _. refl) values.0) usual.floor great.0;
       room = leaves_room (options given).inst_min (options given).inst_max room;
       most = great.1;
       visits = visits.0;
       few_visits = visits.1;
-      half = half_fits (number_given Half given) (number_given_fits Half given (λ _ _. refl) half);
-      lean = tt;
+      half = half_fits (number_given Half given) (number_given_fits Half given (λ _ _. refl) values.1.1.1.0);
+      lean = lean_fits (options given) (number_given Every given) (usual_options given).lean (number_given_fits Every given (λ _ _. refl) values.1.1.1.1.1.1.1.1.0) usual.lean great.1 lean;
     }
 
 -- ---- runs
@@ -175,19 +227,20 @@ both_there given x y test e =
 
 -- ---- orders
 
--- nothing is wrong with the values, and the floor leaves room
+-- nothing is wrong with the values, and the floor and the steps from check to check leave room
 record IsFaultless (command : Command) (given : List Argument) : Type 0 where
   words : first_wrong command [] given ≡ None
   there : missing command given ≡ None
   values : AllNone (map (wrong_values given) (row_of command).keys)
   room : split_reason given ≡ None
+  lean : lean_reason given ≡ None
 
 faultless : (command : Command) (given : List Argument) → reason_of command given ≡ None → IsFaultless command given
 unfolding reason_of first_wrong_value
 faultless command given e =
-    let all : AllNone (first_wrong command [] given ∷ missing command given ∷ first_wrong_value command given ∷ split_reason given ∷ window_reason given ∷ topic_reason command given ∷ [])
-    = no_reason (first_wrong command [] given ∷ missing command given ∷ first_wrong_value command given ∷ split_reason given ∷ window_reason given ∷ topic_reason command given ∷ []) e in
-    record { words = all.0; there = all.1.0; values = no_reason (map (wrong_values given) (row_of command).keys) all.1.1.0; room = all.1.1.1.0 }
+    let all : AllNone (first_wrong command [] given ∷ missing command given ∷ first_wrong_value command given ∷ split_reason given ∷ every_reason given ∷ lean_reason given ∷ window_reason given ∷ topic_reason command given ∷ [])
+    = no_reason (first_wrong command [] given ∷ missing command given ∷ first_wrong_value command given ∷ split_reason given ∷ every_reason given ∷ lean_reason given ∷ window_reason given ∷ topic_reason command given ∷ []) e in
+    record { words = all.0; there = all.1.0; values = no_reason (map (wrong_values given) (row_of command).keys) all.1.1.0; room = all.1.1.1.0; lean = all.1.1.1.1.1.0 }
 
 files_there : (count : ℕ) (other : Option Reason) → (if nat_lt count 1 then Some MissingFile else other) ≡ None → 1 ≤ count
 files_there count other e =
@@ -246,9 +299,9 @@ schedule_parts count (Some harts) fits = (fits.some, fits.below)
 
 order_sound : (command : Command) (given : List Argument) → IsFaultless command given → IsSoundOrder (order_of command given)
 unfolding order_of wrong_value missing draws
-order_sound Transform given f = options_fit given f.values.0 f.values.1.0 f.values.1.1.0 f.values.1.1.1.0 f.room
-order_sound Plan given f = options_fit given f.values.0 f.values.1.0 f.values.1.1.0 f.values.1.1.1.0 f.room
-order_sound Explain given f = options_fit given f.values.0 f.values.1.0 f.values.1.1.0 f.values.1.1.1.0 f.room
+order_sound Transform given f = options_fit [] given f.values f.room f.lean
+order_sound Plan given f = options_fit [] given f.values f.room f.lean
+order_sound Explain given f = options_fit (At ∷ []) given f.values f.room f.lean
 order_sound Run given f = record {
   few = steps_fit given f.values.0;
   ordered = changes_ordered given;
@@ -256,9 +309,9 @@ order_sound Run given f = record {
 }
 order_sound Campaign given f =
     let there : (lacks given Seed ≡ false) × (lacks given Count ≡ false) = both_there given Seed Count _ f.there in (
-      options_fit given f.values.0 f.values.1.0 f.values.1.1.0 f.values.1.1.1.0 f.room,
-      there_in_range 1 10000 0 (number_given Count given) (number_there_fits Count given (λ _ _. refl) there.1 f.values.1.1.1.1.1.1.1.1.0),
-      in_range 1 16 1 (number_given Changes given) (number_given_fits Changes given (λ _ _. refl) f.values.1.1.1.1.1.1.1.1.1.0) (omega arith, omega arith),
+      options_fit (Seed ∷ Count ∷ Changes ∷ Only ∷ From ∷ To ∷ Results ∷ []) given f.values f.room f.lean,
+      there_in_range 1 10000 0 (number_given Count given) (number_there_fits Count given (λ _ _. refl) there.1 f.values.1.1.1.1.1.1.1.1.1.1.0),
+      in_range 1 16 1 (number_given Changes given) (number_given_fits Changes given (λ _ _. refl) f.values.1.1.1.1.1.1.1.1.1.1.1.0) (omega arith, omega arith),
     )
 order_sound Gen given f =
     let there : (lacks given Seed ≡ false) × (lacks given Size ≡ false) = both_there given Seed Size _ f.there in

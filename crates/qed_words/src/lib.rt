@@ -6,6 +6,7 @@ mod arguments;
 mod changes;
 mod error;
 mod given;
+mod lean;
 mod options;
 mod reason;
 mod shape;

@@ -1,6 +1,6 @@
 //! The options of a transformation.
 ghost use Rattle.std.specs.Prelude.{◌≡◌, ◌+◌, ◌/◌, map};
-ghost use Rattle.command_line.specs.Words.{entries as entries_of, options as options_of, is_split as is_split_of};
+ghost use Rattle.command_line.specs.Words.{entries as entries_of, usual_options as usual_options_of, options as options_of, is_split as is_split_of};
 ghost use Rattle.qed_words.specs.Seen.{seen};
 
 use crate::argument::Argument;
@@ -26,25 +26,44 @@ fn entries(place: usize) -> Entries
     }
 }
 
+/// The options where no other option says otherwise.
+#[tactic(auto, unfolding(command_line::specs::Words::usual_options))]
+fn usual_options(arguments: &[Argument<'_>]) -> Options
+    ensures { result ≡ usual_options_of (map seen arguments.now) }
+{
+    let default = Options::default();
+    if lacks(arguments, Key::Lean) {
+        return default;
+    }
+    Options {
+        inst_max: 64,
+        round: 16,
+        entries: Entries::Reached,
+        lean: Some(1000),
+        ..default
+    }
+}
+
 /// The options that arguments ask for.
 #[tactic(auto, unfolding(command_line::specs::Words::options))]
 pub fn options(arguments: &[Argument<'_>]) -> Options
     ensures { result ≡ options_of (map seen arguments.now) }
 {
-    let default = Options::default();
-    let inst_max = number_given(Key::InstMax, arguments).unwrap_or(default.inst_max);
-    let least = default.inst_min.min(room(inst_max));
+    let usual = usual_options(arguments);
+    let inst_max = number_given(Key::InstMax, arguments).unwrap_or(usual.inst_max);
+    let least = usual.inst_min.min(room(inst_max));
+    let every = number_given(Key::Every, arguments);
     Options {
         inst_min: number_given(Key::InstMin, arguments).unwrap_or(least),
         inst_max,
-        round: number_given(Key::Round, arguments).unwrap_or(default.round),
+        round: number_given(Key::Round, arguments).unwrap_or(usual.round),
         half: number_given(Key::Half, arguments),
         sweep: !lacks(arguments, Key::Sweep),
         diverse: !lacks(arguments, Key::Diverse),
         entries: word_given(Key::Entries, arguments)
             .map(entries)
-            .unwrap_or(default.entries),
-        lean: default.lean,
+            .unwrap_or(usual.entries),
+        lean: usual.lean.map(|usual| every.unwrap_or(usual)),
     }
 }
 

@@ -5,6 +5,7 @@ ghost use Rattle.qed_words.specs.Seen.{seen};
 
 use crate::argument::Argument;
 use crate::given::{count_files, file, number_given};
+use crate::lean::{every_reason, lean_reason};
 use crate::options::{is_split, options};
 use crate::value::first_wrong_value;
 use crate::wrong::{first_wrong, missing};
@@ -68,6 +69,12 @@ pub fn first_reason(command: Command, arguments: &[Argument<'_>]) -> Option<Reas
         return Some(reason);
     }
     if let Some(reason) = split_reason(arguments) {
+        return Some(reason);
+    }
+    if let Some(reason) = every_reason(arguments) {
+        return Some(reason);
+    }
+    if let Some(reason) = lean_reason(arguments) {
         return Some(reason);
     }
     if let Some(reason) = window_reason(arguments) {

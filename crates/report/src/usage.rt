@@ -25,6 +25,8 @@ fn reason_line(alloc: Global, reason: Reason) -> Result<String, AllocError>
         Reason::BadShape(key) => keyed(alloc, "usage: bad shape ", key),
         Reason::OutOfRange(key) => keyed(alloc, "usage: out of range ", key),
         Reason::Split => String::from_str(alloc, "usage: split\n"),
+        Reason::AllEntries => String::from_str(alloc, "usage: all entries\n"),
+        Reason::FewSteps(steps) => numbered(alloc, "usage: few steps ", steps),
     }
 }
 
