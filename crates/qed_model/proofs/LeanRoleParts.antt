@@ -30,15 +30,17 @@ use Rattle.qed_model.specs.Weave.Sequences.{Form, Block, End, Falls, Stops, guar
 use Rattle.qed_model.proofs.RoleParts.{joined_append, originals_joined, mirrors_joined, seam, way_of, guards_joined, end_joined}
 
 -- ---- leaves
--- guards, and what stands behind them
+-- what stands behind guards
+pub behind :
+    (guards : List (Role × List Item)) (known after : List Item) → joined guards ≡ known → drop (length (joined guards)) (known ++ after) ≡ after
+behind guards known after e = ap (λ l. drop (length l) (known ++ after)) e ∙ seam known after
+
+-- the guards with it
 behind_joined :
     (guards : List (Role × List Item)) (known after : List Item) (at : ℕ) → joined guards ≡ known → joined (behind_parts guards (known ++ after) at) ≡ known ++ after
 behind_joined guards known after at e =
-    let rest = drop (length (joined guards)) (joined guards ++ after) in
-    ap (λ l. joined (behind_parts guards (l ++ after) at)) (sym e)
-    ∙ joined_append guards ((role.Leave at, rest) ∷ [])
-    ∙ ap (λ l. joined guards ++ l) (append-nil rest ∙ seam (joined guards) after)
-    ∙ ap (λ l. l ++ after) e
+    let rest = drop (length (joined guards)) (known ++ after) in
+    joined_append guards ((role.Leave at, rest) ∷ []) ∙ ap (λ l. joined guards ++ l) (append-nil rest ∙ behind guards known after e) ∙ ap (λ l. l ++ after) e
 
 module _ (form : Form) (fall : ℕ → List Item) where
   leave_as_joined : (c : Class) (i : Ins) (a at : ℕ) → joined (leave_as_parts form fall c i a at) ≡ leave_as (before_end form) fall c i a at
