@@ -4,7 +4,7 @@ use Rattle.std.specs.Fmt.{decimal}
 use Rattle.elf_types.specs.declared.file.Symbol.{Symbol}
 use Rattle.elf_types.specs.Symbol.{is_code_symbol}
 use Rattle.qed_model.specs.declared.role.Role.{Role}
-use Rattle.qed_model.specs.declared.role.Role.TheVariants.{Start, Entry, Original, Mirror, Guard, Compare, Visit, Leave, LeaveGuard, Sweep, End, Stub}
+use Rattle.qed_model.specs.declared.role.Role.TheVariants.{Start, Entry, Original, Mirror, Guard, Compare, Visit, Leave, LeaveGuard, Sweep, End, Stub, Tick, Check, CheckCompare, CheckVisit, Sign}
 use Rattle.qed_model.specs.declared.role.RoleRow.{RoleRow}
 use Rattle.rv_text.specs.Text.{text_of}
 use Rattle.texts.specs.Printed.{hex_digits, hex_text}
@@ -30,6 +30,11 @@ role_text (LeaveGuard r at) = codes "leave guard x" ++ at_text r at
 role_text Sweep = codes "sweep"
 role_text (End r) = codes "compare x" ++ (decimal r ++ codes " end")
 role_text Stub = codes "stub"
+role_text (Tick at) = codes "tick " ++ hex_text at
+role_text Check = codes "check"
+role_text (CheckCompare r) = codes "compare x" ++ (decimal r ++ codes " check")
+role_text CheckVisit = codes "visit check"
+role_text (Sign at) = codes "signature " ++ hex_text at
 
 -- the line of a word at an address
 unfoldable pub role_line : Role → ℕ → ℕ → List ℕ
@@ -66,6 +71,8 @@ input_address (Compare r first last) = Some first
 input_address (Visit first last) = Some first
 input_address (Leave at) = Some at
 input_address (LeaveGuard r at) = Some at
+input_address (Tick at) = Some at
+input_address (Sign at) = Some at
 input_address _ = None
 
 -- a name that tells something: not empty, and not that of a mapping symbol, which begins with `$` (RISC-V ELF psABI, mapping symbols)
@@ -100,15 +107,23 @@ symbol_text (Some a) symbols = symbol_line a (nearest a None symbols)
 abbrev pub pair_text : ℕ → List ℕ
 pair_text r = codes "fired: x" ++ (decimal r ++ (codes " and x" ++ (decimal (r + 16) ++ codes " differ\n")))
 
+-- the signature is not that of an input address
+abbrev pub sign_text : ℕ → List ℕ
+sign_text at = codes "fired: the signature is not that of " ++ (hex_text at ++ codes "\n")
+
 -- what a check that fires has found
 abbrev pub found_text : Role → List ℕ
-found_text (Entry at) = codes "fired: the signature is not that of " ++ (hex_text at ++ codes "\n")
+found_text (Entry at) = sign_text at
 found_text (Guard r at) = pair_text r
 found_text (Compare r first last) = pair_text r
 found_text (LeaveGuard r at) = pair_text r
 found_text (End r) = pair_text r
 found_text (Visit first last) = codes "fired: a data word and its duplicate differ, its address is in x15\n"
 found_text Sweep = codes "fired: a data word and its duplicate differ, its address is in x15\n"
+found_text Check = codes "fired: the check was called from another block than that of the signature\n"
+found_text (CheckCompare r) = pair_text r
+found_text CheckVisit = codes "fired: a data word and its duplicate differ, its address is in x15\n"
+found_text (Sign at) = sign_text at
 found_text _ = []
 
 -- EBREAK, which a check reaches where it fires (RISC-V unprivileged ISA, 2.8)

@@ -1,7 +1,7 @@
 //! One word of new code: its line, its symbol, and what differed where it is a check that fired.
 ghost use Rattle.std.specs.Prelude.{◌≡◌, ◌<◌, ◌++◌, None, Some, IfOk, OnOk, string_bytes};
 ghost use Rattle.std.specs.Option.{option_copied};
-ghost use Rattle.listing.specs.Roles.{role_at as role_at_of, rows_bytes, input_address as input_address_of, is_telling as is_telling_of, is_before as is_before_of, nearer as nearer_of, nearest as nearest_of, symbol_line, symbol_text, pair_text, found_text, fired_text, word_text as word_text_of};
+ghost use Rattle.listing.specs.Roles.{role_at as role_at_of, rows_bytes, input_address as input_address_of, is_telling as is_telling_of, is_before as is_before_of, nearer as nearer_of, nearest as nearest_of, symbol_line, symbol_text, pair_text, sign_text, found_text, fired_text, word_text as word_text_of};
 
 use crate::roles::push_role_line;
 use elf_types::{Bytes, Symbol};
@@ -41,7 +41,10 @@ fn input_address(role: Role) -> Option<u64>
         Role::Visit(first, _) => Some(first),
         Role::Leave(at) => Some(at),
         Role::LeaveGuard(_, at) => Some(at),
+        Role::Tick(at) => Some(at),
+        Role::Sign(at) => Some(at),
         Role::Start | Role::Sweep | Role::End(_) | Role::Stub => None,
+        Role::Check | Role::CheckCompare(_) | Role::CheckVisit => None,
     }
 }
 
@@ -122,26 +125,38 @@ fn pair_line(alloc: Global, register: Reg) -> Result<String, AllocError>
     format!(in alloc; "fired: x{number} and x{pair} differ\n")
 }
 
+/// The line about a signature that is not that of an input address.
+fn sign_line(alloc: Global, address: u64) -> Result<String, AllocError>
+    ensures { IfOk result (λ text. string_bytes text ≡ sign_text address) }
+{
+    let at = Address(address);
+    format!(in alloc; "fired: the signature is not that of {at}\n")
+}
+
 /// What a check of a role has found where it fires.
 fn found_line(alloc: Global, role: Role) -> Result<String, AllocError>
     ensures { IfOk result (λ text. string_bytes text ≡ found_text role) }
 {
     match role {
-        Role::Entry(at) => {
-            let at = Address(at);
-            format!(in alloc; "fired: the signature is not that of {at}\n")
-        }
+        Role::Entry(at) => sign_line(alloc, at),
+        Role::Sign(at) => sign_line(alloc, at),
         Role::Guard(r, _) => pair_line(alloc, r),
         Role::Compare(r, _, _) => pair_line(alloc, r),
         Role::LeaveGuard(r, _) => pair_line(alloc, r),
         Role::End(r) => pair_line(alloc, r),
-        Role::Visit(_, _) | Role::Sweep => String::from_str(
+        Role::CheckCompare(r) => pair_line(alloc, r),
+        Role::Check => String::from_str(
+            alloc,
+            "fired: the check was called from another block than that of the signature\n",
+        ),
+        Role::Visit(_, _) | Role::Sweep | Role::CheckVisit => String::from_str(
             alloc,
             "fired: a data word and its duplicate differ, its address is in x15\n",
         ),
         Role::Start | Role::Original(_) | Role::Mirror(_) | Role::Leave(_) | Role::Stub => {
             Ok(String::new(alloc))
         }
+        Role::Tick(_) => Ok(String::new(alloc)),
     }
 }
 

@@ -82,6 +82,20 @@ impl fmt::Display for RoleText {
                 write!(f, "compare x{number} end")
             }
             Role::Stub => write!(f, "stub"),
+            Role::Tick(at) => {
+                let at = Address(at);
+                write!(f, "tick {at}")
+            }
+            Role::Check => write!(f, "check"),
+            Role::CheckCompare(r) => {
+                let number = r.number();
+                write!(f, "compare x{number} check")
+            }
+            Role::CheckVisit => write!(f, "visit check"),
+            Role::Sign(at) => {
+                let at = Address(at);
+                write!(f, "signature {at}")
+            }
         }
     }
 }

@@ -25,7 +25,7 @@ use Rattle.qed_model.specs.Weave.Code.{block_items, entries_of, pieces_of, seque
 use Rattle.qed_model.specs.Weave.Woven.{is_far_code, new_items}
 use Rattle.qed_model.specs.Weave.Forms.{form_of}
 
-joined_append : (ps qs : List (Role × List Item)) → joined (ps ++ qs) ≡ joined ps ++ joined qs
+pub joined_append : (ps qs : List (Role × List Item)) → joined (ps ++ qs) ≡ joined ps ++ joined qs
 joined_append [] qs = refl
 joined_append (p ∷ ps) qs = ap (λ l. p.1 ++ l) (joined_append ps qs) ∙ sym (append_assoc p.1 (joined ps) (joined qs))
 
@@ -46,6 +46,12 @@ each_joined parts part h (i ∷ is) at =
     joined_append (parts i at) (each_parts parts is (at + 4)) ∙ ap (λ l. l ++ joined (each_parts parts is (at + 4))) (h i at)
     ∙ ap (λ l. part i at ++ l) (each_joined parts part h is (at + 4))
 
+pub originals_joined : (is : List Ins) (at : ℕ) → joined (each_parts original_parts is at) ≡ each_part original is at
+originals_joined = each_joined original_parts original original_joined
+
+pub mirrors_joined : (mirror : Ins → ℕ → List Item) (is : List Ins) (at : ℕ) → joined (each_parts (mirror_parts mirror) is at) ≡ each_part mirror is at
+mirrors_joined mirror = each_joined (mirror_parts mirror) mirror (λ i at. append-nil (mirror i at))
+
 module _ (form : Form) where
   check_joined : (first last : ℕ) → joined (check_parts form first last) ≡ compare ++ visit form.round form.spans
   check_joined first last = ap (λ l. compare ++ l) (append-nil (visit form.round form.spans))
@@ -53,12 +59,12 @@ module _ (form : Form) where
   piece_joined : (is : List Ins) (at : ℕ) → joined (piece_parts form is at) ≡ piece form is at
   piece_joined is at =
       let a = each_parts original_parts is at in
-      let b = each_parts (mirror_parts form) is at in
+      let b = each_parts (mirror_parts form.mirror) is at in
       let c = check_parts form at (last_of is at) in
       joined_append a (b ++ c)
       ∙ ap (λ l. joined a ++ l) (joined_append b c)
-      ∙ ap (λ l. l ++ (joined b ++ joined c)) (each_joined original_parts original original_joined is at)
-      ∙ ap (λ l. each_part original is at ++ (l ++ joined c)) (each_joined (mirror_parts form) form.mirror (λ i k. append-nil (form.mirror i k)) is at)
+      ∙ ap (λ l. l ++ (joined b ++ joined c)) (originals_joined is at)
+      ∙ ap (λ l. each_part original is at ++ (l ++ joined c)) (mirrors_joined form.mirror is at)
       ∙ ap (λ l. each_part original is at ++ (each_part form.mirror is at ++ l)) (check_joined at (last_of is at))
 
   pieces_joined : (ps : List (List Ins)) (at : ℕ) → joined (pieces_parts form ps at) ≡ pieces_of (sequences form) ps at
@@ -74,7 +80,7 @@ drop_front (x ∷ xs) ys k =
     let one : length (x ∷ xs) + k ≡ suc (length xs + k) = omega arith in
     ap (λ n. drop n (x ∷ (xs ++ ys))) one ∙ drop_front xs ys k
 
-seam : (xs ys : List Item) → drop (length xs) (xs ++ ys) ≡ ys
+pub seam : (xs ys : List Item) → drop (length xs) (xs ++ ys) ≡ ys
 seam [] ys = refl
 seam (x ∷ xs) ys = seam xs ys
 
@@ -97,7 +103,7 @@ way_joined guards before after at =
     ap (λ l. l ++ joined (guards ++ ((role.Leave at, rest) ∷ []))) first
     ∙ ap (λ l. before ++ l) (joined_append guards ((role.Leave at, rest) ∷ []) ∙ ap (λ l. joined guards ++ l) (append-nil rest ∙ last))
 
-way_of :
+pub way_of :
     (guards : List (Role × List Item)) (before known after : List Item) (at : ℕ) → joined guards ≡ known
     → joined (way_parts (length before) guards (before ++ (known ++ after)) at) ≡ before ++ (known ++ after)
 way_of guards before known after at e =
@@ -107,7 +113,7 @@ pub guards_joined : (of : ℕ → Role) (i : Ins) → joined (guard_parts of i) 
 guards_joined of i = ap (λ l. guard i.rs1 ++ l) (append-nil (cond (i.rs2 == i.rs1) [] (guard i.rs2)))
 
 module _ (form : Form) where
-  end_joined : (sweeps : Bool) → joined (cond sweeps ((role.Sweep, sweep form.spans) ∷ compare_parts role.End originals) []) ≡ cond sweeps (sweep form.spans ++ compare) []
+  pub end_joined : (sweeps : Bool) → joined (cond sweeps ((role.Sweep, sweep form.spans) ∷ compare_parts role.End originals) []) ≡ cond sweeps (sweep form.spans ++ compare) []
   end_joined true = refl
   end_joined false = refl
 

@@ -3,6 +3,7 @@ ghost use Rattle.qed_model.specs.Admission.DataRanges.{DataRangesAreJoined};
 ghost use Rattle.qed_model.specs.Admission.Refusals.{AdmissionHasOneAnswer};
 ghost use Rattle.qed_model.specs.Machine.Operands.{OperandsGoByFormat};
 ghost use Rattle.qed_model.specs.Weave.Roles.{RolesCover};
+ghost use Rattle.qed_model.specs.Weave.LeanRoles.{LeanRolesCover};
 
 /// A file is admitted exactly where no rule holds; each other file is refused by one rule, at one place.
 pub fn admission_has_one_answer()
@@ -20,7 +21,8 @@ pub fn operands_go_by_format()
     ensures { OperandsGoByFormat }
 {}
 
-/// Each item of the new code has one role.
+/// Each item of the new code has one role, in either form.
 pub fn roles_cover()
-    ensures { RolesCover }
+    ensures compared { RolesCover }
+    ensures lean { LeanRolesCover }
 {}

@@ -30,6 +30,16 @@ pub enum Role {
     End(Reg),
     /// The zero word behind the code.
     Stub,
+    /// In the lean form, at the entry of an address: it counts the steps of the block, or calls the check.
+    Tick(u64),
+    /// The one check of the lean form: it takes the signature apart, tests where it was called from, and puts the signature together.
+    Check,
+    /// A comparison in the check.
+    CheckCompare(Reg),
+    /// The visits of data words in the check.
+    CheckVisit,
+    /// It tests before an ECALL whether the signature is that of an address, where the block begins.
+    Sign(u64),
 }
 
 /// Words of one role, which stand one behind the other.

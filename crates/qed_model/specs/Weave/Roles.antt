@@ -1,4 +1,5 @@
--- What the items of the new code are for: the same items as those of the sequences, in parts of one role.
+-- What the items of the new code with a comparison behind each piece are for: the same items as those of the sequences, in parts of one
+-- role.
 use Rattle.std.specs.Prelude.{◌≡◌, ℕ, ◌+◌, ◌-◌, ◌*◌, cond, ◌==◌, List, [], ◌∷◌, ◌++◌, Bool, length, map, take, drop}
 use Rattle.rv_isa.specs.declared.ins.Ins.{Ins}
 use Rattle.rv_isa.specs.declared.class.Class.{Class}
@@ -46,8 +47,8 @@ original_as_parts _ i at = (role.Original at, Plain i ∷ []) ∷ []
 abbrev pub original_parts : Ins → ℕ → List (Role × List Item)
 original_parts i at = cond (is_auipc i.kind) ((role.Original at, original i at) ∷ []) (original_as_parts (class_of i.kind) i at)
 
-abbrev pub mirror_parts : Form → Ins → ℕ → List (Role × List Item)
-mirror_parts form i at = (role.Mirror at, form.mirror i at) ∷ []
+abbrev pub mirror_parts : (Ins → ℕ → List Item) → Ins → ℕ → List (Role × List Item)
+mirror_parts mirror i at = (role.Mirror at, mirror i at) ∷ []
 
 -- those of each instruction, from an input address on
 abbrev pub each_parts : (Ins → ℕ → List (Role × List Item)) → List Ins → ℕ → List (Role × List Item)
@@ -63,7 +64,7 @@ abbrev pub check_parts : Form → ℕ → ℕ → List (Role × List Item)
 check_parts form first last = compare_parts (λ r. role.Compare r first last) originals ++ ((role.Visit first last, visit form.round form.spans) ∷ [])
 
 abbrev pub piece_parts : Form → List Ins → ℕ → List (Role × List Item)
-piece_parts form is at = each_parts original_parts is at ++ (each_parts (mirror_parts form) is at ++ check_parts form at (last_of is at))
+piece_parts form is at = each_parts original_parts is at ++ (each_parts (mirror_parts form.mirror) is at ++ check_parts form at (last_of is at))
 
 abbrev pub pieces_parts : Form → List (List Ins) → ℕ → List (Role × List Item)
 pieces_parts form [] at = []
@@ -99,7 +100,7 @@ entries_parts form (b ∷ bs) = entry_parts form b ++ entries_parts form bs
 abbrev pub parts_with : ℕ → ℕ → Form → List Block → List (Role × List Item)
 parts_with distance entry form blocks = (role.Start, prologue distance form.spans entry) ∷ (entries_parts form blocks ++ ((role.Stub, stub) ∷ []))
 
--- the new code of a file
+-- the new code of a file, in this form
 abbrev pub new_parts : ElfFile → Options → List Block → List (Role × List Item)
 new_parts f o blocks = parts_with (half_of o.half (image_of f)) f.entry (form_of f o (is_far_code f o blocks)) blocks
 
@@ -107,8 +108,8 @@ new_parts f o blocks = parts_with (half_of o.half (image_of f)) f.entry (form_of
 abbrev pub row_of : Bool → Role × List Item → RoleRow
 row_of far p = record { role = p.0; bytes = sum_of_sizes far p.1 }
 
-abbrev pub new_roles : ElfFile → Options → List Block → List RoleRow
-new_roles f o blocks = map (row_of (is_far_code f o blocks)) (new_parts f o blocks)
+abbrev pub compared_roles : ElfFile → Options → List Block → List RoleRow
+compared_roles f o blocks = map (row_of (is_far_code f o blocks)) (new_parts f o blocks)
 
 -- no item is left out, and none has two roles
 abbrev pub RolesCover : Type 0
