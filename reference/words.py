@@ -60,11 +60,11 @@ class Order:
     def options(self) -> Options:
         """The options of the weave, with their defaults ("Words of the command line")."""
         is_lean = "lean" in self.flags
-        most = self.values.get("inst-max", 64 if is_lean else 16)
+        most = self.values.get("inst-max", 128 if is_lean else 16)
         return Options(self.values.get("inst-min", min(4, (most + 1) // 2)), most,
-                       self.values.get("round", 16 if is_lean else 1), self.values.get("half"), "sweep" in self.flags,
+                       self.values.get("round", 4 if is_lean else 1), self.values.get("half"), "sweep" in self.flags,
                        "diverse" in self.flags, self.values.get("entries", "reached" if is_lean else "all"),
-                       self.values.get("every", 1000) if is_lean else None)
+                       self.values.get("every", 1200) if is_lean else None)
 
 
 def change_of(text: str) -> Optional[Change]:

@@ -79,7 +79,7 @@ ANSWERS = {
     "transform": (
         ["OUT"],
         {
-            **refusals(f"{ELF_RULES}|{ADMISSION_RULES}", "L2 L3 L4 L5 L7 L8 L9 L10"),
+            **refusals(f"{ELF_RULES}|{ADMISSION_RULES}", "L2 L3 L4 L5 L7 L8 L9 L10 L11"),
             0: pattern("code N bytes, entries N, pieces N, half N, register bound N, word bound (N|none)\n"),
         },
     ),

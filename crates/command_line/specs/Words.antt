@@ -262,7 +262,7 @@ entries n = if n == 0 then entry.All else entry.Reached
 
 -- the options of the lean form where no option says otherwise: longer pieces and more visits, since one check is for many blocks
 abbrev pub lean_options : Options
-lean_options = record { inst_min = 4; inst_max = 64; round = 16; half = None; sweep = false; diverse = false; entries = entry.Reached; lean = Some 1000 }
+lean_options = record { inst_min = 4; inst_max = 128; round = 4; half = None; sweep = false; diverse = false; entries = entry.Reached; lean = Some 1200 }
 
 unfoldable pub usual_options : List Argument → Options
 usual_options given = if lacks given Lean then default_options else lean_options

@@ -59,6 +59,7 @@ L7 = the test stands too high: link it lower
 L8 = the output would have too many segments
 L9 = the output would be too large: drop symbols by strip
 L10 = the file is too large: drop debug information by strip -d
+L11 = the new code is too large for the lean form: leave --lean out, or split the test
 S1 = the line is no instruction, label, .data or .word64; or code stands behind .data
 S2 = what follows the first word is not of its form: registers are x0 to x31, and there are no pseudo-instructions
 S3 = the number or the label is out of the instruction's reach

@@ -36,10 +36,10 @@ fn usual_options(arguments: &[Argument<'_>]) -> Options
         return default;
     }
     Options {
-        inst_max: 64,
-        round: 16,
+        inst_max: 128,
+        round: 4,
         entries: Entries::Reached,
-        lean: Some(1000),
+        lean: Some(1200),
         ..default
     }
 }

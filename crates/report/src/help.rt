@@ -39,8 +39,8 @@ IN does twice, and compares. What is printed are the sizes of OUT, and its bound
 --entries SET  where jumps by register may go: all words, or reached ones alone: by default all
 --sweep        compares all registers and data words before the end
 --diverse      does the second computation by other instructions
---lean         compares every so many steps alone, with --entries reached; --inst-max 64, --round 16
---every N      with --lean: the most steps from check to check, 1 to 2048: by default 1000
+--lean         compares every so many steps alone, with --entries reached; --inst-max 128, --round 4
+--every N      with --lean: the most steps from check to check, 1 to 2048: by default 1200
 
 $ qed transform two_sums.elf out.elf
 code 264 bytes, entries 1, pieces 1, half 4096, register bound 272, word bound none
