@@ -1,5 +1,5 @@
 -- The lean form of a test: its items are those of its file, they can be linked where they are few, and what is linked is its code.
-use Rattle.std.proofs.Common.{◌≡◌, ℕ, ◌+◌, ◌-◌, ◌^◌, ◌<◌, ◌≤◌, false, List, [], ◌++◌, map, sym, ap, ◌∙◌, subst, arith, append_assoc}
+use Rattle.std.proofs.Common.{◌≡◌, ℕ, ◌+◌, ◌-◌, ◌^◌, ◌<◌, ◌≤◌, false, List, [], ◌++◌, length, map, sym, ap, ◌∙◌, subst, arith, append_assoc}
 use Rattle.std.specs.Prelude.{All, AllPairs, Result, Ok, Err, IfOk, IfErr, get_or}
 use Rattle.std.specs.List.{list_all}
 use Rattle.std.proofs.Math.ListN.{get_or-map, length-map}
@@ -9,6 +9,7 @@ use Rattle.qed_model.specs.declared.item.Item.{Item}
 use Rattle.qed_model.specs.declared.options.Options.{Options}
 use Rattle.qed_model.specs.declared.plan.EntryRow.{EntryRow}
 use Rattle.qed_model.specs.declared.test.Test.{Test}
+use Rattle.qed_model.specs.Admission.DataRanges.{range_of}
 use Rattle.qed_model.specs.Weave.Blocks.{begins_at}
 use Rattle.qed_model.specs.Weave.Code.{Sequences, entries_of}
 use Rattle.qed_model.specs.Weave.OutputParts.{base_of}
@@ -40,6 +41,7 @@ use Rattle.lean_weave.proofs.Tests.{tests_have_words, are_items}
 use Rattle.lean_weave.proofs.Unmarked.{code_rows, code_size}
 use Rattle.lean_code.specs.declared.weaver.LeanWeaver.{LeanWeaver}
 use Rattle.woven_code.specs.Code.{place_of}
+use Rattle.woven_code.proofs.DataWords.{few_data}
 use Rattle.woven_code.proofs.LeanBytes.{few_lean_bytes}
 use Rattle.lean_code.specs.Code.{lean_with, code_with, items_with, placed_at, IsLeanCut, IsLaidOut, IsLeanCodeOf, HasCause}
 use Rattle.lean_code.specs.Form.{code_of}
@@ -69,6 +71,11 @@ module _ (f : ElfFile) (o : Options) (every : ℕ) (t : Test) (blocks : List Cod
 
   pub few_every : every ≤ 2048
   few_every = few_steps f o every c.cut.sound c.cut.lean
+
+  pub few_ranges : length t.span ≤ 67_108_864
+  few_ranges =
+      let few = few_data f o c.cut.sound c.cut.file.loads c.cut.admitted in
+      omega (arith, few.ranges, length-map t.span range_of, ap length c.told.span)
 
   pub half_small : t.distance < 2 ^ 63
   half_small = let b = (there.bounds f o c.cut.sound c.cut.file.loads c.cut.admitted bs c.cut.are).1 in omega (arith, b, c.told.distance)

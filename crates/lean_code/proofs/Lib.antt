@@ -3,3 +3,4 @@ mod Finding
 mod Forms
 mod Owned
 mod Parts
+mod RoleRows

@@ -3,3 +3,4 @@ pub mod Leaves
 pub mod Passes
 pub mod Form
 pub mod Code
+pub mod Roles

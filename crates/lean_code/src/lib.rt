@@ -6,9 +6,11 @@ mod blocks;
 mod check;
 mod code;
 mod leave;
+mod roles;
 mod steps;
 mod tick;
 mod turn;
 mod weaver;
 
 pub use code::lean_code;
+pub use roles::lean_roles;

@@ -72,6 +72,20 @@ pub(crate) fn turn_steps(from: u64, to: u64) -> u64
     }
 }
 
+/// The bytes of a turn.
+pub(crate) fn turn_size(from: u64, to: u64) -> u64
+    ensures value { result ≡ sum_of_sizes false (turn from to) }
+    ensures bound { result ≤ 12 }
+{
+    if from == to {
+        0
+    } else if is_short(distance_between(from, to)) {
+        4
+    } else {
+        12
+    }
+}
+
 /// The bytes of a turn with the jump behind it.
 pub(crate) fn goes_size(from: u64, to: u64) -> u64
     ensures value { result ≡ sum_of_sizes false (goes from to) }

@@ -1,5 +1,5 @@
 -- The parts of one role hold all items of the lean form.
-use Rattle.std.proofs.Common.{◌≡◌, ℕ, ◌+◌, ◌*◌, ◌%◌, ◌^◌, Bool, false, List, [], ◌∷◌, ◌++◌, length, drop, refl, sym, ap, ◌∙◌}
+use Rattle.std.proofs.Common.{◌≡◌, ℕ, ◌+◌, ◌*◌, ◌%◌, ◌^◌, Bool, false, List, [], ◌∷◌, ◌++◌, length, drop, refl, ap, ◌∙◌}
 use Rattle.std.specs.Prelude.{pos, neg_ℤ}
 use Rattle.std.proofs.lemmas.List.{append-nil}
 use Rattle.rv_isa.specs.declared.ins.Ins.{Ins}
@@ -21,11 +21,11 @@ use Rattle.qed_model.specs.Weave.Code.{Sequences, pieces_of, body_of, block_item
 use Rattle.qed_model.specs.Weave.Forms.{mirror_of, form_of}
 use Rattle.qed_model.specs.Weave.Lean.{goes, turn, check_sign, look_up, opposite, leave_as, leave}
 use Rattle.qed_model.specs.Weave.LeanCode.{Lean, worded, fall_words, lean_of, lean_items, items_with}
-use Rattle.qed_model.specs.Weave.LeanRoles.{first_parts, piece_parts, pieces_parts, behind_parts, leave_as_parts, leave_parts, body_parts, entry_parts, entries_parts, worded_parts, parts_with, lean_parts}
+use Rattle.qed_model.specs.Weave.LeanRoles.{first_parts, piece_parts, pieces_parts, behind_parts, leave_as_parts, leave_parts, body_parts, entry_parts, entries_parts, worded_parts, lean_parts}
 use Rattle.qed_model.specs.Weave.OutputParts.{base_of}
 use Rattle.qed_model.specs.Weave.Placed.{sum_of_sizes, entry_of}
 use Rattle.qed_model.specs.Weave.Places.{image_of, half_of, code_place}
-use Rattle.qed_model.specs.Weave.Roles.{joined, guard_parts, compare_parts, originals, original_parts, mirror_parts, each_parts, end_parts}
+use Rattle.qed_model.specs.Weave.Roles.{joined, guard_parts, original_parts, mirror_parts, each_parts, end_parts}
 use Rattle.qed_model.specs.Weave.Sequences.{Form, Block, End, Falls, Stops, guard, guards_of, compare, original, each_part, before_end, body_length, links, stub}
 use Rattle.qed_model.proofs.RoleParts.{joined_append, originals_joined, mirrors_joined, seam, way_of, guards_joined, end_joined}
 

@@ -1,8 +1,8 @@
 mod BlockCount
 mod ItemBytes
-mod Sizing
+pub mod Sizing
 mod RowLaws
-mod RoleRows
+pub mod RoleRows
 pub mod DataWords
 mod CodeBytes
 mod Forms

@@ -25,7 +25,7 @@ use Rattle.qed_model.specs.Machine.Table.{ins}
 use Rattle.qed_model.specs.Weave.Pieces.{divided}
 use Rattle.qed_model.specs.Weave.Places.{image_of, half_of}
 use Rattle.qed_model.specs.Weave.Placed.{go_size, sum_of_sizes}
-use Rattle.qed_model.specs.Weave.Roles.{row_of, joined, guard_parts, compare_parts, originals, original_as_parts, original_parts, mirror_parts, each_parts, last_of, check_parts, piece_parts, pieces_parts, end_parts, leave_as_parts, leave_parts, entry_parts, entries_parts, parts_with, new_roles}
+use Rattle.qed_model.specs.Weave.Roles.{row_of, joined, guard_parts, compare_parts, originals, original_as_parts, original_parts, mirror_parts, each_parts, last_of, check_parts, piece_parts, pieces_parts, end_parts, leave_as_parts, leave_parts, entry_parts, entries_parts, parts_with, compared_roles}
 use Rattle.qed_model.specs.Weave.Sequences.{Form, Falls, guard, guards_of, visit, sweep, is_auipc, original_as, links, leave_as, leave, body_length, prologue, stub}
 use Rattle.qed_model.specs.Weave.Woven.{is_far_code}
 use Rattle.qed_model.specs.Weave.Forms.{mirror_of, form_of}
@@ -38,6 +38,7 @@ use Rattle.test_weave.specs.Fits.{FitsBlock}
 use Rattle.test_weave.specs.Form.{form_with}
 use Rattle.test_weave.proofs.BodyLeft.{Left, whole_length}
 use Rattle.test_weave.proofs.WholeCode.{spans_are}
+use Rattle.woven_code.specs.declared.roles.Compared.TheVariants as at_place
 use Rattle.woven_code.specs.declared.size.Sizes.{Sizes}
 use Rattle.woven_code.specs.Code.{IsCut}
 use Rattle.woven_code.specs.Sizes.{guard_bytes, mirror_bytes, end_bytes, AreSizes, links_bytes, prologue_bytes}
@@ -56,11 +57,11 @@ module _ (far : Bool) where
   abbrev size : List Item → ℕ
   size items = sum_of_sizes far items
 
-  row_is : (r : Role) (n : ℕ) (items : List Item) → size items ≡ n → row r n ≡ row_of far (r, items)
+  pub row_is : (r : Role) (n : ℕ) (items : List Item) → size items ≡ n → row r n ≡ row_of far (r, items)
   row_is r n items e = ap (λ m. row r m) (sym e)
 
   -- ---- comparisons
-  guard_rows_are : (leaves : Bool) (i : Ins) (at : ℕ) → guard_rows leaves i at ≡ rows (guard_parts (λ r. guard_role leaves at r) i)
+  pub guard_rows_are : (leaves : Bool) (i : Ins) (at : ℕ) → guard_rows leaves i at ≡ rows (guard_parts (λ r. guard_role leaves at r) i)
   guard_rows_are leaves i at =
       let one = row_is (guard_role leaves at i.rs1) (guard_bytes i.rs1) (guard i.rs1) (guard_is far i.rs1) in
       let two = row_is (guard_role leaves at i.rs2) (cond (i.rs2 == i.rs1) 0 (guard_bytes i.rs2)) (cond (i.rs2 == i.rs1) [] (guard i.rs2)) (second (i.rs2 == i.rs1)) in
@@ -80,6 +81,9 @@ module _ (far : Bool) where
     by false class.Store = ap (λ l. l ++ (row (role.Original at) 4 ∷ [])) (guard_rows_are false i at)
     by false c = refl
 
+  mirror_rows_are : (diverse : Bool) (i : Ins) (at : ℕ) → part_rows (Some diverse) i at ≡ rows (mirror_parts (mirror_of diverse) i at)
+  mirror_rows_are diverse i at = ap (λ x. x ∷ []) (row_is (role.Mirror at) (mirror_bytes diverse i) (mirror_of diverse i at) (mirror_is far diverse i at))
+
   each_rows_are :
       (mirror : Option Bool) (parts : Ins → ℕ → List (Role × List Item)) → ((i : Ins) (at : ℕ) → part_rows mirror i at ≡ rows (parts i at))
       → (is : List Ins) (at : ℕ) → each_rows mirror is at ≡ rows (each_parts parts is at)
@@ -89,6 +93,12 @@ module _ (far : Bool) where
       ∙ ap (λ l. rows (parts i at) ++ l) (each_rows_are mirror parts h is (at + 4))
       ∙ sym (map-append (row_of far) (parts i at) (each_parts parts is (at + 4)))
 
+  pub originals_are : (is : List Ins) (at : ℕ) → each_rows None is at ≡ rows (each_parts original_parts is at)
+  originals_are = each_rows_are None original_parts original_rows_are
+
+  pub mirrors_are : (diverse : Bool) (is : List Ins) (at : ℕ) → each_rows (Some diverse) is at ≡ rows (each_parts (mirror_parts (mirror_of diverse)) is at)
+  mirrors_are diverse = each_rows_are (Some diverse) (mirror_parts (mirror_of diverse)) (mirror_rows_are diverse)
+
 module _ (far : Bool) (o : Options) (span : List Range) (s : Sizes) (are : AreSizes s o far span) where
   abbrev form : Form
   form = form_with (spans_of span) o far
@@ -96,51 +106,50 @@ module _ (far : Bool) (o : Options) (span : List Range) (s : Sizes) (are : AreSi
   abbrev listed : List (Role × List Item) → List RoleRow
   listed ps = map (row_of far) ps
 
-  mirror_rows_are : (i : Ins) (at : ℕ) → part_rows (Some s.diverse) i at ≡ listed (mirror_parts form i at)
-  mirror_rows_are i at =
-      ap (λ d. row (role.Mirror at) (mirror_bytes d i) ∷ []) are.diverse
-      ∙ ap (λ x. x ∷ []) (row_is far (role.Mirror at) (mirror_bytes o.diverse i) (mirror_of o.diverse i at) (mirror_is far o.diverse i at))
-
   -- ---- pieces
-  check_rows_are : (first last : ℕ) → check_rows s (first, last) ≡ listed (check_parts form first last)
+  check_rows_are : (first last : ℕ) → check_rows (Some s.piece) first last ≡ listed (check_parts form first last)
   check_rows_are first last =
       let e : s.piece - 104 ≡ sum_of_sizes far (visit o.round (spans_of span)) = omega (arith, are.piece, visit_is far o.round span) in
-      ap (λ n. compare_rows (Some (first, last)) originals ++ (row (role.Visit first last) n ∷ [])) e
+      ap (λ n. compare_rows (at_place.Piece first last) originals ++ (row (role.Visit first last) n ∷ [])) e
 
-  piece_rows_are : (is : List Ins) (at : ℕ) → piece_rows s is at ≡ listed (piece_parts form is at)
+  piece_rows_are : (is : List Ins) (at : ℕ) → piece_rows s.diverse (Some s.piece) is at ≡ listed (piece_parts form is at)
   piece_rows_are is at =
       let a = each_parts original_parts is at in
-      let b = each_parts (mirror_parts form) is at in
+      let b = each_parts (mirror_parts form.mirror) is at in
       let c = check_parts form at (last_of is at) in
-      ap (λ l. l ++ (each_rows (Some s.diverse) is at ++ check_rows s (at, last_of is at))) (each_rows_are far None original_parts (original_rows_are far) is at)
-      ∙ ap (λ l. listed a ++ (l ++ check_rows s (at, last_of is at))) (each_rows_are far (Some s.diverse) (mirror_parts form) mirror_rows_are is at)
+      let behind = check_rows (Some s.piece) at (last_of is at) in
+      ap (λ l. l ++ (each_rows (Some s.diverse) is at ++ behind)) (originals_are far is at)
+      ∙ ap (λ l. listed a ++ (l ++ behind)) (ap (λ d. each_rows (Some d) is at) are.diverse ∙ mirrors_are far o.diverse is at)
       ∙ ap (λ l. listed a ++ (listed b ++ l)) (check_rows_are at (last_of is at))
       ∙ ap (λ l. listed a ++ l) (sym (map-append (row_of far) b c))
       ∙ sym (map-append (row_of far) a (b ++ c))
 
-  pieces_rows_are : (ps : List (List Ins)) (at : ℕ) → pieces_rows s ps at ≡ listed (pieces_parts form ps at)
+  pieces_rows_are : (ps : List (List Ins)) (at : ℕ) → pieces_rows s.diverse (Some s.piece) ps at ≡ listed (pieces_parts form ps at)
   pieces_rows_are [] at = refl
   pieces_rows_are (p ∷ ps) at =
-      ap (λ l. l ++ pieces_rows s ps (at + 4 * length p)) (piece_rows_are p at)
+      ap (λ l. l ++ pieces_rows s.diverse (Some s.piece) ps (at + 4 * length p)) (piece_rows_are p at)
       ∙ ap (λ l. listed (piece_parts form p at) ++ l) (pieces_rows_are ps (at + 4 * length p))
       ∙ sym (map-append (row_of far) (piece_parts form p at) (pieces_parts form ps (at + 4 * length p)))
 
   -- ---- leaves
-  end_rows_are : (b : Bool) → s.end ≡ end_bytes b span → end_rows s ≡ listed (cond b ((role.Sweep, sweep (spans_of span)) ∷ compare_parts role.End originals) [])
-  end_rows_are true e =
+  end_rows_of : (b : Bool) → s.end ≡ end_bytes b span → end_rows s ≡ listed (cond b ((role.Sweep, sweep (spans_of span)) ∷ compare_parts role.End originals) [])
+  end_rows_of true e =
       let size : s.end - 104 ≡ sum_of_sizes far (sweep (spans_of span)) = omega (arith, e, sweep_size far (spans_of span), spans_many far span) in
-      ap (λ b. cond b [] (row role.Sweep (s.end - 104) ∷ compare_rows None originals)) (not_none s.end (omega (arith, e)))
-      ∙ ap (λ n. row role.Sweep n ∷ compare_rows None originals) size
-  end_rows_are false e = ap (λ n. cond (n == 0) [] (row role.Sweep (s.end - 104) ∷ compare_rows None originals)) e
+      ap (λ b. cond b [] (row role.Sweep (s.end - 104) ∷ compare_rows at_place.End originals)) (not_none s.end (omega (arith, e)))
+      ∙ ap (λ n. row role.Sweep n ∷ compare_rows at_place.End originals) size
+  end_rows_of false e = ap (λ n. cond (n == 0) [] (row role.Sweep (s.end - 104) ∷ compare_rows at_place.End originals)) e
+
+  pub end_rows_are : end_rows s ≡ listed (end_parts form)
+  end_rows_are = end_rows_of o.sweep are.end
 
   -- behind its guards a leave has the rest of its bytes
-  rest_is : (r : Role) (n : ℕ) (guards : List (Role × List Item)) (before known after : List Item) → joined guards ≡ known → n ≡ sum_of_sizes far after
+  pub rest_is : (r : Role) (n : ℕ) (guards : List (Role × List Item)) (before known after : List Item) → joined guards ≡ known → n ≡ sum_of_sizes far after
       → row r n ≡ row_of far (r, drop (length before + length (joined guards)) (before ++ (known ++ after)))
   rest_is r n guards before known after e f = ap (λ m. row r m) (f ∙ ap (λ is. sum_of_sizes far is) (sym (behind_guards guards before known after e)))
 
   leave_as_rows_are : (c : Class) (i : Ins) (at : ℕ) → leave_as_rows s c i at ≡ listed (leave_as_parts form c i at)
   leave_as_rows_are class.End i at =
-      ap (λ l. l ++ (row (role.Leave at) 4 ∷ [])) (end_rows_are o.sweep are.end) ∙ sym (map-append (row_of far) (end_parts form) ((role.Leave at, Plain i ∷ []) ∷ []))
+      ap (λ l. l ++ (row (role.Leave at) 4 ∷ [])) end_rows_are ∙ sym (map-append (row_of far) (end_parts form) ((role.Leave at, Plain i ∷ []) ∷ []))
   leave_as_rows_are class.Branch i at =
       let guards = guard_parts (λ r. role.LeaveGuard r at) i in
       let first : List Item = Plain (ins i.kind 0 (pair i.rs1) (pair i.rs2) (pos 16)) ∷ Constant 16 ((at + 4) % 2 ^ 64) ∷ Plain (ins Jal 0 0 0 (pos 12)) ∷ Constant 16 (target i at) ∷ [] in
@@ -169,7 +178,7 @@ module _ (far : Bool) (o : Options) (span : List Range) (s : Sizes) (are : AreSi
   block_rows_are b fits =
       let ps = divided b.lengths b.body in
       let leaves = leave_parts form (end_of b.end) (b.start + 4 * body_length ps) in
-      ap (λ n. row (role.Entry b.start) 16 ∷ (pieces_rows s ps b.start ++ leave_rows s b.end (b.start + 4 * n))) (sym (whole_length b.lengths b.body fits.whole))
+      ap (λ n. row (role.Entry b.start) 16 ∷ (pieces_rows s.diverse (Some s.piece) ps b.start ++ leave_rows s b.end (b.start + 4 * n))) (sym (whole_length b.lengths b.body fits.whole))
       ∙ ap (λ l. row (role.Entry b.start) 16 ∷ (l ++ leave_rows s b.end (b.start + 4 * body_length ps))) (pieces_rows_are ps b.start)
       ∙ ap (λ l. row (role.Entry b.start) 16 ∷ (listed (pieces_parts form ps b.start) ++ l)) (leave_rows_are b.end (b.start + 4 * body_length ps))
       ∙ ap (λ l. row (role.Entry b.start) 16 ∷ l) (sym (map-append (row_of far) (pieces_parts form ps b.start) leaves))
@@ -193,32 +202,34 @@ module _ (far : Bool) (o : Options) (span : List Range) (s : Sizes) (are : AreSi
 -- ---- in a loop
 -- a piece more
 pub pieces_more :
-    (s : Sizes) (old new all : List RoleRow) (n : ℕ) (ns : List ℕ) (is : List Ins) (at : ℕ) → Left (n ∷ ns) is at → old ++ pieces_rows s (divided (n ∷ ns) is) at ≡ all
-    → new ≡ old ++ piece_rows s (take n is) at → new ++ pieces_rows s (divided ns (drop n is)) (at + 4 * n) ≡ all
-pieces_more s old new all n ns is at l e f =
+    (diverse : Bool) (behind : Option ℕ) (old new all : List RoleRow) (n : ℕ) (ns : List ℕ) (is : List Ins) (at : ℕ) → Left (n ∷ ns) is at → old ++ pieces_rows diverse behind (divided (n ∷ ns) is) at ≡ all
+    → new ≡ old ++ piece_rows diverse behind (take n is) at → new ++ pieces_rows diverse behind (divided ns (drop n is)) (at + 4 * n) ≡ all
+pieces_more diverse behind old new all n ns is at l e f =
     let w : n + sum ns ≡ length is = sym (sum_by-cons (λ n. n) n ns) ∙ l.whole in
     let t : length (take n is) ≡ n = length-take-le n is (omega (arith, w)) in
-    let piece = piece_rows s (take n is) at in
-    ap (λ k. k ++ pieces_rows s (divided ns (drop n is)) (at + 4 * n)) f
-    ∙ append_assoc old piece (pieces_rows s (divided ns (drop n is)) (at + 4 * n))
-    ∙ ap (λ m. old ++ (piece ++ pieces_rows s (divided ns (drop n is)) (at + 4 * m))) (sym t)
+    let piece = piece_rows diverse behind (take n is) at in
+    ap (λ k. k ++ pieces_rows diverse behind (divided ns (drop n is)) (at + 4 * n)) f
+    ∙ append_assoc old piece (pieces_rows diverse behind (divided ns (drop n is)) (at + 4 * n))
+    ∙ ap (λ m. old ++ (piece ++ pieces_rows diverse behind (divided ns (drop n is)) (at + 4 * m))) (sym t)
     ∙ e
 
--- a block more
+-- a block more, where all have the rows of each, one behind the other
 pub blocks_more :
-    (s : Sizes) (old new all : List RoleRow) (bs : List CodeBlock) (k : ℕ) (b : CodeBlock) → k < length bs → get_or bs k b ≡ b → old ++ blocks_rows s (drop k bs) ≡ all
-    → new ≡ old ++ block_rows s b → new ++ blocks_rows s (drop (k + 1) bs) ≡ all
-blocks_more s old new all bs k b less is e f =
-    let rest = blocks_rows s (drop (k + 1) bs) in
+    (one : CodeBlock → List RoleRow) (each : List CodeBlock → List RoleRow) → ((b : CodeBlock) (bs : List CodeBlock) → each (b ∷ bs) ≡ one b ++ each bs)
+    → (old new all : List RoleRow) (bs : List CodeBlock) (k : ℕ) (b : CodeBlock) → k < length bs → get_or bs k b ≡ b → old ++ each (drop k bs) ≡ all
+    → new ≡ old ++ one b → new ++ each (drop (k + 1) bs) ≡ all
+blocks_more one each next old new all bs k b less is e f =
+    let rest = each (drop (k + 1) bs) in
     ap (λ l. l ++ rest) f
-    ∙ append_assoc old (block_rows s b) rest
-    ∙ ap (λ l. old ++ blocks_rows s l) (sym (drop_more bs k b less ∙ ap (λ x. x ∷ drop (k + 1) bs) is))
+    ∙ append_assoc old (one b) rest
+    ∙ ap (λ l. old ++ l) (sym (next b (drop (k + 1) bs)))
+    ∙ ap (λ l. old ++ each l) (sym (drop_more bs k b less ∙ ap (λ x. x ∷ drop (k + 1) bs) is))
     ∙ e
 
 -- ---- of a test
 module _ (f : ElfFile) (o : Options) (t : Test) (blocks : List CodeBlock) (cut : IsCut f o t blocks) where
   new_parts_are : (far : Bool) → is_far_code f o (map block_of blocks) ≡ far
-      → map (row_of far) (parts_with t.distance t.entry (form_with (spans_of t.span) o far) (map block_of blocks)) ≡ new_roles f o (map block_of blocks)
+      → map (row_of far) (parts_with t.distance t.entry (form_with (spans_of t.span) o far) (map block_of blocks)) ≡ compared_roles f o (map block_of blocks)
   new_parts_are far e =
       ap (λ d. map (row_of far) (parts_with d t.entry (form_with (spans_of t.span) o far) (map block_of blocks))) cut.told.distance
       ∙ ap (λ n. map (row_of far) (parts_with (half_of o.half (image_of f)) n (form_with (spans_of t.span) o far) (map block_of blocks))) cut.told.entry
@@ -229,6 +240,6 @@ module _ (o : Options) (t : Test) (blocks : List CodeBlock) (far : Bool) (taken 
   pub roles_result :
       {A E : Type 0} (items : A → List RoleRow) (r : Result A E)
       → IfOk r (λ rows. items rows ≡ map (row_of far) (parts_with t.distance t.entry (form_with (spans_of t.span) o far) (map block_of blocks)))
-      → IfOk r (λ rows. (f : ElfFile) → IsCut f o t blocks → items rows ≡ new_roles f o (map block_of blocks))
+      → IfOk r (λ rows. (f : ElfFile) → IsCut f o t blocks → items rows ≡ compared_roles f o (map block_of blocks))
   roles_result items (Ok rows) e = λ f cut. e ∙ new_parts_are f o t blocks cut far (taken f cut)
   roles_result items (Err x) e = tt

@@ -12,6 +12,8 @@ use Rattle.qed_model.specs.Weave.Pieces.{divided}
 use Rattle.qed_model.specs.Weave.Roles.{originals, last_of}
 use Rattle.qed_model.specs.Weave.Sequences.{is_auipc}
 use Rattle.block_list.specs.declared.block.CodeBlock.{CodeBlock}
+use Rattle.woven_code.specs.declared.roles.Compared.{Compared}
+use Rattle.woven_code.specs.declared.roles.Compared.TheVariants as at_place
 use Rattle.woven_code.specs.declared.size.Sizes.{Sizes}
 use Rattle.woven_code.specs.Sizes.{guard_bytes, mirror_bytes, links_bytes, leave_as_bytes, prologue_bytes}
 
@@ -26,14 +28,15 @@ guard_role leaves at r = cond leaves (role.LeaveGuard r at) (role.Guard r at)
 abbrev pub guard_rows : Bool → Ins → ℕ → List RoleRow
 guard_rows leaves i at = row (guard_role leaves at i.rs1) (guard_bytes i.rs1) ∷ row (guard_role leaves at i.rs2) (cond (i.rs2 == i.rs1) 0 (guard_bytes i.rs2)) ∷ []
 
--- the comparison of a register behind a piece, by its first and last instruction, or before the end
-abbrev pub compare_role : Option (ℕ × ℕ) → ℕ → Role
-compare_role None r = role.End r
-compare_role (Some piece) r = role.Compare r piece.0 piece.1
+-- the comparison of a register where all are compared
+abbrev pub compare_role : Compared → ℕ → Role
+compare_role (at_place.Piece first last) r = role.Compare r first last
+compare_role at_place.End r = role.End r
+compare_role at_place.Check r = role.CheckCompare r
 
-abbrev pub compare_rows : Option (ℕ × ℕ) → List ℕ → List RoleRow
-compare_rows piece [] = []
-compare_rows piece (r ∷ rs) = row (compare_role piece r) 8 ∷ compare_rows piece rs
+abbrev pub compare_rows : Compared → List ℕ → List RoleRow
+compare_rows place [] = []
+compare_rows place (r ∷ rs) = row (compare_role place r) 8 ∷ compare_rows place rs
 
 -- ---- pieces
 abbrev pub original_as_rows : Class → Ins → ℕ → List RoleRow
@@ -53,21 +56,22 @@ abbrev pub each_rows : Option Bool → List Ins → ℕ → List RoleRow
 each_rows part [] at = []
 each_rows part (i ∷ is) at = part_rows part i at ++ each_rows part is (at + 4)
 
--- behind the parts of a piece
-abbrev pub check_rows : Sizes → ℕ × ℕ → List RoleRow
-check_rows s piece = compare_rows (Some piece) originals ++ (row (role.Visit piece.0 piece.1) (s.piece - 104) ∷ [])
+-- behind the parts of a piece, from its first to its last instruction, where the comparison and the visits have so many bytes, or where there are none
+abbrev pub check_rows : Option ℕ → ℕ → ℕ → List RoleRow
+check_rows None first last = []
+check_rows (Some n) first last = compare_rows (at_place.Piece first last) originals ++ (row (role.Visit first last) (n - 104) ∷ [])
 
-abbrev pub piece_rows : Sizes → List Ins → ℕ → List RoleRow
-piece_rows s is at = each_rows None is at ++ (each_rows (Some s.diverse) is at ++ check_rows s (at, last_of is at))
+abbrev pub piece_rows : Bool → Option ℕ → List Ins → ℕ → List RoleRow
+piece_rows diverse behind is at = each_rows None is at ++ (each_rows (Some diverse) is at ++ check_rows behind at (last_of is at))
 
-abbrev pub pieces_rows : Sizes → List (List Ins) → ℕ → List RoleRow
-pieces_rows s [] at = []
-pieces_rows s (p ∷ ps) at = piece_rows s p at ++ pieces_rows s ps (at + 4 * length p)
+abbrev pub pieces_rows : Bool → Option ℕ → List (List Ins) → ℕ → List RoleRow
+pieces_rows diverse behind [] at = []
+pieces_rows diverse behind (p ∷ ps) at = piece_rows diverse behind p at ++ pieces_rows diverse behind ps (at + 4 * length p)
 
 -- ---- blocks
 -- before an ECALL
 abbrev pub end_rows : Sizes → List RoleRow
-end_rows s = cond (s.end == 0) [] (row role.Sweep (s.end - 104) ∷ compare_rows None originals)
+end_rows s = cond (s.end == 0) [] (row role.Sweep (s.end - 104) ∷ compare_rows at_place.End originals)
 
 abbrev pub jump_reg_rows : Ins → ℕ → List RoleRow
 jump_reg_rows i at = row (role.Leave at) 8 ∷ row (role.LeaveGuard i.rs1 at) (guard_bytes i.rs1) ∷ row (role.Leave at) (28 + links_bytes i) ∷ []
@@ -83,7 +87,7 @@ leave_rows s None at = row (role.Leave at) (8 + s.go) ∷ []
 leave_rows s (Some i) at = leave_as_rows s (class_of i.kind) i at
 
 abbrev pub block_rows : Sizes → CodeBlock → List RoleRow
-block_rows s b = row (role.Entry b.start) 16 ∷ (pieces_rows s (divided b.lengths b.body) b.start ++ leave_rows s b.end (b.start + 4 * length b.body))
+block_rows s b = row (role.Entry b.start) 16 ∷ (pieces_rows s.diverse (Some s.piece) (divided b.lengths b.body) b.start ++ leave_rows s b.end (b.start + 4 * length b.body))
 
 abbrev pub blocks_rows : Sizes → List CodeBlock → List RoleRow
 blocks_rows s [] = []

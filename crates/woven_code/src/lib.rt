@@ -7,4 +7,5 @@ mod roles;
 mod size;
 
 pub use code::{WovenCode, woven_code};
-pub use roles::code_roles;
+pub use roles::{Compared, code_roles, compare_rows, guard_rows, push_end, push_pieces, row};
+pub use size::{Sizes, guard_size, links_size, sizes_of};

@@ -1,9 +1,9 @@
 //! What the words of new code are for, by its blocks alone: no item is made.
-ghost use Rattle.std.specs.Prelude.{◌≡◌, ℕ, ◌+◌, ◌-◌, ◌*◌, ◌^◌, ◌<◌, ◌≤◌, ◌++◌, ◌∷◌, [], None, List, All, IfOk, OnOk, length, map};
+ghost use Rattle.std.specs.Prelude.{◌≡◌, ℕ, ◌+◌, ◌-◌, ◌*◌, ◌^◌, ◌<◌, ◌≤◌, ◌++◌, ◌∷◌, [], None, Some, List, All, IfOk, OnOk, length, map};
 ghost use Rattle.rv_isa.specs.Kind.{class_of};
 ghost use Rattle.elf_types.specs.declared.file.ElfFile.{ElfFile};
 ghost use Rattle.qed_model.specs.Weave.Pieces.{divided};
-ghost use Rattle.qed_model.specs.Weave.Roles.{originals, last_of, parts_with, row_of as row_of_part, new_roles};
+ghost use Rattle.qed_model.specs.Weave.Roles.{originals, last_of, parts_with, row_of as row_of_part, compared_roles};
 ghost use Rattle.block_list.specs.Listed.{block_of};
 ghost use Rattle.plc_rounds.specs.Spans.{spans_of};
 ghost use Rattle.test_weave.specs.Fits.{FitsBlock};
@@ -20,7 +20,7 @@ use rv_isa::{Class, Ins, Kind, Reg};
 use std::alloc::{AllocError, Global};
 
 /// So many bytes of one role.
-fn row(role: Role, bytes: u64) -> RoleRow
+pub fn row(role: Role, bytes: u64) -> RoleRow
     ensures { result ≡ row_of role bytes }
 {
     RoleRow { role, bytes }
@@ -37,8 +37,8 @@ fn guard_role(leaves: bool, at: u64, r: Reg) -> Role
     }
 }
 
-/// The guards of both source registers.
-fn guard_rows(leaves: bool, ins: &Ins, at: u64) -> [RoleRow; 2]
+/// The guards of both source registers of the instruction at an address, in the leave of a block or in a piece.
+pub fn guard_rows(leaves: bool, ins: &Ins, at: u64) -> [RoleRow; 2]
     ensures { result ≡ guard_rows_of leaves ins.now at }
 {
     let second = if ins.rs2 == ins.rs1 {
@@ -52,36 +52,48 @@ fn guard_rows(leaves: bool, ins: &Ins, at: u64) -> [RoleRow; 2]
     ]
 }
 
-/// The comparison of register `number` behind a piece, or before the end.
-fn compare_row(piece: Option<(u64, u64)>, number: u8) -> RoleRow
+/// Where all registers are compared.
+#[derive(Clone, Copy)]
+pub enum Compared {
+    /// Behind the piece whose first and last instructions stand at these addresses.
+    Piece(u64, u64),
+    /// Before the end.
+    End,
+    /// In the one check of the lean form.
+    Check,
+}
+
+/// The comparison of register `number`.
+fn compare_row(place: Compared, number: u8) -> RoleRow
     requires { number < 32 }
-    ensures { result ≡ row_of (compare_role_of piece number) 8 }
+    ensures { result ≡ row_of (compare_role_of place number) 8 }
 {
     let r = register(number);
-    match piece {
-        None => row(Role::End(r), 8),
-        Some((first, last)) => row(Role::Compare(r, first, last), 8),
+    match place {
+        Compared::Piece(first, last) => row(Role::Compare(r, first, last), 8),
+        Compared::End => row(Role::End(r), 8),
+        Compared::Check => row(Role::CheckCompare(r), 8),
     }
 }
 
 /// The comparisons of all registers.
-fn compare_rows(piece: Option<(u64, u64)>) -> [RoleRow; 13]
-    ensures { result ≡ compare_rows_of piece originals }
+pub fn compare_rows(place: Compared) -> [RoleRow; 13]
+    ensures { result ≡ compare_rows_of place originals }
 {
     [
-        compare_row(piece, 1),
-        compare_row(piece, 2),
-        compare_row(piece, 3),
-        compare_row(piece, 4),
-        compare_row(piece, 5),
-        compare_row(piece, 6),
-        compare_row(piece, 7),
-        compare_row(piece, 8),
-        compare_row(piece, 9),
-        compare_row(piece, 10),
-        compare_row(piece, 11),
-        compare_row(piece, 12),
-        compare_row(piece, 13),
+        compare_row(place, 1),
+        compare_row(place, 2),
+        compare_row(place, 3),
+        compare_row(place, 4),
+        compare_row(place, 5),
+        compare_row(place, 6),
+        compare_row(place, 7),
+        compare_row(place, 8),
+        compare_row(place, 9),
+        compare_row(place, 10),
+        compare_row(place, 11),
+        compare_row(place, 12),
+        compare_row(place, 13),
     ]
 }
 
@@ -136,17 +148,20 @@ fn push_parts(
     Ok(())
 }
 
-/// Appends what stands behind the parts of a piece, from its first to its last instruction.
+/// Appends what stands behind the parts of a piece, from its first to its last instruction: the comparison and the visits with so many
+/// bytes, or nothing.
 fn push_checks(
     rows: &mut Vec<RoleRow>,
-    sizes: &Sizes,
+    behind: Option<u64>,
     first: u64,
     last: u64,
 ) -> Result<(), AllocError>
-    ensures { OnOk result (rows.new.items ≡ rows.old.items ++ check_rows sizes.now (first, last)) }
+    ensures { OnOk result (rows.new.items ≡ rows.old.items ++ check_rows behind first last) }
 {
-    rows.extend_from_slice(&compare_rows(Some((first, last))))?;
-    rows.push(row(Role::Visit(first, last), sizes.piece.saturating_sub(104)))?;
+    if let Some(bytes) = behind {
+        rows.extend_from_slice(&compare_rows(Compared::Piece(first, last)))?;
+        rows.push(row(Role::Visit(first, last), bytes.saturating_sub(104)))?;
+    }
     Ok(())
 }
 
@@ -158,32 +173,39 @@ fn last_of(list: &[Ins], at: u64) -> u64
     at + 4 * (list.len() as u64).saturating_sub(1)
 }
 
-/// Appends a piece whose first instruction stands at an input address.
+/// Appends a piece whose first instruction stands at an input address, with what stands behind its parts.
 fn push_piece(
     rows: &mut Vec<RoleRow>,
-    sizes: &Sizes,
+    diverse: bool,
+    behind: Option<u64>,
     list: &[Ins],
     at: u64,
 ) -> Result<(), AllocError>
     requires { at + 4 * length list.now < 2 ^ 64 }
-    ensures { OnOk result (rows.new.items ≡ rows.old.items ++ piece_rows sizes.now list.now at) }
+    ensures { OnOk result (rows.new.items ≡ rows.old.items ++ piece_rows diverse behind list.now at) }
 {
     push_parts(rows, None, list, at)?;
-    push_parts(rows, Some(sizes.diverse), list, at)?;
-    push_checks(rows, sizes, at, last_of(list, at))?;
+    push_parts(rows, Some(diverse), list, at)?;
+    push_checks(rows, behind, at, last_of(list, at))?;
     Ok(())
 }
 
-/// Appends the pieces of a block.
-fn push_pieces(rows: &mut Vec<RoleRow>, sizes: &Sizes, block: &CodeBlock) -> Result<(), AllocError>
+/// Appends the pieces of a block, with mirror parts of other kinds where that is asked for, and behind the parts of each the comparison and
+/// the visits with so many bytes, or nothing.
+pub fn push_pieces(
+    rows: &mut Vec<RoleRow>,
+    diverse: bool,
+    behind: Option<u64>,
+    block: &CodeBlock,
+) -> Result<(), AllocError>
     requires { FitsBlock block.now }
-    ensures { OnOk result (rows.new.items ≡ rows.old.items ++ pieces_rows sizes.now (divided block.now.lengths block.now.body) block.now.start) }
+    ensures { OnOk result (rows.new.items ≡ rows.old.items ++ pieces_rows diverse behind (divided block.now.lengths block.now.body) block.now.start) }
 {
     let mut rest = block.body.as_slice();
     let mut at = block.start;
     for length in block.lengths.as_slice() {
         let (list, more) = rest.split_at(*length as usize);
-        push_piece(rows, sizes, list, at)?;
+        push_piece(rows, diverse, behind, list, at)?;
         rest = more;
         at += 4 * *length;
     }
@@ -192,15 +214,15 @@ fn push_pieces(rows: &mut Vec<RoleRow>, sizes: &Sizes, block: &CodeBlock) -> Res
 
 /// Appends the comparisons of all data words and of all registers.
 fn push_sweep(rows: &mut Vec<RoleRow>, sizes: &Sizes) -> Result<(), AllocError>
-    ensures { OnOk result (rows.new.items ≡ rows.old.items ++ row_of Role.Sweep (sizes.now.end - 104) ∷ compare_rows_of None originals) }
+    ensures { OnOk result (rows.new.items ≡ rows.old.items ++ row_of Role.Sweep (sizes.now.end - 104) ∷ compare_rows_of Compared.End originals) }
 {
     rows.push(row(Role::Sweep, sizes.end.saturating_sub(104)))?;
-    rows.extend_from_slice(&compare_rows(None))?;
+    rows.extend_from_slice(&compare_rows(Compared::End))?;
     Ok(())
 }
 
 /// Appends what stands before an ECALL.
-fn push_end(rows: &mut Vec<RoleRow>, sizes: &Sizes) -> Result<(), AllocError>
+pub fn push_end(rows: &mut Vec<RoleRow>, sizes: &Sizes) -> Result<(), AllocError>
     ensures { OnOk result (rows.new.items ≡ rows.old.items ++ end_rows sizes.now) }
 {
     if sizes.end == 0 {
@@ -274,7 +296,7 @@ fn push_block(rows: &mut Vec<RoleRow>, sizes: &Sizes, block: &CodeBlock) -> Resu
     ensures { OnOk result (rows.new.items ≡ rows.old.items ++ block_rows sizes.now block.now) }
 {
     rows.push(row(Role::Entry(block.start), 16))?;
-    push_pieces(rows, sizes, block)?;
+    push_pieces(rows, sizes.diverse, Some(sizes.piece), block)?;
     let at = block.start + 4 * block.body.as_slice().len() as u64;
     push_leave(rows, sizes, &block.end, at)?;
     Ok(())
@@ -343,7 +365,7 @@ pub fn code_roles(
     blocks: &[CodeBlock],
 ) -> Result<Vec<RoleRow>, AllocError>
     requires { (f : ElfFile) × IsCut f options.now test.now blocks.now }
-    ensures { IfOk result (λ rows. (f : ElfFile) → IsCut f options.now test.now blocks.now → rows.items ≡ new_roles f options.now (map block_of blocks.now)) }
+    ensures { IfOk result (λ rows. (f : ElfFile) → IsCut f options.now test.now blocks.now → rows.items ≡ compared_roles f options.now (map block_of blocks.now)) }
 {
     let far = is_far(test, options, blocks);
     roles_in(alloc, test, options, blocks, far)

@@ -1,5 +1,5 @@
-use Rattle.std.proofs.Common.{rules, ◌≡◌, ◌<◌, ◌++◌, length, get_or}
-use Rattle.woven_code.specs.Roles.{blocks_rows}
+use Rattle.std.proofs.Common.{rules, ◌≡◌, ◌<◌, ◌++◌, length, refl, get_or}
+use Rattle.woven_code.specs.Roles.{block_rows, blocks_rows}
 use Rattle.woven_code.proofs.RoleRows.{blocks_more}
 use Rattle.woven_code.proofs.roles.push_blocks.Goals as goal
 
@@ -7,4 +7,4 @@ pub loop-block-preserved : goal.loop-block-preserved
 loop-block-preserved c =
     let less : c.loop-block.block-index < length c.args.blocks.now = search rules in
     let item : get_or c.args.blocks.now c.loop-block.block-index c.block-item.result ≡ c.block-item.result = search rules in
-    blocks_more c.args.sizes.now c.loop-block.rows.items c.push_block.new.rows.items (c.args.rows.now.items ++ blocks_rows c.args.sizes.now c.args.blocks.now) c.args.blocks.now c.loop-block.block-index c.block-item.result less item c.loop-block.invariant c.in_ok-push_block.ensures
+    blocks_more (block_rows c.args.sizes.now) (blocks_rows c.args.sizes.now) (λ b bs. refl) c.loop-block.rows.items c.push_block.new.rows.items (c.args.rows.now.items ++ blocks_rows c.args.sizes.now c.args.blocks.now) c.args.blocks.now c.loop-block.block-index c.block-item.result less item c.loop-block.invariant c.in_ok-push_block.ensures

@@ -7,8 +7,9 @@ use Rattle.woven_code.proofs.roles.push_pieces.Goals as goal
 
 pub loop-length-preserved : goal.loop-length-preserved
 loop-length-preserved c =
-    let s = c.args.sizes.now in
-    let all = c.args.rows.now.items ++ pieces_rows s (divided c.args.block.now.lengths c.args.block.now.body) c.args.block.now.start in
+    let d = c.args.diverse in
+    let behind = c.args.behind in
+    let all = c.args.rows.now.items ++ pieces_rows d behind (divided c.args.block.now.lengths c.args.block.now.body) c.args.block.now.start in
     let old = c.loop-length.rows.items in
     let new = c.push_piece.new.rows.items in
     let rest = c.loop-length.rest.now in
@@ -17,9 +18,9 @@ loop-length-preserved c =
     let ns = drop (c.loop-length.length-index + 1) c.args.block.now.lengths in
     let split = next_length c.as_slice-length-items.result.now c.args.block.now.lengths c.loop-length.length-index c.as_slice-length-items.ensures c.loop-length-test.true in
     let left : Left (n ∷ ns) rest at = subst (λ l. Left l rest at) split c.loop-length.invariant.left in
-    let same : old ++ pieces_rows s (divided (n ∷ ns) rest) at ≡ all = subst (λ l. old ++ pieces_rows s (divided l rest) at ≡ all) split c.loop-length.invariant.same in
-    let more : new ≡ old ++ piece_rows s (take n rest) at = subst (λ l. new ≡ old ++ piece_rows s l at) c.split_at.ensures.front c.in_ok-push_piece.ensures in
+    let same : old ++ pieces_rows d behind (divided (n ∷ ns) rest) at ≡ all = subst (λ l. old ++ pieces_rows d behind (divided l rest) at ≡ all) split c.loop-length.invariant.same in
+    let more : new ≡ old ++ piece_rows d behind (take n rest) at = subst (λ l. new ≡ old ++ piece_rows d behind l at) c.split_at.ensures.front c.in_ok-push_piece.ensures in
     record {
       left = subst (λ l. Left ns l (at + 4 * n)) (sym c.split_at.ensures.back) (left_on n ns rest at left);
-      same = subst (λ l. new ++ pieces_rows s (divided ns l) (at + 4 * n) ≡ all) (sym c.split_at.ensures.back) (pieces_more s old new all n ns rest at left same more);
+      same = subst (λ l. new ++ pieces_rows d behind (divided ns l) (at + 4 * n) ≡ all) (sym c.split_at.ensures.back) (pieces_more d behind old new all n ns rest at left same more);
     }

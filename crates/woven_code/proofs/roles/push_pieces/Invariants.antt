@@ -9,6 +9,6 @@ abbrev pub invariant-loop-length : goal.invariant-loop-length
 invariant-loop-length l = record {
   left : Left (drop l.length-index l.block.lengths) l.rest l.at;
   same :
-      l.rows.items ++ pieces_rows l.sizes (divided (drop l.length-index l.block.lengths) l.rest) l.at
-      ≡ l.initial.rows.items ++ pieces_rows l.sizes (divided l.block.lengths l.block.body) l.block.start;
+      l.rows.items ++ pieces_rows l.diverse l.behind (divided (drop l.length-index l.block.lengths) l.rest) l.at
+      ≡ l.initial.rows.items ++ pieces_rows l.diverse l.behind (divided l.block.lengths l.block.body) l.block.start;
 }

@@ -1,6 +1,7 @@
-use Rattle.std.proofs.Common.{◌≡◌, ◌-◌, [], ◌∷◌, ◌++◌, None, ap, ◌∙◌, append_assoc}
+use Rattle.std.proofs.Common.{◌≡◌, ◌-◌, [], ◌∷◌, ◌++◌, ap, ◌∙◌, append_assoc}
 use Rattle.qed_model.specs.declared.role.Role.TheVariants as role
 use Rattle.qed_model.specs.Weave.Roles.{originals}
+use Rattle.woven_code.specs.declared.roles.Compared.TheVariants as at_place
 use Rattle.woven_code.specs.Roles.{row, compare_rows}
 use Rattle.woven_code.proofs.roles.push_sweep.Goals as goal
 
@@ -13,4 +14,4 @@ returns c =
     c.in_ok-extend_from_slice.ensures.items
     ∙ ap (λ l. l ++ c.compare_rows.result) pushed
     ∙ ap (λ l. (old ++ (first ∷ [])) ++ l) c.compare_rows.ensures
-    ∙ append_assoc old (first ∷ []) (compare_rows None originals)
+    ∙ append_assoc old (first ∷ []) (compare_rows at_place.End originals)
