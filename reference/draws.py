@@ -606,8 +606,8 @@ VALUES = ["0", "1", "2", "4", "8", "9", "16", "17", "1024", "1025", "4096", "409
           "x", "-1", "", "0:x1=1", "5:x31=0xff", "0:x32=1", "0:x01=1", "1:8=1", "1:9=1", ":8=1", "1:8", "0:1",
           "0:65536", "0:65537", "0xffffffffffffffff:1", "0xffffffffffffffff:2", "01", "012345678", "9", "10000",
           "10001", "60000", "60001", "1000000", "1000001", "registers", "words", "all", "reached"]
-OPTIONS = ["inst-min", "inst-max", "round", "half", "entries", "sweep", "diverse", "steps", "fault", "dump", "seed",
-           "count", "changes", "only", "from", "to", "results", "reached", "size", "turns", "at", "help", ""]
+OPTIONS = ["inst-min", "inst-max", "round", "half", "entries", "sweep", "diverse", "lean", "every", "steps", "fault",
+           "dump", "seed", "count", "changes", "only", "from", "to", "results", "reached", "size", "turns", "at", "help", ""]
 
 
 def draw_words(rng: random.Random) -> Case:
