@@ -5,7 +5,7 @@ use Rattle.qed_model.specs.declared.options.Options.{Options}
 use Rattle.qed_model.specs.declared.plan.Plan.{Plan}
 use Rattle.qed_model.specs.declared.test.Test.{Test}
 use Rattle.qed_model.specs.Limits.{limit_of}
-use Rattle.qed_model.specs.Weave.Roles.{new_roles}
+use Rattle.qed_model.specs.Weave.LeanRoles.{new_roles}
 use Rattle.qed_model.specs.Weave.Sequences.{Block}
 use Rattle.qed_model.specs.Weave.Woven.{code_as, size_of_code}
 use Rattle.elf_files.specs.File.{File}

@@ -1,18 +1,22 @@
 //! The new code of a test, and what each of its words is for.
-ghost use Rattle.std.specs.Prelude.{◌≢◌, IfOk, IfErr};
+ghost use Rattle.std.specs.Prelude.{◌≡◌, ◌≢◌, IfOk, IfErr, map};
+ghost use Rattle.block_list.specs.Listed.{block_of};
 ghost use Rattle.transform.specs.declared.error.TransformError.{TransformError as Refusal};
 ghost use Rattle.transform.specs.declared.whole.Transformed.{Transformed as Output};
 ghost use Rattle.qed_model.specs.Weave.Places.{AreSoundOptions};
+ghost use Rattle.qed_model.specs.Weave.LeanRoles.{new_roles};
+ghost use Rattle.woven_code.specs.Code.{IsCut};
 ghost use Rattle.transform.specs.Explained.{IsExplained};
 ghost use Rattle.transform.specs.Transform.{Transforms, HasCause, IsTransformable, IsErrorOr, IsDoneOr};
 
-use crate::cut::cut_test;
+use crate::cut::{CutTest, cut_test};
 use crate::error::TransformError;
 use crate::made::code_of;
 use crate::whole::{Transformed, transform};
 use elf_types::ElfFile;
+use lean_code::lean_roles;
 use qed_model::{Options, RoleRow};
-use std::alloc::Global;
+use std::alloc::{AllocError, Global};
 use woven_code::code_roles;
 
 /// The new code of a test, and what its words are for.
@@ -25,6 +29,18 @@ pub struct Explained {
     pub words: Vec<u32>,
     /// Rows of words of one role, as they stand one behind the other from the first word on.
     pub roles: Vec<RoleRow>,
+}
+
+/// What the words of the new code are for.
+fn roles_of(alloc: Global, cut: &CutTest, options: &Options) -> Result<Vec<RoleRow>, AllocError>
+    requires { IsCut cut.now.file options.now cut.now.test cut.now.blocks }
+    ensures { IfOk result (λ rows. rows.items ≡ new_roles cut.now.file options.now (map block_of cut.now.blocks)) }
+{
+    let blocks = cut.blocks.as_slice();
+    match options.lean {
+        None => code_roles(alloc, &cut.test, options, blocks),
+        Some(every) => lean_roles(alloc, &cut.test, options, every, blocks),
+    }
 }
 
 /// The same of a test of which there is an output.
@@ -41,7 +57,7 @@ fn explain_made(
 {
     let cut = cut_test(alloc, bytes, options)?;
     let code = code_of(alloc, &cut, options)?;
-    let roles = code_roles(alloc, &cut.test, options, cut.blocks.as_slice())?;
+    let roles = roles_of(alloc, &cut, options)?;
     Ok(Explained {
         base: cut.test.base + 3 * cut.test.distance,
         file: cut.file,

@@ -1,7 +1,4 @@
-use Rattle.std.proofs.Common.{◌≡◌, ◌+◌, ◌*◌, map, refl, sym, subst}
-use Rattle.qed_model.specs.Weave.Roles.{new_roles}
-use Rattle.block_list.specs.Listed.{block_of}
-use Rattle.woven_code.specs.Code.{IsCut}
+use Rattle.std.proofs.Common.{◌+◌, ◌*◌, refl}
 use Rattle.transform.proofs.Explaining.{explained_of}
 use Rattle.transform.proofs.explained.explain_made.Goals as goal
 
@@ -13,8 +10,6 @@ returns-clause-done c =
     let is = c.in_ok-cut.ensures.cut in
     let code = c.in_ok-code.code in
     let roles = c.in_ok-roles.roles in
-    let are = subst (λ bs. roles.items ≡ new_roles cut.file o (map block_of bs)) c.as_slice.ensures
-    (c.in_ok-roles.ensures cut.file (subst (λ bs. IsCut cut.file o cut.test bs) (sym c.as_slice.ensures) is)) in
     explained_of input o cut.test cut.blocks c.args.made.now.file c.args.made.now.plan
     (record { file = cut.file; base = cut.test.base + 3 * cut.test.distance; words = code.linked.words; roles = roles })
-    code c.requires.made c.in_ok-cut.ensures.read.file is c.in_ok-code.ensures.code refl refl are
+    code c.requires.made c.in_ok-cut.ensures.read.file is c.in_ok-code.ensures.code refl refl c.in_ok-roles.ensures
