@@ -387,6 +387,8 @@ def draw_options(rng: random.Random, many: float = 5) -> List[str]:
         words += ["--half", hex(rng.choice([0x1000, 0x2000, 0x11000, 0x12000, 0x20000, 0x100000, 0x20000000]))]
     if chance(rng, 30):
         words += ["--entries", rng.choice(["reached", "reached", "reached", "all"])]
+    if chance(rng, 25):
+        words += ["--lean"] + (["--every", str(rng.choice([30, 100, 700, 1100, 2048]))] if chance(rng, 50) else [])
     return words + [flag for flag in ("--sweep", "--diverse") if chance(rng, 25)]
 
 
