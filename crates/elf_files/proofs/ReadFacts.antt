@@ -4,12 +4,11 @@ use Rattle.std.proofs.Common.{◌≡◌, ◌≢◌, ℕ, zero, suc, ◌+◌, ◌
 use Rattle.std.specs.Prelude.{All, slice_index, nat_lt}
 use Rattle.std.specs.Option.{unwrap_or}
 use Rattle.std.proofs.lemmas.Bool.{ltb-false, eq-eqb, false≢true}
-use Rattle.std.proofs.lemmas.List.Elements.{All-nil, All-push}
+use Rattle.std.proofs.lemmas.List.Elements.{All-nil}
 use Rattle.elf_types.specs.declared.file.ElfFile.{ElfFile}
 use Rattle.elf_types.specs.declared.file.Symbol.{Symbol}
 use Rattle.elf_types.specs.declared.records.SectionHeader.{SectionHeader}
 use Rattle.elf_types.specs.Abi.{is_load}
-use Rattle.qed_model.specs.Below.{each}
 use Rattle.elf_files.specs.Header.{e_phnum}
 use Rattle.elf_files.specs.Fields.{program_header, section_header, symbol_entry}
 use Rattle.elf_files.specs.Rules.{is_misshapen, name_length, name_at, has_bytes, section_bytes, strings_of, symbol_name, symbol_table}

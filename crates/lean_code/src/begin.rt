@@ -12,6 +12,9 @@ use rv_isa::Kind;
 use std::alloc::AllocError;
 use test_weave::put_zeros;
 
+/// The bytes of what runs before the check.
+pub(crate) const BEGIN_BYTES: u64 = 124;
+
 /// The distance of the halves, the signature of the test's entry, one step that is left, and the jump there.
 fn put_start(distance: u64, entry: u64, out: &mut Emit) -> Result<(), AllocError>
     requires { distance < 2 ^ 63 }

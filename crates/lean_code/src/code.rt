@@ -9,6 +9,7 @@ ghost use Rattle.lean_code.specs.Code.{code_with, items_with, IsLeanCut, IsLaidO
 ghost use Rattle.lean_code.specs.Form.{code_of};
 ghost use Rattle.lean_code.specs.Passes.{is_diverse};
 
+use crate::begin::BEGIN_BYTES;
 use crate::weaver::{LeanPasses, LeanWeaver};
 use block_list::CodeBlock;
 use plc_rounds::Visit;
@@ -16,9 +17,6 @@ use qed_model::{EntryRow, Options, Test};
 use relinker::{Count, Layout, LinkError, Linked, lay};
 use std::alloc::{AllocError, Global};
 use test_weave::{copied, weave};
-
-// The bytes of what runs before the check.
-const BEGIN_BYTES: u64 = 124;
 
 /// What makes the parts of a test's lean form, where an input address has its entry by the rows, and elsewhere at `last`.
 fn weaver<'a>(

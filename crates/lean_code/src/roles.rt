@@ -11,6 +11,7 @@ ghost use Rattle.test_weave.specs.Fits.{FitsBlock};
 ghost use Rattle.lean_code.specs.Code.{IsLeanCut};
 ghost use Rattle.lean_code.specs.Roles.{check_end_rows, check_rows, next_bytes, last_rows, branch_rows, jump_reg_rows as jump_reg_rows_of, leave_as_rows, leave_rows, block_rows, blocks_rows, lean_rows};
 
+use crate::begin::BEGIN_BYTES;
 use crate::blocks::begins_at;
 use crate::turn::{goes_size, turn_size};
 use block_list::CodeBlock;
@@ -187,7 +188,7 @@ fn rows_in(alloc: Global, sizes: &Sizes, blocks: &[CodeBlock]) -> Result<Vec<Rol
     ensures { IfOk result (λ rows. rows.items ≡ lean_rows sizes.now (begins (map block_of blocks.now)) blocks.now) }
 {
     let mut rows = Vec::new(alloc);
-    rows.push(row(Role::Start, 124))?;
+    rows.push(row(Role::Start, BEGIN_BYTES))?;
     push_check(&mut rows, sizes)?;
     push_blocks(&mut rows, sizes, blocks)?;
     rows.push(row(Role::Stub, 4))?;

@@ -91,13 +91,7 @@ pub(crate) fn goes_size(from: u64, to: u64) -> u64
     ensures value { result ≡ sum_of_sizes false (goes from to) }
     ensures bound { result ≤ 16 }
 {
-    if from == to {
-        4
-    } else if is_short(distance_between(from, to)) {
-        8
-    } else {
-        16
-    }
+    turn_size(from, to) + 4
 }
 
 /// Fires where the signature is not that of an input address.

@@ -1,6 +1,6 @@
 //! The lean form of the new code, as a weave: one check for all of it, called by a counter, in place of comparisons behind pieces.
 //!
-//! Definitions and laws alone. No program weaves it yet.
+//! Definitions and laws alone.
 #![tactic(auto)]
 
 ghost use Rattle.lean_weave.specs.Tests.{LeanTestsHaveWords, LeanTestsWritable, LeanTestsKept, LeanTestsCaught, LeanTestsFaults, LeanTestsClean};

@@ -56,8 +56,7 @@ leave_parts form fall (Stops i) a at = leave_as_parts form fall (class_of i.kind
 abbrev pub body_parts : Form → Lean → (ℕ → Bool) → Block → List (Role × List Item)
 body_parts form l leader b = pieces_parts l b.body b.start ++ leave_parts form (fall_words leader) b.end (l.start_of b.end (b.start + 4 * body_length b.body)) (b.start + 4 * body_length b.body)
 
--- the call of a tick is as far from the check as the entry of its block, where an input address has its entry; how many bytes the tick has does not depend
--- on that
+-- the distance of a tick's call depends on where the entry of its block stands, which `entry` gives; how many bytes the tick has does not
 abbrev pub entry_parts : Form → (ℕ → ℕ) → Lean → (ℕ → Bool) → Block → List (Role × List Item)
 entry_parts form entry l leader b = (role.Tick b.start, Mark b.start ∷ tick (l.most b.start) (distance_between (entry b.start + 8) l.check)) ∷ body_parts form l leader b
 

@@ -1,4 +1,4 @@
-use Rattle.std.proofs.Common.{◌≡◌, sym, subst}
+use Rattle.std.proofs.Common.{◌≡◌, None, sym, subst}
 use Rattle.relinker.specs.declared.error.LinkError.TheVariants as link
 use Rattle.woven_code.specs.Code.{IsCut, IsCodeOf, HasCause}
 use Rattle.transform.proofs.Making.{compared_is, too_much}
@@ -23,5 +23,5 @@ returns-in-Err-TooLarge-clause-refused c input read cut =
     let outer = c.in-Err-TooLarge.field-0-is in
     let inner = c.in-Err-TooLarge.size-is in
     let same : c.in-Err-TooLarge.field-0 ≡ link.TooLarge n = cc in
-    too_much f o t c.args.cut.now.blocks cut input n c.requires.form read
+    too_much f o t c.args.cut.now.blocks cut input None n c.requires.form read
     (subst (λ x. HasCause f o x (link.TooLarge n)) c.as_slice.ensures (subst (λ e. HasCause f o c.as_slice.result.now e) same why))

@@ -1,8 +1,7 @@
-use Rattle.std.proofs.Common.{◌≡◌, false, refl, sym, subst}
+use Rattle.std.proofs.Common.{◌≡◌, false, Some, refl, sym, subst}
 use Rattle.relinker.specs.declared.error.LinkError.TheVariants as link
-use Rattle.woven_code.specs.Code.{IsCut}
 use Rattle.lean_code.specs.Code.{IsLeanCut, IsLeanCodeOf, HasCause}
-use Rattle.transform.proofs.Making.{lean_cut, lean_is, too_much_lean}
+use Rattle.transform.proofs.Making.{lean_cut, lean_is, too_much}
 use Rattle.transform.proofs.made.lean_form.Goals as goal
 
 pub lean_code-requires : goal.lean_code-requires
@@ -34,5 +33,5 @@ returns-in-Err-TooLarge-clause-refused c input read cut =
     let outer = c.in-Err-TooLarge.field-0-is in
     let inner = c.in-Err-TooLarge.size-is in
     let same : c.in-Err-TooLarge.field-0 ≡ link.TooLarge n = cc in
-    too_much_lean f o t blocks cut input c.args.every n c.requires.form read
+    too_much f o t blocks cut input (Some c.args.every) n c.requires.form read
     (subst (λ x. HasCause f o c.args.every x (link.TooLarge n)) c.as_slice.ensures (subst (λ e. HasCause f o c.args.every c.as_slice.result.now e) same why))
