@@ -1,7 +1,7 @@
 //! The bounds of the lean form.
 ghost use Rattle.std.specs.Prelude.{◌≡◌, ◌+◌, ◌*◌, ◌≤◌, ◌<◌, ◌^◌};
 ghost use Rattle.std.specs.Option.{SomeIff};
-ghost use Rattle.qed_model.specs.Weave.Bounds.{cost_of, end_bound};
+ghost use Rattle.qed_model.specs.Weave.Bounds.{cost_of, end_bound, entry_steps as entry_steps_of};
 ghost use Rattle.qed_model.specs.Weave.LeanBounds.{check_bound, period as period_of, bounds_of};
 ghost use Rattle.qed_model.specs.Weave.Pieces.{piece_count};
 ghost use Rattle.bound_calc.specs.Fitting.{fitting, AreSmall};
@@ -18,12 +18,21 @@ fn check(shape: &Shape) -> Option<u64>
     fitting(44 + u128::from(round))
 }
 
+/// The steps of an entry, where entries test the signature or not.
+fn entry(land: bool) -> u128
+    ensures value { result ≡ entry_steps_of land }
+    ensures bound { result ≤ 7 }
+{
+    if land { 7 } else { 2 }
+}
+
 /// The longest piece, with a check before it and the leave.
 fn piece(shape: &Shape, check: u64) -> Option<u64>
-    ensures { result ≡ fitting (24 + check + cost_of shape.now.diverse * shape.now.inst_max) }
+    ensures { result ≡ fitting (20 + 2 * entry_steps_of shape.now.land + check + cost_of shape.now.diverse * shape.now.inst_max) }
 {
     let cost: u128 = if shape.diverse { 8 } else { 5 };
-    fitting(24 + cost * u128::from(shape.inst_max) + u128::from(check))
+    let entry = entry(shape.land);
+    fitting(20 + 2 * entry + cost * u128::from(shape.inst_max) + u128::from(check))
 }
 
 /// The checks in which all words are visited, and one more.
@@ -45,8 +54,10 @@ pub fn lean_bounds(shape: &Shape, every: u64) -> Option<Bounds>
     let check = check(shape)?;
     let piece = piece(shape, check)?;
     let start = fitting(31 + end(shape))?;
-    let period = fitting(u128::from(check) + u128::from(every) + 2)?;
-    let register = fitting(36 + u128::from(start) + u128::from(period))?;
+    let entry = entry(shape.land);
+    let period = fitting(u128::from(check) + u128::from(every) + entry)?;
+    let first = 34 + entry + u128::from(start);
+    let register = fitting(first + u128::from(period))?;
     if shape.words == 0 {
         return Some(Bounds {
             piece,
@@ -56,7 +67,7 @@ pub fn lean_bounds(shape: &Shape, every: u64) -> Option<Bounds>
         });
     }
     let checks = fitting(checks(shape.words, shape.round))?;
-    let word = fitting(36 + u128::from(start) + u128::from(checks) * u128::from(period))?;
+    let word = fitting(first + u128::from(checks) * u128::from(period))?;
     Some(Bounds {
         piece,
         register,

@@ -1,5 +1,5 @@
 -- What an output is made ready with.
-use Rattle.std.proofs.Common.{ℕ, zero, suc, ◌≤◌, Option, Some, None, List, inl, inr, refl, sym, ap, ◌∙◌, subst, arith}
+use Rattle.std.proofs.Common.{ℕ, zero, suc, ◌≤◌, Bool, Option, Some, None, List, inl, inr, refl, sym, ap, ◌∙◌, subst, arith}
 use Rattle.std.specs.Prelude.{IsSome, Ok}
 use Rattle.elf_types.specs.declared.file.ElfFile.{ElfFile}
 use Rattle.qed_model.specs.declared.options.Options.{Options}
@@ -20,13 +20,13 @@ some_bound : (n round start piece : ℕ) → 1 ≤ n → IsSome (word_bound n ro
 some_bound zero round start piece h = absurd (omega arith)
 some_bound (suc n) round start piece h = refl
 
-some_lean_bound : (n round ends period : ℕ) → 1 ≤ n → IsSome (lean.word_bound n round ends period)
-some_lean_bound zero round ends period h = absurd (omega arith)
-some_lean_bound (suc n) round ends period h = refl
+some_lean_bound : (land : Bool) (n round ends period : ℕ) → 1 ≤ n → IsSome (lean.word_bound land n round ends period)
+some_lean_bound land zero round ends period h = absurd (omega arith)
+some_lean_bound land (suc n) round ends period h = refl
 
 some_word : (l : Option ℕ) (f : ElfFile) (o : Options) (blocks : List Block) → 1 ≤ word_count (data_ranges (image_of f)) → IsSome (code_as l f o blocks).bounds.word
 some_word None f o blocks h = let shape = shape_of f o (is_far_code f o blocks) in some_bound (word_count (data_ranges (image_of f))) shape.round (start_steps shape) (piece_steps shape) h
-some_word (Some every) f o blocks h = some_lean_bound (word_count (data_ranges (image_of f))) _ _ _ h
+some_word (Some every) f o blocks h = some_lean_bound o.land (word_count (data_ranges (image_of f))) _ _ _ h
 
 pub has_words : (f : ElfFile) (o : Options) (blocks : List Block) (plan : Plan) → IsToldOf (new_code f o blocks) f o blocks plan → HasWords plan
 has_words f o blocks plan told = record {

@@ -7,7 +7,7 @@ use Rattle.command_line.specs.declared.order.Command.{Command}
 use Rattle.command_line.specs.declared.order.Command.TheVariants.{Transform, Plan, Explain, Run, Campaign, Gen, Asm, Harts, Help, Version}
 use Rattle.command_line.specs.declared.order.Command.TheVariants as command
 use Rattle.command_line.specs.declared.order.Key.{Key}
-use Rattle.command_line.specs.declared.order.Key.TheVariants.{InstMin, InstMax, Round, Half, Entries, Steps, Fault, Dump, Seed, Count, Size, Changes, Only, From, To, Turns, At, Sweep, Diverse, Results, Reached, Lean, Every}
+use Rattle.command_line.specs.declared.order.Key.TheVariants.{InstMin, InstMax, Round, Half, Entries, Steps, Fault, Dump, Seed, Count, Size, Changes, Only, From, To, Turns, At, Sweep, Diverse, Results, Reached, Lean, Every, Land}
 use Rattle.command_line.specs.declared.keys.Value.{Value}
 use Rattle.command_line.specs.declared.keys.Value.TheVariants.{Flag, Number, Pages, Word}
 use Rattle.command_line.specs.declared.keys.Value.TheVariants as value
@@ -52,6 +52,7 @@ option_of Results = once (codes "results") Flag
 option_of Reached = once (codes "reached") Flag
 option_of Lean = once (codes "lean") Flag
 option_of Every = once (codes "every") (Number 1 2048)
+option_of Land = once (codes "land") Flag
 
 -- ---- commands
 
@@ -68,7 +69,7 @@ row names least most keys required = record { names = names; least_files = least
 
 -- the options of a transformation, and more
 abbrev pub weave : List Key → List Key
-weave own = InstMin ∷ InstMax ∷ Round ∷ Half ∷ Entries ∷ Sweep ∷ Diverse ∷ Lean ∷ Every ∷ own
+weave own = InstMin ∷ InstMax ∷ Round ∷ Half ∷ Entries ∷ Sweep ∷ Diverse ∷ Lean ∷ Every ∷ Land ∷ own
 
 abbrev pub row_of : Command → CommandRow
 row_of Transform = row (codes "transform" ∷ []) 2 2 (weave []) []

@@ -21,14 +21,14 @@ use Rattle.command_line.specs.declared.order.Order.TheVariants as order
 use Rattle.command_line.specs.declared.order.Topic.{Topic}
 use Rattle.command_line.specs.declared.order.Topic.TheVariants as topic
 use Rattle.command_line.specs.declared.order.Key.{Key}
-use Rattle.command_line.specs.declared.order.Key.TheVariants.{InstMin, InstMax, Round, Half, Entries, Steps, Fault, Dump, Seed, Count, Size, Changes, Only, From, To, Turns, At, Sweep, Diverse, Results, Reached, Lean, Every}
+use Rattle.command_line.specs.declared.order.Key.TheVariants.{InstMin, InstMax, Round, Half, Entries, Steps, Fault, Dump, Seed, Count, Size, Changes, Only, From, To, Turns, At, Sweep, Diverse, Results, Reached, Lean, Every, Land}
 use Rattle.command_line.specs.declared.keys.Value.{Value}
 use Rattle.command_line.specs.declared.keys.Value.TheVariants.{Flag, Number, Pages, Word}
 use Rattle.command_line.specs.declared.keys.Value.TheVariants as value
 use Rattle.command_line.specs.declared.order.Reason.{Reason}
 use Rattle.command_line.specs.declared.order.Reason.TheVariants.{NoCommand, UnknownCommand, EmptyWord, UnknownOption, Repeated, MissingValue, ExtraWord, MissingFile, MissingOption, BadNumber, BadShape, OutOfRange, Split, AllEntries, FewSteps}
 use Rattle.qed_model.specs.Options.{default_options}
-use Rattle.qed_model.specs.Weave.Bounds.{cost_of}
+use Rattle.qed_model.specs.Weave.Bounds.{cost_of, entry_steps}
 use Rattle.command_line.specs.Tables.{place_among, option_of, row_of, command_of, key_named}
 use Rattle.texts.specs.Read.{dash, colon, equals, letter_x, digits, number, parted, register}
 use Rattle.qed_model.specs.Promise.Changed.{in_order}
@@ -262,7 +262,7 @@ entries n = if n == 0 then entry.All else entry.Reached
 
 -- the options of the lean form where no option says otherwise: longer pieces and more visits, since one check is for many blocks
 abbrev pub lean_options : Options
-lean_options = record { inst_min = 4; inst_max = 128; round = 4; half = None; sweep = false; diverse = false; entries = entry.Reached; lean = Some 1200 }
+lean_options = record { inst_min = 4; inst_max = 128; round = 4; half = None; sweep = false; diverse = false; entries = entry.Reached; lean = Some 1200; land = false }
 
 unfoldable pub usual_options : List Argument → Options
 usual_options given = if lacks given Lean then default_options else lean_options
@@ -281,6 +281,7 @@ options given = record {
   diverse = not (lacks given Diverse);
   entries = unwrap_or (option_map entries (word_given Entries given)) (usual_options given).entries;
   lean = option_map (unwrap_or (number_given Every given)) (usual_options given).lean;
+  land = not (lacks given Land);
 }
 
 -- the floor leaves no room
@@ -339,13 +340,13 @@ order_of Version given = order.Tell topic.Version
 unfoldable pub split_reason : List Argument → Option Reason
 split_reason given = if is_split (options given) then Some Split else None
 
--- only the lean form has steps from check to check
-unfoldable pub every_reason : List Argument → Option Reason
-every_reason given = if lacks given Lean && not (lacks given Every) then Some (MissingOption Lean) else None
+-- only the lean form has steps from check to check, and entries that test the signature or do not
+unfoldable pub missing_lean : List Argument → Option Reason
+missing_lean given = if lacks given Lean && not (lacks given Every && lacks given Land) then Some (MissingOption Lean) else None
 
--- the most steps of a block of the lean form: 2 of its tick, those of one piece, which has 1024 instructions at most, and 19 of its leave
+-- the most steps of a block of the lean form: those of its entry, of one piece, which has 1024 instructions at most, and 19 of its leave
 abbrev pub block_steps : Options → ℕ
-block_steps o = 21 + cost_of o.diverse * min o.inst_max 1024
+block_steps o = entry_steps o.land + 19 + cost_of o.diverse * min o.inst_max 1024
 
 -- the lean form has only entries that are reached, and more steps from check to check than a block has
 abbrev pub misfit : weave.Entries → ℕ → ℕ → Option Reason
@@ -372,7 +373,7 @@ topic_reason _ given = None
 unfoldable pub reason_of : Command → List Argument → Option Reason
 reason_of command given =
     first_reason
-    (first_wrong command [] given ∷ missing command given ∷ first_wrong_value command given ∷ split_reason given ∷ every_reason given ∷ lean_reason given ∷ window_reason given ∷ topic_reason command given ∷ [])
+    (first_wrong command [] given ∷ missing command given ∷ first_wrong_value command given ∷ split_reason given ∷ missing_lean given ∷ lean_reason given ∷ window_reason given ∷ topic_reason command given ∷ [])
 
 abbrev pub answer : Order → Option Reason → Result Order Reason
 answer o None = Ok o

@@ -36,7 +36,7 @@ pub const COMMANDS: [Command; 11] = [
 // in front.
 macro_rules! row {
     ($names:expr, $least:literal, $most:literal, weave [$($key:ident),*], [$($required:ident),*]) => {
-        row!($names, $least, $most, [InstMin, InstMax, Round, Half, Entries, Sweep, Diverse, Lean, Every $(, $key)*], [$($required),*])
+        row!($names, $least, $most, [InstMin, InstMax, Round, Half, Entries, Sweep, Diverse, Lean, Every, Land $(, $key)*], [$($required),*])
     };
     ($names:expr, $least:literal, $most:literal, [$($key:ident),*], [$($required:ident),*]) => {
         CommandRow {

@@ -83,6 +83,7 @@ impl Key {
             Key::Reached => row!("reached", Value::Flag),
             Key::Lean => row!("lean", Value::Flag),
             Key::Every => row!("every", Value::Number(1, 2048)),
+            Key::Land => row!("land", Value::Flag),
         }
     }
 

@@ -83,6 +83,7 @@ pub enum Key {
     Reached,
     Lean,
     Every,
+    Land,
 }
 
 /// Why words ask for nothing. A number is that of a word; word 0 names the command.

@@ -32,6 +32,7 @@ fn steps(alloc: Global, test: &Test, options: &Options, length: u64) -> Result<S
         far: false,
         sweep: false,
         diverse: options.diverse,
+        land: false,
     };
     match bounds(&shape) {
         Some(bounds) => times(alloc, bounds.piece, length),

@@ -2,6 +2,7 @@
 use Rattle.std.proofs.Common.{◌≡◌, ℕ, zero, suc, ◌+◌, ◌*◌, ◌<◌, Bool, List, [], ◌∷◌, length, drop, take, sum, refl, sym, ap, ◌∙◌, arith, length-drop}
 use Rattle.std.proofs.lemmas.List.Sums.{sum_by-cons}
 use Rattle.rv_isa.specs.declared.ins.Ins.{Ins}
+use Rattle.qed_model.specs.Weave.Bounds.{entry_steps}
 use Rattle.qed_model.specs.Weave.Pieces.{divided}
 use Rattle.qed_model.specs.Weave.Sequences.{body_length}
 use Rattle.qed_model.specs.Weave.Costs.{cost_each, original_cost}
@@ -37,10 +38,10 @@ body_is diverse (n ∷ ns) is e =
 
 -- ---- of a block
 pub steps_are :
-    (diverse : Bool) (leader : ℕ → Bool) (b : CodeBlock) → FitsBlock b → (body leave : ℕ) → body ≡ capped (cost_each (both_cost diverse) b.body)
-    → leave ≡ leave_cost (fall_to leader) (end_of b.end) b.start (b.start + 4 * length b.body) → block_steps diverse leader (block_of b) < 2048
-    → body + (leave + 2) ≡ block_steps diverse leader (block_of b)
-steps_are diverse leader b fit body leave e g few =
+    (diverse land : Bool) (leader : ℕ → Bool) (b : CodeBlock) → FitsBlock b → (body leave : ℕ) → body ≡ capped (cost_each (both_cost diverse) b.body)
+    → leave ≡ leave_cost (fall_to leader) (end_of b.end) b.start (b.start + 4 * length b.body) → block_steps diverse land leader (block_of b) < 2048
+    → body + (leave + entry_steps land) ≡ block_steps diverse land leader (block_of b)
+steps_are diverse land leader b fit body leave e g few =
     let s = body_is diverse b.lengths b.body fit.whole in
     let n = whole_length b.lengths b.body fit.whole in
     let l : leave ≡ leave_cost (fall_to leader) (end_of b.end) b.start (b.start + 4 * body_length (divided b.lengths b.body)) = g ∙ ap (λ k. leave_cost (fall_to leader) (end_of b.end) b.start (b.start + 4 * k)) (sym n) in

@@ -98,7 +98,7 @@ module _ (f : ElfFile) (o : Options) (every : ℕ) (t : Test) (blocks : List Cod
       let spans = spans_are t.span ∙ c.told.span in
       ap (λ s. worded (form_with s o false) t.base entry (lean_with t o every bs) (begins_at bs)) spans
       ∙ ap (λ b. worded (form_of f o false) b entry (lean_with t o every bs) (begins_at bs)) c.told.base
-      ∙ ap (λ n. worded (form_of f o false) (base_of (image_of f)) entry (record { every = every; inst_max = o.inst_max; diverse = o.diverse; check = n + 124; most = steps_at o.diverse (begins_at bs) bs; start_of = start_at bs }) (begins_at bs)) place
+      ∙ ap (λ n. worded (form_of f o false) (base_of (image_of f)) entry (record { every = every; inst_max = o.inst_max; diverse = o.diverse; land = o.land; check = n + 124; most = steps_at o.diverse o.land (begins_at bs) bs; start_of = start_at bs }) (begins_at bs)) place
 
   whole : (entry : ℕ → ℕ) → of_test entry ++ stub ≡ of_file entry
   whole entry =
@@ -205,7 +205,7 @@ module _ (f : ElfFile) (o : Options) (every : ℕ) (t : Test) (blocks : List Cod
       pub ascend : EntriesAscend copy
       ascend = subst EntriesAscend (sym same_copy) l.laid.ascend
 
-      pub low : (a : ℕ) → leads_to copy last a + 8 < 2 ^ 64
+      pub low : (a : ℕ) → leads_to copy last a + 32 < 2 ^ 64
       low a =
           let grain = (there.bounds f o c.cut.sound c.cut.file.loads c.cut.admitted bs c.cut.are).0 in
           let inside = entry_inside false at (of_file (λ a. 0)) a (omega (arith, grain)) (omega (arith, size (λ a. 0))) in

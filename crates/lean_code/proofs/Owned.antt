@@ -109,19 +109,25 @@ module _ (f : ElfFile) (o : Options) (every : ℕ) (blocks : List CodeBlock) (t 
       let found = starts f o some_most bs t.are reached grain ascend (block_of b) m in
       ap (λ n. start_at bs (end_of b.end) (b.start + 4 * n)) (sym (whole_length b.lengths b.body fit.whole)) ∙ found
 
-  module _ (w : LeanWeaver) (are : w.blocks.now ≡ blocks) (kinds : is_diverse w.passes ≡ o.diverse) where
+  module _ (w : LeanWeaver) (are : w.blocks.now ≡ blocks) (kinds : is_diverse w.passes ≡ o.diverse) (lands : w.land ≡ o.land) where
     one : (b : CodeBlock) → Among (block_of b) bs → IsKnownBlock at base d refl top bounds.1 (block_of b) → FitsBlock b → IsOwn w b
     one b m k fit =
         let ascend = of.ascend f o t.sound t.file.loads t.admitted bs t.are in
         let same : blocks_in w ≡ bs = ap (map block_of) are in
         let long : body_length (block_of b).body ≡ length b.body = whole_length b.lengths b.body fit.whole in
         let reached = only_reached f o every t.sound t.lean in
-        let counts = steps f o some_most bs t.are reached grain ascend o.diverse (begins_at bs) (block_of b) m in
+        let counts = steps f o some_most bs t.are reached grain ascend o.diverse o.land (begins_at bs) (block_of b) m in
         let less = short f o every t.sound t.lean bs t.are grain (block_of b) m in
         let few = few_steps f o every t.sound t.lean in
         record {
-          steps = subst (λ v. steps_at v (begins_at (blocks_in w)) (blocks_in w) b.start ≡ block_steps v (begins_at (blocks_in w)) (block_of b)) (sym kinds) (subst (λ l. steps_at o.diverse (begins_at l) l b.start ≡ block_steps o.diverse (begins_at l) (block_of b)) (sym same) counts);
-          few = subst (λ v. block_steps v (begins_at (blocks_in w)) (block_of b) < 2048) (sym kinds) (subst (λ l. block_steps o.diverse (begins_at l) (block_of b) < 2048) (sym same) (omega (arith, less, few)));
+          steps =
+              subst (λ v. steps_at v w.land (begins_at (blocks_in w)) (blocks_in w) b.start ≡ block_steps v w.land (begins_at (blocks_in w)) (block_of b)) (sym kinds)
+              (subst (λ v. steps_at o.diverse v (begins_at (blocks_in w)) (blocks_in w) b.start ≡ block_steps o.diverse v (begins_at (blocks_in w)) (block_of b)) (sym lands)
+              (subst (λ l. steps_at o.diverse o.land (begins_at l) l b.start ≡ block_steps o.diverse o.land (begins_at l) (block_of b)) (sym same) counts));
+          few =
+              subst (λ v. block_steps v w.land (begins_at (blocks_in w)) (block_of b) < 2048) (sym kinds)
+              (subst (λ v. block_steps o.diverse v (begins_at (blocks_in w)) (block_of b) < 2048) (sym lands)
+              (subst (λ l. block_steps o.diverse o.land (begins_at l) (block_of b) < 2048) (sym same) (omega (arith, less, few))));
           starts = subst (λ l. start_at l (end_of b.end) (b.start + 4 * length b.body) ≡ b.start) (sym same) (begun b m fit);
           near = subst (λ n. Turns (end_of b.end) b.start (b.start + 4 * n)) long (turns b.start k.0 k.1 (end_of b.end) (b.start + 4 * body_length (block_of b).body) k.3);
         }

@@ -1,5 +1,5 @@
 -- The rows that are made of blocks alone are those of the items of the lean form.
-use Rattle.std.proofs.Common.{◌≡◌, inl, inr, ℕ, ◌+◌, ◌-◌, ◌*◌, ◌%◌, ◌^◌, Bool, true, false, Option, Some, None, List, [], ◌∷◌, ◌++◌, length, map, refl, sym, ap, ◌∙◌, arith, append_assoc}
+use Rattle.std.proofs.Common.{◌≡◌, inl, inr, ℕ, ◌+◌, ◌-◌, ◌*◌, ◌%◌, ◌^◌, Bool, true, false, cond, Option, Some, None, List, [], ◌∷◌, ◌++◌, length, map, refl, sym, ap, ◌∙◌, arith, append_assoc}
 use Rattle.std.specs.Prelude.{All, pos, neg_ℤ}
 use Rattle.std.proofs.lemmas.List.{append-nil, map-append}
 use Rattle.std.proofs.lemmas.List.Elements.{All-head, All-tail}
@@ -11,7 +11,7 @@ use Rattle.rv_isa.specs.Kind.{class_of}
 use Rattle.rv_isa.specs.Operation.{pair}
 use Rattle.elf_types.specs.declared.file.ElfFile.{ElfFile}
 use Rattle.qed_model.specs.declared.item.Item.{Item}
-use Rattle.qed_model.specs.declared.item.Item.TheVariants.{Plain, Constant}
+use Rattle.qed_model.specs.declared.item.Item.TheVariants.{Mark, Plain, Constant}
 use Rattle.qed_model.specs.declared.options.Options.{Options}
 use Rattle.qed_model.specs.declared.range.Range.{Range}
 use Rattle.qed_model.specs.declared.role.Role.{Role}
@@ -23,7 +23,7 @@ use Rattle.qed_model.specs.Machine.Step.{target}
 use Rattle.qed_model.specs.Machine.Table.{ins}
 use Rattle.qed_model.specs.Weave.Blocks.{begins_at}
 use Rattle.qed_model.specs.Weave.Forms.{mirror_of}
-use Rattle.qed_model.specs.Weave.Lean.{goes, turn, look_up, opposite}
+use Rattle.qed_model.specs.Weave.Lean.{check_sign, goes, turn, look_up, opposite}
 use Rattle.qed_model.specs.Weave.LeanCode.{Lean, fall_words, lean_of, items_with}
 use Rattle.qed_model.specs.Weave.LeanRoles.{first_parts, piece_parts, pieces_parts, leave_as_parts, leave_parts, entry_parts, entries_parts, worded_parts, lean_roles}
 use Rattle.qed_model.specs.Weave.OutputParts.{base_of}
@@ -58,7 +58,7 @@ pub append_both : (old mid new xs ys : List RoleRow) → mid ≡ old ++ xs → n
 append_both old mid new xs ys e f = f ∙ ap (λ l. l ++ ys) e ∙ append_assoc old xs ys
 
 -- ---- of a form
-module _ (o : Options) (span : List Range) (s : Sizes) (are : AreSizes s o false span) (base : ℕ) (entry : ℕ → ℕ) (l : Lean) (diverse : l.diverse ≡ o.diverse) (leader : ℕ → Bool) where
+module _ (o : Options) (span : List Range) (s : Sizes) (are : AreSizes s o false span) (base : ℕ) (entry : ℕ → ℕ) (l : Lean) (diverse : l.diverse ≡ o.diverse) (lands : l.land ≡ o.land) (leader : ℕ → Bool) where
   abbrev form : Form
   form = form_with (spans_of span) o false
 
@@ -129,38 +129,44 @@ module _ (o : Options) (span : List Range) (s : Sizes) (are : AreSizes s o false
   leave_rows_are (Some i) a at = leave_as_rows_are (class_of i.kind) i a at
 
   -- ---- blocks
-  block_rows_are : (b : CodeBlock) → FitsBlock b → l.start_of (end_of b.end) (b.start + 4 * length b.body) ≡ b.start → block_rows s leader b ≡ listed (entry_parts form entry l leader (block_of b))
+  -- the test of the signature, or none
+  sign_row_is : (land : Bool) (a : ℕ) → row (role.Sign a) (cond land 24 0) ≡ row_of false (role.Sign a, Mark a ∷ cond land (check_sign a) [])
+  sign_row_is true a = refl
+  sign_row_is false a = refl
+
+  block_rows_are : (b : CodeBlock) → FitsBlock b → l.start_of (end_of b.end) (b.start + 4 * length b.body) ≡ b.start → block_rows o.land s leader b ≡ listed (entry_parts form entry l leader (block_of b))
   block_rows_are b fits starts =
       let ps = divided b.lengths b.body in
       let at = b.start + 4 * length b.body in
       let leaves : ℕ → List (Role × List Item) = λ n. leave_parts form fall (end_of b.end) (l.start_of (end_of b.end) (b.start + 4 * n)) (b.start + 4 * n) in
-      let tick = row (role.Tick b.start) 16 in
-      ap (λ k. tick ∷ (k ++ leave_rows s leader b.end b.start at)) (pieces_rows_are ps b.start)
-      ∙ ap (λ k. tick ∷ (listed (pieces_parts l ps b.start) ++ k)) (leave_rows_are b.end b.start at)
-      ∙ ap (λ a. tick ∷ (listed (pieces_parts l ps b.start) ++ listed (leave_parts form fall (end_of b.end) a at))) (sym starts)
-      ∙ ap (λ n. tick ∷ (listed (pieces_parts l ps b.start) ++ listed (leaves n))) (sym (whole_length b.lengths b.body fits.whole))
-      ∙ ap (λ k. tick ∷ k) (sym (map-append (row_of false) (pieces_parts l ps b.start) (leaves (body_length ps))))
+      let front : List RoleRow → List RoleRow = λ k. row (role.Sign b.start) (cond o.land 24 0) ∷ row (role.Tick b.start) 16 ∷ k in
+      ap (λ k. front (k ++ leave_rows s leader b.end b.start at)) (pieces_rows_are ps b.start)
+      ∙ ap (λ k. front (listed (pieces_parts l ps b.start) ++ k)) (leave_rows_are b.end b.start at)
+      ∙ ap (λ a. front (listed (pieces_parts l ps b.start) ++ listed (leave_parts form fall (end_of b.end) a at))) (sym starts)
+      ∙ ap (λ n. front (listed (pieces_parts l ps b.start) ++ listed (leaves n))) (sym (whole_length b.lengths b.body fits.whole))
+      ∙ ap front (sym (map-append (row_of false) (pieces_parts l ps b.start) (leaves (body_length ps))))
+      ∙ ap (λ x. x ∷ row (role.Tick b.start) 16 ∷ listed (pieces_parts l ps b.start ++ leaves (body_length ps))) (ap (λ x. row (role.Sign b.start) (cond x 24 0)) (sym lands) ∙ sign_row_is l.land b.start)
 
   abbrev IsFound : CodeBlock → Type 0
   IsFound b = l.start_of (end_of b.end) (b.start + 4 * length b.body) ≡ b.start
 
-  blocks_rows_are : (bs : List CodeBlock) → All FitsBlock bs → ((b : CodeBlock) → Among (block_of b) (map block_of bs) → FitsBlock b → IsFound b) → blocks_rows s leader bs ≡ listed (entries_parts form entry l leader (map block_of bs))
+  blocks_rows_are : (bs : List CodeBlock) → All FitsBlock bs → ((b : CodeBlock) → Among (block_of b) (map block_of bs) → FitsBlock b → IsFound b) → blocks_rows o.land s leader bs ≡ listed (entries_parts form entry l leader (map block_of bs))
   blocks_rows_are [] fit found = refl
   blocks_rows_are (b ∷ bs) fit found =
       let fits = All-head FitsBlock b bs fit in
-      ap (λ k. k ++ blocks_rows s leader bs) (block_rows_are b fits (found b (inl refl) fits))
+      ap (λ k. k ++ blocks_rows o.land s leader bs) (block_rows_are b fits (found b (inl refl) fits))
       ∙ ap (λ k. listed (entry_parts form entry l leader (block_of b)) ++ k) (blocks_rows_are bs (All-tail FitsBlock b bs fit) (λ c m. found c (inr m)))
       ∙ sym (map-append (row_of false) (entry_parts form entry l leader (block_of b)) (entries_parts form entry l leader (map block_of bs)))
 
   -- ---- all
   worded_rows_are :
       (d a : ℕ) (bs : List CodeBlock) → All FitsBlock bs → ((b : CodeBlock) → Among (block_of b) (map block_of bs) → FitsBlock b → IsFound b)
-      → lean_rows s leader bs ≡ listed (worded_parts form base entry l leader d a (map block_of bs))
+      → lean_rows o.land s leader bs ≡ listed (worded_parts form base entry l leader d a (map block_of bs))
   worded_rows_are d a bs fit found =
       let first = first_parts form base l d a in
       let ps = entries_parts form entry l leader (map block_of bs) in
       let last : List (Role × List Item) = (role.Stub, stub) ∷ [] in
-      ap (λ k. k ++ (blocks_rows s leader bs ++ (row role.Stub 4 ∷ []))) (first_rows_are d a)
+      ap (λ k. k ++ (blocks_rows o.land s leader bs ++ (row role.Stub 4 ∷ []))) (first_rows_are d a)
       ∙ ap (λ k. listed first ++ (k ++ (row role.Stub 4 ∷ []))) (blocks_rows_are bs fit found)
       ∙ ap (λ k. listed first ++ k) (sym (map-append (row_of false) ps last))
       ∙ sym (map-append (row_of false) first (ps ++ last))
@@ -176,7 +182,7 @@ module _ (f : ElfFile) (o : Options) (every : ℕ) (t : Test) (blocks : List Cod
   abbrev own : ℕ → ℕ
   own = entry_of false at (items_with f o every bs (λ a. 0))
 
-  pub lean_rows_are : (s : Sizes) → AreSizes s o false t.span → lean_rows s (begins_at bs) blocks ≡ lean_roles f o every bs
+  pub lean_rows_are : (s : Sizes) → AreSizes s o false t.span → lean_rows o.land s (begins_at bs) blocks ≡ lean_roles f o every bs
   lean_rows_are s are =
-      worded_rows_are o t.span s are (base_of (image_of f)) own (lean_of f o every bs) refl (begins_at bs) (half_of o.half (image_of f)) f.entry blocks (fit f o every t blocks c) (begun f o every blocks c.cut)
+      worded_rows_are o t.span s are (base_of (image_of f)) own (lean_of f o every bs) refl refl (begins_at bs) (half_of o.half (image_of f)) f.entry blocks (fit f o every t blocks c) (begun f o every blocks c.cut)
       ∙ ap (λ spans. map (row_of false) (worded_parts (form_with spans o false) (base_of (image_of f)) own (lean_of f o every bs) (begins_at bs) (half_of o.half (image_of f)) f.entry bs)) (spans_are t.span ∙ c.told.span)

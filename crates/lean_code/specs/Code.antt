@@ -31,8 +31,9 @@ lean_with t o every blocks = record {
   every = every;
   inst_max = o.inst_max;
   diverse = o.diverse;
+  land = o.land;
   check = place_of t + 124;
-  most = steps_at o.diverse (begins_at blocks) blocks;
+  most = steps_at o.diverse o.land (begins_at blocks) blocks;
   start_of = start_at blocks;
 }
 

@@ -27,8 +27,9 @@ lean w = record {
   every = w.every;
   inst_max = 0;
   diverse = is_diverse w.passes;
+  land = w.land;
   check = w.check;
-  most = steps_at (is_diverse w.passes) (begins_at (blocks_in w)) (blocks_in w);
+  most = steps_at (is_diverse w.passes) w.land (begins_at (blocks_in w)) (blocks_in w);
   start_of = start_at (blocks_in w);
 }
 
@@ -40,7 +41,7 @@ code_of w = worded (form w) w.base (entry w) (lean w) (begins_at (blocks_in w))
 
 -- one of its blocks: its tick and its leave are found by where they stand, its steps are few, and the signature turns to where it goes on
 pub record IsOwn (w : LeanWeaver) (b : CodeBlock) : Type 0 where
-  pub steps : steps_at (is_diverse w.passes) (begins_at (blocks_in w)) (blocks_in w) b.start ≡ block_steps (is_diverse w.passes) (begins_at (blocks_in w)) (block_of b)
-  pub few : block_steps (is_diverse w.passes) (begins_at (blocks_in w)) (block_of b) < 2048
+  pub steps : steps_at (is_diverse w.passes) w.land (begins_at (blocks_in w)) (blocks_in w) b.start ≡ block_steps (is_diverse w.passes) w.land (begins_at (blocks_in w)) (block_of b)
+  pub few : block_steps (is_diverse w.passes) w.land (begins_at (blocks_in w)) (block_of b) < 2048
   pub starts : start_at (blocks_in w) (end_of b.end) (b.start + 4 * length b.body) ≡ b.start
   pub near : Turns (end_of b.end) b.start (b.start + 4 * length b.body)

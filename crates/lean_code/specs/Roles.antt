@@ -1,5 +1,5 @@
 -- What the words of the lean form are for, by blocks and instructions alone: rows of words of one role.
-use Rattle.std.specs.Prelude.{ℕ, ◌+◌, ◌-◌, ◌*◌, ◌%◌, ◌^◌, Bool, true, false, Option, Some, None, List, [], ◌∷◌, ◌++◌, length}
+use Rattle.std.specs.Prelude.{ℕ, ◌+◌, ◌-◌, ◌*◌, ◌%◌, ◌^◌, Bool, true, false, cond, Option, Some, None, List, [], ◌∷◌, ◌++◌, length}
 use Rattle.rv_isa.specs.declared.ins.Ins.{Ins}
 use Rattle.rv_isa.specs.declared.class.Class.{Class}
 use Rattle.rv_isa.specs.declared.class.Class.TheVariants as class
@@ -52,13 +52,14 @@ leave_rows s leader None a at = row (role.Leave at) (next_bytes leader a at) ∷
 leave_rows s leader (Some i) a at = leave_as_rows s leader (class_of i.kind) i a at
 
 -- ---- blocks
-abbrev pub block_rows : Sizes → (ℕ → Bool) → CodeBlock → List RoleRow
-block_rows s leader b = row (role.Tick b.start) 16 ∷ (pieces_rows s.diverse None (divided b.lengths b.body) b.start ++ leave_rows s leader b.end b.start (b.start + 4 * length b.body))
+-- where entries test the signature, or not
+abbrev pub block_rows : Bool → Sizes → (ℕ → Bool) → CodeBlock → List RoleRow
+block_rows land s leader b = row (role.Sign b.start) (cond land 24 0) ∷ row (role.Tick b.start) 16 ∷ (pieces_rows s.diverse None (divided b.lengths b.body) b.start ++ leave_rows s leader b.end b.start (b.start + 4 * length b.body))
 
-abbrev pub blocks_rows : Sizes → (ℕ → Bool) → List CodeBlock → List RoleRow
-blocks_rows s leader [] = []
-blocks_rows s leader (b ∷ bs) = block_rows s leader b ++ blocks_rows s leader bs
+abbrev pub blocks_rows : Bool → Sizes → (ℕ → Bool) → List CodeBlock → List RoleRow
+blocks_rows land s leader [] = []
+blocks_rows land s leader (b ∷ bs) = block_rows land s leader b ++ blocks_rows land s leader bs
 
 -- ---- all
-abbrev pub lean_rows : Sizes → (ℕ → Bool) → List CodeBlock → List RoleRow
-lean_rows s leader bs = row role.Start 124 ∷ (check_rows s ++ (blocks_rows s leader bs ++ (row role.Stub 4 ∷ [])))
+abbrev pub lean_rows : Bool → Sizes → (ℕ → Bool) → List CodeBlock → List RoleRow
+lean_rows land s leader bs = row role.Start 124 ∷ (check_rows s ++ (blocks_rows land s leader bs ++ (row role.Stub 4 ∷ [])))

@@ -37,18 +37,20 @@ fn put_parted(base: u64, out: &mut Emit) -> Result<(), AllocError>
     Ok(())
 }
 
-/// Fires where the link is not that of the entry of the address.
-fn put_called(out: &mut Emit) -> Result<(), AllocError>
-    ensures { OnOk result (out.new ≡ out.old ++ called) }
+/// Fires where the link is not that of a call so many bytes behind the entry of the address.
+fn put_called(call: u64, out: &mut Emit) -> Result<(), AllocError>
+    requires { call ≤ 32 }
+    ensures { OnOk result (out.new ≡ out.old ++ called call) }
 {
     let zero = register(0);
     let (half, address, place, link) = (register(14), register(15), register(30), register(31));
+    let past = (call + 4).cast_signed();
     out.put(&[
         plain(Kind::Add, place, address, half, 0),
         plain(Kind::Add, place, place, half, 0),
         plain(Kind::Sub, link, link, place, 0),
         plain(Kind::Lw, place, place, zero, 0),
-        plain(Kind::Addi, place, place, zero, 12),
+        plain(Kind::Addi, place, place, zero, past),
         plain(Kind::Beq, zero, place, link, 8),
         plain(Kind::Ebreak, zero, zero, zero, 0),
     ])?;
@@ -126,25 +128,35 @@ fn put_compared(first: u64, every: u64, visits: &Visit, out: &mut Emit) -> Resul
 }
 
 /// The link, and what stands behind it.
-fn put_linked(first: u64, every: u64, visits: &Visit, out: &mut Emit) -> Result<(), AllocError>
-    requires { every ≤ 2048 }
-    ensures { OnOk result (out.new ≡ out.old ++ (called ++ (compare ++ (begun first ++ (visit visits.now.round (spans_of visits.now.span) ++ (done first every ++ look_up)))))) }
-{
-    put_called(out)?;
-    put_compared(first, every, visits, out)
-}
-
-/// The check of an input that begins at `base`, which sets the counter to less `every`.
-pub(crate) fn put_check(
-    base: u64,
+fn put_linked(
+    call: u64,
+    first: u64,
     every: u64,
     visits: &Visit,
     out: &mut Emit,
 ) -> Result<(), AllocError>
-    requires { every ≤ 2048 }
-    ensures { OnOk result (out.new ≡ out.old ++ check base every visits.now.round (spans_of visits.now.span)) }
+    requires place { call ≤ 32 }
+    requires few { every ≤ 2048 }
+    ensures { OnOk result (out.new ≡ out.old ++ (called call ++ (compare ++ (begun first ++ (visit visits.now.round (spans_of visits.now.span) ++ (done first every ++ look_up)))))) }
+{
+    put_called(call, out)?;
+    put_compared(first, every, visits, out)
+}
+
+/// The check of an input that begins at `base`, which ticks call so many bytes behind the entries, and which sets the counter to
+/// less `every`.
+pub(crate) fn put_check(
+    base: u64,
+    call: u64,
+    every: u64,
+    visits: &Visit,
+    out: &mut Emit,
+) -> Result<(), AllocError>
+    requires place { call ≤ 32 }
+    requires few { every ≤ 2048 }
+    ensures { OnOk result (out.new ≡ out.old ++ check base call every visits.now.round (spans_of visits.now.span)) }
 {
     put_parted(base, out)?;
-    put_linked(first_word(base, visits.span.as_slice()), every, visits, out)?;
-    Ok(())
+    let first = first_word(base, visits.span.as_slice());
+    put_linked(call, first, every, visits, out)
 }

@@ -30,12 +30,13 @@ fn weaver<'a>(
 ) -> Result<LeanWeaver<'a>, AllocError>
     requires ascend { AllPairs (λ b c. b.start < c.start) blocks.now }
     requires rows { EntriesAscend entries.items }
-    requires low { (a : ℕ) → leads_to entries.items last a + 8 < 2 ^ 64 }
+    requires low { (a : ℕ) → leads_to entries.items last a + 32 < 2 ^ 64 }
     requires few { every ≤ 2048 }
     requires place { place_of_test test.now ≤ 2 ^ 63 }
     ensures code { IfOk result (λ w. code_of w ≡ code_with test.now options.now every (map block_of blocks.now) (leads_to entries.items last)) }
     ensures blocks { IfOk result (λ w. w.blocks.now ≡ blocks.now) }
     ensures diverse { IfOk result (λ w. is_diverse w.passes ≡ options.now.diverse) }
+    ensures land { IfOk result (λ w. w.land ≡ options.now.land) }
 {
     Ok(LeanWeaver {
         passes: LeanPasses::of(options.diverse),
@@ -44,6 +45,7 @@ fn weaver<'a>(
             span: copied(alloc, &test.span)?,
         },
         sweeps: options.sweep,
+        land: options.land,
         base: test.base,
         every,
         check: test.base + 3 * test.distance + BEGIN_BYTES,

@@ -150,15 +150,17 @@ fn push_leave(
 /// Appends one of the blocks.
 fn push_block(
     rows: &mut Vec<RoleRow>,
+    land: bool,
     sizes: &Sizes,
     blocks: &[CodeBlock],
     block: &CodeBlock,
 ) -> Result<(), AllocError>
     requires ascend { AllPairs (λ b c. b.start < c.start) blocks.now }
     requires fits { FitsBlock block.now }
-    ensures { OnOk result (rows.new.items ≡ rows.old.items ++ block_rows sizes.now (begins (map block_of blocks.now)) block.now) }
+    ensures { OnOk result (rows.new.items ≡ rows.old.items ++ block_rows land sizes.now (begins (map block_of blocks.now)) block.now) }
 {
     let at = block.start + 4 * block.body.as_slice().len() as u64;
+    rows.push(row(Role::Sign(block.start), if land { 24 } else { 0 }))?;
     rows.push(row(Role::Tick(block.start), 16))?;
     push_pieces(rows, sizes.diverse, None, block)?;
     push_leave(rows, sizes, blocks, &block.end, block.start, at)?;
@@ -168,29 +170,35 @@ fn push_block(
 /// Appends the blocks.
 fn push_blocks(
     rows: &mut Vec<RoleRow>,
+    land: bool,
     sizes: &Sizes,
     blocks: &[CodeBlock],
 ) -> Result<(), AllocError>
     requires ascend { AllPairs (λ b c. b.start < c.start) blocks.now }
     requires fit { All FitsBlock blocks.now }
-    ensures { OnOk result (rows.new.items ≡ rows.old.items ++ blocks_rows sizes.now (begins (map block_of blocks.now)) blocks.now) }
+    ensures { OnOk result (rows.new.items ≡ rows.old.items ++ blocks_rows land sizes.now (begins (map block_of blocks.now)) blocks.now) }
 {
     for block in blocks {
-        push_block(rows, sizes, blocks, block)?;
+        push_block(rows, land, sizes, blocks, block)?;
     }
     Ok(())
 }
 
 /// What the words of code with blocks of these sizes are for.
-fn rows_in(alloc: Global, sizes: &Sizes, blocks: &[CodeBlock]) -> Result<Vec<RoleRow>, AllocError>
+fn rows_in(
+    alloc: Global,
+    land: bool,
+    sizes: &Sizes,
+    blocks: &[CodeBlock],
+) -> Result<Vec<RoleRow>, AllocError>
     requires ascend { AllPairs (λ b c. b.start < c.start) blocks.now }
     requires fit { All FitsBlock blocks.now }
-    ensures { IfOk result (λ rows. rows.items ≡ lean_rows sizes.now (begins (map block_of blocks.now)) blocks.now) }
+    ensures { IfOk result (λ rows. rows.items ≡ lean_rows land sizes.now (begins (map block_of blocks.now)) blocks.now) }
 {
     let mut rows = Vec::new(alloc);
     rows.push(row(Role::Start, BEGIN_BYTES))?;
     push_check(&mut rows, sizes)?;
-    push_blocks(&mut rows, sizes, blocks)?;
+    push_blocks(&mut rows, land, sizes, blocks)?;
     rows.push(row(Role::Stub, 4))?;
     Ok(rows)
 }
@@ -210,6 +218,6 @@ pub fn lean_roles(
     ensures { IfOk result (λ rows. (f : ElfFile) → IsLeanCut f options.now every test.now blocks.now → rows.items ≡ lean_roles_of f options.now every (map block_of blocks.now)) }
 {
     let sizes = sizes_of(test, options, false);
-    let rows = rows_in(alloc, &sizes, blocks)?;
+    let rows = rows_in(alloc, options.land, &sizes, blocks)?;
     Ok(rows)
 }

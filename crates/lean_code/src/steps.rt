@@ -2,6 +2,7 @@
 ghost use Rattle.std.specs.Prelude.{◌≡◌, ◌+◌, ◌*◌, ◌^◌, ◌<◌, ◌≤◌, ℕ, true, cond, AllPairs, map};
 ghost use Rattle.rv_isa.specs.Kind.{class_of};
 ghost use Rattle.qed_model.specs.Weave.Blocks.{begins_at as begins};
+ghost use Rattle.qed_model.specs.Weave.Bounds.{entry_steps as entry_steps_of};
 ghost use Rattle.qed_model.specs.Weave.Sequences.{guard, guards_of, links};
 ghost use Rattle.qed_model.specs.Weave.Costs.{cost_each, original_cost, mirror_steps as mirror_cost, spent as spent_of};
 ghost use Rattle.qed_model.specs.Weave.Lean.{cost, is_break, leave_cost, leave_cost_as};
@@ -168,15 +169,23 @@ fn leave_steps(blocks: &[CodeBlock], end: &Option<Ins>, start: u64, at: u64) -> 
     }
 }
 
+/// The steps of an entry whose tick passes, where entries test the signature or not.
+fn entry_steps(land: bool) -> u64
+    ensures value { result ≡ entry_steps_of land }
+    ensures bound { result ≤ 7 }
+{
+    if land { 7 } else { 2 }
+}
+
 /// The steps that the tick of one of the blocks counts.
-pub(crate) fn block_steps(diverse: bool, blocks: &[CodeBlock], block: &CodeBlock) -> u64
+pub(crate) fn block_steps(diverse: bool, land: bool, blocks: &[CodeBlock], block: &CodeBlock) -> u64
     requires ascend { AllPairs (λ b c. b.start < c.start) blocks.now }
     requires fits { FitsBlock block.now }
-    requires few { block_cost diverse (begins (map block_of blocks.now)) (block_of block.now) < 2048 }
-    ensures { result ≡ block_cost diverse (begins (map block_of blocks.now)) (block_of block.now) }
+    requires few { block_cost diverse land (begins (map block_of blocks.now)) (block_of block.now) < 2048 }
+    ensures { result ≡ block_cost diverse land (begins (map block_of blocks.now)) (block_of block.now) }
 {
     let body = block.body.as_slice();
     let at = block.start + 4 * body.len() as u64;
     let leave = leave_steps(blocks, &block.end, block.start, at);
-    body_steps(diverse, body).saturating_add(leave + 2)
+    body_steps(diverse, body).saturating_add(leave + entry_steps(land))
 }

@@ -1,13 +1,22 @@
-//! The tick that begins an entry.
-ghost use Rattle.std.specs.Prelude.{◌≡◌, ◌^◌, ◌<◌, ◌++◌, OnOk};
-ghost use Rattle.qed_model.specs.Weave.Lean.{tick};
+//! The entry of a block.
+ghost use Rattle.std.specs.Prelude.{◌≡◌, ◌^◌, ◌<◌, ◌≤◌, ◌++◌, OnOk};
+ghost use Rattle.qed_model.specs.Weave.Lean.{tick, enter, call_at as call_at_of};
 
+use crate::turn::put_check_sign;
 use passes::{Emit, plain, register};
 use rv_isa::Kind;
 use std::alloc::AllocError;
 
+/// How many bytes behind the entry its tick calls the check, where entries test the signature or not.
+pub(crate) fn call_at(land: bool) -> u64
+    ensures value { result ≡ call_at_of land }
+    ensures bound { result ≤ 32 }
+{
+    if land { 32 } else { 8 }
+}
+
 /// Counts so many steps, and calls the check, which stands so far from the call, where not so many are left.
-pub(crate) fn put_tick(steps: u64, distance: i64, out: &mut Emit) -> Result<(), AllocError>
+fn put_tick(steps: u64, distance: i64, out: &mut Emit) -> Result<(), AllocError>
     requires { steps < 2 ^ 63 }
     ensures { OnOk result (out.new ≡ out.old ++ tick steps distance) }
 {
@@ -20,4 +29,21 @@ pub(crate) fn put_tick(steps: u64, distance: i64, out: &mut Emit) -> Result<(), 
         plain(Kind::Ebreak, zero, zero, zero, 0),
     ])?;
     Ok(())
+}
+
+/// The tick of the block that begins at `at`, and with `land` a test of the signature before it.
+pub(crate) fn put_enter(
+    land: bool,
+    at: u64,
+    steps: u64,
+    distance: i64,
+    out: &mut Emit,
+) -> Result<(), AllocError>
+    requires { steps < 2 ^ 63 }
+    ensures { OnOk result (out.new ≡ out.old ++ enter land at steps distance) }
+{
+    if land {
+        put_check_sign(at, out)?;
+    }
+    put_tick(steps, distance, out)
 }

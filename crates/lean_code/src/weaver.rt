@@ -7,7 +7,7 @@ use crate::begin::put_begin;
 use crate::check::put_check;
 use crate::leave::{Leaves, put_leave};
 use crate::steps::block_steps;
-use crate::tick::put_tick;
+use crate::tick::{call_at, put_enter};
 use block_list::CodeBlock;
 use eddi_dup::{Mirrored, Original};
 use guard_insert::Guarded;
@@ -65,6 +65,8 @@ pub(crate) struct LeanWeaver<'a> {
     pub(crate) passes: LeanPasses,
     pub(crate) visits: Visit,
     pub(crate) sweeps: bool,
+    /// Each entry tests the signature.
+    pub(crate) land: bool,
     /// Where the input begins.
     pub(crate) base: u64,
     /// The most steps from check to check.
@@ -78,7 +80,7 @@ pub(crate) struct LeanWeaver<'a> {
     pub(crate) last: u64,
     ghost ascend: { AllPairs (λ b c. b.start < c.start) blocks.now },
     ghost rows: { EntriesAscend entries.items },
-    ghost low: { (a : ℕ) → leads_to entries.items last a + 8 < 2 ^ 64 },
+    ghost low: { (a : ℕ) → leads_to entries.items last a + 32 < 2 ^ 64 },
     ghost few: { every ≤ 2048 },
 }
 
@@ -100,14 +102,15 @@ impl<'a> Weaving for LeanWeaver<'a> {
 
     fn first(&self, distance: u64, entry: u64, out: &mut Emit) -> Result<(), AllocError> {
         put_begin(distance, entry, out)?;
-        put_check(self.base, self.every, &self.visits, out)
+        put_check(self.base, call_at(self.land), self.every, &self.visits, out)
     }
 
     fn enter(&self, block: &CodeBlock, out: &mut Emit) -> Result<(), AllocError> {
-        let steps = block_steps(self.passes.is_diverse(), self.blocks, block);
-        let call = self.entry(block.start) + 8;
+        let steps = block_steps(self.passes.is_diverse(), self.land, self.blocks, block);
+        let call = self.entry(block.start) + call_at(self.land);
         out.push(Item::Mark(block.start))?;
-        put_tick(steps, distance_between(call, self.check), out)
+        let distance = distance_between(call, self.check);
+        put_enter(self.land, block.start, steps, distance, out)
     }
 
     fn piece(&self, list: &[Ins], at: u64, out: &mut Emit) -> Result<(), AllocError> {

@@ -5,6 +5,7 @@ use Rattle.qed_model.specs.declared.machine.Outcome.TheVariants.{Going, Ended}
 use Rattle.qed_model.specs.Machine.Program.{Program, start, zeros, AreStartRegs}
 use Rattle.qed_model.specs.Machine.Step.{State, run}
 use Rattle.qed_model.specs.Promise.Kept.{after_input, after_output, IsSteady, Steady}
+use Rattle.qed_model.specs.Weave.Bounds.{entry_steps}
 use Rattle.qed_model.specs.Weave.Sequences.{Reads}
 use Rattle.qed_model.specs.Weave.Lean.{first_word, begin}
 use Rattle.qed_model.specs.Weave.LeanCode.{Lean}
@@ -27,6 +28,7 @@ use Rattle.lean_weave.specs.Woven.{weave_of, LeanIn, check_steps, swept_steps}
 use Rattle.lean_weave.proofs.Begin.{begin_law, first_is}
 use Rattle.lean_weave.proofs.Cells.{Counts, Called, Finished, Begins, called, to_check}
 use Rattle.lean_weave.proofs.Check.{Back}
+use Rattle.lean_weave.proofs.Costs.{entry_some}
 use Rattle.lean_weave.proofs.End.{Sweeps, swept_on}
 use Rattle.lockstep.proofs.Ending.{ToEnd, LastBoundary, to_end, Numbered, next_numbered, visits_in, swept_is}
 use Rattle.lean_weave.proofs.Left.{lean_rows}
@@ -39,7 +41,7 @@ check_big w = omega arith
 module _ (f g : Program) (w : World) (l : Lean) (leader : ℕ → Bool) (x : LeanIn w l leader) (of : Describes f g w) (entries : EntriesAt w (weave_of w l leader) leader) (counts : Counts w l leader entries) (leads : leader f.entry ≡ true) (begins : Reads w.form.far w.code w.entry g.entry (begin w.distance f.entry)) where
   -- from a call of the check to the next, to behind its comparison with four steps left, and what runs before the end besides
   abbrev pub sizes : Sizes
-  sizes = record { piece = check_steps w + (l.every + 2); check = 31; last = 2 + swept_steps w; words = word_count w.form.spans; round = round_of (word_count w.form.spans) w.form.round }
+  sizes = record { piece = check_steps w + (l.every + entry_steps l.land); check = 31; last = 2 + swept_steps w; words = word_count w.form.spans; round = round_of (word_count w.form.spans) w.form.round }
 
   abbrev nth : ℕ → ℕ
   nth i = nth_word w.form.spans i
@@ -74,7 +76,7 @@ module _ (f g : Program) (w : World) (l : Lean) (leader : ℕ → Bool) (x : Lea
       there n = run-more (start g regs) p n
 
       -- to the next call
-      next_at : Called w l leader x blocks back.to (after_input f b.moves) back.next (l.every + 2) → NextSteps w.code (start g regs) sizes (λ i. nth_word w.form.spans i) Bound p i
+      next_at : Called w l leader x blocks back.to (after_input f b.moves) back.next (l.every + entry_steps l.land) → NextSteps w.code (start g regs) sizes (λ i. nth_word w.form.spans i) Bound p i
       next_at c =
           let n = back.steps + c.steps in
           let to : run (after_output g regs p) (back.steps + c.steps) ≡ c.to = (walk_on (Quiet w) u back.to c.to back.steps c.steps back.walk c.walk).ends in
@@ -94,13 +96,13 @@ module _ (f g : Program) (w : World) (l : Lean) (leader : ℕ → Bool) (x : Lea
           }
 
       -- or to the end
-      ends_at : Finished w l leader x blocks back.to l.every → EndsSoon (start g regs) p (check_steps w + (l.every + 2) + (2 + swept_steps w))
+      ends_at : Finished w l leader x blocks back.to l.every → EndsSoon (start g regs) p (check_steps w + (l.every + entry_steps l.land) + (2 + swept_steps w))
       ends_at e =
           let to = (walk_on (Quiet w) u back.to e.to back.steps e.steps back.walk e.walk).ends in
-          record { at = back.steps + e.steps; room = omega (arith, back.within, e.within); ended = ap (λ s. s.outcome) (there (back.steps + e.steps) ∙ to) ∙ e.ended }
+          record { at = back.steps + e.steps; room = omega (arith, back.within, e.within, entry_some l.land); ended = ap (λ s. s.outcome) (there (back.steps + e.steps) ∙ to) ∙ e.ended }
 
       -- to the one or the other, where the input is steady
-      onward_at : (h : ℕ) → p + (l.every + 3) ≤ h → Steady f w.reached h → Called w l leader x blocks back.to s back.next (l.every + 2) ⊎ Finished w l leader x blocks back.to l.every
+      onward_at : (h : ℕ) → p + (l.every + 3) ≤ h → Steady f w.reached h → Called w l leader x blocks back.to s back.next (l.every + entry_steps l.land) ⊎ Finished w l leader x blocks back.to l.every
       onward_at h le steady =
           let c : IsSteady w.reached (after_input f b.moves) (l.every + 3) = steady_rest w.reached (start f zeros) b.moves (l.every + 3) (steady_le w.reached (start f zeros) (b.moves + (l.every + 3)) h (omega (arith, b.slow, le)) steady) in
           to_check w l leader x blocks entries counts l.every back.to s l.every back.next (omega arith) (record {
@@ -139,11 +141,11 @@ module _ (f g : Program) (w : World) (l : Lean) (leader : ℕ → Bool) (x : Lea
     -- ---- from the first word
     -- a tick counts a step
     tick_some : (a : ℕ) → leader a ≡ true → 1 ≤ l.most a
-    tick_some a h = let c = counts.each a h in omega (arith, c)
+    tick_some a h = let c = counts.each a h in omega (arith, c, entry_some l.land)
 
     record First : Type 0 where
       steps : ℕ
-      within : steps ≤ 34
+      within : steps ≤ 32 + entry_steps l.land
       index : ℕ
       bound : Bound steps index
 
@@ -183,7 +185,7 @@ module _ (f g : Program) (w : World) (l : Lean) (leader : ℕ → Bool) (x : Lea
           fewer m n h k = omega (arith, h, k)
 
     -- the trace up to a number of steps in which the input is steady
-    pub traced : (h : ℕ) → Steady f w.reached h → Trace w.code (start g regs) sizes (λ i. nth_word w.form.spans i) 34 h Bound
+    pub traced : (h : ℕ) → Steady f w.reached h → Trace w.code (start g regs) sizes (λ i. nth_word w.form.spans i) (32 + entry_steps l.land) h Bound
     traced h steady =
         let first = first_call in
         record {

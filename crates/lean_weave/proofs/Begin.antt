@@ -20,6 +20,7 @@ use Rattle.weave_core.proofs.Indirect.{addi_value}
 use Rattle.weave_core.proofs.Leaves.{go_most, go_walk, halved_gone}
 use Rattle.weave_core.proofs.Prologue.{begin_row}
 use Rattle.weave_core.proofs.Sets.{writes, halved_writes}
+use Rattle.lean_weave.specs.Ticked.{is_ticked_at}
 use Rattle.lean_weave.specs.Woven.{LeanIn, weave_of}
 use Rattle.lean_weave.proofs.Chain.{Op, plain, constant, effects, Gives, read_back, all_temps, chain}
 use Rattle.lean_weave.proofs.Held.{ticked_is}
@@ -52,7 +53,7 @@ module _ (w : World) (l : Lean) (leader : ℕ → Bool) (x : LeanIn w l leader) 
 pub begin_law :
     (f g : Program) (w : World) (l : Lean) (leader : ℕ → Bool) → LeanIn w l leader → Describes f g w → IsEntryOf w f.entry → leader f.entry ≡ true
     → Reads w.form.far w.code w.entry g.entry (begin w.distance f.entry) → (regs : List ℕ) → AreStartRegs regs
-    → GoesTo w (start g regs) 1 31 (λ n y. Stands w leader y (start f zeros) × (reg y 15 ≡ counter 1) × (reg y 16 ≡ (f.entry + 0 * 2 ^ 32) % 2 ^ 64))
+    → GoesTo w (start g regs) 27 31 (λ n y. Stands w leader y (start f zeros) × (reg y 15 ≡ counter 1) × (reg y 16 ≡ (f.entry + 0 * 2 ^ 32) % 2 ^ 64))
 begin_law f g w l leader x of entry leads h regs are =
     let s0 = start f zeros in
     let b = begin_row f g w of regs are (begin_rest f.entry) h in
@@ -89,17 +90,26 @@ begin_law f g w l leader x of entry leads h regs are =
       whole : (a : ℕ) → a < 2 ^ 64 → a ≡ (a + 0 * 2 ^ 32) % 2 ^ 64
       whole a h = omega (arith, h)
 
+-- with what holds at an entry
+pub lean_first :
+    (f g : Program) (w : World) (l : Lean) (leader : ℕ → Bool) → LeanIn w l leader → Describes f g w → IsEntryOf w f.entry → leader f.entry ≡ true
+    → Reads w.form.far w.code w.entry g.entry (begin w.distance f.entry) → (regs : List ℕ) → AreStartRegs regs
+    → GoesTo w (start g regs) 27 31 (λ n y. Stands w leader y (start f zeros) × (is_ticked_at l.every w y f.entry ≡ true))
+lean_first f g w l leader x of entry leads h regs are =
+    let b = begin_law f g w l leader x of entry leads h regs are in
+    record {
+      steps = b.steps;
+      to = b.to;
+      at_least = b.at_least;
+      within = b.within;
+      walk = b.walk;
+      is = (b.is.0, ticked_is l.every w b.to f.entry 1 0 entry.low (omega arith) x.some x.few b.is.1 (omega arith) b.is.2 (first_is w.base w.form.spans w.spans_good));
+    }
+
 -- of the words that run first
 pub lean_starts : (f g : Program) (w : World) (l : Lean) (leader : ℕ → Bool) → LeanIn w l leader → Starts f g w (weave_of w l leader) leader
 lean_starts f g w l leader x = record {
   first = λ of entry leads h regs are.
-      let b = begin_law f g w l leader x of entry leads h regs are in
-      record {
-        steps = b.steps;
-        to = b.to;
-        at_least = b.at_least;
-        within = b.within;
-        walk = b.walk;
-        is = (b.is.0, ticked_is l.every w b.to f.entry 1 0 entry.low (omega arith) x.some x.few b.is.1 (omega arith) b.is.2 (first_is w.base w.form.spans w.spans_good));
-      };
+      let b = lean_first f g w l leader x of entry leads h regs are in
+      record { steps = b.steps; to = b.to; at_least = omega (arith, b.at_least); within = b.within; walk = b.walk; is = b.is };
 }

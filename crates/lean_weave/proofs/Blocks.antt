@@ -129,18 +129,18 @@ module _ (f : ElfFile) (o : Options) (some : 1 ≤ o.inst_max) where
           by false q x y r more = more
 
     -- the steps of each
-    pub steps_is : (bs : List Block) (low : ℕ) (diverse : Bool) (leader : ℕ → Bool) (b : Block) → Are low bs → Among b bs → steps_at diverse leader bs b.start ≡ block_steps diverse leader b
-    steps_is [] low diverse leader b h m = absurd m
-    steps_is (c ∷ cs) low diverse leader b h m =
+    pub steps_is : (bs : List Block) (low : ℕ) (diverse land : Bool) (leader : ℕ → Bool) (b : Block) → Are low bs → Among b bs → steps_at diverse land leader bs b.start ≡ block_steps diverse land leader b
+    steps_is [] low diverse land leader b h m = absurd m
+    steps_is (c ∷ cs) low diverse land leader b h m =
         ⊎_elim
-        (λ e. subst (λ (x : Block). steps_at diverse leader (c ∷ cs) x.start ≡ block_steps diverse leader x) (sym e) here)
+        (λ e. subst (λ (x : Block). steps_at diverse land leader (c ∷ cs) x.start ≡ block_steps diverse land leader x) (sym e) here)
         (λ r.
         let k = later cs (c.start + 1) b h.0.1 r in
         let no : (c.start == b.start) ≡ false = ne_eqb c.start b.start (λ e. absurd (omega (arith, k, e))) in
-        ap (λ z. cond z (block_steps diverse leader c) (steps_at diverse leader cs b.start)) no ∙ steps_is cs (c.start + 1) diverse leader b (rest low c cs h) r)
+        ap (λ z. cond z (block_steps diverse land leader c) (steps_at diverse land leader cs b.start)) no ∙ steps_is cs (c.start + 1) diverse land leader b (rest low c cs h) r)
         m where
-          here : steps_at diverse leader (c ∷ cs) c.start ≡ block_steps diverse leader c
-          here = ap (λ z. cond z (block_steps diverse leader c) (steps_at diverse leader cs c.start)) (eq-eqb c.start c.start refl)
+          here : steps_at diverse land leader (c ∷ cs) c.start ≡ block_steps diverse land leader c
+          here = ap (λ z. cond z (block_steps diverse land leader c) (steps_at diverse land leader cs c.start)) (eq-eqb c.start c.start refl)
 
     -- ---- over all blocks
     module _ (ascend : Ascend 0 blocks) where
@@ -150,15 +150,15 @@ module _ (f : ElfFile) (o : Options) (some : 1 ≤ o.inst_max) where
       pub starts : (b : Block) → Among b blocks → start_at blocks b.end (at_of b) ≡ b.start
       starts b m = start_is blocks 0 b all m
 
-      pub steps : (diverse : Bool) (leader : ℕ → Bool) (b : Block) → Among b blocks → steps_at diverse leader blocks b.start ≡ block_steps diverse leader b
-      steps diverse leader b m = steps_is blocks 0 diverse leader b all m
+      pub steps : (diverse land : Bool) (leader : ℕ → Bool) (b : Block) → Among b blocks → steps_at diverse land leader blocks b.start ≡ block_steps diverse land leader b
+      steps diverse land leader b m = steps_is blocks 0 diverse land leader b all m
 
       -- the tick of each counts its steps
-      pub counted : (l : Lean) → l.most ≡ steps_at l.diverse (begins_at blocks) blocks → AreCounted l (begins_at blocks) blocks
+      pub counted : (l : Lean) → l.most ≡ steps_at l.diverse l.land (begins_at blocks) blocks → AreCounted l (begins_at blocks) blocks
       counted l is = each blocks (λ b m. m) where
         each : (bs : List Block) → ((b : Block) → Among b bs → Among b blocks) → AreCounted l (begins_at blocks) bs
         each [] h = tt
-        each (b ∷ bs) h = let e : l.most b.start ≡ block_steps l.diverse (begins_at blocks) b = ap (λ (m : ℕ → ℕ). m b.start) is ∙ steps l.diverse (begins_at blocks) b (h b (inl refl)) in (omega (arith, e), each bs (λ c m. h c (inr m)))
+        each (b ∷ bs) h = let e : l.most b.start ≡ block_steps l.diverse l.land (begins_at blocks) b = ap (λ (m : ℕ → ℕ). m b.start) is ∙ steps l.diverse l.land (begins_at blocks) b (h b (inl refl)) in (omega (arith, e), each bs (λ c m. h c (inr m)))
 
       -- ---- the next block
       -- the address behind a block is where the next begins, if that is a leader

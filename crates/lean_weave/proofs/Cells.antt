@@ -5,6 +5,7 @@ use Rattle.rv_isa.specs.declared.ins.Ins.{Ins}
 use Rattle.qed_model.specs.declared.machine.Outcome.TheVariants.{Ended}
 use Rattle.qed_model.specs.Machine.Step.{State, reg, run}
 use Rattle.qed_model.specs.Promise.Kept.{NotTrapped, IsSteady}
+use Rattle.qed_model.specs.Weave.Bounds.{entry_steps}
 use Rattle.qed_model.specs.Weave.Code.{body_of, pieces_of}
 use Rattle.qed_model.specs.Weave.Sequences.{Reads, End, Falls, Stops, body_length, before_end, is_auipc}
 use Rattle.qed_model.specs.Weave.Costs.{cost_each, original_cost}
@@ -22,6 +23,7 @@ use Rattle.weave_core.proofs.Leaves.{no_code}
 use Rattle.weave_core.proofs.Source.{source_run, not_trapped_le, steady_le, steady_rest}
 use Rattle.weave_core.proofs.Trace.{none_run, one_run}
 use Rattle.lean_weave.specs.Woven.{weave_of, LeanIn, swept_steps}
+use Rattle.lean_weave.proofs.Costs.{entry_some}
 use Rattle.lean_weave.proofs.End.{Sweeps, swept_on}
 use Rattle.lean_weave.proofs.Leave.{SignedAs}
 use Rattle.lean_weave.proofs.Left.{Parts, leave_row}
@@ -31,7 +33,7 @@ use Rattle.lean_weave.proofs.Tick.{counter}
 
 -- the tick of each block counts its steps
 pub record Counts (w : World) (l : Lean) (leader : ℕ → Bool) (entries : EntriesAt w (weave_of w l leader) leader) : Type 0 where
-  pub each : (a : ℕ) (h : leader a ≡ true) → block_steps l.diverse leader (record { start = a; body = (entries a h).body; end = (entries a h).end }) ≤ l.most a
+  pub each : (a : ℕ) (h : leader a ≡ true) → block_steps l.diverse l.land leader (record { start = a; body = (entries a h).body; end = (entries a h).end }) ≤ l.most a
 
 module _ (w : World) (l : Lean) (leader : ℕ → Bool) (x : LeanIn w l leader) (block : (a : ℕ) → leader a ≡ true → IsEntryOf w a) where
   abbrev v : Weave
@@ -190,7 +192,7 @@ module _ (w : World) (l : Lean) (leader : ℕ → Bool) (x : LeanIn w l leader) 
           }
 
       -- where its tick passes: to the next block, or to the end
-      passed : l.most s.pc < left → l.most s.pc ≤ 2048 → IsSteady w.reached s (left + 3) → (y : State) × Walk (Quiet w) u 2 y × (reg y 15 ≡ counter (left - l.most s.pc)) × (n : ℕ) × (2 + n ≤ l.most s.pc) × (Next y s off n ⊎ Finished y n)
+      passed : l.most s.pc < left → l.most s.pc ≤ 2048 → IsSteady w.reached s (left + 3) → (y : State) × Walk (Quiet w) u (entry_steps l.land) y × (reg y 15 ≡ counter (left - l.most s.pc)) × (n : ℕ) × (entry_steps l.land + n ≤ l.most s.pc) × (Next y s off n ⊎ Finished y n)
       unfolding enters
       passed lt small steady =
           let e = entries s.pc b.stands.leads in
@@ -199,23 +201,23 @@ module _ (w : World) (l : Lean) (leader : ℕ → Bool) (x : LeanIn w l leader) 
           let c = counts.each s.pc b.stands.leads in
           let few = body_le e.body in
           let own = eqb-true (l.start_of e.end (s.pc + 4 * body_length e.body)) s.pc (and_parts _ _ e.good.own).0 in
-          let walk : Walk (Quiet w) u 2 g.to = subst (λ k. Walk (Quiet w) u k g.to) (two g.steps g.at_least g.within) g.walk in
+          let walk : Walk (Quiet w) u (entry_steps l.land) g.to = subst (λ k. Walk (Quiet w) u k g.to) (both g.steps g.at_least g.within) g.walk in
           let t = through s.pc off b.stands.leads b.few e.body e.end g.to s g.is.0.0 b.sourced e.good.pieces own (g.is.2 ∙ b.sign) (steady_le w.reached s (body_length e.body + 2) (left + 3) (enough (body_length e.body) (body_steps l.diverse e.body) (leave_cost (fall_to leader) e.end s.pc (s.pc + 4 * body_length e.body)) (l.most s.pc) left few c lt) steady) in
           (g.to, walk, g.is.1, n, c, t) where
-            two : (n : ℕ) → 2 ≤ n → n ≤ 2 → n ≡ 2
-            two n h k = omega (arith, h, k)
+            both : (n : ℕ) → entry_steps l.land ≤ n → n ≤ entry_steps l.land → n ≡ entry_steps l.land
+            both n h k = omega (arith, h, k)
 
-            enough : (a b c m n : ℕ) → a ≤ b → 2 + (b + c) ≤ m → m < n → a + 2 ≤ n + 3
+            enough : (a b c m n : ℕ) → a ≤ b → entry_steps l.land + (b + c) ≤ m → m < n → a + 2 ≤ n + 3
             enough a b c m n h k lt = omega (arith, h, k, lt)
 
       -- where not, to the check
-      pub called : l.most s.pc ≤ 2048 → left ≤ l.most s.pc → Called u s off (left + 2)
+      pub called : l.most s.pc ≤ 2048 → left ≤ l.most s.pc → Called u s off (left + entry_steps l.land)
       unfolding enters
       called small ge =
           let c = calls w l leader x u s rest enters b.stands.leads ge small in
           record {
             moves = 0;
-            steps = 3;
+            steps = entry_steps l.land + 1;
             to = c.0;
             slow = omega arith;
             within = omega (arith, b.some);
@@ -225,7 +227,7 @@ module _ (w : World) (l : Lean) (leader : ℕ → Bool) (x : LeanIn w l leader) 
           }
 
     -- from any block to the next call of the check, or to the end of the test
-    pub to_check : (fuel : ℕ) (u s : State) (left off : ℕ) → left ≤ fuel → Begins u s left off → IsSteady w.reached s (left + 3) → Called u s off (left + 2) ⊎ Finished u left
+    pub to_check : (fuel : ℕ) (u s : State) (left off : ℕ) → left ≤ fuel → Begins u s left off → IsSteady w.reached s (left + 3) → Called u s off (left + entry_steps l.land) ⊎ Finished u left
     to_check zero u s left off l1 b steady = let some = b.some in absurd (omega (arith, some, l1))
     to_check (suc fuel) u s left off l1 b steady =
         ⊎_elim
@@ -238,10 +240,11 @@ module _ (w : World) (l : Lean) (leader : ℕ → Bool) (x : LeanIn w l leader) 
             fewer m n h k = omega (arith, h, k)
 
           on :
-              ((y t : State) (n : ℕ) → Begins y t n off → n ≤ fuel → IsSteady w.reached t (n + 3) → Called y t off (n + 2) ⊎ Finished y n)
-              → l.most s.pc < left → (y : State) × Walk (Quiet w) u 2 y × (reg y 15 ≡ counter (left - l.most s.pc)) × (n : ℕ) × (2 + n ≤ l.most s.pc) × (Next y s off n ⊎ Finished y n) → Called u s off (left + 2) ⊎ Finished u left
+              ((y t : State) (n : ℕ) → Begins y t n off → n ≤ fuel → IsSteady w.reached t (n + 3) → Called y t off (n + entry_steps l.land) ⊎ Finished y n)
+              → l.most s.pc < left → (y : State) × Walk (Quiet w) u (entry_steps l.land) y × (reg y 15 ≡ counter (left - l.most s.pc)) × (n : ℕ) × (entry_steps l.land + n ≤ l.most s.pc) × (Next y s off n ⊎ Finished y n) → Called u s off (left + entry_steps l.land) ⊎ Finished u left
           on rec lt p =
               let m = l.most s.pc in
+              let two = entry_some l.land in
               let less = left - m in
               ⊎_elim
               (λ n.
@@ -255,10 +258,10 @@ module _ (w : World) (l : Lean) (leader : ℕ → Bool) (x : LeanIn w l leader) 
                 sign = n.is.sign;
                 cursor = b.cursor;
               }) (omega (arith, l1, lt, p.4)) (steady_rest w.reached s n.moves (left - m + 3) (steady_le w.reached s (n.moves + (left - m + 3)) (left + 3) (omega (arith, lt, p.4, n.slow, n.within)) steady)) in
-              let w2 = walk_on (Quiet w) u p.0 n.to 2 n.steps p.1 n.walk in
+              let w2 = walk_on (Quiet w) u p.0 n.to (entry_steps l.land) n.steps p.1 n.walk in
               ⊎_elim
-              (λ d. inl (way_on (λ y t. AtCheck w l leader x y t off) u n.to s (2 + n.steps) n.moves (left - m + 2) (left + 2) w2 (omega (arith, n.slow)) (omega (arith, lt, p.4, n.within)) d))
-              (λ f. inr (finished_on u n.to (2 + n.steps) (left - m) left w2 (omega (arith, lt, p.4, n.within)) f))
+              (λ d. inl (way_on (λ y t. AtCheck w l leader x y t off) u n.to s (entry_steps l.land + n.steps) n.moves (left - m + entry_steps l.land) (left + entry_steps l.land) w2 (omega (arith, n.slow)) (omega (arith, lt, p.4, n.within)) d))
+              (λ f. inr (finished_on u n.to (entry_steps l.land + n.steps) (left - m) left w2 (omega (arith, lt, p.4, n.within)) f))
               c)
-              (λ f. inr (finished_on u p.0 2 p.3 left p.1 (omega (arith, lt, p.4)) f))
+              (λ f. inr (finished_on u p.0 (entry_steps l.land) p.3 left p.1 (omega (arith, lt, p.4)) f))
               p.5

@@ -1,5 +1,5 @@
 -- Chains of words that set registers: constants and computing instructions, with the number that each gives.
-use Rattle.std.proofs.Common.{◌≡◌, ℕ, ◌+◌, ◌^◌, ◌<◌, ⊎_elim, Bool, true, cond, List, [], ◌∷◌, ◌++◌, length, refl, sym, ap, ◌∙◌, arith}
+use Rattle.std.proofs.Common.{◌≡◌, ℕ, ◌+◌, ◌*◌, ◌^◌, ◌<◌, ⊎_elim, Bool, true, cond, List, [], ◌∷◌, ◌++◌, length, refl, sym, ap, ◌∙◌, arith}
 use Rattle.std.specs.Prelude.{◌==◌, ◌&&◌, ◌||◌, nat_lt, nat_le, slice_index, pos}
 use Rattle.std.proofs.lemmas.Bool.{cases_eq, eq-eqb, ne_eqb, and_parts, and_from, or_cases, ltb-true, leb-true}
 use Rattle.rv_isa.specs.declared.ins.Ins.{Ins}
@@ -110,9 +110,29 @@ module _ (w : World) (u : State) (rest : List Item) (o : Over w.code u) where
       (sets_const w x r c (items (plain j v ∷ xs) ++ rest) over h g.0 (omega (arith, g.1, long)) (λ b low e. computes_none (fetched_at u.memory u.ranges (p + 8)) j (o.code (p + 8) ∙ h.2.0) g.2 e.2))
       (λ p2 k. chain_from (plain j v ∷ xs) (set_reg r c l) p2 (length-set_reg l r c ∙ long) g.3 k)
 
+  -- how far behind
+  chain_far :
+      (xs : List Op) (l : List ℕ) (p : ℕ) (long : length l ≡ 32) (g : Gives u l xs) (h : Reads w.form.far w.code w.entry p (items xs ++ rest))
+      → (chain_from xs l p long g h).pc ≡ p + 4 * steps xs
+  unfolding chain_from sets_on sets_compute sets_const
+  chain_far [] l p long g h = omega arith
+  chain_far (plain j v ∷ xs) l p long g h =
+      let e = chain_far xs (set_reg j.rd v l) (p + 4) (length-set_reg l j.rd v ∙ long) g.3 h.1 in
+      omega (arith, e)
+  chain_far (constant r c ∷ []) l p long g h = absurd g
+  chain_far (constant r c ∷ constant q d ∷ xs) l p long g h = absurd g
+  chain_far (constant r c ∷ plain j v ∷ xs) l p long g h =
+      let e = chain_far (plain j v ∷ xs) (set_reg r c l) (p + 8) (length-set_reg l r c ∙ long) g.3 h.2 in
+      omega (arith, e)
+
   -- from the state itself
   pub chain : (xs : List Op) → length u.regs ≡ 32 → Gives u u.regs xs → Reads w.form.far w.code w.entry u.pc (items xs ++ rest) → Sets w u (steps xs) rest (writes (effects xs) u.regs)
   chain xs long g h = chain_from xs u.regs u.pc long g h
+
+  pub chain_pc :
+      (xs : List Op) (long : length u.regs ≡ 32) (g : Gives u u.regs xs) (h : Reads w.form.far w.code w.entry u.pc (items xs ++ rest)) → (chain xs long g h).pc ≡ u.pc + 4 * steps xs
+  unfolding chain
+  chain_pc xs long g h = chain_far xs u.regs u.pc long g h
 
 -- ---- steps of items
 pub cost_append : (xs ys : List Item) → cost (xs ++ ys) ≡ cost xs + cost ys

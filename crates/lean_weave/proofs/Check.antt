@@ -111,17 +111,17 @@ module _ (w : World) (u : State) (rest : List Item) (o : Over w.code u) (long : 
     parts_set h = chain w u rest o parts long parts_give h
 
 -- ---- where the call came from
--- how far the link is from the place of an input address in the table
-abbrev gap : World → ℕ → ℕ
-gap w a = (w.entry a + 12 + (2 ^ 64 - (a + 2 * w.distance))) % 2 ^ 64
+-- how far the link of a call so many bytes behind its entry is from the place of an input address in the table
+abbrev gap : World → ℕ → ℕ → ℕ
+gap w call a = (w.entry a + (call + 4) + (2 ^ 64 - (a + 2 * w.distance))) % 2 ^ 64
 
 -- what is written, where the table has a word
-abbrev compared : World → ℕ → ℕ → List (ℕ × ℕ)
-compared w a x = (30, a + w.distance) ∷ (30, a + 2 * w.distance) ∷ (31, gap w a) ∷ (30, x) ∷ (30, gap w a) ∷ []
+abbrev compared : World → ℕ → ℕ → ℕ → List (ℕ × ℕ)
+compared w call a x = (30, a + w.distance) ∷ (30, a + 2 * w.distance) ∷ (31, gap w call a) ∷ (30, x) ∷ (30, gap w call a) ∷ []
 
-module _ (w : World) (u t : State) (a : ℕ) (tb : TableAt w a) (o : Over w.code u) (h : Twice w u t t) (rest : List Item) (at : reg u 15 ≡ a) (link : reg u 31 ≡ w.entry a + 12) where
+module _ (w : World) (u t : State) (call a : ℕ) (few : call ≤ 32) (tb : TableAt w a) (o : Over w.code u) (h : Twice w u t t) (rest : List Item) (at : reg u 15 ≡ a) (link : reg u 31 ≡ w.entry a + (call + 4)) where
   abbrev front : List Op
-  front = plain (ins Add 30 15 14 (pos 0)) (a + w.distance) ∷ plain (ins Add 30 30 14 (pos 0)) (a + 2 * w.distance) ∷ plain (ins Sub 31 31 30 (pos 0)) (gap w a) ∷ []
+  front = plain (ins Add 30 15 14 (pos 0)) (a + w.distance) ∷ plain (ins Add 30 30 14 (pos 0)) (a + 2 * w.distance) ∷ plain (ins Sub 31 31 30 (pos 0)) (gap w call a) ∷ []
 
   front_gives : Gives u u.regs front
   front_gives =
@@ -139,28 +139,28 @@ module _ (w : World) (u t : State) (a : ℕ) (tb : TableAt w a) (o : Over w.code
           (
             refl,
             λ e. absurd (cc),
-            λ p. sub_value (moved (writes e2 l) p u) 31 31 30 (w.entry a + 12) (a + 2 * w.distance) (gap w a) (read_back e2 l 31 long refl ∙ link) (read_back e2 l 30 long refl) refl,
+            λ p. sub_value (moved (writes e2 l) p u) 31 31 30 (w.entry a + (call + 4)) (a + 2 * w.distance) (gap w call a) (read_back e2 l 31 long refl ∙ link) (read_back e2 l 30 long refl) refl,
             tt,
           ),
         ),
       )
 
-  pub called_set : Reads w.form.far w.code w.entry u.pc (called ++ rest) → Sets w u 6 rest (writes (compared w a (word w u t a tb o h)) u.regs)
+  pub called_set : Reads w.form.far w.code w.entry u.pc (called call ++ rest) → Sets w u 6 rest (writes (compared w call a (word w u t a tb o h)) u.regs)
   called_set k =
       let l = u.regs in
       let long = h.output.regs in
       let x = word w u t a tb o h in
-      let e3 : List (ℕ × ℕ) = (30, a + w.distance) ∷ (30, a + 2 * w.distance) ∷ (31, gap w a) ∷ [] in
-      let e4 : List (ℕ × ℕ) = (30, a + w.distance) ∷ (30, a + 2 * w.distance) ∷ (31, gap w a) ∷ (30, x) ∷ [] in
+      let e3 : List (ℕ × ℕ) = (30, a + w.distance) ∷ (30, a + 2 * w.distance) ∷ (31, gap w call a) ∷ [] in
+      let e4 : List (ℕ × ℕ) = (30, a + w.distance) ∷ (30, a + 2 * w.distance) ∷ (31, gap w call a) ∷ (30, x) ∷ [] in
       let tail3 = Plain (ins Beq 0 30 31 (pos 8)) ∷ fired_check ∷ rest in
-      let tail2 = Plain (ins Addi 30 30 0 (pos 12)) ∷ tail3 in
+      let tail2 = Plain (ins Addi 30 30 0 (pos (call + 4))) ∷ tail3 in
       let tail1 = Plain (ins Lw 30 30 0 (pos 0)) ∷ tail2 in
       let there = table_word w u t a tb o h in
-      sets_on w u 3 3 tail1 rest (writes e3 l) (writes (compared w a x) l) (chain w u tail1 o front long front_gives k) (λ p k1.
-      sets_on w (moved (writes e3 l) p u) 1 2 tail2 rest (writes e4 l) (writes (compared w a x) l) (table_load w u t a tb o h 30 (writes e3 l) p tail2 (read_back e3 l 30 long refl) (λ e. absurd (omega arith)) k1) (λ p2 k2.
-      sets_on w (moved (writes e4 l) p2 u) 1 1 tail3 rest (writes (compared w a x) l) (writes (compared w a x) l)
-      (sets_compute w (moved (writes e4 l) p2 u) (ins Addi 30 30 0 (pos 12)) (gap w a) tail3 (over_moved w.code u (writes e4 l) p2 o) k2 refl (λ e. absurd (cc)) (addi_value (moved (writes e4 l) p2 u) 30 30 x (gap w a) (pos 12) (read_back e4 l 30 long refl) (omega (arith, there, tb.low))))
-      (λ p3 k3. sets_equal w (moved (writes (compared w a x) l) p3 u) 30 31 rest (over_moved w.code u (writes (compared w a x) l) p3 o) k3 (read_back (compared w a x) l 30 long refl ∙ sym (read_back (compared w a x) l 31 long refl)))))
+      sets_on w u 3 3 tail1 rest (writes e3 l) (writes (compared w call a x) l) (chain w u tail1 o front long front_gives k) (λ p k1.
+      sets_on w (moved (writes e3 l) p u) 1 2 tail2 rest (writes e4 l) (writes (compared w call a x) l) (table_load w u t a tb o h 30 (writes e3 l) p tail2 (read_back e3 l 30 long refl) (λ e. absurd (omega arith)) k1) (λ p2 k2.
+      sets_on w (moved (writes e4 l) p2 u) 1 1 tail3 rest (writes (compared w call a x) l) (writes (compared w call a x) l)
+      (sets_compute w (moved (writes e4 l) p2 u) (ins Addi 30 30 0 (pos (call + 4))) (gap w call a) tail3 (over_moved w.code u (writes e4 l) p2 o) k2 refl (λ e. absurd (cc)) (addi_value (moved (writes e4 l) p2 u) 30 30 x (gap w call a) (pos (call + 4)) (read_back e4 l 30 long refl) (omega (arith, there, tb.low, few))))
+      (λ p3 k3. sets_equal w (moved (writes (compared w call a x) l) p3 u) 30 31 rest (over_moved w.code u (writes (compared w call a x) l) p3 o) k3 (read_back (compared w call a x) l 30 long refl ∙ sym (read_back (compared w call a x) l 31 long refl)))))
 
 -- ---- the offset
 -- the words that are visited from a word on stand near the first
@@ -197,7 +197,7 @@ pub record Back (w : World) (leader : ℕ → Bool) (u t : State) (a off every r
   pub compares : ComparesFrom w.code (run u 14).pc thirteen
   pub visits : (j : ℕ) → j < round → 1 ≤ length w.form.spans → Visits w u steps (words_on w.form.spans j (first_word w.base w.form.spans + off))
 
-module _ (w : World) (leader : ℕ → Bool) (small : w.distance ≤ 2 ^ 32) (u t : State) (a off every round : ℕ) (tb : TableAt w a) (entry : IsEntryOf w a) (leads : leader a ≡ true) (some : 1 ≤ every) (most : every < 2 ^ 63) where
+module _ (w : World) (leader : ℕ → Bool) (small : w.distance ≤ 2 ^ 32) (u t : State) (call a off every round : ℕ) (call_few : call ≤ 32) (tb : TableAt w a) (entry : IsEntryOf w a) (leads : leader a ≡ true) (some : 1 ≤ every) (most : every < 2 ^ 63) where
   abbrev first : ℕ
   first = first_word w.base w.form.spans
 
@@ -291,20 +291,20 @@ module _ (w : World) (leader : ℕ → Bool) (small : w.distance ≤ 2 ^ 32) (u 
     compares : ComparesFrom w.code (run u 14).pc thirteen
 
   front_row :
-      (rest : List Item) → Over w.code u → Twice w u t t → Reads w.form.far w.code w.entry u.pc (parted w.base ++ (called ++ (compare ++ rest))) → w.base ≤ a → a < w.base + 2 ^ 32
-      → off < 2 ^ 32 → reg u 16 ≡ (a + off * 2 ^ 32) % 2 ^ 64 → reg u 31 ≡ w.entry a + 12 → Front rest
+      (rest : List Item) → Over w.code u → Twice w u t t → Reads w.form.far w.code w.entry u.pc (parted w.base ++ (called call ++ (compare ++ rest))) → w.base ≤ a → a < w.base + 2 ^ 32
+      → off < 2 ^ 32 → reg u 16 ≡ (a + off * 2 ^ 32) % 2 ^ 64 → reg u 31 ≡ w.entry a + (call + 4) → Front rest
   front_row rest o h r above near few sign link =
       let long = h.output.regs in
-      let w1 = effects (parts w u (called ++ (compare ++ rest)) o long a off above near few entry.low sign) in
+      let w1 = effects (parts w u (called call ++ (compare ++ rest)) o long a off above near few entry.low sign) in
       let l1 = writes w1 u.regs in
-      let s1 = parts_set w u (called ++ (compare ++ rest)) o long a off above near few entry.low sign r in
+      let s1 = parts_set w u (called call ++ (compare ++ rest)) o long a off above near few entry.low sign r in
       let x1 = moved l1 s1.pc u in
       let o1 = over_moved w.code u l1 s1.pc o in
       let h1 = halved_writes w u t t w1 s1.pc (all_temps w1 refl) h in
-      let w2 = compared w a (word w x1 t a tb o1 h1) in
+      let w2 = compared w call a (word w x1 t a tb o1 h1) in
       let l2 = writes w2 l1 in
       let long1 = h1.output.regs in
-      let s2 = called_set w x1 t a tb o1 h1 (compare ++ rest) (read_back w1 u.regs 15 long refl) (read_back w1 u.regs 31 long refl ∙ link) s1.reads in
+      let s2 = called_set w x1 t call a call_few tb o1 h1 (compare ++ rest) (read_back w1 u.regs 15 long refl) (read_back w1 u.regs 31 long refl ∙ link) s1.reads in
       let x2 = moved l2 s2.pc u in
       let h2 = halved_writes w x1 t t w2 s2.pc (all_temps w2 refl) h1 in
       let s3 = guards_pass w thirteen x2 rest (over_moved w.code u l2 s2.pc o) (λ q one m. own_pair w x2 t q h2 m one) (all_small w) s2.reads in
@@ -388,8 +388,8 @@ module _ (w : World) (leader : ℕ → Bool) (small : w.distance ≤ 2 ^ 32) (u 
 
   -- ---- all of it
   pub check_row :
-      Over w.code u → Twice w u t t → Reads w.form.far w.code w.entry u.pc (check w.base every round w.form.spans) → t.pc ≡ a → w.base ≤ a → a < w.base + 2 ^ 32
-      → off < 2 ^ 32 → IsCursor w.form.spans (first + off) → reg u 16 ≡ (a + off * 2 ^ 32) % 2 ^ 64 → reg u 31 ≡ w.entry a + 12 → Back w leader u t a off every round
+      Over w.code u → Twice w u t t → Reads w.form.far w.code w.entry u.pc (check w.base call every round w.form.spans) → t.pc ≡ a → w.base ≤ a → a < w.base + 2 ^ 32
+      → off < 2 ^ 32 → IsCursor w.form.spans (first + off) → reg u 16 ≡ (a + off * 2 ^ 32) % 2 ^ 64 → reg u 31 ≡ w.entry a + (call + 4) → Back w leader u t a off every round
   check_row o h r here above near few cur sign link =
       let room = first_low w.form.spans w.spans_low w.spans_good in
       let x = front_row (begun first ++ (visit round w.form.spans ++ (done first every ++ look_up))) o h r above near few sign link in

@@ -13,10 +13,10 @@ use Rattle.qed_model.specs.Machine.Table.{ins}
 use Rattle.qed_model.specs.Machine.Step.{target}
 use Rattle.qed_model.specs.Weave.Placed.{distance_between, upper_part, lower_part}
 use Rattle.qed_model.specs.Admission.Leaders.{is_end}
-use Rattle.qed_model.specs.Weave.Bounds.{cost_of}
+use Rattle.qed_model.specs.Weave.Bounds.{cost_of, entry_steps}
 use Rattle.qed_model.specs.Weave.Sequences.{End, Falls, Stops, body_length, fired_check, guard, guards_of, links}
 use Rattle.qed_model.specs.Weave.Costs.{spent, mirror_steps}
-use Rattle.qed_model.specs.Weave.Lean.{is_short, turn_by, turn, goes, look_up, leave_as, is_break, cost, leave_cost, leave_cost_as}
+use Rattle.qed_model.specs.Weave.Lean.{call_at, is_short, turn_by, turn, goes, look_up, leave_as, is_break, cost, leave_cost, leave_cost_as}
 use Rattle.qed_model.specs.Weave.LeanCode.{piece_steps, body_steps, fall_to}
 use Rattle.rv_isa.specs.Kind.{class_of}
 use Rattle.weave_core.specs.World.{World}
@@ -24,6 +24,17 @@ use Rattle.weave_core.specs.Blocks.{Leaves, EndStands}
 use Rattle.weave_core.proofs.Body.{mirror_steps_le, spent_le}
 use Rattle.weave_core.proofs.PieceLaws.{cost_parts}
 use Rattle.lean_weave.proofs.Chain.{cost_append}
+
+-- ---- of entries
+-- where ticks call the check
+pub call_fits : (land : Bool) → (call_at land ≤ 32) × (call_at land % 4 ≡ 0)
+call_fits true = (omega arith, refl)
+call_fits false = (omega arith, refl)
+
+-- an entry has some
+pub entry_some : (land : Bool) → 2 ≤ entry_steps land
+entry_some true = omega arith
+entry_some false = omega arith
 
 -- ---- of pieces
 pub piece_most : (diverse : Bool) (is : List Ins) → piece_steps diverse is ≤ cost_of diverse * length is

@@ -1,21 +1,19 @@
 -- The leave of an ECALL: all registers and the signature are compared, with the sweep all data words and once more all registers, and the test ends.
 use Rattle.std.proofs.Common.{◌≡◌, ℕ, ◌+◌, ◌*◌, ◌%◌, ◌^◌, ◌<◌, ◌≤◌, ⊎_elim, Bool, true, false, cond, List, [], ◌∷◌, ◌++◌, length, refl, sym, ap, ◌∙◌, subst, arith}
-use Rattle.std.specs.Prelude.{pos}
 use Rattle.rv_isa.specs.declared.ins.Ins.{Ins}
 use Rattle.std.proofs.lemmas.Bool.{false≢true, cases_Bool}
 use Rattle.std.proofs.lemmas.List.{append-nil}
 use Rattle.rv_isa.specs.declared.kind.Kind.{Kind}
-use Rattle.rv_isa.specs.declared.kind.Kind.TheVariants.{Sub, Slli, Beq, Ebreak}
+use Rattle.rv_isa.specs.declared.kind.Kind.TheVariants.{Ebreak}
 use Rattle.rv_isa.specs.declared.class.Class.TheVariants as class
 use Rattle.rv_isa.specs.Kind.{class_of}
 use Rattle.qed_model.specs.declared.item.Item.{Item}
 use Rattle.qed_model.specs.declared.item.Item.TheVariants.{Plain}
 use Rattle.qed_model.specs.declared.machine.Outcome.TheVariants.{Ended}
-use Rattle.qed_model.specs.Machine.Table.{ins}
 use Rattle.qed_model.specs.Machine.Step.{State, reg, moved, stopped, Known, step, run}
 use Rattle.qed_model.specs.Admission.DataRanges.{word_count}
 use Rattle.qed_model.specs.Weave.Bounds.{end_bound}
-use Rattle.qed_model.specs.Weave.Sequences.{fired_check, compare, sweep, before_end}
+use Rattle.qed_model.specs.Weave.Sequences.{compare, sweep, before_end}
 use Rattle.qed_model.specs.Weave.Lean.{check_sign, leave_as, is_break, cost}
 use Rattle.qed_model.proofs.Walk.{over_moved, known_at, run-more}
 use Rattle.qed_model.proofs.Walked.{Walk, walk_on}
@@ -28,12 +26,12 @@ use Rattle.weave_core.proofs.Branch.{own_pair}
 use Rattle.weave_core.proofs.Endings.{guards_pass}
 use Rattle.weave_core.proofs.LeaveLaws.{quiet_sweep}
 use Rattle.weave_core.proofs.Leaves.{step-end, end_walk}
-use Rattle.weave_core.proofs.Sets.{writes, halved_writes, sets_equal}
+use Rattle.weave_core.proofs.Sets.{writes, halved_writes}
 use Rattle.weave_core.proofs.Trace.{none_run}
 use Rattle.weave_core.proofs.Words.{all_small}
 use Rattle.lean_weave.specs.Woven.{swept_steps}
-use Rattle.lean_weave.proofs.Chain.{Op, plain, constant, effects, Gives, read_back, all_temps, chain}
-use Rattle.lean_weave.proofs.Check.{sub_value, slli_value}
+use Rattle.lean_weave.proofs.Chain.{all_temps}
+use Rattle.lean_weave.proofs.Sign.{rest_of, tested, passes, same_bits}
 
 -- an ECALL is no EBREAK
 break_is : (k : Kind) → is_break k ≡ true → class_of k ≡ class.Break
@@ -105,30 +103,6 @@ end_rest w u s i at so h c = by w.form.sweep refl at where
   }
 
 module _ (w : World) (u s : State) (i : Ins) (fall : ℕ → List Item) (a off : ℕ) (at : At w u (leave_as (before_end w.form) fall class.End i a s.pc) s s) (so : Sourced w s) (low : a < 2 ^ 64) (few : off < 2 ^ 32) (sign : reg u 16 ≡ (a + off * 2 ^ 32) % 2 ^ 64) where
-  abbrev sign_ops : List Op
-  sign_ops = constant 30 a ∷ plain (ins Sub 31 16 30 (pos 0)) (off * 2 ^ 32) ∷ plain (ins Slli 31 31 0 (pos 32)) 0 ∷ []
-
-  sign_gives : (x : State) → length x.regs ≡ 32 → reg x 16 ≡ (a + off * 2 ^ 32) % 2 ^ 64 → Gives x x.regs sign_ops
-  sign_gives x long at16 =
-      let l = x.regs in
-      let e1 : List (ℕ × ℕ) = (30, a) ∷ [] in
-      let e2 : List (ℕ × ℕ) = (30, a) ∷ (31, off * 2 ^ 32) ∷ [] in (
-        low,
-        omega arith,
-        refl,
-        (
-          refl,
-          λ e. absurd (cc),
-          λ p. sub_value (moved (writes e1 l) p x) 31 16 30 ((a + off * 2 ^ 32) % 2 ^ 64) a (off * 2 ^ 32) (read_back e1 l 16 long refl ∙ at16) (read_back e1 l 30 long refl) (omega (arith, low, few)),
-          (
-            refl,
-            λ e. absurd (cc),
-            λ p. slli_value (moved (writes e2 l) p x) 31 31 (off * 2 ^ 32) 0 (read_back e2 l 31 long refl) (omega arith),
-            tt,
-          ),
-        ),
-      )
-
   pub end_leave : w.source s.pc ≡ Known i → class_of i.kind ≡ class.End → GoesTo w u 1 (cost (leave_as [] fall class.End i a s.pc) + swept_steps w) (λ n x. Ends w (step s) x × Sweeps w u n)
   end_leave h c =
       let t = at.halved in
@@ -136,22 +110,18 @@ module _ (w : World) (u s : State) (i : Ins) (fall : ℕ → List Item) (a off :
       let s1 = guards_pass w thirteen u (check_sign a ++ last) at.over (λ q one m. own_pair w u s q t m one) (all_small w) at.reads in
       let x1 = moved u.regs s1.pc u in
       let o1 = over_moved w.code u u.regs s1.pc at.over in
-      let s2 = chain w x1 (Plain (ins Beq 0 31 0 (pos 8)) ∷ fired_check ∷ last) o1 sign_ops t.output.regs (sign_gives x1 t.output.regs sign) s1.reads in
-      let ws = effects sign_ops in
-      let l = writes ws u.regs in
-      let x2 = moved l s2.pc u in
-      let o2 = over_moved w.code u l s2.pc at.over in
-      let zero : reg x2 31 ≡ reg x2 0 = read_back ws u.regs 31 t.output.regs refl ∙ sym (read_back ws u.regs 0 t.output.regs refl ∙ t.output.zero_reg) in
-      let s3 = sets_equal w x2 31 0 last o2 s2.reads zero in
-      let x3 = moved l s3.pc u in
-      let r = end_rest w x3 s i (record { over = over_moved w.code u l s3.pc at.over; reads = s3.reads; halved = halved_writes w u s s ws s3.pc (all_temps ws refl) t }) so h c in
-      let walk : Walk (Quiet w) u 18 x3 = walk_on (Quiet w) u x1 x3 13 5 s1.walk (walk_on (Quiet w) x1 x2 x3 4 1 s2.walk s3.walk) in
+      let same : rest_of a (reg x1 16) ≡ 0 = ap (rest_of a) sign ∙ same_bits a off low few in
+      let s2 = passes w x1 a last low o1 t.output.regs t.output.zero_reg s1.reads same in
+      let ws = tested a (reg u 16) in
+      let x2 = moved (writes ws u.regs) (s1.pc + 24) u in
+      let r = end_rest w x2 s i (record { over = over_moved w.code u (writes ws u.regs) (s1.pc + 24) at.over; reads = s2.reads; halved = halved_writes w u s s ws (s1.pc + 24) (all_temps ws refl) t }) so h c in
+      let walk : Walk (Quiet w) u 18 x2 = walk_on (Quiet w) u x1 x2 13 5 s1.walk s2.walk in
       let one : cond {A = ℕ} (is_break i.kind) 0 1 ≡ 1 = ap (λ b. cond {A = ℕ} b 0 1) (no_break i.kind c) in
       record {
         steps = 18 + r.steps;
         to = r.to;
         at_least = omega arith;
         within = omega (arith, one, r.within);
-        walk = walk_on (Quiet w) u x3 r.to 18 r.steps walk r.walk;
-        is = (r.is.0, swept_on w u x3 18 r.steps walk r.is.1);
+        walk = walk_on (Quiet w) u x2 r.to 18 r.steps walk r.walk;
+        is = (r.is.0, swept_on w u x2 18 r.steps walk r.is.1);
       }

@@ -15,7 +15,7 @@ use Rattle.qed_model.specs.Weave.Placed.{distance_between, instructions_from}
 use Rattle.qed_model.specs.Weave.Sequences.{Reads, Block, body_length, guards, original, each_part, before_end, stub}
 use Rattle.qed_model.specs.Weave.Costs.{used}
 use Rattle.qed_model.specs.Weave.Forms.{mirror_of}
-use Rattle.qed_model.specs.Weave.Lean.{tick, leave}
+use Rattle.qed_model.specs.Weave.Lean.{tick, check_sign, enter, call_at, leave}
 use Rattle.qed_model.specs.Weave.LeanCode.{Lean, worded, fall_words}
 use Rattle.qed_model.proofs.Wrapped.{difference}
 use Rattle.weave_core.specs.World.{World}
@@ -32,7 +32,7 @@ use Rattle.weave_core.proofs.PartLaws.{straight_bare}
 use Rattle.weave_core.proofs.PieceLaws.{guarded_original, used_low}
 use Rattle.weave_core.proofs.FormMirrors.{mirrors_fit_of}
 use Rattle.lockstep.proofs.Coded.{stub_words, reads_rest}
-use Rattle.lean_weave.proofs.Words.{tick_items, leave_items, leave_lands}
+use Rattle.lean_weave.proofs.Words.{tick_items, sign_lands, enter_items, leave_items, leave_lands}
 
 -- ---- pieces
 each_items : (part : Ins → ℕ → List Item) → ((i : Ins) (at : ℕ) → FitsPiece i → LockItems false (part i at)) → (is : List Ins) (at : ℕ) → AllFit is → LockItems false (each_part part is at)
@@ -89,7 +89,7 @@ module _ (w : World) (l : Lean) (leader : ℕ → Bool) where
       land_behind false (pieces_of s b.body b.start) (leave (before_end w.form) (fall_words leader) b.end (l.start_of b.end at) at) (straight_pieces b.body b.start f) (leave_lands w.form (fall_words leader) b.end (l.start_of b.end at) at (fall_items leader) (fall_lands leader) g)
 
   block_locks : (b : Block) → AllPieces b.body → GoodEnd b.end → LockItems false (block_items s b)
-  block_locks b f g = items_then false (tick (l.most b.start) (distance_between (w.entry b.start + 8) l.check)) (body_of s b.body b.end b.start) (tick_items false (l.most b.start) (distance_between (w.entry b.start + 8) l.check)) (body_items b f g)
+  block_locks b f g = items_then false (s.enter b.start) (body_of s b.body b.end b.start) (enter_items false l.land b.start (l.most b.start) (distance_between (w.entry b.start + call_at l.land) l.check)) (body_items b f g)
 
   pub entries_locks : (bs : List Block) → AllBlocks bs → LockItems false (entries_of s bs)
   entries_locks [] f = items_none false
@@ -131,34 +131,50 @@ module _ (w : World) (l : Lean) (leader : ℕ → Bool) where
 
   -- ---- where they lead
   module _ (low : l.check < 2 ^ 64) (checked : Opens w.code l.check) (entries : OpenEntries w.code w.entry) where
-    -- a tick, behind which no register is closed
+    -- a tick, behind which no register is closed, and which calls the check from `from`
     tick_lands :
-        (b : Block) (p : ℕ) (ys : List Ins) → w.entry b.start ≡ p → p + 128 < 2 ^ 64
-        → HasAt w.code p (instructions_from false w.entry p (tick (l.most b.start) (distance_between (w.entry b.start + 8) l.check)) ++ ys) → opens ys ≡ true
-        → AllLand w.code p (instructions_from false w.entry p (tick (l.most b.start) (distance_between (w.entry b.start + 8) l.check)))
-    tick_lands b p ys is near has o =
-        let j = ins Jal 31 0 0 (distance_between (w.entry b.start + 8) l.check) in
+        (most from p : ℕ) (ys : List Ins) → p + 8 ≡ from → p + 104 < 2 ^ 64 → HasAt w.code p (instructions_from false w.entry p (tick most (distance_between from l.check)) ++ ys)
+        → opens ys ≡ true → AllLand w.code p (instructions_from false w.entry p (tick most (distance_between from l.check)))
+    tick_lands most from p ys is near has o =
+        let j = ins Jal 31 0 0 (distance_between from l.check) in
         let i = ins Blt 0 15 0 (pos 12) in
         let over : Opens w.code ((p + 4 + 12) % 2 ^ 64) = over_words w.code (p + 4) 12 (i ∷ j ∷ brk ∷ []) ys refl (omega (arith, near)) has.1 o in
-        let place : p + 4 + 4 ≡ w.entry b.start + 8 = omega (arith, is) in
-        let there : Opens w.code ((p + 4 + 4 + wrapped (distance_between (w.entry b.start + 8) l.check)) % 2 ^ 64) = subst (λ q. Opens w.code ((q + wrapped (distance_between (w.entry b.start + 8) l.check)) % 2 ^ 64)) (sym place) (subst (Opens w.code) (sym (difference (w.entry b.start + 8) l.check (omega (arith, is, near)) low)) checked) in
+        let place : p + 4 + 4 ≡ from = omega (arith, is) in
+        let there : Opens w.code ((p + 4 + 4 + wrapped (distance_between from l.check)) % 2 ^ 64) = subst (λ q. Opens w.code ((q + wrapped (distance_between from l.check)) % 2 ^ 64)) (sym place) (subst (Opens w.code) (sym (difference from l.check (omega (arith, is, near)) low)) checked) in
         (tt, ((λ g. over), (there, (tt, tt))))
+
+    -- an entry
+    enter_lands :
+        (land : Bool) (a most p : ℕ) (ys : List Ins) → w.entry a ≡ p → p + 128 < 2 ^ 64
+        → HasAt w.code p (instructions_from false w.entry p (enter land a most (distance_between (w.entry a + call_at land) l.check)) ++ ys) → opens ys ≡ true
+        → AllLand w.code p (instructions_from false w.entry p (enter land a most (distance_between (w.entry a + call_at land) l.check)))
+    enter_lands true a most p ys is near has o =
+        let t = tick most (distance_between (w.entry a + 32) l.check) in
+        let xs = instructions_from false w.entry p (check_sign a) in
+        let ts = instructions_from false w.entry (p + 24) t in
+        let behind : HasAt w.code (p + 24) (ts ++ ys) = has_rest w.code p xs (ts ++ ys) has in
+        let open_tick : opens (ts ++ ys) ≡ true = (tick_items false most (distance_between (w.entry a + 32) l.check) w.entry (p + 24)).front ys o in
+        all_land_append w.code p xs ts
+        (sign_lands false a [] (items_none false) (λ c e q zs n h k g. tt) w.code w.entry p (ts ++ ys) (omega (arith, near)) has open_tick entries)
+        (tick_lands most (w.entry a + 32) (p + 24) ys (omega (arith, is)) (omega (arith, near)) behind o)
+    enter_lands false a most p ys is near has o = tick_lands most (w.entry a + 8) p ys (omega (arith, is)) (omega (arith, near)) has o
 
     -- a block
     block_lands :
         (b : Block) (p : ℕ) (ys : List Ins) → AllPieces b.body → GoodEnd b.end → w.entry b.start ≡ p → p + 4 * length (instructions_from false w.entry p (block_items s b)) + 128 < 2 ^ 64
         → HasAt w.code p (instructions_from false w.entry p (block_items s b) ++ ys) → opens ys ≡ true → AllLand w.code p (instructions_from false w.entry p (block_items s b))
     block_lands b p ys f g is near has o =
-        let t = tick (l.most b.start) (distance_between (w.entry b.start + 8) l.check) in
+        let t = s.enter b.start in
         let body = body_of s b.body b.end b.start in
         let ts = instructions_from false w.entry p t in
-        let bs = instructions_from false w.entry (p + 4 * 4) body in
+        let next = p + 4 * length (instructions_from false w.entry p (s.enter b.start)) in
+        let bs = instructions_from false w.entry next body in
         let whole : instructions_from false w.entry p (t ++ body) ≡ ts ++ bs = instructions_then false w.entry p t body in
         let count = ap length whole ∙ length-append ts bs in
         let split : HasAt w.code p (ts ++ (bs ++ ys)) = subst (HasAt w.code p) (ap (λ k. k ++ ys) whole ∙ append_assoc ts bs ys) has in
-        let open_body : opens (bs ++ ys) ≡ true = (body_items b f g w.entry (p + 4 * 4)).front ys o in
-        let first = tick_lands b p (bs ++ ys) is (omega (arith, near)) split open_body in
-        let second = body_lands b f g w.code w.entry (p + 4 * 4) ys (omega (arith, near, count)) (has_rest w.code p ts (bs ++ ys) split) o entries in
+        let open_body : opens (bs ++ ys) ≡ true = (body_items b f g w.entry next).front ys o in
+        let first = enter_lands l.land b.start (l.most b.start) p (bs ++ ys) is (omega (arith, near)) split open_body in
+        let second = body_lands b f g w.code w.entry next ys (omega (arith, near, count)) (has_rest w.code p ts (bs ++ ys) split) o entries in
         subst (AllLand w.code p) (sym whole) (all_land_append w.code p ts bs first second)
 
     pub entries_land :

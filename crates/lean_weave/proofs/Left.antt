@@ -1,14 +1,13 @@
 -- Each leave meets the law of the rows.
 use Rattle.std.proofs.Common.{◌≡◌, ℕ, ◌+◌, ◌*◌, ◌%◌, ◌^◌, ◌<◌, ◌≤◌, ◌⊎◌, inl, inr, Bool, true, false, List, length, refl, sym, ap, ◌∙◌, subst, arith}
-use Rattle.std.specs.Prelude.{◌==◌, ◌&&◌, nat_le, pos}
+use Rattle.std.specs.Prelude.{◌==◌, ◌&&◌, nat_le}
 use Rattle.std.proofs.lemmas.Bool.{and_parts, eqb-true, leb-true}
 use Rattle.rv_isa.specs.declared.ins.Ins.{Ins}
 use Rattle.rv_isa.specs.declared.class.Class.{Class}
 use Rattle.rv_isa.specs.declared.class.Class.TheVariants as class
 use Rattle.rv_isa.specs.Kind.{class_of}
-use Rattle.rv_isa.specs.declared.kind.Kind.TheVariants.{Addi}
-use Rattle.qed_model.specs.Machine.Table.{ins}
 use Rattle.qed_model.specs.Weave.Bounds.{cost_of}
+use Rattle.qed_model.specs.Weave.Code.{body_of}
 use Rattle.qed_model.specs.Weave.Pieces.{is_run}
 use Rattle.qed_model.specs.Machine.Step.{State, reg, Known, run, step}
 use Rattle.qed_model.specs.Promise.Kept.{NotTrapped, LeadsToReached, IsSteady}
@@ -26,7 +25,7 @@ use Rattle.weave_core.proofs.Leaves.{step-illegal}
 use Rattle.lean_weave.specs.Ticked.{is_ticked_at}
 use Rattle.lean_weave.specs.Woven.{weave_of, LeanIn, swept_steps}
 use Rattle.lean_weave.proofs.Costs.{leave_most}
-use Rattle.lean_weave.proofs.Rows.{enter_law, inside_law, piece_law}
+use Rattle.lean_weave.proofs.Rows.{is_entry, enter_law, inside_law, piece_law}
 use Rattle.lean_weave.proofs.End.{end_leave, Sweeps}
 use Rattle.lean_weave.proofs.Held.{Ticked, ticked_of, ticked_is}
 use Rattle.lean_weave.proofs.Leap.{leap_leave}
@@ -97,9 +96,7 @@ module _ (w : World) (l : Lean) (leader : ℕ → Bool) (x : LeanIn w l leader) 
     by false h = omega (arith, h)
 
   entry_known : (a : ℕ) → EntryAt w (weave_of w l leader) leader a → IsEntryOf w a
-  entry_known a b =
-      let i = ins Addi 15 15 0 (pos (l.most a)) in
-      record { low = b.good.low; entry_low = omega (arith, w.low (w.entry a) i b.reads.1.0); grain = w.grain (w.entry a) i b.reads.1.0 }
+  entry_known a b = is_entry w l leader x l.land a (body_of (weave_of w l leader).code b.body b.end a) b.good.low b.reads.1
 
   -- the lean form meets the laws of the rows
   pub lean_rows : Rows w (weave_of w l leader) leader

@@ -1,5 +1,6 @@
 pub mod Chain
 pub mod Check
+pub mod Sign
 pub mod Tick
 pub mod Turn
 pub mod Ways
@@ -18,6 +19,7 @@ pub mod Words
 pub mod Plan
 pub mod Lands
 pub mod Promise
+pub mod Landed
 pub mod Unmarked
 pub mod Blocks
 pub mod Short

@@ -16,7 +16,7 @@ use Rattle.qed_model.specs.Machine.Table.{ins, fits_signed, encode_of, word_of}
 use Rattle.qed_model.specs.Machine.Values.{wrapped}
 use Rattle.qed_model.specs.Weave.Placed.{distance_between, upper_part, lower_part, sum_of_sizes}
 use Rattle.qed_model.specs.Weave.Sequences.{Form, End, Falls, Stops, fired_check, guard, guards_of, compare, visit, sweep, before_end, links, zero_from}
-use Rattle.qed_model.specs.Weave.Lean.{is_short, turn_by, turn, goes, look_up, first_word, parted, called, begun, done, check, opposite, check_sign, leave, leave_as, begin, tick}
+use Rattle.qed_model.specs.Weave.Lean.{is_short, turn_by, turn, goes, look_up, first_word, parted, called, begun, done, check, opposite, check_sign, leave, leave_as, begin, tick, enter, call_at}
 use Rattle.qed_model.proofs.Nearby.{is_within, near_constant}
 use Rattle.qed_model.proofs.Reach.{has_word, is_some-some_if, lui_word, addi_word}
 use Rattle.qed_model.proofs.MirrorWords.{pair_reg}
@@ -119,9 +119,10 @@ module _ (at base d : ℕ) (at_is : at ≡ base + 3 * d) (top : base + 3 * d + 1
       (Plain (ins Sub 15 16 30 (pos 0)) ∷ Plain (ins Slli 15 15 0 (pos 32)) ∷ Plain (ins Srli 15 15 0 (pos 32)) ∷ Plain (ins Add 15 15 30 (pos 0)) ∷ Plain (ins Sub 16 16 15 (pos 0)) ∷ Plain (ins Srli 16 16 0 (pos 32)) ∷ [])
       (omega arith) (place base (omega arith) (omega arith)) refl
 
-  called_near : list_all near_code called ≡ true
+  called_near : (land : Bool) → list_all near_code (called (call_at land)) ≡ true
   unfolding encode_of word_of
-  called_near = refl
+  called_near true = refl
+  called_near false = refl
 
   begun_near : (first : ℕ) → Nearby first → list_all near_code (begun first) ≡ true
   unfolding encode_of word_of
@@ -152,16 +153,16 @@ module _ (at base d : ℕ) (at_is : at ≡ base + 3 * d) (top : base + 3 * d + 1
   first_near [] s = place base (omega arith) (omega arith)
   first_near (r ∷ rs) s = place r.0 s.0.0 (omega (arith, s.0.1, s.0.2))
 
-  pub check_near : (every round : ℕ) (spans : List (ℕ × ℕ)) → InImage at base d at_is top small spans → every ≤ 2048 → list_all near_code (check base every round spans) ≡ true
-  check_near every round spans s few =
+  pub check_near : (land : Bool) (every round : ℕ) (spans : List (ℕ × ℕ)) → InImage at base d at_is top small spans → every ≤ 2048 → list_all near_code (check base (call_at land) every round spans) ≡ true
+  check_near land every round spans s few =
       let first = first_word base spans in
       let n = first_near spans s in
       let five : List Item = done first every ++ look_up in
       let four : List Item = visit round spans ++ five in
       let three : List Item = begun first ++ four in
       let two : List Item = compare ++ three in
-      both_all near_code (parted base) (called ++ two) parted_near
-      (both_all near_code called two called_near
+      both_all near_code (parted base) (called (call_at land) ++ two) parted_near
+      (both_all near_code (called (call_at land)) two (called_near land)
       (both_all near_code compare three (words.compare_near at base d at_is top small)
       (both_all near_code (begun first) four (begun_near first n)
       (both_all near_code (visit round spans) five (words.visit_near at base d at_is top small round spans s)
@@ -183,16 +184,20 @@ module _ (at base d : ℕ) (at_is : at ≡ base + 3 * d) (top : base + 3 * d + 1
       plain (ins Addi 15 15 0 (pos most)) (Plain (ins Blt 0 15 0 (pos 12)) ∷ call) (addi_word 15 15 (pos most) (omega arith) (omega arith) (lt-ltb most 2048 few))
       (plain (ins Blt 0 15 0 (pos 12)) call refl (plain (ins Jal 31 0 0 z) (fired_check ∷ []) (jal_as z h) refl))
 
+  sign_near : (a : ℕ) → base ≤ a → a ≤ base + d → list_all near_code (check_sign a) ≡ true
+  unfolding encode_of word_of
+  sign_near a low high = sets 30 a (Plain (ins Sub 31 16 30 (pos 0)) ∷ Plain (ins Slli 31 31 0 (pos 32)) ∷ Plain (ins Beq 0 31 0 (pos 8)) ∷ fired_check ∷ []) (omega arith) (place a low high) refl
+
+  pub enter_near : (land : Bool) (a most : ℕ) (z : ℤ) → base ≤ a → a ≤ base + d → most < 2048 → has_word (ins Jal 0 0 0 z) ≡ true → list_all near_code (enter land a most z) ≡ true
+  enter_near true a most z low high few h = both_all near_code (check_sign a) (tick most z) (sign_near a low high) (tick_near most z few h)
+  enter_near false a most z low high few h = tick_near most z few h
+
   -- ---- the leaves
   module _ (before : List Item) (fall : ℕ → List Item) (before_near : list_all near_code before ≡ true) (fall_near : (t : ℕ) → list_all near_code (fall t) ≡ true) (a : ℕ) (low : base ≤ a) (high : a ≤ base + d) where
-    sign_near : list_all near_code (check_sign a) ≡ true
-    unfolding encode_of word_of
-    sign_near = sets 30 a (Plain (ins Sub 31 16 30 (pos 0)) ∷ Plain (ins Slli 31 31 0 (pos 32)) ∷ Plain (ins Beq 0 31 0 (pos 8)) ∷ fired_check ∷ []) (omega arith) (place a low high) refl
-
     end_near : (i : Ins) → has_word i ≡ true → list_all near_code (leave_as before fall class.End i a 0) ≡ true
     end_near i k =
         let last : List Item = before ++ (Plain i ∷ []) in
-        both_all near_code compare (check_sign a ++ last) (words.compare_near at base d at_is top small) (both_all near_code (check_sign a) last sign_near (both_all near_code before (Plain i ∷ []) before_near (plain i [] k refl)))
+        both_all near_code compare (check_sign a ++ last) (words.compare_near at base d at_is top small) (both_all near_code (check_sign a) last (sign_near a low high) (both_all near_code before (Plain i ∷ []) before_near (plain i [] k refl)))
 
     jump_near : (i : Ins) (x : ℕ) → class_of i.kind ≡ class.Jump → KnownEnd at base d at_is top small i x → list_all near_code (leave_as before fall class.Jump i a x) ≡ true
     jump_near i x c k =

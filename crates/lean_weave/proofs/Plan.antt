@@ -76,7 +76,7 @@ module _ (c : ℕ → Fetched) (en : ℕ → ℕ) (leader : ℕ → Bool) (befor
 -- what stands at the entry of a leader, whose tick counts it
 pub record Counted (w : World) (l : Lean) (leader : ℕ → Bool) (a : ℕ) : Type 0 where
   pub entry : EntryAt w (weave_of w l leader) leader a
-  pub counts : block_steps l.diverse leader (record { start = a; body = entry.body; end = entry.end }) ≤ l.most a
+  pub counts : block_steps l.diverse l.land leader (record { start = a; body = entry.body; end = entry.end }) ≤ l.most a
 
 module _ (w : World) (l : Lean) (leader : ℕ → Bool) where
   abbrev s : Sequences
@@ -102,7 +102,7 @@ module _ (w : World) (l : Lean) (leader : ℕ → Bool) where
   -- a block reads as its sequences
   block_entry :
       (near : w.form.far ≡ false) (b : Block) (p : ℕ) (rest : List Item) → Reads false w.code w.entry p (block_items s b ++ rest) → BlockOf w (weave_of w l leader) leader b
-      → block_steps l.diverse leader b ≤ l.most b.start → ((t : ℕ) → goes_on b.end (b.start + 4 * body_length b.body) t ≡ true → leader t ≡ true → Marked rest t) → Counted w l leader b.start
+      → block_steps l.diverse l.land leader b ≤ l.most b.start → ((t : ℕ) → goes_on b.end (b.start + 4 * body_length b.body) t ≡ true → leader t ≡ true → Marked rest t) → Counted w l leader b.start
   block_entry near b p rest r good counted next =
       let at = b.start + 4 * body_length b.body in
       let t = s.enter b.start in

@@ -7,12 +7,12 @@ use Rattle.rv_isa.specs.declared.ins.Ins.{Ins}
 use Rattle.rv_isa.specs.declared.kind.Kind.TheVariants.{Addi, Auipc}
 use Rattle.qed_model.specs.declared.item.Item.{Item}
 use Rattle.qed_model.specs.Machine.Table.{ins}
-use Rattle.qed_model.specs.Machine.Step.{State, reg, moved, run}
+use Rattle.qed_model.specs.Machine.Step.{State, reg, moved, Known, run}
 use Rattle.qed_model.specs.Promise.Kept.{NotTrapped}
 use Rattle.qed_model.specs.Weave.Placed.{distance_between, upper_part}
 use Rattle.qed_model.specs.Weave.Sequences.{Reads, original, each_part}
 use Rattle.qed_model.proofs.Walk.{Over, over_moved}
-use Rattle.qed_model.proofs.Walked.{Walk, walk_on}
+use Rattle.qed_model.proofs.Walked.{Walk, walk_none, walk_on}
 use Rattle.weave_core.specs.World.{World, Quiet, Twice, IsCursor, words_on}
 use Rattle.weave_core.specs.Blocks.{IsEntryOf}
 use Rattle.weave_core.specs.Rows.{At, Sourced}
@@ -22,57 +22,107 @@ use Rattle.weave_core.proofs.FormRows.{front_row}
 use Rattle.weave_core.proofs.Sets.{writes, halved_writes}
 use Rattle.weave_core.proofs.Visit.{words_within}
 use Rattle.lean_weave.specs.Ticked.{is_ticked_at}
-use Rattle.qed_model.specs.Weave.Bounds.{cost_of}
-use Rattle.qed_model.specs.Weave.Lean.{first_word, tick, check}
+use Rattle.qed_model.specs.Weave.Bounds.{cost_of, entry_steps}
+use Rattle.qed_model.specs.Weave.Lean.{first_word, tick, enter, call_at, check}
 use Rattle.qed_model.specs.Weave.Forms.{mirror_of}
 use Rattle.qed_model.specs.Weave.LeanCode.{Lean, piece_steps}
 use Rattle.lean_weave.specs.Woven.{check_steps, weave_of, LeanIn}
 use Rattle.lean_weave.proofs.Chain.{read_back, all_temps}
 use Rattle.lean_weave.proofs.Check.{Back, check_row}
-use Rattle.lean_weave.proofs.Costs.{piece_most}
+use Rattle.lean_weave.proofs.Costs.{piece_most, call_fits}
 use Rattle.lean_weave.proofs.Held.{Ticked, ticked_of, ticked_is, ticked_same}
 use Rattle.lean_weave.proofs.Piece.{piece_row}
+use Rattle.lean_weave.proofs.Sign.{rest_of, tested, passes as sign_passes, same_bits}
 use Rattle.lean_weave.proofs.Tick.{counter, pass_row, call_row}
 
 module _ (w : World) (l : Lean) (leader : ℕ → Bool) (x : LeanIn w l leader) where
   abbrev v : Weave
   v = weave_of w l leader
 
-  -- ---- the tick
+  -- ---- the entry
   -- at the begin of a block, with what holds there
   pub record Enters (u s : State) (rest : List Item) (a : ℕ) : Type 0 where
     pub over : Over w.code u
     pub halved : Twice w u s s
-    pub reads : Reads w.form.far w.code w.entry u.pc (tick (l.most a) (distance_between (w.entry a + 8) l.check) ++ rest)
+    pub reads : Reads w.form.far w.code w.entry u.pc (enter l.land a (l.most a) (distance_between (w.entry a + call_at l.land) l.check) ++ rest)
     pub low : a < 2 ^ 64
     pub ticked : Ticked l.every w u a
     pub begins : u.pc ≡ w.entry a
 
-  -- behind the tick
+  -- behind the entry
   abbrev pub Entered : State → List Item → ℕ → ℕ → State → Type 0
   Entered s rest a n y = At w y rest s s × (is_ticked_at l.every w y a ≡ true)
 
-  -- where enough steps are left it passes
+  -- at its tick, whether the signature was tested or not
+  record AtTick (u s : State) (rest : List Item) (a : ℕ) (land : Bool) : Type 0 where
+    steps : ℕ
+    count : steps + 2 ≡ entry_steps land
+    to : State
+    walk : Walk (Quiet w) u steps to
+    over : Over w.code to
+    halved : Twice w to s s
+    reads : Reads w.form.far w.code w.entry to.pc (tick (l.most a) (distance_between (w.entry a + call_at land) l.check) ++ rest)
+    place : to.pc + 8 ≡ w.entry a + call_at land
+    fifteen : reg to 15 ≡ reg u 15
+    sixteen : reg to 16 ≡ reg u 16
+
+  at_tick : (u s : State) (rest : List Item) (a : ℕ) → Enters u s rest a → AtTick u s rest a l.land
+  at_tick u s rest a e = by l.land e.reads where
+    by : (land : Bool) → Reads w.form.far w.code w.entry u.pc (enter land a (l.most a) (distance_between (w.entry a + call_at land) l.check) ++ rest) → AtTick u s rest a land
+    by true r =
+        let t = e.ticked in
+        let long = e.halved.output.regs in
+        let same : rest_of a (reg u 16) ≡ 0 = ap (rest_of a) t.sign ∙ same_bits a t.offset e.low t.few in
+        let p = sign_passes w u a (tick (l.most a) (distance_between (w.entry a + 32) l.check) ++ rest) e.low e.over long e.halved.output.zero_reg r same in
+        let ws = tested a (reg u 16) in
+        record {
+          steps = 5;
+          count = refl;
+          to = moved (writes ws u.regs) (u.pc + 24) u;
+          walk = p.walk;
+          over = over_moved w.code u (writes ws u.regs) (u.pc + 24) e.over;
+          halved = halved_writes w u s s ws (u.pc + 24) (all_temps ws refl) e.halved;
+          reads = p.reads;
+          place = omega (arith, e.begins);
+          fifteen = read_back ws u.regs 15 long refl;
+          sixteen = read_back ws u.regs 16 long refl;
+        }
+    by false r = record {
+      steps = 0;
+      count = refl;
+      to = u;
+      walk = walk_none (Quiet w) u;
+      over = e.over;
+      halved = e.halved;
+      reads = r;
+      place = ap (λ p. p + 8) e.begins;
+      fifteen = refl;
+      sixteen = refl;
+    }
+
+  -- where enough steps are left the tick passes
   pub passes :
       (u s : State) (rest : List Item) (a : ℕ) (e : Enters u s rest a) → l.most a < e.ticked.left → l.most a ≤ 2048
-      → GoesTo w u 2 2 (λ n y. Entered s rest a n y × (reg y 15 ≡ counter (e.ticked.left - l.most a)) × (reg y 16 ≡ reg u 16))
+      → GoesTo w u (entry_steps l.land) (entry_steps l.land) (λ n y. Entered s rest a n y × (reg y 15 ≡ counter (e.ticked.left - l.most a)) × (reg y 16 ≡ reg u 16))
   passes u s rest a e lt small =
       let t = e.ticked in
       let most = l.most a in
-      let long = e.halved.output.regs in
-      let p = pass_row w u most t.left l.every e.over long e.halved.output.zero_reg t.fifteen t.some t.most x.few small rest (distance_between (w.entry a + 8) l.check) lt e.reads in
+      let x0 = at_tick u s rest a e in
+      let v = x0.to in
+      let long = x0.halved.output.regs in
+      let p = pass_row w v most t.left l.every x0.over long x0.halved.output.zero_reg (x0.fifteen ∙ t.fifteen) t.some t.most x.few small rest (distance_between (w.entry a + call_at l.land) l.check) lt x0.reads in
       let c = counter (t.left - most) in
       let ws : List (ℕ × ℕ) = (15, c) ∷ [] in
-      let y = moved (writes ws u.regs) p.pc u in
-      let here : reg y 15 ≡ c = read_back ws u.regs 15 long refl in
-      let keeps : reg y 16 ≡ reg u 16 = read_back ws u.regs 16 long refl in
+      let y = moved (writes ws v.regs) p.pc v in
+      let here : reg y 15 ≡ c = read_back ws v.regs 15 long refl in
+      let keeps : reg y 16 ≡ reg u 16 = read_back ws v.regs 16 long refl ∙ x0.sixteen in
       record {
-        steps = 2;
+        steps = x0.steps + 2;
         to = y;
-        at_least = omega arith;
-        within = omega arith;
-        walk = p.walk;
-        is = ((record { over = over_moved w.code u (writes ws u.regs) p.pc e.over; reads = p.reads; halved = halved_writes w u s s ws p.pc (all_temps ws refl) e.halved }, ticked_is l.every w y a (t.left - most) t.offset e.low (some t.left most lt) (less t.left most l.every t.most) x.few here t.few (keeps ∙ t.sign) t.cursor), here, keeps);
+        at_least = omega (arith, x0.count);
+        within = omega (arith, x0.count);
+        walk = walk_on (Quiet w) u v y x0.steps 2 x0.walk p.walk;
+        is = ((record { over = over_moved w.code v (writes ws v.regs) p.pc x0.over; reads = p.reads; halved = halved_writes w v s s ws p.pc (all_temps ws refl) x0.halved }, ticked_is l.every w y a (t.left - most) t.offset e.low (some t.left most lt) (less t.left most l.every t.most) x.few here t.few (keeps ∙ t.sign) t.cursor), here, keeps);
       } where
         some : (n m : ℕ) → m < n → 1 ≤ n - m
         some n m h = omega (arith, h)
@@ -89,54 +139,59 @@ module _ (w : World) (l : Lean) (leader : ℕ → Bool) (x : LeanIn w l leader) 
     pub few : off < 2 ^ 32
     pub sign : reg y 16 ≡ (s.pc + off * 2 ^ 32) % 2 ^ 64
     pub cursor : IsCursor w.form.spans (first_word w.base w.form.spans + off)
-    pub link : reg y 31 ≡ w.entry s.pc + 12
+    pub link : reg y 31 ≡ w.entry s.pc + (call_at l.land + 4)
 
   -- where not, the check is called
   pub calls :
       (u s : State) (rest : List Item) (e : Enters u s rest s.pc) → leader s.pc ≡ true → e.ticked.left ≤ l.most s.pc → l.most s.pc ≤ 2048
-      → (y : State) × Walk (Quiet w) u 3 y × AtCheck y s e.ticked.offset
+      → (y : State) × Walk (Quiet w) u (entry_steps l.land + 1) y × AtCheck y s e.ticked.offset
   calls u s rest e leads le small =
       let t = e.ticked in
       let most = l.most s.pc in
-      let long = e.halved.output.regs in
-      let reads : Reads w.form.far w.code w.entry u.pc (tick most (distance_between (u.pc + 8) l.check) ++ rest) = subst (λ p. Reads w.form.far w.code w.entry u.pc (tick most (distance_between (p + 8) l.check) ++ rest)) (sym e.begins) e.reads in
+      let x0 = at_tick u s rest s.pc e in
+      let v = x0.to in
+      let long = x0.halved.output.regs in
+      let reads : Reads w.form.far w.code w.entry v.pc (tick most (distance_between (v.pc + 8) l.check) ++ rest) = subst (λ p. Reads w.form.far w.code w.entry v.pc (tick most (distance_between p l.check) ++ rest)) (sym x0.place) x0.reads in
       let first = ins Auipc 30 0 0 (upper_part (distance_between l.check w.base)) in
       let near = w.low l.check first x.check.0 in
-      let walk = call_row w u most t.left l.every e.over long e.halved.output.zero_reg t.fifteen t.some t.most x.few small rest l.check le (omega (arith, near)) (w.grain l.check first x.check.0) reads in
-      let ws : List (ℕ × ℕ) = (15, most - t.left) ∷ (31, u.pc + 12) ∷ [] in
-      let y = moved (writes ws u.regs) l.check u in (
+      let walk = call_row w v most t.left l.every x0.over long x0.halved.output.zero_reg (x0.fifteen ∙ t.fifteen) t.some t.most x.few small rest l.check le (omega (arith, near)) (w.grain l.check first x.check.0) reads in
+      let ws : List (ℕ × ℕ) = (15, most - t.left) ∷ (31, v.pc + 12) ∷ [] in
+      let y = moved (writes ws v.regs) l.check v in
+      let count : x0.steps + 3 ≡ entry_steps l.land + 1 = omega (arith, x0.count) in (
         y,
-        walk,
+        subst (λ n. Walk (Quiet w) u n y) count (walk_on (Quiet w) u v y x0.steps 3 x0.walk walk),
         record {
-          over = over_moved w.code u (writes ws u.regs) l.check e.over;
-          halved = halved_writes w u s s ws l.check (all_temps ws refl) e.halved;
+          over = over_moved w.code v (writes ws v.regs) l.check x0.over;
+          halved = halved_writes w v s s ws l.check (all_temps ws refl) x0.halved;
           pc = refl;
           leads = leads;
           few = t.few;
-          sign = read_back ws u.regs 16 long refl ∙ t.sign;
+          sign = read_back ws v.regs 16 long refl ∙ x0.sixteen ∙ t.sign;
           cursor = t.cursor;
-          link = read_back ws u.regs 31 long refl ∙ ap (λ p. p + 12) e.begins;
+          link = read_back ws v.regs 31 long refl ∙ linked v.pc x0.place;
         },
-      )
+      ) where
+        linked : (p : ℕ) → p + 8 ≡ w.entry s.pc + call_at l.land → p + 12 ≡ w.entry s.pc + (call_at l.land + 4)
+        linked p e = omega (arith, e)
 
   -- the check leads back to the entry
   pub checks : (y s : State) (off : ℕ) → AtCheck y s off → IsEntryOf w s.pc → Back w leader y s s.pc off l.every w.form.round
   checks y s off c entry =
       let tb = x.table s.pc c.leads in
-      check_row w leader x.small y s s.pc off l.every w.form.round tb entry c.leads x.some (far l.every x.few) c.over c.halved (subst (λ p. Reads w.form.far w.code w.entry p (check w.base l.every w.form.round w.form.spans)) (sym c.pc) x.check) refl tb.from (x.within s.pc c.leads) c.few c.cursor c.sign c.link where
+      check_row w leader x.small y s (call_at l.land) s.pc off l.every w.form.round (call_fits l.land).0 tb entry c.leads x.some (far l.every x.few) c.over c.halved (subst (λ p. Reads w.form.far w.code w.entry p (check w.base (call_at l.land) l.every w.form.round w.form.spans)) (sym c.pc) x.check) refl tb.from (x.within s.pc c.leads) c.few c.cursor c.sign c.link where
         far : (n : ℕ) → n ≤ 2048 → n < 2 ^ 63
         far n h = omega (arith, h)
 
   -- back from the check it passes
   again :
-      (u s : State) (rest : List Item) (e : Enters u s rest s.pc) → l.most s.pc ≤ 2048 → IsEntryOf w s.pc → (to : State) × Walk (Quiet w) u 3 to × AtCheck to s e.ticked.offset
-      → GoesTo w u 0 (5 + check_steps w) (λ n y. Entered s rest s.pc n y)
+      (u s : State) (rest : List Item) (e : Enters u s rest s.pc) → l.most s.pc ≤ 2048 → IsEntryOf w s.pc → (to : State) × Walk (Quiet w) u (entry_steps l.land + 1) to × AtCheck to s e.ticked.offset
+      → GoesTo w u 0 (1 + 2 * entry_steps l.land + check_steps w) (λ n y. Entered s rest s.pc n y)
   again u s rest e small entry c =
       let a = s.pc in
       let b = checks c.0 s e.ticked.offset c.2 entry in
       let t = e.ticked in
       let same : b.to.pc ≡ w.entry a = b.stands.pc in
-      let at_entry : Reads w.form.far w.code w.entry b.to.pc (tick (l.most a) (distance_between (w.entry a + 8) l.check) ++ rest) = subst (λ p. Reads w.form.far w.code w.entry p (tick (l.most a) (distance_between (w.entry a + 8) l.check) ++ rest)) (sym same) (subst (λ p. Reads w.form.far w.code w.entry p (tick (l.most a) (distance_between (w.entry a + 8) l.check) ++ rest)) e.begins e.reads) in
+      let at_entry : Reads w.form.far w.code w.entry b.to.pc (enter l.land a (l.most a) (distance_between (w.entry a + call_at l.land) l.check) ++ rest) = subst (λ p. Reads w.form.far w.code w.entry p (enter l.land a (l.most a) (distance_between (w.entry a + call_at l.land) l.check) ++ rest)) (sym same) (subst (λ p. Reads w.form.far w.code w.entry p (enter l.land a (l.most a) (distance_between (w.entry a + call_at l.land) l.check) ++ rest)) e.begins e.reads) in
       let f : Enters b.to s rest a = record {
         over = b.stands.over;
         halved = b.stands.halved;
@@ -147,30 +202,37 @@ module _ (w : World) (l : Lean) (leader : ℕ → Bool) (x : LeanIn w l leader) 
       } in
       let g = passes b.to s rest a f (x.ticks a c.2.leads) small in
       record {
-        steps = 3 + (b.steps + g.steps);
+        steps = entry_steps l.land + 1 + (b.steps + g.steps);
         to = g.to;
         at_least = omega arith;
         within = all_in b.steps g.steps b.within g.within;
-        walk = walk_on (Quiet w) u c.0 g.to 3 (b.steps + g.steps) c.1 (walk_on (Quiet w) c.0 b.to g.to b.steps g.steps b.walk g.walk);
+        walk = walk_on (Quiet w) u c.0 g.to (entry_steps l.land + 1) (b.steps + g.steps) c.1 (walk_on (Quiet w) c.0 b.to g.to b.steps g.steps b.walk g.walk);
         is = g.is.0;
       } where
         words_in : (k : ℕ) → IsCursor w.form.spans (first_word w.base w.form.spans + k) → IsCursor w.form.spans (words_on w.form.spans w.form.round (first_word w.base w.form.spans + k))
         words_in k c = words_within w.form.spans w.base w.form.round (first_word w.base w.form.spans + k) w.spans_good c
 
-        all_in : (m n : ℕ) → m ≤ check_steps w → n ≤ 2 → 3 + (m + n) ≤ 5 + check_steps w
+        all_in : (m n : ℕ) → m ≤ check_steps w → n ≤ entry_steps l.land → entry_steps l.land + 1 + (m + n) ≤ 1 + 2 * entry_steps l.land + check_steps w
         all_in m n h k = omega (arith, h, k)
+
+  -- an entry stands low, on the grain
+  from_word : (a : ℕ) (i : Ins) → a < 2 ^ 64 → w.code (w.entry a) ≡ Known i → IsEntryOf w a
+  from_word a i low h = record { low = low; entry_low = let near = w.low (w.entry a) i h in omega (arith, near); grain = w.grain (w.entry a) i h }
+
+  pub is_entry :
+      (land : Bool) (a : ℕ) (rest : List Item) → a < 2 ^ 64
+      → Reads w.form.far w.code w.entry (w.entry a) (enter land a (l.most a) (distance_between (w.entry a + call_at land) l.check) ++ rest) → IsEntryOf w a
+  is_entry true a rest low r = from_word a (ins Auipc 30 0 0 (upper_part (distance_between (w.entry a) a))) low r.0
+  is_entry false a rest low r = from_word a (ins Addi 15 15 0 (pos (l.most a))) low r.0
 
   -- any entry
   pub enter_law :
       (u s : State) (rest : List Item) → Stands w leader u s → is_ticked_at l.every w u s.pc ≡ true → s.pc < 2 ^ 64
-      → Reads w.form.far w.code w.entry u.pc (tick (l.most s.pc) (distance_between (w.entry s.pc + 8) l.check) ++ rest) → GoesTo w u 0 (5 + check_steps w) (λ n y. Entered s rest s.pc n y)
+      → Reads w.form.far w.code w.entry u.pc (enter l.land s.pc (l.most s.pc) (distance_between (w.entry s.pc + call_at l.land) l.check) ++ rest) → GoesTo w u 0 (1 + 2 * entry_steps l.land + check_steps w) (λ n y. Entered s rest s.pc n y)
   enter_law u s rest st held low r =
       let a = s.pc in
       let t = ticked_of l.every w u a held in
-      let first = ins Addi 15 15 0 (pos (l.most a)) in
-      let near = subst (λ p. p + 8 ≤ 2 ^ 63) st.pc (w.low u.pc first r.0) in
-      let grain = subst (λ p. p % 4 ≡ 0) st.pc (w.grain u.pc first r.0) in
-      let entry : IsEntryOf w a = record { low = low; entry_low = omega (arith, near); grain = grain } in
+      let entry = is_entry l.land a rest low (subst (λ p. Reads w.form.far w.code w.entry p (enter l.land a (l.most a) (distance_between (w.entry a + call_at l.land) l.check) ++ rest)) st.pc r) in
       let e : Enters u s rest a = record { over = st.over; halved = st.halved; reads = r; low = low; ticked = t; begins = st.pc } in
       let small : l.most a ≤ 2048 = fewer (l.most a) l.every (x.ticks a st.leads) x.few in
       ⊎_elim
@@ -180,7 +242,7 @@ module _ (w : World) (l : Lean) (leader : ℕ → Bool) (x : LeanIn w l leader) 
         fewer : (m n : ℕ) → m < n → n ≤ 2048 → m ≤ 2048
         fewer m n h k = omega (arith, h, k)
 
-        two : (n : ℕ) → n ≤ 2 → n ≤ 5 + check_steps w
+        two : (n : ℕ) → n ≤ entry_steps l.land → n ≤ 1 + 2 * entry_steps l.land + check_steps w
         two n h = omega (arith, h)
 
   -- ---- pieces

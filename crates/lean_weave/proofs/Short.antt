@@ -11,7 +11,7 @@ use Rattle.qed_model.specs.declared.options.Entries.TheVariants as entries
 use Rattle.qed_model.specs.Admission.Leaders.{Even, IsLeader}
 use Rattle.qed_model.specs.Members.{Among}
 use Rattle.qed_model.specs.Weave.Blocks.{StopsAt, IsLeaderBlock, begins_at, AreBlocks}
-use Rattle.qed_model.specs.Weave.Bounds.{cost_of}
+use Rattle.qed_model.specs.Weave.Bounds.{cost_of, entry_steps}
 use Rattle.qed_model.specs.Weave.Places.{AreSoundOptions}
 use Rattle.qed_model.specs.Weave.Sequences.{Block, End, Falls, Stops, body_length}
 use Rattle.qed_model.specs.Weave.LeanCode.{block_steps}
@@ -36,8 +36,8 @@ multiple n a some grain =
 
 module _ (f : ElfFile) (o : Options) (every : ℕ) (sound : AreSoundOptions o) (lean : o.lean ≡ Some every) where
   -- ---- the options
-  is_sound : (o.entries ≡ entries.Reached) × (every ≤ 2048) × (21 + cost_of o.diverse * o.inst_max < every)
-  is_sound = subst (λ x. IfSome x (λ n. (o.entries ≡ entries.Reached) × (n ≤ 2048) × (21 + cost_of o.diverse * o.inst_max < n))) lean sound.lean
+  is_sound : (o.entries ≡ entries.Reached) × (every ≤ 2048) × (entry_steps o.land + 19 + cost_of o.diverse * o.inst_max < every)
+  is_sound = subst (λ x. IfSome x (λ n. (o.entries ≡ entries.Reached) × (n ≤ 2048) × (entry_steps o.land + 19 + cost_of o.diverse * o.inst_max < n))) lean sound.lean
 
   pub only_reached : o.entries ≡ entries.Reached
   only_reached = is_sound.0
@@ -64,7 +64,7 @@ module _ (f : ElfFile) (o : Options) (every : ℕ) (sound : AreSoundOptions o) (
         l.inside k (omega (arith, below)) inside leads
 
   -- its tick counts fewer steps
-  few_of : (leader : ℕ → Bool) (b : Block) (l : IsLeaderBlock f o b) → b.start % 4 ≡ 0 → block_steps o.diverse leader b < every
+  few_of : (leader : ℕ → Bool) (b : Block) (l : IsLeaderBlock f o b) → b.start % 4 ≡ 0 → block_steps o.diverse o.land leader b < every
   few_of leader b l grain =
       let n = length_is f o some_most b l in
       let few = few_instructions b l grain in
@@ -78,5 +78,5 @@ module _ (f : ElfFile) (o : Options) (every : ℕ) (sound : AreSoundOptions o) (
         ends_in (Stops i) s = s.1
 
   -- ---- all blocks
-  pub short : (blocks : List Block) → AreBlocks f o blocks → ((a : ℕ) → begins_at blocks a ≡ true → a % 4 ≡ 0) → (b : Block) → Among b blocks → block_steps o.diverse (begins_at blocks) b < every
+  pub short : (blocks : List Block) → AreBlocks f o blocks → ((a : ℕ) → begins_at blocks a ≡ true → a % 4 ≡ 0) → (b : Block) → Among b blocks → block_steps o.diverse o.land (begins_at blocks) b < every
   short blocks are grain b m = few_of (begins_at blocks) b (leading f o some_most blocks are only_reached grain b m) (grain b.start (begins blocks b m))

@@ -22,7 +22,7 @@ use Rattle.qed_model.specs.Weave.Placed.{sum_of_sizes, rows_from, entry_of, inst
 use Rattle.qed_model.specs.Weave.Places.{image_of, half_of, code_place}
 use Rattle.qed_model.specs.Weave.Sequences.{Form, End, Falls, Stops, Reads, Block, body_length, stub, original, each_part, before_end}
 use Rattle.qed_model.specs.Weave.Forms.{form_of, mirror_of}
-use Rattle.qed_model.specs.Weave.Lean.{check, begin, leave}
+use Rattle.qed_model.specs.Weave.Lean.{call_at, check, begin, leave}
 use Rattle.qed_model.specs.Weave.LeanCode.{lean_of, lean_items, items_with, start_at, steps_at, Lean, worded, fall_words}
 use Rattle.qed_model.specs.Weave.LeanBounds.{lean_bounds}
 use Rattle.qed_model.proofs.Fetches.{known_instruction}
@@ -34,14 +34,16 @@ use Rattle.weave_core.proofs.Entries.{reads_front}
 use Rattle.weave_core.proofs.FileBlocks.{place_low}
 use Rattle.weave_core.proofs.FileOfItems.{AreItems}
 use Rattle.weave_core.proofs.FilesFit.{loaded_ranges}
-use Rattle.weave_core.proofs.Marks.{Ascend, code_distinct, entry_or_stub}
+use Rattle.weave_core.proofs.Marks.{Ascend, code_distinct, rows_are, entry_or_stub}
 use Rattle.weave_core.proofs.PlacingForm.{length-instructions, mark_behind, rows_behind}
 use Rattle.lockstep.proofs.Closing.{only_inside}
-use Rattle.lean_weave.specs.Tests.{IsLeanTest, LeanTestsKept, LeanTestsCaught, LeanTestsFaults, LeanTestsClean, AreLeanBlocks, LeanTestsHaveWords, LeanTestsWritable}
+use Rattle.lean_weave.specs.Tests.{IsLeanTest, LeanTestsKept, LeanTestsCaught, LeanTestsFaults, LeanTestsLanded, LeanTestsClean, AreLeanBlocks, LeanTestsHaveWords, LeanTestsWritable}
 use Rattle.lean_weave.specs.Woven.{LeanIn, LeanPlan, weave_of}
+use Rattle.lean_weave.proofs.Costs.{call_fits}
 use Rattle.lean_weave.proofs.Ways.{reads_behind}
 use Rattle.lean_weave.proofs.Blocks.{begun, begins, length_is, leading, starts, steps, counted, in_order, all_good}
 use Rattle.lean_weave.proofs.Short.{only_reached, few_steps, short}
+use Rattle.lean_weave.proofs.Landed.{lean_landed}
 use Rattle.lean_weave.proofs.Promise.{lean_kept, lean_caught, lean_faults, lean_clean}
 use Rattle.lean_weave.proofs.Unmarked.{unmarked_worded, entry_same, same_code, code_size}
 use Rattle.std.specs.List.{list_all}
@@ -51,10 +53,11 @@ use Rattle.rv_isa.specs.declared.kind.Kind.TheVariants.{Illegal, Jal}
 use Rattle.qed_model.specs.declared.item.Item.TheVariants.{Go}
 use Rattle.qed_model.specs.Admission.DataRanges.{data_ranges}
 use Rattle.qed_model.specs.Machine.Table.{ins}
+use Rattle.qed_model.specs.Promise.Landed.{IsEntry}
 use Rattle.qed_model.proofs.Nearby.{is_near, IsNearCode, near_jump, near_words}
 use Rattle.qed_model.proofs.Reach.{has_word}
 use Rattle.weave_core.proofs.TestWords.{down, up, both_all, if_all, near, AllPieces, IsKnownBlock, InImage}
-use Rattle.lean_weave.proofs.Near.{check_near, begin_near, tick_near, leave_near, before_near}
+use Rattle.lean_weave.proofs.Near.{check_near, begin_near, enter_near, leave_near, before_near}
 use Rattle.weave_core.proofs.FileOfItems as of
 use Rattle.weave_core.proofs.FilesFit.{admitted_image}
 use Rattle.weave_core.proofs.TestKnown as there
@@ -112,7 +115,7 @@ module _ (f : ElfFile) (o : Options) (every : ℕ) (blocks : List Block) (t : Ar
 
   -- ---- where the entries are
   abbrev first : List Item
-  first = begin d f.entry ++ check base every form.round form.spans
+  first = begin d f.entry ++ check base (call_at o.land) every form.round form.spans
 
   no_first : NoMarks first
   no_first = (unmarked_worded form base (λ a. 0) l (begins_at blocks)).first d f.entry
@@ -135,7 +138,7 @@ module _ (f : ElfFile) (o : Options) (every : ℕ) (blocks : List Block) (t : Ar
   -- ---- the words, where there are no more bytes
   module _ (size : sum_of_sizes false (lean_items f o every blocks) ≤ 1_048_576) where
     -- so the check is in reach of each tick
-    calls : (m : ℕ) → begins_at blocks m ≡ true → has_word (ins Jal 0 0 0 (distance_between (placed_at m + 8) l.check)) ≡ true
+    calls : (m : ℕ) → begins_at blocks m ≡ true → has_word (ins Jal 0 0 0 (distance_between (placed_at m + call_at o.land) l.check)) ≡ true
     calls m h =
         let e = inside m h in
         let low = e.low in
@@ -145,12 +148,13 @@ module _ (f : ElfFile) (o : Options) (every : ℕ) (blocks : List Block) (t : Ar
         let c = code_grain in
         let whole = code_size form base l (begins_at blocks) (λ a. 0) placed_at d f.entry blocks in
         let joined = size-append false first rest in
-        let parts = size-append false (begin d f.entry) (check base every form.round form.spans) in
+        let parts = size-append false (begin d f.entry) (check base (call_at o.land) every form.round form.spans) in
         let some : 4 ≤ sum_of_sizes false rest = let z = size-append false (entries_of (s (λ a. 0)) blocks) stub in omega (arith, z) in
         let long : sum_of_sizes false (begin d f.entry) ≡ 124 = refl in
-        let from : placed_at m + 8 ≤ l.check + (sum_of_sizes false (first ++ rest) - 116) = omega (arith, high, joined, some, long, parts) in
-        near_jump (placed_at m + 8) l.check l.check (sum_of_sizes false (first ++ rest) - 116) (omega (arith, low, parts)) from (omega arith) (omega arith)
-        (omega (arith, top, whole, size, long)) (omega (arith, whole, size)) (omega (arith, g)) (omega (arith, c, k))
+        let call = call_fits o.land in
+        let from : placed_at m + call_at o.land ≤ l.check + (sum_of_sizes false (first ++ rest) - 92) = omega (arith, high, joined, some, long, parts, call.0) in
+        near_jump (placed_at m + call_at o.land) l.check l.check (sum_of_sizes false (first ++ rest) - 92) (omega (arith, low, parts)) from (omega arith) (omega arith)
+        (omega (arith, top, whole, size, long)) (omega (arith, whole, size)) (omega (arith, g, call.1)) (omega (arith, c, k))
 
     -- ---- the blocks
     fall_near : (a : ℕ) → list_all near_code (fall_words (begins_at blocks) a) ≡ true
@@ -168,10 +172,10 @@ module _ (f : ElfFile) (o : Options) (every : ℕ) (blocks : List Block) (t : Ar
         let n = b.start + 4 * body_length b.body in
         let a = start_at blocks b.end (b.start + 4 * body_length b.body) in
         let own : start_at blocks b.end (b.start + 4 * body_length b.body) ≡ b.start = starts f o some_most blocks t.are reached_only grain (of.ascend f o t.sound t.file.loads t.admitted blocks t.are) b m in
-        let counts = steps f o some_most blocks t.are reached_only grain (of.ascend f o t.sound t.file.loads t.admitted blocks t.are) o.diverse (begins_at blocks) b m in
+        let counts = steps f o some_most blocks t.are reached_only grain (of.ascend f o t.sound t.file.loads t.admitted blocks t.are) o.diverse o.land (begins_at blocks) b m in
         let less = short f o every t.sound t.lean blocks t.are grain b m in
         let few = few_steps f o every t.sound t.lean in
-        both_all near_code ((s placed_at).enter b.start) (body_of (s placed_at) b.body b.end b.start) (tick_near at base d refl top bounds.1 (l.most b.start) (distance_between (placed_at b.start + 8) l.check) (omega (arith, counts, less, few)) (calls b.start (begins blocks b m)))
+        both_all near_code ((s placed_at).enter b.start) (body_of (s placed_at) b.body b.end b.start) (enter_near at base d refl top bounds.1 o.land b.start (l.most b.start) (distance_between (placed_at b.start + call_at o.land) l.check) k.0 k.1 (omega (arith, counts, less, few)) (calls b.start (begins blocks b m)))
         (both_all near_code (pieces_of (s placed_at) b.body b.start) (leave (before_end form) (fall_words (begins_at blocks)) b.end a n) (pieces_near b.body b.start k.2)
         (leave_near at base d refl top bounds.1 (before_end form) (fall_words (begins_at blocks)) (before_near at base d refl top bounds.1 form spans) fall_near a (let low = k.0 in omega (arith, own, low)) (let high = k.1 in omega (arith, own, high)) b.end n k.3))
 
@@ -193,7 +197,7 @@ module _ (f : ElfFile) (o : Options) (every : ℕ) (blocks : List Block) (t : Ar
         let b = there.in_bounds f o t.sound t.file.loads t.admitted blocks t.are f.entry t.admitted.entry in
         let high = b.1 in
         both_all near_code first (entries_of (s placed_at) blocks ++ stub)
-        (both_all near_code (begin d f.entry) (check base every form.round form.spans) (begin_near at base d refl top bounds.1 f.entry bounds.0 b.0 (omega (arith, high))) (check_near at base d refl top bounds.1 every form.round form.spans spans (few_steps f o every t.sound t.lean)))
+        (both_all near_code (begin d f.entry) (check base (call_at o.land) every form.round form.spans) (begin_near at base d refl top bounds.1 f.entry bounds.0 b.0 (omega (arith, high))) (check_near at base d refl top bounds.1 o.land every form.round form.spans spans (few_steps f o every t.sound t.lean)))
         (both_all near_code (entries_of (s placed_at) blocks) stub (entries_near blocks (λ b m. m) (there.blocks_there f o t.sound t.file.loads t.admitted blocks t.are blocks t.are.each)) (words.stub_near at base d refl top bounds.1))
 
     have_words : (ws : List ℕ) × IsLeanTest f o every blocks ws
@@ -269,9 +273,9 @@ module _ (f : ElfFile) (o : Options) (every : ℕ) (blocks : List Block) (t : Ar
       ticks : (a : ℕ) → begins_at blocks a ≡ true → l.most a < every
       ticks a e =
           let b = begun blocks a e in
-          let is = steps f o some_most blocks t.are reached_only grain ascend o.diverse (begins_at blocks) b.0 b.1 in
+          let is = steps f o some_most blocks t.are reached_only grain ascend o.diverse o.land (begins_at blocks) b.0 b.1 in
           let less = short f o every t.sound t.lean blocks t.are grain b.0 b.1 in
-          let here : steps_at o.diverse (begins_at blocks) blocks a ≡ steps_at o.diverse (begins_at blocks) blocks b.0.start = ap (steps_at o.diverse (begins_at blocks) blocks) (sym b.2) in
+          let here : steps_at o.diverse o.land (begins_at blocks) blocks a ≡ steps_at o.diverse o.land (begins_at blocks) blocks b.0.start = ap (steps_at o.diverse o.land (begins_at blocks) blocks) (sym b.2) in
           omega (arith, is, less, here)
 
       begins_entry : begins_at blocks f.entry ≡ true
@@ -290,11 +294,11 @@ module _ (f : ElfFile) (o : Options) (every : ℕ) (blocks : List Block) (t : Ar
         table = λ a e. of.table_at f o t.sound t.file.loads t.admitted blocks t.are false true items words are_items reached aims refl a e;
         within = λ a e. let b = of.block_bounds f o t.sound t.file.loads t.admitted blocks t.are a e in let h = of.half_small (image_of f) o.half t.admitted.span t.sound.half in omega (arith, b.1, h);
       } where
-        check_reads : Reads false w.code w.entry l.check (check base every form.round form.spans)
+        check_reads : Reads false w.code w.entry l.check (check base (call_at o.land) every form.round form.spans)
         check_reads =
             let rest = entries_of (s w.entry) blocks ++ stub in
-            let whole : Reads false w.code w.entry at (begin d f.entry ++ (check base every form.round form.spans ++ rest)) = subst (λ k. Reads false w.code w.entry at k) (append_assoc (begin d f.entry) (check base every form.round form.spans) rest) reads in
-            reads_front false w.code w.entry l.check (check base every form.round form.spans) rest (reads_behind false w.code w.entry at (begin d f.entry) (check base every form.round form.spans ++ rest) whole)
+            let whole : Reads false w.code w.entry at (begin d f.entry ++ (check base (call_at o.land) every form.round form.spans ++ rest)) = subst (λ k. Reads false w.code w.entry at k) (append_assoc (begin d f.entry) (check base (call_at o.land) every form.round form.spans) rest) reads in
+            reads_front false w.code w.entry l.check (check base (call_at o.land) every form.round form.spans) rest (reads_behind false w.code w.entry at (begin d f.entry) (check base (call_at o.land) every form.round form.spans ++ rest) whole)
 
       -- where the stub stands
       abbrev before_stub : List Item
@@ -344,6 +348,12 @@ module _ (f : ElfFile) (o : Options) (every : ℕ) (blocks : List Block) (t : Ar
               stands a [] q h = omega (arith, h)
               stands a (i ∷ is) q h = let p = place_low f (of.known f o t.sound t.file.loads t.admitted blocks t.are) a i q.0 in let r = stands (a + 4) is q.2 p in omega (arith, r)
 
+      -- its rows are the entries of the blocks
+      entries_known : (a e : ℕ) → IsEntry (rows_from false at items) a e → (begins_at blocks a ≡ true) × (e ≡ w.entry a)
+      entries_known a e h =
+          rows_are (s w.entry) (unmarked_worded form base w.entry l (begins_at blocks)) false w.code w.entry output.entry d f.entry blocks reads a e
+          (subst (λ k. IsEntry (rows_from false at k) a e) same_items h)
+
 -- ---- the laws
 pub tests_kept : LeanTestsKept
 tests_kept f o every blocks words t reached aims = lean_kept (input f o every blocks t.cut words t) (output f o every blocks t.cut words t) (w f o every blocks t.cut words t reached aims) (lean_of f o every blocks) blocks (plan f o every blocks t.cut words t reached aims)
@@ -355,6 +365,12 @@ tests_caught f o every blocks words t reached aims =
 pub tests_faults : LeanTestsFaults
 tests_faults f o every blocks words t reached aims =
     lean_faults (input f o every blocks t.cut words t) (output f o every blocks t.cut words t) (w f o every blocks t.cut words t reached aims) (lean_of f o every blocks) blocks (lean_bounds f o every) (plan f o every blocks t.cut words t reached aims) t.cut.sound.visits (record { register = refl; word = refl })
+
+pub tests_landed : LeanTestsLanded
+tests_landed f o every blocks words t land reached aims =
+    let world = w f o every blocks t.cut words t reached aims in
+    lean_landed (input f o every blocks t.cut words t) (output f o every blocks t.cut words t) world (lean_of f o every blocks) blocks (rows_from false (code_place o.half (image_of f)) (lean_items f o every blocks)) (plan f o every blocks t.cut words t reached aims) land
+    (entries_known f o every blocks t.cut words t reached aims)
 
 pub tests_clean : LeanTestsClean
 tests_clean f o every blocks words t swept reached aims =

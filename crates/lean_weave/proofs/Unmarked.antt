@@ -1,5 +1,5 @@
 -- No sequence of the lean form has a mark, and its entries stand where they do whatever distances its ticks take.
-use Rattle.std.proofs.Common.{◌≡◌, ℕ, ◌+◌, ◌-◌, ◌*◌, ◌%◌, ◌^◌, Bool, false, List, [], ◌∷◌, ◌++◌, length, refl, sym, ap, ◌∙◌}
+use Rattle.std.proofs.Common.{◌≡◌, ℕ, ◌+◌, ◌-◌, ◌*◌, ◌%◌, ◌^◌, Bool, true, false, cond, List, [], ◌∷◌, ◌++◌, length, refl, sym, ap, ◌∙◌}
 use Rattle.std.specs.Prelude.{◌==◌, ℤ, pos, neg_ℤ, unwrap_or}
 use Rattle.std.proofs.lemmas.List.{append_assoc}
 use Rattle.rv_isa.specs.declared.ins.Ins.{Ins}
@@ -15,7 +15,7 @@ use Rattle.qed_model.specs.Weave.Code.{Sequences, NoMarks, AreUnmarked, pieces_o
 use Rattle.qed_model.specs.Weave.Placed.{distance_between, sum_of_sizes, rows_from, entry_of, entry_at}
 use Rattle.qed_model.specs.Weave.Sequences.{Form, End, Falls, Stops, Block, body_length, guard, guards_of, original, each_part, compare, visit, sweep, before_end, links, zero_from, stub}
 use Rattle.qed_model.specs.Weave.Forms.{mirror_of}
-use Rattle.qed_model.specs.Weave.Lean.{is_short, turn_by, turn, look_up, first_word, done, check, goes, leave, leave_as, begin}
+use Rattle.qed_model.specs.Weave.Lean.{is_short, turn_by, turn, look_up, first_word, done, check, call_at, check_sign, tick, enter, goes, leave, leave_as, begin}
 use Rattle.qed_model.specs.Weave.LeanCode.{Lean, worded, fall_words}
 use Rattle.qed_model.proofs.PlacedWords.{size-append}
 use Rattle.weave_core.proofs.FormMirrors.{unmarked_of}
@@ -37,8 +37,8 @@ unmarked_fall leader t = unmarked_cond (leader t) [] (Go t ∷ []) tt tt
 unmarked_before : (form : Form) → NoMarks (before_end form)
 unmarked_before form = unmarked_cond form.sweep (sweep form.spans ++ compare) [] (unmarked_append (sweep form.spans) compare (unmarked_sweep form.spans) tt) tt
 
-unmarked_check : (base every round : ℕ) (spans : List (ℕ × ℕ)) → NoMarks (check base every round spans)
-unmarked_check base every round spans = unmarked_append (visit round spans) (done (first_word base spans) every ++ look_up) (unmarked_visit round spans) tt
+unmarked_check : (base call every round : ℕ) (spans : List (ℕ × ℕ)) → NoMarks (check base call every round spans)
+unmarked_check base call every round spans = unmarked_append (visit round spans) (done (first_word base spans) every ++ look_up) (unmarked_visit round spans) tt
 
 unmarked_begin : (d a : ℕ) → NoMarks (begin d a)
 unmarked_begin d a =
@@ -63,8 +63,8 @@ module _ (before : List Item) (fall : ℕ → List Item) (no_before : NoMarks be
 
 pub unmarked_worded : (form : Form) (base : ℕ) (entry : ℕ → ℕ) (l : Lean) (leader : ℕ → Bool) → AreUnmarked (worded form base entry l leader)
 unmarked_worded form base entry l leader = record {
-  first = λ d a. unmarked_append (begin d a) (check base l.every form.round form.spans) (unmarked_begin d a) (unmarked_check base l.every form.round form.spans);
-  enter = λ a. tt;
+  first = λ d a. unmarked_append (begin d a) (check base (call_at l.land) l.every form.round form.spans) (unmarked_begin d a) (unmarked_check base (call_at l.land) l.every form.round form.spans);
+  enter = λ a. unmarked_append (cond l.land (check_sign a) []) (tick (l.most a) (distance_between (entry a + call_at l.land) l.check)) (unmarked_cond l.land (check_sign a) [] tt tt) tt;
   piece = λ is at. unmarked_append (each_part original is at) (each_part (mirror_of l.diverse) is at) (unmarked_each original unmarked_original is at) (unmarked_each (mirror_of l.diverse) (unmarked_of l.diverse) is at);
   leave = λ e at. unmarked_leave (before_end form) (fall_words leader) (unmarked_before form) (unmarked_fall leader) e (l.start_of e at) at;
 }
@@ -86,7 +86,10 @@ module _ (form : Form) (base : ℕ) (l : Lean) (leader : ℕ → Bool) (x y : �
   behind entry b = (s entry).enter b.start ++ body_of (s entry) b.body b.end b.start
 
   behind_size : (b : Block) → sum_of_sizes false (behind x b) ≡ sum_of_sizes false (behind y b)
-  behind_size b = ap (λ k. 4 + (4 + (4 + (4 + sum_of_sizes false k)))) (body_same b)
+  behind_size b = by l.land where
+    by : (land : Bool) → sum_of_sizes false (enter land b.start (l.most b.start) (distance_between (x b.start + call_at land) l.check) ++ body_of (s x) b.body b.end b.start) ≡ sum_of_sizes false (enter land b.start (l.most b.start) (distance_between (y b.start + call_at land) l.check) ++ body_of (s y) b.body b.end b.start)
+    by true = ap (λ k. 8 + (4 + (4 + (4 + (4 + (4 + (4 + (4 + (4 + sum_of_sizes false k))))))))) (body_same b)
+    by false = ap (λ k. 4 + (4 + (4 + (4 + sum_of_sizes false k)))) (body_same b)
 
   block_size : (b : Block) → sum_of_sizes false (block_items (s x) b) ≡ sum_of_sizes false (block_items (s y) b)
   block_size b = ap (λ n. 0 + n) (behind_size b)
@@ -102,7 +105,8 @@ module _ (form : Form) (base : ℕ) (l : Lean) (leader : ℕ → Bool) (x y : �
   no_marks : (entry : ℕ → ℕ) (b : Block) → NoMarks (behind entry b)
   no_marks entry b =
       let u = unmarked_worded form base entry l leader in
-      unmarked_append (pieces_of (s entry) b.body b.start) ((s entry).leave b.end (b.start + 4 * body_length b.body)) (pieces b.body b.start) (u.leave b.end (b.start + 4 * body_length b.body)) where
+      unmarked_append ((s entry).enter b.start) (body_of (s entry) b.body b.end b.start) (u.enter b.start)
+      (unmarked_append (pieces_of (s entry) b.body b.start) ((s entry).leave b.end (b.start + 4 * body_length b.body)) (pieces b.body b.start) (u.leave b.end (b.start + 4 * body_length b.body))) where
         pieces : (ps : List (List Ins)) (at : ℕ) → NoMarks (pieces_of (s entry) ps at)
         pieces [] at = tt
         pieces (p ∷ ps) at = unmarked_append ((s entry).piece p at) (pieces_of (s entry) ps (at + 4 * length p)) ((unmarked_worded form base entry l leader).piece p at) (pieces ps (at + 4 * length p))

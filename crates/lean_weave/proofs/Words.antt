@@ -11,7 +11,7 @@ use Rattle.qed_model.specs.declared.item.Item.{Item}
 use Rattle.qed_model.specs.declared.item.Item.TheVariants.{Plain, Constant, Go}
 use Rattle.qed_model.specs.Weave.Placed.{distance_between, upper_part, lower_part, go_words, go_size, sum_of_sizes, instructions_from}
 use Rattle.qed_model.specs.Weave.Sequences.{Form, End, Falls, Stops, compare, visit, guard, guards_of, links, fired_check, zero_from, sweep, before_end}
-use Rattle.qed_model.specs.Weave.Lean.{tick, is_short, turn_by, turn, look_up, first_word, parted, called, begun, done, check, goes, check_sign, opposite, leave, leave_as, begin}
+use Rattle.qed_model.specs.Weave.Lean.{tick, enter, is_short, turn_by, turn, look_up, first_word, parted, called, begun, done, check, goes, check_sign, opposite, leave, leave_as, begin}
 use Rattle.weave_core.specs.KindItems.{LockItems, LandItems, LandsAs, Straight, GoodEnd, end_branches, end_jumps, end_jumps_reg, end_ends, end_illegal}
 use Rattle.weave_core.specs.Lock.{Scratch, Opens}
 use Rattle.weave_core.specs.Kinds.{Lockstep}
@@ -60,6 +60,27 @@ module _ (far : Bool) where
       (items_one far (ins Jal 31 0 0 d) (fired_check ∷ []) (a_jump (ins Jal 31 0 0 d) refl) (items_one far brk [] a_break (items_none far))))
 
   -- ---- the signature
+  pub sign_items : (a : ℕ) (ys : List Item) → LockItems far ys → LockItems far (check_sign a ++ ys)
+  sign_items a ys y =
+      let b = ins Sub 31 16 30 (pos 0) in
+      let d = ins Slli 31 31 0 (pos 32) in
+      let f = ins Beq 0 31 0 (pos 8) in
+      items_constant far 30 a (Plain b ∷ Plain d ∷ Plain f ∷ fired_check ∷ ys) (inr (omega arith))
+      (computes b (Plain d ∷ Plain f ∷ fired_check ∷ ys) refl x16 x30
+      (computes d (Plain f ∷ fired_check ∷ ys) refl x31 x0 (compares f ys refl x31 x0 refl y)))
+
+  pub sign_lands : (a : ℕ) (ys : List Item) → LockItems far ys → LandItems far ys → LandItems far (check_sign a ++ ys)
+  sign_lands a ys y h =
+      let front = Constant 30 a ∷ Plain (ins Sub 31 16 30 (pos 0)) ∷ Plain (ins Slli 31 31 0 (pos 32)) ∷ [] in
+      let check = Plain (ins Beq 0 31 0 (pos 8)) ∷ fired_check ∷ [] in
+      let both : LandItems far (Plain (ins Beq 0 31 0 (pos 8)) ∷ fired_check ∷ ys) = land_then far check ys (land_check far (ins Beq 0 31 0 (pos 8)) refl refl) y h in
+      land_behind far front (check ++ ys) (straight_constant far 30 a (Plain (ins Sub 31 16 30 (pos 0)) ∷ Plain (ins Slli 31 31 0 (pos 32)) ∷ []) (λ c e a. (tt, (tt, tt)))) both
+
+  -- the entry: with the test of the signature, or without
+  pub enter_items : (land : Bool) (a most : ℕ) (d : ℤ) → LockItems far (enter land a most d)
+  enter_items true a most d = sign_items a (tick most d) (tick_items most d)
+  enter_items false a most d = tick_items most d
+
   turn_by_items : (d : ℤ) → LockItems far (turn_by d)
   turn_by_items d = by (is_short d) where
     by : (b : Bool) → LockItems far (cond b (Plain (ins Addi 16 16 0 d) ∷ []) (Plain (ins Lui 30 0 0 (upper_part d)) ∷ Plain (ins Addi 30 30 0 (lower_part d)) ∷ Plain (ins Add 16 16 30 (pos 0)) ∷ []))
@@ -126,13 +147,13 @@ module _ (far : Bool) where
       (Plain (ins Sub 15 16 30 (pos 0)) ∷ Plain (ins Slli 15 15 0 (pos 32)) ∷ Plain (ins Srli 15 15 0 (pos 32)) ∷ Plain (ins Add 15 15 30 (pos 0)) ∷ Plain (ins Sub 16 16 15 (pos 0)) ∷ Plain (ins Srli 16 16 0 (pos 32)) ∷ [])
       (λ c e a. (tt, (tt, (tt, (tt, (tt, (tt, tt)))))))
 
-  called_items : LockItems far called
-  called_items =
+  called_items : (call : ℕ) → LockItems far (called call)
+  called_items call =
       let a = ins Add 30 15 14 (pos 0) in
       let b = ins Add 30 30 14 (pos 0) in
       let c = ins Sub 31 31 30 (pos 0) in
       let d = ins Lw 30 30 0 (pos 0) in
-      let e = ins Addi 30 30 0 (pos 12) in
+      let e = ins Addi 30 30 0 (pos (call + 4)) in
       let f = ins Beq 0 30 31 (pos 8) in
       computes a (Plain b ∷ Plain c ∷ Plain d ∷ Plain e ∷ Plain f ∷ fired_check ∷ []) refl x15 x14
       (computes b (Plain c ∷ Plain d ∷ Plain e ∷ Plain f ∷ fired_check ∷ []) refl x30 x14
@@ -140,9 +161,9 @@ module _ (far : Bool) where
       (items_one far d (Plain e ∷ Plain f ∷ fired_check ∷ []) (scratch_load d refl (omega arith) refl)
       (computes e (Plain f ∷ fired_check ∷ []) refl x30 x0 (compares f [] refl x30 x31 refl (items_none far))))))
 
-  called_lands : LandItems far called
-  called_lands =
-      let front = Plain (ins Add 30 15 14 (pos 0)) ∷ Plain (ins Add 30 30 14 (pos 0)) ∷ Plain (ins Sub 31 31 30 (pos 0)) ∷ Plain (ins Lw 30 30 0 (pos 0)) ∷ Plain (ins Addi 30 30 0 (pos 12)) ∷ [] in
+  called_lands : (call : ℕ) → LandItems far (called call)
+  called_lands call =
+      let front = Plain (ins Add 30 15 14 (pos 0)) ∷ Plain (ins Add 30 30 14 (pos 0)) ∷ Plain (ins Sub 31 31 30 (pos 0)) ∷ Plain (ins Lw 30 30 0 (pos 0)) ∷ Plain (ins Addi 30 30 0 (pos (call + 4))) ∷ [] in
       land_behind far front (Plain (ins Beq 0 30 31 (pos 8)) ∷ fired_check ∷ []) (λ c e a. (tt, (tt, (tt, (tt, (tt, tt)))))) (land_check far (ins Beq 0 30 31 (pos 8)) refl refl)
 
   begun_items : (first : ℕ) → LockItems far (begun first)
@@ -194,36 +215,20 @@ module _ (far : Bool) where
       items_then far compare (begun first ++ visits_of first every round spans) (compare_items far)
       (items_then far (begun first) (visits_of first every round spans) (begun_items first) (items_then far (visit round spans) (end_of first every) (visits_items far round spans) (end_items first every)))
 
-  pub check_items : (base every round : ℕ) (spans : List (ℕ × ℕ)) → LockItems far (check base every round spans)
-  check_items base every round spans =
+  pub check_items : (base call every round : ℕ) (spans : List (ℕ × ℕ)) → LockItems far (check base call every round spans)
+  check_items base call every round spans =
       let first = first_word base spans in
-      items_then far (parted base) (called ++ compares_of (first_word base spans) every round spans) (parted_items base) (items_then far called (compares_of (first_word base spans) every round spans) called_items (compares_items first every round spans))
+      items_then far (parted base) (called call ++ compares_of (first_word base spans) every round spans) (parted_items base) (items_then far (called call) (compares_of (first_word base spans) every round spans) (called_items call) (compares_items first every round spans))
 
-  pub check_lands : (base every round : ℕ) (spans : List (ℕ × ℕ)) → LandItems far (check base every round spans)
-  check_lands base every round spans =
+  pub check_lands : (base call every round : ℕ) (spans : List (ℕ × ℕ)) → LandItems far (check base call every round spans)
+  check_lands base call every round spans =
       let first = first_word base spans in
       let last : Straight far (end_of (first_word base spans) every) = straight_then far (done first every) look_up (straight_done first every) straight_look in
       let visits : LandItems far (visits_of (first_word base spans) every round spans) = land_then far (visit round spans) (end_of first every) (land_visits far round spans) (end_items first every) (straight_lands far (end_of first every) last) in
       let from : LandItems far (compares_of (first_word base spans) every round spans) = land_behind far compare (begun first ++ visits_of first every round spans) (straight_compare far) (land_behind far (begun first) (visits_of first every round spans) (straight_begun first) visits) in
-      land_behind far (parted base) (called ++ compares_of first every round spans) (straight_parted base) (land_then far called (compares_of first every round spans) called_lands (compares_items first every round spans) from)
+      land_behind far (parted base) (called call ++ compares_of first every round spans) (straight_parted base) (land_then far (called call) (compares_of first every round spans) (called_lands call) (compares_items first every round spans) from)
 
   -- ---- leaves
-  sign_items : (a : ℕ) (ys : List Item) → LockItems far ys → LockItems far (check_sign a ++ ys)
-  sign_items a ys y =
-      let b = ins Sub 31 16 30 (pos 0) in
-      let d = ins Slli 31 31 0 (pos 32) in
-      let f = ins Beq 0 31 0 (pos 8) in
-      items_constant far 30 a (Plain b ∷ Plain d ∷ Plain f ∷ fired_check ∷ ys) (inr (omega arith))
-      (computes b (Plain d ∷ Plain f ∷ fired_check ∷ ys) refl x16 x30
-      (computes d (Plain f ∷ fired_check ∷ ys) refl x31 x0 (compares f ys refl x31 x0 refl y)))
-
-  sign_lands : (a : ℕ) (ys : List Item) → LockItems far ys → LandItems far ys → LandItems far (check_sign a ++ ys)
-  sign_lands a ys y h =
-      let front = Constant 30 a ∷ Plain (ins Sub 31 16 30 (pos 0)) ∷ Plain (ins Slli 31 31 0 (pos 32)) ∷ [] in
-      let check = Plain (ins Beq 0 31 0 (pos 8)) ∷ fired_check ∷ [] in
-      let both : LandItems far (Plain (ins Beq 0 31 0 (pos 8)) ∷ fired_check ∷ ys) = land_then far check ys (land_check far (ins Beq 0 31 0 (pos 8)) refl refl) y h in
-      land_behind far front (check ++ ys) (straight_constant far 30 a (Plain (ins Sub 31 16 30 (pos 0)) ∷ Plain (ins Slli 31 31 0 (pos 32)) ∷ []) (λ c e a. (tt, (tt, tt)))) both
-
   -- of a JALR
   leap_items : (fall : ℕ → List Item) (i : Ins) (a at : ℕ) → i.rd ≤ 13 → i.rs1 ≤ 13 → LockItems far (leave_as [] fall class.JumpReg i a at)
   leap_items fall i a at hd h1 =

@@ -17,6 +17,7 @@ use Rattle.qed_model.specs.Machine.Loading.{loaded_file}
 use Rattle.qed_model.specs.Promise.Caught.{Caught}
 use Rattle.qed_model.specs.Promise.Clean.{Clean}
 use Rattle.qed_model.specs.Promise.Kept.{Kept}
+use Rattle.qed_model.specs.Promise.Landed.{Landed}
 use Rattle.qed_model.specs.Weave.Blocks.{AreBlocks}
 use Rattle.qed_model.specs.Weave.OutputFile.{file_of}
 use Rattle.qed_model.specs.Weave.Placed.{Decode, sum_of_sizes, rows_from, placed}
@@ -78,6 +79,12 @@ abbrev pub LeanTestsFaults : Type 0
 LeanTestsFaults =
     (f : ElfFile) (o : Options) (every : ℕ) (blocks : List Block) (words : List ℕ) → IsLeanTest f o every blocks words → (reached : ℕ → Bool) → AreReached f o reached
     → FaultsFound (loaded_file f) (loaded_file (file_read (lean_file f o every blocks words))) reached (data_ranges (image_of f)) (lean_bounds f o every)
+
+-- where entries test the signature, jumps land
+abbrev pub LeanTestsLanded : Type 0
+LeanTestsLanded =
+    (f : ElfFile) (o : Options) (every : ℕ) (blocks : List Block) (words : List ℕ) → IsLeanTest f o every blocks words → o.land ≡ true → (reached : ℕ → Bool) → AreReached f o reached
+    → Landed 6 (loaded_file f) (loaded_file (file_read (lean_file f o every blocks words))) reached (rows_from false (code_place o.half (image_of f)) (lean_items f o every blocks))
 
 -- and with the sweep no change before it is silent at the end
 abbrev pub LeanTestsClean : Type 0

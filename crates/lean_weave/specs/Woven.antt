@@ -4,19 +4,21 @@ use Rattle.rv_isa.specs.declared.ins.Ins.{Ins}
 use Rattle.rv_isa.specs.Kind.{class_of}
 use Rattle.qed_model.specs.Admission.DataRanges.{word_count}
 use Rattle.qed_model.specs.Machine.Step.{Known}
-use Rattle.qed_model.specs.Weave.Bounds.{end_bound, cost_of}
+use Rattle.qed_model.specs.Weave.Bounds.{end_bound, cost_of, entry_steps}
 use Rattle.qed_model.specs.Weave.Pieces.{is_run}
 use Rattle.qed_model.specs.Weave.Placed.{sum_of_sizes}
 use Rattle.qed_model.specs.Weave.Sequences.{Reads, End, Falls, Stops, Block, body_length}
 use Rattle.qed_model.specs.Machine.Program.{Program}
 use Rattle.qed_model.specs.Promise.Kept.{Kept}
+use Rattle.qed_model.specs.Promise.Landed.{IsEntry, Landed}
+use Rattle.qed_model.specs.declared.plan.EntryRow.{EntryRow}
 use Rattle.qed_model.specs.Weave.Blocks.{begins_at}
 use Rattle.qed_model.specs.Weave.Code.{code_of}
 use Rattle.qed_model.specs.Promise.Caught.{Caught}
 use Rattle.qed_model.specs.Promise.Clean.{Clean}
 use Rattle.qed_model.specs.Promise.Closed.{is_branch}
 use Rattle.qed_model.specs.declared.bounds.Bounds.{Bounds}
-use Rattle.qed_model.specs.Weave.Lean.{check, begin}
+use Rattle.qed_model.specs.Weave.Lean.{call_at, check, begin}
 use Rattle.qed_model.specs.Weave.LeanCode.{Lean, fall_to, sequences, worded, block_steps}
 use Rattle.qed_model.specs.Weave.LeanBounds.{check_bound, period, register_bound, word_bound}
 use Rattle.weave_core.specs.Describes.{Describes}
@@ -35,13 +37,13 @@ check_steps w = check_bound (word_count w.form.spans) (length w.form.spans) w.fo
 abbrev pub swept_steps : World → ℕ
 swept_steps w = end_bound w.form.sweep (length w.form.spans) (word_count w.form.spans)
 
--- the weave: a tick may call the check, and then is made once more
+-- the weave: a tick may call the check, and then the entry is made once more
 abbrev pub weave_of : World → Lean → (ℕ → Bool) → Weave
 weave_of w l leader = record {
   code = sequences w.form w.entry l (fall_to leader) begin;
   fits = λ is. is_run is && nat_le (length is) l.inst_max;
   first_steps = 31;
-  enter_steps = 5 + check_steps w;
+  enter_steps = 1 + 2 * entry_steps l.land + check_steps w;
   piece_steps = cost_of l.diverse * l.inst_max;
   compare_steps = 0;
   leave_steps = 19;
@@ -60,7 +62,7 @@ pub record LeanIn (w : World) (l : Lean) (leader : ℕ → Bool) : Type 0 where
   pub small : w.distance ≤ 2 ^ 32
   pub some : 1 ≤ l.every
   pub few : l.every ≤ 2048
-  pub check : Reads w.form.far w.code w.entry l.check (check w.base l.every w.form.round w.form.spans)
+  pub check : Reads w.form.far w.code w.entry l.check (check w.base (call_at l.land) l.every w.form.round w.form.spans)
   pub ticks : (a : ℕ) → leader a ≡ true → l.most a < l.every
   pub codes : (a : ℕ) → leader a ≡ true → (i : Ins) × (w.source a ≡ Known i)
   pub grain : (a : ℕ) → leader a ≡ true → a % 2 ≡ 0
@@ -85,7 +87,7 @@ InOrder leader (b ∷ bs) = ((t : ℕ) → goes_on b.end (b.start + 4 * body_len
 -- the tick of each block counts its steps
 abbrev pub AreCounted : Lean → (ℕ → Bool) → List Block → Type 0
 AreCounted l leader [] = Unit {0}
-AreCounted l leader (b ∷ bs) = (block_steps l.diverse leader b ≤ l.most b.start) × AreCounted l leader bs
+AreCounted l leader (b ∷ bs) = (block_steps l.diverse l.land leader b ≤ l.most b.start) × AreCounted l leader bs
 
 -- the new code of g reads as the code of the blocks, and nothing else is code
 pub record LeanPlan (f g : Program) (w : World) (l : Lean) (blocks : List Block) : Type 0 where
@@ -102,15 +104,21 @@ pub record LeanPlan (f g : Program) (w : World) (l : Lean) (blocks : List Block)
 -- ---- the laws
 -- a plan keeps the values
 abbrev pub LeanKept : Type 0
-LeanKept = (f g : Program) (w : World) (l : Lean) (blocks : List Block) → LeanPlan f g w l blocks → Kept f g w.reached (31 + swept_steps w) (24 + check_steps w + cost_of l.diverse * l.inst_max)
+LeanKept = (f g : Program) (w : World) (l : Lean) (blocks : List Block) → LeanPlan f g w l blocks → Kept f g w.reached (31 + swept_steps w) (20 + 2 * entry_steps l.land + check_steps w + cost_of l.diverse * l.inst_max)
 
 pub record IsBoundsOf (w : World) (l : Lean) (bounds : Bounds) : Type 0 where
-  pub register : bounds.register ≡ register_bound (swept_steps w) (period (check_steps w) l.every)
-  pub word : bounds.word ≡ word_bound (word_count w.form.spans) w.form.round (swept_steps w) (period (check_steps w) l.every)
+  pub register : bounds.register ≡ register_bound l.land (swept_steps w) (period l.land (check_steps w) l.every)
+  pub word : bounds.word ≡ word_bound l.land (word_count w.form.spans) w.form.round (swept_steps w) (period l.land (check_steps w) l.every)
 
 -- in a plan changes are caught
 abbrev pub LeanCaught : Type 0
 LeanCaught = (f g : Program) (w : World) (l : Lean) (blocks : List Block) (bounds : Bounds) → LeanPlan f g w l blocks → 1 ≤ w.form.round → IsBoundsOf w l bounds → Caught f g w.reached w.form.spans bounds
+
+-- where entries test the signature, jumps land
+abbrev pub LeanLanded : Type 0
+LeanLanded =
+    (f g : Program) (w : World) (l : Lean) (blocks : List Block) (entries : List EntryRow) → LeanPlan f g w l blocks → l.land ≡ true
+    → ((a e : ℕ) → IsEntry entries a e → (begins_at blocks a ≡ true) × (e ≡ w.entry a)) → Landed 6 f g w.reached entries
 
 -- and with the sweep no change before it is silent at the end
 abbrev pub LeanClean : Type 0

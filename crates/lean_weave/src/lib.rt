@@ -3,8 +3,8 @@
 //! Definitions and laws alone.
 #![tactic(auto)]
 
-ghost use Rattle.lean_weave.specs.Tests.{LeanTestsHaveWords, LeanTestsWritable, LeanTestsKept, LeanTestsCaught, LeanTestsFaults, LeanTestsClean};
-ghost use Rattle.lean_weave.specs.Woven.{LeanKept, LeanCaught, LeanClean};
+ghost use Rattle.lean_weave.specs.Tests.{LeanTestsHaveWords, LeanTestsWritable, LeanTestsKept, LeanTestsCaught, LeanTestsFaults, LeanTestsLanded, LeanTestsClean};
+ghost use Rattle.lean_weave.specs.Woven.{LeanKept, LeanCaught, LeanLanded, LeanClean};
 
 /// A plan of the form keeps the input's values, with a bound on the steps of the output for each step of the input, and no check
 /// fires without changes.
@@ -15,6 +15,11 @@ pub fn lean_kept()
 /// In a plan of the form changes of original registers and data words at open places are caught within the bounds.
 pub fn lean_caught()
     ensures { LeanCaught }
+{}
+
+/// In a plan of the form whose entries test the signature a jump from one entry to another fires.
+pub fn lean_landed()
+    ensures { LeanLanded }
 {}
 
 /// In a plan of the form with the sweep no change before it is silent at the end.
@@ -45,6 +50,11 @@ pub fn lean_tests_caught()
 /// So is a wrong result of an instruction of the test, as changes behind it.
 pub fn lean_tests_faults()
     ensures { LeanTestsFaults }
+{}
+
+/// Where entries test the signature, a jump from one to another fires.
+pub fn lean_tests_landed()
+    ensures { LeanTestsLanded }
 {}
 
 /// With the sweep no change before it is silent at the end.

@@ -36,7 +36,7 @@ none_passes test (x ∷ xs) e (suc i) = none_passes test xs (neither (test x) (l
 -- ---- options
 -- where none is given, and with the sweep alone
 abbrev pub options : Bool → Options
-options sweep = record { inst_min = 4; inst_max = 16; round = 1; half = None; sweep = sweep; diverse = false; entries = entries.All; lean = None }
+options sweep = record { inst_min = 4; inst_max = 16; round = 1; half = None; sweep = sweep; diverse = false; entries = entries.All; lean = None; land = false }
 
 abbrev pub defaults : Options
 defaults = options false

@@ -1,5 +1,5 @@
 -- The parts of one role hold all items of the lean form.
-use Rattle.std.proofs.Common.{◌≡◌, ℕ, ◌+◌, ◌*◌, ◌%◌, ◌^◌, Bool, false, List, [], ◌∷◌, ◌++◌, length, drop, refl, ap, ◌∙◌}
+use Rattle.std.proofs.Common.{◌≡◌, ℕ, ◌+◌, ◌*◌, ◌%◌, ◌^◌, Bool, false, cond, List, [], ◌∷◌, ◌++◌, length, drop, refl, sym, ap, ◌∙◌, append_assoc}
 use Rattle.std.specs.Prelude.{pos, neg_ℤ}
 use Rattle.std.proofs.lemmas.List.{append-nil}
 use Rattle.rv_isa.specs.declared.ins.Ins.{Ins}
@@ -19,11 +19,11 @@ use Rattle.qed_model.specs.Machine.Table.{ins}
 use Rattle.qed_model.specs.Weave.Blocks.{begins_at}
 use Rattle.qed_model.specs.Weave.Code.{Sequences, pieces_of, body_of, block_items, entries_of, code_of}
 use Rattle.qed_model.specs.Weave.Forms.{mirror_of, form_of}
-use Rattle.qed_model.specs.Weave.Lean.{goes, turn, check_sign, look_up, opposite, leave_as, leave}
+use Rattle.qed_model.specs.Weave.Lean.{tick, call_at, goes, turn, check_sign, look_up, opposite, leave_as, leave}
 use Rattle.qed_model.specs.Weave.LeanCode.{Lean, worded, fall_words, lean_of, lean_items, items_with}
 use Rattle.qed_model.specs.Weave.LeanRoles.{first_parts, piece_parts, pieces_parts, behind_parts, leave_as_parts, leave_parts, body_parts, entry_parts, entries_parts, worded_parts, lean_parts}
 use Rattle.qed_model.specs.Weave.OutputParts.{base_of}
-use Rattle.qed_model.specs.Weave.Placed.{sum_of_sizes, entry_of}
+use Rattle.qed_model.specs.Weave.Placed.{distance_between, sum_of_sizes, entry_of}
 use Rattle.qed_model.specs.Weave.Places.{image_of, half_of, code_place}
 use Rattle.qed_model.specs.Weave.Roles.{joined, guard_parts, original_parts, mirror_parts, each_parts, end_parts}
 use Rattle.qed_model.specs.Weave.Sequences.{Form, Block, End, Falls, Stops, guard, guards_of, compare, original, each_part, before_end, body_length, links, stub}
@@ -97,7 +97,10 @@ module _ (form : Form) (base : ℕ) (entry : ℕ → ℕ) (l : Lean) (leader : �
       ∙ ap (λ k. pieces_of code b.body b.start ++ k) (leave_joined form (fall_words leader) b.end a at)
 
   entry_joined : (b : Block) → joined (entry_parts form entry l leader b) ≡ block_items code b
-  entry_joined b = ap (λ k. Mark b.start ∷ (code.enter b.start ++ k)) (body_joined b)
+  entry_joined b =
+      let sign : List Item = cond l.land (check_sign b.start) [] in
+      let t = tick (l.most b.start) (distance_between (entry b.start + call_at l.land) l.check) in
+      ap (λ k. Mark b.start ∷ (sign ++ (t ++ k))) (body_joined b) ∙ ap (λ k. Mark b.start ∷ k) (sym (append_assoc sign t (body_of code b.body b.end b.start)))
 
   entries_joined : (bs : List Block) → joined (entries_parts form entry l leader bs) ≡ entries_of code bs
   entries_joined [] = refl

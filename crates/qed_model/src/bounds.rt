@@ -17,6 +17,8 @@ pub struct Shape {
     pub sweep: bool,
     /// The mirror part of most computing instructions is of other kinds than the instruction.
     pub diverse: bool,
+    /// Each entry of the lean form tests the signature.
+    pub land: bool,
 }
 
 /// The bounds, in steps.

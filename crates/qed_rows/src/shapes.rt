@@ -17,6 +17,7 @@ fn shape_of(text: &str) -> Option<Shape> {
         far: false,
         sweep: false,
         diverse: false,
+        land: false,
     };
     for word in words {
         match word {

@@ -18,13 +18,13 @@ use Rattle.command_line.specs.declared.order.Reason.{Reason}
 use Rattle.command_line.specs.declared.order.Reason.TheVariants.{MissingFile, MissingOption, OutOfRange, Split, FewSteps}
 use Rattle.qed_model.specs.Promise.Changed.{Ordered}
 use Rattle.qed_model.specs.Weave.Places.{AreSoundOptions}
-use Rattle.qed_model.specs.Weave.Bounds.{cost_of}
+use Rattle.qed_model.specs.Weave.Bounds.{cost_of, entry_steps}
 use Rattle.qed_model.specs.Options.{default_options}
 use Rattle.qed_model.specs.declared.options.Options.{Options}
 use Rattle.qed_model.specs.declared.options.Entries.{Entries}
 use Rattle.qed_model.specs.declared.options.Entries.TheVariants as entry
 use Rattle.command_line.specs.Tables.{option_of, weave, row_of, command_of}
-use Rattle.command_line.specs.Words.{Argument, asked, asked_of, answer, fault, first_wrong, span_in, arguments, dump, files, first_reason, first_wrong_value, is_in_range, lacks, missing, number_given, lean_options, usual_options, options, order_of, reason_of, span_of, split_reason, every_reason, block_steps, misfit, lean_reason, window_reason, topic_reason, value_of, values, wrong_number, wrong_value, wrong_values, changes_given, draws, is_digit, steps_given, turns, wrong_turns}
+use Rattle.command_line.specs.Words.{Argument, asked, asked_of, answer, fault, first_wrong, span_in, arguments, dump, files, first_reason, first_wrong_value, is_in_range, lacks, missing, number_given, lean_options, usual_options, options, order_of, reason_of, span_of, split_reason, missing_lean, block_steps, misfit, lean_reason, window_reason, topic_reason, value_of, values, wrong_number, wrong_value, wrong_values, changes_given, draws, is_digit, steps_given, turns, wrong_turns}
 use Rattle.texts.specs.Read.{colon, parted, number}
 use Rattle.ordered_changes.proofs.InOrder.{in_order_ordered}
 use Rattle.qed_words.specs.Sound.{IsSoundOrder}
@@ -149,11 +149,11 @@ lean_fits :
     → IfSome usual (λ n. n ≤ 2048)
     → o.inst_max ≤ 1024
     → option_and_then (misfit o.entries (block_steps o)) (option_map (unwrap_or every) usual) ≡ None
-    → IfSome (option_map (unwrap_or every) usual) (λ n. (o.entries ≡ entry.Reached) × (n ≤ 2048) × (21 + cost_of o.diverse * o.inst_max < n))
+    → IfSome (option_map (unwrap_or every) usual) (λ n. (o.entries ≡ entry.Reached) × (n ≤ 2048) × (entry_steps o.land + 19 + cost_of o.diverse * o.inst_max < n))
 lean_fits o every None fits few most e = tt
 lean_fits o every (Some usual) fits few most e =
     let fit : (o.entries ≡ entry.Reached) × (block_steps o < unwrap_or every usual) = entries_fit o.entries (block_steps o) (unwrap_or every usual) e in
-    (fit.0, every_fits every usual fits few, subst (λ m. 21 + cost_of o.diverse * m < unwrap_or every usual) (least_is o.inst_max 1024 most) fit.1)
+    (fit.0, every_fits every usual fits few, subst (λ m. entry_steps o.land + 19 + cost_of o.diverse * m < unwrap_or every usual) (least_is o.inst_max 1024 most) fit.1)
 
 -- the options that are given are sound, where each value fits, the floor leaves room, and so do the steps from check to check
 options_fit :
@@ -238,8 +238,8 @@ record IsFaultless (command : Command) (given : List Argument) : Type 0 where
 faultless : (command : Command) (given : List Argument) → reason_of command given ≡ None → IsFaultless command given
 unfolding reason_of first_wrong_value
 faultless command given e =
-    let all : AllNone (first_wrong command [] given ∷ missing command given ∷ first_wrong_value command given ∷ split_reason given ∷ every_reason given ∷ lean_reason given ∷ window_reason given ∷ topic_reason command given ∷ [])
-    = no_reason (first_wrong command [] given ∷ missing command given ∷ first_wrong_value command given ∷ split_reason given ∷ every_reason given ∷ lean_reason given ∷ window_reason given ∷ topic_reason command given ∷ []) e in
+    let all : AllNone (first_wrong command [] given ∷ missing command given ∷ first_wrong_value command given ∷ split_reason given ∷ missing_lean given ∷ lean_reason given ∷ window_reason given ∷ topic_reason command given ∷ [])
+    = no_reason (first_wrong command [] given ∷ missing command given ∷ first_wrong_value command given ∷ split_reason given ∷ missing_lean given ∷ lean_reason given ∷ window_reason given ∷ topic_reason command given ∷ []) e in
     record { words = all.0; there = all.1.0; values = no_reason (map (wrong_values given) (row_of command).keys) all.1.1.0; room = all.1.1.1.0; lean = all.1.1.1.1.1.0 }
 
 files_there : (count : ℕ) (other : Option Reason) → (if nat_lt count 1 then Some MissingFile else other) ≡ None → 1 ≤ count

@@ -1,6 +1,6 @@
 //! Why arguments ask for no lean form.
 ghost use Rattle.std.specs.Prelude.{◌≡◌, map};
-ghost use Rattle.command_line.specs.Words.{every_reason as every_reason_of, block_steps as block_steps_of, misfit as misfit_of, lean_reason as lean_reason_of};
+ghost use Rattle.command_line.specs.Words.{missing_lean as missing_lean_of, block_steps as block_steps_of, misfit as misfit_of, lean_reason as lean_reason_of};
 ghost use Rattle.qed_words.specs.Seen.{seen};
 
 use crate::argument::Argument;
@@ -9,12 +9,13 @@ use crate::options::options;
 use command_line::{Key, Reason};
 use qed_model::{Entries, Options};
 
-/// That steps from check to check are given, and not the form that has them.
-#[tactic(auto, unfolding(command_line::specs::Words::every_reason))]
-pub fn every_reason(arguments: &[Argument<'_>]) -> Option<Reason>
-    ensures { result ≡ every_reason_of (map seen arguments.now) }
+/// That an option of the lean form is given, and not the form.
+#[tactic(auto, unfolding(command_line::specs::Words::missing_lean))]
+pub fn missing_lean(arguments: &[Argument<'_>]) -> Option<Reason>
+    ensures { result ≡ missing_lean_of (map seen arguments.now) }
 {
-    let is_alone = lacks(arguments, Key::Lean) && !lacks(arguments, Key::Every);
+    let has_none = lacks(arguments, Key::Every) && lacks(arguments, Key::Land);
+    let is_alone = lacks(arguments, Key::Lean) && !has_none;
     is_alone.then_some(Reason::MissingOption(Key::Lean))
 }
 
@@ -23,7 +24,8 @@ fn block_steps(options: &Options) -> u64
     ensures { result ≡ block_steps_of options.now }
 {
     let cost = if options.diverse { 8 } else { 5 };
-    21 + cost * options.inst_max.min(1024)
+    let entry = if options.land { 7 } else { 2 };
+    entry + 19 + cost * options.inst_max.min(1024)
 }
 
 /// What is wrong with the entries, or with the steps from check to check, where a block has up to `most`.

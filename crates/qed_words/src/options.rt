@@ -64,6 +64,7 @@ pub fn options(arguments: &[Argument<'_>]) -> Options
             .map(entries)
             .unwrap_or(usual.entries),
         lean: usual.lean.map(|usual| every.unwrap_or(usual)),
+        land: !lacks(arguments, Key::Land),
     }
 }
 

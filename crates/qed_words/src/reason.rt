@@ -5,7 +5,7 @@ ghost use Rattle.qed_words.specs.Seen.{seen};
 
 use crate::argument::Argument;
 use crate::given::{count_files, file, number_given};
-use crate::lean::{every_reason, lean_reason};
+use crate::lean::{lean_reason, missing_lean};
 use crate::options::{is_split, options};
 use crate::value::first_wrong_value;
 use crate::wrong::{first_wrong, missing};
@@ -71,7 +71,7 @@ pub fn first_reason(command: Command, arguments: &[Argument<'_>]) -> Option<Reas
     if let Some(reason) = split_reason(arguments) {
         return Some(reason);
     }
-    if let Some(reason) = every_reason(arguments) {
+    if let Some(reason) = missing_lean(arguments) {
         return Some(reason);
     }
     if let Some(reason) = lean_reason(arguments) {

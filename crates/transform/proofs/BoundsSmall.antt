@@ -3,7 +3,7 @@ use Rattle.std.proofs.Common.{ℕ, zero, suc, ◌+◌, ◌-◌, ◌*◌, ◌/◌
 use Rattle.std.specs.Prelude.{IfSome}
 use Rattle.std.proofs.Math.Nat.{mul-le-mul, div-le_of_le-mul}
 use Rattle.qed_model.specs.declared.bounds.Shape.{Shape}
-use Rattle.qed_model.specs.Weave.Bounds.{visit_bound, piece_bound, end_bound, start_bound, word_bound, cost_of, bounds_of}
+use Rattle.qed_model.specs.Weave.Bounds.{visit_bound, piece_bound, end_bound, start_bound, word_bound, cost_of, entry_steps, bounds_of}
 use Rattle.qed_model.specs.Weave.LeanBounds as lean
 use Rattle.qed_model.specs.Weave.Pieces.{piece_count}
 use Rattle.bound_calc.specs.Fitting.{AreSmall}
@@ -56,12 +56,16 @@ longest_small : (diverse : Bool) (most : ℕ) → most ≤ 1024 → cost_of dive
 longest_small true most m = omega (arith, m)
 longest_small false most m = omega (arith, m)
 
-lean_word_small : (words round ends period : ℕ) → words ≤ 67108864 → 1 ≤ round → ends ≤ 671088654 → period ≤ 206158439470 → IfSome (lean.word_bound words round ends period) (λ w. w < 2 ^ 64)
-lean_word_small zero round ends period w r s p = tt
-lean_word_small (suc n) round ends period w r s p =
+entry_small : (land : Bool) → entry_steps land ≤ 7
+entry_small true = omega arith
+entry_small false = omega arith
+
+lean_word_small : (land : Bool) (words round ends period : ℕ) → words ≤ 67108864 → 1 ≤ round → ends ≤ 671088654 → period ≤ 206158439470 → IfSome (lean.word_bound land words round ends period) (λ w. w < 2 ^ 64)
+lean_word_small land zero round ends period w r s p = tt
+lean_word_small land (suc n) round ends period w r s p =
     let few : piece_count round (suc n) ≤ 67108864 = div-le_of_le-mul round (omega (arith, w, r)) in
     let t = times (piece_count round (suc n) + 1) period 67108865 206158439470 (omega (arith, few)) p in
-    omega (arith, t, s)
+    omega (arith, t, s, entry_small land)
 
 pub lean_shape_small :
     (s : Shape) (every : ℕ) → s.inst_max ≤ 1024 → 1 ≤ s.round → s.round ≤ 1024 → s.ranges ≤ 67108864 → s.words ≤ 67108864 → every ≤ 2048 → AreSmall (lean.bounds_of s every)
@@ -69,9 +73,10 @@ lean_shape_small s every most some round ranges words few =
     let check = check_small s.words s.ranges s.round ranges round in
     let ends = end_small s.sweep s.ranges s.words ranges words in
     let longest = longest_small s.diverse s.inst_max most in
+    let entry = entry_small s.land in
     record {
-      piece = omega (arith, check, longest);
-      register = omega (arith, check, ends, few);
-      word = lean_word_small s.words s.round (end_bound s.sweep s.ranges s.words) (lean.period (lean.check_bound s.words s.ranges s.round) every) words some ends (omega (arith, check, few));
+      piece = omega (arith, check, longest, entry);
+      register = omega (arith, check, ends, few, entry);
+      word = lean_word_small s.land s.words s.round (end_bound s.sweep s.ranges s.words) (lean.period s.land (lean.check_bound s.words s.ranges s.round) every) words some ends (omega (arith, check, few, entry));
       start = omega (arith, ends);
     }

@@ -102,6 +102,7 @@ fn shape_of(cut: &CutTest, options: &Options, far: bool) -> Shape
         far,
         sweep: options.sweep,
         diverse: options.diverse,
+        land: options.land,
     }
 }
 

@@ -38,7 +38,7 @@ loop_output = loaded_file (file_read (woven_file loop defaults loop_blocks loop_
 loop_kept : Kept loop_input loop_output any_address 32 120
 loop_kept = tests_kept loop defaults loop_blocks loop_words.0 loop_plan loop_words.1 loop_told any_address (any_reached loop defaults refl)
 
-loop_landed : Landed loop_input loop_output any_address loop_plan.entries
+loop_landed : Landed 4 loop_input loop_output any_address loop_plan.entries
 loop_landed = tests_landed loop defaults loop_blocks loop_words.0 loop_words.1 any_address (any_reached loop defaults refl)
 
 -- ---- what stands where

@@ -36,5 +36,5 @@ pub store_kept : Kept store_input store_output any_address 32 120
 store_kept = tests_kept store defaults store_blocks store_words.0 store_plan store_words.1 store_told any_address (any_reached store defaults refl)
 
 -- a jump to a wrong entry fires
-pub store_landed : Landed store_input store_output any_address store_plan.entries
+pub store_landed : Landed 4 store_input store_output any_address store_plan.entries
 store_landed = tests_landed store defaults store_blocks store_words.0 store_words.1 any_address (any_reached store defaults refl)

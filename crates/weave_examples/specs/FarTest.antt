@@ -79,7 +79,7 @@ far_test = record {
 
 -- a round of 1,024 visits, the sweep, and mirror parts of other kinds
 abbrev pub far_options : Options
-far_options = record { inst_min = 4; inst_max = 16; round = 1024; half = None; sweep = true; diverse = true; entries = entries.All; lean = None }
+far_options = record { inst_min = 4; inst_max = 16; round = 1024; half = None; sweep = true; diverse = true; entries = entries.All; lean = None; land = false }
 
 -- ---- its instructions and blocks
 -- a jump to the next address, so that an entry stands there
@@ -164,6 +164,6 @@ pub record FarPromised : Type 0 where
   pub table : has_table far_blocks ≡ true
   pub told : IsToldOf (compared far_test far_options far_blocks) far_test far_options far_blocks far_plan
   pub kept : Kept (loaded_file far_test) (far_output words) any_address 67 13470
-  pub landed : Landed (loaded_file far_test) (far_output words) any_address far_plan.entries
+  pub landed : Landed 4 (loaded_file far_test) (far_output words) any_address far_plan.entries
   pub caught : Caught (loaded_file far_test) (far_output words) any_address far_ranges far_plan.bounds
   pub clean : Clean (loaded_file far_test) (far_output words) any_address far_ranges 34

@@ -56,7 +56,7 @@ JoinedKept cut =
 abbrev pub JoinedLanded : (List Ins → List (List Ins)) → Type 0
 JoinedLanded cut =
     (f g : Program) (w : World) (most : ℕ) (blocks : List Block) (entries : List EntryRow) → PlanOf f g w (joined cut w.form most) blocks → Mirrors w
-    → ((a e : ℕ) → IsEntry entries a e → (begins_at blocks a ≡ true) × (e ≡ w.entry a)) → Landed f g w.reached entries
+    → ((a e : ℕ) → IsEntry entries a e → (begins_at blocks a ≡ true) × (e ≡ w.entry a)) → Landed 4 f g w.reached entries
 
 abbrev pub JoinedCaught : (List Ins → List (List Ins)) → Type 0
 JoinedCaught cut =

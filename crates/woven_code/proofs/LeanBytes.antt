@@ -1,6 +1,6 @@
 -- The lean form of an admitted test has fewer than 2^64 - 1 bytes.
-use Rattle.std.proofs.Common.{ℕ, ◌+◌, ◌-◌, ◌*◌, ◌%◌, ◌^◌, ◌<◌, ◌≤◌, Bool, false, List, [], ◌∷◌, ◌++◌, length, arith}
-use Rattle.std.specs.Prelude.{◌==◌, pos, neg_ℤ}
+use Rattle.std.proofs.Common.{ℕ, ◌+◌, ◌-◌, ◌*◌, ◌%◌, ◌^◌, ◌<◌, ◌≤◌, Bool, true, false, List, [], ◌∷◌, ◌++◌, length, arith}
+use Rattle.std.specs.Prelude.{◌==◌, ℤ, pos, neg_ℤ}
 use Rattle.elf_types.specs.declared.file.ElfFile.{ElfFile}
 use Rattle.rv_isa.specs.declared.ins.Ins.{Ins}
 use Rattle.rv_isa.specs.declared.kind.Kind.TheVariants.{Addi, Andi}
@@ -17,9 +17,9 @@ use Rattle.qed_model.specs.Machine.Loading.{load_segments}
 use Rattle.qed_model.specs.Machine.Step.{target}
 use Rattle.qed_model.specs.Machine.Table.{ins}
 use Rattle.qed_model.specs.Weave.Blocks.{AreBlocks, begins_at}
-use Rattle.qed_model.specs.Weave.Code.{Sequences, block_items, entries_of, pieces_of}
+use Rattle.qed_model.specs.Weave.Code.{Sequences, block_items, body_of, entries_of, pieces_of}
 use Rattle.qed_model.specs.Weave.Forms.{mirror_of, form_of}
-use Rattle.qed_model.specs.Weave.Lean.{is_short, turn_by, turn, goes, look_up, first_word, done, check, opposite, leave, leave_as}
+use Rattle.qed_model.specs.Weave.Lean.{enter, call_at, is_short, turn_by, turn, goes, look_up, first_word, done, check, opposite, leave, leave_as}
 use Rattle.qed_model.specs.Weave.LeanCode.{Lean, worded, fall_words, lean_of, items_with, lean_items}
 use Rattle.qed_model.specs.Weave.OutputParts.{base_of}
 use Rattle.qed_model.specs.Weave.Placed.{distance_between, sum_of_sizes, entry_of}
@@ -46,9 +46,14 @@ goes_small a t = omega (arith, size-append false (turn a t) (Go t ∷ []), turn_
 falls_small : (leader : ℕ → Bool) (a t : ℕ) → size (turn a t ++ fall_words leader t) ≤ 16
 falls_small leader a t = omega (arith, size-append false (turn a t) (fall_words leader t), turn_small a t, cond_small false (leader t) [] (Go t ∷ []) 4 (omega arith) (omega arith))
 
+-- ---- the entries
+enter_small : (land : Bool) (a most : ℕ) (d : ℤ) → size (enter land a most d) ≤ 40
+enter_small true a most d = omega arith
+enter_small false a most d = omega arith
+
 -- ---- the check, behind what runs first
-check_small : (base every round : ℕ) (spans : List (ℕ × ℕ)) → round ≤ 1024 → length spans ≤ 67_108_864 → size (check base every round spans) ≤ 1_374_389_559_600
-check_small base every round spans few ranges =
+check_small : (base call every round : ℕ) (spans : List (ℕ × ℕ)) → round ≤ 1024 → length spans ≤ 67_108_864 → size (check base call every round spans) ≤ 1_374_389_559_600
+check_small base call every round spans few ranges =
     let last : List Item = done (first_word base spans) every ++ look_up in
     omega (arith, visit_small false round spans few ranges, size-append false (visit round spans) last)
 
@@ -100,7 +105,8 @@ module _ (f : ElfFile) (o : Options) (round : o.round ≤ 1024) (spans : length 
   entry_small b =
       let n = b.start + 4 * body_length b.body in
       let a = l.start_of b.end n in
-      omega (arith, size-append false (pieces_of s b.body b.start) (s.leave b.end n), pieces_small b.body b.start, ends_small (before_end form) before_small leader a b.end n)
+      let d = distance_between (entry b.start + call_at l.land) l.check in
+      omega (arith, size-append false (s.enter b.start) (body_of s b.body b.end b.start), enter_small l.land b.start (l.most b.start) d, size-append false (pieces_of s b.body b.start) (s.leave b.end n), pieces_small b.body b.start, ends_small (before_end form) before_small leader a b.end n)
 
   entries_small : (bs : List Block) → size (entries_of s bs) ≤ 1_374_389_559_400 * weight bs
   entries_small [] = omega arith
@@ -111,7 +117,7 @@ module _ (f : ElfFile) (o : Options) (round : o.round ≤ 1024) (spans : length 
       omega (
         arith,
         light,
-        check_small base l.every o.round (data_ranges (image_of f)) round spans,
+        check_small base (call_at l.land) l.every o.round (data_ranges (image_of f)) round spans,
         entries_small bs,
         size-append false (s.first d a) (entries_of s bs ++ stub),
         size-append false (entries_of s bs) stub,

@@ -22,8 +22,8 @@ abbrev pub placed_at : ℕ → State → State
 placed_at pc s = moved s.regs pc s
 
 -- for any registers of the output's start, and as far as the input's run is steady: where the output stands at the entry of an address,
--- the same state at the entry of another fires within 4 steps
-pub record Landed (f g : Program) (reached : ℕ → Bool) (entries : List EntryRow) : Type 0 where
+-- the same state at the entry of another fires within so many steps
+pub record Landed (most : ℕ) (f g : Program) (reached : ℕ → Bool) (entries : List EntryRow) : Type 0 where
   pub fires :
       (regs : List ℕ) (t a c here there : ℕ) → AreStartRegs regs → Steady f reached t → IsEntry entries a here → IsEntry entries c there → a ≢ c
-      → (after_output g regs t).outcome ≡ Going → (after_output g regs t).pc ≡ here → Fires 4 (placed_at there (after_output g regs t))
+      → (after_output g regs t).outcome ≡ Going → (after_output g regs t).pc ≡ here → Fires most (placed_at there (after_output g regs t))

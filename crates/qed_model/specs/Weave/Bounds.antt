@@ -35,6 +35,10 @@ word_bound (suc n) round start piece = Some (start + ((suc n + round - 1) / roun
 abbrev pub cost_of : Bool → ℕ
 cost_of diverse = cond diverse 8 5
 
+-- the steps of an entry of the lean form where its tick passes: those of the tick, and with the option `land` those of the test of the signature
+abbrev pub entry_steps : Bool → ℕ
+entry_steps land = cond land 7 2
+
 -- ---- over a shape
 abbrev pub start_steps : Shape → ℕ
 start_steps s = start_bound s.far s.sweep s.ranges s.words

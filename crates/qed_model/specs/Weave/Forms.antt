@@ -29,4 +29,5 @@ shape_of f o far = record {
   far = far;
   sweep = o.sweep;
   diverse = o.diverse;
+  land = o.land;
 }

@@ -37,6 +37,19 @@ turn_by d = cond (is_short d) (Plain (ins Addi 16 16 0 d) ∷ []) (Plain (ins Lu
 abbrev pub turn : ℕ → ℕ → List Item
 turn a t = cond (a == t) [] (turn_by (distance_between a t))
 
+-- fires where the signature is not that of an input address
+abbrev pub check_sign : ℕ → List Item
+check_sign a = Constant 30 a ∷ Plain (ins Sub 31 16 30 (pos 0)) ∷ Plain (ins Slli 31 31 0 (pos 32)) ∷ Plain (ins Beq 0 31 0 (pos 8)) ∷ fired_check ∷ []
+
+-- ---- the entry
+-- of the block that begins at a: its tick, and with the option `land` a test of the signature before it
+abbrev pub enter : Bool → ℕ → ℕ → ℤ → List Item
+enter land a most d = cond land (check_sign a) [] ++ tick most d
+
+-- how many bytes behind the entry the tick calls the check
+abbrev pub call_at : Bool → ℕ
+call_at land = cond land 32 8
+
 -- ---- the table
 -- looks the entry of the input address in x30 up in the table and jumps to it
 abbrev pub look_up : List Item
@@ -54,10 +67,10 @@ parted base =
     Constant 30 base ∷ Plain (ins Sub 15 16 30 (pos 0)) ∷ Plain (ins Slli 15 15 0 (pos 32)) ∷ Plain (ins Srli 15 15 0 (pos 32)) ∷ Plain (ins Add 15 15 30 (pos 0)) ∷
     Plain (ins Sub 16 16 15 (pos 0)) ∷ Plain (ins Srli 16 16 0 (pos 32)) ∷ []
 
--- fires where the link in x31 is not 12 bytes behind the entry of the input address in x15
-abbrev pub called : List Item
-called =
-    Plain (ins Add 30 15 14 (pos 0)) ∷ Plain (ins Add 30 30 14 (pos 0)) ∷ Plain (ins Sub 31 31 30 (pos 0)) ∷ Plain (ins Lw 30 30 0 (pos 0)) ∷ Plain (ins Addi 30 30 0 (pos 12)) ∷
+-- fires where the call did not stand so many bytes behind the entry of the input address in x15, by the link in x31
+abbrev pub called : ℕ → List Item
+called call =
+    Plain (ins Add 30 15 14 (pos 0)) ∷ Plain (ins Add 30 30 14 (pos 0)) ∷ Plain (ins Sub 31 31 30 (pos 0)) ∷ Plain (ins Lw 30 30 0 (pos 0)) ∷ Plain (ins Addi 30 30 0 (pos (call + 4))) ∷
     Plain (ins Beq 0 30 31 (pos 8)) ∷ fired_check ∷ []
 
 -- x15 gets the address of the next data word, x16 the input address
@@ -70,9 +83,9 @@ done first every =
     Constant 30 first ∷ Plain (ins Sub 15 15 30 (pos 0)) ∷ Plain (ins Slli 15 15 0 (pos 32)) ∷ Plain (ins Addi 30 16 0 (pos 0)) ∷ Plain (ins Add 16 16 15 (pos 0)) ∷
     Plain (ins Addi 15 0 0 (neg_ℤ (pos every))) ∷ []
 
--- all of it
-abbrev pub check : ℕ → ℕ → ℕ → List (ℕ × ℕ) → List Item
-check base every round spans = parted base ++ (called ++ (compare ++ (begun (first_word base spans) ++ (visit round spans ++ (done (first_word base spans) every ++ look_up)))))
+-- all of it, where ticks call it so many bytes behind the entries
+abbrev pub check : ℕ → ℕ → ℕ → ℕ → List (ℕ × ℕ) → List Item
+check base call every round spans = parted base ++ (called call ++ (compare ++ (begun (first_word base spans) ++ (visit round spans ++ (done (first_word base spans) every ++ look_up)))))
 
 -- ---- the leaves
 -- the branch that is taken where another is not
@@ -88,10 +101,6 @@ opposite k = k
 -- goes to the entry of another input address
 abbrev pub goes : ℕ → ℕ → List Item
 goes a t = turn a t ++ (Go t ∷ [])
-
--- fires where the signature is not that of an input address
-abbrev pub check_sign : ℕ → List Item
-check_sign a = Constant 30 a ∷ Plain (ins Sub 31 16 30 (pos 0)) ∷ Plain (ins Slli 31 31 0 (pos 32)) ∷ Plain (ins Beq 0 31 0 (pos 8)) ∷ fired_check ∷ []
 
 -- the leave of an instruction at `at`, in the block that begins at a; `fall` gives what leads to the entry behind the block, and `before` is what stands
 -- before an ECALL, which compares all registers and the signature first. A branch goes by guarded originals, and a JALR adds its target by the pair and goes by the

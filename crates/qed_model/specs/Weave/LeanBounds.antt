@@ -1,10 +1,10 @@
 -- The bounds of the lean form, in steps (this project's profile).
-use Rattle.std.specs.Prelude.{ℕ, zero, suc, ◌+◌, ◌*◌, Option, Some, None, false}
+use Rattle.std.specs.Prelude.{ℕ, zero, suc, ◌+◌, ◌*◌, Bool, Option, Some, None, false}
 use Rattle.elf_types.specs.declared.file.ElfFile.{ElfFile}
 use Rattle.qed_model.specs.declared.bounds.Bounds.{Bounds}
 use Rattle.qed_model.specs.declared.bounds.Shape.{Shape}
 use Rattle.qed_model.specs.declared.options.Options.{Options}
-use Rattle.qed_model.specs.Weave.Bounds.{visit_bound, end_bound, cost_of}
+use Rattle.qed_model.specs.Weave.Bounds.{visit_bound, end_bound, cost_of, entry_steps}
 use Rattle.qed_model.specs.Weave.Forms.{shape_of}
 use Rattle.qed_model.specs.Weave.Pieces.{piece_count}
 
@@ -12,18 +12,18 @@ use Rattle.qed_model.specs.Weave.Pieces.{piece_count}
 abbrev pub check_bound : ℕ → ℕ → ℕ → ℕ
 check_bound words ranges round = 44 + visit_bound words ranges * round
 
--- the most steps from check to check: those of the check, and of the blocks between
-abbrev pub period : ℕ → ℕ → ℕ
-period check every = check + (every + 2)
+-- the most steps from check to check: those of the check, of the blocks between, and of the entry that calls it again
+abbrev pub period : Bool → ℕ → ℕ → ℕ
+period land check every = check + (every + entry_steps land)
 
 -- a changed register: what runs first, the end with its sweep, a period, and the comparison
-abbrev pub register_bound : ℕ → ℕ → ℕ
-register_bound ends period = 67 + ends + period
+abbrev pub register_bound : Bool → ℕ → ℕ → ℕ
+register_bound land ends period = 65 + entry_steps land + ends + period
 
 -- a changed data word, of `words` of them: as many periods more as there are rounds; none where there is no data word
-abbrev pub word_bound : ℕ → ℕ → ℕ → ℕ → Option ℕ
-word_bound zero round ends period = None
-word_bound (suc n) round ends period = Some (67 + ends + (piece_count round (suc n) + 1) * period)
+abbrev pub word_bound : Bool → ℕ → ℕ → ℕ → ℕ → Option ℕ
+word_bound land zero round ends period = None
+word_bound land (suc n) round ends period = Some (65 + entry_steps land + ends + (piece_count round (suc n) + 1) * period)
 
 -- ---- over a shape, and of a file
 abbrev pub bounds_of : Shape → ℕ → Bounds
@@ -32,9 +32,9 @@ bounds_of s every =
     let check = check_bound s.words s.ranges s.round in
     record {
       start = 31 + ends;
-      piece = 24 + check + cost_of s.diverse * s.inst_max;
-      register = register_bound ends (period check every);
-      word = word_bound s.words s.round ends (period check every);
+      piece = 20 + 2 * entry_steps s.land + check + cost_of s.diverse * s.inst_max;
+      register = register_bound s.land ends (period s.land check every);
+      word = word_bound s.land s.words s.round ends (period s.land check every);
     }
 
 abbrev pub lean_bounds : ElfFile → Options → ℕ → Bounds

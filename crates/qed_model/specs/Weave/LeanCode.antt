@@ -6,22 +6,23 @@ use Rattle.qed_model.specs.declared.item.Item.{Item}
 use Rattle.qed_model.specs.declared.item.Item.TheVariants.{Mark, Go}
 use Rattle.qed_model.specs.declared.options.Options.{Options}
 use Rattle.qed_model.specs.Weave.Blocks.{begins_at}
-use Rattle.qed_model.specs.Weave.Bounds.{cost_of}
+use Rattle.qed_model.specs.Weave.Bounds.{cost_of, entry_steps}
 use Rattle.qed_model.specs.Weave.Code.{Sequences, code_of}
 use Rattle.qed_model.specs.Weave.Costs.{cost_each, original_cost, spent, mirror_steps}
 use Rattle.qed_model.specs.Weave.Forms.{mirror_of, form_of}
-use Rattle.qed_model.specs.Weave.Lean.{tick, check, leave, begin, leave_cost}
+use Rattle.qed_model.specs.Weave.Lean.{enter, call_at, check, leave, begin, leave_cost}
 use Rattle.qed_model.specs.Weave.OutputParts.{base_of}
 use Rattle.qed_model.specs.Weave.Placed.{distance_between, sum_of_sizes, entry_of}
 use Rattle.qed_model.specs.Weave.Places.{image_of, half_of, code_place}
 use Rattle.qed_model.specs.Weave.Sequences.{Form, Block, End, Falls, Stops, body_length, original, each_part, before_end}
 
 -- what it depends on besides its blocks and the form: what x15 counts from, the most instructions of a piece, whether its mirror parts are of other
--- kinds, the address of the check, the steps that the tick of a block counts, and where a block begins that has such an end at an address
+-- kinds, whether entries test the signature, the address of the check, the steps that the tick of a block counts, and where a block begins that has such an end at an address
 pub record Lean : Type 0 where
   pub every : ℕ
   pub inst_max : ℕ
   pub diverse : Bool
+  pub land : Bool
   pub check : ℕ
   pub most : ℕ → ℕ
   pub start_of : End → ℕ → ℕ
@@ -31,12 +32,12 @@ pub record Lean : Type 0 where
 abbrev pub fall_to : (ℕ → Bool) → ℕ → List Item
 fall_to leader t = cond (leader t) (Mark t ∷ []) (Go t ∷ [])
 
--- an entry is a tick, and pieces have nothing behind them; with what leads behind a block, and what runs first, where an input
+-- pieces have nothing behind them; with what leads behind a block, and what runs first, where an input
 -- address has its entry
 abbrev pub sequences : Form → (ℕ → ℕ) → Lean → (ℕ → List Item) → (ℕ → ℕ → List Item) → Sequences
 sequences form entry l fall first = record {
   first = first;
-  enter = λ a. tick (l.most a) (distance_between (entry a + 8) l.check);
+  enter = λ a. enter l.land a (l.most a) (distance_between (entry a + call_at l.land) l.check);
   piece = λ is at. each_part original is at ++ each_part (mirror_of l.diverse) is at;
   leave = λ e at. leave (before_end form) fall e (l.start_of e at) at;
 }
@@ -47,7 +48,7 @@ fall_words leader t = cond (leader t) [] (Go t ∷ [])
 
 -- the sequences as words, for an input that begins at `base`: behind what runs first stands the check
 abbrev pub worded : Form → ℕ → (ℕ → ℕ) → Lean → (ℕ → Bool) → Sequences
-worded form base entry l leader = sequences form entry l (fall_words leader) (λ d a. begin d a ++ check base l.every form.round form.spans)
+worded form base entry l leader = sequences form entry l (fall_words leader) (λ d a. begin d a ++ check base (call_at l.land) l.every form.round form.spans)
 
 -- ---- the steps of a block
 -- of a mirror part
@@ -62,15 +63,15 @@ abbrev pub body_steps : Bool → List (List Ins) → ℕ
 body_steps diverse [] = 0
 body_steps diverse (p ∷ ps) = piece_steps diverse p + body_steps diverse ps
 
--- the steps that the tick of a block counts: its own, those of its pieces, and the most of its leave
-abbrev pub block_steps : Bool → (ℕ → Bool) → Block → ℕ
-block_steps diverse leader b = 2 + (body_steps diverse b.body + leave_cost (fall_to leader) b.end b.start (b.start + 4 * body_length b.body))
+-- the steps that the tick of a block counts: those of its entry, of its pieces, and the most of its leave
+abbrev pub block_steps : Bool → Bool → (ℕ → Bool) → Block → ℕ
+block_steps diverse land leader b = entry_steps land + (body_steps diverse b.body + leave_cost (fall_to leader) b.end b.start (b.start + 4 * body_length b.body))
 
 -- ---- of a file
 -- the steps of the block that begins at an address
-abbrev pub steps_at : Bool → (ℕ → Bool) → List Block → ℕ → ℕ
-steps_at diverse leader [] a = 0
-steps_at diverse leader (b ∷ bs) a = cond (b.start == a) (block_steps diverse leader b) (steps_at diverse leader bs a)
+abbrev pub steps_at : Bool → Bool → (ℕ → Bool) → List Block → ℕ → ℕ
+steps_at diverse land leader [] a = 0
+steps_at diverse land leader (b ∷ bs) a = cond (b.start == a) (block_steps diverse land leader b) (steps_at diverse land leader bs a)
 
 -- two ends fall, or neither does
 abbrev pub is_alike : End → End → Bool
@@ -89,8 +90,9 @@ lean_of f o every blocks = record {
   every = every;
   inst_max = o.inst_max;
   diverse = o.diverse;
+  land = o.land;
   check = code_place o.half (image_of f) + sum_of_sizes false (begin (half_of o.half (image_of f)) f.entry);
-  most = steps_at o.diverse (begins_at blocks) blocks;
+  most = steps_at o.diverse o.land (begins_at blocks) blocks;
   start_of = start_at blocks;
 }
 

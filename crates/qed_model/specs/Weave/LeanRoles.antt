@@ -1,6 +1,6 @@
 -- What the items of the lean form are for: the same items as those of its sequences, in parts of one role; and what the items of the new code are
 -- for in the form that is asked for.
-use Rattle.std.specs.Prelude.{◌≡◌, ℕ, ◌+◌, ◌*◌, Bool, Option, Some, None, List, [], ◌∷◌, ◌++◌, length, map, drop, false}
+use Rattle.std.specs.Prelude.{◌≡◌, ℕ, ◌+◌, ◌*◌, Bool, cond, Option, Some, None, List, [], ◌∷◌, ◌++◌, length, map, drop, false}
 use Rattle.elf_types.specs.declared.file.ElfFile.{ElfFile}
 use Rattle.rv_isa.specs.declared.ins.Ins.{Ins}
 use Rattle.rv_isa.specs.declared.class.Class.{Class}
@@ -14,7 +14,7 @@ use Rattle.qed_model.specs.declared.role.Role.TheVariants as role
 use Rattle.qed_model.specs.declared.role.RoleRow.{RoleRow}
 use Rattle.qed_model.specs.Weave.Blocks.{begins_at}
 use Rattle.qed_model.specs.Weave.Forms.{mirror_of, form_of}
-use Rattle.qed_model.specs.Weave.Lean.{tick, first_word, parted, called, begun, done, look_up, check_sign, leave_as, leave, begin}
+use Rattle.qed_model.specs.Weave.Lean.{tick, call_at, first_word, parted, called, begun, done, look_up, check_sign, leave_as, leave, begin}
 use Rattle.qed_model.specs.Weave.LeanCode.{Lean, fall_words, lean_of, lean_items, items_with}
 use Rattle.qed_model.specs.Weave.OutputParts.{base_of}
 use Rattle.qed_model.specs.Weave.Placed.{distance_between, entry_of}
@@ -25,7 +25,7 @@ use Rattle.qed_model.specs.Weave.Sequences.{Form, Block, End, Falls, Stops, guar
 -- ---- what runs first, and the check
 abbrev pub first_parts : Form → ℕ → Lean → ℕ → ℕ → List (Role × List Item)
 first_parts form base l d a =
-    (role.Start, begin d a) ∷ (role.Check, parted base ++ called) ∷
+    (role.Start, begin d a) ∷ (role.Check, parted base ++ called (call_at l.land)) ∷
     (compare_parts role.CheckCompare originals ++
     ((role.Check, begun (first_word base form.spans)) ∷ (role.CheckVisit, visit form.round form.spans) ∷ (role.Check, done (first_word base form.spans) l.every ++ look_up) ∷ []))
 
@@ -58,7 +58,9 @@ body_parts form l leader b = pieces_parts l b.body b.start ++ leave_parts form (
 
 -- the distance of a tick's call depends on where the entry of its block stands, which `entry` gives; how many bytes the tick has does not
 abbrev pub entry_parts : Form → (ℕ → ℕ) → Lean → (ℕ → Bool) → Block → List (Role × List Item)
-entry_parts form entry l leader b = (role.Tick b.start, Mark b.start ∷ tick (l.most b.start) (distance_between (entry b.start + 8) l.check)) ∷ body_parts form l leader b
+entry_parts form entry l leader b =
+    (role.Sign b.start, Mark b.start ∷ cond l.land (check_sign b.start) []) ∷
+    ((role.Tick b.start, tick (l.most b.start) (distance_between (entry b.start + call_at l.land) l.check)) ∷ body_parts form l leader b)
 
 abbrev pub entries_parts : Form → (ℕ → ℕ) → Lean → (ℕ → Bool) → List Block → List (Role × List Item)
 entries_parts form entry l leader [] = []

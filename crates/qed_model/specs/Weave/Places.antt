@@ -6,7 +6,7 @@ use Rattle.qed_model.specs.declared.limits.TheConstants.{MAX_HALF}
 use Rattle.qed_model.specs.declared.options.Options.{Options}
 use Rattle.qed_model.specs.declared.options.Entries.TheVariants as entries
 use Rattle.qed_model.specs.Admission.Terms.{image_segments}
-use Rattle.qed_model.specs.Weave.Bounds.{cost_of}
+use Rattle.qed_model.specs.Weave.Bounds.{cost_of, entry_steps}
 use Rattle.qed_model.specs.Weave.OutputParts.{base_of, distance_of}
 
 -- options with which files are transformed
@@ -17,8 +17,8 @@ pub record AreSoundOptions (o : Options) : Type 0 where
   pub visits : 1 ≤ o.round
   pub few_visits : o.round ≤ 1024
   pub half : IfSome o.half (λ h. (h % 4096 ≡ 0) × (4096 ≤ h) × (h ≤ MAX_HALF))
-  -- in the lean form a block has fewer steps than there are from check to check: 2 of its tick, those of one piece, and 19 of its leave
-  pub lean : IfSome o.lean (λ every. (o.entries ≡ entries.Reached) × (every ≤ 2048) × (21 + cost_of o.diverse * o.inst_max < every))
+  -- in the lean form a block has fewer steps than there are from check to check: those of its entry, of one piece, and 19 of its leave
+  pub lean : IfSome o.lean (λ every. (o.entries ≡ entries.Reached) × (every ≤ 2048) × (entry_steps o.land + 19 + cost_of o.diverse * o.inst_max < every))
 
 -- the segments of a file that are its image
 abbrev pub image_of : ElfFile → List Segment

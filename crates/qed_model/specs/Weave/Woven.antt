@@ -1,6 +1,6 @@
 -- What is woven from the file of a test: its new code in the form that is asked for, word for word, the file that has it, and what is
 -- told of it.
-use Rattle.std.specs.Prelude.{◌≡◌, ℕ, ◌^◌, ◌<◌, ◌≤◌, nat_lt, Bool, true, false, Option, Some, None, List, length, map, slice_index}
+use Rattle.std.specs.Prelude.{◌≡◌, ℕ, ◌^◌, ◌<◌, ◌≤◌, nat_lt, Bool, true, false, cond, Option, Some, None, List, length, map, slice_index}
 use Rattle.elf_types.specs.declared.file.ElfFile.{ElfFile}
 use Rattle.elf_types.specs.declared.output.OutFile.{OutFile}
 use Rattle.qed_model.specs.declared.limits.Limit.{Limit}
@@ -73,6 +73,11 @@ lean f o every blocks = record { far = false; items = lean_items f o every block
 abbrev pub code_as : Option ℕ → ElfFile → Options → List Block → NewCode
 code_as None f o blocks = compared f o blocks
 code_as (Some every) f o blocks = lean f o every blocks
+
+-- within how many steps an entry that is reached with the signature of another fires, if it tests the signature
+abbrev pub landing : Option ℕ → Bool → Option ℕ
+landing None land = Some 4
+landing (Some every) land = cond land (Some 6) None
 
 abbrev pub new_code : ElfFile → Options → List Block → NewCode
 new_code f o blocks = code_as o.lean f o blocks

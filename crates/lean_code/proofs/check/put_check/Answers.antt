@@ -10,7 +10,7 @@ use Rattle.lean_code.proofs.check.put_check.Goals as goal
 pub returns : goal.returns
 returns c =
     let visits = c.args.visits.now in
-    let rest : ℕ → List Item = λ w. called ++ (compare ++ (begun w ++ (visit visits.round (spans_of visits.span) ++ (done w c.args.every ++ look_up)))) in
+    let rest : ℕ → List Item = λ w. called c.args.call ++ (compare ++ (begun w ++ (visit visits.round (spans_of visits.span) ++ (done w c.args.every ++ look_up)))) in
     let first : c.first_word.result ≡ first_word c.args.base (spans_of visits.span) = c.first_word.ensures ∙ ap (λ s. first_word c.args.base (spans_of s)) c.as_slice.ensures in
     append_both c.args.out.now c.put_parted.new.out c.put_linked.new.out (parted c.args.base) (rest (first_word c.args.base (spans_of visits.span)))
     c.in_ok-put_parted.ensures (c.in_ok-put_linked.ensures ∙ ap (λ w. c.put_parted.new.out ++ rest w) first)

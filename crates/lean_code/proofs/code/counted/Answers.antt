@@ -20,7 +20,7 @@ weave-requires-clause-fit c = fit c.requires.0 c.args.options.now c.args.every c
 
 pub weave-requires-clause-own : goal.weave-requires-clause-own
 weave-requires-clause-own c =
-    owned c.requires.0 c.args.options.now c.args.every c.args.blocks.now c.requires.1.cut c.in_ok-weaver.weaver c.in_ok-weaver.ensures.blocks c.in_ok-weaver.ensures.diverse
+    owned c.requires.0 c.args.options.now c.args.every c.args.blocks.now c.requires.1.cut c.in_ok-weaver.weaver c.in_ok-weaver.ensures.blocks c.in_ok-weaver.ensures.diverse c.in_ok-weaver.ensures.land
     (fit c.requires.0 c.args.options.now c.args.every c.args.test.now c.args.blocks.now c.requires.1)
 
 pub weave-requires-clause-come : goal.weave-requires-clause-come

@@ -10,6 +10,7 @@ loop-block-preserved c =
     let s = c.args.sizes.now in
     let bs = c.args.blocks.now in
     let leader = begins_at (map block_of bs) in
+    let land = c.args.land in
     let less : c.loop-block.block-index < length bs = search rules in
     let item : get_or bs c.loop-block.block-index c.block-item.result ≡ c.block-item.result = search rules in
-    blocks_more (block_rows s leader) (blocks_rows s leader) (λ b bs. refl) c.loop-block.rows.items c.push_block.new.rows.items (c.args.rows.now.items ++ blocks_rows s leader bs) bs c.loop-block.block-index c.block-item.result less item c.loop-block.invariant c.in_ok-push_block.ensures
+    blocks_more (block_rows land s leader) (blocks_rows land s leader) (λ b bs. refl) c.loop-block.rows.items c.push_block.new.rows.items (c.args.rows.now.items ++ blocks_rows land s leader bs) bs c.loop-block.block-index c.block-item.result less item c.loop-block.invariant c.in_ok-push_block.ensures

@@ -6,4 +6,4 @@ use Rattle.lean_code.proofs.roles.push_blocks.Given as goal
 
 -- the blocks so far, and the others
 abbrev pub invariant-loop-block : goal.invariant-loop-block
-invariant-loop-block l = l.rows.items ++ blocks_rows l.sizes (begins_at (map block_of l.blocks)) (drop l.block-index l.blocks) ≡ l.initial.rows.items ++ blocks_rows l.sizes (begins_at (map block_of l.blocks)) l.blocks
+invariant-loop-block l = l.rows.items ++ blocks_rows l.land l.sizes (begins_at (map block_of l.blocks)) (drop l.block-index l.blocks) ≡ l.initial.rows.items ++ blocks_rows l.land l.sizes (begins_at (map block_of l.blocks)) l.blocks
