@@ -29,6 +29,7 @@ class Options:
     diverse: bool = False
     entries: str = "all"
     lean: Optional[int] = None
+    land: bool = False
 
 
 @dataclass

@@ -389,6 +389,7 @@ def draw_options(rng: random.Random, many: float = 5) -> List[str]:
         words += ["--entries", rng.choice(["reached", "reached", "reached", "all"])]
     if chance(rng, 25):
         words += ["--lean"] + (["--every", str(rng.choice([30, 100, 700, 1100, 2048]))] if chance(rng, 50) else [])
+        words += ["--land"] if chance(rng, 50) else []
     return words + [flag for flag in ("--sweep", "--diverse") if chance(rng, 25)]
 
 
@@ -608,8 +609,9 @@ VALUES = ["0", "1", "2", "4", "8", "9", "16", "17", "1024", "1025", "4096", "409
           "x", "-1", "", "0:x1=1", "5:x31=0xff", "0:x32=1", "0:x01=1", "1:8=1", "1:9=1", ":8=1", "1:8", "0:1",
           "0:65536", "0:65537", "0xffffffffffffffff:1", "0xffffffffffffffff:2", "01", "012345678", "9", "10000",
           "10001", "60000", "60001", "1000000", "1000001", "registers", "words", "all", "reached"]
-OPTIONS = ["inst-min", "inst-max", "round", "half", "entries", "sweep", "diverse", "lean", "every", "steps", "fault",
-           "dump", "seed", "count", "changes", "only", "from", "to", "results", "reached", "size", "turns", "at", "help", ""]
+OPTIONS = ["inst-min", "inst-max", "round", "half", "entries", "sweep", "diverse", "lean", "every", "land",
+           "steps", "fault", "dump", "seed", "count", "changes", "only", "from", "to", "results", "reached", "size",
+           "turns", "at", "help", ""]
 
 
 def draw_words(rng: random.Random) -> Case:

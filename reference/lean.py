@@ -39,6 +39,7 @@ class Lean:
     def __init__(self, test: Test, options: Options, blocks: List[Block]) -> None:
         self.test, self.options, self.blocks = test, options, blocks
         self.starts = {block.start for block in blocks}
+        self.entry_steps = 7 if options.land else 2
 
     def turn(self, start: int, to: int) -> List[Item]:
         """Turns the signature from one input address to another ("The lean form")."""
@@ -59,6 +60,10 @@ class Lean:
         """The same to the address behind a block, whose entry stands there where it has one."""
         return self.turn(start, to) + ([] if to in self.starts else [Go(to)])
 
+    def sign(self, start: int) -> Part:
+        """Tests that the signature has this address ("The lean form")."""
+        return Role("signature", (start,)), [Const(T, start), *words_of("sub x31, x16, x30; slli x31, x31, 32; beq x31, x0, 8; ebreak")]
+
     def leave(self, block: Block) -> List[Part]:
         """The leave of a block ("The lean form")."""
         end, at, start = block.end, block.end_address, block.start
@@ -68,8 +73,7 @@ class Lean:
         if end.name == "zero":
             return [(role, [0])]
         if end.name == "ecall":
-            sign = [Const(T, start), *words_of("sub x31, x16, x30; slli x31, x31, 32; beq x31, x0, 8; ebreak")]
-            return [*compare((), "end"), (Role("signature", (start,)), sign), *self.swept(), (role, [*words_of("ecall")])]
+            return [*compare((), "end"), self.sign(start), *self.swept(), (role, [*words_of("ecall")])]
         link: List[Item] = [Const(end.rd, at + 4 & WORD), Const(pair(end.rd), at + 4 & WORD)] if end.rd else []
         target, after = at + end.imm & WORD, at + 4 & WORD
         if end.name == "jal":
@@ -99,9 +103,10 @@ class Lean:
 
     def entry(self, block: Block, at: int) -> List[Part]:
         """The entry of a block, which stands at an address ("The lean form")."""
-        most = 2 + sum(part_steps(i, self.options.diverse) for i in block.body) + self.leave_steps(block)
-        call = encode(Instruction("jal", 31, imm=self.check_address() - (at + 8)))
-        parts: List[Part] = [(Role("tick", (block.start,)), [*words_of(f"addi x15, x15, {most}; blt x15, x0, 12"), call, encode(EBREAK)])]
+        most = self.entry_steps + sum(part_steps(i, self.options.diverse) for i in block.body) + self.leave_steps(block)
+        parts: List[Part] = [self.sign(block.start)] if self.options.land else []
+        call = encode(Instruction("jal", 31, imm=self.check_address() - (at + size_of(items_of(parts), False) + 8)))
+        parts.append((Role("tick", (block.start,)), [*words_of(f"addi x15, x15, {most}; blt x15, x0, 12"), call, encode(EBREAK)]))
         first = 0
         for length in block.pieces:
             piece = [(block.start + 4 * k, block.body[k]) for k in range(first, first + length)]
@@ -126,10 +131,12 @@ class Lean:
         data = self.test.data
         first = data[0].start if data else self.test.base
         role = Role("check")
+        link = 36 if self.options.land else 12
         return [
             (role, [Const(T, self.test.base),
-                    *words_of("sub x15, x16, x30; slli x15, x15, 32; srli x15, x15, 32; add x15, x15, x30; sub x16, x16, x15; srli x16, x16, 32; "
-                              "add x30, x15, x14; add x30, x30, x14; sub x31, x31, x30; lw x30, 0(x30); addi x30, x30, 12; beq x30, x31, 8; ebreak")]),
+                    *words_of("sub x15, x16, x30; slli x15, x15, 32; srli x15, x15, 32; add x15, x15, x30; sub x16, x16, x15; srli x16, x16, 32"),
+                    *words_of("add x30, x15, x14; add x30, x30, x14; sub x31, x31, x30; lw x30, 0(x30); "
+                              f"addi x30, x30, {link}; beq x30, x31, 8; ebreak")]),
             *compare((), "check"),
             (role, [*words_of("addi x30, x15, 0"), Const(CURSOR, first), *words_of("add x15, x15, x16; addi x16, x30, 0")]),
             (Role("visit", (), 0, "check"), visit(data, self.options.round)),
@@ -150,9 +157,11 @@ class Lean:
         ranges, words, options = len(self.test.data), self.test.data_words, self.options
         ends = 2 * ranges + 8 * words + 14 if options.sweep else 0
         check = 44 + (7 + 3 * (ranges if words else 1)) * options.round
-        period = check + options.lean + 2
-        word = 67 + ends + (-(-words // options.round) + 1) * period if words else None
-        return Bounds(24 + check + (8 if options.diverse else 5) * options.inst_max, 67 + ends + period, word, 31 + ends)
+        period = check + options.lean + self.entry_steps
+        last = 65 + self.entry_steps + ends
+        word = last + (-(-words // options.round) + 1) * period if words else None
+        piece = 20 + 2 * self.entry_steps + check + (8 if options.diverse else 5) * options.inst_max
+        return Bounds(piece, last + period, word, 31 + ends)
 
 
 def weave_lean(test: Test, options: Options, blocks: List[Block]) -> Woven:

@@ -88,7 +88,7 @@ def _options(options: Options) -> str:
     half, lean = ("None" if number is None else f"Some({number})" for number in (options.half, options.lean))
     return (f"Options {{ inst_min: {options.inst_min}, inst_max: {options.inst_max}, round: {options.round}, "
             f"half: {half}, sweep: {str(options.sweep).lower()}, diverse: {str(options.diverse).lower()}, "
-            f"entries: {options.entries.capitalize()}, lean: {lean} }}")
+            f"entries: {options.entries.capitalize()}, lean: {lean}, land: {str(options.land).lower()} }}")
 
 
 def _change(change: Change) -> str:

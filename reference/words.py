@@ -24,7 +24,7 @@ class Command:
     flags: List[str] = field(default_factory=list)
 
 
-WEAVING_FLAGS = ["sweep", "diverse", "lean"]
+WEAVING_FLAGS = ["sweep", "diverse", "lean", "land"]
 
 COMMANDS = {
     "transform": Command(2, 2, WEAVING, [], WEAVING_FLAGS),
@@ -64,7 +64,7 @@ class Order:
         return Options(self.values.get("inst-min", min(4, (most + 1) // 2)), most,
                        self.values.get("round", 4 if is_lean else 1), self.values.get("half"), "sweep" in self.flags,
                        "diverse" in self.flags, self.values.get("entries", "reached" if is_lean else "all"),
-                       self.values.get("every", 1200) if is_lean else None)
+                       self.values.get("every", 1200) if is_lean else None, "land" in self.flags)
 
 
 def change_of(text: str) -> Optional[Change]:
@@ -162,7 +162,7 @@ def _lean(options: Options) -> None:
     """The sixth group of reasons, of the lean form."""
     if options.entries == "all":
         raise Usage("all entries")
-    most = 21 + (8 if options.diverse else 5) * options.inst_max
+    most = (26 if options.land else 21) + (8 if options.diverse else 5) * options.inst_max
     if options.lean <= most:
         raise Usage(f"few steps {most}")
 
@@ -187,7 +187,7 @@ def order_of(words: List[str]) -> Order:
             order.values[name] = _value_of(name, texts[name], len(files))
     if "inst-max" in command.options and 2 * order.options().inst_min > order.options().inst_max + 1:
         raise Usage("split")
-    if "every" in order.values and "lean" not in flags:
+    if ("every" in order.values or "land" in flags) and "lean" not in flags:
         raise Usage("missing option lean")
     if "lean" in flags:
         _lean(order.options())
