@@ -1,9 +1,10 @@
 //! The check, one for all of the code.
 ghost use Rattle.std.specs.Prelude.{◌≡◌, ◌^◌, ◌≤◌, ◌<◌, ◌++◌, OnOk};
 ghost use Rattle.qed_model.specs.Weave.Sequences.{compare, visit};
-ghost use Rattle.qed_model.specs.Weave.Lean.{first_word as first_word_of, parted, called, begun, done, check, look_up};
+ghost use Rattle.qed_model.specs.Weave.Lean.{first_word as first_word_of, parted, called, begun, done, check, look_up, call_at as call_at_of};
 ghost use Rattle.plc_rounds.specs.Spans.{spans_of};
 
+use crate::tick::call_at;
 use eddi_dup::CompareAll;
 use flow_tracking::put_look_up;
 use passes::{Emit, Pass, plain, register};
@@ -143,20 +144,19 @@ fn put_linked(
     put_compared(first, every, visits, out)
 }
 
-/// The check of an input that begins at `base`, which ticks call so many bytes behind the entries, and which sets the counter to
-/// less `every`.
+/// The check of an input that begins at `base`, which sets the counter to less `every`; entries test the signature or not.
 pub(crate) fn put_check(
     base: u64,
-    call: u64,
+    land: bool,
     every: u64,
     visits: &Visit,
     out: &mut Emit,
 ) -> Result<(), AllocError>
-    requires place { call ≤ 32 }
-    requires few { every ≤ 2048 }
-    ensures { OnOk result (out.new ≡ out.old ++ check base call every visits.now.round (spans_of visits.now.span)) }
+    requires { every ≤ 2048 }
+    ensures { OnOk result (out.new ≡ out.old ++ check base (call_at_of land) every visits.now.round (spans_of visits.now.span)) }
 {
     put_parted(base, out)?;
     let first = first_word(base, visits.span.as_slice());
-    put_linked(call, first, every, visits, out)
+    put_linked(call_at(land), first, every, visits, out)?;
+    Ok(())
 }

@@ -102,7 +102,7 @@ impl<'a> Weaving for LeanWeaver<'a> {
 
     fn first(&self, distance: u64, entry: u64, out: &mut Emit) -> Result<(), AllocError> {
         put_begin(distance, entry, out)?;
-        put_check(self.base, call_at(self.land), self.every, &self.visits, out)
+        put_check(self.base, self.land, self.every, &self.visits, out)
     }
 
     fn enter(&self, block: &CodeBlock, out: &mut Emit) -> Result<(), AllocError> {

@@ -1,5 +1,4 @@
-use Rattle.std.proofs.Common.{◌∷◌, [], false}
-use Rattle.std.proofs.Tactics.{omega}
+use Rattle.std.proofs.Common.{◌∷◌, [], false, arith}
 use Rattle.qed_model.specs.declared.item.Item.TheVariants.{Go}
 use Rattle.qed_model.specs.Weave.Lean.{turn}
 use Rattle.qed_model.proofs.PlacedWords.{size-append}
