@@ -6,7 +6,7 @@ ghost use Rattle.qed_model.specs.Weave.LeanBounds.{check_bound, period as period
 ghost use Rattle.qed_model.specs.Weave.Pieces.{piece_count};
 ghost use Rattle.bound_calc.specs.Fitting.{fitting, AreSmall};
 
-use crate::steps::{end, fitting, round};
+use crate::steps::{cost, end, fitting, round};
 use qed_model::{Bounds, Shape};
 
 /// The check.
@@ -30,9 +30,10 @@ fn entry(land: bool) -> u128
 fn piece(shape: &Shape, check: u64) -> Option<u64>
     ensures { result ≡ fitting (20 + 2 * entry_steps_of shape.now.land + check + cost_of shape.now.diverse * shape.now.inst_max) }
 {
-    let cost: u128 = if shape.diverse { 8 } else { 5 };
+    let cost = cost(shape.diverse);
+    let body = cost * u128::from(shape.inst_max);
     let entry = entry(shape.land);
-    fitting(20 + 2 * entry + cost * u128::from(shape.inst_max) + u128::from(check))
+    fitting(20 + 2 * entry + body + u128::from(check))
 }
 
 /// The checks in which all words are visited, and one more.
