@@ -3,7 +3,7 @@ use Rattle.std.proofs.Common.{◌≡◌, ◌⊎◌, inl, inr, ℕ, suc, ◌+◌,
 use Rattle.std.specs.Prelude.{Option, Some, None, is_some, All, slice_get}
 use Rattle.std.proofs.Math.ListN.{set, replicate}
 use Rattle.std.proofs.lemmas.Bool.{cases_eq}
-use Rattle.std.proofs.lemmas.Option.{slice_get_within, slice_get-get_or, get_or_from_slice_get}
+use Rattle.std.proofs.lemmas.Option.{same_Some, slice_get_within, slice_get-get_or, get_or_from_slice_get}
 use Rattle.std.proofs.lemmas.List.Elements.{All-nil, All-cons, All-head, All-tail}
 use Rattle.std.proofs.lemmas.List.{append-nil, drop_all, get_or-replicate, length-replicate, get_or-set_same, get_or-set_other, length-set}
 use Rattle.qed_model.specs.declared.change.Change.{Change}
@@ -60,9 +60,6 @@ none_known p strikes n found e k cs known there got =
     let none : known ≡ None = sym (get_or_from_slice_get (replicate n None) k known None all) ∙ get_or-replicate n k None None (omega (arith, within, size)) in
     subst (IsKnown p cs) (sym none) tt
 
-some_same : {A : Type 0} {x y : A} → Some x ≡ Some y → x ≡ y
-some_same e = cc
-
 -- one more
 known_at :
     (p : Pair) (found after : List (Option Verdict)) (k j : ℕ) (ds : List Change) (r q : Option Verdict) → k < length found → after ≡ set found k r → slice_get after j ≡ Some q
@@ -85,4 +82,4 @@ known_more p strikes found after k cs r lt here e is so_far j ds q there got =
     known_at p found after k j ds r q lt e got (λ same. subst (λ xs. IsKnown p xs r) (the_same same) is) (so_far j ds q there) (cases_eq j k)
   where
     the_same : j ≡ k → cs ≡ ds
-    the_same same = some_same (sym here ∙ ap (slice_get strikes) (sym same) ∙ there)
+    the_same same = same_Some cs ds (sym here ∙ ap (slice_get strikes) (sym same) ∙ there)
