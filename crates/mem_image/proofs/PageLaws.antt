@@ -1,5 +1,5 @@
 -- The bytes of a page, of which the first are a segment's.
-use Rattle.std.proofs.Common.{◌≡◌, ℕ, zero, suc, ◌+◌, ◌-◌, ◌<◌, ◌≤◌, List, [], ◌∷◌, length, take, drop, refl, sym, ap, ◌∙◌, arith, add-one, replicate, get_or-set_same, get_or-set_other, length-set, ⊎_elim}
+use Rattle.std.proofs.Common.{◌≡◌, ℕ, zero, suc, ◌+◌, ◌-◌, ◌<◌, ◌≤◌, List, [], ◌∷◌, length, take, refl, sym, ap, ◌∙◌, arith, add-one, replicate, get_or-set_same, get_or-set_other, length-set, ⊎_elim}
 use Rattle.std.specs.Prelude.{slice_index, slice_set}
 use Rattle.qed_model.specs.Machine.Memory.{byte_of}
 use Rattle.std.proofs.lemmas.Bool.{cases_lt}
@@ -7,7 +7,6 @@ use Rattle.std.proofs.lemmas.List.{length-replicate}
 use Rattle.qed_model.proofs.CellsAmong.{index_zeros}
 use Rattle.qed_model.specs.Machine.Program.{LoadSegment}
 use Rattle.mem_image.specs.Segments.{number_in, bytes_put, with_byte_at, with_bytes_at, IsLike}
-use Rattle.mem_image.specs.Pages.{HoldsFrom}
 use Rattle.mem_image.proofs.WholeLaws.{address-with_bytes, size-with_bytes, length-with_bytes}
 
 -- ---- the first bytes
@@ -91,22 +90,6 @@ length_first zero bs h = refl
 length_first (suc k) [] h = absurd (omega arith)
 length_first (suc k) (b ∷ bs) h = ap suc (length_first k bs (omega arith))
 
-pub length_put : (bs : List ℕ) (i n v : ℕ) → length (bytes_put bs i n v) ≡ length bs
-unfolding bytes_put
-length_put bs i zero v = refl
-length_put bs i (suc n) v = length-set _ _ _ ∙ length_put bs i n v
-
 -- a segment whose bytes were put
 pub like_put : (s t : LoadSegment) (a n v : ℕ) → t ≡ with_bytes_at s a n v → IsLike s t
 like_put s t a n v e = rw e (record { address = address-with_bytes s a n v; size = size-with_bytes s a n v; bytes = length-with_bytes s a n v })
-
-index-drop : (d : ℕ) (bs : List ℕ) (i : ℕ) → slice_index (drop d bs) i ≡ slice_index bs (d + i)
-index-drop zero bs i = let e : 0 + i ≡ i = omega arith in rw e refl
-index-drop (suc d) [] i = refl
-index-drop (suc d) (b ∷ bs) i = let e : suc d + i ≡ suc (d + i) = omega arith in rw e (index-drop d bs i)
-
-pub holds_drop : (bs page : List ℕ) (d : ℕ) → HoldsFrom (drop d bs) 0 page → HoldsFrom bs d page
-holds_drop bs page d h = record { count = h.count; bytes = λ i l. let e : 0 + i ≡ i = omega arith in (rw e at (h.bytes i l)) ∙ index-drop d bs i }
-
-pub holds_zeros : (bs page : List ℕ) (d : ℕ) → length bs ≤ d → HoldsFrom [] 0 page → HoldsFrom bs d page
-holds_zeros bs page d e h = record { count = h.count; bytes = λ i l. h.bytes i l ∙ sym (index_past bs (d + i) (omega arith)) }

@@ -15,7 +15,7 @@ use Rattle.qed_model.specs.Machine.Memory.{Cell}
 use Rattle.qed_model.specs.Machine.Program.{LoadSegment}
 use Rattle.qed_model.specs.Machine.Cells.{has, cell_at, cell_among}
 use Rattle.qed_model.specs.Machine.Apart.{AllFitMemory, FitsMemory, share, AreApart}
-use Rattle.mem_image.specs.Overlap.{segment_of, segments_of, Ascends, AreSound}
+use Rattle.mem_image.specs.Overlap.{segment_of, segments_of, Ascends}
 use Rattle.mem_image.specs.Pages.{IsPageOf, Below, first_part, IsPaged, IsPlace, Orders, Names, HasOne, Covers}
 use Rattle.mem_image.proofs.SegmentLaws.{cell_among-none, cell_among-first}
 use Rattle.mem_image.specs.declared.spec.SegmentSpec.{SegmentSpec}
@@ -66,12 +66,6 @@ page_cell s h d q p w =
     let e : d + (q - h.address) ≡ q - s.address = omega (arith, a, i) in
     let b : slice_index h.bytes (q - h.address) ≡ slice_index s.bytes (q - s.address) = rw e at (p.bytes (q - h.address) (omega (arith, i))) in
     rw (b, p.flags) refl
-
-pub paged_none : (old : List LoadSegment) (s : LoadSegment) → Below old s.address → IsPaged old s old 0
-paged_none old s b = record {
-  below = record { fit = b.fit; ascends = b.ascends; ends = λ k t g. let m = b.ends k t g in omega arith };
-  cells = λ q. rw (outside (first_part s 0) q (λ x y. omega arith)) refl;
-}
 
 pub paged_more : (old xs : List LoadSegment) (s h : LoadSegment) (d : ℕ) → Below old s.address → IsPaged old s xs d → FitsMemory s → d < s.size → IsPageOf s d h → IsPaged old s (xs ++ (h ∷ [])) (d + h.size)
 paged_more old xs s h d b i f l p =
@@ -180,9 +174,6 @@ module _ (ss : List LoadSegment) (order : List (ℕ × ℕ)) (pages : List LoadS
     by (Some d) e =
         let o = c.only q d e in
         c.cells o.place o.segment q o.below o.names o.inside ∙ sym (cell_among-first ss q o.names.number o.segment o.names.segment o.inside (before_apart ss o.names.number o.segment q covers_apart o.names.segment o.inside))
-
-  pub covers_sound : AreSound pages
-  covers_sound = record { fit = c.below.fit; ascends = c.below.ascends }
 
 -- ---- two that share a byte
 -- the segment of a place begins below the end of those before it, so that one of these has its first byte too

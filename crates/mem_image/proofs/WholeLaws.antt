@@ -102,15 +102,6 @@ length-with_bytes s a (suc n) v = length-set _ _ _ ∙ length-with_bytes s a n v
 pub has-with_bytes : (s : LoadSegment) (a n v q : ℕ) → has (with_bytes_at s a n v) q ≡ has s q
 has-with_bytes s a n v q = rw (address-with_bytes s a n v, size-with_bytes s a n v) refl
 
--- nothing, and one byte more
-pub with_bytes-none : (s : LoadSegment) (a v : ℕ) → with_bytes_at s a 0 v ≡ s
-unfolding with_bytes_at
-with_bytes-none s a v = refl
-
-pub with_bytes-more : (s : LoadSegment) (a n v : ℕ) → with_byte_at (with_bytes_at s a n v) (a + n) (byte_of v n) ≡ with_bytes_at s a (n + 1) v
-unfolding with_bytes_at
-with_bytes-more s a n v = rw add-one refl
-
 -- ---- segments that share nothing
 -- two segments with an address in common share a byte
 pub shared : (s t : LoadSegment) (q : ℕ) → has s q ≡ true → has t q ≡ true → share s t ≡ true
