@@ -4,7 +4,7 @@ use Rattle.std.specs.Prelude.{All, IsPermutation, nat_eq, slice_get, slice_index
 use Rattle.std.specs.List.{IsDistinct}
 use Rattle.std.specs.List.Sorted.{IsNonDecreasingBy}
 use Rattle.std.proofs.lemmas.Cmp.{nat_eq_equiv, on_equiv}
-use Rattle.std.proofs.lemmas.Option.{slice_get-get_or, slice_get_within, get_or_from_slice_get}
+use Rattle.std.proofs.lemmas.Option.{slice_get-get_or, slice_get_within, get_or_from_slice_get, same_Some}
 use Rattle.std.proofs.lemmas.List.Elements.{All-push, Contains-append_left, Contains-push}
 use Rattle.std.proofs.lemmas.List.Folds.{list_any_none}
 use Rattle.std.proofs.lemmas.List.Sorted.{All-permutation, Contains-permutation}
@@ -93,13 +93,10 @@ paged_more old xs s h d b i f l p =
           rw (behind_none (cell_among old q), outside (first_part s (d + h.size)) q (λ u v. ⊎_elim (λ k. false≢true (sym wx ∙ has_from (first_part s d) q u k)) (λ k. false≢true (sym wy ∙ has_from h q (omega (arith, a)) (omega (arith, a)))) (cases_lt q (s.address + d)))) refl
 
 -- ---- a segment more
-some_same : {A : Type 0} (a b : A) → Some a ≡ Some b → a ≡ b
-some_same a b e = cc
-
 names_same : (ss : List LoadSegment) (order : List (ℕ × ℕ)) (j : ℕ) (s t : LoadSegment) → Names ss order j s → Names ss order j t → s ≡ t
 names_same ss order j s t x y =
-    let e : x.number ≡ y.number = ap (λ (p : ℕ × ℕ). p.1) (some_same (s.address, x.number) (t.address, y.number) (sym x.stands ∙ y.stands)) in
-    some_same s t (sym x.segment ∙ ap (slice_get ss) e ∙ y.segment)
+    let e : x.number ≡ y.number = ap (λ (p : ℕ × ℕ). p.1) (same_Some (s.address, x.number) (t.address, y.number) (sym x.stands ∙ y.stands)) in
+    same_Some s t (sym x.segment ∙ ap (slice_get ss) e ∙ y.segment)
 
 -- the last place, or one before it
 names_last : (ss : List LoadSegment) (order : List (ℕ × ℕ)) (n j : ℕ) (s t : LoadSegment) → Names ss order n s → j < n + 1 → Names ss order j t → (j < n) ⊎ ((j ≡ n) × (s ≡ t))
@@ -154,7 +151,7 @@ module _ (ss : List LoadSegment) (order : List (ℕ × ℕ)) (pages : List LoadS
       let a : Names ss order x.0 o.first = record { number = i; stands = x.1.1; segment = o.first_at; some = h.0.0 } in
       let b : Names ss order y.0 o.second = record { number = j; stands = y.1.1; segment = o.second_at; some = h.0.1 } in
       ⊎_elim (λ l. let e = c.apart x.0 y.0 o.first o.second l (let m = y.1.0 in omega (arith, m, whole)) a b in omega (arith, e, h))
-      (λ l. ⊎_elim (λ m. let e = c.apart y.0 x.0 o.second o.first m (let k = x.1.0 in omega (arith, k, whole)) b a in omega (arith, e, h)) (λ m. let e : y.0 ≡ x.0 = omega (arith, l, m) in let d = o.order in let there : slice_get order x.0 ≡ Some (o.second.address, j) = rw e at y.1.1 in let same : i ≡ j = ap (λ (p : ℕ × ℕ). p.1) (some_same (o.first.address, i) (o.second.address, j) (sym x.1.1 ∙ there)) in omega (arith, same, d)) (cases_lt y.0 x.0)) (cases_lt x.0 y.0)
+      (λ l. ⊎_elim (λ m. let e = c.apart y.0 x.0 o.second o.first m (let k = x.1.0 in omega (arith, k, whole)) b a in omega (arith, e, h)) (λ m. let e : y.0 ≡ x.0 = omega (arith, l, m) in let d = o.order in let there : slice_get order x.0 ≡ Some (o.second.address, j) = rw e at y.1.1 in let same : i ≡ j = ap (λ (p : ℕ × ℕ). p.1) (same_Some (o.first.address, i) (o.second.address, j) (sym x.1.1 ∙ there)) in omega (arith, same, d)) (cases_lt y.0 x.0)) (cases_lt x.0 y.0)
 
   none_there : (q : ℕ) → cell_among pages q ≡ None → (k : ℕ) (s : LoadSegment) → slice_get ss k ≡ Some s → has s q ≡ false
   none_there q e k s g = by (has s q) refl where
@@ -201,7 +198,7 @@ places_later ss order n o = λ k d l. let h = o.places k d l in let below = h.be
 
 -- the last number, or one before it
 number_last : (ss : List LoadSegment) (n k : ℕ) (r s : LoadSegment) → slice_get ss n ≡ Some r → k < n + 1 → slice_get ss k ≡ Some s → (k < n) ⊎ ((k ≡ n) × (s ≡ r))
-number_last ss n k r s at l e = ⊎_elim (λ m. inl m) (λ m. let is : k ≡ n = omega arith in inr (is, some_same s r (sym e ∙ ap (slice_get ss) is ∙ at))) (cases_lt k n)
+number_last ss n k r s at l e = ⊎_elim (λ m. inl m) (λ m. let is : k ≡ n = omega arith in inr (is, same_Some s r (sym e ∙ ap (slice_get ss) is ∙ at))) (cases_lt k n)
 
 -- none so far
 pub orders_none : (ss : List LoadSegment) → Orders ss [] 0
@@ -243,6 +240,6 @@ pub names_read : (specs : List SegmentSpec) (order : List (ℕ × ℕ)) (j : ℕ
 names_read specs order j p a o l e r =
     let place : IsPlace (segments_of specs) (length specs) p = subst (IsPlace (segments_of specs) (length specs)) (sym e) (o.places j p l) in
     let there = segment_there specs p.1 a place.below r in
-    let is : place.segment ≡ segment_of a = some_same place.segment (segment_of a) (sym place.stands ∙ there) in
+    let is : place.segment ≡ segment_of a = same_Some place.segment (segment_of a) (sym place.stands ∙ there) in
     let at : p.0 ≡ a.address = place.address ∙ ap (λ (s : LoadSegment). s.address) is in
     record { number = p.1; stands = slice_get-get_or order j p l ∙ ap Some (sym e) ∙ ap (λ q. Some (q, p.1)) at; segment = there; some = subst (λ (s : LoadSegment). 0 < s.size) is place.some }

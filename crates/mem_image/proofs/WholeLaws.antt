@@ -180,10 +180,6 @@ here_whole ss l a n k s e h below read =
 pub here_at : (ss : List LoadSegment) (a n k : ℕ) (d : LoadSegment) → IsWholeAt ss a n k → k < length ss → (slice_get ss k ≡ Some (get_or ss k d)) × (has_all (get_or ss k d) a n ≡ true)
 here_at ss a n k d whole below = here_whole ss ss a n k (get_or ss k d) refl whole below (get_or_default ss k d (get_or ss k d) below)
 
--- the segment at a place, as code that may change it reads it
-pub there_at : (ss : List LoadSegment) (k : ℕ) (d : LoadSegment) → k < length ss → slice_get ss k ≡ Some (get_or ss k d)
-there_at ss k d below = stands_at ss k (get_or ss k d) below (get_or_default ss k d (get_or ss k d) below)
-
 -- a segment of those that make a memory stands in it
 pub among_stands : (ss : List LoadSegment) (k : ℕ) (s : LoadSegment) → AreSound ss → slice_get ss k ≡ Some s → Stands (memory_of ss) s
 among_stands ss k s h e = record { cells = λ q w. get_whole ss k s q h e w; ends = ends ss k s h.fit e }

@@ -2,7 +2,7 @@
 use Rattle.std.proofs.Common.{◌≡◌, ⊎_elim, ℕ, ◌+◌, ◌-◌, ◌*◌, ◌/◌, ◌%◌, ◌^◌, ◌<◌, ◌≤◌, Bool, true, false, cond, ◌&&◌, ◌||◌, List, [], ◌∷◌, Option, Some, None, refl, sym, ap, ◌∙◌, subst, arith}
 use Rattle.std.specs.Prelude.{map, ◌==◌, is_some, All}
 use Rattle.std.specs.Option.{option_map, option_or}
-use Rattle.std.proofs.lemmas.Bool.{false≢true, and_parts, and_from, eqb-true, eq-eqb, or_cases}
+use Rattle.std.proofs.lemmas.Bool.{false≢true, and_parts, and_from, eqb-true, eq-eqb, or_cases, or_right}
 use Rattle.std.proofs.lemmas.List.Elements.{All-nil, All-cons, All-head, All-tail}
 use Rattle.elf_types.specs.declared.file.ElfFile.{ElfFile}
 use Rattle.rv_isa.specs.declared.ins.Ins.{Ins}
@@ -139,15 +139,12 @@ module _ (word : ℕ → ℕ) (r : CodeRule) where
   later_found : (low : ℕ) (p : Part) (ps : List Part) (a found : ℕ) → Follow low (p ∷ ps) → HasWords p → first (p.size / 4) (faults_at r p) ≡ None → IsFirst (p.start + p.size) ps a found → IsFirst low (p ∷ ps) a found
   later_found low p ps a found h w e f = record {
     aligned = f.aligned;
-    within = or_second (is_in (span_of p) a) (is_in_any (map span_of ps) a) f.within;
+    within = or_right (is_in (span_of p) a) (is_in_any (map span_of ps) a) f.within;
     small = f.small;
     is = f.is;
     fault = f.fault;
     least = λ q l c m. ⊎_elim (none_part p q w h.2 h.3 e c) (f.least q l c) (or_cases (is_in (span_of p) q) (is_in_any (map span_of ps) q) m);
-  } where
-    or_second : (x y : Bool) → y ≡ true → (x || y) ≡ true
-    or_second true y k = refl
-    or_second false y k = k
+  }
 
   first_found : (low : ℕ) (ps : List Part) (a found : ℕ) → Follow low ps → AllWords ps → first_among r ps ≡ Some (a, found) → IsFirst low ps a found
   first_found low [] a found h w e = absurd (cc)
