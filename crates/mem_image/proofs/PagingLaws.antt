@@ -20,7 +20,8 @@ use Rattle.mem_image.specs.Pages.{IsPageOf, Below, first_part, IsPaged, IsPlace,
 use Rattle.mem_image.proofs.SegmentLaws.{cell_among-none, cell_among-first}
 use Rattle.mem_image.specs.declared.spec.SegmentSpec.{SegmentSpec}
 use Rattle.mem_image.proofs.OverlapLaws.{segment_there}
-use Rattle.mem_image.proofs.WholeLaws.{before_apart, shared}
+use Rattle.qed_model.proofs.ApartLaws.{shared}
+use Rattle.mem_image.proofs.WholeLaws.{before_apart}
 use Rattle.qed_model.proofs.CellsAmong.{has_from, has_parts}
 use Rattle.mem_image.proofs.PlaceLaws.{outside}
 

@@ -13,6 +13,7 @@ use Rattle.qed_model.proofs.CellsLaws.{byte_of_cell}
 use Rattle.qed_model.specs.Machine.Apart.{share, AllFitMemory, AreApart}
 use Rattle.qed_model.specs.Machine.Cells.{cell_at, has}
 use Rattle.qed_model.proofs.CellsAmong.{has_from}
+use Rattle.qed_model.proofs.ApartLaws.{shared}
 use Rattle.mem_image.specs.Segments.{has_all, number_in, with_byte_at, with_bytes_at, IsWholeAt, IsLike}
 use Rattle.mem_image.specs.Access.{allowed_number}
 use Rattle.mem_image.specs.Fixed.{Stands}
@@ -103,10 +104,6 @@ pub has-with_bytes : (s : LoadSegment) (a n v q : ℕ) → has (with_bytes_at s 
 has-with_bytes s a n v q = rw (address-with_bytes s a n v, size-with_bytes s a n v) refl
 
 -- ---- segments that share nothing
--- two segments with an address in common share a byte
-pub shared : (s t : LoadSegment) (q : ℕ) → has s q ≡ true → has t q ≡ true → share s t ≡ true
-shared s t q x y = grind (arith, nat_tests)
-
 -- an address has one segment
 pub before_apart : (ss : List LoadSegment) (k : ℕ) (s : LoadSegment) (q : ℕ) → AreApart ss → slice_get ss k ≡ Some s → has s q ≡ true → (j : ℕ) (p : LoadSegment) → j < k → slice_get ss j ≡ Some p → has p q ≡ false
 before_apart ss k s q apart at w j p h e = by (has p q) refl where

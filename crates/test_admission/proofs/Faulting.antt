@@ -23,6 +23,7 @@ use Rattle.qed_model.specs.Admission.Rules.{passes_at, high_in, high_at, is_unkn
 use Rattle.qed_model.specs.Weave.Sequences.{is_auipc}
 use Rattle.qed_model.specs.Admission.Refusals.{IsLeast, IsRefusedBy}
 use Rattle.qed_model.proofs.BelowLaws.{first_least, each_fails}
+use Rattle.qed_model.proofs.CellsAmong.{by_bytes}
 use Rattle.qed_model.proofs.DataRangesLaws.{in_parts, in_from}
 use Rattle.test_admission.specs.declared.rules.CodeRule.{CodeRule}
 use Rattle.test_admission.specs.declared.rules.CodeRule.TheVariants as rule
@@ -30,13 +31,10 @@ use Rattle.test_admission.specs.declared.stretches.Stretch.{Stretch}
 use Rattle.test_admission.specs.Order.{PassesBelow}
 use Rattle.test_admission.specs.Stretches.{Part, parts_of, span_of, Reads, AllFit, Follow, AreCodeOf}
 use Rattle.test_admission.specs.Faults.{is_at_fault, word_in, faults_at, word_of, first_in, first_among, HasHigh}
+use Rattle.test_admission.proofs.FirstFault.{none_case}
 use Rattle.test_admission.proofs.OrderLaws.{passes_unknown_word, passes_register_half, passes_breakpoint, passes_far_constant, refused}
 
 -- ---- words
-by_bytes : (ls : List LoadSegment) (a : ℕ) → number_among ls a 4 ≡ byte_among ls a + 256 * (byte_among ls (a + 1) + 256 * (byte_among ls (a + 1 + 1) + 256 * (byte_among ls (a + 1 + 1 + 1) + 256 * 0)))
-unfolding number_among
-by_bytes ls a = refl
-
 -- word k of a part is that of the image
 pub part_word : (ls : List LoadSegment) (p : Part) (k : ℕ) → Reads ls p → k < p.size / 4 → word_in p.bytes (4 * k) ≡ number_among ls (p.start + 4 * k) 4
 part_word ls p k r lt =
@@ -99,10 +97,6 @@ module _ (word : ℕ → ℕ) (r : CodeRule) where
   none_part p q w a b e c h =
       let x = place_in p q a b c h in
       subst (λ z. is_at_fault r z (word z) ≡ false) (sym x.is) (fault_same p x.place false w x.below (each_fails (p.size / 4) (faults_at r p) e x.place x.below))
-
-  none_case : (p : Part) (o : Option ℕ) → option_map (word_of p) o ≡ None → o ≡ None
-  none_case p None e = refl
-  none_case p (Some k) e = absurd (cc)
 
   pub none_found : (low : ℕ) (ps : List Part) → Follow low ps → AllWords ps → first_among r ps ≡ None → (q : ℕ) → q % 4 ≡ 0 → is_in_any (map span_of ps) q ≡ true → is_at_fault r q (word q) ≡ false
   none_found low [] h w e q c m = absurd (false≢true m)
