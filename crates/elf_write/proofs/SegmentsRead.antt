@@ -92,7 +92,7 @@ all_described file at (s ∷ segments) loadable stand =
     rw (described_is file (offset_from at s.address) s l.kind stand.0, rest) refl
 
 -- ---- what the rules ask of each
-and_false : (b : Bool) → (b && false) ≡ false
+pub and_false : (b : Bool) → (b && false) ≡ false
 and_false true = refl
 and_false false = refl
 

@@ -1,5 +1,5 @@
 -- The symbols that were written, read.
-use Rattle.std.proofs.Common.{◌≡◌, ℕ, zero, suc, ◌+◌, ◌*◌, ◌/◌, ◌%◌, ◌^◌, ◌<◌, ◌&&◌, Bool, true, false, ltb, eqb, List, [], ◌∷◌, ◌++◌, length, map, Some, Ok, refl, sym, ap, subst, ◌∙◌, arith, length-append, zero-add}
+use Rattle.std.proofs.Common.{◌≡◌, ℕ, zero, suc, ◌+◌, ◌*◌, ◌/◌, ◌%◌, ◌^◌, ◌<◌, true, false, ltb, eqb, List, [], ◌∷◌, ◌++◌, length, map, Some, Ok, refl, sym, ap, subst, ◌∙◌, arith, length-append, zero-add}
 use Rattle.std.specs.Prelude.{All}
 use Rattle.std.proofs.lemmas.Bool.Decides.{nat_tests}
 use Rattle.std.proofs.lemmas.List.Elements.{All-cons, All-nil, All-head, All-tail}
@@ -20,6 +20,7 @@ use Rattle.elf_write.proofs.Stands.{Stands, stands_whole}
 use Rattle.elf_write.proofs.Listing.{Lists, each_same, each_listed, sum_same, sum_listed, total, total-map}
 use Rattle.elf_write.proofs.NamesRead.{first_name, other_names, empty_read, names_stand}
 use Rattle.elf_write.proofs.RecordsRead.{EntryFits, entries_read}
+use Rattle.elf_write.proofs.SegmentsRead.{and_false}
 use Rattle.elf_write.proofs.TablesRead.{Known, symtab_at, strtab_at, strings_are, entries_are}
 
 -- ---- the entries' numbers fit
@@ -112,10 +113,6 @@ table_known f file known are names fit = record {
   read = all_shown f.symbols are names;
   count = omega (arith, length-entries_from 1 f.symbols);
 }
-
-and_false : (b : Bool) → (b && false) ≡ false
-and_false true = refl
-and_false false = refl
 
 named : (f : OutFile) (file : List ℕ) → TableKnown f file → (j : ℕ) → j < length (entries_of f.symbols) → is_misnamed file (symtab_header f) j ≡ false
 unfolding is_misnamed

@@ -17,7 +17,7 @@ use Rattle.elf_write.proofs.Sizes.{length-headers_of, length-headers_from, lengt
 use Rattle.elf_write.proofs.Stands.{Stands, stands_slice}
 use Rattle.elf_write.proofs.Listing.{Lists, none_passes}
 use Rattle.elf_write.proofs.HeaderRead.{HeaderRead, PartsStand}
-use Rattle.elf_write.proofs.SegmentsRead.{third_fails}
+use Rattle.elf_write.proofs.SegmentsRead.{and_false, third_fails}
 use Rattle.elf_write.proofs.SectionsRead.{EndsIn, NoWrap, IsGiven, IsEnded}
 
 -- ---- the headers in order
@@ -99,10 +99,6 @@ unfolding section_strings
 section_strings-are f file known = rw (has_names f file known, last_names f file known) (names_are f file known)
 
 -- ---- the rules on sections
-and_false : (b : Bool) → (b && false) ≡ false
-and_false true = refl
-and_false false = refl
-
 outside_not : (file : List ℕ) (h : SectionHeader) → EndsIn (length file) h → is_section_outside file h ≡ false
 unfolding is_section_outside
 outside_not file h e =

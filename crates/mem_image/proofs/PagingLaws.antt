@@ -11,6 +11,7 @@ use Rattle.std.proofs.lemmas.List.Sorted.{All-permutation, Contains-permutation}
 use Rattle.std.proofs.lemmas.Map.Keys.{IsDistinct-push, IsDistinct-IsPermutation, apart_from_distinct}
 use Rattle.std.proofs.lemmas.Bool.Decides.{nat_tests}
 use Rattle.std.proofs.lemmas.Bool.{cases_lt, false≢true}
+use Rattle.std.specs.Option.{option_or}
 use Rattle.qed_model.specs.Machine.Memory.{Cell}
 use Rattle.qed_model.specs.Machine.Program.{LoadSegment}
 use Rattle.qed_model.specs.Machine.Cells.{has, cell_at, cell_among}
@@ -22,25 +23,17 @@ use Rattle.mem_image.specs.declared.spec.SegmentSpec.{SegmentSpec}
 use Rattle.mem_image.proofs.OverlapLaws.{segment_there}
 use Rattle.qed_model.proofs.ApartLaws.{shared}
 use Rattle.mem_image.proofs.WholeLaws.{before_apart}
-use Rattle.qed_model.proofs.CellsAmong.{has_from, has_parts}
+use Rattle.qed_model.proofs.CellsAmong.{has_from, has_parts, option_or-cond}
 use Rattle.mem_image.proofs.PlaceLaws.{outside}
 
 -- ---- one page more
-abbrev behind : Option Cell → Option Cell → Option Cell
-behind None o = o
-behind (Some c) o = Some c
+or_none : (o : Option Cell) → option_or o None ≡ o
+or_none None = refl
+or_none (Some c) = refl
 
-behind_cond : (b : Bool) (c : Cell) (o p : Option Cell) → cond b (Some c) (behind o p) ≡ behind (cond b (Some c) o) p
-behind_cond true c o p = refl
-behind_cond false c o p = refl
-
-behind_none : (o : Option Cell) → behind o None ≡ o
-behind_none None = refl
-behind_none (Some c) = refl
-
-cell_among-append : (xs ys : List LoadSegment) (q : ℕ) → cell_among (xs ++ ys) q ≡ behind (cell_among xs q) (cell_among ys q)
+cell_among-append : (xs ys : List LoadSegment) (q : ℕ) → cell_among (xs ++ ys) q ≡ option_or (cell_among xs q) (cell_among ys q)
 cell_among-append [] ys q = refl
-cell_among-append (x ∷ xs) ys q = ap (cond (has x q) (Some (cell_at x q))) (cell_among-append xs ys q) ∙ behind_cond (has x q) (cell_at x q) (cell_among xs q) (cell_among ys q)
+cell_among-append (x ∷ xs) ys q = ap (cond (has x q) (Some (cell_at x q))) (cell_among-append xs ys q) ∙ sym (option_or-cond (has x q) (cell_at x q) (cell_among xs q) (cell_among ys q))
 
 all_fit-append : (xs : List LoadSegment) (h : LoadSegment) → AllFitMemory xs → FitsMemory h → AllFitMemory (xs ++ (h ∷ []))
 all_fit-append [] h f g = (g, tt)
@@ -81,9 +74,9 @@ paged_more old xs s h d b i f l p =
         ascends = ascends-append 0 xs h i.below.ascends (omega arith) ends;
         ends = ends-append xs h (s.address + (d + h.size)) (omega (arith, a)) ends;
       };
-      cells = λ q. cell_among-append xs (h ∷ []) q ∙ ap (λ o. behind o (cell_among (h ∷ []) q)) (i.cells q) ∙ at q (has (first_part s d) q) refl (has h q) refl;
+      cells = λ q. cell_among-append xs (h ∷ []) q ∙ ap (λ o. option_or o (cell_among (h ∷ []) q)) (i.cells q) ∙ at q (has (first_part s d) q) refl (has h q) refl;
     } where
-      at : (q : ℕ) (x : Bool) → has (first_part s d) q ≡ x → (y : Bool) → has h q ≡ y → behind (cond x (Some (cell_at s q)) (cell_among old q)) (cond y (Some (cell_at h q)) None) ≡ cond (has (first_part s (d + h.size)) q) (Some (cell_at s q)) (cell_among old q)
+      at : (q : ℕ) (x : Bool) → has (first_part s d) q ≡ x → (y : Bool) → has h q ≡ y → option_or (cond x (Some (cell_at s q)) (cell_among old q)) (cond y (Some (cell_at h q)) None) ≡ cond (has (first_part s (d + h.size)) q) (Some (cell_at s q)) (cell_among old q)
       at q true wx y wy = let m = has_parts (first_part s d) q wx in rw (has_from (first_part s (d + h.size)) q m.0 (omega (arith, m))) refl
       at q false wx true wy =
           let m = has_parts h q wy in
@@ -91,7 +84,7 @@ paged_more old xs s h d b i f l p =
           rw (has_from (first_part s (d + h.size)) q (omega (arith, m, a)) (omega (arith, m, a)), nothing_behind old s.address q b.ends (omega (arith, m, a)), page_cell s h d q p wy) refl
       at q false wx false wy =
           let a = p.address in
-          rw (behind_none (cell_among old q), outside (first_part s (d + h.size)) q (λ u v. ⊎_elim (λ k. false≢true (sym wx ∙ has_from (first_part s d) q u k)) (λ k. false≢true (sym wy ∙ has_from h q (omega (arith, a)) (omega (arith, a)))) (cases_lt q (s.address + d)))) refl
+          rw (or_none (cell_among old q), outside (first_part s (d + h.size)) q (λ u v. ⊎_elim (λ k. false≢true (sym wx ∙ has_from (first_part s d) q u k)) (λ k. false≢true (sym wy ∙ has_from h q (omega (arith, a)) (omega (arith, a)))) (cases_lt q (s.address + d)))) refl
 
 -- ---- a segment more
 names_same : (ss : List LoadSegment) (order : List (ℕ × ℕ)) (j : ℕ) (s t : LoadSegment) → Names ss order j s → Names ss order j t → s ≡ t

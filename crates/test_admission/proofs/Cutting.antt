@@ -22,7 +22,7 @@ use Rattle.qed_model.specs.Admission.CodeWords.{loads_of, ranges_of}
 use Rattle.qed_model.proofs.Among.{place_of}
 use Rattle.qed_model.proofs.ApartLaws.{fit_among}
 use Rattle.qed_model.specs.Members.{Among}
-use Rattle.qed_model.proofs.Fetches.{even_parts}
+use Rattle.qed_model.proofs.Fetches.{OfSection, of_section, even_parts}
 use Rattle.qed_model.proofs.ImageLaws.{among_load}
 use Rattle.test_admission.specs.declared.stretches.Stretch.{Stretch}
 use Rattle.test_admission.specs.Read.{AreRead}
@@ -60,25 +60,6 @@ pub record IsWhole (r : ℕ × ℕ) : Type 0 where
   pub size : (r.1 - r.0) % 4 ≡ 0
   pub fit : r.1 ≤ 2 ^ 64
 
--- a section that is a code range
-pub record SectionOf (ls : List LoadSegment) (ss : List Section) (r : ℕ × ℕ) : Type 0 where
-  pub section : Section
-  pub among : Among section ss
-  pub code : is_code_section section ≡ true
-  pub lies : lies_in_any section ls ≡ true
-  pub is : r ≡ section_range section
-
-section_later : (ls : List LoadSegment) (s : Section) (ss : List Section) (r : ℕ × ℕ) → SectionOf ls ss r → SectionOf ls (s ∷ ss) r
-section_later ls s ss r o = record { section = o.section; among = inr o.among; code = o.code; lies = o.lies; is = o.is }
-
-section_step : (ls : List LoadSegment) (s : Section) (ss : List Section) (r : ℕ × ℕ) → (Among r (section_ranges ls ss) → SectionOf ls ss r) → (b : Bool) → (is_code_section s && lies_in_any s ls) ≡ b → Among r (cond b (section_range s ∷ section_ranges ls ss) (section_ranges ls ss)) → SectionOf ls (s ∷ ss) r
-section_step ls s ss r rec true e m = ⊎_elim (λ d. let p = and_parts (is_code_section s) (lies_in_any s ls) e in record { section = s; among = inl refl; code = p.0; lies = p.1; is = d }) (λ k. section_later ls s ss r (rec k)) m
-section_step ls s ss r rec false e m = section_later ls s ss r (rec m)
-
-pub section_of : (ls : List LoadSegment) (ss : List Section) (r : ℕ × ℕ) → Among r (section_ranges ls ss) → SectionOf ls ss r
-section_of ls [] r m = absurd m
-section_of ls (s ∷ ss) r m = section_step ls s ss r (section_of ls ss r) (is_code_section s && lies_in_any s ls) refl m
-
 -- a section in a segment ends where the segment does, or before
 lies_fit : (ls : List LoadSegment) (s : Section) → AllFitMemory ls → lies_in_any s ls ≡ true → s.address + s.size ≤ 2 ^ 64
 lies_fit [] s h e = absurd (false≢true e)
@@ -112,7 +93,7 @@ segment_of [] r m = absurd m
 segment_of (s ∷ ss) r m = segment_step s ss r (segment_of ss r) (has_code s) refl m
 
 module _ (f : ElfFile) (read : AreRead (loads_of f)) (shaped : IsShaped f) where
-  whole_section : (r : ℕ × ℕ) → SectionOf (loads_of f) f.sections r → IsWhole r
+  whole_section : (r : ℕ × ℕ) → OfSection (loads_of f) f.sections r → IsWhole r
   whole_section r o =
       let s = o.section in
       let p = place_of s f.sections o.among in
@@ -149,7 +130,7 @@ module _ (f : ElfFile) (read : AreRead (loads_of f)) (shaped : IsShaped f) where
   whole_ranges r m = by (section_ranges (loads_of f) f.sections) refl m where
     by : (rs : List (ℕ × ℕ)) → section_ranges (loads_of f) f.sections ≡ rs → Among r (first_some rs (segment_ranges (loads_of f))) → IsWhole r
     by [] e k = whole_segment (ap is_empty e) r (segment_of f.segments r (subst (Among r) (sym (spans-whole f.segments)) k))
-    by (x ∷ xs) e k = whole_section r (section_of (loads_of f) f.sections r (subst (Among r) (sym e) k))
+    by (x ∷ xs) e k = whole_section r (of_section (loads_of f) f.sections r (subst (Among r) (sym e) k))
 
 -- ---- parts in the order of their starts
 abbrev pub Starts : ℕ → List Part → Type 0
