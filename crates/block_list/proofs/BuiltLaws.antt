@@ -1,8 +1,8 @@
 -- The blocks of words, one word more at a time.
-use Rattle.std.proofs.Common.{◌≡◌, ℕ, zero, suc, ◌+◌, ◌-◌, ◌<◌, ◌≤◌, Bool, true, false, not, cond, ◌&&◌, Option, Some, None, List, [], ◌∷◌, ◌++◌, length, map, take, drop, get_or, refl, sym, ap, ◌∙◌, subst, arith, length-drop}
+use Rattle.std.proofs.Common.{◌≡◌, ℕ, zero, suc, ◌+◌, ◌<◌, ◌≤◌, Bool, true, false, not, cond, ◌&&◌, Option, Some, None, List, [], ◌∷◌, ◌++◌, length, map, take, drop, get_or, refl, sym, ap, ◌∙◌, subst, arith}
 use Rattle.std.specs.Prelude.{◌==◌, AllPairs, filter, if◌then◌else◌}
 use Rattle.std.proofs.lemmas.Bool.{eqb-true, eq-eqb, false_from_ne_true}
-use Rattle.std.proofs.lemmas.List.{take_all, drop_all, append-nil, append_assoc}
+use Rattle.std.proofs.lemmas.List.{drop_all, append-nil, append_assoc}
 use Rattle.rv_isa.specs.declared.ins.Ins.{Ins}
 use Rattle.qed_model.specs.declared.test.CodeWord.{CodeWord}
 use Rattle.qed_model.specs.Numbers.{is_at}
@@ -12,11 +12,7 @@ use Rattle.block_list.specs.declared.block.CodeBlock.{CodeBlock}
 use Rattle.block_list.specs.Bodies.{ends, size_behind, end_behind}
 use Rattle.block_list.specs.Built.{first, behind, IsLong, IsShort, Begun, AddsBlock, Built}
 
--- the rest of words, as a slice of them
-pub rest_is : (words : List CodeWord) (at : ℕ) → take (length words - at) (drop at words) ≡ drop at words
-rest_is words at = let l = length-drop at words in take_all (length words - at) (drop at words) (omega (arith, l))
-
--- it begins with a word
+-- the rest of words begins with a word
 pub record Head (words : List CodeWord) (at : ℕ) : Type 0 where
   pub word : CodeWord
   pub is : drop at words ≡ word ∷ drop (suc at) words

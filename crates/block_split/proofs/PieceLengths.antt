@@ -3,7 +3,7 @@ use Rattle.std.proofs.Common.{◌≡◌, ℕ, zero, suc, ◌+◌, ◌-◌, ◌<�
 use Rattle.std.specs.Prelude.{flat_map, sum, ◌==◌}
 use Rattle.std.proofs.lemmas.List.Sums.{sum_by-cons}
 use Rattle.std.proofs.Math.Seq.{take-append_seam, drop-append_seam}
-use Rattle.std.proofs.lemmas.List.{map-append, take_all, take-append-drop, append_assoc, drop-drop, length-take-le, drop_all, append-nil}
+use Rattle.std.proofs.lemmas.List.{map-append, take-append-drop, append_assoc, drop-drop, length-take-le, drop_all, append-nil, take_rest}
 use Rattle.rv_isa.specs.declared.ins.Ins.{Ins}
 use Rattle.std.proofs.lemmas.Bool.{false≢true, eqb-true}
 use Rattle.rv_isa.specs.declared.class.Class.{Class}
@@ -113,20 +113,16 @@ is_some (x ∷ xs) e = omega arith
 pub all_made : (most : ℕ) (body : List Ins) (at : ℕ) (done : List ℕ) → length body ≤ at → ((later : List (List Ins)) → whole later ≡ drop at body → AreRuns later → MakeUp most body (done ++ flat_map (λ run. run_lengths most (length run)) later)) → MakeUp most body done
 all_made most body at done h made = subst (λ ls. MakeUp most body ls) (append-nil done) (made [] (sym (drop_all at body h)) tt)
 
--- the rest of a body, as a slice of it
-pub rest_is : (body : List Ins) (at : ℕ) → take (length body - at) (drop at body) ≡ drop at body
-rest_is body at = let l = length-drop at body in take_all (length body - at) (drop at body) (omega (arith, l))
-
 pub within_body : (body : List Ins) (at n : ℕ) → at ≤ length body → IsLongestRun (take (length body - at) (drop at body)) n → at + n ≤ length body
 within_body body at n h l =
-    let r : length (take (length body - at) (drop at body)) ≡ length (drop at body) = ap length (rest_is body at) in
+    let r : length (take (length body - at) (drop at body)) ≡ length (drop at body) = ap length (take_rest body at) in
     let d = length-drop at body in
     let w = l.within in
     omega (arith, r, d, w, h)
 
 pub rest_some : (body : List Ins) (at : ℕ) → at < length body → 1 ≤ length (take (length body - at) (drop at body))
 rest_some body at h =
-    let r : length (take (length body - at) (drop at body)) ≡ length (drop at body) = ap length (rest_is body at) in
+    let r : length (take (length body - at) (drop at body)) ≡ length (drop at body) = ap length (take_rest body at) in
     let d = length-drop at body in
     omega (arith, r, d, h)
 

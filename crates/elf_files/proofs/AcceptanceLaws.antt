@@ -13,8 +13,9 @@ use Rattle.elf_files.specs.Rules.{Check, refuse, refuse_found, refuse_found_at, 
 use Rattle.elf_files.specs.Refusals.{HasHeaderShape, AreSymbols, AreRelas, IsAccepted, IsRefused}
 use Rattle.elf_files.specs.File.{File, WithinReadLimits, IsReadAs}
 use Rattle.elf_types.specs.declared.file.ElfFile.{ElfFile}
-use Rattle.std.proofs.lemmas.Bool.{le-ltb}
+use Rattle.std.proofs.lemmas.Bool.{le-ltb, ltb-false, leb-false}
 use Rattle.qed_model.proofs.BelowLaws.{each_fails, first_least}
+use Rattle.elf_files.proofs.RefusalLaws.{none_found, none_of}
 
 -- ---- rules that refuse nothing
 abbrev AllPass : List Check → Type 0
@@ -30,28 +31,17 @@ fails : (e : ElfError) (test : Bool) → refuse e test ≡ Ok tt → test ≡ fa
 fails e true h = absurd cc
 fails e false h = refl
 
-none_found : (e : ℕ → ElfError) (o : Option ℕ) → refuse_found e o ≡ Ok tt → o ≡ None
-none_found e None h = refl
-none_found e (Some i) h = absurd cc
-
-none_some : (o : Option ℕ) → is_some o ≡ false → o ≡ None
-none_some None h = refl
-none_some (Some i) h = absurd cc
-
 some_none : (o : Option ℕ) → o ≡ None → is_some o ≡ true → ⊥
 some_none None none some = absurd cc
 some_none (Some i) none some = absurd cc
 
 pairs_none : (e : ℕ → ℕ → ElfError) (place : ℕ → Option ℕ) (n : ℕ) (o : Option ℕ) → first n (λ i. is_some (place i)) ≡ o → refuse_found_at e place o ≡ Ok tt
     → (i : ℕ) → i < n → place i ≡ None
-pairs_none e place n None found h i lt = none_some (place i) (each_fails n (λ k. is_some (place k)) found i lt)
+pairs_none e place n None found h i lt = none_of (place i) (each_fails n (λ k. is_some (place k)) found i lt)
 pairs_none e place n (Some j) found h i lt = absurd (some_none (place j) (none_found (e j) (place j) h) (first_least n (λ k. is_some (place k)) j found).passes)
 
 is_equal : (a b : ℕ) → not (eqb a b) ≡ false → a ≡ b
 is_equal a b t = grind (arith, nat_tests)
-
-at_most : (a b : ℕ) → ltb a b ≡ false → b ≤ a
-at_most a b t = grind (arith, nat_tests)
 
 -- ---- the header
 has_magic : (size number : ℕ) → (ltb size 4 || not (eqb number 0x464c_457f)) ≡ false → (4 ≤ size) × (number ≡ 0x464c_457f)
@@ -98,7 +88,7 @@ header_is file h =
     let magic = has_magic (length file) (field 0 4 file) (fails error.Magic _ all.0) in
     record {
       magic = record { room = magic.0; magic = magic.1 };
-      room = at_most (length file) 64 (fails _ _ all.1.0);
+      room = ltb-false (length file) 64 (fails _ _ all.1.0);
       class = is_equal (e_class file) 2 (fails _ _ all.1.1.0);
       encoding = is_equal (e_encoding file) 1 (fails _ _ all.1.1.1.0);
       versions = version_is (e_ident_version file) (e_version file) _ refl all.1.1.1.1.0;
@@ -123,13 +113,10 @@ symbols_at :
 symbols_at file None h i found = absurd cc
 symbols_at file (Some j) h i found = let same : j ≡ i = cc in subst (λ (k : ℕ). AreSymbols file (section_header file k)) same (are_symbols file (section_header file j) h)
 
-is_under : (a b : ℕ) → leb a b ≡ false → b < a
-is_under a b t = grind (arith, nat_tests)
-
 relas_cases : (file : List ℕ) (s : SectionHeader) (b : Bool) → has_entries s ≡ b
     → cond b (first (s.size / 24) (λ k. leb (symbol_count file) (rela_entry (section_bytes file s) k).symbol)) (Some 0) ≡ None → AreRelas file s
 relas_cases file s true shape h =
-    record { shape = shape; symbols = λ k lt. is_under _ _ (each_fails (s.size / 24) (λ q. leb (symbol_count file) (rela_entry (section_bytes file s) q).symbol) h k lt) }
+    record { shape = shape; symbols = λ k lt. leb-false _ _ (each_fails (s.size / 24) (λ q. leb (symbol_count file) (rela_entry (section_bytes file s) q).symbol) h k lt) }
 relas_cases file s false shape h = absurd cc
 
 are_relas : (file : List ℕ) (s : SectionHeader) → rela_fault file s ≡ None → is_counted file s ≡ true → AreRelas file s
@@ -177,7 +164,7 @@ read_as bytes f h file =
     let all = all_pass (verdict bytes ∷ section_count_rule bytes ∷ byte_count_rule bytes ∷ []) h in
     record {
       file = file;
-      within = record { sections = at_most 4096 (e_shnum bytes) (fails _ _ all.1.0); bytes = at_most 1_073_741_824 (counted_bytes bytes) (fails _ _ all.1.1.0) };
+      within = record { sections = ltb-false 4096 (e_shnum bytes) (fails _ _ all.1.0); bytes = ltb-false 1_073_741_824 (counted_bytes bytes) (fails _ _ all.1.1.0) };
     }
 
 -- what passes both is not refused

@@ -2,6 +2,7 @@
 use Rattle.std.proofs.Common.{◌≡◌, ◌≢◌, ◌⊎◌, ℕ, ◌-◌, ◌/◌, ◌^◌, ◌<◌, ◌≤◌, ◌&&◌, ◌||◌, not, min, Bool, true, false, cond, ltb, leb, eqb, length, List, [], ◌∷◌, Option, Some, None, Ok, Err, refl, subst, inl, inr, arith}
 use Rattle.std.specs.Option.{is_some}
 use Rattle.std.proofs.lemmas.Bool.Decides.{nat_tests}
+use Rattle.std.proofs.lemmas.Bool.{eqb-true, ltb-true}
 use Rattle.elf_types.specs.declared.error.ElfError.{ElfError}
 use Rattle.elf_types.specs.declared.error.ElfError.TheVariants as error
 use Rattle.elf_types.specs.declared.error.Part.TheVariants as part
@@ -14,7 +15,7 @@ use Rattle.elf_files.specs.Rules.{Check, refuse, refuse_found, refuse_found_at, 
 use Rattle.elf_files.specs.Refusals.{HasFault, IsRefused}
 use Rattle.qed_model.proofs.BelowLaws.{each_fails, first_least}
 
-none_found : (e : ℕ → ElfError) (o : Option ℕ) → refuse_found e o ≡ Ok tt → o ≡ None
+pub none_found : (e : ℕ → ElfError) (o : Option ℕ) → refuse_found e o ≡ Ok tt → o ≡ None
 none_found e None h = refl
 none_found e (Some i) h = absurd cc
 
@@ -88,16 +89,13 @@ encoding_says : (file : List ℕ) → Says file (encoding_rule file)
 unfolding encoding_rule
 encoding_says file = refuse_says file (error.Encoding (e_encoding file)) _ (λ t. (refl, differs (e_encoding file) 1 t))
 
-is_equal : (a b : ℕ) → eqb a b ≡ true → a ≡ b
-is_equal a b t = grind (arith, nat_tests)
-
 is_other : (a b : ℕ) → eqb a b ≡ false → a ≢ b
 is_other a b t e = absurd grind (arith, nat_tests)
 
 version_cases : (file : List ℕ) (b : Bool) → eqb (e_ident_version file) 1 ≡ b
     → Says file (cond b (refuse (error.Version (e_version file)) (not (eqb (e_version file) 1))) (Err (error.Version (e_ident_version file))))
 version_cases file true ident =
-    refuse_says file (error.Version (e_version file)) _ (λ t. inr (is_equal (e_ident_version file) 1 ident, differs (e_version file) 1 t, refl))
+    refuse_says file (error.Version (e_version file)) _ (λ t. inr (eqb-true (e_ident_version file) 1 ident, differs (e_version file) 1 t, refl))
 version_cases file false ident = error_says file (error.Version (e_ident_version file)) (inl (is_other (e_ident_version file) 1 ident, refl))
 
 version_says : (file : List ℕ) → Says file (version_rule file)
@@ -131,16 +129,13 @@ both : (a b : Bool) → a && b ≡ true → (a ≡ true) × (b ≡ true)
 both true b t = (refl, t)
 both false b t = absurd cc
 
-is_below : (a b : ℕ) → ltb a b ≡ true → a < b
-is_below a b t = grind (arith, nat_tests)
-
 program_table_says : (file : List ℕ) → Says file (program_table_rule file)
 unfolding program_table_rule
-program_table_says file = refuse_says file (error.OutOfFile part.ProgramTable) _ (λ t. let h = both _ _ t in (is_below _ _ h.0, is_below _ _ h.1))
+program_table_says file = refuse_says file (error.OutOfFile part.ProgramTable) _ (λ t. let h = both _ _ t in (ltb-true _ _ h.0, ltb-true _ _ h.1))
 
 section_table_says : (file : List ℕ) → Says file (section_table_rule file)
 unfolding section_table_rule
-section_table_says file = refuse_says file (error.OutOfFile part.SectionTable) _ (λ t. let h = both _ _ t in (is_below _ _ h.0, is_below _ _ h.1))
+section_table_says file = refuse_says file (error.OutOfFile part.SectionTable) _ (λ t. let h = both _ _ t in (ltb-true _ _ h.0, ltb-true _ _ h.1))
 
 segment_place_says : (file : List ℕ) → Says file (segment_place_rule file)
 unfolding segment_place_rule
@@ -154,7 +149,7 @@ segment_shape_says : (file : List ℕ) → Says file (segment_shape_rule file)
 unfolding segment_shape_rule
 segment_shape_says file = found_says file error.SegmentShape _ (first_least (e_phnum file) (λ i. is_misshapen (program_header file i)))
 
-none_of : (o : Option ℕ) → is_some o ≡ false → o ≡ None
+pub none_of : (o : Option ℕ) → is_some o ≡ false → o ≡ None
 none_of None h = refl
 none_of (Some i) h = absurd cc
 
@@ -230,11 +225,11 @@ rela_shape_says file = found_at_says file error.RelaShape (λ i. rela_fault file
 
 section_count_says : (file : List ℕ) → Says file (section_count_rule file)
 unfolding section_count_rule
-section_count_says file = refuse_says file (error.TooManySections (e_shnum file)) _ (λ t. (refl, is_below _ _ t))
+section_count_says file = refuse_says file (error.TooManySections (e_shnum file)) _ (λ t. (refl, ltb-true _ _ t))
 
 byte_count_says : (file : List ℕ) → Says file (byte_count_rule file)
 unfolding byte_count_rule
-byte_count_says file = refuse_says file (error.TooManyBytes (min (counted_bytes file) (2 ^ 64 - 1))) _ (λ t. (refl, is_below _ _ t))
+byte_count_says file = refuse_says file (error.TooManyBytes (min (counted_bytes file) (2 ^ 64 - 1))) _ (λ t. (refl, ltb-true _ _ t))
 
 -- ---- all rules
 header_rules_say : (file : List ℕ) → Says file (header_rules file)

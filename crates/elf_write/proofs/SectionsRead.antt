@@ -2,9 +2,9 @@
 use Rattle.std.proofs.Common.{◌≡◌, ℕ, ◌+◌, ◌-◌, ◌^◌, ◌<◌, ◌≤◌, ◌&&◌, ◌||◌, Bool, true, false, cond, ltb, leb, List, [], ◌∷◌, ◌++◌, length, map, refl, ap, subst, arith, length-append}
 use Rattle.std.specs.Prelude.{All}
 use Rattle.std.specs.List.{list_any}
-use Rattle.std.proofs.lemmas.Bool.{le-ltb}
+use Rattle.std.proofs.lemmas.Bool.{le-ltb, and_parts}
 use Rattle.std.proofs.lemmas.Bool.Decides.{nat_tests}
-use Rattle.std.proofs.lemmas.List.Elements.{All-cons, All-nil}
+use Rattle.std.proofs.lemmas.List.Elements.{All-cons, All-nil, All-head, All-tail}
 use Rattle.elf_types.specs.declared.file.Segment.{Segment}
 use Rattle.elf_types.specs.declared.file.Section.{Section}
 use Rattle.elf_types.specs.declared.output.OutSection.{OutSection}
@@ -19,20 +19,15 @@ use Rattle.elf_write.proofs.Places.{end_from_above}
 use Rattle.elf_write.proofs.Stands.{Stands}
 use Rattle.elf_write.proofs.NamesRead.{first_name, other_names}
 use Rattle.elf_write.proofs.RecordsRead.{HeaderFits}
-use Rattle.elf_write.proofs.SegmentsRead.{all_head, all_tail}
 
 -- ---- a section in memory
-both : (a b : Bool) → (a && b) ≡ true → (a ≡ true) × (b ≡ true)
-both true b t = (refl, t)
-both false b t = absurd cc
-
 record IsInside (x : OutSection) (s : Segment) : Type 0 where
   above : s.address ≤ x.address
   below : x.address + x.size ≤ s.address + length s.bytes
 
 inside_is : (x : OutSection) (s : Segment) → is_inside x s ≡ true → IsInside x s
 inside_is x s t =
-    let h = both (leb s.address x.address) (leb (x.address + x.size) (s.address + length s.bytes)) t in
+    let h = and_parts (leb s.address x.address) (leb (x.address + x.size) (s.address + length s.bytes)) t in
     record { above = grind (arith, nat_tests); below = grind (arith, nat_tests) }
 
 -- it ends where the segments end, or before
@@ -62,10 +57,10 @@ offset_below at (s ∷ segments) x =
 address_below : (segments : List Segment) (x : OutSection) → All IsLoadable segments → list_any (is_inside x) segments ≡ true → x.address + x.size ≤ 2 ^ 64
 address_below [] x loadable t = absurd cc
 address_below (s ∷ segments) x loadable t =
-    let l = all_head IsLoadable s segments loadable in
+    let l = All-head IsLoadable s segments loadable in
     elim (is_inside x s) as (λ b. is_inside x s ≡ b → (b || list_any (is_inside x) segments) ≡ true → x.address + x.size ≤ 2 ^ 64) [
       | true ↦ λ e h. let i = inside_is x s e in omega (arith, i.below, l.memory, l.fits)
-      | false ↦ λ e h. address_below segments x (all_tail IsLoadable s segments loadable) h
+      | false ↦ λ e h. address_below segments x (All-tail IsLoadable s segments loadable) h
     ] refl t
 
 -- ---- the given sections
@@ -82,7 +77,7 @@ pub given_fit : (start : ℕ) (segments : List Segment) (name own : ℕ) (sectio
     → name + length (names_bytes (map (λ x. x.name) sections)) < 2 ^ 32 → own + length (own_bytes sections) < 2 ^ 64 → All HeaderFits (headers_from start segments name own sections)
 given_fit start segments name own [] fits end names owned = All-nil HeaderFits
 given_fit start segments name own (x ∷ sections) fits end names owned =
-    let w = all_head SectionFits x sections fits in
+    let w = All-head SectionFits x sections fits in
     let others : List ℕ = names_bytes (map (λ x. x.name) sections) in
     let rest : List ℕ = own_bytes sections in
     let both_names = length-append (x.name ++ 0 ∷ []) others in
@@ -100,7 +95,7 @@ given_fit start segments name own (x ∷ sections) fits end names owned =
       info = omega arith;
       entsize = omega arith;
     })
-    (given_fit start segments (name + length x.name + 1) (own + length x.bytes) sections (all_tail SectionFits x sections fits) end
+    (given_fit start segments (name + length x.name + 1) (own + length x.bytes) sections (All-tail SectionFits x sections fits) end
     (omega (arith, both_names, one_name)) (omega (arith, both_bytes)))
 
 -- a section ends within n bytes
@@ -121,8 +116,8 @@ given_end n start segments name own [] placed end owned = All-nil (EndsIn n)
 given_end n start segments name own (x ∷ sections) placed end owned =
     let both_bytes = length-append x.bytes (own_bytes sections) in
     All-cons (EndsIn n) (header_with name (offset_at start segments own x) x) (headers_from start segments (name + length x.name + 1) (own + length x.bytes) sections)
-    (one_ends n start segments own x (all_head (IsPlaced segments) x sections placed) end (omega (arith, both_bytes)))
-    (given_end n start segments (name + length x.name + 1) (own + length x.bytes) sections (all_tail (IsPlaced segments) x sections placed) end (omega (arith, both_bytes)))
+    (one_ends n start segments own x (All-head (IsPlaced segments) x sections placed) end (omega (arith, both_bytes)))
+    (given_end n start segments (name + length x.name + 1) (own + length x.bytes) sections (All-tail (IsPlaced segments) x sections placed) end (omega (arith, both_bytes)))
 
 -- a section that is not in memory beyond 2^64
 abbrev pub NoWrap : SectionHeader → Type 0
@@ -140,8 +135,8 @@ pub given_wrap_not : (start : ℕ) (segments : List Segment) (name own : ℕ) (s
 given_wrap_not start segments name own [] loadable placed = All-nil NoWrap
 given_wrap_not start segments name own (x ∷ sections) loadable placed =
     All-cons NoWrap (header_with name (offset_at start segments own x) x) (headers_from start segments (name + length x.name + 1) (own + length x.bytes) sections)
-    (one_wraps_not segments name (offset_at start segments own x) x loadable (all_head (IsPlaced segments) x sections placed))
-    (given_wrap_not start segments (name + length x.name + 1) (own + length x.bytes) sections loadable (all_tail (IsPlaced segments) x sections placed))
+    (one_wraps_not segments name (offset_at start segments own x) x loadable (All-head (IsPlaced segments) x sections placed))
+    (given_wrap_not start segments (name + length x.name + 1) (own + length x.bytes) sections loadable (All-tail (IsPlaced segments) x sections placed))
 
 -- each is of type SHT_PROGBITS
 abbrev pub IsGiven : SectionHeader → Type 0
@@ -175,8 +170,8 @@ pub given_read : (table : List ℕ) (start : ℕ) (segments : List Segment) (nam
 given_read table start segments name own [] more above are s = record { shown_are = refl; ended = All-nil (IsEnded table) }
 given_read table start segments name own (x ∷ sections) more above are s =
     let others : List (List ℕ) = map (λ x. x.name) sections ++ more in
-    let one = first_name table name x.name others above (all_head (λ x. IsName x.name) x sections are) s in
-    let rest = given_read table start segments (name + length x.name + 1) (own + length x.bytes) sections more (omega arith) (all_tail (λ x. IsName x.name) x sections are)
+    let one = first_name table name x.name others above (All-head (λ x. IsName x.name) x sections are) s in
+    let rest = given_read table start segments (name + length x.name + 1) (own + length x.bytes) sections more (omega arith) (All-tail (λ x. IsName x.name) x sections are)
     (other_names table name x.name others s) in
     let head : shown table (header_with name (offset_at start segments own x) x) ≡ section_read x = ap (with_name x) one.is in
     record {

@@ -4,7 +4,7 @@ use Rattle.std.specs.Prelude.{All, AllPairs}
 use Rattle.std.specs.Option.{is_some}
 use Rattle.std.proofs.lemmas.Bool.{cases_lt, le-ltb}
 use Rattle.std.proofs.lemmas.List.{length-replicate}
-use Rattle.std.proofs.lemmas.List.Elements.{All-cons, All-nil}
+use Rattle.std.proofs.lemmas.List.Elements.{All-cons, All-nil, All-head, All-tail}
 use Rattle.elf_types.specs.declared.file.Segment.{Segment}
 use Rattle.elf_types.specs.declared.records.ProgramHeader.{ProgramHeader}
 use Rattle.elf_types.specs.Abi.{is_load}
@@ -24,12 +24,6 @@ use Rattle.elf_write.proofs.RecordsRead.{program_of, programs_from, ProgramFits}
 
 -- ---- lists
 -- what holds of the first item and of the others
-pub all_tail : {X : Type 0} (P : X → Type 0) (x : X) (xs : List X) → All P (x ∷ xs) → All P xs
-all_tail P x xs all = λ k d lt. all (suc k) d (omega arith)
-
-pub all_head : {X : Type 0} (P : X → Type 0) (x : X) (xs : List X) → All P (x ∷ xs) → P x
-all_head P x xs all = all 0 x (omega arith)
-
 -- ---- where their bytes stand
 -- each segment's bytes stand at its offset
 abbrev pub BytesStand : List ℕ → ℕ → List Segment → Type 0
@@ -54,8 +48,8 @@ programs_fit at [] loadable fits end = All-nil ProgramFits
 programs_fit at (s ∷ segments) loadable fits end =
     let next : ℕ = offset_from at s.address + length s.bytes in
     let above = end_from_above next segments in
-    let l = all_head IsLoadable s segments loadable in
-    let w = all_head SegmentFits s segments fits in
+    let l = All-head IsLoadable s segments loadable in
+    let w = All-head SegmentFits s segments fits in
     All-cons ProgramFits (program_of (offset_from at s.address) s) (programs_from next segments)
     (record {
       kind = omega (arith, l.kind);
@@ -65,7 +59,7 @@ programs_fit at (s ∷ segments) loadable fits end =
       filesz = omega (arith, above, end);
       memsz = w.memory;
     })
-    (programs_fit next segments (all_tail IsLoadable s segments loadable) (all_tail SegmentFits s segments fits) end)
+    (programs_fit next segments (All-tail IsLoadable s segments loadable) (All-tail SegmentFits s segments fits) end)
 
 pub length-programs_from : (at : ℕ) (segments : List Segment) → length (programs_from at segments) ≡ length segments
 length-programs_from at [] = refl
@@ -93,12 +87,12 @@ all_described : (file : List ℕ) (at : ℕ) (segments : List Segment) → All I
 all_described file at [] loadable stand = refl
 all_described file at (s ∷ segments) loadable stand =
     let next : ℕ = offset_from at s.address + length s.bytes in
-    let l = all_head IsLoadable s segments loadable in
-    let rest = all_described file next segments (all_tail IsLoadable s segments loadable) stand.1 in
+    let l = All-head IsLoadable s segments loadable in
+    let rest = all_described file next segments (All-tail IsLoadable s segments loadable) stand.1 in
     rw (described_is file (offset_from at s.address) s l.kind stand.0, rest) refl
 
 -- ---- what the rules ask of each
-and_false : (b : Bool) → (b && false) ≡ false
+pub and_false : (b : Bool) → (b && false) ≡ false
 and_false true = refl
 and_false false = refl
 
@@ -127,7 +121,7 @@ all_shaped at [] loadable = All-nil (λ p. is_misshapen p ≡ false)
 all_shaped at (s ∷ segments) loadable =
     let next : ℕ = offset_from at s.address + length s.bytes in
     All-cons (λ p. is_misshapen p ≡ false) (program_of (offset_from at s.address) s) (programs_from next segments)
-    (shaped (offset_from at s.address) s (all_head IsLoadable s segments loadable)) (all_shaped next segments (all_tail IsLoadable s segments loadable))
+    (shaped (offset_from at s.address) s (All-head IsLoadable s segments loadable)) (all_shaped next segments (All-tail IsLoadable s segments loadable))
 
 -- header k is that of segment k, at some offset
 record IsHeaderOf (p : ProgramHeader) (s : Segment) : Type 0 where
@@ -139,15 +133,15 @@ header_of at i [] d e lt = absurd (omega arith)
 header_of at zero (s ∷ segments) d e lt = record { vaddr = refl; memsz = refl }
 header_of at (suc i) (s ∷ segments) d e lt = header_of (offset_from at s.address + length s.bytes) i segments d e (omega arith)
 
-regrouped : (a b c : Bool) → c ≡ false → (a && b && c) ≡ false
-regrouped true true c h = h
-regrouped true false c h = refl
-regrouped false b c h = refl
+pub third_fails : (a b c : Bool) → c ≡ false → (a && b && c) ≡ false
+third_fails true true c h = h
+third_fails true false c h = refl
+third_fails false b c h = refl
 
 apart : (p q : ProgramHeader) (s t : Segment) → IsHeaderOf p s → IsHeaderOf q t → do_share s t ≡ false → do_overlap p q ≡ false
 unfolding do_overlap
 apart p q s t hp hq none =
-    let grouped = regrouped (is_load p.kind) (is_load q.kind) (do_share s t) in
+    let grouped = third_fails (is_load p.kind) (is_load q.kind) (do_share s t) in
     rw (hp.vaddr, hp.memsz, hq.vaddr, hq.memsz) (grouped none)
 
 at_most : (b : Bool) (n : ℕ) → cond b n 0 ≤ n

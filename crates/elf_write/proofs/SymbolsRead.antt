@@ -1,8 +1,8 @@
 -- The symbols that were written, read.
-use Rattle.std.proofs.Common.{◌≡◌, ℕ, zero, suc, ◌+◌, ◌*◌, ◌/◌, ◌%◌, ◌^◌, ◌<◌, ◌&&◌, Bool, true, false, ltb, eqb, List, [], ◌∷◌, ◌++◌, length, map, Some, Ok, refl, sym, ap, subst, ◌∙◌, arith, length-append, zero-add}
+use Rattle.std.proofs.Common.{◌≡◌, ℕ, zero, suc, ◌+◌, ◌*◌, ◌/◌, ◌%◌, ◌^◌, ◌<◌, true, false, ltb, eqb, List, [], ◌∷◌, ◌++◌, length, map, Some, Ok, refl, sym, ap, subst, ◌∙◌, arith, length-append, zero-add}
 use Rattle.std.specs.Prelude.{All}
 use Rattle.std.proofs.lemmas.Bool.Decides.{nat_tests}
-use Rattle.std.proofs.lemmas.List.Elements.{All-cons, All-nil}
+use Rattle.std.proofs.lemmas.List.Elements.{All-cons, All-nil, All-head, All-tail}
 use Rattle.elf_types.specs.declared.file.Symbol.{Symbol}
 use Rattle.elf_types.specs.declared.output.OutFile.{OutFile}
 use Rattle.elf_types.specs.declared.records.SectionHeader.{SectionHeader}
@@ -20,21 +20,21 @@ use Rattle.elf_write.proofs.Stands.{Stands, stands_whole}
 use Rattle.elf_write.proofs.Listing.{Lists, each_same, each_listed, sum_same, sum_listed, total, total-map}
 use Rattle.elf_write.proofs.NamesRead.{first_name, other_names, empty_read, names_stand}
 use Rattle.elf_write.proofs.RecordsRead.{EntryFits, entries_read}
-use Rattle.elf_write.proofs.SegmentsRead.{all_head, all_tail}
+use Rattle.elf_write.proofs.SegmentsRead.{and_false}
 use Rattle.elf_write.proofs.TablesRead.{Known, symtab_at, strtab_at, strings_are, entries_are}
 
 -- ---- the entries' numbers fit
 entries_fit : (name : ℕ) (symbols : List Symbol) → All IsSymbol symbols → All SymbolFits symbols → name + length (names_bytes (symbol_names symbols)) < 2 ^ 32 → All EntryFits (entries_from name symbols)
 entries_fit name [] are fit names = All-nil EntryFits
 entries_fit name (s ∷ symbols) are fit names =
-    let is = all_head IsSymbol s symbols are in
-    let w = all_head SymbolFits s symbols fit in
+    let is = All-head IsSymbol s symbols are in
+    let w = All-head SymbolFits s symbols fit in
     let others : List ℕ = names_bytes (symbol_names symbols) in
     let both = length-append (s.name ++ 0 ∷ []) others in
     let one = length-append s.name (0 ∷ []) in
     All-cons EntryFits (entry_with name s) (entries_from (name + length s.name + 1) symbols)
     (record { name = omega arith; info = omega (arith, is.kind, is.binding); other = w.other; index = w.index; value = w.value; size = w.size })
-    (entries_fit (name + length s.name + 1) symbols (all_tail IsSymbol s symbols are) (all_tail SymbolFits s symbols fit) (omega (arith, both, one)))
+    (entries_fit (name + length s.name + 1) symbols (All-tail IsSymbol s symbols are) (All-tail SymbolFits s symbols fit) (omega (arith, both, one)))
 
 pub all_entries_fit : (symbols : List Symbol) → All IsSymbol symbols → All SymbolFits symbols → 1 + length (names_bytes (symbol_names symbols)) < 2 ^ 32 → All EntryFits (entries_of symbols)
 all_entries_fit symbols are fit names =
@@ -68,10 +68,10 @@ entries_shown : (table : List ℕ) (name : ℕ) (symbols : List Symbol) → 0 < 
 entries_shown table name [] above are names s = record { shown_are = refl; ended = All-nil (HasEnd table) }
 entries_shown table name (x ∷ symbols) above are names s =
     let others : List (List ℕ) = symbol_names symbols in
-    let one = first_name table name x.name others above (all_head (λ s. IsName s.name) x symbols names) s in
-    let rest = entries_shown table (name + length x.name + 1) symbols (omega arith) (all_tail IsSymbol x symbols are) (all_tail (λ s. IsName s.name) x symbols names)
+    let one = first_name table name x.name others above (All-head (λ s. IsName s.name) x symbols names) s in
+    let rest = entries_shown table (name + length x.name + 1) symbols (omega arith) (All-tail IsSymbol x symbols are) (All-tail (λ s. IsName s.name) x symbols names)
     (other_names table name x.name others s) in
-    let head = one_shown table name x (all_head IsSymbol x symbols are) one.is in
+    let head = one_shown table name x (All-head IsSymbol x symbols are) one.is in
     record {
       shown_are = rw (head, rest.shown_are) refl;
       ended = All-cons (HasEnd table) (entry_with name x) (entries_from (name + length x.name + 1) symbols) one.ended rest.ended;
@@ -113,10 +113,6 @@ table_known f file known are names fit = record {
   read = all_shown f.symbols are names;
   count = omega (arith, length-entries_from 1 f.symbols);
 }
-
-and_false : (b : Bool) → (b && false) ≡ false
-and_false true = refl
-and_false false = refl
 
 named : (f : OutFile) (file : List ℕ) → TableKnown f file → (j : ℕ) → j < length (entries_of f.symbols) → is_misnamed file (symtab_header f) j ≡ false
 unfolding is_misnamed

@@ -1,7 +1,7 @@
 -- The section headers of a file that was written, as a whole: the tables that are added, and what the rules ask of sections.
 use Rattle.std.proofs.Common.{◌≡◌, ℕ, ◌+◌, ◌*◌, ◌<◌, ◌&&◌, ◌||◌, not, Bool, true, false, ltb, eqb, List, [], ◌∷◌, ◌++◌, length, get_or, Some, Ok, refl, sym, ap, subst, ◌∙◌, arith}
 use Rattle.std.specs.Prelude.{All}
-use Rattle.std.proofs.lemmas.Bool.{le-ltb}
+use Rattle.std.proofs.lemmas.Bool.{le-ltb, eqb-true}
 use Rattle.std.proofs.lemmas.Bool.Decides.{nat_tests}
 use Rattle.std.proofs.lemmas.List.{get_or-append-add, get_or_append_left}
 use Rattle.std.proofs.lemmas.List.Elements.{All-cons, All-nil, All-append}
@@ -17,6 +17,7 @@ use Rattle.elf_write.proofs.Sizes.{length-headers_of, length-headers_from, lengt
 use Rattle.elf_write.proofs.Stands.{Stands, stands_slice}
 use Rattle.elf_write.proofs.Listing.{Lists, none_passes}
 use Rattle.elf_write.proofs.HeaderRead.{HeaderRead, PartsStand}
+use Rattle.elf_write.proofs.SegmentsRead.{and_false, third_fails}
 use Rattle.elf_write.proofs.SectionsRead.{EndsIn, NoWrap, IsGiven, IsEnded}
 
 -- ---- the headers in order
@@ -98,10 +99,6 @@ unfolding section_strings
 section_strings-are f file known = rw (has_names f file known, last_names f file known) (names_are f file known)
 
 -- ---- the rules on sections
-and_false : (b : Bool) → (b && false) ≡ false
-and_false true = refl
-and_false false = refl
-
 outside_not : (file : List ℕ) (h : SectionHeader) → EndsIn (length file) h → is_section_outside file h ≡ false
 unfolding is_section_outside
 outside_not file h e =
@@ -119,16 +116,10 @@ place_passes f file known ends =
 three_fail : (a b c : Bool) → a ≡ false → b ≡ false → c ≡ false → (a || b || c) ≡ false
 three_fail a b c ha hb hc = rw (ha, hb, hc) refl
 
-third_fails : (a b c : Bool) → c ≡ false → (a && b && c) ≡ false
-third_fails a b c h = rw h (and_false (a && b))
-
 -- the last test fails where the one before it passes
 last_fails : (a b c : Bool) → (b ≡ true → c ≡ false) → (a && b && c) ≡ false
 last_fails a true c h = rw (h refl) (and_false (a && true))
 last_fails a false c h = rw (and_false a) refl
-
-same_number : (a b : ℕ) → eqb a b ≡ true → a ≡ b
-same_number a b t = grind (arith, nat_tests)
 
 shaped : (f : OutFile) (file : List ℕ) → Known f file → All NoWrap (headers_of f) → All (IsEnded (string_table (section_names f.sections))) (headers_of f) → (i : ℕ) → i < length (headers_of f)
     → is_section_misshapen file i ≡ false
@@ -141,7 +132,7 @@ shaped f file known wrap ended i lt =
     let table = ap (section_bytes file) (last_names f file known) ∙ names_are f file known in
     three_fail _ _ _ one
     (last_fails _ (eqb i (e_shstrndx file)) (not (is_string_table d.kind)) (λ t.
-    let here : d ≡ shstrtab_header f = ap (section_header file) (same_number i (e_shstrndx file) t) ∙ last_names f file known in
+    let here : d ≡ shstrtab_header f = ap (section_header file) (eqb-true i (e_shstrndx file) t) ∙ last_names f file known in
     rw here refl))
     (third_fails (not (eqb (e_shstrndx file) 0)) (is_string_table (names_header file).kind) _ (ap (λ (t : List ℕ). is_unended t d.name) table ∙ three))
 

@@ -1,5 +1,5 @@
 -- The file that was written, read: no rule refuses it, and its parts are those that were given.
-use Rattle.std.proofs.Common.{◌≡◌, ◌≢◌, ℕ, zero, suc, ◌+◌, ◌*◌, ◌^◌, ◌<◌, ◌≤◌, ◌&&◌, ◌||◌, Bool, true, false, cond, ltb, eqb, List, [], ◌∷◌, ◌++◌, length, map, get_or, None, Ok, refl, sym, ap, ◌∙◌, arith, length-append}
+use Rattle.std.proofs.Common.{◌≡◌, ◌≢◌, ℕ, zero, suc, ◌+◌, ◌*◌, ◌^◌, ◌<◌, ◌≤◌, ◌||◌, Bool, true, false, cond, ltb, eqb, List, [], ◌∷◌, ◌++◌, length, map, get_or, None, Ok, refl, sym, ap, ◌∙◌, arith, length-append}
 use Rattle.std.specs.Prelude.{All}
 use Rattle.std.specs.Option.{is_some}
 use Rattle.std.proofs.lemmas.Bool.{le-ltb}
@@ -18,7 +18,7 @@ use Rattle.elf_files.specs.Rules.{magic_rule, header_rule, class_rule, encoding_
 use Rattle.elf_files.specs.File.{section_of, relas_of, WithinReadLimits, IsReadAs}
 use Rattle.qed_model.specs.Elf.Written.{program_headers}
 use Rattle.qed_model.specs.Elf.Layout.{IsWritable, IsName, names_bytes, string_table, symbol_names, section_names, table_names, symtab_name, strtab_name, shstrtab_name, first_global, headers_bytes, headers_of, null_header, symtab_header, strtab_header, shstrtab_header, start_of, own_place, headers_place, written}
-use Rattle.qed_model.specs.Elf.FileRead.{null_section, section_read, tables_read, file_read}
+use Rattle.qed_model.specs.Elf.FileRead.{null_section, section_read, table_read, tables_read, file_read}
 use Rattle.qed_model.proofs.ProgramHeaders.{length-program_headers}
 use Rattle.elf_write.specs.Widths.{SegmentFits, SectionFits, SymbolFits}
 use Rattle.elf_write.proofs.Sizes.{ends_within, laid_out, length-written, length-headers_of, length-section_names}
@@ -27,7 +27,7 @@ use Rattle.elf_write.proofs.Listing.{none_passes, each_same, each_listed, sum_li
 use Rattle.elf_write.proofs.NamesRead.{NameRead, empty_read, first_name, other_names, names_stand}
 use Rattle.elf_write.proofs.RecordsRead.{HeaderFits, headers_read, programs_read}
 use Rattle.elf_write.proofs.HeaderRead.{HeaderRead, header_read, parts_stand}
-use Rattle.elf_write.proofs.SegmentsRead.{bytes_stand, programs_fit, SegmentsPass, segments_pass}
+use Rattle.elf_write.proofs.SegmentsRead.{and_false, bytes_stand, programs_fit, SegmentsPass, segments_pass}
 use Rattle.elf_write.proofs.SectionsRead.{given_fit, EndsIn, given_end, NoWrap, given_wrap_not, given_kind, shown, IsEnded, given_read, names_behind}
 use Rattle.elf_write.proofs.TablesRead.{front_headers, last_headers, headers_are, all_headers, Known, place_passes, shape_passes, symbol_table-is, section_strings-are}
 use Rattle.elf_write.proofs.SymbolsRead.{all_entries_fit, SymbolsRead, symbols_read}
@@ -47,10 +47,6 @@ header_passes f file h long few =
     let more : ltb 0 (length f.sections + 4) ≡ true = grind (arith, nat_tests) in
     let last : ltb (length f.sections + 3) (length f.sections + 4) ≡ true = grind (arith, nat_tests) in
     rw (l4, h.magic, l64, h.class, h.encoding, h.ident_version, h.version, h.type, h.machine, h.ehsize, h.phnum, h.phentsize, h.shnum, h.shentsize, h.shstrndx, small, some, more, last, or_true (eqb (length f.segments) 0)) refl
-
-and_false : (b : Bool) → (b && false) ≡ false
-and_false true = refl
-and_false false = refl
 
 tables_pass : (f : OutFile) (file : List ℕ) → HeaderRead f file → header_rules file ≡ Ok tt → 64 + 56 * length f.segments ≤ length file
     → headers_place f + 64 * (length f.sections + 4) ≤ length file → table_rules file ≡ Ok tt
@@ -165,18 +161,15 @@ record HeadersRead (f : OutFile) (table : List ℕ) : Type 0 where
   shown_are : map (shown table) (headers_of f) ≡ null_section ∷ (map section_read f.sections ++ tables_read f)
   ended : All (IsEnded table) (headers_of f)
 
-abbrev named_section : List ℕ → ℕ → ℕ → Section
-named_section name kind size = record { name = name; kind = kind; flags = 0; address = 0; size = size }
-
 headers_shown : (f : OutFile) (table : List ℕ) → IsWritable f → Stands table 1 (names_bytes (section_names f.sections)) → HeadersRead f table
 headers_shown f table w s =
     let none = empty_read table in
     let given = given_read table (start_of f) f.segments 1 (own_place f) f.sections table_names (omega arith) w.section_names s in
     let t = tables_named f table s in
-    let first : shown table null_header ≡ null_section = ap (λ (name : List ℕ). named_section name 0 0) none.is in
-    let a = ap (λ (name : List ℕ). named_section name 2 (24 * (1 + length f.symbols))) t.symtab.is in
-    let b = ap (λ (name : List ℕ). named_section name 3 (length (string_table (symbol_names f.symbols)))) t.strtab.is in
-    let c = ap (λ (name : List ℕ). named_section name 3 (length (string_table (section_names f.sections)))) t.shstrtab.is in
+    let first : shown table null_header ≡ null_section = ap (λ (name : List ℕ). table_read name 0 0) none.is in
+    let a = ap (λ (name : List ℕ). table_read name 2 (24 * (1 + length f.symbols))) t.symtab.is in
+    let b = ap (λ (name : List ℕ). table_read name 3 (length (string_table (symbol_names f.symbols)))) t.strtab.is in
+    let c = ap (λ (name : List ℕ). table_read name 3 (length (string_table (section_names f.sections)))) t.shstrtab.is in
     record {
       shown_are = ap (map (shown table)) (headers_are f) ∙ map-append (shown table) (front_headers f) (last_headers f) ∙ rw (first, given.shown_are, a, b, c) refl;
       ended = all_headers (IsEnded table) f none.ended given.ended t.symtab.ended t.strtab.ended t.shstrtab.ended;

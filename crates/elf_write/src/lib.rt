@@ -14,5 +14,6 @@ mod segments;
 mod symbols;
 mod write;
 
+pub use numbers::push_zeros;
 pub use plain::{section, segment};
 pub use write::{file_size, write_elf};

@@ -1,5 +1,5 @@
 -- Runs with changes: plain steps between two changes, one change more, and changes that come later.
-use Rattle.std.proofs.Common.{◌≡◌, ℕ, zero, suc, ◌+◌, ◌-◌, ◌<◌, ◌≤◌, false, cond, List, [], ◌∷◌, ◌++◌, length, get_or, drop, take, drop-cons, add-one, refl, sym, ap, ◌∙◌, subst, arith, Result, Ok, Err, IfErr}
+use Rattle.std.proofs.Common.{◌≡◌, ℕ, zero, suc, ◌+◌, ◌-◌, ◌<◌, ◌≤◌, false, cond, List, [], ◌∷◌, ◌++◌, length, get_or, drop, take, drop-cons, add-one, refl, sym, ap, ◌∙◌, subst, arith}
 use Rattle.std.proofs.Math.Seq.{take-suc}
 use Rattle.std.proofs.lemmas.List.{take-append-drop, drop_all}
 use Rattle.std.specs.Prelude.{◌==◌, All}
@@ -205,7 +205,7 @@ by_more : (t u : ℕ) (cs : List Change) → t ≤ u → AllBy t cs → AllBy u 
 by_more t u [] l h = tt
 by_more t u (c ∷ cs) l h = (omega (arith, l, h.0), by_more t u cs l h.1)
 
-from_less : (t u : ℕ) (cs : List Change) → u ≤ t → AllFrom t cs → AllFrom u cs
+pub from_less : (t u : ℕ) (cs : List Change) → u ≤ t → AllFrom t cs → AllFrom u cs
 from_less t u [] l h = tt
 from_less t u (c ∷ cs) l h = (omega (arith, l, h.0), from_less t u cs l h.1)
 
@@ -235,8 +235,3 @@ part_before m cs k done n j p q c o lt e r most l is = part_made m cs k done n j
 pub part_behind :
     (m : Progress) (cs : List Change) (k done n j : ℕ) (p q : Progress) → length cs ≤ k → Reached m cs k done p → done + j ≤ n → q ≡ progress p j → IsPartOf m cs n q
 part_behind m cs k done n j p q all r most is = part_made m cs k done n j (done + j) p q r most (omega arith) (left_none cs k (done + j) all) is
-
--- what holds at any error
-pub any_err : {T E : Type 0} (r : Result T E) (P : Type 0) → P → IfErr r (λ _. P)
-any_err (Ok x) P p = tt
-any_err (Err e) P p = p

@@ -1,5 +1,5 @@
 -- Where a run does not trap and no jump leads astray in it, it is steady: each jump by register leads to an address that is reached.
-use Rattle.std.proofs.Common.{◌≡◌, ℕ, zero, suc, ◌+◌, ◌-◌, ◌%◌, ◌≤◌, Bool, true, false, cond, ◌&&◌, Option, Some, None, List, [], refl, sym, ap, ◌∙◌, subst, arith}
+use Rattle.std.proofs.Common.{◌≡◌, ℕ, zero, suc, ◌+◌, ◌%◌, ◌≤◌, Bool, true, false, cond, ◌&&◌, Option, Some, None, List, [], refl, sym, ap, ◌∙◌, subst, arith}
 use Rattle.std.specs.Prelude.{◌==◌, not}
 use Rattle.std.specs.Option.{option_map}
 use Rattle.rv_isa.specs.declared.ins.Ins.{Ins}
@@ -7,17 +7,16 @@ use Rattle.rv_isa.specs.declared.class.Class.TheVariants as class
 use Rattle.rv_isa.specs.Kind.{class_of}
 use Rattle.qed_model.specs.Admission.Leaders.{is_indirect}
 use Rattle.qed_model.specs.declared.machine.Cause.TheVariants as cause
-use Rattle.qed_model.specs.declared.machine.Outcome.{Outcome}
-use Rattle.qed_model.specs.declared.machine.Outcome.TheVariants.{Going, Ended, Fired, Trapped}
+use Rattle.qed_model.specs.declared.machine.Outcome.TheVariants.{Going}
 use Rattle.qed_model.specs.Machine.Step.{State, Known, execute, jumped, moved, trapped, next, step, run}
 use Rattle.qed_model.specs.Promise.Changed.{with_changes, changed_run}
 use Rattle.qed_model.specs.Promise.Kept.{is_trapped, NotTrapped, IsSteady}
 use Rattle.qed_model.proofs.BelowLaws.{each_fails}
 use Rattle.qed_model.proofs.Steps.{step-class}
 use Rattle.qed_model.proofs.Walk.{run-more}
+use Rattle.weave_core.proofs.Source.{not_trapped_le}
 use Rattle.rv_step.specs.Known.{instruction_of, known_at, goes_on}
 use Rattle.fault_inject.specs.Astray.{is_jalr, is_astray, jump_of, first_jump, first_astray}
-use Rattle.fault_inject.proofs.Straying.{step_stays}
 
 -- ---- runs
 pub run-last : (s : State) (n : ℕ) → run s (n + 1) ≡ step (run s n)
@@ -29,28 +28,6 @@ pub run_unchanged : (s : State) (n : ℕ) → changed_run s [] n ≡ run s n
 unfolding changed_run with_changes run
 run_unchanged s zero = refl
 run_unchanged s (suc n) = let e : n + 1 ≡ suc n = omega arith in ap step (run_unchanged s n) ∙ sym (run-last s n) ∙ ap (run s) e
-
--- one that has trapped stays
-not_going : (o : Outcome) → is_trapped o ≡ true → goes_on o ≡ false
-not_going Going h = absurd (cc)
-not_going Ended h = refl
-not_going Fired h = refl
-not_going (Trapped c pc) h = refl
-
-trapped_stays : (s : State) (n : ℕ) → is_trapped s.outcome ≡ true → run s n ≡ s
-unfolding run
-trapped_stays s zero h = refl
-trapped_stays s (suc n) h = ap (λ t. run t n) (step_stays s (not_going s.outcome h)) ∙ trapped_stays s n h
-
--- so where n steps do not trap, no fewer do
-calm_before : (s : State) (k n : ℕ) → k ≤ n → NotTrapped (run s n) → NotTrapped (run s k)
-calm_before s k n le calm =
-    let sum : k + (n - k) ≡ n = omega arith in
-    let stays = λ (h : is_trapped (run s k).outcome ≡ true). ap (run s) (sym sum) ∙ run-more s k (n - k) ∙ trapped_stays (run s k) (n - k) h in
-    not_true (is_trapped (run s k).outcome) (λ h. sym h ∙ ap (λ t. is_trapped t.outcome) (sym (stays h)) ∙ calm) where
-      not_true : (b : Bool) → (b ≡ true → true ≡ false) → b ≡ false
-      not_true true h = h refl
-      not_true false h = refl
 
 -- ---- jumps by register
 -- one that does not trap goes on
@@ -94,5 +71,5 @@ steady_of reached s n none calm = record {
   no_trap = calm;
   leads = λ k lt i going at jumps.
       let here : is_astray reached (run s k) ≡ false = ap (is_astray reached) (sym (run_unchanged s k)) ∙ each_not reached (changed_run s []) n none k (omega (arith, lt)) in
-      leads_on reached (run s k) i here going at jumps (subst NotTrapped (run-last s k) (calm_before s (k + 1) n (omega (arith, lt)) calm));
+      leads_on reached (run s k) i here going at jumps (subst NotTrapped (run-last s k) (not_trapped_le s (k + 1) n (omega (arith, lt)) calm));
 }

@@ -1,6 +1,6 @@
 -- The words of ranges in the order of their starts are all words of the ranges, in ascending order.
 use Rattle.std.proofs.Common.{◌≡◌, inl, inr, ⊎_elim, ℕ, zero, suc, ◌+◌, ◌-◌, ◌*◌, ◌/◌, ◌%◌, ◌<◌, ◌≤◌, max, Bool, true, ◌&&◌, ◌||◌, List, [], ◌∷◌, ◌++◌, length, get_or, refl, sym, ap, ◌∙◌, subst, arith}
-use Rattle.std.specs.Prelude.{nat_le, ◌==◌, AllPairs}
+use Rattle.std.specs.Prelude.{nat_le, ◌==◌}
 use Rattle.std.specs.List.{list_any}
 use Rattle.std.specs.List.Sorted.{IsPermutation, IsNonDecreasingBy}
 use Rattle.std.proofs.lemmas.Bool.{and_parts, and_from, or_cases, or_left, or_right, leb-true, le-leb, eqb-true, eq-eqb, false≢true, cases_lt}
@@ -10,20 +10,14 @@ use Rattle.code_ranges.specs.declared.range.CodeRange.{CodeRange}
 use Rattle.code_ranges.specs.Ranges.{span, spans}
 use Rattle.qed_model.specs.Machine.Step.{in_range}
 use Rattle.qed_model.specs.Admission.CodeWords.{ranges_of, word_at}
+use Rattle.qed_model.proofs.OneRefusal.{Rising}
+use Rattle.qed_model.proofs.Addresses.{rising_lower, pairs_of}
 use Rattle.qed_model.proofs.Among.{among_of, contains_of, among-left, among-right, among-either}
 use Rattle.qed_model.specs.Members.{Among}
 use Rattle.listing.specs.Listing.{lines, AreWordAddresses, IsListing}
 use Rattle.listing.specs.Addresses.{from_on, up, down, words_of, addresses}
 
 -- ---- in ascending order
-abbrev Rising : ℕ → List ℕ → Type 0
-Rising low [] = Unit {0}
-Rising low (a ∷ rest) = (low ≤ a) × Rising (a + 1) rest
-
-rising_lower : (low l : ℕ) (xs : List ℕ) → l ≤ low → Rising low xs → Rising l xs
-rising_lower low l [] h r = tt
-rising_lower low l (x ∷ xs) h r = (omega (arith, h, r.0), r.1)
-
 rising-from_on : (a n low : ℕ) (xs : List ℕ) → low ≤ a → Rising (a + 4 * n) xs → Rising low (from_on a n ++ xs)
 rising-from_on a zero low xs l r = rising_lower (a + 4 * 0) low xs (omega (arith, l)) r
 rising-from_on a (suc n) low xs l r =
@@ -43,18 +37,6 @@ rising-addresses done (r ∷ rs) =
     let start = max (up r.0) done in
     let d = max done (down r.1) in
     rising_step start ((down r.1 - start) / 4) done d (addresses d rs) (omega arith) (omega arith) (whole_end start (down r.1) done) (rising-addresses d rs)
-
-from_rising : (low : ℕ) (xs : List ℕ) (j d : ℕ) → Rising low xs → j < length xs → low ≤ get_or xs j d
-from_rising low [] j d r lt = absurd (omega (arith, lt))
-from_rising low (x ∷ xs) zero d r lt = r.0
-from_rising low (x ∷ xs) (suc j) d r lt = let h = from_rising (x + 1) xs j d r.1 (omega (arith, lt)) in let a = r.0 in omega (arith, h, a)
-
-ascend : (low : ℕ) (xs : List ℕ) → Rising low xs → AllPairs (λ a b. a < b) xs
-ascend low [] r i j d lt le = absurd (omega (arith, le))
-ascend low (x ∷ xs) r zero zero d lt le = absurd (omega (arith, lt))
-ascend low (x ∷ xs) r (suc i) zero d lt le = absurd (omega (arith, lt))
-ascend low (x ∷ xs) r zero (suc j) d lt le = let h = from_rising (x + 1) xs j d r.1 (omega (arith, le)) in omega (arith, h)
-ascend low (x ∷ xs) r (suc i) (suc j) d lt le = ascend (x + 1) xs r.1 i j d (omega (arith, lt)) (omega (arith, le))
 
 -- ---- the words of one range
 record WordOf (start n a : ℕ) : Type 0 where
@@ -205,7 +187,7 @@ module _ (f : ElfFile) (xs ys : List CodeRange) (e : spans xs ≡ ranges_of f) (
 
   all_words : AreWordAddresses f (addresses 0 (spans ys))
   all_words = record {
-    ascend = ascend 0 (addresses 0 (spans ys)) (rising-addresses 0 (spans ys));
+    ascend = pairs_of 0 (addresses 0 (spans ys)) (rising-addresses 0 (spans ys));
     all = λ a. (
       (λ c. let p = listed_in a 0 (spans ys) refl (among_of a (addresses 0 (spans ys)) c) in and_from (a % 4 == 0) (in_range a (ranges_of f)) (eq-eqb (a % 4) 0 p.0) (sym (same a) ∙ p.1)),
       (λ h. let p = and_parts (a % 4 == 0) (in_range a (ranges_of f)) h in contains_of a (addresses 0 (spans ys)) (in_listed a 0 0 (spans ys) starts refl (eqb-true (a % 4) 0 p.0) (omega arith) (same a ∙ p.1))),

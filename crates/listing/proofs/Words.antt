@@ -1,55 +1,31 @@
 -- The words of a segment are those of the image, where no two segments share a byte.
-use Rattle.std.proofs.Common.{◌≡◌, ⊎_elim, ℕ, ◌+◌, ◌-◌, ◌*◌, ◌/◌, ◌^◌, ◌<◌, ◌≤◌, max, true, List, [], ◌∷◌, ◌++◌, Some, refl, sym, ap, ◌∙◌, subst, arith}
-use Rattle.std.specs.Prelude.{slice_index, slice_get, nat_le, Contains}
-use Rattle.std.proofs.lemmas.Bool.{and_parts, leb-true, cases_lt}
-use Rattle.std.proofs.lemmas.Bool.Decides.{nat_tests}
+use Rattle.std.proofs.Common.{◌≡◌, ℕ, ◌+◌, ◌-◌, ◌*◌, ◌/◌, ◌<◌, ◌≤◌, max, true, List, ◌++◌, refl, sym, ap, ◌∙◌, arith}
+use Rattle.std.specs.Prelude.{slice_index, nat_le, Contains}
+use Rattle.std.proofs.lemmas.Bool.{and_parts, leb-true}
 use Rattle.elf_types.specs.declared.file.Segment.{Segment}
-use Rattle.qed_model.specs.Machine.Apart.{AllFitMemory, AreApart, share}
+use Rattle.qed_model.specs.Machine.Apart.{AllFitMemory, AreApart}
 use Rattle.qed_model.specs.Machine.Memory.{byte_in}
 use Rattle.qed_model.specs.Machine.Program.{LoadSegment}
 use Rattle.qed_model.specs.Machine.Loading.{load_segment, load_segments}
-use Rattle.qed_model.specs.Machine.Cells.{has, cell_at, byte_among, number_among}
-use Rattle.qed_model.proofs.Among.{PlaceOf, place_of, among_of, contains_of}
+use Rattle.qed_model.specs.Machine.Cells.{cell_at, byte_among}
+use Rattle.qed_model.proofs.Among.{among_of, contains_of}
 use Rattle.qed_model.specs.Members.{Among}
-use Rattle.qed_model.proofs.CellsAmong.{has_from, has_parts, among_agreed}
+use Rattle.qed_model.proofs.ApartLaws.{alone, fit_among}
+use Rattle.qed_model.proofs.CellsAmong.{has_from, among_agreed, by_bytes}
 use Rattle.qed_model.proofs.ImageLaws.{among_load}
 use Rattle.listing.specs.Homes.{holds_range, IsHome, image_word, word_in}
 use Rattle.listing.specs.Listing.{lines}
 use Rattle.listing.specs.Addresses.{from_on, up, down, words_of}
 use Rattle.listing.proofs.Lines.{same_lines}
 
--- ---- one segment alone has an address
-shared : (l m : LoadSegment) (q : ℕ) → has l q ≡ true → has m q ≡ true → share l m ≡ true
-shared l m q h g = by (has_parts l q h) (has_parts m q g) where
-  by : (l.address ≤ q) × (q < l.address + l.size) → (m.address ≤ q) × (q < m.address + m.size) → share l m ≡ true
-  by a b = meet a.0 a.1 b.0 b.1 where
-    meet : l.address ≤ q → q < l.address + l.size → m.address ≤ q → q < m.address + m.size → share l m ≡ true
-    meet a b c d = grind (arith, nat_tests)
-
-same_place : (ls : List LoadSegment) (i j : ℕ) (l m : LoadSegment) → i ≡ j → slice_get ls i ≡ Some l → slice_get ls j ≡ Some m → l ≡ m
-same_place ls i j l m e x y = let both : Some l ≡ Some m = sym x ∙ ap (slice_get ls) e ∙ y in cc
-
-alone : (ls : List LoadSegment) → AreApart ls → (l m : LoadSegment) (q : ℕ) → PlaceOf ls l → PlaceOf ls m → has l q ≡ true → has m q ≡ true → l ≡ m
-alone ls apart l m q a b h g =
-    ⊎_elim
-    (λ lt. absurd (apart a.place b.place (record { order = lt; first = l; second = m; first_at = a.stands; second_at = b.stands; share = shared l m q h g })))
-    (λ le. ⊎_elim
-    (λ lt. absurd (apart b.place a.place (record { order = lt; first = m; second = l; first_at = b.stands; second_at = a.stands; share = shared m l q g h })))
-    (λ ge. let e : a.place ≡ b.place = omega (arith, le, ge) in same_place ls a.place b.place l m e a.stands b.stands)
-    (cases_lt b.place a.place))
-    (cases_lt a.place b.place)
-
+-- ---- bytes
 byte_is : (ls : List LoadSegment) → AreApart ls → (l : LoadSegment) (q k : ℕ) → Among l ls → l.address ≤ q → q < l.address + l.size → k ≡ q - l.address → slice_index l.bytes k ≡ byte_among ls q
 byte_is ls apart l q k m from to e =
     let h = has_from l q from to in
     ap (slice_index l.bytes) e
-    ∙ sym (ap byte_in (among_agreed ls q (cell_at l q) (λ t i g. ap (λ x. cell_at x q) (alone ls apart t l q (place_of t ls i) (place_of l ls m) g h)) l m h))
+    ∙ sym (ap byte_in (among_agreed ls q (cell_at l q) (λ t i g. ap (λ x. cell_at x q) (alone ls apart t l q i m g h)) l m h))
 
 -- ---- a word
-by_bytes : (ls : List LoadSegment) (a : ℕ) → number_among ls a 4 ≡ byte_among ls a + 256 * (byte_among ls (a + 1) + 256 * (byte_among ls (a + 1 + 1) + 256 * (byte_among ls (a + 1 + 1 + 1) + 256 * 0)))
-unfolding number_among
-by_bytes ls a = refl
-
 word_is : (ls : List LoadSegment) → AreApart ls → (l : LoadSegment) (a : ℕ) → Among l ls → l.address ≤ a → a + 4 ≤ l.address + l.size → word_in l a ≡ image_word ls a
 word_is ls apart l a m from to =
     let n = by_bytes ls a in
@@ -83,10 +59,6 @@ range_lines ss r s first start end done text more apart h f b e lt m =
     ∙ ap (λ x. text ++ lines w (from_on (max (up r.0) done) ((x - max (up r.0) done) / 4))) e
 
 -- ---- a segment that was found
-low_end : (ls : List LoadSegment) (l : LoadSegment) → AllFitMemory ls → Among l ls → l.address + l.size ≤ 2 ^ 64
-low_end [] l h m = absurd m
-low_end (k ∷ ls) l h m = ⊎_elim (λ e. subst (λ x. x.address + x.size ≤ 2 ^ 64) (sym e) h.0.1) (λ r. low_end ls l h.1 r) m
-
 pub is_home : (ss : List Segment) (r : ℕ × ℕ) (s : Segment) → AllFitMemory (load_segments ss) → Contains ss s → s.kind ≡ 1 → holds_range (load_segment s) r ≡ true → IsHome ss r s
 is_home ss r s fit c k h =
     let p = and_parts (nat_le s.address r.0) (nat_le r.1 (s.address + s.memory)) h in
@@ -95,5 +67,5 @@ is_home ss r s fit c k h =
       loaded = contains_of (load_segment s) (load_segments ss) m;
       from = leb-true s.address r.0 p.0;
       to = leb-true r.1 (s.address + s.memory) p.1;
-      fit = low_end (load_segments ss) (load_segment s) fit m;
+      fit = (fit_among (load_segment s) (load_segments ss) fit m).1;
     }

@@ -1,6 +1,7 @@
 -- A wrong instruction is caught, in any weave, in a plan of a form, and in each woven test.
 use Rattle.std.proofs.Common.{◌≡◌, ℕ, zero, suc, ◌+◌, ◌-◌, ◌*◌, ◌/◌, ◌^◌, ◌≤◌, List, [], ◌∷◌, Some, refl, sym, ap, ◌∙◌, subst, arith}
 use Rattle.std.proofs.Math.Nat.{mul-le-mul}
+use Rattle.std.proofs.lemmas.Option.{same_Some}
 use Rattle.rv_isa.specs.declared.ins.Ins.{Ins}
 use Rattle.rv_isa.specs.declared.kind.Kind.{Kind}
 use Rattle.rv_isa.specs.declared.kind.Kind.TheVariants.{Sb, Sh, Sw, Lb, Lbu, Lh, Lhu, Lw, Lwu}
@@ -51,9 +52,6 @@ same_known : {x y : Ins} → Known x ≡ Known y → x ≡ y
 same_known e = cc
 
 -- options that are equal hold equal numbers
-some_is : {x y : ℕ} → Some x ≡ Some y → x ≡ y
-some_is e = cc
-
 -- an access has a byte
 width_some : (k : Kind) → 1 ≤ width_of k
 width_some Lb = omega arith
@@ -71,7 +69,7 @@ width_some k = omega arith
 big_word : (words round first piece b : ℕ) → 2 ≤ piece → word_bound words round first piece ≡ Some b → 2 ≤ b
 big_word zero round first piece b h e = absurd (cc)
 big_word (suc n) round first piece b h e =
-    let is : first + ((suc n + round - 1) / round + 2) * piece ≡ b = some_is e in
+    let is : first + ((suc n + round - 1) / round + 2) * piece ≡ b = same_Some _ _ e in
     let one : 1 ≤ (suc n + round - 1) / round + 2 = omega arith in
     let m : 1 * 2 ≤ ((suc n + round - 1) / round + 2) * piece = mul-le-mul one h in
     omega (arith, is, m)

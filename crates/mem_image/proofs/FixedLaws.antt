@@ -1,6 +1,6 @@
 -- Segments that stand in a memory: what an access reads of them, and that a write leaves those that may not be written.
-use Rattle.std.proofs.Common.{◌≡◌, ℕ, ◌+◌, ◌-◌, ◌^◌, ◌<◌, ◌≤◌, Bool, true, false, List, Option, Some, None, ◌⊎◌, inl, inr, refl, subst, sym, ap, ◌∙◌, arith, ⊎_elim}
-use Rattle.std.specs.Prelude.{◌&&◌, slice_get, IfNone}
+use Rattle.std.proofs.Common.{◌≡◌, ℕ, ◌+◌, ◌-◌, ◌^◌, ◌<◌, ◌≤◌, true, false, List, Option, Some, None, sym, ap, ◌∙◌, arith, ⊎_elim}
+use Rattle.std.specs.Prelude.{slice_get, IfNone}
 use Rattle.std.proofs.lemmas.Bool.{cases_lt, false≢true}
 use Rattle.std.specs.FinMap.{get}
 use Rattle.qed_model.specs.Machine.Memory.{Memory, wrap, offset, allows, grants, put}
@@ -43,16 +43,7 @@ fixed_put m s a n v h low g = record {
 }
 
 -- ---- no code
-no_both : (b : Bool) → (b && false) ≡ false
-no_both true = refl
-no_both false = refl
-
--- bytes that may not be executed, or may be written
-pub no_code : (s t : LoadSegment) → Some s ≡ Some t → (s.flags.execute ≡ false) ⊎ (s.flags.write ≡ true) → is_code t.flags ≡ false
-no_code s t e (inl x) = let is : s ≡ t = cc in subst (λ (r : LoadSegment). is_code r.flags ≡ false) is (rw x refl)
-no_code s t e (inr w) = let is : s ≡ t = cc in subst (λ (r : LoadSegment). is_code r.flags ≡ false) is (rw w (no_both s.flags.execute))
-
--- where no segment has the address, or the one that has it
+-- where no segment has the address, or the first that has it may not be executed or may be written
 pub none_no_code : (ss : List LoadSegment) (q : ℕ) → AllFitMemory ss → cell_among ss q ≡ None → has_code (memory_of ss) q ≡ false
 none_no_code ss q fit e = ap (allows is_code) (get-memory_of ss q fit ∙ e)
 

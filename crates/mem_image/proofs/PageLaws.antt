@@ -1,22 +1,15 @@
 -- The bytes of a page, of which the first are a segment's.
-use Rattle.std.proofs.Common.{◌≡◌, ℕ, zero, suc, ◌+◌, ◌-◌, ◌<◌, ◌≤◌, List, [], ◌∷◌, length, take, drop, refl, sym, ap, ◌∙◌, arith, add-one, replicate, get_or-set_same, get_or-set_other, length-set, ⊎_elim}
+use Rattle.std.proofs.Common.{◌≡◌, ℕ, zero, suc, ◌+◌, ◌-◌, ◌<◌, ◌≤◌, List, [], ◌∷◌, length, take, refl, sym, ap, ◌∙◌, arith, add-one, replicate, get_or-set_same, get_or-set_other, length-set, ⊎_elim}
 use Rattle.std.specs.Prelude.{slice_index, slice_set}
 use Rattle.qed_model.specs.Machine.Memory.{byte_of}
 use Rattle.std.proofs.lemmas.Bool.{cases_lt}
-use Rattle.std.proofs.lemmas.List.{length-replicate}
+use Rattle.std.proofs.lemmas.List.{length-replicate, get_or-take, get_or_past}
 use Rattle.qed_model.proofs.CellsAmong.{index_zeros}
 use Rattle.qed_model.specs.Machine.Program.{LoadSegment}
 use Rattle.mem_image.specs.Segments.{number_in, bytes_put, with_byte_at, with_bytes_at, IsLike}
-use Rattle.mem_image.specs.Pages.{HoldsFrom}
 use Rattle.mem_image.proofs.WholeLaws.{address-with_bytes, size-with_bytes, length-with_bytes}
 
 -- ---- the first bytes
-pub index-take : (k : ℕ) (bs : List ℕ) (i : ℕ) → i < k → slice_index (take k bs) i ≡ slice_index bs i
-index-take zero bs i h = absurd (omega arith)
-index-take (suc k) [] i h = refl
-index-take (suc k) (b ∷ bs) zero h = refl
-index-take (suc k) (b ∷ bs) (suc i) h = index-take k bs i (omega arith)
-
 pub set-take : (k : ℕ) (bs : List ℕ) (i v : ℕ) → take k (slice_set bs i v) ≡ slice_set (take k bs) i v
 set-take zero bs i v = refl
 set-take (suc k) [] i v = refl
@@ -26,7 +19,7 @@ set-take (suc k) (b ∷ bs) (suc i) v = ap (λ xs. b ∷ xs) (set-take k bs i v)
 pub number-take : (k : ℕ) (bs : List ℕ) (i n : ℕ) → i + n ≤ k → number_in (take k bs) i n ≡ number_in bs i n
 unfolding number_in
 number-take k bs i zero h = refl
-number-take k bs i (suc n) h = rw (index-take k bs i (omega arith), number-take k bs (i + 1) n (omega arith)) refl
+number-take k bs i (suc n) h = rw (get_or-take k bs i 0 (omega arith), number-take k bs (i + 1) n (omega arith)) refl
 
 pub put-take : (k : ℕ) (bs : List ℕ) (i n v : ℕ) → take k (bytes_put bs i n v) ≡ bytes_put (take k bs) i n v
 unfolding bytes_put
@@ -76,37 +69,10 @@ filled_more bs page i b f m e = let l : i < length page = let k = f.count in ome
   rest = λ j h. get_or-set_other page i j b 0 (λ s. absurd (omega arith)) ∙ f.rest j (omega arith);
 }
 
-pub index_past : (bs : List ℕ) (j : ℕ) → length bs ≤ j → slice_index bs j ≡ 0
-index_past [] j h = refl
-index_past (b ∷ bs) zero h = absurd (omega arith)
-index_past (b ∷ bs) (suc j) h = index_past bs j (omega arith)
-
 -- as many as the slice has, or as the page has
 pub filled_all : (bs page : List ℕ) (i j : ℕ) → Filled bs page i → ((i < 4096) → (length bs ≤ i)) → j < 4096 → slice_index page j ≡ slice_index bs j
-filled_all bs page i j f h l = ⊎_elim (λ m. f.done j m) (λ m. f.rest j m ∙ sym (index_past bs j (let k = h (omega arith) in omega arith))) (cases_lt j i)
-
--- ---- lengths
-pub length_first : (k : ℕ) (bs : List ℕ) → k ≤ length bs → length (take k bs) ≡ k
-length_first zero bs h = refl
-length_first (suc k) [] h = absurd (omega arith)
-length_first (suc k) (b ∷ bs) h = ap suc (length_first k bs (omega arith))
-
-pub length_put : (bs : List ℕ) (i n v : ℕ) → length (bytes_put bs i n v) ≡ length bs
-unfolding bytes_put
-length_put bs i zero v = refl
-length_put bs i (suc n) v = length-set _ _ _ ∙ length_put bs i n v
+filled_all bs page i j f h l = ⊎_elim (λ m. f.done j m) (λ m. f.rest j m ∙ sym (get_or_past bs j 0 (let k = h (omega arith) in omega arith))) (cases_lt j i)
 
 -- a segment whose bytes were put
 pub like_put : (s t : LoadSegment) (a n v : ℕ) → t ≡ with_bytes_at s a n v → IsLike s t
 like_put s t a n v e = rw e (record { address = address-with_bytes s a n v; size = size-with_bytes s a n v; bytes = length-with_bytes s a n v })
-
-index-drop : (d : ℕ) (bs : List ℕ) (i : ℕ) → slice_index (drop d bs) i ≡ slice_index bs (d + i)
-index-drop zero bs i = let e : 0 + i ≡ i = omega arith in rw e refl
-index-drop (suc d) [] i = refl
-index-drop (suc d) (b ∷ bs) i = let e : suc d + i ≡ suc (d + i) = omega arith in rw e (index-drop d bs i)
-
-pub holds_drop : (bs page : List ℕ) (d : ℕ) → HoldsFrom (drop d bs) 0 page → HoldsFrom bs d page
-holds_drop bs page d h = record { count = h.count; bytes = λ i l. let e : 0 + i ≡ i = omega arith in (rw e at (h.bytes i l)) ∙ index-drop d bs i }
-
-pub holds_zeros : (bs page : List ℕ) (d : ℕ) → length bs ≤ d → HoldsFrom [] 0 page → HoldsFrom bs d page
-holds_zeros bs page d e h = record { count = h.count; bytes = λ i l. h.bytes i l ∙ sym (index_past bs (d + i) (omega arith)) }

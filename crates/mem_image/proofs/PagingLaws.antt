@@ -4,42 +4,36 @@ use Rattle.std.specs.Prelude.{All, IsPermutation, nat_eq, slice_get, slice_index
 use Rattle.std.specs.List.{IsDistinct}
 use Rattle.std.specs.List.Sorted.{IsNonDecreasingBy}
 use Rattle.std.proofs.lemmas.Cmp.{nat_eq_equiv, on_equiv}
-use Rattle.std.proofs.lemmas.Option.{slice_get-get_or, slice_get_within, get_or_from_slice_get}
+use Rattle.std.proofs.lemmas.Option.{slice_get-get_or, slice_get_within, get_or_from_slice_get, same_Some}
 use Rattle.std.proofs.lemmas.List.Elements.{All-push, Contains-append_left, Contains-push}
 use Rattle.std.proofs.lemmas.List.Folds.{list_any_none}
 use Rattle.std.proofs.lemmas.List.Sorted.{All-permutation, Contains-permutation}
 use Rattle.std.proofs.lemmas.Map.Keys.{IsDistinct-push, IsDistinct-IsPermutation, apart_from_distinct}
 use Rattle.std.proofs.lemmas.Bool.Decides.{nat_tests}
 use Rattle.std.proofs.lemmas.Bool.{cases_lt, false≢true}
+use Rattle.std.specs.Option.{option_or}
 use Rattle.qed_model.specs.Machine.Memory.{Cell}
 use Rattle.qed_model.specs.Machine.Program.{LoadSegment}
 use Rattle.qed_model.specs.Machine.Cells.{has, cell_at, cell_among}
 use Rattle.qed_model.specs.Machine.Apart.{AllFitMemory, FitsMemory, share, AreApart}
-use Rattle.mem_image.specs.Overlap.{segment_of, segments_of, Ascends, AreSound}
+use Rattle.mem_image.specs.Overlap.{segment_of, segments_of, Ascends}
 use Rattle.mem_image.specs.Pages.{IsPageOf, Below, first_part, IsPaged, IsPlace, Orders, Names, HasOne, Covers}
 use Rattle.mem_image.proofs.SegmentLaws.{cell_among-none, cell_among-first}
 use Rattle.mem_image.specs.declared.spec.SegmentSpec.{SegmentSpec}
 use Rattle.mem_image.proofs.OverlapLaws.{segment_there}
-use Rattle.mem_image.proofs.WholeLaws.{before_apart, shared}
-use Rattle.qed_model.proofs.CellsAmong.{has_from, has_parts}
+use Rattle.qed_model.proofs.ApartLaws.{shared}
+use Rattle.mem_image.proofs.WholeLaws.{before_apart}
+use Rattle.qed_model.proofs.CellsAmong.{has_from, has_parts, option_or-cond}
 use Rattle.mem_image.proofs.PlaceLaws.{outside}
 
 -- ---- one page more
-abbrev behind : Option Cell → Option Cell → Option Cell
-behind None o = o
-behind (Some c) o = Some c
+or_none : (o : Option Cell) → option_or o None ≡ o
+or_none None = refl
+or_none (Some c) = refl
 
-behind_cond : (b : Bool) (c : Cell) (o p : Option Cell) → cond b (Some c) (behind o p) ≡ behind (cond b (Some c) o) p
-behind_cond true c o p = refl
-behind_cond false c o p = refl
-
-behind_none : (o : Option Cell) → behind o None ≡ o
-behind_none None = refl
-behind_none (Some c) = refl
-
-cell_among-append : (xs ys : List LoadSegment) (q : ℕ) → cell_among (xs ++ ys) q ≡ behind (cell_among xs q) (cell_among ys q)
+cell_among-append : (xs ys : List LoadSegment) (q : ℕ) → cell_among (xs ++ ys) q ≡ option_or (cell_among xs q) (cell_among ys q)
 cell_among-append [] ys q = refl
-cell_among-append (x ∷ xs) ys q = ap (cond (has x q) (Some (cell_at x q))) (cell_among-append xs ys q) ∙ behind_cond (has x q) (cell_at x q) (cell_among xs q) (cell_among ys q)
+cell_among-append (x ∷ xs) ys q = ap (cond (has x q) (Some (cell_at x q))) (cell_among-append xs ys q) ∙ sym (option_or-cond (has x q) (cell_at x q) (cell_among xs q) (cell_among ys q))
 
 all_fit-append : (xs : List LoadSegment) (h : LoadSegment) → AllFitMemory xs → FitsMemory h → AllFitMemory (xs ++ (h ∷ []))
 all_fit-append [] h f g = (g, tt)
@@ -67,12 +61,6 @@ page_cell s h d q p w =
     let b : slice_index h.bytes (q - h.address) ≡ slice_index s.bytes (q - s.address) = rw e at (p.bytes (q - h.address) (omega (arith, i))) in
     rw (b, p.flags) refl
 
-pub paged_none : (old : List LoadSegment) (s : LoadSegment) → Below old s.address → IsPaged old s old 0
-paged_none old s b = record {
-  below = record { fit = b.fit; ascends = b.ascends; ends = λ k t g. let m = b.ends k t g in omega arith };
-  cells = λ q. rw (outside (first_part s 0) q (λ x y. omega arith)) refl;
-}
-
 pub paged_more : (old xs : List LoadSegment) (s h : LoadSegment) (d : ℕ) → Below old s.address → IsPaged old s xs d → FitsMemory s → d < s.size → IsPageOf s d h → IsPaged old s (xs ++ (h ∷ [])) (d + h.size)
 paged_more old xs s h d b i f l p =
     let a = p.address in
@@ -86,9 +74,9 @@ paged_more old xs s h d b i f l p =
         ascends = ascends-append 0 xs h i.below.ascends (omega arith) ends;
         ends = ends-append xs h (s.address + (d + h.size)) (omega (arith, a)) ends;
       };
-      cells = λ q. cell_among-append xs (h ∷ []) q ∙ ap (λ o. behind o (cell_among (h ∷ []) q)) (i.cells q) ∙ at q (has (first_part s d) q) refl (has h q) refl;
+      cells = λ q. cell_among-append xs (h ∷ []) q ∙ ap (λ o. option_or o (cell_among (h ∷ []) q)) (i.cells q) ∙ at q (has (first_part s d) q) refl (has h q) refl;
     } where
-      at : (q : ℕ) (x : Bool) → has (first_part s d) q ≡ x → (y : Bool) → has h q ≡ y → behind (cond x (Some (cell_at s q)) (cell_among old q)) (cond y (Some (cell_at h q)) None) ≡ cond (has (first_part s (d + h.size)) q) (Some (cell_at s q)) (cell_among old q)
+      at : (q : ℕ) (x : Bool) → has (first_part s d) q ≡ x → (y : Bool) → has h q ≡ y → option_or (cond x (Some (cell_at s q)) (cell_among old q)) (cond y (Some (cell_at h q)) None) ≡ cond (has (first_part s (d + h.size)) q) (Some (cell_at s q)) (cell_among old q)
       at q true wx y wy = let m = has_parts (first_part s d) q wx in rw (has_from (first_part s (d + h.size)) q m.0 (omega (arith, m))) refl
       at q false wx true wy =
           let m = has_parts h q wy in
@@ -96,16 +84,13 @@ paged_more old xs s h d b i f l p =
           rw (has_from (first_part s (d + h.size)) q (omega (arith, m, a)) (omega (arith, m, a)), nothing_behind old s.address q b.ends (omega (arith, m, a)), page_cell s h d q p wy) refl
       at q false wx false wy =
           let a = p.address in
-          rw (behind_none (cell_among old q), outside (first_part s (d + h.size)) q (λ u v. ⊎_elim (λ k. false≢true (sym wx ∙ has_from (first_part s d) q u k)) (λ k. false≢true (sym wy ∙ has_from h q (omega (arith, a)) (omega (arith, a)))) (cases_lt q (s.address + d)))) refl
+          rw (or_none (cell_among old q), outside (first_part s (d + h.size)) q (λ u v. ⊎_elim (λ k. false≢true (sym wx ∙ has_from (first_part s d) q u k)) (λ k. false≢true (sym wy ∙ has_from h q (omega (arith, a)) (omega (arith, a)))) (cases_lt q (s.address + d)))) refl
 
 -- ---- a segment more
-some_same : {A : Type 0} (a b : A) → Some a ≡ Some b → a ≡ b
-some_same a b e = cc
-
 names_same : (ss : List LoadSegment) (order : List (ℕ × ℕ)) (j : ℕ) (s t : LoadSegment) → Names ss order j s → Names ss order j t → s ≡ t
 names_same ss order j s t x y =
-    let e : x.number ≡ y.number = ap (λ (p : ℕ × ℕ). p.1) (some_same (s.address, x.number) (t.address, y.number) (sym x.stands ∙ y.stands)) in
-    some_same s t (sym x.segment ∙ ap (slice_get ss) e ∙ y.segment)
+    let e : x.number ≡ y.number = ap (λ (p : ℕ × ℕ). p.1) (same_Some (s.address, x.number) (t.address, y.number) (sym x.stands ∙ y.stands)) in
+    same_Some s t (sym x.segment ∙ ap (slice_get ss) e ∙ y.segment)
 
 -- the last place, or one before it
 names_last : (ss : List LoadSegment) (order : List (ℕ × ℕ)) (n j : ℕ) (s t : LoadSegment) → Names ss order n s → j < n + 1 → Names ss order j t → (j < n) ⊎ ((j ≡ n) × (s ≡ t))
@@ -160,7 +145,7 @@ module _ (ss : List LoadSegment) (order : List (ℕ × ℕ)) (pages : List LoadS
       let a : Names ss order x.0 o.first = record { number = i; stands = x.1.1; segment = o.first_at; some = h.0.0 } in
       let b : Names ss order y.0 o.second = record { number = j; stands = y.1.1; segment = o.second_at; some = h.0.1 } in
       ⊎_elim (λ l. let e = c.apart x.0 y.0 o.first o.second l (let m = y.1.0 in omega (arith, m, whole)) a b in omega (arith, e, h))
-      (λ l. ⊎_elim (λ m. let e = c.apart y.0 x.0 o.second o.first m (let k = x.1.0 in omega (arith, k, whole)) b a in omega (arith, e, h)) (λ m. let e : y.0 ≡ x.0 = omega (arith, l, m) in let d = o.order in let there : slice_get order x.0 ≡ Some (o.second.address, j) = rw e at y.1.1 in let same : i ≡ j = ap (λ (p : ℕ × ℕ). p.1) (some_same (o.first.address, i) (o.second.address, j) (sym x.1.1 ∙ there)) in omega (arith, same, d)) (cases_lt y.0 x.0)) (cases_lt x.0 y.0)
+      (λ l. ⊎_elim (λ m. let e = c.apart y.0 x.0 o.second o.first m (let k = x.1.0 in omega (arith, k, whole)) b a in omega (arith, e, h)) (λ m. let e : y.0 ≡ x.0 = omega (arith, l, m) in let d = o.order in let there : slice_get order x.0 ≡ Some (o.second.address, j) = rw e at y.1.1 in let same : i ≡ j = ap (λ (p : ℕ × ℕ). p.1) (same_Some (o.first.address, i) (o.second.address, j) (sym x.1.1 ∙ there)) in omega (arith, same, d)) (cases_lt y.0 x.0)) (cases_lt x.0 y.0)
 
   none_there : (q : ℕ) → cell_among pages q ≡ None → (k : ℕ) (s : LoadSegment) → slice_get ss k ≡ Some s → has s q ≡ false
   none_there q e k s g = by (has s q) refl where
@@ -180,9 +165,6 @@ module _ (ss : List LoadSegment) (order : List (ℕ × ℕ)) (pages : List LoadS
     by (Some d) e =
         let o = c.only q d e in
         c.cells o.place o.segment q o.below o.names o.inside ∙ sym (cell_among-first ss q o.names.number o.segment o.names.segment o.inside (before_apart ss o.names.number o.segment q covers_apart o.names.segment o.inside))
-
-  pub covers_sound : AreSound pages
-  covers_sound = record { fit = c.below.fit; ascends = c.below.ascends }
 
 -- ---- two that share a byte
 -- the segment of a place begins below the end of those before it, so that one of these has its first byte too
@@ -210,7 +192,7 @@ places_later ss order n o = λ k d l. let h = o.places k d l in let below = h.be
 
 -- the last number, or one before it
 number_last : (ss : List LoadSegment) (n k : ℕ) (r s : LoadSegment) → slice_get ss n ≡ Some r → k < n + 1 → slice_get ss k ≡ Some s → (k < n) ⊎ ((k ≡ n) × (s ≡ r))
-number_last ss n k r s at l e = ⊎_elim (λ m. inl m) (λ m. let is : k ≡ n = omega arith in inr (is, some_same s r (sym e ∙ ap (slice_get ss) is ∙ at))) (cases_lt k n)
+number_last ss n k r s at l e = ⊎_elim (λ m. inl m) (λ m. let is : k ≡ n = omega arith in inr (is, same_Some s r (sym e ∙ ap (slice_get ss) is ∙ at))) (cases_lt k n)
 
 -- none so far
 pub orders_none : (ss : List LoadSegment) → Orders ss [] 0
@@ -252,6 +234,6 @@ pub names_read : (specs : List SegmentSpec) (order : List (ℕ × ℕ)) (j : ℕ
 names_read specs order j p a o l e r =
     let place : IsPlace (segments_of specs) (length specs) p = subst (IsPlace (segments_of specs) (length specs)) (sym e) (o.places j p l) in
     let there = segment_there specs p.1 a place.below r in
-    let is : place.segment ≡ segment_of a = some_same place.segment (segment_of a) (sym place.stands ∙ there) in
+    let is : place.segment ≡ segment_of a = same_Some place.segment (segment_of a) (sym place.stands ∙ there) in
     let at : p.0 ≡ a.address = place.address ∙ ap (λ (s : LoadSegment). s.address) is in
     record { number = p.1; stands = slice_get-get_or order j p l ∙ ap Some (sym e) ∙ ap (λ q. Some (q, p.1)) at; segment = there; some = subst (λ (s : LoadSegment). 0 < s.size) is place.some }

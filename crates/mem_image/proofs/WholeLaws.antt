@@ -13,6 +13,7 @@ use Rattle.qed_model.proofs.CellsLaws.{byte_of_cell}
 use Rattle.qed_model.specs.Machine.Apart.{share, AllFitMemory, AreApart}
 use Rattle.qed_model.specs.Machine.Cells.{cell_at, has}
 use Rattle.qed_model.proofs.CellsAmong.{has_from}
+use Rattle.qed_model.proofs.ApartLaws.{shared}
 use Rattle.mem_image.specs.Segments.{has_all, number_in, with_byte_at, with_bytes_at, IsWholeAt, IsLike}
 use Rattle.mem_image.specs.Access.{allowed_number}
 use Rattle.mem_image.specs.Fixed.{Stands}
@@ -102,20 +103,7 @@ length-with_bytes s a (suc n) v = length-set _ _ _ ∙ length-with_bytes s a n v
 pub has-with_bytes : (s : LoadSegment) (a n v q : ℕ) → has (with_bytes_at s a n v) q ≡ has s q
 has-with_bytes s a n v q = rw (address-with_bytes s a n v, size-with_bytes s a n v) refl
 
--- nothing, and one byte more
-pub with_bytes-none : (s : LoadSegment) (a v : ℕ) → with_bytes_at s a 0 v ≡ s
-unfolding with_bytes_at
-with_bytes-none s a v = refl
-
-pub with_bytes-more : (s : LoadSegment) (a n v : ℕ) → with_byte_at (with_bytes_at s a n v) (a + n) (byte_of v n) ≡ with_bytes_at s a (n + 1) v
-unfolding with_bytes_at
-with_bytes-more s a n v = rw add-one refl
-
 -- ---- segments that share nothing
--- two segments with an address in common share a byte
-pub shared : (s t : LoadSegment) (q : ℕ) → has s q ≡ true → has t q ≡ true → share s t ≡ true
-shared s t q x y = grind (arith, nat_tests)
-
 -- an address has one segment
 pub before_apart : (ss : List LoadSegment) (k : ℕ) (s : LoadSegment) (q : ℕ) → AreApart ss → slice_get ss k ≡ Some s → has s q ≡ true → (j : ℕ) (p : LoadSegment) → j < k → slice_get ss j ≡ Some p → has p q ≡ false
 before_apart ss k s q apart at w j p h e = by (has p q) refl where
@@ -188,10 +176,6 @@ here_whole ss l a n k s e h below read =
 
 pub here_at : (ss : List LoadSegment) (a n k : ℕ) (d : LoadSegment) → IsWholeAt ss a n k → k < length ss → (slice_get ss k ≡ Some (get_or ss k d)) × (has_all (get_or ss k d) a n ≡ true)
 here_at ss a n k d whole below = here_whole ss ss a n k (get_or ss k d) refl whole below (get_or_default ss k d (get_or ss k d) below)
-
--- the segment at a place, as code that may change it reads it
-pub there_at : (ss : List LoadSegment) (k : ℕ) (d : LoadSegment) → k < length ss → slice_get ss k ≡ Some (get_or ss k d)
-there_at ss k d below = stands_at ss k (get_or ss k d) below (get_or_default ss k d (get_or ss k d) below)
 
 -- a segment of those that make a memory stands in it
 pub among_stands : (ss : List LoadSegment) (k : ℕ) (s : LoadSegment) → AreSound ss → slice_get ss k ≡ Some s → Stands (memory_of ss) s

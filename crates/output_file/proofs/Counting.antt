@@ -1,7 +1,7 @@
 -- Pieces by their lengths, and how many data words there are.
 use Rattle.std.proofs.Common.{◌≡◌, ℕ, zero, suc, ◌+◌, ◌-◌, ◌*◌, ◌/◌, ◌^◌, ◌<◌, ◌≤◌, List, [], ◌∷◌, ◌++◌, length, map, get_or, take, drop, refl, sym, ap, ◌∙◌, subst, append_assoc, add-one, length-drop, drop-cons, arith}
 use Rattle.std.specs.Prelude.{sum}
-use Rattle.std.proofs.lemmas.List.{length-take-le, append-nil}
+use Rattle.std.proofs.lemmas.List.{length-take-le, append-nil, get_or_default, drop_all}
 use Rattle.std.proofs.lemmas.List.Sums.{sum_by-cons}
 use Rattle.elf_types.specs.declared.file.ElfFile.{ElfFile}
 use Rattle.rv_isa.specs.declared.ins.Ins.{Ins}
@@ -17,13 +17,6 @@ use Rattle.block_list.specs.declared.block.CodeBlock.{CodeBlock}
 use Rattle.output_file.specs.Images.{AreSpaced}
 use Rattle.output_file.specs.Told.{IsWhole, rows_of, end_of}
 use Rattle.output_file.proofs.Images.{spaced_ranges}
-
--- nothing is left behind the last
-drop_past : {A : Type 0} (xs : List A) (n : ℕ) → length xs ≤ n → drop n xs ≡ []
-drop_past [] zero h = refl
-drop_past [] (suc n) h = refl
-drop_past (x ∷ xs) zero h = absurd (omega (arith, h))
-drop_past (x ∷ xs) (suc n) h = drop_past xs n (omega (arith, h))
 
 sum-cons : (n : ℕ) (ns : List ℕ) → sum (n ∷ ns) ≡ n + sum ns
 sum-cons n ns = sum_by-cons (λ x. x) n ns
@@ -67,17 +60,12 @@ pub record Counted (rs : List Range) (i count : ℕ) : Type 0 where
 pub counted_none : (rs : List Range) → Counted rs 0 0
 counted_none rs = record { total = omega arith; few = λ k d e. absurd (omega (arith, e)); none = λ e. refl }
 
-same_range : (rs : List Range) (k : ℕ) (x y : Range) → k < length rs → get_or rs k x ≡ get_or rs k y
-same_range [] k x y h = absurd (omega (arith, h))
-same_range (z ∷ rs) zero x y h = refl
-same_range (z ∷ rs) (suc k) x y h = same_range rs k x y (omega (arith, h))
-
 pub counted_more :
     (rs : List Range) → AreSpaced rs → (i count x next : ℕ) (d : Range) → i < length rs → x ≡ ((get_or rs i d).end - (get_or rs i d).start) / 8
     → (get_or rs i d).end < 2 ^ 64 → (count + x < 2 ^ 64 → next ≡ count + x) → Counted rs i count → Counted rs (i + 1) next
 counted_more rs spaced i count x next d lt x_is fits next_is c = record {
   total = total;
-  few = λ k y e. let p : k ≡ i = omega (arith, e) in let q : (get_or rs i d).end ≡ (get_or rs k y).end = ap (λ r. r.end) (same_range rs i d y lt) ∙ ap (λ n. (get_or rs n y).end) (sym p) in omega (arith, q, low);
+  few = λ k y e. let p : k ≡ i = omega (arith, e) in let q : (get_or rs i d).end ≡ (get_or rs k y).end = ap (λ r. r.end) (get_or_default rs i d y lt) ∙ ap (λ n. (get_or rs n y).end) (sym p) in omega (arith, q, low);
   none = λ e. absurd (omega (arith, e));
 } where
   some : (get_or rs i d).start < (get_or rs i d).end
@@ -104,7 +92,7 @@ counted_more rs spaced i count x next d lt x_is fits next_is c = record {
 
 pub counted_all : (rs : List Range) (i count : ℕ) → length rs ≤ i → Counted rs i count → count ≡ word_count (map range_of rs)
 counted_all rs i count le c =
-    let e : drop i rs ≡ [] = drop_past rs i le in
+    let e : drop i rs ≡ [] = drop_all i rs le in
     let w : word_count (map range_of (drop i rs)) ≡ 0 = ap (λ ts. word_count (map range_of ts)) e in
     let t = c.total in
     omega (arith, t, w)
@@ -131,4 +119,4 @@ rows_more entry first next i n ns rows new all lt n_is new_is next_is inv =
 
 pub rows_all :
     (entry first i : ℕ) (ns : List ℕ) (rows all : List PieceRow) → length ns ≤ i → (end_of first (drop i ns) ≤ 2 ^ 63) × (rows ++ rows_of entry first (drop i ns) ≡ all) → rows ≡ all
-rows_all entry first i ns rows all le inv = sym (append-nil rows) ∙ ap (λ xs. rows ++ rows_of entry first xs) (sym (drop_past ns i le)) ∙ inv.1
+rows_all entry first i ns rows all le inv = sym (append-nil rows) ∙ ap (λ xs. rows ++ rows_of entry first xs) (sym (drop_all i ns le)) ∙ inv.1

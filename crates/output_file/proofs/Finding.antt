@@ -1,11 +1,11 @@
 -- What stands in lists that ascend, by the place at which a test changes its answer.
-use Rattle.std.proofs.Common.{◌≡◌, ◌⊎◌, inl, inr, ⊎_elim, ℕ, zero, suc, ◌+◌, ◌<◌, ◌≤◌, Bool, true, false, cond, ◌||◌, List, [], ◌∷◌, length, get_or, take, drop, Some, None, refl, sym, ap, ◌∙◌, subst, ◌-◌, length-drop, arith}
+use Rattle.std.proofs.Common.{◌≡◌, ◌⊎◌, inl, inr, ⊎_elim, ℕ, zero, suc, ◌+◌, ◌<◌, ◌≤◌, Bool, true, false, cond, List, [], ◌∷◌, length, get_or, take, drop, Some, None, refl, sym, ap, ◌∙◌, subst, ◌-◌, length-drop, arith}
 use Rattle.std.specs.Prelude.{nat_lt, nat_le, ◌==◌, map, filter, AllPairs}
 use Rattle.std.specs.List.Sorted.{IsNonDecreasingBy, IsPartitionPoint}
-use Rattle.std.proofs.lemmas.Bool.{leb-true, leb-false, ltb-true, ltb-false, le-leb, lt-ltb, eq-eqb, eqb-true, and_from, cases_lt}
+use Rattle.std.proofs.lemmas.Bool.{leb-true, leb-false, ltb-true, ltb-false, le-leb, lt-ltb, eq-eqb, eqb-true, and_from, cases_lt, or_right}
 use Rattle.std.proofs.lemmas.Bool.Decides.{nat_tests}
 use Rattle.std.proofs.Math.Seq.{take-length}
-use Rattle.std.proofs.lemmas.List.{get_or-drop}
+use Rattle.std.proofs.lemmas.List.{get_or-drop, get_or_default}
 use Rattle.elf_types.specs.declared.file.Segment.{Segment}
 use Rattle.qed_model.specs.declared.plan.EntryRow.{EntryRow}
 use Rattle.qed_model.specs.declared.range.Range.{Range}
@@ -50,11 +50,6 @@ not_found (r ∷ rows) a h = by (r.input == a) refl (not_found rows a (λ k d l.
   by true e rest = absurd (h 0 r (omega arith) (eqb-true r.input a e))
   by false e rest = rest
 
-row_same : (xs : List EntryRow) (k : ℕ) (x y : EntryRow) → k < length xs → get_or xs k x ≡ get_or xs k y
-row_same [] k x y h = absurd (omega (arith, h))
-row_same (z ∷ xs) zero x y h = refl
-row_same (z ∷ xs) (suc k) x y h = row_same xs k x y (omega (arith, h))
-
 module _ (rows : List EntryRow) (ascend : AllPairs (λ r t. r.input < t.input) rows) where
   -- a row with the address is its entry
   pub entry_near : (a i : ℕ) (d : EntryRow) → i < length rows → (get_or rows i d).input ≡ a → Some (get_or rows i d).output ≡ entry_at rows a
@@ -63,7 +58,7 @@ module _ (rows : List EntryRow) (ascend : AllPairs (λ r t. r.input < t.input) r
       (found_at rows a i d l
       (λ k e lt.
       let p = ascend k i e lt l in
-      let same : (get_or rows i e).input ≡ (get_or rows i d).input = ap (λ r. r.input) (row_same rows i e d l) in
+      let same : (get_or rows i e).input ≡ (get_or rows i d).input = ap (λ r. r.input) (get_or_default rows i e d l) in
       omega (arith, p, same, here))
       here)
 
@@ -92,16 +87,13 @@ module _ (rows : List EntryRow) (ascend : AllPairs (λ r t. r.input < t.input) r
       later k x l e y = let p = ascend place k x y l in let q = ltb-false (get_or rows place x).input a (point.1 place x (omega arith) lt) in absurd (omega (arith, p, q, e))
 
       here : (k : ℕ) (x : EntryRow) → (get_or rows k x).input ≡ a → k < length rows → place ≡ k → ⊥
-      here k x e l p = ne (ap (λ r. r.input) (row_same rows place d x lt) ∙ ap (λ n. (get_or rows n x).input) p ∙ e)
+      here k x e l p = ne (ap (λ r. r.input) (get_or_default rows place d x lt) ∙ ap (λ n. (get_or rows n x).input) p ∙ e)
 
 -- ---- ranges
 in_at : (rs : List Range) (q k : ℕ) (d : Range) → k < length rs → is_in (range_of (get_or rs k d)) q ≡ true → is_in_any (map range_of rs) q ≡ true
 in_at [] q k d lt h = absurd (omega (arith, lt))
 in_at (r ∷ rs) q zero d lt h = rw h refl
-in_at (r ∷ rs) q (suc k) d lt h = or_second (is_in (range_of r) q) _ (in_at rs q k d (omega (arith, lt)) h) where
-  or_second : (a b : Bool) → b ≡ true → (a || b) ≡ true
-  or_second true b e = refl
-  or_second false b e = e
+in_at (r ∷ rs) q (suc k) d lt h = or_right (is_in (range_of r) q) _ (in_at rs q k d (omega (arith, lt)) h)
 
 in_none : (rs : List Range) (q : ℕ) → ((k : ℕ) (d : Range) → k < length rs → is_in (range_of (get_or rs k d)) q ≡ false) → is_in_any (map range_of rs) q ≡ false
 in_none [] q h = refl
@@ -119,11 +111,6 @@ module _ (rs : List Range) (spaced : AreSpaced rs) where
       (cases_lt i j)
 
   module _ (q place : ℕ) (point : IsPartitionPoint (λ r. nat_le r.end q ≡ true) (λ r. nat_le r.end q ≡ false) rs place) where
-    range_same : (xs : List Range) (k : ℕ) (x y : Range) → k < length xs → get_or xs k x ≡ get_or xs k y
-    range_same [] k x y h = absurd (omega (arith, h))
-    range_same (z ∷ xs) zero x y h = refl
-    range_same (z ∷ xs) (suc k) x y h = range_same xs k x y (omega (arith, h))
-
     ended : (k : ℕ) (d : Range) → k < place → is_in (range_of (get_or rs k d)) q ≡ false
     ended k d lt = out_of (get_or rs k d) q (inl (leb-true (get_or rs k d).end q (point.0 k d (omega arith) lt)))
 
@@ -144,11 +131,11 @@ module _ (rs : List Range) (spaced : AreSpaced rs) where
           (λ y.
           let gap = spaced.gaps place k d y l in
           let some = spaced.some place d lt in
-          let same : (get_or rs k e).start ≡ (get_or rs k d).start = ap (λ t. t.start) (range_same rs k e d l) in
+          let same : (get_or rs k e).start ≡ (get_or rs k d).start = ap (λ t. t.start) (get_or_default rs k e d l) in
           out_of (get_or rs k e) q (inr (omega (arith, gap, some, same, h))))
           (λ y.
           let p : place ≡ k = omega (arith, x, y) in
-          let same : (get_or rs place d).start ≡ (get_or rs k e).start = ap (λ t. t.start) (range_same rs place d e lt) ∙ ap (λ n. (get_or rs n e).start) p in
+          let same : (get_or rs place d).start ≡ (get_or rs k e).start = ap (λ t. t.start) (get_or_default rs place d e lt) ∙ ap (λ n. (get_or rs n e).start) p in
           out_of (get_or rs k e) q (inr (omega (arith, same, h))))
           (cases_lt place k))
           (cases_lt k place)

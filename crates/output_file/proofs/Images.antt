@@ -8,7 +8,7 @@ use Rattle.std.proofs.lemmas.List.Elements.{All-nil, All-cons}
 use Rattle.elf_types.specs.declared.file.Segment.{Segment}
 use Rattle.elf_types.specs.Abi.{is_load}
 use Rattle.qed_model.specs.declared.range.Range.{Range}
-use Rattle.qed_model.specs.Machine.Apart.{FitsMemory, AllFitMemory, AreApart, share}
+use Rattle.qed_model.specs.Machine.Apart.{FitsMemory, AreApart, share}
 use Rattle.qed_model.specs.Machine.Program.{LoadSegment}
 use Rattle.qed_model.specs.Machine.Loading.{load_segment, load_segments}
 use Rattle.qed_model.specs.Admission.Terms.{is_in_image, image_segments}
@@ -16,6 +16,7 @@ use Rattle.qed_model.specs.Admission.DataRanges.{range_of, rounded, do_meet, is_
 use Rattle.qed_model.specs.Admission.Rules.{passes_at, segment_range, is_mixed}
 use Rattle.qed_model.proofs.Among.{among-filter, among-kept, among-map, any_passing, none_passing, place_of}
 use Rattle.qed_model.specs.Members.{Among, Pairs}
+use Rattle.qed_model.proofs.ApartLaws.{fit_among}
 use Rattle.qed_model.proofs.Pairs.{pairs_all, every_among, among_every}
 use Rattle.qed_model.proofs.DataRangesLaws.{AllRoom, Spaced, spaced_data, spaced_from, in_from, in_parts, one_range, Inside, inside-joined}
 use Rattle.qed_model.proofs.ImageLaws.{among_load, image_parts, image_room}
@@ -62,10 +63,6 @@ pairs_alone (u ∷ ss) p s t q m k a b c d =
     (λ r. pairs_alone ss p.1 s t q l r a b c d)
     k)
     m
-
-fit_among : (l : LoadSegment) (ls : List LoadSegment) → AllFitMemory ls → Among l ls → FitsMemory l
-fit_among l [] h m = absurd m
-fit_among l (k ∷ ls) h m = ⊎_elim (λ e. subst FitsMemory (sym e) h.0) (λ r. fit_among l ls h.1 r) m
 
 -- ---- ranges with gaps
 start_from : (low : ℕ) (rs : List Range) (t : Range) → Spaced low (map range_of rs) → Among t rs → low ≤ t.start

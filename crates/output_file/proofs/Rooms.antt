@@ -1,11 +1,12 @@
 -- The symbols of an output have the room that the kept symbols of its input have.
-use Rattle.std.proofs.Common.{◌≡◌, ℕ, ◌+◌, Bool, true, false, not, Option, Some, None, List, [], ◌∷◌, ◌++◌, length, map, refl, ap, ◌∙◌, arith, length-append}
+use Rattle.std.proofs.Common.{◌≡◌, ◌+◌, Bool, true, false, not, None, List, [], ◌∷◌, ◌++◌, length, map, refl, ap, ◌∙◌, arith, length-append}
 use Rattle.std.specs.Prelude.{filter, ◌&&◌, if◌then◌else◌}
 use Rattle.elf_types.specs.declared.file.Symbol.{Symbol}
 use Rattle.qed_model.specs.declared.plan.EntryRow.{EntryRow}
 use Rattle.qed_model.specs.Elf.Layout.{names_bytes, symbol_names}
-use Rattle.qed_model.specs.Weave.OutputParts.{is_kept, is_local, may_name_code, at_entry, out_symbol, symbol_group, out_symbols}
+use Rattle.qed_model.specs.Weave.OutputParts.{is_kept, is_local, may_name_code, out_symbol, symbol_group, out_symbols}
 use Rattle.qed_model.specs.Weave.Placed.{entry_at}
+use Rattle.qed_model.proofs.OutputFits.{name_at}
 use Rattle.output_file.specs.Sizes.{symbols_room}
 
 pub room-cons : (s : Symbol) (ss : List Symbol) → symbols_room (s ∷ ss) ≡ 25 + length s.name + symbols_room ss
@@ -32,11 +33,7 @@ module _ (f : Symbol → Symbol) (kept local : Symbol → Bool) (same : (s : Sym
   split_room [] = refl
   split_room (s ∷ ss) = split_step s ss (kept s) (local s) refl refl (split_room ss)
 
-name_stays : (s : Symbol) (e : Option ℕ) → (at_entry s e).name ≡ s.name
-name_stays s None = refl
-name_stays s (Some a) = refl
-
 pub out_room : (rows : List EntryRow) (symbols : List Symbol) → symbols_room (out_symbols rows symbols) ≡ symbols_room (filter is_kept symbols)
 out_room rows symbols =
     room-append (symbol_group true rows symbols) (symbol_group false rows symbols)
-    ∙ split_room (out_symbol rows) is_kept is_local (λ s. name_stays s (if may_name_code s then entry_at rows s.value else None)) symbols
+    ∙ split_room (out_symbol rows) is_kept is_local (λ s. name_at s (if may_name_code s then entry_at rows s.value else None)) symbols

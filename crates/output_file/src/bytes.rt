@@ -3,6 +3,7 @@ ghost use Rattle.std.specs.Prelude.{◌≡◌, ◌≤◌, ◌++◌, IfOk, OnOk, 
 ghost use Rattle.qed_model.specs.Numbers.{bytes_of as bytes_of_words};
 
 use byteorder::{ByteOrder, LittleEndian};
+use elf_write::push_zeros;
 use std::alloc::{AllocError, Global};
 
 /// How many words are made bytes at once.
@@ -34,16 +35,6 @@ pub fn bytes_of(alloc: Global, words: &[u32]) -> Result<Vec<u8>, AllocError>
     }
     push_batch(&mut bytes, left)?;
     Ok(bytes)
-}
-
-/// Appends zeros.
-fn push_zeros(bytes: &mut Vec<u8>, count: u64) -> Result<(), AllocError>
-    ensures { OnOk result (bytes.new.items ≡ bytes.old.items ++ replicate count 0) }
-{
-    for _ in 0..count {
-        bytes.push(0)?;
-    }
-    Ok(())
 }
 
 /// Appends so many zeros, and more bytes behind them.

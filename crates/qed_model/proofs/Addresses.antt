@@ -16,7 +16,7 @@ passing_from : (ℕ → Bool) → ℕ → ℕ → List ℕ
 passing_from test k zero = []
 passing_from test k (suc n) = cond (test k) (k ∷ passing_from test (k + 1) n) (passing_from test (k + 1) n)
 
-rising_lower : (low l : ℕ) (xs : List ℕ) → l ≤ low → Rising low xs → Rising l xs
+pub rising_lower : (low l : ℕ) (xs : List ℕ) → l ≤ low → Rising low xs → Rising l xs
 rising_lower low l [] h r = tt
 rising_lower low l (x ∷ xs) h r = (omega (arith, h, r.0), r.1)
 
@@ -36,7 +36,7 @@ rising_at low [] k d r lt = absurd (omega (arith, lt))
 rising_at low (x ∷ xs) zero d r lt = r.0
 rising_at low (x ∷ xs) (suc k) d r lt = let h = rising_at (x + 1) xs k d r.1 (omega (arith, lt)) in omega (arith, h, r.0)
 
-pairs_of : (low : ℕ) (xs : List ℕ) → Rising low xs → AllPairs (λ a b. a < b) xs
+pub pairs_of : (low : ℕ) (xs : List ℕ) → Rising low xs → AllPairs (λ a b. a < b) xs
 pairs_of low [] r = λ i j d lt le. absurd (omega (arith, le))
 pairs_of low (x ∷ xs) r = by (pairs_of (x + 1) xs r.1) where
   by : AllPairs (λ a b. a < b) xs → (i j d : ℕ) → i < j → j < length (x ∷ xs) → get_or (x ∷ xs) i d < get_or (x ∷ xs) j d

@@ -3,7 +3,7 @@
 use Rattle.std.proofs.Common.{◌≡◌, ◌⊎◌, inl, inr, ⊎_elim, ℕ, zero, suc, ◌+◌, ◌*◌, ◌<◌, ◌≤◌, Bool, true, false, ◌&&◌, ◌||◌, not, List, [], ◌∷◌, ◌++◌, length, Some, None, is_some, refl, sym, ap, ◌∙◌, subst, arith}
 use Rattle.std.specs.Prelude.{nat_le, nat_lt, ◌==◌}
 use Rattle.std.specs.List.{list_any}
-use Rattle.std.proofs.lemmas.Bool.{and_parts, eqb-true, eq-eqb, leb-true, ltb-true, or_cases, false≢true, not-true}
+use Rattle.std.proofs.lemmas.Bool.{and_parts, eqb-true, eq-eqb, leb-true, ltb-true, or_cases, false≢true, not-true, or_right}
 use Rattle.elf_types.specs.declared.file.ElfFile.{ElfFile}
 use Rattle.rv_isa.specs.declared.ins.Ins.{Ins}
 use Rattle.qed_model.specs.declared.options.Options.{Options}
@@ -73,10 +73,6 @@ leads a b i = (has_target (class_of i.kind) && a == target i b) || (is_end (clas
 abbrev leads_to : ℕ → ℕ → List Ins → Bool
 leads_to a from [] = false
 leads_to a from (i ∷ is) = leads a from i || leads_to a (from + 4) is
-
-or_right : (a b : Bool) → b ≡ true → (a || b) ≡ true
-or_right true b e = refl
-or_right false b e = e
 
 led : (a b : ℕ) (i : Ins) (from : ℕ) (code : List Ins) → IsAt b i from code → leads a b i ≡ true → leads_to a from code ≡ true
 led a b i from [] m h = absurd m

@@ -3,7 +3,7 @@
 use Rattle.std.proofs.Common.{◌≡◌, ◌⊎◌, inl, inr, ⊎_elim, ℕ, zero, suc, ◌+◌, ◌*◌, ◌%◌, ◌^◌, ◌<◌, ◌≤◌, Bool, true, false, ◌&&◌, ◌||◌, not, List, [], ◌∷◌, length, get_or, Option, Some, None, refl, sym, ap, ◌∙◌, subst, arith}
 use Rattle.std.specs.Prelude.{AllPairs, slice_get, is_none, nat_le, nat_lt, ◌==◌, if◌then◌else◌}
 use Rattle.std.specs.List.{list_any}
-use Rattle.std.proofs.lemmas.Bool.{and_parts, eqb-true, eqb-false, leb-true, ltb-true, or_cases, false≢true, not-true}
+use Rattle.std.proofs.lemmas.Bool.{and_parts, eqb-true, eqb-false, leb-true, ltb-true, or_cases, false≢true, not-true, or_parts}
 use Rattle.std.proofs.lemmas.List.Elements.{Contains-get_or}
 use Rattle.elf_types.specs.declared.file.ElfFile.{ElfFile}
 use Rattle.rv_isa.specs.declared.ins.Ins.{Ins}
@@ -24,14 +24,10 @@ use Rattle.qed_model.specs.Weave.Places.{AreSoundOptions, image_of, half_of, cod
 either_way : (C : Type 0) (b : Bool) → (b ≡ true → C) → (b ≡ false → C) → C
 either_way C b t f = elim b as (λ x. b ≡ x → C) [ true ↦ t | false ↦ f ] refl
 
-pub neither : (a b : Bool) → (a || b) ≡ false → (a ≡ false) × (b ≡ false)
-neither true b e = absurd (false≢true (sym e))
-neither false b e = (refl, e)
-
 none_passes : {A : Type 0} (test : A → Bool) (xs : List A) → list_any test xs ≡ false → (i : ℕ) → passes_at test (slice_get xs i) ≡ false
 none_passes test [] e i = refl
-none_passes test (x ∷ xs) e zero = (neither (test x) (list_any test xs) e).0
-none_passes test (x ∷ xs) e (suc i) = none_passes test xs (neither (test x) (list_any test xs) e).1 i
+none_passes test (x ∷ xs) e zero = (or_parts (test x) (list_any test xs) e).0
+none_passes test (x ∷ xs) e (suc i) = none_passes test xs (or_parts (test x) (list_any test xs) e).1 i
 
 -- ---- options
 -- where none is given, and with the sweep alone
@@ -184,7 +180,7 @@ module _ (f : ElfFile) (from : ℕ) (code : List Ins) (known : IsCodeOf f from c
     fine_parts a i e =
         let far = is_auipc i.kind && is_far (distance_between (base_of (image_of f)) (target i a)) in
         let p = and_parts (is_none (high_register i)) (not (is_ebreak i.kind || far)) e in
-        let q = neither (is_ebreak i.kind) far (not-true (is_ebreak i.kind || far) p.1) in
+        let q = or_parts (is_ebreak i.kind) far (not-true (is_ebreak i.kind || far) p.1) in
         (none_of (high_register i) p.0, q.0, q.1)
 
     -- the file is admitted
@@ -193,11 +189,11 @@ module _ (f : ElfFile) (from : ℕ) (code : List Ins) (known : IsCodeOf f from c
         → high_of (image_of f) ≤ base_of (image_of f) + half_of o.half (image_of f) → distance_of (image_of f) ≤ 67108864
         → code_place o.half (image_of f) + 134217728 ≤ 2 ^ 63 → IsAdmitted f o
     admitted o e entry few half span top =
-        let a = neither _ _ e in
-        let b = neither _ _ a.1 in
-        let c = neither _ _ b.1 in
-        let d = neither _ _ c.1 in
-        let g = neither _ _ d.1 in
+        let a = or_parts _ _ e in
+        let b = or_parts _ _ a.1 in
+        let c = or_parts _ _ b.1 in
+        let d = or_parts _ _ c.1 in
+        let g = or_parts _ _ d.1 in
         record {
           uncompressed = a.0;
           static = b.0;

@@ -1,7 +1,7 @@
 -- A file is admitted, or the first rule that holds refuses it.
 use Rattle.std.proofs.Common.{◌≡◌, ◌⊎◌, inl, inr, ⊎_elim, ℕ, ◌+◌, ◌^◌, ◌<◌, ◌≤◌, Bool, true, false, List, length, Option, Some, None, refl, sym, ap, ◌∙◌, arith}
 use Rattle.std.specs.Prelude.{slice_get, is_some}
-use Rattle.std.proofs.lemmas.Bool.{false≢true, cases_lt}
+use Rattle.std.proofs.lemmas.Bool.{false≢true, cases_lt, cases_Bool}
 use Rattle.elf_types.specs.declared.file.ElfFile.{ElfFile}
 use Rattle.qed_model.specs.declared.limits.Limit.TheVariants as limit
 use Rattle.qed_model.specs.declared.limits.TheConstants.{CODE_ROOM}
@@ -22,10 +22,6 @@ use Rattle.qed_model.proofs.Addresses.{addresses_there}
 use Rattle.qed_model.proofs.AdmissionLaws.{admitted_of}
 
 -- ---- what is decided
-by_bool : (b : Bool) → (b ≡ true) ⊎ (b ≡ false)
-by_bool true = inl refl
-by_bool false = inr refl
-
 -- the first number that passes, or none passes
 found : (n : ℕ) (test : ℕ → Bool) → ((i : ℕ) × IsFirstBelow n test i) ⊎ ((j : ℕ) → j < n → test j ≡ false)
 found n test = by (first n test) refl where
@@ -46,13 +42,13 @@ Decided f o k = Fault f o k ⊎ ((e : AdmitError) → place_of e ≡ k → HasFa
 -- ---- each rule
 module _ (f : ElfFile) (o : Options) where
   compressed : Decided f o 1
-  compressed = ⊎_elim (λ h. inl (record { error = error.Compressed; place = refl; fault = h })) (λ h. inr (no h)) (by_bool (is_compressed f)) where
+  compressed = ⊎_elim (λ h. inl (record { error = error.Compressed; place = refl; fault = h })) (λ h. inr (no h)) (cases_Bool (is_compressed f)) where
     no : is_compressed f ≡ false → (e : AdmitError) → place_of e ≡ 1 → HasFault f o e → ⊥
     no h error.Compressed p s = false≢true (sym h ∙ s)
     no h e p s = absurd (omega (arith, p))
 
   dynamic : Decided f o 2
-  dynamic = ⊎_elim (λ h. inl (record { error = error.Dynamic; place = refl; fault = h })) (λ h. inr (no h)) (by_bool (is_dynamic f.segments)) where
+  dynamic = ⊎_elim (λ h. inl (record { error = error.Dynamic; place = refl; fault = h })) (λ h. inr (no h)) (cases_Bool (is_dynamic f.segments)) where
     no : is_dynamic f.segments ≡ false → (e : AdmitError) → place_of e ≡ 2 → HasFault f o e → ⊥
     no h error.Dynamic p s = false≢true (sym h ∙ s)
     no h e p s = absurd (omega (arith, p))
@@ -67,7 +63,7 @@ module _ (f : ElfFile) (o : Options) where
     no h e p s = absurd (omega (arith, p))
 
   no_code : Decided f o 4
-  no_code = ⊎_elim (λ h. inr (no h)) (λ h. inl (record { error = error.NoCode f.entry; place = refl; fault = (refl, h) })) (by_bool (is_code f f.entry)) where
+  no_code = ⊎_elim (λ h. inr (no h)) (λ h. inl (record { error = error.NoCode f.entry; place = refl; fault = (refl, h) })) (cases_Bool (is_code f f.entry)) where
     no : is_code f f.entry ≡ true → (e : AdmitError) → place_of e ≡ 4 → HasFault f o e → ⊥
     no h (error.NoCode a) p s = false≢true (sym s.1 ∙ ap (is_code f) s.0 ∙ h)
     no h e p s = absurd (omega (arith, p))
@@ -133,7 +129,7 @@ module _ (f : ElfFile) (o : Options) where
       ⊎_elim
       (λ h. ⊎_elim (λ g. inl (record { error = error.OutsideHalf (high_of (image_of f)) half_end; place = refl; fault = (refl, h, refl, g) })) (λ g. inr (fits g)) (cases_lt half_end (high_of (image_of f))))
       (λ h. inr (unasked h))
-      (by_bool (is_some o.half)) where
+      (cases_Bool (is_some o.half)) where
         fits : high_of (image_of f) ≤ half_end → (e : AdmitError) → place_of e ≡ 11 → HasFault f o e → ⊥
         fits h (error.OutsideHalf high end) p s = absurd (omega (arith, h, s.0, s.2, s.3))
         fits h e p s = absurd (omega (arith, p))

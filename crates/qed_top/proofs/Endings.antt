@@ -23,7 +23,7 @@ use Rattle.command_line.specs.Words.{asked}
 use Rattle.qed_model.specs.declared.role.Role.{Role}
 use Rattle.listing.specs.Roles.{role_at, word_text}
 use Rattle.report.specs.Admission.{no_word_line}
-use Rattle.qed_top.specs.Answer.{PrintsOnly, CallsFor, FilesAfter, FilesInPart, StoreRose, ShelfSteady, SteadyOrReadFault}
+use Rattle.qed_top.specs.Answer.{PrintsOnly, FilesAfter, FilesInPart, StoreRose, ShelfSteady, SteadyOrReadFault}
 use Rattle.qed_top.specs.Refused.{admit_status, error_status, refusal_status}
 use Rattle.qed_top.specs.Makes.{Makes, refused, made, Delivers, TellsPlan}
 use Rattle.qed_top.specs.Run.{memory_bytes, outcome_status, run_of, FileRuns, too_large, ran, Runs, unread, run, Watches, unread_test, no_test, watched, RunsAs}
@@ -42,7 +42,7 @@ use Rattle.qed_top.specs.Gen as gens
 use Rattle.transform.specs.declared.error.TransformError.TheVariants as transform
 use Rattle.transform.specs.declared.explained.Explained.{Explained}
 use Rattle.qed_top.specs.Loads.{Decided, Loads, OverLoads}
-use Rattle.qed_top.specs.Orders.{AnswersOver, IsUsage, OrderCallsFor, WordsCallFor, source_limit, source_name, source_names, stored_name}
+use Rattle.qed_top.specs.Orders.{AnswersOver, OrderCallsFor, WordsCallFor, source_limit, source_name, source_names, stored_name}
 use Rattle.qed_top.specs.Ends.{Call, load_rose, store_rose, sink_rose, KeepsShelf, IsAnswered, EndsOver, Ends, TransformDecides, ReadDecides, WatchDecides, RunDecides, ran_status, DecidesOver, OrderDecides, Decides, NoFault, IsComplete}
 use Rattle.qed_top.specs.Ends as decide
 use Rattle.qed_top.specs.declared.answer.Answer.{Answer}
@@ -57,7 +57,7 @@ use Rattle.transform.proofs.OneAnswer.{same_refusal, one_cause, memory_only, tra
 use Rattle.qed_top.proofs.Statuses.{error_refuses, admit_refuses, refusal_refuses, Printed, refusal_printed, outcome_printed}
 use Rattle.qed_top.specs.Headline.{HoldsOver, Answers}
 use Rattle.qed_top.proofs.Headlines.{holds_headline}
-use Rattle.qed_top.proofs.Meanings.{always_loads, loads_map, calls_more}
+use Rattle.qed_top.proofs.Meanings.{CallsBy, WordsBy, always_loads, loads_map, calls_more}
 use Rattle.qed_top.proofs.Calls.{steady_both, prints, none_stored, calls_printed, calls_settled, calls_store}
 use Rattle.qed_top.proofs.WorldEnds.{files_later, files_printed, files_settled, files_store}
 
@@ -70,16 +70,6 @@ pub rose_since : (before middle now : List ℕ → ℕ) → NoneFell before midd
 rose_since before middle now kept name rose = omega (arith, kept name)
 
 -- ---- what is meant
--- what an order means by the name of its file
-abbrev CallsBy : Order → Option (List ℕ) → Files → (List ℕ → Type 0) → Answer → Type 0
-CallsBy order source files rose answer =
-    MatchOption source (AnswersOver order [] answer)
-    (λ name. CallsFor (source_limit order) (file_bytes files name) (rose name) (AnswersOver order (file_bytes files name) answer) answer)
-
--- what words mean by what they ask
-abbrev WordsBy : Result Order Reason → Loads → (List ℕ → Type 0) → Answer → Type 0
-WordsBy ask loads rose answer = MatchResult ask (λ order. OrderCallsFor order loads rose answer) (λ reason. IsUsage reason answer)
-
 -- what is meant stays so when more counts have risen
 source_later :
     (order : Order) (source : Option (List ℕ)) (files : Files) (rose later : List ℕ → Type 0) → ((name : List ℕ) → rose name → later name) → (answer : Answer)

@@ -118,7 +118,7 @@ module _ (told : Option Files) (name : List ℕ) (limit : Limit) (rose : Type 0)
 
 -- ---- orders
 -- what an order means by the name of its file
-abbrev CallsBy : Order → Option (List ℕ) → Files → (List ℕ → Type 0) → Answer → Type 0
+abbrev pub CallsBy : Order → Option (List ℕ) → Files → (List ℕ → Type 0) → Answer → Type 0
 CallsBy order source files rose answer =
     MatchOption source (AnswersOver order [] answer)
     (λ name. CallsFor (source_limit order) (file_bytes files name) (rose name) (AnswersOver order (file_bytes files name) answer) answer)
@@ -146,7 +146,8 @@ over_one told (Harts files turns steps) rose answer e o = cc
 over_one told order rose answer e o = over_loads told (λ f. SourceCallsFor order f rose answer) o
 
 -- ---- words
-abbrev WordsBy : Result Order Reason → Loads → (List ℕ → Type 0) → Answer → Type 0
+-- what words mean by what they ask
+abbrev pub WordsBy : Result Order Reason → Loads → (List ℕ → Type 0) → Answer → Type 0
 WordsBy ask loads rose answer = MatchResult ask (λ order. OrderCallsFor order loads rose answer) (λ reason. IsUsage reason answer)
 
 -- the words ask for an order, or for nothing

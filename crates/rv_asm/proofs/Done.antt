@@ -1,7 +1,8 @@
 -- An assembled program can be written.
-use Rattle.std.proofs.Common.{◌≡◌, ℕ, ◌+◌, ◌*◌, ◌<◌, ◌≤◌, ◌==◌, Bool, true, false, List, [], ◌∷◌, length, refl, sym, ap, ◌∙◌, subst, arith}
+use Rattle.std.proofs.Common.{◌≡◌, ℕ, ◌+◌, ◌*◌, ◌<◌, ◌≤◌, ◌==◌, Bool, true, false, List, [], length, sym, ap, ◌∙◌, subst, arith}
 use Rattle.std.specs.Prelude.{All}
 use Rattle.std.proofs.lemmas.Bool.{eqb-true, eqb-false}
+use Rattle.std.proofs.lemmas.List.{nil_from_length}
 use Rattle.elf_types.specs.declared.file.Symbol.{Symbol}
 use Rattle.qed_model.specs.Elf.Layout.{IsWritable}
 use Rattle.rv_asm.specs.declared.program.Program.{Program}
@@ -34,10 +35,6 @@ file_same text p is =
     let lines = lines_of text in
     let n = length lines in
     ap (λ x. file_with x p.values.items p.symbols.items) is.code ∙ (ap (λ x. file_with (code_of lines n) x p.symbols.items) is.words ∙ ap (λ (x : List Symbol). file_with (code_of lines n) (data_of lines n) x) is.symbols)
-
-nil_from_length : (xs : List ℕ) → length xs ≡ 0 → xs ≡ []
-nil_from_length [] h = refl
-nil_from_length (x ∷ xs) h = absurd (omega (arith, h))
 
 -- of a list and its number: the number is 0
 pub none_left : (xs ys : List ℕ) (n : ℕ) (b : Bool) → xs ≡ ys → length xs ≡ n → b ≡ (n == 0) → b ≡ true → ys ≡ []

@@ -188,10 +188,6 @@ position_below p k (x ∷ xs) i e =
     [ true ↦ λ f. let s : k ≡ i = cc in omega arith | false ↦ λ f. let h = position_below p (k + 1) xs i f in omega arith ]
     e
 
--- a name of a label, with the `:` behind it
-abbrev pub IsLabelOf : List ℕ → List ℕ → Type 0
-IsLabelOf w name = (label_in w ≡ Some name) × (is_name name ≡ true) × (length name < length w)
-
 around_label : (w : List ℕ) (o : Option ℕ) → ((i : ℕ) → o ≡ Some i → i < length w) → is_some (name_before (option_map (around w) o)) ≡ true
     → (name : List ℕ) × (name_before (option_map (around w) o) ≡ Some name) × (is_name name ≡ true) × (length name < length w)
 around_label w None h e = absurd (false≢true e)

@@ -1,7 +1,7 @@
 -- Strikes that are drawn one after the other.
-use Rattle.std.proofs.Common.{◌≡◌, ◌⊎◌, inl, inr, ℕ, zero, suc, ◌+◌, ◌*◌, ◌<◌, ◌≤◌, Bool, true, false, cond, ◌||◌, List, [], ◌∷◌, map, refl, sym, ap, ◌∙◌, subst, arith, nat_le, nat_lt}
+use Rattle.std.proofs.Common.{◌≡◌, ◌⊎◌, inl, inr, ℕ, zero, suc, ◌+◌, ◌*◌, ◌<◌, ◌≤◌, true, false, cond, List, [], ◌∷◌, map, refl, sym, ap, ◌∙◌, subst, arith, nat_le, nat_lt}
 use Rattle.std.specs.Prelude.{fold, if◌then◌else◌, All, IsSome, Option, None, Some}
-use Rattle.std.proofs.lemmas.Bool.{cases_lt}
+use Rattle.std.proofs.lemmas.Bool.{cases_lt, or_parts}
 use Rattle.std.proofs.lemmas.Bool.Decides.{nat_tests}
 use Rattle.std.proofs.lemmas.List.Sums.{fold-append}
 use Rattle.std.proofs.Math.Nat.{mul-suc, mul-zero}
@@ -29,13 +29,9 @@ use Rattle.strikes.specs.Struck.{IsStrike}
 with_change_none : (ds : List Change) (c : Change) → has_word ds ≡ false → is_word c.place ≡ false → has_word (with_change ds c) ≡ false
 with_change_none [] c h e = rw e refl
 with_change_none (d ∷ ds) c h e =
-    let p : (is_word d.place ≡ false) × (has_word ds ≡ false) = or_none (is_word d.place) (has_word ds) h in
+    let p : (is_word d.place ≡ false) × (has_word ds ≡ false) = or_parts (is_word d.place) (has_word ds) h in
     elim (nat_le d.step c.step) as (λ t. has_word (if t then d ∷ with_change ds c else c ∷ d ∷ ds) ≡ false)
     [ true ↦ rw (p.0, with_change_none ds c p.1 e) refl | false ↦ rw (e, h) refl ]
-  where
-    or_none : (a b : Bool) → (a || b) ≡ false → (a ≡ false) × (b ≡ false)
-    or_none true b x = absurd (cc)
-    or_none false b x = (refl, x)
 
 -- where there is no data word, no drawn place is a word
 no_place : (spans : List (ℕ × ℕ)) (q : ℕ) → q < 13 → is_word (place_of spans q) ≡ false

@@ -78,15 +78,3 @@ looked_next s cs k steps is_closed state c here after x lt e ran look =
       last = ap (last_or steps) (sym split) ∙ x.last;
       from = (subst (OrderedFrom steps) split x.from).1;
     }
-
--- ---- whether steps do not fall
-pub order_next :
-    (cs : List Change) (k last : ℕ) (c : Change) → k < length cs → c ≡ get_or cs k c → last ≤ c.step → (OrderedFrom last (drop k cs) → Ordered cs)
-    → OrderedFrom c.step (drop (k + 1) cs) → Ordered cs
-order_next cs k last c lt e l enough h = enough (subst (OrderedFrom last) (sym (drop_at cs k c lt e)) (l, h))
-
-pub order_rest : (cs : List Change) (k last : ℕ) (c : Change) → k < length cs → c ≡ get_or cs k c → (Ordered cs → OrderedFrom last (drop k cs)) → Ordered cs → OrderedFrom c.step (drop (k + 1) cs)
-order_rest cs k last c lt e needed o = (subst (OrderedFrom last) (drop_at cs k c lt e) (needed o)).1
-
-pub falls : (cs : List Change) (k last : ℕ) (c : Change) → k < length cs → c ≡ get_or cs k c → c.step < last → (Ordered cs → OrderedFrom last (drop k cs)) → Ordered cs → ⊥
-falls cs k last c lt e l needed o = let x : last ≤ c.step = (subst (OrderedFrom last) (drop_at cs k c lt e) (needed o)).0 in omega (arith, x, l)

@@ -1,41 +1,21 @@
 -- Strikes that are made one after the other.
 use Rattle.std.proofs.Common.{◌≡◌, ◌⊎◌, inl, inr, ℕ, suc, ◌+◌, ◌<◌, ◌≤◌, true, false, List, [], ◌∷◌, ◌++◌, length, get_or, drop, drop-cons, add-one, refl, sym, ap, ◌∙◌, subst, append_assoc, arith}
-use Rattle.std.specs.Prelude.{Option, Some, None, is_some, Result, Ok, Err, All, slice_get}
+use Rattle.std.specs.Prelude.{Option, Some, None, is_some, All, slice_get}
 use Rattle.std.proofs.Math.ListN.{set, replicate}
 use Rattle.std.proofs.lemmas.Bool.{cases_eq}
-use Rattle.std.proofs.lemmas.Option.{slice_get_within, slice_get-get_or, get_or_from_slice_get}
+use Rattle.std.proofs.lemmas.Option.{same_Some, slice_get_within, slice_get-get_or, get_or_from_slice_get}
 use Rattle.std.proofs.lemmas.List.Elements.{All-nil, All-cons, All-head, All-tail}
 use Rattle.std.proofs.lemmas.List.{append-nil, drop_all, get_or-replicate, length-replicate, get_or-set_same, get_or-set_other, length-set}
 use Rattle.qed_model.specs.declared.change.Change.{Change}
 use Rattle.qed_model.specs.declared.verdict.Struck.{Struck}
 use Rattle.qed_model.specs.declared.verdict.Verdict.{Verdict}
-use Rattle.strikes.specs.declared.error.StrikeError.{StrikeError}
-use Rattle.strikes.specs.declared.error.StrikeError.TheVariants.{Trapped}
 use Rattle.strikes.specs.Kept.{Pair}
 use Rattle.qed_model.specs.Promise.Changed.{Ordered}
 use Rattle.strikes.specs.Struck.{AreKnown, AreStruck, IsKnown, IsStrike, IsStruckNext}
-use Rattle.strikes.specs.Verdict.{IsVerdict}
-
--- a strike with its verdict is added
-pub adds_verdict :
-    (p : Pair) (cs : List Change) (before after : List Struck) (s : Struck) (v : Verdict) (r : Result Verdict StrikeError) → after ≡ before ++ s ∷ [] → s.changes ≡ cs → s.verdict ≡ v → r ≡ Ok v
-    → IsVerdict p.input p.output p.bounds cs r → IsStruckNext p cs before after None
-adds_verdict p cs before after s v r added changes verdict is x =
-    let e : r ≡ Ok s.verdict = is ∙ ap Ok (sym verdict) in
-    (s, (added, changes, subst (IsVerdict p.input p.output p.bounds cs) e x))
-
--- the input traps
-pub tells_trap :
-    (p : Pair) (cs : List Change) (struck : List Struck) (pc : ℕ) (r : Result Verdict StrikeError) → r ≡ Err (Trapped pc) → IsVerdict p.input p.output p.bounds cs r
-    → IsStruckNext p cs struck struck (Some pc)
-tells_trap p cs struck pc r is x = (refl, subst (IsVerdict p.input p.output p.bounds cs) is x)
 
 -- all are struck, where those of the rest are struck behind those so far
 abbrev pub AreSoFar : Pair → List (List Change) → ℕ → List Struck → Type 0
 AreSoFar p strikes k struck = (later : List Struck) (trapped : Option ℕ) → AreStruck p (drop k strikes) later trapped → AreStruck p strikes (struck ++ later) trapped
-
-pub none_so_far : (p : Pair) (strikes : List (List Change)) (struck : List Struck) → struck ≡ [] → AreSoFar p strikes 0 struck
-none_so_far p strikes struck e later trapped h = subst (λ ss. AreStruck p strikes (ss ++ later) trapped) (sym e) h
 
 split_at : (strikes : List (List Change)) (k : ℕ) (cs : List Change) → k < length strikes → cs ≡ get_or strikes k cs → drop k strikes ≡ cs ∷ drop (k + 1) strikes
 split_at strikes k cs lt e = drop-cons strikes k cs lt ∙ ap (λ d. d ∷ drop (suc k) strikes) (sym e) ∙ rw add-one refl
@@ -80,9 +60,6 @@ none_known p strikes n found e k cs known there got =
     let none : known ≡ None = sym (get_or_from_slice_get (replicate n None) k known None all) ∙ get_or-replicate n k None None (omega (arith, within, size)) in
     subst (IsKnown p cs) (sym none) tt
 
-some_same : {A : Type 0} {x y : A} → Some x ≡ Some y → x ≡ y
-some_same e = cc
-
 -- one more
 known_at :
     (p : Pair) (found after : List (Option Verdict)) (k j : ℕ) (ds : List Change) (r q : Option Verdict) → k < length found → after ≡ set found k r → slice_get after j ≡ Some q
@@ -105,4 +82,4 @@ known_more p strikes found after k cs r lt here e is so_far j ds q there got =
     known_at p found after k j ds r q lt e got (λ same. subst (λ xs. IsKnown p xs r) (the_same same) is) (so_far j ds q there) (cases_eq j k)
   where
     the_same : j ≡ k → cs ≡ ds
-    the_same same = some_same (sym here ∙ ap (slice_get strikes) (sym same) ∙ there)
+    the_same same = same_Some cs ds (sym here ∙ ap (slice_get strikes) (sym same) ∙ there)

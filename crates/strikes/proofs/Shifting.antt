@@ -16,29 +16,19 @@ use Rattle.qed_model.specs.Promise.Changed.{changed, changed_as, with_changes, c
 use Rattle.qed_model.specs.Promise.Kept.{is_trapped}
 use Rattle.qed_model.proofs.Walk.{run-more}
 use Rattle.fault_inject.specs.Closed.{is_closed_place}
-use Rattle.fault_inject.proofs.Changing.{AllFrom, not_made, plain}
+use Rattle.fault_inject.proofs.Changing.{AllFrom, from_less, not_made}
+use Rattle.fault_inject.proofs.Steadiness.{run_unchanged}
 use Rattle.strikes.specs.declared.error.StrikeError.TheVariants as error
 use Rattle.strikes.specs.declared.error.StrikeError.{StrikeError}
 use Rattle.strikes.specs.Found.{trap_pc_of}
 use Rattle.strikes.specs.Later.{counted_from, all_from, first_step}
 use Rattle.strikes.specs.Verdict.{IsReached, has_closed, IsTried, IsFound, IsSilent, Shows, IsVerdict}
-use Rattle.strikes.proofs.Stopping.{going_before, run-last, progress_state, first_last, behind}
+use Rattle.strikes.proofs.Stopping.{going_before, run-last, first_last, behind}
 
 -- ---- where no change comes before
--- a run with no changes
-run_unchanged : (s : State) (n : ℕ) → changed_run s [] n ≡ run s n
-unfolding changed_run with_changes
-run_unchanged s n =
-    let e : 0 + n ≡ n = omega arith in
-    ap (changed_run s []) (sym e) ∙ ap (λ p. p.state) (plain (begun s) [] 0 n tt) ∙ progress_state _ n
-
 -- before the changes the run is the one without
 unchanged_before : (s : State) (cs : List Change) (n : ℕ) → AllFrom (n + 1) cs → changed_run s cs n ≡ run s n
 unchanged_before s cs n from = ap (λ p. p.state) (not_made (begun s) [] cs n from) ∙ run_unchanged s n
-
-from_less : (m n : ℕ) (cs : List Change) → n ≤ m → AllFrom m cs → AllFrom n cs
-from_less m n [] h from = tt
-from_less m n (c ∷ cs) h from = (omega (arith, from.0, h), from_less m n cs h from.1)
 
 -- up to the first changes
 up_to : (s : State) (cs : List Change) (m : ℕ) → AllFrom m cs → changed_run s cs m ≡ with_changes cs m (run s m)

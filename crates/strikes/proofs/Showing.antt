@@ -11,17 +11,9 @@ use Rattle.qed_model.specs.declared.verdict.Verdict.TheVariants as verdict
 use Rattle.qed_model.specs.Machine.Step.{State, run}
 use Rattle.qed_model.specs.Promise.Changed.{changed_run, Ordered, last_step}
 use Rattle.qed_model.specs.Promise.Kept.{is_trapped}
-use Rattle.strikes.specs.Found.{ShowsUnchanged, StopsWithin, trap_pc_of, verdict_of, input_shows, Stops, IsStill, IsSilentAt}
+use Rattle.strikes.specs.Found.{StopsWithin, trap_pc_of, verdict_of, input_shows, Stops, IsStill, IsSilentAt}
 use Rattle.strikes.specs.Verdict.{IsTried, IsFound, IsSilent, StopsAt, Shows}
 use Rattle.strikes.proofs.Stopping.{run_as, changed_as_at, changed_before, first_stop, behind, StopsBy}
-
--- the verdict of the run without changes
-pub shows_unchanged : (input output : State) (b : ℕ) (cs : List Change) (v : Verdict) → ShowsUnchanged output cs v → Shows input output b cs (Ok v)
-shows_unchanged input output b cs verdict.NotReached h = h
-shows_unchanged input output b cs verdict.Closed h = h
-shows_unchanged input output b cs (verdict.Fired k) h = absurd h
-shows_unchanged input output b cs (verdict.Ended k) h = absurd h
-shows_unchanged input output b cs verdict.Same h = absurd h
 
 -- ---- a run that stops behind the last change
 -- it stopped at once: then it stopped first by the last change

@@ -144,7 +144,3 @@ run_none s = refl
 pub run-last : (s : State) (n : ℕ) → run s (suc n) ≡ step (run s n)
 unfolding run
 run-last s n = let e : suc n ≡ n + 1 = omega arith in ap (run s) e ∙ run-more s n 1
-
-pub step_made : (p q : Progress) (s : State) (k : ℕ) → p.state ≡ run s k → q ≡ advanced p → q.state ≡ run s (k + 1)
-unfolding advanced
-step_made p q s k e made = let n : suc k ≡ k + 1 = omega arith in ap (λ x. x.state) made ∙ ap step e ∙ sym (run-last s k) ∙ ap (run s) n

@@ -1,5 +1,5 @@
 -- The code ranges of a file of the right shape, in ascending order and cut, are its code.
-use Rattle.std.proofs.Common.{◌≡◌, ◌⊎◌, inl, inr, ⊎_elim, ℕ, suc, ◌+◌, ◌-◌, ◌/◌, ◌%◌, ◌^◌, ◌<◌, ◌≤◌, max, Bool, true, false, cond, ◌&&◌, ◌||◌, not, List, [], ◌∷◌, length, get_or, refl, sym, ap, ◌∙◌, subst, arith}
+use Rattle.std.proofs.Common.{◌≡◌, ◌⊎◌, inl, inr, ⊎_elim, ℕ, suc, ◌+◌, ◌-◌, ◌/◌, ◌%◌, ◌^◌, ◌<◌, ◌≤◌, max, Bool, true, false, cond, ◌&&◌, ◌||◌, List, [], ◌∷◌, length, get_or, refl, sym, ap, ◌∙◌, subst, arith}
 use Rattle.std.specs.Prelude.{nat_lt, nat_le, ◌==◌, All, map}
 use Rattle.std.specs.List.{list_any}
 use Rattle.std.specs.List.Sorted.{IsPermutation, IsNonDecreasingBy}
@@ -11,15 +11,18 @@ use Rattle.elf_types.specs.declared.file.Segment.{Segment}
 use Rattle.elf_types.specs.declared.file.Section.{Section}
 use Rattle.elf_types.specs.declared.file.ElfFile.{ElfFile}
 use Rattle.qed_model.specs.Machine.Memory.{flags_of}
+use Rattle.qed_model.specs.Machine.Apart.{AllFitMemory}
 use Rattle.qed_model.specs.Machine.Program.{LoadSegment}
 use Rattle.qed_model.specs.Machine.Loading.{load_segment, load_segments, is_code_section, lies_in_code, lies_in_any, section_ranges, segment_ranges, first_some}
 use Rattle.qed_model.specs.Machine.Cells.{byte_among}
-use Rattle.qed_model.specs.Admission.Terms.{is_ragged, is_cut}
+use Rattle.qed_model.specs.Admission.Terms.{is_cut}
 use Rattle.qed_model.specs.Admission.DataRanges.{is_in, is_in_any, is_executed}
 use Rattle.qed_model.specs.Admission.Rules.{passes_at, is_misshapen_section, is_misshapen_segment, is_empty, section_range, segment_range}
 use Rattle.qed_model.specs.Admission.CodeWords.{loads_of, ranges_of}
-use Rattle.qed_model.proofs.Among.{place_of, all_among}
+use Rattle.qed_model.proofs.Among.{place_of}
+use Rattle.qed_model.proofs.ApartLaws.{fit_among}
 use Rattle.qed_model.specs.Members.{Among}
+use Rattle.qed_model.proofs.Fetches.{OfSection, of_section, even_parts}
 use Rattle.qed_model.proofs.ImageLaws.{among_load}
 use Rattle.test_admission.specs.declared.stretches.Stretch.{Stretch}
 use Rattle.test_admission.specs.Read.{AreRead}
@@ -57,34 +60,8 @@ pub record IsWhole (r : ℕ × ℕ) : Type 0 where
   pub size : (r.1 - r.0) % 4 ≡ 0
   pub fit : r.1 ≤ 2 ^ 64
 
-not_ragged : (r : ℕ × ℕ) → is_ragged r ≡ false → (r.0 % 4 ≡ 0) × ((r.1 - r.0) % 4 ≡ 0)
-not_ragged r e = by (r.0 % 4 == 0) ((r.1 - r.0) % 4 == 0) refl refl e where
-  by : (a b : Bool) → (r.0 % 4 == 0) ≡ a → ((r.1 - r.0) % 4 == 0) ≡ b → (not a || not b) ≡ false → (r.0 % 4 ≡ 0) × ((r.1 - r.0) % 4 ≡ 0)
-  by true true h g x = (eqb-true (r.0 % 4) 0 h, eqb-true ((r.1 - r.0) % 4) 0 g)
-  by true false h g x = absurd (false≢true (sym x))
-  by false b h g x = absurd (false≢true (sym x))
-
--- a section that is a code range
-pub record SectionOf (ls : List LoadSegment) (ss : List Section) (r : ℕ × ℕ) : Type 0 where
-  pub section : Section
-  pub among : Among section ss
-  pub code : is_code_section section ≡ true
-  pub lies : lies_in_any section ls ≡ true
-  pub is : r ≡ section_range section
-
-section_later : (ls : List LoadSegment) (s : Section) (ss : List Section) (r : ℕ × ℕ) → SectionOf ls ss r → SectionOf ls (s ∷ ss) r
-section_later ls s ss r o = record { section = o.section; among = inr o.among; code = o.code; lies = o.lies; is = o.is }
-
-section_step : (ls : List LoadSegment) (s : Section) (ss : List Section) (r : ℕ × ℕ) → (Among r (section_ranges ls ss) → SectionOf ls ss r) → (b : Bool) → (is_code_section s && lies_in_any s ls) ≡ b → Among r (cond b (section_range s ∷ section_ranges ls ss) (section_ranges ls ss)) → SectionOf ls (s ∷ ss) r
-section_step ls s ss r rec true e m = ⊎_elim (λ d. let p = and_parts (is_code_section s) (lies_in_any s ls) e in record { section = s; among = inl refl; code = p.0; lies = p.1; is = d }) (λ k. section_later ls s ss r (rec k)) m
-section_step ls s ss r rec false e m = section_later ls s ss r (rec m)
-
-pub section_of : (ls : List LoadSegment) (ss : List Section) (r : ℕ × ℕ) → Among r (section_ranges ls ss) → SectionOf ls ss r
-section_of ls [] r m = absurd m
-section_of ls (s ∷ ss) r m = section_step ls s ss r (section_of ls ss r) (is_code_section s && lies_in_any s ls) refl m
-
 -- a section in a segment ends where the segment does, or before
-lies_fit : (ls : List LoadSegment) (s : Section) → All (λ l. l.address + l.size ≤ 2 ^ 64) ls → lies_in_any s ls ≡ true → s.address + s.size ≤ 2 ^ 64
+lies_fit : (ls : List LoadSegment) (s : Section) → AllFitMemory ls → lies_in_any s ls ≡ true → s.address + s.size ≤ 2 ^ 64
 lies_fit [] s h e = absurd (false≢true e)
 lies_fit (l ∷ ls) s h e =
     ⊎_elim
@@ -92,9 +69,9 @@ lies_fit (l ∷ ls) s h e =
     let p = and_parts l.flags.execute (nat_le l.address s.address && nat_le (s.address + s.size) (l.address + l.size)) a in
     let q = and_parts (nat_le l.address s.address) (nat_le (s.address + s.size) (l.address + l.size)) p.1 in
     let end = leb-true (s.address + s.size) (l.address + l.size) q.1 in
-    let fit = All-head (λ t. t.address + t.size ≤ 2 ^ 64) l ls h in
+    let fit = h.0.1 in
     omega (arith, end, fit))
-    (λ r. lies_fit ls s (All-tail (λ t. t.address + t.size ≤ 2 ^ 64) l ls h) r)
+    (λ r. lies_fit ls s h.1 r)
     (or_cases (lies_in_code s l) (lies_in_any s ls) e)
 
 -- a segment that is a code range
@@ -116,12 +93,12 @@ segment_of [] r m = absurd m
 segment_of (s ∷ ss) r m = segment_step s ss r (segment_of ss r) (has_code s) refl m
 
 module _ (f : ElfFile) (read : AreRead (loads_of f)) (shaped : IsShaped f) where
-  whole_section : (r : ℕ × ℕ) → SectionOf (loads_of f) f.sections r → IsWhole r
+  whole_section : (r : ℕ × ℕ) → OfSection (loads_of f) f.sections r → IsWhole r
   whole_section r o =
       let s = o.section in
       let p = place_of s f.sections o.among in
       let good : is_misshapen_section (loads_of f) s ≡ false = ap (passes_at (is_misshapen_section (loads_of f))) (sym p.stands) ∙ shaped.sections p.place in
-      let n = not_ragged (section_range s) (by (is_code_section s) (lies_in_any s (loads_of f)) o.code o.lies (is_cut (loads_of f) s) good) in
+      let n = even_parts (section_range s) (by (is_code_section s) (lies_in_any s (loads_of f)) o.code o.lies (is_cut (loads_of f) s) good) in
       let room = ltb-true 0 s.size (and_parts (s.flags / 4 % 2 == 1) (nat_lt 0 s.size) (and_parts (s.flags / 2 % 2 == 1) _ o.code).1).1 in
       let fit = lies_fit (loads_of f) s read.fit o.lies in
       subst IsWhole (sym o.is) (record { some = omega (arith, room); start = n.0; size = n.1; fit = fit }) where
@@ -138,9 +115,9 @@ module _ (f : ElfFile) (read : AreRead (loads_of f)) (shaped : IsShaped f) where
       let good : is_misshapen_segment f s ≡ false = ap (passes_at (is_misshapen_segment f)) (sym p.stands) ∙ shaped.segments p.place in
       let k = and_parts (s.kind == 1) _ o.code in
       let x = and_parts (flags_of s.flags).execute (nat_lt 0 s.memory) k.1 in
-      let n = not_ragged (segment_range s) (by (is_empty (section_ranges (loads_of f) f.sections)) (s.kind == 1) (nat_lt 0 s.memory) (is_executed s) none k.0 x.1 x.0 good) in
+      let n = even_parts (segment_range s) (by (is_empty (section_ranges (loads_of f) f.sections)) (s.kind == 1) (nat_lt 0 s.memory) (is_executed s) none k.0 x.1 x.0 good) in
       let room = ltb-true 0 s.memory x.1 in
-      let fit = all_among (λ l. l.address + l.size ≤ 2 ^ 64) (load_segment s) (loads_of f) read.fit (among_load s f.segments (eqb-true s.kind 1 k.0) o.among) in
+      let fit = (fit_among (load_segment s) (loads_of f) read.fit (among_load s f.segments (eqb-true s.kind 1 k.0) o.among)).1 in
       subst IsWhole (sym o.is) (record { some = omega (arith, room); start = n.0; size = n.1; fit = fit }) where
         by : (a b c d : Bool) → a ≡ true → b ≡ true → c ≡ true → d ≡ true → {g : Bool} → (a && ((b && c) && (d && g))) ≡ false → g ≡ false
         by true true true true x y z u e = e
@@ -153,7 +130,7 @@ module _ (f : ElfFile) (read : AreRead (loads_of f)) (shaped : IsShaped f) where
   whole_ranges r m = by (section_ranges (loads_of f) f.sections) refl m where
     by : (rs : List (ℕ × ℕ)) → section_ranges (loads_of f) f.sections ≡ rs → Among r (first_some rs (segment_ranges (loads_of f))) → IsWhole r
     by [] e k = whole_segment (ap is_empty e) r (segment_of f.segments r (subst (Among r) (sym (spans-whole f.segments)) k))
-    by (x ∷ xs) e k = whole_section r (section_of (loads_of f) f.sections r (subst (Among r) (sym e) k))
+    by (x ∷ xs) e k = whole_section r (of_section (loads_of f) f.sections r (subst (Among r) (sym e) k))
 
 -- ---- parts in the order of their starts
 abbrev pub Starts : ℕ → List Part → Type 0

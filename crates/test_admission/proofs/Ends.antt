@@ -24,7 +24,8 @@ use Rattle.qed_model.proofs.ImageLaws.{load_source, image_room, in_image, high_m
 use Rattle.test_admission.specs.declared.spans.Span.{Span}
 use Rattle.test_admission.specs.Spans.{bounds_of, all_bounds}
 use Rattle.test_admission.specs.Made.{RangesEnd, SpansEnd}
-use Rattle.test_admission.proofs.Cutting.{SectionOf, section_of, SegmentOf, segment_of, spans-whole}
+use Rattle.qed_model.proofs.Fetches.{OfSection, of_section}
+use Rattle.test_admission.proofs.Cutting.{SegmentOf, segment_of, spans-whole}
 
 -- a section lies in a segment that has bytes in memory
 lies_low : (n : ℕ) (ls : List LoadSegment) (s : Section) → 0 < s.size → ((l : LoadSegment) → Among l ls → 0 < l.size → l.address + l.size ≤ n) → lies_in_any s ls ≡ true → s.address + s.size ≤ n
@@ -53,7 +54,7 @@ load_high f l m room =
 -- ---- code
 range_high : (f : ElfFile) (r : ℕ × ℕ) → Among r (ranges_of f) → r.1 ≤ high_of (image_of f)
 range_high f r m = by (section_ranges (loads_of f) f.sections) refl m where
-  section : SectionOf (loads_of f) f.sections r → r.1 ≤ high_of (image_of f)
+  section : OfSection (loads_of f) f.sections r → r.1 ≤ high_of (image_of f)
   section o =
       let s = o.section in
       let room = ltb-true 0 s.size (and_parts (s.flags / 4 % 2 == 1) (nat_lt 0 s.size) (and_parts (s.flags / 2 % 2 == 1) _ o.code).1).1 in
@@ -68,7 +69,7 @@ range_high f r m = by (section_ranges (loads_of f) f.sections) refl m where
 
   by : (rs : List (ℕ × ℕ)) → section_ranges (loads_of f) f.sections ≡ rs → Among r (first_some rs (segment_ranges (loads_of f))) → r.1 ≤ high_of (image_of f)
   by [] e k = segment (segment_of f.segments r (subst (Among r) (sym (spans-whole f.segments)) k))
-  by (x ∷ xs) e k = section (section_of (loads_of f) f.sections r (subst (Among r) (sym e) k))
+  by (x ∷ xs) e k = section (of_section (loads_of f) f.sections r (subst (Among r) (sym e) k))
 
 all_ranges : (rs : List CodeRange) → ((r : ℕ × ℕ) → Among r (spans rs) → r.1 < 2 ^ 64) → RangesEnd rs
 all_ranges [] h = All-nil (λ r. r.start + r.size < 2 ^ 64)

@@ -2,7 +2,7 @@
 use Rattle.std.proofs.Common.{◌≡◌, ⊎_elim, ℕ, ◌+◌, ◌-◌, ◌*◌, ◌/◌, ◌%◌, ◌^◌, ◌<◌, ◌≤◌, Bool, true, false, cond, ◌&&◌, ◌||◌, List, [], ◌∷◌, Option, Some, None, refl, sym, ap, ◌∙◌, subst, arith}
 use Rattle.std.specs.Prelude.{map, ◌==◌, is_some, All}
 use Rattle.std.specs.Option.{option_map, option_or}
-use Rattle.std.proofs.lemmas.Bool.{false≢true, and_parts, and_from, eqb-true, eq-eqb, or_cases}
+use Rattle.std.proofs.lemmas.Bool.{false≢true, and_parts, and_from, eqb-true, eq-eqb, or_cases, or_right}
 use Rattle.std.proofs.lemmas.List.Elements.{All-nil, All-cons, All-head, All-tail}
 use Rattle.elf_types.specs.declared.file.ElfFile.{ElfFile}
 use Rattle.rv_isa.specs.declared.ins.Ins.{Ins}
@@ -23,6 +23,7 @@ use Rattle.qed_model.specs.Admission.Rules.{passes_at, high_in, high_at, is_unkn
 use Rattle.qed_model.specs.Weave.Sequences.{is_auipc}
 use Rattle.qed_model.specs.Admission.Refusals.{IsLeast, IsRefusedBy}
 use Rattle.qed_model.proofs.BelowLaws.{first_least, each_fails}
+use Rattle.qed_model.proofs.CellsAmong.{by_bytes}
 use Rattle.qed_model.proofs.DataRangesLaws.{in_parts, in_from}
 use Rattle.test_admission.specs.declared.rules.CodeRule.{CodeRule}
 use Rattle.test_admission.specs.declared.rules.CodeRule.TheVariants as rule
@@ -30,13 +31,10 @@ use Rattle.test_admission.specs.declared.stretches.Stretch.{Stretch}
 use Rattle.test_admission.specs.Order.{PassesBelow}
 use Rattle.test_admission.specs.Stretches.{Part, parts_of, span_of, Reads, AllFit, Follow, AreCodeOf}
 use Rattle.test_admission.specs.Faults.{is_at_fault, word_in, faults_at, word_of, first_in, first_among, HasHigh}
+use Rattle.test_admission.proofs.FirstFault.{none_case}
 use Rattle.test_admission.proofs.OrderLaws.{passes_unknown_word, passes_register_half, passes_breakpoint, passes_far_constant, refused}
 
 -- ---- words
-by_bytes : (ls : List LoadSegment) (a : ℕ) → number_among ls a 4 ≡ byte_among ls a + 256 * (byte_among ls (a + 1) + 256 * (byte_among ls (a + 1 + 1) + 256 * (byte_among ls (a + 1 + 1 + 1) + 256 * 0)))
-unfolding number_among
-by_bytes ls a = refl
-
 -- word k of a part is that of the image
 pub part_word : (ls : List LoadSegment) (p : Part) (k : ℕ) → Reads ls p → k < p.size / 4 → word_in p.bytes (4 * k) ≡ number_among ls (p.start + 4 * k) 4
 part_word ls p k r lt =
@@ -100,10 +98,6 @@ module _ (word : ℕ → ℕ) (r : CodeRule) where
       let x = place_in p q a b c h in
       subst (λ z. is_at_fault r z (word z) ≡ false) (sym x.is) (fault_same p x.place false w x.below (each_fails (p.size / 4) (faults_at r p) e x.place x.below))
 
-  none_case : (p : Part) (o : Option ℕ) → option_map (word_of p) o ≡ None → o ≡ None
-  none_case p None e = refl
-  none_case p (Some k) e = absurd (cc)
-
   pub none_found : (low : ℕ) (ps : List Part) → Follow low ps → AllWords ps → first_among r ps ≡ None → (q : ℕ) → q % 4 ≡ 0 → is_in_any (map span_of ps) q ≡ true → is_at_fault r q (word q) ≡ false
   none_found low [] h w e q c m = absurd (false≢true m)
   none_found low (p ∷ ps) h w e q c m = by (first_in r p) refl e (λ g. none_found (p.start + p.size) ps h.5 w.1 g q c) where
@@ -139,15 +133,12 @@ module _ (word : ℕ → ℕ) (r : CodeRule) where
   later_found : (low : ℕ) (p : Part) (ps : List Part) (a found : ℕ) → Follow low (p ∷ ps) → HasWords p → first (p.size / 4) (faults_at r p) ≡ None → IsFirst (p.start + p.size) ps a found → IsFirst low (p ∷ ps) a found
   later_found low p ps a found h w e f = record {
     aligned = f.aligned;
-    within = or_second (is_in (span_of p) a) (is_in_any (map span_of ps) a) f.within;
+    within = or_right (is_in (span_of p) a) (is_in_any (map span_of ps) a) f.within;
     small = f.small;
     is = f.is;
     fault = f.fault;
     least = λ q l c m. ⊎_elim (none_part p q w h.2 h.3 e c) (f.least q l c) (or_cases (is_in (span_of p) q) (is_in_any (map span_of ps) q) m);
-  } where
-    or_second : (x y : Bool) → y ≡ true → (x || y) ≡ true
-    or_second true y k = refl
-    or_second false y k = k
+  }
 
   first_found : (low : ℕ) (ps : List Part) (a found : ℕ) → Follow low ps → AllWords ps → first_among r ps ≡ Some (a, found) → IsFirst low ps a found
   first_found low [] a found h w e = absurd (cc)

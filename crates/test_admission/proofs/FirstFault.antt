@@ -47,7 +47,7 @@ none_in r p k le none =
     (λ j lt. ⊎_elim (none j) (λ more. empty_passes r p j (omega (arith, le, lt, more))) (cases_lt j k))))
 
 -- where none of a part is at fault, each word passes
-none_case : (p : Part) (o : Option ℕ) → option_map (word_of p) o ≡ None → o ≡ None
+pub none_case : (p : Part) (o : Option ℕ) → option_map (word_of p) o ≡ None → o ≡ None
 none_case p None e = refl
 none_case p (Some k) e = absurd (cc)
 

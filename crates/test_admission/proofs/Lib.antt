@@ -12,5 +12,4 @@ pub mod FirstFault
 pub mod Faulting
 pub mod Listing
 pub mod Ends
-pub mod ReadFiles
 pub mod RefusedEnds

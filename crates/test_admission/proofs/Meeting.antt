@@ -1,27 +1,20 @@
 -- Which of joined ranges a range meets.
-use Rattle.std.proofs.Common.{◌≡◌, ◌⊎◌, inl, inr, ⊎_elim, ℕ, zero, suc, ◌<◌, ◌≤◌, Bool, true, false, ◌||◌, List, [], ◌∷◌, length, get_or, refl, sym, ap, ◌∙◌, subst, arith}
+use Rattle.std.proofs.Common.{◌≡◌, ◌⊎◌, inl, inr, ⊎_elim, ℕ, zero, suc, ◌<◌, ◌≤◌, Bool, true, false, List, [], ◌∷◌, length, get_or, refl, sym, ap, ◌∙◌, subst, arith}
 use Rattle.std.specs.Prelude.{nat_lt, nat_le}
 use Rattle.std.specs.List.{list_any}
 use Rattle.std.specs.List.Sorted.{IsPartitionedBy, IsPartitionPoint}
-use Rattle.std.proofs.lemmas.Bool.{leb-true, leb-false, ltb-true, ltb-false, le-leb, lt-ltb, and_from, cases_lt}
+use Rattle.std.proofs.lemmas.Bool.{leb-true, leb-false, ltb-true, ltb-false, le-leb, lt-ltb, and_from, cases_lt, or_right}
 use Rattle.std.proofs.lemmas.Bool.Decides.{nat_tests}
+use Rattle.std.proofs.lemmas.List.{get_or_default}
 use Rattle.qed_model.specs.Admission.DataRanges.{do_meet}
 use Rattle.test_admission.specs.declared.spans.Span.{Span}
 use Rattle.test_admission.specs.Spans.{bounds_of, all_bounds, AreSpaced}
-
-same_default : (xs : List Span) (n : ℕ) (x y : Span) → n < length xs → get_or xs n x ≡ get_or xs n y
-same_default [] n x y l = absurd (omega (arith, l))
-same_default (z ∷ xs) zero x y l = refl
-same_default (z ∷ xs) (suc n) x y l = same_default xs n x y (omega (arith, l))
 
 -- ---- by places
 meets_at : (r : ℕ × ℕ) (ss : List Span) (k : ℕ) (d : Span) → k < length ss → do_meet r (bounds_of (get_or ss k d)) ≡ true → list_any (do_meet r) (all_bounds ss) ≡ true
 meets_at r [] k d lt h = absurd (omega (arith, lt))
 meets_at r (s ∷ ss) zero d lt h = rw h refl
-meets_at r (s ∷ ss) (suc k) d lt h = or_second (do_meet r (bounds_of s)) _ (meets_at r ss k d (omega (arith, lt)) h) where
-  or_second : (a b : Bool) → b ≡ true → (a || b) ≡ true
-  or_second true b e = refl
-  or_second false b e = e
+meets_at r (s ∷ ss) (suc k) d lt h = or_right (do_meet r (bounds_of s)) _ (meets_at r ss k d (omega (arith, lt)) h)
 
 meets_none : (r : ℕ × ℕ) (ss : List Span) → ((k : ℕ) (d : Span) → k < length ss → do_meet r (bounds_of (get_or ss k d)) ≡ false) → list_any (do_meet r) (all_bounds ss) ≡ false
 meets_none r [] h = refl
@@ -62,12 +55,12 @@ module _ (r : Span) (ss : List Span) (spaced : AreSpaced ss) where
           let gap = spaced.gaps place k s x l in
           let some = spaced.some place s lt in
           let a : s.start ≡ (get_or ss place s).start = ap (λ t. t.start) is in
-          let same : (get_or ss k d).start ≡ (get_or ss k s).start = ap (λ t. t.start) (same_default ss k d s l) in
+          let same : (get_or ss k d).start ≡ (get_or ss k s).start = ap (λ t. t.start) (get_or_default ss k d s l) in
           no_meet (get_or ss k d) (inr (omega (arith, gap, some, a, same, h)))
 
       at : (k : ℕ) (d : Span) → k < length ss → place ≡ k → r.end ≤ s.start → do_meet (bounds_of r) (bounds_of (get_or ss k d)) ≡ false
       at k d l e h =
-          let is_k : s ≡ get_or ss k d = is ∙ ap (λ n. get_or ss n s) e ∙ same_default ss k s d l in
+          let is_k : s ≡ get_or ss k d = is ∙ ap (λ n. get_or ss n s) e ∙ get_or_default ss k s d l in
           subst (λ t. do_meet (bounds_of r) (bounds_of t) ≡ false) is_k (no_meet s (inr h))
 
       none : r.end ≤ s.start → (k : ℕ) (d : Span) → k < length ss → do_meet (bounds_of r) (bounds_of (get_or ss k d)) ≡ false
@@ -82,7 +75,7 @@ module _ (r : Span) (ss : List Span) (spaced : AreSpaced ss) where
       by false e = sym (meets_none (bounds_of r) ss (none (ltb-false s.start r.end e)))
 
     pub meets_first : (d : Span) → place < length ss → nat_lt (get_or ss place d).start r.end ≡ list_any (do_meet (bounds_of r)) (all_bounds ss)
-    meets_first d lt = meets_here (get_or ss place d) lt (same_default ss place d (get_or ss place d) lt)
+    meets_first d lt = meets_here (get_or ss place d) lt (get_or_default ss place d (get_or ss place d) lt)
 
     -- where there is no such place, none is met
     pub meets_past : length ss ≤ place → false ≡ list_any (do_meet (bounds_of r)) (all_bounds ss)

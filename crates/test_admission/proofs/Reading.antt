@@ -9,19 +9,16 @@ use Rattle.qed_model.specs.Machine.Memory.{byte_in}
 use Rattle.qed_model.specs.Machine.Program.{LoadSegment}
 use Rattle.qed_model.specs.Machine.Loading.{load_segment, load_segments, lies_in_code}
 use Rattle.qed_model.specs.Machine.Cells.{has, cell_at, byte_among}
-use Rattle.qed_model.proofs.Among.{among_of, place_of}
+use Rattle.qed_model.proofs.Among.{among_of}
 use Rattle.qed_model.specs.Members.{Among}
+use Rattle.qed_model.proofs.ApartLaws.{alone}
 use Rattle.qed_model.proofs.CellsAmong.{has_from, among_agreed}
 use Rattle.qed_model.proofs.ImageLaws.{among_load}
 use Rattle.test_admission.specs.Read.{AreRead}
 use Rattle.test_admission.specs.Stretches.{Reads, rest_of}
 
--- one segment alone has an address
-pub alone : (ls : List LoadSegment) → AreRead ls → (l m : LoadSegment) (q : ℕ) → Among l ls → Among m ls → has l q ≡ true → has m q ≡ true → l ≡ m
-alone ls r l m q a b h g = let x = place_of l ls a in let y = place_of m ls b in r.alone x.place y.place l m q x.stands y.stands h g
-
 byte_read : (ls : List LoadSegment) → AreRead ls → (l : LoadSegment) (q : ℕ) → Among l ls → has l q ≡ true → byte_among ls q ≡ slice_index l.bytes (q - l.address)
-byte_read ls r l q m h = ap byte_in (among_agreed ls q (cell_at l q) (λ t k g. ap (λ x. cell_at x q) (alone ls r t l q k m g h)) l m h)
+byte_read ls r l q m h = ap byte_in (among_agreed ls q (cell_at l q) (λ t k g. ap (λ x. cell_at x q) (alone ls r.apart t l q k m g h)) l m h)
 
 -- ---- bytes from one of them on
 pub index-rest_of : (n : ℕ) (bs : List ℕ) (k : ℕ) → slice_index (rest_of n bs) k ≡ slice_index bs (n + k)

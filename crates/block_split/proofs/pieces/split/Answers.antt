@@ -1,5 +1,6 @@
 use Rattle.std.proofs.Common.{◌∙◌, ap, ◌++◌, ◌∷◌, [], ℕ, ◌≤◌, ◌*◌, ◌+◌, arith}
-use Rattle.block_split.proofs.PieceLengths.{made_lengths, empty_lengths, more_made, all_made, is_nil, is_some, rest_is, within_body, rest_some, some_run, added}
+use Rattle.std.proofs.lemmas.List.{take_rest}
+use Rattle.block_split.proofs.PieceLengths.{made_lengths, empty_lengths, more_made, all_made, is_nil, is_some, within_body, rest_some, some_run, added}
 use Rattle.block_split.proofs.pieces.split.Goals as goal
 
 max_some : (min max : ℕ) → 1 ≤ min → 2 * min ≤ max + 1 → 1 ≤ max
@@ -14,7 +15,7 @@ loop-at-preserved c =
     let size = some_run _ _ (rest_some c.args.body.now c.loop-at.at c.loop-at-test.true) c.run_length-size.ensures in
     record {
       within = within_body c.args.body.now c.loop-at.at _ before.within c.run_length-size.ensures;
-      made = added c.args.max _ _ _ _ (more_made c.args.max _ _ _ _ _ (rest_is c.args.body.now c.loop-at.at) size c.run_length-size.ensures before.made) c.in_ok-push_lengths.ensures;
+      made = added c.args.max _ _ _ _ (more_made c.args.max _ _ _ _ _ (take_rest c.args.body.now c.loop-at.at) size c.run_length-size.ensures before.made) c.in_ok-push_lengths.ensures;
     }
 
 pub returns : goal.returns
