@@ -91,7 +91,7 @@ module _ (f : ElfFile) (o : Options) (t : Test) (blocks : List CodeBlock) (cut :
 -- ---- what the bounds depend on
 pub same_shape :
     (f : ElfFile) (o : Options) (far : Bool) (words ranges : ℕ) → words ≡ word_count (data_ranges (image_of f)) → ranges ≡ length (data_ranges (image_of f))
-    → record { words = words; ranges = ranges; round = o.round; inst_max = o.inst_max; far = far; sweep = o.sweep; diverse = o.diverse } ≡ shape_of f o far
+    → record (shape_of f o far) { words = words; ranges = ranges } ≡ shape_of f o far
 same_shape f o far words ranges w r =
-    ap (λ n. record { words = n; ranges = ranges; round = o.round; inst_max = o.inst_max; far = far; sweep = o.sweep; diverse = o.diverse }) w
-    ∙ ap (λ n. record { words = word_count (data_ranges (image_of f)); ranges = n; round = o.round; inst_max = o.inst_max; far = far; sweep = o.sweep; diverse = o.diverse }) r
+    ap (λ n. record (shape_of f o far) { words = n; ranges = ranges }) w
+    ∙ ap (λ n. record (shape_of f o far) { ranges = n }) r
