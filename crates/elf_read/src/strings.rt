@@ -8,7 +8,7 @@ use std::alloc::{AllocError, Global};
 use std::marker::Model;
 
 /// How many bytes of a string table have one entry in the list of its zero bytes.
-const STRIDE: usize = 64;
+const STRIDE: usize = 16;
 
 /// A string table: names one after the other, each with a zero byte behind it.
 ///

@@ -148,7 +148,7 @@ impl Held {
         self.has(address) && width <= self.size() - (address - self.start)
     }
 
-    /// Whether it has eight bytes from an address on, and they may be read or written. It says no where they are to be executed.
+    /// Whether it has eight bytes from an address on, and they have the permission. It says no of code that may not be read.
     #[inline(always)]
     pub fn has_room(&self, access: Access, address: u64) -> bool
         ensures all { result ≡ true → has_all self.now address 8 ≡ true }
@@ -157,7 +157,7 @@ impl Held {
         match access {
             Access::Read => address.wrapping_sub(self.start) < self.reads,
             Access::Write => address.wrapping_sub(self.start) < self.writes,
-            Access::Execute => false,
+            Access::Execute => self.executable && address.wrapping_sub(self.start) < self.reads,
         }
     }
 

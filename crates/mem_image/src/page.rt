@@ -27,13 +27,11 @@ impl Page {
     pub fn of(bytes: &[u8]) -> Page
         ensures { HoldsFrom bytes.now 0 result.bytes }
     {
+        if let Some(whole) = bytes.first_chunk() {
+            return Page { bytes: *whole };
+        }
         let mut page = [0; 4096];
-        let count = if bytes.len() < 4096 {
-            bytes.len()
-        } else {
-            4096
-        };
-        for i in 0..count {
+        for i in 0..bytes.len() {
             page[i] = bytes[i];
         }
         Page { bytes: page }

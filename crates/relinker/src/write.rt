@@ -86,6 +86,7 @@ fn word(ins: &Ins) -> u32
 
 /// Appends the word of an instruction. There is room for it.
 #[tactic(auto, using(crate::proofs::Words::push_word))]
+#[inline(always)]
 fn put(words: &mut Vec<u32>, ins: &Ins)
     requires encoded { is_encoded ins.now ≡ true }
     requires room { vec_len words.old < vec_capacity words.old }
@@ -102,6 +103,7 @@ fn put(words: &mut Vec<u32>, ins: &Ins)
 }
 
 /// Appends the words of instructions. There is room for them.
+#[inline(never)]
 fn put_all(words: &mut Vec<u32>, instructions: &[Ins])
     requires encoded { list_all is_encoded instructions.now ≡ true }
     requires room { vec_len words.old + length instructions.now ≤ vec_capacity words.old }
@@ -129,7 +131,7 @@ fn put_item(words: &mut Vec<u32>, rows: &[EntryRow], far: bool, last: u64, item:
 {
     match *item {
         Item::Mark(_) => {}
-        Item::Plain(ins) => put_all(words, &[ins]),
+        Item::Plain(ins) => put(words, &ins),
         Item::Constant(r, value) => put_all(words, &constant(r, distance_between(at, value))),
         Item::Go(address) => {
             let distance = distance_between(at, entry(rows, last, address));

@@ -7,7 +7,7 @@ use Rattle.qed_model.specs.declared.machine.Outcome.TheVariants.{Going, Ended, F
 use Rattle.qed_model.specs.Machine.Step.{State, step, step_at}
 use Rattle.qed_model.specs.Machine.Progress.{Progress, counted, advanced, steps_after, progress}
 use Rattle.qed_model.specs.Machine.Memory.{Memory}
-use Rattle.rv_step.specs.Known.{at_state, goes_on, IsMade, IsPart}
+use Rattle.rv_step.specs.Known.{at_state, goes_on, IsMade}
 use Rattle.rv_step.specs.Harts.{HartState, with_memory}
 
 stays_at : (o : Outcome) (s : State) → goes_on o ≡ false → step_at o s ≡ s
@@ -27,7 +27,7 @@ unfolding step
 stays_step s h = stays_at s.outcome s h
 
 -- a machine that does not go on stays as it is
-stays : (p : Progress) → goes_on p.state.outcome ≡ false → advanced p ≡ p
+pub stays : (p : Progress) → goes_on p.state.outcome ≡ false → advanced p ≡ p
 unfolding advanced
 stays p h = ap (λ s. record { state = s; steps = steps_after p.state.outcome p.steps }) (stays_step p.state h) ∙ ap (λ n. record { state = p.state; steps = n }) (as_many p.state.outcome p.steps h)
 
@@ -142,16 +142,10 @@ made_counted p n count h k m made view small is =
     let steps : count ≡ (progress p n).steps = omega (arith, is, before, all) in
     same_progress (with_memory (record h { steps = count }) m) (progress p n) state steps
 
--- one step, and none of one
+-- one step
 pub one_run : (p : Progress) → progress p 1 ≡ advanced p
 unfolding progress
 one_run p = refl
-
-pub none_of_one : (p q : Progress) → IsPart p 1 q → q ≡ p
-none_of_one p q h =
-    let most = h.most in
-    let none : h.count ≡ 0 = omega (arith, most) in
-    h.made ∙ ap (progress p) none ∙ sym (none_made p)
 
 -- what holds at any error
 pub any_err : {T E : Type 0} (r : Result T E) (P : Type 0) → P → IfErr r (λ _. P)

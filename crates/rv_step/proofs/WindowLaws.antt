@@ -164,7 +164,7 @@ at_going Ended s h = absurd (cc)
 at_going Fired s h = absurd (cc)
 at_going (Trapped c pc) s h = absurd (cc)
 
-step_acts : (s : State) → goes_on s.outcome ≡ true → step s ≡ act (next s) s
+pub step_acts : (s : State) → goes_on s.outcome ≡ true → step s ≡ act (next s) s
 unfolding step
 step_acts s h = at_going s.outcome s h
 

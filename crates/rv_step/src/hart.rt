@@ -1,5 +1,5 @@
 //! A hart, whose memory is another's.
-ghost use Rattle.std.specs.Prelude.{◌≡◌, ◌-◌, ◌%◌, ◌<◌, ◌≤◌, true, false, IfOk, IfErr, slice_index};
+ghost use Rattle.std.specs.Prelude.{◌≡◌, ◌-◌, ◌%◌, ◌<◌, ◌≤◌, true, false, IfOk, IfErr, IfSome, slice_index};
 ghost use Rattle.qed_model.specs.Machine.Memory.{Memory};
 ghost use Rattle.qed_model.specs.Machine.Loading.{loaded_file};
 ghost use Rattle.qed_model.specs.Machine.Program.{start};
@@ -9,7 +9,7 @@ ghost use Rattle.qed_model.specs.declared.change.Place.TheVariants.{Reg as InReg
 ghost use Rattle.rv_step.specs.Harts.{hart_of, with_memory, LeadsIn};
 ghost use Rattle.rv_step.specs.Known.{goes_on, struck_progress, word_at, AreMade, IsMade, IsPart};
 ghost use Rattle.rv_step.specs.Reached.{AreWords};
-ghost use Rattle.rv_step.specs.Windows.{HasWords, IsKnown, IsTable, IsWindow};
+ghost use Rattle.rv_step.specs.Windows.{HasWords, IsHeld, IsKnown, IsTable, IsWindow};
 
 use crate::decoder::Decoder;
 use crate::range::Ranges;
@@ -20,7 +20,8 @@ use code_ranges::code_ranges;
 use elf_types::ElfFile;
 use mem_image::Image;
 use qed_model::Outcome;
-use rv_isa::{Reg, Regs};
+use rv_decode::decode;
+use rv_isa::{Ins, Reg, Regs};
 use std::alloc::{AllocError, Global};
 use std::marker::Model;
 
@@ -75,8 +76,13 @@ impl Hart {
         ensures kept { IfErr result (λ _. self.new ≡ self.old) }
         ensures memory { IfErr result (λ _. image.new ≡ image.old) }
     {
-        let outcome = self.run(image, 1)?;
-        Ok(outcome)
+        if !self.goes_on() {
+            return Ok(self.outcome);
+        }
+        let word = self.next_word(image);
+        self.advance::<5>(word, image)?;
+        self.steps = self.steps.saturating_add(1);
+        Ok(self.outcome)
     }
 
     /// As many steps in a memory as the number says, and how the hart stands then.
@@ -205,10 +211,25 @@ impl Hart {
         ensures kept { IfErr result (λ _. self.new ≡ self.old) }
         ensures memory { IfErr result (λ _. image.new ≡ image.old) }
     {
+        if let Some(ins) = self.held(window) {
+            table.put(self.pc, &ins);
+            let on = self.execute::<1>(&ins, image)?;
+            return Ok(on);
+        }
         let word = self.word_in(image, window, true);
         self.learn_next(window, table);
-        let on = self.advance::<1>(word, image)?;
+        let on = self.advance::<4>(word, image)?;
         Ok(on)
+    }
+
+    /// The instruction at the pc, where the window has its word.
+    #[inline(always)]
+    fn held(&self, window: &Window) -> Option<Ins>
+        requires { HasWords window.now }
+        ensures { IfSome result (λ ins. (s : State) → IsWindow s window.now → IsHeld s self.now.pc ins) }
+    {
+        let word = window.word(self.pc)?;
+        decode(word)
     }
 
     /// Puts the instruction at the pc into the table, where the window has it.
@@ -217,10 +238,7 @@ impl Hart {
         ensures table { (s : State) → IsTable s table.old → IsWindow s window.now → IsTable s table.new }
         ensures same { self.new ≡ self.old }
     {
-        let Some(word) = window.word(self.pc) else {
-            return;
-        };
-        let Some(ins) = self.decoder.decode(self.pc, word) else {
+        let Some(ins) = self.held(window) else {
             return;
         };
         table.put(self.pc, &ins);

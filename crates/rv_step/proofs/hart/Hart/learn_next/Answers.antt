@@ -1,5 +1,7 @@
-use Rattle.std.proofs.Common.{sym, ◌∙◌}
+use Rattle.std.proofs.Common.{sym, subst}
+use Rattle.rv_step.specs.Harts.{HartState}
+use Rattle.rv_step.specs.Windows.{IsHeld}
 use Rattle.rv_step.proofs.hart.Hart.learn_next.Goals as goal
 
 pub returns-clause-table : goal.returns-clause-table
-returns-clause-table c = λ s table window. c.put.ensures s table (record { word = c.in-Some.word; stands = c.in-Some.ensures.fixed s window; decoded = sym c.decode.ensures ∙ c.in-Some-decode.is })
+returns-clause-table c = λ s table window. c.put.ensures s table (subst (λ (h : HartState). IsHeld s h.pc c.in-Some.ins) (sym c.self.view_is) (c.in-Some.ensures s window))

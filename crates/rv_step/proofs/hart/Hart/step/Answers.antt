@@ -1,14 +1,24 @@
-use Rattle.std.proofs.Common.{ap, ◌∙◌}
+use Rattle.std.proofs.Common.{◌≡◌, true, sym, ap, ◌∙◌, subst, arith}
+use Rattle.qed_model.specs.Machine.Memory.{Memory}
 use Rattle.qed_model.specs.Machine.Progress.{Progress}
-use Rattle.rv_step.specs.Harts.{hart_of, with_memory}
-use Rattle.rv_step.proofs.Running.{one_run, none_of_one, any_err}
+use Rattle.qed_model.specs.Machine.Step.{step}
+use Rattle.rv_step.specs.Harts.{HartState, with_memory}
+use Rattle.rv_step.specs.Known.{at_state, goes_on, IsMade}
+use Rattle.rv_step.proofs.Running.{stays, made_none, step_made, made_counted, one_run}
+use Rattle.rv_step.proofs.WindowLaws.{step_acts}
 use Rattle.rv_step.proofs.hart.Hart.step.Goals as goal
 
-pub returns-in_err-outcome-clause-kept : goal.returns-in_err-outcome-clause-kept
-returns-in_err-outcome-clause-kept c = any_err c.from_residual.result _ (ap (λ (p : Progress). hart_of p) (none_of_one (with_memory c.args.self.now c.args.image.now) (with_memory c.run.new.self c.run.new.image) c.in_err-outcome.ensures.part))
-
-pub returns-in_err-outcome-clause-memory : goal.returns-in_err-outcome-clause-memory
-returns-in_err-outcome-clause-memory c = any_err c.from_residual.result _ (ap (λ (p : Progress). p.state.memory) (none_of_one (with_memory c.args.self.now c.args.image.now) (with_memory c.run.new.self c.run.new.image) c.in_err-outcome.ensures.part))
+pub returns-then-not-goes_on-clause-step : goal.returns-then-not-goes_on-clause-step
+returns-then-not-goes_on-clause-step c = sym (stays (with_memory c.args.self.now c.args.image.now) (sym c.goes_on.ensures ∙ c.if-not-goes_on.true))
 
 pub returns-clause-step : goal.returns-clause-step
-returns-clause-step c = c.in_ok-outcome.ensures.run ∙ one_run (with_memory c.args.self.now c.args.image.now)
+returns-clause-step c =
+    let p : Progress = with_memory c.args.self.now c.args.image.now in
+    let here : Progress = with_memory c.next_word-word.new.self c.next_word-word.new.image in
+    let next : Progress = with_memory c.advance.new.self c.advance.new.image in
+    let same : here ≡ p = ap (λ (h : HartState). with_memory h c.next_word-word.new.image) c.next_word-word.ensures.same ∙ ap (λ (m : Memory). with_memory c.args.self.now m) c.next_word-word.ensures.memory in
+    let goes : goes_on here.state.outcome ≡ true = ap (λ (q : Progress). goes_on q.state.outcome) same ∙ sym c.goes_on.ensures ∙ c.if-not-goes_on.false in
+    let stepped : next ≡ at_state (step here.state) here = c.in_ok-advance.ensures.advanced ∙ sym (ap (λ s. at_state s here) (step_acts here.state goes)) in
+    let made : IsMade p 1 next = step_made p here next 0 (subst (λ (q : Progress). IsMade p 0 q) (sym same) (made_none p)) goes stepped in
+    made_counted p 1 _ _ _ c.advance.new.image made c.self-2.view_is (omega arith) c.saturating_add-self-inside.ensures
+    ∙ one_run p
