@@ -310,8 +310,8 @@ order_sound Run given f = record {
 order_sound Campaign given f =
     let there : (lacks given Seed ≡ false) × (lacks given Count ≡ false) = both_there given Seed Count _ f.there in (
       options_fit (Seed ∷ Count ∷ Changes ∷ Only ∷ From ∷ To ∷ Results ∷ []) given f.values f.room f.lean,
-      there_in_range 1 10000 0 (number_given Count given) (number_there_fits Count given (λ _ _. refl) there.1 f.values.1.1.1.1.1.1.1.1.1.1.0),
-      in_range 1 16 1 (number_given Changes given) (number_given_fits Changes given (λ _ _. refl) f.values.1.1.1.1.1.1.1.1.1.1.1.0) (omega arith, omega arith),
+      there_in_range 1 10000 0 (number_given Count given) (number_there_fits Count given (λ _ _. refl) there.1 f.values.1.1.1.1.1.1.1.1.1.1.1.0),
+      in_range 1 16 1 (number_given Changes given) (number_given_fits Changes given (λ _ _. refl) f.values.1.1.1.1.1.1.1.1.1.1.1.1.0) (omega arith, omega arith),
     )
 order_sound Gen given f =
     let there : (lacks given Seed ≡ false) × (lacks given Size ≡ false) = both_there given Seed Size _ f.there in
