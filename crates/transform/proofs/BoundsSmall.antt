@@ -60,11 +60,11 @@ entry_small : (land : Bool) → entry_steps land ≤ 7
 entry_small true = omega arith
 entry_small false = omega arith
 
-lean_word_small : (land : Bool) (words round ends period : ℕ) → words ≤ 67108864 → 1 ≤ round → ends ≤ 671088654 → period ≤ 206158439470 → IfSome (lean.word_bound land words round ends period) (λ w. w < 2 ^ 64)
+lean_word_small : (land : Bool) (words round ends period : ℕ) → words ≤ 67108864 → 1 ≤ round → ends ≤ 671088654 → period ≤ 206158439475 → IfSome (lean.word_bound land words round ends period) (λ w. w < 2 ^ 64)
 lean_word_small land zero round ends period w r s p = tt
 lean_word_small land (suc n) round ends period w r s p =
     let few : piece_count round (suc n) ≤ 67108864 = div-le_of_le-mul round (omega (arith, w, r)) in
-    let t = times (piece_count round (suc n) + 1) period 67108865 206158439470 (omega (arith, few)) p in
+    let t = times (piece_count round (suc n) + 1) period 67108865 206158439475 (omega (arith, few)) p in
     omega (arith, t, s, entry_small land)
 
 pub lean_shape_small :
