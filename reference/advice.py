@@ -161,13 +161,17 @@ def _unread(order: Order, shelf: Shelf) -> str:
 
 
 def _fired(file: File, ebreak: int) -> str:
-    """What differed where a check fired, by the comparison before the EBREAK."""
-    word = Memory(loads_of(file)).load((ebreak - 4) % 2**64, 4)
+    """What differed where a check fired, by the comparison before the EBREAK, and the word before that."""
+    memory = Memory(loads_of(file))
+    before, word = (memory.load((ebreak - far) % 2**64, 4) for far in (8, 4))
     found = re.fullmatch(r"beq x(\d+), x(\d+), -?\d+", "" if word is None else isa.text_of(word))
     if not found:
         return ""
+    is_call = before is not None and isa.text_of(before).startswith("addi ")
     told_of = {"16": "the signature in x16 is not that of this entry",
-               "30": "the data word at the address in x15 and its duplicate differ"}
+               "31": "the signature in x16 is not that of this block",
+               "30": "the check was not called by the block at the address in x15" if is_call
+                     else "the data word at the address in x15 and its duplicate differ"}
     return f"qed: a check fired: {told_of.get(found[1], f'x{found[1]} and x{found[2]} differ')}\n"
 
 

@@ -9,7 +9,7 @@ use elf_types::ElfFile;
 use qed_io::Shelf;
 use qed_model::{Change, Place};
 use rv_decode::decode;
-use rv_isa::Kind;
+use rv_isa::{Ins, Kind};
 use std::alloc::{AllocError, Global};
 use texts::digits;
 
@@ -43,35 +43,36 @@ fn push_warning(
     Ok(())
 }
 
-/// The registers that a check compares, by the word before its EBREAK.
-fn compared(file: &ElfFile, ebreak: u64) -> Option<(u8, u8)> {
-    let ins = decode(word_at(file, ebreak.wrapping_sub(4))?)?;
-    if ins.kind == Kind::Beq {
-        Some((ins.rs1.number(), ins.rs2.number()))
-    } else {
-        None
+/// The instruction that stands so many bytes before an address.
+fn before(file: &ElfFile, address: u64, bytes: u64) -> Option<Ins> {
+    decode(word_at(file, address.wrapping_sub(bytes))?)
+}
+
+/// What a check compares that tests no register of the test, by its first register; behind an ADDI it compares where the check was
+/// called from.
+fn compared(first: u8, is_call: bool) -> Option<&'static str> {
+    match first {
+        16 => Some("the signature in x16 is not that of this entry"),
+        30 if is_call => Some("the check was not called by the block at the address in x15"),
+        30 => Some("the data word at the address in x15 and its duplicate differ"),
+        31 => Some("the signature in x16 is not that of this block"),
+        _ => None,
     }
 }
 
 /// What differed where a check fired.
 fn fired(alloc: Global, file: &ElfFile, line: &str) -> Result<String, AllocError> {
     let ebreak = address_behind(line, " at 0x").unwrap_or(0);
-    let Some((first, second)) = compared(file, ebreak) else {
-        return Ok(String::new(alloc));
+    let check = match before(file, ebreak, 4) {
+        Some(ins) if ins.kind == Kind::Beq => ins,
+        _ => return Ok(String::new(alloc)),
     };
-    if first == 16 {
-        return String::from_str(
-            alloc,
-            "qed: a check fired: the signature in x16 is not that of this entry\n",
-        );
+    let (first, second) = (check.rs1.number(), check.rs2.number());
+    let is_call = before(file, ebreak, 8).is_some_and(|ins| ins.kind == Kind::Addi);
+    match compared(first, is_call) {
+        Some(sentence) => format!(in alloc; "qed: a check fired: {sentence}\n"),
+        None => format!(in alloc; "qed: a check fired: x{first} and x{second} differ\n"),
     }
-    if first == 30 {
-        return String::from_str(
-            alloc,
-            "qed: a check fired: the data word at the address in x15 and its duplicate differ\n",
-        );
-    }
-    format!(in alloc; "qed: a check fired: x{first} and x{second} differ\n")
 }
 
 /// What mends how a run ended, by the first two words of its line, and where it stands.
