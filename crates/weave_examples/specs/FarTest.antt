@@ -1,6 +1,6 @@
 -- A known test with a JALR and its table, and two data ranges, of which one is read only. It is woven in the far form, with the sweep
 -- and with mirror parts of other kinds. All promises hold of it, with the numbers that `reference/qed plan` gives.
-use Rattle.std.specs.Prelude.{◌≡◌, ℕ, ◌++◌, true, List, [], ◌∷◌, None, Some, pos}
+use Rattle.std.specs.Prelude.{◌≡◌, ℕ, ◌++◌, true, false, List, [], ◌∷◌, None, Some, pos}
 use Rattle.elf_types.specs.declared.file.ElfFile.{ElfFile}
 use Rattle.rv_isa.specs.declared.ins.Ins.{Ins}
 use Rattle.rv_isa.specs.declared.kind.Kind.TheVariants.{Lui, Jal, Ld, Sd, Mul, Sub, Ecall, Add, Jalr}
