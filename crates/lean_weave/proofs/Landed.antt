@@ -28,13 +28,13 @@ use Rattle.lean_weave.proofs.Promise.{woven}
 use Rattle.lean_weave.proofs.Sign.{rest_of, fires, other_bits}
 
 module _ (f g : Program) (w : World) (l : Lean) (blocks : List Block) (p : LeanPlan f g w l blocks) (land : l.land ≡ true) where
-  abbrev leader : ℕ → Bool
+  abbrev pub leader : ℕ → Bool
   leader a = begins_at blocks a
 
-  abbrev v : Weave
+  abbrev pub v : Weave
   v = weave_of w l leader
 
-  in_it : WeaveIn f g w v leader
+  pub in_it : WeaveIn f g w v leader
   in_it = woven f g w l blocks p
 
   -- no check fires within six steps more than the input is steady for, since what runs first has more
@@ -59,10 +59,10 @@ module _ (f g : Program) (w : World) (l : Lean) (blocks : List Block) (p : LeanP
       (cases_lt (t + 6) n)
 
   -- what stands behind the test at an entry
-  abbrev behind : (a : ℕ) → leader a ≡ true → List Item
+  abbrev pub behind : (a : ℕ) → leader a ≡ true → List Item
   behind a h = let b = in_it.entries a h in tick (l.most a) (distance_between (w.entry a + 32) l.check) ++ body_of v.code b.body b.end a
 
-  tests : (a : ℕ) (h : leader a ≡ true) → Reads w.form.far w.code w.entry (w.entry a) (check_sign a ++ behind a h)
+  pub tests : (a : ℕ) (h : leader a ≡ true) → Reads w.form.far w.code w.entry (w.entry a) (check_sign a ++ behind a h)
   tests a h =
       let b = in_it.entries a h in
       subst (λ x. Reads w.form.far w.code w.entry (w.entry a) (enter x a (l.most a) (distance_between (w.entry a + call_at x) l.check) ++ body_of v.code b.body b.end a)) land b.reads.1

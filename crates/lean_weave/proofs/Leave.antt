@@ -73,7 +73,7 @@ first_max c x y n h = omega (arith, h, le-max_left x y)
 second_max : (c x y n : ℕ) → n ≤ c + 1 + y → n ≤ c + (1 + max x y)
 second_max c x y n h = omega (arith, h, le-max_right x y)
 
-far_enough : (p size : ℕ) → p + 4 + size + 4 ≤ 2 ^ 63 → (p + wrapped (pos (4 + size))) % 2 ^ 64 ≡ p + 4 + size
+pub far_enough : (p size : ℕ) → p + 4 + size + 4 ≤ 2 ^ 63 → (p + wrapped (pos (4 + size))) % 2 ^ 64 ≡ p + 4 + size
 far_enough p size h = omega (arith, h)
 
 module _ (w : World) (leader : ℕ → Bool) (entries : (a : ℕ) → leader a ≡ true → IsEntryOf w a) (codes : (a : ℕ) → leader a ≡ true → (i : Ins) × (w.source a ≡ Known i)) where
@@ -224,12 +224,12 @@ module _ (w : World) where
     branched i a at = ins (opposite i.kind) 0 i.rs1 i.rs2 (pos (4 + sum_of_sizes false (goes a (target i at))))
 
     -- where its other way begins
-    record Beyond (p : ℕ) (xs : List Item) (size : ℕ) : Type 0 where
-      low : p + size + 4 ≤ 2 ^ 63
-      grain : (p + size) % 4 ≡ 0
-      reads : Reads w.form.far w.code w.entry (p + size) xs
+    pub record Beyond (p : ℕ) (xs : List Item) (size : ℕ) : Type 0 where
+      pub low : p + size + 4 ≤ 2 ^ 63
+      pub grain : (p + size) % 4 ≡ 0
+      pub reads : Reads w.form.far w.code w.entry (p + size) xs
 
-    beyond_goes : (p a t : ℕ) (more : List Item) → Reads w.form.far w.code w.entry p (goes a t ++ more) → Beyond p more (sum_of_sizes false (goes a t))
+    pub beyond_goes : (p a t : ℕ) (more : List Item) → Reads w.form.far w.code w.entry p (goes a t ++ more) → Beyond p more (sum_of_sizes false (goes a t))
     beyond_goes p a t more r =
         let flat : Reads w.form.far w.code w.entry p (turn a t ++ (Go t ∷ more)) = subst (λ l. Reads w.form.far w.code w.entry p l) (append_assoc (turn a t) (Go t ∷ []) more) r in
         let q = p + sum_of_sizes false (turn a t) in

@@ -20,6 +20,8 @@ pub mod Plan
 pub mod Lands
 pub mod Promise
 pub mod Landed
+pub mod Drift
+pub mod Strays
 pub mod Unmarked
 pub mod Blocks
 pub mod Short

@@ -1,7 +1,7 @@
 -- The code of a plan: where its parts stand, the entries of its blocks, and where its words lead.
 use Rattle.std.proofs.Common.{◌≡◌, ℕ, ◌+◌, ◌*◌, ◌%◌, ◌^◌, ◌≤◌, length, ⊎_elim, Bool, true, false, cond, List, [], ◌∷◌, ◌++◌, refl, sym, ap, ◌∙◌, subst, append_assoc}
 use Rattle.std.specs.Prelude.{◌==◌, ◌&&◌, pos}
-use Rattle.std.proofs.lemmas.Bool.{eq-eqb, eqb-true, false≢true, or_cases}
+use Rattle.std.proofs.lemmas.Bool.{eq-eqb}
 use Rattle.std.proofs.lemmas.List.{append-nil}
 use Rattle.rv_isa.specs.declared.ins.Ins.{Ins}
 use Rattle.rv_isa.specs.declared.class.Class.{Class}
@@ -11,8 +11,8 @@ use Rattle.qed_model.specs.declared.item.Item.{Item}
 use Rattle.qed_model.specs.declared.item.Item.TheVariants.{Mark, Plain, Go}
 use Rattle.qed_model.specs.Machine.Table.{ins}
 use Rattle.qed_model.specs.Machine.Step.{Fetched, target}
+use Rattle.qed_model.specs.Members.{Among}
 use Rattle.qed_model.specs.Promise.Closed.{is_branch}
-use Rattle.qed_model.specs.Weave.Blocks.{begins_at}
 use Rattle.qed_model.specs.Weave.Code.{Sequences, pieces_of, body_of, block_items, entries_of}
 use Rattle.qed_model.specs.Weave.Placed.{sum_of_sizes}
 use Rattle.qed_model.specs.Weave.Sequences.{Reads, End, Falls, Stops, Block, body_length, before_end, guards_of}
@@ -73,7 +73,13 @@ module _ (c : ℕ → Fetched) (en : ℕ → ℕ) (leader : ℕ → Bool) (befor
   swap_leave (Stops i) a at p rest r m = swap_as (class_of i.kind) i a at p rest r m
 
 -- ---- the entries
--- what stands at the entry of a leader, whose tick counts it
+-- what stands at the entry of a block, whose tick counts it
+pub record BlockAt (w : World) (l : Lean) (leader : ℕ → Bool) (b : Block) : Type 0 where
+  pub reads : Reads false w.code w.entry (w.entry b.start) (block_items (weave_of w l leader).code b)
+  pub good : BlockOf w (weave_of w l leader) leader b
+  pub counts : block_steps l.diverse l.land leader b ≤ l.most b.start
+
+-- at that of a leader
 pub record Counted (w : World) (l : Lean) (leader : ℕ → Bool) (a : ℕ) : Type 0 where
   pub entry : EntryAt w (weave_of w l leader) leader a
   pub counts : block_steps l.diverse l.land leader (record { start = a; body = entry.body; end = entry.end }) ≤ l.most a
@@ -83,7 +89,7 @@ module _ (w : World) (l : Lean) (leader : ℕ → Bool) where
   s = worded w.form w.base w.entry l leader
 
   -- the pieces are those of the weave
-  pieces_same : (ps : List (List Ins)) (at : ℕ) → pieces_of s ps at ≡ pieces_of (weave_of w l leader).code ps at
+  pub pieces_same : (ps : List (List Ins)) (at : ℕ) → pieces_of s ps at ≡ pieces_of (weave_of w l leader).code ps at
   pieces_same [] at = refl
   pieces_same (p ∷ ps) at = ap (λ k. (weave_of w l leader).code.piece p at ++ k) (pieces_same ps (at + 4 * length p))
 
@@ -101,9 +107,9 @@ module _ (w : World) (l : Lean) (leader : ℕ → Bool) where
 
   -- a block reads as its sequences
   block_entry :
-      (near : w.form.far ≡ false) (b : Block) (p : ℕ) (rest : List Item) → Reads false w.code w.entry p (block_items s b ++ rest) → BlockOf w (weave_of w l leader) leader b
-      → block_steps l.diverse l.land leader b ≤ l.most b.start → ((t : ℕ) → goes_on b.end (b.start + 4 * body_length b.body) t ≡ true → leader t ≡ true → Marked rest t) → Counted w l leader b.start
-  block_entry near b p rest r good counted next =
+      (b : Block) (p : ℕ) (rest : List Item) → Reads false w.code w.entry p (block_items s b ++ rest) → BlockOf w (weave_of w l leader) leader b
+      → block_steps l.diverse l.land leader b ≤ l.most b.start → ((t : ℕ) → goes_on b.end (b.start + 4 * body_length b.body) t ≡ true → leader t ≡ true → Marked rest t) → BlockAt w l leader b
+  block_entry b p rest r good counted next =
       let at = b.start + 4 * body_length b.body in
       let t = s.enter b.start in
       let ps = pieces_of s b.body b.start in
@@ -117,23 +123,22 @@ module _ (w : World) (l : Lean) (leader : ℕ → Bool) where
       let left = swap_leave w.code w.entry leader (before_end w.form) b.end a at (p + sum_of_sizes false (t ++ ps)) rest behind next in
       let joined : Reads false w.code w.entry p (t ++ (ps ++ falls)) = subst (λ k. Reads false w.code w.entry p k) (append_assoc t ps falls) (reads_join false w.code w.entry p (t ++ ps) falls first left) in
       let read : Reads false w.code w.entry p (t ++ (pieces_of (weave_of w l leader).code b.body b.start ++ falls)) = subst (λ k. Reads false w.code w.entry p (t ++ (k ++ falls))) (pieces_same b.body b.start) joined in
-      record {
-        entry = record {
-          body = b.body;
-          end = b.end;
-          reads = (refl, subst (λ f. Reads f w.code w.entry (w.entry b.start) (t ++ (pieces_of (weave_of w l leader).code b.body b.start ++ falls))) (sym near) (subst (λ q. Reads false w.code w.entry q (t ++ (pieces_of (weave_of w l leader).code b.body b.start ++ falls))) (sym r.0) read));
-          good = good;
-        };
-        counts = counted;
-      }
+      record { reads = (refl, subst (λ q. Reads false w.code w.entry q (t ++ (pieces_of (weave_of w l leader).code b.body b.start ++ falls))) (sym r.0) read); good = good; counts = counted }
 
-  pub entry_of :
-      (near : w.form.far ≡ false) (bs : List Block) (p a : ℕ) (rest : List Item) → Reads false w.code w.entry p (entries_of s bs ++ rest) → AllBlocksOf w (weave_of w l leader) leader bs
-      → AreCounted l leader bs → InOrder leader bs → begins_at bs a ≡ true → Counted w l leader a
-  entry_of near [] p a rest r good counted o e = absurd (false≢true e)
-  entry_of near (b ∷ bs) p a rest r good counted o e =
-      let split : Reads false w.code w.entry p (block_items s b ++ (entries_of s bs ++ rest)) = subst (λ k. Reads false w.code w.entry p k) (append_assoc (block_items s b) (entries_of s bs) rest) r in
+  pub block_of :
+      (bs : List Block) (p : ℕ) (b : Block) (rest : List Item) → Reads false w.code w.entry p (entries_of s bs ++ rest) → AllBlocksOf w (weave_of w l leader) leader bs
+      → AreCounted l leader bs → InOrder leader bs → Among b bs → BlockAt w l leader b
+  block_of [] p b rest r good counted o m = absurd m
+  block_of (c ∷ cs) p b rest r good counted o m =
+      let split : Reads false w.code w.entry p (block_items s c ++ (entries_of s cs ++ rest)) = subst (λ k. Reads false w.code w.entry p k) (append_assoc (block_items s c) (entries_of s cs) rest) r in
       ⊎_elim
-      (λ x. subst (Counted w l leader) (eqb-true b.start a x) (block_entry near b p (entries_of s bs ++ rest) split good.0 counted.0 (next_marked b bs rest o)))
-      (λ x. entry_of near bs (p + sum_of_sizes false (block_items s b)) a rest (reads_behind false w.code w.entry p (block_items s b) (entries_of s bs ++ rest) split) good.1 counted.1 o.1 x)
-      (or_cases (b.start == a) (begins_at bs a) e)
+      (λ x. subst (BlockAt w l leader) (sym x) (block_entry c p (entries_of s cs ++ rest) split good.0 counted.0 (next_marked c cs rest o)))
+      (λ x. block_of cs (p + sum_of_sizes false (block_items s c)) b rest (reads_behind false w.code w.entry p (block_items s c) (entries_of s cs ++ rest) split) good.1 counted.1 o.1 x)
+      m
+
+  -- a leader begins one of them
+  pub entry_of : (near : w.form.far ≡ false) (b : Block) (a : ℕ) → BlockAt w l leader b → b.start ≡ a → Counted w l leader a
+  entry_of near b a k e = subst (Counted w l leader) e (record {
+    entry = record { body = b.body; end = b.end; reads = subst (λ f. Reads f w.code w.entry (w.entry b.start) (block_items (weave_of w l leader).code b)) (sym near) k.reads; good = k.good };
+    counts = k.counts;
+  })

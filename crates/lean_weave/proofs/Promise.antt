@@ -5,6 +5,7 @@ use Rattle.qed_model.specs.declared.bounds.Bounds.{Bounds}
 use Rattle.qed_model.specs.declared.item.Item.{Item}
 use Rattle.qed_model.specs.Admission.DataRanges.{word_count}
 use Rattle.qed_model.specs.Machine.Program.{Program}
+use Rattle.qed_model.specs.Members.{Among}
 use Rattle.qed_model.specs.Machine.Step.{Known, HasAt}
 use Rattle.qed_model.specs.Promise.Caught.{Caught}
 use Rattle.qed_model.specs.Promise.Clean.{Clean}
@@ -45,7 +46,8 @@ use Rattle.lean_weave.proofs.Begin.{lean_starts}
 use Rattle.lean_weave.proofs.Cells.{Counts}
 use Rattle.lean_weave.proofs.Lands.{entries_locks, blocks_open, open_of, entries_land}
 use Rattle.lean_weave.proofs.Left.{lean_rows}
-use Rattle.lean_weave.proofs.Plan.{Counted, entry_of}
+use Rattle.lean_weave.proofs.Blocks.{begun}
+use Rattle.lean_weave.proofs.Plan.{BlockAt, Counted, block_of, entry_of}
 use Rattle.lean_weave.proofs.Words.{begin_items, begin_lands, check_items, check_lands}
 
 module _ (f g : Program) (w : World) (l : Lean) (blocks : List Block) (p : LeanPlan f g w l blocks) where
@@ -90,8 +92,11 @@ module _ (f g : Program) (w : World) (l : Lean) (blocks : List Block) (p : LeanP
   reads_cells = reads_rest false w.code w.entry at_check middle (last ++ stub) (subst (λ k. Reads false w.code w.entry at_check k) (append_assoc middle last stub) reads_check)
 
   -- the entries
+  pub block_at : (b : Block) → Among b blocks → BlockAt w l leader b
+  block_at b m = block_of w l leader blocks at_cells b stub reads_cells p.good p.counts p.order m
+
   counted : (a : ℕ) → leader a ≡ true → Counted w l leader a
-  counted a h = entry_of w l leader p.sound.near blocks at_cells a stub reads_cells p.good p.counts p.order h
+  counted a h = let b = begun blocks a h in entry_of w l leader p.sound.near b.0 a (block_at b.0 b.1) b.2
 
   entries : EntriesAt w (weave_of w l leader) leader
   entries a h = (counted a h).entry

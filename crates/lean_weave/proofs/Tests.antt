@@ -1,7 +1,7 @@
 -- The lean form of an admitted test: all of it has words, where it has no more bytes than a JAL spans; it is a plan, and so are the promises over tests.
 use Rattle.std.proofs.Common.{◌≡◌, ℕ, ◌+◌, ◌*◌, ◌%◌, ◌^◌, ◌<◌, ◌≤◌, Bool, true, false, List, [], ◌∷◌, ◌++◌, length, Some, refl, sym, ap, ◌∙◌, subst, arith, append_assoc, ◌-◌, inl, inr}
 use Rattle.std.specs.Prelude.{map, All, pos, unwrap_or}
-use Rattle.std.proofs.lemmas.Bool.{and_from, eq-eqb}
+use Rattle.std.proofs.lemmas.Bool.{and_from, eq-eqb, false≢true}
 use Rattle.elf_types.specs.declared.file.ElfFile.{ElfFile}
 use Rattle.rv_isa.specs.declared.ins.Ins.{Ins}
 use Rattle.qed_model.specs.declared.item.Item.{Item}
@@ -37,13 +37,14 @@ use Rattle.weave_core.proofs.FilesFit.{loaded_ranges}
 use Rattle.weave_core.proofs.Marks.{Ascend, code_distinct, rows_are, entry_or_stub}
 use Rattle.weave_core.proofs.PlacingForm.{length-instructions, mark_behind, rows_behind}
 use Rattle.lockstep.proofs.Closing.{only_inside}
-use Rattle.lean_weave.specs.Tests.{IsLeanTest, LeanTestsKept, LeanTestsCaught, LeanTestsFaults, LeanTestsLanded, LeanTestsClean, AreLeanBlocks, LeanTestsHaveWords, LeanTestsWritable}
+use Rattle.lean_weave.specs.Tests.{IsLeanTest, LeanTestsKept, LeanTestsCaught, LeanTestsFaults, LeanTestsLanded, LeanTestsStrayed, LeanTestsClean, AreLeanBlocks, LeanTestsHaveWords, LeanTestsWritable}
 use Rattle.lean_weave.specs.Woven.{LeanIn, LeanPlan, weave_of}
 use Rattle.lean_weave.proofs.Costs.{call_fits}
 use Rattle.lean_weave.proofs.Ways.{reads_behind}
 use Rattle.lean_weave.proofs.Blocks.{begun, begins, length_is, leading, starts, steps, counted, in_order, all_good}
 use Rattle.lean_weave.proofs.Short.{only_reached, few_steps, short}
 use Rattle.lean_weave.proofs.Landed.{lean_landed}
+use Rattle.lean_weave.proofs.Strays.{lean_strayed}
 use Rattle.lean_weave.proofs.Promise.{lean_kept, lean_caught, lean_faults, lean_clean}
 use Rattle.lean_weave.proofs.Unmarked.{unmarked_worded, entry_same, same_code, code_size}
 use Rattle.std.specs.List.{list_all}
@@ -371,6 +372,14 @@ tests_landed f o every blocks words t land reached aims =
     let world = w f o every blocks t.cut words t reached aims in
     lean_landed (input f o every blocks t.cut words t) (output f o every blocks t.cut words t) world (lean_of f o every blocks) blocks (rows_from false (code_place o.half (image_of f)) (lean_items f o every blocks)) (plan f o every blocks t.cut words t reached aims) land
     (entries_known f o every blocks t.cut words t reached aims)
+
+-- whatever the jumps by register of the input lead to
+pub tests_strayed : LeanTestsStrayed
+tests_strayed f o every blocks words t land =
+    let u = t.cut in
+    let reached : ℕ → Bool = λ a. false in
+    let aims : AreReached f o (λ a. false) = λ e a h. absurd (false≢true h) in
+    lean_strayed (input f o every blocks u words t) (output f o every blocks u words t) (w f o every blocks u words t reached aims) (lean_of f o every blocks) blocks (plan f o every blocks u words t reached aims) land
 
 pub tests_clean : LeanTestsClean
 tests_clean f o every blocks words t swept reached aims =

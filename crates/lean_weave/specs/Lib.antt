@@ -1,3 +1,4 @@
 pub mod Ticked
+pub mod Strayed
 pub mod Woven
 pub mod Tests

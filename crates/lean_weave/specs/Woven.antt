@@ -27,6 +27,7 @@ use Rattle.weave_core.specs.Leaving.{sweep_cost}
 use Rattle.weave_core.specs.World.{World}
 use Rattle.weave_core.specs.Blocks.{TableAt}
 use Rattle.weave_core.specs.Weave.{Weave}
+use Rattle.lean_weave.specs.Strayed.{Strayed}
 use Rattle.lean_weave.specs.Ticked.{is_ticked_at}
 
 -- the most steps of the check, with the look-up behind it
@@ -119,6 +120,12 @@ abbrev pub LeanLanded : Type 0
 LeanLanded =
     (f g : Program) (w : World) (l : Lean) (blocks : List Block) (entries : List EntryRow) → LeanPlan f g w l blocks → l.land ≡ true
     → ((a e : ℕ) → IsEntry entries a e → (begins_at blocks a ≡ true) × (e ≡ w.entry a)) → Landed 6 f g w.reached entries
+
+-- and where the code of a block runs under the signature of another one, the run is over soon
+abbrev pub LeanStrayed : Type 0
+LeanStrayed =
+    (f g : Program) (w : World) (l : Lean) (blocks : List Block) → LeanPlan f g w l blocks → l.land ≡ true
+    → Strayed g (worded w.form w.base w.entry l (begins_at blocks)) w.entry blocks
 
 -- and with the sweep no change before it is silent at the end
 abbrev pub LeanClean : Type 0

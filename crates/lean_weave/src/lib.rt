@@ -3,8 +3,8 @@
 //! Definitions and laws alone.
 #![tactic(auto)]
 
-ghost use Rattle.lean_weave.specs.Tests.{LeanTestsHaveWords, LeanTestsWritable, LeanTestsKept, LeanTestsCaught, LeanTestsFaults, LeanTestsLanded, LeanTestsClean};
-ghost use Rattle.lean_weave.specs.Woven.{LeanKept, LeanCaught, LeanLanded, LeanClean};
+ghost use Rattle.lean_weave.specs.Tests.{LeanTestsHaveWords, LeanTestsWritable, LeanTestsKept, LeanTestsCaught, LeanTestsFaults, LeanTestsLanded, LeanTestsStrayed, LeanTestsClean};
+ghost use Rattle.lean_weave.specs.Woven.{LeanKept, LeanCaught, LeanLanded, LeanStrayed, LeanClean};
 
 /// A plan of the form keeps the input's values, with a bound on the steps of the output for each step of the input, and no check
 /// fires without changes.
@@ -20,6 +20,12 @@ pub fn lean_caught()
 /// In a plan of the form whose entries test the signature a jump from one entry to another fires.
 pub fn lean_landed()
     ensures { LeanLanded }
+{}
+
+/// In a plan of the form whose entries test the signature, a run that strays into a block under the signature of another one is over
+/// soon, where the block goes on by no register.
+pub fn lean_strayed()
+    ensures { LeanStrayed }
 {}
 
 /// In a plan of the form with the sweep no change before it is silent at the end.
@@ -55,6 +61,11 @@ pub fn lean_tests_faults()
 /// Where entries test the signature, a jump from one to another fires.
 pub fn lean_tests_landed()
     ensures { LeanTestsLanded }
+{}
+
+/// And a run that strays into a block under the signature of another one is over soon.
+pub fn lean_tests_strayed()
+    ensures { LeanTestsStrayed }
 {}
 
 /// With the sweep no change before it is silent at the end.

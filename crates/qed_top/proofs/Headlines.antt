@@ -67,8 +67,8 @@ module _ (call : Call) (files : Files) (input output : List ℕ) (o : Options) w
     plan = d.1.plan;
     reads_test = d.1.made.read;
     reads_program = d.1.made.reads;
-    promises = d.1.made.promised d.1.made.woven.file.file (file_read d.1.made.woven.out) d.1.made.read.file d.1.made.reads.file;
     woven = d.1.made.woven;
+    promises = d.1.made.promised d.1.made.woven.file.file (file_read d.1.made.woven.out) d.1.made.read.file d.1.made.reads.file;
     taken = d.0;
     within = d.1.made.within;
     told = d.1.made.told;

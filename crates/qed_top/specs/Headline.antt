@@ -24,7 +24,8 @@ use Rattle.qed_top.specs.declared.status.Status.{Status}
 use Rattle.qed_top.specs.declared.status.Status.TheVariants.{Done}
 
 -- IN is a test and OUT a program that was woven from it, with these options, and both are within the limits. The program's run has the values of the test's run
--- after each of its steps, and no check fires; a jump to a wrong entry fires, in the form with comparisons; changes of original registers and of data words are
+-- after each of its steps, and no check fires; a jump to a wrong entry fires, in the form with comparisons, and with `land` in the
+-- lean form, where also a run that strays into a block is over soon; changes of original registers and of data words are
 -- caught; with the sweep none is silent at the end. This holds as far as the test does not trap, for any addresses that are reached; where only
 -- those have entries of which the file shows that they are, its jumps by register have to lead to these. Bounds,
 -- entries and data ranges are those of the woven plan, whose numbers the line tells: of its bounds those of a register and of a word.
@@ -34,10 +35,10 @@ pub record IsPromised (input : List ℕ) (options : Options) (output line : List
   pub plan : Plan
   pub reads_test : IsReadAs input test
   pub reads_program : IsReadAs output program
+  pub woven : Woven input options output
   pub promises :
       (reached : ℕ → Bool) → AreReached test options reached
-      → Promised (loaded_file test) (loaded_file program) reached (map range_of plan.span) options plan
-  pub woven : Woven input options output
+      → Promised test (loaded_file program) reached (map range_of plan.span) options woven.file.blocks plan
   pub taken : length input ≤ limit_of FileBytes
   pub within : IsWithin (new_code woven.file.file options woven.file.blocks) woven.out
   pub told : IsToldOf (new_code woven.file.file options woven.file.blocks) woven.file.file options woven.file.blocks plan
