@@ -21,7 +21,7 @@ use Rattle.weave_core.specs.Rows.{At}
 use Rattle.weave_core.specs.WeaveLaws.{Stands, Visits}
 use Rattle.weave_core.proofs.Branch.{own_pair}
 use Rattle.weave_core.proofs.Endings.{guards_pass, visit_more}
-use Rattle.weave_core.proofs.Indirect.{addi_value, word, table_word, table_load, leap_there}
+use Rattle.weave_core.proofs.Indirect.{addi_value, tabled, word, table_word, table_load, leap_there}
 use Rattle.weave_core.proofs.Rows.{halved_moved}
 use Rattle.weave_core.proofs.Sets.{Sets, writes, halved_writes, sets_on, sets_compute, sets_equal}
 use Rattle.weave_core.proofs.Visit.{add_result, visit_row, visit_later, words_within, word_low}
@@ -145,19 +145,19 @@ module _ (w : World) (u t : State) (call a : ℕ) (few : call ≤ 32) (tb : Tabl
         ),
       )
 
-  pub called_set : Reads w.form.far w.code w.entry u.pc (called call ++ rest) → Sets w u 6 rest (writes (compared w call a (word w u t a tb o h)) u.regs)
+  pub called_set : Reads w.form.far w.code w.entry u.pc (called call ++ rest) → Sets w u 6 rest (writes (compared w call a (word w u a tb o (tabled w u t t h))) u.regs)
   called_set k =
       let l = u.regs in
       let long = h.output.regs in
-      let x = word w u t a tb o h in
+      let x = word w u a tb o (tabled w u t t h) in
       let e3 : List (ℕ × ℕ) = (30, a + w.distance) ∷ (30, a + 2 * w.distance) ∷ (31, gap w call a) ∷ [] in
       let e4 : List (ℕ × ℕ) = (30, a + w.distance) ∷ (30, a + 2 * w.distance) ∷ (31, gap w call a) ∷ (30, x) ∷ [] in
       let tail3 = Plain (ins Beq 0 30 31 (pos 8)) ∷ fired_check ∷ rest in
       let tail2 = Plain (ins Addi 30 30 0 (pos (call + 4))) ∷ tail3 in
       let tail1 = Plain (ins Lw 30 30 0 (pos 0)) ∷ tail2 in
-      let there = table_word w u t a tb o h in
+      let there = table_word w u a tb o (tabled w u t t h) in
       sets_on w u 3 3 tail1 rest (writes e3 l) (writes (compared w call a x) l) (chain w u tail1 o front long front_gives k) (λ p k1.
-      sets_on w (moved (writes e3 l) p u) 1 2 tail2 rest (writes e4 l) (writes (compared w call a x) l) (table_load w u t a tb o h 30 (writes e3 l) p tail2 (read_back e3 l 30 long refl) (λ e. absurd (omega arith)) k1) (λ p2 k2.
+      sets_on w (moved (writes e3 l) p u) 1 2 tail2 rest (writes e4 l) (writes (compared w call a x) l) (table_load w u a tb o (tabled w u t t h) 30 (writes e3 l) p tail2 (read_back e3 l 30 long refl) (λ e. absurd (omega arith)) k1) (λ p2 k2.
       sets_on w (moved (writes e4 l) p2 u) 1 1 tail3 rest (writes (compared w call a x) l) (writes (compared w call a x) l)
       (sets_compute w (moved (writes e4 l) p2 u) (ins Addi 30 30 0 (pos (call + 4))) (gap w call a) tail3 (over_moved w.code u (writes e4 l) p2 o) k2 refl (λ e. absurd (cc)) (addi_value (moved (writes e4 l) p2 u) 30 30 x (gap w call a) (pos (call + 4)) (read_back e4 l 30 long refl) (omega (arith, there, tb.low, few))))
       (λ p3 k3. sets_equal w (moved (writes (compared w call a x) l) p3 u) 30 31 rest (over_moved w.code u (writes (compared w call a x) l) p3 o) k3 (read_back (compared w call a x) l 30 long refl ∙ sym (read_back (compared w call a x) l 31 long refl)))))
@@ -301,7 +301,7 @@ module _ (w : World) (leader : ℕ → Bool) (small : w.distance ≤ 2 ^ 32) (u 
       let x1 = moved l1 s1.pc u in
       let o1 = over_moved w.code u l1 s1.pc o in
       let h1 = halved_writes w u t t w1 s1.pc (all_temps w1 refl) h in
-      let w2 = compared w call a (word w x1 t a tb o1 h1) in
+      let w2 = compared w call a (word w x1 a tb o1 (tabled w x1 t t h1)) in
       let l2 = writes w2 l1 in
       let long1 = h1.output.regs in
       let s2 = called_set w x1 t call a call_few tb o1 h1 (compare ++ rest) (read_back w1 u.regs 15 long refl) (read_back w1 u.regs 31 long refl ∙ link) s1.reads in

@@ -1,8 +1,8 @@
 -- Words that keep the signature and go on to the next word, or over it: from any of them, in any state, the run comes to what stands behind them, or is over.
 use Rattle.std.proofs.Common.{◌≡◌, ℕ, zero, suc, ◌+◌, ◌*◌, ◌%◌, ◌^◌, ◌≤◌, ◌⊎◌, inl, inr, ⊎_elim, Bool, true, false, cond, not, List, [], ◌∷◌, ◌++◌, length, refl, sym, ap, ◌∙◌, subst, arith, append_assoc}
-use Rattle.std.specs.Prelude.{◌==◌, pos, slice_index}
+use Rattle.std.specs.Prelude.{◌==◌, ◌&&◌, pos, slice_index}
 use Rattle.std.specs.List.{list_all}
-use Rattle.std.proofs.lemmas.Bool.{and_parts, eqb-false, ne_eqb, false≢true}
+use Rattle.std.proofs.lemmas.Bool.{and_parts, and_from, ne_eqb, false≢true}
 use Rattle.rv_isa.specs.declared.ins.Ins.{Ins}
 use Rattle.rv_isa.specs.declared.kind.Kind.TheVariants.{Auipc, Addi, Beq}
 use Rattle.rv_isa.specs.declared.class.Class.{Class}
@@ -40,10 +40,14 @@ use Rattle.weave_core.proofs.Standing.{Standing, standing_step}
 use Rattle.lean_weave.specs.Strayed.{IsOver}
 
 -- ---- the words
--- it keeps x16, and goes on behind it, fires or traps
+-- neither x14 nor x16
+abbrev pub is_other : ℕ → Bool
+is_other r = not (r == 14) && not (r == 16)
+
+-- it keeps x14 and x16, and goes on behind it, fires or traps
 abbrev pub drifts_as : Class → Ins → Bool
-drifts_as class.Compute i = not (i.rd == 16)
-drifts_as class.Load i = not (i.rd == 16)
+drifts_as class.Compute i = is_other i.rd
+drifts_as class.Load i = is_other i.rd
 drifts_as class.Store i = true
 drifts_as class.Fence i = true
 drifts_as class.Break i = true
@@ -68,7 +72,7 @@ abbrev pub Drifts : List Item → Type 0
 Drifts [] = Unit {0}
 Drifts (Mark m ∷ xs) = ⊥
 Drifts (Plain i ∷ xs) = ((drifts i ≡ true) ⊎ Skips i xs) × Drifts xs
-Drifts (Constant r v ∷ xs) = (r ≡ 16 → ⊥) × Drifts xs
+Drifts (Constant r v ∷ xs) = (is_other r ≡ true) × Drifts xs
 Drifts (Go t ∷ xs) = ⊥
 
 abbrev pub count : List Item → ℕ
@@ -120,20 +124,21 @@ drifts_guards_of i = drifts_append (guard i.rs1) (cond (i.rs2 == i.rs1) [] (guar
   by true = tt
   by false = drifts_guard i.rs2
 
-pub pair_not : (r : ℕ) → pair r ≡ 16 → ⊥
-pair_not zero e = absurd (omega (arith, e))
-pair_not (suc r) e = absurd (omega (arith, e))
+-- a register below x14, or a pair
+other_low : (r : ℕ) → r ≤ 13 → is_other r ≡ true
+other_low r h = and_from _ _ (ap not (ne_eqb r 14 (λ e. absurd (omega (arith, h, e))))) (ap not (ne_eqb r 16 (λ e. absurd (omega (arith, h, e)))))
+
+other_pair : (r : ℕ) → is_other (pair r) ≡ true
+other_pair zero = refl
+other_pair (suc r) = and_from _ _ (ap not (ne_eqb (suc r + 16) 14 (λ e. absurd (omega (arith, e))))) (ap not (ne_eqb (suc r + 16) 16 (λ e. absurd (omega (arith, e)))))
 
 pub drifts_links : (i : Ins) (at : ℕ) → i.rd ≤ 13 → Drifts (links i at)
 drifts_links i at h = by (i.rd == 0) where
   by : (b : Bool) → Drifts (cond b [] (Constant i.rd ((at + 4) % 2 ^ 64) ∷ Constant (pair i.rd) ((at + 4) % 2 ^ 64) ∷ []))
   by true = tt
-  by false = (λ e. absurd (omega (arith, h, e)), (pair_not i.rd, tt))
+  by false = (other_low i.rd h, (other_pair i.rd, tt))
 
 -- ---- the parts of a piece
-other : (r : ℕ) → (r ≡ 16 → ⊥) → not (r == 16) ≡ true
-other r ne = ap not (ne_eqb r 16 ne)
-
 writes_as : (i : Ins) (k : Class) → class_of i.kind ≡ k → drifts_as k i ≡ true → drifts i ≡ true
 writes_as i k e d = subst (λ c. drifts_as c i ≡ true) (sym e) d
 
@@ -143,25 +148,25 @@ one i d = (inl d, tt)
 drifts_original : (i : Ins) (at : ℕ) → FitsPiece i → Drifts (original i at)
 drifts_original i at f = by (is_auipc i.kind) refl where
   body : IsBodyWord i → Drifts (original_as (class_of i.kind) i at)
-  body (body_computes k) = let l : IsLowAs class.Compute i = subst (λ c. IsLowAs c i) k f.low in rw k (one i (writes_as i class.Compute k (other i.rd (λ e. let x = l.0 in absurd (omega (arith, x, e))))))
-  body (body_loads k) = let l : IsLowAs class.Load i = subst (λ c. IsLowAs c i) k f.low in rw k (drifts_append (guard i.rs1) (Plain i ∷ []) (drifts_guard i.rs1) (one i (writes_as i class.Load k (other i.rd (λ e. let x = l.0 in absurd (omega (arith, x, e)))))))
+  body (body_computes k) = let l : IsLowAs class.Compute i = subst (λ c. IsLowAs c i) k f.low in rw k (one i (writes_as i class.Compute k (other_low i.rd l.0)))
+  body (body_loads k) = let l : IsLowAs class.Load i = subst (λ c. IsLowAs c i) k f.low in rw k (drifts_append (guard i.rs1) (Plain i ∷ []) (drifts_guard i.rs1) (one i (writes_as i class.Load k (other_low i.rd l.0))))
   body (body_stores k) = rw k (drifts_append (guards_of i) (Plain i ∷ []) (drifts_guards_of i) (one i (writes_as i class.Store k refl)))
   body (body_fences k) = rw k (one i (writes_as i class.Fence k refl))
 
   by : (b : Bool) → is_auipc i.kind ≡ b → Drifts (cond b (Constant i.rd (target i at) ∷ []) (original_as (class_of i.kind) i at))
-  by true e = let l : IsLowAs class.Compute i = subst (λ c. IsLowAs (class_of c) i) (auipc_is i.kind e) f.low in (λ z. let x = l.0 in absurd (omega (arith, x, z)), tt)
+  by true e = let l : IsLowAs class.Compute i = subst (λ c. IsLowAs (class_of c) i) (auipc_is i.kind e) f.low in (other_low i.rd l.0, tt)
   by false e = body (body_word i f)
 
 drifts_mirrored : (i : Ins) (at : ℕ) → FitsPiece i → Drifts (mirrored i at)
 drifts_mirrored i at f = by (is_auipc i.kind) where
   body : IsBodyWord i → Drifts (mirror_as (class_of i.kind) i at)
-  body (body_computes k) = rw k ((inl (subst (λ c. drifts_as c (record { kind = i.kind; rd = pair i.rd; rs1 = pair i.rs1; rs2 = pair i.rs2; imm = i.imm }) ≡ true) (sym k) (other (pair i.rd) (pair_not i.rd))), tt))
-  body (body_loads k) = rw k ((inl refl, (inl (subst (λ c. drifts_as c (ins i.kind (pair i.rd) 30 0 i.imm) ≡ true) (sym k) (other (pair i.rd) (pair_not i.rd))), tt)))
+  body (body_computes k) = rw k ((inl (subst (λ c. drifts_as c (record { kind = i.kind; rd = pair i.rd; rs1 = pair i.rs1; rs2 = pair i.rs2; imm = i.imm }) ≡ true) (sym k) (other_pair i.rd)), tt))
+  body (body_loads k) = rw k ((inl refl, (inl (subst (λ c. drifts_as c (ins i.kind (pair i.rd) 30 0 i.imm) ≡ true) (sym k) (other_pair i.rd)), tt)))
   body (body_stores k) = rw k ((inl refl, (inl (subst (λ c. drifts_as c (ins i.kind 0 30 (pair i.rs2) i.imm) ≡ true) (sym k) refl), tt)))
   body (body_fences k) = rw k tt
 
   by : (b : Bool) → Drifts (cond b (Constant (pair i.rd) (target i at) ∷ []) (mirror_as (class_of i.kind) i at))
-  by true = (pair_not i.rd, tt)
+  by true = (other_pair i.rd, tt)
   by false = body (body_word i f)
 
 drifts_parts : (i : Ins) (ps : List Part) → list_all fine_part ps ≡ true → Drifts (part_items i ps)
@@ -169,14 +174,14 @@ drifts_parts i [] e = tt
 drifts_parts i (p ∷ ps) e =
     let x = and_parts _ _ e in
     let y = and_parts _ _ x.0 in
-    (inl (subst (λ c. drifts_as c (ins p.kind (reg_at i p.to) (reg_at i p.left) (reg_at i p.right) p.imm) ≡ true) (sym (operates_class p.kind y.0)) (other (reg_at i p.to) (place_not p.to))), drifts_parts i ps x.1) where
-      place_not : (x : Place) → reg_at i x ≡ 16 → ⊥
-      place_not X0 e = absurd (omega (arith, e))
-      place_not RD e = pair_not i.rd e
-      place_not RS1 e = pair_not i.rs1 e
-      place_not RS2 e = pair_not i.rs2 e
-      place_not X30 e = absurd (omega (arith, e))
-      place_not X31 e = absurd (omega (arith, e))
+    (inl (subst (λ c. drifts_as c (ins p.kind (reg_at i p.to) (reg_at i p.left) (reg_at i p.right) p.imm) ≡ true) (sym (operates_class p.kind y.0)) (other_place p.to)), drifts_parts i ps x.1) where
+      other_place : (x : Place) → is_other (reg_at i x) ≡ true
+      other_place X0 = refl
+      other_place RD = other_pair i.rd
+      other_place RS1 = other_pair i.rs1
+      other_place RS2 = other_pair i.rs2
+      other_place X30 = refl
+      other_place X31 = refl
 
 drifts_mirror : (other : Bool) (i : Ins) (at : ℕ) → FitsPiece i → Drifts (mirror_of other i at)
 drifts_mirror false i at f = drifts_mirrored i at f
@@ -209,6 +214,10 @@ comes_one P u h = record { steps = 1; within = omega arith; is = h }
 
 pub comes_more : (P : State → Type 0) (u : State) (m n : ℕ) → m ≤ n → Comes P u m → Comes P u n
 comes_more P u m n h c = record { steps = c.steps; within = omega (arith, h, c.within); is = c.is }
+
+-- with what holds of each state of the run
+pub comes_with : (P Q : State → Type 0) (u : State) (n : ℕ) → Comes P u n → ((k : ℕ) → Q (run u k)) → Comes (λ y. P y × Q y) u n
+comes_with P Q u n c q = record { steps = c.steps; within = c.within; is = ⊎_elim (λ o. inl o) (λ p. inr (p, q c.steps)) c.is }
 
 pub comes_on : (P Q : State → Type 0) (u : State) (m n : ℕ) → Comes P u m → ((y : State) → P y → Comes Q y n) → Comes Q u (m + n)
 comes_on P Q u m n c f =
@@ -250,8 +259,8 @@ module _ (w : World) where
     does : (k : Class) → class_of i.kind ≡ k → step u ≡ execute k i u
     does k e = step-class u i k a.going known e
 
-    apart : not (i.rd == 16) ≡ true → 16 ≡ i.rd → ⊥
-    apart n e = false≢true (subst (λ r. not (r == 16) ≡ true) (sym e) n)
+    apart : is_other i.rd ≡ true → 16 ≡ i.rd → ⊥
+    apart n e = false≢true (subst (λ r. is_other r ≡ true) (sym e) n)
 
     loads : (b : Bool) (v : ℕ) (c : Cause) → (16 ≡ i.rd → ⊥) → step u ≡ cond b (moved (set_reg i.rd v u.regs) (next_pc u) u) (trapped c u) → IsOver (step u).outcome ⊎ (Astray sign (step u) × ((step u).pc ≡ u.pc + 4))
     loads true v c ne e = inr (goes_to sign u i (set_reg i.rd v u.regs) a h e (slice_index-set_reg_other u.regs i.rd v 16 ne))
@@ -327,18 +336,15 @@ module _ (w : World) where
   abbrev second : ℕ → ℕ → ℕ → Ins
   second p r v = ins Addi r r 0 (lower_part (distance_between p v))
 
-  set_drifts : (r : ℕ) → (r ≡ 16 → ⊥) → not (r == 16) ≡ true
-  set_drifts r ne = ap not (ne_eqb r 16 ne)
+  on_second : (x p : ℕ) (u : State) (r v : ℕ) (xs rest : List Item) → Astray x u → is_other r ≡ true → w.code u.pc ≡ Known (second p r v) → Reads false w.code w.entry (u.pc + 4) (xs ++ rest) → Good xs → Comes (Before x rest) u (1 + count xs)
+  on_second x p u r v xs rest a ne h more good = on_word x u (second p r v) xs rest a (h, more) ne good
 
-  on_second : (x p : ℕ) (u : State) (r v : ℕ) (xs rest : List Item) → Astray x u → (r ≡ 16 → ⊥) → w.code u.pc ≡ Known (second p r v) → Reads false w.code w.entry (u.pc + 4) (xs ++ rest) → Good xs → Comes (Before x rest) u (1 + count xs)
-  on_second x p u r v xs rest a ne h more good = on_word x u (second p r v) xs rest a (h, more) (set_drifts r ne) good
-
-  on_constant : (x : ℕ) (u : State) (r v : ℕ) (xs rest : List Item) → Astray x u → Reads false w.code w.entry u.pc (Constant r v ∷ xs ++ rest) → (r ≡ 16 → ⊥) → Good xs → Comes (Before x rest) u (2 + count xs)
+  on_constant : (x : ℕ) (u : State) (r v : ℕ) (xs rest : List Item) → Astray x u → Reads false w.code w.entry u.pc (Constant r v ∷ xs ++ rest) → is_other r ≡ true → Good xs → Comes (Before x rest) u (2 + count xs)
   on_constant x u r v xs rest a h ne good =
       let i = ins Auipc r 0 0 (upper_part (distance_between u.pc v)) in
       let P : State → Type 0 = λ y. Astray x y × (y.pc ≡ u.pc + 4) in
       comes_more (Before x rest) u (1 + (1 + count xs)) (2 + count xs) (omega arith)
-      (comes_on P (Before x rest) u 1 (1 + count xs) (comes_one P u (word_step x u i a h.0 (set_drifts r ne)))
+      (comes_on P (Before x rest) u 1 (1 + count xs) (comes_one P u (word_step x u i a h.0 ne))
       (λ y b.
       let far : u.pc + 8 ≡ y.pc + 4 = let e = b.1 in omega (arith, e) in
       on_second x u.pc y r v xs rest b.0 ne (ap w.code b.1 ∙ h.1) (subst (λ p. Reads false w.code w.entry p (xs ++ rest)) far h.2) good))

@@ -34,6 +34,77 @@ use Rattle.lean_weave.proofs.Leave.{Went, guard_cost, linking, link_words}
 leaves_target : (a k x y : ℕ) → a % 2 ≡ 0 → k % 2 ≡ 0 → a < 2 ^ 64 → ((((a + k) % 2 ^ 64 + x) % 2 ^ 64 + y) % 2 ^ 64 / 2 * 2 + (2 ^ 64 - a)) % 2 ^ 64 ≡ ((x + y) % 2 ^ 64 / 2 * 2 + k) % 2 ^ 64
 leaves_target a k x y ea ek low = omega (arith, ea, ek, low)
 
+-- ---- the words of the leave, in the block at a, for an offset of the signature and a value of the register
+module _ (i : Ins) (a k value : ℕ) where
+  abbrev pub sum : ℕ
+  sum = (value + imm i) % 2 ^ 64
+
+  -- the signature on the way
+  abbrev v1 : ℕ
+  v1 = ((a + k) % 2 ^ 64 + value) % 2 ^ 64
+
+  abbrev v2 : ℕ
+  v2 = (v1 + imm i) % 2 ^ 64
+
+  abbrev pub signed : ℕ
+  signed = (sum / 2 * 2 + k) % 2 ^ 64
+
+  abbrev pub turn_ops : List Op
+  turn_ops =
+      plain (ins Add 16 16 (pair i.rs1) (pos 0)) v1 ∷ plain (ins Addi 16 16 0 i.imm) v2 ∷ plain (ins Andi 16 16 0 (neg_ℤ (pos 2))) (v2 / 2 * 2) ∷ constant 30 a ∷
+      plain (ins Sub 16 16 30 (pos 0)) signed ∷ []
+
+  pub turn_gives : (u : State) → length u.regs ≡ 32 → reg u 16 ≡ (a + k) % 2 ^ 64 → reg u (pair i.rs1) ≡ value → a < 2 ^ 64 → a % 2 ≡ 0 → k % 2 ≡ 0 → Gives u u.regs turn_ops
+  turn_gives u long sign is low even offset =
+      let l = u.regs in
+      let e1 : List (ℕ × ℕ) = (16, v1) ∷ [] in
+      let e2 : List (ℕ × ℕ) = (16, v1) ∷ (16, v2) ∷ [] in
+      let e4 : List (ℕ × ℕ) = (16, v1) ∷ (16, v2) ∷ (16, v2 / 2 * 2) ∷ (30, a) ∷ [] in (
+        refl,
+        λ e. absurd (cc),
+        λ p. add_result (moved l p u) 16 16 (pair i.rs1) ((a + k) % 2 ^ 64) value v1 sign is refl,
+        (
+          refl,
+          λ e. absurd (cc),
+          λ p. addi_value (moved (writes e1 l) p u) 16 16 v1 v2 i.imm (read_back e1 l 16 long refl) refl,
+          (
+            refl,
+            λ e. absurd (cc),
+            λ p. andi_value (moved (writes e2 l) p u) 16 v2 (read_back e2 l 16 long refl) (omega arith),
+            (
+              low,
+              omega arith,
+              refl,
+              (
+                refl,
+                λ e. absurd (cc),
+                λ p. sub_value (moved (writes e4 l) p u) 16 16 30 (v2 / 2 * 2) a signed (read_back e4 l 16 long refl) (read_back e4 l 30 long refl) (leaves_target a k value (imm i) even offset low),
+                tt,
+              ),
+            ),
+          ),
+        ),
+      )
+
+  -- ---- the target
+  abbrev pub aim_ops : List Op
+  aim_ops = plain (ins Addi 30 i.rs1 0 i.imm) sum ∷ plain (ins Andi 30 30 0 (neg_ℤ (pos 2))) (sum / 2 * 2) ∷ []
+
+  pub aim_gives : (y : State) → length y.regs ≡ 32 → reg y i.rs1 ≡ value → Gives y y.regs aim_ops
+  aim_gives y long at1 =
+      let l = y.regs in
+      let e1 : List (ℕ × ℕ) = (30, sum) ∷ [] in (
+        refl,
+        λ e. absurd (cc),
+        λ p. addi_value (moved l p y) 30 i.rs1 value sum i.imm at1 refl,
+        (
+          refl,
+          λ e. absurd (cc),
+          λ p. andi_value (moved (writes e1 l) p y) 30 sum (read_back e1 l 30 long refl) (omega arith),
+          tt,
+        ),
+      )
+
 module _ (w : World) (leader : ℕ → Bool) (entries : (a : ℕ) → leader a ≡ true → IsEntryOf w a) where
   -- what is asked of a JALR of the input
   pub record Leaping (u s : State) (i : Ins) (a k : ℕ) : Type 0 where
@@ -49,79 +120,9 @@ module _ (w : World) (leader : ℕ → Bool) (entries : (a : ℕ) → leader a �
     pub sign : reg u 16 ≡ (a + k) % 2 ^ 64
 
   module _ (u s : State) (i : Ins) (a k : ℕ) (x : Leaping u s i a k) where
-    -- the register, the sum, and the target
+    -- the register
     abbrev value : ℕ
     value = reg s i.rs1
-
-    abbrev sum : ℕ
-    sum = (value + imm i) % 2 ^ 64
-
-    -- the signature on the way
-    abbrev v1 : ℕ
-    v1 = ((a + k) % 2 ^ 64 + value) % 2 ^ 64
-
-    abbrev v2 : ℕ
-    v2 = (v1 + imm i) % 2 ^ 64
-
-    abbrev signed : ℕ
-    signed = (aim s i + k) % 2 ^ 64
-
-    abbrev turn_ops : List Op
-    turn_ops =
-        plain (ins Add 16 16 (pair i.rs1) (pos 0)) v1 ∷ plain (ins Addi 16 16 0 i.imm) v2 ∷ plain (ins Andi 16 16 0 (neg_ℤ (pos 2))) (v2 / 2 * 2) ∷ constant 30 a ∷
-        plain (ins Sub 16 16 30 (pos 0)) signed ∷ []
-
-    turn_gives : Gives u u.regs turn_ops
-    turn_gives =
-        let l = u.regs in
-        let long = x.at.halved.output.regs in
-        let e1 : List (ℕ × ℕ) = (16, v1) ∷ [] in
-        let e2 : List (ℕ × ℕ) = (16, v1) ∷ (16, v2) ∷ [] in
-        let e4 : List (ℕ × ℕ) = (16, v1) ∷ (16, v2) ∷ (16, v2 / 2 * 2) ∷ (30, a) ∷ [] in (
-          refl,
-          λ e. absurd (cc),
-          λ p. add_result (moved l p u) 16 16 (pair i.rs1) ((a + k) % 2 ^ 64) value v1 x.sign (pair_value w u s s i.rs1 x.at.halved x.first) refl,
-          (
-            refl,
-            λ e. absurd (cc),
-            λ p. addi_value (moved (writes e1 l) p u) 16 16 v1 v2 i.imm (read_back e1 l 16 long refl) refl,
-            (
-              refl,
-              λ e. absurd (cc),
-              λ p. andi_value (moved (writes e2 l) p u) 16 v2 (read_back e2 l 16 long refl) (omega arith),
-              (
-                x.low,
-                omega arith,
-                refl,
-                (
-                  refl,
-                  λ e. absurd (cc),
-                  λ p. sub_value (moved (writes e4 l) p u) 16 16 30 (v2 / 2 * 2) a signed (read_back e4 l 16 long refl) (read_back e4 l 30 long refl) (leaves_target a k value (imm i) x.even x.offset x.low),
-                  tt,
-                ),
-              ),
-            ),
-          ),
-        )
-
-    -- ---- the target
-    abbrev aim_ops : List Op
-    aim_ops = plain (ins Addi 30 i.rs1 0 i.imm) sum ∷ plain (ins Andi 30 30 0 (neg_ℤ (pos 2))) (aim s i) ∷ []
-
-    aim_gives : (y : State) → length y.regs ≡ 32 → reg y i.rs1 ≡ value → Gives y y.regs aim_ops
-    aim_gives y long at1 =
-        let l = y.regs in
-        let e1 : List (ℕ × ℕ) = (30, sum) ∷ [] in (
-          refl,
-          λ e. absurd (cc),
-          λ p. addi_value (moved l p y) 30 i.rs1 value sum i.imm at1 refl,
-          (
-            refl,
-            λ e. absurd (cc),
-            λ p. andi_value (moved (writes e1 l) p y) 30 sum (read_back e1 l 30 long refl) (omega arith),
-            tt,
-          ),
-        )
 
     -- before the look-up
     record Aimed : Type 0 where
@@ -132,7 +133,7 @@ module _ (w : World) (leader : ℕ → Bool) (entries : (a : ℕ) → leader a �
       walk : Walk (Quiet w) u steps to
       at : At w to look_up (step s) (step s)
       target : reg to 30 ≡ aim s i
-      sign : reg to 16 ≡ signed
+      sign : reg to 16 ≡ signed i a k value
       keeps : reg to 15 ≡ reg u 15
 
     -- the words of a return address, with their exact steps
@@ -152,8 +153,11 @@ module _ (w : World) (leader : ℕ → Bool) (entries : (a : ℕ) → leader a �
         let v = next_pc s in
         let tail3 = links i s.pc ++ look_up in
         let tail2 = Plain (ins Addi 30 i.rs1 0 i.imm) ∷ Plain (ins Andi 30 30 0 (neg_ℤ (pos 2))) ∷ tail3 in
-        let s1 = chain w u (guard i.rs1 ++ tail2) x.at.over turn_ops long turn_gives x.at.reads in
-        let w1 = effects turn_ops in
+        let turns = turn_ops i a k value in
+        let aims = aim_ops i a k value in
+        let pairs = pair_value w u s s i.rs1 x.at.halved x.first in
+        let s1 = chain w u (guard i.rs1 ++ tail2) x.at.over turns long (turn_gives i a k value u long x.sign pairs x.low x.even x.offset) x.at.reads in
+        let w1 = effects turns in
         let l1 = writes w1 u.regs in
         let x1 = moved l1 s1.pc u in
         let o1 = over_moved w.code u l1 s1.pc x.at.over in
@@ -162,8 +166,8 @@ module _ (w : World) (leader : ℕ → Bool) (entries : (a : ℕ) → leader a �
         let x2 = moved l1 g.pc u in
         let o2 = over_moved w.code u l1 g.pc x.at.over in
         let h2 = halved_moved w x1 s s g.pc h1 in
-        let s3 = chain w x2 tail3 o2 aim_ops h2.output.regs (aim_gives x2 h2.output.regs (h2.originals i.rs1 x.first)) g.reads in
-        let w3 = effects aim_ops in
+        let s3 = chain w x2 tail3 o2 aims h2.output.regs (aim_gives i a k value x2 h2.output.regs (h2.originals i.rs1 x.first)) g.reads in
+        let w3 = effects aims in
         let l3 = writes w3 l1 in
         let x3 = moved l3 s3.pc u in
         let o3 = over_moved w.code u l3 s3.pc x.at.over in

@@ -109,7 +109,7 @@ module _ (f g : Program) (w : World) (l : Lean) (blocks : List Block) (p : LeanP
   begins = subst (λ b. Reads b w.code w.entry g.entry first) (sym p.sound.near) (reads_front false w.code w.entry g.entry first ((middle ++ last) ++ stub) (whole_words))
 
   -- ---- the words
-  good : AllBlocks blocks
+  pub good : AllBlocks blocks
   good = all_blocks w (weave_of w l leader) leader blocks p.good
 
   rest_items : LockItems false (middle ++ last)
@@ -119,7 +119,7 @@ module _ (f g : Program) (w : World) (l : Lean) (blocks : List Block) (p : LeanP
   body_items = items_then false first (middle ++ last) (begin_items w.distance f.entry) rest_items
 
   -- all words stand before the stub, far below 2^64
-  words_has : HasAt w.code g.entry (instructions_from false w.entry g.entry (first ++ (middle ++ last)) ++ stub_words)
+  pub words_has : HasAt w.code g.entry (instructions_from false w.entry g.entry (first ++ (middle ++ last)) ++ stub_words)
   words_has = subst (HasAt w.code g.entry) (instructions_then false w.entry g.entry (first ++ (middle ++ last)) stub) (reads_words false w.code w.entry g.entry ((first ++ (middle ++ last)) ++ stub) code_words)
 
   near : g.entry + 4 * length (instructions_from false w.entry g.entry (first ++ (middle ++ last))) + 128 < 2 ^ 64
@@ -166,7 +166,7 @@ module _ (f g : Program) (w : World) (l : Lean) (blocks : List Block) (p : LeanP
 
   -- ---- the code is calm
   -- nothing else is code
-  only : (a : ℕ) (i : Ins) → w.code a ≡ Known i → (k : ℕ) × (a ≡ g.entry + 4 * k) × (a ≤ g.entry + 4 * length (instructions_from false w.entry g.entry (first ++ (middle ++ last))))
+  pub only : (a : ℕ) (i : Ins) → w.code a ≡ Known i → (k : ℕ) × (a ≡ g.entry + 4 * k) × (a ≤ g.entry + 4 * length (instructions_from false w.entry g.entry (first ++ (middle ++ last))))
   only =
       subst (λ k. (a : ℕ) (i : Ins) → w.code a ≡ Known i → (n : ℕ) × (a ≡ g.entry + 4 * n) × (a ≤ g.entry + 4 * length (instructions_from false w.entry g.entry k))) (append_assoc first middle last)
       (subst (λ b. (a : ℕ) (i : Ins) → w.code a ≡ Known i → (n : ℕ) × (a ≡ g.entry + 4 * n) × (a ≤ g.entry + 4 * length (instructions_from b w.entry g.entry ((first ++ middle) ++ last)))) p.sound.near p.only.only)

@@ -1,10 +1,10 @@
 -- A jump that goes astray into a block with another signature: the pieces end in the leave, which turns the signature to where it leads, and the test there fires.
-use Rattle.std.proofs.Common.{◌≡◌, ℕ, ◌+◌, ◌-◌, ◌*◌, ◌/◌, ◌%◌, ◌^◌, ◌<◌, ◌≤◌, ◌⊎◌, inl, inr, ⊎_elim, Bool, true, false, cond, List, [], ◌∷◌, ◌++◌, length, refl, sym, ap, ◌∙◌, subst, arith, append_assoc}
-use Rattle.std.specs.Prelude.{◌==◌, pos, slice_index}
-use Rattle.std.proofs.lemmas.Bool.{and_parts, eqb-true, false≢true}
+use Rattle.std.proofs.Common.{◌≡◌, ℕ, zero, suc, ◌+◌, ◌-◌, ◌*◌, ◌/◌, ◌%◌, ◌^◌, ◌<◌, ◌≤◌, ◌⊎◌, inl, inr, ⊎_elim, Bool, true, false, cond, List, [], ◌∷◌, ◌++◌, length, refl, sym, ap, ◌∙◌, subst, arith, append_assoc}
+use Rattle.std.specs.Prelude.{◌==◌, pos, neg_ℤ, slice_index}
+use Rattle.std.proofs.lemmas.Bool.{and_parts, eqb-true, ne_eqb, cases_eq, false≢true}
 use Rattle.std.proofs.lemmas.List.{append-nil}
 use Rattle.rv_isa.specs.declared.ins.Ins.{Ins}
-use Rattle.rv_isa.specs.declared.kind.Kind.TheVariants.{Illegal, Addi, Lui, Add, Beq}
+use Rattle.rv_isa.specs.declared.kind.Kind.TheVariants.{Illegal, Addi, Andi, Lui, Add, Beq}
 use Rattle.rv_isa.specs.declared.class.Class.{Class}
 use Rattle.rv_isa.specs.declared.class.Class.TheVariants as class
 use Rattle.rv_isa.specs.Kind.{class_of}
@@ -21,32 +21,40 @@ use Rattle.qed_model.specs.Promise.Kept.{is_trapped, after_output}
 use Rattle.qed_model.specs.Promise.Landed.{placed_at}
 use Rattle.qed_model.specs.Weave.Blocks.{begins_at}
 use Rattle.qed_model.specs.Weave.Code.{Sequences, pieces_of, body_of}
-use Rattle.qed_model.specs.Weave.Lean.{turn, turn_by, is_short, goes, check_sign, opposite, leave, leave_as, cost}
+use Rattle.qed_model.specs.Weave.Lean.{look_up, turn, turn_by, is_short, goes, check_sign, opposite, leave, leave_as, cost}
 use Rattle.qed_model.specs.Weave.LeanCode.{Lean, worded, fall_to}
 use Rattle.qed_model.specs.Weave.Placed.{distance_between, upper_part, lower_part, sum_of_sizes}
-use Rattle.qed_model.specs.Weave.Sequences.{Reads, End, Falls, Stops, Block, body_length, compare, guards_of, links, before_end, fired_check}
+use Rattle.qed_model.specs.Weave.Sequences.{Reads, End, Falls, Stops, Block, body_length, compare, guard, guards_of, links, before_end, fired_check}
 use Rattle.qed_model.proofs.Steps.{step-class}
-use Rattle.qed_model.proofs.Walk.{known_at}
+use Rattle.qed_model.proofs.Walk.{Over as CodeOver, over_moved, known_at, run-more}
+use Rattle.qed_model.proofs.Walked.{walk_on}
 use Rattle.qed_model.proofs.Wrapped.{difference}
-use Rattle.weave_core.specs.World.{World}
+use Rattle.weave_core.specs.World.{World, Quiet}
 use Rattle.weave_core.specs.Blocks.{IsEntryOf, EndStands, Leaves}
 use Rattle.weave_core.specs.Kinds.{thirteen}
 use Rattle.weave_core.specs.Weave.{Weave}
 use Rattle.weave_core.specs.WeaveLaws.{PiecesAt}
 use Rattle.weave_core.proofs.Landings.{standing_at}
-use Rattle.weave_core.proofs.Leaves.{go_walk, go_most, jumped_to}
+use Rattle.weave_core.proofs.Indirect.{linked, linked_out, links_sets, look_walk, looked_keeps}
+use Rattle.weave_core.proofs.Leaves.{go_walk, go_most, jumped_to, branch_passed, step-break}
 use Rattle.weave_core.proofs.Rows.{pc_four, flagged_moved}
+use Rattle.weave_core.proofs.Sets.{Sets, writes, writes_out, writes_long}
 use Rattle.weave_core.proofs.Standing.{standing_step, standing_run}
+use Rattle.weave_core.proofs.Trace.{one_run}
 use Rattle.lean_weave.specs.Woven.{LeanPlan, LeanStrayed, weave_of}
+use Rattle.lean_weave.proofs.Blocks.{begins}
+use Rattle.lean_weave.proofs.Chain.{Op, items, effects, read_back, chain}
 use Rattle.lean_weave.proofs.Landed.{in_it, behind, tests}
-use Rattle.lean_weave.proofs.Leave.{far_enough, beyond_goes}
-use Rattle.lean_weave.proofs.Plan.{pieces_same}
+use Rattle.lean_weave.proofs.Leap.{sum, signed, turn_ops, turn_gives, aim_ops, aim_gives}
+use Rattle.lean_weave.proofs.Leave.{far_enough, beyond_goes, guard_cost}
+use Rattle.lean_weave.proofs.Plan.{BlockAt, pieces_same}
 use Rattle.lean_weave.proofs.Promise.{block_at}
-use Rattle.lean_weave.proofs.Sign.{rest_of, fires}
+use Rattle.lean_weave.proofs.Rooted.{Rooted, tabled_of, rooted_run, rooted_at, small_at}
+use Rattle.lean_weave.proofs.Sign.{apart, rest_of, fires}
 use Rattle.lean_weave.proofs.Turn.{turn_any, turned}
 use Rattle.lean_weave.proofs.Ways.{opposite_is, reads_behind}
-use Rattle.lean_weave.specs.Strayed.{IsInside, is_jump_reg, leaps, IsOver, Stopped, Strayed}
-use Rattle.lean_weave.proofs.Drift.{Drifts, count, drifts_append, size_count, drifts_guards, drifts_guards_of, drifts_links, drifts_piece, Comes, comes_none, comes_one, comes_more, comes_on, Astray, Before, over_of, drift, drift_from}
+use Rattle.lean_weave.specs.Strayed.{IsInside, is_jump_reg, by_register, IsLost, Lost, steps_in, Stopped, Strayed}
+use Rattle.lean_weave.proofs.Drift.{Drifts, count, drifts_append, size_count, drifts_guards, drifts_guards_of, drifts_links, drifts_piece, Comes, comes_none, comes_one, comes_more, comes_with, comes_on, Astray, Before, over_of, drift, drift_from}
 
 -- ---- the signature
 -- turned from one address to another, it is as far from it
@@ -56,6 +64,10 @@ turned_rest a t x z ha ht e = omega (arith, ha, ht, e)
 -- other last 32 bits
 other_rest : (a x : ℕ) → a < 2 ^ 64 → (x % 2 ^ 32 ≡ a % 2 ^ 32 → ⊥) → rest_of a x ≡ 0 → ⊥
 other_rest a x h ne e = ne (omega (arith, h, e))
+
+-- as far from an address as an offset
+same_offset : (t k : ℕ) → t < 2 ^ 64 → k < 2 ^ 64 → rest_of t ((t + k) % 2 ^ 64) ≡ k * 2 ^ 32 % 2 ^ 64
+same_offset t k ht hk = omega (arith, ht, hk)
 
 turn_cost : (a t : ℕ) → cost (turn a t) ≤ 3
 turn_cost a t = by (a == t) (is_short (distance_between a t)) where
@@ -254,9 +266,187 @@ module _ (f g : Program) (w : World) (l : Lean) (blocks : List Block) (p : LeanP
     stop_law class.JumpReg u i at c stays h k r = absurd (false≢true (sym stays))
     stop_law c u i at e stays h k r = absurd h
 
-    leave_law : (e : End) (u : State) (at : ℕ) → EndStands w leader e at → leaps e ≡ false → Astray w x u → Reads false w.code w.entry u.pc (leave (before_end w.form) (fall_to leader) e a at) → Over u 32
+    leave_law : (e : End) (u : State) (at : ℕ) → EndStands w leader e at → by_register e ≡ false → Astray w x u → Reads false w.code w.entry u.pc (leave (before_end w.form) (fall_to leader) e a at) → Over u 32
     leave_law Falls u at h stays k r = over_more u 10 32 (omega arith) (falls_law a at x u low k r ne)
     leave_law (Stops i) u at h stays k r = stop_law (class_of i.kind) u i at refl stays h.1 k r
+
+  -- ---- a JALR
+  lifts : (u : State) (n : ℕ) → Over u n → Comes (IsLost blocks) u n
+  lifts u n c = record { steps = c.steps; within = c.within; is = ⊎_elim (λ o. inl o) (λ z. absurd z) c.is }
+
+  -- the look-up leads to an entry, which is another one, or has none
+  looks_law : (t x : ℕ) (y : State) → Astray w x y → Rooted w y → Reads false w.code w.entry y.pc look_up → reg y 30 ≡ t → (rest_of t x ≡ 0 → ⊥) → Comes (IsLost blocks) y 11
+  looks_law t x y a r h at ne = by (leader t) refl where
+    there : leader t ≡ true → Comes (λ s. Astray w x s × (s.pc ≡ w.entry t)) y 5
+    there lead =
+        let k = in_it f g w l blocks p land in
+        let o = over_of w x y a in
+        let walk = look_walk w y t (p.sound.table t lead) o (tabled_of w y r) at (k.rows.known t (k.entries t lead)) (to_far y.pc look_up h) in
+        let keeps = looked_keeps w y t (p.sound.table t lead) o (tabled_of w y r) in
+        let ends = walk.ends in
+        record {
+          steps = 5;
+          within = omega arith;
+          is = inr (record { going = ap (λ s. s.outcome) ends ∙ a.going; standing = standing_run w.code w.output w.output_fixed 5 y a.standing; sign = ap (λ s. reg s 16) ends ∙ keeps.0 ∙ a.sign }, ap (λ s. s.pc) ends);
+        }
+
+    by : (b : Bool) → leader t ≡ b → Comes (IsLost blocks) y 11
+    by true l = comes_on (λ s. Astray w x s × (s.pc ≡ w.entry t)) (IsLost blocks) y 5 6 (there l) (λ s b. lifts s 6 (at_leader t x s l b.0 b.1 ne))
+    by false l =
+        let c = a.standing.code in
+        comes_none (IsLost blocks) y 11 (record {
+          looks = (c y.pc ∙ h.0, (c (y.pc + 4) ∙ h.1.0, (c (y.pc + 4 + 4) ∙ h.1.1.0, (c (y.pc + 4 + 4 + 4) ∙ h.1.1.1.0, (c (y.pc + 4 + 4 + 4 + 4) ∙ h.1.1.1.1.0, tt)))));
+          nowhere = ap (λ z. begins_at blocks z) at ∙ l;
+        })
+
+  -- a guard of two numbers fires
+  guard_fires : (u : State) (q x : ℕ) (rest : List Item) → Astray w x u → Reads false w.code w.entry u.pc (guard (suc q) ++ rest) → (reg u (suc q) ≡ reg u (suc q + 16) → ⊥) → Over u 2
+  unfolding holds
+  guard_fires u q x rest a r ne =
+      let i = ins Beq 0 (suc q) (suc q + 16) (pos 8) in
+      let some : (suc q == 0) ≡ false = ne_eqb (suc q) 0 (λ e. absurd (omega arith)) in
+      let k : Reads false w.code w.entry u.pc (Plain (ins Beq 0 (suc q) (suc q + 16) (pos 8)) ∷ fired_check ∷ rest) = subst (λ b. Reads false w.code w.entry u.pc (cond b [] (Plain (ins Beq 0 (suc q) (suc q + 16) (pos 8)) ∷ fired_check ∷ []) ++ rest)) some r in
+      let o = over_of w x u a in
+      let b = branch_passed w u i o k.0 refl (ne_eqb (reg u (suc q)) (reg u (suc q + 16)) ne) in
+      let y = moved u.regs (u.pc + 4) u in
+      let two : run u 2 ≡ step y = run-more u 1 1 ∙ ap (λ z. run z 1) b.ends ∙ one_run y in
+      record { steps = 2; within = omega arith; is = inl (inl (ap (λ s. s.outcome) two ∙ step-break y o.going (o.code (u.pc + 4) ∙ k.1.0))) }
+
+  module _ (a x : ℕ) (low : a < 2 ^ 64) (ne : rest_of a x ≡ 0 → ⊥) (even_a : a % 2 ≡ 0) (small : x < 2 ^ 64) (even_x : x % 2 ≡ 0) (i : Ins) (at : ℕ) (hd : i.rd ≤ 13) (h1 : i.rs1 ≤ 13) where
+    abbrev k : ℕ
+    k = apart a x
+
+    is_sum : x ≡ (a + k) % 2 ^ 64
+    is_sum = omega (arith, low, small)
+
+    even_k : k % 2 ≡ 0
+    even_k = omega (arith, low, even_a, even_x)
+
+    abbrev tail3 : List Item
+    tail3 = links i at ++ look_up
+
+    abbrev tail2 : List Item
+    tail2 = Plain (ins Addi 30 i.rs1 0 i.imm) ∷ Plain (ins Andi 30 30 0 (neg_ℤ (pos 2))) ∷ tail3
+
+    abbrev back : ℕ
+    back = (at + 4) % 2 ^ 64
+
+    module _ (u : State) (b : Astray w x u) (r : Rooted w u) (h : Reads false w.code w.entry u.pc (leave_as (before_end w.form) (fall_to leader) class.JumpReg i a at)) where
+      abbrev value : ℕ
+      value = reg u (pair i.rs1)
+
+      abbrev turns : List Op
+      turns = turn_ops i a k value
+
+      abbrev aims : List Op
+      aims = aim_ops i a k value
+
+      abbrev goal : ℕ
+      goal = sum i a k value / 2 * 2
+
+      abbrev o : CodeOver w.code u
+      o = over_of w x u b
+
+      long : length u.regs ≡ 32
+      long = b.standing.flagged.regs
+
+      first : Sets w u 6 (guard i.rs1 ++ tail2) (writes (effects turns) u.regs)
+      first = chain w u (guard i.rs1 ++ tail2) o turns long (turn_gives i a k value u long (b.sign ∙ is_sum) refl low even_a even_k) (to_far u.pc (items turns ++ (guard i.rs1 ++ tail2)) h)
+
+      abbrev l1 : List ℕ
+      l1 = writes (effects turns) u.regs
+
+      abbrev x1 : State
+      x1 = moved l1 first.pc u
+
+      -- other registers are as they were
+      same_at : (q : ℕ) → (q ≡ 16 → ⊥) → (q ≡ 30 → ⊥) → slice_index l1 q ≡ reg u q
+      same_at q e f = writes_out (effects turns) u.regs q (e, (e, (e, (f, (e, tt)))))
+
+      o1 : CodeOver w.code x1
+      o1 = over_moved w.code u l1 first.pc o
+
+      -- the guard passes: the look-up is next
+      onward : reg x1 i.rs1 ≡ value → (1 ≤ i.rs1 → reg x1 i.rs1 ≡ reg x1 (i.rs1 + 16)) → Comes (λ y. Before w (signed i a k value) look_up y × (reg y 30 ≡ goal) × Rooted w y) u 14
+      onward is same =
+          let pass = guard_cost w x1 i.rs1 tail2 o1 first.reads same in
+          let x2 = moved l1 pass.pc u in
+          let long1 : length l1 ≡ 32 = writes_long (effects turns) u.regs ∙ long in
+          let o2 = over_moved w.code u l1 pass.pc o in
+          let s3 = chain w x2 tail3 o2 aims long1 (aim_gives i a k value x2 long1 is) pass.reads in
+          let l3 = writes (effects aims) l1 in
+          let x3 = moved l3 s3.pc u in
+          let o3 = over_moved w.code u l3 s3.pc o in
+          let long3 : length l3 ≡ 32 = writes_long (effects aims) l1 ∙ long1 in
+          let l4 = links_sets w i.rd back x3 look_up o3 s3.reads (omega arith) hd long3 in
+          let z = moved (linked i.rd back l3) l4.sets.pc u in
+          let walk = walk_on (Quiet w) u x1 z 6 (pass.steps + (2 + l4.steps)) first.walk (walk_on (Quiet w) x1 x2 z pass.steps (2 + l4.steps) pass.walk (walk_on (Quiet w) x2 x3 z 2 l4.steps s3.walk l4.sets.walk)) in
+          let n = 6 + (pass.steps + (2 + l4.steps)) in
+          let ends = walk.ends in
+          let few = guard_few i.rs1 in
+          record {
+            steps = 6 + (pass.steps + (2 + l4.steps));
+            within = omega (arith, pass.within, l4.within, few);
+            is = inr (
+              (
+                record { going = ap (λ s. s.outcome) ends ∙ b.going; standing = standing_run w.code w.output w.output_fixed n u b.standing; sign = ap (λ s. reg s 16) ends ∙ linked_out i.rd back 16 l3 hd (omega arith) (inl (omega arith)) ∙ read_back (effects aims) l1 16 long1 refl ∙ read_back (effects turns) u.regs 16 long refl },
+                subst (λ q. Reads false w.code w.entry q look_up) (sym (ap (λ s. s.pc) ends)) (to_near l4.sets.pc look_up l4.sets.reads),
+              ),
+              ap (λ s. reg s 30) ends ∙ linked_out i.rd back 30 l3 hd (omega arith) (inr (omega arith)) ∙ read_back (effects aims) l1 30 long1 refl,
+              rooted_run f g w l blocks p n u r,
+            );
+          } where
+            guard_few : (q : ℕ) → cost (guard q) ≤ 1
+            guard_few q = by (q == 0) where
+              by : (b : Bool) → cost (cond b [] (Plain (ins Beq 0 q (q + 16) (pos 8)) ∷ fired_check ∷ [])) ≤ 1
+              by true = omega arith
+              by false = omega arith
+
+      leap_on : reg x1 i.rs1 ≡ value → (1 ≤ i.rs1 → reg x1 i.rs1 ≡ reg x1 (i.rs1 + 16)) → Comes (IsLost blocks) u 25
+      leap_on is same =
+          let t = goal in
+          let z = signed i a k value in
+          let far : rest_of (sum i a k value / 2 * 2) (signed i a k value) ≡ rest_of a x = same_offset (sum i a k value / 2 * 2) (apart a x) (omega arith) (omega arith) in
+          comes_on (λ y. Before w (signed i a k value) look_up y × (reg y 30 ≡ goal) × Rooted w y) (IsLost blocks) u 14 11 (onward is same) (λ y c. looks_law t z y c.0.0 c.2 c.0.1 c.1 (λ e. ne (sym far ∙ e)))
+
+      -- a guard of x0 has no words
+      leap_law : Comes (IsLost blocks) u 32
+      leap_law = by i.rs1 refl where
+        by : (q : ℕ) → i.rs1 ≡ q → Comes (IsLost blocks) u 32
+        by zero e =
+            let is : reg x1 i.rs1 ≡ value = same_at i.rs1 (λ z. absurd (omega (arith, h1, z))) (λ z. absurd (omega (arith, h1, z))) ∙ ap (reg u) (e ∙ ap pair (sym e)) in
+            comes_more (IsLost blocks) u 25 32 (omega arith) (leap_on is (λ one. absurd (omega (arith, one, e))))
+        by (suc q) e =
+            let pairs : pair i.rs1 ≡ i.rs1 + 16 = ap pair e ∙ ap (λ z. z + 16) (sym e) in
+            let high : reg x1 (i.rs1 + 16) ≡ value = same_at (i.rs1 + 16) (λ z. absurd (omega (arith, z, e))) (λ z. absurd (omega (arith, h1, z))) ∙ ap (reg u) (sym pairs) in
+            ⊎_elim
+            (λ same. comes_more (IsLost blocks) u 25 32 (omega arith) (leap_on (same ∙ high) (λ one. same)))
+            (λ other.
+            let ends = first.walk.ends in
+            let y = run u 6 in
+            let there : Astray w (reg (run u 6) 16) (run u 6) = record { going = ap (λ s. s.outcome) ends ∙ b.going; standing = standing_run w.code w.output w.output_fixed 6 u b.standing; sign = refl } in
+            let reads : Reads false w.code w.entry (run u 6).pc (guard (suc q) ++ tail2) = subst (λ z. Reads false w.code w.entry z (guard (suc q) ++ tail2)) (sym (ap (λ s. s.pc) ends)) (subst (λ z. Reads false w.code w.entry first.pc (guard z ++ tail2)) e (to_near first.pc (guard i.rs1 ++ tail2) first.reads)) in
+            let differ : reg (run u 6) (suc q) ≡ reg (run u 6) (suc q + 16) → ⊥ = λ z. other (ap (reg x1) e ∙ sym (ap (λ s. reg s (suc q)) ends) ∙ z ∙ ap (λ s. reg s (suc q + 16)) ends ∙ ap (λ n. reg x1 (n + 16)) (sym e)) in
+            comes_more (IsLost blocks) u 8 32 (omega arith)
+            (lifts u 8 (over_on (λ s. s ≡ run u 6) u 6 2 (record { steps = 6; within = omega arith; is = inr refl }) (λ s z. subst (λ n. Over n 2) (sym z) (guard_fires (run u 6) q (reg (run u 6) 16) tail2 there reads differ)))))
+            (cases_eq (reg x1 i.rs1) (reg x1 (i.rs1 + 16)))
+
+  -- of an end that goes on by a register
+  leap_end :
+      (c : Class) (i : Ins) (a x at : ℕ) → class_of i.kind ≡ c → is_jump_reg c ≡ true → Leaves c w leader i at → a < 2 ^ 64 → (rest_of a x ≡ 0 → ⊥) → a % 2 ≡ 0 → x < 2 ^ 64 → x % 2 ≡ 0
+      → (u : State) → Astray w x u → Rooted w u → Reads false w.code w.entry u.pc (leave_as (before_end w.form) (fall_to leader) c i a at) → Comes (IsLost blocks) u 32
+  leap_end class.JumpReg i a x at c jumps h low ne even small even_x u b r reads = leap_law a x low ne even small even_x i at h.0 h.1 u b r reads
+  leap_end class.End i a x at c jumps h low ne even small even_x u b r reads = absurd (false≢true jumps)
+  leap_end class.Illegal i a x at c jumps h low ne even small even_x u b r reads = absurd (false≢true jumps)
+  leap_end class.Jump i a x at c jumps h low ne even small even_x u b r reads = absurd (false≢true jumps)
+  leap_end class.Branch i a x at c jumps h low ne even small even_x u b r reads = absurd (false≢true jumps)
+  leap_end c i a x at e jumps h low ne even small even_x u b r reads = absurd h
+
+  leave_leap :
+      (e : End) (a x at : ℕ) → by_register e ≡ true → EndStands w leader e at → a < 2 ^ 64 → (rest_of a x ≡ 0 → ⊥) → a % 2 ≡ 0 → x < 2 ^ 64 → x % 2 ≡ 0
+      → (u : State) → Astray w x u → Rooted w u → Reads false w.code w.entry u.pc (leave (before_end w.form) (fall_to leader) e a at) → Comes (IsLost blocks) u 32
+  leave_leap Falls a x at jumps h low ne even small even_x u b r reads = absurd (false≢true jumps)
+  leave_leap (Stops i) a x at jumps h low ne even small even_x u b r reads = leap_end (class_of i.kind) i a x at refl jumps h.1 low ne even small even_x u b r reads
 
   -- ---- the pieces
   drifts_pieces : (ps : List (List Ins)) (e : End) (at : ℕ) → PiecesAt w v leader ps e at → Drifts (pieces_of v.code ps at)
@@ -267,28 +457,67 @@ module _ (f g : Program) (w : World) (l : Lean) (blocks : List Block) (p : LeanP
   end_stands [] e at h = let z : at ≡ at + 4 * 0 = omega arith in subst (EndStands w leader e) z h
   end_stands (q ∷ qs) e at h = let z : at + 4 * length q + 4 * body_length qs ≡ at + 4 * body_length (q ∷ qs) = omega arith in subst (EndStands w leader e) z (end_stands qs e (at + 4 * length q) h.1)
 
-  pub strayed : Strayed g (worded w.form w.base w.entry l leader) w.entry blocks
-  strayed = record {
-    stops = λ regs t q b are going m stays inside other.
-        let u = after_output g regs t in
+  -- ---- inside of a block
+  -- from a word of its pieces to before its leave
+  module _ (regs : List ℕ) (t q : ℕ) (b : Block) (are : AreStartRegs regs) (going : (after_output g regs t).outcome ≡ Going) (m : Among b blocks) (inside : IsInside (worded w.form w.base w.entry l leader) w.entry b q) where
+    abbrev x : ℕ
+    x = reg (after_output g regs t) 16
+
+    abbrev y : State
+    y = placed_at q (after_output g regs t)
+
+    abbrev at : ℕ
+    at = b.start + 4 * body_length b.body
+
+    here : BlockAt w l leader b
+    here = block_at f g w l blocks p b m
+
+    abbrev leaves : List Item
+    leaves = leave (before_end w.form) (fall_to leader) b.end b.start at
+
+    -- as many steps as there are words
+    words : count (pieces_of v.code b.body b.start) ≡ sum_of_sizes false (pieces_of (worded w.form w.base w.entry l leader) b.body b.start) / 4
+    words = let same = ap (sum_of_sizes false) (pieces_same w l leader b.body b.start) in let size = size_count (pieces_of v.code b.body b.start) in omega (arith, same, size)
+
+    to_leave : Comes (Before w x leaves) y (count (pieces_of v.code b.body b.start))
+    to_leave =
         let st = standing_at f g w v leader (in_it f g w l blocks p land) regs are t in
-        let here = block_at f g w l blocks p b m in
-        let at = b.start + 4 * body_length b.body in
         let ps = pieces_of v.code b.body b.start in
         let own = eqb-true (l.start_of b.end at) b.start (and_parts _ _ here.good.own).0 in
-        let leaves = leave (before_end w.form) (fall_to leader) b.end b.start at in
         let enters = sum_of_sizes false (v.code.enter b.start) in
         let body = reads_behind false w.code w.entry (w.entry b.start) (v.code.enter b.start) (ps ++ v.code.leave b.end at) here.reads.1 in
         let reads : Reads false w.code w.entry (w.entry b.start + enters) (ps ++ leaves) = subst (λ k. Reads false w.code w.entry (w.entry b.start + sum_of_sizes false (v.code.enter b.start)) (pieces_of v.code b.body b.start ++ leave (before_end w.form) (fall_to leader) b.end k (b.start + 4 * body_length b.body))) own body in
         let same = ap (sum_of_sizes false) (pieces_same w l leader b.body b.start) in
         let size = size_count ps in
-        let x = reg u 16 in
-        let y = placed_at q u in
-        let astray : Astray w (reg (after_output g regs t) 16) (placed_at q (after_output g regs t)) = record { going = going; standing = record { code = st.code; flagged = flagged_moved w.output u q st.flagged }; sign = refl } in
-        let ne = other_rest b.start x here.good.low other in
-        let c = over_on (Before w x leaves) y (count ps) 32 (drift_from w ps (drifts_pieces b.body b.end b.start here.good.pieces) inside.words (w.entry b.start + enters) x y leaves (omega (arith, inside.within, same, size)) astray inside.there reads)
-        (λ z k. leave_law b.start x here.good.low ne b.end z at (end_stands b.body b.end b.start here.good.pieces) stays k.0 k.1) in
-        record { steps = c.steps; within = omega (arith, c.within, same, size); over = ⊎_elim (λ o. o) (λ n. absurd n) c.is };
+        let astray : Astray w (reg (after_output g regs t) 16) (placed_at q (after_output g regs t)) = record { going = going; standing = record { code = st.code; flagged = flagged_moved w.output (after_output g regs t) q st.flagged }; sign = refl } in
+        drift_from w ps (drifts_pieces b.body b.end b.start here.good.pieces) inside.words (w.entry b.start + enters) x y leaves (omega (arith, inside.within, same, size)) astray inside.there reads
+
+    ends : EndStands w leader b.end at
+    ends = end_stands b.body b.end b.start here.good.pieces
+
+    abbrev n : ℕ
+    n = count (pieces_of v.code b.body b.start)
+
+    stopped : by_register b.end ≡ false → (x % 2 ^ 32 ≡ b.start % 2 ^ 32 → ⊥) → Stopped (steps_in (worded w.form w.base w.entry l leader) b) y
+    stopped stays other =
+        let c = over_on (Before w x leaves) y n 32 to_leave (λ z k. leave_law b.start x here.good.low (other_rest b.start x here.good.low other) b.end z at ends stays k.0 k.1) in
+        record { steps = c.steps; within = omega (arith, c.within, words); over = ⊎_elim (λ o. o) (λ z. absurd z) c.is }
+
+    led : 31 ≤ t → by_register b.end ≡ true → x % 2 ≡ 0 → (x % 2 ^ 32 ≡ b.start % 2 ^ 32 → ⊥) → Stopped (steps_in (worded w.form w.base w.entry l leader) b) y ⊎ Lost blocks (steps_in (worded w.form w.base w.entry l leader) b) y
+    led late jumps even other =
+        let r = rooted_at f g w l blocks p regs are t late in
+        let root : Rooted w (placed_at q (after_output g regs t)) = record { standing = record { code = r.standing.code; flagged = flagged_moved w.output (after_output g regs t) q r.standing.flagged }; distance = r.distance; fixed = r.fixed } in
+        let grain = p.sound.grain b.start (begins blocks b m) in
+        let small = small_at f g w (p.world) regs are t 16 in
+        let c = comes_on (λ z. Before w x leaves z × Rooted w z) (IsLost blocks) y n 32 (comes_with (Before w x leaves) (Rooted w) y n to_leave (λ k. rooted_run f g w l blocks p k y root))
+        (λ z k. leave_leap b.end b.start x at jumps ends here.good.low (other_rest b.start x here.good.low other) grain small even z k.0.0 k.1 k.0.1) in
+        let within : c.steps ≤ steps_in (worded w.form w.base w.entry l leader) b = omega (arith, c.within, words) in
+        ⊎_elim (λ o. inl (record { steps = c.steps; within = within; over = o })) (λ z. inr (record { steps = c.steps; within = within; lost = z })) c.is
+
+  pub strayed : Strayed g (worded w.form w.base w.entry l leader) w.entry blocks
+  strayed = record {
+    stops = λ regs t q b are going m stays inside other. stopped regs t q b are going m inside stays other;
+    leads = λ regs t q b are late going m jumps inside even other. led regs t q b are going m inside late jumps even other;
   }
 
 pub lean_strayed : LeanStrayed

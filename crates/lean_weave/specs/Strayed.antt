@@ -7,12 +7,14 @@ use Rattle.qed_model.specs.Members.{Among}
 use Rattle.qed_model.specs.declared.machine.Outcome.{Outcome}
 use Rattle.qed_model.specs.declared.machine.Outcome.TheVariants.{Going, Fired}
 use Rattle.qed_model.specs.Machine.Program.{Program, AreStartRegs}
-use Rattle.qed_model.specs.Machine.Step.{State, reg, run}
+use Rattle.qed_model.specs.Machine.Step.{State, reg, fetched_at, run}
 use Rattle.qed_model.specs.Promise.Kept.{is_trapped, after_output}
 use Rattle.qed_model.specs.Promise.Landed.{placed_at}
+use Rattle.qed_model.specs.Weave.Blocks.{begins_at}
 use Rattle.qed_model.specs.Weave.Code.{Sequences, pieces_of}
+use Rattle.qed_model.specs.Weave.Lean.{look_up}
 use Rattle.qed_model.specs.Weave.Placed.{sum_of_sizes}
-use Rattle.qed_model.specs.Weave.Sequences.{End, Falls, Stops, Block}
+use Rattle.qed_model.specs.Weave.Sequences.{Reads, End, Falls, Stops, Block}
 
 -- ---- where a jump leads
 -- a word of the pieces of a block, or the first one behind them
@@ -26,9 +28,9 @@ is_jump_reg class.JumpReg = true
 is_jump_reg _ = false
 
 -- a block that goes on where a register leads
-abbrev pub leaps : End → Bool
-leaps Falls = false
-leaps (Stops i) = is_jump_reg (class_of i.kind)
+abbrev pub by_register : End → Bool
+by_register Falls = false
+by_register (Stops i) = is_jump_reg (class_of i.kind)
 
 -- ---- what follows
 abbrev pub IsOver : Outcome → Type 0
@@ -40,9 +42,29 @@ pub record Stopped (most : ℕ) (s : State) : Type 0 where
   pub within : steps ≤ most
   pub over : IsOver (run s steps).outcome
 
--- for any registers of the output's start: from any state of the run, the same state inside of a block that goes on by no register, where the last
--- 32 bits of the signature are not those of the block's address, is over within as many steps as the pieces of the block have words, and 32
+-- an address is looked up next that has no entry
+pub record IsLost (blocks : List Block) (s : State) : Type 0 where
+  pub looks : Reads false (fetched_at s.memory s.ranges) (λ a. 0) s.pc look_up
+  pub nowhere : begins_at blocks (reg s 30) ≡ false
+
+-- within so many steps one is
+pub record Lost (blocks : List Block) (most : ℕ) (s : State) : Type 0 where
+  pub steps : ℕ
+  pub within : steps ≤ most
+  pub lost : IsLost blocks (run s steps)
+
+-- as many steps as the pieces of a block have words, and 32
+abbrev pub steps_in : Sequences → Block → ℕ
+steps_in s b = sum_of_sizes false (pieces_of s b.body b.start) / 4 + 32
+
+-- for any registers of the output's start: from any state of the run, the same state inside of a block, where the last 32 bits of the signature are
+-- not those of the block's address, is over within so many steps; inside of a block that goes on where a register leads this holds behind what runs
+-- first and of an even signature, or an address is looked up that has no entry
 pub record Strayed (g : Program) (s : Sequences) (entry : ℕ → ℕ) (blocks : List Block) : Type 0 where
   pub stops :
-      (regs : List ℕ) (t q : ℕ) (b : Block) → AreStartRegs regs → (after_output g regs t).outcome ≡ Going → Among b blocks → leaps b.end ≡ false → IsInside s entry b q
-      → (reg (after_output g regs t) 16 % 2 ^ 32 ≡ b.start % 2 ^ 32 → ⊥) → Stopped (sum_of_sizes false (pieces_of s b.body b.start) / 4 + 32) (placed_at q (after_output g regs t))
+      (regs : List ℕ) (t q : ℕ) (b : Block) → AreStartRegs regs → (after_output g regs t).outcome ≡ Going → Among b blocks → by_register b.end ≡ false → IsInside s entry b q
+      → (reg (after_output g regs t) 16 % 2 ^ 32 ≡ b.start % 2 ^ 32 → ⊥) → Stopped (steps_in s b) (placed_at q (after_output g regs t))
+  pub leads :
+      (regs : List ℕ) (t q : ℕ) (b : Block) → AreStartRegs regs → 31 ≤ t → (after_output g regs t).outcome ≡ Going → Among b blocks → by_register b.end ≡ true → IsInside s entry b q
+      → reg (after_output g regs t) 16 % 2 ≡ 0 → (reg (after_output g regs t) 16 % 2 ^ 32 ≡ b.start % 2 ^ 32 → ⊥)
+      → Stopped (steps_in s b) (placed_at q (after_output g regs t)) ⊎ Lost blocks (steps_in s b) (placed_at q (after_output g regs t))
