@@ -1,5 +1,6 @@
 -- What the lean form promises of a jump that goes astray: where the code of a block runs under the signature of another one, the run is over soon.
 use Rattle.std.specs.Prelude.{◌≡◌, ℕ, ◌+◌, ◌*◌, ◌/◌, ◌%◌, ◌^◌, ◌≤◌, ◌⊎◌, Bool, true, false, List}
+use Rattle.elf_types.specs.declared.file.ElfFile.{ElfFile}
 use Rattle.rv_isa.specs.declared.class.Class.{Class}
 use Rattle.rv_isa.specs.declared.class.Class.TheVariants as class
 use Rattle.rv_isa.specs.Kind.{class_of}
@@ -8,12 +9,17 @@ use Rattle.qed_model.specs.declared.machine.Outcome.{Outcome}
 use Rattle.qed_model.specs.declared.machine.Outcome.TheVariants.{Going, Fired}
 use Rattle.qed_model.specs.Machine.Program.{Program, AreStartRegs}
 use Rattle.qed_model.specs.Machine.Step.{State, reg, fetched_at, run}
+use Rattle.qed_model.specs.declared.options.Options.{Options}
 use Rattle.qed_model.specs.Promise.Kept.{is_trapped, after_output}
 use Rattle.qed_model.specs.Promise.Landed.{placed_at}
 use Rattle.qed_model.specs.Weave.Blocks.{begins_at}
 use Rattle.qed_model.specs.Weave.Code.{Sequences, pieces_of}
+use Rattle.qed_model.specs.Weave.Forms.{form_of}
 use Rattle.qed_model.specs.Weave.Lean.{look_up}
-use Rattle.qed_model.specs.Weave.Placed.{sum_of_sizes}
+use Rattle.qed_model.specs.Weave.LeanCode.{lean_items, lean_of, worded}
+use Rattle.qed_model.specs.Weave.OutputParts.{base_of}
+use Rattle.qed_model.specs.Weave.Placed.{sum_of_sizes, entry_of}
+use Rattle.qed_model.specs.Weave.Places.{image_of, code_place}
 use Rattle.qed_model.specs.Weave.Sequences.{Reads, End, Falls, Stops, Block}
 
 -- ---- where a jump leads
@@ -68,3 +74,11 @@ pub record Strayed (g : Program) (s : Sequences) (entry : ℕ → ℕ) (blocks :
       (regs : List ℕ) (t q : ℕ) (b : Block) → AreStartRegs regs → 31 ≤ t → (after_output g regs t).outcome ≡ Going → Among b blocks → by_register b.end ≡ true → IsInside s entry b q
       → reg (after_output g regs t) 16 % 2 ≡ 0 → (reg (after_output g regs t) 16 % 2 ^ 32 ≡ b.start % 2 ^ 32 → ⊥)
       → Stopped (steps_in s b) (placed_at q (after_output g regs t)) ⊎ Lost blocks (steps_in s b) (placed_at q (after_output g regs t))
+
+-- ---- of a file in the lean form
+-- where its entries are, and the sequences of its code
+abbrev pub entry_in : ElfFile → Options → ℕ → List Block → ℕ → ℕ
+entry_in f o every blocks = entry_of false (code_place o.half (image_of f)) (lean_items f o every blocks)
+
+abbrev pub code_in : ElfFile → Options → ℕ → List Block → Sequences
+code_in f o every blocks = worded (form_of f o false) (base_of (image_of f)) (entry_in f o every blocks) (lean_of f o every blocks) (begins_at blocks)

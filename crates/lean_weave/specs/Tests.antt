@@ -18,19 +18,16 @@ use Rattle.qed_model.specs.Promise.Caught.{Caught}
 use Rattle.qed_model.specs.Promise.Clean.{Clean}
 use Rattle.qed_model.specs.Promise.Kept.{Kept}
 use Rattle.qed_model.specs.Promise.Landed.{Landed}
-use Rattle.qed_model.specs.Weave.Blocks.{begins_at, AreBlocks}
-use Rattle.qed_model.specs.Weave.Code.{Sequences}
-use Rattle.qed_model.specs.Weave.Forms.{form_of}
+use Rattle.qed_model.specs.Weave.Blocks.{AreBlocks}
 use Rattle.qed_model.specs.Weave.OutputFile.{file_of}
-use Rattle.qed_model.specs.Weave.OutputParts.{base_of}
-use Rattle.qed_model.specs.Weave.Placed.{Decode, sum_of_sizes, rows_from, placed, entry_of}
+use Rattle.qed_model.specs.Weave.Placed.{Decode, sum_of_sizes, rows_from, placed}
 use Rattle.qed_model.specs.Weave.Places.{AreSoundOptions, image_of, code_place}
 use Rattle.qed_model.specs.Weave.Sequences.{Block}
-use Rattle.qed_model.specs.Weave.LeanCode.{lean_items, lean_of, worded}
+use Rattle.qed_model.specs.Weave.LeanCode.{lean_items}
 use Rattle.qed_model.specs.Weave.LeanBounds.{lean_bounds}
 use Rattle.weave_core.specs.Leaving.{sweep_cost}
 use Rattle.lockstep.specs.InstructionFaults.{FaultsFound}
-use Rattle.lean_weave.specs.Strayed.{Strayed}
+use Rattle.lean_weave.specs.Strayed.{Strayed, code_in, entry_in}
 
 -- ---- the test
 -- the file is admitted, with sound options of the lean form, and these are its blocks
@@ -89,13 +86,6 @@ abbrev pub LeanTestsLanded : Type 0
 LeanTestsLanded =
     (f : ElfFile) (o : Options) (every : ℕ) (blocks : List Block) (words : List ℕ) → IsLeanTest f o every blocks words → o.land ≡ true → (reached : ℕ → Bool) → AreReached f o reached
     → Landed 6 (loaded_file f) (loaded_file (file_read (lean_file f o every blocks words))) reached (rows_from false (code_place o.half (image_of f)) (lean_items f o every blocks))
-
--- the sequences of its code, and where its entries are
-abbrev pub entry_in : ElfFile → Options → ℕ → List Block → ℕ → ℕ
-entry_in f o every blocks = entry_of false (code_place o.half (image_of f)) (lean_items f o every blocks)
-
-abbrev pub code_in : ElfFile → Options → ℕ → List Block → Sequences
-code_in f o every blocks = worded (form_of f o false) (base_of (image_of f)) (entry_in f o every blocks) (lean_of f o every blocks) (begins_at blocks)
 
 -- and where the code of a block runs under the signature of another one, the run is over soon
 abbrev pub LeanTestsStrayed : Type 0
