@@ -5,7 +5,6 @@ ghost use Rattle.qed_model.specs.Machine.Table.{ins, decode_of};
 ghost use Rattle.qed_model.specs.Weave.Placed.{size_of, sum_of_sizes, distance_between as distance_of, upper_part as upper_of, lower_part as lower_of, go_words, instructions_from, leads_to, EntriesAscend};
 ghost use Rattle.relinker.specs.Link.{is_encoded, AreWords};
 
-use crate::count::size;
 use crate::search::entry;
 use passes::register;
 use qed_model::{EntryRow, Item};
@@ -118,8 +117,15 @@ fn put_all(words: &mut Vec<u32>, instructions: &[Ins])
     }
 }
 
-/// Appends the words of an item that stands at an address. There is room for them.
-fn put_item(words: &mut Vec<u32>, rows: &[EntryRow], far: bool, last: u64, item: &Item, at: u64)
+/// Appends the words of an item that stands at an address, and tells how many bytes they take. There is room for them.
+fn put_item(
+    words: &mut Vec<u32>,
+    rows: &[EntryRow],
+    far: bool,
+    last: u64,
+    item: &Item,
+    at: u64,
+) -> u64
     requires ascend { EntriesAscend rows.now }
     requires encoded { list_all is_encoded (instructions_from far (leads_to rows.now last) at (item.now ∷ [])) ≡ true }
     requires room { 4 * vec_len words.old + size_of far item.now ≤ 4 * vec_capacity words.old }
@@ -128,17 +134,27 @@ fn put_item(words: &mut Vec<u32>, rows: &[EntryRow], far: bool, last: u64, item:
     ensures small { AreWords words.new.items }
     ensures len { 4 * vec_len words.new ≡ 4 * vec_len words.old + size_of far item.now }
     ensures capacity { vec_capacity words.old ≤ vec_capacity words.new }
+    ensures size { result ≡ size_of far item.now }
+    ensures bound { result ≤ 8 }
 {
-    match *item {
-        Item::Mark(_) => {}
-        Item::Plain(ins) => put(words, &ins),
-        Item::Constant(r, value) => put_all(words, &constant(r, distance_between(at, value))),
+    match item {
+        Item::Mark(_) => 0,
+        Item::Plain(ins) => {
+            put(words, ins);
+            4
+        }
+        Item::Constant(r, value) => {
+            put_all(words, &constant(*r, distance_between(at, *value)));
+            8
+        }
         Item::Go(address) => {
-            let distance = distance_between(at, entry(rows, last, address));
+            let distance = distance_between(at, entry(rows, last, *address));
             if far {
                 put_all(words, &far_jump(distance));
+                8
             } else {
                 put_all(words, &near_jump(distance));
+                4
             }
         }
     }
@@ -166,8 +182,7 @@ pub(crate) fn put_items(
 {
     let mut at = base;
     for item in items {
-        put_item(words, rows, far, last, item, at);
-        at += size(far, item);
+        at += put_item(words, rows, far, last, item, at);
     }
     at
 }
