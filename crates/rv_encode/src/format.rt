@@ -26,7 +26,7 @@ pub fn register_format(fixed: u32, ins: &Ins) -> Option<u32>
 }
 
 /// Format I: a signed number of 12 bits.
-#[inline]
+#[inline(always)]
 #[tactic(auto, unfolding(qed_model::specs::Machine::Table::word_of))]
 pub fn immediate_format(fixed: u32, ins: &Ins) -> Option<u32>
     requires { IsMatch I fixed }
@@ -82,7 +82,7 @@ pub fn store_format(fixed: u32, ins: &Ins) -> Option<u32>
 }
 
 /// Format B: a signed, even number of 13 bits in four places.
-#[inline]
+#[inline(always)]
 #[tactic(auto, unfolding(qed_model::specs::Machine::Table::word_of))]
 pub fn branch_format(fixed: u32, ins: &Ins) -> Option<u32>
     requires { IsMatch B fixed }
@@ -100,7 +100,7 @@ pub fn branch_format(fixed: u32, ins: &Ins) -> Option<u32>
 }
 
 /// Format U: the upper 20 of 32 bits.
-#[inline]
+#[inline(always)]
 #[tactic(auto, unfolding(qed_model::specs::Machine::Table::word_of))]
 pub fn upper_format(fixed: u32, ins: &Ins) -> Option<u32>
     requires { IsMatch U fixed }
