@@ -8,8 +8,8 @@ use crate::run::of_run;
 use crate::sentences::rule_sentence;
 use crate::usage::usage;
 use command_line::{Name, Order};
-use elf_read::read_elf;
-use elf_types::ElfFile;
+use elf_read::{read_elf, read_sections};
+use elf_types::{Bytes, ElfFile};
 use qed_io::{LoadError, Shelf};
 use qed_model::limits::MAX_RUN_FILE_BYTES;
 use qed_words::order;
@@ -33,6 +33,17 @@ fn sources(order: &Order) -> &[Name] {
     }
 }
 
+/// The bytes of the file of a name, where it can be loaded.
+fn loaded<S: Shelf>(alloc: Global, name: &str, shelf: &mut S) -> Result<Option<Bytes>, AllocError>
+    ensures { S.files shelf.new ≡ S.files shelf.old }
+{
+    match shelf.load(alloc, name, MAX_RUN_FILE_BYTES) {
+        Ok(bytes) => Ok(Some(bytes)),
+        Err(LoadError::Memory) => Err(AllocError),
+        Err(_) => Ok(None),
+    }
+}
+
 /// The file of a name, where it can be read.
 pub(crate) fn read<S: Shelf>(
     alloc: Global,
@@ -41,11 +52,10 @@ pub(crate) fn read<S: Shelf>(
 ) -> Result<Option<ElfFile>, AllocError>
     ensures { S.files shelf.new ≡ S.files shelf.old }
 {
-    match shelf.load(alloc, name, MAX_RUN_FILE_BYTES) {
-        Ok(bytes) => Ok(read_elf(alloc, bytes.as_slice()).ok()),
-        Err(LoadError::Memory) => Err(AllocError),
-        Err(_) => Ok(None),
-    }
+    let Some(bytes) = loaded(alloc, name, shelf)? else {
+        return Ok(None);
+    };
+    Ok(read_elf(alloc, bytes.as_slice()).ok())
 }
 
 /// The address behind a mark in a line.
@@ -92,6 +102,31 @@ fn push_line<S: Shelf>(
     Ok(())
 }
 
+/// Whether a line is of a limit on a file that was read, so that its sections alone need be read once more: of any but those on what is
+/// loaded and read.
+fn was_read(line: &str) -> bool {
+    let (limit, _) = line.split_once(":").unwrap_or((line, ""));
+    limit.starts_with('L') && limit != "L1" && limit != "L5" && limit != "L10"
+}
+
+/// Appends which section of the file of a name is the largest, where its sections can be read.
+fn push_section<S: Shelf>(
+    alloc: Global,
+    text: &mut String,
+    name: &str,
+    shelf: &mut S,
+) -> Result<(), AllocError>
+    ensures { S.files shelf.new ≡ S.files shelf.old }
+{
+    let Some(bytes) = loaded(alloc, name, shelf)? else {
+        return Ok(());
+    };
+    match read_sections(alloc, bytes.as_slice()) {
+        Ok(sections) => push_largest(alloc, text, sections.as_slice()),
+        Err(_) => Ok(()),
+    }
+}
+
 /// Appends the place in a file of which a line tells, or, of a limit, what takes most of it.
 fn push_where<S: Shelf>(
     alloc: Global,
@@ -105,6 +140,9 @@ fn push_where<S: Shelf>(
     if line.starts_with('N') {
         return Ok(());
     }
+    if was_read(line) {
+        return push_section(alloc, text, name, shelf);
+    }
     let Some(file) = read(alloc, name, shelf)? else {
         return Ok(());
     };
@@ -114,7 +152,7 @@ fn push_where<S: Shelf>(
         return text.push_str("\n");
     }
     if line.starts_with('L') {
-        return push_largest(alloc, text, &file);
+        return push_largest(alloc, text, file.sections.as_slice());
     }
     Ok(())
 }

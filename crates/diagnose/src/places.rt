@@ -1,6 +1,6 @@
 //! Places of a file, as its sections and symbols name them.
 
-use elf_types::{ElfFile, Segment};
+use elf_types::{ElfFile, Section, Segment};
 use listing::nearest;
 use rv_text::text_of;
 use std::alloc::{AllocError, Global};
@@ -85,15 +85,15 @@ pub(crate) fn push_place(
     Ok(())
 }
 
-/// Appends which section of a file is the largest.
+/// Appends which of the sections of a file is the largest.
 pub(crate) fn push_largest(
     alloc: Global,
     text: &mut String,
-    file: &ElfFile,
+    sections: &[Section],
 ) -> Result<(), AllocError> {
     let mut largest = None;
     let mut size = 0;
-    for section in file.sections.as_slice() {
+    for section in sections {
         if section.size > size {
             size = section.size;
             largest = Some(section);

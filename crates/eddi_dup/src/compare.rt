@@ -1,33 +1,65 @@
 //! The comparison of all registers.
-ghost use Rattle.std.specs.Prelude.{◌≡◌};
-ghost use Rattle.weave_core.specs.Kinds.{thirteen};
+ghost use Rattle.std.specs.Prelude.{◌≡◌, ◌+◌, ◌≤◌, pos};
+ghost use Rattle.rv_isa.specs.declared.kind.Kind.TheVariants.{Beq};
+ghost use Rattle.qed_model.specs.Machine.Table.{ins as ins_of};
+ghost use Rattle.qed_model.specs.Weave.Sequences.{compare, fired_check};
 
-use passes::{Emit, Pass, put_guards, register};
-use rv_isa::{Ins, Reg};
+use passes::{Emit, Pass, plain, register};
+use qed_model::Item;
+use rv_isa::{Ins, Kind};
 use std::alloc::AllocError;
 
 /// Compares x1 to x13 with their pairs. It looks at no instruction.
 #[derive(Clone, Copy, Drop)]
 pub struct CompareAll;
 
-/// x1 to x13.
-fn originals() -> [Reg; 13]
-    ensures { result ≡ thirteen }
+/// Where a register and its pair are equal, the check behind this is passed.
+fn unequal(n: u8) -> Item
+    requires { n ≤ 13 }
+    ensures { result ≡ Item.Plain (ins_of Beq 0 n (n + 16) (pos 8)) }
+{
+    plain(Kind::Beq, register(0), register(n), register(n + 16), 8)
+}
+
+/// The check.
+fn fired() -> Item
+    ensures { result ≡ fired_check }
+{
+    let zero = register(0);
+    plain(Kind::Ebreak, zero, zero, zero, 0)
+}
+
+/// The comparisons of x1 to x13.
+fn comparison() -> [Item; 26]
+    ensures { result ≡ compare }
 {
     [
-        register(1),
-        register(2),
-        register(3),
-        register(4),
-        register(5),
-        register(6),
-        register(7),
-        register(8),
-        register(9),
-        register(10),
-        register(11),
-        register(12),
-        register(13),
+        unequal(1),
+        fired(),
+        unequal(2),
+        fired(),
+        unequal(3),
+        fired(),
+        unequal(4),
+        fired(),
+        unequal(5),
+        fired(),
+        unequal(6),
+        fired(),
+        unequal(7),
+        fired(),
+        unequal(8),
+        fired(),
+        unequal(9),
+        fired(),
+        unequal(10),
+        fired(),
+        unequal(11),
+        fired(),
+        unequal(12),
+        fired(),
+        unequal(13),
+        fired(),
     ]
 }
 
@@ -53,8 +85,9 @@ impl Pass for CompareAll {
 
     ghost leaves = { λ p i at w v n z. ⊥ };
 
+    #[tactic(auto, using(passes::specs::Emitted::part_none))]
     fn emit(&self, _ins: &Ins, _at: u64, out: &mut Emit) -> Result<(), AllocError> {
-        put_guards(out, &originals())
+        out.put(&comparison())
     }
 
     ghost quiet = { λ p i at f. quiet_compare };

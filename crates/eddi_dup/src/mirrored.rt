@@ -83,10 +83,10 @@ impl Pass for Mirrored {
 
     fn emit(&self, ins: &Ins, at: u64, out: &mut Emit) -> Result<(), AllocError> {
         if ins.kind == Kind::Auipc {
-            return out.put(&[Item::Constant(ins.rd.pair(), target(ins, at))]);
+            return out.push(Item::Constant(ins.rd.pair(), target(ins, at)));
         }
         match ins.class() {
-            Class::Compute => out.put(&[on_pairs(ins)]),
+            Class::Compute => out.push(on_pairs(ins)),
             Class::Load => out.put(&load_pair(ins)),
             Class::Store => out.put(&store_pair(ins)),
             Class::Fence => Ok(()),

@@ -40,7 +40,7 @@ impl Pass for Original {
             Kind::Auipc => Item::Constant(ins.rd, target(ins, at)),
             _ => Item::Plain(*ins),
         };
-        out.put(&[item])
+        out.push(item)
     }
 
     ghost quiet = { λ p i at f. quiet_original i at f };

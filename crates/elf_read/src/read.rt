@@ -4,7 +4,7 @@ ghost use Rattle.elf_types.specs.declared.error.ElfError.TheVariants as error;
 ghost use Rattle.qed_model.specs.Below.{each, gather};
 ghost use Rattle.elf_files.specs.Header.{e_phnum, e_shnum};
 ghost use Rattle.elf_files.specs.Fields.{section_header};
-ghost use Rattle.elf_files.specs.Rules.{is_section_outside, section_strings, strings_of, symbol_table, verdict, read_verdict};
+ghost use Rattle.elf_files.specs.Rules.{is_section_outside, section_strings, strings_of, symbol_table, part_rules, verdict, read_verdict};
 ghost use Rattle.elf_files.specs.File.{File, segment_of, section_of, symbol_of, symbols_at, relas_of, WithinReadLimits, IsReadAs};
 ghost use Rattle.elf_files.specs.Refusals.{IsAccepted, IsRefused};
 ghost use Rattle.qed_model.specs.Elf.Sound.{IsSound};
@@ -53,6 +53,13 @@ fn section(file: &Parts, names: &Names, i: u64) -> Result<Section, AllocError>
         address: s.addr,
         size: s.size,
     })
+}
+
+fn sections(file: &Parts, alloc: Global) -> Result<Vec<Section>, AllocError>
+    ensures { IfOk result (λ v. v.items ≡ each (e_shnum file.now) (section_of file.now)) }
+{
+    let names = Names::new(alloc, section_strings(file, alloc))?;
+    list_of(alloc, file.tables().shnum(), &|i| section(file, &names, i))
 }
 
 #[tactic(auto, unfolding(elf_files::specs::File::segment_of))]
@@ -120,17 +127,6 @@ impl<'a> Sound<'a> {
         )
     }
 
-    fn sections(&self, alloc: Global) -> Result<Vec<Section>, AllocError>
-        ensures { IfOk result (λ v. v.items ≡ each (e_shnum self.now) (section_of self.now)) }
-    {
-        let names = Names::new(alloc, section_strings(&self.parts, alloc))?;
-        list_of(
-            alloc,
-            self.parts.tables().shnum(),
-            &|i| section(&self.parts, &names, i),
-        )
-    }
-
     fn symbols(&self, alloc: Global) -> Result<Vec<Symbol>, AllocError>
         ensures { IfOk result (λ v. v.items ≡ symbols_at self.now (symbol_table self.now)) }
     {
@@ -156,7 +152,7 @@ impl<'a> Sound<'a> {
             entry: self.parts.tables().entry(),
             flags: self.parts.tables().flags(),
             segments: Listed::of(self.segments(alloc)?),
-            sections: Listed::of(self.sections(alloc)?),
+            sections: Listed::of(sections(&self.parts, alloc)?),
             symbols: Listed::of(self.symbols(alloc)?),
             relas: Listed::of(relas(&self.parts, alloc)?),
         })
@@ -182,4 +178,18 @@ pub fn read_elf(alloc: Global, bytes: &[u8]) -> Result<ElfFile, ElfError>
 {
     let sound = Sound::new(alloc, bytes)?;
     Ok(sound.file(alloc)?)
+}
+
+/// The sections of the file that bytes are, where its parts lie in it: as in `read_elf`, but the other rules and the limits are not
+/// tested, and nothing else is read.
+///
+/// # Errors
+///
+/// The first rule on header, tables and parts that refuses the bytes; `Memory`.
+pub fn read_sections(alloc: Global, bytes: &[u8]) -> Result<Vec<Section>, ElfError>
+    ensures sections { IfOk result (λ v. v.items ≡ each (e_shnum bytes.now) (section_of bytes.now)) }
+    ensures refused { IfErr result (λ e. (part_rules bytes.now ≡ Err e) ⊎ (e ≡ error.Memory)) }
+{
+    let parts = Parts::new(bytes)?;
+    Ok(sections(&parts, alloc)?)
 }

@@ -10,7 +10,7 @@ use qed_model::{EntryRow, Item};
 use std::alloc::{AllocError, Global};
 
 /// The bytes that an item takes, where a jump to an entry is near or far.
-pub(crate) fn size(far: bool, item: &Item) -> u64
+fn size(far: bool, item: &Item) -> u64
     ensures value { result ≡ size_of far item.now }
     ensures bound { result ≤ 8 }
 {

@@ -5,7 +5,6 @@ ghost use Rattle.qed_model.specs.Machine.Table.{ins, decode_of};
 ghost use Rattle.qed_model.specs.Weave.Placed.{size_of, sum_of_sizes, distance_between as distance_of, upper_part as upper_of, lower_part as lower_of, go_words, instructions_from, leads_to, EntriesAscend};
 ghost use Rattle.relinker.specs.Link.{is_encoded, AreWords};
 
-use crate::count::size;
 use crate::search::entry;
 use passes::register;
 use qed_model::{EntryRow, Item};
@@ -41,35 +40,30 @@ fn instruction(kind: Kind, rd: Reg, rs1: Reg, imm: i64) -> Ins
 
 /// The two instructions that set a register to a constant so far from where they stand.
 #[tactic(auto, using(crate::proofs::Reach::near_upper))]
-fn constant(r: Reg, distance: i64) -> [Ins; 2]
+fn constant(r: Reg, distance: i64) -> (Ins, Ins)
     requires { is_encoded (ins Kind.Auipc r 0 0 (upper_of distance)) ≡ true }
-    ensures { result ≡ ins Kind.Auipc r 0 0 (upper_of distance) ∷ ins Kind.Addi r r 0 (lower_of distance) ∷ [] }
+    ensures first { result.0 ≡ ins Kind.Auipc r 0 0 (upper_of distance) }
+    ensures second { result.1 ≡ ins Kind.Addi r r 0 (lower_of distance) }
 {
     let upper = upper_part(distance);
-    [
+    (
         instruction(Kind::Auipc, r, register(0), upper),
         instruction(Kind::Addi, r, r, distance - upper),
-    ]
-}
-
-/// The near jump, so far.
-fn near_jump(distance: i64) -> [Ins; 1]
-    ensures { result ≡ ins Kind.Jal 0 0 0 distance ∷ [] }
-{
-    [instruction(Kind::Jal, register(0), register(0), distance)]
+    )
 }
 
 /// The far jump, by x30.
 #[tactic(auto, using(crate::proofs::Reach::near_upper))]
-fn far_jump(distance: i64) -> [Ins; 2]
+fn far_jump(distance: i64) -> (Ins, Ins)
     requires { is_encoded (ins Kind.Auipc 30 0 0 (upper_of distance)) ≡ true }
-    ensures { result ≡ ins Kind.Auipc 30 0 0 (upper_of distance) ∷ ins Kind.Jalr 0 30 0 (lower_of distance) ∷ [] }
+    ensures first { result.0 ≡ ins Kind.Auipc 30 0 0 (upper_of distance) }
+    ensures second { result.1 ≡ ins Kind.Jalr 0 30 0 (lower_of distance) }
 {
     let upper = upper_part(distance);
-    [
+    (
         instruction(Kind::Auipc, register(30), register(0), upper),
         instruction(Kind::Jalr, register(0), register(30), distance - upper),
-    ]
+    )
 }
 
 /// The word of an instruction that has one.
@@ -102,24 +96,31 @@ fn put(words: &mut Vec<u32>, ins: &Ins)
     }
 }
 
-/// Appends the words of instructions. There is room for them.
-#[inline(never)]
-fn put_all(words: &mut Vec<u32>, instructions: &[Ins])
-    requires encoded { list_all is_encoded instructions.now ≡ true }
-    requires room { vec_len words.old + length instructions.now ≤ vec_capacity words.old }
+/// Appends the words of two instructions. There is room for them.
+#[inline(always)]
+fn put_two(words: &mut Vec<u32>, pair: (Ins, Ins))
+    requires encoded { list_all is_encoded (pair.0 ∷ pair.1 ∷ []) ≡ true }
+    requires room { vec_len words.old + 2 ≤ vec_capacity words.old }
     requires small { AreWords words.old.items }
-    ensures decode { map decode_of words.new.items ≡ map decode_of words.old.items ++ map Some instructions.now }
+    ensures decode { map decode_of words.new.items ≡ map decode_of words.old.items ++ (Some pair.0 ∷ Some pair.1 ∷ []) }
     ensures small { AreWords words.new.items }
-    ensures len { vec_len words.new ≡ vec_len words.old + length instructions.now }
+    ensures len { vec_len words.new ≡ vec_len words.old + 2 }
     ensures capacity { vec_capacity words.old ≤ vec_capacity words.new }
 {
-    for ins in instructions {
-        put(words, ins);
-    }
+    let (first, second) = pair;
+    put(words, &first);
+    put(words, &second);
 }
 
-/// Appends the words of an item that stands at an address. There is room for them.
-fn put_item(words: &mut Vec<u32>, rows: &[EntryRow], far: bool, last: u64, item: &Item, at: u64)
+/// Appends the words of an item that stands at an address, and tells how many bytes they take. There is room for them.
+fn put_item(
+    words: &mut Vec<u32>,
+    rows: &[EntryRow],
+    far: bool,
+    last: u64,
+    item: &Item,
+    at: u64,
+) -> u64
     requires ascend { EntriesAscend rows.now }
     requires encoded { list_all is_encoded (instructions_from far (leads_to rows.now last) at (item.now ∷ [])) ≡ true }
     requires room { 4 * vec_len words.old + size_of far item.now ≤ 4 * vec_capacity words.old }
@@ -128,17 +129,30 @@ fn put_item(words: &mut Vec<u32>, rows: &[EntryRow], far: bool, last: u64, item:
     ensures small { AreWords words.new.items }
     ensures len { 4 * vec_len words.new ≡ 4 * vec_len words.old + size_of far item.now }
     ensures capacity { vec_capacity words.old ≤ vec_capacity words.new }
+    ensures size { result ≡ size_of far item.now }
+    ensures bound { result ≤ 8 }
 {
-    match *item {
-        Item::Mark(_) => {}
-        Item::Plain(ins) => put(words, &ins),
-        Item::Constant(r, value) => put_all(words, &constant(r, distance_between(at, value))),
+    match item {
+        Item::Mark(_) => 0,
+        Item::Plain(ins) => {
+            put(words, ins);
+            4
+        }
+        Item::Constant(r, value) => {
+            put_two(words, constant(*r, distance_between(at, *value)));
+            8
+        }
         Item::Go(address) => {
-            let distance = distance_between(at, entry(rows, last, address));
+            let distance = distance_between(at, entry(rows, last, *address));
             if far {
-                put_all(words, &far_jump(distance));
+                put_two(words, far_jump(distance));
+                8
             } else {
-                put_all(words, &near_jump(distance));
+                put(
+                    words,
+                    &instruction(Kind::Jal, register(0), register(0), distance),
+                );
+                4
             }
         }
     }
@@ -166,8 +180,7 @@ pub(crate) fn put_items(
 {
     let mut at = base;
     for item in items {
-        put_item(words, rows, far, last, item, at);
-        at += size(far, item);
+        at += put_item(words, rows, far, last, item, at);
     }
     at
 }

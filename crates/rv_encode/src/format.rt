@@ -13,6 +13,7 @@ use crate::word::{
 use rv_isa::Ins;
 
 /// Format R: three registers.
+#[inline]
 #[tactic(auto, unfolding(qed_model::specs::Machine::Table::word_of))]
 pub fn register_format(fixed: u32, ins: &Ins) -> Option<u32>
     requires { IsMatch R fixed }
@@ -25,6 +26,7 @@ pub fn register_format(fixed: u32, ins: &Ins) -> Option<u32>
 }
 
 /// Format I: a signed number of 12 bits.
+#[inline(always)]
 #[tactic(auto, unfolding(qed_model::specs::Machine::Table::word_of))]
 pub fn immediate_format(fixed: u32, ins: &Ins) -> Option<u32>
     requires { IsMatch I fixed }
@@ -38,6 +40,7 @@ pub fn immediate_format(fixed: u32, ins: &Ins) -> Option<u32>
 }
 
 /// Format I with a shift amount of 6 bits.
+#[inline]
 #[tactic(auto, unfolding(qed_model::specs::Machine::Table::word_of))]
 pub fn shift_format(fixed: u32, ins: &Ins) -> Option<u32>
     requires { IsMatch H fixed }
@@ -51,6 +54,7 @@ pub fn shift_format(fixed: u32, ins: &Ins) -> Option<u32>
 }
 
 /// Format I with a shift amount of 5 bits.
+#[inline]
 #[tactic(auto, unfolding(qed_model::specs::Machine::Table::word_of))]
 pub fn word_shift_format(fixed: u32, ins: &Ins) -> Option<u32>
     requires { IsMatch G fixed }
@@ -64,6 +68,7 @@ pub fn word_shift_format(fixed: u32, ins: &Ins) -> Option<u32>
 }
 
 /// Format S: a signed number of 12 bits in two places.
+#[inline]
 #[tactic(auto, unfolding(qed_model::specs::Machine::Table::word_of))]
 pub fn store_format(fixed: u32, ins: &Ins) -> Option<u32>
     requires { IsMatch S fixed }
@@ -77,6 +82,7 @@ pub fn store_format(fixed: u32, ins: &Ins) -> Option<u32>
 }
 
 /// Format B: a signed, even number of 13 bits in four places.
+#[inline(always)]
 #[tactic(auto, unfolding(qed_model::specs::Machine::Table::word_of))]
 pub fn branch_format(fixed: u32, ins: &Ins) -> Option<u32>
     requires { IsMatch B fixed }
@@ -94,6 +100,7 @@ pub fn branch_format(fixed: u32, ins: &Ins) -> Option<u32>
 }
 
 /// Format U: the upper 20 of 32 bits.
+#[inline(always)]
 #[tactic(auto, unfolding(qed_model::specs::Machine::Table::word_of))]
 pub fn upper_format(fixed: u32, ins: &Ins) -> Option<u32>
     requires { IsMatch U fixed }
@@ -111,6 +118,7 @@ pub fn upper_format(fixed: u32, ins: &Ins) -> Option<u32>
 }
 
 /// Format J: a signed, even number of 21 bits in four places.
+#[inline]
 #[tactic(auto, unfolding(qed_model::specs::Machine::Table::word_of))]
 pub fn jump_format(fixed: u32, ins: &Ins) -> Option<u32>
     requires { IsMatch J fixed }
@@ -128,6 +136,7 @@ pub fn jump_format(fixed: u32, ins: &Ins) -> Option<u32>
 }
 
 /// No fields: each is 0.
+#[inline]
 #[tactic(auto, unfolding(qed_model::specs::Machine::Table::word_of))]
 pub fn no_fields(fixed: u32, ins: &Ins) -> Option<u32>
     ensures { result ≡ word_of N fixed ins.now }

@@ -3,6 +3,7 @@ ghost use Rattle.std.specs.Prelude.{◌≡◌, ◌^◌, ◌<◌, ◌≤◌, true
 ghost use Rattle.qed_model.specs.Machine.Table.{fits_signed as fits_signed_of, fits_below as fits_below_of, to_bits as to_bits_of};
 
 /// Whether this is a signed number of so many bits.
+#[inline]
 pub fn fits_signed(width: u32, imm: i64) -> bool
     requires some { 1 ≤ width }
     requires most { width ≤ 32 }
@@ -13,6 +14,7 @@ pub fn fits_signed(width: u32, imm: i64) -> bool
 }
 
 /// Whether this is a number of so many bits, without a sign.
+#[inline]
 pub fn fits_below(width: u32, imm: i64) -> bool
     requires { width ≤ 32 }
     ensures { result ≡ fits_below_of width imm }
@@ -21,6 +23,7 @@ pub fn fits_below(width: u32, imm: i64) -> bool
 }
 
 /// The bits of a signed number.
+#[inline]
 pub fn to_bits(width: u32, imm: i64) -> u32
     requires some { 1 ≤ width }
     requires most { width ≤ 32 }

@@ -22,6 +22,7 @@ use rv_isa::Ins;
 /// None where the immediate is out of the format's range (12 signed bits in I and S, 13 in B, 21 in
 /// J, 32 in U, a shift amount below 64, or below 32 for the shifts of 32 bits), where it is off its
 /// grain (2 in B and J, 4096 in U), or where a field that the format does not have is not 0.
+#[inline(always)]
 #[tactic(auto, using(crate::proofs::Inverse::encoded_decoded))]
 pub fn encode(ins: &Ins) -> Option<u32>
     ensures word { result ≡ encode_of ins.now }

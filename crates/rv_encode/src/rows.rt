@@ -19,6 +19,7 @@ macro_rules! row_of_kind {
 }
 
 /// The word of an instruction of any kind.
+#[inline(always)]
 #[tactic(auto, unfolding(qed_model::specs::Machine::Table::encode_of))]
 pub fn any_row(ins: &Ins) -> Option<u32>
     ensures { result ≡ encode_of ins.now }

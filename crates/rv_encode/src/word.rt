@@ -25,6 +25,7 @@ pub fn register_word(fixed: u32, rd: Reg, rs1: Reg, rs2: Reg) -> u32
 }
 
 /// Format I: rd, rs1 and the 12 bits of the immediate.
+#[inline(always)]
 pub fn immediate_word(fixed: u32, rd: Reg, rs1: Reg, bits: u32) -> u32
     requires fixed_bits { IsMatch I fixed }
     requires fits { bits < 2 ^ 12 }
@@ -74,6 +75,7 @@ pub fn store_word(fixed: u32, rs1: Reg, rs2: Reg, bits: u32) -> u32
 }
 
 /// Format B: rs1, rs2 and the 13 bits of the immediate, whose bit 0 has no place.
+#[inline(always)]
 pub fn branch_word(fixed: u32, rs1: Reg, rs2: Reg, bits: u32) -> u32
     requires { IsMatch B fixed }
     ensures word { result ≡ word_B fixed rs1 rs2 bits }
@@ -88,6 +90,7 @@ pub fn branch_word(fixed: u32, rs1: Reg, rs2: Reg, bits: u32) -> u32
 }
 
 /// Format U: rd and the upper 20 of the immediate's 32 bits.
+#[inline(always)]
 pub fn upper_word(fixed: u32, rd: Reg, bits: u32) -> u32
     requires { IsMatch U fixed }
     ensures word { result ≡ word_U fixed rd bits }

@@ -1,9 +1,10 @@
 -- The first word of a part that is at fault; words without a byte of the file are at fault by no rule.
-use Rattle.std.proofs.Common.{◌≡◌, ⊎_elim, ℕ, ◌+◌, ◌*◌, ◌/◌, ◌<◌, ◌≤◌, true, false, List, [], ◌∷◌, length, Option, Some, None, refl, sym, ap, ◌∙◌, arith}
+use Rattle.std.proofs.Common.{◌≡◌, ⊎_elim, ℕ, ◌+◌, ◌*◌, ◌/◌, ◌<◌, ◌≤◌, true, false, List, [], ◌∷◌, length, Bool, ◌||◌, Option, Some, None, refl, sym, ap, ◌∙◌, arith}
 use Rattle.std.specs.Prelude.{pos}
 use Rattle.std.specs.Option.{option_map, option_or}
 use Rattle.std.proofs.lemmas.List.{get_or_past}
-use Rattle.std.proofs.lemmas.Bool.{cases_lt}
+use Rattle.std.proofs.lemmas.Bool.{cases_lt, or_parts}
+use Rattle.rv_isa.specs.declared.ins.Ins.{Ins}
 use Rattle.rv_isa.specs.declared.kind.Kind.TheVariants.{Illegal}
 use Rattle.qed_model.specs.Machine.Table.{ins, ins_of, decode_of}
 use Rattle.qed_model.specs.Below.{first}
@@ -23,6 +24,7 @@ zero_passes rule.Unknown a = refl
 zero_passes rule.Registers a = refl
 zero_passes rule.Breakpoint a = refl
 zero_passes (rule.Constant base) a = refl
+zero_passes (rule.Any base) a = refl
 
 zero_word : (bs : List ℕ) (k : ℕ) → length bs ≤ k → word_in bs k ≡ 0
 zero_word bs k h = rw (get_or_past bs k 0 h, get_or_past bs (k + 1) 0 (omega (arith, h)), get_or_past bs (k + 2) 0 (omega (arith, h)), get_or_past bs (k + 3) 0 (omega (arith, h))) refl
@@ -60,6 +62,43 @@ none_split r p ps e = by (first_in r p) refl e where
   by : (o : Option (ℕ × ℕ)) → first_in r p ≡ o → option_or o (first_among r ps) ≡ None → (first_in r p ≡ None) × (first_among r ps ≡ None)
   by None x g = (x, g)
   by (Some d) x g = absurd (cc)
+
+-- where a rule passes all that another passes, it finds none where the other finds none
+none_less :
+    (q r : CodeRule) → ((a : ℕ) (x : Option Ins) → faults q a x ≡ false → faults r a x ≡ false)
+    → (ps : List Part) → first_among q ps ≡ None → first_among r ps ≡ None
+none_less q r less [] e = refl
+none_less q r less (p ∷ ps) e =
+    let s = none_split q p ps e in
+    let here : first_in r p ≡ None =
+    ap (option_map (word_of p)) (first_none (p.size / 4) (faults_at r p) (λ j lt. less (p.start + 4 * j) (decode_of (word_in p.bytes (4 * j))) (each_passes q p j s.0 lt))) in
+    ap (λ x. option_or x (first_among r ps)) here ∙ none_less q r less ps s.1
+
+-- what is at fault by none of the rules is at fault by no one of them
+each_false : (a b c d : Bool) → (a || (b || (c || d))) ≡ false → (a ≡ false) × (b ≡ false) × (c ≡ false) × (d ≡ false)
+each_false a b c d e =
+    let p = or_parts a (b || (c || d)) e in
+    let q = or_parts b (c || d) p.1 in
+    let r = or_parts c d q.1 in
+    (p.0, q.0, r.0, r.1)
+
+module _ (base : ℕ) where
+  abbrev each_rule :
+      (a : ℕ) (x : Option Ins) → faults (rule.Any base) a x ≡ false
+      → (faults rule.Unknown a x ≡ false) × (faults rule.Registers a x ≡ false) × (faults rule.Breakpoint a x ≡ false) × (faults (rule.Constant base) a x ≡ false)
+  each_rule a x e = each_false (faults rule.Unknown a x) (faults rule.Registers a x) (faults rule.Breakpoint a x) (faults (rule.Constant base) a x) e
+
+  pub none_unknown : (ps : List Part) → first_among (rule.Any base) ps ≡ None → first_among rule.Unknown ps ≡ None
+  none_unknown = none_less (rule.Any base) rule.Unknown (λ a x e. (each_rule a x e).0)
+
+  pub none_high : (ps : List Part) → first_among (rule.Any base) ps ≡ None → first_among rule.Registers ps ≡ None
+  none_high = none_less (rule.Any base) rule.Registers (λ a x e. (each_rule a x e).1)
+
+  pub none_break : (ps : List Part) → first_among (rule.Any base) ps ≡ None → first_among rule.Breakpoint ps ≡ None
+  none_break = none_less (rule.Any base) rule.Breakpoint (λ a x e. (each_rule a x e).2)
+
+  pub none_far : (ps : List Part) → first_among (rule.Any base) ps ≡ None → first_among (rule.Constant base) ps ≡ None
+  none_far = none_less (rule.Any base) (rule.Constant base) (λ a x e. (each_rule a x e).3)
 
 -- ---- what is found is at fault
 record Hit (r : CodeRule) (c : ℕ × ℕ) : Type 0 where

@@ -28,6 +28,8 @@ pub enum CodeRule {
     Breakpoint,
     /// The instruction is an AUIPC, and its result is out of reach of this base.
     Constant(u64),
+    /// Any of these, with this base.
+    Any(u64),
 }
 
 /// The register, where it is above x13.
@@ -69,19 +71,29 @@ fn is_far(instruction: &Ins, address: u64, base: u64) -> bool
     REACH <= distance && distance <= u64::MAX - REACH
 }
 
+/// Whether an instruction is an AUIPC whose result is out of reach of a base.
+fn is_far_constant(instruction: &Ins, address: u64, base: u64) -> bool
+    ensures { result ≡ (is_auipc instruction.now.kind && is_far (distance_between base (target instruction.now address))) }
+{
+    matches!(instruction.kind, Kind::Auipc) && is_far(instruction, address, base)
+}
+
 /// Whether the word at an address is at fault by a rule.
 pub fn is_at_fault(rule: CodeRule, address: u64, word: u32) -> bool
     ensures { result ≡ is_at_fault rule address word }
 {
     let Some(instruction) = decode(word) else {
-        return matches!(rule, CodeRule::Unknown);
+        return matches!(rule, CodeRule::Unknown | CodeRule::Any(_));
     };
     match rule {
         CodeRule::Unknown => false,
         CodeRule::Registers => high_register(&instruction).is_some(),
         CodeRule::Breakpoint => matches!(instruction.kind, Kind::Ebreak),
-        CodeRule::Constant(base) => {
-            matches!(instruction.kind, Kind::Auipc) && is_far(&instruction, address, base)
+        CodeRule::Constant(base) => is_far_constant(&instruction, address, base),
+        CodeRule::Any(base) => {
+            high_register(&instruction).is_some()
+                || matches!(instruction.kind, Kind::Ebreak)
+                || is_far_constant(&instruction, address, base)
         }
     }
 }

@@ -26,22 +26,24 @@ use Rattle.woven_code.specs.Sizes.{block_bytes, blocks_bytes, prologue_bytes, ro
 use Rattle.woven_code.proofs.Sizing.{block_is, prologue_is}
 
 -- ---- in a loop
--- below 2^64 - 1 bytes, the rows so far and those of the rest are all, and so are the bytes
+-- the bytes so far and those of the rest are all, and below 2^64 - 1 bytes the rows
 pub record RowsUpTo (s : Sizes) (first : ℕ) (all rest : List CodeBlock) (at : ℕ) (rows : List EntryRow) : Type 0 where
-  pub bytes : first + blocks_bytes s all < 2 ^ 64 - 1 → at + blocks_bytes s rest ≡ first + blocks_bytes s all
+  pub fits : at < 2 ^ 64
+  pub bytes : capped (at + blocks_bytes s rest) ≡ capped (first + blocks_bytes s all)
   pub same : first + blocks_bytes s all < 2 ^ 64 - 1 → rows ++ rows_of s at rest ≡ rows_of s first all
 
-pub rows_none : (s : Sizes) (first : ℕ) (all : List CodeBlock) → RowsUpTo s first all all first []
-rows_none s first all = record { bytes = λ small. refl; same = λ small. refl }
+pub rows_none : (s : Sizes) (first : ℕ) (all : List CodeBlock) → first < 2 ^ 64 → RowsUpTo s first all all first []
+rows_none s first all small = record { fits = small; bytes = refl; same = λ small. refl }
 
 rows_next :
     (s : Sizes) (first : ℕ) (all rest : List CodeBlock) (b : CodeBlock) (at now size : ℕ) (rows new : List EntryRow)
     → RowsUpTo s first all (b ∷ rest) at rows → size ≡ capped (block_bytes s b) → now ≡ capped (at + size) → new ≡ rows ++ record { input = b.start; output = at } ∷ []
     → RowsUpTo s first all rest now new
 rows_next s first all rest b at now size rows new r e f g =
-    let exact : first + blocks_bytes s all < 2 ^ 64 - 1 → now ≡ at + block_bytes s b = λ small. omega (arith, small, r.bytes small, e, f) in
+    let exact : first + blocks_bytes s all < 2 ^ 64 - 1 → now ≡ at + block_bytes s b = λ small. omega (arith, small, r.bytes, e, f) in
     record {
-      bytes = λ small. omega (arith, exact small, r.bytes small);
+      fits = omega (arith, f);
+      bytes = omega (arith, r.bytes, e, f);
       same = λ small.
           ap (λ l. l ++ rows_of s now rest) g
           ∙ append_assoc rows (record { input = b.start; output = at } ∷ []) (rows_of s now rest)
@@ -61,6 +63,11 @@ pub rows_all :
     (s : Sizes) (first : ℕ) (all : List CodeBlock) (k at : ℕ) (rows : List EntryRow) → length all ≤ k → RowsUpTo s first all (drop k all) at rows
     → first + blocks_bytes s all < 2 ^ 64 - 1 → rows ≡ rows_of s first all
 rows_all s first all k at rows end r small = sym (append-nil rows) ∙ ap (λ l. rows ++ rows_of s at l) (sym (drop_all k all end)) ∙ r.same small
+
+pub rows_end :
+    (s : Sizes) (first : ℕ) (all : List CodeBlock) (k at : ℕ) (rows : List EntryRow) → length all ≤ k → RowsUpTo s first all (drop k all) at rows
+    → at ≡ capped (first + blocks_bytes s all)
+rows_end s first all k at rows end r = let none = ap (blocks_bytes s) (drop_all k all end) in omega (arith, r.fits, r.bytes, none)
 
 -- ---- the rows of items
 module _ (far : Bool) (o : Options) (span : List Range) (s : Sizes) (are : AreSizes s o far span) where

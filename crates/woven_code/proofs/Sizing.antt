@@ -186,9 +186,6 @@ code_is far o t s blocks are fit =
     )
 
 -- the sum of the parts, each 2^64 - 1 at most, and with the stub
-pub sum_is : (sum first entries a b c : ℕ) → sum ≡ first + entries → a ≡ first → b ≡ capped entries → c ≡ capped (b + a) → c ≡ capped sum
-sum_is sum first entries a b c e f g h = omega (arith, e, f, g, h)
-
 pub total_is :
     (sum first entries a b c d : ℕ) → sum ≡ first + entries → a ≡ first → b ≡ capped entries → c ≡ capped (b + a) → d ≡ capped (c + 4) → d ≡ capped (sum + 4)
 total_is sum first entries a b c d e f g h k = omega (arith, e, f, g, h, k)

@@ -13,7 +13,7 @@ ghost use Rattle.woven_code.specs.Code.{items_of, handed_on, place_of, IsCut, Is
 use crate::count::counted;
 use crate::size::code_size;
 use block_list::CodeBlock;
-use qed_model::limits::{MAX_CODE_BYTES, MAX_NEAR_CODE_BYTES};
+use qed_model::limits::MAX_NEAR_CODE_BYTES;
 use qed_model::{Options, Test};
 use relinker::{Layout, LinkError, Linked, lay};
 use std::alloc::{AllocError, Global};
@@ -113,27 +113,6 @@ pub(crate) fn is_far(test: &Test, options: &Options, blocks: &[CodeBlock]) -> bo
     code_size(test, options, false, blocks) > MAX_NEAR_CODE_BYTES
 }
 
-/// Tests the limit of the far form, where that is taken.
-fn check_far(
-    test: &Test,
-    options: &Options,
-    blocks: &[CodeBlock],
-    far: bool,
-) -> Result<(), LinkError>
-    requires cut { (f : ElfFile) × IsCut f options.now test.now blocks.now }
-    requires form { (f : ElfFile) → IsCut f options.now test.now blocks.now → is_far_code f options.now (map block_of blocks.now) ≡ far }
-    ensures { IfErr result (λ e. (f : ElfFile) → IsCut f options.now test.now blocks.now → HasCause f options.now blocks.now e) }
-{
-    if !far {
-        return Ok(());
-    }
-    let size = code_size(test, options, true, blocks);
-    if size > MAX_CODE_BYTES {
-        return Err(LinkError::TooLarge(size));
-    }
-    Ok(())
-}
-
 /// The new code of a test that was admitted, in the near form where that has at most 1,048,576 bytes, else in the far form. The
 /// bytes are counted before any item is made.
 ///
@@ -149,6 +128,5 @@ pub fn woven_code(
     ensures cause { IfErr result (λ e. (f : ElfFile) → IsCut f options.now test.now blocks.now → HasCause f options.now blocks.now e) }
 {
     let far = is_far(test, options, blocks);
-    check_far(test, options, blocks, far)?;
     code_in(alloc, test, options, blocks, far)
 }

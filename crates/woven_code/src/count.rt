@@ -1,26 +1,27 @@
 //! The count of the items of new code, by its blocks alone: no item is made.
 ghost use Rattle.std.specs.Prelude.{◌≡◌, ◌+◌, ◌-◌, ◌^◌, ◌<◌, ◌≤◌, All, length, IfOk};
-ghost use Rattle.relinker.specs.Counted.{HasCounted};
+ghost use Rattle.relinker.specs.Counted.{capped, HasCounted};
 ghost use Rattle.test_weave.specs.Fits.{FitsBlock};
 ghost use Rattle.woven_code.specs.Code.{items_of};
 ghost use Rattle.woven_code.specs.Sizes.{blocks_bytes, rows_of};
 
-use crate::size::{Sizes, block_size, blocks_size, prologue_size, sizes_of};
+use crate::size::{Sizes, block_size, prologue_size, sizes_of};
 use block_list::CodeBlock;
 use qed_model::{EntryRow, Options, Test};
 use relinker::Count;
 use std::alloc::{AllocError, Global};
 
-/// Where the marks of blocks stand, of which the first stands at `first`, and where the last block ends.
+/// Where the marks of blocks stand, of which the first stands at `first`, and where the last block ends, 2^64 - 1 at most.
 #[tactic(auto, using(crate::proofs::RowLaws::rows_none, crate::proofs::RowLaws::rows_all))]
 fn rows(
     alloc: Global,
     sizes: &Sizes,
     first: u64,
     blocks: &[CodeBlock],
-) -> Result<Vec<EntryRow>, AllocError>
+) -> Result<(Vec<EntryRow>, u64), AllocError>
     requires { sizes.now.go ≤ 8 }
-    ensures { IfOk result (λ rows. first + blocks_bytes sizes.now blocks.now < 2 ^ 64 - 1 → rows.items ≡ rows_of sizes.now first blocks.now) }
+    ensures rows { IfOk result (λ made. first + blocks_bytes sizes.now blocks.now < 2 ^ 64 - 1 → made.0.items ≡ rows_of sizes.now first blocks.now) }
+    ensures end { IfOk result (λ made. made.1 ≡ capped (first + blocks_bytes sizes.now blocks.now)) }
 {
     let mut rows = Vec::new(alloc);
     let mut at = first;
@@ -31,7 +32,7 @@ fn rows(
         })?;
         at = at.saturating_add(block_size(sizes, block));
     }
-    Ok(rows)
+    Ok((rows, at))
 }
 
 /// Counts the items of the new code in one form.
@@ -50,7 +51,6 @@ pub(crate) fn counted(
 {
     let sizes = sizes_of(test, options, far);
     let first = prologue_size(test.span.as_slice(), sizes.go);
-    let rows = rows(alloc, &sizes, first, blocks)?;
-    let bytes = blocks_size(&sizes, blocks).saturating_add(first);
+    let (rows, bytes) = rows(alloc, &sizes, first, blocks)?;
     Ok(Count::of(far, bytes, rows))
 }

@@ -209,7 +209,7 @@ pub(crate) fn block_size(sizes: &Sizes, block: &CodeBlock) -> u64
 }
 
 /// The bytes of blocks, 2^64 - 1 at most.
-pub(crate) fn blocks_size(sizes: &Sizes, blocks: &[CodeBlock]) -> u64
+fn blocks_size(sizes: &Sizes, blocks: &[CodeBlock]) -> u64
     requires { sizes.now.go ≤ 8 }
     ensures { result ≡ capped (blocks_bytes sizes.now blocks.now) }
 {

@@ -20,9 +20,3 @@ returns-clause-code c = code_result c.args.options.now c.args.test.now c.args.bl
 
 pub returns-clause-cause : goal.returns-clause-cause
 returns-clause-cause c = code_error c.args.options.now c.args.test.now c.args.blocks.now c.is_far-far.result c.is_far-far.ensures c.code_in.result c.code_in.ensures.cause
-
-pub check_far-requires-clause-cut : goal.check_far-requires-clause-cut
-check_far-requires-clause-cut c = c.requires
-
-pub check_far-requires-clause-form : goal.check_far-requires-clause-form
-check_far-requires-clause-form c = c.is_far-far.ensures

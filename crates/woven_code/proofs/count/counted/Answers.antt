@@ -2,7 +2,7 @@ use Rattle.std.proofs.Common.{◌≡◌, ◌∙◌, sym, ap, arith}
 use Rattle.woven_code.specs.Code.{items_of}
 use Rattle.woven_code.specs.Sizes.{prologue_bytes, rows_of}
 use Rattle.woven_code.proofs.RowLaws.{items_marked}
-use Rattle.woven_code.proofs.Sizing.{code_is, sum_is}
+use Rattle.woven_code.proofs.Sizing.{code_is}
 use Rattle.woven_code.proofs.count.counted.Goals as goal
 
 pub returns-clause-counted : goal.returns-clause-counted
@@ -14,8 +14,8 @@ returns-clause-counted c =
     let blocks = c.args.blocks.now in
     let sum = code_is far o t s blocks c.sizes_of-sizes.ensures c.requires.fit in
     let first : c.prologue_size-first.result ≡ prologue_bytes s.go t.span = c.prologue_size-first.ensures ∙ ap (λ rs. prologue_bytes s.go rs) c.as_slice.ensures in
-    c.of.ensures.counted (items_of t o far blocks) (sum_is _ _ _ _ _ _ sum first c.blocks_size.ensures c.saturating_add-bytes.ensures)
+    c.of.ensures.counted (items_of t o far blocks) (omega (arith, sum, first, c.in_ok-rows.ensures.end))
     (λ small.
-    c.in_ok-rows.ensures (omega (arith, small, sum, first))
+    c.in_ok-rows.ensures.rows (omega (arith, small, sum, first))
     ∙ ap (λ n. rows_of s n blocks) first
     ∙ sym (items_marked far o t s blocks c.sizes_of-sizes.ensures c.requires.fit))
