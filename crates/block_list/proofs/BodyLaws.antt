@@ -1,7 +1,7 @@
 -- Bodies of blocks, along the words of the code.
-use Rattle.std.proofs.Common.{◌≡◌, inl, inr, ⊎_elim, ℕ, zero, suc, ◌+◌, ◌*◌, ◌%◌, ◌<◌, ◌≤◌, Bool, true, false, not, ◌&&◌, List, [], ◌∷◌, length, map, take, Some, None, refl, sym, ap, ◌∙◌, subst, arith}
+use Rattle.std.proofs.Common.{◌≡◌, inl, inr, ⊎_elim, ℕ, zero, suc, ◌+◌, ◌*◌, ◌<◌, ◌≤◌, Bool, true, false, not, ◌&&◌, List, [], ◌∷◌, length, map, take, Some, None, refl, sym, ap, ◌∙◌, subst, arith}
 use Rattle.std.specs.Prelude.{AllPairs, ◌==◌, ◌↔◌, IsTrue, if◌then◌else◌}
-use Rattle.std.proofs.lemmas.Bool.{false≢true, eqb-true, eqb-false, and_parts, false_from_ne_true}
+use Rattle.std.proofs.lemmas.Bool.{false≢true, eqb-true, eqb-false, false_from_ne_true}
 use Rattle.elf_types.specs.declared.file.ElfFile.{ElfFile}
 use Rattle.rv_isa.specs.declared.ins.Ins.{Ins}
 use Rattle.rv_isa.specs.Kind.{class_of}
@@ -13,6 +13,7 @@ use Rattle.qed_model.specs.Admission.CodeWords.{is_code, instruction_at}
 use Rattle.qed_model.specs.Admission.Leaders.{IsLeader, is_end}
 use Rattle.qed_model.specs.Admission.Test.{AreCodeWords}
 use Rattle.qed_model.proofs.Among.{among_of}
+use Rattle.qed_model.proofs.Fetches.{code_grain}
 use Rattle.qed_model.specs.Members.{Among}
 use Rattle.flow_recovery.proofs.CodeLaws.{word_code, word_stands}
 use Rattle.block_list.specs.Bodies.{ends, size_behind, end_behind, body_size, body_end}
@@ -69,9 +70,6 @@ module _ (f : ElfFile) where
   }
 
   -- ---- what stands right behind a word
-  grain : (a : ℕ) → is_code f a ≡ true → a % 4 ≡ 0
-  grain a e = eqb-true (a % 4) 0 (and_parts (a % 4 == 0) _ e).0
-
   -- nothing, where there is no word
   none_behind : (p : ℕ) → Rest (p + 1) [] → is_code f (p + 4) ≡ false
   none_behind p r = false_from_ne_true (is_code f (p + 4)) (λ e. r.complete (p + 4) (omega arith) e)
@@ -82,8 +80,8 @@ module _ (f : ElfFile) where
       false_from_ne_true (is_code f (p + 4))
       (λ e.
       let low = r.ascend.0 in
-      let at = grain w.at r.ascend.1 in
-      let here = grain p c in
+      let at = code_grain f w.at r.ascend.1 in
+      let here = code_grain f p c in
       ⊎_elim
       (λ s. ne (sym s))
       (λ m. let h = above (w.at + 1) (p + 4) ws r.ascend.3 m in omega (arith, low, at, here, h))

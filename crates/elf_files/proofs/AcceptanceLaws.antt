@@ -15,7 +15,8 @@ use Rattle.elf_files.specs.File.{File, WithinReadLimits, IsReadAs}
 use Rattle.elf_types.specs.declared.file.ElfFile.{ElfFile}
 use Rattle.std.proofs.lemmas.Bool.{le-ltb, ltb-false, leb-false}
 use Rattle.qed_model.proofs.BelowLaws.{each_fails, first_least}
-use Rattle.elf_files.proofs.RefusalLaws.{none_found, none_of}
+use Rattle.qed_model.proofs.AdmissionLaws.{by_some}
+use Rattle.elf_files.proofs.RefusalLaws.{none_found}
 
 -- ---- rules that refuse nothing
 abbrev AllPass : List Check → Type 0
@@ -37,7 +38,7 @@ some_none (Some i) none some = absurd cc
 
 pairs_none : (e : ℕ → ℕ → ElfError) (place : ℕ → Option ℕ) (n : ℕ) (o : Option ℕ) → first n (λ i. is_some (place i)) ≡ o → refuse_found_at e place o ≡ Ok tt
     → (i : ℕ) → i < n → place i ≡ None
-pairs_none e place n None found h i lt = none_of (place i) (each_fails n (λ k. is_some (place k)) found i lt)
+pairs_none e place n None found h i lt = by_some (place i) (each_fails n (λ k. is_some (place k)) found i lt)
 pairs_none e place n (Some j) found h i lt = absurd (some_none (place j) (none_found (e j) (place j) h) (first_least n (λ k. is_some (place k)) j found).passes)
 
 is_equal : (a b : ℕ) → not (eqb a b) ≡ false → a ≡ b

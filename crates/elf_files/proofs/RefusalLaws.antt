@@ -14,6 +14,7 @@ use Rattle.elf_files.specs.Fields.{HasTables, e_class, e_encoding, e_ident_versi
 use Rattle.elf_files.specs.Rules.{Check, refuse, refuse_found, refuse_found_at, first_refusal, HasParts, is_segment_outside, is_section_outside, segment_place_rule, section_place_rule, magic_rule, header_rule, class_rule, encoding_rule, version_rule, file_type_rule, machine_rule, header_shape_rule, header_rules, program_table_rule, section_table_rule, is_misshapen, segment_shape_rule, do_overlap, overlapped, segment_overlap_rule, is_section_misshapen, section_shape_rule, has_entries, has_strings, is_misnamed, symbol_table, symbols_rule, rule_at, symbol_shape_rule, is_counted, symbol_count, section_bytes, rela_fault, rela_shape_rule, counted_bytes, section_count_rule, byte_count_rule, table_rules, part_rules, verdict, read_verdict}
 use Rattle.elf_files.specs.Refusals.{HasFault, IsRefused}
 use Rattle.qed_model.proofs.BelowLaws.{each_fails, first_least}
+use Rattle.qed_model.proofs.AdmissionLaws.{by_some}
 
 pub none_found : (e : ℕ → ElfError) (o : Option ℕ) → refuse_found e o ≡ Ok tt → o ≡ None
 none_found e None h = refl
@@ -149,10 +150,6 @@ segment_shape_says : (file : List ℕ) → Says file (segment_shape_rule file)
 unfolding segment_shape_rule
 segment_shape_says file = found_says file error.SegmentShape _ (first_least (e_phnum file) (λ i. is_misshapen (program_header file i)))
 
-pub none_of : (o : Option ℕ) → is_some o ≡ false → o ≡ None
-none_of None h = refl
-none_of (Some i) h = absurd cc
-
 segment_overlap_says : (file : List ℕ) → Says file (segment_overlap_rule file)
 unfolding segment_overlap_rule overlapped
 segment_overlap_says file = found_at_says file error.SegmentOverlap (overlapped file) _ (λ i j one two.
@@ -160,7 +157,7 @@ segment_overlap_says file = found_at_says file error.SegmentOverlap (overlapped 
     record {
       pair = first_least (e_phnum file) (λ k. ltb i k && do_overlap (program_header file i) (program_header file k)) j two;
       least = λ h k hi hk lt.
-          let none = none_of (overlapped file h) (least.least h hi) in
+          let none = by_some (overlapped file h) (least.least h hi) in
           let both = each_fails (e_phnum file) (λ q. ltb h q && do_overlap (program_header file h) (program_header file q)) none k lt in
           let so : ltb h k ≡ true = grind (arith, nat_tests) in
           rw so at both;

@@ -1,7 +1,7 @@
 -- Records of a table that is known as a list.
 use Rattle.std.proofs.Common.{◌≡◌, ℕ, zero, suc, ◌+◌, ◌<◌, Bool, false, List, [], ◌∷◌, length, map, get_or, None, refl, ap, ◌∙◌, arith}
 use Rattle.std.specs.Prelude.{All}
-use Rattle.qed_model.specs.Below.{first, sum_below, each, gather}
+use Rattle.qed_model.specs.Below.{first, sum_below, each}
 use Rattle.qed_model.proofs.BelowLaws.{first_none}
 
 -- at each number below its length, the function gives the list's item
@@ -71,9 +71,3 @@ sum_listed h g (x ∷ xs) l =
     let head : h (g 0) ≡ h x = ap h (l.at 0 (omega arith)) in
     let rest = sum_listed h (λ i. g (i + 1)) xs (lists_tail g x xs l) in
     omega (arith, sum_cons (length xs) (λ i. h (g i)), head, rest)
-
--- lists of which each is empty
-pub gather_nothing : {A : Type 0} (n : ℕ) (f : ℕ → List A) → ((i : ℕ) → i < n → f i ≡ []) → gather n f ≡ []
-unfolding gather
-gather_nothing zero f none = refl
-gather_nothing (suc n) f none = rw (gather_nothing n f (λ i lt. none i (omega arith)), none n (omega arith)) refl

@@ -1,15 +1,12 @@
 -- Names of a string table that was written, read.
-use Rattle.std.proofs.Common.{◌≡◌, ◌≢◌, ℕ, zero, suc, ◌+◌, ◌-◌, ◌<◌, false, eqb, List, [], ◌∷◌, ◌++◌, length, get_or, Some, refl, ◌∙◌, arith, length-append}
+use Rattle.std.proofs.Common.{◌≡◌, ℕ, ◌+◌, ◌-◌, ◌<◌, false, eqb, List, [], ◌∷◌, ◌++◌, length, get_or, Some, refl, ◌∙◌, arith, length-append}
 use Rattle.std.proofs.lemmas.Bool.Decides.{nat_tests}
 use Rattle.std.proofs.lemmas.List.{get_or_append_left, get_or_at}
+use Rattle.std.proofs.lemmas.Bool.{ne_eqb}
 use Rattle.elf_files.specs.Rules.{name_length, name_at, is_unended}
 use Rattle.qed_model.specs.Elf.Layout.{IsName, names_bytes, string_table}
 use Rattle.qed_model.proofs.BelowLaws.{first_found}
 use Rattle.elf_write.proofs.Stands.{Stands, stands_whole, stands_left, stands_right, stands_within, stands_slice, stands_item}
-
-differs : (a : ℕ) → a ≢ 0 → eqb a 0 ≡ false
-differs zero h = absurd (h refl)
-differs (suc a) h = grind (arith, nat_tests)
 
 -- what is read at an offset of a string table
 pub record NameRead (table : List ℕ) (at : ℕ) (name : List ℕ) : Type 0 where
@@ -25,7 +22,7 @@ length_read table at name is s =
     first_found (length table - at) (λ k. eqb (get_or table (at + k) 0) 0) (length name) (omega (arith, within, long)) (rw last refl)
     (λ k lt.
     let e : get_or table (at + k) 0 ≡ get_or name k 0 = stands_item (name ++ 0 ∷ []) k 0 (omega (arith, long)) s ∙ get_or_append_left name (0 ∷ []) 0 k lt in
-    rw e (differs (get_or name k 0) (is k 0 lt)))
+    rw e (ne_eqb (get_or name k 0) 0 (is k 0 lt)))
 
 -- a name with its zero byte behind the first byte of the table
 pub name_read : (table : List ℕ) (at : ℕ) (name : List ℕ) → 0 < at → IsName name → Stands table at (name ++ 0 ∷ []) → NameRead table at name

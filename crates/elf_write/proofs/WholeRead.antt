@@ -20,10 +20,11 @@ use Rattle.qed_model.specs.Elf.Written.{program_headers}
 use Rattle.qed_model.specs.Elf.Layout.{IsWritable, IsName, names_bytes, string_table, symbol_names, section_names, table_names, symtab_name, strtab_name, shstrtab_name, first_global, headers_bytes, headers_of, null_header, symtab_header, strtab_header, shstrtab_header, start_of, own_place, headers_place, written}
 use Rattle.qed_model.specs.Elf.FileRead.{null_section, section_read, table_read, tables_read, file_read}
 use Rattle.qed_model.proofs.ProgramHeaders.{length-program_headers}
+use Rattle.qed_model.proofs.BelowLaws.{gather_nothing}
 use Rattle.elf_write.specs.Widths.{SegmentFits, SectionFits, SymbolFits}
 use Rattle.elf_write.proofs.Sizes.{ends_within, laid_out, length-written, length-headers_of, length-section_names}
 use Rattle.elf_write.proofs.Stands.{Stands, stands_at, stands_within}
-use Rattle.elf_write.proofs.Listing.{none_passes, each_same, each_listed, sum_listed, sum_same, total, total-map, gather_nothing}
+use Rattle.elf_write.proofs.Listing.{none_passes, each_same, each_listed, sum_listed, sum_same, total, total-map}
 use Rattle.elf_write.proofs.NamesRead.{NameRead, empty_read, first_name, other_names, names_stand}
 use Rattle.elf_write.proofs.RecordsRead.{HeaderFits, headers_read, programs_read}
 use Rattle.elf_write.proofs.HeaderRead.{HeaderRead, header_read, parts_stand}

@@ -9,6 +9,7 @@ use Rattle.qed_model.specs.Machine.Table.{ins}
 use Rattle.qed_model.specs.declared.item.Item.TheVariants.{Plain, Constant}
 use Rattle.qed_model.specs.Weave.Placed.{distance_between, upper_part, lower_part}
 use Rattle.qed_model.specs.Weave.Sequences.{Form, sweep, sweep_range, compare, leave_as, mirrored}
+use Rattle.qed_model.proofs.Walk.{brk}
 use Rattle.weave_core.specs.Lock.{first_load, mirror_place, second_load, word_check}
 use Rattle.weave_core.specs.KindItems.{LockItems, LandItems, end_ends}
 use Rattle.weave_core.proofs.KindItems.{leave_items}
@@ -17,7 +18,7 @@ use Rattle.weave_core.proofs.ScratchParts.{plain_mirrors_fit}
 use Rattle.passes.specs.Honest.{NoBreak, words, HonestItems}
 use Rattle.passes.specs.Pass.{Honest, Lockstep}
 use Rattle.passes.specs.Compose.{honest_items_then, honest_items_none}
-use Rattle.passes.proofs.HonestWords.{brk, other_word, honest_end, honest_constant}
+use Rattle.passes.proofs.HonestWords.{other_word, honest_end, honest_constant}
 use Rattle.eddi_dup.specs.Laws.{honest_compare}
 use Rattle.end_sweep.specs.Ending.{swept_end}
 pub use Rattle.weave_core.proofs.LeaveLaws.{quiet_sweep}

@@ -2,24 +2,25 @@
 use Rattle.std.proofs.Common.{◌≡◌, ℕ, zero, suc, ◌+◌, ◌-◌, ◌<◌, ◌≤◌, false, cond, List, [], ◌∷◌, ◌++◌, length, get_or, drop, take, drop-cons, add-one, refl, sym, ap, ◌∙◌, subst, arith}
 use Rattle.std.proofs.Math.Seq.{take-suc}
 use Rattle.std.proofs.lemmas.List.{take-append-drop, drop_all}
-use Rattle.std.specs.Prelude.{◌==◌, All}
+use Rattle.std.specs.Prelude.{◌==◌, All, Result, Ok, Err, IfErr}
 use Rattle.std.proofs.lemmas.List.Elements.{All-nil, All-cons}
 use Rattle.std.proofs.lemmas.Bool.{eq-eqb, ne_eqb}
 use Rattle.qed_model.specs.declared.change.Change.{Change}
 use Rattle.qed_model.specs.Machine.Step.{State, step}
 use Rattle.qed_model.specs.Machine.Progress.{Progress, advanced, steps_after, progress}
 use Rattle.qed_model.specs.Promise.Changed.{changed, with_changes, changed_run, Ordered}
+use Rattle.qed_model.proofs.Changes.{AllBy, none_left}
 use Rattle.fault_inject.specs.Counted.{changed_steps, IsPartOf}
 use Rattle.rv_step.proofs.Running.{progress_last}
+
+-- what holds anyway holds of an Err
+pub any_err : {T E : Type 0} (r : Result T E) (P : Type 0) → P → IfErr r (λ _. P)
+any_err (Ok x) P p = tt
+any_err (Err e) P p = p
 
 -- a machine after n steps with changes
 abbrev pub changed_progress : Progress → List Change → ℕ → Progress
 changed_progress m cs n = record { state = changed_run m.state cs n; steps = changed_steps m cs n }
-
--- each change is made after t steps at the latest
-abbrev pub AllBy : ℕ → List Change → Type 0
-AllBy t [] = Unit {0}
-AllBy t (c ∷ cs) = (c.step ≤ t) × AllBy t cs
 
 -- each change is made after t steps at the earliest
 abbrev pub AllFrom : ℕ → List Change → Type 0
@@ -27,12 +28,6 @@ AllFrom t [] = Unit {0}
 AllFrom t (c ∷ cs) = (t ≤ c.step) × AllFrom t cs
 
 -- ---- the changes of one step
--- none is made where each comes before
-none_left : (n t : ℕ) (cs : List Change) (s : State) → AllBy t cs → t < n → with_changes cs n s ≡ s
-unfolding with_changes
-none_left n t [] s by h = refl
-none_left n t (c ∷ cs) s by h = let e : (c.step == n) ≡ false = ne_eqb c.step n (λ x. absurd (omega (arith, x, by.0))) in ap (λ b. with_changes cs n (cond b (changed c s) s)) e ∙ none_left n t cs s by.1 h
-
 -- none is made where each comes later
 none_yet : (n t : ℕ) (cs : List Change) (s : State) → AllFrom t cs → n < t → with_changes cs n s ≡ s
 unfolding with_changes

@@ -1,5 +1,5 @@
 -- Where a run does not trap and no jump leads astray in it, it is steady: each jump by register leads to an address that is reached.
-use Rattle.std.proofs.Common.{◌≡◌, ℕ, zero, suc, ◌+◌, ◌%◌, ◌≤◌, Bool, true, false, cond, ◌&&◌, Option, Some, None, List, [], refl, sym, ap, ◌∙◌, subst, arith}
+use Rattle.std.proofs.Common.{◌≡◌, ℕ, suc, ◌+◌, ◌%◌, ◌≤◌, Bool, true, false, cond, ◌&&◌, Option, Some, None, List, [], refl, sym, ap, ◌∙◌, subst, arith}
 use Rattle.std.specs.Prelude.{◌==◌, not}
 use Rattle.std.specs.Option.{option_map}
 use Rattle.rv_isa.specs.declared.ins.Ins.{Ins}
@@ -9,26 +9,17 @@ use Rattle.qed_model.specs.Admission.Leaders.{is_indirect}
 use Rattle.qed_model.specs.declared.machine.Cause.TheVariants as cause
 use Rattle.qed_model.specs.declared.machine.Outcome.TheVariants.{Going}
 use Rattle.qed_model.specs.Machine.Step.{State, Known, execute, jumped, moved, trapped, next, step, run}
-use Rattle.qed_model.specs.Promise.Changed.{with_changes, changed_run}
+use Rattle.qed_model.specs.Promise.Changed.{changed_run}
 use Rattle.qed_model.specs.Promise.Kept.{is_trapped, NotTrapped, IsSteady}
 use Rattle.qed_model.proofs.BelowLaws.{each_fails}
 use Rattle.qed_model.proofs.Steps.{step-class}
-use Rattle.qed_model.proofs.Walk.{run-more}
+use Rattle.qed_model.proofs.Walk.{run-last}
+use Rattle.qed_model.proofs.Changes.{run_unchanged}
 use Rattle.weave_core.proofs.Source.{not_trapped_le}
 use Rattle.rv_step.specs.Known.{instruction_of, known_at, goes_on}
 use Rattle.fault_inject.specs.Astray.{is_jalr, is_astray, jump_of, first_jump, first_astray}
 
 -- ---- runs
-pub run-last : (s : State) (n : ℕ) → run s (n + 1) ≡ step (run s n)
-unfolding run
-run-last s n = run-more s n 1
-
--- one with no changes
-pub run_unchanged : (s : State) (n : ℕ) → changed_run s [] n ≡ run s n
-unfolding changed_run with_changes run
-run_unchanged s zero = refl
-run_unchanged s (suc n) = let e : n + 1 ≡ suc n = omega arith in ap step (run_unchanged s n) ∙ sym (run-last s n) ∙ ap (run s) e
-
 -- ---- jumps by register
 -- one that does not trap goes on
 either : (b : Bool) (s t : State) → s.outcome ≡ Going → is_trapped t.outcome ≡ true → NotTrapped (cond b s t) → goes_on (cond b s t).outcome ≡ true

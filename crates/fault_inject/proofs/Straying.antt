@@ -6,11 +6,11 @@ use Rattle.std.specs.Option.{option_map, option_or}
 use Rattle.qed_model.specs.Below.{first, first_from}
 use Rattle.qed_model.specs.declared.change.Change.{Change}
 use Rattle.qed_model.specs.Machine.Step.{State, step}
-use Rattle.qed_model.specs.Machine.Progress.{Progress, advanced, begun, progress}
+use Rattle.qed_model.specs.Machine.Progress.{Progress, advanced, progress}
 use Rattle.qed_model.specs.Promise.Changed.{changed_run}
 use Rattle.qed_model.proofs.BelowLaws.{first_none}
 use Rattle.rv_step.specs.Known.{known_at, goes_on}
-use Rattle.rv_step.proofs.Running.{progress_last, progress_more, stays_long}
+use Rattle.rv_step.proofs.Running.{progress_last, progress_more, stays_long, stays_step}
 use Rattle.fault_inject.specs.Astray.{is_jalr, is_astray, jump_of, astray_of, first_jump, first_astray}
 use Rattle.fault_inject.proofs.Changing.{AllFrom, Reached, changed_progress, later_run, plain}
 
@@ -91,11 +91,6 @@ in_next r f n =
 abbrev pub states : Progress → ℕ → State
 states p k = (progress p k).state
 
--- none, and one more, of the machine
-pub none_made : (p : Progress) → p ≡ progress p 0
-unfolding progress
-none_made p = refl
-
 pub made_next : (p q next : Progress) (n : ℕ) → q ≡ progress p n → next ≡ advanced q → next ≡ progress p (n + 1)
 made_next p q next n at is = let more : suc n ≡ n + 1 = omega arith in is ∙ ap advanced at ∙ sym (progress_last p n) ∙ ap (progress p) more
 
@@ -103,11 +98,6 @@ made_next p q next n at is = let more : suc n ≡ n + 1 = omega arith in is ∙ 
 pub step_next : (r : ℕ → Bool) (p q : Progress) (n : ℕ) (found more : Option (ℕ × ℕ)) → q ≡ progress p n → found ≡ first_jump r (states p) n → more ≡ astray_of r q.state → option_or found more ≡ first_jump r (states p) (n + 1)
 step_next r p q n found more at so_far here =
     ap (λ o. option_or o more) so_far ∙ ap (option_or (first_jump r (states p) n)) (here ∙ ap (λ x. astray_of r x.state) at) ∙ in_next r (states p) n
-
--- a state that has stopped stays
-pub step_stays : (s : State) → goes_on s.outcome ≡ false → step s ≡ s
-unfolding progress advanced
-step_stays s h = ap (λ q. q.state) (stays_long (begun s) 1 h)
 
 no_second : (a b c : Bool) → b ≡ false → (a && (b && c)) ≡ false
 no_second true true c h = absurd (cc)
@@ -117,7 +107,7 @@ no_second false b c h = refl
 -- so it does not jump
 never_stopped : (r : ℕ → Bool) (s : State) → goes_on s.outcome ≡ false → is_astray r s ≡ false
 unfolding is_astray
-never_stopped r s h = no_second (is_jalr (known_at s s.pc)) (goes_on (step s).outcome) (not (r (step s).pc)) (ap (λ t. goes_on t.outcome) (step_stays s h) ∙ h)
+never_stopped r s h = no_second (is_jalr (known_at s s.pc)) (goes_on (step s).outcome) (not (r (step s).pc)) (ap (λ t. goes_on t.outcome) (stays_step s h) ∙ h)
 
 none_of : (r : ℕ → Bool) (f : ℕ → State) (n : ℕ) → ((j : ℕ) → j < n → is_astray r (f j) ≡ false) → first_jump r f n ≡ None
 unfolding first_jump

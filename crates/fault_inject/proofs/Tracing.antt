@@ -1,5 +1,5 @@
 -- What the steps of a run touch: one step more, and steps that touch no byte of a word.
-use Rattle.std.proofs.Common.{◌≡◌, ◌⊎◌, inl, inr, ℕ, zero, suc, ◌+◌, ◌<◌, ◌≤◌, [], ◌∷◌, ◌++◌, length, get_or, refl, sym, ap, ◌∙◌, subst, arith}
+use Rattle.std.proofs.Common.{◌≡◌, ◌⊎◌, inl, inr, ℕ, zero, suc, ◌+◌, ◌<◌, ◌≤◌, [], ◌∷◌, ◌++◌, length, get_or, sym, ap, ◌∙◌, subst, arith}
 use Rattle.std.proofs.lemmas.Bool.{cases_lt}
 use Rattle.std.proofs.Math.Seq.{get_or-append_seam}
 use Rattle.std.proofs.Math.ListN.{get_or-append}
@@ -9,9 +9,9 @@ use Rattle.qed_model.specs.Below.{each}
 use Rattle.qed_model.specs.Machine.Progress.{Progress, advanced}
 use Rattle.qed_model.specs.Machine.Step.{State, run, step}
 use Rattle.qed_model.proofs.BelowLaws.{each_none, length-each, push_each}
+use Rattle.qed_model.proofs.Walk.{run-last}
 use Rattle.fault_inject.specs.declared.trace.Trace.{Trace}
 use Rattle.fault_inject.specs.Touched.{touched, IsFar, IsLonger, IsTrace}
-use Rattle.fault_inject.proofs.Steadiness.{run-last}
 
 -- ---- what a function gives at a number stands there
 last_each : {A : Type 0} (n : ℕ) (f : ℕ → A) (k : ℕ) (d : A) → (k < n → get_or (each n f) k d ≡ f k) → k < n + 1 → (k < n) ⊎ (n ≤ k) → get_or (each n f ++ f n ∷ []) k d ≡ f k
@@ -62,11 +62,6 @@ trace_more s u before after n is count here going l =
       low = λ k x. at_last (λ j. after.low ≤ (run s j).pc) k n (λ j y. let z = is.low j (omega (arith, y, count)) in omega (arith, z, low.0)) (subst (λ t. after.low ≤ t.pc) here low.1) (omega (arith, x, size)) (cases_lt k n);
       high = λ k x. at_last (λ j. (run s j).pc ≤ after.high) k n (λ j y. let z = is.high j (omega (arith, y, count)) in omega (arith, z, high.0)) (subst (λ t. t.pc ≤ after.high) here high.1) (omega (arith, x, size)) (cases_lt k n);
     }
-
--- no step
-pub no_steps : (s : State) → s ≡ run s 0
-unfolding run
-no_steps s = refl
 
 -- a machine goes one step on
 pub steps_on : (s : State) (p q : Progress) (n : ℕ) → p.state ≡ run s n → q ≡ advanced p → q.state ≡ run s (n + 1)

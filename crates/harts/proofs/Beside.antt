@@ -12,7 +12,7 @@ use Rattle.rv_isa.specs.Regs.{set_reg}
 use Rattle.qed_model.specs.declared.machine.Cause.{Cause}
 use Rattle.qed_model.specs.declared.machine.Cause.TheVariants as cause
 use Rattle.qed_model.specs.declared.machine.Outcome.{Outcome}
-use Rattle.qed_model.specs.declared.machine.Outcome.TheVariants.{Going, Ended, Fired, Trapped}
+use Rattle.qed_model.specs.declared.machine.Outcome.TheVariants.{Going, Ended, Fired}
 use Rattle.qed_model.specs.declared.change.Place.{Place}
 use Rattle.qed_model.specs.declared.change.Place.TheVariants.{Reg, Word}
 use Rattle.qed_model.specs.declared.change.Change.{Change}
@@ -28,6 +28,7 @@ use Rattle.harts.specs.Harts.{state_of, hart_of}
 use Rattle.harts.specs.Together.{LiesIn, AllLieIn}
 use Rattle.qed_model.proofs.MemoryLaws.{get-put, get-put_outside, grants_at, grants_from, same_number, wrap_offset}
 use Rattle.qed_model.proofs.CellsLaws.{byte_of_cell}
+use Rattle.qed_model.proofs.HalvesLaws.{some_of_allows}
 
 -- the hart of a state with another memory
 abbrev pub beside : Memory → State → State
@@ -45,11 +46,6 @@ pub record Does (g : Program) (m : Memory) (t v : State) : Type 0 where
   pub others : (q : ℕ) → q < 2 ^ 64 → is_mapped g q ≡ false → get v.memory q ≡ get m q
 
 -- ---- cells
--- a permitted cell is one
-mapped_of_allows : (need : Flags → Bool) (o : Option Cell) → allows need o ≡ true → is_some o ≡ true
-mapped_of_allows need None e = absurd (false≢true e)
-mapped_of_allows need (Some c) e = refl
-
 -- another byte maps and unmaps nothing
 mapped_with : (f : Cell → Cell) (o : Option Cell) → is_some (option_map f o) ≡ is_some o
 mapped_with f None = refl
@@ -65,7 +61,7 @@ module _ (g : Program) (s m : Memory) (h : Holds g s m) where
 
   -- what is granted alone is the file's own
   pub granted_own : (need : Flags → Bool) (a n : ℕ) → grants need s a n ≡ true → (k : ℕ) → k < n → is_mapped g (wrap (a + k)) ≡ true
-  granted_own need a n ok k l = sym (h.mapped (wrap (a + k))) ∙ mapped_of_allows need (get s (wrap (a + k))) (grants_at need s a n k ok l)
+  granted_own need a n ok k l = sym (h.mapped (wrap (a + k))) ∙ some_of_allows need (get s (wrap (a + k))) (grants_at need s a n k ok l)
 
   -- so its cells are the same
   granted_cell : (need : Flags → Bool) (a n : ℕ) → grants need s a n ≡ true → (k : ℕ) → k < n → get m (wrap (a + k)) ≡ get s (wrap (a + k))
@@ -200,9 +196,7 @@ module _ (g : Program) where
   -- by the outcome
   does_step_at : (o : Outcome) (s : State) (m : Memory) → Holds g s.memory m → NotTrapped (step_at o s) → Does g m (step_at o s) (step_at o (beside m s))
   does_step_at Going s m h n = does_at m (act (next s) s) (act (next s) s) (act (next (beside m s)) (beside m s)) (act (next s) (beside m s)) refl (ap (λ f. act f (beside m s)) (fetched_beside g s.memory m h s.ranges s.pc (λ e. false≢true (sym (subst (λ f. NotTrapped (act f s)) e n))))) (does_act (next s) s m h n)
-  does_step_at Ended s m h n = plain s s (beside m s) m h refl refl
-  does_step_at Fired s m h n = plain s s (beside m s) m h refl refl
-  does_step_at (Trapped c p) s m h n = plain s s (beside m s) m h refl refl
+  does_step_at o s m h n = plain s s (beside m s) m h refl refl
 
   -- one step that does not trap alone
   pub does_step : (s : State) (m : Memory) → Holds g s.memory m → NotTrapped (step s) → Does g m (step s) (step (beside m s))
@@ -218,9 +212,7 @@ module _ (g : Program) where
   -- by the outcome
   does_changed : (o : Outcome) (c : Change) (s : State) (m : Memory) → LiesIn g c.place → Holds g s.memory m → Does g m (changed_as o c s) (changed_as o c (beside m s))
   does_changed Going c s m l h = does_struck c.place c.value s m l h
-  does_changed Ended c s m l h = plain s s (beside m s) m h refl refl
-  does_changed Fired c s m l h = plain s s (beside m s) m h refl refl
-  does_changed (Trapped x p) c s m l h = plain s s (beside m s) m h refl refl
+  does_changed o c s m l h = plain s s (beside m s) m h refl refl
 
   -- where its step has come
   does_due : (b : Bool) (c : Change) (s : State) (m : Memory) → LiesIn g c.place → Holds g s.memory m → Does g m (cond b (changed c s) s) (cond b (changed c (beside m s)) (beside m s))

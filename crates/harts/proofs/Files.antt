@@ -1,10 +1,10 @@
 -- Files that share no byte, by their segments.
-use Rattle.std.proofs.Common.{◌≡◌, ◌≢◌, ℕ, zero, suc, ◌+◌, ◌^◌, ◌<◌, ◌⊎◌, inl, inr, ⊎_elim, Bool, true, false, cond, List, [], ◌∷◌, ◌++◌, length, Some, is_some, refl, sym, ap, ◌∙◌, subst, arith}
-use Rattle.std.specs.Prelude.{◌||◌, slice_get}
+use Rattle.std.proofs.Common.{◌≡◌, ◌≢◌, ℕ, zero, suc, ◌+◌, ◌^◌, ◌<◌, ◌⊎◌, inl, inr, ⊎_elim, true, false, cond, List, [], ◌∷◌, ◌++◌, length, Some, is_some, refl, sym, ap, ◌∙◌, subst, arith}
+use Rattle.std.specs.Prelude.{slice_get}
 use Rattle.std.specs.List.{list_any}
 use Rattle.std.proofs.lemmas.Bool.{false≢true, cases_lt}
-use Rattle.std.proofs.lemmas.Bool.Decides.{nat_tests}
 use Rattle.std.proofs.lemmas.Option.{slice_get_within}
+use Rattle.std.proofs.lemmas.Map.Keys.{any_passes_from_place}
 use Rattle.qed_model.specs.Machine.Program.{Program, LoadSegment}
 use Rattle.qed_model.specs.Promise.Kept.{is_mapped}
 use Rattle.harts.specs.Harts.{all_segments}
@@ -12,8 +12,10 @@ use Rattle.harts.specs.Together.{IsProgram, AreApart as FilesAreApart}
 use Rattle.qed_model.specs.Machine.Cells.{has, cell_at, cell_among}
 use Rattle.qed_model.specs.Machine.Apart.{share, FitsMemory, AllFitMemory, AreApart}
 use Rattle.qed_model.proofs.CellsAmong.{has_parts, get_among}
-use Rattle.qed_model.proofs.SegmentCells.{AllSized}
+use Rattle.qed_model.proofs.ApartLaws.{shared as share_at}
 use Rattle.harts.specs.Shared.{any_share, IsShared, AreUnshared, AreSound, FilesApart}
+use Rattle.mem_image.proofs.PagingLaws.{fits_at}
+use Rattle.mem_image.proofs.SegmentLaws.{all_sized}
 
 -- ---- a mapped address lies in a segment
 record Inside (ss : List LoadSegment) (q : ℕ) : Type 0 where
@@ -22,36 +24,22 @@ record Inside (ss : List LoadSegment) (q : ℕ) : Type 0 where
   stands : slice_get ss place ≡ Some segment
   has : has segment q ≡ true
 
-later : (s : LoadSegment) (ss : List LoadSegment) (q : ℕ) → Inside ss q → Inside (s ∷ ss) q
-later s ss q x = record { place = suc x.place; segment = x.segment; stands = x.stands; has = x.has }
-
 inside : (ss : List LoadSegment) (q : ℕ) → is_some (cell_among ss q) ≡ true → Inside ss q
 inside [] q e = absurd (false≢true e)
 inside (s ∷ ss) q e =
     elim (has s q) as (λ t. has s q ≡ t → is_some (cond t (Some (cell_at s q)) (cell_among ss q)) ≡ true → Inside (s ∷ ss) q) [
       | true ↦ λ w x. record { place = 0; segment = s; stands = refl; has = w }
-      | false ↦ λ w x. later s ss q (inside ss q x)
+      | false ↦ λ w x. let r = inside ss q x in record { place = suc r.place; segment = r.segment; stands = r.stands; has = r.has }
     ] refl e
 
--- segments that fit have no more bytes in the file than in memory
-sized : (ss : List LoadSegment) → AllFitMemory ss → AllSized ss
-sized [] h = tt
-sized (s ∷ ss) h = (h.0.0, sized ss h.1)
-
 mapped_inside : (g : Program) (q : ℕ) → AllFitMemory g.segments → is_mapped g q ≡ true → Inside g.segments q
-mapped_inside g q fit e = inside g.segments q (ap is_some (sym (get_among g.segments q (sized g.segments fit))) ∙ e)
+mapped_inside g q fit e = inside g.segments q (ap is_some (sym (get_among g.segments q (all_sized g.segments fit))) ∙ e)
 
 -- a file of a list that is sound fits
 fits : (gs : List Program) (i : ℕ) (g : Program) → AreSound gs → IsProgram gs i g → AllFitMemory g.segments
 fits [] i g sound e = absurd (cc)
 fits (x ∷ gs) zero g sound e = let is : x ≡ g = cc in subst (λ y. AllFitMemory y.segments) is sound.0
 fits (x ∷ gs) (suc i) g sound e = fits gs i g sound.2 e
-
--- a segment of a list that fits
-fits_at : (ss : List LoadSegment) (k : ℕ) (s : LoadSegment) → AllFitMemory ss → slice_get ss k ≡ Some s → FitsMemory s
-fits_at [] k s fit e = absurd (cc)
-fits_at (x ∷ ss) zero s fit e = let is : x ≡ s = cc in subst FitsMemory is fit.0
-fits_at (x ∷ ss) (suc k) s fit e = fits_at ss k s fit.1 e
 
 -- has addresses below 2^64 alone
 low_in : (s : LoadSegment) (q : ℕ) → FitsMemory s → has s q ≡ true → q < 2 ^ 64
@@ -61,23 +49,9 @@ low_in s q fit e =
     let b = p.1 in omega (arith, b, c)
 
 -- ---- the files are apart
-either : (b c : Bool) → c ≡ true → (b || c) ≡ true
-either true c e = refl
-either false c e = e
-
--- a place whose segment passes a test settles it
-any_at : (p : LoadSegment → Bool) (ss : List LoadSegment) (k : ℕ) (s : LoadSegment) → slice_get ss k ≡ Some s → p s ≡ true → list_any p ss ≡ true
-any_at p [] k s e h = absurd (cc)
-any_at p (x ∷ ss) zero s e h = let is : x ≡ s = cc in ap (λ y. p y || list_any p ss) is ∙ ap (λ b. b || list_any p ss) h
-any_at p (x ∷ ss) (suc k) s e h = either (p x) (list_any p ss) (any_at p ss k s e h)
-
 -- segments of both that share a byte
 both_at : (ss ts : List LoadSegment) (i j : ℕ) (s t : LoadSegment) → slice_get ss i ≡ Some s → slice_get ts j ≡ Some t → share s t ≡ true → any_share ss ts ≡ true
-both_at ss ts i j s t a b h = any_at (λ x. list_any (share x) ts) ss i s a (any_at (share s) ts j t b h)
-
--- two segments that have an address share a byte
-share_at : (s t : LoadSegment) (q : ℕ) → has s q ≡ true → has t q ≡ true → share s t ≡ true
-share_at s t q x y = grind (arith, nat_tests)
+both_at ss ts i j s t a b h = any_passes_from_place (λ x. list_any (share x) ts) ss i s a (any_passes_from_place (share s) ts j t b h)
 
 -- an address that two files have
 shares : (g h : Program) (q : ℕ) → Inside g.segments q → Inside h.segments q → any_share g.segments h.segments ≡ true

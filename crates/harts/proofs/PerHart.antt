@@ -1,5 +1,5 @@
 -- What is promised of a hart's file holds of the hart, in its own turns.
-use Rattle.std.proofs.Common.{◌≡◌, ℕ, zero, suc, ◌+◌, ◌≤◌, ◌⊎◌, inl, inr, Bool, true, List, [], is_some, refl, sym, ap, ◌∙◌, subst, arith}
+use Rattle.std.proofs.Common.{◌≡◌, ℕ, zero, suc, ◌≤◌, ◌⊎◌, inl, inr, Bool, true, List, [], is_some, refl, sym, ap, ◌∙◌, subst, arith}
 use Rattle.std.specs.Prelude.{◌↔◌, slice_index, replicate}
 use Rattle.std.specs.FinMap.{get}
 use Rattle.std.proofs.lemmas.Option.{same_Some}
@@ -7,15 +7,15 @@ use Rattle.qed_model.specs.declared.machine.Outcome.TheVariants.{Ended, Fired}
 use Rattle.qed_model.specs.declared.change.Change.{Change}
 use Rattle.qed_model.specs.declared.bounds.Bounds.{Bounds}
 use Rattle.qed_model.specs.Machine.Memory.{byte_in}
-use Rattle.qed_model.specs.Machine.Step.{State, step, run}
-use Rattle.qed_model.specs.Promise.Changed.{with_changes, changed_run, last_step}
+use Rattle.qed_model.specs.Machine.Step.{State}
+use Rattle.qed_model.specs.Promise.Changed.{changed_run, last_step}
 use Rattle.qed_model.specs.Machine.Program.{Program, start, zeros, AreStartRegs}
 use Rattle.qed_model.specs.Promise.Kept.{is_trapped, after_input, after_output, Halves, Preserved, NoFalseAlarm, Kept}
 use Rattle.qed_model.specs.Promise.Caught.{Same, Settles, Caught}
 use Rattle.harts.specs.Harts.{hart_of, hart_turns}
 use Rattle.harts.specs.Together.{IsProgram, own_run, IsSeen, HartKept, QuietInTurns, KeptInTurns, SameHart, SettlesInTurns, HartCaught, PerHart}
 use Rattle.qed_model.proofs.CellsLaws.{byte_of_cell}
-use Rattle.qed_model.proofs.Walk.{run-more}
+use Rattle.qed_model.proofs.Changes.{run_unchanged}
 use Rattle.harts.proofs.Beside.{Holds}
 use Rattle.harts.proofs.Together.{stand_after}
 
@@ -28,22 +28,6 @@ zero_at (suc n) (suc r) = zero_at n r
 
 zeros_are : AreStartRegs zeros
 zeros_are = record { count = refl; fit = λ r. let e = zero_at 32 r in omega (arith, e) }
-
--- no step
-run-none : (s : State) → run s 0 ≡ s
-unfolding run
-run-none s = refl
-
--- one step more
-run-last : (s : State) (n : ℕ) → run s (n + 1) ≡ step (run s n)
-unfolding run
-run-last s n = run-more s n 1
-
--- a run without changes is a run
-no_changes : (s : State) (n : ℕ) → changed_run s [] n ≡ run s n
-unfolding changed_run with_changes
-no_changes s zero = sym (run-none s)
-no_changes s (suc n) = let e : n + 1 ≡ suc n = omega arith in ap step (no_changes s n) ∙ sym (run-last s n) ∙ ap (run s) e
 
 -- ---- a hart that is seen
 -- it is the hart of its own run, and the memory has its cells
@@ -68,7 +52,7 @@ seen_mine gs i g c k u e x =
 
 -- without changes it is the plain run
 seen_plain : (gs : List Program) (i : ℕ) (g : Program) (k : ℕ) (u : State) → IsProgram gs i g → IsSeen gs i [] k u → Mine g u (after_output g zeros k)
-seen_plain gs i g k u e x = mine_as g u (changed_run (start g zeros) [] k) (after_output g zeros k) (no_changes (start g zeros) k) (seen_mine gs i g [] k u e x)
+seen_plain gs i g k u e x = mine_as g u (changed_run (start g zeros) [] k) (after_output g zeros k) (run_unchanged (start g zeros) k) (seen_mine gs i g [] k u e x)
 
 -- the outcome is that of its own run
 same_outcome : (g : Program) (u s : State) → Mine g u s → u.outcome ≡ s.outcome

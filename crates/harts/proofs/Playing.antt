@@ -1,17 +1,17 @@
 -- The hart that the code reads, and turns of a list of harts, again and again.
-use Rattle.std.proofs.Common.{◌≡◌, ℕ, zero, suc, ◌+◌, ◌-◌, ◌*◌, ◌/◌, ◌%◌, ◌<◌, ◌≤◌, false, Result, Ok, Err, Option, None, List, length, get_or, Some, refl, sym, ap, ◌∙◌, subst, arith}
-use Rattle.std.specs.Prelude.{slice_get, slice_index, slice_set, IfErr, IfSome}
+use Rattle.std.proofs.Common.{◌≡◌, ℕ, zero, suc, ◌+◌, ◌-◌, ◌*◌, ◌/◌, ◌%◌, ◌<◌, ◌≤◌, false, Option, None, List, length, get_or, Some, refl, sym, ap, ◌∙◌, subst, arith}
+use Rattle.std.specs.Prelude.{slice_get, slice_index, slice_set, IfSome}
 use Rattle.std.proofs.Math.Nat.{add-mul-mod_self_right, mod-add-div'}
 use Rattle.std.proofs.lemmas.Nat.{mod-mul-add}
 use Rattle.std.proofs.lemmas.List.{length-map, set-get_or}
-use Rattle.std.specs.Option.{option_map}
-use Rattle.std.proofs.lemmas.Option.{same_Some, slice_get-get_or, slice_get-map}
+use Rattle.std.proofs.lemmas.Option.{slice_get-get_or}
 use Rattle.qed_model.specs.declared.machine.Outcome.{Outcome}
-use Rattle.qed_model.specs.declared.machine.Outcome.TheVariants.{Going, Ended, Fired, Trapped}
+use Rattle.qed_model.specs.declared.machine.Outcome.TheVariants.{Going}
 use Rattle.qed_model.specs.Machine.Memory.{Memory}
 use Rattle.qed_model.specs.Machine.Progress.{steps_after}
-use Rattle.qed_model.specs.Machine.Step.{State, step, step_at}
+use Rattle.qed_model.specs.Machine.Step.{step}
 use Rattle.rv_step.specs.Harts.{HartState}
+use Rattle.rv_step.proofs.Running.{stays_step}
 use Rattle.harts.specs.Harts.{Hart, World, hart_of, made_of, on_hart, state_of}
 use Rattle.harts.specs.HartSteps.{Counted, bare, counted, counted_turn, counted_turns, cycled, steps_turned}
 use Rattle.harts.specs.Standing.{is_going, AreIdle}
@@ -41,21 +41,9 @@ pub there_still : (c s : Counted) (ds : List ℕ) (k : ℕ) → s ≡ counted_tu
 there_still c s ds k e some all = subst (λ n. slice_index ds (k % length ds) < n) (sym (ap (λ x. length x.world.harts) e ∙ length_turns c (cycled ds k))) (all (k % length ds) (omega (arith, some)))
 
 -- ---- turns of harts that do not go on
-stays_at : (o : Outcome) (s : State) → is_going o ≡ false → step_at o s ≡ s
-stays_at Going s h = absurd (cc)
-stays_at Ended s h = refl
-stays_at Fired s h = refl
-stays_at (Trapped x pc) s h = refl
-
-stays_step : (s : State) → is_going s.outcome ≡ false → step s ≡ s
-unfolding step
-stays_step s h = stays_at s.outcome s h
-
 as_many : (o : Outcome) (n : ℕ) → is_going o ≡ false → steps_after o n ≡ n
 as_many Going n h = absurd (cc)
-as_many Ended n h = refl
-as_many Fired n h = refl
-as_many (Trapped x pc) n h = refl
+as_many o n h = refl
 
 idle_world : (w : World) (i : ℕ) (o : Option Hart) → slice_get w.harts i ≡ o → IfSome o (λ h. is_going h.outcome ≡ false) → made_of o i step w ≡ w
 idle_world w i None e idle = refl
@@ -79,14 +67,6 @@ idle_at : (c : Counted) (ds : List ℕ) (k : ℕ) (o : Option Hart) → AreIdle 
 idle_at c ds k None idle l e = tt
 idle_at c ds k (Some h) idle l e = idle.each k h l e
 
--- a hart that the code reads
-pub idle_here :
-    (hs : List HartState) (m : Memory) (c : Counted) (i : ℕ) (s : HartState) (h : Hart) → counted hs m ≡ c → slice_get hs i ≡ Some s → slice_get c.world.harts i ≡ Some h → is_going s.outcome ≡ false
-    → is_going h.outcome ≡ false
-idle_here hs m c i s h v there e idle =
-    let same : bare s ≡ h = same_Some (bare s) h (ap (option_map bare) (sym there) ∙ sym (slice_get-map bare hs i) ∙ ap (λ x. slice_get x.world.harts i) v ∙ e) in
-    ap (λ x. is_going x.outcome) (sym same) ∙ idle
-
 -- so no more are needed
 idle_more : (c s : Counted) (ds : List ℕ) (k n : ℕ) → AreIdle s ds → 0 < length ds → s ≡ counted_turns c (cycled ds k) → s ≡ counted_turns c (cycled ds (k + n))
 unfolding counted_turns cycled
@@ -101,10 +81,6 @@ pub all_played : (c s : Counted) (ds : List ℕ) (k n : ℕ) → AreIdle s ds �
 all_played c s ds k n idle some e most = let sum : k + (n - k) ≡ n = omega arith in idle_more c s ds k (n - k) idle some e ∙ ap (λ m. counted_turns c (cycled ds m)) sum
 
 -- ---- a lack of memory
-pub any_err : {T E : Type 0} (r : Result T E) (P : Type 0) → P → IfErr r (λ _. P)
-any_err (Ok x) P p = tt
-any_err (Err e) P p = p
-
 -- ---- places that are taken round and round
 pub first_place : (n : ℕ) → 0 < n → 0 ≡ 0 % n
 first_place n some = let all : 0 * n + 0 ≡ 0 = omega arith in sym (ap (λ m. m % n) (sym all) ∙ mod-mul-add 0 n 0 some)

@@ -9,10 +9,11 @@ use Rattle.qed_model.specs.Machine.Program.{LoadSegment, memory_of}
 use Rattle.qed_model.specs.Machine.Loading.{loaded_file}
 use Rattle.rv_step.specs.Harts.{HartState}
 use Rattle.harts.specs.Harts.{all_segments, begin}
-use Rattle.harts.specs.HartSteps.{Counted, bare, counted, counted_start}
+use Rattle.harts.specs.HartSteps.{bare, counted, counted_start}
 use Rattle.harts.specs.Shared.{AreSound, AreUnshared}
 use Rattle.harts.specs.Played.{programs, started}
 use Rattle.harts.proofs.Files.{none_shared}
+use Rattle.harts.proofs.Worlds.{same_counted}
 
 -- the harts
 harts_started : (files : List ElfFile) → map bare (map started files) ≡ (begin (programs files)).harts
@@ -24,14 +25,10 @@ steps_started : (files : List ElfFile) → map (λ h. h.steps) (map started file
 steps_started [] = refl
 steps_started (f ∷ files) = ap (λ ns. 0 ∷ ns) (steps_started files)
 
--- equal parts
-same_start : (c d : Counted) → c.world.harts ≡ d.world.harts → c.world.memory ≡ d.world.memory → c.steps ≡ d.steps → c ≡ d
-same_start c d a b e = λ j. record { world = record { harts = a j; memory = b j }; steps = e j }
-
 -- the world of these harts, and of the memory of all segments
 pub world_started : (files : List ElfFile) (hs : List HartState) (m : Memory) (ss : List LoadSegment) → hs ≡ map started files → m ≡ memory_of ss → ss ≡ all_segments (programs files) → counted hs m ≡ counted_start (programs files)
 world_started files hs m ss h is e =
-    same_start (counted hs m) (counted_start (programs files))
+    same_counted (counted hs m) (counted_start (programs files))
     (ap (λ x. map bare x) h ∙ harts_started files)
     (is ∙ ap memory_of e)
     (ap (λ x. map (λ y. y.steps) x) h ∙ steps_started files)

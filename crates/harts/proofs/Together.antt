@@ -5,32 +5,22 @@ use Rattle.std.proofs.lemmas.Bool.{eq-eqb, ne_eqb, eqb-true, eqb-false, lt-ltb}
 use Rattle.std.proofs.lemmas.Bool.Decides.{nat_tests}
 use Rattle.qed_model.specs.declared.machine.Outcome.{Outcome}
 use Rattle.qed_model.specs.declared.machine.Outcome.TheVariants.{Going, Ended, Fired, Trapped}
-use Rattle.qed_model.specs.declared.change.Place.{Place}
-use Rattle.qed_model.specs.declared.change.Place.TheVariants.{Reg, Word}
 use Rattle.qed_model.specs.declared.change.Change.{Change}
 use Rattle.qed_model.specs.Machine.Step.{State, step_at, step}
-use Rattle.qed_model.specs.Machine.Struck.{struck}
 use Rattle.qed_model.specs.Promise.Changed.{changed, changed_as, with_changes, changed_run}
 use Rattle.qed_model.specs.Machine.Program.{Program, start, zeros}
 use Rattle.qed_model.specs.Promise.Kept.{is_trapped, NotTrapped}
+use Rattle.qed_model.proofs.Changes.{struck_outcome}
 use Rattle.harts.specs.Harts.{begin, hart_turns, with_first, count, turned, world_after}
-use Rattle.harts.specs.Together.{IsProgram, AreApart, own_run, AreAlone, Shows}
+use Rattle.harts.specs.Together.{IsProgram, own_run, AreAlone, Shows}
 use Rattle.harts.proofs.Beside.{does_step, does_changes}
 use Rattle.harts.proofs.Turns.{Stand, stand_as, stand_then}
 use Rattle.harts.proofs.Start.{stand_first}
 
 -- ---- what has trapped stays trapped
--- a change leaves the outcome
-struck_outcome : (p : Place) (x : ℕ) (s : State) → (struck p x s).outcome ≡ s.outcome
-unfolding struck
-struck_outcome (Reg r) x s = refl
-struck_outcome (Word a) x s = refl
-
 changed_outcome : (o : Outcome) (c : Change) (s : State) → (changed_as o c s).outcome ≡ s.outcome
 changed_outcome Going c s = struck_outcome c.place c.value s
-changed_outcome Ended c s = refl
-changed_outcome Fired c s = refl
-changed_outcome (Trapped x p) c s = refl
+changed_outcome o c s = refl
 
 due_outcome : (b : Bool) (c : Change) (s : State) → (cond b (changed c s) s).outcome ≡ s.outcome
 due_outcome true c s = changed_outcome s.outcome c s
@@ -165,8 +155,3 @@ module _ (gs : List Program) (cs : ℕ → List Change) where
 -- each hart stands as it stands alone
 pub together : (gs : List Program) (cs : ℕ → List Change) (ts : List ℕ) → AreAlone gs cs ts → (i : ℕ) (g : Program) → IsProgram gs i g → Shows g i (world_after gs cs ts) (own_run cs ts i g)
 together gs cs ts a i g e = let s = stand_after gs cs ts a in record { hart = s.harts i g e; bytes = (s.holds i g e).cells }
-
--- before any turn, and without changes, no hart is trapped
-pub alone_first : (gs : List Program) → AreApart gs → AreAlone gs (λ i. []) []
-unfolding changed_run with_changes hart_turns
-alone_first gs files = record { files = files; words = λ i g e. tt; no_trap = λ i g e. refl }

@@ -68,7 +68,7 @@ struck_is c i p x h e =
 
 -- ---- the same of harts with their steps
 -- equal parts
-same_counted : (c d : Counted) → c.world.harts ≡ d.world.harts → c.world.memory ≡ d.world.memory → c.steps ≡ d.steps → c ≡ d
+pub same_counted : (c d : Counted) → c.world.harts ≡ d.world.harts → c.world.memory ≡ d.world.memory → c.steps ≡ d.steps → c ≡ d
 same_counted c d a b e = λ j. record { world = record { harts = a j; memory = b j }; steps = e j }
 
 -- a list of which one hart, and the memory, were left as a change of states says, are the world after it

@@ -4,7 +4,7 @@ use Rattle.std.proofs.Math.Nat.{mul-le-mul}
 use Rattle.std.proofs.lemmas.Option.{same_Some}
 use Rattle.rv_isa.specs.declared.ins.Ins.{Ins}
 use Rattle.rv_isa.specs.declared.kind.Kind.{Kind}
-use Rattle.rv_isa.specs.declared.kind.Kind.TheVariants.{Sb, Sh, Sw, Lb, Lbu, Lh, Lhu, Lw, Lwu}
+use Rattle.rv_isa.specs.declared.kind.Kind.TheVariants.{Lb}
 use Rattle.rv_isa.specs.Regs.{set_reg}
 use Rattle.qed_model.specs.declared.bounds.Bounds.{Bounds}
 use Rattle.qed_model.specs.declared.change.Change.{Change}
@@ -23,17 +23,19 @@ use Rattle.qed_model.specs.Promise.Kept.{Steady}
 use Rattle.qed_model.specs.Weave.Blocks.{begins_at}
 use Rattle.qed_model.specs.Weave.Bounds.{word_bound}
 use Rattle.qed_model.specs.Weave.Sequences.{Block}
+use Rattle.qed_model.proofs.Walk.{run-last}
+use Rattle.qed_model.proofs.Changes.{struck_outcome}
 use Rattle.weave_core.specs.Lock.{span_bytes, Opens, HasKind, Undisturbed}
-use Rattle.weave_core.specs.WeavePromise.{PlanOf}
+use Rattle.weave_core.specs.WeavePromise.{PlanOf, BoundsOf}
 use Rattle.weave_core.specs.WeaveForms.{weave_of}
 use Rattle.weave_core.specs.Rows.{Mirrors}
 use Rattle.weave_core.specs.Weave.{start_steps, stage_steps}
-use Rattle.weave_core.specs.WeavePromise.{PlanOf, BoundsOf}
 use Rattle.weave_core.specs.World.{World}
 use Rattle.weave_core.proofs.FormMirrors.{mirrors_of}
 use Rattle.weave_core.proofs.FormRows.{form_rows, form_starts}
 use Rattle.weave_core.proofs.Sized.{width_le}
 use Rattle.weave_core.proofs.TestKept as kept
+use Rattle.weave_core.proofs.Landing.{known_same}
 use Rattle.lockstep.specs.Closes.{Closes}
 use Rattle.lockstep.specs.InstructionFaults.{WritesOriginal, StoresOriginal, word_around, GivesAny, StoresAny, FoundOut, FaultsFound, InstructionFaultsAreCaught}
 use Rattle.lockstep.specs.Promise.{IsBoundsOf}
@@ -41,28 +43,14 @@ use Rattle.lockstep.proofs.FormWords.{form_words, bounds_in, plan_caught}
 use Rattle.lockstep.proofs.Made.{changed_later}
 use Rattle.lockstep.proofs.Calm.{CalmCode, loaded_at, quiet_run}
 use Rattle.lockstep.proofs.Weaves.{calm_plan}
-use Rattle.lockstep.proofs.Runs.{run-last}
 use Rattle.lockstep.proofs.Sets.{word_below}
 use Rattle.lockstep.proofs.Tests as tests
-use Rattle.lockstep.proofs.WrongSteps.{opens_behind, writes_straight, is_open, Wrote, wrote, stored_step, any_struck, changed_there, struck_outcome, unchanged_before, with_one, with_two, found_out}
+use Rattle.lockstep.proofs.WrongSteps.{opens_behind, writes_straight, is_open, Wrote, wrote, stored_step, any_struck, changed_there, unchanged_before, with_one, with_two, found_out}
 use Rattle.lockstep.proofs.WrongStores.{IsBeside, two_words, any_beside, struck_words}
 
--- one instruction stands at one address
-same_known : {x y : Ins} → Known x ≡ Known y → x ≡ y
-same_known e = cc
-
--- options that are equal hold equal numbers
 -- an access has a byte
 width_some : (k : Kind) → 1 ≤ width_of k
 width_some Lb = omega arith
-width_some Lbu = omega arith
-width_some Sb = omega arith
-width_some Lh = omega arith
-width_some Lhu = omega arith
-width_some Sh = omega arith
-width_some Lw = omega arith
-width_some Lwu = omega arith
-width_some Sw = omega arith
 width_some k = omega arith
 
 -- the bound of a word has two pieces
@@ -84,7 +72,7 @@ module _ (f g : Program) (w : World) (code : CalmCode f g w) (bounds : Bounds) (
 
   -- the instruction is of a kind
   fits : Undisturbed w.code (span_bytes w.form.spans) (run (start g regs) n) → HasKind w.code (run (start g regs) n).pc i
-  fits q = subst (HasKind w.code (run (start g regs) n).pc) (same_known (sym q.quiet.known ∙ sym ((loaded_at f g w code regs are n).code (run (start g regs) n).pc) ∙ at)) q.quiet.fits
+  fits q = subst (HasKind w.code (run (start g regs) n).pc) (known_same (sym q.quiet.known ∙ sym ((loaded_at f g w code regs are n).code (run (start g regs) n).pc) ∙ at)) q.quiet.fits
 
   -- another number
   results : (o : State) → WritesOriginal i → GivesAny i (run (start g regs) n) o → Steady f w.reached (n + 1 + bounds.register) → FoundOut w.form.spans bounds.register o (λ k. run (start g regs) (n + 1 + k))

@@ -9,8 +9,7 @@ use Rattle.rv_isa.specs.declared.class.Class.TheVariants as class
 use Rattle.rv_isa.specs.Kind.{class_of}
 use Rattle.rv_isa.specs.Regs.{set_reg}
 use Rattle.qed_model.specs.declared.change.Change.{Change}
-use Rattle.qed_model.specs.declared.change.Place.{Place}
-use Rattle.qed_model.specs.declared.change.Place.TheVariants.{Reg, Word}
+use Rattle.qed_model.specs.declared.change.Place.TheVariants.{Reg}
 use Rattle.qed_model.specs.declared.machine.Cause.TheVariants as cause
 use Rattle.qed_model.specs.declared.machine.Outcome.TheVariants.{Going, Ended, Fired}
 use Rattle.qed_model.specs.Machine.Memory.{put, number, grants}
@@ -22,12 +21,11 @@ use Rattle.qed_model.specs.Promise.Caught.{Same, Settles}
 use Rattle.qed_model.specs.Promise.Closed.{IsOpen, closed_at}
 use Rattle.qed_model.specs.Promise.Kept.{is_trapped, NotTrapped}
 use Rattle.qed_model.proofs.Steps.{step-class}
-use Rattle.qed_model.proofs.Walk.{run-more}
+use Rattle.qed_model.proofs.Walk.{run-more, run-last}
 use Rattle.weave_core.specs.Lock.{Bytes, Opens, HasKind, scratch_compute, scratch_load, scratch_store, scratch_branch, jumps, scratch_jump, computes, fences, loads, stores as stores_kind, guards, guards_back, breaks, takes, branches, forks, ends, no_word, visits, Loaded}
 use Rattle.weave_core.proofs.Trace.{run-ended}
 use Rattle.lockstep.specs.InstructionFaults.{WritesOriginal, GivesAny, gives, skips, FoundOut}
 use Rattle.lockstep.proofs.Ground.{run-fired}
-use Rattle.lockstep.proofs.Runs.{run-last}
 
 -- ---- behind an instruction that computes or accesses memory no register is closed
 -- the classes of such instructions
@@ -154,12 +152,6 @@ changed_there s cs n h =
     ∙ ap (λ x. with_changes cs (suc n) (step x)) (unchanged_before s cs n h)
     ∙ ap (λ m. with_changes cs m (step (run s n))) (sym next)
     ∙ ap (with_changes cs (n + 1)) (sym (run-last s n))
-
--- a change sets no outcome
-pub struck_outcome : (p : Place) (x : ℕ) (s : State) → (struck p x s).outcome ≡ s.outcome
-unfolding struck
-struck_outcome (Reg r) x s = refl
-struck_outcome (Word a) x s = refl
 
 -- one change
 pub with_one : (c : Change) (n : ℕ) (u : State) → c.step ≡ n → u.outcome ≡ Going → with_changes (c ∷ []) n u ≡ struck c.place c.value u

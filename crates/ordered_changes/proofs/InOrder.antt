@@ -5,6 +5,7 @@ use Rattle.std.specs.List.{prefix_len}
 use Rattle.std.proofs.lemmas.Bool.Decides.{nat_tests}
 use Rattle.qed_model.specs.declared.change.Change.{Change}
 use Rattle.qed_model.specs.Promise.Changed.{Ordered, with_change, in_order}
+use Rattle.qed_model.proofs.Changes.{rest_ordered}
 
 -- ---- where a change is put
 insert_suc : {A : Type 0} (d : A) (ds : List A) (n : ℕ) (c : A) → insert (d ∷ ds) (1 + n) c ≡ d ∷ insert ds n c
@@ -19,11 +20,6 @@ with_change_lem (d ∷ ds) c =
     [ true ↦ grind (arith, with_change_lem ds c, insert_suc d ds (prefix_len (λ d. nat_le d.step c.step) ds) c) | false ↦ refl ]
 
 -- ---- steps that do not fall
--- the rest of a list in order is in order
-pub rest_ordered : (c : Change) (cs : List Change) → Ordered (c ∷ cs) → Ordered cs
-rest_ordered c [] ordered = tt
-rest_ordered c (d ∷ cs) ordered = ordered.1
-
 -- what stands in front still does when a change is put behind it
 front_ordered : (d c : Change) (ds : List Change) → d.step ≤ c.step → Ordered (d ∷ ds) → Ordered (with_change ds c) → Ordered (d ∷ with_change ds c)
 front_ordered d c [] below ordered later = (below, tt)

@@ -18,10 +18,7 @@ use Rattle.output_file.specs.Runs.{run_segment}
 use Rattle.output_file.proofs.Images.{Clear, parts, apart, room, spaced, data_at}
 use Rattle.output_file.proofs.Orders.{hits, hits_none, hits-append, hits-filter, AreOnce, once-permuted, sorted_rises, order_is, permuted_among, among_permuted}
 use Rattle.output_file.proofs.Runs.{run_is}
-
-filter_same : (p q : Segment → Bool) (ss : List Segment) → ((s : Segment) → Among s ss → p s ≡ q s) → filter p ss ≡ filter q ss
-filter_same p q [] h = refl
-filter_same p q (s ∷ ss) h = λ i. cond (h s (inl refl) i) (s ∷ filter_same p q ss (λ t m. h t (inr m)) i) (filter_same p q ss (λ t m. h t (inr m)) i)
+use Rattle.flow_recovery.proofs.OrderLaws.{filter_alike}
 
 map_same : (f g : ℕ × ℕ → Segment) (rs : List (ℕ × ℕ)) → ((r : ℕ × ℕ) → Among r rs → f r ≡ g r) → map f rs ≡ map g rs
 map_same f g [] h = refl
@@ -105,7 +102,7 @@ module _ (image : List Segment) (ranges : List Range) (is : IsImage image ranges
   outside s = not (is_in_any (map range_of ranges) s.address)
 
   outside_is : copies 0 (filter outside image) ≡ others
-  outside_is = ap (copies 0) (filter_same outside (λ s. not (is_data image s)) image (λ s m. ap (λ rs. not (is_in_any rs s.address)) is.spans ∙ ap not (data_at image ranges is s m)))
+  outside_is = ap (copies 0) (filter_alike outside (λ s. not (is_data image s)) image (λ s m. ap (λ rs. not (is_in_any rs s.address)) is.spans ∙ ap not (data_at image ranges is s m)))
 
   pub half_is :
       (ordered ys : List Segment) → IsPermutation image ordered → IsNonDecreasingBy (λ s. s.address) ordered

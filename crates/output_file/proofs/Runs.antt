@@ -1,8 +1,8 @@
 -- The segments of a data range, laid one behind the other, are the range as one segment.
-use Rattle.std.proofs.Common.{◌≡◌, ◌⊎◌, inl, inr, ⊎_elim, ℕ, ◌+◌, ◌-◌, ◌<◌, ◌≤◌, max, Bool, true, false, cond, ◌&&◌, List, [], ◌∷◌, ◌++◌, length, map, replicate, Option, Some, None, refl, sym, ap, ◌∙◌, subst, arith, length-append}
+use Rattle.std.proofs.Common.{◌≡◌, ◌⊎◌, inl, inr, ⊎_elim, ℕ, ◌+◌, ◌-◌, ◌<◌, ◌≤◌, Bool, true, false, cond, ◌&&◌, List, [], ◌∷◌, ◌++◌, length, map, replicate, Option, Some, None, refl, sym, ap, ◌∙◌, subst, arith, length-append}
 use Rattle.std.specs.Prelude.{nat_lt, nat_le, filter, slice_index}
 use Rattle.std.specs.List.{list_any}
-use Rattle.std.proofs.lemmas.Bool.{leb-true, ltb-true, ltb-false, lt-ltb, and_parts, cases_lt, false≢true}
+use Rattle.std.proofs.lemmas.Bool.{leb-true, ltb-true, lt-ltb, and_parts, cases_lt, false≢true}
 use Rattle.std.proofs.lemmas.Bool.Decides.{nat_tests}
 use Rattle.std.proofs.lemmas.List.{get_or_append_left, get_or-append_right, get_or-replicate, length-replicate, ext_get_or}
 use Rattle.elf_types.specs.declared.file.Segment.{Segment}
@@ -18,7 +18,7 @@ use Rattle.qed_model.specs.Members.{Among}
 use Rattle.qed_model.proofs.CellsAmong.{has_from, has_parts, found_among, among_agreed}
 use Rattle.qed_model.proofs.DataRangesLaws.{spaced_from, in_from, in_parts}
 use Rattle.qed_model.proofs.ImageLaws.{among_load, load_source}
-use Rattle.qed_model.proofs.RangeSegments.{index_past, index_each, file_end_from, file_end_most}
+use Rattle.qed_model.proofs.RangeSegments.{index_past, index_each, file_end_from, file_end_most, file_end_step}
 use Rattle.output_file.specs.Images.{IsImage}
 use Rattle.output_file.specs.Laid.{laid}
 use Rattle.output_file.specs.Runs.{run_of, has_bytes, placed_bytes, run_bytes, run_segment}
@@ -126,14 +126,11 @@ laid_above start n (t ∷ ss) s f m =
     m
 
 -- ---- the end of the bytes
-end_step : (start : ℕ) (s : Segment) (ss : List Segment) (P : ℕ → Type 0) → (0 < length s.bytes → P (max (s.address + length s.bytes) (file_end start ss))) → (length s.bytes ≤ 0 → P (file_end start ss)) → P (file_end start (s ∷ ss))
-end_step start s ss P a b = elim (nat_lt 0 (length s.bytes)) as (λ t. nat_lt 0 (length s.bytes) ≡ t → P (cond t (max (s.address + length s.bytes) (file_end start ss)) (file_end start ss))) [ true ↦ λ e. a (ltb-true 0 (length s.bytes) e) | false ↦ λ e. b (ltb-false 0 (length s.bytes) e) ] refl
-
 end_below : (start top : ℕ) (ss : List Segment) → start ≤ top → ((t : Segment) → Among t ss → 0 < length t.bytes → t.address + length t.bytes ≤ top) → file_end start ss ≤ top
 end_below start top [] h k = h
 end_below start top (s ∷ ss) h k =
     let rest = end_below start top ss h (λ t m. k t (inr m)) in
-    end_step start s ss (λ n. n ≤ top) (λ l. let here = k s (inl refl) l in omega (arith, here, rest)) (λ l. rest)
+    file_end_step start s ss (λ n. n ≤ top) (λ l. let here = k s (inl refl) l in omega (arith, here, rest)) (λ l. rest)
 
 -- ---- the segment that has an address in the file
 record Holder (ss : List Segment) (q : ℕ) : Type 0 where

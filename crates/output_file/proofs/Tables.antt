@@ -10,6 +10,7 @@ use Rattle.qed_model.specs.Numbers.{number_bytes}
 use Rattle.qed_model.specs.Weave.Placed.{entry_at}
 use Rattle.qed_model.specs.Weave.OutputFile.{first_input, last_input, distance_to, table_word, table_bytes, table_segment}
 use Rattle.qed_model.proofs.Fields.{length-number_bytes}
+use Rattle.qed_model.proofs.BelowLaws.{gather_none}
 use Rattle.output_file.specs.Segments.{whole}
 use Rattle.output_file.specs.Laid.{laid}
 use Rattle.output_file.specs.Entries.{AreEntries, word_of, entry_word}
@@ -26,10 +27,6 @@ gather_same : (n : ℕ) (f g : ℕ → List ℕ) → ((k : ℕ) → k < n → f 
 unfolding gather
 gather_same zero f g h = refl
 gather_same (suc n) f g h = λ i. gather_same n f g (λ k lt. h k (omega (arith, lt))) i ++ h n (omega arith) i
-
-gather_end : (f : ℕ → List ℕ) → [] ≡ gather 0 f
-unfolding gather
-gather_end f = refl
 
 gather_one : (f : ℕ → List ℕ) → gather 1 f ≡ f 0
 unfolding gather
@@ -115,7 +112,7 @@ laid_words d start n [] r a b u =
     let e : r.input - start - n ≡ 4 * m = omega (arith, a, b, u.1) in
     let p : start + n + 4 * m ≡ r.input = omega (arith, e, u.0) in
     let count : (r.input - (start + n)) / 4 + 1 ≡ m + (1 + 0) = omega (arith, e, u.0) in
-    (λ i. zeros (e i) ++ (number_bytes 4 (word_of d r) ++ gather_end (λ k. number_bytes 4 (table_word d [] (r.input + 4 + 4 * k))) i)) ∙ sym (ap (words d (r ∷ []) (start + n)) count ∙ head_words d (start + n) m 0 r [] p tt)
+    (λ i. zeros (e i) ++ (number_bytes 4 (word_of d r) ++ gather_none (λ k. number_bytes 4 (table_word d [] (r.input + 4 + 4 * k))) i)) ∙ sym (ap (words d (r ∷ []) (start + n)) count ∙ head_words d (start + n) m 0 r [] p tt)
 laid_words d start n (t ∷ rows) r a b u =
     let m = (r.input - start - n) / 4 in
     let size : length (number_bytes 4 (word_of d r)) ≡ 4 = length-number_bytes 4 (word_of d r) in

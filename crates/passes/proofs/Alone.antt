@@ -51,9 +51,7 @@ on_pc class.Store i s g b j r = granted (grants (λ f. f.write) s.memory (place 
 on_pc class.Branch i s g b j r = absurd (b refl)
 on_pc class.Jump i s g b j r = absurd (j refl)
 on_pc class.JumpReg i s g b j r = absurd (r refl)
-on_pc class.End i s g b j r = absurd (cc)
-on_pc class.Break i s g b j r = absurd (cc)
-on_pc class.Illegal i s g b j r = absurd (cc)
+on_pc o i s g b j r = absurd (cc)
 
 -- a jump that goes on is at its target
 jumped_pc : (regs : List ℕ) (t : ℕ) (s : State) → (jumped regs t s).outcome ≡ Going → (jumped regs t s).pc ≡ t

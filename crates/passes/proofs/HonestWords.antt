@@ -2,7 +2,7 @@
 use Rattle.std.proofs.Common.{◌≡◌, ℕ, ◌+◌, ◌*◌, ◌%◌, ◌^◌, ◌<◌, ◌≤◌, Bool, true, false, cond, List, [], ◌∷◌, length, refl, sym, ap, ◌∙◌, subst, arith}
 use Rattle.std.specs.Prelude.{◌==◌, pos}
 use Rattle.std.proofs.lemmas.Bool.{eqb-false}
-use Rattle.rv_isa.specs.declared.kind.Kind.TheVariants.{Addi, Auipc, Beq, Jal, Jalr, Ebreak}
+use Rattle.rv_isa.specs.declared.kind.Kind.TheVariants.{Addi, Auipc, Beq, Jal, Jalr}
 use Rattle.rv_isa.specs.declared.ins.Ins.{Ins}
 use Rattle.rv_isa.specs.declared.class.Class.{Class}
 use Rattle.rv_isa.specs.declared.class.Class.TheVariants as class
@@ -14,14 +14,12 @@ use Rattle.qed_model.specs.declared.item.Item.TheVariants.{Plain, Constant, Go}
 use Rattle.qed_model.specs.Weave.Placed.{distance_between, upper_part, lower_part, go_words, instructions_from}
 use Rattle.qed_model.specs.Weave.Sequences.{guard, enter}
 use Rattle.qed_model.proofs.Wrapped.{difference}
+use Rattle.qed_model.proofs.Walk.{brk}
 use Rattle.weave_core.specs.Lock.{first_load, mirror_place, second_load, word_check}
 use Rattle.passes.specs.Honest.{NoBreak, sign_check, pairs, words, signs, HonestAs, AllHonest, HonestAt, HonestItems}
 use Rattle.passes.specs.Compose.{honest_items_none}
 
 -- ---- what is no EBREAK
-abbrev pub brk : Ins
-brk = ins Ebreak 0 0 0 (pos 0)
-
 pub other_word : (c : ℕ → Fetched) (a : ℕ) (i : Ins) (k : Class) → c a ≡ Known i → class_of i.kind ≡ k → (k ≡ class.Break → ⊥) → NoBreak c a
 other_word c a i k h e ne b = ne (sym e ∙ is (sym h ∙ b)) where
   is : Known i ≡ ebreak → class_of i.kind ≡ class.Break

@@ -1,28 +1,10 @@
 -- The words of a pass that keeps lockstep are of the kinds.
-use Rattle.std.proofs.Common.{◌≡◌, ℕ, zero, suc, ◌+◌, ◌*◌, ◌<◌, List, [], ◌∷◌, ◌++◌, length, sym, ap, ◌∙◌, subst, arith}
-use Rattle.rv_isa.specs.declared.ins.Ins.{Ins}
-use Rattle.rv_isa.specs.Kind.{class_of}
-use Rattle.qed_model.specs.Machine.Step.{Fetched, Known, HasAt}
+use Rattle.std.proofs.Common.{◌≡◌, ◌+◌, ◌*◌, [], ◌++◌, subst, arith}
 use Rattle.qed_model.specs.Weave.Placed.{instructions_from}
 use Rattle.weave_core.specs.Lock.{Opens}
-use Rattle.weave_core.specs.KindItems.{LandsAs, AllLand}
 use Rattle.weave_core.proofs.Listed.{opens_behind, fits_in}
+use Rattle.weave_core.proofs.Landing.{land_at}
 use Rattle.passes.specs.KindsHold.{KindsHold}
-
--- one instruction stands at one address
-known_same : {x y : Ins} → Known x ≡ Known y → x ≡ y
-known_same e = cc
-
--- where one of some words leads to
-land_at :
-    (c : ℕ → Fetched) (a k : ℕ) (ws ys : List Ins) (i : Ins) → AllLand c a ws → HasAt c a (ws ++ ys) → k < length ws → c (a + 4 * k) ≡ Known i
-    → LandsAs (class_of i.kind) c (a + 4 * k) i
-land_at c a k [] ys i l h lt e = absurd (omega arith)
-land_at c a zero (w ∷ ws) ys i l h lt e =
-    let s : a ≡ a + 4 * 0 = omega arith in
-    let same : w ≡ i = known_same (sym h.0 ∙ ap c s ∙ e) in
-    subst (λ b. LandsAs (class_of i.kind) c b i) s (subst (λ j. LandsAs (class_of j.kind) c a j) same l.0)
-land_at c a (suc k) (w ∷ ws) ys i l h lt e = let s : a + 4 + 4 * k ≡ a + 4 * suc k = omega arith in subst (λ b. LandsAs (class_of i.kind) c b i) s (land_at c (a + 4) k ws ys i l.1 h.1 (omega (arith, lt)) (ap c s ∙ e))
 
 pub kinds_hold : KindsHold
 kinds_hold far items lock land c entry a behind b =

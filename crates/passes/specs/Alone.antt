@@ -8,8 +8,7 @@ use Rattle.qed_model.specs.declared.item.Item.{Item}
 use Rattle.qed_model.specs.Machine.Step.{State, reg, Fetched, Known, HasAt, step, ebreak}
 use Rattle.qed_model.specs.Weave.Placed.{instructions_from}
 use Rattle.qed_model.specs.Machine.Walks.{Over}
-use Rattle.passes.specs.Honest.{VisitWords}
-use Rattle.passes.specs.Honest.{NoBreak, EntryWords, CalmEntries, HonestItems}
+use Rattle.passes.specs.Honest.{VisitWords, NoBreak, EntryWords, CalmEntries, HonestItems}
 
 -- a register and its pair differ, a word and its duplicate, which were just loaded, or the signature and the entry
 pub data Differs (c : ℕ → Fetched) (s : State) : Type 0 where

@@ -19,11 +19,9 @@ use Rattle.qed_model.specs.Admission.Refusals.{IsAdmitted, HasTooManyWords}
 use Rattle.qed_model.specs.Weave.Placed.{distance_between}
 use Rattle.qed_model.specs.Weave.OutputParts.{base_of, high_of, distance_of}
 use Rattle.qed_model.specs.Weave.Places.{AreSoundOptions, image_of, half_of, code_place}
+use Rattle.qed_model.proofs.RangeSegments.{either_way}
 
 -- ---- computed tests
-either_way : (C : Type 0) (b : Bool) → (b ≡ true → C) → (b ≡ false → C) → C
-either_way C b t f = elim b as (λ x. b ≡ x → C) [ true ↦ t | false ↦ f ] refl
-
 none_passes : {A : Type 0} (test : A → Bool) (xs : List A) → list_any test xs ≡ false → (i : ℕ) → passes_at test (slice_get xs i) ≡ false
 none_passes test [] e i = refl
 none_passes test (x ∷ xs) e zero = (or_parts (test x) (list_any test xs) e).0

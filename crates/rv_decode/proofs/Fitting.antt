@@ -34,14 +34,7 @@ numbered n = get_or (R ∷ I ∷ H ∷ G ∷ S ∷ B ∷ U ∷ J ∷ N ∷ []) n
 
 numbers : (f : Format) → numbered (number f) ≡ f
 numbers R = refl
-numbers I = refl
-numbers H = refl
-numbers G = refl
-numbers S = refl
-numbers B = refl
-numbers U = refl
-numbers J = refl
-numbers N = refl
+numbers o = refl
 
 -- a row of the code has the bits of the row of a kind
 abbrev stands : Kind → Row → Bool

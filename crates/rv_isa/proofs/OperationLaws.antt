@@ -56,3 +56,7 @@ pair-above (suc r) h = omega arith
 pub pair-lt : (r : ℕ) → r ≤ 13 → pair r < 32
 pair-lt zero h = omega arith
 pair-lt (suc r) h = omega (arith, h)
+
+pub pair-le : (r : ℕ) → r ≤ 13 → pair r ≤ 29
+pair-le zero h = omega arith
+pair-le (suc r) h = omega (arith, h)

@@ -1,9 +1,9 @@
 -- Runs of a machine: one step more, and none where it does not go on.
-use Rattle.std.proofs.Common.{◌≡◌, ℕ, zero, suc, ◌+◌, ◌-◌, ◌^◌, ◌<◌, ◌≤◌, min, true, false, refl, sym, ap, ◌∙◌, subst, arith, ⊎_elim, Result, Ok, Err, IfErr}
+use Rattle.std.proofs.Common.{◌≡◌, ℕ, zero, suc, ◌+◌, ◌-◌, ◌^◌, ◌<◌, ◌≤◌, min, true, false, refl, sym, ap, ◌∙◌, subst, arith, ⊎_elim}
 use borrow.Author.Count.{below_more}
 use Rattle.std.proofs.lemmas.Bool.{cases_lt}
 use Rattle.qed_model.specs.declared.machine.Outcome.{Outcome}
-use Rattle.qed_model.specs.declared.machine.Outcome.TheVariants.{Going, Ended, Fired, Trapped}
+use Rattle.qed_model.specs.declared.machine.Outcome.TheVariants.{Going}
 use Rattle.qed_model.specs.Machine.Step.{State, step, step_at}
 use Rattle.qed_model.specs.Machine.Progress.{Progress, counted, advanced, steps_after, progress}
 use Rattle.qed_model.specs.Machine.Memory.{Memory}
@@ -12,17 +12,13 @@ use Rattle.rv_step.specs.Harts.{HartState, with_memory}
 
 stays_at : (o : Outcome) (s : State) → goes_on o ≡ false → step_at o s ≡ s
 stays_at Going s h = absurd (cc)
-stays_at Ended s h = refl
-stays_at Fired s h = refl
-stays_at (Trapped c pc) s h = refl
+stays_at o s h = refl
 
 as_many : (o : Outcome) (n : ℕ) → goes_on o ≡ false → steps_after o n ≡ n
 as_many Going n h = absurd (cc)
-as_many Ended n h = refl
-as_many Fired n h = refl
-as_many (Trapped c pc) n h = refl
+as_many o n h = refl
 
-stays_step : (s : State) → goes_on s.outcome ≡ false → step s ≡ s
+pub stays_step : (s : State) → goes_on s.outcome ≡ false → step s ≡ s
 unfolding step
 stays_step s h = stays_at s.outcome s h
 
@@ -37,7 +33,7 @@ stays_long p zero h = refl
 stays_long p (suc n) h = ap (λ q. progress q n) (stays p h) ∙ stays_long p n h
 
 -- ---- steps one behind the other
-none_made : (p : Progress) → p ≡ progress p 0
+pub none_made : (p : Progress) → p ≡ progress p 0
 unfolding progress
 none_made p = refl
 
@@ -83,9 +79,7 @@ step_made p here next n h goes is = made_more p here next n h goes (ap (λ q. q.
 
 one_counted : (o : Outcome) (n : ℕ) → goes_on o ≡ true → steps_after o n ≡ counted n
 one_counted Going n h = refl
-one_counted Ended n h = absurd (cc)
-one_counted Fired n h = absurd (cc)
-one_counted (Trapped c pc) n h = absurd (cc)
+one_counted o n h = absurd (cc)
 
 steps_advanced : (p : Progress) → goes_on p.state.outcome ≡ true → (advanced p).steps ≡ counted p.steps
 unfolding advanced
@@ -146,11 +140,6 @@ made_counted p n count h k m made view small is =
 pub one_run : (p : Progress) → progress p 1 ≡ advanced p
 unfolding progress
 one_run p = refl
-
--- what holds at any error
-pub any_err : {T E : Type 0} (r : Result T E) (P : Type 0) → P → IfErr r (λ _. P)
-any_err (Ok x) P p = tt
-any_err (Err e) P p = p
 
 -- ---- steps by how many of n are left
 pub none_left : (p : Progress) (n : ℕ) → IsMade p (n - n) p

@@ -16,7 +16,7 @@ use Rattle.mem_image.specs.Segments.{number_in}
 use Rattle.mem_image.specs.Fixed.{IsFixed}
 use Rattle.mem_image.proofs.FixedLaws.{fixed_number, fixed_put}
 use Rattle.qed_model.specs.declared.machine.Outcome.{Outcome}
-use Rattle.qed_model.specs.declared.machine.Outcome.TheVariants.{Going, Ended, Fired, Trapped}
+use Rattle.qed_model.specs.declared.machine.Outcome.TheVariants.{Going}
 use Rattle.rv_step.specs.Harts.{HartState, with_memory}
 use Rattle.rv_step.specs.Known.{goes_on, word_at}
 use Rattle.rv_step.specs.Windows.{IsIn, HasWord, IsKept, IsWindow, StandsFixed, IsHeld, IsTable, IsKnown}
@@ -101,9 +101,7 @@ after_execute class.Store i s =
 after_execute class.Branch i s = either (holds i.kind (reg s i.rs1) (reg s i.rs2)) _ _ s (λ _. after_jumped s.regs (target i s.pc) s) (λ _. same s _ refl refl (next_grain s.pc))
 after_execute class.Jump i s = after_jumped _ _ s
 after_execute class.JumpReg i s = after_jumped _ _ s
-after_execute class.End i s = same s _ refl refl (λ g. g)
-after_execute class.Break i s = same s _ refl refl (λ g. g)
-after_execute class.Illegal i s = same s _ refl refl (λ g. g)
+after_execute o i s = same s _ refl refl (λ g. g)
 
 after_act : (f : Fetched) (s : State) → IsAfter s (act f s)
 after_act Refused s = same s _ refl refl (λ g. g)
@@ -160,9 +158,7 @@ known_new h g k m n w v es fs known is same kept window put =
 -- ---- a step of a hart that goes on
 at_going : (o : Outcome) (s : State) → goes_on o ≡ true → step_at o s ≡ act (next s) s
 at_going Going s h = refl
-at_going Ended s h = absurd (cc)
-at_going Fired s h = absurd (cc)
-at_going (Trapped c pc) s h = absurd (cc)
+at_going o s h = absurd (cc)
 
 pub step_acts : (s : State) → goes_on s.outcome ≡ true → step s ≡ act (next s) s
 unfolding step

@@ -3,30 +3,26 @@ use Rattle.std.proofs.Common.{◌≡◌, ◌⊎◌, inl, inr, ℕ, ◌+◌, ◌-
 use Rattle.std.specs.Prelude.{◌≢◌}
 use Rattle.std.proofs.lemmas.Bool.{cases_lt}
 use Rattle.qed_model.specs.declared.machine.Outcome.{Outcome}
-use Rattle.qed_model.specs.declared.machine.Outcome.TheVariants.{Going, Ended, Fired, Trapped}
+use Rattle.qed_model.specs.declared.machine.Outcome.TheVariants.{Going}
 use Rattle.qed_model.specs.Machine.Progress.{Progress, progress}
 use Rattle.qed_model.specs.Machine.Step.{State, run}
-use Rattle.qed_model.proofs.Walk.{run-more}
+use Rattle.qed_model.proofs.Walk.{run-more, run-none}
 use Rattle.rv_step.specs.Known.{goes_on, AreMade}
 use Rattle.strikes.specs.Found.{IsOn, StopsWithin}
 use Rattle.strikes.specs.Kept.{IsReach}
-use Rattle.strikes.proofs.Stopping.{going_before, progress_state, run_none}
+use Rattle.strikes.proofs.Stopping.{going_before, progress_state}
 
 -- ---- parts
 pub goes : (o : Outcome) → goes_on o ≡ true → o ≡ Going
 goes Going h = refl
-goes Ended h = absurd (cc)
-goes Fired h = absurd (cc)
-goes (Trapped c pc) h = absurd (cc)
+goes o h = absurd (cc)
 
 pub stopped_not : (o : Outcome) → goes_on o ≡ false → o ≢ Going
 stopped_not Going h g = absurd (cc)
-stopped_not Ended h g = absurd (cc)
-stopped_not Fired h g = absurd (cc)
-stopped_not (Trapped c pc) h g = absurd (cc)
+stopped_not o h g = absurd (cc)
 
 pub on_none : (s : State) → IsOn s 0 s
-on_none s = record { there = run_none s; before = λ k l. absurd (omega (arith, l)) }
+on_none s = record { there = sym (run-none s); before = λ k l. absurd (omega (arith, l)) }
 
 -- so many steps more
 more_made : (s : State) (made n : ℕ) (p : Progress) → IsOn s made p.state → (progress p n).state ≡ run s (made + n)

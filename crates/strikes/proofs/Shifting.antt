@@ -15,15 +15,15 @@ use Rattle.qed_model.specs.Promise.Caught.{bound_of}
 use Rattle.qed_model.specs.Promise.Changed.{changed, changed_as, with_changes, changed_run, Ordered, last_step}
 use Rattle.qed_model.specs.Promise.Kept.{is_trapped}
 use Rattle.qed_model.proofs.Walk.{run-more}
+use Rattle.qed_model.proofs.Changes.{first_last, run_unchanged}
 use Rattle.fault_inject.specs.Closed.{is_closed_place}
 use Rattle.fault_inject.proofs.Changing.{AllFrom, from_less, not_made}
-use Rattle.fault_inject.proofs.Steadiness.{run_unchanged}
 use Rattle.strikes.specs.declared.error.StrikeError.TheVariants as error
 use Rattle.strikes.specs.declared.error.StrikeError.{StrikeError}
 use Rattle.strikes.specs.Found.{trap_pc_of}
 use Rattle.strikes.specs.Later.{counted_from, all_from, first_step}
 use Rattle.strikes.specs.Verdict.{IsReached, has_closed, IsTried, IsFound, IsSilent, Shows, IsVerdict}
-use Rattle.strikes.proofs.Stopping.{going_before, run-last, first_last, behind}
+use Rattle.strikes.proofs.Stopping.{going_before, run-last, behind}
 
 -- ---- where no change comes before
 -- before the changes the run is the one without
@@ -48,9 +48,7 @@ same_step a m n h = by_case (a == m + n) refl where
 -- the same change
 same_change : (o : Outcome) (m : ℕ) (c : Change) (s : State) → changed_as o (counted_from m c) s ≡ changed_as o c s
 same_change Going m c s = refl
-same_change Ended m c s = refl
-same_change Fired m c s = refl
-same_change (Trapped x p) m c s = refl
+same_change o m c s = refl
 
 with_later : (cs : List Change) (m n : ℕ) (s : State) → AllFrom m cs → with_changes (all_from m cs) n s ≡ with_changes cs (m + n) s
 unfolding with_changes

@@ -69,8 +69,7 @@ fired_by (Trapped c p) n k e = absurd (cc)
 ended_by : (o : Outcome) (n k : ℕ) → verdict_of o n ≡ Some (verdict.Ended k) → (o ≡ Ended) × (n ≡ k)
 ended_by Going n k e = absurd (cc)
 ended_by Ended n k e = (refl, cc)
-ended_by Fired n k e = absurd (cc)
-ended_by (Trapped c p) n k e = absurd (cc)
+ended_by o n k e = absurd (cc)
 
 -- no other verdict
 not_other : (o : Outcome) (n : ℕ) (v : Verdict) → verdict_of o n ≡ Some v → ((k : ℕ) → v ≢ verdict.Fired k) → ((k : ℕ) → v ≢ verdict.Ended k) → ⊥

@@ -3,29 +3,25 @@ use Rattle.std.proofs.Common.{◌≡◌, ◌⊎◌, inl, inr, ℕ, zero, suc, �
 use Rattle.std.specs.Prelude.{◌≢◌, ◌==◌}
 use Rattle.qed_model.specs.declared.change.Change.{Change}
 use Rattle.qed_model.specs.declared.machine.Outcome.{Outcome}
-use Rattle.qed_model.specs.declared.machine.Outcome.TheVariants.{Going, Ended, Fired, Trapped}
+use Rattle.qed_model.specs.declared.machine.Outcome.TheVariants.{Going}
 use Rattle.qed_model.specs.Machine.Progress.{Progress, progress, advanced, begun}
 use Rattle.qed_model.specs.Machine.Step.{State, step_at, step, run}
 use Rattle.qed_model.specs.Promise.Changed.{changed, changed_as, with_changes, changed_run, Ordered, last_step}
 use Rattle.qed_model.proofs.Walk.{run-more}
-use Rattle.fault_inject.proofs.Changing.{AllBy, plain}
-use Rattle.ordered_changes.proofs.InOrder.{rest_ordered}
+use Rattle.qed_model.proofs.Changes.{by_last}
+use Rattle.fault_inject.proofs.Changing.{plain}
 use Rattle.strikes.specs.Verdict.{StopsAt}
 
 -- ---- outcomes
 -- a run goes on or does not
 pub going_or : (o : Outcome) → (o ≡ Going) ⊎ (o ≢ Going)
 going_or Going = inl refl
-going_or Ended = inr (λ e. absurd (cc))
-going_or Fired = inr (λ e. absurd (cc))
-going_or (Trapped c p) = inr (λ e. absurd (cc))
+going_or o = inr (λ e. absurd (cc))
 
 -- a step of a state that has stopped changes nothing
 stays_at : (o : Outcome) (s : State) → o ≢ Going → step_at o s ≡ s
 stays_at Going s h = absurd (h refl)
-stays_at Ended s h = refl
-stays_at Fired s h = refl
-stays_at (Trapped x p) s h = refl
+stays_at o s h = refl
 
 step_stopped : (s : State) → s.outcome ≢ Going → step s ≡ s
 unfolding step
@@ -34,9 +30,7 @@ step_stopped s h = stays_at s.outcome s h
 -- nor do changes
 changed_stopped : (o : Outcome) (c : Change) (s : State) → o ≢ Going → changed_as o c s ≡ s
 changed_stopped Going c s h = absurd (h refl)
-changed_stopped Ended c s h = refl
-changed_stopped Fired c s h = refl
-changed_stopped (Trapped x p) c s h = refl
+changed_stopped o c s h = refl
 
 with_stopped : (cs : List Change) (n : ℕ) (s : State) → s.outcome ≢ Going → with_changes cs n s ≡ s
 unfolding with_changes
@@ -105,20 +99,6 @@ first_stop states n x =
     elim (below states n) [ inl h ↦ record { steps = n; within = omega arith; stops = record { stopped = x; before = h } } | inr s ↦ s ]
 
 -- ---- behind the last change
--- the first step is none behind the last
-pub first_last : (c : Change) (cs : List Change) → Ordered (c ∷ cs) → c.step ≤ last_step (c ∷ cs)
-first_last c [] o = omega arith
-first_last c (d ∷ cs) o = let k = first_last d cs o.1 in omega (arith, k, o.0)
-
-rest_last : (c : Change) (cs : List Change) (t : ℕ) → last_step (c ∷ cs) ≤ t → last_step cs ≤ t
-rest_last c [] t h = omega arith
-rest_last c (d ∷ cs) t h = h
-
--- a list in order is made by its last step
-pub by_last : (cs : List Change) (t : ℕ) → Ordered cs → last_step cs ≤ t → AllBy t cs
-by_last [] t o h = tt
-by_last (c ∷ cs) t o h = let k = first_last c cs o in (omega (arith, k, h), by_last cs t (rest_ordered c cs o) (rest_last c cs t h))
-
 -- the state of a run with its count
 pub progress_state : (p : Progress) (n : ℕ) → (progress p n).state ≡ run p.state n
 unfolding progress run advanced
@@ -136,10 +116,6 @@ pub two_runs : (p q r : Progress) (m n : ℕ) → q ≡ progress p m → r ≡ p
 two_runs p q r m n e f = ap (λ x. x.state) f ∙ progress_state q n ∙ ap (λ x. run x.state n) e ∙ ap (λ s. run s n) (progress_state p m) ∙ sym (run-more p.state m n)
 
 -- ---- step by step
-pub run_none : (s : State) → s ≡ run s 0
-unfolding run
-run_none s = refl
-
 -- one step at the end
 pub run-last : (s : State) (n : ℕ) → run s (suc n) ≡ step (run s n)
 unfolding run

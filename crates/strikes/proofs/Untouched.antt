@@ -10,14 +10,14 @@ use Rattle.qed_model.specs.Machine.Progress.{Progress, progress}
 use Rattle.qed_model.specs.Machine.Step.{State, run}
 use Rattle.qed_model.specs.Machine.Struck.{struck}
 use Rattle.qed_model.specs.Promise.Changed.{changed, changed_as, with_changes, changed_run, last_step}
-use Rattle.qed_model.proofs.Walk.{run-more}
+use Rattle.qed_model.proofs.Walk.{run-more, run-none}
 use Rattle.rv_step.specs.Known.{struck_progress}
 use Rattle.fault_inject.specs.Touched.{IsSpared, AreSpared}
 use Rattle.fault_inject.proofs.Sparing.{spared_run}
 use Rattle.strikes.specs.Found.{IsOn, StopsWithin}
 use Rattle.strikes.specs.Later.{word_in, one_word, IsChangedAt}
 use Rattle.strikes.specs.Verdict.{IsReached}
-use Rattle.strikes.proofs.Stopping.{progress_state, run_none}
+use Rattle.strikes.proofs.Stopping.{progress_state}
 
 -- ---- steps that touch no byte of the word
 spared_to : (a x at n : ℕ) (start : State) → a < 2 ^ 64 → ((k : ℕ) → k < n → IsSpared a (run start (at + k))) → run (struck (Word a) x (run start at)) n ≡ struck (Word a) x (run start (at + n))
@@ -88,7 +88,7 @@ changed_word (c ∷ []) output s t reached here made = by_place c.place refl whe
   by_step a false e f = tt
   by_step a true e f =
       let first : c.step ≡ 0 = eqb-true c.step 0 f in
-      let going : output.outcome ≡ Going = ap (λ u. u.outcome) (run_none output ∙ ap (run output) (sym first)) ∙ reached in
+      let going : output.outcome ≡ Going = ap (λ u. u.outcome) (sym (run-none output) ∙ ap (run output) (sym first)) ∙ reached in
       made ∙ at_once c output a first e going ∙ ap (struck (Word a) c.value) (here first)
 
   by_place : (p : Place) → c.place ≡ p → IsChangedAt s (word_in p c.step c.value) t

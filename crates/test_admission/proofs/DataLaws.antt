@@ -1,5 +1,5 @@
 -- Which segments are data, by joined ranges; and the rule on them.
-use Rattle.std.proofs.Common.{◌≡◌, ⊎_elim, ℕ, ◌+◌, ◌<◌, max, Bool, true, false, cond, ◌&&◌, ◌||◌, List, [], ◌∷◌, length, refl, sym, ap, ◌∙◌, subst, arith}
+use Rattle.std.proofs.Common.{◌≡◌, ⊎_elim, ℕ, ◌+◌, ◌<◌, max, true, false, cond, ◌&&◌, ◌||◌, List, [], ◌∷◌, length, refl, sym, ap, ◌∙◌, subst, arith}
 use Rattle.std.specs.Prelude.{nat_lt, map, filter, slice_get}
 use Rattle.std.specs.List.{list_any}
 use Rattle.std.proofs.lemmas.Bool.{ltb-true, lt-ltb, and_from, and_parts}
@@ -16,6 +16,7 @@ use Rattle.qed_model.proofs.Among.{passing, any_passing}
 use Rattle.qed_model.specs.Members.{Among}
 use Rattle.qed_model.proofs.DataRangesLaws.{Spaced, AllSome, AllRoom, in_from, in_parts, in_any-joined, spaced-joined}
 use Rattle.qed_model.proofs.ImageLaws.{image_room}
+use Rattle.qed_model.proofs.BlocksOnly.{same_tests}
 use Rattle.test_admission.specs.declared.spans.Span.{Span}
 use Rattle.test_admission.specs.Spans.{all_bounds}
 use Rattle.test_admission.specs.DataSpans.{code_parts, AreCode}
@@ -42,13 +43,8 @@ meets_through r rs ts some all same h =
     let i = in_parts n.member q n.passes in
     any_passing (do_meet r) n.member ts n.among (and_from (nat_lt r.0 n.member.1) (nat_lt n.member.0 r.1) (lt-ltb r.0 n.member.1 (omega (arith, i.1))) (lt-ltb n.member.0 r.1 (omega (arith, i.0, b, some))))
 
-both : (a b : Bool) → (a ≡ true → b ≡ true) → (b ≡ true → a ≡ true) → a ≡ b
-both true b f g = sym (f refl)
-both false true f g = g refl
-both false false f g = refl
-
 meets_same : (r : ℕ × ℕ) (rs ts : List (ℕ × ℕ)) → r.0 < r.1 → AllSome rs → AllSome ts → ((q : ℕ) → is_in_any rs q ≡ is_in_any ts q) → list_any (do_meet r) rs ≡ list_any (do_meet r) ts
-meets_same r rs ts some a b same = both _ _ (meets_through r rs ts some a same) (meets_through r ts rs some b (λ q. sym (same q)))
+meets_same r rs ts some a b same = same_tests _ _ (meets_through r rs ts some a same) (meets_through r ts rs some b (λ q. sym (same q)))
 
 -- ---- code
 executed_parts : (r : ℕ × ℕ) (image : List Segment) → list_any (λ t. is_executed t && do_meet r (rounded t)) image ≡ list_any (do_meet r) (code_parts image)

@@ -21,10 +21,7 @@ zero_decoded = refl
 
 zero_passes : (r : CodeRule) (a : ℕ) → faults r a (Some (ins Illegal 0 0 0 (pos 0))) ≡ false
 zero_passes rule.Unknown a = refl
-zero_passes rule.Registers a = refl
-zero_passes rule.Breakpoint a = refl
-zero_passes (rule.Constant base) a = refl
-zero_passes (rule.Any base) a = refl
+zero_passes o a = refl
 
 zero_word : (bs : List ℕ) (k : ℕ) → length bs ≤ k → word_in bs k ≡ 0
 zero_word bs k h = rw (get_or_past bs k 0 h, get_or_past bs (k + 1) 0 (omega (arith, h)), get_or_past bs (k + 2) 0 (omega (arith, h)), get_or_past bs (k + 3) 0 (omega (arith, h))) refl

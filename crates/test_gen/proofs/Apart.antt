@@ -1,7 +1,6 @@
 -- The segments of a generated file are bytes, and share none.
-use Rattle.std.proofs.Common.{◌≡◌, inl, inr, ℕ, zero, suc, ◌+◌, ◌^◌, ◌<◌, ◌≤◌, true, List, [], ◌∷◌, ◌++◌, length, map, sym, ap, ◌∙◌, arith}
+use Rattle.std.proofs.Common.{◌≡◌, inl, inr, ℕ, zero, suc, ◌+◌, ◌^◌, ◌<◌, ◌≤◌, true, List, [], ◌∷◌, length, map, sym, ap, ◌∙◌, arith}
 use Rattle.std.specs.Prelude.{slice_index}
-use Rattle.std.specs.Int.{bytes_low_first}
 use Rattle.elf_types.specs.declared.file.ElfFile.{ElfFile}
 use Rattle.elf_types.specs.declared.file.Symbol.{Symbol}
 use Rattle.qed_model.specs.Below.{gather}
@@ -12,7 +11,7 @@ use Rattle.qed_model.specs.Machine.Loading.{load_segment}
 use Rattle.qed_model.specs.Admission.CodeWords.{loads_of}
 use Rattle.qed_model.specs.Members.{Among, Every}
 use Rattle.qed_model.proofs.CellsAmong.{has_parts}
-use Rattle.qed_model.proofs.Fields.{bytes_of_fit}
+use Rattle.qed_model.proofs.Fields.{bytes_of_fit, number_bytes_fit, append_fit}
 use Rattle.qed_model.proofs.Pairs.{every_among}
 use Rattle.qed_model.specs.Elf.Sound.{AreLoads}
 use Rattle.test_gen.specs.Code.{code}
@@ -21,21 +20,10 @@ use Rattle.test_gen.specs.Generated.{word_of, code_bytes, table_bytes, data_byte
 use Rattle.test_gen.proofs.Shape.{file_of, AreSized}
 
 -- ---- bytes
-small_bytes : (n i v k : ℕ) → slice_index (bytes_low_first i n v) k < 256
-small_bytes zero i v k = omega arith
-small_bytes (suc n) zero v zero = omega arith
-small_bytes (suc n) (suc i) v zero = omega arith
-small_bytes (suc n) i v (suc k) = small_bytes n (suc i) v k
-
-small_both : (xs ys : List ℕ) → ((k : ℕ) → slice_index xs k < 256) → ((k : ℕ) → slice_index ys k < 256) → (k : ℕ) → slice_index (xs ++ ys) k < 256
-small_both [] ys h l k = l k
-small_both (x ∷ xs) ys h l zero = h 0
-small_both (x ∷ xs) ys h l (suc k) = small_both xs ys (λ j. h (suc j)) l k
-
 small_numbers : (n : ℕ) (f : ℕ → ℕ) (k : ℕ) → slice_index (gather n (λ i. number_bytes 8 (f i))) k < 256
 unfolding gather number_bytes
 small_numbers zero f k = omega arith
-small_numbers (suc n) f k = small_both (gather n (λ i. number_bytes 8 (f i))) (number_bytes 8 (f n)) (small_numbers n f) (λ j. small_bytes 8 0 (f n) j) k
+small_numbers (suc n) f k = append_fit (gather n (λ i. number_bytes 8 (f i))) (number_bytes 8 (f n)) (small_numbers n f) (λ j. number_bytes_fit 8 0 (f n) j) k
 
 pub small_code : (seed n k : ℕ) → slice_index (code_bytes seed n) k < 256
 unfolding code_bytes

@@ -21,6 +21,7 @@ use Rattle.test_gen.proofs.Admitted.{few_functions}
 use Rattle.test_gen.proofs.Ending.{test_ends}
 use Rattle.test_gen.proofs.Readable.{test_read}
 use Rattle.test_gen.proofs.Within.{test_weavable}
+use Rattle.weave_core.proofs.Trace.{run-ended}
 
 -- ---- ends
 -- a state and a number of steps, as far as a run has come
@@ -100,18 +101,13 @@ unfolding progress run advanced
 progress_state zero p = refl
 progress_state (suc m) p = progress_state m (advanced p)
 
-run_stays : (m : ℕ) (s : State) → s.outcome ≡ Ended → run s m ≡ s
-unfolding run step
-run_stays zero s e = refl
-run_stays (suc m) s e = let same : step s ≡ s = ap (λ o. step_at o s) e in ap (λ t. run t m) same ∙ run_stays m s e
-
 -- a run that ends within n steps has ended behind them
 ended_within : (s : State) (n m : ℕ) → EndsWithin s n → n ≤ m → (progress (begun s) m).state.outcome ≡ Ended
 ended_within s n m h few =
     let within = h.within in
     let rest : ℕ = m - h.steps in
     let all : m ≡ h.steps + (m - h.steps) = omega (arith, within, few) in
-    let come : run s m ≡ run s h.steps = ap (run s) all ∙ run-more s h.steps rest ∙ run_stays rest (run s h.steps) h.ends in
+    let come : run s m ≡ run s h.steps = ap (run s) all ∙ run-more s h.steps rest ∙ run-ended rest (run s h.steps) h.ends in
     ap (λ (t : State). t.outcome) (progress_state m (begun s) ∙ come) ∙ h.ends
 
 -- what is woven from a test has ended, from registers 0

@@ -29,9 +29,10 @@ use Rattle.test_gen.specs.Generated.{function_at, table_bytes}
 use Rattle.test_gen.proofs.Functions.{length-main, length-functions}
 use Rattle.test_gen.proofs.Sizes.{length-numbers}
 use Rattle.test_gen.proofs.Runs.{HasData}
-use Rattle.test_gen.proofs.MainRun.{IsMade, has_left, has_right}
+use Rattle.test_gen.proofs.MainRun.{IsMade, has_right}
 use Rattle.test_gen.proofs.Shape.{file_of, AreSized}
 use Rattle.test_gen.proofs.Stands.{field_first}
+use Rattle.weave_core.proofs.Source.{has_front}
 
 -- ---- lists that are gathered
 -- number i among numbers of 8 bytes
@@ -67,7 +68,7 @@ unfolding gather
 has_gathered c a seed zero i b h l e = absurd (omega (arith, l))
 has_gathered c a seed (suc n) i b h l e =
     ⊎_elim
-    (λ k. has_gathered c a seed n i b (has_left c a (gather n (function seed)) (function seed n) h) k e)
+    (λ k. has_gathered c a seed n i b (has_front c a (gather n (function seed)) (function seed n) h) k e)
     (λ k.
     let same : n ≡ i = omega (arith, k, l) in
     subst (λ j. HasAt c b (function seed j)) same (has_right c a (gather n (function seed)) (function seed n) b h (omega (arith, e, same, length-functions seed n))))
@@ -165,6 +166,6 @@ module _ (seed n : ℕ) (code_part words : List ℕ) (symbols : List Symbol) (x 
           data_there = data_there;
           reads = table_reads;
           entries = table_entries;
-          main_there = has_left (fetched_at m (ranges_of f)) 0x10000 (main n) (gather n (function seed)) all;
+          main_there = has_front (fetched_at m (ranges_of f)) 0x10000 (main n) (gather n (function seed)) all;
           functions_there = λ i h. has_gathered (fetched_at m (ranges_of f)) 0x10030 seed n i (function_at i) behind h (omega arith);
         }

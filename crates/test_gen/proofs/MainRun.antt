@@ -27,6 +27,7 @@ use Rattle.test_gen.specs.Code.{body_registers, register_from, body_forms, body_
 use Rattle.test_gen.specs.Generated.{function_at}
 use Rattle.test_gen.proofs.Plain.{every_each}
 use Rattle.test_gen.proofs.Runs.{is_main, IsAccess, IsBody, Computes, Loads, Stores, HasData, IsGood, Goes, Reaches, good_set, good_jump, next_is, body_walk}
+use Rattle.weave_core.proofs.Source.{has_front}
 
 -- ---- what bodies are
 own_index : (xs : List ℕ) (k : ℕ) → k < length xs → list_all (λ x. not (is_main x)) xs ≡ true → is_main (slice_index xs k) ≡ false
@@ -82,10 +83,6 @@ pub branch_not :
     → step s ≡ moved s.regs (next_pc s) s
 unfolding execute
 branch_not i s g n c h = step-class s i class.Branch g n c ∙ ap (λ b. cond b (jumped s.regs (target i s.pc) s) (moved s.regs (next_pc s) s)) h
-
-pub has_left : (c : ℕ → Fetched) (a : ℕ) (xs ys : List Ins) → HasAt c a (xs ++ ys) → HasAt c a xs
-has_left c a [] ys h = tt
-has_left c a (x ∷ xs) ys h = (h.0, has_left c (a + 4) xs ys h.1)
 
 pub has_right : (c : ℕ → Fetched) (a : ℕ) (xs ys : List Ins) (b : ℕ) → HasAt c a (xs ++ ys) → a + 4 * length xs ≡ b → HasAt c b ys
 has_right c a [] ys b h e = let same : a ≡ b = omega (arith, e) in subst (λ x. HasAt c x ys) same h
@@ -197,7 +194,7 @@ module _ (m : Memory) (ranges : List (ℕ × ℕ)) (seed n : ℕ) (made : IsMade
   in_function s i l g at base =
       let few = made.few in
       let size : length (body i) ≡ 32 = length-each 32 (λ k. body_instruction (random_word seed (32 * i + k))) in
-      let there = has_left code (function_at i) (body i) (return ∷ []) (made.functions_there i l) in
+      let there = has_front code (function_at i) (body i) (return ∷ []) (made.functions_there i l) in
       let w = body_walk m ranges made.data_there (body i) s (every_each IsBody 32 (λ k. body_instruction (random_word seed (32 * i + k))) (λ k. body_is (random_word seed (32 * i + k)))) g base
       (omega (arith, at, size, l, few)) (subst (λ x. HasAt code x (body i)) (sym at) there) in
       let last : s.pc + 4 * length (body i) ≡ function_at i + 128 = omega (arith, at, size) in

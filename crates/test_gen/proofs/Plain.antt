@@ -1,6 +1,6 @@
 -- Each instruction of a generated test has a word, names no register above x13, and is neither EBREAK nor AUIPC.
 use Rattle.std.proofs.Common.{◌≡◌, ℕ, zero, suc, ◌+◌, ◌*◌, ◌/◌, ◌%◌, ◌^◌, ◌<◌, ◌≤◌, Bool, true, false, ◌||◌, List, [], ◌∷◌, Some, None, refl, ap, ◌∙◌, arith}
-use Rattle.std.specs.Prelude.{ℤ, pos, negsuc, ◌-ℤ◌, ◌≤ℤ◌, is_none, is_some, nat_le, slice_index, slice_index_or, if◌then◌else◌}
+use Rattle.std.specs.Prelude.{ℤ, pos, ◌-ℤ◌, is_none, is_some, nat_le, slice_index, slice_index_or, if◌then◌else◌}
 use Rattle.std.specs.List.{list_all}
 use Rattle.std.specs.Option.{option_or}
 use Rattle.std.proofs.lemmas.Bool.{and_parts, and_from, leb-true, lt-ltb, le-ltb}
@@ -11,13 +11,13 @@ use Rattle.rv_isa.specs.declared.kind.Kind.TheVariants.{Add, Sub, Xor, Mul, Divu
 use Rattle.rv_isa.specs.Kind.{class_of, writes_rd, reads_rs1, reads_rs2}
 use Rattle.rv_isa.specs.Ins.{nop, named}
 use Rattle.qed_model.specs.Below.{each, gather}
-use Rattle.qed_model.specs.Machine.Table.{R, ins, fits_signed, word_of, encode_of}
+use Rattle.qed_model.specs.Machine.Table.{R, ins, word_of, encode_of}
 use Rattle.qed_model.specs.Admission.Terms.{if_high, high_register}
 use Rattle.qed_model.specs.Admission.Rules.{is_ebreak}
 use Rattle.qed_model.specs.Weave.Sequences.{is_auipc}
 use Rattle.qed_model.proofs.Pairs.{every-append}
 use Rattle.qed_model.specs.Members.{Every}
-use Rattle.qed_model.proofs.Reach.{has_word, is_some-some_if, addi_word}
+use Rattle.qed_model.proofs.Reach.{has_word, is_some-some_if, addi_word, fits_12}
 use Rattle.random_words.specs.Random.{random_word}
 use Rattle.test_gen.specs.Code.{body_registers, register_from, body_forms, body_instruction, return, function, main, code}
 
@@ -50,11 +50,6 @@ low_body : (place word : ℕ) → register_from place word ≤ 13
 low_body place word = low_index body_registers (word / 2 ^ place % 7) refl
 
 -- ---- the forms of body instructions
--- a number of 12 bits
-signed_12 : (z : ℤ) → negsuc 2047 ≤ℤ z → z ≤ℤ pos 2047 → fits_signed 12 z ≡ true
-signed_12 (pos x) l h = lt-ltb x 2048 (omega (arith, ints, h))
-signed_12 (negsuc x) l h = lt-ltb x 2048 (omega (arith, ints, l))
-
 -- three registers
 word_three : (k : Kind) (m d a b : ℕ) → d ≤ 13 → a ≤ 13 → b ≤ 13 → is_some (word_of R m (ins k d a b (pos 0))) ≡ true
 unfolding word_of
@@ -80,7 +75,7 @@ forms_plain d a b m x y z h =
           (
             record { word = word_three Mul 0x2000033 d a b x y z; low = low Mul; kind = refl },
             (
-              record { word = addi_word d a (pos m -ℤ pos 128) (omega (arith, x)) (omega (arith, y)) (signed_12 (pos m -ℤ pos 128) (omega (arith, ints)) (omega (arith, ints, h))); low = low_registers (ins Addi d a 0 (pos m -ℤ pos 128)) x y (omega arith); kind = refl },
+              record { word = addi_word d a (pos m -ℤ pos 128) (omega (arith, x)) (omega (arith, y)) (fits_12 (pos m -ℤ pos 128) (omega (arith, ints)) (omega (arith, ints, h))); low = low_registers (ins Addi d a 0 (pos m -ℤ pos 128)) x y (omega arith); kind = refl },
               (
                 record { word = word_three Divu 0x2005033 d a b x y z; low = low Divu; kind = refl },
                 (

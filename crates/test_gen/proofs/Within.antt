@@ -1,6 +1,6 @@
 -- Where the new code of a generated test is within its limit, the output is within the others, and its run ends.
-use Rattle.std.proofs.Common.{◌≡◌, ◌⊎◌, ⊎_elim, ℕ, suc, ◌+◌, ◌-◌, ◌*◌, ◌%◌, ◌<◌, ◌≤◌, max, Bool, true, false, cond, ◌||◌, ◌==◌, List, [], ◌∷◌, ◌++◌, length, map, None, refl, sym, ap, ◌∙◌, subst, arith}
-use Rattle.std.specs.Prelude.{All, AllPairs, filter, nat_lt, nat_le, if◌then◌else◌}
+use Rattle.std.proofs.Common.{◌≡◌, ◌⊎◌, ⊎_elim, ℕ, suc, ◌+◌, ◌-◌, ◌*◌, ◌%◌, ◌<◌, ◌≤◌, max, Bool, true, false, ◌||◌, ◌==◌, List, [], ◌∷◌, ◌++◌, length, map, None, refl, sym, ap, ◌∙◌, subst, arith}
+use Rattle.std.specs.Prelude.{All, AllPairs, nat_lt, nat_le, if◌then◌else◌}
 use Rattle.std.proofs.lemmas.Bool.{and_parts, or_cases, eqb-true, leb-true, ltb-true, false≢true}
 use Rattle.std.proofs.lemmas.List.{length-map}
 use Rattle.std.proofs.lemmas.List.Elements.{All-cons, All-head, All-tail}
@@ -44,6 +44,7 @@ use Rattle.qed_model.proofs.PlacedWords.{size-decoded}
 use Rattle.qed_model.specs.Elf.Sound.{AreLoads}
 use Rattle.elf_files.proofs.ReadFacts.{one_file}
 use Rattle.qed_model.proofs.Steady.{steady_any}
+use Rattle.qed_model.proofs.Pairs.{every-filter}
 use Rattle.weave_core.proofs.FilesFit.{length-table}
 use Rattle.weave_core.proofs.Visit.{visit_some}
 use Rattle.weave_core.proofs.TestKept as kept
@@ -71,14 +72,6 @@ every_better P Q (x ∷ xs) h e = (h x e.0, every_better P Q xs h e.1)
 both_every : {A : Type 0} (P Q R : A → Type 0) (xs : List A) → ((x : A) → P x → Q x → R x) → Every P xs → Every Q xs → Every R xs
 both_every P Q R [] h p q = tt
 both_every P Q R (x ∷ xs) h p q = (h x p.0 q.0, both_every P Q R xs h p.1 q.1)
-
-every-filter : {A : Type 0} (P : A → Type 0) (test : A → Bool) (xs : List A) → Every P xs → Every P (filter test xs)
-every-filter P test [] h = tt
-every-filter P test (x ∷ xs) h =
-    elim (test x) as (λ b. Every P (cond b (x ∷ filter test xs) (filter test xs))) [
-      | true ↦ (h.0, every-filter P test xs h.1)
-      | false ↦ every-filter P test xs h.1
-    ]
 
 -- ---- ranges and rows
 max_below : (a b high : ℕ) → a ≤ high → b ≤ high → max a b ≤ high
@@ -184,10 +177,6 @@ module _ (seed n x y z : ℕ) (some : 1 ≤ n) (few : n ≤ 1875) where
 
   ranges_are : data_ranges (image_of f) ≡ table_range ∷ data_range ∷ []
   ranges_are = ap data_ranges image_is ∙ shape.data_is n code table data_bytes named x y z sizes
-
-  -- two data ranges
-  pub two_ranges : length (data_ranges (image_of f)) ≡ 2
-  two_ranges = ap length ranges_are
 
   -- ---- the halves
   abbrev code_part : Segment

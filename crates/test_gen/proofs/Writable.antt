@@ -1,5 +1,5 @@
 -- A generated file can be written.
-use Rattle.std.proofs.Common.{◌≡◌, ◌≢◌, inl, inr, ℕ, zero, suc, ◌+◌, ◌*◌, ◌%◌, ◌^◌, ◌<◌, ◌≤◌, false, List, [], ◌∷◌, ◌++◌, length, refl, ap, arith, length-append}
+use Rattle.std.proofs.Common.{◌≡◌, ◌≢◌, inl, inr, ℕ, suc, ◌+◌, ◌*◌, ◌%◌, ◌^◌, ◌<◌, ◌≤◌, false, List, [], ◌∷◌, ◌++◌, length, refl, ap, arith, length-append}
 use Rattle.std.specs.Prelude.{All, codes}
 use Rattle.std.specs.Fmt.{decimal}
 use Rattle.std.proofs.lemmas.Fmt.{decimal_by_steps, length-decimal-le}
@@ -9,18 +9,12 @@ use Rattle.elf_types.specs.declared.file.Symbol.{Symbol}
 use Rattle.qed_model.specs.Below.{each}
 use Rattle.qed_model.specs.Elf.Written.{offset_from, end_from}
 use Rattle.qed_model.specs.Elf.Layout.{written, names_bytes, symbol_names, own_place, do_share, IsName, IsLoadable, IsPlaced, IsSymbol, null_symbol, IsWritable}
-use Rattle.qed_model.proofs.BelowLaws.{length-each}
+use Rattle.qed_model.proofs.BelowLaws.{length-each, All-each}
 use Rattle.qed_model.proofs.OutputFits.{name_test}
 use Rattle.qed_model.proofs.Pairs.{pairs_all, every_all}
 use Rattle.elf_write.proofs.PlainFits.{loadable, not_shared, offset_room, inside_itself, placed, upper}
 use Rattle.test_gen.specs.Generated.{code_bytes, table_bytes, data_bytes, code_segment, table_segment, data_segment, sections, symbol, function_symbol, symbols, file_with}
 use Rattle.test_gen.proofs.Sizes.{length-code_bytes, length-table_bytes, length-data_bytes}
-
--- what a function gives at each number has a property
-all_each : {A : Type 0} (P : A → Type 0) (n : ℕ) (f : ℕ → A) → ((i : ℕ) → i < n → P (f i)) → All P (each n f)
-unfolding each
-all_each P zero f h = All-nil P
-all_each P (suc n) f h = All-append P (each n f) (f n ∷ []) (all_each P n f (λ i l. h i (omega arith))) (All-cons P (f n) [] (h n (omega arith)) (All-nil P))
 
 -- ---- names
 digits_name : (n : ℕ) → n < 2 ^ 64 → IsName (decimal n)
@@ -45,7 +39,7 @@ unfolding function_symbol
 is_function i = (refl, refl)
 
 pub all_symbols : (P : Symbol → Type 0) (n : ℕ) → n ≤ 1875 → P (symbol (codes "main") 0x10000) → ((i : ℕ) → i < 1875 → P (function_symbol i)) → All P (symbols n)
-all_symbols P n h first each_one = All-cons P (symbol (codes "main") 0x10000) (each n function_symbol) first (all_each P n function_symbol (λ i l. each_one i (omega arith)))
+all_symbols P n h first each_one = All-cons P (symbol (codes "main") 0x10000) (each n function_symbol) first (All-each P n function_symbol (λ i l. each_one i (omega arith)))
 
 -- ---- how long the names are
 pub names_size : (ss : List Symbol) → All (λ s. length s.name ≤ 5) ss → length (names_bytes (symbol_names ss)) ≤ 6 * length ss

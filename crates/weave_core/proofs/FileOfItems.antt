@@ -1,24 +1,27 @@
 -- A file whose new code has the instructions of some items, with a mark for each block: it fits the input, reads as the items, and its table
 -- leads to the marks.
-use Rattle.std.proofs.Common.{◌≡◌, ◌⊎◌, inr, ⊎_elim, ℕ, suc, ◌+◌, ◌-◌, ◌*◌, ◌%◌, ◌^◌, ◌<◌, ◌≤◌, Bool, true, false, cond, List, [], ◌∷◌, ◌++◌, length, map, Option, Some, None, refl, sym, ap, ◌∙◌, subst, arith}
-use Rattle.std.specs.Prelude.{All, AllPairs, ◌==◌, slice_index, unwrap_or, IfSome}
+use Rattle.std.proofs.Common.{◌≡◌, ℕ, ◌+◌, ◌%◌, ◌^◌, ◌≤◌, ⊎_elim, Bool, true, false, cond, List, [], ◌∷◌, refl, arith, ◌⊎◌, inr, ◌-◌, ◌*◌, ◌<◌, ◌++◌, length, map, Option, Some, None, sym, ap, ◌∙◌, subst}
+use Rattle.std.proofs.lemmas.Bool.{false≢true, and_parts, or_cases, leb-true, eqb-true}
+use Rattle.std.specs.Prelude.{◌==◌, ◌&&◌, nat_le, All, slice_index, unwrap_or, IfSome}
 use Rattle.std.specs.FinMap.{get}
-use Rattle.std.proofs.lemmas.Bool.{false≢true, eqb-true, or_cases}
 use Rattle.std.proofs.lemmas.List.{length-map}
 use Rattle.std.proofs.lemmas.List.Elements.{All-head, All-tail}
 use Rattle.elf_types.specs.declared.file.ElfFile.{ElfFile}
 use Rattle.elf_types.specs.declared.file.Segment.{Segment}
+use Rattle.rv_isa.specs.declared.ins.Ins.{Ins}
 use Rattle.rv_isa.specs.declared.kind.Kind.TheVariants.{Lw}
+use Rattle.qed_model.specs.Machine.Table.{decode_of}
+use Rattle.qed_model.specs.Machine.Memory.{Memory, grants, number, allows, byte_in, byte_at, wrap}
+use Rattle.qed_model.specs.Machine.Step.{in_range, Fetched, Refused, Known, known_or, fetched_at, HasAt}
+use Rattle.qed_model.specs.Machine.Program.{Program, memory_of, LoadSegment}
+use Rattle.qed_model.specs.Weave.Sequences.{Form, Reads, Block}
+use Rattle.qed_model.proofs.Steps.{fetched_aligned}
 use Rattle.qed_model.specs.declared.item.Item.{Item}
 use Rattle.qed_model.specs.declared.options.Options.{Options}
 use Rattle.qed_model.specs.declared.plan.EntryRow.{EntryRow}
-use Rattle.qed_model.specs.Machine.Memory.{Memory, allows, byte_in, byte_at, wrap, number}
 use Rattle.qed_model.specs.Numbers.{number_bytes, words_of, bytes_of}
-use Rattle.qed_model.specs.Machine.Table.{decode_of}
 use Rattle.qed_model.specs.Machine.Values.{loaded}
-use Rattle.qed_model.specs.Machine.Step.{Fetched, HasAt, fetched_at}
 use Rattle.qed_model.specs.Admission.Reached.{AreReached}
-use Rattle.qed_model.specs.Machine.Program.{LoadSegment, memory_of}
 use Rattle.qed_model.specs.Machine.Loading.{load_segment, load_segments, loaded_file}
 use Rattle.qed_model.specs.Elf.FileRead.{file_read}
 use Rattle.qed_model.specs.Machine.Cells.{has, cell_at, cell_among}
@@ -31,48 +34,83 @@ use Rattle.qed_model.specs.Admission.Leaders.{Entry}
 use Rattle.qed_model.specs.Weave.Blocks.{IsLeaderBlock, IsOtherBlock, begins_at, AreBlocks}
 use Rattle.qed_model.specs.Weave.Placed.{Decode, sum_of_sizes, entry_at, rows_from, entry_of, placed}
 use Rattle.qed_model.specs.Weave.OutputFile.{original_half, first_input, last_input, distance_to, table_word, table_bytes, table_segment, has_table, file_of}
-use Rattle.qed_model.specs.Weave.Sequences.{Form, Reads, Block}
 use Rattle.qed_model.specs.Weave.Forms.{form_of}
 use Rattle.qed_model.proofs.Fields.{words_of-bytes_of, length-bytes_of, bytes_of_fit}
 use Rattle.qed_model.proofs.Among.{source_of}
 use Rattle.qed_model.proofs.CellsAmong.{has_from, has_not, get_among, skip_front, moved_by}
 use Rattle.qed_model.specs.Elf.Sound.{AreLoads}
 use Rattle.qed_model.proofs.Fetches.{IsShapely, code_at, code_range, instruction_code}
-use Rattle.weave_core.specs.World.{World}
-use Rattle.weave_core.specs.Blocks.{TableAt}
+use Rattle.qed_model.proofs.PlacedWords.{size-instructions_from}
+use Rattle.qed_model.proofs.BlocksOnly.{ascend_of, any_first}
+use Rattle.weave_core.specs.World.{World, AllBelow}
 use Rattle.weave_core.specs.Describes.{Describes}
 use Rattle.weave_core.specs.Plan.{FilesFit}
+use Rattle.weave_core.specs.Blocks.{TableAt}
 use Rattle.weave_core.specs.WeavePromise.{AllBlocksOf}
 use Rattle.weave_core.specs.WeaveForms.{weave_of}
 use Rattle.weave_core.proofs.Placing.{Distinct, FetchesAt, fetches_words, has_decoded, reads_placed}
-use Rattle.weave_core.proofs.Planned.{world, describes}
 use Rattle.weave_core.proofs.HalvesFit.{halved, AreHalves}
 use Rattle.weave_core.proofs.ImageHalves.{IsImage, loads_place, are_halves}
 use Rattle.weave_core.proofs.FilesFit.{admitted_image, ArePlaced, behind_halves, length-table, behind, loaded_segments, loaded_ranges, files_fit}
 use Rattle.weave_core.proofs.FileBlocks.{IsKnownCode, blocks_good}
-use Rattle.weave_core.proofs.PlacingForm.{length-instructions, mark_place}
+use Rattle.weave_core.proofs.PlacingForm.{mark_place}
 use Rattle.weave_core.proofs.Marks.{Ascend}
 use Rattle.weave_core.proofs.TestTable.{AreRows, first_leads, last_leads_of, row_between, table_word_bytes, table_number, loaded_small}
 
--- ---- blocks in ascending order
-abbrev FirstFrom : ℕ → List Block → Type 0
-FirstFrom low [] = Unit {0}
-FirstFrom low (b ∷ bs) = low ≤ b.start
+-- ---- the world of two files that fit together
+-- ---- what is fetched stands in a range
+-- what is fetched passed the test of the ranges
+ranged : (a b g : Bool) (x : Fetched) (i : Ins) → cond (a && (b && g)) x Refused ≡ Known i → b ≡ true
+ranged true true g x i e = refl
+ranged true false g x i e = absurd (cc)
+ranged false b g x i e = absurd (cc)
 
-pairs_rest : (b : Block) (bs : List Block) → AllPairs (λ (x y : Block). x.start < y.start) (b ∷ bs) → AllPairs (λ (x y : Block). x.start < y.start) bs
-pairs_rest b bs h i j d lt le = h (suc i) (suc j) d (omega (arith, lt)) (omega (arith, le))
+-- a word of a range ends with it
+below_one : (r : ℕ × ℕ) (a top : ℕ) → r.1 ≤ top → (nat_le r.0 a && nat_le (a + 4) r.1) ≡ true → a + 4 ≤ top
+below_one r a top b x = let h = leb-true (a + 4) r.1 (and_parts (nat_le r.0 a) (nat_le (a + 4) r.1) x).1 in omega (arith, h, b)
 
-next_from : (b : Block) (bs : List Block) → AllPairs (λ (x y : Block). x.start < y.start) (b ∷ bs) → FirstFrom (b.start + 1) bs
-next_from b [] h = tt
-next_from b (c ∷ bs) h = let p = h 0 1 b (omega arith) (omega arith) in omega (arith, p)
+below_top : (ranges : List (ℕ × ℕ)) (a top : ℕ) → AllBelow ranges top → in_range a ranges ≡ true → a + 4 ≤ top
+below_top [] a top b e = absurd (false≢true e)
+below_top (r ∷ rs) a top b e = ⊎_elim (λ x. below_one r a top b.0 x) (λ x. below_top rs a top b.1 x) (or_cases _ _ e)
 
-ascend_of : (low : ℕ) (bs : List Block) → FirstFrom low bs → AllPairs (λ (x y : Block). x.start < y.start) bs → Ascend low bs
-ascend_of low [] l h = tt
-ascend_of low (b ∷ bs) l h = (l, ascend_of (b.start + 1) bs (next_from b bs h) (pairs_rest b bs h))
+-- so an instruction that is fetched stands below 2^63
+pub fetched_low : (m : Memory) (ranges : List (ℕ × ℕ)) (a : ℕ) (i : Ins) → AllBelow ranges (2 ^ 63 - 4) → fetched_at m ranges a ≡ Known i → a + 8 ≤ 2 ^ 63
+unfolding fetched_at
+fetched_low m ranges a i b e =
+    let h = below_top ranges a (2 ^ 63 - 4) b (ranged (a % 4 == 0) (in_range a ranges) (grants (λ f. f.execute) m a 4) (known_or (number m a 4) (decode_of (number m a 4))) i e) in
+    omega (arith, h)
 
-any_first : (bs : List Block) → FirstFrom 0 bs
-any_first [] = tt
-any_first (b ∷ bs) = omega arith
+module _ (f g : Program) (base d : ℕ) (form : Form) (fits : FilesFit f g base d form.spans) (entry : ℕ → ℕ) (reached : ℕ → Bool) where
+  -- the world of the two files
+  abbrev pub world : World
+  world = record {
+    base = base;
+    distance = d;
+    input = memory_of f.segments;
+    output = memory_of g.segments;
+    layout = fits.layout;
+    source = fetched_at (memory_of f.segments) f.ranges;
+    code = fetched_at (memory_of g.segments) g.ranges;
+    entry = entry;
+    reached = reached;
+    low = λ a i e. fetched_low (memory_of g.segments) g.ranges a i fits.output_ranges e;
+    grain = λ a i e. fetched_aligned (memory_of g.segments) g.ranges a i e;
+    source_low = λ a i e. fetched_low (memory_of f.segments) f.ranges a i fits.input_ranges e;
+    input_fixed = fits.input_fixed;
+    output_fixed = fits.output_fixed;
+    output_kept = fits.output_kept;
+    form = form;
+    spans_low = fits.spans_low;
+    spans_good = fits.spans_good;
+    span_reads = fits.span_reads;
+    span_data = fits.span_data;
+    output_low = fits.output_low;
+    output_bytes = fits.output_bytes;
+  }
+
+  -- it is theirs
+  pub describes : Describes f g world
+  describes = record { input = refl; output = refl; input_code = λ a. refl; output_code = λ a. refl; bytes = fits.bytes; mirror_bytes = fits.mirror_bytes; spare = fits.spare }
 
 -- ---- what blocks begin at
 pub some_block : (bs : List Block) (a : ℕ) → begins_at bs a ≡ true → (b : Block) × (cs : List Block) × (bs ≡ b ∷ cs)
@@ -208,7 +246,7 @@ module _ (f : ElfFile) (o : Options) (sound : AreSoundOptions o) (loads : AreLoa
     pub length-code : length cs ≡ sum_of_sizes far items
     length-code =
         let l : length words ≡ length (placed far at items) = sym (length-map words decode_of) ∙ ap length of.code ∙ length-map (placed far at items) Some in
-        let s = length-instructions far (entry_of far at items) at items in
+        let s = size-instructions_from far (entry_of far at items) at items in
         let b = length-bytes_of words in
         omega (arith, l, s, b)
 

@@ -19,19 +19,19 @@ use Rattle.qed_model.specs.Weave.Pieces.{is_run}
 use Rattle.qed_model.specs.Weave.Blocks.{begins_at}
 use Rattle.qed_model.specs.Weave.Sequences.{Form, Reads, End, Falls, Stops, Block, original, each_part, guards, sweep, compare, visit, leave, leave_as}
 use Rattle.qed_model.specs.Weave.Placed.{distance_between, upper_part}
-use Rattle.qed_model.specs.Weave.Bounds.{end_bound}
-use Rattle.qed_model.proofs.Walk.{known_at, run-more, constant_walk, set_reg-pos}
+use Rattle.qed_model.specs.Weave.Bounds.{end_bound, visit_bound}
+use Rattle.qed_model.proofs.Walk.{known_at, run-more, constant_walk, set_reg-pos, run-none}
+use Rattle.qed_model.proofs.BlocksOnly.{run_prefix}
 use Rattle.weave_core.specs.World.{World, Twice, IsCursor}
 use Rattle.weave_core.specs.Blocks.{IsEntryOf, FitsPiece, AllFit, Leaves, EndStands}
 use Rattle.weave_core.specs.Rows.{At, Sourced, Mirrors}
 use Rattle.weave_core.specs.KindItems.{MirrorsFit}
-use Rattle.weave_core.specs.Promise.{WovenIn}
+use Rattle.weave_core.specs.Promise.{WovenIn, start_of, ValuesKept, LandingsFire}
 use Rattle.weave_core.specs.Plan.{PlanKept, PlanLanded}
-use Rattle.weave_core.specs.Promise.{start_of, ValuesKept, LandingsFire}
 use Rattle.weave_core.specs.Pass.{Views, Leads, Quiet, Lockstep, Does, same}
 use Rattle.weave_core.specs.Leaving.{swept_end, Signs}
 use Rattle.weave_core.proofs.Visit.{checked_behind, words_within, cursor_decided, cursor_is}
-use Rattle.weave_core.proofs.Source.{fit_front, has_front, run_front}
+use Rattle.weave_core.proofs.Source.{fit_front, has_front}
 use Rattle.qed_model.specs.Admission.DataRanges.{word_count}
 use Rattle.weave_core.proofs.Leaves.{step-end, step-branch, step-break}
 use Rattle.weave_core.specs.Each.{items_each, NeedsEach, GivesEach, LeavesEach}
@@ -47,7 +47,6 @@ use Rattle.weave_core.specs.Weave.{Weave, start_steps, stage_steps}
 use Rattle.weave_core.specs.WeaveLaws.{PieceAt, EntryAt, Holds, Stands, GoesTo, Inside, Checked, stops, Onward, lands, is_lost, Left, Keeps, CheckedRows, Starts, Guarded}
 use Rattle.weave_core.specs.WeavePromise.{PlanOf}
 use Rattle.weave_core.specs.WeaveForms.{is_signed_at, weave_with, weave_of, ChecksLaws}
-use Rattle.qed_model.specs.Weave.Bounds.{visit_bound}
 use Rattle.qed_model.specs.Weave.Costs.{spent, cost_each, used, bare_cost, original_cost}
 use Rattle.weave_core.proofs.Values.{WeaveIn, kept, weave_kept}
 use Rattle.rv_isa.specs.declared.kind.Kind.TheVariants.{Beq, Auipc}
@@ -56,7 +55,6 @@ use Rattle.rv_isa.proofs.RegsLaws.{slice_index-set_reg_other, slice_index-set_re
 use Rattle.qed_model.specs.Machine.Table.{ins}
 use Rattle.qed_model.specs.Machine.Walks.{Over}
 use Rattle.weave_core.proofs.Landings.{landed, weave_landed}
-use Rattle.weave_core.proofs.Trace.{none_run}
 
 -- ---- the piece, as passes
 -- where the next instruction stands
@@ -149,7 +147,7 @@ front_row w is n u s tail l fit clean has a so calm =
     let all = each_same plus (λ i at. guards (used i) ++ bare i at) original guarded_original is s.pc ∙ each_plus original is s.pc in
     let shape = ap (λ k. k ++ tail) (sym all ∙ ap (λ k. items_each plus (λ i at. guards (used i) ++ bare i at) k s.pc) split ∙ f.1) ∙ append_assoc (items_each plus (λ i at. guards (used i) ++ bare i at) xs s.pc) f.0 tail in
     let fits = fit_front xs ys (subst AllFit split fit) in
-    let run1 = run_front (λ r. false) xs ys (subst (λ k. is_run k ≡ true) split clean) in
+    let run1 = run_prefix (λ r. false) xs ys (subst (λ k. is_run k ≡ true) split clean) in
     let has1 = has_front w.source s.pc xs ys (subst (HasAt w.source s.pc) split has) in
     let needs = needs_originals plus (λ a h. refl) w xs (λ r. false) s.pc v fits run1 (λ r e. refl) so refl has1 (subst (λ k. NotTrapped (run s k)) (sym count) calm) in
     let g = (quiet_front w.form xs s.pc fits).leads w v (f.0 ++ tail) tt (subst (λ k. At w u k s s) shape a) needs in
@@ -440,7 +438,7 @@ form_guarded w most checks first steps = record {
       let y = moved l (v.pc + 8 + 4) v in
       let four : (v.pc + 8 + 4) % 2 ^ 64 ≡ v.pc + 8 + 4 = omega (arith, near) in
       let three : step x ≡ y = step-branch x i over_x.going (known_at w.code x i over_x h.2.0) refl ∙ ap (λ t. cond t (jumped x.regs ((x.pc + imm i) % 2 ^ 64) x) (moved x.regs (next_pc x) x)) test ∙ ap (λ p. moved l p v) four in
-      let all : run v 4 ≡ step y = run-more v 2 2 ∙ ap (λ s. run s 2) two ∙ first_run x 1 ∙ ap (λ s. run s 1) three ∙ first_run y 0 ∙ none_run (step y) in
+      let all : run v 4 ≡ step y = run-more v 2 2 ∙ ap (λ s. run s 2) two ∙ first_run x 1 ∙ ap (λ s. run s 1) three ∙ first_run y 0 ∙ run-none (step y) in
       ap (λ s. s.outcome) all ∙ step-break y o.going (o.code (v.pc + 8 + 4) ∙ h.2.1.0);
 }
 

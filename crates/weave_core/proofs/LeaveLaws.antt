@@ -18,8 +18,7 @@ use Rattle.qed_model.proofs.Walk.{over_moved, known_at}
 use Rattle.qed_model.proofs.Walked.{Walk, walk_none, walk_on}
 use Rattle.weave_core.specs.World.{World, Quiet as Calm, Twice}
 use Rattle.weave_core.specs.Blocks.{IsEntryOf, Goes}
-use Rattle.weave_core.specs.Rows.{At, Sourced}
-use Rattle.weave_core.specs.Rows.{Led}
+use Rattle.weave_core.specs.Rows.{At, Sourced, Led}
 use Rattle.weave_core.specs.Pass.{Views, Leads, Quiet, Does, same}
 use Rattle.weave_core.proofs.Compose.{leads_led}
 use Rattle.weave_core.specs.WeaveLaws.{Holds, GoesTo, Onward, lands, is_lost}

@@ -15,7 +15,7 @@ use Rattle.qed_model.specs.Promise.Kept.{NotTrapped}
 use Rattle.qed_model.specs.Weave.Pieces.{is_clean, and_written, is_run, is_run_after}
 use Rattle.qed_model.specs.Weave.Sequences.{guard, guards, is_auipc, original, original_as, each_part}
 use Rattle.qed_model.specs.Weave.Costs.{spent, spent_as, cost_each, used, used_as, original_cost}
-use Rattle.qed_model.proofs.Walk.{run-more}
+use Rattle.qed_model.proofs.Walk.{run-more, run-none}
 use Rattle.weave_core.specs.World.{World, IsCursor, words_on}
 use Rattle.weave_core.specs.Blocks.{IsLowAs, FitsPiece, AllFit}
 use Rattle.weave_core.specs.Rows.{Sourced}
@@ -28,7 +28,6 @@ use Rattle.weave_core.specs.Parts.{bare, Runs, none, NeedsOriginal, GivesOrigina
 use Rattle.weave_core.proofs.Body.{auipc_is, spent_le}
 use Rattle.weave_core.proofs.Source.{body_step, not_trapped_front, EqualBut, equal_on, UsesUnwritten, clean_uses}
 use Rattle.weave_core.proofs.Visit.{visit_later, checked_behind}
-use Rattle.weave_core.proofs.Trace.{none_run}
 use Rattle.weave_core.proofs.Compose.{each_same}
 
 -- ---- none leaves
@@ -69,7 +68,7 @@ both_checks w round spans e = record {
           compare = 0;
           soon = omega arith;
           inside = omega (arith, c.sum, d.at_least);
-          compares = subst (λ x. ComparesFrom w.code x.pc thirteen) (sym (none_run v.now)) c.first.1;
+          compares = subst (λ x. ComparesFrom w.code x.pc thirteen) (sym (run-none v.now)) c.first.1;
           cursor = l.cursor ∙ ap (words_on spans round) d.cursor ∙ ap (λ l. words_on l round (reg v.now 15)) (sym e);
           visits = λ j h one.
               let y = visit_later w v.now c.some c.middle.now c.more (words_on spans j (reg c.middle.now 15)) c.runs (l.visits j h (omega (arith, one, same))) in

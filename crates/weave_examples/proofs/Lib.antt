@@ -1,7 +1,6 @@
 pub mod One
 pub mod Cut
 pub mod Joined
-pub mod Sizes
 pub mod FarTest
 pub mod ListedRuns
 pub mod ListedChanges
@@ -13,5 +12,4 @@ mod LoopClean
 pub mod StoreFile
 pub mod StoreExample
 pub mod StoreKept
-pub mod StoreRun
 mod StoreCaught

@@ -9,9 +9,9 @@ use Rattle.qed_model.specs.Machine.Program.{Program, memory_of, start, zeros}
 use Rattle.qed_model.specs.Machine.Step.{State, Known, HasAt, fetched_at, step, run}
 use Rattle.qed_model.specs.Promise.Changed.{changed, with_changes, changed_run}
 use Rattle.qed_model.specs.Promise.Closed.{is_closed, uses, guards_other, guard_bytes, is_checked}
+use Rattle.qed_model.proofs.Walk.{run-last}
 use Rattle.weave_examples.proofs.ListedRuns.{instruction_at, is_simple_run, go, found, run_is, state_of}
 use Rattle.lockstep.proofs.Made.{changed_later}
-use Rattle.lockstep.proofs.Runs.{run-last}
 
 -- before its step the changed run is the run without it
 unchanged : (s : State) (c : Change) (n : ℕ) → n < c.step → changed_run s (c ∷ []) n ≡ run s n

@@ -1,22 +1,126 @@
 -- The promises on changes hold of a known file, a test with a data word: all of their premises are met.
-use Rattle.std.proofs.Common.{inl, arith, ℕ, List, [], ◌∷◌, Some, refl}
+use Rattle.std.proofs.Common.{◌≡◌, ℕ, zero, suc, ◌+◌, ◌-◌, ◌%◌, ◌≤◌, Bool, true, cond, ◌&&◌, [], ◌∷◌, Option, refl, sym, ap, ◌∙◌, arith, inl, List, Some}
+use Rattle.std.specs.Prelude.{◌==◌}
+use Rattle.qed_model.specs.declared.machine.Outcome.{Outcome}
+use Rattle.qed_model.specs.declared.machine.Outcome.TheVariants.{Going, Ended}
+use Rattle.qed_model.specs.declared.machine.Cause.TheVariants as cause
+use Rattle.qed_model.specs.Machine.Cells.{cell_among, number_among}
+use Rattle.qed_model.specs.Machine.Loading.{load_segments}
+use Rattle.qed_model.specs.Machine.Memory.{Flags, Cell, Memory, wrap, allows, number, grants, put}
+use Rattle.qed_model.specs.Machine.Program.{memory_of, start, zeros}
+use Rattle.qed_model.specs.Machine.Step.{State, Refused, HasAt, known_or, in_range, fetched_at, trapped, execute, computed_value, step, run}
+use Rattle.qed_model.specs.Machine.Table.{decode_of}
+use Rattle.qed_model.specs.Machine.Values.{value, loaded}
+use Rattle.qed_model.specs.Promise.Kept.{after_input, NotTrapped, is_trapped, after_output, any_address}
+use Rattle.qed_model.proofs.CellsAmong.{get_among, number-among}
+use Rattle.qed_model.proofs.ImageLaws.{all_sized_among}
+use Rattle.qed_model.proofs.MemoryLaws.{grants-put, number-put_apart, apart_before}
+use Rattle.qed_model.specs.Elf.Sound.{AreLoads}
+use Rattle.qed_model.proofs.SegmentCells.{AllSized}
+use Rattle.qed_model.proofs.Steps.{step-known}
+use Rattle.qed_model.proofs.Walk.{run-more}
 use Rattle.qed_model.specs.declared.change.Change.{Change}
 use Rattle.qed_model.specs.declared.change.Place.TheVariants.{Word}
-use Rattle.qed_model.specs.Machine.Program.{start, zeros}
-use Rattle.qed_model.specs.Machine.Step.{run}
 use Rattle.qed_model.specs.Promise.Changed.{changed_run}
-use Rattle.qed_model.specs.Promise.Kept.{after_output, any_address}
 use Rattle.qed_model.specs.Promise.Caught.{Caught, Settles}
 use Rattle.qed_model.specs.Promise.Clean.{Clean}
 use Rattle.qed_model.proofs.ExampleCode.{defaults, swept}
-use Rattle.weave_examples.proofs.StoreFile.{store}
-use Rattle.weave_examples.proofs.StoreExample.{store_plan, store_told, store_blocks}
 use Rattle.qed_model.proofs.Steady.{steady_any}
 use Rattle.qed_model.proofs.OneTest.{any_reached}
-use Rattle.weave_examples.proofs.StoreKept.{store_words, swept_words, store_input, store_output, swept_output}
-use Rattle.weave_examples.proofs.ListedRuns.{are_zeros}
-use Rattle.weave_examples.proofs.StoreRun.{store_calm}
+use Rattle.weave_core.proofs.Trace.{run-ended}
 use Rattle.lockstep.proofs.Tests.{tests_caught, tests_clean}
+use Rattle.weave_examples.proofs.StoreFile.{store, store_sound}
+use Rattle.weave_examples.proofs.StoreExample.{store_code, store_known, store_admitted, lui, ld, add, sd, ecall, store_plan, store_told, store_blocks}
+use Rattle.weave_examples.proofs.ListedRuns.{has_code, are_zeros}
+use Rattle.weave_examples.proofs.StoreKept.{store_input, store_words, swept_words, store_output, swept_output}
+
+-- ---- the run of a known test with a data word, worked out step by step: it loads 5, and stores 10 in its place
+abbrev m : Memory
+m = memory_of store_input.segments
+
+loads : AreLoads (load_segments store.segments)
+loads = store_sound.loads
+
+sized : AllSized (load_segments store.segments)
+sized = all_sized_among (load_segments store.segments) loads.sized
+
+code : HasAt (fetched_at m store_input.ranges) 0x10000 store_code
+code = has_code store (record { loads = loads; sections = store_admitted.sections; segments = store_admitted.segments }) 0x10000 store_code store_known.stand
+
+-- permissions by the segments
+abbrev granted : (Flags → Bool) → (ℕ → Option Cell) → ℕ → ℕ → Bool
+granted need c a zero = true
+granted need c a (suc n) = allows need (c (wrap a)) && granted need c (a + 1) n
+
+grants_among : (need : Flags → Bool) (a n : ℕ) → grants need m a n ≡ granted need (cell_among (load_segments store.segments)) a n
+unfolding grants
+grants_among need a zero = refl
+grants_among need a (suc n) = ap (λ c. allows need c && grants need m (a + 1) n) (get_among (load_segments store.segments) (wrap a) sized) ∙ ap (λ b. allows need (cell_among (load_segments store.segments) (wrap a)) && b) (grants_among need (a + 1) n)
+
+reads : grants (λ f. f.read) m 0x20000 8 ≡ true
+reads = grants_among (λ f. f.read) 0x20000 8
+
+writes : grants (λ f. f.write) m 0x20000 8 ≡ true
+writes = grants_among (λ f. f.write) 0x20000 8
+
+five : number m 0x20000 8 ≡ 5
+unfolding number_among
+five = number-among (load_segments store.segments) 0x20000 8 sized (omega arith)
+
+-- the states: x8, x9 and x10, the pc, the memory and the outcome
+abbrev at : ℕ → ℕ → ℕ → ℕ → Memory → Outcome → State
+at x8 x9 x10 pc memory outcome = record {
+  regs = 0 ∷ 0 ∷ 0 ∷ 0 ∷ 0 ∷ 0 ∷ 0 ∷ 0 ∷ x8 ∷ x9 ∷ x10 ∷ 0 ∷ 0 ∷ 0 ∷ 0 ∷ 0 ∷ 0 ∷ 0 ∷ 0 ∷ 0 ∷ 0 ∷ 0 ∷ 0 ∷ 0 ∷ 0 ∷ 0 ∷ 0 ∷ 0 ∷ 0 ∷ 0 ∷ 0 ∷ 0 ∷ [];
+  pc = pc;
+  memory = memory;
+  ranges = store_input.ranges;
+  outcome = outcome;
+}
+
+first_step : step (start store_input zeros) ≡ at 0x20000 0 0 0x10004 m Going
+unfolding execute computed_value
+first_step = step-known (start store_input zeros) lui refl code.0
+
+second_step : step (at 0x20000 0 0 0x10004 m Going) ≡ at 0x20000 5 0 0x10008 m Going
+unfolding execute loaded
+second_step =
+    let s = at 0x20000 0 0 0x10004 m Going in
+    step-known s ld refl code.1.0
+    ∙ ap (λ b. cond b (at 0x20000 (number m 0x20000 8) 0 0x10008 m Going) (trapped (cause.Load 0x20000) s)) reads
+    ∙ ap (λ v. at 0x20000 v 0 0x10008 m Going) five
+
+third_step : step (at 0x20000 5 0 0x10008 m Going) ≡ at 0x20000 5 10 0x1000c m Going
+unfolding execute computed_value value
+third_step = step-known (at 0x20000 5 0 0x10008 m Going) add refl code.1.1.0
+
+fourth_step : step (at 0x20000 5 10 0x1000c m Going) ≡ at 0x20000 5 10 0x10010 (put m 0x20000 8 10) Going
+unfolding execute
+fourth_step =
+    let s = at 0x20000 5 10 0x1000c m Going in
+    step-known s sd refl code.1.1.1.0 ∙ ap (λ b. cond b (at 0x20000 5 10 0x10010 (put m 0x20000 8 10) Going) (trapped (cause.Store 0x20000) s)) writes
+
+-- the store leaves the code
+fetch_kept : fetched_at (put m 0x20000 8 10) store_input.ranges 0x10010 ≡ fetched_at m store_input.ranges 0x10010
+unfolding fetched_at
+fetch_kept =
+    ap (λ g. cond ((0x10010 % 4 == 0) && (in_range 0x10010 store_input.ranges && g)) (known_or (number (put m 0x20000 8 10) 0x10010 4) (decode_of (number (put m 0x20000 8 10) 0x10010 4))) Refused) (grants-put (λ f. f.execute) m 0x20000 8 10 0x10010 4)
+    ∙ ap (λ x. cond ((0x10010 % 4 == 0) && (in_range 0x10010 store_input.ranges && grants (λ f. f.execute) m 0x10010 4)) (known_or x (decode_of x)) Refused) (number-put_apart m 0x20000 8 10 0x10010 4 (apart_before 0x20000 8 0x10010 4 (omega arith) (omega arith)))
+
+fifth_step : step (at 0x20000 5 10 0x10010 (put m 0x20000 8 10) Going) ≡ at 0x20000 5 10 0x10010 (put m 0x20000 8 10) Ended
+unfolding execute
+fifth_step = step-known (at 0x20000 5 10 0x10010 (put m 0x20000 8 10) Going) ecall refl (fetch_kept ∙ code.1.1.1.1.0)
+
+-- it ends with its fifth step at 0x10010
+input_end : after_input store_input 5 ≡ at 0x20000 5 10 0x10010 (put m 0x20000 8 10) Ended
+unfolding run
+input_end = ap (λ s. run s 4) first_step ∙ ap (λ s. run s 3) second_step ∙ ap (λ s. run s 2) third_step ∙ ap (λ s. run s 1) fourth_step ∙ fifth_step
+
+-- so it never traps
+pub store_calm : (n : ℕ) → 5 ≤ n → NotTrapped (after_input store_input n)
+store_calm n l =
+    let sum : 5 + (n - 5) ≡ n = omega (arith, l) in
+    let stays : after_input store_input n ≡ after_input store_input 5 = ap (after_input store_input) (sym sum) ∙ run-more (start store_input zeros) 5 (n - 5) ∙ run-ended (n - 5) (after_input store_input 5) (ap (λ s. s.outcome) input_end) in
+    ap (λ s. is_trapped s.outcome) (stays ∙ input_end)
 
 -- its data word
 abbrev spans : List (ℕ × ℕ)

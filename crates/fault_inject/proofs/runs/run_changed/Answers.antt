@@ -1,7 +1,6 @@
 use Rattle.std.proofs.Common.{◌-◌, ap, ◌∙◌, arith}
 use Rattle.qed_model.specs.Promise.Changed.{changed}
-use Rattle.rv_step.proofs.Running.{any_err}
-use Rattle.fault_inject.proofs.Changing.{started, next_later, reached_next, ends_before, ends_behind, part_before, part_behind}
+use Rattle.fault_inject.proofs.Changing.{any_err, started, next_later, reached_next, ends_before, ends_behind, part_before, part_behind}
 use Rattle.fault_inject.proofs.runs.run_changed.Goals as goal
 
 pub loop-change-init : goal.loop-change-init

@@ -1,7 +1,8 @@
 use Rattle.std.proofs.Common.{sym, ◌∙◌, arith}
 use Rattle.fault_inject.specs.Astray.{holds}
-use Rattle.fault_inject.proofs.Straying.{states, none_made, in_none, made_next, step_next, stopped_all, stopped_first}
+use Rattle.fault_inject.proofs.Straying.{states, in_none, made_next, step_next, stopped_all, stopped_first}
 use Rattle.fault_inject.proofs.watch.watch.Goals as goal
+use Rattle.rv_step.proofs.Running.{none_made}
 
 pub loop-made-init : goal.loop-made-init
 loop-made-init c = record { made = none_made c.args.machine.now; astray = sym (in_none (holds c.args.reached.now) (states c.args.machine.now)) }

@@ -1,10 +1,11 @@
-use Rattle.std.proofs.Common.{◌≡◌, rules}
+use Rattle.std.proofs.Common.{◌≡◌, sym, rules}
 use Rattle.qed_model.specs.declared.machine.Outcome.TheVariants.{Going}
-use Rattle.fault_inject.proofs.Tracing.{longer, no_steps, steps_on, trace_more}
+use Rattle.fault_inject.proofs.Tracing.{longer, steps_on, trace_more}
 use Rattle.fault_inject.proofs.trace.Trace.of.Goals as goal
+use Rattle.qed_model.proofs.Walk.{run-none}
 
 pub loop-made-init : goal.loop-made-init
-loop-made-init c = record { there = no_steps c.args.machine.now.state; trace = c.none-trace.ensures.trace c.args.machine.now.state; count = c.none-trace.ensures.count }
+loop-made-init c = record { there = sym (run-none c.args.machine.now.state); trace = c.none-trace.ensures.trace c.args.machine.now.state; count = c.none-trace.ensures.count }
 
 pub loop-made-preserved : goal.loop-made-preserved
 loop-made-preserved c =

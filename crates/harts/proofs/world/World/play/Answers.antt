@@ -2,8 +2,9 @@ use Rattle.std.proofs.Common.{◌≡◌, ◌+◌, ◌%◌, ◌<◌, length, sym,
 use Rattle.std.specs.Prelude.{slice_index}
 use Rattle.harts.specs.HartSteps.{counted_turn, counted_turns, cycled}
 use Rattle.harts.proofs.Steps.{length_turns}
-use Rattle.harts.proofs.Playing.{none_played, more_played, there_still, all_played, any_err, first_place, next_place}
+use Rattle.harts.proofs.Playing.{none_played, more_played, there_still, all_played, first_place, next_place}
 use Rattle.harts.proofs.world.World.play.Goals as goal
+use Rattle.mem_image.proofs.WholeLaws.{any_err}
 
 pub loop-init : goal.loop-init
 loop-init c = record { made = none_played c.args.self.now c.args.harts.now; next = first_place (length c.args.harts.now) c.requires.some }

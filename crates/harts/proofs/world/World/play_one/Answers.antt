@@ -1,9 +1,10 @@
 use Rattle.std.proofs.Common.{◌∷◌, [], length, ap, ◌∙◌, arith}
 use Rattle.harts.specs.HartSteps.{counted_turns, cycled}
 use Rattle.harts.proofs.Steps.{length_turns}
-use Rattle.harts.proofs.Playing.{hart_read, any_err}
+use Rattle.harts.proofs.Playing.{hart_read}
 use Rattle.harts.proofs.Single.{one_played}
 use Rattle.harts.proofs.world.World.play_one.Goals as goal
+use Rattle.mem_image.proofs.WholeLaws.{any_err}
 
 pub returns-clause-played : goal.returns-clause-played
 returns-clause-played c =

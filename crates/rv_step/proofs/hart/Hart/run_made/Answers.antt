@@ -1,8 +1,9 @@
 use Rattle.std.proofs.Common.{sym, ap, ◌∙◌, arith}
 use Rattle.rv_step.specs.Harts.{HartState, with_memory}
 use Rattle.rv_step.specs.Known.{goes_on}
-use Rattle.rv_step.proofs.Running.{all_made, made_counted, any_err}
+use Rattle.rv_step.proofs.Running.{all_made, made_counted}
 use Rattle.rv_step.proofs.hart.Hart.run_made.Goals as goal
+use Rattle.mem_image.proofs.WholeLaws.{any_err}
 
 pub returns-clause-run : goal.returns-clause-run
 returns-clause-run c =
