@@ -34,7 +34,6 @@ use Rattle.lockstep.proofs.Ending.{ToEnd, LastBoundary, to_end, Numbered, next_n
 use Rattle.lean_weave.proofs.Left.{lean_rows}
 use Rattle.lean_weave.proofs.Rows.{AtCheck, checks}
 
-
 module _ (f g : Program) (w : World) (l : Lean) (leader : ℕ → Bool) (x : LeanIn w l leader) (of : Describes f g w) (entries : EntriesAt w (weave_of w l leader) leader) (counts : Counts w l leader entries) (leads : leader f.entry ≡ true) (begins : Reads w.form.far w.code w.entry g.entry (begin w.distance f.entry)) where
   -- from a call of the check to the next, to behind its comparison with four steps left, and what runs before the end besides
   abbrev pub sizes : Sizes
