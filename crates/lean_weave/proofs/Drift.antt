@@ -1,5 +1,5 @@
 -- Words that keep the signature and go on to the next word, or over it: from any of them, in any state, the run comes to what stands behind them, or is over.
-use Rattle.std.proofs.Common.{◌≡◌, ℕ, zero, suc, ◌+◌, ◌*◌, ◌%◌, ◌^◌, ◌≤◌, ◌⊎◌, inl, inr, ⊎_elim, Bool, true, false, cond, not, List, [], ◌∷◌, ◌++◌, length, refl, sym, ap, ◌∙◌, subst, arith, append_assoc}
+use Rattle.std.proofs.Common.{◌≡◌, ℕ, zero, suc, ◌+◌, ◌*◌, ◌%◌, ◌^◌, ◌≤◌, ◌⊎◌, inl, inr, ⊎_elim, Bool, true, false, cond, not, List, [], ◌∷◌, ◌++◌, refl, sym, ap, ◌∙◌, subst, arith}
 use Rattle.std.specs.Prelude.{◌==◌, ◌&&◌, pos, slice_index}
 use Rattle.std.specs.List.{list_all}
 use Rattle.std.proofs.lemmas.Bool.{and_parts, and_from, ne_eqb, false≢true}
@@ -15,15 +15,15 @@ use Rattle.qed_model.specs.declared.item.Item.{Item}
 use Rattle.qed_model.specs.declared.item.Item.TheVariants.{Mark, Plain, Constant, Go}
 use Rattle.qed_model.specs.declared.machine.Cause.{Cause}
 use Rattle.qed_model.specs.declared.machine.Cause.TheVariants as cause
-use Rattle.qed_model.specs.declared.machine.Outcome.TheVariants.{Going, Fired}
+use Rattle.qed_model.specs.declared.machine.Outcome.TheVariants.{Going}
 use Rattle.qed_model.specs.Machine.Memory.{grants, number, put}
 use Rattle.qed_model.specs.Machine.Table.{ins}
 use Rattle.qed_model.specs.Machine.Values.{wrapped, holds, width_of, loaded}
 use Rattle.qed_model.specs.Machine.Step.{State, reg, moved, stored, trapped, jumped, imm, place, result, next_pc, execute, Known, next, step, run, target}
 use Rattle.qed_model.specs.Promise.Kept.{is_trapped}
-use Rattle.qed_model.specs.Weave.Diverse.{Place, X0, RD, RS1, RS2, X30, X31, Part, reg_at, part_items, parts_of, diverse_as, diverse}
+use Rattle.qed_model.specs.Weave.Diverse.{Place, X0, RD, RS1, RS2, X30, X31, Part, reg_at, part_items, parts_of, diverse_as}
 use Rattle.qed_model.specs.Weave.Forms.{mirror_of}
-use Rattle.qed_model.specs.Weave.Placed.{sum_of_sizes, distance_between, upper_part, lower_part, go_size}
+use Rattle.qed_model.specs.Weave.Placed.{sum_of_sizes, distance_between, upper_part, lower_part}
 use Rattle.qed_model.specs.Weave.Sequences.{Reads, fired_check, guard, guards, guards_of, links, is_auipc, original, original_as, mirrored, mirror_as, each_part}
 use Rattle.qed_model.proofs.DiverseRows.{all_fine}
 use Rattle.qed_model.proofs.DiverseWorth.{fine_part}

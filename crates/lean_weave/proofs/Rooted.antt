@@ -1,11 +1,11 @@
 -- x14 and the table stay what they are: no word but the first ones writes x14, and nothing behind the halves may be written.
-use Rattle.std.proofs.Common.{◌≡◌, ℕ, zero, suc, ◌+◌, ◌-◌, ◌*◌, ◌/◌, ◌%◌, ◌^◌, ◌<◌, ◌≤◌, ◌⊎◌, inl, inr, ⊎_elim, Bool, true, false, cond, not, List, [], ◌∷◌, ◌++◌, length, refl, sym, ap, ◌∙◌, subst, arith, append_assoc, length-append}
+use Rattle.std.proofs.Common.{◌≡◌, ℕ, zero, suc, ◌+◌, ◌-◌, ◌*◌, ◌/◌, ◌%◌, ◌^◌, ◌<◌, ◌≤◌, ◌⊎◌, inl, inr, ⊎_elim, Bool, true, false, cond, not, List, [], ◌∷◌, ◌++◌, length, refl, sym, ap, ◌∙◌, subst, arith, length-append}
 use Rattle.std.specs.Prelude.{◌==◌, pos, neg_ℤ, ℤ, slice_index, slice_set}
 use Rattle.std.specs.FinMap.{get}
 use Rattle.std.specs.List.{list_all}
-use Rattle.std.proofs.lemmas.Bool.{and_parts, and_from, and_left, cases_lt, false≢true}
+use Rattle.std.proofs.lemmas.Bool.{and_parts, and_from, cases_lt, false≢true}
 use Rattle.rv_isa.specs.declared.ins.Ins.{Ins}
-use Rattle.rv_isa.specs.declared.kind.Kind.TheVariants.{Lui, Addi, Andi, Illegal}
+use Rattle.rv_isa.specs.declared.kind.Kind.TheVariants.{Lui, Addi, Andi}
 use Rattle.rv_isa.specs.declared.class.Class.{Class}
 use Rattle.rv_isa.specs.declared.class.Class.TheVariants as class
 use Rattle.rv_isa.specs.Kind.{class_of}
@@ -24,9 +24,9 @@ use Rattle.qed_model.specs.Machine.Step.{State, reg, moved, stopped, stored, tra
 use Rattle.qed_model.specs.Promise.Kept.{after_output}
 use Rattle.qed_model.specs.Weave.Blocks.{begins_at}
 use Rattle.qed_model.specs.Weave.Code.{Sequences, pieces_of, entries_of}
-use Rattle.qed_model.specs.Weave.Lean.{is_short, turn_by, turn, look_up, first_word, parted, called, begun, done, check, call_at, check_sign, tick, enter, goes, opposite, leave, leave_as, begin}
+use Rattle.qed_model.specs.Weave.Lean.{is_short, turn_by, turn, look_up, first_word, parted, called, begun, done, check, call_at, enter, goes, opposite, leave, leave_as, begin}
 use Rattle.qed_model.specs.Weave.LeanCode.{Lean, worded, fall_words}
-use Rattle.qed_model.specs.Weave.Placed.{distance_between, upper_part, lower_part, sum_of_sizes, instructions_from}
+use Rattle.qed_model.specs.Weave.Placed.{distance_between, sum_of_sizes, instructions_from}
 use Rattle.qed_model.specs.Weave.Sequences.{Form, End, Falls, Stops, Block, body_length, guard, guards_of, original, each_part, compare, wraps, visit_word, times, visit, sweep_range, sweep, before_end, links, zero_from}
 use Rattle.qed_model.specs.Weave.Forms.{mirror_of}
 use Rattle.qed_model.proofs.HalvesLaws.{allows-flags}
@@ -43,7 +43,7 @@ use Rattle.weave_core.proofs.TestWords.{both_all, if_all}
 use Rattle.lockstep.proofs.Coded.{stub_words}
 use Rattle.lean_weave.specs.Woven.{LeanPlan}
 use Rattle.lean_weave.proofs.Begin.{lean_first}
-use Rattle.lean_weave.proofs.Drift.{Drifts, drifts, drifts_as, Skips, is_other, drifts_guard, drifts_guards_of, drifts_links, drifts_piece}
+use Rattle.lean_weave.proofs.Drift.{Drifts, drifts_as, drifts_guard, drifts_guards_of, drifts_links, drifts_piece}
 use Rattle.lean_weave.proofs.Promise.{good, words_has, only, woven}
 use Rattle.lean_weave.proofs.Ways.{opposite_is}
 

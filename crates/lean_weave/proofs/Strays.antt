@@ -1,5 +1,5 @@
 -- A jump that goes astray into a block with another signature: the pieces end in the leave, which turns the signature to where it leads, and the test there fires.
-use Rattle.std.proofs.Common.{◌≡◌, ℕ, zero, suc, ◌+◌, ◌-◌, ◌*◌, ◌/◌, ◌%◌, ◌^◌, ◌<◌, ◌≤◌, ◌⊎◌, inl, inr, ⊎_elim, Bool, true, false, cond, List, [], ◌∷◌, ◌++◌, length, refl, sym, ap, ◌∙◌, subst, arith, append_assoc}
+use Rattle.std.proofs.Common.{◌≡◌, ℕ, zero, suc, ◌+◌, ◌*◌, ◌/◌, ◌%◌, ◌^◌, ◌<◌, ◌≤◌, ◌⊎◌, inl, inr, ⊎_elim, Bool, true, false, cond, List, [], ◌∷◌, ◌++◌, length, refl, sym, ap, ◌∙◌, subst, arith, append_assoc}
 use Rattle.std.specs.Prelude.{◌==◌, pos, neg_ℤ, slice_index}
 use Rattle.std.proofs.lemmas.Bool.{and_parts, eqb-true, ne_eqb, cases_eq, false≢true}
 use Rattle.std.proofs.lemmas.List.{append-nil}
@@ -20,8 +20,8 @@ use Rattle.qed_model.specs.Machine.Step.{State, reg, moved, jumped, imm, next_pc
 use Rattle.qed_model.specs.Promise.Kept.{is_trapped, after_output}
 use Rattle.qed_model.specs.Promise.Landed.{placed_at}
 use Rattle.qed_model.specs.Weave.Blocks.{begins_at}
-use Rattle.qed_model.specs.Weave.Code.{Sequences, pieces_of, body_of}
-use Rattle.qed_model.specs.Weave.Lean.{look_up, turn, turn_by, is_short, goes, check_sign, opposite, leave, leave_as, cost}
+use Rattle.qed_model.specs.Weave.Code.{pieces_of}
+use Rattle.qed_model.specs.Weave.Lean.{look_up, turn, is_short, goes, check_sign, opposite, leave, leave_as, cost}
 use Rattle.qed_model.specs.Weave.LeanCode.{Lean, worded, fall_to}
 use Rattle.qed_model.specs.Weave.Placed.{distance_between, upper_part, lower_part, sum_of_sizes}
 use Rattle.qed_model.specs.Weave.Sequences.{Reads, End, Falls, Stops, Block, body_length, compare, guard, guards_of, links, before_end, fired_check}
@@ -30,7 +30,7 @@ use Rattle.qed_model.proofs.Walk.{Over as CodeOver, over_moved, known_at, run-mo
 use Rattle.qed_model.proofs.Walked.{walk_on}
 use Rattle.qed_model.proofs.Wrapped.{difference}
 use Rattle.weave_core.specs.World.{World, Quiet}
-use Rattle.weave_core.specs.Blocks.{IsEntryOf, EndStands, Leaves}
+use Rattle.weave_core.specs.Blocks.{EndStands, Leaves}
 use Rattle.weave_core.specs.Kinds.{thirteen}
 use Rattle.weave_core.specs.Weave.{Weave}
 use Rattle.weave_core.specs.WeaveLaws.{PiecesAt}
