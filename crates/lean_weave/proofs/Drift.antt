@@ -36,7 +36,7 @@ use Rattle.weave_core.proofs.BodyWords.{IsBodyWord, body_computes, body_loads, b
 use Rattle.weave_core.proofs.Diverse.{operates_class}
 use Rattle.weave_core.proofs.Leaves.{jumped_to}
 use Rattle.weave_core.proofs.Rows.{pc_four}
-use Rattle.weave_core.proofs.Standing.{Standing, standing_step}
+use Rattle.weave_core.proofs.Landings.{Standing, standing_step}
 use Rattle.lean_weave.specs.Strayed.{IsOver}
 
 -- ---- the words

@@ -38,7 +38,7 @@ use Rattle.weave_core.specs.World.{World}
 use Rattle.weave_core.specs.KindItems.{AllPieces, GoodEnd, IsEnd, end_branches, end_jumps, end_jumps_reg, end_ends, end_illegal, AllBlocks}
 use Rattle.weave_core.proofs.Indirect.{Tabled}
 use Rattle.weave_core.proofs.Sized.{sized_step}
-use Rattle.weave_core.proofs.Standing.{Standing, standing_step}
+use Rattle.weave_core.proofs.Landings.{Standing, standing_step}
 use Rattle.weave_core.proofs.TestWords.{both_all, if_all}
 use Rattle.lockstep.proofs.Coded.{stub_words}
 use Rattle.lean_weave.specs.Woven.{LeanPlan}

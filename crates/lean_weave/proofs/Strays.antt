@@ -34,12 +34,11 @@ use Rattle.weave_core.specs.Blocks.{EndStands, Leaves}
 use Rattle.weave_core.specs.Kinds.{thirteen}
 use Rattle.weave_core.specs.Weave.{Weave}
 use Rattle.weave_core.specs.WeaveLaws.{PiecesAt}
-use Rattle.weave_core.proofs.Landings.{standing_at}
 use Rattle.weave_core.proofs.Indirect.{linked, linked_out, links_sets, look_walk, looked_keeps}
 use Rattle.weave_core.proofs.Leaves.{go_walk, go_most, jumped_to, branch_passed, step-break}
 use Rattle.weave_core.proofs.Rows.{pc_four, flagged_moved}
 use Rattle.weave_core.proofs.Sets.{Sets, writes, writes_out, writes_long}
-use Rattle.weave_core.proofs.Standing.{standing_step, standing_run}
+use Rattle.weave_core.proofs.Landings.{standing_at, standing_step, standing_run}
 use Rattle.weave_core.proofs.Trace.{one_run}
 use Rattle.lean_weave.specs.Woven.{LeanPlan, LeanStrayed, weave_of}
 use Rattle.lean_weave.proofs.Blocks.{begins}
