@@ -1,5 +1,5 @@
 -- The trace of the lean form: its boundaries are the calls of the check.
-use Rattle.std.proofs.Common.{◌≡◌, ℕ, ◌+◌, ◌<◌, ◌≤◌, ◌⊎◌, inl, inr, ⊎_elim, Bool, true, List, sym, ap, ◌∙◌, subst, arith}
+use Rattle.std.proofs.Common.{◌≡◌, ℕ, ◌+◌, ◌<◌, ◌≤◌, ◌⊎◌, inl, inr, ⊎_elim, Bool, true, List, sym, ap, ◌∙◌, subst, arith, cond}
 use Rattle.qed_model.specs.Admission.DataRanges.{word_count}
 use Rattle.qed_model.specs.declared.machine.Outcome.TheVariants.{Going, Ended}
 use Rattle.qed_model.specs.Machine.Program.{Program, start, zeros, AreStartRegs}
@@ -24,9 +24,9 @@ use Rattle.weave_core.proofs.Source.{steady_le, steady_rest}
 use Rattle.weave_core.proofs.Visit.{words_within}
 use Rattle.lockstep.proofs.Numbered.{nth_word, AtNumber, placed, round_of, round_on}
 use Rattle.lockstep.proofs.Trace.{Sizes, NextSteps, PieceSteps, EndsSoon, Trace, SweptEnd}
-use Rattle.lean_weave.specs.Woven.{weave_of, LeanIn, check_steps, swept_steps}
+use Rattle.lean_weave.specs.Woven.{weave_of, LeanIn, check_steps, swept_steps, owed}
 use Rattle.lean_weave.proofs.Begin.{begin_law, first_is}
-use Rattle.lean_weave.proofs.Cells.{Counts, Called, Finished, Begins, called, to_check}
+use Rattle.lean_weave.proofs.Cells.{Counts, Called, Finished, Begins, called, ahead, to_check}
 use Rattle.lean_weave.proofs.Check.{Back}
 use Rattle.lean_weave.proofs.Costs.{entry_some}
 use Rattle.lean_weave.proofs.End.{Sweeps, swept_on}
@@ -34,7 +34,7 @@ use Rattle.lockstep.proofs.Ending.{ToEnd, LastBoundary, to_end, Numbered, next_n
 use Rattle.lean_weave.proofs.Left.{lean_rows}
 use Rattle.lean_weave.proofs.Rows.{AtCheck, checks}
 
-module _ (f g : Program) (w : World) (l : Lean) (leader : ℕ → Bool) (x : LeanIn w l leader) (of : Describes f g w) (entries : EntriesAt w (weave_of w l leader) leader) (counts : Counts w l leader entries) (leads : leader f.entry ≡ true) (begins : Reads w.form.far w.code w.entry g.entry (begin w.distance f.entry)) where
+module _ (f g : Program) (w : World) (l : Lean) (leader : ℕ → Bool) (x : LeanIn w l leader) (of : Describes f g w) (entries : EntriesAt w (weave_of w l leader) leader) (counts : Counts w l leader entries) (leads : leader f.entry ≡ true) (ticked : l.ticks f.entry ≡ true) (begins : Reads w.form.far w.code w.entry g.entry (begin w.distance f.entry)) where
   -- from a call of the check to the next, to behind its comparison with four steps left, and what runs before the end besides
   abbrev pub sizes : Sizes
   sizes = record { piece = check_steps w + (l.every + entry_steps l.land); check = 31; last = 2 + swept_steps w; words = word_count w.form.spans; round = round_of (word_count w.form.spans) w.form.round }
@@ -66,7 +66,7 @@ module _ (f g : Program) (w : World) (l : Lean) (leader : ℕ → Bool) (x : Lea
 
       -- back at the entry
       back : Back w leader (after_output g regs p) (after_input f b.moves) (after_input f b.moves).pc b.offset l.every w.form.round
-      back = checks w l leader x u s b.offset b.here (blocks s.pc b.here.leads)
+      back = checks w l leader x u s b.offset b.here
 
       there : (n : ℕ) → run (start g regs) (p + n) ≡ run (after_output g regs p) n
       there n = run-more (start g regs) p n
@@ -101,7 +101,7 @@ module _ (f g : Program) (w : World) (l : Lean) (leader : ℕ → Bool) (x : Lea
       onward_at : (h : ℕ) → p + (l.every + 3) ≤ h → Steady f w.reached h → Called w l leader x blocks back.to s back.next (l.every + entry_steps l.land) ⊎ Finished w l leader x blocks back.to l.every
       onward_at h le steady =
           let c : IsSteady w.reached (after_input f b.moves) (l.every + 3) = steady_rest w.reached (start f zeros) b.moves (l.every + 3) (steady_le w.reached (start f zeros) (b.moves + (l.every + 3)) h (omega (arith, b.slow, le)) steady) in
-          to_check w l leader x blocks entries counts l.every back.to s l.every back.next (omega arith) (record {
+          subst (λ n. Called w l leader x blocks back.to s back.next (n + entry_steps l.land) ⊎ Finished w l leader x blocks back.to n) none (to_check w l leader x blocks entries counts (ahead w l leader x blocks entries counts s l.every) back.to s l.every back.next (omega arith) (record {
             stands = back.stands;
             sourced = b.sourced;
             some = x.some;
@@ -110,7 +110,11 @@ module _ (f g : Program) (w : World) (l : Lean) (leader : ℕ → Bool) (x : Lea
             few = back.few;
             sign = back.sign;
             cursor = subst (IsCursor w.form.spans) (sym back.word) (words_within w.form.spans w.base w.form.round (first_word w.base w.form.spans + b.offset) w.spans_good b.here.cursor);
-          }) c
+          }) (subst (λ n. IsSteady w.reached s (n + 3)) (sym none) c)) where
+            none : l.every + owed l s.pc ≡ l.every
+            none = ap (λ t. l.every + cond {A = ℕ} t 0 (l.most s.pc)) b.here.ticked ∙ zero_behind l.every where
+              zero_behind : (n : ℕ) → n + 0 ≡ n
+              zero_behind n = omega arith
 
       -- with one comparison
       piece_at : (h : ℕ) → Steady f w.reached h → PieceSteps w.code (start g regs) sizes (λ i. nth_word w.form.spans i) h Bound p i
@@ -137,7 +141,7 @@ module _ (f g : Program) (w : World) (l : Lean) (leader : ℕ → Bool) (x : Lea
     -- ---- from the first word
     -- a tick counts a step
     tick_some : (a : ℕ) → leader a ≡ true → 1 ≤ l.most a
-    tick_some a h = let c = counts.each a h in omega (arith, c, entry_some l.land)
+    tick_some a h = let c = (counts.each a h).0 in omega (arith, c, entry_some l.land)
 
     record First : Type 0 where
       steps : ℕ
@@ -161,7 +165,7 @@ module _ (f g : Program) (w : World) (l : Lean) (leader : ℕ → Bool) (x : Lea
           sign = y.is.2;
           cursor = first_is w.base w.form.spans w.spans_good;
         } in
-        let c = called w l leader x blocks entries counts y.to s0 1 0 b (fewer (l.most f.entry) l.every (x.ticks f.entry leads) x.few) (tick_some f.entry leads) in
+        let c = called w l leader x blocks entries counts y.to s0 1 0 b ticked (fewer (l.most f.entry) l.every (x.ticks f.entry leads) x.few) (tick_some f.entry leads) (1 + entry_steps l.land) (omega arith) in
         let walk = walk_on (Quiet w) (start g regs) y.to c.to y.steps c.steps y.walk c.walk in
         let n = placed w (first_word w.base w.form.spans + 0) (first_is w.base w.form.spans w.spans_good) in
         record {

@@ -153,12 +153,12 @@ module _ (f : ElfFile) (o : Options) (some : 1 ≤ o.inst_max) where
       pub steps : (diverse land : Bool) (leader : ℕ → Bool) (b : Block) → Among b blocks → steps_at diverse land leader blocks b.start ≡ block_steps diverse land leader b
       steps diverse land leader b m = steps_is blocks 0 diverse land leader b all m
 
-      -- the tick of each counts its steps
-      pub counted : (l : Lean) → l.most ≡ steps_at l.diverse l.land (begins_at blocks) blocks → AreCounted l (begins_at blocks) blocks
-      counted l is = each blocks (λ b m. m) where
+      -- the tick of each counts its steps, where each has one
+      pub counted : (l : Lean) → l.most ≡ steps_at l.diverse l.land (begins_at blocks) blocks → ((a : ℕ) → l.ticks a ≡ true) → AreCounted l (begins_at blocks) blocks
+      counted l is all_tick = each blocks (λ b m. m) where
         each : (bs : List Block) → ((b : Block) → Among b bs → Among b blocks) → AreCounted l (begins_at blocks) bs
         each [] h = tt
-        each (b ∷ bs) h = let e : l.most b.start ≡ block_steps l.diverse l.land (begins_at blocks) b = ap (λ (m : ℕ → ℕ). m b.start) is ∙ steps l.diverse l.land (begins_at blocks) b (h b (inl refl)) in (omega (arith, e), each bs (λ c m. h c (inr m)))
+        each (b ∷ bs) h = let e : l.most b.start ≡ block_steps l.diverse l.land (begins_at blocks) b = ap (λ (m : ℕ → ℕ). m b.start) is ∙ steps l.diverse l.land (begins_at blocks) b (h b (inl refl)) in ((omega (arith, e), λ t g. let z = ap (λ x. cond {A = ℕ} x 0 (l.most t)) (all_tick t) in omega (arith, e, z)), each bs (λ c m. h c (inr m)))
 
       -- ---- the next block
       -- the address behind a block is where the next begins, if that is a leader

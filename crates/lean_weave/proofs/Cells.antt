@@ -22,18 +22,18 @@ use Rattle.weave_core.specs.WeaveLaws.{PiecesAt, EntriesAt, Stands, stops, Onwar
 use Rattle.weave_core.proofs.Leaves.{no_code}
 use Rattle.weave_core.proofs.Source.{source_run, not_trapped_le, steady_le, steady_rest}
 use Rattle.weave_core.proofs.Trace.{none_run, one_run}
-use Rattle.lean_weave.specs.Woven.{weave_of, LeanIn, swept_steps}
+use Rattle.lean_weave.specs.Woven.{weave_of, LeanIn, swept_steps, leads_on, owed, IsCounted}
 use Rattle.lean_weave.proofs.Costs.{entry_some}
 use Rattle.lean_weave.proofs.End.{Sweeps, swept_on}
 use Rattle.lean_weave.proofs.Leave.{SignedAs}
-use Rattle.lean_weave.proofs.Left.{Parts, leave_row}
+use Rattle.lean_weave.proofs.Left.{Parts, OnWay, leave_row}
 use Rattle.lean_weave.proofs.Piece.{piece_row}
-use Rattle.lean_weave.proofs.Rows.{Enters, AtCheck, passes, calls}
+use Rattle.lean_weave.proofs.Rows.{Enters, AtCheck, passes, skips, calls}
 use Rattle.lean_weave.proofs.Tick.{counter}
 
--- the tick of each block counts its steps
+-- the steps of each block are counted
 pub record Counts (w : World) (l : Lean) (leader : ℕ → Bool) (entries : EntriesAt w (weave_of w l leader) leader) : Type 0 where
-  pub each : (a : ℕ) (h : leader a ≡ true) → block_steps l.diverse l.land leader (record { start = a; body = (entries a h).body; end = (entries a h).end }) ≤ l.most a
+  pub each : (a : ℕ) (h : leader a ≡ true) → IsCounted l leader (record { start = a; body = (entries a h).body; end = (entries a h).end })
 
 module _ (w : World) (l : Lean) (leader : ℕ → Bool) (x : LeanIn w l leader) (block : (a : ℕ) → leader a ≡ true → IsEntryOf w a) where
   abbrev v : Weave
@@ -59,15 +59,16 @@ module _ (w : World) (l : Lean) (leader : ℕ → Bool) (x : LeanIn w l leader) 
     pub sourced : Sourced w (run s moves)
     pub is : Is to (run s moves)
 
-  -- the output is at an entry, with this counter
-  pub record Entered (off count : ℕ) (y t : State) : Type 0 where
+  -- the output is at an entry, to which some way leads, with this counter
+  pub record Entered (on : ℕ → Bool) (off count : ℕ) (y t : State) : Type 0 where
     pub stands : Stands w leader y t
+    pub way : OnWay w l leader x block on t.pc
     pub sign : reg y 16 ≡ (t.pc + off * 2 ^ 32) % 2 ^ 64
     pub counter : reg y 15 ≡ count
 
   -- to an entry, with the counter as it was
-  abbrev pub Next : State → State → ℕ → ℕ → Type 0
-  Next u s off most = Way (Entered off (reg u 15)) u s most
+  abbrev pub Next : (ℕ → Bool) → State → State → ℕ → ℕ → Type 0
+  Next on u s off most = Way (Entered on off (reg u 15)) u s most
 
   -- to a call of the check
   abbrev pub Called : State → State → ℕ → ℕ → Type 0
@@ -89,41 +90,41 @@ module _ (w : World) (l : Lean) (leader : ℕ → Bool) (x : LeanIn w l leader) 
     is = subst (Is n.to) (sym (run-more s k n.moves)) n.is;
   }
 
-  -- ---- a block, behind its tick
-  module _ (b off : ℕ) (leads : leader b ≡ true) (few : off < 2 ^ 32) where
+  -- ---- a block, behind its tick, with its end at `at`
+  module _ (b off at : ℕ) (e : End) (leads : leader b ≡ true) (few : off < 2 ^ 32) (own : l.start_of e at ≡ b) where
     -- the steps from before some pieces
-    abbrev rest_steps : List (List Ins) → End → ℕ → ℕ
-    rest_steps ps e at = body_steps l.diverse ps + leave_cost (fall_to leader) e b (at + 4 * body_length ps)
+    abbrev rest_steps : List (List Ins) → ℕ
+    rest_steps ps = body_steps l.diverse ps + leave_cost (fall_to leader) e b at
 
     -- the leave
     leave_through :
-        (e : End) (u s : State) (most : ℕ) → most ≡ leave_cost (fall_to leader) e b s.pc → Parts w l leader x block u (run s (stops e)) (stops e) most (off * 2 ^ 32)
-        → NotTrapped (run s (stops e + 1)) → Next u s off most ⊎ Finished u most
-    leave_through e u s most is (inl g) calm = inr (record { steps = g.steps; to = g.to; within = g.within; walk = g.walk; ended = g.is.0.ended; swept = g.is.1 })
-    leave_through e u s most is (inr g) calm = onward g.is where
-      onward : Onward w leader (SignedAs u (off * 2 ^ 32)) (run s (stops e)) g.to → Next u s off most ⊎ Finished u most
-      onward (lands st sg so) = inl (record { moves = stops e; steps = g.steps; to = g.to; slow = g.at_least; within = g.within; walk = g.walk; sourced = so; is = record { stands = st; sign = sg.0; counter = sg.1 } })
+        (u s : State) (most : ℕ) → Parts w l leader x block u (run s (stops e)) (stops e) most (off * 2 ^ 32) (leads_on e at)
+        → NotTrapped (run s (stops e + 1)) → Next (leads_on e at) u s off most ⊎ Finished u most
+    leave_through u s most (inl g) calm = inr (record { steps = g.steps; to = g.to; within = g.within; walk = g.walk; ended = g.is.0.ended; swept = g.is.1 })
+    leave_through u s most (inr (g, way)) calm = onward g.is where
+      onward : Onward w leader (SignedAs u (off * 2 ^ 32)) (run s (stops e)) g.to → Next (leads_on e at) u s off most ⊎ Finished u most
+      onward (lands st sg so) = inl (record { moves = stops e; steps = g.steps; to = g.to; slow = g.at_least; within = g.within; walk = g.walk; sourced = so; is = record { stands = st; way = way; sign = sg.0; counter = sg.1 } })
       onward (is_lost going h so lacks) = absurd (no_code w (run s (stops e)) so lacks (subst NotTrapped (run-more s (stops e) 1 ∙ one_run (run s (stops e))) calm))
 
     through :
-        (ps : List (List Ins)) (e : End) (u s : State) → At w u (body_of v.code ps e s.pc) s s → Sourced w s → PiecesAt w v leader ps e s.pc
-        → l.start_of e (s.pc + 4 * body_length ps) ≡ b → reg u 16 ≡ (b + off * 2 ^ 32) % 2 ^ 64 → IsSteady w.reached s (body_length ps + 2)
-        → Next u s off (rest_steps ps e s.pc) ⊎ Finished u (rest_steps ps e s.pc)
-    through [] e u s at so q own sign steady =
-        let z : s.pc + 4 * 0 ≡ s.pc = omega arith in
-        let start : l.start_of e s.pc ≡ b = ap (l.start_of e) (sym z) ∙ own in
-        let at0 : At w u (leave (before_end w.form) (fall_to leader) e b s.pc) s s = subst (λ k. At w u (leave (before_end w.form) (fall_to leader) e k s.pc) s s) start (subst (λ k. At w u (leave (before_end w.form) (fall_to leader) e (l.start_of e k) k) s s) z at) in
+        (ps : List (List Ins)) (u s : State) → s.pc + 4 * body_length ps ≡ at → At w u (body_of v.code ps e s.pc) s s → Sourced w s → PiecesAt w v leader ps e s.pc
+        → reg u 16 ≡ (b + off * 2 ^ 32) % 2 ^ 64 → IsSteady w.reached s (body_length ps + 2)
+        → Next (leads_on e at) u s off (rest_steps ps) ⊎ Finished u (rest_steps ps)
+    through [] u s here a so q sign steady =
+        let z : s.pc ≡ at = omega (arith, here) in
+        let a1 : At w u (leave (before_end w.form) (fall_to leader) e (l.start_of e at) at) s s = subst (λ k. At w u (leave (before_end w.form) (fall_to leader) e (l.start_of e k) k) s s) here a in
+        let a2 : At w u (leave (before_end w.form) (fall_to leader) e b s.pc) s s = subst (λ k. At w u (leave (before_end w.form) (fall_to leader) e b k) s s) (sym z) (subst (λ k. At w u (leave (before_end w.form) (fall_to leader) e k at) s s) own a1) in
         let o = one e in
-        let p = leave_row w l leader x block b off leads few e u s at0 so q (steady_le w.reached s (stops e) 2 (omega (arith, o)) steady) sign in
-        let sum : leave_cost (fall_to leader) e b s.pc ≡ 0 + leave_cost (fall_to leader) e b (s.pc + 4 * 0) = zero_on (leave_cost (fall_to leader) e b s.pc) ∙ ap (λ k. 0 + leave_cost (fall_to leader) e b k) (sym z) in
-        subst (λ n. Next u s off n ⊎ Finished u n) sum (leave_through e u s (leave_cost (fall_to leader) e b s.pc) refl p (not_trapped_le s (stops e + 1) 2 (omega (arith, o)) steady.no_trap)) where
+        let p = leave_row w l leader x block b off leads few e u s a2 so q (steady_le w.reached s (stops e) 2 (omega (arith, o)) steady) sign in
+        let p1 : Parts w l leader x block u (run s (stops e)) (stops e) (leave_cost (fall_to leader) e b at) (off * 2 ^ 32) (leads_on e at) = subst (λ k. Parts w l leader x block u (run s (stops e)) (stops e) (leave_cost (fall_to leader) e b k) (off * 2 ^ 32) (leads_on e k)) z p in
+        subst (λ n. Next (leads_on e at) u s off n ⊎ Finished u n) (zero_on (leave_cost (fall_to leader) e b at)) (leave_through u s (leave_cost (fall_to leader) e b at) p1 (not_trapped_le s (stops e + 1) 2 (omega (arith, o)) steady.no_trap)) where
           one : (e : End) → stops e ≤ 1
           one Falls = omega arith
           one (Stops i) = omega arith
 
           zero_on : (n : ℕ) → n ≡ 0 + n
           zero_on n = omega arith
-    through (p ∷ ps) e u s at so q own sign steady =
+    through (p ∷ ps) u s here a so q sign steady =
         let k = length p in
         let calm : NotTrapped (run s (length p)) = not_trapped_le s (length p) (body_length (p ∷ ps) + 2) (omega arith) steady.no_trap in
         let t = run s (length p) in
@@ -131,17 +132,18 @@ module _ (w : World) (l : Lean) (leader : ℕ → Bool) (x : LeanIn w l leader) 
         let there : t.pc ≡ s.pc + 4 * length p = y.pc in
         let far : s.pc + 4 * body_length (p ∷ ps) ≡ s.pc + 4 * length p + 4 * body_length ps = omega arith in
         let rest = body_of v.code ps e (s.pc + 4 * length p) in
-        let a1 : At w u (v.code.piece p s.pc ++ (pieces_of v.code ps (s.pc + 4 * length p) ++ v.code.leave e (s.pc + 4 * body_length (p ∷ ps)))) s s = subst (λ l. At w u l s s) (append_assoc (v.code.piece p s.pc) (pieces_of v.code ps (s.pc + 4 * length p)) (v.code.leave e (s.pc + 4 * body_length (p ∷ ps)))) at in
+        let a1 : At w u (v.code.piece p s.pc ++ (pieces_of v.code ps (s.pc + 4 * length p) ++ v.code.leave e (s.pc + 4 * body_length (p ∷ ps)))) s s = subst (λ l. At w u l s s) (append_assoc (v.code.piece p s.pc) (pieces_of v.code ps (s.pc + 4 * length p)) (v.code.leave e (s.pc + 4 * body_length (p ∷ ps)))) a in
         let a2 : At w u (v.code.piece p s.pc ++ rest) s s = subst (λ k. At w u (v.code.piece p s.pc ++ (pieces_of v.code ps (s.pc + 4 * length p) ++ v.code.leave e k)) s s) far a1 in
         let r = piece_row l.diverse w p s q.0.fit (and_parts _ _ q.0.one).0 q.0.has so calm u rest a2 in
-        let next_pc : s.pc + 4 * body_length (p ∷ ps) ≡ t.pc + 4 * body_length ps = far ∙ ap (λ k. k + 4 * body_length ps) (sym there) in
+        let next_pc : t.pc + 4 * body_length ps ≡ at = ap (λ k. k + 4 * body_length ps) there ∙ sym far ∙ here in
         let count : length p + (body_length ps + 2) ≡ body_length (p ∷ ps) + 2 = omega arith in
-        let more = through ps e r.to t (subst (λ k. At w r.to (body_of v.code ps e k) t t) (sym there) r.at) y.sourced (subst (λ k. PiecesAt w v leader ps e k) (sym there) q.1) (ap (l.start_of e) (sym next_pc) ∙ own) (r.sign ∙ sign) (steady_rest w.reached s k (body_length ps + 2) (subst (IsSteady w.reached s) (sym count) steady)) in
-        let sum : piece_steps l.diverse p + rest_steps ps e t.pc ≡ rest_steps (p ∷ ps) e s.pc = sums (piece_steps l.diverse p) (body_steps l.diverse ps) (leave_cost (fall_to leader) e b (t.pc + 4 * body_length ps)) ∙ ap (λ k. piece_steps l.diverse p + body_steps l.diverse ps + leave_cost (fall_to leader) e b k) (sym next_pc) in
-        subst (λ n. Next u s off n ⊎ Finished u n) sum
+        let more = through ps r.to t next_pc (subst (λ k. At w r.to (body_of v.code ps e k) t t) (sym there) r.at) y.sourced (subst (λ k. PiecesAt w v leader ps e k) (sym there) q.1) (r.sign ∙ sign) (steady_rest w.reached s k (body_length ps + 2) (subst (IsSteady w.reached s) (sym count) steady)) in
+        let sum : piece_steps l.diverse p + rest_steps ps ≡ rest_steps (p ∷ ps) = sums (piece_steps l.diverse p) (body_steps l.diverse ps) (leave_cost (fall_to leader) e b at) in
+        let on = leads_on e at in
+        subst (λ n. Next (leads_on e at) u s off n ⊎ Finished u n) sum
         (⊎_elim
-        (λ n. inl (way_on (Entered off (reg u 15)) u r.to s r.steps k (rest_steps ps e t.pc) (piece_steps l.diverse p + rest_steps ps e t.pc) r.walk r.at_least (both r.steps (piece_steps l.diverse p) (rest_steps ps e t.pc) r.within) (subst (λ c. Way (Entered off c) r.to t (rest_steps ps e t.pc)) r.counter n)))
-        (λ f. inr (finished_on u r.to r.steps (rest_steps ps e t.pc) (piece_steps l.diverse p + rest_steps ps e t.pc) r.walk (both r.steps (piece_steps l.diverse p) (rest_steps ps e t.pc) r.within) f))
+        (λ n. inl (way_on (Entered on off (reg u 15)) u r.to s r.steps k (rest_steps ps) (piece_steps l.diverse p + rest_steps ps) r.walk r.at_least (both r.steps (piece_steps l.diverse p) (rest_steps ps) r.within) (subst (λ c. Way (Entered on off c) r.to t (rest_steps ps)) r.counter n)))
+        (λ f. inr (finished_on u r.to r.steps (rest_steps ps) (piece_steps l.diverse p + rest_steps ps) r.walk (both r.steps (piece_steps l.diverse p) (rest_steps ps) r.within) f))
         more) where
           sums : (a b c : ℕ) → a + (b + c) ≡ a + b + c
           sums a b c = omega arith
@@ -191,77 +193,181 @@ module _ (w : World) (l : Lean) (leader : ℕ → Bool) (x : LeanIn w l leader) 
             begins = b.stands.pc;
           }
 
-      -- where its tick passes: to the next block, or to the end
-      passed : l.most s.pc < left → l.most s.pc ≤ 2048 → IsSteady w.reached s (left + 3) → (y : State) × Walk (Quiet w) u (entry_steps l.land) y × (reg y 15 ≡ counter (left - l.most s.pc)) × (n : ℕ) × (entry_steps l.land + n ≤ l.most s.pc) × (Next y s off n ⊎ Finished y n)
+      -- the most steps of the block behind its entry, and where it goes on
+      abbrev bound : ℕ
+      bound = let e = entries s.pc b.stands.leads in body_steps l.diverse e.body + leave_cost (fall_to leader) e.end s.pc (s.pc + 4 * body_length e.body)
+
+      abbrev on : ℕ → Bool
+      on = let e = entries s.pc b.stands.leads in leads_on e.end (s.pc + 4 * body_length e.body)
+
+      -- behind the entry, with so many steps left
+      pub record Passed : Type 0 where
+        pub steps : ℕ
+        pub count : ℕ
+        pub to : State
+        pub few : steps ≤ entry_steps l.land
+        pub some : 1 ≤ count
+        pub most : count ≤ left
+        pub sum : count + l.most s.pc ≤ left + owed l s.pc
+        pub walk : Walk (Quiet w) u steps to
+        pub at : At w to rest s s
+        pub fifteen : reg to 15 ≡ counter count
+        pub sixteen : reg to 16 ≡ reg u 16
+
+      -- where its tick passes
+      passed : l.ticks s.pc ≡ true → l.most s.pc < left → l.most s.pc ≤ 2048 → Passed
       unfolding enters
-      passed lt small steady =
+      passed has lt small =
+          let g = passes w l leader x u s rest s.pc enters has lt small in
+          record {
+            steps = g.steps;
+            count = left - l.most s.pc;
+            to = g.to;
+            few = g.within;
+            some = omega (arith, lt);
+            most = omega arith;
+            sum = sums left (l.most s.pc) (owed l s.pc) lt;
+            walk = g.walk;
+            at = g.is.0.0;
+            fifteen = g.is.1;
+            sixteen = g.is.2;
+          } where
+            sums : (n m o : ℕ) → m < n → n - m + m ≤ n + o
+            sums n m o h = omega (arith, h)
+
+      -- or it has none
+      skipped : l.ticks s.pc ≡ false → Passed
+      unfolding enters
+      skipped none =
+          let g = skips w l leader x u s rest s.pc enters none in
+          let all : owed l s.pc ≡ l.most s.pc = ap (λ t. cond {A = ℕ} t 0 (l.most s.pc)) none in
+          record {
+            steps = g.steps;
+            count = left;
+            to = g.to;
+            few = g.within;
+            some = b.some;
+            most = omega arith;
+            sum = sums left (l.most s.pc) (owed l s.pc) all;
+            walk = g.walk;
+            at = g.is.0.0;
+            fifteen = g.is.1;
+            sixteen = g.is.2;
+          } where
+            sums : (n m o : ℕ) → o ≡ m → n + m ≤ n + o
+            sums n m o e = omega (arith, e)
+
+      -- to the next block, or to the end
+      onward : (p : Passed) → IsSteady w.reached s (left + owed l s.pc + 3) → Next on p.to s off bound ⊎ Finished p.to bound
+      onward p steady =
           let e = entries s.pc b.stands.leads in
-          let g = passes w l leader x u s rest s.pc enters lt small in
-          let n = rest_steps s.pc off b.stands.leads b.few e.body e.end s.pc in
+          let at = s.pc + 4 * body_length e.body in
           let c = counts.each s.pc b.stands.leads in
           let few = body_le e.body in
-          let own = eqb-true (l.start_of e.end (s.pc + 4 * body_length e.body)) s.pc (and_parts _ _ e.good.own).0 in
-          let walk : Walk (Quiet w) u (entry_steps l.land) g.to = subst (λ k. Walk (Quiet w) u k g.to) (both g.steps g.at_least g.within) g.walk in
-          let t = through s.pc off b.stands.leads b.few e.body e.end g.to s g.is.0.0 b.sourced e.good.pieces own (g.is.2 ∙ b.sign) (steady_le w.reached s (body_length e.body + 2) (left + 3) (enough (body_length e.body) (body_steps l.diverse e.body) (leave_cost (fall_to leader) e.end s.pc (s.pc + 4 * body_length e.body)) (l.most s.pc) left few c lt) steady) in
-          (g.to, walk, g.is.1, n, c, t) where
-            both : (n : ℕ) → entry_steps l.land ≤ n → n ≤ entry_steps l.land → n ≡ entry_steps l.land
-            both n h k = omega (arith, h, k)
+          let own = eqb-true (l.start_of e.end at) s.pc (and_parts _ _ e.good.own).0 in
+          through s.pc off at e.end b.stands.leads b.few own e.body p.to s refl p.at b.sourced e.good.pieces (p.sixteen ∙ b.sign)
+          (steady_le w.reached s (body_length e.body + 2) (left + owed l s.pc + 3) (enough (body_length e.body) (body_steps l.diverse e.body) (leave_cost (fall_to leader) e.end s.pc at) (l.most s.pc) p.count (left + owed l s.pc) few c.0 p.sum) steady) where
+            enough : (a b c m n k : ℕ) → a ≤ b → entry_steps l.land + (b + c) ≤ m → n + m ≤ k → a + 2 ≤ k + 3
+            enough a b c m n k h e lt = omega (arith, h, e, lt)
 
-            enough : (a b c m n : ℕ) → a ≤ b → entry_steps l.land + (b + c) ≤ m → m < n → a + 2 ≤ n + 3
-            enough a b c m n h k lt = omega (arith, h, k, lt)
+      -- its steps are counted, with those to the next tick
+      owing : (t : ℕ) → OnWay w l leader x block on t → leader t ≡ true → entry_steps l.land + bound + owed l t ≤ l.most s.pc
+      owing t (inl way) leads = (counts.each s.pc b.stands.leads).1 t way
+      owing t (inr reached) leads =
+          let none : owed l t ≡ 0 = ap (λ k. cond {A = ℕ} k 0 (l.most t)) (x.reached t leads reached) in
+          nothing (entry_steps l.land + bound) (owed l t) (l.most s.pc) none (counts.each s.pc b.stands.leads).0 where
+            nothing : (a o m : ℕ) → o ≡ 0 → a ≤ m → a + o ≤ m
+            nothing a o m e h = omega (arith, e, h)
 
-      -- where not, to the check
-      pub called : l.most s.pc ≤ 2048 → left ≤ l.most s.pc → Called u s off (left + entry_steps l.land)
+      -- where it calls the check
+      pub called : l.ticks s.pc ≡ true → l.most s.pc ≤ 2048 → left ≤ l.most s.pc → (most : ℕ) → left + entry_steps l.land ≤ most → Called u s off most
       unfolding enters
-      called small ge =
-          let c = calls w l leader x u s rest enters b.stands.leads ge small in
+      called has small ge most le =
+          let c = calls w l leader x u s rest enters b.stands.leads has ge small in
           record {
             moves = 0;
             steps = entry_steps l.land + 1;
             to = c.0;
             slow = omega arith;
-            within = omega (arith, b.some);
+            within = omega (arith, b.some, le);
             walk = c.1;
             sourced = subst (Sourced w) (sym (none_run s)) b.sourced;
             is = subst (λ t. AtCheck w l leader x c.0 t off) (sym (none_run s)) c.2;
           }
 
-    -- from any block to the next call of the check, or to the end of the test
-    pub to_check : (fuel : ℕ) (u s : State) (left off : ℕ) → left ≤ fuel → Begins u s left off → IsSteady w.reached s (left + 3) → Called u s off (left + entry_steps l.land) ⊎ Finished u left
-    to_check zero u s left off l1 b steady = let some = b.some in absurd (omega (arith, some, l1))
-    to_check (suc fuel) u s left off l1 b steady =
-        ⊎_elim
-        (λ lt. on (λ y t n c k st. to_check fuel y t n off k c st) lt (passed u s left off b lt small steady))
-        (λ ge. inl (called u s left off b small ge))
-        (cases_lt (l.most s.pc) left) where
-          small : l.most s.pc ≤ 2048
-          small = fewer (l.most s.pc) l.every (x.ticks s.pc b.stands.leads) x.few where
-            fewer : (m n : ℕ) → m < n → n ≤ 2048 → m ≤ 2048
-            fewer m n h k = omega (arith, h, k)
+    -- ---- sums of to_check
+    fewer_left : (n m k o e b f : ℕ) → n + m ≤ k → k ≤ suc f → e + b + o ≤ m → 2 ≤ e → n + o ≤ f
+    fewer_left n m k o e b f h l1 c two = omega (arith, h, l1, c, two)
 
-          on :
-              ((y t : State) (n : ℕ) → Begins y t n off → n ≤ fuel → IsSteady w.reached t (n + 3) → Called y t off (n + entry_steps l.land) ⊎ Finished y n)
-              → l.most s.pc < left → (y : State) × Walk (Quiet w) u (entry_steps l.land) y × (reg y 15 ≡ counter (left - l.most s.pc)) × (n : ℕ) × (entry_steps l.land + n ≤ l.most s.pc) × (Next y s off n ⊎ Finished y n) → Called u s off (left + entry_steps l.land) ⊎ Finished u left
-          on rec lt p =
-              let m = l.most s.pc in
-              let two = entry_some l.land in
-              let less = left - m in
-              ⊎_elim
-              (λ n.
-              let c = rec n.to (run s n.moves) (left - m) (record {
-                stands = n.is.stands;
-                sourced = n.sourced;
-                some = omega (arith, lt);
-                most = omega (arith, b.most);
-                fifteen = n.is.counter ∙ p.2;
-                few = b.few;
-                sign = n.is.sign;
-                cursor = b.cursor;
-              }) (omega (arith, l1, lt, p.4)) (steady_rest w.reached s n.moves (left - m + 3) (steady_le w.reached s (n.moves + (left - m + 3)) (left + 3) (omega (arith, lt, p.4, n.slow, n.within)) steady)) in
-              let w2 = walk_on (Quiet w) u p.0 n.to (entry_steps l.land) n.steps p.1 n.walk in
-              ⊎_elim
-              (λ d. inl (way_on (λ y t. AtCheck w l leader x y t off) u n.to s (entry_steps l.land + n.steps) n.moves (left - m + entry_steps l.land) (left + entry_steps l.land) w2 (omega (arith, n.slow)) (omega (arith, lt, p.4, n.within)) d))
-              (λ f. inr (finished_on u n.to (entry_steps l.land + n.steps) (left - m) left w2 (omega (arith, lt, p.4, n.within)) f))
-              c)
-              (λ f. inr (finished_on u p.0 (entry_steps l.land) p.3 left p.1 (omega (arith, lt, p.4)) f))
-              p.5
+    slower : (n m k o e b moves steps : ℕ) → n + m ≤ k → e + b + o ≤ m → moves ≤ steps → steps ≤ b → moves + (n + o + 3) ≤ k + 3
+    slower n m k o e b moves steps h c slow within = omega (arith, h, c, slow, within)
+
+    all_steps : (n m k o e b first steps : ℕ) → n + m ≤ k → e + b + o ≤ m → first ≤ e → steps ≤ b → first + steps + (n + o) ≤ k
+    all_steps n m k o e b first steps h c few within = omega (arith, h, c, few, within)
+
+    and_entry : (a n o k e : ℕ) → a + (n + o) ≤ k → a + (n + o + e) ≤ k + e
+    and_entry a n o k e h = omega (arith, h)
+
+    last_steps : (n m k e b first : ℕ) → n + m ≤ k → e + b ≤ m → first ≤ e → first + b ≤ k
+    last_steps n m k e b first h c few = omega (arith, h, c, few)
+
+    at_entry : (moves first steps : ℕ) → moves ≤ steps → moves ≤ first + steps
+    at_entry moves first steps h = omega (arith, h)
+
+    -- ---- from any block to the next call of the check, or to the end of the test
+    -- the steps that are left, and those that the last tick has counted
+    abbrev pub ahead : State → ℕ → ℕ
+    ahead s left = left + owed l s.pc
+
+    -- the same from a later entry
+    abbrev Rest : ℕ → ℕ → Type 0
+    Rest fuel off = (y t : State) (n : ℕ) → Begins y t n off → ahead t n ≤ fuel → IsSteady w.reached t (ahead t n + 3) → Called y t off (ahead t n + entry_steps l.land) ⊎ Finished y (ahead t n)
+
+    pub to_check : (fuel : ℕ) (u s : State) (left off : ℕ) → ahead s left ≤ fuel → Begins u s left off → IsSteady w.reached s (ahead s left + 3) → Called u s off (ahead s left + entry_steps l.land) ⊎ Finished u (ahead s left)
+    to_check zero u s left off l1 b steady = let some = b.some in absurd (nothing left (owed l s.pc) some l1) where
+      nothing : (n o : ℕ) → 1 ≤ n → n + o ≤ 0 → ⊥
+      nothing n o h k = omega (arith, h, k)
+    to_check (suc fuel) u s left off l1 b steady = by (λ y t n c k st. to_check fuel y t n off k c st) (l.ticks s.pc) refl where
+      small : l.most s.pc ≤ 2048
+      small = fewer (l.most s.pc) l.every (x.ticks s.pc b.stands.leads) x.few where
+        fewer : (m n : ℕ) → m < n → n ≤ 2048 → m ≤ 2048
+        fewer m n h k = omega (arith, h, k)
+
+      first_call : (n o e : ℕ) → n + e ≤ n + o + e
+      first_call n o e = omega arith
+
+      on_from : Rest fuel off → Passed u s left off b → Called u s off (ahead s left + entry_steps l.land) ⊎ Finished u (ahead s left)
+      on_from rec p =
+          ⊎_elim
+          (λ n.
+          let t = run s n.moves in
+          let o = owing u s left off b t.pc n.is.way n.is.stands.leads in
+          let sum = all_steps p.count (l.most s.pc) (ahead s left) (owed l t.pc) (entry_steps l.land) (bound u s left off b) p.steps n.steps p.sum o p.few n.within in
+          let c = rec n.to t p.count (record {
+            stands = n.is.stands;
+            sourced = n.sourced;
+            some = p.some;
+            most = less p.count left l.every p.most b.most;
+            fifteen = n.is.counter ∙ p.fifteen;
+            few = b.few;
+            sign = n.is.sign;
+            cursor = b.cursor;
+          }) (fewer_left p.count (l.most s.pc) (ahead s left) (owed l t.pc) (entry_steps l.land) (bound u s left off b) fuel p.sum l1 o (entry_some l.land))
+          (steady_rest w.reached s n.moves (ahead t p.count + 3) (steady_le w.reached s (n.moves + (ahead t p.count + 3)) (ahead s left + 3) (slower p.count (l.most s.pc) (ahead s left) (owed l t.pc) (entry_steps l.land) (bound u s left off b) n.moves n.steps p.sum o n.slow n.within) steady)) in
+          let w2 = walk_on (Quiet w) u p.to n.to p.steps n.steps p.walk n.walk in
+          ⊎_elim
+          (λ d. inl (way_on (λ y t. AtCheck w l leader x y t off) u n.to s (p.steps + n.steps) n.moves (ahead t p.count + entry_steps l.land) (ahead s left + entry_steps l.land) w2 (at_entry n.moves p.steps n.steps n.slow) (and_entry (p.steps + n.steps) p.count (owed l t.pc) (ahead s left) (entry_steps l.land) sum) d))
+          (λ f. inr (finished_on u n.to (p.steps + n.steps) (ahead t p.count) (ahead s left) w2 sum f))
+          c)
+          (λ f. inr (finished_on u p.to p.steps (bound u s left off b) (ahead s left) p.walk (last_steps p.count (l.most s.pc) (ahead s left) (entry_steps l.land) (bound u s left off b) p.steps p.sum (counts.each s.pc b.stands.leads).0 p.few) f))
+          (onward u s left off b p steady) where
+            less : (a b c : ℕ) → a ≤ b → b ≤ c → a ≤ c
+            less a b c h k = omega (arith, h, k)
+
+      by : Rest fuel off → (t : Bool) → l.ticks s.pc ≡ t → Called u s off (ahead s left + entry_steps l.land) ⊎ Finished u (ahead s left)
+      by rec false none = on_from rec (skipped u s left off b none)
+      by rec true has =
+          ⊎_elim
+          (λ lt. on_from rec (passed u s left off b has lt small))
+          (λ ge. inl (called u s left off b has small ge (ahead s left + entry_steps l.land) (first_call left (owed l s.pc) (entry_steps l.land))))
+          (cases_lt (l.most s.pc) left)

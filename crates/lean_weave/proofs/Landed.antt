@@ -1,5 +1,5 @@
 -- Where entries test the signature, a jump from one entry to another fires.
-use Rattle.std.proofs.Common.{◌≡◌, ℕ, ◌+◌, ◌-◌, ⊎_elim, Bool, true, List, ◌++◌, sym, ap, ◌∙◌, subst, arith}
+use Rattle.std.proofs.Common.{◌≡◌, ℕ, ◌+◌, ◌-◌, ⊎_elim, Bool, true, List, ◌++◌, sym, ap, ◌∙◌, subst, arith, cond, []}
 use Rattle.std.proofs.lemmas.Bool.{cases_lt, cases_eq}
 use Rattle.qed_model.specs.declared.item.Item.{Item}
 use Rattle.qed_model.specs.declared.machine.Outcome.TheVariants.{Fired}
@@ -60,12 +60,12 @@ module _ (f g : Program) (w : World) (l : Lean) (blocks : List Block) (p : LeanP
 
   -- what stands behind the test at an entry
   abbrev pub behind : (a : ℕ) → leader a ≡ true → List Item
-  behind a h = let b = in_it.entries a h in tick (l.most a) (distance_between (w.entry a + 32) l.check) ++ body_of v.code b.body b.end a
+  behind a h = let b = in_it.entries a h in cond (l.ticks a) (tick (l.most a) (distance_between (w.entry a + 32) l.check)) [] ++ body_of v.code b.body b.end a
 
   pub tests : (a : ℕ) (h : leader a ≡ true) → Reads w.form.far w.code w.entry (w.entry a) (check_sign a ++ behind a h)
   tests a h =
       let b = in_it.entries a h in
-      subst (λ x. Reads w.form.far w.code w.entry (w.entry a) (enter x a (l.most a) (distance_between (w.entry a + call_at x) l.check) ++ body_of v.code b.body b.end a)) land b.reads.1
+      subst (λ x. Reads w.form.far w.code w.entry (w.entry a) (enter x (l.ticks a) a (l.most a) (distance_between (w.entry a + call_at x) l.check) ++ body_of v.code b.body b.end a)) land b.reads.1
 
   pub landed : (entries : List EntryRow) → ((a e : ℕ) → IsEntry entries a e → (leader a ≡ true) × (e ≡ w.entry a)) → Landed 6 f g w.reached entries
   landed entries known = record {

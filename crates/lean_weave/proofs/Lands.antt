@@ -89,7 +89,7 @@ module _ (w : World) (l : Lean) (leader : ℕ → Bool) where
       land_behind false (pieces_of s b.body b.start) (leave (before_end w.form) (fall_words leader) b.end (l.start_of b.end at) at) (straight_pieces b.body b.start f) (leave_lands w.form (fall_words leader) b.end (l.start_of b.end at) at (fall_items leader) (fall_lands leader) g)
 
   block_locks : (b : Block) → AllPieces b.body → GoodEnd b.end → LockItems false (block_items s b)
-  block_locks b f g = items_then false (s.enter b.start) (body_of s b.body b.end b.start) (enter_items false l.land b.start (l.most b.start) (distance_between (w.entry b.start + call_at l.land) l.check)) (body_items b f g)
+  block_locks b f g = items_then false (s.enter b.start) (body_of s b.body b.end b.start) (enter_items false l.land (l.ticks b.start) b.start (l.most b.start) (distance_between (w.entry b.start + call_at l.land) l.check)) (body_items b f g)
 
   pub entries_locks : (bs : List Block) → AllBlocks bs → LockItems false (entries_of s bs)
   entries_locks [] f = items_none false
@@ -145,10 +145,11 @@ module _ (w : World) (l : Lean) (leader : ℕ → Bool) where
 
     -- an entry
     enter_lands :
-        (land : Bool) (a most p : ℕ) (ys : List Ins) → w.entry a ≡ p → p + 128 < 2 ^ 64
-        → HasAt w.code p (instructions_from false w.entry p (enter land a most (distance_between (w.entry a + call_at land) l.check)) ++ ys) → opens ys ≡ true
-        → AllLand w.code p (instructions_from false w.entry p (enter land a most (distance_between (w.entry a + call_at land) l.check)))
-    enter_lands true a most p ys is near has o =
+        (land ticks : Bool) (a most p : ℕ) (ys : List Ins) → w.entry a ≡ p → p + 128 < 2 ^ 64
+        → HasAt w.code p (instructions_from false w.entry p (enter land ticks a most (distance_between (w.entry a + call_at land) l.check)) ++ ys) → opens ys ≡ true
+        → AllLand w.code p (instructions_from false w.entry p (enter land ticks a most (distance_between (w.entry a + call_at land) l.check)))
+    enter_lands true false a most p ys is near has o = sign_lands false a [] (items_none false) (λ c e q zs n h k g. tt) w.code w.entry p ys (omega (arith, near)) has o entries
+    enter_lands true true a most p ys is near has o =
         let t = tick most (distance_between (w.entry a + 32) l.check) in
         let xs = instructions_from false w.entry p (check_sign a) in
         let ts = instructions_from false w.entry (p + 24) t in
@@ -157,7 +158,8 @@ module _ (w : World) (l : Lean) (leader : ℕ → Bool) where
         all_land_append w.code p xs ts
         (sign_lands false a [] (items_none false) (λ c e q zs n h k g. tt) w.code w.entry p (ts ++ ys) (omega (arith, near)) has open_tick entries)
         (tick_lands most (w.entry a + 32) (p + 24) ys (omega (arith, is)) (omega (arith, near)) behind o)
-    enter_lands false a most p ys is near has o = tick_lands most (w.entry a + 8) p ys (omega (arith, is)) (omega (arith, near)) has o
+    enter_lands false true a most p ys is near has o = tick_lands most (w.entry a + 8) p ys (omega (arith, is)) (omega (arith, near)) has o
+    enter_lands false false a most p ys is near has o = tt
 
     -- a block
     block_lands :
@@ -173,7 +175,7 @@ module _ (w : World) (l : Lean) (leader : ℕ → Bool) where
         let count = ap length whole ∙ length-append ts bs in
         let split : HasAt w.code p (ts ++ (bs ++ ys)) = subst (HasAt w.code p) (ap (λ k. k ++ ys) whole ∙ append_assoc ts bs ys) has in
         let open_body : opens (bs ++ ys) ≡ true = (body_items b f g w.entry next).front ys o in
-        let first = enter_lands l.land b.start (l.most b.start) p (bs ++ ys) is (omega (arith, near)) split open_body in
+        let first = enter_lands l.land (l.ticks b.start) b.start (l.most b.start) p (bs ++ ys) is (omega (arith, near)) split open_body in
         let second = body_lands b f g w.code w.entry next ys (omega (arith, near, count)) (has_rest w.code p ts (bs ++ ys) split) o entries in
         subst (AllLand w.code p) (sym whole) (all_land_append w.code p ts bs first second)
 

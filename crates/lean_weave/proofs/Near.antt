@@ -188,9 +188,13 @@ module _ (at base d : ℕ) (at_is : at ≡ base + 3 * d) (top : base + 3 * d + 1
   unfolding encode_of word_of
   sign_near a low high = sets 30 a (Plain (ins Sub 31 16 30 (pos 0)) ∷ Plain (ins Slli 31 31 0 (pos 32)) ∷ Plain (ins Beq 0 31 0 (pos 8)) ∷ fired_check ∷ []) (omega arith) (place a low high) refl
 
-  pub enter_near : (land : Bool) (a most : ℕ) (z : ℤ) → base ≤ a → a ≤ base + d → most < 2048 → has_word (ins Jal 0 0 0 z) ≡ true → list_all near_code (enter land a most z) ≡ true
-  enter_near true a most z low high few h = both_all near_code (check_sign a) (tick most z) (sign_near a low high) (tick_near most z few h)
-  enter_near false a most z low high few h = tick_near most z few h
+  ticked_near : (ticks : Bool) (most : ℕ) (z : ℤ) → most < 2048 → has_word (ins Jal 0 0 0 z) ≡ true → list_all near_code (cond ticks (tick most z) []) ≡ true
+  ticked_near true most z few h = tick_near most z few h
+  ticked_near false most z few h = refl
+
+  pub enter_near : (land ticks : Bool) (a most : ℕ) (z : ℤ) → base ≤ a → a ≤ base + d → most < 2048 → has_word (ins Jal 0 0 0 z) ≡ true → list_all near_code (enter land ticks a most z) ≡ true
+  enter_near true ticks a most z low high few h = both_all near_code (check_sign a) (cond ticks (tick most z) []) (sign_near a low high) (ticked_near ticks most z few h)
+  enter_near false ticks a most z low high few h = ticked_near ticks most z few h
 
   -- ---- the leaves
   module _ (before : List Item) (fall : ℕ → List Item) (before_near : list_all near_code before ≡ true) (fall_near : (t : ℕ) → list_all near_code (fall t) ≡ true) (a : ℕ) (low : base ≤ a) (high : a ≤ base + d) where

@@ -1,7 +1,7 @@
 -- The code of a plan: where its parts stand, the entries of its blocks, and where its words lead.
-use Rattle.std.proofs.Common.{◌≡◌, ℕ, ◌+◌, ◌*◌, ◌%◌, ◌^◌, ◌≤◌, length, ⊎_elim, Bool, true, false, cond, List, [], ◌∷◌, ◌++◌, refl, sym, ap, ◌∙◌, subst, append_assoc}
+use Rattle.std.proofs.Common.{◌≡◌, ℕ, ◌+◌, ◌*◌, ◌%◌, ◌^◌, ◌≤◌, length, ⊎_elim, Bool, true, false, cond, List, [], ◌∷◌, ◌++◌, refl, sym, ap, ◌∙◌, subst, append_assoc, arith}
 use Rattle.std.specs.Prelude.{◌==◌, ◌&&◌, pos}
-use Rattle.std.proofs.lemmas.Bool.{eq-eqb}
+use Rattle.std.proofs.lemmas.Bool.{eq-eqb, eqb-true, false≢true, or_cases}
 use Rattle.std.proofs.lemmas.List.{append-nil}
 use Rattle.rv_isa.specs.declared.ins.Ins.{Ins}
 use Rattle.rv_isa.specs.declared.class.Class.{Class}
@@ -13,6 +13,7 @@ use Rattle.qed_model.specs.Machine.Table.{ins}
 use Rattle.qed_model.specs.Machine.Step.{Fetched, target}
 use Rattle.qed_model.specs.Members.{Among}
 use Rattle.qed_model.specs.Promise.Closed.{is_branch}
+use Rattle.qed_model.specs.Weave.Blocks.{begins_at}
 use Rattle.qed_model.specs.Weave.Code.{Sequences, pieces_of, body_of, block_items, entries_of}
 use Rattle.qed_model.specs.Weave.Placed.{sum_of_sizes}
 use Rattle.qed_model.specs.Weave.Sequences.{Reads, End, Falls, Stops, Block, body_length, before_end, guards_of}
@@ -22,7 +23,8 @@ use Rattle.weave_core.specs.World.{World}
 use Rattle.weave_core.specs.WeaveLaws.{BlockOf, EntryAt}
 use Rattle.weave_core.specs.WeavePromise.{AllBlocksOf}
 use Rattle.weave_core.proofs.Entries.{reads_front}
-use Rattle.lean_weave.specs.Woven.{weave_of, goes_on, begins_with, InOrder, AreCounted}
+use Rattle.weave_core.proofs.PlacingForm.{length-instructions}
+use Rattle.lean_weave.specs.Woven.{weave_of, goes_on, begins_with, InOrder, AreCounted, IsCounted}
 use Rattle.lean_weave.proofs.Ways.{reads_behind, reads_join}
 
 -- ---- what stands behind a block
@@ -77,12 +79,12 @@ module _ (c : ℕ → Fetched) (en : ℕ → ℕ) (leader : ℕ → Bool) (befor
 pub record BlockAt (w : World) (l : Lean) (leader : ℕ → Bool) (b : Block) : Type 0 where
   pub reads : Reads false w.code w.entry (w.entry b.start) (block_items (weave_of w l leader).code b)
   pub good : BlockOf w (weave_of w l leader) leader b
-  pub counts : block_steps l.diverse l.land leader b ≤ l.most b.start
+  pub counts : IsCounted l leader b
 
 -- at that of a leader
 pub record Counted (w : World) (l : Lean) (leader : ℕ → Bool) (a : ℕ) : Type 0 where
   pub entry : EntryAt w (weave_of w l leader) leader a
-  pub counts : block_steps l.diverse l.land leader (record { start = a; body = entry.body; end = entry.end }) ≤ l.most a
+  pub counts : IsCounted l leader (record { start = a; body = entry.body; end = entry.end })
 
 module _ (w : World) (l : Lean) (leader : ℕ → Bool) where
   abbrev s : Sequences
@@ -108,7 +110,7 @@ module _ (w : World) (l : Lean) (leader : ℕ → Bool) where
   -- a block reads as its sequences
   block_entry :
       (b : Block) (p : ℕ) (rest : List Item) → Reads false w.code w.entry p (block_items s b ++ rest) → BlockOf w (weave_of w l leader) leader b
-      → block_steps l.diverse l.land leader b ≤ l.most b.start → ((t : ℕ) → goes_on b.end (b.start + 4 * body_length b.body) t ≡ true → leader t ≡ true → Marked rest t) → BlockAt w l leader b
+      → IsCounted l leader b → ((t : ℕ) → goes_on b.end (b.start + 4 * body_length b.body) t ≡ true → leader t ≡ true → Marked rest t) → BlockAt w l leader b
   block_entry b p rest r good counted next =
       let at = b.start + 4 * body_length b.body in
       let t = s.enter b.start in
@@ -124,6 +126,17 @@ module _ (w : World) (l : Lean) (leader : ℕ → Bool) where
       let joined : Reads false w.code w.entry p (t ++ (ps ++ falls)) = subst (λ k. Reads false w.code w.entry p k) (append_assoc t ps falls) (reads_join false w.code w.entry p (t ++ ps) falls first left) in
       let read : Reads false w.code w.entry p (t ++ (pieces_of (weave_of w l leader).code b.body b.start ++ falls)) = subst (λ k. Reads false w.code w.entry p (t ++ (k ++ falls))) (pieces_same b.body b.start) joined in
       record { reads = (refl, subst (λ q. Reads false w.code w.entry q (t ++ (pieces_of (weave_of w l leader).code b.body b.start ++ falls))) (sym r.0) read); good = good; counts = counted }
+
+  -- entries stand on the grain
+  pub entry_grain : (bs : List Block) (p a : ℕ) (rest : List Item) → p % 4 ≡ 0 → Reads false w.code w.entry p (entries_of s bs ++ rest) → begins_at bs a ≡ true → w.entry a % 4 ≡ 0
+  entry_grain [] p a rest g r h = absurd (false≢true h)
+  entry_grain (b ∷ bs) p a rest g r h =
+      let split : Reads false w.code w.entry p (block_items s b ++ (entries_of s bs ++ rest)) = subst (λ k. Reads false w.code w.entry p k) (append_assoc (block_items s b) (entries_of s bs) rest) r in
+      let size = length-instructions false w.entry p (block_items s b) in
+      ⊎_elim
+      (λ e. subst (λ x. w.entry x % 4 ≡ 0) (eqb-true b.start a e) (ap (λ k. k % 4) split.0 ∙ g))
+      (λ m. entry_grain bs (p + sum_of_sizes false (block_items s b)) a rest (omega (arith, g, size)) (reads_behind false w.code w.entry p (block_items s b) (entries_of s bs ++ rest) split) m)
+      (or_cases (b.start == a) (begins_at bs a) h)
 
   pub block_of :
       (bs : List Block) (p : ℕ) (b : Block) (rest : List Item) → Reads false w.code w.entry p (entries_of s bs ++ rest) → AllBlocksOf w (weave_of w l leader) leader bs

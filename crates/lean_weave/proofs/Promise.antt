@@ -195,7 +195,7 @@ module _ (f g : Program) (w : World) (l : Lean) (blocks : List Block) (p : LeanP
   -- ---- changes are caught
   module _ (round : 1 ≤ w.form.round) (bounds : Bounds) (are : IsBoundsOf w l bounds) where
     abbrev z : Sizes
-    z = sizes f g w l leader p.sound p.world entries counts p.begins begins
+    z = sizes f g w l leader p.sound p.world entries counts p.begins p.ticked begins
 
     times : Times w z w.form.round
     times = record { words = refl; same = λ h. round_some (word_count w.form.spans) w.form.round h; some = round; big = omega arith; fits = omega arith }
@@ -215,7 +215,7 @@ module _ (f g : Program) (w : World) (l : Lean) (blocks : List Block) (p : LeanP
     pub catches : Caught f g w.reached w.form.spans bounds
     catches = record {
       settles = λ regs cs b start ordered free bound steady going.
-          settles f g w calm regs start z w.form.round (32 + entry_steps l.land) (Bound f g w l leader p.sound p.world entries counts p.begins begins regs start) times (traced f g w l leader p.sound p.world entries counts p.begins begins regs start) bounds by cs b ordered free bound steady;
+          settles f g w calm regs start z w.form.round (32 + entry_steps l.land) (Bound f g w l leader p.sound p.world entries counts p.begins p.ticked begins regs start) times (traced f g w l leader p.sound p.world entries counts p.begins p.ticked begins regs start) bounds by cs b ordered free bound steady;
     }
 
     -- so are wrong results, as changes
@@ -231,7 +231,7 @@ module _ (f g : Program) (w : World) (l : Lean) (blocks : List Block) (p : LeanP
   pub cleans : w.form.sweep ≡ true → Clean f g w.reached w.form.spans (sweep_cost w.form.spans + 14)
   cleans sweeps = record {
     settles = λ regs cs e start ordered free early ended first steady.
-        cleaned f g w calm (sweep_cost w.form.spans) regs start cs e ordered free early ended first steady (λ always going. swept_end f g w l leader p.sound p.world entries counts p.begins begins regs start e always sweeps ended going);
+        cleaned f g w calm (sweep_cost w.form.spans) regs start cs e ordered free early ended first steady (λ always going. swept_end f g w l leader p.sound p.world entries counts p.begins p.ticked begins regs start e always sweeps ended going);
   }
 
 -- ---- the laws

@@ -121,9 +121,11 @@ spare_turn a t = if_all spares (a == t) [] (turn_by (distance_between a t)) (λ 
 spare_goes : (a t : ℕ) → Spare (goes a t)
 spare_goes a t = both_all spares (turn a t) (Go t ∷ []) (spare_turn a t) refl
 
-spare_enter : (land : Bool) (a most : ℕ) (z : ℤ) → Spare (enter land a most z)
-spare_enter true a most z = refl
-spare_enter false a most z = refl
+spare_enter : (land ticks : Bool) (a most : ℕ) (z : ℤ) → Spare (enter land ticks a most z)
+spare_enter true true a most z = refl
+spare_enter true false a most z = refl
+spare_enter false true a most z = refl
+spare_enter false false a most z = refl
 
 spare_fall : (leader : ℕ → Bool) (t : ℕ) → Spare (fall_words leader t)
 spare_fall leader t = if_all spares (leader t) [] (Go t ∷ []) (λ e. refl) (λ e. refl)
@@ -169,7 +171,7 @@ module _ (form : Form) (base : ℕ) (entry : ℕ → ℕ) (l : Lean) (leader : �
       let ends = leave (before_end form) (fall_words leader) b.end (l.start_of b.end at) at in
       let body = pieces_of s b.body b.start ++ ends in
       both_all spares (s.enter b.start ++ body) (entries_of s bs)
-      (both_all spares (s.enter b.start) body (spare_enter l.land b.start (l.most b.start) (distance_between (entry b.start + call_at l.land) l.check))
+      (both_all spares (s.enter b.start) body (spare_enter l.land (l.ticks b.start) b.start (l.most b.start) (distance_between (entry b.start + call_at l.land) l.check))
       (both_all spares (pieces_of s b.body b.start) ends (spare_pieces b.body b.start h.0) (spare_leave (before_end form) (fall_words leader) (spare_before form) (spare_fall leader) b.end (l.start_of b.end at) at h.1)))
       (spare_entries bs h.2)
 

@@ -1,5 +1,5 @@
 -- The lean form meets the laws of the rows, so it keeps the values.
-use Rattle.std.proofs.Common.{◌≡◌, ℕ, ◌+◌, ◌-◌, ◌*◌, ◌%◌, ◌^◌, ◌<◌, ◌≤◌, ⊎_elim, Bool, true, false, List, [], ◌∷◌, ◌++◌, length, refl, sym, ap, ◌∙◌, subst, arith, append_assoc}
+use Rattle.std.proofs.Common.{◌≡◌, ℕ, ◌+◌, ◌-◌, ◌*◌, ◌%◌, ◌^◌, ◌<◌, ◌≤◌, ⊎_elim, Bool, true, false, List, [], ◌∷◌, ◌++◌, length, refl, sym, ap, ◌∙◌, subst, arith, append_assoc, cond}
 use Rattle.std.specs.Prelude.{pos}
 use Rattle.std.proofs.lemmas.Bool.{and_parts, leb-true, cases_lt}
 use Rattle.std.proofs.Math.Nat.{mul-le-mul_left}
@@ -44,7 +44,7 @@ module _ (w : World) (l : Lean) (leader : ℕ → Bool) (x : LeanIn w l leader) 
   pub record Enters (u s : State) (rest : List Item) (a : ℕ) : Type 0 where
     pub over : Over w.code u
     pub halved : Twice w u s s
-    pub reads : Reads w.form.far w.code w.entry u.pc (enter l.land a (l.most a) (distance_between (w.entry a + call_at l.land) l.check) ++ rest)
+    pub reads : Reads w.form.far w.code w.entry u.pc (enter l.land (l.ticks a) a (l.most a) (distance_between (w.entry a + call_at l.land) l.check) ++ rest)
     pub low : a < 2 ^ 64
     pub ticked : Ticked l.every w u a
     pub begins : u.pc ≡ w.entry a
@@ -53,7 +53,7 @@ module _ (w : World) (l : Lean) (leader : ℕ → Bool) (x : LeanIn w l leader) 
   abbrev pub Entered : State → List Item → ℕ → ℕ → State → Type 0
   Entered s rest a n y = At w y rest s s × (is_ticked_at l.every w y a ≡ true)
 
-  -- at its tick, whether the signature was tested or not
+  -- behind the test of the signature, if there is one
   record AtTick (u s : State) (rest : List Item) (a : ℕ) (land : Bool) : Type 0 where
     steps : ℕ
     count : steps + 2 ≡ entry_steps land
@@ -61,19 +61,19 @@ module _ (w : World) (l : Lean) (leader : ℕ → Bool) (x : LeanIn w l leader) 
     walk : Walk (Quiet w) u steps to
     over : Over w.code to
     halved : Twice w to s s
-    reads : Reads w.form.far w.code w.entry to.pc (tick (l.most a) (distance_between (w.entry a + call_at land) l.check) ++ rest)
+    reads : Reads w.form.far w.code w.entry to.pc (cond (l.ticks a) (tick (l.most a) (distance_between (w.entry a + call_at land) l.check)) [] ++ rest)
     place : to.pc + 8 ≡ w.entry a + call_at land
     fifteen : reg to 15 ≡ reg u 15
     sixteen : reg to 16 ≡ reg u 16
 
   at_tick : (u s : State) (rest : List Item) (a : ℕ) → Enters u s rest a → AtTick u s rest a l.land
   at_tick u s rest a e = by l.land e.reads where
-    by : (land : Bool) → Reads w.form.far w.code w.entry u.pc (enter land a (l.most a) (distance_between (w.entry a + call_at land) l.check) ++ rest) → AtTick u s rest a land
+    by : (land : Bool) → Reads w.form.far w.code w.entry u.pc (enter land (l.ticks a) a (l.most a) (distance_between (w.entry a + call_at land) l.check) ++ rest) → AtTick u s rest a land
     by true r =
         let t = e.ticked in
         let long = e.halved.output.regs in
         let same : rest_of a (reg u 16) ≡ 0 = ap (rest_of a) t.sign ∙ same_bits a t.offset e.low t.few in
-        let p = sign_passes w u a (tick (l.most a) (distance_between (w.entry a + 32) l.check) ++ rest) e.low e.over long e.halved.output.zero_reg r same in
+        let p = sign_passes w u a (cond (l.ticks a) (tick (l.most a) (distance_between (w.entry a + 32) l.check)) [] ++ rest) e.low e.over long e.halved.output.zero_reg r same in
         let ws = tested a (reg u 16) in
         record {
           steps = 5;
@@ -100,17 +100,38 @@ module _ (w : World) (l : Lean) (leader : ℕ → Bool) (x : LeanIn w l leader) 
       sixteen = refl;
     }
 
+  -- where a tick stands
+  at_its : (p a : ℕ) (rest : List Item) → l.ticks a ≡ true → Reads w.form.far w.code w.entry p (cond (l.ticks a) (tick (l.most a) (distance_between (w.entry a + call_at l.land) l.check)) [] ++ rest) → Reads w.form.far w.code w.entry p (tick (l.most a) (distance_between (w.entry a + call_at l.land) l.check) ++ rest)
+  at_its p a rest t r = subst (λ b. Reads w.form.far w.code w.entry p (cond b (tick (l.most a) (distance_between (w.entry a + call_at l.land) l.check)) [] ++ rest)) t r
+
+  -- where none stands nothing is counted
+  pub skips :
+      (u s : State) (rest : List Item) (a : ℕ) (e : Enters u s rest a) → l.ticks a ≡ false
+      → GoesTo w u 0 (entry_steps l.land) (λ n y. Entered s rest a n y × (reg y 15 ≡ counter e.ticked.left) × (reg y 16 ≡ reg u 16))
+  skips u s rest a e none =
+      let t = e.ticked in
+      let x0 = at_tick u s rest a e in
+      let fifteen = x0.fifteen ∙ t.fifteen in
+      record {
+        steps = x0.steps;
+        to = x0.to;
+        at_least = omega arith;
+        within = omega (arith, x0.count);
+        walk = x0.walk;
+        is = ((record { over = x0.over; reads = subst (λ b. Reads w.form.far w.code w.entry x0.to.pc (cond b (tick (l.most a) (distance_between (w.entry a + call_at l.land) l.check)) [] ++ rest)) none x0.reads; halved = x0.halved }, ticked_is l.every w x0.to a t.left t.offset e.low t.some t.most x.few fifteen t.few (x0.sixteen ∙ t.sign) t.cursor), fifteen, x0.sixteen);
+      }
+
   -- where enough steps are left the tick passes
   pub passes :
-      (u s : State) (rest : List Item) (a : ℕ) (e : Enters u s rest a) → l.most a < e.ticked.left → l.most a ≤ 2048
+      (u s : State) (rest : List Item) (a : ℕ) (e : Enters u s rest a) → l.ticks a ≡ true → l.most a < e.ticked.left → l.most a ≤ 2048
       → GoesTo w u (entry_steps l.land) (entry_steps l.land) (λ n y. Entered s rest a n y × (reg y 15 ≡ counter (e.ticked.left - l.most a)) × (reg y 16 ≡ reg u 16))
-  passes u s rest a e lt small =
+  passes u s rest a e has lt small =
       let t = e.ticked in
       let most = l.most a in
       let x0 = at_tick u s rest a e in
       let v = x0.to in
       let long = x0.halved.output.regs in
-      let p = pass_row w v most t.left l.every x0.over long x0.halved.output.zero_reg (x0.fifteen ∙ t.fifteen) t.some t.most x.few small rest (distance_between (w.entry a + call_at l.land) l.check) lt x0.reads in
+      let p = pass_row w v most t.left l.every x0.over long x0.halved.output.zero_reg (x0.fifteen ∙ t.fifteen) t.some t.most x.few small rest (distance_between (w.entry a + call_at l.land) l.check) lt (at_its v.pc a rest has x0.reads) in
       let c = counter (t.left - most) in
       let ws : List (ℕ × ℕ) = (15, c) ∷ [] in
       let y = moved (writes ws v.regs) p.pc v in
@@ -136,6 +157,7 @@ module _ (w : World) (l : Lean) (leader : ℕ → Bool) (x : LeanIn w l leader) 
     pub halved : Twice w y s s
     pub pc : y.pc ≡ l.check
     pub leads : leader s.pc ≡ true
+    pub ticked : l.ticks s.pc ≡ true
     pub few : off < 2 ^ 32
     pub sign : reg y 16 ≡ (s.pc + off * 2 ^ 32) % 2 ^ 64
     pub cursor : IsCursor w.form.spans (first_word w.base w.form.spans + off)
@@ -143,15 +165,15 @@ module _ (w : World) (l : Lean) (leader : ℕ → Bool) (x : LeanIn w l leader) 
 
   -- where not, the check is called
   pub calls :
-      (u s : State) (rest : List Item) (e : Enters u s rest s.pc) → leader s.pc ≡ true → e.ticked.left ≤ l.most s.pc → l.most s.pc ≤ 2048
+      (u s : State) (rest : List Item) (e : Enters u s rest s.pc) → leader s.pc ≡ true → l.ticks s.pc ≡ true → e.ticked.left ≤ l.most s.pc → l.most s.pc ≤ 2048
       → (y : State) × Walk (Quiet w) u (entry_steps l.land + 1) y × AtCheck y s e.ticked.offset
-  calls u s rest e leads le small =
+  calls u s rest e leads has le small =
       let t = e.ticked in
       let most = l.most s.pc in
       let x0 = at_tick u s rest s.pc e in
       let v = x0.to in
       let long = x0.halved.output.regs in
-      let reads : Reads w.form.far w.code w.entry v.pc (tick most (distance_between (v.pc + 8) l.check) ++ rest) = subst (λ p. Reads w.form.far w.code w.entry v.pc (tick most (distance_between p l.check) ++ rest)) (sym x0.place) x0.reads in
+      let reads : Reads w.form.far w.code w.entry v.pc (tick most (distance_between (v.pc + 8) l.check) ++ rest) = subst (λ p. Reads w.form.far w.code w.entry v.pc (tick most (distance_between p l.check) ++ rest)) (sym x0.place) (at_its v.pc s.pc rest has x0.reads) in
       let first = ins Auipc 30 0 0 (upper_part (distance_between l.check w.base)) in
       let near = w.low l.check first x.check.0 in
       let walk = call_row w v most t.left l.every x0.over long x0.halved.output.zero_reg (x0.fifteen ∙ t.fifteen) t.some t.most x.few small rest l.check le (omega (arith, near)) (w.grain l.check first x.check.0) reads in
@@ -165,6 +187,7 @@ module _ (w : World) (l : Lean) (leader : ℕ → Bool) (x : LeanIn w l leader) 
           halved = halved_writes w v s s ws l.check (all_temps ws refl) x0.halved;
           pc = refl;
           leads = leads;
+          ticked = has;
           few = t.few;
           sign = read_back ws v.regs 16 long refl ∙ x0.sixteen ∙ t.sign;
           cursor = t.cursor;
@@ -175,23 +198,23 @@ module _ (w : World) (l : Lean) (leader : ℕ → Bool) (x : LeanIn w l leader) 
         linked p e = omega (arith, e)
 
   -- the check leads back to the entry
-  pub checks : (y s : State) (off : ℕ) → AtCheck y s off → IsEntryOf w s.pc → Back w leader y s s.pc off l.every w.form.round
-  checks y s off c entry =
+  pub checks : (y s : State) (off : ℕ) → AtCheck y s off → Back w leader y s s.pc off l.every w.form.round
+  checks y s off c =
       let tb = x.table s.pc c.leads in
-      check_row w leader x.small y s (call_at l.land) s.pc off l.every w.form.round (call_fits l.land).0 tb entry c.leads x.some (far l.every x.few) c.over c.halved (subst (λ p. Reads w.form.far w.code w.entry p (check w.base (call_at l.land) l.every w.form.round w.form.spans)) (sym c.pc) x.check) refl tb.from (x.within s.pc c.leads) c.few c.cursor c.sign c.link where
+      check_row w leader x.small y s (call_at l.land) s.pc off l.every w.form.round (call_fits l.land).0 tb (x.known s.pc c.leads) c.leads x.some (far l.every x.few) c.over c.halved (subst (λ p. Reads w.form.far w.code w.entry p (check w.base (call_at l.land) l.every w.form.round w.form.spans)) (sym c.pc) x.check) refl tb.from (x.within s.pc c.leads) c.few c.cursor c.sign c.link where
         far : (n : ℕ) → n ≤ 2048 → n < 2 ^ 63
         far n h = omega (arith, h)
 
   -- back from the check it passes
   again :
-      (u s : State) (rest : List Item) (e : Enters u s rest s.pc) → l.most s.pc ≤ 2048 → IsEntryOf w s.pc → (to : State) × Walk (Quiet w) u (entry_steps l.land + 1) to × AtCheck to s e.ticked.offset
+      (u s : State) (rest : List Item) (e : Enters u s rest s.pc) → l.most s.pc ≤ 2048 → (to : State) × Walk (Quiet w) u (entry_steps l.land + 1) to × AtCheck to s e.ticked.offset
       → GoesTo w u 0 (1 + 2 * entry_steps l.land + check_steps w) (λ n y. Entered s rest s.pc n y)
-  again u s rest e small entry c =
+  again u s rest e small c =
       let a = s.pc in
-      let b = checks c.0 s e.ticked.offset c.2 entry in
+      let b = checks c.0 s e.ticked.offset c.2 in
       let t = e.ticked in
       let same : b.to.pc ≡ w.entry a = b.stands.pc in
-      let at_entry : Reads w.form.far w.code w.entry b.to.pc (enter l.land a (l.most a) (distance_between (w.entry a + call_at l.land) l.check) ++ rest) = subst (λ p. Reads w.form.far w.code w.entry p (enter l.land a (l.most a) (distance_between (w.entry a + call_at l.land) l.check) ++ rest)) (sym same) (subst (λ p. Reads w.form.far w.code w.entry p (enter l.land a (l.most a) (distance_between (w.entry a + call_at l.land) l.check) ++ rest)) e.begins e.reads) in
+      let at_entry : Reads w.form.far w.code w.entry b.to.pc (enter l.land (l.ticks a) a (l.most a) (distance_between (w.entry a + call_at l.land) l.check) ++ rest) = subst (λ p. Reads w.form.far w.code w.entry p (enter l.land (l.ticks a) a (l.most a) (distance_between (w.entry a + call_at l.land) l.check) ++ rest)) (sym same) (subst (λ p. Reads w.form.far w.code w.entry p (enter l.land (l.ticks a) a (l.most a) (distance_between (w.entry a + call_at l.land) l.check) ++ rest)) e.begins e.reads) in
       let f : Enters b.to s rest a = record {
         over = b.stands.over;
         halved = b.stands.halved;
@@ -200,7 +223,7 @@ module _ (w : World) (l : Lean) (leader : ℕ → Bool) (x : LeanIn w l leader) 
         begins = same;
         ticked = record { left = l.every; some = x.some; most = omega arith; fifteen = b.counter; offset = b.next; few = b.few; sign = b.sign; cursor = subst (IsCursor w.form.spans) (sym b.word) (words_in t.offset t.cursor) };
       } in
-      let g = passes b.to s rest a f (x.ticks a c.2.leads) small in
+      let g = passes b.to s rest a f c.2.ticked (x.ticks a c.2.leads) small in
       record {
         steps = entry_steps l.land + 1 + (b.steps + g.steps);
         to = g.to;
@@ -215,35 +238,28 @@ module _ (w : World) (l : Lean) (leader : ℕ → Bool) (x : LeanIn w l leader) 
         all_in : (m n : ℕ) → m ≤ check_steps w → n ≤ entry_steps l.land → entry_steps l.land + 1 + (m + n) ≤ 1 + 2 * entry_steps l.land + check_steps w
         all_in m n h k = omega (arith, h, k)
 
-  -- an entry stands low, on the grain
-  from_word : (a : ℕ) (i : Ins) → a < 2 ^ 64 → w.code (w.entry a) ≡ Known i → IsEntryOf w a
-  from_word a i low h = record { low = low; entry_low = let near = w.low (w.entry a) i h in omega (arith, near); grain = w.grain (w.entry a) i h }
-
-  pub is_entry :
-      (land : Bool) (a : ℕ) (rest : List Item) → a < 2 ^ 64
-      → Reads w.form.far w.code w.entry (w.entry a) (enter land a (l.most a) (distance_between (w.entry a + call_at land) l.check) ++ rest) → IsEntryOf w a
-  is_entry true a rest low r = from_word a (ins Auipc 30 0 0 (upper_part (distance_between (w.entry a) a))) low r.0
-  is_entry false a rest low r = from_word a (ins Addi 15 15 0 (pos (l.most a))) low r.0
-
   -- any entry
   pub enter_law :
       (u s : State) (rest : List Item) → Stands w leader u s → is_ticked_at l.every w u s.pc ≡ true → s.pc < 2 ^ 64
-      → Reads w.form.far w.code w.entry u.pc (enter l.land s.pc (l.most s.pc) (distance_between (w.entry s.pc + call_at l.land) l.check) ++ rest) → GoesTo w u 0 (1 + 2 * entry_steps l.land + check_steps w) (λ n y. Entered s rest s.pc n y)
+      → Reads w.form.far w.code w.entry u.pc (enter l.land (l.ticks s.pc) s.pc (l.most s.pc) (distance_between (w.entry s.pc + call_at l.land) l.check) ++ rest) → GoesTo w u 0 (1 + 2 * entry_steps l.land + check_steps w) (λ n y. Entered s rest s.pc n y)
   enter_law u s rest st held low r =
       let a = s.pc in
-      let t = ticked_of l.every w u a held in
-      let entry = is_entry l.land a rest low (subst (λ p. Reads w.form.far w.code w.entry p (enter l.land a (l.most a) (distance_between (w.entry a + call_at l.land) l.check) ++ rest)) st.pc r) in
-      let e : Enters u s rest a = record { over = st.over; halved = st.halved; reads = r; low = low; ticked = t; begins = st.pc } in
+      let e : Enters u s rest a = record { over = st.over; halved = st.halved; reads = r; low = low; ticked = ticked_of l.every w u a held; begins = st.pc } in
       let small : l.most a ≤ 2048 = fewer (l.most a) l.every (x.ticks a st.leads) x.few in
-      ⊎_elim
-      (λ lt. let g = passes u s rest a e lt small in record { steps = g.steps; to = g.to; at_least = omega arith; within = two g.steps g.within; walk = g.walk; is = g.is.0 })
-      (λ ge. again u s rest e small entry (calls u s rest e st.leads ge small))
-      (cases_lt (l.most a) t.left) where
+      by e small (l.ticks a) refl where
         fewer : (m n : ℕ) → m < n → n ≤ 2048 → m ≤ 2048
         fewer m n h k = omega (arith, h, k)
 
         two : (n : ℕ) → n ≤ entry_steps l.land → n ≤ 1 + 2 * entry_steps l.land + check_steps w
         two n h = omega (arith, h)
+
+        by : Enters u s rest s.pc → l.most s.pc ≤ 2048 → (b : Bool) → l.ticks s.pc ≡ b → GoesTo w u 0 (1 + 2 * entry_steps l.land + check_steps w) (λ n y. Entered s rest s.pc n y)
+        by e small false none = let g = skips u s rest s.pc e none in record { steps = g.steps; to = g.to; at_least = g.at_least; within = two g.steps g.within; walk = g.walk; is = g.is.0 }
+        by e small true has =
+            ⊎_elim
+            (λ lt. let g = passes u s rest s.pc e has lt small in record { steps = g.steps; to = g.to; at_least = omega arith; within = two g.steps g.within; walk = g.walk; is = g.is.0 })
+            (λ ge. again u s rest e small (calls u s rest e st.leads has ge small))
+            (cases_lt (l.most s.pc) e.ticked.left)
 
   -- ---- pieces
   -- its steps

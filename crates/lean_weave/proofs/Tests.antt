@@ -28,6 +28,7 @@ use Rattle.qed_model.specs.Weave.LeanBounds.{lean_bounds}
 use Rattle.qed_model.proofs.Fetches.{known_instruction}
 use Rattle.qed_model.proofs.PlacedWords.{size-append, IsInside, mark_inside, grain_of_sizes}
 use Rattle.weave_core.specs.World.{World}
+use Rattle.weave_core.specs.Blocks.{IsEntryOf, TableAt}
 use Rattle.weave_core.specs.WeavePromise.{AllBlocksOf, OnlyCode}
 use Rattle.weave_core.proofs.BlockMarks.{marked, rows_inputs}
 use Rattle.weave_core.proofs.Entries.{reads_front}
@@ -44,6 +45,7 @@ use Rattle.lean_weave.proofs.Ways.{reads_behind}
 use Rattle.lean_weave.proofs.Blocks.{begun, begins, length_is, leading, starts, steps, counted, in_order, all_good}
 use Rattle.lean_weave.proofs.Short.{only_reached, few_steps, short}
 use Rattle.lean_weave.proofs.Landed.{lean_landed}
+use Rattle.lean_weave.proofs.Plan.{entry_grain}
 use Rattle.lean_weave.proofs.Strays.{lean_strayed}
 use Rattle.lean_weave.proofs.Promise.{lean_kept, lean_caught, lean_faults, lean_clean}
 use Rattle.lean_weave.proofs.Unmarked.{unmarked_worded, entry_same, same_code, code_size}
@@ -176,7 +178,7 @@ module _ (f : ElfFile) (o : Options) (every : ℕ) (blocks : List Block) (t : Ar
         let counts = steps f o some_most blocks t.are reached_only grain (of.ascend f o t.sound t.file.loads t.admitted blocks t.are) o.diverse o.land (begins_at blocks) b m in
         let less = short f o every t.sound t.lean blocks t.are grain b m in
         let few = few_steps f o every t.sound t.lean in
-        both_all near_code ((s placed_at).enter b.start) (body_of (s placed_at) b.body b.end b.start) (enter_near at base d refl top bounds.1 o.land b.start (l.most b.start) (distance_between (placed_at b.start + call_at o.land) l.check) k.0 k.1 (omega (arith, counts, less, few)) (calls b.start (begins blocks b m)))
+        both_all near_code ((s placed_at).enter b.start) (body_of (s placed_at) b.body b.end b.start) (enter_near at base d refl top bounds.1 o.land true b.start (l.most b.start) (distance_between (placed_at b.start + call_at o.land) l.check) k.0 k.1 (omega (arith, counts, less, few)) (calls b.start (begins blocks b m)))
         (both_all near_code (pieces_of (s placed_at) b.body b.start) (leave (before_end form) (fall_words (begins_at blocks)) b.end a n) (pieces_near b.body b.start k.2)
         (leave_near at base d refl top bounds.1 (before_end form) (fall_words (begins_at blocks)) (before_near at base d refl top bounds.1 form spans) fall_near a (let low = k.0 in omega (arith, own, low)) (let high = k.1 in omega (arith, own, high)) b.end n k.3))
 
@@ -282,6 +284,21 @@ module _ (f : ElfFile) (o : Options) (every : ℕ) (blocks : List Block) (t : Ar
       begins_entry : begins_at blocks f.entry ≡ true
       begins_entry = of.begins f o t.sound t.file.loads t.admitted blocks t.are
 
+      table : (a : ℕ) → begins_at blocks a ≡ true → TableAt w a
+      table a e = of.table_at f o t.sound t.file.loads t.admitted blocks t.are false true items words are_items reached aims refl a e
+
+      known : (a : ℕ) → begins_at blocks a ≡ true → IsEntryOf w a
+      known a e =
+          let tb = table a e in
+          let first = (s w.entry).first d f.entry in
+          let size = length-instructions false w.entry at first in
+          let grain : at % 4 ≡ 0 = w.grain at _ reads.0 in
+          record {
+            low = let low = tb.low in omega (arith, low);
+            entry_low = let leads = tb.leads in omega (arith, leads);
+            grain = entry_grain w l (begins_at blocks) blocks (at + sum_of_sizes false first) a stub (omega (arith, grain, size)) (reads_behind false w.code w.entry at first (entries_of (s w.entry) blocks ++ stub) reads) e;
+          }
+
       sound : LeanIn w l (begins_at blocks)
       sound = record {
         near = refl;
@@ -292,7 +309,9 @@ module _ (f : ElfFile) (o : Options) (every : ℕ) (blocks : List Block) (t : Ar
         ticks = ticks;
         codes = codes;
         grain = λ a e. let g = grain a e in omega (arith, g);
-        table = λ a e. of.table_at f o t.sound t.file.loads t.admitted blocks t.are false true items words are_items reached aims refl a e;
+        reached = λ a e r. refl;
+        known = known;
+        table = table;
         within = λ a e. let b = of.block_bounds f o t.sound t.file.loads t.admitted blocks t.are a e in let h = of.half_small (image_of f) o.half t.admitted.span t.sound.half in omega (arith, b.1, h);
       } where
         check_reads : Reads false w.code w.entry l.check (check base (call_at o.land) every form.round form.spans)
@@ -332,9 +351,10 @@ module _ (f : ElfFile) (o : Options) (every : ℕ) (blocks : List Block) (t : Ar
         check = refl;
         good = good;
         begins = begins_entry;
+        ticked = refl;
         order = in_order f o some_most blocks t.are reached_only grain ascend room;
         only = only;
-        counts = counted f o some_most blocks t.are reached_only grain ascend l refl;
+        counts = counted f o some_most blocks t.are reached_only grain ascend l refl (λ a. refl);
       } where
         -- a block ends far below 2^64
         room : (b : Block) → Among b blocks → b.start + 4 * body_length b.body + 4 < 2 ^ 64

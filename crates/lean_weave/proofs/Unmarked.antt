@@ -64,7 +64,7 @@ module _ (before : List Item) (fall : ℕ → List Item) (no_before : NoMarks be
 pub unmarked_worded : (form : Form) (base : ℕ) (entry : ℕ → ℕ) (l : Lean) (leader : ℕ → Bool) → AreUnmarked (worded form base entry l leader)
 unmarked_worded form base entry l leader = record {
   first = λ d a. unmarked_append (begin d a) (check base (call_at l.land) l.every form.round form.spans) (unmarked_begin d a) (unmarked_check base (call_at l.land) l.every form.round form.spans);
-  enter = λ a. unmarked_append (cond l.land (check_sign a) []) (tick (l.most a) (distance_between (entry a + call_at l.land) l.check)) (unmarked_cond l.land (check_sign a) [] tt tt) tt;
+  enter = λ a. unmarked_append (cond l.land (check_sign a) []) (cond (l.ticks a) (tick (l.most a) (distance_between (entry a + call_at l.land) l.check)) []) (unmarked_cond l.land (check_sign a) [] tt tt) (unmarked_cond (l.ticks a) (tick (l.most a) (distance_between (entry a + call_at l.land) l.check)) [] tt tt);
   piece = λ is at. unmarked_append (each_part original is at) (each_part (mirror_of l.diverse) is at) (unmarked_each original unmarked_original is at) (unmarked_each (mirror_of l.diverse) (unmarked_of l.diverse) is at);
   leave = λ e at. unmarked_leave (before_end form) (fall_words leader) (unmarked_before form) (unmarked_fall leader) e (l.start_of e at) at;
 }
@@ -86,10 +86,12 @@ module _ (form : Form) (base : ℕ) (l : Lean) (leader : ℕ → Bool) (x y : �
   behind entry b = (s entry).enter b.start ++ body_of (s entry) b.body b.end b.start
 
   behind_size : (b : Block) → sum_of_sizes false (behind x b) ≡ sum_of_sizes false (behind y b)
-  behind_size b = by l.land where
-    by : (land : Bool) → sum_of_sizes false (enter land b.start (l.most b.start) (distance_between (x b.start + call_at land) l.check) ++ body_of (s x) b.body b.end b.start) ≡ sum_of_sizes false (enter land b.start (l.most b.start) (distance_between (y b.start + call_at land) l.check) ++ body_of (s y) b.body b.end b.start)
-    by true = ap (λ k. 8 + (4 + (4 + (4 + (4 + (4 + (4 + (4 + (4 + sum_of_sizes false k))))))))) (body_same b)
-    by false = ap (λ k. 4 + (4 + (4 + (4 + sum_of_sizes false k)))) (body_same b)
+  behind_size b = by l.land (l.ticks b.start) where
+    by : (land ticks : Bool) → sum_of_sizes false (enter land ticks b.start (l.most b.start) (distance_between (x b.start + call_at land) l.check) ++ body_of (s x) b.body b.end b.start) ≡ sum_of_sizes false (enter land ticks b.start (l.most b.start) (distance_between (y b.start + call_at land) l.check) ++ body_of (s y) b.body b.end b.start)
+    by true true = ap (λ k. 8 + (4 + (4 + (4 + (4 + (4 + (4 + (4 + (4 + sum_of_sizes false k))))))))) (body_same b)
+    by true false = ap (λ k. 8 + (4 + (4 + (4 + (4 + sum_of_sizes false k))))) (body_same b)
+    by false true = ap (λ k. 4 + (4 + (4 + (4 + sum_of_sizes false k)))) (body_same b)
+    by false false = ap (sum_of_sizes false) (body_same b)
 
   block_size : (b : Block) → sum_of_sizes false (block_items (s x) b) ≡ sum_of_sizes false (block_items (s y) b)
   block_size b = ap (λ n. 0 + n) (behind_size b)

@@ -77,9 +77,13 @@ module _ (far : Bool) where
       land_behind far front (check ++ ys) (straight_constant far 30 a (Plain (ins Sub 31 16 30 (pos 0)) ∷ Plain (ins Slli 31 31 0 (pos 32)) ∷ []) (λ c e a. (tt, (tt, tt)))) both
 
   -- the entry: with the test of the signature, or without
-  pub enter_items : (land : Bool) (a most : ℕ) (d : ℤ) → LockItems far (enter land a most d)
-  enter_items true a most d = sign_items a (tick most d) (tick_items most d)
-  enter_items false a most d = tick_items most d
+  pub ticked_items : (ticks : Bool) (most : ℕ) (d : ℤ) → LockItems far (cond ticks (tick most d) [])
+  ticked_items true most d = tick_items most d
+  ticked_items false most d = items_none far
+
+  pub enter_items : (land ticks : Bool) (a most : ℕ) (d : ℤ) → LockItems far (enter land ticks a most d)
+  enter_items true ticks a most d = sign_items a (cond ticks (tick most d) []) (ticked_items ticks most d)
+  enter_items false ticks a most d = ticked_items ticks most d
 
   turn_by_items : (d : ℤ) → LockItems far (turn_by d)
   turn_by_items d = by (is_short d) where

@@ -1,9 +1,11 @@
 -- The lean form as a weave, and what is asked of the words and the table that it is woven in.
-use Rattle.std.specs.Prelude.{◌≡◌, ℕ, ◌+◌, ◌*◌, ◌%◌, ◌^◌, ◌<◌, ◌≤◌, Bool, true, false, ◌==◌, ◌&&◌, nat_le, List, [], ◌∷◌, length}
+use Rattle.std.specs.Prelude.{◌≡◌, ℕ, ◌+◌, ◌*◌, ◌%◌, ◌^◌, ◌<◌, ◌≤◌, Bool, true, false, cond, ◌==◌, ◌&&◌, ◌||◌, nat_le, List, [], ◌∷◌, length}
 use Rattle.rv_isa.specs.declared.ins.Ins.{Ins}
+use Rattle.rv_isa.specs.declared.class.Class.{Class}
+use Rattle.rv_isa.specs.declared.class.Class.TheVariants as class
 use Rattle.rv_isa.specs.Kind.{class_of}
 use Rattle.qed_model.specs.Admission.DataRanges.{word_count}
-use Rattle.qed_model.specs.Machine.Step.{Known}
+use Rattle.qed_model.specs.Machine.Step.{Known, target}
 use Rattle.qed_model.specs.Weave.Bounds.{end_bound, cost_of, entry_steps}
 use Rattle.qed_model.specs.Weave.Pieces.{is_run}
 use Rattle.qed_model.specs.Weave.Placed.{sum_of_sizes}
@@ -25,7 +27,7 @@ use Rattle.weave_core.specs.Describes.{Describes}
 use Rattle.weave_core.specs.WeavePromise.{AllBlocksOf, OnlyCode}
 use Rattle.weave_core.specs.Leaving.{sweep_cost}
 use Rattle.weave_core.specs.World.{World}
-use Rattle.weave_core.specs.Blocks.{TableAt}
+use Rattle.weave_core.specs.Blocks.{IsEntryOf, TableAt}
 use Rattle.weave_core.specs.Weave.{Weave}
 use Rattle.lean_weave.specs.Strayed.{Strayed}
 use Rattle.lean_weave.specs.Ticked.{is_ticked_at}
@@ -56,8 +58,8 @@ weave_of w l leader = record {
   held = is_ticked_at l.every;
 }
 
--- the code is near, the halves are not too far from each other, the check stands in its place, each tick counts fewer steps than there are, and each
--- leader has code, on its grain, and its place in the table
+-- the code is near, the halves are not too far from each other, the check stands in its place, from each entry there are fewer steps to the next tick than from
+-- check to check, where a jump by register leads stands a tick, and each leader has code, on its grain, its entry, and its place in the table
 pub record LeanIn (w : World) (l : Lean) (leader : ℕ → Bool) : Type 0 where
   pub near : w.form.far ≡ false
   pub small : w.distance ≤ 2 ^ 32
@@ -65,6 +67,8 @@ pub record LeanIn (w : World) (l : Lean) (leader : ℕ → Bool) : Type 0 where
   pub few : l.every ≤ 2048
   pub check : Reads w.form.far w.code w.entry l.check (check w.base (call_at l.land) l.every w.form.round w.form.spans)
   pub ticks : (a : ℕ) → leader a ≡ true → l.most a < l.every
+  pub reached : (a : ℕ) → leader a ≡ true → w.reached a ≡ true → l.ticks a ≡ true
+  pub known : (a : ℕ) → leader a ≡ true → IsEntryOf w a
   pub codes : (a : ℕ) → leader a ≡ true → (i : Ins) × (w.source a ≡ Known i)
   pub grain : (a : ℕ) → leader a ≡ true → a % 2 ≡ 0
   pub table : (a : ℕ) → leader a ≡ true → TableAt w a
@@ -85,10 +89,30 @@ abbrev pub InOrder : (ℕ → Bool) → List Block → Type 0
 InOrder leader [] = Unit {0}
 InOrder leader (b ∷ bs) = ((t : ℕ) → goes_on b.end (b.start + 4 * body_length b.body) t ≡ true → leader t ≡ true → begins_with bs t) × InOrder leader bs
 
--- the tick of each block counts its steps
+-- ---- what ticks count
+-- where a block goes on, but for jumps by register
+abbrev pub leads_as : Class → Ins → ℕ → ℕ → Bool
+leads_as class.Jump i at t = target i at == t
+leads_as class.Branch i at t = (target i at == t) || ((at + 4) % 2 ^ 64 == t)
+leads_as _ i at t = false
+
+abbrev pub leads_on : End → ℕ → ℕ → Bool
+leads_on Falls at t = at == t
+leads_on (Stops i) at t = leads_as (class_of i.kind) i at t
+
+-- what the tick before an entry has counted of the steps behind it: none, where it has its own
+abbrev pub owed : Lean → ℕ → ℕ
+owed l t = cond (l.ticks t) 0 (l.most t)
+
+-- the steps of a block are counted, with those to the next tick
+abbrev pub IsCounted : Lean → (ℕ → Bool) → Block → Type 0
+IsCounted l leader b =
+    (block_steps l.diverse l.land leader b ≤ l.most b.start)
+    × ((t : ℕ) → leads_on b.end (b.start + 4 * body_length b.body) t ≡ true → block_steps l.diverse l.land leader b + owed l t ≤ l.most b.start)
+
 abbrev pub AreCounted : Lean → (ℕ → Bool) → List Block → Type 0
 AreCounted l leader [] = Unit {0}
-AreCounted l leader (b ∷ bs) = (block_steps l.diverse l.land leader b ≤ l.most b.start) × AreCounted l leader bs
+AreCounted l leader (b ∷ bs) = IsCounted l leader b × AreCounted l leader bs
 
 -- the new code of g reads as the code of the blocks, and nothing else is code
 pub record LeanPlan (f g : Program) (w : World) (l : Lean) (blocks : List Block) : Type 0 where
@@ -98,6 +122,7 @@ pub record LeanPlan (f g : Program) (w : World) (l : Lean) (blocks : List Block)
   pub check : l.check ≡ g.entry + sum_of_sizes false (begin w.distance f.entry)
   pub good : AllBlocksOf w (weave_of w l (begins_at blocks)) (begins_at blocks) blocks
   pub begins : begins_at blocks f.entry ≡ true
+  pub ticked : l.ticks f.entry ≡ true
   pub order : InOrder (begins_at blocks) blocks
   pub only : OnlyCode f g w (worded w.form w.base w.entry l (begins_at blocks)) blocks
   pub counts : AreCounted l (begins_at blocks) blocks

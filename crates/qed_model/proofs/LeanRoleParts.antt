@@ -1,5 +1,5 @@
 -- The parts of one role hold all items of the lean form.
-use Rattle.std.proofs.Common.{◌≡◌, ℕ, ◌+◌, ◌*◌, ◌%◌, ◌^◌, Bool, false, cond, List, [], ◌∷◌, ◌++◌, length, drop, refl, sym, ap, ◌∙◌, append_assoc}
+use Rattle.std.proofs.Common.{◌≡◌, ℕ, ◌+◌, ◌*◌, ◌%◌, ◌^◌, Bool, true, false, cond, List, [], ◌∷◌, ◌++◌, length, drop, refl, sym, ap, ◌∙◌, append_assoc}
 use Rattle.std.specs.Prelude.{pos, neg_ℤ}
 use Rattle.std.proofs.lemmas.List.{append-nil}
 use Rattle.rv_isa.specs.declared.ins.Ins.{Ins}
@@ -100,7 +100,12 @@ module _ (form : Form) (base : ℕ) (entry : ℕ → ℕ) (l : Lean) (leader : �
   entry_joined b =
       let sign : List Item = cond l.land (check_sign b.start) [] in
       let t = tick (l.most b.start) (distance_between (entry b.start + call_at l.land) l.check) in
-      ap (λ k. Mark b.start ∷ (sign ++ (t ++ k))) (body_joined b) ∙ ap (λ k. Mark b.start ∷ k) (sym (append_assoc sign t (body_of code b.body b.end b.start)))
+      let ticked : List Item = cond (l.ticks b.start) t [] in
+      ap (λ k. Mark b.start ∷ (sign ++ k)) (maybe (l.ticks b.start) (role.Tick b.start) t (body_parts form l leader b) ∙ ap (λ k. ticked ++ k) (body_joined b))
+      ∙ ap (λ k. Mark b.start ∷ k) (sym (append_assoc sign ticked (body_of code b.body b.end b.start))) where
+        maybe : (b : Bool) (r : Role) (t : List Item) (rest : List (Role × List Item)) → joined (cond b ((r, t) ∷ []) [] ++ rest) ≡ cond b t [] ++ joined rest
+        maybe true r t rest = refl
+        maybe false r t rest = refl
 
   entries_joined : (bs : List Block) → joined (entries_parts form entry l leader bs) ≡ entries_of code bs
   entries_joined [] = refl

@@ -47,9 +47,11 @@ falls_small : (leader : ℕ → Bool) (a t : ℕ) → size (turn a t ++ fall_wor
 falls_small leader a t = omega (arith, size-append false (turn a t) (fall_words leader t), turn_small a t, cond_small false (leader t) [] (Go t ∷ []) 4 (omega arith) (omega arith))
 
 -- ---- the entries
-enter_small : (land : Bool) (a most : ℕ) (d : ℤ) → size (enter land a most d) ≤ 40
-enter_small true a most d = omega arith
-enter_small false a most d = omega arith
+enter_small : (land ticks : Bool) (a most : ℕ) (d : ℤ) → size (enter land ticks a most d) ≤ 40
+enter_small true true a most d = omega arith
+enter_small true false a most d = omega arith
+enter_small false true a most d = omega arith
+enter_small false false a most d = omega arith
 
 -- ---- the check, behind what runs first
 check_small : (base call every round : ℕ) (spans : List (ℕ × ℕ)) → round ≤ 1024 → length spans ≤ 67_108_864 → size (check base call every round spans) ≤ 1_374_389_559_600
@@ -106,7 +108,7 @@ module _ (f : ElfFile) (o : Options) (round : o.round ≤ 1024) (spans : length 
       let n = b.start + 4 * body_length b.body in
       let a = l.start_of b.end n in
       let d = distance_between (entry b.start + call_at l.land) l.check in
-      omega (arith, size-append false (s.enter b.start) (body_of s b.body b.end b.start), enter_small l.land b.start (l.most b.start) d, size-append false (pieces_of s b.body b.start) (s.leave b.end n), pieces_small b.body b.start, ends_small (before_end form) before_small leader a b.end n)
+      omega (arith, size-append false (s.enter b.start) (body_of s b.body b.end b.start), enter_small l.land (l.ticks b.start) b.start (l.most b.start) d, size-append false (pieces_of s b.body b.start) (s.leave b.end n), pieces_small b.body b.start, ends_small (before_end form) before_small leader a b.end n)
 
   entries_small : (bs : List Block) → size (entries_of s bs) ≤ 1_374_389_559_400 * weight bs
   entries_small [] = omega arith

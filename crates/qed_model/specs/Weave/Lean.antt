@@ -42,9 +42,9 @@ abbrev pub check_sign : ℕ → List Item
 check_sign a = Constant 30 a ∷ Plain (ins Sub 31 16 30 (pos 0)) ∷ Plain (ins Slli 31 31 0 (pos 32)) ∷ Plain (ins Beq 0 31 0 (pos 8)) ∷ fired_check ∷ []
 
 -- ---- the entry
--- of the block that begins at a: its tick, and with the option `land` a test of the signature before it
-abbrev pub enter : Bool → ℕ → ℕ → ℤ → List Item
-enter land a most d = cond land (check_sign a) [] ++ tick most d
+-- of the block that begins at a: its tick, where it has one, and with the option `land` a test of the signature before it
+abbrev pub enter : Bool → Bool → ℕ → ℕ → ℤ → List Item
+enter land ticks a most d = cond land (check_sign a) [] ++ cond ticks (tick most d) []
 
 -- how many bytes behind the entry the tick calls the check
 abbrev pub call_at : Bool → ℕ

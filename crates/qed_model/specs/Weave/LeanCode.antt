@@ -17,13 +17,15 @@ use Rattle.qed_model.specs.Weave.Places.{image_of, half_of, code_place}
 use Rattle.qed_model.specs.Weave.Sequences.{Form, Block, End, Falls, Stops, body_length, original, each_part, before_end}
 
 -- what it depends on besides its blocks and the form: what x15 counts from, the most instructions of a piece, whether its mirror parts are of other
--- kinds, whether entries test the signature, the address of the check, the steps that the tick of a block counts, and where a block begins that has such an end at an address
+-- kinds, whether entries test the signature, the address of the check, which blocks have a tick, the most steps from the entry of a block to the next tick, and
+-- where a block begins that has such an end at an address
 pub record Lean : Type 0 where
   pub every : ℕ
   pub inst_max : ℕ
   pub diverse : Bool
   pub land : Bool
   pub check : ℕ
+  pub ticks : ℕ → Bool
   pub most : ℕ → ℕ
   pub start_of : End → ℕ → ℕ
 
@@ -37,7 +39,7 @@ fall_to leader t = cond (leader t) (Mark t ∷ []) (Go t ∷ [])
 abbrev pub sequences : Form → (ℕ → ℕ) → Lean → (ℕ → List Item) → (ℕ → ℕ → List Item) → Sequences
 sequences form entry l fall first = record {
   first = first;
-  enter = λ a. enter l.land a (l.most a) (distance_between (entry a + call_at l.land) l.check);
+  enter = λ a. enter l.land (l.ticks a) a (l.most a) (distance_between (entry a + call_at l.land) l.check);
   piece = λ is at. each_part original is at ++ each_part (mirror_of l.diverse) is at;
   leave = λ e at. leave (before_end form) fall e (l.start_of e at) at;
 }
@@ -92,6 +94,7 @@ lean_of f o every blocks = record {
   diverse = o.diverse;
   land = o.land;
   check = code_place o.half (image_of f) + sum_of_sizes false (begin (half_of o.half (image_of f)) f.entry);
+  ticks = λ a. true;
   most = steps_at o.diverse o.land (begins_at blocks) blocks;
   start_of = start_at blocks;
 }

@@ -60,7 +60,7 @@ body_parts form l leader b = pieces_parts l b.body b.start ++ leave_parts form (
 abbrev pub entry_parts : Form → (ℕ → ℕ) → Lean → (ℕ → Bool) → Block → List (Role × List Item)
 entry_parts form entry l leader b =
     (role.Sign b.start, Mark b.start ∷ cond l.land (check_sign b.start) []) ∷
-    ((role.Tick b.start, tick (l.most b.start) (distance_between (entry b.start + call_at l.land) l.check)) ∷ body_parts form l leader b)
+    (cond (l.ticks b.start) ((role.Tick b.start, tick (l.most b.start) (distance_between (entry b.start + call_at l.land) l.check)) ∷ []) [] ++ body_parts form l leader b)
 
 abbrev pub entries_parts : Form → (ℕ → ℕ) → Lean → (ℕ → Bool) → List Block → List (Role × List Item)
 entries_parts form entry l leader [] = []
