@@ -13,7 +13,7 @@ start b = b.start
 
 -- some block at an address
 block_at : ℕ → Block
-block_at a = record { start = a; body = []; end = Falls }
+block_at a = record { start = a; body = []; end = Falls; reached = false }
 
 module _ (rows : List EntryRow) (blocks : List Block) (same : map input rows ≡ map start blocks) where
   as_many : length rows ≡ length blocks

@@ -44,15 +44,15 @@ admitted = code.admitted test 0x10000 all known refl defaults refl refl (omega a
 
 abbrev blocks : List Block
 blocks =
-    record { start = 0x10000; body = [] ∷ []; end = Stops jal }
-    ∷ record { start = 0x10004; body = (addi ∷ []) ∷ []; end = Stops ecall }
-    ∷ record { start = 0x10008; body = [] ∷ []; end = Stops ecall }
-    ∷ record { start = 0x1000c; body = [] ∷ []; end = Stops jalr }
+    record { start = 0x10000; body = [] ∷ []; end = Stops jal; reached = false }
+    ∷ record { start = 0x10004; body = (addi ∷ []) ∷ []; end = Stops ecall; reached = false }
+    ∷ record { start = 0x10008; body = [] ∷ []; end = Stops ecall; reached = false }
+    ∷ record { start = 0x1000c; body = [] ∷ []; end = Stops jalr; reached = false }
     ∷ []
 
 are_blocks : AreBlocks test defaults blocks
 are_blocks =
-    made.are_blocks test 0x10000 all known defaults refl refl blocks refl refl (
+    made.are_blocks test 0x10000 all known defaults refl refl blocks refl refl refl (
       inl (made.stopping test 0x10000 all known defaults refl refl [] [] jal (addi ∷ ecall ∷ jalr ∷ []) refl refl refl),
       (
         inl (made.stopping test 0x10000 all known defaults refl refl (jal ∷ []) ((addi ∷ []) ∷ []) ecall (jalr ∷ []) refl refl refl),

@@ -1,9 +1,10 @@
 -- The blocks of a known file whose instructions are known: which addresses are leaders, and that a list of blocks is all of them, from
 -- tests that are computed.
 use Rattle.std.proofs.Common.{◌≡◌, ◌⊎◌, inl, inr, ⊎_elim, ℕ, zero, suc, ◌+◌, ◌*◌, ◌<◌, ◌≤◌, Bool, true, false, ◌&&◌, ◌||◌, not, List, [], ◌∷◌, ◌++◌, length, Some, None, is_some, refl, sym, ap, ◌∙◌, subst, arith}
-use Rattle.std.specs.Prelude.{nat_le, nat_lt, ◌==◌}
-use Rattle.std.specs.List.{list_any}
+use Rattle.std.specs.Prelude.{nat_le, nat_lt, ◌==◌, All}
+use Rattle.std.specs.List.{list_all, list_any}
 use Rattle.std.proofs.lemmas.Bool.{and_parts, eqb-true, eq-eqb, leb-true, ltb-true, or_cases, false≢true, not-true, or_right}
+use Rattle.std.proofs.lemmas.List.Elements.{All-cons, All-nil}
 use Rattle.elf_types.specs.declared.file.ElfFile.{ElfFile}
 use Rattle.rv_isa.specs.declared.ins.Ins.{Ins}
 use Rattle.qed_model.specs.declared.options.Options.{Options}
@@ -15,7 +16,7 @@ use Rattle.qed_model.specs.Admission.CodeWords.{is_code, instruction_at}
 use Rattle.qed_model.specs.Admission.Leaders.{has_target, is_end, is_indirect, Begins, Entry, Target, After, Named, Reached, Even, IsLeader, HasIndirect}
 use Rattle.qed_model.specs.Weave.Sequences.{Block, End, Falls, Stops}
 use Rattle.qed_model.specs.Weave.Pieces.{is_run, Breaks, AreRuns, all_pieces, whole, ArePieces}
-use Rattle.qed_model.specs.Weave.Blocks.{IsBodyAt, StopsAt, IsLeaderBlock, IsOtherBlock, begins_at, AreBlocks}
+use Rattle.qed_model.specs.Weave.Blocks.{IsBodyAt, StopsAt, IsLeaderBlock, IsOtherBlock, IsMarked, begins_at, AreBlocks}
 use Rattle.qed_model.proofs.Pairs.{every_all, pairs_all}
 use Rattle.qed_model.specs.Members.{Pairs, Every}
 use Rattle.qed_model.proofs.ExampleCode.{StandFrom, IsCodeOf, IsAt, each_at, code_of, one_of, tested}
@@ -193,7 +194,7 @@ module _ (f : ElfFile) (from : ℕ) (code : List Ins) (known : IsCodeOf f from c
 
     block_of :
         (end : End) → is_block ≡ true → StopsAt f o end (length (whole runs)) stop
-        → IsLeaderBlock f o (record { start = start; body = all_pieces o.inst_max runs; end = end })
+        → IsLeaderBlock f o (record { start = start; body = all_pieces o.inst_max runs; end = end; reached = false })
     block_of end e stops =
         let p = and_parts (is_begun start) (no_end (whole runs) && is_closed start (whole runs)) e in
         let q = and_parts (no_end (whole runs)) (is_closed start (whole runs)) p.1 in
@@ -209,7 +210,7 @@ module _ (f : ElfFile) (from : ℕ) (code : List Ins) (known : IsCodeOf f from c
     -- one that stops at an end
     pub stopping :
         is_block && (is_end (class_of i.kind) && (length (whole runs) == 0 || not (is_begun stop))) ≡ true
-        → IsLeaderBlock f o (record { start = start; body = all_pieces o.inst_max runs; end = Stops i })
+        → IsLeaderBlock f o (record { start = start; body = all_pieces o.inst_max runs; end = Stops i; reached = false })
     stopping e =
         let p = and_parts is_block (is_end (class_of i.kind) && (length (whole runs) == 0 || not (is_begun stop))) e in
         let q = and_parts (is_end (class_of i.kind)) (length (whole runs) == 0 || not (is_begun stop)) p.1 in
@@ -219,7 +220,7 @@ module _ (f : ElfFile) (from : ℕ) (code : List Ins) (known : IsCodeOf f from c
     -- one that falls to the next leader
     pub falling :
         is_block && (nat_le 1 (length (whole runs)) && is_begun stop) ≡ true
-        → IsLeaderBlock f o (record { start = start; body = all_pieces o.inst_max runs; end = Falls })
+        → IsLeaderBlock f o (record { start = start; body = all_pieces o.inst_max runs; end = Falls; reached = false })
     falling e =
         let p = and_parts is_block (nat_le 1 (length (whole runs)) && is_begun stop) e in
         let q = and_parts (nat_le 1 (length (whole runs))) (is_begun stop) p.1 in
@@ -235,7 +236,7 @@ module _ (f : ElfFile) (from : ℕ) (code : List Ins) (known : IsCodeOf f from c
   pub other :
       (front : List Ins) (i : Ins) (rest : List Ins) → code ≡ front ++ i ∷ rest
       → has_indirect code && (is_end (class_of i.kind) && not (is_begun (from + 4 * length front))) ≡ true
-      → IsOtherBlock f o (record { start = from + 4 * length front; body = [] ∷ []; end = Stops i })
+      → IsOtherBlock f o (record { start = from + 4 * length front; body = [] ∷ []; end = Stops i; reached = false })
   other front i rest split e =
       let p = and_parts (has_indirect code) (is_end (class_of i.kind) && not (is_begun (from + 4 * length front))) e in
       let q = and_parts (is_end (class_of i.kind)) (not (is_begun (from + 4 * length front))) p.1 in
@@ -261,12 +262,22 @@ module _ (f : ElfFile) (from : ℕ) (code : List Ins) (known : IsCodeOf f from c
   abbrev pub is_served : List Block → ℕ → Bool
   is_served blocks a = begins_at blocks a || not (is_begun a || has_indirect code)
 
+  -- none is marked
+  none_marked : (blocks : List Block) → list_all (λ b. not b.reached) blocks ≡ true → All (IsMarked f o) blocks
+  none_marked [] e = All-nil (IsMarked f o)
+  none_marked (b ∷ bs) e =
+      let p = and_parts (not b.reached) (list_all (λ b. not b.reached) bs) e in
+      All-cons (IsMarked f o) b bs ((λ x. absurd (false≢true (sym (not-true b.reached p.0) ∙ x)), λ m. absurd (two_kinds (sym all ∙ m.0)))) (none_marked bs p.1) where
+        two_kinds : entries.All ≡ entries.Reached → ⊥
+        two_kinds e = absurd (cc)
+
   pub are_blocks :
-      (blocks : List Block) → do_ascend blocks ≡ true → each_at (λ a i. is_served blocks a) from code ≡ true
+      (blocks : List Block) → do_ascend blocks ≡ true → each_at (λ a i. is_served blocks a) from code ≡ true → list_all (λ b. not b.reached) blocks ≡ true
       → Every (λ b. IsLeaderBlock f o b ⊎ IsOtherBlock f o b) blocks → AreBlocks f o blocks
-  are_blocks blocks ascend served every = record {
+  are_blocks blocks ascend served unmarked every = record {
     ascend = pairs_all (λ (b c : Block). b.start < c.start) blocks (ascends blocks ascend);
     each = every_all (λ b. IsLeaderBlock f o b ⊎ IsOtherBlock f o b) blocks every;
+    marked = none_marked blocks unmarked;
     leaders = λ a l. by a l.code (ap (λ b. b || has_indirect code) (begun_of a l.begins));
     others = λ z h a e. by a e (or_right (is_begun a) (has_indirect code) (indirect_there h.0 h.1.instruction from code (one_of f from code known h.0 h.1.instruction h.1.stands) h.1.class));
   } where

@@ -24,7 +24,7 @@ decoded (w ∷ ws) (i ∷ is) small e =
 -- the first addresses of blocks ascend, and the marks are theirs
 pub ascending : (rows : List EntryRow) (blocks : List Block) → map (λ (r : EntryRow). r.input) rows ≡ map (λ b. b.start) blocks → AllPairs (λ (b c : Block). b.start < c.start) blocks → EntriesAscend rows
 ascending rows blocks same up i j d l m =
-    let e : Block = record { start = d.input; body = []; end = Falls } in
+    let e : Block = record { start = d.input; body = []; end = Falls; reached = false } in
     let many : length rows ≡ length blocks = sym (length-map rows (λ (r : EntryRow). r.input)) ∙ ap length same ∙ length-map blocks (λ (b : Block). b.start) in
     let at : (k : ℕ) → (get_or rows k d).input ≡ (get_or blocks k e).start =
     λ k. sym (get_or-map (λ (r : EntryRow). r.input) rows k d) ∙ ap (λ ns. get_or ns k d.input) same ∙ get_or-map (λ (b : Block). b.start) blocks k e in

@@ -78,6 +78,7 @@ module _ (w : World) (v : Weave) (leader : ℕ → Bool) where
       let here : EntryAt w v leader b.start = record {
         body = b.body;
         end = b.end;
+        reached = b.reached;
         reads = subst (λ q. Reads w.form.far w.code w.entry q (block_items v.code b)) (sym front.0) front;
         good = good.0;
       } in

@@ -47,8 +47,9 @@ pub record BlockOf (w : World) (v : Weave) (leader : ℕ → Bool) (b : Block) :
 pub record EntryAt (w : World) (v : Weave) (leader : ℕ → Bool) (a : ℕ) : Type 0 where
   pub body : List (List Ins)
   pub end : End
-  pub reads : Reads w.form.far w.code w.entry (w.entry a) (block_items v.code (record { start = a; body = body; end = end }))
-  pub good : BlockOf w v leader (record { start = a; body = body; end = end })
+  pub reached : Bool
+  pub reads : Reads w.form.far w.code w.entry (w.entry a) (block_items v.code (record { start = a; body = body; end = end; reached = reached }))
+  pub good : BlockOf w v leader (record { start = a; body = body; end = end; reached = reached })
 
 -- of each leader
 abbrev pub EntriesAt : World → Weave → (ℕ → Bool) → Type 0

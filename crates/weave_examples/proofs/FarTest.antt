@@ -121,7 +121,7 @@ admitted = code.admitted far_test 0x10000 far_code known refl far_options refl r
 -- ---- its blocks
 are : AreBlocks far_test far_options far_blocks
 are =
-    made.are_blocks far_test 0x10000 far_code known far_options refl refl far_blocks refl refl ((
+    made.are_blocks far_test 0x10000 far_code known far_options refl refl far_blocks refl refl refl ((
       inl (made.stopping far_test 0x10000 far_code known far_options refl refl [] ((lui_8 ∷ []) ∷ []) next (ld_5 ∷ next ∷ lui_9 ∷ next ∷ sd_5 ∷ next ∷ ld_6 ∷ next ∷ mul ∷ next ∷ sub ∷ next ∷ call ∷ ecall ∷ add ∷ jalr ∷ []) refl refl refl),
       (
         inr (made.other far_test 0x10000 far_code known far_options refl refl (lui_8 ∷ []) next (ld_5 ∷ next ∷ lui_9 ∷ next ∷ sd_5 ∷ next ∷ ld_6 ∷ next ∷ mul ∷ next ∷ sub ∷ next ∷ call ∷ ecall ∷ add ∷ jalr ∷ []) refl refl),

@@ -46,14 +46,14 @@ loop_swept_admitted = code.admitted loop 0x10000 loop_code loop_known refl swept
 -- ---- its blocks: the first falls to the target of the branch, and an ECALL stands behind it
 abbrev pub loop_blocks : List Block
 loop_blocks =
-    record { start = 0x10000; body = (two ∷ []) ∷ []; end = Falls }
-    ∷ record { start = 0x10004; body = (less ∷ []) ∷ []; end = Stops bne }
-    ∷ record { start = 0x1000c; body = [] ∷ []; end = Stops ecall }
+    record { start = 0x10000; body = (two ∷ []) ∷ []; end = Falls; reached = false }
+    ∷ record { start = 0x10004; body = (less ∷ []) ∷ []; end = Stops bne; reached = false }
+    ∷ record { start = 0x1000c; body = [] ∷ []; end = Stops ecall; reached = false }
     ∷ []
 
 pub loop_are : (sweep : Bool) → AreBlocks loop (options sweep) loop_blocks
 loop_are sweep =
-    made.are_blocks loop 0x10000 loop_code loop_known (options sweep) refl refl loop_blocks refl refl (
+    made.are_blocks loop 0x10000 loop_code loop_known (options sweep) refl refl loop_blocks refl refl refl (
       inl (made.falling loop 0x10000 loop_code loop_known (options sweep) refl refl [] ((two ∷ []) ∷ []) less (bne ∷ ecall ∷ []) refl refl refl),
       (
         inl (made.stopping loop 0x10000 loop_code loop_known (options sweep) refl refl (two ∷ []) ((less ∷ []) ∷ []) bne (ecall ∷ []) refl refl refl),

@@ -48,10 +48,10 @@ store_swept_admitted = code.admitted store 0x10000 store_code store_known refl s
 
 -- ---- its block: runs of 1, 2 and 1 instructions
 abbrev pub store_blocks : List Block
-store_blocks = record { start = 0x10000; body = (lui ∷ []) ∷ (ld ∷ add ∷ []) ∷ (sd ∷ []) ∷ []; end = Stops ecall } ∷ []
+store_blocks = record { start = 0x10000; body = (lui ∷ []) ∷ (ld ∷ add ∷ []) ∷ (sd ∷ []) ∷ []; end = Stops ecall; reached = false } ∷ []
 
 pub store_are : (sweep : Bool) → AreBlocks store (options sweep) store_blocks
-store_are sweep = made.are_blocks store 0x10000 store_code store_known (options sweep) refl refl store_blocks refl refl (inl (made.stopping store 0x10000 store_code store_known (options sweep) refl refl [] ((lui ∷ []) ∷ (ld ∷ add ∷ []) ∷ (sd ∷ []) ∷ []) ecall [] refl refl refl), tt)
+store_are sweep = made.are_blocks store 0x10000 store_code store_known (options sweep) refl refl store_blocks refl refl refl (inl (made.stopping store 0x10000 store_code store_known (options sweep) refl refl [] ((lui ∷ []) ∷ (ld ∷ add ∷ []) ∷ (sd ∷ []) ∷ []) ecall [] refl refl refl), tt)
 
 -- ---- what is told of its output
 abbrev pub store_plan : Plan

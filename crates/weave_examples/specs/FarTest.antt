@@ -125,10 +125,10 @@ far_code =
 
 -- a block of one instruction and the jump behind it, and one of an end alone
 abbrev one : ℕ → Ins → Ins → Block
-one a i e = record { start = a; body = (i ∷ []) ∷ []; end = Stops e }
+one a i e = record { start = a; body = (i ∷ []) ∷ []; end = Stops e; reached = false }
 
 abbrev bare : ℕ → Ins → Block
-bare a e = record { start = a; body = [] ∷ []; end = Stops e }
+bare a e = record { start = a; body = [] ∷ []; end = Stops e; reached = false }
 
 abbrev pub far_blocks : List Block
 far_blocks =

@@ -1,5 +1,5 @@
 -- The blocks of a file that was read, in ascending order: what list of blocks is woven (this project's profile).
-use Rattle.std.specs.Prelude.{◌≡◌, ◌⊎◌, ℕ, ◌+◌, ◌*◌, ◌<◌, ◌≤◌, ◌==◌, Bool, true, false, Some, List, [], ◌∷◌, length, All, AllPairs}
+use Rattle.std.specs.Prelude.{◌≡◌, ◌⊎◌, ◌↔◌, ℕ, ◌+◌, ◌*◌, ◌<◌, ◌≤◌, ◌==◌, Bool, true, false, Some, List, [], ◌∷◌, length, All, AllPairs}
 use Rattle.std.specs.List.{list_any}
 use Rattle.elf_types.specs.declared.file.ElfFile.{ElfFile}
 use Rattle.rv_isa.specs.declared.ins.Ins.{Ins}
@@ -9,6 +9,7 @@ use Rattle.qed_model.specs.declared.options.Entries.TheVariants as entries
 use Rattle.qed_model.specs.Weave.Sequences.{Block, End, Falls, Stops}
 use Rattle.qed_model.specs.Admission.CodeWords.{is_code, instruction_at}
 use Rattle.qed_model.specs.Admission.Leaders.{IsLeader, HasIndirect, is_end}
+use Rattle.qed_model.specs.Admission.Reached.{IsReached}
 use Rattle.qed_model.specs.Weave.Pieces.{ArePieces}
 
 -- ---- the block of a leader
@@ -51,9 +52,14 @@ pub record IsOtherBlock (f : ElfFile) (o : Options) (b : Block) : Type 0 where
 abbrev pub begins_at : List Block → ℕ → Bool
 begins_at blocks a = list_any (λ b. b.start == a) blocks
 
+-- marked are those to which a JALR may lead, where only such addresses have entries
+abbrev pub IsMarked : ElfFile → Options → Block → Type 0
+IsMarked f o b = (b.reached ≡ true) ↔ ((o.entries ≡ entries.Reached) × HasIndirect f × IsReached f o b.start)
+
 -- each leader has its block, where the code has a JALR and all have entries each code address has one, and there is no other
 pub record AreBlocks (f : ElfFile) (o : Options) (blocks : List Block) : Type 0 where
   pub ascend : AllPairs (λ b c. b.start < c.start) blocks
   pub each : All (λ b. IsLeaderBlock f o b ⊎ IsOtherBlock f o b) blocks
+  pub marked : All (IsMarked f o) blocks
   pub leaders : (a : ℕ) → IsLeader f o a → begins_at blocks a ≡ true
   pub others : o.entries ≡ entries.All → HasIndirect f → (a : ℕ) → is_code f a ≡ true → begins_at blocks a ≡ true

@@ -1,10 +1,15 @@
 -- The new code of a test in the lean form: its sequences, the steps that its ticks count, and its items (this project's profile).
-use Rattle.std.specs.Prelude.{ℕ, ◌+◌, ◌-◌, ◌*◌, Bool, true, false, cond, ◌==◌, ◌&&◌, List, [], ◌∷◌, ◌++◌}
+use Rattle.std.specs.Prelude.{ℕ, ◌+◌, ◌-◌, ◌*◌, ◌%◌, ◌^◌, Bool, true, false, cond, ◌==◌, ◌&&◌, ◌||◌, nat_lt, max, List, [], ◌∷◌, ◌++◌}
+use Rattle.std.specs.List.{list_any}
 use Rattle.elf_types.specs.declared.file.ElfFile.{ElfFile}
+use Rattle.rv_isa.specs.declared.class.Class.{Class}
+use Rattle.rv_isa.specs.declared.class.Class.TheVariants as class
 use Rattle.rv_isa.specs.declared.ins.Ins.{Ins}
+use Rattle.rv_isa.specs.Kind.{class_of}
 use Rattle.qed_model.specs.declared.item.Item.{Item}
 use Rattle.qed_model.specs.declared.item.Item.TheVariants.{Mark, Go}
 use Rattle.qed_model.specs.declared.options.Options.{Options}
+use Rattle.qed_model.specs.Machine.Step.{target}
 use Rattle.qed_model.specs.Weave.Blocks.{begins_at}
 use Rattle.qed_model.specs.Weave.Bounds.{cost_of, entry_steps}
 use Rattle.qed_model.specs.Weave.Code.{Sequences, code_of}
@@ -65,15 +70,87 @@ abbrev pub body_steps : Bool → List (List Ins) → ℕ
 body_steps diverse [] = 0
 body_steps diverse (p ∷ ps) = piece_steps diverse p + body_steps diverse ps
 
--- the steps that the tick of a block counts: those of its entry, of its pieces, and the most of its leave
+-- the most steps of a block: those of its entry, of its pieces, and the most of its leave
 abbrev pub block_steps : Bool → Bool → (ℕ → Bool) → Block → ℕ
 block_steps diverse land leader b = entry_steps land + (body_steps diverse b.body + leave_cost (fall_to leader) b.end b.start (b.start + 4 * body_length b.body))
 
+-- ---- where a block goes on, but by a jump by register
+abbrev pub leads_as : Class → Ins → ℕ → ℕ → Bool
+leads_as class.Jump i at t = target i at == t
+leads_as class.Branch i at t = (target i at == t) || ((at + 4) % 2 ^ 64 == t)
+leads_as _ i at t = false
+
+abbrev pub leads_on : End → ℕ → ℕ → Bool
+leads_on Falls at t = at == t
+leads_on (Stops i) at t = leads_as (class_of i.kind) i at t
+
+-- one of these blocks does at an address
+abbrev pub leads_in : List Block → ℕ → Bool
+leads_in bs t = list_any (λ b. leads_on b.end (b.start + 4 * body_length b.body) t) bs
+
+-- ---- ticks
+-- of a block: where it begins, whether it has a tick, and the most steps from its entry to the next tick
+pub record TickRow : Type 0 where
+  pub start : ℕ
+  pub ticks : Bool
+  pub most : ℕ
+
+-- of the block that begins at an address
+abbrev pub has_tick : List TickRow → ℕ → Bool
+has_tick [] a = true
+has_tick (r ∷ rs) a = cond (r.start == a) r.ticks (has_tick rs a)
+
+abbrev pub most_at : List TickRow → ℕ → ℕ
+most_at [] a = 0
+most_at (r ∷ rs) a = cond (r.start == a) r.most (most_at rs a)
+
+-- the steps behind an entry that the tick before it has to count: none, where it has its own
+abbrev pub owed_at : List TickRow → ℕ → ℕ
+owed_at rs t = cond (has_tick rs t) 0 (most_at rs t)
+
+-- the most behind an end
+abbrev pub owed_as : List TickRow → Class → Ins → ℕ → ℕ
+owed_as rs class.Jump i at = owed_at rs (target i at)
+owed_as rs class.Branch i at = max (owed_at rs (target i at)) (owed_at rs ((at + 4) % 2 ^ 64))
+owed_as rs _ i at = 0
+
+abbrev pub owed_behind : List TickRow → End → ℕ → ℕ
+owed_behind rs Falls at = owed_at rs at
+owed_behind rs (Stops i) at = owed_as rs (class_of i.kind) i at
+
+-- what the rows depend on besides the blocks: what the steps do, which addresses begin a block, the entry of the test, and how many steps may be left to
+-- the tick before
+pub record Counting : Type 0 where
+  pub diverse : Bool
+  pub land : Bool
+  pub leader : ℕ → Bool
+  pub entry : ℕ
+  pub room : ℕ
+
+-- a block to which a jump by register may lead has a tick, so has the first of the test, one to which a block from there on leads, and one behind which too many
+-- steps are
+abbrev pub needs_tick : Counting → Block → Bool → ℕ → Bool
+needs_tick c b behind most = b.reached || ((b.start == c.entry) || (behind || nat_lt c.room most))
+
+abbrev pub tick_row : Counting → Block → Bool → ℕ → TickRow
+tick_row c b behind most = record { start = b.start; ticks = needs_tick c b behind most; most = most }
+
+-- of blocks in ascending order
+abbrev pub tick_rows : Counting → List Block → List TickRow
+tick_rows c [] = []
+tick_rows c (b ∷ bs) =
+    tick_row c b (leads_in (b ∷ bs) b.start) (block_steps c.diverse c.land c.leader b + owed_behind (tick_rows c bs) b.end (b.start + 4 * body_length b.body)) ∷ tick_rows c bs
+
 -- ---- of a file
--- the steps of the block that begins at an address
-abbrev pub steps_at : Bool → Bool → (ℕ → Bool) → List Block → ℕ → ℕ
-steps_at diverse land leader [] a = 0
-steps_at diverse land leader (b ∷ bs) a = cond (b.start == a) (block_steps diverse land leader b) (steps_at diverse land leader bs a)
+-- its blocks have fewer steps each than there are from check to check, and what is left is for those behind
+abbrev pub counting_of : Options → ℕ → ℕ → List Block → Counting
+counting_of o entry every blocks = record {
+  diverse = o.diverse;
+  land = o.land;
+  leader = begins_at blocks;
+  entry = entry;
+  room = every - (entry_steps o.land + 20 + cost_of o.diverse * o.inst_max);
+}
 
 -- two ends fall, or neither does
 abbrev pub is_alike : End → End → Bool
@@ -94,8 +171,8 @@ lean_of f o every blocks = record {
   diverse = o.diverse;
   land = o.land;
   check = code_place o.half (image_of f) + sum_of_sizes false (begin (half_of o.half (image_of f)) f.entry);
-  ticks = λ a. true;
-  most = steps_at o.diverse o.land (begins_at blocks) blocks;
+  ticks = has_tick (tick_rows (counting_of o f.entry every blocks) blocks);
+  most = most_at (tick_rows (counting_of o f.entry every blocks) blocks);
   start_of = start_at blocks;
 }
 

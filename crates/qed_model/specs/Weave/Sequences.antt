@@ -179,11 +179,12 @@ leave form Falls at = go_on at
 leave form (Stops i) at = leave_as form (class_of i.kind) i at
 
 -- ---- blocks
--- a block: its first input address, the pieces of its body, and its end
+-- a block: its first input address, the pieces of its body, its end, and whether it is marked as one to which a jump by register may lead
 pub record Block : Type 0 where
   pub start : ℕ
   pub body : List (List Ins)
   pub end : End
+  pub reached : Bool
 
 -- the number of instructions of pieces
 abbrev pub body_length : List (List Ins) → ℕ
