@@ -11,7 +11,7 @@ end_of (Some i) = Stops i
 
 -- its body is divided into its pieces
 abbrev pub block_of : CodeBlock → Block
-block_of b = record { start = b.start; body = divided b.lengths b.body; end = end_of b.end }
+block_of b = record { start = b.start; body = divided b.lengths b.body; end = end_of b.end; reached = b.reached }
 
 -- the pieces make up the body, and the address behind it is at most `top`
 pub record IsWithin (top : ℕ) (b : CodeBlock) : Type 0 where

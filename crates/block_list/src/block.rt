@@ -20,6 +20,8 @@ pub struct CodeBlock {
     pub lengths: Lengths,
     /// The instruction that ends the block, behind the body. None where the block falls to the address there.
     pub end: Option<Ins>,
+    /// Whether a JALR of the test may lead to its first instruction, where only such addresses have entries; else false.
+    pub reached: bool,
 }
 
 /// Blocks in ascending order of their first addresses.
