@@ -2,6 +2,7 @@
 use Rattle.std.proofs.Common.{◌≡◌, ℕ, ◌+◌, ◌*◌, ◌%◌, ◌^◌, ◌<◌, ◌≤◌, Bool, true, false, List, [], ◌∷◌, ◌++◌, length, Some, refl, sym, ap, ◌∙◌, subst, arith, append_assoc, ◌-◌, inl, inr}
 use Rattle.std.specs.Prelude.{map, All, pos, unwrap_or, Option, None, if◌then◌else◌}
 use Rattle.std.proofs.lemmas.Bool.{and_from, eq-eqb, false≢true}
+use Rattle.std.proofs.Math.Nat.{min-le_left}
 use Rattle.elf_types.specs.declared.file.ElfFile.{ElfFile}
 use Rattle.rv_isa.specs.declared.ins.Ins.{Ins}
 use Rattle.qed_model.specs.declared.item.Item.{Item}
@@ -18,6 +19,7 @@ use Rattle.qed_model.specs.Machine.Loading.{loaded_file}
 use Rattle.qed_model.specs.Machine.Program.{Program}
 use Rattle.qed_model.specs.Machine.Step.{Known, known_or}
 use Rattle.qed_model.specs.Members.{Among}
+use Rattle.qed_model.specs.Weave.Bounds.{cost_of, entry_steps}
 use Rattle.qed_model.specs.Weave.Blocks.{StopsAt, IsBodyAt, IsLeaderBlock, begins_at}
 use Rattle.qed_model.specs.Weave.Code.{Sequences, AreUnmarked, entries_of, code_of, NoMarks, pieces_of, body_of, block_items}
 use Rattle.qed_model.specs.Weave.OutputParts.{base_of}
@@ -128,7 +130,8 @@ module _ (f : ElfFile) (o : Options) (every : ℕ) (blocks : List Block) (t : Ar
   few_ahead a =
       let own = own_few f o every t.sound t.lean in
       let most = few_most counting (own_most f o every t.sound t.lean) blocks (λ b m. short f o every t.sound t.lean blocks t.are grain b m) a in
-      omega (arith, own, most)
+      let room = min-le_left (every - (entry_steps o.land + 20 + cost_of o.diverse * o.inst_max)) 48 in
+      omega (arith, own, most, room)
 
   -- ---- where the entries are
   abbrev first : List Item
