@@ -44,6 +44,14 @@ found (r ∷ rs) zero d h = by (r.input == r.input) refl where
   by false e = absurd (grind (arith, nat_tests, e))
 found (r ∷ rs) (suc k) d h = found rs k d (omega (arith, h))
 
+-- the entry at any place is that of its address
+pub found_at : (rows : List EntryRow) (k : ℕ) (d : EntryRow) → EntriesAscend rows → k < length rows → entry_at rows (slice_index_or rows k d).input ≡ Some (slice_index_or rows k d).output
+found_at [] k d up h = absurd (omega (arith, h))
+found_at (r ∷ rs) zero d up h = found (r ∷ rs) zero d h
+found_at (r ∷ rs) (suc k) d up h =
+    passed r rs (slice_index_or rs k d).input (λ e. omega (arith, e, further r rs k d up (omega (arith, h))))
+    ∙ found_at rs k d (rest r rs up) (omega (arith, h))
+
 -- or there is none
 pub missed : (rows : List EntryRow) (a k : ℕ) (d : EntryRow) → EntriesAscend rows → k < length rows → a < (slice_index_or rows k d).input → entry_at (drop k rows) a ≡ None
 missed [] a k d up h more = absurd (omega (arith, h))

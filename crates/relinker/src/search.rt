@@ -1,5 +1,5 @@
-//! Entries are found by their input addresses, which ascend.
-ghost use Rattle.std.specs.Prelude.{◌≡◌, ◌<◌, ◌≤◌, length, drop, slice_index_or};
+//! Entries are found by their input addresses, which ascend: at the place where an address is if all have entries, else by halves.
+ghost use Rattle.std.specs.Prelude.{◌≡◌, ◌<◌, ◌≤◌, length, drop, slice_index_or, Some, IfSome};
 ghost use Rattle.qed_model.specs.declared.plan.EntryRow.{EntryRow};
 ghost use Rattle.qed_model.specs.Weave.Placed.{entry_at, leads_to, EntriesAscend};
 
@@ -25,12 +25,34 @@ fn below(rows: &[EntryRow], address: u64) -> usize
     low
 }
 
+/// The entry of an input address, where each word from the first on up to it has one, as all have where any may be jumped to.
+#[tactic(auto, using(crate::proofs::Rows::found_at))]
+fn guessed(rows: &[EntryRow], address: u64) -> Option<u64>
+    requires { EntriesAscend rows.now }
+    ensures { IfSome result (λ place. entry_at rows.now address ≡ Some place) }
+{
+    if rows.is_empty() {
+        return None;
+    }
+    let at = (address.wrapping_sub(rows[0].input) / 4) as usize;
+    if at >= rows.len() {
+        return None;
+    }
+    if rows[at].input != address {
+        return None;
+    }
+    Some(rows[at].output)
+}
+
 /// The entry of an input address.
 #[tactic(auto, using(crate::proofs::Rows::found, crate::proofs::Rows::missed))]
 pub fn place_of(rows: &[EntryRow], address: u64) -> Option<u64>
     requires { EntriesAscend rows.now }
     ensures { result ≡ entry_at rows.now address }
 {
+    if let Some(place) = guessed(rows, address) {
+        return Some(place);
+    }
     let at = below(rows, address);
     if at >= rows.len() {
         return None;

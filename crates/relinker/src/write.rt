@@ -67,6 +67,7 @@ fn far_jump(distance: i64) -> (Ins, Ins)
 }
 
 /// The word of an instruction that has one.
+#[inline(always)]
 fn word(ins: &Ins) -> u32
     requires { is_encoded ins.now ≡ true }
     ensures decode { decode_of result ≡ Some ins.now }
@@ -113,6 +114,7 @@ fn put_two(words: &mut Vec<u32>, pair: (Ins, Ins))
 }
 
 /// Appends the words of an item that stands at an address, and tells how many bytes they take. There is room for them.
+#[inline(always)]
 fn put_item(
     words: &mut Vec<u32>,
     rows: &[EntryRow],

@@ -31,6 +31,7 @@ pub enum Format {
 
 impl Format {
     /// The instruction of a kind with the fields that a word has in this format.
+    #[inline(always)]
     pub fn ins(self, kind: Kind, word: u32) -> Ins
         ensures { result ≡ ins_of (format_of self) kind word }
     {

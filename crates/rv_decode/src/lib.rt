@@ -23,6 +23,7 @@ use table::TABLE;
 /// whose low 12 bits are 0.
 ///
 /// The zero word is `Illegal`. None where the word is in no row of RV64I or of the M extension.
+#[inline(always)]
 pub fn decode(word: u32) -> Option<Ins>
     ensures instruction { result ≡ decode_of word }
 

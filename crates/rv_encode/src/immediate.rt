@@ -10,7 +10,7 @@ pub fn fits_signed(width: u32, imm: i64) -> bool
     ensures { result ≡ fits_signed_of width imm }
 {
     let half = 1i64 << (width - 1);
-    if imm < 0 { -half <= imm } else { imm < half }
+    -half <= imm && imm < half
 }
 
 /// Whether this is a number of so many bits, without a sign.

@@ -233,6 +233,7 @@ impl Hart {
     }
 
     /// Puts the instruction at the pc into the table, where the window has it.
+    #[inline(never)]
     fn learn_next(&mut self, window: &Window, table: &mut Table)
         requires { HasWords window.now }
         ensures table { (s : State) → IsTable s table.old → IsWindow s window.now → IsTable s table.new }
