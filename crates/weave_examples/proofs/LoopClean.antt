@@ -19,7 +19,7 @@ use Rattle.qed_model.specs.Promise.Kept.{after_output, any_address}
 use Rattle.qed_model.specs.Weave.Placed.{placed}
 use Rattle.qed_model.specs.Weave.Woven.{woven_file, new_items}
 use Rattle.qed_model.proofs.ExampleCode.{swept, sound}
-use Rattle.weave_examples.proofs.LoopFile.{loop, loop_sound}
+use Rattle.weave_examples.proofs.KnownFiles.{loop, loop_sound}
 use Rattle.weave_examples.proofs.LoopExample.{loop_swept_admitted, loop_blocks, loop_are}
 use Rattle.qed_model.proofs.Walk.{run-more}
 use Rattle.qed_model.proofs.Steady.{steady_any}

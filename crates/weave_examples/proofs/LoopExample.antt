@@ -14,7 +14,7 @@ use Rattle.qed_model.specs.Weave.Woven.{compared, IsToldOf}
 use Rattle.qed_model.proofs.ExampleCode as code
 use Rattle.qed_model.proofs.ExampleBlocks as made
 use Rattle.qed_model.proofs.ExampleCode.{IsCodeOf, options, defaults, swept}
-use Rattle.weave_examples.proofs.LoopFile.{loop}
+use Rattle.weave_examples.proofs.KnownFiles.{loop}
 
 -- ---- its instructions
 abbrev two : Ins

@@ -13,7 +13,7 @@ use Rattle.qed_model.specs.Weave.Placed.{placed}
 use Rattle.qed_model.specs.Weave.Woven.{woven_file, new_items}
 use Rattle.qed_model.proofs.ExampleCode.{defaults, sound}
 use Rattle.qed_model.proofs.Fetches.{IsShapely}
-use Rattle.weave_examples.proofs.LoopFile.{loop, loop_sound}
+use Rattle.weave_examples.proofs.KnownFiles.{loop, loop_sound}
 use Rattle.weave_examples.proofs.LoopExample.{loop_plan, loop_told, loop_code, loop_known, loop_admitted, loop_blocks, loop_are}
 use Rattle.qed_model.specs.Elf.Sound.{AreLoads}
 use Rattle.qed_model.proofs.Walk.{run-more}

@@ -29,7 +29,7 @@ use Rattle.qed_model.proofs.Steady.{steady_any}
 use Rattle.qed_model.proofs.OneTest.{any_reached}
 use Rattle.weave_core.proofs.Trace.{run-ended}
 use Rattle.lockstep.proofs.Tests.{tests_caught, tests_clean}
-use Rattle.weave_examples.proofs.StoreFile.{store, store_sound}
+use Rattle.weave_examples.proofs.KnownFiles.{store, store_sound}
 use Rattle.weave_examples.proofs.StoreExample.{store_code, store_known, store_admitted, lui, ld, add, sd, ecall, store_plan, store_told, store_blocks}
 use Rattle.weave_examples.proofs.ListedRuns.{has_code, are_zeros}
 use Rattle.weave_examples.proofs.StoreKept.{store_input, store_words, swept_words, store_output, swept_output}
