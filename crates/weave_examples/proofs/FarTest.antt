@@ -1,13 +1,11 @@
 -- All premises of the promises are met by a known test, and its numbers.
 use Rattle.std.proofs.Common.{◌≡◌, ℕ, zero, suc, ◌+◌, ◌*◌, Bool, List, [], ◌∷◌, ◌++◌, length, take, drop, arith, ◌<◌, inl, inr, true, false, refl, ap, ◌∙◌, sym}
 use Rattle.std.specs.Prelude.{nat_lt, slice_index}
-use Rattle.elf_types.specs.declared.file.ElfFile.{ElfFile}
-use Rattle.rv_isa.specs.declared.ins.Ins.{Ins}
-use Rattle.qed_model.specs.declared.item.Item.{Item}
-use Rattle.qed_model.specs.declared.options.Options.{Options}
 use Rattle.qed_model.specs.Admission.DataRanges.{data_ranges}
 use Rattle.qed_model.specs.Weave.Places.{image_of, half_of, AreSoundOptions}
 use Rattle.qed_model.specs.Weave.Placed.{sum_of_sizes}
+use Rattle.qed_model.specs.declared.options.Options.{Options}
+use Rattle.qed_model.specs.declared.item.Item.{Item}
 use Rattle.qed_model.specs.Weave.Sequences.{Form, Block, original, each_part, compare, visit, visit_word, times, piece, enter, leave, body_length, prologue, stub}
 use Rattle.qed_model.specs.Weave.Code.{block_items, entries_of, pieces_of, sequences}
 use Rattle.qed_model.specs.Weave.Woven.{items_in, is_far_code, code_size, compared, IsToldOf}
@@ -15,9 +13,9 @@ use Rattle.qed_model.specs.Weave.Forms.{form_of, shape_of}
 use Rattle.qed_model.proofs.PlacedWords.{size-append}
 use Rattle.qed_model.specs.declared.limits.TheConstants.{MAX_NEAR_CODE_BYTES}
 use Rattle.qed_model.specs.Machine.Cells.{number_among}
-use Rattle.qed_model.specs.Machine.Table.{ins_of, decode_of}
+use Rattle.qed_model.specs.Machine.Table.{Ins, ins_of, decode_of}
 use Rattle.qed_model.specs.Admission.Refusals.{IsAdmitted}
-use Rattle.qed_model.specs.Weave.Blocks.{AreBlocks}
+use Rattle.qed_model.specs.Weave.Blocks.{ElfFile, AreBlocks}
 use Rattle.qed_model.specs.Weave.Bounds.{bounds_of}
 use Rattle.qed_model.proofs.ExampleBlocks as made
 use Rattle.qed_model.proofs.ExampleCode as code

@@ -1,13 +1,13 @@
 -- The promises on changes hold of a known file, a test with a data word: all of their premises are met.
 use Rattle.std.proofs.Common.{◌≡◌, ℕ, zero, suc, ◌+◌, ◌-◌, ◌%◌, ◌≤◌, Bool, true, cond, ◌&&◌, [], ◌∷◌, Option, refl, sym, ap, ◌∙◌, arith, inl, List, Some}
 use Rattle.std.specs.Prelude.{◌==◌}
-use Rattle.qed_model.specs.declared.machine.Outcome.{Outcome}
-use Rattle.qed_model.specs.declared.machine.Outcome.TheVariants.{Going, Ended}
 use Rattle.qed_model.specs.declared.machine.Cause.TheVariants as cause
 use Rattle.qed_model.specs.Machine.Cells.{cell_among, number_among}
 use Rattle.qed_model.specs.Machine.Loading.{load_segments}
 use Rattle.qed_model.specs.Machine.Memory.{Flags, Cell, Memory, wrap, allows, number, grants, put}
 use Rattle.qed_model.specs.Machine.Program.{memory_of, start, zeros}
+use Rattle.qed_model.specs.declared.machine.Outcome.{Outcome}
+use Rattle.qed_model.specs.declared.machine.Outcome.TheVariants.{Going, Ended}
 use Rattle.qed_model.specs.Machine.Step.{State, Refused, HasAt, known_or, in_range, fetched_at, trapped, execute, computed_value, step, run}
 use Rattle.qed_model.specs.Machine.Table.{decode_of}
 use Rattle.qed_model.specs.Machine.Values.{value, loaded}
