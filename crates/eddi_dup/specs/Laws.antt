@@ -2,8 +2,7 @@
 use Rattle.std.proofs.Common.{◌≡◌, ℕ, Bool, true, false, cond, [], ◌∷◌, refl, arith}
 use Rattle.std.specs.Prelude.{pos}
 use Rattle.rv_isa.specs.declared.class.Class.TheVariants as class
-use Rattle.qed_model.specs.Machine.Table.{Add, Ins, ins}
-use Rattle.qed_model.specs.Machine.Step.{class_of, Class, target}
+use Rattle.qed_model.specs.Machine.Step.{Add, Ins, ins, class_of, Class, target}
 use Rattle.qed_model.specs.declared.item.Item.TheVariants.{Plain, Constant}
 use Rattle.qed_model.specs.Weave.Sequences.{pair, renamed, is_auipc, mirrored, mirror_as, compare}
 use Rattle.weave_core.specs.Blocks.{IsBody as InBody, FitsPiece}

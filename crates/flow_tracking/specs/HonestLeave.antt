@@ -2,8 +2,7 @@
 use Rattle.std.proofs.Common.{◌≡◌, ℕ, ◌+◌, ◌%◌, ◌^◌, ◌≤◌, Bool, true, false, cond, List, [], ◌∷◌, ◌++◌, refl, sym, subst, arith}
 use Rattle.std.specs.Prelude.{◌==◌, pos, neg_ℤ}
 use Rattle.rv_isa.specs.declared.class.Class.TheVariants as class
-use Rattle.qed_model.specs.Machine.Table.{Ins, Addi, Andi, Add, Auipc, Jal, Jalr, Lw, ins}
-use Rattle.qed_model.specs.Machine.Step.{class_of, Class, imm, target}
+use Rattle.qed_model.specs.Machine.Step.{Ins, Addi, Andi, Add, Auipc, Jal, Jalr, Lw, ins, class_of, Class, imm, target}
 use Rattle.qed_model.specs.Weave.Placed.{distance_between, upper_part, lower_part, go_size}
 use Rattle.qed_model.specs.declared.item.Item.{Item}
 use Rattle.qed_model.specs.declared.item.Item.TheVariants.{Plain, Constant, Go}

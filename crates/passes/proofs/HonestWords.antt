@@ -3,8 +3,7 @@ use Rattle.std.proofs.Common.{◌≡◌, ℕ, ◌+◌, ◌*◌, ◌%◌, ◌^◌
 use Rattle.std.specs.Prelude.{◌==◌, pos}
 use Rattle.std.proofs.lemmas.Bool.{eqb-false}
 use Rattle.rv_isa.specs.declared.class.Class.TheVariants as class
-use Rattle.qed_model.specs.Machine.Table.{Ins, Addi, Auipc, Beq, Jal, Jalr, ins}
-use Rattle.qed_model.specs.Machine.Step.{class_of, Class, Fetched, Known, HasAt, imm, ebreak}
+use Rattle.qed_model.specs.Machine.Step.{Ins, Addi, Auipc, Beq, Jal, Jalr, ins, class_of, Class, Fetched, Known, HasAt, imm, ebreak}
 use Rattle.qed_model.specs.Weave.Placed.{distance_between, upper_part, lower_part, go_words, instructions_from}
 use Rattle.qed_model.specs.declared.item.Item.{Item}
 use Rattle.qed_model.specs.declared.item.Item.TheVariants.{Plain, Constant, Go}

@@ -5,8 +5,7 @@ use Rattle.std.proofs.lemmas.List.{append-nil}
 use Rattle.rv_isa.specs.declared.class.Class.TheVariants as class
 use Rattle.qed_model.specs.declared.role.Role.{Role}
 use Rattle.qed_model.specs.declared.role.Role.TheVariants as role
-use Rattle.qed_model.specs.Machine.Step.{class_of, Class, target}
-use Rattle.qed_model.specs.Machine.Table.{Addi, Andi, Add, Sub, Ins, ins}
+use Rattle.qed_model.specs.Machine.Step.{Addi, Andi, Add, Sub, Ins, ins, class_of, Class, target}
 use Rattle.qed_model.specs.Weave.Blocks.{Options, ElfFile, begins_at}
 use Rattle.qed_model.specs.Weave.Code.{Sequences, pieces_of, body_of, block_items, entries_of, code_of}
 use Rattle.qed_model.specs.Weave.Forms.{mirror_of, form_of}

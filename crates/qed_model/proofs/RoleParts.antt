@@ -6,8 +6,7 @@ use Rattle.std.proofs.Math.Seq.{take-append_seam}
 use Rattle.rv_isa.specs.declared.class.Class.TheVariants as class
 use Rattle.qed_model.specs.declared.role.Role.{Role}
 use Rattle.qed_model.specs.declared.role.Role.TheVariants as role
-use Rattle.qed_model.specs.Machine.Table.{Addi, Andi, Add, Jal, Jalr, Lw, Ins, ins}
-use Rattle.qed_model.specs.Machine.Step.{class_of, Class, target}
+use Rattle.qed_model.specs.Machine.Step.{Addi, Andi, Add, Jal, Jalr, Lw, Ins, ins, class_of, Class, target}
 use Rattle.qed_model.specs.Weave.Places.{Options, ElfFile, image_of, half_of}
 use Rattle.qed_model.specs.Weave.Placed.{go_size}
 use Rattle.qed_model.specs.Weave.Roles.{joined, guard_parts, compare_parts, originals, original_as_parts, original_parts, mirror_parts, each_parts, last_of, check_parts, piece_parts, pieces_parts, end_parts, way_parts, leave_as_parts, leave_parts, entry_parts, entries_parts, parts_with, new_parts}

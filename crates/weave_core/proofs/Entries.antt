@@ -1,10 +1,9 @@
 -- Where the items of a weave stand: the input's first state, and the entries of a plan.
 use Rattle.std.proofs.Common.{◌≡◌, ℕ, ◌+◌, ◌<◌, ⊎_elim, Bool, true, false, List, [], ◌∷◌, ◌++◌, refl, sym, ap, subst, arith, is_some, Option, Some, None, length, suc, ◌*◌, length-append}
 use Rattle.std.specs.Prelude.{◌==◌}
-use Rattle.std.specs.FinMap.{get}
 use Rattle.std.proofs.lemmas.Bool.{eqb-true, false≢true, or_cases}
 use Rattle.std.proofs.lemmas.List.{append_assoc, length-set}
-use Rattle.qed_model.specs.Machine.Memory.{Memory, Cell, flags_at, byte_at, byte_in}
+use Rattle.qed_model.specs.Machine.Memory.{get, Memory, Cell, flags_at, byte_at, byte_in}
 use Rattle.qed_model.specs.Machine.Step.{Fetched}
 use Rattle.qed_model.specs.Machine.Program.{Program, start, zeros}
 use Rattle.qed_model.specs.Weave.Placed.{go_size, instructions_from, go_words}

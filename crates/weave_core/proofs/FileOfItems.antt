@@ -3,11 +3,10 @@
 use Rattle.std.proofs.Common.{◌≡◌, ℕ, ◌+◌, ◌%◌, ◌^◌, ◌≤◌, ⊎_elim, Bool, true, false, cond, List, [], ◌∷◌, refl, arith, ◌⊎◌, inr, ◌-◌, ◌*◌, ◌<◌, ◌++◌, length, map, Option, Some, None, sym, ap, ◌∙◌, subst}
 use Rattle.std.proofs.lemmas.Bool.{false≢true, and_parts, or_cases, leb-true, eqb-true}
 use Rattle.std.specs.Prelude.{◌==◌, ◌&&◌, nat_le, All, slice_index, unwrap_or, IfSome}
-use Rattle.std.specs.FinMap.{get}
 use Rattle.std.proofs.lemmas.List.{length-map}
 use Rattle.std.proofs.lemmas.List.Elements.{All-head, All-tail}
 use Rattle.qed_model.specs.Machine.Table.{Lw, Ins, decode_of}
-use Rattle.qed_model.specs.Machine.Memory.{Memory, grants, number, allows, byte_in, byte_at, wrap}
+use Rattle.qed_model.specs.Machine.Memory.{get, Memory, grants, number, allows, byte_in, byte_at, wrap}
 use Rattle.qed_model.specs.Machine.Step.{in_range, Fetched, Refused, Known, known_or, fetched_at, HasAt}
 use Rattle.qed_model.specs.Machine.Program.{Program, memory_of, LoadSegment}
 use Rattle.qed_model.specs.declared.options.Options.{Options}

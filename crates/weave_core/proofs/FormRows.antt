@@ -6,7 +6,7 @@ use Rattle.std.proofs.lemmas.List.{append-nil, take-append-drop, length-take-le}
 use Rattle.std.proofs.Math.Nat.{mul-le-mul, mul-le-mul_left}
 use Rattle.rv_isa.specs.declared.class.Class.TheVariants as class
 use Rattle.qed_model.specs.Machine.Values.{holds}
-use Rattle.qed_model.specs.Machine.Step.{set_reg, class_of, Class, State, reg, moved, stopped, Known, HasAt, step, run, jumped, imm, next_pc}
+use Rattle.qed_model.specs.Machine.Step.{Beq, Auipc, Ins, ins, set_reg, class_of, Class, State, reg, moved, stopped, Known, HasAt, step, run, jumped, imm, next_pc}
 use Rattle.qed_model.specs.Machine.Program.{Program}
 use Rattle.qed_model.specs.Promise.Kept.{NotTrapped, LeadsToReached, IsSteady, Kept}
 use Rattle.qed_model.specs.Weave.Pieces.{is_run}
@@ -44,7 +44,6 @@ use Rattle.weave_core.specs.WeaveForms.{is_signed_at, weave_with, weave_of, Chec
 use Rattle.qed_model.specs.Weave.Costs.{spent, cost_each, used, bare_cost, original_cost}
 use Rattle.weave_core.proofs.Values.{WeaveIn, kept, weave_kept}
 use Rattle.rv_isa.proofs.RegsLaws.{slice_index-set_reg_other, slice_index-set_reg_same}
-use Rattle.qed_model.specs.Machine.Table.{Beq, Auipc, Ins, ins}
 use Rattle.qed_model.specs.Machine.Walks.{Over}
 use Rattle.weave_core.proofs.Landings.{landed, weave_landed}
 

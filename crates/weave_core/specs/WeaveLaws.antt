@@ -1,8 +1,7 @@
 -- The laws of a weave: all that the inductions over the run of the output use of its sequences.
 use Rattle.std.specs.Prelude.{◌≡◌, ℕ, ◌+◌, ◌*◌, ◌^◌, ◌<◌, ◌≤◌, ◌⊎◌, Bool, true, List, [], ◌∷◌, ◌++◌, length, is_some}
 use Rattle.std.proofs.Common.{inl, inr}
-use Rattle.std.specs.FinMap.{get}
-use Rattle.qed_model.specs.Machine.Memory.{byte_at}
+use Rattle.qed_model.specs.Machine.Memory.{get, byte_at}
 use Rattle.qed_model.specs.Machine.Step.{Ins, State, reg, Known, HasAt, run}
 use Rattle.qed_model.specs.Machine.Walks.{Over, Walk}
 use Rattle.qed_model.specs.Machine.Program.{Program, start, zeros, AreStartRegs}

@@ -1,7 +1,6 @@
 -- The promises of any weave.
 use Rattle.std.specs.Prelude.{◌≡◌, ℕ, ◌+◌, ◌*◌, ◌≤◌, ◌⊎◌, Bool, true, List, [], ◌∷◌, ◌++◌, length, pos}
-use Rattle.qed_model.specs.Machine.Table.{Illegal, Ins, ins}
-use Rattle.qed_model.specs.Machine.Step.{Known}
+use Rattle.qed_model.specs.Machine.Step.{Illegal, Ins, ins, Known}
 use Rattle.qed_model.specs.Machine.Program.{Program}
 use Rattle.qed_model.specs.declared.bounds.Bounds.{Bounds}
 use Rattle.qed_model.specs.declared.plan.EntryRow.{EntryRow}

@@ -1,12 +1,11 @@
 -- The promise on changes at work, on a known test with a loop: changes of x5, whose runs are worked out.
 use Rattle.std.proofs.Common.{◌≡◌, ℕ, ◌+◌, true, false, List, [], ◌∷◌, refl, ap, ◌∙◌, arith}
 use Rattle.std.specs.Prelude.{pos}
-use Rattle.qed_model.specs.Machine.Table.{Beq, Bne, Ebreak, Jal, ins}
 use Rattle.qed_model.specs.declared.change.Change.{Change}
 use Rattle.qed_model.specs.declared.change.Place.TheVariants.{Reg}
 use Rattle.qed_model.specs.Machine.Program.{start, zeros}
 use Rattle.qed_model.specs.declared.machine.Outcome.TheVariants.{Going, Fired}
-use Rattle.qed_model.specs.Machine.Step.{execute, jumped, computed_value}
+use Rattle.qed_model.specs.Machine.Step.{Beq, Bne, Ebreak, Jal, ins, execute, jumped, computed_value}
 use Rattle.qed_model.specs.Machine.Struck.{struck}
 use Rattle.qed_model.specs.Machine.Values.{value, holds}
 use Rattle.qed_model.specs.Promise.Caught.{Caught, Settles}

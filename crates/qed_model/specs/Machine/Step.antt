@@ -6,7 +6,8 @@ pub use Rattle.rv_isa.specs.declared.class.Class.{Class}
 pub use Rattle.rv_isa.specs.Kind.{class_of}
 pub use Rattle.rv_isa.specs.Regs.{set_reg}
 use Rattle.rv_isa.specs.declared.class.Class.TheVariants as class
-use Rattle.qed_model.specs.Machine.Table.{Lui, Auipc, Ebreak, Kind, Format, R, ins, row_of, decode_of}
+pub use Rattle.qed_model.specs.Machine.Table.{Illegal, Lui, Auipc, Jal, Jalr, Beq, Bne, Blt, Bge, Bltu, Bgeu, Lb, Lh, Lw, Ld, Lbu, Lhu, Lwu, Sb, Sh, Sw, Sd, Addi, Slti, Sltiu, Xori, Ori, Andi, Slli, Srli, Srai, Add, Sub, Sll, Slt, Sltu, Xor, Srl, Sra, Or, And, Fence, Ecall, Ebreak, Addiw, Slliw, Srliw, Sraiw, Addw, Subw, Sllw, Srlw, Sraw, Mul, Mulh, Mulhsu, Mulhu, Div, Divu, Rem, Remu, Mulw, Divw, Divuw, Remw, Remuw, Kind, ins, row_of}
+use Rattle.qed_model.specs.Machine.Table.{Format, R, decode_of}
 use Rattle.qed_model.specs.declared.machine.Cause.{Cause}
 pub use Rattle.qed_model.specs.declared.machine.Outcome.{Outcome}
 pub use Rattle.qed_model.specs.declared.machine.Outcome.TheVariants.{Going, Ended, Fired, Trapped}

@@ -4,9 +4,8 @@
 -- the entry of that address, compares all registers, visits a round of data words, and goes back to the entry by the table.
 use Rattle.std.specs.Prelude.{ℕ, ◌+◌, ◌%◌, ◌^◌, Bool, true, false, cond, ◌==◌, nat_lt, max, List, [], ◌∷◌, ◌++◌, ℤ, pos, neg_ℤ}
 use Rattle.rv_isa.specs.declared.class.Class.TheVariants as class
-use Rattle.qed_model.specs.Machine.Table.{Ins, Lui, Addi, Andi, Slli, Srli, Add, Sub, Beq, Bne, Blt, Bge, Bltu, Bgeu, Jal, Jalr, Lw, Ebreak, Kind, ins}
 use Rattle.qed_model.specs.Machine.Values.{wrapped}
-use Rattle.qed_model.specs.Machine.Step.{class_of, Class, target}
+use Rattle.qed_model.specs.Machine.Step.{Ins, Lui, Addi, Andi, Slli, Srli, Add, Sub, Beq, Bne, Blt, Bge, Bltu, Bgeu, Jal, Jalr, Lw, Ebreak, Kind, ins, class_of, Class, target}
 use Rattle.qed_model.specs.Weave.Placed.{distance_between, upper_part, lower_part, sum_of_sizes}
 use Rattle.qed_model.specs.Weave.Sequences.{Mark, Plain, Constant, Go, Item, pair, End, Falls, Stops, fired_check, guard, guards_of, compare, visit, links, zero_from}
 

@@ -9,8 +9,7 @@ pub use Rattle.rv_isa.specs.Operation.{pair, renamed}
 use Rattle.rv_isa.specs.declared.class.Class.TheVariants as class
 pub use Rattle.qed_model.specs.declared.item.Item.{Item}
 pub use Rattle.qed_model.specs.declared.item.Item.TheVariants.{Mark, Plain, Constant, Go}
-use Rattle.qed_model.specs.Machine.Table.{Illegal, Lui, Auipc, Addi, Andi, Add, Beq, Bne, Ebreak, Jal, Jalr, Ld, Lw, Kind, ins}
-use Rattle.qed_model.specs.Machine.Step.{Fetched, Known, HasAt, target}
+use Rattle.qed_model.specs.Machine.Step.{Illegal, Lui, Auipc, Addi, Andi, Add, Beq, Bne, Ebreak, Jal, Jalr, Ld, Lw, Kind, ins, Fetched, Known, HasAt, target}
 use Rattle.qed_model.specs.Weave.Placed.{distance_between, upper_part, lower_part, go_words, go_size}
 
 -- the words from an address on stand for the items, in the near or in the far form, where `entry` gives the entry of an input
