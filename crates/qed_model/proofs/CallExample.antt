@@ -60,19 +60,11 @@ are_blocks =
       ),
     )
 
--- ---- its numbers
-size : code_size test defaults blocks ≡ 708
-size = refl
-
-near : is_far_code test defaults blocks ≡ false
-near = refl
-
-entries : new_entries test defaults blocks ≡ record { input = 0x10000; output = 0x13078 } ∷ record { input = 0x10004; output = 0x1310c } ∷ record { input = 0x10008; output = 0x13190 } ∷ record { input = 0x1000c; output = 0x1320c } ∷ []
-entries = refl
-
--- the output has a table; its word of the second entry, at 0x12004
-table : has_table blocks ≡ true
-table = refl
-
-word : table_word 0x1000 (new_entries test defaults blocks) 0x10004 ≡ 0x1108
-word = refl
+-- ---- its numbers; the output has a table, with its word of the second entry at 0x12004
+told :
+    (code_size test defaults blocks ≡ 708)
+    × (is_far_code test defaults blocks ≡ false)
+    × (new_entries test defaults blocks ≡ record { input = 0x10000; output = 0x13078 } ∷ record { input = 0x10004; output = 0x1310c } ∷ record { input = 0x10008; output = 0x13190 } ∷ record { input = 0x1000c; output = 0x1320c } ∷ [])
+    × (has_table blocks ≡ true)
+    × (table_word 0x1000 (new_entries test defaults blocks) 0x10004 ≡ 0x1108)
+told = (refl, refl, refl, refl, refl)
