@@ -2,8 +2,7 @@
 use Rattle.std.proofs.Common.{◌≡◌, false, [], ◌∷◌, refl, sym, ◌∙◌}
 use Rattle.std.specs.Prelude.{pos}
 use Rattle.std.proofs.lemmas.Bool.{false≢true}
-use Rattle.rv_isa.specs.declared.kind.Kind.TheVariants.{Illegal}
-use Rattle.qed_model.specs.Machine.Table.{ins}
+use Rattle.qed_model.specs.Machine.Table.{Illegal, ins}
 use Rattle.qed_model.specs.Promise.Closed.{uses, guards_other}
 use Rattle.weave_core.specs.Kinds.{opens}
 use Rattle.weave_core.proofs.KindItems.{stub_opens}

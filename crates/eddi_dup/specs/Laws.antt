@@ -1,16 +1,10 @@
 -- The laws of the original part, of the mirror part and of the comparison.
 use Rattle.std.proofs.Common.{◌≡◌, ℕ, Bool, true, false, cond, [], ◌∷◌, refl, arith}
 use Rattle.std.specs.Prelude.{pos}
-use Rattle.rv_isa.specs.declared.ins.Ins.{Ins}
-use Rattle.rv_isa.specs.declared.kind.Kind.TheVariants.{Add}
-use Rattle.rv_isa.specs.declared.class.Class.{Class}
 use Rattle.rv_isa.specs.declared.class.Class.TheVariants as class
-use Rattle.rv_isa.specs.Kind.{class_of}
-use Rattle.qed_model.specs.Machine.Table.{ins}
+use Rattle.qed_model.specs.Machine.Step.{Add, Ins, ins, class_of, Class, target}
 use Rattle.qed_model.specs.declared.item.Item.TheVariants.{Plain, Constant}
-use Rattle.qed_model.specs.Machine.Step.{target}
-use Rattle.qed_model.specs.Weave.Sequences.{is_auipc, mirrored, mirror_as, compare}
-use Rattle.rv_isa.specs.Operation.{pair, renamed}
+use Rattle.qed_model.specs.Weave.Sequences.{pair, renamed, is_auipc, mirrored, mirror_as, compare}
 use Rattle.weave_core.specs.Blocks.{IsBody as InBody, FitsPiece}
 use Rattle.weave_core.specs.Kinds.{thirteen}
 use Rattle.weave_core.proofs.KindItems.{compare_items}

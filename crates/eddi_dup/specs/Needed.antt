@@ -1,8 +1,6 @@
 -- What the law refuses: an original part alone.
 use Rattle.std.specs.Prelude.{[], pos}
-use Rattle.rv_isa.specs.declared.kind.Kind.TheVariants.{Ld}
-use Rattle.rv_isa.specs.declared.ins.Ins.{Ins}
-use Rattle.qed_model.specs.Machine.Table.{ins}
+use Rattle.qed_model.specs.Machine.Table.{Ins, Ld, ins}
 use Rattle.passes.specs.Pass.{Lockstep}
 use Rattle.eddi_dup.specs.Parts.{bare}
 use Rattle.eddi_dup.specs.Laws.{any}

@@ -1,14 +1,11 @@
 -- The laws of the end with the sweep.
 use Rattle.std.proofs.Common.{◌≡◌, ℕ, ◌+◌, ◌%◌, ◌^◌, Bool, true, List, [], ◌∷◌, ◌++◌, refl, sym, ap, ◌∙◌, subst, arith}
 use Rattle.std.specs.Prelude.{pos, neg_ℤ}
-use Rattle.rv_isa.specs.declared.ins.Ins.{Ins}
-use Rattle.rv_isa.specs.declared.kind.Kind.TheVariants.{Addi, Auipc, Bne}
 use Rattle.rv_isa.specs.declared.class.Class.TheVariants as class
-use Rattle.rv_isa.specs.Kind.{class_of}
-use Rattle.qed_model.specs.Machine.Table.{ins}
-use Rattle.qed_model.specs.declared.item.Item.TheVariants.{Plain, Constant}
+use Rattle.qed_model.specs.Machine.Table.{Addi, Auipc, Bne, Ins, ins}
 use Rattle.qed_model.specs.Weave.Placed.{distance_between, upper_part, lower_part}
-use Rattle.qed_model.specs.Weave.Sequences.{Form, sweep, sweep_range, compare, leave_as, mirrored}
+use Rattle.qed_model.specs.declared.item.Item.TheVariants.{Plain, Constant}
+use Rattle.qed_model.specs.Weave.Sequences.{class_of, Form, sweep, sweep_range, compare, leave_as, mirrored}
 use Rattle.qed_model.proofs.Walk.{brk}
 use Rattle.weave_core.specs.Lock.{first_load, mirror_place, second_load, word_check}
 use Rattle.weave_core.specs.KindItems.{LockItems, LandItems, end_ends}

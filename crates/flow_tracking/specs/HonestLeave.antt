@@ -1,18 +1,12 @@
 -- The words of a leave are honest.
 use Rattle.std.proofs.Common.{◌≡◌, ℕ, ◌+◌, ◌%◌, ◌^◌, ◌≤◌, Bool, true, false, cond, List, [], ◌∷◌, ◌++◌, refl, sym, subst, arith}
 use Rattle.std.specs.Prelude.{◌==◌, pos, neg_ℤ}
-use Rattle.rv_isa.specs.declared.kind.Kind.TheVariants.{Addi, Andi, Add, Auipc, Jal, Jalr, Lw}
-use Rattle.rv_isa.specs.declared.ins.Ins.{Ins}
-use Rattle.rv_isa.specs.declared.class.Class.{Class}
 use Rattle.rv_isa.specs.declared.class.Class.TheVariants as class
-use Rattle.rv_isa.specs.Kind.{class_of}
-use Rattle.qed_model.specs.Machine.Table.{ins}
-use Rattle.qed_model.specs.Machine.Step.{imm, target}
+use Rattle.qed_model.specs.Machine.Step.{Ins, Addi, Andi, Add, Auipc, Jal, Jalr, Lw, ins, class_of, Class, imm, target}
+use Rattle.qed_model.specs.Weave.Placed.{distance_between, upper_part, lower_part, go_size}
 use Rattle.qed_model.specs.declared.item.Item.{Item}
 use Rattle.qed_model.specs.declared.item.Item.TheVariants.{Plain, Constant, Go}
-use Rattle.qed_model.specs.Weave.Placed.{distance_between, upper_part, lower_part, go_size}
-use Rattle.qed_model.specs.Weave.Sequences.{guard, guards_of, links, go_on}
-use Rattle.rv_isa.specs.Operation.{pair}
+use Rattle.qed_model.specs.Weave.Sequences.{pair, guard, guards_of, links, go_on}
 use Rattle.qed_model.proofs.Wrapped.{difference}
 use Rattle.passes.specs.Honest.{NoBreak, HonestAs, HonestItems}
 use Rattle.passes.specs.Pass.{Honest}

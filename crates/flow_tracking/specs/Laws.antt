@@ -1,10 +1,7 @@
 -- The laws of the entry and of the leave.
 use Rattle.std.proofs.Common.{◌≡◌, ℕ, ◌⊎◌, inl, inr, ⊎_elim, Bool, [], refl, sym, subst}
-use Rattle.rv_isa.specs.declared.ins.Ins.{Ins}
-use Rattle.rv_isa.specs.declared.class.Class.{Class}
 use Rattle.rv_isa.specs.declared.class.Class.TheVariants as class
-use Rattle.rv_isa.specs.Kind.{class_of}
-use Rattle.qed_model.specs.Weave.Sequences.{enter, leave_as}
+use Rattle.qed_model.specs.Weave.Sequences.{class_of, Class, Ins, enter, leave_as}
 use Rattle.weave_core.specs.KindItems.{LockItems, LandItems, IsEnd, end_branches, end_jumps, end_jumps_reg, end_ends, end_illegal}
 use Rattle.weave_core.proofs.KindItems.{enter_items, go_items, leave_items}
 use Rattle.weave_core.proofs.Landing.{land_enter, land_go_on, land_leave}

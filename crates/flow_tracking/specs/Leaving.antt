@@ -1,12 +1,10 @@
 -- The entry and the leave of a block, as passes.
 use Rattle.std.specs.Prelude.{ℕ, ◌+◌, Bool, false, List, [], ◌∷◌, ◌++◌, pos, neg_ℤ}
-use Rattle.rv_isa.specs.declared.kind.Kind.TheVariants.{Add, Addi, Andi, Lw, Jalr}
-use Rattle.rv_isa.specs.declared.ins.Ins.{Ins}
 use Rattle.rv_isa.specs.declared.class.Class.TheVariants as class
-use Rattle.qed_model.specs.Machine.Table.{ins}
+use Rattle.qed_model.specs.Machine.Table.{Ins, Add, Addi, Andi, Lw, Jalr, ins}
+use Rattle.qed_model.specs.Weave.Placed.{go_size}
 use Rattle.qed_model.specs.declared.item.Item.{Item}
 use Rattle.qed_model.specs.declared.item.Item.TheVariants.{Plain, Go}
-use Rattle.qed_model.specs.Weave.Placed.{go_size}
 use Rattle.qed_model.specs.Weave.Sequences.{guards_of, links, leave_as}
 pub use Rattle.weave_core.specs.Leaving.{form_of, left_as, left, IsLeft, Enters, Leaving, LeavesOn}
 

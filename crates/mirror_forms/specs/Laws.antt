@@ -2,10 +2,9 @@
 use Rattle.std.proofs.Common.{◌≡◌, ℕ, ◌-◌, Bool, true, List, [], ◌∷◌, ◌++◌, sym, subst}
 use Rattle.std.specs.List.{list_all}
 use Rattle.std.proofs.lemmas.Bool.{and_parts}
-use Rattle.rv_isa.specs.declared.ins.Ins.{Ins}
 use Rattle.rv_isa.specs.declared.class.Class.TheVariants as class
 use Rattle.qed_model.specs.declared.item.Item.TheVariants.{Plain}
-use Rattle.qed_model.specs.Machine.Step.{step}
+use Rattle.qed_model.specs.Machine.Step.{Ins, step}
 use Rattle.qed_model.specs.Weave.Diverse.{Part, part_word, part_items, parts_of, diverse_as, diverse}
 use Rattle.qed_model.specs.Weave.Costs.{spent}
 use Rattle.qed_model.proofs.DiverseWorth.{fine_part}

@@ -2,6 +2,7 @@
 ghost use Rattle.std.specs.Prelude.{◌≡◌, ◌∷◌, [], ◌≤◌, pos, negsuc};
 ghost use Rattle.rv_isa.specs.declared.kind.Kind.TheVariants as row;
 ghost use Rattle.rv_isa.specs.Operation.{pair as pair_of};
+ghost use Rattle.mirror_forms.specs.Low.{IsLow};
 ghost use Rattle.qed_model.specs.Weave.Diverse.{X0, RD, RS1, RS2, X30, X31, op, opi, part_items, parts_of, lui_high as high_of, lui_low as low_of};
 
 use passes::{plain, register};
@@ -29,9 +30,7 @@ pub(crate) struct Places {
 
 /// Those of an instruction.
 fn registers_of(ins: &Ins) -> Places
-    requires rd { ins.now.rd ≤ 13 }
-    requires rs1 { ins.now.rs1 ≤ 13 }
-    requires rs2 { ins.now.rs2 ≤ 13 }
+    requires low { IsLow ins.now }
     ensures rd { result.rd ≡ pair_of ins.now.rd }
     ensures rs1 { result.rs1 ≡ pair_of ins.now.rs1 }
     ensures rs2 { result.rs2 ≡ pair_of ins.now.rs2 }
@@ -51,9 +50,7 @@ fn registers_of(ins: &Ins) -> Places
 
 /// The immediate in x30, and then the kind on two registers.
 pub(crate) fn by_value(ins: &Ins, load: Kind, kind: Kind) -> [Item; 2]
-    requires rd { ins.now.rd ≤ 13 }
-    requires rs1 { ins.now.rs1 ≤ 13 }
-    requires rs2 { ins.now.rs2 ≤ 13 }
+    requires low { IsLow ins.now }
     ensures { result ≡ part_items ins.now (opi load X30 X0 ins.now.imm ∷ op kind RD RS1 X30 ∷ []) }
 {
     let p = registers_of(ins);
@@ -65,9 +62,7 @@ pub(crate) fn by_value(ins: &Ins, load: Kind, kind: Kind) -> [Item; 2]
 
 /// The kind of 64 bits, and the low word of its result.
 pub(crate) fn low_word(ins: &Ins, kind: Kind) -> [Item; 2]
-    requires rd { ins.now.rd ≤ 13 }
-    requires rs1 { ins.now.rs1 ≤ 13 }
-    requires rs2 { ins.now.rs2 ≤ 13 }
+    requires low { IsLow ins.now }
     ensures { result ≡ part_items ins.now (op kind X30 RS1 RS2 ∷ opi row.Addiw RD X30 (pos 0) ∷ []) }
 {
     let p = registers_of(ins);
@@ -79,9 +74,7 @@ pub(crate) fn low_word(ins: &Ins, kind: Kind) -> [Item; 2]
 
 /// The sum of 64 bits, and its low word.
 pub(crate) fn addiw(ins: &Ins) -> [Item; 2]
-    requires rd { ins.now.rd ≤ 13 }
-    requires rs1 { ins.now.rs1 ≤ 13 }
-    requires rs2 { ins.now.rs2 ≤ 13 }
+    requires low { IsLow ins.now }
     ensures { result ≡ part_items ins.now (opi row.Addi X30 RS1 ins.now.imm ∷ op row.Addw RD X30 X0 ∷ []) }
 {
     let p = registers_of(ins);
@@ -93,9 +86,7 @@ pub(crate) fn addiw(ins: &Ins) -> [Item; 2]
 
 /// By the difference.
 pub(crate) fn add(ins: &Ins) -> [Item; 2]
-    requires rd { ins.now.rd ≤ 13 }
-    requires rs1 { ins.now.rs1 ≤ 13 }
-    requires rs2 { ins.now.rs2 ≤ 13 }
+    requires low { IsLow ins.now }
     ensures { result ≡ part_items ins.now (op row.Sub X30 X0 RS2 ∷ op row.Sub RD RS1 X30 ∷ []) }
 {
     let p = registers_of(ins);
@@ -107,9 +98,7 @@ pub(crate) fn add(ins: &Ins) -> [Item; 2]
 
 /// By the sum with the complement.
 pub(crate) fn sub(ins: &Ins) -> [Item; 3]
-    requires rd { ins.now.rd ≤ 13 }
-    requires rs1 { ins.now.rs1 ≤ 13 }
-    requires rs2 { ins.now.rs2 ≤ 13 }
+    requires low { IsLow ins.now }
     ensures { result ≡ part_items ins.now (opi row.Xori X30 RS2 (negsuc 0) ∷ op row.Add X30 X30 RS1 ∷ opi row.Addi RD X30 (pos 1) ∷ []) }
 {
     let p = registers_of(ins);
@@ -122,9 +111,7 @@ pub(crate) fn sub(ins: &Ins) -> [Item; 3]
 
 /// Two kinds on both registers, and a third on their results.
 pub(crate) fn of_two(ins: &Ins, first: Kind, second: Kind, last: Kind) -> [Item; 3]
-    requires rd { ins.now.rd ≤ 13 }
-    requires rs1 { ins.now.rs1 ≤ 13 }
-    requires rs2 { ins.now.rs2 ≤ 13 }
+    requires low { IsLow ins.now }
     ensures { result ≡ part_items ins.now (op first X30 RS1 RS2 ∷ op second X31 RS1 RS2 ∷ op last RD X30 X31 ∷ []) }
 {
     let p = registers_of(ins);
@@ -137,9 +124,7 @@ pub(crate) fn of_two(ins: &Ins, first: Kind, second: Kind, last: Kind) -> [Item;
 
 /// The other comparison, behind a flip of both signs.
 pub(crate) fn flipped(ins: &Ins, kind: Kind) -> [Item; 5]
-    requires rd { ins.now.rd ≤ 13 }
-    requires rs1 { ins.now.rs1 ≤ 13 }
-    requires rs2 { ins.now.rs2 ≤ 13 }
+    requires low { IsLow ins.now }
     ensures { result ≡ part_items ins.now (opi row.Addi X30 X0 (negsuc 0) ∷ opi row.Slli X30 X30 (pos 63) ∷ op row.Xor X31 RS1 X30 ∷ op row.Xor X30 RS2 X30 ∷ op kind RD X31 X30 ∷ []) }
 {
     let p = registers_of(ins);
@@ -154,9 +139,7 @@ pub(crate) fn flipped(ins: &Ins, kind: Kind) -> [Item; 5]
 
 /// By a shift without sign.
 pub(crate) fn sra(ins: &Ins) -> [Item; 4]
-    requires rd { ins.now.rd ≤ 13 }
-    requires rs1 { ins.now.rs1 ≤ 13 }
-    requires rs2 { ins.now.rs2 ≤ 13 }
+    requires low { IsLow ins.now }
     ensures { result ≡ part_items ins.now (opi row.Srai X31 RS1 (pos 63) ∷ op row.Xor X30 RS1 X31 ∷ op row.Srl X30 X30 RS2 ∷ op row.Xor RD X30 X31 ∷ []) }
 {
     let p = registers_of(ins);
@@ -170,9 +153,7 @@ pub(crate) fn sra(ins: &Ins) -> [Item; 4]
 
 /// By a shift of 64 bits.
 pub(crate) fn sllw(ins: &Ins) -> [Item; 3]
-    requires rd { ins.now.rd ≤ 13 }
-    requires rs1 { ins.now.rs1 ≤ 13 }
-    requires rs2 { ins.now.rs2 ≤ 13 }
+    requires low { IsLow ins.now }
     ensures { result ≡ part_items ins.now (opi row.Andi X30 RS2 (pos 31) ∷ op row.Sll X30 RS1 X30 ∷ opi row.Addiw RD X30 (pos 0) ∷ []) }
 {
     let p = registers_of(ins);
@@ -185,9 +166,7 @@ pub(crate) fn sllw(ins: &Ins) -> [Item; 3]
 
 /// By a shift of 64 bits of the word without sign.
 pub(crate) fn srlw(ins: &Ins) -> [Item; 5]
-    requires rd { ins.now.rd ≤ 13 }
-    requires rs1 { ins.now.rs1 ≤ 13 }
-    requires rs2 { ins.now.rs2 ≤ 13 }
+    requires low { IsLow ins.now }
     ensures { result ≡ part_items ins.now (opi row.Andi X31 RS2 (pos 31) ∷ opi row.Slli X30 RS1 (pos 32) ∷ opi row.Srli X30 X30 (pos 32) ∷ op row.Srl X30 X30 X31 ∷ opi row.Addiw RD X30 (pos 0) ∷ []) }
 {
     let p = registers_of(ins);
@@ -202,9 +181,7 @@ pub(crate) fn srlw(ins: &Ins) -> [Item; 5]
 
 /// By a shift of 64 bits of the word with its sign.
 pub(crate) fn sraw(ins: &Ins) -> [Item; 3]
-    requires rd { ins.now.rd ≤ 13 }
-    requires rs1 { ins.now.rs1 ≤ 13 }
-    requires rs2 { ins.now.rs2 ≤ 13 }
+    requires low { IsLow ins.now }
     ensures { result ≡ part_items ins.now (opi row.Andi X31 RS2 (pos 31) ∷ opi row.Addiw X30 RS1 (pos 0) ∷ op row.Sra RD X30 X31 ∷ []) }
 {
     let p = registers_of(ins);
@@ -217,9 +194,7 @@ pub(crate) fn sraw(ins: &Ins) -> [Item; 3]
 
 /// By the other high product, which two masks correct.
 pub(crate) fn mulh(ins: &Ins, first: Kind, kind: Kind) -> [Item; 7]
-    requires rd { ins.now.rd ≤ 13 }
-    requires rs1 { ins.now.rs1 ≤ 13 }
-    requires rs2 { ins.now.rs2 ≤ 13 }
+    requires low { IsLow ins.now }
     ensures { result ≡ part_items ins.now (op first X30 RS1 RS2 ∷ opi row.Srai X31 RS1 (pos 63) ∷ op row.And X31 X31 RS2 ∷ op kind X30 X30 X31 ∷ opi row.Srai X31 RS2 (pos 63) ∷ op row.And X31 X31 RS1 ∷ op kind RD X30 X31 ∷ []) }
 {
     let p = registers_of(ins);
@@ -236,9 +211,7 @@ pub(crate) fn mulh(ins: &Ins, first: Kind, kind: Kind) -> [Item; 7]
 
 /// By the unsigned high product, which one mask corrects.
 pub(crate) fn mulhsu(ins: &Ins) -> [Item; 4]
-    requires rd { ins.now.rd ≤ 13 }
-    requires rs1 { ins.now.rs1 ≤ 13 }
-    requires rs2 { ins.now.rs2 ≤ 13 }
+    requires low { IsLow ins.now }
     ensures { result ≡ part_items ins.now (op row.Mulhu X30 RS1 RS2 ∷ opi row.Srai X31 RS1 (pos 63) ∷ op row.And X31 X31 RS2 ∷ op row.Sub RD X30 X31 ∷ []) }
 {
     let p = registers_of(ins);
@@ -252,9 +225,7 @@ pub(crate) fn mulhsu(ins: &Ins) -> [Item; 4]
 
 /// By the quotient.
 pub(crate) fn rem(ins: &Ins, div: Kind, mul: Kind, sub: Kind) -> [Item; 3]
-    requires rd { ins.now.rd ≤ 13 }
-    requires rs1 { ins.now.rs1 ≤ 13 }
-    requires rs2 { ins.now.rs2 ≤ 13 }
+    requires low { IsLow ins.now }
     ensures { result ≡ part_items ins.now (op div X30 RS1 RS2 ∷ op mul X30 X30 RS2 ∷ op sub RD RS1 X30 ∷ []) }
 {
     let p = registers_of(ins);
@@ -267,9 +238,7 @@ pub(crate) fn rem(ins: &Ins, div: Kind, mul: Kind, sub: Kind) -> [Item; 3]
 
 /// By the quotient of 64 bits.
 pub(crate) fn divw(ins: &Ins) -> [Item; 4]
-    requires rd { ins.now.rd ≤ 13 }
-    requires rs1 { ins.now.rs1 ≤ 13 }
-    requires rs2 { ins.now.rs2 ≤ 13 }
+    requires low { IsLow ins.now }
     ensures { result ≡ part_items ins.now (opi row.Addiw X30 RS1 (pos 0) ∷ opi row.Addiw X31 RS2 (pos 0) ∷ op row.Div X30 X30 X31 ∷ opi row.Addiw RD X30 (pos 0) ∷ []) }
 {
     let p = registers_of(ins);
@@ -283,9 +252,7 @@ pub(crate) fn divw(ins: &Ins) -> [Item; 4]
 
 /// By the quotient of 64 bits of the words without sign.
 pub(crate) fn divuw(ins: &Ins) -> [Item; 6]
-    requires rd { ins.now.rd ≤ 13 }
-    requires rs1 { ins.now.rs1 ≤ 13 }
-    requires rs2 { ins.now.rs2 ≤ 13 }
+    requires low { IsLow ins.now }
     ensures { result ≡ part_items ins.now (opi row.Slli X30 RS1 (pos 32) ∷ opi row.Srli X30 X30 (pos 32) ∷ opi row.Slli X31 RS2 (pos 32) ∷ opi row.Srli X31 X31 (pos 32) ∷ op row.Divu X30 X30 X31 ∷ opi row.Addiw RD X30 (pos 0) ∷ []) }
 {
     let p = registers_of(ins);
@@ -315,9 +282,7 @@ fn lui_low(imm: i64) -> i64
 
 /// In two parts.
 pub(crate) fn lui(ins: &Ins) -> [Item; 4]
-    requires rd { ins.now.rd ≤ 13 }
-    requires rs1 { ins.now.rs1 ≤ 13 }
-    requires rs2 { ins.now.rs2 ≤ 13 }
+    requires low { IsLow ins.now }
     ensures { result ≡ part_items ins.now (opi row.Addi X30 X0 (high_of ins.now.imm) ∷ opi row.Slli X30 X30 (pos 10) ∷ opi row.Addi X30 X30 (low_of ins.now.imm) ∷ opi row.Slli RD X30 (pos 12) ∷ []) }
 {
     let p = registers_of(ins);

@@ -2,16 +2,11 @@
 use Rattle.std.proofs.Common.{◌≡◌, ℕ, ◌+◌, ◌*◌, ◌%◌, ◌^◌, ◌<◌, ◌≤◌, Bool, true, false, cond, List, [], ◌∷◌, length, refl, sym, ap, ◌∙◌, subst, arith}
 use Rattle.std.specs.Prelude.{◌==◌, pos}
 use Rattle.std.proofs.lemmas.Bool.{eqb-false}
-use Rattle.rv_isa.specs.declared.kind.Kind.TheVariants.{Addi, Auipc, Beq, Jal, Jalr}
-use Rattle.rv_isa.specs.declared.ins.Ins.{Ins}
-use Rattle.rv_isa.specs.declared.class.Class.{Class}
 use Rattle.rv_isa.specs.declared.class.Class.TheVariants as class
-use Rattle.rv_isa.specs.Kind.{class_of}
-use Rattle.qed_model.specs.Machine.Table.{ins}
-use Rattle.qed_model.specs.Machine.Step.{Fetched, Known, HasAt, imm, ebreak}
+use Rattle.qed_model.specs.Machine.Step.{Ins, Addi, Auipc, Beq, Jal, Jalr, ins, class_of, Class, Fetched, Known, HasAt, imm, ebreak}
+use Rattle.qed_model.specs.Weave.Placed.{distance_between, upper_part, lower_part, go_words, instructions_from}
 use Rattle.qed_model.specs.declared.item.Item.{Item}
 use Rattle.qed_model.specs.declared.item.Item.TheVariants.{Plain, Constant, Go}
-use Rattle.qed_model.specs.Weave.Placed.{distance_between, upper_part, lower_part, go_words, instructions_from}
 use Rattle.qed_model.specs.Weave.Sequences.{guard, enter}
 use Rattle.qed_model.proofs.Wrapped.{difference}
 use Rattle.qed_model.proofs.Walk.{brk}

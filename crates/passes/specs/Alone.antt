@@ -1,11 +1,9 @@
 -- What it means that a pass is honest: of its words a check alone leads to an EBREAK, and only where it finds a difference.
 use Rattle.std.specs.Prelude.{◌≡◌, ℕ, ◌+◌, ◌*◌, ◌^◌, ◌<◌, ◌≤◌, Bool, List, length}
-use Rattle.rv_isa.specs.declared.ins.Ins.{Ins}
 use Rattle.rv_isa.specs.declared.class.Class.TheVariants as class
-use Rattle.rv_isa.specs.Kind.{class_of}
-use Rattle.qed_model.specs.declared.machine.Outcome.TheVariants.{Going}
 use Rattle.qed_model.specs.declared.item.Item.{Item}
-use Rattle.qed_model.specs.Machine.Step.{State, reg, Fetched, Known, HasAt, step, ebreak}
+use Rattle.qed_model.specs.declared.machine.Outcome.TheVariants.{Going}
+use Rattle.qed_model.specs.Machine.Step.{class_of, Ins, State, reg, Fetched, Known, HasAt, step, ebreak}
 use Rattle.qed_model.specs.Weave.Placed.{instructions_from}
 use Rattle.qed_model.specs.Machine.Walks.{Over}
 use Rattle.passes.specs.Honest.{VisitWords, NoBreak, EntryWords, CalmEntries, HonestItems}

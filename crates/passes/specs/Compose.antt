@@ -1,7 +1,6 @@
 -- The laws of one pass after another.
 use Rattle.std.proofs.Common.{◌≡◌, ℕ, suc, ◌+◌, ◌*◌, Bool, List, [], ◌∷◌, ◌++◌, length, sym, ap, ◌∙◌, subst, arith, length-append}
-use Rattle.rv_isa.specs.declared.ins.Ins.{Ins}
-use Rattle.qed_model.specs.Machine.Step.{Fetched, HasAt}
+use Rattle.qed_model.specs.Machine.Step.{Ins, Fetched, HasAt}
 use Rattle.qed_model.specs.declared.item.Item.{Item}
 use Rattle.qed_model.specs.Weave.Placed.{instructions_from}
 use Rattle.passes.specs.Honest.{NoBreak, AllHonest, HonestItems}

@@ -1,8 +1,7 @@
 -- A pass over each of some instructions, which stand one word after the other in the input.
 use Rattle.std.proofs.Common.{◌≡◌, ℕ, ◌+◌, ◌*◌, ◌%◌, ◌^◌, ◌<◌, Bool, List, [], ◌∷◌, ◌++◌, length, drop, refl, ap, ◌∙◌, subst, arith}
-use Rattle.rv_isa.specs.declared.ins.Ins.{Ins}
 use Rattle.qed_model.specs.declared.item.Item.{Item}
-use Rattle.qed_model.specs.Weave.Sequences.{each_part}
+use Rattle.qed_model.specs.Weave.Sequences.{Ins, each_part}
 use Rattle.passes.specs.Pass.{Honest}
 use Rattle.passes.specs.Emitted.{AppendsPart, Done, done_part}
 use Rattle.passes.specs.Compose.{honest_then, honest_items_none}

@@ -1,14 +1,9 @@
 -- Where words may lead to an EBREAK: at a comparison alone.
 use Rattle.std.specs.Prelude.{◌≡◌, ℕ, ◌+◌, ◌*◌, ◌%◌, ◌^◌, ◌<◌, ◌≤◌, Bool, List, [], ◌∷◌, length, pos}
-use Rattle.rv_isa.specs.declared.kind.Kind.TheVariants.{Addi, Auipc, Beq}
-use Rattle.rv_isa.specs.declared.ins.Ins.{Ins}
-use Rattle.rv_isa.specs.declared.class.Class.{Class}
 use Rattle.rv_isa.specs.declared.class.Class.TheVariants as class
-use Rattle.rv_isa.specs.Kind.{class_of}
-use Rattle.qed_model.specs.Machine.Table.{ins}
 use Rattle.qed_model.specs.declared.item.Item.{Item}
 use Rattle.qed_model.specs.Weave.Placed.{distance_between, upper_part, lower_part, instructions_from}
-use Rattle.qed_model.specs.Machine.Step.{Fetched, Known, HasAt, imm, ebreak}
+use Rattle.qed_model.specs.Machine.Step.{Ins, Addi, Auipc, Beq, ins, class_of, Class, Fetched, Known, HasAt, imm, ebreak}
 use Rattle.weave_core.specs.Lock.{comparison, first_load, mirror_place, second_load, word_check}
 
 -- no EBREAK stands at an address

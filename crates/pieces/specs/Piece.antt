@@ -1,13 +1,11 @@
 -- A whole piece as the code weaves it, from the laws of its passes.
 use Rattle.std.proofs.Common.{◌≡◌, ℕ, ◌+◌, ◌-◌, ◌*◌, ◌^◌, ◌<◌, ◌≤◌, Bool, List, [], ◌++◌, length, sym, ap, ◌∙◌, subst, arith}
-use Rattle.rv_isa.specs.declared.ins.Ins.{Ins}
-use Rattle.qed_model.specs.declared.item.Item.{Item}
 use Rattle.qed_model.specs.Weave.Sequences.{Form, original, each_part, compare, visit, piece}
 use Rattle.qed_model.specs.Admission.DataRanges.{word_count}
 use Rattle.qed_model.specs.Weave.Bounds.{visit_bound}
 use Rattle.qed_model.specs.Weave.Costs.{spent}
-use Rattle.qed_model.specs.Machine.Step.{reg}
-use Rattle.weave_core.specs.World.{IsCursor}
+use Rattle.qed_model.specs.Machine.Step.{Ins, reg}
+use Rattle.weave_core.specs.World.{Item, IsCursor}
 use Rattle.weave_core.specs.Blocks.{AllFit}
 use Rattle.weave_core.specs.Parts.{NeedsMirror, NeedsChecks, GivesChecks, LeavesChecks, NeedsPiece, GivesPiece, LeavesPiece, piece_cost, Pieced, ForPiece as ForParts, piece_items as parts_items}
 use Rattle.weave_core.proofs.PieceLaws.{for_originals, for_mirrors, both_checks, piece_leads, cost_parts, parts_are}

@@ -3,9 +3,8 @@ use Rattle.std.proofs.Common.{◌≡◌, ℕ, zero, suc, ◌+◌, ◌-◌, ◌<�
 use Rattle.std.specs.Prelude.{pos, slice_index_or, drop}
 use Rattle.std.proofs.lemmas.List.{append-nil}
 use Rattle.qed_model.specs.declared.range.Range.{Range}
-use Rattle.rv_isa.specs.declared.kind.Kind.TheVariants.{Addi, Bne}
 use Rattle.rv_isa.specs.declared.class.Class.TheVariants as class
-use Rattle.qed_model.specs.Machine.Table.{ins}
+use Rattle.qed_model.specs.Machine.Table.{Addi, Bne, ins}
 use Rattle.qed_model.specs.declared.item.Item.{Item}
 use Rattle.qed_model.specs.declared.item.Item.TheVariants.{Plain, Constant}
 use Rattle.qed_model.specs.Weave.Sequences.{wraps, visit_word, times, visit}

@@ -1,7 +1,6 @@
 -- The data ranges as pairs, and what the visits of their words do.
 use Rattle.std.specs.Prelude.{ℕ, List, [], ◌∷◌, pos}
-use Rattle.rv_isa.specs.declared.kind.Kind.TheVariants.{Bne}
-use Rattle.qed_model.specs.Machine.Table.{ins}
+use Rattle.qed_model.specs.Machine.Table.{Bne, ins}
 use Rattle.qed_model.specs.declared.item.Item.{Item}
 use Rattle.qed_model.specs.declared.item.Item.TheVariants.{Plain, Constant}
 use Rattle.qed_model.specs.declared.range.Range.{Range}

@@ -2,9 +2,8 @@
 use Rattle.std.proofs.Common.{◌≡◌, ◌⊎◌, inl, inr, ⊎_elim, ℕ, zero, suc, ◌+◌, ◌%◌, ◌<◌, ◌≤◌, max, Bool, true, false, cond, List, [], ◌∷◌, length, get_or, refl, sym, ◌∙◌, subst, arith}
 use Rattle.std.specs.Prelude.{◌==◌, AllPairs}
 use Rattle.std.proofs.lemmas.Bool.{or_cases, and_parts, cases_lt, false≢true}
-use Rattle.elf_types.specs.declared.file.ElfFile.{ElfFile}
 use Rattle.qed_model.specs.Admission.Terms.{is_in, is_in_any}
-use Rattle.qed_model.specs.Admission.CodeWords.{ranges_of, is_code, AreCodeAddresses}
+use Rattle.qed_model.specs.Admission.CodeWords.{ElfFile, ranges_of, is_code, AreCodeAddresses}
 use Rattle.qed_model.proofs.Among.{among_of, contains_of}
 use Rattle.qed_model.specs.Members.{Among}
 use Rattle.qed_model.proofs.DataRangesLaws.{in_parts}

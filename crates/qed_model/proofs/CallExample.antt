@@ -2,15 +2,12 @@
 -- addi x5, x0, 9; ecall; jalr x1, 0(x1). The ECALL at 0x10008 is no leader, and has a block of its own.
 use Rattle.std.proofs.Common.{◌≡◌, inl, inr, true, false, List, [], ◌∷◌, refl, arith}
 use Rattle.std.specs.Prelude.{pos}
-use Rattle.elf_types.specs.declared.file.ElfFile.{ElfFile}
-use Rattle.rv_isa.specs.declared.ins.Ins.{Ins}
-use Rattle.rv_isa.specs.declared.kind.Kind.TheVariants.{Jal, Addi, Ecall, Jalr}
 use Rattle.qed_model.specs.Numbers.{number_bytes, bytes_of}
-use Rattle.qed_model.specs.Machine.Table.{ins, ins_of, decode_of}
+use Rattle.qed_model.specs.Machine.Table.{Jal, Addi, Ecall, Jalr, Ins, ins, ins_of, decode_of}
 use Rattle.qed_model.specs.Machine.Cells.{number_among}
 use Rattle.qed_model.specs.Admission.Refusals.{IsAdmitted}
 use Rattle.qed_model.specs.Weave.Sequences.{Block, Stops}
-use Rattle.qed_model.specs.Weave.Blocks.{AreBlocks}
+use Rattle.qed_model.specs.Weave.Blocks.{ElfFile, AreBlocks}
 use Rattle.qed_model.specs.Weave.OutputFile.{has_table, table_word}
 use Rattle.qed_model.specs.Weave.Woven.{code_size, new_entries, is_far_code}
 use Rattle.qed_model.proofs.ExampleCode as code
@@ -63,19 +60,11 @@ are_blocks =
       ),
     )
 
--- ---- its numbers
-size : code_size test defaults blocks ≡ 708
-size = refl
-
-near : is_far_code test defaults blocks ≡ false
-near = refl
-
-entries : new_entries test defaults blocks ≡ record { input = 0x10000; output = 0x13078 } ∷ record { input = 0x10004; output = 0x1310c } ∷ record { input = 0x10008; output = 0x13190 } ∷ record { input = 0x1000c; output = 0x1320c } ∷ []
-entries = refl
-
--- the output has a table; its word of the second entry, at 0x12004
-table : has_table blocks ≡ true
-table = refl
-
-word : table_word 0x1000 (new_entries test defaults blocks) 0x10004 ≡ 0x1108
-word = refl
+-- ---- its numbers; the output has a table, with its word of the second entry at 0x12004
+told :
+    (code_size test defaults blocks ≡ 708)
+    × (is_far_code test defaults blocks ≡ false)
+    × (new_entries test defaults blocks ≡ record { input = 0x10000; output = 0x13078 } ∷ record { input = 0x10004; output = 0x1310c } ∷ record { input = 0x10008; output = 0x13190 } ∷ record { input = 0x1000c; output = 0x1320c } ∷ [])
+    × (has_table blocks ≡ true)
+    × (table_word 0x1000 (new_entries test defaults blocks) 0x10004 ≡ 0x1108)
+told = (refl, refl, refl, refl, refl)

@@ -2,21 +2,11 @@
 use Rattle.std.proofs.Common.{◌≡◌, ℕ, ◌+◌, ◌*◌, ◌%◌, ◌^◌, Bool, true, false, cond, List, [], ◌∷◌, ◌++◌, length, drop, refl, sym, ap, ◌∙◌, append_assoc}
 use Rattle.std.specs.Prelude.{pos, neg_ℤ}
 use Rattle.std.proofs.lemmas.List.{append-nil}
-use Rattle.rv_isa.specs.declared.ins.Ins.{Ins}
-use Rattle.rv_isa.specs.declared.kind.Kind.TheVariants.{Addi, Andi, Add, Sub}
-use Rattle.rv_isa.specs.declared.class.Class.{Class}
 use Rattle.rv_isa.specs.declared.class.Class.TheVariants as class
-use Rattle.rv_isa.specs.Kind.{class_of}
-use Rattle.rv_isa.specs.Operation.{pair}
-use Rattle.elf_types.specs.declared.file.ElfFile.{ElfFile}
-use Rattle.qed_model.specs.declared.item.Item.{Item}
-use Rattle.qed_model.specs.declared.item.Item.TheVariants.{Mark, Plain, Constant}
-use Rattle.qed_model.specs.declared.options.Options.{Options}
 use Rattle.qed_model.specs.declared.role.Role.{Role}
 use Rattle.qed_model.specs.declared.role.Role.TheVariants as role
-use Rattle.qed_model.specs.Machine.Step.{target}
-use Rattle.qed_model.specs.Machine.Table.{ins}
-use Rattle.qed_model.specs.Weave.Blocks.{begins_at}
+use Rattle.qed_model.specs.Machine.Step.{Addi, Andi, Add, Sub, Ins, ins, class_of, Class, target}
+use Rattle.qed_model.specs.Weave.Blocks.{Options, ElfFile, begins_at}
 use Rattle.qed_model.specs.Weave.Code.{Sequences, pieces_of, body_of, block_items, entries_of, code_of}
 use Rattle.qed_model.specs.Weave.Forms.{mirror_of, form_of}
 use Rattle.qed_model.specs.Weave.Lean.{tick, call_at, goes, turn, check_sign, look_up, opposite, leave_as, leave}
@@ -26,7 +16,7 @@ use Rattle.qed_model.specs.Weave.OutputParts.{base_of}
 use Rattle.qed_model.specs.Weave.Placed.{distance_between, sum_of_sizes, entry_of}
 use Rattle.qed_model.specs.Weave.Places.{image_of, half_of, code_place}
 use Rattle.qed_model.specs.Weave.Roles.{joined, guard_parts, original_parts, mirror_parts, each_parts, end_parts}
-use Rattle.qed_model.specs.Weave.Sequences.{Form, Block, End, Falls, Stops, guard, guards_of, compare, original, each_part, before_end, body_length, links, stub}
+use Rattle.qed_model.specs.Weave.Sequences.{Mark, Plain, Constant, Item, pair, Form, Block, End, Falls, Stops, guard, guards_of, compare, original, each_part, before_end, body_length, links, stub}
 use Rattle.qed_model.proofs.RoleParts.{joined_append, originals_joined, mirrors_joined, seam, way_of, guards_joined, end_joined}
 
 -- ---- leaves

@@ -3,24 +3,14 @@ use Rattle.std.proofs.Common.{◌≡◌, ℕ, suc, ◌+◌, ◌*◌, Bool, true,
 use Rattle.std.specs.Prelude.{◌==◌, ◌%◌, ◌^◌, pos, neg_ℤ}
 use Rattle.std.proofs.lemmas.List.{append-nil}
 use Rattle.std.proofs.Math.Seq.{take-append_seam}
-use Rattle.rv_isa.specs.declared.ins.Ins.{Ins}
-use Rattle.rv_isa.specs.declared.kind.Kind.TheVariants.{Addi, Andi, Add, Jal, Jalr, Lw}
-use Rattle.rv_isa.specs.declared.class.Class.{Class}
 use Rattle.rv_isa.specs.declared.class.Class.TheVariants as class
-use Rattle.rv_isa.specs.Kind.{class_of}
-use Rattle.rv_isa.specs.Operation.{pair}
-use Rattle.elf_types.specs.declared.file.ElfFile.{ElfFile}
-use Rattle.qed_model.specs.declared.item.Item.{Item}
-use Rattle.qed_model.specs.declared.item.Item.TheVariants.{Plain, Constant, Go}
-use Rattle.qed_model.specs.declared.options.Options.{Options}
 use Rattle.qed_model.specs.declared.role.Role.{Role}
 use Rattle.qed_model.specs.declared.role.Role.TheVariants as role
-use Rattle.qed_model.specs.Machine.Table.{ins}
-use Rattle.qed_model.specs.Machine.Step.{target}
-use Rattle.qed_model.specs.Weave.Places.{image_of, half_of}
+use Rattle.qed_model.specs.Machine.Step.{Addi, Andi, Add, Jal, Jalr, Lw, Ins, ins, class_of, Class, target}
+use Rattle.qed_model.specs.Weave.Places.{Options, ElfFile, image_of, half_of}
 use Rattle.qed_model.specs.Weave.Placed.{go_size}
 use Rattle.qed_model.specs.Weave.Roles.{joined, guard_parts, compare_parts, originals, original_as_parts, original_parts, mirror_parts, each_parts, last_of, check_parts, piece_parts, pieces_parts, end_parts, way_parts, leave_as_parts, leave_parts, entry_parts, entries_parts, parts_with, new_parts}
-use Rattle.qed_model.specs.Weave.Sequences.{Form, Block, End, Falls, Stops, guard, guards_of, compare, enter, visit, sweep, is_auipc, original, original_as, each_part, piece, links, leave_as, leave, body_length, prologue, stub}
+use Rattle.qed_model.specs.Weave.Sequences.{Plain, Constant, Go, Item, pair, Form, Block, End, Falls, Stops, guard, guards_of, compare, enter, visit, sweep, is_auipc, original, original_as, each_part, piece, links, leave_as, leave, body_length, prologue, stub}
 use Rattle.qed_model.specs.Weave.Code.{block_items, entries_of, pieces_of, sequences}
 use Rattle.qed_model.specs.Weave.Woven.{is_far_code, new_items}
 use Rattle.qed_model.specs.Weave.Forms.{form_of}

@@ -5,18 +5,16 @@ use Rattle.std.proofs.lemmas.Bool.{false≢true}
 use Rattle.std.proofs.lemmas.List.{take-append-drop, length-drop, length-map, get_or-map}
 use Rattle.std.proofs.lemmas.List.Sums.{sum_by-cons}
 use Rattle.std.proofs.lemmas.List.Elements.{All-nil, All-cons, All-head, All-tail}
-use Rattle.elf_types.specs.declared.file.ElfFile.{ElfFile}
-use Rattle.qed_model.specs.declared.options.Options.{Options}
-use Rattle.rv_isa.specs.declared.ins.Ins.{Ins}
 use Rattle.rv_isa.specs.declared.class.Class.{Class}
 use Rattle.rv_isa.specs.declared.class.Class.TheVariants as class
 use Rattle.rv_isa.specs.Kind.{class_of}
 use Rattle.qed_model.specs.declared.test.CodeWord.{CodeWord}
-use Rattle.qed_model.specs.Admission.CodeWords.{is_code, instruction_at}
+use Rattle.qed_model.specs.Admission.CodeWords.{Ins, is_code, instruction_at}
 use Rattle.qed_model.specs.Admission.Leaders.{is_end}
 use Rattle.qed_model.specs.Admission.Test.{AreCodeWords}
 use Rattle.qed_model.specs.Weave.Pieces.{divided, whole}
-use Rattle.qed_model.specs.Weave.Blocks.{IsBodyAt, StopsAt, IsLeaderBlock, IsShort, IsOtherBlock}
+use Rattle.qed_model.specs.declared.options.Options.{Options}
+use Rattle.qed_model.specs.Weave.Blocks.{ElfFile, IsBodyAt, StopsAt, IsLeaderBlock, IsShort, IsOtherBlock}
 use Rattle.qed_model.proofs.PieceLaws.{pieces_whole}
 use Rattle.weave_core.specs.Blocks.{AllFit}
 use Rattle.weave_core.proofs.FileBlocks.{is_fence_class, IsKnownCode, low_instruction, fits_piece, body_fits}

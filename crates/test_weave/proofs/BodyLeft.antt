@@ -3,10 +3,9 @@ use Rattle.std.proofs.Common.{Bool, ◌≡◌, ℕ, zero, suc, ◌+◌, ◌*◌,
 use Rattle.std.proofs.Common.{length-drop, get_or}
 use Rattle.std.proofs.lemmas.List.{length-take-le, drop_more}
 use Rattle.std.proofs.lemmas.List.Sums.{sum_by-cons}
-use Rattle.rv_isa.specs.declared.ins.Ins.{Ins}
-use Rattle.qed_model.specs.declared.item.Item.{Item}
 use Rattle.qed_model.specs.Weave.Pieces.{divided}
-use Rattle.qed_model.specs.Weave.Sequences.{body_length}
+use Rattle.qed_model.specs.declared.item.Item.{Item}
+use Rattle.qed_model.specs.Weave.Sequences.{Ins, body_length}
 use Rattle.qed_model.specs.Weave.Code.{Sequences, pieces_of}
 use Rattle.weave_core.specs.Blocks.{AllFit}
 use Rattle.relinker.specs.Sink.{ComeNext, Takes}

@@ -1,7 +1,6 @@
 -- The items of a piece in the form of a weaver.
 use Rattle.std.proofs.Common.{◌≡◌, ℕ, ◌+◌, ◌*◌, ◌^◌, ◌<◌, List, length, sym, ap, ◌∙◌}
-use Rattle.rv_isa.specs.declared.ins.Ins.{Ins}
-use Rattle.qed_model.specs.Weave.Sequences.{piece}
+use Rattle.qed_model.specs.Weave.Sequences.{Ins, piece}
 use Rattle.qed_model.specs.Weave.Forms.{mirror_of}
 use Rattle.pieces.specs.Piece.{piece_items, piece_same, piece_is}
 use Rattle.test_weave.specs.declared.weaver.PiecePasses.{PiecePasses}

@@ -1,13 +1,12 @@
 -- The blocks of an admitted test can be woven.
 use Rattle.std.specs.Prelude.{ℕ, ◌+◌, ◌≤◌, List, All, map}
-use Rattle.elf_types.specs.declared.file.ElfFile.{ElfFile}
-use Rattle.qed_model.specs.declared.options.Options.{Options}
 use Rattle.qed_model.specs.declared.test.CodeWord.{CodeWord}
 use Rattle.qed_model.specs.Elf.Sound.{IsSound}
 use Rattle.qed_model.specs.Admission.Refusals.{IsAdmitted}
 use Rattle.qed_model.specs.Admission.Test.{AreCodeWords}
 use Rattle.qed_model.specs.Weave.Places.{AreSoundOptions}
-use Rattle.qed_model.specs.Weave.Blocks.{AreBlocks}
+use Rattle.qed_model.specs.declared.options.Options.{Options}
+use Rattle.qed_model.specs.Weave.Blocks.{ElfFile, AreBlocks}
 use Rattle.block_list.specs.declared.block.CodeBlock.{CodeBlock}
 use Rattle.block_list.specs.Listed.{block_of, IsWithin}
 use Rattle.test_weave.specs.Fits.{FitsBlock}

@@ -1,7 +1,7 @@
 -- The form of the code that a weaver makes, and what it makes of blocks.
 use Rattle.std.specs.Prelude.{ℕ, Bool, List, ◌++◌, is_some}
-use Rattle.qed_model.specs.declared.item.Item.{Item}
 use Rattle.qed_model.specs.declared.options.Options.{Options}
+use Rattle.qed_model.specs.declared.item.Item.{Item}
 use Rattle.qed_model.specs.Weave.Sequences.{Form, Block}
 use Rattle.qed_model.specs.Weave.Code.{Sequences, entries_of, sequences}
 use Rattle.qed_model.specs.Weave.Bounds.{cost_of}

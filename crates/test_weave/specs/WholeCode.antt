@@ -1,10 +1,9 @@
 -- The new code of a test.
 use Rattle.std.specs.Prelude.{◌≡◌, Bool, List, ◌++◌, map}
-use Rattle.elf_types.specs.declared.file.ElfFile.{ElfFile}
-use Rattle.qed_model.specs.declared.options.Options.{Options}
 use Rattle.qed_model.specs.declared.range.Range.{Range}
 use Rattle.qed_model.specs.Admission.DataRanges.{range_of, data_ranges}
-use Rattle.qed_model.specs.Weave.Places.{image_of, half_of}
+use Rattle.qed_model.specs.declared.options.Options.{Options}
+use Rattle.qed_model.specs.Weave.Places.{ElfFile, image_of, half_of}
 use Rattle.qed_model.specs.Weave.Sequences.{Block, stub}
 use Rattle.qed_model.specs.Weave.Woven.{items_in}
 use Rattle.plc_rounds.specs.Spans.{spans_of}

@@ -1,18 +1,15 @@
 -- Where the items of a weave stand: the input's first state, and the entries of a plan.
 use Rattle.std.proofs.Common.{◌≡◌, ℕ, ◌+◌, ◌<◌, ⊎_elim, Bool, true, false, List, [], ◌∷◌, ◌++◌, refl, sym, ap, subst, arith, is_some, Option, Some, None, length, suc, ◌*◌, length-append}
 use Rattle.std.specs.Prelude.{◌==◌}
-use Rattle.std.specs.FinMap.{get}
 use Rattle.std.proofs.lemmas.Bool.{eqb-true, false≢true, or_cases}
 use Rattle.std.proofs.lemmas.List.{append_assoc, length-set}
-use Rattle.qed_model.specs.Machine.Memory.{Memory, Cell, flags_at, byte_at, byte_in}
+use Rattle.qed_model.specs.Machine.Memory.{get, Memory, Cell, flags_at, byte_at, byte_in}
 use Rattle.qed_model.specs.Machine.Step.{Fetched}
 use Rattle.qed_model.specs.Machine.Program.{Program, start, zeros}
-use Rattle.qed_model.specs.declared.item.Item.{Item}
-use Rattle.qed_model.specs.declared.item.Item.TheVariants.{Mark, Plain, Constant, Go}
 use Rattle.qed_model.specs.Weave.Placed.{go_size, instructions_from, go_words}
 use Rattle.qed_model.specs.Weave.Blocks.{begins_at}
 use Rattle.qed_model.specs.Weave.Sequences.{Reads, Block, stub}
-use Rattle.weave_core.specs.World.{World}
+use Rattle.weave_core.specs.World.{Item, Mark, Plain, Constant, Go, World}
 use Rattle.weave_core.specs.Rows.{Sourced}
 use Rattle.weave_core.specs.Describes.{Describes}
 use Rattle.weave_core.specs.Weave.{Weave}

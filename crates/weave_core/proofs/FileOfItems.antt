@@ -3,21 +3,15 @@
 use Rattle.std.proofs.Common.{◌≡◌, ℕ, ◌+◌, ◌%◌, ◌^◌, ◌≤◌, ⊎_elim, Bool, true, false, cond, List, [], ◌∷◌, refl, arith, ◌⊎◌, inr, ◌-◌, ◌*◌, ◌<◌, ◌++◌, length, map, Option, Some, None, sym, ap, ◌∙◌, subst}
 use Rattle.std.proofs.lemmas.Bool.{false≢true, and_parts, or_cases, leb-true, eqb-true}
 use Rattle.std.specs.Prelude.{◌==◌, ◌&&◌, nat_le, All, slice_index, unwrap_or, IfSome}
-use Rattle.std.specs.FinMap.{get}
 use Rattle.std.proofs.lemmas.List.{length-map}
 use Rattle.std.proofs.lemmas.List.Elements.{All-head, All-tail}
-use Rattle.elf_types.specs.declared.file.ElfFile.{ElfFile}
-use Rattle.elf_types.specs.declared.file.Segment.{Segment}
-use Rattle.rv_isa.specs.declared.ins.Ins.{Ins}
-use Rattle.rv_isa.specs.declared.kind.Kind.TheVariants.{Lw}
-use Rattle.qed_model.specs.Machine.Table.{decode_of}
-use Rattle.qed_model.specs.Machine.Memory.{Memory, grants, number, allows, byte_in, byte_at, wrap}
+use Rattle.qed_model.specs.Machine.Table.{Lw, Ins, decode_of}
+use Rattle.qed_model.specs.Machine.Memory.{get, Memory, grants, number, allows, byte_in, byte_at, wrap}
 use Rattle.qed_model.specs.Machine.Step.{in_range, Fetched, Refused, Known, known_or, fetched_at, HasAt}
 use Rattle.qed_model.specs.Machine.Program.{Program, memory_of, LoadSegment}
+use Rattle.qed_model.specs.declared.options.Options.{Options}
 use Rattle.qed_model.specs.Weave.Sequences.{Form, Reads, Block}
 use Rattle.qed_model.proofs.Steps.{fetched_aligned}
-use Rattle.qed_model.specs.declared.item.Item.{Item}
-use Rattle.qed_model.specs.declared.options.Options.{Options}
 use Rattle.qed_model.specs.declared.plan.EntryRow.{EntryRow}
 use Rattle.qed_model.specs.Numbers.{number_bytes, words_of, bytes_of}
 use Rattle.qed_model.specs.Machine.Values.{loaded}
@@ -27,11 +21,11 @@ use Rattle.qed_model.specs.Elf.FileRead.{file_read}
 use Rattle.qed_model.specs.Machine.Cells.{has, cell_at, cell_among}
 use Rattle.qed_model.specs.Admission.DataRanges.{data_ranges}
 use Rattle.qed_model.specs.Weave.OutputParts.{base_of, distance_of, code_segment}
-use Rattle.qed_model.specs.Weave.Places.{AreSoundOptions, image_of, half_of, code_place}
+use Rattle.qed_model.specs.Weave.Places.{Segment, AreSoundOptions, image_of, half_of, code_place}
 use Rattle.qed_model.specs.Admission.CodeWords.{is_code}
 use Rattle.qed_model.specs.Admission.Refusals.{IsAdmitted}
 use Rattle.qed_model.specs.Admission.Leaders.{Entry}
-use Rattle.qed_model.specs.Weave.Blocks.{IsLeaderBlock, IsOtherBlock, begins_at, AreBlocks}
+use Rattle.qed_model.specs.Weave.Blocks.{ElfFile, IsLeaderBlock, IsOtherBlock, begins_at, AreBlocks}
 use Rattle.qed_model.specs.Weave.Placed.{Decode, sum_of_sizes, entry_at, rows_from, entry_of, placed}
 use Rattle.qed_model.specs.Weave.OutputFile.{original_half, first_input, last_input, distance_to, table_word, table_bytes, table_segment, has_table, file_of}
 use Rattle.qed_model.specs.Weave.Forms.{form_of}
@@ -42,7 +36,7 @@ use Rattle.qed_model.specs.Elf.Sound.{AreLoads}
 use Rattle.qed_model.proofs.Fetches.{IsShapely, code_at, code_range, instruction_code}
 use Rattle.qed_model.proofs.PlacedWords.{size-instructions_from}
 use Rattle.qed_model.proofs.BlocksOnly.{ascend_of, any_first}
-use Rattle.weave_core.specs.World.{World, AllBelow}
+use Rattle.weave_core.specs.World.{Item, World, AllBelow}
 use Rattle.weave_core.specs.Describes.{Describes}
 use Rattle.weave_core.specs.Plan.{FilesFit}
 use Rattle.weave_core.specs.Blocks.{TableAt}

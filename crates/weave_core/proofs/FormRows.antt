@@ -4,17 +4,11 @@ use Rattle.std.specs.Prelude.{pos, slice_set}
 use Rattle.std.proofs.lemmas.Bool.{false≢true, and_parts, and_from, leb-true, ne_eqb, eq-eqb, eqb-true}
 use Rattle.std.proofs.lemmas.List.{append-nil, take-append-drop, length-take-le}
 use Rattle.std.proofs.Math.Nat.{mul-le-mul, mul-le-mul_left}
-use Rattle.rv_isa.specs.declared.ins.Ins.{Ins}
-use Rattle.rv_isa.specs.declared.class.Class.{Class}
-use Rattle.rv_isa.specs.Kind.{class_of}
 use Rattle.rv_isa.specs.declared.class.Class.TheVariants as class
-use Rattle.qed_model.specs.declared.machine.Outcome.TheVariants.{Ended}
 use Rattle.qed_model.specs.Machine.Values.{holds}
-use Rattle.qed_model.specs.Machine.Step.{State, reg, moved, stopped, Known, HasAt, step, run, jumped, imm, next_pc}
+use Rattle.qed_model.specs.Machine.Step.{Beq, Auipc, Ins, ins, set_reg, class_of, Class, State, reg, moved, stopped, Known, HasAt, step, run, jumped, imm, next_pc}
 use Rattle.qed_model.specs.Machine.Program.{Program}
 use Rattle.qed_model.specs.Promise.Kept.{NotTrapped, LeadsToReached, IsSteady, Kept}
-use Rattle.qed_model.specs.declared.item.Item.{Item}
-use Rattle.qed_model.specs.declared.item.Item.TheVariants.{Plain}
 use Rattle.qed_model.specs.Weave.Pieces.{is_run}
 use Rattle.qed_model.specs.Weave.Blocks.{begins_at}
 use Rattle.qed_model.specs.Weave.Sequences.{Form, Reads, End, Falls, Stops, Block, original, each_part, guards, sweep, compare, visit, leave, leave_as}
@@ -22,7 +16,7 @@ use Rattle.qed_model.specs.Weave.Placed.{distance_between, upper_part}
 use Rattle.qed_model.specs.Weave.Bounds.{end_bound, visit_bound}
 use Rattle.qed_model.proofs.Walk.{known_at, run-more, constant_walk, set_reg-pos, run-none}
 use Rattle.qed_model.proofs.BlocksOnly.{run_prefix}
-use Rattle.weave_core.specs.World.{World, Twice, IsCursor}
+use Rattle.weave_core.specs.World.{Item, Plain, Ended, World, Twice, IsCursor}
 use Rattle.weave_core.specs.Blocks.{IsEntryOf, FitsPiece, AllFit, Leaves, EndStands}
 use Rattle.weave_core.specs.Rows.{At, Sourced, Mirrors}
 use Rattle.weave_core.specs.KindItems.{MirrorsFit}
@@ -49,10 +43,7 @@ use Rattle.weave_core.specs.WeavePromise.{PlanOf}
 use Rattle.weave_core.specs.WeaveForms.{is_signed_at, weave_with, weave_of, ChecksLaws}
 use Rattle.qed_model.specs.Weave.Costs.{spent, cost_each, used, bare_cost, original_cost}
 use Rattle.weave_core.proofs.Values.{WeaveIn, kept, weave_kept}
-use Rattle.rv_isa.specs.declared.kind.Kind.TheVariants.{Beq, Auipc}
-use Rattle.rv_isa.specs.Regs.{set_reg}
 use Rattle.rv_isa.proofs.RegsLaws.{slice_index-set_reg_other, slice_index-set_reg_same}
-use Rattle.qed_model.specs.Machine.Table.{ins}
 use Rattle.qed_model.specs.Machine.Walks.{Over}
 use Rattle.weave_core.proofs.Landings.{landed, weave_landed}
 

@@ -1,22 +1,15 @@
 -- Where an entry and a leave lead, the latter by the kind of its end: the laws of their passes, from which follow those of a weave.
 use Rattle.std.proofs.Common.{◌≡◌, ℕ, ◌+◌, ◌%◌, ◌^◌, ◌<◌, ◌≤◌, inr, ⊎_elim, Bool, true, false, List, [], ◌∷◌, ◌++◌, length, refl, sym, ap, ◌∙◌, subst, arith, append_assoc}
-use Rattle.rv_isa.specs.declared.ins.Ins.{Ins}
-use Rattle.rv_isa.specs.declared.class.Class.{Class}
 use Rattle.rv_isa.specs.declared.class.Class.TheVariants as class
-use Rattle.rv_isa.specs.Kind.{class_of}
-use Rattle.rv_isa.specs.Regs.{set_reg}
 use Rattle.rv_isa.proofs.RegsLaws.{slice_index-set_reg_other}
-use Rattle.qed_model.specs.declared.machine.Outcome.TheVariants.{Ended}
-use Rattle.qed_model.specs.declared.item.Item.{Item}
-use Rattle.qed_model.specs.declared.item.Item.TheVariants.{Plain, Go}
-use Rattle.qed_model.specs.Machine.Step.{State, reg, moved, stopped, Known, step, target}
+use Rattle.qed_model.specs.Machine.Step.{set_reg, class_of, Class, Ins, State, reg, moved, stopped, Known, step, target}
 use Rattle.qed_model.specs.Machine.Values.{holds}
 use Rattle.qed_model.specs.Admission.DataRanges.{word_count}
 use Rattle.qed_model.specs.Weave.Bounds.{end_bound}
 use Rattle.qed_model.specs.Weave.Sequences.{enter, go_on, sweep, compare}
 use Rattle.qed_model.proofs.Walk.{over_moved, known_at}
 use Rattle.qed_model.proofs.Walked.{Walk, walk_none, walk_on}
-use Rattle.weave_core.specs.World.{World, Quiet as Calm, Twice}
+use Rattle.weave_core.specs.World.{Item, Plain, Go, Ended, World, Quiet as Calm, Twice}
 use Rattle.weave_core.specs.Blocks.{IsEntryOf, Goes}
 use Rattle.weave_core.specs.Rows.{At, Sourced, Led}
 use Rattle.weave_core.specs.Pass.{Views, Leads, Quiet, Does, same}

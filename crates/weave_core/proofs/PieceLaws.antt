@@ -4,19 +4,14 @@ use Rattle.std.proofs.Math.Nat.{mul-suc}
 use Rattle.std.specs.Prelude.{◌==◌}
 use Rattle.std.proofs.lemmas.Bool.{and_parts}
 use Rattle.std.proofs.lemmas.List.{append-nil}
-use Rattle.rv_isa.specs.declared.ins.Ins.{Ins}
-use Rattle.rv_isa.specs.declared.class.Class.{Class}
 use Rattle.rv_isa.specs.declared.class.Class.TheVariants as class
-use Rattle.rv_isa.specs.Kind.{class_of}
-use Rattle.qed_model.specs.declared.item.Item.{Item}
-use Rattle.qed_model.specs.declared.item.Item.TheVariants.{Plain, Constant}
-use Rattle.qed_model.specs.Machine.Step.{State, reg, Known, step, run, HasAt, target}
+use Rattle.qed_model.specs.Machine.Step.{class_of, Class, Ins, State, reg, Known, step, run, HasAt, target}
 use Rattle.qed_model.specs.Promise.Kept.{NotTrapped}
 use Rattle.qed_model.specs.Weave.Pieces.{is_clean, and_written, is_run, is_run_after}
 use Rattle.qed_model.specs.Weave.Sequences.{guard, guards, is_auipc, original, original_as, each_part}
 use Rattle.qed_model.specs.Weave.Costs.{spent, spent_as, cost_each, used, used_as, original_cost}
 use Rattle.qed_model.proofs.Walk.{run-more, run-none}
-use Rattle.weave_core.specs.World.{World, IsCursor, words_on}
+use Rattle.weave_core.specs.World.{Item, Plain, Constant, World, IsCursor, words_on}
 use Rattle.weave_core.specs.Blocks.{IsLowAs, FitsPiece, AllFit}
 use Rattle.weave_core.specs.Rows.{Sourced}
 use Rattle.weave_core.specs.Kinds.{thirteen}

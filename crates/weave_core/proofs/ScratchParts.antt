@@ -1,14 +1,11 @@
 -- Parts on x0 and x14 to x31 alone are words of the kinds, and do not jump.
 use Rattle.std.proofs.Common.{◌≡◌, ℕ, zero, suc, ◌≤◌, inr, Bool, true, false, cond, List, [], ◌∷◌, refl, subst, arith}
 use Rattle.std.proofs.lemmas.Bool.{and_right, ne_eqb}
-use Rattle.rv_isa.specs.declared.ins.Ins.{Ins}
 use Rattle.rv_isa.specs.declared.class.Class.TheVariants as class
-use Rattle.rv_isa.specs.Kind.{class_of}
-use Rattle.rv_isa.specs.Operation.{pair}
+use Rattle.qed_model.specs.Machine.Step.{class_of, Ins, target}
 use Rattle.qed_model.specs.declared.item.Item.{Item}
 use Rattle.qed_model.specs.declared.item.Item.TheVariants.{Mark, Plain, Constant, Go}
-use Rattle.qed_model.specs.Machine.Step.{target}
-use Rattle.qed_model.specs.Weave.Sequences.{is_auipc, mirrored, mirror_as}
+use Rattle.qed_model.specs.Weave.Sequences.{pair, is_auipc, mirrored, mirror_as}
 use Rattle.weave_core.specs.Lock.{Scratch}
 use Rattle.weave_core.specs.Blocks.{IsLowAs, FitsPiece}
 use Rattle.weave_core.specs.Kinds.{is_ld, Lockstep}

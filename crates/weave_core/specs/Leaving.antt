@@ -1,18 +1,12 @@
 -- The entry and the leave of a block, as passes: what a leave is for, what it needs, and where it leads, a case for each kind of end.
 use Rattle.std.specs.Prelude.{◌≡◌, ℕ, ◌+◌, ◌*◌, ◌%◌, ◌^◌, ◌<◌, ◌≤◌, Bool, true, false, List, [], ◌∷◌, ◌++◌, length}
 use Rattle.rv_isa.specs.Ins.{nop}
-use Rattle.rv_isa.specs.declared.ins.Ins.{Ins}
-use Rattle.rv_isa.specs.declared.class.Class.{Class}
 use Rattle.rv_isa.specs.declared.class.Class.TheVariants as class
-use Rattle.rv_isa.specs.Kind.{class_of}
-use Rattle.qed_model.specs.declared.machine.Outcome.TheVariants.{Ended}
-use Rattle.qed_model.specs.declared.item.Item.{Item}
-use Rattle.qed_model.specs.declared.item.Item.TheVariants.{Plain}
-use Rattle.qed_model.specs.Machine.Step.{State, reg, Known, step}
+use Rattle.qed_model.specs.Machine.Step.{class_of, Class, Ins, State, reg, Known, step}
 use Rattle.qed_model.specs.Promise.Kept.{NotTrapped, LeadsToReached}
 use Rattle.qed_model.specs.Admission.DataRanges.{word_count}
 use Rattle.qed_model.specs.Weave.Sequences.{Form, leave_as, go_on, mirrored, sweep, compare}
-use Rattle.weave_core.specs.World.{World, Twice}
+use Rattle.weave_core.specs.World.{Item, Plain, Ended, World, Twice}
 use Rattle.weave_core.specs.Rows.{Sourced}
 use Rattle.weave_core.specs.Blocks.{IsEntryOf, Goes, Leaves}
 use Rattle.weave_core.specs.Pass.{Views}

@@ -2,9 +2,8 @@
 use Rattle.std.specs.Prelude.{◌≡◌, ℕ, ◌+◌, ◌≤◌, ◌⊎◌, Bool, List, [], ◌∷◌, ◌++◌}
 use Rattle.qed_model.specs.Machine.Step.{State, reg, run}
 use Rattle.qed_model.specs.Machine.Walks.{Walk}
-use Rattle.qed_model.specs.declared.item.Item.{Item}
 use Rattle.qed_model.specs.Weave.Sequences.{guards}
-use Rattle.weave_core.specs.World.{World, Quiet as Calm}
+use Rattle.weave_core.specs.World.{Item, World, Quiet as Calm}
 use Rattle.weave_core.specs.Rows.{At}
 use Rattle.weave_core.specs.KindItems.{LockItems, LandItems}
 

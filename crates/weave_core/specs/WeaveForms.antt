@@ -1,14 +1,13 @@
 -- The forms of the code are a weave: near and far, with or without the sweep, with either kind of mirror part. So are they with other
 -- checks behind the parts of a piece.
 use Rattle.std.specs.Prelude.{◌≡◌, ℕ, ◌+◌, ◌*◌, Bool, true, ◌&&◌, ◌==◌, nat_le, cond, List, [], ◌++◌, length}
-use Rattle.qed_model.specs.declared.item.Item.{Item}
 use Rattle.qed_model.specs.Admission.DataRanges.{word_count}
 use Rattle.qed_model.specs.Weave.Bounds.{visit_bound, end_bound}
 use Rattle.qed_model.specs.Weave.Pieces.{is_run}
 use Rattle.qed_model.specs.Weave.Sequences.{Form, original, each_part, compare, visit}
 use Rattle.qed_model.specs.Weave.Code.{sequences}
 use Rattle.qed_model.specs.Machine.Step.{State, reg}
-use Rattle.weave_core.specs.World.{World, IsCursor, is_cursor}
+use Rattle.weave_core.specs.World.{Item, World, IsCursor, is_cursor}
 use Rattle.weave_core.specs.Pass.{Quiet, Lockstep}
 use Rattle.weave_core.specs.Parts.{any, Checks}
 use Rattle.weave_core.specs.Weave.{Weave}

@@ -1,9 +1,6 @@
 -- The promises of any weave.
 use Rattle.std.specs.Prelude.{◌≡◌, ℕ, ◌+◌, ◌*◌, ◌≤◌, ◌⊎◌, Bool, true, List, [], ◌∷◌, ◌++◌, length, pos}
-use Rattle.rv_isa.specs.declared.ins.Ins.{Ins}
-use Rattle.rv_isa.specs.declared.kind.Kind.TheVariants.{Illegal}
-use Rattle.qed_model.specs.Machine.Table.{ins}
-use Rattle.qed_model.specs.Machine.Step.{Known}
+use Rattle.qed_model.specs.Machine.Step.{Illegal, Ins, ins, Known}
 use Rattle.qed_model.specs.Machine.Program.{Program}
 use Rattle.qed_model.specs.declared.bounds.Bounds.{Bounds}
 use Rattle.qed_model.specs.declared.plan.EntryRow.{EntryRow}

@@ -1,13 +1,11 @@
 -- All premises of the promises are met by a known test, and its numbers.
-use Rattle.std.proofs.Common.{◌≡◌, ℕ, zero, suc, ◌+◌, ◌*◌, Bool, List, [], ◌∷◌, ◌++◌, length, arith, ◌<◌, inl, inr, true, false, refl, ap, ◌∙◌, sym}
+use Rattle.std.proofs.Common.{◌≡◌, ℕ, zero, suc, ◌+◌, ◌*◌, Bool, List, [], ◌∷◌, ◌++◌, length, take, drop, arith, ◌<◌, inl, inr, true, false, refl, ap, ◌∙◌, sym}
 use Rattle.std.specs.Prelude.{nat_lt, slice_index}
-use Rattle.elf_types.specs.declared.file.ElfFile.{ElfFile}
-use Rattle.rv_isa.specs.declared.ins.Ins.{Ins}
-use Rattle.qed_model.specs.declared.item.Item.{Item}
-use Rattle.qed_model.specs.declared.options.Options.{Options}
 use Rattle.qed_model.specs.Admission.DataRanges.{data_ranges}
 use Rattle.qed_model.specs.Weave.Places.{image_of, half_of, AreSoundOptions}
 use Rattle.qed_model.specs.Weave.Placed.{sum_of_sizes}
+use Rattle.qed_model.specs.declared.options.Options.{Options}
+use Rattle.qed_model.specs.declared.item.Item.{Item}
 use Rattle.qed_model.specs.Weave.Sequences.{Form, Block, original, each_part, compare, visit, visit_word, times, piece, enter, leave, body_length, prologue, stub}
 use Rattle.qed_model.specs.Weave.Code.{block_items, entries_of, pieces_of, sequences}
 use Rattle.qed_model.specs.Weave.Woven.{items_in, is_far_code, code_size, compared, IsToldOf}
@@ -15,9 +13,9 @@ use Rattle.qed_model.specs.Weave.Forms.{form_of, shape_of}
 use Rattle.qed_model.proofs.PlacedWords.{size-append}
 use Rattle.qed_model.specs.declared.limits.TheConstants.{MAX_NEAR_CODE_BYTES}
 use Rattle.qed_model.specs.Machine.Cells.{number_among}
-use Rattle.qed_model.specs.Machine.Table.{ins_of, decode_of}
+use Rattle.qed_model.specs.Machine.Table.{Ins, ins_of, decode_of}
 use Rattle.qed_model.specs.Admission.Refusals.{IsAdmitted}
-use Rattle.qed_model.specs.Weave.Blocks.{AreBlocks}
+use Rattle.qed_model.specs.Weave.Blocks.{ElfFile, AreBlocks}
 use Rattle.qed_model.specs.Weave.Bounds.{bounds_of}
 use Rattle.qed_model.proofs.ExampleBlocks as made
 use Rattle.qed_model.proofs.ExampleCode as code
@@ -119,64 +117,35 @@ admitted : IsAdmitted far_test far_options
 admitted = code.admitted far_test 0x10000 far_code known refl far_options refl refl (omega arith) (omega arith) (omega arith) (omega arith)
 
 -- ---- its blocks
+infixr 5 ◌beside◌
+-- of a first block and of those behind it
+◌beside◌ : {A B : Type 0} → A → B → A × B
+a beside b = (a, b)
+
 are : AreBlocks far_test far_options far_blocks
 are =
-    made.are_blocks far_test 0x10000 far_code known far_options refl refl far_blocks refl refl refl ((
-      inl (made.stopping far_test 0x10000 far_code known far_options refl refl [] ((lui_8 ∷ []) ∷ []) next (ld_5 ∷ next ∷ lui_9 ∷ next ∷ sd_5 ∷ next ∷ ld_6 ∷ next ∷ mul ∷ next ∷ sub ∷ next ∷ call ∷ ecall ∷ add ∷ jalr ∷ []) refl refl refl),
-      (
-        inr (made.other far_test 0x10000 far_code known far_options refl refl (lui_8 ∷ []) next (ld_5 ∷ next ∷ lui_9 ∷ next ∷ sd_5 ∷ next ∷ ld_6 ∷ next ∷ mul ∷ next ∷ sub ∷ next ∷ call ∷ ecall ∷ add ∷ jalr ∷ []) refl refl),
-        (
-          inl (made.stopping far_test 0x10000 far_code known far_options refl refl (lui_8 ∷ next ∷ []) ((ld_5 ∷ []) ∷ []) next (lui_9 ∷ next ∷ sd_5 ∷ next ∷ ld_6 ∷ next ∷ mul ∷ next ∷ sub ∷ next ∷ call ∷ ecall ∷ add ∷ jalr ∷ []) refl refl refl),
-          (
-            inr (made.other far_test 0x10000 far_code known far_options refl refl (lui_8 ∷ next ∷ ld_5 ∷ []) next (lui_9 ∷ next ∷ sd_5 ∷ next ∷ ld_6 ∷ next ∷ mul ∷ next ∷ sub ∷ next ∷ call ∷ ecall ∷ add ∷ jalr ∷ []) refl refl),
-            (
-              inl (made.stopping far_test 0x10000 far_code known far_options refl refl (lui_8 ∷ next ∷ ld_5 ∷ next ∷ []) ((lui_9 ∷ []) ∷ []) next (sd_5 ∷ next ∷ ld_6 ∷ next ∷ mul ∷ next ∷ sub ∷ next ∷ call ∷ ecall ∷ add ∷ jalr ∷ []) refl refl refl),
-              (
-                inr (made.other far_test 0x10000 far_code known far_options refl refl (lui_8 ∷ next ∷ ld_5 ∷ next ∷ lui_9 ∷ []) next (sd_5 ∷ next ∷ ld_6 ∷ next ∷ mul ∷ next ∷ sub ∷ next ∷ call ∷ ecall ∷ add ∷ jalr ∷ []) refl refl),
-                (
-                  inl (made.stopping far_test 0x10000 far_code known far_options refl refl (lui_8 ∷ next ∷ ld_5 ∷ next ∷ lui_9 ∷ next ∷ []) ((sd_5 ∷ []) ∷ []) next (ld_6 ∷ next ∷ mul ∷ next ∷ sub ∷ next ∷ call ∷ ecall ∷ add ∷ jalr ∷ []) refl refl refl),
-                  (
-                    inr (made.other far_test 0x10000 far_code known far_options refl refl (lui_8 ∷ next ∷ ld_5 ∷ next ∷ lui_9 ∷ next ∷ sd_5 ∷ []) next (ld_6 ∷ next ∷ mul ∷ next ∷ sub ∷ next ∷ call ∷ ecall ∷ add ∷ jalr ∷ []) refl refl),
-                    (
-                      inl (made.stopping far_test 0x10000 far_code known far_options refl refl (lui_8 ∷ next ∷ ld_5 ∷ next ∷ lui_9 ∷ next ∷ sd_5 ∷ next ∷ []) ((ld_6 ∷ []) ∷ []) next (mul ∷ next ∷ sub ∷ next ∷ call ∷ ecall ∷ add ∷ jalr ∷ []) refl refl refl),
-                      (
-                        inr (made.other far_test 0x10000 far_code known far_options refl refl (lui_8 ∷ next ∷ ld_5 ∷ next ∷ lui_9 ∷ next ∷ sd_5 ∷ next ∷ ld_6 ∷ []) next (mul ∷ next ∷ sub ∷ next ∷ call ∷ ecall ∷ add ∷ jalr ∷ []) refl refl),
-                        (
-                          inl (made.stopping far_test 0x10000 far_code known far_options refl refl (lui_8 ∷ next ∷ ld_5 ∷ next ∷ lui_9 ∷ next ∷ sd_5 ∷ next ∷ ld_6 ∷ next ∷ []) ((mul ∷ []) ∷ []) next (sub ∷ next ∷ call ∷ ecall ∷ add ∷ jalr ∷ []) refl refl refl),
-                          (
-                            inr (made.other far_test 0x10000 far_code known far_options refl refl (lui_8 ∷ next ∷ ld_5 ∷ next ∷ lui_9 ∷ next ∷ sd_5 ∷ next ∷ ld_6 ∷ next ∷ mul ∷ []) next (sub ∷ next ∷ call ∷ ecall ∷ add ∷ jalr ∷ []) refl refl),
-                            (
-                              inl (made.stopping far_test 0x10000 far_code known far_options refl refl (lui_8 ∷ next ∷ ld_5 ∷ next ∷ lui_9 ∷ next ∷ sd_5 ∷ next ∷ ld_6 ∷ next ∷ mul ∷ next ∷ []) ((sub ∷ []) ∷ []) next (call ∷ ecall ∷ add ∷ jalr ∷ []) refl refl refl),
-                              (
-                                inr (made.other far_test 0x10000 far_code known far_options refl refl (lui_8 ∷ next ∷ ld_5 ∷ next ∷ lui_9 ∷ next ∷ sd_5 ∷ next ∷ ld_6 ∷ next ∷ mul ∷ next ∷ sub ∷ []) next (call ∷ ecall ∷ add ∷ jalr ∷ []) refl refl),
-                                (
-                                  inl (made.stopping far_test 0x10000 far_code known far_options refl refl (lui_8 ∷ next ∷ ld_5 ∷ next ∷ lui_9 ∷ next ∷ sd_5 ∷ next ∷ ld_6 ∷ next ∷ mul ∷ next ∷ sub ∷ next ∷ []) [] call (ecall ∷ add ∷ jalr ∷ []) refl refl refl),
-                                  (
-                                    inl (made.stopping far_test 0x10000 far_code known far_options refl refl (lui_8 ∷ next ∷ ld_5 ∷ next ∷ lui_9 ∷ next ∷ sd_5 ∷ next ∷ ld_6 ∷ next ∷ mul ∷ next ∷ sub ∷ next ∷ call ∷ []) [] ecall (add ∷ jalr ∷ []) refl refl refl),
-                                    (
-                                      inl (made.stopping far_test 0x10000 far_code known far_options refl refl (lui_8 ∷ next ∷ ld_5 ∷ next ∷ lui_9 ∷ next ∷ sd_5 ∷ next ∷ ld_6 ∷ next ∷ mul ∷ next ∷ sub ∷ next ∷ call ∷ ecall ∷ []) ((add ∷ []) ∷ []) jalr [] refl refl refl),
-                                      (
-                                        inr (made.other far_test 0x10000 far_code known far_options refl refl (lui_8 ∷ next ∷ ld_5 ∷ next ∷ lui_9 ∷ next ∷ sd_5 ∷ next ∷ ld_6 ∷ next ∷ mul ∷ next ∷ sub ∷ next ∷ call ∷ ecall ∷ add ∷ []) jalr [] refl refl),
-                                        tt,
-                                      ),
-                                    ),
-                                  ),
-                                ),
-                              ),
-                            ),
-                          ),
-                        ),
-                      ),
-                    ),
-                  ),
-                ),
-              ),
-            ),
-          ),
-        ),
-      ),
-    )
-    )
+    let stop = made.stopping far_test 0x10000 far_code known far_options refl refl in
+    let other = made.other far_test 0x10000 far_code known far_options refl refl in
+    made.are_blocks far_test 0x10000 far_code known far_options refl refl far_blocks refl refl refl
+    (inl (stop (take 0 far_code) ((lui_8 ∷ []) ∷ []) next (drop 2 far_code) refl refl refl)
+    beside inr (other (take 1 far_code) next (drop 2 far_code) refl refl)
+    beside inl (stop (take 2 far_code) ((ld_5 ∷ []) ∷ []) next (drop 4 far_code) refl refl refl)
+    beside inr (other (take 3 far_code) next (drop 4 far_code) refl refl)
+    beside inl (stop (take 4 far_code) ((lui_9 ∷ []) ∷ []) next (drop 6 far_code) refl refl refl)
+    beside inr (other (take 5 far_code) next (drop 6 far_code) refl refl)
+    beside inl (stop (take 6 far_code) ((sd_5 ∷ []) ∷ []) next (drop 8 far_code) refl refl refl)
+    beside inr (other (take 7 far_code) next (drop 8 far_code) refl refl)
+    beside inl (stop (take 8 far_code) ((ld_6 ∷ []) ∷ []) next (drop 10 far_code) refl refl refl)
+    beside inr (other (take 9 far_code) next (drop 10 far_code) refl refl)
+    beside inl (stop (take 10 far_code) ((mul ∷ []) ∷ []) next (drop 12 far_code) refl refl refl)
+    beside inr (other (take 11 far_code) next (drop 12 far_code) refl refl)
+    beside inl (stop (take 12 far_code) ((sub ∷ []) ∷ []) next (drop 14 far_code) refl refl refl)
+    beside inr (other (take 13 far_code) next (drop 14 far_code) refl refl)
+    beside inl (stop (take 14 far_code) [] call (drop 15 far_code) refl refl refl)
+    beside inl (stop (take 15 far_code) [] ecall (drop 16 far_code) refl refl refl)
+    beside inl (stop (take 16 far_code) ((add ∷ []) ∷ []) jalr (drop 18 far_code) refl refl refl)
+    beside inr (other (take 17 far_code) jalr (drop 18 far_code) refl refl)
+    beside tt)
 
 -- ---- its size
 near_size : sum_of_sizes false (items_in far_test far_options false far_blocks) ≡ 1182564

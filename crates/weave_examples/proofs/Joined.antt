@@ -2,11 +2,7 @@
 use Rattle.std.proofs.Common.{◌≡◌, ℕ, ◌+◌, ◌-◌, ◌*◌, ◌<◌, ◌≤◌, ⊎_elim, Bool, true, false, List, [], ◌∷◌, ◌++◌, length, refl, sym, ap, ◌∙◌, subst, arith, append_assoc, length-append}
 use Rattle.std.proofs.lemmas.Bool.{and_parts, leb-true, cases_lt}
 use Rattle.std.proofs.Math.Nat.{mul-le-mul, mul-le-mul_left}
-use Rattle.rv_isa.specs.declared.ins.Ins.{Ins}
-use Rattle.rv_isa.specs.declared.kind.Kind.TheVariants.{Auipc}
-use Rattle.qed_model.specs.declared.item.Item.{Item}
-use Rattle.qed_model.specs.Machine.Table.{ins}
-use Rattle.qed_model.specs.Machine.Step.{State, reg, HasAt, run}
+use Rattle.qed_model.specs.Machine.Step.{Auipc, Ins, ins, State, reg, HasAt, run}
 use Rattle.qed_model.specs.Machine.Program.{Program}
 use Rattle.qed_model.specs.Promise.Kept.{NotTrapped}
 use Rattle.qed_model.specs.Weave.Blocks.{begins_at}
@@ -16,7 +12,7 @@ use Rattle.qed_model.specs.Weave.Sequences.{Form, guards, original, each_part, c
 use Rattle.qed_model.specs.Weave.Costs.{used}
 use Rattle.qed_model.proofs.Walk.{run-more}
 use Rattle.qed_model.proofs.Walked.{walk_on}
-use Rattle.weave_core.specs.World.{World, Quiet as Calm, IsCursor}
+use Rattle.weave_core.specs.World.{Item, World, Quiet as Calm, IsCursor}
 use Rattle.weave_core.specs.Blocks.{FitsPiece, AllFit}
 use Rattle.weave_core.specs.Rows.{At, Sourced, Led, Mirrors}
 use Rattle.weave_core.specs.KindItems.{MirrorsFit}

@@ -4,12 +4,11 @@ pub mod Joined
 pub mod FarTest
 pub mod ListedRuns
 pub mod ListedChanges
-pub mod LoopFile
+pub mod KnownFiles
 pub mod LoopExample
 pub mod LoopKept
 mod LoopCaught
 mod LoopClean
-pub mod StoreFile
 pub mod StoreExample
 pub mod StoreKept
 mod StoreCaught

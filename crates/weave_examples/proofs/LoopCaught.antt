@@ -1,13 +1,11 @@
 -- The promise on changes at work, on a known test with a loop: changes of x5, whose runs are worked out.
 use Rattle.std.proofs.Common.{◌≡◌, ℕ, ◌+◌, true, false, List, [], ◌∷◌, refl, ap, ◌∙◌, arith}
 use Rattle.std.specs.Prelude.{pos}
-use Rattle.rv_isa.specs.declared.kind.Kind.TheVariants.{Beq, Bne, Ebreak, Jal}
-use Rattle.qed_model.specs.Machine.Table.{ins}
 use Rattle.qed_model.specs.declared.change.Change.{Change}
 use Rattle.qed_model.specs.declared.change.Place.TheVariants.{Reg}
-use Rattle.qed_model.specs.declared.machine.Outcome.TheVariants.{Going, Fired}
 use Rattle.qed_model.specs.Machine.Program.{start, zeros}
-use Rattle.qed_model.specs.Machine.Step.{execute, jumped, computed_value}
+use Rattle.qed_model.specs.declared.machine.Outcome.TheVariants.{Going, Fired}
+use Rattle.qed_model.specs.Machine.Step.{Beq, Bne, Ebreak, Jal, ins, execute, jumped, computed_value}
 use Rattle.qed_model.specs.Machine.Struck.{struck}
 use Rattle.qed_model.specs.Machine.Values.{value, holds}
 use Rattle.qed_model.specs.Promise.Caught.{Caught, Settles}
@@ -15,7 +13,7 @@ use Rattle.qed_model.specs.Promise.Changed.{changed_run}
 use Rattle.qed_model.specs.Promise.Closed.{is_closed, uses, guards_other, is_checked}
 use Rattle.qed_model.specs.Promise.Kept.{after_output, any_address}
 use Rattle.qed_model.proofs.ExampleCode.{defaults}
-use Rattle.weave_examples.proofs.LoopFile.{loop}
+use Rattle.weave_examples.proofs.KnownFiles.{loop}
 use Rattle.weave_examples.proofs.LoopExample.{loop_plan, loop_told, loop_blocks}
 use Rattle.qed_model.proofs.Steady.{steady_any}
 use Rattle.qed_model.proofs.OneTest.{any_reached}

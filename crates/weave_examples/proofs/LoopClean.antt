@@ -2,14 +2,11 @@
 -- not silent at the end.
 use Rattle.std.proofs.Common.{◌≡◌, ◌≢◌, ◌⊎◌, ℕ, ◌+◌, ◌-◌, ◌<◌, true, false, List, [], ◌∷◌, refl, sym, ap, ◌∙◌, arith}
 use Rattle.std.specs.Prelude.{pos}
-use Rattle.rv_isa.specs.declared.ins.Ins.{Ins}
-use Rattle.rv_isa.specs.declared.kind.Kind.TheVariants.{Beq, Bne, Ebreak}
-use Rattle.qed_model.specs.Machine.Table.{ins}
-use Rattle.qed_model.specs.declared.machine.Outcome.TheVariants.{Going, Ended, Fired}
 use Rattle.qed_model.specs.Elf.FileRead.{file_read}
 use Rattle.qed_model.specs.Machine.Loading.{loaded_file}
 use Rattle.qed_model.specs.Machine.Program.{Program, memory_of, start, zeros}
-use Rattle.qed_model.specs.Machine.Step.{HasAt, fetched_at, execute, jumped, computed_value}
+use Rattle.qed_model.specs.declared.machine.Outcome.TheVariants.{Going, Ended, Fired}
+use Rattle.qed_model.specs.Machine.Step.{Beq, Bne, Ebreak, Ins, ins, HasAt, fetched_at, execute, jumped, computed_value}
 use Rattle.qed_model.specs.Machine.Values.{value, holds}
 use Rattle.qed_model.specs.Promise.Caught.{Same}
 use Rattle.qed_model.specs.Promise.Changed.{changed_run}
@@ -19,7 +16,7 @@ use Rattle.qed_model.specs.Promise.Kept.{after_output, any_address}
 use Rattle.qed_model.specs.Weave.Placed.{placed}
 use Rattle.qed_model.specs.Weave.Woven.{woven_file, new_items}
 use Rattle.qed_model.proofs.ExampleCode.{swept, sound}
-use Rattle.weave_examples.proofs.LoopFile.{loop, loop_sound}
+use Rattle.weave_examples.proofs.KnownFiles.{loop, loop_sound}
 use Rattle.weave_examples.proofs.LoopExample.{loop_swept_admitted, loop_blocks, loop_are}
 use Rattle.qed_model.proofs.Walk.{run-more}
 use Rattle.qed_model.proofs.Steady.{steady_any}

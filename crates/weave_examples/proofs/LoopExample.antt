@@ -2,10 +2,8 @@
 -- addi x5, x0, 2; addi x5, x5, -1; bne x5, x0, -4; ecall.
 use Rattle.std.proofs.Common.{inl, Bool, List, [], ◌∷◌, None, refl, arith, false}
 use Rattle.std.specs.Prelude.{pos, neg_ℤ}
-use Rattle.rv_isa.specs.declared.ins.Ins.{Ins}
-use Rattle.rv_isa.specs.declared.kind.Kind.TheVariants.{Addi, Bne, Ecall}
 use Rattle.qed_model.specs.declared.plan.Plan.{Plan}
-use Rattle.qed_model.specs.Machine.Table.{ins, ins_of, decode_of}
+use Rattle.qed_model.specs.Machine.Table.{Addi, Bne, Ecall, Ins, ins, ins_of, decode_of}
 use Rattle.qed_model.specs.Machine.Cells.{number_among}
 use Rattle.qed_model.specs.Admission.Refusals.{IsAdmitted}
 use Rattle.qed_model.specs.Weave.Sequences.{Block, Falls, Stops}
@@ -14,7 +12,7 @@ use Rattle.qed_model.specs.Weave.Woven.{compared, IsToldOf}
 use Rattle.qed_model.proofs.ExampleCode as code
 use Rattle.qed_model.proofs.ExampleBlocks as made
 use Rattle.qed_model.proofs.ExampleCode.{IsCodeOf, options, defaults, swept}
-use Rattle.weave_examples.proofs.LoopFile.{loop}
+use Rattle.weave_examples.proofs.KnownFiles.{loop}
 
 -- ---- its instructions
 abbrev two : Ins

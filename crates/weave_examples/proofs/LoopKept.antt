@@ -1,11 +1,10 @@
 -- A known file, a test with a loop: the promise holds of it, and its run and that of its output are worked out on the definitions.
 use Rattle.std.proofs.Common.{◌≡◌, inl, inr, ℕ, ◌+◌, ◌-◌, ◌≤◌, true, false, List, [], ◌∷◌, refl, sym, ap, ◌∙◌, arith}
-use Rattle.rv_isa.specs.declared.ins.Ins.{Ins}
-use Rattle.qed_model.specs.declared.machine.Outcome.TheVariants.{Going, Ended}
 use Rattle.qed_model.specs.Elf.FileRead.{file_read}
 use Rattle.qed_model.specs.Machine.Loading.{load_segments, loaded_file}
 use Rattle.qed_model.specs.Machine.Program.{Program, memory_of, start, zeros}
-use Rattle.qed_model.specs.Machine.Step.{HasAt, fetched_at, execute, jumped, computed_value}
+use Rattle.qed_model.specs.declared.machine.Outcome.TheVariants.{Going, Ended}
+use Rattle.qed_model.specs.Machine.Step.{Ins, HasAt, fetched_at, execute, jumped, computed_value}
 use Rattle.qed_model.specs.Machine.Values.{value, holds}
 use Rattle.qed_model.specs.Promise.Kept.{Halves, Kept, after_input, after_output, is_trapped, NotTrapped, any_address}
 use Rattle.qed_model.specs.Promise.Landed.{Landed, Fires, placed_at}
@@ -13,7 +12,7 @@ use Rattle.qed_model.specs.Weave.Placed.{placed}
 use Rattle.qed_model.specs.Weave.Woven.{woven_file, new_items}
 use Rattle.qed_model.proofs.ExampleCode.{defaults, sound}
 use Rattle.qed_model.proofs.Fetches.{IsShapely}
-use Rattle.weave_examples.proofs.LoopFile.{loop, loop_sound}
+use Rattle.weave_examples.proofs.KnownFiles.{loop, loop_sound}
 use Rattle.weave_examples.proofs.LoopExample.{loop_plan, loop_told, loop_code, loop_known, loop_admitted, loop_blocks, loop_are}
 use Rattle.qed_model.specs.Elf.Sound.{AreLoads}
 use Rattle.qed_model.proofs.Walk.{run-more}

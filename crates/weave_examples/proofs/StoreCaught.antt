@@ -1,13 +1,13 @@
 -- The promises on changes hold of a known file, a test with a data word: all of their premises are met.
 use Rattle.std.proofs.Common.{◌≡◌, ℕ, zero, suc, ◌+◌, ◌-◌, ◌%◌, ◌≤◌, Bool, true, cond, ◌&&◌, [], ◌∷◌, Option, refl, sym, ap, ◌∙◌, arith, inl, List, Some}
 use Rattle.std.specs.Prelude.{◌==◌}
-use Rattle.qed_model.specs.declared.machine.Outcome.{Outcome}
-use Rattle.qed_model.specs.declared.machine.Outcome.TheVariants.{Going, Ended}
 use Rattle.qed_model.specs.declared.machine.Cause.TheVariants as cause
 use Rattle.qed_model.specs.Machine.Cells.{cell_among, number_among}
 use Rattle.qed_model.specs.Machine.Loading.{load_segments}
 use Rattle.qed_model.specs.Machine.Memory.{Flags, Cell, Memory, wrap, allows, number, grants, put}
 use Rattle.qed_model.specs.Machine.Program.{memory_of, start, zeros}
+use Rattle.qed_model.specs.declared.machine.Outcome.{Outcome}
+use Rattle.qed_model.specs.declared.machine.Outcome.TheVariants.{Going, Ended}
 use Rattle.qed_model.specs.Machine.Step.{State, Refused, HasAt, known_or, in_range, fetched_at, trapped, execute, computed_value, step, run}
 use Rattle.qed_model.specs.Machine.Table.{decode_of}
 use Rattle.qed_model.specs.Machine.Values.{value, loaded}
@@ -29,7 +29,7 @@ use Rattle.qed_model.proofs.Steady.{steady_any}
 use Rattle.qed_model.proofs.OneTest.{any_reached}
 use Rattle.weave_core.proofs.Trace.{run-ended}
 use Rattle.lockstep.proofs.Tests.{tests_caught, tests_clean}
-use Rattle.weave_examples.proofs.StoreFile.{store, store_sound}
+use Rattle.weave_examples.proofs.KnownFiles.{store, store_sound}
 use Rattle.weave_examples.proofs.StoreExample.{store_code, store_known, store_admitted, lui, ld, add, sd, ecall, store_plan, store_told, store_blocks}
 use Rattle.weave_examples.proofs.ListedRuns.{has_code, are_zeros}
 use Rattle.weave_examples.proofs.StoreKept.{store_input, store_words, swept_words, store_output, swept_output}

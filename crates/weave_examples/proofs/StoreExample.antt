@@ -2,10 +2,8 @@
 -- lui x8, 0x20; ld x9, 0(x8); add x10, x9, x9; sd x10, 0(x8); ecall.
 use Rattle.std.proofs.Common.{inl, Bool, List, [], ◌∷◌, Some, refl, arith, false}
 use Rattle.std.specs.Prelude.{pos}
-use Rattle.rv_isa.specs.declared.ins.Ins.{Ins}
-use Rattle.rv_isa.specs.declared.kind.Kind.TheVariants.{Lui, Ld, Add, Sd, Ecall}
 use Rattle.qed_model.specs.declared.plan.Plan.{Plan}
-use Rattle.qed_model.specs.Machine.Table.{ins, ins_of, decode_of}
+use Rattle.qed_model.specs.Machine.Table.{Lui, Ld, Add, Sd, Ecall, Ins, ins, ins_of, decode_of}
 use Rattle.qed_model.specs.Machine.Cells.{number_among}
 use Rattle.qed_model.specs.Admission.Refusals.{IsAdmitted}
 use Rattle.qed_model.specs.Weave.Sequences.{Block, Stops}
@@ -14,7 +12,7 @@ use Rattle.qed_model.specs.Weave.Woven.{compared, IsToldOf}
 use Rattle.qed_model.proofs.ExampleCode as code
 use Rattle.qed_model.proofs.ExampleBlocks as made
 use Rattle.qed_model.proofs.ExampleCode.{IsCodeOf, options, defaults, swept}
-use Rattle.weave_examples.proofs.StoreFile.{store}
+use Rattle.weave_examples.proofs.KnownFiles.{store}
 
 -- ---- its instructions
 abbrev pub lui : Ins

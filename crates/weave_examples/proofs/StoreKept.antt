@@ -8,7 +8,7 @@ use Rattle.qed_model.specs.Promise.Landed.{Landed}
 use Rattle.qed_model.specs.Weave.Woven.{woven_file}
 use Rattle.qed_model.proofs.ExampleCode.{defaults, swept, sound}
 use Rattle.qed_model.proofs.OneTest.{any_reached}
-use Rattle.weave_examples.proofs.StoreFile.{store, store_sound}
+use Rattle.weave_examples.proofs.KnownFiles.{store, store_sound}
 use Rattle.weave_examples.proofs.StoreExample.{store_plan, store_told, store_admitted, store_swept_admitted, store_blocks, store_are}
 use Rattle.weave_core.specs.Tests.{IsWovenTest}
 use Rattle.weave_core.proofs.Tests.{tests_have_words, tests_kept, tests_landed}

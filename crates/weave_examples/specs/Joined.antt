@@ -1,9 +1,7 @@
 -- Joined pieces: several runs, each with its original and its mirror parts, are one piece, with one comparison and the visits of one
 -- piece behind them. Entry, leave and what runs first are those of a form.
 use Rattle.std.specs.Prelude.{◌≡◌, ◌≤◌, ℕ, ◌+◌, ◌*◌, Bool, true, cond, ◌&&◌, nat_le, List, [], ◌∷◌, ◌++◌, length}
-use Rattle.rv_isa.specs.declared.ins.Ins.{Ins}
 use Rattle.qed_model.specs.declared.bounds.Bounds.{Bounds}
-use Rattle.qed_model.specs.declared.item.Item.{Item}
 use Rattle.qed_model.specs.declared.plan.EntryRow.{EntryRow}
 use Rattle.qed_model.specs.Machine.Program.{Program}
 use Rattle.qed_model.specs.Promise.Caught.{Caught}
@@ -13,8 +11,8 @@ use Rattle.qed_model.specs.Promise.Landed.{IsEntry, Landed}
 use Rattle.qed_model.specs.Weave.Blocks.{begins_at}
 use Rattle.qed_model.specs.Weave.Pieces.{is_run, whole}
 use Rattle.qed_model.specs.Weave.Code.{sequences}
-use Rattle.qed_model.specs.Weave.Sequences.{Form, Block, original, each_part, compare, visit}
-use Rattle.weave_core.specs.World.{World}
+use Rattle.qed_model.specs.Weave.Sequences.{Ins, Form, Block, original, each_part, compare, visit}
+use Rattle.weave_core.specs.World.{Item, World}
 use Rattle.weave_core.specs.Rows.{Mirrors}
 use Rattle.weave_core.specs.KindItems.{MirrorsFit}
 use Rattle.weave_core.specs.Weave.{Weave, start_steps, stage_steps}

@@ -50,11 +50,13 @@ impl Pass for CompareOne {
 }
 
 /// The new code with the pass keeps the values.
+#[tactic(auto, using(crate::proofs::One::kept))]
 pub fn one_kept()
     ensures { OneKept }
 {}
 
 /// Changes in the new code with the pass are caught within the bounds of its weave.
+#[tactic(auto, using(crate::proofs::One::caught))]
 pub fn one_caught()
     ensures { OneCaught }
 {}
@@ -71,6 +73,7 @@ pub fn joined_pieces()
 
 /// A known test with a JALR and its table, and two data ranges, of which one is read only, woven in the far form, with the sweep and with
 /// mirror parts of other kinds: all premises of the promises are met, with the numbers of the plan.
+#[tactic(auto, using(crate::proofs::FarTest::far_promised))]
 pub fn far_test_promised()
     ensures { FarPromised }
 {}

@@ -1,8 +1,8 @@
 -- The code of a file that was read: its addresses, the word at each, and the instruction of that word. Code ranges are by their first
 -- address and the one behind their last.
 use Rattle.std.specs.Prelude.{◌≡◌, ℕ, ◌<◌, Bool, Option, None, if◌then◌else◌, List, Contains, ◌↔◌, true, AllPairs}
-use Rattle.elf_types.specs.declared.file.ElfFile.{ElfFile}
-use Rattle.rv_isa.specs.declared.ins.Ins.{Ins}
+pub use Rattle.elf_types.specs.declared.file.ElfFile.{ElfFile}
+pub use Rattle.rv_isa.specs.declared.ins.Ins.{Ins}
 use Rattle.qed_model.specs.Machine.Table.{decode_of}
 use Rattle.qed_model.specs.Machine.Program.{LoadSegment}
 use Rattle.qed_model.specs.Machine.Loading.{load_segments, code_ranges}

@@ -2,8 +2,8 @@
 -- and the one behind their last. The form is this project's own.
 use Rattle.std.specs.Prelude.{◌≡◌, ◌↔◌, ℕ, ◌+◌, ◌-◌, ◌*◌, ◌/◌, ◌<◌, Bool, nat_lt, ◌&&◌, ◌||◌, not, min, max, cond, List, [], ◌∷◌, map, filter, All, AllPairs}
 use Rattle.std.specs.List.{list_any}
-use Rattle.elf_types.specs.declared.file.Segment.{Segment}
-use Rattle.elf_types.specs.declared.file.ElfFile.{ElfFile}
+pub use Rattle.elf_types.specs.declared.file.Segment.{Segment}
+pub use Rattle.elf_types.specs.declared.file.ElfFile.{ElfFile}
 use Rattle.elf_types.specs.Abi.{may_write, may_execute}
 use Rattle.qed_model.specs.declared.range.Range.{Range}
 pub use Rattle.qed_model.specs.Admission.Terms.{is_in, is_in_any}

@@ -1,15 +1,11 @@
 -- Leaders: the code addresses at which blocks begin (this project's profile).
 use Rattle.std.specs.Prelude.{◌≡◌, ℕ, ◌+◌, ◌*◌, ◌%◌, Bool, true, false, Some, is_some}
-use Rattle.elf_types.specs.declared.file.ElfFile.{ElfFile}
-use Rattle.rv_isa.specs.declared.ins.Ins.{Ins}
-use Rattle.rv_isa.specs.declared.class.Class.{Class}
-use Rattle.rv_isa.specs.Kind.{class_of}
 use Rattle.rv_isa.specs.declared.class.Class.TheVariants as class
 use Rattle.qed_model.specs.declared.options.Options.{Options}
 use Rattle.qed_model.specs.declared.options.Entries.TheVariants as entries
-use Rattle.qed_model.specs.Machine.Step.{target}
+use Rattle.qed_model.specs.Machine.Step.{class_of, Class, Ins, target}
 use Rattle.qed_model.specs.Admission.Terms.{is_named_in}
-use Rattle.qed_model.specs.Admission.CodeWords.{is_code, instruction_at}
+use Rattle.qed_model.specs.Admission.CodeWords.{ElfFile, is_code, instruction_at}
 use Rattle.qed_model.specs.Admission.Reached.{IsReached}
 
 -- JAL and branches, whose target is known

@@ -2,22 +2,17 @@
 -- more addresses than a run uses do no harm.
 use Rattle.std.specs.Prelude.{◌≡◌, ℕ, ◌+◌, ◌-◌, ◌*◌, ◌%◌, ◌^◌, ◌==◌, ◌&&◌, ◌||◌, not, nat_lt, nat_le, cond, Bool, true, false, List, [], ◌∷◌, map, take, drop}
 use Rattle.std.specs.List.{list_any}
-use Rattle.elf_types.specs.declared.file.Segment.{Segment}
-use Rattle.elf_types.specs.declared.file.ElfFile.{ElfFile}
-use Rattle.rv_isa.specs.declared.class.Class.{Class}
 use Rattle.rv_isa.specs.declared.class.Class.TheVariants as class
-use Rattle.rv_isa.specs.declared.ins.Ins.{Ins}
 use Rattle.rv_isa.specs.declared.kind.Kind.{Kind}
 use Rattle.rv_isa.specs.declared.kind.Kind.TheVariants.{Lui, Auipc, Addi, Addiw, Jalr}
-use Rattle.rv_isa.specs.Kind.{class_of}
 use Rattle.qed_model.specs.declared.test.CodeWord.{CodeWord}
 use Rattle.qed_model.specs.declared.test.Test.{Test}
 use Rattle.qed_model.specs.declared.limits.TheConstants.{MAX_IMAGE_SPAN}
 use Rattle.qed_model.specs.declared.options.Options.{Options}
 use Rattle.qed_model.specs.declared.options.Entries.TheVariants as entries
-use Rattle.qed_model.specs.Machine.Step.{target, imm}
+use Rattle.qed_model.specs.Machine.Step.{class_of, Ins, Class, target, imm}
 use Rattle.qed_model.specs.Machine.Values.{word}
-use Rattle.qed_model.specs.Admission.Terms.{is_code_address, is_named_in}
+use Rattle.qed_model.specs.Admission.Terms.{ElfFile, Segment, is_code_address, is_named_in}
 use Rattle.qed_model.specs.Admission.DataRanges.{range_of}
 use Rattle.qed_model.specs.Admission.Test.{IsTestOf}
 

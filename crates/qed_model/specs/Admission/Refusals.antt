@@ -1,15 +1,13 @@
 -- Why a test is not admitted, in sentences on its segments, its sections and its code, and the order of the rules.
 use Rattle.std.specs.Prelude.{◌≡◌, ◌⊎◌, ℕ, ◌+◌, ◌^◌, ◌<◌, ◌≤◌, is_some, Some, None, Bool, true, false, List, length, slice_get}
-use Rattle.elf_types.specs.declared.file.ElfFile.{ElfFile}
 use Rattle.qed_model.specs.declared.limits.Limit.TheVariants as limit
 use Rattle.qed_model.specs.declared.limits.TheConstants.{CODE_ROOM}
 use Rattle.qed_model.specs.Limits.{limit_of}
 use Rattle.qed_model.specs.declared.admit.AdmitError.{AdmitError}
 use Rattle.qed_model.specs.declared.admit.AdmitError.TheVariants as error
-use Rattle.qed_model.specs.declared.options.Options.{Options}
 use Rattle.qed_model.specs.Below.{IsFirstBelow}
 use Rattle.qed_model.specs.Weave.OutputParts.{base_of, high_of, distance_of}
-use Rattle.qed_model.specs.Weave.Places.{image_of, half_of, code_place}
+use Rattle.qed_model.specs.Weave.Places.{Options, ElfFile, image_of, half_of, code_place}
 use Rattle.qed_model.specs.Admission.Terms.{is_compressed, is_dynamic}
 use Rattle.qed_model.specs.Admission.CodeWords.{loads_of, is_code, word_at, AreCodeAddresses}
 use Rattle.qed_model.specs.Admission.Rules.{passes_at, is_writable_code, is_misshapen_section, is_misshapen_segment, is_unknown, high_at, is_breakpoint, is_far_constant, is_mixed}

@@ -2,13 +2,8 @@
 -- other rules, and the order of all.
 use Rattle.std.specs.Prelude.{ℕ, ◌+◌, ◌^◌, nat_lt, not, ◌&&◌, ◌||◌, Bool, true, false, Option, Some, None, is_none, List, [], ◌∷◌, ℤ, pos, negsuc}
 use Rattle.std.specs.List.{list_any}
-use Rattle.elf_types.specs.declared.file.Segment.{Segment}
 use Rattle.elf_types.specs.declared.file.Section.{Section}
-use Rattle.elf_types.specs.declared.file.ElfFile.{ElfFile}
-use Rattle.rv_isa.specs.declared.ins.Ins.{Ins}
-use Rattle.rv_isa.specs.declared.kind.Kind.{Kind}
-use Rattle.rv_isa.specs.declared.kind.Kind.TheVariants.{Ebreak}
-use Rattle.qed_model.specs.Machine.Table.{decode_of}
+use Rattle.qed_model.specs.Machine.Table.{Ebreak, Kind, Ins, decode_of}
 use Rattle.qed_model.specs.Machine.Step.{target}
 use Rattle.qed_model.specs.Weave.Placed.{distance_between}
 use Rattle.qed_model.specs.Weave.Sequences.{is_auipc}
@@ -17,7 +12,7 @@ use Rattle.qed_model.specs.Machine.Loading.{is_code_section, lies_in_any, sectio
 use Rattle.qed_model.specs.Admission.Terms.{is_in_image, is_cut, is_ragged, high_register}
 use Rattle.qed_model.specs.Admission.DataRanges.{is_written, is_executed, is_data, data_ranges, do_meet}
 use Rattle.qed_model.specs.Weave.OutputParts.{base_of}
-use Rattle.qed_model.specs.Weave.Places.{image_of}
+use Rattle.qed_model.specs.Weave.Places.{ElfFile, Segment, image_of}
 use Rattle.qed_model.specs.Admission.CodeWords.{loads_of, is_code, word_at, instruction_at}
 
 -- number i of a list passes a test

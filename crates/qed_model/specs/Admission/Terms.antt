@@ -4,15 +4,15 @@
 use Rattle.std.specs.Prelude.{ℕ, ◌+◌, ◌-◌, ◌%◌, ◌^◌, ◌==◌, ◌&&◌, ◌||◌, not, nat_lt, nat_le, if◌then◌else◌, Bool, Option, Some, None, List, [], ◌∷◌, filter, slice_get}
 use Rattle.std.specs.List.{list_any}
 use Rattle.std.specs.Option.{option_map, option_or}
-use Rattle.elf_types.specs.declared.file.Segment.{Segment}
+pub use Rattle.elf_types.specs.declared.file.Segment.{Segment}
 use Rattle.elf_types.specs.declared.file.Section.{Section}
 use Rattle.elf_types.specs.declared.file.Symbol.{Symbol}
 use Rattle.elf_types.specs.declared.file.Rela.{Rela}
-use Rattle.elf_types.specs.declared.file.ElfFile.{ElfFile}
+pub use Rattle.elf_types.specs.declared.file.ElfFile.{ElfFile}
 use Rattle.elf_types.specs.Abi.{has_compressed}
 pub use Rattle.elf_types.specs.Segment.{is_in_image, is_dynamic_segment}
 pub use Rattle.elf_types.specs.Symbol.{is_code_symbol}
-use Rattle.rv_isa.specs.declared.ins.Ins.{Ins}
+pub use Rattle.rv_isa.specs.declared.ins.Ins.{Ins}
 use Rattle.rv_isa.specs.Ins.{writes, reads}
 use Rattle.qed_model.specs.Machine.Values.{wrapped}
 use Rattle.qed_model.specs.Machine.Program.{LoadSegment}

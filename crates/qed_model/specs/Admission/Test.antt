@@ -1,12 +1,10 @@
 -- What is told of a test that was admitted.
 use Rattle.std.specs.Prelude.{◌≡◌, Some, List, map, All}
-use Rattle.elf_types.specs.declared.file.ElfFile.{ElfFile}
-use Rattle.qed_model.specs.declared.options.Options.{Options}
 use Rattle.qed_model.specs.declared.test.CodeWord.{CodeWord}
 use Rattle.qed_model.specs.declared.test.Test.{Test}
 use Rattle.qed_model.specs.Machine.Table.{decode_of}
 use Rattle.qed_model.specs.Weave.OutputParts.{base_of, low_of, high_of}
-use Rattle.qed_model.specs.Weave.Places.{image_of, half_of}
+use Rattle.qed_model.specs.Weave.Places.{Options, ElfFile, image_of, half_of}
 use Rattle.qed_model.specs.Admission.CodeWords.{ranges_of, word_at, AreCodeAddresses}
 use Rattle.qed_model.specs.Admission.DataRanges.{range_of, data_ranges}
 

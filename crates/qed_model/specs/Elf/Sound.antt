@@ -1,10 +1,8 @@
 -- What is true of each file that the reader takes, whatever its bytes are.
 use Rattle.std.specs.Prelude.{◌≡◌, ◌⊎◌, ℕ, ◌+◌, ◌^◌, ◌<◌, ◌≤◌, true, All, List, length, slice_index}
-use Rattle.elf_types.specs.declared.file.ElfFile.{ElfFile}
-use Rattle.elf_types.specs.declared.file.Segment.{Segment}
 use Rattle.qed_model.specs.Members.{Among, Pairs}
 use Rattle.qed_model.specs.Machine.Program.{LoadSegment}
-use Rattle.qed_model.specs.Machine.Loading.{load_segments}
+use Rattle.qed_model.specs.Machine.Loading.{Segment, ElfFile, load_segments}
 use Rattle.qed_model.specs.Machine.Cells.{has}
 use Rattle.qed_model.specs.Elf.Layout.{IsName, IsSymbol}
 

@@ -1,8 +1,8 @@
 -- The file that a machine starts from, as its segments and sections describe it (ELF gABI, program loading).
 use Rattle.std.specs.Prelude.{ℕ, ◌+◌, ◌&&◌, ◌||◌, Bool, false, cond, nat_lt, nat_le, List, [], ◌∷◌}
-use Rattle.elf_types.specs.declared.file.Segment.{Segment}
+pub use Rattle.elf_types.specs.declared.file.Segment.{Segment}
 use Rattle.elf_types.specs.declared.file.Section.{Section}
-use Rattle.elf_types.specs.declared.file.ElfFile.{ElfFile}
+pub use Rattle.elf_types.specs.declared.file.ElfFile.{ElfFile}
 use Rattle.elf_types.specs.Abi.{is_load}
 pub use Rattle.elf_types.specs.Section.{is_code_section}
 use Rattle.qed_model.specs.Machine.Program.{Program, LoadSegment}

@@ -1,10 +1,7 @@
 -- Which registers an instruction reads and writes, by the fields of its kind's format (RISC-V unprivileged manual, "Base Instruction Formats").
 use Rattle.std.specs.Prelude.{◌≡◌, Bool, true, false, not, ◌&&◌}
-use Rattle.rv_isa.specs.declared.kind.Kind.{Kind}
-use Rattle.rv_isa.specs.declared.kind.Kind.TheVariants.{Fence}
-use Rattle.rv_isa.specs.declared.ins.Ins.{Ins}
 use Rattle.rv_isa.specs.Ins.{named, writes, reads}
-use Rattle.qed_model.specs.Machine.Table.{Format, R, S, B, U, J, N, row_of}
+use Rattle.qed_model.specs.Machine.Table.{Ins, Fence, Kind, Format, R, S, B, U, J, N, row_of}
 
 -- the formats with each field
 abbrev pub has_rd : Format → Bool

@@ -1,8 +1,7 @@
 -- What a machine starts from, and the state in which it starts (ELF gABI, program loading).
 use Rattle.std.specs.Prelude.{◌≡◌, ℕ, ◌-◌, ◌^◌, ◌<◌, List, [], ◌∷◌, ◌++◌, length, replicate, slice_set, slice_index}
 use Rattle.std.specs.FinMap.{from_entries}
-use Rattle.qed_model.specs.declared.machine.Outcome.TheVariants.{Going}
-use Rattle.qed_model.specs.Machine.Step.{State}
+use Rattle.qed_model.specs.Machine.Step.{Going, State}
 use Rattle.qed_model.specs.Machine.Memory.{Flags, Cell, Memory, cells_from}
 
 -- a PT_LOAD segment: its address, its size in memory, its permissions, and its bytes in the file (ELF gABI, program header)

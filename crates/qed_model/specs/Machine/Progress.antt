@@ -1,8 +1,6 @@
 -- Runs with the number of their steps.
 use Rattle.std.specs.Prelude.{ℕ, zero, suc, ◌+◌, ◌-◌, ◌^◌, min}
-use Rattle.qed_model.specs.declared.machine.Outcome.{Outcome}
-use Rattle.qed_model.specs.declared.machine.Outcome.TheVariants.{Going, Ended, Fired, Trapped}
-use Rattle.qed_model.specs.Machine.Step.{State, step}
+use Rattle.qed_model.specs.Machine.Step.{Going, Ended, Fired, Trapped, Outcome, State, step}
 
 -- a state, and the number of steps that were made from states that went on
 pub record Progress : Type 0 where

@@ -1,17 +1,16 @@
 -- States of the machine, one step, and runs (RISC-V unprivileged manual, RV64I).
 -- One hart, whose memory has permissions for each byte; ECALL ends a run and EBREAK fires a check (this project's profile).
 use Rattle.std.specs.Prelude.{◌≡◌, ℕ, zero, suc, ◌+◌, ◌*◌, ◌/◌, ◌%◌, ◌^◌, Bool, false, cond, ◌&&◌, ◌||◌, List, [], ◌∷◌, nat_le, ◌==◌, Option, Some, None, pos, slice_index}
-use Rattle.rv_isa.specs.declared.kind.Kind.{Kind}
-use Rattle.rv_isa.specs.declared.kind.Kind.TheVariants.{Lui, Auipc, Ebreak}
-use Rattle.rv_isa.specs.declared.ins.Ins.{Ins}
-use Rattle.rv_isa.specs.declared.class.Class.{Class}
-use Rattle.rv_isa.specs.Kind.{class_of}
-use Rattle.rv_isa.specs.Regs.{set_reg}
+pub use Rattle.rv_isa.specs.declared.ins.Ins.{Ins}
+pub use Rattle.rv_isa.specs.declared.class.Class.{Class}
+pub use Rattle.rv_isa.specs.Kind.{class_of}
+pub use Rattle.rv_isa.specs.Regs.{set_reg}
 use Rattle.rv_isa.specs.declared.class.Class.TheVariants as class
-use Rattle.qed_model.specs.Machine.Table.{Format, R, ins, row_of, decode_of}
+pub use Rattle.qed_model.specs.Machine.Table.{Illegal, Lui, Auipc, Jal, Jalr, Beq, Bne, Blt, Bge, Bltu, Bgeu, Lb, Lh, Lw, Ld, Lbu, Lhu, Lwu, Sb, Sh, Sw, Sd, Addi, Slti, Sltiu, Xori, Ori, Andi, Slli, Srli, Srai, Add, Sub, Sll, Slt, Sltu, Xor, Srl, Sra, Or, And, Fence, Ecall, Ebreak, Addiw, Slliw, Srliw, Sraiw, Addw, Subw, Sllw, Srlw, Sraw, Mul, Mulh, Mulhsu, Mulhu, Div, Divu, Rem, Remu, Mulw, Divw, Divuw, Remw, Remuw, Kind, ins, row_of}
+use Rattle.qed_model.specs.Machine.Table.{Format, R, decode_of}
 use Rattle.qed_model.specs.declared.machine.Cause.{Cause}
-use Rattle.qed_model.specs.declared.machine.Outcome.{Outcome}
-use Rattle.qed_model.specs.declared.machine.Outcome.TheVariants.{Going, Ended, Fired, Trapped}
+pub use Rattle.qed_model.specs.declared.machine.Outcome.{Outcome}
+pub use Rattle.qed_model.specs.declared.machine.Outcome.TheVariants.{Going, Ended, Fired, Trapped}
 use Rattle.qed_model.specs.Machine.Values.{wrapped, value, holds, width_of, loaded}
 use Rattle.qed_model.specs.Machine.Memory.{Memory, put, number, grants}
 use Rattle.qed_model.specs.declared.machine.Cause.TheVariants as cause

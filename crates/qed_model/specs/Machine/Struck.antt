@@ -1,10 +1,9 @@
 -- States with one change.
 use Rattle.std.specs.Prelude.{ℕ}
-use Rattle.rv_isa.specs.Regs.{set_reg}
 use Rattle.qed_model.specs.declared.change.Place.{Place}
 use Rattle.qed_model.specs.declared.change.Place.TheVariants.{Reg, Word}
 use Rattle.qed_model.specs.Machine.Memory.{put}
-use Rattle.qed_model.specs.Machine.Step.{State}
+use Rattle.qed_model.specs.Machine.Step.{set_reg, State}
 
 -- a register other than x0 gets the number; of a word each byte that is mapped gets its byte of the number, little endian,
 -- whatever its permission; all else stays

@@ -1,7 +1,6 @@
 -- Walks: several steps, of which each state on the way is said to have a property.
 use Rattle.std.specs.Prelude.{◌≡◌, ℕ, ◌<◌}
-use Rattle.qed_model.specs.declared.machine.Outcome.TheVariants.{Going}
-use Rattle.qed_model.specs.Machine.Step.{State, Fetched, fetched_at, run}
+use Rattle.qed_model.specs.Machine.Step.{Going, State, Fetched, fetched_at, run}
 
 -- a state that goes on over this code
 pub record Over (c : ℕ → Fetched) (s : State) : Type 0 where

@@ -2,8 +2,7 @@
 use Rattle.std.specs.Prelude.{◌≡◌, ℕ, ◌+◌, ◌≤◌, ◌⊎◌, Bool, cond, List, [], ◌∷◌, Option, Some}
 use Rattle.qed_model.specs.declared.change.Change.{Change}
 use Rattle.qed_model.specs.declared.bounds.Bounds.{Bounds}
-use Rattle.qed_model.specs.declared.machine.Outcome.TheVariants.{Going, Ended, Fired}
-use Rattle.qed_model.specs.Machine.Step.{State}
+use Rattle.qed_model.specs.Machine.Step.{Going, Ended, Fired, State}
 use Rattle.qed_model.specs.Promise.Kept.{after_output, Steady}
 use Rattle.qed_model.specs.Machine.Program.{Program, start, AreStartRegs}
 use Rattle.qed_model.specs.Promise.Closed.{IsOpen}

@@ -3,9 +3,7 @@ use Rattle.std.specs.Prelude.{◌≡◌, ℕ, zero, suc, ◌+◌, ◌%◌, ◌�
 use Rattle.qed_model.specs.declared.change.Place.{Place}
 use Rattle.qed_model.specs.declared.change.Place.TheVariants.{Reg, Word}
 use Rattle.qed_model.specs.declared.change.Change.{Change}
-use Rattle.qed_model.specs.declared.machine.Outcome.{Outcome}
-use Rattle.qed_model.specs.declared.machine.Outcome.TheVariants.{Going, Ended, Fired, Trapped}
-use Rattle.qed_model.specs.Machine.Step.{State, reg, step}
+use Rattle.qed_model.specs.Machine.Step.{Going, Ended, Fired, Trapped, Outcome, State, reg, step}
 use Rattle.qed_model.specs.Machine.Memory.{number}
 use Rattle.qed_model.specs.Machine.Struck.{struck}
 

@@ -3,14 +3,11 @@
 use Rattle.std.specs.Prelude.{◌≡◌, ℕ, ◌+◌, ◌%◌, ◌^◌, Bool, true, false, not, cond, ◌&&◌, ◌||◌, nat_le, ◌==◌, ℤ, pos, negsuc}
 use Rattle.rv_isa.specs.declared.kind.Kind.{Kind}
 use Rattle.rv_isa.specs.declared.kind.Kind.TheVariants.{Addi, Beq, Bne}
-use Rattle.rv_isa.specs.declared.ins.Ins.{Ins}
-use Rattle.rv_isa.specs.declared.class.Class.{Class}
 use Rattle.rv_isa.specs.declared.class.Class.TheVariants as class
-use Rattle.rv_isa.specs.Kind.{class_of}
 use Rattle.rv_isa.specs.Operation.{pair}
 use Rattle.qed_model.specs.declared.change.Place.{Place}
 use Rattle.qed_model.specs.declared.change.Place.TheVariants.{Reg, Word}
-use Rattle.qed_model.specs.Machine.Step.{State, Fetched, Known, fetched_at}
+use Rattle.qed_model.specs.Machine.Step.{class_of, Class, Ins, State, Fetched, Known, fetched_at}
 
 -- the kind is ADDI
 abbrev pub is_addi : Kind → Bool

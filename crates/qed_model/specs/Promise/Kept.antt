@@ -1,13 +1,8 @@
 -- What is promised of the input's run and the output's run: the input's values are kept, and no check fires.
 use Rattle.std.specs.Prelude.{◌≡◌, ◌≢◌, ℕ, ◌+◌, ◌*◌, ◌<◌, ◌≤◌, ◌↔◌, Bool, true, false, List, is_some}
-use Rattle.std.specs.FinMap.{get}
-use Rattle.rv_isa.specs.declared.ins.Ins.{Ins}
 use Rattle.rv_isa.specs.declared.class.Class.TheVariants as class
-use Rattle.rv_isa.specs.Kind.{class_of}
-use Rattle.qed_model.specs.declared.machine.Outcome.{Outcome}
-use Rattle.qed_model.specs.declared.machine.Outcome.TheVariants.{Going, Ended, Fired, Trapped}
-use Rattle.qed_model.specs.Machine.Step.{State, reg, Known, next, step, run}
-use Rattle.qed_model.specs.Machine.Memory.{byte_at}
+use Rattle.qed_model.specs.Machine.Step.{Going, Ended, Fired, Trapped, Outcome, class_of, Ins, State, reg, Known, next, step, run}
+use Rattle.qed_model.specs.Machine.Memory.{get, byte_at}
 use Rattle.qed_model.specs.Machine.Program.{Program, memory_of, start, zeros, AreStartRegs}
 
 -- the input starts with all registers 0

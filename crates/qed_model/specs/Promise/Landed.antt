@@ -1,8 +1,7 @@
 -- What is promised of jumps that land wrong: an entry that is reached with the signature of another one fires.
 use Rattle.std.specs.Prelude.{◌≡◌, ◌≢◌, ℕ, ◌≤◌, ◌⊎◌, Bool, List, [], ◌∷◌}
-use Rattle.qed_model.specs.declared.machine.Outcome.TheVariants.{Going, Fired}
 use Rattle.qed_model.specs.declared.plan.EntryRow.{EntryRow}
-use Rattle.qed_model.specs.Machine.Step.{State, moved, run}
+use Rattle.qed_model.specs.Machine.Step.{Going, Fired, State, moved, run}
 use Rattle.qed_model.specs.Promise.Kept.{after_output, Steady}
 use Rattle.qed_model.specs.Machine.Program.{Program, AreStartRegs}
 

@@ -1,12 +1,10 @@
 -- The blocks of a file that was read, in ascending order: what list of blocks is woven (this project's profile).
 use Rattle.std.specs.Prelude.{◌≡◌, ◌⊎◌, ◌↔◌, ℕ, ◌+◌, ◌*◌, ◌<◌, ◌≤◌, ◌==◌, Bool, true, false, Some, List, [], ◌∷◌, length, All, AllPairs}
 use Rattle.std.specs.List.{list_any}
-use Rattle.elf_types.specs.declared.file.ElfFile.{ElfFile}
-use Rattle.rv_isa.specs.declared.ins.Ins.{Ins}
-use Rattle.rv_isa.specs.Kind.{class_of}
-use Rattle.qed_model.specs.declared.options.Options.{Options}
+pub use Rattle.elf_types.specs.declared.file.ElfFile.{ElfFile}
+pub use Rattle.qed_model.specs.declared.options.Options.{Options}
 use Rattle.qed_model.specs.declared.options.Entries.TheVariants as entries
-use Rattle.qed_model.specs.Weave.Sequences.{Block, End, Falls, Stops}
+use Rattle.qed_model.specs.Weave.Sequences.{class_of, Ins, Block, End, Falls, Stops}
 use Rattle.qed_model.specs.Admission.CodeWords.{is_code, instruction_at}
 use Rattle.qed_model.specs.Admission.Leaders.{IsLeader, HasIndirect, is_end}
 use Rattle.qed_model.specs.Admission.Reached.{IsReached}

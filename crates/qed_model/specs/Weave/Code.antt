@@ -1,9 +1,6 @@
 -- The new code of blocks: what is woven for each, and how it stands one behind the other.
 use Rattle.std.specs.Prelude.{ℕ, ◌+◌, ◌*◌, List, [], ◌∷◌, ◌++◌, length}
-use Rattle.rv_isa.specs.declared.ins.Ins.{Ins}
-use Rattle.qed_model.specs.declared.item.Item.{Item}
-use Rattle.qed_model.specs.declared.item.Item.TheVariants.{Mark, Plain, Constant, Go}
-use Rattle.qed_model.specs.Weave.Sequences.{Form, End, Block, body_length, prologue, check_sign, piece, leave, stub}
+use Rattle.qed_model.specs.Weave.Sequences.{Mark, Plain, Constant, Go, Item, Ins, Form, End, Block, body_length, prologue, check_sign, piece, leave, stub}
 
 -- ---- sequences
 pub record Sequences : Type 0 where

@@ -1,12 +1,11 @@
 -- The two halves of the output's state against the input's states (this project's profile): x1 to x13 and the bytes of the input
 -- in place are the original half, x17 to x29 and the bytes at the distance d are the duplicate half.
 use Rattle.std.specs.Prelude.{◌≡◌, ℕ, ◌+◌, ◌*◌, ◌^◌, ◌<◌, ◌≤◌, true, length, is_some}
-use Rattle.std.specs.FinMap.{get}
 use Rattle.qed_model.specs.declared.limits.Limit.TheVariants as limit
 use Rattle.qed_model.specs.declared.limits.TheConstants.{CODE_ROOM}
 use Rattle.qed_model.specs.Limits.{limit_of}
 use Rattle.qed_model.specs.Machine.Step.{State, reg}
-use Rattle.qed_model.specs.Machine.Memory.{flags_at, Memory, allows, byte_at}
+use Rattle.qed_model.specs.Machine.Memory.{get, flags_at, Memory, allows, byte_at}
 
 -- where the halves stand, and what the two files say of permissions; f is the input's memory, g the output's
 pub record Layout (base d : ℕ) (f g : Memory) : Type 0 where

@@ -3,20 +3,11 @@
 -- tick, which calls the check, one for all of the code, where the counter would reach 0. The check compares where it was called from with
 -- the entry of that address, compares all registers, visits a round of data words, and goes back to the entry by the table.
 use Rattle.std.specs.Prelude.{ℕ, ◌+◌, ◌%◌, ◌^◌, Bool, true, false, cond, ◌==◌, nat_lt, max, List, [], ◌∷◌, ◌++◌, ℤ, pos, neg_ℤ}
-use Rattle.rv_isa.specs.declared.kind.Kind.{Kind}
-use Rattle.rv_isa.specs.declared.kind.Kind.TheVariants.{Lui, Addi, Andi, Slli, Srli, Add, Sub, Beq, Bne, Blt, Bge, Bltu, Bgeu, Jal, Jalr, Lw, Ebreak}
-use Rattle.rv_isa.specs.declared.class.Class.{Class}
 use Rattle.rv_isa.specs.declared.class.Class.TheVariants as class
-use Rattle.rv_isa.specs.declared.ins.Ins.{Ins}
-use Rattle.rv_isa.specs.Kind.{class_of}
-use Rattle.rv_isa.specs.Operation.{pair}
-use Rattle.qed_model.specs.declared.item.Item.{Item}
-use Rattle.qed_model.specs.declared.item.Item.TheVariants.{Mark, Plain, Constant, Go}
-use Rattle.qed_model.specs.Machine.Table.{ins}
 use Rattle.qed_model.specs.Machine.Values.{wrapped}
-use Rattle.qed_model.specs.Machine.Step.{target}
+use Rattle.qed_model.specs.Machine.Step.{Ins, Lui, Addi, Andi, Slli, Srli, Add, Sub, Beq, Bne, Blt, Bge, Bltu, Bgeu, Jal, Jalr, Lw, Ebreak, Kind, ins, class_of, Class, target}
 use Rattle.qed_model.specs.Weave.Placed.{distance_between, upper_part, lower_part, sum_of_sizes}
-use Rattle.qed_model.specs.Weave.Sequences.{End, Falls, Stops, fired_check, guard, guards_of, compare, visit, links, zero_from}
+use Rattle.qed_model.specs.Weave.Sequences.{Mark, Plain, Constant, Go, Item, pair, End, Falls, Stops, fired_check, guard, guards_of, compare, visit, links, zero_from}
 
 -- ---- the tick
 -- counts `most` steps, and calls the check at a distance where not so many are left; behind the call stands an EBREAK, to which nothing

@@ -1,16 +1,11 @@
 -- The new code of a test in the lean form: its sequences, the steps that its ticks count, and its items (this project's profile).
 use Rattle.std.specs.Prelude.{ℕ, ◌+◌, ◌-◌, ◌*◌, ◌%◌, ◌^◌, Bool, true, false, cond, ◌==◌, ◌&&◌, ◌||◌, nat_lt, min, max, List, [], ◌∷◌, ◌++◌}
 use Rattle.std.specs.List.{list_any}
-use Rattle.elf_types.specs.declared.file.ElfFile.{ElfFile}
 use Rattle.rv_isa.specs.declared.class.Class.{Class}
 use Rattle.rv_isa.specs.declared.class.Class.TheVariants as class
-use Rattle.rv_isa.specs.declared.ins.Ins.{Ins}
 use Rattle.rv_isa.specs.Kind.{class_of}
-use Rattle.qed_model.specs.declared.item.Item.{Item}
-use Rattle.qed_model.specs.declared.item.Item.TheVariants.{Mark, Go}
-use Rattle.qed_model.specs.declared.options.Options.{Options}
 use Rattle.qed_model.specs.Machine.Step.{target}
-use Rattle.qed_model.specs.Weave.Blocks.{begins_at}
+use Rattle.qed_model.specs.Weave.Blocks.{Options, ElfFile, begins_at}
 use Rattle.qed_model.specs.Weave.Bounds.{cost_of, entry_steps}
 use Rattle.qed_model.specs.Weave.Code.{Sequences, code_of}
 use Rattle.qed_model.specs.Weave.Costs.{cost_each, original_cost, spent, mirror_steps}
@@ -19,7 +14,7 @@ use Rattle.qed_model.specs.Weave.Lean.{enter, call_at, check, leave, begin, leav
 use Rattle.qed_model.specs.Weave.OutputParts.{base_of}
 use Rattle.qed_model.specs.Weave.Placed.{distance_between, sum_of_sizes, entry_of}
 use Rattle.qed_model.specs.Weave.Places.{image_of, half_of, code_place}
-use Rattle.qed_model.specs.Weave.Sequences.{Form, Block, End, Falls, Stops, body_length, original, each_part, before_end}
+use Rattle.qed_model.specs.Weave.Sequences.{Mark, Go, Item, Ins, Form, Block, End, Falls, Stops, body_length, original, each_part, before_end}
 
 -- what it depends on besides its blocks and the form: what x15 counts from, the most instructions of a piece, whether its mirror parts are of other
 -- kinds, whether entries test the signature, the address of the check, which blocks have a tick, the most steps from the entry of a block to the next tick, and

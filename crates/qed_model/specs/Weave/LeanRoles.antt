@@ -1,18 +1,11 @@
 -- What the items of the lean form are for: the same items as those of its sequences, in parts of one role; and what the items of the new code are
 -- for in the form that is asked for.
 use Rattle.std.specs.Prelude.{◌≡◌, ℕ, ◌+◌, ◌*◌, Bool, cond, Option, Some, None, List, [], ◌∷◌, ◌++◌, length, map, drop, false}
-use Rattle.elf_types.specs.declared.file.ElfFile.{ElfFile}
-use Rattle.rv_isa.specs.declared.ins.Ins.{Ins}
-use Rattle.rv_isa.specs.declared.class.Class.{Class}
 use Rattle.rv_isa.specs.declared.class.Class.TheVariants as class
-use Rattle.rv_isa.specs.Kind.{class_of}
-use Rattle.qed_model.specs.declared.item.Item.{Item}
-use Rattle.qed_model.specs.declared.item.Item.TheVariants.{Mark, Plain}
-use Rattle.qed_model.specs.declared.options.Options.{Options}
 use Rattle.qed_model.specs.declared.role.Role.{Role}
 use Rattle.qed_model.specs.declared.role.Role.TheVariants as role
 use Rattle.qed_model.specs.declared.role.RoleRow.{RoleRow}
-use Rattle.qed_model.specs.Weave.Blocks.{begins_at}
+use Rattle.qed_model.specs.Weave.Blocks.{Options, ElfFile, begins_at}
 use Rattle.qed_model.specs.Weave.Forms.{mirror_of, form_of}
 use Rattle.qed_model.specs.Weave.Lean.{tick, call_at, first_word, parted, called, begun, done, look_up, check_sign, leave_as, leave, begin}
 use Rattle.qed_model.specs.Weave.LeanCode.{Lean, fall_words, lean_of, lean_items, items_with}
@@ -20,7 +13,7 @@ use Rattle.qed_model.specs.Weave.OutputParts.{base_of}
 use Rattle.qed_model.specs.Weave.Placed.{distance_between, entry_of}
 use Rattle.qed_model.specs.Weave.Places.{image_of, half_of, code_place}
 use Rattle.qed_model.specs.Weave.Roles.{joined, guard_parts, compare_parts, originals, original_parts, mirror_parts, each_parts, end_parts, way_parts, row_of, compared_roles}
-use Rattle.qed_model.specs.Weave.Sequences.{Form, Block, End, Falls, Stops, guard, visit, before_end, body_length, stub}
+use Rattle.qed_model.specs.Weave.Sequences.{Mark, Plain, Item, class_of, Class, Ins, Form, Block, End, Falls, Stops, guard, visit, before_end, body_length, stub}
 
 -- ---- what runs first, and the check
 abbrev pub first_parts : Form → ℕ → Lean → ℕ → ℕ → List (Role × List Item)

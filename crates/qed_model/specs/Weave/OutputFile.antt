@@ -2,13 +2,9 @@
 -- the ELF gABI.
 use Rattle.std.specs.Prelude.{ℕ, ◌+◌, ◌-◌, ◌*◌, ◌/◌, max, Bool, false, nat_lt, nat_le, not, if◌then◌else◌, Option, Some, None, List, [], ◌∷◌, ◌++◌, length, map, filter, flat_map, codes}
 use Rattle.std.specs.List.{list_any}
-use Rattle.elf_types.specs.declared.file.ElfFile.{ElfFile}
-use Rattle.elf_types.specs.declared.file.Segment.{Segment}
 use Rattle.elf_types.specs.declared.output.OutFile.{OutFile}
 use Rattle.elf_types.specs.declared.output.OutSection.{OutSection}
 use Rattle.elf_types.specs.declared.abi.TheConstants.{PT_LOAD, PF_R, PF_W, SHF_ALLOC}
-use Rattle.rv_isa.specs.declared.ins.Ins.{Ins}
-use Rattle.rv_isa.specs.Kind.{class_of}
 use Rattle.qed_model.specs.declared.plan.EntryRow.{EntryRow}
 use Rattle.qed_model.specs.declared.plan.PieceRow.{PieceRow}
 use Rattle.qed_model.specs.Numbers.{number_bytes}
@@ -16,11 +12,11 @@ use Rattle.qed_model.specs.Below.{each, gather}
 use Rattle.qed_model.specs.Machine.Loading.{load_segments}
 use Rattle.qed_model.specs.Machine.Cells.{byte_among}
 use Rattle.qed_model.specs.Admission.DataRanges.{is_written, is_data, data_segments, data_ranges, is_in}
-use Rattle.qed_model.specs.Weave.Places.{image_of, half_of, code_place}
+use Rattle.qed_model.specs.Weave.Places.{Segment, ElfFile, image_of, half_of, code_place}
 pub use Rattle.qed_model.specs.Weave.OutputParts.{shifted}
 use Rattle.qed_model.specs.Weave.OutputParts.{copies, code_segment, text_section, map_section, out_symbols}
 use Rattle.qed_model.specs.Weave.Placed.{entry_at}
-use Rattle.qed_model.specs.Weave.Sequences.{Block, End, Falls, Stops}
+use Rattle.qed_model.specs.Weave.Sequences.{class_of, Ins, Block, End, Falls, Stops}
 use Rattle.qed_model.specs.Admission.Leaders.{is_indirect}
 
 -- ---- data ranges

@@ -1,12 +1,10 @@
 -- Items that have their places: each is one or two instructions, which know where they stand. In the far form of the code a jump to
 -- an entry is two.
 use Rattle.std.specs.Prelude.{◌≡◌, ℕ, ◌+◌, ◌-◌, ◌/◌, ◌%◌, ◌^◌, Bool, true, false, ◌==◌, ◌<◌, if◌then◌else◌, AllPairs, List, [], ◌∷◌, ◌++◌, map, Option, Some, None, unwrap_or, ℤ, pos, negsuc, ◌+ℤ◌, ◌-ℤ◌, ◌*ℤ◌}
-use Rattle.rv_isa.specs.declared.kind.Kind.TheVariants.{Addi, Auipc, Jal, Jalr}
-use Rattle.rv_isa.specs.declared.ins.Ins.{Ins}
-use Rattle.qed_model.specs.declared.item.Item.{Item}
-use Rattle.qed_model.specs.declared.item.Item.TheVariants.{Mark, Plain, Constant, Go}
+pub use Rattle.qed_model.specs.declared.item.Item.{Item}
+pub use Rattle.qed_model.specs.declared.item.Item.TheVariants.{Mark, Plain, Constant, Go}
 use Rattle.qed_model.specs.declared.plan.EntryRow.{EntryRow}
-use Rattle.qed_model.specs.Machine.Table.{ins, signed, decode_of}
+use Rattle.qed_model.specs.Machine.Table.{Ins, Addi, Auipc, Jal, Jalr, ins, signed, decode_of}
 
 -- ---- sizes and places
 -- the bytes of a jump to an entry: one word in the near form, two in the far form

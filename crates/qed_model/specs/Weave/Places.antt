@@ -1,9 +1,9 @@
 -- Where the parts of an output stand, by the image and the distance that is asked for.
 use Rattle.std.specs.Prelude.{◌≡◌, ℕ, ◌+◌, ◌*◌, ◌%◌, ◌<◌, ◌≤◌, Option, unwrap_or, IfSome, List}
-use Rattle.elf_types.specs.declared.file.Segment.{Segment}
-use Rattle.elf_types.specs.declared.file.ElfFile.{ElfFile}
+pub use Rattle.elf_types.specs.declared.file.Segment.{Segment}
+pub use Rattle.elf_types.specs.declared.file.ElfFile.{ElfFile}
 use Rattle.qed_model.specs.declared.limits.TheConstants.{MAX_HALF}
-use Rattle.qed_model.specs.declared.options.Options.{Options}
+pub use Rattle.qed_model.specs.declared.options.Options.{Options}
 use Rattle.qed_model.specs.declared.options.Entries.TheVariants as entries
 use Rattle.qed_model.specs.Admission.Terms.{image_segments}
 use Rattle.qed_model.specs.Weave.Bounds.{cost_of, entry_steps}

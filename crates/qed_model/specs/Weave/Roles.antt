@@ -1,20 +1,13 @@
 -- What the items of the new code with a comparison behind each piece are for: the same items as those of the sequences, in parts of one
 -- role.
 use Rattle.std.specs.Prelude.{◌≡◌, ℕ, ◌+◌, ◌-◌, ◌*◌, cond, ◌==◌, List, [], ◌∷◌, ◌++◌, Bool, length, map, take, drop}
-use Rattle.rv_isa.specs.declared.ins.Ins.{Ins}
-use Rattle.rv_isa.specs.declared.class.Class.{Class}
 use Rattle.rv_isa.specs.declared.class.Class.TheVariants as class
-use Rattle.rv_isa.specs.Kind.{class_of}
-use Rattle.elf_types.specs.declared.file.ElfFile.{ElfFile}
-use Rattle.qed_model.specs.declared.item.Item.{Item}
-use Rattle.qed_model.specs.declared.item.Item.TheVariants.{Plain}
-use Rattle.qed_model.specs.declared.options.Options.{Options}
 use Rattle.qed_model.specs.declared.role.Role.{Role}
 use Rattle.qed_model.specs.declared.role.Role.TheVariants as role
 use Rattle.qed_model.specs.declared.role.RoleRow.{RoleRow}
-use Rattle.qed_model.specs.Weave.Places.{image_of, half_of}
+use Rattle.qed_model.specs.Weave.Places.{Options, ElfFile, image_of, half_of}
 use Rattle.qed_model.specs.Weave.Placed.{sum_of_sizes}
-use Rattle.qed_model.specs.Weave.Sequences.{Form, Block, End, Falls, Stops, guard, enter, visit, sweep, is_auipc, original, leave_as, leave, body_length, prologue, stub}
+use Rattle.qed_model.specs.Weave.Sequences.{Plain, Item, class_of, Class, Ins, Form, Block, End, Falls, Stops, guard, enter, visit, sweep, is_auipc, original, leave_as, leave, body_length, prologue, stub}
 use Rattle.qed_model.specs.Weave.Woven.{is_far_code, new_items}
 use Rattle.qed_model.specs.Weave.Forms.{form_of}
 

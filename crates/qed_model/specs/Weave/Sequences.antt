@@ -2,17 +2,14 @@
 -- x17 to x29 hold the duplicates of x1 to x13, x14 the distance of the halves, x15 the address of the next visited data word, x16
 -- the signature, and x30 and x31 are temporaries.
 use Rattle.std.specs.Prelude.{◌≡◌, ℕ, zero, suc, ◌+◌, ◌%◌, ◌^◌, Bool, true, false, cond, ◌==◌, List, [], ◌∷◌, ◌++◌, length, pos, neg_ℤ}
-use Rattle.rv_isa.specs.declared.kind.Kind.{Kind}
-use Rattle.rv_isa.specs.declared.kind.Kind.TheVariants.{Illegal, Lui, Auipc, Addi, Andi, Add, Beq, Bne, Ebreak, Jal, Jalr, Ld, Lw}
-use Rattle.rv_isa.specs.declared.ins.Ins.{Ins}
-use Rattle.rv_isa.specs.declared.class.Class.{Class}
-use Rattle.rv_isa.specs.Kind.{class_of}
-use Rattle.rv_isa.specs.Operation.{pair, renamed}
+pub use Rattle.rv_isa.specs.declared.ins.Ins.{Ins}
+pub use Rattle.rv_isa.specs.declared.class.Class.{Class}
+pub use Rattle.rv_isa.specs.Kind.{class_of}
+pub use Rattle.rv_isa.specs.Operation.{pair, renamed}
 use Rattle.rv_isa.specs.declared.class.Class.TheVariants as class
-use Rattle.qed_model.specs.declared.item.Item.{Item}
-use Rattle.qed_model.specs.declared.item.Item.TheVariants.{Mark, Plain, Constant, Go}
-use Rattle.qed_model.specs.Machine.Table.{ins}
-use Rattle.qed_model.specs.Machine.Step.{Fetched, Known, HasAt, target}
+pub use Rattle.qed_model.specs.declared.item.Item.{Item}
+pub use Rattle.qed_model.specs.declared.item.Item.TheVariants.{Mark, Plain, Constant, Go}
+use Rattle.qed_model.specs.Machine.Step.{Illegal, Lui, Auipc, Addi, Andi, Add, Beq, Bne, Ebreak, Jal, Jalr, Ld, Lw, Kind, ins, Fetched, Known, HasAt, target}
 use Rattle.qed_model.specs.Weave.Placed.{distance_between, upper_part, lower_part, go_words, go_size}
 
 -- the words from an address on stand for the items, in the near or in the far form, where `entry` gives the entry of an input

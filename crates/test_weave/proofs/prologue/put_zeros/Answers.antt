@@ -1,7 +1,6 @@
 use Rattle.std.proofs.Common.{◌≡◌, ◌+◌, ◌++◌, arith}
 use Rattle.std.specs.Prelude.{pos, [], ◌∷◌}
-use Rattle.rv_isa.specs.declared.kind.Kind.TheVariants.{Addi}
-use Rattle.qed_model.specs.Machine.Table.{ins}
+use Rattle.qed_model.specs.Machine.Table.{Addi, ins}
 use Rattle.qed_model.specs.declared.item.Item.TheVariants.{Plain}
 use Rattle.test_weave.proofs.Zeros.{zeros_none, zeros_more, zeros_all}
 use Rattle.test_weave.proofs.prologue.put_zeros.Goals as goal

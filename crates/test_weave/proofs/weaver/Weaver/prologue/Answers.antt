@@ -1,7 +1,6 @@
 use Rattle.std.proofs.Common.{◌++◌, ap, ◌∙◌}
 use Rattle.std.specs.Prelude.{pos, [], ◌∷◌}
-use Rattle.rv_isa.specs.declared.kind.Kind.TheVariants.{Lui}
-use Rattle.qed_model.specs.Machine.Table.{ins}
+use Rattle.qed_model.specs.Machine.Table.{Lui, ins}
 use Rattle.qed_model.specs.declared.item.Item.TheVariants.{Plain}
 use Rattle.qed_model.specs.Weave.Sequences.{zero_from, cursor, go_on}
 use Rattle.test_weave.specs.Form.{form}

@@ -1,5 +1,0 @@
-use Rattle.weave_examples.proofs.One as law
-use Rattle.weave_examples.proofs.one_kept.Goals as goal
-
-pub returns : goal.returns
-returns c = law.kept
