@@ -54,14 +54,11 @@ pub record EntriesRead (table : List ℕ) (entries : List SymbolEntry) (symbols 
   pub shown_are : map (symbol_shown table) entries ≡ symbols
   pub ended : All (HasEnd table) entries
 
-four_bits : (binding kind : ℕ) → kind < 16 → (16 * binding + kind) % 16 ≡ kind
-four_bits binding kind lt = omega arith
-
-high_bits : (binding kind : ℕ) → kind < 16 → (16 * binding + kind) / 16 ≡ binding
-high_bits binding kind lt = omega arith
-
 one_shown : (table : List ℕ) (name : ℕ) (s : Symbol) → IsSymbol s → name_at table name ≡ s.name → symbol_shown table (entry_with name s) ≡ s
-one_shown table name s is e = rw (e, four_bits s.binding s.kind is.kind, high_bits s.binding s.kind is.kind) refl
+one_shown table name s is e =
+    let kind : (16 * s.binding + s.kind) % 16 ≡ s.kind = omega (arith, is.kind) in
+    let binding : (16 * s.binding + s.kind) / 16 ≡ s.binding = omega (arith, is.kind) in
+    rw (e, kind, binding) refl
 
 entries_shown : (table : List ℕ) (name : ℕ) (symbols : List Symbol) → 0 < name → All IsSymbol symbols → All (λ s. IsName s.name) symbols → Stands table name (names_bytes (symbol_names symbols))
     → EntriesRead table (entries_from name symbols) symbols

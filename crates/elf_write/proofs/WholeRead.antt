@@ -17,7 +17,7 @@ use Rattle.elf_files.specs.Fields.{program_header, section_header}
 use Rattle.elf_files.specs.Rules.{magic_rule, header_rule, class_rule, encoding_rule, version_rule, file_type_rule, machine_rule, header_shape_rule, header_rules, program_table_rule, section_table_rule, table_rules, part_rules, section_strings, section_name, rela_fault, rela_shape_rule, file_size, counted_bytes, verdict}
 use Rattle.elf_files.specs.File.{section_of, relas_of, WithinReadLimits, IsReadAs}
 use Rattle.qed_model.specs.Elf.Written.{program_headers}
-use Rattle.qed_model.specs.Elf.Layout.{IsWritable, IsName, names_bytes, string_table, symbol_names, section_names, table_names, symtab_name, strtab_name, shstrtab_name, first_global, headers_bytes, headers_of, null_header, symtab_header, strtab_header, shstrtab_header, start_of, own_place, headers_place, written}
+use Rattle.qed_model.specs.Elf.Layout.{IsWritable, IsName, table_header, names_bytes, string_table, symbol_names, section_names, table_names, symtab_name, strtab_name, shstrtab_name, first_global, headers_bytes, headers_of, null_header, symtab_header, strtab_header, shstrtab_header, start_of, own_place, headers_place, written}
 use Rattle.qed_model.specs.Elf.FileRead.{null_section, section_read, table_read, tables_read, file_read}
 use Rattle.qed_model.proofs.ProgramHeaders.{length-program_headers}
 use Rattle.qed_model.proofs.BelowLaws.{gather_nothing}
@@ -95,6 +95,10 @@ global_below number (s ∷ symbols) =
     let rest = global_below (number + 1) symbols in
     elim (eqb s.binding 0) as (λ b. cond b (first_global (number + 1) symbols) number ≤ number + suc (length symbols)) [ true ↦ omega arith | false ↦ omega arith ]
 
+table_fits : (name kind at size link info entsize : ℕ) → name < 2 ^ 32 → kind < 2 ^ 32 → at < 2 ^ 64 → size < 2 ^ 64 → link < 2 ^ 32 → info < 2 ^ 32 → entsize < 2 ^ 64
+    → HeaderFits (table_header name kind at size link info entsize)
+table_fits name kind at size link info entsize a b c d e f g = record { name = a; kind = b; flags = omega arith; addr = omega arith; offset = c; size = d; link = e; info = f; entsize = g }
+
 headers_fit : (f : OutFile) → IsWritable f → All SectionFits f.sections → All HeaderFits (headers_of f)
 headers_fit f w fits =
     let n = ends_within 1073741824 f w.size in
@@ -104,39 +108,9 @@ headers_fit f w fits =
     all_headers HeaderFits f
     (record { name = omega arith; kind = omega arith; flags = omega arith; addr = omega arith; offset = omega arith; size = omega arith; link = omega arith; info = omega arith; entsize = omega arith })
     (given_fit (start_of f) f.segments 1 (own_place f) f.sections fits (omega (arith, n.segments)) (omega (arith, n.names_size)) (omega (arith, n.own, n.symbols)))
-    (record {
-      name = omega (arith, n.names_size);
-      kind = omega arith;
-      flags = omega arith;
-      addr = omega arith;
-      offset = omega (arith, n.symbols);
-      size = omega (arith, is.strings, n.strings);
-      link = omega (arith, w.few_sections);
-      info = omega (arith, global, is.strings, n.strings);
-      entsize = omega arith;
-    })
-    (record {
-      name = omega (arith, n.names_size);
-      kind = omega arith;
-      flags = omega arith;
-      addr = omega arith;
-      offset = omega (arith, n.strings);
-      size = omega (arith, n.strings_size);
-      link = omega arith;
-      info = omega arith;
-      entsize = omega arith;
-    })
-    (record {
-      name = omega (arith, n.names_size);
-      kind = omega arith;
-      flags = omega arith;
-      addr = omega arith;
-      offset = omega (arith, n.names);
-      size = omega (arith, named, n.names_size);
-      link = omega arith;
-      info = omega arith;
-      entsize = omega arith;
-    })
+    (table_fits _ 2 _ _ _ _ 24 (omega (arith, n.names_size)) (omega arith) (omega (arith, n.symbols)) (omega (arith, is.strings, n.strings)) (omega (arith, w.few_sections)) (omega (arith, global, is.strings, n.strings)) (omega arith))
+    (table_fits _ 3 _ _ 0 0 0 (omega (arith, n.names_size)) (omega arith) (omega (arith, n.strings)) (omega (arith, n.strings_size)) (omega arith) (omega arith) (omega arith))
+    (table_fits _ 3 _ _ 0 0 0 (omega (arith, n.names_size)) (omega arith) (omega (arith, n.names)) (omega (arith, named, n.names_size)) (omega arith) (omega arith) (omega arith))
 
 headers_end : (f : OutFile) → IsWritable f → All (EndsIn (length (written f))) (headers_of f)
 headers_end f w =
@@ -220,9 +194,6 @@ relas_are f file known =
     let d : SectionHeader = section_header file i in
     let l : i < length (headers_of f) = omega (arith, known.header.shnum, length-headers_of f) in
     no_relas file d (ap (λ (h : SectionHeader). eqb h.kind 4) (known.headers.at i l) ∙ no_relocations f i d l))
-
-few_sections : (f : OutFile) (file : List ℕ) → Known f file → length f.sections ≤ 4000 → e_shnum file ≤ 4096
-few_sections f file known few = omega (arith, known.header.shnum)
 
 -- ---- the sections
 section_shown : (file : List ℕ) (i : ℕ) → section_of file i ≡ shown (section_strings file) (section_header file i)
@@ -322,7 +293,7 @@ within :
     → SymbolsRead f (written f) → WithinReadLimits (written f)
 within f w known read segments symbols =
     let n = ends_within 1073741824 f w.size in
-    record { sections = few_sections f (written f) known w.few_sections; bytes = few_bytes f (written f) known read segments symbols n.headers }
+    record { sections = omega (arith, known.header.shnum, w.few_sections); bytes = few_bytes f (written f) known read segments symbols n.headers }
 
 -- the file that was written is read as the one that was given
 pub reads_back : (f : OutFile) → IsWritable f → f.entry < 2 ^ 64 → f.flags < 2 ^ 32 → All SegmentFits f.segments → All SectionFits f.sections → All SymbolFits f.symbols
