@@ -127,7 +127,7 @@ alone s (u ∷ ss) k h j t e = by (λ i. alone s ss k h.1 i t) (u.kind == 1) ref
   by rest true is (suc i) e x = rest i e x
   by rest false is i e x = rest i e x
 
-apart : (ss : List Segment) → Pairs ApartLoads ss → AreApart (load_segments ss)
+pub apart : (ss : List Segment) → Pairs ApartLoads ss → AreApart (load_segments ss)
 apart [] h = λ i j o. let e = o.first_at in absurd (cc)
 apart (s ∷ ss) h = by (apart ss h.1) (s.kind == 1) refl where
   by : AreApart (load_segments ss) → (b : Bool) → (s.kind == 1) ≡ b → (i j : ℕ) → Overlaps (cond b (load_segment s ∷ load_segments ss) (load_segments ss)) i j → ⊥

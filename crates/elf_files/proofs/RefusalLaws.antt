@@ -1,5 +1,5 @@
 -- What a refusal says of a file: the fault that it names is there.
-use Rattle.std.proofs.Common.{◌≡◌, ◌≢◌, ◌⊎◌, ℕ, ◌-◌, ◌/◌, ◌^◌, ◌<◌, ◌≤◌, ◌&&◌, ◌||◌, not, min, Bool, true, false, cond, ltb, leb, eqb, length, List, [], ◌∷◌, Option, Some, None, Ok, Err, refl, sym, subst, inl, inr, arith}
+use Rattle.std.proofs.Common.{◌≡◌, ◌≢◌, ◌⊎◌, ℕ, ◌-◌, ◌/◌, ◌^◌, ◌<◌, ◌&&◌, ◌||◌, not, min, Bool, true, false, cond, ltb, leb, eqb, List, [], ◌∷◌, Option, Some, None, Ok, Err, refl, sym, subst, inl, inr, arith}
 use Rattle.std.specs.Option.{is_some}
 use Rattle.std.proofs.lemmas.Bool.Decides.{nat_tests}
 use Rattle.std.proofs.lemmas.Bool.{eqb-true, ltb-true, and_parts}
@@ -9,7 +9,6 @@ use Rattle.elf_types.specs.declared.error.ElfError.TheVariants as error
 use Rattle.elf_types.specs.declared.error.Part.TheVariants as part
 use Rattle.elf_types.specs.declared.records.SectionHeader.{SectionHeader}
 use Rattle.qed_model.specs.Below.{first, IsFirstBelow}
-use Rattle.qed_model.specs.Numbers.{field}
 use Rattle.elf_files.specs.Header.{e_type, e_machine, e_version, e_ehsize, e_phentsize, e_shoff, e_phnum, e_shnum}
 use Rattle.elf_files.specs.Fields.{HasTables, e_class, e_encoding, e_ident_version, e_shentsize, e_shstrndx, program_header, section_header, rela_entry}
 use Rattle.elf_files.specs.Rules.{Check, refuse, refuse_found, refuse_found_at, first_refusal, HasParts, is_segment_outside, is_section_outside, segment_place_rule, section_place_rule, magic_rule, header_rule, class_rule, encoding_rule, version_rule, file_type_rule, machine_rule, header_shape_rule, header_rules, program_table_rule, section_table_rule, is_misshapen, segment_shape_rule, do_overlap, overlapped, segment_overlap_rule, is_section_misshapen, section_shape_rule, has_entries, has_strings, is_misnamed, symbol_table, symbols_rule, rule_at, symbol_shape_rule, is_counted, symbol_count, section_bytes, rela_fault, rela_shape_rule, counted_bytes, section_count_rule, byte_count_rule, table_rules, part_rules, verdict, read_verdict}

@@ -115,25 +115,25 @@ module _ (rs : List Range) (spaced : AreSpaced rs) where
         or_is (λ ts. is_in_any (map range_of ts) q) (λ t. is_in (range_of t) q) refl (λ t ts. refl) rs d (nat_le (get_or rs place d).start q)
         (λ e. (place, lt, and_from (nat_le (get_or rs place d).start q) (nat_lt q (get_or rs place d).end) e (lt-ltb q (get_or rs place d).end end)))
         (λ e k l. none (leb-false (get_or rs place d).start q e) k d l) where
-      end : q < (get_or rs place d).end
-      end = leb-false (get_or rs place d).end q (point.1 place d (omega arith) lt)
+          end : q < (get_or rs place d).end
+          end = leb-false (get_or rs place d).end q (point.1 place d (omega arith) lt)
 
-      none : q < (get_or rs place d).start → (k : ℕ) (e : Range) → k < length rs → is_in (range_of (get_or rs k e)) q ≡ false
-      none h k e l =
-          ⊎_elim
-          (λ x. ended k e x)
-          (λ x. ⊎_elim
-          (λ y.
-          let gap = spaced.gaps place k d y l in
-          let some = spaced.some place d lt in
-          let same : (get_or rs k e).start ≡ (get_or rs k d).start = ap (λ t. t.start) (get_or_default rs k e d l) in
-          out_of (get_or rs k e) q (inr (omega (arith, gap, some, same, h))))
-          (λ y.
-          let p : place ≡ k = omega (arith, x, y) in
-          let same : (get_or rs place d).start ≡ (get_or rs k e).start = ap (λ t. t.start) (get_or_default rs place d e lt) ∙ ap (λ n. (get_or rs n e).start) p in
-          out_of (get_or rs k e) q (inr (omega (arith, same, h))))
-          (cases_lt place k))
-          (cases_lt k place)
+          none : q < (get_or rs place d).start → (k : ℕ) (e : Range) → k < length rs → is_in (range_of (get_or rs k e)) q ≡ false
+          none h k e l =
+              ⊎_elim
+              (λ x. ended k e x)
+              (λ x. ⊎_elim
+              (λ y.
+              let gap = spaced.gaps place k d y l in
+              let some = spaced.some place d lt in
+              let same : (get_or rs k e).start ≡ (get_or rs k d).start = ap (λ t. t.start) (get_or_default rs k e d l) in
+              out_of (get_or rs k e) q (inr (omega (arith, gap, some, same, h))))
+              (λ y.
+              let p : place ≡ k = omega (arith, x, y) in
+              let same : (get_or rs place d).start ≡ (get_or rs k e).start = ap (λ t. t.start) (get_or_default rs place d e lt) ∙ ap (λ n. (get_or rs n e).start) p in
+              out_of (get_or rs k e) q (inr (omega (arith, same, h))))
+              (cases_lt place k))
+              (cases_lt k place)
 
 -- ---- segments that begin in a range
 module _ {A : Type 0} (f : A → Segment) (xs : List A) (r : Range) (from : ℕ) (first : IsPartitionPoint (λ x. nat_lt (f x).address r.start ≡ true) (λ x. nat_lt (f x).address r.start ≡ false) xs from) where
