@@ -3,6 +3,7 @@ use Rattle.std.proofs.Common.{◌≡◌, ℕ, zero, suc, ◌+◌, ◌-◌, ◌^�
 use Rattle.std.specs.Prelude.{All, AllPairs}
 use Rattle.std.specs.Option.{is_some}
 use Rattle.std.proofs.lemmas.Bool.{cases_lt, le-ltb}
+use Rattle.std.proofs.Math.Bool.{and-false}
 use Rattle.std.proofs.lemmas.List.{length-replicate}
 use Rattle.std.proofs.lemmas.List.Elements.{All-cons, All-nil, All-head, All-tail}
 use Rattle.elf_types.specs.declared.file.Segment.{Segment}
@@ -86,22 +87,18 @@ all_described file at (s ∷ segments) loadable stand =
     rw (described_is file (offset_from at s.address) s l.kind stand.0, rest) refl
 
 -- ---- what the rules ask of each
-pub and_false : (b : Bool) → (b && false) ≡ false
-and_false true = refl
-and_false false = refl
-
 inside : (file : List ℕ) (at : ℕ) (s : Segment) → Stands file at s.bytes → is_segment_outside file (program_of at s) ≡ false
 unfolding is_segment_outside
 inside file at s stands =
     let short : ltb (length file) (at + length s.bytes) ≡ false = le-ltb _ _ (stands_within s.bytes stands) in
-    rw short (and_false (eqb s.kind 1 && ltb 0 (length s.bytes)))
+    rw short (and-false (eqb s.kind 1 && ltb 0 (length s.bytes)))
 
 shaped : (at : ℕ) (s : Segment) → IsLoadable s → is_misshapen (program_of at s) ≡ false
 unfolding is_misshapen
 shaped at s l =
     let a : ltb s.memory (length s.bytes) ≡ false = le-ltb _ _ l.memory in
     let b : ltb (2 ^ 64) (s.address + s.memory) ≡ false = le-ltb _ _ l.fits in
-    rw (a, b) (and_false (eqb s.kind 1))
+    rw (a, b) (and-false (eqb s.kind 1))
 
 -- what holds of the header of each segment
 all_programs : (P : ProgramHeader → Type 0) (file : List ℕ) (at : ℕ) (segments : List Segment) → ((at : ℕ) (s : Segment) → IsLoadable s → Stands file at s.bytes → P (program_of at s))
@@ -168,7 +165,7 @@ alone file at i segments n lists pairs li =
           let hp = subst (λ (x : ProgramHeader). IsHeaderOf x (get_or segments i e)) (sym p) (header_of at i segments (program_header file i) e li) in
           let hq = subst (λ (x : ProgramHeader). IsHeaderOf x (get_or segments j e)) (sym q) (header_of at j segments (program_header file j) e lj) in
           let none = apart (program_header file i) (program_header file j) (get_or segments i e) (get_or segments j e) hp hq (pairs i j e before lj) in
-          rw none (and_false (ltb i j))
+          rw none (and-false (ltb i j))
       | inr after ↦ let e : ltb i j ≡ false = le-ltb _ _ after in rw e refl
     ])
 

@@ -20,7 +20,7 @@ use Rattle.elf_write.proofs.Stands.{Stands, stands_whole}
 use Rattle.elf_write.proofs.Listing.{Lists, each_same, each_listed, sum_same, sum_listed, total, total-map}
 use Rattle.elf_write.proofs.NamesRead.{first_name, other_names, empty_read, names_stand}
 use Rattle.elf_write.proofs.RecordsRead.{EntryFits, entries_read}
-use Rattle.elf_write.proofs.SegmentsRead.{and_false}
+use Rattle.std.proofs.Math.Bool.{and-false}
 use Rattle.elf_write.proofs.TablesRead.{Known, symtab_at, strtab_at, strings_are, entries_are}
 
 -- ---- the entries' numbers fit
@@ -121,7 +121,7 @@ named f file t j lt =
     let same : is_unended (strings_of file (symtab_header f)) (symbol_entry (section_bytes file (symtab_header f)) j).name ≡ false =
     ap (λ (xs : List ℕ). is_unended xs (symbol_entry (section_bytes file (symtab_header f)) j).name) t.strings
     ∙ ap (λ (xs : List ℕ). is_unended strings (symbol_entry xs j).name) t.entries ∙ one in
-    rw same (and_false (ltb 0 j))
+    rw same (and-false (ltb 0 j))
 
 shape : (f : OutFile) (file : List ℕ) → Known f file → TableKnown f file → symbols_rule file (symtab_header f) ≡ Ok tt
 unfolding symbols_rule

@@ -2,6 +2,7 @@
 use Rattle.std.proofs.Common.{◌≡◌, ◌≢◌, ℕ, zero, suc, ◌+◌, ◌*◌, ◌^◌, ◌<◌, ◌≤◌, ◌||◌, Bool, true, false, cond, ltb, eqb, List, [], ◌∷◌, ◌++◌, length, map, get_or, None, Ok, refl, sym, ap, ◌∙◌, arith, length-append}
 use Rattle.std.specs.Prelude.{All}
 use Rattle.std.specs.Option.{is_some}
+use Rattle.std.proofs.Math.Bool.{and-false, or-true}
 use Rattle.std.proofs.lemmas.Bool.{le-ltb}
 use Rattle.std.proofs.lemmas.Bool.Decides.{nat_tests}
 use Rattle.std.proofs.lemmas.List.{map-append}
@@ -28,16 +29,12 @@ use Rattle.elf_write.proofs.Listing.{none_passes, each_same, each_listed, sum_li
 use Rattle.elf_write.proofs.NamesRead.{NameRead, empty_read, first_name, other_names, names_stand}
 use Rattle.elf_write.proofs.RecordsRead.{HeaderFits, headers_read, programs_read}
 use Rattle.elf_write.proofs.HeaderRead.{HeaderRead, header_read, parts_stand}
-use Rattle.elf_write.proofs.SegmentsRead.{and_false, bytes_stand, programs_fit, SegmentsPass, segments_pass}
+use Rattle.elf_write.proofs.SegmentsRead.{bytes_stand, programs_fit, SegmentsPass, segments_pass}
 use Rattle.elf_write.proofs.SectionsRead.{given_fit, EndsIn, given_end, NoWrap, given_wrap_not, given_kind, shown, IsEnded, given_read, names_behind}
 use Rattle.elf_write.proofs.TablesRead.{front_headers, last_headers, headers_are, all_headers, Known, place_passes, shape_passes, symbol_table-is, section_strings-are}
 use Rattle.elf_write.proofs.SymbolsRead.{all_entries_fit, SymbolsRead, symbols_read}
 
 -- ---- the header
-or_true : (b : Bool) → (b || true) ≡ true
-or_true true = refl
-or_true false = refl
-
 header_passes : (f : OutFile) (file : List ℕ) → HeaderRead f file → 64 ≤ length file → length f.segments ≤ 4000 → header_rules file ≡ Ok tt
 unfolding header_rules magic_rule header_rule class_rule encoding_rule version_rule file_type_rule machine_rule header_shape_rule
 header_passes f file h long few =
@@ -47,7 +44,7 @@ header_passes f file h long few =
     let some : eqb (length f.sections + 4) 0 ≡ false = grind (arith, nat_tests) in
     let more : ltb 0 (length f.sections + 4) ≡ true = grind (arith, nat_tests) in
     let last : ltb (length f.sections + 3) (length f.sections + 4) ≡ true = grind (arith, nat_tests) in
-    rw (l4, h.magic, l64, h.class, h.encoding, h.ident_version, h.version, h.type, h.machine, h.ehsize, h.phnum, h.phentsize, h.shnum, h.shentsize, h.shstrndx, small, some, more, last, or_true (eqb (length f.segments) 0)) refl
+    rw (l4, h.magic, l64, h.class, h.encoding, h.ident_version, h.version, h.type, h.machine, h.ehsize, h.phnum, h.phentsize, h.shnum, h.shentsize, h.shstrndx, small, some, more, last, or-true (eqb (length f.segments) 0)) refl
 
 tables_pass : (f : OutFile) (file : List ℕ) → HeaderRead f file → header_rules file ≡ Ok tt → 64 + 56 * length f.segments ≤ length file
     → headers_place f + 64 * (length f.sections + 4) ≤ length file → table_rules file ≡ Ok tt
@@ -55,7 +52,7 @@ unfolding table_rules program_table_rule section_table_rule
 tables_pass f file h header programs sections =
     let a : ltb (length file) (64 + 56 * length f.segments) ≡ false = le-ltb _ _ programs in
     let b : ltb (length file) (headers_place f + 64 * (length f.sections + 4)) ≡ false = le-ltb _ _ sections in
-    rw (header, h.phnum, h.phoff, h.shnum, h.shoff, a, b, and_false (ltb 0 (length f.segments)), and_false (ltb 0 (length f.sections + 4))) refl
+    rw (header, h.phnum, h.phoff, h.shnum, h.shoff, a, b, and-false (ltb 0 (length f.segments)), and-false (ltb 0 (length f.sections + 4))) refl
 
 -- ---- the names of the tables that are added
 -- no byte of the list is 0
