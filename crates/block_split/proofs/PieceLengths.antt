@@ -76,16 +76,13 @@ head_of (x ∷ xs) i is zero e = ap (λ l. take 1 l) (sym e)
 head_of [] i is (suc n) e = let z : suc (length is) ≡ 0 = ap length e in absurd (omega (arith, z))
 head_of (x ∷ xs) i is (suc n) e = ap (λ l. x ∷ l) (head_of xs i is n e)
 
-next : (n : ℕ) → suc n ≡ n + 1
-next n = omega arith
-
 short_of : (xs : List Ins) (i : Ins) (is : List Ins) (n : ℕ) → i ∷ is ≡ drop n xs → n < length xs
 short_of xs i is n e = let a : suc (length is) ≡ length (drop n xs) = ap length e in let l = length-drop n xs in omega (arith, a, l)
 
 breaks : (xs : List Ins) (n : ℕ) (later : List (List Ins)) → IsLongestRun xs n → whole later ≡ drop n xs → AreRuns later → Breaks (take n xs) later
 breaks xs n [] l e r = tt
 breaks xs n ([] ∷ runs) l e r = omega (arith, r.0)
-breaks xs n ((i ∷ is) ∷ runs) l e r = ap is_run (sym (head_of xs i (is ++ whole runs) n e)) ∙ ap (λ m. is_run (take m xs)) (next n) ∙ l.longest (short_of xs i (is ++ whole runs) n e)
+breaks xs n ((i ∷ is) ∷ runs) l e r = let next : suc n ≡ n + 1 = omega arith in ap is_run (sym (head_of xs i (is ++ whole runs) n e)) ∙ ap (λ m. is_run (take m xs)) next ∙ l.longest (short_of xs i (is ++ whole runs) n e)
 
 -- some instruction is a run
 clean_none : (c : Class) (i : Ins) → is_clean_as c (λ r. false) i ≡ true

@@ -7,6 +7,7 @@ use Rattle.rv_isa.specs.declared.class.Class.TheVariants as class
 use Rattle.qed_model.specs.Weave.Pieces.{is_clean_as, is_clean, and_written, is_run_after, is_run}
 use Rattle.qed_model.specs.Numbers.{is_at}
 use Rattle.rv_isa.specs.Ins.{writes}
+use Rattle.std.proofs.Math.Bool.{and-true, and_assoc}
 use Rattle.std.proofs.lemmas.List.{take_more}
 use Rattle.block_split.specs.Lengths.{written_after, written_by, IsLongestRun}
 
@@ -14,17 +15,9 @@ written_push : (w : ℕ → Bool) (xs : List Ins) (i : Ins) (r : ℕ) → writte
 written_push w [] i r = refl
 written_push w (x ∷ xs) i r = written_push (and_written x w) xs i r
 
-and_one : (b : Bool) → (b && true) ≡ b
-and_one true = refl
-and_one false = refl
-
-and_more : (a b c : Bool) → (a && (b && c)) ≡ ((a && b) && c)
-and_more true b c = refl
-and_more false b c = refl
-
 run_push : (w : ℕ → Bool) (xs : List Ins) (i : Ins) → is_run_after w (xs ++ i ∷ []) ≡ (is_run_after w xs && is_clean (written_after w xs) i)
-run_push w [] i = and_one (is_clean w i)
-run_push w (x ∷ xs) i = ap (λ b. is_clean w x && b) (run_push (and_written x w) xs i) ∙ and_more (is_clean w x) (is_run_after (and_written x w) xs) (is_clean (written_after (and_written x w) xs) i)
+run_push w [] i = and-true (is_clean w i)
+run_push w (x ∷ xs) i = ap (λ b. is_clean w x && b) (run_push (and_written x w) xs i) ∙ sym (and_assoc (is_clean w x) (is_run_after (and_written x w) xs) (is_clean (written_after (and_written x w) xs) i))
 
 -- the same registers were written
 clean_as_equal : (c : Class) (a b : ℕ → Bool) (i : Ins) → ((r : ℕ) → a r ≡ b r) → is_clean_as c a i ≡ is_clean_as c b i

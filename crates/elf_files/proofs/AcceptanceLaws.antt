@@ -1,5 +1,5 @@
 -- What is known of a file that no rule refuses.
-use Rattle.std.proofs.Common.{◌≡◌, ℕ, ◌/◌, ◌<◌, ◌≤◌, ◌&&◌, ◌||◌, not, Bool, true, false, cond, ltb, leb, eqb, length, List, [], ◌∷◌, Option, Some, None, Ok, Err, refl, subst, arith}
+use Rattle.std.proofs.Common.{◌≡◌, ℕ, ◌/◌, ◌<◌, ◌≤◌, ◌&&◌, ◌||◌, not, Bool, true, false, cond, ltb, leb, eqb, length, List, [], ◌∷◌, Option, Some, None, Ok, Err, refl, sym, ap, ◌∙◌, subst, arith}
 use Rattle.std.specs.Option.{is_some}
 use Rattle.std.proofs.lemmas.Bool.Decides.{nat_tests}
 use Rattle.elf_types.specs.declared.error.ElfError.{ElfError}
@@ -7,13 +7,13 @@ use Rattle.elf_types.specs.declared.error.ElfError.TheVariants as error
 use Rattle.elf_types.specs.declared.records.SectionHeader.{SectionHeader}
 use Rattle.qed_model.specs.Below.{first}
 use Rattle.qed_model.specs.Numbers.{field}
-use Rattle.elf_files.specs.Header.{HasMagic, e_type, e_machine, e_version, e_ehsize, e_phentsize, e_shoff, e_phnum, e_shnum}
+use Rattle.elf_files.specs.Header.{e_type, e_machine, e_version, e_ehsize, e_phentsize, e_shoff, e_phnum, e_shnum}
 use Rattle.elf_files.specs.Fields.{e_class, e_encoding, e_ident_version, e_shentsize, e_shstrndx, program_header, section_header, rela_entry}
 use Rattle.elf_files.specs.Rules.{Check, refuse, refuse_found, refuse_found_at, first_refusal, is_segment_outside, is_section_outside, segment_place_rule, section_place_rule, magic_rule, header_rule, class_rule, encoding_rule, version_rule, file_type_rule, machine_rule, has_header_shape, header_shape_rule, header_rules, program_table_rule, section_table_rule, is_misshapen, segment_shape_rule, do_overlap, overlapped, segment_overlap_rule, is_section_misshapen, section_shape_rule, has_entries, has_strings, is_misnamed, symbol_table, symbols_rule, rule_at, symbol_shape_rule, is_counted, symbol_count, section_bytes, rela_fault, rela_shape_rule, counted_bytes, section_count_rule, byte_count_rule, table_rules, part_rules, verdict, read_verdict}
 use Rattle.elf_files.specs.Refusals.{HasHeaderShape, AreSymbols, AreRelas, IsAccepted, IsRefused}
 use Rattle.elf_files.specs.File.{File, WithinReadLimits, IsReadAs}
 use Rattle.elf_types.specs.declared.file.ElfFile.{ElfFile}
-use Rattle.std.proofs.lemmas.Bool.{le-ltb, ltb-false, leb-false}
+use Rattle.std.proofs.lemmas.Bool.{le-ltb, ltb-false, leb-false, false≢true}
 use Rattle.qed_model.proofs.BelowLaws.{each_fails, first_least}
 use Rattle.qed_model.proofs.AdmissionLaws.{by_some}
 use Rattle.elf_files.proofs.RefusalLaws.{none_found}
@@ -32,14 +32,10 @@ fails : (e : ElfError) (test : Bool) → refuse e test ≡ Ok tt → test ≡ fa
 fails e true h = absurd cc
 fails e false h = refl
 
-some_none : (o : Option ℕ) → o ≡ None → is_some o ≡ true → ⊥
-some_none None none some = absurd cc
-some_none (Some i) none some = absurd cc
-
 pairs_none : (e : ℕ → ℕ → ElfError) (place : ℕ → Option ℕ) (n : ℕ) (o : Option ℕ) → first n (λ i. is_some (place i)) ≡ o → refuse_found_at e place o ≡ Ok tt
     → (i : ℕ) → i < n → place i ≡ None
 pairs_none e place n None found h i lt = by_some (place i) (each_fails n (λ k. is_some (place k)) found i lt)
-pairs_none e place n (Some j) found h i lt = absurd (some_none (place j) (none_found (e j) (place j) h) (first_least n (λ k. is_some (place k)) j found).passes)
+pairs_none e place n (Some j) found h i lt = absurd (false≢true (sym (ap is_some (none_found (e j) (place j) h)) ∙ (first_least n (λ k. is_some (place k)) j found).passes))
 
 is_equal : (a b : ℕ) → not (eqb a b) ≡ false → a ≡ b
 is_equal a b t = grind (arith, nat_tests)
@@ -71,33 +67,6 @@ version_is :
 version_is ident version true t h = (grind (arith, nat_tests), is_equal version 1 (fails (error.Version version) _ h))
 version_is ident version false t h = absurd cc
 
--- what is known of the header
-record Header (file : List ℕ) : Type 0 where
-  magic : HasMagic file
-  room : 64 ≤ length file
-  class : e_class file ≡ 2
-  encoding : e_encoding file ≡ 1
-  versions : (e_ident_version file ≡ 1) × (e_version file ≡ 1)
-  type : e_type file ≡ 2
-  machine : e_machine file ≡ 243
-  shape : HasHeaderShape file
-
-header_is : (file : List ℕ) → header_rules file ≡ Ok tt → Header file
-unfolding header_rules magic_rule header_rule class_rule encoding_rule version_rule file_type_rule machine_rule header_shape_rule
-header_is file h =
-    let all = all_pass (magic_rule file ∷ header_rule file ∷ class_rule file ∷ encoding_rule file ∷ version_rule file ∷ file_type_rule file ∷ machine_rule file ∷ header_shape_rule file ∷ []) h in
-    let magic = has_magic (length file) (field 0 4 file) (fails error.Magic _ all.0) in
-    record {
-      magic = record { room = magic.0; magic = magic.1 };
-      room = ltb-false (length file) 64 (fails _ _ all.1.0);
-      class = is_equal (e_class file) 2 (fails _ _ all.1.1.0);
-      encoding = is_equal (e_encoding file) 1 (fails _ _ all.1.1.1.0);
-      versions = version_is (e_ident_version file) (e_version file) _ refl all.1.1.1.1.0;
-      type = is_equal (e_type file) 2 (fails _ _ all.1.1.1.1.1.0);
-      machine = is_equal (e_machine file) 243 (fails _ _ all.1.1.1.1.1.1.0);
-      shape = header_shape_is file (fails error.HeaderShape _ all.1.1.1.1.1.1.1.0);
-    }
-
 -- ---- symbols and relocations
 symbols_cases : (file : List ℕ) (s : SectionHeader) (b : Bool) → has_entries s && has_strings file s ≡ b
     → cond b (refuse_found error.SymbolShape (first (s.size / 24) (is_misnamed file s))) (Err (error.SymbolShape 0)) ≡ Ok tt → AreSymbols file s
@@ -126,22 +95,24 @@ are_relas file s none counted = relas_cases file s _ refl (rw counted at none)
 
 -- ---- all of it
 pub accepted : (file : List ℕ) → verdict file ≡ Ok tt → IsAccepted file
-unfolding verdict part_rules table_rules program_table_rule section_table_rule segment_place_rule section_place_rule segment_shape_rule segment_overlap_rule overlapped section_shape_rule symbol_shape_rule rela_shape_rule
+unfolding verdict part_rules table_rules header_rules magic_rule header_rule class_rule encoding_rule version_rule file_type_rule machine_rule header_shape_rule program_table_rule section_table_rule segment_place_rule section_place_rule segment_shape_rule segment_overlap_rule overlapped section_shape_rule symbol_shape_rule rela_shape_rule
 accepted file h =
     let all = all_pass (part_rules file ∷ segment_shape_rule file ∷ segment_overlap_rule file ∷ section_shape_rule file ∷ symbol_shape_rule file ∷ rela_shape_rule file ∷ []) h in
     let parts = all_pass (table_rules file ∷ segment_place_rule file ∷ section_place_rule file ∷ []) all.0 in
     let tables = all_pass (header_rules file ∷ program_table_rule file ∷ section_table_rule file ∷ []) parts.0 in
-    let header = header_is file tables.0 in
+    let header = all_pass (magic_rule file ∷ header_rule file ∷ class_rule file ∷ encoding_rule file ∷ version_rule file ∷ file_type_rule file ∷ machine_rule file ∷ header_shape_rule file ∷ []) tables.0 in
+    let magic = has_magic (length file) (field 0 4 file) (fails error.Magic _ header.0) in
+    let versions = version_is (e_ident_version file) (e_version file) _ refl header.1.1.1.1.0 in
     record {
-      magic = header.magic;
-      room = header.room;
-      class = header.class;
-      encoding = header.encoding;
-      ident_version = header.versions.0;
-      version = header.versions.1;
-      type = header.type;
-      machine = header.machine;
-      shape = header.shape;
+      magic = record { room = magic.0; magic = magic.1 };
+      room = ltb-false (length file) 64 (fails _ _ header.1.0);
+      class = is_equal (e_class file) 2 (fails _ _ header.1.1.0);
+      encoding = is_equal (e_encoding file) 1 (fails _ _ header.1.1.1.0);
+      ident_version = versions.0;
+      version = versions.1;
+      type = is_equal (e_type file) 2 (fails _ _ header.1.1.1.1.1.0);
+      machine = is_equal (e_machine file) 243 (fails _ _ header.1.1.1.1.1.1.0);
+      shape = header_shape_is file (fails error.HeaderShape _ header.1.1.1.1.1.1.1.0);
       program_table = λ some. let t = fails _ _ tables.1.0 in grind (arith, nat_tests);
       section_table = λ some. let t = fails _ _ tables.1.1.0 in grind (arith, nat_tests);
       segments_inside = each_fails (e_phnum file) (λ i. is_segment_outside file (program_header file i)) (none_found _ _ parts.1.0);

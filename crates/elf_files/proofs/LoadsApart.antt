@@ -1,20 +1,96 @@
 -- The PT_LOAD segments of a file that was read fit into memory, and share no byte.
-use Rattle.std.proofs.Common.{◌≡◌, ℕ, zero, suc, ◌+◌, ◌<◌, Bool, true, false, cond, ◌==◌, List, [], ◌∷◌, Some, refl, sym, ap, ◌∙◌, subst, inl, inr, arith}
+use Rattle.std.proofs.Common.{◌≡◌, ◌⊎◌, ℕ, zero, suc, ◌+◌, ◌^◌, ◌<◌, ◌≤◌, Bool, true, false, cond, ◌==◌, List, [], ◌∷◌, Some, refl, sym, ap, ◌∙◌, subst, inl, inr, ⊎_elim, arith}
 use Rattle.std.specs.Prelude.{slice_get}
-use Rattle.std.proofs.lemmas.Bool.{eqb-true}
+use Rattle.std.proofs.lemmas.Bool.{eqb-true, false≢true, cases_lt}
 use Rattle.std.proofs.lemmas.Bool.Decides.{nat_tests}
 use Rattle.elf_types.specs.declared.file.ElfFile.{ElfFile}
 use Rattle.elf_types.specs.declared.file.Segment.{Segment}
+use Rattle.elf_types.specs.declared.records.ProgramHeader.{ProgramHeader}
 use Rattle.elf_files.specs.Header.{e_phnum}
+use Rattle.elf_files.specs.Fields.{program_header}
+use Rattle.elf_files.specs.Rules.{is_misshapen, do_overlap}
 use Rattle.elf_files.specs.File.{File, segment_of}
+use Rattle.qed_model.specs.Below.{each}
 use Rattle.qed_model.specs.Machine.Program.{LoadSegment}
 use Rattle.qed_model.specs.Machine.Loading.{load_segment, load_segments}
 use Rattle.qed_model.specs.Machine.Apart.{FitsMemory, AllFitMemory, share, Overlaps, AreApart}
-use Rattle.elf_files.proofs.AcceptanceLaws.{accepted}
 use Rattle.qed_model.specs.Members.{Among, Every, Pairs}
-use Rattle.elf_files.proofs.ReadFacts.{sized_segment}
-use Rattle.elf_files.proofs.ReadLoads.{among_each, read_apart, segment_low}
 use Rattle.qed_model.specs.Elf.Sound.{ApartLoads, Apart}
+use Rattle.qed_model.proofs.Among.{among-either}
+use Rattle.qed_model.proofs.Pairs.{pairs-append}
+use Rattle.elf_files.proofs.AcceptanceLaws.{accepted}
+use Rattle.elf_files.proofs.ReadFacts.{sized_segment}
+
+-- a member of what is listed
+record Listed {A : Type 0} (n : ℕ) (f : ℕ → A) (x : A) : Type 0 where
+  place : ℕ
+  below : place < n
+  is : x ≡ f place
+
+listed_more : {A : Type 0} (n : ℕ) (f : ℕ → A) (x : A) → Listed n f x → Listed (suc n) f x
+listed_more n f x l = let b = l.below in record { place = l.place; below = omega (arith, b); is = l.is }
+
+among_each : {A : Type 0} (n : ℕ) (f : ℕ → A) (x : A) → Among x (each n f) → Listed n f x
+unfolding each
+among_each zero f x m = absurd m
+among_each (suc n) f x m =
+    ⊎_elim
+    (λ l. listed_more n f x (among_each n f x l))
+    (λ l. ⊎_elim (λ e. record { place = n; below = omega arith; is = e }) (λ r. absurd r) l)
+    (among-either x (each n f) (f n ∷ []) m)
+
+-- ---- the segment of a program header
+record Described (file : List ℕ) (s : Segment) (p : ProgramHeader) : Type 0 where
+  kind : s.kind ≡ p.kind
+  address : s.address ≡ p.vaddr
+  memory : s.memory ≡ p.memsz
+
+described : (file : List ℕ) (i : ℕ) → Described file (segment_of file i) (program_header file i)
+unfolding segment_of
+described file i = record { kind = refl; address = refl; memory = refl }
+
+ends_low : (p : ProgramHeader) → p.kind ≡ 1 → is_misshapen p ≡ false → p.vaddr + p.memsz ≤ 2 ^ 64
+unfolding is_misshapen
+ends_low p k h = grind (arith, nat_tests)
+
+-- a segment of type PT_LOAD ends at 2^64 or before
+segment_low : (file : List ℕ) (i : ℕ) → (segment_of file i).kind ≡ 1 → is_misshapen (program_header file i) ≡ false → (segment_of file i).address + (segment_of file i).memory ≤ 2 ^ 64
+unfolding segment_of
+segment_low file i k h = ends_low (program_header file i) k h
+
+pairs_each : {A : Type 0} (R : A → A → Type 0) (n : ℕ) (f : ℕ → A) → ((i j : ℕ) → i < j → j < n → R (f i) (f j)) → Pairs R (each n f)
+unfolding each
+pairs_each R zero f h = tt
+pairs_each R (suc n) f h =
+    pairs-append R (each n f) (f n ∷ []) (pairs_each R n f (λ i j l m. h i j l (omega (arith, m)))) (tt, tt)
+    (λ x y m k. let l = among_each n f x m in let b = l.below in ⊎_elim (λ e. subst (R x) (sym e) (subst (λ z. R z (f n)) (sym l.is) (h l.place n b (omega arith)))) (λ r. absurd r) k)
+
+overlaps_if :
+    (p r : ProgramHeader) → p.kind ≡ 1 → r.kind ≡ 1 → 0 < p.memsz → 0 < r.memsz → p.vaddr < r.vaddr + r.memsz → r.vaddr < p.vaddr + p.memsz
+    → do_overlap p r ≡ true
+unfolding do_overlap
+overlaps_if p r k l a b c d = grind (arith, nat_tests)
+
+apart_headers :
+    (p r : ProgramHeader) → p.kind ≡ 1 → r.kind ≡ 1 → 0 < p.memsz → 0 < r.memsz → do_overlap p r ≡ false
+    → (p.vaddr + p.memsz ≤ r.vaddr) ⊎ (r.vaddr + r.memsz ≤ p.vaddr)
+apart_headers p r k l a b e =
+    ⊎_elim
+    (λ x. ⊎_elim
+    (λ y. absurd (false≢true (sym e ∙ overlaps_if p r k l a b y x)))
+    (λ y. inr y)
+    (cases_lt p.vaddr (r.vaddr + r.memsz)))
+    (λ x. inl x)
+    (cases_lt r.vaddr (p.vaddr + p.memsz))
+
+pub read_apart : (file : List ℕ) (f : ElfFile) → File file f → Pairs ApartLoads f.segments
+read_apart file f read =
+    subst (Pairs ApartLoads) (sym read.segments)
+    (pairs_each ApartLoads (e_phnum file) (segment_of file) (λ i j l m k1 k2 s t.
+    let a = described file i in
+    let b = described file j in
+    let apart = apart_headers (program_header file i) (program_header file j) (sym a.kind ∙ k1) (sym b.kind ∙ k2) (omega (arith, a.memory, s)) (omega (arith, b.memory, t)) ((accepted file read.accepted).apart i j l m) in
+    ⊎_elim (λ x. inl (omega (arith, x, a.address, a.memory, b.address))) (λ x. inr (omega (arith, x, a.address, b.address, b.memory))) apart))
 
 -- ---- each fits
 all_fit : (ss : List Segment) → ((s : Segment) → Among s ss → s.kind ≡ 1 → FitsMemory (load_segment s)) → AllFitMemory (load_segments ss)
@@ -51,7 +127,7 @@ alone s (u ∷ ss) k h j t e = by (λ i. alone s ss k h.1 i t) (u.kind == 1) ref
   by rest true is (suc i) e x = rest i e x
   by rest false is i e x = rest i e x
 
-apart : (ss : List Segment) → Pairs ApartLoads ss → AreApart (load_segments ss)
+pub apart : (ss : List Segment) → Pairs ApartLoads ss → AreApart (load_segments ss)
 apart [] h = λ i j o. let e = o.first_at in absurd (cc)
 apart (s ∷ ss) h = by (apart ss h.1) (s.kind == 1) refl where
   by : AreApart (load_segments ss) → (b : Bool) → (s.kind == 1) ≡ b → (i j : ℕ) → Overlaps (cond b (load_segment s ∷ load_segments ss) (load_segments ss)) i j → ⊥

@@ -1,9 +1,10 @@
 -- What is true of a file that was read: no segment has more bytes in the file than in memory, names have no zero byte, and the types and
 -- bindings of symbols have four bits.
-use Rattle.std.proofs.Common.{◌≡◌, ◌≢◌, ℕ, zero, suc, ◌+◌, ◌-◌, ◌*◌, ◌/◌, ◌<◌, ◌≤◌, Bool, true, false, cond, ◌&&◌, ◌||◌, ◌==◌, List, [], ◌∷◌, length, take, drop, get_or, Option, Some, None, refl, sym, ◌∙◌, subst, arith, length-take, get_or-take, get_or-drop}
+use Rattle.std.proofs.Common.{◌≡◌, ◌≢◌, ℕ, ◌+◌, ◌-◌, ◌*◌, ◌/◌, ◌<◌, ◌≤◌, Bool, true, false, cond, ◌&&◌, ◌||◌, ◌==◌, List, [], length, take, drop, get_or, Option, Some, None, refl, sym, ◌∙◌, subst, arith, ⊎_elim, length-take, get_or-take, get_or-drop}
 use Rattle.std.specs.Prelude.{All, slice_index, nat_lt}
 use Rattle.std.specs.Option.{unwrap_or}
-use Rattle.std.proofs.lemmas.Bool.{ltb-false, eq-eqb, false≢true}
+use Rattle.std.proofs.lemmas.Bool.{ltb-false, eq-eqb, false≢true, cases_lt}
+use Rattle.std.proofs.lemmas.List.{get_or_default, get_or_past}
 use Rattle.std.proofs.lemmas.List.Elements.{All-nil}
 use Rattle.elf_types.specs.declared.file.ElfFile.{ElfFile}
 use Rattle.elf_types.specs.declared.file.Symbol.{Symbol}
@@ -40,11 +41,7 @@ before_zero strings place (Some n) e = λ k d lt zero_byte.
     let found = first_least (length strings - place) (λ k. slice_index strings (place + k) == 0) n e in
     let within : k < n = omega (arith, lt, length-take n (drop place strings)) in
     let same : get_or (take n (drop place strings)) k d ≡ get_or strings (place + k) d = get_or-take n (drop place strings) k d within ∙ get_or-drop place strings k d in
-    false≢true (sym (found.least k within) ∙ eq-eqb (slice_index strings (place + k)) 0 (any_other strings (place + k) d (omega (arith, within, found.below)) (sym same ∙ zero_byte))) where
-      any_other : (xs : List ℕ) (k d : ℕ) → k < length xs → get_or xs k d ≡ 0 → get_or xs k 0 ≡ 0
-      any_other [] k d h e = absurd (omega arith)
-      any_other (x ∷ xs) zero d h e = e
-      any_other (x ∷ xs) (suc k) d h e = any_other xs k d (omega arith) e
+    false≢true (sym (found.least k within) ∙ eq-eqb (slice_index strings (place + k)) 0 (get_or_default strings (place + k) 0 d (omega (arith, within, found.below)) ∙ sym same ∙ zero_byte))
 
 no_zero : (b : Bool) (name : List ℕ) → IsName name → IsName (cond b [] name)
 no_zero true name h = All-nil (λ byte. byte ≢ 0)
@@ -59,18 +56,15 @@ unfolding symbol_of symbol_name
 symbol_name_is file s j = no_zero (j == 0) _ (name_is (strings_of file s) (symbol_entry (section_bytes file s) j).name)
 
 -- ---- types and bindings
-pub taken_bytes : (b : Bool) (n k : ℕ) (file : List ℕ) → AreBytes file → AreBytes (cond b (take n (drop k file)) [])
+taken_bytes : (b : Bool) (n k : ℕ) (file : List ℕ) → AreBytes file → AreBytes (cond b (take n (drop k file)) [])
 taken_bytes false n k file h = record { fit = λ i. omega arith }
-taken_bytes true n k file h = record { fit = λ i. by i } where
-  part : (xs : List ℕ) (n i : ℕ) → ((k : ℕ) → get_or xs k 0 < 256) → get_or (take n xs) i 0 < 256
-  part [] zero i h = h i
-  part [] (suc n) i h = h i
-  part (x ∷ xs) zero i h = omega arith
-  part (x ∷ xs) (suc n) zero h = h 0
-  part (x ∷ xs) (suc n) (suc i) h = part xs n i (λ k. h (suc k))
-
-  by : (i : ℕ) → get_or (take n (drop k file)) i 0 < 256
-  by i = part (drop k file) n i (λ j. subst (λ x. x < 256) (sym (get_or-drop k file j 0)) (h.fit (k + j)))
+taken_bytes true n k file h = record {
+  fit = λ i.
+      ⊎_elim
+      (λ lt. subst (λ x. x < 256) (sym (get_or-take n (drop k file) i 0 lt ∙ get_or-drop k file i 0)) (h.fit (k + i)))
+      (λ le. subst (λ x. x < 256) (sym (get_or_past (take n (drop k file)) i 0 (omega (arith, le, length-take n (drop k file))))) (omega arith))
+      (cases_lt i n);
+}
 
 symbol_is : (file : List ℕ) (s : SectionHeader) (j : ℕ) → AreBytes file → IsSymbol (symbol_of file s j)
 unfolding symbol_of symbol_entry section_bytes

@@ -1,6 +1,6 @@
 -- Records that stand in a file, read.
 use Rattle.std.proofs.Common.{◌≡◌, ℕ, zero, suc, ◌+◌, ◌*◌, ◌^◌, ◌<◌, List, [], ◌∷◌, ◌++◌, length, get_or, refl, ap, ◌∙◌, arith}
-use Rattle.std.specs.Prelude.{All, slice_index}
+use Rattle.std.specs.Prelude.{All}
 use Rattle.elf_types.specs.declared.file.Segment.{Segment}
 use Rattle.elf_types.specs.declared.records.ProgramHeader.{ProgramHeader}
 use Rattle.elf_types.specs.declared.records.SectionHeader.{SectionHeader}
@@ -49,26 +49,13 @@ header_fields file at h is s =
     stands_fields at 0 at (section_fields h) (omega arith)
     (omega (arith, is.name), (omega (arith, is.kind), (omega (arith, is.flags), (omega (arith, is.addr), (omega (arith, is.offset), (omega (arith, is.size), (omega (arith, is.link), (omega (arith, is.info), (small_alignment h.kind, (omega (arith, is.entsize), tt)))))))))) s
 
--- a header by its fields: `cc` joins records, and knows no eta
-abbrev header_again : SectionHeader → SectionHeader
-header_again h = record { name = h.name; kind = h.kind; flags = h.flags; addr = h.addr; offset = h.offset; size = h.size; link = h.link; info = h.info; entsize = h.entsize }
-
 header_is : (file : List ℕ) (i : ℕ) (h : SectionHeader) → AllRead file (e_shoff file + 64 * i) 0 (section_fields h) → section_header file i ≡ h
 unfolding section_header
 header_is file i h f =
     let at = e_shoff file + 64 * i in
     let none : at + 0 ≡ at = omega arith in
-    let e0 : field at 4 file ≡ h.name = rw none at f.0 in
-    let e1 : field (at + 4) 4 file ≡ h.kind = f.1.0 in
-    let e2 : field (at + 8) 8 file ≡ h.flags = f.1.1.0 in
-    let e3 : field (at + 16) 8 file ≡ h.addr = f.1.1.1.0 in
-    let e4 : field (at + 24) 8 file ≡ h.offset = f.1.1.1.1.0 in
-    let e5 : field (at + 32) 8 file ≡ h.size = f.1.1.1.1.1.0 in
-    let e6 : field (at + 40) 4 file ≡ h.link = f.1.1.1.1.1.1.0 in
-    let e7 : field (at + 44) 4 file ≡ h.info = f.1.1.1.1.1.1.1.0 in
-    let e8 : field (at + 56) 8 file ≡ h.entsize = f.1.1.1.1.1.1.1.1.1.0 in
-    let all : section_header file i ≡ header_again h = cc in
-    all
+    let name : field at 4 file ≡ h.name = rw none at f.0 in
+    λ j. record { name = name j; kind = f.1.0 j; flags = f.1.1.0 j; addr = f.1.1.1.0 j; offset = f.1.1.1.1.0 j; size = f.1.1.1.1.1.0 j; link = f.1.1.1.1.1.1.0 j; info = f.1.1.1.1.1.1.1.0 j; entsize = f.1.1.1.1.1.1.1.1.1.0 j }
 
 -- the section headers of a file are those that stand there
 pub headers_read : (file : List ℕ) (headers : List SectionHeader) → All HeaderFits headers → Stands file (e_shoff file) (headers_bytes headers) → Lists (section_header file) headers
@@ -94,22 +81,15 @@ entry_fields table at e is s =
     stands_fields at 0 at (symbol_fields e) (omega arith)
     (omega (arith, is.name), (omega (arith, is.info), (omega (arith, is.other), (omega (arith, is.index), (omega (arith, is.value), (omega (arith, is.size), tt)))))) s
 
-abbrev entry_again : SymbolEntry → SymbolEntry
-entry_again e = record { name = e.name; info = e.info; other = e.other; index = e.index; value = e.value; size = e.size }
-
 entry_is : (table : List ℕ) (j : ℕ) (e : SymbolEntry) → AllRead table (24 * j) 0 (symbol_fields e) → symbol_entry table j ≡ e
 unfolding symbol_entry
 entry_is table j e f =
     let at = 24 * j in
     let none : at + 0 ≡ at = omega arith in
-    let e0 : field at 4 table ≡ e.name = rw none at f.0 in
-    let e1 : slice_index table (at + 4) ≡ e.info = slice_index-field (at + 4) table ∙ f.1.0 in
-    let e2 : slice_index table (at + 5) ≡ e.other = slice_index-field (at + 5) table ∙ f.1.1.0 in
-    let e3 : field (at + 6) 2 table ≡ e.index = f.1.1.1.0 in
-    let e4 : field (at + 8) 8 table ≡ e.value = f.1.1.1.1.0 in
-    let e5 : field (at + 16) 8 table ≡ e.size = f.1.1.1.1.1.0 in
-    let all : symbol_entry table j ≡ entry_again e = cc in
-    all
+    let name : field at 4 table ≡ e.name = rw none at f.0 in
+    let info = slice_index-field (at + 4) table ∙ f.1.0 in
+    let other = slice_index-field (at + 5) table ∙ f.1.1.0 in
+    λ k. record { name = name k; info = info k; other = other k; index = f.1.1.1.0 k; value = f.1.1.1.1.0 k; size = f.1.1.1.1.1.0 k }
 
 -- the entries of a symbol table are those that it is made of
 pub entries_read : (entries : List SymbolEntry) → All EntryFits entries → Stands (symbols_bytes entries) 0 (symbols_bytes entries) → Lists (symbol_entry (symbols_bytes entries)) entries
@@ -164,22 +144,13 @@ program_reads file at p is s =
     stands_fields at 0 at (fields_of_program p) (omega arith)
     (omega (arith, is.kind), (omega (arith, is.flags), (omega (arith, is.offset), (omega (arith, is.vaddr), (omega (arith, is.vaddr), (omega (arith, is.filesz), (omega (arith, is.memsz), (omega arith, tt)))))))) s
 
-abbrev program_again : ProgramHeader → ProgramHeader
-program_again p = record { kind = p.kind; flags = p.flags; offset = p.offset; vaddr = p.vaddr; filesz = p.filesz; memsz = p.memsz }
-
 program_is : (file : List ℕ) (i : ℕ) (p : ProgramHeader) → AllRead file (e_phoff file + 56 * i) 0 (fields_of_program p) → program_header file i ≡ p
 unfolding program_header
 program_is file i p f =
     let at = e_phoff file + 56 * i in
     let none : at + 0 ≡ at = omega arith in
-    let e0 : field at 4 file ≡ p.kind = rw none at f.0 in
-    let e1 : field (at + 4) 4 file ≡ p.flags = f.1.0 in
-    let e2 : field (at + 8) 8 file ≡ p.offset = f.1.1.0 in
-    let e3 : field (at + 16) 8 file ≡ p.vaddr = f.1.1.1.0 in
-    let e4 : field (at + 32) 8 file ≡ p.filesz = f.1.1.1.1.1.0 in
-    let e5 : field (at + 40) 8 file ≡ p.memsz = f.1.1.1.1.1.1.0 in
-    let all : program_header file i ≡ program_again p = cc in
-    all
+    let kind : field at 4 file ≡ p.kind = rw none at f.0 in
+    λ j. record { kind = kind j; flags = f.1.0 j; offset = f.1.1.0 j; vaddr = f.1.1.1.0 j; filesz = f.1.1.1.1.1.0 j; memsz = f.1.1.1.1.1.1.0 j }
 
 -- the program headers of a file are those that stand there
 pub programs_read : (file : List ℕ) (at : ℕ) (segments : List Segment) → All ProgramFits (programs_from at segments) → Stands file (e_phoff file) (program_headers at segments)

@@ -3,6 +3,7 @@ use Rattle.std.proofs.Common.{◌≡◌, ℕ, zero, suc, ◌+◌, ◌-◌, ◌^�
 use Rattle.std.specs.Prelude.{All, AllPairs}
 use Rattle.std.specs.Option.{is_some}
 use Rattle.std.proofs.lemmas.Bool.{cases_lt, le-ltb}
+use Rattle.std.proofs.Math.Bool.{and-false}
 use Rattle.std.proofs.lemmas.List.{length-replicate}
 use Rattle.std.proofs.lemmas.List.Elements.{All-cons, All-nil, All-head, All-tail}
 use Rattle.elf_types.specs.declared.file.Segment.{Segment}
@@ -22,8 +23,6 @@ use Rattle.elf_write.proofs.Stands.{Stands, stands_left, stands_right, stands_wi
 use Rattle.elf_write.proofs.Listing.{Lists, none_passes, each_same, each_listed, sum_listed, total}
 use Rattle.elf_write.proofs.RecordsRead.{program_of, programs_from, ProgramFits}
 
--- ---- lists
--- what holds of the first item and of the others
 -- ---- where their bytes stand
 -- each segment's bytes stand at its offset
 abbrev pub BytesStand : List ℕ → ℕ → List Segment → Type 0
@@ -70,10 +69,6 @@ length-programs_from at (s ∷ segments) = omega (arith, length-programs_from (o
 abbrev described : List ℕ → ProgramHeader → Segment
 described file p = record { kind = p.kind; flags = p.flags; address = p.vaddr; memory = p.memsz; bytes = load_bytes file p }
 
-segment_of-described : (file : List ℕ) (i : ℕ) → segment_of file i ≡ described file (program_header file i)
-unfolding segment_of
-segment_of-described file i = refl
-
 abbrev with_bytes : Segment → List ℕ → Segment
 with_bytes s bytes = record { kind = s.kind; flags = s.flags; address = s.address; memory = s.memory; bytes = bytes }
 
@@ -92,36 +87,27 @@ all_described file at (s ∷ segments) loadable stand =
     rw (described_is file (offset_from at s.address) s l.kind stand.0, rest) refl
 
 -- ---- what the rules ask of each
-pub and_false : (b : Bool) → (b && false) ≡ false
-and_false true = refl
-and_false false = refl
-
 inside : (file : List ℕ) (at : ℕ) (s : Segment) → Stands file at s.bytes → is_segment_outside file (program_of at s) ≡ false
 unfolding is_segment_outside
 inside file at s stands =
     let short : ltb (length file) (at + length s.bytes) ≡ false = le-ltb _ _ (stands_within s.bytes stands) in
-    rw short (and_false (eqb s.kind 1 && ltb 0 (length s.bytes)))
-
-all_inside : (file : List ℕ) (at : ℕ) (segments : List Segment) → BytesStand file at segments → All (λ p. is_segment_outside file p ≡ false) (programs_from at segments)
-all_inside file at [] stand = All-nil (λ p. is_segment_outside file p ≡ false)
-all_inside file at (s ∷ segments) stand =
-    let next : ℕ = offset_from at s.address + length s.bytes in
-    All-cons (λ p. is_segment_outside file p ≡ false) (program_of (offset_from at s.address) s) (programs_from next segments)
-    (inside file (offset_from at s.address) s stand.0) (all_inside file next segments stand.1)
+    rw short (and-false (eqb s.kind 1 && ltb 0 (length s.bytes)))
 
 shaped : (at : ℕ) (s : Segment) → IsLoadable s → is_misshapen (program_of at s) ≡ false
 unfolding is_misshapen
 shaped at s l =
     let a : ltb s.memory (length s.bytes) ≡ false = le-ltb _ _ l.memory in
     let b : ltb (2 ^ 64) (s.address + s.memory) ≡ false = le-ltb _ _ l.fits in
-    rw (a, b) (and_false (eqb s.kind 1))
+    rw (a, b) (and-false (eqb s.kind 1))
 
-all_shaped : (at : ℕ) (segments : List Segment) → All IsLoadable segments → All (λ p. is_misshapen p ≡ false) (programs_from at segments)
-all_shaped at [] loadable = All-nil (λ p. is_misshapen p ≡ false)
-all_shaped at (s ∷ segments) loadable =
+-- what holds of the header of each segment
+all_programs : (P : ProgramHeader → Type 0) (file : List ℕ) (at : ℕ) (segments : List Segment) → ((at : ℕ) (s : Segment) → IsLoadable s → Stands file at s.bytes → P (program_of at s))
+    → All IsLoadable segments → BytesStand file at segments → All P (programs_from at segments)
+all_programs P file at [] one loadable stand = All-nil P
+all_programs P file at (s ∷ segments) one loadable stand =
     let next : ℕ = offset_from at s.address + length s.bytes in
-    All-cons (λ p. is_misshapen p ≡ false) (program_of (offset_from at s.address) s) (programs_from next segments)
-    (shaped (offset_from at s.address) s (All-head IsLoadable s segments loadable)) (all_shaped next segments (All-tail IsLoadable s segments loadable))
+    All-cons P (program_of (offset_from at s.address) s) (programs_from next segments) (one (offset_from at s.address) s (All-head IsLoadable s segments loadable) stand.0)
+    (all_programs P file next segments one (All-tail IsLoadable s segments loadable) stand.1)
 
 -- header k is that of segment k, at some offset
 record IsHeaderOf (p : ProgramHeader) (s : Segment) : Type 0 where
@@ -179,12 +165,13 @@ alone file at i segments n lists pairs li =
           let hp = subst (λ (x : ProgramHeader). IsHeaderOf x (get_or segments i e)) (sym p) (header_of at i segments (program_header file i) e li) in
           let hq = subst (λ (x : ProgramHeader). IsHeaderOf x (get_or segments j e)) (sym q) (header_of at j segments (program_header file j) e lj) in
           let none = apart (program_header file i) (program_header file j) (get_or segments i e) (get_or segments j e) hp hq (pairs i j e before lj) in
-          rw none (and_false (ltb i j))
+          rw none (and-false (ltb i j))
       | inr after ↦ let e : ltb i j ≡ false = le-ltb _ _ after in rw e refl
     ])
 
 each_is : (file : List ℕ) (n : ℕ) → each n (segment_of file) ≡ each n (λ i. described file (program_header file i))
-each_is file n = each_same n (segment_of file) (λ i. described file (program_header file i)) (λ i lt. segment_of-described file i)
+unfolding segment_of
+each_is file n = each_same n (segment_of file) (λ i. described file (program_header file i)) (λ i lt. refl)
 
 pub segments_pass : (file : List ℕ) (at : ℕ) (segments : List Segment) → e_phnum file ≡ length segments → Lists (program_header file) (programs_from at segments)
     → BytesStand file at segments → All IsLoadable segments → AllPairs (λ s t. do_share s t ≡ false) segments → SegmentsPass file at segments
@@ -192,8 +179,8 @@ unfolding segment_place_rule segment_shape_rule segment_overlap_rule
 segments_pass file at segments n lists stand loadable pairs =
     let programs = programs_from at segments in
     let many : e_phnum file ≡ length programs = n ∙ sym (length-programs_from at segments) in
-    let a = none_passes (is_segment_outside file) (program_header file) programs lists (all_inside file at segments stand) in
-    let b = none_passes is_misshapen (program_header file) programs lists (all_shaped at segments loadable) in
+    let a = none_passes (is_segment_outside file) (program_header file) programs lists (all_programs (λ p. is_segment_outside file p ≡ false) file at segments (λ n s l. inside file n s) loadable stand) in
+    let b = none_passes is_misshapen (program_header file) programs lists (all_programs (λ p. is_misshapen p ≡ false) file at segments (λ n s l t. shaped n s l) loadable stand) in
     let c : first (length programs) (λ i. is_some (overlapped file i)) ≡ None = first_none (length programs) (λ i. is_some (overlapped file i)) (λ i lt. ap is_some (alone file at i segments n lists pairs (omega (arith, length-programs_from at segments)))) in
     let d = each_listed (described file) (program_header file) programs lists in
     let e = sum_listed file_size (program_header file) programs lists in

@@ -20,7 +20,7 @@ use Rattle.elf_write.proofs.Stands.{Stands, stands_whole}
 use Rattle.elf_write.proofs.Listing.{Lists, each_same, each_listed, sum_same, sum_listed, total, total-map}
 use Rattle.elf_write.proofs.NamesRead.{first_name, other_names, empty_read, names_stand}
 use Rattle.elf_write.proofs.RecordsRead.{EntryFits, entries_read}
-use Rattle.elf_write.proofs.SegmentsRead.{and_false}
+use Rattle.std.proofs.Math.Bool.{and-false}
 use Rattle.elf_write.proofs.TablesRead.{Known, symtab_at, strtab_at, strings_are, entries_are}
 
 -- ---- the entries' numbers fit
@@ -54,14 +54,11 @@ pub record EntriesRead (table : List ℕ) (entries : List SymbolEntry) (symbols 
   pub shown_are : map (symbol_shown table) entries ≡ symbols
   pub ended : All (HasEnd table) entries
 
-four_bits : (binding kind : ℕ) → kind < 16 → (16 * binding + kind) % 16 ≡ kind
-four_bits binding kind lt = omega arith
-
-high_bits : (binding kind : ℕ) → kind < 16 → (16 * binding + kind) / 16 ≡ binding
-high_bits binding kind lt = omega arith
-
 one_shown : (table : List ℕ) (name : ℕ) (s : Symbol) → IsSymbol s → name_at table name ≡ s.name → symbol_shown table (entry_with name s) ≡ s
-one_shown table name s is e = rw (e, four_bits s.binding s.kind is.kind, high_bits s.binding s.kind is.kind) refl
+one_shown table name s is e =
+    let kind : (16 * s.binding + s.kind) % 16 ≡ s.kind = omega (arith, is.kind) in
+    let binding : (16 * s.binding + s.kind) / 16 ≡ s.binding = omega (arith, is.kind) in
+    rw (e, kind, binding) refl
 
 entries_shown : (table : List ℕ) (name : ℕ) (symbols : List Symbol) → 0 < name → All IsSymbol symbols → All (λ s. IsName s.name) symbols → Stands table name (names_bytes (symbol_names symbols))
     → EntriesRead table (entries_from name symbols) symbols
@@ -124,7 +121,7 @@ named f file t j lt =
     let same : is_unended (strings_of file (symtab_header f)) (symbol_entry (section_bytes file (symtab_header f)) j).name ≡ false =
     ap (λ (xs : List ℕ). is_unended xs (symbol_entry (section_bytes file (symtab_header f)) j).name) t.strings
     ∙ ap (λ (xs : List ℕ). is_unended strings (symbol_entry xs j).name) t.entries ∙ one in
-    rw same (and_false (ltb 0 j))
+    rw same (and-false (ltb 0 j))
 
 shape : (f : OutFile) (file : List ℕ) → Known f file → TableKnown f file → symbols_rule file (symtab_header f) ≡ Ok tt
 unfolding symbols_rule

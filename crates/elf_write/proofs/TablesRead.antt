@@ -1,6 +1,7 @@
 -- The section headers of a file that was written, as a whole: the tables that are added, and what the rules ask of sections.
 use Rattle.std.proofs.Common.{◌≡◌, ℕ, ◌+◌, ◌*◌, ◌<◌, ◌&&◌, ◌||◌, not, Bool, true, false, ltb, eqb, List, [], ◌∷◌, ◌++◌, length, get_or, Some, Ok, refl, sym, ap, subst, ◌∙◌, arith}
 use Rattle.std.specs.Prelude.{All}
+use Rattle.std.proofs.Math.Bool.{and-false}
 use Rattle.std.proofs.lemmas.Bool.{le-ltb, eqb-true}
 use Rattle.std.proofs.lemmas.Bool.Decides.{nat_tests}
 use Rattle.std.proofs.lemmas.List.{get_or-append-add, get_or_append_left}
@@ -17,7 +18,7 @@ use Rattle.elf_write.proofs.Sizes.{length-headers_of, length-headers_from, lengt
 use Rattle.elf_write.proofs.Stands.{Stands, stands_slice}
 use Rattle.elf_write.proofs.Listing.{Lists, none_passes}
 use Rattle.elf_write.proofs.HeaderRead.{HeaderRead, PartsStand}
-use Rattle.elf_write.proofs.SegmentsRead.{and_false, third_fails}
+use Rattle.elf_write.proofs.SegmentsRead.{third_fails}
 use Rattle.elf_write.proofs.SectionsRead.{EndsIn, NoWrap, IsGiven, IsEnded}
 
 -- ---- the headers in order
@@ -103,7 +104,7 @@ outside_not : (file : List ℕ) (h : SectionHeader) → EndsIn (length file) h �
 unfolding is_section_outside
 outside_not file h e =
     let short : ltb (length file) (h.offset + h.size) ≡ false = le-ltb _ _ e in
-    rw short (and_false _)
+    rw short (and-false _)
 
 pub place_passes : (f : OutFile) (file : List ℕ) → Known f file → All (EndsIn (length file)) (headers_of f) → section_place_rule file ≡ Ok tt
 unfolding section_place_rule
@@ -118,8 +119,8 @@ three_fail a b c ha hb hc = rw (ha, hb, hc) refl
 
 -- the last test fails where the one before it passes
 last_fails : (a b c : Bool) → (b ≡ true → c ≡ false) → (a && b && c) ≡ false
-last_fails a true c h = rw (h refl) (and_false (a && true))
-last_fails a false c h = rw (and_false a) refl
+last_fails a true c h = rw (h refl) (and-false (a && true))
+last_fails a false c h = rw (and-false a) refl
 
 shaped : (f : OutFile) (file : List ℕ) → Known f file → All NoWrap (headers_of f) → All (IsEnded (string_table (section_names f.sections))) (headers_of f) → (i : ℕ) → i < length (headers_of f)
     → is_section_misshapen file i ≡ false

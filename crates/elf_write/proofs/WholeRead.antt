@@ -2,6 +2,7 @@
 use Rattle.std.proofs.Common.{◌≡◌, ◌≢◌, ℕ, zero, suc, ◌+◌, ◌*◌, ◌^◌, ◌<◌, ◌≤◌, ◌||◌, Bool, true, false, cond, ltb, eqb, List, [], ◌∷◌, ◌++◌, length, map, get_or, None, Ok, refl, sym, ap, ◌∙◌, arith, length-append}
 use Rattle.std.specs.Prelude.{All}
 use Rattle.std.specs.Option.{is_some}
+use Rattle.std.proofs.Math.Bool.{and-false, or-true}
 use Rattle.std.proofs.lemmas.Bool.{le-ltb}
 use Rattle.std.proofs.lemmas.Bool.Decides.{nat_tests}
 use Rattle.std.proofs.lemmas.List.{map-append}
@@ -17,7 +18,7 @@ use Rattle.elf_files.specs.Fields.{program_header, section_header}
 use Rattle.elf_files.specs.Rules.{magic_rule, header_rule, class_rule, encoding_rule, version_rule, file_type_rule, machine_rule, header_shape_rule, header_rules, program_table_rule, section_table_rule, table_rules, part_rules, section_strings, section_name, rela_fault, rela_shape_rule, file_size, counted_bytes, verdict}
 use Rattle.elf_files.specs.File.{section_of, relas_of, WithinReadLimits, IsReadAs}
 use Rattle.qed_model.specs.Elf.Written.{program_headers}
-use Rattle.qed_model.specs.Elf.Layout.{IsWritable, IsName, names_bytes, string_table, symbol_names, section_names, table_names, symtab_name, strtab_name, shstrtab_name, first_global, headers_bytes, headers_of, null_header, symtab_header, strtab_header, shstrtab_header, start_of, own_place, headers_place, written}
+use Rattle.qed_model.specs.Elf.Layout.{IsWritable, IsName, table_header, names_bytes, string_table, symbol_names, section_names, table_names, symtab_name, strtab_name, shstrtab_name, first_global, headers_bytes, headers_of, null_header, symtab_header, strtab_header, shstrtab_header, start_of, own_place, headers_place, written}
 use Rattle.qed_model.specs.Elf.FileRead.{null_section, section_read, table_read, tables_read, file_read}
 use Rattle.qed_model.proofs.ProgramHeaders.{length-program_headers}
 use Rattle.qed_model.proofs.BelowLaws.{gather_nothing}
@@ -28,16 +29,12 @@ use Rattle.elf_write.proofs.Listing.{none_passes, each_same, each_listed, sum_li
 use Rattle.elf_write.proofs.NamesRead.{NameRead, empty_read, first_name, other_names, names_stand}
 use Rattle.elf_write.proofs.RecordsRead.{HeaderFits, headers_read, programs_read}
 use Rattle.elf_write.proofs.HeaderRead.{HeaderRead, header_read, parts_stand}
-use Rattle.elf_write.proofs.SegmentsRead.{and_false, bytes_stand, programs_fit, SegmentsPass, segments_pass}
+use Rattle.elf_write.proofs.SegmentsRead.{bytes_stand, programs_fit, SegmentsPass, segments_pass}
 use Rattle.elf_write.proofs.SectionsRead.{given_fit, EndsIn, given_end, NoWrap, given_wrap_not, given_kind, shown, IsEnded, given_read, names_behind}
 use Rattle.elf_write.proofs.TablesRead.{front_headers, last_headers, headers_are, all_headers, Known, place_passes, shape_passes, symbol_table-is, section_strings-are}
 use Rattle.elf_write.proofs.SymbolsRead.{all_entries_fit, SymbolsRead, symbols_read}
 
 -- ---- the header
-or_true : (b : Bool) → (b || true) ≡ true
-or_true true = refl
-or_true false = refl
-
 header_passes : (f : OutFile) (file : List ℕ) → HeaderRead f file → 64 ≤ length file → length f.segments ≤ 4000 → header_rules file ≡ Ok tt
 unfolding header_rules magic_rule header_rule class_rule encoding_rule version_rule file_type_rule machine_rule header_shape_rule
 header_passes f file h long few =
@@ -47,7 +44,7 @@ header_passes f file h long few =
     let some : eqb (length f.sections + 4) 0 ≡ false = grind (arith, nat_tests) in
     let more : ltb 0 (length f.sections + 4) ≡ true = grind (arith, nat_tests) in
     let last : ltb (length f.sections + 3) (length f.sections + 4) ≡ true = grind (arith, nat_tests) in
-    rw (l4, h.magic, l64, h.class, h.encoding, h.ident_version, h.version, h.type, h.machine, h.ehsize, h.phnum, h.phentsize, h.shnum, h.shentsize, h.shstrndx, small, some, more, last, or_true (eqb (length f.segments) 0)) refl
+    rw (l4, h.magic, l64, h.class, h.encoding, h.ident_version, h.version, h.type, h.machine, h.ehsize, h.phnum, h.phentsize, h.shnum, h.shentsize, h.shstrndx, small, some, more, last, or-true (eqb (length f.segments) 0)) refl
 
 tables_pass : (f : OutFile) (file : List ℕ) → HeaderRead f file → header_rules file ≡ Ok tt → 64 + 56 * length f.segments ≤ length file
     → headers_place f + 64 * (length f.sections + 4) ≤ length file → table_rules file ≡ Ok tt
@@ -55,7 +52,7 @@ unfolding table_rules program_table_rule section_table_rule
 tables_pass f file h header programs sections =
     let a : ltb (length file) (64 + 56 * length f.segments) ≡ false = le-ltb _ _ programs in
     let b : ltb (length file) (headers_place f + 64 * (length f.sections + 4)) ≡ false = le-ltb _ _ sections in
-    rw (header, h.phnum, h.phoff, h.shnum, h.shoff, a, b, and_false (ltb 0 (length f.segments)), and_false (ltb 0 (length f.sections + 4))) refl
+    rw (header, h.phnum, h.phoff, h.shnum, h.shoff, a, b, and-false (ltb 0 (length f.segments)), and-false (ltb 0 (length f.sections + 4))) refl
 
 -- ---- the names of the tables that are added
 -- no byte of the list is 0
@@ -95,6 +92,10 @@ global_below number (s ∷ symbols) =
     let rest = global_below (number + 1) symbols in
     elim (eqb s.binding 0) as (λ b. cond b (first_global (number + 1) symbols) number ≤ number + suc (length symbols)) [ true ↦ omega arith | false ↦ omega arith ]
 
+table_fits : (name kind at size link info entsize : ℕ) → name < 2 ^ 32 → kind < 2 ^ 32 → at < 2 ^ 64 → size < 2 ^ 64 → link < 2 ^ 32 → info < 2 ^ 32 → entsize < 2 ^ 64
+    → HeaderFits (table_header name kind at size link info entsize)
+table_fits name kind at size link info entsize a b c d e f g = record { name = a; kind = b; flags = omega arith; addr = omega arith; offset = c; size = d; link = e; info = f; entsize = g }
+
 headers_fit : (f : OutFile) → IsWritable f → All SectionFits f.sections → All HeaderFits (headers_of f)
 headers_fit f w fits =
     let n = ends_within 1073741824 f w.size in
@@ -104,39 +105,9 @@ headers_fit f w fits =
     all_headers HeaderFits f
     (record { name = omega arith; kind = omega arith; flags = omega arith; addr = omega arith; offset = omega arith; size = omega arith; link = omega arith; info = omega arith; entsize = omega arith })
     (given_fit (start_of f) f.segments 1 (own_place f) f.sections fits (omega (arith, n.segments)) (omega (arith, n.names_size)) (omega (arith, n.own, n.symbols)))
-    (record {
-      name = omega (arith, n.names_size);
-      kind = omega arith;
-      flags = omega arith;
-      addr = omega arith;
-      offset = omega (arith, n.symbols);
-      size = omega (arith, is.strings, n.strings);
-      link = omega (arith, w.few_sections);
-      info = omega (arith, global, is.strings, n.strings);
-      entsize = omega arith;
-    })
-    (record {
-      name = omega (arith, n.names_size);
-      kind = omega arith;
-      flags = omega arith;
-      addr = omega arith;
-      offset = omega (arith, n.strings);
-      size = omega (arith, n.strings_size);
-      link = omega arith;
-      info = omega arith;
-      entsize = omega arith;
-    })
-    (record {
-      name = omega (arith, n.names_size);
-      kind = omega arith;
-      flags = omega arith;
-      addr = omega arith;
-      offset = omega (arith, n.names);
-      size = omega (arith, named, n.names_size);
-      link = omega arith;
-      info = omega arith;
-      entsize = omega arith;
-    })
+    (table_fits _ 2 _ _ _ _ 24 (omega (arith, n.names_size)) (omega arith) (omega (arith, n.symbols)) (omega (arith, is.strings, n.strings)) (omega (arith, w.few_sections)) (omega (arith, global, is.strings, n.strings)) (omega arith))
+    (table_fits _ 3 _ _ 0 0 0 (omega (arith, n.names_size)) (omega arith) (omega (arith, n.strings)) (omega (arith, n.strings_size)) (omega arith) (omega arith) (omega arith))
+    (table_fits _ 3 _ _ 0 0 0 (omega (arith, n.names_size)) (omega arith) (omega (arith, n.names)) (omega (arith, named, n.names_size)) (omega arith) (omega arith) (omega arith))
 
 headers_end : (f : OutFile) → IsWritable f → All (EndsIn (length (written f))) (headers_of f)
 headers_end f w =
@@ -220,9 +191,6 @@ relas_are f file known =
     let d : SectionHeader = section_header file i in
     let l : i < length (headers_of f) = omega (arith, known.header.shnum, length-headers_of f) in
     no_relas file d (ap (λ (h : SectionHeader). eqb h.kind 4) (known.headers.at i l) ∙ no_relocations f i d l))
-
-few_sections : (f : OutFile) (file : List ℕ) → Known f file → length f.sections ≤ 4000 → e_shnum file ≤ 4096
-few_sections f file known few = omega (arith, known.header.shnum)
 
 -- ---- the sections
 section_shown : (file : List ℕ) (i : ℕ) → section_of file i ≡ shown (section_strings file) (section_header file i)
@@ -322,7 +290,7 @@ within :
     → SymbolsRead f (written f) → WithinReadLimits (written f)
 within f w known read segments symbols =
     let n = ends_within 1073741824 f w.size in
-    record { sections = few_sections f (written f) known w.few_sections; bytes = few_bytes f (written f) known read segments symbols n.headers }
+    record { sections = omega (arith, known.header.shnum, w.few_sections); bytes = few_bytes f (written f) known read segments symbols n.headers }
 
 -- the file that was written is read as the one that was given
 pub reads_back : (f : OutFile) → IsWritable f → f.entry < 2 ^ 64 → f.flags < 2 ^ 32 → All SegmentFits f.segments → All SectionFits f.sections → All SymbolFits f.symbols

@@ -1,11 +1,10 @@
 -- What was collected are the leaders.
-use Rattle.std.proofs.Common.{◌≡◌, ⊎_elim, ℕ, ◌+◌, ◌*◌, ◌%◌, ◌<◌, ◌^◌, Bool, true, false, is_some, List, [], map, refl, sym, ap, ◌∙◌, subst}
+use Rattle.std.proofs.Common.{◌≡◌, ⊎_elim, ℕ, ◌+◌, ◌*◌, ◌%◌, ◌<◌, ◌^◌, Bool, true, is_some, List, [], map, refl, sym, ap, ◌∙◌, subst}
 use Rattle.std.specs.Prelude.{All, AllPairs, ◌==◌, ◌&&◌, ◌||◌, ◌↔◌, IsTrue, nat_lt, filter}
 use Rattle.std.specs.List.{list_any}
 use Rattle.std.specs.List.Sorted.{IsPermutation, IsSorted}
 use Rattle.std.specs.Ordering.{nat_cmp}
 use Rattle.std.proofs.lemmas.List.Sorted.{IsNonDecreasingBy-from_sort, list_any-IsPermutation}
-use Rattle.std.proofs.Math.Bool.{or_assoc}
 use Rattle.std.proofs.lemmas.Bool.{false≢true, eqb-true, eq-eqb, lt-ltb, and_parts, and_from, or_cases, or_left, or_right}
 use Rattle.std.proofs.lemmas.List.Elements.{All-contains}
 use Rattle.elf_types.specs.declared.file.ElfFile.{ElfFile}
@@ -30,6 +29,7 @@ use Rattle.flow_recovery.specs.Sets.{lists, Adds}
 use Rattle.qed_model.proofs.OneTest.{reached_by}
 use Rattle.flow_recovery.specs.Words.{leads_to, ends_before, begins_by, is_begun, is_chosen, is_entered, is_even, is_leveled, of_code}
 use Rattle.flow_recovery.specs.Leaders.{AreLeaders}
+use Rattle.flow_recovery.proofs.SetLaws.{adds_first, adds_then}
 use Rattle.flow_recovery.proofs.CodeLaws.{code_word, standing_word, stands_word}
 use Rattle.flow_recovery.proofs.OrderLaws.{pairs_of, rising, listed, among_listed, filter_alike, kept_lists, of_code_is}
 
@@ -39,16 +39,8 @@ pub collected :
     (entry : ℕ) (words : List CodeWord) (symbols : List Symbol) (relas : List Rela) (s t u v w : List ℕ)
     → s ≡ [] → Adds s t (λ a. entry == a) → Adds t u (λ a. list_any (λ c. begins_by c a) words) → Adds u v (is_named symbols) → Adds v w (is_relocated symbols relas)
     → (a : ℕ) → lists w a ≡ is_begun entry words symbols relas a
-collected entry words symbols relas s t u v w empty first begun by_symbols by_relas a =
-    let named = is_named symbols a in
-    let relocated = is_relocated symbols relas a in
-    let some = list_any (λ (c : CodeWord). begins_by c a) words in
-    let none : lists s a ≡ false = ap (λ xs. lists xs a) empty in
-    let one : lists t a ≡ (entry == a) = first.each a ∙ ap (λ b. b || (entry == a)) none in
-    by_relas.each a
-    ∙ ap (λ b. b || relocated) (by_symbols.each a ∙ ap (λ b. b || named) (begun.each a ∙ ap (λ b. b || some) one))
-    ∙ or_assoc ((entry == a) || some) named relocated
-    ∙ or_assoc (entry == a) some (named || relocated)
+collected entry words symbols relas s t u v w empty first begun by_symbols by_relas =
+    adds_first s w (is_begun entry words symbols relas) empty (adds_then s t w _ _ first (adds_then t u w _ _ begun (adds_then u v w _ _ by_symbols by_relas)))
 
 -- ---- JALR
 abbrev has_jalr : List CodeWord → Bool

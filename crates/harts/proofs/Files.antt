@@ -14,7 +14,7 @@ use Rattle.qed_model.specs.Machine.Apart.{share, FitsMemory, AllFitMemory, AreAp
 use Rattle.qed_model.proofs.CellsAmong.{has_parts, get_among}
 use Rattle.qed_model.proofs.ApartLaws.{shared as share_at}
 use Rattle.harts.specs.Shared.{any_share, IsShared, AreUnshared, AreSound, FilesApart}
-use Rattle.mem_image.proofs.PagingLaws.{fits_at}
+use Rattle.mem_image.proofs.WholeLaws.{fits_at}
 use Rattle.mem_image.proofs.SegmentLaws.{all_sized}
 
 -- ---- a mapped address lies in a segment

@@ -1,6 +1,6 @@
 -- What is promised of a hart's file holds of the hart, in its own turns.
-use Rattle.std.proofs.Common.{◌≡◌, ℕ, zero, suc, ◌≤◌, ◌⊎◌, inl, inr, Bool, true, List, [], is_some, refl, sym, ap, ◌∙◌, subst, arith}
-use Rattle.std.specs.Prelude.{◌↔◌, slice_index, replicate}
+use Rattle.std.proofs.Common.{◌≡◌, ℕ, ◌≤◌, ◌⊎◌, inl, inr, Bool, true, List, [], is_some, refl, sym, ap, ◌∙◌, subst, arith}
+use Rattle.std.specs.Prelude.{◌↔◌, slice_index}
 use Rattle.std.specs.FinMap.{get}
 use Rattle.std.proofs.lemmas.Option.{same_Some}
 use Rattle.qed_model.specs.declared.machine.Outcome.TheVariants.{Ended, Fired}
@@ -16,18 +16,13 @@ use Rattle.harts.specs.Harts.{hart_of, hart_turns}
 use Rattle.harts.specs.Together.{IsProgram, own_run, IsSeen, HartKept, QuietInTurns, KeptInTurns, SameHart, SettlesInTurns, HartCaught, PerHart}
 use Rattle.qed_model.proofs.CellsLaws.{byte_of_cell}
 use Rattle.qed_model.proofs.Changes.{run_unchanged}
+use Rattle.qed_model.proofs.Fields.{are_bytes}
 use Rattle.harts.proofs.Beside.{Holds}
 use Rattle.harts.proofs.Together.{stand_after}
 
 -- ---- the start
--- each number of a list of zeros is 0
-zero_at : (n r : ℕ) → slice_index (replicate n 0) r ≡ 0
-zero_at zero r = refl
-zero_at (suc n) zero = refl
-zero_at (suc n) (suc r) = zero_at n r
-
 zeros_are : AreStartRegs zeros
-zeros_are = record { count = refl; fit = λ r. let e = zero_at 32 r in omega (arith, e) }
+zeros_are = record { count = refl; fit = λ r. let b = are_bytes zeros refl r in omega (arith, b) }
 
 -- ---- a hart that is seen
 -- it is the hart of its own run, and the memory has its cells

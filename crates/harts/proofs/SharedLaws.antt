@@ -1,14 +1,12 @@
 -- The least pair of files that share a byte.
-use Rattle.std.proofs.Common.{◌≡◌, ℕ, ◌+◌, ◌<◌, ◌≤◌, inl, inr, ⊎_elim, true, List, length, Some, sym, ap, ◌∙◌, arith, get_or}
+use Rattle.std.proofs.Common.{◌≡◌, ℕ, ◌<◌, true, List, length, Some, sym, ap, ◌∙◌, get_or}
 use Rattle.std.specs.Prelude.{slice_get}
 use Rattle.std.specs.Option.{option_map}
-use Rattle.std.proofs.lemmas.Bool.{cases_lt}
 use Rattle.std.proofs.lemmas.Option.{slice_get-get_or, slice_get_within, slice_get-map}
 use Rattle.std.proofs.lemmas.List.{length-map}
 use Rattle.elf_types.specs.declared.file.ElfFile.{ElfFile}
-use Rattle.qed_model.specs.Machine.Program.{Program}
 use Rattle.qed_model.specs.Machine.Loading.{loaded_file}
-use Rattle.harts.specs.Shared.{any_share, IsShared, IsNextShared, IsLeastShared}
+use Rattle.harts.specs.Shared.{any_share, IsShared}
 use Rattle.harts.specs.Played.{programs}
 
 -- ---- two files of the list
@@ -43,28 +41,3 @@ within_list files i j o =
     let x = slice_get_within (programs files) i o.first o.first_at in
     let y = slice_get_within (programs files) j o.second o.second_at in
     (rw l at x, rw l at y)
-
--- ---- the least
-module _ (gs : List Program) where
-  -- numbers behind i, one more
-  pub next_more : (i j : ℕ) → ((k : ℕ) → k < j → IsShared gs i k → ⊥) → (IsShared gs i j → ⊥) → (k : ℕ) → k < j + 1 → IsShared gs i k → ⊥
-  next_more i j before here k h o = ⊎_elim (λ l. before k l o) (λ l. let is : k ≡ j = omega arith in here (rw is at o)) (cases_lt k j)
-
-  -- no pair ends before its beginning
-  pub next_first : (i k : ℕ) → k < i + 1 → IsShared gs i k → ⊥
-  next_first i k h o = let l = o.order in omega arith
-
-  -- the least number behind i
-  pub next_least : (i j : ℕ) → ((k : ℕ) → k < j → IsShared gs i k → ⊥) → (k : ℕ) → IsShared gs i k → j ≤ k
-  next_least i j before k o = ⊎_elim (λ l. absurd (before k l o)) (λ l. l) (cases_lt k j)
-
-  -- numbers before i, one more
-  pub first_more : (i : ℕ) → ((h k : ℕ) → h < i → IsShared gs h k → ⊥) → ((k : ℕ) → IsShared gs i k → ⊥) → (h k : ℕ) → h < i + 1 → IsShared gs h k → ⊥
-  first_more i before here h k l o = ⊎_elim (λ m. before h k m o) (λ m. let is : h ≡ i = omega arith in here k (rw is at o)) (cases_lt h i)
-
-  -- the first number that shares a byte with a later one, and the first such later one
-  pub pair_least : (i j : ℕ) → ((h k : ℕ) → h < i → IsShared gs h k → ⊥) → IsNextShared gs i j → IsLeastShared gs i j
-  pair_least i j before next = record {
-    shared = next.shared;
-    least = λ h k o. ⊎_elim (λ l. absurd (before h k l o)) (λ l. ⊎_elim (λ m. inl m) (λ m. let is : i ≡ h = omega arith in let o2 : IsShared gs i k = rw is o in inr (is, next.least k o2)) (cases_lt i h)) (cases_lt h i);
-  }

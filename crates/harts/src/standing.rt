@@ -28,34 +28,19 @@ pub fn is_going(outcome: Outcome) -> bool
 pub fn any_fired(harts: &[Hart]) -> bool
     ensures { result ≡ stands is_fired harts.now }
 {
-    for hart in harts {
-        if is_fired(hart.outcome()) {
-            return true;
-        }
-    }
-    false
+    harts.iter().any(|hart| is_fired(hart.outcome()))
 }
 
 /// Whether one has trapped.
 pub fn any_trapped(harts: &[Hart]) -> bool
     ensures { result ≡ stands is_trapped harts.now }
 {
-    for hart in harts {
-        if is_trapped(hart.outcome()) {
-            return true;
-        }
-    }
-    false
+    harts.iter().any(|hart| is_trapped(hart.outcome()))
 }
 
 /// Whether one goes on.
 pub fn any_going(harts: &[Hart]) -> bool
     ensures { result ≡ stands is_going harts.now }
 {
-    for hart in harts {
-        if is_going(hart.outcome()) {
-            return true;
-        }
-    }
-    false
+    harts.iter().any(|hart| is_going(hart.outcome()))
 }

@@ -1,5 +1,6 @@
 pub mod SegmentLaws
 pub mod NumberLaws
+pub mod LeastPairs
 pub mod OverlapLaws
 pub mod WholeLaws
 pub mod PageLaws

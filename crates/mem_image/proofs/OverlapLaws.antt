@@ -1,15 +1,15 @@
 -- Segments that share a byte, and segments that ascend.
-use Rattle.std.proofs.Common.{◌≡◌, ℕ, zero, suc, ◌+◌, ◌<◌, ◌≤◌, inl, inr, ⊎_elim, true, false, List, [], ◌∷◌, length, Some, sym, ap, ◌∙◌, arith, get_or}
+use Rattle.std.proofs.Common.{◌≡◌, ℕ, zero, suc, ◌+◌, ◌<◌, ◌≤◌, true, false, List, [], ◌∷◌, length, Some, sym, ap, ◌∙◌, arith, get_or}
 use Rattle.std.specs.Prelude.{slice_get}
 use Rattle.std.specs.Option.{option_map}
-use Rattle.std.proofs.lemmas.Bool.{cases_lt, false≢true}
+use Rattle.std.proofs.lemmas.Bool.{false≢true}
 use Rattle.std.proofs.lemmas.Bool.Decides.{nat_tests}
 use Rattle.std.proofs.lemmas.Option.{slice_get-get_or, slice_get_within, slice_get-map}
 use Rattle.std.proofs.lemmas.List.{length-map}
 use Rattle.qed_model.specs.Machine.Program.{LoadSegment}
 use Rattle.mem_image.specs.declared.spec.SegmentSpec.{SegmentSpec}
 use Rattle.qed_model.specs.Machine.Apart.{share, Overlaps, AreApart}
-use Rattle.mem_image.specs.Overlap.{segment_of, segments_of, IsNext, IsLeast, Ascends}
+use Rattle.mem_image.specs.Overlap.{segment_of, segments_of, Ascends}
 
 -- ---- two places of the list
 -- the segment at a place that the code reads
@@ -36,18 +36,6 @@ pair_share specs i j a b hi hj ea eb o =
     let g : o.second ≡ segment_of b = cc in
     rw (f, g) at o.share
 
--- places behind number i, one more
-pub next_more : (ss : List LoadSegment) (i j : ℕ) → ((k : ℕ) → k < j → Overlaps ss i k → ⊥) → (Overlaps ss i j → ⊥) → (k : ℕ) → k < j + 1 → Overlaps ss i k → ⊥
-next_more ss i j before here k h o = ⊎_elim (λ l. before k l o) (λ l. let is : k ≡ j = omega arith in here (rw is at o)) (cases_lt k j)
-
--- no pair ends before its beginning
-pub next_first : (ss : List LoadSegment) (i k : ℕ) → k < i + 1 → Overlaps ss i k → ⊥
-next_first ss i k h o = let l = o.order in omega arith
-
--- the least place behind number i
-pub next_least : (ss : List LoadSegment) (i j : ℕ) → ((k : ℕ) → k < j → Overlaps ss i k → ⊥) → (k : ℕ) → Overlaps ss i k → j ≤ k
-next_least ss i j before k o = ⊎_elim (λ l. absurd (before k l o)) (λ l. l) (cases_lt k j)
-
 -- a place of an overlap is one of the list
 pub within_list : (specs : List SegmentSpec) (i j : ℕ) → Overlaps (segments_of specs) i j → (i < length specs) × (j < length specs)
 within_list specs i j o =
@@ -55,17 +43,6 @@ within_list specs i j o =
     let x = slice_get_within (segments_of specs) i o.first o.first_at in
     let y = slice_get_within (segments_of specs) j o.second o.second_at in
     (rw l at x, rw l at y)
-
--- numbers before i, one more
-pub first_more : (ss : List LoadSegment) (i : ℕ) → ((h k : ℕ) → h < i → Overlaps ss h k → ⊥) → ((k : ℕ) → Overlaps ss i k → ⊥) → (h k : ℕ) → h < i + 1 → Overlaps ss h k → ⊥
-first_more ss i before here h k l o = ⊎_elim (λ m. before h k m o) (λ m. let is : h ≡ i = omega arith in here k (rw is at o)) (cases_lt h i)
-
--- the first number that shares a byte with a later one, and the first such later one
-pub pair_least : (ss : List LoadSegment) (i j : ℕ) → ((h k : ℕ) → h < i → Overlaps ss h k → ⊥) → IsNext ss i j → IsLeast ss i j
-pair_least ss i j before next = record {
-  overlaps = next.overlaps;
-  least = λ h k o. ⊎_elim (λ l. absurd (before h k l o)) (λ l. ⊎_elim (λ m. inl m) (λ m. let is : i ≡ h = omega arith in let o2 : Overlaps ss i k = rw is o in inr (is, next.least k o2)) (cases_lt i h)) (cases_lt h i);
-}
 
 -- ---- segments that ascend
 -- the segment at a place begins at the bound or behind it

@@ -6,8 +6,7 @@ use Rattle.std.proofs.lemmas.Bool.{cases_lt}
 use Rattle.std.proofs.lemmas.List.{length-replicate, get_or-take, get_or_past}
 use Rattle.qed_model.proofs.CellsAmong.{index_zeros}
 use Rattle.qed_model.specs.Machine.Program.{LoadSegment}
-use Rattle.mem_image.specs.Segments.{number_in, bytes_put, with_byte_at, with_bytes_at, IsLike}
-use Rattle.mem_image.proofs.WholeLaws.{address-with_bytes, size-with_bytes, length-with_bytes}
+use Rattle.mem_image.specs.Segments.{number_in, bytes_put, with_byte_at, with_bytes_at}
 
 -- ---- the first bytes
 pub set-take : (k : ℕ) (bs : List ℕ) (i v : ℕ) → take k (slice_set bs i v) ≡ slice_set (take k bs) i v
@@ -72,7 +71,3 @@ filled_more bs page i b f m e = let l : i < length page = let k = f.count in ome
 -- as many as the slice has, or as the page has
 pub filled_all : (bs page : List ℕ) (i j : ℕ) → Filled bs page i → ((i < 4096) → (length bs ≤ i)) → j < 4096 → slice_index page j ≡ slice_index bs j
 filled_all bs page i j f h l = ⊎_elim (λ m. f.done j m) (λ m. f.rest j m ∙ sym (get_or_past bs j 0 (let k = h (omega arith) in omega arith))) (cases_lt j i)
-
--- a segment whose bytes were put
-pub like_put : (s t : LoadSegment) (a n v : ℕ) → t ≡ with_bytes_at s a n v → IsLike s t
-like_put s t a n v e = rw e (record { address = address-with_bytes s a n v; size = size-with_bytes s a n v; bytes = length-with_bytes s a n v })

@@ -10,7 +10,7 @@ use Rattle.std.proofs.lemmas.List.Folds.{list_any_none}
 use Rattle.std.proofs.lemmas.List.Sorted.{All-permutation, Contains-permutation}
 use Rattle.std.proofs.lemmas.Map.Keys.{IsDistinct-push, IsDistinct-IsPermutation, apart_from_distinct}
 use Rattle.std.proofs.lemmas.Bool.Decides.{nat_tests}
-use Rattle.std.proofs.lemmas.Bool.{cases_lt, false≢true}
+use Rattle.std.proofs.lemmas.Bool.{cases_lt, false≢true, false_from_ne_true}
 use Rattle.std.specs.Option.{option_or}
 use Rattle.qed_model.specs.Machine.Memory.{Cell}
 use Rattle.qed_model.specs.Machine.Program.{LoadSegment}
@@ -148,15 +148,12 @@ module _ (ss : List LoadSegment) (order : List (ℕ × ℕ)) (pages : List LoadS
       (λ l. ⊎_elim (λ m. let e = c.apart y.0 x.0 o.second o.first m (let k = x.1.0 in omega (arith, k, whole)) b a in omega (arith, e, h)) (λ m. let e : y.0 ≡ x.0 = omega (arith, l, m) in let d = o.order in let there : slice_get order x.0 ≡ Some (o.second.address, j) = rw e at y.1.1 in let same : i ≡ j = ap (λ (p : ℕ × ℕ). p.1) (same_Some (o.first.address, i) (o.second.address, j) (sym x.1.1 ∙ there)) in omega (arith, same, d)) (cases_lt y.0 x.0)) (cases_lt x.0 y.0)
 
   none_there : (q : ℕ) → cell_among pages q ≡ None → (k : ℕ) (s : LoadSegment) → slice_get ss k ≡ Some s → has s q ≡ false
-  none_there q e k s g = by (has s q) refl where
-    by : (b : Bool) → has s q ≡ b → has s q ≡ false
-    by true h =
-        let i = has_parts s q h in
-        let some : 0 < s.size = omega (arith, i) in
-        let x = named_at ss order m k s all every g some in
-        let there = c.cells x.0 s q (let l = x.1.0 in omega (arith, l, whole)) (record { number = k; stands = x.1.1; segment = g; some = some }) h in
-        absurd (cc)
-    by false h = h
+  none_there q e k s g = false_from_ne_true (has s q) (λ h.
+      let i = has_parts s q h in
+      let some : 0 < s.size = omega (arith, i) in
+      let x = named_at ss order m k s all every g some in
+      let there = c.cells x.0 s q (let l = x.1.0 in omega (arith, l, whole)) (record { number = k; stands = x.1.1; segment = g; some = some }) h in
+      absurd (cc))
 
   pub covers_all : (q : ℕ) → cell_among pages q ≡ cell_among ss q
   covers_all q = by (cell_among pages q) refl where
@@ -224,11 +221,6 @@ orders_moved ss xs ys n moved o = record {
 }
 
 -- ---- what the code reads
-pub fits_at : (ss : List LoadSegment) (k : ℕ) (s : LoadSegment) → AllFitMemory ss → slice_get ss k ≡ Some s → FitsMemory s
-fits_at [] k s f e = absurd (cc)
-fits_at (x ∷ xs) zero s f e = let is : x ≡ s = cc in rw is at f.0
-fits_at (x ∷ xs) (suc k) s f e = fits_at xs k s f.1 e
-
 -- the segment that is read by its number in the order
 pub names_read : (specs : List SegmentSpec) (order : List (ℕ × ℕ)) (j : ℕ) (p : ℕ × ℕ) (a : SegmentSpec) → Orders (segments_of specs) order (length specs) → j < length order → p ≡ get_or order j p → a ≡ get_or specs p.1 a → Names (segments_of specs) order j (segment_of a)
 names_read specs order j p a o l e r =

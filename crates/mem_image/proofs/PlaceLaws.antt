@@ -1,7 +1,7 @@
 -- Where an address stands among segments by their addresses.
-use Rattle.std.proofs.Common.{◌≡◌, ℕ, zero, suc, ◌+◌, ◌<◌, ◌≤◌, Bool, true, false, List, [], ◌∷◌, Some, None, refl, arith, ⊎_elim}
+use Rattle.std.proofs.Common.{◌≡◌, ℕ, zero, suc, ◌+◌, ◌<◌, ◌≤◌, true, false, List, [], ◌∷◌, Some, None, arith, ⊎_elim}
 use Rattle.std.specs.Prelude.{slice_get}
-use Rattle.std.proofs.lemmas.Bool.{cases_lt}
+use Rattle.std.proofs.lemmas.Bool.{cases_lt, false_from_ne_true}
 use Rattle.qed_model.specs.Machine.Program.{LoadSegment}
 use Rattle.qed_model.specs.Machine.Cells.{has, cell_among}
 use Rattle.mem_image.specs.Segments.{IsFirst}
@@ -24,10 +24,7 @@ no_later ss j k s t h l e g =
     ⊎_elim (λ m. let o = ordered 0 ss j k s t h m e g in omega arith) (λ m. let same : k ≡ j = omega arith in let there : slice_get ss j ≡ Some t = rw same at g in let is : s ≡ t = cc in rw is (omega arith)) (cases_lt j k)
 
 pub outside : (s : LoadSegment) (q : ℕ) → ((s.address ≤ q) → (q < s.address + s.size) → ⊥) → has s q ≡ false
-outside s q h = by (has s q) refl where
-  by : (b : Bool) → has s q ≡ b → has s q ≡ false
-  by true e = let p = has_parts s q e in absurd (h p.0 p.1)
-  by false e = e
+outside s q h = false_from_ne_true (has s q) (λ e. let p = has_parts s q e in h p.0 p.1)
 
 -- the address is in the segment at a place
 pub first_near : (ss : List LoadSegment) (q k : ℕ) (s : LoadSegment) → Ascends 0 ss → slice_get ss k ≡ Some s → has s q ≡ true → IsFirst ss q k

@@ -1,16 +1,17 @@
 -- Accesses whose bytes all lie in one segment.
-use Rattle.std.proofs.Common.{◌≡◌, ℕ, zero, suc, ◌+◌, ◌-◌, ◌*◌, ◌^◌, ◌%◌, ◌<◌, ◌≤◌, Bool, true, false, List, [], ◌∷◌, length, Some, None, refl, sym, ap, ◌∙◌, arith, add-zero, add-one, set, length-set, get_or, Result, Ok, Err, IfErr}
+use Rattle.std.proofs.Common.{◌≡◌, ℕ, zero, suc, ◌+◌, ◌-◌, ◌*◌, ◌^◌, ◌%◌, ◌<◌, ◌≤◌, Bool, true, false, List, [], ◌∷◌, length, Some, None, refl, sym, ap, ◌∙◌, arith, add-zero, add-one, set, length-set, get_or, get_or-set_same, Result, Ok, Err, IfErr}
 use Rattle.std.proofs.Math.Nat.{pow-suc, pow-le-pow_right, mul_assoc, mul-le-mul_right}
 use Rattle.std.specs.Prelude.{slice_index, slice_get}
-use Rattle.std.proofs.lemmas.Bool.{leb-true, ltb-true, and_parts}
+use Rattle.std.proofs.lemmas.Bool.{leb-true, ltb-true, and_parts, false_from_ne_true}
+use Rattle.std.proofs.lemmas.Option.{get_or_from_slice_get, slice_get_within}
 use Rattle.std.proofs.lemmas.Bool.Decides.{nat_tests}
 use Rattle.qed_model.specs.Machine.Memory.{byte_of, Flags, Memory, wrap, allows, grants, number, poked, put}
 use Rattle.qed_model.specs.Machine.Program.{LoadSegment, memory_of}
 use Rattle.std.specs.FinMap.{get}
-use Rattle.std.proofs.lemmas.List.{set-set, get_or_default}
+use Rattle.std.proofs.lemmas.List.{set-set, set-get_or, get_or_default}
 use Rattle.qed_model.proofs.MemoryLaws.{grants_from, put_none, put-more}
 use Rattle.qed_model.proofs.CellsLaws.{byte_of_cell}
-use Rattle.qed_model.specs.Machine.Apart.{share, AllFitMemory, AreApart}
+use Rattle.qed_model.specs.Machine.Apart.{FitsMemory, AllFitMemory, AreApart}
 use Rattle.qed_model.specs.Machine.Cells.{cell_at, has}
 use Rattle.qed_model.proofs.CellsAmong.{has_from}
 use Rattle.qed_model.proofs.ApartLaws.{shared}
@@ -106,10 +107,7 @@ has-with_bytes s a n v q = rw (address-with_bytes s a n v, size-with_bytes s a n
 -- ---- segments that share nothing
 -- an address has one segment
 pub before_apart : (ss : List LoadSegment) (k : ℕ) (s : LoadSegment) (q : ℕ) → AreApart ss → slice_get ss k ≡ Some s → has s q ≡ true → (j : ℕ) (p : LoadSegment) → j < k → slice_get ss j ≡ Some p → has p q ≡ false
-before_apart ss k s q apart at w j p h e = by (has p q) refl where
-  by : (b : Bool) → has p q ≡ b → has p q ≡ false
-  by true x = absurd (apart j k (record { order = h; first = p; second = s; first_at = e; second_at = at; share = shared p s q x w }))
-  by false x = x
+before_apart ss k s q apart at w j p h e = false_from_ne_true (has p q) (λ x. apart j k (record { order = h; first = p; second = s; first_at = e; second_at = at; share = shared p s q x w }))
 
 -- a segment that is replaced by one of the same addresses
 ascends-set : (lo : ℕ) (ss : List LoadSegment) (k : ℕ) (s t : LoadSegment) → Ascends lo ss → slice_get ss k ≡ Some s → t.address ≡ s.address → t.size ≡ s.size → Ascends lo (set ss k t)
@@ -120,21 +118,22 @@ ascends-set lo (x ∷ xs) zero s t h e a z =
     (rw a both.0, rw (a, z) both.1)
 ascends-set lo (x ∷ xs) (suc k) s t h e a z = (h.0, ascends-set (x.address + x.size) xs k s t h.1 e a z)
 
-sound-set : (ss : List LoadSegment) (k : ℕ) (s t : LoadSegment) → AreSound ss → slice_get ss k ≡ Some s → t.address ≡ s.address → t.size ≡ s.size → length t.bytes ≡ length s.bytes → AreSound (set ss k t)
-sound-set ss k s t h e a z l = record { fit = all_fit-set ss k s t h.fit e a z l; ascends = ascends-set 0 ss k s t h.ascends e a z }
-
 pub sound_like : (ss : List LoadSegment) (k : ℕ) (s t : LoadSegment) → AreSound ss → slice_get ss k ≡ Some s → IsLike s t → AreSound (set ss k t)
-sound_like ss k s t h e l = sound-set ss k s t h e l.address l.size l.bytes
+sound_like ss k s t h e l = record { fit = all_fit-set ss k s t h.fit e l.address l.size l.bytes; ascends = ascends-set 0 ss k s t h.ascends e l.address l.size }
 
-sound-bytes : (ss : List LoadSegment) (k : ℕ) (s : LoadSegment) (a n v : ℕ) → AreSound ss → slice_get ss k ≡ Some s → AreSound (set ss k (with_bytes_at s a n v))
-sound-bytes ss k s a n v h e = sound-set ss k s (with_bytes_at s a n v) h e (address-with_bytes s a n v) (size-with_bytes s a n v) (length-with_bytes s a n v)
+-- a segment whose bytes were put
+pub like_put : (s t : LoadSegment) (a n v : ℕ) → t ≡ with_bytes_at s a n v → IsLike s t
+like_put s t a n v e = rw e (record { address = address-with_bytes s a n v; size = size-with_bytes s a n v; bytes = length-with_bytes s a n v })
 
 -- ---- a look-up in the segment
 -- the segment ends at 2^64 or before
+pub fits_at : (ss : List LoadSegment) (k : ℕ) (s : LoadSegment) → AllFitMemory ss → slice_get ss k ≡ Some s → FitsMemory s
+fits_at [] k s f e = absurd (cc)
+fits_at (x ∷ xs) zero s f e = let is : x ≡ s = cc in rw is at f.0
+fits_at (x ∷ xs) (suc k) s f e = fits_at xs k s f.1 e
+
 pub ends : (ss : List LoadSegment) (k : ℕ) (s : LoadSegment) → AllFitMemory ss → slice_get ss k ≡ Some s → s.address + s.size ≤ 2 ^ 64
-ends [] k s f e = absurd (cc)
-ends (x ∷ xs) zero s f e = let is : x ≡ s = cc in rw is at f.0.1
-ends (x ∷ xs) (suc k) s f e = ends xs k s f.1 e
+ends ss k s f e = (fits_at ss k s f e).1
 
 get_whole : (ss : List LoadSegment) (k : ℕ) (s : LoadSegment) (q : ℕ) → AreSound ss → slice_get ss k ≡ Some s → has s q ≡ true → get (memory_of ss) q ≡ Some (cell_at s q)
 get_whole ss k s q h e w = get-memory_of ss q h.fit ∙ cell_among-first ss q k s e w (before_apart ss k s q (ascends-apart 0 ss h.ascends) e w)
@@ -149,20 +148,12 @@ stands_number m s a (suc n) h low room =
     let next : a + 1 - s.address ≡ a - s.address + 1 = omega arith in
     rw (same, byte_of_cell m a, h.cells a w, stands_number m s (a + 1) n h (omega arith) (omega arith), next) refl
 
-stands_granted : (need : Flags → Bool) (m : Memory) (s : LoadSegment) (a n : ℕ) → Stands m s → s.address ≤ a → a + n ≤ s.address + s.size → need s.flags ≡ true → grants need m a n ≡ true
-stands_granted need m s a n h low room t =
-    let end = h.ends in
-    grants_from need m a n (λ i l. let same : wrap (a + i) ≡ a + i = omega arith in rw same (ap (allows need) (h.cells (a + i) (has_span s a n (a + i) low room (omega arith) (omega arith))) ∙ t))
-
-allows_whole : (need : Flags → Bool) (ss : List LoadSegment) (k : ℕ) (s : LoadSegment) (q : ℕ) → AreSound ss → slice_get ss k ≡ Some s → has s q ≡ true → allows need (get (memory_of ss) q) ≡ need s.flags
-allows_whole need ss k s q h e w = ap (allows need) (get_whole ss k s q h e w)
-
 refused_whole : (need : Flags → Bool) (ss : List LoadSegment) (k : ℕ) (s : LoadSegment) (a n : ℕ) → AreSound ss → slice_get ss k ≡ Some s → s.address ≤ a → a + suc n ≤ s.address + s.size → need s.flags ≡ false → grants need (memory_of ss) a (suc n) ≡ false
 unfolding grants
 refused_whole need ss k s a n h e low room t =
     let end = ends ss k s h.fit e in
     let same : wrap a ≡ a = omega arith in
-    rw (same, allows_whole need ss k s a h e (has_span s a (suc n) a low room (omega arith) (omega arith)), t) refl
+    rw (same, ap (allows need) (get_whole ss k s a h e (has_span s a (suc n) a low room (omega arith) (omega arith))), t) refl
 
 -- ---- the same, by what the code knows
 -- the segment that the code reads at the place that was found
@@ -183,7 +174,10 @@ among_stands ss k s h e = record { cells = λ q w. get_whole ss k s q h e w; end
 
 -- an access within a segment that stands in a memory
 pub held_granted : (need : Flags → Bool) (m : Memory) (s : LoadSegment) (a n : ℕ) → Stands m s → has_all s a n ≡ true → need s.flags ≡ true → grants need m a n ≡ true
-held_granted need m s a n h w t = let room = spans s a n w in stands_granted need m s a n h room.0 room.1 t
+held_granted need m s a n h w t =
+    let room = spans s a n w in
+    let end = h.ends in
+    grants_from need m a n (λ i l. let same : wrap (a + i) ≡ a + i = omega (arith, room, end, l) in rw same (ap (allows need) (h.cells (a + i) (has_span s a n (a + i) room.0 room.1 (omega arith) (omega arith))) ∙ t))
 
 pub held_number : (m : Memory) (s : LoadSegment) (a n : ℕ) → Stands m s → has_all s a n ≡ true → number_in s.bytes (a - s.address) n ≡ number m a n
 held_number m s a n h w = let room = spans s a n w in sym (stands_number m s a n h room.0 room.1)
@@ -200,21 +194,18 @@ whole_number ss k s a n h e w = held_number (memory_of ss) s a n (among_stands s
 
 -- ---- several bytes of the segment are written
 pub set_none : (ss : List LoadSegment) (k : ℕ) (s : LoadSegment) → slice_get ss k ≡ Some s → set ss k s ≡ ss
-set_none [] k s e = refl
-set_none (x ∷ xs) zero s e = let is : x ≡ s = cc in rw is refl
-set_none (x ∷ xs) (suc k) s e = ap (λ r. x ∷ r) (set_none xs k s e)
+set_none ss k s e = ap (set ss k) (sym (get_or_from_slice_get ss k s s e)) ∙ set-get_or ss k s
 
 there_set : (ss : List LoadSegment) (k : ℕ) (s t : LoadSegment) → slice_get ss k ≡ Some s → slice_get (set ss k t) k ≡ Some t
-there_set [] k s t e = absurd (cc)
-there_set (x ∷ xs) zero s t e = refl
-there_set (x ∷ xs) (suc k) s t e = there_set xs k s t e
+there_set ss k s t e =
+    let l = slice_get_within ss k s e in
+    stands_at (set ss k t) k t (omega (arith, l, length-set ss k t)) (sym (get_or-set_same ss k t t l))
 
 put_whole : (ss : List LoadSegment) (k : ℕ) (s : LoadSegment) (a n v : ℕ) → AreSound ss → slice_get ss k ≡ Some s → IsWhole s → s.address ≤ a → a + n ≤ s.address + s.size → memory_of (set ss k (with_bytes_at s a n v)) ≡ put (memory_of ss) a n v
 unfolding with_bytes_at
 put_whole ss k s a zero v h e whole low room = ap memory_of (set_none ss k s e) ∙ sym (put_none (memory_of ss) a v)
 put_whole ss k s a (suc n) v h e whole low room =
-    let t : LoadSegment = with_bytes_at s a n v in
-    let sound : AreSound (set ss k (with_bytes_at s a n v)) = sound-bytes ss k s a n v h e in
+    let sound : AreSound (set ss k (with_bytes_at s a n v)) = sound_like ss k s (with_bytes_at s a n v) h e (like_put s (with_bytes_at s a n v) a n v refl) in
     let there : slice_get (set ss k (with_bytes_at s a n v)) k ≡ Some (with_bytes_at s a n v) = there_set ss k s (with_bytes_at s a n v) e in
     let full : IsWhole (with_bytes_at s a n v) = length-with_bytes s a n v ∙ whole ∙ sym (size-with_bytes s a n v) in
     let inside : has (with_bytes_at s a n v) (a + n) ≡ true = has-with_bytes s a n v (a + n) ∙ has_span s a (suc n) (a + n) low room (omega arith) (omega arith) in

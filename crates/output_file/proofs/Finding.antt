@@ -2,9 +2,10 @@
 use Rattle.std.proofs.Common.{◌≡◌, ◌⊎◌, inl, inr, ⊎_elim, ℕ, zero, suc, ◌+◌, ◌<◌, ◌≤◌, Bool, true, false, cond, List, [], ◌∷◌, length, get_or, take, drop, Some, None, refl, sym, ap, ◌∙◌, subst, ◌-◌, length-drop, arith}
 use Rattle.std.specs.Prelude.{nat_lt, nat_le, ◌==◌, map, filter, AllPairs}
 use Rattle.std.specs.List.Sorted.{IsNonDecreasingBy, IsPartitionPoint}
-use Rattle.std.proofs.lemmas.Bool.{leb-true, leb-false, ltb-true, ltb-false, le-leb, lt-ltb, eq-eqb, eqb-true, and_from, cases_lt, or_right}
+use Rattle.std.proofs.lemmas.Bool.{leb-true, leb-false, ltb-true, ltb-false, le-leb, lt-ltb, eq-eqb, eqb-true, and_from, cases_lt, false≢true}
 use Rattle.std.proofs.lemmas.Bool.Decides.{nat_tests}
 use Rattle.std.proofs.Math.Seq.{take-length}
+use Rattle.std.proofs.lemmas.List.Recursion.{or_is}
 use Rattle.std.proofs.lemmas.List.{get_or-drop, get_or_default}
 use Rattle.elf_types.specs.declared.file.Segment.{Segment}
 use Rattle.qed_model.specs.declared.plan.EntryRow.{EntryRow}
@@ -90,15 +91,6 @@ module _ (rows : List EntryRow) (ascend : AllPairs (λ r t. r.input < t.input) r
       here k x e l p = ne (ap (λ r. r.input) (get_or_default rows place d x lt) ∙ ap (λ n. (get_or rows n x).input) p ∙ e)
 
 -- ---- ranges
-in_at : (rs : List Range) (q k : ℕ) (d : Range) → k < length rs → is_in (range_of (get_or rs k d)) q ≡ true → is_in_any (map range_of rs) q ≡ true
-in_at [] q k d lt h = absurd (omega (arith, lt))
-in_at (r ∷ rs) q zero d lt h = rw h refl
-in_at (r ∷ rs) q (suc k) d lt h = or_right (is_in (range_of r) q) _ (in_at rs q k d (omega (arith, lt)) h)
-
-in_none : (rs : List Range) (q : ℕ) → ((k : ℕ) (d : Range) → k < length rs → is_in (range_of (get_or rs k d)) q ≡ false) → is_in_any (map range_of rs) q ≡ false
-in_none [] q h = refl
-in_none (r ∷ rs) q h = rw (h 0 r (omega arith)) (in_none rs q (λ k d lt. h (suc k) d (omega (arith, lt))))
-
 out_of : (r : Range) (q : ℕ) → (r.end ≤ q) ⊎ (q < r.start) → is_in (range_of r) q ≡ false
 out_of r q h = ⊎_elim (λ x. grind (arith, nat_tests)) (λ x. grind (arith, nat_tests)) h
 
@@ -115,34 +107,33 @@ module _ (rs : List Range) (spaced : AreSpaced rs) where
     ended k d lt = out_of (get_or rs k d) q (inl (leb-true (get_or rs k d).end q (point.0 k d (omega arith) lt)))
 
     pub in_past : length rs ≤ place → false ≡ is_in_any (map range_of rs) q
-    in_past le = sym (in_none rs q (λ k d lt. ended k d (omega (arith, le, lt))))
+    in_past le = or_is (λ ts. is_in_any (map range_of ts) q) (λ t. is_in (range_of t) q) refl (λ t ts. refl) rs (record { start = 0; end = 0 }) false (λ e. absurd (false≢true e)) (λ e k lt. ended k _ (omega (arith, le, lt)))
 
     -- the range at the place is the one, if any is
     pub in_here : (d : Range) → place < length rs → nat_le (get_or rs place d).start q ≡ is_in_any (map range_of rs) q
-    in_here d lt = by (nat_le (get_or rs place d).start q) refl where
-      end : q < (get_or rs place d).end
-      end = leb-false (get_or rs place d).end q (point.1 place d (omega arith) lt)
+    in_here d lt =
+        or_is (λ ts. is_in_any (map range_of ts) q) (λ t. is_in (range_of t) q) refl (λ t ts. refl) rs d (nat_le (get_or rs place d).start q)
+        (λ e. (place, lt, and_from (nat_le (get_or rs place d).start q) (nat_lt q (get_or rs place d).end) e (lt-ltb q (get_or rs place d).end end)))
+        (λ e k l. none (leb-false (get_or rs place d).start q e) k d l) where
+          end : q < (get_or rs place d).end
+          end = leb-false (get_or rs place d).end q (point.1 place d (omega arith) lt)
 
-      none : q < (get_or rs place d).start → (k : ℕ) (e : Range) → k < length rs → is_in (range_of (get_or rs k e)) q ≡ false
-      none h k e l =
-          ⊎_elim
-          (λ x. ended k e x)
-          (λ x. ⊎_elim
-          (λ y.
-          let gap = spaced.gaps place k d y l in
-          let some = spaced.some place d lt in
-          let same : (get_or rs k e).start ≡ (get_or rs k d).start = ap (λ t. t.start) (get_or_default rs k e d l) in
-          out_of (get_or rs k e) q (inr (omega (arith, gap, some, same, h))))
-          (λ y.
-          let p : place ≡ k = omega (arith, x, y) in
-          let same : (get_or rs place d).start ≡ (get_or rs k e).start = ap (λ t. t.start) (get_or_default rs place d e lt) ∙ ap (λ n. (get_or rs n e).start) p in
-          out_of (get_or rs k e) q (inr (omega (arith, same, h))))
-          (cases_lt place k))
-          (cases_lt k place)
-
-      by : (b : Bool) → nat_le (get_or rs place d).start q ≡ b → b ≡ is_in_any (map range_of rs) q
-      by true e = sym (in_at rs q place d lt (and_from (nat_le (get_or rs place d).start q) (nat_lt q (get_or rs place d).end) e (lt-ltb q (get_or rs place d).end end)))
-      by false e = sym (in_none rs q (none (leb-false (get_or rs place d).start q e)))
+          none : q < (get_or rs place d).start → (k : ℕ) (e : Range) → k < length rs → is_in (range_of (get_or rs k e)) q ≡ false
+          none h k e l =
+              ⊎_elim
+              (λ x. ended k e x)
+              (λ x. ⊎_elim
+              (λ y.
+              let gap = spaced.gaps place k d y l in
+              let some = spaced.some place d lt in
+              let same : (get_or rs k e).start ≡ (get_or rs k d).start = ap (λ t. t.start) (get_or_default rs k e d l) in
+              out_of (get_or rs k e) q (inr (omega (arith, gap, some, same, h))))
+              (λ y.
+              let p : place ≡ k = omega (arith, x, y) in
+              let same : (get_or rs place d).start ≡ (get_or rs k e).start = ap (λ t. t.start) (get_or_default rs place d e lt) ∙ ap (λ n. (get_or rs n e).start) p in
+              out_of (get_or rs k e) q (inr (omega (arith, same, h))))
+              (cases_lt place k))
+              (cases_lt k place)
 
 -- ---- segments that begin in a range
 module _ {A : Type 0} (f : A → Segment) (xs : List A) (r : Range) (from : ℕ) (first : IsPartitionPoint (λ x. nat_lt (f x).address r.start ≡ true) (λ x. nat_lt (f x).address r.start ≡ false) xs from) where

@@ -1,10 +1,9 @@
 -- The image of a test: its segments share no address, and which of them lie in a data range.
 use Rattle.std.proofs.Common.{◌≡◌, ⊎_elim, ℕ, suc, ◌+◌, ◌<◌, ◌≤◌, Bool, true, false, cond, ◌&&◌, not, List, [], ◌∷◌, length, map, refl, sym, ap, ◌∙◌, subst, arith}
-use Rattle.std.specs.Prelude.{nat_lt, All}
+use Rattle.std.specs.Prelude.{nat_lt}
 use Rattle.std.specs.List.{list_any}
-use Rattle.std.proofs.lemmas.Bool.{lt-ltb, and_from, false≢true}
+use Rattle.std.proofs.lemmas.Bool.{false_from_ne_true, lt-ltb, and_from, false≢true}
 use Rattle.std.proofs.lemmas.Bool.Decides.{nat_tests}
-use Rattle.std.proofs.lemmas.List.Elements.{All-nil, All-cons}
 use Rattle.elf_types.specs.declared.file.Segment.{Segment}
 use Rattle.elf_types.specs.Abi.{is_load}
 use Rattle.qed_model.specs.declared.range.Range.{Range}
@@ -13,11 +12,12 @@ use Rattle.qed_model.specs.Machine.Program.{LoadSegment}
 use Rattle.qed_model.specs.Machine.Loading.{load_segment, load_segments}
 use Rattle.qed_model.specs.Admission.Terms.{is_in_image, image_segments}
 use Rattle.qed_model.specs.Admission.DataRanges.{range_of, rounded, do_meet, is_data, data_segments, data_parts, data_ranges, is_in, is_in_any}
-use Rattle.qed_model.specs.Admission.Rules.{passes_at, segment_range, is_mixed}
+use Rattle.qed_model.specs.Admission.Rules.{segment_range, is_mixed}
 use Rattle.qed_model.proofs.Among.{among-filter, among-kept, among-map, any_passing, none_passing, place_of}
 use Rattle.qed_model.specs.Members.{Among, Pairs}
 use Rattle.qed_model.proofs.ApartLaws.{fit_among}
-use Rattle.qed_model.proofs.Pairs.{pairs_all, every_among, among_every}
+use Rattle.qed_model.proofs.Fetches.{none_passes}
+use Rattle.qed_model.proofs.Pairs.{every_all, pairs_all, every_among, among_every}
 use Rattle.qed_model.proofs.DataRangesLaws.{AllRoom, Spaced, spaced_data, spaced_from, in_from, in_parts, one_range, Inside, inside-joined}
 use Rattle.qed_model.proofs.ImageLaws.{among_load, image_parts, image_room}
 use Rattle.output_file.specs.Images.{AreSpaced, IsImage}
@@ -65,26 +65,19 @@ pairs_alone (u ∷ ss) p s t q m k a b c d =
     m
 
 -- ---- ranges with gaps
-start_from : (low : ℕ) (rs : List Range) (t : Range) → Spaced low (map range_of rs) → Among t rs → low ≤ t.start
-start_from low rs t s m = (spaced_from low (map range_of rs) (range_of t) s (among-map range_of t rs m)).0
-
 gap_pairs : (low : ℕ) (rs : List Range) → Spaced low (map range_of rs) → Pairs (λ (r t : Range). r.end < t.start) rs
 gap_pairs low [] s = tt
-gap_pairs low (r ∷ rs) s = (among_every (λ (t : Range). r.end < t.start) rs (λ t m. let h = start_from (r.end + 1) rs t s.2 m in omega (arith, h)), gap_pairs (r.end + 1) rs s.2)
-
-some_all : (low : ℕ) (rs : List Range) → Spaced low (map range_of rs) → All (λ (r : Range). r.start < r.end) rs
-some_all low [] s = All-nil (λ (r : Range). r.start < r.end)
-some_all low (r ∷ rs) s = All-cons (λ (r : Range). r.start < r.end) r rs s.1 (some_all (r.end + 1) rs s.2)
+gap_pairs low (r ∷ rs) s = (among_every (λ (t : Range). r.end < t.start) rs (λ t m. let h = (spaced_from (r.end + 1) (map range_of rs) (range_of t) s.2 (among-map range_of t rs m)).0 in omega (arith, h)), gap_pairs (r.end + 1) rs s.2)
 
 pub spaced_ranges : (low : ℕ) (rs : List Range) → Spaced low (map range_of rs) → AreSpaced rs
-spaced_ranges low rs s = record { some = some_all low rs s; gaps = pairs_all (λ (r t : Range). r.end < t.start) rs (gap_pairs low rs s) }
+spaced_ranges low rs s = record { some = every_all (λ (r : Range). r.start < r.end) rs (among_every (λ (r : Range). r.start < r.end) rs (λ r m. (spaced_from low (map range_of rs) (range_of r) s (among-map range_of r rs m)).1)); gaps = pairs_all (λ (r t : Range). r.end < t.start) rs (gap_pairs low rs s) }
 
 module _ (image : List Segment) (ranges : List Range) (is : IsImage image ranges) where
   pub parts : (s : Segment) → Among s image → Among s is.segments × (s.kind ≡ 1) × (0 < s.memory)
   parts s m = image_parts s is.segments (subst (λ ss. Among s ss) is.image_is m)
 
   pub unmixed : (s : Segment) → Among s image → is_mixed image s ≡ false
-  unmixed s m = let p = place_of s is.segments (parts s m).0 in sym (ap (passes_at (is_mixed image)) p.stands) ∙ is.unmixed p.place
+  unmixed s m = none_passes (is_mixed image) s is.segments is.unmixed (parts s m).0
 
   fits : (s : Segment) → Among s image → FitsMemory (load_segment s)
   fits s m = let p = parts s m in fit_among (load_segment s) (load_segments is.segments) is.fit (among_load s is.segments p.1 p.0)
@@ -137,7 +130,4 @@ module _ (image : List Segment) (ranges : List Range) (is : IsImage image ranges
         let x = data_inside s m d in
         let p = parts s m in
         any_passing (λ r. is_in r s.address) x.range (data_ranges image) x.among (in_from x.range s.address (omega (arith, x.from)) (omega (arith, x.to, p.2)))
-    by false d = none_passing (λ r. is_in r s.address) (data_ranges image) (λ r n. none r n (is_in r s.address) refl) where
-      none : (r : ℕ × ℕ) → Among r (data_ranges image) → (b : Bool) → is_in r s.address ≡ b → is_in r s.address ≡ false
-      none r n true i = let p = parts s m in absurd (not_mixed s r s.address m d n (omega arith) (omega (arith, p.2)) i)
-      none r n false i = i
+    by false d = none_passing (λ r. is_in r s.address) (data_ranges image) (λ r n. false_from_ne_true (is_in r s.address) (λ i. let p = parts s m in not_mixed s r s.address m d n (omega arith) (omega (arith, p.2)) i))

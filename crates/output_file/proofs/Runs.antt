@@ -2,7 +2,7 @@
 use Rattle.std.proofs.Common.{◌≡◌, ◌⊎◌, inl, inr, ⊎_elim, ℕ, ◌+◌, ◌-◌, ◌<◌, ◌≤◌, Bool, true, false, cond, ◌&&◌, List, [], ◌∷◌, ◌++◌, length, map, replicate, Option, Some, None, refl, sym, ap, ◌∙◌, subst, arith, length-append}
 use Rattle.std.specs.Prelude.{nat_lt, nat_le, filter, slice_index}
 use Rattle.std.specs.List.{list_any}
-use Rattle.std.proofs.lemmas.Bool.{leb-true, ltb-true, lt-ltb, and_parts, cases_lt, false≢true}
+use Rattle.std.proofs.lemmas.Bool.{true_from_ne_false, leb-true, ltb-true, lt-ltb, and_parts, cases_lt, false≢true}
 use Rattle.std.proofs.lemmas.Bool.Decides.{nat_tests}
 use Rattle.std.proofs.lemmas.List.{get_or_append_left, get_or-append_right, get_or-replicate, length-replicate, ext_get_or}
 use Rattle.elf_types.specs.declared.file.Segment.{Segment}
@@ -13,6 +13,7 @@ use Rattle.qed_model.specs.Machine.Cells.{has, cell_at, cell_among, byte_among}
 use Rattle.qed_model.specs.Admission.DataRanges.{is_written, is_data, data_segments, data_ranges, is_in}
 use Rattle.qed_model.specs.Weave.OutputFile.{data_in, range_flags, file_end, range_bytes, range_segment}
 use Rattle.qed_model.proofs.BelowLaws.{length-each}
+use Rattle.qed_model.proofs.BlocksOnly.{same_tests}
 use Rattle.qed_model.proofs.Among.{among-filter, among-kept, any_passing, passing}
 use Rattle.qed_model.specs.Members.{Among}
 use Rattle.qed_model.proofs.CellsAmong.{has_from, has_parts, found_among, among_agreed}
@@ -67,17 +68,11 @@ stands start n ss = laid start n (map placed_bytes ss)
 laid_byte : (start n q : ℕ) (ss : List Segment) → Follow (start + n) ss → start + n ≤ q → slice_index (stands start n ss) (q - (start + n)) ≡ file_byte ss q
 laid_byte start n q [] f h = refl
 laid_byte start n q (s ∷ ss) f h = ⊎_elim before (λ a. ⊎_elim (inside a) (behind (laid_byte start next q ss follow)) (cases_lt q (s.address + length s.bytes))) (cases_lt q s.address) where
-  gap : ℕ
-  gap = s.address - start - n
-
   next : ℕ
   next = n + (s.address - start - n) + length s.bytes
 
   follow : Follow (start + (n + (s.address - start - n) + length s.bytes)) ss
   follow = let e : s.address + length s.bytes ≡ start + (n + (s.address - start - n) + length s.bytes) = omega (arith, f.0) in subst (λ x. Follow x ss) e f.1
-
-  whole : List ℕ
-  whole = stands start n (s ∷ ss)
 
   before : q < s.address → slice_index (stands start n (s ∷ ss)) (q - (start + n)) ≡ file_byte (s ∷ ss) q
   before l =
@@ -156,12 +151,10 @@ holder (s ∷ ss) q = by (filed s q) refl (holder ss q) where
       rec
 
 any_same : {A : Type 0} (p : A → Bool) (xs ys : List A) → ((x : A) → Among x xs → Among x ys) → ((x : A) → Among x ys → Among x xs) → list_any p xs ≡ list_any p ys
-any_same p xs ys h g = by (list_any p xs) refl (list_any p ys) refl where
-  by : (a : Bool) → list_any p xs ≡ a → (b : Bool) → list_any p ys ≡ b → a ≡ b
-  by true e true d = refl
-  by true e false d = let x = passing p xs e in absurd (false≢true (sym d ∙ any_passing p x.member ys (h x.member x.among) x.passes))
-  by false e true d = let x = passing p ys d in absurd (false≢true (sym e ∙ any_passing p x.member xs (g x.member x.among) x.passes))
-  by false e false d = refl
+any_same p xs ys h g =
+    same_tests _ _
+    (λ e. let x = passing p xs e in any_passing p x.member ys (h x.member x.among) x.passes)
+    (λ e. let x = passing p ys e in any_passing p x.member xs (g x.member x.among) x.passes)
 
 -- ---- a range of an image, whose segments stand in ascending order
 module _ (image : List Segment) (ranges : List Range) (is : IsImage image ranges) (ordered : List Segment) (rise : Rise 0 ordered) (all : (s : Segment) → Among s image → Among s ordered) (only : (s : Segment) → Among s ordered → Among s image) (r : ℕ × ℕ) (member : Among r (data_ranges image)) where
@@ -175,10 +168,7 @@ module _ (image : List Segment) (ranges : List Range) (is : IsImage image ranges
   begins s m = let p = among-kept (λ t. is_in r t.address) s ordered m in (only s p.0, p.1)
 
   is_data_here : (s : Segment) → Among s image → is_in r s.address ≡ true → is_data image s ≡ true
-  is_data_here s m i = by (is_data image s) refl where
-    by : (b : Bool) → is_data image s ≡ b → is_data image s ≡ true
-    by true d = d
-    by false d = let p = parts image ranges is s m in absurd (not_mixed image ranges is s r s.address m d member (omega arith) (omega (arith, p.2)) i)
+  is_data_here s m i = true_from_ne_false (is_data image s) (λ d. let p = parts image ranges is s m in not_mixed image ranges is s r s.address m d member (omega arith) (omega (arith, p.2)) i)
 
   run_data : (s : Segment) → Among s run → Among s (data_in image r)
   run_data s m = let p = begins s m in among-filter (λ t. is_in r t.address) s (data_segments image) p.1 (among-filter (is_data image) s image (is_data_here s p.0 p.1) p.0)
@@ -275,10 +265,9 @@ module _ (image : List Segment) (ranges : List Range) (is : IsImage image ranges
           now = grind (arith, nat_tests)
 
           in_run : (x : Segment) → Among x image → x.address ≤ q → q < x.address + x.memory → Among x run
-          in_run x m a b = by (is_data image x) refl where
-            by : (d : Bool) → is_data image x ≡ d → Among x run
-            by false d = absurd (not_mixed image ranges is x r q m d member a b i)
-            by true d = let p = data_range image ranges is x r q m d member a b i in let y = in_parts r q i in among-filter (λ t. is_in r t.address) x ordered (in_from r x.address p.0 (omega (arith, a, y.1))) (all x m)
+          in_run x m a b =
+              let d = true_from_ne_false (is_data image x) (λ n. not_mixed image ranges is x r q m n member a b i) in
+              let p = data_range image ranges is x r q m d member a b i in let y = in_parts r q i in among-filter (λ t. is_in r t.address) x ordered (in_from r x.address p.0 (omega (arith, a, y.1))) (all x m)
 
   file_is_image : (q : ℕ) → is_in r q ≡ true → file_byte filled q ≡ byte_among (load_segments image) q
   file_is_image q i =

@@ -39,15 +39,12 @@ zero_word : number_bytes 4 0 ≡ zeros 4
 unfolding number_bytes
 zero_word = refl
 
-zeros_add : (m n : ℕ) → zeros m ++ zeros n ≡ zeros (m + n)
-zeros_add m n = replicate-append-replicate m n 0
-
 gather_zeros : (m : ℕ) (f : ℕ → List ℕ) → ((k : ℕ) → k < m → f k ≡ zeros 4) → gather m f ≡ zeros (4 * m)
 unfolding gather
 gather_zeros zero f h = refl
 gather_zeros (suc m) f h =
     let e : 4 * m + 4 ≡ 4 * suc m = omega arith in
-    (λ i. gather_zeros m f (λ k lt. h k (omega (arith, lt))) i ++ h m (omega arith) i) ∙ zeros_add (4 * m) 4 ∙ ap zeros e
+    (λ i. gather_zeros m f (λ k lt. h k (omega (arith, lt))) i ++ h m (omega arith) i) ∙ replicate-append-replicate (4 * m) 4 0 ∙ ap zeros e
 
 -- ---- entries that ascend by 4 at least, from an address on
 abbrev Up : ℕ → List EntryRow → Type 0

@@ -5,12 +5,13 @@ use Rattle.std.specs.List.{list_any}
 use Rattle.std.proofs.lemmas.Bool.{ltb-true, lt-ltb, and_from, and_parts}
 use Rattle.elf_types.specs.declared.file.Segment.{Segment}
 use Rattle.elf_types.specs.declared.file.ElfFile.{ElfFile}
+use Rattle.qed_model.specs.declared.admit.AdmitError.{AdmitError}
 use Rattle.qed_model.specs.declared.admit.AdmitError.TheVariants as error
 use Rattle.qed_model.specs.declared.options.Options.{Options}
 use Rattle.qed_model.specs.Admission.Terms.{image_segments}
 use Rattle.qed_model.specs.Admission.DataRanges.{is_executed, rounded, do_meet, meets_code, is_in, is_in_any, joined}
 use Rattle.qed_model.specs.Admission.Rules.{passes_at, is_mixed}
-use Rattle.qed_model.specs.Admission.Refusals.{IsFirstOf, IsRefusedBy}
+use Rattle.qed_model.specs.Admission.Refusals.{HasFault, place_of, IsFirstOf, IsRefusedBy}
 use Rattle.qed_model.specs.Weave.Places.{image_of}
 use Rattle.qed_model.proofs.Among.{passing, any_passing}
 use Rattle.qed_model.specs.Members.{Among}
@@ -22,7 +23,7 @@ use Rattle.test_admission.specs.Spans.{all_bounds}
 use Rattle.test_admission.specs.DataSpans.{code_parts, AreCode}
 use Rattle.test_admission.specs.Order.{PassesBelow}
 use Rattle.test_admission.proofs.Firsts.{none_at, none_first}
-use Rattle.test_admission.proofs.OrderLaws.{passes_data_mixed, refused}
+use Rattle.test_admission.proofs.OrderLaws.{passes_more, refused}
 
 -- ---- ranges that have an address in common with one of some
 some_of : (rs : List (ℕ × ℕ)) (t : ℕ × ℕ) → AllSome rs → Among t rs → t.0 < t.1
@@ -80,4 +81,7 @@ module _ (f : ElfFile) (passed : (o : Options) → PassesBelow f o 10) where
   refused_mixed i s o = refused f o 10 (error.DataMixed i) (passed o) refl s
 
   pub passes_data : ((k : ℕ) → k < length f.segments → passes_at (is_mixed (image_of f)) (slice_get f.segments k) ≡ false) → (o : Options) → PassesBelow f o 11
-  passes_data none o = passes_data_mixed f o (passed o) (λ i h. none_first (is_mixed (image_of f)) f.segments (none_at (is_mixed (image_of f)) f.segments none) i h)
+  passes_data none o = passes_more f o 10 (passed o) by where
+    by : (d : AdmitError) → place_of d ≡ 10 → HasFault f o d → ⊥
+    by (error.DataMixed i) n h = none_first (is_mixed (image_of f)) f.segments (none_at (is_mixed (image_of f)) f.segments none) i h
+    by d n h = absurd (omega (arith, n))

@@ -1,23 +1,22 @@
 -- Code and data of a file that was admitted end at 2^63 or before it.
-use Rattle.std.proofs.Common.{◌≡◌, inl, inr, ⊎_elim, ℕ, ◌+◌, ◌-◌, ◌*◌, ◌/◌, ◌%◌, ◌^◌, ◌<◌, ◌≤◌, true, ◌&&◌, List, [], ◌∷◌, refl, sym, ap, ◌∙◌, subst, arith}
-use Rattle.std.specs.Prelude.{nat_lt, nat_le, ◌==◌}
-use Rattle.std.proofs.lemmas.Bool.{ltb-true, leb-true, eqb-true, and_parts, or_cases, false≢true}
-use Rattle.std.proofs.lemmas.List.Elements.{All-nil, All-cons}
+use Rattle.std.proofs.Common.{◌≡◌, ℕ, ◌+◌, ◌-◌, ◌*◌, ◌/◌, ◌%◌, ◌^◌, ◌<◌, ◌≤◌, true, List, [], ◌∷◌, refl, sym, ap, ◌∙◌, subst, arith}
+use Rattle.std.specs.Prelude.{nat_lt, ◌==◌}
+use Rattle.std.proofs.lemmas.Bool.{ltb-true, eqb-true, and_parts}
 use Rattle.elf_types.specs.declared.file.Segment.{Segment}
-use Rattle.elf_types.specs.declared.file.Section.{Section}
 use Rattle.elf_types.specs.declared.file.ElfFile.{ElfFile}
 use Rattle.code_ranges.specs.declared.range.CodeRange.{CodeRange}
 use Rattle.code_ranges.specs.Ranges.{span, spans}
 use Rattle.qed_model.specs.declared.options.Options.{Options}
 use Rattle.qed_model.specs.Machine.Memory.{flags_of}
 use Rattle.qed_model.specs.Machine.Program.{LoadSegment}
-use Rattle.qed_model.specs.Machine.Loading.{lies_in_code, lies_in_any, section_ranges, segment_ranges, first_some}
+use Rattle.qed_model.specs.Machine.Loading.{section_ranges, segment_ranges, first_some}
 use Rattle.qed_model.specs.Admission.DataRanges.{rounded, is_data, is_in, is_in_any, data_segments, data_parts, data_ranges}
 use Rattle.qed_model.specs.Admission.CodeWords.{loads_of, ranges_of}
 use Rattle.qed_model.specs.Admission.Refusals.{IsAdmitted}
 use Rattle.qed_model.specs.Weave.OutputParts.{high_of}
 use Rattle.qed_model.specs.Weave.Places.{image_of}
-use Rattle.qed_model.proofs.Among.{among-kept, source_of, passing, any_passing}
+use Rattle.qed_model.proofs.Pairs.{among_every, every_all}
+use Rattle.qed_model.proofs.Among.{among-map, among-kept, source_of, passing, any_passing}
 use Rattle.qed_model.specs.Members.{Among}
 use Rattle.qed_model.proofs.DataRangesLaws.{spaced_data, spaced_from, in_data, in_from, in_parts}
 use Rattle.qed_model.proofs.ImageLaws.{load_source, image_room, in_image, high_most}
@@ -25,22 +24,7 @@ use Rattle.test_admission.specs.declared.spans.Span.{Span}
 use Rattle.test_admission.specs.Spans.{bounds_of, all_bounds}
 use Rattle.test_admission.specs.Made.{RangesEnd, SpansEnd}
 use Rattle.qed_model.proofs.Fetches.{OfSection, of_section}
-use Rattle.test_admission.proofs.Cutting.{SegmentOf, segment_of, spans-whole}
-
--- a section lies in a segment that has bytes in memory
-lies_low : (n : ℕ) (ls : List LoadSegment) (s : Section) → 0 < s.size → ((l : LoadSegment) → Among l ls → 0 < l.size → l.address + l.size ≤ n) → lies_in_any s ls ≡ true → s.address + s.size ≤ n
-lies_low n [] s room h e = absurd (false≢true e)
-lies_low n (l ∷ ls) s room h e =
-    ⊎_elim
-    (λ a.
-    let p = and_parts l.flags.execute (nat_le l.address s.address && nat_le (s.address + s.size) (l.address + l.size)) a in
-    let q = and_parts (nat_le l.address s.address) (nat_le (s.address + s.size) (l.address + l.size)) p.1 in
-    let from = leb-true l.address s.address q.0 in
-    let end = leb-true (s.address + s.size) (l.address + l.size) q.1 in
-    let here = h l (inl refl) (omega (arith, from, end, room)) in
-    omega (arith, end, here))
-    (λ r. lies_low n ls s room (λ t m. h t (inr m)) r)
-    (or_cases (lies_in_code s l) (lies_in_any s ls) e)
+use Rattle.test_admission.proofs.Cutting.{SegmentOf, segment_of, spans-whole, lies_low}
 
 -- a loaded segment that has bytes in memory is of the image
 load_high : (f : ElfFile) (l : LoadSegment) → Among l (loads_of f) → 0 < l.size → l.address + l.size ≤ high_of (image_of f)
@@ -58,7 +42,7 @@ range_high f r m = by (section_ranges (loads_of f) f.sections) refl m where
   section o =
       let s = o.section in
       let room = ltb-true 0 s.size (and_parts (s.flags / 4 % 2 == 1) (nat_lt 0 s.size) (and_parts (s.flags / 2 % 2 == 1) _ o.code).1).1 in
-      subst (λ t. t.1 ≤ high_of (image_of f)) (sym o.is) (lies_low (high_of (image_of f)) (loads_of f) s room (load_high f) o.lies)
+      subst (λ t. t.1 ≤ high_of (image_of f)) (sym o.is) (lies_low (high_of (image_of f)) (loads_of f) s (λ l m a b. let end = load_high f l m (omega (arith, a, b, room)) in omega (arith, b, end)) o.lies)
 
   segment : SegmentOf f.segments r → r.1 ≤ high_of (image_of f)
   segment o =
@@ -70,10 +54,6 @@ range_high f r m = by (section_ranges (loads_of f) f.sections) refl m where
   by : (rs : List (ℕ × ℕ)) → section_ranges (loads_of f) f.sections ≡ rs → Among r (first_some rs (segment_ranges (loads_of f))) → r.1 ≤ high_of (image_of f)
   by [] e k = segment (segment_of f.segments r (subst (Among r) (sym (spans-whole f.segments)) k))
   by (x ∷ xs) e k = section (of_section (loads_of f) f.sections r (subst (Among r) (sym e) k))
-
-all_ranges : (rs : List CodeRange) → ((r : ℕ × ℕ) → Among r (spans rs) → r.1 < 2 ^ 64) → RangesEnd rs
-all_ranges [] h = All-nil (λ r. r.start + r.size < 2 ^ 64)
-all_ranges (r ∷ rs) h = All-cons (λ r. r.start + r.size < 2 ^ 64) r rs (h (span r) (inl refl)) (all_ranges rs (λ t m. h t (inr m)))
 
 -- ---- data
 rounded_end : (r : ℕ × ℕ) (s : Segment) → r ≡ rounded s → r.1 ≡ (s.address + s.memory + 7) / 8 * 8
@@ -92,16 +72,16 @@ data_high f r m =
     let end = rounded_end p.member s.source s.is in
     omega (arith, some, high, within, end)
 
-all_spans : (ss : List Span) → ((r : ℕ × ℕ) → Among r (all_bounds ss) → r.1 < 2 ^ 64) → SpansEnd ss
-all_spans [] h = All-nil (λ s. s.end < 2 ^ 64)
-all_spans (s ∷ ss) h = All-cons (λ t. t.end < 2 ^ 64) s ss (h (bounds_of s) (inl refl)) (all_spans ss (λ t m. h t (inr m)))
-
 -- ---- of a file that was admitted
 high_small : (f : ElfFile) (o : Options) → IsAdmitted f o → high_of (image_of f) ≤ 2 ^ 63
 high_small f o a = let h = a.half in let t = a.top in omega (arith, h, t)
 
 pub ranges_end : (f : ElfFile) (o : Options) (rs : List CodeRange) → IsAdmitted f o → spans rs ≡ ranges_of f → RangesEnd rs
-ranges_end f o rs a e = let small = high_small f o a in all_ranges rs (λ r m. let h = range_high f r (subst (Among r) e m) in omega (arith, small, h))
+ranges_end f o rs a e =
+    let small = high_small f o a in
+    every_all (λ r. r.start + r.size < 2 ^ 64) rs (among_every (λ r. r.start + r.size < 2 ^ 64) rs (λ r m. let h = range_high f (span r) (subst (Among (span r)) e (among-map span r rs m)) in omega (arith, small, h)))
 
 pub spans_end : (f : ElfFile) (o : Options) (ss : List Span) → IsAdmitted f o → all_bounds ss ≡ data_ranges (image_of f) → SpansEnd ss
-spans_end f o ss a e = let small = high_small f o a in all_spans ss (λ r m. let h = data_high f r (subst (Among r) e m) in omega (arith, small, h))
+spans_end f o ss a e =
+    let small = high_small f o a in
+    every_all (λ s. s.end < 2 ^ 64) ss (among_every (λ s. s.end < 2 ^ 64) ss (λ s m. let h = data_high f (bounds_of s) (subst (Among (bounds_of s)) e (among-map bounds_of s ss m)) in omega (arith, small, h)))

@@ -1,9 +1,9 @@
 -- The first word of the code of a file that is at fault is the least address at fault.
 use Rattle.std.proofs.Common.{◌≡◌, ⊎_elim, ℕ, ◌+◌, ◌-◌, ◌*◌, ◌/◌, ◌%◌, ◌^◌, ◌<◌, ◌≤◌, Bool, true, false, cond, ◌&&◌, ◌||◌, List, [], ◌∷◌, Option, Some, None, refl, sym, ap, ◌∙◌, subst, arith}
-use Rattle.std.specs.Prelude.{map, ◌==◌, is_some, All}
+use Rattle.std.specs.Prelude.{map, ◌==◌, is_some}
 use Rattle.std.specs.Option.{option_map, option_or}
 use Rattle.std.proofs.lemmas.Bool.{false≢true, and_parts, and_from, eqb-true, eq-eqb, or_cases, or_right}
-use Rattle.std.proofs.lemmas.List.Elements.{All-nil, All-cons, All-head, All-tail}
+use Rattle.std.proofs.lemmas.List.Elements.{All-nil, All-cons}
 use Rattle.elf_types.specs.declared.file.ElfFile.{ElfFile}
 use Rattle.rv_isa.specs.declared.ins.Ins.{Ins}
 use Rattle.qed_model.specs.declared.admit.AdmitError.{AdmitError}
@@ -21,7 +21,10 @@ use Rattle.qed_model.specs.Admission.DataRanges.{is_in, is_in_any}
 use Rattle.qed_model.specs.Admission.CodeWords.{loads_of, ranges_of, is_code, word_at, instruction_at}
 use Rattle.qed_model.specs.Admission.Rules.{passes_at, high_in, high_at, is_unknown, is_breakpoint, is_far_constant, is_ebreak, is_far}
 use Rattle.qed_model.specs.Weave.Sequences.{is_auipc}
-use Rattle.qed_model.specs.Admission.Refusals.{IsLeast, IsRefusedBy}
+use Rattle.qed_model.specs.Admission.Refusals.{HasFault, place_of, IsLeast, IsRefusedBy}
+use Rattle.qed_model.specs.Members.{Every}
+use Rattle.qed_model.proofs.Among.{all_among}
+use Rattle.qed_model.proofs.Pairs.{among_every}
 use Rattle.qed_model.proofs.BelowLaws.{first_least, each_fails}
 use Rattle.qed_model.proofs.CellsAmong.{by_bytes}
 use Rattle.qed_model.proofs.DataRangesLaws.{in_parts, in_from}
@@ -32,7 +35,7 @@ use Rattle.test_admission.specs.Order.{PassesBelow}
 use Rattle.test_admission.specs.Stretches.{Part, parts_of, span_of, Reads, AllFit, Follow, AreCodeOf}
 use Rattle.test_admission.specs.Faults.{is_at_fault, word_in, faults_at, word_of, first_in, first_among, HasHigh}
 use Rattle.test_admission.proofs.FirstFault.{none_case}
-use Rattle.test_admission.proofs.OrderLaws.{passes_unknown_word, passes_register_half, passes_breakpoint, passes_far_constant, refused}
+use Rattle.test_admission.proofs.OrderLaws.{passes_more, refused}
 
 -- ---- words
 -- word k of a part is that of the image
@@ -85,10 +88,6 @@ module _ (word : ℕ → ℕ) (r : CodeRule) where
   abbrev HasWords : Part → Type 0
   HasWords p = (k : ℕ) → k < p.size / 4 → word_in p.bytes (4 * k) ≡ word (p.start + 4 * k)
 
-  abbrev AllWords : List Part → Type 0
-  AllWords [] = Unit {0}
-  AllWords (p ∷ ps) = HasWords p × AllWords ps
-
   fault_same : (p : Part) (k : ℕ) (b : Bool) → HasWords p → k < p.size / 4 → faults_at r p k ≡ b → is_at_fault r (p.start + 4 * k) (word (p.start + 4 * k)) ≡ b
   fault_same p k b w lt e = sym (ap (is_at_fault r (p.start + 4 * k)) (w k lt)) ∙ e
 
@@ -98,7 +97,7 @@ module _ (word : ℕ → ℕ) (r : CodeRule) where
       let x = place_in p q a b c h in
       subst (λ z. is_at_fault r z (word z) ≡ false) (sym x.is) (fault_same p x.place false w x.below (each_fails (p.size / 4) (faults_at r p) e x.place x.below))
 
-  pub none_found : (low : ℕ) (ps : List Part) → Follow low ps → AllWords ps → first_among r ps ≡ None → (q : ℕ) → q % 4 ≡ 0 → is_in_any (map span_of ps) q ≡ true → is_at_fault r q (word q) ≡ false
+  pub none_found : (low : ℕ) (ps : List Part) → Follow low ps → Every HasWords ps → first_among r ps ≡ None → (q : ℕ) → q % 4 ≡ 0 → is_in_any (map span_of ps) q ≡ true → is_at_fault r q (word q) ≡ false
   none_found low [] h w e q c m = absurd (false≢true m)
   none_found low (p ∷ ps) h w e q c m = by (first_in r p) refl e (λ g. none_found (p.start + p.size) ps h.5 w.1 g q c) where
     by : (o : Option (ℕ × ℕ)) → first_in r p ≡ o → option_or o (first_among r ps) ≡ None → (first_among r ps ≡ None → is_in_any (map span_of ps) q ≡ true → is_at_fault r q (word q) ≡ false) → is_at_fault r q (word q) ≡ false
@@ -140,7 +139,7 @@ module _ (word : ℕ → ℕ) (r : CodeRule) where
     least = λ q l c m. ⊎_elim (none_part p q w h.2 h.3 e c) (f.least q l c) (or_cases (is_in (span_of p) q) (is_in_any (map span_of ps) q) m);
   }
 
-  first_found : (low : ℕ) (ps : List Part) (a found : ℕ) → Follow low ps → AllWords ps → first_among r ps ≡ Some (a, found) → IsFirst low ps a found
+  first_found : (low : ℕ) (ps : List Part) (a found : ℕ) → Follow low ps → Every HasWords ps → first_among r ps ≡ Some (a, found) → IsFirst low ps a found
   first_found low [] a found h w e = absurd (cc)
   first_found low (p ∷ ps) a found h w e = by (first_in r p) refl e (first_found (p.start + p.size) ps a found h.5 w.1) where
     by : (o : Option (ℕ × ℕ)) → first_in r p ≡ o → option_or o (first_among r ps) ≡ Some (a, found) → (first_among r ps ≡ Some (a, found) → IsFirst (p.start + p.size) ps a found) → IsFirst low (p ∷ ps) a found
@@ -153,11 +152,10 @@ follow_fit low [] h = All-nil (λ s. s.start + s.size ≤ 2 ^ 64)
 follow_fit low (s ∷ ss) h = All-cons (λ t. t.start + t.size ≤ 2 ^ 64) s ss h.4 (follow_fit (s.start + s.size) ss h.5)
 
 -- ---- the code of a file
-all_words : (f : ElfFile) (r : CodeRule) (ps : List Part) → All (Reads (loads_of f)) ps → AllWords (word_at f) r ps
-all_words f r [] h = tt
-all_words f r (p ∷ ps) h = ((λ k lt. part_word (loads_of f) p k (All-head (Reads (loads_of f)) p ps h) lt), all_words f r ps (All-tail (Reads (loads_of f)) p ps h))
-
 module _ (f : ElfFile) (ps : List Part) (code : AreCodeOf f ps) where
+  words : Every (λ p. (k : ℕ) → k < p.size / 4 → word_in p.bytes (4 * k) ≡ word_at f (p.start + 4 * k)) ps
+  words = among_every _ ps (λ p m k lt. part_word (loads_of f) p k (all_among (Reads (loads_of f)) p ps code.read m) lt)
+
   abbrev at : CodeRule → ℕ → Bool
   at r a = is_code f a && is_at_fault r a (word_at f a)
 
@@ -175,7 +173,7 @@ module _ (f : ElfFile) (ps : List Part) (code : AreCodeOf f ps) where
     by false e = refl
 
   none_at_fault : (r : CodeRule) → first_among r ps ≡ None → (a : ℕ) → at r a ≡ false
-  none_at_fault r e a = not_at r a (none_found (word_at f) r 0 ps code.follow (all_words f r ps code.read) e a)
+  none_at_fault r e a = not_at r a (none_found (word_at f) r 0 ps code.follow words e a)
 
   record IsLeastFault (r : CodeRule) (a found : ℕ) : Type 0 where
     pub least : IsFirstBelow (2 ^ 64) (at r) a
@@ -184,7 +182,7 @@ module _ (f : ElfFile) (ps : List Part) (code : AreCodeOf f ps) where
 
   least_at_fault : (r : CodeRule) (a found : ℕ) → first_among r ps ≡ Some (a, found) → IsLeastFault r a found
   least_at_fault r a found e =
-      let x = first_found (word_at f) r 0 ps a found code.follow (all_words f r ps code.read) e in
+      let x = first_found (word_at f) r 0 ps a found code.follow words e in
       let c = code_from a x.aligned x.within in
       record {
         least = record { below = x.small; passes = and_from (is_code f a) (is_at_fault r a (word_at f a)) c x.fault; least = λ q l. not_at r q (x.least q l) };
@@ -217,7 +215,10 @@ module _ (f : ElfFile) (ps : List Part) (code : AreCodeOf f ps) where
 
     module _ (known : first_among rule.Unknown ps ≡ None) where
       passed_unknown : (o : Options) → PassesBelow f o 7
-      passed_unknown o = passes_unknown_word f o (passed o) (λ a w h. never (is_unknown f) (none_at_fault rule.Unknown known) a h.0)
+      passed_unknown o = passes_more f o 6 (passed o) by where
+        by : (d : AdmitError) → place_of d ≡ 6 → HasFault f o d → ⊥
+        by (error.UnknownWord a w) n h = never (is_unknown f) (none_at_fault rule.Unknown known) a h.0
+        by d n h = absurd (omega (arith, n))
 
       pub refused_high : (e : AdmitError) → HasHigh ps e → (o : Options) → IsRefusedBy f o e
       refused_high e h o =
@@ -229,14 +230,20 @@ module _ (f : ElfFile) (ps : List Part) (code : AreCodeOf f ps) where
 
       module _ (low : first_among rule.Registers ps ≡ None) where
         passed_high : (o : Options) → PassesBelow f o 8
-        passed_high o = passes_register_half f o (passed_unknown o) (λ a n h. never (λ q. is_some (high_at f q)) (λ q. sym (high_test q) ∙ none_at_fault rule.Registers low q) a h.0)
+        passed_high o = passes_more f o 7 (passed_unknown o) by where
+          by : (d : AdmitError) → place_of d ≡ 7 → HasFault f o d → ⊥
+          by (error.RegisterHalf a r) n h = never (λ q. is_some (high_at f q)) (λ q. sym (high_test q) ∙ none_at_fault rule.Registers low q) a h.0
+          by d n h = absurd (omega (arith, n))
 
         pub refused_break : (a word : ℕ) → first_among rule.Breakpoint ps ≡ Some (a, word) → (o : Options) → IsRefusedBy f o (error.Breakpoint a)
         refused_break a word e o = refused f o 8 (error.Breakpoint a) (passed_high o) refl (same_least (at rule.Breakpoint) (is_breakpoint f) break_test a (least_at_fault rule.Breakpoint a word e).least)
 
         module _ (unbroken : first_among rule.Breakpoint ps ≡ None) where
           passed_break : (o : Options) → PassesBelow f o 9
-          passed_break o = passes_breakpoint f o (passed_high o) (λ a h. never (is_breakpoint f) (λ q. sym (break_test q) ∙ none_at_fault rule.Breakpoint unbroken q) a h)
+          passed_break o = passes_more f o 8 (passed_high o) by where
+            by : (d : AdmitError) → place_of d ≡ 8 → HasFault f o d → ⊥
+            by (error.Breakpoint a) n h = never (is_breakpoint f) (λ q. sym (break_test q) ∙ none_at_fault rule.Breakpoint unbroken q) a h
+            by d n h = absurd (omega (arith, n))
 
           pub refused_far : (base a word : ℕ) → base ≡ base_of (image_of f) → first_among (rule.Constant base) ps ≡ Some (a, word) → (o : Options) → IsRefusedBy f o (error.FarConstant a)
           refused_far base a word b e o =
@@ -244,6 +251,7 @@ module _ (f : ElfFile) (ps : List Part) (code : AreCodeOf f ps) where
               refused f o 9 (error.FarConstant a) (passed_break o) refl (same_least (at (rule.Constant (base_of (image_of f)))) (is_far_constant f) far_test a x.least)
 
           pub passes_code : (base : ℕ) → base ≡ base_of (image_of f) → first_among (rule.Constant base) ps ≡ None → (o : Options) → PassesBelow f o 10
-          passes_code base b e o =
-              passes_far_constant f o (passed_break o)
-              (λ a h. never (is_far_constant f) (λ q. sym (far_test q) ∙ none_at_fault (rule.Constant (base_of (image_of f))) (sym (ap (λ n. first_among (rule.Constant n) ps) b) ∙ e) q) a h)
+          passes_code base b e o = passes_more f o 9 (passed_break o) by where
+            by : (d : AdmitError) → place_of d ≡ 9 → HasFault f o d → ⊥
+            by (error.FarConstant a) n h = never (is_far_constant f) (λ q. sym (far_test q) ∙ none_at_fault (rule.Constant (base_of (image_of f))) (sym (ap (λ n. first_among (rule.Constant n) ps) b) ∙ e) q) a h
+            by d n h = absurd (omega (arith, n))

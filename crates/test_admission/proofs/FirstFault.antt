@@ -1,9 +1,10 @@
 -- The first word of a part that is at fault; words without a byte of the file are at fault by no rule.
-use Rattle.std.proofs.Common.{◌≡◌, ⊎_elim, ℕ, ◌+◌, ◌*◌, ◌/◌, ◌<◌, ◌≤◌, true, false, List, [], ◌∷◌, length, Bool, ◌||◌, Option, Some, None, refl, sym, ap, ◌∙◌, arith}
+use Rattle.std.proofs.Common.{◌≡◌, ⊎_elim, ℕ, ◌+◌, ◌*◌, ◌/◌, ◌<◌, ◌≤◌, true, false, List, [], ◌∷◌, length, ◌||◌, Option, Some, None, refl, sym, ap, subst, ◌∙◌, arith}
 use Rattle.std.specs.Prelude.{pos}
 use Rattle.std.specs.Option.{option_map, option_or}
 use Rattle.std.proofs.lemmas.List.{get_or_past}
 use Rattle.std.proofs.lemmas.Bool.{cases_lt, or_parts}
+use Rattle.std.proofs.lemmas.Option.{same_Some}
 use Rattle.rv_isa.specs.declared.ins.Ins.{Ins}
 use Rattle.rv_isa.specs.declared.kind.Kind.TheVariants.{Illegal}
 use Rattle.qed_model.specs.Machine.Table.{ins, ins_of, decode_of}
@@ -72,49 +73,31 @@ none_less q r less (p ∷ ps) e =
     ap (λ x. option_or x (first_among r ps)) here ∙ none_less q r less ps s.1
 
 -- what is at fault by none of the rules is at fault by no one of them
-each_false : (a b c d : Bool) → (a || (b || (c || d))) ≡ false → (a ≡ false) × (b ≡ false) × (c ≡ false) × (d ≡ false)
-each_false a b c d e =
-    let p = or_parts a (b || (c || d)) e in
-    let q = or_parts b (c || d) p.1 in
-    let r = or_parts c d q.1 in
+each_rule : (base a : ℕ) (x : Option Ins) → faults (rule.Any base) a x ≡ false
+    → (faults rule.Unknown a x ≡ false) × (faults rule.Registers a x ≡ false) × (faults rule.Breakpoint a x ≡ false) × (faults (rule.Constant base) a x ≡ false)
+each_rule base a x e =
+    let p = or_parts (faults rule.Unknown a x) (faults rule.Registers a x || (faults rule.Breakpoint a x || faults (rule.Constant base) a x)) e in
+    let q = or_parts (faults rule.Registers a x) (faults rule.Breakpoint a x || faults (rule.Constant base) a x) p.1 in
+    let r = or_parts (faults rule.Breakpoint a x) (faults (rule.Constant base) a x) q.1 in
     (p.0, q.0, r.0, r.1)
 
-module _ (base : ℕ) where
-  abbrev each_rule :
-      (a : ℕ) (x : Option Ins) → faults (rule.Any base) a x ≡ false
-      → (faults rule.Unknown a x ≡ false) × (faults rule.Registers a x ≡ false) × (faults rule.Breakpoint a x ≡ false) × (faults (rule.Constant base) a x ≡ false)
-  each_rule a x e = each_false (faults rule.Unknown a x) (faults rule.Registers a x) (faults rule.Breakpoint a x) (faults (rule.Constant base) a x) e
-
-  pub none_unknown : (ps : List Part) → first_among (rule.Any base) ps ≡ None → first_among rule.Unknown ps ≡ None
-  none_unknown = none_less (rule.Any base) rule.Unknown (λ a x e. (each_rule a x e).0)
-
-  pub none_high : (ps : List Part) → first_among (rule.Any base) ps ≡ None → first_among rule.Registers ps ≡ None
-  none_high = none_less (rule.Any base) rule.Registers (λ a x e. (each_rule a x e).1)
-
-  pub none_break : (ps : List Part) → first_among (rule.Any base) ps ≡ None → first_among rule.Breakpoint ps ≡ None
-  none_break = none_less (rule.Any base) rule.Breakpoint (λ a x e. (each_rule a x e).2)
-
-  pub none_far : (ps : List Part) → first_among (rule.Any base) ps ≡ None → first_among (rule.Constant base) ps ≡ None
-  none_far = none_less (rule.Any base) (rule.Constant base) (λ a x e. (each_rule a x e).3)
+pub none_each : (base : ℕ) (ps : List Part) → first_among (rule.Any base) ps ≡ None
+    → (first_among rule.Unknown ps ≡ None) × (first_among rule.Registers ps ≡ None) × (first_among rule.Breakpoint ps ≡ None) × (first_among (rule.Constant base) ps ≡ None)
+none_each base ps h = (
+  none_less (rule.Any base) rule.Unknown (λ a x e. (each_rule base a x e).0) ps h,
+  none_less (rule.Any base) rule.Registers (λ a x e. (each_rule base a x e).1) ps h,
+  none_less (rule.Any base) rule.Breakpoint (λ a x e. (each_rule base a x e).2) ps h,
+  none_less (rule.Any base) (rule.Constant base) (λ a x e. (each_rule base a x e).3) ps h,
+)
 
 -- ---- what is found is at fault
-record Hit (r : CodeRule) (c : ℕ × ℕ) : Type 0 where
-  at_fault : is_at_fault r c.0 c.1 ≡ true
-
-hit_in : (r : CodeRule) (p : Part) (c : ℕ × ℕ) (o : Option ℕ) → first (p.size / 4) (faults_at r p) ≡ o → option_map (word_of p) o ≡ Some c → Hit r c
+hit_in : (r : CodeRule) (p : Part) (c : ℕ × ℕ) (o : Option ℕ) → first (p.size / 4) (faults_at r p) ≡ o → option_map (word_of p) o ≡ Some c → is_at_fault r c.0 c.1 ≡ true
 hit_in r p c None e h = absurd (cc)
-hit_in r p c (Some k) e h =
-    let f = first_least (p.size / 4) (faults_at r p) k e in
-    let a : p.start + 4 * k ≡ c.0 = cc in
-    let w : word_in p.bytes (4 * k) ≡ c.1 = cc in
-    record { at_fault = sym (ap (λ x. is_at_fault r x (word_in p.bytes (4 * k))) a ∙ ap (is_at_fault r c.0) w) ∙ f.passes }
+hit_in r p c (Some k) e h = subst (λ x. is_at_fault r x.0 x.1 ≡ true) (same_Some (word_of p k) c h) (first_least (p.size / 4) (faults_at r p) k e).passes
 
-hit_among : (r : CodeRule) (ps : List Part) (c : ℕ × ℕ) → first_among r ps ≡ Some c → Hit r c
+pub hit_among : (r : CodeRule) (ps : List Part) (c : ℕ × ℕ) → first_among r ps ≡ Some c → is_at_fault r c.0 c.1 ≡ true
 hit_among r [] c h = absurd (cc)
-hit_among r (p ∷ ps) c h = by (first_in r p) refl h (hit_in r p c (first (p.size / 4) (faults_at r p)) refl) (hit_among r ps c) where
-  by : (o : Option (ℕ × ℕ)) → first_in r p ≡ o → option_or o (first_among r ps) ≡ Some c → (first_in r p ≡ Some c → Hit r c) → (first_among r ps ≡ Some c → Hit r c) → Hit r c
-  by None e x here rest = rest x
-  by (Some d) e x here rest = here (e ∙ x)
-
-pub found_at_fault : (r : CodeRule) (ps : List Part) (a word : ℕ) → first_among r ps ≡ Some (a, word) → is_at_fault r a word ≡ true
-found_at_fault r ps a word h = (hit_among r ps (a, word) h).at_fault
+hit_among r (p ∷ ps) c h = by (first_in r p) refl h (hit_among r ps c) where
+  by : (o : Option (ℕ × ℕ)) → first_in r p ≡ o → option_or o (first_among r ps) ≡ Some c → (first_among r ps ≡ Some c → is_at_fault r c.0 c.1 ≡ true) → is_at_fault r c.0 c.1 ≡ true
+  by None e x rest = rest x
+  by (Some d) e x rest = hit_in r p c (first (p.size / 4) (faults_at r p)) refl (e ∙ x)

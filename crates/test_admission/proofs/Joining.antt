@@ -1,13 +1,13 @@
 -- Sorted ranges that are joined from the front are the joined ranges.
-use Rattle.std.proofs.Common.{◌≡◌, ℕ, zero, suc, ◌+◌, ◌<◌, ◌≤◌, max, true, false, cond, ◌&&◌, ◌||◌, List, [], ◌∷◌, length, get_or, refl, sym, ap, ◌∙◌, arith}
+use Rattle.std.proofs.Common.{◌≡◌, ℕ, suc, ◌+◌, ◌<◌, ◌≤◌, max, true, false, cond, ◌&&◌, ◌||◌, List, [], ◌∷◌, length, get_or, refl, sym, ap, ◌∙◌, arith}
 use Rattle.std.specs.Prelude.{nat_lt, nat_le, All, AllPairs}
-use Rattle.std.specs.List.{list_any}
 use Rattle.std.specs.List.Sorted.{IsPermutation, IsNonDecreasingBy}
 use Rattle.std.proofs.Math.Bool.{or_assoc}
 use Rattle.std.proofs.lemmas.Bool.{leb-true, leb-false}
 use Rattle.std.proofs.lemmas.Bool.Decides.{nat_tests}
 use Rattle.std.proofs.lemmas.List.Elements.{All-nil, All-cons, All-head, All-tail}
-use Rattle.std.proofs.lemmas.List.Sorted.{All-permutation, list_any-IsPermutation}
+use Rattle.std.proofs.lemmas.List.Sorted.{All-permutation, IsPermutation-map, list_any-IsPermutation}
+use Rattle.std.proofs.lemmas.List.Kept.{AllPairs-cons}
 use Rattle.qed_model.specs.Admission.DataRanges.{is_in, is_in_any, joined}
 use Rattle.qed_model.proofs.DataRangesLaws.{Spaced, AllSome, spaced-joined, in_any-joined, same_ranges}
 use Rattle.test_admission.specs.declared.spans.Span.{Span}
@@ -54,11 +54,6 @@ in_any-glued q [] h = refl
 in_any-glued q (r ∷ rs) h = in_any-glue q r rs h.1 h.2
 
 -- ---- a sort
--- the addresses are those of the ranges, in whatever order
-any_bounds : (q : ℕ) (ss : List Span) → is_in_any (all_bounds ss) q ≡ list_any (λ s. is_in (bounds_of s) q) ss
-any_bounds q [] = refl
-any_bounds q (s ∷ ss) = ap (λ b. is_in (bounds_of s) q || b) (any_bounds q ss)
-
 some_bounds : (ss : List Span) → HaveSome ss → AllSome (all_bounds ss)
 some_bounds [] h = tt
 some_bounds (s ∷ ss) h = (All-head (λ t. t.start < t.end) s ss h, some_bounds ss (All-tail (λ t. t.start < t.end) s ss h))
@@ -83,14 +78,9 @@ all_from : (low l : ℕ) (ss : List Span) → l ≤ low → Spaced low (all_boun
 all_from low l [] le h = All-nil (λ s. l ≤ s.start)
 all_from low l (s ∷ ss) le h = All-cons (λ t. l ≤ t.start) s ss (omega (arith, le, h.0)) (all_from (s.end + 1) l ss (omega (arith, le, h.0, h.1)) h.2)
 
-gap_pair : (s : Span) (ss : List Span) → All (λ t. s.end + 1 ≤ t.start) ss → AllPairs (λ t u. t.end < u.start) ss → (i j : ℕ) (d : Span) → i < j → j < length (s ∷ ss) → (get_or (s ∷ ss) i d).end < (get_or (s ∷ ss) j d).start
-gap_pair s ss h rest i zero d lt le = absurd (omega (arith, lt))
-gap_pair s ss h rest zero (suc j) d lt le = let p = h j d (omega (arith, le)) in omega (arith, p)
-gap_pair s ss h rest (suc i) (suc j) d lt le = rest i j d (omega (arith, lt)) (omega (arith, le))
-
 have_gaps : (low : ℕ) (ss : List Span) → Spaced low (all_bounds ss) → AllPairs (λ s t. s.end < t.start) ss
 have_gaps low [] h = λ i j d lt le. absurd (omega (arith, le))
-have_gaps low (s ∷ ss) h = gap_pair s ss (all_from (s.end + 1) (s.end + 1) ss (omega arith) h.2) (have_gaps (s.end + 1) ss h.2)
+have_gaps low (s ∷ ss) h = AllPairs-cons (λ t u. t.end < u.start) s ss (λ k d l. let g = all_from (s.end + 1) (s.end + 1) ss (omega arith) h.2 k d l in omega (arith, g)) (have_gaps (s.end + 1) ss h.2)
 
 pub are_spaced : (ss : List Span) → Spaced 0 (all_bounds ss) → AreSpaced ss
 are_spaced ss h = record { some = have_some 0 ss h; gaps = have_gaps 0 ss h }
@@ -108,7 +98,5 @@ module _ (xs ys : List Span) (some : HaveSome xs) (moved : IsPermutation xs ys) 
       same_ranges 0 0 (glued (all_bounds ys)) (joined (all_bounds xs)) glued_spaced (spaced-joined (all_bounds xs) (some_bounds xs some))
       (λ q.
       in_any-glued q (all_bounds ys) starts
-      ∙ any_bounds q ys
-      ∙ sym (list_any-IsPermutation (λ s. is_in (bounds_of s) q) xs ys moved)
-      ∙ sym (any_bounds q xs)
+      ∙ sym (list_any-IsPermutation (λ r. is_in r q) (all_bounds xs) (all_bounds ys) (IsPermutation-map bounds_of xs ys moved))
       ∙ sym (in_any-joined q (all_bounds xs) (some_bounds xs some)))

@@ -2,16 +2,17 @@
 use Rattle.std.proofs.Common.{◌≡◌, inl, inr, ⊎_elim, ℕ, zero, suc, ◌+◌, ◌-◌, ◌*◌, ◌/◌, ◌%◌, ◌^◌, ◌<◌, ◌≤◌, true, List, [], ◌∷◌, ◌++◌, length, get_or, drop, None, Some, refl, sym, ap, ◌∙◌, subst, arith, append_assoc, add-one, drop-cons}
 use Rattle.std.specs.Prelude.{map, ◌==◌, All, AllPairs}
 use Rattle.std.proofs.lemmas.Bool.{and_parts, and_from, eqb-true, eq-eqb, or_cases, or_left, or_right, false≢true, cases_lt}
-use Rattle.std.proofs.lemmas.List.{length-append}
+use Rattle.std.proofs.lemmas.List.{length-append, length-map, map-append}
 use Rattle.std.proofs.lemmas.List.Elements.{All-nil, All-cons, All-head, All-tail, All-push, All-append}
 use Rattle.elf_types.specs.declared.file.ElfFile.{ElfFile}
+use Rattle.qed_model.specs.declared.admit.AdmitError.{AdmitError}
 use Rattle.qed_model.specs.declared.admit.AdmitError.TheVariants as error
 use Rattle.qed_model.specs.declared.options.Options.{Options}
 use Rattle.qed_model.specs.declared.test.CodeWord.{CodeWord}
 use Rattle.qed_model.specs.Machine.Table.{decode_of}
 use Rattle.qed_model.specs.Admission.DataRanges.{is_in, is_in_any}
 use Rattle.qed_model.specs.Admission.CodeWords.{loads_of, ranges_of, word_at, AreCodeAddresses}
-use Rattle.qed_model.specs.Admission.Refusals.{IsRefusedBy}
+use Rattle.qed_model.specs.Admission.Refusals.{HasFault, place_of, IsRefusedBy}
 use Rattle.qed_model.specs.Admission.Test.{IsCodeWord, AreCodeWords}
 use Rattle.qed_model.proofs.Among.{among_of, contains_of, among-left, among-right, among-either}
 use Rattle.qed_model.specs.Members.{Among}
@@ -23,7 +24,7 @@ use Rattle.test_admission.specs.Order.{PassesBelow}
 use Rattle.test_admission.specs.Stretches.{Part, part_of, parts_of, span_of, Reads, Follow, AreCodeOf}
 use Rattle.test_admission.specs.Faults.{word_of, first_among}
 use Rattle.test_admission.specs.Words.{words_from, words_in, words_among, word_total, pair_of, pairs_of, IsDecoded}
-use Rattle.test_admission.proofs.OrderLaws.{passes_code_words, refused}
+use Rattle.test_admission.proofs.OrderLaws.{passes_more, refused}
 use Rattle.test_admission.proofs.FirstFault.{none_split}
 use Rattle.test_admission.proofs.Faulting.{part_word}
 
@@ -99,10 +100,6 @@ word_among p k (suc n) place l lt =
     (λ x. let e : place ≡ k = omega (arith, x, l) in inl (ap (λ m. p.start + 4 * m) e))
     (cases_lt k place)
 
-firsts-append : (xs ys : List (ℕ × ℕ)) → firsts (xs ++ ys) ≡ firsts xs ++ firsts ys
-firsts-append [] ys = refl
-firsts-append (x ∷ xs) ys = ap (λ zs. x.0 ∷ zs) (firsts-append xs ys)
-
 listed_in : (low a : ℕ) (ps : List Part) → Follow low ps → Among a (firsts (words_among ps)) → (a % 4 ≡ 0) × (is_in_any (map span_of ps) a ≡ true)
 listed_in low a [] h m = absurd m
 listed_in low a (p ∷ ps) h m =
@@ -114,12 +111,12 @@ listed_in low a (p ∷ ps) h m =
     let s = h.2 in
     (omega (arith, e, s), or_left (is_in (span_of p) a) (is_in_any (map span_of ps) a) (in_from (span_of p) a (omega (arith, e)) (omega (arith, e, b)))))
     (λ x. let r = listed_in (p.start + p.size) a ps h.5 x in (r.0, or_right (is_in (span_of p) a) (is_in_any (map span_of ps) a) r.1))
-    (among-either a (firsts (words_in p)) (firsts (words_among ps)) (subst (Among a) (firsts-append (words_in p) (words_among ps)) m))
+    (among-either a (firsts (words_in p)) (firsts (words_among ps)) (subst (Among a) (map-append (λ c. c.0) (words_in p) (words_among ps)) m))
 
 in_listed : (low a : ℕ) (ps : List Part) → Follow low ps → a % 4 ≡ 0 → is_in_any (map span_of ps) a ≡ true → Among a (firsts (words_among ps))
 in_listed low a [] h c m = absurd (false≢true m)
 in_listed low a (p ∷ ps) h c m =
-    subst (Among a) (sym (firsts-append (words_in p) (words_among ps)))
+    subst (Among a) (sym (map-append (λ c. c.0) (words_in p) (words_among ps)))
     (⊎_elim
     (λ x.
     let i = in_parts (span_of p) a x in
@@ -140,12 +137,8 @@ are_addresses f ps code = record {
   );
 }
 
-length-list : (cs : List (ℕ × ℕ)) → length (firsts cs) ≡ length cs
-length-list [] = refl
-length-list (c ∷ cs) = ap suc (length-list cs)
-
 length-firsts : (ps : List Part) → length (firsts (words_among ps)) ≡ word_total ps
-length-firsts ps = length-list (words_among ps) ∙ length-words_among ps
+length-firsts ps = length-map (words_among ps) (λ c. c.0) ∙ length-words_among ps
 
 -- ---- the limit
 module _ (f : ElfFile) (o : Options) (ps : List Part) (code : AreCodeOf f ps) (passed : PassesBelow f o 13) where
@@ -153,26 +146,23 @@ module _ (f : ElfFile) (o : Options) (ps : List Part) (code : AreCodeOf f ps) (p
   refused_words n e l = refused f o 13 (error.CodeWords n) passed refl (record { addresses = firsts (words_among ps); all = are_addresses f ps code; count = e ∙ sym (length-firsts ps); over = l })
 
   pub passes_words : (n : ℕ) → n ≡ word_total ps → n ≤ 1_048_576 → PassesBelow f o 14
-  passes_words n e l =
-      passes_code_words f o passed
-      (λ m h.
-      let same = ap length (addresses_only f h.addresses (firsts (words_among ps)) h.all (are_addresses f ps code)) in
-      let over = h.over in
-      let count = h.count in
-      let len = length-firsts ps in
-      omega (arith, same, over, count, len, e, l))
+  passes_words n e l = passes_more f o 13 passed by where
+    by : (d : AdmitError) → place_of d ≡ 13 → HasFault f o d → ⊥
+    by (error.CodeWords m) p h =
+        let same = ap length (addresses_only f h.addresses (firsts (words_among ps)) h.all (are_addresses f ps code)) in
+        let over = h.over in
+        let count = h.count in
+        let len = length-firsts ps in
+        omega (arith, same, over, count, len, e, l)
+    by d p h = absurd (omega (arith, p))
 
 -- ---- one word more of a part
-pairs-append : (xs ys : List CodeWord) → pairs_of (xs ++ ys) ≡ pairs_of xs ++ pairs_of ys
-pairs-append [] ys = refl
-pairs-append (x ∷ xs) ys = ap (λ zs. pair_of x ∷ zs) (pairs-append xs ys)
-
 pub push_step : (p : Part) (k count : ℕ) (ws more : List CodeWord) (x : CodeWord) (all : List (ℕ × ℕ)) → more ≡ ws ++ x ∷ [] → k < count → pair_of x ≡ word_of p k → pairs_of ws ++ words_from p k (count - k) ≡ all → pairs_of more ++ words_from p (k + 1) (count - (k + 1)) ≡ all
 push_step p k count ws more x all e lt is h =
     let n : count - k ≡ suc (count - (k + 1)) = omega (arith, lt) in
     let rest = words_from p (k + 1) (count - (k + 1)) in
     ap (λ xs. pairs_of xs ++ rest) e
-    ∙ ap (λ xs. xs ++ rest) (pairs-append ws (x ∷ []))
+    ∙ ap (λ xs. xs ++ rest) (map-append pair_of ws (x ∷ []))
     ∙ append_assoc (pairs_of ws) (pair_of x ∷ []) rest
     ∙ ap (λ c. pairs_of ws ++ (c ∷ rest)) is
     ∙ ap (λ m. pairs_of ws ++ words_from p k m) (sym n)

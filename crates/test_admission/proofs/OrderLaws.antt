@@ -1,5 +1,6 @@
 -- The rules in their order: from one rule to the next.
-use Rattle.std.proofs.Common.{◌≡◌, ℕ, ◌<◌, arith}
+use Rattle.std.proofs.Common.{◌≡◌, ⊎_elim, ℕ, ◌+◌, arith}
+use Rattle.std.proofs.lemmas.Bool.{cases_lt}
 use Rattle.elf_types.specs.declared.file.ElfFile.{ElfFile}
 use Rattle.qed_model.specs.declared.admit.AdmitError.{AdmitError}
 use Rattle.qed_model.specs.declared.admit.AdmitError.TheVariants as error
@@ -9,54 +10,8 @@ use Rattle.qed_model.proofs.AdmissionLaws.{admitted_of}
 use Rattle.test_admission.specs.Order.{PassesBelow, IsCauseOf}
 
 -- ---- where the next rule does not hold either
-
-pub passes_no_code : (f : ElfFile) (o : Options) → PassesBelow f o 4 → ((i : ℕ) → HasFault f o (error.NoCode i) → ⊥) → PassesBelow f o 5
-passes_no_code f o p x = record { none = by } where
-  by : (d : AdmitError) → place_of d < 5 → HasFault f o d → ⊥
-  by (error.NoCode i) lt h = x i h
-  by d lt h = p.none d (omega (arith, lt)) h
-
-pub passes_code_shape : (f : ElfFile) (o : Options) → PassesBelow f o 5 → ((i : ℕ) → HasFault f o (error.CodeShape i) → ⊥) → PassesBelow f o 6
-passes_code_shape f o p x = record { none = by } where
-  by : (d : AdmitError) → place_of d < 6 → HasFault f o d → ⊥
-  by (error.CodeShape i) lt h = x i h
-  by d lt h = p.none d (omega (arith, lt)) h
-
-pub passes_unknown_word : (f : ElfFile) (o : Options) → PassesBelow f o 6 → ((i j : ℕ) → HasFault f o (error.UnknownWord i j) → ⊥) → PassesBelow f o 7
-passes_unknown_word f o p x = record { none = by } where
-  by : (d : AdmitError) → place_of d < 7 → HasFault f o d → ⊥
-  by (error.UnknownWord i j) lt h = x i j h
-  by d lt h = p.none d (omega (arith, lt)) h
-
-pub passes_register_half : (f : ElfFile) (o : Options) → PassesBelow f o 7 → ((i j : ℕ) → HasFault f o (error.RegisterHalf i j) → ⊥) → PassesBelow f o 8
-passes_register_half f o p x = record { none = by } where
-  by : (d : AdmitError) → place_of d < 8 → HasFault f o d → ⊥
-  by (error.RegisterHalf i j) lt h = x i j h
-  by d lt h = p.none d (omega (arith, lt)) h
-
-pub passes_breakpoint : (f : ElfFile) (o : Options) → PassesBelow f o 8 → ((i : ℕ) → HasFault f o (error.Breakpoint i) → ⊥) → PassesBelow f o 9
-passes_breakpoint f o p x = record { none = by } where
-  by : (d : AdmitError) → place_of d < 9 → HasFault f o d → ⊥
-  by (error.Breakpoint i) lt h = x i h
-  by d lt h = p.none d (omega (arith, lt)) h
-
-pub passes_far_constant : (f : ElfFile) (o : Options) → PassesBelow f o 9 → ((i : ℕ) → HasFault f o (error.FarConstant i) → ⊥) → PassesBelow f o 10
-passes_far_constant f o p x = record { none = by } where
-  by : (d : AdmitError) → place_of d < 10 → HasFault f o d → ⊥
-  by (error.FarConstant i) lt h = x i h
-  by d lt h = p.none d (omega (arith, lt)) h
-
-pub passes_data_mixed : (f : ElfFile) (o : Options) → PassesBelow f o 10 → ((i : ℕ) → HasFault f o (error.DataMixed i) → ⊥) → PassesBelow f o 11
-passes_data_mixed f o p x = record { none = by } where
-  by : (d : AdmitError) → place_of d < 11 → HasFault f o d → ⊥
-  by (error.DataMixed i) lt h = x i h
-  by d lt h = p.none d (omega (arith, lt)) h
-
-pub passes_code_words : (f : ElfFile) (o : Options) → PassesBelow f o 13 → ((i : ℕ) → HasFault f o (error.CodeWords i) → ⊥) → PassesBelow f o 14
-passes_code_words f o p x = record { none = by } where
-  by : (d : AdmitError) → place_of d < 14 → HasFault f o d → ⊥
-  by (error.CodeWords i) lt h = x i h
-  by d lt h = p.none d (omega (arith, lt)) h
+pub passes_more : (f : ElfFile) (o : Options) (n : ℕ) → PassesBelow f o n → ((d : AdmitError) → place_of d ≡ n → HasFault f o d → ⊥) → PassesBelow f o (n + 1)
+passes_more f o n p x = record { none = λ d lt h. ⊎_elim (λ l. p.none d l h) (λ g. x d (omega (arith, lt, g)) h) (cases_lt (place_of d) n) }
 
 -- ---- where the next rule holds
 pub refused : (f : ElfFile) (o : Options) (n : ℕ) (e : AdmitError) → PassesBelow f o n → place_of e ≡ n → HasFault f o e → IsRefusedBy f o e

@@ -1,12 +1,11 @@
 -- How far the ends go that a refusal tells.
-use Rattle.std.proofs.Common.{◌≡◌, inl, inr, ⊎_elim, ℕ, ◌+◌, ◌^◌, ◌≤◌, List, [], ◌∷◌, refl, ap, arith}
+use Rattle.std.proofs.Common.{inl, inr, ℕ, ◌+◌, ◌^◌, ◌≤◌, List, [], ◌∷◌, refl, arith}
 use Rattle.elf_types.specs.declared.file.Segment.{Segment}
 use Rattle.elf_types.specs.declared.file.ElfFile.{ElfFile}
 use Rattle.qed_model.specs.declared.admit.AdmitError.{AdmitError}
 use Rattle.qed_model.specs.declared.admit.AdmitError.TheVariants as error
 use Rattle.qed_model.specs.declared.options.Options.{Options}
 use Rattle.qed_model.specs.Machine.Apart.{AllFitMemory}
-use Rattle.qed_model.specs.Machine.Program.{LoadSegment}
 use Rattle.qed_model.specs.Machine.Loading.{load_segment}
 use Rattle.qed_model.specs.Admission.CodeWords.{loads_of}
 use Rattle.qed_model.specs.Admission.Refusals.{HasFault}
@@ -14,16 +13,9 @@ use Rattle.qed_model.specs.Admission.Ends.{HasEnds}
 use Rattle.qed_model.specs.Weave.OutputParts.{high_of}
 use Rattle.qed_model.specs.Weave.Places.{image_of}
 use Rattle.qed_model.specs.Members.{Among}
+use Rattle.qed_model.proofs.ApartLaws.{fit_among}
 use Rattle.qed_model.proofs.ImageLaws.{among_load, image_parts}
 use Rattle.test_admission.specs.Order.{IsCauseOf}
-
-fits_among : (ls : List LoadSegment) → AllFitMemory ls → (l : LoadSegment) → Among l ls → l.address + l.size ≤ 2 ^ 64
-fits_among [] h l m = absurd m
-fits_among (t ∷ ls) h l m =
-    ⊎_elim
-    (λ e. let fit = h.0.1 in let a : l.address ≡ t.address = ap (λ x. x.address) e in let z : l.size ≡ t.size = ap (λ x. x.size) e in omega (arith, fit, a, z))
-    (fits_among ls h.1 l)
-    m
 
 high_least : (n : ℕ) (ss : List Segment) → ((s : Segment) → Among s ss → s.address + s.memory ≤ n) → high_of ss ≤ n
 high_least n [] h = omega arith
@@ -33,7 +25,7 @@ high_least n (s ∷ ss) h = let here = h s (inl refl) in let rest = high_least n
 high_fits : (f : ElfFile) → AllFitMemory (loads_of f) → high_of (image_of f) ≤ 2 ^ 64
 high_fits f fit =
     high_least (2 ^ 64) (image_of f)
-    (λ s m. let p = image_parts s f.segments m in fits_among (loads_of f) fit (load_segment s) (among_load s f.segments p.1 p.0))
+    (λ s m. let p = image_parts s f.segments m in (fit_among (load_segment s) (loads_of f) fit (among_load s f.segments p.1 p.0)).1)
 
 fault_ends : (f : ElfFile) (o : Options) (e : AdmitError) → AllFitMemory (loads_of f) → HasFault f o e → HasEnds e
 fault_ends f o (error.OutsideHalf high end) fit h =

@@ -1,6 +1,6 @@
 -- The run of `main` of a generated test: each function is called three times, and the run ends.
 use Rattle.std.proofs.Common.{◌≡◌, ℕ, zero, suc, ◌+◌, ◌*◌, ◌/◌, ◌%◌, ◌^◌, ◌<◌, ◌≤◌, Bool, true, false, cond, not, List, [], ◌∷◌, ◌++◌, length, refl, sym, ap, ◌∙◌, subst, arith}
-use Rattle.std.specs.Prelude.{◌==◌, slice_index, slice_index_or, pos, negsuc}
+use Rattle.std.specs.Prelude.{◌==◌, slice_index, pos, negsuc}
 use Rattle.std.specs.List.{list_all}
 use Rattle.std.proofs.lemmas.Bool.{and_parts, eq-eqb, eqb-true, eqb-false, not-true}
 use Rattle.rv_isa.specs.declared.ins.Ins.{Ins}
@@ -25,7 +25,7 @@ use Rattle.qed_model.proofs.Walked.{Walk, walk_one, walk_on}
 use Rattle.random_words.specs.Random.{random_word}
 use Rattle.test_gen.specs.Code.{body_registers, register_from, body_forms, body_instruction, return, function, main}
 use Rattle.test_gen.specs.Generated.{function_at}
-use Rattle.test_gen.proofs.Plain.{every_each}
+use Rattle.test_gen.proofs.Plain.{every_at, every_each}
 use Rattle.test_gen.proofs.Runs.{is_main, IsAccess, IsBody, Computes, Loads, Stores, HasData, IsGood, Goes, Reaches, good_set, good_jump, next_is, body_walk}
 use Rattle.weave_core.proofs.Source.{has_front}
 
@@ -37,11 +37,6 @@ own_index (x ∷ xs) (suc k) h e = own_index xs k (omega (arith, h)) (and_parts 
 
 own_body : (from word : ℕ) → is_main (register_from from word) ≡ false
 own_body from word = own_index body_registers (word / 2 ^ from % 7) (omega arith) refl
-
-every_at : {A : Type 0} (P : A → Type 0) (xs : List A) (k : ℕ) (d : A) → Every P xs → k < length xs → P (slice_index_or xs k d)
-every_at P [] k d h l = absurd (omega (arith, l))
-every_at P (x ∷ xs) zero d h l = h.0
-every_at P (x ∷ xs) (suc k) d h l = every_at P xs k d h.1 (omega (arith, l))
 
 load_access : (d m : ℕ) → m < 256 → IsAccess (ins Ld d 2 0 (pos (8 * m)))
 load_access d m h = record { word = m; small = h; base = refl; offset_is = omega (arith, h); width = refl }

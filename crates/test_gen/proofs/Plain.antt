@@ -1,6 +1,6 @@
 -- Each instruction of a generated test has a word, names no register above x13, and is neither EBREAK nor AUIPC.
-use Rattle.std.proofs.Common.{◌≡◌, ℕ, zero, suc, ◌+◌, ◌*◌, ◌/◌, ◌%◌, ◌^◌, ◌<◌, ◌≤◌, Bool, true, false, ◌||◌, List, [], ◌∷◌, Some, None, refl, ap, ◌∙◌, arith}
-use Rattle.std.specs.Prelude.{ℤ, pos, ◌-ℤ◌, is_none, is_some, nat_le, slice_index, slice_index_or, if◌then◌else◌}
+use Rattle.std.proofs.Common.{◌≡◌, ℕ, zero, suc, ◌+◌, ◌*◌, ◌/◌, ◌%◌, ◌^◌, ◌<◌, ◌≤◌, Bool, true, false, ◌||◌, List, [], ◌∷◌, length, Some, None, refl, ap, ◌∙◌, arith}
+use Rattle.std.specs.Prelude.{pos, ◌-ℤ◌, is_none, is_some, nat_le, slice_index, slice_index_or, if◌then◌else◌}
 use Rattle.std.specs.List.{list_all}
 use Rattle.std.specs.Option.{option_or}
 use Rattle.std.proofs.lemmas.Bool.{and_parts, and_from, leb-true, lt-ltb, le-ltb}
@@ -26,6 +26,9 @@ pub record IsPlain (i : Ins) : Type 0 where
   pub word : has_word i ≡ true
   pub low : is_none (high_register i) ≡ true
   pub kind : (is_ebreak i.kind || is_auipc i.kind) ≡ false
+
+plain : (i : Ins) → has_word i ≡ true → is_none (high_register i) ≡ true → (is_ebreak i.kind || is_auipc i.kind) ≡ false → IsPlain i
+plain i w l k = record { word = w; low = l; kind = k }
 
 -- ---- registers
 low_named : (b : Bool) (r : ℕ) → r ≤ 13 → if_high (named b r) ≡ None
@@ -66,34 +69,23 @@ store_word b m x h = is_some-some_if _ _ ∙ and_from _ _ (lt-ltb b 32 (omega (a
 forms_plain : (d a b m : ℕ) → d ≤ 13 → a ≤ 13 → b ≤ 13 → m < 256 → Every IsPlain (body_forms d a b m)
 unfolding encode_of
 forms_plain d a b m x y z h =
-    let low = λ (k : Kind). low_registers (ins k d a b (pos 0)) x y z in (
-      record { word = word_three Add 0x33 d a b x y z; low = low Add; kind = refl },
-      (
-        record { word = word_three Sub 0x40000033 d a b x y z; low = low Sub; kind = refl },
-        (
-          record { word = word_three Xor 0x4033 d a b x y z; low = low Xor; kind = refl },
-          (
-            record { word = word_three Mul 0x2000033 d a b x y z; low = low Mul; kind = refl },
-            (
-              record { word = addi_word d a (pos m -ℤ pos 128) (omega (arith, x)) (omega (arith, y)) (fits_12 (pos m -ℤ pos 128) (omega (arith, ints)) (omega (arith, ints, h))); low = low_registers (ins Addi d a 0 (pos m -ℤ pos 128)) x y (omega arith); kind = refl },
-              (
-                record { word = word_three Divu 0x2005033 d a b x y z; low = low Divu; kind = refl },
-                (
-                  record { word = load_word d m x h; low = low_registers (ins Ld d 2 0 (pos (8 * m))) x (omega arith) (omega arith); kind = refl },
-                  (record { word = store_word b m z h; low = low_registers (ins Sd 0 2 b (pos (8 * m))) (omega arith) (omega arith) z; kind = refl }, tt),
-                ),
-              ),
-            ),
-          ),
-        ),
-      ),
-    )
+    let three = λ (k : Kind). low_registers (ins k d a b (pos 0)) x y z in
+    let addi : IsPlain (ins Addi d a 0 (pos m -ℤ pos 128)) =
+    plain _ (addi_word d a (pos m -ℤ pos 128) (omega (arith, x)) (omega (arith, y)) (fits_12 (pos m -ℤ pos 128) (omega (arith, ints)) (omega (arith, ints, h)))) (low_registers (ins Addi d a 0 (pos m -ℤ pos 128)) x y (omega arith)) refl in
+    let load : IsPlain (ins Ld d 2 0 (pos (8 * m))) = plain _ (load_word d m x h) (low_registers (ins Ld d 2 0 (pos (8 * m))) x (omega arith) (omega arith)) refl in
+    let store : IsPlain (ins Sd 0 2 b (pos (8 * m))) = plain _ (store_word b m z h) (low_registers (ins Sd 0 2 b (pos (8 * m))) (omega arith) (omega arith) z) refl in
+    let add : IsPlain (ins Add d a b (pos 0)) = plain _ (word_three Add 0x33 d a b x y z) (three Add) refl in
+    let sub : IsPlain (ins Sub d a b (pos 0)) = plain _ (word_three Sub 0x40000033 d a b x y z) (three Sub) refl in
+    let xor : IsPlain (ins Xor d a b (pos 0)) = plain _ (word_three Xor 0x4033 d a b x y z) (three Xor) refl in
+    let mul : IsPlain (ins Mul d a b (pos 0)) = plain _ (word_three Mul 0x2000033 d a b x y z) (three Mul) refl in
+    let divu : IsPlain (ins Divu d a b (pos 0)) = plain _ (word_three Divu 0x2005033 d a b x y z) (three Divu) refl in
+    (add, (sub, (xor, (mul, (addi, (divu, (load, (store, tt))))))))
 
 -- ---- lists
-every_index : {A : Type 0} (P : A → Type 0) (xs : List A) (k : ℕ) (d : A) → Every P xs → P d → P (slice_index_or xs k d)
-every_index P [] k d h e = e
-every_index P (x ∷ xs) zero d h e = h.0
-every_index P (x ∷ xs) (suc k) d h e = every_index P xs k d h.1 e
+pub every_at : {A : Type 0} (P : A → Type 0) (xs : List A) (k : ℕ) (d : A) → Every P xs → k < length xs → P (slice_index_or xs k d)
+every_at P [] k d h l = absurd (omega (arith, l))
+every_at P (x ∷ xs) zero d h l = h.0
+every_at P (x ∷ xs) (suc k) d h l = every_at P xs k d h.1 (omega (arith, l))
 
 pub every_each : {A : Type 0} (P : A → Type 0) (n : ℕ) (f : ℕ → A) → ((i : ℕ) → P (f i)) → Every P (each n f)
 unfolding each
@@ -106,60 +98,25 @@ every_gather P zero f h = tt
 every_gather P (suc n) f h = every-append P (gather n f) (f n) (every_gather P n f h) (h n)
 
 -- ---- the code
-nop_plain : IsPlain nop
-unfolding encode_of word_of
-nop_plain = record { word = refl; low = refl; kind = refl }
-
 body_plain : (word : ℕ) → IsPlain (body_instruction word)
 unfolding body_instruction
 body_plain word =
-    every_index IsPlain (body_forms (register_from 8 word) (register_from 16 word) (register_from 24 word) (word / 2 ^ 32 % 256)) (word % 8) nop
+    every_at IsPlain (body_forms (register_from 8 word) (register_from 16 word) (register_from 24 word) (word / 2 ^ 32 % 256)) (word % 8) nop
     (forms_plain (register_from 8 word) (register_from 16 word) (register_from 24 word) (word / 2 ^ 32 % 256) (low_body 8 word) (low_body 16 word) (low_body 24 word) (omega arith))
-    nop_plain
+    (omega arith)
 
 function_plain : (seed i : ℕ) → Every IsPlain (function seed i)
 unfolding function encode_of word_of
 function_plain seed i =
     every-append IsPlain (each 32 (λ k. body_instruction (random_word seed (32 * i + k)))) (return ∷ [])
     (every_each IsPlain 32 (λ k. body_instruction (random_word seed (32 * i + k))) (λ k. body_plain (random_word seed (32 * i + k))))
-    (record { word = refl; low = refl; kind = refl }, tt)
+    (plain _ refl refl refl, tt)
 
 main_plain : (n : ℕ) → n ≤ 1875 → Every IsPlain (main n)
 unfolding main encode_of word_of
-main_plain n h = (
-  record { word = refl; low = refl; kind = refl },
-  (
-    record { word = refl; low = refl; kind = refl },
-    (
-      record { word = refl; low = refl; kind = refl },
-      (
-        record { word = addi_word 9 0 (pos n) (omega arith) (omega arith) (lt-ltb n 2048 (omega (arith, h))); low = refl; kind = refl },
-        (
-          record { word = refl; low = refl; kind = refl },
-          (
-            record { word = refl; low = refl; kind = refl },
-            (
-              record { word = refl; low = refl; kind = refl },
-              (
-                record { word = refl; low = refl; kind = refl },
-                (
-                  record { word = refl; low = refl; kind = refl },
-                  (
-                    record { word = refl; low = refl; kind = refl },
-                    (
-                      record { word = refl; low = refl; kind = refl },
-                      (record { word = refl; low = refl; kind = refl }, tt),
-                    ),
-                  ),
-                ),
-              ),
-            ),
-          ),
-        ),
-      ),
-    ),
-  ),
-)
+main_plain n h =
+    let count : IsPlain (ins Addi 9 0 0 (pos n)) = plain _ (addi_word 9 0 (pos n) (omega arith) (omega arith) (lt-ltb n 2048 (omega (arith, h)))) refl refl in
+    (plain _ refl refl refl, (plain _ refl refl refl, (plain _ refl refl refl, (count, (plain _ refl refl refl, (plain _ refl refl refl, (plain _ refl refl refl, (plain _ refl refl refl, (plain _ refl refl refl, (plain _ refl refl refl, (plain _ refl refl refl, (plain _ refl refl refl, tt))))))))))))
 
 -- all of it
 pub code_plain : (seed n : ℕ) → n ≤ 1875 → Every IsPlain (code seed n)

@@ -117,9 +117,6 @@ module _ (m : Memory) (ranges : List (ℕ × ℕ)) where
     keeps = λ r h. b.keeps r h ∙ a.keeps r h;
   }
 
-  after_four : (pc : ℕ) → pc + 4 ≤ 0x90000 → (pc + 4) % 2 ^ 64 ≡ pc + 4
-  after_four pc h = omega arith
-
   module _ (data_there : HasData m) where
     granted :
         (need : Flags → Bool) (s : State) (i : Ins) (a : IsAccess i) → IsGood m ranges s → reg s 2 ≡ 0x90000
@@ -141,7 +138,7 @@ module _ (m : Memory) (ranges : List (ℕ × ℕ)) where
           end = moved (set_reg i.rd v s.regs) (next_pc s) s;
           walk = walk_one Goes s (moved (set_reg i.rd v s.regs) (next_pc s) s) g.going (step-compute s i g.going (next_is s i g h k) c);
           good = good_set s i.rd v (next_pc s) g;
-          at = after_four s.pc h;
+          at = omega (arith, h);
           keeps = λ r e. kept_set s.regs i.rd v r d e;
         }
     body_step i s (Loads c d a) g two h k =
@@ -150,7 +147,7 @@ module _ (m : Memory) (ranges : List (ℕ × ℕ)) where
           end = moved (set_reg i.rd v s.regs) (next_pc s) s;
           walk = walk_one Goes s (moved (set_reg i.rd v s.regs) (next_pc s) s) g.going (step-load s i g.going (next_is s i g h k) c (granted (λ f. f.read) s i a g two data_there.reads));
           good = good_set s i.rd v (next_pc s) g;
-          at = after_four s.pc h;
+          at = omega (arith, h);
           keeps = λ r e. kept_set s.regs i.rd v r d e;
         }
     body_step i s (Stores c a) g two h k =
@@ -161,7 +158,7 @@ module _ (m : Memory) (ranges : List (ℕ × ℕ)) where
           end = to;
           walk = walk_one Goes s to g.going (step-store s i g.going (next_is s i g h k) c (granted (λ f. f.write) s i a g two data_there.writes));
           good = subst (λ w. IsGood m ranges (stored (put s.memory (place i s) w (reg s i.rs2)) (next_pc s) s)) (sym a.width) (good_stored s (place i s) (reg s i.rs2) (next_pc s) g (omega (arith, there)) (omega (arith, there, small)));
-          at = after_four s.pc h;
+          at = omega (arith, h);
           keeps = λ r e. refl;
         }
 

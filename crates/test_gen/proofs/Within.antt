@@ -1,9 +1,9 @@
 -- Where the new code of a generated test is within its limit, the output is within the others, and its run ends.
-use Rattle.std.proofs.Common.{◌≡◌, ◌⊎◌, ⊎_elim, ℕ, suc, ◌+◌, ◌-◌, ◌*◌, ◌%◌, ◌<◌, ◌≤◌, max, Bool, true, false, ◌||◌, ◌==◌, List, [], ◌∷◌, ◌++◌, length, map, None, refl, sym, ap, ◌∙◌, subst, arith}
-use Rattle.std.specs.Prelude.{All, AllPairs, nat_lt, nat_le, if◌then◌else◌}
+use Rattle.std.proofs.Common.{◌≡◌, ◌⊎◌, inl, inr, ⊎_elim, ℕ, suc, ◌+◌, ◌-◌, ◌*◌, ◌%◌, ◌<◌, ◌≤◌, Bool, true, false, ◌||◌, ◌==◌, List, [], ◌∷◌, ◌++◌, length, map, None, refl, sym, ap, ◌∙◌, subst, arith}
+use Rattle.std.specs.Prelude.{AllPairs, nat_lt, nat_le}
 use Rattle.std.proofs.lemmas.Bool.{and_parts, or_cases, eqb-true, leb-true, ltb-true, false≢true}
 use Rattle.std.proofs.lemmas.List.{length-map}
-use Rattle.std.proofs.lemmas.List.Elements.{All-cons, All-head, All-tail}
+use Rattle.std.proofs.lemmas.List.Elements.{All-cons}
 use Rattle.elf_types.specs.declared.file.ElfFile.{ElfFile}
 use Rattle.elf_types.specs.declared.file.Segment.{Segment}
 use Rattle.elf_types.specs.declared.file.Symbol.{Symbol}
@@ -39,12 +39,14 @@ use Rattle.qed_model.proofs.BelowLaws.{length-each}
 use Rattle.qed_model.proofs.Fetches.{IsShapely, instruction_code}
 use Rattle.qed_model.proofs.OneTest.{any_reached}
 use Rattle.qed_model.proofs.Fields.{length-bytes_of}
-use Rattle.qed_model.specs.Members.{Every}
+use Rattle.qed_model.specs.Members.{Among, Every}
+use Rattle.qed_model.proofs.Among.{all_among}
+use Rattle.qed_model.proofs.RangeSegments.{file_end_step}
 use Rattle.qed_model.proofs.PlacedWords.{size-decoded}
 use Rattle.qed_model.specs.Elf.Sound.{AreLoads}
 use Rattle.elf_files.proofs.ReadFacts.{one_file}
 use Rattle.qed_model.proofs.Steady.{steady_any}
-use Rattle.qed_model.proofs.Pairs.{every-filter}
+use Rattle.qed_model.proofs.Pairs.{among_every, every-filter, every-map}
 use Rattle.weave_core.proofs.FilesFit.{length-table}
 use Rattle.weave_core.proofs.Visit.{visit_some}
 use Rattle.weave_core.proofs.TestKept as kept
@@ -60,34 +62,15 @@ use Rattle.test_gen.proofs.Shape.{file_of, AreSized}
 use Rattle.test_gen.proofs.Sizes.{length-code_bytes, length-table_bytes, length-data_bytes}
 use Rattle.test_gen.proofs.Writable.{all_symbols, function_name_size}
 
--- ---- lists
-all_every : {A : Type 0} (P : A → Type 0) (xs : List A) → All P xs → Every P xs
-all_every P [] h = tt
-all_every P (x ∷ xs) h = (All-head P x xs h, all_every P xs (All-tail P x xs h))
-
-every_better : {A : Type 0} (P Q : A → Type 0) (xs : List A) → ((x : A) → P x → Q x) → Every P xs → Every Q xs
-every_better P Q [] h e = tt
-every_better P Q (x ∷ xs) h e = (h x e.0, every_better P Q xs h e.1)
-
-both_every : {A : Type 0} (P Q R : A → Type 0) (xs : List A) → ((x : A) → P x → Q x → R x) → Every P xs → Every Q xs → Every R xs
-both_every P Q R [] h p q = tt
-both_every P Q R (x ∷ xs) h p q = (h x p.0 q.0, both_every P Q R xs h p.1 q.1)
-
 -- ---- ranges and rows
-max_below : (a b high : ℕ) → a ≤ high → b ≤ high → max a b ≤ high
-max_below a b high p q = omega (arith, p, q)
-
 file_end_below :
     (start high : ℕ) (ss : List Segment) → start ≤ high → Every (λ (s : Segment). s.address + length s.bytes ≤ high) ss
     → file_end start ss ≤ high
 file_end_below start high [] h e = h
 file_end_below start high (s ∷ ss) h e =
     let rest = file_end_below start high ss h e.1 in
-    let end = s.address + length s.bytes in
-    elim (nat_lt 0 (length s.bytes)) as (λ b. (if b then max end (file_end start ss) else file_end start ss) ≤ high) [
-      | true ↦ max_below end (file_end start ss) high e.0 rest
-      | false ↦ rest
-    ]
+    let here = e.0 in
+    file_end_step start s ss (λ n. n ≤ high) (λ l. omega (arith, here, rest)) (λ l. rest)
 
 last_below :
     (high : ℕ) (rows : List EntryRow) → 0 < high → Every (λ a. a < high) (map (λ (r : EntryRow). r.input) rows)
@@ -96,24 +79,16 @@ last_below high [] some h = some
 last_below high (row ∷ []) some h = h.0
 last_below high (row ∷ next ∷ rows) some h = last_below high (next ∷ rows) some h.1
 
-starts_below :
-    (high : ℕ) (bs : List Block) → Every (λ (b : Block). b.start < high) bs
-    → Every (λ a. a < high) (map (λ (b : Block). b.start) bs)
-starts_below high [] h = tt
-starts_below high (b ∷ bs) h = (h.0, starts_below high bs h.1)
-
 -- blocks between two addresses, each behind the one before, are no more than the addresses
 count_below :
-    (low high : ℕ) (bs : List Block) → low ≤ high → Every (λ (b : Block). (low ≤ b.start) × (b.start < high)) bs
+    (low high : ℕ) (bs : List Block) → low ≤ high → ((b : Block) → Among b bs → (low ≤ b.start) × (b.start < high))
     → AllPairs (λ (b c : Block). b.start < c.start) bs → low + length bs ≤ high
 count_below low high [] room h up = omega (arith, room)
 count_below low high (b ∷ bs) room h up =
-    let later : All (λ (c : Block). b.start < c.start) bs = λ k d l. up 0 (suc k) d (omega arith) (omega (arith, l)) in
-    let rest = count_below (b.start + 1) high bs (omega (arith, h.0.1))
-    (both_every (λ c. (low ≤ c.start) × (c.start < high)) (λ c. b.start < c.start) (λ c. (b.start + 1 ≤ c.start) × (c.start < high)) bs
-    (λ c p q. (omega (arith, q), p.1)) h.1 (all_every (λ c. b.start < c.start) bs later))
-    (λ i j d lt le. up (suc i) (suc j) d (omega (arith, lt)) (omega (arith, le))) in
-    omega (arith, rest, h.0.0)
+    let here = h b (inl refl) in
+    let later = λ (c : Block) (m : Among c bs). all_among (λ (d : Block). b.start < d.start) c bs (λ k d l. up 0 (suc k) d (omega arith) (omega (arith, l))) m in
+    let rest = count_below (b.start + 1) high bs (omega (arith, here.1)) (λ c m. let l = later c m in (omega (arith, l), (h c (inr m)).1)) (λ i j d lt le. up (suc i) (suc j) d (omega (arith, lt)) (omega (arith, le))) in
+    omega (arith, rest, here.0)
 
 -- ---- options
 sound : AreSoundOptions default_options
@@ -228,14 +203,12 @@ module _ (seed n x y z : ℕ) (some : 1 ≤ n) (few : n ≤ 1875) where
     out = woven_file f default_options bs words
 
     -- they begin at code addresses
-    starts_few : Every (λ (b : Block). (0x10000 ≤ b.start) × (b.start < code_end)) bs
-    starts_few =
-        every_better (λ b. IsLeaderBlock f default_options b ⊎ IsOtherBlock f default_options b) (λ b. (0x10000 ≤ b.start) × (b.start < code_end)) bs
-        (λ b g.
+    starts_few : (b : Block) → Among b bs → (0x10000 ≤ b.start) × (b.start < code_end)
+    starts_few b m =
+        let g = all_among (λ b. IsLeaderBlock f default_options b ⊎ IsOtherBlock f default_options b) b bs are.each m in
         let here = ⊎_elim (λ l. l.leader.code) (λ q. (instruction_code f shapely b.start q.instruction q.stands).0) g in
         let place = is_placed b.start here in
-        (place.1, place.2))
-        (all_every (λ b. IsLeaderBlock f default_options b ⊎ IsOtherBlock f default_options b) bs are.each)
+        (place.1, place.2)
 
     inputs_are : map (λ (r : EntryRow). r.input) rows ≡ map (λ (b : Block). b.start) bs
     inputs_are = (kept.are_rows f default_options sound loads allowed bs are).inputs_are
@@ -243,8 +216,7 @@ module _ (seed n x y z : ℕ) (some : 1 ≤ n) (few : n ≤ 1875) where
     below : Every (λ a. a < code_end) (map (λ (r : EntryRow). r.input) rows)
     below =
         subst (Every (λ a. a < code_end)) (sym inputs_are)
-        (starts_below code_end bs
-        (every_better (λ (b : Block). (0x10000 ≤ b.start) × (b.start < code_end)) (λ b. b.start < code_end) bs (λ b p. p.1) starts_few))
+        (every-map (λ a. a < code_end) (λ (b : Block). b.start) bs (among_every (λ b. b.start < code_end) bs (λ b m. (starts_few b m).1)))
 
     small : AreSmall f None rows (bytes_of words)
     small =

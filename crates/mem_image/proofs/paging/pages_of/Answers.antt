@@ -1,7 +1,8 @@
 use Rattle.std.proofs.Common.{◌<◌, ◌≤◌, length, arith}
 use Rattle.std.proofs.lemmas.List.{length-map}
 use Rattle.mem_image.specs.Overlap.{segment_of, segments_of}
-use Rattle.mem_image.proofs.PagingLaws.{names_read, covers_more, covers_apart, covers_shared, covers_all, fits_at}
+use Rattle.mem_image.proofs.PagingLaws.{names_read, covers_more, covers_apart, covers_shared, covers_all}
+use Rattle.mem_image.proofs.WholeLaws.{fits_at}
 use Rattle.mem_image.proofs.paging.pages_of.Goals as goal
 
 pub push_pages-requires-clause-fits : goal.push_pages-requires-clause-fits

@@ -4,7 +4,7 @@ use Rattle.test_admission.specs.declared.rules.CodeRule.TheVariants as rule
 use Rattle.test_admission.specs.Faults.{first_among}
 use Rattle.test_admission.specs.Stretches.{parts_of}
 use Rattle.test_admission.proofs.Faulting.{follow_fit, refused_unknown, refused_high, refused_break, refused_far, passes_code}
-use Rattle.test_admission.proofs.FirstFault.{none_unknown, none_high, none_break, none_far}
+use Rattle.test_admission.proofs.FirstFault.{none_each}
 use Rattle.test_admission.proofs.faults.check_code.Goals as goal
 
 none_is : (x : Option (ℕ × ℕ)) → is_some x ≡ false → x ≡ None
@@ -14,15 +14,14 @@ none_is (Some y) e = absurd (cc)
 pub returns-then-is_none-clause-known : goal.returns-then-is_none-clause-known
 returns-then-is_none-clause-known c =
     let e : is_some (first_among (rule.Any c.args.base) (parts_of c.args.code.now)) ≡ false = ap is_some (sym c.first_among.ensures) ∙ c.is_none.ensures ∙ ap not c.if-is_none.true in
-    none_unknown c.args.base (parts_of c.args.code.now) (none_is _ e)
+    (none_each c.args.base (parts_of c.args.code.now) (none_is _ e)).0
 
 pub returns-then-is_none-clause-order : goal.returns-then-is_none-clause-order
 returns-then-is_none-clause-order c =
     let ps = parts_of c.args.code.now in
     let e : is_some (first_among (rule.Any c.args.base) ps) ≡ false = ap is_some (sym c.first_among.ensures) ∙ c.is_none.ensures ∙ ap not c.if-is_none.true in
-    let none = none_is (first_among (rule.Any c.args.base) ps) e in
-    let base = c.args.base in
-    passes_code c.args.file.now ps c.requires.code c.requires.passed (none_unknown base ps none) (none_high base ps none) (none_break base ps none) base c.requires.base (none_far base ps none)
+    let none = none_each c.args.base ps (none_is _ e) in
+    passes_code c.args.file.now ps c.requires.code c.requires.passed none.0 none.1 none.2 c.args.base c.requires.base none.3
 
 pub first_among-requires : goal.first_among-requires
 first_among-requires c = follow_fit 0 c.args.code.now c.requires.code.follow

@@ -3,10 +3,10 @@ use Rattle.std.specs.Prelude.{is_some}
 use Rattle.std.proofs.lemmas.Bool.{false≢true}
 use Rattle.test_admission.specs.declared.rules.CodeRule.TheVariants as rule
 use Rattle.test_admission.specs.Stretches.{parts_of}
-use Rattle.test_admission.proofs.FirstFault.{found_at_fault}
+use Rattle.test_admission.proofs.FirstFault.{hit_among}
 use Rattle.test_admission.proofs.faults.first_high.Goals as goal
 
 pub unreachable-requires : goal.unreachable-requires
 unreachable-requires c =
-    let hit = found_at_fault rule.Registers (parts_of c.args.code.now) c.in_ok-address.address c.in_ok-address.word (sym c.in_ok-address.ensures) in
+    let hit = hit_among rule.Registers (parts_of c.args.code.now) (c.in_ok-address.address, c.in_ok-address.word) (sym c.in_ok-address.ensures) in
     false≢true (ap is_some c.in-None.ensures ∙ hit)

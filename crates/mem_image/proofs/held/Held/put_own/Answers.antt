@@ -2,7 +2,8 @@ use Rattle.std.proofs.Common.{◌≡◌, ◌-◌, List, ℕ, refl, ap, ◌∙◌
 use Rattle.qed_model.specs.Machine.Program.{LoadSegment}
 use Rattle.mem_image.specs.Segments.{bytes_put}
 use Rattle.mem_image.proofs.WholeLaws.{spans}
-use Rattle.mem_image.proofs.PageLaws.{put-take, put_with, put_in, like_put}
+use Rattle.mem_image.proofs.PageLaws.{put-take, put_with, put_in}
+use Rattle.mem_image.proofs.WholeLaws.{like_put}
 use Rattle.mem_image.proofs.held.Held.put_own.Goals as goal
 
 pub returns-in-Some-clause-put : goal.returns-in-Some-clause-put

@@ -3,7 +3,8 @@ use Rattle.std.proofs.lemmas.List.{length-take-le}
 use Rattle.qed_model.specs.Machine.Program.{LoadSegment}
 use Rattle.mem_image.specs.Segments.{bytes_put}
 use Rattle.mem_image.proofs.WholeLaws.{spans}
-use Rattle.mem_image.proofs.PageLaws.{put-take, put_with, put_in, like_put}
+use Rattle.mem_image.proofs.PageLaws.{put-take, put_with, put_in}
+use Rattle.mem_image.proofs.WholeLaws.{like_put}
 use Rattle.mem_image.proofs.held.Held.put_shared.Goals as goal
 
 pub returns-clause-whole : goal.returns-clause-whole
