@@ -1,16 +1,34 @@
 //! The names of instructions.
-ghost use Rattle.std.specs.Prelude.{◌≡◌, true};
-ghost use Rattle.rv_text.specs.Names.{is_computing, is_product, name_of};
+ghost use Rattle.std.specs.Prelude.{◌≡◌, false};
+ghost use Rattle.rv_isa.specs.Kind.{class_of, has_immediate};
+ghost use Rattle.rv_isa.specs.declared.class.Class.TheVariants as class;
+ghost use Rattle.rv_text.specs.Names.{name_of};
 
 use rv_isa::Kind;
 
-/// The name of a product, a quotient or a remainder.
+/// The name of an instruction that computes on two registers.
 #[tactic(auto, unfolding(crate::specs::Names::name_of))]
-fn product_name(kind: Kind) -> &'static str
-    requires { is_product kind ≡ true }
+fn registers_name(kind: Kind) -> &'static str
+    requires computes { class_of kind ≡ class.Compute }
+    requires registers { has_immediate kind ≡ false }
     ensures { result.now ≡ name_of kind }
 {
     match kind {
+        Kind::Add => "add",
+        Kind::Sub => "sub",
+        Kind::Sll => "sll",
+        Kind::Slt => "slt",
+        Kind::Sltu => "sltu",
+        Kind::Xor => "xor",
+        Kind::Srl => "srl",
+        Kind::Sra => "sra",
+        Kind::Or => "or",
+        Kind::And => "and",
+        Kind::Addw => "addw",
+        Kind::Subw => "subw",
+        Kind::Sllw => "sllw",
+        Kind::Srlw => "srlw",
+        Kind::Sraw => "sraw",
         Kind::Mul => "mul",
         Kind::Mulh => "mulh",
         Kind::Mulhsu => "mulhsu",
@@ -32,10 +50,12 @@ fn product_name(kind: Kind) -> &'static str
 /// The name of an instruction that computes.
 #[tactic(auto, unfolding(crate::specs::Names::name_of))]
 fn computing_name(kind: Kind) -> &'static str
-    requires { is_computing kind ≡ true }
+    requires { class_of kind ≡ class.Compute }
     ensures { result.now ≡ name_of kind }
 {
     match kind {
+        Kind::Lui => "lui",
+        Kind::Auipc => "auipc",
         Kind::Addi => "addi",
         Kind::Slti => "slti",
         Kind::Sltiu => "sltiu",
@@ -45,26 +65,11 @@ fn computing_name(kind: Kind) -> &'static str
         Kind::Slli => "slli",
         Kind::Srli => "srli",
         Kind::Srai => "srai",
-        Kind::Add => "add",
-        Kind::Sub => "sub",
-        Kind::Sll => "sll",
-        Kind::Slt => "slt",
-        Kind::Sltu => "sltu",
-        Kind::Xor => "xor",
-        Kind::Srl => "srl",
-        Kind::Sra => "sra",
-        Kind::Or => "or",
-        Kind::And => "and",
         Kind::Addiw => "addiw",
         Kind::Slliw => "slliw",
         Kind::Srliw => "srliw",
         Kind::Sraiw => "sraiw",
-        Kind::Addw => "addw",
-        Kind::Subw => "subw",
-        Kind::Sllw => "sllw",
-        Kind::Srlw => "srlw",
-        Kind::Sraw => "sraw",
-        _ => product_name(kind),
+        _ => registers_name(kind),
     }
 }
 
@@ -75,8 +80,6 @@ pub fn name_of(kind: Kind) -> &'static str
 {
     match kind {
         Kind::Illegal => "zero",
-        Kind::Lui => "lui",
-        Kind::Auipc => "auipc",
         Kind::Jal => "jal",
         Kind::Jalr => "jalr",
         Kind::Beq => "beq",
