@@ -108,8 +108,7 @@ fn push_symbol(
     let Some(symbol) = nearest(address, symbols) else {
         return Ok(());
     };
-    let offset = address.saturating_sub(symbol.value);
-    let digits = format!(in alloc; "+0x{offset:01x}\n")?;
+    let digits = format!(in alloc; "+0x{:01x}\n", address.saturating_sub(symbol.value))?;
     text.extend_from_slice(b"symbol ")?;
     text.extend_from_slice(symbol.name.as_slice())?;
     text.extend_from_slice(digits.as_bytes())?;
@@ -121,8 +120,7 @@ fn pair_line(alloc: Global, register: Reg) -> Result<String, AllocError>
     ensures { IfOk result (λ text. string_bytes text ≡ pair_text register) }
 {
     let number = register.number();
-    let pair = number + 16;
-    format!(in alloc; "fired: x{number} and x{pair} differ\n")
+    format!(in alloc; "fired: x{number} and x{} differ\n", number + 16)
 }
 
 /// The line about a signature that is not that of an input address.
