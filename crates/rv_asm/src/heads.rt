@@ -47,12 +47,8 @@ fn all_kinds() -> &'static [Kind]
 fn kind_named(word: &[u8]) -> Option<Kind>
     ensures { result ≡ kind_named_of word.now }
 {
-    for &kind in all_kinds() {
-        if name_of(kind).as_bytes() == word {
-            return Some(kind);
-        }
-    }
-    None
+    let mut kinds = all_kinds().iter().copied();
+    kinds.find(|kind| name_of(*kind).as_bytes() == word)
 }
 
 /// What a first word says.

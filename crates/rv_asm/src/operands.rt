@@ -145,11 +145,7 @@ fn upper(text: &[u8]) -> Option<Operands>
 fn none(text: &[u8]) -> Option<Operands>
     ensures { result ≡ none_in_of text.now }
 {
-    if text.is_empty() {
-        Some(taken(zero(), zero(), zero(), 0))
-    } else {
-        None
-    }
+    text.is_empty().then_some(taken(zero(), zero(), zero(), 0))
 }
 
 /// The last operand of a branch or a jump at an address: an immediate, or the distance to a label, in bytes.
