@@ -59,8 +59,7 @@ fn admit_line(alloc: Global, error: &AdmitError) -> Result<String, AllocError>
 pub fn no_word_text(alloc: Global, address: u64) -> Result<Bytes, AllocError>
     ensures { IfOk result (λ text. text ≡ no_word_line address) }
 {
-    let text = addressed(alloc, "refused N1: address ", address)?;
-    Ok(Bytes::of(text.into_bytes()))
+    Ok(Bytes::of(addressed(alloc, "refused N1: address ", address)?.into_bytes()))
 }
 
 /// The line about a test that is not admitted: A1 to A11, L2, L3 or L7. An end of 2^64 has 17 digits. Want of memory has
@@ -70,6 +69,5 @@ pub fn admit_text(alloc: Global, error: &AdmitError) -> Result<Bytes, AllocError
     ensures text { IfOk result (λ text. text ≡ admit_line error.now) }
     ensures memory { OnOk result (error.now ≢ AdmitError.Memory) }
 {
-    let text = admit_line(alloc, error)?;
-    Ok(Bytes::of(text.into_bytes()))
+    Ok(Bytes::of(admit_line(alloc, error)?.into_bytes()))
 }

@@ -38,6 +38,5 @@ pub fn asm_error_text(alloc: Global, error: AsmError) -> Result<Bytes, AllocErro
 pub fn assembly_text(alloc: Global, code: u64, words: u64) -> Result<Bytes, AllocError>
     ensures { IfOk result (λ text. text ≡ assembly_line code words) }
 {
-    let text = format!(in alloc; "code {code} words, data {words} words\n")?;
-    Ok(Bytes::of(text.into_bytes()))
+    Ok(Bytes::of(format!(in alloc; "code {code} words, data {words} words\n")?.into_bytes()))
 }
