@@ -66,12 +66,6 @@ one_parts a r h = let p = and_parts (nat_le r.0 a) (nat_le (a + 4) r.1) h in (le
 one_from : (a : ℕ) (r : ℕ × ℕ) → r.0 ≤ a → a + 4 ≤ r.1 → in_one a r ≡ true
 one_from a r from to = and_from (nat_le r.0 a) (nat_le (a + 4) r.1) (le-leb r.0 a from) (le-leb (a + 4) r.1 to)
 
-up_most : (a : ℕ) → a ≤ up a
-up_most a = omega arith
-
-down_most : (a : ℕ) → down a ≤ a
-down_most a = omega arith
-
 placed : (start end a place : ℕ) → a ≡ start + 4 * place → place < (end - start) / 4 → (start ≤ a) × (a + 4 ≤ end)
 placed start end a place e lt = (omega (arith, e), omega (arith, e, lt))
 
@@ -85,23 +79,14 @@ words_in a done r e m =
     let p = placed start (down r.1) a w.place w.is w.below in
     let is = w.is in
     let z = whole_start r.0 done e in
-    let u = up_most r.0 in
-    let d = down_most r.1 in
+    let u : r.0 ≤ up r.0 = omega arith in
+    let d : down r.1 ≤ r.1 = omega arith in
     let s : up r.0 ≤ start = omega arith in
     let from = p.0 in
     let to = p.1 in
     (divides start w.place is z, one_from a r (omega (arith, from, u, s)) (omega (arith, to, d))) where
       divides : (start place : ℕ) → a ≡ start + 4 * place → start % 4 ≡ 0 → a % 4 ≡ 0
       divides start place is z = omega (arith, is, z)
-
-up_least : (low a : ℕ) → low ≤ a → a % 4 ≡ 0 → up low ≤ a
-up_least low a l e = omega (arith, l, e)
-
-down_least : (high a : ℕ) → a + 4 ≤ high → a % 4 ≡ 0 → a + 4 ≤ down high
-down_least high a l e = omega (arith, l, e)
-
-down_whole : (high a : ℕ) → a < down high → a % 4 ≡ 0 → a + 4 ≤ down high
-down_whole high a l e = omega (arith, l, e)
 
 place_is : (start a : ℕ) → start ≤ a → start % 4 ≡ 0 → a % 4 ≡ 0 → a ≡ start + 4 * ((a - start) / 4)
 place_is start a l e f = omega (arith, l, e, f)
@@ -112,10 +97,10 @@ place_below start end a l k = omega (arith, l, k)
 in_words : (a done : ℕ) (r : ℕ × ℕ) → done % 4 ≡ 0 → a % 4 ≡ 0 → done ≤ a → r.0 ≤ a → a < down r.1 → Among a (words_of done r)
 in_words a done r e f l from to =
     let start = max (up r.0) done in
-    let u = up_least r.0 a from f in
+    let u : up r.0 ≤ a = omega (arith, from, f) in
     let s : start ≤ a = omega (arith, u, l) in
     let z = whole_start r.0 done e in
-    let d = down_whole r.1 a to f in
+    let d : a + 4 ≤ down r.1 = omega (arith, to, f) in
     word_among start ((down r.1 - start) / 4) ((a - start) / 4) a (place_below start (down r.1) a s d) (place_is start a s z f)
 
 -- ---- ranges in the order of their starts
@@ -158,7 +143,7 @@ in_listed a done low (r ∷ rs) s e f l h =
     later : max done (down r.1) ≤ a → in_range a rs ≡ true
     later le =
         ⊎_elim
-        (λ x. let p = one_parts a r x in let d = down_least r.1 a p.1 f in absurd (omega (arith, le, d)))
+        (λ x. let p = one_parts a r x in let to = p.1 in let d : a + 4 ≤ down r.1 = omega (arith, to, f) in absurd (omega (arith, le, d)))
         (λ x. x)
         (or_cases (in_one a r) (in_range a rs) h)
 

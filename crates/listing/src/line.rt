@@ -16,8 +16,7 @@ pub fn push_line(
     ensures { OnOk result (text.new.items ≡ text.old.items ++ line address word) }
 {
     let instruction = text_of(alloc, word)?;
-    let (at, digits) = (Address(address), Word(word));
-    let place = format!(in alloc; " # {at} {digits}\n")?;
+    let place = format!(in alloc; " # {} {}\n", Address(address), Word(word))?;
     text.extend_from_slice(instruction.as_slice())?;
     text.extend_from_slice(place.as_bytes())?;
     Ok(())

@@ -66,13 +66,8 @@ fn push_range(
         return Ok(());
     }
     let segment = home(segments, range);
-    push_words(
-        alloc,
-        text,
-        segment,
-        start as u64,
-        ((end - start) / 4) as u64,
-    )?;
+    let count = (end - start) / 4;
+    push_words(alloc, text, segment, start as u64, count as u64)?;
     Ok(())
 }
 

@@ -33,18 +33,10 @@ fn input_address(role: Role) -> Option<u64>
     ensures { result ≡ input_address_of role }
 {
     match role {
-        Role::Entry(at) => Some(at),
-        Role::Original(at) => Some(at),
-        Role::Mirror(at) => Some(at),
-        Role::Guard(_, at) => Some(at),
-        Role::Compare(_, first, _) => Some(first),
-        Role::Visit(first, _) => Some(first),
-        Role::Leave(at) => Some(at),
-        Role::LeaveGuard(_, at) => Some(at),
-        Role::Tick(at) => Some(at),
-        Role::Sign(at) => Some(at),
-        Role::Start | Role::Sweep | Role::End(_) | Role::Stub => None,
-        Role::Check | Role::CheckCompare(_) | Role::CheckVisit => None,
+        Role::Entry(at) | Role::Original(at) | Role::Mirror(at) | Role::Leave(at) => Some(at),
+        Role::Guard(_, at) | Role::LeaveGuard(_, at) | Role::Tick(at) | Role::Sign(at) => Some(at),
+        Role::Compare(_, first, _) | Role::Visit(first, _) => Some(first),
+        _ => None,
     }
 }
 
@@ -108,8 +100,7 @@ fn push_symbol(
     let Some(symbol) = nearest(address, symbols) else {
         return Ok(());
     };
-    let offset = address.saturating_sub(symbol.value);
-    let digits = format!(in alloc; "+0x{offset:01x}\n")?;
+    let digits = format!(in alloc; "+0x{:01x}\n", address.saturating_sub(symbol.value))?;
     text.extend_from_slice(b"symbol ")?;
     text.extend_from_slice(symbol.name.as_slice())?;
     text.extend_from_slice(digits.as_bytes())?;
@@ -121,8 +112,7 @@ fn pair_line(alloc: Global, register: Reg) -> Result<String, AllocError>
     ensures { IfOk result (λ text. string_bytes text ≡ pair_text register) }
 {
     let number = register.number();
-    let pair = number + 16;
-    format!(in alloc; "fired: x{number} and x{pair} differ\n")
+    format!(in alloc; "fired: x{number} and x{} differ\n", number + 16)
 }
 
 /// The line about a signature that is not that of an input address.
@@ -138,13 +128,9 @@ fn found_line(alloc: Global, role: Role) -> Result<String, AllocError>
     ensures { IfOk result (λ text. string_bytes text ≡ found_text role) }
 {
     match role {
-        Role::Entry(at) => sign_line(alloc, at),
-        Role::Sign(at) => sign_line(alloc, at),
-        Role::Guard(r, _) => pair_line(alloc, r),
-        Role::Compare(r, _, _) => pair_line(alloc, r),
-        Role::LeaveGuard(r, _) => pair_line(alloc, r),
-        Role::End(r) => pair_line(alloc, r),
-        Role::CheckCompare(r) => pair_line(alloc, r),
+        Role::Entry(at) | Role::Sign(at) => sign_line(alloc, at),
+        Role::Guard(r, _) | Role::Compare(r, _, _) | Role::LeaveGuard(r, _) => pair_line(alloc, r),
+        Role::End(r) | Role::CheckCompare(r) => pair_line(alloc, r),
         Role::Check => String::from_str(
             alloc,
             "fired: the check was called from another block than that of the signature\n",
@@ -153,10 +139,7 @@ fn found_line(alloc: Global, role: Role) -> Result<String, AllocError>
             alloc,
             "fired: a data word and its duplicate differ, its address is in x15\n",
         ),
-        Role::Start | Role::Original(_) | Role::Mirror(_) | Role::Leave(_) | Role::Stub => {
-            Ok(String::new(alloc))
-        }
-        Role::Tick(_) => Ok(String::new(alloc)),
+        _ => Ok(String::new(alloc)),
     }
 }
 

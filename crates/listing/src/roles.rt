@@ -1,38 +1,12 @@
 //! The words of new code with what each is for.
 ghost use Rattle.std.specs.Prelude.{◌≡◌, ◌+◌, ◌*◌, ◌^◌, ◌<◌, ◌++◌, Some, IfOk, OnOk, length};
-ghost use Rattle.listing.specs.Roles.{span_text, at_text, role_text as role_text_of, role_line, words_lines, role_lines, rows_bytes};
+ghost use Rattle.listing.specs.Roles.{role_text as role_text_of, role_line, words_lines, role_lines, rows_bytes};
 
 use elf_types::Bytes;
 use qed_model::{Role, RoleRow};
 use rv_text::{Address, text_of};
 use std::alloc::{AllocError, Global};
 use std::fmt;
-
-/// From one address to another, printed as both with `..` between them.
-#[derive(Clone, Copy)]
-struct SpanText(Address, Address);
-
-impl fmt::Display for SpanText {
-    ghost output = { λ s. Some (span_text s.0.0 s.1.0) };
-
-    fn fmt<W: fmt::Write>(&self, f: &mut fmt::Formatter<W>) -> fmt::Result {
-        let (first, last) = (self.0, self.1);
-        write!(f, "{first}..{last}")
-    }
-}
-
-/// The number of a register and an address.
-#[derive(Clone, Copy)]
-struct AtText(u8, Address);
-
-impl fmt::Display for AtText {
-    ghost output = { λ a. Some (at_text a.0 a.1.0) };
-
-    fn fmt<W: fmt::Write>(&self, f: &mut fmt::Formatter<W>) -> fmt::Result {
-        let (number, at) = (self.0, self.1);
-        write!(f, "{number} {at}")
-    }
-}
 
 /// What a word is for.
 #[derive(Clone, Copy)]
@@ -44,58 +18,25 @@ impl fmt::Display for RoleText {
     fn fmt<W: fmt::Write>(&self, f: &mut fmt::Formatter<W>) -> fmt::Result {
         match self.0 {
             Role::Start => write!(f, "start"),
-            Role::Entry(at) => {
-                let at = Address(at);
-                write!(f, "entry {at}")
-            }
-            Role::Original(at) => {
-                let at = Address(at);
-                write!(f, "original {at}")
-            }
-            Role::Mirror(at) => {
-                let at = Address(at);
-                write!(f, "mirror {at}")
-            }
-            Role::Guard(r, at) => {
-                let place = AtText(r.number(), Address(at));
-                write!(f, "guard x{place}")
-            }
+            Role::Entry(at) => write!(f, "entry {}", Address(at)),
+            Role::Original(at) => write!(f, "original {}", Address(at)),
+            Role::Mirror(at) => write!(f, "mirror {}", Address(at)),
+            Role::Guard(r, at) => write!(f, "guard x{} {}", r.number(), Address(at)),
             Role::Compare(r, first, last) => {
-                let (number, span) = (r.number(), SpanText(Address(first), Address(last)));
-                write!(f, "compare x{number} {span}")
+                let (first, last) = (Address(first), Address(last));
+                write!(f, "compare x{} {first}..{last}", r.number())
             }
-            Role::Visit(first, last) => {
-                let span = SpanText(Address(first), Address(last));
-                write!(f, "visit {span}")
-            }
-            Role::Leave(at) => {
-                let at = Address(at);
-                write!(f, "leave {at}")
-            }
-            Role::LeaveGuard(r, at) => {
-                let place = AtText(r.number(), Address(at));
-                write!(f, "leave guard x{place}")
-            }
+            Role::Visit(first, last) => { write!(f, "visit {}..{}", Address(first), Address(last)) }
+            Role::Leave(at) => write!(f, "leave {}", Address(at)),
+            Role::LeaveGuard(r, at) => write!(f, "leave guard x{} {}", r.number(), Address(at)),
             Role::Sweep => write!(f, "sweep"),
-            Role::End(r) => {
-                let number = r.number();
-                write!(f, "compare x{number} end")
-            }
+            Role::End(r) => write!(f, "compare x{} end", r.number()),
             Role::Stub => write!(f, "stub"),
-            Role::Tick(at) => {
-                let at = Address(at);
-                write!(f, "tick {at}")
-            }
+            Role::Tick(at) => write!(f, "tick {}", Address(at)),
             Role::Check => write!(f, "check"),
-            Role::CheckCompare(r) => {
-                let number = r.number();
-                write!(f, "compare x{number} check")
-            }
+            Role::CheckCompare(r) => write!(f, "compare x{} check", r.number()),
             Role::CheckVisit => write!(f, "visit check"),
-            Role::Sign(at) => {
-                let at = Address(at);
-                write!(f, "signature {at}")
-            }
+            Role::Sign(at) => write!(f, "signature {}", Address(at)),
         }
     }
 }
@@ -112,8 +53,7 @@ pub(crate) fn push_role_line(
     ensures { OnOk result (text.new.items ≡ text.old.items ++ role_line role.now address word) }
 {
     let instruction = text_of(alloc, word)?;
-    let (at, role) = (Address(address), RoleText(*role));
-    let place = format!(in alloc; " # {at} {role}\n")?;
+    let place = format!(in alloc; " # {} {}\n", Address(address), RoleText(*role))?;
     text.extend_from_slice(instruction.as_slice())?;
     text.extend_from_slice(place.as_bytes())?;
     Ok(())

@@ -1,5 +1,5 @@
 -- No more files are given than a command takes.
-use Rattle.std.proofs.Common.{◌≡◌, ℕ, ◌+◌, ◌≤◌, nat_le, true, false, List, [], ◌∷◌, ◌++◌, length, refl, sym, ap, ◌∙◌, subst, arith, append_assoc}
+use Rattle.std.proofs.Common.{◌≡◌, ℕ, ◌+◌, ◌≤◌, nat_le, Bool, true, false, List, [], ◌∷◌, ◌++◌, length, refl, sym, ap, ◌∙◌, subst, arith, append_assoc}
 use Rattle.std.proofs.lemmas.Bool.Decides.{nat_tests}
 use Rattle.std.proofs.lemmas.List.{append-nil, length-append}
 use Rattle.std.proofs.lemmas.List.Elements.{filter_map-append}
@@ -16,11 +16,13 @@ more_files : (before : List Argument) (a : Argument) → length (files (before +
 unfolding files
 more_files before a = ap length (filter_map-append name_in before (a ∷ [])) ∙ length-append (filter_map name_in before) (filter_map name_in (a ∷ []))
 
+-- a reason that is not said, in front of another
+pub said_first : (test : Bool) (reason : Reason) (other : Option Reason) → (if test then Some reason else other) ≡ None → (test ≡ false) × (other ≡ None)
+said_first true reason other e = cc
+said_first false reason other e = (refl, e)
+
 no_extra : (most count i : ℕ) → (if nat_le most count then Some (ExtraWord i) else None) ≡ None → count + 1 ≤ most
-no_extra most count i e =
-    elim (nat_le most count)
-    as (λ t. nat_le most count ≡ t → (if t then Some (ExtraWord i) else None) ≡ None → count + 1 ≤ most)
-    [ true ↦ λ _ h. cc | false ↦ λ h _. grind (arith, nat_tests) ] refl e
+no_extra most count i e = let h = (said_first (nat_le most count) (ExtraWord i) None e).0 in grind (arith, nat_tests, h)
 
 one_fits : (command : Command) (before : List Argument) (a : Argument) → wrong command before a ≡ None → length (files before) ≤ (row_of command).most_files → length (files before) + length (filter_map name_in (a ∷ [])) ≤ (row_of command).most_files
 unfolding wrong

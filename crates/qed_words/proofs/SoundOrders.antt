@@ -28,7 +28,7 @@ use Rattle.command_line.specs.Words.{Argument, asked, asked_of, answer, fault, f
 use Rattle.texts.specs.Read.{colon, parted, number}
 use Rattle.ordered_changes.proofs.InOrder.{in_order_ordered}
 use Rattle.qed_words.specs.Sound.{IsSoundOrder}
-use Rattle.qed_words.proofs.FewFiles.{few_files, neither}
+use Rattle.qed_words.proofs.FewFiles.{few_files, neither, said_first}
 
 -- ---- where there is no reason
 
@@ -50,12 +50,14 @@ IsNumbered key = (count : ℕ) (value : List ℕ) → wrong_value count key valu
 abbrev IsInRange : Key → ℕ → Type 0
 IsInRange key n = is_in_range (option_of key).value n ≡ true
 
+-- what else would be said
+said_else : (test : Bool) (reason : Reason) → (if test then None else Some reason) ≡ None → test ≡ true
+said_else true reason e = refl
+said_else false reason e = cc
+
 number_fits : (key : Key) (n : Option ℕ) → wrong_number key n ≡ None → IsSomeAnd n (IsInRange key)
 number_fits key None e = cc
-number_fits key (Some m) e =
-    elim (is_in_range (option_of key).value m)
-    as (λ t. (if t then None else Some (OutOfRange key)) ≡ None → t ≡ true)
-    [ true ↦ λ _. refl | false ↦ λ h. cc ] e
+number_fits key (Some m) e = said_else (is_in_range (option_of key).value m) (OutOfRange key) e
 
 if_there : (key : Key) (n : Option ℕ) → IsSomeAnd n (IsInRange key) → IfSome n (IsInRange key)
 if_there key None fits = tt
@@ -102,10 +104,7 @@ half_fits None fits = tt
 half_fits (Some h) fits = (grind (arith, nat_tests), grind (arith, nat_tests), grind (arith, nat_tests))
 
 leaves_room : (m n : ℕ) → (if nat_lt (n + 1) (2 * m) then Some Split else None) ≡ None → 2 * m ≤ n + 1
-leaves_room m n e =
-    elim (nat_lt (n + 1) (2 * m))
-    as (λ t. nat_lt (n + 1) (2 * m) ≡ t → (if t then Some Split else None) ≡ None → 2 * m ≤ n + 1)
-    [ true ↦ λ _ h. cc | false ↦ λ h _. grind (arith, nat_tests) ] refl e
+leaves_room m n e = let h = (said_first (nat_lt (n + 1) (2 * m)) Split None e).0 in grind (arith, nat_tests, h)
 
 -- what holds of the options where no option says otherwise
 record AreUsual (o : Options) : Type 0 where
@@ -128,12 +127,7 @@ usual_fit given =
 -- only entries that are reached, and more steps from check to check than a block has
 entries_fit : (entries : Entries) (most every : ℕ) → misfit entries most every ≡ None → (entries ≡ entry.Reached) × (most < every)
 entries_fit entry.All most every e = cc
-entries_fit entry.Reached most every e = (
-  refl,
-  elim (nat_le every most)
-      as (λ t. nat_le every most ≡ t → (if t then Some (FewSteps most) else None) ≡ None → most < every)
-      [ true ↦ λ _ h. cc | false ↦ λ h _. grind (arith, nat_tests) ] refl e,
-)
+entries_fit entry.Reached most every e = (refl, let h = (said_first (nat_le every most) (FewSteps most) None e).0 in grind (arith, nat_tests, h))
 
 -- a number of steps that was given, or the usual one
 every_fits : (every : Option ℕ) (usual : ℕ) → IfSome every (IsInRange Every) → usual ≤ 2048 → unwrap_or every usual ≤ 2048
@@ -217,13 +211,9 @@ no_second true b x y e = cc
 no_second false true x y e = cc
 no_second false false x y e = (refl, refl)
 
-no_file_missing : (test : Bool) (other : Option Reason) → (if test then Some MissingFile else other) ≡ None → other ≡ None
-no_file_missing true other e = cc
-no_file_missing false other e = e
-
 both_there : (given : List Argument) (x y : Key) (test : Bool) → (if test then Some MissingFile else option_map MissingOption (find (lacks given) (x ∷ y ∷ []))) ≡ None → (lacks given x ≡ false) × (lacks given y ≡ false)
 both_there given x y test e =
-    no_second (lacks given x) (lacks given y) x y (no_file_missing test (option_map MissingOption (find (lacks given) (x ∷ y ∷ []))) e)
+    no_second (lacks given x) (lacks given y) x y (said_first test MissingFile (option_map MissingOption (find (lacks given) (x ∷ y ∷ []))) e).1
 
 -- ---- orders
 
@@ -243,10 +233,7 @@ faultless command given e =
     record { words = all.0; there = all.1.0; values = no_reason (map (wrong_values given) (row_of command).keys) all.1.1.0; room = all.1.1.1.0; lean = all.1.1.1.1.1.0 }
 
 files_there : (count : ℕ) (other : Option Reason) → (if nat_lt count 1 then Some MissingFile else other) ≡ None → 1 ≤ count
-files_there count other e =
-    elim (nat_lt count 1)
-    as (λ t. nat_lt count 1 ≡ t → (if t then Some MissingFile else other) ≡ None → 1 ≤ count)
-    [ true ↦ λ _ h. cc | false ↦ λ h _. grind (arith, nat_tests) ] refl e
+files_there count other e = let h = (said_first (nat_lt count 1) MissingFile other e).0 in grind (arith, nat_tests, h)
 
 -- ---- turns
 
@@ -263,17 +250,11 @@ below_each count (hart ∷ harts) e =
 
 all_below : (count : ℕ) (harts : List ℕ) → (if list_all (λ hart. nat_lt hart count) harts then None else Some (OutOfRange Turns)) ≡ None → All (λ hart. hart < count) harts
 all_below count harts e =
-    elim (list_all (λ hart. nat_lt hart count) harts)
-    as (λ t. list_all (λ hart. nat_lt hart count) harts ≡ t → (if t then None else Some (OutOfRange Turns)) ≡ None → All (λ hart. hart < count) harts)
-    [ true ↦ λ h _. All-from_recursion (λ hart. hart < count) harts (below_each count harts h) | false ↦ λ _ h. cc ] refl e
+    All-from_recursion (λ hart. hart < count) harts (below_each count harts (said_else (list_all (λ hart. nat_lt hart count) harts) (OutOfRange Turns) e))
 
 turns_in : (count : ℕ) (text : List ℕ) (test : Bool) → ((nat_le 1 (length text) && nat_le (length text) 64) && test) ≡ true → wrong_turns count (Some (map digit_value text)) ≡ None → IsSchedule count (map digit_value text)
 turns_in count text test is e = record {
-  some =
-      let same : length (map digit_value text) ≡ length text = length-map text digit_value in
-      let both : ((nat_le 1 (length text) && nat_le (length text) 64) ≡ true) × (test ≡ true) = and_parts (nat_le 1 (length text) && nat_le (length text) 64) test is in
-      let low : (nat_le 1 (length text) ≡ true) × (nat_le (length text) 64 ≡ true) = and_parts (nat_le 1 (length text)) (nat_le (length text) 64) both.0 in
-      grind (arith, nat_tests, same);
+  some = let same = length-map text digit_value in grind (arith, nat_tests, same, is);
   below = all_below count (map digit_value text) e;
 }
 

@@ -36,13 +36,7 @@ pub fn value_in<'a>(key: Key, argument: Argument<'a>) -> Option<&'a [u8]>
     ensures { option_copied result ≡ value_in_of key (seen argument.entry) }
 {
     match argument {
-        Argument::Given(_, other, value) => {
-            if other.name() == key.name() {
-                Some(value)
-            } else {
-                None
-            }
-        }
+        Argument::Given(_, other, value) => (other.name() == key.name()).then_some(value),
         _ => None,
     }
 }

@@ -15,11 +15,7 @@ fn place(text: &[u8]) -> Option<Place>
         [b'x', register_text @ ..] => register(register_text).map(Place::Reg),
         _ => {
             let address = number(text)?;
-            if address % 8 == 0 {
-                Some(Place::Word(address))
-            } else {
-                None
-            }
+            (address % 8 == 0).then_some(Place::Word(address))
         }
     }
 }

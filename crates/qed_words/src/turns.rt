@@ -67,12 +67,10 @@ fn digits(alloc: Global, text: &[u8]) -> Result<Vec<u8>, AllocError>
 fn turns(alloc: Global, text: &[u8]) -> Result<Option<Bytes>, AllocError>
     ensures { IfOk result (λ harts. harts ≡ turns_of text.now) }
 {
-    if are_turns(text) {
-        let values = digits(alloc, text)?;
-        Ok(Some(Bytes::of(values)))
-    } else {
-        Ok(None)
+    if !are_turns(text) {
+        return Ok(None);
     }
+    Ok(Some(Bytes::of(digits(alloc, text)?)))
 }
 
 /// The harts that arguments ask for.

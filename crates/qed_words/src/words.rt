@@ -133,10 +133,7 @@ fn make_order(
             Ok(Order::Gen(first, seed, size))
         }
         Command::List => Ok(Order::List(first)),
-        Command::Asm => {
-            let second = name(alloc, arguments, 1)?;
-            Ok(Order::Asm(first, second))
-        }
+        Command::Asm => Ok(Order::Asm(first, name(alloc, arguments, 1)?)),
         Command::Harts => {
             let files = names(alloc, arguments)?;
             let turns = turns_given(alloc, arguments)?;

@@ -22,12 +22,8 @@ ran_text outcome steps = outcome_word outcome ++ (codes " after " ++ (decimal st
 abbrev pub drawn_text : ℕ → ℕ → ℕ → List ℕ
 drawn_text seed size words = codes "seed " ++ (decimal seed ++ (codes ", size " ++ (decimal size ++ (codes ", code words " ++ decimal words))))
 
--- the new code in bytes
-abbrev pub code_text : ℕ → List ℕ
-code_text bytes = codes "output code " ++ (decimal bytes ++ codes " bytes")
-
 -- what was drawn, the run of the test, its output and the run of that, and the bounds in steps
 abbrev pub generated_line : ℕ → ℕ → ℕ → Progress → Plan → Progress → List ℕ
 generated_line seed size words input plan output =
-    drawn_text seed size words ++ (codes ", input " ++ (ran_text input.state.outcome input.steps ++ (codes ", " ++ (code_text plan.code_bytes ++ (codes ", output "
+    drawn_text seed size words ++ (codes ", input " ++ (ran_text input.state.outcome input.steps ++ (codes ", output code " ++ (decimal plan.code_bytes ++ (codes " bytes, output "
     ++ (ran_text output.state.outcome output.steps ++ (codes ", " ++ (bounds_text plan.bounds.register plan.bounds.word ++ codes "\n"))))))))

@@ -3,11 +3,11 @@ ghost use Rattle.std.specs.Prelude.{◌≡◌, ◌≢◌, ◌^◌, ◌≤◌, If
 ghost use Rattle.qed_model.specs.Admission.Ends.{HasEnds};
 ghost use Rattle.report.specs.Admission.{admit_line, no_word_line, outside_line};
 
-use crate::hex::{Hex, HexWord};
 use crate::limits::limit_line;
 use crate::lines::{addressed, numbered};
 use elf_types::Bytes;
 use qed_model::{AdmitError, Limit};
+use rv_text::{Address, Word};
 use std::alloc::{AllocError, Global};
 
 /// The line about an image that ends behind its half. An end of 2^64 has 17 digits.
@@ -15,9 +15,9 @@ fn outside_line(alloc: Global, high: u128, end: u64) -> Result<String, AllocErro
     requires { high ≤ 2 ^ 64 }
     ensures { IfOk result (λ text. string_bytes text ≡ outside_line high end) }
 {
-    let end = Hex(end);
+    let end = Address(end);
     if high < 1 << 64 {
-        let high = Hex(high as u64);
+        let high = Address(high as u64);
         format!(in alloc; "refused A11: image end {high}, half end {end}\n")
     } else {
         format!(in alloc; "refused A11: image end 0x10000000000000000, half end {end}\n")
@@ -37,12 +37,11 @@ fn admit_line(alloc: Global, error: &AdmitError) -> Result<String, AllocError>
         AdmitError::NoCode(entry) => addressed(alloc, "refused A4: entry ", *entry),
         AdmitError::CodeShape(i) => numbered(alloc, "refused A5: part ", *i),
         AdmitError::UnknownWord(at, word) => {
-            let (at, word) = (Hex(*at), HexWord(*word));
+            let (at, word) = (Address(*at), Word(*word));
             format!(in alloc; "refused A6: address {at}, word {word}\n")
         }
         AdmitError::RegisterHalf(at, register) => {
-            let at = Hex(*at);
-            let register = register.number();
+            let (at, register) = (Address(*at), register.number());
             format!(in alloc; "refused A7: address {at}, register {register}\n")
         }
         AdmitError::Breakpoint(at) => addressed(alloc, "refused A8: address ", *at),
@@ -60,8 +59,7 @@ fn admit_line(alloc: Global, error: &AdmitError) -> Result<String, AllocError>
 pub fn no_word_text(alloc: Global, address: u64) -> Result<Bytes, AllocError>
     ensures { IfOk result (λ text. text ≡ no_word_line address) }
 {
-    let text = addressed(alloc, "refused N1: address ", address)?;
-    Ok(Bytes::of(text.into_bytes()))
+    Ok(Bytes::of(addressed(alloc, "refused N1: address ", address)?.into_bytes()))
 }
 
 /// The line about a test that is not admitted: A1 to A11, L2, L3 or L7. An end of 2^64 has 17 digits. Want of memory has
@@ -71,6 +69,5 @@ pub fn admit_text(alloc: Global, error: &AdmitError) -> Result<Bytes, AllocError
     ensures text { IfOk result (λ text. text ≡ admit_line error.now) }
     ensures memory { OnOk result (error.now ≢ AdmitError.Memory) }
 {
-    let text = admit_line(alloc, error)?;
-    Ok(Bytes::of(text.into_bytes()))
+    Ok(Bytes::of(admit_line(alloc, error)?.into_bytes()))
 }

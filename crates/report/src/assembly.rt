@@ -10,22 +10,14 @@ use std::alloc::{AllocError, Global};
 fn fault_number(fault: Fault) -> u64
     ensures { result ≡ fault_number fault }
 {
-    match fault {
-        Fault::Unrecognized => 1,
-        Fault::IllegalOperands => 2,
-        Fault::OutOfRange => 3,
-        Fault::UndefinedLabel => 4,
-        Fault::RedefinedLabel => 5,
-        Fault::SectionFull => 6,
-    }
+    fault as u64 + 1
 }
 
 /// The line about a fault on a line of the text.
 fn fault_line(alloc: Global, fault: Fault, line: u64) -> Result<String, AllocError>
     ensures { IfOk result (λ text. string_bytes text ≡ fault_line fault line) }
 {
-    let rule = fault_number(fault);
-    format!(in alloc; "refused S{rule}: line {line}\n")
+    format!(in alloc; "refused S{}: line {line}\n", fault_number(fault))
 }
 
 /// The line about a text that is not assembled: the rule of the first fault, and the number of its line, from 1. Want of
@@ -46,6 +38,5 @@ pub fn asm_error_text(alloc: Global, error: AsmError) -> Result<Bytes, AllocErro
 pub fn assembly_text(alloc: Global, code: u64, words: u64) -> Result<Bytes, AllocError>
     ensures { IfOk result (λ text. text ≡ assembly_line code words) }
 {
-    let text = format!(in alloc; "code {code} words, data {words} words\n")?;
-    Ok(Bytes::of(text.into_bytes()))
+    Ok(Bytes::of(format!(in alloc; "code {code} words, data {words} words\n")?.into_bytes()))
 }

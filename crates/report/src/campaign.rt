@@ -1,13 +1,12 @@
 //! What is printed about strikes.
-ghost use Rattle.std.specs.Prelude.{◌≡◌, ◌++◌, Some, IfOk, codes, string_bytes};
+ghost use Rattle.std.specs.Prelude.{◌≡◌, Some, IfOk, string_bytes};
 ghost use Rattle.std.specs.Option.{option_copied};
-ghost use Rattle.texts.specs.Printed.{hex_text};
 ghost use Rattle.command_line.specs.Text.Campaign.{place_text, change_text, changes_text, verdict_text, right_at as right_at_of, end_text, strike_line, strike_lines, trapped_line, campaign_text};
 
-use crate::hex::Hex;
 use crate::tally::summary_line;
 use elf_types::Bytes;
 use qed_model::{Change, Place, Plan, Struck, Verdict};
+use rv_text::Address;
 use std::alloc::{AllocError, Global};
 use std::fmt;
 
@@ -20,14 +19,8 @@ impl fmt::Display for PlaceText {
 
     fn fmt<W: fmt::Write>(&self, f: &mut fmt::Formatter<W>) -> fmt::Result {
         match self.0 {
-            Place::Reg(register) => {
-                let number = register.number();
-                write!(f, "x{number}")
-            }
-            Place::Word(address) => {
-                let address = Hex(address);
-                write!(f, "{address}")
-            }
+            Place::Reg(register) => write!(f, "x{}", register.number()),
+            Place::Word(address) => write!(f, "{}", Address(address)),
         }
     }
 }
@@ -69,32 +62,12 @@ impl fmt::Display for EndText {
     }
 }
 
-/// What a place holds then, printed as `x5=0x0000000000000001`.
-#[derive(Clone, Copy)]
-struct Set {
-    place: PlaceText,
-    value: Hex,
-}
-
-impl fmt::Display for Set {
-    ghost output = { λ s. Some (place_text s.place.0 ++ (codes "=" ++ hex_text s.value.0)) };
-
-    fn fmt<W: fmt::Write>(&self, f: &mut fmt::Formatter<W>) -> fmt::Result {
-        let Set { place, value } = *self;
-        write!(f, "{place}={value}")
-    }
-}
-
 /// A change, as ` step 40 x5=0x0000000000000001`.
 fn change_text(alloc: Global, change: &Change) -> Result<String, AllocError>
     ensures { IfOk result (λ text. string_bytes text ≡ change_text change.now) }
 {
-    let step = change.step;
-    let set = Set {
-        place: PlaceText(change.place),
-        value: Hex(change.value),
-    };
-    format!(in alloc; " step {step} {set}")
+    let (place, value) = (PlaceText(change.place), Address(change.value));
+    format!(in alloc; " step {} {place}={value}", change.step)
 }
 
 /// The changes of a strike.
@@ -158,8 +131,7 @@ fn strike_lines(
 fn trapped_line(alloc: Global, pc: u64) -> Result<String, AllocError>
     ensures { IfOk result (λ text. string_bytes text ≡ trapped_line pc) }
 {
-    let pc = Hex(pc);
-    format!(in alloc; "input trapped at {pc}\n")
+    format!(in alloc; "input trapped at {}\n", Address(pc))
 }
 
 /// What is printed about strikes of an output: a line for each, and then their verdicts with the bounds of its plan, or

@@ -3,8 +3,8 @@ ghost use Rattle.std.specs.Prelude.{◌≡◌, ◌+◌, ◌^◌, ◌≤◌, Some
 ghost use Rattle.std.specs.FinMap.{get};
 ghost use Rattle.command_line.specs.Text.Run.{byte_text, byte_texts, dump_line, dump_text as text_of};
 
-use crate::hex::Hex;
 use rv_step::Machine;
+use rv_text::Address;
 use std::alloc::{AllocError, Global};
 
 /// How many bytes stand in a line.
@@ -49,7 +49,7 @@ fn dump_line(
     requires { address + count ≤ 2 ^ 64 }
     ensures { IfOk result (λ line. line.items ≡ dump_line machine.now.state.memory address count) }
 {
-    let first = Hex(address);
+    let first = Address(address);
     let mut line = format!(in alloc; "{first}")?.into_bytes();
     let bytes = byte_texts(alloc, machine, address, count)?;
     line.extend_from_slice(&bytes)?;

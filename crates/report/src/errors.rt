@@ -54,8 +54,7 @@ pub fn error_text(alloc: Global, error: ElfError) -> Result<Bytes, AllocError>
     ensures text { IfOk result (λ text. text ≡ error_line error) }
     ensures memory { OnOk result (error ≢ ElfError.Memory) }
 {
-    let text = header_text(alloc, error)?;
-    Ok(Bytes::of(text.into_bytes()))
+    Ok(Bytes::of(header_text(alloc, error)?.into_bytes()))
 }
 
 /// The line about a file that could not be read.

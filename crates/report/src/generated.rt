@@ -1,6 +1,6 @@
 //! What is printed about a generated test.
 ghost use Rattle.std.specs.Prelude.{◌≡◌, Some, IfOk};
-ghost use Rattle.report.specs.Generated.{outcome_word, ran_text, drawn_text, code_text, generated_line};
+ghost use Rattle.report.specs.Generated.{outcome_word, ran_text, drawn_text, generated_line};
 
 use crate::transform::BoundsText;
 use elf_types::Bytes;
@@ -49,9 +49,12 @@ impl fmt::Display for Ran {
     ghost output = { λ r. Some (ran_text r.outcome r.steps) };
 
     fn fmt<W: fmt::Write>(&self, f: &mut fmt::Formatter<W>) -> fmt::Result {
-        let outcome = OutcomeWord(self.outcome);
-        let steps = self.steps;
-        write!(f, "{outcome} after {steps} steps")
+        write!(
+            f,
+            "{} after {} steps",
+            OutcomeWord(self.outcome),
+            self.steps
+        )
     }
 }
 
@@ -74,19 +77,6 @@ impl fmt::Display for Drawn {
     }
 }
 
-/// The new code, printed as `output code C bytes`.
-#[derive(Clone, Copy)]
-struct CodeBytes(u64);
-
-impl fmt::Display for CodeBytes {
-    ghost output = { λ c. Some (code_text c.0) };
-
-    fn fmt<W: fmt::Write>(&self, f: &mut fmt::Formatter<W>) -> fmt::Result {
-        let bytes = self.0;
-        write!(f, "output code {bytes} bytes")
-    }
-}
-
 /// The line about a generated test: what it was drawn from, its own run, its output and the run of that, and the bounds
 /// in steps.
 pub fn generated_text(
@@ -99,12 +89,14 @@ pub fn generated_text(
     ensures { IfOk result (λ text. text ≡ generated_line drawn.seed drawn.size drawn.words input.now plan.now output.now) }
 {
     let input = Ran::of(input);
-    let code = CodeBytes(plan.code_bytes);
+    let bytes = plan.code_bytes;
     let output = Ran::of(output);
     let bounds = BoundsText {
         register: plan.bounds.register,
         word: plan.bounds.word,
     };
-    let text = format!(in alloc; "{drawn}, input {input}, {code}, output {output}, {bounds}\n")?;
+    let text = format!(in alloc;
+        "{drawn}, input {input}, output code {bytes} bytes, output {output}, {bounds}\n"
+    )?;
     Ok(Bytes::of(text.into_bytes()))
 }

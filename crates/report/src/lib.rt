@@ -8,7 +8,6 @@ mod dump;
 mod errors;
 mod generated;
 mod help;
-mod hex;
 mod limits;
 mod lines;
 mod plan;

@@ -24,6 +24,5 @@ pub fn limit_line(alloc: Global, limit: Limit, count: u128) -> Result<String, Al
 pub fn limit_text(alloc: Global, limit: Limit, count: u128) -> Result<Bytes, AllocError>
     ensures { IfOk result (λ text. text ≡ limit_line_of limit count) }
 {
-    let text = limit_line(alloc, limit, count)?;
-    Ok(Bytes::of(text.into_bytes()))
+    Ok(Bytes::of(limit_line(alloc, limit, count)?.into_bytes()))
 }

@@ -4,8 +4,8 @@ ghost use Rattle.command_line.specs.Text.Errors.{numbered as numbered_of};
 ghost use Rattle.command_line.specs.Text.Usage.{keyed as keyed_of};
 ghost use Rattle.report.specs.Admission.{addressed as addressed_of};
 
-use crate::hex::Hex;
 use command_line::Key;
+use rv_text::Address;
 use std::alloc::{AllocError, Global};
 
 /// A line with a number at its end.
@@ -19,14 +19,12 @@ pub fn numbered(alloc: Global, front: &str, number: u64) -> Result<String, Alloc
 pub fn addressed(alloc: Global, front: &str, address: u64) -> Result<String, AllocError>
     ensures { IfOk result (λ text. string_bytes text ≡ addressed_of front.now address) }
 {
-    let address = Hex(address);
-    format!(in alloc; "{front}{address}\n")
+    format!(in alloc; "{front}{}\n", Address(address))
 }
 
 /// A line with the name of an option at its end, without its dashes.
 pub fn keyed(alloc: Global, front: &str, key: Key) -> Result<String, AllocError>
     ensures { IfOk result (λ text. string_bytes text ≡ keyed_of front.now key) }
 {
-    let name = key.name();
-    format!(in alloc; "{front}{name}\n")
+    format!(in alloc; "{front}{}\n", key.name())
 }

@@ -5,11 +5,11 @@ ghost use Rattle.command_line.specs.Text.Run.{cause_text, outcome_text, outcome_
 ghost use Rattle.rv_step.specs.Harts.{with_memory};
 
 use crate::dump::dump_text;
-use crate::hex::{Hex, HexWord};
 use elf_types::Bytes;
 use qed_model::{Cause, Outcome};
 use rv_isa::Reg;
 use rv_step::{Hart, Machine};
+use rv_text::{Address, Word};
 use std::alloc::{AllocError, Global};
 use std::fmt;
 
@@ -23,22 +23,10 @@ impl fmt::Display for CauseText {
     fn fmt<W: fmt::Write>(&self, f: &mut fmt::Formatter<W>) -> fmt::Result {
         match self.0 {
             Cause::Fetch => write!(f, "fetch"),
-            Cause::Word(word) => {
-                let word = HexWord(word);
-                write!(f, "word {word}")
-            }
-            Cause::Load(address) => {
-                let address = Hex(address);
-                write!(f, "load {address}")
-            }
-            Cause::Store(address) => {
-                let address = Hex(address);
-                write!(f, "store {address}")
-            }
-            Cause::Target(address) => {
-                let address = Hex(address);
-                write!(f, "target {address}")
-            }
+            Cause::Word(word) => write!(f, "word {}", Word(word)),
+            Cause::Load(address) => write!(f, "load {}", Address(address)),
+            Cause::Store(address) => write!(f, "store {}", Address(address)),
+            Cause::Target(address) => write!(f, "target {}", Address(address)),
         }
     }
 }
@@ -55,10 +43,7 @@ impl fmt::Display for OutcomeText {
             Outcome::Going => write!(f, "going"),
             Outcome::Ended => write!(f, "ended"),
             Outcome::Fired => write!(f, "fired"),
-            Outcome::Trapped(cause, _) => {
-                let cause = CauseText(cause);
-                write!(f, "trapped {cause}")
-            }
+            Outcome::Trapped(cause, _) => write!(f, "trapped {}", CauseText(cause)),
         }
     }
 }
@@ -69,7 +54,7 @@ fn outcome_text(alloc: Global, hart: &Hart) -> Result<String, AllocError>
 {
     let outcome = OutcomeText(hart.outcome());
     let steps = hart.steps();
-    let pc = Hex(hart.pc());
+    let pc = Address(hart.pc());
     format!(in alloc; "{outcome} after {steps} steps at {pc}\n")
 }
 
@@ -79,8 +64,7 @@ fn register_text(alloc: Global, hart: &Hart, number: u8) -> Result<String, Alloc
     ensures { IfOk result (λ text. (m : Memory) → string_bytes text ≡ register_line (with_memory hart.now m).state number) }
 {
     let register = Reg::new(number).unwrap();
-    let value = Hex(hart.reg(register));
-    format!(in alloc; "x{number} {value}\n")
+    format!(in alloc; "x{number} {}\n", Address(hart.reg(register)))
 }
 
 /// The registers x1 to x31, a line each.
@@ -118,8 +102,7 @@ pub fn run_lines(alloc: Global, hart: &Hart) -> Result<Vec<u8>, AllocError>
 fn astray_text(alloc: Global, at: u64, to: u64) -> Result<String, AllocError>
     ensures { IfOk result (λ text. string_bytes text ≡ jumps_line (Some (at, to))) }
 {
-    let (at, to) = (Hex(at), Hex(to));
-    format!(in alloc; "jump at {at} to {to} not reached\n")
+    format!(in alloc; "jump at {} to {} not reached\n", Address(at), Address(to))
 }
 
 /// The line that tells of the first jump by register that led to an address that is not reached, by its own address and

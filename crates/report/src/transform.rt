@@ -69,6 +69,5 @@ pub fn transform_text(alloc: Global, plan: &Plan) -> Result<Bytes, AllocError>
         register: plan.bounds.register,
         word: plan.bounds.word,
     };
-    let text = format!(in alloc; "{sizes}, {bounds}\n")?;
-    Ok(Bytes::of(text.into_bytes()))
+    Ok(Bytes::of(format!(in alloc; "{sizes}, {bounds}\n")?.into_bytes()))
 }

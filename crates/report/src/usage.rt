@@ -34,6 +34,5 @@ fn reason_line(alloc: Global, reason: Reason) -> Result<String, AllocError>
 pub fn usage_text(alloc: Global, reason: Reason) -> Result<Bytes, AllocError>
     ensures { IfOk result (λ text. text ≡ reason_line reason) }
 {
-    let text = reason_line(alloc, reason)?;
-    Ok(Bytes::of(text.into_bytes()))
+    Ok(Bytes::of(reason_line(alloc, reason)?.into_bytes()))
 }

@@ -11,8 +11,7 @@ use std::alloc::{AllocError, Global};
 pub fn shared_text(alloc: Global, first: u64, second: u64) -> Result<Bytes, AllocError>
     ensures { IfOk result (λ text. text ≡ shared_line first second) }
 {
-    let text = format!(in alloc; "refused H1: files {first} and {second}\n")?;
-    Ok(Bytes::of(text.into_bytes()))
+    Ok(Bytes::of(format!(in alloc; "refused H1: files {first} and {second}\n")?.into_bytes()))
 }
 
 /// The line before those about a hart.

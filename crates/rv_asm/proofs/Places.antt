@@ -3,7 +3,7 @@ use Rattle.std.proofs.Common.{◌≡◌, ℕ, ◌+◌, ◌≤◌, true, false, c
 use Rattle.std.specs.List.{count_by}
 use Rattle.std.proofs.lemmas.List.Sums.{sum_by_push, count_by-le-length}
 use Rattle.rv_asm.specs.declared.heads.Head.{Head}
-use Rattle.rv_asm.specs.declared.heads.Head.TheVariants.{Blank, Instruction, Word, DataStart, DataWord, Label, Unknown}
+use Rattle.rv_asm.specs.declared.heads.Head.TheVariants.{DataStart}
 use Rattle.rv_asm.specs.Assembled.{head_in, is_data_start, is_code, is_data, has_data_start, code_count, data_count, place_behind}
 use Rattle.rv_asm.specs.Steps.{one_if, code_step, data_step, next_place}
 
@@ -14,13 +14,8 @@ start_push (x ∷ ls) l =
     [ true ↦ refl | false ↦ start_push ls l ]
 
 first_code : (h : Head) → cond (is_data_start h) 0 (one_if (is_code h) + 0) ≡ 0 + code_step false h
-first_code Blank = refl
-first_code (Instruction kind) = refl
-first_code Word = refl
 first_code DataStart = refl
-first_code DataWord = refl
-first_code Label = refl
-first_code Unknown = refl
+first_code h = refl
 
 code_push : (ls : List (List ℕ)) (l : List ℕ) → code_count (ls ++ l ∷ []) ≡ code_count ls + code_step (has_data_start ls) (head_in l)
 code_push [] l = first_code (head_in l)

@@ -1,11 +1,10 @@
 -- What is known of a line that gives something.
-use Rattle.std.proofs.Common.{◌≡◌, ℕ, zero, suc, ◌+◌, ◌-◌, ◌*◌, ◌<◌, ◌≤◌, Bool, true, false, cond, ◌&&◌, ◌==◌, ltb, Option, Some, None, Result, Ok, Err, is_some, unwrap_or, List, [], ◌∷◌, length, take, drop, refl, sym, ap, ◌∙◌, subst, arith, length-append}
+use Rattle.std.proofs.Common.{◌≡◌, ℕ, zero, suc, ◌+◌, ◌-◌, ◌*◌, ◌<◌, ◌≤◌, Bool, true, false, cond, ◌&&◌, ◌==◌, ltb, Option, Some, None, Result, Ok, Err, is_some, unwrap_or, List, [], ◌∷◌, length, take, drop, refl, sym, ap, ◌∙◌, subst, arith, length-append, length-drop}
 use Rattle.std.specs.Prelude.{All}
 use Rattle.std.specs.List.{position_from, prefix_len, suffix_len}
 use Rattle.std.specs.Option.{option_map}
 use Rattle.std.proofs.lemmas.Bool.{and_parts, ltb-true, false≢true}
 use Rattle.std.proofs.lemmas.List.{take_more, length-take}
-use Rattle.std.proofs.Common.{length-drop}
 use Rattle.std.proofs.lemmas.List.Elements.{All-nil, All-cons, All-append}
 use Rattle.elf_types.specs.declared.file.Symbol.{Symbol}
 use Rattle.rv_isa.specs.declared.kind.Kind.{Kind}
@@ -236,11 +235,8 @@ name_some [] e = absurd (false≢true e)
 name_some (c ∷ cs) e = omega arith
 
 cheap_line : (w : List ℕ) (address l : ℕ) (r : Result Given Fault) → (r ≡ Ok given.Label → 25 + length (unwrap_or (label_in w) []) ≤ 9 * (l + 1)) → cost (symbol_in w address r) ≤ 9 * (l + 1)
-cheap_line w address l (Err f) h = omega arith
-cheap_line w address l (Ok given.Nothing) h = omega arith
-cheap_line w address l (Ok (given.Code x)) h = omega arith
-cheap_line w address l (Ok (given.Data x)) h = omega arith
 cheap_line w address l (Ok given.Label) h = let k = h refl in omega arith
+cheap_line w address l r h = omega arith
 
 pub are_cheap : (lines : List (List ℕ)) → IsCheap lines
 are_cheap lines = record {
@@ -260,11 +256,8 @@ pub record IsLabelSymbol (s : Symbol) : Type 0 where
   pub name : is_name s.name ≡ true
 
 label_symbols : (w : List ℕ) (address : ℕ) (r : Result Given Fault) → (r ≡ Ok given.Label → is_name (unwrap_or (label_in w) []) ≡ true) → All IsLabelSymbol (symbol_in w address r)
-label_symbols w address (Err f) h = All-nil IsLabelSymbol
-label_symbols w address (Ok given.Nothing) h = All-nil IsLabelSymbol
-label_symbols w address (Ok (given.Code x)) h = All-nil IsLabelSymbol
-label_symbols w address (Ok (given.Data x)) h = All-nil IsLabelSymbol
 label_symbols w address (Ok given.Label) h = All-cons IsLabelSymbol _ [] (record { kind = refl; binding = refl; index = refl; name = h refl }) (All-nil IsLabelSymbol)
+label_symbols w address r h = All-nil IsLabelSymbol
 
 pub symbols_sound : (lines : List (List ℕ)) (n : ℕ) → All IsLabelSymbol (gather n (symbol_at lines))
 unfolding gather

@@ -5,6 +5,7 @@ ghost use Rattle.rv_asm.specs.Heads.{kind_named as kind_named_of, head_of};
 
 use crate::lines::label_in;
 use rv_isa::Kind;
+use rv_isa::Kind::*;
 use rv_text::name_of;
 
 /// What the first word of a line says.
@@ -28,72 +29,10 @@ pub enum Head {
 
 /// All kinds.
 const KINDS: [Kind; 66] = [
-    Kind::Illegal,
-    Kind::Ecall,
-    Kind::Ebreak,
-    Kind::Lui,
-    Kind::Auipc,
-    Kind::Jal,
-    Kind::Jalr,
-    Kind::Fence,
-    Kind::Beq,
-    Kind::Bne,
-    Kind::Blt,
-    Kind::Bge,
-    Kind::Bltu,
-    Kind::Bgeu,
-    Kind::Lb,
-    Kind::Lh,
-    Kind::Lw,
-    Kind::Ld,
-    Kind::Lbu,
-    Kind::Lhu,
-    Kind::Lwu,
-    Kind::Sb,
-    Kind::Sh,
-    Kind::Sw,
-    Kind::Sd,
-    Kind::Addi,
-    Kind::Slti,
-    Kind::Sltiu,
-    Kind::Xori,
-    Kind::Ori,
-    Kind::Andi,
-    Kind::Addiw,
-    Kind::Slli,
-    Kind::Srli,
-    Kind::Srai,
-    Kind::Slliw,
-    Kind::Srliw,
-    Kind::Sraiw,
-    Kind::Add,
-    Kind::Sub,
-    Kind::Sll,
-    Kind::Slt,
-    Kind::Sltu,
-    Kind::Xor,
-    Kind::Srl,
-    Kind::Sra,
-    Kind::Or,
-    Kind::And,
-    Kind::Addw,
-    Kind::Subw,
-    Kind::Sllw,
-    Kind::Srlw,
-    Kind::Sraw,
-    Kind::Mul,
-    Kind::Mulh,
-    Kind::Mulhsu,
-    Kind::Mulhu,
-    Kind::Div,
-    Kind::Divu,
-    Kind::Rem,
-    Kind::Remu,
-    Kind::Mulw,
-    Kind::Divw,
-    Kind::Divuw,
-    Kind::Remw,
-    Kind::Remuw,
+    Illegal, Ecall, Ebreak, Lui, Auipc, Jal, Jalr, Fence, Beq, Bne, Blt, Bge, Bltu, Bgeu, Lb, Lh,
+    Lw, Ld, Lbu, Lhu, Lwu, Sb, Sh, Sw, Sd, Addi, Slti, Sltiu, Xori, Ori, Andi, Addiw, Slli, Srli,
+    Srai, Slliw, Srliw, Sraiw, Add, Sub, Sll, Slt, Sltu, Xor, Srl, Sra, Or, And, Addw, Subw, Sllw,
+    Srlw, Sraw, Mul, Mulh, Mulhsu, Mulhu, Div, Divu, Rem, Remu, Mulw, Divw, Divuw, Remw, Remuw,
 ];
 
 /// The same as a slice.
@@ -108,12 +47,8 @@ fn all_kinds() -> &'static [Kind]
 fn kind_named(word: &[u8]) -> Option<Kind>
     ensures { result ≡ kind_named_of word.now }
 {
-    for &kind in all_kinds() {
-        if name_of(kind).as_bytes() == word {
-            return Some(kind);
-        }
-    }
-    None
+    let mut kinds = all_kinds().iter().copied();
+    kinds.find(|kind| name_of(*kind).as_bytes() == word)
 }
 
 /// What a first word says.

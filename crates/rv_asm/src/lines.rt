@@ -115,12 +115,7 @@ fn continues_name(byte: u8) -> bool
 fn are_name_bytes(text: &[u8]) -> bool
     ensures { result ≡ list_all continues_name_of text.now }
 {
-    for &byte in text {
-        if !continues_name(byte) {
-            return false;
-        }
-    }
-    true
+    text.iter().all(|&byte| continues_name(byte))
 }
 
 /// Whether a text is the name of a label: a letter or `_`, then letters, digits or `_`.
@@ -140,11 +135,7 @@ pub fn label_in(word: &[u8]) -> Option<&[u8]>
     ensures { MatchOption result (label_in_of word.now ≡ None) (λ name. label_in_of word.now ≡ Some name.now) }
 {
     let (name, rest) = split_once(word, b':')?;
-    if is_name(name) && rest.is_empty() {
-        Some(name)
-    } else {
-        None
-    }
+    (is_name(name) && rest.is_empty()).then_some(name)
 }
 
 /// The same; of no label where the first word is none.
@@ -183,9 +174,5 @@ pub fn bracketed_in(text: &[u8]) -> Option<(&[u8], &[u8])>
 {
     let (front, rest) = split_once(text, b'(')?;
     let (inner, behind) = split_once(rest, b')')?;
-    if behind.is_empty() {
-        Some((trim(front), trim(inner)))
-    } else {
-        None
-    }
+    behind.is_empty().then_some((trim(front), trim(inner)))
 }

@@ -78,28 +78,35 @@ pub fn raw_word_in(text: &[u8]) -> Option<u32>
     }
 }
 
+/// These operands.
+fn taken(d: Reg, a: Reg, b: Reg, imm: i128) -> Operands
+    ensures { result ≡ record { rd = d; rs1 = a; rs2 = b; imm = imm } }
+{
+    Operands {
+        rd: d,
+        rs1: a,
+        rs2: b,
+        imm,
+    }
+}
+
 fn registers(text: &[u8]) -> Option<Operands>
     ensures { result ≡ registers_from (triple_in_of text.now) }
 {
     let (rd, rs1, rs2) = triple_in(text)?;
-    Some(Operands {
-        rd: register_in(rd)?,
-        rs1: register_in(rs1)?,
-        rs2: register_in(rs2)?,
-        imm: 0,
-    })
+    Some(taken(register_in(rd)?, register_in(rs1)?, register_in(rs2)?, 0))
 }
 
 fn immediate(text: &[u8]) -> Option<Operands>
     ensures { result ≡ immediate_from (triple_in_of text.now) }
 {
     let (rd, rs1, imm) = triple_in(text)?;
-    Some(Operands {
-        rd: register_in(rd)?,
-        rs1: register_in(rs1)?,
-        rs2: zero(),
-        imm: immediate_in(imm)?,
-    })
+    Some(taken(
+        register_in(rd)?,
+        register_in(rs1)?,
+        zero(),
+        immediate_in(imm)?,
+    ))
 }
 
 fn load(text: &[u8]) -> Option<Operands>
@@ -107,12 +114,12 @@ fn load(text: &[u8]) -> Option<Operands>
 {
     let (rd, place) = pair_in(text)?;
     let (offset, base) = bracketed_in(place)?;
-    Some(Operands {
-        rd: register_in(rd)?,
-        rs1: register_in(base)?,
-        rs2: zero(),
-        imm: immediate_in(offset)?,
-    })
+    Some(taken(
+        register_in(rd)?,
+        register_in(base)?,
+        zero(),
+        immediate_in(offset)?,
+    ))
 }
 
 fn store(text: &[u8]) -> Option<Operands>
@@ -120,39 +127,25 @@ fn store(text: &[u8]) -> Option<Operands>
 {
     let (rs2, place) = pair_in(text)?;
     let (offset, base) = bracketed_in(place)?;
-    Some(Operands {
-        rd: zero(),
-        rs1: register_in(base)?,
-        rs2: register_in(rs2)?,
-        imm: immediate_in(offset)?,
-    })
+    Some(taken(
+        zero(),
+        register_in(base)?,
+        register_in(rs2)?,
+        immediate_in(offset)?,
+    ))
 }
 
 fn upper(text: &[u8]) -> Option<Operands>
     ensures { result ≡ upper_from (pair_in_of text.now) }
 {
     let (rd, imm) = pair_in(text)?;
-    Some(Operands {
-        rd: register_in(rd)?,
-        rs1: zero(),
-        rs2: zero(),
-        imm: immediate_in(imm)?,
-    })
+    Some(taken(register_in(rd)?, zero(), zero(), immediate_in(imm)?))
 }
 
 fn none(text: &[u8]) -> Option<Operands>
     ensures { result ≡ none_in_of text.now }
 {
-    if text.is_empty() {
-        Some(Operands {
-            rd: zero(),
-            rs1: zero(),
-            rs2: zero(),
-            imm: 0,
-        })
-    } else {
-        None
-    }
+    text.is_empty().then_some(taken(zero(), zero(), zero(), 0))
 }
 
 /// The last operand of a branch or a jump at an address: an immediate, or the distance to a label, in bytes.
@@ -177,12 +170,7 @@ fn branch(labels: &Labels, at: u64, text: &[u8]) -> Result<Operands, Fault>
     let rs1 = register_in(rs1).ok_or(Fault::IllegalOperands)?;
     let rs2 = register_in(rs2).ok_or(Fault::IllegalOperands)?;
     let imm = target_in(labels, at, target)?;
-    Ok(Operands {
-        rd: zero(),
-        rs1,
-        rs2,
-        imm,
-    })
+    Ok(taken(zero(), rs1, rs2, imm))
 }
 
 fn jump(labels: &Labels, at: u64, text: &[u8]) -> Result<Operands, Fault>
@@ -191,12 +179,7 @@ fn jump(labels: &Labels, at: u64, text: &[u8]) -> Result<Operands, Fault>
     let (rd, target) = pair_in(text).ok_or(Fault::IllegalOperands)?;
     let rd = register_in(rd).ok_or(Fault::IllegalOperands)?;
     let imm = target_in(labels, at, target)?;
-    Ok(Operands {
-        rd,
-        rs1: zero(),
-        rs2: zero(),
-        imm,
-    })
+    Ok(taken(rd, zero(), zero(), imm))
 }
 
 /// The operands of an instruction at an address.

@@ -65,13 +65,8 @@ impl Program {
     pub fn into_file(self, alloc: Global) -> Result<OutFile, AllocError>
         ensures { IfOk result (λ file. file ≡ file_with_of self.code.items self.values.items self.symbols.items) }
     {
-        let Program {
-            code,
-            values,
-            symbols,
-        } = self;
-        let file = file_with(alloc, &code, &values, symbols)?;
-        Ok(file)
+        let symbols = self.symbols;
+        Ok(file_with(alloc, &self.code, &self.values, symbols)?)
     }
 }
 

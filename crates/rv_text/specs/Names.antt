@@ -1,5 +1,5 @@
 -- The names of instructions (RISC-V unprivileged manual, instruction listings): those of the rows in lower case, and `zero` for the zero word.
-use Rattle.std.specs.Prelude.{ℕ, Bool, true, false, List, codes}
+use Rattle.std.specs.Prelude.{ℕ, List, codes}
 use Rattle.rv_isa.specs.declared.kind.Kind.{Kind}
 use Rattle.rv_isa.specs.declared.kind.Kind.TheVariants.{Illegal, Lui, Auipc, Jal, Jalr, Beq, Bne, Blt, Bge, Bltu, Bgeu, Lb, Lh, Lw, Ld, Lbu, Lhu, Lwu, Sb, Sh, Sw, Sd, Addi, Slti, Sltiu, Xori, Ori, Andi, Slli, Srli, Srai, Add, Sub, Sll, Slt, Sltu, Xor, Srl, Sra, Or, And, Fence, Ecall, Ebreak, Addiw, Slliw, Srliw, Sraiw, Addw, Subw, Sllw, Srlw, Sraw, Mul, Mulh, Mulhsu, Mulhu, Div, Divu, Rem, Remu, Mulw, Divw, Divuw, Remw, Remuw}
 
@@ -70,52 +70,3 @@ name_of Divw = codes "divw"
 name_of Divuw = codes "divuw"
 name_of Remw = codes "remw"
 name_of Remuw = codes "remuw"
-
--- products, quotients and remainders
-abbrev pub is_product : Kind → Bool
-is_product Mul = true
-is_product Mulh = true
-is_product Mulhsu = true
-is_product Mulhu = true
-is_product Div = true
-is_product Divu = true
-is_product Rem = true
-is_product Remu = true
-is_product Mulw = true
-is_product Divw = true
-is_product Divuw = true
-is_product Remw = true
-is_product Remuw = true
-is_product _ = false
-
--- what else computes on registers and immediates, and these
-abbrev pub is_computing : Kind → Bool
-is_computing Addi = true
-is_computing Slti = true
-is_computing Sltiu = true
-is_computing Xori = true
-is_computing Ori = true
-is_computing Andi = true
-is_computing Slli = true
-is_computing Srli = true
-is_computing Srai = true
-is_computing Add = true
-is_computing Sub = true
-is_computing Sll = true
-is_computing Slt = true
-is_computing Sltu = true
-is_computing Xor = true
-is_computing Srl = true
-is_computing Sra = true
-is_computing Or = true
-is_computing And = true
-is_computing Addiw = true
-is_computing Slliw = true
-is_computing Srliw = true
-is_computing Sraiw = true
-is_computing Addw = true
-is_computing Subw = true
-is_computing Sllw = true
-is_computing Srlw = true
-is_computing Sraw = true
-is_computing k = is_product k

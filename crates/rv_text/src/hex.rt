@@ -13,8 +13,7 @@ impl fmt::Display for Address {
     ghost output = { λ a. Some (hex_text a.0) };
 
     fn fmt<W: fmt::Write>(&self, f: &mut fmt::Formatter<W>) -> fmt::Result {
-        let address = self.0;
-        write!(f, "0x{address:016x}")
+        write!(f, "0x{:016x}", self.0)
     }
 }
 
@@ -26,8 +25,7 @@ impl fmt::Display for Word {
     ghost output = { λ w. Some (word_text w.0) };
 
     fn fmt<W: fmt::Write>(&self, f: &mut fmt::Formatter<W>) -> fmt::Result {
-        let word = self.0;
-        write!(f, "0x{word:08x}")
+        write!(f, "0x{:08x}", self.0)
     }
 }
 
@@ -39,7 +37,6 @@ impl fmt::Display for Upper {
     ghost output = { λ u. Some (upper_text u.0) };
 
     fn fmt<W: fmt::Write>(&self, f: &mut fmt::Formatter<W>) -> fmt::Result {
-        let upper = self.0;
-        write!(f, "0x{upper:05x}")
+        write!(f, "0x{:05x}", self.0)
     }
 }

@@ -1,6 +1,6 @@
 //! The text of a word.
 ghost use Rattle.std.specs.Prelude.{◌≡◌, Some, IfOk};
-ghost use Rattle.rv_text.specs.Text.{register_text, place_text, operands_text, text_of};
+ghost use Rattle.rv_text.specs.Text.{register_text, operands_text, text_of};
 
 use crate::forms::{Form, form_of};
 use crate::hex::{Upper, Word};
@@ -19,26 +19,7 @@ impl fmt::Display for Register {
     ghost output = { λ r. Some (register_text r.0) };
 
     fn fmt<W: fmt::Write>(&self, f: &mut fmt::Formatter<W>) -> fmt::Result {
-        let number = self.0.number();
-        write!(f, "x{number}")
-    }
-}
-
-/// An address, printed as `-8(x5)`.
-#[derive(Clone, Copy)]
-struct Place {
-    /// In bytes.
-    offset: i64,
-    base: Reg,
-}
-
-impl fmt::Display for Place {
-    ghost output = { λ p. Some (place_text p.offset p.base) };
-
-    fn fmt<W: fmt::Write>(&self, f: &mut fmt::Formatter<W>) -> fmt::Result {
-        let offset = self.offset;
-        let base = Register(self.base);
-        write!(f, "{offset}({base})")
+        write!(f, "x{}", self.0.number())
     }
 }
 
@@ -62,25 +43,10 @@ impl fmt::Display for Operands {
         match form_of(ins.kind) {
             Form::Registers => write!(f, " {rd}, {rs1}, {rs2}"),
             Form::Immediate => write!(f, " {rd}, {rs1}, {imm}"),
-            Form::Load => {
-                let place = Place {
-                    offset: imm,
-                    base: ins.rs1,
-                };
-                write!(f, " {rd}, {place}")
-            }
-            Form::Store => {
-                let place = Place {
-                    offset: imm,
-                    base: ins.rs1,
-                };
-                write!(f, " {rs2}, {place}")
-            }
+            Form::Load => write!(f, " {rd}, {imm}({rs1})"),
+            Form::Store => write!(f, " {rs2}, {imm}({rs1})"),
             Form::Branch => write!(f, " {rs1}, {rs2}, {imm}"),
-            Form::Upper => {
-                let upper = Upper(Field::<12, 20>::get(self.word));
-                write!(f, " {rd}, {upper}")
-            }
+            Form::Upper => write!(f, " {rd}, {}", Upper(Field::<12, 20>::get(self.word))),
             Form::Jump => write!(f, " {rd}, {imm}"),
             Form::Bare => Ok(()),
         }
@@ -94,12 +60,9 @@ pub fn text_of(alloc: Global, word: u32) -> Result<Bytes, AllocError>
     ensures { IfOk result (λ text. text ≡ text_of word) }
 {
     let Some(ins) = decode(word) else {
-        let word = Word(word);
-        let text = format!(in alloc; "word {word}")?;
+        let text = format!(in alloc; "word {}", Word(word))?;
         return Ok(Bytes::of(text.into_bytes()));
     };
-    let name = name_of(ins.kind);
-    let operands = Operands { ins, word };
-    let text = format!(in alloc; "{name}{operands}")?;
+    let text = format!(in alloc; "{}{}", name_of(ins.kind), Operands { ins, word })?;
     Ok(Bytes::of(text.into_bytes()))
 }

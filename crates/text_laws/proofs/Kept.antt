@@ -22,7 +22,7 @@ all_kept : (words : List ℕ) → Are32Bits words → filter has_some (map text_
 all_kept [] h = refl
 all_kept (w ∷ words) h =
     let rest = all_kept words (All-tail (λ w. w < 2 ^ 32) w words h) in
-    some_kept (text_of w) (map text_of words) (word_line w (h 0 0 (omega arith))).some ∙ ap (λ ts. text_of w ∷ ts) rest
+    some_kept (text_of w) (map text_of words) (word_line w (h 0 0 (omega arith))).own.some ∙ ap (λ ts. text_of w ∷ ts) rest
 
 -- the lines of words, and some that say nothing
 pub all_said :

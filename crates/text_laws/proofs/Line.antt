@@ -44,14 +44,19 @@ name_end (c ∷ name) text h e =
     ap (λ b. cond b 0 (cond (eqb c colon) 1 (1 + word_end (name ++ text)))) (plain_blank c parts.0)
     ∙ (ap (λ b. cond b 1 (1 + word_end (name ++ text))) (not_byte colon c refl parts.0) ∙ omega (arith, rest))
 
+-- a line that says itself
+pub record IsLine (line : List ℕ) : Type 0 where
+  pub says : statement line ≡ line
+  pub is : IsText line
+  pub no_hash : lacks hash line ≡ true
+  pub whole : lacks newline line ≡ true
+  pub some : 1 ≤ length line
+  pub short : length line ≤ 88
+
 record HasParts (line name operands : List ℕ) : Type 0 where
   word : word_in line ≡ name
   rest : rest_in line ≡ operands
-  says : statement line ≡ line
-  is : IsText line
-  whole : lacks newline line ≡ true
-  some : 1 ≤ length line
-  short : length line ≤ 88
+  own : IsLine line
 
 module _ (name text operands : List ℕ) (first : IsFirstWord name) (behind : IsBehind text operands) where
   line_text : IsText (name ++ text)
@@ -78,11 +83,14 @@ module _ (name text operands : List ℕ) (first : IsFirstWord name) (behind : Is
         word = ap (λ s. take (word_end s) s) says ∙ (ap (λ n. take n line) end ∙ take_at name text (length name) refl);
         rest = ap (λ s. trim (drop (word_end s) s)) says
             ∙ (ap (λ n. trim (drop n line)) end ∙ (ap trim (drop_at name text (length name) refl) ∙ behind.rest));
-        says = says;
-        is = line_text;
-        whole = no_newline line line_text.inline;
-        some = omega (arith, length-append name text, first.some);
-        short = omega (arith, length-append name text, first.short, behind.short);
+        own = record {
+          says = says;
+          is = line_text;
+          no_hash = no_hash line line_text.inline;
+          whole = no_newline line line_text.inline;
+          some = omega (arith, length-append name text, first.some);
+          short = omega (arith, length-append name text, first.short, behind.short);
+        };
       }
 
 -- ---- a line that gives a word
@@ -96,23 +104,7 @@ pub record IsSaid (line : List ℕ) (w : ℕ) : Type 0 where
 -- and that says nothing else
 pub record IsWordLine (line : List ℕ) (w : ℕ) : Type 0 where
   pub said : IsSaid line w
-  pub says : statement line ≡ line
-  pub is : IsText line
-  pub no_hash : lacks hash line ≡ true
-  pub whole : lacks newline line ≡ true
-  pub some : 1 ≤ length line
-  pub short : length line ≤ 88
-
-word_line_of : (line name operands : List ℕ) (w : ℕ) → HasParts line name operands → IsSaid line w → IsWordLine line w
-word_line_of line name operands w p said = record {
-  said = said;
-  says = p.says;
-  is = p.is;
-  no_hash = no_hash line p.is.inline;
-  whole = p.whole;
-  some = p.some;
-  short = p.short;
-}
+  pub own : IsLine line
 
 placed : (p : Place) (w : ℕ) → p.in_data ≡ false → p.code_words < max_code → in_code p (Ok w) ≡ Ok (given.Code w)
 placed p w e h =
@@ -129,7 +121,7 @@ ins_line w i h e =
     let any = read_back (λ name. None) 0 w i e in
     let plain = has_parts (name_of k) text any.operands (name_is k) any.behind in
     let head : head_in line ≡ Instruction k = ap head_of plain.word ∙ head_is k in
-    word_line_of line (name_of k) any.operands w plain (record {
+    let said : IsSaid line w = record {
       start = ap is_data_start head;
       code = ap is_code head;
       gives = λ labels p n free room.
@@ -138,7 +130,8 @@ ins_line w i h e =
           ap (λ x. given_by labels p n x (word_in line) (rest_in line)) head
           ∙ (ap (λ t. in_code p (word_of labels (address_at p) k t)) parts.rest
           ∙ (ap (in_code p) (word_back labels (address_at p) w i r h e) ∙ placed p w free room));
-    })
+    } in
+    record { said = said; own = plain.own }
 
 -- a word without one
 raw_line : (w : ℕ) → w < 2 ^ 32 → IsWordLine (codes "word" ++ 32 ∷ word_text w) w
@@ -149,14 +142,15 @@ raw_line w h =
     let behind = space_behind (word_text w) raw.operand.part.is (let few = raw.operand.short in omega arith) in
     let parts = has_parts (codes "word") (32 ∷ word_text w) (word_text w) word_first behind in
     let head : head_in line ≡ Word = ap head_of parts.word ∙ word_head in
-    word_line_of line (codes "word") (word_text w) w parts (record {
+    let said : IsSaid line w = record {
       start = ap is_data_start head;
       code = ap is_code head;
       gives = λ labels p n free room.
           ap (λ x. given_by labels p n x (word_in line) (rest_in line)) head
           ∙ (ap (λ t. in_code p (ok_or (raw_word_in t) IllegalOperands)) parts.rest
           ∙ (ap (λ o. in_code p (ok_or o IllegalOperands)) raw.reads ∙ placed p w free room));
-    })
+    } in
+    record { said = said; own = parts.own }
 
 pub word_line : (w : ℕ) → w < 2 ^ 32 → IsWordLine (text_of w) w
 unfolding text_of
@@ -177,7 +171,7 @@ alike line other e = record { word = ap (λ s. take (word_end s) s) e; rest = ap
 pub said_line : (line : List ℕ) (w : ℕ) → w < 2 ^ 32 → statement line ≡ text_of w → IsSaid line w
 said_line line w h e =
     let own = word_line w h in
-    let same = alike line (text_of w) (e ∙ sym own.says) in
+    let same = alike line (text_of w) (e ∙ sym own.own.says) in
     let head : head_in line ≡ head_in (text_of w) = ap head_of same.word in
     record {
       start = ap is_data_start head ∙ own.said.start;

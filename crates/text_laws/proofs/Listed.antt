@@ -37,7 +37,7 @@ line_is a w rest =
 
 body_whole : (a w : ℕ) → w < 2 ^ 32 → lacks newline (body a w) ≡ true
 body_whole a w h =
-    let text = lacks_append newline (text_of w) (32 ∷ []) (word_line w h).whole refl in
+    let text = lacks_append newline (text_of w) (32 ∷ []) (word_line w h).own.whole refl in
     let word = lacks_append newline (codes " ") (word_text w) refl (plain_lacks newline (word_text w) refl (hex_plain 8 w)) in
     let address = plain_lacks newline (hex_text a) refl (hex_plain 16 a) in
     let behind = lacks_append newline (hex_text a) (codes " " ++ word_text w) address word in
@@ -46,7 +46,7 @@ body_whole a w h =
 body_says : (a w : ℕ) → w < 2 ^ 32 → statement (body a w) ≡ text_of w
 unfolding statement
 body_says a w h =
-    let line = word_line w h in
+    let line = (word_line w h).own in
     let front = text_of w ++ 32 ∷ [] in
     ap (λ o. trim (front_of (body a w) o)) (parted_at hash front (comment a w) (lacks_append hash (text_of w) (32 ∷ []) line.no_hash refl))
     ∙ trim_ended (text_of w) line.is

@@ -56,34 +56,6 @@ none_behind = record {
   short = omega arith;
 }
 
--- two and three operands behind a space
-record IsPair (a b : List ℕ) : Type 0 where
-  behind : IsBehind (32 ∷ pair_text a b) (pair_text a b)
-  parts : pair_in (pair_text a b) ≡ Some (a, b)
-
-pair_of : (a b : List ℕ) → IsOperand a → IsOperand b → IsPair a b
-pair_of a b p q =
-    let size = length-append a (codes ", " ++ b) in
-    record {
-      behind = space_behind (pair_text a b) (joined_text a (codes ", ") b p.part.is refl q.part.is) (omega (arith, size, p.short, q.short));
-      parts = pair_is a b p.part q.part.is;
-    }
-
-record IsTriple (a b c : List ℕ) : Type 0 where
-  behind : IsBehind (32 ∷ pair_text a (pair_text b c)) (pair_text a (pair_text b c))
-  parts : triple_in (pair_text a (pair_text b c)) ≡ Some (a, b, c)
-
-triple_of : (a b c : List ℕ) → IsOperand a → IsOperand b → IsOperand c → IsTriple a b c
-triple_of a b c p q r =
-    let rest = pair_text b c in
-    let text = joined_text a (codes ", ") rest p.part.is refl (joined_text b (codes ", ") c q.part.is refl r.part.is) in
-    let size = length-append a (codes ", " ++ rest) in
-    let rest_size = length-append b (codes ", " ++ c) in
-    record {
-      behind = space_behind (pair_text a rest) text (omega (arith, size, rest_size, p.short, q.short, r.short));
-      parts = triple_is a b c p.part q.part r.part.is;
-    }
-
 -- ---- the word of operands, by the form
 pub word_as : Form → Kind → Result Operands Fault → Result ℕ Fault
 word_as f k (Err e) = Err e
@@ -110,15 +82,20 @@ module _ (labels : List ℕ → Option Label) (at : ℕ) (k : Kind) (w : ℕ) wh
   two : (f : Form) (i : Ins) (a b : List ℕ) (made : Option (List ℕ × List ℕ) → Result ℕ Fault) → IsOperand a → IsOperand b → operands_text f i w ≡ 32 ∷ pair_text a b
       → word_as f i.kind (operands_in labels at f (pair_text a b)) ≡ made (pair_in (pair_text a b)) → made (Some (a, b)) ≡ ok_or (encode_of i) OutOfRange → IsRead labels at f i w
   two f i a b made p q text reads is =
-      let t = pair_of a b p q in
-      record { operands = pair_text a b; behind = subst (λ x. IsBehind x (pair_text a b)) (sym text) t.behind; reads = reads ∙ ap made t.parts ∙ is }
+      let size = length-append a (codes ", " ++ b) in
+      let behind = space_behind (pair_text a b) (joined_text a (codes ", ") b p.part.is refl q.part.is) (omega (arith, size, p.short, q.short)) in
+      record { operands = pair_text a b; behind = subst (λ x. IsBehind x (pair_text a b)) (sym text) behind; reads = reads ∙ ap made (pair_is a b p.part q.part.is) ∙ is }
 
   three : (f : Form) (i : Ins) (a b c : List ℕ) (made : Option (List ℕ × List ℕ × List ℕ) → Result ℕ Fault) → IsOperand a → IsOperand b → IsOperand c
       → operands_text f i w ≡ 32 ∷ pair_text a (pair_text b c) → word_as f i.kind (operands_in labels at f (pair_text a (pair_text b c))) ≡ made (triple_in (pair_text a (pair_text b c)))
       → made (Some (a, b, c)) ≡ ok_or (encode_of i) OutOfRange → IsRead labels at f i w
   three f i a b c made p q r text reads is =
-      let t = triple_of a b c p q r in
-      record { operands = pair_text a (pair_text b c); behind = subst (λ x. IsBehind x (pair_text a (pair_text b c))) (sym text) t.behind; reads = reads ∙ ap made t.parts ∙ is }
+      let rest = pair_text b c in
+      let whole = joined_text a (codes ", ") rest p.part.is refl (joined_text b (codes ", ") c q.part.is refl r.part.is) in
+      let size = length-append a (codes ", " ++ rest) in
+      let rest_size = length-append b (codes ", " ++ c) in
+      let behind = space_behind (pair_text a rest) whole (omega (arith, size, rest_size, p.short, q.short, r.short)) in
+      record { operands = pair_text a rest; behind = subst (λ x. IsBehind x (pair_text a rest)) (sym text) behind; reads = reads ∙ ap made (triple_is a b c p.part q.part r.part.is) ∙ is }
 
   registers_back : (d a b : ℕ) → IsRegister d → IsRegister a → IsRegister b → IsRead labels at Registers (ins k d a b (pos 0)) w
   unfolding operands_text operands_in word_as

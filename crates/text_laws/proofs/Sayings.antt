@@ -7,6 +7,9 @@ use Rattle.std.proofs.lemmas.List.Filters.{length-filter_more}
 use Rattle.qed_model.specs.Below.{gather}
 use Rattle.qed_model.specs.Elf.Layout.{written}
 use Rattle.rv_text.specs.Text.{text_of}
+use Rattle.std.specs.Prelude.{Result}
+use Rattle.rv_asm.specs.declared.error.Fault.{Fault}
+use Rattle.rv_asm.specs.declared.given.Given.{Given}
 use Rattle.rv_asm.specs.declared.given.Given.TheVariants as given
 use Rattle.rv_asm.specs.declared.heads.Head.TheVariants.{Blank}
 use Rattle.rv_asm.specs.declared.place.Place.{Place}
@@ -161,25 +164,23 @@ module _ (ls : List (List ℕ)) (words : List ℕ) (are : AreWords words) (says 
   code_is : code_of ls (length ls) ≡ words
   code_is = codes_so_far (length ls) (omega arith) ∙ take_all (said (length ls)) words (omega (arith, said_all))
 
+  -- what is so of words and of nothing is so of each line
+  each_given : {A : Type 0} (f : Result Given Fault → A) (y : A) → ((w : ℕ) → f (Ok (given.Code w)) ≡ y) → f (Ok given.Nothing) ≡ y → (n : ℕ) → n < length ls → f (given_at ls n) ≡ y
+  each_given f y code none n h = by (turn n h) where
+    by : Turn n → f (given_at ls n) ≡ y
+    by (word w) = ap f (word_given n h w) ∙ code (get_or words (said n) 0)
+    by (blank b) = ap f (blank_given n b) ∙ none
+
   no_values : data_of ls (length ls) ≡ []
   unfolding data_of
-  no_values = all_empty (λ n. data_in (given_at ls n)) (length ls) (λ n h. by n h (turn n h)) where
-    by : (n : ℕ) → n < length ls → Turn n → data_in (given_at ls n) ≡ []
-    by n h (word w) = ap data_in (word_given n h w)
-    by n h (blank b) = ap data_in (blank_given n b)
+  no_values = all_empty (λ n. data_in (given_at ls n)) (length ls) (each_given data_in [] (λ w. refl) refl)
 
   no_labels : symbols_of ls (length ls) ≡ []
   unfolding symbols_of
-  no_labels = all_empty (symbol_at ls) (length ls) (λ n h. by n h (turn n h)) where
-    by : (n : ℕ) → n < length ls → Turn n → symbol_at ls n ≡ []
-    by n h (word w) = ap (symbol_in (word_in (line_at ls n)) (address_at (place_behind (take n ls)))) (word_given n h w)
-    by n h (blank b) = ap (symbol_in (word_in (line_at ls n)) (address_at (place_behind (take n ls)))) (blank_given n b)
+  no_labels = all_empty (symbol_at ls) (length ls) (λ n. each_given (symbol_in (word_in (line_at ls n)) (address_at (place_behind (take n ls)))) [] (λ w. refl) refl n)
 
   faultless : AreFaultless ls (length ls)
-  faultless n h = by (turn n h) where
-    by : Turn n → is_ok (given_at ls n) ≡ true
-    by (word w) = ap is_ok (word_given n h w)
-    by (blank b) = ap is_ok (blank_given n b)
+  faultless = each_given is_ok true (λ w. refl) refl
 
   file_is : file_of ls ≡ file_with words [] []
   unfolding file_of

@@ -18,10 +18,10 @@ module _ (words : List ℕ) (are : AreWords words) where
   lines = map text_of words
 
   whole : All (λ line. lacks newline line ≡ true) lines
-  whole = All-map (λ line. lacks newline line ≡ true) text_of words (λ k d below. (word_line _ (are.each k d below)).whole)
+  whole = All-map (λ line. lacks newline line ≡ true) text_of words (λ k d below. (word_line _ (are.each k d below)).own.whole)
 
   short : All (λ line. length line ≤ 88) lines
-  short = All-map (λ line. length line ≤ 88) text_of words (λ k d below. (word_line _ (are.each k d below)).short)
+  short = All-map (λ line. length line ≤ 88) text_of words (λ k d below. (word_line _ (are.each k d below)).own.short)
 
   some_lines : 1 ≤ length lines
   some_lines = omega (arith, length-map words text_of, are.some)
@@ -29,7 +29,7 @@ module _ (words : List ℕ) (are : AreWords words) where
   says_itself : (ws : List ℕ) → Are32Bits ws → map statement (map text_of ws) ≡ map text_of ws
   says_itself [] h = refl
   says_itself (w ∷ ws) h =
-      let first = (word_line w (h 0 0 (omega arith))).says in
+      let first = (word_line w (h 0 0 (omega arith))).own.says in
       let rest = says_itself ws (All-tail (λ w. w < 2 ^ 32) w ws h) in
       λ i. first i ∷ rest i
 
