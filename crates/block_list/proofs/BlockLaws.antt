@@ -9,7 +9,7 @@ use Rattle.qed_model.specs.declared.options.Entries.TheVariants as entries
 use Rattle.qed_model.specs.declared.test.CodeWord.{CodeWord}
 use Rattle.qed_model.specs.Weave.Sequences.{Block}
 use Rattle.qed_model.specs.Weave.Pieces.{divided}
-use Rattle.qed_model.specs.Weave.Blocks.{IsLeaderBlock, IsShort as IsShortOf, IsOtherBlock, begins_at, AreBlocks}
+use Rattle.qed_model.specs.Weave.Blocks.{IsLeaderBlock, IsShort as IsShortOf, IsOtherBlock, IsEntered, IsMarked, begins_at, AreBlocks}
 use Rattle.qed_model.specs.Admission.CodeWords.{is_code, instruction_at}
 use Rattle.qed_model.specs.Admission.Leaders.{IsLeader, HasIndirect}
 use Rattle.qed_model.specs.Admission.Test.{AreCodeWords}
@@ -39,9 +39,9 @@ rising_pairs low (b ∷ bs) r i zero d lt le = absurd (omega (arith, lt))
 rising_pairs low (b ∷ bs) r zero (suc j) d lt le = let h = rising_at (b.start + 1) bs j d r.1 (omega (arith, le)) in omega (arith, h)
 rising_pairs low (b ∷ bs) r (suc i) (suc j) d lt le = rising_pairs (b.start + 1) bs r.1 i j d (omega (arith, lt)) (omega (arith, le))
 
-module _ (f : ElfFile) (o : Options) (leads : ℕ → Bool) (exact : (a : ℕ) → IsTrue (leads a) ↔ IsLeader f o a) (every : Bool) (when : IsTrue every ↔ ((o.entries ≡ entries.All) × HasIndirect f)) where
+module _ (f : ElfFile) (o : Options) (leads : ℕ → Bool) (exact : (a : ℕ) → IsTrue (leads a) ↔ IsLeader f o a) (every : Bool) (when : IsTrue every ↔ ((o.entries ≡ entries.All) × HasIndirect f)) (reached : ℕ → Bool) (marks : (a : ℕ) → IsTrue (reached a) ↔ IsEntered f o a) where
   -- ---- one block
-  long_block : (low : ℕ) (w : CodeWord) (ws : List CodeWord) (b : CodeBlock) → Rest f low (w ∷ ws) → leads w.at ≡ true → IsLong leads o.inst_max (w ∷ ws) b → IsLeaderBlock f o (block_of b)
+  long_block : (low : ℕ) (w : CodeWord) (ws : List CodeWord) (b : CodeBlock) → Rest f low (w ∷ ws) → leads w.at ≡ true → IsLong leads reached o.inst_max (w ∷ ws) b → IsLeaderBlock f o (block_of b)
   long_block low w ws b r e l =
       let body = subst (λ xs. IsBody f o leads exact b.start xs (end_of b.end)) (sym l.body)
       (subst (λ i. IsBody f o leads exact b.start (instructions (take (body_size leads (w ∷ ws)) (w ∷ ws))) (end_of i)) (sym l.end)
@@ -71,6 +71,15 @@ module _ (f : ElfFile) (o : Options) (leads : ℕ → Bool) (exact : (a : ℕ) �
         (subst (λ i. IsShortOf w.ins (divided ((if ends w then 0 else 1) ∷ []) (if ends w then [] else w.ins ∷ [])) (end_of i)) (sym s.end) (short_by w (ends w) refl)));
   }
 
+  -- marked or not
+  long_marked : (w : CodeWord) (ws : List CodeWord) (b : CodeBlock) → IsLong leads reached o.inst_max (w ∷ ws) b → IsMarked f o (block_of b)
+  long_marked w ws b l = (λ e. subst (IsEntered f o) (sym l.start) ((marks w.at).0 (sym l.marked ∙ e)), λ h. l.marked ∙ (marks w.at).1 (subst (IsEntered f o) l.start h))
+
+  short_marked : (w : CodeWord) (b : CodeBlock) → o.entries ≡ entries.All → IsShort w b → IsMarked f o (block_of b)
+  short_marked w b all s = (λ e. absurd (false≢true (sym s.unmarked ∙ e)), λ h. absurd (apart (sym all ∙ h.0))) where
+    apart : entries.All ≡ entries.Reached → ⊥
+    apart x = cc
+
   -- ---- all blocks, from an address on
   abbrev Good : Block → Type 0
   Good b = IsLeaderBlock f o b ⊎ IsOtherBlock f o b
@@ -78,6 +87,7 @@ module _ (f : ElfFile) (o : Options) (leads : ℕ → Bool) (exact : (a : ℕ) �
   record From (low : ℕ) (bs : List Block) : Type 0 where
     rising : Rising low bs
     each : All Good bs
+    marked : All (IsMarked f o) bs
     leaders : (a : ℕ) → low ≤ a → IsLeader f o a → begins_at bs a ≡ true
     others : every ≡ true → (a : ℕ) → low ≤ a → is_code f a ≡ true → begins_at bs a ≡ true
 
@@ -85,10 +95,11 @@ module _ (f : ElfFile) (o : Options) (leads : ℕ → Bool) (exact : (a : ℕ) �
   next_at : (low : ℕ) (w : CodeWord) (ws : List CodeWord) (a : ℕ) → Rest f low (w ∷ ws) → low ≤ a → is_code f a ≡ true → (a ≡ w.at) ⊎ (w.at + 1 ≤ a)
   next_at low w ws a r le e = ⊎_elim (λ s. inl s) (λ m. inr (above f (w.at + 1) a ws r.ascend.3 m)) (r.complete a le e)
 
-  with_block : (low : ℕ) (w : CodeWord) (ws : List CodeWord) (b : Block) (bs : List Block) → Rest f low (w ∷ ws) → b.start ≡ w.at → Good b → From (w.at + 1) bs → From low (b ∷ bs)
-  with_block low w ws b bs r at good rest = record {
+  with_block : (low : ℕ) (w : CodeWord) (ws : List CodeWord) (b : Block) (bs : List Block) → Rest f low (w ∷ ws) → b.start ≡ w.at → Good b → IsMarked f o b → From (w.at + 1) bs → From low (b ∷ bs)
+  with_block low w ws b bs r at good mark rest = record {
     rising = let l = r.ascend.0 in (omega (arith, l, at), subst (λ n. Rising (n + 1) bs) (sym at) rest.rising);
     each = All-cons Good b bs good rest.each;
+    marked = All-cons (IsMarked f o) b bs mark rest.marked;
     leaders = λ a le l. ⊎_elim (λ s. here a s) (λ k. later a (rest.leaders a k l)) (next_at low w ws a r le l.code);
     others = λ i a le e. ⊎_elim (λ s. here a s) (λ k. later a (rest.others i a k e)) (next_at low w ws a r le e);
   } where
@@ -102,26 +113,28 @@ module _ (f : ElfFile) (o : Options) (leads : ℕ → Bool) (exact : (a : ℕ) �
   without_block low w ws bs r free none rest = record {
     rising = let l = r.ascend.0 in rising_less low (w.at + 1) bs (omega (arith, l)) rest.rising;
     each = rest.each;
+    marked = rest.marked;
     leaders = λ a le l. ⊎_elim (λ s. absurd (false≢true (sym free ∙ ap leads (sym s) ∙ (exact a).1 l))) (λ k. rest.leaders a k l) (next_at low w ws a r le l.code);
     others = λ i a le e. absurd (false≢true (sym none ∙ i));
   }
 
-  step : (low : ℕ) (w : CodeWord) (ws : List CodeWord) (front back : List CodeBlock) (x y : Bool) → leads w.at ≡ x → every ≡ y → Rest f low (w ∷ ws) → Begun x y leads o.inst_max (w ∷ ws) front → From (w.at + 1) (map block_of back) → From low (map block_of (front ++ back))
+  step : (low : ℕ) (w : CodeWord) (ws : List CodeWord) (front back : List CodeBlock) (x y : Bool) → leads w.at ≡ x → every ≡ y → Rest f low (w ∷ ws) → Begun x y leads reached o.inst_max (w ∷ ws) front → From (w.at + 1) (map block_of back) → From low (map block_of (front ++ back))
   step low w ws front back true y ex ey r one rest =
       subst (λ bs. From low (map block_of (bs ++ back))) (sym one.is)
-      (with_block low w ws (block_of one.block) (map block_of back) r one.holds.start (inl (long_block low w ws one.block r ex one.holds)) rest)
+      (with_block low w ws (block_of one.block) (map block_of back) r one.holds.start (inl (long_block low w ws one.block r ex one.holds)) (long_marked w ws one.block one.holds) rest)
   step low w ws front back false true ex ey r one rest =
       subst (λ bs. From low (map block_of (bs ++ back))) (sym one.is)
-      (with_block low w ws (block_of one.block) (map block_of back) r one.holds.start (inr (short_block low w ws one.block r ex (when.0 ey) one.holds)) rest)
+      (with_block low w ws (block_of one.block) (map block_of back) r one.holds.start (inr (short_block low w ws one.block r ex (when.0 ey) one.holds)) (short_marked w one.block (when.0 ey).0 one.holds) rest)
   step low w ws front back false false ex ey r none rest =
       subst (λ bs. From low (map block_of (bs ++ back))) (sym none)
       (without_block low w ws (map block_of back) r ex ey rest)
 
-  from_built : (low : ℕ) (ws : List CodeWord) (bs : List CodeBlock) → Rest f low ws → Built leads every o.inst_max ws bs → From low (map block_of bs)
+  from_built : (low : ℕ) (ws : List CodeWord) (bs : List CodeBlock) → Rest f low ws → Built leads every reached o.inst_max ws bs → From low (map block_of bs)
   from_built low [] bs r e = subst (λ cs. From low (map block_of cs)) (sym e)
       (record {
         rising = tt;
         each = All-nil Good;
+        marked = All-nil (IsMarked f o);
         leaders = λ a le l. absurd (r.complete a le l.code);
         others = λ i a le c. absurd (r.complete a le c);
       })
@@ -129,12 +142,13 @@ module _ (f : ElfFile) (o : Options) (leads : ℕ → Bool) (exact : (a : ℕ) �
       subst (λ cs. From low (map block_of cs)) (sym p.is)
       (step low w ws p.front p.back (leads w.at) every refl refl r p.first (from_built (w.at + 1) ws p.back (rest_tail f low w ws r) p.rest))
 
-  pub are_blocks : (code : List CodeWord) (bs : List CodeBlock) → AreCodeWords f code → Built leads every o.inst_max code bs → AreBlocks f o (map block_of bs)
+  pub are_blocks : (code : List CodeWord) (bs : List CodeBlock) → AreCodeWords f code → Built leads every reached o.inst_max code bs → AreBlocks f o (map block_of bs)
   are_blocks code bs words built =
       let all = from_built 0 code bs (rest_all f code words) built in
       record {
         ascend = λ i j d lt le. rising_pairs 0 (map block_of bs) all.rising i j d lt le;
         each = all.each;
+        marked = all.marked;
         leaders = λ a l. all.leaders a (omega arith) l;
         others = λ z h a e. all.others (when.1 (z, h)) a (omega arith) e;
       }

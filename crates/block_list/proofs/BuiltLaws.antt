@@ -36,34 +36,34 @@ got_head words at d w rest e = sym (head_drop words at d) ∙ ap (λ (xs : List 
 abbrev addresses : List CodeWord → List ℕ
 addresses ws = map (λ c. c.at) ws
 
-module _ (leads : ℕ → Bool) (every : Bool) (most : ℕ) where
+module _ (leads : ℕ → Bool) (every : Bool) (reached : ℕ → Bool) (most : ℕ) where
   -- what begins with the first word, by what is known there
-  begun_long : (t s : Bool) (w : CodeWord) (ws : List CodeWord) (b : CodeBlock) → t ≡ true → IsLong leads most (w ∷ ws) b → Begun t s leads most (w ∷ ws) (b ∷ [])
+  begun_long : (t s : Bool) (w : CodeWord) (ws : List CodeWord) (b : CodeBlock) → t ≡ true → IsLong leads reached most (w ∷ ws) b → Begun t s leads reached most (w ∷ ws) (b ∷ [])
   begun_long true s w ws b e h = record { block = b; is = refl; holds = h }
   begun_long false s w ws b e h = absurd (cc)
 
-  begun_short : (t s : Bool) (w : CodeWord) (ws : List CodeWord) (b : CodeBlock) → t ≡ false → s ≡ true → IsShort w b → Begun t s leads most (w ∷ ws) (b ∷ [])
+  begun_short : (t s : Bool) (w : CodeWord) (ws : List CodeWord) (b : CodeBlock) → t ≡ false → s ≡ true → IsShort w b → Begun t s leads reached most (w ∷ ws) (b ∷ [])
   begun_short true s w ws b e i h = absurd (cc)
   begun_short false false w ws b e i h = absurd (cc)
   begun_short false true w ws b e i h = record { block = b; is = refl; holds = h }
 
-  begun_none : (t s : Bool) (w : CodeWord) (ws : List CodeWord) → t ≡ false → s ≡ false → Begun t s leads most (w ∷ ws) []
+  begun_none : (t s : Bool) (w : CodeWord) (ws : List CodeWord) → t ≡ false → s ≡ false → Begun t s leads reached most (w ∷ ws) []
   begun_none true s w ws e i = absurd (cc)
   begun_none false true w ws e i = absurd (cc)
   begun_none false false w ws e i = refl
 
   -- a block at a leader
-  pub adds_long : (words : List CodeWord) (leader : Bool) (b : CodeBlock) (old new : List CodeBlock) → 1 ≤ length words → leader ≡ true → IsLong leads most words b → new ≡ old ++ b ∷ [] → AddsBlock leader leads every most words old new
+  pub adds_long : (words : List CodeWord) (leader : Bool) (b : CodeBlock) (old new : List CodeBlock) → 1 ≤ length words → leader ≡ true → IsLong leads reached most words b → new ≡ old ++ b ∷ [] → AddsBlock leader leads every reached most words old new
   adds_long [] leader b old new some e h n = absurd (omega (arith, some))
   adds_long (x ∷ xs) leader b old new some e h n = record { added = b ∷ []; new_is = n; begun = begun_long leader every x xs b e h }
 
   -- one at no leader, where each code address has a block
-  pub adds_short : (words : List CodeWord) (leader : Bool) (v : CodeWord) (b : CodeBlock) (old new : List CodeBlock) → 1 ≤ length words → leader ≡ false → v ≡ get_or words 0 v → every ≡ true → IsShort v b → new ≡ old ++ b ∷ [] → AddsBlock leader leads every most words old new
+  pub adds_short : (words : List CodeWord) (leader : Bool) (v : CodeWord) (b : CodeBlock) (old new : List CodeBlock) → 1 ≤ length words → leader ≡ false → v ≡ get_or words 0 v → every ≡ true → IsShort v b → new ≡ old ++ b ∷ [] → AddsBlock leader leads every reached most words old new
   adds_short [] leader v b old new some e q i h n = absurd (omega (arith, some))
   adds_short (x ∷ xs) leader v b old new some e q i h n = record { added = b ∷ []; new_is = n; begun = begun_short leader every x xs b e i (subst (λ y. IsShort y b) q h) }
 
   -- none
-  pub adds_none : (words : List CodeWord) (leader : Bool) (old : List CodeBlock) → 1 ≤ length words → leader ≡ false → every ≡ false → AddsBlock leader leads every most words old old
+  pub adds_none : (words : List CodeWord) (leader : Bool) (old : List CodeBlock) → 1 ≤ length words → leader ≡ false → every ≡ false → AddsBlock leader leads every reached most words old old
   adds_none [] leader old some e i = absurd (omega (arith, some))
   adds_none (x ∷ xs) leader old some e i = record { added = []; new_is = sym (append-nil old); begun = begun_none leader every x xs e i }
 
@@ -120,15 +120,16 @@ module _ (leads : ℕ → Bool) (every : Bool) (most : ℕ) where
       ap (λ y. if (w.at == p + 4) && not y then (if ends w then Some w.ins else end_behind next w.at ws) else None) a.0
       ∙ end_by (w.at == p + 4) (leads w.at) (ends w) (Some w.ins) (end_behind next w.at ws) (end_behind leads w.at ws) (λ e. end_agrees next w.at ws (a.1 e))
 
-  long_agrees : (next : ℕ → Bool) (w : CodeWord) (ws : List CodeWord) (b : CodeBlock) → Agrees next ws → IsLong next most (w ∷ ws) b → IsLong leads most (w ∷ ws) b
+  long_agrees : (next : ℕ → Bool) (w : CodeWord) (ws : List CodeWord) (b : CodeBlock) → Agrees next ws → IsLong next reached most (w ∷ ws) b → IsLong leads reached most (w ∷ ws) b
   long_agrees next w ws b a h = record {
     start = h.start;
     body = h.body ∙ ap (λ n. map (λ (c : CodeWord). c.ins) (take (if ends w then 0 else n + 1) (w ∷ ws))) (size_agrees next w.at ws a);
     pieces = h.pieces;
     end = h.end ∙ ap (λ e. if ends w then Some w.ins else e) (end_agrees next w.at ws a);
+    marked = h.marked;
   }
 
-  begun_agrees : (t s : Bool) (next : ℕ → Bool) (w : CodeWord) (ws : List CodeWord) (bs : List CodeBlock) → Agrees next ws → Begun t s next most (w ∷ ws) bs → Begun t s leads most (w ∷ ws) bs
+  begun_agrees : (t s : Bool) (next : ℕ → Bool) (w : CodeWord) (ws : List CodeWord) (bs : List CodeBlock) → Agrees next ws → Begun t s next reached most (w ∷ ws) bs → Begun t s leads reached most (w ∷ ws) bs
   begun_agrees true s next w ws bs a h = record { block = h.block; is = h.is; holds = long_agrees next w ws h.block a h.holds }
   begun_agrees false true next w ws bs a h = h
   begun_agrees false false next w ws bs a h = h
@@ -137,10 +138,10 @@ module _ (leads : ℕ → Bool) (every : Bool) (most : ℕ) where
   -- with the blocks of the rest, those so far are all, and what is left are the leaders of the rest
   pub record Done (words : List CodeWord) (at : ℕ) (left : List ℕ) (done : List CodeBlock) : Type 0 where
     pub left_are : left ≡ filter leads (addresses (drop at words))
-    pub made : (later : List CodeBlock) → Built leads every most (drop at words) later → Built leads every most words (done ++ later)
+    pub made : (later : List CodeBlock) → Built leads every reached most (drop at words) later → Built leads every reached most words (done ++ later)
 
-  pub all_built : (words : List CodeWord) (at : ℕ) (left : List ℕ) (done : List CodeBlock) → length words ≤ at → Done words at left done → Built leads every most words done
-  all_built words at left done le d = subst (Built leads every most words) (append-nil done) (d.made [] (subst (λ ws. Built leads every most ws []) (sym (drop_all at words le)) refl))
+  pub all_built : (words : List CodeWord) (at : ℕ) (left : List ℕ) (done : List CodeBlock) → length words ≤ at → Done words at left done → Built leads every reached most words done
+  all_built words at left done le d = subst (Built leads every reached most words) (append-nil done) (d.made [] (subst (λ ws. Built leads every reached most ws []) (sym (drop_all at words le)) refl))
 
   rest_pairs : (words : List CodeWord) (k : ℕ) → Pairs (λ a b. a < b) (addresses words) → Pairs (λ a b. a < b) (addresses (drop k words))
   rest_pairs [] zero h = tt
@@ -152,7 +153,7 @@ module _ (leads : ℕ → Bool) (every : Bool) (most : ℕ) where
   pub next_built :
       (words ws : List CodeWord) (at : ℕ) (left after : List ℕ) (d : CodeWord) (leader : Bool) (next : Option ℕ) (old new : List CodeBlock)
       → at < length words → ws ≡ drop at words → AllPairs (λ a b. a < b) (addresses words)
-      → leader ≡ is_at (first left) (get_or words at d).at → after ≡ behind (get_or words at d).at left → next ≡ first after → AddsBlock leader (is_at next) every most ws old new → Done words at left old → Done words (at + 1) after new
+      → leader ≡ is_at (first left) (get_or words at d).at → after ≡ behind (get_or words at d).at left → next ≡ first after → AddsBlock leader (is_at next) every reached most ws old new → Done words at left old → Done words (at + 1) after new
   next_built words ws at left after d leader next old new lt e ascend by_left by_behind by_after adds before =
       let h = head_of words at lt in
       let w = h.word in
@@ -164,16 +165,16 @@ module _ (leads : ℕ → Bool) (every : Bool) (most : ℕ) where
       let left_is : left ≡ filter leads (addresses (w ∷ rest)) = before.left_are ∙ ap (λ (xs : List CodeWord). filter leads (addresses xs)) h.is in
       let after_is : after ≡ kept = by_behind ∙ ap (λ a. behind a left) here ∙ ap (behind w.at) left_is ∙ behind_is w.at (addresses rest) pairs.0 in
       let leader_is : leader ≡ leads w.at = by_left ∙ ap (is_at (first left)) here ∙ ap (λ bs. is_at (first bs) w.at) left_is ∙ first_is w.at (addresses rest) pairs.0 in
-      let by_next : Begun (leads w.at) every (is_at (first kept)) most (w ∷ rest) adds.added =
-      subst (λ z. Begun z every (is_at (first kept)) most (w ∷ rest) adds.added) leader_is
-      (subst (λ n. Begun leader every (is_at n) most (w ∷ rest) adds.added) (by_after ∙ ap first after_is)
-      (subst (λ xs. Begun leader every (is_at next) most xs adds.added) (e ∙ h.is) adds.begun)) in
+      let by_next : Begun (leads w.at) every (is_at (first kept)) reached most (w ∷ rest) adds.added =
+      subst (λ z. Begun z every (is_at (first kept)) reached most (w ∷ rest) adds.added) leader_is
+      (subst (λ n. Begun leader every (is_at n) reached most (w ∷ rest) adds.added) (by_after ∙ ap first after_is)
+      (subst (λ xs. Begun leader every (is_at next) reached most xs adds.added) (e ∙ h.is) adds.begun)) in
       let begun = begun_agrees (leads w.at) every (is_at (first kept)) w rest adds.added (agrees rest pairs.1) by_next in
       record {
         left_are = after_is ∙ ap (λ n. filter leads (addresses (drop n words))) (sym one);
         made = λ later built.
-            let tail : Built leads every most rest later = subst (λ n. Built leads every most (drop n words) later) one built in
-            let joined : Built leads every most (w ∷ rest) (adds.added ++ later) = record { front = adds.added; back = later; is = refl; first = begun; rest = tail } in
-            let all = before.made (adds.added ++ later) (subst (λ xs. Built leads every most xs (adds.added ++ later)) (sym h.is) joined) in
-            subst (Built leads every most words) (sym (append_assoc old adds.added later) ∙ ap (λ bs. bs ++ later) (sym adds.new_is)) all;
+            let tail : Built leads every reached most rest later = subst (λ n. Built leads every reached most (drop n words) later) one built in
+            let joined : Built leads every reached most (w ∷ rest) (adds.added ++ later) = record { front = adds.added; back = later; is = refl; first = begun; rest = tail } in
+            let all = before.made (adds.added ++ later) (subst (λ xs. Built leads every reached most xs (adds.added ++ later)) (sym h.is) joined) in
+            subst (Built leads every reached most words) (sym (append_assoc old adds.added later) ∙ ap (λ bs. bs ++ later) (sym adds.new_is)) all;
       }

@@ -27,8 +27,8 @@ module _ (f : ElfFile) (top : ℕ) (reach : (a : ℕ) → is_code f a ≡ true �
       let h = body_below (a + 4) is next b.2 in
       omega (arith, h)
 
-  module _ (o : Options) (leads : ℕ → Bool) (exact : (a : ℕ) → IsTrue (leads a) ↔ IsLeader f o a) (every : Bool) (most : ℕ) where
-    long_within : (low : ℕ) (w : CodeWord) (ws : List CodeWord) (b : CodeBlock) → Rest f low (w ∷ ws) → IsLong leads most (w ∷ ws) b → IsWithin top b
+  module _ (o : Options) (leads : ℕ → Bool) (exact : (a : ℕ) → IsTrue (leads a) ↔ IsLeader f o a) (every : Bool) (reached : ℕ → Bool) (most : ℕ) where
+    long_within : (low : ℕ) (w : CodeWord) (ws : List CodeWord) (b : CodeBlock) → Rest f low (w ∷ ws) → IsLong leads reached most (w ∷ ws) b → IsWithin top b
     long_within low w ws b r l = record {
       whole = l.pieces.total;
       below =
@@ -58,12 +58,12 @@ module _ (f : ElfFile) (top : ℕ) (reach : (a : ℕ) → is_code f a ≡ true �
     one_within : (b : CodeBlock) (bs : List CodeBlock) → bs ≡ b ∷ [] → IsWithin top b → All (IsWithin top) bs
     one_within b bs e h = All-same (IsWithin top) bs (b ∷ []) e (All-cons (IsWithin top) b [] h (All-nil (IsWithin top)))
 
-    begun_within : (low : ℕ) (w : CodeWord) (ws : List CodeWord) (bs : List CodeBlock) (x y : Bool) → Rest f low (w ∷ ws) → Begun x y leads most (w ∷ ws) bs → All (IsWithin top) bs
+    begun_within : (low : ℕ) (w : CodeWord) (ws : List CodeWord) (bs : List CodeBlock) (x y : Bool) → Rest f low (w ∷ ws) → Begun x y leads reached most (w ∷ ws) bs → All (IsWithin top) bs
     begun_within low w ws bs true y r one = one_within one.block bs one.is (long_within low w ws one.block r one.holds)
     begun_within low w ws bs false true r one = one_within one.block bs one.is (short_within low w ws one.block r one.holds)
     begun_within low w ws bs false false r none = All-same (IsWithin top) bs [] none (All-nil (IsWithin top))
 
-    built_within : (low : ℕ) (ws : List CodeWord) (bs : List CodeBlock) → Rest f low ws → Built leads every most ws bs → All (IsWithin top) bs
+    built_within : (low : ℕ) (ws : List CodeWord) (bs : List CodeBlock) → Rest f low ws → Built leads every reached most ws bs → All (IsWithin top) bs
     built_within low [] bs r e = All-same (IsWithin top) bs [] e (All-nil (IsWithin top))
     built_within low (w ∷ ws) bs r p =
         All-same (IsWithin top) bs (p.front ++ p.back) p.is
@@ -73,10 +73,10 @@ module _ (f : ElfFile) (top : ℕ) (reach : (a : ℕ) → is_code f a ≡ true �
 
 -- where no word stands past `top`, no block does
 pub blocks_within :
-    (f : ElfFile) (o : Options) (leads : ℕ → Bool) (exact : (a : ℕ) → IsTrue (leads a) ↔ IsLeader f o a) (every : Bool) (most : ℕ) (code : List CodeWord) (bs : List CodeBlock)
-    → AreCodeWords f code → Built leads every most code bs → (top : ℕ) → All (λ c. c.at + 4 ≤ top) code → All (IsWithin top) bs
-blocks_within f o leads exact every most code bs words built top small =
-    built_within f top reach o leads exact every most 0 code bs (rest_all f code words) built where
+    (f : ElfFile) (o : Options) (leads : ℕ → Bool) (exact : (a : ℕ) → IsTrue (leads a) ↔ IsLeader f o a) (every : Bool) (reached : ℕ → Bool) (most : ℕ) (code : List CodeWord) (bs : List CodeBlock)
+    → AreCodeWords f code → Built leads every reached most code bs → (top : ℕ) → All (λ c. c.at + 4 ≤ top) code → All (IsWithin top) bs
+blocks_within f o leads exact every reached most code bs words built top small =
+    built_within f top reach o leads exact every reached most 0 code bs (rest_all f code words) built where
       reach : (a : ℕ) → is_code f a ≡ true → a + 4 ≤ top
       reach a e =
           let w = code_word f code words a e in

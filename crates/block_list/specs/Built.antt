@@ -27,11 +27,12 @@ behind a [] = []
 behind a (b ∷ bs) = if b == a then bs else b ∷ bs
 
 -- the block that begins with the first word, at a leader
-pub record IsLong (leads : ℕ → Bool) (most : ℕ) (words : List CodeWord) (b : CodeBlock) : Type 0 where
+pub record IsLong (leads reached : ℕ → Bool) (most : ℕ) (words : List CodeWord) (b : CodeBlock) : Type 0 where
   pub start : b.start ≡ first_at words
   pub body : b.body ≡ map (λ c. c.ins) (take (body_size leads words) words)
   pub pieces : AreLengths most b.body b.lengths
   pub end : b.end ≡ body_end leads words
+  pub marked : b.reached ≡ reached (first_at words)
 
 -- the block of a word that is at no leader
 pub record IsShort (w : CodeWord) (b : CodeBlock) : Type 0 where
@@ -39,6 +40,7 @@ pub record IsShort (w : CodeWord) (b : CodeBlock) : Type 0 where
   pub body : b.body ≡ (if ends w then [] else w.ins ∷ [])
   pub lengths : b.lengths ≡ (if ends w then 0 else 1) ∷ []
   pub end : b.end ≡ (if ends w then Some w.ins else None)
+  pub unmarked : b.reached ≡ false
 
 -- a list of one block with the property
 pub record One (P : CodeBlock → Type 0) (bs : List CodeBlock) : Type 0 where
@@ -47,17 +49,17 @@ pub record One (P : CodeBlock → Type 0) (bs : List CodeBlock) : Type 0 where
   pub holds : P block
 
 -- the blocks that begin with the first word: one at a leader, one where each address has a block, else none
-abbrev pub Begun : Bool → Bool → (ℕ → Bool) → ℕ → List CodeWord → List CodeBlock → Type 0
-Begun leader every leads most [] bs = bs ≡ []
-Begun true every leads most (w ∷ ws) bs = One (IsLong leads most (w ∷ ws)) bs
-Begun false true leads most (w ∷ ws) bs = One (IsShort w) bs
-Begun false false leads most (w ∷ ws) bs = bs ≡ []
+abbrev pub Begun : Bool → Bool → (ℕ → Bool) → (ℕ → Bool) → ℕ → List CodeWord → List CodeBlock → Type 0
+Begun leader every leads reached most [] bs = bs ≡ []
+Begun true every leads reached most (w ∷ ws) bs = One (IsLong leads reached most (w ∷ ws)) bs
+Begun false true leads reached most (w ∷ ws) bs = One (IsShort w) bs
+Begun false false leads reached most (w ∷ ws) bs = bs ≡ []
 
 -- these were added
-pub record AddsBlock (leader : Bool) (leads : ℕ → Bool) (every : Bool) (most : ℕ) (words : List CodeWord) (old new : List CodeBlock) : Type 0 where
+pub record AddsBlock (leader : Bool) (leads : ℕ → Bool) (every : Bool) (reached : ℕ → Bool) (most : ℕ) (words : List CodeWord) (old new : List CodeBlock) : Type 0 where
   pub added : List CodeBlock
   pub new_is : new ≡ old ++ added
-  pub begun : Begun leader every leads most words added
+  pub begun : Begun leader every leads reached most words added
 
 -- a list in two parts
 pub record Parts (P Q : List CodeBlock → Type 0) (bs : List CodeBlock) : Type 0 where
@@ -68,6 +70,6 @@ pub record Parts (P Q : List CodeBlock → Type 0) (bs : List CodeBlock) : Type 
   pub rest : Q back
 
 -- the blocks that begin with any of the words
-abbrev pub Built : (ℕ → Bool) → Bool → ℕ → List CodeWord → List CodeBlock → Type 0
-Built leads every most [] bs = bs ≡ []
-Built leads every most (w ∷ ws) bs = Parts (Begun (leads w.at) every leads most (w ∷ ws)) (Built leads every most ws) bs
+abbrev pub Built : (ℕ → Bool) → Bool → (ℕ → Bool) → ℕ → List CodeWord → List CodeBlock → Type 0
+Built leads every reached most [] bs = bs ≡ []
+Built leads every reached most (w ∷ ws) bs = Parts (Begun (leads w.at) every leads reached most (w ∷ ws)) (Built leads every reached most ws) bs

@@ -1,6 +1,6 @@
 //! The list of the blocks.
 ghost use Rattle.std.specs.Prelude.{◌≡◌, ℕ, ◌+◌, ◌≤◌, ◌↔◌, All, IfOk, IsTrue, OnOk, length, map};
-ghost use Rattle.flow_recovery.specs.Sets.{lists};
+ghost use Rattle.flow_recovery.specs.Sets.{holds, lists};
 ghost use Rattle.qed_model.specs.Numbers.{is_at};
 ghost use Rattle.elf_types.specs.declared.file.ElfFile.{ElfFile};
 ghost use Rattle.qed_model.specs.declared.options.Entries.TheVariants as entries;
@@ -15,10 +15,11 @@ use crate::block::{Blocks, CodeBlock};
 use crate::bodies::{body_extent, ends, is_at};
 use block_split::split;
 use elf_types::{ElfFile, Listed};
-use flow_recovery::{has_indirect, leaders};
+use flow_recovery::{entered, has_indirect, leaders};
 use qed_model::{CodeWord, Entries, Options, Test};
 use rv_isa::Ins;
 use std::alloc::{AllocError, Global};
+use std::collections::BTreeSet;
 
 /// The instructions of words.
 fn instructions(alloc: Global, words: &[CodeWord]) -> Result<Vec<Ins>, AllocError>
@@ -32,11 +33,12 @@ fn long_block(
     alloc: Global,
     words: &[CodeWord],
     next: Option<u64>,
+    reached: &BTreeSet<u64>,
     options: &Options,
 ) -> Result<CodeBlock, AllocError>
     requires some { 1 ≤ length words.now }
     requires sound { AreSoundOptions options.now }
-    ensures { IfOk result (IsLong (is_at next) options.now.inst_max words.now) }
+    ensures { IfOk result (IsLong (is_at next) (holds reached.now) options.now.inst_max words.now) }
 {
     let found = body_extent(words, next);
     let body = instructions(alloc, &words[..found.size])?;
@@ -46,6 +48,7 @@ fn long_block(
         body: Listed::of(body),
         lengths: Listed::of(lengths),
         end: found.end,
+        reached: reached.contains(&words[0].at),
     })
 }
 
@@ -62,6 +65,7 @@ fn short_block(alloc: Global, word: &CodeWord) -> Result<CodeBlock, AllocError>
             body: Listed::of(body),
             lengths: Listed::of(lengths),
             end: Some(word.ins),
+            reached: false,
         });
     }
     body.push(word.ins)?;
@@ -71,6 +75,7 @@ fn short_block(alloc: Global, word: &CodeWord) -> Result<CodeBlock, AllocError>
         body: Listed::of(body),
         lengths: Listed::of(lengths),
         end: None,
+        reached: false,
     })
 }
 
@@ -81,15 +86,16 @@ fn push_block(
     leads: bool,
     next: Option<u64>,
     every: bool,
+    reached: &BTreeSet<u64>,
     options: &Options,
 ) -> Result<(), AllocError>
     requires some { 1 ≤ length words.now }
     requires sound { AreSoundOptions options.now }
-    ensures { OnOk result (AddsBlock leads (is_at next) every options.now.inst_max words.now blocks.old.items blocks.new.items) }
+    ensures { OnOk result (AddsBlock leads (is_at next) every (holds reached.now) options.now.inst_max words.now blocks.old.items blocks.new.items) }
 {
     let alloc = *blocks.allocator();
     if leads {
-        blocks.push(long_block(alloc, words, next, options)?)?;
+        blocks.push(long_block(alloc, words, next, reached, options)?)?;
     } else if every {
         blocks.push(short_block(alloc, &words[0])?)?;
     }
@@ -122,11 +128,12 @@ pub(crate) fn list(
     words: &[CodeWord],
     leaders: &[u64],
     every: bool,
+    reached: &BTreeSet<u64>,
     options: &Options,
 ) -> Result<Vec<CodeBlock>, AllocError>
     requires sound { AreSoundOptions options.now }
     requires along { AreAlong words.now leaders.now }
-    ensures { IfOk result (λ blocks. Built (lists leaders.now) every options.now.inst_max words.now blocks.items) }
+    ensures { IfOk result (λ blocks. Built (lists leaders.now) every (holds reached.now) options.now.inst_max words.now blocks.items) }
 {
     let mut blocks = Vec::new(alloc);
     let mut left = leaders;
@@ -140,6 +147,7 @@ pub(crate) fn list(
             leads,
             first(left),
             every,
+            reached,
             options,
         )?;
     }
@@ -172,11 +180,13 @@ pub fn blocks(
 {
     let leaders = leaders(alloc, test, file, options)?;
     let every = has_every(test, options);
+    let reached = entered(alloc, test, file, options)?;
     let list = list(
         alloc,
         test.code.as_slice(),
         leaders.as_slice(),
         every,
+        &reached,
         options,
     )?;
     Ok(Listed::of(list))

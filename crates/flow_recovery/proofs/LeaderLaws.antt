@@ -25,6 +25,7 @@ use Rattle.qed_model.specs.Admission.CodeWords.{is_code}
 use Rattle.qed_model.specs.Admission.Test.{AreCodeWords, IsTestOf}
 use Rattle.qed_model.proofs.Among.{among_of, contains_of, passing, any_passing, among-filter, among-kept}
 use Rattle.qed_model.specs.Members.{Among}
+use Rattle.qed_model.specs.Weave.Blocks.{IsEntered}
 use Rattle.flow_recovery.specs.Sets.{lists, Adds}
 use Rattle.qed_model.proofs.OneTest.{reached_by}
 use Rattle.flow_recovery.specs.Words.{leads_to, ends_before, begins_by, is_begun, is_chosen, is_entered, is_even, is_leveled, of_code}
@@ -106,11 +107,19 @@ module _ (f : ElfFile) (o : Options) (t : Test) (told : IsTestOf f o t) where
       (or_cases (list_any (λ c. begins_by c a) code) (is_named_in f a) h))
       (or_cases (t.entry == a) (list_any (λ c. begins_by c a) code || is_named_in f a) e)
 
+  pub entered : (a : ℕ) → (is_entered f o t a ≡ true) ↔ IsEntered f o a
+  entered a = (
+    λ e.
+        let p = and_parts (is_chosen o.entries) (has_jalr code && is_reached f t a) e in
+        let q = and_parts (has_jalr code) (is_reached f t a) p.1 in
+        (only o.entries p.0, (indirect_is f code (has_jalr code) words refl).0 q.0, record { test = t; told = told; reached = q.1 }),
+    λ h.
+        and_from (is_chosen o.entries) (has_jalr code && is_reached f t a) (ap is_chosen h.0)
+        (and_from (has_jalr code) (is_reached f t a) ((indirect_is f code (has_jalr code) words refl).1 h.1) (reached_by f o t a told h.2)),
+  )
+
   by_reach : (a : ℕ) → is_entered f o t a ≡ true → Begins f o a
-  by_reach a e =
-      let p = and_parts (is_chosen o.entries) (has_jalr code && is_reached f t a) e in
-      let q = and_parts (has_jalr code) (is_reached f t a) p.1 in
-      Reached (only o.entries p.0) ((indirect_is f code (has_jalr code) words refl).0 q.0) (record { test = t; told = told; reached = q.1 })
+  by_reach a e = let h = (entered a).0 e in Reached h.0 h.1 h.2
 
   by_level : (a : ℕ) → is_leveled o code a ≡ true → Begins f o a
   by_level a e =
@@ -157,9 +166,7 @@ module _ (f : ElfFile) (o : Options) (t : Test) (told : IsTestOf f o t) where
       (or_left (is_named_by a) (is_entered f o t a) (or_right (t.entry == a) (list_any (λ c. begins_by c a) code || is_named_in f a) (or_right (list_any (λ c. begins_by c a) code) (is_named_in f a) e)))
   found a lt stands (Reached e h r) =
       level a
-      (or_right (is_named_by a) (is_entered f o t a)
-      (and_from (is_chosen o.entries) (has_jalr code && is_reached f t a) (ap is_chosen e)
-      (and_from (has_jalr code) (is_reached f t a) ((indirect_is f code (has_jalr code) words refl).1 h) (reached_by f o t a told r))))
+      (or_right (is_named_by a) (is_entered f o t a) ((entered a).1 (e, h, r)))
   found a lt stands (Even lean multiple) = let w = code_word f code words a stands in or_right (is_known a) (is_leveled o code a) (by_word_at w.word a w.among w.at lean multiple)
 
   -- ---- those of the code

@@ -13,4 +13,4 @@ mod words;
 
 pub use classes::{has_target, is_end, is_indirect};
 pub use reach::reached;
-pub use recovery::{has_indirect, leaders};
+pub use recovery::{entered, has_indirect, leaders};

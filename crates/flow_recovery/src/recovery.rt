@@ -5,7 +5,8 @@ ghost use Rattle.rv_isa.specs.Kind.{class_of};
 ghost use Rattle.elf_types.specs.declared.file.ElfFile.{ElfFile};
 ghost use Rattle.qed_model.specs.Admission.Leaders.{is_indirect, HasIndirect};
 ghost use Rattle.qed_model.specs.Admission.Test.{AreCodeWords, IsTestOf};
-ghost use Rattle.flow_recovery.specs.Sets.{lists, Adds, from_on, is_first};
+ghost use Rattle.qed_model.specs.Weave.Blocks.{IsEntered};
+ghost use Rattle.flow_recovery.specs.Sets.{holds, lists, Adds, from_on, is_first};
 ghost use Rattle.flow_recovery.specs.Words.{is_begun, is_chosen, is_entered, of_code};
 ghost use Rattle.flow_recovery.specs.Leaders.{AreLeaders};
 
@@ -13,11 +14,12 @@ use crate::classes::is_indirect;
 use crate::even::add_leveled;
 use crate::named::{add_relocations, add_symbols};
 use crate::reach::add_reached;
-use crate::sets::add;
+use crate::sets::{add, set_of};
 use crate::words::add_words;
 use elf_types::{ElfFile, Rela, Symbol};
 use qed_model::{CodeWord, Entries, Options, Test};
 use std::alloc::{AllocError, Global};
+use std::collections::BTreeSet;
 
 /// Those of ascending addresses that are not below one.
 fn from_on(address: u64, addresses: &[u64]) -> &[u64]
@@ -101,6 +103,22 @@ fn add_entered(
         add_reached(list, test, file)?;
     }
     Ok(())
+}
+
+/// The addresses to which a JALR of the file that `test` is may lead, where such addresses alone have entries; else none.
+pub fn entered(
+    alloc: Global,
+    test: &Test,
+    file: &ElfFile,
+    options: &Options,
+) -> Result<BTreeSet<u64>, AllocError>
+    requires { IsTestOf file.now options.now test.now }
+    ensures { IfOk result (λ set. (a : ℕ) → IsTrue (holds set a) ↔ IsEntered file.now options.now a) }
+{
+    let mut list = Vec::new(alloc);
+    add_entered(&mut list, test, file, options)?;
+    let set = set_of(alloc, list)?;
+    Ok(set)
 }
 
 /// Those of the addresses at which words of the code stand, in ascending order.

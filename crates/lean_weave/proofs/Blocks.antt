@@ -2,7 +2,7 @@
 -- a block, and where one goes on at a leader, the next begins.
 use Rattle.std.proofs.Common.{◌≡◌, ℕ, ◌+◌, ◌-◌, ◌*◌, ◌/◌, ◌%◌, ◌^◌, ◌<◌, ◌≤◌, ◌⊎◌, inl, inr, ⊎_elim, Bool, true, false, cond, List, [], ◌∷◌, length, refl, sym, ap, ◌∙◌, subst, arith}
 use Rattle.std.specs.Prelude.{◌==◌, ◌&&◌}
-use Rattle.std.proofs.lemmas.Bool.{and_parts, cases_lt, eq-eqb, eqb-true, false≢true, ne_eqb, or_cases, or_left, or_right}
+use Rattle.std.proofs.lemmas.Bool.{and_parts, cases_lt, eq-eqb, eqb-true, false≢true, or_cases, or_left, or_right}
 use Rattle.elf_types.specs.declared.file.ElfFile.{ElfFile}
 use Rattle.rv_isa.specs.declared.ins.Ins.{Ins}
 use Rattle.qed_model.specs.declared.options.Options.{Options}
@@ -11,7 +11,7 @@ use Rattle.qed_model.specs.Admission.Leaders.{IsLeader}
 use Rattle.qed_model.specs.Members.{Among}
 use Rattle.qed_model.specs.Weave.Blocks.{StopsAt, IsLeaderBlock, IsOtherBlock, begins_at, AreBlocks}
 use Rattle.qed_model.specs.Weave.Sequences.{End, Falls, Stops, Block, body_length}
-use Rattle.qed_model.specs.Weave.LeanCode.{is_alike, start_at, steps_at, Lean, block_steps}
+use Rattle.qed_model.specs.Weave.LeanCode.{is_alike, start_at, Lean}
 use Rattle.qed_model.proofs.Among.{all_among}
 use Rattle.qed_model.proofs.PieceLaws.{pieces_whole}
 use Rattle.weave_core.specs.World.{World}
@@ -20,7 +20,7 @@ use Rattle.weave_core.specs.WeaveLaws.{PiecesAt, stops}
 use Rattle.weave_core.specs.WeavePromise.{AllBlocksOf}
 use Rattle.weave_core.proofs.Marks.{Ascend}
 use Rattle.weave_core.proofs.TestKnown.{body_size}
-use Rattle.lean_weave.specs.Woven.{weave_of, goes_on, begins_with, InOrder, AreCounted}
+use Rattle.lean_weave.specs.Woven.{weave_of, goes_on, begins_with, InOrder}
 
 -- ---- members
 -- a leader begins a block of the list
@@ -128,20 +128,6 @@ module _ (f : ElfFile) (o : Options) (some : 1 ≤ o.inst_max) where
           by true false x y r more = more
           by false q x y r more = more
 
-    -- the steps of each
-    pub steps_is : (bs : List Block) (low : ℕ) (diverse land : Bool) (leader : ℕ → Bool) (b : Block) → Are low bs → Among b bs → steps_at diverse land leader bs b.start ≡ block_steps diverse land leader b
-    steps_is [] low diverse land leader b h m = absurd m
-    steps_is (c ∷ cs) low diverse land leader b h m =
-        ⊎_elim
-        (λ e. subst (λ (x : Block). steps_at diverse land leader (c ∷ cs) x.start ≡ block_steps diverse land leader x) (sym e) here)
-        (λ r.
-        let k = later cs (c.start + 1) b h.0.1 r in
-        let no : (c.start == b.start) ≡ false = ne_eqb c.start b.start (λ e. absurd (omega (arith, k, e))) in
-        ap (λ z. cond z (block_steps diverse land leader c) (steps_at diverse land leader cs b.start)) no ∙ steps_is cs (c.start + 1) diverse land leader b (rest low c cs h) r)
-        m where
-          here : steps_at diverse land leader (c ∷ cs) c.start ≡ block_steps diverse land leader c
-          here = ap (λ z. cond z (block_steps diverse land leader c) (steps_at diverse land leader cs c.start)) (eq-eqb c.start c.start refl)
-
     -- ---- over all blocks
     module _ (ascend : Ascend 0 blocks) where
       all : Are 0 blocks
@@ -149,16 +135,6 @@ module _ (f : ElfFile) (o : Options) (some : 1 ≤ o.inst_max) where
 
       pub starts : (b : Block) → Among b blocks → start_at blocks b.end (at_of b) ≡ b.start
       starts b m = start_is blocks 0 b all m
-
-      pub steps : (diverse land : Bool) (leader : ℕ → Bool) (b : Block) → Among b blocks → steps_at diverse land leader blocks b.start ≡ block_steps diverse land leader b
-      steps diverse land leader b m = steps_is blocks 0 diverse land leader b all m
-
-      -- the tick of each counts its steps, where each has one
-      pub counted : (l : Lean) → l.most ≡ steps_at l.diverse l.land (begins_at blocks) blocks → ((a : ℕ) → l.ticks a ≡ true) → AreCounted l (begins_at blocks) blocks
-      counted l is all_tick = each blocks (λ b m. m) where
-        each : (bs : List Block) → ((b : Block) → Among b bs → Among b blocks) → AreCounted l (begins_at blocks) bs
-        each [] h = tt
-        each (b ∷ bs) h = let e : l.most b.start ≡ block_steps l.diverse l.land (begins_at blocks) b = ap (λ (m : ℕ → ℕ). m b.start) is ∙ steps l.diverse l.land (begins_at blocks) b (h b (inl refl)) in ((omega (arith, e), λ t g. let z = ap (λ x. cond {A = ℕ} x 0 (l.most t)) (all_tick t) in omega (arith, e, z)), each bs (λ c m. h c (inr m)))
 
       -- ---- the next block
       -- the address behind a block is where the next begins, if that is a leader

@@ -10,7 +10,7 @@ use Rattle.qed_model.specs.Weave.Code.{body_of, pieces_of}
 use Rattle.qed_model.specs.Weave.Sequences.{Reads, End, Falls, Stops, body_length, before_end, is_auipc}
 use Rattle.qed_model.specs.Weave.Costs.{cost_each, original_cost}
 use Rattle.qed_model.specs.Weave.Lean.{first_word, leave, leave_cost}
-use Rattle.qed_model.specs.Weave.LeanCode.{Lean, piece_steps, body_steps, block_steps, fall_to}
+use Rattle.qed_model.specs.Weave.LeanCode.{Lean, piece_steps, body_steps, fall_to, leads_on}
 use Rattle.qed_model.proofs.Walk.{run-more}
 use Rattle.qed_model.proofs.Walked.{Walk, walk_on}
 use Rattle.weave_core.specs.World.{World, Quiet, IsCursor}
@@ -22,7 +22,7 @@ use Rattle.weave_core.specs.WeaveLaws.{PiecesAt, EntriesAt, Stands, stops, Onwar
 use Rattle.weave_core.proofs.Leaves.{no_code}
 use Rattle.weave_core.proofs.Source.{source_run, not_trapped_le, steady_le, steady_rest}
 use Rattle.weave_core.proofs.Trace.{none_run, one_run}
-use Rattle.lean_weave.specs.Woven.{weave_of, LeanIn, swept_steps, leads_on, owed, IsCounted}
+use Rattle.lean_weave.specs.Woven.{weave_of, LeanIn, swept_steps, owed, IsCounted}
 use Rattle.lean_weave.proofs.Costs.{entry_some}
 use Rattle.lean_weave.proofs.End.{Sweeps, swept_on}
 use Rattle.lean_weave.proofs.Leave.{SignedAs}
@@ -33,7 +33,7 @@ use Rattle.lean_weave.proofs.Tick.{counter}
 
 -- the steps of each block are counted
 pub record Counts (w : World) (l : Lean) (leader : ℕ → Bool) (entries : EntriesAt w (weave_of w l leader) leader) : Type 0 where
-  pub each : (a : ℕ) (h : leader a ≡ true) → IsCounted l leader (record { start = a; body = (entries a h).body; end = (entries a h).end })
+  pub each : (a : ℕ) (h : leader a ≡ true) → IsCounted l leader (record { start = a; body = (entries a h).body; end = (entries a h).end; reached = (entries a h).reached })
 
 module _ (w : World) (l : Lean) (leader : ℕ → Bool) (x : LeanIn w l leader) (block : (a : ℕ) → leader a ≡ true → IsEntryOf w a) where
   abbrev v : Weave
@@ -273,8 +273,8 @@ module _ (w : World) (l : Lean) (leader : ℕ → Bool) (x : LeanIn w l leader) 
       -- its steps are counted, with those to the next tick
       owing : (t : ℕ) → OnWay w l leader x block on t → leader t ≡ true → entry_steps l.land + bound + owed l t ≤ l.most s.pc
       owing t (inl way) leads = (counts.each s.pc b.stands.leads).1 t way
-      owing t (inr reached) leads =
-          let none : owed l t ≡ 0 = ap (λ k. cond {A = ℕ} k 0 (l.most t)) (x.reached t leads reached) in
+      owing t (inr ticks) leads =
+          let none : owed l t ≡ 0 = ap (λ k. cond {A = ℕ} k 0 (l.most t)) (ticks leads) in
           nothing (entry_steps l.land + bound) (owed l t) (l.most s.pc) none (counts.each s.pc b.stands.leads).0 where
             nothing : (a o m : ℕ) → o ≡ 0 → a ≤ m → a + o ≤ m
             nothing a o m e h = omega (arith, e, h)

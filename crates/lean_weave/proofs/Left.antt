@@ -1,31 +1,30 @@
 -- Each leave meets the law of the rows.
 use Rattle.std.proofs.Common.{◌≡◌, ℕ, ◌+◌, ◌*◌, ◌%◌, ◌^◌, ◌<◌, ◌≤◌, ◌⊎◌, inl, inr, Bool, true, false, List, length, refl, sym, ap, ◌∙◌, subst, arith}
-use Rattle.std.specs.Prelude.{◌==◌, ◌&&◌, ◌||◌, nat_le}
+use Rattle.std.specs.Prelude.{◌==◌, ◌&&◌, nat_le}
 use Rattle.std.proofs.lemmas.Bool.{and_parts, eqb-true, eq-eqb, leb-true, or_left, or_right}
 use Rattle.rv_isa.specs.declared.ins.Ins.{Ins}
 use Rattle.rv_isa.specs.declared.class.Class.{Class}
 use Rattle.rv_isa.specs.declared.class.Class.TheVariants as class
 use Rattle.rv_isa.specs.Kind.{class_of}
 use Rattle.qed_model.specs.Weave.Bounds.{cost_of}
-use Rattle.qed_model.specs.Weave.Code.{body_of}
 use Rattle.qed_model.specs.Weave.Pieces.{is_run}
 use Rattle.qed_model.specs.Machine.Step.{State, reg, Known, run, step, target}
 use Rattle.qed_model.specs.Machine.Values.{holds}
 use Rattle.qed_model.specs.Promise.Kept.{NotTrapped, LeadsToReached, IsSteady}
 use Rattle.qed_model.specs.Weave.Sequences.{End, Falls, Stops, before_end}
 use Rattle.qed_model.specs.Weave.Lean.{leave, leave_as, leave_cost, leave_cost_as}
-use Rattle.qed_model.specs.Weave.LeanCode.{Lean, fall_to}
+use Rattle.qed_model.specs.Weave.LeanCode.{Lean, fall_to, leads_as, leads_on}
 use Rattle.qed_model.proofs.Walk.{known_at}
 use Rattle.weave_core.specs.World.{World}
 use Rattle.weave_core.specs.Blocks.{IsEntryOf, Leaves, EndStands}
 use Rattle.weave_core.specs.Rows.{At, Sourced}
 use Rattle.weave_core.specs.Weave.{Weave}
-use Rattle.weave_core.specs.WeaveLaws.{EntryAt, Ends, GoesTo, stops, Onward, lands, is_lost, Left, Rows}
+use Rattle.weave_core.specs.WeaveLaws.{Ends, GoesTo, stops, Onward, lands, is_lost, Left, Rows}
 use Rattle.weave_core.proofs.Indirect.{aim, leap_step}
 use Rattle.weave_core.proofs.Branch.{branch_step, branch_to}
 use Rattle.weave_core.proofs.Leaves.{jump_step, step-illegal}
 use Rattle.lean_weave.specs.Ticked.{is_ticked_at}
-use Rattle.lean_weave.specs.Woven.{weave_of, LeanIn, swept_steps, leads_as, leads_on}
+use Rattle.lean_weave.specs.Woven.{weave_of, LeanIn, swept_steps}
 use Rattle.lean_weave.proofs.Costs.{leave_most}
 use Rattle.lean_weave.proofs.Rows.{enter_law, inside_law, piece_law}
 use Rattle.lean_weave.proofs.End.{end_leave, Sweeps}
@@ -37,9 +36,9 @@ module _ (w : World) (l : Lean) (leader : ℕ → Bool) (x : LeanIn w l leader) 
   abbrev v : Weave
   v = weave_of w l leader
 
-  -- where the input goes from an end: where that leads by itself, or where a jump by register may lead
+  -- where the input goes from an end: where that leads by itself, or by a jump by register, to a tick
   abbrev pub OnWay : (ℕ → Bool) → ℕ → Type 0
-  OnWay on p = (on p ≡ true) ⊎ (w.reached p ≡ true)
+  OnWay on p = (on p ≡ true) ⊎ (leader p ≡ true → l.ticks p ≡ true)
 
   -- where a leave leads, in at most so many steps
   abbrev pub Parts : State → State → ℕ → ℕ → ℕ → (ℕ → Bool) → Type 0
@@ -70,7 +69,7 @@ module _ (w : World) (l : Lean) (leader : ℕ → Bool) (x : LeanIn w l leader) 
     stop_row class.JumpReg u s i c at so h g calm to sign =
         let lp = leap_step w s i so h c calm in
         let there : w.reached (aim s i) ≡ true = ap w.reached (sym lp.pc) ∙ to i so.over.going (known_at w.source s i so.over h) c in
-        inr (leap_leave w leader entries u s i a k (record { at = at; sourced = so; first = g.1; link = g.0; there = g.2 (aim s i) there lp.grain; table = λ l. g.3 (aim s i) there l; low = low; even = x.grain a leads; offset = omega arith; sign = sign }) h c calm, inr (to i so.over.going (known_at w.source s i so.over h) c))
+        inr (leap_leave w leader entries u s i a k (record { at = at; sourced = so; first = g.1; link = g.0; there = g.2 (aim s i) there lp.grain; table = λ l. g.3 (aim s i) there l; low = low; even = x.grain a leads; offset = omega arith; sign = sign }) h c calm, inr (λ e. x.entered s.pc i h c (step s).pc e (to i so.over.going (known_at w.source s i so.over h) c)))
     stop_row c u s i e at so h g calm to sign = absurd g
 
     -- of any end

@@ -26,5 +26,6 @@ pub mod Strays
 pub mod Unmarked
 pub mod Blocks
 pub mod Short
+pub mod Ticks
 pub mod Tests
 pub mod Near

@@ -1,5 +1,5 @@
 -- The code of a plan: where its parts stand, the entries of its blocks, and where its words lead.
-use Rattle.std.proofs.Common.{◌≡◌, ℕ, ◌+◌, ◌*◌, ◌%◌, ◌^◌, ◌≤◌, length, ⊎_elim, Bool, true, false, cond, List, [], ◌∷◌, ◌++◌, refl, sym, ap, ◌∙◌, subst, append_assoc, arith}
+use Rattle.std.proofs.Common.{◌≡◌, ℕ, ◌+◌, ◌*◌, ◌%◌, ◌^◌, length, ⊎_elim, Bool, true, false, cond, List, [], ◌∷◌, ◌++◌, refl, sym, ap, ◌∙◌, subst, append_assoc, arith}
 use Rattle.std.specs.Prelude.{◌==◌, ◌&&◌, pos}
 use Rattle.std.proofs.lemmas.Bool.{eq-eqb, eqb-true, false≢true, or_cases}
 use Rattle.std.proofs.lemmas.List.{append-nil}
@@ -18,7 +18,7 @@ use Rattle.qed_model.specs.Weave.Code.{Sequences, pieces_of, body_of, block_item
 use Rattle.qed_model.specs.Weave.Placed.{sum_of_sizes}
 use Rattle.qed_model.specs.Weave.Sequences.{Reads, End, Falls, Stops, Block, body_length, before_end, guards_of}
 use Rattle.qed_model.specs.Weave.Lean.{turn, goes, opposite, leave, leave_as}
-use Rattle.qed_model.specs.Weave.LeanCode.{Lean, worded, block_steps, fall_to, fall_words}
+use Rattle.qed_model.specs.Weave.LeanCode.{Lean, worded, fall_to, fall_words}
 use Rattle.weave_core.specs.World.{World}
 use Rattle.weave_core.specs.WeaveLaws.{BlockOf, EntryAt}
 use Rattle.weave_core.specs.WeavePromise.{AllBlocksOf}
@@ -84,7 +84,7 @@ pub record BlockAt (w : World) (l : Lean) (leader : ℕ → Bool) (b : Block) : 
 -- at that of a leader
 pub record Counted (w : World) (l : Lean) (leader : ℕ → Bool) (a : ℕ) : Type 0 where
   pub entry : EntryAt w (weave_of w l leader) leader a
-  pub counts : IsCounted l leader (record { start = a; body = entry.body; end = entry.end })
+  pub counts : IsCounted l leader (record { start = a; body = entry.body; end = entry.end; reached = entry.reached })
 
 module _ (w : World) (l : Lean) (leader : ℕ → Bool) where
   abbrev s : Sequences
@@ -152,6 +152,6 @@ module _ (w : World) (l : Lean) (leader : ℕ → Bool) where
   -- a leader begins one of them
   pub entry_of : (near : w.form.far ≡ false) (b : Block) (a : ℕ) → BlockAt w l leader b → b.start ≡ a → Counted w l leader a
   entry_of near b a k e = subst (Counted w l leader) e (record {
-    entry = record { body = b.body; end = b.end; reads = subst (λ f. Reads f w.code w.entry (w.entry b.start) (block_items (weave_of w l leader).code b)) (sym near) k.reads; good = k.good };
+    entry = record { body = b.body; end = b.end; reached = b.reached; reads = subst (λ f. Reads f w.code w.entry (w.entry b.start) (block_items (weave_of w l leader).code b)) (sym near) k.reads; good = k.good };
     counts = k.counts;
   })

@@ -1,5 +1,5 @@
--- In the lean form blocks are short: each multiple of so many words as a piece has at most begins one. So a block has no more instructions than a piece, and its
--- tick counts fewer steps than there are from check to check.
+-- In the lean form blocks are short: each multiple of so many words as a piece has at most begins one. So a block has no more instructions than a piece, and fewer
+-- steps than there are from check to check.
 use Rattle.std.proofs.Common.{◌≡◌, ℕ, ◌+◌, ◌-◌, ◌*◌, ◌/◌, ◌%◌, ◌<◌, ◌≤◌, ⊎_elim, Bool, true, List, length, Some, is_some, ap, ◌∙◌, subst, arith}
 use Rattle.std.specs.Prelude.{IfSome}
 use Rattle.std.proofs.lemmas.Bool.{cases_lt}
@@ -63,20 +63,25 @@ module _ (f : ElfFile) (o : Options) (every : ℕ) (sound : AreSoundOptions o) (
         } in
         l.inside k (omega (arith, below)) inside leads
 
-  -- its tick counts fewer steps
-  few_of : (leader : ℕ → Bool) (b : Block) (l : IsLeaderBlock f o b) → b.start % 4 ≡ 0 → block_steps o.diverse o.land leader b < every
+  -- and so many steps at most
+  abbrev pub own_most : ℕ
+  own_most = entry_steps o.land + 19 + cost_of o.diverse * o.inst_max
+
+  pub own_few : own_most < every
+  own_few = is_sound.2
+
+  few_of : (leader : ℕ → Bool) (b : Block) (l : IsLeaderBlock f o b) → b.start % 4 ≡ 0 → block_steps o.diverse o.land leader b ≤ own_most
   few_of leader b l grain =
       let n = length_is f o some_most b l in
       let few = few_instructions b l grain in
       let body = body_most o.diverse b.body in
       let most : cost_of o.diverse * body_length b.body ≤ cost_of o.diverse * o.inst_max = mul-le-mul_left (cost_of o.diverse) (omega (arith, n, few)) in
       let ends = end_most b.end leader b.start (b.start + 4 * body_length b.body) (ends_in b.end l.stops) in
-      let room = is_sound.2 in
-      omega (arith, body, most, ends, room) where
+      omega (arith, body, most, ends) where
         ends_in : (e : End) → StopsAt f o e (length l.body) (b.start + 4 * length l.body) → IsEnd e
         ends_in Falls s = tt
         ends_in (Stops i) s = s.1
 
   -- ---- all blocks
-  pub short : (blocks : List Block) → AreBlocks f o blocks → ((a : ℕ) → begins_at blocks a ≡ true → a % 4 ≡ 0) → (b : Block) → Among b blocks → block_steps o.diverse o.land (begins_at blocks) b < every
+  pub short : (blocks : List Block) → AreBlocks f o blocks → ((a : ℕ) → begins_at blocks a ≡ true → a % 4 ≡ 0) → (b : Block) → Among b blocks → block_steps o.diverse o.land (begins_at blocks) b ≤ own_most
   short blocks are grain b m = few_of (begins_at blocks) b (leading f o some_most blocks are only_reached grain b m) (grain b.start (begins blocks b m))

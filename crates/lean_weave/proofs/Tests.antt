@@ -1,7 +1,8 @@
 -- The lean form of an admitted test: all of it has words, where it has no more bytes than a JAL spans; it is a plan, and so are the promises over tests.
 use Rattle.std.proofs.Common.{◌≡◌, ℕ, ◌+◌, ◌*◌, ◌%◌, ◌^◌, ◌<◌, ◌≤◌, Bool, true, false, List, [], ◌∷◌, ◌++◌, length, Some, refl, sym, ap, ◌∙◌, subst, arith, append_assoc, ◌-◌, inl, inr}
-use Rattle.std.specs.Prelude.{map, All, pos, unwrap_or}
+use Rattle.std.specs.Prelude.{map, All, pos, unwrap_or, Option, None, if◌then◌else◌}
 use Rattle.std.proofs.lemmas.Bool.{and_from, eq-eqb, false≢true}
+use Rattle.std.proofs.Math.Nat.{min-le_left}
 use Rattle.elf_types.specs.declared.file.ElfFile.{ElfFile}
 use Rattle.rv_isa.specs.declared.ins.Ins.{Ins}
 use Rattle.qed_model.specs.declared.item.Item.{Item}
@@ -9,12 +10,16 @@ use Rattle.qed_model.specs.declared.options.Options.{Options}
 use Rattle.qed_model.specs.declared.options.Entries.TheVariants as entries
 use Rattle.qed_model.specs.declared.plan.EntryRow.{EntryRow}
 use Rattle.qed_model.specs.Numbers.{bytes_of}
-use Rattle.qed_model.specs.Admission.CodeWords.{instruction_at}
+use Rattle.rv_isa.specs.declared.class.Class.TheVariants as class
+use Rattle.rv_isa.specs.Kind.{class_of}
+use Rattle.qed_model.specs.Admission.CodeWords.{instruction_at, word_at}
+use Rattle.qed_model.specs.Admission.Leaders.{is_indirect}
 use Rattle.qed_model.specs.Admission.Reached.{AreReached}
 use Rattle.qed_model.specs.Machine.Loading.{loaded_file}
 use Rattle.qed_model.specs.Machine.Program.{Program}
-use Rattle.qed_model.specs.Machine.Step.{Known}
+use Rattle.qed_model.specs.Machine.Step.{Known, known_or}
 use Rattle.qed_model.specs.Members.{Among}
+use Rattle.qed_model.specs.Weave.Bounds.{cost_of, entry_steps}
 use Rattle.qed_model.specs.Weave.Blocks.{StopsAt, IsBodyAt, IsLeaderBlock, begins_at}
 use Rattle.qed_model.specs.Weave.Code.{Sequences, AreUnmarked, entries_of, code_of, NoMarks, pieces_of, body_of, block_items}
 use Rattle.qed_model.specs.Weave.OutputParts.{base_of}
@@ -23,9 +28,9 @@ use Rattle.qed_model.specs.Weave.Places.{image_of, half_of, code_place}
 use Rattle.qed_model.specs.Weave.Sequences.{Form, End, Falls, Stops, Reads, Block, body_length, stub, original, each_part, before_end}
 use Rattle.qed_model.specs.Weave.Forms.{form_of, mirror_of}
 use Rattle.qed_model.specs.Weave.Lean.{call_at, check, begin, leave}
-use Rattle.qed_model.specs.Weave.LeanCode.{lean_of, lean_items, items_with, start_at, steps_at, Lean, worded, fall_words}
+use Rattle.qed_model.specs.Weave.LeanCode.{lean_of, lean_items, items_with, start_at, Lean, worded, fall_words, Counting, counting_of}
 use Rattle.qed_model.specs.Weave.LeanBounds.{lean_bounds}
-use Rattle.qed_model.proofs.Fetches.{known_instruction}
+use Rattle.qed_model.proofs.Fetches.{fetch_word, fetched_code, known_instruction}
 use Rattle.qed_model.proofs.PlacedWords.{size-append, IsInside, mark_inside, grain_of_sizes}
 use Rattle.weave_core.specs.World.{World}
 use Rattle.weave_core.specs.Blocks.{IsEntryOf, TableAt}
@@ -42,8 +47,9 @@ use Rattle.lean_weave.specs.Tests.{IsLeanTest, LeanTestsKept, LeanTestsCaught, L
 use Rattle.lean_weave.specs.Woven.{LeanIn, LeanPlan, weave_of}
 use Rattle.lean_weave.proofs.Costs.{call_fits}
 use Rattle.lean_weave.proofs.Ways.{reads_behind}
-use Rattle.lean_weave.proofs.Blocks.{begun, begins, length_is, leading, starts, steps, counted, in_order, all_good}
-use Rattle.lean_weave.proofs.Short.{only_reached, few_steps, short}
+use Rattle.lean_weave.proofs.Blocks.{begun, begins, length_is, leading, starts, in_order, all_good}
+use Rattle.lean_weave.proofs.Short.{only_reached, few_steps, own_most, own_few, short}
+use Rattle.lean_weave.proofs.Ticks.{entry_ticks, entered_ticks, few_most, all_counted}
 use Rattle.lean_weave.proofs.Landed.{lean_landed}
 use Rattle.lean_weave.proofs.Plan.{entry_grain}
 use Rattle.lean_weave.proofs.Strays.{lean_strayed}
@@ -55,7 +61,7 @@ use Rattle.std.proofs.lemmas.List.Elements.{All-head, All-tail}
 use Rattle.rv_isa.specs.declared.kind.Kind.TheVariants.{Illegal, Jal}
 use Rattle.qed_model.specs.declared.item.Item.TheVariants.{Go}
 use Rattle.qed_model.specs.Admission.DataRanges.{data_ranges}
-use Rattle.qed_model.specs.Machine.Table.{ins}
+use Rattle.qed_model.specs.Machine.Table.{ins, decode_of}
 use Rattle.qed_model.specs.Promise.Landed.{IsEntry}
 use Rattle.qed_model.proofs.Nearby.{is_near, IsNearCode, near_jump, near_words}
 use Rattle.qed_model.proofs.Reach.{has_word}
@@ -116,6 +122,17 @@ module _ (f : ElfFile) (o : Options) (every : ℕ) (blocks : List Block) (t : Ar
   ascend : Ascend 0 blocks
   ascend = of.ascend f o t.sound t.file.loads t.admitted blocks t.are
 
+  -- from each entry there are fewer steps to the next tick than from check to check
+  abbrev counting : Counting
+  counting = counting_of o f.entry every blocks
+
+  few_ahead : (a : ℕ) → l.most a < every
+  few_ahead a =
+      let own = own_few f o every t.sound t.lean in
+      let most = few_most counting (own_most f o every t.sound t.lean) blocks (λ b m. short f o every t.sound t.lean blocks t.are grain b m) a in
+      let room = min-le_left (every - (entry_steps o.land + 20 + cost_of o.diverse * o.inst_max)) 48 in
+      omega (arith, own, most, room)
+
   -- ---- where the entries are
   abbrev first : List Item
   first = begin d f.entry ++ check base (call_at o.land) every form.round form.spans
@@ -175,10 +192,9 @@ module _ (f : ElfFile) (o : Options) (every : ℕ) (blocks : List Block) (t : Ar
         let n = b.start + 4 * body_length b.body in
         let a = start_at blocks b.end (b.start + 4 * body_length b.body) in
         let own : start_at blocks b.end (b.start + 4 * body_length b.body) ≡ b.start = starts f o some_most blocks t.are reached_only grain (of.ascend f o t.sound t.file.loads t.admitted blocks t.are) b m in
-        let counts = steps f o some_most blocks t.are reached_only grain (of.ascend f o t.sound t.file.loads t.admitted blocks t.are) o.diverse o.land (begins_at blocks) b m in
-        let less = short f o every t.sound t.lean blocks t.are grain b m in
+        let less = few_ahead b.start in
         let few = few_steps f o every t.sound t.lean in
-        both_all near_code ((s placed_at).enter b.start) (body_of (s placed_at) b.body b.end b.start) (enter_near at base d refl top bounds.1 o.land true b.start (l.most b.start) (distance_between (placed_at b.start + call_at o.land) l.check) k.0 k.1 (omega (arith, counts, less, few)) (calls b.start (begins blocks b m)))
+        both_all near_code ((s placed_at).enter b.start) (body_of (s placed_at) b.body b.end b.start) (enter_near at base d refl top bounds.1 o.land (l.ticks b.start) b.start (l.most b.start) (distance_between (placed_at b.start + call_at o.land) l.check) k.0 k.1 (omega (arith, less, few)) (calls b.start (begins blocks b m)))
         (both_all near_code (pieces_of (s placed_at) b.body b.start) (leave (before_end form) (fall_words (begins_at blocks)) b.end a n) (pieces_near b.body b.start k.2)
         (leave_near at base d refl top bounds.1 (before_end form) (fall_words (begins_at blocks)) (before_near at base d refl top bounds.1 form spans) fall_near a (let low = k.0 in omega (arith, own, low)) (let high = k.1 in omega (arith, own, high)) b.end n k.3))
 
@@ -273,13 +289,17 @@ module _ (f : ElfFile) (o : Options) (every : ℕ) (blocks : List Block) (t : Ar
           (of.good f o t.sound t.file.loads t.admitted blocks t.are false true items words are_items reached aims (λ e. refl))
 
       -- ---- the plan
-      ticks : (a : ℕ) → begins_at blocks a ≡ true → l.most a < every
-      ticks a e =
-          let b = begun blocks a e in
-          let is = steps f o some_most blocks t.are reached_only grain ascend o.diverse o.land (begins_at blocks) b.0 b.1 in
-          let less = short f o every t.sound t.lean blocks t.are grain b.0 b.1 in
-          let here : steps_at o.diverse o.land (begins_at blocks) blocks a ≡ steps_at o.diverse o.land (begins_at blocks) blocks b.0.start = ap (steps_at o.diverse o.land (begins_at blocks) blocks) (sym b.2) in
-          omega (arith, is, less, here)
+      -- where a jump by register leads stands a tick
+      entered : (x : ℕ) (i : Ins) → w.source x ≡ Known i → class_of i.kind ≡ class.JumpReg → (a : ℕ) → begins_at blocks a ≡ true → reached a ≡ true → l.ticks a ≡ true
+      entered x i h c a e r =
+          let shape = of.shape f o t.sound t.file.loads t.admitted blocks t.are in
+          let stands = fetched_code f shape x i h in
+          let decoded : decode_of (word_at f x) ≡ Some i = known_by (word_at f x) (decode_of (word_at f x)) (sym (fetch_word f shape x stands) ∙ h) in
+          let there : instruction_at f x ≡ Some i = ap (λ b. if b then decode_of (word_at f x) else None) stands ∙ decoded in
+          entered_ticks counting f o blocks a t.are.marked (reached_only, (x, record { instruction = i; stands = there; class = ap is_indirect c }), aims reached_only a r) where
+            known_by : (n : ℕ) (d : Option Ins) → known_or n d ≡ Known i → d ≡ Some i
+            known_by n None e = absurd (cc)
+            known_by n (Some j) e = cc
 
       begins_entry : begins_at blocks f.entry ≡ true
       begins_entry = of.begins f o t.sound t.file.loads t.admitted blocks t.are
@@ -303,13 +323,13 @@ module _ (f : ElfFile) (o : Options) (every : ℕ) (blocks : List Block) (t : Ar
       sound = record {
         near = refl;
         small = let h = of.half_small (image_of f) o.half t.admitted.span t.sound.half in omega (arith, h);
-        some = let k = ticks f.entry begins_entry in omega (arith, k);
+        some = let k = few_ahead f.entry in omega (arith, k);
         few = few_steps f o every t.sound t.lean;
         check = check_reads;
-        ticks = ticks;
+        ticks = λ a e. few_ahead a;
         codes = codes;
         grain = λ a e. let g = grain a e in omega (arith, g);
-        reached = λ a e r. refl;
+        entered = entered;
         known = known;
         table = table;
         within = λ a e. let b = of.block_bounds f o t.sound t.file.loads t.admitted blocks t.are a e in let h = of.half_small (image_of f) o.half t.admitted.span t.sound.half in omega (arith, b.1, h);
@@ -351,10 +371,10 @@ module _ (f : ElfFile) (o : Options) (every : ℕ) (blocks : List Block) (t : Ar
         check = refl;
         good = good;
         begins = begins_entry;
-        ticked = refl;
+        ticked = entry_ticks counting blocks f.entry refl;
         order = in_order f o some_most blocks t.are reached_only grain ascend room;
         only = only;
-        counts = counted f o some_most blocks t.are reached_only grain ascend l refl (λ a. refl);
+        counts = all_counted counting l blocks (λ a. refl) (λ a. refl) refl refl ascend;
       } where
         -- a block ends far below 2^64
         room : (b : Block) → Among b blocks → b.start + 4 * body_length b.body + 4 < 2 ^ 64

@@ -1,11 +1,10 @@
 -- The lean form as a weave, and what is asked of the words and the table that it is woven in.
-use Rattle.std.specs.Prelude.{◌≡◌, ℕ, ◌+◌, ◌*◌, ◌%◌, ◌^◌, ◌<◌, ◌≤◌, Bool, true, false, cond, ◌==◌, ◌&&◌, ◌||◌, nat_le, List, [], ◌∷◌, length}
+use Rattle.std.specs.Prelude.{◌≡◌, ℕ, ◌+◌, ◌*◌, ◌%◌, ◌^◌, ◌<◌, ◌≤◌, Bool, true, false, cond, ◌==◌, ◌&&◌, nat_le, List, [], ◌∷◌, length}
 use Rattle.rv_isa.specs.declared.ins.Ins.{Ins}
-use Rattle.rv_isa.specs.declared.class.Class.{Class}
 use Rattle.rv_isa.specs.declared.class.Class.TheVariants as class
 use Rattle.rv_isa.specs.Kind.{class_of}
 use Rattle.qed_model.specs.Admission.DataRanges.{word_count}
-use Rattle.qed_model.specs.Machine.Step.{Known, target}
+use Rattle.qed_model.specs.Machine.Step.{Known}
 use Rattle.qed_model.specs.Weave.Bounds.{end_bound, cost_of, entry_steps}
 use Rattle.qed_model.specs.Weave.Pieces.{is_run}
 use Rattle.qed_model.specs.Weave.Placed.{sum_of_sizes}
@@ -21,7 +20,7 @@ use Rattle.qed_model.specs.Promise.Clean.{Clean}
 use Rattle.qed_model.specs.Promise.Closed.{is_branch}
 use Rattle.qed_model.specs.declared.bounds.Bounds.{Bounds}
 use Rattle.qed_model.specs.Weave.Lean.{call_at, check, begin}
-use Rattle.qed_model.specs.Weave.LeanCode.{Lean, fall_to, sequences, worded, block_steps}
+use Rattle.qed_model.specs.Weave.LeanCode.{Lean, fall_to, sequences, worded, block_steps, leads_on}
 use Rattle.qed_model.specs.Weave.LeanBounds.{check_bound, period, register_bound, word_bound}
 use Rattle.weave_core.specs.Describes.{Describes}
 use Rattle.weave_core.specs.WeavePromise.{AllBlocksOf, OnlyCode}
@@ -67,7 +66,7 @@ pub record LeanIn (w : World) (l : Lean) (leader : ℕ → Bool) : Type 0 where
   pub few : l.every ≤ 2048
   pub check : Reads w.form.far w.code w.entry l.check (check w.base (call_at l.land) l.every w.form.round w.form.spans)
   pub ticks : (a : ℕ) → leader a ≡ true → l.most a < l.every
-  pub reached : (a : ℕ) → leader a ≡ true → w.reached a ≡ true → l.ticks a ≡ true
+  pub entered : (at : ℕ) (i : Ins) → w.source at ≡ Known i → class_of i.kind ≡ class.JumpReg → (a : ℕ) → leader a ≡ true → w.reached a ≡ true → l.ticks a ≡ true
   pub known : (a : ℕ) → leader a ≡ true → IsEntryOf w a
   pub codes : (a : ℕ) → leader a ≡ true → (i : Ins) × (w.source a ≡ Known i)
   pub grain : (a : ℕ) → leader a ≡ true → a % 2 ≡ 0
@@ -90,16 +89,6 @@ InOrder leader [] = Unit {0}
 InOrder leader (b ∷ bs) = ((t : ℕ) → goes_on b.end (b.start + 4 * body_length b.body) t ≡ true → leader t ≡ true → begins_with bs t) × InOrder leader bs
 
 -- ---- what ticks count
--- where a block goes on, but for jumps by register
-abbrev pub leads_as : Class → Ins → ℕ → ℕ → Bool
-leads_as class.Jump i at t = target i at == t
-leads_as class.Branch i at t = (target i at == t) || ((at + 4) % 2 ^ 64 == t)
-leads_as _ i at t = false
-
-abbrev pub leads_on : End → ℕ → ℕ → Bool
-leads_on Falls at t = at == t
-leads_on (Stops i) at t = leads_as (class_of i.kind) i at t
-
 -- what the tick before an entry has counted of the steps behind it: none, where it has its own
 abbrev pub owed : Lean → ℕ → ℕ
 owed l t = cond (l.ticks t) 0 (l.most t)

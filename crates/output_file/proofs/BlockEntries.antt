@@ -1,5 +1,5 @@
 -- Rows that have the first addresses of blocks are entries.
-use Rattle.std.proofs.Common.{◌≡◌, ℕ, ◌%◌, ◌<◌, List, [], length, map, get_or, sym, ap, ◌∙◌, arith}
+use Rattle.std.proofs.Common.{◌≡◌, ℕ, ◌%◌, ◌<◌, List, [], length, map, get_or, sym, ap, ◌∙◌, arith, false}
 use Rattle.std.proofs.lemmas.List.{get_or-map, length-map}
 use Rattle.qed_model.specs.declared.plan.EntryRow.{EntryRow}
 use Rattle.qed_model.specs.Weave.Sequences.{Block, Falls}

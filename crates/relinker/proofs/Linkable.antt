@@ -1,5 +1,5 @@
 -- Why the items of blocks can be linked: where there are words, each instruction has one, and the marks are those of the blocks.
-use Rattle.std.proofs.Common.{◌≡◌, ℕ, ◌^◌, ◌<◌, suc, true, List, [], ◌∷◌, length, map, Some, refl, sym, ap, ◌∙◌, arith}
+use Rattle.std.proofs.Common.{◌≡◌, ℕ, ◌^◌, ◌<◌, suc, true, List, [], ◌∷◌, length, map, Some, refl, sym, ap, ◌∙◌, arith, false}
 use Rattle.std.specs.Prelude.{◌&&◌, get_or, slice_index, is_some, AllPairs}
 use Rattle.std.specs.List.{list_all}
 use Rattle.std.proofs.Math.ListN.{get_or-map, length-map}

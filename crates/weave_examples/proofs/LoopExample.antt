@@ -1,6 +1,6 @@
 -- A known test with a loop is admitted, and has the blocks, the entries and the bounds that `reference/qed plan` gives it:
 -- addi x5, x0, 2; addi x5, x5, -1; bne x5, x0, -4; ecall.
-use Rattle.std.proofs.Common.{inl, Bool, List, [], ◌∷◌, None, refl, arith}
+use Rattle.std.proofs.Common.{inl, Bool, List, [], ◌∷◌, None, refl, arith, false}
 use Rattle.std.specs.Prelude.{pos, neg_ℤ}
 use Rattle.rv_isa.specs.declared.ins.Ins.{Ins}
 use Rattle.rv_isa.specs.declared.kind.Kind.TheVariants.{Addi, Bne, Ecall}

@@ -1,6 +1,6 @@
 -- A known test with a data word is admitted, and has the block, the entry and the bounds that `reference/qed plan` gives it:
 -- lui x8, 0x20; ld x9, 0(x8); add x10, x9, x9; sd x10, 0(x8); ecall.
-use Rattle.std.proofs.Common.{inl, Bool, List, [], ◌∷◌, Some, refl, arith}
+use Rattle.std.proofs.Common.{inl, Bool, List, [], ◌∷◌, Some, refl, arith, false}
 use Rattle.std.specs.Prelude.{pos}
 use Rattle.rv_isa.specs.declared.ins.Ins.{Ins}
 use Rattle.rv_isa.specs.declared.kind.Kind.TheVariants.{Lui, Ld, Add, Sd, Ecall}

@@ -53,8 +53,11 @@ abbrev pub begins_at : List Block → ℕ → Bool
 begins_at blocks a = list_any (λ b. b.start == a) blocks
 
 -- marked are those to which a JALR may lead, where only such addresses have entries
+abbrev pub IsEntered : ElfFile → Options → ℕ → Type 0
+IsEntered f o a = (o.entries ≡ entries.Reached) × HasIndirect f × IsReached f o a
+
 abbrev pub IsMarked : ElfFile → Options → Block → Type 0
-IsMarked f o b = (b.reached ≡ true) ↔ ((o.entries ≡ entries.Reached) × HasIndirect f × IsReached f o b.start)
+IsMarked f o b = (b.reached ≡ true) ↔ IsEntered f o b.start
 
 -- each leader has its block, where the code has a JALR and all have entries each code address has one, and there is no other
 pub record AreBlocks (f : ElfFile) (o : Options) (blocks : List Block) : Type 0 where

@@ -1,5 +1,5 @@
 -- The new code of a test in the lean form: its sequences, the steps that its ticks count, and its items (this project's profile).
-use Rattle.std.specs.Prelude.{ℕ, ◌+◌, ◌-◌, ◌*◌, ◌%◌, ◌^◌, Bool, true, false, cond, ◌==◌, ◌&&◌, ◌||◌, nat_lt, max, List, [], ◌∷◌, ◌++◌}
+use Rattle.std.specs.Prelude.{ℕ, ◌+◌, ◌-◌, ◌*◌, ◌%◌, ◌^◌, Bool, true, false, cond, ◌==◌, ◌&&◌, ◌||◌, nat_lt, min, max, List, [], ◌∷◌, ◌++◌}
 use Rattle.std.specs.List.{list_any}
 use Rattle.elf_types.specs.declared.file.ElfFile.{ElfFile}
 use Rattle.rv_isa.specs.declared.class.Class.{Class}
@@ -142,14 +142,14 @@ tick_rows c (b ∷ bs) =
     tick_row c b (leads_in (b ∷ bs) b.start) (block_steps c.diverse c.land c.leader b + owed_behind (tick_rows c bs) b.end (b.start + 4 * body_length b.body)) ∷ tick_rows c bs
 
 -- ---- of a file
--- its blocks have fewer steps each than there are from check to check, and what is left is for those behind
+-- its blocks have fewer steps each than there are from check to check, and what is left is for those behind; but 48 at most, since a tick counts the longest way
 abbrev pub counting_of : Options → ℕ → ℕ → List Block → Counting
 counting_of o entry every blocks = record {
   diverse = o.diverse;
   land = o.land;
   leader = begins_at blocks;
   entry = entry;
-  room = every - (entry_steps o.land + 20 + cost_of o.diverse * o.inst_max);
+  room = min (every - (entry_steps o.land + 20 + cost_of o.diverse * o.inst_max)) 48;
 }
 
 -- two ends fall, or neither does
