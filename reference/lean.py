@@ -14,6 +14,7 @@ from weave import (CURSOR, SIGNATURE, T, Bounds, Const, Go, Item, Part, Role, Wo
                    mirror_part, original_part, pair, size_of, starts_of, sweep, visit)
 
 MOST_CODE = 1 << 20
+MOST_OWED = 48
 OPPOSITE = {"beq": "bne", "bne": "beq", "blt": "bge", "bge": "blt", "bltu": "bgeu", "bgeu": "bltu"}
 LOOK_UP: List[Item] = [*words_of("add x31, x30, x14; add x31, x31, x14; lw x30, 0(x31); add x30, x30, x31; jalr x0, 0(x30)")]
 
@@ -60,7 +61,7 @@ class Lean:
 
     def ticks_of(self, by_register: Set[int]) -> Dict[int, Tick]:
         """The ticks by blocks, where jumps by register lead to these addresses ("Ticks")."""
-        room = max(0, self.options.lean - (self.entry_steps + 20 + self.cost * self.options.inst_max))
+        room = min(max(0, self.options.lean - (self.entry_steps + 20 + self.cost * self.options.inst_max)), MOST_OWED)
         ticks: Dict[int, Tick] = {}
         from_behind: Set[int] = set()
         for block in reversed(self.blocks):
