@@ -2,10 +2,10 @@
 
 from __future__ import annotations
 
-from typing import List
+from typing import Dict, List, NamedTuple, Set
 
 import isa
-from admission import Block, Options, Test
+from admission import Block, Options, Test, reached
 from assembler import words_of
 from isa import EBREAK, Instruction, encode
 from machine import WORD
@@ -14,6 +14,7 @@ from weave import (CURSOR, SIGNATURE, T, Bounds, Const, Go, Item, Part, Role, Wo
                    mirror_part, original_part, pair, size_of, starts_of, sweep, visit)
 
 MOST_CODE = 1 << 20
+MOST_OWED = 48
 OPPOSITE = {"beq": "bne", "bne": "beq", "blt": "bge", "bge": "blt", "bltu": "bgeu", "bgeu": "bltu"}
 LOOK_UP: List[Item] = [*words_of("add x31, x30, x14; add x31, x31, x14; lw x30, 0(x31); add x30, x30, x31; jalr x0, 0(x30)")]
 
@@ -24,13 +25,28 @@ def cost(items: List[Item]) -> int:
 
 
 def part_steps(i: Instruction, diverse: bool) -> int:
-    """The steps that a tick counts for both parts of an instruction ("The lean form")."""
+    """The steps that a tick counts for both parts of an instruction ("Ticks")."""
     if i.name == "auipc":
         return 2 + (5 if diverse else 2)
     original = {"load": 2, "store": 2 if i.rs1 == i.rs2 else 3}.get(i.group, 1)
     if diverse:
         return original + (5 if i.group in ("load", "store") or i.name == "fence" else 7)
     return original + (2 if i.group in ("load", "store") else 0 if i.name == "fence" else 1)
+
+
+def goes_on(block: Block) -> List[int]:
+    """Where a block goes on, but by a jump by register ("Ticks")."""
+    end, at = block.end, block.end_address
+    if end is None:
+        return [at]
+    after, target = at + 4 & WORD, at + end.imm & WORD
+    return [target] if end.name == "jal" else [target, after] if end.group == "branch" else []
+
+
+class Tick(NamedTuple):
+    """Whether a block has a tick, and the most steps from its entry to the next one ("Ticks")."""
+    stands: bool
+    most: int
 
 
 class Lean:
@@ -40,6 +56,25 @@ class Lean:
         self.test, self.options, self.blocks = test, options, blocks
         self.starts = {block.start for block in blocks}
         self.entry_steps = 7 if options.land else 2
+        self.cost = 8 if options.diverse else 5
+        self.ticks = self.ticks_of(reached(test) if options.entries == "reached" and test.has_indirect else set())
+
+    def ticks_of(self, by_register: Set[int]) -> Dict[int, Tick]:
+        """The ticks by blocks, where jumps by register lead to these addresses ("Ticks")."""
+        room = min(max(0, self.options.lean - (self.entry_steps + 20 + self.cost * self.options.inst_max)), MOST_OWED)
+        ticks: Dict[int, Tick] = {}
+        from_behind: Set[int] = set()
+        for block in reversed(self.blocks):
+            leads = goes_on(block)
+            from_behind.update(leads)
+            most = self.block_steps(block) + max((ticks[to].most for to in leads if to in ticks and not ticks[to].stands), default=0)
+            ticks[block.start] = Tick(block.start in by_register or block.start == self.test.file.entry or block.start in from_behind
+                                      or most > room, most)
+        return ticks
+
+    def block_steps(self, block: Block) -> int:
+        """The most steps of a block, with those of a tick also where it has none ("Ticks")."""
+        return self.entry_steps + sum(part_steps(i, self.options.diverse) for i in block.body) + self.leave_steps(block)
 
     def turn(self, start: int, to: int) -> List[Item]:
         """Turns the signature from one input address to another ("The lean form")."""
@@ -103,10 +138,11 @@ class Lean:
 
     def entry(self, block: Block, at: int) -> List[Part]:
         """The entry of a block, which stands at an address ("The lean form")."""
-        most = self.entry_steps + sum(part_steps(i, self.options.diverse) for i in block.body) + self.leave_steps(block)
         parts: List[Part] = [self.sign(block.start)] if self.options.land else []
-        call = encode(Instruction("jal", 31, imm=self.check_address() - (at + size_of(items_of(parts), False) + 8)))
-        parts.append((Role("tick", (block.start,)), [*words_of(f"addi x15, x15, {most}; blt x15, x0, 12"), call, encode(EBREAK)]))
+        tick = self.ticks[block.start]
+        if tick.stands:
+            call = encode(Instruction("jal", 31, imm=self.check_address() - (at + size_of(items_of(parts), False) + 8)))
+            parts.append((Role("tick", (block.start,)), [*words_of(f"addi x15, x15, {tick.most}; blt x15, x0, 12"), call, encode(EBREAK)]))
         first = 0
         for length in block.pieces:
             piece = [(block.start + 4 * k, block.body[k]) for k in range(first, first + length)]
@@ -160,7 +196,7 @@ class Lean:
         period = check + options.lean + self.entry_steps
         last = 65 + self.entry_steps + ends
         word = last + (-(-words // options.round) + 1) * period if words else None
-        piece = 20 + 2 * self.entry_steps + check + (8 if options.diverse else 5) * options.inst_max
+        piece = 20 + 2 * self.entry_steps + check + self.cost * options.inst_max
         return Bounds(piece, last + period, word, 31 + ends)
 
 
