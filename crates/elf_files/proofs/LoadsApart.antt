@@ -1,6 +1,6 @@
 -- The PT_LOAD segments of a file that was read fit into memory, and share no byte.
-use Rattle.std.proofs.Common.{◌≡◌, ◌⊎◌, ℕ, zero, suc, ◌+◌, ◌^◌, ◌<◌, ◌≤◌, Bool, true, false, cond, ◌==◌, List, [], ◌∷◌, Some, refl, sym, ap, ◌∙◌, subst, inl, inr, ⊎_elim, arith}
-use Rattle.std.specs.Prelude.{slice_get}
+use Rattle.std.proofs.Common.{◌≡◌, ◌⊎◌, ℕ, zero, suc, ◌+◌, ◌^◌, ◌<◌, ◌≤◌, Bool, true, false, cond, ◌==◌, List, [], ◌∷◌, Some, refl, sym, ◌∙◌, subst, inl, inr, ⊎_elim, arith}
+use Rattle.std.specs.Prelude.{All, slice_get}
 use Rattle.std.proofs.lemmas.Bool.{eqb-true, false≢true, cases_lt}
 use Rattle.std.proofs.lemmas.Bool.Decides.{nat_tests}
 use Rattle.elf_types.specs.declared.file.ElfFile.{ElfFile}
@@ -16,38 +16,11 @@ use Rattle.qed_model.specs.Machine.Loading.{load_segment, load_segments}
 use Rattle.qed_model.specs.Machine.Apart.{FitsMemory, AllFitMemory, share, Overlaps, AreApart}
 use Rattle.qed_model.specs.Members.{Among, Every, Pairs}
 use Rattle.qed_model.specs.Elf.Sound.{ApartLoads, Apart}
-use Rattle.qed_model.proofs.Among.{among-either}
+use Rattle.qed_model.proofs.Among.{all_among}
+use Rattle.qed_model.proofs.BelowLaws.{All-each}
 use Rattle.qed_model.proofs.Pairs.{pairs-append}
 use Rattle.elf_files.proofs.AcceptanceLaws.{accepted}
 use Rattle.elf_files.proofs.ReadFacts.{sized_segment}
-
--- a member of what is listed
-record Listed {A : Type 0} (n : ℕ) (f : ℕ → A) (x : A) : Type 0 where
-  place : ℕ
-  below : place < n
-  is : x ≡ f place
-
-listed_more : {A : Type 0} (n : ℕ) (f : ℕ → A) (x : A) → Listed n f x → Listed (suc n) f x
-listed_more n f x l = let b = l.below in record { place = l.place; below = omega (arith, b); is = l.is }
-
-among_each : {A : Type 0} (n : ℕ) (f : ℕ → A) (x : A) → Among x (each n f) → Listed n f x
-unfolding each
-among_each zero f x m = absurd m
-among_each (suc n) f x m =
-    ⊎_elim
-    (λ l. listed_more n f x (among_each n f x l))
-    (λ l. ⊎_elim (λ e. record { place = n; below = omega arith; is = e }) (λ r. absurd r) l)
-    (among-either x (each n f) (f n ∷ []) m)
-
--- ---- the segment of a program header
-record Described (file : List ℕ) (s : Segment) (p : ProgramHeader) : Type 0 where
-  kind : s.kind ≡ p.kind
-  address : s.address ≡ p.vaddr
-  memory : s.memory ≡ p.memsz
-
-described : (file : List ℕ) (i : ℕ) → Described file (segment_of file i) (program_header file i)
-unfolding segment_of
-described file i = record { kind = refl; address = refl; memory = refl }
 
 ends_low : (p : ProgramHeader) → p.kind ≡ 1 → is_misshapen p ≡ false → p.vaddr + p.memsz ≤ 2 ^ 64
 unfolding is_misshapen
@@ -63,7 +36,7 @@ unfolding each
 pairs_each R zero f h = tt
 pairs_each R (suc n) f h =
     pairs-append R (each n f) (f n ∷ []) (pairs_each R n f (λ i j l m. h i j l (omega (arith, m)))) (tt, tt)
-    (λ x y m k. let l = among_each n f x m in let b = l.below in ⊎_elim (λ e. subst (R x) (sym e) (subst (λ z. R z (f n)) (sym l.is) (h l.place n b (omega arith)))) (λ r. absurd r) k)
+    (λ x y m k. ⊎_elim (λ e. subst (R x) (sym e) (all_among (λ z. R z (f n)) x (each n f) (All-each (λ z. R z (f n)) n f (λ i l. h i n l (omega arith))) m)) (λ r. absurd r) k)
 
 overlaps_if :
     (p r : ProgramHeader) → p.kind ≡ 1 → r.kind ≡ 1 → 0 < p.memsz → 0 < r.memsz → p.vaddr < r.vaddr + r.memsz → r.vaddr < p.vaddr + p.memsz
@@ -84,13 +57,10 @@ apart_headers p r k l a b e =
     (cases_lt r.vaddr (p.vaddr + p.memsz))
 
 pub read_apart : (file : List ℕ) (f : ElfFile) → File file f → Pairs ApartLoads f.segments
+unfolding segment_of
 read_apart file f read =
     subst (Pairs ApartLoads) (sym read.segments)
-    (pairs_each ApartLoads (e_phnum file) (segment_of file) (λ i j l m k1 k2 s t.
-    let a = described file i in
-    let b = described file j in
-    let apart = apart_headers (program_header file i) (program_header file j) (sym a.kind ∙ k1) (sym b.kind ∙ k2) (omega (arith, a.memory, s)) (omega (arith, b.memory, t)) ((accepted file read.accepted).apart i j l m) in
-    ⊎_elim (λ x. inl (omega (arith, x, a.address, a.memory, b.address))) (λ x. inr (omega (arith, x, a.address, b.address, b.memory))) apart))
+    (pairs_each ApartLoads (e_phnum file) (segment_of file) (λ i j l m k1 k2 s t. apart_headers (program_header file i) (program_header file j) k1 k2 s t ((accepted file read.accepted).apart i j l m)))
 
 -- ---- each fits
 all_fit : (ss : List Segment) → ((s : Segment) → Among s ss → s.kind ≡ 1 → FitsMemory (load_segment s)) → AllFitMemory (load_segments ss)
@@ -103,10 +73,9 @@ all_fit (s ∷ ss) h =
 
 pub file_fits : (file : List ℕ) (f : ElfFile) → File file f → AllFitMemory (load_segments f.segments)
 file_fits file f read =
-    all_fit f.segments (λ s m k.
-    let l = among_each (e_phnum file) (segment_of file) s (subst (λ ss. Among s ss) read.segments m) in
-    let shape = (accepted file read.accepted).segment_shapes l.place l.below in
-    subst (λ x. FitsMemory (load_segment x)) (sym l.is) (sized_segment file l.place shape, segment_low file l.place (ap (λ x. x.kind) (sym l.is) ∙ k) shape))
+    let P = λ (s : Segment). s.kind ≡ 1 → FitsMemory (load_segment s) in
+    let shapes = (accepted file read.accepted).segment_shapes in
+    all_fit f.segments (λ s m. all_among P s f.segments (subst (All P) (sym read.segments) (All-each P (e_phnum file) (segment_of file) (λ i l k. (sized_segment file i (shapes i l), segment_low file i k (shapes i l))))) m)
 
 -- ---- no two share a byte
 unshared : (s t : Segment) → s.kind ≡ 1 → t.kind ≡ 1 → ApartLoads s t → share (load_segment s) (load_segment t) ≡ true → ⊥

@@ -1,8 +1,8 @@
 -- What a refusal says of a file: the fault that it names is there.
-use Rattle.std.proofs.Common.{◌≡◌, ◌≢◌, ◌⊎◌, ℕ, ◌-◌, ◌/◌, ◌^◌, ◌<◌, ◌&&◌, ◌||◌, not, min, Bool, true, false, cond, ltb, leb, eqb, List, [], ◌∷◌, Option, Some, None, Ok, Err, refl, sym, subst, inl, inr, arith}
+use Rattle.std.proofs.Common.{◌≡◌, ◌≢◌, ◌⊎◌, ℕ, ◌-◌, ◌/◌, ◌^◌, ◌<◌, ◌&&◌, ◌||◌, not, min, Bool, true, false, cond, ltb, leb, eqb, List, [], ◌∷◌, Option, Some, None, Ok, Err, refl, sym, ◌∙◌, subst, inl, inr, arith}
 use Rattle.std.specs.Option.{is_some}
 use Rattle.std.proofs.lemmas.Bool.Decides.{nat_tests}
-use Rattle.std.proofs.lemmas.Bool.{eqb-true, ltb-true, and_parts}
+use Rattle.std.proofs.lemmas.Bool.{eqb-true, eqb-false, not-true, false≢true, ltb-true, and_parts}
 use Rattle.std.proofs.lemmas.Option.{same_Some}
 use Rattle.elf_types.specs.declared.error.ElfError.{ElfError}
 use Rattle.elf_types.specs.declared.error.ElfError.TheVariants as error
@@ -68,23 +68,16 @@ differs : (a b : ℕ) → not (eqb a b) ≡ true → a ≢ b
 differs a b t e = absurd grind (arith, nat_tests)
 
 -- ---- the rules
-is_other : (a b : ℕ) → eqb a b ≡ false → a ≢ b
-is_other a b t e = absurd grind (arith, nat_tests)
-
 version_cases : (file : List ℕ) (b : Bool) → eqb (e_ident_version file) 1 ≡ b
     → Says file (cond b (refuse (error.Version (e_version file)) (not (eqb (e_version file) 1))) (Err (error.Version (e_ident_version file))))
 version_cases file true ident =
     refuse_says file (error.Version (e_version file)) _ (λ t. inr (eqb-true (e_ident_version file) 1 ident, differs (e_version file) 1 t, refl))
-version_cases file false ident = error_says file (error.Version (e_ident_version file)) (inl (is_other (e_ident_version file) 1 ident, refl))
+version_cases file false ident = error_says file (error.Version (e_ident_version file)) (inl (eqb-false (e_ident_version file) 1 ident, refl))
 
 has_shape : (ehsize phnum phentsize shnum shentsize shoff shstrndx : ℕ) → ehsize ≡ 64 → (0 < phnum → phentsize ≡ 56) → (0 < shnum → shentsize ≡ 64) → (phnum ≡ 0xffff → ⊥)
     → (shnum ≡ 0 → shoff ≡ 0) → (0 < shnum → shstrndx < shnum)
     → (eqb ehsize 64 && (eqb phnum 0 || eqb phentsize 56) && (eqb shnum 0 || eqb shentsize 64) && not (eqb phnum 0xffff) && (ltb 0 shnum || eqb shoff 0) && (eqb shnum 0 || ltb shstrndx shnum)) ≡ true
 has_shape ehsize phnum phentsize shnum shentsize shoff shstrndx a b c d e f = grind (arith, nat_tests)
-
-not_both : (b : Bool) → b ≡ true → not b ≡ true → ⊥
-not_both true t f = absurd cc
-not_both false t f = absurd cc
 
 symbols_cases : (file : List ℕ) (i : ℕ) (b : Bool) → symbol_table file ≡ Some i → has_entries (section_header file i) && has_strings file (section_header file i) ≡ b
     → Says file (cond b (refuse_found error.SymbolShape (first ((section_header file i).size / 24) (is_misnamed file (section_header file i)))) (Err (error.SymbolShape 0)))
@@ -132,7 +125,7 @@ header_rules_say file =
     let encoding : Says file (encoding_rule file) = refuse_says file (error.Encoding (e_encoding file)) _ (λ t. (refl, differs (e_encoding file) 1 t)) in
     let type : Says file (file_type_rule file) = refuse_says file (error.FileType (e_type file)) _ (λ t. (refl, differs (e_type file) 2 t)) in
     let machine : Says file (machine_rule file) = refuse_says file (error.Machine (e_machine file)) _ (λ t. (refl, differs (e_machine file) 243 t)) in
-    let shape : Says file (header_shape_rule file) = refuse_says file error.HeaderShape _ (λ t h. not_both _ (has_shape (e_ehsize file) (e_phnum file) (e_phentsize file) (e_shnum file) (e_shentsize file) (e_shoff file) (e_shstrndx file) h.size h.program_size h.section_size h.few_programs h.no_sections h.names) t) in
+    let shape : Says file (header_shape_rule file) = refuse_says file error.HeaderShape _ (λ t h. false≢true (sym (not-true _ t) ∙ has_shape (e_ehsize file) (e_phnum file) (e_phentsize file) (e_shnum file) (e_shentsize file) (e_shoff file) (e_shstrndx file) h.size h.program_size h.section_size h.few_programs h.no_sections h.names)) in
     first_says file (magic_rule file ∷ header_rule file ∷ class_rule file ∷ encoding_rule file ∷ version_rule file ∷ file_type_rule file ∷ machine_rule file ∷ header_shape_rule file ∷ []) (magic, (room, (class, (encoding, (version_cases file _ refl, (type, (machine, (shape, tt))))))))
 
 table_rules_say : (file : List ℕ) → Says file (table_rules file)

@@ -9,7 +9,9 @@ use Rattle.qed_model.specs.declared.change.Change.{Change}
 use Rattle.qed_model.specs.Machine.Step.{State, step}
 use Rattle.qed_model.specs.Machine.Progress.{Progress, advanced, steps_after, progress}
 use Rattle.qed_model.specs.Promise.Changed.{changed, with_changes, changed_run, Ordered}
+use Rattle.qed_model.specs.Members.{Every}
 use Rattle.qed_model.proofs.Changes.{AllBy, none_left}
+use Rattle.qed_model.proofs.Pairs.{every_all}
 use Rattle.fault_inject.specs.Counted.{changed_steps, IsPartOf}
 use Rattle.rv_step.proofs.Running.{progress_last}
 
@@ -24,8 +26,7 @@ changed_progress m cs n = record { state = changed_run m.state cs n; steps = cha
 
 -- each change is made after t steps at the earliest
 abbrev pub AllFrom : ℕ → List Change → Type 0
-AllFrom t [] = Unit {0}
-AllFrom t (c ∷ cs) = (t ≤ c.step) × AllFrom t cs
+AllFrom t cs = Every (λ c. t ≤ c.step) cs
 
 -- ---- the changes of one step
 -- none is made where each comes later
@@ -192,10 +193,6 @@ all_by : (t : ℕ) (cs : List Change) → AllBy t cs → All (λ c. c.step ≤ t
 all_by t [] h = All-nil (λ c. c.step ≤ t)
 all_by t (c ∷ cs) h = All-cons (λ d. d.step ≤ t) c cs h.0 (all_by t cs h.1)
 
-all_from : (t : ℕ) (cs : List Change) → AllFrom t cs → All (λ c. t ≤ c.step) cs
-all_from t [] h = All-nil (λ c. t ≤ c.step)
-all_from t (c ∷ cs) h = All-cons (λ d. t ≤ d.step) c cs h.0 (all_from t cs h.1)
-
 by_more : (t u : ℕ) (cs : List Change) → t ≤ u → AllBy t cs → AllBy u cs
 by_more t u [] l h = tt
 by_more t u (c ∷ cs) l h = (omega (arith, l, h.0), by_more t u cs l h.1)
@@ -215,7 +212,7 @@ part_made m cs k done n j last p q r most l late e =
       most = most;
       made = k;
       before = all_by (done + j) (take k cs) (by_more done (done + j) (take k cs) (omega arith) r.by);
-      behind = all_from (done + j) (drop k cs) (from_less last (done + j) (drop k cs) l late);
+      behind = every_all (λ c. done + j ≤ c.step) (drop k cs) (from_less last (done + j) (drop k cs) l late);
       state = ap (λ x. x.state) is;
       steps = ap (λ x. x.steps) is;
     }

@@ -19,7 +19,6 @@ use Rattle.weave_core.proofs.Source.{not_trapped_le}
 use Rattle.rv_step.specs.Known.{instruction_of, known_at, goes_on}
 use Rattle.fault_inject.specs.Astray.{is_jalr, is_astray, jump_of, first_jump, first_astray}
 
--- ---- runs
 -- ---- jumps by register
 -- one that does not trap goes on
 either : (b : Bool) (s t : State) → s.outcome ≡ Going → is_trapped t.outcome ≡ true → NotTrapped (cond b s t) → goes_on (cond b s t).outcome ≡ true

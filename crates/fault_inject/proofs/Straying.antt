@@ -1,5 +1,6 @@
 -- The first jump astray: in more states, in others that are equal, on the way of a changed run, and where the machine has stopped.
 use Rattle.std.proofs.Common.{◌≡◌, ℕ, zero, suc, ◌+◌, ◌-◌, ◌<◌, ◌≤◌, Bool, true, false, cond, ◌&&◌, Option, Some, None, List, take, drop, refl, sym, ap, ◌∙◌, arith}
+use Rattle.std.proofs.Math.Bool.{and-false}
 use Rattle.std.proofs.lemmas.List.{take-append-drop}
 use Rattle.std.specs.Prelude.{not}
 use Rattle.std.specs.Option.{option_map, option_or}
@@ -99,15 +100,10 @@ pub step_next : (r : ℕ → Bool) (p q : Progress) (n : ℕ) (found more : Opti
 step_next r p q n found more at so_far here =
     ap (λ o. option_or o more) so_far ∙ ap (option_or (first_jump r (states p) n)) (here ∙ ap (λ x. astray_of r x.state) at) ∙ in_next r (states p) n
 
-no_second : (a b c : Bool) → b ≡ false → (a && (b && c)) ≡ false
-no_second true true c h = absurd (cc)
-no_second true false c h = refl
-no_second false b c h = refl
-
 -- so it does not jump
 never_stopped : (r : ℕ → Bool) (s : State) → goes_on s.outcome ≡ false → is_astray r s ≡ false
 unfolding is_astray
-never_stopped r s h = no_second (is_jalr (known_at s s.pc)) (goes_on (step s).outcome) (not (r (step s).pc)) (ap (λ t. goes_on t.outcome) (stays_step s h) ∙ h)
+never_stopped r s h = ap (λ b. is_jalr (known_at s s.pc) && (b && not (r (step s).pc))) (ap (λ t. goes_on t.outcome) (stays_step s h) ∙ h) ∙ and-false (is_jalr (known_at s s.pc))
 
 none_of : (r : ℕ → Bool) (f : ℕ → State) (n : ℕ) → ((j : ℕ) → j < n → is_astray r (f j) ≡ false) → first_jump r f n ≡ None
 unfolding first_jump

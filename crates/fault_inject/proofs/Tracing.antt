@@ -1,5 +1,5 @@
 -- What the steps of a run touch: one step more, and steps that touch no byte of a word.
-use Rattle.std.proofs.Common.{◌≡◌, ◌⊎◌, inl, inr, ℕ, zero, suc, ◌+◌, ◌<◌, ◌≤◌, [], ◌∷◌, ◌++◌, length, get_or, sym, ap, ◌∙◌, subst, arith}
+use Rattle.std.proofs.Common.{◌≡◌, ◌⊎◌, inl, inr, ℕ, zero, suc, ◌+◌, ◌<◌, ◌≤◌, [], ◌∷◌, ◌++◌, length, get_or, sym, ap, ◌∙◌, subst, arith, below_more}
 use Rattle.std.proofs.lemmas.Bool.{cases_lt}
 use Rattle.std.proofs.Math.Seq.{get_or-append_seam}
 use Rattle.std.proofs.Math.ListN.{get_or-append}
@@ -39,11 +39,6 @@ trace_none s t e =
       high = λ k l. absurd (omega (arith, none, l));
     }
 
--- the step behind those so far
-at_last : (P : ℕ → Type 0) (k n : ℕ) → ((j : ℕ) → j < n → P j) → P n → k < n + 1 → (k < n) ⊎ (n ≤ k) → P k
-at_last P k n before here l (inl x) = before k x
-at_last P k n before here l (inr x) = let e : n ≡ k = omega (arith, l, x) in subst P e here
-
 -- of one more
 pub longer : (before after : Trace) (u : State) (n : ℕ) → length before.places.items ≡ n → IsLonger before u after → length after.places.items ≡ n + 1
 longer before after u n count l = ap length l.places ∙ omega (arith, length-append before.places.items (touched u ∷ []), count)
@@ -58,9 +53,9 @@ trace_more s u before after n is count here going l =
     let high = l.high in
     record {
       places = push_each n f before.places.items after.places.items (touched u) l.places so_far (ap touched here) ∙ ap (λ k. each k f) (sym size);
-      going = λ k x. at_last (λ j. (run s j).outcome ≡ Going) k n (λ j y. is.going j (omega (arith, y, count))) (ap (λ t. t.outcome) (sym here) ∙ going) (omega (arith, x, size)) (cases_lt k n);
-      low = λ k x. at_last (λ j. after.low ≤ (run s j).pc) k n (λ j y. let z = is.low j (omega (arith, y, count)) in omega (arith, z, low.0)) (subst (λ t. after.low ≤ t.pc) here low.1) (omega (arith, x, size)) (cases_lt k n);
-      high = λ k x. at_last (λ j. (run s j).pc ≤ after.high) k n (λ j y. let z = is.high j (omega (arith, y, count)) in omega (arith, z, high.0)) (subst (λ t. t.pc ≤ after.high) here high.1) (omega (arith, x, size)) (cases_lt k n);
+      going = λ k x. below_more (λ j. (run s j).outcome ≡ Going) n (λ j y. is.going j (omega (arith, y, count))) (ap (λ t. t.outcome) (sym here) ∙ going) k (omega (arith, x, size));
+      low = λ k x. below_more (λ j. after.low ≤ (run s j).pc) n (λ j y. let z = is.low j (omega (arith, y, count)) in omega (arith, z, low.0)) (subst (λ t. after.low ≤ t.pc) here low.1) k (omega (arith, x, size));
+      high = λ k x. below_more (λ j. (run s j).pc ≤ after.high) n (λ j y. let z = is.high j (omega (arith, y, count)) in omega (arith, z, high.0)) (subst (λ t. t.pc ≤ after.high) here high.1) k (omega (arith, x, size));
     }
 
 -- a machine goes one step on
@@ -82,4 +77,4 @@ pub more_far :
     → AreFar t a from (n + 1)
 more_far t a from n i p are at within got far s is k l =
     let here : p ≡ touched (run s i) = got ∙ ap (λ xs. get_or xs i p) is.places ∙ each_at (length t.places.items) (λ j. touched (run s j)) i p within in
-    at_last (λ j. IsFar a (touched (run s (from + j))) 8) k n (are s is) (subst (λ q. IsFar a q 8) (here ∙ ap (λ j. touched (run s j)) at) far) l (cases_lt k n)
+    below_more (λ j. IsFar a (touched (run s (from + j))) 8) n (are s is) (subst (λ q. IsFar a q 8) (here ∙ ap (λ j. touched (run s j)) at) far) k l

@@ -1,5 +1,5 @@
 -- Runs that are made in parts, or taken up at a copy of another run.
-use Rattle.std.proofs.Common.{◌≡◌, ◌⊎◌, inl, inr, ℕ, ◌+◌, ◌-◌, ◌<◌, ◌≤◌, true, false, refl, sym, ap, ◌∙◌, arith}
+use Rattle.std.proofs.Common.{◌≡◌, ⊎_elim, ℕ, ◌+◌, ◌-◌, ◌<◌, ◌≤◌, true, false, refl, sym, ap, ◌∙◌, arith}
 use Rattle.std.specs.Prelude.{◌≢◌}
 use Rattle.std.proofs.lemmas.Bool.{cases_lt}
 use Rattle.qed_model.specs.declared.machine.Outcome.{Outcome}
@@ -24,9 +24,19 @@ stopped_not o h g = absurd (cc)
 pub on_none : (s : State) → IsOn s 0 s
 on_none s = record { there = sym (run-none s); before = λ k l. absurd (omega (arith, l)) }
 
+-- what comes behind the steps so far
+pub on_later : (s t : State) (n k : ℕ) → IsOn s n t → run s (n + k) ≡ run t k
+on_later s t n k on = run-more s n k ∙ ap (λ u. run u k) (sym on.there)
+
+pub on_before : (s t : State) (n steps k : ℕ) → IsOn s n t → ((i : ℕ) → i < steps → (run t i).outcome ≡ Going) → k < n + steps → (run s k).outcome ≡ Going
+on_before s t n steps k on going l =
+    ⊎_elim (on.before k)
+    (λ h. let e : n + (k - n) ≡ k = omega (arith, h) in ap (λ i. (run s i).outcome) (sym e) ∙ ap (λ u. u.outcome) (on_later s t n (k - n) on) ∙ going (k - n) (omega (arith, l, h)))
+    (cases_lt k n)
+
 -- so many steps more
 more_made : (s : State) (made n : ℕ) (p : Progress) → IsOn s made p.state → (progress p n).state ≡ run s (made + n)
-more_made s made n p on = progress_state p n ∙ ap (λ t. run t n) on.there ∙ sym (run-more s made n)
+more_made s made n p on = progress_state p n ∙ sym (on_later s p.state made n on)
 
 -- a machine that still goes on
 pub on_more : (s : State) (made n next : ℕ) (p q : Progress) → IsOn s made p.state → q ≡ progress p n → next ≡ made + n → q.state.outcome ≡ Going → IsOn s next q.state
@@ -35,13 +45,8 @@ on_more s made n next p q on ran sum going =
     record { there = there; before = λ k l. going_before s k next (omega (arith, l)) (ap (λ t. t.outcome) (sym there) ∙ going) }
 
 -- before those that are made next it went on
-before_more :
-    (s : State) (made more k : ℕ) (p : Progress) → IsOn s made p.state → ((i : ℕ) → i < more → goes_on (progress p i).state.outcome ≡ true) → k < made + more
-    → (k < made) ⊎ (made ≤ k) → (run s k).outcome ≡ Going
-before_more s made more k p on going l (inl h) = on.before k h
-before_more s made more k p on going l (inr h) =
-    let e : made + (k - made) ≡ k = omega (arith, h) in
-    ap (λ n. (run s n).outcome) (sym e) ∙ ap (λ t. t.outcome) (sym (more_made s made (k - made) p on)) ∙ goes (progress p (k - made)).state.outcome (going (k - made) (omega (arith, l, h)))
+before_more : (s : State) (made more k : ℕ) (p : Progress) → IsOn s made p.state → ((i : ℕ) → i < more → goes_on (progress p i).state.outcome ≡ true) → k < made + more → (run s k).outcome ≡ Going
+before_more s made more k p on going l = on_before s p.state made more k on (λ i h. ap (λ t. t.outcome) (sym (progress_state p i)) ∙ goes (progress p i).state.outcome (going i h)) l
 
 -- a machine that stops
 pub on_stops :
@@ -52,7 +57,7 @@ on_stops s made n more most p q on ran are fits stopped =
     let within = are.within in
     record {
       within = omega (arith, within, fits);
-      stops = record { stopped = λ g. stopped (ap (λ t. t.outcome) there ∙ g); before = λ k l. before_more s made more k p on are.going l (cases_lt k made) };
+      stops = record { stopped = λ g. stopped (ap (λ t. t.outcome) there ∙ g); before = λ k l. before_more s made more k p on are.going l };
       there = there;
     }
 
@@ -60,7 +65,7 @@ on_stops s made n more most p q on ran are fits stopped =
 pub on_made : (s : State) (made n more next : ℕ) (p q : Progress) → IsOn s made p.state → q ≡ progress p n → AreMade p n more → next ≡ made + more → IsOn s next q.state
 on_made s made n more next p q on ran are sum =
     let there : q.state ≡ run s next = ap (λ r. r.state) (ran ∙ sym are.all) ∙ more_made s made more p on ∙ ap (run s) (sym sum) in
-    record { there = there; before = λ k l. before_more s made more k p on are.going (omega (arith, l, sum)) (cases_lt k made) }
+    record { there = there; before = λ k l. before_more s made more k p on are.going (omega (arith, l, sum)) }
 
 -- all steps
 pub on_goes : (s : State) (made n most : ℕ) (p q : Progress) → IsOn s made p.state → q ≡ progress p n → made + n ≡ most → q.state.outcome ≡ Going → (run s most).outcome ≡ Going
@@ -78,14 +83,6 @@ leap_goes s t start made a most reach is on here fits short =
     let e : made + (most - made) ≡ most = omega (arith, fits) in
     ap (λ k. (run s k).outcome) (sym e) ∙ ap (λ u. u.outcome) (beside s t start made a (most - made) on.there here) ∙ is.before (a + (most - made)) short
 
-before_leap :
-    (s t start : State) (made a b reach k : ℕ) → IsReach start reach → IsOn s made t → t ≡ run start a → a ≤ b → b ≤ reach → k < made + (b - a)
-    → (k < made) ⊎ (made ≤ k) → (run s k).outcome ≡ Going
-before_leap s t start made a b reach k is on here ab br l (inl h) = on.before k h
-before_leap s t start made a b reach k is on here ab br l (inr h) =
-    let e : made + (k - made) ≡ k = omega (arith, h) in
-    ap (λ n. (run s n).outcome) (sym e) ∙ ap (λ u. u.outcome) (beside s t start made a (k - made) on.there here) ∙ is.before (a + (k - made)) (omega (arith, l, h, ab, br))
-
 -- up to a later copy
 pub leap_on :
     (s t u start : State) (made a b reach : ℕ) → IsReach start reach → IsOn s made t → t ≡ run start a → a ≤ b → b ≤ reach → u ≡ run start b → IsOn s (made + (b - a)) u
@@ -93,5 +90,5 @@ leap_on s t u start made a b reach is on here ab br there =
     let e : a + (b - a) ≡ b = omega (arith, ab) in
     record {
       there = there ∙ ap (run start) (sym e) ∙ sym (beside s t start made a (b - a) on.there here);
-      before = λ k l. before_leap s t start made a b reach k is on here ab br l (cases_lt k made);
+      before = λ k l. on_before s t made (b - a) k on (λ i h. ap (λ u. (run u i).outcome) here ∙ ap (λ u. u.outcome) (sym (run-more start a i)) ∙ is.before (a + i) (omega (arith, h, ab, br))) l;
     }

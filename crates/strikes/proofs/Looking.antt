@@ -1,5 +1,6 @@
 -- A run without changes, looked at where each change would be made.
-use Rattle.std.proofs.Common.{◌≡◌, ℕ, ◌+◌, ◌-◌, ◌<◌, ◌≤◌, Bool, true, false, ◌||◌, List, [], ◌∷◌, length, get_or, drop, refl, sym, ap, ◌∙◌, subst, arith}
+use Rattle.std.proofs.Common.{◌≡◌, ℕ, ◌+◌, ◌-◌, ◌<◌, ◌≤◌, Bool, false, ◌||◌, List, [], ◌∷◌, length, get_or, drop, refl, sym, ap, ◌∙◌, subst, arith}
+use Rattle.std.proofs.Math.Bool.{or_assoc}
 use Rattle.qed_model.specs.declared.change.Change.{Change}
 use Rattle.qed_model.specs.Machine.Step.{State, run}
 use Rattle.qed_model.specs.Promise.Changed.{Ordered, last_step}
@@ -53,10 +54,6 @@ pub record Looked (s : State) (cs : List Change) (k steps : ℕ) (is_closed : Bo
 pub looked_first : (s : State) (cs : List Change) → Ordered cs → Looked s cs 0 0 false s
 unfolding run
 looked_first s cs o = record { there = refl; closed = refl; last = last_or_zero cs; from = ordered_from_zero cs o }
-
-or_assoc : (a b c : Bool) → ((a || b) || c) ≡ (a || (b || c))
-or_assoc true b c = refl
-or_assoc false b c = refl
 
 -- the next change does not come before
 pub next_later : (s : State) (cs : List Change) (k steps : ℕ) (is_closed : Bool) (state : State) (c : Change) → Looked s cs k steps is_closed state → k < length cs → c ≡ get_or cs k c → steps ≤ c.step

@@ -1,12 +1,11 @@
 -- A strike that begins at a later state shows what it shows from the start, where no change comes before.
 use Rattle.std.proofs.Common.{◌≡◌, ◌⊎◌, inl, inr, ℕ, zero, suc, ◌+◌, ◌-◌, ◌<◌, ◌≤◌, Bool, true, false, cond, ◌||◌, List, [], ◌∷◌, refl, sym, ap, ◌∙◌, subst, arith}
 use Rattle.std.specs.Prelude.{◌==◌, Option, Some, Result, Ok, Err, All}
-use Rattle.std.proofs.lemmas.List.Elements.{All-nil, All-cons}
 use Rattle.std.proofs.lemmas.Bool.{cases_lt, eq-eqb, ne_eqb, eqb-true}
 use Rattle.qed_model.specs.declared.bounds.Bounds.{Bounds}
 use Rattle.qed_model.specs.declared.change.Change.{Change}
 use Rattle.qed_model.specs.declared.machine.Outcome.{Outcome}
-use Rattle.qed_model.specs.declared.machine.Outcome.TheVariants.{Going, Ended, Fired, Trapped}
+use Rattle.qed_model.specs.declared.machine.Outcome.TheVariants.{Going, Ended, Fired}
 use Rattle.qed_model.specs.declared.verdict.Verdict.{Verdict}
 use Rattle.qed_model.specs.declared.verdict.Verdict.TheVariants as verdict
 use Rattle.qed_model.specs.Machine.Progress.{begun}
@@ -14,6 +13,7 @@ use Rattle.qed_model.specs.Machine.Step.{State, step, run}
 use Rattle.qed_model.specs.Promise.Caught.{bound_of}
 use Rattle.qed_model.specs.Promise.Changed.{changed, changed_as, with_changes, changed_run, Ordered, last_step}
 use Rattle.qed_model.specs.Promise.Kept.{is_trapped}
+use Rattle.qed_model.proofs.Pairs.{every_all}
 use Rattle.qed_model.proofs.Walk.{run-more}
 use Rattle.qed_model.proofs.Changes.{first_last, run_unchanged}
 use Rattle.fault_inject.specs.Closed.{is_closed_place}
@@ -207,10 +207,7 @@ trap_later input cs later m b pc o h is_later e =
 
 -- the changes are not before the copy
 pub not_before_all : (cs : List Change) (m : ℕ) → Ordered cs → m ≤ first_step cs → All (λ c. m ≤ c.step) cs
-not_before_all cs m o h = all_of cs (from_first cs m o h) where
-  all_of : (ds : List Change) → AllFrom m ds → All (λ c. m ≤ c.step) ds
-  all_of [] from = All-nil (λ c. m ≤ c.step)
-  all_of (d ∷ ds) from = All-cons (λ c. m ≤ c.step) d ds from.0 (all_of ds from.1)
+not_before_all cs m o h = every_all (λ c. m ≤ c.step) cs (from_first cs m o h)
 
 -- ---- behind the last change
 -- the changed run, where its changes are made from a later state on

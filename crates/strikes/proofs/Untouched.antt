@@ -1,7 +1,7 @@
 -- A run with one word changed, which goes the way of the run without changes as long as that touches no byte of the word.
-use Rattle.std.proofs.Common.{◌≡◌, ◌⊎◌, inl, inr, ℕ, ◌+◌, ◌-◌, ◌^◌, ◌<◌, ◌≤◌, Bool, true, false, cond, List, [], ◌∷◌, Some, None, refl, sym, ap, ◌∙◌, subst, arith}
+use Rattle.std.proofs.Common.{◌≡◌, ℕ, ◌+◌, ◌-◌, ◌^◌, ◌<◌, ◌≤◌, Bool, true, false, cond, List, [], ◌∷◌, Some, None, refl, sym, ap, ◌∙◌, subst, arith}
 use Rattle.std.specs.Prelude.{◌==◌}
-use Rattle.std.proofs.lemmas.Bool.{cases_lt, eq-eqb, eqb-true}
+use Rattle.std.proofs.lemmas.Bool.{eq-eqb, eqb-true}
 use Rattle.qed_model.specs.declared.change.Change.{Change}
 use Rattle.qed_model.specs.declared.change.Place.{Place}
 use Rattle.qed_model.specs.declared.change.Place.TheVariants.{Reg, Word}
@@ -17,6 +17,7 @@ use Rattle.fault_inject.proofs.Sparing.{spared_run}
 use Rattle.strikes.specs.Found.{IsOn, StopsWithin}
 use Rattle.strikes.specs.Later.{word_in, one_word, IsChangedAt}
 use Rattle.strikes.specs.Verdict.{IsReached}
+use Rattle.strikes.proofs.Leaping.{on_later, on_before}
 use Rattle.strikes.proofs.Stopping.{progress_state}
 
 -- ---- steps that touch no byte of the word
@@ -47,32 +48,22 @@ pub spared_there :
 spared_there a x at n start m q s ha are from there made = spared_on a x at n start.state s q.state ha are from (word_changed (Word a) x (at + n) start m q there made)
 
 -- ---- what is found behind them
-later_state : (s t : State) (n k : ℕ) → IsOn s n t → run s (n + k) ≡ run t k
-later_state s t n k on = run-more s n k ∙ ap (λ u. run u k) (sym on.there)
-
-before_later :
-    (s t : State) (n steps k : ℕ) → IsOn s n t → ((i : ℕ) → i < steps → (run t i).outcome ≡ Going) → k < n + steps → (k < n) ⊎ (n ≤ k) → (run s k).outcome ≡ Going
-before_later s t n steps k on going l (inl h) = on.before k h
-before_later s t n steps k on going l (inr h) =
-    let e : n + (k - n) ≡ k = omega (arith, h) in
-    ap (λ i. (run s i).outcome) (sym e) ∙ ap (λ u. u.outcome) (later_state s t n (k - n) on) ∙ going (k - n) (omega (arith, l, h))
-
 pub stops_later : (s t u : State) (n most steps : ℕ) → IsOn s n t → n ≤ most → StopsWithin t (most - n) u steps → StopsWithin s most u (n + steps)
 stops_later s t u n most steps on fits x =
     let within = x.within in
     record {
       within = omega (arith, within, fits);
       stops = record {
-        stopped = λ g. x.stops.stopped (ap (λ v. v.outcome) (sym (later_state s t n steps on)) ∙ g);
-        before = λ k l. before_later s t n steps k on x.stops.before l (cases_lt k n);
+        stopped = λ g. x.stops.stopped (ap (λ v. v.outcome) (sym (on_later s t n steps on)) ∙ g);
+        before = λ k l. on_before s t n steps k on x.stops.before l;
       };
-      there = x.there ∙ sym (later_state s t n steps on);
+      there = x.there ∙ sym (on_later s t n steps on);
     }
 
 pub goes_later : (s t : State) (n most : ℕ) → IsOn s n t → n ≤ most → (run t (most - n)).outcome ≡ Going → (run s most).outcome ≡ Going
 goes_later s t n most on fits going =
     let e : n + (most - n) ≡ most = omega (arith, fits) in
-    ap (λ i. (run s i).outcome) (sym e) ∙ ap (λ u. u.outcome) (later_state s t n (most - n) on) ∙ going
+    ap (λ i. (run s i).outcome) (sym e) ∙ ap (λ u. u.outcome) (on_later s t n (most - n) on) ∙ going
 
 -- ---- one change of a word
 at_once : (c : Change) (s : State) (a : ℕ) → c.step ≡ 0 → c.place ≡ Word a → s.outcome ≡ Going → changed_run s (c ∷ []) c.step ≡ struck (Word a) c.value s

@@ -2,7 +2,6 @@
 use Rattle.std.proofs.Common.{◌≡◌, ℕ, ◌+◌, ◌-◌, ◌*◌, ◌/◌, ◌%◌, ◌^◌, ◌<◌, ◌≤◌, true, List, [], ◌∷◌, refl, sym, ap, ◌∙◌, subst, arith}
 use Rattle.std.specs.Prelude.{nat_lt, ◌==◌}
 use Rattle.std.proofs.lemmas.Bool.{ltb-true, eqb-true, and_parts}
-use Rattle.elf_types.specs.declared.file.Segment.{Segment}
 use Rattle.elf_types.specs.declared.file.ElfFile.{ElfFile}
 use Rattle.code_ranges.specs.declared.range.CodeRange.{CodeRange}
 use Rattle.code_ranges.specs.Ranges.{span, spans}
@@ -56,9 +55,6 @@ range_high f r m = by (section_ranges (loads_of f) f.sections) refl m where
   by (x ∷ xs) e k = section (of_section (loads_of f) f.sections r (subst (Among r) (sym e) k))
 
 -- ---- data
-rounded_end : (r : ℕ × ℕ) (s : Segment) → r ≡ rounded s → r.1 ≡ (s.address + s.memory + 7) / 8 * 8
-rounded_end r s e = ap (λ x. x.1) e
-
 data_high : (f : ElfFile) (r : ℕ × ℕ) → Among r (data_ranges (image_of f)) → r.1 ≤ (high_of (image_of f) + 7) / 8 * 8
 data_high f r m =
     let image = image_of f in
@@ -69,7 +65,7 @@ data_high f r m =
     let k = among-kept (is_data image) s.source image s.among in
     let high = high_most s.source image k.0 in
     let within = (in_parts p.member (r.1 - 1) p.passes).1 in
-    let end = rounded_end p.member s.source s.is in
+    let end : p.member.1 ≡ (s.source.address + s.source.memory + 7) / 8 * 8 = ap (λ x. x.1) s.is in
     omega (arith, some, high, within, end)
 
 -- ---- of a file that was admitted

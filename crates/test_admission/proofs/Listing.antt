@@ -3,6 +3,7 @@ use Rattle.std.proofs.Common.{◌≡◌, inl, inr, ⊎_elim, ℕ, zero, suc, ◌
 use Rattle.std.specs.Prelude.{map, ◌==◌, All, AllPairs}
 use Rattle.std.proofs.lemmas.Bool.{and_parts, and_from, eqb-true, eq-eqb, or_cases, or_left, or_right, false≢true, cases_lt}
 use Rattle.std.proofs.lemmas.List.{length-append, length-map, map-append}
+use Rattle.std.proofs.lemmas.List.Kept.{AllPairs-cons}
 use Rattle.std.proofs.lemmas.List.Elements.{All-nil, All-cons, All-head, All-tail, All-push, All-append}
 use Rattle.elf_types.specs.declared.file.ElfFile.{ElfFile}
 use Rattle.qed_model.specs.declared.admit.AdmitError.{AdmitError}
@@ -72,11 +73,8 @@ from_rising low (c ∷ cs) zero d r lt = r.0
 from_rising low (c ∷ cs) (suc j) d r lt = let h = from_rising (c.0 + 1) cs j d r.1 (omega (arith, lt)) in let a = r.0 in omega (arith, h, a)
 
 ascend : (low : ℕ) (cs : List (ℕ × ℕ)) → Rising low cs → AllPairs (λ a b. a < b) (firsts cs)
-ascend low [] r i j d lt le = absurd (omega (arith, le))
-ascend low (c ∷ cs) r zero zero d lt le = absurd (omega (arith, lt))
-ascend low (c ∷ cs) r (suc i) zero d lt le = absurd (omega (arith, lt))
-ascend low (c ∷ cs) r zero (suc j) d lt le = let h = from_rising (c.0 + 1) cs j d r.1 (omega (arith, le)) in omega (arith, h)
-ascend low (c ∷ cs) r (suc i) (suc j) d lt le = ascend (c.0 + 1) cs r.1 i j d (omega (arith, lt)) (omega (arith, le))
+ascend low [] r = λ i j d lt le. absurd (omega (arith, le))
+ascend low (c ∷ cs) r = AllPairs-cons (λ a b. a < b) c.0 (firsts cs) (λ k d lt. let h = from_rising (c.0 + 1) cs k d r.1 lt in omega (arith, h)) (ascend (c.0 + 1) cs r.1)
 
 -- ---- each code address, and no other
 record WordOf (p : Part) (k n a : ℕ) : Type 0 where

@@ -14,12 +14,7 @@ use qed_model::AdmitError;
 fn is_dynamic(segments: &[Segment]) -> bool
     ensures { result ≡ is_dynamic segments.now }
 {
-    for segment in segments {
-        if segment.is_dynamic() {
-            return true;
-        }
-    }
-    false
+    segments.iter().any(|segment| segment.is_dynamic())
 }
 
 /// Whether a segment of the image is both written and executed.
