@@ -6,7 +6,7 @@ ghost use Rattle.qed_model.specs.Weave.LeanBounds.{check_bound, period as period
 ghost use Rattle.qed_model.specs.Weave.Pieces.{piece_count};
 ghost use Rattle.bound_calc.specs.Fitting.{fitting, AreSmall};
 
-use crate::steps::{cost, end, fitting, round};
+use crate::steps::{cost, end, fitting, round, told};
 use qed_model::{Bounds, Shape};
 
 /// The check.
@@ -60,19 +60,9 @@ pub fn lean_bounds(shape: &Shape, every: u64) -> Option<Bounds>
     let first = 34 + entry + u128::from(start);
     let register = fitting(first + u128::from(period))?;
     if shape.words == 0 {
-        return Some(Bounds {
-            piece,
-            register,
-            word: None,
-            start,
-        });
+        return Some(told(piece, register, None, start));
     }
     let checks = fitting(checks(shape.words, shape.round))?;
     let word = fitting(first + u128::from(checks) * u128::from(period))?;
-    Some(Bounds {
-        piece,
-        register,
-        word: Some(word),
-        start,
-    })
+    Some(told(piece, register, Some(word), start))
 }

@@ -81,6 +81,18 @@ fn pieces(words: u64, round: u64) -> u128
     (u128::from(words) + u128::from(round) - 1) / u128::from(round) + 2
 }
 
+/// These bounds.
+pub(crate) fn told(most: u64, changed: u64, visited: Option<u64>, first: u64) -> Bounds
+    ensures { result ≡ record { piece = most; register = changed; word = visited; start = first } }
+{
+    Bounds {
+        piece: most,
+        register: changed,
+        word: visited,
+        start: first,
+    }
+}
+
 /// The bounds of an output, in steps. None exactly where one of them is 2^64 or above.
 pub fn bounds(shape: &Shape) -> Option<Bounds>
     requires { 1 ≤ shape.now.round }
@@ -90,19 +102,9 @@ pub fn bounds(shape: &Shape) -> Option<Bounds>
     let start = start(shape)?;
     let register = fitting(u128::from(start) + 2 * u128::from(piece))?;
     if shape.words == 0 {
-        return Some(Bounds {
-            piece,
-            register,
-            word: None,
-            start,
-        });
+        return Some(told(piece, register, None, start));
     }
     let pieces = fitting(pieces(shape.words, shape.round))?;
     let word = fitting(u128::from(start) + u128::from(pieces) * u128::from(piece))?;
-    Some(Bounds {
-        piece,
-        register,
-        word: Some(word),
-        start,
-    })
+    Some(told(piece, register, Some(word), start))
 }

@@ -2,6 +2,7 @@
 ghost use Rattle.std.specs.Prelude.{◌≡◌, map};
 ghost use Rattle.command_line.specs.Tables.{place_among as place_among_of, row_of, command_of, key_named};
 
+use crate::Command::*;
 use crate::{Command, Key};
 
 /// What a command takes.
@@ -19,17 +20,7 @@ pub struct CommandRow {
 
 /// All commands, in the order of the texts.
 pub const COMMANDS: [Command; 11] = [
-    Command::Transform,
-    Command::Plan,
-    Command::Explain,
-    Command::Run,
-    Command::Campaign,
-    Command::Gen,
-    Command::List,
-    Command::Asm,
-    Command::Harts,
-    Command::Help,
-    Command::Version,
+    Transform, Plan, Explain, Run, Campaign, Gen, List, Asm, Harts, Help, Version,
 ];
 
 // A row: names, the least and the most files, options, options that must be given. `weave` puts the options of `transform`

@@ -28,15 +28,12 @@ rising_step : (start n low d : ℕ) (xs : List ℕ) → low ≤ start → low �
 rising_step start zero low d xs l k h r = rising_lower d low xs k r
 rising_step start (suc n) low d xs l k h r = rising-from_on start (suc n) low xs l (rising_lower d (start + 4 * suc n) xs (h (omega arith)) r)
 
-whole_end : (start end done : ℕ) → 0 < (end - start) / 4 → start + 4 * ((end - start) / 4) ≤ max done end
-whole_end start end done h = omega (arith, h)
-
 rising-addresses : (done : ℕ) (rs : List (ℕ × ℕ)) → Rising done (addresses done rs)
 rising-addresses done [] = tt
 rising-addresses done (r ∷ rs) =
     let start = max (up r.0) done in
     let d = max done (down r.1) in
-    rising_step start ((down r.1 - start) / 4) done d (addresses d rs) (omega arith) (omega arith) (whole_end start (down r.1) done) (rising-addresses d rs)
+    rising_step start ((down r.1 - start) / 4) done d (addresses d rs) (omega arith) (omega arith) (λ h. omega (arith, h)) (rising-addresses d rs)
 
 -- ---- the words of one range
 record WordOf (start n a : ℕ) : Type 0 where
@@ -88,12 +85,6 @@ words_in a done r e m =
       divides : (start place : ℕ) → a ≡ start + 4 * place → start % 4 ≡ 0 → a % 4 ≡ 0
       divides start place is z = omega (arith, is, z)
 
-place_is : (start a : ℕ) → start ≤ a → start % 4 ≡ 0 → a % 4 ≡ 0 → a ≡ start + 4 * ((a - start) / 4)
-place_is start a l e f = omega (arith, l, e, f)
-
-place_below : (start end a : ℕ) → start ≤ a → a + 4 ≤ end → (a - start) / 4 < (end - start) / 4
-place_below start end a l k = omega (arith, l, k)
-
 in_words : (a done : ℕ) (r : ℕ × ℕ) → done % 4 ≡ 0 → a % 4 ≡ 0 → done ≤ a → r.0 ≤ a → a < down r.1 → Among a (words_of done r)
 in_words a done r e f l from to =
     let start = max (up r.0) done in
@@ -101,7 +92,7 @@ in_words a done r e f l from to =
     let s : start ≤ a = omega (arith, u, l) in
     let z = whole_start r.0 done e in
     let d : a + 4 ≤ down r.1 = omega (arith, to, f) in
-    word_among start ((down r.1 - start) / 4) ((a - start) / 4) a (place_below start (down r.1) a s d) (place_is start a s z f)
+    word_among start ((down r.1 - start) / 4) ((a - start) / 4) a (omega (arith, s, d)) (omega (arith, s, z, f))
 
 -- ---- ranges in the order of their starts
 abbrev Starts : ℕ → List (ℕ × ℕ) → Type 0

@@ -9,24 +9,16 @@ use Rattle.qed_model.specs.declared.role.RoleRow.{RoleRow}
 use Rattle.rv_text.specs.Text.{text_of}
 use Rattle.texts.specs.Printed.{hex_digits, hex_text}
 
--- from one address to another
-abbrev pub span_text : ℕ → ℕ → List ℕ
-span_text first last = hex_text first ++ (codes ".." ++ hex_text last)
-
--- `x5` and an address
-abbrev pub at_text : ℕ → ℕ → List ℕ
-at_text r at = decimal r ++ (codes " " ++ hex_text at)
-
 abbrev pub role_text : Role → List ℕ
 role_text Start = codes "start"
 role_text (Entry at) = codes "entry " ++ hex_text at
 role_text (Original at) = codes "original " ++ hex_text at
 role_text (Mirror at) = codes "mirror " ++ hex_text at
-role_text (Guard r at) = codes "guard x" ++ at_text r at
-role_text (Compare r first last) = codes "compare x" ++ (decimal r ++ (codes " " ++ span_text first last))
-role_text (Visit first last) = codes "visit " ++ span_text first last
+role_text (Guard r at) = codes "guard x" ++ (decimal r ++ (codes " " ++ hex_text at))
+role_text (Compare r first last) = codes "compare x" ++ (decimal r ++ (codes " " ++ (hex_text first ++ (codes ".." ++ hex_text last))))
+role_text (Visit first last) = codes "visit " ++ (hex_text first ++ (codes ".." ++ hex_text last))
 role_text (Leave at) = codes "leave " ++ hex_text at
-role_text (LeaveGuard r at) = codes "leave guard x" ++ at_text r at
+role_text (LeaveGuard r at) = codes "leave guard x" ++ (decimal r ++ (codes " " ++ hex_text at))
 role_text Sweep = codes "sweep"
 role_text (End r) = codes "compare x" ++ (decimal r ++ codes " end")
 role_text Stub = codes "stub"

@@ -45,16 +45,13 @@ impl fmt::Display for VerdictText {
 
 /// Whether a test ended right, as ` right` or ` wrong`, where that is told.
 #[derive(Clone, Copy)]
-struct EndText {
-    verdict: Verdict,
-    right: Option<bool>,
-}
+struct EndText(Verdict, Option<bool>);
 
 impl fmt::Display for EndText {
-    ghost output = { λ e. Some (end_text e.verdict e.right) };
+    ghost output = { λ e. Some (end_text e.0 e.1) };
 
     fn fmt<W: fmt::Write>(&self, f: &mut fmt::Formatter<W>) -> fmt::Result {
-        match (self.verdict, self.right) {
+        match (self.0, self.1) {
             (Verdict::Ended(_), Some(true)) => write!(f, " right"),
             (Verdict::Ended(_), Some(false)) => write!(f, " wrong"),
             _ => Ok(()),
@@ -102,10 +99,7 @@ fn strike_line(
     let changes = changes_text(alloc, struck.changes.as_slice())?;
     line.extend_from_slice(&changes)?;
     let verdict = VerdictText(struck.verdict);
-    let end = EndText {
-        verdict: struck.verdict,
-        right,
-    };
+    let end = EndText(struck.verdict, right);
     let rest = format!(in alloc; " {verdict}{end}\n")?;
     line.extend_from_slice(rest.as_bytes())?;
     Ok(line)

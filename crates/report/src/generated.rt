@@ -28,33 +28,13 @@ impl fmt::Display for OutcomeWord {
 
 /// A run, printed as `ended after N steps`.
 #[derive(Clone, Copy)]
-struct Ran {
-    pub outcome: Outcome,
-    pub steps: u64,
-}
-
-impl Ran {
-    fn of(machine: &Machine) -> Ran
-        ensures outcome { result.outcome ≡ machine.now.state.outcome }
-        ensures steps { result.steps ≡ machine.now.steps }
-    {
-        Ran {
-            outcome: machine.outcome(),
-            steps: machine.steps(),
-        }
-    }
-}
+struct Ran(Outcome, u64);
 
 impl fmt::Display for Ran {
-    ghost output = { λ r. Some (ran_text r.outcome r.steps) };
+    ghost output = { λ r. Some (ran_text r.0 r.1) };
 
     fn fmt<W: fmt::Write>(&self, f: &mut fmt::Formatter<W>) -> fmt::Result {
-        write!(
-            f,
-            "{} after {} steps",
-            OutcomeWord(self.outcome),
-            self.steps
-        )
+        write!(f, "{} after {} steps", OutcomeWord(self.0), self.1)
     }
 }
 
@@ -88,13 +68,10 @@ pub fn generated_text(
 ) -> Result<Bytes, AllocError>
     ensures { IfOk result (λ text. text ≡ generated_line drawn.seed drawn.size drawn.words input.now plan.now output.now) }
 {
-    let input = Ran::of(input);
+    let input = Ran(input.outcome(), input.steps());
     let bytes = plan.code_bytes;
-    let output = Ran::of(output);
-    let bounds = BoundsText {
-        register: plan.bounds.register,
-        word: plan.bounds.word,
-    };
+    let output = Ran(output.outcome(), output.steps());
+    let bounds = BoundsText(plan.bounds);
     let text = format!(in alloc;
         "{drawn}, input {input}, output code {bytes} bytes, output {output}, {bounds}\n"
     )?;

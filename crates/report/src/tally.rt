@@ -130,9 +130,6 @@ pub fn summary_line(
 {
     let count = strikes.len();
     let tally = Tally::of(strikes, right_count(rights));
-    let bounds = BoundsText {
-        register: plan.bounds.register,
-        word: plan.bounds.word,
-    };
+    let bounds = BoundsText(plan.bounds);
     format!(in alloc; "strikes {count}, {tally}, {bounds}\n")
 }

@@ -3,7 +3,7 @@ ghost use Rattle.std.specs.Prelude.{◌≡◌, Some, IfOk};
 ghost use Rattle.command_line.specs.Text.Plan.{sizes_text, bounds_text, plan_line};
 
 use elf_types::Bytes;
-use qed_model::Plan;
+use qed_model::{Bounds, Plan};
 use std::alloc::{AllocError, Global};
 use std::fmt;
 
@@ -38,17 +38,14 @@ impl fmt::Display for Sizes {
 /// The bounds of an output in steps, printed as `register bound R, word bound B`. The word bound is None where there is
 /// no data word.
 #[derive(Clone, Copy)]
-pub struct BoundsText {
-    pub register: u64,
-    pub word: Option<u64>,
-}
+pub struct BoundsText(pub Bounds);
 
 impl fmt::Display for BoundsText {
-    ghost output = { λ b. Some (bounds_text b.register b.word) };
+    ghost output = { λ b. Some (bounds_text b.0.register b.0.word) };
 
     fn fmt<W: fmt::Write>(&self, f: &mut fmt::Formatter<W>) -> fmt::Result {
-        let BoundsText { register, word } = *self;
-        match word {
+        let register = self.0.register;
+        match self.0.word {
             Some(word) => write!(f, "register bound {register}, word bound {word}"),
             None => write!(f, "register bound {register}, word bound none"),
         }
@@ -65,9 +62,6 @@ pub fn transform_text(alloc: Global, plan: &Plan) -> Result<Bytes, AllocError>
         pieces: plan.pieces.as_slice().len() as u64,
         half: plan.distance,
     };
-    let bounds = BoundsText {
-        register: plan.bounds.register,
-        word: plan.bounds.word,
-    };
+    let bounds = BoundsText(plan.bounds);
     Ok(Bytes::of(format!(in alloc; "{sizes}, {bounds}\n")?.into_bytes()))
 }

@@ -5,7 +5,8 @@ use Rattle.std.specs.List.{list_all, position_from, prefix_len, suffix_len}
 use Rattle.std.proofs.lemmas.Bool.{and_parts, and_from, eq-eqb, ne_eqb, not-true, not_from_false, or_from}
 use Rattle.std.proofs.lemmas.List.{take_all, take_at, length-append, get_or-append_right, reverse-append}
 use Rattle.std.proofs.lemmas.List.Folds.{list_all-append}
-use Rattle.std.proofs.lemmas.List.Sums.{AllPass-from_list_all, suffix_len_is}
+use Rattle.std.proofs.lemmas.List.Elements.{All-weaker}
+use Rattle.std.proofs.lemmas.List.Sums.{AllPass-from_list_all, list_all-from_AllPass, suffix_len_is}
 use Rattle.texts.specs.Read.{parted, around}
 use Rattle.rv_asm.specs.Lines.{is_blank, hash, newline, comma, opening, closing, trim, trim_start, trim_end, pair_in, triple_in, bracketed_in, trimmed, triple_from, triple_with, bracketed_from, bracketed_with}
 
@@ -29,10 +30,7 @@ pub plain_blank : (c : ℕ) → is_plain c ≡ true → is_blank c ≡ false
 plain_blank c h = or_from (eqb c 32) (eqb c 9) (not_byte 32 c refl h) (not_byte 9 c refl h)
 
 pub all_weaker : (p q : ℕ → Bool) (text : List ℕ) → ((c : ℕ) → p c ≡ true → q c ≡ true) → list_all p text ≡ true → list_all q text ≡ true
-all_weaker p q [] f h = refl
-all_weaker p q (c ∷ text) f h =
-    let parts = and_parts (p c) (list_all p text) h in
-    and_from (q c) (list_all q text) (f c parts.0) (all_weaker p q text f parts.1)
+all_weaker p q text f h = list_all-from_AllPass q text (All-weaker (λ c. p c ≡ true) (λ c. q c ≡ true) f text (AllPass-from_list_all p text h))
 
 pub all_append : (p : ℕ → Bool) (xs ys : List ℕ) → list_all p xs ≡ true → list_all p ys ≡ true → list_all p (xs ++ ys) ≡ true
 all_append p xs ys a b = list_all-append p xs ys ∙ and_from (list_all p xs) (list_all p ys) a b

@@ -8,12 +8,7 @@ fn place_of(text: &[u8], at: u8) -> Option<usize>
     ensures first { result ≡ position_from (λ b. b == at) 0 text.now }
     ensures inside { IfSome result (λ i. i < length text.now) }
 {
-    for place in 0..text.len() {
-        if text[place] == at {
-            return Some(place);
-        }
-    }
-    None
+    text.iter().position(|&byte| byte == at)
 }
 
 /// The texts before and behind the first byte `at`, None where there is none.
