@@ -1,5 +1,5 @@
 -- The lean form of a test: its items are those of its file, they can be linked where they are few, and what is linked is its code.
-use Rattle.std.proofs.Common.{◌≡◌, ℕ, ◌+◌, ◌-◌, ◌^◌, ◌<◌, ◌≤◌, false, List, [], ◌++◌, length, map, sym, ap, ◌∙◌, subst, arith, append_assoc}
+use Rattle.std.proofs.Common.{◌≡◌, Bool, ℕ, ◌+◌, ◌-◌, ◌^◌, ◌<◌, ◌≤◌, false, List, [], ◌++◌, length, map, sym, ap, ◌∙◌, subst, arith, append_assoc}
 use Rattle.std.specs.Prelude.{All, AllPairs, Result, Ok, Err, IfOk, IfErr, get_or}
 use Rattle.std.specs.List.{list_all}
 use Rattle.std.proofs.Math.ListN.{get_or-map, length-map}
@@ -8,6 +8,7 @@ use Rattle.elf_types.specs.declared.file.ElfFile.{ElfFile}
 use Rattle.qed_model.specs.declared.item.Item.{Item}
 use Rattle.qed_model.specs.declared.options.Options.{Options}
 use Rattle.qed_model.specs.declared.plan.EntryRow.{EntryRow}
+use Rattle.qed_model.specs.declared.range.Range.{Range}
 use Rattle.qed_model.specs.declared.test.Test.{Test}
 use Rattle.qed_model.specs.Admission.DataRanges.{range_of}
 use Rattle.qed_model.specs.Weave.Blocks.{begins_at}
@@ -16,12 +17,14 @@ use Rattle.qed_model.specs.Weave.OutputParts.{base_of}
 use Rattle.qed_model.specs.Weave.Placed.{sum_of_sizes, rows_from, placed, leads_to, Decode, EntriesAscend}
 use Rattle.qed_model.specs.Weave.Places.{image_of, half_of, code_place}
 use Rattle.qed_model.specs.Weave.Sequences.{Block, stub}
-use Rattle.qed_model.specs.Weave.Forms.{form_of}
-use Rattle.qed_model.specs.Weave.LeanCode.{lean_of, lean_items, items_with as file_items, steps_at, start_at, worded}
+use Rattle.qed_model.specs.Weave.Bounds.{cost_of}
+use Rattle.qed_model.specs.Weave.Forms.{mirror_of, form_of}
+use Rattle.qed_model.specs.Weave.LeanCode.{Lean, lean_of, lean_items, items_with as file_items, has_tick, most_at, tick_rows, counting_of, start_at, worded}
 use Rattle.qed_model.proofs.PlacedWords.{size-append, entry_inside}
 use Rattle.weave_core.proofs.TestKnown as there
 use Rattle.block_list.specs.declared.block.CodeBlock.{CodeBlock}
 use Rattle.block_list.specs.Listed.{block_of}
+use Rattle.plc_rounds.specs.Spans.{spans_of}
 use Rattle.relinker.specs.declared.count.Count.{Count}
 use Rattle.relinker.specs.declared.error.LinkError.{LinkError}
 use Rattle.relinker.specs.declared.error.LinkError.TheVariants as error
@@ -46,6 +49,18 @@ use Rattle.woven_code.proofs.LeanBytes.{few_lean_bytes}
 use Rattle.lean_code.specs.Code.{lean_with, code_with, items_with, placed_at, IsLeanCut, IsLaidOut, IsLeanCodeOf, HasCause}
 use Rattle.lean_code.specs.Form.{code_of}
 
+-- ---- a weaver with what was counted of the test makes its code
+module _ (t : Test) (o : Options) (every : ℕ) (blocks : List Block) (entry : ℕ → ℕ) where
+  pub woven_is :
+      (span : List Range) (diverse : Bool) (ticks : ℕ → Bool) (most : ℕ → ℕ) → span ≡ t.span → diverse ≡ o.diverse
+      → ((a : ℕ) → ticks a ≡ (lean_with t o every blocks).ticks a) → ((a : ℕ) → most a ≡ (lean_with t o every blocks).most a)
+      → worded (record { spans = spans_of span; round = o.round; far = false; sweep = o.sweep; mirror = mirror_of diverse; cost = cost_of diverse }) t.base entry (record { every = every; inst_max = 0; diverse = diverse; land = o.land; check = place_of t + 124; ticks = ticks; most = most; start_of = start_at blocks }) (begins_at blocks)
+      ≡ code_with t o every blocks entry
+  woven_is span diverse ticks most same kind p q = λ i.
+      worded (record { spans = spans_of (same i); round = o.round; far = false; sweep = o.sweep; mirror = mirror_of (kind i); cost = cost_of (kind i) }) t.base entry
+      (record { every = every; inst_max = 0; diverse = kind i; land = o.land; check = place_of t + 124; ticks = λ a. p a i; most = λ a. q a i; start_of = start_at blocks }) (begins_at blocks)
+
+-- ---- of a test
 module _ (f : ElfFile) (o : Options) (every : ℕ) (t : Test) (blocks : List CodeBlock) (c : IsLeanCut f o every t blocks) where
   abbrev bs : List Block
   bs = map block_of blocks
@@ -93,12 +108,26 @@ module _ (f : ElfFile) (o : Options) (every : ℕ) (t : Test) (blocks : List Cod
   abbrev of_test : (ℕ → ℕ) → List Item
   of_test = items_with t o every bs
 
+  -- its parts, by where the code and the test begin
+  abbrev lean_at : ℕ → ℕ → Lean
+  lean_at n e = record {
+    every = every;
+    inst_max = o.inst_max;
+    diverse = o.diverse;
+    land = o.land;
+    check = n + 124;
+    ticks = has_tick (tick_rows (counting_of o e every bs) bs);
+    most = most_at (tick_rows (counting_of o e every bs) bs);
+    start_of = start_at bs;
+  }
+
   same_code : (entry : ℕ → ℕ) → code_with t o every bs entry ≡ file_code entry
   same_code entry =
       let spans = spans_are t.span ∙ c.told.span in
       ap (λ s. worded (form_with s o false) t.base entry (lean_with t o every bs) (begins_at bs)) spans
       ∙ ap (λ b. worded (form_of f o false) b entry (lean_with t o every bs) (begins_at bs)) c.told.base
-      ∙ ap (λ n. worded (form_of f o false) (base_of (image_of f)) entry (record { every = every; inst_max = o.inst_max; diverse = o.diverse; land = o.land; check = n + 124; most = steps_at o.diverse o.land (begins_at bs) bs; start_of = start_at bs }) (begins_at bs)) place
+      ∙ ap (λ n. worded (form_of f o false) (base_of (image_of f)) entry (lean_at n t.entry) (begins_at bs)) place
+      ∙ ap (λ e. worded (form_of f o false) (base_of (image_of f)) entry (lean_at at e) (begins_at bs)) c.told.entry
 
   whole : (entry : ℕ → ℕ) → of_test entry ++ stub ≡ of_file entry
   whole entry =

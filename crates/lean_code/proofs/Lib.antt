@@ -1,4 +1,5 @@
 mod BodySteps
+mod Counting
 mod Finding
 mod Forms
 mod Owned

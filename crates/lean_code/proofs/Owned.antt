@@ -16,7 +16,7 @@ use Rattle.qed_model.specs.Weave.Blocks.{begins_at}
 use Rattle.qed_model.specs.Weave.OutputParts.{base_of}
 use Rattle.qed_model.specs.Weave.Places.{image_of, half_of, code_place}
 use Rattle.qed_model.specs.Weave.Sequences.{End, Falls, Stops, Block, body_length}
-use Rattle.qed_model.specs.Weave.LeanCode.{steps_at, start_at, block_steps}
+use Rattle.qed_model.specs.Weave.LeanCode.{start_at, block_steps}
 use Rattle.qed_model.proofs.Nearby.{is_within}
 use Rattle.qed_model.proofs.WovenWords.{branch_imm, jump_imm}
 use Rattle.weave_core.proofs.FileOfItems as of
@@ -28,13 +28,12 @@ use Rattle.block_list.specs.Listed.{block_of, end_of}
 use Rattle.test_weave.specs.Fits.{FitsBlock}
 use Rattle.test_weave.proofs.BodyLeft.{whole_length}
 use Rattle.lean_weave.specs.Tests.{AreLeanBlocks}
-use Rattle.lean_weave.proofs.Blocks.{starts, steps}
+use Rattle.lean_weave.proofs.Blocks.{starts}
 use Rattle.lean_weave.proofs.Near.{nearer}
-use Rattle.lean_weave.proofs.Short.{only_reached, few_steps, short}
+use Rattle.lean_weave.proofs.Short.{only_reached, few_steps, own_few, short}
 use Rattle.lean_code.specs.declared.weaver.LeanWeaver.{LeanWeaver}
 use Rattle.lean_code.specs.Form.{blocks_in, IsOwn}
 use Rattle.lean_code.specs.Leaves.{IsNear, TurnsAs, Turns}
-use Rattle.lean_code.specs.Passes.{is_diverse}
 
 -- ---- where the signature turns
 -- an address within 2^31 is near
@@ -109,25 +108,27 @@ module _ (f : ElfFile) (o : Options) (every : ℕ) (blocks : List CodeBlock) (t 
       let found = starts f o some_most bs t.are reached grain ascend (block_of b) m in
       ap (λ n. start_at bs (end_of b.end) (b.start + 4 * n)) (sym (whole_length b.lengths b.body fit.whole)) ∙ found
 
-  module _ (w : LeanWeaver) (are : w.blocks.now ≡ blocks) (kinds : is_diverse w.passes ≡ o.diverse) (lands : w.land ≡ o.land) where
+  -- each has fewer steps than there are from check to check
+  abbrev IsFew : CodeBlock → Type 0
+  IsFew b = block_steps o.diverse o.land (begins_at bs) (block_of b) < 2048
+
+  few_in : (cs : List CodeBlock) → ((b : Block) → Among b (map block_of cs) → Among b bs) → All IsFew cs
+  few_in [] h = All-nil IsFew
+  few_in (b ∷ cs) h =
+      let less = short f o every t.sound t.lean bs t.are grain (block_of b) (h (block_of b) (inl refl)) in
+      let own = own_few f o every t.sound t.lean in
+      let few = few_steps f o every t.sound t.lean in
+      All-cons IsFew b cs (omega (arith, less, own, few)) (few_in cs (λ c m. h c (inr m)))
+
+  pub all_few : All IsFew blocks
+  all_few = few_in blocks (λ b m. m)
+
+  module _ (w : LeanWeaver) (are : w.blocks.now ≡ blocks) where
     one : (b : CodeBlock) → Among (block_of b) bs → IsKnownBlock at base d refl top bounds.1 (block_of b) → FitsBlock b → IsOwn w b
     one b m k fit =
-        let ascend = of.ascend f o t.sound t.file.loads t.admitted bs t.are in
         let same : blocks_in w ≡ bs = ap (map block_of) are in
         let long : body_length (block_of b).body ≡ length b.body = whole_length b.lengths b.body fit.whole in
-        let reached = only_reached f o every t.sound t.lean in
-        let counts = steps f o some_most bs t.are reached grain ascend o.diverse o.land (begins_at bs) (block_of b) m in
-        let less = short f o every t.sound t.lean bs t.are grain (block_of b) m in
-        let few = few_steps f o every t.sound t.lean in
         record {
-          steps =
-              subst (λ v. steps_at v w.land (begins_at (blocks_in w)) (blocks_in w) b.start ≡ block_steps v w.land (begins_at (blocks_in w)) (block_of b)) (sym kinds)
-              (subst (λ v. steps_at o.diverse v (begins_at (blocks_in w)) (blocks_in w) b.start ≡ block_steps o.diverse v (begins_at (blocks_in w)) (block_of b)) (sym lands)
-              (subst (λ l. steps_at o.diverse o.land (begins_at l) l b.start ≡ block_steps o.diverse o.land (begins_at l) (block_of b)) (sym same) counts));
-          few =
-              subst (λ v. block_steps v w.land (begins_at (blocks_in w)) (block_of b) < 2048) (sym kinds)
-              (subst (λ v. block_steps o.diverse v (begins_at (blocks_in w)) (block_of b) < 2048) (sym lands)
-              (subst (λ l. block_steps o.diverse o.land (begins_at l) (block_of b) < 2048) (sym same) (omega (arith, less, few))));
           starts = subst (λ l. start_at l (end_of b.end) (b.start + 4 * length b.body) ≡ b.start) (sym same) (begun b m fit);
           near = subst (λ n. Turns (end_of b.end) b.start (b.start + 4 * n)) long (turns b.start k.0 k.1 (end_of b.end) (b.start + 4 * body_length (block_of b).body) k.3);
         }

@@ -1,6 +1,6 @@
 -- The rows that are made of blocks alone are those of the items of the lean form.
 use Rattle.std.proofs.Common.{◌≡◌, inl, inr, ℕ, ◌+◌, ◌-◌, ◌*◌, ◌%◌, ◌^◌, Bool, true, false, cond, Option, Some, None, List, [], ◌∷◌, ◌++◌, length, map, refl, sym, ap, ◌∙◌, arith, append_assoc}
-use Rattle.std.specs.Prelude.{All, pos, neg_ℤ}
+use Rattle.std.specs.Prelude.{All, ℤ, pos, neg_ℤ}
 use Rattle.std.proofs.lemmas.List.{append-nil, map-append}
 use Rattle.std.proofs.lemmas.List.Elements.{All-head, All-tail}
 use Rattle.rv_isa.specs.declared.ins.Ins.{Ins}
@@ -23,12 +23,12 @@ use Rattle.qed_model.specs.Machine.Step.{target}
 use Rattle.qed_model.specs.Machine.Table.{ins}
 use Rattle.qed_model.specs.Weave.Blocks.{begins_at}
 use Rattle.qed_model.specs.Weave.Forms.{mirror_of}
-use Rattle.qed_model.specs.Weave.Lean.{check_sign, goes, turn, look_up, opposite}
-use Rattle.qed_model.specs.Weave.LeanCode.{Lean, fall_words, lean_of, items_with}
+use Rattle.qed_model.specs.Weave.Lean.{check_sign, tick, call_at, goes, turn, look_up, opposite}
+use Rattle.qed_model.specs.Weave.LeanCode.{Lean, fall_words, has_tick, tick_rows, counting_of, lean_of, items_with}
 use Rattle.qed_model.specs.Weave.LeanRoles.{first_parts, piece_parts, pieces_parts, leave_as_parts, leave_parts, entry_parts, entries_parts, worded_parts, lean_roles}
 use Rattle.qed_model.specs.Weave.OutputParts.{base_of}
 use Rattle.qed_model.specs.Weave.Pieces.{divided}
-use Rattle.qed_model.specs.Weave.Placed.{sum_of_sizes, entry_of}
+use Rattle.qed_model.specs.Weave.Placed.{distance_between, sum_of_sizes, entry_of}
 use Rattle.qed_model.specs.Weave.Places.{image_of, half_of, code_place}
 use Rattle.qed_model.specs.Weave.Roles.{row_of, guard_parts, originals, original_parts, mirror_parts, each_parts, end_parts}
 use Rattle.qed_model.specs.Weave.Sequences.{Form, Block, body_length, guard, guards_of, links, stub, visit}
@@ -49,7 +49,7 @@ use Rattle.woven_code.specs.Sizes.{guard_bytes, links_bytes, AreSizes}
 use Rattle.woven_code.proofs.RoleRows.{row_is, guard_rows_are, originals_are, mirrors_are, end_rows_are, rest_is}
 use Rattle.woven_code.proofs.Sizing.{guard_is, links_are, visit_is}
 use Rattle.lean_code.specs.Code.{IsLeanCut}
-use Rattle.lean_code.specs.Roles.{check_rows, next_bytes, leave_as_rows, leave_rows, block_rows, blocks_rows, lean_rows}
+use Rattle.lean_code.specs.Roles.{check_rows, next_bytes, leave_as_rows, leave_rows, entry_rows, block_rows, blocks_rows, lean_rows}
 use Rattle.lean_code.proofs.Forms.{fit}
 use Rattle.lean_code.proofs.Owned.{begun}
 
@@ -134,39 +134,49 @@ module _ (o : Options) (span : List Range) (s : Sizes) (are : AreSizes s o false
   sign_row_is true a = refl
   sign_row_is false a = refl
 
-  block_rows_are : (b : CodeBlock) → FitsBlock b → l.start_of (end_of b.end) (b.start + 4 * length b.body) ≡ b.start → block_rows o.land s leader b ≡ listed (entry_parts form entry l leader (block_of b))
+  -- and the tick, or none
+  tick_row_is : (ticks : Bool) (a most : ℕ) (d : ℤ) → cond ticks (row (role.Tick a) 16 ∷ []) [] ≡ listed (cond ticks ((role.Tick a, tick most d) ∷ []) [])
+  tick_row_is true a most d = refl
+  tick_row_is false a most d = refl
+
+  block_rows_are : (b : CodeBlock) → FitsBlock b → l.start_of (end_of b.end) (b.start + 4 * length b.body) ≡ b.start → block_rows o.land s l.ticks leader b ≡ listed (entry_parts form entry l leader (block_of b))
   block_rows_are b fits starts =
       let ps = divided b.lengths b.body in
       let at = b.start + 4 * length b.body in
       let leaves : ℕ → List (Role × List Item) = λ n. leave_parts form fall (end_of b.end) (l.start_of (end_of b.end) (b.start + 4 * n)) (b.start + 4 * n) in
-      let front : List RoleRow → List RoleRow = λ k. row (role.Sign b.start) (cond o.land 24 0) ∷ row (role.Tick b.start) 16 ∷ k in
+      let d = distance_between (entry b.start + call_at l.land) l.check in
+      let ticked : List (Role × List Item) = cond (l.ticks b.start) ((role.Tick b.start, tick (l.most b.start) d) ∷ []) [] in
+      let rest = pieces_parts l ps b.start ++ leaves (body_length ps) in
+      let front : List RoleRow → List RoleRow = λ k. entry_rows o.land l.ticks b.start ++ k in
       ap (λ k. front (k ++ leave_rows s leader b.end b.start at)) (pieces_rows_are ps b.start)
       ∙ ap (λ k. front (listed (pieces_parts l ps b.start) ++ k)) (leave_rows_are b.end b.start at)
       ∙ ap (λ a. front (listed (pieces_parts l ps b.start) ++ listed (leave_parts form fall (end_of b.end) a at))) (sym starts)
       ∙ ap (λ n. front (listed (pieces_parts l ps b.start) ++ listed (leaves n))) (sym (whole_length b.lengths b.body fits.whole))
       ∙ ap front (sym (map-append (row_of false) (pieces_parts l ps b.start) (leaves (body_length ps))))
-      ∙ ap (λ x. x ∷ row (role.Tick b.start) 16 ∷ listed (pieces_parts l ps b.start ++ leaves (body_length ps))) (ap (λ x. row (role.Sign b.start) (cond x 24 0)) (sym lands) ∙ sign_row_is l.land b.start)
+      ∙ ap (λ x. row (role.Sign b.start) (cond o.land 24 0) ∷ (x ++ listed rest)) (tick_row_is (l.ticks b.start) b.start (l.most b.start) d)
+      ∙ ap (λ x. row (role.Sign b.start) (cond o.land 24 0) ∷ x) (sym (map-append (row_of false) ticked rest))
+      ∙ ap (λ x. x ∷ listed (ticked ++ rest)) (ap (λ x. row (role.Sign b.start) (cond x 24 0)) (sym lands) ∙ sign_row_is l.land b.start)
 
   abbrev IsFound : CodeBlock → Type 0
   IsFound b = l.start_of (end_of b.end) (b.start + 4 * length b.body) ≡ b.start
 
-  blocks_rows_are : (bs : List CodeBlock) → All FitsBlock bs → ((b : CodeBlock) → Among (block_of b) (map block_of bs) → FitsBlock b → IsFound b) → blocks_rows o.land s leader bs ≡ listed (entries_parts form entry l leader (map block_of bs))
+  blocks_rows_are : (bs : List CodeBlock) → All FitsBlock bs → ((b : CodeBlock) → Among (block_of b) (map block_of bs) → FitsBlock b → IsFound b) → blocks_rows o.land s l.ticks leader bs ≡ listed (entries_parts form entry l leader (map block_of bs))
   blocks_rows_are [] fit found = refl
   blocks_rows_are (b ∷ bs) fit found =
       let fits = All-head FitsBlock b bs fit in
-      ap (λ k. k ++ blocks_rows o.land s leader bs) (block_rows_are b fits (found b (inl refl) fits))
+      ap (λ k. k ++ blocks_rows o.land s l.ticks leader bs) (block_rows_are b fits (found b (inl refl) fits))
       ∙ ap (λ k. listed (entry_parts form entry l leader (block_of b)) ++ k) (blocks_rows_are bs (All-tail FitsBlock b bs fit) (λ c m. found c (inr m)))
       ∙ sym (map-append (row_of false) (entry_parts form entry l leader (block_of b)) (entries_parts form entry l leader (map block_of bs)))
 
   -- ---- all
   worded_rows_are :
       (d a : ℕ) (bs : List CodeBlock) → All FitsBlock bs → ((b : CodeBlock) → Among (block_of b) (map block_of bs) → FitsBlock b → IsFound b)
-      → lean_rows o.land s leader bs ≡ listed (worded_parts form base entry l leader d a (map block_of bs))
+      → lean_rows o.land s l.ticks leader bs ≡ listed (worded_parts form base entry l leader d a (map block_of bs))
   worded_rows_are d a bs fit found =
       let first = first_parts form base l d a in
       let ps = entries_parts form entry l leader (map block_of bs) in
       let last : List (Role × List Item) = (role.Stub, stub) ∷ [] in
-      ap (λ k. k ++ (blocks_rows o.land s leader bs ++ (row role.Stub 4 ∷ []))) (first_rows_are d a)
+      ap (λ k. k ++ (blocks_rows o.land s l.ticks leader bs ++ (row role.Stub 4 ∷ []))) (first_rows_are d a)
       ∙ ap (λ k. listed first ++ (k ++ (row role.Stub 4 ∷ []))) (blocks_rows_are bs fit found)
       ∙ ap (λ k. listed first ++ k) (sym (map-append (row_of false) ps last))
       ∙ sym (map-append (row_of false) first (ps ++ last))
@@ -182,7 +192,9 @@ module _ (f : ElfFile) (o : Options) (every : ℕ) (t : Test) (blocks : List Cod
   abbrev own : ℕ → ℕ
   own = entry_of false at (items_with f o every bs (λ a. 0))
 
-  pub lean_rows_are : (s : Sizes) → AreSizes s o false t.span → lean_rows o.land s (begins_at bs) blocks ≡ lean_roles f o every bs
-  lean_rows_are s are =
-      worded_rows_are o t.span s are (base_of (image_of f)) own (lean_of f o every bs) refl refl (begins_at bs) (half_of o.half (image_of f)) f.entry blocks (fit f o every t blocks c) (begun f o every blocks c.cut)
+  pub lean_rows_are : (s : Sizes) → AreSizes s o false t.span → (ticks : ℕ → Bool) → ((a : ℕ) → ticks a ≡ has_tick (tick_rows (counting_of o t.entry every bs) bs) a) → lean_rows o.land s ticks (begins_at bs) blocks ≡ lean_roles f o every bs
+  lean_rows_are s are ticks known =
+      ap (λ (k : ℕ → Bool). lean_rows o.land s k (begins_at bs) blocks) (λ i a. known a i)
+      ∙ ap (λ e. lean_rows o.land s (has_tick (tick_rows (counting_of o e every bs) bs)) (begins_at bs) blocks) c.told.entry
+      ∙ worded_rows_are o t.span s are (base_of (image_of f)) own (lean_of f o every bs) refl refl (begins_at bs) (half_of o.half (image_of f)) f.entry blocks (fit f o every t blocks c) (begun f o every blocks c.cut)
       ∙ ap (λ spans. map (row_of false) (worded_parts (form_with spans o false) (base_of (image_of f)) own (lean_of f o every bs) (begins_at bs) (half_of o.half (image_of f)) f.entry bs)) (spans_are t.span ∙ c.told.span)

@@ -11,7 +11,7 @@ use Rattle.qed_model.specs.Weave.Code.{Sequences}
 use Rattle.qed_model.specs.Weave.Placed.{Decode, sum_of_sizes, rows_from, placed, entry_of}
 use Rattle.qed_model.specs.Weave.Places.{image_of, code_place}
 use Rattle.qed_model.specs.Weave.Sequences.{Block}
-use Rattle.qed_model.specs.Weave.LeanCode.{lean_items, items_with as file_items, steps_at, start_at, Lean, worded}
+use Rattle.qed_model.specs.Weave.LeanCode.{lean_items, items_with as file_items, has_tick, most_at, tick_rows, counting_of, start_at, Lean, worded}
 use Rattle.block_list.specs.declared.block.CodeBlock.{CodeBlock}
 use Rattle.block_list.specs.Listed.{block_of, IsWithin}
 use Rattle.plc_rounds.specs.Spans.{spans_of}
@@ -33,7 +33,8 @@ lean_with t o every blocks = record {
   diverse = o.diverse;
   land = o.land;
   check = place_of t + 124;
-  most = steps_at o.diverse o.land (begins_at blocks) blocks;
+  ticks = has_tick (tick_rows (counting_of o t.entry every blocks) blocks);
+  most = most_at (tick_rows (counting_of o t.entry every blocks) blocks);
   start_of = start_at blocks;
 }
 

@@ -1,16 +1,17 @@
 -- The lean form that a weaver makes, and the blocks that it is for.
-use Rattle.std.specs.Prelude.{◌≡◌, ℕ, ◌+◌, ◌*◌, ◌<◌, false, List, length, map}
+use Rattle.std.specs.Prelude.{◌≡◌, ℕ, ◌+◌, ◌*◌, false, List, length, map}
 use Rattle.qed_model.specs.Weave.Blocks.{begins_at}
 use Rattle.qed_model.specs.Weave.Bounds.{cost_of}
 use Rattle.qed_model.specs.Weave.Code.{Sequences}
 use Rattle.qed_model.specs.Weave.Placed.{leads_to}
 use Rattle.qed_model.specs.Weave.Sequences.{Form, Block}
 use Rattle.qed_model.specs.Weave.Forms.{mirror_of}
-use Rattle.qed_model.specs.Weave.LeanCode.{steps_at, start_at, Lean, worded, block_steps}
+use Rattle.qed_model.specs.Weave.LeanCode.{start_at, Lean, worded}
 use Rattle.block_list.specs.declared.block.CodeBlock.{CodeBlock}
 use Rattle.block_list.specs.Listed.{block_of, end_of}
 use Rattle.plc_rounds.specs.Spans.{spans_of}
 use Rattle.lean_code.specs.declared.weaver.LeanWeaver.{LeanWeaver}
+use Rattle.lean_code.specs.Counts.{ticks_in, most_in}
 use Rattle.lean_code.specs.Leaves.{Turns}
 use Rattle.lean_code.specs.Passes.{is_diverse}
 
@@ -29,7 +30,8 @@ lean w = record {
   diverse = is_diverse w.passes;
   land = w.land;
   check = w.check;
-  most = steps_at (is_diverse w.passes) w.land (begins_at (blocks_in w)) (blocks_in w);
+  ticks = ticks_in w.counts;
+  most = most_in w.counts;
   start_of = start_at (blocks_in w);
 }
 
@@ -39,9 +41,7 @@ entry w = leads_to w.entries.items w.last
 abbrev pub code_of : LeanWeaver → Sequences
 code_of w = worded (form w) w.base (entry w) (lean w) (begins_at (blocks_in w))
 
--- one of its blocks: its tick and its leave are found by where they stand, its steps are few, and the signature turns to where it goes on
+-- one of its blocks: its leave is found by where it stands, and the signature turns to where it goes on
 pub record IsOwn (w : LeanWeaver) (b : CodeBlock) : Type 0 where
-  pub steps : steps_at (is_diverse w.passes) w.land (begins_at (blocks_in w)) (blocks_in w) b.start ≡ block_steps (is_diverse w.passes) w.land (begins_at (blocks_in w)) (block_of b)
-  pub few : block_steps (is_diverse w.passes) w.land (begins_at (blocks_in w)) (block_of b) < 2048
   pub starts : start_at (blocks_in w) (end_of b.end) (b.start + 4 * length b.body) ≡ b.start
   pub near : Turns (end_of b.end) b.start (b.start + 4 * length b.body)

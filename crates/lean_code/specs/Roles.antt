@@ -52,14 +52,17 @@ leave_rows s leader None a at = row (role.Leave at) (next_bytes leader a at) ∷
 leave_rows s leader (Some i) a at = leave_as_rows s leader (class_of i.kind) i a at
 
 -- ---- blocks
--- where entries test the signature, or not
-abbrev pub block_rows : Bool → Sizes → (ℕ → Bool) → CodeBlock → List RoleRow
-block_rows land s leader b = row (role.Sign b.start) (cond land 24 0) ∷ row (role.Tick b.start) 16 ∷ (pieces_rows s.diverse None (divided b.lengths b.body) b.start ++ leave_rows s leader b.end b.start (b.start + 4 * length b.body))
+-- where entries test the signature, or not, and some have a tick
+abbrev pub entry_rows : Bool → (ℕ → Bool) → ℕ → List RoleRow
+entry_rows land ticks a = row (role.Sign a) (cond land 24 0) ∷ cond (ticks a) (row (role.Tick a) 16 ∷ []) []
 
-abbrev pub blocks_rows : Bool → Sizes → (ℕ → Bool) → List CodeBlock → List RoleRow
-blocks_rows land s leader [] = []
-blocks_rows land s leader (b ∷ bs) = block_rows land s leader b ++ blocks_rows land s leader bs
+abbrev pub block_rows : Bool → Sizes → (ℕ → Bool) → (ℕ → Bool) → CodeBlock → List RoleRow
+block_rows land s ticks leader b = entry_rows land ticks b.start ++ (pieces_rows s.diverse None (divided b.lengths b.body) b.start ++ leave_rows s leader b.end b.start (b.start + 4 * length b.body))
+
+abbrev pub blocks_rows : Bool → Sizes → (ℕ → Bool) → (ℕ → Bool) → List CodeBlock → List RoleRow
+blocks_rows land s ticks leader [] = []
+blocks_rows land s ticks leader (b ∷ bs) = block_rows land s ticks leader b ++ blocks_rows land s ticks leader bs
 
 -- ---- all
-abbrev pub lean_rows : Bool → Sizes → (ℕ → Bool) → List CodeBlock → List RoleRow
-lean_rows land s leader bs = row role.Start 124 ∷ (check_rows s ++ (blocks_rows land s leader bs ++ (row role.Stub 4 ∷ [])))
+abbrev pub lean_rows : Bool → Sizes → (ℕ → Bool) → (ℕ → Bool) → List CodeBlock → List RoleRow
+lean_rows land s ticks leader bs = row role.Start 124 ∷ (check_rows s ++ (blocks_rows land s ticks leader bs ++ (row role.Stub 4 ∷ [])))

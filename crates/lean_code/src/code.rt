@@ -1,15 +1,18 @@
 //! The words of the lean form.
-ghost use Rattle.std.specs.Prelude.{◌≡◌, ◌+◌, ◌^◌, ◌<◌, ◌≤◌, ℕ, AllPairs, IfOk, IfErr, false, map};
+ghost use Rattle.std.specs.Prelude.{◌≡◌, ◌+◌, ◌^◌, ◌<◌, ◌≤◌, ℕ, All, AllPairs, IfOk, IfErr, false, map};
 ghost use Rattle.elf_types.specs.declared.file.ElfFile.{ElfFile};
 ghost use Rattle.block_list.specs.Listed.{block_of};
+ghost use Rattle.qed_model.specs.Weave.Blocks.{begins_at};
+ghost use Rattle.qed_model.specs.Weave.LeanCode.{block_steps};
 ghost use Rattle.qed_model.specs.Weave.Placed.{EntriesAscend, leads_to};
 ghost use Rattle.relinker.specs.Counted.{HasCounted};
+ghost use Rattle.test_weave.specs.Fits.{FitsBlock};
 ghost use Rattle.woven_code.specs.Code.{place_of as place_of_test};
 ghost use Rattle.lean_code.specs.Code.{code_with, items_with, IsLeanCut, IsLaidOut, IsLeanCodeOf, HasCause};
 ghost use Rattle.lean_code.specs.Form.{code_of};
-ghost use Rattle.lean_code.specs.Passes.{is_diverse};
 
 use crate::begin::BEGIN_BYTES;
+use crate::counts::counts_of;
 use crate::weaver::{LeanPasses, LeanWeaver};
 use block_list::CodeBlock;
 use plc_rounds::Visit;
@@ -31,18 +34,21 @@ fn weaver<'a>(
     requires ascend { AllPairs (λ b c. b.start < c.start) blocks.now }
     requires rows { EntriesAscend entries.items }
     requires low { (a : ℕ) → leads_to entries.items last a + 32 < 2 ^ 64 }
+    requires fit { All FitsBlock blocks.now }
+    requires short { All (λ b. block_steps options.now.diverse options.now.land (begins_at (map block_of blocks.now)) (block_of b) < 2048) blocks.now }
     requires few { every ≤ 2048 }
     requires place { place_of_test test.now ≤ 2 ^ 63 }
     ensures code { IfOk result (λ w. code_of w ≡ code_with test.now options.now every (map block_of blocks.now) (leads_to entries.items last)) }
     ensures blocks { IfOk result (λ w. w.blocks.now ≡ blocks.now) }
-    ensures diverse { IfOk result (λ w. is_diverse w.passes ≡ options.now.diverse) }
-    ensures land { IfOk result (λ w. w.land ≡ options.now.land) }
 {
+    let counts = counts_of(alloc, test, options, every, blocks)?;
+    let span = copied(alloc, &test.span)?;
+    let passes = LeanPasses::of(options.diverse);
     Ok(LeanWeaver {
-        passes: LeanPasses::of(options.diverse),
+        passes,
         visits: Visit {
             round: options.round,
-            span: copied(alloc, &test.span)?,
+            span,
         },
         sweeps: options.sweep,
         land: options.land,
@@ -52,6 +58,7 @@ fn weaver<'a>(
         blocks,
         entries,
         last,
+        counts,
     })
 }
 

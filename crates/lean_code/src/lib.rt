@@ -5,6 +5,7 @@ mod begin;
 mod blocks;
 mod check;
 mod code;
+mod counts;
 mod leave;
 mod roles;
 mod steps;

@@ -9,10 +9,12 @@ ghost use Rattle.qed_model.specs.Weave.Placed.{sum_of_sizes};
 ghost use Rattle.block_list.specs.Listed.{block_of};
 ghost use Rattle.test_weave.specs.Fits.{FitsBlock};
 ghost use Rattle.lean_code.specs.Code.{IsLeanCut};
-ghost use Rattle.lean_code.specs.Roles.{check_end_rows, check_rows, next_bytes, last_rows, branch_rows, jump_reg_rows as jump_reg_rows_of, leave_as_rows, leave_rows, block_rows, blocks_rows, lean_rows};
+ghost use Rattle.lean_code.specs.Counts.{ticks_in};
+ghost use Rattle.lean_code.specs.Roles.{check_end_rows, check_rows, next_bytes, last_rows, branch_rows, jump_reg_rows as jump_reg_rows_of, leave_as_rows, leave_rows, entry_rows, block_rows, blocks_rows, lean_rows};
 
 use crate::begin::BEGIN_BYTES;
 use crate::blocks::begins_at;
+use crate::counts::{Counts, counted_at, counts_of};
 use crate::turn::{goes_size, turn_size};
 use block_list::CodeBlock;
 use flow_tracking::target;
@@ -147,21 +149,37 @@ fn push_leave(
     Ok(())
 }
 
+/// Appends what begins the entry of the block at `start`: the test of the signature, or none, and its tick, where it has one.
+fn push_entry(
+    rows: &mut Vec<RoleRow>,
+    land: bool,
+    counts: &Counts,
+    start: u64,
+) -> Result<(), AllocError>
+    ensures { OnOk result (rows.new.items ≡ rows.old.items ++ entry_rows land (ticks_in counts.now) start) }
+{
+    rows.push(row(Role::Sign(start), if land { 24 } else { 0 }))?;
+    if counted_at(counts, start).ticks {
+        rows.push(row(Role::Tick(start), 16))?;
+    }
+    Ok(())
+}
+
 /// Appends one of the blocks.
 fn push_block(
     rows: &mut Vec<RoleRow>,
     land: bool,
     sizes: &Sizes,
+    counts: &Counts,
     blocks: &[CodeBlock],
     block: &CodeBlock,
 ) -> Result<(), AllocError>
     requires ascend { AllPairs (λ b c. b.start < c.start) blocks.now }
     requires fits { FitsBlock block.now }
-    ensures { OnOk result (rows.new.items ≡ rows.old.items ++ block_rows land sizes.now (begins (map block_of blocks.now)) block.now) }
+    ensures { OnOk result (rows.new.items ≡ rows.old.items ++ block_rows land sizes.now (ticks_in counts.now) (begins (map block_of blocks.now)) block.now) }
 {
     let at = block.start + 4 * block.body.as_slice().len() as u64;
-    rows.push(row(Role::Sign(block.start), if land { 24 } else { 0 }))?;
-    rows.push(row(Role::Tick(block.start), 16))?;
+    push_entry(rows, land, counts, block.start)?;
     push_pieces(rows, sizes.diverse, None, block)?;
     push_leave(rows, sizes, blocks, &block.end, block.start, at)?;
     Ok(())
@@ -172,14 +190,15 @@ fn push_blocks(
     rows: &mut Vec<RoleRow>,
     land: bool,
     sizes: &Sizes,
+    counts: &Counts,
     blocks: &[CodeBlock],
 ) -> Result<(), AllocError>
     requires ascend { AllPairs (λ b c. b.start < c.start) blocks.now }
     requires fit { All FitsBlock blocks.now }
-    ensures { OnOk result (rows.new.items ≡ rows.old.items ++ blocks_rows land sizes.now (begins (map block_of blocks.now)) blocks.now) }
+    ensures { OnOk result (rows.new.items ≡ rows.old.items ++ blocks_rows land sizes.now (ticks_in counts.now) (begins (map block_of blocks.now)) blocks.now) }
 {
     for block in blocks {
-        push_block(rows, land, sizes, blocks, block)?;
+        push_block(rows, land, sizes, counts, blocks, block)?;
     }
     Ok(())
 }
@@ -189,16 +208,17 @@ fn rows_in(
     alloc: Global,
     land: bool,
     sizes: &Sizes,
+    counts: &Counts,
     blocks: &[CodeBlock],
 ) -> Result<Vec<RoleRow>, AllocError>
     requires ascend { AllPairs (λ b c. b.start < c.start) blocks.now }
     requires fit { All FitsBlock blocks.now }
-    ensures { IfOk result (λ rows. rows.items ≡ lean_rows land sizes.now (begins (map block_of blocks.now)) blocks.now) }
+    ensures { IfOk result (λ rows. rows.items ≡ lean_rows land sizes.now (ticks_in counts.now) (begins (map block_of blocks.now)) blocks.now) }
 {
     let mut rows = Vec::new(alloc);
     rows.push(row(Role::Start, BEGIN_BYTES))?;
     push_check(&mut rows, sizes)?;
-    push_blocks(&mut rows, land, sizes, blocks)?;
+    push_blocks(&mut rows, land, sizes, counts, blocks)?;
     rows.push(row(Role::Stub, 4))?;
     Ok(rows)
 }
@@ -218,6 +238,7 @@ pub fn lean_roles(
     ensures { IfOk result (λ rows. (f : ElfFile) → IsLeanCut f options.now every test.now blocks.now → rows.items ≡ lean_roles_of f options.now every (map block_of blocks.now)) }
 {
     let sizes = sizes_of(test, options, false);
-    let rows = rows_in(alloc, options.land, &sizes, blocks)?;
+    let counts = counts_of(alloc, test, options, every, blocks)?;
+    let rows = rows_in(alloc, options.land, &sizes, &counts, blocks)?;
     Ok(rows)
 }

@@ -1,4 +1,4 @@
-//! The steps that the tick of a block counts.
+//! The most steps of a block.
 ghost use Rattle.std.specs.Prelude.{◌≡◌, ◌+◌, ◌*◌, ◌^◌, ◌<◌, ◌≤◌, ℕ, true, cond, AllPairs, map};
 ghost use Rattle.rv_isa.specs.Kind.{class_of};
 ghost use Rattle.qed_model.specs.Weave.Blocks.{begins_at as begins};
@@ -170,14 +170,14 @@ fn leave_steps(blocks: &[CodeBlock], end: &Option<Ins>, start: u64, at: u64) -> 
 }
 
 /// The steps of an entry whose tick passes, where entries test the signature or not.
-fn entry_steps(land: bool) -> u64
+pub(crate) fn entry_steps(land: bool) -> u64
     ensures value { result ≡ entry_steps_of land }
     ensures bound { result ≤ 7 }
 {
     if land { 7 } else { 2 }
 }
 
-/// The steps that the tick of one of the blocks counts.
+/// The most steps of one of the blocks.
 pub(crate) fn block_steps(diverse: bool, land: bool, blocks: &[CodeBlock], block: &CodeBlock) -> u64
     requires ascend { AllPairs (λ b c. b.start < c.start) blocks.now }
     requires fits { FitsBlock block.now }

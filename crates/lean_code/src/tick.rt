@@ -31,19 +31,23 @@ fn put_tick(steps: u64, distance: i64, out: &mut Emit) -> Result<(), AllocError>
     Ok(())
 }
 
-/// The tick of the block that begins at `at`, and with `land` a test of the signature before it.
+/// The tick of the block that begins at `at`, where it has one, and with `land` a test of the signature before it.
 pub(crate) fn put_enter(
     land: bool,
+    ticks: bool,
     at: u64,
     steps: u64,
     distance: i64,
     out: &mut Emit,
 ) -> Result<(), AllocError>
     requires { steps < 2 ^ 63 }
-    ensures { OnOk result (out.new ≡ out.old ++ enter land at steps distance) }
+    ensures { OnOk result (out.new ≡ out.old ++ enter land ticks at steps distance) }
 {
     if land {
         put_check_sign(at, out)?;
     }
-    put_tick(steps, distance, out)
+    if ticks {
+        put_tick(steps, distance, out)?;
+    }
+    Ok(())
 }

@@ -1,12 +1,13 @@
 //! What makes the parts of the lean form of a test.
 ghost use Rattle.std.specs.Prelude.{◌≡◌, ◌+◌, ◌^◌, ◌<◌, ◌≤◌, ℕ, AllPairs};
 ghost use Rattle.qed_model.specs.Weave.Placed.{EntriesAscend, leads_to};
+ghost use Rattle.lean_code.specs.Counts.{most_in};
 ghost use Rattle.lean_code.specs.Passes.{is_diverse as is_diverse_of};
 
 use crate::begin::put_begin;
 use crate::check::put_check;
+use crate::counts::{Counts, counted_at};
 use crate::leave::{Leaves, put_leave};
-use crate::steps::block_steps;
 use crate::tick::{call_at, put_enter};
 use block_list::CodeBlock;
 use eddi_dup::{Mirrored, Original};
@@ -47,16 +48,6 @@ impl LeanPasses {
             })
         }
     }
-
-    /// Whether mirror parts are of other kinds.
-    fn is_diverse(&self) -> bool
-        ensures { result ≡ is_diverse_of self.now }
-    {
-        match self {
-            LeanPasses::Same(_) => false,
-            LeanPasses::Other(_) => true,
-        }
-    }
 }
 
 /// Makes the parts of the lean form of a test with these blocks.
@@ -78,10 +69,13 @@ pub(crate) struct LeanWeaver<'a> {
     pub(crate) entries: Vec<EntryRow>,
     /// Where others are.
     pub(crate) last: u64,
+    /// Which blocks have a tick, and how many steps it counts.
+    pub(crate) counts: Counts,
     ghost ascend: { AllPairs (λ b c. b.start < c.start) blocks.now },
     ghost rows: { EntriesAscend entries.items },
     ghost low: { (a : ℕ) → leads_to entries.items last a + 32 < 2 ^ 64 },
     ghost few: { every ≤ 2048 },
+    ghost short: { (a : ℕ) → most_in counts a < 2 ^ 63 },
 }
 
 impl<'a> LeanWeaver<'a> {
@@ -106,11 +100,18 @@ impl<'a> Weaving for LeanWeaver<'a> {
     }
 
     fn enter(&self, block: &CodeBlock, out: &mut Emit) -> Result<(), AllocError> {
-        let steps = block_steps(self.passes.is_diverse(), self.land, self.blocks, block);
+        let counted = counted_at(&self.counts, block.start);
         let call = self.entry(block.start) + call_at(self.land);
         out.push(Item::Mark(block.start))?;
         let distance = distance_between(call, self.check);
-        put_enter(self.land, block.start, steps, distance, out)
+        put_enter(
+            self.land,
+            counted.ticks,
+            block.start,
+            counted.most,
+            distance,
+            out,
+        )
     }
 
     fn piece(&self, list: &[Ins], at: u64, out: &mut Emit) -> Result<(), AllocError> {

@@ -6,11 +6,17 @@ use Rattle.test_weave.specs.Form.{parts_to_stub}
 use Rattle.lean_code.specs.Form.{code_of}
 use Rattle.lean_code.specs.Code.{items_with}
 use Rattle.lean_code.proofs.Forms.{blocks_ascend, few_every, fit, counted_too}
-use Rattle.lean_code.proofs.Owned.{owned}
+use Rattle.lean_code.proofs.Owned.{all_few, owned}
 use Rattle.lean_code.proofs.code.counted.Goals as goal
 
 pub weaver-requires-clause-ascend : goal.weaver-requires-clause-ascend
 weaver-requires-clause-ascend c = blocks_ascend c.requires.0 c.args.options.now c.args.every c.args.test.now c.args.blocks.now c.requires.1
+
+pub weaver-requires-clause-fit : goal.weaver-requires-clause-fit
+weaver-requires-clause-fit c = fit c.requires.0 c.args.options.now c.args.every c.args.test.now c.args.blocks.now c.requires.1
+
+pub weaver-requires-clause-short : goal.weaver-requires-clause-short
+weaver-requires-clause-short c = all_few c.requires.0 c.args.options.now c.args.every c.args.blocks.now c.requires.1.cut
 
 pub weaver-requires-clause-few : goal.weaver-requires-clause-few
 weaver-requires-clause-few c = few_every c.requires.0 c.args.options.now c.args.every c.args.test.now c.args.blocks.now c.requires.1
@@ -20,7 +26,7 @@ weave-requires-clause-fit c = fit c.requires.0 c.args.options.now c.args.every c
 
 pub weave-requires-clause-own : goal.weave-requires-clause-own
 weave-requires-clause-own c =
-    owned c.requires.0 c.args.options.now c.args.every c.args.blocks.now c.requires.1.cut c.in_ok-weaver.weaver c.in_ok-weaver.ensures.blocks c.in_ok-weaver.ensures.diverse c.in_ok-weaver.ensures.land
+    owned c.requires.0 c.args.options.now c.args.every c.args.blocks.now c.requires.1.cut c.in_ok-weaver.weaver c.in_ok-weaver.ensures.blocks
     (fit c.requires.0 c.args.options.now c.args.every c.args.test.now c.args.blocks.now c.requires.1)
 
 pub weave-requires-clause-come : goal.weave-requires-clause-come

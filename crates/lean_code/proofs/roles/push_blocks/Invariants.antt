@@ -1,9 +1,10 @@
 use Rattle.std.proofs.Common.{◌≡◌, ◌++◌, drop, map}
 use Rattle.qed_model.specs.Weave.Blocks.{begins_at}
 use Rattle.block_list.specs.Listed.{block_of}
+use Rattle.lean_code.specs.Counts.{ticks_in}
 use Rattle.lean_code.specs.Roles.{blocks_rows}
 use Rattle.lean_code.proofs.roles.push_blocks.Given as goal
 
 -- the blocks so far, and the others
 abbrev pub invariant-loop-block : goal.invariant-loop-block
-invariant-loop-block l = l.rows.items ++ blocks_rows l.land l.sizes (begins_at (map block_of l.blocks)) (drop l.block-index l.blocks) ≡ l.initial.rows.items ++ blocks_rows l.land l.sizes (begins_at (map block_of l.blocks)) l.blocks
+invariant-loop-block l = l.rows.items ++ blocks_rows l.land l.sizes (ticks_in l.counts) (begins_at (map block_of l.blocks)) (drop l.block-index l.blocks) ≡ l.initial.rows.items ++ blocks_rows l.land l.sizes (ticks_in l.counts) (begins_at (map block_of l.blocks)) l.blocks

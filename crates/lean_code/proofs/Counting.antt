@@ -1,0 +1,132 @@
+-- What is counted of blocks is what their rows say.
+use Rattle.std.proofs.Common.{◌≡◌, ℕ, ◌+◌, ◌*◌, ◌^◌, ◌<◌, ◌≤◌, inl, inr, ⊎_elim, Bool, true, false, cond, Some, List, [], ◌∷◌, map, refl, sym, ap, ◌∙◌, subst, arith}
+use Rattle.std.specs.Prelude.{All, ◌==◌, ◌||◌, nat_lt}
+use Rattle.std.specs.BTreeMap.{BTreeMap, get}
+use Rattle.std.specs.BTreeSet.{BTreeSet}
+use Rattle.std.specs.Ordering.{nat_cmp, is_eq}
+use Rattle.std.specs.Cmp.{unsigned_tied}
+use Rattle.std.proofs.lemmas.Bool.{ltb-false}
+use Rattle.std.proofs.lemmas.List.Elements.{All-head, All-tail}
+use Rattle.rv_isa.specs.declared.class.Class.{Class}
+use Rattle.rv_isa.specs.declared.class.Class.TheVariants as class
+use Rattle.rv_isa.specs.declared.ins.Ins.{Ins}
+use Rattle.rv_isa.specs.Kind.{class_of}
+use Rattle.qed_model.specs.Members.{Among}
+use Rattle.qed_model.specs.Weave.LeanCode.{Counting, TickRow, leads_on, leads_in, has_tick, most_at, owed_at, owed_as, owed_behind, needs_tick, tick_rows, block_steps}
+use Rattle.qed_model.specs.Weave.Sequences.{Block, End, Falls, Stops, body_length}
+use Rattle.block_list.specs.declared.block.CodeBlock.{CodeBlock}
+use Rattle.block_list.specs.Listed.{block_of}
+use Rattle.lean_code.specs.declared.counts.Counted.{Counted}
+use Rattle.lean_code.specs.Counts.{ticks_of, most_of, ticks_in, most_in, owed_in, most_owed_as, most_owed, holds, AddsTo, AreCounts}
+
+abbrev pub end_at : Block → ℕ
+end_at b = b.start + 4 * body_length b.body
+
+-- ---- the rows
+last_false : (x y z w : Bool) → (x || (y || (z || w))) ≡ false → w ≡ false
+last_false false false false w e = e
+last_false false false true w e = absurd (cc)
+last_false false true z w e = absurd (cc)
+last_false true y z w e = absurd (cc)
+
+-- no more steps are left to the tick before than there is room for
+some_owed : (p q rest : Bool) (most more room : ℕ) → (q ≡ false → most ≤ room) → cond rest 0 more ≤ room → cond (cond p q rest) 0 (cond p most more) ≤ room
+some_owed true true rest most more room h k = omega arith
+some_owed true false rest most more room h k = h refl
+some_owed false q rest most more room h k = k
+
+owed_small : (c : Counting) (bs : List Block) (t : ℕ) → owed_at (tick_rows c bs) t ≤ c.room
+owed_small c [] t = omega arith
+owed_small c (b ∷ bs) t =
+    let rows = tick_rows c bs in
+    let most = block_steps c.diverse c.land c.leader b + owed_behind rows b.end (end_at b) in
+    let behind = leads_in (b ∷ bs) b.start in
+    some_owed (b.start == t) (needs_tick c b behind most) (has_tick rows t) most (most_at rows t) c.room
+    (λ without. ltb-false c.room most (last_false b.reached (b.start == c.entry) behind (nat_lt c.room most) without))
+    (owed_small c bs t)
+
+owed_as_small : (c : Counting) (bs : List Block) (k : Class) (i : Ins) (at : ℕ) → owed_as (tick_rows c bs) k i at ≤ c.room
+owed_as_small c bs class.Jump i at = owed_small c bs _
+owed_as_small c bs class.Branch i at = omega (arith, owed_small c bs)
+owed_as_small c bs k i at = omega arith
+
+behind_small : (c : Counting) (bs : List Block) (e : End) (at : ℕ) → owed_behind (tick_rows c bs) e at ≤ c.room
+behind_small c bs Falls at = owed_small c bs at
+behind_small c bs (Stops i) at = owed_as_small c bs (class_of i.kind) i at
+
+-- so none counts many
+some_most : (p : Bool) (most more bound : ℕ) → most < bound → more < bound → cond p most more < bound
+some_most true most more bound h k = h
+some_most false most more bound h k = k
+
+pub most_small : (c : Counting) (bs : List Block) → ((b : Block) → Among b bs → block_steps c.diverse c.land c.leader b < 2048) → (a : ℕ) → most_at (tick_rows c bs) a < 2048 + c.room
+most_small c [] few a = omega arith
+most_small c (b ∷ bs) few a =
+    let rows = tick_rows c bs in
+    let most = block_steps c.diverse c.land c.leader b + owed_behind rows b.end (end_at b) in
+    some_most (b.start == a) most (most_at rows a) (2048 + c.room) (omega (arith, few b (inl refl), behind_small c bs b.end (end_at b))) (most_small c bs (λ d m. few d (inr m)) a)
+
+-- ---- what is owed
+owed_as_is : (rows : List TickRow) (k : Class) (i : Ins) (at : ℕ) → most_owed_as (owed_at rows) k i at ≡ owed_as rows k i at
+owed_as_is rows class.Jump i at = refl
+owed_as_is rows class.Branch i at = refl
+owed_as_is rows k i at = refl
+
+owed_is : (rows : List TickRow) (e : End) (at : ℕ) → most_owed (owed_at rows) e at ≡ owed_behind rows e at
+owed_is rows Falls at = refl
+owed_is rows (Stops i) at = owed_as_is rows (class_of i.kind) i at
+
+-- ---- one block more
+module _ (c : Counting) (bs : List Block) (counts : BTreeMap ℕ Counted) (goals : BTreeSet ℕ) (are : AreCounts c bs counts goals) where
+  owed_here : (a : ℕ) → owed_in counts a ≡ owed_at (tick_rows c bs) a
+  owed_here a = ap (λ t. cond t 0 (most_in counts a)) (are.ticks a) ∙ ap (λ n. cond (has_tick (tick_rows c bs) a) 0 n) (are.most a)
+
+  owed_there : (e : End) (at : ℕ) → most_owed (owed_in counts) e at ≡ owed_behind (tick_rows c bs) e at
+  owed_there e at = ap (λ (f : ℕ → ℕ). most_owed f e at) (λ i a. owed_here a i) ∙ owed_is (tick_rows c bs) e at
+
+  -- the sum of its steps and of those that it owes
+  pub sum_is :
+      (b : Block) (steps owes most : ℕ) → steps ≡ block_steps c.diverse c.land c.leader b → steps < 2048 → c.room ≤ 48 → owes ≡ most_owed (owed_in counts) b.end (end_at b)
+      → (steps + owes < 2 ^ 64 → most ≡ steps + owes) → most ≡ block_steps c.diverse c.land c.leader b + owed_behind (tick_rows c bs) b.end (end_at b)
+  sum_is b steps owes most e few room o sum =
+      let there = owed_there b.end (end_at b) in
+      let small = behind_small c bs b.end (end_at b) in
+      let is = sum (omega (arith, few, room, o, there, small)) in
+      omega (arith, is, e, o, there)
+
+  module _ (b : Block) (most : ℕ) (behind : Bool) (added : BTreeMap ℕ Counted) (led : BTreeSet ℕ) (is : most ≡ block_steps c.diverse c.land c.leader b + owed_behind (tick_rows c bs) b.end (end_at b)) (leads : AddsTo goals led (leads_on b.end (end_at b)))
+      (here : behind ≡ holds led b.start) (sets : (q : ℕ) → get nat_cmp added q ≡ cond (is_eq (nat_cmp b.start q)) (Some (record { ticks = needs_tick c b behind most; most = most })) (get nat_cmp counts q)) where
+    led_is : (a : ℕ) → holds led a ≡ leads_in (b ∷ bs) a
+    led_is a = leads.each a ∙ ap (λ x. leads_on b.end (end_at b) a || x) (are.led a)
+
+    abbrev own : Counted
+    own = record { ticks = needs_tick c b behind most; most = most }
+
+    at_key : (a : ℕ) → get nat_cmp added a ≡ cond (b.start == a) (Some own) (get nat_cmp counts a)
+    at_key a = sets a ∙ ap (λ p. cond p (Some own) (get nat_cmp counts a)) (unsigned_tied b.start a)
+
+    ticks_by : (a : ℕ) (p : Bool) → ticks_of (cond p (Some own) (get nat_cmp counts a)) ≡ cond p (needs_tick c b behind most) (has_tick (tick_rows c bs) a)
+    ticks_by a true = refl
+    ticks_by a false = are.ticks a
+
+    most_by : (a : ℕ) (p : Bool) → most_of (cond p (Some own) (get nat_cmp counts a)) ≡ cond p most (most_at (tick_rows c bs) a)
+    most_by a true = refl
+    most_by a false = are.most a
+
+    ticks_are : (a : ℕ) → ticks_in added a ≡ has_tick (tick_rows c (b ∷ bs)) a
+    ticks_are a =
+        ap ticks_of (at_key a)
+        ∙ ticks_by a (b.start == a)
+        ∙ ap (λ x. cond (b.start == a) (needs_tick c b x most) (has_tick (tick_rows c bs) a)) (here ∙ led_is b.start)
+        ∙ ap (λ n. cond (b.start == a) (needs_tick c b (leads_in (b ∷ bs) b.start) n) (has_tick (tick_rows c bs) a)) is
+
+    most_are : (a : ℕ) → most_in added a ≡ most_at (tick_rows c (b ∷ bs)) a
+    most_are a = ap most_of (at_key a) ∙ most_by a (b.start == a) ∙ ap (λ n. cond (b.start == a) n (most_at (tick_rows c bs) a)) is
+
+    pub one_more : AreCounts c (b ∷ bs) added led
+    one_more = record { ticks = ticks_are; most = most_are; led = led_is }
+
+-- ---- of blocks of a test
+pub among_all : (P : Block → Type 0) (bs : List CodeBlock) → All (λ b. P (block_of b)) bs → (b : Block) → Among b (map block_of bs) → P b
+among_all P [] all b m = absurd m
+among_all P (d ∷ ds) all b m = ⊎_elim (λ e. subst P (sym e) (All-head (λ b. P (block_of b)) d ds all)) (λ r. among_all P ds (All-tail (λ b. P (block_of b)) d ds all) b r) m
