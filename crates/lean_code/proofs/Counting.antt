@@ -14,6 +14,7 @@ use Rattle.rv_isa.specs.Kind.{class_of}
 use Rattle.qed_model.specs.Members.{Among}
 use Rattle.qed_model.specs.Weave.LeanCode.{Counting, TickRow, leads_on, leads_in, has_tick, most_at, owed_at, owed_as, owed_behind, needs_tick, tick_rows, block_steps}
 use Rattle.qed_model.specs.Weave.Sequences.{Block, End, Falls, Stops, body_length}
+use Rattle.lean_weave.proofs.Ticks.{few_behind}
 use Rattle.block_list.specs.declared.block.CodeBlock.{CodeBlock}
 use Rattle.block_list.specs.Listed.{block_of}
 use Rattle.lean_code.specs.declared.counts.Counted.{Counted}
@@ -21,50 +22,6 @@ use Rattle.lean_code.specs.Counts.{ticks_of, most_of, ticks_in, most_in, owed_in
 
 abbrev pub end_at : Block → ℕ
 end_at b = b.start + 4 * body_length b.body
-
--- ---- the rows
-last_false : (x y z w : Bool) → (x || (y || (z || w))) ≡ false → w ≡ false
-last_false false false false w e = e
-last_false false false true w e = absurd (cc)
-last_false false true z w e = absurd (cc)
-last_false true y z w e = absurd (cc)
-
--- no more steps are left to the tick before than there is room for
-some_owed : (p q rest : Bool) (most more room : ℕ) → (q ≡ false → most ≤ room) → cond rest 0 more ≤ room → cond (cond p q rest) 0 (cond p most more) ≤ room
-some_owed true true rest most more room h k = omega arith
-some_owed true false rest most more room h k = h refl
-some_owed false q rest most more room h k = k
-
-owed_small : (c : Counting) (bs : List Block) (t : ℕ) → owed_at (tick_rows c bs) t ≤ c.room
-owed_small c [] t = omega arith
-owed_small c (b ∷ bs) t =
-    let rows = tick_rows c bs in
-    let most = block_steps c.diverse c.land c.leader b + owed_behind rows b.end (end_at b) in
-    let behind = leads_in (b ∷ bs) b.start in
-    some_owed (b.start == t) (needs_tick c b behind most) (has_tick rows t) most (most_at rows t) c.room
-    (λ without. ltb-false c.room most (last_false b.reached (b.start == c.entry) behind (nat_lt c.room most) without))
-    (owed_small c bs t)
-
-owed_as_small : (c : Counting) (bs : List Block) (k : Class) (i : Ins) (at : ℕ) → owed_as (tick_rows c bs) k i at ≤ c.room
-owed_as_small c bs class.Jump i at = owed_small c bs _
-owed_as_small c bs class.Branch i at = omega (arith, owed_small c bs)
-owed_as_small c bs k i at = omega arith
-
-behind_small : (c : Counting) (bs : List Block) (e : End) (at : ℕ) → owed_behind (tick_rows c bs) e at ≤ c.room
-behind_small c bs Falls at = owed_small c bs at
-behind_small c bs (Stops i) at = owed_as_small c bs (class_of i.kind) i at
-
--- so none counts many
-some_most : (p : Bool) (most more bound : ℕ) → most < bound → more < bound → cond p most more < bound
-some_most true most more bound h k = h
-some_most false most more bound h k = k
-
-pub most_small : (c : Counting) (bs : List Block) → ((b : Block) → Among b bs → block_steps c.diverse c.land c.leader b < 2048) → (a : ℕ) → most_at (tick_rows c bs) a < 2048 + c.room
-most_small c [] few a = omega arith
-most_small c (b ∷ bs) few a =
-    let rows = tick_rows c bs in
-    let most = block_steps c.diverse c.land c.leader b + owed_behind rows b.end (end_at b) in
-    some_most (b.start == a) most (most_at rows a) (2048 + c.room) (omega (arith, few b (inl refl), behind_small c bs b.end (end_at b))) (most_small c bs (λ d m. few d (inr m)) a)
 
 -- ---- what is owed
 owed_as_is : (rows : List TickRow) (k : Class) (i : Ins) (at : ℕ) → most_owed_as (owed_at rows) k i at ≡ owed_as rows k i at
@@ -90,7 +47,7 @@ module _ (c : Counting) (bs : List Block) (counts : BTreeMap ℕ Counted) (goals
       → (steps + owes < 2 ^ 64 → most ≡ steps + owes) → most ≡ block_steps c.diverse c.land c.leader b + owed_behind (tick_rows c bs) b.end (end_at b)
   sum_is b steps owes most e few room o sum =
       let there = owed_there b.end (end_at b) in
-      let small = behind_small c bs b.end (end_at b) in
+      let small = few_behind c bs b.end (end_at b) in
       let is = sum (omega (arith, few, room, o, there, small)) in
       omega (arith, is, e, o, there)
 

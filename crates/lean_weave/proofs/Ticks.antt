@@ -127,7 +127,7 @@ module _ (c : Counting) where
     by true x rest = small (ticks_here b bs) refl
     by false x rest = rest
 
-  few_behind : (bs : List Block) (e : End) (at : ℕ) → owed_behind (rows bs) e at ≤ c.room
+  pub few_behind : (bs : List Block) (e : End) (at : ℕ) → owed_behind (rows bs) e at ≤ c.room
   few_behind bs Falls at = few_owed bs at
   few_behind bs (Stops i) at = by (class_of i.kind) where
     by : (k : Class) → owed_as (rows bs) k i at ≤ c.room
