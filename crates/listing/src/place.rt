@@ -44,10 +44,7 @@ fn input_address(role: Role) -> Option<u64>
 fn is_telling(name: &[u8]) -> bool
     ensures { result ≡ is_telling_of name.now }
 {
-    match name {
-        [] => false,
-        [first, ..] => *first != b'$',
-    }
+    name.first().is_some_and(|first| *first != b'$')
 }
 
 /// Whether a symbol names code and has such a name, at an address or before it.

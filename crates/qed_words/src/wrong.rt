@@ -10,10 +10,7 @@ use command_line::{Command, Reason};
 fn is_value(value: &[u8]) -> bool
     ensures { result ≡ is_value_of value.now }
 {
-    match value {
-        [] => false,
-        [first, ..] => *first != b'-',
-    }
+    value.first().is_some_and(|first| *first != b'-')
 }
 
 /// What is wrong with an argument, where those before it are known.

@@ -9,25 +9,13 @@ use std::fmt;
 
 /// The sizes of an output, printed as `code N bytes, entries E, pieces P, half D`.
 #[derive(Clone, Copy)]
-struct Sizes {
-    /// The new code, in bytes.
-    pub code: u64,
-    pub entries: u64,
-    pub pieces: u64,
-    /// The distance of the halves, in bytes.
-    pub half: u64,
-}
+struct Sizes(u64, u64, u64, u64);
 
 impl fmt::Display for Sizes {
-    ghost output = { λ s. Some (sizes_text s.code s.entries s.pieces s.half) };
+    ghost output = { λ s. Some (sizes_text s.0 s.1 s.2 s.3) };
 
     fn fmt<W: fmt::Write>(&self, f: &mut fmt::Formatter<W>) -> fmt::Result {
-        let Sizes {
-            code,
-            entries,
-            pieces,
-            half,
-        } = *self;
+        let Sizes(code, entries, pieces, half) = *self;
         write!(
             f,
             "code {code} bytes, entries {entries}, pieces {pieces}, half {half}"
@@ -56,12 +44,9 @@ impl fmt::Display for BoundsText {
 pub fn transform_text(alloc: Global, plan: &Plan) -> Result<Bytes, AllocError>
     ensures { IfOk result (λ text. text ≡ plan_line plan.now) }
 {
-    let sizes = Sizes {
-        code: plan.code_bytes,
-        entries: plan.entries.as_slice().len() as u64,
-        pieces: plan.pieces.as_slice().len() as u64,
-        half: plan.distance,
-    };
+    let entries = plan.entries.as_slice().len() as u64;
+    let pieces = plan.pieces.as_slice().len() as u64;
+    let sizes = Sizes(plan.code_bytes, entries, pieces, plan.distance);
     let bounds = BoundsText(plan.bounds);
     Ok(Bytes::of(format!(in alloc; "{sizes}, {bounds}\n")?.into_bytes()))
 }

@@ -1,6 +1,5 @@
 //! First words.
 ghost use Rattle.std.specs.Prelude.{◌≡◌};
-ghost use Rattle.qed_model.specs.Machine.Table.{kinds};
 ghost use Rattle.rv_asm.specs.Heads.{kind_named as kind_named_of, head_of};
 
 use crate::lines::label_in;
@@ -35,19 +34,12 @@ const KINDS: [Kind; 66] = [
     Srlw, Sraw, Mul, Mulh, Mulhsu, Mulhu, Div, Divu, Rem, Remu, Mulw, Divw, Divuw, Remw, Remuw,
 ];
 
-/// The same as a slice.
-fn all_kinds() -> &'static [Kind]
-    ensures { result.now ≡ kinds }
-{
-    &KINDS
-}
-
 /// The kind of instruction of a name.
 #[tactic(auto, unfolding(crate::specs::Heads::kind_named))]
 fn kind_named(word: &[u8]) -> Option<Kind>
     ensures { result ≡ kind_named_of word.now }
 {
-    let mut kinds = all_kinds().iter().copied();
+    let mut kinds = KINDS.iter().copied();
     kinds.find(|kind| name_of(*kind).as_bytes() == word)
 }
 

@@ -26,18 +26,6 @@ pub struct Program {
 }
 
 impl Program {
-    fn new(alloc: Global) -> Program
-        ensures code { result.code.items ≡ [] }
-        ensures words { result.values.items ≡ [] }
-        ensures symbols { result.symbols.items ≡ [] }
-    {
-        Program {
-            code: Vec::new(alloc),
-            values: Vec::new(alloc),
-            symbols: Vec::new(alloc),
-        }
-    }
-
     /// Adds what a line gives.
     fn add(
         &mut self,
@@ -91,7 +79,14 @@ pub fn program_of(alloc: Global, text: &[u8]) -> Result<Program, AsmError>
     ensures { MatchResult result (λ program. IsProgram (lines_of text.now) program) (λ e. IsRefused text.now e) }
 {
     let labels = labels_of(alloc, text)?;
-    let mut program = Program::new(alloc);
+    let code = Vec::new(alloc);
+    let values = Vec::new(alloc);
+    let symbols = Vec::new(alloc);
+    let mut program = Program {
+        code,
+        values,
+        symbols,
+    };
     let mut place = Place::FIRST;
     let mut number = 0;
     for line in text.split(|byte| *byte == b'\n') {

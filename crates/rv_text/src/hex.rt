@@ -1,7 +1,6 @@
 //! Hexadecimal numbers.
 ghost use Rattle.std.specs.Prelude.{Some};
 ghost use Rattle.texts.specs.Printed.{hex_text, word_text};
-ghost use Rattle.rv_text.specs.Text.{upper_text};
 
 use std::fmt;
 
@@ -26,17 +25,5 @@ impl fmt::Display for Word {
 
     fn fmt<W: fmt::Write>(&self, f: &mut fmt::Formatter<W>) -> fmt::Result {
         write!(f, "0x{:08x}", self.0)
-    }
-}
-
-/// The upper 20 bits of a word, printed as `0x` and 5 lower-case digits.
-#[derive(Clone, Copy)]
-pub struct Upper(pub u32);
-
-impl fmt::Display for Upper {
-    ghost output = { λ u. Some (upper_text u.0) };
-
-    fn fmt<W: fmt::Write>(&self, f: &mut fmt::Formatter<W>) -> fmt::Result {
-        write!(f, "0x{:05x}", self.0)
     }
 }

@@ -3,7 +3,7 @@ ghost use Rattle.std.specs.Prelude.{◌≡◌, Some, IfOk};
 ghost use Rattle.rv_text.specs.Text.{register_text, operands_text, text_of};
 
 use crate::forms::{Form, form_of};
-use crate::hex::{Upper, Word};
+use crate::hex::Word;
 use crate::names::name_of;
 use elf_types::Bytes;
 use rv_decode::decode;
@@ -25,19 +25,16 @@ impl fmt::Display for Register {
 
 /// The operands of an instruction and its word, printed behind a space.
 #[derive(Clone, Copy)]
-struct Operands {
-    ins: Ins,
-    word: u32,
-}
+struct Operands(Ins, u32);
 
 impl fmt::Display for Operands {
     ghost use Rattle.rv_text.specs.Forms.{form_of as form_of_kind};
 
-    ghost output = { λ o. Some (operands_text (form_of_kind o.ins.kind) o.ins o.word) };
+    ghost output = { λ o. Some (operands_text (form_of_kind o.0.kind) o.0 o.1) };
 
     #[tactic(auto, unfolding(crate::specs::Text::operands_text))]
     fn fmt<W: fmt::Write>(&self, f: &mut fmt::Formatter<W>) -> fmt::Result {
-        let ins = self.ins;
+        let ins = self.0;
         let (rd, rs1, rs2) = (Register(ins.rd), Register(ins.rs1), Register(ins.rs2));
         let imm = ins.imm;
         match form_of(ins.kind) {
@@ -46,7 +43,7 @@ impl fmt::Display for Operands {
             Form::Load => write!(f, " {rd}, {imm}({rs1})"),
             Form::Store => write!(f, " {rs2}, {imm}({rs1})"),
             Form::Branch => write!(f, " {rs1}, {rs2}, {imm}"),
-            Form::Upper => write!(f, " {rd}, {}", Upper(Field::<12, 20>::get(self.word))),
+            Form::Upper => write!(f, " {rd}, 0x{:05x}", Field::<12, 20>::get(self.1)),
             Form::Jump => write!(f, " {rd}, {imm}"),
             Form::Bare => Ok(()),
         }
@@ -63,6 +60,6 @@ pub fn text_of(alloc: Global, word: u32) -> Result<Bytes, AllocError>
         let text = format!(in alloc; "word {}", Word(word))?;
         return Ok(Bytes::of(text.into_bytes()));
     };
-    let text = format!(in alloc; "{}{}", name_of(ins.kind), Operands { ins, word })?;
+    let text = format!(in alloc; "{}{}", name_of(ins.kind), Operands(ins, word))?;
     Ok(Bytes::of(text.into_bytes()))
 }

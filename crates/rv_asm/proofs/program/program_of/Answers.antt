@@ -10,7 +10,7 @@ use Rattle.rv_asm.proofs.program.program_of.Goals as goal
 
 pub loop-line-init : goal.loop-line-init
 unfolding place_behind code_of data_of symbols_of gather
-loop-line-init c = record { counted = refl; placed = refl; code_near = lit< tt; values_near = lit< tt; faultless = λ i l. absurd (omega (arith, l)); code = c.new-program.ensures.code; words = c.new-program.ensures.words; symbols = c.new-program.ensures.symbols }
+loop-line-init c = record { counted = refl; placed = refl; code_near = lit< tt; values_near = lit< tt; faultless = λ i l. absurd (omega (arith, l)); code = c.new-code.ensures.items; words = c.new-values.ensures.items; symbols = c.new-symbols.ensures.items }
 
 pub returns-in-Err : goal.returns-in-Err
 returns-in-Err c =
