@@ -20,6 +20,7 @@ use Rattle.qed_model.specs.Weave.Bounds.{bounds_of}
 use Rattle.qed_model.proofs.ExampleBlocks as made
 use Rattle.qed_model.proofs.ExampleCode as code
 use Rattle.qed_model.proofs.ExampleCode.{IsCodeOf}
+use Rattle.qed_model.specs.Numbers.{number_bytes}
 use Rattle.qed_model.proofs.Fields.{are_bytes}
 use Rattle.qed_model.specs.Promise.Kept.{any_address}
 use Rattle.qed_model.proofs.OneTest.{any_reached}
@@ -95,11 +96,11 @@ code_counted f o far blocks =
 
 -- ---- the file
 read : File far_bytes far_test
-unfolding far_bytes opened_verdict read_of
+unfolding far_bytes number_bytes opened_verdict read_of
 read = is_file far_bytes far_test refl refl
 
 fit : (k : ℕ) → slice_index far_bytes k < 256
-unfolding far_bytes
+unfolding far_bytes number_bytes
 fit = are_bytes far_bytes refl
 
 known : IsCodeOf far_test 0x10000 far_code

@@ -6,7 +6,8 @@ use Rattle.qed_model.specs.declared.options.Entries.TheVariants as entries
 use Rattle.qed_model.specs.declared.plan.Plan.{Plan}
 use Rattle.elf_files.specs.File.{File}
 use Rattle.qed_model.specs.Elf.FileRead.{file_read}
-use Rattle.qed_model.specs.Machine.Loading.{ElfFile, loaded_file}
+use Rattle.qed_model.specs.Elf.Written.{fields_bytes, program_fields}
+use Rattle.qed_model.specs.Machine.Loading.{Segment, ElfFile, loaded_file}
 use Rattle.qed_model.specs.Machine.Program.{Program}
 use Rattle.qed_model.specs.Machine.Table.{Lui, Jal, Ld, Sd, Mul, Sub, Ecall, Add, Jalr, Ins, ins}
 use Rattle.qed_model.specs.Promise.Caught.{Caught}
@@ -27,21 +28,6 @@ header =
     0x40 ∷ 0 ∷ 0 ∷ 0 ∷ 0 ∷ 0 ∷ 0 ∷ 0 ∷ 0 ∷ 0 ∷ 0 ∷ 0 ∷ 0 ∷ 0 ∷ 0 ∷ 0 ∷
     0 ∷ 0 ∷ 0 ∷ 0 ∷ 0x40 ∷ 0 ∷ 0x38 ∷ 0 ∷ 3 ∷ 0 ∷ 0 ∷ 0 ∷ 0 ∷ 0 ∷ 0 ∷ 0 ∷ []
 
--- three program headers
-abbrev program_headers : List ℕ
-program_headers =
-    1 ∷ 0 ∷ 0 ∷ 0 ∷ 5 ∷ 0 ∷ 0 ∷ 0 ∷ 0xe8 ∷ 0 ∷ 0 ∷ 0 ∷ 0 ∷ 0 ∷ 0 ∷ 0 ∷
-    0 ∷ 0 ∷ 1 ∷ 0 ∷ 0 ∷ 0 ∷ 0 ∷ 0 ∷ 0 ∷ 0 ∷ 1 ∷ 0 ∷ 0 ∷ 0 ∷ 0 ∷ 0 ∷
-    0x48 ∷ 0 ∷ 0 ∷ 0 ∷ 0 ∷ 0 ∷ 0 ∷ 0 ∷ 0x48 ∷ 0 ∷ 0 ∷ 0 ∷ 0 ∷ 0 ∷ 0 ∷ 0 ∷
-    0 ∷ 0x10 ∷ 0 ∷ 0 ∷ 0 ∷ 0 ∷ 0 ∷ 0 ∷ 1 ∷ 0 ∷ 0 ∷ 0 ∷ 4 ∷ 0 ∷ 0 ∷ 0 ∷
-    0x30 ∷ 1 ∷ 0 ∷ 0 ∷ 0 ∷ 0 ∷ 0 ∷ 0 ∷ 0 ∷ 0 ∷ 2 ∷ 0 ∷ 0 ∷ 0 ∷ 0 ∷ 0 ∷
-    0 ∷ 0 ∷ 2 ∷ 0 ∷ 0 ∷ 0 ∷ 0 ∷ 0 ∷ 8 ∷ 0 ∷ 0 ∷ 0 ∷ 0 ∷ 0 ∷ 0 ∷ 0 ∷
-    8 ∷ 0 ∷ 0 ∷ 0 ∷ 0 ∷ 0 ∷ 0 ∷ 0 ∷ 0 ∷ 0x10 ∷ 0 ∷ 0 ∷ 0 ∷ 0 ∷ 0 ∷ 0 ∷
-    1 ∷ 0 ∷ 0 ∷ 0 ∷ 6 ∷ 0 ∷ 0 ∷ 0 ∷ 0x38 ∷ 1 ∷ 0 ∷ 0 ∷ 0 ∷ 0 ∷ 0 ∷ 0 ∷
-    0 ∷ 0x10 ∷ 2 ∷ 0 ∷ 0 ∷ 0 ∷ 0 ∷ 0 ∷ 0 ∷ 0x10 ∷ 2 ∷ 0 ∷ 0 ∷ 0 ∷ 0 ∷ 0 ∷
-    8 ∷ 0 ∷ 0 ∷ 0 ∷ 0 ∷ 0 ∷ 0 ∷ 0 ∷ 8 ∷ 0 ∷ 0 ∷ 0 ∷ 0 ∷ 0 ∷ 0 ∷ 0 ∷
-    0 ∷ 0x10 ∷ 0 ∷ 0 ∷ 0 ∷ 0 ∷ 0 ∷ 0 ∷ []
-
 -- the code, at 232
 abbrev code_bytes : List ℕ
 code_bytes =
@@ -51,28 +37,22 @@ code_bytes =
     0x33 ∷ 0x85 ∷ 0x63 ∷ 0x40 ∷ 0x6f ∷ 0 ∷ 0x40 ∷ 0 ∷ 0xef ∷ 0 ∷ 0x80 ∷ 0 ∷ 0x73 ∷ 0 ∷ 0 ∷ 0 ∷
     0xb3 ∷ 5 ∷ 0x75 ∷ 0 ∷ 0x67 ∷ 0x80 ∷ 0 ∷ 0 ∷ []
 
--- a word that is read only, and one that is written
-abbrev constant : List ℕ
-constant = 7 ∷ 0 ∷ 0 ∷ 0 ∷ 0 ∷ 0 ∷ 0 ∷ 0 ∷ []
+-- its segments: the code, a word that is read only, and one that is written
+abbrev text : Segment
+text = record { kind = 1; flags = 5; address = 0x10000; memory = 72; bytes = code_bytes }
 
-abbrev variable : List ℕ
-variable = 0 ∷ 0 ∷ 0 ∷ 0 ∷ 0 ∷ 0 ∷ 0 ∷ 0 ∷ []
+abbrev constant : Segment
+constant = record { kind = 1; flags = 4; address = 0x20000; memory = 8; bytes = 7 ∷ 0 ∷ 0 ∷ 0 ∷ 0 ∷ 0 ∷ 0 ∷ 0 ∷ [] }
+
+abbrev variable : Segment
+variable = record { kind = 1; flags = 6; address = 0x21000; memory = 8; bytes = 0 ∷ 0 ∷ 0 ∷ 0 ∷ 0 ∷ 0 ∷ 0 ∷ 0 ∷ [] }
 
 unfoldable pub far_bytes : List ℕ
-far_bytes = header ++ (program_headers ++ (code_bytes ++ (constant ++ variable)))
+far_bytes = header ++ (fields_bytes (program_fields text 0xe8 ++ (program_fields constant 0x130 ++ program_fields variable 0x138)) ++ (code_bytes ++ (constant.bytes ++ variable.bytes)))
 
 -- the file that they are
 abbrev pub far_test : ElfFile
-far_test = record {
-  entry = 0x10000;
-  flags = 0;
-  segments =
-      record { kind = 1; flags = 5; address = 0x10000; memory = 72; bytes = code_bytes } ∷ record { kind = 1; flags = 4; address = 0x20000; memory = 8; bytes = constant }
-      ∷ record { kind = 1; flags = 6; address = 0x21000; memory = 8; bytes = variable } ∷ [];
-  sections = [];
-  symbols = [];
-  relas = [];
-}
+far_test = record { entry = 0x10000; flags = 0; segments = text ∷ constant ∷ variable ∷ []; sections = []; symbols = []; relas = [] }
 
 -- a round of 1,024 visits, the sweep, and mirror parts of other kinds
 abbrev pub far_options : Options
