@@ -148,11 +148,9 @@ headers_shown f table w s =
     }
 
 -- ---- the bytes of names
-given_names : (sections : List OutSection) → total (λ s. length s.name) (map section_read sections) ≤ length (names_bytes (map (λ x. x.name) sections))
-given_names [] = omega arith
-given_names (x ∷ sections) =
-    let others : List ℕ = names_bytes (map (λ x. x.name) sections) in
-    omega (arith, given_names sections, length-append (x.name ++ 0 ∷ []) others, length-append x.name (0 ∷ []))
+names_total : {X : Type 0} (name : X → List ℕ) (xs : List X) → total (λ x. length (name x)) xs ≤ length (names_bytes (map name xs))
+names_total name [] = omega arith
+names_total name (x ∷ xs) = omega (arith, names_total name xs, length-append (name x ++ 0 ∷ []) (names_bytes (map name xs)), length-append (name x) (0 ∷ []))
 
 total-append : {X : Type 0} (h : X → ℕ) (xs ys : List X) → total h (xs ++ ys) ≡ total h xs + total h ys
 total-append h [] ys = omega arith
@@ -160,13 +158,7 @@ total-append h (x ∷ xs) ys = omega (arith, total-append h xs ys)
 
 section_name_bytes : (f : OutFile) → total (λ s. length s.name) (null_section ∷ (map section_read f.sections ++ tables_read f)) ≤ length (string_table (section_names f.sections))
 section_name_bytes f =
-    omega (arith, given_names f.sections, total-append (λ (s : Section). length s.name) (map section_read f.sections) (tables_read f), length-section_names f.sections)
-
-symbol_name_sizes : (symbols : List Symbol) → total (λ s. length s.name) symbols ≤ length (names_bytes (symbol_names symbols))
-symbol_name_sizes [] = omega arith
-symbol_name_sizes (x ∷ symbols) =
-    let others : List ℕ = names_bytes (symbol_names symbols) in
-    omega (arith, symbol_name_sizes symbols, length-append (x.name ++ 0 ∷ []) others, length-append x.name (0 ∷ []))
+    omega (arith, names_total (λ (x : OutSection). x.name) f.sections, total-map section_read (λ (s : Section). length s.name) f.sections, total-append (λ (s : Section). length s.name) (map section_read f.sections) (tables_read f), length-section_names f.sections)
 
 -- ---- the rules behind those on segments, sections and symbols
 rela_none : (file : List ℕ) (h : SectionHeader) → eqb h.kind 4 ≡ false → rela_fault file h ≡ None
@@ -234,7 +226,7 @@ few_bytes f file known read segments symbols small =
     let one : sum_below (e_phnum file) (λ i. file_size (program_header file i)) ≤ own_place f = omega (arith, segments.bytes, is.own) in
     let two = section_sum f file known read in
     let names = section_name_bytes f in
-    let strings = symbol_name_sizes f.symbols in
+    let strings = names_total (λ (s : Symbol). s.name) f.symbols in
     omega (arith, one, two, names, strings, symbols.bytes, is.symbols, is.strings, is.names, is.headers)
 
 -- ---- the whole

@@ -2,6 +2,7 @@
 use Rattle.std.proofs.Common.{◌≡◌, ℕ, ◌+◌, ◌*◌, ◌≤◌, Bool, true, false, cond, ◌&&◌, not, List, [], ◌∷◌, ◌++◌, length, map, get_or, Option, Some, None, refl, arith, length-append}
 use Rattle.std.specs.Prelude.{All, filter, nat_le, if◌then◌else◌}
 use Rattle.std.proofs.lemmas.List.{length-map}
+use Rattle.std.proofs.lemmas.List.Sums.{length-filter, count_by-le-length}
 use Rattle.std.proofs.lemmas.List.Elements.{All-append, All-map, All-filter}
 use Rattle.elf_types.specs.declared.file.ElfFile.{ElfFile}
 use Rattle.elf_types.specs.declared.file.Segment.{Segment}
@@ -68,14 +69,6 @@ end_below at (s ∷ ss) = omega (arith, offset_room at s.address, end_below (off
 abbrev pub IsShortName : Symbol → Type 0
 IsShortName s = length s.name ≤ 5
 
-few_kept : {A : Type 0} (test : A → Bool) (xs : List A) → length (filter test xs) ≤ length xs
-few_kept test [] = omega arith
-few_kept test (x ∷ xs) =
-    elim (test x) as (λ b. length (cond b (x ∷ filter test xs) (filter test xs)) ≤ length (x ∷ xs)) [
-      | true ↦ omega (arith, few_kept test xs)
-      | false ↦ omega (arith, few_kept test xs)
-    ]
-
 short_at : (s : Symbol) (o : Option ℕ) → IsShortName s → IsShortName (at_entry s o)
 short_at s None h = h
 short_at s (Some a) h = h
@@ -85,7 +78,7 @@ kept_in local s = is_kept s && (if local then is_local s else not (is_local s))
 
 module _ (rows : List EntryRow) (ss : List Symbol) where
   group_few : (local : Bool) → length (symbol_group local rows ss) ≤ length ss
-  group_few local = omega (arith, length-map (filter (kept_in local) ss) (out_symbol rows), few_kept (kept_in local) ss)
+  group_few local = omega (arith, length-map (filter (kept_in local) ss) (out_symbol rows), length-filter (kept_in local) ss, count_by-le-length (kept_in local) ss)
 
   few_symbols : length (out_symbols rows ss) ≤ 2 * length ss
   few_symbols = omega (arith, length-append (symbol_group true rows ss) (symbol_group false rows ss), group_few true, group_few false)

@@ -1,6 +1,6 @@
 -- The bytes of a generated file are read as that file, and no rule refuses them.
 use Rattle.std.proofs.Common.{ℕ, ◌^◌, ◌<◌, ◌≤◌, List, [], ◌∷◌, length, arith}
-use Rattle.std.specs.Prelude.{All}
+use Rattle.std.specs.Prelude.{All, codes}
 use Rattle.elf_types.specs.declared.error.ElfError.{ElfError}
 use Rattle.elf_types.specs.declared.file.ElfFile.{ElfFile}
 use Rattle.qed_model.specs.declared.admit.AdmitError.{AdmitError}
@@ -15,7 +15,8 @@ use Rattle.qed_model.proofs.AdmissionLaws.{no_fault}
 use Rattle.qed_model.proofs.Pairs.{every_all}
 use Rattle.elf_write.specs.Widths.{SegmentFits, SectionFits, SymbolFits}
 use Rattle.elf_write.proofs.WholeRead.{reads_back}
-use Rattle.elf_write.specs.Plain.{segment}
+use Rattle.elf_write.specs.Plain.{segment, section}
+use Rattle.elf_types.specs.declared.file.Segment.{Segment}
 use Rattle.test_gen.specs.Code.{function_count}
 use Rattle.test_gen.specs.Generated.{code_bytes, table_bytes, data_bytes, code_segment, table_segment, data_segment, sections, function_symbol, symbols, file_with, generated}
 use Rattle.test_gen.proofs.Admitted.{admitted, few_functions}
@@ -25,6 +26,9 @@ use Rattle.test_gen.proofs.Writable.{all_symbols, writable}
 -- ---- each number has room in its field
 segment_fits : (flags at : ℕ) (bytes : List ℕ) → flags < 2 ^ 32 → at < 2 ^ 64 → length bytes < 2 ^ 64 → SegmentFits (segment flags at bytes)
 segment_fits flags at bytes f a s = record { flags = f; address = a; memory = s }
+
+section_fits : (name : List ℕ) (flags : ℕ) (s : Segment) → flags < 2 ^ 64 → SegmentFits s → SectionFits (section name flags s)
+section_fits name flags s f h = record { flags = f; address = h.address; size = h.memory }
 
 function_fits : (i : ℕ) → i < 1875 → SymbolFits (function_symbol i)
 unfolding function_symbol
@@ -45,21 +49,12 @@ read_with seed n few =
     let code_size = length-code_bytes seed n in
     let table_size = length-table_bytes n in
     let data_size = length-data_bytes in
+    let first : SegmentFits code = segment_fits 5 0x10000 (code_bytes seed n) (omega arith) (omega arith) (omega (arith, code_size, few)) in
+    let second : SegmentFits table = segment_fits 4 0x80000 (table_bytes n) (omega arith) (omega arith) (omega (arith, table_size, few)) in
+    let third : SegmentFits words = segment_fits 6 0x90000 data_bytes (omega arith) (omega arith) (omega (arith, data_size)) in
     reads_back (file_with seed n) (writable seed n few) (omega arith) (omega arith)
-    (every_all SegmentFits (code ∷ table ∷ words ∷ []) (
-      segment_fits 5 0x10000 (code_bytes seed n) (omega arith) (omega arith) (omega (arith, code_size, few)),
-      (
-        segment_fits 4 0x80000 (table_bytes n) (omega arith) (omega arith) (omega (arith, table_size, few)),
-        (segment_fits 6 0x90000 data_bytes (omega arith) (omega arith) (omega (arith, data_size)), tt),
-      ),
-    ))
-    (every_all SectionFits (sections code table words) (
-      record { flags = omega arith; address = omega arith; size = omega (arith, code_size, few) },
-      (
-        record { flags = omega arith; address = omega arith; size = omega (arith, table_size, few) },
-        (record { flags = omega arith; address = omega arith; size = omega (arith, data_size) }, tt),
-      ),
-    ))
+    (every_all SegmentFits (code ∷ table ∷ words ∷ []) (first, (second, (third, tt))))
+    (every_all SectionFits (sections code table words) (section_fits (codes ".text") 6 code (omega arith) first, (section_fits (codes ".rodata") 2 table (omega arith) second, (section_fits (codes ".data") 3 words (omega arith) third, tt))))
     (symbols_fit n few)
 
 -- ---- the test of a seed and a size
