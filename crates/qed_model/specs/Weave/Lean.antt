@@ -1,7 +1,7 @@
 -- The lean form of the new code (this project's profile): no comparison stands behind pieces. x15 counts the steps since the last check up
--- from -`every`, x16 has the input address of the block, and the offset of the next visited data word times 2^32. Each block begins with a
--- tick, which calls the check, one for all of the code, where the counter would reach 0. The check compares where it was called from with
--- the entry of that address, compares all registers, visits a round of data words, and goes back to the entry by the table.
+-- from -`every`, x16 has the input address of the block, and the offset of the next visited data word times 2^32. Blocks begin with a
+-- tick where one is needed, which calls the check, one for all of the code, where the counter would reach 0. The check compares where it was
+-- called from with the entry of that address, compares all registers, visits a round of data words, and goes back to the entry by the table.
 use Rattle.std.specs.Prelude.{ℕ, ◌+◌, ◌%◌, ◌^◌, Bool, true, false, cond, ◌==◌, nat_lt, max, List, [], ◌∷◌, ◌++◌, ℤ, pos, neg_ℤ}
 use Rattle.rv_isa.specs.declared.class.Class.TheVariants as class
 use Rattle.qed_model.specs.Machine.Values.{wrapped}
