@@ -85,10 +85,8 @@ fn push_line<S: Shelf>(
 ) -> Result<(), AllocError>
     ensures { S.files shelf.new ≡ S.files shelf.old }
 {
-    let number = match line.split_once("line ") {
-        Some((_, number)) => digits(10, 20, number.as_bytes()).unwrap_or(0),
-        None => 0,
-    };
+    let (_, number) = line.split_once("line ").unwrap_or((line, ""));
+    let number = digits(10, 20, number.as_bytes()).unwrap_or(0);
     if number == 0 {
         return Ok(());
     }

@@ -14,8 +14,7 @@ use test_admission::admit;
 /// How many times a number has another, to tenths, rounded up.
 fn times(alloc: Global, number: u64, part: u64) -> Result<String, AllocError> {
     let tenths = (10 * u128::from(number)).div_ceil(u128::from(part.max(1)));
-    let (whole, tenth) = (tenths / 10, tenths % 10);
-    format!(in alloc; "{whole}.{tenth}")
+    format!(in alloc; "{}.{}", tenths / 10, tenths % 10)
 }
 
 /// The most steps of a piece of so many instructions, with its entry and its leave, for each of these.

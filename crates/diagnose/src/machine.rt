@@ -29,18 +29,11 @@ fn unwritten(
     let Ok(asked) = order(alloc, words) else {
         return Ok(String::new(alloc));
     };
-    let mut text = String::from_str(alloc, "qed: ")?;
-    let reason = match stored(&asked) {
-        Some(name) if store.is_some() => {
-            text.push_str(name.as_str())?;
-            store
-        }
-        _ => {
-            text.push_str("standard output")?;
-            print
-        }
+    let (what, reason) = match stored(&asked) {
+        Some(name) if store.is_some() => (name.as_str(), store),
+        _ => ("standard output", print),
     };
-    text.push_str(" could not be written")?;
+    let mut text = format!(in alloc; "qed: {what} could not be written")?;
     push_reason(alloc, &mut text, reason)?;
     Ok(text)
 }

@@ -115,11 +115,7 @@ pub(crate) fn of_run<S: Shelf>(
     };
     let mut text = ending(alloc, &file, line)?;
     // A run that goes on has made the changes behind its last step too.
-    let made = if line.starts_with("going") {
-        steps.saturating_add(1)
-    } else {
-        steps
-    };
+    let made = steps.saturating_add(u64::from(line.starts_with("going")));
     for change in changes.as_slice() {
         push_warning(alloc, &mut text, &file, made, *change)?;
     }

@@ -17,28 +17,18 @@ struct Word<'a> {
 
 /// The word of this number.
 fn word_at(words: &[String], number: usize) -> Option<Word<'_>> {
-    let word = words.get(number)?;
-    Some(Word {
-        number,
-        text: word.as_str(),
-    })
+    let text = words.get(number)?.as_str();
+    Some(Word { number, text })
 }
 
 /// The value that the word of this number gives an option.
-fn value_at<'a>(words: &'a [String], place: usize, name: &str) -> Option<Word<'a>> {
-    let given = words.get(place)?.as_str().strip_prefix("--")?;
+fn value_at<'a>(words: &'a [String], number: usize, name: &str) -> Option<Word<'a>> {
+    let given = words.get(number)?.as_str().strip_prefix("--")?;
     if given == name {
-        return word_at(words, place + 1);
+        return word_at(words, number + 1);
     }
     let (front, text) = given.split_once("=")?;
-    if front == name {
-        Some(Word {
-            number: place,
-            text,
-        })
-    } else {
-        None
-    }
+    (front == name).then_some(Word { number, text })
 }
 
 /// The word with the value of an option that is at fault.
@@ -103,10 +93,7 @@ fn first_line(
 ) -> Result<String, AllocError> {
     let sentence = sentence_of(head).unwrap_or("");
     match word {
-        Some(word) => {
-            let (number, text) = (word.number, word.text);
-            format!(in alloc; "qed: '{text}', word {number}: {sentence}")
-        }
+        Some(word) => format!(in alloc; "qed: '{}', word {}: {sentence}", word.text, word.number),
         None if head == "missing option" => format!(in alloc; "qed: --{tail}: {sentence}"),
         None => format!(in alloc; "qed: {sentence}"),
     }

@@ -13,35 +13,30 @@ use Rattle.qed_model.specs.Limits.{limit_of}
 use Rattle.command_line.specs.Words.{asked}
 use Rattle.qed_top.specs.Answer.{CallsFor, read_fault, too_long, within, FilesAfter}
 use Rattle.qed_top.specs.Loads.{Loads}
-use Rattle.qed_top.specs.Makes.{IsMade, Makes, refused, made, Delivers}
+use Rattle.qed_top.specs.Makes.{IsMade, MakesOutput, Delivers}
+use Rattle.qed_top.specs.Refused.{refused, made}
 use Rattle.qed_top.specs.Orders.{IsUsage, OrderCallsFor, WordsCallFor}
 use Rattle.qed_top.specs.Ends.{Call, load_rose, EndsOver}
 use Rattle.qed_top.specs.Headline.{IsPromised, IsDelivered, HoldsHeadline}
 use Rattle.qed_top.specs.declared.answer.Answer.{Answer}
 use Rattle.qed_top.specs.declared.answer.Stored.{Stored}
 use Rattle.qed_top.specs.declared.status.Status.{Status}
-use Rattle.qed_top.specs.declared.status.Status.TheVariants.{Done, Limit, ReadFault}
+use Rattle.qed_top.specs.declared.status.Status.TheVariants.{Done}
 use Rattle.qed_top.proofs.Statuses.{IsRefusal, refusal_refuses}
 
 -- ---- what Done means
-no_fault : (answer : Answer) → answer.status ≡ Done → answer.status ≡ ReadFault → ⊥
-no_fault answer is was = absurd (cc)
-
-no_limit : (answer : Answer) → answer.status ≡ Done → answer.status ≡ Limit → ⊥
-no_limit answer is was = absurd (cc)
-
 module _ (input output : List ℕ) (o : Options) where
   -- what was made of IN, and stored as OUT
   abbrev MadeOf : List ℕ → Answer → Type 0
   MadeOf bytes answer = (length bytes ≤ limit_of FileBytes) × IsMade bytes o (Delivers output) answer
 
-  made_of : (bytes : List ℕ) (answer : Answer) → answer.status ≡ Done → Makes bytes o (Delivers output) answer → IsMade bytes o (Delivers output) answer
+  made_of : (bytes : List ℕ) (answer : Answer) → answer.status ≡ Done → MakesOutput bytes o (Delivers output) answer → IsMade bytes o (Delivers output) answer
   made_of bytes answer is (refused r) = absurd (subst IsRefusal (sym r.plain.status ∙ is) (refusal_refuses r.error))
   made_of bytes answer is (made m) = m
 
-  within_of : (bytes : List ℕ) (rose : Type 0) (answer : Answer) → answer.status ≡ Done → CallsFor FileBytes bytes rose (Makes bytes o (Delivers output) answer) answer → MadeOf bytes answer
-  within_of bytes rose answer is (read_fault f) = absurd (no_fault answer is f.plain.status)
-  within_of bytes rose answer is (too_long t) = absurd (no_limit answer is t.plain.status)
+  within_of : (bytes : List ℕ) (rose : Type 0) (answer : Answer) → answer.status ≡ Done → CallsFor FileBytes bytes rose (MakesOutput bytes o (Delivers output) answer) answer → MadeOf bytes answer
+  within_of bytes rose answer is (read_fault f) = let was = f.plain.status in absurd (cc)
+  within_of bytes rose answer is (too_long t) = let was = t.plain.status in absurd (cc)
   within_of bytes rose answer is (within small t) = (small, made_of bytes answer is t)
 
   -- the words are those of `transform`

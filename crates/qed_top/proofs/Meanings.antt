@@ -190,7 +190,7 @@ pub was_run :
     → memory_bytes f.segments ≤ memory_limit → ended ≡ run_of f steps changes → o ≡ ended.state.outcome
     → text ≡ run_text ended jumps dump → s ≡ outcome_status o → PrintsOnly s text answer → FileRuns f steps changes jumps dump answer
 was_run f steps changes jumps dump ended o text s answer small is how lines gives plain =
-    run.ran small (record {
+    run.fits small (record {
       status = plain.status ∙ gives ∙ ap outcome_status (how ∙ ap (λ p. p.state.outcome) is);
       text = plain.text ∙ lines ∙ ap (λ p. run_text p jumps dump) is;
       stored = plain.stored;

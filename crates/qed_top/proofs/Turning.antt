@@ -13,10 +13,9 @@ use Rattle.qed_model.specs.Machine.Loading.{load_segments}
 use Rattle.qed_model.proofs.BelowLaws.{length-each, All-each}
 use Rattle.qed_top.specs.Answer.{CallsFor, within}
 use Rattle.qed_top.specs.Loads.{Loads, OverFiles, OverLoads}
-use Rattle.qed_top.specs.Refused.{IsUnread}
+use Rattle.qed_top.specs.Refused.{IsUnread, ReadOn, not_read, read_on}
 use Rattle.qed_top.specs.Turns.{AreTurns, IsTaken}
-use Rattle.qed_top.specs.World.{FilesCallFor, ReadOn, takers}
-use Rattle.qed_top.specs.World as world
+use Rattle.qed_top.specs.World.{FilesCallFor, takers}
 use Rattle.qed_top.specs.declared.answer.Answer.{Answer}
 use Rattle.qed_top.proofs.Meanings.{calls_more, same_each}
 
@@ -42,7 +41,7 @@ pub read_next :
 read_next told name names fs turns steps rose answer f o then = record {
   loads = with_first o.files then.loads;
   same = same_with told o.files then.loads o.same then.same;
-  holds = within o.holds.small (world.read_on f o.holds.read then.holds);
+  holds = within o.holds.small (read_on f o.holds.read then.holds);
 }
 
 -- it is not had, or not read
@@ -56,7 +55,7 @@ read_stops told name names fs turns steps rose later answer h o =
     record {
       loads = λ k. o.files;
       same = same_each told o.files o.same;
-      holds = calls_more RunFileBytes bytes rose (later name) (IsUnread bytes answer) (ReadOn bytes next answer) answer h (λ u. world.not_read u) o.holds;
+      holds = calls_more RunFileBytes bytes rose (later name) (IsUnread bytes answer) (ReadOn bytes next answer) answer h (λ u. not_read u) o.holds;
     }
 
 -- a refusal is no want of memory, so its cause is known

@@ -1,5 +1,5 @@
 -- What `campaign` answers.
-use Rattle.std.specs.Prelude.{◌≡◌, ◌≢◌, ℕ, Bool, true, false, List, Option, None, Some, map}
+use Rattle.std.specs.Prelude.{◌≡◌, ℕ, Bool, true, false, List, Option, None, Some, map}
 use Rattle.campaign.specs.Course.{IsCourse}
 use Rattle.campaign.specs.Prepared.{Prepared}
 use Rattle.qed_model.specs.declared.aim.Draws.{Draws}
@@ -12,11 +12,8 @@ use Rattle.strikes.specs.Draw.{drawn_strikes}
 use Rattle.strikes.specs.Kept.{IsReach}
 use Rattle.strikes.specs.Right.{rights}
 use Rattle.strikes.specs.Struck.{AreStruck}
-use Rattle.transform.specs.declared.error.TransformError.{TransformError}
-use Rattle.transform.specs.declared.error.TransformError.TheVariants as transform
-use Rattle.transform.specs.Transform.{HasCause, IsTransformable}
 use Rattle.qed_top.specs.Answer.{PrintsOnly}
-use Rattle.qed_top.specs.Refused.{IsRefused, refusal_status}
+use Rattle.qed_top.specs.Refused.{Makes, MakesDecides}
 use Rattle.qed_top.specs.declared.answer.Answer.{Answer}
 use Rattle.qed_top.specs.declared.status.Status.{Status}
 use Rattle.qed_top.specs.declared.status.Status.TheVariants.{Done, Trapped}
@@ -58,14 +55,11 @@ pub record IsStruck (bytes : List ℕ) (o : Options) (draws : Draws) (results : 
   pub tells : TellsCampaign course draws results answer
 
 -- the answer over the bytes of the file, which are within the limit
-pub data Campaigns (bytes : List ℕ) (o : Options) (draws : Draws) (results : Bool) (answer : Answer) : Type 0 where
-  refused : IsRefused bytes o answer → Campaigns bytes o draws results answer
-  struck : IsStruck bytes o draws results answer → Campaigns bytes o draws results answer
+abbrev pub Campaigns : List ℕ → Options → Draws → Bool → Answer → Type 0
+Campaigns bytes o draws results answer = Makes bytes o (IsStruck bytes o draws results answer) answer
 
 -- the status by what is true of the bytes; of a test that can be transformed it is that of the campaign
-pub data CampaignDecides (bytes : List ℕ) (o : Options) (draws : Draws) (status : Status) : Type 0 where
-  not_made : (e : TransformError) → HasCause bytes o e → e ≢ transform.Memory → status ≡ refusal_status e → CampaignDecides bytes o draws status
-  carried_out :
-      IsTransformable bytes o
-      → ((course : Prepared) (struck : List Struck) (trapped : Option ℕ) → IsCourse bytes o course → IsCarriedOut course draws struck trapped → status ≡ campaign_status trapped)
-      → CampaignDecides bytes o draws status
+abbrev pub CampaignDecides : List ℕ → Options → Draws → Status → Type 0
+CampaignDecides bytes o draws status =
+    MakesDecides bytes o
+    ((course : Prepared) (struck : List Struck) (trapped : Option ℕ) → IsCourse bytes o course → IsCarriedOut course draws struck trapped → status ≡ campaign_status trapped) status

@@ -1,14 +1,11 @@
 -- How the top call ends.
-use Rattle.std.specs.Prelude.{◌≡◌, ◌≢◌, ◌⊎◌, ◌<◌, ◌≤◌, ℕ, Bool, true, false, List, [], Option, MatchOption, MatchResult, IfOk, IfSome, All}
+use Rattle.std.specs.Prelude.{◌≡◌, ◌≢◌, ◌⊎◌, ℕ, Bool, true, false, List, [], Option, MatchOption, MatchResult, IfOk, IfSome, All}
 use Rattle.std.specs.Io.KnownBytes.{Appends}
 use Rattle.qed_io.specs.Files.{Files, file_bytes}
 use Rattle.qed_io.specs.Counts.{Rose, RoseAt}
 use Rattle.qed_io.specs.Sink.{AppendsPart}
 use Rattle.elf_types.specs.declared.file.ElfFile.{ElfFile}
-use Rattle.elf_types.specs.declared.error.ElfError.{ElfError}
-use Rattle.transform.specs.declared.error.TransformError.{TransformError}
-use Rattle.transform.specs.declared.error.TransformError.TheVariants as transform
-use Rattle.transform.specs.Transform.{HasCause, IsNotAdmitted, IsTransformable}
+use Rattle.transform.specs.Transform.{IsNotAdmitted}
 use Rattle.qed_model.specs.declared.admit.AdmitError.{AdmitError}
 use Rattle.qed_model.specs.declared.change.Change.{Change}
 use Rattle.qed_model.specs.declared.options.Options.{Options}
@@ -16,14 +13,13 @@ use Rattle.command_line.specs.declared.order.Order.{Order}
 use Rattle.command_line.specs.declared.order.Order.TheVariants as order
 use Rattle.command_line.specs.declared.order.Order.TheVariants.{Transform, Plan, Explain, Run, Campaign, Gen, Asm, Harts, Tell}
 use Rattle.elf_files.specs.File.{IsReadAs}
-use Rattle.elf_files.specs.Refusals.{IsRefused}
 use Rattle.qed_model.specs.Admission.Refusals.{IsAdmitted}
 use Rattle.qed_model.specs.Limits.{limit_of}
 use Rattle.qed_model.specs.Options.{default_options}
 use Rattle.command_line.specs.Words.{asked}
 use Rattle.qed_top.specs.Answer.{FilesAfter, FilesInPart, StoreRose, ShelfSteady}
-use Rattle.qed_top.specs.Refused.{admit_status, error_status, refusal_status}
-use Rattle.qed_top.specs.Run.{memory_bytes, memory_limit, outcome_status, run_of}
+use Rattle.qed_top.specs.Refused.{MakesDecides, ReadOnDecides, admit_status}
+use Rattle.qed_top.specs.Run.{InMemoryDecides, outcome_status, run_of}
 use Rattle.qed_top.specs.Asm.{AsmDecides}
 use Rattle.qed_top.specs.Campaign.{CampaignDecides}
 use Rattle.qed_top.specs.Explain.{ExplainDecides}
@@ -33,7 +29,7 @@ use Rattle.qed_top.specs.Orders.{WordsCallFor, source_name, source_names, source
 use Rattle.qed_top.specs.World.{FilesDecide}
 use Rattle.qed_top.specs.declared.answer.Answer.{Answer}
 use Rattle.qed_top.specs.declared.status.Status.{Status}
-use Rattle.qed_top.specs.declared.status.Status.TheVariants.{Done, Usage, Limit, ReadFault, WriteFault, Memory}
+use Rattle.qed_top.specs.declared.status.Status.TheVariants.{Done, Usage, ReadFault, WriteFault, Memory}
 
 -- how often loads and stores of a name have failed, and writes
 pub record Faults : Type 0 where
@@ -115,15 +111,12 @@ Ends call status = OverLoads call.old (λ loads. EndsOver call loads status)
 
 -- ---- what can be expected
 -- the status of `transform` and `plan` over bytes within the limit, by what is true of them
-pub data TransformDecides (bytes : List ℕ) (o : Options) (status : Status) : Type 0 where
-  refused : (e : TransformError) → HasCause bytes o e → e ≢ transform.Memory → status ≡ refusal_status e → TransformDecides bytes o status
-  done : IsTransformable bytes o → status ≡ Done → TransformDecides bytes o status
+abbrev pub TransformDecides : List ℕ → Options → Status → Type 0
+TransformDecides bytes o status = MakesDecides bytes o (status ≡ Done) status
 
 -- the same of a command that takes each file that is read and has not too many bytes in memory, with its status of a file
-pub data ReadDecides (bytes : List ℕ) (done : ElfFile → Status) (status : Status) : Type 0 where
-  unread : (e : ElfError) → IsRefused bytes e → status ≡ error_status e → ReadDecides bytes done status
-  too_large : (f : ElfFile) → IsReadAs bytes f → memory_limit < memory_bytes f.segments → status ≡ Limit → ReadDecides bytes done status
-  taken : (f : ElfFile) → IsReadAs bytes f → memory_bytes f.segments ≤ memory_limit → status ≡ done f → ReadDecides bytes done status
+abbrev pub ReadDecides : List ℕ → (ElfFile → Status) → Status → Type 0
+ReadDecides bytes done status = ReadOnDecides bytes (λ f. InMemoryDecides f (done f) status) status
 
 -- the status that goes with the end of a run
 abbrev pub ran_status : ℕ → List Change → ElfFile → Status

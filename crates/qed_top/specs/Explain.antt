@@ -1,15 +1,12 @@
 -- What `explain` answers.
-use Rattle.std.specs.Prelude.{◌≡◌, ◌≢◌, ℕ, ◌-◌, ◌/◌, ◌%◌, ◌==◌, ◌&&◌, nat_le, nat_lt, if◌then◌else◌, List, length, slice_index, Option, None, Some, MatchOption, IsSomeAnd}
+use Rattle.std.specs.Prelude.{◌≡◌, ℕ, ◌-◌, ◌/◌, ◌%◌, ◌==◌, ◌&&◌, nat_le, nat_lt, if◌then◌else◌, List, length, slice_index, Option, None, Some, MatchOption, IsSomeAnd}
 use Rattle.qed_model.specs.declared.options.Options.{Options}
 use Rattle.listing.specs.Roles.{role_at, role_lines, word_text}
 use Rattle.report.specs.Admission.{no_word_line}
-use Rattle.transform.specs.declared.error.TransformError.{TransformError}
-use Rattle.transform.specs.declared.error.TransformError.TheVariants as transform
 use Rattle.transform.specs.declared.explained.Explained.{Explained}
 use Rattle.transform.specs.Explained.{IsExplained}
-use Rattle.transform.specs.Transform.{HasCause, IsTransformable}
 use Rattle.qed_top.specs.Answer.{PrintsOnly}
-use Rattle.qed_top.specs.Refused.{IsRefused, refusal_status}
+use Rattle.qed_top.specs.Refused.{Makes, MakesDecides}
 use Rattle.qed_top.specs.declared.answer.Answer.{Answer}
 use Rattle.qed_top.specs.declared.status.Status.{Status}
 use Rattle.qed_top.specs.declared.status.Status.TheVariants.{Done, Refused}
@@ -40,9 +37,8 @@ pub record AreTold (bytes : List ℕ) (o : Options) (at : Option ℕ) (answer : 
   pub tells : TellsRoles code at answer
 
 -- the answer over the bytes of the file, which are within the limit
-pub data Explains (bytes : List ℕ) (o : Options) (at : Option ℕ) (answer : Answer) : Type 0 where
-  refused : IsRefused bytes o answer → Explains bytes o at answer
-  told : AreTold bytes o at answer → Explains bytes o at answer
+abbrev pub Explains : List ℕ → Options → Option ℕ → Answer → Type 0
+Explains bytes o at answer = Makes bytes o (AreTold bytes o at answer) answer
 
 -- the status of new code, by whether a word stands at the address
 abbrev pub word_status : Option ℕ → Status
@@ -54,6 +50,5 @@ told_status x None = Done
 told_status x (Some a) = word_status (number_at x a)
 
 -- the status by what is true of the bytes; of a test that can be transformed it is that of its new code
-pub data ExplainDecides (bytes : List ℕ) (o : Options) (at : Option ℕ) (status : Status) : Type 0 where
-  not_made : (e : TransformError) → HasCause bytes o e → e ≢ transform.Memory → status ≡ refusal_status e → ExplainDecides bytes o at status
-  is_told : IsTransformable bytes o → ((x : Explained) → IsExplained bytes o x → status ≡ told_status x at) → ExplainDecides bytes o at status
+abbrev pub ExplainDecides : List ℕ → Options → Option ℕ → Status → Type 0
+ExplainDecides bytes o at status = MakesDecides bytes o ((x : Explained) → IsExplained bytes o x → status ≡ told_status x at) status

@@ -6,7 +6,7 @@ use Rattle.command_line.specs.Text.Plan.{plan_line}
 use Rattle.report.specs.Plan.{plan_text}
 use Rattle.transform.specs.Transform.{Transforms}
 use Rattle.qed_top.specs.Answer.{PrintsOnly}
-use Rattle.qed_top.specs.Refused.{IsRefused}
+use Rattle.qed_top.specs.Refused.{Makes}
 use Rattle.qed_top.specs.declared.answer.Answer.{Answer}
 use Rattle.qed_top.specs.declared.status.Status.TheVariants.{Done}
 
@@ -18,9 +18,8 @@ pub record IsMade (bytes : List ℕ) (o : Options) (Uses : List ℕ → Plan →
   pub uses : Uses file plan answer
 
 -- the answer over the bytes of the file, which are within the limit
-pub data Makes (bytes : List ℕ) (o : Options) (Uses : List ℕ → Plan → Answer → Type 0) (answer : Answer) : Type 0 where
-  refused : IsRefused bytes o answer → Makes bytes o Uses answer
-  made : IsMade bytes o Uses answer → Makes bytes o Uses answer
+abbrev pub MakesOutput : List ℕ → Options → (List ℕ → Plan → Answer → Type 0) → Answer → Type 0
+MakesOutput bytes o Uses answer = Makes bytes o (IsMade bytes o Uses answer) answer
 
 -- `transform`: the file is stored as OUT, and the line about it is printed
 pub record Delivers (output file : List ℕ) (plan : Plan) (answer : Answer) : Type 0 where

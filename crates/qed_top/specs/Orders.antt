@@ -16,7 +16,7 @@ use Rattle.qed_top.specs.Asm.{Assembles}
 use Rattle.qed_top.specs.Campaign.{Campaigns}
 use Rattle.qed_top.specs.Explain.{Explains}
 use Rattle.qed_top.specs.Gen.{Gens}
-use Rattle.qed_top.specs.Makes.{Makes, Delivers, TellsPlan}
+use Rattle.qed_top.specs.Makes.{MakesOutput, Delivers, TellsPlan}
 use Rattle.qed_top.specs.Loads.{Loads}
 use Rattle.qed_top.specs.Run.{RunsAs}
 use Rattle.qed_top.specs.World.{FilesCallFor}
@@ -31,24 +31,18 @@ source_name (Plan input options) = Some input
 source_name (Explain input options at) = Some input
 source_name (Run file steps changes dump reached) = Some file
 source_name (Campaign input options draws results) = Some input
-source_name (Gen output seed size) = None
 source_name (order.List file) = Some file
 source_name (Asm text output) = Some text
-source_name (Harts files turns steps) = None
-source_name (Tell topic) = None
+source_name _ = None
+
+abbrev pub listed : Option (List ℕ) → List (List ℕ)
+listed None = []
+listed (Some name) = name ∷ []
 
 -- the names of all files that it reads, in their order
 abbrev pub source_names : Order → List (List ℕ)
-source_names (Transform input output options) = input ∷ []
-source_names (Plan input options) = input ∷ []
-source_names (Explain input options at) = input ∷ []
-source_names (Run file steps changes dump reached) = file ∷ []
-source_names (Campaign input options draws results) = input ∷ []
-source_names (Gen output seed size) = []
-source_names (order.List file) = file ∷ []
-source_names (Asm text output) = text ∷ []
 source_names (Harts files turns steps) = files
-source_names (Tell topic) = []
+source_names order = listed (source_name order)
 
 -- whether it reads several
 abbrev pub reads_several : Order → Bool
@@ -75,8 +69,8 @@ IsUsage reason answer = PrintsOnly Usage (reason_line reason) answer
 
 -- what an order that reads no more than one file calls for over its bytes, which are within the limit
 abbrev pub AnswersOver : Order → List ℕ → Answer → Type 0
-AnswersOver (Transform input output options) bytes answer = Makes bytes options (Delivers output) answer
-AnswersOver (Plan input options) bytes answer = Makes bytes options TellsPlan answer
+AnswersOver (Transform input output options) bytes answer = MakesOutput bytes options (Delivers output) answer
+AnswersOver (Plan input options) bytes answer = MakesOutput bytes options TellsPlan answer
 AnswersOver (Explain input options at) bytes answer = Explains bytes options at answer
 AnswersOver (Run file steps changes dump reached) bytes answer = RunsAs reached bytes steps changes dump answer
 AnswersOver (Campaign input options draws results) bytes answer = Campaigns bytes options draws results answer

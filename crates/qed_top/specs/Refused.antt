@@ -1,18 +1,20 @@
 -- Files that are refused, or above a limit.
-use Rattle.std.specs.Prelude.{◌≢◌, ℕ, List, []}
+use Rattle.std.specs.Prelude.{◌≡◌, ◌≢◌, ℕ, List, []}
 use Rattle.elf_types.specs.declared.error.ElfError.{ElfError}
 use Rattle.elf_types.specs.declared.error.ElfError.TheVariants as error
+use Rattle.elf_types.specs.declared.file.ElfFile.{ElfFile}
 use Rattle.qed_model.specs.declared.admit.AdmitError.{AdmitError}
 use Rattle.qed_model.specs.declared.admit.AdmitError.TheVariants as admit
 use Rattle.qed_model.specs.declared.limits.Limit.TheVariants as limit
 use Rattle.qed_model.specs.declared.options.Options.{Options}
 use Rattle.qed_model.specs.Admission.Ends.{HasEnds}
+use Rattle.elf_files.specs.File.{IsReadAs}
 use Rattle.elf_files.specs.Refusals as Refusals
 use Rattle.command_line.specs.Text.Errors.{error_line, limit_line}
 use Rattle.report.specs.Admission.{admit_line}
 use Rattle.transform.specs.declared.error.TransformError.{TransformError}
 use Rattle.transform.specs.declared.error.TransformError.TheVariants as transform
-use Rattle.transform.specs.Transform.{HasCause, IsNotAdmitted}
+use Rattle.transform.specs.Transform.{HasCause, IsNotAdmitted, IsTransformable}
 use Rattle.qed_top.specs.Answer.{PrintsOnly}
 use Rattle.qed_top.specs.declared.answer.Answer.{Answer}
 use Rattle.qed_top.specs.declared.status.Status.{Status}
@@ -30,6 +32,16 @@ pub record IsUnread (bytes : List ℕ) (answer : Answer) : Type 0 where
   pub error : ElfError
   pub cause : Refusals.IsRefused bytes error
   pub plain : PrintsOnly (error_status error) (error_line error) answer
+
+-- the same, or the bytes are a file, of which more is said
+pub data ReadOn (bytes : List ℕ) (Next : ElfFile → Type 0) (answer : Answer) : Type 0 where
+  not_read : IsUnread bytes answer → ReadOn bytes Next answer
+  read_on : (f : ElfFile) → IsReadAs bytes f → Next f → ReadOn bytes Next answer
+
+-- the status that goes with it
+pub data ReadOnDecides (bytes : List ℕ) (Next : ElfFile → Type 0) (status : Status) : Type 0 where
+  is_not_read : (e : ElfError) → Refusals.IsRefused bytes e → status ≡ error_status e → ReadOnDecides bytes Next status
+  is_read : (f : ElfFile) → IsReadAs bytes f → Next f → ReadOnDecides bytes Next status
 
 -- ---- files that are not admitted
 -- L2, L3 and L7 are limits, the rules A1 to A11 refuse
@@ -75,3 +87,13 @@ pub record IsRefused (bytes : List ℕ) (o : Options) (answer : Answer) : Type 0
   pub cause : HasCause bytes o error
   pub known : error ≢ transform.Memory
   pub plain : PrintsOnly (refusal_status error) (refusal_line error) answer
+
+-- the same, or the file is transformed, of which more is said
+pub data Makes (bytes : List ℕ) (o : Options) (Uses : Type 0) (answer : Answer) : Type 0 where
+  refused : IsRefused bytes o answer → Makes bytes o Uses answer
+  made : Uses → Makes bytes o Uses answer
+
+-- the status that goes with it, by what is true of the bytes
+pub data MakesDecides (bytes : List ℕ) (o : Options) (Then : Type 0) (status : Status) : Type 0 where
+  not_made : (e : TransformError) → HasCause bytes o e → e ≢ transform.Memory → status ≡ refusal_status e → MakesDecides bytes o Then status
+  is_made : IsTransformable bytes o → Then → MakesDecides bytes o Then status

@@ -1,5 +1,5 @@
 -- What `run` answers.
-use Rattle.std.specs.Prelude.{◌<◌, ◌≤◌, ℕ, ◌+◌, ◌==◌, ◌&&◌, cond, Bool, true, false, List, [], ◌∷◌, Option}
+use Rattle.std.specs.Prelude.{◌≡◌, ◌<◌, ◌≤◌, ℕ, ◌+◌, ◌==◌, ◌&&◌, cond, Bool, true, false, List, [], ◌∷◌, Option}
 use Rattle.std.specs.List.{list_any}
 use Rattle.elf_types.specs.declared.file.Segment.{Segment}
 use Rattle.elf_types.specs.declared.file.ElfFile.{ElfFile}
@@ -23,7 +23,7 @@ use Rattle.command_line.specs.Text.Errors.{limit_line}
 use Rattle.command_line.specs.Text.Run.{jumps_line, run_text}
 use Rattle.qed_top.specs.Answer.{PrintsOnly}
 use Rattle.test_admission.specs.Admit.{IsAdmittedAs}
-use Rattle.qed_top.specs.Refused.{IsUnadmitted, IsUnread}
+use Rattle.qed_top.specs.Refused.{IsUnadmitted, IsUnread, ReadOn}
 use Rattle.qed_top.specs.declared.answer.Answer.{Answer}
 use Rattle.qed_top.specs.declared.status.Status.{Status}
 use Rattle.qed_top.specs.declared.status.Status.TheVariants.{Done, Limit, Fired, Trapped, StepsSpent}
@@ -56,21 +56,26 @@ pub record IsAboveMemory (f : ElfFile) (answer : Answer) : Type 0 where
   pub over : memory_limit < memory_bytes f.segments
   pub plain : PrintsOnly Limit (limit_line limit.MemoryBytes (memory_bytes f.segments)) answer
 
--- they have, or it is run, and a text about its jumps, which may be empty, is printed too
-pub data FileRuns (f : ElfFile) (steps : ℕ) (changes : List Change) (jumps : List ℕ) (dump : Option (ℕ × ℕ)) (answer : Answer) : Type 0 where
-  too_large : IsAboveMemory f answer → FileRuns f steps changes jumps dump answer
-  ran : memory_bytes f.segments ≤ memory_limit → PrintsOnly (outcome_status (run_of f steps changes).state.outcome) (run_text (run_of f steps changes) jumps dump) answer → FileRuns f steps changes jumps dump answer
+-- they have, or more is said
+pub data InMemory (f : ElfFile) (Within : Type 0) (answer : Answer) : Type 0 where
+  too_large : IsAboveMemory f answer → InMemory f Within answer
+  fits : memory_bytes f.segments ≤ memory_limit → Within → InMemory f Within answer
 
--- the file was read
-pub record IsRun (bytes : List ℕ) (steps : ℕ) (changes : List Change) (dump : Option (ℕ × ℕ)) (answer : Answer) : Type 0 where
-  pub file : ElfFile
-  pub read : IsReadAs bytes file
-  pub runs : FileRuns file steps changes [] dump answer
+-- the status that goes with it
+pub data InMemoryDecides (f : ElfFile) (done status : Status) : Type 0 where
+  is_too_large : memory_limit < memory_bytes f.segments → status ≡ Limit → InMemoryDecides f done status
+  is_within : memory_bytes f.segments ≤ memory_limit → status ≡ done → InMemoryDecides f done status
+
+-- a file is run, and a text about its jumps, which may be empty, is printed too
+abbrev pub HasRun : ElfFile → ℕ → List Change → List ℕ → Option (ℕ × ℕ) → Answer → Type 0
+HasRun f steps changes jumps dump answer = PrintsOnly (outcome_status (run_of f steps changes).state.outcome) (run_text (run_of f steps changes) jumps dump) answer
+
+abbrev pub FileRuns : ElfFile → ℕ → List Change → List ℕ → Option (ℕ × ℕ) → Answer → Type 0
+FileRuns f steps changes jumps dump answer = InMemory f (HasRun f steps changes jumps dump answer) answer
 
 -- the answer over the bytes of the file, which are within the limit
-pub data Runs (bytes : List ℕ) (steps : ℕ) (changes : List Change) (dump : Option (ℕ × ℕ)) (answer : Answer) : Type 0 where
-  unread : IsUnread bytes answer → Runs bytes steps changes dump answer
-  run : IsRun bytes steps changes dump answer → Runs bytes steps changes dump answer
+abbrev pub Runs : List ℕ → ℕ → List Change → Option (ℕ × ℕ) → Answer → Type 0
+Runs bytes steps changes dump answer = ReadOn bytes (λ f. FileRuns f steps changes [] dump answer) answer
 
 -- ---- `run --reached`
 -- a code word of the test stands at the address, and that is reached

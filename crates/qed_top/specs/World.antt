@@ -1,6 +1,5 @@
 -- What `harts` answers.
 use Rattle.std.specs.Prelude.{◌≡◌, ◌<◌, ◌≤◌, ℕ, suc, ◌+◌, if◌then◌else◌, List, [], ◌∷◌, ◌++◌, length, Option, None, Some}
-use Rattle.elf_types.specs.declared.error.ElfError.{ElfError}
 use Rattle.elf_types.specs.declared.file.ElfFile.{ElfFile}
 use Rattle.harts.specs.HartSteps.{Counted, TurnsKeep, counted_start, counted_turns, cycled}
 use Rattle.harts.specs.Played.{programs}
@@ -9,14 +8,12 @@ use Rattle.harts.specs.Standing.{has_one, is_fired, is_going, is_trapped}
 use Rattle.qed_io.specs.Files.{file_bytes}
 use Rattle.qed_model.specs.declared.limits.Limit.TheVariants as limit
 use Rattle.qed_model.specs.Below.{each}
-use Rattle.elf_files.specs.File.{IsReadAs}
-use Rattle.elf_files.specs.Refusals.{IsRefused}
 use Rattle.qed_model.specs.Limits.{limit_of}
 use Rattle.command_line.specs.Text.Errors.{limit_line}
 use Rattle.report.specs.World.{shared_line, world_text}
 use Rattle.qed_top.specs.Answer.{CallsFor, PrintsOnly}
 use Rattle.qed_top.specs.Loads.{Decided, Loads}
-use Rattle.qed_top.specs.Refused.{error_status, IsUnread}
+use Rattle.qed_top.specs.Refused.{ReadOn, ReadOnDecides}
 use Rattle.qed_top.specs.Run.{memory_bytes, memory_limit}
 use Rattle.qed_top.specs.declared.answer.Answer.{Answer}
 use Rattle.qed_top.specs.declared.status.Status.{Status}
@@ -68,15 +65,6 @@ pub data PlayDecides (fs : List ElfFile) (turns : Option (List ℕ)) (steps : �
   is_told : all_bytes fs ≤ memory_limit → AreUnshared (programs fs) → status ≡ world_status (played fs turns steps) → PlayDecides fs turns steps status
 
 -- ---- file by file
--- of bytes that were loaded: they are not read, or they are a file, of which more is said
-pub data ReadOn (bytes : List ℕ) (Next : ElfFile → Type 0) (answer : Answer) : Type 0 where
-  not_read : IsUnread bytes answer → ReadOn bytes Next answer
-  read_on : (f : ElfFile) → IsReadAs bytes f → Next f → ReadOn bytes Next answer
-
-pub data ReadOnDecides (bytes : List ℕ) (Next : ElfFile → Type 0) (status : Status) : Type 0 where
-  is_not_read : (e : ElfError) → IsRefused bytes e → status ≡ error_status e → ReadOnDecides bytes Next status
-  is_read : (f : ElfFile) → IsReadAs bytes f → Next f → ReadOnDecides bytes Next status
-
 -- the loads behind the first
 abbrev pub later_loads : Loads → Loads
 later_loads loads k = loads (suc k)

@@ -31,13 +31,7 @@ pub fn answer_list(alloc: Global, bytes: &[u8]) -> Result<Answer, AllocError>
     ensures { IfOk result (Lists bytes.now) }
 {
     match read_elf(alloc, bytes) {
-        Ok(file) => {
-            let answer = answer_file(alloc, &file)?;
-            Ok(answer)
-        }
-        Err(error) => {
-            let answer = unread(alloc, error)?;
-            Ok(answer)
-        }
+        Ok(file) => Ok(answer_file(alloc, &file)?),
+        Err(error) => Ok(unread(alloc, error)?),
     }
 }

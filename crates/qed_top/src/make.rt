@@ -3,7 +3,7 @@ ghost use Rattle.std.specs.Prelude.{IfOk};
 ghost use Rattle.qed_model.specs.Weave.Places.{AreSoundOptions};
 ghost use Rattle.report.specs.Plan.{plan_text};
 ghost use Rattle.qed_top.specs.Answer.{PrintsOnly};
-ghost use Rattle.qed_top.specs.Makes.{Delivers, Makes, TellsPlan};
+ghost use Rattle.qed_top.specs.Makes.{Delivers, MakesOutput, TellsPlan};
 
 use crate::answer::{Answer, Stored, plain};
 use crate::refusal::refused;
@@ -37,7 +37,7 @@ pub fn answer_transform(
     options: &Options,
 ) -> Result<Answer, AllocError>
     requires { AreSoundOptions options.now }
-    ensures { IfOk result (Makes bytes.now options.now (Delivers output)) }
+    ensures { IfOk result (MakesOutput bytes.now options.now (Delivers output)) }
 {
     match transform(alloc, bytes, options) {
         Ok(made) => {
@@ -62,7 +62,7 @@ fn tell(alloc: Global, plan: &Plan) -> Result<Answer, AllocError>
 /// What `plan` answers over the bytes of its input.
 pub fn answer_plan(alloc: Global, bytes: &[u8], options: &Options) -> Result<Answer, AllocError>
     requires { AreSoundOptions options.now }
-    ensures { IfOk result (Makes bytes.now options.now TellsPlan) }
+    ensures { IfOk result (MakesOutput bytes.now options.now TellsPlan) }
 {
     match transform(alloc, bytes, options) {
         Ok(made) => {

@@ -69,38 +69,21 @@ pub fn answer_order(
     ensures { IfOk result (AnswersOver order bytes.now) }
 {
     match order {
-        Order::Transform(_, output, options) => {
-            let answer = answer_transform(alloc, bytes, output, &options)?;
-            Ok(answer)
-        }
-        Order::Plan(_, options) => {
-            let answer = answer_plan(alloc, bytes, &options)?;
-            Ok(answer)
-        }
-        Order::Explain(_, options, at) => {
-            let answer = answer_explain(alloc, bytes, &options, at)?;
-            Ok(answer)
-        }
+        Order::Transform(_, output, options) => Ok(answer_transform(
+            alloc, bytes, output, &options,
+        )?),
+        Order::Plan(_, options) => Ok(answer_plan(alloc, bytes, &options)?),
+        Order::Explain(_, options, at) => Ok(answer_explain(alloc, bytes, &options, at)?),
         Order::Run(_, steps, changes, dump, reached) => {
-            let answer = answer_run(alloc, bytes, steps, changes.as_slice(), dump, reached)?;
-            Ok(answer)
+            let changes = changes.as_slice();
+            Ok(answer_run(alloc, bytes, steps, changes, dump, reached)?)
         }
-        Order::Gen(output, seed, size) => {
-            let answer = answer_gen(alloc, output, seed, size)?;
-            Ok(answer)
-        }
-        Order::List(_) => {
-            let answer = answer_list(alloc, bytes)?;
-            Ok(answer)
-        }
-        Order::Asm(_, output) => {
-            let answer = answer_asm(alloc, bytes, output)?;
-            Ok(answer)
-        }
-        Order::Campaign(_, options, draws, results) => {
-            let answer = answer_campaign(alloc, bytes, &options, &draws, results, progress)?;
-            Ok(answer)
-        }
+        Order::Gen(output, seed, size) => Ok(answer_gen(alloc, output, seed, size)?),
+        Order::List(_) => Ok(answer_list(alloc, bytes)?),
+        Order::Asm(_, output) => Ok(answer_asm(alloc, bytes, output)?),
+        Order::Campaign(_, options, draws, results) => Ok(answer_campaign(
+            alloc, bytes, &options, &draws, results, progress,
+        )?),
         Order::Tell(topic) => {
             let text = told_text(alloc, topic)?;
             Ok(plain(Status::Done, text))

@@ -95,14 +95,8 @@ fn answer_plain(
     ensures { IfOk result (Runs bytes.now steps changes.now dump) }
 {
     match read_elf(alloc, bytes) {
-        Ok(file) => {
-            let answer = answer_file(alloc, &file, steps, changes, dump)?;
-            Ok(answer)
-        }
-        Err(error) => {
-            let answer = unread(alloc, error)?;
-            Ok(answer)
-        }
+        Ok(file) => Ok(answer_file(alloc, &file, steps, changes, dump)?),
+        Err(error) => Ok(unread(alloc, error)?),
     }
 }
 
@@ -206,10 +200,8 @@ pub fn answer_run(
     ensures { IfOk result (RunsAs reached bytes.now steps changes.now dump) }
 {
     if reached {
-        let answer = answer_watched(alloc, bytes, steps, changes, dump)?;
-        Ok(answer)
+        Ok(answer_watched(alloc, bytes, steps, changes, dump)?)
     } else {
-        let answer = answer_plain(alloc, bytes, steps, changes, dump)?;
-        Ok(answer)
+        Ok(answer_plain(alloc, bytes, steps, changes, dump)?)
     }
 }

@@ -15,7 +15,7 @@ use Rattle.qed_model.specs.Elf.Layout.{written}
 use Rattle.elf_files.specs.Refusals.{IsRefused}
 use Rattle.qed_model.specs.Weave.Blocks.{AreBlocks}
 use Rattle.qed_model.specs.Weave.Sequences.{Block}
-use Rattle.qed_model.specs.Weave.Woven.{new_code, size_of_code, IsWithin}
+use Rattle.qed_model.specs.Weave.Woven.{new_code, size_of_code}
 use Rattle.elf_files.specs.Output.{WovenFile}
 use Rattle.elf_files.proofs.AcceptanceLaws.{read_or_refused}
 use Rattle.qed_model.proofs.AdmissionLaws.{no_fault}
@@ -25,7 +25,6 @@ use Rattle.elf_files.proofs.OneOutput.{one_woven_test}
 use Rattle.elf_files.proofs.ReadFacts.{one_file}
 use Rattle.transform.specs.declared.error.TransformError.{TransformError}
 use Rattle.transform.specs.declared.error.TransformError.TheVariants as error
-use Rattle.transform.specs.declared.whole.Transformed.{Transformed}
 use Rattle.transform.specs.Transform.{HasCause, IsNotAdmitted, HasTooMuchCode, IsFew, Transforms, IsTransformable, IsErrorOr, IsDoneOr}
 
 -- bytes are refused by one rule
@@ -86,29 +85,10 @@ module _ (input : List ℕ) (o : Options) where
   one_cause (error.FileTooLong a) (error.FileTooLong b) n m x y =
       ap error.FileTooLong (x.size ∙ ap (λ out. length (written out)) (one_woven_test input o x.out y.out x.file y.file) ∙ sym y.size)
 
-  -- and an output within the limits has none
-  no_cause : (out : OutFile) (w : WovenFile input o out) (e : TransformError) → e ≢ error.Memory → HasCause input o e → IsReadAs input w.file → IsWithin (new_code w.file o w.blocks) out → ⊥
-  no_cause out w (error.Elf e) n x read within = read_or_refused input w.file e read x
-  no_cause out w (error.Admit e) n x read within = not_admitted e w.file x read w.has.admitted
-  no_cause out w (error.TooLarge l k) n x read within = too_large l k w.file w.blocks x read w.has.are within.code
-  no_cause out w (error.TooManySegments k) n x read within = absurd (omega (arith, x.over, x.count, within.segments, ap (λ out. length out.segments) (one_woven_test input o x.out out x.file w)))
-  no_cause out w (error.FileTooLong k) n x read within = absurd (omega (arith, x.over, x.size, within.size, ap (λ out. length (written out)) (one_woven_test input o x.out out x.file w)))
-  no_cause out w error.Memory n x read within = n refl
-
   -- ---- what an answer says of all causes
   error_or : {A : Type 0} (x e : TransformError) → e ≢ error.Memory → HasCause input o x → HasCause input o e → IsErrorOr {A = A} (Err x) e
   error_or error.Memory e n c h = inr refl
-  error_or (error.Elf y) e n c h = inl (ap Err (one_cause (error.Elf y) e (λ m. absurd (cc)) n c h))
-  error_or (error.Admit y) e n c h = inl (ap Err (one_cause (error.Admit y) e (λ m. absurd (cc)) n c h))
-  error_or (error.TooLarge l y) e n c h = inl (ap Err (one_cause (error.TooLarge l y) e (λ m. absurd (cc)) n c h))
-  error_or (error.TooManySegments y) e n c h = inl (ap Err (one_cause (error.TooManySegments y) e (λ m. absurd (cc)) n c h))
-  error_or (error.FileTooLong y) e n c h = inl (ap Err (one_cause (error.FileTooLong y) e (λ m. absurd (cc)) n c h))
-
-  pub exact_of :
-      (r : Result Transformed TransformError) → IfOk r (λ made. Transforms input o made.file made.plan) → IfErr r (HasCause input o)
-      → (e : TransformError) → e ≢ error.Memory → HasCause input o e → IsErrorOr r e
-  exact_of (Ok made) done refused e n h = absurd (no_cause done.woven.out done.woven.file e n h done.read done.within)
-  exact_of (Err x) done refused e n h = error_or x e n refused h
+  error_or x e n c h = inl (ap Err (one_cause x e (λ m. absurd (cc)) n c h))
 
   pub memory_only : (x : TransformError) → HasCause input o x → IsTransformable input o → x ≡ error.Memory
   memory_only error.Memory c h = refl
@@ -124,7 +104,6 @@ module _ (input : List ℕ) (o : Options) where
   complete_of (Ok made) refused h = tt
   complete_of (Err x) refused h = memory_only x refused h
 
-  -- the same of what is made where there is an output
   pub exact_where :
       {A : Type 0} (Done : A → Type 0) → ((made : A) → Done made → IsTransformable input o) → (r : Result A TransformError) → IfOk r Done → IfErr r (HasCause input o)
       → (e : TransformError) → e ≢ error.Memory → HasCause input o e → IsErrorOr r e

@@ -1,7 +1,7 @@
 use Rattle.std.proofs.Common.{ap, sym, ◌∙◌, arith}
 use Rattle.listing.specs.Roles.{rows_bytes}
 use Rattle.listing.proofs.RowBytes.{roles_size}
-use Rattle.qed_top.specs.Explain as explains
+use Rattle.qed_top.specs.Refused.{made}
 use Rattle.qed_top.proofs.explained.answer_explain.Goals as goal
 
 pub tell-requires-clause-fits : goal.tell-requires-clause-fits
@@ -16,4 +16,4 @@ tell-requires-clause-whole c =
     ap rows_bytes is.roles ∙ roles_size c.in-Ok.code.file c.args.options.now is.blocks ∙ sym is.size
 
 pub returns-in_ok-answer-in-Ok : goal.returns-in_ok-answer-in-Ok
-returns-in_ok-answer-in-Ok c = explains.told (record { code = c.in-Ok.code; is = c.in-Ok.ensures.done; tells = c.in_ok-answer-in-Ok.ensures })
+returns-in_ok-answer-in-Ok c = made (record { code = c.in-Ok.code; is = c.in-Ok.ensures.done; tells = c.in_ok-answer-in-Ok.ensures })
