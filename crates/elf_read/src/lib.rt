@@ -19,4 +19,4 @@ mod symbols;
 mod tables;
 
 pub use known::read_known;
-pub use read::{read_elf, read_sections};
+pub use read::{read_elf, read_sections, read_shared};

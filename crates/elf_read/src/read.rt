@@ -1,11 +1,11 @@
 //! The file that bytes are.
-ghost use Rattle.std.specs.Prelude.{◌≡◌, false, ◌<◌, ◌/◌, ◌⊎◌, length, List, ℕ, Ok, Err, Some, IfOk, IfErr, IfSome, OnOk};
+ghost use Rattle.std.specs.Prelude.{◌≡◌, false, ◌<◌, ◌/◌, ◌⊎◌, length, slice_index, List, ℕ, Ok, Err, Some, IfOk, IfErr, IfSome, OnOk};
 ghost use Rattle.elf_types.specs.declared.error.ElfError.TheVariants as error;
 ghost use Rattle.qed_model.specs.Below.{each, gather};
 ghost use Rattle.elf_files.specs.Header.{e_phnum, e_shnum};
 ghost use Rattle.elf_files.specs.Fields.{section_header};
-ghost use Rattle.elf_files.specs.Rules.{is_section_outside, section_strings, strings_of, symbol_table, part_rules, verdict, read_verdict};
-ghost use Rattle.elf_files.specs.File.{File, segment_of, section_of, symbol_of, symbols_at, relas_of, WithinReadLimits, IsReadAs};
+ghost use Rattle.elf_files.specs.Rules.{is_section_outside, is_segment_outside, section_strings, strings_of, symbol_table, part_rules, verdict, read_verdict};
+ghost use Rattle.elf_files.specs.File.{File, load_bytes, segment_of, section_of, symbol_of, symbols_at, relas_of, WithinReadLimits, IsReadAs};
 ghost use Rattle.elf_files.specs.Refusals.{IsAccepted, IsRefused};
 ghost use Rattle.qed_model.specs.Elf.Sound.{IsSound};
 ghost use Rattle.qed_model.specs.Machine.Loading.{load_segments};
@@ -21,7 +21,10 @@ use crate::segments::{check_segment_overlap, check_segment_shape};
 use crate::strings::Names;
 use crate::symbols::{check_symbol_shape, symbol_entry, symbol_strings, symbol_table};
 use elf_types::abi::{SHT_SYMTAB, SYM_SIZE};
-use elf_types::{Bytes, ElfError, ElfFile, Listed, Section, SectionHeader, Segment, Symbol};
+use elf_types::{
+    Bytes, ElfError, ElfFile, Listed, ProgramHeader, Section, SectionHeader, Segment, Shared,
+    Symbol,
+};
 use std::alloc::{AllocError, Global};
 use std::marker::Model;
 
@@ -77,6 +80,37 @@ fn segment(file: &Parts, alloc: Global, i: u64) -> Result<Segment, AllocError>
     })
 }
 
+/// The bytes of a segment, as a part of those of the file; where it is not `PT_LOAD` there are none.
+#[tactic(auto, unfolding(elf_files::specs::File::load_bytes, elf_files::specs::Rules::is_segment_outside))]
+fn shared_bytes(shared: &Shared, p: ProgramHeader) -> Result<Bytes, AllocError>
+    requires { is_segment_outside shared.now p ≡ false }
+    ensures { IfOk result (λ bytes. bytes ≡ load_bytes shared.now p) }
+{
+    if !p.is_load() || p.filesz == 0 {
+        let none = shared.part(0, 0)?;
+        return Ok(none);
+    }
+    let bytes = shared.part(p.offset as usize, p.filesz as usize)?;
+    Ok(bytes)
+}
+
+#[tactic(auto, unfolding(elf_files::specs::File::segment_of))]
+fn shared_segment(file: &Parts, shared: &Shared, i: u64) -> Result<Segment, AllocError>
+    requires below { i < e_phnum file.now }
+    requires same { shared.now ≡ file.now }
+    ensures { IfOk result (λ x. x ≡ segment_of file.now i) }
+{
+    let p = file.program(i);
+    let bytes = shared_bytes(shared, p)?;
+    Ok(Segment {
+        kind: p.kind,
+        flags: p.flags,
+        address: p.vaddr,
+        memory: p.memsz,
+        bytes,
+    })
+}
+
 #[tactic(auto, unfolding(elf_files::specs::File::symbol_of, elf_files::specs::Rules::symbol_name, elf_files::specs::Rules::name_at))]
 fn symbol(file: &Parts, names: &Names, s: SectionHeader, j: u64) -> Result<Symbol, AllocError>
     requires inside { is_section_outside file.now s ≡ false }
@@ -104,6 +138,7 @@ impl<'a> Sound<'a> {
         ensures same { IfOk result (λ s. s ≡ bytes.now) }
         ensures rules { OnOk result (verdict bytes.now ≡ Ok tt) }
         ensures limits { OnOk result (read_verdict bytes.now ≡ Ok tt) }
+        ensures small { OnOk result ((k : ℕ) → slice_index bytes.now k < 256) }
         ensures refused { IfErr result (λ e. read_verdict bytes.now ≡ Err e) }
     {
         let parts = Parts::new(bytes)?;
@@ -127,6 +162,18 @@ impl<'a> Sound<'a> {
         )
     }
 
+    // As `segments`, where the bytes are parts of those of the file.
+    fn shared_segments(&self, alloc: Global, shared: &Shared) -> Result<Vec<Segment>, AllocError>
+        requires { shared.now ≡ self.now }
+        ensures { IfOk result (λ v. v.items ≡ each (e_phnum self.now) (segment_of self.now)) }
+    {
+        list_of(
+            alloc,
+            self.parts.tables().phnum(),
+            &|i| shared_segment(&self.parts, shared, i),
+        )
+    }
+
     fn symbols(&self, alloc: Global) -> Result<Vec<Symbol>, AllocError>
         ensures { IfOk result (λ v. v.items ≡ symbols_at self.now (symbol_table self.now)) }
     {
@@ -144,14 +191,15 @@ impl<'a> Sound<'a> {
         }
     }
 
-    fn file(&self, alloc: Global) -> Result<ElfFile, AllocError>
-        requires { verdict self.now ≡ Ok tt }
+    fn file(&self, alloc: Global, segments: Vec<Segment>) -> Result<ElfFile, AllocError>
+        requires sound { verdict self.now ≡ Ok tt }
+        requires all { segments.items ≡ each (e_phnum self.now) (segment_of self.now) }
         ensures { IfOk result (λ f. File self.now f) }
     {
         Ok(ElfFile {
             entry: self.parts.tables().entry(),
             flags: self.parts.tables().flags(),
-            segments: Listed::of(self.segments(alloc)?),
+            segments: Listed::of(segments),
             sections: Listed::of(sections(&self.parts, alloc)?),
             symbols: Listed::of(self.symbols(alloc)?),
             relas: Listed::of(relas(&self.parts, alloc)?),
@@ -177,7 +225,27 @@ pub fn read_elf(alloc: Global, bytes: &[u8]) -> Result<ElfFile, ElfError>
     ensures refused { IfErr result (λ e. IsRefused bytes.now e ⊎ ((e ≡ error.Memory) × (read_verdict bytes.now ≡ Ok tt))) }
 {
     let sound = Sound::new(alloc, bytes)?;
-    Ok(sound.file(alloc)?)
+    let segments = sound.segments(alloc)?;
+    Ok(sound.file(alloc, segments)?)
+}
+
+/// As `read_elf`, where the bytes of the segments are parts of those of the file and not copies.
+///
+/// # Errors
+///
+/// As those of `read_elf`.
+#[tactic(auto, using(elf_files::proofs::RefusalLaws::refused, elf_files::proofs::AcceptanceLaws::accepted, elf_files::proofs::LoadsApart::file_fits))]
+pub fn read_shared(alloc: Global, file: &Shared) -> Result<ElfFile, ElfError>
+    ensures read { IfOk result (λ f. IsReadAs file.now f) }
+    ensures accepted { OnOk result (IsAccepted file.now) }
+    ensures sound { IfOk result IsSound }
+    ensures fit { IfOk result (λ f. AllFitMemory (load_segments f.segments)) }
+    ensures apart { IfOk result (λ f. AreApart (load_segments f.segments)) }
+    ensures refused { IfErr result (λ e. IsRefused file.now e ⊎ ((e ≡ error.Memory) × (read_verdict file.now ≡ Ok tt))) }
+{
+    let sound = Sound::new(alloc, file.as_slice())?;
+    let segments = sound.shared_segments(alloc, file)?;
+    Ok(sound.file(alloc, segments)?)
 }
 
 /// The sections of the file that bytes are, where its parts lie in it: as in `read_elf`, but the other rules and the limits are not

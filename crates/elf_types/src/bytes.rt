@@ -18,13 +18,21 @@ impl Model for Shared {
 }
 
 impl Shared {
+    /// These bytes, which are not copied.
+    pub fn of(alloc: Global, items: Vec<u8>) -> Result<Shared, AllocError>
+        ensures { IfOk result (λ shared. shared ≡ items.items) }
+    {
+        let all = Rc::new(alloc, items)?;
+        Ok(Shared { all })
+    }
+
     /// A copy of a slice.
     pub fn copied(alloc: Global, items: &[u8]) -> Result<Shared, AllocError>
         ensures { IfOk result (λ shared. shared ≡ items.now) }
     {
         let copy = Vec::from_slice(alloc, items)?;
-        let all = Rc::new(alloc, copy)?;
-        Ok(Shared { all })
+        let shared = Shared::of(alloc, copy)?;
+        Ok(shared)
     }
 
     /// The `count` bytes from number `from` on, which are not copied.
@@ -36,6 +44,13 @@ impl Shared {
         Ok(Bytes {
             stored: Stored::Part(all, from, from + count),
         })
+    }
+
+    /// The bytes as a slice.
+    pub fn as_slice(&self) -> &[u8]
+        ensures { result.now ≡ self.now }
+    {
+        &self.all
     }
 }
 
@@ -102,6 +117,22 @@ impl Bytes {
         let shared = Shared::copied(alloc, items)?;
         let bytes = shared.part(0, items.len())?;
         Ok(bytes)
+    }
+
+    /// The same bytes, to be shared. They are not copied where they have memory of their own.
+    pub fn into_shared(self, alloc: Global) -> Result<Shared, AllocError>
+        ensures { IfOk result (λ shared. shared ≡ self) }
+    {
+        match self.stored {
+            Stored::Own(items) => {
+                let shared = Shared::of(alloc, items)?;
+                Ok(shared)
+            }
+            Stored::Part(all, from, to) => {
+                let shared = Shared::copied(alloc, &all[from..to])?;
+                Ok(shared)
+            }
+        }
     }
 
     /// The bytes as a slice.

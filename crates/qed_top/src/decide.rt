@@ -13,6 +13,7 @@ use crate::orders::{answer_order, source_limit, source_name, usage};
 use crate::world::answer_harts;
 use campaign::Progress;
 use command_line::Order;
+use elf_types::Bytes;
 use qed_io::Shelf;
 use qed_words::{WordsError, order};
 use std::alloc::{AllocError, Global};
@@ -37,14 +38,15 @@ fn decide_source<S: Shelf>(
             let read = read_file(alloc, name, source_limit(&order), shelf)?;
             match read {
                 Ok(bytes) => {
-                    let answer = answer_order(alloc, order, bytes.as_slice(), progress)?;
+                    let answer = answer_order(alloc, order, bytes, progress)?;
                     Ok(answer)
                 }
                 Err(answer) => Ok(answer),
             }
         }
         None => {
-            let answer = answer_order(alloc, order, &[], progress)?;
+            let none = Bytes::of(Vec::new(alloc));
+            let answer = answer_order(alloc, order, none, progress)?;
             Ok(answer)
         }
     }

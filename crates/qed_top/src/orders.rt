@@ -16,6 +16,7 @@ use crate::run::answer_run;
 use crate::status::Status;
 use campaign::Progress;
 use command_line::{Order, Reason};
+use elf_types::Bytes;
 use qed_model::Limit;
 use report::{told_text, usage_text};
 use std::alloc::{AllocError, Global};
@@ -60,29 +61,32 @@ pub fn usage(alloc: Global, reason: Reason) -> Result<Answer, AllocError>
 pub fn answer_order(
     alloc: Global,
     order: Order,
-    bytes: &[u8],
+    bytes: Bytes,
     progress: &dyn Progress,
 ) -> Result<Answer, AllocError>
     requires sound { IsSoundOrder order }
     requires one { reads_several order ≡ false }
-    requires within { length bytes.now ≤ limit_of (source_limit_of order) }
-    ensures { IfOk result (AnswersOver order bytes.now) }
+    requires within { length bytes ≤ limit_of (source_limit_of order) }
+    ensures { IfOk result (AnswersOver order bytes) }
 {
     match order {
         Order::Transform(_, output, options) => Ok(answer_transform(
-            alloc, bytes, output, &options,
+            alloc, bytes.as_slice(), output, &options,
         )?),
-        Order::Plan(_, options) => Ok(answer_plan(alloc, bytes, &options)?),
-        Order::Explain(_, options, at) => Ok(answer_explain(alloc, bytes, &options, at)?),
+        Order::Plan(_, options) => Ok(answer_plan(alloc, bytes.as_slice(), &options)?),
+        Order::Explain(_, options, at) => {
+            Ok(answer_explain(alloc, bytes.as_slice(), &options, at)?)
+        }
         Order::Run(_, steps, changes, dump, reached) => {
+            let shared = bytes.into_shared(alloc)?;
             let changes = changes.as_slice();
-            Ok(answer_run(alloc, bytes, steps, changes, dump, reached)?)
+            Ok(answer_run(alloc, &shared, steps, changes, dump, reached)?)
         }
         Order::Gen(output, seed, size) => Ok(answer_gen(alloc, output, seed, size)?),
-        Order::List(_) => Ok(answer_list(alloc, bytes)?),
-        Order::Asm(_, output) => Ok(answer_asm(alloc, bytes, output)?),
+        Order::List(_) => Ok(answer_list(alloc, bytes.as_slice())?),
+        Order::Asm(_, output) => Ok(answer_asm(alloc, bytes.as_slice(), output)?),
         Order::Campaign(_, options, draws, results) => Ok(answer_campaign(
-            alloc, bytes, &options, &draws, results, progress,
+            alloc, bytes.as_slice(), &options, &draws, results, progress,
         )?),
         Order::Tell(topic) => {
             let text = told_text(alloc, topic)?;

@@ -11,8 +11,8 @@ ghost use Rattle.qed_words.specs.Sound.{IsSoundRun};
 use crate::answer::{Answer, above_limit, plain};
 use crate::refusal::{not_admitted, unread};
 use crate::status::Status;
-use elf_read::read_elf;
-use elf_types::{ElfFile, Segment};
+use elf_read::read_shared;
+use elf_types::{ElfFile, Segment, Shared};
 use fault_inject::{run_changed, run_watched};
 use flow_recovery::reached;
 use qed_model::limits::MAX_MEMORY_BYTES;
@@ -86,7 +86,7 @@ fn answer_file(
 /// What `run` answers over the bytes of its file.
 fn answer_plain(
     alloc: Global,
-    bytes: &[u8],
+    bytes: &Shared,
     steps: u64,
     changes: &[Change],
     dump: Option<(u64, u64)>,
@@ -94,7 +94,7 @@ fn answer_plain(
     requires { IsSoundRun steps changes.now dump }
     ensures { IfOk result (Runs bytes.now steps changes.now dump) }
 {
-    match read_elf(alloc, bytes) {
+    match read_shared(alloc, bytes) {
         Ok(file) => Ok(answer_file(alloc, &file, steps, changes, dump)?),
         Err(error) => Ok(unread(alloc, error)?),
     }
@@ -160,7 +160,7 @@ fn answer_test(
 /// What `run --reached` answers over the bytes of its file.
 fn answer_watched(
     alloc: Global,
-    bytes: &[u8],
+    bytes: &Shared,
     steps: u64,
     changes: &[Change],
     dump: Option<(u64, u64)>,
@@ -168,29 +168,20 @@ fn answer_watched(
     requires { IsSoundRun steps changes.now dump }
     ensures { IfOk result (Watches bytes.now steps changes.now dump) }
 {
-    let file = match read_elf(alloc, bytes) {
+    let file = match read_shared(alloc, bytes) {
         Ok(file) => file,
-        Err(error) => {
-            let answer = unread(alloc, error)?;
-            return Ok(answer);
-        }
+        Err(error) => return Ok(unread(alloc, error)?),
     };
     match admit(alloc, &file, &Options::default()) {
-        Ok(test) => {
-            let answer = answer_test(alloc, &file, &test, steps, changes, dump)?;
-            Ok(answer)
-        }
-        Err(rule) => {
-            let answer = not_admitted(alloc, &rule)?;
-            Ok(answer)
-        }
+        Ok(test) => Ok(answer_test(alloc, &file, &test, steps, changes, dump)?),
+        Err(rule) => Ok(not_admitted(alloc, &rule)?),
     }
 }
 
 /// What `run` answers over the bytes of its file, where asked with a line about its jumps by register.
 pub fn answer_run(
     alloc: Global,
-    bytes: &[u8],
+    bytes: &Shared,
     steps: u64,
     changes: &[Change],
     dump: Option<(u64, u64)>,

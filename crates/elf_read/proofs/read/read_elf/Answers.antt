@@ -1,5 +1,4 @@
-use Rattle.std.proofs.Common.{rules, List, ℕ, ◌<◌, subst}
-use Rattle.std.specs.Prelude.{slice_index}
+use Rattle.std.proofs.Common.{List, ℕ, subst}
 use Rattle.elf_files.specs.File.{File}
 use Rattle.elf_files.proofs.AcceptanceLaws.{read_as}
 use Rattle.elf_files.proofs.LoadsApart.{file_apart}
@@ -20,5 +19,4 @@ returns-clause-apart c =
 pub returns-clause-sound : goal.returns-clause-sound
 returns-clause-sound c =
     let f = c.in_ok-file.field-0 in
-    let fit : (k : ℕ) → slice_index c.args.bytes.now k < 256 = search rules in
-    read_sound c.args.bytes.now f fit (subst (λ (b : List ℕ). File b f) c.in_ok-sound.ensures.same c.in_ok-file.ensures)
+    read_sound c.args.bytes.now f c.in_ok-sound.ensures.small (subst (λ (b : List ℕ). File b f) c.in_ok-sound.ensures.same c.in_ok-file.ensures)

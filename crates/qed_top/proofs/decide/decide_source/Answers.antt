@@ -1,4 +1,4 @@
-use Rattle.std.proofs.Common.{List, ℕ, sym}
+use Rattle.std.proofs.Common.{◌∙◌, List, ℕ, subst, sym}
 use Rattle.qed_io.specs.Counts.{RoseAt}
 use Rattle.qed_top.specs.Orders.{AnswersOver, source_limit}
 use Rattle.qed_top.proofs.Meanings.{over_bytes, over_none, over_other, over_source}
@@ -14,7 +14,7 @@ returns-in_ok-answer-in-Ok-clause-meant g c =
     let rose = RoseAt (shelf.load_faults c.args.shelf.now) (shelf.load_faults c.read_file.new.shelf) in
     over_source files order name rose answer (sym c.in-Some.ensures)
     (over_bytes files name (source_limit order) (rose name) (λ (bytes : List ℕ). AnswersOver order bytes answer) answer c.in-Ok.bytes (rw c.in-Ok.is at c.in_ok-read-in-Some.ensures.bytes)
-    (rw (c.in-Ok.is, c.source_limit.ensures) at c.in_ok-read-in-Some.ensures.within) (rw c.as_slice.ensures at c.in_ok-answer-in-Ok.ensures))
+    (rw (c.in-Ok.is, c.source_limit.ensures) at c.in_ok-read-in-Some.ensures.within) c.in_ok-answer-in-Ok.ensures)
 
 pub returns-in-Err-clause-meant : goal.returns-in-Err-clause-meant
 returns-in-Err-clause-meant g c =
@@ -31,4 +31,5 @@ pub returns-in_ok-answer-in-None-clause-meant : goal.returns-in_ok-answer-in-Non
 returns-in_ok-answer-in-None-clause-meant g c =
     let shelf = g.S.Shelf in
     let rose = RoseAt (shelf.load_faults c.args.shelf.now) (shelf.load_faults c.args.shelf.now) in
-    over_none (shelf.files c.args.shelf.now) c.args.order rose c.in_ok-answer-in-None.answer (sym c.in-None.ensures) c.in_ok-answer-in-None.ensures
+    over_none (shelf.files c.args.shelf.now) c.args.order rose c.in_ok-answer-in-None.answer (sym c.in-None.ensures)
+    (subst (λ (bytes : List ℕ). AnswersOver c.args.order bytes c.in_ok-answer-in-None.answer) (c.of.ensures ∙ c.new.ensures.items) c.in_ok-answer-in-None.ensures)
