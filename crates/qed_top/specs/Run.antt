@@ -1,5 +1,5 @@
 -- What `run` answers.
-use Rattle.std.specs.Prelude.{◌≡◌, ◌<◌, ◌≤◌, ℕ, ◌+◌, ◌==◌, ◌&&◌, cond, Bool, true, false, List, [], ◌∷◌, Option}
+use Rattle.std.specs.Prelude.{◌≡◌, ◌<◌, ◌≤◌, ℕ, ◌+◌, ◌==◌, ◌&&◌, cond, Bool, true, false, List, [], ◌∷◌, Option, None, Some}
 use Rattle.std.specs.List.{list_any}
 use Rattle.elf_types.specs.declared.file.Segment.{Segment}
 use Rattle.elf_types.specs.declared.file.ElfFile.{ElfFile}
@@ -85,6 +85,11 @@ is_reached_word f t a = list_any (λ c. (c.at == a) && is_reached f t c.at) t.co
 -- of so many steps of a file with changes the first jump by register that leads to no such address, and where it leads
 abbrev pub astray_of : ElfFile → Test → ℕ → List Change → Option (ℕ × ℕ)
 astray_of f t steps changes = first_astray (is_reached_word f t) (start (loaded_file f) zeros) changes steps
+
+-- the text about that, which is empty where no test is told of
+abbrev pub jumps_of : ElfFile → Option Test → ℕ → List Change → List ℕ
+jumps_of f None steps changes = []
+jumps_of f (Some t) steps changes = jumps_line (astray_of f t steps changes)
 
 -- the file was read, and is a test by the rules of `transform` without options; its jumps by register are told of
 pub record IsWatched (bytes : List ℕ) (steps : ℕ) (changes : List Change) (dump : Option (ℕ × ℕ)) (answer : Answer) : Type 0 where

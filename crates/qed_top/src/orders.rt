@@ -80,7 +80,9 @@ pub fn answer_order(
         Order::Run(_, steps, changes, dump, reached) => {
             let shared = bytes.into_shared(alloc)?;
             let changes = changes.as_slice();
-            Ok(answer_run(alloc, &shared, steps, changes, dump, reached)?)
+            Ok(answer_run(
+                alloc, &shared, steps, changes, dump, reached, progress,
+            )?)
         }
         Order::Gen(output, seed, size) => Ok(answer_gen(alloc, output, seed, size)?),
         Order::List(_) => Ok(answer_list(alloc, bytes.as_slice())?),

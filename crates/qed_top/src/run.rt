@@ -1,11 +1,14 @@
 //! What `run` answers.
-ghost use Rattle.std.specs.Prelude.{◌≡◌, ◌*◌, ◌^◌, ◌≤◌, ℕ, ◌==◌, ◌&&◌, [], IfOk, OnOk, MatchOption, length};
-ghost use Rattle.command_line.specs.Text.Run.{jumps_line};
+ghost use Rattle.std.specs.Option.{option_copied};
+ghost use Rattle.std.specs.Prelude.{◌≡◌, ◌*◌, ◌^◌, ◌≤◌, ℕ, ◌==◌, ◌&&◌, IfOk, OnOk, MatchOption, string_bytes};
 ghost use Rattle.fault_inject.specs.Astray.{holds};
 ghost use Rattle.flow_recovery.specs.Sets.{lists, Adds};
-ghost use Rattle.qed_model.specs.Machine.Loading.{load_segments};
+ghost use Rattle.qed_model.specs.Machine.Loading.{load_segments, loaded_file};
 ghost use Rattle.qed_model.specs.Machine.Apart.{AllFitMemory, AreApart};
-ghost use Rattle.qed_top.specs.Run.{FileRuns, IsAboveMemory, Runs, RunsAs, Watches, astray_of, is_reached_word, memory_bytes, memory_limit, outcome_status};
+ghost use Rattle.qed_model.specs.Machine.Program.{start, zeros};
+ghost use Rattle.qed_model.specs.Machine.Progress.{begun};
+ghost use Rattle.qed_model.specs.Promise.Changed.{Ordered};
+ghost use Rattle.qed_top.specs.Run.{FileRuns, IsAboveMemory, RunsAs, is_reached_word, jumps_of, memory_bytes, memory_limit, outcome_status, run_of};
 ghost use Rattle.qed_words.specs.Sound.{IsSoundRun};
 
 use crate::answer::{Answer, above_limit, plain};
@@ -13,7 +16,7 @@ use crate::refusal::{not_admitted, unread};
 use crate::status::Status;
 use elf_read::read_shared;
 use elf_types::{ElfFile, Segment, Shared};
-use fault_inject::{run_changed, run_watched};
+use fault_inject::{Progress, run_changed, run_watched};
 use flow_recovery::reached;
 use qed_model::limits::MAX_MEMORY_BYTES;
 use qed_model::{Change, CodeWord, Limit, Options, Outcome, Test};
@@ -61,45 +64,6 @@ fn status_of(outcome: Outcome) -> Status
     }
 }
 
-/// What `run` answers for a file that was read.
-fn answer_file(
-    alloc: Global,
-    file: &ElfFile,
-    steps: u64,
-    changes: &[Change],
-    dump: Option<(u64, u64)>,
-) -> Result<Answer, AllocError>
-    requires fit { AllFitMemory (load_segments file.now.segments) }
-    requires apart { AreApart (load_segments file.now.segments) }
-    requires sound { IsSoundRun steps changes.now dump }
-    ensures { IfOk result (FileRuns file.now steps changes.now [] dump) }
-{
-    if let Some(answer) = above_memory(alloc, file)? {
-        return Ok(answer);
-    }
-    let mut machine = Machine::start(alloc, file, &[0; 32])?;
-    let outcome = run_changed(&mut machine, changes, steps)?;
-    let text = run_text(alloc, &machine, &[], dump)?;
-    Ok(plain(status_of(outcome), text))
-}
-
-/// What `run` answers over the bytes of its file.
-fn answer_plain(
-    alloc: Global,
-    bytes: &Shared,
-    steps: u64,
-    changes: &[Change],
-    dump: Option<(u64, u64)>,
-) -> Result<Answer, AllocError>
-    requires { IsSoundRun steps changes.now dump }
-    ensures { IfOk result (Runs bytes.now steps changes.now dump) }
-{
-    match read_shared(alloc, bytes) {
-        Ok(file) => Ok(answer_file(alloc, &file, steps, changes, dump)?),
-        Err(error) => Ok(unread(alloc, error)?),
-    }
-}
-
 /// Adds the address of a word that is marked.
 fn add_marked(list: &mut Vec<u64>, word: &CodeWord, is_marked: bool) -> Result<(), AllocError>
     ensures { OnOk result (Adds list.old.items list.new.items (λ a. (word.now.at == a) && is_marked)) }
@@ -132,50 +96,56 @@ fn reached_words(alloc: Global, test: &Test, file: &ElfFile) -> Result<BTreeSet<
     Ok(set)
 }
 
-/// What `run --reached` answers for a file that is a test.
-fn answer_test(
+/// Runs a machine from the start of a file, and gives the text about its jumps by register where the test is given.
+fn run_machine(
+    alloc: Global,
+    machine: &mut Machine,
+    file: &ElfFile,
+    test: Option<&Test>,
+    steps: u64,
+    changes: &[Change],
+    progress: &dyn Progress,
+) -> Result<String, AllocError>
+    requires begun { machine.now ≡ begun (start (loaded_file file.now) zeros) }
+    requires sound { Ordered changes.now }
+    ensures run { IfOk result (λ _. machine.new ≡ run_of file.now steps changes.now) }
+    ensures jumps { IfOk result (λ text. string_bytes text ≡ jumps_of file.now (option_copied test) steps changes.now) }
+{
+    match test {
+        Some(test) => {
+            let reached = reached_words(alloc, test, file)?;
+            let astray = run_watched(machine, changes, steps, &reached, progress)?;
+            Ok(jumps_text(alloc, astray)?)
+        }
+        None => {
+            run_changed(machine, changes, steps, progress)?;
+            Ok(String::new(alloc))
+        }
+    }
+}
+
+/// What `run` answers for a file that was read, with a line about its jumps by register where the test is given.
+fn answer_file(
     alloc: Global,
     file: &ElfFile,
-    test: &Test,
+    test: Option<&Test>,
     steps: u64,
     changes: &[Change],
     dump: Option<(u64, u64)>,
+    progress: &dyn Progress,
 ) -> Result<Answer, AllocError>
     requires fit { AllFitMemory (load_segments file.now.segments) }
     requires apart { AreApart (load_segments file.now.segments) }
     requires sound { IsSoundRun steps changes.now dump }
-    ensures { IfOk result (FileRuns file.now steps changes.now (jumps_line (astray_of file.now test.now steps changes.now)) dump) }
+    ensures { IfOk result (FileRuns file.now steps changes.now (jumps_of file.now (option_copied test) steps changes.now) dump) }
 {
     if let Some(answer) = above_memory(alloc, file)? {
         return Ok(answer);
     }
-    let reached = reached_words(alloc, test, file)?;
     let mut machine = Machine::start(alloc, file, &[0; 32])?;
-    let astray = run_watched(&mut machine, changes, steps, &reached)?;
-    let jumps = jumps_text(alloc, astray)?;
+    let jumps = run_machine(alloc, &mut machine, file, test, steps, changes, progress)?;
     let text = run_text(alloc, &machine, jumps.as_bytes(), dump)?;
     Ok(plain(status_of(machine.outcome()), text))
-}
-
-/// What `run --reached` answers over the bytes of its file.
-fn answer_watched(
-    alloc: Global,
-    bytes: &Shared,
-    steps: u64,
-    changes: &[Change],
-    dump: Option<(u64, u64)>,
-) -> Result<Answer, AllocError>
-    requires { IsSoundRun steps changes.now dump }
-    ensures { IfOk result (Watches bytes.now steps changes.now dump) }
-{
-    let file = match read_shared(alloc, bytes) {
-        Ok(file) => file,
-        Err(error) => return Ok(unread(alloc, error)?),
-    };
-    match admit(alloc, &file, &Options::default()) {
-        Ok(test) => Ok(answer_test(alloc, &file, &test, steps, changes, dump)?),
-        Err(rule) => Ok(not_admitted(alloc, &rule)?),
-    }
 }
 
 /// What `run` answers over the bytes of its file, where asked with a line about its jumps by register.
@@ -186,13 +156,20 @@ pub fn answer_run(
     changes: &[Change],
     dump: Option<(u64, u64)>,
     reached: bool,
+    progress: &dyn Progress,
 ) -> Result<Answer, AllocError>
     requires { IsSoundRun steps changes.now dump }
     ensures { IfOk result (RunsAs reached bytes.now steps changes.now dump) }
 {
-    if reached {
-        Ok(answer_watched(alloc, bytes, steps, changes, dump)?)
-    } else {
-        Ok(answer_plain(alloc, bytes, steps, changes, dump)?)
+    let file = match read_shared(alloc, bytes) {
+        Ok(file) => file,
+        Err(error) => return Ok(unread(alloc, error)?),
+    };
+    if !reached {
+        return Ok(answer_file(alloc, &file, None, steps, changes, dump, progress)?);
+    }
+    match admit(alloc, &file, &Options::default()) {
+        Ok(test) => Ok(answer_file(alloc, &file, Some(&test), steps, changes, dump, progress)?),
+        Err(rule) => Ok(not_admitted(alloc, &rule)?),
     }
 }

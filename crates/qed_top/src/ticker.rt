@@ -1,11 +1,12 @@
-//! How far a campaign is, for a person.
+//! How far a campaign or a run is, for a person.
 
 use campaign::Progress;
 use std::cell::Cell;
 use std::io::{Eprint, IsTerminal};
 use std::time::Instant;
 
-/// Tells on standard error once a second how many strikes are made, in a line that is written over and taken away in the end.
+/// Tells on standard error once a second how many strikes, or steps, are made, in a line that is written over and taken away in the
+/// end.
 /// It tells nothing where that is no terminal, or where there is no clock.
 #[derive(Drop)]
 pub(crate) struct Ticker<'a> {
@@ -48,7 +49,7 @@ impl Progress for Ticker<'_> {
             self.told.set(seconds);
             let _ = self
                 .rt
-                .eprint(format_args!("qed: {done} of {all} strikes\r"));
+                .eprint(format_args!("qed: {done} of {all} done\r"));
         }
     }
 }

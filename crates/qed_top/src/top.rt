@@ -10,8 +10,8 @@ use campaign::Progress;
 use qed_io::{Shelf, Sink};
 use std::alloc::Global;
 
-/// Does what the words after the program's name ask for: decides the answer, stores its file, and prints its text. Of a campaign it
-/// tells how far it is.
+/// Does what the words after the program's name ask for: decides the answer, stores its file, and prints its text. Of a campaign and
+/// of a run it tells how far it is.
 pub fn qed<S: Shelf, K: Sink>(
     alloc: Global,
     words: &[String],
