@@ -13,13 +13,24 @@ use Rattle.qed_model.specs.Members.{Every}
 use Rattle.qed_model.proofs.Changes.{AllBy, none_left}
 use Rattle.qed_model.proofs.Pairs.{every_all}
 use Rattle.fault_inject.specs.Counted.{changed_steps, IsPartOf}
-use Rattle.rv_step.proofs.Running.{progress_last}
+use Rattle.rv_step.specs.Known.{IsPart}
+use Rattle.rv_step.proofs.Running.{progress_last, progress_more}
 
 -- what holds anyway holds of an Err
 pub any_err : {T E : Type 0} (r : Result T E) (P : Type 0) → P → IfErr r (λ _. P)
 any_err (Ok x) P p = tt
 any_err (Err e) P p = p
 
+-- ---- plain steps behind plain steps
+pub further : (p q r : Progress) (a b n : ℕ) → q ≡ progress p a → r ≡ progress q b → a + b ≡ n → r ≡ progress p n
+further p q r a b n there is sum = is ∙ ap (λ x. progress x b) there ∙ sym (progress_more p a b) ∙ ap (progress p) sum
+
+pub part_further : (p q r : Progress) (a b n : ℕ) → q ≡ progress p a → IsPart q b r → a + b ≤ n → IsPart p n r
+part_further p q r a b n there part within =
+    let most = part.most in
+    record { count = a + part.count; most = omega (arith, most, within); made = further p q r a part.count (a + part.count) there part.made refl }
+
+-- ---- runs with changes
 -- a machine after n steps with changes
 abbrev pub changed_progress : Progress → List Change → ℕ → Progress
 changed_progress m cs n = record { state = changed_run m.state cs n; steps = changed_steps m cs n }
@@ -175,18 +186,8 @@ reached_next m cs k done p q c o lt e r state steps =
     }
 
 -- at the end, where the other changes come too late
-ends : (m : Progress) (cs : List Change) (k done n : ℕ) (p : Progress) → Reached m cs k done p → done ≤ n → AllFrom (n + 1) (drop k cs) → progress p (n - done) ≡ changed_progress m cs n
+pub ends : (m : Progress) (cs : List Change) (k done n : ℕ) (p : Progress) → Reached m cs k done p → done ≤ n → AllFrom (n + 1) (drop k cs) → progress p (n - done) ≡ changed_progress m cs n
 ends m cs k done n p r h late = runs_on m cs k done n p r h ∙ sym (not_made m (take k cs) (drop k cs) n late) ∙ ap (λ ds. changed_progress m ds n) (take-append-drop k cs)
-
--- which they do where the next one does
-pub ends_before :
-    (m : Progress) (cs : List Change) (k done n : ℕ) (p : Progress) (c : Change) → Ordered cs → k < length cs → c ≡ get_or cs k c → Reached m cs k done p → done ≤ n → n < c.step
-    → progress p (n - done) ≡ changed_progress m cs n
-ends_before m cs k done n p c o lt e r h late = ends m cs k done n p r h (left_before cs k (n + 1) c o lt e (omega arith))
-
--- or where none is left
-pub ends_behind : (m : Progress) (cs : List Change) (k done n : ℕ) (p : Progress) → length cs ≤ k → Reached m cs k done p → done ≤ n → progress p (n - done) ≡ changed_progress m cs n
-ends_behind m cs k done n p all r h = ends m cs k done n p r h (left_none cs k (n + 1) all)
 
 -- ---- a part of the run
 all_by : (t : ℕ) (cs : List Change) → AllBy t cs → All (λ c. c.step ≤ t) cs
@@ -216,14 +217,3 @@ part_made m cs k done n j last p q r most l late e =
       state = ap (λ x. x.state) is;
       steps = ap (λ x. x.steps) is;
     }
-
--- before the next change
-pub part_before :
-    (m : Progress) (cs : List Change) (k done n j : ℕ) (p q : Progress) (c : Change) → Ordered cs → k < length cs → c ≡ get_or cs k c → Reached m cs k done p → done + j ≤ n → done + j ≤ c.step
-    → q ≡ progress p j → IsPartOf m cs n q
-part_before m cs k done n j p q c o lt e r most l is = part_made m cs k done n j c.step p q r most l (left_before cs k c.step c o lt e (omega arith)) is
-
--- behind the last one
-pub part_behind :
-    (m : Progress) (cs : List Change) (k done n j : ℕ) (p q : Progress) → length cs ≤ k → Reached m cs k done p → done + j ≤ n → q ≡ progress p j → IsPartOf m cs n q
-part_behind m cs k done n j p q all r most is = part_made m cs k done n j (done + j) p q r most (omega arith) (left_none cs k (done + j) all) is

@@ -3,11 +3,13 @@
 #![tactic(auto)]
 
 mod places;
+mod progress;
 mod runs;
 mod trace;
 mod watch;
 
 pub use places::closed;
+pub use progress::{Progress, Silent};
 pub use runs::run_changed;
 pub use trace::Trace;
 pub use watch::run_watched;

@@ -1,11 +1,25 @@
 //! Runs with changes.
-ghost use Rattle.std.specs.Prelude.{◌≡◌, IfOk, IfErr};
+ghost use Rattle.std.specs.Prelude.{◌≡◌, ◌-◌, ◌≤◌, IfOk, IfErr};
+ghost use Rattle.qed_model.specs.Machine.Progress.{progress as progress_of};
 ghost use Rattle.qed_model.specs.Promise.Changed.{Ordered, changed, changed_run};
 ghost use Rattle.fault_inject.specs.Counted.{changed_steps, IsPartOf};
+ghost use Rattle.rv_step.specs.Known.{goes_on, IsPart};
 
+use crate::progress::Progress;
 use qed_model::{Change, Outcome};
 use rv_step::Machine;
 use std::alloc::AllocError;
+
+/// After how many steps it is told again how far a run is: those of some 60 ms, so that it is known each second, and beside which
+/// a run's begin takes no time.
+const PART: u64 = 1 << 24;
+
+/// Whether the machine has not stopped.
+pub(crate) fn is_going(machine: &Machine) -> bool
+    ensures { result ≡ goes_on machine.now.state.outcome }
+{
+    matches!(machine.outcome(), Outcome::Going)
+}
 
 /// Makes a change, unless the machine has stopped. Where there is no memory for a page, nothing changes.
 pub(crate) fn make_change(machine: &mut Machine, change: &Change) -> Result<(), AllocError>
@@ -19,14 +33,45 @@ pub(crate) fn make_change(machine: &mut Machine, change: &Change) -> Result<(), 
     Ok(())
 }
 
-/// Runs the machine for n steps with changes, and tells how it stands then.
+/// Runs a machine that has made `from` steps of all until it has made `to`, and tells on the way and in the end how far it is.
+fn run_on(
+    machine: &mut Machine,
+    from: u64,
+    to: u64,
+    all: u64,
+    progress: &dyn Progress,
+) -> Result<Outcome, AllocError>
+    requires { from ≤ to }
+    ensures run { IfOk result (λ _. machine.new ≡ progress_of machine.old (to - from)) }
+    ensures outcome { IfOk result (λ o. o ≡ machine.new.state.outcome) }
+    ensures part { IfErr result (λ _. IsPart machine.old (to - from) machine.new) }
+{
+    for parts in 0..(to - from) / PART {
+        progress.tell(from + PART * parts, all);
+        let outcome = machine.run(PART)?;
+        if !is_going(machine) {
+            progress.tell(to, all);
+            return Ok(outcome);
+        }
+    }
+    let outcome = machine.run((to - from) % PART)?;
+    progress.tell(to, all);
+    Ok(outcome)
+}
+
+/// Runs the machine for n steps with changes, and tells how it stands then, and on the way how many of the steps are made.
 ///
 /// The steps of the changes count from the call, and do not fall. Each change is made when so many steps were made, before the
 /// next one; those of one step in the order of the list. Changes behind the n-th step are not made, and a machine that has
 /// stopped is neither stepped nor changed. The time is that of the steps that are made and of one look at each change.
 ///
 /// Where there is no memory for a page, the machine stands as the steps and changes that were made have left it.
-pub fn run_changed(machine: &mut Machine, changes: &[Change], n: u64) -> Result<Outcome, AllocError>
+pub fn run_changed(
+    machine: &mut Machine,
+    changes: &[Change],
+    n: u64,
+    progress: &dyn Progress,
+) -> Result<Outcome, AllocError>
     requires { Ordered changes.now }
     ensures state { IfOk result (λ _. machine.new.state ≡ changed_run machine.old.state changes.now n) }
     ensures steps { IfOk result (λ _. machine.new.steps ≡ changed_steps machine.old changes.now n) }
@@ -36,13 +81,12 @@ pub fn run_changed(machine: &mut Machine, changes: &[Change], n: u64) -> Result<
     let mut steps = 0;
     for change in changes {
         if change.step > n {
-            let outcome = machine.run(n - steps)?;
-            return Ok(outcome);
+            break;
         }
-        machine.run(change.step - steps)?;
+        run_on(machine, steps, change.step, n, progress)?;
         steps = change.step;
         make_change(machine, change)?;
     }
-    let outcome = machine.run(n - steps)?;
+    let outcome = run_on(machine, steps, n, n, progress)?;
     Ok(outcome)
 }

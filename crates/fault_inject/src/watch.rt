@@ -1,17 +1,21 @@
 //! Runs with changes, and where a jump by register leads astray in them.
-ghost use Rattle.std.specs.Prelude.{◌≡◌, IfOk};
-ghost use Rattle.qed_model.specs.Machine.Progress.{advanced, progress};
+ghost use Rattle.std.specs.Prelude.{◌≡◌, ◌-◌, ◌≤◌, IfOk};
+ghost use Rattle.qed_model.specs.Machine.Progress.{advanced, progress as progress_of};
 ghost use Rattle.qed_model.specs.Promise.Changed.{Ordered, changed_run};
-ghost use Rattle.rv_step.specs.Known.{goes_on, known_at};
+ghost use Rattle.rv_step.specs.Known.{known_at};
 ghost use Rattle.fault_inject.specs.Astray.{holds, is_jalr, astray_of, first_jump, first_astray};
 ghost use Rattle.fault_inject.specs.Counted.{changed_steps};
 
-use crate::runs::make_change;
-use qed_model::{Change, Outcome};
+use crate::progress::Progress;
+use crate::runs::{is_going, make_change};
+use qed_model::Change;
 use rv_isa::Class;
 use rv_step::Machine;
 use std::alloc::AllocError;
 use std::collections::BTreeSet;
+
+/// After how many steps that are watched it is told again how far a run is.
+const TOLD: u64 = 1 << 20;
 
 /// Whether the next instruction is a JALR.
 fn is_next_jalr(machine: &Machine) -> bool
@@ -21,13 +25,6 @@ fn is_next_jalr(machine: &Machine) -> bool
         Some(ins) => matches!(ins.class(), Class::JumpReg),
         None => false,
     }
-}
-
-/// Whether the machine has not stopped.
-fn is_going(machine: &Machine) -> bool
-    ensures { result ≡ goes_on machine.now.state.outcome }
-{
-    matches!(machine.outcome(), Outcome::Going)
 }
 
 /// Makes a step, and tells its jump, from where to where, if that leads astray.
@@ -49,23 +46,32 @@ fn watched_step(
     Ok(None)
 }
 
-/// Runs the machine for n steps, and tells the first jump that leads astray.
-fn watch(
+/// Runs a machine that has made `from` steps of all until it has made `to`, as `run_on` does, and gives the first jump that leads astray.
+fn watch_on(
     machine: &mut Machine,
-    n: u64,
+    from: u64,
+    to: u64,
+    all: u64,
     reached: &BTreeSet<u64>,
+    progress: &dyn Progress,
 ) -> Result<Option<(u64, u64)>, AllocError>
-    ensures run { IfOk result (λ _. machine.new ≡ progress machine.old n) }
-    ensures astray { IfOk result (λ found. found ≡ first_jump (holds reached.now) (λ k. (progress machine.old k).state) n) }
+    requires { from ≤ to }
+    ensures run { IfOk result (λ _. machine.new ≡ progress_of machine.old (to - from)) }
+    ensures astray { IfOk result (λ found. found ≡ first_jump (holds reached.now) (λ k. (progress_of machine.old k).state) (to - from)) }
 {
     let mut found = None;
-    for made in 0..n {
+    for made in 0..to - from {
         if !is_going(machine) {
+            progress.tell(to, all);
             return Ok(found);
+        }
+        if made % TOLD == 0 {
+            progress.tell(from + made, all);
         }
         let jump = watched_step(machine, reached)?;
         found = found.or(jump);
     }
+    progress.tell(to, all);
     Ok(found)
 }
 
@@ -79,6 +85,7 @@ pub fn run_watched(
     changes: &[Change],
     n: u64,
     reached: &BTreeSet<u64>,
+    progress: &dyn Progress,
 ) -> Result<Option<(u64, u64)>, AllocError>
     requires { Ordered changes.now }
     ensures state { IfOk result (λ _. machine.new.state ≡ changed_run machine.old.state changes.now n) }
@@ -89,14 +96,13 @@ pub fn run_watched(
     let mut found = None;
     for change in changes {
         if change.step > n {
-            let more = watch(machine, n - steps, reached)?;
-            return Ok(found.or(more));
+            break;
         }
-        let more = watch(machine, change.step - steps, reached)?;
+        let more = watch_on(machine, steps, change.step, n, reached, progress)?;
         found = found.or(more);
         steps = change.step;
         make_change(machine, change)?;
     }
-    let more = watch(machine, n - steps, reached)?;
+    let more = watch_on(machine, steps, n, n, reached, progress)?;
     Ok(found.or(more))
 }

@@ -8,7 +8,6 @@ mod beside;
 mod draw;
 mod error;
 mod later;
-mod progress;
 mod right;
 mod runs;
 mod snapshots;
@@ -19,5 +18,5 @@ mod watched;
 
 pub use draw::{drawn_strikes, word_address};
 pub use error::StrikeError;
-pub use progress::{Progress, Silent};
+pub use fault_inject::{Progress, Silent};
 pub use runs::{Campaign, Runs};

@@ -16,12 +16,11 @@ ghost use Rattle.strikes.specs.Verdict.{IsVerdict};
 
 use crate::error::StrikeError;
 use crate::later::{all_from, first_step};
-use crate::progress::Progress;
 use crate::right::same_values;
 use crate::snapshots::{SPACING, Snapshots};
 use crate::verdict::{last_step, output_verdict};
 use crate::watched::Watched;
-use fault_inject::{Trace, run_changed};
+use fault_inject::{Progress, Silent, Trace, run_changed};
 use qed_model::{Bounds, Change, Changes, Outcome, Place, Range, Struck, Verdict};
 use rv_step::Machine;
 use std::alloc::{AllocError, Global};
@@ -301,7 +300,7 @@ impl Runs {
         let start = first_step(changes);
         let later = all_from(alloc, changes, start)?;
         let mut output = self.output.machine_at(alloc, start)?;
-        run_changed(&mut output, &later, last_step(&later))?;
+        run_changed(&mut output, &later, last_step(&later), &Silent)?;
         output.run(steps)?;
         Ok(output)
     }

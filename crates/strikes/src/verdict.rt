@@ -10,7 +10,7 @@ ghost use Rattle.strikes.specs.Later.{one_word as one_word_of, IsChangedAt};
 use crate::beside::steps_beside;
 use crate::snapshots::Snapshots;
 use crate::spared::{one_word, steps_spared};
-use fault_inject::{Trace, closed, run_changed};
+use fault_inject::{Silent, Trace, closed, run_changed};
 use qed_model::{Change, Outcome, Verdict};
 use rv_step::Machine;
 use std::alloc::{AllocError, Global};
@@ -172,7 +172,7 @@ pub fn output_verdict(
         return Ok(Some(verdict));
     }
     let last = last_step(changes);
-    run_changed(&mut output, changes, last)?;
+    run_changed(&mut output, changes, last, &Silent)?;
     let at = start.saturating_add(last);
     let verdict = later_verdict(alloc, way, trace, at, &mut output, changes, bound)?;
     Ok(verdict)

@@ -4,4 +4,4 @@ use Rattle.fault_inject.proofs.runs.run_changed.Given as goal
 
 -- the changes so far were made, by the step of the last of them
 abbrev pub invariant-loop-change : goal.invariant-loop-change
-invariant-loop-change l = record { reached : Reached l.initial.machine l.changes l.change-index l.steps l.machine; within : l.steps ≤ l.n }
+invariant-loop-change g l = record { reached : Reached l.initial.machine l.changes l.change-index l.steps l.machine; within : l.steps ≤ l.n }

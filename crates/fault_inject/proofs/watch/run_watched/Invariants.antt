@@ -5,7 +5,7 @@ use Rattle.fault_inject.proofs.watch.run_watched.Given as goal
 
 -- the changes so far were made, by the step of the last of them, and what was found is the first of these steps
 abbrev pub invariant-loop-change : goal.invariant-loop-change
-invariant-loop-change l = record {
+invariant-loop-change g l = record {
   made : Reached l.initial.machine l.changes l.change-index l.steps l.machine;
   within : l.steps ≤ l.n;
   astray : l.found ≡ first_astray (holds l.reached) l.initial.machine.state l.changes l.steps;

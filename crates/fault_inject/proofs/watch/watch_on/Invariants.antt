@@ -2,11 +2,11 @@ use Rattle.std.proofs.Common.{◌≡◌}
 use Rattle.qed_model.specs.Machine.Progress.{progress}
 use Rattle.fault_inject.specs.Astray.{holds, first_jump}
 use Rattle.fault_inject.proofs.Straying.{states}
-use Rattle.fault_inject.proofs.watch.watch.Given as goal
+use Rattle.fault_inject.proofs.watch.watch_on.Given as goal
 
 -- so many steps were made, and what was found is the first of them
 abbrev pub invariant-loop-made : goal.invariant-loop-made
-invariant-loop-made l = record {
+invariant-loop-made g l = record {
   made : l.machine ≡ progress l.initial.machine l.made;
   astray : l.found ≡ first_jump (holds l.reached) (states l.initial.machine) l.made;
 }

@@ -2,7 +2,7 @@
 
 /// What is told how far work is.
 pub trait Progress {
-    /// So many parts of all are done, such as strikes that are made. Work that ends without an error tells last that all are.
+    /// So many parts of all are done, as strikes or steps that are made. Work that ends without an error tells last that all are.
     fn tell(&self, done: u64, all: u64);
 }
 
