@@ -4,7 +4,6 @@ use Rattle.std.proofs.Math.Nat.{mul-le-mul}
 use Rattle.qed_model.specs.Weave.Bounds.{visit_bound, word_bound}
 use Rattle.qed_model.specs.Admission.DataRanges.{word_count}
 use Rattle.weave_core.specs.Promise.{piece_of, start_of}
-use Rattle.qed_model.specs.declared.item.Item.{Item}
 use Rattle.qed_model.specs.Weave.Blocks.{begins_at}
 use Rattle.qed_model.specs.Weave.Sequences.{Form, Block, compare, visit}
 use Rattle.weave_core.specs.KindItems.{MirrorsFit}
@@ -16,7 +15,7 @@ use Rattle.weave_core.specs.WeaveLaws.{Words}
 use Rattle.qed_model.specs.Machine.Program.{Program}
 use Rattle.qed_model.specs.declared.bounds.Bounds.{Bounds}
 use Rattle.qed_model.specs.Promise.Caught.{Caught}
-use Rattle.weave_core.specs.World.{World}
+use Rattle.weave_core.specs.World.{World, Item}
 use Rattle.weave_core.specs.Rows.{Mirrors}
 use Rattle.weave_core.specs.WeavePromise.{PlanOf, OnlyCode, BoundsOf}
 use Rattle.weave_core.specs.WeaveForms.{weave_with, weave_of, ChecksLaws}

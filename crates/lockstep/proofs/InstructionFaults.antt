@@ -2,18 +2,13 @@
 use Rattle.std.proofs.Common.{◌≡◌, ℕ, zero, suc, ◌+◌, ◌-◌, ◌*◌, ◌/◌, ◌^◌, ◌≤◌, List, [], ◌∷◌, Some, refl, sym, ap, ◌∙◌, subst, arith}
 use Rattle.std.proofs.Math.Nat.{mul-le-mul}
 use Rattle.std.proofs.lemmas.Option.{same_Some}
-use Rattle.rv_isa.specs.declared.ins.Ins.{Ins}
-use Rattle.rv_isa.specs.declared.kind.Kind.{Kind}
-use Rattle.rv_isa.specs.declared.kind.Kind.TheVariants.{Lb}
-use Rattle.rv_isa.specs.Regs.{set_reg}
 use Rattle.qed_model.specs.declared.bounds.Bounds.{Bounds}
 use Rattle.qed_model.specs.declared.change.Change.{Change}
 use Rattle.qed_model.specs.declared.change.Place.TheVariants.{Reg, Word}
-use Rattle.qed_model.specs.declared.machine.Outcome.TheVariants.{Going}
 use Rattle.qed_model.specs.Admission.DataRanges.{word_count}
 use Rattle.qed_model.specs.Machine.Memory.{put, number}
 use Rattle.qed_model.specs.Machine.Program.{Program, start, AreStartRegs}
-use Rattle.qed_model.specs.Machine.Step.{State, reg, moved, stored, next_pc, place, Known, next, step, run}
+use Rattle.qed_model.specs.Machine.Step.{State, reg, moved, stored, next_pc, place, Known, next, step, run, Ins, Kind, Lb, set_reg}
 use Rattle.qed_model.specs.Machine.Struck.{struck}
 use Rattle.qed_model.specs.Machine.Values.{width_of}
 use Rattle.qed_model.specs.Promise.Caught.{Caught}
@@ -30,7 +25,7 @@ use Rattle.weave_core.specs.WeavePromise.{PlanOf, BoundsOf}
 use Rattle.weave_core.specs.WeaveForms.{weave_of}
 use Rattle.weave_core.specs.Rows.{Mirrors}
 use Rattle.weave_core.specs.Weave.{start_steps, stage_steps}
-use Rattle.weave_core.specs.World.{World}
+use Rattle.weave_core.specs.World.{World, Going}
 use Rattle.weave_core.proofs.FormMirrors.{mirrors_of}
 use Rattle.weave_core.proofs.FormRows.{form_rows, form_starts}
 use Rattle.weave_core.proofs.Sized.{width_le}

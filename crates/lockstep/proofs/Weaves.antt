@@ -1,9 +1,6 @@
 -- Any weave: its code is calm, and by its trace changes are caught.
 use Rattle.std.proofs.Common.{◌≡◌, ℕ, zero, suc, ◌+◌, ◌*◌, ◌≤◌, true, List, [], ◌∷◌, Some, refl, ap, ◌∙◌, arith, Bool}
-use Rattle.rv_isa.specs.declared.ins.Ins.{Ins}
-use Rattle.rv_isa.specs.declared.class.Class.{Class}
 use Rattle.rv_isa.specs.declared.class.Class.TheVariants as class
-use Rattle.rv_isa.specs.Kind.{class_of}
 use Rattle.qed_model.specs.declared.bounds.Bounds.{Bounds}
 use Rattle.qed_model.specs.Admission.DataRanges.{word_count}
 use Rattle.qed_model.specs.Machine.Program.{Program}
@@ -12,7 +9,7 @@ use Rattle.qed_model.specs.Promise.Clean.{Clean}
 use Rattle.qed_model.specs.Weave.Blocks.{begins_at}
 use Rattle.qed_model.specs.Weave.Bounds.{word_bound}
 use Rattle.qed_model.specs.Weave.Pieces.{piece_count}
-use Rattle.qed_model.specs.Weave.Sequences.{Block, End, Falls, Stops}
+use Rattle.qed_model.specs.Weave.Sequences.{Block, End, Falls, Stops, Ins, Class, class_of}
 use Rattle.weave_core.specs.Blocks.{Leaves, EndStands}
 use Rattle.weave_core.specs.KindItems.{AllBlocks, IsEnd, end_branches, end_jumps, end_jumps_reg, end_ends, end_illegal, AllPieces, GoodEnd}
 use Rattle.weave_core.specs.Weave.{Weave, start_steps, stage_steps}

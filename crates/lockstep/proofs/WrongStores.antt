@@ -1,13 +1,11 @@
 -- A store of other bytes, or of none, as changes of the data words into which it stores.
 use Rattle.std.proofs.Common.{◌≡◌, ℕ, zero, suc, ◌+◌, ◌-◌, ◌*◌, ◌/◌, ◌^◌, ◌<◌, ◌≤◌, ⊎_elim, cond, Option, Some, None, refl, sym, ap, ◌∙◌, arith, add-one}
-use Rattle.std.specs.FinMap.{get}
 use Rattle.std.specs.Option.{option_map}
 use Rattle.std.proofs.Math.Nat.{div-div-eq-div-mul, mul_comm, pow-suc}
 use Rattle.std.proofs.lemmas.Bool.{cases_lt, lt-ltb}
-use Rattle.rv_isa.specs.declared.ins.Ins.{Ins}
 use Rattle.qed_model.specs.declared.change.Place.TheVariants.{Word}
-use Rattle.qed_model.specs.Machine.Memory.{Memory, Cell, put, offset, wrap, byte_of, byte_in, byte_at, number, flags_at, with_byte}
-use Rattle.qed_model.specs.Machine.Step.{State, stored, next_pc, place}
+use Rattle.qed_model.specs.Machine.Memory.{Memory, Cell, put, offset, wrap, byte_of, byte_in, byte_at, number, flags_at, with_byte, get}
+use Rattle.qed_model.specs.Machine.Step.{State, stored, next_pc, place, Ins}
 use Rattle.qed_model.specs.Machine.Struck.{struck}
 use Rattle.qed_model.specs.Machine.Values.{width_of}
 use Rattle.qed_model.proofs.MemoryLaws.{get-put, get-put_outside, same_memory, wrap_offset}

@@ -8,15 +8,12 @@ use Rattle.std.proofs.lemmas.List.Elements.{All-nil, All-cons, All-head, All-tai
 use Rattle.std.proofs.lemmas.List.Sorted.{IsPermutation-map, list_any-IsPermutation}
 use Rattle.std.proofs.lemmas.Map.Views.{All-map-IsPermutation}
 use Rattle.std.proofs.Math.Bool.{and-false}
-use Rattle.elf_types.specs.declared.file.Segment.{Segment}
 use Rattle.elf_types.specs.declared.file.Section.{Section}
-use Rattle.elf_types.specs.declared.file.ElfFile.{ElfFile}
 use Rattle.qed_model.specs.Machine.Memory.{flags_of}
 use Rattle.qed_model.specs.Machine.Program.{LoadSegment}
-use Rattle.qed_model.specs.Machine.Loading.{load_segment, load_segments, lies_in_code, lies_in_any, section_ranges, segment_ranges, first_some}
+use Rattle.qed_model.specs.Machine.Loading.{load_segment, load_segments, lies_in_code, lies_in_any, section_ranges, segment_ranges, first_some, Segment, ElfFile}
 use Rattle.qed_model.specs.Machine.Cells.{byte_among}
-use Rattle.qed_model.specs.Admission.Terms.{is_cut}
-use Rattle.qed_model.specs.Admission.DataRanges.{is_in, is_in_any}
+use Rattle.qed_model.specs.Admission.Terms.{is_cut, is_in, is_in_any}
 use Rattle.qed_model.specs.Admission.Rules.{is_misshapen_section, is_misshapen_segment, is_empty, section_range, segment_range}
 use Rattle.qed_model.specs.Admission.CodeWords.{loads_of, ranges_of}
 use Rattle.qed_model.proofs.Among.{all_among, among-map}

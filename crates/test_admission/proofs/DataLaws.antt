@@ -1,17 +1,15 @@
 -- Which segments are data, by joined ranges; and the rule on them.
-use Rattle.std.proofs.Common.{◌≡◌, ⊎_elim, ℕ, ◌+◌, ◌<◌, max, true, false, cond, ◌&&◌, ◌||◌, List, [], ◌∷◌, length, refl, sym, ap, ◌∙◌, subst, arith}
-use Rattle.std.specs.Prelude.{nat_lt, map, filter, slice_get}
+use Rattle.std.proofs.Common.{◌≡◌, ⊎_elim, ℕ, ◌+◌, ◌<◌, max, true, false, cond, ◌&&◌, ◌||◌, List, [], ◌∷◌, Some, None, refl, sym, ap, ◌∙◌, subst, arith}
+use Rattle.std.specs.Prelude.{nat_lt, map, filter, position}
 use Rattle.std.specs.List.{list_any}
 use Rattle.std.proofs.lemmas.Bool.{ltb-true, lt-ltb, and_from, and_parts}
-use Rattle.elf_types.specs.declared.file.Segment.{Segment}
-use Rattle.elf_types.specs.declared.file.ElfFile.{ElfFile}
 use Rattle.qed_model.specs.declared.admit.AdmitError.{AdmitError}
 use Rattle.qed_model.specs.declared.admit.AdmitError.TheVariants as error
 use Rattle.qed_model.specs.declared.options.Options.{Options}
-use Rattle.qed_model.specs.Admission.Terms.{image_segments}
+use Rattle.qed_model.specs.Admission.Terms.{image_segments, Segment, ElfFile}
 use Rattle.qed_model.specs.Admission.DataRanges.{is_executed, rounded, do_meet, meets_code, is_in, is_in_any, joined}
-use Rattle.qed_model.specs.Admission.Rules.{passes_at, is_mixed}
-use Rattle.qed_model.specs.Admission.Refusals.{HasFault, place_of, IsFirstOf, IsRefusedBy}
+use Rattle.qed_model.specs.Admission.Rules.{is_mixed}
+use Rattle.qed_model.specs.Admission.Refusals.{HasFault, place_of, IsRefusedBy}
 use Rattle.qed_model.specs.Weave.Places.{image_of}
 use Rattle.qed_model.proofs.Among.{passing, any_passing}
 use Rattle.qed_model.specs.Members.{Among}
@@ -22,7 +20,7 @@ use Rattle.test_admission.specs.declared.spans.Span.{Span}
 use Rattle.test_admission.specs.Spans.{all_bounds}
 use Rattle.test_admission.specs.DataSpans.{code_parts, AreCode}
 use Rattle.test_admission.specs.Order.{PassesBelow}
-use Rattle.test_admission.proofs.Firsts.{none_at, none_first}
+use Rattle.test_admission.proofs.Firsts.{found, none_found, none_first}
 use Rattle.test_admission.proofs.OrderLaws.{passes_more, refused}
 
 -- ---- ranges that have an address in common with one of some
@@ -77,11 +75,11 @@ meets_joined ss code s h room =
 
 -- ---- the rule
 module _ (f : ElfFile) (passed : (o : Options) → PassesBelow f o 10) where
-  pub refused_mixed : (i : ℕ) → IsFirstOf f.segments (is_mixed (image_of f)) i → (o : Options) → IsRefusedBy f o (error.DataMixed i)
-  refused_mixed i s o = refused f o 10 (error.DataMixed i) (passed o) refl s
+  pub refused_mixed : (i : ℕ) → Some i ≡ position (is_mixed (image_of f)) f.segments → (o : Options) → IsRefusedBy f o (error.DataMixed i)
+  refused_mixed i s o = refused f o 10 (error.DataMixed i) (passed o) refl (found _ _ i s)
 
-  pub passes_data : ((k : ℕ) → k < length f.segments → passes_at (is_mixed (image_of f)) (slice_get f.segments k) ≡ false) → (o : Options) → PassesBelow f o 11
+  pub passes_data : None ≡ position (is_mixed (image_of f)) f.segments → (o : Options) → PassesBelow f o 11
   passes_data none o = passes_more f o 10 (passed o) by where
     by : (d : AdmitError) → place_of d ≡ 10 → HasFault f o d → ⊥
-    by (error.DataMixed i) n h = none_first (is_mixed (image_of f)) f.segments (none_at (is_mixed (image_of f)) f.segments none) i h
+    by (error.DataMixed i) n h = none_first (is_mixed (image_of f)) f.segments (none_found _ _ none) i h
     by d n h = absurd (omega (arith, n))

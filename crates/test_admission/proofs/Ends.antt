@@ -2,13 +2,12 @@
 use Rattle.std.proofs.Common.{◌≡◌, ℕ, ◌+◌, ◌-◌, ◌*◌, ◌/◌, ◌%◌, ◌^◌, ◌<◌, ◌≤◌, true, List, [], ◌∷◌, refl, sym, ap, ◌∙◌, subst, arith}
 use Rattle.std.specs.Prelude.{nat_lt, ◌==◌}
 use Rattle.std.proofs.lemmas.Bool.{ltb-true, eqb-true, and_parts}
-use Rattle.elf_types.specs.declared.file.ElfFile.{ElfFile}
 use Rattle.code_ranges.specs.declared.range.CodeRange.{CodeRange}
 use Rattle.code_ranges.specs.Ranges.{span, spans}
 use Rattle.qed_model.specs.declared.options.Options.{Options}
 use Rattle.qed_model.specs.Machine.Memory.{flags_of}
 use Rattle.qed_model.specs.Machine.Program.{LoadSegment}
-use Rattle.qed_model.specs.Machine.Loading.{section_ranges, segment_ranges, first_some}
+use Rattle.qed_model.specs.Machine.Loading.{section_ranges, segment_ranges, first_some, ElfFile}
 use Rattle.qed_model.specs.Admission.DataRanges.{rounded, is_data, is_in, is_in_any, data_segments, data_parts, data_ranges}
 use Rattle.qed_model.specs.Admission.CodeWords.{loads_of, ranges_of}
 use Rattle.qed_model.specs.Admission.Refusals.{IsAdmitted}

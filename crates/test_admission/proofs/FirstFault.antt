@@ -5,9 +5,7 @@ use Rattle.std.specs.Option.{option_map, option_or}
 use Rattle.std.proofs.lemmas.List.{get_or_past}
 use Rattle.std.proofs.lemmas.Bool.{cases_lt, or_parts}
 use Rattle.std.proofs.lemmas.Option.{same_Some}
-use Rattle.rv_isa.specs.declared.ins.Ins.{Ins}
-use Rattle.rv_isa.specs.declared.kind.Kind.TheVariants.{Illegal}
-use Rattle.qed_model.specs.Machine.Table.{ins, ins_of, decode_of}
+use Rattle.qed_model.specs.Machine.Table.{ins, ins_of, decode_of, Ins, Illegal}
 use Rattle.qed_model.specs.Below.{first}
 use Rattle.qed_model.proofs.BelowLaws.{first_found, first_none, first_least, each_fails}
 use Rattle.test_admission.specs.declared.rules.CodeRule.{CodeRule}

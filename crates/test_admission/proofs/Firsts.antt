@@ -1,22 +1,36 @@
--- The first of a list that passes a test, as a loop finds it.
-use Rattle.std.proofs.Common.{◌≡◌, ℕ, ◌+◌, ◌<◌, Bool, false, List, length, get_or, Some, sym, ap, ◌∙◌, arith, ⊎_elim}
-use Rattle.std.specs.Prelude.{slice_get}
-use Rattle.std.proofs.lemmas.Bool.{false≢true, cases_lt}
-use Rattle.std.proofs.lemmas.Option.{slice_get-get_or, slice_get_past}
+-- The first of a list that passes a test, as a search gives it.
+use Rattle.std.proofs.Common.{◌≡◌, ℕ, zero, suc, ◌+◌, Bool, true, false, cond, List, [], ◌∷◌, Some, None, refl, sym, ap, ◌∙◌, arith}
+use Rattle.std.specs.Prelude.{slice_get, position}
+use Rattle.std.specs.List.{position_from}
+use Rattle.std.proofs.lemmas.Bool.{false≢true}
+use Rattle.std.proofs.lemmas.Option.{slice_get-get_or}
+use Rattle.std.proofs.lemmas.List.Quantifiers.{position-Some}
+use Rattle.std.proofs.lemmas.Iterator.Adapters.{position_from-zero}
 use Rattle.qed_model.specs.Admission.Rules.{passes_at}
 use Rattle.qed_model.specs.Admission.Refusals.{IsFirstOf}
 
--- number k of a list passes a test where its element does
-pub here : {A : Type 0} (test : A → Bool) (xs : List A) (k : ℕ) (x : A) (b : Bool) → k < length xs → x ≡ get_or xs k x → test x ≡ b → passes_at test (slice_get xs k) ≡ b
-here test xs k x b lt is e = ap (passes_at test) (slice_get-get_or xs k x lt ∙ ap Some (sym is)) ∙ e
+pub found : {A : Type 0} (test : A → Bool) (xs : List A) (i : ℕ) → Some i ≡ position test xs → IsFirstOf xs test i
+found test [] i e = absurd (cc)
+found test (x ∷ xs) i e =
+    let p = position-Some test (x ∷ xs) i x (sym e) in
+    record {
+      below = p.0;
+      passes = ap (passes_at test) (slice_get-get_or (x ∷ xs) i x p.0) ∙ p.1;
+      least = λ k lt. ap (passes_at test) (slice_get-get_or (x ∷ xs) k x (omega (arith, p.0, lt))) ∙ p.2 k lt;
+    }
 
--- one more that fails
-pub not_yet : {A : Type 0} (test : A → Bool) (xs : List A) (k : ℕ) (x : A) → k < length xs → x ≡ get_or xs k x → test x ≡ false → ((j : ℕ) → j < k → passes_at test (slice_get xs j) ≡ false) → (j : ℕ) → j < k + 1 → passes_at test (slice_get xs j) ≡ false
-not_yet test xs k x lt is w none j h = ⊎_elim (none j) (λ le. let e : j ≡ k = omega (arith, le, h) in ap (λ m. passes_at test (slice_get xs m)) e ∙ here test xs k x false lt is w) (cases_lt j k)
+none_from : {A : Type 0} (test : A → Bool) (i : ℕ) (xs : List A) → position_from test i xs ≡ None → (k : ℕ) → passes_at test (slice_get xs k) ≡ false
+none_from test i [] e k = refl
+none_from test i (x ∷ xs) e k = by (test x) refl e (none_from test (i + 1) xs) k where
+  by : (b : Bool) → test x ≡ b → cond b (Some i) (position_from test (i + 1) xs) ≡ None
+      → (position_from test (i + 1) xs ≡ None → (k : ℕ) → passes_at test (slice_get xs k) ≡ false) → (k : ℕ) → passes_at test (slice_get (x ∷ xs) k) ≡ false
+  by true h g rest k = absurd (cc)
+  by false h g rest zero = h
+  by false h g rest (suc k) = rest g k
 
--- none passes, at any number
-pub none_at : {A : Type 0} (test : A → Bool) (xs : List A) → ((k : ℕ) → k < length xs → passes_at test (slice_get xs k) ≡ false) → (k : ℕ) → passes_at test (slice_get xs k) ≡ false
-none_at test xs h k = ⊎_elim (h k) (λ l. ap (passes_at test) (slice_get_past xs k l)) (cases_lt k (length xs))
+-- where none is found, none passes, at any number
+pub none_found : {A : Type 0} (test : A → Bool) (xs : List A) → None ≡ position test xs → (k : ℕ) → passes_at test (slice_get xs k) ≡ false
+none_found test xs e = none_from test 0 xs (sym (e ∙ position_from-zero test xs))
 
 -- so none is the first
 pub none_first : {A : Type 0} (test : A → Bool) (xs : List A) → ((k : ℕ) → passes_at test (slice_get xs k) ≡ false) → (i : ℕ) → IsFirstOf xs test i → ⊥

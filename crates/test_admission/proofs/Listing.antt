@@ -5,13 +5,12 @@ use Rattle.std.proofs.lemmas.Bool.{and_parts, and_from, eqb-true, eq-eqb, or_cas
 use Rattle.std.proofs.lemmas.List.{length-append, length-map, map-append}
 use Rattle.std.proofs.lemmas.List.Kept.{AllPairs-cons}
 use Rattle.std.proofs.lemmas.List.Elements.{All-nil, All-cons, All-head, All-tail, All-push, All-append}
-use Rattle.elf_types.specs.declared.file.ElfFile.{ElfFile}
 use Rattle.qed_model.specs.declared.admit.AdmitError.{AdmitError}
 use Rattle.qed_model.specs.declared.admit.AdmitError.TheVariants as error
 use Rattle.qed_model.specs.declared.options.Options.{Options}
 use Rattle.qed_model.specs.declared.test.CodeWord.{CodeWord}
 use Rattle.qed_model.specs.Machine.Table.{decode_of}
-use Rattle.qed_model.specs.Admission.DataRanges.{is_in, is_in_any}
+use Rattle.qed_model.specs.Admission.DataRanges.{is_in, is_in_any, ElfFile}
 use Rattle.qed_model.specs.Admission.CodeWords.{loads_of, ranges_of, word_at, AreCodeAddresses}
 use Rattle.qed_model.specs.Admission.Refusals.{HasFault, place_of, IsRefusedBy}
 use Rattle.qed_model.specs.Admission.Test.{IsCodeWord, AreCodeWords}

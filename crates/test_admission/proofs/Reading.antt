@@ -3,11 +3,10 @@ use Rattle.std.proofs.Common.{◌≡◌, ⊎_elim, ℕ, ◌+◌, ◌-◌, ◌≤
 use Rattle.std.specs.Prelude.{slice_index, Contains}
 use Rattle.std.proofs.lemmas.List.{get_or_past}
 use Rattle.std.proofs.lemmas.Bool.{and_parts, leb-true, cases_lt}
-use Rattle.elf_types.specs.declared.file.Segment.{Segment}
 use Rattle.elf_types.specs.declared.file.Section.{Section}
 use Rattle.qed_model.specs.Machine.Memory.{byte_in}
 use Rattle.qed_model.specs.Machine.Program.{LoadSegment}
-use Rattle.qed_model.specs.Machine.Loading.{load_segment, load_segments, lies_in_code}
+use Rattle.qed_model.specs.Machine.Loading.{load_segment, load_segments, lies_in_code, Segment}
 use Rattle.qed_model.specs.Machine.Cells.{has, cell_at, byte_among}
 use Rattle.qed_model.proofs.Among.{among_of}
 use Rattle.qed_model.specs.Members.{Among}

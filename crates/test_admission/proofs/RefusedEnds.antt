@@ -1,12 +1,10 @@
 -- How far the ends go that a refusal tells.
 use Rattle.std.proofs.Common.{inl, inr, ℕ, ◌+◌, ◌^◌, ◌≤◌, List, [], ◌∷◌, refl, arith}
-use Rattle.elf_types.specs.declared.file.Segment.{Segment}
-use Rattle.elf_types.specs.declared.file.ElfFile.{ElfFile}
 use Rattle.qed_model.specs.declared.admit.AdmitError.{AdmitError}
 use Rattle.qed_model.specs.declared.admit.AdmitError.TheVariants as error
 use Rattle.qed_model.specs.declared.options.Options.{Options}
 use Rattle.qed_model.specs.Machine.Apart.{AllFitMemory}
-use Rattle.qed_model.specs.Machine.Loading.{load_segment}
+use Rattle.qed_model.specs.Machine.Loading.{load_segment, Segment, ElfFile}
 use Rattle.qed_model.specs.Admission.CodeWords.{loads_of}
 use Rattle.qed_model.specs.Admission.Refusals.{HasFault}
 use Rattle.qed_model.specs.Admission.Ends.{HasEnds}

@@ -1,17 +1,16 @@
 -- The rules on the entry and on the shape of code, in their order.
-use Rattle.std.proofs.Common.{◌≡◌, inl, inr, ℕ, ◌<◌, arith, true, false, length, refl, sym, ap, ◌∙◌}
-use Rattle.std.specs.Prelude.{slice_get}
+use Rattle.std.proofs.Common.{◌≡◌, inl, inr, ℕ, arith, true, false, Some, None, refl, sym, ap, ◌∙◌}
+use Rattle.std.specs.Prelude.{slice_get, position}
 use Rattle.std.proofs.lemmas.Bool.{false≢true}
-use Rattle.elf_types.specs.declared.file.ElfFile.{ElfFile}
 use Rattle.qed_model.specs.declared.admit.AdmitError.{AdmitError}
 use Rattle.qed_model.specs.declared.admit.AdmitError.TheVariants as error
 use Rattle.qed_model.specs.declared.options.Options.{Options}
-use Rattle.qed_model.specs.Admission.CodeWords.{loads_of, is_code}
+use Rattle.qed_model.specs.Admission.CodeWords.{loads_of, is_code, ElfFile}
 use Rattle.qed_model.specs.Admission.Rules.{passes_at, is_misshapen_section, is_misshapen_segment}
-use Rattle.qed_model.specs.Admission.Refusals.{HasFault, place_of, IsFirstOf, IsRefusedBy}
+use Rattle.qed_model.specs.Admission.Refusals.{HasFault, place_of, IsRefusedBy}
 use Rattle.test_admission.specs.Order.{PassesBelow}
 use Rattle.test_admission.specs.Shape.{IsShaped}
-use Rattle.test_admission.proofs.Firsts.{none_at, none_first}
+use Rattle.test_admission.proofs.Firsts.{found, none_found, none_first}
 use Rattle.test_admission.proofs.OrderLaws.{passes_more, refused}
 
 module _ (f : ElfFile) (passed : (o : Options) → PassesBelow f o 4) where
@@ -24,24 +23,24 @@ module _ (f : ElfFile) (passed : (o : Options) → PassesBelow f o 4) where
     by (error.NoCode i) n h = false≢true (sym h.1 ∙ ap (is_code f) h.0 ∙ e)
     by d n h = absurd (omega (arith, n))
 
-  pub refused_section : is_code f f.entry ≡ true → (i : ℕ) → IsFirstOf f.sections (is_misshapen_section (loads_of f)) i → (o : Options) → IsRefusedBy f o (error.CodeShape i)
-  refused_section e i s o = refused f o 5 (error.CodeShape i) (after_entry e o) refl (inl s)
+  module _ (e : is_code f f.entry ≡ true) where
+    pub refused_section : (i : ℕ) → Some i ≡ position (is_misshapen_section (loads_of f)) f.sections → (o : Options) → IsRefusedBy f o (error.CodeShape i)
+    refused_section i s o = refused f o 5 (error.CodeShape i) (after_entry e o) refl (inl (found _ _ i s))
 
-  module _ (none : (k : ℕ) → k < length f.sections → passes_at (is_misshapen_section (loads_of f)) (slice_get f.sections k) ≡ false) where
-    pub refused_segment : is_code f f.entry ≡ true → (i : ℕ) → IsFirstOf f.segments (is_misshapen_segment f) i → (o : Options) → IsRefusedBy f o (error.CodeShape i)
-    refused_segment e i s o = refused f o 5 (error.CodeShape i) (after_entry e o) refl (inr (none, s))
+    module _ (none : None ≡ position (is_misshapen_section (loads_of f)) f.sections) where
+      sections : (k : ℕ) → passes_at (is_misshapen_section (loads_of f)) (slice_get f.sections k) ≡ false
+      sections = none_found _ _ none
 
-    module _ (whole : (k : ℕ) → k < length f.segments → passes_at (is_misshapen_segment f) (slice_get f.segments k) ≡ false) where
-      pub passes_shape : is_code f f.entry ≡ true → (o : Options) → PassesBelow f o 6
-      passes_shape e o = passes_more f o 5 (after_entry e o) by where
-        by : (d : AdmitError) → place_of d ≡ 5 → HasFault f o d → ⊥
-        by (error.CodeShape i) n (inl s) = none_first (is_misshapen_section (loads_of f)) f.sections (none_at (is_misshapen_section (loads_of f)) f.sections none) i s
-        by (error.CodeShape i) n (inr s) = none_first (is_misshapen_segment f) f.segments (none_at (is_misshapen_segment f) f.segments whole) i s.1
-        by d n h = absurd (omega (arith, n))
+      pub refused_segment : (i : ℕ) → Some i ≡ position (is_misshapen_segment f) f.segments → (o : Options) → IsRefusedBy f o (error.CodeShape i)
+      refused_segment i s o = refused f o 5 (error.CodeShape i) (after_entry e o) refl (inr (λ k lt. sections k, found _ _ i s))
 
-      pub shaped : is_code f f.entry ≡ true → IsShaped f
-      shaped e = record {
-        entry = e;
-        sections = none_at (is_misshapen_section (loads_of f)) f.sections none;
-        segments = none_at (is_misshapen_segment f) f.segments whole;
-      }
+      module _ (whole : None ≡ position (is_misshapen_segment f) f.segments) where
+        pub passes_shape : (o : Options) → PassesBelow f o 6
+        passes_shape o = passes_more f o 5 (after_entry e o) by where
+          by : (d : AdmitError) → place_of d ≡ 5 → HasFault f o d → ⊥
+          by (error.CodeShape i) n (inl s) = none_first (is_misshapen_section (loads_of f)) f.sections sections i s
+          by (error.CodeShape i) n (inr s) = none_first (is_misshapen_segment f) f.segments (none_found _ _ whole) i s.1
+          by d n h = absurd (omega (arith, n))
+
+        pub shaped : IsShaped f
+        shaped = record { entry = e; sections = sections; segments = none_found _ _ whole }

@@ -1,9 +1,8 @@
 -- What is known of a file when all rules and limits have been tested.
 use Rattle.std.specs.Prelude.{◌≡◌, ◌≤◌, None}
-use Rattle.elf_types.specs.declared.file.ElfFile.{ElfFile}
 use Rattle.qed_model.specs.declared.limits.TheConstants.{MAX_IMAGE_SPAN}
 use Rattle.qed_model.specs.declared.options.Options.{Options}
-use Rattle.qed_model.specs.Admission.CodeWords.{ranges_of}
+use Rattle.qed_model.specs.Admission.CodeWords.{ranges_of, ElfFile}
 use Rattle.qed_model.specs.Admission.Refusals.{IsAdmitted}
 use Rattle.qed_model.specs.Weave.Places.{image_of}
 use Rattle.code_ranges.specs.Ranges.{spans}

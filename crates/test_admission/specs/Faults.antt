@@ -1,11 +1,10 @@
 -- The rules on code words: at one word, and the first in parts of code that one is at fault.
 use Rattle.std.specs.Prelude.{◌≡◌, ℕ, ◌+◌, ◌*◌, ◌/◌, ◌&&◌, ◌||◌, Bool, is_none, is_some, Option, Some, None, List, [], ◌∷◌, slice_index, length, min}
 use Rattle.std.specs.Option.{option_map, option_or}
-use Rattle.rv_isa.specs.declared.ins.Ins.{Ins}
 use Rattle.qed_model.specs.declared.admit.AdmitError.{AdmitError}
 use Rattle.qed_model.specs.declared.admit.AdmitError.TheVariants as error
 use Rattle.qed_model.specs.Below.{first}
-use Rattle.qed_model.specs.Machine.Table.{decode_of}
+use Rattle.qed_model.specs.Machine.Table.{decode_of, Ins}
 use Rattle.qed_model.specs.Machine.Step.{target}
 use Rattle.qed_model.specs.Weave.Placed.{distance_between}
 use Rattle.qed_model.specs.Admission.Rules.{passes_at, high_in, is_ebreak, is_far}

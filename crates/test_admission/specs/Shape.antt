@@ -1,9 +1,7 @@
 -- Code of the right shape: whole words at multiples of 4, no section cut by a segment.
 use Rattle.std.specs.Prelude.{◌≡◌, ℕ, Bool, ◌&&◌, true, false, slice_get}
-use Rattle.elf_types.specs.declared.file.Segment.{Segment}
-use Rattle.qed_model.specs.Admission.Terms.{is_in_image, is_ragged}
+use Rattle.qed_model.specs.Admission.Terms.{is_in_image, is_ragged, Segment, ElfFile}
 use Rattle.qed_model.specs.Admission.DataRanges.{is_executed}
-use Rattle.elf_types.specs.declared.file.ElfFile.{ElfFile}
 use Rattle.qed_model.specs.Admission.CodeWords.{loads_of, is_code}
 use Rattle.qed_model.specs.Admission.Rules.{passes_at, is_misshapen_section, is_misshapen_segment, segment_range}
 

@@ -1,10 +1,8 @@
 -- The code of a file in stretches, each in one segment.
 use Rattle.std.specs.Prelude.{◌≡◌, ℕ, ◌+◌, ◌-◌, ◌%◌, ◌^◌, ◌<◌, ◌≤◌, nat_lt, ◌==◌, ◌&&◌, Bool, cond, min, max, List, [], ◌∷◌, map, drop, length, slice_index, All}
 use Rattle.elf_types.specs.declared.file.Section.{Section}
-use Rattle.elf_types.specs.declared.file.Segment.{Segment}
-use Rattle.elf_types.specs.declared.file.ElfFile.{ElfFile}
 use Rattle.qed_model.specs.Machine.Memory.{flags_of}
-use Rattle.qed_model.specs.Machine.Loading.{is_code_section, lies_in_any}
+use Rattle.qed_model.specs.Machine.Loading.{is_code_section, lies_in_any, Segment, ElfFile}
 use Rattle.qed_model.specs.Machine.Program.{LoadSegment}
 use Rattle.qed_model.specs.Machine.Cells.{byte_among}
 use Rattle.qed_model.specs.Admission.DataRanges.{is_in_any}

@@ -1,11 +1,11 @@
 //! The data ranges, and the rule on segments that share a word with them.
-ghost use Rattle.std.specs.Prelude.{◌≡◌, ℕ, ◌<◌, ◌++◌, false, length, slice_get, map, filter, IfOk, List, MatchOption, MatchResult};
+ghost use Rattle.std.specs.Prelude.{◌≡◌, ◌<◌, ◌++◌, map, filter, position, IfOk, List, MatchResult};
 ghost use Rattle.elf_types.specs.declared.file.Segment.{Segment as ElfSegment};
 ghost use Rattle.qed_model.specs.declared.options.Options.{Options};
 ghost use Rattle.qed_model.specs.Admission.Terms.{image_segments};
 ghost use Rattle.qed_model.specs.Admission.DataRanges.{rounded, meets_code, is_data, data_parts};
-ghost use Rattle.qed_model.specs.Admission.Rules.{is_mixed, segment_range, passes_at};
-ghost use Rattle.qed_model.specs.Admission.Refusals.{IsFirstOf, IsRefusedBy};
+ghost use Rattle.qed_model.specs.Admission.Rules.{is_mixed, segment_range};
+ghost use Rattle.qed_model.specs.Admission.Refusals.{IsRefusedBy};
 ghost use Rattle.qed_model.specs.Weave.Places.{image_of};
 ghost use Rattle.test_admission.specs.Spans.{bounds_of, all_bounds, HaveSome, AreSpaced};
 ghost use Rattle.test_admission.specs.DataSpans.{code_parts, AreCode, IsDataOf};
@@ -112,27 +112,13 @@ fn is_mixed(spans: &DataSpans, segment: &Segment) -> bool
     segment.is_in_image() && !is_data(&spans.code, segment) && meets(&spans.ranges, whole(segment))
 }
 
-/// The number of the first such segment.
-fn first_mixed(segments: &[Segment], spans: &DataSpans) -> Option<usize>
-    requires { IsDataOf (image_segments segments.now) spans.now }
-    ensures { MatchOption result ((k : ℕ) → k < length segments.now → passes_at (is_mixed (image_segments segments.now)) (slice_get segments.now k) ≡ false) (λ i. IsFirstOf segments.now (is_mixed (image_segments segments.now)) i) }
-{
-    let mut number = 0;
-    for segment in segments {
-        if is_mixed(spans, segment) {
-            return Some(number);
-        }
-        number += 1;
-    }
-    None
-}
-
-/// The number of the first segment of a file that has a byte in a data range and is not one of data.
-fn mixed_segment(file: &ElfFile, spans: &DataSpans) -> Option<usize>
+/// The number of the first such segment of a file.
+fn first_mixed(file: &ElfFile, spans: &DataSpans) -> Option<usize>
     requires { IsDataOf (image_of file.now) spans.now }
-    ensures { MatchOption result ((k : ℕ) → k < length file.now.segments → passes_at (is_mixed (image_of file.now)) (slice_get file.now.segments k) ≡ false) (λ i. IsFirstOf file.now.segments (is_mixed (image_of file.now)) i) }
+    ensures { result ≡ position (is_mixed (image_of file.now)) file.now.segments }
 {
-    first_mixed(file.segments.as_slice(), spans)
+    let segments = file.segments.as_slice();
+    segments.iter().position(|segment| is_mixed(spans, segment))
 }
 
 /// Tests the rule on segments that share a word with data, behind those on code.
@@ -141,7 +127,7 @@ pub fn check_data(file: &ElfFile, spans: &DataSpans) -> Result<(), AdmitError>
     requires passed { (o : Options) → PassesBelow file.now o 10 }
     ensures { MatchResult result (λ _. (o : Options) → PassesBelow file.now o 11) (λ e. (o : Options) → IsRefusedBy file.now o e) }
 {
-    match mixed_segment(file, spans) {
+    match first_mixed(file, spans) {
         Some(number) => Err(AdmitError::DataMixed(number as u64)),
         None => Ok(()),
     }

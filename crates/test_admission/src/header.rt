@@ -1,10 +1,10 @@
 //! The rules on compressed code, dynamic linking and segments that are both written and executed.
-ghost use Rattle.std.specs.Prelude.{◌≡◌, ℕ, ◌<◌, false, length, slice_get, MatchOption, MatchResult};
+ghost use Rattle.std.specs.Prelude.{◌≡◌, position, MatchResult};
 ghost use Rattle.std.specs.List.{list_any};
 ghost use Rattle.qed_model.specs.declared.options.Options.{Options};
 ghost use Rattle.qed_model.specs.Admission.Terms.{is_dynamic};
-ghost use Rattle.qed_model.specs.Admission.Rules.{is_writable_code, passes_at};
-ghost use Rattle.qed_model.specs.Admission.Refusals.{IsFirstOf, IsRefusedBy};
+ghost use Rattle.qed_model.specs.Admission.Rules.{is_writable_code};
+ghost use Rattle.qed_model.specs.Admission.Refusals.{IsRefusedBy};
 ghost use Rattle.test_admission.specs.Order.{PassesBelow};
 
 use elf_types::{ElfFile, Segment};
@@ -26,19 +26,15 @@ fn is_writable_code(segment: &Segment) -> bool
 
 /// The number of the first such segment.
 fn first_writable_code(segments: &[Segment]) -> Option<usize>
-    ensures { MatchOption result ((k : ℕ) → k < length segments.now → passes_at is_writable_code (slice_get segments.now k) ≡ false) (λ i. IsFirstOf segments.now is_writable_code i) }
+    ensures { result ≡ position is_writable_code segments.now }
 {
-    let mut number = 0;
-    for segment in segments {
-        if is_writable_code(segment) {
-            return Some(number);
-        }
-        number += 1;
-    }
-    None
+    segments
+        .iter()
+        .position(|segment| is_writable_code(segment))
 }
 
 /// Tests the first three rules.
+#[tactic(auto, using(crate::proofs::Firsts::none_found))]
 pub fn check_header(file: &ElfFile) -> Result<(), AdmitError>
     ensures { MatchResult result (λ _. (o : Options) → PassesBelow file.now o 4) (λ e. (o : Options) → IsRefusedBy file.now o e) }
 {

@@ -1,11 +1,11 @@
 //! The rules on the entry and on the shape of code.
-ghost use Rattle.std.specs.Prelude.{◌≡◌, ℕ, ◌<◌, false, ◌&&◌, ◌||◌, not, ◌==◌, ◌+◌, length, slice_get, MatchOption, MatchResult, OnOk};
+ghost use Rattle.std.specs.Prelude.{◌≡◌, position, ◌&&◌, ◌||◌, not, ◌==◌, ◌+◌, MatchResult, OnOk};
 ghost use Rattle.qed_model.specs.declared.options.Options.{Options};
 ghost use Rattle.qed_model.specs.Machine.Loading.{load_segments, section_ranges};
 ghost use Rattle.qed_model.specs.Admission.Terms.{is_cut, is_ragged};
 ghost use Rattle.qed_model.specs.Admission.CodeWords.{ranges_of, loads_of};
-ghost use Rattle.qed_model.specs.Admission.Rules.{is_misshapen_section, is_misshapen_segment, is_empty, passes_at};
-ghost use Rattle.qed_model.specs.Admission.Refusals.{IsFirstOf, IsRefusedBy};
+ghost use Rattle.qed_model.specs.Admission.Rules.{is_misshapen_section, is_misshapen_segment, is_empty};
+ghost use Rattle.qed_model.specs.Admission.Refusals.{IsRefusedBy};
 ghost use Rattle.code_ranges.specs.Ranges.{spans};
 ghost use Rattle.test_admission.specs.Order.{PassesBelow};
 ghost use Rattle.test_admission.specs.Shape.{IsShaped, is_ragged_code};
@@ -30,25 +30,15 @@ fn is_misshapen_section(segments: &[Segment], section: &Section) -> bool
             || lies_in_any(section, segments) && is_ragged(section.address, section.size))
 }
 
-/// The number of the first such section of a list.
-fn first_among(segments: &[Segment], sections: &[Section]) -> Option<usize>
-    ensures { MatchOption result ((k : ℕ) → k < length sections.now → passes_at (is_misshapen_section (load_segments segments.now)) (slice_get sections.now k) ≡ false) (λ i. IsFirstOf sections.now (is_misshapen_section (load_segments segments.now)) i) }
-{
-    let mut number = 0;
-    for section in sections {
-        if is_misshapen_section(segments, section) {
-            return Some(number);
-        }
-        number += 1;
-    }
-    None
-}
-
-/// The number of the first section of a file that is misshapen.
+/// The number of the first such section.
 fn first_misshapen_section(file: &ElfFile) -> Option<usize>
-    ensures { MatchOption result ((k : ℕ) → k < length file.now.sections → passes_at (is_misshapen_section (loads_of file.now)) (slice_get file.now.sections k) ≡ false) (λ i. IsFirstOf file.now.sections (is_misshapen_section (loads_of file.now)) i) }
+    ensures { result ≡ position (is_misshapen_section (loads_of file.now)) file.now.sections }
 {
-    first_among(file.segments.as_slice(), file.sections.as_slice())
+    let segments = file.segments.as_slice();
+    let sections = file.sections.as_slice();
+    sections
+        .iter()
+        .position(|section| is_misshapen_section(segments, section))
 }
 
 /// Whether no section is a code range.
@@ -70,30 +60,15 @@ fn is_ragged_segment(segment: &Segment) -> bool
     segment.is_in_image() && segment.is_executable() && is_ragged(segment.address, segment.memory)
 }
 
-/// The number of the first such segment.
-fn first_ragged_segment(segments: &[Segment]) -> Option<usize>
-    ensures { MatchOption result ((k : ℕ) → k < length segments.now → passes_at is_ragged_code (slice_get segments.now k) ≡ false) (λ i. IsFirstOf segments.now is_ragged_code i) }
-{
-    let mut number = 0;
-    for segment in segments {
-        if is_ragged_segment(segment) {
-            return Some(number);
-        }
-        number += 1;
-    }
-    None
-}
-
 /// The number of the first segment that is a ragged code range.
 fn first_misshapen_segment(file: &ElfFile) -> Option<usize>
-    ensures { MatchOption result ((k : ℕ) → k < length file.now.segments → passes_at (is_misshapen_segment file.now) (slice_get file.now.segments k) ≡ false) (λ i. IsFirstOf file.now.segments (is_misshapen_segment file.now) i) }
+    ensures { result ≡ position (is_misshapen_segment file.now) file.now.segments }
 {
     let segments = file.segments.as_slice();
-    if has_no_section(segments, file.sections.as_slice()) {
-        first_ragged_segment(segments)
-    } else {
-        None
-    }
+    let whole = has_no_section(segments, file.sections.as_slice());
+    segments
+        .iter()
+        .position(|segment| whole && is_ragged_segment(segment))
 }
 
 /// Tests the rules on the entry and on the shape of code, behind the first three.

@@ -1,9 +1,7 @@
 -- An instruction of a body, by its class.
 use Rattle.std.proofs.Common.{◌≡◌, refl}
-use Rattle.rv_isa.specs.declared.ins.Ins.{Ins}
-use Rattle.rv_isa.specs.declared.class.Class.{Class}
+use Rattle.qed_model.specs.Machine.Step.{Ins, Class, class_of}
 use Rattle.rv_isa.specs.declared.class.Class.TheVariants as class
-use Rattle.rv_isa.specs.Kind.{class_of}
 use Rattle.weave_core.specs.Blocks.{IsBody, FitsPiece}
 
 -- it computes, loads, stores or is a FENCE

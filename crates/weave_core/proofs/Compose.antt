@@ -5,11 +5,10 @@ use Rattle.qed_model.specs.Weave.Sequences.{guard, guards}
 use Rattle.qed_model.specs.Weave.Costs.{cost_each}
 use Rattle.qed_model.proofs.Walked.{walk_none, walk_on}
 use Rattle.weave_core.specs.World.{Item, World, Quiet as Calm}
-use Rattle.weave_core.specs.Rows.{At, Led}
 use Rattle.weave_core.specs.KindItems.{LockItems}
 use Rattle.weave_core.specs.Pass.{Views, Stands, Chain, NeedsBoth, Does, same, Leads, Quiet, Lockstep, AllLow, AllSame}
 use Rattle.weave_core.specs.Each.{items_each, ForEach, NeedsEach, GivesEach, LeavesEach}
-use Rattle.weave_core.proofs.Rows.{led_none, led_on}
+use Rattle.weave_core.proofs.Rows.{led_none, led_on, At, Led}
 use Rattle.weave_core.proofs.Words.{guard_row}
 use Rattle.weave_core.proofs.KindItems.{items_then, items_none}
 use Rattle.weave_core.proofs.Landing.{land_then, land_behind, straight_lands, straight_none, straight_guards}

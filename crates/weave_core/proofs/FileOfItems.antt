@@ -34,8 +34,7 @@ use Rattle.qed_model.proofs.Among.{source_of}
 use Rattle.qed_model.proofs.CellsAmong.{has_from, has_not, get_among, skip_front, moved_by}
 use Rattle.qed_model.specs.Elf.Sound.{AreLoads}
 use Rattle.qed_model.proofs.Fetches.{IsShapely, code_at, code_range, instruction_code}
-use Rattle.qed_model.proofs.PlacedWords.{size-instructions_from}
-use Rattle.qed_model.proofs.BlocksOnly.{ascend_of, any_first}
+use Rattle.qed_model.proofs.BlocksOnly.{ascend_of, any_first, Ascend}
 use Rattle.weave_core.specs.World.{Item, World, AllBelow}
 use Rattle.weave_core.specs.Describes.{Describes}
 use Rattle.weave_core.specs.Plan.{FilesFit}
@@ -47,8 +46,7 @@ use Rattle.weave_core.proofs.HalvesFit.{halved, AreHalves}
 use Rattle.weave_core.proofs.ImageHalves.{IsImage, loads_place, are_halves}
 use Rattle.weave_core.proofs.FilesFit.{admitted_image, ArePlaced, behind_halves, length-table, behind, loaded_segments, loaded_ranges, files_fit}
 use Rattle.weave_core.proofs.FileBlocks.{IsKnownCode, blocks_good}
-use Rattle.weave_core.proofs.PlacingForm.{mark_place}
-use Rattle.weave_core.proofs.Marks.{Ascend}
+use Rattle.weave_core.proofs.PlacingForm.{mark_place, length-instructions as size-instructions_from}
 use Rattle.weave_core.proofs.TestTable.{AreRows, first_leads, last_leads_of, row_between, table_word_bytes, table_number, loaded_small}
 
 -- ---- the world of two files that fit together

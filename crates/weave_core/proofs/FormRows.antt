@@ -14,7 +14,7 @@ use Rattle.qed_model.specs.Weave.Blocks.{begins_at}
 use Rattle.qed_model.specs.Weave.Sequences.{Form, Reads, End, Falls, Stops, Block, original, each_part, guards, sweep, compare, visit, leave, leave_as}
 use Rattle.qed_model.specs.Weave.Placed.{distance_between, upper_part}
 use Rattle.qed_model.specs.Weave.Bounds.{end_bound, visit_bound}
-use Rattle.qed_model.proofs.Walk.{known_at, run-more, constant_walk, set_reg-pos, run-none}
+use Rattle.qed_model.proofs.Walk.{known_at, run-more, constant_walk, set_reg-pos, run-none, Over}
 use Rattle.qed_model.proofs.BlocksOnly.{run_prefix}
 use Rattle.weave_core.specs.World.{Item, Plain, Ended, World, Twice, IsCursor}
 use Rattle.weave_core.specs.Blocks.{IsEntryOf, FitsPiece, AllFit, Leaves, EndStands}
@@ -44,7 +44,6 @@ use Rattle.weave_core.specs.WeaveForms.{is_signed_at, weave_with, weave_of, Chec
 use Rattle.qed_model.specs.Weave.Costs.{spent, cost_each, used, bare_cost, original_cost}
 use Rattle.weave_core.proofs.Values.{WeaveIn, kept, weave_kept}
 use Rattle.rv_isa.proofs.RegsLaws.{slice_index-set_reg_other, slice_index-set_reg_same}
-use Rattle.qed_model.specs.Machine.Walks.{Over}
 use Rattle.weave_core.proofs.Landings.{landed, weave_landed}
 
 -- ---- the piece, as passes

@@ -13,7 +13,6 @@ use Rattle.qed_model.specs.Weave.Costs.{spent, spent_as, cost_each, used, used_a
 use Rattle.qed_model.proofs.Walk.{run-more, run-none}
 use Rattle.weave_core.specs.World.{Item, Plain, Constant, World, IsCursor, words_on}
 use Rattle.weave_core.specs.Blocks.{IsLowAs, FitsPiece, AllFit}
-use Rattle.weave_core.specs.Rows.{Sourced}
 use Rattle.weave_core.specs.Kinds.{thirteen}
 use Rattle.weave_core.specs.Lock.{ComparesFrom}
 use Rattle.weave_core.specs.WeaveLaws.{Visits}
@@ -21,7 +20,7 @@ use Rattle.weave_core.specs.Pass.{Views, Stands, Leads, Quiet, AllLow, AllSame}
 use Rattle.weave_core.specs.Each.{items_each, ForEach, NeedsEach, GivesEach, LeavesEach}
 use Rattle.weave_core.specs.Parts.{bare, Runs, none, NeedsOriginal, GivesOriginal, LeavesOriginal, GivesMirror, LeavesMirror, NeedsChecks, GivesChecks, LeavesChecks, ForOriginal, NeedsPiece, GivesPiece, LeavesPiece, piece_items, piece_cost, Checks, Pieced}
 use Rattle.weave_core.proofs.Body.{auipc_is, spent_le}
-use Rattle.weave_core.proofs.Source.{body_step, not_trapped_front, EqualBut, equal_on, UsesUnwritten, clean_uses}
+use Rattle.weave_core.proofs.Source.{body_step, not_trapped_front, EqualBut, equal_on, UsesUnwritten, clean_uses, Sourced}
 use Rattle.weave_core.proofs.Visit.{visit_later, checked_behind}
 use Rattle.weave_core.proofs.Compose.{each_same}
 

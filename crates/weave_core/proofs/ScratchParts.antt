@@ -3,8 +3,7 @@ use Rattle.std.proofs.Common.{◌≡◌, ℕ, zero, suc, ◌≤◌, inr, Bool, t
 use Rattle.std.proofs.lemmas.Bool.{and_right, ne_eqb}
 use Rattle.rv_isa.specs.declared.class.Class.TheVariants as class
 use Rattle.qed_model.specs.Machine.Step.{class_of, Ins, target}
-use Rattle.qed_model.specs.declared.item.Item.{Item}
-use Rattle.qed_model.specs.declared.item.Item.TheVariants.{Mark, Plain, Constant, Go}
+use Rattle.weave_core.specs.World.{Item, Mark, Plain, Constant, Go}
 use Rattle.qed_model.specs.Weave.Sequences.{pair, is_auipc, mirrored, mirror_as}
 use Rattle.weave_core.specs.Lock.{Scratch}
 use Rattle.weave_core.specs.Blocks.{IsLowAs, FitsPiece}

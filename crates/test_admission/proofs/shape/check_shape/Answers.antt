@@ -1,9 +1,8 @@
 use Rattle.std.proofs.Common.{◌≡◌, false, true, sym, ◌∙◌, ap}
-use Rattle.elf_types.specs.declared.file.ElfFile.{ElfFile}
 use Rattle.code_ranges.specs.declared.range.CodeRange.{CodeRange}
 use Rattle.std.specs.Prelude.{List, Bool}
 use Rattle.code_ranges.specs.Ranges.{spans}
-use Rattle.qed_model.specs.Admission.Terms.{is_code_address}
+use Rattle.qed_model.specs.Admission.Terms.{is_code_address, ElfFile}
 use Rattle.qed_model.specs.Admission.CodeWords.{ranges_of, is_code}
 use Rattle.test_admission.proofs.ShapeLaws.{refused_entry, refused_section, refused_segment, passes_shape, shaped}
 use Rattle.test_admission.proofs.shape.check_shape.Goals as goal
@@ -18,10 +17,10 @@ pub returns-in-Some-clause-order : goal.returns-in-Some-clause-order
 returns-in-Some-clause-order c = refused_section c.args.file.now c.requires.passed (entry c.args.file.now c.args.ranges.now true _ c.requires.ranges c.is_code_address.ensures c.if-not-is_code_address.false) c.in-Some.number c.in-Some.ensures
 
 pub returns-in-Some-first_misshapen_segment-clause-order : goal.returns-in-Some-first_misshapen_segment-clause-order
-returns-in-Some-first_misshapen_segment-clause-order c = refused_segment c.args.file.now c.requires.passed c.in_default.ensures (entry c.args.file.now c.args.ranges.now true _ c.requires.ranges c.is_code_address.ensures c.if-not-is_code_address.false) c.in-Some-first_misshapen_segment.number c.in-Some-first_misshapen_segment.ensures
+returns-in-Some-first_misshapen_segment-clause-order c = refused_segment c.args.file.now c.requires.passed (entry c.args.file.now c.args.ranges.now true _ c.requires.ranges c.is_code_address.ensures c.if-not-is_code_address.false) c.in_default.ensures c.in-Some-first_misshapen_segment.number c.in-Some-first_misshapen_segment.ensures
 
 pub returns-clause-order : goal.returns-clause-order
-returns-clause-order c = passes_shape c.args.file.now c.requires.passed c.in_default.ensures c.in_default-first_misshapen_segment.ensures (entry c.args.file.now c.args.ranges.now true _ c.requires.ranges c.is_code_address.ensures c.if-not-is_code_address.false)
+returns-clause-order c = passes_shape c.args.file.now c.requires.passed (entry c.args.file.now c.args.ranges.now true _ c.requires.ranges c.is_code_address.ensures c.if-not-is_code_address.false) c.in_default.ensures c.in_default-first_misshapen_segment.ensures
 
 pub returns-clause-shaped : goal.returns-clause-shaped
-returns-clause-shaped c = shaped c.args.file.now c.requires.passed c.in_default.ensures c.in_default-first_misshapen_segment.ensures (entry c.args.file.now c.args.ranges.now true _ c.requires.ranges c.is_code_address.ensures c.if-not-is_code_address.false)
+returns-clause-shaped c = shaped c.args.file.now c.requires.passed (entry c.args.file.now c.args.ranges.now true _ c.requires.ranges c.is_code_address.ensures c.if-not-is_code_address.false) c.in_default.ensures c.in_default-first_misshapen_segment.ensures
