@@ -91,10 +91,7 @@ fn put(words: &mut Vec<u32>, ins: &Ins)
     ensures len { vec_len words.new ≡ vec_len words.old + 1 }
     ensures capacity { vec_capacity words.old ≤ vec_capacity words.new }
 {
-    match words.push(word(ins)) {
-        Ok(()) => {}
-        Err(_) => unreachable!(),
-    }
+    words.push_reserved(word(ins));
 }
 
 /// Appends the words of two instructions. There is room for them.
@@ -114,7 +111,6 @@ fn put_two(words: &mut Vec<u32>, pair: (Ins, Ins))
 }
 
 /// Appends the words of an item that stands at an address, and tells how many bytes they take. There is room for them.
-#[inline(always)]
 fn put_item(
     words: &mut Vec<u32>,
     rows: &[EntryRow],
@@ -160,7 +156,8 @@ fn put_item(
     }
 }
 
-/// Appends the words of items that stand from `base` on, and tells where they end. There is room for them.
+/// Appends the words of items that stand from `base` on, and tells where they end. There is room for them. Most items are plain:
+/// their words are made in the loop, with no call.
 pub(crate) fn put_items(
     words: &mut Vec<u32>,
     rows: &[EntryRow],
@@ -182,7 +179,13 @@ pub(crate) fn put_items(
 {
     let mut at = base;
     for item in items {
-        at += put_item(words, rows, far, last, item, at);
+        at += match item {
+            Item::Plain(ins) => {
+                put(words, ins);
+                4
+            }
+            _ => put_item(words, rows, far, last, item, at),
+        };
     }
     at
 }
