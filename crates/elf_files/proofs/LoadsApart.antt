@@ -3,8 +3,6 @@ use Rattle.std.proofs.Common.{◌≡◌, ◌⊎◌, ℕ, zero, suc, ◌+◌, ◌
 use Rattle.std.specs.Prelude.{All, slice_get}
 use Rattle.std.proofs.lemmas.Bool.{eqb-true, false≢true, cases_lt}
 use Rattle.std.proofs.lemmas.Bool.Decides.{nat_tests}
-use Rattle.elf_types.specs.declared.file.ElfFile.{ElfFile}
-use Rattle.elf_types.specs.declared.file.Segment.{Segment}
 use Rattle.elf_types.specs.declared.records.ProgramHeader.{ProgramHeader}
 use Rattle.elf_files.specs.Header.{e_phnum}
 use Rattle.elf_files.specs.Fields.{program_header}
@@ -12,7 +10,7 @@ use Rattle.elf_files.specs.Rules.{is_misshapen, do_overlap}
 use Rattle.elf_files.specs.File.{File, segment_of}
 use Rattle.qed_model.specs.Below.{each}
 use Rattle.qed_model.specs.Machine.Program.{LoadSegment}
-use Rattle.qed_model.specs.Machine.Loading.{load_segment, load_segments}
+use Rattle.qed_model.specs.Machine.Loading.{load_segment, load_segments, ElfFile, Segment}
 use Rattle.qed_model.specs.Machine.Apart.{FitsMemory, AllFitMemory, share, Overlaps, AreApart}
 use Rattle.qed_model.specs.Members.{Among, Every, Pairs}
 use Rattle.qed_model.specs.Elf.Sound.{ApartLoads, Apart}

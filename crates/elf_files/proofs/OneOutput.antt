@@ -1,14 +1,12 @@
 -- What is woven from a test is one file.
 use Rattle.std.proofs.Common.{◌≡◌, ℕ, suc, ◌^◌, ◌<◌, List, [], ◌∷◌, Some, refl, sym, ap, ◌∙◌, subst}
 use Rattle.std.specs.Prelude.{slice_index}
-use Rattle.rv_isa.specs.declared.ins.Ins.{Ins}
-use Rattle.elf_types.specs.declared.file.ElfFile.{ElfFile}
 use Rattle.elf_types.specs.declared.output.OutFile.{OutFile}
 use Rattle.qed_model.specs.declared.options.Options.{Options}
-use Rattle.qed_model.specs.Machine.Table.{decode_of}
+use Rattle.qed_model.specs.Machine.Table.{decode_of, Ins}
 use Rattle.qed_model.specs.Weave.Placed.{Decode, placed}
 use Rattle.qed_model.specs.Elf.Layout.{written}
-use Rattle.qed_model.specs.Weave.Places.{image_of, code_place}
+use Rattle.qed_model.specs.Weave.Places.{image_of, code_place, ElfFile}
 use Rattle.qed_model.specs.Weave.Blocks.{AreBlocks}
 use Rattle.qed_model.specs.Weave.Woven.{NewCode, new_code, IsCodeFor, file_with}
 use Rattle.elf_files.specs.Output.{Woven, WovenFile}

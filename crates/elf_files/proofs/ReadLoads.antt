@@ -1,10 +1,9 @@
 -- The PT_LOAD segments of a file that was read: they fit into memory, no two share a byte, and their bytes are bytes.
 use Rattle.std.proofs.Common.{◌≡◌, ℕ, ◌<◌, List, sym, ap, subst}
 use Rattle.std.specs.Prelude.{slice_index}
-use Rattle.elf_types.specs.declared.file.ElfFile.{ElfFile}
 use Rattle.elf_files.specs.File.{File}
 use Rattle.qed_model.specs.Machine.Program.{LoadSegment}
-use Rattle.qed_model.specs.Machine.Loading.{load_segments}
+use Rattle.qed_model.specs.Machine.Loading.{load_segments, ElfFile}
 use Rattle.qed_model.specs.Elf.Sound.{AreBytes, AreLoads, IsSound}
 use Rattle.qed_model.proofs.Among.{all_among}
 use Rattle.qed_model.proofs.ApartLaws.{alone, fit_among}

@@ -1,12 +1,11 @@
 -- The output of an input: the bytes of both, and the file between them.
 use Rattle.std.specs.Prelude.{◌≡◌, ℕ, List}
-use Rattle.elf_types.specs.declared.file.ElfFile.{ElfFile}
 use Rattle.elf_types.specs.declared.output.OutFile.{OutFile}
 use Rattle.qed_model.specs.declared.options.Options.{Options}
 use Rattle.qed_model.specs.Weave.Sequences.{Block}
 use Rattle.qed_model.specs.Elf.Layout.{written}
 use Rattle.qed_model.specs.Admission.Refusals.{IsAdmitted}
-use Rattle.qed_model.specs.Weave.Blocks.{AreBlocks}
+use Rattle.qed_model.specs.Weave.Blocks.{AreBlocks, ElfFile}
 use Rattle.qed_model.specs.Weave.Woven.{new_code, IsCodeFor, file_with}
 use Rattle.elf_files.specs.File.{File}
 

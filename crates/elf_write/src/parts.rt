@@ -10,26 +10,13 @@ ghost use Rattle.elf_write.specs.Places.{ArePlaces, EndsWithin};
 
 use crate::layout::{Places, TABLE_NAMES_SIZE};
 use crate::numbers::push_zeros;
-use crate::records::{push_header, push_section_header};
+use crate::records::{NULL, push_header, push_section_header};
 use crate::sections::{push_given_headers, push_own_bytes, push_section_names};
 use crate::segments::{push_program_headers, push_segments};
 use crate::symbols::{first_global, push_name, push_symbol_names, push_symbol_table};
-use elf_types::abi::{SHT_NULL, SHT_STRTAB, SHT_SYMTAB, SYM_SIZE};
+use elf_types::abi::{SHT_STRTAB, SHT_SYMTAB, SYM_SIZE};
 use elf_types::{OutFile, SectionHeader};
 use std::alloc::AllocError;
-
-/// The header of the null section.
-const NULL: SectionHeader = SectionHeader {
-    name: 0,
-    kind: SHT_NULL,
-    flags: 0,
-    addr: 0,
-    offset: 0,
-    size: 0,
-    link: 0,
-    info: 0,
-    entsize: 0,
-};
 
 /// Appends the header, the program headers and the bytes of the segments.
 pub fn push_front(out: &mut Vec<u8>, file: &OutFile, places: &Places) -> Result<(), AllocError>
@@ -154,13 +141,9 @@ fn table_header(name: u32, kind: u32, from: u128, to: u128) -> SectionHeader
     SectionHeader {
         name,
         kind,
-        flags: 0,
-        addr: 0,
         offset: from as u64,
         size: (to - from) as u64,
-        link: 0,
-        info: 0,
-        entsize: 0,
+        ..NULL
     }
 }
 

@@ -17,6 +17,19 @@ use std::alloc::AllocError;
 /// The alignment of segments, in bytes.
 pub const PAGE: u64 = 4096;
 
+/// The header of the null section.
+pub const NULL: SectionHeader = SectionHeader {
+    name: 0,
+    kind: SHT_NULL,
+    flags: 0,
+    addr: 0,
+    offset: 0,
+    size: 0,
+    link: 0,
+    info: 0,
+    entsize: 0,
+};
+
 /// Appends the header of a file with so many program headers and given sections, whose section headers stand at an
 /// offset.
 pub fn push_header(

@@ -8,7 +8,7 @@ ghost use Rattle.qed_model.specs.Elf.Written.{end_from};
 ghost use Rattle.qed_model.specs.Elf.Layout.{names_bytes, own_bytes, is_inside as lies_inside, offset_in as offset_inside, header_bytes, header_with, headers_bytes, headers_from};
 ghost use Rattle.elf_write.specs.Widths.{SectionFits};
 
-use crate::records::push_section_header;
+use crate::records::{NULL, push_section_header};
 use crate::segments::offset_from;
 use crate::symbols::push_name;
 use elf_types::abi::SHT_PROGBITS;
@@ -110,9 +110,7 @@ fn push_given_header(
             addr,
             offset,
             size,
-            link: 0,
-            info: 0,
-            entsize: 0,
+            ..NULL
         },
     )
 }

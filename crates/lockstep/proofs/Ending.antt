@@ -3,11 +3,9 @@ use Rattle.std.proofs.Common.{◌≡◌, ℕ, zero, suc, ◌+◌, ◌-◌, ◌%�
 use Rattle.std.specs.Prelude.{pos}
 use Rattle.std.proofs.lemmas.Bool.{cases_lt}
 use Rattle.qed_model.specs.Admission.DataRanges.{word_count}
-use Rattle.qed_model.specs.Machine.Program.{Program, start}
-use Rattle.qed_model.specs.Machine.Step.{State, Fetched, reg, place, run}
 use Rattle.qed_model.specs.Promise.Kept.{after_output}
 use Rattle.qed_model.proofs.Walk.{run-more}
-use Rattle.weave_core.specs.World.{World, words_on, Going, Ended}
+use Rattle.weave_core.specs.World.{World, words_on, Going, Ended, Program, start, State, Fetched, reg, place, run}
 use Rattle.weave_core.specs.Kinds.{thirteen}
 use Rattle.weave_core.specs.Lock.{first_load, ComparesFrom}
 use Rattle.weave_core.specs.WeaveLaws.{Visits, Swept}

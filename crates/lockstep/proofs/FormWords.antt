@@ -12,10 +12,9 @@ use Rattle.weave_core.proofs.Landing.{land_enter, land_end, land_prologue}
 use Rattle.lockstep.specs.Promise.{IsBoundsOf, PlanCaught, PlanClean}
 use Rattle.weave_core.specs.Weave.{stage_steps}
 use Rattle.weave_core.specs.WeaveLaws.{Words}
-use Rattle.qed_model.specs.Machine.Program.{Program}
 use Rattle.qed_model.specs.declared.bounds.Bounds.{Bounds}
 use Rattle.qed_model.specs.Promise.Caught.{Caught}
-use Rattle.weave_core.specs.World.{World, Item}
+use Rattle.weave_core.specs.World.{World, Item, Program}
 use Rattle.weave_core.specs.Rows.{Mirrors}
 use Rattle.weave_core.specs.WeavePromise.{PlanOf, OnlyCode, BoundsOf}
 use Rattle.weave_core.specs.WeaveForms.{weave_with, weave_of, ChecksLaws}

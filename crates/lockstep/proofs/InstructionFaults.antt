@@ -6,18 +6,14 @@ use Rattle.qed_model.specs.declared.bounds.Bounds.{Bounds}
 use Rattle.qed_model.specs.declared.change.Change.{Change}
 use Rattle.qed_model.specs.declared.change.Place.TheVariants.{Reg, Word}
 use Rattle.qed_model.specs.Admission.DataRanges.{word_count}
-use Rattle.qed_model.specs.Machine.Memory.{put, number}
-use Rattle.qed_model.specs.Machine.Program.{Program, start, AreStartRegs}
-use Rattle.qed_model.specs.Machine.Step.{State, reg, moved, stored, next_pc, place, Known, next, step, run, Ins, Kind, Lb, set_reg}
 use Rattle.qed_model.specs.Machine.Struck.{struck}
-use Rattle.qed_model.specs.Machine.Values.{width_of}
 use Rattle.qed_model.specs.Promise.Caught.{Caught}
 use Rattle.qed_model.specs.Promise.Changed.{changed_run, IsDataWord}
 use Rattle.qed_model.specs.Promise.Closed.{IsOpen}
 use Rattle.qed_model.specs.Promise.Kept.{Steady}
 use Rattle.qed_model.specs.Weave.Blocks.{begins_at}
 use Rattle.qed_model.specs.Weave.Bounds.{word_bound}
-use Rattle.qed_model.specs.Weave.Sequences.{Block}
+use Rattle.qed_model.specs.Weave.Sequences.{Block, Ins}
 use Rattle.qed_model.proofs.Walk.{run-last}
 use Rattle.qed_model.proofs.Changes.{struck_outcome}
 use Rattle.weave_core.specs.Lock.{span_bytes, Opens, HasKind, Undisturbed}
@@ -25,7 +21,7 @@ use Rattle.weave_core.specs.WeavePromise.{PlanOf, BoundsOf}
 use Rattle.weave_core.specs.WeaveForms.{weave_of}
 use Rattle.weave_core.specs.Rows.{Mirrors}
 use Rattle.weave_core.specs.Weave.{start_steps, stage_steps}
-use Rattle.weave_core.specs.World.{World, Going}
+use Rattle.weave_core.specs.World.{World, Going, put, number, Program, start, AreStartRegs, State, reg, moved, stored, next_pc, place, Known, next, step, run, Kind, Lb, set_reg, width_of}
 use Rattle.weave_core.proofs.FormMirrors.{mirrors_of}
 use Rattle.weave_core.proofs.FormRows.{form_rows, form_starts}
 use Rattle.weave_core.proofs.Sized.{width_le}

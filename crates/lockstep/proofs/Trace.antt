@@ -1,12 +1,10 @@
 -- The trace: boundaries of pieces, and what lies between two of them.
 use Rattle.std.specs.Prelude.{List, ◌≡◌, ℕ, zero, suc, ◌+◌, ◌<◌, ◌≤◌, ◌⊎◌, cond, ◌==◌, ℤ}
-use Rattle.qed_model.specs.Machine.Step.{State, place, Fetched, Known, run}
-use Rattle.qed_model.specs.Machine.Program.{Program, start as from_regs}
 use Rattle.qed_model.specs.Promise.Kept.{after_output}
 use Rattle.qed_model.specs.Promise.Changed.{IsDataWord}
 use Rattle.weave_core.specs.Kinds.{thirteen}
 use Rattle.weave_core.specs.Lock.{visit_load, ComparesFrom}
-use Rattle.weave_core.specs.World.{World, Going, Ended}
+use Rattle.weave_core.specs.World.{World, Going, Ended, State, place, Fetched, Known, run, Program, start as from_regs}
 use Rattle.lockstep.specs.Settling.{AtCompare}
 
 -- the place of the cursor in a round of so many words, one word on

@@ -7,11 +7,8 @@ use Rattle.rv_isa.specs.declared.class.Class.TheVariants as class
 use Rattle.qed_model.specs.declared.change.Change.{Change}
 use Rattle.qed_model.specs.declared.change.Place.TheVariants.{Reg}
 use Rattle.qed_model.specs.declared.machine.Cause.TheVariants as cause
-use Rattle.qed_model.specs.declared.machine.Outcome.TheVariants.{Going, Ended, Fired}
-use Rattle.qed_model.specs.Machine.Memory.{put, number, grants}
-use Rattle.qed_model.specs.Machine.Step.{State, reg, moved, stored, trapped, next_pc, place, result, execute, Fetched, Known, fetched_at, next, step, run, Ins, Class, class_of, set_reg}
+use Rattle.weave_core.specs.World.{Going, Ended, Fired, put, number, grants, State, reg, moved, stored, trapped, next_pc, place, result, execute, Fetched, Known, fetched_at, next, step, run, Ins, Class, class_of, set_reg, width_of, loaded}
 use Rattle.qed_model.specs.Machine.Struck.{struck}
-use Rattle.qed_model.specs.Machine.Values.{width_of, loaded}
 use Rattle.qed_model.specs.Promise.Changed.{changed, changed_as, with_changes, changed_run}
 use Rattle.qed_model.specs.Promise.Caught.{Same, Settles}
 use Rattle.qed_model.specs.Promise.Closed.{IsOpen, closed_at}

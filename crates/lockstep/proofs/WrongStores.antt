@@ -4,10 +4,8 @@ use Rattle.std.specs.Option.{option_map}
 use Rattle.std.proofs.Math.Nat.{div-div-eq-div-mul, mul_comm, pow-suc}
 use Rattle.std.proofs.lemmas.Bool.{cases_lt, lt-ltb}
 use Rattle.qed_model.specs.declared.change.Place.TheVariants.{Word}
-use Rattle.qed_model.specs.Machine.Memory.{Memory, Cell, put, offset, wrap, byte_of, byte_in, byte_at, number, flags_at, with_byte, get}
-use Rattle.qed_model.specs.Machine.Step.{State, stored, next_pc, place, Ins}
+use Rattle.weave_core.specs.World.{Memory, Cell, put, offset, wrap, byte_of, byte_in, byte_at, number, flags_at, with_byte, get, State, stored, next_pc, place, Ins, width_of}
 use Rattle.qed_model.specs.Machine.Struck.{struck}
-use Rattle.qed_model.specs.Machine.Values.{width_of}
 use Rattle.qed_model.proofs.MemoryLaws.{get-put, get-put_outside, same_memory, wrap_offset}
 use Rattle.qed_model.proofs.Steps.{flags-put}
 use Rattle.lockstep.specs.InstructionFaults.{word_around, StoresAny, stores, leaves}

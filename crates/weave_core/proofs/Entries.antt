@@ -3,13 +3,10 @@ use Rattle.std.proofs.Common.{◌≡◌, ℕ, ◌+◌, ◌<◌, ⊎_elim, Bool, 
 use Rattle.std.specs.Prelude.{◌==◌}
 use Rattle.std.proofs.lemmas.Bool.{eqb-true, false≢true, or_cases}
 use Rattle.std.proofs.lemmas.List.{append_assoc, length-set}
-use Rattle.qed_model.specs.Machine.Memory.{get, Memory, Cell, flags_at, byte_at, byte_in}
-use Rattle.qed_model.specs.Machine.Step.{Fetched}
-use Rattle.qed_model.specs.Machine.Program.{Program, start, zeros}
 use Rattle.qed_model.specs.Weave.Placed.{go_size, instructions_from, go_words}
 use Rattle.qed_model.specs.Weave.Blocks.{begins_at}
 use Rattle.qed_model.specs.Weave.Sequences.{Reads, Block, stub}
-use Rattle.weave_core.specs.World.{Item, Mark, Plain, Constant, Go, World}
+use Rattle.weave_core.specs.World.{Item, Mark, Plain, Constant, Go, World, get, Memory, Cell, flags_at, byte_at, byte_in, Fetched, Program, start, zeros}
 use Rattle.weave_core.specs.Rows.{Sourced}
 use Rattle.weave_core.specs.Describes.{Describes}
 use Rattle.weave_core.specs.Weave.{Weave}

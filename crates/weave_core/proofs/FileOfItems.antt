@@ -6,15 +6,11 @@ use Rattle.std.specs.Prelude.{◌==◌, ◌&&◌, nat_le, All, slice_index, unwr
 use Rattle.std.proofs.lemmas.List.{length-map}
 use Rattle.std.proofs.lemmas.List.Elements.{All-head, All-tail}
 use Rattle.qed_model.specs.Machine.Table.{Lw, Ins, decode_of}
-use Rattle.qed_model.specs.Machine.Memory.{get, Memory, grants, number, allows, byte_in, byte_at, wrap}
-use Rattle.qed_model.specs.Machine.Step.{in_range, Fetched, Refused, Known, known_or, fetched_at, HasAt}
-use Rattle.qed_model.specs.Machine.Program.{Program, memory_of, LoadSegment}
 use Rattle.qed_model.specs.declared.options.Options.{Options}
 use Rattle.qed_model.specs.Weave.Sequences.{Form, Reads, Block}
 use Rattle.qed_model.proofs.Steps.{fetched_aligned}
 use Rattle.qed_model.specs.declared.plan.EntryRow.{EntryRow}
 use Rattle.qed_model.specs.Numbers.{number_bytes, words_of, bytes_of}
-use Rattle.qed_model.specs.Machine.Values.{loaded}
 use Rattle.qed_model.specs.Admission.Reached.{AreReached}
 use Rattle.qed_model.specs.Machine.Loading.{load_segment, load_segments, loaded_file}
 use Rattle.qed_model.specs.Elf.FileRead.{file_read}
@@ -35,7 +31,7 @@ use Rattle.qed_model.proofs.CellsAmong.{has_from, has_not, get_among, skip_front
 use Rattle.qed_model.specs.Elf.Sound.{AreLoads}
 use Rattle.qed_model.proofs.Fetches.{IsShapely, code_at, code_range, instruction_code}
 use Rattle.qed_model.proofs.BlocksOnly.{ascend_of, any_first, Ascend}
-use Rattle.weave_core.specs.World.{Item, World, AllBelow}
+use Rattle.weave_core.specs.World.{Item, World, AllBelow, get, Memory, grants, number, allows, byte_in, byte_at, wrap, in_range, Fetched, Refused, Known, known_or, fetched_at, HasAt, Program, memory_of, LoadSegment, loaded}
 use Rattle.weave_core.specs.Describes.{Describes}
 use Rattle.weave_core.specs.Plan.{FilesFit}
 use Rattle.weave_core.specs.Blocks.{TableAt}

@@ -5,18 +5,15 @@ use Rattle.std.proofs.lemmas.Bool.{false≢true, and_parts, and_from, leb-true, 
 use Rattle.std.proofs.lemmas.List.{append-nil, take-append-drop, length-take-le}
 use Rattle.std.proofs.Math.Nat.{mul-le-mul, mul-le-mul_left}
 use Rattle.rv_isa.specs.declared.class.Class.TheVariants as class
-use Rattle.qed_model.specs.Machine.Values.{holds}
-use Rattle.qed_model.specs.Machine.Step.{Beq, Auipc, Ins, ins, set_reg, class_of, Class, State, reg, moved, stopped, Known, HasAt, step, run, jumped, imm, next_pc}
-use Rattle.qed_model.specs.Machine.Program.{Program}
 use Rattle.qed_model.specs.Promise.Kept.{NotTrapped, LeadsToReached, IsSteady, Kept}
 use Rattle.qed_model.specs.Weave.Pieces.{is_run}
 use Rattle.qed_model.specs.Weave.Blocks.{begins_at}
-use Rattle.qed_model.specs.Weave.Sequences.{Form, Reads, End, Falls, Stops, Block, original, each_part, guards, sweep, compare, visit, leave, leave_as}
+use Rattle.qed_model.specs.Weave.Sequences.{Form, Reads, End, Falls, Stops, Block, original, each_part, guards, sweep, compare, visit, leave, leave_as, Ins, class_of, Class}
 use Rattle.qed_model.specs.Weave.Placed.{distance_between, upper_part}
 use Rattle.qed_model.specs.Weave.Bounds.{end_bound, visit_bound}
 use Rattle.qed_model.proofs.Walk.{known_at, run-more, constant_walk, set_reg-pos, run-none, Over}
 use Rattle.qed_model.proofs.BlocksOnly.{run_prefix}
-use Rattle.weave_core.specs.World.{Item, Plain, Ended, World, Twice, IsCursor}
+use Rattle.weave_core.specs.World.{Item, Plain, Ended, World, Twice, IsCursor, holds, Beq, Auipc, ins, set_reg, State, reg, moved, stopped, Known, HasAt, step, run, jumped, imm, next_pc, Program}
 use Rattle.weave_core.specs.Blocks.{IsEntryOf, FitsPiece, AllFit, Leaves, EndStands}
 use Rattle.weave_core.specs.Rows.{At, Sourced, Mirrors}
 use Rattle.weave_core.specs.KindItems.{MirrorsFit}

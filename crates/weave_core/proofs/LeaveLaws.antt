@@ -2,14 +2,12 @@
 use Rattle.std.proofs.Common.{◌≡◌, ℕ, ◌+◌, ◌%◌, ◌^◌, ◌<◌, ◌≤◌, inr, ⊎_elim, Bool, true, false, List, [], ◌∷◌, ◌++◌, length, refl, sym, ap, ◌∙◌, subst, arith, append_assoc}
 use Rattle.rv_isa.specs.declared.class.Class.TheVariants as class
 use Rattle.rv_isa.proofs.RegsLaws.{slice_index-set_reg_other}
-use Rattle.qed_model.specs.Machine.Step.{set_reg, class_of, Class, Ins, State, reg, moved, stopped, Known, step, target}
-use Rattle.qed_model.specs.Machine.Values.{holds}
 use Rattle.qed_model.specs.Admission.DataRanges.{word_count}
 use Rattle.qed_model.specs.Weave.Bounds.{end_bound}
-use Rattle.qed_model.specs.Weave.Sequences.{enter, go_on, sweep, compare}
+use Rattle.qed_model.specs.Weave.Sequences.{enter, go_on, sweep, compare, class_of, Class, Ins}
 use Rattle.qed_model.proofs.Walk.{over_moved, known_at}
 use Rattle.qed_model.proofs.Walked.{Walk, walk_none, walk_on}
-use Rattle.weave_core.specs.World.{Item, Plain, Go, Ended, World, Quiet as Calm, Twice}
+use Rattle.weave_core.specs.World.{Item, Plain, Go, Ended, World, Quiet as Calm, Twice, set_reg, State, reg, moved, stopped, Known, step, target, holds}
 use Rattle.weave_core.specs.Blocks.{IsEntryOf, Goes}
 use Rattle.weave_core.specs.Rows.{At, Sourced, Led}
 use Rattle.weave_core.specs.Pass.{Views, Leads, Quiet, Does, same}

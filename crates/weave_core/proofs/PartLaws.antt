@@ -1,14 +1,13 @@
 -- The parts of a piece lead on: the laws of their passes.
 use Rattle.std.proofs.Common.{◌≡◌, ℕ, ◌*◌, inl, ⊎_elim, Bool, true, false, cond, List, [], ◌∷◌, ◌++◌, length, refl, sym, subst, arith}
 use Rattle.rv_isa.specs.declared.class.Class.TheVariants as class
-use Rattle.qed_model.specs.Machine.Step.{class_of, Class, Ins, State, reg, Known, step, target}
 use Rattle.qed_model.specs.Promise.Kept.{NotTrapped}
 use Rattle.qed_model.specs.Admission.DataRanges.{word_count}
 use Rattle.qed_model.specs.Weave.Bounds.{visit_bound}
-use Rattle.qed_model.specs.Weave.Sequences.{is_auipc, mirrored, compare, visit}
+use Rattle.qed_model.specs.Weave.Sequences.{is_auipc, mirrored, compare, visit, class_of, Class, Ins}
 use Rattle.qed_model.specs.Weave.Costs.{used, bare_cost}
 use Rattle.qed_model.proofs.Walk.{known_at}
-use Rattle.weave_core.specs.World.{Item, Plain, Constant, World, IsCursor}
+use Rattle.weave_core.specs.World.{Item, Plain, Constant, World, IsCursor, State, reg, Known, step, target}
 use Rattle.weave_core.specs.Blocks.{IsBody, IsLowAs, FitsPiece}
 use Rattle.weave_core.specs.Rows.{At, Led, Sourced}
 use Rattle.weave_core.specs.Pass.{Views, Does, same, Leads, Quiet, Lockstep}

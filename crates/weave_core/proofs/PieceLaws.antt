@@ -5,13 +5,12 @@ use Rattle.std.specs.Prelude.{◌==◌}
 use Rattle.std.proofs.lemmas.Bool.{and_parts}
 use Rattle.std.proofs.lemmas.List.{append-nil}
 use Rattle.rv_isa.specs.declared.class.Class.TheVariants as class
-use Rattle.qed_model.specs.Machine.Step.{class_of, Class, Ins, State, reg, Known, step, run, HasAt, target}
 use Rattle.qed_model.specs.Promise.Kept.{NotTrapped}
 use Rattle.qed_model.specs.Weave.Pieces.{is_clean, and_written, is_run, is_run_after}
-use Rattle.qed_model.specs.Weave.Sequences.{guard, guards, is_auipc, original, original_as, each_part}
+use Rattle.qed_model.specs.Weave.Sequences.{guard, guards, is_auipc, original, original_as, each_part, class_of, Class, Ins}
 use Rattle.qed_model.specs.Weave.Costs.{spent, spent_as, cost_each, used, used_as, original_cost}
 use Rattle.qed_model.proofs.Walk.{run-more, run-none}
-use Rattle.weave_core.specs.World.{Item, Plain, Constant, World, IsCursor, words_on}
+use Rattle.weave_core.specs.World.{Item, Plain, Constant, World, IsCursor, words_on, State, reg, Known, step, run, HasAt, target}
 use Rattle.weave_core.specs.Blocks.{IsLowAs, FitsPiece, AllFit}
 use Rattle.weave_core.specs.Kinds.{thirteen}
 use Rattle.weave_core.specs.Lock.{ComparesFrom}

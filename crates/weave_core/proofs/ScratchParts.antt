@@ -2,8 +2,7 @@
 use Rattle.std.proofs.Common.{◌≡◌, ℕ, zero, suc, ◌≤◌, inr, Bool, true, false, cond, List, [], ◌∷◌, refl, subst, arith}
 use Rattle.std.proofs.lemmas.Bool.{and_right, ne_eqb}
 use Rattle.rv_isa.specs.declared.class.Class.TheVariants as class
-use Rattle.qed_model.specs.Machine.Step.{class_of, Ins, target}
-use Rattle.weave_core.specs.World.{Item, Mark, Plain, Constant, Go}
+use Rattle.weave_core.specs.World.{Item, Mark, Plain, Constant, Go, class_of, Ins, target}
 use Rattle.qed_model.specs.Weave.Sequences.{pair, is_auipc, mirrored, mirror_as}
 use Rattle.weave_core.specs.Lock.{Scratch}
 use Rattle.weave_core.specs.Blocks.{IsLowAs, FitsPiece}

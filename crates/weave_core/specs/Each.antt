@@ -1,7 +1,6 @@
 -- A pass over each of some instructions, which stand one behind the other.
 use Rattle.std.specs.Prelude.{◌≡◌, ℕ, ◌⊎◌, List, [], ◌∷◌, ◌++◌}
-use Rattle.rv_isa.specs.declared.ins.Ins.{Ins}
-use Rattle.weave_core.specs.World.{World, Item}
+use Rattle.weave_core.specs.World.{World, Item, Ins}
 use Rattle.weave_core.specs.Pass.{Views, Chain, NeedsBoth}
 
 -- `next` is where the instruction behind the one at an address stands

@@ -2,11 +2,10 @@
 use Rattle.std.specs.Prelude.{◌≡◌, ℕ, ◌+◌, ◌*◌, ◌%◌, ◌^◌, ◌<◌, ◌≤◌, Bool, true, false, List, [], ◌∷◌, ◌++◌, length}
 use Rattle.rv_isa.specs.Ins.{nop}
 use Rattle.rv_isa.specs.declared.class.Class.TheVariants as class
-use Rattle.qed_model.specs.Machine.Step.{class_of, Class, Ins, State, reg, Known, step}
 use Rattle.qed_model.specs.Promise.Kept.{NotTrapped, LeadsToReached}
 use Rattle.qed_model.specs.Admission.DataRanges.{word_count}
-use Rattle.qed_model.specs.Weave.Sequences.{Form, leave_as, go_on, mirrored, sweep, compare}
-use Rattle.weave_core.specs.World.{Item, Plain, Ended, World, Twice}
+use Rattle.qed_model.specs.Weave.Sequences.{Form, leave_as, go_on, mirrored, sweep, compare, class_of, Class, Ins}
+use Rattle.weave_core.specs.World.{Item, Plain, Ended, World, Twice, State, reg, Known, step}
 use Rattle.weave_core.specs.Rows.{Sourced}
 use Rattle.weave_core.specs.Blocks.{IsEntryOf, Goes, Leaves}
 use Rattle.weave_core.specs.Pass.{Views}

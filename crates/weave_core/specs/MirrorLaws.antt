@@ -2,12 +2,11 @@
 -- and of other kinds, with at most 8.
 use Rattle.std.specs.Prelude.{◌≡◌, ℕ, Bool, List}
 use Rattle.qed_model.specs.Promise.Kept.{Kept}
-use Rattle.qed_model.specs.Machine.Program.{Program}
 use Rattle.qed_model.specs.Weave.Bounds.{cost_of}
 use Rattle.qed_model.specs.Weave.Sequences.{Block}
 use Rattle.qed_model.specs.Weave.Diverse.{diverse}
 use Rattle.qed_model.specs.Weave.Forms.{mirror_of}
-use Rattle.weave_core.specs.World.{World}
+use Rattle.weave_core.specs.World.{World, Program}
 use Rattle.weave_core.specs.Rows.{Mirrors}
 use Rattle.weave_core.specs.KindItems.{MirrorsFit}
 use Rattle.weave_core.specs.Promise.{piece_of, start_of}

@@ -1,13 +1,12 @@
 -- The parts of a piece, as passes: what each needs and gives.
 use Rattle.std.specs.Prelude.{◌≡◌, ℕ, ◌+◌, ◌*◌, ◌<◌, ◌≤◌, ◌⊎◌, cond, Bool, true, List, [], ◌∷◌, ◌++◌, length}
-use Rattle.qed_model.specs.Machine.Step.{Ins, State, reg, Known, HasAt, step, run, target}
 use Rattle.qed_model.specs.Promise.Kept.{NotTrapped}
 use Rattle.qed_model.specs.Admission.DataRanges.{word_count}
 use Rattle.qed_model.specs.Weave.Bounds.{visit_bound}
 use Rattle.qed_model.specs.Weave.Costs.{used, original_cost, cost_each}
 use Rattle.qed_model.specs.Weave.Pieces.{is_run}
-use Rattle.qed_model.specs.Weave.Sequences.{guards, is_auipc}
-use Rattle.weave_core.specs.World.{Item, Plain, Constant, World, IsCursor, words_on}
+use Rattle.qed_model.specs.Weave.Sequences.{guards, is_auipc, Ins}
+use Rattle.weave_core.specs.World.{Item, Plain, Constant, World, IsCursor, words_on, State, reg, Known, HasAt, step, run, target}
 use Rattle.weave_core.specs.Blocks.{FitsPiece, AllFit}
 use Rattle.weave_core.specs.Rows.{Sourced}
 use Rattle.weave_core.specs.Kinds.{thirteen}

@@ -1,9 +1,8 @@
 -- The laws of a pass: over its items, what it needs, and where it leads.
 use Rattle.std.specs.Prelude.{◌≡◌, ℕ, ◌+◌, ◌≤◌, ◌⊎◌, Bool, List, [], ◌∷◌, ◌++◌}
-use Rattle.qed_model.specs.Machine.Step.{State, reg, run}
 use Rattle.qed_model.specs.Machine.Walks.{Walk}
 use Rattle.qed_model.specs.Weave.Sequences.{guards}
-use Rattle.weave_core.specs.World.{Item, World, Quiet as Calm}
+use Rattle.weave_core.specs.World.{Item, World, Quiet as Calm, State, reg, run}
 use Rattle.weave_core.specs.Rows.{At}
 use Rattle.weave_core.specs.KindItems.{LockItems, LandItems}
 

@@ -6,8 +6,7 @@ use Rattle.qed_model.specs.Weave.Bounds.{visit_bound, end_bound}
 use Rattle.qed_model.specs.Weave.Pieces.{is_run}
 use Rattle.qed_model.specs.Weave.Sequences.{Form, original, each_part, compare, visit}
 use Rattle.qed_model.specs.Weave.Code.{sequences}
-use Rattle.qed_model.specs.Machine.Step.{State, reg}
-use Rattle.weave_core.specs.World.{Item, World, IsCursor, is_cursor}
+use Rattle.weave_core.specs.World.{Item, World, IsCursor, is_cursor, State, reg}
 use Rattle.weave_core.specs.Pass.{Quiet, Lockstep}
 use Rattle.weave_core.specs.Parts.{any, Checks}
 use Rattle.weave_core.specs.Weave.{Weave}

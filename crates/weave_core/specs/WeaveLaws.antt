@@ -1,15 +1,12 @@
 -- The laws of a weave: all that the inductions over the run of the output use of its sequences.
 use Rattle.std.specs.Prelude.{◌≡◌, ℕ, ◌+◌, ◌*◌, ◌^◌, ◌<◌, ◌≤◌, ◌⊎◌, Bool, true, List, [], ◌∷◌, ◌++◌, length, is_some}
 use Rattle.std.proofs.Common.{inl, inr}
-use Rattle.qed_model.specs.Machine.Memory.{get, byte_at}
-use Rattle.qed_model.specs.Machine.Step.{Ins, State, reg, Known, HasAt, run}
 use Rattle.qed_model.specs.Machine.Walks.{Over, Walk}
-use Rattle.qed_model.specs.Machine.Program.{Program, start, zeros, AreStartRegs}
 use Rattle.qed_model.specs.Promise.Kept.{NotTrapped, IsSteady}
 use Rattle.qed_model.specs.Promise.Changed.{IsDataWord}
 use Rattle.qed_model.specs.Weave.Halves.{Flagged}
-use Rattle.qed_model.specs.Weave.Sequences.{Reads, End, Falls, Stops, Block, body_length}
-use Rattle.weave_core.specs.World.{Item, Going, Ended, Fired, World, Quiet, Twice, IsCursor, words_on}
+use Rattle.qed_model.specs.Weave.Sequences.{Reads, End, Falls, Stops, Block, body_length, Ins}
+use Rattle.weave_core.specs.World.{Item, Going, Ended, Fired, World, Quiet, Twice, IsCursor, words_on, get, byte_at, State, reg, Known, HasAt, run, Program, start, zeros, AreStartRegs}
 use Rattle.weave_core.specs.Blocks.{AllFit, Full, EndStands, IsEntryOf}
 use Rattle.weave_core.specs.Rows.{At, Sourced}
 use Rattle.weave_core.specs.Describes.{Describes}

@@ -1,7 +1,5 @@
 -- The promises of any weave.
 use Rattle.std.specs.Prelude.{◌≡◌, ℕ, ◌+◌, ◌*◌, ◌≤◌, ◌⊎◌, Bool, true, List, [], ◌∷◌, ◌++◌, length, pos}
-use Rattle.qed_model.specs.Machine.Step.{Illegal, Ins, ins, Known}
-use Rattle.qed_model.specs.Machine.Program.{Program}
 use Rattle.qed_model.specs.declared.bounds.Bounds.{Bounds}
 use Rattle.qed_model.specs.declared.plan.EntryRow.{EntryRow}
 use Rattle.qed_model.specs.Promise.Kept.{Kept}
@@ -11,9 +9,9 @@ use Rattle.qed_model.specs.Promise.Clean.{Clean}
 use Rattle.qed_model.specs.Weave.Bounds.{register_bound, word_bound}
 use Rattle.qed_model.specs.Weave.Blocks.{begins_at}
 use Rattle.qed_model.specs.Weave.Placed.{instructions_from}
-use Rattle.qed_model.specs.Weave.Sequences.{Reads, Block}
+use Rattle.qed_model.specs.Weave.Sequences.{Reads, Block, Ins}
 use Rattle.qed_model.specs.Admission.DataRanges.{word_count}
-use Rattle.weave_core.specs.World.{World}
+use Rattle.weave_core.specs.World.{World, Illegal, ins, Known, Program}
 use Rattle.weave_core.specs.Describes.{Describes}
 use Rattle.weave_core.specs.Weave.{Weave, start_steps, stage_steps}
 use Rattle.qed_model.specs.Weave.Code.{Sequences, code_of, entries_of}

@@ -2,17 +2,15 @@
 use Rattle.std.proofs.Common.{◌≡◌, ℕ, ◌+◌, ◌-◌, ◌*◌, ◌<◌, ◌≤◌, ⊎_elim, Bool, true, false, List, [], ◌∷◌, ◌++◌, length, refl, sym, ap, ◌∙◌, subst, arith, append_assoc, length-append}
 use Rattle.std.proofs.lemmas.Bool.{and_parts, leb-true, cases_lt}
 use Rattle.std.proofs.Math.Nat.{mul-le-mul, mul-le-mul_left}
-use Rattle.qed_model.specs.Machine.Step.{Auipc, Ins, ins, State, reg, HasAt, run}
-use Rattle.qed_model.specs.Machine.Program.{Program}
 use Rattle.qed_model.specs.Promise.Kept.{NotTrapped}
 use Rattle.qed_model.specs.Weave.Blocks.{begins_at}
 use Rattle.qed_model.specs.Weave.Pieces.{is_run, whole}
 use Rattle.qed_model.specs.Weave.Placed.{distance_between, upper_part}
-use Rattle.qed_model.specs.Weave.Sequences.{Form, guards, original, each_part, compare, visit}
+use Rattle.qed_model.specs.Weave.Sequences.{Form, guards, original, each_part, compare, visit, Ins}
 use Rattle.qed_model.specs.Weave.Costs.{used}
 use Rattle.qed_model.proofs.Walk.{run-more}
 use Rattle.qed_model.proofs.Walked.{walk_on}
-use Rattle.weave_core.specs.World.{Item, World, Quiet as Calm, IsCursor}
+use Rattle.weave_core.specs.World.{Item, World, Quiet as Calm, IsCursor, Auipc, ins, State, reg, HasAt, run, Program}
 use Rattle.weave_core.specs.Blocks.{FitsPiece, AllFit}
 use Rattle.weave_core.specs.Rows.{At, Sourced, Led, Mirrors}
 use Rattle.weave_core.specs.KindItems.{MirrorsFit}

@@ -1,9 +1,8 @@
 -- Two known ELF files, as they are written and read: a test with a loop, and one with a data word.
-use Rattle.std.proofs.Common.{◌≡◌, ℕ, ◌<◌, List, [], ◌∷◌, Ok, refl}
-use Rattle.std.specs.Prelude.{codes, slice_index}
-use Rattle.elf_types.specs.declared.file.ElfFile.{ElfFile}
+use Rattle.std.proofs.Common.{ℕ, List, [], ◌∷◌, refl}
+use Rattle.std.specs.Prelude.{codes}
+use Rattle.qed_model.specs.Admission.DataRanges.{ElfFile, Segment}
 use Rattle.elf_types.specs.declared.file.Section.{Section}
-use Rattle.elf_types.specs.declared.file.Segment.{Segment}
 use Rattle.elf_types.specs.declared.output.OutFile.{OutFile}
 use Rattle.elf_types.specs.declared.output.OutSection.{OutSection}
 use Rattle.qed_model.specs.Numbers.{number_bytes}

@@ -3,9 +3,7 @@ use Rattle.std.proofs.Common.{◌≡◌, ℕ, zero, suc, ◌+◌, ◌<◌, true,
 use Rattle.std.specs.Prelude.{◌%◌, ◌^◌, ◌||◌, ◌&&◌, not, Bool, nat_le}
 use Rattle.std.proofs.lemmas.Bool.{eq-eqb, ne_eqb}
 use Rattle.qed_model.specs.declared.change.Change.{Change}
-use Rattle.qed_model.specs.Machine.Program.{Program, memory_of, start, zeros}
-use Rattle.qed_model.specs.declared.machine.Outcome.TheVariants.{Going}
-use Rattle.qed_model.specs.Machine.Step.{Ins, State, Known, HasAt, fetched_at, step, run}
+use Rattle.weave_core.specs.World.{Program, memory_of, start, zeros, Going, Ins, State, Known, HasAt, fetched_at, step, run}
 use Rattle.qed_model.specs.Promise.Changed.{changed, with_changes, changed_run}
 use Rattle.qed_model.specs.Promise.Closed.{is_closed, uses, guards_other, guard_bytes, is_checked}
 use Rattle.qed_model.proofs.Walk.{run-last}

@@ -4,12 +4,7 @@ use Rattle.std.specs.Prelude.{◌==◌}
 use Rattle.std.proofs.lemmas.Bool.{eqb-true, and_parts}
 use Rattle.rv_isa.specs.declared.class.Class.TheVariants as class
 use Rattle.qed_model.specs.declared.machine.Cause.TheVariants as cause
-use Rattle.qed_model.specs.Machine.Memory.{Memory}
-use Rattle.qed_model.specs.Machine.Values.{holds}
-use Rattle.qed_model.specs.declared.machine.Outcome.{Outcome}
-use Rattle.qed_model.specs.declared.machine.Outcome.TheVariants.{Going}
-use Rattle.qed_model.specs.Machine.Step.{set_reg, class_of, Class, Ins, State, reg, moved, imm, next_pc, Fetched, Known, HasAt, fetched_at, next, jumped, execute, trapped, step, run}
-use Rattle.qed_model.specs.Machine.Program.{Program, AreStartRegs, memory_of, zeros}
+use Rattle.weave_core.specs.World.{Outcome, Going, Memory, holds, set_reg, class_of, Class, Ins, State, reg, moved, imm, next_pc, Fetched, Known, HasAt, fetched_at, next, jumped, execute, trapped, step, run, Program, AreStartRegs, memory_of, zeros}
 use Rattle.qed_model.specs.Machine.Loading.{ElfFile, loaded_file}
 use Rattle.qed_model.proofs.ExampleCode.{StandFrom}
 use Rattle.qed_model.proofs.Fields.{are_bytes}

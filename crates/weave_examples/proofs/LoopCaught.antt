@@ -3,11 +3,8 @@ use Rattle.std.proofs.Common.{◌≡◌, ℕ, ◌+◌, true, false, List, [], �
 use Rattle.std.specs.Prelude.{pos}
 use Rattle.qed_model.specs.declared.change.Change.{Change}
 use Rattle.qed_model.specs.declared.change.Place.TheVariants.{Reg}
-use Rattle.qed_model.specs.Machine.Program.{start, zeros}
-use Rattle.qed_model.specs.declared.machine.Outcome.TheVariants.{Going, Fired}
-use Rattle.qed_model.specs.Machine.Step.{Beq, Bne, Ebreak, Jal, ins, execute, jumped, computed_value}
+use Rattle.weave_core.specs.World.{start, zeros, Going, Fired, Beq, Bne, Ebreak, Jal, ins, execute, jumped, computed_value, value, holds}
 use Rattle.qed_model.specs.Machine.Struck.{struck}
-use Rattle.qed_model.specs.Machine.Values.{value, holds}
 use Rattle.qed_model.specs.Promise.Caught.{Caught, Settles}
 use Rattle.qed_model.specs.Promise.Changed.{changed_run}
 use Rattle.qed_model.specs.Promise.Closed.{is_closed, uses, guards_other, is_checked}

@@ -4,10 +4,7 @@ use Rattle.std.proofs.Common.{◌≡◌, ◌≢◌, ◌⊎◌, ℕ, ◌+◌, ◌
 use Rattle.std.specs.Prelude.{pos}
 use Rattle.qed_model.specs.Elf.FileRead.{file_read}
 use Rattle.qed_model.specs.Machine.Loading.{loaded_file}
-use Rattle.qed_model.specs.Machine.Program.{Program, memory_of, start, zeros}
-use Rattle.qed_model.specs.declared.machine.Outcome.TheVariants.{Going, Ended, Fired}
-use Rattle.qed_model.specs.Machine.Step.{Beq, Bne, Ebreak, Ins, ins, HasAt, fetched_at, execute, jumped, computed_value}
-use Rattle.qed_model.specs.Machine.Values.{value, holds}
+use Rattle.weave_core.specs.World.{Program, memory_of, start, zeros, Going, Ended, Fired, Beq, Bne, Ebreak, Ins, ins, HasAt, fetched_at, execute, jumped, computed_value, value, holds}
 use Rattle.qed_model.specs.Promise.Caught.{Same}
 use Rattle.qed_model.specs.Promise.Changed.{changed_run}
 use Rattle.qed_model.specs.Promise.Clean.{Clean}

@@ -2,10 +2,7 @@
 use Rattle.std.proofs.Common.{◌≡◌, inl, inr, ℕ, ◌+◌, ◌-◌, ◌≤◌, true, false, List, [], ◌∷◌, refl, sym, ap, ◌∙◌, arith}
 use Rattle.qed_model.specs.Elf.FileRead.{file_read}
 use Rattle.qed_model.specs.Machine.Loading.{load_segments, loaded_file}
-use Rattle.qed_model.specs.Machine.Program.{Program, memory_of, start, zeros}
-use Rattle.qed_model.specs.declared.machine.Outcome.TheVariants.{Going, Ended}
-use Rattle.qed_model.specs.Machine.Step.{Ins, HasAt, fetched_at, execute, jumped, computed_value}
-use Rattle.qed_model.specs.Machine.Values.{value, holds}
+use Rattle.weave_core.specs.World.{Program, memory_of, start, zeros, Going, Ended, Ins, HasAt, fetched_at, execute, jumped, computed_value, value, holds}
 use Rattle.qed_model.specs.Promise.Kept.{Halves, Kept, after_input, after_output, is_trapped, NotTrapped, any_address}
 use Rattle.qed_model.specs.Promise.Landed.{Landed, Fires, placed_at}
 use Rattle.qed_model.specs.Weave.Placed.{placed}

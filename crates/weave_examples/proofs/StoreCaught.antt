@@ -4,13 +4,8 @@ use Rattle.std.specs.Prelude.{◌==◌}
 use Rattle.qed_model.specs.declared.machine.Cause.TheVariants as cause
 use Rattle.qed_model.specs.Machine.Cells.{cell_among, number_among}
 use Rattle.qed_model.specs.Machine.Loading.{load_segments}
-use Rattle.qed_model.specs.Machine.Memory.{Flags, Cell, Memory, wrap, allows, number, grants, put}
-use Rattle.qed_model.specs.Machine.Program.{memory_of, start, zeros}
-use Rattle.qed_model.specs.declared.machine.Outcome.{Outcome}
-use Rattle.qed_model.specs.declared.machine.Outcome.TheVariants.{Going, Ended}
-use Rattle.qed_model.specs.Machine.Step.{State, Refused, HasAt, known_or, in_range, fetched_at, trapped, execute, computed_value, step, run}
+use Rattle.weave_core.specs.World.{Outcome, Going, Ended, Flags, Cell, Memory, wrap, allows, number, grants, put, memory_of, start, zeros, State, Refused, HasAt, known_or, in_range, fetched_at, trapped, execute, computed_value, step, run, value, loaded}
 use Rattle.qed_model.specs.Machine.Table.{decode_of}
-use Rattle.qed_model.specs.Machine.Values.{value, loaded}
 use Rattle.qed_model.specs.Promise.Kept.{after_input, NotTrapped, is_trapped, after_output, any_address}
 use Rattle.qed_model.proofs.CellsAmong.{get_among, number-among}
 use Rattle.qed_model.proofs.ImageLaws.{all_sized_among}

@@ -3,7 +3,6 @@
 use Rattle.std.specs.Prelude.{◌≡◌, ◌≤◌, ℕ, ◌+◌, ◌*◌, Bool, true, cond, ◌&&◌, nat_le, List, [], ◌∷◌, ◌++◌, length}
 use Rattle.qed_model.specs.declared.bounds.Bounds.{Bounds}
 use Rattle.qed_model.specs.declared.plan.EntryRow.{EntryRow}
-use Rattle.qed_model.specs.Machine.Program.{Program}
 use Rattle.qed_model.specs.Promise.Caught.{Caught}
 use Rattle.qed_model.specs.Promise.Clean.{Clean}
 use Rattle.qed_model.specs.Promise.Kept.{Kept}
@@ -12,7 +11,7 @@ use Rattle.qed_model.specs.Weave.Blocks.{begins_at}
 use Rattle.qed_model.specs.Weave.Pieces.{is_run, whole}
 use Rattle.qed_model.specs.Weave.Code.{sequences}
 use Rattle.qed_model.specs.Weave.Sequences.{Ins, Form, Block, original, each_part, compare, visit}
-use Rattle.weave_core.specs.World.{Item, World}
+use Rattle.weave_core.specs.World.{Item, World, Program}
 use Rattle.weave_core.specs.Rows.{Mirrors}
 use Rattle.weave_core.specs.KindItems.{MirrorsFit}
 use Rattle.weave_core.specs.Weave.{Weave, start_steps, stage_steps}
