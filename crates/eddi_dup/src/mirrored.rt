@@ -1,18 +1,17 @@
 //! The mirror part of an instruction.
-ghost use Rattle.std.specs.Prelude.{◌≡◌, ◌≤◌, [], ◌∷◌, pos};
+ghost use Rattle.std.specs.Prelude.{◌≡◌, ◌≤◌, [], ◌∷◌, ◌++◌, OnOk, OnErr, pos};
 ghost use Rattle.rv_isa.specs.declared.kind.Kind.TheVariants.{Add};
 ghost use Rattle.qed_model.specs.Machine.Table.{ins as ins_of};
+ghost use Rattle.qed_model.specs.Weave.Sequences.{mirrored};
 ghost use Rattle.rv_isa.specs.Operation.{pair as pair_of, renamed as renamed_of};
+ghost use Rattle.weave_core.specs.Blocks.{FitsPiece};
+ghost use Rattle.passes.specs.Emitted.{AppendsPart};
 
 use crate::register::target;
-use passes::{Emit, Pass, plain, register};
+use passes::{Emit, plain, register};
 use qed_model::Item;
 use rv_isa::{Class, Ins, Kind};
 use std::alloc::AllocError;
-
-/// The same on the pairs, where an access goes to the duplicate half.
-#[derive(Clone, Copy, Drop)]
-pub struct Mirrored;
 
 /// The instruction on the pairs of its registers.
 fn on_pairs(ins: &Ins) -> Item
@@ -56,52 +55,27 @@ fn store_pair(ins: &Ins) -> [Item; 2]
     ]
 }
 
-impl Pass for Mirrored {
-    ghost use Rattle.std.specs.Prelude.{[]};
-    ghost use Rattle.weave_core.specs.Blocks.{FitsPiece};
-    ghost use Rattle.qed_model.specs.Machine.Step.{step};
-    ghost use Rattle.qed_model.specs.Weave.Sequences.{mirrored};
-    ghost use Rattle.passes.specs.Pass.{Does, same};
-    ghost use Rattle.eddi_dup.specs.Parts.{Runs};
-    ghost use Rattle.eddi_dup.specs.Laws.{any, quiet_mirrored, honest_mirrored, lockstep_mirrored};
-
-    ghost is_for = { λ p i at. FitsPiece i };
-
-    ghost suits = { λ p. any };
-
-    ghost items = { λ p i at. mirrored i at };
-
-    ghost uses = { λ p i. [] };
-
-    ghost cost = { λ p i. 2 };
-
-    ghost needs = { λ p i at w v. Runs w i at v.shadow };
-
-    ghost gives = { λ p i at w. Does same step 0 };
-
-    ghost leaves = { λ p i at w v n z. ⊥ };
-
-    fn emit(&self, ins: &Ins, at: u64, out: &mut Emit) -> Result<(), AllocError> {
-        if ins.kind == Kind::Auipc {
-            return out.push(Item::Constant(ins.rd.pair(), target(ins, at)));
-        }
-        match ins.class() {
-            Class::Compute => out.push(on_pairs(ins)),
-            Class::Load => out.put(&load_pair(ins)),
-            Class::Store => out.put(&store_pair(ins)),
-            Class::Fence => Ok(()),
-            Class::Branch => unreachable!(),
-            Class::Jump => unreachable!(),
-            Class::JumpReg => unreachable!(),
-            Class::End => unreachable!(),
-            Class::Break => unreachable!(),
-            Class::Illegal => unreachable!(),
-        }
+/// Appends the same on the pairs, where an access goes to the duplicate half.
+///
+/// Errors: want of memory, and then the first of it is appended.
+pub fn put_mirrored(ins: &Ins, at: u64, out: &mut Emit) -> Result<(), AllocError>
+    requires { FitsPiece ins.now }
+    ensures all { OnOk result (out.new ≡ out.old ++ mirrored ins.now at) }
+    ensures part { OnErr result (AppendsPart out.old out.new (mirrored ins.now at)) }
+{
+    if ins.kind == Kind::Auipc {
+        return out.push(Item::Constant(ins.rd.pair(), target(ins, at)));
     }
-
-    ghost quiet = { λ p i at f. quiet_mirrored i at f };
-
-    ghost honest = { λ p i at f. honest_mirrored i at f };
-
-    ghost lockstep = { λ p i at f. lockstep_mirrored i at f };
+    match ins.class() {
+        Class::Compute => out.push(on_pairs(ins)),
+        Class::Load => out.put(&load_pair(ins)),
+        Class::Store => out.put(&store_pair(ins)),
+        Class::Fence => Ok(()),
+        Class::Branch => unreachable!(),
+        Class::Jump => unreachable!(),
+        Class::JumpReg => unreachable!(),
+        Class::End => unreachable!(),
+        Class::Break => unreachable!(),
+        Class::Illegal => unreachable!(),
+    }
 }

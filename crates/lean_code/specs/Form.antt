@@ -13,11 +13,10 @@ use Rattle.plc_rounds.specs.Spans.{spans_of}
 use Rattle.lean_code.specs.declared.weaver.LeanWeaver.{LeanWeaver}
 use Rattle.lean_code.specs.Counts.{ticks_in, most_in}
 use Rattle.lean_code.specs.Leaves.{Turns}
-use Rattle.lean_code.specs.Passes.{is_diverse}
 
 -- ---- of a weaver
 abbrev pub form : LeanWeaver → Form
-form w = record { spans = spans_of w.visits.span; round = w.visits.round; far = false; sweep = w.sweeps; mirror = mirror_of (is_diverse w.passes); cost = cost_of (is_diverse w.passes) }
+form w = record { spans = spans_of w.visits.span; round = w.visits.round; far = false; sweep = w.sweeps; mirror = mirror_of w.passes.second.pass.diverse; cost = cost_of w.passes.second.pass.diverse }
 
 abbrev pub blocks_in : LeanWeaver → List Block
 blocks_in w = map block_of w.blocks.now
@@ -27,7 +26,7 @@ abbrev pub lean : LeanWeaver → Lean
 lean w = record {
   every = w.every;
   inst_max = 0;
-  diverse = is_diverse w.passes;
+  diverse = w.passes.second.pass.diverse;
   land = w.land;
   check = w.check;
   ticks = ticks_in w.counts;

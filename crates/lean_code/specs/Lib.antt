@@ -1,6 +1,5 @@
 pub mod Steps
 pub mod Leaves
-pub mod Passes
 pub mod Counts
 pub mod Form
 pub mod Code

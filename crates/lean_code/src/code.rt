@@ -13,7 +13,7 @@ ghost use Rattle.lean_code.specs.Form.{code_of};
 
 use crate::begin::BEGIN_BYTES;
 use crate::counts::counts_of;
-use crate::weaver::{LeanPasses, LeanWeaver};
+use crate::weaver::{LeanWeaver, lean_passes};
 use block_list::CodeBlock;
 use plc_rounds::Visit;
 use qed_model::{EntryRow, Options, Test};
@@ -43,9 +43,8 @@ fn weaver<'a>(
 {
     let counts = counts_of(alloc, test, options, every, blocks)?;
     let span = copied(alloc, &test.span)?;
-    let passes = LeanPasses::of(options.diverse);
     Ok(LeanWeaver {
-        passes,
+        passes: lean_passes(options.diverse),
         visits: Visit {
             round: options.round,
             span,

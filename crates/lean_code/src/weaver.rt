@@ -2,7 +2,6 @@
 ghost use Rattle.std.specs.Prelude.{◌≡◌, ◌+◌, ◌^◌, ◌<◌, ◌≤◌, ℕ, AllPairs};
 ghost use Rattle.qed_model.specs.Weave.Placed.{EntriesAscend, leads_to};
 ghost use Rattle.lean_code.specs.Counts.{most_in};
-ghost use Rattle.lean_code.specs.Passes.{is_diverse as is_diverse_of};
 
 use crate::begin::put_begin;
 use crate::check::put_check;
@@ -10,9 +9,9 @@ use crate::counts::{Counts, counted_at};
 use crate::leave::{Leaves, put_leave};
 use crate::tick::{call_at, put_enter};
 use block_list::CodeBlock;
-use eddi_dup::{Mirrored, Original};
+use eddi_dup::Original;
 use guard_insert::Guarded;
-use mirror_forms::Diverse;
+use mirror_forms::Mirror;
 use passes::{Each, Emit, PassAll, Then};
 use plc_rounds::Visit;
 use qed_model::{EntryRow, Item};
@@ -21,32 +20,20 @@ use rv_isa::Ins;
 use std::alloc::AllocError;
 use test_weave::Weaving;
 
-/// The passes of a piece, whose mirror parts are of the same kinds or of others.
-#[derive(Drop)]
-pub(crate) enum LeanPasses {
-    Same(Then<Each<Guarded<Original>>, Each<Mirrored>>),
-    Other(Then<Each<Guarded<Original>>, Each<Diverse>>),
-}
+/// The passes of a piece.
+pub(crate) type LeanPasses = Then<Each<Guarded<Original>>, Each<Mirror>>;
 
-impl LeanPasses {
-    /// Those of options.
-    pub(crate) fn of(diverse: bool) -> LeanPasses
-        ensures { is_diverse_of result ≡ diverse }
-    {
-        let first = Each {
+/// Those whose mirror parts are of the same kinds or of others.
+pub(crate) fn lean_passes(diverse: bool) -> LeanPasses
+    ensures { result.second.pass.diverse ≡ diverse }
+{
+    Then {
+        first: Each {
             pass: Guarded { pass: Original },
-        };
-        if diverse {
-            LeanPasses::Other(Then {
-                first,
-                second: Each { pass: Diverse },
-            })
-        } else {
-            LeanPasses::Same(Then {
-                first,
-                second: Each { pass: Mirrored },
-            })
-        }
+        },
+        second: Each {
+            pass: Mirror { diverse },
+        },
     }
 }
 
@@ -115,10 +102,7 @@ impl<'a> Weaving for LeanWeaver<'a> {
     }
 
     fn piece(&self, list: &[Ins], at: u64, out: &mut Emit) -> Result<(), AllocError> {
-        match &self.passes {
-            LeanPasses::Same(passes) => passes.emit_all(list, at, out)?,
-            LeanPasses::Other(passes) => passes.emit_all(list, at, out)?,
-        }
+        self.passes.emit_all(list, at, out)?;
         Ok(())
     }
 

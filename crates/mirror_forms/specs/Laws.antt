@@ -1,5 +1,5 @@
--- The laws of mirror parts of other kinds.
-use Rattle.std.proofs.Common.{◌≡◌, ℕ, ◌-◌, Bool, true, List, [], ◌∷◌, ◌++◌, sym, subst}
+-- The laws of mirror parts.
+use Rattle.std.proofs.Common.{◌≡◌, ℕ, ◌-◌, Bool, true, false, cond, List, [], ◌∷◌, ◌++◌, sym, subst}
 use Rattle.std.specs.List.{list_all}
 use Rattle.std.proofs.lemmas.Bool.{and_parts}
 use Rattle.rv_isa.specs.declared.class.Class.TheVariants as class
@@ -7,27 +7,30 @@ use Rattle.qed_model.specs.declared.item.Item.TheVariants.{Plain}
 use Rattle.qed_model.specs.Machine.Step.{Ins, step}
 use Rattle.qed_model.specs.Weave.Diverse.{Part, part_word, part_items, parts_of, diverse_as, diverse}
 use Rattle.qed_model.specs.Weave.Costs.{spent}
+use Rattle.qed_model.specs.Weave.Forms.{mirror_of}
 use Rattle.qed_model.proofs.DiverseWorth.{fine_part}
 use Rattle.qed_model.proofs.DiverseRows.{all_fine}
 use Rattle.weave_core.specs.Blocks.{FitsPiece}
 use Rattle.weave_core.specs.Rows.{At}
 use Rattle.weave_core.proofs.Diverse.{operates_class, diverse_row}
 use Rattle.weave_core.proofs.DiverseFit.{diverse_mirrors_fit}
-use Rattle.weave_core.proofs.PartLaws.{lockstep_mirror}
+use Rattle.weave_core.proofs.PartLaws.{lockstep_mirror as lockstep_of}
 use Rattle.passes.specs.Honest.{HonestItems}
 use Rattle.passes.specs.Pass.{Does, same, Quiet, Honest, Lockstep}
 use Rattle.passes.specs.Compose.{leads_led, honest_items_then, honest_items_none}
 use Rattle.passes.proofs.HonestWords.{honest_on}
 use Rattle.eddi_dup.specs.Parts.{Runs}
-use Rattle.eddi_dup.specs.Laws.{honest_mirrored}
-
--- every form of the code suits
-abbrev pub any : Bool → Type 0
-any far = Unit {0}
+use Rattle.eddi_dup.specs.Laws.{quiet_mirrored, honest_mirrored, lockstep_mirrored}
+pub use Rattle.eddi_dup.specs.Laws.{any}
 
 -- ---- Quiet
-pub quiet_diverse : (i : Ins) (at : ℕ) → FitsPiece i → Quiet any (diverse i at) (λ w v. Runs w i at v.shadow) (λ w. Does same step 0) (λ w v n z. ⊥) (8 - spent i)
-quiet_diverse i at f = record {
+-- the most steps
+abbrev pub mirror_cost : Bool → Ins → ℕ
+mirror_cost other i = cond other (8 - spent i) 2
+
+pub quiet_mirror : (other : Bool) (i : Ins) (at : ℕ) → FitsPiece i → Quiet any (mirror_of other i at) (λ w v. Runs w i at v.shadow) (λ w. Does same step 0) (λ w v n z. ⊥) (mirror_cost other i)
+quiet_mirror false i at f = quiet_mirrored i at f
+quiet_mirror true i at f = record {
   leads = λ w v rest s st r. leads_led w v 0 (8 - spent i) rest same step (diverse_row w v.now v.original v.shadow i rest f (subst (λ p. At w v.now (diverse i p ++ rest) v.original v.shadow) (sym r.here) st) r.sourced r.known r.calm);
 }
 
@@ -44,9 +47,11 @@ module _ (far : Bool) where
   honest_as i at [] f e = (honest_mirrored i at f).honest far tt
   honest_as i at (p ∷ ps) f e = honest_parts i (p ∷ ps) e
 
-pub honest_diverse : (i : Ins) (at : ℕ) → FitsPiece i → Honest any (diverse i at)
-honest_diverse i at f = record { honest = λ far s. honest_as far i at (parts_of i.kind i.imm) f (all_fine i.kind i.imm) }
+pub honest_mirror : (other : Bool) (i : Ins) (at : ℕ) → FitsPiece i → Honest any (mirror_of other i at)
+honest_mirror false i at f = honest_mirrored i at f
+honest_mirror true i at f = record { honest = λ far s. honest_as far i at (parts_of i.kind i.imm) f (all_fine i.kind i.imm) }
 
 -- ---- Lockstep
-pub lockstep_diverse : (i : Ins) (at : ℕ) → FitsPiece i → Lockstep any [] (diverse i at)
-lockstep_diverse i at f = lockstep_mirror any diverse (λ far s. diverse_mirrors_fit far) i at f
+pub lockstep_mirror : (other : Bool) (i : Ins) (at : ℕ) → FitsPiece i → Lockstep any [] (mirror_of other i at)
+lockstep_mirror false i at f = lockstep_mirrored i at f
+lockstep_mirror true i at f = lockstep_of any diverse (λ far s. diverse_mirrors_fit far) i at f

@@ -1,14 +1,16 @@
 -- A whole piece as the code weaves it, from the laws of its passes.
-use Rattle.std.proofs.Common.{◌≡◌, ℕ, ◌+◌, ◌-◌, ◌*◌, ◌^◌, ◌<◌, ◌≤◌, Bool, List, [], ◌++◌, length, sym, ap, ◌∙◌, subst, arith}
+use Rattle.std.proofs.Common.{◌≡◌, ℕ, ◌+◌, ◌-◌, ◌*◌, ◌^◌, ◌<◌, ◌≤◌, Bool, true, false, List, [], ◌++◌, length, sym, ap, ◌∙◌, subst, arith}
 use Rattle.qed_model.specs.Weave.Sequences.{Form, original, each_part, compare, visit, piece}
 use Rattle.qed_model.specs.Admission.DataRanges.{word_count}
-use Rattle.qed_model.specs.Weave.Bounds.{visit_bound}
+use Rattle.qed_model.specs.Weave.Bounds.{cost_of, visit_bound}
 use Rattle.qed_model.specs.Weave.Costs.{spent}
 use Rattle.qed_model.specs.Machine.Step.{Ins, reg}
 use Rattle.weave_core.specs.World.{Item, IsCursor}
 use Rattle.weave_core.specs.Blocks.{AllFit}
 use Rattle.weave_core.specs.Parts.{NeedsMirror, NeedsChecks, GivesChecks, LeavesChecks, NeedsPiece, GivesPiece, LeavesPiece, piece_cost, Pieced, ForPiece as ForParts, piece_items as parts_items}
 use Rattle.weave_core.proofs.PieceLaws.{for_originals, for_mirrors, both_checks, piece_leads, cost_parts, parts_are}
+use Rattle.weave_core.proofs.Body.{spent_le}
+use Rattle.mirror_forms.specs.Laws.{mirror_cost}
 use Rattle.passes.specs.Pass.{Leads, Quiet, Honest, Lockstep}
 use Rattle.passes.specs.Each.{next_at, each_is}
 pub use Rattle.weave_core.specs.Parts.{PieceLeads}
@@ -39,14 +41,21 @@ piece_is mirror form is at e low =
     parts_are next_at mirror checks is at (λ part. each_is part is at low) ∙ ap (λ m. each_part original is at ++ (each_part m is at ++ checks)) (sym e)
 
 -- ---- what the laws of the passes say of the whole
+-- no part costs more than is counted
+parts_cost : (other : Bool) → (3 ≤ cost_of other) × ((i : Ins) → mirror_cost other i ≤ cost_of other - spent i)
+parts_cost true = (omega arith, λ i. omega arith)
+parts_cost false = (omega arith, λ i. let h = spent_le i in omega (arith, h))
+
 pub piece_laws :
-    (suits : Bool → Type 0) → ((far : Bool) → suits far) → (cost : Ins → ℕ) (part : ℕ) → 3 ≤ part → ((i : Ins) → cost i ≤ part - spent i)
-    → (round : ℕ) (spans : List (ℕ × ℕ)) (items : List Item) (is : List Ins) (at : ℕ)
-    → Quiet suits items (NeedsPiece next_at NeedsMirror cost (NeedsChecks spans) is at) (GivesPiece next_at cost (GivesChecks round spans) is at) (LeavesPiece next_at cost LeavesChecks is at) (piece_cost cost (13 + visit_bound (word_count spans) (length spans) * round) is)
-    → PieceLeads part round spans items is at
-piece_laws suits all cost part three few round spans items is at q = record {
+    (suits : Bool → Type 0) → ((far : Bool) → suits far) → (other : Bool) (round : ℕ) (spans : List (ℕ × ℕ)) (items : List Item) (is : List Ins) (at : ℕ)
+    → Quiet suits items (NeedsPiece next_at NeedsMirror (mirror_cost other) (NeedsChecks spans) is at) (GivesPiece next_at (mirror_cost other) (GivesChecks round spans) is at) (LeavesPiece next_at (mirror_cost other) LeavesChecks is at)
+    (piece_cost (mirror_cost other) (13 + visit_bound (word_count spans) (length spans) * round) is)
+    → PieceLeads (cost_of other) round spans items is at
+piece_laws suits all other round spans items is at q = record {
   leads = λ w v rest f cur e here has fit run so calm st.
-      let x = piece_leads next_at (λ a h. omega (arith, h)) w NeedsMirror (λ i at v r. r) cost (NeedsChecks spans) (GivesChecks round spans) LeavesChecks 0 round (both_checks w round spans f) is at suits (all w.form.far) (part * length is) (13 + visit_bound (word_count spans) (length spans) * round) items (cost_parts part cost three few is) q v rest (subst (λ l. IsCursor l (reg v.now 15)) (sym f) cur) e here has fit run so calm st in
+      let part = cost_of other in
+      let few = parts_cost other in
+      let x = piece_leads next_at (λ a h. omega (arith, h)) w NeedsMirror (λ i at v r. r) (mirror_cost other) (NeedsChecks spans) (GivesChecks round spans) LeavesChecks 0 round (both_checks w round spans f) is at suits (all w.form.far) (part * length is) (13 + visit_bound (word_count spans) (length spans) * round) items (cost_parts part (mirror_cost other) few.0 few.1 is) q v rest (subst (λ l. IsCursor l (reg v.now 15)) (sym f) cur) e here has fit run so calm st in
       let none : part * length is + 0 ≡ part * length is = omega arith in
       subst (λ k. Leads w v (part * length is + (13 + visit_bound (word_count spans) (length spans) * round)) rest (Pieced w k round is v.original v) (λ n z. ⊥)) none x;
 }

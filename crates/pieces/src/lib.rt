@@ -1,19 +1,18 @@
-//! A piece, composed of passes: all original parts, all mirror parts, the comparison and the visits. Its mirror parts are those of
-//! the same kinds, or of others.
+//! A piece, composed of passes: all original parts, all mirror parts, the comparison and the visits.
 #![tactic(auto)]
 
 ghost use Rattle.std.specs.Prelude.{◌≡◌, ◌+◌, ◌*◌, ◌^◌, ◌<◌, [], IfOk, length};
 ghost use Rattle.weave_core.specs.Blocks.{AllFit};
 ghost use Rattle.plc_rounds.specs.Spans.{spans_of};
-ghost use Rattle.qed_model.specs.Weave.Sequences.{Form, mirrored, piece as piece_of};
+ghost use Rattle.qed_model.specs.Weave.Bounds.{cost_of};
+ghost use Rattle.qed_model.specs.Weave.Forms.{mirror_of};
+ghost use Rattle.qed_model.specs.Weave.Sequences.{Form, piece as piece_of};
 ghost use Rattle.passes.specs.Pass.{Honest, Lockstep};
 ghost use Rattle.pieces.specs.Piece.{any, piece_items, PieceLeads};
 
-mod diverse;
-
-pub use diverse::{DiversePiece, diverse_piece, woven_diverse};
-use eddi_dup::{CompareAll, Mirrored, Original};
+use eddi_dup::{CompareAll, Original};
 use guard_insert::Guarded;
+use mirror_forms::Mirror;
 use passes::{Each, Emit, Once, Then, emitted};
 use plc_rounds::Visit;
 use qed_model::Ranges;
@@ -21,10 +20,11 @@ use rv_isa::Ins;
 use std::alloc::{AllocError, Global};
 
 /// The passes of a piece.
-pub type Piece = Then<Each<Guarded<Original>>, Then<Each<Mirrored>, Once<Then<CompareAll, Visit>>>>;
+pub type Piece = Then<Each<Guarded<Original>>, Then<Each<Mirror>, Once<Then<CompareAll, Visit>>>>;
 
-/// The passes of a piece behind which `round` data words of the ranges are visited.
-pub fn piece(round: u64, span: Ranges) -> Piece
+/// The passes of a piece, whose mirror parts may be of other kinds, behind which `round` data words of the ranges are visited.
+pub fn piece(diverse: bool, round: u64, span: Ranges) -> Piece
+    ensures diverse { result.second.first.pass.diverse ≡ diverse }
     ensures round { result.second.second.pass.second.round ≡ round }
     ensures span { result.second.second.pass.second.span ≡ span }
 {
@@ -33,7 +33,9 @@ pub fn piece(round: u64, span: Ranges) -> Piece
             pass: Guarded { pass: Original },
         },
         second: Then {
-            first: Each { pass: Mirrored },
+            first: Each {
+                pass: Mirror { diverse },
+            },
             second: Once {
                 pass: Then {
                     first: CompareAll,
@@ -53,9 +55,9 @@ pub fn woven_piece(
 ) -> Result<Emit, AllocError>
     requires fits { AllFit list.now }
     requires low { first + 4 * length list.now < 2 ^ 64 }
-    ensures items { IfOk result (λ out. out ≡ piece_items mirrored passes.now.second.second.pass.second.round (spans_of passes.now.second.second.pass.second.span) list.now first) }
-    ensures woven { IfOk result (λ out. (form : Form) → form.mirror ≡ mirrored → form.round ≡ passes.now.second.second.pass.second.round → form.spans ≡ spans_of passes.now.second.second.pass.second.span → out ≡ piece_of form list.now first) }
-    ensures leads { IfOk result (λ out. PieceLeads 5 passes.now.second.second.pass.second.round (spans_of passes.now.second.second.pass.second.span) out list.now first) }
+    ensures items { IfOk result (λ out. out ≡ piece_items (mirror_of passes.now.second.first.pass.diverse) passes.now.second.second.pass.second.round (spans_of passes.now.second.second.pass.second.span) list.now first) }
+    ensures woven { IfOk result (λ out. (form : Form) → form.mirror ≡ mirror_of passes.now.second.first.pass.diverse → form.round ≡ passes.now.second.second.pass.second.round → form.spans ≡ spans_of passes.now.second.second.pass.second.span → out ≡ piece_of form list.now first) }
+    ensures leads { IfOk result (λ out. PieceLeads (cost_of passes.now.second.first.pass.diverse) passes.now.second.second.pass.second.round (spans_of passes.now.second.second.pass.second.span) out list.now first) }
     ensures honest { IfOk result (λ out. Honest any out) }
     ensures lockstep { IfOk result (λ out. Lockstep any [] out) }
 {

@@ -28,6 +28,8 @@ use Rattle.rv_asm.specs.Heads.{head_of}
 use Rattle.rv_asm.specs.Given.{address_at, given_by}
 use Rattle.rv_asm.specs.Assembled.{head_in, place_behind, is_same, defines, label_at, label_of, line_at, given_at, code_in, data_in, symbol_in, symbol_at, code_of, data_of, symbols_of, AreFaultless, IsFirstFault}
 use Rattle.rv_asm.specs.Steps.{next_place}
+use Rattle.rv_asm.specs.declared.program.Program.{Program}
+use Rattle.rv_asm.specs.Program.{IsSoFar}
 use Rattle.rv_asm.proofs.Places.{place_push, code_within, data_within}
 use Rattle.rv_asm.proofs.FirstLabels.{first_push}
 
@@ -63,23 +65,32 @@ unfolding lines_of
 lines_end g text made start now next f xs r y is step gives rest done closure tests =
     (YieldsList-end (YieldsList-from_slice_split g (λ b. b == newline) text (ap slice.split_rest gives ∙ rest) (ap slice.split_done gives ∙ done) (ap slice.split_callee gives ∙ closure) tests) xs now y r next is step).1
 
--- ---- places
-pub turn_place : (lines : List (List ℕ)) (n : ℕ) (line : List ℕ) (p : Place) (h : Head) → IsTurn lines n line → p ≡ place_behind (take n lines) → h ≡ head_in line → next_place p h ≡ place_behind (take (n + 1) lines)
-turn_place lines n line p h t e k =
-    let l : h ≡ head_in (line_at lines n) = k ∙ ap head_in t.is in
-    ap (λ q. next_place q h) e ∙ (ap (next_place (place_behind (take n lines))) l ∙ (sym (place_push (take n lines) (line_at lines n)) ∙ ap place_behind (sym (take_more lines n [] t.inside))))
+-- ---- before a line
+-- so many lines were counted, and the place is behind them
+pub record IsBefore (text : List ℕ) (n number : ℕ) (p : Place) : Type 0 where
+  pub counted : number ≡ n
+  pub placed : p ≡ place_behind (take n (lines_of text))
+  pub code_near : p.code_words < 2 ^ 32
+  pub values_near : p.data_words < 2 ^ 32
 
-pub record IsNear (p : Place) : Type 0 where
-  pub code : p.code_words < 2 ^ 32
-  pub words : p.data_words < 2 ^ 32
-
-pub place_near : (text : List ℕ) (n : ℕ) (p : Place) → length text ≤ 67108864 → n ≤ length (lines_of text) → p ≡ place_behind (take n (lines_of text)) → IsNear p
-place_near text n p h k e =
+-- and behind it
+pub before_next :
+    (text : List ℕ) (n m number : ℕ) (line : List ℕ) (p next : Place) (h : Head) → length text ≤ 67108864 → IsTurn (lines_of text) n line → n + 1 ≡ m → IsBefore text n number p
+    → h ≡ head_in line → next ≡ next_place p h → IsBefore text m (number + 1) next
+before_next text n m number line p next h short t one b head e =
     let lines = lines_of text in
-    let size = length-take-le n lines k in
-    let code = ap (λ (q : Place). q.code_words) e in
-    let words = ap (λ (q : Place). q.data_words) e in
-    record { code = omega (arith, lines_short text, code_within (take n lines), size, code); words = omega (arith, lines_short text, data_within (take n lines), size, words) }
+    let here : h ≡ head_in (line_at lines n) = head ∙ ap head_in t.is in
+    let behind = ap (λ q. next_place q h) b.placed ∙ ap (next_place (place_behind (take n lines))) here ∙ sym (place_push (take n lines) (line_at lines n)) ∙ ap place_behind (sym (take_more lines n [] t.inside)) in
+    let placed = e ∙ behind ∙ ap (λ k. place_behind (take k lines)) one in
+    let size = length-take-le m lines (omega (arith, one, t.inside)) in
+    let code = ap (λ (q : Place). q.code_words) placed in
+    let words = ap (λ (q : Place). q.data_words) placed in
+    record {
+      counted = omega (arith, one, b.counted);
+      placed = placed;
+      code_near = omega (arith, short, lines_short text, code_within (take m lines), size, code);
+      values_near = omega (arith, short, lines_short text, data_within (take m lines), size, words);
+    }
 
 -- ---- labels
 abbrev pub labelled : ℕ → ℕ → Label
@@ -130,29 +141,17 @@ first_fault text n number line f t e so_far g =
     }
 
 -- ---- all lines so far
-pub record IsSoFar (lines : List (List ℕ)) (n : ℕ) (p : Place) (code values : List ℕ) (symbols : List Symbol) : Type 0 where
-  pub placed : p ≡ place_behind (take n lines)
-  pub faultless : AreFaultless lines n
-  pub has_code : code ≡ code_of lines n
-  pub has_values : values ≡ data_of lines n
-  pub has_symbols : symbols ≡ symbols_of lines n
-
 pub so_far_more :
-    (lines : List (List ℕ)) (n : ℕ) (line : List ℕ) (p : Place) (h : Head) (w : List ℕ) (g : Given) (code values new_code new_values : List ℕ) (symbols new_symbols : List Symbol)
-    → IsTurn lines n line → h ≡ head_in line → w ≡ word_in line → given_at lines n ≡ Ok g → IsSoFar lines n p code values symbols
-    → new_code ≡ code ++ code_in (Ok g) → new_values ≡ values ++ data_in (Ok g) → new_symbols ≡ symbols ++ symbol_in w (address_at p) (Ok g)
-    → IsSoFar lines (n + 1) (next_place p h) new_code new_values new_symbols
+    (lines : List (List ℕ)) (n m : ℕ) (line : List ℕ) (p : Place) (w : List ℕ) (g : Given) (old new : Program) → IsTurn lines n line → n + 1 ≡ m → p ≡ place_behind (take n lines) → w ≡ word_in line
+    → given_at lines n ≡ Ok g → IsSoFar lines n old → new.code.items ≡ old.code.items ++ code_in (Ok g) → new.values.items ≡ old.values.items ++ data_in (Ok g)
+    → new.symbols.items ≡ old.symbols.items ++ symbol_in w (address_at p) (Ok g) → IsSoFar lines m new
 unfolding code_of data_of symbols_of
-so_far_more lines n line p h w g code values new_code new_values symbols new_symbols t head word is so_far c v s =
+so_far_more lines n m line p w g old new t one placed word is so_far c v s =
     let here = word ∙ ap word_in t.is in
-    let symbol_here = ap (λ x. symbol_in x (address_at p) (Ok g)) here ∙ (ap (λ q. symbol_in (word_in (line_at lines n)) (address_at q) (Ok g)) so_far.placed ∙ ap (symbol_in (word_in (line_at lines n)) (address_at (place_behind (take n lines)))) (sym is)) in
-    record {
-      placed = turn_place lines n line p h t so_far.placed head;
+    let symbol_here = ap (λ x. symbol_in x (address_at p) (Ok g)) here ∙ (ap (λ q. symbol_in (word_in (line_at lines n)) (address_at q) (Ok g)) placed ∙ ap (symbol_in (word_in (line_at lines n)) (address_at (place_behind (take n lines)))) (sym is)) in
+    subst (λ k. IsSoFar lines k new) one (record {
       faultless = faultless_more lines n g so_far.faultless is;
-      has_code = gather_more n (λ i. code_in (given_at lines i)) code new_code (c ∙ ap (λ r. code ++ code_in r) (sym is)) so_far.has_code;
-      has_values = gather_more n (λ i. data_in (given_at lines i)) values new_values (v ∙ ap (λ r. values ++ data_in r) (sym is)) so_far.has_values;
-      has_symbols = gather_more n (λ i. symbol_at lines i) symbols new_symbols (s ∙ ap (λ (x : List Symbol). symbols ++ x) symbol_here) so_far.has_symbols;
-    }
-
-pub so_far_at : (lines : List (List ℕ)) (n m : ℕ) (p : Place) (code values : List ℕ) (symbols : List Symbol) → n ≡ m → IsSoFar lines n p code values symbols → IsSoFar lines m p code values symbols
-so_far_at lines n m p code values symbols e h = subst (λ k. IsSoFar lines k p code values symbols) e h
+      code = gather_more n (λ i. code_in (given_at lines i)) old.code.items new.code.items (c ∙ ap (λ r. old.code.items ++ code_in r) (sym is)) so_far.code;
+      words = gather_more n (λ i. data_in (given_at lines i)) old.values.items new.values.items (v ∙ ap (λ r. old.values.items ++ data_in r) (sym is)) so_far.words;
+      symbols = gather_more n (λ i. symbol_at lines i) old.symbols.items new.symbols.items (s ∙ ap (λ (x : List Symbol). old.symbols.items ++ x) symbol_here) so_far.symbols;
+    })

@@ -1,5 +1,4 @@
 pub mod Taking
-pub mod PieceItems
 pub mod Zeros
 pub mod Joined
 pub mod BodyLeft

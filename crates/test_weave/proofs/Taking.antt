@@ -5,8 +5,14 @@ use Rattle.qed_model.specs.declared.item.Item.{Item}
 use Rattle.relinker.specs.Sink.{ComeNext, Takes}
 
 -- what was put behind nothing
+put_alone : (none part items : List Item) → none ≡ [] → part ≡ none ++ items → part ≡ items
+put_alone none part items e f = f ∙ ap (λ l. l ++ items) e
+
+pub comes_part : (t : Bool × ℕ → List Item → List Item → Type 0) (none part items : List Item) → none ≡ [] → part ≡ none ++ items → ComeNext t items → ComeNext t part
+comes_part t none part items e f come = subst (ComeNext t) (sym (put_alone none part items e f)) come
+
 pub takes_part : (old new : Bool × ℕ → List Item → List Item → Type 0) (none part items : List Item) → none ≡ [] → part ≡ none ++ items → Takes old new part → Takes old new items
-takes_part old new none part items e f took = subst (Takes old new) (f ∙ ap (λ l. l ++ items) e) took
+takes_part old new none part items e f took = subst (Takes old new) (put_alone none part items e f) took
 
 -- the first of two parts comes next
 pub come_first : (t : Bool × ℕ → List Item → List Item → Type 0) (xs ys : List Item) → ComeNext t (xs ++ ys) → ComeNext t xs

@@ -6,8 +6,8 @@ use Rattle.qed_model.specs.Weave.Sequences.{Form, Block}
 use Rattle.qed_model.specs.Weave.Code.{Sequences, entries_of, sequences}
 use Rattle.qed_model.specs.Weave.Bounds.{cost_of}
 use Rattle.qed_model.specs.Weave.Forms.{mirror_of}
+use Rattle.plc_rounds.specs.Spans.{spans_of}
 use Rattle.test_weave.specs.declared.weaver.Weaver.{Weaver}
-use Rattle.test_weave.specs.Passes.{spans_in, round_in, is_diverse}
 
 -- the form of code with these ranges and options
 abbrev pub form_with : List (ℕ × ℕ) → Options → Bool → Form
@@ -15,7 +15,14 @@ form_with spans o far = record { spans = spans; round = o.round; far = far; swee
 
 -- that of a weaver
 abbrev pub form : Weaver → Form
-form w = record { spans = spans_in w.pieces; round = round_in w.pieces; far = w.far; sweep = is_some w.sweep; mirror = mirror_of (is_diverse w.pieces); cost = cost_of (is_diverse w.pieces) }
+form w = record {
+  spans = spans_of w.pieces.second.second.pass.second.span;
+  round = w.pieces.second.second.pass.second.round;
+  far = w.far;
+  sweep = is_some w.sweep;
+  mirror = mirror_of w.pieces.second.first.pass.diverse;
+  cost = cost_of w.pieces.second.first.pass.diverse;
+}
 
 -- the new code up to the stub: what runs first, and the entries of the blocks
 abbrev pub parts_to_stub : Sequences → ℕ → ℕ → List Block → List Item

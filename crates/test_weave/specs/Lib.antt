@@ -1,4 +1,3 @@
-pub mod Passes
 pub mod Form
 pub mod Fits
 pub mod Admitted

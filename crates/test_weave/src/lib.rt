@@ -7,7 +7,6 @@ ghost use Rattle.test_weave.specs.WholeCode.{ItemsAreWhole};
 
 mod leave;
 mod make;
-mod parts;
 mod prologue;
 mod walk;
 mod weaver;

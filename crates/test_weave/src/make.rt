@@ -4,10 +4,9 @@ ghost use Rattle.plc_rounds.specs.Spans.{spans_of};
 ghost use Rattle.test_weave.specs.Form.{form, form_with};
 
 use crate::Weaver;
-use crate::weaver::PiecePasses;
 use elf_types::Listed;
 use end_sweep::Sweep;
-use pieces::{diverse_piece, piece};
+use pieces::piece;
 use qed_model::{Options, Ranges};
 use std::alloc::{AllocError, Global};
 
@@ -30,12 +29,7 @@ impl Weaver {
     ) -> Result<Weaver, AllocError>
         ensures { IfOk result (λ weaver. form weaver ≡ form_with (spans_of span.now) options.now far) }
     {
-        let visited = copied(alloc, span)?;
-        let pieces = if options.diverse {
-            PiecePasses::Other(diverse_piece(options.round, visited))
-        } else {
-            PiecePasses::Same(piece(options.round, visited))
-        };
+        let pieces = piece(options.diverse, options.round, copied(alloc, span)?);
         let sweep = if options.sweep {
             Some(Sweep {
                 span: copied(alloc, span)?,

@@ -76,7 +76,7 @@ impl Weaver {
         put_zeros(1, 13, out)?;
         put_zeros(17, 13, out)?;
         put_half(distance, out)?;
-        put_cursor(self.span(), out)?;
+        put_cursor(self.pieces.second.second.pass.second.span.as_slice(), out)?;
         self.go_on(entry, out)?;
         Ok(())
     }

@@ -1,10 +1,8 @@
 //! The new code, one part after the other.
-ghost use Rattle.std.specs.Prelude.{◌≡◌, ◌+◌, ◌*◌, ◌^◌, ◌<◌, ◌∷◌, ◌++◌, All, OnOk, length, map};
-ghost use Rattle.qed_model.specs.declared.item.Item.TheVariants.{Mark};
+ghost use Rattle.std.specs.Prelude.{◌^◌, ◌<◌, All, OnOk, map};
 ghost use Rattle.qed_model.specs.Weave.Code.{block_items, entries_of, pieces_of};
 ghost use Rattle.qed_model.specs.Weave.Pieces.{divided};
-ghost use Rattle.weave_core.specs.Blocks.{AllFit};
-ghost use Rattle.block_list.specs.Listed.{block_of, end_of};
+ghost use Rattle.block_list.specs.Listed.{block_of};
 ghost use Rattle.relinker.specs.Sink.{ComeNext, Takes};
 ghost use Rattle.test_weave.specs.Fits.{FitsBlock};
 ghost use Rattle.test_weave.specs.Form.{parts_to_stub};
@@ -13,27 +11,7 @@ use crate::Weaving;
 use block_list::CodeBlock;
 use passes::Emit;
 use relinker::ItemSink;
-use rv_isa::Ins;
 use std::alloc::{AllocError, Global};
-
-/// Hands on a piece.
-fn weave_piece<W: Weaving, S: ItemSink>(
-    weaver: &W,
-    list: &[Ins],
-    at: u64,
-    part: &mut Emit,
-    sink: &mut S,
-) -> Result<(), AllocError>
-    requires fits { AllFit list.now }
-    requires low { at + 4 * length list.now < 2 ^ 64 }
-    requires come { ComeNext (S.took sink.old) ((W.code weaver.now).piece list.now at) }
-    ensures { OnOk result (Takes (S.took sink.old) (S.took sink.new) ((W.code weaver.now).piece list.now at)) }
-{
-    part.clear();
-    weaver.piece(list, at, part)?;
-    sink.take(part)?;
-    Ok(())
-}
 
 /// Hands on the pieces of a block.
 #[tactic(auto, using(crate::proofs::Taking::taken_none, crate::proofs::Taking::taken_all))]
@@ -51,50 +29,16 @@ fn weave_pieces<W: Weaving, S: ItemSink>(
     let mut at = block.start;
     for length in block.lengths.as_slice() {
         let (list, more) = rest.split_at(*length as usize);
-        weave_piece(weaver, list, at, part, sink)?;
+        part.clear();
+        weaver.piece(list, at, part)?;
+        sink.take(part)?;
         rest = more;
         at += 4 * *length;
     }
     Ok(())
 }
 
-/// Hands on the leave of a block.
-fn weave_leave<W: Weaving, S: ItemSink>(
-    weaver: &W,
-    block: &CodeBlock,
-    part: &mut Emit,
-    sink: &mut S,
-) -> Result<(), AllocError>
-    requires fits { FitsBlock block.now }
-    requires own { W.is_for weaver.now block.now }
-    requires come { ComeNext (S.took sink.old) ((W.code weaver.now).leave (end_of block.now.end) (block.now.start + 4 * length block.now.body)) }
-    ensures { OnOk result (Takes (S.took sink.old) (S.took sink.new) ((W.code weaver.now).leave (end_of block.now.end) (block.now.start + 4 * length block.now.body))) }
-{
-    part.clear();
-    weaver.leave(block, part)?;
-    sink.take(part)?;
-    Ok(())
-}
-
-/// Hands on the mark of a block, and what begins its entry.
-fn weave_enter<W: Weaving, S: ItemSink>(
-    weaver: &W,
-    block: &CodeBlock,
-    part: &mut Emit,
-    sink: &mut S,
-) -> Result<(), AllocError>
-    requires fits { FitsBlock block.now }
-    requires own { W.is_for weaver.now block.now }
-    requires come { ComeNext (S.took sink.old) (Mark block.now.start ∷ (W.code weaver.now).enter block.now.start) }
-    ensures { OnOk result (Takes (S.took sink.old) (S.took sink.new) (Mark block.now.start ∷ (W.code weaver.now).enter block.now.start)) }
-{
-    part.clear();
-    weaver.enter(block, part)?;
-    sink.take(part)?;
-    Ok(())
-}
-
-/// Hands on the entry of a block.
+/// Hands on the entry of a block: its mark and what begins it, its pieces and its leave.
 fn weave_block<W: Weaving, S: ItemSink>(
     weaver: &W,
     block: &CodeBlock,
@@ -106,9 +50,13 @@ fn weave_block<W: Weaving, S: ItemSink>(
     requires come { ComeNext (S.took sink.old) (block_items (W.code weaver.now) (block_of block.now)) }
     ensures { OnOk result (Takes (S.took sink.old) (S.took sink.new) (block_items (W.code weaver.now) (block_of block.now))) }
 {
-    weave_enter(weaver, block, part, sink)?;
+    part.clear();
+    weaver.enter(block, part)?;
+    sink.take(part)?;
     weave_pieces(weaver, block, part, sink)?;
-    weave_leave(weaver, block, part, sink)?;
+    part.clear();
+    weaver.leave(block, part)?;
+    sink.take(part)?;
     Ok(())
 }
 
@@ -131,24 +79,6 @@ fn weave_blocks<W: Weaving, S: ItemSink>(
     Ok(())
 }
 
-/// Hands on what runs first.
-fn weave_first<W: Weaving, S: ItemSink>(
-    weaver: &W,
-    distance: u64,
-    entry: u64,
-    part: &mut Emit,
-    sink: &mut S,
-) -> Result<(), AllocError>
-    requires half { distance < 2 ^ 63 }
-    requires come { ComeNext (S.took sink.old) ((W.code weaver.now).first distance entry) }
-    ensures { OnOk result (Takes (S.took sink.old) (S.took sink.new) ((W.code weaver.now).first distance entry)) }
-{
-    part.clear();
-    weaver.first(distance, entry, part)?;
-    sink.take(part)?;
-    Ok(())
-}
-
 /// Makes the new code of a test with these blocks, which begins at `entry`, all but the stub behind it, and hands it on part by
 /// part. `distance` is that of the halves, in bytes. It takes time with the items, and memory for one part at a time.
 ///
@@ -168,7 +98,8 @@ pub fn weave<W: Weaving, S: ItemSink>(
     ensures { OnOk result (Takes (S.took sink.old) (S.took sink.new) (parts_to_stub (W.code weaver.now) distance entry (map block_of blocks.now))) }
 {
     let mut part = Emit::new(alloc);
-    weave_first(weaver, distance, entry, &mut part, sink)?;
+    weaver.first(distance, entry, &mut part)?;
+    sink.take(&part)?;
     weave_blocks(weaver, blocks, &mut part, sink)?;
     Ok(())
 }

@@ -2,30 +2,23 @@
 ghost use Rattle.std.specs.Prelude.{◌≡◌};
 ghost use Rattle.std.specs.Option.{ForSome};
 ghost use Rattle.plc_rounds.specs.Spans.{spans_of};
-ghost use Rattle.test_weave.specs.Passes.{spans_in};
 
 use crate::Weaving;
 use block_list::CodeBlock;
 use end_sweep::Sweep;
-use passes::Emit;
-use pieces::{DiversePiece, Piece};
+use flow_tracking::Entry;
+use passes::{Emit, Pass, PassAll};
+use pieces::Piece;
 use rv_isa::Ins;
 use std::alloc::AllocError;
-
-/// The passes of a piece, whose mirror parts are of the same kinds or of others.
-#[derive(Drop)]
-pub enum PiecePasses {
-    Same(Piece),
-    Other(DiversePiece),
-}
 
 /// Makes the parts of new code, all in one form.
 #[derive(Drop)]
 pub struct Weaver {
-    pub(crate) pieces: PiecePasses,
+    pub(crate) pieces: Piece,
     pub(crate) far: bool,
     pub(crate) sweep: Option<Sweep>,
-    ghost same_spans: { ForSome sweep (λ s. spans_of s.span ≡ spans_in pieces) },
+    ghost same_spans: { ForSome sweep (λ s. spans_of s.span ≡ spans_of pieces.second.second.pass.second.span) },
 }
 
 impl Weaving for Weaver {
@@ -41,11 +34,12 @@ impl Weaving for Weaver {
     }
 
     fn enter(&self, block: &CodeBlock, out: &mut Emit) -> Result<(), AllocError> {
-        self.entry(block.start, out)
+        Entry.emit(&Ins::nop(), block.start, out)
     }
 
     fn piece(&self, list: &[Ins], at: u64, out: &mut Emit) -> Result<(), AllocError> {
-        self.woven_piece(list, at, out)
+        self.pieces.emit_all(list, at, out)?;
+        Ok(())
     }
 
     fn leave(&self, block: &CodeBlock, out: &mut Emit) -> Result<(), AllocError> {

@@ -1,8 +1,7 @@
 -- The rows that are made of blocks alone are those of the items: each part of one role has the bytes of its items.
-use Rattle.std.proofs.Common.{◌≡◌, ℕ, ◌+◌, ◌-◌, ◌*◌, ◌%◌, ◌^◌, ◌<◌, Bool, true, false, cond, Option, Some, None, List, [], ◌∷◌, ◌++◌, length, map, sum, take, drop, refl, sym, ap, ◌∙◌, arith, append_assoc, get_or}
+use Rattle.std.proofs.Common.{◌≡◌, ℕ, ◌+◌, ◌-◌, ◌*◌, ◌%◌, ◌^◌, ◌<◌, Bool, true, false, cond, Option, Some, None, List, [], ◌∷◌, ◌++◌, length, map, drop, refl, sym, ap, ◌∙◌, arith, append_assoc, get_or}
 use Rattle.std.specs.Prelude.{All, ◌==◌, pos, neg_ℤ, Result, Ok, Err, IfOk}
-use Rattle.std.proofs.lemmas.List.{append-nil, map-append, length-take-le, drop_more}
-use Rattle.std.proofs.lemmas.List.Sums.{sum_by-cons}
+use Rattle.std.proofs.lemmas.List.{append-nil, map-append, drop_more}
 use Rattle.std.proofs.lemmas.List.Elements.{All-head, All-tail}
 use Rattle.std.proofs.lemmas.Bool.Decides.{nat_tests}
 use Rattle.rv_isa.specs.declared.ins.Ins.{Ins}
@@ -36,7 +35,7 @@ use Rattle.block_list.specs.Listed.{block_of, end_of}
 use Rattle.plc_rounds.specs.Spans.{spans_of}
 use Rattle.test_weave.specs.Fits.{FitsBlock}
 use Rattle.test_weave.specs.Form.{form_with}
-use Rattle.test_weave.proofs.BodyLeft.{Left, whole_length}
+use Rattle.test_weave.proofs.BodyLeft.{whole_length}
 use Rattle.test_weave.proofs.WholeCode.{spans_are}
 use Rattle.woven_code.specs.declared.roles.Compared.TheVariants as at_place
 use Rattle.woven_code.specs.declared.size.Sizes.{Sizes}
@@ -202,16 +201,11 @@ module _ (far : Bool) (o : Options) (span : List Range) (s : Sizes) (are : AreSi
 -- ---- in a loop
 -- a piece more
 pub pieces_more :
-    (diverse : Bool) (behind : Option ℕ) (old new all : List RoleRow) (n : ℕ) (ns : List ℕ) (is : List Ins) (at : ℕ) → Left (n ∷ ns) is at → old ++ pieces_rows diverse behind (divided (n ∷ ns) is) at ≡ all
-    → new ≡ old ++ piece_rows diverse behind (take n is) at → new ++ pieces_rows diverse behind (divided ns (drop n is)) (at + 4 * n) ≡ all
-pieces_more diverse behind old new all n ns is at l e f =
-    let w : n + sum ns ≡ length is = sym (sum_by-cons (λ n. n) n ns) ∙ l.whole in
-    let t : length (take n is) ≡ n = length-take-le n is (omega (arith, w)) in
-    let piece = piece_rows diverse behind (take n is) at in
-    ap (λ k. k ++ pieces_rows diverse behind (divided ns (drop n is)) (at + 4 * n)) f
-    ∙ append_assoc old piece (pieces_rows diverse behind (divided ns (drop n is)) (at + 4 * n))
-    ∙ ap (λ m. old ++ (piece ++ pieces_rows diverse behind (divided ns (drop n is)) (at + 4 * m))) (sym t)
-    ∙ e
+    (diverse : Bool) (behind : Option ℕ) (old new all : List RoleRow) (piece : List Ins) (rest : List (List Ins)) (at : ℕ) → old ++ pieces_rows diverse behind (piece ∷ rest) at ≡ all
+    → new ≡ old ++ piece_rows diverse behind piece at → new ++ pieces_rows diverse behind rest (at + 4 * length piece) ≡ all
+pieces_more diverse behind old new all piece rest at e f =
+    let behind_it = pieces_rows diverse behind rest (at + 4 * length piece) in
+    ap (λ k. k ++ behind_it) f ∙ append_assoc old (piece_rows diverse behind piece at) behind_it ∙ e
 
 -- a block more, where all have the rows of each, one behind the other
 pub blocks_more :

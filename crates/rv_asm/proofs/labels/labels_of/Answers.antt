@@ -5,12 +5,12 @@ use Rattle.std.specs.Option.{option_map, option_or}
 use Rattle.rv_asm.specs.Lines.{lines_of, label_in}
 use Rattle.rv_asm.specs.Named.{named}
 use Rattle.rv_asm.specs.Assembled.{place_behind, label_at, is_same, defines}
-use Rattle.rv_asm.proofs.Turns.{line_turn, lines_end, turn_place, place_near, labelled, label_is, turn_labels, all_labels}
+use Rattle.rv_asm.proofs.Turns.{line_turn, lines_end, before_next, labelled, label_is, turn_labels, all_labels}
 use Rattle.rv_asm.proofs.labels.labels_of.Goals as goal
 
 pub loop-line-init : goal.loop-line-init
 unfolding place_behind
-loop-line-init c = record { counted = refl; placed = refl; code_near = lit< tt; values_near = lit< tt; known = c.new-labels.ensures }
+loop-line-init c = record { before = record { counted = refl; placed = refl; code_near = lit< tt; values_near = lit< tt }; known = c.new-labels.ensures }
 
 pub loop-line-preserved : goal.loop-line-preserved
 loop-line-preserved c =
@@ -21,14 +21,9 @@ loop-line-preserved c =
     let i = c.loop-line.invariant in
     let one_on : n + 1 ≡ length (c.loop-line.yielded ++ c.in-Some.line ∷ []) = sym (length_push c.loop-line.yielded c.in-Some.line) in
     let label = labelled c.address.result c.loop-line.number in
-    let is : label ≡ label_at lines n = label_is lines n c.loop-line.place c.address.result c.loop-line.number c.address.ensures i.placed i.counted in
-    let placed = c.behind-place.ensures ∙ (turn_place lines n c.in-Some.line.now c.loop-line.place c.parts-line.result.head t i.placed c.parts-line.ensures.head ∙ ap (λ k. place_behind (take k lines)) one_on) in
-    let near = place_near c.args.text.now (length (c.loop-line.yielded ++ c.in-Some.line ∷ [])) c.behind-place.result c.requires (omega (arith, one_on, t.inside)) placed in
+    let is : label ≡ label_at lines n = label_is lines n c.loop-line.place c.address.result c.loop-line.number c.address.ensures i.before.placed i.before.counted in
     record {
-      counted = omega (arith, one_on, i.counted);
-      placed = placed;
-      code_near = near.code;
-      values_near = near.words;
+      before = before_next c.args.text.now n _ c.loop-line.number c.in-Some.line.now c.loop-line.place c.behind-place.result c.parts-line.result.head c.requires t one_on i.before c.parts-line.ensures.head c.behind-place.ensures;
       known = λ q.
           turn_labels lines n c.in-Some.line.now (named c.loop-line.labels q) (named c.define_by.new.labels q) q label t
           (c.in_ok-define_by.ensures q ∙ ap (λ w. option_or (named c.loop-line.labels q) (cond (is_same q (label_in w)) (Some label) None)) c.parts-line.ensures.word)

@@ -1,16 +1,14 @@
-use Rattle.std.proofs.Common.{◌≡◌, ℕ, ◌^◌, ◌<◌, List, length, take}
+use Rattle.std.proofs.Common.{◌≡◌, ℕ, List, length, take}
 use Rattle.std.specs.List.{position_from}
 use Rattle.std.specs.Option.{option_map}
 use Rattle.rv_asm.specs.Lines.{lines_of}
 use Rattle.rv_asm.specs.Named.{named}
-use Rattle.rv_asm.specs.Assembled.{defines, label_at, place_behind}
+use Rattle.rv_asm.specs.Assembled.{defines, label_at}
+use Rattle.rv_asm.proofs.Turns.{IsBefore}
 use Rattle.rv_asm.proofs.labels.labels_of.Given as goal
 
 abbrev pub invariant-loop-line : goal.invariant-loop-line
 invariant-loop-line l = record {
-  counted : l.number ≡ length l.yielded;
-  placed : l.place ≡ place_behind (take (length l.yielded) (lines_of l.text));
-  code_near : l.place.code_words < 2 ^ 32;
-  values_near : l.place.data_words < 2 ^ 32;
+  before : IsBefore l.text (length l.yielded) l.number l.place;
   known : (q : List ℕ) → named l.labels q ≡ option_map (label_at (lines_of l.text)) (position_from (defines q) 0 (take (length l.yielded) (lines_of l.text)));
 }

@@ -6,9 +6,5 @@ use Rattle.woven_code.proofs.roles.push_pieces.Given as goal
 
 -- the pieces so far, and those of the rest of the body
 abbrev pub invariant-loop-length : goal.invariant-loop-length
-invariant-loop-length l = record {
-  left : Left (drop l.length-index l.block.lengths) l.rest l.at;
-  same :
-      l.rows.items ++ pieces_rows l.diverse l.behind (divided (drop l.length-index l.block.lengths) l.rest) l.at
-      ≡ l.initial.rows.items ++ pieces_rows l.diverse l.behind (divided l.block.lengths l.block.body) l.block.start;
-}
+invariant-loop-length l =
+    Left (λ ps at. l.rows.items ++ pieces_rows l.diverse l.behind ps at ≡ l.initial.rows.items ++ pieces_rows l.diverse l.behind (divided l.block.lengths l.block.body) l.block.start) (drop l.length-index l.block.lengths) l.rest l.at

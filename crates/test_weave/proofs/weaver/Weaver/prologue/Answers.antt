@@ -3,6 +3,7 @@ use Rattle.std.specs.Prelude.{pos, [], ◌∷◌}
 use Rattle.qed_model.specs.Machine.Table.{Lui, ins}
 use Rattle.qed_model.specs.declared.item.Item.TheVariants.{Plain}
 use Rattle.qed_model.specs.Weave.Sequences.{zero_from, cursor, go_on}
+use Rattle.plc_rounds.specs.Spans.{spans_of}
 use Rattle.test_weave.specs.Form.{form}
 use Rattle.test_weave.proofs.Joined.{append_five}
 use Rattle.test_weave.proofs.weaver.Weaver.prologue.Goals as goal
@@ -11,4 +12,4 @@ use Rattle.test_weave.proofs.weaver.Weaver.prologue.Goals as goal
 pub returns : goal.returns
 returns c =
     append_five c.args.out.now c.put_zeros.new.out c.put_zeros-2.new.out c.put_half.new.out c.put_cursor.new.out c.go_on.new.out (zero_from 1 13) (zero_from 17 13) (Plain (ins Lui 14 0 0 (pos c.args.distance)) ∷ []) (cursor (form c.args.self.now).spans) (go_on c.args.entry)
-    c.in_ok-put_zeros.ensures c.in_ok-put_zeros-2.ensures c.in_ok-put_half.ensures (c.in_ok-put_cursor.ensures ∙ ap (λ s. c.put_half.new.out ++ cursor s) c.span.ensures) c.in_ok-go_on.ensures
+    c.in_ok-put_zeros.ensures c.in_ok-put_zeros-2.ensures c.in_ok-put_half.ensures (c.in_ok-put_cursor.ensures ∙ ap (λ s. c.put_half.new.out ++ cursor (spans_of s)) c.as_slice.ensures) c.in_ok-go_on.ensures

@@ -1,38 +1,39 @@
-//! The mirror part of an instruction, of other kinds than its own where there are such.
+//! The mirror part of an instruction, of its own kind, or of other kinds where there are such.
 ghost use Rattle.std.specs.Prelude.{◌≡◌};
 
 use crate::words::{
     add, addiw, by_value, divuw, divw, flipped, low_word, lui, mulh, mulhsu, of_two, rem, sllw,
     sra, sraw, srlw, sub,
 };
-use eddi_dup::Mirrored;
+use eddi_dup::put_mirrored;
 use passes::{Emit, Pass};
 use rv_isa::{Ins, Kind};
 use std::alloc::AllocError;
 
-/// Words of other kinds on the pairs; what has none is mirrored as it is.
+/// The same on the pairs, or where `diverse` is set words of other kinds; what has none is mirrored as it is.
 #[derive(Clone, Copy, Drop)]
-pub struct Diverse;
+pub struct Mirror {
+    pub diverse: bool,
+}
 
-impl Pass for Diverse {
-    ghost use Rattle.std.specs.Prelude.{◌-◌, []};
+impl Pass for Mirror {
+    ghost use Rattle.std.specs.Prelude.{[]};
     ghost use Rattle.weave_core.specs.Blocks.{FitsPiece};
-    ghost use Rattle.qed_model.specs.Weave.Costs.{spent};
     ghost use Rattle.qed_model.specs.Machine.Step.{step};
-    ghost use Rattle.qed_model.specs.Weave.Diverse.{diverse};
+    ghost use Rattle.qed_model.specs.Weave.Forms.{mirror_of};
     ghost use Rattle.passes.specs.Pass.{Does, same};
     ghost use Rattle.eddi_dup.specs.Parts.{Runs};
-    ghost use Rattle.mirror_forms.specs.Laws.{any, quiet_diverse, honest_diverse, lockstep_diverse};
+    ghost use Rattle.mirror_forms.specs.Laws.{any, mirror_cost, quiet_mirror, honest_mirror, lockstep_mirror};
 
     ghost is_for = { λ p i at. FitsPiece i };
 
     ghost suits = { λ p. any };
 
-    ghost items = { λ p i at. diverse i at };
+    ghost items = { λ p i at. mirror_of p.diverse i at };
 
     ghost uses = { λ p i. [] };
 
-    ghost cost = { λ p i. 8 - spent i };
+    ghost cost = { λ p i. mirror_cost p.diverse i };
 
     ghost needs = { λ p i at w v. Runs w i at v.shadow };
 
@@ -42,6 +43,9 @@ impl Pass for Diverse {
 
     #[tactic(auto, using(passes::specs::Emitted::part_none))]
     fn emit(&self, ins: &Ins, at: u64, out: &mut Emit) -> Result<(), AllocError> {
+        if !self.diverse {
+            return put_mirrored(ins, at, out);
+        }
         match ins.kind {
             Kind::Lui => out.put(&lui(ins)),
             Kind::Addi => out.put(&by_value(ins, Kind::Xori, Kind::Add)),
@@ -80,13 +84,13 @@ impl Pass for Diverse {
             Kind::Remuw => out.put(&rem(ins, Kind::Divuw, Kind::Mulw, Kind::Subw)),
             Kind::Divw => out.put(&divw(ins)),
             Kind::Divuw => out.put(&divuw(ins)),
-            _ => Mirrored.emit(ins, at, out),
+            _ => put_mirrored(ins, at, out),
         }
     }
 
-    ghost quiet = { λ p i at f. quiet_diverse i at f };
+    ghost quiet = { λ p i at f. quiet_mirror p.diverse i at f };
 
-    ghost honest = { λ p i at f. honest_diverse i at f };
+    ghost honest = { λ p i at f. honest_mirror p.diverse i at f };
 
-    ghost lockstep = { λ p i at f. lockstep_diverse i at f };
+    ghost lockstep = { λ p i at f. lockstep_mirror p.diverse i at f };
 }
