@@ -10,7 +10,7 @@ use Rattle.qed_model.proofs.Walk.{run-more, run-none}
 use Rattle.rv_step.specs.Known.{goes_on, AreMade}
 use Rattle.strikes.specs.Found.{IsOn, StopsWithin}
 use Rattle.strikes.specs.Kept.{IsReach}
-use Rattle.strikes.proofs.Stopping.{going_before, progress_state}
+use Rattle.strikes.proofs.Stopping.{going_before, progress_state, ran_on}
 
 -- ---- parts
 pub goes : (o : Outcome) → goes_on o ≡ true → o ≡ Going
@@ -34,42 +34,31 @@ on_before s t n steps k on going l =
     (λ h. let e : n + (k - n) ≡ k = omega (arith, h) in ap (λ i. (run s i).outcome) (sym e) ∙ ap (λ u. u.outcome) (on_later s t n (k - n) on) ∙ going (k - n) (omega (arith, l, h)))
     (cases_lt k n)
 
--- so many steps more
-more_made : (s : State) (made n : ℕ) (p : Progress) → IsOn s made p.state → (progress p n).state ≡ run s (made + n)
-more_made s made n p on = progress_state p n ∙ sym (on_later s p.state made n on)
-
 -- a machine that still goes on
-pub on_more : (s : State) (made n next : ℕ) (p q : Progress) → IsOn s made p.state → q ≡ progress p n → next ≡ made + n → q.state.outcome ≡ Going → IsOn s next q.state
+pub on_more : (s : State) (made n next : ℕ) (p q : Progress) → IsOn s made p.state → q ≡ progress p n → made + n ≡ next → q.state.outcome ≡ Going → IsOn s next q.state
 on_more s made n next p q on ran sum going =
-    let there : q.state ≡ run s next = ap (λ r. r.state) ran ∙ more_made s made n p on ∙ ap (run s) (sym sum) in
+    let there = ran_on s p q made n next on.there ran sum in
     record { there = there; before = λ k l. going_before s k next (omega (arith, l)) (ap (λ t. t.outcome) (sym there) ∙ going) }
 
--- before those that are made next it went on
-before_more : (s : State) (made more k : ℕ) (p : Progress) → IsOn s made p.state → ((i : ℕ) → i < more → goes_on (progress p i).state.outcome ≡ true) → k < made + more → (run s k).outcome ≡ Going
-before_more s made more k p on going l = on_before s p.state made more k on (λ i h. ap (λ t. t.outcome) (sym (progress_state p i)) ∙ goes (progress p i).state.outcome (going i h)) l
+-- one that makes so many more, before each of which it goes on
+pub on_made : (s : State) (made n more next : ℕ) (p q : Progress) → IsOn s made p.state → q ≡ progress p n → AreMade p n more → made + more ≡ next → IsOn s next q.state
+on_made s made n more next p q on ran are sum = record {
+  there = ran_on s p q made more next on.there (ran ∙ sym are.all) sum;
+  before = λ k l. on_before s p.state made more k on (λ i h. ap (λ t. t.outcome) (sym (progress_state p i)) ∙ goes (progress p i).state.outcome (are.going i h)) (omega (arith, l, sum));
+}
 
--- a machine that stops
+-- and stops
 pub on_stops :
     (s : State) (made n more most : ℕ) (p q : Progress) → IsOn s made p.state → q ≡ progress p n → AreMade p n more → made + n ≤ most → q.state.outcome ≢ Going
     → StopsWithin s most q.state (made + more)
 on_stops s made n more most p q on ran are fits stopped =
-    let there : q.state ≡ run s (made + more) = ap (λ r. r.state) (ran ∙ sym are.all) ∙ more_made s made more p on in
+    let next = on_made s made n more (made + more) p q on ran are refl in
     let within = are.within in
     record {
       within = omega (arith, within, fits);
-      stops = record { stopped = λ g. stopped (ap (λ t. t.outcome) there ∙ g); before = λ k l. before_more s made more k p on are.going l };
-      there = there;
+      stops = record { stopped = λ g. stopped (ap (λ t. t.outcome) next.there ∙ g); before = next.before };
+      there = next.there;
     }
-
--- where so many more are made
-pub on_made : (s : State) (made n more next : ℕ) (p q : Progress) → IsOn s made p.state → q ≡ progress p n → AreMade p n more → next ≡ made + more → IsOn s next q.state
-on_made s made n more next p q on ran are sum =
-    let there : q.state ≡ run s next = ap (λ r. r.state) (ran ∙ sym are.all) ∙ more_made s made more p on ∙ ap (run s) (sym sum) in
-    record { there = there; before = λ k l. before_more s made more k p on are.going (omega (arith, l, sum)) }
-
--- all steps
-pub on_goes : (s : State) (made n most : ℕ) (p q : Progress) → IsOn s made p.state → q ≡ progress p n → made + n ≡ most → q.state.outcome ≡ Going → (run s most).outcome ≡ Going
-on_goes s made n most p q on ran sum going = ap (λ k. (run s k).outcome) (sym sum) ∙ ap (λ t. t.outcome) (sym (ap (λ r. r.state) ran ∙ more_made s made n p on)) ∙ going
 
 -- ---- a copy of another run
 -- where both stand in one state, they go the same way

@@ -6,6 +6,5 @@ pub mod Drawing
 pub mod Copying
 pub mod Making
 pub mod Leaping
-pub mod Watching
 pub mod Comparing
 pub mod Untouched

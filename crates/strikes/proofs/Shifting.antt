@@ -14,7 +14,7 @@ use Rattle.qed_model.specs.Promise.Caught.{bound_of}
 use Rattle.qed_model.specs.Promise.Changed.{changed, changed_as, with_changes, changed_run, Ordered, last_step}
 use Rattle.qed_model.specs.Promise.Kept.{is_trapped}
 use Rattle.qed_model.proofs.Pairs.{every_all}
-use Rattle.qed_model.proofs.Walk.{run-more}
+use Rattle.qed_model.proofs.Walk.{run-last, run-more}
 use Rattle.qed_model.proofs.Changes.{first_last, run_unchanged}
 use Rattle.fault_inject.specs.Closed.{is_closed_place}
 use Rattle.fault_inject.proofs.Changing.{AllFrom, from_less, not_made}
@@ -23,7 +23,7 @@ use Rattle.strikes.specs.declared.error.StrikeError.{StrikeError}
 use Rattle.strikes.specs.Found.{trap_pc_of}
 use Rattle.strikes.specs.Later.{counted_from, all_from, first_step}
 use Rattle.strikes.specs.Verdict.{IsReached, has_closed, IsTried, IsFound, IsSilent, Shows, IsVerdict}
-use Rattle.strikes.proofs.Stopping.{going_before, run-last, behind}
+use Rattle.strikes.proofs.Stopping.{going_before, behind}
 
 -- ---- where no change comes before
 -- before the changes the run is the one without
@@ -36,7 +36,8 @@ unfolding changed_run run
 up_to s cs zero from = refl
 up_to s cs (suc n) from =
     let before = unchanged_before s cs n (from_less (suc n) (n + 1) cs (omega arith) from) in
-    ap (λ x. with_changes cs (suc n) (step x)) before ∙ ap (with_changes cs (suc n)) (sym (run-last s n))
+    let next : n + 1 ≡ suc n = omega arith in
+    ap (λ x. with_changes cs (suc n) (step x)) before ∙ ap (with_changes cs (suc n)) (sym (run-last s n) ∙ ap (run s) next)
 
 -- ---- changes as they are counted from m on
 same_step : (a m n : ℕ) → m ≤ a → (a - m == n) ≡ (a == m + n)

@@ -59,38 +59,16 @@ found_at s cs b how (suc j) o l x e =
       later = omega arith;
     }
 
--- which verdict an outcome is
-fired_by : (o : Outcome) (n k : ℕ) → verdict_of o n ≡ Some (verdict.Fired k) → (o ≡ Fired) × (n ≡ k)
-fired_by Going n k e = absurd (cc)
-fired_by Ended n k e = absurd (cc)
-fired_by Fired n k e = (refl, cc)
-fired_by (Trapped c p) n k e = absurd (cc)
-
-ended_by : (o : Outcome) (n k : ℕ) → verdict_of o n ≡ Some (verdict.Ended k) → (o ≡ Ended) × (n ≡ k)
-ended_by Going n k e = absurd (cc)
-ended_by Ended n k e = (refl, cc)
-ended_by o n k e = absurd (cc)
-
--- no other verdict
-not_other : (o : Outcome) (n : ℕ) (v : Verdict) → verdict_of o n ≡ Some v → ((k : ℕ) → v ≢ verdict.Fired k) → ((k : ℕ) → v ≢ verdict.Ended k) → ⊥
-not_other Going n v e f g = cc
-not_other Ended n v e f g = g n (cc)
-not_other Fired n v e f g = f n (cc)
-not_other (Trapped c p) n v e f g = cc
-
--- the verdict of a run that stops
+-- the verdict of a run that stops, by its outcome
 pub shows_found :
     (input output : State) (b : ℕ) (cs : List Change) (v : Verdict) → Ordered cs → IsTried output cs → Stops (changed_run output cs (last_step cs)) b v
     → Shows input output b cs (Ok v)
-shows_found input output b cs (verdict.Fired k) o t x =
-    let p = fired_by (run (changed_run output cs (last_step cs)) x.steps).outcome x.steps k x.shows in
-    (t, subst (IsFound output b cs Fired) p.1 (found_at output cs b Fired x.steps o x.within x.stops p.0))
-shows_found input output b cs (verdict.Ended k) o t x =
-    let p = ended_by (run (changed_run output cs (last_step cs)) x.steps).outcome x.steps k x.shows in
-    (t, subst (IsFound output b cs Ended) p.1 (found_at output cs b Ended x.steps o x.within x.stops p.0))
-shows_found input output b cs verdict.NotReached o t x = absurd (not_other (run (changed_run output cs (last_step cs)) x.steps).outcome x.steps verdict.NotReached x.shows (λ k e. absurd (cc)) (λ k e. absurd (cc)))
-shows_found input output b cs verdict.Closed o t x = absurd (not_other (run (changed_run output cs (last_step cs)) x.steps).outcome x.steps verdict.Closed x.shows (λ k e. absurd (cc)) (λ k e. absurd (cc)))
-shows_found input output b cs verdict.Same o t x = absurd (not_other (run (changed_run output cs (last_step cs)) x.steps).outcome x.steps verdict.Same x.shows (λ k e. absurd (cc)) (λ k e. absurd (cc)))
+shows_found input output b cs v o t x = by_outcome (run (changed_run output cs (last_step cs)) x.steps).outcome refl x.shows where
+  by_outcome : (how : Outcome) → (run (changed_run output cs (last_step cs)) x.steps).outcome ≡ how → verdict_of how x.steps ≡ Some v → Shows input output b cs (Ok v)
+  by_outcome Fired e is = let same : verdict.Fired x.steps ≡ v = cc in subst (λ w. Shows input output b cs (Ok w)) same (t, found_at output cs b Fired x.steps o x.within x.stops e)
+  by_outcome Ended e is = let same : verdict.Ended x.steps ≡ v = cc in subst (λ w. Shows input output b cs (Ok w)) same (t, found_at output cs b Ended x.steps o x.within x.stops e)
+  by_outcome Going e is = absurd (cc)
+  by_outcome (Trapped cause pc) e is = absurd (cc)
 
 -- ---- a run that shows nothing
 -- what stopped within the bound is so at its end
@@ -101,14 +79,9 @@ at_end s cs b how k o f =
 
 pub is_silent : (s : State) (cs : List Change) (b : ℕ) → Ordered cs → IsStill (changed_run s cs (last_step cs)) b → IsSilent s b cs
 is_silent s cs b o x = record {
-  no_check = λ k f. fires (at_end s cs b Fired k o f);
-  no_end = λ k f. ends (at_end s cs b Ended k o f);
-} where
-  fires : (run (changed_run s cs (last_step cs)) b).outcome ≡ Fired → ⊥
-  fires e = let n : verdict_of Fired 0 ≡ None = subst (λ h. verdict_of h 0 ≡ None) e x.shows_none in cc
-
-  ends : (run (changed_run s cs (last_step cs)) b).outcome ≡ Ended → ⊥
-  ends e = let n : verdict_of Ended 0 ≡ None = subst (λ h. verdict_of h 0 ≡ None) e x.shows_none in cc
+  no_check = λ k f. let n : verdict_of Fired 0 ≡ None = subst (λ h. verdict_of h 0 ≡ None) (at_end s cs b Fired k o f) x.shows_none in cc;
+  no_end = λ k f. let n : verdict_of Ended 0 ≡ None = subst (λ h. verdict_of h 0 ≡ None) (at_end s cs b Ended k o f) x.shows_none in cc;
+}
 
 -- what stopped by a trap is so when the bound is over
 no_verdict : (o : Outcome) (k : ℕ) → verdict_of o k ≡ None → verdict_of o 0 ≡ None

@@ -111,12 +111,6 @@ behind s cs k o =
     let by = by_last cs (last_step cs) o (omega arith) in
     ap (λ p. p.state) (plain (begun s) cs (last_step cs) k by) ∙ progress_state _ k
 
--- two runs one after the other
-pub two_runs : (p q r : Progress) (m n : ℕ) → q ≡ progress p m → r ≡ progress q n → r.state ≡ run p.state (m + n)
-two_runs p q r m n e f = ap (λ x. x.state) f ∙ progress_state q n ∙ ap (λ x. run x.state n) e ∙ ap (λ s. run s n) (progress_state p m) ∙ sym (run-more p.state m n)
-
--- ---- step by step
--- one step at the end
-pub run-last : (s : State) (n : ℕ) → run s (suc n) ≡ step (run s n)
-unfolding run
-run-last s n = let e : suc n ≡ n + 1 = omega arith in ap (run s) e ∙ run-more s n 1
+-- a machine that has made m steps makes n more
+pub ran_on : (s : State) (p q : Progress) (m n k : ℕ) → p.state ≡ run s m → q ≡ progress p n → m + n ≡ k → q.state ≡ run s k
+ran_on s p q m n k there is sum = ap (λ r. r.state) is ∙ progress_state p n ∙ ap (λ t. run t n) there ∙ sym (run-more s m n) ∙ ap (run s) sum

@@ -29,41 +29,13 @@ same_outcome : (a x : ℕ) (s : State) → (struck (Word a) x s).outcome ≡ s.o
 unfolding struck
 same_outcome a x s = refl
 
-spared_on : (a x at n : ℕ) (start s t : State) → a < 2 ^ 64 → AreSpared a at n start → s ≡ struck (Word a) x (run start at) → t ≡ struck (Word a) x (run start (at + n)) → IsOn s n t
+pub spared_on : (a x at n : ℕ) (start s t : State) → a < 2 ^ 64 → AreSpared a at n start → s ≡ struck (Word a) x (run start at) → t ≡ struck (Word a) x (run start (at + n)) → IsOn s n t
 spared_on a x at n start s t ha are from to = record {
   there = to ∙ sym (spared_to a x at n start ha are.spared) ∙ ap (λ u. run u n) (sym from);
   before = λ k l.
       ap (λ u. (run u k).outcome) from ∙ ap (λ u. u.outcome) (spared_to a x at k start ha (λ j m. are.spared j (omega (arith, l, m))))
       ∙ same_outcome a x (run start (at + k)) ∙ are.going k l;
 }
-
--- the machine of the kept run, with the word changed
-word_changed : (p : Place) (x n : ℕ) (start m q : Progress) → m ≡ progress start n → q ≡ struck_progress p x m → q.state ≡ struck p x (run start.state n)
-word_changed p x n start m q there made = ap (λ r. r.state) made ∙ ap (λ r. struck p x r.state) there ∙ ap (struck p x) (progress_state start n)
-
--- so it stands as that run would
-pub spared_there :
-    (a x at n : ℕ) (start m q : Progress) (s : State) → a < 2 ^ 64 → AreSpared a at n start.state → s ≡ struck (Word a) x (run start.state at) → m ≡ progress start (at + n)
-    → q ≡ struck_progress (Word a) x m → IsOn s n q.state
-spared_there a x at n start m q s ha are from there made = spared_on a x at n start.state s q.state ha are from (word_changed (Word a) x (at + n) start m q there made)
-
--- ---- what is found behind them
-pub stops_later : (s t u : State) (n most steps : ℕ) → IsOn s n t → n ≤ most → StopsWithin t (most - n) u steps → StopsWithin s most u (n + steps)
-stops_later s t u n most steps on fits x =
-    let within = x.within in
-    record {
-      within = omega (arith, within, fits);
-      stops = record {
-        stopped = λ g. x.stops.stopped (ap (λ v. v.outcome) (sym (on_later s t n steps on)) ∙ g);
-        before = λ k l. on_before s t n steps k on x.stops.before l;
-      };
-      there = x.there ∙ sym (on_later s t n steps on);
-    }
-
-pub goes_later : (s t : State) (n most : ℕ) → IsOn s n t → n ≤ most → (run t (most - n)).outcome ≡ Going → (run s most).outcome ≡ Going
-goes_later s t n most on fits going =
-    let e : n + (most - n) ≡ most = omega (arith, fits) in
-    ap (λ i. (run s i).outcome) (sym e) ∙ ap (λ u. u.outcome) (on_later s t n (most - n) on) ∙ going
 
 -- ---- one change of a word
 at_once : (c : Change) (s : State) (a : ℕ) → c.step ≡ 0 → c.place ≡ Word a → s.outcome ≡ Going → changed_run s (c ∷ []) c.step ≡ struck (Word a) c.value s

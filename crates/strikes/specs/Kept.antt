@@ -1,5 +1,5 @@
 -- What is kept of an input's run and of an output's run: copies of the machine after every 4,096 steps.
-use Rattle.std.specs.Prelude.{◌≡◌, ◌≢◌, ℕ, ◌+◌, ◌*◌, ◌/◌, ◌<◌, ◌≤◌, ◌⊎◌, true, List, length, refl}
+use Rattle.std.specs.Prelude.{◌≡◌, ◌≢◌, ℕ, ◌+◌, ◌*◌, ◌/◌, ◌<◌, ◌≤◌, ◌⊎◌, List, length, refl}
 use Rattle.std.specs.Coded.{Coded, code_by, coded×, coded_ℕ}
 use Rattle.qed_model.specs.declared.bounds.Bounds.{Bounds}
 use Rattle.qed_model.specs.contracts.bounds.Bounds as bounds_contract
@@ -7,8 +7,7 @@ use Rattle.qed_model.specs.declared.machine.Outcome.TheVariants as outcome
 use Rattle.qed_model.specs.Below.{each}
 use Rattle.qed_model.specs.Machine.Progress.{Progress, progress}
 use Rattle.qed_model.specs.Machine.Step.{State, run}
-use Rattle.rv_step.specs.Codes.{progress_code, state_code}
-use Rattle.rv_step.specs.Known.{goes_on}
+use Rattle.rv_step.specs.Codes.{state_code}
 
 -- ---- copies of a machine
 -- the least number of steps after which a run does not go on; 1,000,000 where that is greater or there is none
@@ -21,13 +20,13 @@ pub record IsReach (start : State) (steps : ℕ) : Type 0 where
 abbrev pub copies_up_to : ℕ → ℕ
 copies_up_to reach = reach / 4096 + 1
 
--- the machine at the start, and how far its run is struck: copy i has made 4,096 * i steps more
+-- the state at the start, and how far the run is struck: copy i has made 4,096 * i steps more
 pub record Copied : Type 0 where
-  pub start : Progress
+  pub start : State
   pub reach : ℕ
 
 abbrev pub copied_code : Coded Copied
-copied_code = code_by (Progress × ℕ) (coded× progress_code coded_ℕ) (λ c. (c.start, c.reach)) (λ p. record { start = p.0; reach = p.1 }) (λ _. refl)
+copied_code = code_by (State × ℕ) (coded× state_code coded_ℕ) (λ c. (c.start, c.reach)) (λ p. record { start = p.0; reach = p.1 }) (λ _. refl)
 
 -- those behind the first
 pub record AreCopies (start : Progress) (reach : ℕ) (later : List Progress) : Type 0 where
@@ -47,8 +46,3 @@ abbrev pub pair_code : Coded Pair
 pair_code =
     code_by (State × (State × (Bounds × ℕ))) (coded× state_code (coded× state_code (coded× (bounds_contract.the_row).coded coded_ℕ)))
     (λ p. (p.input, (p.output, (p.bounds, p.reach)))) (λ p. record { input = p.0; output = p.1.0; bounds = p.1.1.0; reach = p.1.1.1 }) (λ _. refl)
-
--- a machine after so many steps, each of which it went on before
-pub record IsWatched (start later : Progress) (steps : ℕ) : Type 0 where
-  pub there : later ≡ progress start steps
-  pub going : (k : ℕ) → k < steps → goes_on (progress start k).state.outcome ≡ true

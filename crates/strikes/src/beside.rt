@@ -16,7 +16,7 @@ const PAGE_STEPS: u64 = 32;
 /// Whether a machine stands as copy `number` of a run does. It may say no where it does, as where the comparison takes longer than so
 /// many steps.
 fn stands_at(way: &Snapshots, number: u64, machine: &Machine, steps: u64) -> bool
-    ensures { result ≡ true → machine.now.state ≡ run way.now.start.state (4096 * number) }
+    ensures { result ≡ true → machine.now.state ≡ run way.now.start (4096 * number) }
 {
     match way.at(number) {
         Some(copy) => machine.is_beside(copy, steps / PAGE_STEPS),
@@ -35,7 +35,7 @@ fn leap_to_stop(
 ) -> Result<Option<u64>, AllocError>
     requires part { made ≤ most }
     requires number { number + 1 ≤ copies_up_to way.now.reach }
-    requires beside { machine.old.state ≡ run way.now.start.state (4096 * number) }
+    requires beside { machine.old.state ≡ run way.now.start (4096 * number) }
     ensures { (s : State) → IsOn s made machine.old.state → IfOk result (TellsStop s most machine.new.state) }
 {
     let reach = way.reach();
@@ -49,29 +49,33 @@ fn leap_to_stop(
     Ok(steps)
 }
 
-/// What `steps_to_stop` gives of a machine that has made no step, and may stand after some as a run does that is kept, `at` steps
-/// before it.
+/// What `steps_to_stop` gives of a machine that has made `from` steps, and may stand after some more as a run does that is kept, which
+/// has made `at` steps then.
 pub fn steps_beside(
     alloc: Global,
     way: &Snapshots,
     at: u64,
     machine: &mut Machine,
+    from: u64,
     most: u64,
 ) -> Result<Option<u64>, AllocError>
-    ensures { IfOk result (TellsStop machine.old.state most machine.new.state) }
+    requires { from ≤ most }
+    ensures { (s : State) → IsOn s from machine.old.state → IfOk result (TellsStop s most machine.new.state) }
 {
-    let mut made = 0;
+    let mut here = at;
+    let mut made = from;
     for number in at / SPACING + 1..way.reach() / SPACING + 1 {
-        let next = SPACING * number - at;
-        if most < next {
+        let next = SPACING * number - here;
+        if most - made < next {
             let steps = steps_to_stop(machine, made, most)?;
             return Ok(steps);
         }
-        let more = machine.run_made(next - made)?;
+        let more = machine.run_made(next)?;
         if machine.outcome() != Outcome::Going {
             return Ok(Some(made + more));
         }
-        made = next;
+        made += next;
+        here = SPACING * number;
         if stands_at(way, number, machine, most - made) {
             let steps = leap_to_stop(alloc, way, number, machine, made, most)?;
             return Ok(steps);

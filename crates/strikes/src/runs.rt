@@ -45,7 +45,7 @@ impl Model for Runs {
 
     ghost coded = { pair_code };
 
-    ghost view = { λ r. record { input = r.input.state; output = r.output.start.state; bounds = r.bounds; reach = r.output.reach } };
+    ghost view = { λ r. record { input = r.input; output = r.output.start; bounds = r.bounds; reach = r.output.reach } };
 
     ghost invariant = { λ r. 1 ≤ r.output.reach };
 }

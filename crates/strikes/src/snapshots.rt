@@ -1,6 +1,5 @@
 //! Copies of a machine on its way.
 ghost use Rattle.std.specs.Prelude.{◌≡◌, ◌↔◌, ◌+◌, ◌-◌, ◌*◌, ◌≤◌, IfOk, IfSome, IsNone};
-ghost use Rattle.qed_model.specs.Machine.Progress.{progress};
 ghost use Rattle.qed_model.specs.Machine.Step.{run};
 ghost use Rattle.strikes.specs.Kept.{AreCopies, IsReach, copies_up_to};
 
@@ -33,7 +32,7 @@ impl Model for Snapshots {
 
     ghost coded = { copied_code };
 
-    ghost view = { λ s. record { start = s.first; reach = s.reach } };
+    ghost view = { λ s. record { start = s.first.state; reach = s.reach } };
 
     ghost invariant = { λ s. AreCopies s.first s.reach s.later.items };
 }
@@ -68,7 +67,7 @@ fn learn(copies: &mut Vec<Machine>, machine: &Machine) -> Result<(), AllocError>
 impl Snapshots {
     /// A machine at its start, and its copies.
     pub fn take(alloc: Global, first: Machine) -> Result<Snapshots, AllocError>
-        ensures { IfOk result (λ snapshots. snapshots.start ≡ first) }
+        ensures { IfOk result (λ snapshots. snapshots.start ≡ first.state) }
     {
         let mut first = first;
         let mut machine = first.copy(alloc)?;
@@ -85,7 +84,7 @@ impl Snapshots {
     /// After how many steps the machine first does not go on; 1,000,000 where that is greater or there is none.
     pub fn reach(&self) -> u64
         ensures value { result ≡ self.now.reach }
-        ensures reach { IsReach self.now.start.state result }
+        ensures reach { IsReach self.now.start result }
     {
         self.reach
     }
@@ -93,7 +92,7 @@ impl Snapshots {
     /// The machine after 4,096 steps as often as the number says; None where there is no such copy.
     pub fn at(&self, number: u64) -> Option<&Machine>
         ensures none { IsNone result ↔ (copies_up_to self.now.reach ≤ number) }
-        ensures there { IfSome result (λ machine. machine.now ≡ progress self.now.start (4096 * number)) }
+        ensures there { IfSome result (λ machine. machine.now.state ≡ run self.now.start (4096 * number)) }
     {
         if number == 0 {
             return Some(&self.first);
@@ -103,7 +102,7 @@ impl Snapshots {
 
     /// The machine after so many steps.
     pub fn machine_at(&self, alloc: Global, steps: u64) -> Result<Machine, AllocError>
-        ensures { IfOk result (λ machine. machine ≡ progress self.now.start steps) }
+        ensures { IfOk result (λ machine. machine.state ≡ run self.now.start steps) }
     {
         let number = steps.min(self.reach) / SPACING;
         let mut machine = self.at(number).unwrap().copy(alloc)?;
@@ -120,8 +119,8 @@ impl Snapshots {
         made: u64,
         steps: u64,
     ) -> Result<(), AllocError>
-        requires { machine.old.state ≡ run self.now.start.state made }
-        ensures { IfOk result (λ _. machine.new.state ≡ run self.now.start.state steps) }
+        requires { machine.old.state ≡ run self.now.start made }
+        ensures { IfOk result (λ _. machine.new.state ≡ run self.now.start steps) }
     {
         if made <= steps && steps - made <= steps % SPACING {
             machine.run(steps - made)?;
@@ -140,7 +139,7 @@ impl Snapshots {
         from: u64,
         to: u64,
     ) -> Result<(), AllocError>
-        requires there { machine.old.state ≡ run self.now.start.state (start + from) }
+        requires there { machine.old.state ≡ run self.now.start (start + from) }
         requires order { from ≤ to }
         ensures { IfOk result (λ _. machine.new.state ≡ run machine.old.state (to - from)) }
     {

@@ -51,19 +51,17 @@ pub fn steps_spared(
     value: u64,
     most: u64,
 ) -> Result<Option<u64>, AllocError>
-    requires trace { IsTrace way.now.start.state trace.now }
-    requires there { machine.old.state ≡ struck (InWord address) value (run way.now.start.state at) }
+    requires trace { IsTrace way.now.start trace.now }
+    requires there { machine.old.state ≡ struck (InWord address) value (run way.now.start at) }
     ensures { IfOk result (TellsStop machine.old.state most machine.new.state) }
 {
     let made = trace.spared(address, at, most);
     if made < SPACING {
-        let steps = steps_beside(alloc, way, at, machine, most)?;
+        let steps = steps_beside(alloc, way, at, machine, 0, most)?;
         return Ok(steps);
     }
     *machine = way.machine_at(alloc, at + made)?;
     machine.strike(&Place::Word(address), value)?;
-    match steps_beside(alloc, way, at + made, machine, most - made)? {
-        Some(steps) => Ok(Some(made + steps)),
-        None => Ok(None),
-    }
+    let steps = steps_beside(alloc, way, at + made, machine, made, most)?;
+    Ok(steps)
 }

@@ -35,7 +35,7 @@ fn has_closed(
     machine: &mut Machine,
     changes: &[Change],
 ) -> Result<bool, AllocError>
-    requires there { machine.old.state ≡ run way.now.start.state start }
+    requires there { machine.old.state ≡ run way.now.start start }
     requires ordered { Ordered changes.now }
     ensures closed { IfOk result (λ closed. closed ≡ has_closed_of machine.old.state changes.now) }
     ensures there { IfOk result (λ _. machine.new.state ≡ run machine.old.state (last_step_of changes.now)) }
@@ -59,7 +59,7 @@ fn shown_by(
     machine: &mut Machine,
     changes: &[Change],
 ) -> Result<Option<Verdict>, AllocError>
-    requires there { machine.old.state ≡ run way.now.start.state start }
+    requires there { machine.old.state ≡ run way.now.start start }
     requires ordered { Ordered changes.now }
     ensures shown { IfOk result (λ v. MatchOption v (IsTried machine.old.state changes.now) (ShowsUnchanged machine.old.state changes.now)) }
     ensures there { IfOk result (λ _. machine.new.state ≡ run machine.old.state (last_step_of changes.now)) }
@@ -83,7 +83,7 @@ fn unchanged_verdict(
     output: &mut Machine,
     changes: &[Change],
 ) -> Result<Option<Verdict>, AllocError>
-    requires there { output.old.state ≡ run way.now.start.state start }
+    requires there { output.old.state ≡ run way.now.start start }
     requires ordered { Ordered changes.now }
     ensures shown { IfOk result (λ v. MatchOption v (IsTried output.old.state changes.now) (ShowsUnchanged output.old.state changes.now)) }
     ensures same { IfOk result (λ _. output.new.state ≡ output.old.state) }
@@ -118,15 +118,15 @@ fn steps_behind(
     changes: &[Change],
     most: u64,
 ) -> Result<Option<u64>, AllocError>
-    requires trace { IsTrace way.now.start.state trace.now }
-    requires there { IsChangedAt (run way.now.start.state at) (one_word_of changes.now) machine.old.state }
+    requires trace { IsTrace way.now.start trace.now }
+    requires there { IsChangedAt (run way.now.start at) (one_word_of changes.now) machine.old.state }
     ensures { IfOk result (TellsStop machine.old.state most machine.new.state) }
 {
     match one_word(changes) {
         Some((address, value)) => {
             steps_spared(alloc, way, trace, at, machine, address, value, most)
         }
-        None => steps_beside(alloc, way, at, machine, most),
+        None => steps_beside(alloc, way, at, machine, 0, most),
     }
 }
 
@@ -141,8 +141,8 @@ fn later_verdict(
     changes: &[Change],
     bound: u64,
 ) -> Result<Option<Verdict>, AllocError>
-    requires trace { IsTrace way.now.start.state trace.now }
-    requires there { IsChangedAt (run way.now.start.state at) (one_word_of changes.now) machine.old.state }
+    requires trace { IsTrace way.now.start trace.now }
+    requires there { IsChangedAt (run way.now.start at) (one_word_of changes.now) machine.old.state }
     ensures { IfOk result (λ v. MatchOption v (IsStill machine.old.state bound) (Stops machine.old.state bound)) }
 {
     let Some(steps) = steps_behind(alloc, way, trace, at, machine, changes, bound)? else {
@@ -162,8 +162,8 @@ pub fn output_verdict(
     changes: &[Change],
     bound: u64,
 ) -> Result<Option<Verdict>, AllocError>
-    requires trace { IsTrace way.now.start.state trace.now }
-    requires there { output.state ≡ run way.now.start.state start }
+    requires trace { IsTrace way.now.start trace.now }
+    requires there { output.state ≡ run way.now.start start }
     requires ordered { Ordered changes.now }
     ensures { IfOk result (λ v. MatchOption v (IsSilentAt output.state bound changes.now) (λ v. (input : State) → Shows input output.state bound changes.now (Ok v))) }
 {

@@ -18,17 +18,17 @@ pub struct Watched {
 }
 
 impl Model for Watched {
-    ghost use Rattle.qed_model.specs.Machine.Progress.{Progress};
-    ghost use Rattle.rv_step.specs.Codes.{progress_code};
-    ghost use Rattle.strikes.specs.Kept.{IsWatched};
+    ghost use Rattle.qed_model.specs.Machine.Step.{State};
+    ghost use Rattle.rv_step.specs.Codes.{state_code};
+    ghost use Rattle.strikes.specs.Found.{IsOn};
 
-    ghost Value = { Progress };
+    ghost Value = { State };
 
-    ghost coded = { progress_code };
+    ghost coded = { state_code };
 
-    ghost view = { λ w. w.start };
+    ghost view = { λ w. w.start.state };
 
-    ghost invariant = { λ w. IsWatched w.start w.later w.steps };
+    ghost invariant = { λ w. IsOn w.start.state w.steps w.later.state };
 }
 
 /// The pc of a trap.
@@ -44,7 +44,7 @@ fn trap_pc(outcome: Outcome) -> Option<u64>
 impl Watched {
     /// Watches a machine for so many steps, or until it stops.
     pub fn watch(alloc: Global, start: Machine, most: u64) -> Result<Watched, AllocError>
-        ensures { IfOk result (λ watched. watched ≡ start) }
+        ensures { IfOk result (λ watched. watched ≡ start.state) }
     {
         let mut later = start.copy(alloc)?;
         let steps = later.run_made(most)?;
@@ -57,25 +57,18 @@ impl Watched {
 
     /// The pc where the machine traps within two numbers of steps; None where it does not.
     pub fn trap(&self, alloc: Global, last: u64, bound: u64) -> Result<Option<u64>, AllocError>
-        ensures { IfOk result (λ pc. pc ≡ trap_pc_of (run self.now.state (last + bound)).outcome) }
+        ensures { IfOk result (λ pc. pc ≡ trap_pc_of (run self.now (last + bound)).outcome) }
     {
-        if u128::from(last) + u128::from(bound) < u128::from(self.steps) {
-            return Ok(None);
+        match self.later(alloc, last, bound)? {
+            Some(machine) => Ok(trap_pc(machine.outcome())),
+            None => Ok(None),
         }
-        let outcome = self.later.outcome();
-        if outcome != Outcome::Going {
-            return Ok(trap_pc(outcome));
-        }
-        let mut machine = self.later.copy(alloc)?;
-        machine.run(last.saturating_sub(self.steps))?;
-        let outcome = machine.run(bound - self.steps.saturating_sub(last))?;
-        Ok(trap_pc(outcome))
     }
 
     /// The machine after two numbers of steps; None where it goes on before and after them.
     pub fn later(&self, alloc: Global, last: u64, more: u64) -> Result<Option<Machine>, AllocError>
-        ensures there { IfOk result (λ r. IfSome r (λ machine. machine.state ≡ run self.now.state (last + more))) }
-        ensures going { IfOk result (λ r. IfNone r ((run self.now.state (last + more)).outcome ≡ outcome.Going)) }
+        ensures there { IfOk result (λ r. IfSome r (λ machine. machine.state ≡ run self.now (last + more))) }
+        ensures going { IfOk result (λ r. IfNone r ((run self.now (last + more)).outcome ≡ outcome.Going)) }
     {
         if u128::from(last) + u128::from(more) < u128::from(self.steps) {
             return Ok(None);

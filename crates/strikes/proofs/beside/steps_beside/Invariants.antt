@@ -1,11 +1,12 @@
-use Rattle.std.proofs.Common.{◌+◌, ◌*◌, ◌≤◌}
+use Rattle.std.proofs.Common.{◌*◌, ◌≤◌}
+use Rattle.qed_model.specs.Machine.Step.{State}
 use Rattle.strikes.specs.Found.{IsOn}
 use Rattle.strikes.proofs.beside.steps_beside.Given as goal
 
 -- so many steps were made, no more than up to the copy before
 abbrev pub invariant-loop-number : goal.invariant-loop-number
 invariant-loop-number l = record {
-  on : IsOn l.initial.machine.state l.made l.machine.state;
-  behind : l.at + l.made ≤ 4096 * l.number;
+  on : (s : State) → IsOn s l.from l.initial.machine.state → IsOn s l.made l.machine.state;
+  behind : l.here ≤ 4096 * l.number;
   within : l.made ≤ l.most;
 }

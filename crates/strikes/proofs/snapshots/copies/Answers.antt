@@ -2,14 +2,16 @@ use Rattle.std.proofs.Common.{◌≡◌, ◌⊎◌, inl, inr, ◌+◌, ◌*◌, 
 use Rattle.std.proofs.lemmas.Bool.{cases_lt}
 use Rattle.qed_model.specs.Machine.Progress.{progress}
 use Rattle.qed_model.proofs.BelowLaws.{each_none, push_each}
-use Rattle.strikes.proofs.Copying.{progress-none, next_copy, reach_made, are_copies}
+use Rattle.rv_step.proofs.Running.{none_made}
+use Rattle.fault_inject.proofs.Changing.{further}
+use Rattle.strikes.proofs.Copying.{reach_made, are_copies}
 use Rattle.strikes.proofs.Leaping.{on_none, on_made}
 use Rattle.strikes.proofs.snapshots.copies.Goals as goal
 
 pub loop-number-init : goal.loop-number-init
 loop-number-init c = record {
   copies = c.new-later.ensures.items ∙ each_none (λ i. progress c.args.machine.now (4096 * (i + 1)));
-  there = progress-none c.args.machine.now;
+  there = none_made c.args.machine.now;
   on = on_none c.args.machine.now.state;
 }
 
@@ -22,7 +24,7 @@ returns-then-made-lt-SPACING c =
 
 pub loop-number-preserved : goal.loop-number-preserved
 loop-number-preserved c =
-    let next = next_copy c.args.machine.now c.loop-number.machine c.run_made.new.self c.loop-number.number c.loop-number.invariant.there c.in_ok-made.ensures.run in
+    let next = further c.args.machine.now c.loop-number.machine c.run_made.new.self (4096 * c.loop-number.number) 4096 (4096 * (c.loop-number.number + 1)) c.loop-number.invariant.there c.in_ok-made.ensures.run (omega arith) in
     let all = c.in_ok-made.ensures.made.within in
     record {
       copies = push_each c.loop-number.number (λ i. progress c.args.machine.now (4096 * (i + 1))) c.loop-number.later.items c.push.new.self.items c.in_ok-copied.copied c.in_ok-push.ensures.items c.loop-number.invariant.copies (c.in_ok-copied.ensures ∙ next);

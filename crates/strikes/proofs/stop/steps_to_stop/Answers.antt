@@ -1,14 +1,15 @@
-use Rattle.std.proofs.Common.{rules, ◌≡◌, ◌-◌, arith}
+use Rattle.std.proofs.Common.{rules, ◌≡◌, ◌-◌, sym, ap, ◌∙◌, arith}
 use Rattle.std.specs.Prelude.{◌≢◌}
 use Rattle.qed_model.specs.declared.machine.Outcome.TheVariants.{Going}
-use Rattle.strikes.proofs.Leaping.{on_goes, on_stops}
+use Rattle.strikes.proofs.Leaping.{on_stops}
+use Rattle.strikes.proofs.Stopping.{ran_on}
 use Rattle.strikes.proofs.stop.steps_to_stop.Goals as goal
 
 pub returns-then-eq : goal.returns-then-eq
 returns-then-eq c = λ s on.
     let going : c.run_made.new.self.state.outcome ≡ Going = search rules in
     let fits = c.requires in
-    on_goes s c.args.made (c.args.most - c.args.made) c.args.most c.args.machine.now c.run_made.new.self on c.in_ok-more.ensures.run (omega (arith, fits)) going
+    ap (λ t. t.outcome) (sym (ran_on s c.args.machine.now c.run_made.new.self c.args.made (c.args.most - c.args.made) c.args.most on.there c.in_ok-more.ensures.run (omega (arith, fits)))) ∙ going
 
 pub returns : goal.returns
 returns c = λ s on.

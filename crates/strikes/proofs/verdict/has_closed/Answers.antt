@@ -9,7 +9,7 @@ loop-change-init c = looked_first c.args.machine.now.state c.args.changes.now c.
 
 pub bring-requires-clause-there : goal.bring-requires-clause-there
 bring-requires-clause-there c =
-    c.loop-change.invariant.there ∙ ap (λ s. run s c.loop-change.steps) c.requires.there ∙ sym (run-more c.args.way.now.start.state c.args.start c.loop-change.steps)
+    c.loop-change.invariant.there ∙ ap (λ s. run s c.loop-change.steps) c.requires.there ∙ sym (run-more c.args.way.now.start c.args.start c.loop-change.steps)
 
 pub bring-requires-clause-order : goal.bring-requires-clause-order
 bring-requires-clause-order c =

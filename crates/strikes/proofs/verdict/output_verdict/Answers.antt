@@ -15,8 +15,8 @@ later_verdict-requires-clause-there c =
     c.in_ok-run_changed.ensures.state ∙ ap (λ s. changed_run s c.args.changes.now c.last_step-last.result) c.in_ok-verdict.ensures.same ∙ ap (changed_run c.args.output.state c.args.changes.now) c.last_step-last.ensures in
     let last = c.last_step-last.ensures in
     let at = c.saturating_add-at.ensures in
-    changed_word c.args.changes.now c.args.output.state (run c.args.way.now.start.state c.saturating_add-at.result) c.run_changed.new.machine.state tried.reached
-    (λ first. let same : c.args.start ≡ c.saturating_add-at.result = omega (arith, first, last, at) in c.requires.there ∙ ap (run c.args.way.now.start.state) same) there
+    changed_word c.args.changes.now c.args.output.state (run c.args.way.now.start c.saturating_add-at.result) c.run_changed.new.machine.state tried.reached
+    (λ first. let same : c.args.start ≡ c.saturating_add-at.result = omega (arith, first, last, at) in c.requires.there ∙ ap (run c.args.way.now.start) same) there
 
 pub returns : goal.returns
 returns c =

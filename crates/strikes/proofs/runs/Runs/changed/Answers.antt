@@ -21,8 +21,7 @@ returns c =
     let m = c.first_step-start.result in
     let ds = c.deref.result.now in
     let later : ds ≡ all_from m c.args.changes.now = c.deref.ensures.value ∙ c.in_ok-later.ensures in
-    let there : c.in_ok-output.output.state ≡ run c.args.self.now.output m =
-    ap (λ p. p.state) c.in_ok-output.ensures ∙ progress_state c.self.inside.output.start m ∙ ap (λ p. run p.output m) c.self.view_is in
+    let there : c.in_ok-output.output.state ≡ run c.args.self.now.output m = c.in_ok-output.ensures ∙ ap (λ p. run p.output m) c.self.view_is in
     let last : c.last_step.result ≡ last_step ds = c.last_step.ensures ∙ ap last_step (c.deref-2.ensures.value ∙ sym c.deref.ensures.value) in
     let made : c.run_changed.new.machine.state ≡ changed_run c.in_ok-output.output.state ds (last_step ds) =
     c.in_ok-run_changed.ensures.state ∙ ap (changed_run c.in_ok-output.output.state ds) last in

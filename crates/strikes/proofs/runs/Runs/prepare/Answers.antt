@@ -6,4 +6,4 @@ use Rattle.strikes.proofs.runs.Runs.prepare.Goals as goal
 pub invariant_of-result : goal.invariant_of-result
 invariant_of-result c =
     reach_positive c.args.output.state c.in_ok-output.output.reach c.requires
-    (subst (λ p. IsReach p.state c.in_ok-output.output.reach) c.in_ok-output.ensures (subst (IsReach c.in_ok-output.output.start.state) c.reach.ensures.value c.reach.ensures.reach))
+    (subst (λ s. IsReach s c.in_ok-output.output.reach) c.in_ok-output.ensures (subst (IsReach c.in_ok-output.output.start) c.reach.ensures.value c.reach.ensures.reach))

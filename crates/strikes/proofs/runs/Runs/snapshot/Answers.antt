@@ -1,6 +1,7 @@
-use Rattle.std.proofs.Common.{◌*◌, ap}
-use Rattle.strikes.proofs.Copying.{state_got}
+use Rattle.std.proofs.Common.{◌≡◌, ◌*◌, subst}
+use Rattle.std.specs.Prelude.{IfSome}
+use Rattle.qed_model.specs.Machine.Step.{run}
 use Rattle.strikes.proofs.runs.Runs.snapshot.Goals as goal
 
 pub returns-clause-there : goal.returns-clause-there
-returns-clause-there c = state_got c.self.inside.output.start c.args.self.now.output (4096 * c.args.number) c.at.result (ap (λ p. p.output) c.self.view_is) c.at.ensures.there
+returns-clause-there c = subst (λ p. IfSome c.at.result (λ m. m.now.state ≡ run p.output (4096 * c.args.number))) c.self.view_is c.at.ensures.there

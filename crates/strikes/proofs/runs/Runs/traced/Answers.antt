@@ -2,10 +2,9 @@ use Rattle.std.proofs.Common.{ap, ◌∙◌, subst}
 use Rattle.qed_model.specs.Machine.Step.{run}
 use Rattle.fault_inject.specs.Touched.{IsTrace}
 use Rattle.qed_model.proofs.Walk.{run-none}
-use Rattle.strikes.proofs.Stopping.{progress_state}
 use Rattle.strikes.proofs.runs.Runs.traced.Goals as goal
 
 pub returns : goal.returns
 returns c =
-    let start = ap (λ p. p.state) c.in_ok-machine.ensures ∙ progress_state c.self.inside.output.start 0 ∙ ap (λ p. run p.output 0) c.self.view_is ∙ run-none c.args.self.now.output in
+    let start = c.in_ok-machine.ensures ∙ ap (λ p. run p.output 0) c.self.view_is ∙ run-none c.args.self.now.output in
     subst (λ s. IsTrace s c.in_ok-trace.trace) start c.in_ok-trace.ensures

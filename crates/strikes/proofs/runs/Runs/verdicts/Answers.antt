@@ -5,14 +5,13 @@ use Rattle.qed_model.specs.Machine.Step.{run}
 use Rattle.strikes.specs.Later.{first_step}
 use Rattle.strikes.specs.Struck.{IsKnown}
 use Rattle.strikes.proofs.Making.{none_known, known_more}
-use Rattle.strikes.proofs.Stopping.{progress_state}
 use Rattle.strikes.proofs.runs.Runs.verdicts.Goals as goal
 
 pub loop-i-init : goal.loop-i-init
 loop-i-init g c = record {
   known = none_known c.args.self.now c.args.strikes.now (length c.args.strikes.now) c.in_ok-found.found.items (c.in_ok-found.ensures.items_if_clones_equal (λ y h. search rules));
   count = search rules;
-  there = ap (λ p. p.state) c.in_ok-output.ensures ∙ progress_state c.self.inside.output.start 0 ∙ ap (λ p. run p.output 0) c.self.view_is;
+  there = c.in_ok-output.ensures ∙ ap (λ p. run p.output 0) c.self.view_is;
   within = omega arith;
 }
 

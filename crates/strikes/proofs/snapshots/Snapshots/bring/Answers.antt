@@ -8,8 +8,7 @@ pub returns-then-start-to : goal.returns-then-start-to
 returns-then-start-to c =
     let order = c.requires.order in
     let steps : c.args.start + c.args.to ≡ c.args.start + c.args.from + (c.args.to - c.args.from) = omega (arith, order) in
-    ap (λ p. p.state) c.in_ok-machine.ensures ∙ progress_state c.args.self.now.start (c.args.start + c.args.to) ∙ ap (run c.args.self.now.start.state) steps
-    ∙ run-more c.args.self.now.start.state (c.args.start + c.args.from) (c.args.to - c.args.from) ∙ ap (λ s. run s (c.args.to - c.args.from)) (sym c.requires.there)
+    c.in_ok-machine.ensures ∙ ap (run c.args.self.now.start) steps ∙ run-more c.args.self.now.start (c.args.start + c.args.from) (c.args.to - c.args.from) ∙ ap (λ s. run s (c.args.to - c.args.from)) (sym c.requires.there)
 
 pub returns : goal.returns
 returns c = ap (λ p. p.state) c.in_ok-run.ensures.run ∙ progress_state c.args.machine.now (c.args.to - c.args.from)
