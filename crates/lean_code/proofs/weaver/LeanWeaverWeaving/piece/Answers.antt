@@ -1,9 +1,6 @@
-use Rattle.std.proofs.Common.{sym, ap, ◌∙◌, ◌++◌}
-use Rattle.qed_model.specs.Weave.Sequences.{original, each_part}
-use Rattle.qed_model.specs.Weave.Forms.{mirror_of}
+use Rattle.std.proofs.Common.{ap, ◌∙◌, ◌++◌}
 use Rattle.pieces.specs.Piece.{for_piece}
 use Rattle.lean_code.specs.declared.weaver.LeanPasses.TheVariants.{Same, Other}
-use Rattle.lean_code.specs.Passes.{is_diverse}
 use Rattle.lean_code.proofs.Parts.{parts_of_passes}
 use Rattle.lean_code.proofs.weaver.LeanWeaverWeaving.piece.Goals as goal
 
@@ -17,14 +14,8 @@ emit_all-requires-in-Other c = let f = for_piece c.args.list.now c.args.at c.req
 -- and their items are those of the piece
 pub returns-in_ok-emit_all-in-Same : goal.returns-in_ok-emit_all-in-Same
 returns-in_ok-emit_all-in-Same c =
-    c.in_ok-emit_all-in-Same.ensures.all
-    ∙ ap (λ l. c.args.out.now ++ l)
-    (parts_of_passes (mirror_of (is_diverse (Same c.in-Same.passes))) c.args.list.now c.args.at c.requires.low
-    ∙ ap (λ q. each_part original c.args.list.now c.args.at ++ each_part (mirror_of (is_diverse q)) c.args.list.now c.args.at) (sym c.in-Same.is))
+    c.in_ok-emit_all-in-Same.ensures.all ∙ ap (λ l. c.args.out.now ++ l) (parts_of_passes c.args.self.now.passes (Same c.in-Same.passes) c.in-Same.is c.args.list.now c.args.at c.requires.low)
 
 pub returns-in_ok-emit_all-in-Other : goal.returns-in_ok-emit_all-in-Other
 returns-in_ok-emit_all-in-Other c =
-    c.in_ok-emit_all-in-Other.ensures.all
-    ∙ ap (λ l. c.args.out.now ++ l)
-    (parts_of_passes (mirror_of (is_diverse (Other c.in-Other.passes))) c.args.list.now c.args.at c.requires.low
-    ∙ ap (λ q. each_part original c.args.list.now c.args.at ++ each_part (mirror_of (is_diverse q)) c.args.list.now c.args.at) (sym c.in-Other.is))
+    c.in_ok-emit_all-in-Other.ensures.all ∙ ap (λ l. c.args.out.now ++ l) (parts_of_passes c.args.self.now.passes (Other c.in-Other.passes) c.in-Other.is c.args.list.now c.args.at c.requires.low)
