@@ -1,6 +1,6 @@
 -- The lean form of a test: its items are those of its file, they can be linked where they are few, and what is linked is its code.
 use Rattle.std.proofs.Common.{◌≡◌, Bool, ℕ, ◌+◌, ◌-◌, ◌^◌, ◌<◌, ◌≤◌, false, List, [], ◌++◌, length, map, sym, ap, ◌∙◌, subst, arith, append_assoc}
-use Rattle.std.specs.Prelude.{All, AllPairs, Result, Ok, Err, IfOk, IfErr, get_or}
+use Rattle.std.specs.Prelude.{All, AllPairs, get_or}
 use Rattle.std.specs.List.{list_all}
 use Rattle.std.proofs.Math.ListN.{get_or-map, length-map}
 use Rattle.std.proofs.lemmas.List.{append-nil}
@@ -14,7 +14,7 @@ use Rattle.qed_model.specs.Admission.DataRanges.{range_of}
 use Rattle.qed_model.specs.Weave.Blocks.{begins_at}
 use Rattle.qed_model.specs.Weave.Code.{Sequences, entries_of}
 use Rattle.qed_model.specs.Weave.OutputParts.{base_of}
-use Rattle.qed_model.specs.Weave.Placed.{sum_of_sizes, rows_from, placed, leads_to, Decode, EntriesAscend}
+use Rattle.qed_model.specs.Weave.Placed.{sum_of_sizes, rows_from, placed, leads_to, entry_of, Decode, EntriesAscend}
 use Rattle.qed_model.specs.Weave.Places.{image_of, half_of, code_place}
 use Rattle.qed_model.specs.Weave.Sequences.{Block, stub}
 use Rattle.qed_model.specs.Weave.Bounds.{cost_of}
@@ -46,19 +46,18 @@ use Rattle.lean_code.specs.declared.weaver.LeanWeaver.{LeanWeaver}
 use Rattle.woven_code.specs.Code.{place_of}
 use Rattle.woven_code.proofs.DataWords.{few_data}
 use Rattle.woven_code.proofs.LeanBytes.{few_lean_bytes}
-use Rattle.lean_code.specs.Code.{lean_with, code_with, items_with, placed_at, IsLeanCut, IsLaidOut, IsLeanCodeOf, HasCause}
-use Rattle.lean_code.specs.Form.{code_of}
+use Rattle.lean_code.specs.Code.{lean_with, code_with, items_with, IsLeanCut, IsLeanCodeOf, HasCause}
+use Rattle.lean_code.specs.Form.{code_at, code_of}
 
 -- ---- a weaver with what was counted of the test makes its code
-module _ (t : Test) (o : Options) (every : ℕ) (blocks : List Block) (entry : ℕ → ℕ) where
-  pub woven_is :
-      (span : List Range) (diverse : Bool) (ticks : ℕ → Bool) (most : ℕ → ℕ) → span ≡ t.span → diverse ≡ o.diverse
-      → ((a : ℕ) → ticks a ≡ (lean_with t o every blocks).ticks a) → ((a : ℕ) → most a ≡ (lean_with t o every blocks).most a)
-      → worded (record { spans = spans_of span; round = o.round; far = false; sweep = o.sweep; mirror = mirror_of diverse; cost = cost_of diverse }) t.base entry (record { every = every; inst_max = 0; diverse = diverse; land = o.land; check = place_of t + 124; ticks = ticks; most = most; start_of = start_at blocks }) (begins_at blocks)
-      ≡ code_with t o every blocks entry
-  woven_is span diverse ticks most same kind p q = λ i.
-      worded (record { spans = spans_of (same i); round = o.round; far = false; sweep = o.sweep; mirror = mirror_of (kind i); cost = cost_of (kind i) }) t.base entry
-      (record { every = every; inst_max = 0; diverse = kind i; land = o.land; check = place_of t + 124; ticks = λ a. p a i; most = λ a. q a i; start_of = start_at blocks }) (begins_at blocks)
+pub woven_is :
+    (t : Test) (o : Options) (every : ℕ) (blocks : List Block) (span : List Range) (diverse : Bool) (ticks : ℕ → Bool) (most : ℕ → ℕ) → span ≡ t.span → diverse ≡ o.diverse
+    → ((a : ℕ) → ticks a ≡ (lean_with t o every blocks).ticks a) → ((a : ℕ) → most a ≡ (lean_with t o every blocks).most a)
+    → (λ entry. worded (record { spans = spans_of span; round = o.round; far = false; sweep = o.sweep; mirror = mirror_of diverse; cost = cost_of diverse }) t.base entry (record { every = every; inst_max = 0; diverse = diverse; land = o.land; check = place_of t + 124; ticks = ticks; most = most; start_of = start_at blocks }) (begins_at blocks))
+    ≡ code_with t o every blocks
+woven_is t o every blocks span diverse ticks most same kind p q = λ i entry.
+    worded (record { spans = spans_of (same i); round = o.round; far = false; sweep = o.sweep; mirror = mirror_of (kind i); cost = cost_of (kind i) }) t.base entry
+    (record { every = every; inst_max = 0; diverse = kind i; land = o.land; check = place_of t + 124; ticks = λ a. p a i; most = λ a. q a i; start_of = start_at blocks }) (begins_at blocks)
 
 -- ---- of a test
 module _ (f : ElfFile) (o : Options) (every : ℕ) (t : Test) (blocks : List CodeBlock) (c : IsLeanCut f o every t blocks) where
@@ -122,19 +121,11 @@ module _ (f : ElfFile) (o : Options) (every : ℕ) (t : Test) (blocks : List Cod
   }
 
   same_code : (entry : ℕ → ℕ) → code_with t o every bs entry ≡ file_code entry
-  same_code entry =
-      let spans = spans_are t.span ∙ c.told.span in
-      ap (λ s. worded (form_with s o false) t.base entry (lean_with t o every bs) (begins_at bs)) spans
-      ∙ ap (λ b. worded (form_of f o false) b entry (lean_with t o every bs) (begins_at bs)) c.told.base
-      ∙ ap (λ n. worded (form_of f o false) (base_of (image_of f)) entry (lean_at n t.entry) (begins_at bs)) place
-      ∙ ap (λ e. worded (form_of f o false) (base_of (image_of f)) entry (lean_at at e) (begins_at bs)) c.told.entry
+  same_code entry = λ i. worded (form_with ((spans_are t.span ∙ c.told.span) i) o false) (c.told.base i) entry (lean_at (place i) (c.told.entry i)) (begins_at bs)
 
   whole : (entry : ℕ → ℕ) → of_test entry ++ stub ≡ of_file entry
   whole entry =
-      ap (λ s. parts_to_stub s t.distance t.entry bs ++ stub) (same_code entry)
-      ∙ ap (λ n. parts_to_stub (file_code entry) n t.entry bs ++ stub) c.told.distance
-      ∙ ap (λ n. parts_to_stub (file_code entry) d n bs ++ stub) c.told.entry
-      ∙ append_assoc ((file_code entry).first d f.entry) (entries_of (file_code entry) bs) stub
+      (λ i. parts_to_stub (same_code entry i) (c.told.distance i) (c.told.entry i) bs ++ stub) ∙ append_assoc ((file_code entry).first d f.entry) (entries_of (file_code entry) bs) stub
 
   size : (entry : ℕ → ℕ) → sum_of_sizes false (of_file entry) ≡ sum_of_sizes false (of_test entry) + 4
   size entry = ap (sum_of_sizes false) (sym (whole entry)) ∙ size-append false (of_test entry) stub
@@ -150,7 +141,7 @@ module _ (f : ElfFile) (o : Options) (every : ℕ) (t : Test) (blocks : List Cod
     same_rows : (n : ℕ) → rows_from false n (of_test x) ≡ rows_from false n (of_test y)
     same_rows n = sym (rows n x) ∙ code_rows (form_of f o false) (base_of (image_of f)) (lean_of f o every bs) (begins_at bs) x y d f.entry bs n ∙ rows n y
 
-    pub counted_too : (count : Count) → count.far ≡ false → HasCounted count (of_test x) → HasCounted count (of_test y)
+    counted_too : (count : Count) → count.far ≡ false → HasCounted count (of_test x) → HasCounted count (of_test y)
     counted_too count e h = record {
       bytes = h.bytes ∙ ap (λ b. capped (sum_of_sizes b (of_test x))) e ∙ ap capped same_size ∙ ap (λ b. capped (sum_of_sizes b (of_test y))) (sym e);
       marks = λ small.
@@ -160,13 +151,13 @@ module _ (f : ElfFile) (o : Options) (every : ℕ) (t : Test) (blocks : List Cod
 
   -- ---- the items with their entries
   abbrev own : ℕ → ℕ
-  own = placed_at f o every bs
+  own = entry_of false at (of_file (λ a. 0))
 
   abbrev items : List Item
   items = of_test own
 
   -- they can be linked, where they are few
-  pub linkable : sum_of_sizes false (lean_items f o every bs) ≤ 1048576 → IsLinkable false (place_of t) items
+  linkable : sum_of_sizes false (lean_items f o every bs) ≤ 1048576 → IsLinkable false (place_of t) items
   linkable few =
       let u = tests_have_words f o every bs c.cut few in
       let marks = ap (λ p. rows_from false p items) place ∙ sym (rows at own) in
@@ -176,101 +167,89 @@ module _ (f : ElfFile) (o : Options) (every : ℕ) (t : Test) (blocks : List Cod
         encoded = ap (list_all is_encoded) all ∙ decoded u.0 (placed false at (lean_items f o every bs)) u.1.small u.1.code;
       }
 
-  -- ---- what was counted
-  module _ (count : Count) (near : count.far ≡ false) (h : HasCounted count items) where
-    bytes_are : count.bytes ≡ capped (sum_of_sizes false items)
-    bytes_are = h.bytes ∙ ap (λ b. capped (sum_of_sizes b items)) near
+  -- ---- a weaver of the test hands them on, where it knows the entries
+  module _ (w : LeanWeaver) (code : code_at w ≡ code_with t o every bs) where
+    handed : (entry : ℕ → ℕ) → parts_to_stub (code_at w entry) t.distance t.entry bs ≡ of_test entry
+    handed entry = ap (λ (s : (ℕ → ℕ) → Sequences). parts_to_stub (s entry) t.distance t.entry bs) code
 
-    pub few_counted : count.bytes + 4 ≤ 1048576 → sum_of_sizes false (lean_items f o every bs) ≤ 1048576
-    few_counted less = let e = bytes_are in omega (arith, less, e, size own)
+    -- it was counted without
+    module _ (count : Count) (near : count.far ≡ false) (counted : HasCounted count (parts_to_stub (code_of w) t.distance t.entry bs)) where
+      has : HasCounted count items
+      has = let first = leads_to w.entries.items w.last in counted_too first own count near (subst (HasCounted count) (handed first) counted)
 
-    pub laid_out :
-        (layout : Layout) → layout.far ≡ false → layout.base ≡ place_of t → count.bytes + 4 ≤ 1048576
-        → ((xs : List Item) → HasCounted count xs → IsLinkable false (place_of t) xs → IsLaid layout [] xs) → IsLaidOut f o every t blocks layout
-    laid_out layout far base less laid = record { far = far; base = base; laid = laid items h (linkable (few_counted less)); few = few_counted less }
+      bytes_are : count.bytes ≡ capped (sum_of_sizes false items)
+      bytes_are = has.bytes ∙ ap (λ b. capped (sum_of_sizes b items)) near
 
-    pub cause : (e : LinkError) → HasCountCause count e → HasCause f o every blocks e
-    cause (error.TooLarge n) k =
-        let e = bytes_are in
-        let over : 1048576 < n = subst (λ b. most_bytes b < n) near k.1 in
-        (omega (arith, k.0, e, size own, few_lean_bytes f o c.cut.sound c.cut.file.loads c.cut.admitted bs c.cut.are every), over)
-    cause error.Memory k = tt
+      few_counted : count.bytes + 4 ≤ most_bytes count.far → sum_of_sizes false (lean_items f o every bs) ≤ 1048576
+      few_counted less = let l = subst (λ b. count.bytes + 4 ≤ most_bytes b) near less in let e = bytes_are in omega (arith, l, e, size own)
 
-  -- ---- the layout knows the entries
-  module _ (layout : Layout) (l : IsLaidOut f o every t blocks layout) where
-    rows_are : layout.entries.items ≡ rows_from false at (of_file (λ a. 0))
-    rows_are =
-        l.laid.entries
-        ∙ ap (λ b. rows_from b layout.base items) l.far
-        ∙ ap (λ n. rows_from false n items) (l.base ∙ place)
-        ∙ same_rows own (λ a. 0) at
-        ∙ sym (rows at (λ a. 0))
+      pub cause : (e : LinkError) → HasCountCause count e → HasCause f o every blocks e
+      cause (error.TooLarge n) k =
+          let e = bytes_are in
+          let over : 1048576 < n = subst (λ b. most_bytes b < n) near k.1 in
+          (omega (arith, k.0, e, size own, few_lean_bytes f o c.cut.sound c.cut.file.loads c.cut.admitted bs c.cut.are every), over)
+      cause error.Memory k = tt
 
-    last_is : layout.last ≡ at + sum_of_sizes false (of_file (λ a. 0)) - 4
-    last_is =
-        let e : layout.last ≡ layout.base + sum_of_sizes false items = l.laid.last ∙ ap (λ b. layout.base + sum_of_sizes b items) l.far in
-        let b = l.base in
-        omega (arith, e, b, place, same_size own (λ a. 0), size (λ a. 0))
+      -- ---- the layout knows the entries
+      module _
+          (layout : Layout) (far : layout.far ≡ count.far) (base : layout.base ≡ place_of t) (less : count.bytes + 4 ≤ most_bytes count.far)
+          (laid : (xs : List Item) → HasCounted count xs → IsLinkable count.far (place_of t) xs → IsLaid layout [] xs) where
+        is_near : layout.far ≡ false
+        is_near = far ∙ near
 
-    entries_are : leads_to layout.entries.items layout.last ≡ own
-    entries_are = ap (λ r. leads_to r layout.last) rows_are ∙ ap (leads_to (rows_from false at (of_file (λ a. 0)))) last_is
+        few : sum_of_sizes false (lean_items f o every bs) ≤ 1048576
+        few = few_counted less
 
-    -- and what is linked is the code
-    linked_is : (linked : Linked) → IsLinked layout.far layout.base items linked → IsLeanCodeOf f o every blocks linked
-    linked_is linked k =
-        let all = ap (λ b. placed b layout.base (items ++ stub)) l.far ∙ ap (λ n. placed false n (items ++ stub)) (l.base ∙ place) ∙ ap (placed false at) (whole own) in
-        record {
-          small = k.words;
-          code = subst (Decode linked.words.items) all k.decode;
-          entries = k.entries ∙ ap (λ b. rows_from b layout.base items) l.far ∙ ap (λ n. rows_from false n items) (l.base ∙ place) ∙ sym (rows at own);
-          few = l.few;
-        }
+        all_laid : IsLaid layout [] items
+        all_laid = laid items has (subst (λ b. IsLinkable b (place_of t) items) (sym near) (linkable few))
 
-    -- so does who has a copy of its rows
-    module _ (copy : List EntryRow) (last : ℕ) (same_copy : copy ≡ layout.entries.items) (same_last : last ≡ layout.last) where
-      known : leads_to copy last ≡ own
-      known = ap (λ r. leads_to r last) same_copy ∙ ap (leads_to layout.entries.items) same_last ∙ entries_are
+        rows_are : layout.entries.items ≡ rows_from false at (of_file (λ a. 0))
+        rows_are =
+            all_laid.entries
+            ∙ ap (λ b. rows_from b layout.base items) is_near
+            ∙ ap (λ n. rows_from false n items) (base ∙ place)
+            ∙ same_rows own (λ a. 0) at
+            ∙ sym (rows at (λ a. 0))
 
-      pub ascend : EntriesAscend copy
-      ascend = subst EntriesAscend (sym same_copy) l.laid.ascend
+        last_is : layout.last ≡ at + sum_of_sizes false (of_file (λ a. 0)) - 4
+        last_is =
+            let e : layout.last ≡ layout.base + sum_of_sizes false items = all_laid.last ∙ ap (λ b. layout.base + sum_of_sizes b items) is_near in
+            omega (arith, e, base, place, same_size own (λ a. 0), size (λ a. 0))
 
-      pub low : (a : ℕ) → leads_to copy last a + 32 < 2 ^ 64
-      low a =
-          let grain = (there.bounds f o c.cut.sound c.cut.file.loads c.cut.admitted bs c.cut.are).0 in
-          let inside = entry_inside false at (of_file (λ a. 0)) a (omega (arith, grain)) (omega (arith, size (λ a. 0))) in
-          let is : leads_to copy last a ≡ own a = ap (λ (e : ℕ → ℕ). e a) known in
-          let high = inside.high in
-          let few = l.few in
-          omega (arith, is, high, few, size own, size (λ a. 0), same_size own (λ a. 0), place_small, place)
+        -- so does who has a copy of its rows
+        module _ (copy : List EntryRow) (last : ℕ) (same : copy ≡ layout.entries.items) (same_last : last ≡ layout.last) where
+          known : leads_to copy last ≡ own
+          known = ap (λ r. leads_to r last) (same ∙ rows_are) ∙ ap (leads_to (rows_from false at (of_file (λ a. 0)))) (same_last ∙ last_is)
 
-      -- and its weaver hands on the items
-      module _ (w : LeanWeaver) (code : code_of w ≡ code_with t o every bs (leads_to copy last)) where
-        abbrev parts : List Item
-        parts = parts_to_stub (code_of w) t.distance t.entry bs
+          pub ascend : EntriesAscend copy
+          ascend = subst EntriesAscend (sym same) all_laid.ascend
 
-        handed : parts ≡ items
-        handed = ap (λ s. parts_to_stub s t.distance t.entry bs) (code ∙ ap (code_with t o every bs) known)
+          pub low : (a : ℕ) → leads_to copy last a + 32 < 2 ^ 64
+          low a =
+              let grain = (there.bounds f o c.cut.sound c.cut.file.loads c.cut.admitted bs c.cut.are).0 in
+              let inside = entry_inside false at (of_file (λ a. 0)) a (omega (arith, grain)) (omega (arith, size (λ a. 0))) in
+              let is : leads_to copy last a ≡ own a = ap (λ (e : ℕ → ℕ). e a) known in
+              let high = inside.high in
+              omega (arith, is, high, few, size own, size (λ a. 0), same_size own (λ a. 0), place_small, place)
 
-        pub come : IsLaid layout [] (parts ++ [])
-        come = subst (IsLaid layout []) (sym (append-nil parts ∙ handed)) l.laid
+          -- and its weaver hands on the items, which become the code
+          module _ (knows : LeanWeaver) (placed_code : code_of knows ≡ code_at w (leads_to copy last)) where
+            abbrev parts : List Item
+            parts = parts_to_stub (code_of knows) t.distance t.entry bs
 
-        pub written : (filled : Layout) (linked : Linked) → filled.far ≡ layout.far → filled.base ≡ layout.base → IsLinked filled.far filled.base parts linked → IsLeanCodeOf f o every blocks linked
-        written filled linked far base k =
-            linked_is linked
-            (subst (λ is. IsLinked layout.far layout.base is linked) handed
-            (subst (λ b. IsLinked b layout.base parts linked) far (subst (λ n. IsLinked filled.far n parts linked) base k)))
+            same_parts : parts ≡ items
+            same_parts = ap (λ s. parts_to_stub s t.distance t.entry bs) placed_code ∙ handed (leads_to copy last) ∙ ap of_test known
 
--- ---- what the layout of the count is, and why there is none
-module _ (o : Options) (every : ℕ) (t : Test) (blocks : List CodeBlock) (count : Count) (near : count.far ≡ false) (h : (entry : ℕ → ℕ) → HasCounted count (items_with t o every (map block_of blocks) entry)) where
-  pub if_laid :
-      (r : Result Layout LinkError) → IfOk r (λ l. l.far ≡ count.far) → IfOk r (λ l. l.base ≡ place_of t) → IfOk r (λ l. count.bytes + 4 ≤ most_bytes count.far)
-      → IfOk r (λ l. (xs : List Item) → HasCounted count xs → IsLinkable count.far (place_of t) xs → IsLaid l [] xs)
-      → IfOk r (λ l. (f : ElfFile) → IsLeanCut f o every t blocks → IsLaidOut f o every t blocks l)
-  if_laid (Ok l) far base few laid = λ f c.
-      laid_out f o every t blocks c count near (h (placed_at f o every (map block_of blocks))) l (far ∙ near) base (subst (λ b. count.bytes + 4 ≤ most_bytes b) near few)
-      (λ xs has links. laid xs has (subst (λ b. IsLinkable b (place_of t) xs) (sym near) links))
-  if_laid (Err e) far base few laid = tt
+            pub come : IsLaid layout [] parts
+            come = subst (IsLaid layout []) (sym same_parts) all_laid
 
-  pub if_not_laid : (r : Result Layout LinkError) → IfErr r (HasCountCause count) → IfErr r (λ e. (f : ElfFile) → IsLeanCut f o every t blocks → HasCause f o every blocks e)
-  if_not_laid (Ok l) k = tt
-  if_not_laid (Err e) k = λ f c. cause f o every t blocks c count near (h (placed_at f o every (map block_of blocks))) e k
+            pub linked_is : (linked : Linked) → IsLinked layout.far layout.base parts linked → IsLeanCodeOf f o every blocks linked
+            linked_is linked k =
+                let l : IsLinked layout.far layout.base items linked = subst (λ is. IsLinked layout.far layout.base is linked) same_parts k in
+                let all = ap (λ b. placed b layout.base (items ++ stub)) is_near ∙ ap (λ n. placed false n (items ++ stub)) (base ∙ place) ∙ ap (placed false at) (whole own) in
+                record {
+                  small = l.words;
+                  code = subst (Decode linked.words.items) all l.decode;
+                  entries = l.entries ∙ ap (λ b. rows_from b layout.base items) is_near ∙ ap (λ n. rows_from false n items) (base ∙ place) ∙ sym (rows at own);
+                  few = few;
+                }

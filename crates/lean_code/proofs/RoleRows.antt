@@ -186,11 +186,8 @@ module _ (f : ElfFile) (o : Options) (every : ℕ) (t : Test) (blocks : List Cod
   abbrev bs : List Block
   bs = map block_of blocks
 
-  abbrev at : ℕ
-  at = code_place o.half (image_of f)
-
   abbrev own : ℕ → ℕ
-  own = entry_of false at (items_with f o every bs (λ a. 0))
+  own = entry_of false (code_place o.half (image_of f)) (items_with f o every bs (λ a. 0))
 
   pub lean_rows_are : (s : Sizes) → AreSizes s o false t.span → (ticks : ℕ → Bool) → ((a : ℕ) → ticks a ≡ has_tick (tick_rows (counting_of o t.entry every bs) bs) a) → lean_rows o.land s ticks (begins_at bs) blocks ≡ lean_roles f o every bs
   lean_rows_are s are ticks known =

@@ -1,5 +1,5 @@
 -- The lean form of a test as words.
-use Rattle.std.specs.Prelude.{◌≡◌, ℕ, ◌+◌, ◌^◌, ◌<◌, ◌≤◌, false, List, [], All, map, slice_index}
+use Rattle.std.specs.Prelude.{◌≡◌, ℕ, ◌+◌, ◌^◌, ◌<◌, ◌≤◌, false, List, All, map, slice_index}
 use Rattle.elf_types.specs.declared.file.ElfFile.{ElfFile}
 use Rattle.qed_model.specs.declared.item.Item.{Item}
 use Rattle.qed_model.specs.declared.limits.TheConstants.{MAX_NEAR_CODE_BYTES}
@@ -8,18 +8,16 @@ use Rattle.qed_model.specs.declared.test.Test.{Test}
 use Rattle.qed_model.specs.Admission.Test.{IsTestOf}
 use Rattle.qed_model.specs.Weave.Blocks.{begins_at}
 use Rattle.qed_model.specs.Weave.Code.{Sequences}
-use Rattle.qed_model.specs.Weave.Placed.{Decode, sum_of_sizes, rows_from, placed, entry_of}
+use Rattle.qed_model.specs.Weave.Placed.{Decode, sum_of_sizes, rows_from, placed}
 use Rattle.qed_model.specs.Weave.Places.{image_of, code_place}
 use Rattle.qed_model.specs.Weave.Sequences.{Block}
-use Rattle.qed_model.specs.Weave.LeanCode.{lean_items, items_with as file_items, has_tick, most_at, tick_rows, counting_of, start_at, Lean, worded}
+use Rattle.qed_model.specs.Weave.LeanCode.{lean_items, has_tick, most_at, tick_rows, counting_of, start_at, Lean, worded}
 use Rattle.block_list.specs.declared.block.CodeBlock.{CodeBlock}
 use Rattle.block_list.specs.Listed.{block_of, IsWithin}
 use Rattle.plc_rounds.specs.Spans.{spans_of}
 use Rattle.relinker.specs.declared.error.LinkError.{LinkError}
 use Rattle.relinker.specs.declared.error.LinkError.TheVariants as error
-use Rattle.relinker.specs.declared.layout.Layout.{Layout}
 use Rattle.relinker.specs.declared.layout.Linked.{Linked}
-use Rattle.relinker.specs.Laid.{IsLaid}
 use Rattle.test_weave.specs.Form.{form_with, parts_to_stub}
 use Rattle.woven_code.specs.Code.{place_of}
 use Rattle.lean_weave.specs.Tests.{AreLeanBlocks}
@@ -64,14 +62,3 @@ pub record IsLeanCodeOf (f : ElfFile) (o : Options) (every : ℕ) (blocks : List
 abbrev pub HasCause : ElfFile → Options → ℕ → List CodeBlock → LinkError → Type 0
 HasCause f o every blocks (error.TooLarge n) = (n ≡ sum_of_sizes false (lean_items f o every (map block_of blocks))) × (MAX_NEAR_CODE_BYTES < n)
 HasCause f o every blocks error.Memory = Unit {0}
-
--- where the entries are
-abbrev pub placed_at : ElfFile → Options → ℕ → List Block → ℕ → ℕ
-placed_at f o every blocks = entry_of false (code_place o.half (image_of f)) (file_items f o every blocks (λ a. 0))
-
--- the layout has the memory for the items of the test in its lean form, in their places, none of which has its words yet
-pub record IsLaidOut (f : ElfFile) (o : Options) (every : ℕ) (t : Test) (blocks : List CodeBlock) (layout : Layout) : Type 0 where
-  pub far : layout.far ≡ false
-  pub base : layout.base ≡ place_of t
-  pub laid : IsLaid layout [] (items_with t o every (map block_of blocks) (placed_at f o every (map block_of blocks)))
-  pub few : sum_of_sizes false (lean_items f o every (map block_of blocks)) ≤ MAX_NEAR_CODE_BYTES

@@ -34,11 +34,12 @@ lean w = record {
   start_of = start_at (blocks_in w);
 }
 
-abbrev pub entry : LeanWeaver → ℕ → ℕ
-entry w = leads_to w.entries.items w.last
+-- its sequences, where an input address has its entry
+abbrev pub code_at : LeanWeaver → (ℕ → ℕ) → Sequences
+code_at w entry = worded (form w) w.base entry (lean w) (begins_at (blocks_in w))
 
 abbrev pub code_of : LeanWeaver → Sequences
-code_of w = worded (form w) w.base (entry w) (lean w) (begins_at (blocks_in w))
+code_of w = code_at w (leads_to w.entries.items w.last)
 
 -- one of its blocks: its leave is found by where it stands, and the signature turns to where it goes on
 pub record IsOwn (w : LeanWeaver) (b : CodeBlock) : Type 0 where

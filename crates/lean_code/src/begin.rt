@@ -3,7 +3,6 @@ ghost use Rattle.std.specs.Prelude.{◌≡◌, ◌^◌, ◌<◌, [], ◌∷◌, 
 ghost use Rattle.rv_isa.specs.declared.kind.Kind.TheVariants.{Addi, Lui};
 ghost use Rattle.qed_model.specs.declared.item.Item.TheVariants.{Plain, Constant, Go};
 ghost use Rattle.qed_model.specs.Machine.Table.{ins};
-ghost use Rattle.qed_model.specs.Weave.Sequences.{zero_from};
 ghost use Rattle.qed_model.specs.Weave.Lean.{begin};
 
 use passes::{Emit, plain, register};
@@ -30,15 +29,6 @@ fn put_start(distance: u64, entry: u64, out: &mut Emit) -> Result<(), AllocError
     Ok(())
 }
 
-/// The pairs and the start.
-fn put_pairs(distance: u64, entry: u64, out: &mut Emit) -> Result<(), AllocError>
-    requires { distance < 2 ^ 63 }
-    ensures { OnOk result (out.new ≡ out.old ++ zero_from 17 13 ++ (Plain (ins Lui 14 0 0 (pos distance)) ∷ Constant 16 entry ∷ Plain (ins Addi 15 0 0 (neg_ℤ (pos 1))) ∷ Go entry ∷ [])) }
-{
-    put_zeros(17, 13, out)?;
-    put_start(distance, entry, out)
-}
-
 /// All registers of both halves are 0, x14 is the distance of the halves, and the test begins at its entry, with the first data word
 /// and one step left.
 pub(crate) fn put_begin(distance: u64, entry: u64, out: &mut Emit) -> Result<(), AllocError>
@@ -46,5 +36,7 @@ pub(crate) fn put_begin(distance: u64, entry: u64, out: &mut Emit) -> Result<(),
     ensures { OnOk result (out.new ≡ out.old ++ begin distance entry) }
 {
     put_zeros(1, 13, out)?;
-    put_pairs(distance, entry, out)
+    put_zeros(17, 13, out)?;
+    put_start(distance, entry, out)?;
+    Ok(())
 }

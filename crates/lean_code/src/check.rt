@@ -99,36 +99,7 @@ fn put_done(first: u64, every: u64, out: &mut Emit) -> Result<(), AllocError>
     Ok(())
 }
 
-/// The end of the check, which goes back to the entry.
-fn put_back(first: u64, every: u64, out: &mut Emit) -> Result<(), AllocError>
-    requires { every ≤ 2048 }
-    ensures { OnOk result (out.new ≡ out.old ++ (done first every ++ look_up)) }
-{
-    put_done(first, every, out)?;
-    put_look_up(out)?;
-    Ok(())
-}
-
-/// The visits, and what stands behind them.
-fn put_round(first: u64, every: u64, visits: &Visit, out: &mut Emit) -> Result<(), AllocError>
-    requires { every ≤ 2048 }
-    ensures { OnOk result (out.new ≡ out.old ++ (visit visits.now.round (spans_of visits.now.span) ++ (done first every ++ look_up))) }
-{
-    visits.emit(&Ins::nop(), 0, out)?;
-    put_back(first, every, out)
-}
-
-/// The comparison, and what stands behind it.
-fn put_compared(first: u64, every: u64, visits: &Visit, out: &mut Emit) -> Result<(), AllocError>
-    requires { every ≤ 2048 }
-    ensures { OnOk result (out.new ≡ out.old ++ (compare ++ (begun first ++ (visit visits.now.round (spans_of visits.now.span) ++ (done first every ++ look_up))))) }
-{
-    put_compare(out)?;
-    put_begun(first, out)?;
-    put_round(first, every, visits, out)
-}
-
-/// The link, and what stands behind it.
+/// The link, and what stands behind it: the comparison, the visits, and the way back to the entry.
 fn put_linked(
     call: u64,
     first: u64,
@@ -141,7 +112,12 @@ fn put_linked(
     ensures { OnOk result (out.new ≡ out.old ++ (called call ++ (compare ++ (begun first ++ (visit visits.now.round (spans_of visits.now.span) ++ (done first every ++ look_up)))))) }
 {
     put_called(call, out)?;
-    put_compared(first, every, visits, out)
+    put_compare(out)?;
+    put_begun(first, out)?;
+    visits.emit(&Ins::nop(), 0, out)?;
+    put_done(first, every, out)?;
+    put_look_up(out)?;
+    Ok(())
 }
 
 /// The check of an input that begins at `base`, which sets the counter to less `every`; entries test the signature or not.

@@ -2,12 +2,14 @@
 //! blocks behind too, as far as these have none.
 ghost use Rattle.std.specs.Prelude.{◌≡◌, ◌+◌, ◌-◌, ◌*◌, ◌%◌, ◌^◌, ◌<◌, ◌≤◌, ℕ, ◌==◌, ◌∷◌, List, All, AllPairs, IfOk, OnOk, map, min};
 ghost use Rattle.rv_isa.specs.Kind.{class_of};
+ghost use Rattle.elf_types.specs.declared.file.ElfFile.{ElfFile};
 ghost use Rattle.qed_model.specs.Weave.Blocks.{begins_at as begins};
 ghost use Rattle.qed_model.specs.Weave.Bounds.{cost_of, entry_steps as entry_steps_of};
 ghost use Rattle.qed_model.specs.Weave.LeanCode.{block_steps as block_cost, leads_on, leads_as, needs_tick as needs_tick_of, counting_of, tick_rows, has_tick, most_at};
 ghost use Rattle.qed_model.specs.Weave.Sequences.{Block};
 ghost use Rattle.block_list.specs.Listed.{block_of, end_of};
 ghost use Rattle.test_weave.specs.Fits.{FitsBlock};
+ghost use Rattle.lean_code.specs.Code.{IsLeanCut};
 ghost use Rattle.lean_code.specs.Counts.{ticks_in, most_in, owed_in, most_owed, most_owed_as, AddsTo, counting, AreCounts};
 
 use crate::steps::{block_steps, entry_steps};
@@ -204,10 +206,7 @@ pub(crate) fn counts_of(
     every: u64,
     blocks: &[CodeBlock],
 ) -> Result<Counts, AllocError>
-    requires ascend { AllPairs (λ b c. b.start < c.start) blocks.now }
-    requires fit { All FitsBlock blocks.now }
-    requires short { All (λ b. block_cost options.now.diverse options.now.land (begins (map block_of blocks.now)) (block_of b) < 2048) blocks.now }
-    requires few { every ≤ 2048 }
+    requires { (f : ElfFile) × IsLeanCut f options.now every test.now blocks.now }
     ensures ticks { IfOk result (λ counts. (a : ℕ) → ticks_in counts a ≡ has_tick (tick_rows (counting_of options.now test.now.entry every (map block_of blocks.now)) (map block_of blocks.now)) a) }
     ensures most { IfOk result (λ counts. (a : ℕ) → most_in counts a ≡ most_at (tick_rows (counting_of options.now test.now.entry every (map block_of blocks.now)) (map block_of blocks.now)) a) }
     ensures bound { IfOk result (λ counts. (a : ℕ) → most_in counts a < 2 ^ 63) }

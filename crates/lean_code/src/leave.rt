@@ -73,22 +73,6 @@ fn put_before(sweeps: bool, span: &[Range], out: &mut Emit) -> Result<(), AllocE
     Ok(())
 }
 
-/// The signature's comparison, what stands before the end besides, and the end.
-fn put_last(
-    sweeps: bool,
-    span: &[Range],
-    ins: &Ins,
-    start: u64,
-    out: &mut Emit,
-) -> Result<(), AllocError>
-    ensures { OnOk result (out.new ≡ out.old ++ (check_sign start ++ (before sweeps (spans_of span.now) ++ (Plain ins.now ∷ [])))) }
-{
-    put_check_sign(start, out)?;
-    put_before(sweeps, span, out)?;
-    out.push(Item::Plain(*ins))?;
-    Ok(())
-}
-
 /// The leave of an ECALL.
 fn put_end(
     sweeps: bool,
@@ -100,7 +84,10 @@ fn put_end(
     ensures { OnOk result (out.new ≡ out.old ++ (compare ++ (check_sign start ++ (before sweeps (spans_of span.now) ++ (Plain ins.now ∷ []))))) }
 {
     put_compare(out)?;
-    put_last(sweeps, span, ins, start, out)
+    put_check_sign(start, out)?;
+    put_before(sweeps, span, out)?;
+    out.push(Item::Plain(*ins))?;
+    Ok(())
 }
 
 /// The leave of a JAL.
@@ -181,15 +168,6 @@ fn put_aim(ins: &Ins, at: u64, out: &mut Emit) -> Result<(), AllocError>
     Ok(())
 }
 
-/// The guarded target of a JALR.
-fn put_leap(ins: &Ins, at: u64, out: &mut Emit) -> Result<(), AllocError>
-    requires { FitsLeave class.JumpReg ins.now }
-    ensures { OnOk result (out.new ≡ out.old ++ (guard ins.now.rs1 ++ aim_of ins.now at)) }
-{
-    put_guard(out, ins.rs1)?;
-    put_aim(ins, at, out)
-}
-
 /// Turns the signature to the target of a JALR by the pair.
 fn put_leap_sign(ins: &Ins, start: u64, out: &mut Emit) -> Result<(), AllocError>
     requires { FitsLeave class.JumpReg ins.now }
@@ -212,7 +190,9 @@ fn put_indirect(ins: &Ins, start: u64, at: u64, out: &mut Emit) -> Result<(), Al
     ensures { OnOk result (out.new ≡ out.old ++ (leap_sign ins.now start ++ (guard ins.now.rs1 ++ aim_of ins.now at))) }
 {
     put_leap_sign(ins, start, out)?;
-    put_leap(ins, at, out)
+    put_guard(out, ins.rs1)?;
+    put_aim(ins, at, out)?;
+    Ok(())
 }
 
 /// What a leave depends on besides its block.

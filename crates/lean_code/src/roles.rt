@@ -3,9 +3,7 @@ ghost use Rattle.std.specs.Prelude.{◌≡◌, ℕ, ◌+◌, ◌%◌, ◌^◌, �
 ghost use Rattle.rv_isa.specs.Kind.{class_of};
 ghost use Rattle.elf_types.specs.declared.file.ElfFile.{ElfFile};
 ghost use Rattle.qed_model.specs.Weave.Blocks.{begins_at as begins};
-ghost use Rattle.qed_model.specs.Weave.LeanCode.{fall_words};
 ghost use Rattle.qed_model.specs.Weave.LeanRoles.{lean_roles as lean_roles_of};
-ghost use Rattle.qed_model.specs.Weave.Placed.{sum_of_sizes};
 ghost use Rattle.block_list.specs.Listed.{block_of};
 ghost use Rattle.test_weave.specs.Fits.{FitsBlock};
 ghost use Rattle.lean_code.specs.Code.{IsLeanCut};
@@ -13,9 +11,9 @@ ghost use Rattle.lean_code.specs.Counts.{ticks_in};
 ghost use Rattle.lean_code.specs.Roles.{check_end_rows, check_rows, next_bytes, last_rows, branch_rows, jump_reg_rows as jump_reg_rows_of, leave_as_rows, leave_rows, entry_rows, block_rows, blocks_rows, lean_rows};
 
 use crate::begin::BEGIN_BYTES;
-use crate::blocks::begins_at;
 use crate::counts::{Counts, counted_at, counts_of};
-use crate::turn::{goes_size, turn_size};
+use crate::steps::fall_steps;
+use crate::turn::{goes_size, turn_steps};
 use block_list::CodeBlock;
 use flow_tracking::target;
 use qed_model::{Options, Role, RoleRow, Test};
@@ -47,22 +45,13 @@ fn push_check(rows: &mut Vec<RoleRow>, sizes: &Sizes) -> Result<(), AllocError>
     Ok(())
 }
 
-/// The bytes of what leads behind a block: none, where one of the blocks stands there.
-fn fall_size(blocks: &[CodeBlock], to: u64) -> u64
-    requires { AllPairs (λ b c. b.start < c.start) blocks.now }
-    ensures value { result ≡ sum_of_sizes false (fall_words (begins (map block_of blocks.now)) to) }
-    ensures bound { result ≤ 4 }
-{
-    if begins_at(blocks, to) { 0 } else { 4 }
-}
-
 /// The bytes of the turn to the address behind a block, and of what leads there.
 fn next_size(blocks: &[CodeBlock], start: u64, to: u64) -> u64
     requires { AllPairs (λ b c. b.start < c.start) blocks.now }
     ensures value { result ≡ next_bytes (begins (map block_of blocks.now)) start to }
     ensures bound { result ≤ 16 }
 {
-    turn_size(start, to) + fall_size(blocks, to)
+    4 * (turn_steps(start, to) + fall_steps(blocks, to))
 }
 
 /// Appends the leave of an ECALL.

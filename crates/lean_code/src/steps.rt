@@ -1,12 +1,13 @@
 //! The most steps of a block.
-ghost use Rattle.std.specs.Prelude.{◌≡◌, ◌+◌, ◌*◌, ◌^◌, ◌<◌, ◌≤◌, ℕ, true, cond, AllPairs, map};
+ghost use Rattle.std.specs.Prelude.{◌≡◌, ◌+◌, ◌*◌, ◌^◌, ◌<◌, ◌≤◌, ℕ, false, true, cond, AllPairs, map};
 ghost use Rattle.rv_isa.specs.Kind.{class_of};
 ghost use Rattle.qed_model.specs.Weave.Blocks.{begins_at as begins};
 ghost use Rattle.qed_model.specs.Weave.Bounds.{entry_steps as entry_steps_of};
+ghost use Rattle.qed_model.specs.Weave.Placed.{sum_of_sizes};
 ghost use Rattle.qed_model.specs.Weave.Sequences.{guard, guards_of, links};
 ghost use Rattle.qed_model.specs.Weave.Costs.{cost_each, original_cost, mirror_steps as mirror_cost, spent as spent_of};
 ghost use Rattle.qed_model.specs.Weave.Lean.{cost, is_break, leave_cost, leave_cost_as};
-ghost use Rattle.qed_model.specs.Weave.LeanCode.{fall_to, mirror_steps_of, block_steps as block_cost};
+ghost use Rattle.qed_model.specs.Weave.LeanCode.{fall_to, fall_words, mirror_steps_of, block_steps as block_cost};
 ghost use Rattle.block_list.specs.Listed.{block_of, end_of};
 ghost use Rattle.relinker.specs.Counted.{capped};
 ghost use Rattle.test_weave.specs.Fits.{FitsBlock};
@@ -84,10 +85,11 @@ fn body_steps(diverse: bool, body: &[Ins]) -> u64
     total
 }
 
-/// The steps that lead behind a block: none, where a block stands there.
-fn fall_steps(blocks: &[CodeBlock], to: u64) -> u64
+/// The steps that lead behind a block, of 4 bytes each: none, where a block stands there.
+pub(crate) fn fall_steps(blocks: &[CodeBlock], to: u64) -> u64
     requires { AllPairs (λ b c. b.start < c.start) blocks.now }
     ensures value { result ≡ cost (fall_to (begins (map block_of blocks.now)) to) }
+    ensures size { 4 * result ≡ sum_of_sizes false (fall_words (begins (map block_of blocks.now)) to) }
     ensures bound { result ≤ 1 }
 {
     if begins_at(blocks, to) { 0 } else { 1 }

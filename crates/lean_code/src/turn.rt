@@ -1,5 +1,5 @@
 //! The signature, and how it turns from one block to another.
-ghost use Rattle.std.specs.Prelude.{◌≡◌, ◌^◌, ◌-◌, ◌≤◌, ◌++◌, false, OnOk, pos, ◌≤ℤ◌};
+ghost use Rattle.std.specs.Prelude.{◌≡◌, ◌*◌, ◌^◌, ◌-◌, ◌≤◌, ◌++◌, false, OnOk, pos, ◌≤ℤ◌};
 ghost use Rattle.qed_model.specs.Weave.Placed.{distance_between as distance_of, sum_of_sizes};
 ghost use Rattle.qed_model.specs.Weave.Lean.{is_short as is_short_of, turn_by, turn, goes, check_sign, cost};
 
@@ -58,9 +58,10 @@ pub(crate) fn put_goes(from: u64, to: u64, out: &mut Emit) -> Result<(), AllocEr
     Ok(())
 }
 
-/// The steps of a turn.
+/// The steps of a turn, of 4 bytes each.
 pub(crate) fn turn_steps(from: u64, to: u64) -> u64
     ensures value { result ≡ cost (turn from to) }
+    ensures size { 4 * result ≡ sum_of_sizes false (turn from to) }
     ensures bound { result ≤ 3 }
 {
     if from == to {
@@ -72,26 +73,12 @@ pub(crate) fn turn_steps(from: u64, to: u64) -> u64
     }
 }
 
-/// The bytes of a turn.
-pub(crate) fn turn_size(from: u64, to: u64) -> u64
-    ensures value { result ≡ sum_of_sizes false (turn from to) }
-    ensures bound { result ≤ 12 }
-{
-    if from == to {
-        0
-    } else if is_short(distance_between(from, to)) {
-        4
-    } else {
-        12
-    }
-}
-
 /// The bytes of a turn with the jump behind it.
 pub(crate) fn goes_size(from: u64, to: u64) -> u64
     ensures value { result ≡ sum_of_sizes false (goes from to) }
     ensures bound { result ≤ 16 }
 {
-    turn_size(from, to) + 4
+    4 * turn_steps(from, to) + 4
 }
 
 /// Fires where the signature is not that of an input address.

@@ -18,7 +18,7 @@ use Rattle.weave_core.specs.Blocks.{IsEntryOf}
 use Rattle.qed_model.specs.declared.item.Item.{Item}
 use Rattle.weave_core.specs.Rows.{At, Sourced}
 use Rattle.weave_core.specs.Weave.{Weave}
-use Rattle.weave_core.specs.WeaveLaws.{PiecesAt, EntriesAt, Stands, stops, Onward, lands, is_lost}
+use Rattle.weave_core.specs.WeaveLaws.{PiecesAt, EntriesAt, Stands, stops, Onward, lands, is_lost, GoesTo}
 use Rattle.weave_core.proofs.Leaves.{no_code}
 use Rattle.weave_core.proofs.Source.{source_run, not_trapped_le, steady_le, steady_rest}
 use Rattle.weave_core.proofs.Trace.{none_run, one_run}
@@ -28,6 +28,7 @@ use Rattle.lean_weave.proofs.End.{Sweeps, swept_on}
 use Rattle.lean_weave.proofs.Leave.{SignedAs}
 use Rattle.lean_weave.proofs.Left.{Parts, OnWay, leave_row}
 use Rattle.lean_weave.proofs.Piece.{piece_row}
+use Rattle.lean_weave.proofs.Rows.{Entered as EnteredAt}
 use Rattle.lean_weave.proofs.Rows.{Enters, AtCheck, passes, skips, calls}
 use Rattle.lean_weave.proofs.Tick.{counter}
 
@@ -214,48 +215,34 @@ module _ (w : World) (l : Lean) (leader : ℕ → Bool) (x : LeanIn w l leader) 
         pub fifteen : reg to 15 ≡ counter count
         pub sixteen : reg to 16 ≡ reg u 16
 
+      entered :
+          (least count : ℕ) → GoesTo w u least (entry_steps l.land) (λ n y. EnteredAt w l leader x s rest s.pc n y × (reg y 15 ≡ counter count) × (reg y 16 ≡ reg u 16)) → 1 ≤ count → count ≤ left
+          → count + l.most s.pc ≤ left + owed l s.pc → Passed
+      entered least count g some most sum = record {
+        steps = g.steps;
+        count = count;
+        to = g.to;
+        few = g.within;
+        some = some;
+        most = most;
+        sum = sum;
+        walk = g.walk;
+        at = g.is.0.0;
+        fifteen = g.is.1;
+        sixteen = g.is.2;
+      }
+
       -- where its tick passes
       passed : l.ticks s.pc ≡ true → l.most s.pc < left → l.most s.pc ≤ 2048 → Passed
       unfolding enters
-      passed has lt small =
-          let g = passes w l leader x u s rest s.pc enters has lt small in
-          record {
-            steps = g.steps;
-            count = left - l.most s.pc;
-            to = g.to;
-            few = g.within;
-            some = omega (arith, lt);
-            most = omega arith;
-            sum = sums left (l.most s.pc) (owed l s.pc) lt;
-            walk = g.walk;
-            at = g.is.0.0;
-            fifteen = g.is.1;
-            sixteen = g.is.2;
-          } where
-            sums : (n m o : ℕ) → m < n → n - m + m ≤ n + o
-            sums n m o h = omega (arith, h)
+      passed has lt small = entered (entry_steps l.land) (left - l.most s.pc) (passes w l leader x u s rest s.pc enters has lt small) (omega (arith, lt)) (omega arith) (omega (arith, lt))
 
       -- or it has none
       skipped : l.ticks s.pc ≡ false → Passed
       unfolding enters
       skipped none =
-          let g = skips w l leader x u s rest s.pc enters none in
           let all : owed l s.pc ≡ l.most s.pc = ap (λ t. cond {A = ℕ} t 0 (l.most s.pc)) none in
-          record {
-            steps = g.steps;
-            count = left;
-            to = g.to;
-            few = g.within;
-            some = b.some;
-            most = omega arith;
-            sum = sums left (l.most s.pc) (owed l s.pc) all;
-            walk = g.walk;
-            at = g.is.0.0;
-            fifteen = g.is.1;
-            sixteen = g.is.2;
-          } where
-            sums : (n m o : ℕ) → o ≡ m → n + m ≤ n + o
-            sums n m o e = omega (arith, e)
+          entered 0 left (skips w l leader x u s rest s.pc enters none) b.some (omega arith) (omega (arith, all))
 
       -- to the next block, or to the end
       onward : (p : Passed) → IsSteady w.reached s (left + owed l s.pc + 3) → Next on p.to s off bound ⊎ Finished p.to bound

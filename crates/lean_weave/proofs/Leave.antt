@@ -26,7 +26,7 @@ use Rattle.weave_core.specs.World.{World, Quiet, Twice}
 use Rattle.weave_core.specs.Blocks.{IsEntryOf, Goes}
 use Rattle.weave_core.specs.Rows.{At, Led, Sourced}
 use Rattle.weave_core.specs.WeaveLaws.{GoesTo, Onward, lands, is_lost}
-use Rattle.weave_core.proofs.Branch.{Passes, pass_none, pass_on, guard_pass, own_pair, Branches, branch_step}
+use Rattle.weave_core.proofs.Branch.{Passes, pass_none, pass_on, guard_pass, own_pair, Branches, branch_step, branch_to}
 use Rattle.weave_core.proofs.Leaves.{go_most, go_walk, halved_gone, jump_step, links_as, branch_taken, branch_passed}
 use Rattle.weave_core.proofs.Rows.{halved_regs, halved_views, halved_moved, led_none, led_more}
 use Rattle.lean_weave.proofs.Chain.{cost_append}
@@ -61,17 +61,11 @@ went_behind w leader u x t m b least most k a keeps le g = record {
 more_one : (m c : ℕ) → m ≤ c → m + 1 ≤ c + 1
 more_one m c h = omega (arith, h)
 
-first_le : (m n : ℕ) → m + 1 + 1 ≤ n → 1 ≤ n
-first_le m n h = omega (arith, h)
+some_on : (m l n : ℕ) → m + 1 + l ≤ n → 1 ≤ n
+some_on m l n h = omega (arith, h)
 
-second_le : (m n : ℕ) → m + 1 + 0 ≤ n → 1 ≤ n
-second_le m n h = omega (arith, h)
-
-first_max : (c x y n : ℕ) → n ≤ c + 1 + x → n ≤ c + (1 + max x y)
-first_max c x y n h = omega (arith, h, le-max_left x y)
-
-second_max : (c x y n : ℕ) → n ≤ c + 1 + y → n ≤ c + (1 + max x y)
-second_max c x y n h = omega (arith, h, le-max_right x y)
+within : (c x m n : ℕ) → n ≤ c + 1 + x → x ≤ m → n ≤ c + (1 + m)
+within c x m n h le = omega (arith, h, le)
 
 pub far_enough : (p size : ℕ) → p + 4 + size + 4 ≤ 2 ^ 63 → (p + wrapped (pos (4 + size))) % 2 ^ 64 ≡ p + 4 + size
 far_enough p size h = omega (arith, h)
@@ -252,6 +246,33 @@ module _ (w : World) where
       pub leads : leader a ≡ true
       pub sign : reg u 16 ≡ (a + k) % 2 ^ 64
 
+    -- where one of its ways begins, at `to`
+    turning :
+        (u s : State) (i : Ins) (a k : ℕ) (x : Branching u s i a k) (b : Bool) → Branches w s i b → (to : ℕ) (xs : List Item) → Reads w.form.far w.code w.entry to (turn a (branch_to w b i s) ++ xs)
+        → Turning w leader entries codes (moved u.regs to u) (step s) a (branch_to w b i s) k xs
+    turning u s i a k x b br to xs reads =
+        let z = moved u.regs to u in
+        let t = branch_to w b i s in
+        record {
+          at = record { over = over_moved w.code u u.regs to x.at.over; reads = reads; halved = subst (λ q. Twice w z q q) (sym br.is) (halved_views w z s s t t (halved_moved w u s s to x.at.halved)) };
+          low = x.low;
+          sourced = br.sourced;
+          here = br.pc;
+          sign = x.sign;
+          leads = x.leads;
+        }
+
+    -- and by that way, which has so many steps
+    by_way :
+        (u s : State) (i : Ins) (a k : ℕ) (g : Passes w u (cost (guards_of i)) (Plain (branched i a s.pc) ∷ ways i a s.pc)) (to : ℕ) → Walk (Quiet w) (moved u.regs g.pc u) 1 (moved u.regs to u)
+        → (least most : ℕ) → Went w leader (moved u.regs to u) (step s) least most k → most ≤ max (cost (goes a (target i s.pc))) (cost (turn a (next_pc s) ++ fall_to leader (next_pc s)))
+        → Went w leader u (step s) 1 (leave_cost_as (fall_to leader) class.Branch i a s.pc) k
+    by_way u s i a k g to one least most way le =
+        let z = moved u.regs to u in
+        let c = cost (guards_of i) in
+        let r = went_behind w leader u z (step s) (g.steps + 1) (c + 1) least most k (walk_on (Quiet w) u (moved u.regs g.pc u) z g.steps 1 g.walk one) refl (more_one g.steps c g.within) way in
+        record { steps = r.steps; to = r.to; at_least = some_on g.steps least r.steps r.at_least; within = within c most _ r.steps r.within le; walk = r.walk; is = r.is }
+
     -- behind the branch of the output, on its way
     way_row :
         (b : Bool) (u s : State) (i : Ins) (a k : ℕ) (x : Branching u s i a k) → Branches w s i b → (g : Passes w u (cost (guards_of i)) (Plain (branched i a s.pc) ∷ ways i a s.pc))
@@ -259,44 +280,21 @@ module _ (w : World) where
         → Went w leader u (step s) 1 (leave_cost_as (fall_to leader) class.Branch i a s.pc) k
     way_row true u s i a k x br g test =
         let t = target i s.pc in
-        let j = branched i a s.pc in
-        let y = moved u.regs g.pc u in
-        let z = moved u.regs (g.pc + 4) u in
-        let more = turn a ((s.pc + 4) % 2 ^ 64) ++ fall_to leader ((s.pc + 4) % 2 ^ 64) in
-        let one = branch_passed w y j (over_moved w.code u u.regs g.pc x.at.over) g.reads.0 (opposite_is i.kind x.branch).0 test in
-        let views : Twice w z (step s) (step s) = subst (λ q. Twice w z q q) (sym br.is) (halved_views w z s s (target i s.pc) (target i s.pc) (halved_moved w u s s (g.pc + 4) x.at.halved)) in
-        let tn : Turning w leader entries codes z (step s) a t k (Go t ∷ more) = record {
-          at = record { over = over_moved w.code u u.regs (g.pc + 4) x.at.over; reads = subst (λ l. Reads w.form.far w.code w.entry (g.pc + 4) l) (append_assoc (turn a t) (Go t ∷ []) more) g.reads.1; halved = views };
-          low = x.low;
-          sourced = br.sourced;
-          here = br.pc;
-          sign = x.sign;
-          leads = x.leads;
-        } in
-        let w1 : Walk (Quiet w) u (g.steps + 1) z = walk_on (Quiet w) u y z g.steps 1 g.walk one in
-        let r = went_behind w leader u z (step s) (g.steps + 1) (cost (guards_of i) + 1) 1 (cost (goes a t)) k w1 refl (more_one g.steps (cost (guards_of i)) g.within) (goes_row w leader entries codes near z (step s) a t k more tn x.to) in
-        record { steps = r.steps; to = r.to; at_least = first_le g.steps r.steps r.at_least; within = first_max (cost (guards_of i)) (cost (goes a t)) (cost (turn a ((s.pc + 4) % 2 ^ 64) ++ fall_to leader ((s.pc + 4) % 2 ^ 64))) r.steps r.within; walk = r.walk; is = r.is }
+        let n = next_pc s in
+        let to = g.pc + 4 in
+        let more = turn a n ++ fall_to leader n in
+        let one = branch_passed w (moved u.regs g.pc u) (branched i a s.pc) (over_moved w.code u u.regs g.pc x.at.over) g.reads.0 (opposite_is i.kind x.branch).0 test in
+        let tn = turning u s i a k x true br to (Go t ∷ more) (subst (λ l. Reads w.form.far w.code w.entry to l) (append_assoc (turn a t) (Go t ∷ []) more) g.reads.1) in
+        by_way u s i a k g to one 1 (cost (goes a t)) (goes_row w leader entries codes near (moved u.regs to u) (step s) a t k more tn x.to) (le-max_left (cost (goes a t)) (cost more))
     way_row false u s i a k x br g test =
-        let n = (s.pc + 4) % 2 ^ 64 in
-        let j = branched i a s.pc in
-        let y = moved u.regs g.pc u in
-        let b = beyond_goes (g.pc + 4) a (target i s.pc) (turn a n ++ fall_to leader n) g.reads.1 in
+        let n = next_pc s in
+        let rest = turn a n ++ fall_to leader n in
+        let b = beyond_goes (g.pc + 4) a (target i s.pc) rest g.reads.1 in
         let size = sum_of_sizes false (goes a (target i s.pc)) in
         let to = g.pc + 4 + size in
-        let z = moved u.regs to u in
-        let one = branch_taken w y j to (over_moved w.code u u.regs g.pc x.at.over) g.reads.0 (opposite_is i.kind x.branch).0 test (far_enough g.pc size b.low) b.grain in
-        let views : Twice w z (step s) (step s) = subst (λ q. Twice w z q q) (sym br.is) (halved_views w z s s (next_pc s) (next_pc s) (halved_moved w u s s to x.at.halved)) in
-        let tn : Turning w leader entries codes z (step s) a n k (fall_to leader n) = record {
-          at = record { over = over_moved w.code u u.regs to x.at.over; reads = b.reads; halved = views };
-          low = x.low;
-          sourced = br.sourced;
-          here = br.pc;
-          sign = x.sign;
-          leads = x.leads;
-        } in
-        let w1 : Walk (Quiet w) u (g.steps + 1) z = walk_on (Quiet w) u y z g.steps 1 g.walk one in
-        let r = went_behind w leader u z (step s) (g.steps + 1) (cost (guards_of i) + 1) 0 (cost (turn a n ++ fall_to leader n)) k w1 refl (more_one g.steps (cost (guards_of i)) g.within) (falls_row w leader entries codes z (step s) a n k tn x.on) in
-        record { steps = r.steps; to = r.to; at_least = second_le g.steps r.steps r.at_least; within = second_max (cost (guards_of i)) (cost (goes a (target i s.pc))) (cost (turn a n ++ fall_to leader n)) r.steps r.within; walk = r.walk; is = r.is }
+        let one = branch_taken w (moved u.regs g.pc u) (branched i a s.pc) to (over_moved w.code u u.regs g.pc x.at.over) g.reads.0 (opposite_is i.kind x.branch).0 test (far_enough g.pc size b.low) b.grain in
+        let tn = turning u s i a k x false br to (fall_to leader n) b.reads in
+        by_way u s i a k g to one 0 (cost rest) (falls_row w leader entries codes (moved u.regs to u) (step s) a n k tn x.on) (le-max_right (cost (goes a (target i s.pc))) (cost rest))
 
     pub branch_leave :
         (u s : State) (i : Ins) (a k : ℕ) → Branching u s i a k → w.source s.pc ≡ Known i → NotTrapped (step s)

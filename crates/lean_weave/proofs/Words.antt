@@ -1,8 +1,12 @@
 -- The words of the lean form are of the kinds that two runs in lockstep know, and lead to where no register is closed.
-use Rattle.std.proofs.Common.{◌≡◌, ℕ, ◌+◌, ◌*◌, ◌%◌, ◌^◌, ◌≤◌, inl, inr, Bool, true, false, cond, List, [], ◌∷◌, ◌++◌, length, refl, sym, ap, ◌∙◌, subst, arith, append_assoc, length-append}
-use Rattle.std.specs.Prelude.{◌==◌, ℤ, pos, neg_ℤ}
-use Rattle.rv_isa.specs.declared.kind.Kind.TheVariants.{Lui, Auipc, Addi, Andi, Slli, Srli, Add, Sub, Beq, Blt, Jal, Jalr, Lw}
+use Rattle.std.proofs.Common.{◌≡◌, ℕ, ◌+◌, ◌*◌, ◌%◌, ◌^◌, ◌≤◌, inl, inr, Bool, true, false, cond, List, [], ◌∷◌, ◌++◌, length, refl, sym, ap, ◌∙◌, subst, arith, append_assoc, length-append, ⊎_elim}
+use Rattle.std.specs.Prelude.{◌==◌, ℤ, pos, neg_ℤ, ◌&&◌, not, nat_le}
+use Rattle.std.specs.List.{list_all}
+use Rattle.std.proofs.lemmas.List.{append-nil}
+use Rattle.std.proofs.lemmas.Bool.{and_parts, or_cases, leb-true, eqb-true, not-true, false≢true}
+use Rattle.rv_isa.specs.declared.kind.Kind.TheVariants.{Lui, Auipc, Addi, Andi, Slli, Add, Sub, Beq, Blt, Jal, Jalr, Lw}
 use Rattle.rv_isa.specs.declared.ins.Ins.{Ins}
+use Rattle.rv_isa.specs.declared.class.Class.{Class}
 use Rattle.rv_isa.specs.declared.class.Class.TheVariants as class
 use Rattle.rv_isa.specs.Kind.{class_of}
 use Rattle.rv_isa.specs.Operation.{pair}
@@ -14,39 +18,55 @@ use Rattle.qed_model.specs.Weave.Sequences.{Form, End, Falls, Stops, compare, vi
 use Rattle.qed_model.specs.Weave.Lean.{tick, enter, is_short, turn_by, turn, look_up, first_word, parted, called, begun, done, check, goes, check_sign, opposite, leave, leave_as, begin}
 use Rattle.weave_core.specs.KindItems.{LockItems, LandItems, LandsAs, Straight, GoodEnd, end_branches, end_jumps, end_jumps_reg, end_ends, end_illegal}
 use Rattle.weave_core.specs.Lock.{Scratch, Opens}
-use Rattle.weave_core.specs.Kinds.{Lockstep}
+use Rattle.weave_core.specs.Kinds.{Lockstep, is_ld, is_scratch}
 use Rattle.qed_model.specs.Promise.Closed.{is_branch}
 use Rattle.qed_model.specs.Machine.Step.{HasAt, imm, target}
 use Rattle.qed_model.specs.Machine.Values.{wrapped}
 use Rattle.weave_core.proofs.KindWords.{brk, guard_if, leave_branch, scratch_compute, scratch_load, scratch_branch, a_jump, a_jump_reg, an_end, an_illegal, a_break, if_guarded}
 use Rattle.weave_core.proofs.KindItems.{instructions_then, items_then, items_none, items_one, items_constant, items_go, one_guard, two_guards, compare_items, visits_items, sweep_items, links_items, zero_items, pair_scratch, takes_use}
 use Rattle.weave_core.proofs.PlacingForm.{length-instructions}
-use Rattle.weave_core.proofs.Landing.{straight_none, straight_compute, straight_constant, straight_then, straight_lands, straight_compare, straight_guard, straight_both, over_words, straight_links, straight_zeros, straight_one, land_then, land_behind, land_check, land_visits, land_sweep, land_go}
+use Rattle.weave_core.proofs.Landing.{straight_none, straight_compute, straight_constant, straight_then, straight_lands, straight_compare, straight_guard, straight_both, over_words, straight_links, straight_zeros, straight_one, land_then, land_behind, land_check, land_visits, land_sweep, land_go, straight_load}
 use Rattle.lean_weave.proofs.Ways.{opposite_is}
 
--- x15, x16, x30, x31
-x15 : Scratch 15
-x15 = inr (omega arith)
+-- ---- words that compute on temporaries, loads by them, and constants in them
+scratch : (r : ℕ) → is_scratch r ≡ true → Scratch r
+scratch r e = ⊎_elim (λ x. inl (eqb-true r 0 x)) (λ x. inr (leb-true 14 r x)) (or_cases (r == 0) (nat_le 14 r) e)
 
-x16 : Scratch 16
-x16 = inr (omega arith)
+abbrev computes_as : Class → Ins → Bool
+computes_as class.Compute i = is_scratch i.rs1 && is_scratch i.rs2
+computes_as class.Load i = nat_le 16 i.rs1 && not (is_ld i.kind && (i.rd == 30))
+computes_as _ i = false
 
-x30 : Scratch 30
-x30 = inr (omega arith)
-
-x31 : Scratch 31
-x31 = inr (omega arith)
-
-x14 : Scratch 14
-x14 = inr (omega arith)
-
-x0 : Scratch 0
-x0 = inl refl
+abbrev computes : Item → Bool
+computes (Plain i) = computes_as (class_of i.kind) i
+computes (Constant r v) = nat_le 14 r
+computes _ = false
 
 module _ (far : Bool) where
-  -- a word that computes on temporaries
-  computes : (i : Ins) (is : List Item) → class_of i.kind ≡ class.Compute → Scratch i.rs1 → Scratch i.rs2 → LockItems far is → LockItems far (Plain i ∷ is)
-  computes i is c a b h = items_one far i is (scratch_compute i c a b) h
+  word_items : (c : Class) (i : Ins) (is : List Item) → class_of i.kind ≡ c → computes_as c i ≡ true → LockItems far is → LockItems far (Plain i ∷ is)
+  word_items class.Compute i is k e h = let p = and_parts _ _ e in items_one far i is (scratch_compute i k (scratch i.rs1 p.0) (scratch i.rs2 p.1)) h
+  word_items class.Load i is k e h = let p = and_parts _ _ e in items_one far i is (scratch_load i k (leb-true 16 i.rs1 p.0) (not-true _ p.1)) h
+  word_items _ i is k e h = absurd (false≢true e)
+
+  computing : (xs ys : List Item) → list_all computes xs ≡ true → LockItems far ys → LockItems far (xs ++ ys)
+  computing [] ys e h = h
+  computing (Plain i ∷ xs) ys e h = let p = and_parts _ _ e in word_items (class_of i.kind) i (xs ++ ys) refl p.0 (computing xs ys p.1 h)
+  computing (Constant r v ∷ xs) ys e h = let p = and_parts (nat_le 14 r) (list_all computes xs) e in items_constant far r v (xs ++ ys) (inr (leb-true 14 r p.0)) (computing xs ys p.1 h)
+  computing (x ∷ xs) ys e h = absurd (false≢true e)
+
+  all_computing : (xs : List Item) → list_all computes xs ≡ true → LockItems far xs
+  all_computing xs e = subst (LockItems far) (append-nil xs) (computing xs [] e (items_none far))
+
+  word_straight : (c : Class) (i : Ins) (is : List Item) → class_of i.kind ≡ c → computes_as c i ≡ true → Straight far is → Straight far (Plain i ∷ is)
+  word_straight class.Compute i is k e h = straight_compute far i is k h
+  word_straight class.Load i is k e h = straight_load far i is k h
+  word_straight _ i is k e h = absurd (false≢true e)
+
+  straight : (xs : List Item) → list_all computes xs ≡ true → Straight far xs
+  straight [] e = straight_none far
+  straight (Plain i ∷ xs) e = let p = and_parts _ _ e in word_straight (class_of i.kind) i xs refl p.0 (straight xs p.1)
+  straight (Constant r v ∷ xs) e = straight_constant far r v xs (straight xs (and_parts (nat_le 14 r) (list_all computes xs) e).1)
+  straight (x ∷ xs) e = absurd (false≢true e)
 
   -- a comparison of temporaries that skips an EBREAK
   compares : (i : Ins) (is : List Item) → class_of i.kind ≡ class.Branch → Scratch i.rs1 → Scratch i.rs2 → (i.rs2 == i.rs1 + 16) ≡ false → LockItems far is → LockItems far (Plain i ∷ fired_check ∷ is)
@@ -55,26 +75,23 @@ module _ (far : Bool) where
   -- ---- the tick
   pub tick_items : (most : ℕ) (d : ℤ) → LockItems far (tick most d)
   tick_items most d =
-      computes (ins Addi 15 15 0 (pos most)) (Plain (ins Blt 0 15 0 (pos 12)) ∷ Plain (ins Jal 31 0 0 d) ∷ fired_check ∷ []) refl x15 x0
-      (items_one far (ins Blt 0 15 0 (pos 12)) (Plain (ins Jal 31 0 0 d) ∷ fired_check ∷ []) (scratch_branch (ins Blt 0 15 0 (pos 12)) refl x15 x0 refl)
+      computing (Plain (ins Addi 15 15 0 (pos most)) ∷ []) (Plain (ins Blt 0 15 0 (pos 12)) ∷ Plain (ins Jal 31 0 0 d) ∷ fired_check ∷ []) refl
+      (items_one far (ins Blt 0 15 0 (pos 12)) (Plain (ins Jal 31 0 0 d) ∷ fired_check ∷ []) (scratch_branch (ins Blt 0 15 0 (pos 12)) refl (inr (omega arith)) (inl refl) refl)
       (items_one far (ins Jal 31 0 0 d) (fired_check ∷ []) (a_jump (ins Jal 31 0 0 d) refl) (items_one far brk [] a_break (items_none far))))
 
   -- ---- the signature
+  abbrev sign_front : ℕ → List Item
+  sign_front a = Constant 30 a ∷ Plain (ins Sub 31 16 30 (pos 0)) ∷ Plain (ins Slli 31 31 0 (pos 32)) ∷ []
+
   pub sign_items : (a : ℕ) (ys : List Item) → LockItems far ys → LockItems far (check_sign a ++ ys)
   sign_items a ys y =
-      let b = ins Sub 31 16 30 (pos 0) in
-      let d = ins Slli 31 31 0 (pos 32) in
-      let f = ins Beq 0 31 0 (pos 8) in
-      items_constant far 30 a (Plain b ∷ Plain d ∷ Plain f ∷ fired_check ∷ ys) (inr (omega arith))
-      (computes b (Plain d ∷ Plain f ∷ fired_check ∷ ys) refl x16 x30
-      (computes d (Plain f ∷ fired_check ∷ ys) refl x31 x0 (compares f ys refl x31 x0 refl y)))
+      let f = ins Beq 0 31 0 (pos 8) in computing (sign_front a) (Plain f ∷ fired_check ∷ ys) refl (compares f ys refl (inr (omega arith)) (inl refl) refl y)
 
   pub sign_lands : (a : ℕ) (ys : List Item) → LockItems far ys → LandItems far ys → LandItems far (check_sign a ++ ys)
   sign_lands a ys y h =
-      let front = Constant 30 a ∷ Plain (ins Sub 31 16 30 (pos 0)) ∷ Plain (ins Slli 31 31 0 (pos 32)) ∷ [] in
       let check = Plain (ins Beq 0 31 0 (pos 8)) ∷ fired_check ∷ [] in
       let both : LandItems far (Plain (ins Beq 0 31 0 (pos 8)) ∷ fired_check ∷ ys) = land_then far check ys (land_check far (ins Beq 0 31 0 (pos 8)) refl refl) y h in
-      land_behind far front (check ++ ys) (straight_constant far 30 a (Plain (ins Sub 31 16 30 (pos 0)) ∷ Plain (ins Slli 31 31 0 (pos 32)) ∷ []) (λ c e a. (tt, (tt, tt)))) both
+      land_behind far (sign_front a) (check ++ ys) (straight (sign_front a) refl) both
 
   -- the entry: with the test of the signature, or without
   pub ticked_items : (ticks : Bool) (most : ℕ) (d : ℤ) → LockItems far (cond ticks (tick most d) [])
@@ -88,10 +105,8 @@ module _ (far : Bool) where
   turn_by_items : (d : ℤ) → LockItems far (turn_by d)
   turn_by_items d = by (is_short d) where
     by : (b : Bool) → LockItems far (cond b (Plain (ins Addi 16 16 0 d) ∷ []) (Plain (ins Lui 30 0 0 (upper_part d)) ∷ Plain (ins Addi 30 30 0 (lower_part d)) ∷ Plain (ins Add 16 16 30 (pos 0)) ∷ []))
-    by true = computes (ins Addi 16 16 0 d) [] refl x16 x0 (items_none far)
-    by false =
-        computes (ins Lui 30 0 0 (upper_part d)) (Plain (ins Addi 30 30 0 (lower_part d)) ∷ Plain (ins Add 16 16 30 (pos 0)) ∷ []) refl x0 x0
-        (computes (ins Addi 30 30 0 (lower_part d)) (Plain (ins Add 16 16 30 (pos 0)) ∷ []) refl x30 x0 (computes (ins Add 16 16 30 (pos 0)) [] refl x16 x30 (items_none far)))
+    by true = all_computing (Plain (ins Addi 16 16 0 d) ∷ []) refl
+    by false = all_computing (Plain (ins Lui 30 0 0 (upper_part d)) ∷ Plain (ins Addi 30 30 0 (lower_part d)) ∷ Plain (ins Add 16 16 30 (pos 0)) ∷ []) refl
 
   pub turn_items : (a t : ℕ) → LockItems far (turn a t)
   turn_items a t = by (a == t) where
@@ -118,88 +133,24 @@ module _ (far : Bool) where
   goes_lands a t = land_behind far (turn a t) (Go t ∷ []) (straight_turn a t) (land_go far t)
 
   -- ---- the table
+  abbrev look_front : List Item
+  look_front = Plain (ins Add 31 30 14 (pos 0)) ∷ Plain (ins Add 31 31 14 (pos 0)) ∷ Plain (ins Lw 30 31 0 (pos 0)) ∷ Plain (ins Add 30 30 31 (pos 0)) ∷ []
+
   pub look_items : LockItems far look_up
-  look_items =
-      computes (ins Add 31 30 14 (pos 0)) (Plain (ins Add 31 31 14 (pos 0)) ∷ Plain (ins Lw 30 31 0 (pos 0)) ∷ Plain (ins Add 30 30 31 (pos 0)) ∷ Plain (ins Jalr 0 30 0 (pos 0)) ∷ []) refl x30 x14
-      (computes (ins Add 31 31 14 (pos 0)) (Plain (ins Lw 30 31 0 (pos 0)) ∷ Plain (ins Add 30 30 31 (pos 0)) ∷ Plain (ins Jalr 0 30 0 (pos 0)) ∷ []) refl x31 x14
-      (items_one far (ins Lw 30 31 0 (pos 0)) (Plain (ins Add 30 30 31 (pos 0)) ∷ Plain (ins Jalr 0 30 0 (pos 0)) ∷ []) (scratch_load (ins Lw 30 31 0 (pos 0)) refl (omega arith) refl)
-      (computes (ins Add 30 30 31 (pos 0)) (Plain (ins Jalr 0 30 0 (pos 0)) ∷ []) refl x30 x31
-      (items_one far (ins Jalr 0 30 0 (pos 0)) [] (a_jump_reg (ins Jalr 0 30 0 (pos 0)) refl x30) (items_none far)))))
+  look_items = computing look_front (Plain (ins Jalr 0 30 0 (pos 0)) ∷ []) refl (items_one far (ins Jalr 0 30 0 (pos 0)) [] (a_jump_reg (ins Jalr 0 30 0 (pos 0)) refl (inr (omega arith))) (items_none far))
 
   pub straight_look : Straight far look_up
   straight_look = λ c e a. (tt, (tt, (tt, (tt, (tt, tt)))))
 
   -- ---- the check
-  parted_items : (base : ℕ) → LockItems far (parted base)
-  parted_items base =
-      let e = ins Srli 16 16 0 (pos 32) in
-      let d = ins Sub 16 16 15 (pos 0) in
-      let c = ins Add 15 15 30 (pos 0) in
-      let b = ins Srli 15 15 0 (pos 32) in
-      let a = ins Slli 15 15 0 (pos 32) in
-      let first = ins Sub 15 16 30 (pos 0) in
-      items_constant far 30 base (Plain first ∷ Plain a ∷ Plain b ∷ Plain c ∷ Plain d ∷ Plain e ∷ []) (inr (omega arith))
-      (computes first (Plain a ∷ Plain b ∷ Plain c ∷ Plain d ∷ Plain e ∷ []) refl x16 x30
-      (computes a (Plain b ∷ Plain c ∷ Plain d ∷ Plain e ∷ []) refl x15 x0
-      (computes b (Plain c ∷ Plain d ∷ Plain e ∷ []) refl x15 x0
-      (computes c (Plain d ∷ Plain e ∷ []) refl x15 x30
-      (computes d (Plain e ∷ []) refl x16 x15 (computes e [] refl x16 x0 (items_none far)))))))
-
-  straight_parted : (base : ℕ) → Straight far (parted base)
-  straight_parted base =
-      straight_constant far 30 base
-      (Plain (ins Sub 15 16 30 (pos 0)) ∷ Plain (ins Slli 15 15 0 (pos 32)) ∷ Plain (ins Srli 15 15 0 (pos 32)) ∷ Plain (ins Add 15 15 30 (pos 0)) ∷ Plain (ins Sub 16 16 15 (pos 0)) ∷ Plain (ins Srli 16 16 0 (pos 32)) ∷ [])
-      (λ c e a. (tt, (tt, (tt, (tt, (tt, (tt, tt)))))))
+  abbrev called_front : ℕ → List Item
+  called_front call = Plain (ins Add 30 15 14 (pos 0)) ∷ Plain (ins Add 30 30 14 (pos 0)) ∷ Plain (ins Sub 31 31 30 (pos 0)) ∷ Plain (ins Lw 30 30 0 (pos 0)) ∷ Plain (ins Addi 30 30 0 (pos (call + 4))) ∷ []
 
   called_items : (call : ℕ) → LockItems far (called call)
-  called_items call =
-      let a = ins Add 30 15 14 (pos 0) in
-      let b = ins Add 30 30 14 (pos 0) in
-      let c = ins Sub 31 31 30 (pos 0) in
-      let d = ins Lw 30 30 0 (pos 0) in
-      let e = ins Addi 30 30 0 (pos (call + 4)) in
-      let f = ins Beq 0 30 31 (pos 8) in
-      computes a (Plain b ∷ Plain c ∷ Plain d ∷ Plain e ∷ Plain f ∷ fired_check ∷ []) refl x15 x14
-      (computes b (Plain c ∷ Plain d ∷ Plain e ∷ Plain f ∷ fired_check ∷ []) refl x30 x14
-      (computes c (Plain d ∷ Plain e ∷ Plain f ∷ fired_check ∷ []) refl x31 x30
-      (items_one far d (Plain e ∷ Plain f ∷ fired_check ∷ []) (scratch_load d refl (omega arith) refl)
-      (computes e (Plain f ∷ fired_check ∷ []) refl x30 x0 (compares f [] refl x30 x31 refl (items_none far))))))
+  called_items call = let f = ins Beq 0 30 31 (pos 8) in computing (called_front call) (Plain f ∷ fired_check ∷ []) refl (compares f [] refl (inr (omega arith)) (inr (omega arith)) refl (items_none far))
 
   called_lands : (call : ℕ) → LandItems far (called call)
-  called_lands call =
-      let front = Plain (ins Add 30 15 14 (pos 0)) ∷ Plain (ins Add 30 30 14 (pos 0)) ∷ Plain (ins Sub 31 31 30 (pos 0)) ∷ Plain (ins Lw 30 30 0 (pos 0)) ∷ Plain (ins Addi 30 30 0 (pos (call + 4))) ∷ [] in
-      land_behind far front (Plain (ins Beq 0 30 31 (pos 8)) ∷ fired_check ∷ []) (λ c e a. (tt, (tt, (tt, (tt, (tt, tt)))))) (land_check far (ins Beq 0 30 31 (pos 8)) refl refl)
-
-  begun_items : (first : ℕ) → LockItems far (begun first)
-  begun_items first =
-      let b = ins Add 15 15 16 (pos 0) in
-      let c = ins Addi 16 30 0 (pos 0) in
-      computes (ins Addi 30 15 0 (pos 0)) (Constant 15 first ∷ Plain b ∷ Plain c ∷ []) refl x15 x0
-      (items_constant far 15 first (Plain b ∷ Plain c ∷ []) (inr (omega arith)) (computes b (Plain c ∷ []) refl x15 x16 (computes c [] refl x30 x0 (items_none far))))
-
-  straight_begun : (first : ℕ) → Straight far (begun first)
-  straight_begun first =
-      let moves = Plain (ins Add 15 15 16 (pos 0)) ∷ Plain (ins Addi 16 30 0 (pos 0)) ∷ [] in
-      straight_compute far (ins Addi 30 15 0 (pos 0)) (Constant 15 first ∷ moves) refl (straight_constant far 15 first moves (λ c e a. (tt, (tt, tt))))
-
-  done_items : (first every : ℕ) → LockItems far (done first every)
-  done_items first every =
-      let a = ins Sub 15 15 30 (pos 0) in
-      let b = ins Slli 15 15 0 (pos 32) in
-      let c = ins Addi 30 16 0 (pos 0) in
-      let d = ins Add 16 16 15 (pos 0) in
-      let e = ins Addi 15 0 0 (neg_ℤ (pos every)) in
-      items_constant far 30 first (Plain a ∷ Plain b ∷ Plain c ∷ Plain d ∷ Plain e ∷ []) (inr (omega arith))
-      (computes a (Plain b ∷ Plain c ∷ Plain d ∷ Plain e ∷ []) refl x15 x30
-      (computes b (Plain c ∷ Plain d ∷ Plain e ∷ []) refl x15 x0
-      (computes c (Plain d ∷ Plain e ∷ []) refl x16 x0
-      (computes d (Plain e ∷ []) refl x16 x15 (computes e [] refl x0 x0 (items_none far))))))
-
-  straight_done : (first every : ℕ) → Straight far (done first every)
-  straight_done first every =
-      straight_constant far 30 first
-      (Plain (ins Sub 15 15 30 (pos 0)) ∷ Plain (ins Slli 15 15 0 (pos 32)) ∷ Plain (ins Addi 30 16 0 (pos 0)) ∷ Plain (ins Add 16 16 15 (pos 0)) ∷ Plain (ins Addi 15 0 0 (neg_ℤ (pos every))) ∷ [])
-      (λ c e a. (tt, (tt, (tt, (tt, (tt, tt))))))
+  called_lands call = land_behind far (called_front call) (Plain (ins Beq 0 30 31 (pos 8)) ∷ fired_check ∷ []) (straight (called_front call) refl) (land_check far (ins Beq 0 30 31 (pos 8)) refl refl)
 
   -- what stands behind the parts of the check
   abbrev end_of : ℕ → ℕ → List Item
@@ -212,25 +163,25 @@ module _ (far : Bool) where
   compares_of first every round spans = compare ++ (begun first ++ visits_of first every round spans)
 
   end_items : (first every : ℕ) → LockItems far (end_of first every)
-  end_items first every = items_then far (done first every) look_up (done_items first every) look_items
+  end_items first every = computing (done first every) look_up refl look_items
 
   compares_items : (first every round : ℕ) (spans : List (ℕ × ℕ)) → LockItems far (compares_of first every round spans)
   compares_items first every round spans =
       items_then far compare (begun first ++ visits_of first every round spans) (compare_items far)
-      (items_then far (begun first) (visits_of first every round spans) (begun_items first) (items_then far (visit round spans) (end_of first every) (visits_items far round spans) (end_items first every)))
+      (computing (begun first) (visits_of first every round spans) refl (items_then far (visit round spans) (end_of first every) (visits_items far round spans) (end_items first every)))
 
   pub check_items : (base call every round : ℕ) (spans : List (ℕ × ℕ)) → LockItems far (check base call every round spans)
   check_items base call every round spans =
       let first = first_word base spans in
-      items_then far (parted base) (called call ++ compares_of (first_word base spans) every round spans) (parted_items base) (items_then far (called call) (compares_of (first_word base spans) every round spans) (called_items call) (compares_items first every round spans))
+      computing (parted base) (called call ++ compares_of (first_word base spans) every round spans) refl (items_then far (called call) (compares_of (first_word base spans) every round spans) (called_items call) (compares_items first every round spans))
 
   pub check_lands : (base call every round : ℕ) (spans : List (ℕ × ℕ)) → LandItems far (check base call every round spans)
   check_lands base call every round spans =
       let first = first_word base spans in
-      let last : Straight far (end_of (first_word base spans) every) = straight_then far (done first every) look_up (straight_done first every) straight_look in
+      let last : Straight far (end_of (first_word base spans) every) = straight_then far (done first every) look_up (straight (done first every) refl) straight_look in
       let visits : LandItems far (visits_of (first_word base spans) every round spans) = land_then far (visit round spans) (end_of first every) (land_visits far round spans) (end_items first every) (straight_lands far (end_of first every) last) in
-      let from : LandItems far (compares_of (first_word base spans) every round spans) = land_behind far compare (begun first ++ visits_of first every round spans) (straight_compare far) (land_behind far (begun first) (visits_of first every round spans) (straight_begun first) visits) in
-      land_behind far (parted base) (called call ++ compares_of first every round spans) (straight_parted base) (land_then far (called call) (compares_of first every round spans) (called_lands call) (compares_items first every round spans) from)
+      let from : LandItems far (compares_of (first_word base spans) every round spans) = land_behind far compare (begun first ++ visits_of first every round spans) (straight_compare far) (land_behind far (begun first) (visits_of first every round spans) (straight (begun first) refl) visits) in
+      land_behind far (parted base) (called call ++ compares_of first every round spans) (straight (parted base) refl) (land_then far (called call) (compares_of first every round spans) (called_lands call) (compares_items first every round spans) from)
 
   -- ---- leaves
   -- of a JALR
@@ -239,16 +190,13 @@ module _ (far : Bool) where
       let two = neg_ℤ (pos 2) in
       let use_it = ins Addi 30 i.rs1 0 i.imm in
       let mask = Plain (ins Andi 30 30 0 two) ∷ (links i at ++ look_up) in
-      let rest : LockItems far (Plain (ins Andi 30 30 0 (neg_ℤ (pos 2))) ∷ (links i at ++ look_up)) = computes (ins Andi 30 30 0 two) (links i at ++ look_up) refl x30 x0 (items_then far (links i at) look_up (links_items far i at hd) look_items) in
+      let rest : LockItems far (Plain (ins Andi 30 30 0 (neg_ℤ (pos 2))) ∷ (links i at ++ look_up)) = computing (Plain (ins Andi 30 30 0 two) ∷ []) (links i at ++ look_up) refl (items_then far (links i at) look_up (links_items far i at hd) look_items) in
       let used : LockItems far (guard i.rs1 ++ (Plain (ins Addi 30 i.rs1 0 i.imm) ∷ [])) = one_guard far use_it i.rs1 (if_guarded use_it i.rs1 h1 (takes_use i.rs1 i.imm h1)) in
       let both : LockItems far (guard i.rs1 ++ (Plain (ins Addi 30 i.rs1 0 i.imm) ∷ Plain (ins Andi 30 30 0 (neg_ℤ (pos 2))) ∷ (links i at ++ look_up))) = subst (LockItems far) (append_assoc (guard i.rs1) (Plain use_it ∷ []) mask) (items_then far (guard i.rs1 ++ (Plain use_it ∷ [])) mask used rest) in
       let tail = guard i.rs1 ++ (Plain use_it ∷ mask) in
-      let b = ins Addi 16 16 0 i.imm in
-      let d = ins Andi 16 16 0 two in
-      let f = ins Sub 16 16 30 (pos 0) in
-      computes (ins Add 16 16 (pair i.rs1) (pos 0)) (Plain b ∷ Plain d ∷ Constant 30 a ∷ Plain f ∷ tail) refl x16 (pair_scratch i.rs1)
-      (computes b (Plain d ∷ Constant 30 a ∷ Plain f ∷ tail) refl x16 x0
-      (computes d (Constant 30 a ∷ Plain f ∷ tail) refl x16 x0 (items_constant far 30 a (Plain f ∷ tail) (inr (omega arith)) (computes f tail refl x16 x30 both))))
+      let signs : List Item = Plain (ins Addi 16 16 0 i.imm) ∷ Plain (ins Andi 16 16 0 two) ∷ Constant 30 a ∷ Plain (ins Sub 16 16 30 (pos 0)) ∷ [] in
+      let add = ins Add 16 16 (pair i.rs1) (pos 0) in
+      items_one far add (signs ++ tail) (scratch_compute add refl (inr (omega arith)) (pair_scratch i.rs1)) (computing signs tail refl both)
 
   straight_leap : (fall : ℕ → List Item) (i : Ins) (a at : ℕ) → i.rs1 ≤ 13 → Straight far (leave_as [] fall class.JumpReg i a at)
   straight_leap fall i a at h1 =
@@ -385,20 +333,17 @@ leave_lands form fall (Stops i) a at f h (end_ends c) = rw c (land_behind false 
 leave_lands form fall (Stops i) a at f h (end_illegal c) = rw c (straight_lands false (Plain i ∷ []) (straight_one false i class.Illegal [] c (λ c a. tt) (straight_none false)))
 
 -- ---- what runs first
+abbrev start_front : ℕ → ℕ → List Item
+start_front d a = Plain (ins Lui 14 0 0 (pos d)) ∷ Constant 16 a ∷ Plain (ins Addi 15 0 0 (neg_ℤ (pos 1))) ∷ []
+
 pub begin_items : (d a : ℕ) → LockItems false (begin d a)
 begin_items d a =
-    let l = ins Lui 14 0 0 (pos d) in
-    let s = ins Addi 15 0 0 (neg_ℤ (pos 1)) in
-    let tail = Plain l ∷ Constant 16 a ∷ Plain s ∷ Go a ∷ [] in
+    let tail = start_front d a ++ (Go a ∷ []) in
     items_then false (zero_from 1 13) (zero_from 17 13 ++ tail) (zero_items false 1 13)
-    (items_then false (zero_from 17 13) tail (zero_items false 17 13)
-    (computes false l (Constant 16 a ∷ Plain s ∷ Go a ∷ []) refl x0 x0
-    (items_constant false 16 a (Plain s ∷ Go a ∷ []) (inr (omega arith)) (computes false s (Go a ∷ []) refl x0 x0 (items_go false a [] (items_none false))))))
+    (items_then false (zero_from 17 13) tail (zero_items false 17 13) (computing false (start_front d a) (Go a ∷ []) refl (items_go false a [] (items_none false))))
 
 pub begin_lands : (d a : ℕ) → LandItems false (begin d a)
 begin_lands d a =
-    let front = Plain (ins Lui 14 0 0 (pos d)) ∷ Constant 16 a ∷ Plain (ins Addi 15 0 0 (neg_ℤ (pos 1))) ∷ [] in
-    let set : Straight false (Plain (ins Addi 15 0 0 (neg_ℤ (pos 1))) ∷ []) = λ c e a. (tt, tt) in
-    let fronts : Straight false (Plain (ins Lui 14 0 0 (pos d)) ∷ Constant 16 a ∷ Plain (ins Addi 15 0 0 (neg_ℤ (pos 1))) ∷ []) = straight_compute false (ins Lui 14 0 0 (pos d)) (Constant 16 a ∷ Plain (ins Addi 15 0 0 (neg_ℤ (pos 1))) ∷ []) refl (straight_constant false 16 a (Plain (ins Addi 15 0 0 (neg_ℤ (pos 1))) ∷ []) set) in
-    land_behind false (zero_from 1 13) (zero_from 17 13 ++ (front ++ (Go a ∷ []))) (straight_zeros false 1 13)
-    (land_behind false (zero_from 17 13) (front ++ (Go a ∷ [])) (straight_zeros false 17 13) (land_behind false front (Go a ∷ []) fronts (land_go false a)))
+    let tail = start_front d a ++ (Go a ∷ []) in
+    land_behind false (zero_from 1 13) (zero_from 17 13 ++ tail) (straight_zeros false 1 13)
+    (land_behind false (zero_from 17 13) tail (straight_zeros false 17 13) (land_behind false (start_front d a) (Go a ∷ []) (straight false (start_front d a) refl) (land_go false a)))

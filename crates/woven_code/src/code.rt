@@ -8,6 +8,7 @@ ghost use Rattle.qed_model.specs.Weave.Woven.{is_far_code};
 ghost use Rattle.relinker.specs.Laid.{IsLaid, IsLinked, HasLinkCause};
 ghost use Rattle.relinker.specs.Link.{IsWithinForm, LinksWithin};
 ghost use Rattle.test_weave.specs.Fits.{FitsBlock};
+ghost use Rattle.test_weave.specs.Form.{parts_to_stub};
 ghost use Rattle.woven_code.specs.Code.{items_of, handed_on, place_of, IsCut, IsCodeOf, HasCause};
 
 use crate::count::counted;
@@ -17,7 +18,7 @@ use qed_model::limits::MAX_NEAR_CODE_BYTES;
 use qed_model::{Options, Test};
 use relinker::{Layout, LinkError, Linked, lay};
 use std::alloc::{AllocError, Global};
-use test_weave::{Weaver, weave};
+use test_weave::{Weaver, Weaving, weave};
 
 /// The passes of the code in one form.
 fn weaver(alloc: Global, test: &Test, options: &Options, far: bool) -> Result<Weaver, AllocError>
@@ -49,18 +50,21 @@ fn laid_out(
     lay(alloc, count, test.base + 3 * test.distance)
 }
 
-/// Writes the words of counted items.
-fn written(
+/// Writes the words of the items of a test, which are laid out.
+///
+/// Errors: want of memory.
+pub fn written<W: Weaving>(
     alloc: Global,
-    weaver: &Weaver,
+    weaver: &W,
     layout: Layout,
     test: &Test,
     blocks: &[CodeBlock],
 ) -> Result<Linked, AllocError>
     requires half { test.now.distance < 2 ^ 63 }
     requires fit { All FitsBlock blocks.now }
-    requires laid { IsLaid layout [] (handed_on weaver.now test.now blocks.now) }
-    ensures { IfOk result (IsLinked layout.far layout.base (handed_on weaver.now test.now blocks.now)) }
+    requires own { All (W.is_for weaver.now) blocks.now }
+    requires laid { IsLaid layout [] (parts_to_stub (W.code weaver.now) test.now.distance test.now.entry (map block_of blocks.now)) }
+    ensures { IfOk result (IsLinked layout.far layout.base (parts_to_stub (W.code weaver.now) test.now.distance test.now.entry (map block_of blocks.now))) }
 {
     let mut layout = layout;
     weave(

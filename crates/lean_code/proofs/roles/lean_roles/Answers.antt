@@ -1,7 +1,6 @@
 use Rattle.std.proofs.Common.{◌∙◌}
 use Rattle.lean_code.specs.Counts.{ticks_in}
-use Rattle.lean_code.proofs.Forms.{blocks_ascend, few_every, few_ranges, fit}
-use Rattle.lean_code.proofs.Owned.{all_few}
+use Rattle.lean_code.proofs.Forms.{blocks_ascend, few_ranges, fit}
 use Rattle.lean_code.proofs.RoleRows.{lean_rows_are}
 use Rattle.lean_code.proofs.roles.lean_roles.Goals as goal
 
@@ -10,18 +9,6 @@ sizes_of-sizes-requires-clause-visits c = c.requires.1.cut.sound.few_visits
 
 pub sizes_of-sizes-requires-clause-ranges : goal.sizes_of-sizes-requires-clause-ranges
 sizes_of-sizes-requires-clause-ranges c = few_ranges c.requires.0 c.args.options.now c.args.every c.args.test.now c.args.blocks.now c.requires.1
-
-pub counts_of-requires-clause-ascend : goal.counts_of-requires-clause-ascend
-counts_of-requires-clause-ascend c = blocks_ascend c.requires.0 c.args.options.now c.args.every c.args.test.now c.args.blocks.now c.requires.1
-
-pub counts_of-requires-clause-fit : goal.counts_of-requires-clause-fit
-counts_of-requires-clause-fit c = fit c.requires.0 c.args.options.now c.args.every c.args.test.now c.args.blocks.now c.requires.1
-
-pub counts_of-requires-clause-short : goal.counts_of-requires-clause-short
-counts_of-requires-clause-short c = all_few c.requires.0 c.args.options.now c.args.every c.args.blocks.now c.requires.1.cut
-
-pub counts_of-requires-clause-few : goal.counts_of-requires-clause-few
-counts_of-requires-clause-few c = few_every c.requires.0 c.args.options.now c.args.every c.args.test.now c.args.blocks.now c.requires.1
 
 pub rows_in-requires-clause-ascend : goal.rows_in-requires-clause-ascend
 rows_in-requires-clause-ascend c = blocks_ascend c.requires.0 c.args.options.now c.args.every c.args.test.now c.args.blocks.now c.requires.1
