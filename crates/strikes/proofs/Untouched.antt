@@ -1,24 +1,20 @@
 -- A run with one word changed, which goes the way of the run without changes as long as that touches no byte of the word.
-use Rattle.std.proofs.Common.{◌≡◌, ℕ, ◌+◌, ◌-◌, ◌^◌, ◌<◌, ◌≤◌, Bool, true, false, cond, List, [], ◌∷◌, Some, None, refl, sym, ap, ◌∙◌, subst, arith}
+use Rattle.std.proofs.Common.{◌≡◌, ℕ, ◌+◌, ◌^◌, ◌<◌, Bool, true, false, cond, List, [], ◌∷◌, Some, None, refl, sym, ap, ◌∙◌, subst, arith}
 use Rattle.std.specs.Prelude.{◌==◌}
 use Rattle.std.proofs.lemmas.Bool.{eq-eqb, eqb-true}
 use Rattle.qed_model.specs.declared.change.Change.{Change}
 use Rattle.qed_model.specs.declared.change.Place.{Place}
 use Rattle.qed_model.specs.declared.change.Place.TheVariants.{Reg, Word}
 use Rattle.qed_model.specs.declared.machine.Outcome.TheVariants.{Going}
-use Rattle.qed_model.specs.Machine.Progress.{Progress, progress}
 use Rattle.qed_model.specs.Machine.Step.{State, run}
 use Rattle.qed_model.specs.Machine.Struck.{struck}
 use Rattle.qed_model.specs.Promise.Changed.{changed, changed_as, with_changes, changed_run, last_step}
 use Rattle.qed_model.proofs.Walk.{run-more, run-none}
-use Rattle.rv_step.specs.Known.{struck_progress}
 use Rattle.fault_inject.specs.Touched.{IsSpared, AreSpared}
 use Rattle.fault_inject.proofs.Sparing.{spared_run}
-use Rattle.strikes.specs.Found.{IsOn, StopsWithin}
+use Rattle.strikes.specs.Found.{IsOn}
 use Rattle.strikes.specs.Later.{word_in, one_word, IsChangedAt}
 use Rattle.strikes.specs.Verdict.{IsReached}
-use Rattle.strikes.proofs.Leaping.{on_later, on_before}
-use Rattle.strikes.proofs.Stopping.{progress_state}
 
 -- ---- steps that touch no byte of the word
 spared_to : (a x at n : ℕ) (start : State) → a < 2 ^ 64 → ((k : ℕ) → k < n → IsSpared a (run start (at + k))) → run (struck (Word a) x (run start at)) n ≡ struck (Word a) x (run start (at + n))
