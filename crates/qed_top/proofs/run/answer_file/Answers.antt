@@ -6,7 +6,7 @@ use Rattle.qed_top.proofs.Meanings.{was_run}
 use Rattle.qed_top.proofs.run.answer_file.Goals as goal
 
 pub returns : goal.returns
-returns c =
+returns g c =
     let f = c.args.file.now in
     let jumps = jumps_of f (option_copied c.args.test) c.args.steps c.args.changes.now in
     let end = c.run_machine.new.machine in
