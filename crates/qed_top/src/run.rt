@@ -109,7 +109,7 @@ fn run_machine(
     requires begun { machine.now ≡ begun (start (loaded_file file.now) zeros) }
     requires sound { Ordered changes.now }
     ensures run { IfOk result (λ _. machine.new ≡ run_of file.now steps changes.now) }
-    ensures jumps { IfOk result (λ text. string_bytes text ≡ jumps_of file.now (option_copied test) steps changes.now) }
+    ensures jumps { IfOk result (λ text. string_bytes text ≡ jumps_of file.now (option_copied test.entry) steps changes.now) }
 {
     match test {
         Some(test) => {
@@ -137,7 +137,7 @@ fn answer_file(
     requires fit { AllFitMemory (load_segments file.now.segments) }
     requires apart { AreApart (load_segments file.now.segments) }
     requires sound { IsSoundRun steps changes.now dump }
-    ensures { IfOk result (FileRuns file.now steps changes.now (jumps_of file.now (option_copied test) steps changes.now) dump) }
+    ensures { IfOk result (FileRuns file.now steps changes.now (jumps_of file.now (option_copied test.entry) steps changes.now) dump) }
 {
     if let Some(answer) = above_memory(alloc, file)? {
         return Ok(answer);
