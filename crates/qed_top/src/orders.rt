@@ -71,7 +71,10 @@ pub fn answer_order(
 {
     match order {
         Order::Transform(_, output, options) => Ok(answer_transform(
-            alloc, bytes.as_slice(), output, &options,
+            alloc,
+            bytes.as_slice(),
+            output,
+            &options,
         )?),
         Order::Plan(_, options) => Ok(answer_plan(alloc, bytes.as_slice(), &options)?),
         Order::Explain(_, options, at) => {
@@ -80,15 +83,18 @@ pub fn answer_order(
         Order::Run(_, steps, changes, dump, reached) => {
             let shared = bytes.into_shared(alloc)?;
             let changes = changes.as_slice();
-            Ok(answer_run(
-                alloc, &shared, steps, changes, dump, reached, progress,
-            )?)
+            Ok(answer_run(alloc, &shared, steps, changes, dump, reached, progress)?)
         }
         Order::Gen(output, seed, size) => Ok(answer_gen(alloc, output, seed, size)?),
         Order::List(_) => Ok(answer_list(alloc, bytes.as_slice())?),
         Order::Asm(_, output) => Ok(answer_asm(alloc, bytes.as_slice(), output)?),
         Order::Campaign(_, options, draws, results) => Ok(answer_campaign(
-            alloc, bytes.as_slice(), &options, &draws, results, progress,
+            alloc,
+            bytes.as_slice(),
+            &options,
+            &draws,
+            results,
+            progress,
         )?),
         Order::Tell(topic) => {
             let text = told_text(alloc, topic)?;

@@ -47,9 +47,7 @@ impl Progress for Ticker<'_> {
             let _ = self.rt.eprint("\x1b[K");
         } else if seconds > self.told.get() {
             self.told.set(seconds);
-            let _ = self
-                .rt
-                .eprint(format_args!("qed: {done} of {all} done\r"));
+            let _ = self.rt.eprint(format_args!("qed: {done} of {all} done\r"));
         }
     }
 }
