@@ -32,4 +32,4 @@ returns-in_ok-answer-in-None-clause-meant g c =
     let shelf = g.S.Shelf in
     let rose = RoseAt (shelf.load_faults c.args.shelf.now) (shelf.load_faults c.args.shelf.now) in
     over_none (shelf.files c.args.shelf.now) c.args.order rose c.in_ok-answer-in-None.answer (sym c.in-None.ensures)
-    (subst (λ (bytes : List ℕ). AnswersOver c.args.order bytes c.in_ok-answer-in-None.answer) (c.of.ensures ∙ c.new.ensures.items) c.in_ok-answer-in-None.ensures)
+    (subst (λ (bytes : List ℕ). AnswersOver c.args.order bytes c.in_ok-answer-in-None.answer) (c.of-none.ensures ∙ c.new.ensures.items) c.in_ok-answer-in-None.ensures)
