@@ -3,8 +3,8 @@ ghost use Rattle.std.specs.Prelude.{IfOk, IfSome};
 ghost use Rattle.qed_model.specs.Weave.Places.{AreSoundOptions};
 
 use command_line::{Name, Order};
-use qed_model::{Changes, Options};
-use qed_words::{WordsError, order};
+use qed_model::{Changes, Options, add_change};
+use qed_words::{WordsError, fault, order};
 use std::alloc::{AllocError, Global};
 
 /// The words between spaces.
@@ -37,14 +37,12 @@ pub(crate) fn planned(alloc: Global, line: &str) -> Result<Option<Asked>, AllocE
 
 /// The changes of a line, as `--fault` takes them, in the order of their steps; None where it does not.
 pub(crate) fn changes(alloc: Global, line: &str) -> Result<Option<Changes>, AllocError> {
-    let mut all = words(alloc, "run file")?;
+    let mut all = Vec::new(alloc);
     for word in line.split(' ') {
-        all.push(String::from_str(alloc, "--fault")?)?;
-        all.push(String::from_str(alloc, word)?)?;
+        let Some(change) = fault(word.as_bytes()) else {
+            return Ok(None);
+        };
+        add_change(&mut all, change)?;
     }
-    match order(alloc, &all) {
-        Ok(Order::Run(_, _, changes, _, _)) => Ok(Some(changes)),
-        Err(WordsError::Memory) => Err(AllocError),
-        _ => Ok(None),
-    }
+    Ok(Some(Changes::of(all)))
 }

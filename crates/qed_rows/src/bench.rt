@@ -4,7 +4,7 @@ use qed_io::{MemoryShelf, MemorySink};
 use std::alloc::{AllocError, Global};
 
 /// A shelf, and how the sink of each call fails.
-#[derive(Debug, Drop)]
+#[derive(Drop)]
 pub struct Bench {
     pub shelf: MemoryShelf,
     /// The write that fails.

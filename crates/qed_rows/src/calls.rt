@@ -5,8 +5,8 @@ use crate::bench::Bench;
 use crate::digest::digest_of;
 use campaign::Silent;
 use diagnose::advice;
-use qed_io::MemorySink;
-use qed_top::{Status, exit_code, qed};
+use qed_io::{Shelf, Sink};
+use qed_top::{exit_code, qed};
 use qed_words::order;
 use std::alloc::{AllocError, Global};
 use std::env::Args;
@@ -20,15 +20,14 @@ pub(crate) fn printed(alloc: Global, out: &[u8], code: u8) -> Result<String, All
     format!(in alloc; "{text}= {code}\n")
 }
 
-/// What a call prints, and its status.
-fn done(
+/// Makes a call, and gives the exit code.
+pub(crate) fn made<S: Shelf, K: Sink>(
     alloc: Global,
-    bench: &mut Bench,
     words: &[String],
-) -> Result<(MemorySink, Status), AllocError> {
-    let mut out = bench.sink(alloc)?;
-    let status = qed(alloc, words, &mut bench.shelf, &mut out, &Silent);
-    Ok((out, status))
+    shelf: &mut S,
+    out: &mut K,
+) -> u8 {
+    qed(alloc, words, shelf, out, &Silent).code()
 }
 
 /// What a call prints, and the exit code.
@@ -37,37 +36,47 @@ pub(crate) fn call(
     bench: &mut Bench,
     words: &[String],
 ) -> Result<String, AllocError> {
-    let (out, status) = done(alloc, bench, words)?;
-    printed(alloc, out.bytes(), status.code())
+    let mut out = bench.sink(alloc)?;
+    let code = made(alloc, words, &mut bench.shelf, &mut out);
+    printed(alloc, out.bytes(), code)
 }
 
 /// What a person is told of a call, on a terminal.
-pub(crate) fn advise(
-    alloc: Global,
-    bench: &mut Bench,
-    words: &[String],
-) -> Result<String, AllocError> {
-    let (out, _) = done(alloc, bench, words)?;
+fn advise(alloc: Global, bench: &mut Bench, words: &[String]) -> Result<String, AllocError> {
+    let mut out = bench.sink(alloc)?;
+    let _ = made(alloc, words, &mut bench.shelf, &mut out);
     let printed = str::from_utf8(out.bytes()).unwrap_or("");
     advice(alloc, words, printed, None, true, &mut bench.shelf)
 }
 
 /// The size and the digest of what a call prints, and the exit code.
-pub(crate) fn digest(
-    alloc: Global,
-    bench: &mut Bench,
-    words: &[String],
-) -> Result<String, AllocError> {
-    let (out, status) = done(alloc, bench, words)?;
+fn digest(alloc: Global, bench: &mut Bench, words: &[String]) -> Result<String, AllocError> {
+    let mut out = bench.sink(alloc)?;
+    let code = made(alloc, words, &mut bench.shelf, &mut out);
     let text = digest_of(alloc, out.bytes())?;
-    let code = status.code();
     format!(in alloc; "{text}\n= {code}\n")
 }
 
 /// What words ask for.
-pub(crate) fn ask(alloc: Global, words: &[String]) -> Result<String, AllocError> {
+fn ask(alloc: Global, words: &[String]) -> Result<String, AllocError> {
     let answer = order(alloc, words);
     format!(in alloc; "{answer:?}\n")
+}
+
+/// What a line gives of which the rest are the words of a call.
+pub(crate) fn tell_call(
+    alloc: Global,
+    bench: &mut Bench,
+    what: &str,
+    rest: &str,
+) -> Result<String, AllocError> {
+    let words = words(alloc, rest)?;
+    match what {
+        "advice" => advise(alloc, bench, &words),
+        "digest" => digest(alloc, bench, &words),
+        "order" => ask(alloc, &words),
+        _ => call(alloc, bench, &words),
+    }
 }
 
 /// The number of an exit code, of those that there are.

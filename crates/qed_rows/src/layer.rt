@@ -7,6 +7,7 @@ use crate::file_parts::read;
 use crate::shapes::bounds_line;
 use crate::struck::{closing, reach, strike};
 use crate::told::test;
+use qed_words::fault;
 use std::alloc::{AllocError, Global};
 
 /// `read NAME`.
@@ -58,13 +59,10 @@ fn closed_line(alloc: Global, bench: &Bench, rest: &str) -> Result<Option<String
     let (name, rest) = rest.split_once(' ').unwrap_or((rest, ""));
     let (step, place) = rest.split_once(' ').unwrap_or((rest, ""));
     let change = format!(in alloc; "{step}:{place}=0")?;
-    let (Some(bytes), Some(changes)) = (bench.shelf.file(name), changes(alloc, &change)?) else {
+    let (Some(bytes), Some(change)) = (bench.shelf.file(name), fault(change.as_bytes())) else {
         return Ok(None);
     };
-    match changes.as_slice() {
-        [change] => Ok(Some(closing(alloc, bytes, change.step, &change.place)?)),
-        _ => Ok(None),
-    }
+    Ok(Some(closing(alloc, bytes, change.step, &change.place)?))
 }
 
 /// What a line about a layer gives; None where it is none.

@@ -2,10 +2,8 @@
 
 use crate::asked::words;
 use crate::bench::Bench;
-use crate::calls::printed;
-use campaign::Silent;
+use crate::calls::{made, printed};
 use qed_io::{DirShelf, NeverShelf, NeverSink, WriterSink};
-use qed_top::qed;
 use std::alloc::{AllocError, Global};
 use std::io::{Error, ErrorKind, Write};
 use std::os::unix::fs::symlink;
@@ -47,14 +45,9 @@ fn print_narrow(alloc: Global, bench: &mut Bench, line: &str) -> Result<String, 
         room: number(room.as_bytes()).unwrap_or(0) as usize,
         is_interrupted: true,
     });
-    let status = qed(
-        alloc,
-        &words(alloc, rest)?,
-        &mut bench.shelf,
-        &mut out,
-        &Silent,
-    );
-    printed(alloc, &out.writer.taken, status.code())
+    let words = words(alloc, rest)?;
+    let code = made(alloc, &words, &mut bench.shelf, &mut out);
+    printed(alloc, &out.writer.taken, code)
 }
 
 /// Does what words ask for over a shelf and a sink that never fail, with the files of the bench that the words name.
@@ -67,8 +60,8 @@ fn never(alloc: Global, bench: &Bench, line: &str) -> Result<String, AllocError>
         }
     }
     let mut out = NeverSink::new(alloc);
-    let status = qed(alloc, &words, &mut shelf, &mut out, &Silent);
-    printed(alloc, out.bytes(), status.code())
+    let code = made(alloc, &words, &mut shelf, &mut out);
+    printed(alloc, out.bytes(), code)
 }
 
 /// Does what words ask for over the machine's files.
@@ -76,8 +69,9 @@ fn disk(rt: &HostRuntime, bench: &Bench, line: &str) -> Result<String, AllocErro
     let alloc = rt.alloc();
     let mut out = bench.sink(alloc)?;
     let mut shelf = DirShelf::new(alloc, rt);
-    let status = qed(alloc, &words(alloc, line)?, &mut shelf, &mut out, &Silent);
-    printed(alloc, out.bytes(), status.code())
+    let words = words(alloc, line)?;
+    let code = made(alloc, &words, &mut shelf, &mut out);
+    printed(alloc, out.bytes(), code)
 }
 
 /// Moves a file between the bench and the machine, or links one of the machine's names to another; tells whether that was done.
@@ -101,6 +95,21 @@ fn place(rt: &HostRuntime, bench: &mut Bench, what: &str, rest: &str) -> Result<
     }
 }
 
+/// What is printed of a file that is moved or linked.
+fn move_file(
+    rt: &HostRuntime,
+    bench: &mut Bench,
+    what: &str,
+    rest: &str,
+) -> Result<String, AllocError> {
+    let answer = if place(rt, bench, what, rest)? {
+        ""
+    } else {
+        "not done\n"
+    };
+    String::from_str(rt.alloc(), answer)
+}
+
 /// What stands under one of the machine's names.
 fn kind(rt: &HostRuntime, name: &str) -> &'static str {
     match fs::symlink_metadata(rt, name) {
@@ -118,19 +127,13 @@ pub(crate) fn tell_machine(
     rest: &str,
 ) -> Result<Option<String>, AllocError> {
     let alloc = rt.alloc();
-    match what {
-        "disk" => Ok(Some(disk(rt, bench, rest)?)),
-        "never" => Ok(Some(never(alloc, bench, rest)?)),
-        "narrow" => Ok(Some(print_narrow(alloc, bench, rest)?)),
-        "kind" => Ok(Some(String::from_str(alloc, kind(rt, rest))?)),
-        "put" | "take" | "link" => {
-            let answer = if place(rt, bench, what, rest)? {
-                ""
-            } else {
-                "not done\n"
-            };
-            Ok(Some(String::from_str(alloc, answer)?))
-        }
-        _ => Ok(None),
-    }
+    let told = match what {
+        "disk" => disk(rt, bench, rest)?,
+        "never" => never(alloc, bench, rest)?,
+        "narrow" => print_narrow(alloc, bench, rest)?,
+        "kind" => String::from_str(alloc, kind(rt, rest))?,
+        "put" | "take" | "link" => move_file(rt, bench, what, rest)?,
+        _ => return Ok(None),
+    };
+    Ok(Some(told))
 }

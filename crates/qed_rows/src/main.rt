@@ -21,18 +21,28 @@ use crate::bench::Bench;
 use crate::row::tell;
 use std::{env, fs, io};
 
+/// Prints a line, and below it what it gives.
+fn print_line(rt: &HostRuntime, bench: &mut Bench, line: &str) -> io::Result<()> {
+    println!(rt; "{line}")?;
+    let told = tell(rt, bench, line)?;
+    print!(rt; "{told}")
+}
+
+/// Prints the lines of a file of rows, each with what it gives.
+fn print_rows(rt: &HostRuntime, rows: &str) -> io::Result<()> {
+    let mut bench = Bench::new(rt.alloc());
+    for line in rows.lines() {
+        print_line(rt, &mut bench, line)?;
+    }
+    Ok(())
+}
+
 fn main(rt: HostRuntime) -> io::Result<()> {
-    let alloc = rt.alloc();
     let mut names = env::args(&rt)?;
     let _ = names.next();
     for name in names {
         let rows = fs::read_to_string(&rt, name.as_str())?;
-        let mut bench = Bench::new(alloc);
-        for line in rows.lines() {
-            println!(rt; "{line}")?;
-            let told = tell(&rt, &mut bench, line)?;
-            print!(rt; "{told}")?;
-        }
+        print_rows(&rt, rows.as_str())?;
     }
     Ok(())
 }

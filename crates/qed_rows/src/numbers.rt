@@ -3,11 +3,11 @@
 use std::alloc::{AllocError, Global};
 use texts::{number, split_once};
 
-/// A number, and how often it stands there: `0x13`, or `0*24` for 24 times.
-fn repeated(word: &str) -> Option<(u64, u64)> {
-    match split_once(word.as_bytes(), b'*') {
-        Some((value, times)) => Some((number(value)?, number(times)?)),
-        None => Some((number(word.as_bytes())?, 1)),
+/// A number, and the one behind a mark; where no mark is there, this other number.
+fn pair(word: &str, mark: u8, other: u64) -> Option<(u64, u64)> {
+    match split_once(word.as_bytes(), mark) {
+        Some((first, second)) => Some((number(first)?, number(second)?)),
+        None => Some((number(word.as_bytes())?, other)),
     }
 }
 
@@ -19,7 +19,7 @@ fn push(bytes: &mut Vec<u8>, width: usize, value: u64) -> Result<(), AllocError>
     Ok(())
 }
 
-/// The bytes of numbers with spaces between them, each of so many bytes; None where a word is no number.
+/// The bytes of numbers with spaces between them, each of so many bytes: `0x13`, or `0*24` for 24 times; None where a word is no number.
 pub(crate) fn bytes_of(
     alloc: Global,
     width: usize,
@@ -27,7 +27,7 @@ pub(crate) fn bytes_of(
 ) -> Result<Option<Vec<u8>>, AllocError> {
     let mut bytes = Vec::new(alloc);
     for word in text.split(' ') {
-        let Some((value, times)) = repeated(word) else {
+        let Some((value, times)) = pair(word, b'*', 1) else {
             return Ok(None);
         };
         for _ in 0..times {
@@ -37,15 +37,8 @@ pub(crate) fn bytes_of(
     Ok(Some(bytes))
 }
 
-/// A number, and how much greater it is in each later record: `0x40+8`, or `7` where it stays.
-fn growing(word: &str) -> Option<(u64, u64)> {
-    match split_once(word.as_bytes(), b'+') {
-        Some((value, step)) => Some((number(value)?, number(step)?)),
-        None => Some((number(word.as_bytes())?, 0)),
-    }
-}
-
-/// So many records of the numbers with spaces between them, each of 8 bytes; None where a word is no number.
+/// So many records of the numbers with spaces between them, each of 8 bytes: `0x40+8` grows from record to record, `7` stays; None where a
+/// word is no number.
 pub(crate) fn records_of(
     alloc: Global,
     count: u64,
@@ -53,7 +46,7 @@ pub(crate) fn records_of(
 ) -> Result<Option<Vec<u8>>, AllocError> {
     let mut fields = Vec::new(alloc);
     for word in text.split(' ') {
-        let Some(field) = growing(word) else {
+        let Some(field) = pair(word, b'+', 0) else {
             return Ok(None);
         };
         fields.push(field)?;

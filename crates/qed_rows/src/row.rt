@@ -1,8 +1,7 @@
 //! A line, and what it gives.
 
-use crate::asked::words;
 use crate::bench::Bench;
-use crate::calls::{advise, ask, call, digest, start};
+use crate::calls::{call, start, tell_call};
 use crate::digest::digest_of;
 use crate::files::{first, with};
 use crate::layer::tell_layer;
@@ -167,12 +166,9 @@ pub(crate) fn tell(rt: &HostRuntime, bench: &mut Bench, line: &str) -> Result<St
             *bench = Bench::new(alloc);
             Ok(String::new(alloc))
         }
-        "qed" => call(alloc, bench, &words(alloc, rest)?),
+        "qed" | "advice" | "digest" | "order" => tell_call(alloc, bench, what, rest),
         "alone" => call(alloc, bench, &[]),
-        "advice" => advise(alloc, bench, &words(alloc, rest)?),
-        "digest" => digest(alloc, bench, &words(alloc, rest)?),
         "arguments" | "unreadable" | "starved" => start(alloc, bench, what, rest),
-        "order" => ask(alloc, &words(alloc, rest)?),
         "show" => show(alloc, bench, rest),
         _ => tell_file(rt, bench, what, rest),
     }

@@ -30,10 +30,16 @@ fn places(lines: &mut Lines, test: &Test) -> Result<(), AllocError> {
     lines.end()
 }
 
-fn code_word(lines: &mut Lines, address: u64, word: &str) -> Result<(), AllocError> {
-    lines.begin("word")?;
+fn at(lines: &mut Lines, what: &str, address: u64) -> Result<(), AllocError> {
+    lines.begin(what)?;
     lines.hex(address)?;
-    lines.word(word)?;
+    lines.end()
+}
+
+fn with_text(lines: &mut Lines, what: &str, address: u64, text: &str) -> Result<(), AllocError> {
+    lines.begin(what)?;
+    lines.hex(address)?;
+    lines.word(text)?;
     lines.end()
 }
 
@@ -48,7 +54,7 @@ fn parts(alloc: Global, lines: &mut Lines, test: &Test) -> Result<(), AllocError
     }
     for it in test.code.as_slice() {
         let word = it.word;
-        code_word(lines, it.at, &format!(in alloc; "0x{word:08x}")?)?;
+        with_text(lines, "word", it.at, &format!(in alloc; "0x{word:08x}")?)?;
     }
     Ok(())
 }
@@ -58,25 +64,6 @@ fn pieces(alloc: Global, block: &CodeBlock) -> Result<String, AllocError> {
     let lengths = block.lengths.as_slice();
     let end = block.end.map(|ins| ins.kind);
     format!(in alloc; "{lengths:?} {end:?}")
-}
-
-fn block(lines: &mut Lines, start: u64, pieces: &str) -> Result<(), AllocError> {
-    lines.begin("block")?;
-    lines.hex(start)?;
-    lines.word(pieces)?;
-    lines.end()
-}
-
-fn leader(lines: &mut Lines, address: u64) -> Result<(), AllocError> {
-    lines.begin("leader")?;
-    lines.hex(address)?;
-    lines.end()
-}
-
-fn reach(lines: &mut Lines, address: u64) -> Result<(), AllocError> {
-    lines.begin("reached")?;
-    lines.hex(address)?;
-    lines.end()
 }
 
 /// The leaders and the blocks of a test.
@@ -91,10 +78,10 @@ fn cut(
     requires sound { AreSoundOptions options.now }
 {
     for it in leaders(alloc, test, file, options)?.as_slice() {
-        leader(lines, *it)?;
+        at(lines, "leader", *it)?;
     }
     for it in blocks(alloc, test, file, options)?.as_slice() {
-        block(lines, it.start, &pieces(alloc, it)?)?;
+        with_text(lines, "block", it.start, &pieces(alloc, it)?)?;
     }
     Ok(())
 }
@@ -109,11 +96,32 @@ fn reaches(
     let marks = reached(alloc, test, file)?;
     for (i, it) in test.code.as_slice().iter().enumerate() {
         match marks.get(i) {
-            Some(mark) if *mark => reach(lines, it.at)?,
+            Some(mark) if *mark => at(lines, "reached", it.at)?,
             _ => {}
         }
     }
     Ok(())
+}
+
+/// What is told of a test, or the words of it that are reached.
+fn told(
+    alloc: Global,
+    file: &ElfFile,
+    test: &Test,
+    options: &Options,
+    is_reaching: bool,
+) -> Result<String, AllocError>
+    requires test { IsTestOf file.now options.now test.now }
+    requires sound { AreSoundOptions options.now }
+{
+    let mut lines = Lines::new(alloc);
+    if is_reaching {
+        reaches(alloc, &mut lines, file, test)?;
+    } else {
+        parts(alloc, &mut lines, test)?;
+        cut(alloc, &mut lines, file, test, options)?;
+    }
+    Ok(lines.into_text())
 }
 
 /// What is told of the test that bytes are, or the words of it that are reached, or why they are none.
@@ -130,16 +138,7 @@ pub(crate) fn test(
         Err(error) => return refusal(alloc, error),
     };
     match admit(alloc, &file, options) {
-        Ok(test) => {
-            let mut lines = Lines::new(alloc);
-            if is_reaching {
-                reaches(alloc, &mut lines, &file, &test)?;
-            } else {
-                parts(alloc, &mut lines, &test)?;
-                cut(alloc, &mut lines, &file, &test, options)?;
-            }
-            Ok(lines.into_text())
-        }
+        Ok(test) => told(alloc, &file, &test, options, is_reaching),
         Err(error) => text_of(alloc, &admit_text(alloc, &error)?),
     }
 }
