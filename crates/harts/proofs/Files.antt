@@ -13,7 +13,8 @@ use Rattle.qed_model.specs.Machine.Cells.{has, cell_at, cell_among}
 use Rattle.qed_model.specs.Machine.Apart.{share, FitsMemory, AllFitMemory, AreApart}
 use Rattle.qed_model.proofs.CellsAmong.{has_parts, get_among}
 use Rattle.qed_model.proofs.ApartLaws.{shared as share_at}
-use Rattle.harts.specs.Shared.{any_share, IsShared, AreUnshared, AreSound, FilesApart}
+use Rattle.mem_image.specs.Overlap.{any_share}
+use Rattle.harts.specs.Shared.{IsShared, AreUnshared, AreSound, FilesApart}
 use Rattle.mem_image.proofs.WholeLaws.{fits_at}
 use Rattle.mem_image.proofs.SegmentLaws.{all_sized}
 

@@ -16,13 +16,9 @@ use Rattle.harts.specs.Harts.{hart_of, hart_turns}
 use Rattle.harts.specs.Together.{IsProgram, own_run, IsSeen, HartKept, QuietInTurns, KeptInTurns, SameHart, SettlesInTurns, HartCaught, PerHart}
 use Rattle.qed_model.proofs.CellsLaws.{byte_of_cell}
 use Rattle.qed_model.proofs.Changes.{run_unchanged}
-use Rattle.qed_model.proofs.Fields.{are_bytes}
+use Rattle.qed_model.proofs.Fields.{zeros_start}
 use Rattle.harts.proofs.Beside.{Holds}
 use Rattle.harts.proofs.Together.{stand_after}
-
--- ---- the start
-zeros_are : AreStartRegs zeros
-zeros_are = record { count = refl; fit = λ r. let b = are_bytes zeros refl r in omega (arith, b) }
 
 -- ---- a hart that is seen
 -- it is the hart of its own run, and the memory has its cells
@@ -68,8 +64,8 @@ halves_mine f g a u s m h = record {
 -- ---- both promises
 kept : (gs : List Program) (i : ℕ) (f g : Program) (reached : ℕ → Bool) (first bound : ℕ) → IsProgram gs i g → Kept f g reached first bound → HartKept f reached first bound (IsSeen gs i [])
 kept gs i f g reached first bound e k = record {
-  values = λ n steady. values n (k.values zeros n zeros_are steady);
-  quiet = λ m u steady x. quiet m u (k.quiet zeros m zeros_are steady) (seen_plain gs i g m u e x);
+  values = λ n steady. values n (k.values zeros n zeros_start steady);
+  quiet = λ m u steady x. quiet m u (k.quiet zeros m zeros_start steady) (seen_plain gs i g m u e x);
 } where
   values : (n : ℕ) → Preserved f g first bound n zeros → KeptInTurns f first bound n (IsSeen gs i [])
   values n h = record {
@@ -95,7 +91,7 @@ same_hart g u v s t x y e =
     record { hart = z.hart ∙ sym y.hart; bytes = λ q o. z.holds.cells q o ∙ sym (y.holds.cells q o) }
 
 caught : (gs : List Program) (i : ℕ) (f g : Program) (reached : ℕ → Bool) (spans : List (ℕ × ℕ)) (bounds : Bounds) → IsProgram gs i g → Caught f g reached spans bounds → HartCaught f g reached spans bounds (IsSeen gs i)
-caught gs i f g reached spans bounds e k = record { settles = λ cs b ordered places bound steady going. settles cs b (k.settles zeros cs b zeros_are ordered places bound steady going) } where
+caught gs i f g reached spans bounds e k = record { settles = λ cs b ordered places bound steady going. settles cs b (k.settles zeros cs b zeros_start ordered places bound steady going) } where
   settles : (cs : List Change) (b : ℕ) → Settles spans (last_step cs) b (changed_run (start g zeros) cs) (after_output g zeros) → SettlesInTurns g (last_step cs) b (IsSeen gs i cs) (IsSeen gs i [])
   settles cs b h = record { turns = h.steps; within = h.within; settled = by h.settled } where
     by : ((changed_run (start g zeros) cs h.steps).outcome ≡ Fired) ⊎ (((changed_run (start g zeros) cs h.steps).outcome ≡ Ended) ⊎ ((last_step cs ≤ h.steps) × Same spans (changed_run (start g zeros) cs h.steps) (after_output g zeros h.steps))) →

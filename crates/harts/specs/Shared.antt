@@ -1,35 +1,20 @@
 -- Files of which segments share a byte, and what is known where none do.
-use Rattle.std.specs.Prelude.{◌≡◌, ℕ, ◌<◌, ◌≤◌, ◌⊎◌, Bool, true, List, [], ◌∷◌}
-use Rattle.std.specs.List.{list_any}
-use Rattle.qed_model.specs.Machine.Program.{Program, LoadSegment}
+use Rattle.std.specs.Prelude.{ℕ, List, [], ◌∷◌}
+use Rattle.qed_model.specs.Machine.Program.{Program}
+use Rattle.mem_image.specs.Overlap.{files_share, IsPair, IsLeastPair}
 use Rattle.harts.specs.Harts.{all_segments}
-use Rattle.harts.specs.Together.{IsProgram, AreApart as FilesAreApart}
-use Rattle.qed_model.specs.Machine.Apart.{share, AllFitMemory, AreApart}
+use Rattle.harts.specs.Together.{AreApart as FilesAreApart}
+use Rattle.qed_model.specs.Machine.Apart.{AllFitMemory, AreApart}
 use Rattle.harts.specs.declared.error.HartsError.{HartsError}
 use Rattle.harts.specs.declared.error.HartsError.TheVariants.{Shared, Memory}
 
--- a segment of the one list shares a byte with one of the other
-abbrev pub any_share : List LoadSegment → List LoadSegment → Bool
-any_share ss ts = list_any (λ s. list_any (share s) ts) ss
-
 -- files i and j share a byte, i before j
-pub record IsShared (gs : List Program) (i j : ℕ) : Type 0 where
-  pub order : i < j
-  pub first : Program
-  pub second : Program
-  pub first_at : IsProgram gs i first
-  pub second_at : IsProgram gs j second
-  pub share : any_share first.segments second.segments ≡ true
+abbrev pub IsShared : List Program → ℕ → ℕ → Type 0
+IsShared gs = IsPair files_share gs
 
 -- i and j are the least such pair, by i and then j
-pub record IsLeastShared (gs : List Program) (i j : ℕ) : Type 0 where
-  pub shared : IsShared gs i j
-  pub least : (h k : ℕ) → IsShared gs h k → (i < h) ⊎ ((i ≡ h) × (j ≤ k))
-
--- j is the least that shares a byte with i
-pub record IsNextShared (gs : List Program) (i j : ℕ) : Type 0 where
-  pub shared : IsShared gs i j
-  pub least : (k : ℕ) → IsShared gs i k → j ≤ k
+abbrev pub IsLeastShared : List Program → ℕ → ℕ → Type 0
+IsLeastShared gs = IsLeastPair (IsShared gs)
 
 -- no two files share a byte
 abbrev pub AreUnshared : List Program → Type 0

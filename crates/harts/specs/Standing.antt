@@ -2,22 +2,15 @@
 use Rattle.std.specs.Prelude.{◌≡◌, ℕ, ◌<◌, Bool, true, false, List, length, slice_get, slice_index, Some}
 use Rattle.std.specs.List.{list_any}
 use Rattle.qed_model.specs.declared.machine.Outcome.{Outcome}
-use Rattle.qed_model.specs.declared.machine.Outcome.TheVariants.{Going, Fired, Trapped}
+use Rattle.qed_model.specs.declared.machine.Outcome.TheVariants.{Fired}
 use Rattle.rv_step.specs.Harts.{HartState}
+use Rattle.rv_step.specs.Known.{goes_on}
 use Rattle.harts.specs.Harts.{Hart}
 use Rattle.harts.specs.HartSteps.{Counted}
-
-abbrev pub is_going : Outcome → Bool
-is_going Going = true
-is_going _ = false
 
 abbrev pub is_fired : Outcome → Bool
 is_fired Fired = true
 is_fired _ = false
-
-abbrev pub is_trapped : Outcome → Bool
-is_trapped (Trapped c pc) = true
-is_trapped _ = false
 
 -- a hart of the world stands so
 abbrev pub has_one : (Outcome → Bool) → Counted → Bool
@@ -29,4 +22,4 @@ stands test hs = list_any (λ h. test h.outcome) hs
 
 -- none of the harts that a list names goes on
 pub record AreIdle (c : Counted) (harts : List ℕ) : Type 0 where
-  pub each : (k : ℕ) (h : Hart) → k < length harts → slice_get c.world.harts (slice_index harts k) ≡ Some h → is_going h.outcome ≡ false
+  pub each : (k : ℕ) (h : Hart) → k < length harts → slice_get c.world.harts (slice_index harts k) ≡ Some h → goes_on h.outcome ≡ false

@@ -12,7 +12,6 @@ ghost use Rattle.harts.specs.Together.{Together, PerHart};
 
 mod error;
 mod parts;
-mod shared;
 mod standing;
 mod world;
 

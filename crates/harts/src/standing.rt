@@ -1,6 +1,8 @@
 //! How harts stand together.
 ghost use Rattle.std.specs.Prelude.{◌≡◌};
-ghost use Rattle.harts.specs.Standing.{is_fired, is_going, is_trapped, stands};
+ghost use Rattle.qed_model.specs.Promise.Kept.{is_trapped};
+ghost use Rattle.rv_step.specs.Known.{goes_on};
+ghost use Rattle.harts.specs.Standing.{is_fired, stands};
 
 use qed_model::Outcome;
 use rv_step::Hart;
@@ -19,7 +21,7 @@ fn is_trapped(outcome: Outcome) -> bool
 
 /// Whether this is the outcome of a hart that goes on.
 pub fn is_going(outcome: Outcome) -> bool
-    ensures { result ≡ is_going outcome }
+    ensures { result ≡ goes_on outcome }
 {
     matches!(outcome, Outcome::Going)
 }
@@ -40,7 +42,7 @@ pub fn any_trapped(harts: &[Hart]) -> bool
 
 /// Whether one goes on.
 pub fn any_going(harts: &[Hart]) -> bool
-    ensures { result ≡ stands is_going harts.now }
+    ensures { result ≡ stands goes_on harts.now }
 {
     harts.iter().any(|hart| is_going(hart.outcome()))
 }

@@ -5,14 +5,15 @@ ghost use Rattle.std.specs.FinMap.{get};
 ghost use Rattle.harts.specs.HartSteps.{bare, counted_start, counted_turn, counted_strike, counted_turns, cycled};
 ghost use Rattle.harts.specs.Shared.{AreSound, AreUnshared, Explains};
 ghost use Rattle.harts.specs.Played.{programs, IsPartPlayed};
-ghost use Rattle.harts.specs.Standing.{has_one, is_fired, is_going, is_trapped, AreIdle};
+ghost use Rattle.qed_model.specs.Promise.Kept.{is_trapped};
+ghost use Rattle.rv_step.specs.Known.{goes_on};
+ghost use Rattle.harts.specs.Standing.{has_one, is_fired, AreIdle};
 
 use crate::error::HartsError;
 use crate::parts::{all_specs, start_harts};
-use crate::shared::first_shared;
 use crate::standing::{any_fired, any_going, any_trapped, is_going};
 use elf_types::ElfFile;
-use mem_image::{Image, ImageError};
+use mem_image::{Image, ImageError, first_sharing};
 use qed_model::{Outcome, Place};
 use rv_isa::Reg;
 use rv_step::Hart;
@@ -57,7 +58,7 @@ impl World {
         ensures apart { IfOk result (λ _. AreUnshared (programs files.now)) }
         ensures error { IfErr result (Explains (programs files.now)) }
     {
-        if let Some((i, j)) = first_shared(files) {
+        if let Some((i, j)) = first_sharing(files) {
             return Err(HartsError::Shared(i, j));
         }
         let specs = all_specs(alloc, files)?;
@@ -189,7 +190,7 @@ impl World {
     /// Whether a hart goes on.
     #[tactic(auto, using(crate::proofs::Bare::any_bare))]
     pub fn goes_on(&self) -> bool
-        ensures { result ≡ has_one is_going self.now }
+        ensures { result ≡ has_one goes_on self.now }
     {
         any_going(&self.harts)
     }

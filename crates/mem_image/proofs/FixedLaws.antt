@@ -10,7 +10,7 @@ use Rattle.qed_model.specs.Machine.Cells.{has, cell_among}
 use Rattle.qed_model.proofs.MemoryLaws.{grants_at, wrap_offset, get-put_outside}
 use Rattle.qed_model.proofs.CellsAmong.{has_parts}
 use Rattle.mem_image.specs.Access.{allowed_number}
-use Rattle.mem_image.specs.Fixed.{is_code, has_code, IsFixed}
+use Rattle.mem_image.specs.Fixed.{is_code_flags, has_code, IsFixed}
 use Rattle.mem_image.specs.Overlap.{AreSound}
 use Rattle.mem_image.specs.Segments.{has_all, number_in, IsFirst}
 use Rattle.mem_image.proofs.SegmentLaws.{get-memory_of}
@@ -45,16 +45,16 @@ fixed_put m s a n v h low g = record {
 -- ---- no code
 -- where no segment has the address, or the first that has it may not be executed or may be written
 pub none_no_code : (ss : List LoadSegment) (q : ℕ) → AllFitMemory ss → cell_among ss q ≡ None → has_code (memory_of ss) q ≡ false
-none_no_code ss q fit e = ap (allows is_code) (get-memory_of ss q fit ∙ e)
+none_no_code ss q fit e = ap (allows is_code_flags) (get-memory_of ss q fit ∙ e)
 
 pub first_no_code :
-    (ss : List LoadSegment) (q k : ℕ) → AreSound ss → IsFirst ss q k → ((s : LoadSegment) → slice_get ss k ≡ Some s → is_code s.flags ≡ false)
+    (ss : List LoadSegment) (q k : ℕ) → AreSound ss → IsFirst ss q k → ((s : LoadSegment) → slice_get ss k ≡ Some s → is_code_flags s.flags ≡ false)
     → has_code (memory_of ss) q ≡ false
 first_no_code ss q k sound first h =
     let s : LoadSegment = first.found.0 in
     let at : slice_get ss k ≡ Some s = first.found.1.0 in
     let inside : has s q ≡ true = first.found.1.1 in
-    ap (allows is_code) ((among_stands ss k s sound at).cells q inside) ∙ h s at
+    ap (allows is_code_flags) ((among_stands ss k s sound at).cells q inside) ∙ h s at
 
 pub if_none : {A : Type 0} (o : Option A) (P Q : Type 0) → (P → Q) → IfNone o P → IfNone o Q
 if_none None P Q f h = f h

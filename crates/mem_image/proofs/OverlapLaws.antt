@@ -1,5 +1,5 @@
--- Segments that share a byte, and segments that ascend.
-use Rattle.std.proofs.Common.{◌≡◌, ℕ, zero, suc, ◌+◌, ◌<◌, ◌≤◌, true, false, List, [], ◌∷◌, length, Some, sym, ap, ◌∙◌, arith, get_or}
+-- What shares a byte, and segments that ascend.
+use Rattle.std.proofs.Common.{◌≡◌, ℕ, zero, suc, ◌+◌, ◌<◌, ◌≤◌, Bool, true, false, List, [], ◌∷◌, length, map, Some, sym, ap, ◌∙◌, arith, get_or}
 use Rattle.std.specs.Prelude.{slice_get}
 use Rattle.std.specs.Option.{option_map}
 use Rattle.std.proofs.lemmas.Bool.{false≢true}
@@ -7,42 +7,48 @@ use Rattle.std.proofs.lemmas.Bool.Decides.{nat_tests}
 use Rattle.std.proofs.lemmas.Option.{slice_get-get_or, slice_get_within, slice_get-map}
 use Rattle.std.proofs.lemmas.List.{length-map}
 use Rattle.qed_model.specs.Machine.Program.{LoadSegment}
-use Rattle.mem_image.specs.declared.spec.SegmentSpec.{SegmentSpec}
 use Rattle.qed_model.specs.Machine.Apart.{share, Overlaps, AreApart}
-use Rattle.mem_image.specs.Overlap.{segment_of, segments_of, Ascends}
+use Rattle.mem_image.specs.Overlap.{IsPair, IsLeastPair, Ascends}
 
--- ---- two places of the list
--- the segment at a place that the code reads
-pub segment_there : (specs : List SegmentSpec) (i : ℕ) (a : SegmentSpec) → i < length specs → a ≡ get_or specs i a → slice_get (segments_of specs) i ≡ Some (segment_of a)
-segment_there specs i a h e = slice_get-map segment_of specs i ∙ ap (option_map segment_of) (slice_get-get_or specs i a h ∙ ap Some (sym e))
+-- ---- two places of a list
+-- what is seen at a place that the code reads
+pub seen_there : {A V : Type 0} (view : A → V) (xs : List A) (i : ℕ) (a : A) → i < length xs → a ≡ get_or xs i a → slice_get (map view xs) i ≡ Some (view a)
+seen_there view xs i a h e = slice_get-map view xs i ∙ ap (option_map view) (slice_get-get_or xs i a h ∙ ap Some (sym e))
 
-pub pair_overlaps : (specs : List SegmentSpec) (i j : ℕ) (a b : SegmentSpec) → i < length specs → j < length specs → a ≡ get_or specs i a → b ≡ get_or specs j b → i < j → share (segment_of a) (segment_of b) ≡ true → Overlaps (segments_of specs) i j
-pair_overlaps specs i j a b hi hj ea eb order share = record {
-  order = order;
-  first = segment_of a;
-  second = segment_of b;
-  first_at = segment_there specs i a hi ea;
-  second_at = segment_there specs j b hj eb;
-  share = share;
+module _ {A V : Type 0} (view : A → V) (shares : V → V → Bool) (xs : List A) where
+  pub pair_is : (i j : ℕ) (a b : A) → i < length xs → j < length xs → a ≡ get_or xs i a → b ≡ get_or xs j b → i < j → shares (view a) (view b) ≡ true → IsPair shares (map view xs) i j
+  pair_is i j a b hi hj ea eb order share = record { order = order; first = view a; second = view b; first_at = seen_there view xs i a hi ea; second_at = seen_there view xs j b hj eb; share = share }
+
+  pub pair_share : (i j : ℕ) (a b : A) → i < length xs → j < length xs → a ≡ get_or xs i a → b ≡ get_or xs j b → IsPair shares (map view xs) i j → shares (view a) (view b) ≡ true
+  pair_share i j a b hi hj ea eb o =
+      let x = seen_there view xs i a hi ea in
+      let y = seen_there view xs j b hj eb in
+      let p = o.first_at in
+      let q = o.second_at in
+      let f : o.first ≡ view a = cc in
+      let g : o.second ≡ view b = cc in
+      rw (f, g) at o.share
+
+  -- both are places of the list
+  pub within_list : (i j : ℕ) → IsPair shares (map view xs) i j → (i < length xs) × (j < length xs)
+  within_list i j o =
+      let l : length (map view xs) ≡ length xs = simp length-map in
+      let x = slice_get_within (map view xs) i o.first o.first_at in
+      let y = slice_get_within (map view xs) j o.second o.second_at in
+      (rw l at x, rw l at y)
+
+-- of segments these are overlaps
+overlap_is : (ss : List LoadSegment) (i j : ℕ) → Overlaps ss i j → IsPair share ss i j
+overlap_is ss i j o = record { order = o.order; first = o.first; second = o.second; first_at = o.first_at; second_at = o.second_at; share = o.share }
+
+pub none_overlaps : (ss : List LoadSegment) → ((i j : ℕ) → IsPair share ss i j → ⊥) → AreApart ss
+none_overlaps ss none i j o = none i j (overlap_is ss i j o)
+
+pub least_overlaps : (ss : List LoadSegment) (i j : ℕ) → IsLeastPair (IsPair share ss) i j → IsLeastPair (Overlaps ss) i j
+least_overlaps ss i j p = let o = p.is in record {
+  is = record { order = o.order; first = o.first; second = o.second; first_at = o.first_at; second_at = o.second_at; share = o.share };
+  least = λ h k q. p.least h k (overlap_is ss h k q);
 }
-
-pub pair_share : (specs : List SegmentSpec) (i j : ℕ) (a b : SegmentSpec) → i < length specs → j < length specs → a ≡ get_or specs i a → b ≡ get_or specs j b → Overlaps (segments_of specs) i j → share (segment_of a) (segment_of b) ≡ true
-pair_share specs i j a b hi hj ea eb o =
-    let x = segment_there specs i a hi ea in
-    let y = segment_there specs j b hj eb in
-    let p = o.first_at in
-    let q = o.second_at in
-    let f : o.first ≡ segment_of a = cc in
-    let g : o.second ≡ segment_of b = cc in
-    rw (f, g) at o.share
-
--- a place of an overlap is one of the list
-pub within_list : (specs : List SegmentSpec) (i j : ℕ) → Overlaps (segments_of specs) i j → (i < length specs) × (j < length specs)
-within_list specs i j o =
-    let l : length (segments_of specs) ≡ length specs = simp length-map in
-    let x = slice_get_within (segments_of specs) i o.first o.first_at in
-    let y = slice_get_within (segments_of specs) j o.second o.second_at in
-    (rw l at x, rw l at y)
 
 -- ---- segments that ascend
 -- the segment at a place begins at the bound or behind it

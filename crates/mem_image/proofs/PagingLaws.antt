@@ -20,7 +20,7 @@ use Rattle.mem_image.specs.Overlap.{segment_of, segments_of, Ascends}
 use Rattle.mem_image.specs.Pages.{IsPageOf, Below, first_part, IsPaged, IsPlace, Orders, Names, HasOne, Covers}
 use Rattle.mem_image.proofs.SegmentLaws.{cell_among-none, cell_among-first}
 use Rattle.mem_image.specs.declared.spec.SegmentSpec.{SegmentSpec}
-use Rattle.mem_image.proofs.OverlapLaws.{segment_there}
+use Rattle.mem_image.proofs.OverlapLaws.{seen_there}
 use Rattle.qed_model.proofs.ApartLaws.{shared}
 use Rattle.mem_image.proofs.WholeLaws.{before_apart}
 use Rattle.qed_model.proofs.CellsAmong.{has_from, has_parts, option_or-cond}
@@ -225,7 +225,7 @@ orders_moved ss xs ys n moved o = record {
 pub names_read : (specs : List SegmentSpec) (order : List (ℕ × ℕ)) (j : ℕ) (p : ℕ × ℕ) (a : SegmentSpec) → Orders (segments_of specs) order (length specs) → j < length order → p ≡ get_or order j p → a ≡ get_or specs p.1 a → Names (segments_of specs) order j (segment_of a)
 names_read specs order j p a o l e r =
     let place : IsPlace (segments_of specs) (length specs) p = subst (IsPlace (segments_of specs) (length specs)) (sym e) (o.places j p l) in
-    let there = segment_there specs p.1 a place.below r in
+    let there = seen_there segment_of specs p.1 a place.below r in
     let is : place.segment ≡ segment_of a = same_Some place.segment (segment_of a) (sym place.stands ∙ there) in
     let at : p.0 ≡ a.address = place.address ∙ ap (λ (s : LoadSegment). s.address) is in
     record { number = p.1; stands = slice_get-get_or order j p l ∙ ap Some (sym e) ∙ ap (λ q. Some (q, p.1)) at; segment = there; some = subst (λ (s : LoadSegment). 0 < s.size) is place.some }

@@ -6,11 +6,11 @@ use Rattle.qed_model.specs.Machine.Program.{LoadSegment}
 use Rattle.qed_model.specs.Machine.Cells.{has, cell_at}
 
 -- a byte that may be executed and not written, and an address of one
-abbrev pub is_code : Flags → Bool
-is_code f = f.execute && not f.write
+abbrev pub is_code_flags : Flags → Bool
+is_code_flags f = f.execute && not f.write
 
 abbrev pub has_code : Memory → ℕ → Bool
-has_code m q = allows is_code (get m q)
+has_code m q = allows is_code_flags (get m q)
 
 -- the memory has the cells of the segment, which ends at 2^64 or before
 pub record Stands (m : Memory) (s : LoadSegment) : Type 0 where

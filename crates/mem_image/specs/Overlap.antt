@@ -1,11 +1,12 @@
--- Segments of a list that share a byte.
-use Rattle.std.specs.Prelude.{◌≡◌, ℕ, ◌+◌, ◌<◌, ◌≤◌, ◌⊎◌, List, [], ◌∷◌, map}
-use Rattle.qed_model.specs.Machine.Program.{LoadSegment}
+-- Segments and files of a list that share a byte.
+use Rattle.std.specs.Prelude.{◌≡◌, ℕ, ◌+◌, ◌<◌, ◌≤◌, ◌⊎◌, Bool, true, Some, List, [], ◌∷◌, map, slice_get}
+use Rattle.std.specs.List.{list_any}
+use Rattle.qed_model.specs.Machine.Program.{Program, LoadSegment}
 use Rattle.qed_model.specs.Machine.Memory.{flags_of}
 use Rattle.mem_image.specs.declared.spec.SegmentSpec.{SegmentSpec}
 use Rattle.mem_image.specs.declared.spec.ImageError.{ImageError}
 use Rattle.mem_image.specs.declared.spec.ImageError.TheVariants.{Overlap, Memory}
-use Rattle.qed_model.specs.Machine.Apart.{AllFitMemory, Overlaps, AreApart}
+use Rattle.qed_model.specs.Machine.Apart.{share, AllFitMemory, Overlaps, AreApart}
 
 -- a segment as plain data
 abbrev pub segment_of : SegmentSpec → LoadSegment
@@ -14,16 +15,30 @@ segment_of s = record { address = s.address; size = s.memory; flags = flags_of s
 abbrev pub segments_of : List SegmentSpec → List LoadSegment
 segments_of specs = map segment_of specs
 
--- i and j are the least such pair, by i and then j
-pub record IsLeast (ss : List LoadSegment) (i j : ℕ) : Type 0 where
-  pub overlaps : Overlaps ss i j
-  pub least : (h k : ℕ) → Overlaps ss h k → (i < h) ⊎ ((i ≡ h) × (j ≤ k))
+-- ---- pairs
+-- a segment of the one list shares a byte with one of the other
+abbrev pub any_share : List LoadSegment → List LoadSegment → Bool
+any_share ss ts = list_any (λ s. list_any (share s) ts) ss
 
--- j is the least that shares a byte with i
-pub record IsNext (ss : List LoadSegment) (i j : ℕ) : Type 0 where
-  pub overlaps : Overlaps ss i j
-  pub least : (k : ℕ) → Overlaps ss i k → j ≤ k
+-- and of two files
+abbrev pub files_share : Program → Program → Bool
+files_share f g = any_share f.segments g.segments
 
+-- numbers i and j of the list, i before j, share a byte
+pub record IsPair {A : Type 0} (shares : A → A → Bool) (xs : List A) (i j : ℕ) : Type 0 where
+  pub order : i < j
+  pub first : A
+  pub second : A
+  pub first_at : slice_get xs i ≡ Some first
+  pub second_at : slice_get xs j ≡ Some second
+  pub share : shares first second ≡ true
+
+-- i and j are the least pair, by i and then j
+pub record IsLeastPair (R : ℕ → ℕ → Type 0) (i j : ℕ) : Type 0 where
+  pub is : R i j
+  pub least : (h k : ℕ) → R h k → (i < h) ⊎ ((i ≡ h) × (j ≤ k))
+
+-- ---- segments of an image
 -- each segment begins behind the one before it, the first at the bound or behind it
 abbrev pub Ascends : ℕ → List LoadSegment → Type 0
 Ascends lo [] = Unit {0}
@@ -36,5 +51,5 @@ pub record AreSound (ss : List LoadSegment) : Type 0 where
 
 -- why there is no image: the least pair that shares a byte, or, where none does, a lack of memory
 abbrev pub Explains : List LoadSegment → ImageError → Type 0
-Explains ss (Overlap i j) = IsLeast ss i j
+Explains ss (Overlap i j) = IsLeastPair (Overlaps ss) i j
 Explains ss Memory = AreApart ss

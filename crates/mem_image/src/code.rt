@@ -1,7 +1,7 @@
 //! Bytes that may be executed and not written.
 ghost use Rattle.std.specs.Prelude.{◌≡◌, ◌-◌, ◌<◌, true, false, length, slice_get, IfOk, IfNone, IfSome, Some};
 ghost use Rattle.qed_model.specs.Machine.Program.{LoadSegment, memory_of};
-ghost use Rattle.mem_image.specs.Fixed.{is_code, IsFixed};
+ghost use Rattle.mem_image.specs.Fixed.{is_code_flags, IsFixed};
 ghost use Rattle.mem_image.specs.Overlap.{AreSound};
 ghost use Rattle.mem_image.specs.Segments.{has_all, number_in};
 
@@ -30,7 +30,7 @@ pub fn code_of(pages: &[Held], at: usize) -> Result<Option<Code>, AllocError>
     requires below { at < length pages.now }
     ensures fixed { IfOk result (λ found. IfSome found (IsFixed (memory_of pages.now))) }
     ensures some { IfOk result (λ found. IfSome found (λ code. slice_get pages.now at ≡ Some code)) }
-    ensures none { IfOk result (λ found. IfNone found ((s : LoadSegment) → slice_get pages.now at ≡ Some s → is_code s.flags ≡ false)) }
+    ensures none { IfOk result (λ found. IfNone found ((s : LoadSegment) → slice_get pages.now at ≡ Some s → is_code_flags s.flags ≡ false)) }
 {
     let page = &pages[at];
     if !page.allows(Access::Execute) || page.allows(Access::Write) {

@@ -4,6 +4,7 @@
 
 mod apart;
 mod code;
+mod files;
 mod held;
 mod image;
 mod overlap;
@@ -16,4 +17,5 @@ mod within;
 
 pub use code::Code;
 pub use image::Image;
+pub use overlap::{Sharing, first_sharing};
 pub use spec::{ImageError, SegmentSpec};

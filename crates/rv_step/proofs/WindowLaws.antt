@@ -18,7 +18,7 @@ use Rattle.mem_image.proofs.FixedLaws.{fixed_number, fixed_put}
 use Rattle.qed_model.specs.declared.machine.Outcome.{Outcome}
 use Rattle.qed_model.specs.declared.machine.Outcome.TheVariants.{Going}
 use Rattle.rv_step.specs.Harts.{HartState, with_memory}
-use Rattle.rv_step.specs.Known.{goes_on, word_at}
+use Rattle.rv_step.specs.Known.{goes_on, state_word}
 use Rattle.rv_step.specs.Windows.{IsIn, HasWord, IsKept, IsWindow, StandsFixed, IsHeld, IsTable, IsKnown}
 use Rattle.rv_step.specs.declared.table.Entry.{Entry}
 use Rattle.rv_step.specs.declared.window.Window.{Window}
@@ -31,7 +31,7 @@ all_three true false c n w x y e = absurd (cc)
 all_three false b c n w x y e = absurd (cc)
 
 -- the word at an address where it is fixed
-pub fixed_word : (s : State) (a w : ℕ) → StandsFixed s a w → a % 4 ≡ 0 → word_at s a ≡ Some w
+pub fixed_word : (s : State) (a w : ℕ) → StandsFixed s a w → a % 4 ≡ 0 → state_word s a ≡ Some w
 fixed_word s a w h grain = all_three (a % 4 == 0) (in_range a s.ranges) (grants (λ f. f.execute) s.memory a 4) (number s.memory a 4) w (eq-eqb _ _ grain) h.range (fixed_number s.memory h.code a h.fixed h.inside ∙ ap Some h.word)
 
 -- a word of the window is
@@ -45,7 +45,7 @@ window_fixed s w code a n h is i e = record {
 }
 
 -- the word at the pc, which is one of the window
-pub window_word : (s : State) (w : Window) (code : LoadSegment) (a n : ℕ) → IsWindow s w → w.code ≡ Some code → a ≡ s.pc → IsIn w a → n ≡ number_in code.bytes (a - code.address) 4 → word_at s a ≡ Some n
+pub window_word : (s : State) (w : Window) (code : LoadSegment) (a n : ℕ) → IsWindow s w → w.code ≡ Some code → a ≡ s.pc → IsIn w a → n ≡ number_in code.bytes (a - code.address) 4 → state_word s a ≡ Some n
 window_word s w code a n h is at i e =
     let low = i.low in
     let high = i.high in

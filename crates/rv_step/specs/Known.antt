@@ -23,12 +23,12 @@ abbrev pub known_at : State → ℕ → Option Ins
 known_at s a = instruction_of (fetched_at s.memory s.ranges a)
 
 -- an aligned address, of whose four bytes each lies in one code range and may be executed
-abbrev pub is_code : State → ℕ → Bool
-is_code s a = (a % 4 == 0) && (in_range a s.ranges && grants (λ f. f.execute) s.memory a 4)
+abbrev pub is_code_word : State → ℕ → Bool
+is_code_word s a = (a % 4 == 0) && (in_range a s.ranges && grants (λ f. f.execute) s.memory a 4)
 
 -- the word at such an address
-abbrev pub word_at : State → ℕ → Option ℕ
-word_at s a = cond (is_code s a) (Some (number s.memory a 4)) None
+abbrev pub state_word : State → ℕ → Option ℕ
+state_word s a = cond (is_code_word s a) (Some (number s.memory a 4)) None
 
 -- a strike is no step
 abbrev pub struck_progress : Place → ℕ → Progress → Progress

@@ -4,8 +4,8 @@ use Rattle.std.specs.List.Sorted.{IsNonDecreasingBy}
 use Rattle.qed_model.specs.Machine.Step.{in_range}
 
 -- the four bytes from an address on lie in a range, which is told by its first address and the one behind its last
-abbrev pub has_word : ℕ → ℕ × ℕ → Bool
-has_word a r = nat_le r.0 a && nat_le (a + 4) r.1
+abbrev pub spans_word : ℕ → ℕ × ℕ → Bool
+spans_word a r = nat_le r.0 a && nat_le (a + 4) r.1
 
 -- neither their first addresses nor their ends fall
 pub record AreRising (rs : List (ℕ × ℕ)) : Type 0 where
@@ -18,7 +18,7 @@ BeginBy a rs = All (λ r. r.0 ≤ a) rs
 
 -- the words of a range are words of the ranges
 abbrev pub IsAmong : List (ℕ × ℕ) → ℕ × ℕ → Type 0
-IsAmong rs r = (a : ℕ) → has_word a r ≡ true → in_range a rs ≡ true
+IsAmong rs r = (a : ℕ) → spans_word a r ≡ true → in_range a rs ≡ true
 
 -- f is the greater of e and the end of the last range
 abbrev pub IsFarthest : List (ℕ × ℕ) → ℕ → ℕ → Type 0

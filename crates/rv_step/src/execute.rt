@@ -6,7 +6,7 @@ ghost use Rattle.rv_isa.specs.declared.class.Class.TheVariants as class;
 ghost use Rattle.qed_model.specs.Machine.Step.{act, computed_value, execute, imm, moved, next, next_pc, stopped, trapped};
 ghost use Rattle.rv_alu.specs.Steps.{branched, IsComputing, IsBranching, IsJumping, IsPassing};
 ghost use Rattle.rv_step.specs.Harts.{with_memory, Leads, LeadsIn};
-ghost use Rattle.rv_step.specs.Known.{known_at, word_at, HasSecond};
+ghost use Rattle.rv_step.specs.Known.{known_at, state_word, HasSecond};
 
 use crate::hart::Hart;
 use crate::loads::{extended, width};
@@ -20,7 +20,7 @@ use std::alloc::AllocError;
 impl Hart {
     /// The word at an address where code may be executed, else None.
     fn word(&self, image: &Image, address: u64) -> Option<u32>
-        ensures { result ≡ word_at (with_memory self.now image.now).state address }
+        ensures { result ≡ state_word (with_memory self.now image.now).state address }
     {
         if address % 4 != 0 || !self.ranges.has(address) {
             return None;
@@ -31,7 +31,7 @@ impl Hart {
     /// The word at the pc, where it may be executed, else None.
     #[inline(always)]
     pub(crate) fn next_word(&mut self, image: &mut Image) -> Option<u32>
-        ensures word { result ≡ word_at (with_memory self.new image.new).state self.new.pc }
+        ensures word { result ≡ state_word (with_memory self.new image.new).state self.new.pc }
         ensures same { self.new ≡ self.old }
         ensures memory { image.new ≡ image.old }
     {
@@ -57,7 +57,7 @@ impl Hart {
         word: Option<u32>,
         image: &mut Image,
     ) -> Result<bool, AllocError>
-        requires { word ≡ word_at (with_memory self.old image.old).state self.old.pc }
+        requires { word ≡ state_word (with_memory self.old image.old).state self.old.pc }
         ensures advanced { IfOk result (λ _. LeadsIn (λ s. act (next s) s) self.old image.old self.new image.new) }
         ensures on { IfOk result (λ on. on ≡ true → self.new.outcome ≡ self.old.outcome) }
         ensures kept { IfErr result (λ _. self.new ≡ self.old) }
@@ -78,7 +78,7 @@ impl Hart {
     /// The same, with a word that is decoded anew.
     #[inline(never)]
     fn advance_new(&mut self, word: u32, image: &mut Image) -> Result<bool, AllocError>
-        requires { word_at (with_memory self.old image.old).state self.old.pc ≡ Some word }
+        requires { state_word (with_memory self.old image.old).state self.old.pc ≡ Some word }
         ensures advanced { IfOk result (λ _. LeadsIn (λ s. act (next s) s) self.old image.old self.new image.new) }
         ensures on { IfOk result (λ on. on ≡ true → self.new.outcome ≡ self.old.outcome) }
         ensures kept { IfErr result (λ _. self.new ≡ self.old) }

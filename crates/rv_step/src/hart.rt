@@ -7,7 +7,7 @@ ghost use Rattle.qed_model.specs.Machine.Progress.{advanced, begun, progress};
 ghost use Rattle.qed_model.specs.Machine.Step.{State, step};
 ghost use Rattle.qed_model.specs.declared.change.Place.TheVariants.{Reg as InReg};
 ghost use Rattle.rv_step.specs.Harts.{hart_of, with_memory, LeadsIn};
-ghost use Rattle.rv_step.specs.Known.{goes_on, struck_progress, word_at, AreMade, IsMade, IsPart};
+ghost use Rattle.rv_step.specs.Known.{goes_on, struck_progress, state_word, AreMade, IsMade, IsPart};
 ghost use Rattle.rv_step.specs.Reached.{AreWords};
 ghost use Rattle.rv_step.specs.Windows.{HasWords, IsHeld, IsKnown, IsTable, IsWindow};
 
@@ -254,7 +254,7 @@ impl Hart {
         more: bool,
     ) -> Option<u32>
         requires { IsWindow (with_memory self.old image.old).state window.old }
-        ensures word { result ≡ word_at (with_memory self.new image.new).state self.new.pc }
+        ensures word { result ≡ state_word (with_memory self.new image.new).state self.new.pc }
         ensures same { self.new ≡ self.old }
         ensures memory { image.new ≡ image.old }
         ensures window { IsWindow (with_memory self.new image.new).state window.new }
@@ -268,7 +268,7 @@ impl Hart {
     /// The same, with a new window where `more` steps may follow.
     #[inline(never)]
     fn look(&mut self, image: &mut Image, window: &mut Window, more: bool) -> Option<u32>
-        ensures word { result ≡ word_at (with_memory self.new image.new).state self.new.pc }
+        ensures word { result ≡ state_word (with_memory self.new image.new).state self.new.pc }
         ensures same { self.new ≡ self.old }
         ensures memory { image.new ≡ image.old }
         ensures window { IsWindow (with_memory self.new image.new).state window.new }

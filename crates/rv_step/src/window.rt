@@ -3,7 +3,7 @@ ghost use Rattle.std.specs.Prelude.{◌≡◌, ℕ, ◌%◌, ◌≤◌, true, If
 ghost use Rattle.qed_model.specs.Machine.Step.{State};
 ghost use Rattle.mem_image.specs.Fixed.{IsFixed};
 ghost use Rattle.mem_image.specs.Segments.{has_all};
-ghost use Rattle.rv_step.specs.Known.{word_at};
+ghost use Rattle.rv_step.specs.Known.{state_word};
 ghost use Rattle.rv_step.specs.Reached.{AreWords};
 ghost use Rattle.rv_step.specs.Windows.{HasWords, IsIn, IsWindow, StandsFixed};
 
@@ -56,7 +56,7 @@ impl Window {
     #[inline(always)]
     pub fn word(&self, address: u64) -> Option<u32>
         requires { HasWords self.now }
-        ensures word { IfSome result (λ word. (s : State) → IsWindow s self.now → address ≡ s.pc → word_at s address ≡ Some word) }
+        ensures word { IfSome result (λ word. (s : State) → IsWindow s self.now → address ≡ s.pc → state_word s address ≡ Some word) }
         ensures fixed { IfSome result (λ word. (s : State) → IsWindow s self.now → StandsFixed s address word) }
         ensures none { IfNone result (¬ (IsIn self.now address)) }
     {

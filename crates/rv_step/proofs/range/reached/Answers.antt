@@ -2,7 +2,7 @@ use Rattle.std.proofs.Common.{ap, sym, ◌∙◌, arith, get_or}
 use Rattle.std.specs.Prelude.{◌||◌}
 use Rattle.code_ranges.specs.declared.range.CodeRange.{CodeRange}
 use Rattle.code_ranges.specs.Ranges.{span}
-use Rattle.rv_step.specs.Reached.{has_word}
+use Rattle.rv_step.specs.Reached.{spans_word}
 use Rattle.rv_step.proofs.RangeLaws.{one_more, begin_on}
 use Rattle.rv_step.proofs.range.reached.Goals as goal
 
@@ -13,6 +13,6 @@ loop-range-preserved c =
       c.in_ok-push.ensures.rising,
       (
         λ j d past l k e h. begin_on c.args.sorted.now c.loop-range.range-index j none d _ c.requires (omega (arith, past)) l (c.in_ok-push.ensures.behind k e h),
-        λ a. c.in_ok-push.ensures.words a ∙ ap (λ t. t || has_word a (span here)) (c.loop-range.invariant.1.1 a) ∙ sym (one_more a c.args.sorted.now c.loop-range.range-index none c.loop-range-test.true),
+        λ a. c.in_ok-push.ensures.words a ∙ ap (λ t. t || spans_word a (span here)) (c.loop-range.invariant.1.1 a) ∙ sym (one_more a c.args.sorted.now c.loop-range.range-index none c.loop-range-test.true),
       ),
     )

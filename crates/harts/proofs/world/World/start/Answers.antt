@@ -1,5 +1,5 @@
 use Rattle.std.proofs.Common.{◌≡◌, length, ap, ◌∙◌, subst}
-use Rattle.mem_image.specs.Overlap.{segments_of, IsLeast, Explains}
+use Rattle.mem_image.specs.Overlap.{segments_of, Explains}
 use Rattle.harts.specs.Harts.{all_segments}
 use Rattle.harts.specs.Played.{programs}
 use Rattle.harts.proofs.Starting.{all_fit, all_apart, world_started, length_started}
@@ -11,8 +11,8 @@ make-requires c = all_fit c.args.files.now (segments_of c.deref.result.now) c.re
 pub unreachable-requires : goal.unreachable-requires
 unreachable-requires c =
     let same : segments_of c.deref.result.now ≡ all_segments (programs c.args.files.now) = ap segments_of c.deref.ensures.value ∙ c.in_ok-specs.ensures in
-    let least : IsLeast (segments_of c.deref.result.now) c.in-Err-Overlap.field-0-0 c.in-Err-Overlap.field-0-1 = subst (Explains (segments_of c.deref.result.now)) c.in-Err-Overlap.field-0-is c.in-Err-Overlap.ensures.error in
-    all_apart c.args.files.now (segments_of c.deref.result.now) c.requires c.in_default.ensures.none same _ _ least.overlaps
+    let least = subst (Explains (segments_of c.deref.result.now)) c.in-Err-Overlap.field-0-is c.in-Err-Overlap.ensures.error in
+    all_apart c.args.files.now (segments_of c.deref.result.now) c.requires c.in_default.ensures.none same _ _ least.is
 
 pub returns-clause-started : goal.returns-clause-started
 returns-clause-started c = world_started c.args.files.now c.in_ok-harts.harts.items c.in-Ok.image (segments_of c.deref.result.now) c.in_ok-harts.ensures c.in-Ok.ensures.made (ap segments_of c.deref.ensures.value ∙ c.in_ok-specs.ensures)

@@ -2,7 +2,7 @@ use Rattle.std.proofs.Common.{◌≡◌, List, None, Some, false, sym, ap, ◌�
 use Rattle.std.specs.Prelude.{slice_get}
 use Rattle.qed_model.specs.Machine.Program.{LoadSegment}
 use Rattle.qed_model.specs.Machine.Cells.{cell_among}
-use Rattle.mem_image.specs.Fixed.{is_code, has_code}
+use Rattle.mem_image.specs.Fixed.{is_code_flags, has_code}
 use Rattle.mem_image.specs.Overlap.{AreSound}
 use Rattle.mem_image.specs.Segments.{IsFirst}
 use Rattle.mem_image.proofs.FixedLaws.{none_no_code, first_no_code, if_none}
@@ -21,5 +21,5 @@ returns-clause-none c =
     if_none c.in_ok-found.found _ _
     (λ h.
     ap (λ m. has_code m c.args.address) (sym c.self.view_is)
-    ∙ first_no_code c.self.inside.pages c.args.address c.in-Some.at sound first (subst (λ (ss : List LoadSegment). (s : LoadSegment) → slice_get ss c.in-Some.at ≡ Some s → is_code s.flags ≡ false) c.as_slice-2.ensures.value h))
+    ∙ first_no_code c.self.inside.pages c.args.address c.in-Some.at sound first (subst (λ (ss : List LoadSegment). (s : LoadSegment) → slice_get ss c.in-Some.at ≡ Some s → is_code_flags s.flags ≡ false) c.as_slice-2.ensures.value h))
     c.in_ok-found.ensures.none

@@ -1,7 +1,7 @@
 use Rattle.std.proofs.Common.{◌≡◌, Some, None, sym, ap, ◌∙◌}
 use Rattle.qed_model.specs.Machine.Step.{act, known_or}
 use Rattle.qed_model.specs.Machine.Progress.{Progress}
-use Rattle.rv_step.specs.Known.{word_at, at_state}
+use Rattle.rv_step.specs.Known.{state_word, at_state}
 use Rattle.rv_step.specs.Harts.{with_memory}
 use Rattle.rv_step.proofs.Fetching.{fetched_none, fetched_some}
 use Rattle.rv_step.proofs.hart.Hart.advance.Goals as goal
@@ -10,7 +10,7 @@ pub returns-in_default-clause-advanced : goal.returns-in_default-clause-advanced
 returns-in_default-clause-advanced g c =
     let n = c.args.image.now in
     let m : Progress = with_memory c.args.self.now n in
-    let none : word_at m.state m.state.pc ≡ None = sym c.requires ∙ c.in_default.is in
+    let none : state_word m.state m.state.pc ≡ None = sym c.requires ∙ c.in_default.is in
     c.trap.ensures n ∙ sym (ap (λ f. at_state (act f m.state) m) (fetched_none m.state m.state.pc none))
 
 pub returns-clause-advanced : goal.returns-clause-advanced
@@ -19,5 +19,5 @@ returns-clause-advanced g c =
     let m : Progress = with_memory c.args.self.now n in
     let w = c.in-Some.word in
     let i = c.in-Some-known.ins in
-    let some : word_at m.state m.state.pc ≡ Some w = sym c.requires ∙ c.in-Some.is in
+    let some : state_word m.state m.state.pc ≡ Some w = sym c.requires ∙ c.in-Some.is in
     c.in_ok-on-2.ensures.done ∙ sym (ap (λ f. at_state (act f m.state) m) (fetched_some m.state m.state.pc w some ∙ ap (known_or w) c.in-Some-known.ensures))

@@ -2,7 +2,7 @@ use Rattle.std.proofs.Common.{◌≡◌, drop}
 use Rattle.std.specs.List.{list_any}
 use Rattle.qed_model.specs.Machine.Loading.{load_segment, load_segments}
 use Rattle.qed_model.specs.Machine.Apart.{share}
-use Rattle.harts.proofs.shared.shares_any.Given as goal
+use Rattle.mem_image.proofs.files.shares_any.Given as goal
 
 -- the rest decides
 abbrev pub invariant-loop-other : goal.invariant-loop-other

@@ -1,7 +1,7 @@
 use Rattle.std.proofs.Common.{◌≡◌, drop}
 use Rattle.qed_model.specs.Machine.Loading.{load_segments}
-use Rattle.harts.specs.Shared.{any_share}
-use Rattle.harts.proofs.shared.any_share.Given as goal
+use Rattle.mem_image.specs.Overlap.{any_share}
+use Rattle.mem_image.proofs.files.any_share.Given as goal
 
 -- the rest decides
 abbrev pub invariant-loop-segment : goal.invariant-loop-segment
