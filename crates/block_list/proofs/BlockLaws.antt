@@ -9,31 +9,35 @@ use Rattle.qed_model.specs.declared.options.Entries.TheVariants as entries
 use Rattle.qed_model.specs.declared.test.CodeWord.{CodeWord}
 use Rattle.qed_model.specs.Weave.Sequences.{Block}
 use Rattle.qed_model.specs.Weave.Pieces.{divided}
-use Rattle.qed_model.specs.Weave.Blocks.{IsLeaderBlock, IsShort as IsShortOf, IsOtherBlock, IsEntered, IsMarked, begins_at, AreBlocks}
+use Rattle.qed_model.specs.Weave.Blocks.{IsLeaderBlock, IsShort as IsShortOf, IsOtherBlock, IsEntered, IsMarked, begins_at, AreBlocks, IsBlockOf}
 use Rattle.qed_model.specs.Admission.CodeWords.{is_code, instruction_at}
 use Rattle.qed_model.specs.Admission.Leaders.{IsLeader, HasIndirect}
 use Rattle.qed_model.specs.Admission.Test.{AreCodeWords}
+use Rattle.qed_model.proofs.BlocksOnly.{Ascend}
+use Rattle.flow_recovery.specs.Sets.{lists}
 use Rattle.block_list.specs.declared.block.CodeBlock.{CodeBlock}
 use Rattle.block_list.specs.Bodies.{ends, body_size, body_end}
-use Rattle.block_list.specs.Built.{IsLong, IsShort, Begun, Built}
+use Rattle.block_list.specs.Built.{IsLongBlock, IsShortBlock, Begun, Built}
 use Rattle.block_list.specs.Listed.{end_of, block_of}
 use Rattle.block_list.proofs.BodyLaws.{instructions, Rest, rest_tail, above, rest_all, IsBody, body_is}
 
--- ---- lists of blocks
-abbrev Rising : ℕ → List Block → Type 0
-Rising low [] = Unit {0}
-Rising low (b ∷ bs) = (low ≤ b.start) × Rising (b.start + 1) bs
+-- as equal leaders and words have it
+pub same_built :
+    (every : Bool) (reached : ℕ → Bool) (most : ℕ) (bs : List CodeBlock) (ls ks : List ℕ) (ws vs : List CodeWord) → ls ≡ ks → ws ≡ vs
+    → Built (lists ls) every reached most ws bs → Built (lists ks) every reached most vs bs
+same_built every reached most bs ls ks ws vs l w b = subst (λ x. Built (lists ks) every reached most x bs) w (subst (λ x. Built (lists x) every reached most ws bs) l b)
 
-rising_less : (low high : ℕ) (bs : List Block) → low ≤ high → Rising high bs → Rising low bs
+-- ---- lists of blocks
+rising_less : (low high : ℕ) (bs : List Block) → low ≤ high → Ascend high bs → Ascend low bs
 rising_less low high [] le r = tt
 rising_less low high (b ∷ bs) le r = let h = r.0 in (omega (arith, le, h), r.1)
 
-rising_at : (low : ℕ) (bs : List Block) (k : ℕ) (d : Block) → Rising low bs → k < length bs → low ≤ (get_or bs k d).start
+rising_at : (low : ℕ) (bs : List Block) (k : ℕ) (d : Block) → Ascend low bs → k < length bs → low ≤ (get_or bs k d).start
 rising_at low [] k d r lt = absurd (omega (arith, lt))
 rising_at low (b ∷ bs) zero d r lt = r.0
 rising_at low (b ∷ bs) (suc k) d r lt = let h = rising_at (b.start + 1) bs k d r.1 (omega (arith, lt)) in let l = r.0 in omega (arith, h, l)
 
-rising_pairs : (low : ℕ) (bs : List Block) → Rising low bs → (i j : ℕ) (d : Block) → i < j → j < length bs → (get_or bs i d).start < (get_or bs j d).start
+rising_pairs : (low : ℕ) (bs : List Block) → Ascend low bs → (i j : ℕ) (d : Block) → i < j → j < length bs → (get_or bs i d).start < (get_or bs j d).start
 rising_pairs low [] r i j d lt le = absurd (omega (arith, le))
 rising_pairs low (b ∷ bs) r i zero d lt le = absurd (omega (arith, lt))
 rising_pairs low (b ∷ bs) r zero (suc j) d lt le = let h = rising_at (b.start + 1) bs j d r.1 (omega (arith, le)) in omega (arith, h)
@@ -41,7 +45,7 @@ rising_pairs low (b ∷ bs) r (suc i) (suc j) d lt le = rising_pairs (b.start + 
 
 module _ (f : ElfFile) (o : Options) (leads : ℕ → Bool) (exact : (a : ℕ) → IsTrue (leads a) ↔ IsLeader f o a) (every : Bool) (when : IsTrue every ↔ ((o.entries ≡ entries.All) × HasIndirect f)) (reached : ℕ → Bool) (marks : (a : ℕ) → IsTrue (reached a) ↔ IsEntered f o a) where
   -- ---- one block
-  long_block : (low : ℕ) (w : CodeWord) (ws : List CodeWord) (b : CodeBlock) → Rest f low (w ∷ ws) → leads w.at ≡ true → IsLong leads reached o.inst_max (w ∷ ws) b → IsLeaderBlock f o (block_of b)
+  long_block : (low : ℕ) (w : CodeWord) (ws : List CodeWord) (b : CodeBlock) → Rest f low (w ∷ ws) → leads w.at ≡ true → IsLongBlock leads reached o.inst_max (w ∷ ws) b → IsLeaderBlock f o (block_of b)
   long_block low w ws b r e l =
       let body = subst (λ xs. IsBody f o leads exact b.start xs (end_of b.end)) (sym l.body)
       (subst (λ i. IsBody f o leads exact b.start (instructions (take (body_size leads (w ∷ ws)) (w ∷ ws))) (end_of i)) (sym l.end)
@@ -59,7 +63,7 @@ module _ (f : ElfFile) (o : Options) (leads : ℕ → Bool) (exact : (a : ℕ) �
   short_by w true e = (e, refl, refl)
   short_by w false e = (e, refl)
 
-  short_block : (low : ℕ) (w : CodeWord) (ws : List CodeWord) (b : CodeBlock) → Rest f low (w ∷ ws) → leads w.at ≡ false → (o.entries ≡ entries.All) × HasIndirect f → IsShort w b → IsOtherBlock f o (block_of b)
+  short_block : (low : ℕ) (w : CodeWord) (ws : List CodeWord) (b : CodeBlock) → Rest f low (w ∷ ws) → leads w.at ≡ false → (o.entries ≡ entries.All) × HasIndirect f → IsShortBlock w b → IsOtherBlock f o (block_of b)
   short_block low w ws b r e h s = record {
     all = h.0;
     indirect = h.1;
@@ -72,21 +76,18 @@ module _ (f : ElfFile) (o : Options) (leads : ℕ → Bool) (exact : (a : ℕ) �
   }
 
   -- marked or not
-  long_marked : (w : CodeWord) (ws : List CodeWord) (b : CodeBlock) → IsLong leads reached o.inst_max (w ∷ ws) b → IsMarked f o (block_of b)
+  long_marked : (w : CodeWord) (ws : List CodeWord) (b : CodeBlock) → IsLongBlock leads reached o.inst_max (w ∷ ws) b → IsMarked f o (block_of b)
   long_marked w ws b l = (λ e. subst (IsEntered f o) (sym l.start) ((marks w.at).0 (sym l.marked ∙ e)), λ h. l.marked ∙ (marks w.at).1 (subst (IsEntered f o) l.start h))
 
-  short_marked : (w : CodeWord) (b : CodeBlock) → o.entries ≡ entries.All → IsShort w b → IsMarked f o (block_of b)
+  short_marked : (w : CodeWord) (b : CodeBlock) → o.entries ≡ entries.All → IsShortBlock w b → IsMarked f o (block_of b)
   short_marked w b all s = (λ e. absurd (false≢true (sym s.unmarked ∙ e)), λ h. absurd (apart (sym all ∙ h.0))) where
     apart : entries.All ≡ entries.Reached → ⊥
     apart x = cc
 
   -- ---- all blocks, from an address on
-  abbrev Good : Block → Type 0
-  Good b = IsLeaderBlock f o b ⊎ IsOtherBlock f o b
-
   record From (low : ℕ) (bs : List Block) : Type 0 where
-    rising : Rising low bs
-    each : All Good bs
+    rising : Ascend low bs
+    each : All (IsBlockOf f o) bs
     marked : All (IsMarked f o) bs
     leaders : (a : ℕ) → low ≤ a → IsLeader f o a → begins_at bs a ≡ true
     others : every ≡ true → (a : ℕ) → low ≤ a → is_code f a ≡ true → begins_at bs a ≡ true
@@ -95,10 +96,10 @@ module _ (f : ElfFile) (o : Options) (leads : ℕ → Bool) (exact : (a : ℕ) �
   next_at : (low : ℕ) (w : CodeWord) (ws : List CodeWord) (a : ℕ) → Rest f low (w ∷ ws) → low ≤ a → is_code f a ≡ true → (a ≡ w.at) ⊎ (w.at + 1 ≤ a)
   next_at low w ws a r le e = ⊎_elim (λ s. inl s) (λ m. inr (above f (w.at + 1) a ws r.ascend.3 m)) (r.complete a le e)
 
-  with_block : (low : ℕ) (w : CodeWord) (ws : List CodeWord) (b : Block) (bs : List Block) → Rest f low (w ∷ ws) → b.start ≡ w.at → Good b → IsMarked f o b → From (w.at + 1) bs → From low (b ∷ bs)
+  with_block : (low : ℕ) (w : CodeWord) (ws : List CodeWord) (b : Block) (bs : List Block) → Rest f low (w ∷ ws) → b.start ≡ w.at → IsBlockOf f o b → IsMarked f o b → From (w.at + 1) bs → From low (b ∷ bs)
   with_block low w ws b bs r at good mark rest = record {
-    rising = let l = r.ascend.0 in (omega (arith, l, at), subst (λ n. Rising (n + 1) bs) (sym at) rest.rising);
-    each = All-cons Good b bs good rest.each;
+    rising = let l = r.ascend.0 in (omega (arith, l, at), subst (λ n. Ascend (n + 1) bs) (sym at) rest.rising);
+    each = All-cons (IsBlockOf f o) b bs good rest.each;
     marked = All-cons (IsMarked f o) b bs mark rest.marked;
     leaders = λ a le l. ⊎_elim (λ s. here a s) (λ k. later a (rest.leaders a k l)) (next_at low w ws a r le l.code);
     others = λ i a le e. ⊎_elim (λ s. here a s) (λ k. later a (rest.others i a k e)) (next_at low w ws a r le e);
@@ -133,7 +134,7 @@ module _ (f : ElfFile) (o : Options) (leads : ℕ → Bool) (exact : (a : ℕ) �
   from_built low [] bs r e = subst (λ cs. From low (map block_of cs)) (sym e)
       (record {
         rising = tt;
-        each = All-nil Good;
+        each = All-nil (IsBlockOf f o);
         marked = All-nil (IsMarked f o);
         leaders = λ a le l. absurd (r.complete a le l.code);
         others = λ i a le c. absurd (r.complete a le c);

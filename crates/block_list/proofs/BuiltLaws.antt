@@ -10,7 +10,7 @@ use Rattle.qed_model.specs.Members.{Every, Pairs}
 use Rattle.flow_recovery.proofs.OrderLaws.{pairs_of}
 use Rattle.block_list.specs.declared.block.CodeBlock.{CodeBlock}
 use Rattle.block_list.specs.Bodies.{ends, size_behind, end_behind}
-use Rattle.block_list.specs.Built.{first, behind, IsLong, IsShort, Begun, AddsBlock, Built}
+use Rattle.block_list.specs.Built.{first, behind, IsLongBlock, IsShortBlock, Begun, AddsBlock, Built}
 
 -- the rest of words begins with a word
 pub record Head (words : List CodeWord) (at : ℕ) : Type 0 where
@@ -38,11 +38,11 @@ addresses ws = map (λ c. c.at) ws
 
 module _ (leads : ℕ → Bool) (every : Bool) (reached : ℕ → Bool) (most : ℕ) where
   -- what begins with the first word, by what is known there
-  begun_long : (t s : Bool) (w : CodeWord) (ws : List CodeWord) (b : CodeBlock) → t ≡ true → IsLong leads reached most (w ∷ ws) b → Begun t s leads reached most (w ∷ ws) (b ∷ [])
+  begun_long : (t s : Bool) (w : CodeWord) (ws : List CodeWord) (b : CodeBlock) → t ≡ true → IsLongBlock leads reached most (w ∷ ws) b → Begun t s leads reached most (w ∷ ws) (b ∷ [])
   begun_long true s w ws b e h = record { block = b; is = refl; holds = h }
   begun_long false s w ws b e h = absurd (cc)
 
-  begun_short : (t s : Bool) (w : CodeWord) (ws : List CodeWord) (b : CodeBlock) → t ≡ false → s ≡ true → IsShort w b → Begun t s leads reached most (w ∷ ws) (b ∷ [])
+  begun_short : (t s : Bool) (w : CodeWord) (ws : List CodeWord) (b : CodeBlock) → t ≡ false → s ≡ true → IsShortBlock w b → Begun t s leads reached most (w ∷ ws) (b ∷ [])
   begun_short true s w ws b e i h = absurd (cc)
   begun_short false false w ws b e i h = absurd (cc)
   begun_short false true w ws b e i h = record { block = b; is = refl; holds = h }
@@ -53,14 +53,14 @@ module _ (leads : ℕ → Bool) (every : Bool) (reached : ℕ → Bool) (most : 
   begun_none false false w ws e i = refl
 
   -- a block at a leader
-  pub adds_long : (words : List CodeWord) (leader : Bool) (b : CodeBlock) (old new : List CodeBlock) → 1 ≤ length words → leader ≡ true → IsLong leads reached most words b → new ≡ old ++ b ∷ [] → AddsBlock leader leads every reached most words old new
+  pub adds_long : (words : List CodeWord) (leader : Bool) (b : CodeBlock) (old new : List CodeBlock) → 1 ≤ length words → leader ≡ true → IsLongBlock leads reached most words b → new ≡ old ++ b ∷ [] → AddsBlock leader leads every reached most words old new
   adds_long [] leader b old new some e h n = absurd (omega (arith, some))
   adds_long (x ∷ xs) leader b old new some e h n = record { added = b ∷ []; new_is = n; begun = begun_long leader every x xs b e h }
 
   -- one at no leader, where each code address has a block
-  pub adds_short : (words : List CodeWord) (leader : Bool) (v : CodeWord) (b : CodeBlock) (old new : List CodeBlock) → 1 ≤ length words → leader ≡ false → v ≡ get_or words 0 v → every ≡ true → IsShort v b → new ≡ old ++ b ∷ [] → AddsBlock leader leads every reached most words old new
+  pub adds_short : (words : List CodeWord) (leader : Bool) (v : CodeWord) (b : CodeBlock) (old new : List CodeBlock) → 1 ≤ length words → leader ≡ false → v ≡ get_or words 0 v → every ≡ true → IsShortBlock v b → new ≡ old ++ b ∷ [] → AddsBlock leader leads every reached most words old new
   adds_short [] leader v b old new some e q i h n = absurd (omega (arith, some))
-  adds_short (x ∷ xs) leader v b old new some e q i h n = record { added = b ∷ []; new_is = n; begun = begun_short leader every x xs b e i (subst (λ y. IsShort y b) q h) }
+  adds_short (x ∷ xs) leader v b old new some e q i h n = record { added = b ∷ []; new_is = n; begun = begun_short leader every x xs b e i (subst (λ y. IsShortBlock y b) q h) }
 
   -- none
   pub adds_none : (words : List CodeWord) (leader : Bool) (old : List CodeBlock) → 1 ≤ length words → leader ≡ false → every ≡ false → AddsBlock leader leads every reached most words old old
@@ -120,7 +120,7 @@ module _ (leads : ℕ → Bool) (every : Bool) (reached : ℕ → Bool) (most : 
       ap (λ y. if (w.at == p + 4) && not y then (if ends w then Some w.ins else end_behind next w.at ws) else None) a.0
       ∙ end_by (w.at == p + 4) (leads w.at) (ends w) (Some w.ins) (end_behind next w.at ws) (end_behind leads w.at ws) (λ e. end_agrees next w.at ws (a.1 e))
 
-  long_agrees : (next : ℕ → Bool) (w : CodeWord) (ws : List CodeWord) (b : CodeBlock) → Agrees next ws → IsLong next reached most (w ∷ ws) b → IsLong leads reached most (w ∷ ws) b
+  long_agrees : (next : ℕ → Bool) (w : CodeWord) (ws : List CodeWord) (b : CodeBlock) → Agrees next ws → IsLongBlock next reached most (w ∷ ws) b → IsLongBlock leads reached most (w ∷ ws) b
   long_agrees next w ws b a h = record {
     start = h.start;
     body = h.body ∙ ap (λ n. map (λ (c : CodeWord). c.ins) (take (if ends w then 0 else n + 1) (w ∷ ws))) (size_agrees next w.at ws a);

@@ -14,7 +14,7 @@ use Rattle.qed_model.proofs.Among.{contains_of}
 use Rattle.flow_recovery.proofs.CodeLaws.{code_word, standing_code}
 use Rattle.block_list.specs.declared.block.CodeBlock.{CodeBlock}
 use Rattle.block_list.specs.Bodies.{ends}
-use Rattle.block_list.specs.Built.{IsLong, IsShort, Begun, Built}
+use Rattle.block_list.specs.Built.{IsLongBlock, IsShortBlock, Begun, Built}
 use Rattle.block_list.specs.Listed.{IsWithin}
 use Rattle.block_list.proofs.BodyLaws.{Rest, rest_tail, rest_all, body_is}
 
@@ -28,7 +28,7 @@ module _ (f : ElfFile) (top : ℕ) (reach : (a : ℕ) → is_code f a ≡ true �
       omega (arith, h)
 
   module _ (o : Options) (leads : ℕ → Bool) (exact : (a : ℕ) → IsTrue (leads a) ↔ IsLeader f o a) (every : Bool) (reached : ℕ → Bool) (most : ℕ) where
-    long_within : (low : ℕ) (w : CodeWord) (ws : List CodeWord) (b : CodeBlock) → Rest f low (w ∷ ws) → IsLong leads reached most (w ∷ ws) b → IsWithin top b
+    long_within : (low : ℕ) (w : CodeWord) (ws : List CodeWord) (b : CodeBlock) → Rest f low (w ∷ ws) → IsLongBlock leads reached most (w ∷ ws) b → IsWithin top b
     long_within low w ws b r l = record {
       whole = l.pieces.total;
       below =
@@ -43,7 +43,7 @@ module _ (f : ElfFile) (top : ℕ) (reach : (a : ℕ) → is_code f a ≡ true �
     short_by w true h = (refl, omega (arith, h))
     short_by w false h = (refl, omega (arith, h))
 
-    short_within : (low : ℕ) (w : CodeWord) (ws : List CodeWord) (b : CodeBlock) → Rest f low (w ∷ ws) → IsShort w b → IsWithin top b
+    short_within : (low : ℕ) (w : CodeWord) (ws : List CodeWord) (b : CodeBlock) → Rest f low (w ∷ ws) → IsShortBlock w b → IsWithin top b
     short_within low w ws b r h =
         let p = short_by w (ends w) (reach w.at r.ascend.1) in
         record {

@@ -27,7 +27,7 @@ behind a [] = []
 behind a (b ∷ bs) = if b == a then bs else b ∷ bs
 
 -- the block that begins with the first word, at a leader
-pub record IsLong (leads reached : ℕ → Bool) (most : ℕ) (words : List CodeWord) (b : CodeBlock) : Type 0 where
+pub record IsLongBlock (leads reached : ℕ → Bool) (most : ℕ) (words : List CodeWord) (b : CodeBlock) : Type 0 where
   pub start : b.start ≡ first_at words
   pub body : b.body ≡ map (λ c. c.ins) (take (body_size leads words) words)
   pub pieces : AreLengths most b.body b.lengths
@@ -35,7 +35,7 @@ pub record IsLong (leads reached : ℕ → Bool) (most : ℕ) (words : List Code
   pub marked : b.reached ≡ reached (first_at words)
 
 -- the block of a word that is at no leader
-pub record IsShort (w : CodeWord) (b : CodeBlock) : Type 0 where
+pub record IsShortBlock (w : CodeWord) (b : CodeBlock) : Type 0 where
   pub start : b.start ≡ w.at
   pub body : b.body ≡ (if ends w then [] else w.ins ∷ [])
   pub lengths : b.lengths ≡ (if ends w then 0 else 1) ∷ []
@@ -51,8 +51,8 @@ pub record One (P : CodeBlock → Type 0) (bs : List CodeBlock) : Type 0 where
 -- the blocks that begin with the first word: one at a leader, one where each address has a block, else none
 abbrev pub Begun : Bool → Bool → (ℕ → Bool) → (ℕ → Bool) → ℕ → List CodeWord → List CodeBlock → Type 0
 Begun leader every leads reached most [] bs = bs ≡ []
-Begun true every leads reached most (w ∷ ws) bs = One (IsLong leads reached most (w ∷ ws)) bs
-Begun false true leads reached most (w ∷ ws) bs = One (IsShort w) bs
+Begun true every leads reached most (w ∷ ws) bs = One (IsLongBlock leads reached most (w ∷ ws)) bs
+Begun false true leads reached most (w ∷ ws) bs = One (IsShortBlock w) bs
 Begun false false leads reached most (w ∷ ws) bs = bs ≡ []
 
 -- these were added

@@ -1,6 +1,7 @@
 //! The list of the blocks.
 ghost use Rattle.std.specs.Prelude.{◌≡◌, ℕ, ◌+◌, ◌≤◌, ◌↔◌, All, IfOk, IsTrue, OnOk, length, map};
-ghost use Rattle.flow_recovery.specs.Sets.{holds, lists};
+ghost use Rattle.qed_model.specs.Sets.{has_address};
+ghost use Rattle.flow_recovery.specs.Sets.{lists};
 ghost use Rattle.qed_model.specs.Numbers.{is_at};
 ghost use Rattle.elf_types.specs.declared.file.ElfFile.{ElfFile};
 ghost use Rattle.qed_model.specs.declared.options.Entries.TheVariants as entries;
@@ -8,7 +9,7 @@ ghost use Rattle.qed_model.specs.Admission.Leaders.{HasIndirect};
 ghost use Rattle.qed_model.specs.Admission.Test.{AreCodeWords, IsTestOf};
 ghost use Rattle.qed_model.specs.Weave.Blocks.{AreBlocks};
 ghost use Rattle.qed_model.specs.Weave.Places.{AreSoundOptions};
-ghost use Rattle.block_list.specs.Built.{first, behind, AreAlong, IsLong, IsShort, AddsBlock, Built};
+ghost use Rattle.block_list.specs.Built.{first, behind, AreAlong, IsLongBlock, IsShortBlock, AddsBlock, Built};
 ghost use Rattle.block_list.specs.Listed.{block_of, IsWithin};
 
 use crate::block::{Blocks, CodeBlock};
@@ -38,7 +39,7 @@ fn long_block(
 ) -> Result<CodeBlock, AllocError>
     requires some { 1 ≤ length words.now }
     requires sound { AreSoundOptions options.now }
-    ensures { IfOk result (IsLong (is_at next) (holds reached.now) options.now.inst_max words.now) }
+    ensures { IfOk result (IsLongBlock (is_at next) (has_address reached.now) options.now.inst_max words.now) }
 {
     let found = body_extent(words, next);
     let body = instructions(alloc, &words[..found.size])?;
@@ -54,7 +55,7 @@ fn long_block(
 
 /// The block of a word that is at no leader: an empty piece and the end, or a piece of one instruction.
 fn short_block(alloc: Global, word: &CodeWord) -> Result<CodeBlock, AllocError>
-    ensures { IfOk result (IsShort word.now) }
+    ensures { IfOk result (IsShortBlock word.now) }
 {
     let mut body = Vec::new(alloc);
     let mut lengths = Vec::new(alloc);
@@ -91,7 +92,7 @@ fn push_block(
 ) -> Result<(), AllocError>
     requires some { 1 ≤ length words.now }
     requires sound { AreSoundOptions options.now }
-    ensures { OnOk result (AddsBlock leads (is_at next) every (holds reached.now) options.now.inst_max words.now blocks.old.items blocks.new.items) }
+    ensures { OnOk result (AddsBlock leads (is_at next) every (has_address reached.now) options.now.inst_max words.now blocks.old.items blocks.new.items) }
 {
     let alloc = *blocks.allocator();
     if leads {
@@ -133,7 +134,7 @@ pub(crate) fn list(
 ) -> Result<Vec<CodeBlock>, AllocError>
     requires sound { AreSoundOptions options.now }
     requires along { AreAlong words.now leaders.now }
-    ensures { IfOk result (λ blocks. Built (lists leaders.now) every (holds reached.now) options.now.inst_max words.now blocks.items) }
+    ensures { IfOk result (λ blocks. Built (lists leaders.now) every (has_address reached.now) options.now.inst_max words.now blocks.items) }
 {
     let mut blocks = Vec::new(alloc);
     let mut left = leaders;

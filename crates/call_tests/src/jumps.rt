@@ -1,8 +1,9 @@
 //! Words of jumps and constants, against the manual's encodings.
 
-use passes::{Emit, register};
+use passes::Emit;
 use qed_model::Item;
 use relinker::link;
+use rv_isa::register;
 use std::test::Fail;
 
 /// `auipc x30,-12288; addi x30,x30,-120` at 0x13078, which set x30 to 0x10000; `j .-8` to the mark, `j .+4` to the stub, and

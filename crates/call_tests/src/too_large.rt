@@ -2,9 +2,10 @@
 ghost use Rattle.std.specs.Prelude.{◌≡◌, ◌*◌, Bool, IfOk};
 ghost use Rattle.qed_model.specs.Weave.Placed.{sum_of_sizes};
 
-use passes::{Emit, register};
+use passes::Emit;
 use qed_model::Item;
 use relinker::{LinkError, link};
+use rv_isa::register;
 use std::alloc::{AllocError, Global};
 use std::test::Fail;
 

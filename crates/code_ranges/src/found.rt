@@ -1,5 +1,5 @@
 //! The code ranges of a file.
-ghost use Rattle.std.specs.Prelude.{◌≡◌, ◌++◌, IfOk};
+ghost use Rattle.std.specs.Prelude.{◌≡◌, ◌++◌, true, false, Contains, IfOk, MatchOption};
 ghost use Rattle.qed_model.specs.Machine.Loading.{load_segment, load_segments, lies_in_code, lies_in_any, section_ranges, segment_ranges, code_ranges};
 ghost use Rattle.qed_model.specs.Admission.CodeWords.{ranges_of};
 ghost use Rattle.code_ranges.specs.Ranges.{spans};
@@ -18,16 +18,23 @@ pub fn lies_in(section: &Section, segment: &Segment) -> bool
             <= u128::from(segment.address) + u128::from(segment.memory)
 }
 
+/// The first executable segment of type PT_LOAD inside which a section lies wholly.
+pub fn code_segment<'a>(section: &Section, segments: &'a [Segment]) -> Option<&'a Segment>
+    ensures { MatchOption result (lies_in_any section.now (load_segments segments.now) ≡ false) (λ s. (lies_in_any section.now (load_segments segments.now) ≡ true) × Contains segments.now s.now × (s.now.kind ≡ 1) × (lies_in_code section.now (load_segment s.now) ≡ true)) }
+{
+    for segment in segments {
+        if segment.is_load() && lies_in(section, segment) {
+            return Some(segment);
+        }
+    }
+    None
+}
+
 /// Whether a section lies wholly inside one executable segment of type PT_LOAD.
 pub fn lies_in_any(section: &Section, segments: &[Segment]) -> bool
     ensures { result ≡ lies_in_any section.now (load_segments segments.now) }
 {
-    for segment in segments {
-        if segment.is_load() && lies_in(section, segment) {
-            return true;
-        }
-    }
-    false
+    code_segment(section, segments).is_some()
 }
 
 /// The sections of code that lie wholly inside an executable segment.

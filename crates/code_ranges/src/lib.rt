@@ -5,7 +5,9 @@
 mod cut;
 mod found;
 mod range;
+mod words;
 
 pub use cut::is_cut_by_any;
-pub use found::{code_ranges, lies_in, lies_in_any};
+pub use found::{code_ranges, code_segment, lies_in_any};
 pub use range::{CodeRange, is_code_address};
+pub use words::word_in;

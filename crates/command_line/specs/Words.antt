@@ -41,13 +41,13 @@ texts words = map string_bytes words
 
 -- ---- faults and dumps
 
-abbrev pub word_at : ℕ → Option Place
-word_at address = if address % 8 == 0 then Some (change.Word address) else None
+abbrev pub word_place : ℕ → Option Place
+word_place address = if address % 8 == 0 then Some (change.Word address) else None
 
 -- a place: `x` and a register, or the address of an aligned word
 unfoldable pub place : List ℕ → Option Place
 place [] = None
-place (c ∷ cs) = if c == letter_x then option_map change.Reg (register cs) else option_and_then word_at (number (c ∷ cs))
+place (c ∷ cs) = if c == letter_x then option_map change.Reg (register cs) else option_and_then word_place (number (c ∷ cs))
 
 abbrev pub change_of : Option ℕ → Option Place → Option ℕ → Option Change
 change_of (Some step) (Some place) (Some value) = Some (record { step = step; place = place; value = value })

@@ -6,7 +6,7 @@ use Rattle.qed_model.specs.Machine.Step.{Add, Ins, ins, class_of, Class, target}
 use Rattle.qed_model.specs.declared.item.Item.TheVariants.{Plain, Constant}
 use Rattle.qed_model.specs.Weave.Sequences.{pair, renamed, is_auipc, mirrored, mirror_as, compare}
 use Rattle.weave_core.specs.Blocks.{IsBody as InBody, FitsPiece}
-use Rattle.weave_core.specs.Kinds.{thirteen}
+use Rattle.weave_core.specs.Kinds.{originals}
 use Rattle.weave_core.proofs.KindItems.{compare_items}
 use Rattle.weave_core.proofs.Landing.{straight_lands, straight_compare}
 use Rattle.weave_core.proofs.ScratchParts.{plain_mirrors_fit}
@@ -49,11 +49,11 @@ pub lockstep_mirrored : (i : Ins) (at : ℕ) → FitsPiece i → Lockstep any []
 lockstep_mirrored i at f = lockstep_mirror any mirrored (λ far s. plain_mirrors_fit far) i at f
 
 -- ---- the comparison
-abbrev pub all_low : AllLow thirteen
+abbrev pub all_low : AllLow originals
 all_low = (omega arith, (omega arith, (omega arith, (omega arith, (omega arith, (omega arith, (omega arith, (omega arith, (omega arith, (omega arith, (omega arith, (omega arith, (omega arith, tt)))))))))))))
 
 pub honest_compare : Honest any compare
-honest_compare = honest_guards any thirteen all_low
+honest_compare = honest_guards any originals all_low
 
 pub lockstep_compare : Lockstep any [] compare
 lockstep_compare = record { locks = λ far s. compare_items far; lands = λ far s. straight_lands far compare (straight_compare far) }

@@ -4,9 +4,9 @@ ghost use Rattle.rv_isa.specs.declared.kind.Kind.TheVariants.{Beq};
 ghost use Rattle.qed_model.specs.Machine.Table.{ins as ins_of};
 ghost use Rattle.qed_model.specs.Weave.Sequences.{compare, fired_check};
 
-use passes::{Emit, Pass, plain, register};
+use passes::{Emit, Pass, plain};
 use qed_model::Item;
-use rv_isa::{Ins, Kind};
+use rv_isa::{Ins, Kind, register};
 use std::alloc::AllocError;
 
 /// Compares x1 to x13 with their pairs. It looks at no instruction.

@@ -7,10 +7,9 @@ ghost use Rattle.rv_isa.specs.Operation.{pair as pair_of, renamed as renamed_of}
 ghost use Rattle.weave_core.specs.Blocks.{FitsPiece};
 ghost use Rattle.passes.specs.Emitted.{AppendsPart};
 
-use crate::register::target;
-use passes::{Emit, plain, register};
+use passes::{Emit, plain, target};
 use qed_model::Item;
-use rv_isa::{Class, Ins, Kind};
+use rv_isa::{Class, Ins, Kind, register};
 use std::alloc::AllocError;
 
 /// The instruction on the pairs of its registers.

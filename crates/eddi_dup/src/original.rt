@@ -1,8 +1,7 @@
 //! The original part of an instruction.
 ghost use Rattle.std.specs.Prelude.{◌≡◌};
 
-use crate::register::target;
-use passes::{Emit, Pass};
+use passes::{Emit, Pass, target};
 use qed_model::Item;
 use rv_isa::{Ins, Kind};
 use std::alloc::AllocError;

@@ -4,7 +4,6 @@ ghost use Rattle.elf_types.specs.Section.{has_bytes};
 ghost use Rattle.elf_files.specs.Header.{e_phnum, e_shnum};
 ghost use Rattle.elf_files.specs.Fields.{program_header, section_header};
 ghost use Rattle.elf_files.specs.Rules.{HasParts, part_rules, is_segment_outside, is_section_outside, section_bytes};
-ghost use Rattle.elf_files.specs.File.{load_bytes};
 
 use crate::tables::Tables;
 use elf_types::{ElfError, ProgramHeader, SectionHeader};
@@ -61,20 +60,6 @@ impl<'a> Parts<'a> {
         ensures inside { is_section_outside self.now result ≡ false }
     {
         self.tables.section(i)
-    }
-
-    /// The bytes of a segment; where it is not `PT_LOAD` there are none.
-    #[tactic(auto, unfolding(elf_files::specs::File::load_bytes, elf_files::specs::Rules::is_segment_outside))]
-    pub fn load_bytes(&self, p: ProgramHeader) -> &'a [u8]
-        requires { is_segment_outside self.now p ≡ false }
-        ensures { result.now ≡ load_bytes self.now p }
-    {
-        if !p.is_load() || p.filesz == 0 {
-            return &[];
-        }
-        let start = p.offset as usize;
-        let bytes = self.tables.bytes();
-        &bytes[start..start + p.filesz as usize]
     }
 
     /// The bytes of a section; where its type is `SHT_NULL` or `SHT_NOBITS` there are none.

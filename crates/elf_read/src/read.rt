@@ -65,24 +65,9 @@ fn sections(file: &Parts, alloc: Global) -> Result<Vec<Section>, AllocError>
     list_of(alloc, file.tables().shnum(), &|i| section(file, &names, i))
 }
 
-#[tactic(auto, unfolding(elf_files::specs::File::segment_of))]
-fn segment(file: &Parts, alloc: Global, i: u64) -> Result<Segment, AllocError>
-    requires { i < e_phnum file.now }
-    ensures { IfOk result (λ x. x ≡ segment_of file.now i) }
-{
-    let p = file.program(i);
-    Ok(Segment {
-        kind: p.kind,
-        flags: p.flags,
-        address: p.vaddr,
-        memory: p.memsz,
-        bytes: Bytes::copied(alloc, file.load_bytes(p))?,
-    })
-}
-
 /// The bytes of a segment, as a part of those of the file; where it is not `PT_LOAD` there are none.
 #[tactic(auto, unfolding(elf_files::specs::File::load_bytes, elf_files::specs::Rules::is_segment_outside))]
-fn shared_bytes(shared: &Shared, p: ProgramHeader) -> Result<Bytes, AllocError>
+fn segment_bytes(shared: &Shared, p: ProgramHeader) -> Result<Bytes, AllocError>
     requires { is_segment_outside shared.now p ≡ false }
     ensures { IfOk result (λ bytes. bytes ≡ load_bytes shared.now p) }
 {
@@ -95,13 +80,13 @@ fn shared_bytes(shared: &Shared, p: ProgramHeader) -> Result<Bytes, AllocError>
 }
 
 #[tactic(auto, unfolding(elf_files::specs::File::segment_of))]
-fn shared_segment(file: &Parts, shared: &Shared, i: u64) -> Result<Segment, AllocError>
+fn segment(file: &Parts, shared: &Shared, i: u64) -> Result<Segment, AllocError>
     requires below { i < e_phnum file.now }
     requires same { shared.now ≡ file.now }
     ensures { IfOk result (λ x. x ≡ segment_of file.now i) }
 {
     let p = file.program(i);
-    let bytes = shared_bytes(shared, p)?;
+    let bytes = segment_bytes(shared, p)?;
     Ok(Segment {
         kind: p.kind,
         flags: p.flags,
@@ -152,25 +137,15 @@ impl<'a> Sound<'a> {
         Ok(Sound { parts })
     }
 
-    fn segments(&self, alloc: Global) -> Result<Vec<Segment>, AllocError>
-        ensures { IfOk result (λ v. v.items ≡ each (e_phnum self.now) (segment_of self.now)) }
-    {
-        list_of(
-            alloc,
-            self.parts.tables().phnum(),
-            &|i| segment(&self.parts, alloc, i),
-        )
-    }
-
-    // As `segments`, where the bytes are parts of those of the file.
-    fn shared_segments(&self, alloc: Global, shared: &Shared) -> Result<Vec<Segment>, AllocError>
+    /// The segments, of bytes that are parts of those of the file.
+    fn segments(&self, alloc: Global, shared: &Shared) -> Result<Vec<Segment>, AllocError>
         requires { shared.now ≡ self.now }
         ensures { IfOk result (λ v. v.items ≡ each (e_phnum self.now) (segment_of self.now)) }
     {
         list_of(
             alloc,
             self.parts.tables().phnum(),
-            &|i| shared_segment(&self.parts, shared, i),
+            &|i| segment(&self.parts, shared, i),
         )
     }
 
@@ -225,7 +200,8 @@ pub fn read_elf(alloc: Global, bytes: &[u8]) -> Result<ElfFile, ElfError>
     ensures refused { IfErr result (λ e. IsRefused bytes.now e ⊎ ((e ≡ error.Memory) × (read_verdict bytes.now ≡ Ok tt))) }
 {
     let sound = Sound::new(alloc, bytes)?;
-    let segments = sound.segments(alloc)?;
+    let shared = Shared::copied(alloc, bytes)?;
+    let segments = sound.segments(alloc, &shared)?;
     Ok(sound.file(alloc, segments)?)
 }
 
@@ -244,7 +220,7 @@ pub fn read_shared(alloc: Global, file: &Shared) -> Result<ElfFile, ElfError>
     ensures refused { IfErr result (λ e. IsRefused file.now e ⊎ ((e ≡ error.Memory) × (read_verdict file.now ≡ Ok tt))) }
 {
     let sound = Sound::new(alloc, file.as_slice())?;
-    let segments = sound.shared_segments(alloc, file)?;
+    let segments = sound.segments(alloc, file)?;
     Ok(sound.file(alloc, segments)?)
 }
 

@@ -1,13 +1,12 @@
 -- Files of such segments and sections can be written.
-use Rattle.std.proofs.Common.{◌≡◌, ℕ, ◌+◌, ◌*◌, ◌^◌, ◌≤◌, Bool, true, false, ◌&&◌, List, length, refl, sym, ap, ◌∙◌, arith}
-use Rattle.std.specs.Prelude.{nat_lt, nat_le}
-use Rattle.std.proofs.Math.Bool.{and-false}
-use Rattle.std.proofs.lemmas.Bool.{and_from, le-ltb, le-leb, false≢true}
+use Rattle.std.proofs.Common.{◌≡◌, ℕ, ◌+◌, ◌*◌, ◌^◌, ◌≤◌, true, false, List, length, refl, sym, ◌∙◌, arith}
+use Rattle.std.specs.Prelude.{nat_le}
+use Rattle.std.proofs.lemmas.Bool.{and_from, le-leb, false≢true}
 use Rattle.elf_types.specs.declared.file.Segment.{Segment}
 use Rattle.elf_types.specs.declared.output.OutFile.{OutFile}
 use Rattle.elf_types.specs.Abi.{has_alloc}
 use Rattle.qed_model.specs.Elf.Written.{offset_from}
-use Rattle.qed_model.specs.Elf.Layout.{written, string_table, symbol_names, own_bytes, own_place, symbols_place, strings_place, names_place, headers_place, section_names, is_inside, do_share, IsLoadable, IsPlaced}
+use Rattle.qed_model.specs.Elf.Layout.{written, string_table, symbol_names, own_bytes, own_place, symbols_place, strings_place, names_place, headers_place, section_names, is_inside, IsLoadable, IsPlaced}
 use Rattle.qed_model.proofs.Among.{any_passing}
 use Rattle.qed_model.specs.Members.{Among}
 use Rattle.elf_write.proofs.Sizes.{length-written}
@@ -16,12 +15,6 @@ use Rattle.elf_write.specs.Plain.{segment, section}
 -- ---- segments
 pub loadable : (flags at : ℕ) (bytes : List ℕ) → at + length bytes ≤ 2 ^ 64 → IsLoadable (segment flags at bytes)
 loadable flags at bytes h = record { kind = refl; memory = omega arith; fits = h }
-
-apart_by : (a b e : Bool) (x y : ℕ) → y ≤ x → (a && b && e && nat_lt x y) ≡ false
-apart_by a b e x y h = ap (λ t. a && b && e && t) (le-ltb x y h) ∙ and-false (a && b && e)
-
-pub not_shared : (s t : Segment) → s.address + s.memory ≤ t.address → do_share s t ≡ false
-not_shared s t h = apart_by (nat_lt 0 s.memory) (nat_lt 0 t.memory) (nat_lt s.address (t.address + t.memory)) t.address (s.address + s.memory) h
 
 pub offset_room : (at address : ℕ) → offset_from at address ≤ at + 4095
 offset_room at address = omega arith

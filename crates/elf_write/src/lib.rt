@@ -16,4 +16,5 @@ mod write;
 
 pub use numbers::push_zeros;
 pub use plain::{section, segment};
+pub use sections::names_size;
 pub use write::{file_size, write_elf};

@@ -9,6 +9,7 @@ use Rattle.qed_model.specs.Weave.Sequences.{class_of, Form, sweep, sweep_range, 
 use Rattle.qed_model.proofs.Walk.{brk}
 use Rattle.weave_core.specs.Lock.{first_load, mirror_place, second_load, word_check}
 use Rattle.weave_core.specs.KindItems.{LockItems, LandItems, end_ends}
+pub use Rattle.weave_core.specs.Parts.{any}
 use Rattle.weave_core.proofs.KindItems.{leave_items}
 use Rattle.weave_core.proofs.Landing.{land_leave}
 use Rattle.weave_core.proofs.ScratchParts.{plain_mirrors_fit}
@@ -19,10 +20,6 @@ use Rattle.passes.proofs.HonestWords.{other_word, honest_end, honest_constant}
 use Rattle.eddi_dup.specs.Laws.{honest_compare}
 use Rattle.end_sweep.specs.Ending.{swept_end}
 pub use Rattle.weave_core.proofs.LeaveLaws.{quiet_sweep}
-
--- every form of the code suits
-abbrev pub any : Bool → Type 0
-any far = Unit {0}
 
 -- ---- Lockstep
 -- a form with the sweep over the ranges

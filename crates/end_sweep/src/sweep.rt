@@ -5,9 +5,9 @@ ghost use Rattle.passes.specs.Emitted.{AppendsPart};
 ghost use Rattle.plc_rounds.specs.Spans.{spans_of};
 
 use eddi_dup::CompareAll;
-use passes::{Emit, Pass, plain, register};
+use passes::{Emit, Pass, plain};
 use qed_model::{Item, Range, Ranges};
-use rv_isa::{Ins, Kind};
+use rv_isa::{Ins, Kind, register};
 use std::alloc::AllocError;
 
 /// Compares all data words of the ranges, then all registers, and ends.

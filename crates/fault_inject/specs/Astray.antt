@@ -1,8 +1,6 @@
 -- Jumps by register that lead astray: to an address that is in none of a set.
 use Rattle.std.specs.Prelude.{ℕ, Bool, false, ◌&&◌, not, List, Option, None, Some, if◌then◌else◌}
 use Rattle.std.specs.Option.{option_map}
-use Rattle.std.specs.Ordering.{nat_cmp}
-use Rattle.std.specs.BTreeSet.{BTreeSet, contains}
 use Rattle.rv_isa.specs.declared.ins.Ins.{Ins}
 use Rattle.rv_isa.specs.Kind.{class_of}
 use Rattle.qed_model.specs.declared.change.Change.{Change}
@@ -11,10 +9,6 @@ use Rattle.qed_model.specs.Below.{first}
 use Rattle.qed_model.specs.Machine.Step.{State, step}
 use Rattle.qed_model.specs.Promise.Changed.{changed_run}
 use Rattle.rv_step.specs.Known.{known_at, goes_on}
-
--- whether the set has an address
-abbrev pub holds : BTreeSet ℕ → ℕ → Bool
-holds set a = contains nat_cmp set a
 
 -- the instruction, where there is one, is a JALR
 abbrev pub is_jalr : Option Ins → Bool

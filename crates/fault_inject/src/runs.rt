@@ -12,7 +12,7 @@ use std::alloc::AllocError;
 
 /// After how many steps it is told again how far a run is: those of some 60 ms, so that it is known each second, and beside which
 /// a run's begin takes no time.
-const PART: u64 = 1 << 24;
+const TOLD_STEPS: u64 = 1 << 24;
 
 /// Whether the machine has not stopped.
 pub(crate) fn is_going(machine: &Machine) -> bool
@@ -46,15 +46,15 @@ fn run_on(
     ensures outcome { IfOk result (λ o. o ≡ machine.new.state.outcome) }
     ensures part { IfErr result (λ _. IsPart machine.old (to - from) machine.new) }
 {
-    for parts in 0..(to - from) / PART {
-        progress.tell(from + PART * parts, all);
-        let outcome = machine.run(PART)?;
+    for parts in 0..(to - from) / TOLD_STEPS {
+        progress.tell(from + TOLD_STEPS * parts, all);
+        let outcome = machine.run(TOLD_STEPS)?;
         if !is_going(machine) {
             progress.tell(to, all);
             return Ok(outcome);
         }
     }
-    let outcome = machine.run((to - from) % PART)?;
+    let outcome = machine.run((to - from) % TOLD_STEPS)?;
     progress.tell(to, all);
     Ok(outcome)
 }

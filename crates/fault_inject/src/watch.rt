@@ -3,7 +3,8 @@ ghost use Rattle.std.specs.Prelude.{◌≡◌, ◌-◌, ◌≤◌, IfOk};
 ghost use Rattle.qed_model.specs.Machine.Progress.{advanced, progress as progress_of};
 ghost use Rattle.qed_model.specs.Promise.Changed.{Ordered, changed_run};
 ghost use Rattle.rv_step.specs.Known.{known_at};
-ghost use Rattle.fault_inject.specs.Astray.{holds, is_jalr, astray_of, first_jump, first_astray};
+ghost use Rattle.qed_model.specs.Sets.{has_address};
+ghost use Rattle.fault_inject.specs.Astray.{is_jalr, astray_of, first_jump, first_astray};
 ghost use Rattle.fault_inject.specs.Counted.{changed_steps};
 
 use crate::progress::Progress;
@@ -15,7 +16,7 @@ use std::alloc::AllocError;
 use std::collections::BTreeSet;
 
 /// After how many steps that are watched it is told again how far a run is.
-const TOLD: u64 = 1 << 20;
+const TOLD_STEPS: u64 = 1 << 20;
 
 /// Whether the next instruction is a JALR.
 fn is_next_jalr(machine: &Machine) -> bool
@@ -34,7 +35,7 @@ fn watched_step(
     reached: &BTreeSet<u64>,
 ) -> Result<Option<(u64, u64)>, AllocError>
     ensures step { IfOk result (λ _. machine.new ≡ advanced machine.old) }
-    ensures astray { IfOk result (λ found. found ≡ astray_of (holds reached.now) machine.old.state) }
+    ensures astray { IfOk result (λ found. found ≡ astray_of (has_address reached.now) machine.old.state) }
 {
     let jumps = is_next_jalr(machine);
     let at = machine.pc();
@@ -57,7 +58,7 @@ fn watch_on(
 ) -> Result<Option<(u64, u64)>, AllocError>
     requires { from ≤ to }
     ensures run { IfOk result (λ _. machine.new ≡ progress_of machine.old (to - from)) }
-    ensures astray { IfOk result (λ found. found ≡ first_jump (holds reached.now) (λ k. (progress_of machine.old k).state) (to - from)) }
+    ensures astray { IfOk result (λ found. found ≡ first_jump (has_address reached.now) (λ k. (progress_of machine.old k).state) (to - from)) }
 {
     let mut found = None;
     for made in 0..to - from {
@@ -65,7 +66,7 @@ fn watch_on(
             progress.tell(to, all);
             return Ok(found);
         }
-        if made % TOLD == 0 {
+        if made % TOLD_STEPS == 0 {
             progress.tell(from + made, all);
         }
         let jump = watched_step(machine, reached)?;
@@ -90,7 +91,7 @@ pub fn run_watched(
     requires { Ordered changes.now }
     ensures state { IfOk result (λ _. machine.new.state ≡ changed_run machine.old.state changes.now n) }
     ensures steps { IfOk result (λ _. machine.new.steps ≡ changed_steps machine.old changes.now n) }
-    ensures astray { IfOk result (λ astray. astray ≡ first_astray (holds reached.now) machine.old.state changes.now n) }
+    ensures astray { IfOk result (λ astray. astray ≡ first_astray (has_address reached.now) machine.old.state changes.now n) }
 {
     let mut steps = 0;
     let mut found = None;

@@ -1,12 +1,6 @@
 -- Sets of addresses.
 use Rattle.std.specs.Prelude.{◌≡◌, ℕ, ◌==◌, ◌||◌, Bool, false, if◌then◌else◌, nat_lt, List, [], ◌∷◌}
 use Rattle.std.specs.List.{list_any}
-use Rattle.std.specs.Ordering.{nat_cmp}
-use Rattle.std.specs.BTreeSet.{BTreeSet, contains}
-
--- whether the set has an address
-abbrev pub holds : BTreeSet ℕ → ℕ → Bool
-holds set a = contains nat_cmp set a
 
 -- whether the list has it
 abbrev pub lists : List ℕ → ℕ → Bool

@@ -1,7 +1,8 @@
 //! Which words of the code are reached.
 ghost use Rattle.std.specs.Prelude.{◌≡◌, ℕ, map, OnOk, IfOk};
 ghost use Rattle.std.specs.List.{list_any};
-ghost use Rattle.flow_recovery.specs.Sets.{holds, lists, Adds};
+ghost use Rattle.qed_model.specs.Sets.{has_address};
+ghost use Rattle.flow_recovery.specs.Sets.{lists, Adds};
 ghost use Rattle.qed_model.specs.Admission.Reached.{links_to, is_reached};
 
 use crate::classes::is_jump;
@@ -63,7 +64,7 @@ fn listed(alloc: Global, test: &Test, file: &ElfFile) -> Result<Vec<u64>, AllocE
 
 /// For each word, whether the set has its address.
 fn marks(alloc: Global, set: &BTreeSet<u64>, words: &[CodeWord]) -> Result<Vec<bool>, AllocError>
-    ensures { IfOk result (λ marks. marks.items ≡ map (λ c. holds set.now c.at) words.now) }
+    ensures { IfOk result (λ marks. marks.items ≡ map (λ c. has_address set.now c.at) words.now) }
 {
     let mut marks = Vec::new(alloc);
     for word in words {

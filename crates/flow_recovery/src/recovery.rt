@@ -6,7 +6,8 @@ ghost use Rattle.elf_types.specs.declared.file.ElfFile.{ElfFile};
 ghost use Rattle.qed_model.specs.Admission.Leaders.{is_indirect, HasIndirect};
 ghost use Rattle.qed_model.specs.Admission.Test.{AreCodeWords, IsTestOf};
 ghost use Rattle.qed_model.specs.Weave.Blocks.{IsEntered};
-ghost use Rattle.flow_recovery.specs.Sets.{holds, lists, Adds, from_on, is_first};
+ghost use Rattle.qed_model.specs.Sets.{has_address};
+ghost use Rattle.flow_recovery.specs.Sets.{lists, Adds, from_on, is_first};
 ghost use Rattle.flow_recovery.specs.Words.{is_begun, is_chosen, is_entered, of_code};
 ghost use Rattle.flow_recovery.specs.Leaders.{AreLeaders};
 
@@ -113,7 +114,7 @@ pub fn entered(
     options: &Options,
 ) -> Result<BTreeSet<u64>, AllocError>
     requires { IsTestOf file.now options.now test.now }
-    ensures { IfOk result (λ set. (a : ℕ) → IsTrue (holds set a) ↔ IsEntered file.now options.now a) }
+    ensures { IfOk result (λ set. (a : ℕ) → IsTrue (has_address set a) ↔ IsEntered file.now options.now a) }
 {
     let mut list = Vec::new(alloc);
     add_entered(&mut list, test, file, options)?;

@@ -1,26 +1,19 @@
 //! Addresses that stand in the bytes of the segments: alone, and as distances in tables.
 ghost use Rattle.std.specs.Prelude.{◌≡◌, ◌+◌, ◌*◌, ◌%◌, ◌^◌, ◌<◌, map, drop, OnOk};
 ghost use Rattle.std.specs.List.{list_any};
+ghost use Rattle.qed_model.specs.Numbers.{words_of};
 ghost use Rattle.qed_model.specs.Machine.Values.{word as extended};
 ghost use Rattle.qed_model.specs.Admission.DataRanges.{range_of};
 ghost use Rattle.qed_model.specs.Admission.Terms.{is_in_any, is_code_address};
 ghost use Rattle.flow_recovery.specs.Sets.{Adds};
-ghost use Rattle.qed_model.specs.Admission.Reached.{words_in, offset_of, is_low_half, is_in_data, is_in_table, bytes_from, is_by_table};
+ghost use Rattle.qed_model.specs.Admission.Reached.{offset_of, is_low_half, is_in_data, is_in_table, bytes_from, is_by_table};
 
 use crate::sets::add;
+use byteorder::{ByteOrder, LittleEndian};
 use elf_types::Segment;
 use qed_model::limits::MAX_IMAGE_SPAN;
 use qed_model::{Range, Test};
 use std::alloc::AllocError;
-
-/// The little-endian number of four bytes.
-fn word_of(first: u8, second: u8, third: u8, fourth: u8) -> u64
-    ensures value { result ≡ first + 256 * (second + 256 * (third + 256 * fourth)) }
-    ensures small { result < 2 ^ 32 }
-{
-    u64::from(first)
-        + 256 * (u64::from(second) + 256 * (u64::from(third) + 256 * u64::from(fourth)))
-}
 
 /// The bytes from a number on, none where it is too great.
 #[tactic(auto, using(std::proofs::lemmas::List::drop_all))]
@@ -57,11 +50,11 @@ fn add_low_half(list: &mut Vec<u64>, base: u64, word: u64) -> Result<(), AllocEr
 
 /// Adds those of each word.
 fn add_low_halves(list: &mut Vec<u64>, base: u64, bytes: &[u8]) -> Result<(), AllocError>
-    ensures { OnOk result (Adds list.old.items list.new.items (λ a. list_any (is_low_half base a) (words_in bytes.now))) }
+    ensures { OnOk result (Adds list.old.items list.new.items (λ a. list_any (is_low_half base a) (words_of bytes.now))) }
 {
     let mut left = bytes;
-    while let [first, second, third, fourth, rest @ ..] = left {
-        add_low_half(list, base, word_of(*first, *second, *third, *fourth))?;
+    while let [_, _, _, _, rest @ ..] = left {
+        add_low_half(list, base, u64::from(LittleEndian::read_u32(left)))?;
         left = rest;
     }
     Ok(())
@@ -119,11 +112,11 @@ fn add_distances(
     base: u64,
     bytes: &[u8],
 ) -> Result<(), AllocError>
-    ensures { OnOk result (Adds list.old.items list.new.items (λ a. is_in_table (map range_of ranges.now) base a (words_in bytes.now))) }
+    ensures { OnOk result (Adds list.old.items list.new.items (λ a. is_in_table (map range_of ranges.now) base a (words_of bytes.now))) }
 {
     let mut left = bytes;
-    while let [first, second, third, fourth, rest @ ..] = left {
-        let target = distance_from(base, word_of(*first, *second, *third, *fourth));
+    while let [_, _, _, _, rest @ ..] = left {
+        let target = distance_from(base, u64::from(LittleEndian::read_u32(left)));
         if !is_code_address(ranges, target) {
             return Ok(());
         }

@@ -3,17 +3,14 @@ use Rattle.std.proofs.Common.{◌≡◌, ℕ, ◌⊎◌, inl, inr, ⊎_elim, Boo
 use Rattle.rv_isa.specs.declared.class.Class.TheVariants as class
 use Rattle.qed_model.specs.Weave.Sequences.{class_of, Class, Ins, enter, leave_as}
 use Rattle.weave_core.specs.KindItems.{LockItems, LandItems, IsEnd, end_branches, end_jumps, end_jumps_reg, end_ends, end_illegal}
+pub use Rattle.weave_core.specs.Parts.{any}
 use Rattle.weave_core.proofs.KindItems.{enter_items, go_items, leave_items}
 use Rattle.weave_core.proofs.Landing.{land_enter, land_go_on, land_leave}
 use Rattle.weave_core.proofs.ScratchParts.{plain_mirrors_fit}
 use Rattle.passes.specs.Pass.{Honest, Lockstep}
 use Rattle.passes.proofs.HonestWords.{honest_enter}
-use Rattle.flow_tracking.specs.Leaving.{form_of, left_as, left, IsLeft}
+use Rattle.flow_tracking.specs.Leaving.{leave_form, left_as, left, IsLeft}
 pub use Rattle.weave_core.proofs.LeaveLaws.{quiet_enter, quiet_leave}
-
--- every form of the code suits
-abbrev pub any : Bool → Type 0
-any far = Unit {0}
 
 -- ---- the entry
 pub honest_entry : (at : ℕ) → Honest any (enter at)
@@ -32,7 +29,7 @@ end_as class.End next i at e ne f = end_ends e
 end_as class.Illegal next i at e ne f = end_illegal e
 end_as c next i at e ne f = absurd f
 
-other_as : (c : Class) (next : ℕ) (far : Bool) (i : Ins) (at : ℕ) → (c ≡ class.Compute → ⊥) → left_as c next far i at ≡ leave_as (form_of far) c i at
+other_as : (c : Class) (next : ℕ) (far : Bool) (i : Ins) (at : ℕ) → (c ≡ class.Compute → ⊥) → left_as c next far i at ≡ leave_as (leave_form far) c i at
 other_as class.Compute next far i at ne = absurd (ne refl)
 other_as c next far i at ne = refl
 
@@ -48,11 +45,11 @@ lockstep_leave next far i at f = record {
   locks_here : LockItems far (left next far i at)
   locks_here = ⊎_elim
       (λ e. subst (λ c. LockItems far (left_as c next far i at)) (sym e) (go_items far next))
-      (λ ne. subst (LockItems far) (sym (other_as (class_of i.kind) next far i at ne)) (leave_items (form_of far) (plain_mirrors_fit far) i at (end_as (class_of i.kind) next i at refl ne f)))
+      (λ ne. subst (LockItems far) (sym (other_as (class_of i.kind) next far i at ne)) (leave_items (leave_form far) (plain_mirrors_fit far) i at (end_as (class_of i.kind) next i at refl ne f)))
       (is_compute (class_of i.kind))
 
   lands_here : LandItems far (left next far i at)
   lands_here = ⊎_elim
       (λ e. subst (λ c. LandItems far (left_as c next far i at)) (sym e) (land_go_on far next))
-      (λ ne. subst (LandItems far) (sym (other_as (class_of i.kind) next far i at ne)) (land_leave (form_of far) (plain_mirrors_fit far) i at (end_as (class_of i.kind) next i at refl ne f)))
+      (λ ne. subst (LandItems far) (sym (other_as (class_of i.kind) next far i at ne)) (land_leave (leave_form far) (plain_mirrors_fit far) i at (end_as (class_of i.kind) next i at refl ne f)))
       (is_compute (class_of i.kind))

@@ -1,21 +1,18 @@
 -- The entry and the leave of a block, as passes.
 use Rattle.std.specs.Prelude.{ℕ, ◌+◌, Bool, false, List, [], ◌∷◌, ◌++◌, pos, neg_ℤ}
 use Rattle.rv_isa.specs.declared.class.Class.TheVariants as class
-use Rattle.qed_model.specs.Machine.Table.{Ins, Add, Addi, Andi, Lw, Jalr, ins}
+use Rattle.qed_model.specs.Machine.Table.{Ins, Addi, Andi, ins}
 use Rattle.qed_model.specs.Weave.Placed.{go_size}
 use Rattle.qed_model.specs.declared.item.Item.{Item}
 use Rattle.qed_model.specs.declared.item.Item.TheVariants.{Plain, Go}
 use Rattle.qed_model.specs.Weave.Sequences.{guards_of, links, leave_as}
-pub use Rattle.weave_core.specs.Leaving.{form_of, left_as, left, IsLeft, Enters, Leaving, LeavesOn}
+pub use Rattle.qed_model.specs.Weave.Lean.{look_up}
+pub use Rattle.weave_core.specs.Leaving.{leave_form, left_as, left, IsLeft, Enters, Leaving, LeavesOn}
 
 -- ---- the words of a leave, part by part
 -- behind the choice of the signature
 abbrev pub branch_end : Ins → ℕ → ℕ → Bool → List Item
 branch_end i next to far = guards_of i ++ (Plain (ins i.kind 0 i.rs1 i.rs2 (pos (4 + go_size far))) ∷ Go next ∷ Go to ∷ [])
-
--- the look-up in the table
-abbrev pub look_up : List Item
-look_up = Plain (ins Add 31 30 14 (pos 0)) ∷ Plain (ins Add 31 31 14 (pos 0)) ∷ Plain (ins Lw 30 31 0 (pos 0)) ∷ Plain (ins Add 30 30 31 (pos 0)) ∷ Plain (ins Jalr 0 30 0 (pos 0)) ∷ []
 
 -- the target by the original
 abbrev pub aim_of : Ins → ℕ → List Item
@@ -23,4 +20,4 @@ aim_of i at = Plain (ins Addi 30 i.rs1 0 i.imm) ∷ Plain (ins Andi 30 30 0 (neg
 
 -- and the whole
 abbrev pub indirect_of : Ins → ℕ → List Item
-indirect_of i at = leave_as (form_of false) class.JumpReg i at
+indirect_of i at = leave_as (leave_form false) class.JumpReg i at

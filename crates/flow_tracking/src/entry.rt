@@ -1,9 +1,9 @@
 //! The entry of a block.
 ghost use Rattle.std.specs.Prelude.{◌≡◌};
 
-use passes::{Emit, Pass, plain, register};
+use passes::{Emit, Pass, plain};
 use qed_model::Item;
-use rv_isa::{Ins, Kind};
+use rv_isa::{Ins, Kind, register};
 use std::alloc::AllocError;
 
 /// Begins the entry of the input address, and fires where the signature is another. It looks at no

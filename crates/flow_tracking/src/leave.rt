@@ -4,11 +4,11 @@ ghost use Rattle.qed_model.specs.Weave.Sequences.{guard as guard_of, guards_of, 
 ghost use Rattle.qed_model.specs.Machine.Step.{target as target_of};
 ghost use Rattle.rv_isa.specs.declared.class.Class.TheVariants as class;
 ghost use Rattle.passes.specs.Emitted.{AppendsPart};
-ghost use Rattle.flow_tracking.specs.Leaving.{form_of, branch_end, look_up, aim_of, indirect_of};
+ghost use Rattle.flow_tracking.specs.Leaving.{leave_form, branch_end, look_up, aim_of, indirect_of};
 
-use passes::{Emit, Pass, plain, put_guard, register};
+use passes::{Emit, Pass, plain, put_guard, target};
 use qed_model::Item;
-use rv_isa::{Class, Ins, Kind};
+use rv_isa::{Class, Ins, Kind, register};
 use std::alloc::AllocError;
 
 /// The leave of a block's end, or of a block that falls to `next`, for which the instruction is
@@ -18,13 +18,6 @@ use std::alloc::AllocError;
 pub struct Leave {
     pub next: u64,
     pub far: bool,
-}
-
-/// pc + immediate, modulo 2^64.
-pub fn target(ins: &Ins, at: u64) -> u64
-    ensures { result ≡ target_of ins.now at }
-{
-    at.wrapping_add(ins.imm.cast_unsigned())
 }
 
 /// Goes on to the entry of an input address, with its signature.
@@ -108,8 +101,8 @@ fn put_way(ins: &Ins, next: u64, to: u64, far: bool, out: &mut Emit) -> Result<(
 fn put_branch(ins: &Ins, at: u64, far: bool, out: &mut Emit) -> Result<(), AllocError>
     requires rs1 { ins.now.rs1 ≤ 13 }
     requires rs2 { ins.now.rs2 ≤ 13 }
-    ensures all { OnOk result (out.new ≡ out.old ++ leave_as (form_of far) class.Branch ins.now at) }
-    ensures part { OnErr result (AppendsPart out.old out.new (leave_as (form_of far) class.Branch ins.now at)) }
+    ensures all { OnOk result (out.new ≡ out.old ++ leave_as (leave_form far) class.Branch ins.now at) }
+    ensures part { OnErr result (AppendsPart out.old out.new (leave_as (leave_form far) class.Branch ins.now at)) }
 {
     let next = at.wrapping_add(4);
     let to = target(ins, at);
@@ -175,9 +168,11 @@ fn put_aim(ins: &Ins, at: u64, out: &mut Emit) -> Result<(), AllocError>
     Ok(())
 }
 
-/// The leave of a JALR: the pair gives the signature, the original the target.
+/// Appends the jump of a JALR: the guard of its original, which gives the target, and the look-up. The pair has set the signature.
+///
+/// Errors: want of memory, and then a part may be appended.
 #[tactic(auto, using(passes::specs::Emitted::part_none, passes::specs::Emitted::part_first, passes::specs::Emitted::part_second))]
-fn put_leap(ins: &Ins, at: u64, out: &mut Emit) -> Result<(), AllocError>
+pub fn put_leap(ins: &Ins, at: u64, out: &mut Emit) -> Result<(), AllocError>
     requires rd { ins.now.rd ≤ 13 }
     requires rs1 { ins.now.rs1 ≤ 13 }
     ensures all { OnOk result (out.new ≡ out.old ++ (guard_of ins.now.rs1 ++ aim_of ins.now at)) }

@@ -6,53 +6,34 @@ use Rattle.std.specs.BTreeSet.{BTreeSet}
 use Rattle.std.specs.Ordering.{nat_cmp, is_eq}
 use Rattle.std.specs.Cmp.{unsigned_tied}
 use Rattle.std.proofs.lemmas.List.Elements.{All-head, All-tail}
-use Rattle.rv_isa.specs.declared.class.Class.{Class}
-use Rattle.rv_isa.specs.declared.class.Class.TheVariants as class
-use Rattle.rv_isa.specs.declared.ins.Ins.{Ins}
-use Rattle.rv_isa.specs.Kind.{class_of}
 use Rattle.qed_model.specs.Members.{Among}
-use Rattle.qed_model.specs.Weave.LeanCode.{Counting, TickRow, leads_on, leads_in, has_tick, most_at, owed_at, owed_as, owed_behind, needs_tick, tick_rows, block_steps}
-use Rattle.qed_model.specs.Weave.Sequences.{Block, End, Falls, Stops, body_length}
+use Rattle.qed_model.specs.Weave.LeanCode.{Counting, end_at, leads_on, leads_in, has_tick, most_at, owed_at, owed_behind, needs_tick, tick_rows, block_steps}
+use Rattle.qed_model.specs.Weave.Sequences.{Block, End}
 use Rattle.lean_weave.proofs.Ticks.{few_behind}
 use Rattle.block_list.specs.declared.block.CodeBlock.{CodeBlock}
 use Rattle.block_list.specs.Listed.{block_of}
 use Rattle.lean_code.specs.declared.counts.Counted.{Counted}
-use Rattle.lean_code.specs.Counts.{ticks_of, most_of, ticks_in, most_in, owed_in, most_owed_as, most_owed, holds, AddsTo, AreCounts}
-
-abbrev pub end_at : Block → ℕ
-end_at b = b.start + 4 * body_length b.body
-
--- ---- what is owed
-owed_as_is : (rows : List TickRow) (k : Class) (i : Ins) (at : ℕ) → most_owed_as (owed_at rows) k i at ≡ owed_as rows k i at
-owed_as_is rows class.Jump i at = refl
-owed_as_is rows class.Branch i at = refl
-owed_as_is rows k i at = refl
-
-owed_is : (rows : List TickRow) (e : End) (at : ℕ) → most_owed (owed_at rows) e at ≡ owed_behind rows e at
-owed_is rows Falls at = refl
-owed_is rows (Stops i) at = owed_as_is rows (class_of i.kind) i at
+use Rattle.qed_model.specs.Sets.{has_address}
+use Rattle.lean_code.specs.Counts.{ticks_of, most_of, ticks_in, most_in, owed_in, AddsTo, AreCounts}
 
 -- ---- one block more
 module _ (c : Counting) (bs : List Block) (counts : BTreeMap ℕ Counted) (goals : BTreeSet ℕ) (are : AreCounts c bs counts goals) where
-  owed_here : (a : ℕ) → owed_in counts a ≡ owed_at (tick_rows c bs) a
-  owed_here a = ap (λ t. cond t 0 (most_in counts a)) (are.ticks a) ∙ ap (λ n. cond (has_tick (tick_rows c bs) a) 0 n) (are.most a)
-
-  owed_there : (e : End) (at : ℕ) → most_owed (owed_in counts) e at ≡ owed_behind (tick_rows c bs) e at
-  owed_there e at = ap (λ (f : ℕ → ℕ). most_owed f e at) (λ i a. owed_here a i) ∙ owed_is (tick_rows c bs) e at
+  owed_there : (e : End) (at : ℕ) → owed_behind (owed_in counts) e at ≡ owed_behind (owed_at (tick_rows c bs)) e at
+  owed_there e at = λ i. owed_behind (λ a. cond (are.ticks a i) 0 (are.most a i)) e at
 
   -- the sum of its steps and of those that it owes
   pub sum_is :
-      (b : Block) (steps owes most : ℕ) → steps ≡ block_steps c.diverse c.land c.leader b → steps < 2048 → c.room ≤ 48 → owes ≡ most_owed (owed_in counts) b.end (end_at b)
-      → (steps + owes < 2 ^ 64 → most ≡ steps + owes) → most ≡ block_steps c.diverse c.land c.leader b + owed_behind (tick_rows c bs) b.end (end_at b)
+      (b : Block) (steps owes most : ℕ) → steps ≡ block_steps c.diverse c.land c.leader b → steps < 2048 → c.room ≤ 48 → owes ≡ owed_behind (owed_in counts) b.end (end_at b)
+      → (steps + owes < 2 ^ 64 → most ≡ steps + owes) → most ≡ block_steps c.diverse c.land c.leader b + owed_behind (owed_at (tick_rows c bs)) b.end (end_at b)
   sum_is b steps owes most e few room o sum =
       let there = owed_there b.end (end_at b) in
       let small = few_behind c bs b.end (end_at b) in
       let is = sum (omega (arith, few, room, o, there, small)) in
       omega (arith, is, e, o, there)
 
-  module _ (b : Block) (most : ℕ) (behind : Bool) (added : BTreeMap ℕ Counted) (led : BTreeSet ℕ) (is : most ≡ block_steps c.diverse c.land c.leader b + owed_behind (tick_rows c bs) b.end (end_at b)) (leads : AddsTo goals led (leads_on b.end (end_at b)))
-      (here : behind ≡ holds led b.start) (sets : (q : ℕ) → get nat_cmp added q ≡ cond (is_eq (nat_cmp b.start q)) (Some (record { ticks = needs_tick c b behind most; most = most })) (get nat_cmp counts q)) where
-    led_is : (a : ℕ) → holds led a ≡ leads_in (b ∷ bs) a
+  module _ (b : Block) (most : ℕ) (behind : Bool) (added : BTreeMap ℕ Counted) (led : BTreeSet ℕ) (is : most ≡ block_steps c.diverse c.land c.leader b + owed_behind (owed_at (tick_rows c bs)) b.end (end_at b)) (leads : AddsTo goals led (leads_on b.end (end_at b)))
+      (here : behind ≡ has_address led b.start) (sets : (q : ℕ) → get nat_cmp added q ≡ cond (is_eq (nat_cmp b.start q)) (Some (record { ticks = needs_tick c b behind most; most = most })) (get nat_cmp counts q)) where
+    led_is : (a : ℕ) → has_address led a ≡ leads_in (b ∷ bs) a
     led_is a = leads.each a ∙ ap (λ x. leads_on b.end (end_at b) a || x) (are.led a)
 
     abbrev own : Counted

@@ -19,7 +19,7 @@ use Rattle.qed_model.specs.Weave.Places.{image_of, half_of, code_place}
 use Rattle.qed_model.specs.Weave.Sequences.{Block, stub}
 use Rattle.qed_model.specs.Weave.Bounds.{cost_of}
 use Rattle.qed_model.specs.Weave.Forms.{mirror_of, form_of}
-use Rattle.qed_model.specs.Weave.LeanCode.{Lean, lean_of, lean_items, items_with as file_items, has_tick, most_at, tick_rows, counting_of, start_at, worded}
+use Rattle.qed_model.specs.Weave.LeanCode.{lean_in, lean_of, lean_items, items_with as file_items, start_at, worded}
 use Rattle.qed_model.proofs.PlacedWords.{size-append, entry_inside}
 use Rattle.weave_core.proofs.TestKnown as there
 use Rattle.block_list.specs.declared.block.CodeBlock.{CodeBlock}
@@ -43,7 +43,7 @@ use Rattle.lean_weave.proofs.Short.{few_steps}
 use Rattle.lean_weave.proofs.Tests.{tests_have_words, are_items}
 use Rattle.lean_weave.proofs.Unmarked.{code_rows, code_size}
 use Rattle.lean_code.specs.declared.weaver.LeanWeaver.{LeanWeaver}
-use Rattle.woven_code.specs.Code.{place_of}
+use Rattle.woven_code.specs.Code.{code_begin}
 use Rattle.woven_code.proofs.DataWords.{few_data}
 use Rattle.woven_code.proofs.LeanBytes.{few_lean_bytes}
 use Rattle.lean_code.specs.Code.{lean_with, code_with, items_with, IsLeanCut, IsLeanCodeOf, HasCause}
@@ -53,11 +53,11 @@ use Rattle.lean_code.specs.Form.{code_at, code_of}
 pub woven_is :
     (t : Test) (o : Options) (every : ℕ) (blocks : List Block) (span : List Range) (diverse : Bool) (ticks : ℕ → Bool) (most : ℕ → ℕ) → span ≡ t.span → diverse ≡ o.diverse
     → ((a : ℕ) → ticks a ≡ (lean_with t o every blocks).ticks a) → ((a : ℕ) → most a ≡ (lean_with t o every blocks).most a)
-    → (λ entry. worded (record { spans = spans_of span; round = o.round; far = false; sweep = o.sweep; mirror = mirror_of diverse; cost = cost_of diverse }) t.base entry (record { every = every; inst_max = 0; diverse = diverse; land = o.land; check = place_of t + 124; ticks = ticks; most = most; start_of = start_at blocks }) (begins_at blocks))
+    → (λ entry. worded (record { spans = spans_of span; round = o.round; far = false; sweep = o.sweep; mirror = mirror_of diverse; cost = cost_of diverse }) t.base entry (record { every = every; inst_max = 0; diverse = diverse; land = o.land; check = code_begin t + 124; ticks = ticks; most = most; start_of = start_at blocks }) (begins_at blocks))
     ≡ code_with t o every blocks
 woven_is t o every blocks span diverse ticks most same kind p q = λ i entry.
     worded (record { spans = spans_of (same i); round = o.round; far = false; sweep = o.sweep; mirror = mirror_of (kind i); cost = cost_of (kind i) }) t.base entry
-    (record { every = every; inst_max = 0; diverse = kind i; land = o.land; check = place_of t + 124; ticks = λ a. p a i; most = λ a. q a i; start_of = start_at blocks }) (begins_at blocks)
+    (record { every = every; inst_max = 0; diverse = kind i; land = o.land; check = code_begin t + 124; ticks = λ a. p a i; most = λ a. q a i; start_of = start_at blocks }) (begins_at blocks)
 
 -- ---- of a test
 module _ (f : ElfFile) (o : Options) (every : ℕ) (t : Test) (blocks : List CodeBlock) (c : IsLeanCut f o every t blocks) where
@@ -70,7 +70,7 @@ module _ (f : ElfFile) (o : Options) (every : ℕ) (t : Test) (blocks : List Cod
   abbrev d : ℕ
   d = half_of o.half (image_of f)
 
-  pub place : place_of t ≡ at
+  pub place : code_begin t ≡ at
   place = omega (arith, c.told.base, c.told.distance)
 
   -- ---- the blocks fit
@@ -94,7 +94,7 @@ module _ (f : ElfFile) (o : Options) (every : ℕ) (t : Test) (blocks : List Cod
   pub half_small : t.distance < 2 ^ 63
   half_small = let b = (there.bounds f o c.cut.sound c.cut.file.loads c.cut.admitted bs c.cut.are).1 in omega (arith, b, c.told.distance)
 
-  pub place_small : place_of t + 134217728 ≤ 2 ^ 63
+  pub place_small : code_begin t + 134217728 ≤ 2 ^ 63
   place_small = let p = (there.is f o c.cut.sound c.cut.file.loads c.cut.admitted bs c.cut.are).top in omega (arith, p, place)
 
   -- ---- the items are those of the file
@@ -107,21 +107,8 @@ module _ (f : ElfFile) (o : Options) (every : ℕ) (t : Test) (blocks : List Cod
   abbrev of_test : (ℕ → ℕ) → List Item
   of_test = items_with t o every bs
 
-  -- its parts, by where the code and the test begin
-  abbrev lean_at : ℕ → ℕ → Lean
-  lean_at n e = record {
-    every = every;
-    inst_max = o.inst_max;
-    diverse = o.diverse;
-    land = o.land;
-    check = n + 124;
-    ticks = has_tick (tick_rows (counting_of o e every bs) bs);
-    most = most_at (tick_rows (counting_of o e every bs) bs);
-    start_of = start_at bs;
-  }
-
   same_code : (entry : ℕ → ℕ) → code_with t o every bs entry ≡ file_code entry
-  same_code entry = λ i. worded (form_with ((spans_are t.span ∙ c.told.span) i) o false) (c.told.base i) entry (lean_at (place i) (c.told.entry i)) (begins_at bs)
+  same_code entry = λ i. worded (form_with ((spans_are t.span ∙ c.told.span) i) o false) (c.told.base i) entry (lean_in o every bs (place i + 124) (c.told.entry i)) (begins_at bs)
 
   whole : (entry : ℕ → ℕ) → of_test entry ++ stub ≡ of_file entry
   whole entry =
@@ -157,7 +144,7 @@ module _ (f : ElfFile) (o : Options) (every : ℕ) (t : Test) (blocks : List Cod
   items = of_test own
 
   -- they can be linked, where they are few
-  linkable : sum_of_sizes false (lean_items f o every bs) ≤ 1048576 → IsLinkable false (place_of t) items
+  linkable : sum_of_sizes false (lean_items f o every bs) ≤ 1048576 → IsLinkable false (code_begin t) items
   linkable few =
       let u = tests_have_words f o every bs c.cut few in
       let marks = ap (λ p. rows_from false p items) place ∙ sym (rows at own) in
@@ -192,8 +179,8 @@ module _ (f : ElfFile) (o : Options) (every : ℕ) (t : Test) (blocks : List Cod
 
       -- ---- the layout knows the entries
       module _
-          (layout : Layout) (far : layout.far ≡ count.far) (base : layout.base ≡ place_of t) (less : count.bytes + 4 ≤ most_bytes count.far)
-          (laid : (xs : List Item) → HasCounted count xs → IsLinkable count.far (place_of t) xs → IsLaid layout [] xs) where
+          (layout : Layout) (far : layout.far ≡ count.far) (base : layout.base ≡ code_begin t) (less : count.bytes + 4 ≤ most_bytes count.far)
+          (laid : (xs : List Item) → HasCounted count xs → IsLinkable count.far (code_begin t) xs → IsLaid layout [] xs) where
         is_near : layout.far ≡ false
         is_near = far ∙ near
 
@@ -201,7 +188,7 @@ module _ (f : ElfFile) (o : Options) (every : ℕ) (t : Test) (blocks : List Cod
         few = few_counted less
 
         all_laid : IsLaid layout [] items
-        all_laid = laid items has (subst (λ b. IsLinkable b (place_of t) items) (sym near) (linkable few))
+        all_laid = laid items has (subst (λ b. IsLinkable b (code_begin t) items) (sym near) (linkable few))
 
         rows_are : layout.entries.items ≡ rows_from false at (of_file (λ a. 0))
         rows_are =

@@ -17,6 +17,7 @@ use Rattle.qed_model.specs.Weave.OutputParts.{base_of}
 use Rattle.qed_model.specs.Weave.Places.{image_of, half_of, code_place}
 use Rattle.qed_model.specs.Weave.Sequences.{End, Falls, Stops, Block, body_length}
 use Rattle.qed_model.specs.Weave.LeanCode.{start_at, block_steps}
+use Rattle.qed_model.proofs.PieceLaws.{sound_most}
 use Rattle.qed_model.proofs.Nearby.{is_within}
 use Rattle.qed_model.proofs.WovenWords.{branch_imm, jump_imm}
 use Rattle.weave_core.proofs.FileOfItems as of
@@ -94,9 +95,6 @@ module _ (f : ElfFile) (o : Options) (every : ℕ) (blocks : List CodeBlock) (t 
     turns (Stops i) x k = turns_as (class_of i.kind) i x refl k
 
   -- ---- the blocks
-  some_most : 1 ≤ o.inst_max
-  some_most = let a = t.sound.some in let b = t.sound.room in omega (arith, a, b)
-
   grain : (a : ℕ) → begins_at bs a ≡ true → a % 4 ≡ 0
   grain a e = of.block_grain f o t.sound t.file.loads t.admitted bs t.are a e
 
@@ -105,7 +103,7 @@ module _ (f : ElfFile) (o : Options) (every : ℕ) (blocks : List CodeBlock) (t 
   begun b m fit =
       let ascend = of.ascend f o t.sound t.file.loads t.admitted bs t.are in
       let reached = only_reached f o every t.sound t.lean in
-      let found = starts f o some_most bs t.are reached grain ascend (block_of b) m in
+      let found = starts f o (sound_most o t.sound) bs t.are reached grain ascend (block_of b) m in
       ap (λ n. start_at bs (end_of b.end) (b.start + 4 * n)) (sym (whole_length b.lengths b.body fit.whole)) ∙ found
 
   -- each has fewer steps than there are from check to check

@@ -11,7 +11,7 @@ use Rattle.qed_model.specs.Weave.Code.{Sequences}
 use Rattle.qed_model.specs.Weave.Placed.{Decode, sum_of_sizes, rows_from, placed}
 use Rattle.qed_model.specs.Weave.Places.{image_of, code_place}
 use Rattle.qed_model.specs.Weave.Sequences.{Block}
-use Rattle.qed_model.specs.Weave.LeanCode.{lean_items, has_tick, most_at, tick_rows, counting_of, start_at, Lean, worded}
+use Rattle.qed_model.specs.Weave.LeanCode.{lean_in, lean_items, Lean, worded}
 use Rattle.block_list.specs.declared.block.CodeBlock.{CodeBlock}
 use Rattle.block_list.specs.Listed.{block_of, IsWithin}
 use Rattle.plc_rounds.specs.Spans.{spans_of}
@@ -19,22 +19,13 @@ use Rattle.relinker.specs.declared.error.LinkError.{LinkError}
 use Rattle.relinker.specs.declared.error.LinkError.TheVariants as error
 use Rattle.relinker.specs.declared.layout.Linked.{Linked}
 use Rattle.test_weave.specs.Form.{form_with, parts_to_stub}
-use Rattle.woven_code.specs.Code.{place_of}
+use Rattle.woven_code.specs.Code.{code_begin}
 use Rattle.lean_weave.specs.Tests.{AreLeanBlocks}
 
 -- ---- of a test that was admitted
 -- what runs before the check has 124 bytes
 abbrev pub lean_with : Test → Options → ℕ → List Block → Lean
-lean_with t o every blocks = record {
-  every = every;
-  inst_max = o.inst_max;
-  diverse = o.diverse;
-  land = o.land;
-  check = place_of t + 124;
-  ticks = has_tick (tick_rows (counting_of o t.entry every blocks) blocks);
-  most = most_at (tick_rows (counting_of o t.entry every blocks) blocks);
-  start_of = start_at blocks;
-}
+lean_with t o every blocks = lean_in o every blocks (code_begin t + 124) t.entry
 
 -- its sequences, where an input address has its entry
 abbrev pub code_with : Test → Options → ℕ → List Block → (ℕ → ℕ) → Sequences

@@ -11,8 +11,9 @@ use Rattle.qed_model.specs.declared.item.Item.TheVariants.{Plain, Constant}
 use Rattle.qed_model.specs.Machine.Step.{target}
 use Rattle.qed_model.specs.Machine.Table.{ins}
 use Rattle.qed_model.specs.Weave.Placed.{distance_between}
-use Rattle.qed_model.specs.Weave.Sequences.{End, Falls, Stops, sweep, compare, links}
-use Rattle.qed_model.specs.Weave.Lean.{turn, goes, look_up}
+use Rattle.qed_model.specs.Weave.Sequences.{End, Falls, Stops, sweep, compare}
+use Rattle.qed_model.specs.Weave.Lean.{turn, goes}
+pub use Rattle.flow_tracking.specs.Leaving.{aim_of}
 
 -- ---- parts
 -- what stands before an ECALL besides, with the sweep
@@ -27,11 +28,7 @@ falls fall a t = turn a t ++ fall t
 abbrev pub ways : (ℕ → List Item) → ℕ → ℕ → ℕ → List Item
 ways fall a t n = goes a t ++ falls fall a n
 
--- the target of a JALR by the guarded original
-abbrev pub aim_of : Ins → ℕ → List Item
-aim_of i at = Plain (ins Addi 30 i.rs1 0 i.imm) ∷ Plain (ins Andi 30 30 0 (neg_ℤ (pos 2))) ∷ (links i at ++ look_up)
-
--- its turn of the signature by the pair
+-- a JALR's turn of the signature by the pair
 abbrev pub leap_sign : Ins → ℕ → List Item
 leap_sign i a =
     Plain (ins Add 16 16 (pair i.rs1) (pos 0)) ∷ Plain (ins Addi 16 16 0 i.imm) ∷ Plain (ins Andi 16 16 0 (neg_ℤ (pos 2))) ∷ Constant 30 a ∷ Plain (ins Sub 16 16 30 (pos 0)) ∷ []

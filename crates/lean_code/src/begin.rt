@@ -5,9 +5,9 @@ ghost use Rattle.qed_model.specs.declared.item.Item.TheVariants.{Plain, Constant
 ghost use Rattle.qed_model.specs.Machine.Table.{ins};
 ghost use Rattle.qed_model.specs.Weave.Lean.{begin};
 
-use passes::{Emit, plain, register};
+use passes::{Emit, plain};
 use qed_model::Item;
-use rv_isa::Kind;
+use rv_isa::{Kind, register};
 use std::alloc::AllocError;
 use test_weave::put_zeros;
 

@@ -7,10 +7,10 @@ ghost use Rattle.plc_rounds.specs.Spans.{spans_of};
 use crate::tick::call_at;
 use eddi_dup::CompareAll;
 use flow_tracking::put_look_up;
-use passes::{Emit, Pass, plain, register};
+use passes::{Emit, Pass, plain};
 use plc_rounds::Visit;
 use qed_model::{Item, Range};
-use rv_isa::{Ins, Kind};
+use rv_isa::{Ins, Kind, register};
 use std::alloc::AllocError;
 
 /// The address of the first data word, or where there is none the begin of the input.

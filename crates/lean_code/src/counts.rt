@@ -5,16 +5,16 @@ ghost use Rattle.rv_isa.specs.Kind.{class_of};
 ghost use Rattle.elf_types.specs.declared.file.ElfFile.{ElfFile};
 ghost use Rattle.qed_model.specs.Weave.Blocks.{begins_at as begins};
 ghost use Rattle.qed_model.specs.Weave.Bounds.{cost_of, entry_steps as entry_steps_of};
-ghost use Rattle.qed_model.specs.Weave.LeanCode.{block_steps as block_cost, leads_on, leads_as, needs_tick as needs_tick_of, counting_of, tick_rows, has_tick, most_at};
+ghost use Rattle.qed_model.specs.Weave.LeanCode.{block_steps as block_cost, leads_on, leads_as, owed_as as owed_as_of, owed_behind as owed_behind_of, needs_tick as needs_tick_of, counting_of, tick_rows, has_tick, most_at};
 ghost use Rattle.qed_model.specs.Weave.Sequences.{Block};
 ghost use Rattle.block_list.specs.Listed.{block_of, end_of};
 ghost use Rattle.test_weave.specs.Fits.{FitsBlock};
 ghost use Rattle.lean_code.specs.Code.{IsLeanCut};
-ghost use Rattle.lean_code.specs.Counts.{ticks_in, most_in, owed_in, most_owed, most_owed_as, AddsTo, counting, AreCounts};
+ghost use Rattle.lean_code.specs.Counts.{ticks_in, most_in, owed_in, AddsTo, counting, AreCounts};
 
 use crate::steps::{block_steps, entry_steps};
 use block_list::CodeBlock;
-use flow_tracking::target;
+use passes::target;
 use qed_model::{Options, Test};
 use rv_isa::{Class, Ins};
 use std::alloc::{AllocError, Global};
@@ -71,7 +71,7 @@ fn owed_at(counts: &Counts, address: u64) -> u64
 
 /// The most of these behind an instruction that ends a block.
 fn owed_by(counts: &Counts, ins: &Ins, at: u64) -> u64
-    ensures { result ≡ most_owed_as (owed_in counts.now) (class_of ins.now.kind) ins.now at }
+    ensures { result ≡ owed_as_of (owed_in counts.now) (class_of ins.now.kind) ins.now at }
 {
     match ins.class() {
         Class::Jump => owed_at(counts, target(ins, at)),
@@ -86,7 +86,7 @@ fn owed_by(counts: &Counts, ins: &Ins, at: u64) -> u64
 
 /// The most of these behind a block whose end stands at `at`.
 fn owed_behind(counts: &Counts, end: &Option<Ins>, at: u64) -> u64
-    ensures { result ≡ most_owed (owed_in counts.now) (end_of end.now) at }
+    ensures { result ≡ owed_behind_of (owed_in counts.now) (end_of end.now) at }
 {
     match end {
         None => owed_at(counts, at),

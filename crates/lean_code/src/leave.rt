@@ -20,10 +20,10 @@ use crate::check::put_compare;
 use crate::turn::{goes_size, put_check_sign, put_goes, put_turn};
 use block_list::CodeBlock;
 use end_sweep::put_sweep;
-use flow_tracking::{put_guards_of, put_links, put_look_up, target};
-use passes::{Emit, plain, put_guard, register};
+use flow_tracking::{put_guards_of, put_leap, put_links};
+use passes::{Emit, plain, put_guard, target};
 use qed_model::{Item, Range};
-use rv_isa::{Class, Ins, Kind};
+use rv_isa::{Class, Ins, Kind, register};
 use std::alloc::AllocError;
 
 /// The branch that is taken where another is not.
@@ -153,21 +153,6 @@ fn put_branch(
     put_over(blocks, ins, start, at, out)
 }
 
-/// The target of a JALR by the original.
-fn put_aim(ins: &Ins, at: u64, out: &mut Emit) -> Result<(), AllocError>
-    requires { FitsLeave class.JumpReg ins.now }
-    ensures { OnOk result (out.new ≡ out.old ++ aim_of ins.now at) }
-{
-    let (zero, to) = (register(0), register(30));
-    out.put(&[
-        plain(Kind::Addi, to, ins.rs1, zero, ins.imm),
-        plain(Kind::Andi, to, to, zero, -2),
-    ])?;
-    put_links(ins, at, out)?;
-    put_look_up(out)?;
-    Ok(())
-}
-
 /// Turns the signature to the target of a JALR by the pair.
 fn put_leap_sign(ins: &Ins, start: u64, out: &mut Emit) -> Result<(), AllocError>
     requires { FitsLeave class.JumpReg ins.now }
@@ -190,8 +175,7 @@ fn put_indirect(ins: &Ins, start: u64, at: u64, out: &mut Emit) -> Result<(), Al
     ensures { OnOk result (out.new ≡ out.old ++ (leap_sign ins.now start ++ (guard ins.now.rs1 ++ aim_of ins.now at))) }
 {
     put_leap_sign(ins, start, out)?;
-    put_guard(out, ins.rs1)?;
-    put_aim(ins, at, out)?;
+    put_leap(ins, at, out)?;
     Ok(())
 }
 

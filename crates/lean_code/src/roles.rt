@@ -15,7 +15,7 @@ use crate::counts::{Counts, counted_at, counts_of};
 use crate::steps::fall_steps;
 use crate::turn::{goes_size, turn_steps};
 use block_list::CodeBlock;
-use flow_tracking::target;
+use passes::target;
 use qed_model::{Options, Role, RoleRow, Test};
 use rv_isa::{Class, Ins};
 use std::alloc::{AllocError, Global};

@@ -16,7 +16,7 @@ ghost use Rattle.lean_code.specs.Steps.{both_cost};
 use crate::blocks::begins_at;
 use crate::turn::turn_steps;
 use block_list::CodeBlock;
-use flow_tracking::target;
+use passes::target;
 use rv_isa::{Class, Ins, Kind, Reg};
 
 /// The steps of the original part of an instruction.

@@ -3,8 +3,8 @@ ghost use Rattle.std.specs.Prelude.{◌≡◌, ◌^◌, ◌<◌, ◌≤◌, ◌+
 ghost use Rattle.qed_model.specs.Weave.Lean.{tick, enter, call_at as call_at_of};
 
 use crate::turn::put_check_sign;
-use passes::{Emit, plain, register};
-use rv_isa::Kind;
+use passes::{Emit, plain};
+use rv_isa::{Kind, register};
 use std::alloc::AllocError;
 
 /// How many bytes behind the entry its tick calls the check, where entries test the signature or not.

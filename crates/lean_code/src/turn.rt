@@ -3,10 +3,10 @@ ghost use Rattle.std.specs.Prelude.{◌≡◌, ◌*◌, ◌^◌, ◌-◌, ◌≤
 ghost use Rattle.qed_model.specs.Weave.Placed.{distance_between as distance_of, sum_of_sizes};
 ghost use Rattle.qed_model.specs.Weave.Lean.{is_short as is_short_of, turn_by, turn, goes, check_sign, cost};
 
-use passes::{Emit, plain, register};
+use passes::{Emit, plain};
 use qed_model::Item;
 use relinker::{distance_between, upper_part};
-use rv_isa::Kind;
+use rv_isa::{Kind, register};
 use std::alloc::AllocError;
 
 /// Whether one immediate has a distance.

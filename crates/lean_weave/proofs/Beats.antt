@@ -1,6 +1,6 @@
 -- The trace of the lean form: its boundaries are the calls of the check.
 use Rattle.std.proofs.Common.{◌≡◌, ℕ, ◌+◌, ◌<◌, ◌≤◌, ◌⊎◌, inl, inr, ⊎_elim, Bool, true, List, sym, ap, ◌∙◌, subst, arith, cond}
-use Rattle.qed_model.specs.Admission.DataRanges.{word_count}
+use Rattle.qed_model.specs.Admission.DataRanges.{word_count, word_address}
 use Rattle.qed_model.specs.declared.machine.Outcome.TheVariants.{Going, Ended}
 use Rattle.qed_model.specs.Machine.Program.{Program, start, zeros, AreStartRegs}
 use Rattle.qed_model.specs.Machine.Step.{State, run}
@@ -15,14 +15,14 @@ use Rattle.weave_core.specs.World.{World, Quiet, IsCursor}
 use Rattle.weave_core.specs.Describes.{Describes}
 use Rattle.weave_core.specs.Blocks.{IsEntryOf}
 use Rattle.weave_core.specs.Rows.{Sourced}
-use Rattle.weave_core.specs.Kinds.{thirteen}
+use Rattle.weave_core.specs.Kinds.{originals}
 use Rattle.weave_core.specs.Lock.{ComparesFrom}
 use Rattle.weave_core.specs.Leaving.{sweep_cost}
 use Rattle.weave_core.specs.WeaveLaws.{EntriesAt, Swept}
 use Rattle.weave_core.proofs.Entries.{first_sourced}
 use Rattle.weave_core.proofs.Source.{steady_le, steady_rest}
 use Rattle.weave_core.proofs.Visit.{words_within}
-use Rattle.lockstep.proofs.Numbered.{nth_word, AtNumber, placed, round_of, round_on}
+use Rattle.lockstep.proofs.Numbered.{AtNumber, placed, round_of, round_on}
 use Rattle.lockstep.proofs.Trace.{Sizes, NextSteps, PieceSteps, EndsSoon, Trace, SweptEnd}
 use Rattle.lean_weave.specs.Woven.{weave_of, LeanIn, check_steps, swept_steps, owed}
 use Rattle.lean_weave.proofs.Begin.{begin_law, first_is}
@@ -40,7 +40,7 @@ module _ (f g : Program) (w : World) (l : Lean) (leader : ℕ → Bool) (x : Lea
   sizes = record { piece = check_steps w + (l.every + entry_steps l.land); check = 31; last = 2 + swept_steps w; words = word_count w.form.spans; round = round_of (word_count w.form.spans) w.form.round }
 
   abbrev nth : ℕ → ℕ
-  nth i = nth_word w.form.spans i
+  nth i = word_address w.form.spans i
 
   -- each leader has an entry on the grain
   blocks : (a : ℕ) → leader a ≡ true → IsEntryOf w a
@@ -72,7 +72,7 @@ module _ (f g : Program) (w : World) (l : Lean) (leader : ℕ → Bool) (x : Lea
       there n = run-more (start g regs) p n
 
       -- to the next call
-      next_at : Called w l leader x blocks back.to (after_input f b.moves) back.next (l.every + entry_steps l.land) → NextSteps w.code (start g regs) sizes (λ i. nth_word w.form.spans i) Bound p i
+      next_at : Called w l leader x blocks back.to (after_input f b.moves) back.next (l.every + entry_steps l.land) → NextSteps w.code (start g regs) sizes (λ i. word_address w.form.spans i) Bound p i
       next_at c =
           let n = back.steps + c.steps in
           let to : run (after_output g regs p) (back.steps + c.steps) ≡ c.to = (walk_on (Quiet w) u back.to c.to back.steps c.steps back.walk c.walk).ends in
@@ -117,13 +117,13 @@ module _ (f g : Program) (w : World) (l : Lean) (leader : ℕ → Bool) (x : Lea
               zero_behind n = omega arith
 
       -- with one comparison
-      piece_at : (h : ℕ) → Steady f w.reached h → PieceSteps w.code (start g regs) sizes (λ i. nth_word w.form.spans i) h Bound p i
+      piece_at : (h : ℕ) → Steady f w.reached h → PieceSteps w.code (start g regs) sizes (λ i. word_address w.form.spans i) h Bound p i
       piece_at h steady =
           let e = run-more (start g regs) p 14 in
           record {
             compare = 14;
             room = omega arith;
-            at = record { going = ap (λ s. s.outcome) e ∙ (back.walk.each 14 (omega (arith, back.some))).going; words = subst (λ s. ComparesFrom w.code s.pc thirteen) (sym e) back.compares };
+            at = record { going = ap (λ s. s.outcome) e ∙ (back.walk.each 14 (omega (arith, back.some))).going; words = subst (λ s. ComparesFrom w.code s.pc originals) (sym e) back.compares };
             on = λ le. ⊎_elim (λ d. inl (next_at d)) (λ d. inr (ends_at d)) (onward_at h (omega (arith, le)) steady);
           }
 
@@ -185,7 +185,7 @@ module _ (f g : Program) (w : World) (l : Lean) (leader : ℕ → Bool) (x : Lea
           fewer m n h k = omega (arith, h, k)
 
     -- the trace up to a number of steps in which the input is steady
-    pub traced : (h : ℕ) → Steady f w.reached h → Trace w.code (start g regs) sizes (λ i. nth_word w.form.spans i) (32 + entry_steps l.land) h Bound
+    pub traced : (h : ℕ) → Steady f w.reached h → Trace w.code (start g regs) sizes (λ i. word_address w.form.spans i) (32 + entry_steps l.land) h Bound
     traced h steady =
         let first = first_call in
         record {

@@ -9,9 +9,9 @@ use Rattle.qed_model.specs.declared.options.Options.{Options}
 use Rattle.qed_model.specs.declared.options.Entries.TheVariants as entries
 use Rattle.qed_model.specs.Admission.Leaders.{IsLeader}
 use Rattle.qed_model.specs.Members.{Among}
-use Rattle.qed_model.specs.Weave.Blocks.{StopsAt, IsLeaderBlock, IsOtherBlock, begins_at, AreBlocks}
+use Rattle.qed_model.specs.Weave.Blocks.{StopsAt, IsLeaderBlock, IsOtherBlock, begins_at, AreBlocks, IsBlockOf}
 use Rattle.qed_model.specs.Weave.Sequences.{End, Falls, Stops, Block, body_length}
-use Rattle.qed_model.specs.Weave.LeanCode.{is_alike, start_at, Lean}
+use Rattle.qed_model.specs.Weave.LeanCode.{end_at, is_alike, start_at, Lean}
 use Rattle.qed_model.proofs.Among.{all_among}
 use Rattle.qed_model.proofs.PieceLaws.{pieces_whole}
 use Rattle.weave_core.specs.World.{World}
@@ -38,11 +38,8 @@ later [] low b h m = absurd m
 later (c ∷ cs) low b h m = ⊎_elim (λ e. subst (λ (x : Block). low ≤ x.start) (sym e) h.0) (λ r. let k = later cs (c.start + 1) b h.1 r in omega (arith, h.0, k)) m
 
 -- ---- where the words of a block end
-abbrev at_of : Block → ℕ
-at_of b = b.start + 4 * body_length b.body
-
 abbrev behind : Block → ℕ
-behind b = at_of b + 4 * stops b.end
+behind b = end_at b + 4 * stops b.end
 
 module _ (f : ElfFile) (o : Options) (some : 1 ≤ o.inst_max) where
   pub length_is : (b : Block) (l : IsLeaderBlock f o b) → body_length b.body ≡ length l.body
@@ -58,7 +55,7 @@ module _ (f : ElfFile) (o : Options) (some : 1 ≤ o.inst_max) where
       (λ inside. absurd (l.inside ((a - b.start) / 4) (omega (arith, place, lt)) inside (subst (IsLeader f o) (sym place) leads)))
       (λ out. at_end b.end refl out)
       (cases_lt ((a - b.start) / 4) (length l.body)) where
-        at_end : (e : End) → b.end ≡ e → length l.body ≤ (a - b.start) / 4 → at_of b + 4 * stops b.end ≤ a
+        at_end : (e : End) → b.end ≡ e → length l.body ≤ (a - b.start) / 4 → end_at b + 4 * stops b.end ≤ a
         at_end Falls is out = let n = length_is b l in let z : stops b.end ≡ 0 = ap stops is in omega (arith, n, z, lt, grain, out)
         at_end (Stops i) is out =
             let n = length_is b l in
@@ -81,7 +78,7 @@ module _ (f : ElfFile) (o : Options) (some : 1 ≤ o.inst_max) where
   module _ (blocks : List Block) (are : AreBlocks f o blocks) (reached : o.entries ≡ entries.Reached) (grain : (a : ℕ) → begins_at blocks a ≡ true → a % 4 ≡ 0) where
     -- each is the block of a leader
     pub leading : (b : Block) → Among b blocks → IsLeaderBlock f o b
-    leading b m = ⊎_elim (λ l. l) (λ q. absurd (other q)) (all_among (λ b. IsLeaderBlock f o b ⊎ IsOtherBlock f o b) b blocks are.each m) where
+    leading b m = ⊎_elim (λ l. l) (λ q. absurd (other q)) (all_among (IsBlockOf f o) b blocks are.each m) where
       other : IsOtherBlock f o b → ⊥
       other q = let e : entries.All ≡ entries.Reached = sym q.all ∙ reached in absurd (cc)
 
@@ -93,7 +90,7 @@ module _ (f : ElfFile) (o : Options) (some : 1 ≤ o.inst_max) where
         outside b (leading b m) c.start lt (omega (arith, x, y, lt)) (leading c n).leader
 
     -- so they have no such end at one address
-    distinct : (b c : Block) → Among b blocks → Among c blocks → c.start < b.start → is_alike c.end b.end ≡ true → at_of c ≡ at_of b → ⊥
+    distinct : (b c : Block) → Among b blocks → Among c blocks → c.start < b.start → is_alike c.end b.end ≡ true → end_at c ≡ end_at b → ⊥
     distinct b c m n lt alike same = by b.end c.end refl refl alike where
       by : (e k : End) → b.end ≡ e → c.end ≡ k → is_alike k e ≡ true → ⊥
       by Falls Falls x y a = let p = apart c b n m lt in let z : stops c.end ≡ 0 = ap stops y in let q = filled b (leading b m) x in omega (arith, p, z, q, same)
@@ -113,18 +110,18 @@ module _ (f : ElfFile) (o : Options) (some : 1 ≤ o.inst_max) where
     rest : (low : ℕ) (b : Block) (bs : List Block) → Are low (b ∷ bs) → Are (b.start + 1) bs
     rest low b bs h = (h.0.1, λ c m. h.1 c (inr m))
 
-    start_is : (bs : List Block) (low : ℕ) (b : Block) → Are low bs → Among b bs → start_at bs b.end (at_of b) ≡ b.start
+    start_is : (bs : List Block) (low : ℕ) (b : Block) → Are low bs → Among b bs → start_at bs b.end (end_at b) ≡ b.start
     start_is [] low b h m = absurd m
     start_is (c ∷ cs) low b h m =
         ⊎_elim
-        (λ e. subst (λ (x : Block). start_at (c ∷ cs) x.end (at_of x) ≡ x.start) (sym e) here)
-        (λ r. by (is_alike c.end b.end) (at_of c == at_of b) refl refl r (start_is cs (c.start + 1) b (rest low c cs h) r))
+        (λ e. subst (λ (x : Block). start_at (c ∷ cs) x.end (end_at x) ≡ x.start) (sym e) here)
+        (λ r. by (is_alike c.end b.end) (end_at c == end_at b) refl refl r (start_is cs (c.start + 1) b (rest low c cs h) r))
         m where
-          here : start_at (c ∷ cs) c.end (at_of c) ≡ c.start
-          here = rw (alike_self c.end, eq-eqb (at_of c) (at_of c) refl) refl
+          here : start_at (c ∷ cs) c.end (end_at c) ≡ c.start
+          here = rw (alike_self c.end, eq-eqb (end_at c) (end_at c) refl) refl
 
-          by : (p q : Bool) → is_alike c.end b.end ≡ p → (at_of c == at_of b) ≡ q → Among b cs → start_at cs b.end (at_of b) ≡ b.start → cond (p && q) c.start (start_at cs b.end (at_of b)) ≡ b.start
-          by true true x y r more = absurd (distinct b c (h.1 b (inr r)) (h.1 c (inl refl)) (let k = later cs (c.start + 1) b h.0.1 r in omega (arith, k)) x (eqb-true (at_of c) (at_of b) y))
+          by : (p q : Bool) → is_alike c.end b.end ≡ p → (end_at c == end_at b) ≡ q → Among b cs → start_at cs b.end (end_at b) ≡ b.start → cond (p && q) c.start (start_at cs b.end (end_at b)) ≡ b.start
+          by true true x y r more = absurd (distinct b c (h.1 b (inr r)) (h.1 c (inl refl)) (let k = later cs (c.start + 1) b h.0.1 r in omega (arith, k)) x (eqb-true (end_at c) (end_at b) y))
           by true false x y r more = more
           by false q x y r more = more
 
@@ -133,7 +130,7 @@ module _ (f : ElfFile) (o : Options) (some : 1 ≤ o.inst_max) where
       all : Are 0 blocks
       all = (ascend, λ b m. m)
 
-      pub starts : (b : Block) → Among b blocks → start_at blocks b.end (at_of b) ≡ b.start
+      pub starts : (b : Block) → Among b blocks → start_at blocks b.end (end_at b) ≡ b.start
       starts b m = start_is blocks 0 b all m
 
       -- ---- the next block
@@ -147,13 +144,13 @@ module _ (f : ElfFile) (o : Options) (some : 1 ≤ o.inst_max) where
           omega (arith, p, is, high, r.2)
 
       -- where a block goes on is behind it
-      goes_behind : (b : Block) → Among b blocks → at_of b + 4 < 2 ^ 64 → (t : ℕ) → goes_on b.end (at_of b) t ≡ true → (behind b ≡ t) × (b.start < t)
+      goes_behind : (b : Block) → Among b blocks → end_at b + 4 < 2 ^ 64 → (t : ℕ) → goes_on b.end (end_at b) t ≡ true → (behind b ≡ t) × (b.start < t)
       goes_behind b m low t g = by b.end refl g where
-        by : (e : End) → b.end ≡ e → goes_on e (at_of b) t ≡ true → (behind b ≡ t) × (b.start < t)
-        by Falls x g = let z : stops b.end ≡ 0 = ap stops x in let s = eqb-true (at_of b) t g in let q = filled b (leading b m) x in (omega (arith, z, s), omega (arith, q, s))
-        by (Stops i) x g = let z : stops b.end ≡ 1 = ap stops x in let s = eqb-true ((at_of b + 4) % 2 ^ 64) t (and_parts _ _ g).1 in (omega (arith, z, s, low), omega (arith, s, low))
+        by : (e : End) → b.end ≡ e → goes_on e (end_at b) t ≡ true → (behind b ≡ t) × (b.start < t)
+        by Falls x g = let z : stops b.end ≡ 0 = ap stops x in let s = eqb-true (end_at b) t g in let q = filled b (leading b m) x in (omega (arith, z, s), omega (arith, q, s))
+        by (Stops i) x g = let z : stops b.end ≡ 1 = ap stops x in let s = eqb-true ((end_at b + 4) % 2 ^ 64) t (and_parts _ _ g).1 in (omega (arith, z, s, low), omega (arith, s, low))
 
-      pub in_order : ((b : Block) → Among b blocks → at_of b + 4 < 2 ^ 64) → InOrder (begins_at blocks) blocks
+      pub in_order : ((b : Block) → Among b blocks → end_at b + 4 < 2 ^ 64) → InOrder (begins_at blocks) blocks
       in_order room = each blocks 0 all (λ t e le. e) where
         pass : (b : Block) (bs : List Block) (t : ℕ) → b.start < t → begins_at (b ∷ bs) t ≡ true → begins_at bs t ≡ true
         pass b bs t lt e = ⊎_elim (λ x. absurd (let s = eqb-true b.start t x in omega (arith, s, lt))) (λ x. x) (or_cases (b.start == t) (begins_at bs t) e)

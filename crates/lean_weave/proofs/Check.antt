@@ -15,7 +15,7 @@ use Rattle.qed_model.proofs.Walk.{Over, over_moved}
 use Rattle.qed_model.proofs.Walked.{Walk, walk_on}
 use Rattle.weave_core.specs.World.{World, Quiet, Twice, IsCursor, GoodSpans, AllBelow, words_on}
 use Rattle.weave_core.specs.Blocks.{IsEntryOf, TableAt}
-use Rattle.weave_core.specs.Kinds.{thirteen}
+use Rattle.weave_core.specs.Kinds.{originals}
 use Rattle.weave_core.specs.Lock.{ComparesFrom}
 use Rattle.weave_core.specs.Rows.{At}
 use Rattle.weave_core.specs.WeaveLaws.{Stands, Visits}
@@ -194,7 +194,7 @@ pub record Back (w : World) (leader : ℕ → Bool) (u t : State) (a off every r
   pub few : next < 2 ^ 32
   pub word : first_word w.base w.form.spans + next ≡ words_on w.form.spans round (first_word w.base w.form.spans + off)
   pub sign : reg to 16 ≡ (a + next * 2 ^ 32) % 2 ^ 64
-  pub compares : ComparesFrom w.code (run u 14).pc thirteen
+  pub compares : ComparesFrom w.code (run u 14).pc originals
   pub visits : (j : ℕ) → j < round → 1 ≤ length w.form.spans → Visits w u steps (words_on w.form.spans j (first_word w.base w.form.spans + off))
 
 module _ (w : World) (leader : ℕ → Bool) (small : w.distance ≤ 2 ^ 32) (u t : State) (call a off every round : ℕ) (call_few : call ≤ 32) (tb : TableAt w a) (entry : IsEntryOf w a) (leads : leader a ≡ true) (some : 1 ≤ every) (most : every < 2 ^ 63) where
@@ -288,7 +288,7 @@ module _ (w : World) (leader : ℕ → Bool) (small : w.distance ≤ 2 ^ 32) (u 
     at : At w to rest t t
     fifteen : reg to 15 ≡ a
     sixteen : reg to 16 ≡ off
-    compares : ComparesFrom w.code (run u 14).pc thirteen
+    compares : ComparesFrom w.code (run u 14).pc originals
 
   front_row :
       (rest : List Item) → Over w.code u → Twice w u t t → Reads w.form.far w.code w.entry u.pc (parted w.base ++ (called call ++ (compare ++ rest))) → w.base ≤ a → a < w.base + 2 ^ 32
@@ -307,7 +307,7 @@ module _ (w : World) (leader : ℕ → Bool) (small : w.distance ≤ 2 ^ 32) (u 
       let s2 = called_set w x1 t call a call_few tb o1 h1 (compare ++ rest) (read_back w1 u.regs 15 long refl) (read_back w1 u.regs 31 long refl ∙ link) s1.reads in
       let x2 = moved l2 s2.pc u in
       let h2 = halved_writes w x1 t t w2 s2.pc (all_temps w2 refl) h1 in
-      let s3 = guards_pass w thirteen x2 rest (over_moved w.code u l2 s2.pc o) (λ q one m. own_pair w x2 t q h2 m one) (all_small w) s2.reads in
+      let s3 = guards_pass w originals x2 rest (over_moved w.code u l2 s2.pc o) (λ q one m. own_pair w x2 t q h2 m one) (all_small w) s2.reads in
       let first14 : Walk (Quiet w) u 14 x2 = walk_on (Quiet w) u x1 x2 8 6 s1.walk s2.walk in
       record {
         to = moved l2 s3.pc u;
@@ -315,7 +315,7 @@ module _ (w : World) (leader : ℕ → Bool) (small : w.distance ≤ 2 ^ 32) (u 
         at = record { over = over_moved w.code u l2 s3.pc o; reads = s3.reads; halved = halved_moved w x2 t t s3.pc h2 };
         fifteen = read_back w2 l1 15 long1 refl ∙ read_back w1 u.regs 15 long refl;
         sixteen = read_back w2 l1 16 long1 refl ∙ read_back w1 u.regs 16 long refl;
-        compares = subst (λ y. ComparesFrom w.code y.pc thirteen) (sym first14.ends) (compare_stands w s2.pc rest s2.reads);
+        compares = subst (λ y. ComparesFrom w.code y.pc originals) (sym first14.ends) (compare_stands w s2.pc rest s2.reads);
       }
 
   -- ---- from there to behind the visits
@@ -402,7 +402,7 @@ module _ (w : World) (leader : ℕ → Bool) (small : w.distance ≤ 2 ^ 32) (u 
             (x : State) (m : ℕ) (y : State) (n : ℕ) (z : State) → Walk (Quiet w) u 27 x → Walk (Quiet w) x m y → Walk (Quiet w) y n z
             → m ≤ 5 + visit_bound (word_count w.form.spans) (length w.form.spans) * round → n ≤ 12 → first ≤ words_on w.form.spans round (first + off)
             → words_on w.form.spans round (first + off) < first + 2 ^ 32 → Stands w leader z t → reg z 15 ≡ 2 ^ 64 - every
-            → reg z 16 ≡ (a + (words_on w.form.spans round (first + off) - first) * 2 ^ 32) % 2 ^ 64 → ComparesFrom w.code (run u 14).pc thirteen
+            → reg z 16 ≡ (a + (words_on w.form.spans round (first + off) - first) * 2 ^ 32) % 2 ^ 64 → ComparesFrom w.code (run u 14).pc originals
             → ((j : ℕ) → j < round → 1 ≤ length w.form.spans → Visits w x m (words_on w.form.spans j (first + off))) → Back w leader u t a off every round
         joined x m y n z a1 a2 a3 few1 few2 above near st counter sign cmp vs = record {
           steps = 27 + (m + n);

@@ -18,7 +18,7 @@ use Rattle.qed_model.specs.Weave.Lean.{check_sign, leave_as, is_break, cost}
 use Rattle.qed_model.proofs.Walk.{over_moved, known_at, run-more}
 use Rattle.qed_model.proofs.Walked.{Walk, walk_on}
 use Rattle.weave_core.specs.World.{World, Quiet, Twice}
-use Rattle.weave_core.specs.Kinds.{thirteen}
+use Rattle.weave_core.specs.Kinds.{originals}
 use Rattle.weave_core.specs.Rows.{At, Sourced}
 use Rattle.weave_core.specs.Leaving.{swept_end, sweep_cost}
 use Rattle.weave_core.specs.WeaveLaws.{Holds, GoesTo, Ends, Swept}
@@ -107,7 +107,7 @@ module _ (w : World) (u s : State) (i : Ins) (fall : ℕ → List Item) (a off :
   end_leave h c =
       let t = at.halved in
       let last = before_end w.form ++ (Plain i ∷ []) in
-      let s1 = guards_pass w thirteen u (check_sign a ++ last) at.over (λ q one m. own_pair w u s q t m one) (all_small w) at.reads in
+      let s1 = guards_pass w originals u (check_sign a ++ last) at.over (λ q one m. own_pair w u s q t m one) (all_small w) at.reads in
       let x1 = moved u.regs s1.pc u in
       let o1 = over_moved w.code u u.regs s1.pc at.over in
       let same : rest_of a (reg x1 16) ≡ 0 = ap (rest_of a) sign ∙ same_bits a off low few in

@@ -15,6 +15,7 @@ use Rattle.qed_model.specs.Weave.Bounds.{cost_of, entry_steps}
 use Rattle.qed_model.specs.Weave.Places.{AreSoundOptions}
 use Rattle.qed_model.specs.Weave.Sequences.{Block, End, Falls, Stops, body_length}
 use Rattle.qed_model.specs.Weave.LeanCode.{block_steps}
+use Rattle.qed_model.proofs.PieceLaws.{sound_most}
 use Rattle.qed_model.proofs.BlocksOnly.{body_code}
 use Rattle.lean_weave.proofs.Blocks.{begins, length_is, leading}
 use Rattle.lean_weave.proofs.Costs.{IsEnd, body_most, end_most}
@@ -45,9 +46,6 @@ module _ (f : ElfFile) (o : Options) (every : ℕ) (sound : AreSoundOptions o) (
   pub few_steps : every ≤ 2048
   few_steps = is_sound.1
 
-  some_most : 1 ≤ o.inst_max
-  some_most = let a = sound.some in let b = sound.room in omega (arith, a, b)
-
   -- ---- a block
   -- it has no more instructions than a piece
   few_instructions : (b : Block) (l : IsLeaderBlock f o b) → b.start % 4 ≡ 0 → length l.body ≤ o.inst_max
@@ -55,11 +53,11 @@ module _ (f : ElfFile) (o : Options) (every : ℕ) (sound : AreSoundOptions o) (
     too_long : o.inst_max < length l.body → ⊥
     too_long long =
         let k = words_to o.inst_max b.start in
-        let below : b.start / 4 % o.inst_max < o.inst_max = mod_below (b.start / 4) o.inst_max some_most in
+        let below : b.start / 4 % o.inst_max < o.inst_max = mod_below (b.start / 4) o.inst_max (sound_most o sound) in
         let inside : k < length l.body = omega (arith, long) in
         let leads : IsLeader f o (b.start + 4 * k) = record {
           code = body_code f o l.body b.start k l.stands inside;
-          begins = Even (ap is_some lean) (multiple o.inst_max b.start some_most grain);
+          begins = Even (ap is_some lean) (multiple o.inst_max b.start (sound_most o sound) grain);
         } in
         l.inside k (omega (arith, below)) inside leads
 
@@ -72,7 +70,7 @@ module _ (f : ElfFile) (o : Options) (every : ℕ) (sound : AreSoundOptions o) (
 
   few_of : (leader : ℕ → Bool) (b : Block) (l : IsLeaderBlock f o b) → b.start % 4 ≡ 0 → block_steps o.diverse o.land leader b ≤ own_most
   few_of leader b l grain =
-      let n = length_is f o some_most b l in
+      let n = length_is f o (sound_most o sound) b l in
       let few = few_instructions b l grain in
       let body = body_most o.diverse b.body in
       let most : cost_of o.diverse * body_length b.body ≤ cost_of o.diverse * o.inst_max = mul-le-mul_left (cost_of o.diverse) (omega (arith, n, few)) in
@@ -84,4 +82,4 @@ module _ (f : ElfFile) (o : Options) (every : ℕ) (sound : AreSoundOptions o) (
 
   -- ---- all blocks
   pub short : (blocks : List Block) → AreBlocks f o blocks → ((a : ℕ) → begins_at blocks a ≡ true → a % 4 ≡ 0) → (b : Block) → Among b blocks → block_steps o.diverse o.land (begins_at blocks) b ≤ own_most
-  short blocks are grain b m = few_of (begins_at blocks) b (leading f o some_most blocks are only_reached grain b m) (grain b.start (begins blocks b m))
+  short blocks are grain b m = few_of (begins_at blocks) b (leading f o (sound_most o sound) blocks are only_reached grain b m) (grain b.start (begins blocks b m))

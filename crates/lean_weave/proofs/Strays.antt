@@ -31,7 +31,7 @@ use Rattle.qed_model.proofs.Walked.{walk_on}
 use Rattle.qed_model.proofs.Wrapped.{difference}
 use Rattle.weave_core.specs.World.{World, Quiet}
 use Rattle.weave_core.specs.Blocks.{EndStands, Leaves}
-use Rattle.weave_core.specs.Kinds.{thirteen}
+use Rattle.weave_core.specs.Kinds.{originals}
 use Rattle.weave_core.specs.Weave.{Weave}
 use Rattle.weave_core.specs.WeaveLaws.{PiecesAt}
 use Rattle.weave_core.proofs.Indirect.{linked, linked_out, links_sets, look_walk, looked_keeps}
@@ -52,7 +52,8 @@ use Rattle.lean_weave.proofs.Rooted.{Rooted, tabled_of, rooted_run, rooted_at, s
 use Rattle.lean_weave.proofs.Sign.{apart, rest_of, fires}
 use Rattle.lean_weave.proofs.Turn.{turn_any, turned}
 use Rattle.lean_weave.proofs.Ways.{opposite_is, reads_behind}
-use Rattle.lean_weave.specs.Strayed.{IsInside, is_jump_reg, by_register, IsLost, Lost, steps_in, Stopped, Strayed}
+use Rattle.qed_model.specs.Admission.Leaders.{is_indirect}
+use Rattle.lean_weave.specs.Strayed.{IsInside, by_register, IsLost, Lost, steps_in, Stopped, Strayed}
 use Rattle.lean_weave.proofs.Drift.{Drifts, count, drifts_append, size_count, drifts_guards, drifts_guards_of, drifts_links, drifts_piece, Comes, comes_none, comes_one, comes_more, comes_with, comes_on, Astray, Before, over_of, drift, drift_from}
 
 -- ---- the signature
@@ -187,7 +188,7 @@ module _ (f g : Program) (w : World) (l : Lean) (blocks : List Block) (p : LeanP
   module _ (a x : ℕ) (low : a < 2 ^ 64) (ne : rest_of a x ≡ 0 → ⊥) where
     end_law : (u : State) (rest : List Item) → Astray w x u → Reads false w.code w.entry u.pc (compare ++ (check_sign a ++ rest)) → Over u 32
     end_law u rest k r =
-        over_on (Before w x (check_sign a ++ rest)) u 26 6 (drift w compare (drifts_guards thirteen) x u (check_sign a ++ rest) k r)
+        over_on (Before w x (check_sign a ++ rest)) u 26 6 (drift w compare (drifts_guards originals) x u (check_sign a ++ rest) k r)
         (λ y b. record {
           steps = 6;
           within = omega arith;
@@ -256,7 +257,7 @@ module _ (f g : Program) (w : World) (l : Lean) (blocks : List Block) (p : LeanP
 
     -- ---- of any end but a JALR
     stop_law :
-        (c : Class) (u : State) (i : Ins) (at : ℕ) → class_of i.kind ≡ c → is_jump_reg c ≡ false → Leaves c w leader i at → Astray w x u
+        (c : Class) (u : State) (i : Ins) (at : ℕ) → class_of i.kind ≡ c → is_indirect c ≡ false → Leaves c w leader i at → Astray w x u
         → Reads false w.code w.entry u.pc (leave_as (before_end w.form) (fall_to leader) c i a at) → Over u 32
     stop_law class.End u i at c stays h k r = end_law u (before_end w.form ++ (Plain i ∷ [])) k r
     stop_law class.Illegal u i at c stays h k r = over_more u 1 32 (omega arith) (at_illegal x u i k r.0 c)
@@ -432,7 +433,7 @@ module _ (f g : Program) (w : World) (l : Lean) (blocks : List Block) (p : LeanP
 
   -- of an end that goes on by a register
   leap_end :
-      (c : Class) (i : Ins) (a x at : ℕ) → class_of i.kind ≡ c → is_jump_reg c ≡ true → Leaves c w leader i at → a < 2 ^ 64 → (rest_of a x ≡ 0 → ⊥) → a % 2 ≡ 0 → x < 2 ^ 64 → x % 2 ≡ 0
+      (c : Class) (i : Ins) (a x at : ℕ) → class_of i.kind ≡ c → is_indirect c ≡ true → Leaves c w leader i at → a < 2 ^ 64 → (rest_of a x ≡ 0 → ⊥) → a % 2 ≡ 0 → x < 2 ^ 64 → x % 2 ≡ 0
       → (u : State) → Astray w x u → Rooted w u → Reads false w.code w.entry u.pc (leave_as (before_end w.form) (fall_to leader) c i a at) → Comes (IsLost blocks) u 32
   leap_end class.JumpReg i a x at c jumps h low ne even small even_x u b r reads = leap_law a x low ne even small even_x i at h.0 h.1 u b r reads
   leap_end class.End i a x at c jumps h low ne even small even_x u b r reads = absurd (false≢true jumps)

@@ -30,6 +30,7 @@ use Rattle.qed_model.specs.Weave.Forms.{form_of, mirror_of}
 use Rattle.qed_model.specs.Weave.Lean.{call_at, check, begin, leave}
 use Rattle.qed_model.specs.Weave.LeanCode.{lean_of, lean_items, items_with, start_at, Lean, worded, fall_words, Counting, counting_of}
 use Rattle.qed_model.specs.Weave.LeanBounds.{lean_bounds}
+use Rattle.qed_model.proofs.PieceLaws.{sound_most}
 use Rattle.qed_model.proofs.Fetches.{fetch_word, fetched_code, known_instruction}
 use Rattle.qed_model.proofs.PlacedWords.{size-append, IsInside, mark_inside, grain_of_sizes}
 use Rattle.weave_core.specs.World.{World}
@@ -106,9 +107,6 @@ module _ (f : ElfFile) (o : Options) (every : ℕ) (blocks : List Block) (t : Ar
 
   spans : InImage at base d refl top bounds.1 (data_ranges (image_of f))
   spans = there.spans_there f o t.sound t.file.loads t.admitted blocks t.are (data_ranges (image_of f)) (λ r m. m)
-
-  some_most : 1 ≤ o.inst_max
-  some_most = let a = t.sound.some in let b = t.sound.room in omega (arith, a, b)
 
   reached_only : o.entries ≡ entries.Reached
   reached_only = only_reached f o every t.sound t.lean
@@ -191,7 +189,7 @@ module _ (f : ElfFile) (o : Options) (every : ℕ) (blocks : List Block) (t : Ar
     block_near b m k =
         let n = b.start + 4 * body_length b.body in
         let a = start_at blocks b.end (b.start + 4 * body_length b.body) in
-        let own : start_at blocks b.end (b.start + 4 * body_length b.body) ≡ b.start = starts f o some_most blocks t.are reached_only grain (of.ascend f o t.sound t.file.loads t.admitted blocks t.are) b m in
+        let own : start_at blocks b.end (b.start + 4 * body_length b.body) ≡ b.start = starts f o (sound_most o t.sound) blocks t.are reached_only grain (of.ascend f o t.sound t.file.loads t.admitted blocks t.are) b m in
         let less = few_ahead b.start in
         let few = few_steps f o every t.sound t.lean in
         both_all near_code ((s placed_at).enter b.start) (body_of (s placed_at) b.body b.end b.start) (enter_near at base d refl top bounds.1 o.land (l.ticks b.start) b.start (l.most b.start) (distance_between (placed_at b.start + call_at o.land) l.check) k.0 k.1 (omega (arith, less, few)) (calls b.start (begins blocks b m)))
@@ -268,7 +266,7 @@ module _ (f : ElfFile) (o : Options) (every : ℕ) (blocks : List Block) (t : Ar
       -- ---- the blocks
       -- an instruction stands where one begins
       codes : (a : ℕ) → begins_at blocks a ≡ true → (i : Ins) × (w.source a ≡ Known i)
-      codes a e = let b = begun blocks a e in subst (λ x. (i : Ins) × (w.source x ≡ Known i)) b.2 (of_block b.0 (leading f o some_most blocks t.are reached_only grain b.0 b.1)) where
+      codes a e = let b = begun blocks a e in subst (λ x. (i : Ins) × (w.source x ≡ Known i)) b.2 (of_block b.0 (leading f o (sound_most o t.sound) blocks t.are reached_only grain b.0 b.1)) where
         known : (x : ℕ) (i : Ins) → instruction_at f x ≡ Some i → (i : Ins) × (w.source x ≡ Known i)
         known x i h = (i, known_instruction f (of.shape f o t.sound t.file.loads t.admitted blocks t.are) x i h)
 
@@ -285,7 +283,7 @@ module _ (f : ElfFile) (o : Options) (every : ℕ) (blocks : List Block) (t : Ar
       good : AllBlocksOf w (weave_of w l (begins_at blocks)) (begins_at blocks) blocks
       good =
           all_good w l (begins_at blocks) blocks
-          (λ b m. and_from _ _ (eq-eqb (start_at blocks b.end (b.start + 4 * body_length b.body)) b.start (starts f o some_most blocks t.are reached_only grain ascend b m)) (begins blocks b m))
+          (λ b m. and_from _ _ (eq-eqb (start_at blocks b.end (b.start + 4 * body_length b.body)) b.start (starts f o (sound_most o t.sound) blocks t.are reached_only grain ascend b m)) (begins blocks b m))
           (of.good f o t.sound t.file.loads t.admitted blocks t.are false true items words are_items reached aims (λ e. refl))
 
       -- ---- the plan
@@ -372,15 +370,15 @@ module _ (f : ElfFile) (o : Options) (every : ℕ) (blocks : List Block) (t : Ar
         good = good;
         begins = begins_entry;
         ticked = entry_ticks counting blocks f.entry refl;
-        order = in_order f o some_most blocks t.are reached_only grain ascend room;
+        order = in_order f o (sound_most o t.sound) blocks t.are reached_only grain ascend room;
         only = only;
         counts = all_counted counting l blocks (λ a. refl) (λ a. refl) refl refl ascend;
       } where
         -- a block ends far below 2^64
         room : (b : Block) → Among b blocks → b.start + 4 * body_length b.body + 4 < 2 ^ 64
         room b m =
-            let k = leading f o some_most blocks t.are reached_only grain b m in
-            let n = length_is f o some_most b k in
+            let k = leading f o (sound_most o t.sound) blocks t.are reached_only grain b m in
+            let n = length_is f o (sound_most o t.sound) b k in
             let code = of.known f o t.sound t.file.loads t.admitted blocks t.are in
             let from = code.below b.start k.leader.code in
             let low = stands b.start k.body k.stands (omega (arith, from)) in

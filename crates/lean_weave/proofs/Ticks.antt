@@ -13,36 +13,32 @@ use Rattle.qed_model.specs.declared.options.Options.{Options}
 use Rattle.qed_model.specs.Machine.Step.{target}
 use Rattle.qed_model.specs.Members.{Among}
 use Rattle.qed_model.specs.Weave.Blocks.{IsEntered, IsMarked}
-use Rattle.qed_model.specs.Weave.Sequences.{End, Falls, Stops, Block, body_length}
-use Rattle.qed_model.specs.Weave.LeanCode.{Lean, block_steps, leads_as, leads_on, leads_in, TickRow, has_tick, most_at, owed_at, owed_as, owed_behind, Counting, needs_tick, tick_rows}
+use Rattle.qed_model.specs.Weave.Sequences.{End, Falls, Stops, Block}
+use Rattle.qed_model.specs.Weave.LeanCode.{Lean, end_at, block_steps, leads_as, leads_on, leads_in, TickRow, has_tick, most_at, owed_at, owed_as, owed_behind, Counting, needs_tick, tick_rows}
 use Rattle.weave_core.proofs.Marks.{Ascend}
 use Rattle.lean_weave.specs.Woven.{owed, IsCounted, AreCounted}
 
-abbrev at_of : Block → ℕ
-at_of b = b.start + 4 * body_length b.body
-
 -- ---- what is owed behind an end
-owed_as_le : (rs : List TickRow) (c : Class) (i : Ins) (at t : ℕ) → leads_as c i at t ≡ true → owed_at rs t ≤ owed_as rs c i at
-owed_as_le rs class.Jump i at t e = same (target i at) (eqb-true (target i at) t e) where
-  same : (x : ℕ) → x ≡ t → owed_at rs t ≤ owed_at rs x
-  same x e = let k = ap (owed_at rs) e in omega (arith, k)
-owed_as_le rs class.Branch i at t e =
-    ⊎_elim
-    (λ x. let k = ap (owed_at rs) (eqb-true (target i at) t x) in let h = le-max_left (owed_at rs (target i at)) (owed_at rs ((at + 4) % 2 ^ 64)) in omega (arith, k, h))
-    (λ x. let k = ap (owed_at rs) (eqb-true ((at + 4) % 2 ^ 64) t x) in let h = le-max_right (owed_at rs (target i at)) (owed_at rs ((at + 4) % 2 ^ 64)) in omega (arith, k, h))
-    (or_cases (target i at == t) ((at + 4) % 2 ^ 64 == t) e)
-owed_as_le rs _ i at t e = absurd (false≢true e)
+module _ (owes : ℕ → ℕ) where
+  owed_as_le : (c : Class) (i : Ins) (at t : ℕ) → leads_as c i at t ≡ true → owes t ≤ owed_as owes c i at
+  owed_as_le class.Jump i at t e = let k = ap owes (eqb-true (target i at) t e) in omega (arith, k)
+  owed_as_le class.Branch i at t e =
+      ⊎_elim
+      (λ x. let k = ap owes (eqb-true (target i at) t x) in let h = le-max_left (owes (target i at)) (owes ((at + 4) % 2 ^ 64)) in omega (arith, k, h))
+      (λ x. let k = ap owes (eqb-true ((at + 4) % 2 ^ 64) t x) in let h = le-max_right (owes (target i at)) (owes ((at + 4) % 2 ^ 64)) in omega (arith, k, h))
+      (or_cases (target i at == t) ((at + 4) % 2 ^ 64 == t) e)
+  owed_as_le _ i at t e = absurd (false≢true e)
 
-owed_le : (rs : List TickRow) (e : End) (at t : ℕ) → leads_on e at t ≡ true → owed_at rs t ≤ owed_behind rs e at
-owed_le rs Falls at t e = let k = ap (owed_at rs) (eqb-true at t e) in omega (arith, k)
-owed_le rs (Stops i) at t e = owed_as_le rs (class_of i.kind) i at t e
+  owed_le : (e : End) (at t : ℕ) → leads_on e at t ≡ true → owes t ≤ owed_behind owes e at
+  owed_le Falls at t e = let k = ap owes (eqb-true at t e) in omega (arith, k)
+  owed_le (Stops i) at t e = owed_as_le (class_of i.kind) i at t e
 
 module _ (c : Counting) where
   abbrev rows : List Block → List TickRow
   rows bs = tick_rows c bs
 
   abbrev most_of : Block → List Block → ℕ
-  most_of b bs = block_steps c.diverse c.land c.leader b + owed_behind (rows bs) b.end (at_of b)
+  most_of b bs = block_steps c.diverse c.land c.leader b + owed_behind (owed_at (rows bs)) b.end (end_at b)
 
   -- ---- looking up
   -- at the first block
@@ -127,10 +123,10 @@ module _ (c : Counting) where
     by true x rest = small (ticks_here b bs) refl
     by false x rest = rest
 
-  pub few_behind : (bs : List Block) (e : End) (at : ℕ) → owed_behind (rows bs) e at ≤ c.room
+  pub few_behind : (bs : List Block) (e : End) (at : ℕ) → owed_behind (owed_at (rows bs)) e at ≤ c.room
   few_behind bs Falls at = few_owed bs at
   few_behind bs (Stops i) at = by (class_of i.kind) where
-    by : (k : Class) → owed_as (rows bs) k i at ≤ c.room
+    by : (k : Class) → owed_as (owed_at (rows bs)) k i at ≤ c.room
     by class.Jump = few_owed bs (target i at)
     by class.Branch = let x = few_owed bs (target i at) in let y = few_owed bs ((at + 4) % 2 ^ 64) in max_le (owed_at (rows bs) (target i at)) (owed_at (rows bs) ((at + 4) % 2 ^ 64)) x y where
       max_le : (m n : ℕ) → m ≤ c.room → n ≤ c.room → max m n ≤ c.room
@@ -145,7 +141,7 @@ module _ (c : Counting) where
     by true x rest =
         let is = most_first b bs a (eqb-true b.start a x) in
         let few = h b (inl refl) in
-        let more = few_behind bs b.end (at_of b) in
+        let more = few_behind bs b.end (end_at b) in
         omega (arith, is, few, more)
     by false x rest = let is = most_later b bs a (λ s. false≢true (sym x ∙ eq-eqb b.start a s)) in omega (arith, is, rest)
 
@@ -164,7 +160,7 @@ module _ (c : Counting) where
     rest_of low b bs h k = record {
       ticks_there = λ a le. k.ticks_there a (let s = h.0 in omega (arith, s, le)) ∙ tick_later b bs a (λ e. omega (arith, e, le));
       mosts_there = λ a le. k.mosts_there a (let s = h.0 in omega (arith, s, le)) ∙ most_later b bs a (λ e. omega (arith, e, le));
-      led = λ a lt m. led_here low b bs h k a (omega (arith, lt)) (or_right (leads_on b.end (at_of b) a) (leads_in bs a) m);
+      led = λ a lt m. led_here low b bs h k a (omega (arith, lt)) (or_right (leads_on b.end (end_at b) a) (leads_in bs a) m);
     }
 
     counted_at : (low : ℕ) (b : Block) (bs : List Block) → Ascend low (b ∷ bs) → Later low (b ∷ bs) → IsCounted l c.leader b
@@ -174,11 +170,11 @@ module _ (c : Counting) where
           omega (arith, is, same),
           λ t on.
               ⊎_elim
-              (λ le. let none : owed l t ≡ 0 = ap (λ x. cond {A = ℕ} x 0 (l.most t)) (led_here low b bs h k t le (or_left (leads_on b.end (at_of b) t) (leads_in bs t) on)) in omega (arith, is, same, none))
+              (λ le. let none : owed l t ≡ 0 = ap (λ x. cond {A = ℕ} x 0 (l.most t)) (led_here low b bs h k t le (or_left (leads_on b.end (end_at b) t) (leads_in bs t) on)) in omega (arith, is, same, none))
               (λ lt.
               let r = rest_of low b bs h k in
               let there : owed l t ≡ owed_at (rows bs) t = ap (λ x. cond {A = ℕ} x 0 (l.most t)) (r.ticks_there t lt) ∙ ap (λ n. cond {A = ℕ} (has_tick (rows bs) t) 0 n) (r.mosts_there t lt) in
-              let few = owed_le (rows bs) b.end (at_of b) t on in
+              let few = owed_le (owed_at (rows bs)) b.end (end_at b) t on in
               omega (arith, is, same, there, few))
               (or_before t b.start),
         ) where

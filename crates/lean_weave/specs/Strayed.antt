@@ -1,9 +1,8 @@
 -- What the lean form promises of a jump that goes astray: where the code of a block runs under the signature of another one, the run is over soon.
 use Rattle.std.specs.Prelude.{◌≡◌, ℕ, ◌+◌, ◌*◌, ◌/◌, ◌%◌, ◌^◌, ◌≤◌, ◌⊎◌, Bool, true, false, List}
 use Rattle.elf_types.specs.declared.file.ElfFile.{ElfFile}
-use Rattle.rv_isa.specs.declared.class.Class.{Class}
-use Rattle.rv_isa.specs.declared.class.Class.TheVariants as class
 use Rattle.rv_isa.specs.Kind.{class_of}
+use Rattle.qed_model.specs.Admission.Leaders.{is_indirect}
 use Rattle.qed_model.specs.Members.{Among}
 use Rattle.qed_model.specs.declared.machine.Outcome.{Outcome}
 use Rattle.qed_model.specs.declared.machine.Outcome.TheVariants.{Going, Fired}
@@ -29,14 +28,10 @@ pub record IsInside (s : Sequences) (entry : ℕ → ℕ) (b : Block) (q : ℕ) 
   pub within : 4 * words ≤ sum_of_sizes false (pieces_of s b.body b.start)
   pub there : q ≡ entry b.start + sum_of_sizes false (s.enter b.start) + 4 * words
 
-abbrev pub is_jump_reg : Class → Bool
-is_jump_reg class.JumpReg = true
-is_jump_reg _ = false
-
 -- a block that goes on where a register leads
 abbrev pub by_register : End → Bool
 by_register Falls = false
-by_register (Stops i) = is_jump_reg (class_of i.kind)
+by_register (Stops i) = is_indirect (class_of i.kind)
 
 -- ---- what follows
 abbrev pub IsOver : Outcome → Type 0

@@ -8,7 +8,7 @@ use Rattle.qed_model.specs.Machine.Step.{Known}
 use Rattle.qed_model.specs.Weave.Bounds.{end_bound, cost_of, entry_steps}
 use Rattle.qed_model.specs.Weave.Pieces.{is_run}
 use Rattle.qed_model.specs.Weave.Placed.{sum_of_sizes}
-use Rattle.qed_model.specs.Weave.Sequences.{Reads, End, Falls, Stops, Block, body_length}
+use Rattle.qed_model.specs.Weave.Sequences.{Reads, End, Falls, Stops, Block}
 use Rattle.qed_model.specs.Machine.Program.{Program}
 use Rattle.qed_model.specs.Promise.Kept.{Kept}
 use Rattle.qed_model.specs.Promise.Landed.{IsEntry, Landed}
@@ -20,7 +20,7 @@ use Rattle.qed_model.specs.Promise.Clean.{Clean}
 use Rattle.qed_model.specs.Promise.Closed.{is_branch}
 use Rattle.qed_model.specs.declared.bounds.Bounds.{Bounds}
 use Rattle.qed_model.specs.Weave.Lean.{call_at, check, begin}
-use Rattle.qed_model.specs.Weave.LeanCode.{Lean, fall_to, sequences, worded, block_steps, leads_on}
+use Rattle.qed_model.specs.Weave.LeanCode.{Lean, fall_to, sequences, worded, block_steps, end_at, leads_on}
 use Rattle.qed_model.specs.Weave.LeanBounds.{check_bound, period, register_bound, word_bound}
 use Rattle.weave_core.specs.Describes.{Describes}
 use Rattle.weave_core.specs.WeavePromise.{AllBlocksOf, OnlyCode}
@@ -86,7 +86,7 @@ begins_with (b ∷ bs) t = b.start ≡ t
 -- where a block goes on at a leader, the next block begins there
 abbrev pub InOrder : (ℕ → Bool) → List Block → Type 0
 InOrder leader [] = Unit {0}
-InOrder leader (b ∷ bs) = ((t : ℕ) → goes_on b.end (b.start + 4 * body_length b.body) t ≡ true → leader t ≡ true → begins_with bs t) × InOrder leader bs
+InOrder leader (b ∷ bs) = ((t : ℕ) → goes_on b.end (end_at b) t ≡ true → leader t ≡ true → begins_with bs t) × InOrder leader bs
 
 -- ---- what ticks count
 -- what the tick before an entry has counted of the steps behind it: none, where it has its own
@@ -97,7 +97,7 @@ owed l t = cond (l.ticks t) 0 (l.most t)
 abbrev pub IsCounted : Lean → (ℕ → Bool) → Block → Type 0
 IsCounted l leader b =
     (block_steps l.diverse l.land leader b ≤ l.most b.start)
-    × ((t : ℕ) → leads_on b.end (b.start + 4 * body_length b.body) t ≡ true → block_steps l.diverse l.land leader b + owed l t ≤ l.most b.start)
+    × ((t : ℕ) → leads_on b.end (end_at b) t ≡ true → block_steps l.diverse l.land leader b + owed l t ≤ l.most b.start)
 
 abbrev pub AreCounted : Lean → (ℕ → Bool) → List Block → Type 0
 AreCounted l leader [] = Unit {0}

@@ -13,7 +13,7 @@ use Rattle.qed_model.specs.Members.{Among}
 use Rattle.qed_model.proofs.ApartLaws.{alone, fit_among}
 use Rattle.qed_model.proofs.CellsAmong.{has_from, among_agreed, by_bytes}
 use Rattle.qed_model.proofs.ImageLaws.{among_load}
-use Rattle.listing.specs.Homes.{holds_range, IsHome, image_word, word_in}
+use Rattle.listing.specs.Homes.{holds_range, IsHome, image_word, segment_word}
 use Rattle.listing.specs.Listing.{lines}
 use Rattle.listing.specs.Addresses.{from_on, up, down, words_of}
 use Rattle.listing.proofs.Lines.{same_lines}
@@ -26,7 +26,7 @@ byte_is ls apart l q k m from to e =
     ∙ sym (ap byte_in (among_agreed ls q (cell_at l q) (λ t i g. ap (λ x. cell_at x q) (alone ls apart t l q i m g h)) l m h))
 
 -- ---- a word
-word_is : (ls : List LoadSegment) → AreApart ls → (l : LoadSegment) (a : ℕ) → Among l ls → l.address ≤ a → a + 4 ≤ l.address + l.size → word_in l a ≡ image_word ls a
+word_is : (ls : List LoadSegment) → AreApart ls → (l : LoadSegment) (a : ℕ) → Among l ls → l.address ≤ a → a + 4 ≤ l.address + l.size → segment_word l a ≡ image_word ls a
 word_is ls apart l a m from to =
     let n = by_bytes ls a in
     let b0 = byte_is ls apart l a (a - l.address) m from (omega (arith, to)) refl in
@@ -38,15 +38,15 @@ word_is ls apart l a m from to =
 -- the lines of words of a segment
 pub home_lines :
     (ss : List Segment) (r : ℕ × ℕ) (s : Segment) (start count : ℕ) → AreApart (load_segments ss) → IsHome ss r s → s.address ≤ start → start + 4 * count ≤ s.address + s.memory
-    → lines (word_in (load_segment s)) (from_on start count) ≡ lines (image_word (load_segments ss)) (from_on start count)
+    → lines (segment_word (load_segment s)) (from_on start count) ≡ lines (image_word (load_segments ss)) (from_on start count)
 home_lines ss r s start count apart h from to =
-    same_lines (word_in (load_segment s)) (image_word (load_segments ss)) start count
+    same_lines (segment_word (load_segment s)) (image_word (load_segments ss)) start count
     (λ k lt. word_is (load_segments ss) apart (load_segment s) (start + 4 * k) (among_of (load_segment s) (load_segments ss) h.loaded) (omega (arith, from)) (omega (arith, to, lt)))
 
 -- the lines of the words of a range that lies in it
 pub range_lines :
     (ss : List Segment) (r : ℕ × ℕ) (s : Segment) (first start end done : ℕ) (text more : List ℕ) → AreApart (load_segments ss) → IsHome ss r s → first ≡ up r.0 → start ≡ max first done
-    → end ≡ down r.1 → start < end → more ≡ text ++ lines (word_in (load_segment s)) (from_on start ((end - start) / 4))
+    → end ≡ down r.1 → start < end → more ≡ text ++ lines (segment_word (load_segment s)) (from_on start ((end - start) / 4))
     → more ≡ text ++ lines (image_word (load_segments ss)) (words_of done r)
 range_lines ss r s first start end done text more apart h f b e lt m =
     let w = image_word (load_segments ss) in

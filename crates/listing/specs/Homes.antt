@@ -1,9 +1,10 @@
 -- The segments in which code ranges lie, and their words.
-use Rattle.std.specs.Prelude.{◌≡◌, ℕ, ◌+◌, ◌-◌, ◌*◌, ◌^◌, ◌≤◌, ◌&&◌, ◌||◌, nat_le, Bool, true, false, List, [], ◌∷◌, slice_index, Contains}
+use Rattle.std.specs.Prelude.{◌≡◌, ℕ, ◌+◌, ◌-◌, ◌^◌, ◌≤◌, ◌&&◌, ◌||◌, nat_le, Bool, true, false, List, [], ◌∷◌, Contains}
 use Rattle.elf_types.specs.declared.file.Segment.{Segment}
 use Rattle.qed_model.specs.Machine.Program.{LoadSegment}
 use Rattle.qed_model.specs.Machine.Loading.{load_segment, load_segments}
 use Rattle.qed_model.specs.Machine.Cells.{number_among}
+use Rattle.code_ranges.specs.Words.{word_in}
 
 -- a range, by its first address and the one behind its last, lies wholly inside a segment
 abbrev pub holds_range : LoadSegment → ℕ × ℕ → Bool
@@ -29,5 +30,5 @@ abbrev pub image_word : List LoadSegment → ℕ → ℕ
 image_word ls a = number_among ls a 4
 
 -- the word that a segment has at an address: its bytes from there on, and zeros behind them
-abbrev pub word_in : LoadSegment → ℕ → ℕ
-word_in l a = let k = a - l.address in slice_index l.bytes k + 256 * (slice_index l.bytes (k + 1) + 256 * (slice_index l.bytes (k + 2) + 256 * slice_index l.bytes (k + 3)))
+abbrev pub segment_word : LoadSegment → ℕ → ℕ
+segment_word l a = word_in l.bytes (a - l.address)

@@ -1,11 +1,11 @@
 //! The segments that have the code words.
-ghost use Rattle.std.specs.Prelude.{◌≡◌, ◌+◌, ◌≤◌, ◌^◌, true, false, Contains, MatchOption, slice_index};
+ghost use Rattle.std.specs.Prelude.{◌≡◌, ◌+◌, ◌≤◌, ◌^◌, true, false, Contains, MatchOption};
 ghost use Rattle.qed_model.specs.Machine.Apart.{AllFitMemory};
 ghost use Rattle.qed_model.specs.Machine.Loading.{load_segment, load_segments};
 ghost use Rattle.code_ranges.specs.Ranges.{span};
-ghost use Rattle.listing.specs.Homes.{holds_range, is_held, IsHeld, IsHome, word_in};
+ghost use Rattle.listing.specs.Homes.{holds_range, is_held, IsHeld, IsHome, segment_word};
 
-use code_ranges::CodeRange;
+use code_ranges::{CodeRange, word_in};
 use elf_types::Segment;
 
 /// Whether a range lies wholly inside a segment.
@@ -39,25 +39,14 @@ pub fn home<'a>(segments: &'a [Segment], range: CodeRange) -> &'a Segment
     segment
 }
 
-/// The byte at a place, where zeros follow the bytes.
-fn byte_at(bytes: &[u8], place: usize) -> u8
-    ensures { result ≡ slice_index bytes.now place }
-{
-    if place < bytes.len() { bytes[place] } else { 0 }
-}
-
 /// The word that a segment has at an address.
-pub fn word_in(segment: &Segment, address: u64) -> u32
+pub fn segment_word(segment: &Segment, address: u64) -> u32
     requires above { segment.now.address ≤ address }
     requires small { address + 4 ≤ 2 ^ 64 }
-    ensures { result ≡ word_in (load_segment segment.now) address }
+    ensures { result ≡ segment_word (load_segment segment.now) address }
 {
-    let place = (address - segment.address) as usize;
-    let bytes = segment.bytes.as_slice();
-    let first = byte_at(bytes, place);
-    let second = byte_at(bytes, place + 1);
-    let third = byte_at(bytes, place + 2);
-    let fourth = byte_at(bytes, place + 3);
-    u32::from(first)
-        + 256 * (u32::from(second) + 256 * (u32::from(third) + 256 * u32::from(fourth)))
+    word_in(
+        segment.bytes.as_slice(),
+        (address - segment.address) as usize,
+    )
 }

@@ -4,11 +4,11 @@ ghost use Rattle.elf_types.specs.declared.file.Segment.{Segment as ElfSegment};
 ghost use Rattle.qed_model.specs.Machine.Apart.{AllFitMemory, AreApart};
 ghost use Rattle.qed_model.specs.Machine.Loading.{load_segment, load_segments};
 ghost use Rattle.code_ranges.specs.Ranges.{span, spans};
-ghost use Rattle.listing.specs.Homes.{IsHeld, IsHome, image_word, word_in};
+ghost use Rattle.listing.specs.Homes.{IsHeld, IsHome, image_word, segment_word};
 ghost use Rattle.listing.specs.Listing.{lines, IsListing};
 ghost use Rattle.listing.specs.Addresses.{up, down, from_on, words_of, addresses};
 
-use crate::home::{home, word_in};
+use crate::home::{home, segment_word};
 use crate::line::push_line;
 use code_ranges::{CodeRange, code_ranges};
 use elf_types::{Bytes, ElfFile, Segment};
@@ -24,11 +24,11 @@ fn push_words(
 ) -> Result<(), AllocError>
     requires above { segment.now.address ≤ start }
     requires small { start + 4 * count ≤ 2 ^ 64 }
-    ensures { OnOk result (text.new.items ≡ text.old.items ++ lines (word_in (load_segment segment.now)) (from_on start count)) }
+    ensures { OnOk result (text.new.items ≡ text.old.items ++ lines (segment_word (load_segment segment.now)) (from_on start count)) }
 {
     for number in 0..count {
         let address = start + 4 * number;
-        push_line(alloc, text, address, word_in(segment, address))?;
+        push_line(alloc, text, address, segment_word(segment, address))?;
     }
     Ok(())
 }

@@ -2,17 +2,17 @@
 use Rattle.std.proofs.Common.{◌≡◌, ℕ, zero, suc, ◌+◌, ◌-◌, ◌%◌, ◌^◌, ◌<◌, ◌≤◌, ◌⊎◌, inl, inr, ⊎_elim, List, length, sym, ap, ◌∙◌, subst, arith}
 use Rattle.std.specs.Prelude.{pos}
 use Rattle.std.proofs.lemmas.Bool.{cases_lt}
-use Rattle.qed_model.specs.Admission.DataRanges.{word_count}
+use Rattle.qed_model.specs.Admission.DataRanges.{word_count, word_address}
 use Rattle.qed_model.specs.Promise.Kept.{after_output}
 use Rattle.qed_model.proofs.Walk.{run-more}
 use Rattle.weave_core.specs.World.{World, words_on, Going, Ended, Program, start, State, Fetched, reg, place, run}
-use Rattle.weave_core.specs.Kinds.{thirteen}
+use Rattle.weave_core.specs.Kinds.{originals}
 use Rattle.weave_core.specs.Lock.{first_load, ComparesFrom}
 use Rattle.weave_core.specs.WeaveLaws.{Visits, Swept}
 use Rattle.weave_core.proofs.Trace.{run-ended}
 use Rattle.weave_core.proofs.Values.{going_ended}
 use Rattle.lockstep.proofs.Sets.{word_below}
-use Rattle.lockstep.proofs.Numbered.{nth_word, words_are, advance_below, word_small, some_spans, AtNumber, round_of, round_some, round_none}
+use Rattle.lockstep.proofs.Numbered.{words_are, advance_below, word_small, some_spans, AtNumber, round_of, round_some, round_none}
 use Rattle.lockstep.proofs.Trace.{advance, Sizes, VisitIn, NextSteps, SweptEnd}
 
 -- the place of the first load is the cursor
@@ -103,13 +103,13 @@ module _ (g : Program) (w : World) (regs : List ℕ) where
   pub visits_in :
       (p m n round i j y : ℕ) → m ≤ n → ((k : ℕ) → k < m → (after_output g regs (p + k)).outcome ≡ Going)
       → ((j : ℕ) → j < round → 1 ≤ length w.form.spans → Visits w (after_output g regs p) m (words_on w.form.spans j y)) → AtNumber w.form.spans i y
-      → j < round_of (word_count w.form.spans) round → VisitIn w.code (start g regs) p (p + n) (nth_word w.form.spans (advance (word_count w.form.spans) j i))
+      → j < round_of (word_count w.form.spans) round → VisitIn w.code (start g regs) p (p + n) (word_address w.form.spans (advance (word_count w.form.spans) j i))
   visits_in p m n round i j y le going visits (inr none) h = let k = round_none (word_count w.form.spans) round none in absurd (omega (arith, h, k))
   visits_in p m n round i j y le going visits (inl a) h =
       let one : 1 ≤ word_count w.form.spans = omega (arith, a.0) in
       let k = round_some (word_count w.form.spans) round one in
-      let word : words_on w.form.spans j y ≡ nth_word w.form.spans (advance (word_count w.form.spans) j i) = ap (words_on w.form.spans j) a.1 ∙ words_are w.base w.form.spans j i w.spans_good a.0 in
-      visit_in p m n (nth_word w.form.spans (advance (word_count w.form.spans) j i)) le going
+      let word : words_on w.form.spans j y ≡ word_address w.form.spans (advance (word_count w.form.spans) j i) = ap (words_on w.form.spans j) a.1 ∙ words_are w.base w.form.spans j i w.spans_good a.0 in
+      visit_in p m n (word_address w.form.spans (advance (word_count w.form.spans) j i)) le going
       (subst (Visits w (after_output g regs p) m) word (visits j (omega (arith, h, k)) (some_spans w.form.spans one)))
       (word_small w (advance (word_count w.form.spans) j i) (advance_below (word_count w.form.spans) j i a.0))
 
@@ -123,5 +123,5 @@ module _ (g : Program) (w : World) (regs : List ℕ) where
     visits = λ a h.
         let low = word_below w.form.spans a (w.base + w.distance) w.spans_low h in
         visit_in p first first a (omega arith) (λ k l. before (p + k) (omega (arith, l, c.exact, is))) (c.visits a h) (omega (arith, low, w.layout.top));
-    words = subst (λ y. ComparesFrom w.code y.pc thirteen) (sym (run-more (start g regs) p first)) c.compares;
+    words = subst (λ y. ComparesFrom w.code y.pc originals) (sym (run-more (start g regs) p first)) c.compares;
   }

@@ -1,11 +1,11 @@
 -- Visits in a row reach every data word, by the numbers of the words.
 use Rattle.std.proofs.Common.{◌≡◌, ◌+◌, ◌*◌, ◌/◌, ◌%◌, sym, ap, ◌∙◌, arith}
-use Rattle.qed_model.specs.Admission.DataRanges.{word_count}
+use Rattle.qed_model.specs.Admission.DataRanges.{word_count, word_address}
 use Rattle.qed_model.specs.Weave.Pieces.{piece_count}
 use Rattle.weave_core.specs.World.{words_on}
 use Rattle.lockstep.specs.Rounds.{VisitsReachAll}
 use Rattle.lockstep.proofs.Countdown.{advance-add, reaches, round_whole}
-use Rattle.lockstep.proofs.Numbered.{nth_word, number_of, words_are, advance_below}
+use Rattle.lockstep.proofs.Numbered.{number_of, words_are, advance_below}
 use Rattle.lockstep.proofs.Trace.{advance}
 use Rattle.std.proofs.lemmas.Nat.{div_below}
 
@@ -27,6 +27,6 @@ visits_reach_all base spans round x a good some dx da =
           ap (λ y. words_on spans (s.count % round) (words_on spans (s.count / round * round) y)) (sym i.is)
           ∙ ap (words_on spans (s.count % round)) (words_are base spans (s.count / round * round) i.index good i.below)
           ∙ words_are base spans (s.count % round) m good (advance_below w (s.count / round * round) i.index i.below)
-          ∙ ap (nth_word spans) (sym (advance-add w (s.count / round * round) (s.count % round) i.index) ∙ ap (λ n. advance w n i.index) split ∙ s.there)
+          ∙ ap (word_address spans) (sym (advance-add w (s.count / round * round) (s.count % round) i.index) ∙ ap (λ n. advance w n i.index) split ∙ s.there)
           ∙ j.is;
     }

@@ -2,7 +2,7 @@
 use Rattle.std.specs.Prelude.{List, ◌≡◌, ℕ, zero, suc, ◌+◌, ◌<◌, ◌≤◌, ◌⊎◌, cond, ◌==◌, ℤ}
 use Rattle.qed_model.specs.Promise.Kept.{after_output}
 use Rattle.qed_model.specs.Promise.Changed.{IsDataWord}
-use Rattle.weave_core.specs.Kinds.{thirteen}
+use Rattle.weave_core.specs.Kinds.{originals}
 use Rattle.weave_core.specs.Lock.{visit_load, ComparesFrom}
 use Rattle.weave_core.specs.World.{World, Going, Ended, State, place, Fetched, Known, run, Program, start as from_regs}
 use Rattle.lockstep.specs.Settling.{AtCompare}
@@ -76,4 +76,4 @@ pub record SweptEnd (w : World) (g : Program) (regs : List ℕ) (sweep_steps e :
   pub start : ℕ
   pub exact : start + (sweep_steps + 14) ≡ e
   pub visits : (a : ℕ) → IsDataWord w.form.spans a → VisitIn w.code (from_regs g regs) start (start + sweep_steps) a
-  pub words : ComparesFrom w.code (after_output g regs (start + sweep_steps)).pc thirteen
+  pub words : ComparesFrom w.code (after_output g regs (start + sweep_steps)).pc originals

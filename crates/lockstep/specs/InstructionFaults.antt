@@ -2,13 +2,17 @@
 use Rattle.std.specs.Prelude.{◌≡◌, ◌⊎◌, ℕ, ◌+◌, ◌-◌, ◌*◌, ◌/◌, ◌≤◌, Bool, List, Some}
 use Rattle.rv_isa.specs.declared.class.Class.TheVariants as class
 use Rattle.qed_model.specs.declared.bounds.Bounds.{Bounds}
-use Rattle.weave_core.specs.World.{Going, Ended, Fired, put, Program, AreStartRegs, State, moved, stored, next_pc, place, Known, next, run, Ins, class_of, set_reg, width_of}
+use Rattle.qed_model.specs.declared.machine.Outcome.TheVariants.{Going, Ended, Fired}
 use Rattle.qed_model.specs.declared.options.Options.{Options}
 use Rattle.qed_model.specs.declared.plan.Plan.{Plan}
 use Rattle.qed_model.specs.Admission.DataRanges.{data_ranges, ElfFile}
 use Rattle.qed_model.specs.Admission.Reached.{AreReached}
 use Rattle.qed_model.specs.Elf.FileRead.{file_read}
 use Rattle.qed_model.specs.Machine.Loading.{loaded_file}
+use Rattle.qed_model.specs.Machine.Memory.{put}
+use Rattle.qed_model.specs.Machine.Program.{Program, AreStartRegs}
+use Rattle.qed_model.specs.Machine.Step.{State, moved, stored, next_pc, place, Known, next, run, Ins, class_of, set_reg}
+use Rattle.qed_model.specs.Machine.Values.{width_of}
 use Rattle.qed_model.specs.Promise.Caught.{Same}
 use Rattle.qed_model.specs.Promise.Changed.{IsDataWord}
 use Rattle.qed_model.specs.Promise.Kept.{after_output, Steady}

@@ -7,7 +7,7 @@ use Rattle.weave_core.specs.World.{GoodSpans, words_on}
 
 -- of as many visits as all data words need, the first of which begins at the word x, one looks at the word a; each looks at `round` words
 -- one after the other, and the next begins behind them
-pub record IsReached (spans : List (ℕ × ℕ)) (round x a : ℕ) : Type 0 where
+pub record IsVisited (spans : List (ℕ × ℕ)) (round x a : ℕ) : Type 0 where
   pub visit : ℕ
   pub few : visit < piece_count round (word_count spans)
   pub word : ℕ
@@ -15,4 +15,4 @@ pub record IsReached (spans : List (ℕ × ℕ)) (round x a : ℕ) : Type 0 wher
   pub there : words_on spans word (words_on spans (visit * round) x) ≡ a
 
 abbrev pub VisitsReachAll : Type 0
-VisitsReachAll = (base : ℕ) (spans : List (ℕ × ℕ)) (round x a : ℕ) → GoodSpans base spans → 1 ≤ round → IsDataWord spans x → IsDataWord spans a → IsReached spans round x a
+VisitsReachAll = (base : ℕ) (spans : List (ℕ × ℕ)) (round x a : ℕ) → GoodSpans base spans → 1 ≤ round → IsDataWord spans x → IsDataWord spans a → IsVisited spans round x a

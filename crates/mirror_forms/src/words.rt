@@ -5,9 +5,9 @@ ghost use Rattle.rv_isa.specs.Operation.{pair as pair_of};
 ghost use Rattle.mirror_forms.specs.Low.{IsLow};
 ghost use Rattle.qed_model.specs.Weave.Diverse.{X0, RD, RS1, RS2, X30, X31, op, opi, part_items, parts_of, lui_high as high_of, lui_low as low_of};
 
-use passes::{plain, register};
+use passes::plain;
 use qed_model::Item;
-use rv_isa::{Ins, Kind, Reg};
+use rv_isa::{Ins, Kind, Reg, register};
 
 /// The pair of a register up to x13.
 fn pair(r: Reg) -> Reg

@@ -1,8 +1,7 @@
 -- The image of a test: its segments share no address, and which of them lie in a data range.
-use Rattle.std.proofs.Common.{◌≡◌, ⊎_elim, ℕ, suc, ◌+◌, ◌<◌, ◌≤◌, Bool, true, false, cond, ◌&&◌, not, List, [], ◌∷◌, length, map, refl, sym, ap, ◌∙◌, subst, arith}
+use Rattle.std.proofs.Common.{◌≡◌, ⊎_elim, ℕ, suc, ◌+◌, ◌<◌, ◌≤◌, Bool, true, false, cond, ◌&&◌, List, [], ◌∷◌, length, map, refl, sym, ◌∙◌, subst, arith}
 use Rattle.std.specs.Prelude.{nat_lt}
-use Rattle.std.specs.List.{list_any}
-use Rattle.std.proofs.lemmas.Bool.{false_from_ne_true, lt-ltb, and_from, false≢true}
+use Rattle.std.proofs.lemmas.Bool.{false_from_ne_true}
 use Rattle.std.proofs.lemmas.Bool.Decides.{nat_tests}
 use Rattle.elf_types.specs.declared.file.Segment.{Segment}
 use Rattle.elf_types.specs.Abi.{is_load}
@@ -10,16 +9,17 @@ use Rattle.qed_model.specs.declared.range.Range.{Range}
 use Rattle.qed_model.specs.Machine.Apart.{FitsMemory, AreApart, share}
 use Rattle.qed_model.specs.Machine.Program.{LoadSegment}
 use Rattle.qed_model.specs.Machine.Loading.{load_segment, load_segments}
-use Rattle.qed_model.specs.Admission.Terms.{is_in_image, image_segments}
-use Rattle.qed_model.specs.Admission.DataRanges.{range_of, rounded, do_meet, is_data, data_segments, data_parts, data_ranges, is_in, is_in_any}
-use Rattle.qed_model.specs.Admission.Rules.{segment_range, is_mixed}
-use Rattle.qed_model.proofs.Among.{among-filter, among-kept, among-map, any_passing, none_passing, place_of}
+use Rattle.qed_model.specs.Admission.Terms.{image_segments}
+use Rattle.qed_model.specs.Admission.DataRanges.{range_of, is_data, data_ranges, is_in, is_in_any}
+use Rattle.qed_model.specs.Admission.Rules.{is_mixed}
+use Rattle.qed_model.proofs.Among.{among-map, any_passing, none_passing, place_of}
 use Rattle.qed_model.specs.Members.{Among, Pairs}
 use Rattle.qed_model.proofs.ApartLaws.{fit_among}
 use Rattle.qed_model.proofs.Fetches.{none_passes}
 use Rattle.qed_model.proofs.Pairs.{every_all, pairs_all, every_among, among_every}
-use Rattle.qed_model.proofs.DataRangesLaws.{AllRoom, Spaced, spaced_data, spaced_from, in_from, in_parts, one_range, Inside, inside-joined}
+use Rattle.qed_model.proofs.DataRangesLaws.{AllRoom, Spaced, spaced_data, spaced_from, in_from}
 use Rattle.qed_model.proofs.ImageLaws.{among_load, image_parts, image_room}
+use Rattle.qed_model.proofs.RangeSegments.{data_inside, not_mixed}
 use Rattle.output_file.specs.Images.{AreSpaced, IsImage}
 
 -- ---- segments apart
@@ -100,34 +100,12 @@ module _ (image : List Segment) (ranges : List Range) (is : IsImage image ranges
   pub are_spaced : AreSpaced ranges
   are_spaced = spaced_ranges 0 ranges (subst (Spaced 0) (sym is.spans) spaced)
 
-  -- ---- which segments lie in a range
-  -- one that is no data segment has no byte there
-  pub not_mixed : (s : Segment) (r : ℕ × ℕ) (q : ℕ) → Among s image → is_data image s ≡ false → Among r (data_ranges image) → s.address ≤ q → q < s.address + s.memory → is_in r q ≡ true → ⊥
-  not_mixed s r q m d n a b i =
-      let p = parts s m in
-      let y = in_parts r q i in
-      let meets : do_meet (segment_range s) r ≡ true = and_from (nat_lt s.address r.1) (nat_lt r.0 (s.address + s.memory)) (lt-ltb s.address r.1 (omega (arith, a, y.1))) (lt-ltb r.0 (s.address + s.memory) (omega (arith, b, y.0))) in
-      let any : list_any (do_meet (segment_range s)) (data_ranges image) ≡ true = any_passing (do_meet (segment_range s)) r (data_ranges image) n meets in
-      let kept : is_in_image s ≡ true = (among-kept is_in_image s is.segments (subst (λ ss. Among s ss) is.image_is m)).1 in
-      false≢true (sym (unmixed s m) ∙ and_from (is_in_image s) (not (is_data image s) && list_any (do_meet (segment_range s)) (data_ranges image)) kept (and_from (not (is_data image s)) (list_any (do_meet (segment_range s)) (data_ranges image)) (ap not d) any))
-
-  data_inside : (s : Segment) → Among s image → is_data image s ≡ true → Inside (data_ranges image) (rounded s)
-  data_inside s m d = inside-joined (data_parts image) (rounded s) (among-map rounded s (data_segments image) (among-filter (is_data image) s image d m))
-
-  -- a data segment lies in the range with which it shares an address
-  pub data_range : (s : Segment) (r : ℕ × ℕ) (q : ℕ) → Among s image → is_data image s ≡ true → Among r (data_ranges image) → s.address ≤ q → q < s.address + s.memory → is_in r q ≡ true → (r.0 ≤ s.address) × (s.address + s.memory ≤ r.1)
-  data_range s r q m d n a b i =
-      let x = data_inside s m d in
-      let here : is_in x.range q ≡ true = in_from x.range q (omega (arith, x.from, a)) (omega (arith, x.to, b)) in
-      let same : x.range ≡ r = one_range 0 (data_ranges image) x.range r q spaced x.among n here i in
-      subst (λ t. (t.0 ≤ s.address) × (s.address + s.memory ≤ t.1)) same (omega (arith, x.from), omega (arith, x.to))
-
   -- the data segments are those that begin in a range
   pub data_at : (s : Segment) → Among s image → is_in_any (data_ranges image) s.address ≡ is_data image s
   data_at s m = by (is_data image s) refl where
     by : (b : Bool) → is_data image s ≡ b → is_in_any (data_ranges image) s.address ≡ b
     by true d =
-        let x = data_inside s m d in
+        let x = data_inside image s m d in
         let p = parts s m in
         any_passing (λ r. is_in r s.address) x.range (data_ranges image) x.among (in_from x.range s.address (omega (arith, x.from)) (omega (arith, x.to, p.2)))
-    by false d = none_passing (λ r. is_in r s.address) (data_ranges image) (λ r n. false_from_ne_true (is_in r s.address) (λ i. let p = parts s m in not_mixed s r s.address m d n (omega arith) (omega (arith, p.2)) i))
+    by false d = none_passing (λ r. is_in r s.address) (data_ranges image) (λ r n. false_from_ne_true (is_in r s.address) (λ i. let p = parts s m in not_mixed image is.segments is.image_is unmixed s r s.address m d n (omega arith) (omega (arith, p.2)) i))

@@ -19,11 +19,11 @@ use Rattle.qed_model.specs.Members.{Among}
 use Rattle.qed_model.proofs.CellsAmong.{has_from, has_parts, found_among, among_agreed}
 use Rattle.qed_model.proofs.DataRangesLaws.{spaced_from, in_from, in_parts}
 use Rattle.qed_model.proofs.ImageLaws.{among_load, load_source}
-use Rattle.qed_model.proofs.RangeSegments.{index_past, index_each, file_end_from, file_end_most, file_end_step}
+use Rattle.qed_model.proofs.RangeSegments.{data_range, not_mixed, index_past, index_each, file_end_from, file_end_most, file_end_step}
 use Rattle.output_file.specs.Images.{IsImage}
 use Rattle.output_file.specs.Laid.{laid}
 use Rattle.output_file.specs.Runs.{run_of, has_bytes, placed_bytes, run_bytes, run_segment}
-use Rattle.output_file.proofs.Images.{parts, sized, alone, spaced, not_mixed, data_range}
+use Rattle.output_file.proofs.Images.{parts, unmixed, sized, alone, spaced}
 use Rattle.output_file.proofs.Orders.{Rise, rise_from, rise-filter}
 
 -- ---- bytes that are laid
@@ -168,7 +168,7 @@ module _ (image : List Segment) (ranges : List Range) (is : IsImage image ranges
   begins s m = let p = among-kept (λ t. is_in r t.address) s ordered m in (only s p.0, p.1)
 
   is_data_here : (s : Segment) → Among s image → is_in r s.address ≡ true → is_data image s ≡ true
-  is_data_here s m i = true_from_ne_false (is_data image s) (λ d. let p = parts image ranges is s m in not_mixed image ranges is s r s.address m d member (omega arith) (omega (arith, p.2)) i)
+  is_data_here s m i = true_from_ne_false (is_data image s) (λ d. let p = parts image ranges is s m in not_mixed image is.segments is.image_is (unmixed image ranges is) s r s.address m d member (omega arith) (omega (arith, p.2)) i)
 
   run_data : (s : Segment) → Among s run → Among s (data_in image r)
   run_data s m = let p = begins s m in among-filter (λ t. is_in r t.address) s (data_segments image) p.1 (among-filter (is_data image) s image (is_data_here s p.0 p.1) p.0)
@@ -233,7 +233,7 @@ module _ (image : List Segment) (ranges : List Range) (is : IsImage image ranges
   end_low = end_below r.0 r.1 (data_in image r) (omega (arith, some)) (λ t m l.
       let p = begins t (data_run t m) in
       let q = parts image ranges is t p.0 in
-      let e = data_range image ranges is t r t.address p.0 (is_data_here t p.0 p.1) member (omega arith) (omega (arith, q.2)) p.1 in
+      let e = data_range image is.segments is.image_is (unmixed image ranges is) t r t.address p.0 (is_data_here t p.0 p.1) member (omega arith) (omega (arith, q.2)) p.1 in
       let s = sized image ranges is t p.0 in
       omega (arith, e.1, s))
 
@@ -266,8 +266,8 @@ module _ (image : List Segment) (ranges : List Range) (is : IsImage image ranges
 
           in_run : (x : Segment) → Among x image → x.address ≤ q → q < x.address + x.memory → Among x run
           in_run x m a b =
-              let d = true_from_ne_false (is_data image x) (λ n. not_mixed image ranges is x r q m n member a b i) in
-              let p = data_range image ranges is x r q m d member a b i in let y = in_parts r q i in among-filter (λ t. is_in r t.address) x ordered (in_from r x.address p.0 (omega (arith, a, y.1))) (all x m)
+              let d = true_from_ne_false (is_data image x) (λ n. not_mixed image is.segments is.image_is (unmixed image ranges is) x r q m n member a b i) in
+              let p = data_range image is.segments is.image_is (unmixed image ranges is) x r q m d member a b i in let y = in_parts r q i in among-filter (λ t. is_in r t.address) x ordered (in_from r x.address p.0 (omega (arith, a, y.1))) (all x m)
 
   file_is_image : (q : ℕ) → is_in r q ≡ true → file_byte filled q ≡ byte_among (load_segments image) q
   file_is_image q i =

@@ -13,7 +13,7 @@ use Rattle.qed_model.proofs.Fields.{length-number_bytes}
 use Rattle.qed_model.proofs.BelowLaws.{gather_none}
 use Rattle.output_file.specs.Segments.{whole}
 use Rattle.output_file.specs.Laid.{laid}
-use Rattle.output_file.specs.Entries.{AreEntries, word_of, entry_word}
+use Rattle.output_file.specs.Entries.{AreEntries, entry_distance, entry_word}
 
 -- ---- lists end to end
 gather_add : (m n : ℕ) (f : ℕ → List ℕ) → gather (m + n) f ≡ gather m f ++ gather n (λ k. f (m + k))
@@ -77,7 +77,7 @@ last_from low r (t ∷ rows) u = let p = last_from (r.input + 4) t rows u.2 in (
 abbrev words : ℕ → List EntryRow → ℕ → ℕ → List ℕ
 words d rows at c = gather c (λ k. number_bytes 4 (table_word d rows (at + 4 * k)))
 
-word_at : (d a : ℕ) (r : EntryRow) (rows : List EntryRow) → a ≡ r.input → table_word d (r ∷ rows) a ≡ word_of d r
+word_at : (d a : ℕ) (r : EntryRow) (rows : List EntryRow) → a ≡ r.input → table_word d (r ∷ rows) a ≡ entry_distance d r
 word_at d a r rows e = let t : (r.input == a) ≡ true = eq-eqb r.input a (sym e) in rw t (ap (λ n. r.output - (n + 2 * d)) e)
 
 word_later : (d a : ℕ) (r : EntryRow) (rows : List EntryRow) → r.input < a → table_word d (r ∷ rows) a ≡ table_word d rows a
@@ -86,11 +86,11 @@ word_later d a r rows h = let t : (r.input == a) ≡ false = grind (arith, nat_t
 -- zeros up to the first entry, its word, and the words behind it
 head_words :
     (d at m c : ℕ) (r : EntryRow) (rows : List EntryRow) → at + 4 * m ≡ r.input → Up (r.input + 4) rows
-    → words d (r ∷ rows) at (m + (1 + c)) ≡ zeros (4 * m) ++ (number_bytes 4 (word_of d r) ++ words d rows (r.input + 4) c)
+    → words d (r ∷ rows) at (m + (1 + c)) ≡ zeros (4 * m) ++ (number_bytes 4 (entry_distance d r) ++ words d rows (r.input + 4) c)
 head_words d at m c r rows e u =
     let f = λ (k : ℕ). number_bytes 4 (table_word d (r ∷ rows) (at + 4 * k)) in
     let g = λ (k : ℕ). f (m + k) in
-    let first : g 0 ≡ number_bytes 4 (word_of d r) = let p : at + 4 * (m + 0) ≡ r.input = omega (arith, e) in ap (number_bytes 4) (word_at d (at + 4 * (m + 0)) r rows p) in
+    let first : g 0 ≡ number_bytes 4 (entry_distance d r) = let p : at + 4 * (m + 0) ≡ r.input = omega (arith, e) in ap (number_bytes 4) (word_at d (at + 4 * (m + 0)) r rows p) in
     let before : gather m f ≡ zeros (4 * m) = gather_zeros m f (λ k lt.
     let p : at + 4 * k < r.input = omega (arith, e, lt) in
     let t : (r.input == at + 4 * k) ≡ false = grind (arith, nat_tests) in
@@ -109,11 +109,11 @@ laid_words d start n [] r a b u =
     let e : r.input - start - n ≡ 4 * m = omega (arith, a, b, u.1) in
     let p : start + n + 4 * m ≡ r.input = omega (arith, e, u.0) in
     let count : (r.input - (start + n)) / 4 + 1 ≡ m + (1 + 0) = omega (arith, e, u.0) in
-    (λ i. zeros (e i) ++ (number_bytes 4 (word_of d r) ++ gather_none (λ k. number_bytes 4 (table_word d [] (r.input + 4 + 4 * k))) i)) ∙ sym (ap (words d (r ∷ []) (start + n)) count ∙ head_words d (start + n) m 0 r [] p tt)
+    (λ i. zeros (e i) ++ (number_bytes 4 (entry_distance d r) ++ gather_none (λ k. number_bytes 4 (table_word d [] (r.input + 4 + 4 * k))) i)) ∙ sym (ap (words d (r ∷ []) (start + n)) count ∙ head_words d (start + n) m 0 r [] p tt)
 laid_words d start n (t ∷ rows) r a b u =
     let m = (r.input - start - n) / 4 in
-    let size : length (number_bytes 4 (word_of d r)) ≡ 4 = length-number_bytes 4 (word_of d r) in
-    let next = n + (r.input - start - n) + length (number_bytes 4 (word_of d r)) in
+    let size : length (number_bytes 4 (entry_distance d r)) ≡ 4 = length-number_bytes 4 (entry_distance d r) in
+    let next = n + (r.input - start - n) + length (number_bytes 4 (entry_distance d r)) in
     let e : r.input - start - n ≡ 4 * m = omega (arith, a, b, u.1) in
     let p : start + n + 4 * m ≡ r.input = omega (arith, e, u.0) in
     let at : start + next ≡ r.input + 4 = omega (arith, e, u.0, size) in
@@ -122,7 +122,7 @@ laid_words d start n (t ∷ rows) r a b u =
     let count : (last_input (t ∷ rows) - (start + n)) / 4 + 1 ≡ m + (1 + c) = omega (arith, p, last.0, last.1, a, b, u.1) in
     let rest : laid start next (map (entry_word d) (t ∷ rows)) ≡ words d (t ∷ rows) (r.input + 4) c =
     laid_words d start next rows t a (omega (arith, e, b, size)) (subst (λ x. Up x (t ∷ rows)) (sym at) u.2) ∙ ap (λ x. words d (t ∷ rows) x ((last_input (t ∷ rows) - x) / 4 + 1)) at in
-    (λ i. zeros (e i) ++ (number_bytes 4 (word_of d r) ++ rest i)) ∙ sym (ap (words d (r ∷ t ∷ rows) (start + n)) count ∙ head_words d (start + n) m c r (t ∷ rows) p u.2)
+    (λ i. zeros (e i) ++ (number_bytes 4 (entry_distance d r) ++ rest i)) ∙ sym (ap (words d (r ∷ t ∷ rows) (start + n)) count ∙ head_words d (start + n) m c r (t ∷ rows) p u.2)
 
 -- the words of entries are the table
 pub laid_is_table : (d high : ℕ) (rows : List EntryRow) → AreEntries high rows → 1 ≤ length rows → laid (first_input rows) 0 (map (entry_word d) rows) ≡ table_bytes d rows

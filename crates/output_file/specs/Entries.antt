@@ -12,12 +12,12 @@ pub record AreEntries (high : ℕ) (rows : List EntryRow) : Type 0 where
   pub below : All (λ r. r.input < high) rows
 
 -- how far an entry is behind the place of its input address in the table
-abbrev pub word_of : ℕ → EntryRow → ℕ
-word_of d row = row.output - (row.input + 2 * d)
+abbrev pub entry_distance : ℕ → EntryRow → ℕ
+entry_distance d row = row.output - (row.input + 2 * d)
 
 -- the bytes of that word, with the input address
 abbrev pub entry_word : ℕ → EntryRow → ℕ × List ℕ
-entry_word d row = (row.input, number_bytes 4 (word_of d row))
+entry_word d row = (row.input, number_bytes 4 (entry_distance d row))
 
 -- ---- entries of blocks
 -- rows that have the first addresses of blocks are entries, where those ascend and are multiples of 4 below an address

@@ -3,7 +3,7 @@ ghost use Rattle.std.specs.Prelude.{◌≡◌, ℕ, ◌+◌, ◌*◌, ◌^◌, �
 ghost use Rattle.qed_model.specs.Weave.OutputFile.{looks_up as looks_up_of, has_table as has_table_of, first_input as first_input_of, table_bytes as table_bytes_of, table_segment as table_segment_of};
 ghost use Rattle.block_list.specs.Listed.{end_of, block_of};
 ghost use Rattle.output_file.specs.Laid.{laid};
-ghost use Rattle.output_file.specs.Entries.{AreEntries, word_of, entry_word};
+ghost use Rattle.output_file.specs.Entries.{AreEntries, entry_distance, entry_word};
 
 use crate::bytes::push_behind;
 use crate::segments::{moved, whole_segment};
@@ -49,7 +49,7 @@ fn first_input(entries: &[EntryRow]) -> u64
 
 /// How far an entry is behind its place in the table.
 fn far(row: &EntryRow, distance: u64) -> u64
-    ensures { result ≡ word_of distance row.now }
+    ensures { result ≡ entry_distance distance row.now }
 {
     let from_input = row.output.saturating_sub(row.input);
     from_input.saturating_sub(distance).saturating_sub(distance)

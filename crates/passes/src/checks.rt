@@ -1,5 +1,6 @@
-//! Registers, instructions, and comparisons of registers with their pairs.
+//! Instructions, and comparisons of registers with their pairs.
 ghost use Rattle.std.specs.Prelude.{◌≡◌, ◌<◌, ◌≤◌, ◌++◌, OnOk, OnErr};
+ghost use Rattle.qed_model.specs.Machine.Step.{target as target_of};
 ghost use Rattle.qed_model.specs.Machine.Table.{ins as ins_of};
 ghost use Rattle.qed_model.specs.Weave.Sequences.{guard as guard_of, guards as guards_of};
 ghost use Rattle.passes.specs.Emitted.{AppendsPart};
@@ -7,19 +8,8 @@ ghost use Rattle.passes.specs.Pass.{AllLow};
 
 use crate::Emit;
 use qed_model::Item;
-use rv_isa::{Ins, Kind, Reg};
+use rv_isa::{Ins, Kind, Reg, register};
 use std::alloc::AllocError;
-
-/// The register of a number below 32.
-pub fn register(number: u8) -> Reg
-    requires { number < 32 }
-    ensures { result ≡ number }
-{
-    match Reg::new(number) {
-        Some(register) => register,
-        None => unreachable!(),
-    }
-}
 
 /// An item of one instruction.
 pub fn plain(kind: Kind, rd: Reg, rs1: Reg, rs2: Reg, imm: i64) -> Item
@@ -32,6 +22,13 @@ pub fn plain(kind: Kind, rd: Reg, rs1: Reg, rs2: Reg, imm: i64) -> Item
         rs2,
         imm,
     })
+}
+
+/// pc + immediate, modulo 2^64.
+pub fn target(ins: &Ins, at: u64) -> u64
+    ensures { result ≡ target_of ins.now at }
+{
+    at.wrapping_add(ins.imm.cast_unsigned())
 }
 
 /// Appends the comparison of a register up to x13 with its pair, which is none for x0.

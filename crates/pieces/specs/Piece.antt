@@ -8,6 +8,7 @@ use Rattle.qed_model.specs.Machine.Step.{Ins, reg}
 use Rattle.weave_core.specs.World.{Item, IsCursor}
 use Rattle.weave_core.specs.Blocks.{AllFit}
 use Rattle.weave_core.specs.Parts.{NeedsMirror, NeedsChecks, GivesChecks, LeavesChecks, NeedsPiece, GivesPiece, LeavesPiece, piece_cost, Pieced, ForPiece as ForParts, piece_items as parts_items}
+pub use Rattle.weave_core.specs.Parts.{any}
 use Rattle.weave_core.proofs.PieceLaws.{for_originals, for_mirrors, both_checks, piece_leads, cost_parts, parts_are}
 use Rattle.weave_core.proofs.Body.{spent_le}
 use Rattle.mirror_forms.specs.Laws.{mirror_cost}
@@ -61,9 +62,6 @@ piece_laws suits all other round spans items is at q = record {
 }
 
 -- ---- in any form of the code
-abbrev pub any : Bool → Type 0
-any far = Unit {0}
-
 pub honest_any : (suits : Bool → Type 0) → ((far : Bool) → suits far) → (items : List Item) → Honest suits items → Honest any items
 honest_any suits all items h = record { honest = λ far s. h.honest far (all far) }
 

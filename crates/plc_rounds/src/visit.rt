@@ -4,9 +4,9 @@ ghost use Rattle.qed_model.specs.Weave.Sequences.{wraps, visit_word};
 ghost use Rattle.passes.specs.Emitted.{AppendsPart};
 ghost use Rattle.plc_rounds.specs.Spans.{spans_of, wrap};
 
-use passes::{Emit, Pass, plain, register};
+use passes::{Emit, Pass, plain};
 use qed_model::{Item, Range, Ranges};
-use rv_isa::{Ins, Kind};
+use rv_isa::{Ins, Kind, register};
 use std::alloc::AllocError;
 
 /// Visits `round` data words of the ranges, from the cursor on. It looks at no instruction.

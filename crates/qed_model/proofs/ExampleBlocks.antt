@@ -12,7 +12,7 @@ use Rattle.qed_model.specs.Admission.CodeWords.{is_code, instruction_at}
 use Rattle.qed_model.specs.Admission.Leaders.{has_target, is_end, is_indirect, Begins, Entry, Target, After, Named, Reached, Even, IsLeader, HasIndirect}
 use Rattle.qed_model.specs.Weave.Sequences.{Block, End, Falls, Stops}
 use Rattle.qed_model.specs.Weave.Pieces.{is_run, Breaks, AreRuns, all_pieces, whole, ArePieces}
-use Rattle.qed_model.specs.Weave.Blocks.{Options, ElfFile, IsBodyAt, StopsAt, IsLeaderBlock, IsOtherBlock, IsMarked, begins_at, AreBlocks}
+use Rattle.qed_model.specs.Weave.Blocks.{Options, ElfFile, IsBodyAt, StopsAt, IsLeaderBlock, IsOtherBlock, IsMarked, begins_at, AreBlocks, IsBlockOf}
 use Rattle.qed_model.proofs.Pairs.{every_all, pairs_all}
 use Rattle.qed_model.specs.Members.{Pairs, Every}
 use Rattle.qed_model.proofs.ExampleCode.{StandFrom, IsCodeOf, IsAt, each_at, code_of, one_of, tested}
@@ -269,10 +269,10 @@ module _ (f : ElfFile) (from : ℕ) (code : List Ins) (known : IsCodeOf f from c
 
   pub are_blocks :
       (blocks : List Block) → do_ascend blocks ≡ true → each_at (λ a i. is_served blocks a) from code ≡ true → list_all (λ b. not b.reached) blocks ≡ true
-      → Every (λ b. IsLeaderBlock f o b ⊎ IsOtherBlock f o b) blocks → AreBlocks f o blocks
+      → Every (IsBlockOf f o) blocks → AreBlocks f o blocks
   are_blocks blocks ascend served unmarked every = record {
     ascend = pairs_all (λ (b c : Block). b.start < c.start) blocks (ascends blocks ascend);
-    each = every_all (λ b. IsLeaderBlock f o b ⊎ IsOtherBlock f o b) blocks every;
+    each = every_all (IsBlockOf f o) blocks every;
     marked = none_marked blocks unmarked;
     leaders = λ a l. by a l.code (ap (λ b. b || has_indirect code) (begun_of a l.begins));
     others = λ z h a e. by a e (or_right (is_begun a) (has_indirect code) (indirect_there h.0 h.1.instruction from code (one_of f from code known h.0 h.1.instruction h.1.stands) h.1.class));

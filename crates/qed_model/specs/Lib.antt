@@ -1,6 +1,7 @@
 pub mod Numbers
 pub mod Below
 pub mod Members
+pub mod Sets
 pub mod Limits
 pub mod Options
 pub mod Machine

@@ -4,7 +4,9 @@ use Rattle.std.specs.List.{AllByRecursion}
 use Rattle.std.specs.Prelude.{if◌then◌else◌}
 use Rattle.elf_types.specs.declared.file.ElfFile.{ElfFile}
 use Rattle.harts.specs.HartSteps.{Counted}
-use Rattle.harts.specs.Standing.{has_one, is_fired, is_going, is_trapped}
+use Rattle.qed_model.specs.Promise.Kept.{is_trapped}
+use Rattle.rv_step.specs.Known.{goes_on}
+use Rattle.harts.specs.Standing.{has_one, is_fired}
 use Rattle.qed_io.specs.Files.{file_bytes}
 use Rattle.qed_model.specs.declared.limits.Limit.TheVariants.{RunFileBytes}
 use Rattle.qed_top.specs.Loads.{Loads}
@@ -42,7 +44,7 @@ if_printed false s t p q = q
 
 world_printed : (c : Counted) → Printed (world_status c)
 world_printed c =
-    if_printed (has_one is_fired c) Fired _ tt (if_printed (has_one is_trapped c) Trapped _ tt (if_printed (has_one is_going c) StepsSpent Done tt tt))
+    if_printed (has_one is_fired c) Fired _ tt (if_printed (has_one is_trapped c) Trapped _ tt (if_printed (has_one goes_on c) StepsSpent Done tt tt))
 
 plays_tells : (fs : List ElfFile) (turns : Option (List ℕ)) (steps : ℕ) (answer : Answer) → Plays fs turns steps answer → Tells None answer
 plays_tells fs turns steps answer (world.too_large over plain) = tells Limit None answer tt plain

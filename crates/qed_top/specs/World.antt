@@ -4,7 +4,9 @@ use Rattle.elf_types.specs.declared.file.ElfFile.{ElfFile}
 use Rattle.harts.specs.HartSteps.{Counted, TurnsKeep, counted_start, counted_turns, cycled}
 use Rattle.harts.specs.Played.{programs}
 use Rattle.harts.specs.Shared.{AreUnshared, IsLeastShared}
-use Rattle.harts.specs.Standing.{has_one, is_fired, is_going, is_trapped}
+use Rattle.qed_model.specs.Promise.Kept.{is_trapped}
+use Rattle.rv_step.specs.Known.{goes_on}
+use Rattle.harts.specs.Standing.{has_one, is_fired}
 use Rattle.qed_io.specs.Files.{file_bytes}
 use Rattle.qed_model.specs.declared.limits.Limit.TheVariants as limit
 use Rattle.qed_model.specs.Below.{each}
@@ -43,7 +45,7 @@ abbrev pub world_status : Counted → Status
 world_status c =
     if has_one is_fired c then Fired
     else if has_one is_trapped c then Trapped
-    else if has_one is_going c then StepsSpent
+    else if has_one goes_on c then StepsSpent
     else Done
 
 -- L6: all segments together have too many bytes in memory; H1: two files share a byte; or the harts make their turns, and what is

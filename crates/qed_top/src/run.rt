@@ -1,7 +1,7 @@
 //! What `run` answers.
 ghost use Rattle.std.specs.Option.{option_copied};
 ghost use Rattle.std.specs.Prelude.{◌≡◌, ◌*◌, ◌^◌, ◌≤◌, ℕ, ◌==◌, ◌&&◌, IfOk, OnOk, MatchOption, string_bytes};
-ghost use Rattle.fault_inject.specs.Astray.{holds};
+ghost use Rattle.qed_model.specs.Sets.{has_address};
 ghost use Rattle.flow_recovery.specs.Sets.{lists, Adds};
 ghost use Rattle.qed_model.specs.Machine.Loading.{load_segments, loaded_file};
 ghost use Rattle.qed_model.specs.Machine.Apart.{AllFitMemory, AreApart};
@@ -89,7 +89,7 @@ fn reached_list(alloc: Global, test: &Test, file: &ElfFile) -> Result<Vec<u64>, 
 
 /// These addresses as a set.
 fn reached_words(alloc: Global, test: &Test, file: &ElfFile) -> Result<BTreeSet<u64>, AllocError>
-    ensures { IfOk result (λ set. (a : ℕ) → holds set a ≡ is_reached_word file.now test.now a) }
+    ensures { IfOk result (λ set. (a : ℕ) → has_address set a ≡ is_reached_word file.now test.now a) }
 {
     let list = reached_list(alloc, test, file)?;
     let set = list.into_iter().collect(alloc)?;

@@ -5,9 +5,8 @@ use std::cell::Cell;
 use std::io::{Eprint, IsTerminal};
 use std::time::Instant;
 
-/// Tells on standard error once a second how many strikes, or steps, are made, in a line that is written over and taken away in the
-/// end.
-/// It tells nothing where that is no terminal, or where there is no clock.
+/// Tells on standard error once a second how many strikes, or steps, are made, in a line that is written over and in the end
+/// taken away. It tells nothing where that is no terminal, or where there is no clock.
 #[derive(Drop)]
 pub(crate) struct Ticker<'a> {
     rt: &'a HostRuntime,

@@ -26,7 +26,7 @@ use Rattle.qed_model.specs.declared.options.Entries.TheVariants as entry
 use Rattle.command_line.specs.Tables.{option_of, weave, row_of, command_of}
 use Rattle.command_line.specs.Words.{Argument, asked, asked_of, answer, fault, first_wrong, span_in, arguments, dump, files, first_reason, first_wrong_value, is_in_range, lacks, missing, number_given, lean_options, usual_options, options, order_of, reason_of, span_of, split_reason, missing_lean, block_steps, misfit, lean_reason, window_reason, topic_reason, value_of, values, wrong_number, wrong_value, wrong_values, changes_given, draws, is_digit, steps_given, turns, wrong_turns}
 use Rattle.texts.specs.Read.{colon, parted, number}
-use Rattle.ordered_changes.proofs.InOrder.{in_order_ordered}
+use Rattle.qed_model.proofs.InOrder.{in_order_ordered}
 use Rattle.qed_words.specs.Sound.{IsSoundOrder}
 use Rattle.qed_words.proofs.FewFiles.{few_files, neither, said_first}
 

@@ -8,8 +8,7 @@ use crate::argument::Argument;
 use crate::given::value_in;
 use crate::shape::fault;
 use command_line::Key;
-use ordered_changes::add_change;
-use qed_model::{Change, Changes};
+use qed_model::{Change, Changes, add_change};
 use std::alloc::{AllocError, Global};
 
 /// The change that an argument asks for.

@@ -6,10 +6,9 @@ ghost use Rattle.qed_model.specs.Weave.Placed.{size_of, sum_of_sizes, distance_b
 ghost use Rattle.relinker.specs.Link.{is_encoded, AreWords};
 
 use crate::search::entry;
-use passes::register;
 use qed_model::{EntryRow, Item};
 use rv_encode::encode;
-use rv_isa::{Ins, Kind, Reg};
+use rv_isa::{Ins, Kind, Reg, register};
 
 /// The distance from one address to another, modulo 2^64 and read as signed.
 pub fn distance_between(from: u64, to: u64) -> i64

@@ -18,10 +18,10 @@ use Rattle.rv_asm.specs.declared.heads.Head.{Head}
 use Rattle.rv_asm.specs.declared.heads.Head.TheVariants.{Blank, Instruction, Word, DataStart, DataWord, Label, Unknown}
 use Rattle.rv_asm.specs.declared.labels.Label.{Label as LabelAt}
 use Rattle.rv_asm.specs.declared.place.Place.{Place}
-use Rattle.rv_asm.specs.Lines.{is_blank, hash, trim_start, trim_end, trim, front_of, statement, word_end, word_in, is_name, name_before, label_in}
+use Rattle.rv_asm.specs.Lines.{is_blank, hash, trim_start, trim_end, trim, front_of, statement, word_end, leading_word, is_name, name_before, label_in}
 use Rattle.rv_asm.specs.Heads.{named_head, head_of}
 use Rattle.rv_asm.specs.Given.{max_code, max_data, in_code, in_data, label_given, is_defined_before, given_by}
-use Rattle.rv_asm.specs.Assembled.{head_in, is_code, is_data, place_behind, line_at, given_at, code_in, data_in, symbol_in, symbol_at, code_of, data_of}
+use Rattle.rv_asm.specs.Assembled.{head_in, gives_code, gives_data, place_behind, line_at, given_at, code_in, data_in, symbol_in, symbol_at, code_of, data_of}
 use Rattle.rv_asm.specs.Steps.{one_if, code_step, data_step, next_place}
 use Rattle.rv_asm.proofs.Places.{place_push}
 use Rattle.rv_asm.proofs.Room.{cost, IsCheap}
@@ -71,8 +71,8 @@ alone_label g false t e = absurd (cc)
 
 -- ---- a line, by what it gives
 abbrev IsFrom : Head → Place → Given → Type 0
-IsFrom h p (given.Code x) = (is_code h ≡ true) × (p.in_data ≡ false) × (p.code_words < max_code)
-IsFrom h p (given.Data x) = (is_data h ≡ true) × (p.in_data ≡ true) × (p.data_words < max_data)
+IsFrom h p (given.Code x) = (gives_code h ≡ true) × (p.in_data ≡ false) × (p.code_words < max_code)
+IsFrom h p (given.Data x) = (gives_data h ≡ true) × (p.in_data ≡ true) × (p.data_words < max_data)
 IsFrom h p given.Label = h ≡ Label
 IsFrom h p given.Nothing = Unit {0}
 
@@ -215,15 +215,15 @@ front_short line = by (position_from (λ b. b == hash) 0 line) where
   by None = omega arith
   by (Some i) = omega (arith, length-take i line)
 
-word_short : (line : List ℕ) → length (word_in line) ≤ length line
-unfolding word_in statement
+word_short : (line : List ℕ) → length (leading_word line) ≤ length line
+unfolding leading_word statement
 word_short line = omega (arith, length-take (word_end (trim (front_of line (parted hash line)))) (trim (front_of line (parted hash line))), trim_short (front_of line (parted hash line)), front_short line)
 
 -- the label of a line that gives one
-pub label_facts : (lines : List (List ℕ)) (n : ℕ) → given_at lines n ≡ Ok given.Label → (name : List ℕ) × (label_in (word_in (line_at lines n)) ≡ Some name) × (is_name name ≡ true) × (length name < length (line_at lines n))
+pub label_facts : (lines : List (List ℕ)) (n : ℕ) → given_at lines n ≡ Ok given.Label → (name : List ℕ) × (label_in (leading_word (line_at lines n)) ≡ Some name) × (is_name name ≡ true) × (length name < length (line_at lines n))
 unfolding given_at
 label_facts lines n e =
-    let w = word_in (line_at lines n) in
+    let w = leading_word (line_at lines n) in
     let l = label_named w (head_label w (given_is lines n given.Label e)) in
     let short = l.3 in
     (l.0, l.1, l.2, omega (arith, word_short (line_at lines n)))
@@ -240,7 +240,7 @@ cheap_line w address l r h = omega arith
 
 pub are_cheap : (lines : List (List ℕ)) → IsCheap lines
 are_cheap lines = record {
-  each = λ n below. cheap_line (word_in (line_at lines n)) _ (length (line_at lines n)) (given_at lines n) (λ e.
+  each = λ n below. cheap_line (leading_word (line_at lines n)) _ (length (line_at lines n)) (given_at lines n) (λ e.
       let l = label_facts lines n e in
       let some = name_some l.0 l.2 in
       let short = l.3 in
@@ -263,4 +263,4 @@ pub symbols_sound : (lines : List (List ℕ)) (n : ℕ) → All IsLabelSymbol (g
 unfolding gather
 symbols_sound lines zero = All-nil IsLabelSymbol
 symbols_sound lines (suc n) =
-    All-append IsLabelSymbol (gather n (symbol_at lines)) (symbol_at lines n) (symbols_sound lines n) (label_symbols (word_in (line_at lines n)) _ (given_at lines n) (λ e. let l = label_facts lines n e in ap (λ o. is_name (unwrap_or o [])) l.1 ∙ l.2))
+    All-append IsLabelSymbol (gather n (symbol_at lines)) (symbol_at lines n) (symbols_sound lines n) (label_symbols (leading_word (line_at lines n)) _ (given_at lines n) (λ e. let l = label_facts lines n e in ap (λ o. is_name (unwrap_or o [])) l.1 ∙ l.2))

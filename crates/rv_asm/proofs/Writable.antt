@@ -11,9 +11,9 @@ use Rattle.qed_model.specs.Numbers.{number_bytes, bytes_of}
 use Rattle.qed_model.specs.Elf.Written.{offset_from, end_from}
 use Rattle.qed_model.specs.Elf.Layout.{written, names_bytes, own_bytes, own_place, do_share, IsName, IsLoadable, IsPlaced, IsWritable}
 use Rattle.qed_model.proofs.Fields.{length-number_bytes, length-bytes_of}
-use Rattle.qed_model.proofs.OutputFits.{name_test}
+use Rattle.qed_model.proofs.OutputFits.{name_test, not_shared}
 use Rattle.qed_model.proofs.Pairs.{pairs_all, every_all}
-use Rattle.elf_write.proofs.PlainFits.{loadable, not_shared, offset_room, inside_itself, placed, upper}
+use Rattle.elf_write.proofs.PlainFits.{loadable, offset_room, inside_itself, placed, upper}
 use Rattle.elf_write.proofs.Sizes.{length-section_names}
 use Rattle.rv_asm.specs.Lines.{begins_name, continues_name, is_name}
 use Rattle.rv_asm.specs.Assembled.{values_bytes, code_segment, data_segment, segments, code_section, data_section, sections, file_from, file_with}

@@ -20,26 +20,26 @@ use Rattle.rv_asm.specs.declared.heads.Head.{Head}
 use Rattle.rv_asm.specs.declared.heads.Head.TheVariants as head
 use Rattle.rv_asm.specs.declared.labels.Label.{Label}
 use Rattle.rv_asm.specs.declared.place.Place.{Place}
-use Rattle.rv_asm.specs.Lines.{lines_of, word_in, rest_in, label_in}
+use Rattle.rv_asm.specs.Lines.{lines_of, leading_word, rest_in, label_in}
 use Rattle.rv_asm.specs.Heads.{head_of}
 use Rattle.rv_asm.specs.Given.{address_at, given_by}
 
 -- ---- places, by first words alone
 abbrev pub head_in : List ℕ → Head
-head_in line = head_of (word_in line)
+head_in line = head_of (leading_word line)
 
 abbrev pub is_data_start : Head → Bool
 is_data_start head.DataStart = true
 is_data_start _ = false
 
-abbrev pub is_code : Head → Bool
-is_code (head.Instruction kind) = true
-is_code head.Word = true
-is_code _ = false
+abbrev pub gives_code : Head → Bool
+gives_code (head.Instruction kind) = true
+gives_code head.Word = true
+gives_code _ = false
 
-abbrev pub is_data : Head → Bool
-is_data head.DataWord = true
-is_data _ = false
+abbrev pub gives_data : Head → Bool
+gives_data head.DataWord = true
+gives_data _ = false
 
 -- one of the lines begins the data
 abbrev pub has_data_start : List (List ℕ) → Bool
@@ -49,12 +49,12 @@ has_data_start (line ∷ lines) = if is_data_start (head_in line) then true else
 -- how many lines before `.data` count as code words
 abbrev pub code_count : List (List ℕ) → ℕ
 code_count [] = 0
-code_count (line ∷ lines) = if is_data_start (head_in line) then 0 else (if is_code (head_in line) then 1 else 0) + code_count lines
+code_count (line ∷ lines) = if is_data_start (head_in line) then 0 else (if gives_code (head_in line) then 1 else 0) + code_count lines
 
 -- how many lines behind it count as data words
 abbrev pub data_count : List (List ℕ) → ℕ
 data_count [] = 0
-data_count (line ∷ lines) = if is_data_start (head_in line) then count_by (λ l. is_data (head_in l)) lines else data_count lines
+data_count (line ∷ lines) = if is_data_start (head_in line) then count_by (λ l. gives_data (head_in l)) lines else data_count lines
 
 -- the place behind lines
 unfoldable pub place_behind : List (List ℕ) → Place
@@ -67,7 +67,7 @@ is_same name (Some other) = bytes_eq name other
 
 -- the line's first word defines the label
 abbrev pub defines : List ℕ → List ℕ → Bool
-defines name line = is_same name (label_in (word_in line))
+defines name line = is_same name (label_in (leading_word line))
 
 -- a label that line n defines: its address is that of the place of the line
 unfoldable pub label_at : List (List ℕ) → ℕ → Label
@@ -83,7 +83,7 @@ line_at lines n = slice_index_or lines n []
 
 -- what a line gives that is line n, from 0
 abbrev pub given_in : List (List ℕ) → ℕ → List ℕ → Result Given Fault
-given_in lines n line = given_by (label_of lines) (place_behind (take n lines)) n (head_in line) (word_in line) (rest_in line)
+given_in lines n line = given_by (label_of lines) (place_behind (take n lines)) n (head_in line) (leading_word line) (rest_in line)
 
 unfoldable pub given_at : List (List ℕ) → ℕ → Result Given Fault
 given_at lines n = given_in lines n (line_at lines n)
@@ -106,7 +106,7 @@ symbol_in word address (Ok given.Label) = symbol (unwrap_or (label_in word) []) 
 symbol_in word address _ = []
 
 abbrev pub symbol_at : List (List ℕ) → ℕ → List Symbol
-symbol_at lines n = symbol_in (word_in (line_at lines n)) (address_at (place_behind (take n lines))) (given_at lines n)
+symbol_at lines n = symbol_in (leading_word (line_at lines n)) (address_at (place_behind (take n lines))) (given_at lines n)
 
 -- the code words, the data words and the labels of the first n lines
 unfoldable pub code_of : List (List ℕ) → ℕ → List ℕ

@@ -11,7 +11,7 @@ use Rattle.rv_asm.specs.declared.heads.Head.TheVariants.{Blank, Instruction, Wor
 use Rattle.rv_asm.specs.declared.labels.Label.{Label as LabelAt}
 use Rattle.rv_asm.specs.declared.place.Place.{Place}
 use Rattle.rv_asm.specs.Lines.{label_in}
-use Rattle.rv_asm.specs.Operands.{raw_word_in, word_of}
+use Rattle.rv_asm.specs.Operands.{raw_word_in, assembled_word}
 
 -- ---- limits
 abbrev pub max_code : ℕ
@@ -58,7 +58,7 @@ label_given false = Ok given.Label
 -- what line n (from 0) at a place gives, of its first word and what follows it, or the first fault on it; `labels` has the first definition of each label
 unfoldable pub given_by : (List ℕ → Option LabelAt) → Place → ℕ → Head → List ℕ → List ℕ → Result Given Fault
 given_by labels p n Blank word rest = Ok given.Nothing
-given_by labels p n (Instruction kind) word rest = in_code p (word_of labels (address_at p) kind rest)
+given_by labels p n (Instruction kind) word rest = in_code p (assembled_word labels (address_at p) kind rest)
 given_by labels p n Word word rest = in_code p (ok_or (raw_word_in rest) IllegalOperands)
 given_by labels p n DataStart word rest = alone rest (Ok given.Nothing)
 given_by labels p n DataWord word rest = in_data p (number rest)

@@ -59,8 +59,8 @@ word_end [] = 0
 word_end (c ∷ cs) = if is_blank c then 0 else if c == colon then 1 else 1 + word_end cs
 
 -- the first word of a line
-unfoldable pub word_in : List ℕ → List ℕ
-word_in line = take (word_end (statement line)) (statement line)
+unfoldable pub leading_word : List ℕ → List ℕ
+leading_word line = take (word_end (statement line)) (statement line)
 
 -- what follows it
 unfoldable pub rest_in : List ℕ → List ℕ

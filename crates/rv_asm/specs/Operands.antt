@@ -7,7 +7,7 @@ use Rattle.qed_model.specs.Machine.Table.{ins, signed, encode_of}
 use Rattle.texts.specs.Read.{dash, digit_zero, letter_x, digits, number, register}
 use Rattle.rv_text.specs.declared.forms.Form.{Form}
 use Rattle.rv_text.specs.declared.forms.Form.TheVariants.{Registers, Immediate, Load, Store, Branch, Upper, Jump, Bare}
-use Rattle.rv_text.specs.Forms.{form_of}
+use Rattle.rv_text.specs.Forms.{text_form}
 use Rattle.rv_asm.specs.declared.error.Fault.{Fault}
 use Rattle.rv_asm.specs.declared.error.Fault.TheVariants.{IllegalOperands, OutOfRange, UndefinedLabel}
 use Rattle.rv_asm.specs.declared.labels.Label.{Label}
@@ -123,12 +123,12 @@ encoded_with kind o (Some imm) = encode_of (ins kind o.rd o.rs1 o.rs2 imm)
 
 -- the word of an instruction with these operands, None where the immediate is out of its range or off its grain
 unfoldable pub encoded : Kind → Operands → Option ℕ
-encoded kind o = encoded_with kind o (imm_in (form_of kind) o.imm)
+encoded kind o = encoded_with kind o (imm_in (text_form kind) o.imm)
 
 abbrev pub word_with : Kind → Result Operands Fault → Result ℕ Fault
 word_with kind (Err fault) = Err fault
 word_with kind (Ok o) = ok_or (encoded kind o) OutOfRange
 
 -- the word of an instruction at an address
-unfoldable pub word_of : (List ℕ → Option Label) → ℕ → Kind → List ℕ → Result ℕ Fault
-word_of labels at kind text = word_with kind (operands_in labels at (form_of kind) text)
+unfoldable pub assembled_word : (List ℕ → Option Label) → ℕ → Kind → List ℕ → Result ℕ Fault
+assembled_word labels at kind text = word_with kind (operands_in labels at (text_form kind) text)

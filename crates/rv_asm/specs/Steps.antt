@@ -2,17 +2,17 @@
 use Rattle.std.specs.Prelude.{ℕ, ◌+◌, Bool, true, false, if◌then◌else◌}
 use Rattle.rv_asm.specs.declared.heads.Head.{Head}
 use Rattle.rv_asm.specs.declared.place.Place.{Place}
-use Rattle.rv_asm.specs.Assembled.{is_data_start, is_code, is_data}
+use Rattle.rv_asm.specs.Assembled.{is_data_start, gives_code, gives_data}
 
 abbrev pub one_if : Bool → ℕ
 one_if b = if b then 1 else 0
 
 abbrev pub code_step : Bool → Head → ℕ
 code_step true head = 0
-code_step false head = one_if (is_code head)
+code_step false head = one_if (gives_code head)
 
 abbrev pub data_step : Bool → Head → ℕ
-data_step true head = one_if (is_data head)
+data_step true head = one_if (gives_data head)
 data_step false head = 0
 
 abbrev pub next_place : Place → Head → Place

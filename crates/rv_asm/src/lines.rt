@@ -1,7 +1,7 @@
 //! Lines and their parts.
 ghost use Rattle.std.specs.Prelude.{◌≡◌, ◌≤◌, MatchOption, None, Some, unwrap_or, [], length};
 ghost use Rattle.std.specs.List.{list_all};
-ghost use Rattle.rv_asm.specs.Lines.{trim_start as trim_start_of, trim_end as trim_end_of, trim as trim_of, statement as statement_of, is_blank as is_blank_of, word_end as word_end_of, word_in, rest_in, begins_name as begins_name_of, continues_name as continues_name_of, is_name as is_name_of, label_in as label_in_of, pair_in as pair_in_of, triple_in as triple_in_of, bracketed_in as bracketed_in_of};
+ghost use Rattle.rv_asm.specs.Lines.{trim_start as trim_start_of, trim_end as trim_end_of, trim as trim_of, statement as statement_of, is_blank as is_blank_of, word_end as word_end_of, leading_word, rest_in, begins_name as begins_name_of, continues_name as continues_name_of, is_name as is_name_of, label_in as label_in_of, pair_in as pair_in_of, triple_in as triple_in_of, bracketed_in as bracketed_in_of};
 ghost use Rattle.rv_asm.specs.Heads.{head_of};
 
 use crate::heads::{Head, recognize};
@@ -82,10 +82,10 @@ pub struct Line<'a> {
 }
 
 /// The parts of a line.
-#[tactic(auto, unfolding(crate::specs::Lines::word_in, crate::specs::Lines::rest_in))]
+#[tactic(auto, unfolding(crate::specs::Lines::leading_word, crate::specs::Lines::rest_in))]
 pub fn parts(line: &[u8]) -> Line<'_>
-    ensures head { result.head ≡ head_of (word_in line.now) }
-    ensures word { result.word.now ≡ word_in line.now }
+    ensures head { result.head ≡ head_of (leading_word line.now) }
+    ensures word { result.word.now ≡ leading_word line.now }
     ensures rest { result.rest.now ≡ rest_in line.now }
 {
     let said = statement(line);

@@ -3,7 +3,7 @@ ghost use Rattle.std.specs.Prelude.{◌≡◌, length};
 ghost use Rattle.qed_model.specs.Machine.Table.{ins, encode_of};
 ghost use Rattle.texts.specs.Read.{digits as digits_of};
 ghost use Rattle.rv_asm.specs.Named.{named};
-ghost use Rattle.rv_asm.specs.Operands.{register_in as register_in_of, immediate_in as immediate_in_of, raw_word_in as raw_word_in_of, registers_from, immediate_from, load_from, store_from, upper_from, none_in as none_in_of, target_in as target_in_of, branch_from, jump_from, operands_in as operands_in_of, upper_imm as upper_imm_of, encoded as encoded_of, word_of as word_of_text};
+ghost use Rattle.rv_asm.specs.Operands.{register_in as register_in_of, immediate_in as immediate_in_of, raw_word_in as raw_word_in_of, registers_from, immediate_from, load_from, store_from, upper_from, none_in as none_in_of, target_in as target_in_of, branch_from, jump_from, operands_in as operands_in_of, upper_imm as upper_imm_of, encoded as encoded_of, assembled_word as word_of_text};
 ghost use Rattle.rv_asm.specs.Lines.{pair_in as pair_in_of, triple_in as triple_in_of};
 
 use crate::error::Fault;
@@ -240,7 +240,7 @@ fn encoded(kind: Kind, operands: &Operands) -> Option<u32>
 }
 
 /// The word of an instruction at an address, or the first fault of its operands.
-#[tactic(auto, unfolding(crate::specs::Operands::word_of))]
+#[tactic(auto, unfolding(crate::specs::Operands::assembled_word))]
 pub fn word_of(labels: &Labels, at: u64, kind: Kind, text: &[u8]) -> Result<u32, Fault>
     ensures { result ≡ word_of_text (named labels.now) at kind text.now }
 {

@@ -15,8 +15,8 @@ first_fit [] w = None
 first_fit (r ∷ rs) w = cond (matches r w) (Some r) (first_fit rs w)
 
 -- the rows at the place of a word: its bits 2 to 6, and its bits 12 to 14
-abbrev pub place_of : List (List (List Row)) → ℕ → List Row
-place_of t w = slice_index_or (slice_index_or t (bits w 2 5) []) (bits w 12 3) []
+abbrev pub listed_at : List (List (List Row)) → ℕ → List Row
+listed_at t w = slice_index_or (slice_index_or t (bits w 2 5) []) (bits w 12 3) []
 
 -- the lists that a table's references point to
 abbrev pub lists_of : List (List (Bor (List Row))) → List (List (List Row))

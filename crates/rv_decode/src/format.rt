@@ -54,10 +54,7 @@ fn register(bits: u32) -> Reg
     requires { bits < 32 }
     ensures { result ≡ bits }
 {
-    match Reg::new(bits as u8) {
-        Some(register) => register,
-        None => unreachable!(),
-    }
+    rv_isa::register(bits as u8)
 }
 
 /// The signed number that stands in the low bits of a word.

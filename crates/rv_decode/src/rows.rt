@@ -1,13 +1,13 @@
 //! The row of a word.
 ghost use Rattle.std.specs.Prelude.{◌≡◌};
-ghost use Rattle.rv_decode.specs.Rows.{first_fit, lists_of, place_of};
+ghost use Rattle.rv_decode.specs.Rows.{first_fit, lists_of, listed_at};
 
 use crate::table::{Row, Table};
 use rv_isa::Field;
 
 /// The rows of a table at the place of a word.
 pub fn rows_at(table: &'static Table, word: u32) -> &'static [Row]
-    ensures { result.now ≡ place_of (lists_of table.now) word }
+    ensures { result.now ≡ listed_at (lists_of table.now) word }
 {
     table[Field::<2, 5>::get(word) as usize][Field::<12, 3>::get(word) as usize]
 }

@@ -17,5 +17,5 @@ pub use field::Field;
 pub use ins::Ins;
 pub use kind::Kind;
 pub use operation::Operation;
-pub use reg::Reg;
+pub use reg::{Reg, register};
 pub use regs::Regs;

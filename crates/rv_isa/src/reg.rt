@@ -21,6 +21,14 @@ impl Model for Reg {
     ghost inverse = { λ n. record { number = n } };
 }
 
+/// The register of a number below 32.
+pub fn register(number: u8) -> Reg
+    requires { number < 32 }
+    ensures { result ≡ number }
+{
+    Reg { number }
+}
+
 impl Reg {
     /// The register of this number, None above 31.
     pub fn new(n: u8) -> Option<Reg>

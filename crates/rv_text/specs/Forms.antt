@@ -21,5 +21,5 @@ form_in U c = Upper
 form_in J c = Jump
 form_in N c = Bare
 
-unfoldable pub form_of : Kind → Form
-form_of k = form_in (row_of k).format (class_of k)
+unfoldable pub text_form : Kind → Form
+text_form k = form_in (row_of k).format (class_of k)

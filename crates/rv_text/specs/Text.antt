@@ -8,7 +8,7 @@ use Rattle.texts.specs.Printed.{hex_digits, word_text}
 use Rattle.rv_text.specs.declared.forms.Form.{Form}
 use Rattle.rv_text.specs.declared.forms.Form.TheVariants.{Registers, Immediate, Load, Store, Branch, Upper, Jump, Bare}
 use Rattle.rv_text.specs.Names.{name_of}
-use Rattle.rv_text.specs.Forms.{form_of}
+use Rattle.rv_text.specs.Forms.{text_form}
 
 abbrev pub register_text : ℕ → List ℕ
 register_text r = codes "x" ++ decimal r
@@ -39,7 +39,7 @@ operands_text Bare i w = codes ""
 -- of a word and its instruction, if it has one
 abbrev pub text_with : ℕ → Option Ins → List ℕ
 text_with w None = codes "word " ++ word_text w
-text_with w (Some i) = name_of i.kind ++ operands_text (form_of i.kind) i w
+text_with w (Some i) = name_of i.kind ++ operands_text (text_form i.kind) i w
 
 unfoldable pub text_of : ℕ → List ℕ
 text_of w = text_with w (decode_of w)

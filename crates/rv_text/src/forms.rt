@@ -1,6 +1,6 @@
 //! How operands are written.
 ghost use Rattle.std.specs.Prelude.{◌≡◌};
-ghost use Rattle.rv_text.specs.Forms.{form_of};
+ghost use Rattle.rv_text.specs.Forms.{text_form};
 
 use rv_isa::Kind;
 
@@ -26,9 +26,9 @@ pub enum Form {
 }
 
 /// How the operands of instructions of a kind are written.
-#[tactic(auto, unfolding(crate::specs::Forms::form_of))]
+#[tactic(auto, unfolding(crate::specs::Forms::text_form))]
 pub fn form_of(kind: Kind) -> Form
-    ensures { result ≡ form_of kind }
+    ensures { result ≡ text_form kind }
 {
     match kind {
         Kind::Illegal | Kind::Ecall | Kind::Ebreak => Form::Bare,

@@ -28,7 +28,7 @@ impl fmt::Display for Register {
 struct Operands(Ins, u32);
 
 impl fmt::Display for Operands {
-    ghost use Rattle.rv_text.specs.Forms.{form_of as form_of_kind};
+    ghost use Rattle.rv_text.specs.Forms.{text_form as form_of_kind};
 
     ghost output = { λ o. Some (operands_text (form_of_kind o.0.kind) o.0 o.1) };
 

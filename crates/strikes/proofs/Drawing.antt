@@ -18,10 +18,10 @@ use Rattle.qed_model.specs.Below.{each}
 use Rattle.qed_model.specs.Promise.Caught.{bound_of}
 use Rattle.qed_model.specs.Promise.Changed.{has_word, is_word, with_change, in_order}
 use Rattle.qed_model.proofs.BelowLaws.{All-each}
-use Rattle.ordered_changes.proofs.InOrder.{in_order_ordered}
+use Rattle.qed_model.proofs.InOrder.{in_order_ordered}
 use Rattle.random_words.specs.Random.{seeded, drawn, next, after}
 use Rattle.random_words.proofs.Words.{after-more}
-use Rattle.strikes.specs.Draw.{place_of, has_place, drawn_place, drawn_change, drawn_strike, strike_count, drawn_strikes, HasWords}
+use Rattle.strikes.specs.Draw.{numbered_place, has_place, drawn_place, drawn_change, drawn_strike, strike_count, drawn_strikes, HasWords}
 use Rattle.strikes.specs.Struck.{IsStrike}
 
 -- ---- words among the places
@@ -34,8 +34,8 @@ with_change_none (d ∷ ds) c h e =
     [ true ↦ rw (p.0, with_change_none ds c p.1 e) refl | false ↦ rw (e, h) refl ]
 
 -- where there is no data word, no drawn place is a word
-no_place : (spans : List (ℕ × ℕ)) (q : ℕ) → q < 13 → is_word (place_of spans q) ≡ false
-unfolding place_of
+no_place : (spans : List (ℕ × ℕ)) (q : ℕ) → q < 13 → is_word (numbered_place spans q) ≡ false
+unfolding numbered_place
 no_place spans q h = let t : nat_lt q 13 ≡ true = grind (arith, nat_tests) in rw t refl
 
 no_drawn_word : (only : Option Places) (spans : List (ℕ × ℕ)) (word : ℕ) → has_place only (word_count spans) ≡ true → word_count spans ≡ 0 → is_word (drawn_place only spans word) ≡ false

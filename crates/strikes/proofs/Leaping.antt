@@ -1,16 +1,16 @@
 -- Runs that are made in parts, or taken up at a copy of another run.
-use Rattle.std.proofs.Common.{◌≡◌, ⊎_elim, ℕ, ◌+◌, ◌-◌, ◌<◌, ◌≤◌, true, false, refl, sym, ap, ◌∙◌, arith}
+use Rattle.std.proofs.Common.{◌≡◌, ⊎_elim, ℕ, ◌+◌, ◌-◌, ◌<◌, ◌≤◌, true, false, None, refl, sym, ap, ◌∙◌, arith}
 use Rattle.std.specs.Prelude.{◌≢◌}
 use Rattle.std.proofs.lemmas.Bool.{cases_lt}
 use Rattle.qed_model.specs.declared.machine.Outcome.{Outcome}
-use Rattle.qed_model.specs.declared.machine.Outcome.TheVariants.{Going}
+use Rattle.qed_model.specs.declared.machine.Outcome.TheVariants.{Going, Ended}
 use Rattle.qed_model.specs.Machine.Progress.{Progress, progress}
 use Rattle.qed_model.specs.Machine.Step.{State, run}
 use Rattle.qed_model.proofs.Walk.{run-more, run-none}
 use Rattle.rv_step.specs.Known.{goes_on, AreMade}
-use Rattle.strikes.specs.Found.{IsOn, StopsWithin}
+use Rattle.strikes.specs.Found.{IsOn, StopsWithin, trap_pc_of}
 use Rattle.strikes.specs.Kept.{IsReach}
-use Rattle.strikes.proofs.Stopping.{going_before, progress_state, ran_on}
+use Rattle.strikes.proofs.Stopping.{going_before, progress_state, ran_on, run_stays}
 
 -- ---- parts
 pub goes : (o : Outcome) → goes_on o ≡ true → o ≡ Going
@@ -33,6 +33,19 @@ on_before s t n steps k on going l =
     ⊎_elim (on.before k)
     (λ h. let e : n + (k - n) ≡ k = omega (arith, h) in ap (λ i. (run s i).outcome) (sym e) ∙ ap (λ u. u.outcome) (on_later s t n (k - n) on) ∙ going (k - n) (omega (arith, l, h)))
     (cases_lt k n)
+
+-- a run that has ended traps nowhere
+pub ended_untrapped : (s t : State) (n k : ℕ) → IsOn s n t → t.outcome ≡ Ended → trap_pc_of (run s k).outcome ≡ None
+ended_untrapped s t n k on ended =
+    ⊎_elim
+    (λ l. ap trap_pc_of (on.before k l))
+    (λ h.
+        let e : n + (k - n) ≡ k = omega (arith, h) in
+        let stays : run t (k - n) ≡ t = run_stays t (k - n) (λ g. absurd (ended_goes (sym ended ∙ g))) in
+        ap (λ i. trap_pc_of (run s i).outcome) (sym e) ∙ ap (λ u. trap_pc_of u.outcome) (on_later s t n (k - n) on ∙ stays) ∙ ap trap_pc_of ended)
+    (cases_lt k n) where
+      ended_goes : Ended ≡ Going → ⊥
+      ended_goes x = cc
 
 -- a machine that still goes on
 pub on_more : (s : State) (made n next : ℕ) (p q : Progress) → IsOn s made p.state → q ≡ progress p n → made + n ≡ next → q.state.outcome ≡ Going → IsOn s next q.state

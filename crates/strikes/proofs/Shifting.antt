@@ -22,7 +22,7 @@ use Rattle.strikes.specs.declared.error.StrikeError.TheVariants as error
 use Rattle.strikes.specs.declared.error.StrikeError.{StrikeError}
 use Rattle.strikes.specs.Found.{trap_pc_of}
 use Rattle.strikes.specs.Later.{counted_from, all_from, first_step}
-use Rattle.strikes.specs.Verdict.{IsReached, has_closed, IsTried, IsFound, IsSilent, Shows, IsVerdict}
+use Rattle.strikes.specs.Verdict.{GoesPast, has_closed, IsTried, IsFound, IsSilent, Shows, IsVerdict}
 use Rattle.strikes.proofs.Stopping.{going_before, behind}
 
 -- ---- where no change comes before
@@ -112,7 +112,7 @@ closed_later s (c ∷ cs) m from =
 
 -- what is found
 found_later :
-    (s : State) (cs : List Change) (m b : ℕ) (how : Outcome) (k : ℕ) → AllFrom m cs → m ≤ last_step cs → IsReached s cs
+    (s : State) (cs : List Change) (m b : ℕ) (how : Outcome) (k : ℕ) → AllFrom m cs → m ≤ last_step cs → GoesPast s cs
     → IsFound (run s m) b (all_from m cs) how k → IsFound s b cs how k
 found_later s cs m b how k from h reached f =
     let last = last_later cs m in
@@ -133,7 +133,7 @@ found_later s cs m b how k from h reached f =
 
 -- and the other way
 found_from :
-    (s : State) (cs : List Change) (m b : ℕ) (how : Outcome) (k : ℕ) → AllFrom m cs → m ≤ last_step cs → IsReached s cs
+    (s : State) (cs : List Change) (m b : ℕ) (how : Outcome) (k : ℕ) → AllFrom m cs → m ≤ last_step cs → GoesPast s cs
     → IsFound s b cs how k → IsFound (run s m) b (all_from m cs) how k
 found_from s cs m b how k from h reached f =
     let last = last_later cs m in
@@ -163,7 +163,7 @@ tried_later s cs m from h t = record {
   opened = sym (closed_later s cs m from) ∙ t.opened;
 }
 
-silent_later : (s : State) (cs : List Change) (m b : ℕ) → AllFrom m cs → m ≤ last_step cs → IsReached s cs → IsSilent (run s m) b (all_from m cs) → IsSilent s b cs
+silent_later : (s : State) (cs : List Change) (m b : ℕ) → AllFrom m cs → m ≤ last_step cs → GoesPast s cs → IsSilent (run s m) b (all_from m cs) → IsSilent s b cs
 silent_later s cs m b from h reached x = record {
   no_check = λ k f. x.no_check k (found_from s cs m b Fired k from h reached f);
   no_end = λ k f. x.no_end k (found_from s cs m b Ended k from h reached f);

@@ -13,8 +13,8 @@ use Rattle.qed_model.proofs.Walk.{run-more, run-none}
 use Rattle.fault_inject.specs.Touched.{IsSpared, AreSpared}
 use Rattle.fault_inject.proofs.Sparing.{spared_run}
 use Rattle.strikes.specs.Found.{IsOn}
-use Rattle.strikes.specs.Later.{word_in, one_word, IsChangedAt}
-use Rattle.strikes.specs.Verdict.{IsReached}
+use Rattle.strikes.specs.Later.{word_changed, one_word, IsChangedAt}
+use Rattle.strikes.specs.Verdict.{GoesPast}
 
 -- ---- steps that touch no byte of the word
 spared_to : (a x at n : ℕ) (start : State) → a < 2 ^ 64 → ((k : ℕ) → k < n → IsSpared a (run start (at + k))) → run (struck (Word a) x (run start at)) n ≡ struck (Word a) x (run start (at + n))
@@ -39,7 +39,7 @@ unfolding changed_run with_changes
 at_once c s a first word going =
     ap (changed_run s (c ∷ [])) first ∙ ap (λ b. cond b (changed c s) s) (eq-eqb c.step 0 first) ∙ ap (λ o. changed_as o c s) going ∙ ap (λ p. struck p c.value s) word
 
-pub changed_word : (cs : List Change) (output s t : State) → IsReached output cs → (last_step cs ≡ 0 → output ≡ s) → t ≡ changed_run output cs (last_step cs) → IsChangedAt s (one_word cs) t
+pub changed_word : (cs : List Change) (output s t : State) → GoesPast output cs → (last_step cs ≡ 0 → output ≡ s) → t ≡ changed_run output cs (last_step cs) → IsChangedAt s (one_word cs) t
 changed_word [] output s t reached here made = tt
 changed_word (c ∷ d ∷ cs) output s t reached here made = tt
 changed_word (c ∷ []) output s t reached here made = by_place c.place refl where
@@ -50,6 +50,6 @@ changed_word (c ∷ []) output s t reached here made = by_place c.place refl whe
       let going : output.outcome ≡ Going = ap (λ u. u.outcome) (sym (run-none output) ∙ ap (run output) (sym first)) ∙ reached in
       made ∙ at_once c output a first e going ∙ ap (struck (Word a) c.value) (here first)
 
-  by_place : (p : Place) → c.place ≡ p → IsChangedAt s (word_in p c.step c.value) t
+  by_place : (p : Place) → c.place ≡ p → IsChangedAt s (word_changed p c.step c.value) t
   by_place (Reg r) e = tt
   by_place (Word a) e = by_step a (c.step == 0) e refl

@@ -1,5 +1,5 @@
 -- How the strikes of a campaign are drawn: three random words for each change, in this order: for its step, its place and its value.
-use Rattle.std.specs.Prelude.{◌≡◌, ◌≤◌, ℕ, ◌+◌, ◌-◌, ◌*◌, ◌/◌, ◌%◌, nat_lt, max, Bool, true, if◌then◌else◌, List, [], ◌∷◌, map, Option, None, Some, IsSome, unwrap_or}
+use Rattle.std.specs.Prelude.{◌≡◌, ◌≤◌, ℕ, ◌+◌, ◌-◌, ◌*◌, ◌%◌, nat_lt, max, Bool, true, if◌then◌else◌, List, map, Option, None, Some, IsSome, unwrap_or}
 use Rattle.rand_pcg.specs.Lcg.{Lcg}
 use Rattle.qed_model.specs.declared.aim.Aim.{Aim}
 use Rattle.qed_model.specs.declared.aim.Draws.{Draws}
@@ -9,24 +9,15 @@ use Rattle.qed_model.specs.declared.change.Place.{Place}
 use Rattle.qed_model.specs.declared.change.Place.TheVariants.{Reg, Word}
 use Rattle.qed_model.specs.declared.change.Change.{Change}
 use Rattle.qed_model.specs.declared.plan.Plan.{Plan}
-use Rattle.qed_model.specs.Admission.DataRanges.{range_of, word_count}
+use Rattle.qed_model.specs.Admission.DataRanges.{range_of, word_count, word_address}
 use Rattle.qed_model.specs.Below.{each}
 use Rattle.qed_model.specs.Promise.Changed.{in_order}
 use Rattle.random_words.specs.Random.{seeded, drawn, next, after}
 
 -- ---- places
--- how many aligned words a range has
-abbrev pub words_in : ℕ × ℕ → ℕ
-words_in r = (r.1 - r.0) / 8
-
--- the address of data word i, from 0, of ranges that ascend; 0 behind the last
-abbrev pub word_address : List (ℕ × ℕ) → ℕ → ℕ
-word_address [] i = 0
-word_address (r ∷ rs) i = if nat_lt i (words_in r) then r.0 + 8 * i else word_address rs (i - words_in r)
-
 -- place q of 13 and the data words: x1 to x13, and then the words
-unfoldable pub place_of : List (ℕ × ℕ) → ℕ → Place
-place_of spans q = if nat_lt q 13 then Reg (q + 1) else Word (word_address spans (q - 13))
+unfoldable pub numbered_place : List (ℕ × ℕ) → ℕ → Place
+numbered_place spans q = if nat_lt q 13 then Reg (q + 1) else Word (word_address spans (q - 13))
 
 -- the plan tells how many data words its ranges have, and has a bound for words where there are some
 pub record HasWords (plan : Plan) : Type 0 where
@@ -41,7 +32,7 @@ has_place _ words = true
 
 -- the place that a word gives: of 13 and the data words, of x1 to x13, or of the data words
 unfoldable pub drawn_place : Option Places → List (ℕ × ℕ) → ℕ → Place
-drawn_place None spans word = place_of spans (word % (13 + word_count spans))
+drawn_place None spans word = numbered_place spans (word % (13 + word_count spans))
 drawn_place (Some Registers) spans word = Reg (word % 13 + 1)
 drawn_place (Some Words) spans word = Word (word_address spans (word % word_count spans))
 

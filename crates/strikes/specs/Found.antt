@@ -9,13 +9,13 @@ use Rattle.qed_model.specs.Machine.Step.{State, run}
 use Rattle.qed_model.specs.Promise.Changed.{changed_run, last_step}
 use Rattle.strikes.specs.declared.error.StrikeError.{StrikeError}
 use Rattle.strikes.specs.declared.error.StrikeError.TheVariants as error
-use Rattle.strikes.specs.Verdict.{IsReached, IsTried, has_closed, StopsAt}
+use Rattle.strikes.specs.Verdict.{GoesPast, IsTried, has_closed, StopsAt}
 
 -- ---- the run without changes
 -- the verdict that it shows
 abbrev pub ShowsUnchanged : State → List Change → Verdict → Type 0
-ShowsUnchanged output cs NotReached = ¬ IsReached output cs
-ShowsUnchanged output cs Closed = IsReached output cs × (has_closed output cs ≡ true)
+ShowsUnchanged output cs NotReached = ¬ GoesPast output cs
+ShowsUnchanged output cs Closed = GoesPast output cs × (has_closed output cs ≡ true)
 ShowsUnchanged output cs _ = ⊥
 
 -- ---- the run behind the last change

@@ -20,13 +20,13 @@ first_step (c ∷ cs) = c.step
 
 -- ---- one word
 -- the address and the value of changes that are one of a word, made where they are counted from
-abbrev pub word_in : Place → ℕ → ℕ → Option (ℕ × ℕ)
-word_in (Word a) step x = if step == 0 then Some (a, x) else None
-word_in (Reg r) step x = None
+abbrev pub word_changed : Place → ℕ → ℕ → Option (ℕ × ℕ)
+word_changed (Word a) step x = if step == 0 then Some (a, x) else None
+word_changed (Reg r) step x = None
 
 abbrev pub one_word : List Change → Option (ℕ × ℕ)
 one_word [] = None
-one_word (c ∷ []) = word_in c.place c.step c.value
+one_word (c ∷ []) = word_changed c.place c.step c.value
 one_word (c ∷ d ∷ cs) = None
 
 -- a state that is another but for that word, where there is one

@@ -18,8 +18,8 @@ use Rattle.strikes.specs.declared.error.StrikeError.TheVariants.{Trapped, Memory
 
 -- ---- the run without changes
 -- it goes on after the step of the last change
-abbrev pub IsReached : State → List Change → Type 0
-IsReached output cs = (run output (last_step cs)).outcome ≡ outcome.Going
+abbrev pub GoesPast : State → List Change → Type 0
+GoesPast output cs = (run output (last_step cs)).outcome ≡ outcome.Going
 
 -- a place is closed in it after the step of its change
 abbrev pub has_closed : State → List Change → Bool
@@ -52,14 +52,14 @@ pub record TrapsAt (input : State) (b : ℕ) (cs : List Change) (pc : ℕ) : Typ
 
 -- the output goes on up to the last change, and each place is open where it is changed
 pub record IsTried (output : State) (cs : List Change) : Type 0 where
-  pub reached : IsReached output cs
+  pub reached : GoesPast output cs
   pub opened : has_closed output cs ≡ false
 
 -- what is answered, by the first of these that holds: the output is not reached, a place is closed, a check fires or the test ends,
 -- the input traps, or none of them; want of memory is told of nothing
 abbrev pub Shows : State → State → ℕ → List Change → Result Verdict StrikeError → Type 0
-Shows input output b cs (Ok NotReached) = ¬ IsReached output cs
-Shows input output b cs (Ok Closed) = IsReached output cs × (has_closed output cs ≡ true)
+Shows input output b cs (Ok NotReached) = ¬ GoesPast output cs
+Shows input output b cs (Ok Closed) = GoesPast output cs × (has_closed output cs ≡ true)
 Shows input output b cs (Ok (Fired k)) = IsTried output cs × IsFound output b cs outcome.Fired k
 Shows input output b cs (Ok (Ended k)) = IsTried output cs × IsFound output b cs outcome.Ended k
 Shows input output b cs (Err (Trapped pc)) = IsTried output cs × IsSilent output b cs × TrapsAt input b cs pc

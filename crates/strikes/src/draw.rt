@@ -1,12 +1,11 @@
 //! Strikes that are drawn at random.
 ghost use Rattle.std.specs.Prelude.{◌≡◌, ◌+◌, ◌*◌, ◌%◌, ◌<◌, true, All, IfOk, OnOk, map};
-ghost use Rattle.qed_model.specs.Admission.DataRanges.{range_of};
+ghost use Rattle.qed_model.specs.Admission.DataRanges.{range_of, word_address as word_address_of};
 ghost use Rattle.random_words.specs.Random.{after};
-ghost use Rattle.strikes.specs.Draw.{word_address as word_address_of, place_of as place_of_number, has_place as has_place_of, drawn_place as drawn_place_of, window as window_of, drawn_change as drawn_change_of, drawn_strike as drawn_strike_of, strike_count as strike_count_of, drawn_strikes as drawn_strikes_of, HasWords};
+ghost use Rattle.strikes.specs.Draw.{numbered_place as place_of_number, has_place as has_place_of, drawn_place as drawn_place_of, window as window_of, drawn_change as drawn_change_of, drawn_strike as drawn_strike_of, strike_count as strike_count_of, drawn_strikes as drawn_strikes_of, HasWords};
 ghost use Rattle.strikes.specs.Struck.{IsStrike};
 
-use ordered_changes::add_change;
-use qed_model::{Aim, Change, Changes, Draws, Place, Places, Plan, Range};
+use qed_model::{Aim, Change, Changes, Draws, Place, Places, Plan, Range, add_change};
 use rand_pcg::Pcg64;
 use random_words::{drawn, seeded};
 use rv_isa::Reg;
@@ -32,14 +31,11 @@ pub fn register(number: u64) -> Reg
     requires { number < 13 }
     ensures { result ≡ number + 1 }
 {
-    match Reg::new(number as u8 + 1) {
-        Some(register) => register,
-        None => unreachable!(),
-    }
+    rv_isa::register(number as u8 + 1)
 }
 
 /// Place `number` of 13 and the data words: x1 to x13, and then the words.
-#[tactic(auto, unfolding(crate::specs::Draw::place_of))]
+#[tactic(auto, unfolding(crate::specs::Draw::numbered_place))]
 fn place_of(ranges: &[Range], number: u64) -> Place
     ensures { result ≡ place_of_number (map range_of ranges.now) number }
 {

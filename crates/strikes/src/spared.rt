@@ -5,7 +5,7 @@ ghost use Rattle.qed_model.specs.Machine.Step.{run};
 ghost use Rattle.qed_model.specs.Machine.Struck.{struck};
 ghost use Rattle.fault_inject.specs.Touched.{IsTrace};
 ghost use Rattle.strikes.specs.Found.{TellsStop};
-ghost use Rattle.strikes.specs.Later.{word_in, one_word as one_word_of};
+ghost use Rattle.strikes.specs.Later.{word_changed, one_word as one_word_of};
 
 use crate::beside::steps_beside;
 use crate::snapshots::{SPACING, Snapshots};
@@ -26,7 +26,7 @@ pub fn one_word(changes: &[Change]) -> Option<(u64, u64)>
 
 /// Those of a change.
 fn word_at_once(change: &Change) -> Option<(u64, u64)>
-    ensures { result ≡ word_in change.now.place change.now.step change.now.value }
+    ensures { result ≡ word_changed change.now.place change.now.step change.now.value }
 {
     match change.place {
         Place::Word(address) => {

@@ -59,6 +59,10 @@ impl Watched {
     pub fn trap(&self, alloc: Global, last: u64, bound: u64) -> Result<Option<u64>, AllocError>
         ensures { IfOk result (λ pc. pc ≡ trap_pc_of (run self.now (last + bound)).outcome) }
     {
+        let outcome = self.later.outcome();
+        if outcome == Outcome::Ended {
+            return Ok(None);
+        }
         match self.later(alloc, last, bound)? {
             Some(machine) => Ok(trap_pc(machine.outcome())),
             None => Ok(None),

@@ -31,7 +31,8 @@ use Rattle.test_admission.specs.declared.rules.CodeRule.TheVariants as rule
 use Rattle.test_admission.specs.declared.stretches.Stretch.{Stretch}
 use Rattle.test_admission.specs.Order.{PassesBelow}
 use Rattle.test_admission.specs.Stretches.{Part, parts_of, span_of, Reads, AllFit, Follow, AreCodeOf}
-use Rattle.test_admission.specs.Faults.{is_at_fault, word_in, faults_at, word_of, first_in, first_among, HasHigh}
+use Rattle.code_ranges.specs.Words.{word_in}
+use Rattle.test_admission.specs.Faults.{is_at_fault, faults_at, placed_word, first_in, first_among, HasHigh}
 use Rattle.test_admission.proofs.FirstFault.{none_case}
 use Rattle.test_admission.proofs.OrderLaws.{passes_more, refused}
 
@@ -102,12 +103,12 @@ module _ (word : ℕ → ℕ) (r : CodeRule) where
     by (Some d) x g rest = absurd (cc)
     by None x g rest = ⊎_elim (none_part p q w.0 h.2 h.3 (none_case p (first (p.size / 4) (faults_at r p)) x) c) (rest g) (or_cases (is_in (span_of p) q) (is_in_any (map span_of ps) q) m)
 
-  here_found : (low : ℕ) (p : Part) (ps : List Part) (a found : ℕ) → Follow low (p ∷ ps) → HasWords p → (o : Option ℕ) → first (p.size / 4) (faults_at r p) ≡ o → option_map (word_of p) o ≡ Some (a, found) → IsFirst low (p ∷ ps) a found
+  here_found : (low : ℕ) (p : Part) (ps : List Part) (a found : ℕ) → Follow low (p ∷ ps) → HasWords p → (o : Option ℕ) → first (p.size / 4) (faults_at r p) ≡ o → option_map (placed_word p) o ≡ Some (a, found) → IsFirst low (p ∷ ps) a found
   here_found low p ps a found h w None e g = absurd (cc)
   here_found low p ps a found h w (Some k) e g =
       let f = first_least (p.size / 4) (faults_at r p) k e in
       let lt = f.below in
-      let both : word_of p k ≡ (a, found) = cc in
+      let both : placed_word p k ≡ (a, found) = cc in
       let at : p.start + 4 * k ≡ a = ap (λ x. x.0) both in
       let is : word_in p.bytes (4 * k) ≡ found = ap (λ x. x.1) both in
       let s = h.2 in

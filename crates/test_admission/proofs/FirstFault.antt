@@ -11,7 +11,8 @@ use Rattle.qed_model.proofs.BelowLaws.{first_found, first_none, first_least, eac
 use Rattle.test_admission.specs.declared.rules.CodeRule.{CodeRule}
 use Rattle.test_admission.specs.declared.rules.CodeRule.TheVariants as rule
 use Rattle.test_admission.specs.Stretches.{Part}
-use Rattle.test_admission.specs.Faults.{faults, is_at_fault, word_in, faults_at, word_of, filled, first_in, first_among}
+use Rattle.code_ranges.specs.Words.{word_in}
+use Rattle.test_admission.specs.Faults.{faults, is_at_fault, faults_at, placed_word, filled, first_in, first_among}
 
 -- ---- the zero word
 zero_decoded : decode_of 0 ≡ Some (ins Illegal 0 0 0 (pos 0))
@@ -30,7 +31,7 @@ empty_passes r p k h = ap (is_at_fault r (p.start + 4 * k)) (zero_word p.bytes (
 
 -- ---- what a loop over the words finds
 found_in : (r : CodeRule) (p : Part) (k : ℕ) → k < filled p → faults_at r p k ≡ true → ((j : ℕ) → j < k → faults_at r p j ≡ false) → Some (p.start + 4 * k, word_in p.bytes (4 * k)) ≡ first_in r p
-found_in r p k lt h before = ap (option_map (word_of p)) (sym (first_found (p.size / 4) (faults_at r p) k (omega (arith, lt)) h before))
+found_in r p k lt h before = ap (option_map (placed_word p)) (sym (first_found (p.size / 4) (faults_at r p) k (omega (arith, lt)) h before))
 
 -- the same of a word that was read
 pub found_word : (r : CodeRule) (p : Part) (k n word : ℕ) → word ≡ word_in p.bytes (4 * k) → k < n → n ≡ filled p → is_at_fault r (p.start + 4 * k) word ≡ true → ((j : ℕ) → j < k → faults_at r p j ≡ false) → Some (p.start + 4 * k, word) ≡ first_in r p
@@ -41,11 +42,11 @@ passed_word r p k word is h before j lt = ⊎_elim (before j) (λ le. let e : k 
 
 pub none_in : (r : CodeRule) (p : Part) (k : ℕ) → filled p ≤ k → ((j : ℕ) → j < k → faults_at r p j ≡ false) → None ≡ first_in r p
 none_in r p k le none =
-    ap (option_map (word_of p)) (sym (first_none (p.size / 4) (faults_at r p)
+    ap (option_map (placed_word p)) (sym (first_none (p.size / 4) (faults_at r p)
     (λ j lt. ⊎_elim (none j) (λ more. empty_passes r p j (omega (arith, le, lt, more))) (cases_lt j k))))
 
 -- where none of a part is at fault, each word passes
-pub none_case : (p : Part) (o : Option ℕ) → option_map (word_of p) o ≡ None → o ≡ None
+pub none_case : (p : Part) (o : Option ℕ) → option_map (placed_word p) o ≡ None → o ≡ None
 none_case p None e = refl
 none_case p (Some k) e = absurd (cc)
 
@@ -67,7 +68,7 @@ none_less q r less [] e = refl
 none_less q r less (p ∷ ps) e =
     let s = none_split q p ps e in
     let here : first_in r p ≡ None =
-    ap (option_map (word_of p)) (first_none (p.size / 4) (faults_at r p) (λ j lt. less (p.start + 4 * j) (decode_of (word_in p.bytes (4 * j))) (each_passes q p j s.0 lt))) in
+    ap (option_map (placed_word p)) (first_none (p.size / 4) (faults_at r p) (λ j lt. less (p.start + 4 * j) (decode_of (word_in p.bytes (4 * j))) (each_passes q p j s.0 lt))) in
     ap (λ x. option_or x (first_among r ps)) here ∙ none_less q r less ps s.1
 
 -- what is at fault by none of the rules is at fault by no one of them
@@ -89,9 +90,9 @@ none_each base ps h = (
 )
 
 -- ---- what is found is at fault
-hit_in : (r : CodeRule) (p : Part) (c : ℕ × ℕ) (o : Option ℕ) → first (p.size / 4) (faults_at r p) ≡ o → option_map (word_of p) o ≡ Some c → is_at_fault r c.0 c.1 ≡ true
+hit_in : (r : CodeRule) (p : Part) (c : ℕ × ℕ) (o : Option ℕ) → first (p.size / 4) (faults_at r p) ≡ o → option_map (placed_word p) o ≡ Some c → is_at_fault r c.0 c.1 ≡ true
 hit_in r p c None e h = absurd (cc)
-hit_in r p c (Some k) e h = subst (λ x. is_at_fault r x.0 x.1 ≡ true) (same_Some (word_of p k) c h) (first_least (p.size / 4) (faults_at r p) k e).passes
+hit_in r p c (Some k) e h = subst (λ x. is_at_fault r x.0 x.1 ≡ true) (same_Some (placed_word p k) c h) (first_least (p.size / 4) (faults_at r p) k e).passes
 
 pub hit_among : (r : CodeRule) (ps : List Part) (c : ℕ × ℕ) → first_among r ps ≡ Some c → is_at_fault r c.0 c.1 ≡ true
 hit_among r [] c h = absurd (cc)

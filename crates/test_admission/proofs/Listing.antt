@@ -22,8 +22,8 @@ use Rattle.test_admission.specs.declared.rules.CodeRule.TheVariants as rule
 use Rattle.test_admission.specs.declared.stretches.Stretch.{Stretch}
 use Rattle.test_admission.specs.Order.{PassesBelow}
 use Rattle.test_admission.specs.Stretches.{Part, part_of, parts_of, span_of, Reads, Follow, AreCodeOf}
-use Rattle.test_admission.specs.Faults.{word_of, first_among}
-use Rattle.test_admission.specs.Words.{words_from, words_in, words_among, word_total, pair_of, pairs_of, IsDecoded}
+use Rattle.test_admission.specs.Faults.{placed_word, first_among}
+use Rattle.test_admission.specs.Words.{words_from, part_words, words_among, word_total, pair_of, pairs_of, IsDecoded}
 use Rattle.test_admission.proofs.OrderLaws.{passes_more, refused}
 use Rattle.test_admission.proofs.FirstFault.{none_split}
 use Rattle.test_admission.proofs.Faulting.{part_word}
@@ -38,7 +38,7 @@ length-words_from p k (suc n) = let h = length-words_from p (k + 1) n in omega (
 
 length-words_among : (ps : List Part) → length (words_among ps) ≡ word_total ps
 length-words_among [] = refl
-length-words_among (p ∷ ps) = let h = length-words_from p 0 (p.size / 4) in let r = length-words_among ps in let a = length-append (words_in p) (words_among ps) in omega (arith, a, h, r)
+length-words_among (p ∷ ps) = let h = length-words_from p 0 (p.size / 4) in let r = length-words_among ps in let a = length-append (part_words p) (words_among ps) in omega (arith, a, h, r)
 
 pub few_words : (low : ℕ) (ps : List Part) → Follow low ps → low ≤ 2 ^ 64 → 4 * word_total ps + low ≤ 2 ^ 64
 few_words low [] h l = omega (arith, l)
@@ -108,20 +108,20 @@ listed_in low a (p ∷ ps) h m =
     let s = h.2 in
     (omega (arith, e, s), or_left (is_in (span_of p) a) (is_in_any (map span_of ps) a) (in_from (span_of p) a (omega (arith, e)) (omega (arith, e, b)))))
     (λ x. let r = listed_in (p.start + p.size) a ps h.5 x in (r.0, or_right (is_in (span_of p) a) (is_in_any (map span_of ps) a) r.1))
-    (among-either a (firsts (words_in p)) (firsts (words_among ps)) (subst (Among a) (map-append (λ c. c.0) (words_in p) (words_among ps)) m))
+    (among-either a (firsts (part_words p)) (firsts (words_among ps)) (subst (Among a) (map-append (λ c. c.0) (part_words p) (words_among ps)) m))
 
 in_listed : (low a : ℕ) (ps : List Part) → Follow low ps → a % 4 ≡ 0 → is_in_any (map span_of ps) a ≡ true → Among a (firsts (words_among ps))
 in_listed low a [] h c m = absurd (false≢true m)
 in_listed low a (p ∷ ps) h c m =
-    subst (Among a) (sym (map-append (λ c. c.0) (words_in p) (words_among ps)))
+    subst (Among a) (sym (map-append (λ c. c.0) (part_words p) (words_among ps)))
     (⊎_elim
     (λ x.
     let i = in_parts (span_of p) a x in
     let s = h.2 in
     let z = h.3 in
     let e : p.start + 4 * ((a - p.start) / 4) ≡ a = omega (arith, i.0, s, c) in
-    among-left a (firsts (words_in p)) (firsts (words_among ps)) (subst (λ q. Among q (firsts (words_in p))) e (word_among p 0 (p.size / 4) ((a - p.start) / 4) (omega arith) (omega (arith, i.0, i.1, s, z, c)))))
-    (λ x. among-right a (firsts (words_in p)) (firsts (words_among ps)) (in_listed (p.start + p.size) a ps h.5 c x))
+    among-left a (firsts (part_words p)) (firsts (words_among ps)) (subst (λ q. Among q (firsts (part_words p))) e (word_among p 0 (p.size / 4) ((a - p.start) / 4) (omega arith) (omega (arith, i.0, i.1, s, z, c)))))
+    (λ x. among-right a (firsts (part_words p)) (firsts (words_among ps)) (in_listed (p.start + p.size) a ps h.5 c x))
     (or_cases (is_in (span_of p) a) (is_in_any (map span_of ps) a) m))
 
 -- ---- so they are the code addresses
@@ -154,7 +154,7 @@ module _ (f : ElfFile) (o : Options) (ps : List Part) (code : AreCodeOf f ps) (p
     by d p h = absurd (omega (arith, p))
 
 -- ---- one word more of a part
-pub push_step : (p : Part) (k count : ℕ) (ws more : List CodeWord) (x : CodeWord) (all : List (ℕ × ℕ)) → more ≡ ws ++ x ∷ [] → k < count → pair_of x ≡ word_of p k → pairs_of ws ++ words_from p k (count - k) ≡ all → pairs_of more ++ words_from p (k + 1) (count - (k + 1)) ≡ all
+pub push_step : (p : Part) (k count : ℕ) (ws more : List CodeWord) (x : CodeWord) (all : List (ℕ × ℕ)) → more ≡ ws ++ x ∷ [] → k < count → pair_of x ≡ placed_word p k → pairs_of ws ++ words_from p k (count - k) ≡ all → pairs_of more ++ words_from p (k + 1) (count - (k + 1)) ≡ all
 push_step p k count ws more x all e lt is h =
     let n : count - k ≡ suc (count - (k + 1)) = omega (arith, lt) in
     let rest = words_from p (k + 1) (count - (k + 1)) in
@@ -172,11 +172,11 @@ decoded_step ws more x e is h = subst (All IsDecoded) (sym e) (All-push IsDecode
 rest_parts : (code : List Stretch) (i : ℕ) (d : Stretch) → i < length code → parts_of (drop i code) ≡ part_of (get_or code i d) ∷ parts_of (drop (i + 1) code)
 rest_parts code i d lt = let split : drop i code ≡ get_or code i d ∷ drop (i + 1) code = rw add-one (drop-cons code i d lt) in ap parts_of split
 
-pub stretch_step : (code : List Stretch) (i : ℕ) (d : Stretch) (old more all : List (ℕ × ℕ)) → i < length code → more ≡ old ++ words_in (part_of (get_or code i d)) → old ++ words_among (parts_of (drop i code)) ≡ all → more ++ words_among (parts_of (drop (i + 1) code)) ≡ all
+pub stretch_step : (code : List Stretch) (i : ℕ) (d : Stretch) (old more all : List (ℕ × ℕ)) → i < length code → more ≡ old ++ part_words (part_of (get_or code i d)) → old ++ words_among (parts_of (drop i code)) ≡ all → more ++ words_among (parts_of (drop (i + 1) code)) ≡ all
 stretch_step code i d old more all lt e h =
     let rest = words_among (parts_of (drop (i + 1) code)) in
     ap (λ xs. xs ++ rest) e
-    ∙ append_assoc old (words_in (part_of (get_or code i d))) rest
+    ∙ append_assoc old (part_words (part_of (get_or code i d))) rest
     ∙ ap (λ ps. old ++ words_among ps) (sym (rest_parts code i d lt))
     ∙ h
 
@@ -186,11 +186,11 @@ known_step code i d lt h = (none_split rule.Unknown (part_of (get_or code i d)) 
 -- ---- the words of a list are those of the file
 words_right : (f : ElfFile) (p : Part) (k n : ℕ) → Reads (loads_of f) p → k + n ≤ p.size / 4 → All (λ c. c.1 ≡ word_at f c.0) (words_from p k n)
 words_right f p k zero r l = All-nil (λ c. c.1 ≡ word_at f c.0)
-words_right f p k (suc n) r l = All-cons (λ c. c.1 ≡ word_at f c.0) (word_of p k) (words_from p (k + 1) n) (part_word (loads_of f) p k r (omega (arith, l))) (words_right f p (k + 1) n r (omega (arith, l)))
+words_right f p k (suc n) r l = All-cons (λ c. c.1 ≡ word_at f c.0) (placed_word p k) (words_from p (k + 1) n) (part_word (loads_of f) p k r (omega (arith, l))) (words_right f p (k + 1) n r (omega (arith, l)))
 
 all_right : (f : ElfFile) (ps : List Part) → All (Reads (loads_of f)) ps → All (λ c. c.1 ≡ word_at f c.0) (words_among ps)
 all_right f [] h = All-nil (λ c. c.1 ≡ word_at f c.0)
-all_right f (p ∷ ps) h = All-append (λ c. c.1 ≡ word_at f c.0) (words_in p) (words_among ps) (words_right f p 0 (p.size / 4) (All-head (Reads (loads_of f)) p ps h) (omega arith)) (all_right f ps (All-tail (Reads (loads_of f)) p ps h))
+all_right f (p ∷ ps) h = All-append (λ c. c.1 ≡ word_at f c.0) (part_words p) (words_among ps) (words_right f p 0 (p.size / 4) (All-head (Reads (loads_of f)) p ps h) (omega arith)) (all_right f ps (All-tail (Reads (loads_of f)) p ps h))
 
 firsts_of : (cs : List CodeWord) → map (λ c. c.at) cs ≡ firsts (pairs_of cs)
 firsts_of [] = refl

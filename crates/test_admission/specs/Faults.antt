@@ -1,5 +1,5 @@
 -- The rules on code words: at one word, and the first in parts of code that one is at fault.
-use Rattle.std.specs.Prelude.{◌≡◌, ℕ, ◌+◌, ◌*◌, ◌/◌, ◌&&◌, ◌||◌, Bool, is_none, is_some, Option, Some, None, List, [], ◌∷◌, slice_index, length, min}
+use Rattle.std.specs.Prelude.{◌≡◌, ℕ, ◌+◌, ◌*◌, ◌/◌, ◌&&◌, ◌||◌, Bool, is_none, is_some, Option, Some, None, List, [], ◌∷◌, length, min}
 use Rattle.std.specs.Option.{option_map, option_or}
 use Rattle.qed_model.specs.declared.admit.AdmitError.{AdmitError}
 use Rattle.qed_model.specs.declared.admit.AdmitError.TheVariants as error
@@ -9,6 +9,7 @@ use Rattle.qed_model.specs.Machine.Step.{target}
 use Rattle.qed_model.specs.Weave.Placed.{distance_between}
 use Rattle.qed_model.specs.Admission.Rules.{passes_at, high_in, is_ebreak, is_far}
 use Rattle.qed_model.specs.Weave.Sequences.{is_auipc}
+use Rattle.code_ranges.specs.Words.{word_in}
 use Rattle.test_admission.specs.declared.rules.CodeRule.{CodeRule}
 use Rattle.test_admission.specs.declared.rules.CodeRule.TheVariants as rule
 use Rattle.test_admission.specs.Stretches.{Part}
@@ -24,10 +25,6 @@ faults (rule.Any base) a found = is_none found || (is_some (high_in found) || (p
 abbrev pub is_at_fault : CodeRule → ℕ → ℕ → Bool
 is_at_fault r a word = faults r a (decode_of word)
 
--- the word from a byte on, where zeros follow the bytes
-abbrev pub word_in : List ℕ → ℕ → ℕ
-word_in bs k = slice_index bs k + 256 * (slice_index bs (k + 1) + 256 * (slice_index bs (k + 2) + 256 * slice_index bs (k + 3)))
-
 -- word k of a part is at fault
 abbrev pub faults_at : CodeRule → Part → ℕ → Bool
 faults_at r p k = is_at_fault r (p.start + 4 * k) (word_in p.bytes (4 * k))
@@ -37,12 +34,12 @@ abbrev pub filled : Part → ℕ
 filled p = min ((length p.bytes + 3) / 4) (p.size / 4)
 
 -- the address of word k of a part, and the word
-abbrev pub word_of : Part → ℕ → ℕ × ℕ
-word_of p k = (p.start + 4 * k, word_in p.bytes (4 * k))
+abbrev pub placed_word : Part → ℕ → ℕ × ℕ
+placed_word p k = (p.start + 4 * k, word_in p.bytes (4 * k))
 
 -- the first word of a part that is at fault: its address and the word
 abbrev pub first_in : CodeRule → Part → Option (ℕ × ℕ)
-first_in r p = option_map (word_of p) (first (p.size / 4) (faults_at r p))
+first_in r p = option_map (placed_word p) (first (p.size / 4) (faults_at r p))
 
 -- the first of parts in their order
 abbrev pub first_among : CodeRule → List Part → Option (ℕ × ℕ)

@@ -3,20 +3,20 @@ use Rattle.std.specs.Prelude.{◌≡◌, ℕ, zero, suc, ◌+◌, ◌/◌, Some,
 use Rattle.qed_model.specs.declared.test.CodeWord.{CodeWord}
 use Rattle.qed_model.specs.Machine.Table.{decode_of}
 use Rattle.test_admission.specs.Stretches.{Part}
-use Rattle.test_admission.specs.Faults.{word_of}
+use Rattle.test_admission.specs.Faults.{placed_word}
 
 -- so many words of a part, from number k on
 abbrev pub words_from : Part → ℕ → ℕ → List (ℕ × ℕ)
 words_from p k zero = []
-words_from p k (suc n) = word_of p k ∷ words_from p (k + 1) n
+words_from p k (suc n) = placed_word p k ∷ words_from p (k + 1) n
 
 -- all words of a part, and of parts
-abbrev pub words_in : Part → List (ℕ × ℕ)
-words_in p = words_from p 0 (p.size / 4)
+abbrev pub part_words : Part → List (ℕ × ℕ)
+part_words p = words_from p 0 (p.size / 4)
 
 abbrev pub words_among : List Part → List (ℕ × ℕ)
 words_among [] = []
-words_among (p ∷ ps) = words_in p ++ words_among ps
+words_among (p ∷ ps) = part_words p ++ words_among ps
 
 -- how many they are
 abbrev pub word_total : List Part → ℕ

@@ -12,8 +12,9 @@ ghost use Rattle.test_admission.specs.Faults.{filled, first_in, first_among, Has
 ghost use Rattle.test_admission.specs.Order.{PassesBelow};
 ghost use Rattle.test_admission.specs.Stretches.{part_of, parts_of, AllFit, AreCodeOf};
 
-use crate::rules::{CodeRule, high_in, is_at_fault, word_in};
+use crate::rules::{CodeRule, high_in, is_at_fault};
 use crate::stretches::Stretch;
+use code_ranges::word_in;
 use elf_types::ElfFile;
 use qed_model::AdmitError;
 

@@ -1,12 +1,12 @@
 //! The rules on a code word: an instruction, registers up to x13, no breakpoint, no constant out of reach.
-ghost use Rattle.std.specs.Prelude.{◌≡◌, ◌+◌, ◌*◌, ◌^◌, ◌<◌, ◌&&◌, slice_index};
+ghost use Rattle.std.specs.Prelude.{◌≡◌, ◌&&◌};
 ghost use Rattle.qed_model.specs.Machine.Table.{decode_of};
 ghost use Rattle.qed_model.specs.Machine.Step.{target};
 ghost use Rattle.qed_model.specs.Weave.Placed.{distance_between};
 ghost use Rattle.qed_model.specs.Admission.Terms.{if_high, high_register};
 ghost use Rattle.qed_model.specs.Admission.Rules.{high_in, is_ebreak, is_far};
 ghost use Rattle.qed_model.specs.Weave.Sequences.{is_auipc};
-ghost use Rattle.test_admission.specs.Faults.{faults, is_at_fault, word_in};
+ghost use Rattle.test_admission.specs.Faults.{faults, is_at_fault};
 
 use rv_decode::decode;
 use rv_isa::{Ins, Kind, Reg};
@@ -96,24 +96,4 @@ pub fn is_at_fault(rule: CodeRule, address: u64, word: u32) -> bool
                 || is_far_constant(&instruction, address, base)
         }
     }
-}
-
-/// The byte at a place, 0 behind the last.
-fn byte_at(bytes: &[u8], place: usize) -> u8
-    ensures { result ≡ slice_index bytes.now place }
-{
-    if place < bytes.len() { bytes[place] } else { 0 }
-}
-
-/// The word from one of some bytes on, where zeros follow them.
-pub fn word_in(bytes: &[u8], place: usize) -> u32
-    requires { place + 3 < 2 ^ 64 }
-    ensures { result ≡ word_in bytes.now place }
-{
-    let first = byte_at(bytes, place);
-    let second = byte_at(bytes, place + 1);
-    let third = byte_at(bytes, place + 2);
-    let fourth = byte_at(bytes, place + 3);
-    u32::from(first)
-        + 256 * (u32::from(second) + 256 * (u32::from(third) + 256 * u32::from(fourth)))
 }

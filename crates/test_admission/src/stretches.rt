@@ -7,7 +7,7 @@ ghost use Rattle.test_admission.specs.Read.{AreRead};
 ghost use Rattle.test_admission.specs.Shape.{IsShaped};
 ghost use Rattle.test_admission.specs.Stretches.{part_of, parts_of, span_of, rest_of, Reads, IsRange, has_code, whole_part, whole_parts, trimmed, cut, AreCodeOf};
 
-use code_ranges::lies_in;
+use code_ranges::code_segment;
 use elf_types::{ElfFile, Section, Segment};
 use std::alloc::{AllocError, Global};
 
@@ -69,18 +69,6 @@ impl<'a> Stretch<'a> {
     }
 }
 
-/// The executable segment in which a section lies.
-fn home<'a>(section: &Section, segments: &'a [Segment]) -> Option<&'a Segment>
-    ensures { MatchOption result (lies_in_any section.now (load_segments segments.now) ≡ false) (λ s. (lies_in_any section.now (load_segments segments.now) ≡ true) × Contains segments.now s.now × (s.now.kind ≡ 1) × (lies_in_code section.now (load_segment s.now) ≡ true)) }
-{
-    for segment in segments {
-        if segment.is_load() && lies_in(section, segment) {
-            return Some(segment);
-        }
-    }
-    None
-}
-
 /// The addresses of a section, where it is a code range.
 fn stretch_of_section<'a>(segments: &'a [Segment], section: &Section) -> Option<Stretch<'a>>
     requires { AreRead (load_segments segments.now) }
@@ -89,7 +77,7 @@ fn stretch_of_section<'a>(segments: &'a [Segment], section: &Section) -> Option<
     if !section.is_code() {
         return None;
     }
-    let segment = home(section, segments)?;
+    let segment = code_segment(section, segments)?;
     Some(Stretch::of(segment, section.address, section.size))
 }
 

@@ -5,10 +5,10 @@ ghost use Rattle.test_admission.specs.declared.rules.CodeRule.TheVariants as rul
 ghost use Rattle.test_admission.specs.Faults.{first_in, first_among};
 ghost use Rattle.test_admission.specs.Order.{PassesBelow};
 ghost use Rattle.test_admission.specs.Stretches.{part_of, parts_of, AllFit, AreCodeOf};
-ghost use Rattle.test_admission.specs.Words.{words_in, words_among, word_total, pairs_of, IsDecoded};
+ghost use Rattle.test_admission.specs.Words.{part_words, words_among, word_total, pairs_of, IsDecoded};
 
-use crate::rules::word_in;
 use crate::stretches::Stretch;
+use code_ranges::word_in;
 use elf_types::ElfFile;
 use qed_model::limits::MAX_CODE_WORDS;
 use qed_model::{AdmitError, CodeWord, Options};
@@ -48,7 +48,7 @@ pub fn check_words(
 fn push_words(words: &mut Vec<CodeWord>, stretch: &Stretch<'_>) -> Result<(), AllocError>
     requires fits { stretch.now.start + stretch.now.size ≤ 2 ^ 64 }
     requires known { first_in rule.Unknown (part_of stretch.now) ≡ None }
-    ensures words { OnOk result (pairs_of words.new.items ≡ pairs_of words.old.items ++ words_in (part_of stretch.now)) }
+    ensures words { OnOk result (pairs_of words.new.items ≡ pairs_of words.old.items ++ part_words (part_of stretch.now)) }
     ensures decoded { OnOk result (All IsDecoded words.old.items → All IsDecoded words.new.items) }
 {
     for number in 0..stretch.size / 4 {

@@ -14,7 +14,7 @@ use Rattle.qed_model.specs.Elf.Sound.{AreLoads, ApartLoads}
 use Rattle.qed_model.proofs.ApartLaws.{alone}
 use Rattle.elf_files.proofs.LoadsApart.{apart}
 use Rattle.test_gen.specs.Code.{code}
-use Rattle.test_gen.specs.Generated.{word_of, code_bytes, table_bytes, data_bytes, function_at}
+use Rattle.test_gen.specs.Generated.{generated_word, code_bytes, table_bytes, data_bytes, function_at}
 use Rattle.test_gen.proofs.Shape.{file_of, AreSized}
 
 -- ---- bytes
@@ -25,7 +25,7 @@ small_numbers (suc n) f k = append_fit (gather n (λ i. number_bytes 8 (f i))) (
 
 pub small_code : (seed n k : ℕ) → slice_index (code_bytes seed n) k < 256
 unfolding code_bytes
-small_code seed n k = bytes_of_fit (map word_of (code seed n)) k
+small_code seed n k = bytes_of_fit (map generated_word (code seed n)) k
 
 pub small_table : (n k : ℕ) → slice_index (table_bytes n) k < 256
 unfolding table_bytes

@@ -9,10 +9,10 @@ use Rattle.elf_files.specs.File.{IsReadAs}
 use Rattle.qed_model.specs.Elf.FileRead.{file_read}
 use Rattle.qed_model.specs.Elf.Layout.{written}
 use Rattle.qed_model.specs.Machine.Loading.{loaded_file}
-use Rattle.qed_model.specs.Machine.Program.{AreStartRegs, start, zeros}
+use Rattle.qed_model.specs.Machine.Program.{start, zeros}
 use Rattle.qed_model.specs.Options.{default_options}
 use Rattle.elf_files.specs.Output.{WovenFile}
-use Rattle.qed_model.proofs.Fields.{are_bytes}
+use Rattle.qed_model.proofs.Fields.{zeros_start}
 use Rattle.qed_model.proofs.Walk.{run-more}
 use Rattle.test_gen.specs.Ends.{EndsAfter, EndsWithin, HasEnded, test_steps}
 use Rattle.test_gen.specs.Generated.{generated}
@@ -78,9 +78,6 @@ has_ended s n m h few small =
     record { outcome = ap (λ (p : Progress). p.state.outcome) come ∙ h.ends; steps = ap (λ (p : Progress). p.steps) come ∙ none }
 
 -- ---- the test's own run
-zeros_start : AreStartRegs zeros
-zeros_start = record { count = refl; fit = λ r. let b = are_bytes zeros refl r in omega (arith, b) }
-
 few_steps : (size : ℕ) → 1 ≤ size → size ≤ 60000 → test_steps size ≤ 213765
 unfolding test_steps
 few_steps size some most = let n = few_functions size some most in omega (arith, n.1)

@@ -5,7 +5,7 @@ use Rattle.qed_model.specs.Below.{gather}
 use Rattle.qed_model.specs.Numbers.{number_bytes}
 use Rattle.qed_model.proofs.Fields.{length-number_bytes, length-bytes_of}
 use Rattle.test_gen.specs.Code.{code}
-use Rattle.test_gen.specs.Generated.{word_of, code_bytes, function_at, table_bytes, data_bytes}
+use Rattle.test_gen.specs.Generated.{generated_word, code_bytes, function_at, table_bytes, data_bytes}
 use Rattle.test_gen.proofs.Functions.{length-code}
 
 -- numbers of 8 bytes, end to end
@@ -16,7 +16,7 @@ length-numbers (suc n) f = omega (arith, length-append (gather n (λ i. number_b
 
 pub length-code_bytes : (seed n : ℕ) → length (code_bytes seed n) ≡ 48 + 132 * n
 unfolding code_bytes
-length-code_bytes seed n = omega (arith, length-bytes_of (map word_of (code seed n)), length-map (code seed n) word_of, length-code seed n)
+length-code_bytes seed n = omega (arith, length-bytes_of (map generated_word (code seed n)), length-map (code seed n) generated_word, length-code seed n)
 
 pub length-table_bytes : (n : ℕ) → length (table_bytes n) ≡ 8 * n
 unfolding table_bytes

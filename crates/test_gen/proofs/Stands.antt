@@ -21,7 +21,7 @@ use Rattle.qed_model.proofs.Fields.{length-number_bytes, length-bytes_of, field-
 use Rattle.qed_model.specs.Members.{Every}
 use Rattle.qed_model.proofs.Reach.{has_word}
 use Rattle.qed_model.proofs.Tables.{decode_encode}
-use Rattle.test_gen.specs.Generated.{word_of}
+use Rattle.test_gen.specs.Generated.{generated_word}
 use Rattle.test_gen.proofs.Plain.{IsPlain}
 
 -- ---- numbers in the first segment
@@ -50,8 +50,8 @@ unfolding field
 field_first s ss k n h = let same : k + 0 ≡ k = omega arith in number_first s ss k n h ∙ sym (from_place k 0 n s.bytes ∙ ap (λ j. little_from j n s.bytes) same)
 
 -- ---- words
-encoded : (i : Ins) → has_word i ≡ true → encode_of i ≡ Some (word_of i)
-unfolding word_of
+encoded : (i : Ins) → has_word i ≡ true → encode_of i ≡ Some (generated_word i)
+unfolding generated_word
 encoded i h = by (encode_of i) h where
   by : (o : Option ℕ) → is_some o ≡ true → o ≡ Some (unwrap_or o 0)
   by None e = absurd (false≢true e)
@@ -75,13 +75,13 @@ module _ (f : ElfFile) (from : ℕ) (bytes : List ℕ) (image : IsImage f from b
       subst (λ rs. is_code_address rs (from + k) ≡ true) (sym image.range) there
 
   stand :
-      (front : List ℕ) (code : List Ins) (k a : ℕ) → Every IsPlain code → bytes ≡ front ++ bytes_of (map word_of code) → length front ≡ k → k % 4 ≡ 0
+      (front : List ℕ) (code : List Ins) (k a : ℕ) → Every IsPlain code → bytes ≡ front ++ bytes_of (map generated_word code) → length front ≡ k → k % 4 ≡ 0
       → a ≡ from + k → StandFrom f a code
   stand front [] k a p e l g at = tt
   stand front (i ∷ is) k a p e l g at =
-      let w = word_of i in
+      let w = generated_word i in
       let first = p.0 in
-      let rest = bytes_of (map word_of is) in
+      let rest = bytes_of (map generated_word is) in
       let decoded = decode_encode w i (encoded i first.word) in
       let small = decoded.0 in
       let long : k + 4 ≤ length bytes = omega (arith, l, ap length e, length-append front (number_bytes 4 w ++ rest), length-append (number_bytes 4 w) rest, length-number_bytes 4 w) in
@@ -93,9 +93,9 @@ module _ (f : ElfFile) (from : ℕ) (bytes : List ℕ) (image : IsImage f from b
       )
 
   -- so they are all of its code
-  pub known : (code : List Ins) → Every IsPlain code → bytes ≡ bytes_of (map word_of code) → IsCodeOf f from code
+  pub known : (code : List Ins) → Every IsPlain code → bytes ≡ bytes_of (map generated_word code) → IsCodeOf f from code
   known code p e =
-      let size : length bytes ≡ 4 * length code = ap length e ∙ length-bytes_of (map word_of code) ∙ ap (λ n. 4 * n) (length-map code word_of) in
+      let size : length bytes ≡ 4 * length code = ap length e ∙ length-bytes_of (map generated_word code) ∙ ap (λ n. 4 * n) (length-map code generated_word) in
       record { range = image.range ∙ ap (λ n. (from, from + n) ∷ []) size; grain = image.grain; stand = stand [] code 0 from p e refl refl (omega arith) }
 
 -- ---- none is refused

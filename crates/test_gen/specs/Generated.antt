@@ -15,11 +15,11 @@ use Rattle.test_gen.specs.Code.{function_count, code}
 
 -- ---- segments
 -- the word of an instruction; each of a generated test has one
-unfoldable pub word_of : Ins → ℕ
-word_of i = unwrap_or (encode_of i) 0
+unfoldable pub generated_word : Ins → ℕ
+generated_word i = unwrap_or (encode_of i) 0
 
 unfoldable pub code_bytes : ℕ → ℕ → List ℕ
-code_bytes seed n = bytes_of (map word_of (code seed n))
+code_bytes seed n = bytes_of (map generated_word (code seed n))
 
 -- the address of function i, behind the 12 words of `main` and 33 words for each function before it
 abbrev pub function_at : ℕ → ℕ

@@ -4,7 +4,7 @@ ghost use Rattle.qed_model.specs.Below.{each};
 ghost use Rattle.qed_model.specs.Numbers.{bytes_of};
 ghost use Rattle.random_words.specs.Random.{drawn as drawn_of, after};
 ghost use Rattle.test_gen.specs.Code.{body_instruction as body_instruction_of, function_count as function_count_of, return, main as main_of, code as code_of};
-ghost use Rattle.test_gen.specs.Generated.{word_of as word_of_instruction};
+ghost use Rattle.test_gen.specs.Generated.{generated_word as word_of_instruction};
 
 use crate::body::body_instruction;
 use crate::instruction::instruction;
@@ -75,7 +75,7 @@ pub fn code(alloc: Global, seed: u64, functions: u64) -> Result<Vec<Ins>, AllocE
 }
 
 /// The word of an instruction. Each of a generated test has one.
-#[tactic(auto, unfolding(crate::specs::Generated::word_of))]
+#[tactic(auto, unfolding(crate::specs::Generated::generated_word))]
 fn word_of(ins: &Ins) -> u32
     ensures { result ≡ word_of_instruction ins.now }
 {

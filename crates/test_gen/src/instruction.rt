@@ -2,18 +2,7 @@
 ghost use Rattle.std.specs.Prelude.{◌≡◌, ◌<◌};
 ghost use Rattle.qed_model.specs.Machine.Table.{ins as ins_of};
 
-use rv_isa::{Ins, Kind, Reg};
-
-/// The register of a number below 32.
-fn register(number: u8) -> Reg
-    requires { number < 32 }
-    ensures { result ≡ number }
-{
-    match Reg::new(number) {
-        Some(register) => register,
-        None => unreachable!(),
-    }
-}
+use rv_isa::{Ins, Kind, register};
 
 /// An instruction, by its kind, the numbers of its registers, and its immediate.
 pub fn instruction(kind: Kind, rd: u8, rs1: u8, rs2: u8, imm: i64) -> Ins

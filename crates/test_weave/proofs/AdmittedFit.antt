@@ -14,7 +14,7 @@ use Rattle.qed_model.specs.Admission.Leaders.{is_end}
 use Rattle.qed_model.specs.Admission.Test.{AreCodeWords}
 use Rattle.qed_model.specs.Weave.Pieces.{divided, whole}
 use Rattle.qed_model.specs.declared.options.Options.{Options}
-use Rattle.qed_model.specs.Weave.Blocks.{ElfFile, IsBodyAt, StopsAt, IsLeaderBlock, IsShort, IsOtherBlock}
+use Rattle.qed_model.specs.Weave.Blocks.{ElfFile, IsBodyAt, StopsAt, IsLeaderBlock, IsShort, IsOtherBlock, IsBlockOf}
 use Rattle.qed_model.proofs.PieceLaws.{pieces_whole}
 use Rattle.weave_core.specs.Blocks.{AllFit}
 use Rattle.weave_core.proofs.FileBlocks.{is_fence_class, IsKnownCode, low_instruction, fits_piece, body_fits}
@@ -77,14 +77,14 @@ module _ (f : ElfFile) (code : IsKnownCode f) where
         let p = short_fits b w q.instruction q.stands b.end q.short in
         record { body = p.0; end = p.1; whole = w.whole; low = omega (arith, low, small) }
 
-    all_fit : (bs : List CodeBlock) → All (IsWithin top) bs → All (λ b. IsLeaderBlock f o b ⊎ IsOtherBlock f o b) (map block_of bs) → All FitsBlock bs
+    all_fit : (bs : List CodeBlock) → All (IsWithin top) bs → All (IsBlockOf f o) (map block_of bs) → All FitsBlock bs
     all_fit [] w h = All-nil FitsBlock
     all_fit (b ∷ bs) w h =
-        let x = All-head (λ c. IsLeaderBlock f o c ⊎ IsOtherBlock f o c) (block_of b) (map block_of bs) h in
+        let x = All-head (IsBlockOf f o) (block_of b) (map block_of bs) h in
         let v = All-head (IsWithin top) b bs w in
         All-cons FitsBlock b bs
         (⊎_elim (λ l. leader_fits b v l) (λ q. other_fits b v q) x)
-        (all_fit bs (All-tail (IsWithin top) b bs w) (All-tail (λ c. IsLeaderBlock f o c ⊎ IsOtherBlock f o c) (block_of b) (map block_of bs) h))
+        (all_fit bs (All-tail (IsWithin top) b bs w) (All-tail (IsBlockOf f o) (block_of b) (map block_of bs) h))
 
 -- ---- all blocks of a test
 -- its words stand at code addresses

@@ -8,9 +8,9 @@ ghost use Rattle.test_weave.specs.Form.{form};
 
 use crate::Weaver;
 use flow_tracking::Leave;
-use passes::{Emit, Pass, plain, register};
+use passes::{Emit, Pass, plain};
 use qed_model::{Item, Range};
-use rv_isa::{Ins, Kind};
+use rv_isa::{Ins, Kind, register};
 use std::alloc::AllocError;
 
 /// Appends what sets so many registers from x`first` on to 0.

@@ -7,7 +7,7 @@ use Rattle.rv_isa.specs.declared.ins.Ins.{Ins}
 use Rattle.qed_model.specs.Machine.Table.{decode_of}
 use Rattle.texts.specs.Printed.{word_text}
 use Rattle.texts.specs.Read.{colon, parted}
-use Rattle.rv_text.specs.Forms.{form_of}
+use Rattle.rv_text.specs.Forms.{text_form}
 use Rattle.rv_text.specs.Names.{name_of}
 use Rattle.rv_text.specs.Text.{operands_text, text_with, text_of}
 use Rattle.rv_asm.specs.declared.error.Fault.TheVariants.{IllegalOperands, Unrecognized, SectionFull}
@@ -15,11 +15,11 @@ use Rattle.rv_asm.specs.declared.given.Given.TheVariants as given
 use Rattle.rv_asm.specs.declared.heads.Head.TheVariants.{Blank, Instruction, Word}
 use Rattle.rv_asm.specs.declared.labels.Label.{Label}
 use Rattle.rv_asm.specs.declared.place.Place.{Place}
-use Rattle.rv_asm.specs.Assembled.{head_in, is_data_start, is_code}
+use Rattle.rv_asm.specs.Assembled.{head_in, is_data_start, gives_code}
 use Rattle.rv_asm.specs.Given.{max_code, address_at, code_given, in_code, given_by}
 use Rattle.rv_asm.specs.Heads.{head_of}
-use Rattle.rv_asm.specs.Lines.{is_blank, hash, newline, front_of, statement, word_end, word_in, rest_in, trim, trim_start, trim_end}
-use Rattle.rv_asm.specs.Operands.{word_of, raw_word_in}
+use Rattle.rv_asm.specs.Lines.{is_blank, hash, newline, front_of, statement, word_end, leading_word, rest_in, trim, trim_start, trim_end}
+use Rattle.rv_asm.specs.Operands.{assembled_word, raw_word_in}
 use Rattle.std.specs.Option.{ok_or}
 use Rattle.text_laws.proofs.Heads.{IsFirstWord, name_is, head_is, word_head, word_first}
 use Rattle.text_laws.proofs.Operands.{IsBehind, space_behind, read_back, word_back}
@@ -54,7 +54,7 @@ pub record IsLine (line : List ℕ) : Type 0 where
   pub short : length line ≤ 88
 
 record HasParts (line name operands : List ℕ) : Type 0 where
-  word : word_in line ≡ name
+  word : leading_word line ≡ name
   rest : rest_in line ≡ operands
   own : IsLine line
 
@@ -75,7 +75,7 @@ module _ (name text operands : List ℕ) (first : IsFirstWord name) (behind : Is
       ap (λ o. trim (front_of line o)) (parted_none hash line (no_hash line line_text.inline)) ∙ trim_text line line_text
 
   has_parts : HasParts (name ++ text) name operands
-  unfolding word_in rest_in
+  unfolding leading_word rest_in
   has_parts =
       let line = name ++ text in
       let end = name_end name text first.plain behind.ends in
@@ -96,10 +96,10 @@ module _ (name text operands : List ℕ) (first : IsFirstWord name) (behind : Is
 -- ---- a line that gives a word
 pub record IsSaid (line : List ℕ) (w : ℕ) : Type 0 where
   pub start : is_data_start (head_in line) ≡ false
-  pub code : is_code (head_in line) ≡ true
+  pub code : gives_code (head_in line) ≡ true
   pub gives :
       (labels : List ℕ → Option Label) (p : Place) (n : ℕ) → p.in_data ≡ false → p.code_words < max_code
-      → given_by labels p n (head_in line) (word_in line) (rest_in line) ≡ Ok (given.Code w)
+      → given_by labels p n (head_in line) (leading_word line) (rest_in line) ≡ Ok (given.Code w)
 
 -- and that says nothing else
 pub record IsWordLine (line : List ℕ) (w : ℕ) : Type 0 where
@@ -112,23 +112,23 @@ placed p w e h =
     ∙ ap (λ b. cond b (Ok (given.Code w)) (Err SectionFull)) (lt-ltb p.code_words max_code h)
 
 -- a word with an instruction
-ins_line : (w : ℕ) (i : Ins) → w < 2 ^ 32 → decode_of w ≡ Some i → IsWordLine (name_of i.kind ++ operands_text (form_of i.kind) i w) w
+ins_line : (w : ℕ) (i : Ins) → w < 2 ^ 32 → decode_of w ≡ Some i → IsWordLine (name_of i.kind ++ operands_text (text_form i.kind) i w) w
 unfolding given_by
 ins_line w i h e =
     let k = i.kind in
-    let text = operands_text (form_of k) i w in
+    let text = operands_text (text_form k) i w in
     let line = name_of k ++ text in
     let any = read_back (λ name. None) 0 w i e in
     let plain = has_parts (name_of k) text any.operands (name_is k) any.behind in
     let head : head_in line ≡ Instruction k = ap head_of plain.word ∙ head_is k in
     let said : IsSaid line w = record {
       start = ap is_data_start head;
-      code = ap is_code head;
+      code = ap gives_code head;
       gives = λ labels p n free room.
           let r = read_back labels (address_at p) w i e in
           let parts = has_parts (name_of k) text r.operands (name_is k) r.behind in
-          ap (λ x. given_by labels p n x (word_in line) (rest_in line)) head
-          ∙ (ap (λ t. in_code p (word_of labels (address_at p) k t)) parts.rest
+          ap (λ x. given_by labels p n x (leading_word line) (rest_in line)) head
+          ∙ (ap (λ t. in_code p (assembled_word labels (address_at p) k t)) parts.rest
           ∙ (ap (in_code p) (word_back labels (address_at p) w i r h e) ∙ placed p w free room));
     } in
     record { said = said; own = plain.own }
@@ -144,9 +144,9 @@ raw_line w h =
     let head : head_in line ≡ Word = ap head_of parts.word ∙ word_head in
     let said : IsSaid line w = record {
       start = ap is_data_start head;
-      code = ap is_code head;
+      code = ap gives_code head;
       gives = λ labels p n free room.
-          ap (λ x. given_by labels p n x (word_in line) (rest_in line)) head
+          ap (λ x. given_by labels p n x (leading_word line) (rest_in line)) head
           ∙ (ap (λ t. in_code p (ok_or (raw_word_in t) IllegalOperands)) parts.rest
           ∙ (ap (λ o. in_code p (ok_or o IllegalOperands)) raw.reads ∙ placed p w free room));
     } in
@@ -161,11 +161,11 @@ word_line w h = by (decode_of w) refl where
 
 -- ---- any line that says the same
 record IsAlike (line other : List ℕ) : Type 0 where
-  word : word_in line ≡ word_in other
+  word : leading_word line ≡ leading_word other
   rest : rest_in line ≡ rest_in other
 
 alike : (line other : List ℕ) → statement line ≡ statement other → IsAlike line other
-unfolding word_in rest_in
+unfolding leading_word rest_in
 alike line other e = record { word = ap (λ s. take (word_end s) s) e; rest = ap (λ s. trim (drop (word_end s) s)) e }
 
 pub said_line : (line : List ℕ) (w : ℕ) → w < 2 ^ 32 → statement line ≡ text_of w → IsSaid line w
@@ -175,13 +175,13 @@ said_line line w h e =
     let head : head_in line ≡ head_in (text_of w) = ap head_of same.word in
     record {
       start = ap is_data_start head ∙ own.said.start;
-      code = ap is_code head ∙ own.said.code;
+      code = ap gives_code head ∙ own.said.code;
       gives = λ labels p n free room.
           (λ i. given_by labels p n (head i) (same.word i) (same.rest i)) ∙ own.said.gives labels p n free room;
     }
 
 empty_head : head_in [] ≡ Blank
-unfolding word_in statement parted trim trim_start trim_end head_of
+unfolding leading_word statement parted trim trim_start trim_end head_of
 empty_head = refl
 
 pub empty_says : statement [] ≡ []

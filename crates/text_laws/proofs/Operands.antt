@@ -17,14 +17,14 @@ use Rattle.qed_model.specs.Machine.Table.{Format, R, I, H, G, S, B, U, J, N, sig
 use Rattle.qed_model.proofs.Tables.{encode_decode, decode-fits, fits-decode}
 use Rattle.rv_text.specs.declared.forms.Form.{Form}
 use Rattle.rv_text.specs.declared.forms.Form.TheVariants.{Registers, Immediate, Load, Store, Branch, Upper, Jump, Bare}
-use Rattle.rv_text.specs.Forms.{form_in, form_of}
+use Rattle.rv_text.specs.Forms.{form_in, text_form}
 use Rattle.rv_text.specs.Text.{register_text, pair_text, place_text, upper_text, operands_text}
 use Rattle.rv_asm.specs.declared.error.Fault.{Fault}
 use Rattle.rv_asm.specs.declared.error.Fault.TheVariants.{IllegalOperands, OutOfRange}
 use Rattle.rv_asm.specs.declared.labels.Label.{Label}
 use Rattle.rv_asm.specs.declared.operands.Operands.{Operands}
 use Rattle.rv_asm.specs.Lines.{is_blank, word_end, trim, trim_start, trim_end, pair_in, triple_in}
-use Rattle.rv_asm.specs.Operands.{register_in, registers_from, immediate_from, load_from, load_with, store_from, store_with, upper_from, operands_with, target_with, target_in, with_target, branch_from, jump_from, operands_in, imm_in, encoded_with, encoded, word_with, word_of}
+use Rattle.rv_asm.specs.Operands.{register_in, registers_from, immediate_from, load_from, load_with, store_from, store_with, upper_from, operands_with, target_with, target_in, with_target, branch_from, jump_from, operands_in, imm_in, encoded_with, encoded, word_with, assembled_word}
 use Rattle.text_laws.proofs.Numbers.{IsNear}
 use Rattle.text_laws.proofs.Parts.{is_inline, IsText, joined_text, trim_space, pair_is, triple_is}
 use Rattle.text_laws.proofs.Printed.{IsOperand, IsRegister, register_is, IsImmediate, immediate_is, address_is, IsUpper, upper_is}
@@ -61,7 +61,7 @@ pub word_as : Form → Kind → Result Operands Fault → Result ℕ Fault
 word_as f k (Err e) = Err e
 word_as f k (Ok o) = ok_or (encoded_with k o (imm_in f o.imm)) OutOfRange
 
-as_word : (k : Kind) (r : Result Operands Fault) → word_with k r ≡ word_as (form_of k) k r
+as_word : (k : Kind) (r : Result Operands Fault) → word_with k r ≡ word_as (text_form k) k r
 unfolding word_as encoded
 as_word k (Err e) = refl
 as_word k (Ok o) = refl
@@ -205,16 +205,16 @@ module _ (labels : List ℕ → Option Label) (at : ℕ) where
   is_ins : (w : ℕ) (i : Ins) → decode_of w ≡ Some i → ins_of (row_of i.kind).format i.kind w ≡ i
   is_ins w i e = same_Some (ins_of (row_of i.kind).format i.kind w) i (sym (decode-fits i.kind w (fits-decode w i e)) ∙ e)
 
-  pub read_back : (w : ℕ) (i : Ins) → decode_of w ≡ Some i → IsRead labels at (form_of i.kind) i w
-  unfolding form_of
+  pub read_back : (w : ℕ) (i : Ins) → decode_of w ≡ Some i → IsRead labels at (text_form i.kind) i w
+  unfolding text_form
   read_back w i e =
       let k = i.kind in
       let f = (row_of k).format in
       let c = class_of k in
       subst (λ j. IsRead labels at (form_in f c) j w) (is_ins w i e) (by_format labels at k w f c)
 
-  pub word_back : (w : ℕ) (i : Ins) (r : IsRead labels at (form_of i.kind) i w) → w < 2 ^ 32 → decode_of w ≡ Some i
-      → word_of labels at i.kind r.operands ≡ Ok w
-  unfolding word_of
+  pub word_back : (w : ℕ) (i : Ins) (r : IsRead labels at (text_form i.kind) i w) → w < 2 ^ 32 → decode_of w ≡ Some i
+      → assembled_word labels at i.kind r.operands ≡ Ok w
+  unfolding assembled_word
   word_back w i r h e =
-      as_word i.kind (operands_in labels at (form_of i.kind) r.operands) ∙ (r.reads ∙ ap (λ o. ok_or o OutOfRange) (encode_decode w i h e))
+      as_word i.kind (operands_in labels at (text_form i.kind) r.operands) ∙ (r.reads ∙ ap (λ o. ok_or o OutOfRange) (encode_decode w i h e))

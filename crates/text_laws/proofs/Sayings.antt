@@ -15,7 +15,7 @@ use Rattle.rv_asm.specs.declared.heads.Head.TheVariants.{Blank}
 use Rattle.rv_asm.specs.declared.place.Place.{Place}
 use Rattle.rv_asm.specs.Assembled.{head_in, place_behind, label_of, line_at, given_at, code_in, data_in, symbol_in, symbol_at, code_of, data_of, symbols_of, file_with, file_of, AreFaultless, Assembled}
 use Rattle.rv_asm.specs.Given.{address_at, given_by}
-use Rattle.rv_asm.specs.Lines.{lines_of, statement, word_in, rest_in}
+use Rattle.rv_asm.specs.Lines.{lines_of, statement, leading_word, rest_in}
 use Rattle.rv_asm.specs.Steps.{one_if, next_place}
 use Rattle.rv_asm.proofs.Places.{place_push}
 use Rattle.text_laws.specs.WordTexts.{AreWords, words_file, has_some, said_in, SaysWords}
@@ -146,7 +146,7 @@ module _ (ls : List (List ℕ)) (words : List ℕ) (are : AreWords words) (says 
   unfolding given_at given_by
   blank_given n b =
       let line = line_at ls n in
-      ap (λ h. given_by (label_of ls) (place_behind (take n ls)) n h (word_in line) (rest_in line)) b.head
+      ap (λ h. given_by (label_of ls) (place_behind (take n ls)) n h (leading_word line) (rest_in line)) b.head
 
   -- ---- all lines
   codes_so_far : (n : ℕ) → n ≤ length ls → code_of ls n ≡ take (said n) words
@@ -177,7 +177,7 @@ module _ (ls : List (List ℕ)) (words : List ℕ) (are : AreWords words) (says 
 
   no_labels : symbols_of ls (length ls) ≡ []
   unfolding symbols_of
-  no_labels = all_empty (symbol_at ls) (length ls) (λ n. each_given (symbol_in (word_in (line_at ls n)) (address_at (place_behind (take n ls)))) [] (λ w. refl) refl n)
+  no_labels = all_empty (symbol_at ls) (length ls) (λ n. each_given (symbol_in (leading_word (line_at ls n)) (address_at (place_behind (take n ls)))) [] (λ w. refl) refl n)
 
   faultless : AreFaultless ls (length ls)
   faultless = each_given is_ok true (λ w. refl) refl

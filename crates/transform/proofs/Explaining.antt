@@ -13,7 +13,7 @@ use Rattle.elf_files.specs.Output.{HasNewCode}
 use Rattle.block_list.specs.declared.block.CodeBlock.{CodeBlock}
 use Rattle.block_list.specs.Listed.{block_of}
 use Rattle.woven_code.specs.declared.code.WovenCode.{WovenCode}
-use Rattle.woven_code.specs.Code.{place_of, IsCut}
+use Rattle.woven_code.specs.Code.{code_begin, IsCut}
 use Rattle.transform.specs.declared.explained.Explained.{Explained}
 use Rattle.transform.specs.Explained.{IsExplained}
 use Rattle.transform.specs.Transform.{Transforms}
@@ -28,7 +28,7 @@ most_room f o bs (Some every) few = omega (arith, few)
 pub explained_of :
     (input : List ℕ) (o : Options) (t : Test) (blocks : List CodeBlock) (output : List ℕ) (plan : Plan) (x : Explained) (code : WovenCode)
     → Transforms input o output plan → File input x.file → IsCut x.file o t blocks → IsCoded (code_for x.file o blocks) x.file o code → x.words.items ≡ code.linked.words.items
-    → x.base ≡ place_of t → x.roles.items ≡ new_roles x.file o (map block_of blocks) → IsExplained input o x
+    → x.base ≡ code_begin t → x.roles.items ≡ new_roles x.file o (map block_of blocks) → IsExplained input o x
 explained_of input o t blocks output plan x code made read cut is same base roles =
     let size : 4 * length x.words.items ≡ 4 * length code.linked.words.items = ap (λ ws. 4 * length ws) same in
     let whole = size_is x.file o t blocks cut code is in

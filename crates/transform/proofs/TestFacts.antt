@@ -1,7 +1,5 @@
 -- What is known of a test with its blocks.
-use Rattle.std.proofs.Common.{◌≡◌, ℕ, ◌+◌, ◌%◌, ◌^◌, ◌<◌, ◌≤◌, ◌⊎◌, ⊎_elim, Bool, true, false, List, length, map, All, get_or, ap, ◌∙◌, arith}
-use Rattle.std.specs.Prelude.{◌==◌}
-use Rattle.std.proofs.lemmas.Bool.{and_parts, eqb-true}
+use Rattle.std.proofs.Common.{◌≡◌, ℕ, ◌+◌, ◌^◌, ◌<◌, ◌≤◌, Bool, true, false, List, length, map, All, get_or, ap, ◌∙◌, arith}
 use Rattle.elf_types.specs.declared.file.ElfFile.{ElfFile}
 use Rattle.elf_types.specs.declared.file.Segment.{Segment}
 use Rattle.qed_model.specs.declared.options.Options.{Options}
@@ -10,14 +8,13 @@ use Rattle.qed_model.specs.declared.test.Test.{Test}
 use Rattle.qed_model.specs.Admission.CodeWords.{is_code}
 use Rattle.qed_model.specs.Admission.DataRanges.{data_ranges, word_count}
 use Rattle.qed_model.specs.Machine.Loading.{load_segments}
-use Rattle.qed_model.specs.Weave.Blocks.{IsLeaderBlock, IsOtherBlock}
 use Rattle.qed_model.specs.Weave.Bounds.{bounds_of}
 use Rattle.qed_model.specs.Weave.OutputParts.{base_of}
 use Rattle.qed_model.specs.Weave.Places.{image_of, half_of}
 use Rattle.qed_model.specs.Weave.Sequences.{Block}
 use Rattle.qed_model.specs.Weave.LeanBounds.{lean_bounds}
 use Rattle.qed_model.specs.Weave.Forms.{shape_of}
-use Rattle.qed_model.proofs.Fetches.{IsShapely, instruction_code}
+use Rattle.qed_model.proofs.Fetches.{code_grain}
 use Rattle.qed_model.specs.Elf.Sound.{AreLoads}
 use Rattle.bound_calc.specs.Fitting.{AreSmall}
 use Rattle.block_list.specs.declared.block.CodeBlock.{CodeBlock}
@@ -28,14 +25,10 @@ use Rattle.output_file.proofs.BlockEntries.{entries_are}
 use Rattle.test_weave.proofs.AdmittedFit.{words_below}
 use Rattle.weave_core.proofs.FilesFit.{admitted_image}
 use Rattle.weave_core.proofs.ImageHalves.{IsImage}
-use Rattle.weave_core.proofs.FileOfItems.{code_bounds}
+use Rattle.weave_core.proofs.FileOfItems.{block_code, code_bounds}
 use Rattle.woven_code.specs.Code.{IsCut}
 use Rattle.woven_code.proofs.DataWords.{few_data}
 use Rattle.transform.proofs.BoundsSmall.{shape_small, lean_shape_small}
-
--- a code address is a multiple of 4
-code_grain : (f : ElfFile) (a : ℕ) → is_code f a ≡ true → a % 4 ≡ 0
-code_grain f a e = eqb-true (a % 4) 0 (and_parts (a % 4 == 0) _ e).0
 
 module _ (f : ElfFile) (o : Options) (t : Test) (blocks : List CodeBlock) (cut : IsCut f o t blocks) where
   abbrev image : List Segment
@@ -65,19 +58,13 @@ module _ (f : ElfFile) (o : Options) (t : Test) (blocks : List CodeBlock) (cut :
       lean_shape_small (shape_of f o false) every cut.blocked.sound.most cut.blocked.sound.visits cut.blocked.sound.few_visits few.ranges few.words few_steps
 
   -- ---- the blocks
-  shape : IsShapely f
-  shape = record { loads = loads; sections = cut.blocked.admitted.sections; segments = cut.blocked.admitted.segments }
-
-  block_code : (b : Block) → IsLeaderBlock f o b ⊎ IsOtherBlock f o b → is_code f b.start ≡ true
-  block_code b x = ⊎_elim (λ l. l.leader.code) (λ q. (instruction_code f shape b.start q.instruction q.stands).0) x
-
   bounded : (a : ℕ) → is_code f a ≡ true → (base_of image ≤ a) × (a + 4 ≤ base_of image + d)
   bounded a e = code_bounds f o cut.blocked.sound loads cut.blocked.admitted bs cut.blocked.are a e
 
   -- rows whose inputs are those of the blocks are entries
   pub are_entries : (rows : List EntryRow) → map (λ r. r.input) rows ≡ map (λ b. b.start) bs → AreEntries (t.base + t.distance) rows
   are_entries rows inputs =
-      let code : (k : ℕ) (x : Block) → k < length bs → is_code f (get_or bs k x).start ≡ true = λ k x h. block_code (get_or bs k x) (cut.blocked.are.each k x h) in
+      let code : (k : ℕ) (x : Block) → k < length bs → is_code f (get_or bs k x).start ≡ true = λ k x h. block_code f o cut.blocked.sound loads cut.blocked.admitted bs cut.blocked.are (get_or bs k x) (cut.blocked.are.each k x h) in
       entries_are rows bs (t.base + t.distance) inputs cut.blocked.are.ascend
       (λ k x h. code_grain f (get_or bs k x).start (code k x h))
       (λ k x h. let b = bounded (get_or bs k x).start (code k x h) in omega (arith, b.1, cut.told.base, cut.told.distance))

@@ -34,7 +34,7 @@ pub record IsMade (f : ElfFile) (o : Options) (blocks : List CodeBlock) (out : O
   pub told : IsToldOf (code_for f o blocks) f o (map block_of blocks) plan
 
 -- no more segments and bytes than the limits
-pub record IsShort (out : OutFile) : Type 0 where
+pub record IsWithinLimits (out : OutFile) : Type 0 where
   pub segments : length out.segments ≤ limit_of limit.OutputSegments
   pub size : length (written out) ≤ limit_of limit.OutputBytes
 

@@ -1,10 +1,10 @@
 //! The output of a test with its blocks, before it is written.
-ghost use Rattle.std.specs.Prelude.{◌≡◌, ◌≤◌, ◌<◌, ◌*◌, ◌^◌, ℕ, List, [], length, map, Some, None, IfSome, IfOk, IfErr};
+ghost use Rattle.std.specs.Prelude.{◌≡◌, ◌≤◌, ◌*◌, ℕ, List, [], length, Some, None, IfSome, IfOk, IfErr};
 ghost use Rattle.elf_types.specs.declared.file.ElfFile.{ElfFile as TestFile};
 ghost use Rattle.elf_types.specs.declared.file.Symbol.{Symbol};
 ghost use Rattle.block_list.specs.Listed.{block_of};
 ghost use Rattle.output_file.specs.Sizes.{symbols_room};
-ghost use Rattle.qed_model.specs.Elf.Layout.{names_bytes, written};
+ghost use Rattle.qed_model.specs.Elf.Layout.{written};
 ghost use Rattle.elf_files.specs.File.{IsReadAs};
 ghost use Rattle.qed_model.specs.Machine.Apart.{AllFitMemory, AreApart};
 ghost use Rattle.qed_model.specs.Machine.Loading.{load_segments};
@@ -18,8 +18,8 @@ ghost use Rattle.transform.specs.Transform.{HasCause};
 use crate::cut::CutTest;
 use crate::error::TransformError;
 use bound_calc::{bounds, lean_bounds};
-use elf_types::{OutFile, OutSection};
-use elf_write::file_size;
+use elf_types::OutFile;
+use elf_write::{file_size, names_size};
 use lean_code::lean_code;
 use output_file::{bare_file, has_table, plan, symbols_size, with_symbols, word_count};
 use qed_model::limits::{MAX_OUTPUT_BYTES, MAX_OUTPUT_SEGMENTS};
@@ -145,18 +145,6 @@ fn is_tabled(cut: &CutTest, options: &Options) -> bool
     ensures { result ≡ (code_for cut.now.file options.now cut.now.blocks).table }
 {
     options.lean.is_some() || has_table(cut.blocks.as_slice())
-}
-
-/// The bytes of the names of sections, each with a zero byte.
-fn names_size(sections: &[OutSection]) -> u128
-    ensures value { result ≡ length (names_bytes (map (λ x. x.name) sections.now)) }
-    ensures bound { result < 2 ^ 122 }
-{
-    let mut size: u128 = 0;
-    for section in sections {
-        size += section.name.as_slice().len() as u128 + 1;
-    }
-    size
 }
 
 /// How many bytes a file without symbols has with symbols that take so many. None where those are 2^128 or more.

@@ -8,6 +8,7 @@ use Rattle.std.proofs.lemmas.List.Elements.{All-head, All-tail}
 use Rattle.qed_model.specs.Machine.Table.{Lw, Ins, decode_of}
 use Rattle.qed_model.specs.declared.options.Options.{Options}
 use Rattle.qed_model.specs.Weave.Sequences.{Form, Reads, Block}
+use Rattle.qed_model.proofs.PieceLaws.{sound_most}
 use Rattle.qed_model.proofs.Steps.{fetched_aligned}
 use Rattle.qed_model.specs.declared.plan.EntryRow.{EntryRow}
 use Rattle.qed_model.specs.Numbers.{number_bytes, words_of, bytes_of}
@@ -21,7 +22,7 @@ use Rattle.qed_model.specs.Weave.Places.{Segment, AreSoundOptions, image_of, hal
 use Rattle.qed_model.specs.Admission.CodeWords.{is_code}
 use Rattle.qed_model.specs.Admission.Refusals.{IsAdmitted}
 use Rattle.qed_model.specs.Admission.Leaders.{Entry}
-use Rattle.qed_model.specs.Weave.Blocks.{ElfFile, IsLeaderBlock, IsOtherBlock, begins_at, AreBlocks}
+use Rattle.qed_model.specs.Weave.Blocks.{ElfFile, begins_at, AreBlocks, IsBlockOf}
 use Rattle.qed_model.specs.Weave.Placed.{Decode, sum_of_sizes, entry_at, rows_from, entry_of, placed}
 use Rattle.qed_model.specs.Weave.OutputFile.{original_half, first_input, last_input, distance_to, table_word, table_bytes, table_segment, has_table, file_of}
 use Rattle.qed_model.specs.Weave.Forms.{form_of}
@@ -186,15 +187,15 @@ module _ (f : ElfFile) (o : Options) (sound : AreSoundOptions o) (loads : AreLoa
   }
 
   -- a block begins at a code address
-  block_code : (b : Block) → IsLeaderBlock f o b ⊎ IsOtherBlock f o b → is_code f b.start ≡ true
+  pub block_code : (b : Block) → IsBlockOf f o b → is_code f b.start ≡ true
   block_code b x = ⊎_elim (λ l. l.leader.code) (λ q. (instruction_code f shape b.start q.instruction q.stands).0) x
 
-  lead_code : (bs : List Block) (a : ℕ) → All (λ b. IsLeaderBlock f o b ⊎ IsOtherBlock f o b) bs → begins_at bs a ≡ true → is_code f a ≡ true
+  lead_code : (bs : List Block) (a : ℕ) → All (IsBlockOf f o) bs → begins_at bs a ≡ true → is_code f a ≡ true
   lead_code [] a h e = absurd (false≢true e)
   lead_code (b ∷ bs) a h e =
       ⊎_elim
-      (λ x. ap (is_code f) (sym (eqb-true b.start a x)) ∙ block_code b (All-head (λ b. IsLeaderBlock f o b ⊎ IsOtherBlock f o b) b bs h))
-      (λ x. lead_code bs a (All-tail (λ b. IsLeaderBlock f o b ⊎ IsOtherBlock f o b) b bs h) x)
+      (λ x. ap (is_code f) (sym (eqb-true b.start a x)) ∙ block_code b (All-head (IsBlockOf f o) b bs h))
+      (λ x. lead_code bs a (All-tail (IsBlockOf f o) b bs h) x)
       (or_cases (b.start == a) (begins_at bs a) e)
 
   pub block_bounds : (a : ℕ) → begins_at blocks a ≡ true → (base ≤ a) × (a + 4 ≤ base + d)
@@ -394,11 +395,8 @@ module _ (f : ElfFile) (o : Options) (sound : AreSoundOptions o) (loads : AreLoa
           }
 
       -- ---- the blocks
-      some_most : 1 ≤ o.inst_max
-      some_most = let a = sound.some in let b = sound.room in omega (arith, a, b)
-
       pub good : (has_table blocks ≡ true → table ≡ true) → AllBlocksOf w (weave_of form o.inst_max) (begins_at blocks) blocks
-      good tabled = blocks_good f known w (λ a. refl) o some_most blocks are aims (λ e. table_at (tabled e))
+      good tabled = blocks_good f known w (λ a. refl) o (sound_most o sound) blocks are aims (λ e. table_at (tabled e))
 
       pub both : Describes (loaded_file f) (loaded_file g) w
       both = describes (loaded_file f) (loaded_file g) base d form fits (entry_of far at items) reached

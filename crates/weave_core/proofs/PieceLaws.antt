@@ -12,7 +12,7 @@ use Rattle.qed_model.specs.Weave.Costs.{spent, spent_as, cost_each, used, used_a
 use Rattle.qed_model.proofs.Walk.{run-more, run-none}
 use Rattle.weave_core.specs.World.{Item, Plain, Constant, World, IsCursor, words_on, State, reg, Known, step, run, HasAt, target}
 use Rattle.weave_core.specs.Blocks.{IsLowAs, FitsPiece, AllFit}
-use Rattle.weave_core.specs.Kinds.{thirteen}
+use Rattle.weave_core.specs.Kinds.{originals}
 use Rattle.weave_core.specs.Lock.{ComparesFrom}
 use Rattle.weave_core.specs.WeaveLaws.{Visits}
 use Rattle.weave_core.specs.Pass.{Views, Stands, Leads, Quiet, AllLow, AllSame}
@@ -61,7 +61,7 @@ both_checks w round spans e = record {
           compare = 0;
           soon = omega arith;
           inside = omega (arith, c.sum, d.at_least);
-          compares = subst (λ x. ComparesFrom w.code x.pc thirteen) (sym (run-none v.now)) c.first.1;
+          compares = subst (λ x. ComparesFrom w.code x.pc originals) (sym (run-none v.now)) c.first.1;
           cursor = l.cursor ∙ ap (words_on spans round) d.cursor ∙ ap (λ l. words_on l round (reg v.now 15)) (sym e);
           visits = λ j h one.
               let y = visit_later w v.now c.some c.middle.now c.more (words_on spans j (reg c.middle.now 15)) c.runs (l.visits j h (omega (arith, one, same))) in

@@ -21,13 +21,13 @@ pub record Enters (w : World) (at : ℕ) (v : Views) : Type 0 where
 
 -- ---- the items of a leave
 -- the form of the code with jumps of one or of two words, of which the leave looks at no more
-abbrev pub form_of : Bool → Form
-form_of far = record { spans = []; round = 0; far = far; sweep = false; mirror = mirrored; cost = 5 }
+abbrev pub leave_form : Bool → Form
+leave_form far = record { spans = []; round = 0; far = far; sweep = false; mirror = mirrored; cost = 5 }
 
 -- the items by the class of the end; what computes is no end, and the block falls to `next`
 abbrev pub left_as : Class → ℕ → Bool → Ins → ℕ → List Item
 left_as class.Compute next far i at = go_on next
-left_as c next far i at = leave_as (form_of far) c i at
+left_as c next far i at = leave_as (leave_form far) c i at
 
 abbrev pub left : ℕ → Bool → Ins → ℕ → List Item
 left next far i at = left_as (class_of i.kind) next far i at

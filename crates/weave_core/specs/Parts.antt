@@ -9,7 +9,7 @@ use Rattle.qed_model.specs.Weave.Sequences.{guards, is_auipc, Ins}
 use Rattle.weave_core.specs.World.{Item, Plain, Constant, World, IsCursor, words_on, State, reg, Known, HasAt, step, run, target}
 use Rattle.weave_core.specs.Blocks.{FitsPiece, AllFit}
 use Rattle.weave_core.specs.Rows.{Sourced}
-use Rattle.weave_core.specs.Kinds.{thirteen}
+use Rattle.weave_core.specs.Kinds.{originals}
 use Rattle.weave_core.specs.Lock.{ComparesFrom}
 use Rattle.weave_core.specs.WeaveLaws.{Visits, Checked}
 use Rattle.weave_core.specs.Pass.{Views, Stands, Chain, NeedsBoth, Does, same, Leads, AllLow, AllSame}
@@ -58,7 +58,7 @@ LeavesMirror i at w v = none
 -- ---- the checks behind all parts
 -- both halves stay, and the comparison of all registers stands here
 abbrev pub Compares : World → Views → ℕ → Views → Type 0
-Compares w v n z = Does same same 13 v n z × ComparesFrom w.code v.now.pc thirteen
+Compares w v n z = Does same same 13 v n z × ComparesFrom w.code v.now.pc originals
 
 -- both halves and the signature stay, so many words were visited, each at its place, and the cursor is at the word behind them
 pub record Rounds (w : World) (round : ℕ) (spans : List (ℕ × ℕ)) (v : Views) (n : ℕ) (z : Views) : Type 0 where

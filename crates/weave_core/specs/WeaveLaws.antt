@@ -12,7 +12,7 @@ use Rattle.weave_core.specs.Rows.{At, Sourced}
 use Rattle.weave_core.specs.Describes.{Describes}
 use Rattle.weave_core.specs.Lock.{first_load, ComparesFrom}
 use Rattle.weave_core.specs.KindItems.{LockItems, LandItems, GoodEnd}
-use Rattle.weave_core.specs.Kinds.{thirteen}
+use Rattle.weave_core.specs.Kinds.{originals}
 use Rattle.weave_core.specs.Weave.{Weave}
 use Rattle.qed_model.specs.Weave.Code.{block_items}
 
@@ -89,7 +89,7 @@ pub record Checked (w : World) (first round : ℕ) (u : State) (n : ℕ) (to : S
   pub compare : ℕ
   pub soon : compare ≤ first
   pub inside : compare + 13 ≤ n
-  pub compares : ComparesFrom w.code (run u compare).pc thirteen
+  pub compares : ComparesFrom w.code (run u compare).pc originals
   pub cursor : reg to 15 ≡ words_on w.form.spans round (reg u 15)
   pub visits : (j : ℕ) → j < round → 1 ≤ length w.form.spans → Visits w u n (words_on w.form.spans j (reg u 15))
 
@@ -97,7 +97,7 @@ pub record Checked (w : World) (first round : ℕ) (u : State) (n : ℕ) (to : S
 pub record Swept (w : World) (first : ℕ) (u : State) (n : ℕ) : Type 0 where
   pub exact : n ≡ first + 14
   pub visits : (x : ℕ) → IsDataWord w.form.spans x → Visits w u first x
-  pub compares : ComparesFrom w.code (run u first).pc thirteen
+  pub compares : ComparesFrom w.code (run u first).pc originals
 
 -- 1 where the end is an instruction
 abbrev pub stops : End → ℕ

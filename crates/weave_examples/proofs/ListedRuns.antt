@@ -1,19 +1,14 @@
 -- Runs that are worked out over a list of instructions: of code without loads and stores, whose instructions are known.
-use Rattle.std.proofs.Common.{◌≡◌, ℕ, zero, suc, ◌+◌, ◌%◌, ◌^◌, Bool, true, false, cond, ◌&&◌, List, [], ◌∷◌, Option, Some, None, refl, sym, ap, ◌∙◌, arith}
+use Rattle.std.proofs.Common.{◌≡◌, ℕ, zero, suc, ◌+◌, ◌%◌, ◌^◌, Bool, true, false, cond, ◌&&◌, List, [], ◌∷◌, Option, Some, None, refl, sym, ap, ◌∙◌}
 use Rattle.std.specs.Prelude.{◌==◌}
 use Rattle.std.proofs.lemmas.Bool.{eqb-true, and_parts}
 use Rattle.rv_isa.specs.declared.class.Class.TheVariants as class
 use Rattle.qed_model.specs.declared.machine.Cause.TheVariants as cause
-use Rattle.weave_core.specs.World.{Outcome, Going, Memory, holds, set_reg, class_of, Class, Ins, State, reg, moved, imm, next_pc, Fetched, Known, HasAt, fetched_at, next, jumped, execute, trapped, step, run, Program, AreStartRegs, memory_of, zeros}
+use Rattle.weave_core.specs.World.{Outcome, Going, Memory, holds, set_reg, class_of, Class, Ins, State, reg, moved, imm, next_pc, Fetched, Known, HasAt, fetched_at, next, jumped, execute, trapped, step, run, Program, memory_of}
 use Rattle.qed_model.specs.Machine.Loading.{ElfFile, loaded_file}
 use Rattle.qed_model.proofs.ExampleCode.{StandFrom}
-use Rattle.qed_model.proofs.Fields.{are_bytes}
 use Rattle.qed_model.proofs.Fetches.{IsShapely, known_instruction}
 use Rattle.qed_model.proofs.Steps.{step-known}
-
--- a start from registers 0
-pub are_zeros : AreStartRegs zeros
-are_zeros = record { count = refl; fit = λ r. let b = are_bytes zeros refl r in omega (arith, b) }
 
 -- the instruction at an address, of some that stand one after the other
 abbrev pub instruction_at : ℕ → List Ins → ℕ → Option Ins

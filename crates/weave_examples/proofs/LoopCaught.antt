@@ -14,7 +14,8 @@ use Rattle.weave_examples.proofs.KnownFiles.{loop}
 use Rattle.weave_examples.proofs.LoopExample.{loop_plan, loop_told, loop_blocks}
 use Rattle.qed_model.proofs.Steady.{steady_any}
 use Rattle.qed_model.proofs.OneTest.{any_reached}
-use Rattle.weave_examples.proofs.ListedRuns.{are_zeros, state_of}
+use Rattle.qed_model.proofs.Fields.{zeros_start}
+use Rattle.weave_examples.proofs.ListedRuns.{state_of}
 use Rattle.weave_examples.proofs.LoopKept.{loop_words, loop_input, loop_output, loop_new_code, loop_stand, output_run, input_ended}
 use Rattle.weave_examples.proofs.ListedChanges.{changed_go, closed_there}
 use Rattle.lockstep.proofs.Tests.{tests_caught}
@@ -46,7 +47,7 @@ unfolding uses is_checked guards_other
 is_open = ap (λ s. is_closed s 5) before_change ∙ closed_there loop_output 0x13000 loop_new_code loop_stand 5 (turn 1) 0x1319c (ins Beq 0 5 21 (pos 8)) (ins Ebreak 0 0 0 (pos 0)) (ins Bne 0 5 0 (pos 8)) refl refl refl
 
 open_settles : Settles [] 72 272 (changed_run (start loop_output zeros) (seven 72 ∷ [])) (after_output loop_output zeros)
-open_settles = loop_caught.settles zeros (seven 72 ∷ []) 272 are_zeros tt ((omega arith, omega arith), is_open, tt) refl ((steady_any loop_input (72 + 272)).1 (input_ended (72 + 272) (omega arith))) (ap (λ s. s.outcome) before_change)
+open_settles = loop_caught.settles zeros (seven 72 ∷ []) 272 zeros_start tt ((omega arith, omega arith), is_open, tt) refl ((steady_any loop_input (72 + 272)).1 (input_ended (72 + 272) (omega arith))) (ap (λ s. s.outcome) before_change)
 
 -- ---- a change at a closed place, which the promise leaves out: the use of x5 is next
 at_use : is_closed (after_output loop_output zeros 73) 5 ≡ true

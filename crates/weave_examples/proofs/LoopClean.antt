@@ -19,7 +19,8 @@ use Rattle.qed_model.proofs.Walk.{run-more}
 use Rattle.qed_model.proofs.Steady.{steady_any}
 use Rattle.qed_model.proofs.OneTest.{any_reached}
 use Rattle.weave_core.specs.Tests.{IsWovenTest}
-use Rattle.weave_examples.proofs.ListedRuns.{are_zeros, is_simple_run, go, run_is}
+use Rattle.qed_model.proofs.Fields.{zeros_start}
+use Rattle.weave_examples.proofs.ListedRuns.{is_simple_run, go, run_is}
 use Rattle.weave_examples.proofs.LoopKept.{loop_loads, loop_input, input_ended}
 use Rattle.weave_core.proofs.TestKept as kept
 use Rattle.weave_core.proofs.Tests.{tests_have_words}
@@ -71,4 +72,4 @@ is_open = ap (λ s. is_closed s 5) (output_run 72 refl) ∙ closed_there output 
 
 -- all premises of the promise are met
 not_silent : ((changed_run (start output zeros) (seven 72 ∷ []) 130).outcome ≡ Fired) ⊎ (((changed_run (start output zeros) (seven 72 ∷ []) 130).outcome ≡ Ended) × Same [] (changed_run (start output zeros) (seven 72 ∷ []) 130) (after_output output zeros 130))
-not_silent = clean.settles zeros (seven 72 ∷ []) 130 are_zeros tt ((omega arith, omega arith), is_open, tt) (omega arith) output_end not_before ((steady_any loop_input 130).1 (input_ended 130 (omega arith)))
+not_silent = clean.settles zeros (seven 72 ∷ []) 130 zeros_start tt ((omega arith, omega arith), is_open, tt) (omega arith) output_end not_before ((steady_any loop_input 130).1 (input_ended 130 (omega arith)))

@@ -16,7 +16,8 @@ use Rattle.qed_model.proofs.Walk.{run-more}
 use Rattle.qed_model.proofs.Steady.{steady_any}
 use Rattle.qed_model.proofs.OneTest.{any_reached}
 use Rattle.weave_core.specs.Tests.{IsWovenTest}
-use Rattle.weave_examples.proofs.ListedRuns.{are_zeros, has_code, is_simple_run, go, run_is, state_of}
+use Rattle.qed_model.proofs.Fields.{zeros_start}
+use Rattle.weave_examples.proofs.ListedRuns.{has_code, is_simple_run, go, run_is, state_of}
 use Rattle.weave_core.proofs.TestKept as kept
 use Rattle.weave_core.proofs.Tests.{tests_have_words, tests_kept, tests_landed}
 use Rattle.weave_core.proofs.Trace.{run-ended}
@@ -90,7 +91,7 @@ input_ended n l =
 -- after some steps, and not more than 872, the output has ended with what the input has at its end
 kept_end : (m : ℕ) × (m ≤ 872) × Halves loop_input (after_input loop_input 6) (after_output loop_output zeros m) × ((after_output loop_output zeros m).outcome ≡ Ended)
 kept_end =
-    let p = loop_kept.values zeros 6 are_zeros ((steady_any loop_input 6).1 (input_ended 6 (omega arith))) in
+    let p = loop_kept.values zeros 6 zeros_start ((steady_any loop_input 6).1 (input_ended 6 (omega arith))) in
     let within = p.within in
     (p.steps, omega (arith, within), p.halves, p.ends.1 (ap (λ s. s.outcome) input_end))
 
@@ -102,4 +103,4 @@ at_entry = let e = output_run 30 refl in (ap (λ s. s.outcome) e, ap (λ s. s.pc
 -- at that of 0x1000c, the same state fires within 4 steps
 landed_wrong : Fires 4 (placed_at 0x131b0 (after_output loop_output zeros 30))
 landed_wrong =
-    loop_landed.fires zeros 30 0x10000 0x1000c 0x13078 0x131b0 are_zeros ((steady_any loop_input 30).1 (input_ended 30 (omega arith))) (inl (refl, refl)) (inr (inr (inl (refl, refl)))) (λ e. absurd (omega (arith, e))) at_entry.0 at_entry.1
+    loop_landed.fires zeros 30 0x10000 0x1000c 0x13078 0x131b0 zeros_start ((steady_any loop_input 30).1 (input_ended 30 (omega arith))) (inl (refl, refl)) (inr (inr (inl (refl, refl)))) (λ e. absurd (omega (arith, e))) at_entry.0 at_entry.1

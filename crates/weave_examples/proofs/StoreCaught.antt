@@ -26,7 +26,8 @@ use Rattle.weave_core.proofs.Trace.{run-ended}
 use Rattle.lockstep.proofs.Tests.{tests_caught, tests_clean}
 use Rattle.weave_examples.proofs.KnownFiles.{store, store_sound}
 use Rattle.weave_examples.proofs.StoreExample.{store_code, store_known, store_admitted, lui, ld, add, sd, ecall, store_plan, store_told, store_blocks}
-use Rattle.weave_examples.proofs.ListedRuns.{has_code, are_zeros}
+use Rattle.qed_model.proofs.Fields.{zeros_start}
+use Rattle.weave_examples.proofs.ListedRuns.{has_code}
 use Rattle.weave_examples.proofs.StoreKept.{store_input, store_words, swept_words, store_output, swept_output}
 
 -- ---- the run of a known test with a data word, worked out step by step: it loads 5, and stores 10 in its place
@@ -136,4 +137,4 @@ nine = record { step = 0; place = Word 0x20000; value = 9 }
 -- all premises of the promise are met
 word_settles : Settles spans 0 392 (changed_run (start store_output zeros) (nine ∷ [])) (after_output store_output zeros)
 unfolding run
-word_settles = store_caught.settles zeros (nine ∷ []) 392 are_zeros tt (inl (refl, omega arith, omega arith), tt, tt) refl ((steady_any store_input 392).1 (store_calm 392 (omega arith))) refl
+word_settles = store_caught.settles zeros (nine ∷ []) 392 zeros_start tt (inl (refl, omega arith, omega arith), tt, tt) refl ((steady_any store_input 392).1 (store_calm 392 (omega arith))) refl

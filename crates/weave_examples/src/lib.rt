@@ -7,8 +7,8 @@ ghost use Rattle.weave_examples.specs.Promise.{OneKept, OneCaught};
 ghost use Rattle.weave_examples.specs.FarTest.{FarPromised};
 ghost use Rattle.weave_examples.specs.Joined.{cut_runs, CutsRuns, JoinedKept, JoinedLanded, JoinedCaught, JoinedClean};
 
-use passes::{Emit, Pass, put_guard, register};
-use rv_isa::Ins;
+use passes::{Emit, Pass, put_guard};
+use rv_isa::{Ins, register};
 use std::alloc::AllocError;
 
 /// Compares x10 with its pair. It looks at no instruction.

@@ -1,7 +1,7 @@
 -- All blocks of a file together have few instructions and pieces: the bodies of leaders share no code address, and any other block has
 -- one instruction at most.
 use Rattle.std.proofs.Common.{◌≡◌, ◌⊎◌, inl, inr, ⊎_elim, ℕ, suc, ◌+◌, ◌-◌, ◌*◌, ◌/◌, ◌%◌, ◌<◌, ◌≤◌, true, List, [], ◌∷◌, length, ap, ◌∙◌, subst, arith}
-use Rattle.std.specs.Prelude.{All, AllPairs, ◌==◌}
+use Rattle.std.specs.Prelude.{All, ◌==◌}
 use Rattle.std.proofs.lemmas.Bool.{and_parts, eqb-true, cases_lt}
 use Rattle.std.proofs.lemmas.List.Elements.{All-head, All-tail}
 use Rattle.elf_types.specs.declared.file.ElfFile.{ElfFile}
@@ -9,10 +9,11 @@ use Rattle.qed_model.specs.declared.options.Options.{Options}
 use Rattle.rv_isa.specs.declared.ins.Ins.{Ins}
 use Rattle.qed_model.specs.Admission.CodeWords.{is_code}
 use Rattle.qed_model.specs.Admission.Leaders.{IsLeader}
-use Rattle.qed_model.specs.Weave.Blocks.{IsBodyAt, IsLeaderBlock, IsShort, IsOtherBlock, AreBlocks}
+use Rattle.qed_model.specs.Weave.Blocks.{IsBodyAt, IsLeaderBlock, IsShort, AreBlocks, IsBlockOf}
 use Rattle.qed_model.specs.Weave.Sequences.{Block, End, Falls, Stops, body_length}
 use Rattle.qed_model.specs.Members.{Among}
 use Rattle.qed_model.proofs.Fetches.{IsShapely, instruction_code}
+use Rattle.qed_model.proofs.BlocksOnly.{Ascend, ascend_of, any_first}
 use Rattle.qed_model.proofs.PieceLaws.{EachPiece, Cut, Empty, Filled, pieces_whole, pieces_cut}
 use Rattle.weave_core.proofs.TestKnown.{body_size}
 
@@ -69,13 +70,10 @@ module _ (f : ElfFile) (shape : IsShapely f) (o : Options) (some : 1 ≤ o.inst_
       record { rest = y.rest; fewer = omega (arith, x.fewer, y.fewer); from = record { all = λ b m d. y.from.all b (omega (arith, m)) d } }
 
   -- ---- lists of blocks
-  abbrev Good : Block → Type 0
-  Good b = IsLeaderBlock f o b ⊎ IsOtherBlock f o b
-
   -- they ascend from `low` on
   abbrev Rising : ℕ → List Block → Type 0
   Rising low [] = Unit {0}
-  Rising low (b ∷ bs) = (low ≤ b.start) × Good b × Rising (b.start + 1) bs
+  Rising low (b ∷ bs) = (low ≤ b.start) × IsBlockOf f o b × Rising (b.start + 1) bs
 
   -- their leaders stand from `low` on
   abbrev LeadersFrom : ℕ → List Block → Type 0
@@ -142,20 +140,9 @@ module _ (f : ElfFile) (shape : IsShapely f) (o : Options) (some : 1 ≤ o.inst_
       up.1
 
   -- ---- the blocks of the file
-  abbrev First : ℕ → List Block → Type 0
-  First low [] = Unit {0}
-  First low (b ∷ bs) = low ≤ b.start
-
-  rising : (low : ℕ) (bs : List Block) → First low bs → AllPairs (λ (x y : Block). x.start < y.start) bs → All Good bs → Rising low bs
-  rising low [] l h g = tt
-  rising low (b ∷ bs) l h g = (l, All-head Good b bs g, rising (b.start + 1) bs (next bs h) (λ i j d lt le. h (suc i) (suc j) d (omega (arith, lt)) (omega (arith, le))) (All-tail Good b bs g)) where
-    next : (cs : List Block) → AllPairs (λ (x y : Block). x.start < y.start) (b ∷ cs) → First (b.start + 1) cs
-    next [] h = tt
-    next (c ∷ cs) h = let p = h 0 1 b (omega arith) (omega arith) in omega (arith, p)
-
-  first_any : (bs : List Block) → First 0 bs
-  first_any [] = tt
-  first_any (b ∷ bs) = omega arith
+  rising : (low : ℕ) (bs : List Block) → Ascend low bs → All (IsBlockOf f o) bs → Rising low bs
+  rising low [] a g = tt
+  rising low (b ∷ bs) a g = (a.0, All-head (IsBlockOf f o) b bs g, rising (b.start + 1) bs a.1 (All-tail (IsBlockOf f o) b bs g))
 
   leaders_any : (bs : List Block) → LeadersFrom 0 bs
   leaders_any [] = tt
@@ -164,5 +151,5 @@ module _ (f : ElfFile) (shape : IsShapely f) (o : Options) (some : 1 ≤ o.inst_
   pub few_blocks : (bs : List Block) (ns : List ℕ) → AreBlocks f o bs → ((a : ℕ) → is_code f a ≡ true → Among a ns) → weight bs ≤ 5 * length ns
   few_blocks bs ns are all =
       let has : HasFrom 0 ns = record { all = λ a l c. all a c } in
-      let sum = weight_below bs 0 0 ns ns (rising 0 bs (first_any bs) are.ascend are.each) (leaders_any bs) has has in
+      let sum = weight_below bs 0 0 ns ns (rising 0 bs (ascend_of 0 bs (any_first bs) are.ascend) are.each) (leaders_any bs) has has in
       omega (arith, sum)

@@ -31,7 +31,7 @@ use Rattle.test_weave.specs.Form.{form_with, items_to_stub}
 use Rattle.test_weave.proofs.WholeCode.{items_are_whole}
 use Rattle.weave_core.proofs.TestKept.{are_rows}
 use Rattle.weave_core.proofs.Tests.{tests_have_words}
-use Rattle.woven_code.specs.Code.{items_of, place_of, IsCut, IsCodeOf, HasCause}
+use Rattle.woven_code.specs.Code.{items_of, code_begin, IsCut, IsCodeOf, HasCause}
 use Rattle.woven_code.proofs.CodeBytes.{few_bytes}
 use Rattle.woven_code.proofs.DataWords.{few_data}
 
@@ -50,7 +50,7 @@ module _ (f : ElfFile) (o : Options) (t : Test) (blocks : List CodeBlock) (cut :
   size : (far : Bool) → sum_of_sizes far (items_in f o far bs) ≡ sum_of_sizes far (items_of t o far blocks) + 4
   size far = ap (λ is. sum_of_sizes far is) (sym (whole far)) ∙ size-append far (items_of t o far blocks) stub
 
-  place : place_of t ≡ code_place o.half (image_of f)
+  place : code_begin t ≡ code_place o.half (image_of f)
   place = omega (arith, cut.told.base, cut.told.distance)
 
   pub far_taken : (IsWithinForm false (items_of t o false blocks) → ⊥) → is_far_code f o bs ≡ true
@@ -67,23 +67,23 @@ module _ (f : ElfFile) (o : Options) (t : Test) (blocks : List CodeBlock) (cut :
   few : (far : Bool) → is_far_code f o bs ≡ far → IsWithinForm far (items_of t o far blocks) → code_size f o bs ≤ limit_of limit.CodeBytes
   few far e h = subst (λ n. n ≤ limit_of limit.CodeBytes) (sym (code_bytes far e)) (limited far _ h)
 
-  entries : (far : Bool) → is_far_code f o bs ≡ far → new_entries f o bs ≡ rows_from far (place_of t) (items_of t o far blocks)
+  entries : (far : Bool) → is_far_code f o bs ≡ far → new_entries f o bs ≡ rows_from far (code_begin t) (items_of t o far blocks)
   entries far e =
       ap (λ b. rows_from b (code_place o.half (image_of f)) (items_in f o b bs)) e
       ∙ ap (λ p. rows_from far p (items_in f o far bs)) (sym place)
-      ∙ ap (λ is. rows_from far (place_of t) is) (sym (whole far))
-      ∙ (parts_join far (λ a. a) (place_of t) (items_of t o far blocks) stub).marks
-      ∙ append-nil (rows_from far (place_of t) (items_of t o far blocks))
+      ∙ ap (λ is. rows_from far (code_begin t) is) (sym (whole far))
+      ∙ (parts_join far (λ a. a) (code_begin t) (items_of t o far blocks) stub).marks
+      ∙ append-nil (rows_from far (code_begin t) (items_of t o far blocks))
 
   instructions : (far : Bool) → is_far_code f o bs ≡ far
-      → placed (is_far_code f o bs) (code_place o.half (image_of f)) (items_in f o (is_far_code f o bs) bs) ≡ placed far (place_of t) (items_of t o far blocks ++ stub)
+      → placed (is_far_code f o bs) (code_place o.half (image_of f)) (items_in f o (is_far_code f o bs) bs) ≡ placed far (code_begin t) (items_of t o far blocks ++ stub)
   instructions far e =
       ap (λ b. placed b (code_place o.half (image_of f)) (items_in f o b bs)) e
       ∙ ap (λ p. placed far p (items_in f o far bs)) (sym place)
-      ∙ ap (λ is. placed far (place_of t) is) (sym (whole far))
+      ∙ ap (λ is. placed far (code_begin t) is) (sym (whole far))
 
   -- it can be linked
-  pub links : (far : Bool) → is_far_code f o bs ≡ far → LinksWithin far (place_of t) (items_of t o far blocks)
+  pub links : (far : Bool) → is_far_code f o bs ≡ far → LinksWithin far (code_begin t) (items_of t o far blocks)
   links far e h =
       let b = cut.blocked in
       let words = tests_have_words f o bs b.file b.sound b.admitted b.are (few far e h) in
@@ -95,7 +95,7 @@ module _ (f : ElfFile) (o : Options) (t : Test) (blocks : List CodeBlock) (cut :
 
   -- and what is linked is the new code of the test
   pub code_of :
-      (far : Bool) (made : WovenCode) → made.far ≡ far → is_far_code f o bs ≡ far → IsWithinForm far (items_of t o far blocks) → IsLinked far (place_of t) (items_of t o far blocks) made.linked
+      (far : Bool) (made : WovenCode) → made.far ≡ far → is_far_code f o bs ≡ far → IsWithinForm far (items_of t o far blocks) → IsLinked far (code_begin t) (items_of t o far blocks) made.linked
       → IsCodeOf f o blocks made
   code_of far made same e h l = record {
     far = same ∙ sym e;

@@ -14,7 +14,7 @@ use Rattle.relinker.specs.Link.{IsWithinForm}
 use Rattle.plc_rounds.specs.Spans.{spans_of}
 use Rattle.test_weave.specs.declared.weaver.Weaver.{Weaver}
 use Rattle.test_weave.specs.Form.{form, form_with, items_to_stub}
-use Rattle.woven_code.specs.Code.{items_of, handed_on, place_of, IsCut, IsCodeOf, HasCause}
+use Rattle.woven_code.specs.Code.{items_of, handed_on, code_begin, IsCut, IsCodeOf, HasCause}
 use Rattle.woven_code.proofs.Forms.{code_of, cause}
 
 -- a weaver of a form hands on its items
@@ -27,7 +27,7 @@ all_handed t o far (Err x) e = tt
 module _ (o : Options) (t : Test) (blocks : List CodeBlock) (far : Bool) (taken : (f : ElfFile) → IsCut f o t blocks → is_far_code f o (map block_of blocks) ≡ far) where
   pub code_result :
       (r : Result WovenCode LinkError) → IfOk r (λ made. made.far ≡ far) → IfOk r (λ _. IsWithinForm far (items_of t o far blocks))
-      → IfOk r (λ made. IsLinked far (place_of t) (items_of t o far blocks) made.linked) → IfOk r (λ made. (f : ElfFile) → IsCut f o t blocks → IsCodeOf f o blocks made)
+      → IfOk r (λ made. IsLinked far (code_begin t) (items_of t o far blocks) made.linked) → IfOk r (λ made. (f : ElfFile) → IsCut f o t blocks → IsCodeOf f o blocks made)
   code_result (Ok made) same h l = λ f cut. code_of f o t blocks cut far made same (taken f cut) h l
   code_result (Err e) same h l = tt
 

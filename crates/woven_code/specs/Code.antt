@@ -28,8 +28,8 @@ abbrev pub handed_on : Weaver → Test → List CodeBlock → List Item
 handed_on w t blocks = items_to_stub t.distance t.entry (form w) (map block_of blocks)
 
 -- where the code begins
-abbrev pub place_of : Test → ℕ
-place_of t = t.base + 3 * t.distance
+abbrev pub code_begin : Test → ℕ
+code_begin t = t.base + 3 * t.distance
 
 -- ---- of a test
 -- the file is an admitted test, of which this is told, and these are its blocks

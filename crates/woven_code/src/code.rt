@@ -9,7 +9,7 @@ ghost use Rattle.relinker.specs.Laid.{IsLaid, IsLinked, HasLinkCause};
 ghost use Rattle.relinker.specs.Link.{IsWithinForm, LinksWithin};
 ghost use Rattle.test_weave.specs.Fits.{FitsBlock};
 ghost use Rattle.test_weave.specs.Form.{parts_to_stub};
-ghost use Rattle.woven_code.specs.Code.{items_of, handed_on, place_of, IsCut, IsCodeOf, HasCause};
+ghost use Rattle.woven_code.specs.Code.{items_of, handed_on, code_begin, IsCut, IsCodeOf, HasCause};
 
 use crate::count::counted;
 use crate::size::code_size;
@@ -35,13 +35,13 @@ fn laid_out(
     far: bool,
     blocks: &[CodeBlock],
 ) -> Result<Layout, LinkError>
-    requires room { place_of test.now + CODE_ROOM ≤ 2 ^ 63 }
+    requires room { code_begin test.now + CODE_ROOM ≤ 2 ^ 63 }
     requires visits { options.now.round ≤ 1024 }
     requires ranges { length test.now.span ≤ 67_108_864 }
     requires fit { All FitsBlock blocks.now }
-    requires links { LinksWithin far (place_of test.now) (items_of test.now options.now far blocks.now) }
+    requires links { LinksWithin far (code_begin test.now) (items_of test.now options.now far blocks.now) }
     ensures form { IfOk result (λ layout. layout.far ≡ far) }
-    ensures base { IfOk result (λ layout. layout.base ≡ place_of test.now) }
+    ensures base { IfOk result (λ layout. layout.base ≡ code_begin test.now) }
     ensures laid { IfOk result (λ layout. IsLaid layout [] (items_of test.now options.now far blocks.now)) }
     ensures fits { IfOk result (λ _. IsWithinForm far (items_of test.now options.now far blocks.now)) }
     ensures cause { IfErr result (HasLinkCause far (items_of test.now options.now far blocks.now)) }
@@ -93,13 +93,13 @@ fn code_in(
     blocks: &[CodeBlock],
     far: bool,
 ) -> Result<WovenCode, LinkError>
-    requires room { place_of test.now + CODE_ROOM ≤ 2 ^ 63 }
+    requires room { code_begin test.now + CODE_ROOM ≤ 2 ^ 63 }
     requires visits { options.now.round ≤ 1024 }
     requires ranges { length test.now.span ≤ 67_108_864 }
     requires fit { All FitsBlock blocks.now }
-    requires links { LinksWithin far (place_of test.now) (items_of test.now options.now far blocks.now) }
+    requires links { LinksWithin far (code_begin test.now) (items_of test.now options.now far blocks.now) }
     ensures form { IfOk result (λ made. made.far ≡ far) }
-    ensures linked { IfOk result (λ made. IsLinked far (place_of test.now) (items_of test.now options.now far blocks.now) made.linked) }
+    ensures linked { IfOk result (λ made. IsLinked far (code_begin test.now) (items_of test.now options.now far blocks.now) made.linked) }
     ensures fits { IfOk result (λ _. IsWithinForm far (items_of test.now options.now far blocks.now)) }
     ensures cause { IfErr result (HasLinkCause far (items_of test.now options.now far blocks.now)) }
 {

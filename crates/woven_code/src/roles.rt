@@ -14,9 +14,8 @@ ghost use Rattle.woven_code.specs.Roles.{row as row_of, guard_role as guard_role
 use crate::code::is_far;
 use crate::size::{Sizes, guard_size, links_size, mirror_size, prologue_size, sizes_of};
 use block_list::CodeBlock;
-use passes::register;
 use qed_model::{Options, Range, Role, RoleRow, Test};
-use rv_isa::{Class, Ins, Kind, Reg};
+use rv_isa::{Class, Ins, Kind, Reg, register};
 use std::alloc::{AllocError, Global};
 
 /// So many bytes of one role.

@@ -1,6 +1,6 @@
 -- The data of a test: which segments have it, and the ranges of aligned words that they make up. Ranges are by their first address
 -- and the one behind their last. The form is this project's own.
-use Rattle.std.specs.Prelude.{◌≡◌, ◌↔◌, ℕ, ◌+◌, ◌-◌, ◌*◌, ◌/◌, ◌<◌, Bool, nat_lt, ◌&&◌, ◌||◌, not, min, max, cond, List, [], ◌∷◌, map, filter, All, AllPairs}
+use Rattle.std.specs.Prelude.{◌≡◌, ◌↔◌, if◌then◌else◌, ℕ, ◌+◌, ◌-◌, ◌*◌, ◌/◌, ◌<◌, Bool, nat_lt, ◌&&◌, ◌||◌, not, min, max, cond, List, [], ◌∷◌, map, filter, All, AllPairs}
 use Rattle.std.specs.List.{list_any}
 pub use Rattle.elf_types.specs.declared.file.Segment.{Segment}
 pub use Rattle.elf_types.specs.declared.file.ElfFile.{ElfFile}
@@ -71,7 +71,16 @@ abbrev pub DataRangesAreJoined : Type 0
 DataRangesAreJoined = (f : ElfFile) (ranges : List (ℕ × ℕ)) → AreJoined (data_parts (image_segments f.segments)) ranges ↔ (ranges ≡ data_ranges (image_segments f.segments))
 
 -- ---- data words
--- how many aligned words ranges have, W
+-- how many aligned words a range has
+abbrev pub words_in : ℕ × ℕ → ℕ
+words_in r = (r.1 - r.0) / 8
+
+-- and ranges, W
 abbrev pub word_count : List (ℕ × ℕ) → ℕ
 word_count [] = 0
-word_count (r ∷ rs) = (r.1 - r.0) / 8 + word_count rs
+word_count (r ∷ rs) = words_in r + word_count rs
+
+-- the address of word i, from 0, of ranges that ascend; 0 behind the last
+abbrev pub word_address : List (ℕ × ℕ) → ℕ → ℕ
+word_address [] i = 0
+word_address (r ∷ rs) i = if nat_lt i (words_in r) then r.0 + 8 * i else word_address rs (i - words_in r)

@@ -10,6 +10,7 @@ use Rattle.qed_model.specs.declared.test.Test.{Test}
 use Rattle.qed_model.specs.declared.limits.TheConstants.{MAX_IMAGE_SPAN}
 use Rattle.qed_model.specs.declared.options.Options.{Options}
 use Rattle.qed_model.specs.declared.options.Entries.TheVariants as entries
+use Rattle.qed_model.specs.Numbers.{words_of}
 use Rattle.qed_model.specs.Machine.Step.{class_of, Ins, Class, target, imm}
 use Rattle.qed_model.specs.Machine.Values.{word}
 use Rattle.qed_model.specs.Admission.Terms.{ElfFile, Segment, is_code_address, is_named_in}
@@ -28,14 +29,9 @@ abbrev pub links_to : CodeWord → ℕ → Bool
 links_to c a = is_jump (class_of c.ins.kind) && (not (c.ins.rd == 0) && ((c.at + 4) % 2 ^ 64 == a))
 
 -- ---- words of the image
--- the little-endian words of four bytes each
-abbrev pub words_in : List ℕ → List ℕ
-words_in (first ∷ second ∷ third ∷ fourth ∷ bytes) = (first + 256 * (second + 256 * (third + 256 * fourth))) ∷ words_in bytes
-words_in _ = []
-
 -- the words of the segment's bytes in the file that stand at multiples of 4
 abbrev pub data_words : Segment → List ℕ
-data_words s = words_in (drop ((4 - s.address % 4) % 4) s.bytes)
+data_words s = words_of (drop ((4 - s.address % 4) % 4) s.bytes)
 
 -- how far from a base on the first address is that has a word as its low 32 bits
 abbrev pub offset_of : ℕ → ℕ → ℕ
@@ -62,7 +58,7 @@ bytes_from a s = cond (nat_le s.address a) (drop (a - s.address) s.bytes) []
 
 -- a table at the base leads to the address
 abbrev pub is_by_table : Test → ℕ → ℕ → Segment → Bool
-is_by_table t base a s = is_in_table (map range_of t.ranges) base a (words_in (bytes_from base s))
+is_by_table t base a s = is_in_table (map range_of t.ranges) base a (words_of (bytes_from base s))
 
 -- ---- constants
 -- LUI and AUIPC

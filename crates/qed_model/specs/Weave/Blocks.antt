@@ -50,6 +50,10 @@ pub record IsOtherBlock (f : ElfFile) (o : Options) (b : Block) : Type 0 where
 abbrev pub begins_at : List Block → ℕ → Bool
 begins_at blocks a = list_any (λ b. b.start == a) blocks
 
+-- a block begins at a leader or, where all have entries, at another address
+abbrev pub IsBlockOf : ElfFile → Options → Block → Type 0
+IsBlockOf f o b = IsLeaderBlock f o b ⊎ IsOtherBlock f o b
+
 -- marked are those to which a JALR may lead, where only such addresses have entries
 abbrev pub IsEntered : ElfFile → Options → ℕ → Type 0
 IsEntered f o a = (o.entries ≡ entries.Reached) × HasIndirect f × IsReached f o a
@@ -60,7 +64,7 @@ IsMarked f o b = (b.reached ≡ true) ↔ IsEntered f o b.start
 -- each leader has its block, where the code has a JALR and all have entries each code address has one, and there is no other
 pub record AreBlocks (f : ElfFile) (o : Options) (blocks : List Block) : Type 0 where
   pub ascend : AllPairs (λ b c. b.start < c.start) blocks
-  pub each : All (λ b. IsLeaderBlock f o b ⊎ IsOtherBlock f o b) blocks
+  pub each : All (IsBlockOf f o) blocks
   pub marked : All (IsMarked f o) blocks
   pub leaders : (a : ℕ) → IsLeader f o a → begins_at blocks a ≡ true
   pub others : o.entries ≡ entries.All → HasIndirect f → (a : ℕ) → is_code f a ≡ true → begins_at blocks a ≡ true

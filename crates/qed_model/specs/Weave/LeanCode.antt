@@ -53,6 +53,10 @@ abbrev pub worded : Form → ℕ → (ℕ → ℕ) → Lean → (ℕ → Bool) �
 worded form base entry l leader = sequences form entry l (fall_words leader) (λ d a. begin d a ++ check base (call_at l.land) l.every form.round form.spans)
 
 -- ---- the steps of a block
+-- where its end stands
+abbrev pub end_at : Block → ℕ
+end_at b = b.start + 4 * body_length b.body
+
 -- of a mirror part
 abbrev pub mirror_steps_of : Bool → Ins → ℕ
 mirror_steps_of diverse i = cond diverse (cost_of true - spent i) (mirror_steps i)
@@ -67,7 +71,7 @@ body_steps diverse (p ∷ ps) = piece_steps diverse p + body_steps diverse ps
 
 -- the most steps of a block: those of its entry, of its pieces, and the most of its leave
 abbrev pub block_steps : Bool → Bool → (ℕ → Bool) → Block → ℕ
-block_steps diverse land leader b = entry_steps land + (body_steps diverse b.body + leave_cost (fall_to leader) b.end b.start (b.start + 4 * body_length b.body))
+block_steps diverse land leader b = entry_steps land + (body_steps diverse b.body + leave_cost (fall_to leader) b.end b.start (end_at b))
 
 -- ---- where a block goes on, but by a jump by register
 abbrev pub leads_as : Class → Ins → ℕ → ℕ → Bool
@@ -81,7 +85,7 @@ leads_on (Stops i) at t = leads_as (class_of i.kind) i at t
 
 -- one of these blocks does at an address
 abbrev pub leads_in : List Block → ℕ → Bool
-leads_in bs t = list_any (λ b. leads_on b.end (b.start + 4 * body_length b.body) t) bs
+leads_in bs t = list_any (λ b. leads_on b.end (end_at b) t) bs
 
 -- ---- ticks
 -- of a block: where it begins, whether it has a tick, and the most steps from its entry to the next tick
@@ -103,15 +107,15 @@ most_at (r ∷ rs) a = cond (r.start == a) r.most (most_at rs a)
 abbrev pub owed_at : List TickRow → ℕ → ℕ
 owed_at rs t = cond (has_tick rs t) 0 (most_at rs t)
 
--- the most behind an end
-abbrev pub owed_as : List TickRow → Class → Ins → ℕ → ℕ
-owed_as rs class.Jump i at = owed_at rs (target i at)
-owed_as rs class.Branch i at = max (owed_at rs (target i at)) (owed_at rs ((at + 4) % 2 ^ 64))
-owed_as rs _ i at = 0
+-- the most behind an end, where so much is owed at each address
+abbrev pub owed_as : (ℕ → ℕ) → Class → Ins → ℕ → ℕ
+owed_as owed class.Jump i at = owed (target i at)
+owed_as owed class.Branch i at = max (owed (target i at)) (owed ((at + 4) % 2 ^ 64))
+owed_as owed _ i at = 0
 
-abbrev pub owed_behind : List TickRow → End → ℕ → ℕ
-owed_behind rs Falls at = owed_at rs at
-owed_behind rs (Stops i) at = owed_as rs (class_of i.kind) i at
+abbrev pub owed_behind : (ℕ → ℕ) → End → ℕ → ℕ
+owed_behind owed Falls at = owed at
+owed_behind owed (Stops i) at = owed_as owed (class_of i.kind) i at
 
 -- what the rows depend on besides the blocks: what the steps do, which addresses begin a block, the entry of the test, and how many steps may be left to
 -- the tick before
@@ -127,14 +131,12 @@ pub record Counting : Type 0 where
 abbrev pub needs_tick : Counting → Block → Bool → ℕ → Bool
 needs_tick c b behind most = b.reached || ((b.start == c.entry) || (behind || nat_lt c.room most))
 
-abbrev pub tick_row : Counting → Block → Bool → ℕ → TickRow
-tick_row c b behind most = record { start = b.start; ticks = needs_tick c b behind most; most = most }
-
 -- of blocks in ascending order
 abbrev pub tick_rows : Counting → List Block → List TickRow
 tick_rows c [] = []
 tick_rows c (b ∷ bs) =
-    tick_row c b (leads_in (b ∷ bs) b.start) (block_steps c.diverse c.land c.leader b + owed_behind (tick_rows c bs) b.end (b.start + 4 * body_length b.body)) ∷ tick_rows c bs
+    let most : ℕ = block_steps c.diverse c.land c.leader b + owed_behind (owed_at (tick_rows c bs)) b.end (end_at b) in
+    record { start = b.start; ticks = needs_tick c b (leads_in (b ∷ bs) b.start) most; most = most } ∷ tick_rows c bs
 
 -- ---- of a file
 -- its blocks have fewer steps each than there are from check to check, and what is left is for those behind; but 48 at most, since a tick counts the longest way
@@ -156,20 +158,24 @@ is_alike _ _ = false
 -- where the block begins that has such an end at an address
 abbrev pub start_at : List Block → End → ℕ → ℕ
 start_at [] e at = 0
-start_at (b ∷ bs) e at = cond (is_alike b.end e && (b.start + 4 * body_length b.body == at)) b.start (start_at bs e at)
+start_at (b ∷ bs) e at = cond (is_alike b.end e && (end_at b == at)) b.start (start_at bs e at)
 
--- of a file with its blocks, where the check sets the counter to less `every`
-abbrev pub lean_of : ElfFile → Options → ℕ → List Block → Lean
-lean_of f o every blocks = record {
+-- of blocks, where the check stands at an address and sets the counter to less `every`, and the test has its entry at another
+abbrev pub lean_in : Options → ℕ → List Block → ℕ → ℕ → Lean
+lean_in o every blocks check entry = record {
   every = every;
   inst_max = o.inst_max;
   diverse = o.diverse;
   land = o.land;
-  check = code_place o.half (image_of f) + sum_of_sizes false (begin (half_of o.half (image_of f)) f.entry);
-  ticks = has_tick (tick_rows (counting_of o f.entry every blocks) blocks);
-  most = most_at (tick_rows (counting_of o f.entry every blocks) blocks);
+  check = check;
+  ticks = has_tick (tick_rows (counting_of o entry every blocks) blocks);
+  most = most_at (tick_rows (counting_of o entry every blocks) blocks);
   start_of = start_at blocks;
 }
+
+-- of a file with its blocks
+abbrev pub lean_of : ElfFile → Options → ℕ → List Block → Lean
+lean_of f o every blocks = lean_in o every blocks (code_place o.half (image_of f) + sum_of_sizes false (begin (half_of o.half (image_of f)) f.entry)) f.entry
 
 -- ---- the new code
 -- its items, where an input address has its entry

@@ -7,6 +7,7 @@ use Rattle.qed_model.specs.declared.role.Role.TheVariants as role
 use Rattle.qed_model.specs.declared.role.RoleRow.{RoleRow}
 use Rattle.qed_model.specs.Weave.Places.{Options, ElfFile, image_of, half_of}
 use Rattle.qed_model.specs.Weave.Placed.{sum_of_sizes}
+pub use Rattle.qed_model.specs.Weave.Sequences.{originals}
 use Rattle.qed_model.specs.Weave.Sequences.{Plain, Item, class_of, Class, Ins, Form, Block, End, Falls, Stops, guard, enter, visit, sweep, is_auipc, original, leave_as, leave, body_length, prologue, stub}
 use Rattle.qed_model.specs.Weave.Woven.{is_far_code, new_items}
 use Rattle.qed_model.specs.Weave.Forms.{form_of}
@@ -26,9 +27,6 @@ guard_parts of i = (of i.rs1, guard i.rs1) ∷ (of i.rs2, cond (i.rs2 == i.rs1) 
 abbrev pub compare_parts : (ℕ → Role) → List ℕ → List (Role × List Item)
 compare_parts of [] = []
 compare_parts of (r ∷ rs) = (of r, guard r) ∷ compare_parts of rs
-
-abbrev pub originals : List ℕ
-originals = 1 ∷ 2 ∷ 3 ∷ 4 ∷ 5 ∷ 6 ∷ 7 ∷ 8 ∷ 9 ∷ 10 ∷ 11 ∷ 12 ∷ 13 ∷ []
 
 -- ---- pieces
 -- the original part of an instruction, by its class

@@ -50,9 +50,13 @@ abbrev pub guards : List ℕ → List Item
 guards [] = []
 guards (q ∷ qs) = guard q ++ guards qs
 
--- the guard of each of x1 to x13
+-- x1 to x13
+abbrev pub originals : List ℕ
+originals = 1 ∷ 2 ∷ 3 ∷ 4 ∷ 5 ∷ 6 ∷ 7 ∷ 8 ∷ 9 ∷ 10 ∷ 11 ∷ 12 ∷ 13 ∷ []
+
+-- the guard of each
 abbrev pub compare : List Item
-compare = guards (1 ∷ 2 ∷ 3 ∷ 4 ∷ 5 ∷ 6 ∷ 7 ∷ 8 ∷ 9 ∷ 10 ∷ 11 ∷ 12 ∷ 13 ∷ [])
+compare = guards originals
 
 -- fires where the signature in x16 is not that of an input address
 abbrev pub check_sign : ℕ → List Item

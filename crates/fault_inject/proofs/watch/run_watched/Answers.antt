@@ -1,6 +1,6 @@
 use Rattle.std.proofs.Common.{◌+◌, drop, ap, ◌∙◌, sym, arith}
 use Rattle.qed_model.specs.Promise.Changed.{changed, changed_run}
-use Rattle.fault_inject.specs.Astray.{holds}
+use Rattle.qed_model.specs.Sets.{has_address}
 use Rattle.fault_inject.proofs.Changing.{AllFrom, from_less, started, left_before, left_none, next_later, reached_next, ends}
 use Rattle.fault_inject.proofs.Straying.{in_none, astray_on}
 use Rattle.fault_inject.proofs.watch.run_watched.Goals as goal
@@ -10,7 +10,7 @@ pub loop-change-init : goal.loop-change-init
 loop-change-init g c = record {
   made = started c.args.machine.now c.args.changes.now;
   within = omega arith;
-  astray = sym (in_none (holds c.args.reached.now) (changed_run c.args.machine.now.state c.args.changes.now));
+  astray = sym (in_none (has_address c.args.reached.now) (changed_run c.args.machine.now.state c.args.changes.now));
 }
 
 pub watch_on-requires : goal.watch_on-requires
@@ -33,7 +33,7 @@ loop-change-preserved g c =
     record {
       made = reached_next m cs c.loop-change.change-index c.loop-change.steps c.loop-change.machine c.make_change.new.machine change c.requires c.loop-change-test.true c.change-item.is h.made state steps;
       within = c.if-change-n.false;
-      astray = c.or-found.ensures ∙ astray_on (holds c.args.reached.now) m cs c.loop-change.change-index c.loop-change.steps change.step c.loop-change.machine c.loop-change.found c.in_ok-more.more h.made later left h.astray c.in_ok-more.ensures.astray;
+      astray = c.or-found.ensures ∙ astray_on (has_address c.args.reached.now) m cs c.loop-change.change-index c.loop-change.steps change.step c.loop-change.machine c.loop-change.found c.in_ok-more.more h.made later left h.astray c.in_ok-more.ensures.astray;
     }
 
 pub returns : goal.returns
@@ -50,5 +50,5 @@ returns g c =
     record {
       state = ap (λ p. p.state) there;
       steps = ap (λ p. p.steps) there;
-      astray = c.or.ensures ∙ astray_on (holds c.args.reached.now) m cs k c.loop-change.steps c.args.n c.loop-change.machine c.loop-change.found c.in_ok-more-2.more h.made h.within (from_less (c.args.n + 1) c.args.n (drop k cs) (omega arith) left) h.astray c.in_ok-more-2.ensures.astray;
+      astray = c.or.ensures ∙ astray_on (has_address c.args.reached.now) m cs k c.loop-change.steps c.args.n c.loop-change.machine c.loop-change.found c.in_ok-more-2.more h.made h.within (from_less (c.args.n + 1) c.args.n (drop k cs) (omega arith) left) h.astray c.in_ok-more-2.ensures.astray;
     }

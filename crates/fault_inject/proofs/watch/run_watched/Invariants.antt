@@ -1,5 +1,6 @@
 use Rattle.std.proofs.Common.{◌≡◌, ◌≤◌}
-use Rattle.fault_inject.specs.Astray.{holds, first_astray}
+use Rattle.qed_model.specs.Sets.{has_address}
+use Rattle.fault_inject.specs.Astray.{first_astray}
 use Rattle.fault_inject.proofs.Changing.{Reached}
 use Rattle.fault_inject.proofs.watch.run_watched.Given as goal
 
@@ -8,5 +9,5 @@ abbrev pub invariant-loop-change : goal.invariant-loop-change
 invariant-loop-change g l = record {
   made : Reached l.initial.machine l.changes l.change-index l.steps l.machine;
   within : l.steps ≤ l.n;
-  astray : l.found ≡ first_astray (holds l.reached) l.initial.machine.state l.changes l.steps;
+  astray : l.found ≡ first_astray (has_address l.reached) l.initial.machine.state l.changes l.steps;
 }

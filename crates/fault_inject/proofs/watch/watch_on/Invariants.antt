@@ -1,6 +1,7 @@
 use Rattle.std.proofs.Common.{◌≡◌}
 use Rattle.qed_model.specs.Machine.Progress.{progress}
-use Rattle.fault_inject.specs.Astray.{holds, first_jump}
+use Rattle.qed_model.specs.Sets.{has_address}
+use Rattle.fault_inject.specs.Astray.{first_jump}
 use Rattle.fault_inject.proofs.Straying.{states}
 use Rattle.fault_inject.proofs.watch.watch_on.Given as goal
 
@@ -8,5 +9,5 @@ use Rattle.fault_inject.proofs.watch.watch_on.Given as goal
 abbrev pub invariant-loop-made : goal.invariant-loop-made
 invariant-loop-made g l = record {
   made : l.machine ≡ progress l.initial.machine l.made;
-  astray : l.found ≡ first_jump (holds l.reached) (states l.initial.machine) l.made;
+  astray : l.found ≡ first_jump (has_address l.reached) (states l.initial.machine) l.made;
 }

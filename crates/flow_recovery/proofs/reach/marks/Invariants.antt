@@ -1,7 +1,7 @@
 use Rattle.std.proofs.Common.{take, map, ◌≡◌}
-use Rattle.flow_recovery.specs.Sets.{holds}
+use Rattle.qed_model.specs.Sets.{has_address}
 use Rattle.flow_recovery.proofs.reach.marks.Given as goal
 
 -- those so far
 abbrev pub invariant-loop-word : goal.invariant-loop-word
-invariant-loop-word l = l.marks.items ≡ map (λ c. holds l.set c.at) (take l.word-index l.words)
+invariant-loop-word l = l.marks.items ≡ map (λ c. has_address l.set c.at) (take l.word-index l.words)

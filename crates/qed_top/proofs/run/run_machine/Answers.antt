@@ -1,7 +1,7 @@
 use Rattle.std.proofs.Common.{Option, sym, ap, ◌∙◌, Bor}
 use Rattle.std.specs.Option.{option_copied}
 use Rattle.command_line.specs.Text.Run.{jumps_line}
-use Rattle.fault_inject.specs.Astray.{holds}
+use Rattle.qed_model.specs.Sets.{has_address}
 use Rattle.qed_model.specs.declared.test.Test.{Test}
 use Rattle.qed_top.specs.Run.{jumps_of}
 use Rattle.qed_top.proofs.Meanings.{was_told}
@@ -12,5 +12,5 @@ returns-in_ok-jumps_text-in-Some-clause-jumps g c =
     let f = c.args.file.now in
     let steps = c.args.steps in
     let changes = c.args.changes.now in
-    let told = was_told f c.in-Some.test.now steps changes (holds c.in_ok-reached-in-Some.reached) c.args.machine.now c.in_ok-astray-in-Some.astray c.in_ok-reached-in-Some.ensures c.requires.begun c.in_ok-astray-in-Some.ensures.astray in
+    let told = was_told f c.in-Some.test.now steps changes (has_address c.in_ok-reached-in-Some.reached) c.args.machine.now c.in_ok-astray-in-Some.astray c.in_ok-reached-in-Some.ensures c.requires.begun c.in_ok-astray-in-Some.ensures.astray in
     c.in_ok-jumps_text-in-Some.ensures ∙ ap jumps_line told ∙ ap (λ (o : Option (Bor Test)). jumps_of f (option_copied o) steps changes) (sym c.in-Some.is)

@@ -1,6 +1,5 @@
 use Rattle.std.proofs.Common.{◌≡◌, map, drop}
-use Rattle.qed_model.specs.Admission.DataRanges.{range_of}
-use Rattle.strikes.specs.Draw.{word_address}
+use Rattle.qed_model.specs.Admission.DataRanges.{range_of, word_address}
 use Rattle.strikes.proofs.draw.word_address.Given as goal
 
 -- the word is behind those so far

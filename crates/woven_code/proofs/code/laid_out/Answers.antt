@@ -1,5 +1,5 @@
 use Rattle.relinker.proofs.Laying.{within_form, all_laid, link_cause}
-use Rattle.woven_code.specs.Code.{items_of, place_of}
+use Rattle.woven_code.specs.Code.{items_of, code_begin}
 use Rattle.woven_code.proofs.code.laid_out.Goals as goal
 
 pub lay-requires-clause-counted : goal.lay-requires-clause-counted
@@ -7,7 +7,7 @@ lay-requires-clause-counted c = (items_of c.args.test.now c.args.options.now c.a
 
 pub returns-clause-laid : goal.returns-clause-laid
 returns-clause-laid c =
-    all_laid c.in_ok-count.count c.args.far (place_of c.args.test.now) (items_of c.args.test.now c.args.options.now c.args.far c.args.blocks.now) c.lay.result
+    all_laid c.in_ok-count.count c.args.far (code_begin c.args.test.now) (items_of c.args.test.now c.args.options.now c.args.far c.args.blocks.now) c.lay.result
     c.in_ok-count.ensures.form c.in_ok-count.ensures.counted c.requires.links c.lay.ensures.limit c.lay.ensures.laid
 
 pub returns-clause-fits : goal.returns-clause-fits

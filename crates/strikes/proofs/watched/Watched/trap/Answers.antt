@@ -1,8 +1,15 @@
-use Rattle.std.proofs.Common.{◌≡◌, ◌+◌, ap, ◌∙◌, sym}
+use Rattle.std.proofs.Common.{◌≡◌, ◌+◌, ap, ◌∙◌, sym, rules}
 use Rattle.qed_model.specs.Machine.Step.{run}
-use Rattle.qed_model.specs.declared.machine.Outcome.TheVariants.{Going}
+use Rattle.qed_model.specs.declared.machine.Outcome.TheVariants.{Going, Ended}
 use Rattle.strikes.specs.Found.{trap_pc_of}
+use Rattle.strikes.proofs.Leaping.{ended_untrapped}
 use Rattle.strikes.proofs.watched.Watched.trap.Goals as goal
+
+pub returns-then-eq : goal.returns-then-eq
+returns-then-eq c =
+    let ended : c.self.inside.later.state.outcome ≡ Ended = search rules in
+    let steps = c.args.last + c.args.bound in
+    sym (ap (λ s. trap_pc_of (run s steps).outcome) (sym c.self.view_is) ∙ ended_untrapped c.self.inside.start.state c.self.inside.later.state c.self.inside.steps steps c.self.invariant ended)
 
 pub returns-in-Some : goal.returns-in-Some
 returns-in-Some c =

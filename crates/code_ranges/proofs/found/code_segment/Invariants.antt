@@ -1,6 +1,6 @@
 use Rattle.std.proofs.Common.{◌≡◌, drop}
 use Rattle.qed_model.specs.Machine.Loading.{load_segments, lies_in_any}
-use Rattle.code_ranges.proofs.found.lies_in_any.Given as goal
+use Rattle.code_ranges.proofs.found.code_segment.Given as goal
 
 -- the rest decides
 abbrev pub invariant-loop-segment : goal.invariant-loop-segment
