@@ -70,9 +70,9 @@ plays_settled fs turns steps answer t (world.too_large over plain) (world.is_sha
 plays_settled fs turns steps answer t (world.too_large over plain) (world.is_told l n e) = absurd (omega (arith, over, l))
 plays_settled fs turns steps answer t (world.shared i j small least plain) (world.is_too_large l e) = absurd (omega (arith, small, l))
 plays_settled fs turns steps answer t (world.shared i j small least plain) (world.is_shared h k l m e) = plain.status ∙ sym e
-plays_settled fs turns steps answer t (world.shared i j small least plain) (world.is_told l n e) = absurd (n i j least.shared)
+plays_settled fs turns steps answer t (world.shared i j small least plain) (world.is_told l n e) = absurd (n i j least.is)
 plays_settled fs turns steps answer t (world.told small none plain keeps) (world.is_too_large l e) = absurd (omega (arith, small, l))
-plays_settled fs turns steps answer t (world.told small none plain keeps) (world.is_shared h k l m e) = absurd (none h k m.shared)
+plays_settled fs turns steps answer t (world.told small none plain keeps) (world.is_shared h k l m e) = absurd (none h k m.is)
 plays_settled fs turns steps answer t (world.told small none plain keeps) (world.is_told l n e) = plain.status ∙ sym e
 
 pub files_settled :
