@@ -40,9 +40,9 @@ ended_untrapped s t n k on ended =
     ⊎_elim
     (λ l. ap trap_pc_of (on.before k l))
     (λ h.
-        let e : n + (k - n) ≡ k = omega (arith, h) in
-        let stays : run t (k - n) ≡ t = run_stays t (k - n) (λ g. absurd (ended_goes (sym ended ∙ g))) in
-        ap (λ i. trap_pc_of (run s i).outcome) (sym e) ∙ ap (λ u. trap_pc_of u.outcome) (on_later s t n (k - n) on ∙ stays) ∙ ap trap_pc_of ended)
+    let e : n + (k - n) ≡ k = omega (arith, h) in
+    let stays : run t (k - n) ≡ t = run_stays t (k - n) (λ g. absurd (ended_goes (sym ended ∙ g))) in
+    ap (λ i. trap_pc_of (run s i).outcome) (sym e) ∙ ap (λ u. trap_pc_of u.outcome) (on_later s t n (k - n) on ∙ stays) ∙ ap trap_pc_of ended)
     (cases_lt k n) where
       ended_goes : Ended ≡ Going → ⊥
       ended_goes x = cc
