@@ -8,10 +8,10 @@ from typing import List, Optional, Tuple
 
 import isa
 from admission import admit, blocks
-from calls import MOST_FILE, Shelf, answer, told
+from calls import MOST_FILE, Shelf, answer, near_text, told
 from elf import File, read_elf
 from machine import Memory, loads_of
-from texts import Stopped
+from texts import MOST_OF_FILE_NAME, Stopped, encoded, printable
 from weave import bounds
 from words import COMMANDS, OTHER_NAMES, Order, change_of, order_of
 
@@ -59,6 +59,11 @@ def _value(words: List[str], name: str) -> Optional[Tuple[int, str]]:
     return None
 
 
+def _file(name: str) -> str:
+    """The name of a file as it is printed."""
+    return printable(encoded(name), MOST_OF_FILE_NAME)
+
+
 def _usage(words: List[str], reason: str) -> str:
     """Where the words ask for nothing."""
     head, _, tail = reason.rpartition(" ")
@@ -77,7 +82,7 @@ def _usage(words: List[str], reason: str) -> str:
         fault = _value(words, tail) if tail else None
     text = SENTENCES[head] + steps
     if fault:
-        text = f"'{fault[1]}', word {fault[0]}: {text}"
+        text = f"'{printable(encoded(fault[1]))}', word {fault[0]}: {text}"
     elif head == "missing option":
         text = f"--{tail}: {text}"
     near = None
@@ -96,12 +101,8 @@ def _usage(words: List[str], reason: str) -> str:
 
 def _place(file: File, address: int) -> str:
     """The line about an address."""
-    text = f"at 0x{address:x}"
-    names = [symbol for symbol in file.symbols
-             if symbol.shndx != 0 and symbol.type in (0, 2) and symbol.value <= address and symbol.is_telling]
-    if names:
-        symbol = max(names, key=lambda symbol: symbol.value)
-        text += f", {symbol.name.decode()}+0x{address - symbol.value:x}"
+    near = near_text(file, address)
+    text = f"at 0x{address:x}, {near}" if near else f"at 0x{address:x}"
     word = Memory(loads_of(file)).load(address, 4)
     return text if word is None else f"{text}: {isa.text_of(word)}"
 
@@ -125,7 +126,7 @@ def _largest(file: File) -> str:
     section = max(file.sections, key=lambda section: section.size, default=None)
     if section is None or section.size == 0:
         return ""
-    return f"the largest section is {section.name.decode()} with {section.size} bytes\n"
+    return f"the largest section is {printable(section.name)} with {section.size} bytes\n"
 
 
 def _refused(order: Order, line: str, shelf: Shelf) -> str:
@@ -135,7 +136,7 @@ def _refused(order: Order, line: str, shelf: Shelf) -> str:
     if len(_named(order)) != 1:
         return f"qed: {sentence} ({found})\n"
     name = order.files[0]
-    text = f"qed: {name}: {sentence} ({found})\n"
+    text = f"qed: {_file(name)}: {sentence} ({found})\n"
     address = re.search("address 0x([0-9a-f]{16})", line)
     file = _read(shelf, name)
     if file and address and not line.startswith("N"):
@@ -146,7 +147,7 @@ def _refused(order: Order, line: str, shelf: Shelf) -> str:
         text += _largest(file)
     number = re.search("line ([0-9]+)$", line)
     if number:
-        text += shelf.load(name, MOST_FILE).decode().split("\n")[int(number[1]) - 1].strip() + "\n"
+        text += printable(shelf.load(name, MOST_FILE).split(b"\n")[int(number[1]) - 1].strip(b" \t")) + "\n"
     return text
 
 
@@ -156,33 +157,40 @@ def _unread(order: Order, shelf: Shelf) -> str:
         try:
             shelf.load(name, 1)
         except OSError:
-            return f"qed: {name} could not be read\n"
+            return f"qed: {_file(name)} could not be read\n"
     return ""
 
 
-def _fired(file: File, ebreak: int) -> str:
-    """What differed where a check fired, by the comparison before the EBREAK, and the word before that."""
+def _fired(file: File, ebreak: int, printed: str) -> str:
+    """What differed where a check fired, by the registers, the comparison before the EBREAK, and the word before that."""
     memory = Memory(loads_of(file))
     before, word = (memory.load((ebreak - far) % 2**64, 4) for far in (8, 4))
     found = re.fullmatch(r"beq x(\d+), x(\d+), -?\d+", "" if word is None else isa.text_of(word))
     if not found:
         return ""
+    first, second = found[1], found[2]
+    values = {"0": "0x0000000000000000", **dict(re.findall(r"^x(\d+) (0x[0-9a-f]{16})$", printed, re.MULTILINE))}
+    if values[first] == values[second]:
+        return f"qed: a jump led to the ebreak behind a check: x{first} and x{second} are equal\n"
     is_call = before is not None and isa.text_of(before).startswith("addi ")
     told_of = {"16": "the signature in x16 is not that of this entry",
                "31": "the signature in x16 is not that of this block",
                "30": "the check was not called by the block at the address in x15" if is_call
                      else "the data word at the address in x15 and its duplicate differ"}
-    return f"qed: a check fired: {told_of.get(found[1], f'x{found[1]} and x{found[2]} differ')}\n"
+    is_output = any(section.name == b".qed.map" for section in file.sections)
+    differ = f"x{first} and x{second} differ"
+    return f"qed: a check fired: {told_of.get(first, differ) if is_output else differ}\n"
 
 
-def _run(order: Order, line: str, shelf: Shelf) -> str:
+def _run(order: Order, printed: str, shelf: Shelf) -> str:
     """How a run ended, and the faults that were not made."""
+    line = printed.split("\n")[0]
     file = read_elf(shelf.load(order.files[0], MOST_FILE))
     kind, cause = line.split(" ")[:2]
     sentence = SENTENCES.get(kind, SENTENCES.get(cause))
     text = f"qed: {sentence}\n{_place(file, int(line[-16:], 16))}\n" if sentence else ""
     if kind == "fired":
-        text = _fired(file, int(line[-16:], 16))
+        text = _fired(file, int(line[-16:], 16), printed)
     made = int(re.search(" after ([0-9]+) ", line)[1]) + (kind == "going")
     memory = Memory(loads_of(file))
     for change in sorted(order.values.get("fault", []), key=lambda change: change.step):
@@ -225,6 +233,6 @@ def advice(words: List[str], shelf: Shelf) -> str:
         return _unread(order, shelf)
     if order.command == "transform":
         if order.files[0] == order.files[1]:
-            return f"qed: {order.files[0]} is the output now, and the test is gone\n"
+            return f"qed: {_file(order.files[0])} is the output now, and the test is gone\n"
         return _growth(order, line, shelf)
-    return _run(order, line, shelf) if order.command == "run" else ""
+    return _run(order, printed, shelf) if order.command == "run" else ""

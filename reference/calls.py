@@ -12,11 +12,11 @@ import isa
 from admission import Options, Test, admit, blocks, reached
 from assembler import CODE, DATA, assemble
 from campaign import Aim, Course, strikes_text
-from elf import STB_LOCAL, STT_FUNC, STT_NOTYPE, File, first_sharing, read_elf
+from elf import STB_LOCAL, STT_NOTYPE, File, first_sharing, read_elf
 from generator import generate
 from machine import ENDED, FIRED, GOING, Hart, Memory, Watched, code_ranges, loads_of, run_changed, start, start_watched
 from output import output_file, packed, plain_file
-from texts import Exceeded, Refused, Stopped, encoded, hex16, number_or_none
+from texts import Exceeded, Refused, Stopped, encoded, hex16, number_or_none, printable
 from lean import Lean, weave_lean
 from weave import Role, Weave, Woven, pair, weave
 from words import Order, order_of
@@ -121,14 +121,16 @@ def role_line(address: int, word: int, role: Role) -> str:
     return f"{isa.text_of(word)} # {hex16(address)} {role.text()}\n"
 
 
+def near_text(file: File, address: int) -> str:
+    """NAME+0xN of the nearest symbol of an address, where there is one ("Roles")."""
+    symbol = file.nearest(address)
+    return f"{printable(symbol.name)}+0x{address - symbol.value:x}" if symbol else ""
+
+
 def symbol_line(file: File, role: Role) -> str:
     """The symbol of the input address of a role, where there is one ("Printed lines", explain)."""
-    near = [s for s in file.symbols if s.shndx != 0 and s.type in (STT_NOTYPE, STT_FUNC) and s.is_telling
-            and role.addresses and s.value <= role.addresses[0]]
-    if not near:
-        return ""
-    symbol = max(near, key=lambda s: s.value)
-    return f"symbol {symbol.name.decode(errors='surrogateescape')}+0x{role.addresses[0] - symbol.value:x}\n"
+    near = near_text(file, role.addresses[0]) if role.addresses else ""
+    return f"symbol {near}\n" if near else ""
 
 
 def fired_line(role: Role) -> str:

@@ -89,6 +89,15 @@ class Symbol:
         """It has a name, and none of a mapping symbol, which begin with `$` (RISC-V ELF psABI)."""
         return self.name != b"" and not self.name.startswith(b"$")
 
+    @property
+    def is_utf8(self) -> bool:
+        """Whether its name is UTF-8."""
+        try:
+            self.name.decode()
+            return True
+        except UnicodeDecodeError:
+            return False
+
 
 @dataclass
 class Relocation:
@@ -108,6 +117,14 @@ class File:
     sections: List[Section] = field(default_factory=list)
     symbols: List[Symbol] = field(default_factory=list)
     relocations: List[Relocation] = field(default_factory=list)
+
+    def nearest(self, address: int) -> Optional[Symbol]:
+        """The nearest symbol of code at or below an address ("Roles")."""
+        below = [s for s in self.symbols if s.shndx != 0 and s.type in (STT_NOTYPE, STT_FUNC) and s.is_telling
+                 and s.value <= address]
+        value = max((s.value for s in below), default=None)
+        same = [s for s in below if s.value == value]
+        return next((s for s in same if s.is_utf8), same[0]) if same else None
 
 
 Header = namedtuple("Header", "magic form encoding ident_version type machine version entry phoff shoff flags ehsize "

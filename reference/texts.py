@@ -1,9 +1,14 @@
-"""Answers that end a call before it is done, and forms of numbers (docs/FORMATS.md, "Printed lines", "Words ..")."""
+"""Answers that end a call before it is done, forms of names and of numbers (docs/FORMATS.md, "Printed lines", "Words ..")."""
 
 from __future__ import annotations
 
 import re
-from typing import Optional
+import unicodedata
+from itertools import islice
+from typing import Iterator, Optional, Union
+
+MOST_OF_FILE_NAME = 4096
+TURNING = {0x61C, 0x200E, 0x200F, *range(0x202A, 0x202F), *range(0x2066, 0x206A)}
 
 
 class Stopped(Exception):
@@ -43,8 +48,35 @@ def hex16(number: int) -> str:
 
 
 def encoded(text: str) -> bytes:
-    """The bytes of a text, in which bytes of names that are no UTF-8 stand as surrogates."""
+    """The bytes of a word or a text, in which bytes that are no UTF-8 stand as surrogates."""
     return text.encode(errors="surrogateescape")
+
+
+def _characters(data: bytes) -> Iterator[Union[str, bytes]]:
+    """The characters of UTF-8, and where there is none the bytes of each maximal subpart ("Names in answers")."""
+    while data:
+        try:
+            yield from data.decode()
+            return
+        except UnicodeDecodeError as error:
+            yield from data[:error.start].decode()
+            yield data[error.start:error.end]
+            data = data[error.end:]
+
+
+def _shown(character: Union[str, bytes]) -> str:
+    """A character as it stands, or its bytes escaped ("Names in answers")."""
+    if isinstance(character, str):
+        if unicodedata.category(character) not in ("Cc", "Zl", "Zp") and ord(character) not in TURNING:
+            return character
+        character = character.encode()
+    return "".join(f"\\x{byte:02x}" for byte in character)
+
+
+def printable(name: bytes, most: int = 80) -> str:
+    """The first characters of a name, and `...` if there are more ("Names in answers"). A character has at most four bytes."""
+    shown = [_shown(character) for character in islice(_characters(name[:4 * most + 4]), most + 1)]
+    return "".join(shown[:most]) + ("..." if len(shown) > most else "")
 
 
 def number_or_none(number: Optional[int]) -> str:

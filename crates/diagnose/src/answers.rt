@@ -7,6 +7,7 @@ use crate::places::{abi_name, push_largest, push_place};
 use crate::run::of_run;
 use crate::sentences::rule_sentence;
 use crate::usage::usage;
+use bstr::ByteSlice;
 use command_line::{Name, Order};
 use elf_read::{read_elf, read_sections};
 use elf_types::{Bytes, ElfFile};
@@ -16,7 +17,7 @@ use qed_words::order;
 use std::alloc::{AllocError, Global};
 use std::io::Error;
 use std::slice;
-use texts::digits;
+use texts::{MOST_OF_NAME, MOST_OF_PATH, digits, printable};
 
 /// The files that an order reads.
 fn sources(order: &Order) -> &[Name] {
@@ -90,10 +91,11 @@ fn push_line<S: Shelf>(
     if number == 0 {
         return Ok(());
     }
-    if let Ok(bytes) = shelf.load(alloc, name, MAX_RUN_FILE_BYTES) {
-        let all = str::from_utf8(bytes.as_slice()).unwrap_or("");
-        if let Some(found) = all.split('\n').nth((number - 1) as usize) {
-            text.push_str(found.trim())?;
+    if let Some(bytes) = loaded(alloc, name, shelf)? {
+        let mut lines = bytes.as_slice().split(|byte| *byte == b'\n');
+        if let Some(found) = lines.nth((number - 1) as usize) {
+            let found = found.trim_with(|c| c == ' ' || c == '\t');
+            text.push_str(&printable(alloc, found, MOST_OF_NAME)?)?;
             text.push_str("\n")?;
         }
     }
@@ -170,10 +172,16 @@ fn refused<S: Shelf>(
         return format!(in alloc; "qed: {sentence} ({found})\n");
     };
     let name = name.as_str();
-    let mut text = format!(in alloc; "qed: {name}: {sentence} ({found})\n")?;
+    let file = path(alloc, name)?;
+    let mut text = format!(in alloc; "qed: {file}: {sentence} ({found})\n")?;
     push_where(alloc, &mut text, name, line, shelf)?;
     push_line(alloc, &mut text, name, line, shelf)?;
     Ok(text)
+}
+
+/// The name of a file, as it is printed.
+pub(crate) fn path(alloc: Global, name: &str) -> Result<String, AllocError> {
+    printable(alloc, name.as_bytes(), MOST_OF_PATH)
 }
 
 /// Ends a line with the machine's reason, where there is one.
@@ -222,7 +230,7 @@ fn unread<S: Shelf>(
     let Some(name) = first_unread(alloc, sources(asked), shelf) else {
         return Ok(String::new(alloc));
     };
-    let name = name.as_str();
+    let name = path(alloc, name.as_str())?;
     let mut text = format!(in alloc; "qed: {name} could not be read")?;
     push_reason(alloc, &mut text, reason)?;
     Ok(text)
@@ -243,7 +251,7 @@ fn made<S: Shelf>(
     let bytes = digits(10, 20, code.as_bytes()).unwrap_or(0);
     match asked {
         Order::Transform(input, output, _) if input.as_str() == output.as_str() => {
-            let name = output.as_str();
+            let name = path(alloc, output.as_str())?;
             format!(in alloc; "qed: {name} is the output now, and the test is gone\n")
         }
         Order::Transform(input, _, options) if on_terminal => {
@@ -278,6 +286,6 @@ pub fn advice<S: Shelf>(
         "refused" | "limit" => refused(alloc, &asked, rest, shelf),
         "read" => unread(alloc, &asked, reason, shelf),
         "code" => made(alloc, &asked, rest, on_terminal, shelf),
-        _ => of_run(alloc, &asked, line, shelf),
+        _ => of_run(alloc, &asked, printed, shelf),
     }
 }

@@ -4,8 +4,8 @@ ghost use Rattle.std.specs.Prelude.{◌≡◌};
 use qed_io::{Sink, WriteError};
 use std::alloc::Global;
 
-/// How many bytes are kept: more than the first line of an answer has, but for lines of `plan` and `list`.
-const MOST_KEPT: usize = 256;
+/// How many bytes are kept: more than the lines of `run` about its end and its registers have.
+const MOST_KEPT: usize = 1024;
 
 /// A sink that hands its bytes on to another, and keeps the first of them.
 #[derive(Drop)]

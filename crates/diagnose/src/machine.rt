@@ -1,7 +1,7 @@
 //! What the program tells on standard error.
 
 use crate::Heard;
-use crate::answers::{advice, push_reason};
+use crate::answers::{advice, path, push_reason};
 use command_line::{Name, Order};
 use qed_io::{DirShelf, MemoryShelf, StdSink};
 use qed_words::order;
@@ -30,8 +30,8 @@ fn unwritten(
         return Ok(String::new(alloc));
     };
     let (what, reason) = match stored(&asked) {
-        Some(name) if store.is_some() => (name.as_str(), store),
-        _ => ("standard output", print),
+        Some(name) if store.is_some() => (path(alloc, name.as_str())?, store),
+        _ => (String::from_str(alloc, "standard output")?, print),
     };
     let mut text = format!(in alloc; "qed: {what} could not be written")?;
     push_reason(alloc, &mut text, reason)?;

@@ -4,6 +4,7 @@ use elf_types::{ElfFile, Section, Segment};
 use listing::nearest;
 use rv_text::text_of;
 use std::alloc::{AllocError, Global};
+use texts::{MOST_OF_NAME, printable};
 
 /// The names that the calling convention has for x14 to x31.
 const NAMES: [&str; 18] = [
@@ -14,6 +15,11 @@ const NAMES: [&str; 18] = [
 /// The name of a register above x13 in the calling convention.
 pub(crate) fn abi_name(register: u64) -> Option<&'static str> {
     NAMES.get((register as usize).checked_sub(14)?).copied()
+}
+
+/// Whether a file is an output, which has a section `.qed.map`.
+pub(crate) fn is_output(file: &ElfFile) -> bool {
+    file.sections.as_slice().iter().any(|section| section.name.as_slice() == b".qed.map".as_slice())
 }
 
 /// Whether an address is mapped.
@@ -61,9 +67,7 @@ fn push_symbol(
     let Some(symbol) = nearest(address, file.symbols.as_slice()) else {
         return Ok(());
     };
-    let Ok(name) = str::from_utf8(symbol.name.as_slice()) else {
-        return Ok(());
-    };
+    let name = printable(alloc, symbol.name.as_slice(), MOST_OF_NAME)?;
     let offset = address.saturating_sub(symbol.value);
     text.push_str(&format!(in alloc; ", {name}+0x{offset:x}")?)
 }
@@ -100,7 +104,7 @@ pub(crate) fn push_largest(
         }
     }
     if let Some(section) = largest {
-        let name = str::from_utf8(section.name.as_slice()).unwrap_or("");
+        let name = printable(alloc, section.name.as_slice(), MOST_OF_NAME)?;
         text.push_str(&format!(in alloc; "the largest section is {name} with {size} bytes\n")?)?;
     }
     Ok(())

@@ -2,7 +2,7 @@
 ghost use Rattle.std.specs.Prelude.{◌≡◌};
 
 use crate::answers::{address_behind, read};
-use crate::places::{is_word_mapped, push_place, word_at};
+use crate::places::{is_output, is_word_mapped, push_place, word_at};
 use crate::sentences::sentence_of;
 use command_line::Order;
 use elf_types::ElfFile;
@@ -48,8 +48,8 @@ fn before(file: &ElfFile, address: u64, bytes: u64) -> Option<Ins> {
     decode(word_at(file, address.wrapping_sub(bytes))?)
 }
 
-/// What a check compares that tests no register of the test, by its first register; behind an ADDI it compares where the check was
-/// called from.
+/// What a check of an output compares that tests no register of the test, by its first register; behind an ADDI it compares where
+/// the check was called from.
 fn compared(first: u8, is_call: bool) -> Option<&'static str> {
     match first {
         16 => Some("the signature in x16 is not that of this entry"),
@@ -60,25 +60,50 @@ fn compared(first: u8, is_call: bool) -> Option<&'static str> {
     }
 }
 
-/// What differed where a check fired.
-fn fired(alloc: Global, file: &ElfFile, line: &str) -> Result<String, AllocError> {
+/// The value of a register, as the lines about a run print it.
+fn printed_value(printed: &str, number: u8) -> Option<&str> {
+    if number == 0 {
+        return Some("0x0000000000000000");
+    }
+    for line in printed.lines() {
+        let (name, value) = line.split_once(" ").unwrap_or(("", ""));
+        if let Some(rest) = name.strip_prefix("x") {
+            if digits(10, 2, rest.as_bytes()) == Some(u64::from(number)) {
+                return Some(value);
+            }
+        }
+    }
+    None
+}
+
+/// What differed where a check fired, or that nothing did: then a jump led to its EBREAK.
+fn fired(alloc: Global, file: &ElfFile, printed: &str) -> Result<String, AllocError> {
+    let line = printed.lines().next().unwrap_or("");
     let ebreak = address_behind(line, " at 0x").unwrap_or(0);
     let check = match before(file, ebreak, 4) {
         Some(ins) if ins.kind == Kind::Beq => ins,
         _ => return Ok(String::new(alloc)),
     };
     let (first, second) = (check.rs1.number(), check.rs2.number());
+    if printed_value(printed, first) == printed_value(printed, second) {
+        return format!(in alloc;
+            "qed: a jump led to the ebreak behind a check: x{first} and x{second} are equal\n"
+        );
+    }
     let is_call = before(file, ebreak, 8).is_some_and(|ins| ins.kind == Kind::Addi);
     match compared(first, is_call) {
-        Some(sentence) => format!(in alloc; "qed: a check fired: {sentence}\n"),
-        None => format!(in alloc; "qed: a check fired: x{first} and x{second} differ\n"),
+        Some(sentence) if is_output(file) => {
+            format!(in alloc; "qed: a check fired: {sentence}\n")
+        }
+        _ => format!(in alloc; "qed: a check fired: x{first} and x{second} differ\n"),
     }
 }
 
 /// What mends how a run ended, by the first two words of its line, and where it stands.
-fn ending(alloc: Global, file: &ElfFile, line: &str) -> Result<String, AllocError> {
+fn ending(alloc: Global, file: &ElfFile, printed: &str) -> Result<String, AllocError> {
+    let line = printed.lines().next().unwrap_or("");
     if line.starts_with("fired") {
-        return fired(alloc, file, line);
+        return fired(alloc, file, printed);
     }
     let mut text = String::new(alloc);
     let (kind, rest) = line.split_once(" ").unwrap_or((line, ""));
@@ -99,11 +124,12 @@ fn ending(alloc: Global, file: &ElfFile, line: &str) -> Result<String, AllocErro
 pub(crate) fn of_run<S: Shelf>(
     alloc: Global,
     asked: &Order,
-    line: &str,
+    printed: &str,
     shelf: &mut S,
 ) -> Result<String, AllocError>
     ensures { S.files shelf.new ≡ S.files shelf.old }
 {
+    let line = printed.lines().next().unwrap_or("");
     let (Order::Run(name, _, changes, _, _), Some(steps)) = (asked, steps_of(line)) else {
         return Ok(String::new(alloc));
     };
@@ -113,7 +139,7 @@ pub(crate) fn of_run<S: Shelf>(
     let Some(file) = read(alloc, name.as_str(), shelf)? else {
         return Ok(String::new(alloc));
     };
-    let mut text = ending(alloc, &file, line)?;
+    let mut text = ending(alloc, &file, printed)?;
     // A run that goes on has made the changes behind its last step too.
     let made = steps.saturating_add(u64::from(line.starts_with("going")));
     for change in changes.as_slice() {

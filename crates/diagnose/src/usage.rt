@@ -6,7 +6,7 @@ use command_line::{Command, Topic};
 use qed_words::fault;
 use report::told;
 use std::alloc::{AllocError, Global};
-use texts::number;
+use texts::{MOST_OF_NAME, number, printable};
 
 /// A word and its number.
 #[derive(Clone, Copy)]
@@ -93,7 +93,10 @@ fn first_line(
 ) -> Result<String, AllocError> {
     let sentence = sentence_of(head).unwrap_or("");
     match word {
-        Some(word) => format!(in alloc; "qed: '{}', word {}: {sentence}", word.text, word.number),
+        Some(word) => {
+            let text = printable(alloc, word.text.as_bytes(), MOST_OF_NAME)?;
+            format!(in alloc; "qed: '{text}', word {}: {sentence}", word.number)
+        }
         None if head == "missing option" => format!(in alloc; "qed: --{tail}: {sentence}"),
         None => format!(in alloc; "qed: {sentence}"),
     }

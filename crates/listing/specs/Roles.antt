@@ -1,5 +1,5 @@
 -- The words of new code with what each is for: a line for each word, as in a listing, with its role in the place of the word.
-use Rattle.std.specs.Prelude.{ℕ, ◌+◌, ◌-◌, ◌/◌, ◌==◌, ◌&&◌, nat_lt, nat_le, not, Bool, false, if◌then◌else◌, Option, Some, None, List, [], ◌∷◌, ◌++◌, codes, take, drop}
+use Rattle.std.specs.Prelude.{ℕ, ◌+◌, ◌-◌, ◌/◌, ◌==◌, ◌&&◌, ◌||◌, nat_lt, nat_le, not, Bool, false, if◌then◌else◌, Option, Some, None, List, [], ◌∷◌, ◌++◌, codes, take, drop}
 use Rattle.std.specs.Fmt.{decimal}
 use Rattle.elf_types.specs.declared.file.Symbol.{Symbol}
 use Rattle.elf_types.specs.Symbol.{is_code_symbol}
@@ -8,6 +8,9 @@ use Rattle.qed_model.specs.declared.role.Role.TheVariants.{Start, Entry, Origina
 use Rattle.qed_model.specs.declared.role.RoleRow.{RoleRow}
 use Rattle.rv_text.specs.Text.{text_of}
 use Rattle.texts.specs.Printed.{hex_digits, hex_text}
+use Rattle.texts.specs.Names.{printable}
+use Rattle.texts.specs.declared.names.TheConstants.{MOST_OF_NAME}
+use Rattle.std.specs.Str.{is_utf8}
 
 abbrev pub role_text : Role → List ℕ
 role_text Start = codes "start"
@@ -76,10 +79,14 @@ is_telling (c ∷ cs) = not (c == 36)
 abbrev pub is_before : ℕ → Symbol → Bool
 is_before a s = (is_code_symbol s && nat_le s.value a) && is_telling s.name
 
+-- a symbol that stands nearer at an address than another, or there too, and alone has a name that is UTF-8
+abbrev pub is_nearer : Symbol → Symbol → Bool
+is_nearer t s = nat_lt t.value s.value || (t.value == s.value && (not (is_utf8 t.name) && is_utf8 s.name))
+
 -- of the nearest so far and of another the nearer, the first where both are
 abbrev pub nearer : ℕ → Option Symbol → Symbol → Option Symbol
 nearer a None s = if is_before a s then Some s else None
-nearer a (Some t) s = if is_before a s && nat_lt t.value s.value then Some s else Some t
+nearer a (Some t) s = if is_before a s && is_nearer t s then Some s else Some t
 
 -- the nearest of symbols, where one is the nearest before them
 abbrev pub nearest : ℕ → Option Symbol → List Symbol → Option Symbol
@@ -88,7 +95,7 @@ nearest a found (s ∷ ss) = nearest a (nearer a found s) ss
 
 abbrev pub symbol_line : ℕ → Option Symbol → List ℕ
 symbol_line a None = []
-symbol_line a (Some s) = codes "symbol " ++ (s.name ++ (codes "+0x" ++ (hex_digits 1 (a - s.value) ++ codes "\n")))
+symbol_line a (Some s) = codes "symbol " ++ (printable MOST_OF_NAME s.name ++ (codes "+0x" ++ (hex_digits 1 (a - s.value) ++ codes "\n")))
 
 -- the symbol at the input address of a role or before it, where there is one
 abbrev pub symbol_text : Option ℕ → List Symbol → List ℕ

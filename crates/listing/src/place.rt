@@ -1,7 +1,8 @@
 //! One word of new code: its line, its symbol, and what differed where it is a check that fired.
 ghost use Rattle.std.specs.Prelude.{◌≡◌, ◌<◌, ◌++◌, None, Some, IfOk, OnOk, string_bytes};
 ghost use Rattle.std.specs.Option.{option_copied};
-ghost use Rattle.listing.specs.Roles.{role_at as role_at_of, rows_bytes, input_address as input_address_of, is_telling as is_telling_of, is_before as is_before_of, nearer as nearer_of, nearest as nearest_of, symbol_line, symbol_text, pair_text, sign_text, found_text, fired_text, word_text as word_text_of};
+ghost use Rattle.std.specs.Str.{is_utf8};
+ghost use Rattle.listing.specs.Roles.{role_at as role_at_of, rows_bytes, input_address as input_address_of, is_telling as is_telling_of, is_before as is_before_of, is_nearer as is_nearer_of, nearer as nearer_of, nearest as nearest_of, symbol_line, symbol_text, pair_text, sign_text, found_text, fired_text, word_text as word_text_of};
 
 use crate::roles::push_role_line;
 use elf_types::{Bytes, Symbol};
@@ -9,6 +10,8 @@ use qed_model::{Role, RoleRow};
 use rv_isa::Reg;
 use rv_text::Address;
 use std::alloc::{AllocError, Global};
+use std::str;
+use texts::{MOST_OF_NAME, printable};
 
 /// EBREAK, which a check reaches where it fires.
 const EBREAK: u32 = 0x0010_0073;
@@ -54,6 +57,26 @@ fn is_before(address: u64, symbol: &Symbol) -> bool
     symbol.is_code() && symbol.value <= address && is_telling(symbol.name.as_slice())
 }
 
+/// Whether the bytes of a name are UTF-8.
+fn is_text(name: &[u8]) -> bool
+    ensures { result ≡ is_utf8 name.now }
+{
+    match str::from_utf8(name) {
+        Ok(_) => true,
+        Err(_) => false,
+    }
+}
+
+/// Whether a symbol stands nearer at an address than another, or there too, and alone has a name that is UTF-8.
+fn is_nearer(other: &Symbol, symbol: &Symbol) -> bool
+    ensures { result ≡ is_nearer_of other.now symbol.now }
+{
+    other.value < symbol.value
+        || (other.value == symbol.value
+            && !is_text(other.name.as_slice())
+            && is_text(symbol.name.as_slice()))
+}
+
 /// Of the nearest symbol so far and of another the nearer, the first where both are.
 fn nearer<'a>(address: u64, found: Option<&'a Symbol>, symbol: &'a Symbol) -> Option<&'a Symbol>
     ensures { option_copied result ≡ nearer_of address (option_copied found.entry) symbol.now }
@@ -62,7 +85,7 @@ fn nearer<'a>(address: u64, found: Option<&'a Symbol>, symbol: &'a Symbol) -> Op
     match found {
         None => is_one.then_some(symbol),
         Some(other) => {
-            if is_one && other.value < symbol.value {
+            if is_one && is_nearer(other, symbol) {
                 Some(symbol)
             } else {
                 Some(other)
@@ -71,7 +94,7 @@ fn nearer<'a>(address: u64, found: Option<&'a Symbol>, symbol: &'a Symbol) -> Op
     }
 }
 
-/// The symbol of code that is nearest at an address or before it, the first where several are.
+/// The symbol of code that is nearest at an address or before it: where several are the first whose name is UTF-8, or else the first.
 pub fn nearest(address: u64, symbols: &[Symbol]) -> Option<&Symbol>
     ensures { option_copied result ≡ nearest_of address None symbols.now }
 {
@@ -97,9 +120,10 @@ fn push_symbol(
     let Some(symbol) = nearest(address, symbols) else {
         return Ok(());
     };
+    let name = printable(alloc, symbol.name.as_slice(), MOST_OF_NAME)?;
     let digits = format!(in alloc; "+0x{:01x}\n", address.saturating_sub(symbol.value))?;
     text.extend_from_slice(b"symbol ")?;
-    text.extend_from_slice(symbol.name.as_slice())?;
+    text.extend_from_slice(name.as_bytes())?;
     text.extend_from_slice(digits.as_bytes())?;
     Ok(())
 }

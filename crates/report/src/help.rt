@@ -8,7 +8,7 @@ use std::alloc::{AllocError, Global};
 
 /// All commands and the exit codes.
 pub const HELP: &str =
-    "qed rewrites bring-up tests of RISC-V chips so that an electrical bug shows within a proved bound.
+    "qed rewrites tests for RISC-V chips: they compute twice and compare, to show electrical bugs early.
 
 qed transform IN OUT    makes the output of a test
 qed plan IN             prints what transform would make
@@ -150,9 +150,8 @@ hart 0
 ended after 3 steps at 0x0000000000010008
 ";
 
-/// The version, and the logic of the proofs.
+/// The version.
 pub const VERSION: &str = "qed 1.0.0
-proved with logic dac8208d650f15bf
 ";
 
 /// The text about a topic.

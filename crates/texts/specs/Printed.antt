@@ -1,5 +1,5 @@
 -- Numbers in hexadecimal, as they are printed.
-use Rattle.std.specs.Prelude.{ℕ, ◌+◌, ◌-◌, ◌^◌, List, [], ◌++◌, codes, false}
+use Rattle.std.specs.Prelude.{ℕ, ◌-◌, ◌^◌, List, [], ◌++◌, codes, false}
 use Rattle.std.specs.Fmt.{digits, padded_integral, format_spec}
 
 -- at least so many lower-case hexadecimal digits, with zeros in front
