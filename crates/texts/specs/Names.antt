@@ -21,7 +21,7 @@ abbrev pub piece_text : Option ℕ → List ℕ → List ℕ
 piece_text None bytes = escaped bytes
 piece_text (Some c) bytes = if is_hidden c then escaped bytes else encode_utf8 c
 
--- so many characters of a name, each as long as `decoded` says (The Unicode Standard, Table 3-7), and `...` where it has more
+-- the first n characters of a name, each as long as `decoded` says (The Unicode Standard, Table 3-7), and `...` if it has more
 abbrev pub printable : ℕ → List ℕ → List ℕ
 printable n [] = []
 printable zero (b ∷ bs) = codes "..."

@@ -73,7 +73,7 @@ fn first_piece(name: &[u8]) -> (Option<char>, &[u8], &[u8])
     (character, front, rest)
 }
 
-/// At most so many characters of a name, as a text that may be printed: control characters, and bytes that are not UTF-8, are escaped
+/// The first `most` characters of a name, as a text that may be printed: control characters, and bytes that are not UTF-8, are escaped
 /// as `\x1b`. `...` stands behind a name that is cut.
 pub fn printable(alloc: Global, name: &[u8], most: usize) -> Result<String, AllocError>
     ensures { IfOk result (λ text. string_bytes text ≡ printable_of most name.now) }
