@@ -171,7 +171,7 @@ def _fired(file: File, ebreak: int, printed: str) -> str:
     first, second = found[1], found[2]
     values = {"0": "0x0000000000000000", **dict(re.findall(r"^x(\d+) (0x[0-9a-f]{16})$", printed, re.MULTILINE))}
     if values[first] == values[second]:
-        return f"qed: a jump led to the ebreak behind a check: x{first} and x{second} are equal\n"
+        return f"qed: x{first} and x{second} are equal at the ebreak behind their check: a jump may have led there\n"
     is_call = before is not None and isa.text_of(before).startswith("addi ")
     told_of = {"16": "the signature in x16 is not that of this entry",
                "31": "the signature in x16 is not that of this block",

@@ -76,7 +76,7 @@ fn printed_value(printed: &str, number: u8) -> Option<&str> {
     None
 }
 
-/// What differed where a check fired, or that nothing did: then a jump led to its EBREAK.
+/// What differed where a check fired, or that nothing did; empty if the text does not show the registers.
 fn fired(alloc: Global, file: &ElfFile, printed: &str) -> Result<String, AllocError> {
     let line = printed.lines().next().unwrap_or("");
     let ebreak = address_behind(line, " at 0x").unwrap_or(0);
@@ -85,9 +85,16 @@ fn fired(alloc: Global, file: &ElfFile, printed: &str) -> Result<String, AllocEr
         _ => return Ok(String::new(alloc)),
     };
     let (first, second) = (check.rs1.number(), check.rs2.number());
-    if printed_value(printed, first) == printed_value(printed, second) {
+    let values = (
+        printed_value(printed, first),
+        printed_value(printed, second),
+    );
+    let (Some(one), Some(other)) = values else {
+        return Ok(String::new(alloc));
+    };
+    if one == other {
         return format!(in alloc;
-            "qed: a jump led to the ebreak behind a check: x{first} and x{second} are equal\n"
+            "qed: x{first} and x{second} are equal at the ebreak behind their check: a jump may have led there\n"
         );
     }
     let is_call = before(file, ebreak, 8).is_some_and(|ins| ins.kind == Kind::Addi);

@@ -79,7 +79,7 @@ is_telling (c ∷ cs) = not (c == 36)
 abbrev pub is_before : ℕ → Symbol → Bool
 is_before a s = (is_code_symbol s && nat_le s.value a) && is_telling s.name
 
--- a symbol that stands nearer at an address than another, or there too, and alone has a name that is UTF-8
+-- a symbol that is nearer than another, or at the same address, and only the name of the other is not UTF-8
 abbrev pub is_nearer : Symbol → Symbol → Bool
 is_nearer t s = nat_lt t.value s.value || (t.value == s.value && (not (is_utf8 t.name) && is_utf8 s.name))
 

@@ -67,7 +67,8 @@ fn is_text(name: &[u8]) -> bool
     }
 }
 
-/// Whether a symbol stands nearer at an address than another, or there too, and alone has a name that is UTF-8.
+/// Whether a symbol names an address better than another one before the address: it is nearer, or the other is at the same address and
+/// only the name of the other is not UTF-8.
 fn is_nearer(other: &Symbol, symbol: &Symbol) -> bool
     ensures { result ≡ is_nearer_of other.now symbol.now }
 {
@@ -94,7 +95,7 @@ fn nearer<'a>(address: u64, found: Option<&'a Symbol>, symbol: &'a Symbol) -> Op
     }
 }
 
-/// The symbol of code that is nearest at an address or before it: where several are the first whose name is UTF-8, or else the first.
+/// The nearest symbol of code at an address or before it. If several are, the first whose name is UTF-8, or else the first.
 pub fn nearest(address: u64, symbols: &[Symbol]) -> Option<&Symbol>
     ensures { option_copied result ≡ nearest_of address None symbols.now }
 {

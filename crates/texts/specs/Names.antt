@@ -17,14 +17,14 @@ escaped [] = []
 escaped (b ∷ bs) = codes "\\x" ++ (hex_digits 2 b ++ escaped bs)
 
 -- a character that may be printed, or else its bytes
-abbrev pub piece_text : Option ℕ → List ℕ → List ℕ
-piece_text None bytes = escaped bytes
-piece_text (Some c) bytes = if is_hidden c then escaped bytes else encode_utf8 c
+abbrev pub character_text : Option ℕ → List ℕ → List ℕ
+character_text None bytes = escaped bytes
+character_text (Some c) bytes = if is_hidden c then escaped bytes else encode_utf8 c
 
 -- the first n characters of a name, each as long as `decoded` says (The Unicode Standard, Table 3-7), and `...` if it has more
 abbrev pub printable : ℕ → List ℕ → List ℕ
 printable n [] = []
 printable zero (b ∷ bs) = codes "..."
 printable (suc n) (b ∷ bs) =
-    let piece = decoded (b ∷ bs) in
-    piece_text piece.char (take piece.size (b ∷ bs)) ++ printable n (drop piece.size (b ∷ bs))
+    let front = decoded (b ∷ bs) in
+    character_text front.char (take front.size (b ∷ bs)) ++ printable n (drop front.size (b ∷ bs))

@@ -1,7 +1,7 @@
 //! Names that are printed: no name drives a terminal or forges a line.
 ghost use Rattle.std.specs.Prelude.{◌≡◌, ◌<◌, ◌++◌, IfOk, OnOk, length, take, drop, string_bytes};
 ghost use Rattle.bstr.specs.Utf8.{decoded};
-ghost use Rattle.texts.specs.Names.{is_from_to as is_from_to_of, is_hidden as is_hidden_of, escaped, piece_text, printable as printable_of};
+ghost use Rattle.texts.specs.Names.{is_from_to as is_from_to_of, is_hidden as is_hidden_of, escaped, character_text, printable as printable_of};
 
 use bstr::decode_utf8;
 use std::alloc::{AllocError, Global};
@@ -45,13 +45,13 @@ fn push_escaped(alloc: Global, text: &mut String, bytes: &[u8]) -> Result<(), Al
 }
 
 /// Appends a character, or its bytes where it is none that may be printed.
-fn push_piece(
+fn push_character(
     alloc: Global,
     text: &mut String,
     character: Option<char>,
     bytes: &[u8],
 ) -> Result<(), AllocError>
-    ensures { OnOk result (string_bytes text.new ≡ string_bytes text.old ++ piece_text character bytes.now) }
+    ensures { OnOk result (string_bytes text.new ≡ string_bytes text.old ++ character_text character bytes.now) }
 {
     match character {
         Some(c) if !is_hidden(c) => text.push(c),
@@ -62,7 +62,7 @@ fn push_piece(
 /// The first character of a name with its bytes, and the rest. Where no character begins the name, its bytes are the longest front that
 /// could begin one.
 #[tactic(auto, using(crate::proofs::Cut::size_fits))]
-fn first_piece(name: &[u8]) -> (Option<char>, &[u8], &[u8])
+fn first_character(name: &[u8]) -> (Option<char>, &[u8], &[u8])
     requires { 0 < length name.now }
     ensures char { result.0 ≡ (decoded name.now).char }
     ensures front { result.1.now ≡ take (decoded name.now).size name.now }
@@ -84,8 +84,8 @@ pub fn printable(alloc: Global, name: &[u8], most: usize) -> Result<String, Allo
         if rest.is_empty() {
             return Ok(text);
         }
-        let (character, front, behind) = first_piece(rest);
-        push_piece(alloc, &mut text, character, front)?;
+        let (character, front, behind) = first_character(rest);
+        push_character(alloc, &mut text, character, front)?;
         rest = behind;
     }
     if rest.is_empty() {
