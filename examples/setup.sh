@@ -8,10 +8,14 @@ flags="-march=rv64im -mabi=lp64 -ffreestanding -fno-pic -mcmodel=medany -nostdli
 # What is told on standard error is for who types the command, and differs by the compiler.
 qed() { "$program" "$@" 2> "/dev/null"; }
 
-# Ends with status 77 where one of these tools is missing.
+# Tells what an example leaves out and why, in a line for examples/check.
+left_out() { echo "left out: $*"; }
+
+# Ends with status 77 if some of these tools are missing, and names each of them.
 needs() {
-    local tool
-    for tool; do command -v "$tool" > "/dev/null" || { echo "no $tool"; exit 77; }; done
+    local tool missing=
+    for tool; do command -v "$tool" > "/dev/null" || missing+=" $tool"; done
+    [ -z "$missing" ] || { left_out "all, no$missing"; exit 77; }
 }
 
 # The newest Clang from 15 on: an older one does not heed -ffixed-x14. With it the linker, which goes by its name.
@@ -31,7 +35,7 @@ show() {
 
 # Runs a function in a folder of its own, prints what it prints, and compares that with the file `prints`.
 compared() {
-    [ -x "$program" ] || { echo "no program $program: call 'rt run' in crates/qed, or name another"; exit 77; }
+    [ -x "$program" ] || { left_out "all, no program $program: call 'rt run' in crates/qed, or name another"; exit 77; }
     work=$(mktemp -d)
     trap 'rm -rf "$work"' EXIT
     cp "$here"/* "$work"
