@@ -1,3 +1,7 @@
 pub mod RunLaws
 pub mod PieceCounts
 pub mod PieceLengths
+pub mod BuiltLaws
+pub mod BodyLaws
+pub mod BlockLaws
+pub mod ExtentLaws

@@ -10,7 +10,7 @@ use Rattle.rv_isa.specs.declared.class.Class.{Class}
 use Rattle.rv_isa.specs.Kind.{class_of}
 use Rattle.rv_isa.specs.declared.class.Class.TheVariants as class
 use Rattle.qed_model.specs.Weave.Pieces.{is_run, is_clean_as, Breaks, AreRuns, run_lengths, divided, run_pieces, whole, ArePieces}
-use Rattle.qed_model.proofs.PieceLaws.{total, total_lengths, pieces_whole}
+use Rattle.qed_model.proofs.Lemmas.{total, total_lengths, pieces_whole}
 use Rattle.block_split.specs.Lengths.{IsLongestRun, MakeUp, AreLengths}
 
 -- ---- lengths

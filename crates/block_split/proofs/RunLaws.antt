@@ -5,7 +5,7 @@ use Rattle.rv_isa.specs.declared.class.Class.{Class}
 use Rattle.rv_isa.specs.Kind.{class_of}
 use Rattle.rv_isa.specs.declared.class.Class.TheVariants as class
 use Rattle.qed_model.specs.Weave.Pieces.{is_clean_as, is_clean, and_written, is_run_after, is_run}
-use Rattle.qed_model.specs.Numbers.{is_at}
+use Rattle.machine.specs.Numbers.{is_at}
 use Rattle.rv_isa.specs.Ins.{writes}
 use Rattle.std.proofs.Math.Bool.{and-true, and_assoc}
 use Rattle.std.proofs.lemmas.List.{take_more}

@@ -6,7 +6,8 @@ ghost use Rattle.qed_model.specs.Weave.LeanBounds.{check_bound, period as period
 ghost use Rattle.qed_model.specs.Weave.Pieces.{piece_count};
 ghost use Rattle.bound_calc.specs.Fitting.{fitting, AreSmall};
 
-use crate::steps::{cost, end, fitting, round, told};
+use crate::steps::{end, fitting, round, told};
+use qed_model::steps::{entry_steps, instruction_steps};
 use qed_model::{Bounds, Shape};
 
 /// The check.
@@ -18,21 +19,13 @@ fn check(shape: &Shape) -> Option<u64>
     fitting(44 + u128::from(round))
 }
 
-/// The steps of an entry, where entries test the signature or not.
-fn entry(land: bool) -> u128
-    ensures value { result ≡ entry_steps_of land }
-    ensures bound { result ≤ 7 }
-{
-    if land { 7 } else { 2 }
-}
-
 /// The longest piece, with a check before it and the leave.
 fn piece(shape: &Shape, check: u64) -> Option<u64>
     ensures { result ≡ fitting (20 + 2 * entry_steps_of shape.now.land + check + cost_of shape.now.diverse * shape.now.inst_max) }
 {
-    let cost = cost(shape.diverse);
+    let cost = u128::from(instruction_steps(shape.diverse));
     let body = cost * u128::from(shape.inst_max);
-    let entry = entry(shape.land);
+    let entry = u128::from(entry_steps(shape.land));
     fitting(20 + 2 * entry + body + u128::from(check))
 }
 
@@ -55,7 +48,7 @@ pub fn lean_bounds(shape: &Shape, every: u64) -> Option<Bounds>
     let check = check(shape)?;
     let piece = piece(shape, check)?;
     let start = fitting(31 + end(shape))?;
-    let entry = entry(shape.land);
+    let entry = u128::from(entry_steps(shape.land));
     let period = fitting(u128::from(check) + u128::from(every) + entry)?;
     let first = 34 + entry + u128::from(start);
     let register = fitting(first + u128::from(period))?;

@@ -2,9 +2,10 @@
 //! it.
 ghost use Rattle.std.specs.Prelude.{◌≡◌, ◌+◌, ◌-◌, ◌*◌, ◌/◌, ◌≤◌, ◌<◌, ◌^◌};
 ghost use Rattle.std.specs.Option.{SomeIff};
-ghost use Rattle.qed_model.specs.Weave.Bounds.{visit_bound, end_bound, cost_of, start_steps, piece_steps, bounds_of};
+ghost use Rattle.qed_model.specs.Weave.Bounds.{visit_bound, end_bound, start_steps, piece_steps, bounds_of};
 ghost use Rattle.bound_calc.specs.Fitting.{fitting, AreSmall};
 
+use qed_model::steps::instruction_steps;
 use qed_model::{Bounds, Shape};
 
 /// A number, where it is below 2^64.
@@ -34,20 +35,12 @@ pub(crate) fn round(shape: &Shape) -> Option<u64>
     fitting(u128::from(visit) * u128::from(shape.round))
 }
 
-/// The most steps of an instruction in both its parts.
-pub(crate) fn cost(diverse: bool) -> u128
-    ensures value { result ≡ cost_of diverse }
-    ensures bound { result ≤ 8 }
-{
-    if diverse { 8 } else { 5 }
-}
-
 /// The longest piece, with its entry and its leave.
 fn piece(shape: &Shape) -> Option<u64>
     requires { 1 ≤ shape.now.round }
     ensures { result ≡ fitting (piece_steps shape.now) }
 {
-    let cost = cost(shape.diverse);
+    let cost = u128::from(instruction_steps(shape.diverse));
     let round = round(shape)?;
     fitting(30 + cost * u128::from(shape.inst_max) + u128::from(round))
 }

@@ -2,7 +2,7 @@
 use Rattle.std.proofs.Common.{ℕ, true, false, List, [], ◌∷◌, refl, arith}
 use Rattle.qed_model.specs.declared.item.Item.{Item}
 use Rattle.qed_model.specs.declared.item.Item.TheVariants.{Mark, Constant, Go}
-use Rattle.qed_model.specs.Machine.Table.{encode_of, word_of}
+use Rattle.machine.specs.Table.{encode_of, word_of}
 use Rattle.relinker.specs.Link.{IsLinkable}
 
 abbrev pub jump_items : ℕ → List Item

@@ -3,6 +3,7 @@
 use passes::Emit;
 use qed_model::Item;
 use relinker::link;
+use rv_isa::profile::TEMPORARY;
 use rv_isa::register;
 use std::test::Fail;
 
@@ -27,7 +28,7 @@ fn jumps_near_and_far(rt: HostRuntime) -> Result<(), Fail> {
     let mut items = Emit::new(alloc);
     items.put(&[
         Item::Mark(0x10000),
-        Item::Constant(register(30), 0x10000),
+        Item::Constant(register(TEMPORARY), 0x10000),
         Item::Go(0x10000),
         Item::Go(0x10004),
     ])?;

@@ -1,7 +1,7 @@
 //! A hart and the memory are struck, which no program does.
 ghost use Rattle.std.specs.Prelude.{◌≡◌, ◌<◌, ◌^◌, IfOk};
-ghost use Rattle.qed_model.specs.Machine.Loading.{load_segments};
-ghost use Rattle.qed_model.specs.Machine.Apart.{AllFitMemory, AreApart};
+ghost use Rattle.machine.specs.Loading.{load_segments};
+ghost use Rattle.machine.specs.Apart.{AllFitMemory, AreApart};
 
 use elf_types::{Bytes, ElfFile, Listed, Segment};
 use harts::World;

@@ -1,8 +1,8 @@
 //! Pieces that are woven whole, which no program does.
 
 use elf_types::Listed;
-use pieces::{piece, woven_piece};
 use std::test::Fail;
+use weave::{piece, woven_piece};
 
 /// A piece of no instruction, where no word is visited, is the comparison of 13 registers.
 #[test]

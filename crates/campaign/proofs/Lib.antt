@@ -1,1 +1,11 @@
 pub mod Preparing
+pub mod Stopping
+pub mod Showing
+pub mod Shifting
+pub mod Looking
+pub mod Drawing
+pub mod Copying
+pub mod Making
+pub mod Leaping
+pub mod Comparing
+pub mod Untouched

@@ -1,19 +1,16 @@
 -- What an output is made ready with.
 use Rattle.std.proofs.Common.{ℕ, zero, suc, ◌≤◌, Bool, Option, Some, None, List, inl, inr, refl, sym, ap, ◌∙◌, subst, arith}
 use Rattle.std.specs.Prelude.{IsSome, Ok}
-use Rattle.elf_types.specs.declared.file.ElfFile.{ElfFile}
-use Rattle.qed_model.specs.declared.options.Options.{Options}
-use Rattle.qed_model.specs.declared.plan.Plan.{Plan}
-use Rattle.qed_model.specs.Admission.DataRanges.{word_count, data_ranges}
+use Rattle.tests.specs.declared.options.Options.{Options}
 use Rattle.qed_model.specs.Weave.Bounds.{word_bound, start_steps, piece_steps}
-use Rattle.qed_model.specs.Weave.Places.{image_of}
+use Rattle.tests.specs.Admission.Places.{image_of}
 use Rattle.qed_model.specs.Weave.Sequences.{Block}
 use Rattle.qed_model.specs.Weave.Woven.{is_far_code, code_as, new_code, IsToldOf}
 use Rattle.qed_model.specs.Weave.LeanBounds as lean
 use Rattle.qed_model.specs.Weave.Forms.{shape_of}
 use Rattle.transform.specs.declared.error.TransformError.{TransformError}
 use Rattle.transform.specs.Transform.{IsErrorOr}
-use Rattle.strikes.specs.Draw.{HasWords}
+use Rattle.campaign.specs.Draw.{HasWords, word_count, data_ranges, ElfFile, Plan}
 
 -- where there are data words there is a bound for them
 some_bound : (n round start piece : ℕ) → 1 ≤ n → IsSome (word_bound n round start piece)

@@ -1,11 +1,10 @@
 -- What a test and its output are made ready to: both run from registers that are all 0.
 use Rattle.std.specs.Prelude.{◌≡◌, ℕ, List}
-use Rattle.elf_types.specs.declared.file.ElfFile.{ElfFile}
-use Rattle.qed_model.specs.declared.options.Options.{Options}
-use Rattle.elf_files.specs.File.{File}
-use Rattle.qed_model.specs.Machine.Loading.{loaded_file}
-use Rattle.qed_model.specs.Machine.Program.{start, zeros}
-use Rattle.qed_model.specs.Machine.Step.{State}
+use Rattle.tests.specs.declared.options.Options.{Options}
+use Rattle.tests.specs.Files.File.{File}
+use Rattle.machine.specs.Loading.{loaded_file, ElfFile}
+use Rattle.machine.specs.Program.{start, zeros}
+use Rattle.machine.specs.Step.{State}
 use Rattle.transform.specs.Transform.{Transforms}
 use Rattle.campaign.specs.Prepared.{Prepared}
 

@@ -1,10 +1,9 @@
 -- A test and its output, made ready to be struck.
 use Rattle.std.specs.Prelude.{◌≡◌, refl}
 use Rattle.std.specs.Coded.{Coded, code_by, coded×}
-use Rattle.qed_model.specs.declared.plan.Plan.{Plan}
 use Rattle.qed_model.specs.contracts.plan.Plan as plan_contract
-use Rattle.strikes.specs.Draw.{HasWords}
-use Rattle.strikes.specs.Kept.{Pair, pair_code}
+use Rattle.campaign.specs.Draw.{HasWords, Plan}
+use Rattle.campaign.specs.Kept.{Pair, pair_code}
 
 -- what is told of the output, and both runs
 pub record Prepared : Type 0 where

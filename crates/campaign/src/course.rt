@@ -1,25 +1,25 @@
 //! A test and its output, made ready to be struck.
-ghost use Rattle.std.specs.Prelude.{◌≡◌, ◌≢◌, ◌↔◌, ◌+◌, ◌*◌, ◌≤◌, All, IfOk, IfErr, IfSome, IsNone, IsTrue, map};
+ghost use Rattle.std.specs.Prelude.{◌≡◌, ◌≢◌, ◌↔◌, ◌+◌, ◌*◌, ◌≤◌, All, IfOk, IfErr, IfSome, IsNone, IsTrue, length, map};
 ghost use Rattle.transform.specs.declared.error.TransformError.{TransformError as Refusal};
-ghost use Rattle.qed_model.specs.Admission.DataRanges.{range_of};
+ghost use Rattle.tests.specs.Admission.DataRanges.{range_of};
 ghost use Rattle.elf_read.specs.Known.{IsReadable};
-ghost use Rattle.qed_model.specs.Machine.Step.{run};
-ghost use Rattle.qed_model.specs.Weave.Places.{AreSoundOptions};
+ghost use Rattle.machine.specs.Step.{run};
+ghost use Rattle.qed_model.specs.Weave.SoundOptions.{AreSoundOptions};
 ghost use Rattle.transform.specs.Transform.{HasCause, IsTransformable, IsErrorOr, IsDoneOr};
-ghost use Rattle.strikes.specs.Draw.{drawn_strikes};
-ghost use Rattle.strikes.specs.Kept.{IsReach, copies_up_to};
+ghost use Rattle.campaign.specs.Draw.{drawn_strikes};
+ghost use Rattle.campaign.specs.Kept.{IsReach, copies_up_to};
 ghost use Rattle.qed_model.specs.Promise.Changed.{Ordered};
-ghost use Rattle.strikes.specs.Right.{rights as rights_of};
-ghost use Rattle.strikes.specs.Struck.{IsStrike, AreStruck};
-ghost use Rattle.strikes.specs.Verdict.{IsVerdict};
+ghost use Rattle.campaign.specs.Right.{rights as rights_of};
+ghost use Rattle.campaign.specs.Struck.{IsStrike, AreStruck};
+ghost use Rattle.campaign.specs.Verdict.{IsVerdict};
 ghost use Rattle.campaign.specs.Course.{IsCourse, StartsIn};
 
+use crate::{Campaign, Progress, Runs, StrikeError, drawn_strikes};
 use elf_read::read_known;
 use qed_model::{Change, Changes, Draws, Options, Plan, Struck, Verdict};
 use rv_step::Machine;
 use std::alloc::{AllocError, Global};
 use std::marker::Model;
-use strikes::{Campaign, Progress, Runs, StrikeError, drawn_strikes};
 use transform::{TransformError, Transformed, transform};
 
 /// A test and its output, with what is told of the output, and both runs from registers that are all 0.
@@ -153,11 +153,13 @@ impl Course {
         &self,
         alloc: Global,
         strikes: &[Changes],
-        progress: &dyn Progress,
+        progress: &mut dyn Progress,
     ) -> Result<Campaign, AllocError>
         requires { All (IsStrike self.now.plan.bounds) strikes.now }
         ensures struck { IfOk result (λ campaign. AreStruck self.now.runs strikes.now campaign.struck.items campaign.trapped) }
         ensures ordered { IfOk result (λ campaign. All (λ s. Ordered s.changes) campaign.struck.items) }
+        ensures told { IfOk result (λ _. told progress.new ≡ length strikes.now) }
+        ensures all { IfOk result (λ _. all progress.new ≡ length strikes.now) }
     {
         self.runs.strike_all(alloc, strikes, progress)
     }

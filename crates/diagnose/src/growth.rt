@@ -1,8 +1,8 @@
 //! How much longer an output is than its test.
 ghost use Rattle.std.specs.Prelude.{◌≡◌, ◌≤◌};
-ghost use Rattle.qed_model.specs.Weave.Places.{AreSoundOptions};
+ghost use Rattle.qed_model.specs.Weave.SoundOptions.{AreSoundOptions};
 
-use block_list::{CodeBlock, blocks};
+use block_split::{CodeBlock, blocks};
 use bound_calc::bounds;
 use elf_read::read_elf;
 use qed_io::Shelf;

@@ -5,13 +5,13 @@
 mod answers;
 mod growth;
 mod heard;
-mod machine;
 mod names;
 mod places;
 mod run;
 mod sentences;
+mod streams;
 mod usage;
 
 pub use answers::advice;
 pub use heard::Heard;
-pub use machine::complain;
+pub use streams::complain;

@@ -1,6 +1,6 @@
 //! Names of commands and options that are near to a word, and what `help` tells of an option.
 
-use command_line::{COMMANDS, Command, Topic};
+use qed_words::{COMMANDS, Command, Topic};
 use report::told;
 use std::alloc::{AllocError, Global};
 use strsim::levenshtein;

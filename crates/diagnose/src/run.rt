@@ -4,11 +4,12 @@ ghost use Rattle.std.specs.Prelude.{◌≡◌};
 use crate::answers::{address_behind, read};
 use crate::places::{is_output, is_word_mapped, push_place, word_at};
 use crate::sentences::sentence_of;
-use command_line::Order;
 use elf_types::ElfFile;
 use qed_io::Shelf;
 use qed_model::{Change, Place};
+use qed_words::Order;
 use rv_decode::decode;
+use rv_isa::profile::{SIGNATURE, SPARE, TEMPORARY};
 use rv_isa::{Ins, Kind};
 use std::alloc::{AllocError, Global};
 use texts::digits;
@@ -52,10 +53,10 @@ fn before(file: &ElfFile, address: u64, bytes: u64) -> Option<Ins> {
 /// the check was called from.
 fn compared(first: u8, is_call: bool) -> Option<&'static str> {
     match first {
-        16 => Some("the signature in x16 is not that of this entry"),
-        30 if is_call => Some("the check was not called by the block at the address in x15"),
-        30 => Some("the data word at the address in x15 and its duplicate differ"),
-        31 => Some("the signature in x16 is not that of this block"),
+        SIGNATURE => Some("the signature in x16 is not that of this entry"),
+        TEMPORARY if is_call => Some("the check was not called by the block at the address in x15"),
+        TEMPORARY => Some("the data word at the address in x15 and its duplicate differ"),
+        SPARE => Some("the signature in x16 is not that of this block"),
         _ => None,
     }
 }

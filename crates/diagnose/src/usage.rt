@@ -2,8 +2,7 @@
 
 use crate::names::{near_command, near_option, push_lines};
 use crate::sentences::sentence_of;
-use command_line::{Command, Topic};
-use qed_words::fault;
+use qed_words::{Command, Topic, fault};
 use report::told;
 use std::alloc::{AllocError, Global};
 use texts::{MOST_OF_NAME, number, printable};

@@ -2,10 +2,10 @@
 use Rattle.std.proofs.Common.{◌≡◌, false, [], ◌∷◌, refl, sym, ◌∙◌}
 use Rattle.std.specs.Prelude.{pos}
 use Rattle.std.proofs.lemmas.Bool.{false≢true}
-use Rattle.qed_model.specs.Machine.Table.{Illegal, ins}
+use Rattle.machine.specs.Table.{Illegal, ins}
 use Rattle.qed_model.specs.Promise.Closed.{uses, guards_other}
 use Rattle.weave_core.specs.Kinds.{opens}
-use Rattle.weave_core.proofs.KindItems.{stub_opens}
+use Rattle.weave_core.proofs.Lemmas.{stub_opens}
 use Rattle.eddi_dup.specs.Needed.{some_load, GuardsNeeded}
 
 -- x2 is closed before it

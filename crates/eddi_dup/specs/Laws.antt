@@ -2,15 +2,13 @@
 use Rattle.std.proofs.Common.{◌≡◌, ℕ, Bool, true, false, cond, [], ◌∷◌, refl, arith}
 use Rattle.std.specs.Prelude.{pos}
 use Rattle.rv_isa.specs.declared.class.Class.TheVariants as class
-use Rattle.qed_model.specs.Machine.Step.{Add, Ins, ins, class_of, Class, target}
+use Rattle.machine.specs.Step.{Add, Ins, ins, class_of, Class, target}
 use Rattle.qed_model.specs.declared.item.Item.TheVariants.{Plain, Constant}
-use Rattle.qed_model.specs.Weave.Sequences.{pair, renamed, is_auipc, mirrored, mirror_as, compare}
+use Rattle.qed_model.specs.Weave.Sequences.{pair, renamed, mirrored, mirror_as, compare, DISTANCE, TEMPORARY}
+use Rattle.machine.specs.Operands.{is_auipc}
 use Rattle.weave_core.specs.Blocks.{IsBody as InBody, FitsPiece}
 use Rattle.weave_core.specs.Kinds.{originals}
-use Rattle.weave_core.proofs.KindItems.{compare_items}
-use Rattle.weave_core.proofs.Landing.{straight_lands, straight_compare}
-use Rattle.weave_core.proofs.ScratchParts.{plain_mirrors_fit}
-use Rattle.weave_core.proofs.PartLaws.{lockstep_mirror}
+use Rattle.weave_core.proofs.Lemmas.{compare_items, straight_lands, straight_compare, plain_mirrors_fit, lockstep_mirror}
 use Rattle.passes.specs.Honest.{HonestItems}
 use Rattle.passes.specs.Pass.{Honest, Lockstep, AllLow}
 use Rattle.passes.specs.Compose.{honest_items_then, honest_items_none}
@@ -18,7 +16,7 @@ use Rattle.passes.proofs.HonestWords.{honest_on, honest_constant}
 use Rattle.passes.proofs.Guards.{honest_guards}
 use Rattle.eddi_dup.specs.Parts.{bare}
 pub use Rattle.weave_core.specs.Parts.{any}
-pub use Rattle.weave_core.proofs.PartLaws.{quiet_original, quiet_mirrored, quiet_compare, lockstep_original}
+pub use Rattle.weave_core.proofs.Lemmas.{quiet_original, quiet_mirrored, quiet_compare, lockstep_original}
 
 -- ---- the original part
 honest_word : (far : Bool) (c : Class) (i : Ins) → class_of i.kind ≡ c → InBody c → HonestItems far (Plain i ∷ [])
@@ -37,8 +35,8 @@ honest_two far i j k l a b = honest_items_then far (Plain i ∷ []) (Plain j ∷
 
 honest_mirror : (far : Bool) (c : Class) (i : Ins) (at : ℕ) → class_of i.kind ≡ c → InBody c → HonestItems far (mirror_as c i at)
 honest_mirror far class.Compute i at e b = honest_on far (renamed i) class.Compute e tt
-honest_mirror far class.Load i at e b = honest_two far (ins Add 30 (pair i.rs1) 14 (pos 0)) (ins i.kind (pair i.rd) 30 0 i.imm) class.Compute class.Load (honest_on far (ins Add 30 (pair i.rs1) 14 (pos 0)) class.Compute refl tt) (honest_on far (ins i.kind (pair i.rd) 30 0 i.imm) class.Load e tt)
-honest_mirror far class.Store i at e b = honest_two far (ins Add 30 (pair i.rs1) 14 (pos 0)) (ins i.kind 0 30 (pair i.rs2) i.imm) class.Compute class.Store (honest_on far (ins Add 30 (pair i.rs1) 14 (pos 0)) class.Compute refl tt) (honest_on far (ins i.kind 0 30 (pair i.rs2) i.imm) class.Store e tt)
+honest_mirror far class.Load i at e b = honest_two far (ins Add TEMPORARY (pair i.rs1) DISTANCE (pos 0)) (ins i.kind (pair i.rd) TEMPORARY 0 i.imm) class.Compute class.Load (honest_on far (ins Add TEMPORARY (pair i.rs1) DISTANCE (pos 0)) class.Compute refl tt) (honest_on far (ins i.kind (pair i.rd) TEMPORARY 0 i.imm) class.Load e tt)
+honest_mirror far class.Store i at e b = honest_two far (ins Add TEMPORARY (pair i.rs1) DISTANCE (pos 0)) (ins i.kind 0 TEMPORARY (pair i.rs2) i.imm) class.Compute class.Store (honest_on far (ins Add TEMPORARY (pair i.rs1) DISTANCE (pos 0)) class.Compute refl tt) (honest_on far (ins i.kind 0 TEMPORARY (pair i.rs2) i.imm) class.Store e tt)
 honest_mirror far class.Fence i at e b = honest_items_none far
 honest_mirror far c i at e b = absurd b
 

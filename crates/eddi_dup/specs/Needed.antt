@@ -1,6 +1,6 @@
 -- What the law refuses: an original part alone.
 use Rattle.std.specs.Prelude.{[], pos}
-use Rattle.qed_model.specs.Machine.Table.{Ins, Ld, ins}
+use Rattle.machine.specs.Table.{Ins, Ld, ins}
 use Rattle.passes.specs.Pass.{Lockstep}
 use Rattle.eddi_dup.specs.Parts.{bare}
 use Rattle.eddi_dup.specs.Laws.{any}

@@ -1,11 +1,13 @@
 //! The comparison of all registers.
 ghost use Rattle.std.specs.Prelude.{◌≡◌, ◌+◌, ◌≤◌, pos};
+ghost use Rattle.rv_isa.specs.declared.profile.TheConstants.{LAST_ORIGINAL, PAIR_DISTANCE};
 ghost use Rattle.rv_isa.specs.declared.kind.Kind.TheVariants.{Beq};
-ghost use Rattle.qed_model.specs.Machine.Table.{ins as ins_of};
+ghost use Rattle.machine.specs.Table.{ins as ins_of};
 ghost use Rattle.qed_model.specs.Weave.Sequences.{compare, fired_check};
 
 use passes::{Emit, Pass, plain};
 use qed_model::Item;
+use rv_isa::profile::{LAST_ORIGINAL, PAIR_DISTANCE};
 use rv_isa::{Ins, Kind, register};
 use std::alloc::AllocError;
 
@@ -15,10 +17,16 @@ pub struct CompareAll;
 
 /// Where a register and its pair are equal, the check behind this is passed.
 fn unequal(n: u8) -> Item
-    requires { n ≤ 13 }
-    ensures { result ≡ Item.Plain (ins_of Beq 0 n (n + 16) (pos 8)) }
+    requires { n ≤ LAST_ORIGINAL }
+    ensures { result ≡ Item.Plain (ins_of Beq 0 n (n + PAIR_DISTANCE) (pos 8)) }
 {
-    plain(Kind::Beq, register(0), register(n), register(n + 16), 8)
+    plain(
+        Kind::Beq,
+        register(0),
+        register(n),
+        register(n + PAIR_DISTANCE),
+        8,
+    )
 }
 
 /// The check.
@@ -58,13 +66,14 @@ fn comparison() -> [Item; 26]
         fired(),
         unequal(12),
         fired(),
-        unequal(13),
+        unequal(LAST_ORIGINAL),
         fired(),
     ]
 }
 
 impl Pass for CompareAll {
     ghost use Rattle.std.specs.Prelude.{[], ◌≡◌};
+    ghost use Rattle.rv_isa.specs.declared.profile.TheConstants.{ORIGINALS};
     ghost use Rattle.qed_model.specs.Weave.Sequences.{compare};
     ghost use Rattle.eddi_dup.specs.Parts.{Compares};
     ghost use Rattle.eddi_dup.specs.Laws.{any, quiet_compare, honest_compare, lockstep_compare};
@@ -77,7 +86,7 @@ impl Pass for CompareAll {
 
     ghost uses = { λ p i. [] };
 
-    ghost cost = { λ p i. 13 };
+    ghost cost = { λ p i. ORIGINALS };
 
     ghost needs = { λ p i at w v. v.original ≡ v.shadow };
 

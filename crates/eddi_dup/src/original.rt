@@ -12,7 +12,7 @@ pub struct Original;
 
 impl Pass for Original {
     ghost use Rattle.weave_core.specs.Blocks.{FitsPiece};
-    ghost use Rattle.qed_model.specs.Machine.Step.{step};
+    ghost use Rattle.machine.specs.Step.{step};
     ghost use Rattle.passes.specs.Pass.{Does, same};
     ghost use Rattle.passes.specs.Uses.{used};
     ghost use Rattle.eddi_dup.specs.Parts.{bare, bare_cost, Runs};

@@ -4,10 +4,10 @@ use Rattle.std.specs.List.{Contains}
 use Rattle.std.specs.List.Sorted.{IsNonDecreasingBy}
 use Rattle.std.proofs.lemmas.Bool.{and_parts, and_from, ltb-true, false_from_ne_true, cases_order}
 use Rattle.std.proofs.lemmas.List.{get_or_default}
-use Rattle.elf_files.specs.Header.{e_phnum}
-use Rattle.elf_files.specs.Fields.{program_header}
-use Rattle.elf_files.specs.Rules.{do_overlap, overlapped}
-use Rattle.qed_model.proofs.BelowLaws.{first_none}
+use Rattle.tests.specs.Files.Header.{e_phnum}
+use Rattle.tests.specs.Files.Fields.{program_header}
+use Rattle.tests.specs.Files.Rules.{do_overlap, overlapped}
+use Rattle.machine.proofs.Lemmas.{first_none}
 use Rattle.elf_types.specs.Abi.{is_load}
 use Rattle.elf_types.specs.Overlap.{share_byte}
 use Rattle.elf_types.specs.declared.records.ProgramHeader.{ProgramHeader}

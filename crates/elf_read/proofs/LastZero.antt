@@ -3,9 +3,9 @@ use Rattle.std.proofs.Common.{◌≡◌, ◌≢◌, ℕ, zero, suc, ◌+◌, ◌
 use Rattle.std.specs.Option.{is_some}
 use Rattle.std.proofs.lemmas.Bool.{cases_lt}
 use Rattle.std.proofs.lemmas.Bool.Decides.{nat_tests}
-use Rattle.elf_files.specs.Rules.{name_length, is_unended}
+use Rattle.tests.specs.Files.Rules.{name_length, is_unended}
 use Rattle.elf_read.specs.Strings.{IsLastZero}
-use Rattle.qed_model.proofs.BelowLaws.{first_none, each_fails}
+use Rattle.machine.proofs.Lemmas.{first_none, each_fails}
 
 -- a number that is not 0 does not equal it
 pub eqb_differs : (a : ℕ) → a ≢ 0 → eqb a 0 ≡ false

@@ -1,7 +1,7 @@
 -- The length of a name, by the next zero byte of its string table.
 use Rattle.std.proofs.Common.{◌≡◌, ℕ, ◌+◌, ◌-◌, ◌<◌, ◌≤◌, eqb, List, length, get_or, Some, None, sym, ap, ◌∙◌, arith, eq-eqb}
-use Rattle.elf_files.specs.Rules.{name_length}
-use Rattle.qed_model.proofs.BelowLaws.{first_found, first_none}
+use Rattle.tests.specs.Files.Rules.{name_length}
+use Rattle.machine.proofs.Lemmas.{first_found, first_none}
 use Rattle.elf_read.specs.Strings.{IsNextZero}
 use Rattle.elf_read.proofs.LastZero.{eqb_differs}
 

@@ -2,7 +2,7 @@
 use Rattle.std.specs.Prelude.{◌≡◌, ℕ, ◌+◌, ◌<◌, ◌≤◌, ◌&&◌, nat_lt, Bool, true, List, length, slice_index_or, Contains}
 use Rattle.elf_types.specs.declared.records.ProgramHeader.{ProgramHeader}
 use Rattle.elf_types.specs.Abi.{is_load}
-use Rattle.elf_files.specs.Fields.{program_header}
+use Rattle.tests.specs.Files.Fields.{program_header}
 use Rattle.elf_read.specs.declared.extents.Extent.{Extent}
 
 -- a segment that is loaded and has memory

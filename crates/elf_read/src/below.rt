@@ -1,6 +1,6 @@
 //! The numbers below a bound, as those of the records of a table.
 ghost use Rattle.std.specs.Prelude.{◌≡◌, ◌<◌, ◌≤◌, ◌*◌, ◌^◌, ℕ, Bool, true, IfSome, IfOk};
-ghost use Rattle.qed_model.specs.Below.{first, sum_below, each};
+ghost use Rattle.machine.specs.Below.{first, sum_below, each};
 
 use std::alloc::{AllocError, Global};
 

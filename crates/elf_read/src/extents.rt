@@ -1,8 +1,8 @@
 //! Where segments stand in memory, in the order of their addresses.
 ghost use Rattle.std.specs.Prelude.{◌≡◌, ◌<◌, ℕ, None, IfOk};
 ghost use Rattle.std.specs.List.Sorted.{IsNonDecreasingBy};
-ghost use Rattle.elf_files.specs.Header.{e_phnum};
-ghost use Rattle.elf_files.specs.Rules.{overlapped};
+ghost use Rattle.tests.specs.Files.Header.{e_phnum};
+ghost use Rattle.tests.specs.Files.Rules.{overlapped};
 ghost use Rattle.elf_read.specs.Extents.{HasExtents, IsClearInFront, IsClearBehind, has_memory};
 
 use crate::parts::Parts;

@@ -1,8 +1,8 @@
 //! The rules on the header.
 ghost use Rattle.std.specs.Prelude.{◌≡◌, ◌≤◌, ◌<◌, length, OnOk};
-ghost use Rattle.elf_files.specs.Header.{e_shnum};
-ghost use Rattle.elf_files.specs.Fields.{e_shstrndx};
-ghost use Rattle.elf_files.specs.Rules.{magic_rule, header_rule, class_rule, encoding_rule, version_rule, file_type_rule, machine_rule, header_shape_rule, header_rules};
+ghost use Rattle.tests.specs.Files.Header.{e_shnum};
+ghost use Rattle.tests.specs.Files.Fields.{e_shstrndx};
+ghost use Rattle.tests.specs.Files.Rules.{magic_rule, header_rule, class_rule, encoding_rule, version_rule, file_type_rule, machine_rule, header_shape_rule, header_rules};
 
 use crate::fields::{u16_at, u32_at, u64_at};
 use elf_types::abi::{
@@ -11,7 +11,7 @@ use elf_types::abi::{
 };
 use elf_types::{ElfError, Part};
 
-#[tactic(auto, unfolding(elf_files::specs::Rules::magic_rule))]
+#[tactic(auto, unfolding(tests::specs::Files::Rules::magic_rule))]
 fn check_magic(bytes: &[u8]) -> Result<(), ElfError>
     ensures { result ≡ magic_rule bytes.now }
 {
@@ -21,7 +21,7 @@ fn check_magic(bytes: &[u8]) -> Result<(), ElfError>
     Ok(())
 }
 
-#[tactic(auto, unfolding(elf_files::specs::Rules::header_rule))]
+#[tactic(auto, unfolding(tests::specs::Files::Rules::header_rule))]
 fn check_room(bytes: &[u8]) -> Result<(), ElfError>
     ensures gives { result ≡ header_rule bytes.now }
     ensures room { OnOk result (64 ≤ length bytes.now) }
@@ -32,7 +32,7 @@ fn check_room(bytes: &[u8]) -> Result<(), ElfError>
     Ok(())
 }
 
-#[tactic(auto, unfolding(elf_files::specs::Rules::class_rule))]
+#[tactic(auto, unfolding(tests::specs::Files::Rules::class_rule))]
 fn check_class(bytes: &[u8]) -> Result<(), ElfError>
     requires { 64 ≤ length bytes.now }
     ensures { result ≡ class_rule bytes.now }
@@ -44,7 +44,7 @@ fn check_class(bytes: &[u8]) -> Result<(), ElfError>
     Ok(())
 }
 
-#[tactic(auto, unfolding(elf_files::specs::Rules::encoding_rule))]
+#[tactic(auto, unfolding(tests::specs::Files::Rules::encoding_rule))]
 fn check_encoding(bytes: &[u8]) -> Result<(), ElfError>
     requires { 64 ≤ length bytes.now }
     ensures { result ≡ encoding_rule bytes.now }
@@ -56,7 +56,7 @@ fn check_encoding(bytes: &[u8]) -> Result<(), ElfError>
     Ok(())
 }
 
-#[tactic(auto, unfolding(elf_files::specs::Rules::version_rule))]
+#[tactic(auto, unfolding(tests::specs::Files::Rules::version_rule))]
 fn check_version(bytes: &[u8]) -> Result<(), ElfError>
     requires { 64 ≤ length bytes.now }
     ensures { result ≡ version_rule bytes.now }
@@ -72,7 +72,7 @@ fn check_version(bytes: &[u8]) -> Result<(), ElfError>
     Ok(())
 }
 
-#[tactic(auto, unfolding(elf_files::specs::Rules::file_type_rule))]
+#[tactic(auto, unfolding(tests::specs::Files::Rules::file_type_rule))]
 fn check_file_type(bytes: &[u8]) -> Result<(), ElfError>
     requires { 64 ≤ length bytes.now }
     ensures { result ≡ file_type_rule bytes.now }
@@ -84,7 +84,7 @@ fn check_file_type(bytes: &[u8]) -> Result<(), ElfError>
     Ok(())
 }
 
-#[tactic(auto, unfolding(elf_files::specs::Rules::machine_rule))]
+#[tactic(auto, unfolding(tests::specs::Files::Rules::machine_rule))]
 fn check_machine(bytes: &[u8]) -> Result<(), ElfError>
     requires { 64 ≤ length bytes.now }
     ensures { result ≡ machine_rule bytes.now }
@@ -96,7 +96,7 @@ fn check_machine(bytes: &[u8]) -> Result<(), ElfError>
     Ok(())
 }
 
-#[tactic(auto, unfolding(elf_files::specs::Rules::header_shape_rule))]
+#[tactic(auto, unfolding(tests::specs::Files::Rules::header_shape_rule))]
 fn check_shape(bytes: &[u8]) -> Result<(), ElfError>
     requires { 64 ≤ length bytes.now }
     ensures gives { result ≡ header_shape_rule bytes.now }
@@ -117,7 +117,7 @@ fn check_shape(bytes: &[u8]) -> Result<(), ElfError>
 }
 
 /// All rules on the header, in order.
-#[tactic(auto, unfolding(elf_files::specs::Rules::header_rules))]
+#[tactic(auto, unfolding(tests::specs::Files::Rules::header_rules))]
 pub fn check_header(bytes: &[u8]) -> Result<(), ElfError>
     ensures gives { result ≡ header_rules bytes.now }
     ensures room { OnOk result (64 ≤ length bytes.now) }

@@ -1,8 +1,8 @@
 //! Reads bytes that are known to be a file.
 ghost use Rattle.std.specs.Prelude.{IfOk};
-ghost use Rattle.elf_files.specs.File.{IsReadAs};
-ghost use Rattle.qed_model.specs.Machine.Loading.{load_segments};
-ghost use Rattle.qed_model.specs.Machine.Apart.{AllFitMemory, AreApart};
+ghost use Rattle.tests.specs.Files.File.{IsReadAs};
+ghost use Rattle.machine.specs.Loading.{load_segments};
+ghost use Rattle.machine.specs.Apart.{AllFitMemory, AreApart};
 ghost use Rattle.elf_read.specs.Known.{IsReadable};
 
 use crate::read::read_elf;

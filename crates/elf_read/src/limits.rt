@@ -1,8 +1,8 @@
 //! The limits on a file.
 ghost use Rattle.std.specs.Prelude.{◌≡◌, ◌<◌, ◌^◌, IfSome};
-ghost use Rattle.elf_files.specs.Header.{e_shnum};
-ghost use Rattle.elf_files.specs.Fields.{section_header};
-ghost use Rattle.elf_files.specs.Rules.{symbol_table, section_count_rule, symbol_name_bytes, counted_bytes, byte_count_rule};
+ghost use Rattle.tests.specs.Files.Header.{e_shnum};
+ghost use Rattle.tests.specs.Files.Fields.{section_header};
+ghost use Rattle.tests.specs.Files.Rules.{symbol_table, section_count_rule, symbol_name_bytes, counted_bytes, byte_count_rule};
 
 use crate::below::sum_of;
 use crate::parts::Parts;
@@ -11,11 +11,11 @@ use crate::segments::file_size;
 use crate::symbols::{symbol_name, symbol_strings, symbol_table};
 use elf_types::ElfError;
 use elf_types::abi::SYM_SIZE;
-use qed_model::limits::{MAX_COUNTED_BYTES, MAX_SECTIONS};
+use machine::limits::{MAX_COUNTED_BYTES, MAX_SECTIONS};
 use std::alloc::Global;
 
 /// Whether there are few enough sections.
-#[tactic(auto, unfolding(elf_files::specs::Rules::section_count_rule))]
+#[tactic(auto, unfolding(tests::specs::Files::Rules::section_count_rule))]
 pub fn check_section_count(file: &Parts) -> Result<(), ElfError>
     ensures { result ≡ section_count_rule file.now }
 {
@@ -46,7 +46,7 @@ fn symbol_name_bytes(file: &Parts, alloc: Global) -> u128
 }
 
 // The bytes of segments and names.
-#[tactic(auto, unfolding(elf_files::specs::Rules::counted_bytes))]
+#[tactic(auto, unfolding(tests::specs::Files::Rules::counted_bytes))]
 fn counted_bytes(file: &Parts, alloc: Global) -> u128
     requires { IfSome (symbol_table file.now) (λ i. (section_header file.now i).link < e_shnum file.now) }
     ensures { result ≡ counted_bytes file.now }
@@ -62,7 +62,7 @@ fn counted_bytes(file: &Parts, alloc: Global) -> u128
 }
 
 /// Whether there are few enough bytes of segments and names.
-#[tactic(auto, unfolding(elf_files::specs::Rules::byte_count_rule))]
+#[tactic(auto, unfolding(tests::specs::Files::Rules::byte_count_rule))]
 pub fn check_byte_count(file: &Parts, alloc: Global) -> Result<(), ElfError>
     requires { IfSome (symbol_table file.now) (λ i. (section_header file.now i).link < e_shnum file.now) }
     ensures { result ≡ byte_count_rule file.now }

@@ -1,9 +1,9 @@
 //! A file whose parts lie in it.
 ghost use Rattle.std.specs.Prelude.{◌≡◌, ◌<◌, false, true, length, List, ℕ, Ok, Err, IfOk, IfErr, OnOk};
 ghost use Rattle.elf_types.specs.Section.{has_bytes};
-ghost use Rattle.elf_files.specs.Header.{e_phnum, e_shnum};
-ghost use Rattle.elf_files.specs.Fields.{program_header, section_header};
-ghost use Rattle.elf_files.specs.Rules.{HasParts, part_rules, is_segment_outside, is_section_outside, section_bytes};
+ghost use Rattle.tests.specs.Files.Header.{e_phnum, e_shnum};
+ghost use Rattle.tests.specs.Files.Fields.{program_header, section_header};
+ghost use Rattle.tests.specs.Files.Rules.{HasParts, part_rules, is_segment_outside, is_section_outside, section_bytes};
 
 use crate::tables::Tables;
 use elf_types::{ElfError, ProgramHeader, SectionHeader};
@@ -25,7 +25,7 @@ impl<'a> Model for Parts<'a> {
 
 impl<'a> Parts<'a> {
     /// The file, where header, tables, segments and sections lie in it.
-    #[tactic(auto, unfolding(elf_files::specs::Rules::part_rules), using(elf_files::proofs::RefusalLaws::are_inside))]
+    #[tactic(auto, unfolding(tests::specs::Files::Rules::part_rules), using(tests::proofs::RefusalLaws::are_inside))]
     pub fn new(bytes: &'a [u8]) -> Result<Parts<'a>, ElfError>
         ensures same { IfOk result (λ p. p ≡ bytes.now) }
         ensures accepted { OnOk result (part_rules bytes.now ≡ Ok tt) }
@@ -63,7 +63,7 @@ impl<'a> Parts<'a> {
     }
 
     /// The bytes of a section; where its type is `SHT_NULL` or `SHT_NOBITS` there are none.
-    #[tactic(auto, unfolding(elf_files::specs::Rules::section_bytes, elf_files::specs::Rules::is_section_outside))]
+    #[tactic(auto, unfolding(tests::specs::Files::Rules::section_bytes, tests::specs::Files::Rules::is_section_outside))]
     pub fn section_bytes(&self, s: SectionHeader) -> &'a [u8]
         requires { is_section_outside self.now s ≡ false }
         ensures gives { result.now ≡ section_bytes self.now s }

@@ -1,15 +1,15 @@
 //! The file that bytes are.
 ghost use Rattle.std.specs.Prelude.{◌≡◌, false, ◌<◌, ◌/◌, ◌⊎◌, length, slice_index, List, ℕ, Ok, Err, Some, IfOk, IfErr, IfSome, OnOk};
 ghost use Rattle.elf_types.specs.declared.error.ElfError.TheVariants as error;
-ghost use Rattle.qed_model.specs.Below.{each, gather};
-ghost use Rattle.elf_files.specs.Header.{e_phnum, e_shnum};
-ghost use Rattle.elf_files.specs.Fields.{section_header};
-ghost use Rattle.elf_files.specs.Rules.{is_section_outside, is_segment_outside, section_strings, strings_of, symbol_table, part_rules, verdict, read_verdict};
-ghost use Rattle.elf_files.specs.File.{File, load_bytes, segment_of, section_of, symbol_of, symbols_at, relas_of, WithinReadLimits, IsReadAs};
-ghost use Rattle.elf_files.specs.Refusals.{IsAccepted, IsRefused};
-ghost use Rattle.qed_model.specs.Elf.Sound.{IsSound};
-ghost use Rattle.qed_model.specs.Machine.Loading.{load_segments};
-ghost use Rattle.qed_model.specs.Machine.Apart.{AllFitMemory, AreApart};
+ghost use Rattle.machine.specs.Below.{each, gather};
+ghost use Rattle.tests.specs.Files.Header.{e_phnum, e_shnum};
+ghost use Rattle.tests.specs.Files.Fields.{section_header};
+ghost use Rattle.tests.specs.Files.Rules.{is_section_outside, is_segment_outside, section_strings, strings_of, symbol_table, part_rules, verdict, read_verdict};
+ghost use Rattle.tests.specs.Files.File.{File, load_bytes, segment_of, section_of, symbol_of, symbols_at, relas_of, WithinReadLimits, IsReadAs};
+ghost use Rattle.tests.specs.Files.Refusals.{IsAccepted, IsRefused};
+ghost use Rattle.tests.specs.Elf.Sound.{IsSound};
+ghost use Rattle.machine.specs.Loading.{load_segments};
+ghost use Rattle.machine.specs.Apart.{AllFitMemory, AreApart};
 ghost use Rattle.elf_read.specs.Sound.{HasLinks};
 
 use crate::below::list_of;
@@ -42,7 +42,7 @@ impl<'a> Model for Sound<'a> {
     ghost invariant = { λ s. HasLinks s.parts };
 }
 
-#[tactic(auto, unfolding(elf_files::specs::File::section_of, elf_files::specs::Rules::section_name))]
+#[tactic(auto, unfolding(tests::specs::Files::File::section_of, tests::specs::Files::Rules::section_name))]
 fn section(file: &Parts, names: &Names, i: u64) -> Result<Section, AllocError>
     requires below { i < e_shnum file.now }
     requires names { names.now ≡ section_strings file.now }
@@ -66,7 +66,7 @@ fn sections(file: &Parts, alloc: Global) -> Result<Vec<Section>, AllocError>
 }
 
 /// The bytes of a segment, as a part of those of the file; where it is not `PT_LOAD` there are none.
-#[tactic(auto, unfolding(elf_files::specs::File::load_bytes, elf_files::specs::Rules::is_segment_outside))]
+#[tactic(auto, unfolding(tests::specs::Files::File::load_bytes, tests::specs::Files::Rules::is_segment_outside))]
 fn segment_bytes(shared: &Shared, p: ProgramHeader) -> Result<Bytes, AllocError>
     requires { is_segment_outside shared.now p ≡ false }
     ensures { IfOk result (λ bytes. bytes ≡ load_bytes shared.now p) }
@@ -79,7 +79,7 @@ fn segment_bytes(shared: &Shared, p: ProgramHeader) -> Result<Bytes, AllocError>
     Ok(bytes)
 }
 
-#[tactic(auto, unfolding(elf_files::specs::File::segment_of))]
+#[tactic(auto, unfolding(tests::specs::Files::File::segment_of))]
 fn segment(file: &Parts, shared: &Shared, i: u64) -> Result<Segment, AllocError>
     requires below { i < e_phnum file.now }
     requires same { shared.now ≡ file.now }
@@ -96,7 +96,7 @@ fn segment(file: &Parts, shared: &Shared, i: u64) -> Result<Segment, AllocError>
     })
 }
 
-#[tactic(auto, unfolding(elf_files::specs::File::symbol_of, elf_files::specs::Rules::symbol_name, elf_files::specs::Rules::name_at))]
+#[tactic(auto, unfolding(tests::specs::Files::File::symbol_of, tests::specs::Files::Rules::symbol_name, tests::specs::Files::Rules::name_at))]
 fn symbol(file: &Parts, names: &Names, s: SectionHeader, j: u64) -> Result<Symbol, AllocError>
     requires inside { is_section_outside file.now s ≡ false }
     requires kind { s.kind ≡ SHT_SYMTAB }
@@ -118,7 +118,7 @@ fn symbol(file: &Parts, names: &Names, s: SectionHeader, j: u64) -> Result<Symbo
 
 impl<'a> Sound<'a> {
     /// The file, where no rule refuses it and it is within the limits.
-    #[tactic(auto, unfolding(elf_files::specs::Rules::verdict, elf_files::specs::Rules::read_verdict))]
+    #[tactic(auto, unfolding(tests::specs::Files::Rules::verdict, tests::specs::Files::Rules::read_verdict))]
     fn new(alloc: Global, bytes: &'a [u8]) -> Result<Sound<'a>, ElfError>
         ensures same { IfOk result (λ s. s ≡ bytes.now) }
         ensures rules { OnOk result (verdict bytes.now ≡ Ok tt) }
@@ -190,7 +190,7 @@ impl<'a> Sound<'a> {
 ///
 /// `Memory` where no rule refuses the bytes, they are within the limits, and there is no memory for the copy. Each other error comes exactly where
 /// it is the first that holds.
-#[tactic(auto, using(elf_files::proofs::RefusalLaws::refused, elf_files::proofs::AcceptanceLaws::accepted, elf_files::proofs::LoadsApart::file_fits))]
+#[tactic(auto, using(tests::proofs::RefusalLaws::refused, tests::proofs::AcceptanceLaws::accepted, tests::proofs::LoadsApart::file_fits))]
 pub fn read_elf(alloc: Global, bytes: &[u8]) -> Result<ElfFile, ElfError>
     ensures read { IfOk result (λ f. IsReadAs bytes.now f) }
     ensures accepted { OnOk result (IsAccepted bytes.now) }
@@ -210,7 +210,7 @@ pub fn read_elf(alloc: Global, bytes: &[u8]) -> Result<ElfFile, ElfError>
 /// # Errors
 ///
 /// As those of `read_elf`.
-#[tactic(auto, using(elf_files::proofs::RefusalLaws::refused, elf_files::proofs::AcceptanceLaws::accepted, elf_files::proofs::LoadsApart::file_fits))]
+#[tactic(auto, using(tests::proofs::RefusalLaws::refused, tests::proofs::AcceptanceLaws::accepted, tests::proofs::LoadsApart::file_fits))]
 pub fn read_shared(alloc: Global, file: &Shared) -> Result<ElfFile, ElfError>
     ensures read { IfOk result (λ f. IsReadAs file.now f) }
     ensures accepted { OnOk result (IsAccepted file.now) }

@@ -1,10 +1,10 @@
 //! The rule on relocations, and the relocations.
 ghost use Rattle.std.specs.Prelude.{◌≡◌, ◌<◌, ◌+◌, ◌*◌, ◌≤◌, ◌++◌, length, IfOk, OnOk};
-ghost use Rattle.qed_model.specs.Below.{gather};
-ghost use Rattle.elf_files.specs.Header.{e_shnum};
-ghost use Rattle.elf_files.specs.Fields.{section_header, rela_entry};
-ghost use Rattle.elf_files.specs.Rules.{symbol_table, symbol_count, is_counted, rela_fault, rela_shape_rule};
-ghost use Rattle.elf_files.specs.File.{relas_of};
+ghost use Rattle.machine.specs.Below.{gather};
+ghost use Rattle.tests.specs.Files.Header.{e_shnum};
+ghost use Rattle.tests.specs.Files.Fields.{section_header, rela_entry};
+ghost use Rattle.tests.specs.Files.Rules.{symbol_table, symbol_count, is_counted, rela_fault, rela_shape_rule};
+ghost use Rattle.tests.specs.Files.File.{relas_of};
 
 use crate::below::first_of;
 use crate::fields::u64_at;
@@ -14,7 +14,7 @@ use elf_types::abi::{RELA_SIZE, SYM_SIZE};
 use elf_types::{ElfError, Rela, SectionHeader};
 use std::alloc::{AllocError, Global};
 
-#[tactic(auto, unfolding(elf_files::specs::Fields::rela_entry))]
+#[tactic(auto, unfolding(tests::specs::Files::Fields::rela_entry))]
 fn rela_at(table: &[u8], k: u64) -> Rela
     requires { 24 * k + 24 ≤ length table.now }
     ensures { result ≡ rela_entry table.now k }
@@ -46,7 +46,7 @@ fn is_counted(file: &Parts, table: Option<u64>, s: SectionHeader) -> bool
     }
 }
 
-#[tactic(auto, unfolding(elf_files::specs::Rules::symbol_count))]
+#[tactic(auto, unfolding(tests::specs::Files::Rules::symbol_count))]
 fn symbol_count(file: &Parts) -> u64
     ensures { result ≡ symbol_count file.now }
 {
@@ -56,7 +56,7 @@ fn symbol_count(file: &Parts) -> u64
     }
 }
 
-#[tactic(auto, unfolding(elf_files::specs::Rules::rela_fault))]
+#[tactic(auto, unfolding(tests::specs::Files::Rules::rela_fault))]
 fn rela_fault(file: &Parts, table: Option<u64>, count: u64, i: u64) -> Option<u64>
     requires below { i < e_shnum file.now }
     requires symbols { table ≡ symbol_table file.now }
@@ -78,7 +78,7 @@ fn rela_fault(file: &Parts, table: Option<u64>, count: u64, i: u64) -> Option<u6
 }
 
 /// Whether each counted section of relocations has entries, and each of these a symbol.
-#[tactic(auto, unfolding(elf_files::specs::Rules::rela_shape_rule))]
+#[tactic(auto, unfolding(tests::specs::Files::Rules::rela_shape_rule))]
 pub fn check_rela_shape(file: &Parts) -> Result<(), ElfError>
     ensures { result ≡ rela_shape_rule file.now }
 {
@@ -96,7 +96,7 @@ pub fn check_rela_shape(file: &Parts) -> Result<(), ElfError>
     }
 }
 
-#[tactic(auto, unfolding(elf_files::specs::File::relas_of))]
+#[tactic(auto, unfolding(tests::specs::Files::File::relas_of))]
 fn append_relas(
     file: &Parts,
     table: Option<u64>,

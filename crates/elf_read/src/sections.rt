@@ -1,7 +1,7 @@
 //! The rule on sections, and their names.
 ghost use Rattle.std.specs.Prelude.{◌≡◌, ◌<◌};
-ghost use Rattle.elf_files.specs.Header.{e_shnum};
-ghost use Rattle.elf_files.specs.Rules.{section_strings, section_name, is_section_misshapen, section_shape_rule};
+ghost use Rattle.tests.specs.Files.Header.{e_shnum};
+ghost use Rattle.tests.specs.Files.Rules.{section_strings, section_name, is_section_misshapen, section_shape_rule};
 
 use crate::below::first_of;
 use crate::parts::Parts;
@@ -10,7 +10,7 @@ use elf_types::ElfError;
 use std::alloc::Global;
 
 /// The string table of the sections.
-#[tactic(auto, unfolding(elf_files::specs::Rules::section_strings))]
+#[tactic(auto, unfolding(tests::specs::Files::Rules::section_strings))]
 pub fn section_strings<'a>(file: &Parts<'a>, alloc: Global) -> Strings<'a>
     ensures { 0 < e_shnum file.now → result ≡ section_strings file.now }
 {
@@ -21,7 +21,7 @@ pub fn section_strings<'a>(file: &Parts<'a>, alloc: Global) -> Strings<'a>
     Strings::new(alloc, file.section_bytes(file.section(at)))
 }
 
-#[tactic(auto, unfolding(elf_files::specs::Rules::is_section_misshapen, elf_files::specs::Rules::section_strings))]
+#[tactic(auto, unfolding(tests::specs::Files::Rules::is_section_misshapen, tests::specs::Files::Rules::section_strings))]
 fn is_section_misshapen(file: &Parts, strings: &Strings, i: u64) -> bool
     requires below { i < e_shnum file.now }
     requires names { strings.now ≡ section_strings file.now }
@@ -42,7 +42,7 @@ fn is_section_misshapen(file: &Parts, strings: &Strings, i: u64) -> bool
 }
 
 /// Whether each section ends at 2^64 or before and has a name, where the file names sections.
-#[tactic(auto, unfolding(elf_files::specs::Rules::section_shape_rule))]
+#[tactic(auto, unfolding(tests::specs::Files::Rules::section_shape_rule))]
 pub fn check_section_shape(file: &Parts, alloc: Global) -> Result<(), ElfError>
     ensures { result ≡ section_shape_rule file.now }
 {
@@ -57,7 +57,7 @@ pub fn check_section_shape(file: &Parts, alloc: Global) -> Result<(), ElfError>
 }
 
 /// The name of a section; where the file names no sections it is empty.
-#[tactic(auto, unfolding(elf_files::specs::Rules::section_name))]
+#[tactic(auto, unfolding(tests::specs::Files::Rules::section_name))]
 pub fn section_name<'a>(file: &Parts<'a>, strings: &Strings<'a>, i: u64) -> &'a [u8]
     requires below { i < e_shnum file.now }
     requires names { strings.now ≡ section_strings file.now }

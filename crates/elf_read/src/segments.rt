@@ -1,7 +1,7 @@
 //! The rules on segments.
 ghost use Rattle.std.specs.Prelude.{◌≡◌, ◌<◌};
-ghost use Rattle.elf_files.specs.Header.{e_phnum};
-ghost use Rattle.elf_files.specs.Rules.{is_misshapen, segment_shape_rule, do_overlap, overlapped, segment_overlap_rule, file_size};
+ghost use Rattle.tests.specs.Files.Header.{e_phnum};
+ghost use Rattle.tests.specs.Files.Rules.{is_misshapen, segment_shape_rule, do_overlap, overlapped, segment_overlap_rule, file_size};
 
 use crate::below::first_of;
 use crate::extents::clear_below;
@@ -9,7 +9,7 @@ use crate::parts::Parts;
 use elf_types::{ElfError, ProgramHeader, share_byte};
 use std::alloc::Global;
 
-#[tactic(auto, unfolding(elf_files::specs::Rules::is_misshapen))]
+#[tactic(auto, unfolding(tests::specs::Files::Rules::is_misshapen))]
 fn is_misshapen(p: ProgramHeader) -> bool
     ensures { result ≡ is_misshapen p }
 {
@@ -17,7 +17,7 @@ fn is_misshapen(p: ProgramHeader) -> bool
 }
 
 /// Whether each segment has no more bytes in the file than in memory, and ends at 2^64 or before.
-#[tactic(auto, unfolding(elf_files::specs::Rules::segment_shape_rule))]
+#[tactic(auto, unfolding(tests::specs::Files::Rules::segment_shape_rule))]
 pub fn check_segment_shape(file: &Parts) -> Result<(), ElfError>
     ensures { result ≡ segment_shape_rule file.now }
 {
@@ -27,14 +27,14 @@ pub fn check_segment_shape(file: &Parts) -> Result<(), ElfError>
     }
 }
 
-#[tactic(auto, unfolding(elf_files::specs::Rules::do_overlap))]
+#[tactic(auto, unfolding(tests::specs::Files::Rules::do_overlap))]
 fn do_overlap(p: ProgramHeader, q: ProgramHeader) -> bool
     ensures { result ≡ do_overlap p q }
 {
     p.is_load() && q.is_load() && share_byte(p.vaddr, p.memsz, q.vaddr, q.memsz)
 }
 
-#[tactic(auto, unfolding(elf_files::specs::Rules::overlapped))]
+#[tactic(auto, unfolding(tests::specs::Files::Rules::overlapped))]
 fn overlapped(file: &Parts, i: u64) -> Option<u64>
     requires { i < e_phnum file.now }
     ensures { result ≡ overlapped file.now i }
@@ -48,7 +48,7 @@ fn overlapped(file: &Parts, i: u64) -> Option<u64>
 
 /// Whether no two segments share a byte of memory. They are compared in the order of their addresses; where there is no
 /// memory for that, each with each.
-#[tactic(auto, unfolding(elf_files::specs::Rules::segment_overlap_rule))]
+#[tactic(auto, unfolding(tests::specs::Files::Rules::segment_overlap_rule))]
 pub fn check_segment_overlap(file: &Parts, alloc: Global) -> Result<(), ElfError>
     ensures { result ≡ segment_overlap_rule file.now }
 {

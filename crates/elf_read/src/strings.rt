@@ -1,6 +1,6 @@
 //! String tables.
 ghost use Rattle.std.specs.Prelude.{◌≡◌, ◌+◌, ◌<◌, ◌≤◌, List, ℕ, drop, take, length, IfOk, IfSome};
-ghost use Rattle.elf_files.specs.Rules.{name_length, name_at, is_unended};
+ghost use Rattle.tests.specs.Files.Rules.{name_length, name_at, is_unended};
 ghost use Rattle.elf_read.specs.Strings.{IsLastZero, IsNextZero, AreNextZeros};
 
 use elf_types::{Bytes, Shared};
@@ -108,7 +108,7 @@ fn name_length(bytes: &[u8], zeros: &[usize], place: u32) -> Option<u64>
 }
 
 // Where a name begins, and how many bytes it has. One that is empty begins at the first byte.
-#[tactic(auto, unfolding(elf_files::specs::Rules::name_at))]
+#[tactic(auto, unfolding(tests::specs::Files::Rules::name_at))]
 fn span(bytes: &[u8], zeros: &[usize], place: u32) -> (usize, usize)
     requires { AreNextZeros bytes.now zeros.now }
     ensures within { result.0 + result.1 ≤ length bytes.now }

@@ -1,8 +1,8 @@
 //! The rule on symbols, and their table.
 ghost use Rattle.std.specs.Prelude.{◌≡◌, false, ◌<◌, ◌+◌, ◌*◌, ◌/◌, ◌≤◌, length, IfSome, OnOk};
-ghost use Rattle.elf_files.specs.Header.{e_shnum};
-ghost use Rattle.elf_files.specs.Fields.{section_header, symbol_entry};
-ghost use Rattle.elf_files.specs.Rules.{is_section_outside, symbol_table, section_bytes, strings_of, symbols_rule, symbol_shape_rule, symbol_name};
+ghost use Rattle.tests.specs.Files.Header.{e_shnum};
+ghost use Rattle.tests.specs.Files.Fields.{section_header, symbol_entry};
+ghost use Rattle.tests.specs.Files.Rules.{is_section_outside, symbol_table, section_bytes, strings_of, symbols_rule, symbol_shape_rule, symbol_name};
 
 use crate::below::first_of;
 use crate::fields::{u16_at, u32_at, u64_at};
@@ -12,7 +12,7 @@ use elf_types::abi::{SHT_SYMTAB, SYM_SIZE};
 use elf_types::{ElfError, SectionHeader, SymbolEntry};
 use std::alloc::Global;
 
-#[tactic(auto, unfolding(elf_files::specs::Fields::symbol_entry))]
+#[tactic(auto, unfolding(tests::specs::Files::Fields::symbol_entry))]
 fn entry_at(table: &[u8], j: u64) -> SymbolEntry
     requires { 24 * j + 24 ≤ length table.now }
     ensures { result ≡ symbol_entry table.now j }
@@ -29,7 +29,7 @@ fn entry_at(table: &[u8], j: u64) -> SymbolEntry
 }
 
 /// Where the name of a symbol begins, of which the other fields are not read.
-#[tactic(auto, unfolding(elf_files::specs::Fields::symbol_entry))]
+#[tactic(auto, unfolding(tests::specs::Files::Fields::symbol_entry))]
 fn name_at(table: &[u8], j: u64) -> u32
     requires { 24 * j + 24 ≤ length table.now }
     ensures { result ≡ (symbol_entry table.now j).name }
@@ -38,7 +38,7 @@ fn name_at(table: &[u8], j: u64) -> u32
 }
 
 /// The number of the first symbol table.
-#[tactic(auto, unfolding(elf_files::specs::Rules::symbol_table))]
+#[tactic(auto, unfolding(tests::specs::Files::Rules::symbol_table))]
 pub fn symbol_table(file: &Parts) -> Option<u64>
     ensures found { result ≡ symbol_table file.now }
     ensures below { IfSome result (λ i. i < e_shnum file.now) }
@@ -50,7 +50,7 @@ pub fn symbol_table(file: &Parts) -> Option<u64>
     )
 }
 
-#[tactic(auto, unfolding(elf_files::specs::Rules::symbols_rule, elf_files::specs::Rules::is_misnamed, elf_files::specs::Rules::strings_of))]
+#[tactic(auto, unfolding(tests::specs::Files::Rules::symbols_rule, tests::specs::Files::Rules::is_misnamed, tests::specs::Files::Rules::strings_of))]
 fn check_symbols(file: &Parts, alloc: Global, i: u64) -> Result<(), ElfError>
     requires below { i < e_shnum file.now }
     requires kind { (section_header file.now i).kind ≡ SHT_SYMTAB }
@@ -80,7 +80,7 @@ fn check_symbols(file: &Parts, alloc: Global, i: u64) -> Result<(), ElfError>
 }
 
 /// Whether the first symbol table has entries and a string table, and each symbol a name.
-#[tactic(auto, unfolding(elf_files::specs::Rules::symbol_shape_rule))]
+#[tactic(auto, unfolding(tests::specs::Files::Rules::symbol_shape_rule))]
 pub fn check_symbol_shape(file: &Parts, alloc: Global) -> Result<(), ElfError>
     ensures gives { result ≡ symbol_shape_rule file.now }
     ensures links { OnOk result (IfSome (symbol_table file.now) (λ i. (section_header file.now i).link < e_shnum file.now)) }
@@ -105,7 +105,7 @@ pub fn symbol_entry(file: &Parts, s: SectionHeader, j: u64) -> SymbolEntry
 }
 
 /// The string table of the symbol table at a number.
-#[tactic(auto, unfolding(elf_files::specs::Rules::strings_of))]
+#[tactic(auto, unfolding(tests::specs::Files::Rules::strings_of))]
 pub fn symbol_strings<'a>(file: &Parts<'a>, alloc: Global, i: u64) -> Strings<'a>
     requires below { i < e_shnum file.now }
     requires link { (section_header file.now i).link < e_shnum file.now }
@@ -116,7 +116,7 @@ pub fn symbol_strings<'a>(file: &Parts<'a>, alloc: Global, i: u64) -> Strings<'a
 }
 
 /// The name of a symbol of a table; that of the null symbol is empty.
-#[tactic(auto, unfolding(elf_files::specs::Rules::symbol_name))]
+#[tactic(auto, unfolding(tests::specs::Files::Rules::symbol_name))]
 pub fn symbol_name<'a>(
     file: &Parts<'a>,
     strings: &Strings<'a>,

@@ -1,8 +1,8 @@
 //! A file whose header and tables lie in it.
 ghost use Rattle.std.specs.Prelude.{◌≡◌, ◌<◌, List, ℕ, Ok, Err, IfOk, IfErr, OnOk};
-ghost use Rattle.elf_files.specs.Header.{e_entry, e_flags, e_phnum, e_shnum};
-ghost use Rattle.elf_files.specs.Fields.{e_shstrndx, program_header, section_header, HasTables};
-ghost use Rattle.elf_files.specs.Rules.{table_rules, is_past, is_segment_outside, segment_place_rule, is_section_outside, section_place_rule};
+ghost use Rattle.tests.specs.Files.Header.{e_entry, e_flags, e_phnum, e_shnum};
+ghost use Rattle.tests.specs.Files.Fields.{e_shstrndx, program_header, section_header, HasTables};
+ghost use Rattle.tests.specs.Files.Rules.{table_rules, is_past, is_segment_outside, segment_place_rule, is_section_outside, section_place_rule};
 
 use crate::below::first_of;
 use crate::fields::{u16_at, u32_at, u64_at};
@@ -27,7 +27,7 @@ impl<'a> Model for Tables<'a> {
 
 impl<'a> Tables<'a> {
     /// The file, where its header and tables are as they should.
-    #[tactic(auto, unfolding(elf_files::specs::Rules::table_rules, elf_files::specs::Rules::program_table_rule, elf_files::specs::Rules::section_table_rule))]
+    #[tactic(auto, unfolding(tests::specs::Files::Rules::table_rules, tests::specs::Files::Rules::program_table_rule, tests::specs::Files::Rules::section_table_rule))]
     pub fn new(bytes: &'a [u8]) -> Result<Tables<'a>, ElfError>
         ensures same { IfOk result (λ t. t ≡ bytes.now) }
         ensures accepted { OnOk result (table_rules bytes.now ≡ Ok tt) }
@@ -89,7 +89,7 @@ impl<'a> Tables<'a> {
     }
 
     /// A program header.
-    #[tactic(auto, unfolding(elf_files::specs::Fields::program_header))]
+    #[tactic(auto, unfolding(tests::specs::Files::Fields::program_header))]
     pub fn program(&self, i: u64) -> ProgramHeader
         requires { i < e_phnum self.now }
         ensures { result ≡ program_header self.now i }
@@ -106,7 +106,7 @@ impl<'a> Tables<'a> {
     }
 
     /// A section header.
-    #[tactic(auto, unfolding(elf_files::specs::Fields::section_header))]
+    #[tactic(auto, unfolding(tests::specs::Files::Fields::section_header))]
     pub fn section(&self, i: u64) -> SectionHeader
         requires { i < e_shnum self.now }
         ensures { result ≡ section_header self.now i }
@@ -131,7 +131,7 @@ impl<'a> Tables<'a> {
         u128::from(place) + u128::from(size) > self.bytes.len() as u128
     }
 
-    #[tactic(auto, unfolding(elf_files::specs::Rules::is_segment_outside))]
+    #[tactic(auto, unfolding(tests::specs::Files::Rules::is_segment_outside))]
     fn is_segment_outside(&self, p: ProgramHeader) -> bool
         ensures { result ≡ is_segment_outside self.now p }
     {
@@ -139,7 +139,7 @@ impl<'a> Tables<'a> {
     }
 
     /// Whether the segments lie in the file.
-    #[tactic(auto, unfolding(elf_files::specs::Rules::segment_place_rule))]
+    #[tactic(auto, unfolding(tests::specs::Files::Rules::segment_place_rule))]
     pub fn check_segments(&self) -> Result<(), ElfError>
         ensures { result ≡ segment_place_rule self.now }
     {
@@ -149,7 +149,7 @@ impl<'a> Tables<'a> {
         }
     }
 
-    #[tactic(auto, unfolding(elf_files::specs::Rules::is_section_outside))]
+    #[tactic(auto, unfolding(tests::specs::Files::Rules::is_section_outside))]
     fn is_section_outside(&self, s: SectionHeader) -> bool
         ensures { result ≡ is_section_outside self.now s }
     {
@@ -157,7 +157,7 @@ impl<'a> Tables<'a> {
     }
 
     /// Whether the sections lie in the file.
-    #[tactic(auto, unfolding(elf_files::specs::Rules::section_place_rule))]
+    #[tactic(auto, unfolding(tests::specs::Files::Rules::section_place_rule))]
     pub fn check_sections(&self) -> Result<(), ElfError>
         ensures { result ≡ section_place_rule self.now }
     {

@@ -2,13 +2,12 @@
 use Rattle.std.proofs.Common.{◌≡◌, ℕ, ◌+◌, ◌-◌, ◌^◌, ◌<◌, ◌≤◌, List, [], ◌++◌, length, replicate, refl, ◌∙◌, arith}
 use Rattle.std.proofs.lemmas.List.{length-replicate}
 use Rattle.elf_types.specs.declared.output.OutFile.{OutFile}
-use Rattle.qed_model.specs.Numbers.{field}
-use Rattle.elf_files.specs.Header.{e_type, e_machine, e_version, e_entry, e_phoff, e_shoff, e_flags, e_ehsize, e_phentsize, e_phnum, e_shnum}
-use Rattle.elf_files.specs.Fields.{e_class, e_encoding, e_ident_version, e_shentsize, e_shstrndx}
-use Rattle.qed_model.specs.Elf.Written.{fields_bytes, program_headers, segments_bytes}
-use Rattle.qed_model.specs.Elf.Layout.{own_bytes, symbols_bytes, entries_of, string_table, symbol_names, section_names, headers_bytes, headers_of, file_fields, start_of, own_place, symbols_place, strings_place, names_place, headers_place, tables_bytes, written}
-use Rattle.qed_model.proofs.Fields.{slice_index-field, field-fields_bytes, size_before, size_at, value_at}
-use Rattle.qed_model.proofs.ProgramHeaders.{length-program_headers, length-segments_bytes}
+use Rattle.machine.specs.Numbers.{field}
+use Rattle.tests.specs.Files.Header.{e_type, e_machine, e_version, e_entry, e_phoff, e_shoff, e_flags, e_ehsize, e_phentsize, e_phnum, e_shnum}
+use Rattle.tests.specs.Files.Fields.{e_class, e_encoding, e_ident_version, e_shentsize, e_shstrndx}
+use Rattle.tests.specs.Elf.Written.{fields_bytes, program_headers, segments_bytes}
+use Rattle.tests.specs.Elf.Layout.{own_bytes, symbols_bytes, entries_of, string_table, symbol_names, section_names, headers_bytes, headers_of, file_fields, start_of, own_place, symbols_place, strings_place, names_place, headers_place, tables_bytes, written}
+use Rattle.tests.proofs.Lemmas.{slice_index-field, field-fields_bytes, size_before, size_at, value_at, length-program_headers, length-segments_bytes}
 use Rattle.elf_write.proofs.Sizes.{laid_out, length-file_fields, length-symbols_bytes, length-entries_from}
 use Rattle.elf_write.proofs.Stands.{Stands, stands_whole, stands_left, stands_right}
 

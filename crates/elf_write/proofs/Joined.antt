@@ -2,7 +2,7 @@
 use Rattle.std.proofs.Common.{◌≡◌, ℕ, List, [], ◌∷◌, ◌++◌, refl, append_assoc}
 use Rattle.std.proofs.lemmas.List.{append-nil}
 use Rattle.elf_types.specs.declared.records.SectionHeader.{SectionHeader}
-use Rattle.qed_model.specs.Elf.Layout.{header_bytes, headers_bytes, table_header}
+use Rattle.tests.specs.Elf.Layout.{header_bytes, headers_bytes, table_header}
 
 -- two parts, appended to a third
 pub joined_two : (out one two a b : List ℕ) → one ≡ out ++ a → two ≡ one ++ b → two ≡ out ++ (a ++ b)

@@ -1,8 +1,8 @@
 -- Records of a table that is known as a list.
 use Rattle.std.proofs.Common.{◌≡◌, ℕ, zero, suc, ◌+◌, ◌<◌, Bool, false, List, [], ◌∷◌, length, map, get_or, None, refl, ap, ◌∙◌, arith}
 use Rattle.std.specs.Prelude.{All}
-use Rattle.qed_model.specs.Below.{first, sum_below, each}
-use Rattle.qed_model.proofs.BelowLaws.{first_none}
+use Rattle.machine.specs.Below.{first, sum_below, each}
+use Rattle.machine.proofs.Lemmas.{first_none}
 
 -- at each number below its length, the function gives the list's item
 pub record Lists {X : Type 0} (g : ℕ → X) (xs : List X) : Type 0 where

@@ -3,9 +3,9 @@ use Rattle.std.proofs.Common.{◌≡◌, ℕ, ◌+◌, ◌-◌, ◌<◌, false, 
 use Rattle.std.proofs.lemmas.Bool.Decides.{nat_tests}
 use Rattle.std.proofs.lemmas.List.{get_or_append_left, get_or_at}
 use Rattle.std.proofs.lemmas.Bool.{ne_eqb}
-use Rattle.elf_files.specs.Rules.{name_length, name_at, is_unended}
-use Rattle.qed_model.specs.Elf.Layout.{IsName, names_bytes, string_table}
-use Rattle.qed_model.proofs.BelowLaws.{first_found}
+use Rattle.tests.specs.Files.Rules.{name_length, name_at, is_unended}
+use Rattle.tests.specs.Elf.Layout.{IsName, names_bytes, string_table}
+use Rattle.machine.proofs.Lemmas.{first_found}
 use Rattle.elf_write.proofs.Stands.{Stands, stands_whole, stands_left, stands_right, stands_within, stands_slice, stands_item}
 
 -- what is read at an offset of a string table

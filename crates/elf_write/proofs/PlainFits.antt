@@ -1,14 +1,14 @@
 -- Files of such segments and sections can be written.
-use Rattle.std.proofs.Common.{◌≡◌, ℕ, ◌+◌, ◌*◌, ◌^◌, ◌≤◌, true, false, List, length, refl, sym, ◌∙◌, arith}
+use Rattle.std.proofs.Common.{◌≡◌, ℕ, ◌+◌, ◌*◌, ◌^◌, ◌≤◌, true, List, length, refl, sym, ◌∙◌, arith}
 use Rattle.std.specs.Prelude.{nat_le}
 use Rattle.std.proofs.lemmas.Bool.{and_from, le-leb, false≢true}
 use Rattle.elf_types.specs.declared.file.Segment.{Segment}
 use Rattle.elf_types.specs.declared.output.OutFile.{OutFile}
 use Rattle.elf_types.specs.Abi.{has_alloc}
-use Rattle.qed_model.specs.Elf.Written.{offset_from}
-use Rattle.qed_model.specs.Elf.Layout.{written, string_table, symbol_names, own_bytes, own_place, symbols_place, strings_place, names_place, headers_place, section_names, is_inside, IsLoadable, IsPlaced}
-use Rattle.qed_model.proofs.Among.{any_passing}
-use Rattle.qed_model.specs.Members.{Among}
+use Rattle.tests.specs.Elf.Written.{offset_from}
+use Rattle.tests.specs.Elf.Layout.{written, string_table, symbol_names, own_bytes, own_place, symbols_place, strings_place, names_place, headers_place, section_names, is_inside, IsLoadable, IsPlaced}
+use Rattle.machine.proofs.Lemmas.{any_passing}
+use Rattle.machine.specs.Members.{Among}
 use Rattle.elf_write.proofs.Sizes.{length-written}
 use Rattle.elf_write.specs.Plain.{segment, section}
 

@@ -5,12 +5,12 @@ use Rattle.elf_types.specs.declared.file.Segment.{Segment}
 use Rattle.elf_types.specs.declared.records.ProgramHeader.{ProgramHeader}
 use Rattle.elf_types.specs.declared.records.SectionHeader.{SectionHeader}
 use Rattle.elf_types.specs.declared.records.SymbolEntry.{SymbolEntry}
-use Rattle.qed_model.specs.Numbers.{field}
-use Rattle.elf_files.specs.Header.{e_phoff, e_shoff}
-use Rattle.elf_files.specs.Fields.{program_header, section_header, symbol_entry}
-use Rattle.qed_model.specs.Elf.Written.{fields_bytes, program_fields, program_headers, offset_from}
-use Rattle.qed_model.specs.Elf.Layout.{symbol_fields, symbol_bytes, symbols_bytes, section_fields, header_bytes, headers_bytes, alignment}
-use Rattle.qed_model.proofs.Fields.{slice_index-field, length-fields_bytes}
+use Rattle.machine.specs.Numbers.{field}
+use Rattle.tests.specs.Files.Header.{e_phoff, e_shoff}
+use Rattle.tests.specs.Files.Fields.{program_header, section_header, symbol_entry}
+use Rattle.tests.specs.Elf.Written.{fields_bytes, program_fields, program_headers, offset_from}
+use Rattle.tests.specs.Elf.Layout.{symbol_fields, symbol_bytes, symbols_bytes, section_fields, header_bytes, headers_bytes, alignment}
+use Rattle.tests.proofs.Lemmas.{slice_index-field, length-fields_bytes}
 use Rattle.elf_write.proofs.Sizes.{length-symbol_bytes, length-header_bytes}
 use Rattle.elf_write.proofs.Stands.{Stands, stands_left, stands_right, stands_at, AllRead, stands_fields}
 use Rattle.elf_write.proofs.Listing.{Lists}

@@ -10,10 +10,10 @@ use Rattle.elf_types.specs.declared.file.Section.{Section}
 use Rattle.elf_types.specs.declared.output.OutSection.{OutSection}
 use Rattle.elf_types.specs.declared.records.SectionHeader.{SectionHeader}
 use Rattle.elf_types.specs.Abi.{has_alloc}
-use Rattle.elf_files.specs.Rules.{name_at, is_unended}
-use Rattle.qed_model.specs.Elf.Written.{offset_from, end_from}
-use Rattle.qed_model.specs.Elf.Layout.{IsLoadable, IsPlaced, IsName, names_bytes, is_in_memory, is_inside, offset_in, own_bytes, header_with, headers_from}
-use Rattle.qed_model.specs.Elf.FileRead.{section_read}
+use Rattle.tests.specs.Files.Rules.{name_at, is_unended}
+use Rattle.tests.specs.Elf.Written.{offset_from, end_from}
+use Rattle.tests.specs.Elf.Layout.{IsLoadable, IsPlaced, IsName, names_bytes, is_in_memory, is_inside, offset_in, own_bytes, header_with, headers_from}
+use Rattle.tests.specs.Elf.FileRead.{section_read}
 use Rattle.elf_write.specs.Widths.{SectionFits}
 use Rattle.elf_write.proofs.Places.{end_from_above}
 use Rattle.elf_write.proofs.Stands.{Stands}

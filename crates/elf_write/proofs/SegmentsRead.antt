@@ -9,14 +9,14 @@ use Rattle.std.proofs.lemmas.List.Elements.{All-cons, All-nil, All-head, All-tai
 use Rattle.elf_types.specs.declared.file.Segment.{Segment}
 use Rattle.elf_types.specs.declared.records.ProgramHeader.{ProgramHeader}
 use Rattle.elf_types.specs.Abi.{is_load}
-use Rattle.qed_model.specs.Below.{first, sum_below, each}
-use Rattle.elf_files.specs.Header.{e_phnum}
-use Rattle.elf_files.specs.Fields.{program_header}
-use Rattle.elf_files.specs.Rules.{is_segment_outside, segment_place_rule, is_misshapen, segment_shape_rule, do_overlap, overlapped, segment_overlap_rule, file_size}
-use Rattle.elf_files.specs.File.{load_bytes, segment_of}
-use Rattle.qed_model.specs.Elf.Written.{segments_bytes, offset_from, end_from}
-use Rattle.qed_model.specs.Elf.Layout.{IsLoadable, do_share}
-use Rattle.qed_model.proofs.BelowLaws.{first_none}
+use Rattle.machine.specs.Below.{first, sum_below, each}
+use Rattle.tests.specs.Files.Header.{e_phnum}
+use Rattle.tests.specs.Files.Fields.{program_header}
+use Rattle.tests.specs.Files.Rules.{is_segment_outside, segment_place_rule, is_misshapen, segment_shape_rule, do_overlap, overlapped, segment_overlap_rule, file_size}
+use Rattle.tests.specs.Files.File.{load_bytes, segment_of}
+use Rattle.tests.specs.Elf.Written.{segments_bytes, offset_from, end_from}
+use Rattle.tests.specs.Elf.Layout.{IsLoadable, do_share}
+use Rattle.machine.proofs.Lemmas.{first_none}
 use Rattle.elf_write.specs.Widths.{SegmentFits}
 use Rattle.elf_write.proofs.Places.{end_from_above}
 use Rattle.elf_write.proofs.Stands.{Stands, stands_left, stands_right, stands_within, stands_slice}

@@ -7,11 +7,10 @@ use Rattle.elf_types.specs.declared.output.OutFile.{OutFile}
 use Rattle.elf_types.specs.declared.output.OutSection.{OutSection}
 use Rattle.elf_types.specs.declared.records.SectionHeader.{SectionHeader}
 use Rattle.elf_types.specs.declared.records.SymbolEntry.{SymbolEntry}
-use Rattle.qed_model.specs.Elf.Written.{fields_bytes, program_headers, segments_bytes, end_from}
-use Rattle.qed_model.specs.Elf.Layout.{names_bytes, string_table, symbol_names, section_names, table_names, symbol_fields, symbol_bytes, symbols_bytes, entries_from, entries_of, own_bytes, section_fields, header_bytes, headers_bytes, headers_from, headers_of, table_headers, file_fields, start_of, own_place, symbols_place, strings_place, names_place, headers_place, tables_bytes, written}
+use Rattle.tests.specs.Elf.Written.{fields_bytes, program_headers, segments_bytes, end_from}
+use Rattle.tests.specs.Elf.Layout.{names_bytes, string_table, symbol_names, section_names, table_names, symbol_fields, symbol_bytes, symbols_bytes, entries_from, entries_of, own_bytes, section_fields, header_bytes, headers_bytes, headers_from, headers_of, table_headers, file_fields, start_of, own_place, symbols_place, strings_place, names_place, headers_place, tables_bytes, written}
 use Rattle.elf_write.specs.Places.{EndsWithin}
-use Rattle.qed_model.proofs.Fields.{length-fields_bytes}
-use Rattle.qed_model.proofs.ProgramHeaders.{length-program_headers, length-segments_bytes}
+use Rattle.tests.proofs.Lemmas.{length-fields_bytes, length-program_headers, length-segments_bytes}
 
 -- ---- records
 pub length-symbol_bytes : (e : SymbolEntry) → length (symbol_bytes e) ≡ 24

@@ -1,9 +1,9 @@
 -- Bytes that stand at an offset of others.
 use Rattle.std.proofs.Common.{◌≡◌, ℕ, ◌+◌, ◌^◌, ◌<◌, ◌≤◌, List, [], ◌∷◌, ◌++◌, length, take, drop, get_or, refl, sym, ap, subst, ◌∙◌, append_assoc, arith, length-append}
 use Rattle.std.proofs.lemmas.List.{take_at, drop_at, get_or-drop, get_or_append_left, append-nil}
-use Rattle.qed_model.specs.Numbers.{field, number_bytes}
-use Rattle.qed_model.specs.Elf.Written.{fields_bytes}
-use Rattle.qed_model.proofs.Fields.{field-number_bytes, length-number_bytes}
+use Rattle.machine.specs.Numbers.{field, number_bytes}
+use Rattle.tests.specs.Elf.Written.{fields_bytes}
+use Rattle.tests.proofs.Lemmas.{field-number_bytes, length-number_bytes}
 
 -- the bytes xs stand in the file at an offset
 pub record Stands (file : List ℕ) (at : ℕ) (xs : List ℕ) : Type 0 where

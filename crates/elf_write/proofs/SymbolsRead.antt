@@ -7,13 +7,13 @@ use Rattle.elf_types.specs.declared.file.Symbol.{Symbol}
 use Rattle.elf_types.specs.declared.output.OutFile.{OutFile}
 use Rattle.elf_types.specs.declared.records.SectionHeader.{SectionHeader}
 use Rattle.elf_types.specs.declared.records.SymbolEntry.{SymbolEntry}
-use Rattle.qed_model.specs.Below.{sum_below, each}
-use Rattle.elf_files.specs.Header.{e_shnum}
-use Rattle.elf_files.specs.Fields.{symbol_entry}
-use Rattle.elf_files.specs.Rules.{is_unended, name_at, section_bytes, strings_of, is_misnamed, symbols_rule, symbol_shape_rule, symbol_table, symbol_name, symbol_name_bytes}
-use Rattle.elf_files.specs.File.{symbol_of, symbols_at}
-use Rattle.qed_model.specs.Elf.Layout.{string_table, symbol_names, names_bytes, symbols_bytes, entry_with, entries_from, null_entry, entries_of, symtab_header, null_symbol, IsName, IsSymbol}
-use Rattle.qed_model.proofs.BelowLaws.{first_none}
+use Rattle.machine.specs.Below.{sum_below, each}
+use Rattle.tests.specs.Files.Header.{e_shnum}
+use Rattle.tests.specs.Files.Fields.{symbol_entry}
+use Rattle.tests.specs.Files.Rules.{is_unended, name_at, section_bytes, strings_of, is_misnamed, symbols_rule, symbol_shape_rule, symbol_table, symbol_name, symbol_name_bytes}
+use Rattle.tests.specs.Files.File.{symbol_of, symbols_at}
+use Rattle.tests.specs.Elf.Layout.{string_table, symbol_names, names_bytes, symbols_bytes, entry_with, entries_from, null_entry, entries_of, symtab_header, null_symbol, IsName, IsSymbol}
+use Rattle.machine.proofs.Lemmas.{first_none}
 use Rattle.elf_write.specs.Widths.{SymbolFits}
 use Rattle.elf_write.proofs.Sizes.{length-entries_from}
 use Rattle.elf_write.proofs.Stands.{Stands, stands_whole}

@@ -9,11 +9,11 @@ use Rattle.std.proofs.lemmas.List.Elements.{All-cons, All-nil, All-append}
 use Rattle.elf_types.specs.declared.output.OutFile.{OutFile}
 use Rattle.elf_types.specs.declared.records.SectionHeader.{SectionHeader}
 use Rattle.elf_types.specs.Abi.{is_string_table}
-use Rattle.elf_files.specs.Header.{e_shnum}
-use Rattle.elf_files.specs.Fields.{e_shstrndx, section_header}
-use Rattle.elf_files.specs.Rules.{names_header, is_unended, is_section_outside, section_place_rule, section_bytes, is_section_misshapen, section_shape_rule, section_strings, symbol_table}
-use Rattle.qed_model.specs.Elf.Layout.{string_table, symbol_names, section_names, symbols_bytes, entries_of, start_of, own_place, symbols_place, strings_place, names_place, table_header, null_header, headers_from, symtab_header, strtab_header, shstrtab_header, table_headers, headers_of}
-use Rattle.qed_model.proofs.BelowLaws.{first_found, first_none}
+use Rattle.tests.specs.Files.Header.{e_shnum}
+use Rattle.tests.specs.Files.Fields.{e_shstrndx, section_header}
+use Rattle.tests.specs.Files.Rules.{names_header, is_unended, is_section_outside, section_place_rule, section_bytes, is_section_misshapen, section_shape_rule, section_strings, symbol_table}
+use Rattle.tests.specs.Elf.Layout.{string_table, symbol_names, section_names, symbols_bytes, entries_of, start_of, own_place, symbols_place, strings_place, names_place, table_header, null_header, headers_from, symtab_header, strtab_header, shstrtab_header, table_headers, headers_of}
+use Rattle.machine.proofs.Lemmas.{first_found, first_none}
 use Rattle.elf_write.proofs.Sizes.{length-headers_of, length-headers_from, length-symbols_bytes, length-entries_from}
 use Rattle.elf_write.proofs.Stands.{Stands, stands_slice}
 use Rattle.elf_write.proofs.Listing.{Lists, none_passes}

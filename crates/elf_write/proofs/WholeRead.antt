@@ -1,5 +1,5 @@
 -- The file that was written, read: no rule refuses it, and its parts are those that were given.
-use Rattle.std.proofs.Common.{◌≡◌, ◌≢◌, ℕ, zero, suc, ◌+◌, ◌*◌, ◌^◌, ◌<◌, ◌≤◌, ◌||◌, Bool, true, false, cond, ltb, eqb, List, [], ◌∷◌, ◌++◌, length, map, get_or, None, Ok, refl, sym, ap, ◌∙◌, arith, length-append}
+use Rattle.std.proofs.Common.{◌≡◌, ◌≢◌, ℕ, zero, suc, ◌+◌, ◌*◌, ◌^◌, ◌<◌, ◌≤◌, Bool, true, false, cond, ltb, eqb, List, [], ◌∷◌, ◌++◌, length, map, get_or, None, Ok, refl, sym, ap, ◌∙◌, arith, length-append}
 use Rattle.std.specs.Prelude.{All}
 use Rattle.std.specs.Option.{is_some}
 use Rattle.std.proofs.Math.Bool.{and-false, or-true}
@@ -12,16 +12,16 @@ use Rattle.elf_types.specs.declared.file.Symbol.{Symbol}
 use Rattle.elf_types.specs.declared.output.OutFile.{OutFile}
 use Rattle.elf_types.specs.declared.output.OutSection.{OutSection}
 use Rattle.elf_types.specs.declared.records.SectionHeader.{SectionHeader}
-use Rattle.qed_model.specs.Below.{sum_below, each, gather}
-use Rattle.elf_files.specs.Header.{e_phoff, e_shoff, e_phnum, e_shnum}
-use Rattle.elf_files.specs.Fields.{program_header, section_header}
-use Rattle.elf_files.specs.Rules.{magic_rule, header_rule, class_rule, encoding_rule, version_rule, file_type_rule, machine_rule, header_shape_rule, header_rules, program_table_rule, section_table_rule, table_rules, part_rules, section_strings, section_name, rela_fault, rela_shape_rule, file_size, counted_bytes, verdict}
-use Rattle.elf_files.specs.File.{section_of, relas_of, WithinReadLimits, IsReadAs}
-use Rattle.qed_model.specs.Elf.Written.{program_headers}
-use Rattle.qed_model.specs.Elf.Layout.{IsWritable, IsName, table_header, names_bytes, string_table, symbol_names, section_names, table_names, symtab_name, strtab_name, shstrtab_name, first_global, headers_bytes, headers_of, null_header, symtab_header, strtab_header, shstrtab_header, start_of, own_place, headers_place, written}
-use Rattle.qed_model.specs.Elf.FileRead.{null_section, section_read, table_read, tables_read, file_read}
-use Rattle.qed_model.proofs.ProgramHeaders.{length-program_headers}
-use Rattle.qed_model.proofs.BelowLaws.{gather_nothing}
+use Rattle.machine.specs.Below.{sum_below, each, gather}
+use Rattle.tests.specs.Files.Header.{e_phoff, e_shoff, e_phnum, e_shnum}
+use Rattle.tests.specs.Files.Fields.{program_header, section_header}
+use Rattle.tests.specs.Files.Rules.{magic_rule, header_rule, class_rule, encoding_rule, version_rule, file_type_rule, machine_rule, header_shape_rule, header_rules, program_table_rule, section_table_rule, table_rules, part_rules, section_strings, section_name, rela_fault, rela_shape_rule, file_size, counted_bytes, verdict}
+use Rattle.tests.specs.Files.File.{section_of, relas_of, WithinReadLimits, IsReadAs}
+use Rattle.tests.specs.Elf.Written.{program_headers}
+use Rattle.tests.specs.Elf.Layout.{IsWritable, IsName, table_header, names_bytes, string_table, symbol_names, section_names, table_names, symtab_name, strtab_name, shstrtab_name, first_global, headers_bytes, headers_of, null_header, symtab_header, strtab_header, shstrtab_header, start_of, own_place, headers_place, written}
+use Rattle.tests.specs.Elf.FileRead.{null_section, section_read, table_read, tables_read, file_read}
+use Rattle.tests.proofs.Lemmas.{length-program_headers}
+use Rattle.machine.proofs.Lemmas.{gather_nothing}
 use Rattle.elf_write.specs.Widths.{SegmentFits, SectionFits, SymbolFits}
 use Rattle.elf_write.proofs.Sizes.{ends_within, laid_out, length-written, length-headers_of, length-section_names}
 use Rattle.elf_write.proofs.Stands.{Stands, stands_at, stands_within}

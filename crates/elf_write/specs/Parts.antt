@@ -1,8 +1,8 @@
 -- The parts of the file that are written by one function each.
 use Rattle.std.specs.Prelude.{ℕ, ◌+◌, ◌-◌, List, ◌++◌, length, replicate}
 use Rattle.elf_types.specs.declared.output.OutFile.{OutFile}
-use Rattle.qed_model.specs.Elf.Written.{program_headers, segments_bytes}
-use Rattle.qed_model.specs.Elf.Layout.{file_header, start_of, own_bytes, own_place, symbols_place, symbols_bytes, entries_of, string_table, symbol_names, section_names}
+use Rattle.tests.specs.Elf.Written.{program_headers, segments_bytes}
+use Rattle.tests.specs.Elf.Layout.{file_header, start_of, own_bytes, own_place, symbols_place, symbols_bytes, entries_of, string_table, symbol_names, section_names}
 
 -- the header, the program headers and the segments
 abbrev pub front_bytes : OutFile → List ℕ

@@ -2,8 +2,8 @@
 use Rattle.std.specs.Prelude.{◌≡◌, ℕ, ◌+◌, ◌≤◌, length, map}
 use Rattle.elf_types.specs.declared.output.OutFile.{OutFile}
 use Rattle.elf_write.specs.declared.layout.Places.{Places}
-use Rattle.qed_model.specs.Elf.Written.{end_from}
-use Rattle.qed_model.specs.Elf.Layout.{names_bytes, string_table, symbol_names, section_names, own_bytes, start_of, own_place, symbols_place, strings_place, names_place, headers_place}
+use Rattle.tests.specs.Elf.Written.{end_from}
+use Rattle.tests.specs.Elf.Layout.{names_bytes, string_table, symbol_names, section_names, own_bytes, start_of, own_place, symbols_place, strings_place, names_place, headers_place}
 
 -- the places are those of the file
 pub record ArePlaces (f : OutFile) (p : Places) : Type 0 where

@@ -1,6 +1,6 @@
 //! Where the parts of the file stand.
 ghost use Rattle.std.specs.Prelude.{◌≡◌, ◌+◌, ◌^◌, ◌<◌};
-ghost use Rattle.qed_model.specs.Elf.Layout.{aligned as aligned_to_8};
+ghost use Rattle.tests.specs.Elf.Layout.{aligned as aligned_to_8};
 ghost use Rattle.elf_write.specs.Places.{ArePlaces};
 
 use crate::segments::end_from;
@@ -42,7 +42,7 @@ fn aligned(at: u128) -> u128
 }
 
 /// The places of a file's parts.
-#[tactic(auto, unfolding(qed_model::specs::Elf::Layout::own_place, qed_model::specs::Elf::Layout::symbols_place, qed_model::specs::Elf::Layout::strings_place, qed_model::specs::Elf::Layout::names_place, qed_model::specs::Elf::Layout::headers_place))]
+#[tactic(auto, unfolding(tests::specs::Elf::Layout::own_place, tests::specs::Elf::Layout::symbols_place, tests::specs::Elf::Layout::strings_place, tests::specs::Elf::Layout::names_place, tests::specs::Elf::Layout::headers_place))]
 pub fn places_of(file: &OutFile) -> Places
     ensures places { ArePlaces file.now result }
     ensures bound { result.headers < 2 ^ 127 }

@@ -1,6 +1,6 @@
 //! Little-endian numbers in bytes.
 ghost use Rattle.std.specs.Prelude.{◌≡◌, ◌++◌, OnOk, map, replicate, [], ◌∷◌};
-ghost use Rattle.qed_model.specs.Elf.Written.{fields_bytes};
+ghost use Rattle.tests.specs.Elf.Written.{fields_bytes};
 ghost use Rattle.elf_write.specs.Numbers.{size_and_value};
 
 use byteorder::{ByteOrder, LittleEndian};
@@ -16,7 +16,7 @@ pub enum Number {
 }
 
 /// Appends a number's bytes, the lowest first.
-#[tactic(auto, unfolding(qed_model::specs::Numbers::number_bytes))]
+#[tactic(auto, unfolding(machine::specs::Numbers::number_bytes))]
 fn push_number(file: &mut Vec<u8>, number: Number) -> Result<(), AllocError>
     ensures { OnOk result (file.new.items ≡ file.old.items ++ fields_bytes (size_and_value number ∷ [])) }
 {

@@ -1,9 +1,9 @@
 //! The parts of the file, one behind the other.
 ghost use Rattle.std.specs.Prelude.{◌≡◌, ◌-◌, ◌^◌, ◌<◌, ◌≤◌, ◌++◌, OnOk, All, length};
-ghost use Rattle.qed_model.specs.declared.limits.TheConstants.{MAX_OUTPUT_SECTIONS};
-ghost use Rattle.qed_model.specs.declared.limits.Limit.TheVariants as limit;
-ghost use Rattle.qed_model.specs.Limits.{limit_of};
-ghost use Rattle.qed_model.specs.Elf.Layout.{IsSymbol, names_bytes, table_names, headers_bytes, headers_of, table_headers, table_header as header_of_table, tables_bytes};
+ghost use Rattle.machine.specs.declared.limits.TheConstants.{MAX_OUTPUT_SECTIONS};
+ghost use Rattle.machine.specs.declared.limits.Limit.TheVariants as limit;
+ghost use Rattle.machine.specs.Limits.{limit_of};
+ghost use Rattle.tests.specs.Elf.Layout.{IsSymbol, names_bytes, table_names, headers_bytes, headers_of, table_headers, table_header as header_of_table, tables_bytes};
 ghost use Rattle.elf_write.specs.Parts.{front_bytes, own_and_symbols, names_of};
 ghost use Rattle.elf_write.specs.Widths.{FrontFits, SectionFits, SymbolFits, TablesFit};
 ghost use Rattle.elf_write.specs.Places.{ArePlaces, EndsWithin};

@@ -1,9 +1,9 @@
 //! The records of the file's tables (ELF gABI): header, program header, symbol, section header.
 ghost use Rattle.std.specs.Prelude.{◌≡◌, ◌+◌, ◌^◌, ◌<◌, ◌≤◌, ◌++◌, OnOk, length};
-ghost use Rattle.qed_model.specs.declared.limits.TheConstants.{MAX_OUTPUT_SECTIONS};
-ghost use Rattle.qed_model.specs.Elf.Written.{fields_bytes, program_fields};
+ghost use Rattle.machine.specs.declared.limits.TheConstants.{MAX_OUTPUT_SECTIONS};
+ghost use Rattle.tests.specs.Elf.Written.{fields_bytes, program_fields};
 ghost use Rattle.elf_write.specs.Widths.{SegmentFits};
-ghost use Rattle.qed_model.specs.Elf.Layout.{file_fields, symbol_bytes, header_bytes, alignment as alignment_of};
+ghost use Rattle.tests.specs.Elf.Layout.{file_fields, symbol_bytes, header_bytes, alignment as alignment_of};
 
 use crate::numbers::{Number, push_numbers};
 use byteorder::{ByteOrder, LittleEndian};
@@ -12,10 +12,8 @@ use elf_types::abi::{
     SHDR_SIZE, SHT_NULL, SHT_SYMTAB,
 };
 use elf_types::{SectionHeader, Segment, SymbolEntry};
+use rv_isa::profile::PAGE;
 use std::alloc::AllocError;
-
-/// The alignment of segments, in bytes.
-pub const PAGE: u64 = 4096;
 
 /// The header of the null section.
 pub const NULL: SectionHeader = SectionHeader {
@@ -96,7 +94,7 @@ pub fn push_program_header(
 }
 
 /// The bytes of an entry of the symbol table.
-#[tactic(auto, unfolding(qed_model::specs::Elf::Layout::symbol_bytes, qed_model::specs::Numbers::number_bytes))]
+#[tactic(auto, unfolding(tests::specs::Elf::Layout::symbol_bytes, machine::specs::Numbers::number_bytes))]
 fn symbol_bytes(entry: SymbolEntry) -> [u8; 24]
     ensures { result ≡ symbol_bytes entry }
 {
@@ -129,7 +127,7 @@ fn alignment(kind: u32) -> u64
 }
 
 /// Appends a section header.
-#[tactic(auto, unfolding(qed_model::specs::Elf::Layout::header_bytes))]
+#[tactic(auto, unfolding(tests::specs::Elf::Layout::header_bytes))]
 pub fn push_section_header(out: &mut Vec<u8>, header: SectionHeader) -> Result<(), AllocError>
     ensures { OnOk result (out.new.items ≡ out.old.items ++ header_bytes header) }
 {

@@ -1,11 +1,11 @@
 //! The sections' own bytes, their headers and their names.
 ghost use Rattle.std.specs.Prelude.{◌≡◌, ℕ, ◌+◌, ◌^◌, ◌<◌, ◌≤◌, ◌++◌, OnOk, All, length, map, if◌then◌else◌};
 ghost use Rattle.std.specs.Bool.{OnTrue};
-ghost use Rattle.qed_model.specs.declared.limits.Limit.TheVariants as limit;
-ghost use Rattle.qed_model.specs.Limits.{limit_of};
+ghost use Rattle.machine.specs.declared.limits.Limit.TheVariants as limit;
+ghost use Rattle.machine.specs.Limits.{limit_of};
 ghost use Rattle.elf_types.specs.Abi.{has_alloc};
-ghost use Rattle.qed_model.specs.Elf.Written.{end_from};
-ghost use Rattle.qed_model.specs.Elf.Layout.{names_bytes, own_bytes, is_inside as lies_inside, offset_in as offset_inside, header_bytes, header_with, headers_bytes, headers_from};
+ghost use Rattle.tests.specs.Elf.Written.{end_from};
+ghost use Rattle.tests.specs.Elf.Layout.{names_bytes, own_bytes, is_inside as lies_inside, offset_in as offset_inside, header_bytes, header_with, headers_bytes, headers_from};
 ghost use Rattle.elf_write.specs.Widths.{SectionFits};
 
 use crate::records::{NULL, push_section_header};

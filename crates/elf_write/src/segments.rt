@@ -1,20 +1,22 @@
 //! Program headers and the bytes of segments.
 ghost use Rattle.std.specs.Prelude.{◌≡◌, ◌+◌, ◌^◌, ◌<◌, ◌≤◌, ◌++◌, OnOk, All};
-ghost use Rattle.qed_model.specs.declared.limits.Limit.TheVariants as limit;
-ghost use Rattle.qed_model.specs.Limits.{limit_of};
-ghost use Rattle.qed_model.specs.Elf.Written.{offset_from as least_offset, end_from as segments_end, program_headers, segments_bytes};
+ghost use Rattle.rv_isa.specs.declared.profile.TheConstants.{PAGE};
+ghost use Rattle.machine.specs.declared.limits.Limit.TheVariants as limit;
+ghost use Rattle.machine.specs.Limits.{limit_of};
+ghost use Rattle.tests.specs.Elf.Written.{offset_from as least_offset, end_from as segments_end, program_headers, segments_bytes};
 ghost use Rattle.elf_write.specs.Widths.{SegmentFits};
 
 use crate::numbers::push_zeros;
-use crate::records::{PAGE, push_program_header};
+use crate::records::push_program_header;
 use elf_types::Segment;
+use rv_isa::profile::PAGE;
 use std::alloc::AllocError;
 
 /// The least offset from `at` on that equals the address modulo a page.
 pub fn offset_from(at: u128, address: u64) -> u128
     requires { at < 2 ^ 127 }
     ensures value { result ≡ least_offset at address }
-    ensures bound { result < at + 4096 }
+    ensures bound { result < at + PAGE }
 {
     let page = u128::from(PAGE);
     at + (u128::from(address) % page + page - at % page) % page

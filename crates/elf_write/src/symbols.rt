@@ -1,8 +1,8 @@
 //! The symbol table and its string table.
 ghost use Rattle.std.specs.Prelude.{◌≡◌, ℕ, ◌+◌, ◌^◌, ◌<◌, ◌≤◌, ◌++◌, OnOk, All, length, [], ◌∷◌};
-ghost use Rattle.qed_model.specs.declared.limits.Limit.TheVariants as limit;
-ghost use Rattle.qed_model.specs.Limits.{limit_of};
-ghost use Rattle.qed_model.specs.Elf.Layout.{names_bytes, symbol_names, symbols_bytes, entry_with, entries_from, entries_of, first_global as first_global_from, IsSymbol};
+ghost use Rattle.machine.specs.declared.limits.Limit.TheVariants as limit;
+ghost use Rattle.machine.specs.Limits.{limit_of};
+ghost use Rattle.tests.specs.Elf.Layout.{names_bytes, symbol_names, symbols_bytes, entry_with, entries_from, entries_of, first_global as first_global_from, IsSymbol};
 ghost use Rattle.elf_write.specs.Widths.{SymbolFits};
 
 use crate::records::push_symbol_entry;

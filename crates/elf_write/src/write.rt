@@ -1,8 +1,8 @@
 //! The whole file.
 ghost use Rattle.std.specs.Prelude.{◌≡◌, IfOk, length};
-ghost use Rattle.elf_files.specs.File.{IsReadAs};
-ghost use Rattle.qed_model.specs.Elf.FileRead.{file_read};
-ghost use Rattle.qed_model.specs.Elf.Layout.{IsWritable, written};
+ghost use Rattle.tests.specs.Files.File.{IsReadAs};
+ghost use Rattle.tests.specs.Elf.FileRead.{file_read};
+ghost use Rattle.tests.specs.Elf.Layout.{IsWritable, written};
 
 use crate::layout::places_of;
 use crate::parts::{push_front, push_tables};

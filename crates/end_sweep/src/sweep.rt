@@ -7,6 +7,7 @@ ghost use Rattle.plc_rounds.specs.Spans.{spans_of};
 use eddi_dup::CompareAll;
 use passes::{Emit, Pass, plain};
 use qed_model::{Item, Range, Ranges};
+use rv_isa::profile::{CURSOR, DISTANCE, SPARE, TEMPORARY};
 use rv_isa::{Ins, Kind, register};
 use std::alloc::AllocError;
 
@@ -22,13 +23,13 @@ fn put_range(range: Range, out: &mut Emit) -> Result<(), AllocError>
     ensures none { OnErr result (out.new ≡ out.old) }
 {
     let zero = register(0);
-    let cursor = register(15);
-    let word = register(30);
-    let mirror = register(31);
+    let cursor = register(CURSOR);
+    let word = register(TEMPORARY);
+    let mirror = register(SPARE);
     out.put(&[
         Item::Constant(cursor, range.start),
         plain(Kind::Ld, word, cursor, zero, 0),
-        plain(Kind::Add, mirror, cursor, register(14), 0),
+        plain(Kind::Add, mirror, cursor, register(DISTANCE), 0),
         plain(Kind::Ld, mirror, mirror, zero, 0),
         plain(Kind::Beq, zero, word, mirror, 8),
         plain(Kind::Ebreak, zero, zero, zero, 0),
@@ -69,7 +70,7 @@ impl Pass for Sweep {
     ghost use Rattle.rv_isa.specs.declared.class.Class.TheVariants as class;
     ghost use Rattle.rv_isa.specs.Kind.{class_of};
     ghost use Rattle.qed_model.specs.Weave.Bounds.{end_bound};
-    ghost use Rattle.qed_model.specs.Admission.DataRanges.{word_count};
+    ghost use Rattle.tests.specs.Admission.DataRanges.{word_count};
     ghost use Rattle.plc_rounds.specs.Spans.{spans_of};
     ghost use Rattle.end_sweep.specs.Ending.{swept_end, Sweeps, SweptTo};
     ghost use Rattle.end_sweep.specs.Laws.{any, quiet_sweep, honest_sweep, lockstep_sweep};

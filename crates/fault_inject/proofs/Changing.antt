@@ -6,12 +6,12 @@ use Rattle.std.specs.Prelude.{◌==◌, All, Result, Ok, Err, IfErr}
 use Rattle.std.proofs.lemmas.List.Elements.{All-nil, All-cons}
 use Rattle.std.proofs.lemmas.Bool.{eq-eqb, ne_eqb}
 use Rattle.qed_model.specs.declared.change.Change.{Change}
-use Rattle.qed_model.specs.Machine.Step.{State, step}
-use Rattle.qed_model.specs.Machine.Progress.{Progress, advanced, steps_after, progress}
+use Rattle.machine.specs.Step.{State, step}
+use Rattle.machine.specs.Progress.{Progress, advanced, steps_after, progress}
 use Rattle.qed_model.specs.Promise.Changed.{changed, with_changes, changed_run, Ordered}
-use Rattle.qed_model.specs.Members.{Every}
-use Rattle.qed_model.proofs.Changes.{AllBy, none_left}
-use Rattle.qed_model.proofs.Pairs.{every_all}
+use Rattle.machine.specs.Members.{Every}
+use Rattle.qed_model.proofs.Lemmas.{AllBy, none_left}
+use Rattle.machine.proofs.Lemmas.{every_all}
 use Rattle.fault_inject.specs.Counted.{changed_steps, IsPartOf}
 use Rattle.rv_step.specs.Known.{IsPart}
 use Rattle.rv_step.proofs.Running.{progress_last, progress_more}

@@ -1,9 +1,8 @@
 -- Where a register is closed, by the instructions that stand at the pc and behind it.
 use Rattle.std.proofs.Common.{◌≡◌, ℕ, ◌≤◌, Bool, false, not, ◌&&◌, ◌||◌, nat_le, Some, None, refl, ap}
 use Rattle.std.proofs.lemmas.Bool.{le-leb}
-use Rattle.rv_isa.specs.declared.ins.Ins.{Ins}
-use Rattle.rv_isa.specs.Kind.{class_of}
-use Rattle.qed_model.specs.Machine.Step.{Fetched, Refused, Unknown, Known}
+use Rattle.rv_isa.specs.declared.profile.TheConstants.{LAST_ORIGINAL}
+use Rattle.machine.specs.Step.{Fetched, Refused, Unknown, Known, Ins, class_of}
 use Rattle.qed_model.specs.Promise.Closed.{uses, uses_as, guards_other, is_checked}
 use Rattle.rv_step.specs.Known.{instruction_of}
 
@@ -36,10 +35,10 @@ known (Known j) i h = let e : i ≡ j = cc in ap Known e
 
 -- whether a register is closed, by what was fetched at the pc, at the next word, and behind a guard
 abbrev pub closes : ℕ → Fetched → Fetched → Fetched → Bool
-closes r f n g = (nat_le 1 r && nat_le r 13) && ((uses r f && not (is_checked f n)) || (guards_other r f && uses r g))
+closes r f n g = (nat_le 1 r && nat_le r LAST_ORIGINAL) && ((uses r f && not (is_checked f n)) || (guards_other r f && uses r g))
 
 -- the same by four tests, for x1 to x13
 pub closes_by :
-    (r : ℕ) (f n g : Fetched) (x t y z : Bool) → 1 ≤ r → r ≤ 13 → x ≡ uses r f → t ≡ is_checked f n → y ≡ guards_other r f → z ≡ uses r g
+    (r : ℕ) (f n g : Fetched) (x t y z : Bool) → 1 ≤ r → r ≤ LAST_ORIGINAL → x ≡ uses r f → t ≡ is_checked f n → y ≡ guards_other r f → z ≡ uses r g
     → ((x && not t) || (y && z)) ≡ closes r f n g
-closes_by r f n g x t y z low high p c q o = rw (le-leb 1 r low, le-leb r 13 high, p, c, q, o) refl
+closes_by r f n g x t y z low high p c q o = rw (le-leb 1 r low, le-leb r LAST_ORIGINAL high, p, c, q, o) refl

@@ -2,25 +2,19 @@
 use Rattle.std.proofs.Common.{◌≡◌, ◌⊎◌, inl, inr, ℕ, zero, suc, ◌+◌, ◌%◌, ◌^◌, ◌<◌, ◌≤◌, Bool, true, false, cond, List, refl, sym, ap, ◌∙◌, arith}
 use Rattle.std.proofs.lemmas.Bool.{cases_lt}
 use Rattle.std.specs.Prelude.{◌==◌, nat_lt}
-use Rattle.std.specs.FinMap.{get}
 use Rattle.std.specs.Option.{option_map}
-use Rattle.rv_isa.specs.declared.class.Class.{Class}
 use Rattle.rv_isa.specs.declared.class.Class.TheVariants as class
-use Rattle.rv_isa.specs.declared.ins.Ins.{Ins}
-use Rattle.rv_isa.specs.Kind.{class_of}
-use Rattle.rv_isa.specs.Regs.{set_reg}
-use Rattle.qed_model.specs.declared.change.Place.TheVariants.{Word}
-use Rattle.qed_model.specs.declared.machine.Outcome.{Outcome}
-use Rattle.qed_model.specs.declared.machine.Outcome.TheVariants.{Going, Ended, Fired, Trapped}
-use Rattle.qed_model.specs.declared.machine.Cause.TheVariants as cause
-use Rattle.qed_model.specs.Machine.Memory.{Memory, with_byte, byte_of, grants, number, offset, put, wrap}
-use Rattle.qed_model.specs.Machine.Step.{State, Fetched, Refused, Unknown, Known, fetched_at, act, execute, jumped, moved, next, next_pc, place, reg, run, step, step_at, stored, target, trapped}
-use Rattle.qed_model.specs.Machine.Struck.{struck}
-use Rattle.qed_model.specs.Machine.Values.{holds, loaded, width_of}
-use Rattle.weave_core.proofs.Sized.{width_le}
-use Rattle.qed_model.proofs.MemoryLaws.{Apart, same_memory, get-put, get-put_outside, grants-put, number-put_apart}
+use Rattle.machine.specs.declared.place.Place.TheVariants.{Word}
+use Rattle.machine.specs.declared.outcome.Outcome.{Outcome}
+use Rattle.machine.specs.declared.outcome.Cause.TheVariants as cause
+use Rattle.machine.specs.Memory.{Memory, with_byte, byte_of, grants, number, offset, put, wrap, get}
+use Rattle.machine.specs.Step.{State, Fetched, Refused, Unknown, Known, fetched_at, act, execute, jumped, moved, next, next_pc, place, reg, run, step, step_at, stored, target, trapped, Class, Ins, class_of, set_reg}
+use Rattle.machine.specs.Struck.{struck}
+use Rattle.machine.specs.Values.{holds, loaded, width_of}
+use Rattle.weave_core.proofs.Lemmas.{width_le}
+use Rattle.machine.proofs.Lemmas.{Apart, same_memory, get-put, get-put_outside, grants-put, number-put_apart}
 use Rattle.rv_step.specs.Known.{instruction_of}
-use Rattle.fault_inject.specs.Touched.{touched_as, touched_by, IsFar, IsSpared}
+use Rattle.fault_inject.specs.Touched.{touched_as, touched_by, IsFar, IsSpared, Going, Ended, Fired, Trapped}
 
 -- ---- memory
 -- two writes of which none is at the cell of the other, in either order

@@ -2,22 +2,16 @@
 use Rattle.std.proofs.Common.{◌≡◌, ℕ, suc, ◌+◌, ◌%◌, ◌≤◌, Bool, true, false, cond, ◌&&◌, Option, Some, None, List, [], refl, sym, ap, ◌∙◌, subst, arith}
 use Rattle.std.specs.Prelude.{◌==◌, not}
 use Rattle.std.specs.Option.{option_map}
-use Rattle.rv_isa.specs.declared.ins.Ins.{Ins}
 use Rattle.rv_isa.specs.declared.class.Class.TheVariants as class
-use Rattle.rv_isa.specs.Kind.{class_of}
-use Rattle.qed_model.specs.Admission.Leaders.{is_indirect}
-use Rattle.qed_model.specs.declared.machine.Cause.TheVariants as cause
-use Rattle.qed_model.specs.declared.machine.Outcome.TheVariants.{Going}
-use Rattle.qed_model.specs.Machine.Step.{State, Known, execute, jumped, moved, trapped, next, step, run}
-use Rattle.qed_model.specs.Promise.Changed.{changed_run}
+use Rattle.tests.specs.Admission.Leaders.{is_indirect}
+use Rattle.machine.specs.declared.outcome.Cause.TheVariants as cause
+use Rattle.machine.specs.declared.outcome.Outcome.TheVariants.{Going}
+use Rattle.machine.specs.Step.{State, Known, execute, jumped, moved, trapped, next, step, run, Ins, class_of}
 use Rattle.qed_model.specs.Promise.Kept.{is_trapped, NotTrapped, IsSteady}
-use Rattle.qed_model.proofs.BelowLaws.{each_fails}
-use Rattle.qed_model.proofs.Steps.{step-class}
-use Rattle.qed_model.proofs.Walk.{run-last}
-use Rattle.qed_model.proofs.Changes.{run_unchanged}
-use Rattle.weave_core.proofs.Source.{not_trapped_le}
-use Rattle.rv_step.specs.Known.{instruction_of, known_at, goes_on}
-use Rattle.fault_inject.specs.Astray.{is_jalr, is_astray, jump_of, first_jump, first_astray}
+use Rattle.machine.proofs.Lemmas.{each_fails, step-class, run-last}
+use Rattle.qed_model.proofs.Lemmas.{run_unchanged}
+use Rattle.weave_core.proofs.Lemmas.{not_trapped_le}
+use Rattle.fault_inject.specs.Astray.{is_jalr, is_astray, jump_of, first_jump, first_astray, instruction_of, known_at, goes_on, changed_run}
 
 -- ---- jumps by register
 -- one that does not trap goes on

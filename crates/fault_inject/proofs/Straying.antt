@@ -4,15 +4,13 @@ use Rattle.std.proofs.Math.Bool.{and-false}
 use Rattle.std.proofs.lemmas.List.{take-append-drop}
 use Rattle.std.specs.Prelude.{not}
 use Rattle.std.specs.Option.{option_map, option_or}
-use Rattle.qed_model.specs.Below.{first, first_from}
+use Rattle.machine.specs.Below.{first, first_from}
 use Rattle.qed_model.specs.declared.change.Change.{Change}
-use Rattle.qed_model.specs.Machine.Step.{State, step}
-use Rattle.qed_model.specs.Machine.Progress.{Progress, advanced, progress}
-use Rattle.qed_model.specs.Promise.Changed.{changed_run}
-use Rattle.qed_model.proofs.BelowLaws.{first_none}
-use Rattle.rv_step.specs.Known.{known_at, goes_on}
+use Rattle.machine.specs.Step.{State, step}
+use Rattle.machine.specs.Progress.{Progress, advanced, progress}
+use Rattle.machine.proofs.Lemmas.{first_none}
 use Rattle.rv_step.proofs.Running.{progress_last, progress_more, stays_long, stays_step}
-use Rattle.fault_inject.specs.Astray.{is_jalr, is_astray, jump_of, astray_of, first_jump, first_astray}
+use Rattle.fault_inject.specs.Astray.{is_jalr, is_astray, jump_of, astray_of, first_jump, first_astray, known_at, goes_on, changed_run}
 use Rattle.fault_inject.proofs.Changing.{AllFrom, Reached, changed_progress, later_run, plain}
 
 -- ---- the first of some states
@@ -99,6 +97,13 @@ made_next p q next n at is = let more : suc n ≡ n + 1 = omega arith in is ∙ 
 pub step_next : (r : ℕ → Bool) (p q : Progress) (n : ℕ) (found more : Option (ℕ × ℕ)) → q ≡ progress p n → found ≡ first_jump r (states p) n → more ≡ astray_of r q.state → option_or found more ≡ first_jump r (states p) (n + 1)
 step_next r p q n found more at so_far here =
     ap (λ o. option_or o more) so_far ∙ ap (option_or (first_jump r (states p) n)) (here ∙ ap (λ x. astray_of r x.state) at) ∙ in_next r (states p) n
+
+-- and of a part of them
+pub part_next :
+    (r : ℕ → Bool) (p q : Progress) (a b n : ℕ) (found more : Option (ℕ × ℕ)) → q ≡ progress p a → a + b ≡ n → found ≡ first_jump r (states p) a → more ≡ first_jump r (states q) b → option_or found more ≡ first_jump r (states p) n
+part_next r p q a b n found more at sum so_far here =
+    let same = first_same r (states q) (λ j. states p (a + j)) b (λ j lt. ap (λ x. x.state) (ap (λ x. progress x j) at ∙ sym (progress_more p a j))) in
+    ap (λ o. option_or o more) so_far ∙ ap (option_or (first_jump r (states p) a)) (here ∙ same) ∙ sym (first_more r (states p) a b) ∙ ap (first_jump r (states p)) sum
 
 -- so it does not jump
 never_stopped : (r : ℕ → Bool) (s : State) → goes_on s.outcome ≡ false → is_astray r s ≡ false

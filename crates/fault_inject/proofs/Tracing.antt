@@ -4,14 +4,11 @@ use Rattle.std.proofs.lemmas.Bool.{cases_lt}
 use Rattle.std.proofs.Math.Seq.{get_or-append_seam}
 use Rattle.std.proofs.Math.ListN.{get_or-append}
 use Rattle.std.proofs.lemmas.List.{length-append}
-use Rattle.qed_model.specs.declared.machine.Outcome.TheVariants.{Going}
-use Rattle.qed_model.specs.Below.{each}
-use Rattle.qed_model.specs.Machine.Progress.{Progress, advanced}
-use Rattle.qed_model.specs.Machine.Step.{State, run, step}
-use Rattle.qed_model.proofs.BelowLaws.{each_none, length-each, push_each}
-use Rattle.qed_model.proofs.Walk.{run-last}
+use Rattle.machine.specs.Below.{each}
+use Rattle.machine.specs.Progress.{Progress, advanced}
+use Rattle.machine.proofs.Lemmas.{each_none, length-each, push_each, run-last}
 use Rattle.fault_inject.specs.declared.trace.Trace.{Trace}
-use Rattle.fault_inject.specs.Touched.{touched, IsFar, IsLonger, IsTrace}
+use Rattle.fault_inject.specs.Touched.{touched, IsFar, IsLonger, IsTrace, Going, State, run, step}
 
 -- ---- what a function gives at a number stands there
 last_each : {A : Type 0} (n : ℕ) (f : ℕ → A) (k : ℕ) (d : A) → (k < n → get_or (each n f) k d ≡ f k) → k < n + 1 → (k < n) ⊎ (n ≤ k) → get_or (each n f ++ f n ∷ []) k d ≡ f k

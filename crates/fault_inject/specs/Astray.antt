@@ -1,14 +1,12 @@
 -- Jumps by register that lead astray: to an address that is in none of a set.
 use Rattle.std.specs.Prelude.{ℕ, Bool, false, ◌&&◌, not, List, Option, None, Some, if◌then◌else◌}
 use Rattle.std.specs.Option.{option_map}
-use Rattle.rv_isa.specs.declared.ins.Ins.{Ins}
-use Rattle.rv_isa.specs.Kind.{class_of}
 use Rattle.qed_model.specs.declared.change.Change.{Change}
-use Rattle.qed_model.specs.Admission.Leaders.{is_indirect}
-use Rattle.qed_model.specs.Below.{first}
-use Rattle.qed_model.specs.Machine.Step.{State, step}
-use Rattle.qed_model.specs.Promise.Changed.{changed_run}
-use Rattle.rv_step.specs.Known.{known_at, goes_on}
+use Rattle.tests.specs.Admission.Leaders.{is_indirect}
+use Rattle.machine.specs.Below.{first}
+use Rattle.machine.specs.Step.{State, step, Ins, class_of}
+pub use Rattle.qed_model.specs.Promise.Changed.{changed_run}
+pub use Rattle.rv_step.specs.Known.{known_at, goes_on, instruction_of}
 
 -- the instruction, where there is one, is a JALR
 abbrev pub is_jalr : Option Ins → Bool

@@ -1,8 +1,8 @@
 -- Places that are closed.
 use Rattle.std.specs.Prelude.{Bool, false}
-use Rattle.qed_model.specs.declared.change.Place.{Place}
-use Rattle.qed_model.specs.declared.change.Place.TheVariants.{Reg, Word}
-use Rattle.qed_model.specs.Machine.Step.{State}
+use Rattle.machine.specs.declared.place.Place.{Place}
+use Rattle.machine.specs.declared.place.Place.TheVariants.{Reg, Word}
+use Rattle.machine.specs.Step.{State}
 use Rattle.qed_model.specs.Promise.Closed.{is_closed}
 
 -- a place is closed in a state; a word never is

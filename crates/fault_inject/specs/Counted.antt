@@ -1,7 +1,7 @@
 -- Runs with changes: the number of their steps, and parts of them.
 use Rattle.std.specs.Prelude.{◌≡◌, ℕ, zero, suc, ◌≤◌, List, take, drop, All}
 use Rattle.qed_model.specs.declared.change.Change.{Change}
-use Rattle.qed_model.specs.Machine.Progress.{Progress, steps_after}
+use Rattle.machine.specs.Progress.{Progress, steps_after}
 use Rattle.qed_model.specs.Promise.Changed.{changed_run}
 
 -- how many steps are counted after n more: a step is counted where the machine went on, and a change is no step

@@ -1,13 +1,10 @@
 -- What steps touch in memory, and those that touch no byte of a word.
 use Rattle.std.specs.Prelude.{◌≡◌, ℕ, ◌+◌, ◌<◌, ◌≤◌, [], ◌∷◌, ◌++◌, length, Option, None, Some}
-use Rattle.rv_isa.specs.declared.class.Class.{Class}
 use Rattle.rv_isa.specs.declared.class.Class.TheVariants as class
-use Rattle.rv_isa.specs.declared.ins.Ins.{Ins}
-use Rattle.rv_isa.specs.Kind.{class_of}
-use Rattle.qed_model.specs.Below.{each}
-use Rattle.qed_model.specs.declared.machine.Outcome.TheVariants.{Going}
-use Rattle.qed_model.specs.Machine.Memory.{offset, wrap}
-use Rattle.qed_model.specs.Machine.Step.{State, place, run}
+use Rattle.machine.specs.Below.{each}
+pub use Rattle.machine.specs.declared.outcome.Outcome.TheVariants.{Going, Ended, Fired, Trapped}
+use Rattle.machine.specs.Memory.{offset, wrap}
+pub use Rattle.machine.specs.Step.{State, place, run, Class, Ins, class_of, step}
 use Rattle.rv_step.specs.Known.{known_at}
 use Rattle.fault_inject.specs.declared.trace.Trace.{Trace}
 

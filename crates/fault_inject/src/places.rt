@@ -1,13 +1,14 @@
 //! Places that are closed.
 ghost use Rattle.std.specs.Prelude.{◌≡◌, ◌↔◌, ◌&&◌, ◌||◌, not, false};
 ghost use Rattle.rv_isa.specs.Kind.{class_of};
-ghost use Rattle.qed_model.specs.Machine.Step.{Fetched, Known};
+ghost use Rattle.machine.specs.Step.{Fetched, Known};
 ghost use Rattle.rv_step.specs.Known.{instruction_of};
 ghost use Rattle.rv_isa.specs.Operation.{pair};
 ghost use Rattle.qed_model.specs.Promise.Closed.{is_closed, uses as uses_register, uses_as, guards_other, guard_bytes, is_on_pairs as on_pairs, is_checked, IsOpen};
 ghost use Rattle.fault_inject.specs.Closed.{is_closed_place};
 
 use qed_model::Place;
+use rv_isa::profile::{LAST_ORIGINAL, PAIR_DISTANCE, TEMPORARY};
 use rv_isa::{Class, Ins, Kind, Reg};
 use rv_step::Machine;
 
@@ -20,9 +21,11 @@ fn uses(ins: &Ins, r: Reg) -> bool
         Class::Load => ins.rs1 == r,
         Class::Store => ins.rs1 == r || ins.rs2 == r,
         Class::Branch => {
-            ins.rs1.number() <= 13 && ins.rs2.number() <= 13 && (ins.rs1 == r || ins.rs2 == r)
+            ins.rs1.number() <= LAST_ORIGINAL
+                && ins.rs2.number() <= LAST_ORIGINAL
+                && (ins.rs1 == r || ins.rs2 == r)
         }
-        Class::Compute => ins.kind == Kind::Addi && ins.rd.number() == 30 && ins.rs1 == r,
+        Class::Compute => ins.kind == Kind::Addi && ins.rd.number() == TEMPORARY && ins.rs1 == r,
         _ => false,
     }
 }
@@ -35,10 +38,10 @@ fn guards_another(ins: &Ins, r: Reg) -> bool
 {
     let other = ins.rs1.number();
     (ins.kind == Kind::Beq && ins.imm == 8 || ins.kind == Kind::Bne)
-        && ins.rs2.number() == other + 16
+        && ins.rs2.number() == other + PAIR_DISTANCE
         && ins.rs1 != r
         && 1 <= other
-        && other <= 13
+        && other <= LAST_ORIGINAL
 }
 
 /// How many bytes behind its begin a guard ends that finds no difference.
@@ -52,7 +55,11 @@ fn guard_length(ins: &Ins) -> u64
 fn pair_number(r: Reg) -> u8
     ensures { result ≡ pair r }
 {
-    if r.number() == 0 { 0 } else { r.number() + 16 }
+    if r.number() == 0 {
+        0
+    } else {
+        r.number() + PAIR_DISTANCE
+    }
 }
 
 /// Whether an instruction is a branch on the pairs of the registers of another.
@@ -97,7 +104,7 @@ fn closes(used: bool, checked: bool, guarded: bool, used_behind: bool) -> bool
 fn register_closed(machine: &Machine, r: Reg) -> bool
     ensures { result ≡ is_closed machine.now.state r }
 {
-    if r.number() < 1 || 13 < r.number() {
+    if r.number() < 1 || LAST_ORIGINAL < r.number() {
         return false;
     }
     match machine.next() {

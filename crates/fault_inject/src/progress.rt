@@ -1,14 +1,54 @@
 //! How far long work is.
+ghost use Rattle.std.specs.Prelude.{◌≡◌, ◌≤◌, ℕ};
 
-/// What is told how far work is.
+/// Someone who is told how far work is: how many of its parts, as strikes or steps, are done.
 pub trait Progress {
-    /// So many parts of all are done, as strikes or steps that are made. Work that ends without an error tells last that all are.
-    fn tell(&self, done: u64, all: u64);
+    /// The number of parts that was told last,
+    ghost told: { Self → ℕ };
+
+    /// and how many the work has.
+    ghost all: { Self → ℕ };
+
+    /// Work of so many parts begins. If it ends without an error, it tells last that all of them are done.
+    fn begin(&mut self, parts: u64)
+        ensures told { told self.new ≡ 0 }
+        ensures all { all self.new ≡ parts };
+
+    /// So many parts are done: no fewer than were told before, and no more than all.
+    fn tell(&mut self, done: u64)
+        requires rises { told self.old ≤ done }
+        requires within { done ≤ all self.old }
+        ensures told { told self.new ≡ done }
+        ensures all { all self.new ≡ all self.old };
 }
 
-/// Tells nobody.
-pub struct Silent;
+/// Prints nothing.
+#[derive(Drop)]
+pub struct Silent {
+    done: u64,
+    all: u64,
+}
+
+impl Silent {
+    /// Before any work.
+    pub fn new() -> Silent
+        ensures { (result.done ≡ 0) × (result.all ≡ 0) }
+    {
+        Silent { done: 0, all: 0 }
+    }
+}
 
 impl Progress for Silent {
-    fn tell(&self, _: u64, _: u64) {}
+    ghost told = { λ s. s.done };
+
+    ghost all = { λ s. s.all };
+
+    fn begin(&mut self, parts: u64) {
+        self.done = 0;
+        self.all = parts;
+    }
+
+    fn tell(&mut self, done: u64) {
+        self.done = done;
+    }
 }

@@ -1,6 +1,6 @@
 //! Runs with changes.
 ghost use Rattle.std.specs.Prelude.{◌≡◌, ◌-◌, ◌≤◌, IfOk, IfErr};
-ghost use Rattle.qed_model.specs.Machine.Progress.{progress as progress_of};
+ghost use Rattle.machine.specs.Progress.{progress as progress_of};
 ghost use Rattle.qed_model.specs.Promise.Changed.{Ordered, changed, changed_run};
 ghost use Rattle.fault_inject.specs.Counted.{changed_steps, IsPartOf};
 ghost use Rattle.rv_step.specs.Known.{goes_on, IsPart};
@@ -33,29 +33,52 @@ pub(crate) fn make_change(machine: &mut Machine, change: &Change) -> Result<(), 
     Ok(())
 }
 
-/// Runs a machine that has made `from` steps of all until it has made `to`, and tells on the way and in the end how far it is.
+/// Runs a machine that has made `made` steps until it has made `next`, and tells that these are made.
+fn run_part(
+    machine: &mut Machine,
+    made: u64,
+    next: u64,
+    progress: &mut dyn Progress,
+) -> Result<Outcome, AllocError>
+    requires order { made ≤ next }
+    requires told { told progress.old ≡ made }
+    requires within { next ≤ all progress.old }
+    ensures told { IfOk result (λ _. told progress.new ≡ next) }
+    ensures all { IfOk result (λ _. all progress.new ≡ all progress.old) }
+    ensures run { IfOk result (λ _. machine.new ≡ progress_of machine.old (next - made)) }
+    ensures outcome { IfOk result (λ o. o ≡ machine.new.state.outcome) }
+    ensures part { IfErr result (λ _. IsPart machine.old (next - made) machine.new) }
+{
+    let outcome = machine.run(next - made)?;
+    progress.tell(next);
+    Ok(outcome)
+}
+
+/// The same in parts, so that it is told on the way how many steps are made.
 fn run_on(
     machine: &mut Machine,
     from: u64,
     to: u64,
-    all: u64,
-    progress: &dyn Progress,
+    progress: &mut dyn Progress,
 ) -> Result<Outcome, AllocError>
-    requires { from ≤ to }
+    requires order { from ≤ to }
+    requires told { told progress.old ≡ from }
+    requires within { to ≤ all progress.old }
+    ensures told { IfOk result (λ _. told progress.new ≡ to) }
+    ensures all { IfOk result (λ _. all progress.new ≡ all progress.old) }
     ensures run { IfOk result (λ _. machine.new ≡ progress_of machine.old (to - from)) }
     ensures outcome { IfOk result (λ o. o ≡ machine.new.state.outcome) }
     ensures part { IfErr result (λ _. IsPart machine.old (to - from) machine.new) }
 {
     for parts in 0..(to - from) / TOLD_STEPS {
-        progress.tell(from + TOLD_STEPS * parts, all);
-        let outcome = machine.run(TOLD_STEPS)?;
+        let made = from + TOLD_STEPS * parts;
+        let outcome = run_part(machine, made, made + TOLD_STEPS, progress)?;
         if !is_going(machine) {
-            progress.tell(to, all);
+            progress.tell(to);
             return Ok(outcome);
         }
     }
-    let outcome = machine.run((to - from) % TOLD_STEPS)?;
-    progress.tell(to, all);
+    let outcome = run_part(machine, to - (to - from) % TOLD_STEPS, to, progress)?;
     Ok(outcome)
 }
 
@@ -70,23 +93,25 @@ pub fn run_changed(
     machine: &mut Machine,
     changes: &[Change],
     n: u64,
-    progress: &dyn Progress,
+    progress: &mut dyn Progress,
 ) -> Result<Outcome, AllocError>
     requires { Ordered changes.now }
     ensures state { IfOk result (λ _. machine.new.state ≡ changed_run machine.old.state changes.now n) }
     ensures steps { IfOk result (λ _. machine.new.steps ≡ changed_steps machine.old changes.now n) }
     ensures outcome { IfOk result (λ o. o ≡ machine.new.state.outcome) }
     ensures part { IfErr result (λ _. IsPartOf machine.old changes.now n machine.new) }
+    ensures told { IfOk result (λ _. (told progress.new ≡ n) × (all progress.new ≡ n)) }
 {
+    progress.begin(n);
     let mut steps = 0;
     for change in changes {
         if change.step > n {
             break;
         }
-        run_on(machine, steps, change.step, n, progress)?;
+        run_on(machine, steps, change.step, progress)?;
         steps = change.step;
         make_change(machine, change)?;
     }
-    let outcome = run_on(machine, steps, n, n, progress)?;
+    let outcome = run_on(machine, steps, n, progress)?;
     Ok(outcome)
 }

@@ -1,6 +1,6 @@
 //! What the steps of a run touch in memory.
 ghost use Rattle.std.specs.Prelude.{◌≡◌, ℕ, ◌≤◌, ◌+◌, ◌<◌, ◌^◌, true, false, length, IfOk};
-ghost use Rattle.qed_model.specs.Machine.Step.{State};
+ghost use Rattle.machine.specs.Step.{State};
 ghost use Rattle.fault_inject.specs.Touched.{touched as touched_of, IsFar, IsLonger, IsTrace, AreSpared};
 
 use qed_model::Outcome;

@@ -1,9 +1,9 @@
 //! Runs with changes, and where a jump by register leads astray in them.
 ghost use Rattle.std.specs.Prelude.{◌≡◌, ◌-◌, ◌≤◌, IfOk};
-ghost use Rattle.qed_model.specs.Machine.Progress.{advanced, progress as progress_of};
+ghost use Rattle.machine.specs.Progress.{advanced, progress as progress_of};
 ghost use Rattle.qed_model.specs.Promise.Changed.{Ordered, changed_run};
 ghost use Rattle.rv_step.specs.Known.{known_at};
-ghost use Rattle.qed_model.specs.Sets.{has_address};
+ghost use Rattle.machine.specs.Sets.{has_address};
 ghost use Rattle.fault_inject.specs.Astray.{is_jalr, astray_of, first_jump, first_astray};
 ghost use Rattle.fault_inject.specs.Counted.{changed_steps};
 
@@ -29,7 +29,7 @@ fn is_next_jalr(machine: &Machine) -> bool
 }
 
 /// Makes a step, and tells its jump, from where to where, if that leads astray.
-#[tactic(auto, unfolding(crate::specs::Astray::is_astray, qed_model::specs::Machine::Progress::advanced))]
+#[tactic(auto, unfolding(crate::specs::Astray::is_astray, machine::specs::Progress::advanced))]
 fn watched_step(
     machine: &mut Machine,
     reached: &BTreeSet<u64>,
@@ -47,33 +47,82 @@ fn watched_step(
     Ok(None)
 }
 
-/// Runs a machine that has made `from` steps of all until it has made `to`, as `run_on` does, and gives the first jump that leads astray.
-fn watch_on(
+/// Runs a machine for n steps, and gives the first jump that leads astray.
+fn watch_steps(
     machine: &mut Machine,
-    from: u64,
-    to: u64,
-    all: u64,
+    n: u64,
     reached: &BTreeSet<u64>,
-    progress: &dyn Progress,
 ) -> Result<Option<(u64, u64)>, AllocError>
-    requires { from ≤ to }
-    ensures run { IfOk result (λ _. machine.new ≡ progress_of machine.old (to - from)) }
-    ensures astray { IfOk result (λ found. found ≡ first_jump (has_address reached.now) (λ k. (progress_of machine.old k).state) (to - from)) }
+    ensures run { IfOk result (λ _. machine.new ≡ progress_of machine.old n) }
+    ensures astray { IfOk result (λ found. found ≡ first_jump (has_address reached.now) (λ k. (progress_of machine.old k).state) n) }
 {
     let mut found = None;
-    for made in 0..to - from {
+    for made in 0..n {
         if !is_going(machine) {
-            progress.tell(to, all);
             return Ok(found);
-        }
-        if made % TOLD_STEPS == 0 {
-            progress.tell(from + made, all);
         }
         let jump = watched_step(machine, reached)?;
         found = found.or(jump);
     }
-    progress.tell(to, all);
     Ok(found)
+}
+
+/// Runs a machine that has made `made` steps until it has made `next`, tells that these are made, and gives the first jump that
+/// leads astray.
+fn watch_part(
+    machine: &mut Machine,
+    made: u64,
+    next: u64,
+    reached: &BTreeSet<u64>,
+    progress: &mut dyn Progress,
+) -> Result<Option<(u64, u64)>, AllocError>
+    requires order { made ≤ next }
+    requires told { told progress.old ≡ made }
+    requires within { next ≤ all progress.old }
+    ensures told { IfOk result (λ _. told progress.new ≡ next) }
+    ensures all { IfOk result (λ _. all progress.new ≡ all progress.old) }
+    ensures run { IfOk result (λ _. machine.new ≡ progress_of machine.old (next - made)) }
+    ensures astray { IfOk result (λ found. found ≡ first_jump (has_address reached.now) (λ k. (progress_of machine.old k).state) (next - made)) }
+{
+    let found = watch_steps(machine, next - made, reached)?;
+    progress.tell(next);
+    Ok(found)
+}
+
+/// The same in parts, as `run_on` does.
+fn watch_on(
+    machine: &mut Machine,
+    from: u64,
+    to: u64,
+    reached: &BTreeSet<u64>,
+    progress: &mut dyn Progress,
+) -> Result<Option<(u64, u64)>, AllocError>
+    requires order { from ≤ to }
+    requires told { told progress.old ≡ from }
+    requires within { to ≤ all progress.old }
+    ensures told { IfOk result (λ _. told progress.new ≡ to) }
+    ensures all { IfOk result (λ _. all progress.new ≡ all progress.old) }
+    ensures run { IfOk result (λ _. machine.new ≡ progress_of machine.old (to - from)) }
+    ensures astray { IfOk result (λ found. found ≡ first_jump (has_address reached.now) (λ k. (progress_of machine.old k).state) (to - from)) }
+{
+    let mut found = None;
+    for parts in 0..(to - from) / TOLD_STEPS {
+        let made = from + TOLD_STEPS * parts;
+        let more = watch_part(machine, made, made + TOLD_STEPS, reached, progress)?;
+        found = found.or(more);
+        if !is_going(machine) {
+            progress.tell(to);
+            return Ok(found);
+        }
+    }
+    let more = watch_part(
+        machine,
+        to - (to - from) % TOLD_STEPS,
+        to,
+        reached,
+        progress,
+    )?;
+    Ok(found.or(more))
 }
 
 /// Runs the machine for n steps with changes, as `run_changed` does, and tells the first jump by register that leads to an address
@@ -86,24 +135,26 @@ pub fn run_watched(
     changes: &[Change],
     n: u64,
     reached: &BTreeSet<u64>,
-    progress: &dyn Progress,
+    progress: &mut dyn Progress,
 ) -> Result<Option<(u64, u64)>, AllocError>
     requires { Ordered changes.now }
     ensures state { IfOk result (λ _. machine.new.state ≡ changed_run machine.old.state changes.now n) }
     ensures steps { IfOk result (λ _. machine.new.steps ≡ changed_steps machine.old changes.now n) }
     ensures astray { IfOk result (λ astray. astray ≡ first_astray (has_address reached.now) machine.old.state changes.now n) }
+    ensures told { IfOk result (λ _. (told progress.new ≡ n) × (all progress.new ≡ n)) }
 {
+    progress.begin(n);
     let mut steps = 0;
     let mut found = None;
     for change in changes {
         if change.step > n {
             break;
         }
-        let more = watch_on(machine, steps, change.step, n, reached, progress)?;
+        let more = watch_on(machine, steps, change.step, reached, progress)?;
         found = found.or(more);
         steps = change.step;
         make_change(machine, change)?;
     }
-    let more = watch_on(machine, steps, n, n, reached, progress)?;
+    let more = watch_on(machine, steps, n, reached, progress)?;
     Ok(found.or(more))
 }

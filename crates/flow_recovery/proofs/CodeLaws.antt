@@ -2,17 +2,15 @@
 use Rattle.std.proofs.Common.{◌≡◌, ℕ, Bool, true, false, List, map, Some, None, refl, sym, ap, ◌∙◌}
 use Rattle.std.specs.Prelude.{if◌then◌else◌}
 use Rattle.std.proofs.lemmas.List.Elements.{All-contains}
-use Rattle.elf_types.specs.declared.file.ElfFile.{ElfFile}
-use Rattle.rv_isa.specs.declared.ins.Ins.{Ins}
 use Rattle.rv_isa.specs.declared.class.Class.{Class}
 use Rattle.rv_isa.specs.Kind.{class_of}
-use Rattle.qed_model.specs.declared.test.CodeWord.{CodeWord}
-use Rattle.qed_model.specs.Machine.Table.{decode_of}
-use Rattle.qed_model.specs.Admission.CodeWords.{is_code, word_at, instruction_at}
-use Rattle.qed_model.specs.Admission.Test.{IsCodeWord, AreCodeWords}
-use Rattle.qed_model.specs.Admission.Leaders.{HasInstruction}
-use Rattle.qed_model.proofs.Among.{among_of, contains_of, among-map, source_of}
-use Rattle.qed_model.specs.Members.{Among}
+use Rattle.tests.specs.declared.test.CodeWord.{CodeWord}
+use Rattle.machine.specs.Table.{decode_of, Ins}
+use Rattle.tests.specs.Admission.CodeWords.{is_code, word_at, instruction_at, ElfFile}
+use Rattle.tests.specs.Admission.Test.{IsCodeWord, AreCodeWords}
+use Rattle.tests.specs.Admission.Leaders.{HasInstruction}
+use Rattle.machine.proofs.Lemmas.{among_of, contains_of, among-map, source_of}
+use Rattle.machine.specs.Members.{Among}
 
 -- ---- where an instruction stands is a code address
 code_of : (f : ElfFile) (a : ℕ) (i : Ins) (b : Bool) → is_code f a ≡ b → (if b then decode_of (word_at f a) else None) ≡ Some i → is_code f a ≡ true

@@ -7,26 +7,23 @@ use Rattle.std.specs.Ordering.{nat_cmp}
 use Rattle.std.proofs.lemmas.List.Sorted.{IsNonDecreasingBy-from_sort, list_any-IsPermutation}
 use Rattle.std.proofs.lemmas.Bool.{false≢true, eqb-true, eq-eqb, lt-ltb, and_parts, and_from, or_cases, or_left, or_right}
 use Rattle.std.proofs.lemmas.List.Elements.{All-contains}
-use Rattle.elf_types.specs.declared.file.ElfFile.{ElfFile}
 use Rattle.elf_types.specs.declared.file.Symbol.{Symbol}
 use Rattle.elf_types.specs.declared.file.Rela.{Rela}
-use Rattle.rv_isa.specs.Kind.{class_of}
-use Rattle.qed_model.specs.declared.options.Options.{Options}
-use Rattle.qed_model.specs.declared.options.Entries.{Entries}
-use Rattle.qed_model.specs.declared.options.Entries.TheVariants as entries
-use Rattle.qed_model.specs.declared.test.CodeWord.{CodeWord}
-use Rattle.qed_model.specs.declared.test.Test.{Test}
-use Rattle.qed_model.specs.Machine.Step.{target}
-use Rattle.qed_model.specs.Admission.Terms.{is_named, is_relocated, is_named_in}
-use Rattle.qed_model.specs.Admission.Leaders.{has_target, is_end, is_indirect, Begins, Entry, Target, After, Named, Reached, Even, IsLeader, HasIndirect}
-use Rattle.qed_model.specs.Admission.Reached.{is_reached}
-use Rattle.qed_model.specs.Admission.CodeWords.{is_code}
-use Rattle.qed_model.specs.Admission.Test.{AreCodeWords, IsTestOf}
-use Rattle.qed_model.proofs.Among.{among_of, contains_of, passing, any_passing, among-filter, among-kept}
-use Rattle.qed_model.specs.Members.{Among}
-use Rattle.qed_model.specs.Weave.Blocks.{IsEntered}
+use Rattle.tests.specs.declared.options.Entries.{Entries}
+use Rattle.tests.specs.declared.options.Entries.TheVariants as entries
+use Rattle.tests.specs.declared.test.CodeWord.{CodeWord}
+use Rattle.tests.specs.declared.test.Test.{Test}
+use Rattle.machine.specs.Step.{target, class_of}
+use Rattle.tests.specs.Admission.Terms.{is_named, is_relocated, is_named_in, ElfFile}
+use Rattle.tests.specs.Admission.Leaders.{has_target, is_end, is_indirect, Begins, Entry, Target, After, Named, Reached, Even, IsLeader, HasIndirect}
+use Rattle.tests.specs.Admission.Reached.{is_reached}
+use Rattle.tests.specs.Admission.CodeWords.{is_code}
+use Rattle.tests.specs.Admission.Test.{AreCodeWords, IsTestOf}
+use Rattle.machine.proofs.Lemmas.{among_of, contains_of, passing, any_passing, among-filter, among-kept}
+use Rattle.machine.specs.Members.{Among}
+use Rattle.qed_model.specs.Weave.Blocks.{IsEntered, Options}
 use Rattle.flow_recovery.specs.Sets.{lists, Adds}
-use Rattle.qed_model.proofs.OneTest.{reached_by}
+use Rattle.qed_model.proofs.Lemmas.{reached_by}
 use Rattle.flow_recovery.specs.Words.{leads_to, ends_before, begins_by, is_begun, is_chosen, is_entered, is_even, is_leveled, of_code}
 use Rattle.flow_recovery.specs.Leaders.{AreLeaders}
 use Rattle.flow_recovery.proofs.SetLaws.{adds_first, adds_then}

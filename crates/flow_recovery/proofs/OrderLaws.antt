@@ -3,10 +3,9 @@ use Rattle.std.proofs.Common.{◌≡◌, inl, inr, ℕ, zero, suc, ◌<◌, ◌�
 use Rattle.std.specs.Prelude.{AllPairs, ◌==◌, ◌||◌, if◌then◌else◌, nat_lt, filter}
 use Rattle.std.specs.List.Sorted.{IsNonDecreasing}
 use Rattle.std.proofs.lemmas.Bool.{false≢true, eqb-true, eq-eqb, false_from_ne_true, ltb-true, ltb-false}
-use Rattle.qed_model.specs.declared.test.CodeWord.{CodeWord}
-use Rattle.qed_model.specs.Members.{Among, Every, Pairs}
-use Rattle.qed_model.proofs.Among.{any_passing, passing, among-filter, among-kept}
-use Rattle.qed_model.proofs.Pairs.{every_among}
+use Rattle.tests.specs.declared.test.CodeWord.{CodeWord}
+use Rattle.machine.specs.Members.{Among, Every, Pairs}
+use Rattle.machine.proofs.Lemmas.{any_passing, passing, among-filter, among-kept, every_among}
 use Rattle.flow_recovery.specs.Sets.{lists, from_on, is_first}
 use Rattle.flow_recovery.specs.Words.{of_code}
 

@@ -4,12 +4,10 @@ use Rattle.std.specs.Prelude.{pos}
 use Rattle.elf_types.specs.declared.abi.TheConstants.{PT_LOAD, PF_R}
 use Rattle.elf_types.specs.declared.file.ElfFile.{ElfFile}
 use Rattle.elf_types.specs.declared.file.Segment.{Segment}
-use Rattle.rv_isa.specs.declared.ins.Ins.{Ins}
-use Rattle.rv_isa.specs.declared.kind.Kind.TheVariants.{Auipc, Addi, Jalr, Ecall}
-use Rattle.qed_model.specs.declared.test.CodeWord.{CodeWord}
-use Rattle.qed_model.specs.declared.test.Test.{Test}
-use Rattle.qed_model.specs.Machine.Table.{ins}
-use Rattle.qed_model.specs.Admission.Reached.{leads, once, twice, made_by, is_reached}
+use Rattle.tests.specs.declared.test.CodeWord.{CodeWord}
+use Rattle.tests.specs.declared.test.Test.{Test}
+use Rattle.machine.specs.Table.{ins, Ins, Auipc, Addi, Jalr, Ecall}
+use Rattle.tests.specs.Admission.Reached.{leads, once, twice, made_by, is_reached}
 
 -- constants at 4144 and 4097, a linking jump to 4116, and ends; `word` is not looked at
 abbrev code_from : ℕ → List Ins → List CodeWord

@@ -2,15 +2,13 @@
 use Rattle.std.proofs.Common.{◌≡◌, ℕ, List, subst}
 use Rattle.std.specs.Prelude.{◌==◌}
 use Rattle.std.specs.List.{list_any}
-use Rattle.elf_types.specs.declared.file.ElfFile.{ElfFile}
 use Rattle.elf_types.specs.declared.file.Rela.{Rela}
-use Rattle.elf_types.specs.declared.file.Segment.{Segment}
 use Rattle.elf_types.specs.declared.file.Symbol.{Symbol}
-use Rattle.qed_model.specs.declared.test.CodeWord.{CodeWord}
-use Rattle.qed_model.specs.declared.test.Test.{Test}
-use Rattle.qed_model.specs.Admission.Terms.{is_named, is_relocated}
+use Rattle.tests.specs.declared.test.CodeWord.{CodeWord}
+use Rattle.tests.specs.declared.test.Test.{Test}
+use Rattle.tests.specs.Admission.Terms.{is_named, is_relocated, ElfFile, Segment}
 use Rattle.flow_recovery.specs.Sets.{Adds}
-use Rattle.qed_model.specs.Admission.Reached.{links_to, is_in_data, is_made, is_reached}
+use Rattle.tests.specs.Admission.Reached.{links_to, is_in_data, is_made, is_reached}
 use Rattle.flow_recovery.proofs.SetLaws.{adds_then}
 
 -- one step behind the other, where the lists are those of the test and of the file

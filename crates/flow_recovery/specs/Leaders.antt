@@ -1,9 +1,9 @@
 -- What is told of a test's leaders.
 use Rattle.std.specs.Prelude.{◌≡◌, ℕ, ◌↔◌, IsTrue, List, filter, map}
 use Rattle.elf_types.specs.declared.file.ElfFile.{ElfFile}
-use Rattle.qed_model.specs.declared.options.Options.{Options}
-use Rattle.qed_model.specs.declared.test.CodeWord.{CodeWord}
-use Rattle.qed_model.specs.Admission.Leaders.{IsLeader}
+use Rattle.tests.specs.declared.options.Options.{Options}
+use Rattle.tests.specs.declared.test.CodeWord.{CodeWord}
+use Rattle.tests.specs.Admission.Leaders.{IsLeader}
 use Rattle.flow_recovery.specs.Sets.{lists}
 
 -- the list has the leaders of the file, and nothing else, in the order of the words of the code

@@ -3,17 +3,15 @@ use Rattle.std.specs.Prelude.{ℕ, ◌+◌, ◌*◌, ◌%◌, ◌^◌, ◌==◌,
 use Rattle.std.specs.List.{list_any}
 use Rattle.elf_types.specs.declared.file.Symbol.{Symbol}
 use Rattle.elf_types.specs.declared.file.Rela.{Rela}
-use Rattle.elf_types.specs.declared.file.ElfFile.{ElfFile}
-use Rattle.rv_isa.specs.Kind.{class_of}
-use Rattle.qed_model.specs.declared.options.Options.{Options}
-use Rattle.qed_model.specs.declared.options.Entries.{Entries}
-use Rattle.qed_model.specs.declared.options.Entries.TheVariants as entries
-use Rattle.qed_model.specs.declared.test.CodeWord.{CodeWord}
-use Rattle.qed_model.specs.declared.test.Test.{Test}
-use Rattle.qed_model.specs.Machine.Step.{target}
-use Rattle.qed_model.specs.Admission.Leaders.{has_target, is_end, is_indirect}
-use Rattle.qed_model.specs.Admission.Reached.{is_reached}
-use Rattle.qed_model.specs.Admission.Terms.{is_named, is_relocated}
+use Rattle.tests.specs.declared.options.Options.{Options}
+use Rattle.tests.specs.declared.options.Entries.{Entries}
+use Rattle.tests.specs.declared.options.Entries.TheVariants as entries
+use Rattle.tests.specs.declared.test.CodeWord.{CodeWord}
+use Rattle.tests.specs.declared.test.Test.{Test}
+use Rattle.machine.specs.Step.{target, class_of}
+use Rattle.tests.specs.Admission.Leaders.{has_target, is_end, is_indirect}
+use Rattle.tests.specs.Admission.Reached.{is_reached}
+use Rattle.tests.specs.Admission.Terms.{is_named, is_relocated, ElfFile}
 use Rattle.flow_recovery.specs.Sets.{from_on, is_first}
 
 -- the address is the target of the word

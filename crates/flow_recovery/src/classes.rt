@@ -1,7 +1,7 @@
 //! Classes of instruction, as blocks see them.
 ghost use Rattle.std.specs.Prelude.{◌≡◌};
-ghost use Rattle.qed_model.specs.Admission.Leaders.{has_target, is_end, is_indirect};
-ghost use Rattle.qed_model.specs.Admission.Reached.{is_jump};
+ghost use Rattle.tests.specs.Admission.Leaders.{has_target, is_end, is_indirect};
+ghost use Rattle.tests.specs.Admission.Reached.{is_jump};
 
 use rv_isa::Class;
 

@@ -1,8 +1,8 @@
 //! Addresses that LUI, AUIPC and additions to x0 make, with at most two immediates more.
 ghost use Rattle.std.specs.Prelude.{◌≡◌, OnOk};
-ghost use Rattle.qed_model.specs.Machine.Step.{target};
+ghost use Rattle.machine.specs.Step.{target};
 ghost use Rattle.flow_recovery.specs.Sets.{Adds};
-ghost use Rattle.qed_model.specs.Admission.Reached.{leads, is_sum, adds_to, sum_leads, once, sums_lead, users, near_by, twice, is_upper, makes_constant, constant, made_by, is_made};
+ghost use Rattle.tests.specs.Admission.Reached.{leads, is_sum, adds_to, sum_leads, once, sums_lead, users, near_by, twice, is_upper, makes_constant, constant, made_by, is_made};
 
 use crate::sets::add;
 use crate::stored::add_tables;
@@ -157,7 +157,7 @@ fn constant(word: &CodeWord) -> u64
 }
 
 /// Adds the constants that a word makes with those near it.
-#[tactic(auto, unfolding(qed_model::specs::Admission::Reached::made_by))]
+#[tactic(auto, unfolding(tests::specs::Admission::Reached::made_by))]
 fn add_made(
     list: &mut Vec<u64>,
     test: &Test,

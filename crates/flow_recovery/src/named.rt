@@ -1,8 +1,8 @@
 //! The addresses that symbols and relocations name.
 ghost use Rattle.std.specs.Prelude.{◌≡◌, ◌==◌, ◌&&◌, OnOk};
 ghost use Rattle.std.specs.List.{list_any};
-ghost use Rattle.qed_model.specs.Admission.Terms.{is_code_symbol, is_code_relocation, relocated, is_named, is_relocated};
-ghost use Rattle.qed_model.specs.Numbers.{is_at};
+ghost use Rattle.tests.specs.Admission.Terms.{is_code_symbol, is_code_relocation, relocated, is_named, is_relocated};
+ghost use Rattle.machine.specs.Numbers.{is_at};
 ghost use Rattle.flow_recovery.specs.Sets.{Adds};
 
 use crate::sets::add;

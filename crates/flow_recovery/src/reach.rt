@@ -1,9 +1,9 @@
 //! Which words of the code are reached.
 ghost use Rattle.std.specs.Prelude.{◌≡◌, ℕ, map, OnOk, IfOk};
 ghost use Rattle.std.specs.List.{list_any};
-ghost use Rattle.qed_model.specs.Sets.{has_address};
+ghost use Rattle.machine.specs.Sets.{has_address};
 ghost use Rattle.flow_recovery.specs.Sets.{lists, Adds};
-ghost use Rattle.qed_model.specs.Admission.Reached.{links_to, is_reached};
+ghost use Rattle.tests.specs.Admission.Reached.{links_to, is_reached};
 
 use crate::classes::is_jump;
 use crate::constants::add_constants;

@@ -3,10 +3,10 @@ ghost use Rattle.std.specs.Prelude.{◌≡◌, ℕ, ◌<◌, ◌^◌, ◌↔◌,
 ghost use Rattle.std.specs.List.{list_any};
 ghost use Rattle.rv_isa.specs.Kind.{class_of};
 ghost use Rattle.elf_types.specs.declared.file.ElfFile.{ElfFile};
-ghost use Rattle.qed_model.specs.Admission.Leaders.{is_indirect, HasIndirect};
-ghost use Rattle.qed_model.specs.Admission.Test.{AreCodeWords, IsTestOf};
+ghost use Rattle.tests.specs.Admission.Leaders.{is_indirect, HasIndirect};
+ghost use Rattle.tests.specs.Admission.Test.{AreCodeWords, IsTestOf};
 ghost use Rattle.qed_model.specs.Weave.Blocks.{IsEntered};
-ghost use Rattle.qed_model.specs.Sets.{has_address};
+ghost use Rattle.machine.specs.Sets.{has_address};
 ghost use Rattle.flow_recovery.specs.Sets.{lists, Adds, from_on, is_first};
 ghost use Rattle.flow_recovery.specs.Words.{is_begun, is_chosen, is_entered, of_code};
 ghost use Rattle.flow_recovery.specs.Leaders.{AreLeaders};

@@ -1,6 +1,6 @@
 //! Addresses: first a list, in any order and more than once, and then a set.
 ghost use Rattle.std.specs.Prelude.{◌≡◌, ℕ, ◌==◌, OnOk, IfOk};
-ghost use Rattle.qed_model.specs.Sets.{has_address};
+ghost use Rattle.machine.specs.Sets.{has_address};
 ghost use Rattle.flow_recovery.specs.Sets.{lists, Adds};
 
 use std::alloc::{AllocError, Global};

@@ -1,12 +1,12 @@
 //! Addresses that stand in the bytes of the segments: alone, and as distances in tables.
 ghost use Rattle.std.specs.Prelude.{◌≡◌, ◌+◌, ◌*◌, ◌%◌, ◌^◌, ◌<◌, map, drop, OnOk};
 ghost use Rattle.std.specs.List.{list_any};
-ghost use Rattle.qed_model.specs.Numbers.{words_of};
-ghost use Rattle.qed_model.specs.Machine.Values.{word as extended};
-ghost use Rattle.qed_model.specs.Admission.DataRanges.{range_of};
-ghost use Rattle.qed_model.specs.Admission.Terms.{is_in_any, is_code_address};
+ghost use Rattle.machine.specs.Numbers.{words_of};
+ghost use Rattle.machine.specs.Values.{word as extended};
+ghost use Rattle.tests.specs.Admission.DataRanges.{range_of};
+ghost use Rattle.tests.specs.Admission.Terms.{is_in_any, is_code_address};
 ghost use Rattle.flow_recovery.specs.Sets.{Adds};
-ghost use Rattle.qed_model.specs.Admission.Reached.{offset_of, is_low_half, is_in_data, is_in_table, bytes_from, is_by_table};
+ghost use Rattle.tests.specs.Admission.Reached.{offset_of, is_low_half, is_in_data, is_in_table, bytes_from, is_by_table};
 
 use crate::sets::add;
 use byteorder::{ByteOrder, LittleEndian};

@@ -2,8 +2,8 @@
 ghost use Rattle.std.specs.Prelude.{◌≡◌, ◌==◌, ◌&&◌, ◌<◌, ◌^◌, OnOk, All, nat_lt};
 ghost use Rattle.std.specs.List.{list_any};
 ghost use Rattle.rv_isa.specs.Kind.{class_of};
-ghost use Rattle.qed_model.specs.Admission.Leaders.{has_target, is_end};
-ghost use Rattle.qed_model.specs.Machine.Step.{target};
+ghost use Rattle.tests.specs.Admission.Leaders.{has_target, is_end};
+ghost use Rattle.machine.specs.Step.{target};
 ghost use Rattle.flow_recovery.specs.Sets.{Adds};
 ghost use Rattle.flow_recovery.specs.Words.{leads_to, ends_before, begins_by};
 

@@ -2,18 +2,19 @@
 use Rattle.std.proofs.Common.{◌≡◌, ℕ, ◌+◌, ◌%◌, ◌^◌, ◌≤◌, Bool, true, false, cond, List, [], ◌∷◌, ◌++◌, refl, sym, subst, arith}
 use Rattle.std.specs.Prelude.{◌==◌, pos, neg_ℤ}
 use Rattle.rv_isa.specs.declared.class.Class.TheVariants as class
-use Rattle.qed_model.specs.Machine.Step.{Ins, Addi, Andi, Add, Auipc, Jal, Jalr, Lw, ins, class_of, Class, imm, target}
-use Rattle.qed_model.specs.Weave.Placed.{distance_between, upper_part, lower_part, go_size}
+use Rattle.machine.specs.Step.{Ins, Addi, Andi, Add, Auipc, Jal, Jalr, Lw, ins, class_of, Class, imm, target}
+use Rattle.machine.specs.Offsets.{distance_between, upper_part, lower_part}
+use Rattle.qed_model.specs.Weave.Placed.{go_size}
 use Rattle.qed_model.specs.declared.item.Item.{Item}
 use Rattle.qed_model.specs.declared.item.Item.TheVariants.{Plain, Constant, Go}
-use Rattle.qed_model.specs.Weave.Sequences.{pair, guard, guards_of, links, go_on}
-use Rattle.qed_model.proofs.Wrapped.{difference}
+use Rattle.qed_model.specs.Weave.Sequences.{pair, guard, guards_of, links, go_on, LAST_ORIGINAL, DISTANCE, SIGNATURE, TEMPORARY, SPARE}
+use Rattle.machine.proofs.Lemmas.{difference}
 use Rattle.passes.specs.Honest.{NoBreak, HonestAs, HonestItems}
 use Rattle.passes.specs.Pass.{Honest}
 use Rattle.passes.specs.Compose.{honest_items_then, honest_items_none}
 use Rattle.passes.proofs.HonestWords.{other_word, honest_on, honest_end, honest_constant, honest_go, honest_guard}
 use Rattle.flow_tracking.specs.Leaving.{left_as, left, IsLeft}
-use Rattle.weave_core.proofs.Landing.{small_size}
+use Rattle.weave_core.proofs.Lemmas.{small_size}
 
 module _ (far : Bool) where
   plain_then : (i : Ins) (xs : List Item) → HonestItems far (Plain i ∷ []) → HonestItems far xs → HonestItems far (Plain i ∷ xs)
@@ -23,12 +24,12 @@ module _ (far : Bool) where
   computes i xs e b = plain_then i xs (honest_on far i class.Compute e tt) b
 
   honest_go_on : (n : ℕ) → HonestItems far (go_on n)
-  honest_go_on n = honest_items_then far (Constant 16 n ∷ []) (Go n ∷ []) (honest_constant far 16 n) (honest_go far n)
+  honest_go_on n = honest_items_then far (Constant SIGNATURE n ∷ []) (Go n ∷ []) (honest_constant far 16 n) (honest_go far n)
 
   honest_links : (i : Ins) (at : ℕ) → HonestItems far (links i at)
   honest_links i at = elim (i.rd == 0) as (λ t. HonestItems far (cond t [] (Constant i.rd ((at + 4) % 2 ^ 64) ∷ Constant (pair i.rd) ((at + 4) % 2 ^ 64) ∷ []))) [ true ↦ honest_items_none far | false ↦ honest_items_then far (Constant i.rd ((at + 4) % 2 ^ 64) ∷ []) (Constant (pair i.rd) ((at + 4) % 2 ^ 64) ∷ []) (honest_constant far i.rd ((at + 4) % 2 ^ 64)) (honest_constant far (pair i.rd) ((at + 4) % 2 ^ 64)) ]
 
-  honest_both : (i : Ins) → i.rs1 ≤ 13 → i.rs2 ≤ 13 → HonestItems far (guards_of i)
+  honest_both : (i : Ins) → i.rs1 ≤ LAST_ORIGINAL → i.rs2 ≤ LAST_ORIGINAL → HonestItems far (guards_of i)
   honest_both i h1 h2 = honest_items_then far (guard i.rs1) (cond (i.rs2 == i.rs1) [] (guard i.rs2)) (honest_guard far i.rs1 h1) (second (i.rs2 == i.rs1)) where
     second : (t : Bool) → HonestItems far (cond t [] (guard i.rs2))
     second true = honest_items_none far
@@ -37,13 +38,13 @@ module _ (far : Bool) where
   -- the choice of the signature
   honest_turn :
       (i : Ins) (n t : ℕ) → class_of i.kind ≡ class.Branch → imm i ≡ 16
-      → HonestItems far (Plain i ∷ Constant 16 n ∷ Plain (ins Jal 0 0 0 (pos 12)) ∷ Constant 16 t ∷ [])
+      → HonestItems far (Plain i ∷ Constant SIGNATURE n ∷ Plain (ins Jal 0 0 0 (pos 12)) ∷ Constant SIGNATURE t ∷ [])
   honest_turn i n t e m c en a near has calm ent =
-      let up = ins Auipc 16 0 0 (upper_part (distance_between (a + 4) n)) in
-      let lo = ins Addi 16 16 0 (lower_part (distance_between (a + 4) n)) in
+      let up = ins Auipc SIGNATURE 0 0 (upper_part (distance_between (a + 4) n)) in
+      let lo = ins Addi SIGNATURE SIGNATURE 0 (lower_part (distance_between (a + 4) n)) in
       let jal = ins Jal 0 0 0 (pos 12) in
-      let up2 = ins Auipc 16 0 0 (upper_part (distance_between (a + 4 + 8 + 4) t)) in
-      let lo2 = ins Addi 16 16 0 (lower_part (distance_between (a + 4 + 8 + 4) t)) in
+      let up2 = ins Auipc SIGNATURE 0 0 (upper_part (distance_between (a + 4 + 8 + 4) t)) in
+      let lo2 = ins Addi SIGNATURE SIGNATURE 0 (lower_part (distance_between (a + 4 + 8 + 4) t)) in
       let n4 = other_word c (a + 4) up class.Compute has.1.0 refl (λ e. absurd (cc)) in
       let n8 = other_word c (a + 4 + 4) lo class.Compute has.1.1.0 refl (λ e. absurd (cc)) in
       let n12 = other_word c (a + 4 + 4 + 4) jal class.Jump has.1.1.1.0 refl (λ e. absurd (cc)) in
@@ -72,10 +73,10 @@ honest_last false i n t e m c en a near has calm ent =
       front = other_word c a i class.Branch has.0 e (λ e. absurd (cc));
     }
 honest_last true i n t e m c en a near has calm ent =
-    let k1 = ins Auipc 30 0 0 (upper_part (distance_between (a + 4) (en n))) in
-    let l1 = ins Jalr 0 30 0 (lower_part (distance_between (a + 4) (en n))) in
-    let k2 = ins Auipc 30 0 0 (upper_part (distance_between (a + 4 + 8) (en t))) in
-    let l2 = ins Jalr 0 30 0 (lower_part (distance_between (a + 4 + 8) (en t))) in
+    let k1 = ins Auipc TEMPORARY 0 0 (upper_part (distance_between (a + 4) (en n))) in
+    let l1 = ins Jalr 0 TEMPORARY 0 (lower_part (distance_between (a + 4) (en n))) in
+    let k2 = ins Auipc TEMPORARY 0 0 (upper_part (distance_between (a + 4 + 8) (en t))) in
+    let l2 = ins Jalr 0 TEMPORARY 0 (lower_part (distance_between (a + 4 + 8) (en t))) in
     let n4 = other_word c (a + 4) k1 class.Compute has.1.0 refl (λ e. absurd (cc)) in
     let n8 = other_word c (a + 4 + 4) l1 class.JumpReg has.1.1.0 refl (λ e. absurd (cc)) in
     let n12 = other_word c (a + 4 + 4 + 4) k2 class.Compute has.1.1.1.0 refl (λ e. absurd (cc)) in
@@ -98,22 +99,22 @@ honest_as class.Branch next far i at e f =
     let n = (at + 4) % 2 ^ 64 in
     let t = target i at in
     let last = Plain b ∷ Go n ∷ Go t ∷ [] in
-    honest_items_then far (Plain first ∷ Constant 16 n ∷ Plain (ins Jal 0 0 0 (pos 12)) ∷ Constant 16 t ∷ []) (guards_of i ++ last) (honest_turn far first n t e refl)
+    honest_items_then far (Plain first ∷ Constant SIGNATURE n ∷ Plain (ins Jal 0 0 0 (pos 12)) ∷ Constant SIGNATURE t ∷ []) (guards_of i ++ last) (honest_turn far first n t e refl)
     (honest_items_then far (guards_of i) last (honest_both far i f.0 f.1) (honest_last far b n t e (small_size far)))
 honest_as class.JumpReg next far i at e f =
     let two = neg_ℤ (pos 2) in
-    let look : List Item = Plain (ins Add 31 30 14 (pos 0)) ∷ Plain (ins Add 31 31 14 (pos 0)) ∷ Plain (ins Lw 30 31 0 (pos 0)) ∷ Plain (ins Add 30 30 31 (pos 0)) ∷ Plain (ins Jalr 0 30 0 (pos 0)) ∷ [] in
-    let taken : List Item = Plain (ins Addi 30 i.rs1 0 i.imm) ∷ Plain (ins Andi 30 30 0 two) ∷ (links i at ++ look) in
+    let look : List Item = Plain (ins Add SPARE TEMPORARY DISTANCE (pos 0)) ∷ Plain (ins Add SPARE SPARE DISTANCE (pos 0)) ∷ Plain (ins Lw TEMPORARY SPARE 0 (pos 0)) ∷ Plain (ins Add TEMPORARY TEMPORARY SPARE (pos 0)) ∷ Plain (ins Jalr 0 TEMPORARY 0 (pos 0)) ∷ [] in
+    let taken : List Item = Plain (ins Addi TEMPORARY i.rs1 0 i.imm) ∷ Plain (ins Andi TEMPORARY TEMPORARY 0 two) ∷ (links i at ++ look) in
     let looks : HonestItems far look =
-    computes far (ins Add 31 30 14 (pos 0)) (Plain (ins Add 31 31 14 (pos 0)) ∷ Plain (ins Lw 30 31 0 (pos 0)) ∷ Plain (ins Add 30 30 31 (pos 0)) ∷ Plain (ins Jalr 0 30 0 (pos 0)) ∷ []) refl
-    (computes far (ins Add 31 31 14 (pos 0)) (Plain (ins Lw 30 31 0 (pos 0)) ∷ Plain (ins Add 30 30 31 (pos 0)) ∷ Plain (ins Jalr 0 30 0 (pos 0)) ∷ []) refl
-    (plain_then far (ins Lw 30 31 0 (pos 0)) (Plain (ins Add 30 30 31 (pos 0)) ∷ Plain (ins Jalr 0 30 0 (pos 0)) ∷ []) (honest_on far (ins Lw 30 31 0 (pos 0)) class.Load refl tt)
-    (computes far (ins Add 30 30 31 (pos 0)) (Plain (ins Jalr 0 30 0 (pos 0)) ∷ []) refl (honest_end far (ins Jalr 0 30 0 (pos 0)) class.JumpReg refl tt)))) in
+    computes far (ins Add SPARE TEMPORARY DISTANCE (pos 0)) (Plain (ins Add SPARE SPARE DISTANCE (pos 0)) ∷ Plain (ins Lw TEMPORARY SPARE 0 (pos 0)) ∷ Plain (ins Add TEMPORARY TEMPORARY SPARE (pos 0)) ∷ Plain (ins Jalr 0 TEMPORARY 0 (pos 0)) ∷ []) refl
+    (computes far (ins Add SPARE SPARE DISTANCE (pos 0)) (Plain (ins Lw TEMPORARY SPARE 0 (pos 0)) ∷ Plain (ins Add TEMPORARY TEMPORARY SPARE (pos 0)) ∷ Plain (ins Jalr 0 TEMPORARY 0 (pos 0)) ∷ []) refl
+    (plain_then far (ins Lw TEMPORARY SPARE 0 (pos 0)) (Plain (ins Add TEMPORARY TEMPORARY SPARE (pos 0)) ∷ Plain (ins Jalr 0 TEMPORARY 0 (pos 0)) ∷ []) (honest_on far (ins Lw TEMPORARY SPARE 0 (pos 0)) class.Load refl tt)
+    (computes far (ins Add TEMPORARY TEMPORARY SPARE (pos 0)) (Plain (ins Jalr 0 TEMPORARY 0 (pos 0)) ∷ []) refl (honest_end far (ins Jalr 0 TEMPORARY 0 (pos 0)) class.JumpReg refl tt)))) in
     let takes : HonestItems far taken =
-    computes far (ins Addi 30 i.rs1 0 i.imm) (Plain (ins Andi 30 30 0 two) ∷ (links i at ++ look)) refl
-    (computes far (ins Andi 30 30 0 two) (links i at ++ look) refl (honest_items_then far (links i at) look (honest_links far i at) looks)) in
-    computes far (ins Addi 16 (pair i.rs1) 0 i.imm) (Plain (ins Andi 16 16 0 two) ∷ (guard i.rs1 ++ taken)) refl
-    (computes far (ins Andi 16 16 0 two) (guard i.rs1 ++ taken) refl (honest_items_then far (guard i.rs1) taken (honest_guard far i.rs1 f.1) takes))
+    computes far (ins Addi TEMPORARY i.rs1 0 i.imm) (Plain (ins Andi TEMPORARY TEMPORARY 0 two) ∷ (links i at ++ look)) refl
+    (computes far (ins Andi TEMPORARY TEMPORARY 0 two) (links i at ++ look) refl (honest_items_then far (links i at) look (honest_links far i at) looks)) in
+    computes far (ins Addi SIGNATURE (pair i.rs1) 0 i.imm) (Plain (ins Andi SIGNATURE SIGNATURE 0 two) ∷ (guard i.rs1 ++ taken)) refl
+    (computes far (ins Andi SIGNATURE SIGNATURE 0 two) (guard i.rs1 ++ taken) refl (honest_items_then far (guard i.rs1) taken (honest_guard far i.rs1 f.1) takes))
 honest_as c next far i at e f = absurd f
 
 pub honest_leave : (next : ℕ) (far : Bool) (i : Ins) (at : ℕ) → IsLeft (class_of i.kind) next i at → Honest (λ f. f ≡ far) (left next far i at)

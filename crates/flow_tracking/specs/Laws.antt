@@ -4,13 +4,11 @@ use Rattle.rv_isa.specs.declared.class.Class.TheVariants as class
 use Rattle.qed_model.specs.Weave.Sequences.{class_of, Class, Ins, enter, leave_as}
 use Rattle.weave_core.specs.KindItems.{LockItems, LandItems, IsEnd, end_branches, end_jumps, end_jumps_reg, end_ends, end_illegal}
 pub use Rattle.weave_core.specs.Parts.{any}
-use Rattle.weave_core.proofs.KindItems.{enter_items, go_items, leave_items}
-use Rattle.weave_core.proofs.Landing.{land_enter, land_go_on, land_leave}
-use Rattle.weave_core.proofs.ScratchParts.{plain_mirrors_fit}
+use Rattle.weave_core.proofs.Lemmas.{enter_items, go_items, leave_items, land_enter, land_go_on, land_leave, plain_mirrors_fit}
 use Rattle.passes.specs.Pass.{Honest, Lockstep}
 use Rattle.passes.proofs.HonestWords.{honest_enter}
 use Rattle.flow_tracking.specs.Leaving.{leave_form, left_as, left, IsLeft}
-pub use Rattle.weave_core.proofs.LeaveLaws.{quiet_enter, quiet_leave}
+pub use Rattle.weave_core.proofs.Lemmas.{quiet_enter, quiet_leave}
 
 -- ---- the entry
 pub honest_entry : (at : ℕ) → Honest any (enter at)

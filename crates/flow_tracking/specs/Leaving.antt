@@ -1,11 +1,11 @@
 -- The entry and the leave of a block, as passes.
 use Rattle.std.specs.Prelude.{ℕ, ◌+◌, Bool, false, List, [], ◌∷◌, ◌++◌, pos, neg_ℤ}
 use Rattle.rv_isa.specs.declared.class.Class.TheVariants as class
-use Rattle.qed_model.specs.Machine.Table.{Ins, Addi, Andi, ins}
+use Rattle.machine.specs.Table.{Ins, Addi, Andi, ins}
 use Rattle.qed_model.specs.Weave.Placed.{go_size}
 use Rattle.qed_model.specs.declared.item.Item.{Item}
 use Rattle.qed_model.specs.declared.item.Item.TheVariants.{Plain, Go}
-use Rattle.qed_model.specs.Weave.Sequences.{guards_of, links, leave_as}
+use Rattle.qed_model.specs.Weave.Sequences.{guards_of, links, leave_as, TEMPORARY}
 pub use Rattle.qed_model.specs.Weave.Lean.{look_up}
 pub use Rattle.weave_core.specs.Leaving.{leave_form, left_as, left, IsLeft, Enters, Leaving, LeavesOn}
 
@@ -16,7 +16,7 @@ branch_end i next to far = guards_of i ++ (Plain (ins i.kind 0 i.rs1 i.rs2 (pos 
 
 -- the target by the original
 abbrev pub aim_of : Ins → ℕ → List Item
-aim_of i at = Plain (ins Addi 30 i.rs1 0 i.imm) ∷ Plain (ins Andi 30 30 0 (neg_ℤ (pos 2))) ∷ (links i at ++ look_up)
+aim_of i at = Plain (ins Addi TEMPORARY i.rs1 0 i.imm) ∷ Plain (ins Andi TEMPORARY TEMPORARY 0 (neg_ℤ (pos 2))) ∷ (links i at ++ look_up)
 
 -- and the whole
 abbrev pub indirect_of : Ins → ℕ → List Item

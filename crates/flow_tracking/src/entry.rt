@@ -3,6 +3,7 @@ ghost use Rattle.std.specs.Prelude.{◌≡◌};
 
 use passes::{Emit, Pass, plain};
 use qed_model::Item;
+use rv_isa::profile::{SIGNATURE, TEMPORARY};
 use rv_isa::{Ins, Kind, register};
 use std::alloc::AllocError;
 
@@ -38,8 +39,8 @@ impl Pass for Entry {
         let zero = register(0);
         out.put(&[
             Item::Mark(at),
-            Item::Constant(register(30), at),
-            plain(Kind::Beq, zero, register(16), register(30), 8),
+            Item::Constant(register(TEMPORARY), at),
+            plain(Kind::Beq, zero, register(SIGNATURE), register(TEMPORARY), 8),
             plain(Kind::Ebreak, zero, zero, zero, 0),
         ])
     }

@@ -1,13 +1,15 @@
 //! The leave of a block.
 ghost use Rattle.std.specs.Prelude.{◌≡◌, ◌≤◌, ◌++◌, OnOk, OnErr};
+ghost use Rattle.rv_isa.specs.declared.profile.TheConstants.{LAST_ORIGINAL};
 ghost use Rattle.qed_model.specs.Weave.Sequences.{guard as guard_of, guards_of, links as links_of, go_on, leave_as};
-ghost use Rattle.qed_model.specs.Machine.Step.{target as target_of};
+ghost use Rattle.machine.specs.Step.{target as target_of};
 ghost use Rattle.rv_isa.specs.declared.class.Class.TheVariants as class;
 ghost use Rattle.passes.specs.Emitted.{AppendsPart};
 ghost use Rattle.flow_tracking.specs.Leaving.{leave_form, branch_end, look_up, aim_of, indirect_of};
 
 use passes::{Emit, Pass, plain, put_guard, target};
 use qed_model::Item;
+use rv_isa::profile::{DISTANCE, SIGNATURE, SPARE, TEMPORARY};
 use rv_isa::{Class, Ins, Kind, register};
 use std::alloc::AllocError;
 
@@ -25,7 +27,7 @@ fn put_go_on(next: u64, out: &mut Emit) -> Result<(), AllocError>
     ensures all { OnOk result (out.new ≡ out.old ++ go_on next) }
     ensures none { OnErr result (out.new ≡ out.old) }
 {
-    out.put(&[Item::Constant(register(16), next), Item::Go(next)])?;
+    out.put(&[Item::Constant(register(SIGNATURE), next), Item::Go(next)])?;
     Ok(())
 }
 
@@ -33,7 +35,7 @@ fn put_go_on(next: u64, out: &mut Emit) -> Result<(), AllocError>
 ///
 /// Errors: want of memory, and then nothing is appended.
 pub fn put_links(ins: &Ins, at: u64, out: &mut Emit) -> Result<(), AllocError>
-    requires { ins.now.rd ≤ 13 }
+    requires { ins.now.rd ≤ LAST_ORIGINAL }
     ensures all { OnOk result (out.new ≡ out.old ++ links_of ins.now at) }
     ensures none { OnErr result (out.new ≡ out.old) }
 {
@@ -53,8 +55,8 @@ pub fn put_links(ins: &Ins, at: u64, out: &mut Emit) -> Result<(), AllocError>
 /// Errors: want of memory, and then the first of them are appended.
 #[tactic(auto, using(passes::specs::Emitted::part_none, passes::specs::Emitted::part_first, passes::specs::Emitted::part_second))]
 pub fn put_guards_of(ins: &Ins, out: &mut Emit) -> Result<(), AllocError>
-    requires rs1 { ins.now.rs1 ≤ 13 }
-    requires rs2 { ins.now.rs2 ≤ 13 }
+    requires rs1 { ins.now.rs1 ≤ LAST_ORIGINAL }
+    requires rs2 { ins.now.rs2 ≤ LAST_ORIGINAL }
     ensures all { OnOk result (out.new ≡ out.old ++ guards_of ins.now) }
     ensures part { OnErr result (AppendsPart out.old out.new (guards_of ins.now)) }
 {
@@ -69,7 +71,7 @@ pub fn put_guards_of(ins: &Ins, out: &mut Emit) -> Result<(), AllocError>
 /// The leave of a JAL.
 #[tactic(auto, using(passes::specs::Emitted::part_none, passes::specs::Emitted::part_first, passes::specs::Emitted::part_second))]
 fn put_jump(ins: &Ins, at: u64, out: &mut Emit) -> Result<(), AllocError>
-    requires { ins.now.rd ≤ 13 }
+    requires { ins.now.rd ≤ LAST_ORIGINAL }
     ensures all { OnOk result (out.new ≡ out.old ++ (links_of ins.now at ++ go_on (target_of ins.now at))) }
     ensures part { OnErr result (AppendsPart out.old out.new (links_of ins.now at ++ go_on (target_of ins.now at))) }
 {
@@ -81,8 +83,8 @@ fn put_jump(ins: &Ins, at: u64, out: &mut Emit) -> Result<(), AllocError>
 /// The way of a branch by the originals.
 #[tactic(auto, using(passes::specs::Emitted::part_none, passes::specs::Emitted::part_first, passes::specs::Emitted::part_second))]
 fn put_way(ins: &Ins, next: u64, to: u64, far: bool, out: &mut Emit) -> Result<(), AllocError>
-    requires rs1 { ins.now.rs1 ≤ 13 }
-    requires rs2 { ins.now.rs2 ≤ 13 }
+    requires rs1 { ins.now.rs1 ≤ LAST_ORIGINAL }
+    requires rs2 { ins.now.rs2 ≤ LAST_ORIGINAL }
     ensures all { OnOk result (out.new ≡ out.old ++ branch_end ins.now next to far) }
     ensures part { OnErr result (AppendsPart out.old out.new (branch_end ins.now next to far)) }
 {
@@ -99,15 +101,15 @@ fn put_way(ins: &Ins, next: u64, to: u64, far: bool, out: &mut Emit) -> Result<(
 /// The leave of a branch: the pairs choose the signature, the originals the way.
 #[tactic(auto, using(passes::specs::Emitted::part_none, passes::specs::Emitted::part_first, passes::specs::Emitted::part_second))]
 fn put_branch(ins: &Ins, at: u64, far: bool, out: &mut Emit) -> Result<(), AllocError>
-    requires rs1 { ins.now.rs1 ≤ 13 }
-    requires rs2 { ins.now.rs2 ≤ 13 }
+    requires rs1 { ins.now.rs1 ≤ LAST_ORIGINAL }
+    requires rs2 { ins.now.rs2 ≤ LAST_ORIGINAL }
     ensures all { OnOk result (out.new ≡ out.old ++ leave_as (leave_form far) class.Branch ins.now at) }
     ensures part { OnErr result (AppendsPart out.old out.new (leave_as (leave_form far) class.Branch ins.now at)) }
 {
     let next = at.wrapping_add(4);
     let to = target(ins, at);
     let zero = register(0);
-    let sign = register(16);
+    let sign = register(SIGNATURE);
     out.put(&[
         plain(ins.kind, zero, ins.rs1.pair(), ins.rs2.pair(), 16),
         Item::Constant(sign, next),
@@ -126,9 +128,9 @@ pub fn put_look_up(out: &mut Emit) -> Result<(), AllocError>
     ensures none { OnErr result (out.new ≡ out.old) }
 {
     let zero = register(0);
-    let half = register(14);
-    let to = register(30);
-    let place = register(31);
+    let half = register(DISTANCE);
+    let to = register(TEMPORARY);
+    let place = register(SPARE);
     out.put(&[
         plain(Kind::Add, place, to, half, 0),
         plain(Kind::Add, place, place, half, 0),
@@ -142,7 +144,7 @@ pub fn put_look_up(out: &mut Emit) -> Result<(), AllocError>
 /// The return address of a JALR, the look-up of its target, and the jump.
 #[tactic(auto, using(passes::specs::Emitted::part_none, passes::specs::Emitted::part_first, passes::specs::Emitted::part_second))]
 fn put_linked(ins: &Ins, at: u64, out: &mut Emit) -> Result<(), AllocError>
-    requires { ins.now.rd ≤ 13 }
+    requires { ins.now.rd ≤ LAST_ORIGINAL }
     ensures all { OnOk result (out.new ≡ out.old ++ (links_of ins.now at ++ look_up)) }
     ensures part { OnErr result (AppendsPart out.old out.new (links_of ins.now at ++ look_up)) }
 {
@@ -154,12 +156,12 @@ fn put_linked(ins: &Ins, at: u64, out: &mut Emit) -> Result<(), AllocError>
 /// The target of a JALR by the original.
 #[tactic(auto, using(passes::specs::Emitted::part_none, passes::specs::Emitted::part_first, passes::specs::Emitted::part_second))]
 fn put_aim(ins: &Ins, at: u64, out: &mut Emit) -> Result<(), AllocError>
-    requires rd { ins.now.rd ≤ 13 }
-    requires rs1 { ins.now.rs1 ≤ 13 }
+    requires rd { ins.now.rd ≤ LAST_ORIGINAL }
+    requires rs1 { ins.now.rs1 ≤ LAST_ORIGINAL }
     ensures all { OnOk result (out.new ≡ out.old ++ aim_of ins.now at) }
     ensures part { OnErr result (AppendsPart out.old out.new (aim_of ins.now at)) }
 {
-    let to = register(30);
+    let to = register(TEMPORARY);
     out.put(&[
         plain(Kind::Addi, to, ins.rs1, register(0), ins.imm),
         plain(Kind::Andi, to, to, register(0), -2),
@@ -173,8 +175,8 @@ fn put_aim(ins: &Ins, at: u64, out: &mut Emit) -> Result<(), AllocError>
 /// Errors: want of memory, and then a part may be appended.
 #[tactic(auto, using(passes::specs::Emitted::part_none, passes::specs::Emitted::part_first, passes::specs::Emitted::part_second))]
 pub fn put_leap(ins: &Ins, at: u64, out: &mut Emit) -> Result<(), AllocError>
-    requires rd { ins.now.rd ≤ 13 }
-    requires rs1 { ins.now.rs1 ≤ 13 }
+    requires rd { ins.now.rd ≤ LAST_ORIGINAL }
+    requires rs1 { ins.now.rs1 ≤ LAST_ORIGINAL }
     ensures all { OnOk result (out.new ≡ out.old ++ (guard_of ins.now.rs1 ++ aim_of ins.now at)) }
     ensures part { OnErr result (AppendsPart out.old out.new (guard_of ins.now.rs1 ++ aim_of ins.now at)) }
 {
@@ -186,12 +188,12 @@ pub fn put_leap(ins: &Ins, at: u64, out: &mut Emit) -> Result<(), AllocError>
 /// The whole leave of a JALR.
 #[tactic(auto, using(passes::specs::Emitted::part_none, passes::specs::Emitted::part_first, passes::specs::Emitted::part_second))]
 fn put_indirect(ins: &Ins, at: u64, out: &mut Emit) -> Result<(), AllocError>
-    requires rd { ins.now.rd ≤ 13 }
-    requires rs1 { ins.now.rs1 ≤ 13 }
+    requires rd { ins.now.rd ≤ LAST_ORIGINAL }
+    requires rs1 { ins.now.rs1 ≤ LAST_ORIGINAL }
     ensures all { OnOk result (out.new ≡ out.old ++ indirect_of ins.now at) }
     ensures part { OnErr result (AppendsPart out.old out.new (indirect_of ins.now at)) }
 {
-    let sign = register(16);
+    let sign = register(SIGNATURE);
     out.put(&[
         plain(Kind::Addi, sign, ins.rs1.pair(), register(0), ins.imm),
         plain(Kind::Andi, sign, sign, register(0), -2),

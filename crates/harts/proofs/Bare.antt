@@ -2,7 +2,7 @@
 use Rattle.std.proofs.Common.{◌≡◌, Bool, List, [], ◌∷◌, map, refl, ap}
 use Rattle.std.specs.Prelude.{◌||◌}
 use Rattle.std.specs.List.{list_any}
-use Rattle.qed_model.specs.declared.machine.Outcome.{Outcome}
+use Rattle.machine.specs.declared.outcome.Outcome.{Outcome}
 use Rattle.rv_step.specs.Harts.{HartState}
 use Rattle.harts.specs.HartSteps.{bare}
 use Rattle.harts.specs.Standing.{stands}

@@ -2,33 +2,27 @@
 use Rattle.std.proofs.Common.{◌≡◌, ℕ, ◌+◌, ◌*◌, ◌/◌, ◌%◌, ◌^◌, ◌<◌, ⊎_elim, Bool, true, false, cond, ◌&&◌, List, [], ◌∷◌, Option, Some, None, is_some, refl, sym, ap, ◌∙◌, subst, arith}
 use Rattle.std.specs.Prelude.{◌==◌, nat_lt}
 use Rattle.std.specs.Option.{option_map}
-use Rattle.std.specs.FinMap.{get}
 use Rattle.std.proofs.lemmas.Bool.{false≢true, cases_lt}
-use Rattle.rv_isa.specs.declared.ins.Ins.{Ins}
-use Rattle.rv_isa.specs.declared.class.Class.{Class}
 use Rattle.rv_isa.specs.declared.class.Class.TheVariants as class
-use Rattle.rv_isa.specs.Kind.{class_of}
-use Rattle.rv_isa.specs.Regs.{set_reg}
-use Rattle.qed_model.specs.declared.machine.Cause.{Cause}
-use Rattle.qed_model.specs.declared.machine.Cause.TheVariants as cause
-use Rattle.qed_model.specs.declared.machine.Outcome.{Outcome}
-use Rattle.qed_model.specs.declared.machine.Outcome.TheVariants.{Going, Ended, Fired}
-use Rattle.qed_model.specs.declared.change.Place.{Place}
-use Rattle.qed_model.specs.declared.change.Place.TheVariants.{Reg, Word}
+use Rattle.machine.specs.declared.outcome.Cause.{Cause}
+use Rattle.machine.specs.declared.outcome.Cause.TheVariants as cause
+use Rattle.machine.specs.declared.outcome.Outcome.{Outcome}
+use Rattle.machine.specs.declared.outcome.Outcome.TheVariants.{Going, Ended, Fired}
+use Rattle.machine.specs.declared.place.Place.{Place}
+use Rattle.machine.specs.declared.place.Place.TheVariants.{Reg, Word}
 use Rattle.qed_model.specs.declared.change.Change.{Change}
-use Rattle.qed_model.specs.Machine.Table.{decode_of}
-use Rattle.qed_model.specs.Machine.Memory.{Flags, Cell, Memory, allows, grants, number, byte_in, put, offset, wrap, byte_of, with_byte}
-use Rattle.qed_model.specs.Machine.Values.{holds, width_of, loaded}
-use Rattle.qed_model.specs.Machine.Step.{State, reg, moved, stopped, stored, trapped, jumped, imm, place, result, next_pc, execute, in_range, Fetched, Refused, Unknown, Known, known_or, fetched_at, act, next, step_at, step}
-use Rattle.qed_model.specs.Machine.Struck.{struck}
+use Rattle.machine.specs.Table.{decode_of, Ins}
+use Rattle.machine.specs.Memory.{Flags, Cell, Memory, allows, grants, number, byte_in, put, offset, wrap, byte_of, with_byte, get}
+use Rattle.machine.specs.Values.{holds, width_of, loaded}
+use Rattle.machine.specs.Step.{State, reg, moved, stopped, stored, trapped, jumped, imm, place, result, next_pc, execute, in_range, Fetched, Refused, Unknown, Known, known_or, fetched_at, act, next, step_at, step, Class, class_of, set_reg}
+use Rattle.machine.specs.Struck.{struck}
 use Rattle.qed_model.specs.Promise.Changed.{changed, changed_as, with_changes}
-use Rattle.qed_model.specs.Machine.Program.{Program}
+use Rattle.machine.specs.Program.{Program}
 use Rattle.qed_model.specs.Promise.Kept.{is_mapped, NotTrapped}
 use Rattle.harts.specs.Harts.{state_of, hart_of}
 use Rattle.harts.specs.Together.{LiesIn, AllLieIn}
-use Rattle.qed_model.proofs.MemoryLaws.{get-put, get-put_outside, grants_at, grants_from, same_number, wrap_offset}
-use Rattle.qed_model.proofs.CellsLaws.{byte_of_cell}
-use Rattle.qed_model.proofs.HalvesLaws.{some_of_allows}
+use Rattle.machine.proofs.Lemmas.{get-put, get-put_outside, grants_at, grants_from, same_number, wrap_offset, byte_of_cell}
+use Rattle.qed_model.proofs.Lemmas.{some_of_allows}
 
 -- the hart of a state with another memory
 abbrev pub beside : Memory → State → State

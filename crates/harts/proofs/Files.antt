@@ -5,14 +5,13 @@ use Rattle.std.specs.List.{list_any}
 use Rattle.std.proofs.lemmas.Bool.{false≢true, cases_lt}
 use Rattle.std.proofs.lemmas.Option.{slice_get_within}
 use Rattle.std.proofs.lemmas.Map.Keys.{any_passes_from_place}
-use Rattle.qed_model.specs.Machine.Program.{Program, LoadSegment}
+use Rattle.machine.specs.Program.{Program, LoadSegment}
 use Rattle.qed_model.specs.Promise.Kept.{is_mapped}
 use Rattle.harts.specs.Harts.{all_segments}
 use Rattle.harts.specs.Together.{IsProgram, AreApart as FilesAreApart}
-use Rattle.qed_model.specs.Machine.Cells.{has, cell_at, cell_among}
-use Rattle.qed_model.specs.Machine.Apart.{share, FitsMemory, AllFitMemory, AreApart}
-use Rattle.qed_model.proofs.CellsAmong.{has_parts, get_among}
-use Rattle.qed_model.proofs.ApartLaws.{shared as share_at}
+use Rattle.machine.specs.Cells.{has, cell_at, cell_among}
+use Rattle.machine.specs.Apart.{share, FitsMemory, AllFitMemory, AreApart}
+use Rattle.machine.proofs.Lemmas.{has_parts, get_among, shared as share_at}
 use Rattle.mem_image.specs.Overlap.{any_share}
 use Rattle.harts.specs.Shared.{IsShared, AreUnshared, AreSound, FilesApart}
 use Rattle.mem_image.proofs.WholeLaws.{fits_at}

@@ -1,8 +1,8 @@
 -- What is promised of a hart's file holds of the hart after turns without changes.
 use Rattle.std.proofs.Common.{ℕ, List, [], refl, sym, ap, ◌∙◌}
 use Rattle.std.specs.Prelude.{slice_get}
-use Rattle.qed_model.specs.Machine.Program.{Program}
-use Rattle.qed_model.specs.Machine.Step.{State}
+use Rattle.machine.specs.Program.{Program}
+use Rattle.machine.specs.Step.{State}
 use Rattle.qed_model.specs.Promise.Kept.{NotTrapped}
 use Rattle.harts.specs.Harts.{state_of}
 use Rattle.harts.specs.HartSteps.{StandsAfter, TurnsKeep}

@@ -1,22 +1,21 @@
 -- What is promised of a hart's file holds of the hart, in its own turns.
-use Rattle.std.proofs.Common.{◌≡◌, ℕ, ◌≤◌, ◌⊎◌, inl, inr, Bool, true, List, [], is_some, refl, sym, ap, ◌∙◌, subst, arith}
+use Rattle.std.proofs.Common.{◌≡◌, ℕ, ◌≤◌, ◌⊎◌, inl, inr, Bool, true, List, [], is_some, sym, ap, ◌∙◌, subst}
 use Rattle.std.specs.Prelude.{◌↔◌, slice_index}
-use Rattle.std.specs.FinMap.{get}
 use Rattle.std.proofs.lemmas.Option.{same_Some}
-use Rattle.qed_model.specs.declared.machine.Outcome.TheVariants.{Ended, Fired}
+use Rattle.machine.specs.declared.outcome.Outcome.TheVariants.{Ended, Fired}
 use Rattle.qed_model.specs.declared.change.Change.{Change}
 use Rattle.qed_model.specs.declared.bounds.Bounds.{Bounds}
-use Rattle.qed_model.specs.Machine.Memory.{byte_in}
-use Rattle.qed_model.specs.Machine.Step.{State}
+use Rattle.machine.specs.Memory.{byte_in, get}
+use Rattle.machine.specs.Step.{State}
 use Rattle.qed_model.specs.Promise.Changed.{changed_run, last_step}
-use Rattle.qed_model.specs.Machine.Program.{Program, start, zeros, AreStartRegs}
+use Rattle.machine.specs.Program.{Program, start, zeros}
 use Rattle.qed_model.specs.Promise.Kept.{is_trapped, after_input, after_output, Halves, Preserved, NoFalseAlarm, Kept}
 use Rattle.qed_model.specs.Promise.Caught.{Same, Settles, Caught}
 use Rattle.harts.specs.Harts.{hart_of, hart_turns}
 use Rattle.harts.specs.Together.{IsProgram, own_run, IsSeen, HartKept, QuietInTurns, KeptInTurns, SameHart, SettlesInTurns, HartCaught, PerHart}
-use Rattle.qed_model.proofs.CellsLaws.{byte_of_cell}
-use Rattle.qed_model.proofs.Changes.{run_unchanged}
-use Rattle.qed_model.proofs.Fields.{zeros_start}
+use Rattle.machine.proofs.Lemmas.{byte_of_cell}
+use Rattle.qed_model.proofs.Lemmas.{run_unchanged}
+use Rattle.tests.proofs.Lemmas.{zeros_start}
 use Rattle.harts.proofs.Beside.{Holds}
 use Rattle.harts.proofs.Together.{stand_after}
 

@@ -5,11 +5,11 @@ use Rattle.std.proofs.Math.Nat.{add-mul-mod_self_right, mod-add-div'}
 use Rattle.std.proofs.lemmas.Nat.{mod-mul-add}
 use Rattle.std.proofs.lemmas.List.{length-map, set-get_or}
 use Rattle.std.proofs.lemmas.Option.{slice_get-get_or}
-use Rattle.qed_model.specs.declared.machine.Outcome.{Outcome}
-use Rattle.qed_model.specs.declared.machine.Outcome.TheVariants.{Going}
-use Rattle.qed_model.specs.Machine.Memory.{Memory}
-use Rattle.qed_model.specs.Machine.Progress.{steps_after}
-use Rattle.qed_model.specs.Machine.Step.{step}
+use Rattle.machine.specs.declared.outcome.Outcome.{Outcome}
+use Rattle.machine.specs.declared.outcome.Outcome.TheVariants.{Going}
+use Rattle.machine.specs.Memory.{Memory}
+use Rattle.machine.specs.Progress.{steps_after}
+use Rattle.machine.specs.Step.{step}
 use Rattle.rv_step.specs.Harts.{HartState}
 use Rattle.rv_step.proofs.Running.{stays_step}
 use Rattle.harts.specs.Harts.{Hart, World, hart_of, made_of, on_hart, state_of}

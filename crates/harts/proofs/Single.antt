@@ -1,8 +1,8 @@
 -- Turns of one hart alone are a run of it.
 use Rattle.std.proofs.Common.{◌≡◌, ℕ, zero, suc, ◌%◌, List, [], ◌∷◌, Some, refl, sym, ap, ◌∙◌, arith}
 use Rattle.std.specs.Prelude.{slice_get, slice_index, slice_set}
-use Rattle.qed_model.specs.Machine.Memory.{Memory}
-use Rattle.qed_model.specs.Machine.Progress.{progress}
+use Rattle.machine.specs.Memory.{Memory}
+use Rattle.machine.specs.Progress.{progress}
 use Rattle.rv_step.specs.Harts.{HartState, hart_of, with_memory}
 use Rattle.rv_step.proofs.Running.{progress_last}
 use Rattle.harts.specs.HartSteps.{counted, counted_turn, counted_turns, cycled}

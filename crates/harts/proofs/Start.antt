@@ -4,12 +4,11 @@ use Rattle.std.specs.Option.{option_map}
 use Rattle.std.specs.FinMap.{get, find}
 use Rattle.std.specs.Ordering.{nat_cmp}
 use Rattle.std.proofs.lemmas.Option.{slice_get-map}
-use Rattle.qed_model.specs.Machine.Program.{Program, cells_of, memory_of, start, zeros}
+use Rattle.machine.specs.Program.{Program, cells_of, memory_of, start, zeros}
 use Rattle.qed_model.specs.Promise.Kept.{is_mapped}
-use Rattle.qed_model.proofs.SegmentCells.{cells_of-append}
+use Rattle.machine.proofs.Lemmas.{cells_of-append, get_memory, find_front, find_skip}
 use Rattle.harts.specs.Harts.{hart_of, all_segments, begin}
 use Rattle.harts.specs.Together.{IsProgram, AreApart}
-use Rattle.qed_model.proofs.CellsLaws.{get_memory, find_front, find_skip}
 use Rattle.harts.proofs.Turns.{Stand}
 
 -- no file before it has the byte, so what is found is the file's

@@ -2,11 +2,10 @@
 use Rattle.std.proofs.Common.{◌≡◌, List, [], ◌∷◌, length, refl, ap, ◌∙◌, sym, subst}
 use Rattle.std.specs.Prelude.{map}
 use Rattle.std.proofs.lemmas.List.{length-map}
-use Rattle.elf_types.specs.declared.file.ElfFile.{ElfFile}
-use Rattle.qed_model.specs.Machine.Apart.{AllFitMemory, AreApart}
-use Rattle.qed_model.specs.Machine.Memory.{Memory}
-use Rattle.qed_model.specs.Machine.Program.{LoadSegment, memory_of}
-use Rattle.qed_model.specs.Machine.Loading.{loaded_file}
+use Rattle.machine.specs.Apart.{AllFitMemory, AreApart}
+use Rattle.machine.specs.Memory.{Memory}
+use Rattle.machine.specs.Program.{LoadSegment, memory_of}
+use Rattle.machine.specs.Loading.{loaded_file, ElfFile}
 use Rattle.rv_step.specs.Harts.{HartState}
 use Rattle.harts.specs.Harts.{all_segments, begin}
 use Rattle.harts.specs.HartSteps.{bare, counted, counted_start}

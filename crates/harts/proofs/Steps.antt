@@ -6,12 +6,12 @@ use Rattle.std.specs.FinMap.{get}
 use Rattle.std.proofs.lemmas.Bool.{eqb-true, eqb-false}
 use Rattle.std.proofs.lemmas.Option.{slice_get-map}
 use Rattle.qed_model.specs.declared.change.Change.{Change}
-use Rattle.qed_model.specs.declared.change.Place.{Place}
-use Rattle.qed_model.specs.Machine.Struck.{struck}
-use Rattle.qed_model.specs.Machine.Step.{State, step}
-use Rattle.qed_model.specs.Machine.Progress.{steps_after, advanced, progress, begun}
+use Rattle.machine.specs.declared.place.Place.{Place}
+use Rattle.machine.specs.Struck.{struck}
+use Rattle.machine.specs.Step.{State, step}
+use Rattle.machine.specs.Progress.{steps_after, advanced, progress, begun}
 use Rattle.qed_model.specs.Promise.Changed.{with_changes, changed_run}
-use Rattle.qed_model.specs.Machine.Program.{Program, start, zeros}
+use Rattle.machine.specs.Program.{Program, start, zeros}
 use Rattle.harts.specs.Harts.{state_of, Hart, World, hart_of, made_of, on_hart, begin, hart_turns, with_first, count, turned, world_after}
 use Rattle.harts.specs.Together.{IsProgram, own_run, AreAlone}
 use Rattle.harts.specs.HartSteps.{counted_strike, counted_start, Counted, steps_turned, counted_turns, steps_after_turns, counted_after, own_steps, ShowsCounted}

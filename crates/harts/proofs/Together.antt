@@ -3,14 +3,14 @@ use Rattle.std.proofs.Common.{◌≡◌, ◌≢◌, ℕ, zero, suc, ◌<◌, Boo
 use Rattle.std.specs.Prelude.{◌==◌, nat_lt, slice_get}
 use Rattle.std.proofs.lemmas.Bool.{eq-eqb, ne_eqb, eqb-true, eqb-false, lt-ltb}
 use Rattle.std.proofs.lemmas.Bool.Decides.{nat_tests}
-use Rattle.qed_model.specs.declared.machine.Outcome.{Outcome}
-use Rattle.qed_model.specs.declared.machine.Outcome.TheVariants.{Going, Ended, Fired, Trapped}
+use Rattle.machine.specs.declared.outcome.Outcome.{Outcome}
+use Rattle.machine.specs.declared.outcome.Outcome.TheVariants.{Going, Ended, Fired, Trapped}
 use Rattle.qed_model.specs.declared.change.Change.{Change}
-use Rattle.qed_model.specs.Machine.Step.{State, step_at, step}
+use Rattle.machine.specs.Step.{State, step_at, step}
 use Rattle.qed_model.specs.Promise.Changed.{changed, changed_as, with_changes, changed_run}
-use Rattle.qed_model.specs.Machine.Program.{Program, start, zeros}
+use Rattle.machine.specs.Program.{Program, start, zeros}
 use Rattle.qed_model.specs.Promise.Kept.{is_trapped, NotTrapped}
-use Rattle.qed_model.proofs.Changes.{struck_outcome}
+use Rattle.qed_model.proofs.Lemmas.{struck_outcome}
 use Rattle.harts.specs.Harts.{begin, hart_turns, with_first, count, turned, world_after}
 use Rattle.harts.specs.Together.{IsProgram, own_run, AreAlone, Shows}
 use Rattle.harts.proofs.Beside.{does_step, does_changes}

@@ -1,11 +1,10 @@
 -- All harts at once: what is made of one of them changes nothing of the others.
 use Rattle.std.proofs.Common.{◌≡◌, ◌≢◌, ℕ, zero, suc, Bool, true, false, List, [], ◌∷◌, Option, Some, None, refl, sym, ap, ◌∙◌, subst}
 use Rattle.std.specs.Prelude.{◌==◌, slice_get, slice_set}
-use Rattle.std.specs.FinMap.{get}
 use Rattle.std.proofs.lemmas.Bool.{eqb-true, eqb-false}
-use Rattle.qed_model.specs.Machine.Memory.{Memory}
-use Rattle.qed_model.specs.Machine.Step.{State}
-use Rattle.qed_model.specs.Machine.Program.{Program}
+use Rattle.machine.specs.Memory.{Memory, get}
+use Rattle.machine.specs.Step.{State}
+use Rattle.machine.specs.Program.{Program}
 use Rattle.qed_model.specs.Promise.Kept.{is_mapped}
 use Rattle.harts.specs.Harts.{World, hart_of, made_of, on_hart}
 use Rattle.harts.specs.Together.{IsProgram, AreApart}

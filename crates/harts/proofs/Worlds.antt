@@ -5,26 +5,25 @@ use Rattle.std.specs.Option.{option_map}
 use Rattle.std.specs.FinMap.{find}
 use Rattle.std.specs.Ordering.{nat_cmp}
 use Rattle.std.proofs.lemmas.Bool.{false≢true}
-use Rattle.qed_model.specs.declared.change.Place.{Place}
-use Rattle.qed_model.specs.declared.machine.Outcome.{Outcome}
-use Rattle.qed_model.specs.Machine.Struck.{struck}
-use Rattle.qed_model.specs.Machine.Step.{step}
-use Rattle.qed_model.specs.Machine.Program.{Program, cells_of}
+use Rattle.machine.specs.declared.place.Place.{Place}
+use Rattle.machine.specs.declared.outcome.Outcome.{Outcome}
+use Rattle.machine.specs.Struck.{struck}
+use Rattle.machine.specs.Step.{step}
+use Rattle.machine.specs.Program.{Program, cells_of}
 use Rattle.harts.specs.Harts.{Hart, hart_of, state_of, all_segments}
 use Rattle.harts.specs.Together.{AreApart}
 use Rattle.rv_step.specs.Harts.{HartState, with_memory}
 use Rattle.rv_step.specs.Known.{struck_progress}
 use Rattle.harts.specs.HartSteps.{Counted, bare, counted, counted_turn, counted_strike, steps_turned}
-use Rattle.qed_model.proofs.CellsLaws.{get_memory, find_skip}
+use Rattle.machine.proofs.Lemmas.{get_memory, find_skip, cells_of-append}
 use Rattle.harts.specs.Starts.{IsOfSome, IsUnion, IsTurned, IsStruck, WorldLaws}
 use Rattle.std.proofs.lemmas.Option.{slice_get-map}
 use Rattle.std.proofs.lemmas.List.{map-set}
-use Rattle.qed_model.specs.declared.change.Place.TheVariants.{Word}
-use Rattle.qed_model.specs.Machine.Memory.{Memory, put}
-use Rattle.qed_model.specs.Machine.Progress.{steps_after, advanced}
+use Rattle.machine.specs.declared.place.Place.TheVariants.{Word}
+use Rattle.machine.specs.Memory.{Memory, put}
+use Rattle.machine.specs.Progress.{steps_after, advanced}
 use Rattle.harts.proofs.Turns.{on_some, set_here}
 use Rattle.harts.proofs.Steps.{index_is, set_same}
-use Rattle.qed_model.proofs.SegmentCells.{cells_of-append}
 use Rattle.harts.proofs.Start.{start_cells}
 
 -- ---- the start

@@ -1,9 +1,9 @@
 -- The code of a world, by which a proof tells worlds apart.
 use Rattle.std.specs.Prelude.{ℕ, List, refl}
 use Rattle.std.specs.Coded.{Coded, code_by, coded×, coded_ℕ, coded_list}
-use Rattle.qed_model.specs.Machine.Memory.{Memory, memory_code}
-use Rattle.qed_model.specs.declared.machine.Outcome.{Outcome}
-use Rattle.qed_model.specs.contracts.machine.Outcome as outcome
+use Rattle.machine.specs.Memory.{Memory, memory_code}
+use Rattle.machine.specs.declared.outcome.Outcome.{Outcome}
+use Rattle.machine.specs.contracts.outcome.Outcome as outcome
 use Rattle.harts.specs.Harts.{Hart, World}
 use Rattle.harts.specs.HartSteps.{Counted}
 

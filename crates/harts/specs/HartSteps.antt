@@ -1,13 +1,13 @@
 -- Several harts with one memory, and the number of steps of each: its turns from states that went on.
 use Rattle.std.specs.Prelude.{◌≡◌, ℕ, zero, suc, ◌%◌, Bool, length, List, [], ◌∷◌, map, slice_get, slice_set, slice_index, Option, Some, None}
-use Rattle.qed_model.specs.declared.change.Place.{Place}
+use Rattle.machine.specs.declared.place.Place.{Place}
 use Rattle.qed_model.specs.declared.change.Change.{Change}
-use Rattle.qed_model.specs.Machine.Memory.{Memory}
-use Rattle.qed_model.specs.Machine.Struck.{struck}
+use Rattle.machine.specs.Memory.{Memory}
+use Rattle.machine.specs.Struck.{struck}
 use Rattle.qed_model.specs.Promise.Changed.{changed_run}
-use Rattle.qed_model.specs.Machine.Progress.{steps_after, begun, progress}
-use Rattle.qed_model.specs.Machine.Step.{State}
-use Rattle.qed_model.specs.Machine.Program.{Program, start, zeros}
+use Rattle.machine.specs.Progress.{steps_after, begun, progress}
+use Rattle.machine.specs.Step.{State}
+use Rattle.machine.specs.Program.{Program, start, zeros}
 use Rattle.rv_step.specs.Harts.{HartState}
 use Rattle.harts.specs.Harts.{Hart, World, state_of, begin, turned, on_hart, hart_turns, world_after}
 use Rattle.qed_model.specs.Promise.Kept.{NotTrapped, Kept}

@@ -1,10 +1,10 @@
 -- Several harts with one memory. One event is one step of one hart.
 use Rattle.std.specs.Prelude.{ℕ, zero, suc, ◌==◌, cond, List, [], ◌∷◌, ◌++◌, map, slice_get, slice_set, Option, Some, None}
-use Rattle.qed_model.specs.declared.machine.Outcome.{Outcome}
+use Rattle.machine.specs.declared.outcome.Outcome.{Outcome}
 use Rattle.qed_model.specs.declared.change.Change.{Change}
-use Rattle.qed_model.specs.Machine.Memory.{Memory}
-use Rattle.qed_model.specs.Machine.Step.{State, step}
-use Rattle.qed_model.specs.Machine.Program.{Program, LoadSegment, memory_of, start, zeros}
+use Rattle.machine.specs.Memory.{Memory}
+use Rattle.machine.specs.Step.{State, step}
+use Rattle.machine.specs.Program.{Program, LoadSegment, memory_of, start, zeros}
 use Rattle.qed_model.specs.Promise.Changed.{with_changes}
 
 -- ---- harts

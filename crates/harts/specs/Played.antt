@@ -1,9 +1,8 @@
 -- The programs of files, and turns that were made before memory was lacking.
 use Rattle.std.specs.Prelude.{◌≡◌, ◌≤◌, ℕ, List, map}
-use Rattle.elf_types.specs.declared.file.ElfFile.{ElfFile}
-use Rattle.qed_model.specs.Machine.Program.{Program, start, zeros}
-use Rattle.qed_model.specs.Machine.Loading.{loaded_file}
-use Rattle.qed_model.specs.Machine.Progress.{begun}
+use Rattle.machine.specs.Program.{Program, start, zeros}
+use Rattle.machine.specs.Loading.{loaded_file, ElfFile}
+use Rattle.machine.specs.Progress.{begun}
 use Rattle.rv_step.specs.Harts.{HartState, hart_of}
 use Rattle.harts.specs.HartSteps.{Counted, counted_turns, cycled}
 

@@ -1,10 +1,10 @@
 -- Files of which segments share a byte, and what is known where none do.
 use Rattle.std.specs.Prelude.{ℕ, List, [], ◌∷◌}
-use Rattle.qed_model.specs.Machine.Program.{Program}
+use Rattle.machine.specs.Program.{Program}
 use Rattle.mem_image.specs.Overlap.{files_share, IsPair, IsLeastPair}
 use Rattle.harts.specs.Harts.{all_segments}
 use Rattle.harts.specs.Together.{AreApart as FilesAreApart}
-use Rattle.qed_model.specs.Machine.Apart.{AllFitMemory, AreApart}
+use Rattle.machine.specs.Apart.{AllFitMemory, AreApart}
 use Rattle.harts.specs.declared.error.HartsError.{HartsError}
 use Rattle.harts.specs.declared.error.HartsError.TheVariants.{Shared, Memory}
 

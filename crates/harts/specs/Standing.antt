@@ -1,8 +1,8 @@
 -- How the harts of a world stand together.
 use Rattle.std.specs.Prelude.{◌≡◌, ℕ, ◌<◌, Bool, true, false, List, length, slice_get, slice_index, Some}
 use Rattle.std.specs.List.{list_any}
-use Rattle.qed_model.specs.declared.machine.Outcome.{Outcome}
-use Rattle.qed_model.specs.declared.machine.Outcome.TheVariants.{Fired}
+use Rattle.machine.specs.declared.outcome.Outcome.{Outcome}
+use Rattle.machine.specs.declared.outcome.Outcome.TheVariants.{Fired}
 use Rattle.rv_step.specs.Harts.{HartState}
 use Rattle.rv_step.specs.Known.{goes_on}
 use Rattle.harts.specs.Harts.{Hart}

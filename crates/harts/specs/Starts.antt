@@ -1,11 +1,11 @@
 -- What the world is before the first turn, and what a turn and a change make of it, part by part.
 use Rattle.std.specs.Prelude.{◌≡◌, ℕ, true, List, slice_get, slice_set, slice_index, Some, is_some}
 use Rattle.std.specs.FinMap.{get}
-use Rattle.qed_model.specs.declared.change.Place.{Place}
-use Rattle.qed_model.specs.Machine.Struck.{struck}
-use Rattle.qed_model.specs.Machine.Progress.{steps_after}
-use Rattle.qed_model.specs.Machine.Step.{step}
-use Rattle.qed_model.specs.Machine.Program.{Program, memory_of}
+use Rattle.machine.specs.declared.place.Place.{Place}
+use Rattle.machine.specs.Struck.{struck}
+use Rattle.machine.specs.Progress.{steps_after}
+use Rattle.machine.specs.Step.{step}
+use Rattle.machine.specs.Program.{Program, memory_of}
 use Rattle.qed_model.specs.Promise.Kept.{is_mapped}
 use Rattle.harts.specs.Harts.{Hart, state_of, hart_of, begin}
 use Rattle.harts.specs.Together.{IsProgram, AreApart}

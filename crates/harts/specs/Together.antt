@@ -1,14 +1,13 @@
 -- What is promised of several harts with one memory: each runs as it runs alone.
 use Rattle.std.specs.Prelude.{◌≡◌, ◌≢◌, ℕ, ◌+◌, ◌*◌, ◌^◌, ◌<◌, ◌≤◌, ◌⊎◌, ◌↔◌, Bool, true, List, [], ◌∷◌, slice_get, Some}
-use Rattle.std.specs.FinMap.{get}
-use Rattle.qed_model.specs.declared.machine.Outcome.TheVariants.{Going, Ended, Fired}
-use Rattle.qed_model.specs.declared.change.Place.{Place}
-use Rattle.qed_model.specs.declared.change.Place.TheVariants.{Reg, Word}
+use Rattle.machine.specs.declared.outcome.Outcome.TheVariants.{Going, Ended, Fired}
+use Rattle.machine.specs.declared.place.Place.{Place}
+use Rattle.machine.specs.declared.place.Place.TheVariants.{Reg, Word}
 use Rattle.qed_model.specs.declared.change.Change.{Change}
 use Rattle.qed_model.specs.declared.bounds.Bounds.{Bounds}
-use Rattle.qed_model.specs.Machine.Memory.{wrap}
-use Rattle.qed_model.specs.Machine.Step.{State}
-use Rattle.qed_model.specs.Machine.Program.{Program, start, zeros}
+use Rattle.machine.specs.Memory.{wrap, get}
+use Rattle.machine.specs.Step.{State}
+use Rattle.machine.specs.Program.{Program, start, zeros}
 use Rattle.qed_model.specs.Promise.Kept.{is_mapped, after_input, after_output, NotTrapped, Steady, Halves, Kept}
 use Rattle.qed_model.specs.Promise.Changed.{changed_run, Ordered, last_step}
 use Rattle.qed_model.specs.Promise.Caught.{bound_of, AllOpen, Caught}

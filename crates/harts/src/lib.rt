@@ -4,7 +4,7 @@
 #![tactic(auto)]
 
 ghost use Rattle.std.specs.Prelude.{ℕ, List};
-ghost use Rattle.qed_model.specs.Machine.Program.{Program};
+ghost use Rattle.machine.specs.Program.{Program};
 ghost use Rattle.harts.specs.Shared.{AreSound, AreUnshared, NoneShared};
 ghost use Rattle.harts.specs.Starts.{WorldLaws};
 ghost use Rattle.harts.specs.HartSteps.{CountedTogether, TurnsKeep, TurnsRun};

@@ -3,3 +3,4 @@ pub mod Words
 pub mod Ranges
 pub mod Whole
 pub mod RowBytes
+pub mod Texts

@@ -1,7 +1,7 @@
 -- Lines of words that are listed one after the other.
 use Rattle.std.proofs.Common.{◌≡◌, ℕ, zero, suc, ◌+◌, ◌-◌, ◌*◌, ◌<◌, max, List, [], ◌∷◌, ◌++◌, length, get_or, drop, refl, sym, ap, ◌∙◌, arith, append_assoc, add-one, drop-cons}
-use Rattle.code_ranges.specs.declared.range.CodeRange.{CodeRange}
-use Rattle.code_ranges.specs.Ranges.{span, spans}
+use Rattle.tests.specs.declared.code_range.CodeRange.{CodeRange}
+use Rattle.tests.specs.Ranges.{span, spans}
 use Rattle.listing.specs.Listing.{line, lines}
 use Rattle.listing.specs.Addresses.{from_on, down, words_of, addresses}
 

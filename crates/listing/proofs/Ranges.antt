@@ -6,13 +6,12 @@ use Rattle.std.proofs.lemmas.Bool.{and_parts, and_from, or_cases, or_left, or_ri
 use Rattle.std.proofs.lemmas.List.Elements.{All-nil, All-cons}
 use Rattle.std.proofs.lemmas.List.Sorted.{All-permutation}
 use Rattle.elf_types.specs.declared.file.Section.{Section}
-use Rattle.elf_types.specs.declared.file.ElfFile.{ElfFile}
-use Rattle.code_ranges.specs.declared.range.CodeRange.{CodeRange}
-use Rattle.code_ranges.specs.Ranges.{span, spans}
-use Rattle.qed_model.specs.Machine.Program.{LoadSegment}
-use Rattle.qed_model.specs.Machine.Loading.{is_code_section, lies_in_code, lies_in_any, section_ranges, segment_ranges, first_some}
-use Rattle.qed_model.specs.Admission.CodeWords.{loads_of, ranges_of}
-use Rattle.qed_model.specs.Members.{Among}
+use Rattle.tests.specs.declared.code_range.CodeRange.{CodeRange}
+use Rattle.tests.specs.Ranges.{span, spans}
+use Rattle.machine.specs.Program.{LoadSegment}
+use Rattle.machine.specs.Loading.{is_code_section, lies_in_code, lies_in_any, section_ranges, segment_ranges, first_some, ElfFile}
+use Rattle.tests.specs.Admission.CodeWords.{loads_of, ranges_of}
+use Rattle.machine.specs.Members.{Among}
 use Rattle.listing.specs.Homes.{holds_range, is_held, IsHeld}
 
 -- ---- sections

@@ -2,16 +2,14 @@
 use Rattle.std.proofs.Common.{◌≡◌, ℕ, Bool, false, Option, Some, None, List, [], ◌∷◌, map, refl, ap, ◌∙◌, arith}
 use Rattle.elf_types.specs.declared.file.ElfFile.{ElfFile}
 use Rattle.qed_model.specs.declared.item.Item.{Item}
-use Rattle.qed_model.specs.declared.options.Options.{Options}
+use Rattle.tests.specs.declared.options.Options.{Options}
 use Rattle.qed_model.specs.declared.role.Role.{Role}
 use Rattle.qed_model.specs.Weave.Placed.{sum_of_sizes}
 use Rattle.qed_model.specs.Weave.LeanRoles.{lean_parts, roles_as, new_roles}
 use Rattle.qed_model.specs.Weave.Roles.{joined, row_of, new_parts}
 use Rattle.qed_model.specs.Weave.Sequences.{Block}
 use Rattle.qed_model.specs.Weave.Woven.{is_far_code, code_as, new_code, size_of_code}
-use Rattle.qed_model.proofs.LeanRoleParts.{lean_roles_cover}
-use Rattle.qed_model.proofs.PlacedWords.{size-append}
-use Rattle.qed_model.proofs.RoleParts.{roles_cover}
+use Rattle.qed_model.proofs.Lemmas.{lean_roles_cover, size-append, roles_cover}
 use Rattle.listing.specs.Roles.{rows_bytes}
 
 parts_size : (far : Bool) (ps : List (Role × List Item)) → rows_bytes (map (row_of far) ps) ≡ sum_of_sizes far (joined ps)

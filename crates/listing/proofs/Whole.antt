@@ -5,15 +5,13 @@ use Rattle.std.specs.List.{list_any}
 use Rattle.std.specs.List.Sorted.{IsPermutation, IsNonDecreasingBy}
 use Rattle.std.proofs.lemmas.Bool.{and_parts, and_from, or_cases, or_left, or_right, leb-true, le-leb, eqb-true, eq-eqb, false≢true, cases_lt}
 use Rattle.std.proofs.lemmas.List.Sorted.{list_any-IsPermutation}
-use Rattle.elf_types.specs.declared.file.ElfFile.{ElfFile}
-use Rattle.code_ranges.specs.declared.range.CodeRange.{CodeRange}
-use Rattle.code_ranges.specs.Ranges.{span, spans}
-use Rattle.qed_model.specs.Machine.Step.{in_range}
-use Rattle.qed_model.specs.Admission.CodeWords.{ranges_of, word_at}
-use Rattle.qed_model.proofs.OneRefusal.{Rising}
-use Rattle.qed_model.proofs.Addresses.{rising_lower, pairs_of}
-use Rattle.qed_model.proofs.Among.{among_of, contains_of, among-left, among-right, among-either}
-use Rattle.qed_model.specs.Members.{Among}
+use Rattle.tests.specs.declared.code_range.CodeRange.{CodeRange}
+use Rattle.tests.specs.Ranges.{span, spans}
+use Rattle.machine.specs.Step.{in_range}
+use Rattle.tests.specs.Admission.CodeWords.{ranges_of, word_at, ElfFile}
+use Rattle.tests.proofs.Lemmas.{Rising, rising_lower, pairs_of}
+use Rattle.machine.proofs.Lemmas.{among_of, contains_of, among-left, among-right, among-either}
+use Rattle.machine.specs.Members.{Among}
 use Rattle.listing.specs.Listing.{lines, AreWordAddresses, IsListing}
 use Rattle.listing.specs.Addresses.{from_on, up, down, words_of, addresses}
 

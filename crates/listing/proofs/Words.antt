@@ -2,17 +2,14 @@
 use Rattle.std.proofs.Common.{◌≡◌, ℕ, ◌+◌, ◌-◌, ◌*◌, ◌/◌, ◌<◌, ◌≤◌, max, true, List, ◌++◌, refl, sym, ap, ◌∙◌, arith}
 use Rattle.std.specs.Prelude.{slice_index, nat_le, Contains}
 use Rattle.std.proofs.lemmas.Bool.{and_parts, leb-true}
-use Rattle.elf_types.specs.declared.file.Segment.{Segment}
-use Rattle.qed_model.specs.Machine.Apart.{AllFitMemory, AreApart}
-use Rattle.qed_model.specs.Machine.Memory.{byte_in}
-use Rattle.qed_model.specs.Machine.Program.{LoadSegment}
-use Rattle.qed_model.specs.Machine.Loading.{load_segment, load_segments}
-use Rattle.qed_model.specs.Machine.Cells.{cell_at, byte_among}
-use Rattle.qed_model.proofs.Among.{among_of, contains_of}
-use Rattle.qed_model.specs.Members.{Among}
-use Rattle.qed_model.proofs.ApartLaws.{alone, fit_among}
-use Rattle.qed_model.proofs.CellsAmong.{has_from, among_agreed, by_bytes}
-use Rattle.qed_model.proofs.ImageLaws.{among_load}
+use Rattle.machine.specs.Apart.{AllFitMemory, AreApart}
+use Rattle.machine.specs.Memory.{byte_in}
+use Rattle.machine.specs.Program.{LoadSegment}
+use Rattle.machine.specs.Loading.{load_segment, load_segments, Segment}
+use Rattle.machine.specs.Cells.{cell_at, byte_among}
+use Rattle.machine.proofs.Lemmas.{among_of, contains_of, alone, fit_among, has_from, among_agreed, by_bytes}
+use Rattle.machine.specs.Members.{Among}
+use Rattle.tests.proofs.Lemmas.{among_load}
 use Rattle.listing.specs.Homes.{holds_range, IsHome, image_word, segment_word}
 use Rattle.listing.specs.Listing.{lines}
 use Rattle.listing.specs.Addresses.{from_on, up, down, words_of}

@@ -1,10 +1,9 @@
 -- The segments in which code ranges lie, and their words.
 use Rattle.std.specs.Prelude.{◌≡◌, ℕ, ◌+◌, ◌-◌, ◌^◌, ◌≤◌, ◌&&◌, ◌||◌, nat_le, Bool, true, false, List, [], ◌∷◌, Contains}
-use Rattle.elf_types.specs.declared.file.Segment.{Segment}
-use Rattle.qed_model.specs.Machine.Program.{LoadSegment}
-use Rattle.qed_model.specs.Machine.Loading.{load_segment, load_segments}
-use Rattle.qed_model.specs.Machine.Cells.{number_among}
-use Rattle.code_ranges.specs.Words.{word_in}
+use Rattle.machine.specs.Program.{LoadSegment}
+use Rattle.machine.specs.Loading.{load_segment, load_segments, Segment}
+use Rattle.machine.specs.Cells.{number_among}
+use Rattle.tests.specs.Words.{word_in}
 
 -- a range, by its first address and the one behind its last, lies wholly inside a segment
 abbrev pub holds_range : LoadSegment → ℕ × ℕ → Bool

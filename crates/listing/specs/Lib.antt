@@ -2,3 +2,4 @@ pub mod Listing
 pub mod Homes
 pub mod Addresses
 pub mod Roles
+pub mod WordTexts

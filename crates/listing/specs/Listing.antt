@@ -1,8 +1,7 @@
 -- The listing of a file: the text of each code word with its address, in ascending order.
 use Rattle.std.specs.Prelude.{◌≡◌, ℕ, ◌<◌, ◌%◌, ◌==◌, ◌&&◌, Bool, true, List, [], ◌∷◌, ◌++◌, codes, AllPairs, Contains, ◌↔◌}
-use Rattle.elf_types.specs.declared.file.ElfFile.{ElfFile}
-use Rattle.qed_model.specs.Admission.CodeWords.{ranges_of, word_at}
-use Rattle.qed_model.specs.Machine.Step.{in_range}
+use Rattle.tests.specs.Admission.CodeWords.{ranges_of, word_at, ElfFile}
+use Rattle.machine.specs.Step.{in_range}
 use Rattle.texts.specs.Printed.{hex_text, word_text}
 use Rattle.rv_text.specs.Text.{text_of}
 

@@ -1,6 +1,7 @@
 -- The words of new code with what each is for: a line for each word, as in a listing, with its role in the place of the word.
 use Rattle.std.specs.Prelude.{ℕ, ◌+◌, ◌-◌, ◌/◌, ◌==◌, ◌&&◌, ◌||◌, nat_lt, nat_le, not, Bool, false, if◌then◌else◌, Option, Some, None, List, [], ◌∷◌, ◌++◌, codes, take, drop}
 use Rattle.std.specs.Fmt.{decimal}
+use Rattle.rv_isa.specs.declared.profile.TheConstants.{PAIR_DISTANCE}
 use Rattle.elf_types.specs.declared.file.Symbol.{Symbol}
 use Rattle.elf_types.specs.Symbol.{is_code_symbol}
 use Rattle.qed_model.specs.declared.role.Role.{Role}
@@ -104,7 +105,7 @@ symbol_text (Some a) symbols = symbol_line a (nearest a None symbols)
 
 -- a register and its pair
 abbrev pub pair_text : ℕ → List ℕ
-pair_text r = codes "fired: x" ++ (decimal r ++ (codes " and x" ++ (decimal (r + 16) ++ codes " differ\n")))
+pair_text r = codes "fired: x" ++ (decimal r ++ (codes " and x" ++ (decimal (r + PAIR_DISTANCE) ++ codes " differ\n")))
 
 -- the signature is not that of an input address
 abbrev pub sign_text : ℕ → List ℕ

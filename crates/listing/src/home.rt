@@ -1,12 +1,12 @@
 //! The segments that have the code words.
 ghost use Rattle.std.specs.Prelude.{◌≡◌, ◌+◌, ◌≤◌, ◌^◌, true, false, Contains, MatchOption};
-ghost use Rattle.qed_model.specs.Machine.Apart.{AllFitMemory};
-ghost use Rattle.qed_model.specs.Machine.Loading.{load_segment, load_segments};
-ghost use Rattle.code_ranges.specs.Ranges.{span};
+ghost use Rattle.machine.specs.Apart.{AllFitMemory};
+ghost use Rattle.machine.specs.Loading.{load_segment, load_segments};
+ghost use Rattle.tests.specs.Ranges.{span};
 ghost use Rattle.listing.specs.Homes.{holds_range, is_held, IsHeld, IsHome, segment_word};
 
-use code_ranges::{CodeRange, word_in};
 use elf_types::Segment;
+use tests::{CodeRange, word_in};
 
 /// Whether a range lies wholly inside a segment.
 fn holds(segment: &Segment, range: CodeRange) -> bool

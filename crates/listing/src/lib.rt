@@ -2,11 +2,13 @@
 #![tactic(auto)]
 
 mod home;
+mod laws;
 mod line;
 mod listing;
 mod place;
 mod roles;
 
+pub use laws::{listings_assemble, words_assemble};
 pub use listing::list_text;
 pub use place::{nearest, role_at, word_text};
 pub use roles::role_text;

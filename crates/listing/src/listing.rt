@@ -1,18 +1,18 @@
 //! The listing of a file.
 ghost use Rattle.std.specs.Prelude.{◌≡◌, ◌+◌, ◌*◌, ◌%◌, ◌^◌, ◌≤◌, ◌++◌, All, IfOk, OnOk};
 ghost use Rattle.elf_types.specs.declared.file.Segment.{Segment as ElfSegment};
-ghost use Rattle.qed_model.specs.Machine.Apart.{AllFitMemory, AreApart};
-ghost use Rattle.qed_model.specs.Machine.Loading.{load_segment, load_segments};
-ghost use Rattle.code_ranges.specs.Ranges.{span, spans};
+ghost use Rattle.machine.specs.Apart.{AllFitMemory, AreApart};
+ghost use Rattle.machine.specs.Loading.{load_segment, load_segments};
+ghost use Rattle.tests.specs.Ranges.{span, spans};
 ghost use Rattle.listing.specs.Homes.{IsHeld, IsHome, image_word, segment_word};
 ghost use Rattle.listing.specs.Listing.{lines, IsListing};
 ghost use Rattle.listing.specs.Addresses.{up, down, from_on, words_of, addresses};
 
 use crate::home::{home, segment_word};
 use crate::line::push_line;
-use code_ranges::{CodeRange, code_ranges};
 use elf_types::{Bytes, ElfFile, Segment};
 use std::alloc::{AllocError, Global};
+use tests::{CodeRange, code_ranges};
 
 /// Appends the lines of so many words of a segment, from an address on.
 fn push_words(

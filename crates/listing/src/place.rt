@@ -8,6 +8,7 @@ use crate::roles::push_role_line;
 use elf_types::{Bytes, Symbol};
 use qed_model::{Role, RoleRow};
 use rv_isa::Reg;
+use rv_isa::profile::PAIR_DISTANCE;
 use rv_text::Address;
 use std::alloc::{AllocError, Global};
 use std::str;
@@ -134,7 +135,7 @@ fn pair_line(alloc: Global, register: Reg) -> Result<String, AllocError>
     ensures { IfOk result (λ text. string_bytes text ≡ pair_text register) }
 {
     let number = register.number();
-    format!(in alloc; "fired: x{number} and x{} differ\n", number + 16)
+    format!(in alloc; "fired: x{number} and x{} differ\n", number + PAIR_DISTANCE)
 }
 
 /// The line about a signature that is not that of an input address.

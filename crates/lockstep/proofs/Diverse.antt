@@ -1,5 +1,5 @@
 -- Changes of tests whose mirror parts are of other kinds are caught.
-use Rattle.weave_core.proofs.Diverse.{diverse_mirrors}
+use Rattle.weave_core.proofs.Lemmas.{diverse_mirrors}
 use Rattle.lockstep.specs.DiverseLaws.{DiverseCaught, DiverseClean}
 use Rattle.lockstep.proofs.FormWords.{plan_caught, plan_clean}
 

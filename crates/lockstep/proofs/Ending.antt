@@ -2,21 +2,20 @@
 use Rattle.std.proofs.Common.{◌≡◌, ℕ, zero, suc, ◌+◌, ◌-◌, ◌%◌, ◌^◌, ◌<◌, ◌≤◌, ◌⊎◌, inl, inr, ⊎_elim, List, length, sym, ap, ◌∙◌, subst, arith}
 use Rattle.std.specs.Prelude.{pos}
 use Rattle.std.proofs.lemmas.Bool.{cases_lt}
-use Rattle.qed_model.specs.Admission.DataRanges.{word_count, word_address}
+use Rattle.tests.specs.Admission.DataRanges.{word_count, word_address}
 use Rattle.qed_model.specs.Promise.Kept.{after_output}
-use Rattle.qed_model.proofs.Walk.{run-more}
-use Rattle.weave_core.specs.World.{World, words_on, Going, Ended, Program, start, State, Fetched, reg, place, run}
+use Rattle.machine.proofs.Lemmas.{run-more}
+use Rattle.weave_core.specs.World.{World, words_on, Going, Ended, Program, start, State, Fetched, reg, place, run, CURSOR}
 use Rattle.weave_core.specs.Kinds.{originals}
 use Rattle.weave_core.specs.Lock.{first_load, ComparesFrom}
 use Rattle.weave_core.specs.WeaveLaws.{Visits, Swept}
-use Rattle.weave_core.proofs.Trace.{run-ended}
-use Rattle.weave_core.proofs.Values.{going_ended}
+use Rattle.weave_core.proofs.Lemmas.{run-ended, going_ended}
 use Rattle.lockstep.proofs.Sets.{word_below}
 use Rattle.lockstep.proofs.Numbered.{words_are, advance_below, word_small, some_spans, AtNumber, round_of, round_some, round_none}
 use Rattle.lockstep.proofs.Trace.{advance, Sizes, VisitIn, NextSteps, SweptEnd}
 
 -- the place of the first load is the cursor
-pub place_is : (u : State) (x : ℕ) → reg u 15 ≡ x → x < 2 ^ 64 → place first_load u ≡ x
+pub place_is : (u : State) (x : ℕ) → reg u CURSOR ≡ x → x < 2 ^ 64 → place first_load u ≡ x
 place_is u x e h = ap (λ y. (y + 0) % 2 ^ 64) e ∙ omega (arith, h)
 
 -- ---- the boundary before the end
@@ -95,7 +94,7 @@ module _ (g : Program) (w : World) (regs : List ℕ) where
           high = omega arith;
           offset = pos 0;
           first = ap (λ s. w.code s.pc) there ∙ y.first;
-          cursor = place_is (after_output g regs (p + y.at)) a (ap (λ s. reg s 15) there ∙ y.cursor) low;
+          cursor = place_is (after_output g regs (p + y.at)) a (ap (λ s. reg s CURSOR) there ∙ y.cursor) low;
         };
       }
 

@@ -2,13 +2,12 @@
 use Rattle.std.proofs.Common.{◌≡◌, ℕ, zero, suc, ◌+◌, ◌*◌, ◌≤◌, List, [], ◌∷◌, ◌++◌, length, refl, ap, ◌∙◌, arith}
 use Rattle.std.proofs.Math.Nat.{mul-le-mul}
 use Rattle.qed_model.specs.Weave.Bounds.{visit_bound, word_bound}
-use Rattle.qed_model.specs.Admission.DataRanges.{word_count}
+use Rattle.tests.specs.Admission.DataRanges.{word_count}
 use Rattle.weave_core.specs.Promise.{piece_of, start_of}
 use Rattle.qed_model.specs.Weave.Blocks.{begins_at}
-use Rattle.qed_model.specs.Weave.Sequences.{Form, Block, compare, visit}
+use Rattle.qed_model.specs.Weave.Sequences.{Form, Block, compare, visit, ORIGINALS}
 use Rattle.weave_core.specs.KindItems.{MirrorsFit}
-use Rattle.weave_core.proofs.KindItems.{enter_items, end_items, prologue_items}
-use Rattle.weave_core.proofs.Landing.{land_enter, land_end, land_prologue}
+use Rattle.weave_core.proofs.Lemmas.{enter_items, end_items, prologue_items, land_enter, land_end, land_prologue, lockstep_piece, both, both_steps, form_checks, rows_with, starts_with, form_rows, form_starts}
 use Rattle.lockstep.specs.Promise.{IsBoundsOf, PlanCaught, PlanClean}
 use Rattle.weave_core.specs.Weave.{stage_steps}
 use Rattle.weave_core.specs.WeaveLaws.{Words}
@@ -18,7 +17,6 @@ use Rattle.weave_core.specs.World.{World, Item, Program}
 use Rattle.weave_core.specs.Rows.{Mirrors}
 use Rattle.weave_core.specs.WeavePromise.{PlanOf, OnlyCode, BoundsOf}
 use Rattle.weave_core.specs.WeaveForms.{weave_with, weave_of, ChecksLaws}
-use Rattle.weave_core.proofs.FormRows.{lockstep_piece, both, both_steps, form_checks, rows_with, starts_with, form_rows, form_starts}
 use Rattle.lockstep.proofs.Weaves.{weave_caught, weave_clean}
 
 -- ---- the words
@@ -36,7 +34,7 @@ words_with form most checks first steps laws m = let piece = lockstep_piece form
 }
 
 pub form_words : (form : Form) (most : ℕ) → MirrorsFit form.far form.mirror → Words form.far (weave_of form most)
-form_words form most m = words_with form most (compare ++ visit form.round form.spans) 0 (13 + visit_bound (word_count form.spans) (length form.spans) * form.round) (form_checks form) m
+form_words form most m = words_with form most (compare ++ visit form.round form.spans) 0 (ORIGINALS + visit_bound (word_count form.spans) (length form.spans) * form.round) (form_checks form) m
 
 -- ---- the promises
 -- with any checks that have the laws changes are caught

@@ -4,9 +4,9 @@ use Rattle.std.proofs.Math.Nat.{mul-le-mul}
 use Rattle.std.proofs.lemmas.Option.{same_Some}
 use Rattle.qed_model.specs.declared.bounds.Bounds.{Bounds}
 use Rattle.qed_model.specs.declared.change.Change.{Change}
-use Rattle.qed_model.specs.declared.change.Place.TheVariants.{Reg, Word}
-use Rattle.qed_model.specs.Admission.DataRanges.{word_count}
-use Rattle.qed_model.specs.Machine.Struck.{struck}
+use Rattle.machine.specs.declared.place.Place.TheVariants.{Reg, Word}
+use Rattle.tests.specs.Admission.DataRanges.{word_count}
+use Rattle.machine.specs.Struck.{struck}
 use Rattle.qed_model.specs.Promise.Caught.{Caught}
 use Rattle.qed_model.specs.Promise.Changed.{changed_run, IsDataWord}
 use Rattle.qed_model.specs.Promise.Closed.{IsOpen}
@@ -14,19 +14,16 @@ use Rattle.qed_model.specs.Promise.Kept.{Steady}
 use Rattle.qed_model.specs.Weave.Blocks.{begins_at}
 use Rattle.qed_model.specs.Weave.Bounds.{word_bound}
 use Rattle.qed_model.specs.Weave.Sequences.{Block, Ins}
-use Rattle.qed_model.proofs.Walk.{run-last}
-use Rattle.qed_model.proofs.Changes.{struck_outcome}
+use Rattle.machine.proofs.Lemmas.{run-last}
+use Rattle.qed_model.proofs.Lemmas.{struck_outcome}
 use Rattle.weave_core.specs.Lock.{span_bytes, Opens, HasKind, Undisturbed}
 use Rattle.weave_core.specs.WeavePromise.{PlanOf, BoundsOf}
 use Rattle.weave_core.specs.WeaveForms.{weave_of}
 use Rattle.weave_core.specs.Rows.{Mirrors}
 use Rattle.weave_core.specs.Weave.{start_steps, stage_steps}
 use Rattle.weave_core.specs.World.{World, Going, put, number, Program, start, AreStartRegs, State, reg, moved, stored, next_pc, place, Known, next, step, run, Kind, Lb, set_reg, width_of}
-use Rattle.weave_core.proofs.FormMirrors.{mirrors_of}
-use Rattle.weave_core.proofs.FormRows.{form_rows, form_starts}
-use Rattle.weave_core.proofs.Sized.{width_le}
+use Rattle.weave_core.proofs.Lemmas.{mirrors_of, form_rows, form_starts, width_le, known_same}
 use Rattle.weave_core.proofs.TestKept as kept
-use Rattle.weave_core.proofs.Landing.{known_same}
 use Rattle.lockstep.specs.Closes.{Closes}
 use Rattle.lockstep.specs.InstructionFaults.{WritesOriginal, StoresOriginal, word_around, GivesAny, StoresAny, FoundOut, FaultsFound, InstructionFaultsAreCaught}
 use Rattle.lockstep.specs.Promise.{IsBoundsOf}

@@ -1,6 +1,6 @@
 -- Visits in a row reach every data word, by the numbers of the words.
 use Rattle.std.proofs.Common.{◌≡◌, ◌+◌, ◌*◌, ◌/◌, ◌%◌, sym, ap, ◌∙◌, arith}
-use Rattle.qed_model.specs.Admission.DataRanges.{word_count, word_address}
+use Rattle.tests.specs.Admission.DataRanges.{word_count, word_address}
 use Rattle.qed_model.specs.Weave.Pieces.{piece_count}
 use Rattle.weave_core.specs.World.{words_on}
 use Rattle.lockstep.specs.Rounds.{VisitsReachAll}

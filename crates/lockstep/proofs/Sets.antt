@@ -1,7 +1,7 @@
 -- Data ranges as a test and as a set.
 use Rattle.std.proofs.Common.{◌≡◌, ℕ, ◌+◌, ◌^◌, ◌<◌, ◌≤◌, inl, inr, ⊎_elim, true, List, [], ◌∷◌, arith}
 use Rattle.std.proofs.lemmas.Bool.{false≢true, or_cases, or_left, or_right, and_from, and_parts, le-leb, lt-ltb, leb-true, ltb-true}
-use Rattle.qed_model.specs.Admission.DataRanges.{is_in_any}
+use Rattle.tests.specs.Admission.DataRanges.{is_in_any}
 use Rattle.qed_model.specs.Promise.Changed.{IsDataWord}
 use Rattle.weave_core.specs.World.{AllBelow, InSpans, wrap, offset}
 use Rattle.weave_core.specs.Lock.{word_bytes, span_bytes}

@@ -2,7 +2,7 @@
 use Rattle.std.proofs.Common.{◌≡◌, ℕ, zero, suc, ◌+◌, ◌*◌, ◌≤◌, true, List, [], ◌∷◌, Some, refl, ap, ◌∙◌, arith, Bool}
 use Rattle.rv_isa.specs.declared.class.Class.TheVariants as class
 use Rattle.qed_model.specs.declared.bounds.Bounds.{Bounds}
-use Rattle.qed_model.specs.Admission.DataRanges.{word_count}
+use Rattle.tests.specs.Admission.DataRanges.{word_count}
 use Rattle.qed_model.specs.Promise.Caught.{Caught}
 use Rattle.qed_model.specs.Promise.Clean.{Clean}
 use Rattle.qed_model.specs.Weave.Blocks.{begins_at}
@@ -15,7 +15,7 @@ use Rattle.weave_core.specs.Weave.{Weave, start_steps, stage_steps}
 use Rattle.weave_core.specs.WeaveLaws.{CheckedRows, Rows, Starts, Words, PiecesAt}
 use Rattle.weave_core.specs.WeavePromise.{AllBlocksOf, PlanOf, OnlyCode, BoundsOf, WeaveCaught, WeaveClean}
 use Rattle.weave_core.specs.World.{World, Program}
-use Rattle.weave_core.proofs.Values.{WeaveIn, kept, quiet_at, plan_in}
+use Rattle.weave_core.proofs.Lemmas.{WeaveIn, kept, quiet_at, plan_in}
 use Rattle.lockstep.proofs.Numbered.{round_some}
 use Rattle.lockstep.proofs.Beating.{sizes, traced, Bound, swept_end}
 use Rattle.lockstep.proofs.Calm.{CalmCode}

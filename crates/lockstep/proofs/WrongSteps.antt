@@ -5,18 +5,17 @@ use Rattle.std.proofs.lemmas.Bool.{false≢true, cases_Bool, cases_lt, eq-eqb, n
 use Rattle.std.proofs.lemmas.List.{set-set, set-get_or}
 use Rattle.rv_isa.specs.declared.class.Class.TheVariants as class
 use Rattle.qed_model.specs.declared.change.Change.{Change}
-use Rattle.qed_model.specs.declared.change.Place.TheVariants.{Reg}
-use Rattle.qed_model.specs.declared.machine.Cause.TheVariants as cause
+use Rattle.machine.specs.declared.place.Place.TheVariants.{Reg}
+use Rattle.machine.specs.declared.outcome.Cause.TheVariants as cause
 use Rattle.weave_core.specs.World.{Going, Ended, Fired, put, number, grants, State, reg, moved, stored, trapped, next_pc, place, result, execute, Fetched, Known, fetched_at, next, step, run, Ins, Class, class_of, set_reg, width_of, loaded}
-use Rattle.qed_model.specs.Machine.Struck.{struck}
+use Rattle.machine.specs.Struck.{struck}
 use Rattle.qed_model.specs.Promise.Changed.{changed, changed_as, with_changes, changed_run}
 use Rattle.qed_model.specs.Promise.Caught.{Same, Settles}
 use Rattle.qed_model.specs.Promise.Closed.{IsOpen, closed_at}
 use Rattle.qed_model.specs.Promise.Kept.{is_trapped, NotTrapped}
-use Rattle.qed_model.proofs.Steps.{step-class}
-use Rattle.qed_model.proofs.Walk.{run-more, run-last}
+use Rattle.machine.proofs.Lemmas.{step-class, run-more, run-last}
 use Rattle.weave_core.specs.Lock.{Bytes, Opens, HasKind, scratch_compute, scratch_load, scratch_store, scratch_branch, jumps, scratch_jump, computes, fences, loads, stores as stores_kind, guards, guards_back, breaks, takes, branches, forks, ends, no_word, visits, Loaded}
-use Rattle.weave_core.proofs.Trace.{run-ended}
+use Rattle.weave_core.proofs.Lemmas.{run-ended}
 use Rattle.lockstep.specs.InstructionFaults.{WritesOriginal, GivesAny, gives, skips, FoundOut}
 use Rattle.lockstep.proofs.Ground.{run-fired}
 

@@ -3,13 +3,12 @@ use Rattle.std.proofs.Common.{◌≡◌, ℕ, zero, suc, ◌+◌, ◌-◌, ◌*�
 use Rattle.std.specs.Option.{option_map}
 use Rattle.std.proofs.Math.Nat.{div-div-eq-div-mul, mul_comm, pow-suc}
 use Rattle.std.proofs.lemmas.Bool.{cases_lt, lt-ltb}
-use Rattle.qed_model.specs.declared.change.Place.TheVariants.{Word}
+use Rattle.machine.specs.declared.place.Place.TheVariants.{Word}
 use Rattle.weave_core.specs.World.{Memory, Cell, put, offset, wrap, byte_of, byte_in, byte_at, number, flags_at, with_byte, get, State, stored, next_pc, place, Ins, width_of}
-use Rattle.qed_model.specs.Machine.Struck.{struck}
-use Rattle.qed_model.proofs.MemoryLaws.{get-put, get-put_outside, same_memory, wrap_offset}
-use Rattle.qed_model.proofs.Steps.{flags-put}
+use Rattle.machine.specs.Struck.{struck}
+use Rattle.machine.proofs.Lemmas.{get-put, get-put_outside, same_memory, wrap_offset, flags-put}
 use Rattle.lockstep.specs.InstructionFaults.{word_around, StoresAny, stores, leaves}
-use Rattle.weave_core.proofs.Sized.{small_put}
+use Rattle.weave_core.proofs.Lemmas.{small_put}
 
 -- ---- a number is its bytes
 byte_of-more : (v i : ℕ) → byte_of v (i + 1) ≡ byte_of (v / 256) i

@@ -2,22 +2,22 @@
 use Rattle.std.specs.Prelude.{◌≡◌, ◌⊎◌, ℕ, ◌+◌, ◌-◌, ◌*◌, ◌/◌, ◌≤◌, Bool, List, Some}
 use Rattle.rv_isa.specs.declared.class.Class.TheVariants as class
 use Rattle.qed_model.specs.declared.bounds.Bounds.{Bounds}
-use Rattle.qed_model.specs.declared.machine.Outcome.TheVariants.{Going, Ended, Fired}
-use Rattle.qed_model.specs.declared.options.Options.{Options}
+use Rattle.machine.specs.declared.outcome.Outcome.TheVariants.{Going, Ended, Fired}
+use Rattle.tests.specs.declared.options.Options.{Options}
 use Rattle.qed_model.specs.declared.plan.Plan.{Plan}
-use Rattle.qed_model.specs.Admission.DataRanges.{data_ranges, ElfFile}
-use Rattle.qed_model.specs.Admission.Reached.{AreReached}
-use Rattle.qed_model.specs.Elf.FileRead.{file_read}
-use Rattle.qed_model.specs.Machine.Loading.{loaded_file}
-use Rattle.qed_model.specs.Machine.Memory.{put}
-use Rattle.qed_model.specs.Machine.Program.{Program, AreStartRegs}
-use Rattle.qed_model.specs.Machine.Step.{State, moved, stored, next_pc, place, Known, next, run, Ins, class_of, set_reg}
-use Rattle.qed_model.specs.Machine.Values.{width_of}
+use Rattle.tests.specs.Admission.DataRanges.{data_ranges, ElfFile}
+use Rattle.tests.specs.Admission.Reached.{AreReached}
+use Rattle.tests.specs.Elf.FileRead.{file_read}
+use Rattle.machine.specs.Loading.{loaded_file}
+use Rattle.machine.specs.Memory.{put}
+use Rattle.machine.specs.Program.{Program, AreStartRegs}
+use Rattle.machine.specs.Step.{State, moved, stored, next_pc, place, Known, next, run, Ins, class_of, set_reg}
+use Rattle.machine.specs.Values.{width_of}
 use Rattle.qed_model.specs.Promise.Caught.{Same}
 use Rattle.qed_model.specs.Promise.Changed.{IsDataWord}
 use Rattle.qed_model.specs.Promise.Kept.{after_output, Steady}
-use Rattle.qed_model.specs.Weave.Places.{image_of}
-use Rattle.qed_model.specs.Weave.Sequences.{Block}
+use Rattle.tests.specs.Admission.Places.{image_of}
+use Rattle.qed_model.specs.Weave.Sequences.{Block, LAST_ORIGINAL}
 use Rattle.qed_model.specs.Weave.Woven.{compared, woven_file, IsToldOf}
 use Rattle.weave_core.specs.Tests.{IsWovenTest}
 
@@ -26,7 +26,7 @@ use Rattle.weave_core.specs.Tests.{IsWovenTest}
 pub record WritesOriginal (i : Ins) : Type 0 where
   pub writes : (class_of i.kind ≡ class.Compute) ⊎ (class_of i.kind ≡ class.Load)
   pub some : 1 ≤ i.rd
-  pub low : i.rd ≤ 13
+  pub low : i.rd ≤ LAST_ORIGINAL
 
 -- the aligned word that has a byte
 abbrev pub word_around : ℕ → ℕ

@@ -1,6 +1,6 @@
 -- Visits in a row reach every data word.
 use Rattle.std.specs.Prelude.{◌≡◌, ℕ, ◌*◌, ◌<◌, ◌≤◌, List}
-use Rattle.qed_model.specs.Admission.DataRanges.{word_count}
+use Rattle.tests.specs.Admission.DataRanges.{word_count}
 use Rattle.qed_model.specs.Promise.Changed.{IsDataWord}
 use Rattle.qed_model.specs.Weave.Pieces.{piece_count}
 use Rattle.weave_core.specs.World.{GoodSpans, words_on}

@@ -1,14 +1,12 @@
 -- Bytes that are set one by one, each in its page.
 use Rattle.std.proofs.Common.{◌≡◌, ℕ, ◌+◌, ◌-◌, ◌/◌, ◌*◌, ◌^◌, ◌<◌, ◌≤◌, true, List, None, sym, subst, ap, ◌∙◌, arith, set, get_or}
 use Rattle.std.specs.Prelude.{bit_and, nat_le}
-use Rattle.std.specs.FinMap.{get}
 use Rattle.std.proofs.lemmas.Bool.{and_from, le-leb}
 use Rattle.std.proofs.lemmas.List.{set-set}
-use Rattle.qed_model.specs.Machine.Memory.{Memory, wrap, byte_of, poked, put}
-use Rattle.qed_model.specs.Machine.Program.{LoadSegment, memory_of}
-use Rattle.qed_model.specs.Machine.Cells.{has, cell_among}
-use Rattle.qed_model.proofs.MemoryLaws.{put-more}
-use Rattle.qed_model.proofs.CellsAmong.{has_parts}
+use Rattle.machine.specs.Memory.{Memory, wrap, byte_of, poked, put, get}
+use Rattle.machine.specs.Program.{LoadSegment, memory_of}
+use Rattle.machine.specs.Cells.{has, cell_among}
+use Rattle.machine.proofs.Lemmas.{put-more, has_parts}
 use Rattle.mem_image.specs.Overlap.{AreSound}
 use Rattle.mem_image.specs.Segments.{has_all, with_bytes_at, IsFirst, IsLike}
 use Rattle.mem_image.proofs.SegmentLaws.{first_is, memory_of-set, memory_of-missing, IsWhole}

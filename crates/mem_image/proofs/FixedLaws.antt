@@ -2,13 +2,11 @@
 use Rattle.std.proofs.Common.{◌≡◌, ℕ, ◌+◌, ◌-◌, ◌^◌, ◌<◌, ◌≤◌, true, false, List, Option, Some, None, sym, ap, ◌∙◌, arith, ⊎_elim}
 use Rattle.std.specs.Prelude.{slice_get, IfNone}
 use Rattle.std.proofs.lemmas.Bool.{cases_lt, false≢true}
-use Rattle.std.specs.FinMap.{get}
-use Rattle.qed_model.specs.Machine.Memory.{Memory, wrap, offset, allows, grants, put}
-use Rattle.qed_model.specs.Machine.Program.{LoadSegment, memory_of}
-use Rattle.qed_model.specs.Machine.Apart.{AllFitMemory}
-use Rattle.qed_model.specs.Machine.Cells.{has, cell_among}
-use Rattle.qed_model.proofs.MemoryLaws.{grants_at, wrap_offset, get-put_outside}
-use Rattle.qed_model.proofs.CellsAmong.{has_parts}
+use Rattle.machine.specs.Memory.{Memory, wrap, offset, allows, grants, put, get}
+use Rattle.machine.specs.Program.{LoadSegment, memory_of}
+use Rattle.machine.specs.Apart.{AllFitMemory}
+use Rattle.machine.specs.Cells.{has, cell_among}
+use Rattle.machine.proofs.Lemmas.{grants_at, wrap_offset, get-put_outside, has_parts}
 use Rattle.mem_image.specs.Access.{allowed_number}
 use Rattle.mem_image.specs.Fixed.{is_code_flags, has_code, IsFixed}
 use Rattle.mem_image.specs.Overlap.{AreSound}

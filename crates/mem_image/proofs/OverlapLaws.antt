@@ -6,8 +6,8 @@ use Rattle.std.proofs.lemmas.Bool.{false≢true}
 use Rattle.std.proofs.lemmas.Bool.Decides.{nat_tests}
 use Rattle.std.proofs.lemmas.Option.{slice_get-get_or, slice_get_within, slice_get-map}
 use Rattle.std.proofs.lemmas.List.{length-map}
-use Rattle.qed_model.specs.Machine.Program.{LoadSegment}
-use Rattle.qed_model.specs.Machine.Apart.{share, Overlaps, AreApart}
+use Rattle.machine.specs.Program.{LoadSegment}
+use Rattle.machine.specs.Apart.{share, Overlaps, AreApart}
 use Rattle.mem_image.specs.Overlap.{IsPair, IsLeastPair, Ascends}
 
 -- ---- two places of a list

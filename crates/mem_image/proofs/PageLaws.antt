@@ -1,11 +1,11 @@
 -- The bytes of a page, of which the first are a segment's.
 use Rattle.std.proofs.Common.{◌≡◌, ℕ, zero, suc, ◌+◌, ◌-◌, ◌<◌, ◌≤◌, List, [], ◌∷◌, length, take, refl, sym, ap, ◌∙◌, arith, add-one, replicate, get_or-set_same, get_or-set_other, length-set, ⊎_elim}
 use Rattle.std.specs.Prelude.{slice_index, slice_set}
-use Rattle.qed_model.specs.Machine.Memory.{byte_of}
+use Rattle.machine.specs.Memory.{byte_of}
 use Rattle.std.proofs.lemmas.Bool.{cases_lt}
 use Rattle.std.proofs.lemmas.List.{length-replicate, get_or-take, get_or_past}
-use Rattle.qed_model.proofs.CellsAmong.{index_zeros}
-use Rattle.qed_model.specs.Machine.Program.{LoadSegment}
+use Rattle.machine.proofs.Lemmas.{index_zeros}
+use Rattle.machine.specs.Program.{LoadSegment}
 use Rattle.mem_image.specs.Segments.{number_in, bytes_put, with_byte_at, with_bytes_at}
 
 -- ---- the first bytes

@@ -12,18 +12,17 @@ use Rattle.std.proofs.lemmas.Map.Keys.{IsDistinct-push, IsDistinct-IsPermutation
 use Rattle.std.proofs.lemmas.Bool.Decides.{nat_tests}
 use Rattle.std.proofs.lemmas.Bool.{cases_lt, false≢true, false_from_ne_true}
 use Rattle.std.specs.Option.{option_or}
-use Rattle.qed_model.specs.Machine.Memory.{Cell}
-use Rattle.qed_model.specs.Machine.Program.{LoadSegment}
-use Rattle.qed_model.specs.Machine.Cells.{has, cell_at, cell_among}
-use Rattle.qed_model.specs.Machine.Apart.{AllFitMemory, FitsMemory, share, AreApart}
+use Rattle.machine.specs.Memory.{Cell}
+use Rattle.machine.specs.Program.{LoadSegment}
+use Rattle.machine.specs.Cells.{has, cell_at, cell_among}
+use Rattle.machine.specs.Apart.{AllFitMemory, FitsMemory, share, AreApart}
 use Rattle.mem_image.specs.Overlap.{segment_of, segments_of, Ascends}
 use Rattle.mem_image.specs.Pages.{IsPageOf, Below, first_part, IsPaged, IsPlace, Orders, Names, HasOne, Covers}
 use Rattle.mem_image.proofs.SegmentLaws.{cell_among-none, cell_among-first}
 use Rattle.mem_image.specs.declared.spec.SegmentSpec.{SegmentSpec}
 use Rattle.mem_image.proofs.OverlapLaws.{seen_there}
-use Rattle.qed_model.proofs.ApartLaws.{shared}
+use Rattle.machine.proofs.Lemmas.{shared, has_from, has_parts, option_or-cond}
 use Rattle.mem_image.proofs.WholeLaws.{before_apart}
-use Rattle.qed_model.proofs.CellsAmong.{has_from, has_parts, option_or-cond}
 use Rattle.mem_image.proofs.PlaceLaws.{outside}
 
 -- ---- one page more

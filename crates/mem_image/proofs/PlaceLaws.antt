@@ -2,10 +2,10 @@
 use Rattle.std.proofs.Common.{◌≡◌, ℕ, zero, suc, ◌+◌, ◌<◌, ◌≤◌, true, false, List, [], ◌∷◌, Some, None, arith, ⊎_elim}
 use Rattle.std.specs.Prelude.{slice_get}
 use Rattle.std.proofs.lemmas.Bool.{cases_lt, false_from_ne_true}
-use Rattle.qed_model.specs.Machine.Program.{LoadSegment}
-use Rattle.qed_model.specs.Machine.Cells.{has, cell_among}
+use Rattle.machine.specs.Program.{LoadSegment}
+use Rattle.machine.specs.Cells.{has, cell_among}
 use Rattle.mem_image.specs.Segments.{IsFirst}
-use Rattle.qed_model.proofs.CellsAmong.{has_parts}
+use Rattle.machine.proofs.Lemmas.{has_parts}
 use Rattle.mem_image.specs.Overlap.{Ascends}
 use Rattle.mem_image.proofs.SegmentLaws.{cell_among-none}
 use Rattle.mem_image.proofs.OverlapLaws.{ascends-apart, begins}

@@ -5,16 +5,12 @@ use Rattle.std.specs.Prelude.{slice_index, slice_get}
 use Rattle.std.proofs.lemmas.Bool.{leb-true, ltb-true, and_parts, false_from_ne_true}
 use Rattle.std.proofs.lemmas.Option.{get_or_from_slice_get, slice_get_within}
 use Rattle.std.proofs.lemmas.Bool.Decides.{nat_tests}
-use Rattle.qed_model.specs.Machine.Memory.{byte_of, Flags, Memory, wrap, allows, grants, number, poked, put}
-use Rattle.qed_model.specs.Machine.Program.{LoadSegment, memory_of}
-use Rattle.std.specs.FinMap.{get}
+use Rattle.machine.specs.Memory.{byte_of, Flags, Memory, wrap, allows, grants, number, poked, put, get}
+use Rattle.machine.specs.Program.{LoadSegment, memory_of}
 use Rattle.std.proofs.lemmas.List.{set-set, set-get_or, get_or_default}
-use Rattle.qed_model.proofs.MemoryLaws.{grants_from, put_none, put-more}
-use Rattle.qed_model.proofs.CellsLaws.{byte_of_cell}
-use Rattle.qed_model.specs.Machine.Apart.{FitsMemory, AllFitMemory, AreApart}
-use Rattle.qed_model.specs.Machine.Cells.{cell_at, has}
-use Rattle.qed_model.proofs.CellsAmong.{has_from}
-use Rattle.qed_model.proofs.ApartLaws.{shared}
+use Rattle.machine.proofs.Lemmas.{grants_from, put_none, put-more, byte_of_cell, has_from, shared}
+use Rattle.machine.specs.Apart.{FitsMemory, AllFitMemory, AreApart}
+use Rattle.machine.specs.Cells.{cell_at, has}
 use Rattle.mem_image.specs.Segments.{has_all, number_in, with_byte_at, with_bytes_at, IsWholeAt, IsLike}
 use Rattle.mem_image.specs.Access.{allowed_number}
 use Rattle.mem_image.specs.Fixed.{Stands}

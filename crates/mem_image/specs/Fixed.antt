@@ -1,9 +1,8 @@
 -- Segments that stand in a memory, where no store changes them.
 use Rattle.std.specs.Prelude.{◌≡◌, ℕ, ◌+◌, ◌≤◌, ◌^◌, ◌&&◌, Bool, true, false, not, Some}
-use Rattle.std.specs.FinMap.{get}
-use Rattle.qed_model.specs.Machine.Memory.{Flags, Memory, allows}
-use Rattle.qed_model.specs.Machine.Program.{LoadSegment}
-use Rattle.qed_model.specs.Machine.Cells.{has, cell_at}
+use Rattle.machine.specs.Memory.{Flags, Memory, allows, get}
+use Rattle.machine.specs.Program.{LoadSegment}
+use Rattle.machine.specs.Cells.{has, cell_at}
 
 -- a byte that may be executed and not written, and an address of one
 abbrev pub is_code_flags : Flags → Bool

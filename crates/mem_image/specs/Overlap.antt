@@ -1,12 +1,12 @@
 -- Segments and files of a list that share a byte.
 use Rattle.std.specs.Prelude.{◌≡◌, ℕ, ◌+◌, ◌<◌, ◌≤◌, ◌⊎◌, Bool, true, Some, List, [], ◌∷◌, map, slice_get}
 use Rattle.std.specs.List.{list_any}
-use Rattle.qed_model.specs.Machine.Program.{Program, LoadSegment}
-use Rattle.qed_model.specs.Machine.Memory.{flags_of}
+use Rattle.machine.specs.Program.{Program, LoadSegment}
+use Rattle.machine.specs.Memory.{flags_of}
 use Rattle.mem_image.specs.declared.spec.SegmentSpec.{SegmentSpec}
 use Rattle.mem_image.specs.declared.spec.ImageError.{ImageError}
 use Rattle.mem_image.specs.declared.spec.ImageError.TheVariants.{Overlap, Memory}
-use Rattle.qed_model.specs.Machine.Apart.{share, AllFitMemory, Overlaps, AreApart}
+use Rattle.machine.specs.Apart.{share, AllFitMemory, Overlaps, AreApart}
 
 -- a segment as plain data
 abbrev pub segment_of : SegmentSpec → LoadSegment

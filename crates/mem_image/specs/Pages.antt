@@ -1,16 +1,17 @@
 -- Pages that are made from segments.
 use Rattle.std.specs.Prelude.{◌≡◌, ℕ, ◌+◌, ◌-◌, ◌^◌, ◌<◌, ◌≤◌, nat_eq, Bool, true, cond, List, length, Some, All, Contains, slice_get, slice_index, min}
 use Rattle.std.specs.List.{IsDistinct}
-use Rattle.qed_model.specs.Machine.Memory.{Cell}
-use Rattle.qed_model.specs.Machine.Program.{LoadSegment}
+use Rattle.rv_isa.specs.declared.profile.TheConstants.{PAGE}
+use Rattle.machine.specs.Memory.{Cell}
+use Rattle.machine.specs.Program.{LoadSegment}
 use Rattle.mem_image.specs.Overlap.{Ascends}
-use Rattle.qed_model.specs.Machine.Apart.{AllFitMemory}
-use Rattle.qed_model.specs.Machine.Cells.{has, cell_at, cell_among}
+use Rattle.machine.specs.Apart.{AllFitMemory}
+use Rattle.machine.specs.Cells.{has, cell_at, cell_among}
 
 -- a page that holds the bytes from number d on, and zeros behind them
 pub record HoldsFrom (bs : List ℕ) (d : ℕ) (page : List ℕ) : Type 0 where
-  pub count : length page ≡ 4096
-  pub bytes : (i : ℕ) → i < 4096 → slice_index page i ≡ slice_index bs (d + i)
+  pub count : length page ≡ PAGE
+  pub bytes : (i : ℕ) → i < PAGE → slice_index page i ≡ slice_index bs (d + i)
 
 -- from so many of the first addresses of a page on it has eight bytes, and where there are any, they have the permission
 pub record HasRoom (allowed : Bool) (size room : ℕ) : Type 0 where
@@ -19,7 +20,7 @@ pub record HasRoom (allowed : Bool) (size room : ℕ) : Type 0 where
 
 -- a page of at most 4,096 bytes, which ends at 2^64 or before, with room for reads and for writes
 pub record IsRoomy (start size : ℕ) (readable : Bool) (reads : ℕ) (writable : Bool) (writes : ℕ) : Type 0 where
-  pub most : size ≤ 4096
+  pub most : size ≤ PAGE
   pub ends : start + size ≤ 2 ^ 64
   pub read : HasRoom readable size reads
   pub write : HasRoom writable size writes
@@ -27,7 +28,7 @@ pub record IsRoomy (start size : ℕ) (readable : Bool) (reads : ℕ) (writable 
 -- the segment h holds the bytes of the segment s from number d on, up to its own end or that of s
 pub record IsPageOf (s : LoadSegment) (d : ℕ) (h : LoadSegment) : Type 0 where
   pub address : h.address ≡ s.address + d
-  pub size : h.size ≡ min (s.size - d) 4096
+  pub size : h.size ≡ min (s.size - d) PAGE
   pub flags : h.flags ≡ s.flags
   pub whole : length h.bytes ≡ h.size
   pub bytes : (i : ℕ) → i < h.size → slice_index h.bytes i ≡ slice_index s.bytes (d + i)

@@ -1,9 +1,8 @@
 -- Segments in memory: which is the first that has an address, and those with other bytes.
 use Rattle.std.specs.Prelude.{◌≡◌, ℕ, zero, suc, ◌+◌, ◌-◌, ◌*◌, ◌<◌, ◌&&◌, Bool, true, false, nat_le, List, length, slice_index, slice_get, slice_set, Some}
-use Rattle.std.specs.FinMap.{get}
-use Rattle.qed_model.specs.Machine.Memory.{Memory, byte_of}
-use Rattle.qed_model.specs.Machine.Program.{LoadSegment}
-use Rattle.qed_model.specs.Machine.Cells.{has, cell_at}
+use Rattle.machine.specs.Memory.{Memory, byte_of, get}
+use Rattle.machine.specs.Program.{LoadSegment}
+use Rattle.machine.specs.Cells.{has, cell_at}
 
 -- the segment at place k is the first that has the address
 pub record IsFirst (ss : List LoadSegment) (q k : ℕ) : Type 0 where

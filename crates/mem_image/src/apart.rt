@@ -1,8 +1,8 @@
 //! Bytes that are set one by one, each in its page.
 ghost use Rattle.std.specs.Prelude.{◌≡◌, ℕ, ◌≤◌, ◌^◌, IfOk, IfErr, None};
 ghost use Rattle.std.specs.FinMap.{get};
-ghost use Rattle.qed_model.specs.Machine.Memory.{Memory, put};
-ghost use Rattle.qed_model.specs.Machine.Program.{memory_of};
+ghost use Rattle.machine.specs.Memory.{Memory, put};
+ghost use Rattle.machine.specs.Program.{memory_of};
 ghost use Rattle.mem_image.specs.Overlap.{AreSound};
 
 use crate::held::Held;

@@ -1,6 +1,6 @@
 //! Bytes that may be executed and not written.
 ghost use Rattle.std.specs.Prelude.{◌≡◌, ◌-◌, ◌<◌, true, false, length, slice_get, IfOk, IfNone, IfSome, Some};
-ghost use Rattle.qed_model.specs.Machine.Program.{LoadSegment, memory_of};
+ghost use Rattle.machine.specs.Program.{LoadSegment, memory_of};
 ghost use Rattle.mem_image.specs.Fixed.{is_code_flags, IsFixed};
 ghost use Rattle.mem_image.specs.Overlap.{AreSound};
 ghost use Rattle.mem_image.specs.Segments.{has_all, number_in};
@@ -17,7 +17,7 @@ pub struct Code {
 }
 
 impl Model for Code {
-    ghost use Rattle.qed_model.specs.Machine.Program.{LoadSegment};
+    ghost use Rattle.machine.specs.Program.{LoadSegment};
 
     ghost Value = { LoadSegment };
 

@@ -1,8 +1,8 @@
 //! Files that share a byte.
 ghost use Rattle.std.specs.Prelude.{◌≡◌};
 ghost use Rattle.std.specs.List.{list_any};
-ghost use Rattle.qed_model.specs.Machine.Apart.{share};
-ghost use Rattle.qed_model.specs.Machine.Loading.{load_segment, load_segments};
+ghost use Rattle.machine.specs.Apart.{share};
+ghost use Rattle.machine.specs.Loading.{load_segment, load_segments};
 ghost use Rattle.mem_image.specs.Overlap.{any_share};
 
 use crate::Sharing;
@@ -40,8 +40,8 @@ fn any_share(segments: &[Segment], others: &[Segment]) -> bool
 }
 
 impl Sharing for ElfFile {
-    ghost use Rattle.qed_model.specs.Machine.Program.{Program};
-    ghost use Rattle.qed_model.specs.Machine.Loading.{loaded_file};
+    ghost use Rattle.machine.specs.Program.{Program};
+    ghost use Rattle.machine.specs.Loading.{loaded_file};
     ghost use Rattle.mem_image.specs.Overlap.{files_share};
 
     ghost View = { Program };

@@ -3,11 +3,12 @@ ghost use Rattle.std.specs.Prelude.{◌≡◌, ◌+◌, ◌-◌, ◌<◌, ◌≤
 ghost use Rattle.mem_image.specs.Access.{needs};
 ghost use Rattle.mem_image.specs.Overlap.{segment_of};
 ghost use Rattle.mem_image.specs.Pages.{HasRoom, HoldsFrom, IsPageOf};
-ghost use Rattle.qed_model.specs.Machine.Cells.{has, cell_at};
+ghost use Rattle.machine.specs.Cells.{has, cell_at};
 ghost use Rattle.mem_image.specs.Segments.{has_all, number_in, with_bytes_at, IsLike};
 
 use crate::page::Page;
 use crate::spec::SegmentSpec;
+use rv_isa::profile::PAGE;
 use std::alloc::{AllocError, Global};
 use std::marker::Model;
 use std::rc::Rc;
@@ -37,7 +38,7 @@ pub struct Held {
 
 impl Model for Held {
     ghost use Rattle.std.specs.Prelude.{take};
-    ghost use Rattle.qed_model.specs.Machine.Program.{LoadSegment};
+    ghost use Rattle.machine.specs.Program.{LoadSegment};
     ghost use Rattle.mem_image.specs.Pages.{IsRoomy};
 
     ghost Value = { LoadSegment };
@@ -102,7 +103,7 @@ impl Held {
         ensures { IfOk result (IsPageOf (segment_of spec.now) from) }
     {
         let page = page_from(alloc, zeros, spec.bytes.as_slice(), from)?;
-        let size = (spec.memory - from).min(4096);
+        let size = (spec.memory - from).min(PAGE);
         let readable = spec.is_readable();
         let writable = spec.is_writable();
         Ok(Held {

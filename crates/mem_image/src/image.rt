@@ -2,11 +2,11 @@
 ghost use Rattle.std.specs.Prelude.{◌≡◌, ℕ, ◌<◌, ◌≤◌, ◌^◌, true, false, cond, length, IfOk, IfErr, IfNone, IfSome, Some, None};
 ghost use Rattle.std.specs.Option.{option_map};
 ghost use Rattle.std.specs.FinMap.{get};
-ghost use Rattle.qed_model.specs.Machine.Memory.{grants, poked, put};
-ghost use Rattle.qed_model.specs.Machine.Program.{memory_of};
-ghost use Rattle.qed_model.specs.Machine.Cells.{has};
+ghost use Rattle.machine.specs.Memory.{grants, poked, put};
+ghost use Rattle.machine.specs.Program.{memory_of};
+ghost use Rattle.machine.specs.Cells.{has};
 ghost use Rattle.mem_image.specs.Overlap.{segments_of, Explains};
-ghost use Rattle.qed_model.specs.Machine.Apart.{AllFitMemory, AreApart};
+ghost use Rattle.machine.specs.Apart.{AllFitMemory, AreApart};
 ghost use Rattle.mem_image.specs.Access.{needs, allowed_byte, allowed_number, IsWidth};
 ghost use Rattle.mem_image.specs.Fixed.{has_code, IsFixed};
 ghost use Rattle.mem_image.specs.Segments.{Holds};
@@ -36,8 +36,8 @@ pub struct Image {
 }
 
 impl Model for Image {
-    ghost use Rattle.qed_model.specs.Machine.Memory.{Memory, memory_code};
-    ghost use Rattle.qed_model.specs.Machine.Program.{memory_of};
+    ghost use Rattle.machine.specs.Memory.{Memory, memory_code};
+    ghost use Rattle.machine.specs.Program.{memory_of};
 
     ghost Value = { Memory };
 

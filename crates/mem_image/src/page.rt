@@ -1,17 +1,19 @@
 //! Pages: bytes that several images may share.
 ghost use Rattle.std.specs.Prelude.{◌≡◌, ◌+◌, ◌<◌, ◌≤◌, ◌^◌, true, length};
+ghost use Rattle.rv_isa.specs.declared.profile.TheConstants.{PAGE};
 ghost use Rattle.mem_image.specs.Pages.{HoldsFrom};
 ghost use Rattle.mem_image.specs.Segments.{number_in, bytes_put};
 
+use rv_isa::profile::PAGE;
 use std::alloc::AllocError;
 
-/// The number of bytes of a page.
-pub const PAGE: usize = 4096;
+/// The number of bytes of a page, as a length.
+pub const PAGE_LENGTH: usize = PAGE as usize;
 
 /// The bytes of a page.
 #[derive(Drop)]
 pub struct Page {
-    pub(crate) bytes: [u8; 4096],
+    pub(crate) bytes: [u8; PAGE_LENGTH],
 }
 
 impl Clone for Page {
@@ -30,7 +32,7 @@ impl Page {
         if let Some(whole) = bytes.first_chunk() {
             return Page { bytes: *whole };
         }
-        let mut page = [0; 4096];
+        let mut page = [0; PAGE_LENGTH];
         for i in 0..bytes.len() {
             page[i] = bytes[i];
         }
@@ -42,7 +44,7 @@ impl Page {
         ensures { result ≡ true → self.now.bytes ≡ other.now.bytes }
     {
         let mut same = true;
-        for i in 0..PAGE {
+        for i in 0..PAGE_LENGTH {
             same &= self.bytes[i] == other.bytes[i];
         }
         same
@@ -51,7 +53,7 @@ impl Page {
     /// The number of at most 8 bytes from a place on. The widths of an access have code of their own, without a loop.
     #[inline(always)]
     pub fn number(&self, at: usize, width: u64) -> u64
-        requires within { at + width ≤ 4096 }
+        requires within { at + width ≤ PAGE }
         requires small { width ≤ 8 }
         ensures number { result ≡ number_in self.now.bytes at width }
         ensures small { result < 256 ^ width }
@@ -68,7 +70,7 @@ impl Page {
     /// The same, of any width, from the lowest byte on, which LLVM makes one load of.
     #[inline(always)]
     fn gather(&self, at: usize, width: u64) -> u64
-        requires within { at + width ≤ 4096 }
+        requires within { at + width ≤ PAGE }
         requires small { width ≤ 8 }
         ensures number { result ≡ number_in self.now.bytes at width }
         ensures small { result < 256 ^ width }
@@ -84,10 +86,10 @@ impl Page {
     /// Sets the low bytes of a value at at most 8 places.
     #[inline(always)]
     pub fn put(&mut self, at: usize, width: u64, value: u64)
-        requires within { at + width ≤ 4096 }
+        requires within { at + width ≤ PAGE }
         requires small { width ≤ 8 }
         ensures put { self.new.bytes ≡ bytes_put self.old.bytes at width value }
-        ensures count { length self.old.bytes ≡ 4096 }
+        ensures count { length self.old.bytes ≡ PAGE }
     {
         match width {
             1 => self.scatter(at, 1, value),
@@ -101,10 +103,10 @@ impl Page {
     /// The same, of any width.
     #[inline(always)]
     fn scatter(&mut self, at: usize, width: u64, value: u64)
-        requires within { at + width ≤ 4096 }
+        requires within { at + width ≤ PAGE }
         requires small { width ≤ 8 }
         ensures put { self.new.bytes ≡ bytes_put self.old.bytes at width value }
-        ensures count { length self.old.bytes ≡ 4096 }
+        ensures count { length self.old.bytes ≡ PAGE }
     {
         let _ = &self.bytes;
         for i in 0..width {

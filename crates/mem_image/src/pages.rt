@@ -1,7 +1,7 @@
 //! The pages of an image.
 ghost use Rattle.std.specs.Prelude.{◌≡◌, ◌<◌, ◌≤◌, false, true, cond, length, IfOk, IfErr};
-ghost use Rattle.qed_model.specs.Machine.Memory.{grants, put};
-ghost use Rattle.qed_model.specs.Machine.Program.{memory_of};
+ghost use Rattle.machine.specs.Memory.{grants, put};
+ghost use Rattle.machine.specs.Program.{memory_of};
 ghost use Rattle.mem_image.specs.Overlap.{AreSound};
 ghost use Rattle.mem_image.specs.Segments.{IsWholeAt};
 
@@ -19,7 +19,7 @@ pub struct Pages {
 
 impl Model for Pages {
     ghost use Rattle.std.specs.Prelude.{List};
-    ghost use Rattle.qed_model.specs.Machine.Program.{LoadSegment};
+    ghost use Rattle.machine.specs.Program.{LoadSegment};
     ghost use Rattle.mem_image.specs.Overlap.{AreSound};
 
     ghost Value = { List LoadSegment };

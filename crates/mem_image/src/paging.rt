@@ -3,8 +3,8 @@ ghost use Rattle.std.specs.Prelude.{◌≡◌, ℕ, ◌+◌, ◌<◌, ◌≤◌,
 ghost use Rattle.std.specs.List.Sorted.{IsNonDecreasingBy};
 ghost use Rattle.mem_image.specs.Overlap.{segment_of, segments_of, AreSound};
 ghost use Rattle.mem_image.specs.Pages.{Below, HoldsFrom, IsPaged, Orders};
-ghost use Rattle.qed_model.specs.Machine.Apart.{AllFitMemory, FitsMemory, AreApart};
-ghost use Rattle.qed_model.specs.Machine.Cells.{cell_among};
+ghost use Rattle.machine.specs.Apart.{AllFitMemory, FitsMemory, AreApart};
+ghost use Rattle.machine.specs.Cells.{cell_among};
 
 use crate::held::Held;
 use crate::page::Page;

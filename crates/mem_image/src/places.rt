@@ -1,8 +1,8 @@
 //! Where the page of an address is found.
 ghost use Rattle.std.specs.Prelude.{◌≡◌, ℕ, ◌<◌, ◌≤◌, length, IfNone, IfSome, None, Some, slice_get};
-ghost use Rattle.qed_model.specs.Machine.Program.{LoadSegment};
+ghost use Rattle.machine.specs.Program.{LoadSegment};
 ghost use Rattle.mem_image.specs.Overlap.{Ascends, AreSound};
-ghost use Rattle.qed_model.specs.Machine.Cells.{cell_among};
+ghost use Rattle.machine.specs.Cells.{cell_among};
 ghost use Rattle.mem_image.specs.Segments.{IsFirst, IsWholeAt};
 
 use crate::held::Held;

@@ -1,7 +1,7 @@
 //! Bytes that are read or set within one page.
 ghost use Rattle.std.specs.Prelude.{◌≡◌, ◌<◌, ◌≤◌, ◌^◌, cond, false, true, length, IfOk, IfErr, IfSome, Some};
-ghost use Rattle.qed_model.specs.Machine.Memory.{grants, put};
-ghost use Rattle.qed_model.specs.Machine.Program.{memory_of};
+ghost use Rattle.machine.specs.Memory.{grants, put};
+ghost use Rattle.machine.specs.Program.{memory_of};
 ghost use Rattle.mem_image.specs.Access.{needs, allowed_number};
 ghost use Rattle.mem_image.specs.Overlap.{AreSound};
 ghost use Rattle.mem_image.specs.Segments.{IsWholeAt};

@@ -2,19 +2,17 @@
 use Rattle.std.proofs.Common.{◌≡◌, ℕ, ◌-◌, Bool, true, false, cond, List, [], ◌∷◌, ◌++◌, sym, subst}
 use Rattle.std.specs.List.{list_all}
 use Rattle.std.proofs.lemmas.Bool.{and_parts}
+use Rattle.qed_model.specs.declared.steps.TheConstants.{DIVERSE_STEPS}
 use Rattle.rv_isa.specs.declared.class.Class.TheVariants as class
 use Rattle.qed_model.specs.declared.item.Item.TheVariants.{Plain}
-use Rattle.qed_model.specs.Machine.Step.{Ins, step}
+use Rattle.machine.specs.Step.{Ins, step}
 use Rattle.qed_model.specs.Weave.Diverse.{Part, part_word, part_items, parts_of, diverse_as, diverse}
 use Rattle.qed_model.specs.Weave.Costs.{spent}
 use Rattle.qed_model.specs.Weave.Forms.{mirror_of}
-use Rattle.qed_model.proofs.DiverseWorth.{fine_part}
-use Rattle.qed_model.proofs.DiverseRows.{all_fine}
+use Rattle.qed_model.proofs.Lemmas.{fine_part, all_fine}
 use Rattle.weave_core.specs.Blocks.{FitsPiece}
 use Rattle.weave_core.specs.Rows.{At}
-use Rattle.weave_core.proofs.Diverse.{operates_class, diverse_row}
-use Rattle.weave_core.proofs.DiverseFit.{diverse_mirrors_fit}
-use Rattle.weave_core.proofs.PartLaws.{lockstep_mirror as lockstep_of}
+use Rattle.weave_core.proofs.Lemmas.{operates_class, diverse_row, diverse_mirrors_fit, lockstep_mirror as lockstep_of}
 use Rattle.passes.specs.Honest.{HonestItems}
 use Rattle.passes.specs.Pass.{Does, same, Quiet, Honest, Lockstep}
 use Rattle.passes.specs.Compose.{leads_led, honest_items_then, honest_items_none}
@@ -26,12 +24,12 @@ pub use Rattle.eddi_dup.specs.Laws.{any}
 -- ---- Quiet
 -- the most steps
 abbrev pub mirror_cost : Bool → Ins → ℕ
-mirror_cost other i = cond other (8 - spent i) 2
+mirror_cost other i = cond other (DIVERSE_STEPS - spent i) 2
 
 pub quiet_mirror : (other : Bool) (i : Ins) (at : ℕ) → FitsPiece i → Quiet any (mirror_of other i at) (λ w v. Runs w i at v.shadow) (λ w. Does same step 0) (λ w v n z. ⊥) (mirror_cost other i)
 quiet_mirror false i at f = quiet_mirrored i at f
 quiet_mirror true i at f = record {
-  leads = λ w v rest s st r. leads_led w v 0 (8 - spent i) rest same step (diverse_row w v.now v.original v.shadow i rest f (subst (λ p. At w v.now (diverse i p ++ rest) v.original v.shadow) (sym r.here) st) r.sourced r.known r.calm);
+  leads = λ w v rest s st r. leads_led w v 0 (DIVERSE_STEPS - spent i) rest same step (diverse_row w v.now v.original v.shadow i rest f (subst (λ p. At w v.now (diverse i p ++ rest) v.original v.shadow) (sym r.here) st) r.sourced r.known r.calm);
 }
 
 -- ---- Honest

@@ -19,7 +19,7 @@ pub struct Mirror {
 impl Pass for Mirror {
     ghost use Rattle.std.specs.Prelude.{[]};
     ghost use Rattle.weave_core.specs.Blocks.{FitsPiece};
-    ghost use Rattle.qed_model.specs.Machine.Step.{step};
+    ghost use Rattle.machine.specs.Step.{step};
     ghost use Rattle.qed_model.specs.Weave.Forms.{mirror_of};
     ghost use Rattle.passes.specs.Pass.{Does, same};
     ghost use Rattle.eddi_dup.specs.Parts.{Runs};

@@ -1,5 +1,6 @@
 //! The words of mirror parts of other kinds.
 ghost use Rattle.std.specs.Prelude.{◌≡◌, ◌∷◌, [], ◌≤◌, pos, negsuc};
+ghost use Rattle.rv_isa.specs.declared.profile.TheConstants.{LAST_ORIGINAL, TEMPORARY, SPARE};
 ghost use Rattle.rv_isa.specs.declared.kind.Kind.TheVariants as row;
 ghost use Rattle.rv_isa.specs.Operation.{pair as pair_of};
 ghost use Rattle.mirror_forms.specs.Low.{IsLow};
@@ -7,11 +8,12 @@ ghost use Rattle.qed_model.specs.Weave.Diverse.{X0, RD, RS1, RS2, X30, X31, op, 
 
 use passes::plain;
 use qed_model::Item;
+use rv_isa::profile::{SPARE, TEMPORARY};
 use rv_isa::{Ins, Kind, Reg, register};
 
 /// The pair of a register up to x13.
 fn pair(r: Reg) -> Reg
-    requires { r ≤ 13 }
+    requires { r ≤ LAST_ORIGINAL }
     ensures { result ≡ pair_of r }
 {
     r.pair()
@@ -35,16 +37,16 @@ fn registers_of(ins: &Ins) -> Places
     ensures rs1 { result.rs1 ≡ pair_of ins.now.rs1 }
     ensures rs2 { result.rs2 ≡ pair_of ins.now.rs2 }
     ensures zero { result.zero ≡ 0 }
-    ensures temp { result.temp ≡ 30 }
-    ensures other { result.other ≡ 31 }
+    ensures temp { result.temp ≡ TEMPORARY }
+    ensures other { result.other ≡ SPARE }
 {
     Places {
         rd: pair(ins.rd),
         rs1: pair(ins.rs1),
         rs2: pair(ins.rs2),
         zero: register(0),
-        temp: register(30),
-        other: register(31),
+        temp: register(TEMPORARY),
+        other: register(SPARE),
     }
 }
 

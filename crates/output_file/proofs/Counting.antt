@@ -3,17 +3,15 @@ use Rattle.std.proofs.Common.{◌≡◌, ℕ, zero, suc, ◌+◌, ◌-◌, ◌*�
 use Rattle.std.specs.Prelude.{sum}
 use Rattle.std.proofs.lemmas.List.{length-take-le, append-nil, get_or_default, drop_all}
 use Rattle.std.proofs.lemmas.List.Sums.{sum_by-cons}
-use Rattle.elf_types.specs.declared.file.ElfFile.{ElfFile}
 use Rattle.rv_isa.specs.declared.ins.Ins.{Ins}
 use Rattle.qed_model.specs.declared.plan.PieceRow.{PieceRow}
-use Rattle.qed_model.specs.declared.range.Range.{Range}
-use Rattle.qed_model.specs.Admission.DataRanges.{range_of, data_ranges, word_count}
-use Rattle.qed_model.specs.Weave.Places.{image_of}
+use Rattle.tests.specs.declared.range.Range.{Range}
+use Rattle.tests.specs.Admission.DataRanges.{range_of, data_ranges, word_count, ElfFile}
+use Rattle.tests.specs.Admission.Places.{image_of}
 use Rattle.qed_model.specs.Weave.Pieces.{divided}
 use Rattle.qed_model.specs.Weave.OutputFile.{rows_of_pieces}
-use Rattle.qed_model.proofs.DataRangesLaws.{Spaced, spaced_data}
-use Rattle.qed_model.proofs.ImageLaws.{image_room}
-use Rattle.block_list.specs.declared.block.CodeBlock.{CodeBlock}
+use Rattle.tests.proofs.Lemmas.{Spaced, spaced_data, image_room}
+use Rattle.block_split.specs.declared.block.CodeBlock.{CodeBlock}
 use Rattle.output_file.specs.Images.{AreSpaced}
 use Rattle.output_file.specs.Told.{IsWhole, rows_of, end_of}
 use Rattle.output_file.proofs.Images.{spaced_ranges}

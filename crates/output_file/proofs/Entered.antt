@@ -1,23 +1,21 @@
 -- What is known of a test that was admitted, with its entries.
 use Rattle.std.proofs.Common.{◌≡◌, ℕ, ◌+◌, ◌*◌, ◌^◌, ◌<◌, ◌≤◌, Bool, true, false, cond, List, [], ◌∷◌, ◌++◌, Option, Some, None, refl, sym, ap, ◌∙◌, subst, arith}
 use Rattle.std.specs.Prelude.{slice_get}
-use Rattle.elf_types.specs.declared.file.ElfFile.{ElfFile}
-use Rattle.elf_types.specs.declared.file.Segment.{Segment}
 use Rattle.elf_types.specs.declared.file.Symbol.{Symbol}
 use Rattle.elf_types.specs.declared.output.OutFile.{OutFile}
 use Rattle.elf_types.specs.declared.output.OutSection.{OutSection}
-use Rattle.qed_model.specs.declared.options.Options.{Options}
+use Rattle.tests.specs.declared.options.Options.{Options}
 use Rattle.qed_model.specs.declared.plan.EntryRow.{EntryRow}
-use Rattle.qed_model.specs.declared.range.Range.{Range}
-use Rattle.qed_model.specs.declared.test.Test.{Test}
-use Rattle.qed_model.specs.Admission.DataRanges.{data_ranges}
-use Rattle.qed_model.specs.Admission.Rules.{passes_at, is_mixed}
+use Rattle.tests.specs.declared.range.Range.{Range}
+use Rattle.tests.specs.declared.test.Test.{Test}
+use Rattle.tests.specs.Admission.DataRanges.{data_ranges, ElfFile, Segment}
+use Rattle.tests.specs.Admission.Rules.{passes_at, is_mixed}
 use Rattle.qed_model.specs.Weave.OutputParts.{code_segment}
 use Rattle.qed_model.specs.Weave.OutputFile.{halves, table_segment, file_sections, file_of}
-use Rattle.qed_model.specs.Weave.Places.{image_of, half_of, code_place}
-use Rattle.qed_model.specs.Members.{Among}
-use Rattle.qed_model.proofs.Pairs.{every_all, among_every}
-use Rattle.qed_model.proofs.ImageLaws.{high_most}
+use Rattle.tests.specs.Admission.Places.{image_of, half_of, code_place}
+use Rattle.machine.specs.Members.{Among}
+use Rattle.machine.proofs.Lemmas.{every_all, among_every}
+use Rattle.tests.proofs.Lemmas.{high_most}
 use Rattle.output_file.specs.Images.{IsImage, EndLow}
 use Rattle.output_file.specs.Segments.{if_any}
 use Rattle.output_file.specs.Sections.{sections_over}

@@ -7,10 +7,9 @@ use Rattle.std.proofs.lemmas.Bool.Decides.{nat_tests}
 use Rattle.std.proofs.Math.Seq.{take-length}
 use Rattle.std.proofs.lemmas.List.Recursion.{or_is}
 use Rattle.std.proofs.lemmas.List.{get_or-drop, get_or_default}
-use Rattle.elf_types.specs.declared.file.Segment.{Segment}
 use Rattle.qed_model.specs.declared.plan.EntryRow.{EntryRow}
-use Rattle.qed_model.specs.declared.range.Range.{Range}
-use Rattle.qed_model.specs.Admission.DataRanges.{range_of, is_in, is_in_any}
+use Rattle.tests.specs.declared.range.Range.{Range}
+use Rattle.tests.specs.Admission.DataRanges.{range_of, is_in, is_in_any, Segment}
 use Rattle.qed_model.specs.Weave.Placed.{entry_at}
 use Rattle.output_file.specs.Images.{AreSpaced}
 

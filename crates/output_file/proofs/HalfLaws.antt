@@ -3,16 +3,13 @@ use Rattle.std.proofs.Common.{◌≡◌, ◌⊎◌, inl, inr, ℕ, ◌+◌, ◌^
 use Rattle.std.specs.Prelude.{◌==◌, filter}
 use Rattle.std.specs.List.Sorted.{IsPermutation, IsNonDecreasingBy}
 use Rattle.std.proofs.lemmas.Bool.{eqb-true, false≢true}
-use Rattle.elf_types.specs.declared.file.Segment.{Segment}
-use Rattle.qed_model.specs.declared.range.Range.{Range}
-use Rattle.qed_model.specs.Admission.DataRanges.{range_of, rounded, is_data, data_segments, data_parts, data_ranges, is_in, is_in_any}
+use Rattle.tests.specs.declared.range.Range.{Range}
+use Rattle.tests.specs.Admission.DataRanges.{range_of, rounded, is_data, data_segments, data_parts, data_ranges, is_in, is_in_any, Segment}
 use Rattle.qed_model.specs.Weave.OutputParts.{copied, copies}
 use Rattle.qed_model.specs.Weave.OutputFile.{other_segments, range_segment, original_half}
-use Rattle.qed_model.proofs.Among.{among-kept, among-either, any_passing, passing, source_of, all_among}
-use Rattle.qed_model.specs.Members.{Among, Pairs}
-use Rattle.qed_model.proofs.Pairs.{every_all, every_among, among_every}
-use Rattle.qed_model.proofs.DataRangesLaws.{Spaced, spaced_from, in_from, in_parts, in_data}
-use Rattle.qed_model.proofs.ImageLaws.{ordered_among}
+use Rattle.machine.proofs.Lemmas.{among-kept, among-either, any_passing, passing, source_of, all_among, every_all, every_among, among_every}
+use Rattle.machine.specs.Members.{Among, Pairs}
+use Rattle.tests.proofs.Lemmas.{Spaced, spaced_from, in_from, in_parts, in_data, ordered_among}
 use Rattle.output_file.specs.Images.{IsImage, HasRoom, EndLow}
 use Rattle.output_file.specs.Runs.{run_segment}
 use Rattle.output_file.proofs.Images.{Clear, parts, apart, room, spaced, data_at}

@@ -3,23 +3,18 @@ use Rattle.std.proofs.Common.{◌≡◌, ⊎_elim, ℕ, suc, ◌+◌, ◌<◌, �
 use Rattle.std.specs.Prelude.{nat_lt}
 use Rattle.std.proofs.lemmas.Bool.{false_from_ne_true}
 use Rattle.std.proofs.lemmas.Bool.Decides.{nat_tests}
-use Rattle.elf_types.specs.declared.file.Segment.{Segment}
 use Rattle.elf_types.specs.Abi.{is_load}
-use Rattle.qed_model.specs.declared.range.Range.{Range}
-use Rattle.qed_model.specs.Machine.Apart.{FitsMemory, AreApart, share}
-use Rattle.qed_model.specs.Machine.Program.{LoadSegment}
-use Rattle.qed_model.specs.Machine.Loading.{load_segment, load_segments}
-use Rattle.qed_model.specs.Admission.Terms.{image_segments}
-use Rattle.qed_model.specs.Admission.DataRanges.{range_of, is_data, data_ranges, is_in, is_in_any}
-use Rattle.qed_model.specs.Admission.Rules.{is_mixed}
-use Rattle.qed_model.proofs.Among.{among-map, any_passing, none_passing, place_of}
-use Rattle.qed_model.specs.Members.{Among, Pairs}
-use Rattle.qed_model.proofs.ApartLaws.{fit_among}
-use Rattle.qed_model.proofs.Fetches.{none_passes}
-use Rattle.qed_model.proofs.Pairs.{every_all, pairs_all, every_among, among_every}
-use Rattle.qed_model.proofs.DataRangesLaws.{AllRoom, Spaced, spaced_data, spaced_from, in_from}
-use Rattle.qed_model.proofs.ImageLaws.{among_load, image_parts, image_room}
-use Rattle.qed_model.proofs.RangeSegments.{data_inside, not_mixed}
+use Rattle.tests.specs.declared.range.Range.{Range}
+use Rattle.machine.specs.Apart.{FitsMemory, AreApart, share}
+use Rattle.machine.specs.Program.{LoadSegment}
+use Rattle.machine.specs.Loading.{load_segment, load_segments, Segment}
+use Rattle.tests.specs.Admission.Terms.{image_segments}
+use Rattle.tests.specs.Admission.DataRanges.{range_of, is_data, data_ranges, is_in, is_in_any}
+use Rattle.tests.specs.Admission.Rules.{is_mixed}
+use Rattle.machine.proofs.Lemmas.{among-map, any_passing, none_passing, place_of, fit_among, every_all, pairs_all, every_among, among_every}
+use Rattle.machine.specs.Members.{Among, Pairs}
+use Rattle.tests.proofs.Lemmas.{none_passes, AllRoom, Spaced, spaced_data, spaced_from, in_from, among_load, image_parts, image_room}
+use Rattle.qed_model.proofs.Lemmas.{data_inside, not_mixed}
 use Rattle.output_file.specs.Images.{AreSpaced, IsImage}
 
 -- ---- segments apart

@@ -7,12 +7,10 @@ use Rattle.std.proofs.lemmas.Bool.{eqb-true, eq-eqb, leb-true, leb-false, cases_
 use Rattle.std.proofs.lemmas.List.{get_or-map, length-map}
 use Rattle.std.proofs.lemmas.List.Sums.{sum_by-cons}
 use Rattle.std.proofs.lemmas.List.Sorted.{sum_by-IsPermutation, All-permutation, IsPermutation-sym}
-use Rattle.elf_types.specs.declared.file.Segment.{Segment}
-use Rattle.qed_model.specs.Weave.OutputFile.{insert_segment, in_order}
-use Rattle.qed_model.proofs.Among.{all_among}
-use Rattle.qed_model.specs.Members.{Among}
-use Rattle.qed_model.proofs.Pairs.{every_all, among_every}
-use Rattle.qed_model.proofs.ImageLaws.{ordered_among, among-ordered}
+use Rattle.tests.specs.Admission.Places.{insert_segment, in_order, Segment}
+use Rattle.machine.proofs.Lemmas.{all_among, every_all, among_every}
+use Rattle.machine.specs.Members.{Among}
+use Rattle.tests.proofs.Lemmas.{ordered_among, among-ordered}
 
 -- ---- members of a list in another order
 pub permuted_among : {A : Type 0} (x : A) (xs ys : List A) → IsPermutation xs ys → Among x ys → Among x xs

@@ -3,10 +3,10 @@ use Rattle.std.proofs.Common.{◌≡◌, ◌+◌, Bool, true, false, not, None, 
 use Rattle.std.specs.Prelude.{filter, ◌&&◌, if◌then◌else◌}
 use Rattle.elf_types.specs.declared.file.Symbol.{Symbol}
 use Rattle.qed_model.specs.declared.plan.EntryRow.{EntryRow}
-use Rattle.qed_model.specs.Elf.Layout.{names_bytes, symbol_names}
+use Rattle.tests.specs.Elf.Layout.{names_bytes, symbol_names}
 use Rattle.qed_model.specs.Weave.OutputParts.{is_kept, is_local, may_name_code, out_symbol, symbol_group, out_symbols}
 use Rattle.qed_model.specs.Weave.Placed.{entry_at}
-use Rattle.qed_model.proofs.OutputFits.{name_at}
+use Rattle.qed_model.proofs.Lemmas.{name_at}
 use Rattle.output_file.specs.Sizes.{symbols_room}
 
 pub room-cons : (s : Symbol) (ss : List Symbol) → symbols_room (s ∷ ss) ≡ 25 + length s.name + symbols_room ss

@@ -5,21 +5,16 @@ use Rattle.std.specs.List.{list_any}
 use Rattle.std.proofs.lemmas.Bool.{true_from_ne_false, leb-true, ltb-true, lt-ltb, and_parts, cases_lt, false≢true}
 use Rattle.std.proofs.lemmas.Bool.Decides.{nat_tests}
 use Rattle.std.proofs.lemmas.List.{get_or_append_left, get_or-append_right, get_or-replicate, length-replicate, ext_get_or}
-use Rattle.elf_types.specs.declared.file.Segment.{Segment}
-use Rattle.qed_model.specs.declared.range.Range.{Range}
-use Rattle.qed_model.specs.Machine.Memory.{Cell, byte_in}
-use Rattle.qed_model.specs.Machine.Loading.{load_segment, load_segments}
-use Rattle.qed_model.specs.Machine.Cells.{has, cell_at, cell_among, byte_among}
-use Rattle.qed_model.specs.Admission.DataRanges.{is_written, is_data, data_segments, data_ranges, is_in}
+use Rattle.tests.specs.declared.range.Range.{Range}
+use Rattle.machine.specs.Memory.{Cell, byte_in}
+use Rattle.machine.specs.Loading.{load_segment, load_segments, Segment}
+use Rattle.machine.specs.Cells.{has, cell_at, cell_among, byte_among}
+use Rattle.tests.specs.Admission.DataRanges.{is_written, is_data, data_segments, data_ranges, is_in}
 use Rattle.qed_model.specs.Weave.OutputFile.{data_in, range_flags, file_end, range_bytes, range_segment}
-use Rattle.qed_model.proofs.BelowLaws.{length-each}
-use Rattle.qed_model.proofs.BlocksOnly.{same_tests}
-use Rattle.qed_model.proofs.Among.{among-filter, among-kept, any_passing, passing}
-use Rattle.qed_model.specs.Members.{Among}
-use Rattle.qed_model.proofs.CellsAmong.{has_from, has_parts, found_among, among_agreed}
-use Rattle.qed_model.proofs.DataRangesLaws.{spaced_from, in_from, in_parts}
-use Rattle.qed_model.proofs.ImageLaws.{among_load, load_source}
-use Rattle.qed_model.proofs.RangeSegments.{data_range, not_mixed, index_past, index_each, file_end_from, file_end_most, file_end_step}
+use Rattle.machine.proofs.Lemmas.{length-each, among-filter, among-kept, any_passing, passing, has_from, has_parts, found_among, among_agreed}
+use Rattle.qed_model.proofs.Lemmas.{same_tests, data_range, not_mixed, index_past, index_each, file_end_from, file_end_most, file_end_step}
+use Rattle.machine.specs.Members.{Among}
+use Rattle.tests.proofs.Lemmas.{spaced_from, in_from, in_parts, among_load, load_source}
 use Rattle.output_file.specs.Images.{IsImage}
 use Rattle.output_file.specs.Laid.{laid}
 use Rattle.output_file.specs.Runs.{run_of, has_bytes, placed_bytes, run_bytes, run_segment}

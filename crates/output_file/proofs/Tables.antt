@@ -5,12 +5,12 @@ use Rattle.std.proofs.lemmas.Bool.{eq-eqb}
 use Rattle.std.proofs.lemmas.Bool.Decides.{nat_tests}
 use Rattle.std.proofs.lemmas.List.{append-nil, replicate-append-replicate}
 use Rattle.qed_model.specs.declared.plan.EntryRow.{EntryRow}
-use Rattle.qed_model.specs.Below.{gather}
-use Rattle.qed_model.specs.Numbers.{number_bytes}
+use Rattle.machine.specs.Below.{gather}
+use Rattle.machine.specs.Numbers.{number_bytes}
 use Rattle.qed_model.specs.Weave.Placed.{entry_at}
 use Rattle.qed_model.specs.Weave.OutputFile.{first_input, last_input, distance_to, table_word, table_bytes, table_segment}
-use Rattle.qed_model.proofs.Fields.{length-number_bytes}
-use Rattle.qed_model.proofs.BelowLaws.{gather_none}
+use Rattle.tests.proofs.Lemmas.{length-number_bytes}
+use Rattle.machine.proofs.Lemmas.{gather_none}
 use Rattle.output_file.specs.Segments.{whole}
 use Rattle.output_file.specs.Laid.{laid}
 use Rattle.output_file.specs.Entries.{AreEntries, entry_distance, entry_word}

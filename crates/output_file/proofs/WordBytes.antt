@@ -3,7 +3,7 @@ use Rattle.std.proofs.Common.{◌≡◌, ℕ, List, [], ◌∷◌, ◌++◌, tak
 use Rattle.std.proofs.lemmas.List.{take-append-drop}
 use Rattle.std.specs.List.{flat_map}
 use Rattle.byteorder.specs.Endian.{little_bytes}
-use Rattle.qed_model.specs.Numbers.{number_bytes, bytes_of}
+use Rattle.machine.specs.Numbers.{number_bytes, bytes_of}
 
 -- the bytes of each word, joined
 pub bytes_joined : (words : List ℕ) → flat_map (λ w. little_bytes 4 w) words ≡ bytes_of words

@@ -1,7 +1,7 @@
 -- The entries of a test.
 use Rattle.std.specs.Prelude.{◌≡◌, ℕ, ◌+◌, ◌-◌, ◌*◌, ◌%◌, ◌<◌, All, AllPairs, List, map}
 use Rattle.qed_model.specs.declared.plan.EntryRow.{EntryRow}
-use Rattle.qed_model.specs.Numbers.{number_bytes}
+use Rattle.machine.specs.Numbers.{number_bytes}
 use Rattle.qed_model.specs.Weave.Placed.{EntriesAscend}
 use Rattle.qed_model.specs.Weave.Sequences.{Block}
 

@@ -1,12 +1,11 @@
 -- What is known of the image of a test.
 use Rattle.std.specs.Prelude.{◌≡◌, ℕ, ◌+◌, ◌^◌, ◌<◌, ◌≤◌, false, All, AllPairs, List, map, slice_get}
-use Rattle.elf_types.specs.declared.file.Segment.{Segment}
-use Rattle.qed_model.specs.declared.range.Range.{Range}
-use Rattle.qed_model.specs.Machine.Apart.{AllFitMemory, AreApart}
-use Rattle.qed_model.specs.Machine.Loading.{load_segments}
-use Rattle.qed_model.specs.Admission.DataRanges.{range_of, data_ranges}
-use Rattle.qed_model.specs.Admission.Rules.{passes_at, is_mixed}
-use Rattle.qed_model.specs.Admission.Terms.{image_segments}
+use Rattle.tests.specs.declared.range.Range.{Range}
+use Rattle.machine.specs.Apart.{AllFitMemory, AreApart}
+use Rattle.machine.specs.Loading.{load_segments, Segment}
+use Rattle.tests.specs.Admission.DataRanges.{range_of, data_ranges}
+use Rattle.tests.specs.Admission.Rules.{passes_at, is_mixed}
+use Rattle.tests.specs.Admission.Terms.{image_segments}
 
 -- ranges ascend, each has some address, and there is a gap between any two
 pub record AreSpaced (ranges : List Range) : Type 0 where

@@ -1,7 +1,6 @@
 -- A data range as one segment, made of the segments in it as they stand one behind the other.
 use Rattle.std.specs.Prelude.{ℕ, ◌-◌, Bool, nat_lt, List, filter, map, length}
-use Rattle.elf_types.specs.declared.file.Segment.{Segment}
-use Rattle.qed_model.specs.Admission.DataRanges.{is_in}
+use Rattle.tests.specs.Admission.DataRanges.{is_in, Segment}
 use Rattle.qed_model.specs.Weave.OutputFile.{range_flags}
 use Rattle.output_file.specs.Laid.{laid}
 

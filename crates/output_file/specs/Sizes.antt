@@ -1,7 +1,7 @@
 -- The room of symbols in a file.
 use Rattle.std.specs.Prelude.{ℕ, ◌+◌, ◌*◌, List, length}
 use Rattle.elf_types.specs.declared.file.Symbol.{Symbol}
-use Rattle.qed_model.specs.Elf.Layout.{names_bytes, symbol_names}
+use Rattle.tests.specs.Elf.Layout.{names_bytes, symbol_names}
 
 -- an entry of the symbol table for each, and the names, each with a zero byte
 abbrev pub symbols_room : List Symbol → ℕ

@@ -1,13 +1,12 @@
 -- A test that was admitted, with its entries.
 use Rattle.std.specs.Prelude.{◌+◌, List}
-use Rattle.elf_types.specs.declared.file.ElfFile.{ElfFile}
-use Rattle.qed_model.specs.declared.options.Options.{Options}
+use Rattle.tests.specs.declared.options.Options.{Options}
 use Rattle.qed_model.specs.declared.plan.EntryRow.{EntryRow}
-use Rattle.qed_model.specs.declared.test.Test.{Test}
-use Rattle.qed_model.specs.Machine.Apart.{AllFitMemory, AreApart}
-use Rattle.qed_model.specs.Admission.CodeWords.{loads_of}
-use Rattle.qed_model.specs.Admission.Refusals.{IsAdmitted}
-use Rattle.qed_model.specs.Admission.Test.{IsTestOf}
+use Rattle.tests.specs.declared.test.Test.{Test}
+use Rattle.machine.specs.Apart.{AllFitMemory, AreApart}
+use Rattle.tests.specs.Admission.CodeWords.{loads_of, ElfFile}
+use Rattle.tests.specs.Admission.Refusals.{IsAdmitted}
+use Rattle.tests.specs.Admission.Test.{IsTestOf}
 use Rattle.output_file.specs.Entries.{AreEntries}
 
 -- the segments of the file fit into memory and share no byte; it is admitted with the options, as this test; and these are entries

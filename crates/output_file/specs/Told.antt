@@ -2,13 +2,13 @@
 use Rattle.std.specs.Prelude.{◌≡◌, ℕ, ◌+◌, ◌*◌, ◌^◌, List, [], ◌∷◌}
 use Rattle.elf_types.specs.declared.file.ElfFile.{ElfFile}
 use Rattle.qed_model.specs.declared.bounds.Bounds.{Bounds}
-use Rattle.qed_model.specs.declared.options.Options.{Options}
+use Rattle.tests.specs.declared.options.Options.{Options}
 use Rattle.qed_model.specs.declared.plan.EntryRow.{EntryRow}
 use Rattle.qed_model.specs.declared.plan.PieceRow.{PieceRow}
-use Rattle.qed_model.specs.declared.test.Test.{Test}
-use Rattle.qed_model.specs.Admission.Test.{IsTestOf}
-use Rattle.block_list.specs.declared.block.CodeBlock.{CodeBlock}
-use Rattle.block_list.specs.Listed.{IsWithin}
+use Rattle.tests.specs.declared.test.Test.{Test}
+use Rattle.tests.specs.Admission.Test.{IsTestOf}
+use Rattle.block_split.specs.declared.block.CodeBlock.{CodeBlock}
+use Rattle.block_split.specs.Listed.{IsWithin}
 use Rattle.qed_model.specs.Weave.Woven.{NewCode, size_of_code, entries_in}
 
 -- these are the test, the size of its new code, the entries and the bounds

@@ -1,6 +1,6 @@
 //! Bytes that stand at places, with zeros between them.
 ghost use Rattle.std.specs.Prelude.{◌≡◌, ◌≤◌, ◌++◌, IfOk, OnOk, length, replicate};
-ghost use Rattle.qed_model.specs.Numbers.{bytes_of as bytes_of_words};
+ghost use Rattle.machine.specs.Numbers.{bytes_of as bytes_of_words};
 
 use byteorder::{ByteOrder, LittleEndian};
 use elf_write::push_zeros;

@@ -1,6 +1,6 @@
 //! Both halves of the output.
 ghost use Rattle.std.specs.Prelude.{◌≡◌, not, IfOk, map, filter};
-ghost use Rattle.qed_model.specs.Admission.DataRanges.{range_of, is_in_any as is_in_any_of};
+ghost use Rattle.tests.specs.Admission.DataRanges.{range_of, is_in_any as is_in_any_of};
 ghost use Rattle.qed_model.specs.Weave.OutputParts.{copies};
 ghost use Rattle.qed_model.specs.Weave.OutputFile.{original_half as original_half_of, shifted as shifted_of, halves as halves_of};
 ghost use Rattle.output_file.specs.Images.{AreSpaced, IsImage, HasRoom, EndLow};

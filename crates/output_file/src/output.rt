@@ -1,7 +1,7 @@
 //! The output file.
 ghost use Rattle.std.specs.Prelude.{◌≡◌, ℕ, ◌+◌, ◌*◌, ◌^◌, ◌<◌, ◌++◌, ◌∷◌, [], if◌then◌else◌, Some, None, IfOk, OnOk};
-ghost use Rattle.qed_model.specs.declared.options.Options.{Options as TestOptions};
-ghost use Rattle.qed_model.specs.Numbers.{bytes_of as bytes_of_words};
+ghost use Rattle.tests.specs.declared.options.Options.{Options as TestOptions};
+ghost use Rattle.machine.specs.Numbers.{bytes_of as bytes_of_words};
 ghost use Rattle.qed_model.specs.Weave.OutputParts.{code_segment as code_segment_of, out_symbols};
 ghost use Rattle.qed_model.specs.Weave.OutputFile.{table_segment as table_segment_of, file_of};
 ghost use Rattle.qed_model.specs.Weave.Placed.{EntriesAscend};

@@ -1,7 +1,7 @@
 //! Data ranges, each as one segment.
 ghost use Rattle.std.specs.Prelude.{◌≡◌, ◌++◌, IfOk, OnOk, map};
 ghost use Rattle.std.specs.List.Sorted.{IsPermutation, IsNonDecreasingBy};
-ghost use Rattle.qed_model.specs.Admission.DataRanges.{range_of};
+ghost use Rattle.tests.specs.Admission.DataRanges.{range_of};
 ghost use Rattle.qed_model.specs.Weave.OutputFile.{range_flags as range_flags_of};
 ghost use Rattle.output_file.specs.Runs.{run_of, run_bytes, run_segment};
 

@@ -13,7 +13,7 @@ use std::alloc::{AllocError, Global};
 const ROW_SIZE: u64 = 16;
 
 /// Appends the input address and the new address of an entry.
-#[tactic(auto, unfolding(qed_model::specs::Numbers::number_bytes, qed_model::specs::Weave::OutputParts::row_bytes))]
+#[tactic(auto, unfolding(machine::specs::Numbers::number_bytes, qed_model::specs::Weave::OutputParts::row_bytes))]
 fn push_row(bytes: &mut Vec<u8>, row: &EntryRow) -> Result<(), AllocError>
     ensures { OnOk result (bytes.new.items ≡ bytes.old.items ++ row_bytes row.now) }
 {

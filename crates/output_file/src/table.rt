@@ -1,13 +1,13 @@
 //! The table, by which a JALR finds the entry of an input address.
 ghost use Rattle.std.specs.Prelude.{◌≡◌, ℕ, ◌+◌, ◌*◌, ◌^◌, ◌<◌, IfOk, map};
 ghost use Rattle.qed_model.specs.Weave.OutputFile.{looks_up as looks_up_of, has_table as has_table_of, first_input as first_input_of, table_bytes as table_bytes_of, table_segment as table_segment_of};
-ghost use Rattle.block_list.specs.Listed.{end_of, block_of};
+ghost use Rattle.block_split.specs.Listed.{end_of, block_of};
 ghost use Rattle.output_file.specs.Laid.{laid};
 ghost use Rattle.output_file.specs.Entries.{AreEntries, entry_distance, entry_word};
 
 use crate::bytes::push_behind;
 use crate::segments::{moved, whole_segment};
-use block_list::CodeBlock;
+use block_split::CodeBlock;
 use elf_types::abi::PF_R;
 use elf_types::{Bytes, Segment};
 use flow_recovery::is_indirect;
@@ -56,7 +56,7 @@ fn far(row: &EntryRow, distance: u64) -> u64
 }
 
 /// The bytes of the word of an entry.
-#[tactic(auto, unfolding(qed_model::specs::Numbers::number_bytes))]
+#[tactic(auto, unfolding(machine::specs::Numbers::number_bytes))]
 fn word_bytes(row: &EntryRow, distance: u64) -> [u8; 4]
     ensures { result ≡ (entry_word distance row.now).1 }
 {

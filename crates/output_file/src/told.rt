@@ -1,15 +1,15 @@
 //! What is told of an output.
 ghost use Rattle.std.specs.Prelude.{◌≡◌, ◌+◌, ◌-◌, ◌*◌, ◌/◌, ◌^◌, ◌<◌, ◌++◌, All, IfOk, OnOk, map};
 ghost use Rattle.elf_types.specs.declared.file.ElfFile.{ElfFile};
-ghost use Rattle.qed_model.specs.declared.options.Options.{Options};
-ghost use Rattle.qed_model.specs.Admission.DataRanges.{range_of, word_count as word_count_of};
+ghost use Rattle.tests.specs.declared.options.Options.{Options};
+ghost use Rattle.tests.specs.Admission.DataRanges.{range_of, word_count as word_count_of};
 ghost use Rattle.qed_model.specs.Weave.OutputFile.{rows_of_pieces, piece_rows as piece_rows_of};
 ghost use Rattle.qed_model.specs.Weave.Woven.{NewCode, IsToldOf};
-ghost use Rattle.block_list.specs.Listed.{block_of};
+ghost use Rattle.block_split.specs.Listed.{block_of};
 ghost use Rattle.output_file.specs.Images.{AreSpaced};
 ghost use Rattle.output_file.specs.Told.{IsWhole, AreParts};
 
-use block_list::CodeBlock;
+use block_split::CodeBlock;
 use elf_types::Listed;
 use qed_model::{Bounds, EntryRow, PieceRow, Plan, Range, Test};
 use std::alloc::{AllocError, Global};

@@ -4,16 +4,15 @@ use Rattle.std.specs.Prelude.{◌==◌}
 use Rattle.std.proofs.lemmas.Bool.{false≢true}
 use Rattle.rv_isa.specs.declared.kind.Kind.TheVariants.{Beq}
 use Rattle.rv_isa.specs.declared.class.Class.TheVariants as class
-use Rattle.qed_model.specs.Machine.Memory.{grants, number, put}
-use Rattle.qed_model.specs.Machine.Values.{holds, width_of, loaded}
-use Rattle.qed_model.specs.declared.machine.Outcome.TheVariants.{Going, Ended, Fired, Trapped}
-use Rattle.qed_model.specs.Machine.Step.{set_reg, class_of, Class, Ins, State, reg, place, moved, stored, jumped, trapped, Fetched, Known, HasAt, imm, next_pc, execute, step, ebreak}
+use Rattle.machine.specs.Memory.{grants, number, put}
+use Rattle.machine.specs.Values.{holds, width_of, loaded}
+use Rattle.machine.specs.declared.outcome.Outcome.TheVariants.{Going, Ended, Fired, Trapped}
+use Rattle.machine.specs.Step.{set_reg, class_of, Class, Ins, State, reg, place, moved, stored, jumped, trapped, Fetched, Known, HasAt, imm, next_pc, execute, step, ebreak}
 use Rattle.qed_model.specs.Weave.Placed.{instructions_from}
-use Rattle.qed_model.specs.Machine.Walks.{Over}
-use Rattle.qed_model.proofs.Walk.{known_at}
-use Rattle.qed_model.proofs.Steps.{step-class}
-use Rattle.qed_model.specs.declared.machine.Cause.TheVariants as cause
-use Rattle.weave_core.proofs.Leaves.{equal_holds, step-branch, step-jump}
+use Rattle.machine.specs.Walks.{Over}
+use Rattle.machine.proofs.Lemmas.{known_at, step-class}
+use Rattle.machine.specs.declared.outcome.Cause.TheVariants as cause
+use Rattle.weave_core.proofs.Lemmas.{equal_holds, step-branch, step-jump}
 use Rattle.weave_core.specs.Lock.{comparison, word_check}
 use Rattle.passes.specs.Honest.{NoBreak, sign_check, Checks, pairs, words, signs, HonestAs, AllHonest}
 use Rattle.passes.specs.Alone.{Differs, pair_differs, word_differs, sign_differs, ChecksAlone}

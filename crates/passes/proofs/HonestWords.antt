@@ -3,13 +3,13 @@ use Rattle.std.proofs.Common.{◌≡◌, ℕ, ◌+◌, ◌*◌, ◌%◌, ◌^◌
 use Rattle.std.specs.Prelude.{◌==◌, pos}
 use Rattle.std.proofs.lemmas.Bool.{eqb-false}
 use Rattle.rv_isa.specs.declared.class.Class.TheVariants as class
-use Rattle.qed_model.specs.Machine.Step.{Ins, Addi, Auipc, Beq, Jal, Jalr, ins, class_of, Class, Fetched, Known, HasAt, imm, ebreak}
-use Rattle.qed_model.specs.Weave.Placed.{distance_between, upper_part, lower_part, go_words, instructions_from}
+use Rattle.machine.specs.Step.{Ins, Addi, Auipc, Beq, Jal, Jalr, ins, class_of, Class, Fetched, Known, HasAt, imm, ebreak}
+use Rattle.machine.specs.Offsets.{distance_between, upper_part, lower_part}
+use Rattle.qed_model.specs.Weave.Placed.{go_words, instructions_from}
 use Rattle.qed_model.specs.declared.item.Item.{Item}
 use Rattle.qed_model.specs.declared.item.Item.TheVariants.{Plain, Constant, Go}
-use Rattle.qed_model.specs.Weave.Sequences.{guard, enter}
-use Rattle.qed_model.proofs.Wrapped.{difference}
-use Rattle.qed_model.proofs.Walk.{brk}
+use Rattle.qed_model.specs.Weave.Sequences.{guard, enter, LAST_ORIGINAL, PAIR_DISTANCE, TEMPORARY}
+use Rattle.machine.proofs.Lemmas.{difference, brk}
 use Rattle.weave_core.specs.Lock.{first_load, mirror_place, second_load, word_check}
 use Rattle.passes.specs.Honest.{NoBreak, sign_check, pairs, words, signs, HonestAs, AllHonest, HonestAt, HonestItems}
 use Rattle.passes.specs.Compose.{honest_items_none}
@@ -75,7 +75,7 @@ module _ (far : Bool) where
 
   pub go_as : (b : Bool) (c : ℕ → Fetched) (a e : ℕ) → a < 2 ^ 64 → e < 2 ^ 64 → NoBreak c e → HasAt c a (go_words b a e) → AllHonest c a (go_words b a e) × NoBreak c a
   go_as false c a e ha he n has = ((subst (NoBreak c) (sym (difference a e ha he)) n, tt), other_word c a (ins Jal 0 0 0 (distance_between a e)) class.Jump has.0 refl (λ e. absurd (cc)))
-  go_as true c a e ha he n has = ((other_word c (a + 4) (ins Jalr 0 30 0 (lower_part (distance_between a e))) class.JumpReg has.1.0 refl (λ e. absurd (cc)), (tt, tt)), other_word c a (ins Auipc 30 0 0 (upper_part (distance_between a e))) class.Compute has.0 refl (λ e. absurd (cc)))
+  go_as true c a e ha he n has = ((other_word c (a + 4) (ins Jalr 0 TEMPORARY 0 (lower_part (distance_between a e))) class.JumpReg has.1.0 refl (λ e. absurd (cc)), (tt, tt)), other_word c a (ins Auipc TEMPORARY 0 0 (upper_part (distance_between a e))) class.Compute has.0 refl (λ e. absurd (cc)))
 
   pub honest_go : (t : ℕ) → HonestItems far (Go t ∷ [])
   honest_go t c en a near has calm ent = let w = ent t in by far near has w.0 w.1 where
@@ -86,17 +86,17 @@ module _ (far : Bool) where
     by true near has low n = let g = go_as true c a (en t) (omega (arith, near)) low n has in record { each = g.0; front = g.1 }
 
   -- ---- comparisons
-  guard_some : (q : ℕ) → 1 ≤ q → q ≤ 13 → HonestItems far (Plain (ins Beq 0 q (q + 16) (pos 8)) ∷ Plain brk ∷ [])
+  guard_some : (q : ℕ) → 1 ≤ q → q ≤ LAST_ORIGINAL → HonestItems far (Plain (ins Beq 0 q (q + PAIR_DISTANCE) (pos 8)) ∷ Plain brk ∷ [])
   guard_some q one low c en a near has calm ent =
       let s : a + 8 ≡ (a + 8) % 2 ^ 64 = omega (arith, near) in
       record {
         each = ((subst (NoBreak c) s calm, λ e. pairs q refl one low), (tt, tt));
-        front = other_word c a (ins Beq 0 q (q + 16) (pos 8)) class.Branch has.0 refl (λ e. absurd (cc));
+        front = other_word c a (ins Beq 0 q (q + PAIR_DISTANCE) (pos 8)) class.Branch has.0 refl (λ e. absurd (cc));
       }
 
-  pub honest_guard : (q : ℕ) → q ≤ 13 → HonestItems far (guard q)
+  pub honest_guard : (q : ℕ) → q ≤ LAST_ORIGINAL → HonestItems far (guard q)
   honest_guard q low =
-      elim (q == 0) as (λ b. (q == 0) ≡ b → HonestItems far (cond b [] (Plain (ins Beq 0 q (q + 16) (pos 8)) ∷ Plain brk ∷ []))) [
+      elim (q == 0) as (λ b. (q == 0) ≡ b → HonestItems far (cond b [] (Plain (ins Beq 0 q (q + PAIR_DISTANCE) (pos 8)) ∷ Plain brk ∷ []))) [
         | true ↦ λ t. honest_items_none far
         | false ↦ λ t. guard_some q (let z = eqb-false q 0 t in omega (arith, z)) low
       ] refl
@@ -104,8 +104,8 @@ module _ (far : Bool) where
   -- the entry of a block
   pub honest_enter : (t : ℕ) → HonestItems far (enter t)
   honest_enter t c en a near has calm ent =
-      let up = ins Auipc 30 0 0 (upper_part (distance_between a t)) in
-      let lo = ins Addi 30 30 0 (lower_part (distance_between a t)) in
+      let up = ins Auipc TEMPORARY 0 0 (upper_part (distance_between a t)) in
+      let lo = ins Addi TEMPORARY TEMPORARY 0 (lower_part (distance_between a t)) in
       let s : a + 16 ≡ (a + 4 + 4 + 8) % 2 ^ 64 = omega (arith, near) in
       let p : a + 4 + 4 ≡ a + 8 = omega arith in
       record {

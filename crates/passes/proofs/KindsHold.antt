@@ -2,8 +2,7 @@
 use Rattle.std.proofs.Common.{◌≡◌, ◌+◌, ◌*◌, [], ◌++◌, subst, arith}
 use Rattle.qed_model.specs.Weave.Placed.{instructions_from}
 use Rattle.weave_core.specs.Lock.{Opens}
-use Rattle.weave_core.proofs.Listed.{opens_behind, fits_in}
-use Rattle.weave_core.proofs.Landing.{land_at}
+use Rattle.weave_core.proofs.Lemmas.{opens_behind, fits_in, land_at}
 use Rattle.passes.specs.KindsHold.{KindsHold}
 
 pub kinds_hold : KindsHold

@@ -1,18 +1,19 @@
 -- What it means that a pass is honest: of its words a check alone leads to an EBREAK, and only where it finds a difference.
 use Rattle.std.specs.Prelude.{◌≡◌, ℕ, ◌+◌, ◌*◌, ◌^◌, ◌<◌, ◌≤◌, Bool, List, length}
+use Rattle.rv_isa.specs.declared.profile.TheConstants.{LAST_ORIGINAL, PAIR_DISTANCE, SIGNATURE, TEMPORARY, SPARE}
 use Rattle.rv_isa.specs.declared.class.Class.TheVariants as class
 use Rattle.qed_model.specs.declared.item.Item.{Item}
-use Rattle.qed_model.specs.declared.machine.Outcome.TheVariants.{Going}
-use Rattle.qed_model.specs.Machine.Step.{class_of, Ins, State, reg, Fetched, Known, HasAt, step, ebreak}
+use Rattle.machine.specs.declared.outcome.Outcome.TheVariants.{Going}
+use Rattle.machine.specs.Step.{class_of, Ins, State, reg, Fetched, Known, HasAt, step, ebreak}
 use Rattle.qed_model.specs.Weave.Placed.{instructions_from}
-use Rattle.qed_model.specs.Machine.Walks.{Over}
+use Rattle.machine.specs.Walks.{Over}
 use Rattle.passes.specs.Honest.{VisitWords, NoBreak, EntryWords, CalmEntries, HonestItems}
 
 -- a register and its pair differ, a word and its duplicate, which were just loaded, or the signature and the entry
 pub data Differs (c : ℕ → Fetched) (s : State) : Type 0 where
-  pair_differs : (q : ℕ) → 1 ≤ q → q ≤ 13 → (reg s q ≡ reg s (q + 16) → ⊥) → Differs c s
-  word_differs : (b : ℕ) → s.pc ≡ b + 12 → VisitWords c b → (reg s 30 ≡ reg s 31 → ⊥) → Differs c s
-  sign_differs : (b t : ℕ) → s.pc ≡ b + 8 → EntryWords c b t → (reg s 16 ≡ reg s 30 → ⊥) → Differs c s
+  pair_differs : (q : ℕ) → 1 ≤ q → q ≤ LAST_ORIGINAL → (reg s q ≡ reg s (q + PAIR_DISTANCE) → ⊥) → Differs c s
+  word_differs : (b : ℕ) → s.pc ≡ b + 12 → VisitWords c b → (reg s TEMPORARY ≡ reg s SPARE → ⊥) → Differs c s
+  sign_differs : (b t : ℕ) → s.pc ≡ b + 8 → EntryWords c b t → (reg s SIGNATURE ≡ reg s TEMPORARY → ⊥) → Differs c s
 
 -- a state, whatever it holds, that goes on at word k of the items, which is no EBREAK; a JALR leads to none
 pub record Inside (far : Bool) (items : List Item) (c : ℕ → Fetched) (entry : ℕ → ℕ) (a k : ℕ) (s : State) : Type 0 where

@@ -1,14 +1,12 @@
 -- The laws of one pass after another.
 use Rattle.std.proofs.Common.{◌≡◌, ℕ, suc, ◌+◌, ◌*◌, Bool, List, [], ◌∷◌, ◌++◌, length, sym, ap, ◌∙◌, subst, arith, length-append}
-use Rattle.qed_model.specs.Machine.Step.{Ins, Fetched, HasAt}
+use Rattle.machine.specs.Step.{Ins, Fetched, HasAt}
 use Rattle.qed_model.specs.declared.item.Item.{Item}
 use Rattle.qed_model.specs.Weave.Placed.{instructions_from}
 use Rattle.passes.specs.Honest.{NoBreak, AllHonest, HonestItems}
 use Rattle.passes.specs.Pass.{Honest}
-use Rattle.weave_core.proofs.KindItems.{instructions_then}
-use Rattle.weave_core.proofs.Landing.{has_rest}
-use Rattle.weave_core.proofs.Source.{has_front}
-pub use Rattle.weave_core.proofs.Compose.{leads_led, quiet_then, lockstep_then, lockstep_alone}
+use Rattle.weave_core.proofs.Lemmas.{instructions_then, has_rest, has_front}
+pub use Rattle.weave_core.proofs.Lemmas.{leads_led, quiet_then, lockstep_then, lockstep_alone}
 
 -- ---- Honest
 honest_append : (c : ℕ → Fetched) (a : ℕ) (xs ys : List Ins) → AllHonest c a xs → AllHonest c (a + 4 * length xs) ys → AllHonest c a (xs ++ ys)

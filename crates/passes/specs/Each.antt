@@ -7,7 +7,7 @@ use Rattle.passes.specs.Emitted.{AppendsPart, Done, done_part}
 use Rattle.passes.specs.Compose.{honest_then, honest_items_none}
 pub use Rattle.weave_core.specs.Each.{items_each, ForEach, NeedsEach, GivesEach, LeavesEach}
 pub use Rattle.qed_model.specs.Weave.Costs.{cost_each}
-pub use Rattle.weave_core.proofs.Compose.{quiet_each, lockstep_each}
+pub use Rattle.weave_core.proofs.Lemmas.{quiet_each, lockstep_each}
 
 -- the address of the next instruction
 abbrev pub next_at : ℕ → ℕ

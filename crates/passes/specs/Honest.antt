@@ -1,9 +1,11 @@
 -- Where words may lead to an EBREAK: at a comparison alone.
 use Rattle.std.specs.Prelude.{◌≡◌, ℕ, ◌+◌, ◌*◌, ◌%◌, ◌^◌, ◌<◌, ◌≤◌, Bool, List, [], ◌∷◌, length, pos}
+use Rattle.rv_isa.specs.declared.profile.TheConstants.{LAST_ORIGINAL, SIGNATURE, TEMPORARY}
 use Rattle.rv_isa.specs.declared.class.Class.TheVariants as class
 use Rattle.qed_model.specs.declared.item.Item.{Item}
-use Rattle.qed_model.specs.Weave.Placed.{distance_between, upper_part, lower_part, instructions_from}
-use Rattle.qed_model.specs.Machine.Step.{Ins, Addi, Auipc, Beq, ins, class_of, Class, Fetched, Known, HasAt, imm, ebreak}
+use Rattle.machine.specs.Offsets.{distance_between, upper_part, lower_part}
+use Rattle.qed_model.specs.Weave.Placed.{instructions_from}
+use Rattle.machine.specs.Step.{Ins, Addi, Auipc, Beq, ins, class_of, Class, Fetched, Known, HasAt, imm, ebreak}
 use Rattle.weave_core.specs.Lock.{comparison, first_load, mirror_place, second_load, word_check}
 
 -- no EBREAK stands at an address
@@ -12,12 +14,12 @@ NoBreak c a = c a ≡ ebreak → ⊥
 
 -- the comparison of the signature with the entry
 abbrev pub sign_check : Ins
-sign_check = ins Beq 0 16 30 (pos 8)
+sign_check = ins Beq 0 SIGNATURE TEMPORARY (pos 8)
 
 -- the two words before it set x30 to the input address t of the entry
 pub record EntryWords (c : ℕ → Fetched) (a t : ℕ) : Type 0 where
-  pub upper : c a ≡ Known (ins Auipc 30 0 0 (upper_part (distance_between a t)))
-  pub lower : c (a + 4) ≡ Known (ins Addi 30 30 0 (lower_part (distance_between a t)))
+  pub upper : c a ≡ Known (ins Auipc TEMPORARY 0 0 (upper_part (distance_between a t)))
+  pub lower : c (a + 4) ≡ Known (ins Addi TEMPORARY TEMPORARY 0 (lower_part (distance_between a t)))
 
 -- the words of a visited word stand from an address on, up to its EBREAK
 pub record VisitWords (c : ℕ → Fetched) (a : ℕ) : Type 0 where
@@ -29,7 +31,7 @@ pub record VisitWords (c : ℕ → Fetched) (a : ℕ) : Type 0 where
 
 -- the instruction i at a compares a register with its pair, a word with its duplicate, or a signature with its entry
 pub data Checks (c : ℕ → Fetched) (a : ℕ) (i : Ins) : Type 0 where
-  pairs : (q : ℕ) → i ≡ comparison q → 1 ≤ q → q ≤ 13 → Checks c a i
+  pairs : (q : ℕ) → i ≡ comparison q → 1 ≤ q → q ≤ LAST_ORIGINAL → Checks c a i
   words : (b : ℕ) → i ≡ word_check → a ≡ b + 12 → VisitWords c b → Checks c a i
   signs : (b t : ℕ) → i ≡ sign_check → a ≡ b + 8 → EntryWords c b t → Checks c a i
 

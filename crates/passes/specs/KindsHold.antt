@@ -1,6 +1,6 @@
 -- What it means that a pass keeps lockstep: each of its words is of a kind, and no register is closed at the first.
 use Rattle.std.specs.Prelude.{◌≡◌, ℕ, ◌+◌, ◌*◌, ◌^◌, ◌<◌, Bool, true, List, ◌++◌, length}
-use Rattle.qed_model.specs.Machine.Step.{class_of, Ins, Fetched, Known, HasAt}
+use Rattle.machine.specs.Step.{class_of, Ins, Fetched, Known, HasAt}
 use Rattle.qed_model.specs.declared.item.Item.{Item}
 use Rattle.qed_model.specs.Weave.Placed.{instructions_from}
 use Rattle.weave_core.specs.Lock.{Opens, HasKind}

@@ -1,13 +1,15 @@
 //! Instructions, and comparisons of registers with their pairs.
 ghost use Rattle.std.specs.Prelude.{◌≡◌, ◌<◌, ◌≤◌, ◌++◌, OnOk, OnErr};
-ghost use Rattle.qed_model.specs.Machine.Step.{target as target_of};
-ghost use Rattle.qed_model.specs.Machine.Table.{ins as ins_of};
+ghost use Rattle.rv_isa.specs.declared.profile.TheConstants.{LAST_ORIGINAL};
+ghost use Rattle.machine.specs.Step.{target as target_of};
+ghost use Rattle.machine.specs.Table.{ins as ins_of};
 ghost use Rattle.qed_model.specs.Weave.Sequences.{guard as guard_of, guards as guards_of};
 ghost use Rattle.passes.specs.Emitted.{AppendsPart};
 ghost use Rattle.passes.specs.Pass.{AllLow};
 
 use crate::Emit;
 use qed_model::Item;
+use rv_isa::profile::PAIR_DISTANCE;
 use rv_isa::{Ins, Kind, Reg, register};
 use std::alloc::AllocError;
 
@@ -35,7 +37,7 @@ pub fn target(ins: &Ins, at: u64) -> u64
 ///
 /// Errors: want of memory, and then nothing is appended.
 pub fn put_guard(out: &mut Emit, r: Reg) -> Result<(), AllocError>
-    requires { r ≤ 13 }
+    requires { r ≤ LAST_ORIGINAL }
     ensures all { OnOk result (out.new ≡ out.old ++ guard_of r) }
     ensures none { OnErr result (out.new ≡ out.old) }
 {
@@ -44,7 +46,7 @@ pub fn put_guard(out: &mut Emit, r: Reg) -> Result<(), AllocError>
     }
     let zero = register(0);
     out.put(&[
-        plain(Kind::Beq, zero, r, register(r.number() + 16), 8),
+        plain(Kind::Beq, zero, r, register(r.number() + PAIR_DISTANCE), 8),
         plain(Kind::Ebreak, zero, zero, zero, 0),
     ])?;
     Ok(())

@@ -2,21 +2,20 @@
 use Rattle.std.proofs.Common.{◌≡◌, ℕ, zero, suc, ◌+◌, ◌-◌, ◌<◌, ◌≤◌, Bool, List, [], ◌∷◌, ◌++◌, length, refl, sym, ap, subst, arith}
 use Rattle.std.specs.Prelude.{pos, slice_index_or, drop}
 use Rattle.std.proofs.lemmas.List.{append-nil}
-use Rattle.qed_model.specs.declared.range.Range.{Range}
+use Rattle.tests.specs.declared.range.Range.{Range}
 use Rattle.rv_isa.specs.declared.class.Class.TheVariants as class
-use Rattle.qed_model.specs.Machine.Table.{Addi, Bne, ins}
+use Rattle.machine.specs.Table.{Addi, Bne, ins}
 use Rattle.qed_model.specs.declared.item.Item.{Item}
 use Rattle.qed_model.specs.declared.item.Item.TheVariants.{Plain, Constant}
-use Rattle.qed_model.specs.Weave.Sequences.{wraps, visit_word, times, visit}
-use Rattle.weave_core.proofs.KindItems.{visits_items}
-use Rattle.weave_core.proofs.Landing.{land_visits}
+use Rattle.qed_model.specs.Weave.Sequences.{wraps, visit_word, times, visit, CURSOR, TEMPORARY}
+use Rattle.weave_core.proofs.Lemmas.{visits_items, land_visits}
 use Rattle.passes.specs.Honest.{HonestItems}
 use Rattle.passes.specs.Pass.{Honest, Lockstep}
 use Rattle.passes.specs.Compose.{honest_items_then, honest_items_none}
 use Rattle.passes.proofs.HonestWords.{honest_on, honest_constant, honest_skip, honest_head, visit_head}
 use Rattle.passes.specs.Emitted.{AppendsPart, Done, done_more, done_all, done_part}
 pub use Rattle.weave_core.specs.Parts.{any}
-pub use Rattle.weave_core.proofs.PartLaws.{quiet_visit}
+pub use Rattle.weave_core.proofs.Lemmas.{quiet_visit}
 
 -- ---- Lockstep
 pub lockstep_visit : (round : ℕ) (spans : List (ℕ × ℕ)) → Lockstep any [] (visit round spans)
@@ -24,17 +23,17 @@ lockstep_visit round spans = record { locks = λ far s. visits_items far round s
 
 -- ---- Honest
 module _ (far : Bool) where
-  skip : (v : ℕ) → HonestItems far (Plain (ins Bne 0 15 30 (pos 12)) ∷ Constant 15 v ∷ [])
-  skip v = honest_skip far (ins Bne 0 15 30 (pos 12)) 15 v refl refl
+  skip : (v : ℕ) → HonestItems far (Plain (ins Bne 0 CURSOR TEMPORARY (pos 12)) ∷ Constant CURSOR v ∷ [])
+  skip v = honest_skip far (ins Bne 0 CURSOR TEMPORARY (pos 12)) 15 v refl refl
 
   wraps_honest : (rs : List (ℕ × ℕ)) (first : ℕ) → HonestItems far (wraps rs first)
   wraps_honest [] first = honest_items_none far
-  wraps_honest (r ∷ []) first = honest_items_then far (Constant 30 r.1 ∷ []) (Plain (ins Bne 0 15 30 (pos 12)) ∷ Constant 15 first ∷ []) (honest_constant far 30 r.1) (skip first)
-  wraps_honest (r ∷ n ∷ rs) first = honest_items_then far (Constant 30 r.1 ∷ []) (Plain (ins Bne 0 15 30 (pos 12)) ∷ Constant 15 n.0 ∷ wraps (n ∷ rs) first) (honest_constant far 30 r.1) (honest_items_then far (Plain (ins Bne 0 15 30 (pos 12)) ∷ Constant 15 n.0 ∷ []) (wraps (n ∷ rs) first) (skip n.0) (wraps_honest (n ∷ rs) first))
+  wraps_honest (r ∷ []) first = honest_items_then far (Constant TEMPORARY r.1 ∷ []) (Plain (ins Bne 0 CURSOR TEMPORARY (pos 12)) ∷ Constant CURSOR first ∷ []) (honest_constant far 30 r.1) (skip first)
+  wraps_honest (r ∷ n ∷ rs) first = honest_items_then far (Constant TEMPORARY r.1 ∷ []) (Plain (ins Bne 0 CURSOR TEMPORARY (pos 12)) ∷ Constant CURSOR n.0 ∷ wraps (n ∷ rs) first) (honest_constant far 30 r.1) (honest_items_then far (Plain (ins Bne 0 CURSOR TEMPORARY (pos 12)) ∷ Constant CURSOR n.0 ∷ []) (wraps (n ∷ rs) first) (skip n.0) (wraps_honest (n ∷ rs) first))
 
   word_honest : (spans : List (ℕ × ℕ)) → HonestItems far (visit_word spans)
   word_honest [] = honest_items_none far
-  word_honest (r ∷ rs) = honest_items_then far (visit_head far) (Plain (ins Addi 15 15 0 (pos 8)) ∷ wraps (r ∷ rs) r.0) (honest_head far) (honest_items_then far (Plain (ins Addi 15 15 0 (pos 8)) ∷ []) (wraps (r ∷ rs) r.0) (honest_on far (ins Addi 15 15 0 (pos 8)) class.Compute refl tt) (wraps_honest (r ∷ rs) r.0))
+  word_honest (r ∷ rs) = honest_items_then far (visit_head far) (Plain (ins Addi CURSOR CURSOR 0 (pos 8)) ∷ wraps (r ∷ rs) r.0) (honest_head far) (honest_items_then far (Plain (ins Addi CURSOR CURSOR 0 (pos 8)) ∷ []) (wraps (r ∷ rs) r.0) (honest_on far (ins Addi CURSOR CURSOR 0 (pos 8)) class.Compute refl tt) (wraps_honest (r ∷ rs) r.0))
 
   times_honest : (n : ℕ) (is : List Item) → HonestItems far is → HonestItems far (times n is)
   times_honest zero is h = honest_items_none far

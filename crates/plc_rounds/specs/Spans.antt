@@ -1,9 +1,10 @@
 -- The data ranges as pairs, and what the visits of their words do.
 use Rattle.std.specs.Prelude.{ℕ, List, [], ◌∷◌, pos}
-use Rattle.qed_model.specs.Machine.Table.{Bne, ins}
+use Rattle.rv_isa.specs.declared.profile.TheConstants.{CURSOR, TEMPORARY}
+use Rattle.machine.specs.Table.{Bne, ins}
 use Rattle.qed_model.specs.declared.item.Item.{Item}
 use Rattle.qed_model.specs.declared.item.Item.TheVariants.{Plain, Constant}
-use Rattle.qed_model.specs.declared.range.Range.{Range}
+use Rattle.tests.specs.declared.range.Range.{Range}
 pub use Rattle.weave_core.specs.Parts.{Rounds}
 
 -- the start and the end of each range
@@ -13,4 +14,4 @@ spans_of (r ∷ rs) = (r.start, r.end) ∷ spans_of rs
 
 -- where the cursor is at `end` it goes on at `next`
 abbrev pub wrap : ℕ → ℕ → List Item
-wrap end next = Constant 30 end ∷ Plain (ins Bne 0 15 30 (pos 12)) ∷ Constant 15 next ∷ []
+wrap end next = Constant TEMPORARY end ∷ Plain (ins Bne 0 CURSOR TEMPORARY (pos 12)) ∷ Constant CURSOR next ∷ []

@@ -6,6 +6,7 @@ ghost use Rattle.plc_rounds.specs.Spans.{spans_of, wrap};
 
 use passes::{Emit, Pass, plain};
 use qed_model::{Item, Range, Ranges};
+use rv_isa::profile::{CURSOR, DISTANCE, SPARE, TEMPORARY};
 use rv_isa::{Ins, Kind, register};
 use std::alloc::AllocError;
 
@@ -22,9 +23,15 @@ fn put_wrap(end: u64, next: u64, out: &mut Emit) -> Result<(), AllocError>
     ensures none { OnErr result (out.new ≡ out.old) }
 {
     out.put(&[
-        Item::Constant(register(30), end),
-        plain(Kind::Bne, register(0), register(15), register(30), 12),
-        Item::Constant(register(15), next),
+        Item::Constant(register(TEMPORARY), end),
+        plain(
+            Kind::Bne,
+            register(0),
+            register(CURSOR),
+            register(TEMPORARY),
+            12,
+        ),
+        Item::Constant(register(CURSOR), next),
     ])?;
     Ok(())
 }
@@ -55,12 +62,12 @@ fn put_word(spans: &[Range], out: &mut Emit) -> Result<(), AllocError>
     }
     let first = spans[0].start;
     let zero = register(0);
-    let cursor = register(15);
-    let word = register(30);
-    let mirror = register(31);
+    let cursor = register(CURSOR);
+    let word = register(TEMPORARY);
+    let mirror = register(SPARE);
     out.put(&[
         plain(Kind::Ld, word, cursor, zero, 0),
-        plain(Kind::Add, mirror, cursor, register(14), 0),
+        plain(Kind::Add, mirror, cursor, register(DISTANCE), 0),
         plain(Kind::Ld, mirror, mirror, zero, 0),
         plain(Kind::Beq, zero, word, mirror, 8),
         plain(Kind::Ebreak, zero, zero, zero, 0),
@@ -72,10 +79,11 @@ fn put_word(spans: &[Range], out: &mut Emit) -> Result<(), AllocError>
 
 impl Pass for Visit {
     ghost use Rattle.std.specs.Prelude.{◌≡◌, ◌*◌, [], length};
-    ghost use Rattle.qed_model.specs.Machine.Step.{reg};
+    ghost use Rattle.rv_isa.specs.declared.profile.TheConstants.{CURSOR};
+    ghost use Rattle.machine.specs.Step.{reg};
     ghost use Rattle.qed_model.specs.Weave.Sequences.{visit};
     ghost use Rattle.weave_core.specs.World.{IsCursor};
-    ghost use Rattle.qed_model.specs.Admission.DataRanges.{word_count};
+    ghost use Rattle.tests.specs.Admission.DataRanges.{word_count};
     ghost use Rattle.qed_model.specs.Weave.Bounds.{visit_bound};
     ghost use Rattle.plc_rounds.specs.Spans.{spans_of, Rounds};
     ghost use Rattle.plc_rounds.specs.Laws.{any, quiet_visit, honest_visit, lockstep_visit};
@@ -90,7 +98,7 @@ impl Pass for Visit {
 
     ghost cost = { λ p i. visit_bound (word_count (spans_of p.span)) (length (spans_of p.span)) * p.round };
 
-    ghost needs = { λ p i at w v. (v.original ≡ v.shadow) × (w.form.spans ≡ spans_of p.span) × IsCursor (spans_of p.span) (reg v.now 15) };
+    ghost needs = { λ p i at w v. (v.original ≡ v.shadow) × (w.form.spans ≡ spans_of p.span) × IsCursor (spans_of p.span) (reg v.now CURSOR) };
 
     ghost gives = { λ p i at w. Rounds w p.round (spans_of p.span) };
 

@@ -2,10 +2,10 @@
 -- addi x5, x0, 9; ecall; jalr x1, 0(x1). The ECALL at 0x10008 is no leader, and has a block of its own.
 use Rattle.std.proofs.Common.{◌≡◌, inl, inr, true, false, List, [], ◌∷◌, refl, arith}
 use Rattle.std.specs.Prelude.{pos}
-use Rattle.qed_model.specs.Numbers.{number_bytes, bytes_of}
-use Rattle.qed_model.specs.Machine.Table.{Jal, Addi, Ecall, Jalr, Ins, ins, ins_of, decode_of}
-use Rattle.qed_model.specs.Machine.Cells.{number_among}
-use Rattle.qed_model.specs.Admission.Refusals.{IsAdmitted}
+use Rattle.machine.specs.Numbers.{number_bytes, bytes_of}
+use Rattle.machine.specs.Table.{Jal, Addi, Ecall, Jalr, Ins, ins, ins_of, decode_of}
+use Rattle.machine.specs.Cells.{number_among}
+use Rattle.tests.specs.Admission.Refusals.{IsAdmitted}
 use Rattle.qed_model.specs.Weave.Sequences.{Block, Stops}
 use Rattle.qed_model.specs.Weave.Blocks.{ElfFile, AreBlocks}
 use Rattle.qed_model.specs.Weave.OutputFile.{has_table, table_word}

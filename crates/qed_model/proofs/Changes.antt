@@ -2,13 +2,13 @@
 use Rattle.std.proofs.Common.{◌≡◌, ℕ, zero, suc, ◌+◌, ◌<◌, ◌≤◌, false, cond, List, [], ◌∷◌, refl, sym, ap, ◌∙◌, arith}
 use Rattle.std.specs.Prelude.{◌==◌}
 use Rattle.std.proofs.lemmas.Bool.{ne_eqb}
-use Rattle.qed_model.specs.declared.change.Place.{Place}
-use Rattle.qed_model.specs.declared.change.Place.TheVariants.{Reg, Word}
+use Rattle.machine.specs.declared.place.Place.{Place}
+use Rattle.machine.specs.declared.place.Place.TheVariants.{Reg, Word}
 use Rattle.qed_model.specs.declared.change.Change.{Change}
-use Rattle.qed_model.specs.Machine.Step.{State, step, run}
-use Rattle.qed_model.specs.Machine.Struck.{struck}
+use Rattle.machine.specs.Step.{State, step, run}
+use Rattle.machine.specs.Struck.{struck}
 use Rattle.qed_model.specs.Promise.Changed.{changed, with_changes, changed_run, Ordered, last_step}
-use Rattle.qed_model.proofs.Walk.{run-none, run-last}
+use Rattle.machine.proofs.Lemmas.{run-none, run-last}
 
 -- a change leaves the outcome
 pub struck_outcome : (p : Place) (x : ℕ) (s : State) → (struck p x s).outcome ≡ s.outcome

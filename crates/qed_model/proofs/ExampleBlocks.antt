@@ -1,20 +1,20 @@
 -- The blocks of a known file whose instructions are known: which addresses are leaders, and that a list of blocks is all of them, from
 -- tests that are computed.
-use Rattle.std.proofs.Common.{◌≡◌, ◌⊎◌, inl, inr, ⊎_elim, ℕ, zero, suc, ◌+◌, ◌*◌, ◌<◌, ◌≤◌, Bool, true, false, ◌&&◌, ◌||◌, not, List, [], ◌∷◌, ◌++◌, length, Some, None, is_some, refl, sym, ap, ◌∙◌, subst, arith}
+use Rattle.std.proofs.Common.{◌≡◌, inl, inr, ⊎_elim, ℕ, zero, suc, ◌+◌, ◌*◌, ◌<◌, ◌≤◌, Bool, true, false, ◌&&◌, ◌||◌, not, List, [], ◌∷◌, ◌++◌, length, Some, None, is_some, refl, sym, ap, ◌∙◌, subst, arith}
 use Rattle.std.specs.Prelude.{nat_le, nat_lt, ◌==◌, All}
 use Rattle.std.specs.List.{list_all, list_any}
 use Rattle.std.proofs.lemmas.Bool.{and_parts, eqb-true, eq-eqb, leb-true, ltb-true, or_cases, false≢true, not-true, or_right}
 use Rattle.std.proofs.lemmas.List.Elements.{All-cons, All-nil}
-use Rattle.qed_model.specs.declared.options.Entries.TheVariants as entries
-use Rattle.qed_model.specs.Machine.Step.{class_of, Ins, target}
-use Rattle.qed_model.specs.Admission.Terms.{is_named_in}
-use Rattle.qed_model.specs.Admission.CodeWords.{is_code, instruction_at}
-use Rattle.qed_model.specs.Admission.Leaders.{has_target, is_end, is_indirect, Begins, Entry, Target, After, Named, Reached, Even, IsLeader, HasIndirect}
+use Rattle.tests.specs.declared.options.Entries.TheVariants as entries
+use Rattle.machine.specs.Step.{class_of, Ins, target}
+use Rattle.tests.specs.Admission.Terms.{is_named_in}
+use Rattle.tests.specs.Admission.CodeWords.{is_code, instruction_at}
+use Rattle.tests.specs.Admission.Leaders.{has_target, is_end, is_indirect, Begins, Entry, Target, After, Named, Reached, Even, IsLeader, HasIndirect}
 use Rattle.qed_model.specs.Weave.Sequences.{Block, End, Falls, Stops}
 use Rattle.qed_model.specs.Weave.Pieces.{is_run, Breaks, AreRuns, all_pieces, whole, ArePieces}
 use Rattle.qed_model.specs.Weave.Blocks.{Options, ElfFile, IsBodyAt, StopsAt, IsLeaderBlock, IsOtherBlock, IsMarked, begins_at, AreBlocks, IsBlockOf}
-use Rattle.qed_model.proofs.Pairs.{every_all, pairs_all}
-use Rattle.qed_model.specs.Members.{Pairs, Every}
+use Rattle.machine.proofs.Lemmas.{every_all, pairs_all}
+use Rattle.machine.specs.Members.{Pairs, Every}
 use Rattle.qed_model.proofs.ExampleCode.{StandFrom, IsCodeOf, IsAt, each_at, code_of, one_of, tested}
 
 -- ---- pieces

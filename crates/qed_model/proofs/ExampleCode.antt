@@ -5,17 +5,18 @@ use Rattle.std.specs.Prelude.{AllPairs, slice_get, is_none, nat_le, nat_lt, ◌=
 use Rattle.std.specs.List.{list_any}
 use Rattle.std.proofs.lemmas.Bool.{and_parts, eqb-true, eqb-false, leb-true, ltb-true, or_cases, false≢true, not-true, or_parts}
 use Rattle.std.proofs.lemmas.List.Elements.{Contains-get_or}
-use Rattle.qed_model.specs.declared.options.Entries.TheVariants as entries
-use Rattle.qed_model.specs.Machine.Table.{Ins, decode_of}
-use Rattle.qed_model.specs.Machine.Step.{target}
-use Rattle.qed_model.specs.Admission.Terms.{is_compressed, is_dynamic, is_code_address, high_register}
-use Rattle.qed_model.specs.Admission.CodeWords.{loads_of, ranges_of, is_code, word_at, instruction_at}
-use Rattle.qed_model.specs.Admission.Rules.{passes_at, is_writable_code, is_misshapen_section, is_misshapen_segment, is_unknown, high_in, is_ebreak, is_far, is_mixed}
-use Rattle.qed_model.specs.Weave.Sequences.{is_auipc}
-use Rattle.qed_model.specs.Admission.Refusals.{IsAdmitted, HasTooManyWords}
-use Rattle.qed_model.specs.Weave.Placed.{distance_between}
-use Rattle.qed_model.specs.Weave.OutputParts.{base_of, high_of, distance_of}
-use Rattle.qed_model.specs.Weave.Places.{Options, ElfFile, AreSoundOptions, image_of, half_of, code_place}
+use Rattle.tests.specs.declared.options.Entries.TheVariants as entries
+use Rattle.machine.specs.Table.{Ins, decode_of}
+use Rattle.machine.specs.Step.{target}
+use Rattle.tests.specs.Admission.Terms.{is_compressed, is_dynamic, is_code_address, high_register}
+use Rattle.tests.specs.Admission.CodeWords.{loads_of, ranges_of, is_code, word_at, instruction_at}
+use Rattle.tests.specs.Admission.Rules.{passes_at, is_writable_code, is_misshapen_section, is_misshapen_segment, is_unknown, high_in, is_ebreak, is_far, is_mixed}
+use Rattle.machine.specs.Operands.{is_auipc}
+use Rattle.tests.specs.Admission.Refusals.{IsAdmitted, HasTooManyWords}
+use Rattle.machine.specs.Offsets.{distance_between}
+use Rattle.tests.specs.Admission.Places.{base_of, high_of, distance_of, ElfFile, image_of, half_of, code_place}
+use Rattle.tests.specs.declared.options.Options.{Options}
+use Rattle.qed_model.specs.Weave.SoundOptions.{AreSoundOptions}
 use Rattle.qed_model.proofs.RangeSegments.{either_way}
 
 -- ---- computed tests

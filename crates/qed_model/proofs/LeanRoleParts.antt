@@ -5,18 +5,18 @@ use Rattle.std.proofs.lemmas.List.{append-nil}
 use Rattle.rv_isa.specs.declared.class.Class.TheVariants as class
 use Rattle.qed_model.specs.declared.role.Role.{Role}
 use Rattle.qed_model.specs.declared.role.Role.TheVariants as role
-use Rattle.qed_model.specs.Machine.Step.{Addi, Andi, Add, Sub, Ins, ins, class_of, Class, target}
+use Rattle.machine.specs.Step.{Addi, Andi, Add, Sub, Ins, ins, class_of, Class, target}
 use Rattle.qed_model.specs.Weave.Blocks.{Options, ElfFile, begins_at}
 use Rattle.qed_model.specs.Weave.Code.{Sequences, pieces_of, body_of, block_items, entries_of, code_of}
 use Rattle.qed_model.specs.Weave.Forms.{mirror_of, form_of}
 use Rattle.qed_model.specs.Weave.Lean.{tick, call_at, goes, turn, check_sign, look_up, opposite, leave_as, leave}
 use Rattle.qed_model.specs.Weave.LeanCode.{Lean, worded, fall_words, lean_of, lean_items, items_with}
 use Rattle.qed_model.specs.Weave.LeanRoles.{first_parts, piece_parts, pieces_parts, behind_parts, leave_as_parts, leave_parts, body_parts, entry_parts, entries_parts, worded_parts, lean_parts}
-use Rattle.qed_model.specs.Weave.OutputParts.{base_of}
-use Rattle.qed_model.specs.Weave.Placed.{distance_between, sum_of_sizes, entry_of}
-use Rattle.qed_model.specs.Weave.Places.{image_of, half_of, code_place}
+use Rattle.tests.specs.Admission.Places.{base_of, image_of, half_of, code_place}
+use Rattle.machine.specs.Offsets.{distance_between}
+use Rattle.qed_model.specs.Weave.Placed.{sum_of_sizes, entry_of}
 use Rattle.qed_model.specs.Weave.Roles.{joined, guard_parts, original_parts, mirror_parts, each_parts, end_parts}
-use Rattle.qed_model.specs.Weave.Sequences.{Mark, Plain, Constant, Item, pair, Form, Block, End, Falls, Stops, guard, guards_of, compare, original, each_part, before_end, body_length, links, stub}
+use Rattle.qed_model.specs.Weave.Sequences.{Mark, Plain, Constant, Item, pair, Form, Block, End, Falls, Stops, guard, guards_of, compare, original, each_part, before_end, body_length, links, stub, SIGNATURE, TEMPORARY}
 use Rattle.qed_model.proofs.RoleParts.{joined_append, originals_joined, mirrors_joined, seam, way_of, guards_joined, end_joined}
 
 -- ---- leaves
@@ -45,9 +45,9 @@ module _ (form : Form) (fall : ℕ → List Item) where
       at (guards_joined (λ r. role.LeaveGuard r at) i)
   leave_as_joined class.JumpReg i a at =
       way_of ((role.LeaveGuard i.rs1 at, guard i.rs1) ∷ [])
-      (Plain (ins Add 16 16 (pair i.rs1) (pos 0)) ∷ Plain (ins Addi 16 16 0 i.imm) ∷ Plain (ins Andi 16 16 0 (neg_ℤ (pos 2))) ∷ Constant 30 a ∷ Plain (ins Sub 16 16 30 (pos 0)) ∷ [])
+      (Plain (ins Add SIGNATURE SIGNATURE (pair i.rs1) (pos 0)) ∷ Plain (ins Addi SIGNATURE SIGNATURE 0 i.imm) ∷ Plain (ins Andi SIGNATURE SIGNATURE 0 (neg_ℤ (pos 2))) ∷ Constant TEMPORARY a ∷ Plain (ins Sub SIGNATURE SIGNATURE TEMPORARY (pos 0)) ∷ [])
       (guard i.rs1)
-      (Plain (ins Addi 30 i.rs1 0 i.imm) ∷ Plain (ins Andi 30 30 0 (neg_ℤ (pos 2))) ∷ (links i at ++ look_up))
+      (Plain (ins Addi TEMPORARY i.rs1 0 i.imm) ∷ Plain (ins Andi TEMPORARY TEMPORARY 0 (neg_ℤ (pos 2))) ∷ (links i at ++ look_up))
       at (append-nil (guard i.rs1))
   leave_as_joined c i a at = append-nil (leave_as (before_end form) fall c i a at)
 

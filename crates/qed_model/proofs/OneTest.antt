@@ -2,18 +2,18 @@
 use Rattle.std.proofs.Common.{◌≡◌, ℕ, true, List, [], ◌∷◌, map, Some, sym, ap, ◌∙◌, subst}
 use Rattle.std.specs.Prelude.{All}
 use Rattle.std.proofs.lemmas.List.Elements.{All-head, All-tail}
-use Rattle.qed_model.specs.declared.options.Options.{Options}
-use Rattle.qed_model.specs.declared.options.Entries.TheVariants as entries
-use Rattle.qed_model.specs.declared.range.Range.{Range}
-use Rattle.qed_model.specs.declared.test.CodeWord.{CodeWord}
-use Rattle.qed_model.specs.declared.test.Test.{Test}
-use Rattle.qed_model.specs.Machine.Table.{Ins, decode_of}
-use Rattle.qed_model.specs.Admission.CodeWords.{ElfFile, word_at}
-use Rattle.qed_model.specs.Admission.DataRanges.{range_of}
-use Rattle.qed_model.specs.Admission.Reached.{is_reached, IsReached, AreReached}
-use Rattle.qed_model.specs.Admission.Test.{IsCodeWord, AreCodeWords, IsTestOf}
+use Rattle.tests.specs.declared.options.Options.{Options}
+use Rattle.tests.specs.declared.options.Entries.TheVariants as entries
+use Rattle.tests.specs.declared.range.Range.{Range}
+use Rattle.tests.specs.declared.test.CodeWord.{CodeWord}
+use Rattle.tests.specs.declared.test.Test.{Test}
+use Rattle.machine.specs.Table.{Ins, decode_of}
+use Rattle.tests.specs.Admission.CodeWords.{ElfFile, word_at}
+use Rattle.tests.specs.Admission.DataRanges.{range_of}
+use Rattle.tests.specs.Admission.Reached.{is_reached, IsReached, AreReached}
+use Rattle.tests.specs.Admission.Test.{IsCodeWord, AreCodeWords, IsTestOf}
 use Rattle.qed_model.specs.Promise.Kept.{any_address}
-use Rattle.qed_model.proofs.OneRefusal.{addresses_only}
+use Rattle.tests.proofs.Lemmas.{addresses_only}
 
 -- ---- lists
 ranges_only : (xs ys : List Range) → map range_of xs ≡ map range_of ys → xs ≡ ys

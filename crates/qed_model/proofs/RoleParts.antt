@@ -6,11 +6,13 @@ use Rattle.std.proofs.Math.Seq.{take-append_seam}
 use Rattle.rv_isa.specs.declared.class.Class.TheVariants as class
 use Rattle.qed_model.specs.declared.role.Role.{Role}
 use Rattle.qed_model.specs.declared.role.Role.TheVariants as role
-use Rattle.qed_model.specs.Machine.Step.{Addi, Andi, Add, Jal, Jalr, Lw, Ins, ins, class_of, Class, target}
-use Rattle.qed_model.specs.Weave.Places.{Options, ElfFile, image_of, half_of}
+use Rattle.machine.specs.Step.{Addi, Andi, Add, Jal, Jalr, Lw, Ins, ins, class_of, Class, target}
+use Rattle.tests.specs.declared.options.Options.{Options}
+use Rattle.tests.specs.Admission.Places.{ElfFile, image_of, half_of}
 use Rattle.qed_model.specs.Weave.Placed.{go_size}
 use Rattle.qed_model.specs.Weave.Roles.{joined, guard_parts, compare_parts, originals, original_as_parts, original_parts, mirror_parts, each_parts, last_of, check_parts, piece_parts, pieces_parts, end_parts, way_parts, leave_as_parts, leave_parts, entry_parts, entries_parts, parts_with, new_parts}
-use Rattle.qed_model.specs.Weave.Sequences.{Plain, Constant, Go, Item, pair, Form, Block, End, Falls, Stops, guard, guards_of, compare, enter, visit, sweep, is_auipc, original, original_as, each_part, piece, links, leave_as, leave, body_length, prologue, stub}
+use Rattle.qed_model.specs.Weave.Sequences.{Plain, Constant, Go, Item, pair, Form, Block, End, Falls, Stops, guard, guards_of, compare, enter, visit, sweep, original, original_as, each_part, piece, links, leave_as, leave, body_length, prologue, stub, DISTANCE, SIGNATURE, TEMPORARY, SPARE}
+use Rattle.machine.specs.Operands.{is_auipc}
 use Rattle.qed_model.specs.Weave.Code.{block_items, entries_of, pieces_of, sequences}
 use Rattle.qed_model.specs.Weave.Woven.{is_far_code, new_items}
 use Rattle.qed_model.specs.Weave.Forms.{form_of}
@@ -112,16 +114,16 @@ module _ (form : Form) where
       joined_append (end_parts form) ((role.Leave at, Plain i ∷ []) ∷ []) ∙ ap (λ l. l ++ (Plain i ∷ [])) (end_joined form.sweep)
   leave_as_joined class.Branch i at =
       way_of (guard_parts (λ r. role.LeaveGuard r at) i)
-      (Plain (ins i.kind 0 (pair i.rs1) (pair i.rs2) (pos 16)) ∷ Constant 16 ((at + 4) % 2 ^ 64) ∷ Plain (ins Jal 0 0 0 (pos 12)) ∷ Constant 16 (target i at) ∷ [])
+      (Plain (ins i.kind 0 (pair i.rs1) (pair i.rs2) (pos 16)) ∷ Constant SIGNATURE ((at + 4) % 2 ^ 64) ∷ Plain (ins Jal 0 0 0 (pos 12)) ∷ Constant SIGNATURE (target i at) ∷ [])
       (guards_of i)
       (Plain (ins i.kind 0 i.rs1 i.rs2 (pos (4 + go_size form.far))) ∷ Go ((at + 4) % 2 ^ 64) ∷ Go (target i at) ∷ [])
       at (guards_joined (λ r. role.LeaveGuard r at) i)
   leave_as_joined class.JumpReg i at =
       way_of ((role.LeaveGuard i.rs1 at, guard i.rs1) ∷ [])
-      (Plain (ins Addi 16 (pair i.rs1) 0 i.imm) ∷ Plain (ins Andi 16 16 0 (neg_ℤ (pos 2))) ∷ [])
+      (Plain (ins Addi SIGNATURE (pair i.rs1) 0 i.imm) ∷ Plain (ins Andi SIGNATURE SIGNATURE 0 (neg_ℤ (pos 2))) ∷ [])
       (guard i.rs1)
-      (Plain (ins Addi 30 i.rs1 0 i.imm) ∷ Plain (ins Andi 30 30 0 (neg_ℤ (pos 2))) ∷
-      (links i at ++ (Plain (ins Add 31 30 14 (pos 0)) ∷ Plain (ins Add 31 31 14 (pos 0)) ∷ Plain (ins Lw 30 31 0 (pos 0)) ∷ Plain (ins Add 30 30 31 (pos 0)) ∷ Plain (ins Jalr 0 30 0 (pos 0)) ∷ [])))
+      (Plain (ins Addi TEMPORARY i.rs1 0 i.imm) ∷ Plain (ins Andi TEMPORARY TEMPORARY 0 (neg_ℤ (pos 2))) ∷
+      (links i at ++ (Plain (ins Add SPARE TEMPORARY DISTANCE (pos 0)) ∷ Plain (ins Add SPARE SPARE DISTANCE (pos 0)) ∷ Plain (ins Lw TEMPORARY SPARE 0 (pos 0)) ∷ Plain (ins Add TEMPORARY TEMPORARY SPARE (pos 0)) ∷ Plain (ins Jalr 0 TEMPORARY 0 (pos 0)) ∷ [])))
       at (append-nil (guard i.rs1))
   leave_as_joined c i at = append-nil (leave_as form c i at)
 

@@ -1,6 +1,6 @@
 -- Where each address is reached, a run is steady exactly where it does not trap; so the promises have no other premise then.
 use Rattle.std.proofs.Common.{ℕ, ◌↔◌, List, refl}
-use Rattle.qed_model.specs.Machine.Program.{Program, AreStartRegs}
+use Rattle.machine.specs.Program.{Program, AreStartRegs}
 use Rattle.qed_model.specs.Promise.Kept.{after_input, NotTrapped, Steady, any_address, Preserved, NoFalseAlarm, Kept}
 
 -- both ways

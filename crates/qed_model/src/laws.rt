@@ -1,25 +1,11 @@
 //! What the definitions say of each other.
-ghost use Rattle.qed_model.specs.Admission.DataRanges.{DataRangesAreJoined};
-ghost use Rattle.qed_model.specs.Admission.Refusals.{AdmissionHasOneAnswer};
-ghost use Rattle.qed_model.specs.Machine.Operands.{OperandsGoByFormat};
-ghost use Rattle.qed_model.specs.Weave.Roles.{RolesCover};
 ghost use Rattle.qed_model.specs.Weave.LeanRoles.{LeanRolesCover};
+ghost use Rattle.qed_model.specs.Weave.Output.{InputHasOneOutput};
+ghost use Rattle.qed_model.specs.Weave.Roles.{RolesCover};
 
-/// A file is admitted exactly where no rule holds; each other file is refused by one rule, at one place.
-pub fn admission_has_one_answer()
-    ensures { AdmissionHasOneAnswer }
-{}
-
-/// The data ranges of a file are the one list of ranges that ascend with gaps between them and have the
-/// addresses of its data segments, rounded out to aligned words.
-pub fn data_ranges_are_joined()
-    ensures { DataRangesAreJoined }
-{}
-
-/// Which registers an instruction reads and writes is what its format says, but for x0 and for FENCE, which name none.
-#[tactic(auto, using(crate::proofs::Operands::by_format))]
-pub fn operands_go_by_format()
-    ensures { OperandsGoByFormat }
+/// With the same options the same bytes have one output.
+pub fn input_has_one_output()
+    ensures { InputHasOneOutput }
 {}
 
 /// Each item of the new code has one role, in either form.

@@ -1,10 +1,9 @@
 //! What the words of a line ask for, by the command line's own rules.
 ghost use Rattle.std.specs.Prelude.{IfOk, IfSome};
-ghost use Rattle.qed_model.specs.Weave.Places.{AreSoundOptions};
+ghost use Rattle.qed_model.specs.Weave.SoundOptions.{AreSoundOptions};
 
-use command_line::{Name, Order};
 use qed_model::{Changes, Options, add_change};
-use qed_words::{WordsError, fault, order};
+use qed_words::{Name, Order, WordsError, fault, order};
 use std::alloc::{AllocError, Global};
 
 /// The words between spaces.

@@ -27,7 +27,7 @@ pub(crate) fn made<S: Shelf, K: Sink>(
     shelf: &mut S,
     out: &mut K,
 ) -> u8 {
-    qed(alloc, words, shelf, out, &Silent).code()
+    qed(alloc, words, shelf, out, &mut Silent::new()).code()
 }
 
 /// What a call prints, and the exit code.
@@ -96,7 +96,13 @@ fn hand_over(
     arguments: io::Result<Args>,
 ) -> Result<String, AllocError> {
     let mut out = bench.sink(alloc)?;
-    let code = exit_code(alloc, arguments, &mut bench.shelf, &mut out, &Silent);
+    let code = exit_code(
+        alloc,
+        arguments,
+        &mut bench.shelf,
+        &mut out,
+        &mut Silent::new(),
+    );
     printed(alloc, out.bytes(), number_of(code))
 }
 

@@ -1,5 +1,5 @@
 //! Lines about the layers below the whole program.
-ghost use Rattle.qed_model.specs.Weave.Places.{AreSoundOptions};
+ghost use Rattle.qed_model.specs.Weave.SoundOptions.{AreSoundOptions};
 
 use crate::asked::{changes, planned};
 use crate::bench::Bench;

@@ -5,12 +5,12 @@
 mod asked;
 mod bench;
 mod calls;
+mod devices;
 mod digest;
 mod file_parts;
 mod files;
 mod layer;
 mod line;
-mod machine;
 mod numbers;
 mod row;
 mod shapes;

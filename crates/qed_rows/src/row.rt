@@ -2,10 +2,10 @@
 
 use crate::bench::Bench;
 use crate::calls::{call, start, tell_call};
+use crate::devices::tell_machine;
 use crate::digest::digest_of;
 use crate::files::{first, with};
 use crate::layer::tell_layer;
-use crate::machine::tell_machine;
 use crate::numbers::{bytes_of, records_of};
 use std::alloc::{AllocError, Global};
 use texts::number;

@@ -1,15 +1,14 @@
 //! What is told of strikes: what single ones show, and which places are closed.
-ghost use Rattle.qed_model.specs.Weave.Places.{AreSoundOptions};
+ghost use Rattle.qed_model.specs.Weave.SoundOptions.{AreSoundOptions};
 
 use crate::file_parts::{refusal, text_of};
-use campaign::Course;
+use campaign::{Course, StrikeError};
 use elf_read::read_elf;
 use fault_inject::closed;
 use qed_model::{Changes, Options, Place, Struck};
 use report::campaign_text;
 use rv_step::Machine;
 use std::alloc::{AllocError, Global};
-use strikes::StrikeError;
 
 /// After how many steps the output of a test may be struck, and how many copies are kept.
 pub(crate) fn reach(alloc: Global, bytes: &[u8], options: &Options) -> Result<String, AllocError>

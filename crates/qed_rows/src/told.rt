@@ -1,10 +1,10 @@
 //! What is told of a test: its places, its code and data, its leaders and its blocks.
-ghost use Rattle.qed_model.specs.Weave.Places.{AreSoundOptions};
-ghost use Rattle.qed_model.specs.Admission.Test.{IsTestOf};
+ghost use Rattle.qed_model.specs.Weave.SoundOptions.{AreSoundOptions};
+ghost use Rattle.tests.specs.Admission.Test.{IsTestOf};
 
 use crate::file_parts::{refusal, text_of};
 use crate::line::Lines;
-use block_list::{CodeBlock, blocks};
+use block_split::{CodeBlock, blocks};
 use elf_read::read_elf;
 use elf_types::ElfFile;
 use flow_recovery::{leaders, reached};

@@ -1,22 +1,17 @@
 -- The file that a command reads: what is answered over it, as to its status and to what is stored.
 use Rattle.std.proofs.Common.{◌≡◌, ℕ, List, Option, None, Some, IfSome, inl, inr, sym, ap, ◌∙◌, subst, arith}
 use Rattle.std.specs.Prelude.{IsSomeAnd}
-use Rattle.elf_types.specs.declared.file.ElfFile.{ElfFile}
-use Rattle.qed_model.specs.declared.limits.Limit as limits
-use Rattle.qed_model.specs.declared.options.Options.{Options}
-use Rattle.qed_model.specs.Limits.{limit_of}
-use Rattle.qed_top.specs.Answer.{CallsFor, read_fault, too_long, within, PrintsOnly, ShelfSteady, SteadyOrReadFault, StoreRose}
+use Rattle.machine.specs.declared.limits.Limit as limits
+use Rattle.qed_top.specs.Answer.{CallsFor, read_fault, too_long, within, PrintsOnly, ShelfSteady, SteadyOrReadFault, StoreRose, limit_of}
 use Rattle.qed_top.specs.Loads.{Decided}
 use Rattle.qed_top.specs.Loads as decide
-use Rattle.qed_top.specs.Refused.{Makes, MakesDecides, ReadOn, ReadOnDecides, refused, made, not_made, is_made, not_read, read_on, is_not_read, is_read, error_status, refusal_status}
+use Rattle.qed_top.specs.Refused.{Makes, MakesDecides, ReadOn, ReadOnDecides, refused, made, not_made, is_made, not_read, read_on, is_not_read, is_read, error_status, refusal_status, ElfFile, Options, IsTransformable}
 use Rattle.qed_top.specs.Run.{InMemory, InMemoryDecides, too_large, fits, is_too_large, is_within}
 use Rattle.qed_top.specs.declared.answer.Answer.{Answer}
 use Rattle.qed_top.specs.declared.answer.Stored.{Stored}
 use Rattle.qed_top.specs.declared.status.Status.{Status}
 use Rattle.qed_top.specs.declared.status.Status.TheVariants.{Done, Limit, ReadFault}
-use Rattle.transform.specs.Transform.{IsTransformable}
-use Rattle.elf_files.proofs.AcceptanceLaws.{read_or_refused}
-use Rattle.elf_files.proofs.ReadFacts.{one_file}
+use Rattle.tests.proofs.Lemmas.{read_or_refused, one_file}
 use Rattle.transform.proofs.OneAnswer.{same_refusal, one_cause, memory_only}
 use Rattle.qed_top.proofs.Statuses.{IsRefusal, Printed, error_refuses, refusal_refuses, refusal_printed}
 

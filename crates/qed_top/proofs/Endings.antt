@@ -4,26 +4,15 @@ use Rattle.std.specs.Prelude.{MatchOption, MatchResult, Result, Ok, Err, IfOk, I
 use Rattle.std.proofs.lemmas.List.Elements.{All-head, recursion_from_All}
 use Rattle.std.specs.Io.KnownBytes.{Appends}
 use Rattle.qed_io.specs.Sink.{AppendsPart}
-use Rattle.qed_io.specs.Files.{Files, file_bytes}
-use Rattle.qed_io.specs.Counts.{Rose, RoseAt, NoneFell}
-use Rattle.qed_model.specs.declared.change.Change.{Change}
-use Rattle.elf_types.specs.declared.file.ElfFile.{ElfFile}
-use Rattle.qed_model.specs.declared.limits.Limit.TheVariants as limit
-use Rattle.qed_model.specs.declared.machine.Outcome.{Outcome}
-use Rattle.command_line.specs.declared.order.Order.{Order}
-use Rattle.command_line.specs.declared.order.Order.TheVariants as order
-use Rattle.command_line.specs.declared.order.Order.TheVariants.{Transform, Plan, Explain, Run, Campaign, Gen, Asm, Harts, Tell}
-use Rattle.command_line.specs.declared.order.Reason.{Reason}
-use Rattle.qed_model.specs.Limits.{limit_of}
-use Rattle.command_line.specs.Words.{asked}
+use Rattle.machine.specs.declared.limits.Limit.TheVariants as limit
+use Rattle.qed_words.specs.declared.orders.Order.TheVariants as order
 use Rattle.qed_model.specs.declared.role.Role.{Role}
 use Rattle.listing.specs.Roles.{role_at, word_text}
 use Rattle.report.specs.Admission.{no_word_line}
-use Rattle.qed_top.specs.Answer.{PrintsOnly, FilesAfter, FilesInPart, StoreRose, ShelfSteady, SteadyOrReadFault}
-use Rattle.qed_top.specs.Refused.{ReadOn, not_read, read_on, admit_status, error_status, refusal_status}
+use Rattle.qed_top.specs.Answer.{PrintsOnly, FilesAfter, FilesInPart, StoreRose, ShelfSteady, SteadyOrReadFault, limit_of, Rose, RoseAt, NoneFell}
+use Rattle.qed_top.specs.Refused.{ReadOn, not_read, read_on, admit_status, error_status, refusal_status, ElfFile}
 use Rattle.qed_top.specs.Makes.{IsMade, Delivers, TellsPlan}
-use Rattle.qed_top.specs.Run.{InMemory, InMemoryDecides, outcome_status, run_of, HasRun, FileRuns, Watches, unread_test, no_test, watched, RunsAs}
-use Rattle.qed_model.specs.Options.{default_options}
+use Rattle.qed_top.specs.Run.{InMemory, InMemoryDecides, outcome_status, run_of, HasRun, FileRuns, Watches, unread_test, no_test, watched, RunsAs, default_options, Change, Outcome}
 use Rattle.qed_top.specs.List.{FileLists, IsPrinted}
 use Rattle.qed_top.specs.Asm.{Assembles, AsmDecides}
 use Rattle.qed_top.specs.Asm as asm
@@ -34,18 +23,16 @@ use Rattle.qed_top.specs.Gen.{Gens, GenDecides, test_bytes}
 use Rattle.qed_top.specs.Gen as gens
 use Rattle.transform.specs.declared.error.TransformError.TheVariants as transform
 use Rattle.transform.specs.declared.explained.Explained.{Explained}
-use Rattle.qed_top.specs.Loads.{Decided, Loads, OverLoads}
-use Rattle.qed_top.specs.Orders.{AnswersOver, OrderCallsFor, WordsCallFor, listed, source_limit, source_name, source_names, stored_name}
+use Rattle.qed_top.specs.Loads.{Decided, Loads, OverLoads, Files, file_bytes}
+use Rattle.qed_top.specs.Orders.{AnswersOver, OrderCallsFor, WordsCallFor, listed, source_limit, source_name, source_names, stored_name, Order, Transform, Plan, Explain, Run, Campaign, Gen, Asm, Harts, Tell, asked, Reason}
 use Rattle.qed_top.specs.Ends.{Call, load_rose, store_rose, IsAnswered, EndsOver, Ends, ReadDecides, RunDecides, ran_status, DecidesOver, OrderDecides, Decides, NoFault, IsComplete}
 use Rattle.qed_top.specs.Ends as decide
 use Rattle.qed_top.specs.declared.answer.Answer.{Answer}
 use Rattle.qed_top.specs.declared.answer.Stored.{Stored}
 use Rattle.qed_top.specs.declared.status.Status.{Status}
 use Rattle.qed_top.specs.declared.status.Status.TheVariants.{Done, Usage, Refused, Limit, ReadFault, WriteFault, Memory}
-use Rattle.elf_files.proofs.ReadFacts.{one_file}
-use Rattle.elf_files.proofs.AcceptanceLaws.{read_or_refused}
-use Rattle.qed_model.specs.Admission.Refusals.{IsAdmitted}
-use Rattle.qed_model.proofs.AdmissionLaws.{not_refused}
+use Rattle.tests.proofs.Lemmas.{one_file, read_or_refused, not_refused}
+use Rattle.tests.specs.Admission.Refusals.{IsAdmitted}
 use Rattle.transform.proofs.OneAnswer.{one_cause, memory_only, transformable_of}
 use Rattle.qed_top.proofs.Statuses.{error_refuses, admit_refuses, Printed, outcome_printed}
 use Rattle.qed_top.specs.Headline.{HoldsOver, Answers}

@@ -1,24 +1,23 @@
 -- What `gen` comes to: no rule refuses its test and no limit but that of new code is exceeded, and both runs have ended.
 use Rattle.std.proofs.Common.{◌≡◌, ◌≢◌, ◌⊎◌, inl, inr, ℕ, ◌≤◌, List, refl, sym, ap, ◌∙◌, subst, arith}
-use Rattle.qed_model.specs.declared.limits.Limit.TheVariants as limit
-use Rattle.qed_model.specs.declared.machine.Outcome.TheVariants.{Ended}
+use Rattle.machine.specs.declared.limits.Limit.TheVariants as limit
+use Rattle.machine.specs.declared.outcome.Outcome.TheVariants.{Ended}
 use Rattle.qed_model.specs.declared.plan.Plan.{Plan}
-use Rattle.qed_model.specs.Options.{default_options}
-use Rattle.qed_model.specs.Elf.FileRead.{file_read}
-use Rattle.qed_model.specs.Machine.Loading.{loaded_file}
-use Rattle.qed_model.specs.Machine.Program.{start, zeros}
-use Rattle.qed_model.specs.Machine.Progress.{Progress, begun, progress}
-use Rattle.elf_files.proofs.ReadFacts.{one_file}
+use Rattle.tests.specs.Options.{default_options}
+use Rattle.tests.specs.Elf.FileRead.{file_read}
+use Rattle.machine.specs.Loading.{loaded_file}
+use Rattle.machine.specs.Program.{start, zeros}
+use Rattle.machine.specs.Progress.{Progress, begun, progress}
+use Rattle.tests.proofs.Lemmas.{one_file}
 use Rattle.test_gen.specs.Ends.{HasEnded, test_steps}
 use Rattle.test_gen.proofs.Counted.{own_ended, output_ended}
 use Rattle.test_gen.proofs.Readable.{test_not_refused, test_not_denied}
 use Rattle.test_gen.proofs.Within.{test_weavable}
 use Rattle.transform.specs.declared.error.TransformError.{TransformError}
 use Rattle.transform.specs.declared.error.TransformError.TheVariants as error
-use Rattle.transform.specs.Transform.{HasCause, Transforms}
 use Rattle.qed_top.specs.Answer.{PrintsOnly}
 use Rattle.qed_top.specs.Gen.{HasLargeCode, IsRunOf, most_steps, test_bytes}
-use Rattle.qed_top.specs.Refused.{refusal_line, refusal_status}
+use Rattle.qed_top.specs.Refused.{refusal_line, refusal_status, HasCause, Transforms}
 use Rattle.qed_top.specs.declared.answer.Answer.{Answer}
 
 module _ (seed size : ℕ) (some : 1 ≤ size) (most : size ≤ 60000) where

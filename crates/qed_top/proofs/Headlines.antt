@@ -2,20 +2,13 @@
 use Rattle.std.proofs.Common.{◌≡◌, ◌≤◌, ℕ, List, length, Option, None, Some, IfSome, sym, ap, ◌∙◌, subst}
 use Rattle.std.specs.Prelude.{MatchResult, Result, Ok, IsSomeAnd}
 use Rattle.std.specs.FinMap.{insert}
-use Rattle.qed_io.specs.Files.{Files, file_bytes}
-use Rattle.qed_model.specs.declared.limits.Limit.TheVariants.{FileBytes}
-use Rattle.qed_model.specs.declared.options.Options.{Options}
-use Rattle.command_line.specs.declared.order.Order.{Order}
-use Rattle.command_line.specs.declared.order.Order.TheVariants.{Transform}
-use Rattle.command_line.specs.declared.order.Reason.{Reason}
-use Rattle.qed_model.specs.Elf.FileRead.{file_read}
-use Rattle.qed_model.specs.Limits.{limit_of}
-use Rattle.command_line.specs.Words.{asked}
-use Rattle.qed_top.specs.Answer.{CallsFor, read_fault, too_long, within, FilesAfter}
-use Rattle.qed_top.specs.Loads.{Loads}
+use Rattle.machine.specs.declared.limits.Limit.TheVariants.{FileBytes}
+use Rattle.tests.specs.Elf.FileRead.{file_read}
+use Rattle.qed_top.specs.Answer.{CallsFor, read_fault, too_long, within, FilesAfter, limit_of}
+use Rattle.qed_top.specs.Loads.{Loads, Files, file_bytes}
 use Rattle.qed_top.specs.Makes.{IsMade, MakesOutput, Delivers}
-use Rattle.qed_top.specs.Refused.{refused, made}
-use Rattle.qed_top.specs.Orders.{IsUsage, OrderCallsFor, WordsCallFor}
+use Rattle.qed_top.specs.Refused.{refused, made, Options}
+use Rattle.qed_top.specs.Orders.{IsUsage, OrderCallsFor, WordsCallFor, Order, Transform, asked, Reason}
 use Rattle.qed_top.specs.Ends.{Call, load_rose, EndsOver}
 use Rattle.qed_top.specs.Headline.{IsPromised, IsDelivered, HoldsHeadline}
 use Rattle.qed_top.specs.declared.answer.Answer.{Answer}

@@ -5,31 +5,19 @@ use Rattle.std.specs.Cmp.{eq_by_cmp_equiv}
 use Rattle.std.specs.Cmp.Lexicographic.{nat_list_cmp_total}
 use Rattle.std.specs.FinMap.{empty, get, insert, get-insert}
 use Rattle.std.proofs.lemmas.List.{length-replicate}
-use Rattle.qed_io.specs.Files.{Files, file_bytes}
-use Rattle.elf_types.specs.declared.file.ElfFile.{ElfFile}
-use Rattle.qed_model.specs.declared.change.Change.{Change}
-use Rattle.qed_model.specs.declared.limits.Limit.{Limit}
-use Rattle.qed_model.specs.declared.test.Test.{Test}
-use Rattle.command_line.specs.declared.order.Order.{Order}
-use Rattle.command_line.specs.declared.order.Order.TheVariants.{Harts}
-use Rattle.command_line.specs.declared.order.Reason.{Reason}
-use Rattle.qed_model.specs.Limits.{limit_of}
-use Rattle.command_line.specs.Text.Errors.{limit_line}
-use Rattle.command_line.specs.Text.Plan.{read_fault_line}
-use Rattle.command_line.specs.Text.Run.{run_text}
-use Rattle.qed_model.specs.Machine.Program.{start, zeros}
-use Rattle.qed_model.specs.Machine.Loading.{loaded_file}
-use Rattle.qed_model.specs.Machine.Progress.{Progress, begun}
-use Rattle.qed_model.specs.declared.machine.Outcome.{Outcome}
-use Rattle.command_line.specs.Words.{asked}
+use Rattle.machine.specs.declared.limits.Limit.{Limit}
+use Rattle.qed_words.specs.Text.Plan.{read_fault_line}
+use Rattle.machine.specs.Program.{start, zeros}
+use Rattle.machine.specs.Loading.{loaded_file, ElfFile}
+use Rattle.machine.specs.Progress.{Progress, begun}
 use Rattle.qed_model.specs.Promise.Changed.{changed_run}
 use Rattle.fault_inject.specs.Astray.{first_astray}
 use Rattle.fault_inject.specs.Counted.{changed_steps}
-use Rattle.qed_top.specs.Answer.{PrintsOnly, CallsFor, read_fault, too_long, within}
-use Rattle.qed_top.specs.Run.{memory_bytes, memory_limit, outcome_status, run_of, FileRuns, is_reached_word, astray_of}
+use Rattle.qed_top.specs.Answer.{PrintsOnly, CallsFor, read_fault, too_long, within, limit_of, limit_line}
+use Rattle.qed_top.specs.Run.{memory_bytes, memory_limit, outcome_status, run_of, FileRuns, is_reached_word, astray_of, run_text, Test, Change, Outcome}
 use Rattle.qed_top.specs.Run as run
-use Rattle.qed_top.specs.Orders.{AnswersOver, IsUsage, OrderCallsFor, SourceCallsFor, WordsCallFor, reads_several, source_limit, source_name}
-use Rattle.qed_top.specs.Loads.{Loads, OverFiles, OverLoads}
+use Rattle.qed_top.specs.Orders.{AnswersOver, IsUsage, OrderCallsFor, SourceCallsFor, WordsCallFor, reads_several, source_limit, source_name, Order, Harts, asked, Reason}
+use Rattle.qed_top.specs.Loads.{Loads, OverFiles, OverLoads, Files, file_bytes}
 use Rattle.qed_top.specs.declared.answer.Answer.{Answer}
 use Rattle.qed_top.specs.declared.status.Status.{Status}
 use Rattle.qed_top.specs.declared.status.Status.TheVariants as status

@@ -1,14 +1,13 @@
 -- Which status goes with what is answered.
 use Rattle.elf_types.specs.declared.error.ElfError.{ElfError}
 use Rattle.elf_types.specs.declared.error.ElfError.TheVariants as error
-use Rattle.qed_model.specs.declared.admit.AdmitError.{AdmitError}
-use Rattle.qed_model.specs.declared.admit.AdmitError.TheVariants as admit
-use Rattle.qed_model.specs.declared.machine.Outcome.{Outcome}
-use Rattle.qed_model.specs.declared.machine.Outcome.TheVariants as outcome
+use Rattle.tests.specs.declared.admit.AdmitError.{AdmitError}
+use Rattle.tests.specs.declared.admit.AdmitError.TheVariants as admit
+use Rattle.machine.specs.declared.outcome.Outcome.TheVariants as outcome
 use Rattle.transform.specs.declared.error.TransformError.{TransformError}
 use Rattle.transform.specs.declared.error.TransformError.TheVariants as transform
 use Rattle.qed_top.specs.Refused.{error_status, admit_status, refusal_status}
-use Rattle.qed_top.specs.Run.{outcome_status}
+use Rattle.qed_top.specs.Run.{outcome_status, Outcome}
 use Rattle.qed_top.specs.declared.status.Status.{Status}
 use Rattle.qed_top.specs.declared.status.Status.TheVariants.{Refused, Limit, WriteFault, Memory}
 

@@ -3,19 +3,14 @@ use Rattle.std.proofs.Common.{◌≡◌, ◌+◌, ◌≤◌, ◌<◌, ℕ, zero,
 use Rattle.std.specs.Prelude.{◌≢◌, All, slice_index}
 use Rattle.std.proofs.lemmas.List.{drop_more}
 use Rattle.std.proofs.lemmas.List.Elements.{All-get_or}
-use Rattle.elf_types.specs.declared.file.ElfFile.{ElfFile}
-use Rattle.harts.specs.Played.{programs}
-use Rattle.harts.specs.Shared.{AreSound}
-use Rattle.qed_io.specs.Files.{Files, file_bytes}
-use Rattle.qed_model.specs.declared.limits.Limit.TheVariants.{RunFileBytes}
-use Rattle.qed_model.specs.Machine.Apart.{AllFitMemory, AreApart}
-use Rattle.qed_model.specs.Machine.Loading.{load_segments}
-use Rattle.qed_model.proofs.BelowLaws.{length-each, All-each}
+use Rattle.machine.specs.Apart.{AllFitMemory, AreApart}
+use Rattle.machine.specs.Loading.{load_segments, ElfFile}
+use Rattle.machine.proofs.Lemmas.{length-each, All-each}
 use Rattle.qed_top.specs.Answer.{CallsFor, within}
-use Rattle.qed_top.specs.Loads.{Loads, OverFiles, OverLoads}
+use Rattle.qed_top.specs.Loads.{Loads, OverFiles, OverLoads, Files, file_bytes}
 use Rattle.qed_top.specs.Refused.{IsUnread, ReadOn, not_read, read_on}
-use Rattle.qed_top.specs.Turns.{AreTurns, IsTaken}
-use Rattle.qed_top.specs.World.{FilesCallFor, takers}
+use Rattle.qed_top.specs.Turns.{AreTurns, IsTaken, RunFileBytes}
+use Rattle.qed_top.specs.World.{FilesCallFor, takers, programs, AreSound}
 use Rattle.qed_top.specs.declared.answer.Answer.{Answer}
 use Rattle.qed_top.proofs.Meanings.{calls_more, same_each}
 

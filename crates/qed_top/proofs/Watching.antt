@@ -3,21 +3,17 @@ use Rattle.std.proofs.Common.{◌≡◌, ℕ, Bool, true, false, List, [], ◌�
 use Rattle.std.specs.Prelude.{◌==◌, ◌&&◌, ◌||◌, codes}
 use Rattle.std.proofs.lemmas.Bool.{false≢true, and_parts, eqb-true, or_cases}
 use Rattle.std.specs.List.{list_any}
-use Rattle.elf_types.specs.declared.file.ElfFile.{ElfFile}
-use Rattle.qed_model.specs.declared.options.Options.{Options}
-use Rattle.qed_model.specs.declared.test.CodeWord.{CodeWord}
-use Rattle.qed_model.specs.declared.test.Test.{Test}
-use Rattle.qed_model.specs.Options.{default_options}
-use Rattle.qed_model.specs.Admission.Reached.{leads, once, twice, made_by, is_made, is_reached, links_to, is_in_data, AreReached}
-use Rattle.qed_model.specs.Admission.Terms.{is_named_in}
-use Rattle.qed_model.specs.Machine.Loading.{loaded_file}
-use Rattle.qed_model.specs.Machine.Program.{start, zeros}
+use Rattle.tests.specs.declared.options.Options.{Options}
+use Rattle.tests.specs.declared.test.CodeWord.{CodeWord}
+use Rattle.tests.specs.Admission.Reached.{leads, once, twice, made_by, is_made, is_reached, links_to, is_in_data, AreReached}
+use Rattle.tests.specs.Admission.Terms.{is_named_in, ElfFile}
+use Rattle.machine.specs.Loading.{loaded_file}
+use Rattle.machine.specs.Program.{start, zeros}
 use Rattle.qed_model.specs.Promise.Kept.{NotTrapped, Steady, after_input}
-use Rattle.qed_model.specs.Weave.Places.{image_of, half_of}
+use Rattle.tests.specs.Admission.Places.{image_of, half_of}
 use Rattle.test_admission.specs.Admit.{IsAdmittedAs}
-use Rattle.command_line.specs.Text.Run.{jumps_line}
 use Rattle.fault_inject.proofs.Steadiness.{steady_of}
-use Rattle.qed_top.specs.Run.{is_reached_word, astray_of}
+use Rattle.qed_top.specs.Run.{is_reached_word, astray_of, jumps_line, Test, default_options}
 
 -- ---- the distance of the halves has no part in what is reached
 abbrev at_distance : Test → ℕ → Test

@@ -2,16 +2,13 @@
 use Rattle.std.proofs.Common.{◌≡◌, ℕ, Bool, true, false, List, [], ◌∷◌, ◌++◌, Option, None, sym, ◌∙◌, arith}
 use Rattle.std.specs.List.{AllByRecursion}
 use Rattle.std.specs.Prelude.{if◌then◌else◌}
-use Rattle.elf_types.specs.declared.file.ElfFile.{ElfFile}
-use Rattle.harts.specs.HartSteps.{Counted}
 use Rattle.qed_model.specs.Promise.Kept.{is_trapped}
 use Rattle.rv_step.specs.Known.{goes_on}
 use Rattle.harts.specs.Standing.{has_one, is_fired}
-use Rattle.qed_io.specs.Files.{file_bytes}
-use Rattle.qed_model.specs.declared.limits.Limit.TheVariants.{RunFileBytes}
-use Rattle.qed_top.specs.Loads.{Loads}
-use Rattle.qed_top.specs.Refused.{ReadOn, ReadOnDecides, not_read, read_on}
-use Rattle.qed_top.specs.World.{FilesCallFor, FilesDecide, PlayDecides, Plays, later_loads, played, world_status}
+use Rattle.machine.specs.declared.limits.Limit.TheVariants.{RunFileBytes}
+use Rattle.qed_top.specs.Loads.{Loads, file_bytes}
+use Rattle.qed_top.specs.Refused.{ReadOn, ReadOnDecides, not_read, read_on, ElfFile}
+use Rattle.qed_top.specs.World.{FilesCallFor, FilesDecide, PlayDecides, Plays, later_loads, played, world_status, Counted}
 use Rattle.qed_top.specs.World as world
 use Rattle.qed_top.specs.declared.answer.Answer.{Answer}
 use Rattle.qed_top.specs.declared.status.Status.{Status}

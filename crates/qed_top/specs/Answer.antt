@@ -2,11 +2,11 @@
 use Rattle.std.specs.Prelude.{◌≡◌, ◌⊎◌, ◌<◌, ◌≤◌, ℕ, List, length, Option, None, Some, IfSome, IsSomeAnd}
 use Rattle.std.specs.FinMap.{insert}
 use Rattle.qed_io.specs.Files.{Files, StoredInPart}
-use Rattle.qed_io.specs.Counts.{NoneChanged}
-use Rattle.qed_model.specs.declared.limits.Limit as limits
-use Rattle.qed_model.specs.Limits.{limit_of}
-use Rattle.command_line.specs.Text.Errors.{limit_line}
-use Rattle.command_line.specs.Text.Plan.{read_fault_line}
+pub use Rattle.qed_io.specs.Counts.{NoneChanged, NoneFell, Rose, RoseAt}
+use Rattle.machine.specs.declared.limits.Limit as limits
+pub use Rattle.machine.specs.Limits.{limit_of}
+pub use Rattle.qed_words.specs.Text.Errors.{limit_line, error_line}
+use Rattle.qed_words.specs.Text.Plan.{read_fault_line}
 use Rattle.qed_top.specs.declared.answer.Answer.{Answer}
 use Rattle.qed_top.specs.declared.answer.Stored.{Stored}
 use Rattle.qed_top.specs.declared.status.Status.{Status}

@@ -4,16 +4,15 @@ use Rattle.campaign.specs.Course.{IsCourse}
 use Rattle.campaign.specs.Prepared.{Prepared}
 use Rattle.qed_model.specs.declared.aim.Draws.{Draws}
 use Rattle.qed_model.specs.declared.change.Change.{Change}
-use Rattle.qed_model.specs.declared.options.Options.{Options}
 use Rattle.qed_model.specs.declared.verdict.Struck.{Struck}
-use Rattle.qed_model.specs.Admission.DataRanges.{range_of}
-use Rattle.command_line.specs.Text.Campaign.{campaign_text}
-use Rattle.strikes.specs.Draw.{drawn_strikes}
-use Rattle.strikes.specs.Kept.{IsReach}
-use Rattle.strikes.specs.Right.{rights}
-use Rattle.strikes.specs.Struck.{AreStruck}
+use Rattle.tests.specs.Admission.DataRanges.{range_of}
+use Rattle.qed_words.specs.Text.Campaign.{campaign_text}
+use Rattle.campaign.specs.Draw.{drawn_strikes}
+use Rattle.campaign.specs.Kept.{IsReach}
+use Rattle.campaign.specs.Right.{rights}
+use Rattle.campaign.specs.Struck.{AreStruck}
 use Rattle.qed_top.specs.Answer.{PrintsOnly}
-use Rattle.qed_top.specs.Refused.{Makes, MakesDecides}
+use Rattle.qed_top.specs.Refused.{Makes, MakesDecides, Options}
 use Rattle.qed_top.specs.declared.answer.Answer.{Answer}
 use Rattle.qed_top.specs.declared.status.Status.{Status}
 use Rattle.qed_top.specs.declared.status.Status.TheVariants.{Done, Trapped}

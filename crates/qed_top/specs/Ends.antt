@@ -1,31 +1,20 @@
 -- How the top call ends.
 use Rattle.std.specs.Prelude.{◌≡◌, ◌≢◌, ◌⊎◌, ℕ, Bool, true, false, List, [], Option, MatchOption, MatchResult, IfOk, IfSome, All}
 use Rattle.std.specs.Io.KnownBytes.{Appends}
-use Rattle.qed_io.specs.Files.{Files, file_bytes}
-use Rattle.qed_io.specs.Counts.{Rose, RoseAt}
 use Rattle.qed_io.specs.Sink.{AppendsPart}
-use Rattle.elf_types.specs.declared.file.ElfFile.{ElfFile}
-use Rattle.transform.specs.Transform.{IsNotAdmitted}
-use Rattle.qed_model.specs.declared.admit.AdmitError.{AdmitError}
-use Rattle.qed_model.specs.declared.change.Change.{Change}
-use Rattle.qed_model.specs.declared.options.Options.{Options}
-use Rattle.command_line.specs.declared.order.Order.{Order}
-use Rattle.command_line.specs.declared.order.Order.TheVariants as order
-use Rattle.command_line.specs.declared.order.Order.TheVariants.{Transform, Plan, Explain, Run, Campaign, Gen, Asm, Harts, Tell}
-use Rattle.elf_files.specs.File.{IsReadAs}
-use Rattle.qed_model.specs.Admission.Refusals.{IsAdmitted}
-use Rattle.qed_model.specs.Limits.{limit_of}
-use Rattle.qed_model.specs.Options.{default_options}
-use Rattle.command_line.specs.Words.{asked}
-use Rattle.qed_top.specs.Answer.{FilesAfter, FilesInPart, StoreRose, ShelfSteady}
-use Rattle.qed_top.specs.Refused.{MakesDecides, ReadOnDecides, admit_status}
-use Rattle.qed_top.specs.Run.{InMemoryDecides, outcome_status, run_of}
+use Rattle.tests.specs.declared.admit.AdmitError.{AdmitError}
+use Rattle.qed_words.specs.declared.orders.Order.TheVariants as order
+use Rattle.tests.specs.Files.File.{IsReadAs}
+use Rattle.tests.specs.Admission.Refusals.{IsAdmitted}
+use Rattle.qed_top.specs.Answer.{FilesAfter, FilesInPart, StoreRose, ShelfSteady, limit_of, Rose, RoseAt}
+use Rattle.qed_top.specs.Refused.{MakesDecides, ReadOnDecides, admit_status, ElfFile, Options, IsNotAdmitted}
+use Rattle.qed_top.specs.Run.{InMemoryDecides, outcome_status, run_of, default_options, Change}
 use Rattle.qed_top.specs.Asm.{AsmDecides}
 use Rattle.qed_top.specs.Campaign.{CampaignDecides}
 use Rattle.qed_top.specs.Explain.{ExplainDecides}
 use Rattle.qed_top.specs.Gen.{GenDecides}
-use Rattle.qed_top.specs.Loads.{Decided, Loads, OverLoads}
-use Rattle.qed_top.specs.Orders.{WordsCallFor, source_name, source_names, source_limit, stored_name}
+use Rattle.qed_top.specs.Loads.{Decided, Loads, OverLoads, Files, file_bytes}
+use Rattle.qed_top.specs.Orders.{WordsCallFor, source_name, source_names, source_limit, stored_name, Order, Transform, Plan, Explain, Run, Campaign, Gen, Asm, Harts, Tell, asked}
 use Rattle.qed_top.specs.World.{FilesDecide}
 use Rattle.qed_top.specs.declared.answer.Answer.{Answer}
 use Rattle.qed_top.specs.declared.status.Status.{Status}

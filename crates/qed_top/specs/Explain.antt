@@ -1,12 +1,11 @@
 -- What `explain` answers.
 use Rattle.std.specs.Prelude.{◌≡◌, ℕ, ◌-◌, ◌/◌, ◌%◌, ◌==◌, ◌&&◌, nat_le, nat_lt, if◌then◌else◌, List, length, slice_index, Option, None, Some, MatchOption, IsSomeAnd}
-use Rattle.qed_model.specs.declared.options.Options.{Options}
 use Rattle.listing.specs.Roles.{role_at, role_lines, word_text}
 use Rattle.report.specs.Admission.{no_word_line}
 use Rattle.transform.specs.declared.explained.Explained.{Explained}
 use Rattle.transform.specs.Explained.{IsExplained}
 use Rattle.qed_top.specs.Answer.{PrintsOnly}
-use Rattle.qed_top.specs.Refused.{Makes, MakesDecides}
+use Rattle.qed_top.specs.Refused.{Makes, MakesDecides, Options}
 use Rattle.qed_top.specs.declared.answer.Answer.{Answer}
 use Rattle.qed_top.specs.declared.status.Status.{Status}
 use Rattle.qed_top.specs.declared.status.Status.TheVariants.{Done, Refused}

@@ -1,22 +1,20 @@
 -- What `gen` answers.
 use Rattle.std.specs.Prelude.{◌≡◌, ℕ, List, length, IsSomeAnd}
-use Rattle.elf_types.specs.declared.file.ElfFile.{ElfFile}
-use Rattle.qed_model.specs.declared.limits.Limit.TheVariants as limit
-use Rattle.qed_model.specs.declared.machine.Outcome.TheVariants.{Ended}
+use Rattle.machine.specs.declared.limits.Limit.TheVariants as limit
+use Rattle.machine.specs.declared.outcome.Outcome.TheVariants.{Ended}
 use Rattle.qed_model.specs.declared.plan.Plan.{Plan}
-use Rattle.elf_files.specs.File.{IsReadAs}
-use Rattle.qed_model.specs.Elf.Layout.{written}
-use Rattle.qed_model.specs.Machine.Loading.{loaded_file}
-use Rattle.qed_model.specs.Machine.Program.{start, zeros}
-use Rattle.qed_model.specs.Machine.Progress.{Progress, begun, progress}
-use Rattle.qed_model.specs.Options.{default_options}
-use Rattle.command_line.specs.Text.Errors.{limit_line}
+use Rattle.tests.specs.Files.File.{IsReadAs}
+use Rattle.tests.specs.Elf.Layout.{written}
+use Rattle.machine.specs.Loading.{loaded_file, ElfFile}
+use Rattle.machine.specs.Program.{start, zeros}
+use Rattle.machine.specs.Progress.{Progress, begun, progress}
+use Rattle.tests.specs.Options.{default_options}
 use Rattle.report.specs.Generated.{generated_line}
 use Rattle.test_gen.specs.Code.{code, function_count}
 use Rattle.test_gen.specs.Ends.{HasEnded, test_steps}
 use Rattle.test_gen.specs.Generated.{generated}
 use Rattle.transform.specs.Transform.{HasTooMuchCode}
-use Rattle.qed_top.specs.Answer.{PrintsOnly}
+use Rattle.qed_top.specs.Answer.{PrintsOnly, limit_line}
 use Rattle.qed_top.specs.Makes.{IsMade}
 use Rattle.qed_top.specs.declared.answer.Answer.{Answer}
 use Rattle.qed_top.specs.declared.status.Status.{Status}

@@ -2,24 +2,22 @@
 use Rattle.std.specs.Prelude.{◌≡◌, ◌≤◌, ℕ, Bool, List, length, map, Some, Ok, IfSome}
 use Rattle.std.specs.FinMap.{insert}
 use Rattle.std.specs.Io.KnownBytes.{Appends}
-use Rattle.elf_types.specs.declared.file.ElfFile.{ElfFile}
-use Rattle.qed_io.specs.Files.{Files, file_bytes}
-use Rattle.qed_model.specs.declared.limits.Limit.TheVariants.{FileBytes}
-use Rattle.qed_model.specs.declared.options.Options.{Options}
-use Rattle.command_line.specs.declared.order.Order.TheVariants.{Transform}
+use Rattle.machine.specs.declared.limits.Limit.TheVariants.{FileBytes}
+use Rattle.tests.specs.declared.options.Options.{Options}
+use Rattle.qed_words.specs.declared.orders.Order.TheVariants.{Transform}
 use Rattle.qed_model.specs.declared.plan.Plan.{Plan}
-use Rattle.elf_files.specs.File.{IsReadAs}
-use Rattle.qed_model.specs.Limits.{limit_of}
-use Rattle.qed_model.specs.Machine.Loading.{loaded_file}
-use Rattle.qed_model.specs.Admission.DataRanges.{range_of}
-use Rattle.qed_model.specs.Admission.Reached.{AreReached}
+use Rattle.tests.specs.Files.File.{IsReadAs}
+use Rattle.machine.specs.Limits.{limit_of}
+use Rattle.machine.specs.Loading.{loaded_file, ElfFile}
+use Rattle.tests.specs.Admission.DataRanges.{range_of}
+use Rattle.tests.specs.Admission.Reached.{AreReached}
 use Rattle.qed_model.specs.Weave.Woven.{new_code, IsWithin, IsToldOf}
-use Rattle.elf_files.specs.Output.{Woven}
-use Rattle.command_line.specs.Text.Plan.{plan_line}
-use Rattle.command_line.specs.Words.{asked}
+use Rattle.qed_model.specs.Weave.Output.{Woven}
+use Rattle.qed_words.specs.Text.Plan.{plan_line}
+use Rattle.qed_words.specs.Words.{asked}
 use Rattle.transform.specs.Transform.{Promised}
 use Rattle.qed_top.specs.Ends.{Call, EndsOver, IsComplete}
-use Rattle.qed_top.specs.Loads.{Loads, OverLoads}
+use Rattle.qed_top.specs.Loads.{Loads, OverLoads, Files, file_bytes}
 use Rattle.qed_top.specs.declared.status.Status.{Status}
 use Rattle.qed_top.specs.declared.status.Status.TheVariants.{Done}
 

@@ -1,9 +1,8 @@
 -- What `list` answers.
 use Rattle.std.specs.Prelude.{ℕ, List}
-use Rattle.elf_types.specs.declared.file.ElfFile.{ElfFile}
 use Rattle.listing.specs.Listing.{IsListing}
 use Rattle.qed_top.specs.Answer.{PrintsOnly}
-use Rattle.qed_top.specs.Refused.{ReadOn}
+use Rattle.qed_top.specs.Refused.{ReadOn, ElfFile}
 use Rattle.qed_top.specs.Run.{InMemory}
 use Rattle.qed_top.specs.declared.answer.Answer.{Answer}
 use Rattle.qed_top.specs.declared.status.Status.TheVariants.{Done}

@@ -1,6 +1,6 @@
 -- The files that a call loads, and the status over the bytes of one.
 use Rattle.std.specs.Prelude.{◌≡◌, ◌<◌, ◌≤◌, ℕ, List, length, Option, IfSome}
-use Rattle.qed_io.specs.Files.{Files}
+pub use Rattle.qed_io.specs.Files.{Files, file_bytes}
 use Rattle.qed_top.specs.declared.status.Status.{Status}
 use Rattle.qed_top.specs.declared.status.Status.TheVariants.{Limit}
 

@@ -1,12 +1,10 @@
 -- What commands answer that transform their file.
 use Rattle.std.specs.Prelude.{◌≡◌, ℕ, List, IsSomeAnd}
-use Rattle.qed_model.specs.declared.options.Options.{Options}
 use Rattle.qed_model.specs.declared.plan.Plan.{Plan}
-use Rattle.command_line.specs.Text.Plan.{plan_line}
+use Rattle.qed_words.specs.Text.Plan.{plan_line}
 use Rattle.report.specs.Plan.{plan_text}
-use Rattle.transform.specs.Transform.{Transforms}
 use Rattle.qed_top.specs.Answer.{PrintsOnly}
-use Rattle.qed_top.specs.Refused.{Makes}
+use Rattle.qed_top.specs.Refused.{Makes, Options, Transforms}
 use Rattle.qed_top.specs.declared.answer.Answer.{Answer}
 use Rattle.qed_top.specs.declared.status.Status.TheVariants.{Done}
 

@@ -1,14 +1,13 @@
 -- What the words and the files call for.
 use Rattle.std.specs.Prelude.{Bool, true, false, ℕ, List, [], ◌∷◌, Option, None, Some, MatchOption, MatchResult}
-use Rattle.qed_io.specs.Files.{Files, file_bytes}
-use Rattle.qed_model.specs.declared.limits.Limit as limits
-use Rattle.qed_model.specs.declared.limits.Limit.TheVariants.{FileBytes, RunFileBytes}
-use Rattle.command_line.specs.declared.order.Order.{Order}
-use Rattle.command_line.specs.declared.order.Order.TheVariants as order
-use Rattle.command_line.specs.declared.order.Order.TheVariants.{Transform, Plan, Explain, Run, Campaign, Gen, Asm, Harts, Tell}
-use Rattle.command_line.specs.declared.order.Reason.{Reason}
-use Rattle.command_line.specs.Text.Usage.{reason_line}
-use Rattle.command_line.specs.Words.{asked}
+use Rattle.machine.specs.declared.limits.Limit as limits
+use Rattle.machine.specs.declared.limits.Limit.TheVariants.{FileBytes, RunFileBytes}
+pub use Rattle.qed_words.specs.declared.orders.Order.{Order}
+use Rattle.qed_words.specs.declared.orders.Order.TheVariants as order
+pub use Rattle.qed_words.specs.declared.orders.Order.TheVariants.{Transform, Plan, Explain, Run, Campaign, Gen, Asm, Harts, Tell}
+pub use Rattle.qed_words.specs.declared.orders.Reason.{Reason}
+use Rattle.qed_words.specs.Text.Usage.{reason_line}
+pub use Rattle.qed_words.specs.Words.{asked}
 use Rattle.report.specs.Told.{told_text}
 use Rattle.qed_top.specs.Answer.{PrintsOnly, CallsFor}
 use Rattle.qed_top.specs.List.{Lists}
@@ -17,7 +16,7 @@ use Rattle.qed_top.specs.Campaign.{Campaigns}
 use Rattle.qed_top.specs.Explain.{Explains}
 use Rattle.qed_top.specs.Gen.{Gens}
 use Rattle.qed_top.specs.Makes.{MakesOutput, Delivers, TellsPlan}
-use Rattle.qed_top.specs.Loads.{Loads}
+use Rattle.qed_top.specs.Loads.{Loads, Files, file_bytes}
 use Rattle.qed_top.specs.Run.{RunsAs}
 use Rattle.qed_top.specs.World.{FilesCallFor}
 use Rattle.qed_top.specs.declared.answer.Answer.{Answer}

@@ -5,7 +5,7 @@ use Rattle.std.specs.Vec.Iter.{into_iter_items}
 use Rattle.std.specs.declared.io.Error.{Error}
 use Rattle.std.specs.declared.process.ExitCode.{ExitCode}
 use Rattle.std.specs.declared.vec.IntoIter.{IntoIter}
-use Rattle.command_line.specs.Words.{texts}
+use Rattle.qed_words.specs.Words.{texts}
 use Rattle.qed_top.specs.Codes.{status_code}
 use Rattle.qed_top.specs.Ends.{Call}
 use Rattle.qed_top.specs.Headline.{Answers}

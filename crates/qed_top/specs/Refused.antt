@@ -2,20 +2,19 @@
 use Rattle.std.specs.Prelude.{◌≡◌, ◌≢◌, ℕ, List, []}
 use Rattle.elf_types.specs.declared.error.ElfError.{ElfError}
 use Rattle.elf_types.specs.declared.error.ElfError.TheVariants as error
-use Rattle.elf_types.specs.declared.file.ElfFile.{ElfFile}
-use Rattle.qed_model.specs.declared.admit.AdmitError.{AdmitError}
-use Rattle.qed_model.specs.declared.admit.AdmitError.TheVariants as admit
-use Rattle.qed_model.specs.declared.limits.Limit.TheVariants as limit
-use Rattle.qed_model.specs.declared.options.Options.{Options}
-use Rattle.qed_model.specs.Admission.Ends.{HasEnds}
-use Rattle.elf_files.specs.File.{IsReadAs}
-use Rattle.elf_files.specs.Refusals as Refusals
-use Rattle.command_line.specs.Text.Errors.{error_line, limit_line}
+pub use Rattle.elf_types.specs.declared.file.ElfFile.{ElfFile}
+use Rattle.tests.specs.declared.admit.AdmitError.{AdmitError}
+use Rattle.tests.specs.declared.admit.AdmitError.TheVariants as admit
+use Rattle.machine.specs.declared.limits.Limit.TheVariants as limit
+pub use Rattle.tests.specs.declared.options.Options.{Options}
+use Rattle.tests.specs.Admission.Ends.{HasEnds}
+use Rattle.tests.specs.Files.File.{IsReadAs}
+use Rattle.tests.specs.Files.Refusals as Refusals
 use Rattle.report.specs.Admission.{admit_line}
 use Rattle.transform.specs.declared.error.TransformError.{TransformError}
 use Rattle.transform.specs.declared.error.TransformError.TheVariants as transform
-use Rattle.transform.specs.Transform.{HasCause, IsNotAdmitted, IsTransformable}
-use Rattle.qed_top.specs.Answer.{PrintsOnly}
+pub use Rattle.transform.specs.Transform.{HasCause, IsNotAdmitted, IsTransformable, Transforms}
+use Rattle.qed_top.specs.Answer.{PrintsOnly, error_line, limit_line}
 use Rattle.qed_top.specs.declared.answer.Answer.{Answer}
 use Rattle.qed_top.specs.declared.status.Status.{Status}
 use Rattle.qed_top.specs.declared.status.Status.TheVariants.{Refused, Limit}

@@ -1,27 +1,23 @@
 -- What `run` answers.
 use Rattle.std.specs.Prelude.{◌≡◌, ◌<◌, ◌≤◌, ℕ, ◌+◌, ◌==◌, ◌&&◌, cond, Bool, true, false, List, [], ◌∷◌, Option, None, Some}
 use Rattle.std.specs.List.{list_any}
-use Rattle.elf_types.specs.declared.file.Segment.{Segment}
-use Rattle.elf_types.specs.declared.file.ElfFile.{ElfFile}
 use Rattle.elf_types.specs.Abi.{is_load}
 use Rattle.fault_inject.specs.Astray.{first_astray}
 use Rattle.fault_inject.specs.Counted.{changed_steps}
-use Rattle.qed_model.specs.declared.change.Change.{Change}
-use Rattle.qed_model.specs.declared.limits.Limit.TheVariants as limit
-use Rattle.qed_model.specs.declared.machine.Outcome.{Outcome}
-use Rattle.qed_model.specs.declared.machine.Outcome.TheVariants as outcome
-use Rattle.qed_model.specs.declared.test.Test.{Test}
-use Rattle.elf_files.specs.File.{IsReadAs}
-use Rattle.qed_model.specs.Admission.Reached.{is_reached}
-use Rattle.qed_model.specs.Limits.{limit_of}
-use Rattle.qed_model.specs.Machine.Loading.{loaded_file}
-use Rattle.qed_model.specs.Machine.Program.{start, zeros}
-use Rattle.qed_model.specs.Machine.Progress.{Progress, begun}
-use Rattle.qed_model.specs.Options.{default_options}
+pub use Rattle.qed_model.specs.declared.change.Change.{Change}
+use Rattle.machine.specs.declared.limits.Limit.TheVariants as limit
+pub use Rattle.machine.specs.declared.outcome.Outcome.{Outcome}
+use Rattle.machine.specs.declared.outcome.Outcome.TheVariants as outcome
+pub use Rattle.tests.specs.declared.test.Test.{Test}
+use Rattle.tests.specs.Files.File.{IsReadAs}
+use Rattle.tests.specs.Admission.Reached.{is_reached}
+use Rattle.machine.specs.Loading.{loaded_file, Segment, ElfFile}
+use Rattle.machine.specs.Program.{start, zeros}
+use Rattle.machine.specs.Progress.{Progress, begun}
+pub use Rattle.tests.specs.Options.{default_options}
 use Rattle.qed_model.specs.Promise.Changed.{changed_run}
-use Rattle.command_line.specs.Text.Errors.{limit_line}
-use Rattle.command_line.specs.Text.Run.{jumps_line, run_text}
-use Rattle.qed_top.specs.Answer.{PrintsOnly}
+pub use Rattle.qed_words.specs.Text.Run.{jumps_line, run_text}
+use Rattle.qed_top.specs.Answer.{PrintsOnly, limit_of, limit_line}
 use Rattle.test_admission.specs.Admit.{IsAdmittedAs}
 use Rattle.qed_top.specs.Refused.{IsUnadmitted, IsUnread, ReadOn}
 use Rattle.qed_top.specs.declared.answer.Answer.{Answer}

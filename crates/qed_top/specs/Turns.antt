@@ -1,16 +1,12 @@
 -- Steps on the way to the answer of `harts`.
 use Rattle.std.specs.Prelude.{◌<◌, ◌≤◌, ℕ, List, [], All, length, Option, IfSome}
 use Rattle.elf_types.specs.declared.file.ElfFile.{ElfFile}
-use Rattle.harts.specs.HartSteps.{Counted, counted_turns, cycled}
-use Rattle.qed_io.specs.Counts.{RoseAt}
-use Rattle.qed_io.specs.Files.{Files}
-use Rattle.qed_model.specs.declared.limits.Limit.TheVariants.{RunFileBytes}
-use Rattle.elf_files.specs.File.{IsReadAs}
-use Rattle.qed_model.specs.Limits.{limit_of}
+pub use Rattle.machine.specs.declared.limits.Limit.TheVariants.{RunFileBytes}
+use Rattle.tests.specs.Files.File.{IsReadAs}
 use Rattle.report.specs.World.{world_text}
-use Rattle.qed_top.specs.Answer.{PrintsOnly}
-use Rattle.qed_top.specs.Loads.{OverLoads}
-use Rattle.qed_top.specs.World.{FilesCallFor, Plays, world_status}
+use Rattle.qed_top.specs.Answer.{PrintsOnly, limit_of, RoseAt}
+use Rattle.qed_top.specs.Loads.{OverLoads, Files}
+use Rattle.qed_top.specs.World.{FilesCallFor, Plays, world_status, Counted, counted_turns, cycled}
 use Rattle.qed_top.specs.declared.answer.Answer.{Answer}
 
 -- there is a turn, and each hart that makes one is below the count

@@ -1,21 +1,17 @@
 -- What `harts` answers.
 use Rattle.std.specs.Prelude.{◌≡◌, ◌<◌, ◌≤◌, ℕ, suc, ◌+◌, if◌then◌else◌, List, [], ◌∷◌, ◌++◌, length, Option, None, Some}
-use Rattle.elf_types.specs.declared.file.ElfFile.{ElfFile}
-use Rattle.harts.specs.HartSteps.{Counted, TurnsKeep, counted_start, counted_turns, cycled}
-use Rattle.harts.specs.Played.{programs}
-use Rattle.harts.specs.Shared.{AreUnshared, IsLeastShared}
+pub use Rattle.harts.specs.HartSteps.{Counted, TurnsKeep, counted_start, counted_turns, cycled}
+pub use Rattle.harts.specs.Played.{programs}
+pub use Rattle.harts.specs.Shared.{AreUnshared, IsLeastShared, AreSound}
 use Rattle.qed_model.specs.Promise.Kept.{is_trapped}
 use Rattle.rv_step.specs.Known.{goes_on}
 use Rattle.harts.specs.Standing.{has_one, is_fired}
-use Rattle.qed_io.specs.Files.{file_bytes}
-use Rattle.qed_model.specs.declared.limits.Limit.TheVariants as limit
-use Rattle.qed_model.specs.Below.{each}
-use Rattle.qed_model.specs.Limits.{limit_of}
-use Rattle.command_line.specs.Text.Errors.{limit_line}
+use Rattle.machine.specs.declared.limits.Limit.TheVariants as limit
+use Rattle.machine.specs.Below.{each}
 use Rattle.report.specs.World.{shared_line, world_text}
-use Rattle.qed_top.specs.Answer.{CallsFor, PrintsOnly}
-use Rattle.qed_top.specs.Loads.{Decided, Loads}
-use Rattle.qed_top.specs.Refused.{ReadOn, ReadOnDecides}
+use Rattle.qed_top.specs.Answer.{CallsFor, PrintsOnly, limit_of, limit_line}
+use Rattle.qed_top.specs.Loads.{Decided, Loads, file_bytes}
+use Rattle.qed_top.specs.Refused.{ReadOn, ReadOnDecides, ElfFile}
 use Rattle.qed_top.specs.Run.{memory_bytes, memory_limit}
 use Rattle.qed_top.specs.declared.answer.Answer.{Answer}
 use Rattle.qed_top.specs.declared.status.Status.{Status}

@@ -3,15 +3,15 @@ ghost use Rattle.std.specs.Prelude.{◌≡◌, ◌≢◌, ◌⊎◌, IfOk, OnOk,
 ghost use Rattle.std.specs.Io.KnownBytes.{Appends};
 ghost use Rattle.qed_io.specs.Counts.{Rose, RoseAt, NoneFell};
 ghost use Rattle.qed_io.specs.Sink.{AppendsPart};
-ghost use Rattle.command_line.specs.Text.Errors.{limit_line};
+ghost use Rattle.qed_words.specs.Text.Errors.{limit_line};
 ghost use Rattle.qed_top.specs.Answer.{PrintsOnly, FilesAfter, FilesInPart, StoreRose, ShelfSteady};
 
 use crate::fault::Fault;
 use crate::status::Status;
-use command_line::Name;
 use elf_types::Bytes;
 use qed_io::{Shelf, Sink, put_all};
 use qed_model::Limit;
+use qed_words::Name;
 use report::limit_text;
 use std::alloc::{AllocError, Global};
 

@@ -4,7 +4,7 @@ ghost use Rattle.qed_top.specs.Asm.{Assembles};
 
 use crate::answer::{Answer, Stored, plain};
 use crate::status::Status;
-use command_line::Name;
+use qed_words::Name;
 use report::{asm_error_text, assembly_text};
 use rv_asm::assemble_counted;
 use std::alloc::{AllocError, Global};

@@ -1,18 +1,17 @@
 //! What `campaign` answers.
 ghost use Rattle.std.specs.Prelude.{◌≡◌, All, IfOk};
 ghost use Rattle.qed_model.specs.Promise.Changed.{Ordered};
-ghost use Rattle.qed_model.specs.Weave.Places.{AreSoundOptions};
+ghost use Rattle.qed_model.specs.Weave.SoundOptions.{AreSoundOptions};
 ghost use Rattle.qed_top.specs.Campaign.{campaign_status, text_of as text_of_campaign, Campaigns, TellsCampaign};
 
 use crate::answer::{Answer, plain};
 use crate::refusal::refused;
 use crate::status::Status;
-use campaign::{Course, Progress};
+use campaign::{Campaign, Course, Progress};
 use elf_types::Bytes;
 use qed_model::{Draws, Options};
 use report::campaign_text;
 use std::alloc::{AllocError, Global};
-use strikes::Campaign;
 
 /// The status where the input trapped at a pc, or where it did not.
 fn status_of(trapped: Option<u64>) -> Status
@@ -57,7 +56,7 @@ fn strike(
     course: &Course,
     draws: &Draws,
     results: bool,
-    progress: &dyn Progress,
+    progress: &mut dyn Progress,
 ) -> Result<Answer, AllocError>
     ensures { IfOk result (TellsCampaign course.now draws.now results) }
 {
@@ -75,7 +74,7 @@ pub fn answer_campaign(
     options: &Options,
     draws: &Draws,
     results: bool,
-    progress: &dyn Progress,
+    progress: &mut dyn Progress,
 ) -> Result<Answer, AllocError>
     requires { AreSoundOptions options.now }
     ensures { IfOk result (Campaigns bytes.now options.now draws.now results) }

@@ -1,7 +1,7 @@
 //! What the words and the files call for.
 ghost use Rattle.std.specs.Prelude.{◌≡◌, false, IfOk, OnErr};
 ghost use Rattle.qed_io.specs.Counts.{RoseAt, NoneFell};
-ghost use Rattle.command_line.specs.Words.{texts};
+ghost use Rattle.qed_words.specs.Words.{texts};
 ghost use Rattle.qed_words.specs.Sound.{IsSoundOrder};
 ghost use Rattle.qed_top.specs.Answer.{ShelfSteady, SteadyOrReadFault};
 ghost use Rattle.qed_top.specs.Loads.{OverFiles, OverLoads};
@@ -12,10 +12,9 @@ use crate::load::read_file;
 use crate::orders::{answer_order, source_limit, source_name, usage};
 use crate::world::answer_harts;
 use campaign::Progress;
-use command_line::Order;
 use elf_types::Bytes;
 use qed_io::Shelf;
-use qed_words::{WordsError, order};
+use qed_words::{Order, WordsError, order};
 use std::alloc::{AllocError, Global};
 
 /// What an order calls for that reads no more than one file.
@@ -23,7 +22,7 @@ fn decide_source<S: Shelf>(
     alloc: Global,
     order: Order,
     shelf: &mut S,
-    progress: &dyn Progress,
+    progress: &mut dyn Progress,
 ) -> Result<Answer, AllocError>
     requires sound { IsSoundOrder order }
     requires one { reads_several order ≡ false }
@@ -57,7 +56,7 @@ fn decide_order<S: Shelf>(
     alloc: Global,
     order: Order,
     shelf: &mut S,
-    progress: &dyn Progress,
+    progress: &mut dyn Progress,
 ) -> Result<Answer, AllocError>
     requires { IsSoundOrder order }
     ensures meant { IfOk result (λ answer. OverLoads (S.files shelf.old) (λ loads. OrderCallsFor order loads (RoseAt (S.load_faults shelf.old) (S.load_faults shelf.new)) answer)) }
@@ -83,7 +82,7 @@ pub fn decide<S: Shelf>(
     alloc: Global,
     words: &[String],
     shelf: &mut S,
-    progress: &dyn Progress,
+    progress: &mut dyn Progress,
 ) -> Result<Answer, AllocError>
     ensures meant { IfOk result (λ answer. OverLoads (S.files shelf.old) (λ loads. WordsCallFor (texts words.now) loads (RoseAt (S.load_faults shelf.old) (S.load_faults shelf.new)) answer)) }
     ensures files { S.files shelf.new ≡ S.files shelf.old }

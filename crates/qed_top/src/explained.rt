@@ -1,6 +1,6 @@
 //! What `explain` answers.
 ghost use Rattle.std.specs.Prelude.{◌≡◌, ◌<◌, ◌+◌, ◌*◌, ◌^◌, IfOk, IfSome, length};
-ghost use Rattle.qed_model.specs.Weave.Places.{AreSoundOptions};
+ghost use Rattle.qed_model.specs.Weave.SoundOptions.{AreSoundOptions};
 ghost use Rattle.listing.specs.Roles.{rows_bytes};
 ghost use Rattle.qed_top.specs.Explain.{Explains, TellsRoles, TellsWord, word_number as word_number_of};
 

@@ -1,7 +1,7 @@
 //! What `gen` answers.
 ghost use Rattle.std.specs.Prelude.{◌≡◌, ◌≤◌, IfOk};
 ghost use Rattle.elf_read.specs.Known.{IsReadable};
-ghost use Rattle.qed_model.specs.Options.{default_options};
+ghost use Rattle.tests.specs.Options.{default_options};
 ghost use Rattle.test_gen.specs.Generated.{generated};
 ghost use Rattle.transform.specs.Transform.{Transforms};
 ghost use Rattle.qed_top.specs.Gen.{Generates, Gens, IsRunOf, most_steps, test_bytes};
@@ -9,10 +9,10 @@ ghost use Rattle.qed_top.specs.Gen.{Generates, Gens, IsRunOf, most_steps, test_b
 use crate::answer::{Answer, Stored};
 use crate::refusal::refused;
 use crate::status::Status;
-use command_line::Name;
 use elf_read::read_known;
 use elf_types::Bytes;
 use qed_model::Options;
+use qed_words::Name;
 use report::{Drawn, generated_text};
 use rv_step::Machine;
 use std::alloc::{AllocError, Global};

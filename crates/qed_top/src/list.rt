@@ -1,7 +1,7 @@
 //! What `list` answers.
 ghost use Rattle.std.specs.Prelude.{IfOk};
-ghost use Rattle.qed_model.specs.Machine.Loading.{load_segments};
-ghost use Rattle.qed_model.specs.Machine.Apart.{AllFitMemory, AreApart};
+ghost use Rattle.machine.specs.Loading.{load_segments};
+ghost use Rattle.machine.specs.Apart.{AllFitMemory, AreApart};
 ghost use Rattle.qed_top.specs.List.{FileLists, Lists};
 
 use crate::answer::{Answer, plain};

@@ -2,8 +2,8 @@
 ghost use Rattle.std.specs.Prelude.{◌≡◌, ◌≤◌, IfOk, IfErr, IfSome, OnOk, OnErr, length};
 ghost use Rattle.qed_io.specs.Counts.{RoseAt, NoneFell};
 ghost use Rattle.qed_io.specs.Files.{file_bytes};
-ghost use Rattle.qed_model.specs.Limits.{limit_of};
-ghost use Rattle.command_line.specs.Text.Plan.{read_fault_line};
+ghost use Rattle.machine.specs.Limits.{limit_of};
+ghost use Rattle.qed_words.specs.Text.Plan.{read_fault_line};
 ghost use Rattle.qed_top.specs.Answer.{CallsFor, PrintsOnly, ShelfSteady, SteadyOrReadFault};
 ghost use Rattle.qed_top.specs.Loads.{OverFiles};
 

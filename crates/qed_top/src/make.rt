@@ -1,6 +1,6 @@
 //! What `transform` and `plan` answer.
 ghost use Rattle.std.specs.Prelude.{IfOk};
-ghost use Rattle.qed_model.specs.Weave.Places.{AreSoundOptions};
+ghost use Rattle.qed_model.specs.Weave.SoundOptions.{AreSoundOptions};
 ghost use Rattle.report.specs.Plan.{plan_text};
 ghost use Rattle.qed_top.specs.Answer.{PrintsOnly};
 ghost use Rattle.qed_top.specs.Makes.{Delivers, MakesOutput, TellsPlan};
@@ -8,8 +8,8 @@ ghost use Rattle.qed_top.specs.Makes.{Delivers, MakesOutput, TellsPlan};
 use crate::answer::{Answer, Stored, plain};
 use crate::refusal::refused;
 use crate::status::Status;
-use command_line::Name;
 use qed_model::{Options, Plan};
+use qed_words::Name;
 use report::{plan_text, transform_text};
 use std::alloc::{AllocError, Global};
 use transform::{Transformed, transform};

@@ -1,7 +1,7 @@
 //! What orders call for.
 ghost use Rattle.std.specs.Prelude.{◌≡◌, ◌≤◌, false, IfOk, length};
 ghost use Rattle.std.specs.Option.{option_copied};
-ghost use Rattle.qed_model.specs.Limits.{limit_of};
+ghost use Rattle.machine.specs.Limits.{limit_of};
 ghost use Rattle.qed_words.specs.Sound.{IsSoundOrder};
 ghost use Rattle.qed_top.specs.Orders.{AnswersOver, IsUsage, reads_several, source_limit as source_limit_of, source_name as source_name_of};
 
@@ -15,9 +15,9 @@ use crate::make::{answer_plan, answer_transform};
 use crate::run::answer_run;
 use crate::status::Status;
 use campaign::Progress;
-use command_line::{Order, Reason};
 use elf_types::Bytes;
 use qed_model::Limit;
+use qed_words::{Order, Reason};
 use report::{told_text, usage_text};
 use std::alloc::{AllocError, Global};
 
@@ -62,7 +62,7 @@ pub fn answer_order(
     alloc: Global,
     order: Order,
     bytes: Bytes,
-    progress: &dyn Progress,
+    progress: &mut dyn Progress,
 ) -> Result<Answer, AllocError>
     requires sound { IsSoundOrder order }
     requires one { reads_several order ≡ false }

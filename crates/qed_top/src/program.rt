@@ -4,7 +4,7 @@ ghost use Rattle.std.specs.IoError.{error_kind};
 ghost use Rattle.std.specs.Vec.Iter.{into_iter_items};
 ghost use Rattle.std.specs.Process.{exit_status};
 ghost use Rattle.qed_top.specs.Codes.{status_code};
-ghost use Rattle.command_line.specs.Words.{texts};
+ghost use Rattle.qed_words.specs.Words.{texts};
 ghost use Rattle.qed_top.specs.Program.{words_after, Exits, ExitsUntold};
 
 use crate::status::Status;
@@ -57,7 +57,7 @@ pub fn exit_code<S: Shelf, K: Sink>(
     arguments: io::Result<Args>,
     shelf: &mut S,
     out: &mut K,
-    progress: &dyn Progress,
+    progress: &mut dyn Progress,
 ) -> ExitCode
     ensures exits { Exits (record {
       words = words_after arguments;
@@ -92,7 +92,13 @@ pub fn run_program(rt: &HostRuntime) -> ExitCode
     let alloc = rt.alloc();
     let mut shelf = DirShelf::new(alloc, rt);
     let mut out = Heard::over(alloc, StdSink::new(rt));
-    let code = exit_code(alloc, env::args(rt), &mut shelf, &mut out, &Ticker::of(rt));
+    let code = exit_code(
+        alloc,
+        env::args(rt),
+        &mut shelf,
+        &mut out,
+        &mut Ticker::of(rt),
+    );
     if let Ok(words) = words_of(alloc, env::args(rt)) {
         complain(rt, &rt.stderr(), &words, &code, shelf.last_error, &out);
     }

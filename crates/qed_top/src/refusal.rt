@@ -1,8 +1,8 @@
 //! Answers for files that are refused, or above a limit.
 ghost use Rattle.std.specs.Prelude.{◌≡◌, ◌≢◌, IfOk, OnOk};
-ghost use Rattle.command_line.specs.Text.Errors.{error_line};
+ghost use Rattle.qed_words.specs.Text.Errors.{error_line};
 ghost use Rattle.qed_top.specs.Answer.{PrintsOnly};
-ghost use Rattle.qed_model.specs.Admission.Ends.{HasEnds};
+ghost use Rattle.tests.specs.Admission.Ends.{HasEnds};
 ghost use Rattle.report.specs.Admission.{admit_line};
 ghost use Rattle.qed_top.specs.Refused.{TellsEnds, admit_status, error_status, refusal_line, refusal_status};
 

@@ -1,12 +1,12 @@
 //! What `run` answers.
 ghost use Rattle.std.specs.Option.{option_copied};
 ghost use Rattle.std.specs.Prelude.{◌≡◌, ◌*◌, ◌^◌, ◌≤◌, ℕ, ◌==◌, ◌&&◌, IfOk, OnOk, MatchOption, string_bytes};
-ghost use Rattle.qed_model.specs.Sets.{has_address};
+ghost use Rattle.machine.specs.Sets.{has_address};
 ghost use Rattle.flow_recovery.specs.Sets.{lists, Adds};
-ghost use Rattle.qed_model.specs.Machine.Loading.{load_segments, loaded_file};
-ghost use Rattle.qed_model.specs.Machine.Apart.{AllFitMemory, AreApart};
-ghost use Rattle.qed_model.specs.Machine.Program.{start, zeros};
-ghost use Rattle.qed_model.specs.Machine.Progress.{begun};
+ghost use Rattle.machine.specs.Loading.{load_segments, loaded_file};
+ghost use Rattle.machine.specs.Apart.{AllFitMemory, AreApart};
+ghost use Rattle.machine.specs.Program.{start, zeros};
+ghost use Rattle.machine.specs.Progress.{begun};
 ghost use Rattle.qed_model.specs.Promise.Changed.{Ordered};
 ghost use Rattle.qed_top.specs.Run.{FileRuns, IsAboveMemory, RunsAs, is_reached_word, jumps_of, memory_bytes, memory_limit, outcome_status, run_of};
 ghost use Rattle.qed_words.specs.Sound.{IsSoundRun};
@@ -104,7 +104,7 @@ fn run_machine(
     test: Option<&Test>,
     steps: u64,
     changes: &[Change],
-    progress: &dyn Progress,
+    progress: &mut dyn Progress,
 ) -> Result<String, AllocError>
     requires begun { machine.now ≡ begun (start (loaded_file file.now) zeros) }
     requires sound { Ordered changes.now }
@@ -132,7 +132,7 @@ fn answer_file(
     steps: u64,
     changes: &[Change],
     dump: Option<(u64, u64)>,
-    progress: &dyn Progress,
+    progress: &mut dyn Progress,
 ) -> Result<Answer, AllocError>
     requires fit { AllFitMemory (load_segments file.now.segments) }
     requires apart { AreApart (load_segments file.now.segments) }
@@ -156,7 +156,7 @@ pub fn answer_run(
     changes: &[Change],
     dump: Option<(u64, u64)>,
     reached: bool,
-    progress: &dyn Progress,
+    progress: &mut dyn Progress,
 ) -> Result<Answer, AllocError>
     requires { IsSoundRun steps changes.now dump }
     ensures { IfOk result (RunsAs reached bytes.now steps changes.now dump) }

@@ -1,7 +1,6 @@
 //! How far a campaign or a run is, for a person.
 
 use campaign::Progress;
-use std::cell::Cell;
 use std::io::{Eprint, IsTerminal};
 use std::time::Instant;
 
@@ -11,8 +10,11 @@ use std::time::Instant;
 pub(crate) struct Ticker<'a> {
     rt: &'a HostRuntime,
     start: Option<Instant>,
-    /// For how many seconds it was told.
-    told: Cell<u64>,
+    /// For how many seconds it was told,
+    seconds: u64,
+    /// how many parts are done, and of how many.
+    done: u64,
+    all: u64,
 }
 
 impl<'a> Ticker<'a> {
@@ -26,12 +28,14 @@ impl<'a> Ticker<'a> {
         Ticker {
             rt,
             start,
-            told: Cell::new(0),
+            seconds: 0,
+            done: 0,
+            all: 0,
         }
     }
 
     /// For how many seconds there is something to tell.
-    fn seconds(&self) -> u64 {
+    fn seconds_now(&self) -> u64 {
         match self.start.map(|start| start.elapsed(self.rt)) {
             Some(Ok(time)) => time.as_secs(),
             _ => 0,
@@ -40,12 +44,23 @@ impl<'a> Ticker<'a> {
 }
 
 impl Progress for Ticker<'_> {
-    fn tell(&self, done: u64, all: u64) {
-        let seconds = self.seconds();
-        if done == all && self.told.get() > 0 {
+    ghost told = { λ t. t.done };
+
+    ghost all = { λ t. t.all };
+
+    fn begin(&mut self, parts: u64) {
+        self.done = 0;
+        self.all = parts;
+    }
+
+    fn tell(&mut self, done: u64) {
+        self.done = done;
+        let all = self.all;
+        let seconds = self.seconds_now();
+        if done == all && self.seconds > 0 {
             let _ = self.rt.eprint("\x1b[K");
-        } else if seconds > self.told.get() {
-            self.told.set(seconds);
+        } else if seconds > self.seconds {
+            self.seconds = seconds;
             let _ = self.rt.eprint(format_args!("qed: {done} of {all} done\r"));
         }
     }

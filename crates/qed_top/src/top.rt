@@ -1,5 +1,5 @@
 //! The top call.
-ghost use Rattle.command_line.specs.Words.{texts};
+ghost use Rattle.qed_words.specs.Words.{texts};
 ghost use Rattle.qed_top.specs.Headline.{Answers};
 
 use crate::answer::carry_out;
@@ -17,7 +17,7 @@ pub fn qed<S: Shelf, K: Sink>(
     words: &[String],
     shelf: &mut S,
     out: &mut K,
-    progress: &dyn Progress,
+    progress: &mut dyn Progress,
 ) -> Status
     // The headline: after `transform IN OUT` with Done, IN is a test and OUT a program whose runs keep its values and in which
     // changes are caught. Then why each status comes, with what was stored and printed; and which one comes with no fault.

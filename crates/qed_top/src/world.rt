@@ -6,12 +6,12 @@ ghost use Rattle.harts.specs.Played.{programs};
 ghost use Rattle.harts.specs.Shared.{AreSound};
 ghost use Rattle.qed_io.specs.Counts.{RoseAt, NoneFell};
 ghost use Rattle.qed_io.specs.Files.{file_bytes};
-ghost use Rattle.qed_model.specs.Below.{each};
-ghost use Rattle.elf_files.specs.File.{IsReadAs};
-ghost use Rattle.qed_model.specs.Limits.{limit_of};
-ghost use Rattle.qed_model.specs.declared.limits.Limit.TheVariants.{RunFileBytes};
-ghost use Rattle.qed_model.specs.Machine.Apart.{AllFitMemory, AreApart};
-ghost use Rattle.qed_model.specs.Machine.Loading.{load_segments};
+ghost use Rattle.machine.specs.Below.{each};
+ghost use Rattle.tests.specs.Files.File.{IsReadAs};
+ghost use Rattle.machine.specs.Limits.{limit_of};
+ghost use Rattle.machine.specs.declared.limits.Limit.TheVariants.{RunFileBytes};
+ghost use Rattle.machine.specs.Apart.{AllFitMemory, AreApart};
+ghost use Rattle.machine.specs.Loading.{load_segments};
 ghost use Rattle.qed_words.specs.Sound.{IsSoundSchedule};
 ghost use Rattle.qed_top.specs.Answer.{CallsFor, ShelfSteady, SteadyOrReadFault};
 ghost use Rattle.qed_top.specs.Loads.{OverFiles, OverLoads};
@@ -25,13 +25,13 @@ use crate::load::read_file;
 use crate::refusal::unread;
 use crate::run::memory_size;
 use crate::status::Status;
-use command_line::Name;
 use elf_read::read_elf;
 use elf_types::{Bytes, ElfFile};
 use harts::{HartsError, World};
 use qed_io::Shelf;
 use qed_model::Limit;
 use qed_model::limits::MAX_MEMORY_BYTES;
+use qed_words::Name;
 use report::{shared_text, world_text};
 use std::alloc::{AllocError, Global};
 
@@ -74,7 +74,7 @@ fn listed(alloc: Global, harts: &[u8]) -> Result<Vec<u64>, AllocError>
 }
 
 /// The numbers below `count`.
-#[tactic(auto, unfolding(qed_model::specs::Below::each))]
+#[tactic(auto, unfolding(machine::specs::Below::each))]
 fn numbers(alloc: Global, count: usize) -> Result<Vec<u64>, AllocError>
     ensures { IfOk result (λ numbers. numbers.items ≡ each count (λ i. i)) }
 {

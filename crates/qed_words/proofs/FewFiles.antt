@@ -5,11 +5,11 @@ use Rattle.std.proofs.lemmas.List.{append-nil, length-append}
 use Rattle.std.proofs.lemmas.List.Elements.{filter_map-append}
 use Rattle.std.specs.Prelude.{Option, Some, None, filter_map, if◌then◌else◌}
 use Rattle.std.specs.Option.{option_or}
-use Rattle.command_line.specs.declared.order.Command.{Command}
-use Rattle.command_line.specs.declared.order.Reason.{Reason}
-use Rattle.command_line.specs.declared.order.Reason.TheVariants.{ExtraWord}
-use Rattle.command_line.specs.Tables.{row_of}
-use Rattle.command_line.specs.Words.{Argument, Empty, Unknown, Given, File, files, first_wrong, name_in, wrong}
+use Rattle.qed_words.specs.declared.orders.Command.{Command}
+use Rattle.qed_words.specs.declared.orders.Reason.{Reason}
+use Rattle.qed_words.specs.declared.orders.Reason.TheVariants.{ExtraWord}
+use Rattle.qed_words.specs.Tables.{row_of}
+use Rattle.qed_words.specs.Words.{Argument, Empty, Unknown, Given, File, files, first_wrong, name_in, wrong}
 
 -- how many files arguments have with one more
 more_files : (before : List Argument) (a : Argument) → length (files (before ++ a ∷ [])) ≡ length (files before) + length (filter_map name_in (a ∷ []))

@@ -7,26 +7,26 @@ use Rattle.std.specs.Char.{digit_value}
 use Rattle.std.specs.List.{list_all, AllByRecursion}
 use Rattle.std.proofs.lemmas.Bool.{and_parts}
 use Rattle.std.proofs.lemmas.List.Elements.{All-from_recursion}
-use Rattle.qed_model.specs.declared.limits.TheConstants.{MAX_HALF}
-use Rattle.command_line.specs.declared.order.Command.{Command}
-use Rattle.command_line.specs.declared.order.Command.TheVariants.{Transform, Plan, Explain, Run, Campaign, Gen, Asm, Harts, Help, Version}
-use Rattle.command_line.specs.declared.order.Command.TheVariants as command
-use Rattle.command_line.specs.declared.order.Order.{Order}
-use Rattle.command_line.specs.declared.order.Key.{Key}
-use Rattle.command_line.specs.declared.order.Key.TheVariants.{InstMin, InstMax, Round, Half, Every, Lean, Steps, Fault, Dump, Seed, Count, Size, Changes, Only, From, To, Turns, At, Results}
-use Rattle.command_line.specs.declared.order.Reason.{Reason}
-use Rattle.command_line.specs.declared.order.Reason.TheVariants.{MissingFile, MissingOption, OutOfRange, Split, FewSteps}
+use Rattle.machine.specs.declared.limits.TheConstants.{MAX_HALF}
+use Rattle.qed_words.specs.declared.orders.Command.{Command}
+use Rattle.qed_words.specs.declared.orders.Command.TheVariants.{Transform, Plan, Explain, Run, Campaign, Gen, Asm, Harts, Help, Version}
+use Rattle.qed_words.specs.declared.orders.Command.TheVariants as command
+use Rattle.qed_words.specs.declared.orders.Order.{Order}
+use Rattle.qed_words.specs.declared.orders.Key.{Key}
+use Rattle.qed_words.specs.declared.orders.Key.TheVariants.{InstMin, InstMax, Round, Half, Every, Lean, Steps, Fault, Dump, Seed, Count, Size, Changes, Only, From, To, Turns, At, Results}
+use Rattle.qed_words.specs.declared.orders.Reason.{Reason}
+use Rattle.qed_words.specs.declared.orders.Reason.TheVariants.{MissingFile, MissingOption, OutOfRange, Split, FewSteps}
 use Rattle.qed_model.specs.Promise.Changed.{Ordered}
-use Rattle.qed_model.specs.Weave.Places.{AreSoundOptions}
+use Rattle.qed_model.specs.Weave.SoundOptions.{AreSoundOptions}
 use Rattle.qed_model.specs.Weave.Bounds.{cost_of, entry_steps}
-use Rattle.qed_model.specs.Options.{default_options}
-use Rattle.qed_model.specs.declared.options.Options.{Options}
-use Rattle.qed_model.specs.declared.options.Entries.{Entries}
-use Rattle.qed_model.specs.declared.options.Entries.TheVariants as entry
-use Rattle.command_line.specs.Tables.{option_of, weave, row_of, command_of}
-use Rattle.command_line.specs.Words.{Argument, asked, asked_of, answer, fault, first_wrong, span_in, arguments, dump, files, first_reason, first_wrong_value, is_in_range, lacks, missing, number_given, lean_options, usual_options, options, order_of, reason_of, span_of, split_reason, missing_lean, block_steps, misfit, lean_reason, window_reason, topic_reason, value_of, values, wrong_number, wrong_value, wrong_values, changes_given, draws, is_digit, steps_given, turns, wrong_turns}
+use Rattle.tests.specs.Options.{default_options}
+use Rattle.tests.specs.declared.options.Options.{Options}
+use Rattle.tests.specs.declared.options.Entries.{Entries}
+use Rattle.tests.specs.declared.options.Entries.TheVariants as entry
+use Rattle.qed_words.specs.Tables.{option_of, weave, row_of, command_of}
+use Rattle.qed_words.specs.Words.{Argument, asked, asked_of, answer, fault, first_wrong, span_in, arguments, dump, files, first_reason, first_wrong_value, is_in_range, lacks, missing, number_given, lean_options, usual_options, options, order_of, reason_of, span_of, split_reason, missing_lean, block_steps, misfit, lean_reason, window_reason, topic_reason, value_of, values, wrong_number, wrong_value, wrong_values, changes_given, draws, is_digit, steps_given, turns, wrong_turns}
 use Rattle.texts.specs.Read.{colon, parted, number}
-use Rattle.qed_model.proofs.InOrder.{in_order_ordered}
+use Rattle.qed_model.proofs.Lemmas.{in_order_ordered}
 use Rattle.qed_words.specs.Sound.{IsSoundOrder}
 use Rattle.qed_words.proofs.FewFiles.{few_files, neither, said_first}
 

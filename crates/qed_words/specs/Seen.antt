@@ -1,5 +1,5 @@
 -- The arguments of the code, as those of the definition.
-use Rattle.command_line.specs.Words as defined
+use Rattle.qed_words.specs.Words as defined
 use Rattle.qed_words.specs.declared.argument.Argument.{Argument}
 use Rattle.qed_words.specs.declared.argument.Argument.TheVariants as argument
 

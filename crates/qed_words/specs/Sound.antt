@@ -1,11 +1,11 @@
 -- What the calls that carry out an order ask of it.
 use Rattle.std.specs.Prelude.{ℕ, ◌+◌, ◌^◌, ◌≤◌, ◌<◌, List, Option, IfSome, All, length}
 use Rattle.qed_model.specs.declared.change.Change.{Change}
-use Rattle.command_line.specs.declared.order.Order.{Order}
-use Rattle.command_line.specs.declared.order.Order.TheVariants as order
-use Rattle.command_line.specs.declared.order.Order.TheVariants.{Transform, Plan, Explain, Run, Campaign, Gen, Asm, Harts, Tell}
+use Rattle.qed_words.specs.declared.orders.Order.{Order}
+use Rattle.qed_words.specs.declared.orders.Order.TheVariants as order
+use Rattle.qed_words.specs.declared.orders.Order.TheVariants.{Transform, Plan, Explain, Run, Campaign, Gen, Asm, Harts, Tell}
 use Rattle.qed_model.specs.Promise.Changed.{Ordered}
-use Rattle.qed_model.specs.Weave.Places.{AreSoundOptions}
+use Rattle.qed_model.specs.Weave.SoundOptions.{AreSoundOptions}
 
 -- the steps of changes do not fall, and a dump has 1 to 65,536 bytes, which end at 2^64 at most
 pub record IsSoundRun (steps : ℕ) (changes : List Change) (dump : Option (ℕ × ℕ)) : Type 0 where

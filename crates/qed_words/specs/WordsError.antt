@@ -1,6 +1,6 @@
 -- Why words give no order.
 use Rattle.std.specs.Prelude.{◌≡◌, ℕ, List, Err}
-use Rattle.command_line.specs.Words.{asked}
+use Rattle.qed_words.specs.Words.{asked}
 use Rattle.qed_words.specs.declared.error.WordsError.{WordsError}
 use Rattle.qed_words.specs.declared.error.WordsError.TheVariants.{Usage, Memory}
 

@@ -1,11 +1,11 @@
 //! What a word is.
 ghost use Rattle.std.specs.Prelude.{◌≡◌};
 ghost use Rattle.std.specs.Option.{option_copied};
-ghost use Rattle.command_line.specs.Tables.{option_of};
-ghost use Rattle.command_line.specs.Words.{behind_dashes as behind_dashes_of, is_flag as is_flag_of, valued as valued_of, takes_next as takes_next_of, key_argument as key_argument_of, option_argument as option_argument_of, argument as argument_of};
+ghost use Rattle.qed_words.specs.Tables.{option_of};
+ghost use Rattle.qed_words.specs.Words.{behind_dashes as behind_dashes_of, is_flag as is_flag_of, valued as valued_of, takes_next as takes_next_of, key_argument as key_argument_of, option_argument as option_argument_of, argument as argument_of};
 ghost use Rattle.qed_words.specs.Seen.{seen};
 
-use command_line::{Command, Key, Value};
+use crate::{Command, Key, Value};
 use texts::split_once;
 
 /// An argument, with the number of its word.
@@ -20,7 +20,7 @@ pub enum Argument<'a> {
 }
 
 /// What stands behind `--`.
-#[tactic(auto, unfolding(command_line::specs::Words::behind_dashes))]
+#[tactic(auto, unfolding(crate::specs::Words::behind_dashes))]
 fn behind_dashes(word: &[u8]) -> Option<&[u8]>
     ensures { option_copied result ≡ behind_dashes_of word.now }
 {
@@ -46,7 +46,7 @@ fn valued(key: Option<Key>) -> Option<Key>
 }
 
 /// Whether the next word is this word's value.
-#[tactic(auto, unfolding(command_line::specs::Words::takes_next))]
+#[tactic(auto, unfolding(crate::specs::Words::takes_next))]
 pub fn takes_next(command: Command, word: &[u8]) -> bool
     ensures { result ≡ takes_next_of command word.now }
 {
@@ -85,7 +85,7 @@ fn option_argument<'a>(
 }
 
 /// What a word is, by its number and with the word behind it.
-#[tactic(auto, unfolding(command_line::specs::Words::argument))]
+#[tactic(auto, unfolding(crate::specs::Words::argument))]
 pub fn read_word<'a>(command: Command, number: u64, word: &'a str, next: &'a [u8]) -> Argument<'a>
     ensures { seen result ≡ argument_of command number word.now next.now }
 {

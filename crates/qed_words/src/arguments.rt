@@ -1,10 +1,10 @@
 //! What all words are.
 ghost use Rattle.std.specs.Prelude.{◌≡◌, false, map, IfOk};
-ghost use Rattle.command_line.specs.Words.{texts, arguments as arguments_of, first_text as first_text_of};
+ghost use Rattle.qed_words.specs.Words.{texts, arguments as arguments_of, first_text as first_text_of};
 ghost use Rattle.qed_words.specs.Seen.{seen};
 
+use crate::Command;
 use crate::argument::{Argument, read_word, takes_next};
-use command_line::Command;
 use std::alloc::{AllocError, Global};
 
 /// The first of some words, empty where there is none.

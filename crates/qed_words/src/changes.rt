@@ -1,13 +1,13 @@
 //! The changes that faults ask for.
 ghost use Rattle.std.specs.Prelude.{◌≡◌, IfOk, option_and_then, map};
-ghost use Rattle.command_line.specs.declared.order.Key.TheVariants as key;
-ghost use Rattle.command_line.specs.Words.{fault as fault_of, value_in as value_in_of, changes_given};
+ghost use Rattle.qed_words.specs.declared.orders.Key.TheVariants as key;
+ghost use Rattle.qed_words.specs.Words.{fault as fault_of, value_in as value_in_of, changes_given};
 ghost use Rattle.qed_words.specs.Seen.{seen};
 
+use crate::Key;
 use crate::argument::Argument;
 use crate::given::value_in;
 use crate::shape::fault;
-use command_line::Key;
 use qed_model::{Change, Changes, add_change};
 use std::alloc::{AllocError, Global};
 
@@ -19,7 +19,7 @@ fn change_in(argument: Argument<'_>) -> Option<Change>
 }
 
 /// The changes that arguments ask for, in the order of their steps and then of the words.
-#[tactic(auto, unfolding(command_line::specs::Words::values, command_line::specs::Words::changes_given))]
+#[tactic(auto, unfolding(crate::specs::Words::values, crate::specs::Words::changes_given))]
 pub fn changes(alloc: Global, arguments: &[Argument<'_>]) -> Result<Changes, AllocError>
     ensures { IfOk result (λ changes. changes ≡ changes_given (map seen arguments.now)) }
 {

@@ -2,7 +2,7 @@
 ghost use Rattle.std.specs.Prelude.{◌≡◌};
 ghost use Rattle.qed_words.specs.declared.error.WordsError.TheVariants as error;
 
-use command_line::Reason;
+use crate::Reason;
 use std::alloc::AllocError;
 use thiserror::Error;
 

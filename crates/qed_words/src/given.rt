@@ -1,11 +1,11 @@
 //! What was given.
 ghost use Rattle.std.specs.Prelude.{◌≡◌, map, length};
 ghost use Rattle.std.specs.Option.{option_copied};
-ghost use Rattle.command_line.specs.Words.{name_in as name_in_of, files, file as file_of, value_in as value_in_of, values, value_of, lacks as lacks_of, number_given as number_given_of, word_given as word_given_of};
+ghost use Rattle.qed_words.specs.Words.{name_in as name_in_of, files, file as file_of, value_in as value_in_of, values, value_of, lacks as lacks_of, number_given as number_given_of, word_given as word_given_of};
 ghost use Rattle.qed_words.specs.Seen.{seen};
 
 use crate::argument::Argument;
-use command_line::{Key, place_among};
+use crate::{Key, place_among};
 use texts::number;
 
 pub fn name_in<'a>(argument: Argument<'a>) -> Option<&'a str>
@@ -18,7 +18,7 @@ pub fn name_in<'a>(argument: Argument<'a>) -> Option<&'a str>
 }
 
 /// How many files were given.
-#[tactic(auto, unfolding(command_line::specs::Words::files))]
+#[tactic(auto, unfolding(crate::specs::Words::files))]
 pub fn count_files(arguments: &[Argument<'_>]) -> usize
     ensures { result ≡ length (files (map seen arguments.now)) }
 {
@@ -42,7 +42,7 @@ pub fn value_in<'a>(key: Key, argument: Argument<'a>) -> Option<&'a [u8]>
 }
 
 /// How often an option was given.
-#[tactic(auto, unfolding(command_line::specs::Words::values))]
+#[tactic(auto, unfolding(crate::specs::Words::values))]
 pub fn count_values(key: Key, arguments: &[Argument<'_>]) -> usize
     ensures { result ≡ length (values key (map seen arguments.now)) }
 {
@@ -56,7 +56,7 @@ pub fn count_values(key: Key, arguments: &[Argument<'_>]) -> usize
 }
 
 /// The first value that an option was given.
-#[tactic(auto, unfolding(command_line::specs::Words::values, command_line::specs::Words::value_of))]
+#[tactic(auto, unfolding(crate::specs::Words::values, crate::specs::Words::value_of))]
 pub fn first_value<'a>(key: Key, arguments: &[Argument<'a>]) -> Option<&'a [u8]>
     ensures { option_copied result ≡ value_of key (map seen arguments.now) }
 {
@@ -70,7 +70,7 @@ pub fn first_value<'a>(key: Key, arguments: &[Argument<'a>]) -> Option<&'a [u8]>
 }
 
 /// The number that an option was given.
-#[tactic(auto, unfolding(command_line::specs::Words::number_given))]
+#[tactic(auto, unfolding(crate::specs::Words::number_given))]
 pub fn number_given(key: Key, arguments: &[Argument<'_>]) -> Option<u64>
     ensures { result ≡ number_given_of key (map seen arguments.now) }
 {
@@ -78,7 +78,7 @@ pub fn number_given(key: Key, arguments: &[Argument<'_>]) -> Option<u64>
 }
 
 /// The place of the word that an option was given among its words.
-#[tactic(auto, unfolding(command_line::specs::Words::word_given))]
+#[tactic(auto, unfolding(crate::specs::Words::word_given))]
 pub fn word_given(key: Key, arguments: &[Argument<'_>]) -> Option<usize>
     ensures { result ≡ word_given_of key (map seen arguments.now) }
 {
@@ -86,7 +86,7 @@ pub fn word_given(key: Key, arguments: &[Argument<'_>]) -> Option<usize>
 }
 
 /// Whether an option was not given.
-#[tactic(auto, unfolding(command_line::specs::Words::lacks))]
+#[tactic(auto, unfolding(crate::specs::Words::lacks))]
 pub fn lacks(arguments: &[Argument<'_>], key: Key) -> bool
     ensures { result ≡ lacks_of (map seen arguments.now) key }
 {
@@ -94,7 +94,7 @@ pub fn lacks(arguments: &[Argument<'_>], key: Key) -> bool
 }
 
 /// The name of file number `place`, empty where there is none.
-#[tactic(auto, unfolding(command_line::specs::Words::files, command_line::specs::Words::file))]
+#[tactic(auto, unfolding(crate::specs::Words::files, crate::specs::Words::file))]
 pub fn file<'a>(arguments: &[Argument<'a>], place: usize) -> &'a str
     ensures { result.now ≡ file_of (map seen arguments.now) place }
 {

@@ -1,16 +1,17 @@
 //! Why arguments ask for no lean form.
 ghost use Rattle.std.specs.Prelude.{◌≡◌, map};
-ghost use Rattle.command_line.specs.Words.{missing_lean as missing_lean_of, block_steps as block_steps_of, misfit as misfit_of, lean_reason as lean_reason_of};
+ghost use Rattle.qed_words.specs.Words.{missing_lean as missing_lean_of, block_steps as block_steps_of, misfit as misfit_of, lean_reason as lean_reason_of};
 ghost use Rattle.qed_words.specs.Seen.{seen};
 
 use crate::argument::Argument;
 use crate::given::lacks;
 use crate::options::options;
-use command_line::{Key, Reason};
+use crate::{Key, Reason};
+use qed_model::steps::{LEAN_LEAVE_STEPS, entry_steps, instruction_steps};
 use qed_model::{Entries, Options};
 
 /// That an option of the lean form is given, and not the form.
-#[tactic(auto, unfolding(command_line::specs::Words::missing_lean))]
+#[tactic(auto, unfolding(crate::specs::Words::missing_lean))]
 pub fn missing_lean(arguments: &[Argument<'_>]) -> Option<Reason>
     ensures { result ≡ missing_lean_of (map seen arguments.now) }
 {
@@ -23,9 +24,8 @@ pub fn missing_lean(arguments: &[Argument<'_>]) -> Option<Reason>
 fn block_steps(options: &Options) -> u64
     ensures { result ≡ block_steps_of options.now }
 {
-    let cost = if options.diverse { 8 } else { 5 };
-    let entry = if options.land { 7 } else { 2 };
-    entry + 19 + cost * options.inst_max.min(1024)
+    let cost = instruction_steps(options.diverse);
+    entry_steps(options.land) + LEAN_LEAVE_STEPS + cost * options.inst_max.min(1024)
 }
 
 /// What is wrong with the entries, or with the steps from check to check, where a block has up to `most`.
@@ -39,7 +39,7 @@ fn misfit(entries: Entries, most: u64, every: u64) -> Option<Reason>
 }
 
 /// What is wrong with the options of the lean form, where it is asked for.
-#[tactic(auto, unfolding(command_line::specs::Words::lean_reason))]
+#[tactic(auto, unfolding(crate::specs::Words::lean_reason))]
 pub fn lean_reason(arguments: &[Argument<'_>]) -> Option<Reason>
     ensures { result ≡ lean_reason_of (map seen arguments.now) }
 {

@@ -1,12 +1,13 @@
 //! The options of a transformation.
 ghost use Rattle.std.specs.Prelude.{◌≡◌, ◌+◌, ◌/◌, map};
-ghost use Rattle.command_line.specs.Words.{entries as entries_of, usual_options as usual_options_of, options as options_of, is_split as is_split_of};
+ghost use Rattle.qed_words.specs.Words.{entries as entries_of, usual_options as usual_options_of, options as options_of, is_split as is_split_of};
 ghost use Rattle.qed_words.specs.Seen.{seen};
 
+use crate::Key;
 use crate::argument::Argument;
 use crate::given::{lacks, number_given, word_given};
-use command_line::Key;
 use qed_model::{Entries, Options};
+use tests::{LEAN_EVERY, LEAN_INST_MAX, LEAN_ROUND};
 
 /// Half of a number, rounded up: the greatest floor that leaves room.
 fn room(inst_max: u64) -> u64
@@ -27,7 +28,7 @@ fn entries(place: usize) -> Entries
 }
 
 /// The options where no other option says otherwise.
-#[tactic(auto, unfolding(command_line::specs::Words::usual_options))]
+#[tactic(auto, unfolding(crate::specs::Words::usual_options))]
 fn usual_options(arguments: &[Argument<'_>]) -> Options
     ensures { result ≡ usual_options_of (map seen arguments.now) }
 {
@@ -36,16 +37,16 @@ fn usual_options(arguments: &[Argument<'_>]) -> Options
         return default;
     }
     Options {
-        inst_max: 128,
-        round: 4,
+        inst_max: LEAN_INST_MAX,
+        round: LEAN_ROUND,
         entries: Entries::Reached,
-        lean: Some(1200),
+        lean: Some(LEAN_EVERY),
         ..default
     }
 }
 
 /// The options that arguments ask for.
-#[tactic(auto, unfolding(command_line::specs::Words::options))]
+#[tactic(auto, unfolding(crate::specs::Words::options))]
 pub fn options(arguments: &[Argument<'_>]) -> Options
     ensures { result ≡ options_of (map seen arguments.now) }
 {

@@ -1,6 +1,6 @@
 //! The first reason why arguments are no order.
 ghost use Rattle.std.specs.Prelude.{◌≡◌, map};
-ghost use Rattle.command_line.specs.Words.{split_reason as split_reason_of, is_empty as is_empty_of, window_reason as window_reason_of, topic_reason as topic_reason_of, reason_of};
+ghost use Rattle.qed_words.specs.Words.{split_reason as split_reason_of, is_empty as is_empty_of, window_reason as window_reason_of, topic_reason as topic_reason_of, reason_of};
 ghost use Rattle.qed_words.specs.Seen.{seen};
 
 use crate::argument::Argument;
@@ -9,9 +9,9 @@ use crate::lean::{lean_reason, missing_lean};
 use crate::options::{is_split, options};
 use crate::value::first_wrong_value;
 use crate::wrong::{first_wrong, missing};
-use command_line::{Command, Key, Reason};
+use crate::{Command, Key, Reason};
 
-#[tactic(auto, unfolding(command_line::specs::Words::split_reason))]
+#[tactic(auto, unfolding(crate::specs::Words::split_reason))]
 fn split_reason(arguments: &[Argument<'_>]) -> Option<Reason>
     ensures { result ≡ split_reason_of (map seen arguments.now) }
 {
@@ -29,7 +29,7 @@ fn is_empty(from: Option<u64>, to: Option<u64>) -> bool
 }
 
 /// That there is no step to strike in.
-#[tactic(auto, unfolding(command_line::specs::Words::window_reason))]
+#[tactic(auto, unfolding(crate::specs::Words::window_reason))]
 fn window_reason(arguments: &[Argument<'_>]) -> Option<Reason>
     ensures { result ≡ window_reason_of (map seen arguments.now) }
 {
@@ -41,7 +41,7 @@ fn window_reason(arguments: &[Argument<'_>]) -> Option<Reason>
 }
 
 /// That the word behind `help` names no command.
-#[tactic(auto, unfolding(command_line::specs::Words::topic_reason))]
+#[tactic(auto, unfolding(crate::specs::Words::topic_reason))]
 fn topic_reason(command: Command, arguments: &[Argument<'_>]) -> Option<Reason>
     ensures { result ≡ topic_reason_of command (map seen arguments.now) }
 {
@@ -55,7 +55,7 @@ fn topic_reason(command: Command, arguments: &[Argument<'_>]) -> Option<Reason>
 }
 
 /// The first reason why arguments are no order.
-#[tactic(auto, unfolding(command_line::specs::Words::reason_of))]
+#[tactic(auto, unfolding(crate::specs::Words::reason_of))]
 pub fn first_reason(command: Command, arguments: &[Argument<'_>]) -> Option<Reason>
     ensures { result ≡ reason_of command (map seen arguments.now) }
 {

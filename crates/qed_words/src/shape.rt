@@ -1,12 +1,12 @@
 //! The shapes of faults and dumps.
 ghost use Rattle.std.specs.Prelude.{◌≡◌};
-ghost use Rattle.command_line.specs.Words.{place as place_of, fault as fault_of, dump as dump_of};
+ghost use Rattle.qed_words.specs.Words.{place as place_of, fault as fault_of, dump as dump_of};
 
 use qed_model::{Change, Place};
 use texts::{number, register, split_once};
 
 /// A register, or the address of an aligned word.
-#[tactic(auto, unfolding(command_line::specs::Words::place))]
+#[tactic(auto, unfolding(crate::specs::Words::place))]
 fn place(text: &[u8]) -> Option<Place>
     ensures { result ≡ place_of text.now }
 {
@@ -21,7 +21,7 @@ fn place(text: &[u8]) -> Option<Place>
 }
 
 /// The change that a fault asks for: `STEP:PLACE=V`.
-#[tactic(auto, unfolding(command_line::specs::Words::fault))]
+#[tactic(auto, unfolding(crate::specs::Words::fault))]
 pub fn fault(text: &[u8]) -> Option<Change>
     ensures { result ≡ fault_of text.now }
 {
@@ -35,7 +35,7 @@ pub fn fault(text: &[u8]) -> Option<Change>
 }
 
 /// The address and the length of a dump: `ADDR:LEN`.
-#[tactic(auto, unfolding(command_line::specs::Words::dump))]
+#[tactic(auto, unfolding(crate::specs::Words::dump))]
 pub fn dump(text: &[u8]) -> Option<(u64, u64)>
     ensures { result ≡ dump_of text.now }
 {

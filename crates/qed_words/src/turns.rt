@@ -2,13 +2,13 @@
 ghost use Rattle.std.specs.Prelude.{◌≡◌, ◌&&◌, IfOk, map, length, nat_le, nat_lt, option_and_then};
 ghost use Rattle.std.specs.Char.{digit_value};
 ghost use Rattle.std.specs.List.{list_all};
-ghost use Rattle.command_line.specs.declared.order.Key.TheVariants as key;
-ghost use Rattle.command_line.specs.Words.{is_digit as is_digit_of, turns as turns_of, value_of, wrong_turns as wrong_turns_of};
+ghost use Rattle.qed_words.specs.declared.orders.Key.TheVariants as key;
+ghost use Rattle.qed_words.specs.Words.{is_digit as is_digit_of, turns as turns_of, value_of, wrong_turns as wrong_turns_of};
 ghost use Rattle.qed_words.specs.Seen.{seen};
 
 use crate::argument::Argument;
 use crate::given::first_value;
-use command_line::{Key, Reason};
+use crate::{Key, Reason};
 use elf_types::Bytes;
 use std::alloc::{AllocError, Global};
 
@@ -45,7 +45,7 @@ fn are_turns(text: &[u8]) -> bool
 }
 
 /// What is wrong with turns, where there are `count` files.
-#[tactic(auto, unfolding(command_line::specs::Words::turns))]
+#[tactic(auto, unfolding(crate::specs::Words::turns))]
 pub fn wrong_turns(count: usize, text: &[u8]) -> Option<Reason>
     ensures { result ≡ wrong_turns_of count (turns_of text.now) }
 {
@@ -63,7 +63,7 @@ fn digits(alloc: Global, text: &[u8]) -> Result<Vec<u8>, AllocError>
 }
 
 /// The harts that make the turns, by their numbers.
-#[tactic(auto, unfolding(command_line::specs::Words::turns))]
+#[tactic(auto, unfolding(crate::specs::Words::turns))]
 fn turns(alloc: Global, text: &[u8]) -> Result<Option<Bytes>, AllocError>
     ensures { IfOk result (λ harts. harts ≡ turns_of text.now) }
 {

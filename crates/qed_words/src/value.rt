@@ -1,13 +1,14 @@
 //! What is wrong with a value.
 ghost use Rattle.std.specs.Prelude.{◌≡◌, map};
-ghost use Rattle.command_line.specs.Words.{is_in_range as is_in_range_of, wrong_number as wrong_number_of, wrong_value as wrong_value_of, wrong_values as wrong_values_of, first_wrong_value as first_wrong_value_of};
+ghost use Rattle.qed_words.specs.Words.{is_in_range as is_in_range_of, wrong_number as wrong_number_of, wrong_value as wrong_value_of, wrong_values as wrong_values_of, first_wrong_value as first_wrong_value_of};
 ghost use Rattle.qed_words.specs.Seen.{seen};
 
 use crate::argument::Argument;
 use crate::given::{count_files, value_in};
 use crate::shape::{dump, fault};
 use crate::turns::wrong_turns;
-use command_line::{Command, Key, Reason, Value, place_among};
+use crate::{Command, Key, Reason, Value, place_among};
+use rv_isa::profile::PAGE;
 use texts::number;
 
 /// Whether a number may be the value of an option.
@@ -16,7 +17,7 @@ fn is_in_range(value: Value, number: u64) -> bool
 {
     match value {
         Value::Number(least, most) => least <= number && number <= most,
-        Value::Pages(most) => number % 4096 == 0 && (4096 <= number && number <= most),
+        Value::Pages(most) => number % PAGE == 0 && (PAGE <= number && number <= most),
         _ => true,
     }
 }
@@ -33,7 +34,7 @@ fn wrong_number(key: Key, number: Option<u64>) -> Option<Reason>
 }
 
 /// What is wrong with an option's value, where there are `count` files.
-#[tactic(auto, unfolding(command_line::specs::Words::wrong_value))]
+#[tactic(auto, unfolding(crate::specs::Words::wrong_value))]
 fn wrong_value(count: usize, key: Key, text: &[u8]) -> Option<Reason>
     ensures { result ≡ wrong_value_of count key text.now }
 {
@@ -50,7 +51,7 @@ fn wrong_value(count: usize, key: Key, text: &[u8]) -> Option<Reason>
 }
 
 /// What is wrong with the first value of an option of which something is.
-#[tactic(auto, unfolding(command_line::specs::Words::values, command_line::specs::Words::wrong_values))]
+#[tactic(auto, unfolding(crate::specs::Words::values, crate::specs::Words::wrong_values))]
 fn wrong_values(arguments: &[Argument<'_>], key: Key) -> Option<Reason>
     ensures { result ≡ wrong_values_of (map seen arguments.now) key }
 {
@@ -67,7 +68,7 @@ fn wrong_values(arguments: &[Argument<'_>], key: Key) -> Option<Reason>
 }
 
 /// What is wrong with the values of the first option, in the command's order, of which something is.
-#[tactic(auto, unfolding(command_line::specs::Words::first_wrong_value))]
+#[tactic(auto, unfolding(crate::specs::Words::first_wrong_value))]
 pub fn first_wrong_value(command: Command, arguments: &[Argument<'_>]) -> Option<Reason>
     ensures { result ≡ first_wrong_value_of command (map seen arguments.now) }
 {

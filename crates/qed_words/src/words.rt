@@ -1,8 +1,8 @@
 //! The order that words ask for.
 ghost use Rattle.std.specs.Prelude.{◌≡◌, Ok, IfOk, IfErr, map, option_and_then};
-ghost use Rattle.command_line.specs.declared.order.Key.TheVariants as key;
-ghost use Rattle.command_line.specs.Tables.{command_of};
-ghost use Rattle.command_line.specs.Words.{texts, dump as dump_of, places as places_of, draws as draws_of, value_of, file as file_of, files, steps_given as steps_given_of, topic_of, order_of, asked};
+ghost use Rattle.qed_words.specs.declared.orders.Key.TheVariants as key;
+ghost use Rattle.qed_words.specs.Tables.{command_of};
+ghost use Rattle.qed_words.specs.Words.{texts, dump as dump_of, places as places_of, draws as draws_of, value_of, file as file_of, files, steps_given as steps_given_of, topic_of, order_of, asked};
 ghost use Rattle.qed_words.specs.Seen.{seen};
 ghost use Rattle.qed_words.specs.Sound.{IsSoundOrder};
 ghost use Rattle.qed_words.specs.WordsError.{Explains};
@@ -16,7 +16,7 @@ use crate::options::options;
 use crate::reason::first_reason;
 use crate::shape::dump;
 use crate::turns::turns_given;
-use command_line::{Command, Key, Name, Names, Order, Reason, Topic};
+use crate::{Command, Key, Name, Names, Order, Reason, Topic};
 use qed_model::{Aim, Draws, Places};
 use std::alloc::{AllocError, Global};
 
@@ -31,7 +31,7 @@ fn name(alloc: Global, arguments: &[Argument<'_>], place: usize) -> Result<Name,
 }
 
 /// The names of all files, in the order of the words.
-#[tactic(auto, unfolding(command_line::specs::Words::files))]
+#[tactic(auto, unfolding(crate::specs::Words::files))]
 pub fn names(alloc: Global, arguments: &[Argument<'_>]) -> Result<Names, AllocError>
     ensures { IfOk result (λ names. names ≡ files (map seen arguments.now)) }
 {
@@ -45,7 +45,7 @@ pub fn names(alloc: Global, arguments: &[Argument<'_>]) -> Result<Names, AllocEr
 }
 
 /// The greatest number of steps, or of turns.
-#[tactic(auto, unfolding(command_line::specs::Words::steps_given))]
+#[tactic(auto, unfolding(crate::specs::Words::steps_given))]
 fn steps_given(arguments: &[Argument<'_>]) -> u64
     ensures { result ≡ steps_given_of (map seen arguments.now) }
 {
@@ -71,7 +71,7 @@ fn places(place: usize) -> Places
 }
 
 /// The strikes that arguments ask for.
-#[tactic(auto, unfolding(command_line::specs::Words::draws))]
+#[tactic(auto, unfolding(crate::specs::Words::draws))]
 fn draws(arguments: &[Argument<'_>]) -> Draws
     ensures { result ≡ draws_of (map seen arguments.now) }
 {
@@ -98,7 +98,7 @@ fn topic_given(arguments: &[Argument<'_>]) -> Topic
 }
 
 /// The order that arguments ask for, where nothing is wrong with them.
-#[tactic(auto, unfolding(command_line::specs::Words::order_of))]
+#[tactic(auto, unfolding(crate::specs::Words::order_of))]
 fn make_order(
     alloc: Global,
     command: Command,
@@ -145,7 +145,7 @@ fn make_order(
 }
 
 /// What the words of the command line ask for. The first word names the command.
-#[tactic(auto, unfolding(command_line::specs::Words::asked))]
+#[tactic(auto, unfolding(crate::specs::Words::asked))]
 pub fn order(alloc: Global, words: &[String]) -> Result<Order, WordsError>
     ensures order { IfOk result (λ order. asked (texts words.now) ≡ Ok order) }
     ensures sound { IfOk result IsSoundOrder }

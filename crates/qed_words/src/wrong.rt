@@ -1,11 +1,11 @@
 //! What is wrong with words, and what is missing.
 ghost use Rattle.std.specs.Prelude.{◌≡◌, [], map};
-ghost use Rattle.command_line.specs.Words.{is_value as is_value_of, wrong as wrong_of, first_wrong as first_wrong_of, missing as missing_of};
+ghost use Rattle.qed_words.specs.Words.{is_value as is_value_of, wrong as wrong_of, first_wrong as first_wrong_of, missing as missing_of};
 ghost use Rattle.qed_words.specs.Seen.{seen};
 
 use crate::argument::{Argument, is_flag};
 use crate::given::{count_files, count_values, lacks};
-use command_line::{Command, Reason};
+use crate::{Command, Reason};
 
 fn is_value(value: &[u8]) -> bool
     ensures { result ≡ is_value_of value.now }
@@ -14,7 +14,7 @@ fn is_value(value: &[u8]) -> bool
 }
 
 /// What is wrong with an argument, where those before it are known.
-#[tactic(auto, unfolding(command_line::specs::Words::wrong))]
+#[tactic(auto, unfolding(crate::specs::Words::wrong))]
 fn wrong(command: Command, before: &[Argument<'_>], argument: Argument<'_>) -> Option<Reason>
     ensures { result ≡ wrong_of command (map seen before.now) (seen argument.entry) }
 {
@@ -48,7 +48,7 @@ pub fn first_wrong(command: Command, arguments: &[Argument<'_>]) -> Option<Reaso
 }
 
 /// What is missing: a file, or else the first option that must be given.
-#[tactic(auto, unfolding(command_line::specs::Words::missing))]
+#[tactic(auto, unfolding(crate::specs::Words::missing))]
 pub fn missing(command: Command, arguments: &[Argument<'_>]) -> Option<Reason>
     ensures { result ≡ missing_of command (map seen arguments.now) }
 {

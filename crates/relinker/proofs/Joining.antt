@@ -4,8 +4,7 @@ use Rattle.qed_model.specs.declared.item.Item.{Item}
 use Rattle.qed_model.specs.declared.item.Item.TheVariants.{Mark, Plain, Constant, Go}
 use Rattle.qed_model.specs.declared.plan.EntryRow.{EntryRow}
 use Rattle.qed_model.specs.Weave.Placed.{go_size, sum_of_sizes, rows_from}
-use Rattle.qed_model.proofs.Placing.{instructions_from-append}
-use Rattle.qed_model.proofs.PlacedWords.{size-append}
+use Rattle.qed_model.proofs.Lemmas.{instructions_from-append, size-append}
 use Rattle.relinker.specs.Joined.{PartsJoin}
 
 elsewhere : (far : Bool) (rows : List EntryRow) (a b : ℕ) (ys : List Item) → a ≡ b → rows ++ rows_from far a ys ≡ rows ++ rows_from far b ys

@@ -6,10 +6,9 @@ use Rattle.std.specs.List.{list_all}
 use Rattle.std.proofs.lemmas.Bool.{and_parts}
 use Rattle.std.proofs.lemmas.List.{map-append, append_assoc, append-nil}
 use Rattle.std.proofs.lemmas.List.Folds.{list_all-append}
-use Rattle.rv_isa.specs.declared.kind.Kind.TheVariants.{Illegal}
 use Rattle.qed_model.specs.declared.item.Item.{Item}
 use Rattle.qed_model.specs.declared.plan.EntryRow.{EntryRow}
-use Rattle.qed_model.specs.Machine.Table.{ins, decode_of}
+use Rattle.machine.specs.Table.{ins, decode_of, Illegal}
 use Rattle.qed_model.specs.Weave.Placed.{sum_of_sizes, rows_from, instructions_from, leads_to, EntriesAscend}
 use Rattle.relinker.specs.declared.count.Count.{Count}
 use Rattle.relinker.specs.declared.error.LinkError.{LinkError}

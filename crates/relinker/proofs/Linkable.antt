@@ -3,12 +3,11 @@ use Rattle.std.proofs.Common.{◌≡◌, ℕ, ◌^◌, ◌<◌, suc, true, List,
 use Rattle.std.specs.Prelude.{◌&&◌, get_or, slice_index, is_some, AllPairs}
 use Rattle.std.specs.List.{list_all}
 use Rattle.std.proofs.Math.ListN.{get_or-map, length-map}
-use Rattle.rv_isa.specs.declared.ins.Ins.{Ins}
 use Rattle.qed_model.specs.declared.plan.EntryRow.{EntryRow}
-use Rattle.qed_model.specs.Machine.Table.{decode_of}
+use Rattle.machine.specs.Table.{decode_of, Ins}
 use Rattle.qed_model.specs.Weave.Placed.{Decode, EntriesAscend}
 use Rattle.qed_model.specs.Weave.Sequences.{Block, Falls}
-use Rattle.qed_model.proofs.Tables.{encode_decode}
+use Rattle.machine.proofs.Lemmas.{encode_decode}
 use Rattle.relinker.specs.Link.{is_encoded}
 
 -- the instructions of words have words

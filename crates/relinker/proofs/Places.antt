@@ -7,13 +7,13 @@ use Rattle.std.proofs.lemmas.List.{map-append}
 use Rattle.std.proofs.lemmas.List.Folds.{list_all-append}
 use Rattle.std.proofs.lemmas.Grind.{common_steps}
 use Rattle.std.proofs.lemmas.Bool.Decides.{nat_tests}
-use Rattle.rv_isa.specs.declared.kind.Kind.TheVariants.{Illegal, Auipc, Addi}
 use Rattle.qed_model.specs.declared.item.Item.{Item}
 use Rattle.qed_model.specs.declared.item.Item.TheVariants.{Mark, Plain, Constant, Go}
-use Rattle.qed_model.specs.Machine.Table.{ins, decode_of}
+use Rattle.machine.specs.Table.{ins, decode_of, Illegal, Auipc, Addi}
 use Rattle.qed_model.specs.Weave.Sequences.{stub}
-use Rattle.qed_model.specs.Weave.Placed.{go_size, sum_of_sizes, entry_at, entry_of, rows_from, distance_between, upper_part, lower_part, go_words, instructions_from, placed, Decode, leads_to}
-use Rattle.qed_model.proofs.Placing.{instructions_from-append}
+use Rattle.qed_model.specs.Weave.Placed.{go_size, sum_of_sizes, entry_at, entry_of, rows_from, go_words, instructions_from, placed, Decode, leads_to}
+use Rattle.machine.specs.Offsets.{distance_between, upper_part, lower_part}
+use Rattle.qed_model.proofs.Lemmas.{instructions_from-append}
 use Rattle.relinker.specs.Link.{is_low, is_encoded, moved}
 
 -- the stub has no mark

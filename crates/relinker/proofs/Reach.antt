@@ -3,9 +3,8 @@ use Rattle.std.proofs.Common.{◌≡◌, ℕ, ◌+◌, ◌*◌, ◌/◌, ◌-◌
 use Rattle.std.specs.Prelude.{ℤ, pos, negsuc, ◌≤ℤ◌, is_some}
 use Rattle.std.proofs.lemmas.Bool.{ltb-true, and_parts, false≢true}
 use Rattle.std.proofs.lemmas.Int.{ints}
-use Rattle.rv_isa.specs.declared.kind.Kind.TheVariants.{Auipc}
-use Rattle.qed_model.specs.Machine.Table.{ins, encode_of, word_of, some_if, is_reg, fits_signed}
-use Rattle.qed_model.specs.Weave.Placed.{upper_part}
+use Rattle.machine.specs.Table.{ins, encode_of, word_of, some_if, is_reg, fits_signed, Auipc}
+use Rattle.machine.specs.Offsets.{upper_part}
 use Rattle.relinker.specs.Link.{is_encoded}
 
 -- what is given where a test holds

@@ -1,8 +1,7 @@
 -- Lists of words.
 use Rattle.std.proofs.Common.{ℕ, zero, suc, ◌^◌, ◌<◌, List, [], ◌∷◌, ◌++◌, refl, arith}
 use Rattle.std.specs.Prelude.{◌≡◌, true, pos}
-use Rattle.rv_isa.specs.declared.kind.Kind.TheVariants.{Illegal}
-use Rattle.qed_model.specs.Machine.Table.{ins, encode_of, word_of}
+use Rattle.machine.specs.Table.{ins, encode_of, word_of, Illegal}
 use Rattle.relinker.specs.Link.{AreWords, is_encoded}
 
 -- one word more

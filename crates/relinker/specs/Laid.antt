@@ -2,7 +2,7 @@
 use Rattle.std.specs.Prelude.{◌≡◌, ℕ, ◌+◌, ◌*◌, ◌^◌, ◌<◌, ◌≤◌, Bool, true, List, ◌++◌, map, Some, vec_len, vec_capacity}
 use Rattle.std.specs.List.{list_all}
 use Rattle.qed_model.specs.declared.item.Item.{Item}
-use Rattle.qed_model.specs.Machine.Table.{decode_of}
+use Rattle.machine.specs.Table.{decode_of}
 use Rattle.qed_model.specs.Weave.Placed.{sum_of_sizes, rows_from, instructions_from, placed, Decode, leads_to, EntriesAscend}
 use Rattle.qed_model.specs.Weave.Sequences.{stub}
 use Rattle.relinker.specs.declared.count.Count.{Count}

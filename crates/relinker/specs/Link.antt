@@ -1,13 +1,12 @@
 -- What is asked of items that are laid out, and what their words are.
 use Rattle.std.specs.Prelude.{◌≡◌, ℕ, ◌+◌, ◌^◌, ◌<◌, ◌≤◌, nat_lt, is_some, Bool, true, false, List, ◌++◌, slice_index}
 use Rattle.std.specs.List.{list_all}
-use Rattle.rv_isa.specs.declared.ins.Ins.{Ins}
 use Rattle.qed_model.specs.declared.item.Item.{Item}
-use Rattle.qed_model.specs.declared.limits.Limit.TheVariants as limit
-use Rattle.qed_model.specs.declared.limits.TheConstants.{MAX_NEAR_CODE_BYTES}
+use Rattle.machine.specs.declared.limits.Limit.TheVariants as limit
+use Rattle.machine.specs.declared.limits.TheConstants.{MAX_NEAR_CODE_BYTES}
 use Rattle.qed_model.specs.declared.plan.EntryRow.{EntryRow}
-use Rattle.qed_model.specs.Limits.{limit_of}
-use Rattle.qed_model.specs.Machine.Table.{encode_of}
+use Rattle.machine.specs.Limits.{limit_of}
+use Rattle.machine.specs.Table.{encode_of, Ins}
 use Rattle.qed_model.specs.Weave.Placed.{sum_of_sizes, rows_from, placed, EntriesAscend}
 use Rattle.qed_model.specs.Weave.Sequences.{stub}
 

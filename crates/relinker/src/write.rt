@@ -1,13 +1,16 @@
 //! From items to words: each word is written where there is room for it.
 ghost use Rattle.std.specs.Prelude.{◌≡◌, ◌+◌, ◌*◌, ◌-◌, ◌^◌, ◌<◌, ◌≤◌, ◌++◌, [], ◌∷◌, true, false, length, map, Some, pos, ◌≤ℤ◌, vec_len, vec_capacity};
 ghost use Rattle.std.specs.List.{list_all};
-ghost use Rattle.qed_model.specs.Machine.Table.{ins, decode_of};
-ghost use Rattle.qed_model.specs.Weave.Placed.{size_of, sum_of_sizes, distance_between as distance_of, upper_part as upper_of, lower_part as lower_of, go_words, instructions_from, leads_to, EntriesAscend};
+ghost use Rattle.rv_isa.specs.declared.profile.TheConstants.{TEMPORARY};
+ghost use Rattle.machine.specs.Table.{ins, decode_of};
+ghost use Rattle.qed_model.specs.Weave.Placed.{size_of, sum_of_sizes, go_words, instructions_from, leads_to, EntriesAscend};
+ghost use Rattle.machine.specs.Offsets.{distance_between as distance_of, upper_part as upper_of, lower_part as lower_of};
 ghost use Rattle.relinker.specs.Link.{is_encoded, AreWords};
 
 use crate::search::entry;
 use qed_model::{EntryRow, Item};
 use rv_encode::encode;
+use rv_isa::profile::TEMPORARY;
 use rv_isa::{Ins, Kind, Reg, register};
 
 /// The distance from one address to another, modulo 2^64 and read as signed.
@@ -54,14 +57,19 @@ fn constant(r: Reg, distance: i64) -> (Ins, Ins)
 /// The far jump, by x30.
 #[tactic(auto, using(crate::proofs::Reach::near_upper))]
 fn far_jump(distance: i64) -> (Ins, Ins)
-    requires { is_encoded (ins Kind.Auipc 30 0 0 (upper_of distance)) ≡ true }
-    ensures first { result.0 ≡ ins Kind.Auipc 30 0 0 (upper_of distance) }
-    ensures second { result.1 ≡ ins Kind.Jalr 0 30 0 (lower_of distance) }
+    requires { is_encoded (ins Kind.Auipc TEMPORARY 0 0 (upper_of distance)) ≡ true }
+    ensures first { result.0 ≡ ins Kind.Auipc TEMPORARY 0 0 (upper_of distance) }
+    ensures second { result.1 ≡ ins Kind.Jalr 0 TEMPORARY 0 (lower_of distance) }
 {
     let upper = upper_part(distance);
     (
-        instruction(Kind::Auipc, register(30), register(0), upper),
-        instruction(Kind::Jalr, register(0), register(30), distance - upper),
+        instruction(Kind::Auipc, register(TEMPORARY), register(0), upper),
+        instruction(
+            Kind::Jalr,
+            register(0),
+            register(TEMPORARY),
+            distance - upper,
+        ),
     )
 }
 

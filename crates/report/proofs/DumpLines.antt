@@ -1,8 +1,7 @@
 -- The bytes and lines of a dump, one by one.
 use Rattle.std.proofs.Common.{◌≡◌, ℕ, ◌+◌, ◌-◌, ◌*◌, [], ◌++◌, refl, min, option_map, add-one}
-use Rattle.std.specs.FinMap.{get}
-use Rattle.qed_model.specs.Machine.Memory.{Memory}
-use Rattle.command_line.specs.Text.Run.{byte_text, byte_texts, dump_line, dump_lines}
+use Rattle.machine.specs.Memory.{Memory, get}
+use Rattle.qed_words.specs.Text.Run.{byte_text, byte_texts, dump_line, dump_lines}
 
 pub no_byte : (m : Memory) (a : ℕ) → byte_texts m a 0 ≡ []
 unfolding byte_texts

@@ -1,7 +1,7 @@
 -- The lines of registers, one by one.
 use Rattle.std.proofs.Common.{◌≡◌, ℕ, suc, ◌+◌, ◌-◌, ◌≤◌, [], ◌++◌, refl, sym, ap, ◌∙◌, arith}
-use Rattle.qed_model.specs.Machine.Step.{State}
-use Rattle.command_line.specs.Text.Run.{register_line, register_lines}
+use Rattle.machine.specs.Step.{State}
+use Rattle.qed_words.specs.Text.Run.{register_line, register_lines}
 
 -- no line yet
 pub no_lines : (s : State) → register_lines s 0 ≡ []

@@ -8,8 +8,8 @@ use Rattle.qed_model.specs.declared.plan.Plan.{Plan}
 use Rattle.qed_model.specs.declared.verdict.Verdict.{Verdict}
 use Rattle.qed_model.specs.declared.verdict.Verdict.TheVariants.{Closed, NotReached, Fired, Ended, Same}
 use Rattle.qed_model.specs.declared.verdict.Struck.{Struck}
-use Rattle.command_line.specs.Text.Campaign.{how_many, is_fired, is_ended, is_same, is_closed, is_not_reached, longest, fired_steps, how_many_right, summary_line}
-use Rattle.command_line.specs.Text.Plan.{bounds_text}
+use Rattle.qed_words.specs.Text.Campaign.{how_many, is_fired, is_ended, is_same, is_closed, is_not_reached, longest, fired_steps, how_many_right, summary_line}
+use Rattle.qed_words.specs.Text.Plan.{bounds_text}
 use Rattle.report.specs.declared.tally.Tally.{Tally}
 use Rattle.report.specs.Tally.{counted, tally_of, tally_text, with_verdict}
 

@@ -1,10 +1,10 @@
 -- What is printed where a test is not admitted. Each line ends with a newline.
 use Rattle.std.specs.Prelude.{ℕ, List, ◌++◌, codes}
-use Rattle.qed_model.specs.declared.admit.AdmitError.{AdmitError}
-use Rattle.qed_model.specs.declared.admit.AdmitError.TheVariants as error
-use Rattle.qed_model.specs.declared.limits.Limit.TheVariants as limit
+use Rattle.tests.specs.declared.admit.AdmitError.{AdmitError}
+use Rattle.tests.specs.declared.admit.AdmitError.TheVariants as error
+use Rattle.machine.specs.declared.limits.Limit.TheVariants as limit
 use Rattle.texts.specs.Printed.{hex_text, word_text}
-use Rattle.command_line.specs.Text.Errors.{numbered, limit_line, high_register_line}
+use Rattle.qed_words.specs.Text.Errors.{numbered, limit_line, high_register_line}
 
 -- a line with one address in it
 abbrev pub addressed : List ℕ → ℕ → List ℕ

@@ -1,11 +1,11 @@
 -- What is printed about a generated test. The line ends with a newline.
 use Rattle.std.specs.Prelude.{ℕ, List, ◌++◌, codes}
 use Rattle.std.specs.Fmt.{decimal}
-use Rattle.qed_model.specs.declared.machine.Outcome.{Outcome}
-use Rattle.qed_model.specs.declared.machine.Outcome.TheVariants.{Going, Ended, Fired, Trapped}
+use Rattle.machine.specs.declared.outcome.Outcome.{Outcome}
+use Rattle.machine.specs.declared.outcome.Outcome.TheVariants.{Going, Ended, Fired, Trapped}
 use Rattle.qed_model.specs.declared.plan.Plan.{Plan}
-use Rattle.qed_model.specs.Machine.Progress.{Progress}
-use Rattle.command_line.specs.Text.Plan.{bounds_text}
+use Rattle.machine.specs.Progress.{Progress}
+use Rattle.qed_words.specs.Text.Plan.{bounds_text}
 
 -- how a run stands, in one word
 abbrev pub outcome_word : Outcome → List ℕ

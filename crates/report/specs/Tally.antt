@@ -3,7 +3,7 @@ use Rattle.std.specs.Prelude.{ℕ, ◌+◌, max, cond, List, ◌++◌, codes, Op
 use Rattle.std.specs.Fmt.{decimal}
 use Rattle.qed_model.specs.declared.verdict.Verdict.{Verdict}
 use Rattle.qed_model.specs.declared.verdict.Struck.{Struck}
-use Rattle.command_line.specs.Text.Campaign.{how_many, is_fired, is_ended, is_same, is_closed, is_not_reached, longest, fired_steps, ends_text}
+use Rattle.qed_words.specs.Text.Campaign.{how_many, is_fired, is_ended, is_same, is_closed, is_not_reached, longest, fired_steps, ends_text}
 use Rattle.report.specs.declared.tally.Tally.{Tally}
 
 -- the verdicts of strikes, of which so many ended right

@@ -1,8 +1,8 @@
 -- What `help` and `version` tell: texts that stand in the code.
 use Rattle.std.specs.Prelude.{ℕ, List}
-use Rattle.command_line.specs.declared.order.Command.TheVariants as command
-use Rattle.command_line.specs.declared.order.Topic.{Topic}
-use Rattle.command_line.specs.declared.order.Topic.TheVariants as topic
+use Rattle.qed_words.specs.declared.orders.Command.TheVariants as command
+use Rattle.qed_words.specs.declared.orders.Topic.{Topic}
+use Rattle.qed_words.specs.declared.orders.Topic.TheVariants as topic
 use Rattle.report.specs.declared.help.TheConstants.{HELP, TRANSFORM, PLAN, EXPLAIN, RUN, CAMPAIGN, GEN, LIST, ASM, HARTS, VERSION}
 
 abbrev pub told_text : Topic → List ℕ

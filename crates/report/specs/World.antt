@@ -1,9 +1,9 @@
 -- What is printed about several harts. Each line ends with a newline.
 use Rattle.std.specs.Prelude.{ℕ, List, [], ◌++◌, codes, length, slice_get, Option, Some}
 use Rattle.std.specs.Fmt.{decimal}
-use Rattle.qed_model.specs.Below.{gather}
-use Rattle.qed_model.specs.Machine.Memory.{Memory}
-use Rattle.command_line.specs.Text.Run.{run_lines}
+use Rattle.machine.specs.Below.{gather}
+use Rattle.machine.specs.Memory.{Memory}
+use Rattle.qed_words.specs.Text.Run.{run_lines}
 use Rattle.harts.specs.Harts.{Hart, state_of}
 use Rattle.harts.specs.HartSteps.{Counted}
 

@@ -1,6 +1,6 @@
 //! What is printed where a test is not admitted.
 ghost use Rattle.std.specs.Prelude.{◌≡◌, ◌≢◌, ◌^◌, ◌≤◌, IfOk, OnOk, string_bytes};
-ghost use Rattle.qed_model.specs.Admission.Ends.{HasEnds};
+ghost use Rattle.tests.specs.Admission.Ends.{HasEnds};
 ghost use Rattle.report.specs.Admission.{admit_line, no_word_line, outside_line};
 
 use crate::limits::limit_line;

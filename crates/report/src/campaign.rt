@@ -1,7 +1,7 @@
 //! What is printed about strikes.
 ghost use Rattle.std.specs.Prelude.{◌≡◌, Some, IfOk, string_bytes};
 ghost use Rattle.std.specs.Option.{option_copied};
-ghost use Rattle.command_line.specs.Text.Campaign.{place_text, change_text, changes_text, verdict_text, right_at as right_at_of, end_text, strike_line, strike_lines, trapped_line, campaign_text};
+ghost use Rattle.qed_words.specs.Text.Campaign.{place_text, change_text, changes_text, verdict_text, right_at as right_at_of, end_text, strike_line, strike_lines, trapped_line, campaign_text};
 
 use crate::tally::summary_line;
 use elf_types::Bytes;

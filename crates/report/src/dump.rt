@@ -1,7 +1,7 @@
 //! The bytes of a machine's memory, as a dump shows them.
 ghost use Rattle.std.specs.Prelude.{◌≡◌, ◌+◌, ◌^◌, ◌≤◌, Some, IfOk, option_map, string_bytes};
 ghost use Rattle.std.specs.FinMap.{get};
-ghost use Rattle.command_line.specs.Text.Run.{byte_text, byte_texts, dump_line, dump_text as text_of};
+ghost use Rattle.qed_words.specs.Text.Run.{byte_text, byte_texts, dump_line, dump_text as text_of};
 
 use rv_step::Machine;
 use rv_text::Address;

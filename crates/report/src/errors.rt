@@ -1,7 +1,7 @@
 //! What is printed where a file is refused, or could not be read.
 ghost use Rattle.std.specs.Prelude.{◌≡◌, ◌≢◌, Some, IfOk, OnOk, string_bytes};
-ghost use Rattle.command_line.specs.Text.Errors.{part_line, error_line};
-ghost use Rattle.command_line.specs.Text.Plan.{read_fault_line};
+ghost use Rattle.qed_words.specs.Text.Errors.{part_line, error_line};
+ghost use Rattle.qed_words.specs.Text.Plan.{read_fault_line};
 
 use crate::limits::limit_line;
 use crate::lines::numbered;

@@ -2,8 +2,8 @@
 ghost use Rattle.std.specs.Prelude.{◌≡◌, IfOk};
 ghost use Rattle.report.specs.Told.{told_text as told_text_of};
 
-use command_line::{Command, Topic};
 use elf_types::Bytes;
+use qed_words::{Command, Topic};
 use std::alloc::{AllocError, Global};
 
 /// All commands and the exit codes.

@@ -1,6 +1,6 @@
 //! What is printed where a limit is exceeded.
 ghost use Rattle.std.specs.Prelude.{◌≡◌, IfOk, string_bytes};
-ghost use Rattle.command_line.specs.Text.Errors.{limit_line as limit_line_of};
+ghost use Rattle.qed_words.specs.Text.Errors.{limit_line as limit_line_of};
 
 use elf_types::Bytes;
 use qed_model::Limit;

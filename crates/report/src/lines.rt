@@ -1,10 +1,10 @@
 //! Lines that end with a number or a name.
 ghost use Rattle.std.specs.Prelude.{◌≡◌, IfOk, string_bytes};
-ghost use Rattle.command_line.specs.Text.Errors.{numbered as numbered_of};
-ghost use Rattle.command_line.specs.Text.Usage.{keyed as keyed_of};
+ghost use Rattle.qed_words.specs.Text.Errors.{numbered as numbered_of};
+ghost use Rattle.qed_words.specs.Text.Usage.{keyed as keyed_of};
 ghost use Rattle.report.specs.Admission.{addressed as addressed_of};
 
-use command_line::Key;
+use qed_words::Key;
 use rv_text::Address;
 use std::alloc::{AllocError, Global};
 

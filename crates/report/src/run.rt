@@ -1,7 +1,7 @@
 //! What is printed about a run.
 ghost use Rattle.std.specs.Prelude.{◌≡◌, ◌+◌, ◌^◌, ◌<◌, ◌≤◌, ◌++◌, Some, IfSome, IfOk, string_bytes};
-ghost use Rattle.qed_model.specs.Machine.Memory.{Memory};
-ghost use Rattle.command_line.specs.Text.Run.{cause_text, outcome_text, outcome_line, jumps_line, register_line, register_lines, run_lines, run_text};
+ghost use Rattle.machine.specs.Memory.{Memory};
+ghost use Rattle.qed_words.specs.Text.Run.{cause_text, outcome_text, outcome_line, jumps_line, register_line, register_lines, run_lines, run_text};
 ghost use Rattle.rv_step.specs.Harts.{with_memory};
 
 use crate::dump::dump_text;

@@ -1,7 +1,7 @@
 //! What the last line about strikes tells of them.
 ghost use Rattle.std.specs.Prelude.{◌≡◌, ◌+◌, ◌-◌, ◌^◌, ◌<◌, Some, IfOk, length, string_bytes};
 ghost use Rattle.std.specs.Option.{option_copied, option_map};
-ghost use Rattle.command_line.specs.Text.Campaign.{ends_text, how_many_right as how_many_right_of, summary_line};
+ghost use Rattle.qed_words.specs.Text.Campaign.{ends_text, how_many_right as how_many_right_of, summary_line};
 ghost use Rattle.report.specs.Tally.{counted, tally_of, tally_text, with_verdict};
 
 use crate::transform::BoundsText;

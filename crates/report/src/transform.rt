@@ -1,6 +1,6 @@
 //! What is printed about an output.
 ghost use Rattle.std.specs.Prelude.{◌≡◌, Some, IfOk};
-ghost use Rattle.command_line.specs.Text.Plan.{sizes_text, bounds_text, plan_line};
+ghost use Rattle.qed_words.specs.Text.Plan.{sizes_text, bounds_text, plan_line};
 
 use elf_types::Bytes;
 use qed_model::{Bounds, Plan};

@@ -1,10 +1,10 @@
 //! What is printed where the words of the command line ask for nothing.
 ghost use Rattle.std.specs.Prelude.{◌≡◌, IfOk, string_bytes};
-ghost use Rattle.command_line.specs.Text.Usage.{reason_line};
+ghost use Rattle.qed_words.specs.Text.Usage.{reason_line};
 
 use crate::lines::{keyed, numbered};
-use command_line::Reason;
 use elf_types::Bytes;
+use qed_words::Reason;
 use std::alloc::{AllocError, Global};
 
 /// The line about words that ask for nothing, as a text.

@@ -33,7 +33,7 @@ fn hart_text(alloc: Global, world: &World, number: u64) -> Result<Vec<u8>, Alloc
 }
 
 /// What is printed about several harts: for each its number, and the lines of a run without a dump.
-#[tactic(auto, unfolding(crate::specs::World::world_text, qed_model::specs::Below::gather))]
+#[tactic(auto, unfolding(crate::specs::World::world_text, machine::specs::Below::gather))]
 pub fn world_text(alloc: Global, world: &World) -> Result<Bytes, AllocError>
     ensures { IfOk result (λ text. text ≡ world_text world.now) }
 {

@@ -2,15 +2,11 @@
 use Rattle.std.proofs.Common.{◌≡◌, ℕ, ◌%◌, Bool, true, false, cond, List, inl, inr, refl, sym, ap, ◌∙◌, arith}
 use Rattle.std.proofs.lemmas.Bool.{eq-eqb}
 use Rattle.std.specs.Prelude.{◌==◌}
-use Rattle.rv_isa.specs.declared.class.Class.{Class}
 use Rattle.rv_isa.specs.declared.class.Class.TheVariants as class
 use Rattle.rv_isa.specs.declared.kind.Kind.{Kind}
 use Rattle.rv_isa.specs.declared.kind.Kind.TheVariants.{Jal, Jalr}
-use Rattle.rv_isa.specs.declared.ins.Ins.{Ins}
-use Rattle.rv_isa.specs.Kind.{class_of}
-use Rattle.rv_isa.specs.Regs.{set_reg}
-use Rattle.qed_model.specs.Machine.Values.{holds}
-use Rattle.qed_model.specs.Machine.Step.{State, reg, next_pc, moved, jumped, execute, target, computed_value}
+use Rattle.machine.specs.Values.{holds}
+use Rattle.machine.specs.Step.{State, reg, next_pc, moved, jumped, execute, target, computed_value, Class, Ins, class_of, set_reg}
 use Rattle.rv_alu.specs.Steps.{following, linked, branched, landing, landed, IsComputing, IsBranching, IsJumping, IsPassing}
 
 -- a step by its class

@@ -1,18 +1,14 @@
 -- The laws of the operations.
 use Rattle.std.proofs.Common.{◌≡◌, ℕ, ◌+◌, ◌%◌, ◌^◌, Bool, true, false, not, List, Some, inl, inr, refl, sym, ap, ◌∙◌, arith}
 use Rattle.std.specs.Prelude.{slice_index}
-use Rattle.rv_isa.specs.declared.class.Class.{Class}
 use Rattle.rv_isa.specs.declared.class.Class.TheVariants as class
-use Rattle.rv_isa.specs.declared.kind.Kind.{Kind}
-use Rattle.rv_isa.specs.declared.kind.Kind.TheVariants.{Lui, Auipc, Jalr}
-use Rattle.rv_isa.specs.declared.ins.Ins.{Ins}
 use Rattle.rv_isa.specs.Kind.{class_of, writes_rd, reads_rs1, reads_rs2, has_immediate}
 use Rattle.rv_isa.specs.Ins.{writes}
 use Rattle.rv_isa.specs.Operation.{AreRegs, ReadsRegister, pair, renamed_by, Frame, Sources, Mirror}
 use Rattle.rv_isa.proofs.OperationLaws.{same_rs1, same_rs2, set_frame, set_same, some-named, pair-above, pair-lt}
-use Rattle.qed_model.proofs.EachKind.{each_kind}
-use Rattle.qed_model.specs.Machine.Table.{Format, R, row_of}
-use Rattle.qed_model.specs.Machine.Step.{operand, computed_value}
+use Rattle.machine.proofs.Lemmas.{each_kind}
+use Rattle.machine.specs.Table.{Format, R, row_of, Kind, Lui, Auipc, Jalr, Ins}
+use Rattle.machine.specs.Step.{operand, computed_value, Class}
 use Rattle.rv_alu.specs.Steps.{following, computed, same, linked, branched, landing, landed, IsComputing, IsBranching, IsJumping, IsPassing}
 
 -- ---- what is read

@@ -1,13 +1,10 @@
 -- What a step does to registers and pc where it touches no memory, by class (RISC-V unprivileged manual, "RV64I").
 use Rattle.std.specs.Prelude.{◌≡◌, ℕ, ◌+◌, ◌*◌, ◌/◌, ◌%◌, ◌^◌, ◌⊎◌, cond, List, slice_index}
-use Rattle.rv_isa.specs.declared.class.Class.{Class}
 use Rattle.rv_isa.specs.declared.class.Class.TheVariants as class
 use Rattle.rv_isa.specs.declared.kind.Kind.{Kind}
 use Rattle.rv_isa.specs.declared.kind.Kind.TheVariants.{Jalr}
-use Rattle.rv_isa.specs.declared.ins.Ins.{Ins}
-use Rattle.rv_isa.specs.Regs.{set_reg}
-use Rattle.qed_model.specs.Machine.Values.{holds}
-use Rattle.qed_model.specs.Machine.Step.{imm, target, computed_value}
+use Rattle.machine.specs.Values.{holds}
+use Rattle.machine.specs.Step.{imm, target, computed_value, Class, Ins, set_reg}
 
 -- the address of the next word
 abbrev pub following : Ins → ℕ → List ℕ → ℕ

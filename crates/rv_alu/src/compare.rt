@@ -1,6 +1,6 @@
 //! Comparisons ("Conditional Branches" of the RISC-V unprivileged manual).
 ghost use Rattle.std.specs.Prelude.{◌≡◌, ◌==◌, not, int_lt, nat_lt};
-ghost use Rattle.qed_model.specs.Machine.Values.{s64};
+ghost use Rattle.machine.specs.Values.{s64};
 
 /// Whether both are equal.
 pub(crate) fn equal(a: u64, b: u64) -> bool

@@ -1,6 +1,6 @@
 //! Quotients and remainders. No division traps (RISC-V unprivileged manual, "Division Operations").
 ghost use Rattle.std.specs.Prelude.{◌≡◌, ℕ, pos};
-ghost use Rattle.qed_model.specs.Machine.Values.{s64, quotient, remainder};
+ghost use Rattle.machine.specs.Values.{s64, quotient, remainder};
 
 /// Each quotient by 0: all bits are set.
 const BY_ZERO: u64 = u64::MAX;

@@ -1,5 +1,5 @@
 //! What the computing instructions of RV64IM compute, when its branches are taken, and the steps
-//! that touch no memory. All are what the definitions of `qed_model` say, for every kind and all
+//! that touch no memory. All are what the definitions of `machine` say, for every kind and all
 //! operands.
 #![tactic(auto)]
 

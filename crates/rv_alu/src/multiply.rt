@@ -1,6 +1,6 @@
 //! Products.
 ghost use Rattle.std.specs.Prelude.{◌≡◌, ℕ, pos, ◌*◌, ◌/◌, ◌%◌, ◌^◌, ◌*ℤ◌};
-ghost use Rattle.qed_model.specs.Machine.Values.{wrapped, floor_shift, s64};
+ghost use Rattle.machine.specs.Values.{wrapped, floor_shift, s64};
 
 /// The low 64 bits of the product.
 pub(crate) fn mul(a: u64, b: u64) -> u64

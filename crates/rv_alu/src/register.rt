@@ -1,6 +1,6 @@
 //! Sums, shifts, tests and logic of whole registers.
 ghost use Rattle.std.specs.Prelude.{◌≡◌, ℕ, ◌+◌, ◌-◌, ◌*◌, ◌/◌, ◌%◌, ◌^◌, int_lt, nat_lt, bit_and, bit_or, bit_xor};
-ghost use Rattle.qed_model.specs.Machine.Values.{wrapped, floor_shift, s64, from_test};
+ghost use Rattle.machine.specs.Values.{wrapped, floor_shift, s64, from_test};
 
 use crate::compare::{below, less};
 

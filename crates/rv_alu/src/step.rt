@@ -2,8 +2,8 @@
 ghost use Rattle.std.specs.Prelude.{◌≡◌, ℕ, ◌+◌, ◌%◌, ◌^◌};
 ghost use Rattle.rv_isa.specs.Kind.{class_of};
 ghost use Rattle.rv_isa.specs.declared.class.Class.TheVariants as class;
-ghost use Rattle.qed_model.specs.Machine.Table.{row_of};
-ghost use Rattle.qed_model.specs.Machine.Step.{State, imm, moved, jumped, execute, operand as operand_of, computed_value as computed_value_of, target as target_of};
+ghost use Rattle.machine.specs.Table.{row_of};
+ghost use Rattle.machine.specs.Step.{State, imm, moved, jumped, execute, operand as operand_of, computed_value as computed_value_of, target as target_of};
 ghost use Rattle.rv_alu.specs.Steps.{following, computed, same, linked, branched, landed, IsComputing, IsBranching, IsJumping, IsPassing};
 
 use crate::{compute, taken};
@@ -48,7 +48,7 @@ fn operand(ins: &Ins, regs: &Regs) -> u64
 }
 
 /// What a computing instruction writes to rd.
-#[tactic(auto, unfolding(qed_model::specs::Machine::Step::computed_value))]
+#[tactic(auto, unfolding(machine::specs::Step::computed_value))]
 fn computed_value(ins: &Ins, pc: u64, regs: &Regs) -> u64
     requires { class_of ins.now.kind ≡ class.Compute }
     ensures { result ≡ computed_value_of ins.now.kind ins.now pc regs.now }

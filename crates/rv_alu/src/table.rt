@@ -1,13 +1,13 @@
 //! What the computing rows of the instruction table compute, and when its branches are taken.
 ghost use Rattle.std.specs.Prelude.{◌≡◌};
-ghost use Rattle.qed_model.specs.Machine.Values.{value, holds};
+ghost use Rattle.machine.specs.Values.{value, holds};
 
 use crate::compare::{below, equal, less, not_below, not_less, unequal};
 use crate::divide::{div, divu, rem, remu};
 use crate::multiply::{mul, mulh, mulhsu, mulhu};
 use crate::register::{add, and, or, sll, slt, sltu, sra, srl, sub, xor};
 use crate::word::{addw, divuw, divw, mulw, remuw, remw, sllw, sraw, srlw, subw};
-use qed_model::rows;
+use machine::rows;
 use rv_isa::Kind;
 
 // What the row of the kind says of two operands, and `other` where it is not among these rows.
@@ -24,7 +24,7 @@ macro_rules! by_row {
 /// extension (RISC-V unprivileged manual). a is the number in rs1; b is the number in rs2, or the
 /// immediate modulo 2^64. Both are any numbers from 0 to 2^64 - 1. For a kind that does not
 /// compute it is 0, and so it is for LUI and AUIPC, whose values come of the immediate and the pc.
-#[tactic(auto, unfolding(qed_model::specs::Machine::Values::value))]
+#[tactic(auto, unfolding(machine::specs::Values::value))]
 pub fn compute(kind: Kind, a: u64, b: u64) -> u64
     ensures { result ≡ value kind a b }
 {
@@ -33,7 +33,7 @@ pub fn compute(kind: Kind, a: u64, b: u64) -> u64
 
 /// Whether a branch is taken, a being the number in rs1 and b the number in rs2 (RISC-V
 /// unprivileged manual, "Conditional Branches"). For a kind that is no branch it is false.
-#[tactic(auto, unfolding(qed_model::specs::Machine::Values::holds))]
+#[tactic(auto, unfolding(machine::specs::Values::holds))]
 pub fn taken(kind: Kind, a: u64, b: u64) -> bool
     ensures { result ≡ holds kind a b }
 {

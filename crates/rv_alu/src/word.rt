@@ -1,7 +1,7 @@
 //! Words: the low 32 bits of a register. Each result is a word, sign-extended to 64 bits (RISC-V
 //! unprivileged manual, "RV64I").
 ghost use Rattle.std.specs.Prelude.{◌≡◌, ℕ, pos, ◌+◌, ◌-◌, ◌*◌, ◌/◌, ◌%◌, ◌^◌};
-ghost use Rattle.qed_model.specs.Machine.Values.{wrapped, floor_shift, word, s32, s64, u32 as low_word, quotient, remainder};
+ghost use Rattle.machine.specs.Values.{wrapped, floor_shift, word, s32, s64, u32 as low_word, quotient, remainder};
 
 use crate::divide::{div, divu, rem, remu};
 use crate::multiply::mul;

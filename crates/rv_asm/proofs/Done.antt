@@ -4,7 +4,7 @@ use Rattle.std.specs.Prelude.{All}
 use Rattle.std.proofs.lemmas.Bool.{eqb-true, eqb-false}
 use Rattle.std.proofs.lemmas.List.{nil_from_length}
 use Rattle.elf_types.specs.declared.file.Symbol.{Symbol}
-use Rattle.qed_model.specs.Elf.Layout.{IsWritable}
+use Rattle.tests.specs.Elf.Layout.{IsWritable}
 use Rattle.rv_asm.specs.declared.program.Program.{Program}
 use Rattle.rv_asm.specs.Lines.{newline, lines_of}
 use Rattle.rv_asm.specs.Assembled.{code_of, data_of, symbols_of, file_with, file_of}

@@ -5,8 +5,7 @@ use Rattle.std.proofs.lemmas.Bool.Decides.{nat_tests}
 use Rattle.std.proofs.lemmas.Int.{ints, to_z-of_z}
 use mir.Val.{SFits, of_z, to_z}
 use mir.Syntax.{w64, w128}
-use Rattle.rv_isa.specs.declared.kind.Kind.{Kind}
-use Rattle.qed_model.specs.Machine.Table.{Format, R, I, H, G, S, B, U, J, N, row_of, ins, fits_signed, fits_below, is_zero, is_reg, to_bits, some_if, word_R, word_I, word_S, word_B, word_U, word_J, word_of, encode_of}
+use Rattle.machine.specs.Table.{Format, R, I, H, G, S, B, U, J, N, row_of, ins, fits_signed, fits_below, is_zero, is_reg, to_bits, some_if, word_R, word_I, word_S, word_B, word_U, word_J, word_of, encode_of, Kind}
 
 none3 : (a b c : Bool) (w : ℕ) → some_if (a && (b && (c && false))) w ≡ None
 none3 true true true w = refl

@@ -4,8 +4,8 @@ use Rattle.std.specs.List.{slice_split, onto_first}
 use Rattle.std.proofs.lemmas.List.{take_more}
 use Rattle.std.proofs.Math.Seq.{take-length}
 use Rattle.elf_types.specs.declared.file.Symbol.{Symbol}
-use Rattle.qed_model.specs.Below.{gather}
-use Rattle.qed_model.specs.Elf.Layout.{names_bytes, symbol_names}
+use Rattle.machine.specs.Below.{gather}
+use Rattle.tests.specs.Elf.Layout.{names_bytes, symbol_names}
 use Rattle.rv_asm.specs.Assembled.{line_at, symbol_at}
 
 -- lines with their newlines

@@ -8,7 +8,7 @@ use Rattle.std.proofs.lemmas.List.{take_more, length-take}
 use Rattle.std.proofs.lemmas.List.Elements.{All-nil, All-cons, All-append}
 use Rattle.elf_types.specs.declared.file.Symbol.{Symbol}
 use Rattle.rv_isa.specs.declared.kind.Kind.{Kind}
-use Rattle.qed_model.specs.Below.{gather}
+use Rattle.machine.specs.Below.{gather}
 use Rattle.texts.specs.Read.{colon, parted, around}
 use Rattle.rv_asm.specs.declared.error.Fault.{Fault}
 use Rattle.rv_asm.specs.declared.error.Fault.TheVariants as fault

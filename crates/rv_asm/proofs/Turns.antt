@@ -17,7 +17,7 @@ use Rattle.std.proofs.lemmas.List.Splits.{length-slice_split}
 use Rattle.std.proofs.lemmas.List.Sums.{count_by-le-length}
 use Rattle.std.proofs.Math.Seq.{take-length}
 use Rattle.elf_types.specs.declared.file.Symbol.{Symbol}
-use Rattle.qed_model.proofs.BelowLaws.{gather_more}
+use Rattle.machine.proofs.Lemmas.{gather_more}
 use Rattle.rv_asm.specs.declared.error.Fault.{Fault}
 use Rattle.rv_asm.specs.declared.given.Given.{Given}
 use Rattle.rv_asm.specs.declared.heads.Head.{Head}

@@ -7,12 +7,11 @@ use Rattle.std.proofs.lemmas.List.Elements.{All-nil, All-cons}
 use Rattle.elf_types.specs.declared.file.Segment.{Segment}
 use Rattle.elf_types.specs.declared.file.Symbol.{Symbol}
 use Rattle.elf_types.specs.declared.output.OutSection.{OutSection}
-use Rattle.qed_model.specs.Numbers.{number_bytes, bytes_of}
-use Rattle.qed_model.specs.Elf.Written.{offset_from, end_from}
-use Rattle.qed_model.specs.Elf.Layout.{written, names_bytes, own_bytes, own_place, do_share, IsName, IsLoadable, IsPlaced, IsWritable}
-use Rattle.qed_model.proofs.Fields.{length-number_bytes, length-bytes_of}
-use Rattle.qed_model.proofs.OutputFits.{name_test, not_shared}
-use Rattle.qed_model.proofs.Pairs.{pairs_all, every_all}
+use Rattle.machine.specs.Numbers.{number_bytes, bytes_of}
+use Rattle.tests.specs.Elf.Written.{offset_from, end_from}
+use Rattle.tests.specs.Elf.Layout.{written, names_bytes, own_bytes, own_place, do_share, IsName, IsLoadable, IsPlaced, IsWritable}
+use Rattle.tests.proofs.Lemmas.{length-number_bytes, length-bytes_of, name_test, not_shared}
+use Rattle.machine.proofs.Lemmas.{pairs_all, every_all}
 use Rattle.elf_write.proofs.PlainFits.{loadable, offset_room, inside_itself, placed, upper}
 use Rattle.elf_write.proofs.Sizes.{length-section_names}
 use Rattle.rv_asm.specs.Lines.{begins_name, continues_name, is_name}

@@ -8,9 +8,9 @@ use Rattle.elf_types.specs.declared.output.OutFile.{OutFile}
 use Rattle.elf_types.specs.declared.output.OutSection.{OutSection}
 use Rattle.elf_types.specs.declared.abi.TheConstants.{PF_R, PF_W, PF_X, SHF_WRITE, SHF_ALLOC, SHF_EXECINSTR, STT_NOTYPE, STB_LOCAL, SHN_ABS}
 use Rattle.elf_write.specs.Plain.{segment, section}
-use Rattle.qed_model.specs.Below.{gather}
-use Rattle.qed_model.specs.Numbers.{number_bytes, bytes_of}
-use Rattle.qed_model.specs.Elf.Layout.{written}
+use Rattle.machine.specs.Below.{gather}
+use Rattle.machine.specs.Numbers.{number_bytes, bytes_of}
+use Rattle.tests.specs.Elf.Layout.{written}
 use Rattle.rv_asm.specs.declared.error.AsmError.{AsmError}
 use Rattle.rv_asm.specs.declared.error.AsmError.TheVariants.{Line, NoCode, Memory}
 use Rattle.rv_asm.specs.declared.error.Fault.{Fault}

@@ -1,8 +1,7 @@
 -- What the first word of a line says.
 use Rattle.std.specs.Prelude.{ℕ, ◌==◌, if◌then◌else◌, Option, Some, None, is_some, List, length, find, codes}
 use Rattle.std.specs.Str.{bytes_eq}
-use Rattle.rv_isa.specs.declared.kind.Kind.{Kind}
-use Rattle.qed_model.specs.Machine.Table.{kinds}
+use Rattle.machine.specs.Table.{kinds, Kind}
 use Rattle.rv_text.specs.Names.{name_of}
 use Rattle.rv_asm.specs.declared.heads.Head.{Head}
 use Rattle.rv_asm.specs.declared.heads.Head.TheVariants.{Blank, Instruction, Word, DataStart, DataWord, Label, Unknown}

@@ -2,8 +2,7 @@
 use Rattle.std.specs.Prelude.{ℕ, ◌*◌, ◌^◌, ◌==◌, ◌&&◌, nat_lt, if◌then◌else◌, Option, Some, None, option_map, Result, Ok, Err, List, [], ◌∷◌, length, codes, ℤ, pos, negsuc, ◌-ℤ◌, neg_ℤ}
 use Rattle.std.specs.Option.{ok_or}
 use Rattle.std.specs.Str.{bytes_eq}
-use Rattle.rv_isa.specs.declared.kind.Kind.{Kind}
-use Rattle.qed_model.specs.Machine.Table.{ins, signed, encode_of}
+use Rattle.machine.specs.Table.{ins, signed, encode_of, Kind}
 use Rattle.texts.specs.Read.{dash, digit_zero, letter_x, digits, number, register}
 use Rattle.rv_text.specs.declared.forms.Form.{Form}
 use Rattle.rv_text.specs.declared.forms.Form.TheVariants.{Registers, Immediate, Load, Store, Branch, Upper, Jump, Bare}

@@ -1,6 +1,6 @@
 //! The file.
 ghost use Rattle.std.specs.Prelude.{◌≡◌, IfOk};
-ghost use Rattle.qed_model.specs.Numbers.{bytes_of};
+ghost use Rattle.machine.specs.Numbers.{bytes_of};
 ghost use Rattle.rv_asm.specs.Assembled.{values_bytes, file_from, file_with as file_with_of};
 
 use crate::place::{CODE, DATA};
@@ -10,7 +10,7 @@ use elf_write::{section, segment};
 use std::alloc::{AllocError, Global};
 
 /// The bytes of code words, each the lowest first.
-#[tactic(auto, unfolding(qed_model::specs::Numbers::number_bytes))]
+#[tactic(auto, unfolding(machine::specs::Numbers::number_bytes))]
 fn code_bytes(alloc: Global, code: &[u32]) -> Result<Vec<u8>, AllocError>
     ensures { IfOk result (λ bytes. bytes.items ≡ bytes_of code.now) }
 {
@@ -22,7 +22,7 @@ fn code_bytes(alloc: Global, code: &[u32]) -> Result<Vec<u8>, AllocError>
 }
 
 /// The bytes of data words, each the lowest first.
-#[tactic(auto, unfolding(qed_model::specs::Numbers::number_bytes))]
+#[tactic(auto, unfolding(machine::specs::Numbers::number_bytes))]
 fn data_bytes(alloc: Global, values: &[u64]) -> Result<Vec<u8>, AllocError>
     ensures { IfOk result (λ bytes. bytes.items ≡ values_bytes values.now) }
 {

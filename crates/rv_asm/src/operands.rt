@@ -1,6 +1,6 @@
 //! Operands and words of instructions.
 ghost use Rattle.std.specs.Prelude.{◌≡◌, length};
-ghost use Rattle.qed_model.specs.Machine.Table.{ins, encode_of};
+ghost use Rattle.machine.specs.Table.{ins, encode_of};
 ghost use Rattle.texts.specs.Read.{digits as digits_of};
 ghost use Rattle.rv_asm.specs.Named.{named};
 ghost use Rattle.rv_asm.specs.Operands.{register_in as register_in_of, immediate_in as immediate_in_of, raw_word_in as raw_word_in_of, registers_from, immediate_from, load_from, store_from, upper_from, none_in as none_in_of, target_in as target_in_of, branch_from, jump_from, operands_in as operands_in_of, upper_imm as upper_imm_of, encoded as encoded_of, assembled_word as word_of_text};

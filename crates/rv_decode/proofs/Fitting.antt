@@ -5,12 +5,9 @@ use Rattle.std.specs.List.{list_all, list_any}
 use Rattle.std.proofs.lemmas.Bool.{and_parts, false≢true, eqb-true, eq-eqb}
 use Rattle.std.proofs.lemmas.Nat.{and_assoc, and_comm, and_block, and_mask, shr_split, mod_below}
 use Rattle.std.proofs.lemmas.Nat.Bits.{and_high}
-use Rattle.rv_isa.specs.declared.kind.Kind.{Kind}
-use Rattle.rv_isa.specs.declared.ins.Ins.{Ins}
 use Rattle.rv_isa.specs.Field.{bits}
-use Rattle.qed_model.specs.Machine.Table.{Format, R, I, H, G, S, B, U, J, N, mask_of, row_of, fits, kinds, ins_of, decode_of}
-use Rattle.qed_model.proofs.EachKind.{each_kind}
-use Rattle.qed_model.proofs.Tables.{decode-fits, fits-decode}
+use Rattle.machine.specs.Table.{Format, R, I, H, G, S, B, U, J, N, mask_of, row_of, fits, kinds, ins_of, decode_of, Kind, Ins}
+use Rattle.machine.proofs.Lemmas.{each_kind, decode-fits, fits-decode}
 use Rattle.rv_decode.specs.declared.table.Row.{Row}
 use Rattle.rv_decode.specs.Formats.{format_of}
 use Rattle.rv_decode.specs.Rows.{matches, first_fit, places, listed_at}

@@ -1,5 +1,5 @@
 -- The formats of the code, as those of the table.
-use Rattle.qed_model.specs.Machine.Table as table
+use Rattle.machine.specs.Table as table
 use Rattle.rv_decode.specs.declared.format.Format.{Format}
 use Rattle.rv_decode.specs.declared.format.Format.TheVariants.{Register, Immediate, Shift, WordShift, Store, Branch, Upper, Jump, Bare}
 

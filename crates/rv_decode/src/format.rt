@@ -1,7 +1,7 @@
 //! The fields of a word in each format (RISC-V unprivileged manual, "Base Instruction Formats" and
 //! "Immediate Encoding Variants"): rd in bits 7 to 11, rs1 in 15 to 19, rs2 in 20 to 24.
 ghost use Rattle.std.specs.Prelude.{◌≡◌, ℕ, ◌^◌, ◌<◌, ◌≤◌};
-ghost use Rattle.qed_model.specs.Machine.Table.{R, I, H, G, S, B, U, J, N, ins_of, signed as signed_of};
+ghost use Rattle.machine.specs.Table.{R, I, H, G, S, B, U, J, N, ins_of, signed as signed_of};
 ghost use Rattle.rv_decode.specs.Formats.{format_of};
 
 use rv_isa::{Field, Ins, Kind, Reg};
@@ -73,7 +73,7 @@ fn signed(width: u32, bits: u32) -> i64
 }
 
 /// Format R: three registers.
-#[tactic(auto, unfolding(qed_model::specs::Machine::Table::ins_of))]
+#[tactic(auto, unfolding(machine::specs::Table::ins_of))]
 fn register_format(kind: Kind, word: u32) -> Ins
     ensures { result ≡ ins_of R kind word }
 {
@@ -87,7 +87,7 @@ fn register_format(kind: Kind, word: u32) -> Ins
 }
 
 /// Format I: a signed number of 12 bits.
-#[tactic(auto, unfolding(qed_model::specs::Machine::Table::ins_of))]
+#[tactic(auto, unfolding(machine::specs::Table::ins_of))]
 fn immediate_format(kind: Kind, word: u32) -> Ins
     ensures { result ≡ ins_of I kind word }
 {
@@ -101,7 +101,7 @@ fn immediate_format(kind: Kind, word: u32) -> Ins
 }
 
 /// Format I with a shift amount of 6 bits.
-#[tactic(auto, unfolding(qed_model::specs::Machine::Table::ins_of))]
+#[tactic(auto, unfolding(machine::specs::Table::ins_of))]
 fn shift_format(kind: Kind, word: u32) -> Ins
     ensures { result ≡ ins_of H kind word }
 {
@@ -115,7 +115,7 @@ fn shift_format(kind: Kind, word: u32) -> Ins
 }
 
 /// Format I with a shift amount of 5 bits.
-#[tactic(auto, unfolding(qed_model::specs::Machine::Table::ins_of))]
+#[tactic(auto, unfolding(machine::specs::Table::ins_of))]
 fn word_shift_format(kind: Kind, word: u32) -> Ins
     ensures { result ≡ ins_of G kind word }
 {
@@ -129,7 +129,7 @@ fn word_shift_format(kind: Kind, word: u32) -> Ins
 }
 
 /// Format S: a signed number of 12 bits in two places.
-#[tactic(auto, unfolding(qed_model::specs::Machine::Table::ins_of))]
+#[tactic(auto, unfolding(machine::specs::Table::ins_of))]
 fn store_format(kind: Kind, word: u32) -> Ins
     ensures { result ≡ ins_of S kind word }
 {
@@ -144,7 +144,7 @@ fn store_format(kind: Kind, word: u32) -> Ins
 }
 
 /// Format B: a signed, even number of 13 bits in four places.
-#[tactic(auto, unfolding(qed_model::specs::Machine::Table::ins_of))]
+#[tactic(auto, unfolding(machine::specs::Table::ins_of))]
 fn branch_format(kind: Kind, word: u32) -> Ins
     ensures { result ≡ ins_of B kind word }
 {
@@ -162,7 +162,7 @@ fn branch_format(kind: Kind, word: u32) -> Ins
 }
 
 /// Format U: the upper 20 of 32 bits.
-#[tactic(auto, unfolding(qed_model::specs::Machine::Table::ins_of))]
+#[tactic(auto, unfolding(machine::specs::Table::ins_of))]
 fn upper_format(kind: Kind, word: u32) -> Ins
     ensures { result ≡ ins_of U kind word }
 {
@@ -176,7 +176,7 @@ fn upper_format(kind: Kind, word: u32) -> Ins
 }
 
 /// Format J: a signed, even number of 21 bits in four places.
-#[tactic(auto, unfolding(qed_model::specs::Machine::Table::ins_of))]
+#[tactic(auto, unfolding(machine::specs::Table::ins_of))]
 fn jump_format(kind: Kind, word: u32) -> Ins
     ensures { result ≡ ins_of J kind word }
 {
@@ -194,7 +194,7 @@ fn jump_format(kind: Kind, word: u32) -> Ins
 }
 
 /// No fields.
-#[tactic(auto, unfolding(qed_model::specs::Machine::Table::ins_of))]
+#[tactic(auto, unfolding(machine::specs::Table::ins_of))]
 fn no_fields(kind: Kind) -> Ins
     ensures { (w : ℕ) → result ≡ ins_of N kind w }
 {

@@ -9,7 +9,7 @@ mod rows;
 mod table;
 
 ghost use Rattle.std.specs.Prelude.{◌≡◌, ◌↔◌, Some};
-ghost use Rattle.qed_model.specs.Machine.Table.{decode_of, encode_of};
+ghost use Rattle.machine.specs.Table.{decode_of, encode_of};
 ghost use Rattle.rv_isa.specs.declared.ins.Ins.{Ins};
 
 use rows::{first_row, rows_at};

@@ -2,8 +2,8 @@
 use Rattle.std.proofs.Common.{◌≡◌, ℕ, ◌+◌, ◌*◌, ◌/◌, ◌%◌, ◌^◌, ◌<◌, ◌≤◌, List, [], ◌∷◌, inr, refl, sym, ap, ◌∙◌, arith}
 use Rattle.rv_isa.specs.Field.{bits, with_bits}
 use Rattle.rv_isa.proofs.FieldLaws.{with_bits-free, bits-with_bits_others}
-use Rattle.qed_model.specs.Machine.Table.{R, I, H, S, B, word_R, word_I, word_S, word_B}
-use Rattle.qed_model.proofs.Masks.{middle_is, high_is, high6_is}
+use Rattle.machine.specs.Table.{R, I, H, S, B, word_R, word_I, word_S, word_B}
+use Rattle.machine.proofs.Lemmas.{middle_is, high_is, high6_is}
 use Rattle.rv_encode.specs.Rows.{IsMatch}
 
 -- a field: its first bit, its width, and the number that it is given

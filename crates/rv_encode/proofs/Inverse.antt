@@ -1,9 +1,8 @@
 -- Encoding is the inverse of decoding.
 use Rattle.std.proofs.Common.{◌≡◌, ℕ, ◌^◌, ◌<◌, sym, ◌∙◌}
 use Rattle.std.specs.Prelude.{◌↔◌, Option, Some}
-use Rattle.rv_isa.specs.declared.ins.Ins.{Ins}
-use Rattle.qed_model.specs.Machine.Table.{decode_of, encode_of}
-use Rattle.qed_model.proofs.Tables.{encode_decode, decode_encode}
+use Rattle.machine.specs.Table.{decode_of, encode_of, Ins}
+use Rattle.machine.proofs.Lemmas.{encode_decode, decode_encode}
 
 -- the word of an instruction is the word that decodes to it
 pub encoded_decoded : (i : Ins) (r : Option ℕ) → r ≡ encode_of i → (w : ℕ) → (r ≡ Some w) ↔ ((w < 2 ^ 32) × (decode_of w ≡ Some i))

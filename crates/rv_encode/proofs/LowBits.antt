@@ -5,8 +5,8 @@ use Rattle.std.proofs.lemmas.Bool.{ltb-true}
 use Rattle.std.proofs.lemmas.Nat.{and_mask, pow_pos, pow-add, mod_low}
 use Rattle.std.proofs.lemmas.Nat.Bits.{ones_shr}
 use Rattle.std.proofs.Math.Nat.{mod-eq_of_lt}
-use Rattle.qed_model.specs.Machine.Table.{fits_signed, to_bits}
-use Rattle.qed_model.proofs.Formats.{to_bits-lt}
+use Rattle.machine.specs.Table.{fits_signed, to_bits}
+use Rattle.machine.proofs.Lemmas.{to_bits-lt}
 
 -- 2^w is twice 2^(w - 1)
 half : (w : ℕ) → 1 ≤ w → 2 ^ w ≡ 2 ^ (w - 1) + 2 ^ (w - 1)

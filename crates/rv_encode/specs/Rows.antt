@@ -1,6 +1,6 @@
 -- The rows of the instruction table, as the code takes them.
 use Rattle.std.specs.Prelude.{◌≡◌, ℕ, bit_and}
-use Rattle.qed_model.specs.Machine.Table.{Format, mask_of}
+use Rattle.machine.specs.Table.{Format, mask_of}
 
 -- a row's match: no bit stands outside of the format's mask
 abbrev pub IsMatch : Format → ℕ → Type 0

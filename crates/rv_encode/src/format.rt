@@ -2,7 +2,7 @@
 //! the immediate is out of its range or off its grain, or where a field that the format does not
 //! have is not 0.
 ghost use Rattle.std.specs.Prelude.{◌≡◌};
-ghost use Rattle.qed_model.specs.Machine.Table.{R, I, H, G, S, B, U, J, N, word_of};
+ghost use Rattle.machine.specs.Table.{R, I, H, G, S, B, U, J, N, word_of};
 ghost use Rattle.rv_encode.specs.Rows.{IsMatch};
 
 use crate::immediate::{fits_below, fits_signed, to_bits};
@@ -14,7 +14,7 @@ use rv_isa::Ins;
 
 /// Format R: three registers.
 #[inline]
-#[tactic(auto, unfolding(qed_model::specs::Machine::Table::word_of))]
+#[tactic(auto, unfolding(machine::specs::Table::word_of))]
 pub fn register_format(fixed: u32, ins: &Ins) -> Option<u32>
     requires { IsMatch R fixed }
     ensures { result ≡ word_of R fixed ins.now }
@@ -27,7 +27,7 @@ pub fn register_format(fixed: u32, ins: &Ins) -> Option<u32>
 
 /// Format I: a signed number of 12 bits.
 #[inline(always)]
-#[tactic(auto, unfolding(qed_model::specs::Machine::Table::word_of))]
+#[tactic(auto, unfolding(machine::specs::Table::word_of))]
 pub fn immediate_format(fixed: u32, ins: &Ins) -> Option<u32>
     requires { IsMatch I fixed }
     ensures { result ≡ word_of I fixed ins.now }
@@ -41,7 +41,7 @@ pub fn immediate_format(fixed: u32, ins: &Ins) -> Option<u32>
 
 /// Format I with a shift amount of 6 bits.
 #[inline]
-#[tactic(auto, unfolding(qed_model::specs::Machine::Table::word_of))]
+#[tactic(auto, unfolding(machine::specs::Table::word_of))]
 pub fn shift_format(fixed: u32, ins: &Ins) -> Option<u32>
     requires { IsMatch H fixed }
     ensures { result ≡ word_of H fixed ins.now }
@@ -55,7 +55,7 @@ pub fn shift_format(fixed: u32, ins: &Ins) -> Option<u32>
 
 /// Format I with a shift amount of 5 bits.
 #[inline]
-#[tactic(auto, unfolding(qed_model::specs::Machine::Table::word_of))]
+#[tactic(auto, unfolding(machine::specs::Table::word_of))]
 pub fn word_shift_format(fixed: u32, ins: &Ins) -> Option<u32>
     requires { IsMatch G fixed }
     ensures { result ≡ word_of G fixed ins.now }
@@ -69,7 +69,7 @@ pub fn word_shift_format(fixed: u32, ins: &Ins) -> Option<u32>
 
 /// Format S: a signed number of 12 bits in two places.
 #[inline]
-#[tactic(auto, unfolding(qed_model::specs::Machine::Table::word_of))]
+#[tactic(auto, unfolding(machine::specs::Table::word_of))]
 pub fn store_format(fixed: u32, ins: &Ins) -> Option<u32>
     requires { IsMatch S fixed }
     ensures { result ≡ word_of S fixed ins.now }
@@ -83,7 +83,7 @@ pub fn store_format(fixed: u32, ins: &Ins) -> Option<u32>
 
 /// Format B: a signed, even number of 13 bits in four places.
 #[inline(always)]
-#[tactic(auto, unfolding(qed_model::specs::Machine::Table::word_of))]
+#[tactic(auto, unfolding(machine::specs::Table::word_of))]
 pub fn branch_format(fixed: u32, ins: &Ins) -> Option<u32>
     requires { IsMatch B fixed }
     ensures { result ≡ word_of B fixed ins.now }
@@ -101,7 +101,7 @@ pub fn branch_format(fixed: u32, ins: &Ins) -> Option<u32>
 
 /// Format U: the upper 20 of 32 bits.
 #[inline(always)]
-#[tactic(auto, unfolding(qed_model::specs::Machine::Table::word_of))]
+#[tactic(auto, unfolding(machine::specs::Table::word_of))]
 pub fn upper_format(fixed: u32, ins: &Ins) -> Option<u32>
     requires { IsMatch U fixed }
     ensures { result ≡ word_of U fixed ins.now }
@@ -119,7 +119,7 @@ pub fn upper_format(fixed: u32, ins: &Ins) -> Option<u32>
 
 /// Format J: a signed, even number of 21 bits in four places.
 #[inline]
-#[tactic(auto, unfolding(qed_model::specs::Machine::Table::word_of))]
+#[tactic(auto, unfolding(machine::specs::Table::word_of))]
 pub fn jump_format(fixed: u32, ins: &Ins) -> Option<u32>
     requires { IsMatch J fixed }
     ensures { result ≡ word_of J fixed ins.now }
@@ -137,7 +137,7 @@ pub fn jump_format(fixed: u32, ins: &Ins) -> Option<u32>
 
 /// No fields: each is 0.
 #[inline]
-#[tactic(auto, unfolding(qed_model::specs::Machine::Table::word_of))]
+#[tactic(auto, unfolding(machine::specs::Table::word_of))]
 pub fn no_fields(fixed: u32, ins: &Ins) -> Option<u32>
     ensures { result ≡ word_of N fixed ins.now }
 {

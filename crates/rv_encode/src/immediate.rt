@@ -1,6 +1,6 @@
 //! The bits of immediates.
 ghost use Rattle.std.specs.Prelude.{◌≡◌, ◌^◌, ◌<◌, ◌≤◌, true};
-ghost use Rattle.qed_model.specs.Machine.Table.{fits_signed as fits_signed_of, fits_below as fits_below_of, to_bits as to_bits_of};
+ghost use Rattle.machine.specs.Table.{fits_signed as fits_signed_of, fits_below as fits_below_of, to_bits as to_bits_of};
 
 /// Whether this is a signed number of so many bits.
 #[inline]

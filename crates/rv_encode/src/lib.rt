@@ -10,7 +10,7 @@ mod rows;
 mod word;
 
 ghost use Rattle.std.specs.Prelude.{◌≡◌, ◌↔◌, ◌<◌, ◌^◌, ℕ, Some};
-ghost use Rattle.qed_model.specs.Machine.Table.{decode_of, encode_of};
+ghost use Rattle.machine.specs.Table.{decode_of, encode_of};
 
 use rows::any_row;
 use rv_isa::Ins;

@@ -1,12 +1,12 @@
 //! The word of an instruction by the row of its kind.
 ghost use Rattle.std.specs.Prelude.{◌≡◌};
-ghost use Rattle.qed_model.specs.Machine.Table.{encode_of};
+ghost use Rattle.machine.specs.Table.{encode_of};
 
 use crate::format::{
     branch_format, immediate_format, jump_format, no_fields, register_format, shift_format,
     store_format, upper_format, word_shift_format,
 };
-use qed_model::rows;
+use machine::rows;
 use rv_isa::{Ins, Kind};
 
 // The word of the instruction by the row of its kind, of which each has one.
@@ -20,7 +20,7 @@ macro_rules! row_of_kind {
 
 /// The word of an instruction of any kind.
 #[inline(always)]
-#[tactic(auto, unfolding(qed_model::specs::Machine::Table::encode_of))]
+#[tactic(auto, unfolding(machine::specs::Table::encode_of))]
 pub fn any_row(ins: &Ins) -> Option<u32>
     ensures { result ≡ encode_of ins.now }
 {

@@ -1,7 +1,7 @@
 //! Words of the fixed bits of a row and its fields, each put in its place by `Field::set` (RISC-V
 //! unprivileged manual, "Base Instruction Formats" and "Immediate Encoding Variants").
 ghost use Rattle.std.specs.Prelude.{◌≡◌, ◌^◌, ◌<◌};
-ghost use Rattle.qed_model.specs.Machine.Table.{R, I, H, G, S, B, U, J, word_R, word_I, word_S, word_B, word_U, word_J};
+ghost use Rattle.machine.specs.Table.{R, I, H, G, S, B, U, J, word_R, word_I, word_S, word_B, word_U, word_J};
 ghost use Rattle.rv_encode.specs.Rows.{IsMatch};
 
 use rv_isa::{Field, Reg};

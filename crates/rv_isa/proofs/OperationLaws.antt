@@ -1,6 +1,7 @@
 -- The registers that an instruction reads and writes, under other names too.
 use Rattle.std.proofs.Common.{◌≡◌, ℕ, zero, suc, ◌<◌, ◌≤◌, Bool, true, false, List, length, Some, inl, inr, refl, sym, ap, ◌∙◌, arith}
 use Rattle.std.specs.Prelude.{slice_index}
+use Rattle.rv_isa.specs.declared.profile.TheConstants.{LAST_ORIGINAL}
 use Rattle.rv_isa.specs.declared.ins.Ins.{Ins}
 use Rattle.rv_isa.specs.Kind.{class_of, writes_rd, reads_rs1, reads_rs2}
 use Rattle.rv_isa.specs.Ins.{named, writes}
@@ -53,10 +54,10 @@ pub pair-above : (r : ℕ) → 0 < r → 0 < pair r
 pair-above zero h = h
 pair-above (suc r) h = omega arith
 
-pub pair-lt : (r : ℕ) → r ≤ 13 → pair r < 32
+pub pair-lt : (r : ℕ) → r ≤ LAST_ORIGINAL → pair r < 32
 pair-lt zero h = omega arith
 pair-lt (suc r) h = omega (arith, h)
 
-pub pair-le : (r : ℕ) → r ≤ 13 → pair r ≤ 29
+pub pair-le : (r : ℕ) → r ≤ LAST_ORIGINAL → pair r ≤ 29
 pair-le zero h = omega arith
 pair-le (suc r) h = omega (arith, h)

@@ -1,5 +1,6 @@
 -- What instructions that touch no memory do to registers and pc, and the laws of that.
 use Rattle.std.specs.Prelude.{◌≡◌, ℕ, zero, suc, ◌+◌, ◌<◌, ◌≤◌, ◌⊎◌, List, length, slice_index, Some}
+use Rattle.rv_isa.specs.declared.profile.TheConstants.{LAST_ORIGINAL, PAIR_DISTANCE}
 use Rattle.rv_isa.specs.declared.class.Class.{Class}
 use Rattle.rv_isa.specs.declared.ins.Ins.{Ins}
 use Rattle.rv_isa.specs.Kind.{class_of}
@@ -17,7 +18,7 @@ ReadsRegister i r = ((reads i).0 ≡ Some r) ⊎ ((reads i).1 ≡ Some r)
 -- the register that holds the duplicate of x0 to x13
 abbrev pub pair : ℕ → ℕ
 pair zero = 0
-pair (suc r) = suc r + 16
+pair (suc r) = suc r + PAIR_DISTANCE
 
 -- the instruction on other registers
 abbrev pub renamed_by : (ℕ → ℕ) → Ins → Ins
@@ -29,9 +30,9 @@ renamed i = renamed_by pair i
 
 -- no register above x13: each has a pair
 pub record IsLow (i : Ins) : Type 0 where
-  pub rd : i.rd ≤ 13
-  pub rs1 : i.rs1 ≤ 13
-  pub rs2 : i.rs2 ≤ 13
+  pub rd : i.rd ≤ LAST_ORIGINAL
+  pub rs1 : i.rs1 ≤ LAST_ORIGINAL
+  pub rs2 : i.rs2 ≤ LAST_ORIGINAL
 
 -- ---- laws of an operation, which is for some classes. From an instruction, the pc and the numbers of the registers it makes the
 -- new numbers and the next pc.

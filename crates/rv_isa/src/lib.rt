@@ -9,6 +9,7 @@ mod field;
 mod ins;
 mod kind;
 mod operation;
+pub mod profile;
 mod reg;
 mod regs;
 

@@ -1,6 +1,8 @@
 //! The registers x0 to x31.
 ghost use Rattle.std.specs.Prelude.{◌≡◌, ◌≢◌, ◌+◌, ◌<◌, ◌≤◌, ◌↔◌, IsSome, IfSome};
+ghost use Rattle.rv_isa.specs.declared.profile.TheConstants.{LAST_ORIGINAL, PAIR_DISTANCE};
 
+use crate::profile::PAIR_DISTANCE;
 use std::marker::Model;
 
 /// A register, by its number from 0 to 31: x0 to x31.
@@ -52,15 +54,15 @@ impl Reg {
 
     /// The register that holds the duplicate of this one: x(r+16) for x1 to x13, x0 for x0.
     pub fn pair(&self) -> Reg
-        requires { self.now ≤ 13 }
+        requires { self.now ≤ LAST_ORIGINAL }
         ensures zero { self.now ≡ 0 → result ≡ 0 }
-        ensures other { self.now ≢ 0 → result ≡ self.now + 16 }
+        ensures other { self.now ≢ 0 → result ≡ self.now + PAIR_DISTANCE }
     {
         if self.number == 0 {
             Reg { number: 0 }
         } else {
             Reg {
-                number: self.number + 16,
+                number: self.number + PAIR_DISTANCE,
             }
         }
     }

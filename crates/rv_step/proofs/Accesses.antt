@@ -1,16 +1,12 @@
 -- Loads and stores of a hart in a memory, and instructions that stop it.
 use Rattle.std.proofs.Common.{◌≡◌, ℕ, Bool, true, false, cond, Some, None, refl, sym, ap, ◌∙◌, subst}
-use Rattle.rv_isa.specs.declared.class.Class.{Class}
 use Rattle.rv_isa.specs.declared.class.Class.TheVariants as class
 use Rattle.rv_isa.specs.declared.kind.Kind.{Kind}
-use Rattle.rv_isa.specs.declared.ins.Ins.{Ins}
-use Rattle.rv_isa.specs.Kind.{class_of}
-use Rattle.rv_isa.specs.Regs.{set_reg}
-use Rattle.qed_model.specs.declared.machine.Cause.TheVariants as cause
-use Rattle.qed_model.specs.declared.machine.Outcome.TheVariants.{Ended, Fired}
-use Rattle.qed_model.specs.Machine.Memory.{Memory, grants, number, put}
-use Rattle.qed_model.specs.Machine.Values.{loaded, width_of}
-use Rattle.qed_model.specs.Machine.Step.{State, computed_value, execute, moved, next_pc, place, reg, stopped, stored, trapped}
+use Rattle.machine.specs.declared.outcome.Cause.TheVariants as cause
+use Rattle.machine.specs.declared.outcome.Outcome.TheVariants.{Ended, Fired}
+use Rattle.machine.specs.Memory.{Memory, grants, number, put}
+use Rattle.machine.specs.Values.{loaded, width_of}
+use Rattle.machine.specs.Step.{State, computed_value, execute, moved, next_pc, place, reg, stopped, stored, trapped, Class, Ins, class_of, set_reg}
 use Rattle.mem_image.specs.Access.{allowed_number}
 use Rattle.rv_step.specs.Known.{at_state}
 use Rattle.rv_step.specs.Harts.{HartState, with_memory, LeadsIn}

@@ -8,9 +8,9 @@ use Rattle.std.proofs.lemmas.List.Folds.{list_any-append, list_any_at, list_any_
 use Rattle.std.proofs.lemmas.List.Sorted.{list_any-IsPermutation}
 use Rattle.std.proofs.lemmas.Bool.{cases_lt, false≢true}
 use Rattle.std.proofs.lemmas.Bool.Decides.{nat_tests}
-use Rattle.qed_model.specs.Machine.Step.{in_range}
-use Rattle.code_ranges.specs.declared.range.CodeRange.{CodeRange}
-use Rattle.code_ranges.specs.Ranges.{span, spans}
+use Rattle.machine.specs.Step.{in_range}
+use Rattle.tests.specs.declared.code_range.CodeRange.{CodeRange}
+use Rattle.tests.specs.Ranges.{span, spans}
 use Rattle.rv_step.specs.Reached.{spans_word, AreRising, BeginBy, IsAmong, IsFarthest}
 
 any_has : (a : ℕ) (rs : List (ℕ × ℕ)) → in_range a rs ≡ list_any (spans_word a) rs

@@ -2,11 +2,11 @@
 use Rattle.std.proofs.Common.{◌≡◌, ℕ, zero, suc, ◌+◌, ◌-◌, ◌^◌, ◌<◌, ◌≤◌, min, true, false, refl, sym, ap, ◌∙◌, subst, arith, ⊎_elim}
 use borrow.Author.Count.{below_more}
 use Rattle.std.proofs.lemmas.Bool.{cases_lt}
-use Rattle.qed_model.specs.declared.machine.Outcome.{Outcome}
-use Rattle.qed_model.specs.declared.machine.Outcome.TheVariants.{Going}
-use Rattle.qed_model.specs.Machine.Step.{State, step, step_at}
-use Rattle.qed_model.specs.Machine.Progress.{Progress, counted, advanced, steps_after, progress}
-use Rattle.qed_model.specs.Machine.Memory.{Memory}
+use Rattle.machine.specs.declared.outcome.Outcome.{Outcome}
+use Rattle.machine.specs.declared.outcome.Outcome.TheVariants.{Going}
+use Rattle.machine.specs.Step.{State, step, step_at}
+use Rattle.machine.specs.Progress.{Progress, counted, advanced, steps_after, progress}
+use Rattle.machine.specs.Memory.{Memory}
 use Rattle.rv_step.specs.Known.{at_state, goes_on, IsMade}
 use Rattle.rv_step.specs.Harts.{HartState, with_memory}
 

@@ -4,19 +4,16 @@ use Rattle.std.specs.Prelude.{◌==◌, ◌-◌, length}
 use Rattle.std.proofs.Math.ListN.{replicate, get_or}
 use Rattle.std.proofs.lemmas.List.Elements.{All-replicate}
 use Rattle.std.proofs.lemmas.Bool.{eq-eqb, eqb-true}
-use Rattle.rv_isa.specs.declared.ins.Ins.{Ins}
-use Rattle.rv_isa.specs.declared.class.Class.{Class}
 use Rattle.rv_isa.specs.declared.class.Class.TheVariants as class
-use Rattle.rv_isa.specs.Kind.{class_of}
-use Rattle.qed_model.specs.Machine.Memory.{Memory, grants, number, put}
-use Rattle.qed_model.specs.Machine.Program.{LoadSegment}
-use Rattle.qed_model.specs.Machine.Values.{holds, width_of}
-use Rattle.qed_model.specs.Machine.Step.{State, Fetched, Refused, Unknown, Known, known_or, fetched_at, reg, place, target, in_range, jumped, execute, act, next, step, step_at}
+use Rattle.machine.specs.Memory.{Memory, grants, number, put}
+use Rattle.machine.specs.Program.{LoadSegment}
+use Rattle.machine.specs.Values.{holds, width_of}
+use Rattle.machine.specs.Step.{State, Fetched, Refused, Unknown, Known, known_or, fetched_at, reg, place, target, in_range, jumped, execute, act, next, step, step_at, Ins, Class, class_of}
 use Rattle.mem_image.specs.Segments.{number_in}
 use Rattle.mem_image.specs.Fixed.{IsFixed}
 use Rattle.mem_image.proofs.FixedLaws.{fixed_number, fixed_put}
-use Rattle.qed_model.specs.declared.machine.Outcome.{Outcome}
-use Rattle.qed_model.specs.declared.machine.Outcome.TheVariants.{Going}
+use Rattle.machine.specs.declared.outcome.Outcome.{Outcome}
+use Rattle.machine.specs.declared.outcome.Outcome.TheVariants.{Going}
 use Rattle.rv_step.specs.Harts.{HartState, with_memory}
 use Rattle.rv_step.specs.Known.{goes_on, state_word}
 use Rattle.rv_step.specs.Windows.{IsIn, HasWord, IsKept, IsWindow, StandsFixed, IsHeld, IsTable, IsKnown}

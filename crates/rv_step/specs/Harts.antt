@@ -1,11 +1,11 @@
 -- Harts without their memory, and with one.
 use Rattle.std.specs.Prelude.{◌≡◌, ℕ, List, refl}
 use Rattle.std.specs.Coded.{Coded, code_by, coded×, coded_ℕ, coded_list}
-use Rattle.qed_model.specs.Machine.Memory.{Memory}
-use Rattle.qed_model.specs.Machine.Step.{State}
-use Rattle.qed_model.specs.Machine.Progress.{Progress}
-use Rattle.qed_model.specs.declared.machine.Outcome.{Outcome}
-use Rattle.qed_model.specs.contracts.machine.Outcome as outcome
+use Rattle.machine.specs.Memory.{Memory}
+use Rattle.machine.specs.Step.{State}
+use Rattle.machine.specs.Progress.{Progress}
+use Rattle.machine.specs.declared.outcome.Outcome.{Outcome}
+use Rattle.machine.specs.contracts.outcome.Outcome as outcome
 use Rattle.rv_step.specs.Known.{at_state}
 
 -- the registers x0 to x31, the pc, the code ranges by their first address and the one behind their last, the outcome, and the

@@ -1,16 +1,13 @@
 -- What stands at an address, and what a strike makes of a machine.
 use Rattle.std.specs.Prelude.{◌≡◌, ◌<◌, ◌≤◌, ℕ, ◌%◌, ◌==◌, ◌&&◌, Bool, true, false, cond, List, Option, None, Some}
-use Rattle.rv_isa.specs.declared.ins.Ins.{Ins}
-use Rattle.rv_isa.specs.declared.kind.Kind.{Kind}
-use Rattle.rv_isa.specs.declared.kind.Kind.TheVariants.{Lui, Auipc}
-use Rattle.qed_model.specs.Machine.Table.{row_of}
-use Rattle.qed_model.specs.Machine.Memory.{grants, number}
-use Rattle.qed_model.specs.Machine.Step.{State, Fetched, Refused, Unknown, Known, fetched_at, in_range, operand}
-use Rattle.qed_model.specs.declared.change.Place.{Place}
-use Rattle.qed_model.specs.declared.machine.Outcome.{Outcome}
-use Rattle.qed_model.specs.declared.machine.Outcome.TheVariants.{Going, Ended, Fired, Trapped}
-use Rattle.qed_model.specs.Machine.Progress.{Progress, progress}
-use Rattle.qed_model.specs.Machine.Struck.{struck}
+use Rattle.machine.specs.Table.{row_of, Ins, Kind, Lui, Auipc}
+use Rattle.machine.specs.Memory.{grants, number}
+use Rattle.machine.specs.Step.{State, Fetched, Refused, Unknown, Known, fetched_at, in_range, operand}
+use Rattle.machine.specs.declared.place.Place.{Place}
+use Rattle.machine.specs.declared.outcome.Outcome.{Outcome}
+use Rattle.machine.specs.declared.outcome.Outcome.TheVariants.{Going, Ended, Fired, Trapped}
+use Rattle.machine.specs.Progress.{Progress, progress}
+use Rattle.machine.specs.Struck.{struck}
 
 -- the instruction, where one was fetched
 abbrev pub instruction_of : Fetched → Option Ins

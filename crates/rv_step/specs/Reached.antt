@@ -1,7 +1,7 @@
 -- Code ranges in which a word is found by a search.
 use Rattle.std.specs.Prelude.{◌≡◌, ℕ, ◌+◌, ◌-◌, ◌<◌, ◌≤◌, ◌&&◌, Bool, true, nat_le, List, length, max, All, slice_index_or}
 use Rattle.std.specs.List.Sorted.{IsNonDecreasingBy}
-use Rattle.qed_model.specs.Machine.Step.{in_range}
+use Rattle.machine.specs.Step.{in_range}
 
 -- the four bytes from an address on lie in a range, which is told by its first address and the one behind its last
 abbrev pub spans_word : ℕ → ℕ × ℕ → Bool

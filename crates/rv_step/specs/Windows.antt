@@ -1,9 +1,8 @@
 -- What stands in the code of a state, where no store changes it.
 use Rattle.std.specs.Prelude.{◌≡◌, ℕ, ◌+◌, ◌-◌, ◌%◌, ◌^◌, ◌<◌, ◌≤◌, true, List, All, Option, Some, None}
-use Rattle.rv_isa.specs.declared.ins.Ins.{Ins}
-use Rattle.qed_model.specs.Machine.Table.{decode_of}
-use Rattle.qed_model.specs.Machine.Step.{State, in_range}
-use Rattle.qed_model.specs.Machine.Program.{LoadSegment}
+use Rattle.machine.specs.Table.{decode_of, Ins}
+use Rattle.machine.specs.Step.{State, in_range}
+use Rattle.machine.specs.Program.{LoadSegment}
 use Rattle.mem_image.specs.Segments.{has_all, number_in}
 use Rattle.mem_image.specs.Fixed.{IsFixed}
 use Rattle.rv_step.specs.declared.table.Entry.{Entry}

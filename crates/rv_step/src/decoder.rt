@@ -1,7 +1,7 @@
 //! Instructions that were decoded, kept by their words.
 ghost use Rattle.std.specs.Prelude.{◌≡◌, ◌<◌, ◌==◌, length, IfOk, IfSome, Some};
-ghost use Rattle.qed_model.specs.Machine.Step.{State};
-ghost use Rattle.qed_model.specs.Machine.Table.{decode_of};
+ghost use Rattle.machine.specs.Step.{State};
+ghost use Rattle.machine.specs.Table.{decode_of};
 ghost use Rattle.rv_step.specs.Windows.{IsTable};
 
 use crate::table::Table;
@@ -30,7 +30,7 @@ struct Known {
 
 impl Model for Known {
     ghost use Rattle.std.specs.Prelude.{◌≡◌, ℕ, Some};
-    ghost use Rattle.qed_model.specs.Machine.Table.{decode_of};
+    ghost use Rattle.machine.specs.Table.{decode_of};
 
     ghost Value = { ℕ };
 

@@ -3,15 +3,15 @@ ghost use Rattle.std.specs.Prelude.{◌≡◌, ◌≢◌, ◌+◌, ◌%◌, ◌^
 ghost use Rattle.rv_isa.specs.Kind.{class_of};
 ghost use Rattle.rv_isa.specs.Regs.{set_reg};
 ghost use Rattle.rv_isa.specs.declared.class.Class.TheVariants as class;
-ghost use Rattle.qed_model.specs.Machine.Step.{act, computed_value, execute, imm, moved, next, next_pc, stopped, trapped};
+ghost use Rattle.machine.specs.Step.{act, computed_value, execute, imm, moved, next, next_pc, stopped, trapped};
 ghost use Rattle.rv_alu.specs.Steps.{branched, IsComputing, IsBranching, IsJumping, IsPassing};
 ghost use Rattle.rv_step.specs.Harts.{with_memory, Leads, LeadsIn};
 ghost use Rattle.rv_step.specs.Known.{known_at, state_word, HasSecond};
 
 use crate::hart::Hart;
 use crate::loads::{extended, width};
+use machine::{Cause, Outcome, rows};
 use mem_image::Image;
-use qed_model::{Cause, Outcome, rows};
 use rv_alu::{Jumping, Passing, compute, taken};
 use rv_decode::decode;
 use rv_isa::{Ins, Kind, Operation, Reg};
@@ -42,7 +42,7 @@ impl Hart {
     }
 
     /// The instruction at an address, or None where no code may be executed there or the word is no instruction.
-    #[tactic(auto, unfolding(qed_model::specs::Machine::Step::fetched_at))]
+    #[tactic(auto, unfolding(machine::specs::Step::fetched_at))]
     pub(crate) fn known(&self, image: &Image, address: u64) -> Option<Ins>
         ensures { result ≡ known_at (with_memory self.now image.now).state address }
     {
@@ -180,7 +180,7 @@ impl Hart {
 
     /// One instruction, and whether it surely left the outcome. The pc is a multiple of 4, as it is where an instruction was fetched. Each
     /// `LOOP` is a function of its own, with one caller, so that LLVM puts it there.
-    #[tactic(auto, unfolding(qed_model::specs::Machine::Step::execute))]
+    #[tactic(auto, unfolding(machine::specs::Step::execute))]
     #[inline(always)]
     pub(crate) fn execute<const LOOP: u32>(
         &mut self,
@@ -211,7 +211,7 @@ impl Hart {
     }
 
     /// What a computing instruction of this kind writes to rd.
-    #[tactic(auto, unfolding(qed_model::specs::Machine::Step::computed_value))]
+    #[tactic(auto, unfolding(machine::specs::Step::computed_value))]
     #[inline(always)]
     fn computed(&self, kind: Kind, ins: &Ins, second: u64) -> u64
         requires class { IsComputing (class_of kind) }
@@ -242,7 +242,7 @@ impl Hart {
     }
 
     /// A load of this kind.
-    #[tactic(auto, unfolding(qed_model::specs::Machine::Step::execute))]
+    #[tactic(auto, unfolding(machine::specs::Step::execute))]
     #[inline(always)]
     fn load(&mut self, kind: Kind, ins: &Ins, image: &mut Image) -> bool
         requires { ins.now.kind ≡ kind }
@@ -259,7 +259,7 @@ impl Hart {
     }
 
     /// A store of this kind.
-    #[tactic(auto, unfolding(qed_model::specs::Machine::Step::execute))]
+    #[tactic(auto, unfolding(machine::specs::Step::execute))]
     #[inline(always)]
     fn store(&mut self, kind: Kind, ins: &Ins, image: &mut Image) -> Result<bool, AllocError>
         requires kind { ins.now.kind ≡ kind }

@@ -1,11 +1,11 @@
 //! A hart, whose memory is another's.
 ghost use Rattle.std.specs.Prelude.{◌≡◌, ◌-◌, ◌%◌, ◌<◌, ◌≤◌, true, false, IfOk, IfErr, IfSome, slice_index};
-ghost use Rattle.qed_model.specs.Machine.Memory.{Memory};
-ghost use Rattle.qed_model.specs.Machine.Loading.{loaded_file};
-ghost use Rattle.qed_model.specs.Machine.Program.{start};
-ghost use Rattle.qed_model.specs.Machine.Progress.{advanced, begun, progress};
-ghost use Rattle.qed_model.specs.Machine.Step.{State, step};
-ghost use Rattle.qed_model.specs.declared.change.Place.TheVariants.{Reg as InReg};
+ghost use Rattle.machine.specs.Memory.{Memory};
+ghost use Rattle.machine.specs.Loading.{loaded_file};
+ghost use Rattle.machine.specs.Program.{start};
+ghost use Rattle.machine.specs.Progress.{advanced, begun, progress};
+ghost use Rattle.machine.specs.Step.{State, step};
+ghost use Rattle.machine.specs.declared.place.Place.TheVariants.{Reg as InReg};
 ghost use Rattle.rv_step.specs.Harts.{hart_of, with_memory, LeadsIn};
 ghost use Rattle.rv_step.specs.Known.{goes_on, struck_progress, state_word, AreMade, IsMade, IsPart};
 ghost use Rattle.rv_step.specs.Reached.{AreWords};
@@ -16,14 +16,14 @@ use crate::range::Ranges;
 use crate::source::{Instructions, Source, Words};
 use crate::table::Table;
 use crate::window::Window;
-use code_ranges::code_ranges;
 use elf_types::ElfFile;
+use machine::Outcome;
 use mem_image::Image;
-use qed_model::Outcome;
 use rv_decode::decode;
 use rv_isa::{Ins, Reg, Regs};
 use std::alloc::{AllocError, Global};
 use std::marker::Model;
+use tests::code_ranges;
 
 /// How many steps are made before a run is long, so that a table of its instructions is worth what it costs.
 const FEW: u64 = 16384;
@@ -195,7 +195,7 @@ impl Hart {
     }
 
     /// The step of a hart that goes on, with the word at the pc, whose instruction is put into the table where no store changes it.
-    #[tactic(auto, unfolding(qed_model::specs::Machine::Step::step))]
+    #[tactic(auto, unfolding(machine::specs::Step::step))]
     #[inline(never)]
     pub(crate) fn step_new(
         &mut self,
@@ -340,7 +340,7 @@ impl Hart {
     }
 
     /// Gives a register other than x0 another number.
-    #[tactic(auto, unfolding(qed_model::specs::Machine::Struck::struck))]
+    #[tactic(auto, unfolding(machine::specs::Struck::struck))]
     pub fn set(&mut self, r: Reg, value: u64)
         ensures { (m : Memory) → with_memory self.new m ≡ struck_progress (InReg r) value (with_memory self.old m) }
     {

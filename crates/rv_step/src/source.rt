@@ -1,6 +1,6 @@
 //! Where the steps of a run have their instructions from.
 ghost use Rattle.std.specs.Prelude.{◌≡◌, true, IfOk, IfErr};
-ghost use Rattle.qed_model.specs.Machine.Step.{step};
+ghost use Rattle.machine.specs.Step.{step};
 ghost use Rattle.rv_step.specs.Harts.{with_memory, LeadsIn};
 ghost use Rattle.rv_step.specs.Known.{goes_on};
 
@@ -12,7 +12,7 @@ use std::alloc::AllocError;
 
 /// What a run has kept of the code, and its steps by that.
 pub(crate) trait Source {
-    ghost use Rattle.qed_model.specs.Machine.Step.{State};
+    ghost use Rattle.machine.specs.Step.{State};
 
     // What is kept stands in a state.
     ghost stands: { State → Self → Type 0 };
@@ -40,7 +40,7 @@ impl Source for Words {
 
     ghost stands = { λ s w. IsWindow s w.window };
 
-    #[tactic(auto, unfolding(qed_model::specs::Machine::Step::step))]
+    #[tactic(auto, unfolding(machine::specs::Step::step))]
     #[inline(always)]
     fn take_step(&mut self, hart: &mut Hart, image: &mut Image) -> Result<bool, AllocError> {
         let word = hart.word_in(image, &mut self.window, self.more);
@@ -61,7 +61,7 @@ impl Source for Instructions {
 
     ghost stands = { λ s k. IsKnown s k.window k.table };
 
-    #[tactic(auto, unfolding(qed_model::specs::Machine::Step::step))]
+    #[tactic(auto, unfolding(machine::specs::Step::step))]
     #[inline(always)]
     fn take_step(&mut self, hart: &mut Hart, image: &mut Image) -> Result<bool, AllocError> {
         let Some(ins) = self.table.at(hart.pc()) else {

@@ -1,14 +1,14 @@
 //! The machine that a file starts in.
 ghost use Rattle.std.specs.Prelude.{◌≡◌, ◌++◌, IfOk, true, false, OnOk};
 ghost use Rattle.elf_types.specs.declared.file.Segment.{Segment as ElfSegment};
-ghost use Rattle.qed_model.specs.Machine.Program.{start};
-ghost use Rattle.qed_model.specs.Machine.Loading.{load_segments, loaded_file};
-ghost use Rattle.qed_model.specs.Machine.Progress.{begun};
+ghost use Rattle.machine.specs.Program.{start};
+ghost use Rattle.machine.specs.Loading.{load_segments, loaded_file};
+ghost use Rattle.machine.specs.Progress.{begun};
 ghost use Rattle.mem_image.specs.Overlap.{segment_of, segments_of};
-ghost use Rattle.qed_model.specs.Machine.Apart.{AllFitMemory, AreApart};
+ghost use Rattle.machine.specs.Apart.{AllFitMemory, AreApart};
 
 use crate::hart::Hart;
-use crate::machine::Machine;
+use crate::system::Machine;
 use elf_types::{ElfFile, Segment};
 use mem_image::{Image, ImageError, SegmentSpec};
 use std::alloc::{AllocError, Global};

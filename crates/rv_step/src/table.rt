@@ -1,6 +1,6 @@
 //! Instructions by the addresses at which they stand.
 ghost use Rattle.std.specs.Prelude.{◌≡◌, ◌<◌, ◌%◌, IfOk, IfSome};
-ghost use Rattle.qed_model.specs.Machine.Step.{State, Known, next};
+ghost use Rattle.machine.specs.Step.{State, Known, next};
 ghost use Rattle.rv_step.specs.Windows.{IsHeld, IsTable};
 
 use rv_isa::Ins;

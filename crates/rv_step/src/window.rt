@@ -1,6 +1,6 @@
 //! A window on the code, in which words are found at once.
 ghost use Rattle.std.specs.Prelude.{◌≡◌, ℕ, ◌%◌, ◌≤◌, true, IfNone, IfSome};
-ghost use Rattle.qed_model.specs.Machine.Step.{State};
+ghost use Rattle.machine.specs.Step.{State};
 ghost use Rattle.mem_image.specs.Fixed.{IsFixed};
 ghost use Rattle.mem_image.specs.Segments.{has_all};
 ghost use Rattle.rv_step.specs.Known.{state_word};

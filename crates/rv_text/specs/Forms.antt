@@ -1,9 +1,8 @@
 -- How the operands of an instruction are written.
-use Rattle.rv_isa.specs.declared.kind.Kind.{Kind}
 use Rattle.rv_isa.specs.declared.class.Class.{Class}
 use Rattle.rv_isa.specs.declared.class.Class.TheVariants as class
 use Rattle.rv_isa.specs.Kind.{class_of}
-use Rattle.qed_model.specs.Machine.Table.{Format, R, I, H, G, S, B, U, J, N, row_of}
+use Rattle.machine.specs.Table.{Format, R, I, H, G, S, B, U, J, N, row_of, Kind}
 use Rattle.rv_text.specs.declared.forms.Form.{Form}
 use Rattle.rv_text.specs.declared.forms.Form.TheVariants.{Registers, Immediate, Load, Store, Branch, Upper, Jump, Bare}
 

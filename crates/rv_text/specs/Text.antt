@@ -1,9 +1,8 @@
 -- The text of a word: the name of its instruction and the operands.
 use Rattle.std.specs.Prelude.{ℕ, ◌++◌, List, codes, ℤ, Option, Some, None}
 use Rattle.std.specs.Fmt.{decimal, signed_decimal}
-use Rattle.rv_isa.specs.declared.ins.Ins.{Ins}
 use Rattle.rv_isa.specs.Field.{bits}
-use Rattle.qed_model.specs.Machine.Table.{decode_of}
+use Rattle.machine.specs.Table.{decode_of, Ins}
 use Rattle.texts.specs.Printed.{hex_digits, word_text}
 use Rattle.rv_text.specs.declared.forms.Form.{Form}
 use Rattle.rv_text.specs.declared.forms.Form.TheVariants.{Registers, Immediate, Load, Store, Branch, Upper, Jump, Bare}

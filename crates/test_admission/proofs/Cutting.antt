@@ -9,19 +9,16 @@ use Rattle.std.proofs.lemmas.List.Sorted.{IsPermutation-map, list_any-IsPermutat
 use Rattle.std.proofs.lemmas.Map.Views.{All-map-IsPermutation}
 use Rattle.std.proofs.Math.Bool.{and-false}
 use Rattle.elf_types.specs.declared.file.Section.{Section}
-use Rattle.qed_model.specs.Machine.Memory.{flags_of}
-use Rattle.qed_model.specs.Machine.Program.{LoadSegment}
-use Rattle.qed_model.specs.Machine.Loading.{load_segment, load_segments, lies_in_code, lies_in_any, section_ranges, segment_ranges, first_some, Segment, ElfFile}
-use Rattle.qed_model.specs.Machine.Cells.{byte_among}
-use Rattle.qed_model.specs.Admission.Terms.{is_cut, is_in, is_in_any}
-use Rattle.qed_model.specs.Admission.Rules.{is_misshapen_section, is_misshapen_segment, is_empty, section_range, segment_range}
-use Rattle.qed_model.specs.Admission.CodeWords.{loads_of, ranges_of}
-use Rattle.qed_model.proofs.Among.{all_among, among-map}
-use Rattle.qed_model.proofs.Pairs.{among_every, every_all}
-use Rattle.qed_model.proofs.ApartLaws.{fit_among}
-use Rattle.qed_model.specs.Members.{Among, Every}
-use Rattle.qed_model.proofs.Fetches.{OfSection, of_section, even_parts, none_passes}
-use Rattle.qed_model.proofs.ImageLaws.{among_load}
+use Rattle.machine.specs.Memory.{flags_of}
+use Rattle.machine.specs.Program.{LoadSegment}
+use Rattle.machine.specs.Loading.{load_segment, load_segments, lies_in_code, lies_in_any, section_ranges, segment_ranges, first_some, Segment, ElfFile}
+use Rattle.machine.specs.Cells.{byte_among}
+use Rattle.tests.specs.Admission.Terms.{is_cut, is_in, is_in_any}
+use Rattle.tests.specs.Admission.Rules.{is_misshapen_section, is_misshapen_segment, is_empty, section_range, segment_range}
+use Rattle.tests.specs.Admission.CodeWords.{loads_of, ranges_of}
+use Rattle.machine.proofs.Lemmas.{all_among, among-map, among_every, every_all, fit_among}
+use Rattle.machine.specs.Members.{Among, Every}
+use Rattle.tests.proofs.Lemmas.{OfSection, of_section, even_parts, none_passes, among_load}
 use Rattle.test_admission.specs.declared.stretches.Stretch.{Stretch}
 use Rattle.test_admission.specs.Read.{AreRead}
 use Rattle.test_admission.specs.Shape.{IsShaped}

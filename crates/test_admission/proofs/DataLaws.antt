@@ -3,19 +3,18 @@ use Rattle.std.proofs.Common.{◌≡◌, ⊎_elim, ℕ, ◌+◌, ◌<◌, max, t
 use Rattle.std.specs.Prelude.{nat_lt, map, filter, position}
 use Rattle.std.specs.List.{list_any}
 use Rattle.std.proofs.lemmas.Bool.{ltb-true, lt-ltb, and_from, and_parts}
-use Rattle.qed_model.specs.declared.admit.AdmitError.{AdmitError}
-use Rattle.qed_model.specs.declared.admit.AdmitError.TheVariants as error
-use Rattle.qed_model.specs.declared.options.Options.{Options}
-use Rattle.qed_model.specs.Admission.Terms.{image_segments, Segment, ElfFile}
-use Rattle.qed_model.specs.Admission.DataRanges.{is_executed, rounded, do_meet, meets_code, is_in, is_in_any, joined}
-use Rattle.qed_model.specs.Admission.Rules.{is_mixed}
-use Rattle.qed_model.specs.Admission.Refusals.{HasFault, place_of, IsRefusedBy}
-use Rattle.qed_model.specs.Weave.Places.{image_of}
-use Rattle.qed_model.proofs.Among.{passing, any_passing}
-use Rattle.qed_model.specs.Members.{Among}
-use Rattle.qed_model.proofs.DataRangesLaws.{Spaced, AllSome, AllRoom, in_from, in_parts, in_any-joined, spaced-joined}
-use Rattle.qed_model.proofs.ImageLaws.{image_room}
-use Rattle.qed_model.proofs.BlocksOnly.{same_tests}
+use Rattle.tests.specs.declared.admit.AdmitError.{AdmitError}
+use Rattle.tests.specs.declared.admit.AdmitError.TheVariants as error
+use Rattle.tests.specs.declared.options.Options.{Options}
+use Rattle.tests.specs.Admission.Terms.{image_segments, Segment, ElfFile}
+use Rattle.tests.specs.Admission.DataRanges.{is_executed, rounded, do_meet, meets_code, is_in, is_in_any, joined}
+use Rattle.tests.specs.Admission.Rules.{is_mixed}
+use Rattle.tests.specs.Admission.Refusals.{HasFault, place_of, IsRefusedBy}
+use Rattle.tests.specs.Admission.Places.{image_of}
+use Rattle.machine.proofs.Lemmas.{passing, any_passing}
+use Rattle.machine.specs.Members.{Among}
+use Rattle.tests.proofs.Lemmas.{Spaced, AllSome, AllRoom, in_from, in_parts, in_any-joined, spaced-joined, image_room}
+use Rattle.qed_model.proofs.Lemmas.{same_tests}
 use Rattle.test_admission.specs.declared.spans.Span.{Span}
 use Rattle.test_admission.specs.Spans.{all_bounds}
 use Rattle.test_admission.specs.DataSpans.{code_parts, AreCode}

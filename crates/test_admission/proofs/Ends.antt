@@ -2,26 +2,22 @@
 use Rattle.std.proofs.Common.{◌≡◌, ℕ, ◌+◌, ◌-◌, ◌*◌, ◌/◌, ◌%◌, ◌^◌, ◌<◌, ◌≤◌, true, List, [], ◌∷◌, refl, sym, ap, ◌∙◌, subst, arith}
 use Rattle.std.specs.Prelude.{nat_lt, ◌==◌}
 use Rattle.std.proofs.lemmas.Bool.{ltb-true, eqb-true, and_parts}
-use Rattle.code_ranges.specs.declared.range.CodeRange.{CodeRange}
-use Rattle.code_ranges.specs.Ranges.{span, spans}
-use Rattle.qed_model.specs.declared.options.Options.{Options}
-use Rattle.qed_model.specs.Machine.Memory.{flags_of}
-use Rattle.qed_model.specs.Machine.Program.{LoadSegment}
-use Rattle.qed_model.specs.Machine.Loading.{section_ranges, segment_ranges, first_some, ElfFile}
-use Rattle.qed_model.specs.Admission.DataRanges.{rounded, is_data, is_in, is_in_any, data_segments, data_parts, data_ranges}
-use Rattle.qed_model.specs.Admission.CodeWords.{loads_of, ranges_of}
-use Rattle.qed_model.specs.Admission.Refusals.{IsAdmitted}
-use Rattle.qed_model.specs.Weave.OutputParts.{high_of}
-use Rattle.qed_model.specs.Weave.Places.{image_of}
-use Rattle.qed_model.proofs.Pairs.{among_every, every_all}
-use Rattle.qed_model.proofs.Among.{among-map, among-kept, source_of, passing, any_passing}
-use Rattle.qed_model.specs.Members.{Among}
-use Rattle.qed_model.proofs.DataRangesLaws.{spaced_data, spaced_from, in_data, in_from, in_parts}
-use Rattle.qed_model.proofs.ImageLaws.{load_source, image_room, in_image, high_most}
+use Rattle.tests.specs.declared.code_range.CodeRange.{CodeRange}
+use Rattle.tests.specs.Ranges.{span, spans}
+use Rattle.tests.specs.declared.options.Options.{Options}
+use Rattle.machine.specs.Memory.{flags_of}
+use Rattle.machine.specs.Program.{LoadSegment}
+use Rattle.machine.specs.Loading.{section_ranges, segment_ranges, first_some, ElfFile}
+use Rattle.tests.specs.Admission.DataRanges.{rounded, is_data, is_in, is_in_any, data_segments, data_parts, data_ranges}
+use Rattle.tests.specs.Admission.CodeWords.{loads_of, ranges_of}
+use Rattle.tests.specs.Admission.Refusals.{IsAdmitted}
+use Rattle.tests.specs.Admission.Places.{high_of, image_of}
+use Rattle.machine.proofs.Lemmas.{among_every, every_all, among-map, among-kept, source_of, passing, any_passing}
+use Rattle.machine.specs.Members.{Among}
+use Rattle.tests.proofs.Lemmas.{spaced_data, spaced_from, in_data, in_from, in_parts, load_source, image_room, in_image, high_most, OfSection, of_section}
 use Rattle.test_admission.specs.declared.spans.Span.{Span}
 use Rattle.test_admission.specs.Spans.{bounds_of, all_bounds}
 use Rattle.test_admission.specs.Made.{RangesEnd, SpansEnd}
-use Rattle.qed_model.proofs.Fetches.{OfSection, of_section}
 use Rattle.test_admission.proofs.Cutting.{SegmentOf, segment_of, spans-whole, lies_low}
 
 -- a loaded segment that has bytes in memory is of the image

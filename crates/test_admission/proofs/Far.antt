@@ -3,8 +3,8 @@ use Rattle.std.proofs.Common.{◌≡◌, ℕ, suc, ◌+◌, ◌-◌, ◌%◌, �
 use Rattle.std.specs.Prelude.{nat_lt, nat_le, pos, negsuc}
 use Rattle.std.proofs.lemmas.Bool.{ltb-true, ltb-false}
 use Rattle.std.proofs.lemmas.Bool.Decides.{nat_tests}
-use Rattle.qed_model.specs.Weave.Placed.{distance_between}
-use Rattle.qed_model.specs.Admission.Rules.{is_far}
+use Rattle.machine.specs.Offsets.{distance_between}
+use Rattle.tests.specs.Admission.Rules.{is_far}
 
 low : (d : ℕ) → d < 2 ^ 63 → not (nat_lt d (2 ^ 28)) ≡ (nat_le (2 ^ 28) d && nat_le d (2 ^ 64 - 1 - 2 ^ 28))
 low d h = grind (arith, nat_tests)

@@ -4,34 +4,30 @@ use Rattle.std.specs.Prelude.{map, ◌==◌, is_some}
 use Rattle.std.specs.Option.{option_map, option_or}
 use Rattle.std.proofs.lemmas.Bool.{false≢true, and_parts, and_from, eqb-true, eq-eqb, or_cases, or_right}
 use Rattle.std.proofs.lemmas.List.Elements.{All-nil, All-cons}
-use Rattle.qed_model.specs.declared.admit.AdmitError.{AdmitError}
-use Rattle.qed_model.specs.declared.admit.AdmitError.TheVariants as error
-use Rattle.qed_model.specs.declared.options.Options.{Options}
-use Rattle.qed_model.specs.Below.{first, IsFirstBelow}
-use Rattle.qed_model.specs.Machine.Table.{decode_of, Ins}
-use Rattle.qed_model.specs.Machine.Step.{target}
-use Rattle.qed_model.specs.Machine.Program.{LoadSegment}
-use Rattle.qed_model.specs.Machine.Cells.{byte_among, number_among}
-use Rattle.qed_model.specs.Weave.Placed.{distance_between}
-use Rattle.qed_model.specs.Weave.OutputParts.{base_of}
-use Rattle.qed_model.specs.Weave.Places.{image_of, ElfFile}
-use Rattle.qed_model.specs.Admission.DataRanges.{is_in, is_in_any}
-use Rattle.qed_model.specs.Admission.CodeWords.{loads_of, ranges_of, is_code, word_at, instruction_at}
-use Rattle.qed_model.specs.Admission.Rules.{passes_at, high_in, high_at, is_unknown, is_breakpoint, is_far_constant, is_ebreak, is_far}
-use Rattle.qed_model.specs.Weave.Sequences.{is_auipc}
-use Rattle.qed_model.specs.Admission.Refusals.{HasFault, place_of, IsLeast, IsRefusedBy}
-use Rattle.qed_model.specs.Members.{Every}
-use Rattle.qed_model.proofs.Among.{all_among}
-use Rattle.qed_model.proofs.Pairs.{among_every}
-use Rattle.qed_model.proofs.BelowLaws.{first_least, each_fails}
-use Rattle.qed_model.proofs.CellsAmong.{by_bytes}
-use Rattle.qed_model.proofs.DataRangesLaws.{in_parts, in_from}
+use Rattle.tests.specs.declared.admit.AdmitError.{AdmitError}
+use Rattle.tests.specs.declared.admit.AdmitError.TheVariants as error
+use Rattle.tests.specs.declared.options.Options.{Options}
+use Rattle.machine.specs.Below.{first, IsFirstBelow}
+use Rattle.machine.specs.Table.{decode_of, Ins}
+use Rattle.machine.specs.Step.{target}
+use Rattle.machine.specs.Program.{LoadSegment}
+use Rattle.machine.specs.Cells.{byte_among, number_among}
+use Rattle.machine.specs.Offsets.{distance_between}
+use Rattle.tests.specs.Admission.Places.{base_of, image_of, ElfFile}
+use Rattle.tests.specs.Admission.DataRanges.{is_in, is_in_any}
+use Rattle.tests.specs.Admission.CodeWords.{loads_of, ranges_of, is_code, word_at, instruction_at}
+use Rattle.tests.specs.Admission.Rules.{passes_at, high_in, high_at, is_unknown, is_breakpoint, is_far_constant, is_ebreak, is_far}
+use Rattle.machine.specs.Operands.{is_auipc}
+use Rattle.tests.specs.Admission.Refusals.{HasFault, place_of, IsLeast, IsRefusedBy}
+use Rattle.machine.specs.Members.{Every}
+use Rattle.machine.proofs.Lemmas.{all_among, among_every, first_least, each_fails, by_bytes}
+use Rattle.tests.proofs.Lemmas.{in_parts, in_from}
 use Rattle.test_admission.specs.declared.rules.CodeRule.{CodeRule}
 use Rattle.test_admission.specs.declared.rules.CodeRule.TheVariants as rule
 use Rattle.test_admission.specs.declared.stretches.Stretch.{Stretch}
 use Rattle.test_admission.specs.Order.{PassesBelow}
 use Rattle.test_admission.specs.Stretches.{Part, parts_of, span_of, Reads, AllFit, Follow, AreCodeOf}
-use Rattle.code_ranges.specs.Words.{word_in}
+use Rattle.tests.specs.Words.{word_in}
 use Rattle.test_admission.specs.Faults.{is_at_fault, faults_at, placed_word, first_in, first_among, HasHigh}
 use Rattle.test_admission.proofs.FirstFault.{none_case}
 use Rattle.test_admission.proofs.OrderLaws.{passes_more, refused}

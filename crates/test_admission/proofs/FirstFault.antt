@@ -5,13 +5,13 @@ use Rattle.std.specs.Option.{option_map, option_or}
 use Rattle.std.proofs.lemmas.List.{get_or_past}
 use Rattle.std.proofs.lemmas.Bool.{cases_lt, or_parts}
 use Rattle.std.proofs.lemmas.Option.{same_Some}
-use Rattle.qed_model.specs.Machine.Table.{ins, ins_of, decode_of, Ins, Illegal}
-use Rattle.qed_model.specs.Below.{first}
-use Rattle.qed_model.proofs.BelowLaws.{first_found, first_none, first_least, each_fails}
+use Rattle.machine.specs.Table.{ins, ins_of, decode_of, Ins, Illegal}
+use Rattle.machine.specs.Below.{first}
+use Rattle.machine.proofs.Lemmas.{first_found, first_none, first_least, each_fails}
 use Rattle.test_admission.specs.declared.rules.CodeRule.{CodeRule}
 use Rattle.test_admission.specs.declared.rules.CodeRule.TheVariants as rule
 use Rattle.test_admission.specs.Stretches.{Part}
-use Rattle.code_ranges.specs.Words.{word_in}
+use Rattle.tests.specs.Words.{word_in}
 use Rattle.test_admission.specs.Faults.{faults, is_at_fault, faults_at, placed_word, filled, first_in, first_among}
 
 -- ---- the zero word

@@ -6,8 +6,8 @@ use Rattle.std.proofs.lemmas.Bool.{false≢true}
 use Rattle.std.proofs.lemmas.Option.{slice_get-get_or}
 use Rattle.std.proofs.lemmas.List.Quantifiers.{position-Some}
 use Rattle.std.proofs.lemmas.Iterator.Adapters.{position_from-zero}
-use Rattle.qed_model.specs.Admission.Rules.{passes_at}
-use Rattle.qed_model.specs.Admission.Refusals.{IsFirstOf}
+use Rattle.tests.specs.Admission.Rules.{passes_at}
+use Rattle.tests.specs.Admission.Refusals.{IsFirstOf}
 
 pub found : {A : Type 0} (test : A → Bool) (xs : List A) (i : ℕ) → Some i ≡ position test xs → IsFirstOf xs test i
 found test [] i e = absurd (cc)

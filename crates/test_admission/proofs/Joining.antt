@@ -8,8 +8,8 @@ use Rattle.std.proofs.lemmas.Bool.Decides.{nat_tests}
 use Rattle.std.proofs.lemmas.List.Elements.{All-nil, All-cons, All-head, All-tail}
 use Rattle.std.proofs.lemmas.List.Sorted.{All-permutation, IsPermutation-map, list_any-IsPermutation}
 use Rattle.std.proofs.lemmas.List.Kept.{AllPairs-cons}
-use Rattle.qed_model.specs.Admission.DataRanges.{is_in, is_in_any, joined}
-use Rattle.qed_model.proofs.DataRangesLaws.{Spaced, AllSome, spaced-joined, in_any-joined, same_ranges}
+use Rattle.tests.specs.Admission.DataRanges.{is_in, is_in_any, joined}
+use Rattle.tests.proofs.Lemmas.{Spaced, AllSome, spaced-joined, in_any-joined, same_ranges}
 use Rattle.test_admission.specs.declared.spans.Span.{Span}
 use Rattle.test_admission.specs.Spans.{bounds_of, all_bounds, glue, glued, HaveSome, AreSpaced}
 

@@ -5,19 +5,18 @@ use Rattle.std.proofs.lemmas.Bool.{and_parts, and_from, eqb-true, eq-eqb, or_cas
 use Rattle.std.proofs.lemmas.List.{length-append, length-map, map-append}
 use Rattle.std.proofs.lemmas.List.Kept.{AllPairs-cons}
 use Rattle.std.proofs.lemmas.List.Elements.{All-nil, All-cons, All-head, All-tail, All-push, All-append}
-use Rattle.qed_model.specs.declared.admit.AdmitError.{AdmitError}
-use Rattle.qed_model.specs.declared.admit.AdmitError.TheVariants as error
-use Rattle.qed_model.specs.declared.options.Options.{Options}
-use Rattle.qed_model.specs.declared.test.CodeWord.{CodeWord}
-use Rattle.qed_model.specs.Machine.Table.{decode_of}
-use Rattle.qed_model.specs.Admission.DataRanges.{is_in, is_in_any, ElfFile}
-use Rattle.qed_model.specs.Admission.CodeWords.{loads_of, ranges_of, word_at, AreCodeAddresses}
-use Rattle.qed_model.specs.Admission.Refusals.{HasFault, place_of, IsRefusedBy}
-use Rattle.qed_model.specs.Admission.Test.{IsCodeWord, AreCodeWords}
-use Rattle.qed_model.proofs.Among.{among_of, contains_of, among-left, among-right, among-either}
-use Rattle.qed_model.specs.Members.{Among}
-use Rattle.qed_model.proofs.DataRangesLaws.{in_parts, in_from}
-use Rattle.qed_model.proofs.OneRefusal.{addresses_only}
+use Rattle.tests.specs.declared.admit.AdmitError.{AdmitError}
+use Rattle.tests.specs.declared.admit.AdmitError.TheVariants as error
+use Rattle.tests.specs.declared.options.Options.{Options}
+use Rattle.tests.specs.declared.test.CodeWord.{CodeWord}
+use Rattle.machine.specs.Table.{decode_of}
+use Rattle.tests.specs.Admission.DataRanges.{is_in, is_in_any, ElfFile}
+use Rattle.tests.specs.Admission.CodeWords.{loads_of, ranges_of, word_at, AreCodeAddresses}
+use Rattle.tests.specs.Admission.Refusals.{HasFault, place_of, IsRefusedBy}
+use Rattle.tests.specs.Admission.Test.{IsCodeWord, AreCodeWords}
+use Rattle.machine.proofs.Lemmas.{among_of, contains_of, among-left, among-right, among-either}
+use Rattle.machine.specs.Members.{Among}
+use Rattle.tests.proofs.Lemmas.{in_parts, in_from, addresses_only}
 use Rattle.test_admission.specs.declared.rules.CodeRule.TheVariants as rule
 use Rattle.test_admission.specs.declared.stretches.Stretch.{Stretch}
 use Rattle.test_admission.specs.Order.{PassesBelow}

@@ -7,7 +7,7 @@ use Rattle.std.proofs.lemmas.Bool.{leb-true, leb-false, ltb-true, ltb-false, le-
 use Rattle.std.proofs.lemmas.Bool.Decides.{nat_tests}
 use Rattle.std.proofs.lemmas.List.Recursion.{or_is}
 use Rattle.std.proofs.lemmas.List.{get_or_default}
-use Rattle.qed_model.specs.Admission.DataRanges.{do_meet}
+use Rattle.tests.specs.Admission.DataRanges.{do_meet}
 use Rattle.test_admission.specs.declared.spans.Span.{Span}
 use Rattle.test_admission.specs.Spans.{bounds_of, all_bounds, AreSpaced}
 

@@ -2,11 +2,11 @@
 use Rattle.std.proofs.Common.{◌≡◌, ⊎_elim, ℕ, ◌+◌, arith}
 use Rattle.std.proofs.lemmas.Bool.{cases_lt}
 use Rattle.elf_types.specs.declared.file.ElfFile.{ElfFile}
-use Rattle.qed_model.specs.declared.admit.AdmitError.{AdmitError}
-use Rattle.qed_model.specs.declared.admit.AdmitError.TheVariants as error
-use Rattle.qed_model.specs.declared.options.Options.{Options}
-use Rattle.qed_model.specs.Admission.Refusals.{HasFault, place_of, IsRefusedBy, IsAdmitted}
-use Rattle.qed_model.proofs.AdmissionLaws.{admitted_of}
+use Rattle.tests.specs.declared.admit.AdmitError.{AdmitError}
+use Rattle.tests.specs.declared.admit.AdmitError.TheVariants as error
+use Rattle.tests.specs.declared.options.Options.{Options}
+use Rattle.tests.specs.Admission.Refusals.{HasFault, place_of, IsRefusedBy, IsAdmitted}
+use Rattle.tests.proofs.Lemmas.{admitted_of}
 use Rattle.test_admission.specs.Order.{PassesBelow, IsCauseOf}
 
 -- ---- where the next rule does not hold either

@@ -4,15 +4,13 @@ use Rattle.std.specs.Prelude.{slice_index, Contains}
 use Rattle.std.proofs.lemmas.List.{get_or_past}
 use Rattle.std.proofs.lemmas.Bool.{and_parts, leb-true, cases_lt}
 use Rattle.elf_types.specs.declared.file.Section.{Section}
-use Rattle.qed_model.specs.Machine.Memory.{byte_in}
-use Rattle.qed_model.specs.Machine.Program.{LoadSegment}
-use Rattle.qed_model.specs.Machine.Loading.{load_segment, load_segments, lies_in_code, Segment}
-use Rattle.qed_model.specs.Machine.Cells.{has, cell_at, byte_among}
-use Rattle.qed_model.proofs.Among.{among_of}
-use Rattle.qed_model.specs.Members.{Among}
-use Rattle.qed_model.proofs.ApartLaws.{alone}
-use Rattle.qed_model.proofs.CellsAmong.{has_from, among_agreed}
-use Rattle.qed_model.proofs.ImageLaws.{among_load}
+use Rattle.machine.specs.Memory.{byte_in}
+use Rattle.machine.specs.Program.{LoadSegment}
+use Rattle.machine.specs.Loading.{load_segment, load_segments, lies_in_code, Segment}
+use Rattle.machine.specs.Cells.{has, cell_at, byte_among}
+use Rattle.machine.proofs.Lemmas.{among_of, alone, has_from, among_agreed}
+use Rattle.machine.specs.Members.{Among}
+use Rattle.tests.proofs.Lemmas.{among_load}
 use Rattle.test_admission.specs.Read.{AreRead}
 use Rattle.test_admission.specs.Stretches.{Reads, rest_of}
 

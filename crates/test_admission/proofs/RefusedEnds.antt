@@ -1,18 +1,17 @@
 -- How far the ends go that a refusal tells.
 use Rattle.std.proofs.Common.{inl, inr, ℕ, ◌+◌, ◌^◌, ◌≤◌, List, [], ◌∷◌, refl, arith}
-use Rattle.qed_model.specs.declared.admit.AdmitError.{AdmitError}
-use Rattle.qed_model.specs.declared.admit.AdmitError.TheVariants as error
-use Rattle.qed_model.specs.declared.options.Options.{Options}
-use Rattle.qed_model.specs.Machine.Apart.{AllFitMemory}
-use Rattle.qed_model.specs.Machine.Loading.{load_segment, Segment, ElfFile}
-use Rattle.qed_model.specs.Admission.CodeWords.{loads_of}
-use Rattle.qed_model.specs.Admission.Refusals.{HasFault}
-use Rattle.qed_model.specs.Admission.Ends.{HasEnds}
-use Rattle.qed_model.specs.Weave.OutputParts.{high_of}
-use Rattle.qed_model.specs.Weave.Places.{image_of}
-use Rattle.qed_model.specs.Members.{Among}
-use Rattle.qed_model.proofs.ApartLaws.{fit_among}
-use Rattle.qed_model.proofs.ImageLaws.{among_load, image_parts}
+use Rattle.tests.specs.declared.admit.AdmitError.{AdmitError}
+use Rattle.tests.specs.declared.admit.AdmitError.TheVariants as error
+use Rattle.tests.specs.declared.options.Options.{Options}
+use Rattle.machine.specs.Apart.{AllFitMemory}
+use Rattle.machine.specs.Loading.{load_segment, Segment, ElfFile}
+use Rattle.tests.specs.Admission.CodeWords.{loads_of}
+use Rattle.tests.specs.Admission.Refusals.{HasFault}
+use Rattle.tests.specs.Admission.Ends.{HasEnds}
+use Rattle.tests.specs.Admission.Places.{high_of, image_of}
+use Rattle.machine.specs.Members.{Among}
+use Rattle.machine.proofs.Lemmas.{fit_among}
+use Rattle.tests.proofs.Lemmas.{among_load, image_parts}
 use Rattle.test_admission.specs.Order.{IsCauseOf}
 
 high_least : (n : ℕ) (ss : List Segment) → ((s : Segment) → Among s ss → s.address + s.memory ≤ n) → high_of ss ≤ n

@@ -2,12 +2,12 @@
 use Rattle.std.proofs.Common.{◌≡◌, inl, inr, ℕ, arith, true, false, Some, None, refl, sym, ap, ◌∙◌}
 use Rattle.std.specs.Prelude.{slice_get, position}
 use Rattle.std.proofs.lemmas.Bool.{false≢true}
-use Rattle.qed_model.specs.declared.admit.AdmitError.{AdmitError}
-use Rattle.qed_model.specs.declared.admit.AdmitError.TheVariants as error
-use Rattle.qed_model.specs.declared.options.Options.{Options}
-use Rattle.qed_model.specs.Admission.CodeWords.{loads_of, is_code, ElfFile}
-use Rattle.qed_model.specs.Admission.Rules.{passes_at, is_misshapen_section, is_misshapen_segment}
-use Rattle.qed_model.specs.Admission.Refusals.{HasFault, place_of, IsRefusedBy}
+use Rattle.tests.specs.declared.admit.AdmitError.{AdmitError}
+use Rattle.tests.specs.declared.admit.AdmitError.TheVariants as error
+use Rattle.tests.specs.declared.options.Options.{Options}
+use Rattle.tests.specs.Admission.CodeWords.{loads_of, is_code, ElfFile}
+use Rattle.tests.specs.Admission.Rules.{passes_at, is_misshapen_section, is_misshapen_segment}
+use Rattle.tests.specs.Admission.Refusals.{HasFault, place_of, IsRefusedBy}
 use Rattle.test_admission.specs.Order.{PassesBelow}
 use Rattle.test_admission.specs.Shape.{IsShaped}
 use Rattle.test_admission.proofs.Firsts.{found, none_found, none_first}

@@ -1,11 +1,11 @@
 -- What is known of a file when all rules and limits have been tested.
 use Rattle.std.specs.Prelude.{◌≡◌, ◌≤◌, None}
-use Rattle.qed_model.specs.declared.limits.TheConstants.{MAX_IMAGE_SPAN}
-use Rattle.qed_model.specs.declared.options.Options.{Options}
-use Rattle.qed_model.specs.Admission.CodeWords.{ranges_of, ElfFile}
-use Rattle.qed_model.specs.Admission.Refusals.{IsAdmitted}
-use Rattle.qed_model.specs.Weave.Places.{image_of}
-use Rattle.code_ranges.specs.Ranges.{spans}
+use Rattle.machine.specs.declared.limits.TheConstants.{MAX_IMAGE_SPAN}
+use Rattle.tests.specs.declared.options.Options.{Options}
+use Rattle.tests.specs.Admission.CodeWords.{ranges_of, ElfFile}
+use Rattle.tests.specs.Admission.Refusals.{IsAdmitted}
+use Rattle.tests.specs.Admission.Places.{image_of}
+use Rattle.tests.specs.Ranges.{spans}
 use Rattle.test_admission.specs.declared.check.TestParts.{TestParts}
 use Rattle.test_admission.specs.declared.rules.CodeRule.TheVariants as rule
 use Rattle.test_admission.specs.DataSpans.{IsDataOf}

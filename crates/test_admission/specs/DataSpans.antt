@@ -1,6 +1,6 @@
 -- The data of a file, as it is told to the rules on data.
 use Rattle.std.specs.Prelude.{◌≡◌, ℕ, List, map, filter}
-use Rattle.qed_model.specs.Admission.DataRanges.{is_executed, rounded, joined, data_ranges, Segment}
+use Rattle.tests.specs.Admission.DataRanges.{is_executed, rounded, joined, data_ranges, Segment}
 use Rattle.test_admission.specs.declared.spans.Span.{Span}
 use Rattle.test_admission.specs.declared.data_ranges.DataSpans.{DataSpans}
 use Rattle.test_admission.specs.Spans.{all_bounds, AreSpaced}

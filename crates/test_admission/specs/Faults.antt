@@ -1,15 +1,15 @@
 -- The rules on code words: at one word, and the first in parts of code that one is at fault.
 use Rattle.std.specs.Prelude.{◌≡◌, ℕ, ◌+◌, ◌*◌, ◌/◌, ◌&&◌, ◌||◌, Bool, is_none, is_some, Option, Some, None, List, [], ◌∷◌, length, min}
 use Rattle.std.specs.Option.{option_map, option_or}
-use Rattle.qed_model.specs.declared.admit.AdmitError.{AdmitError}
-use Rattle.qed_model.specs.declared.admit.AdmitError.TheVariants as error
-use Rattle.qed_model.specs.Below.{first}
-use Rattle.qed_model.specs.Machine.Table.{decode_of, Ins}
-use Rattle.qed_model.specs.Machine.Step.{target}
-use Rattle.qed_model.specs.Weave.Placed.{distance_between}
-use Rattle.qed_model.specs.Admission.Rules.{passes_at, high_in, is_ebreak, is_far}
-use Rattle.qed_model.specs.Weave.Sequences.{is_auipc}
-use Rattle.code_ranges.specs.Words.{word_in}
+use Rattle.tests.specs.declared.admit.AdmitError.{AdmitError}
+use Rattle.tests.specs.declared.admit.AdmitError.TheVariants as error
+use Rattle.machine.specs.Below.{first}
+use Rattle.machine.specs.Table.{decode_of, Ins}
+use Rattle.machine.specs.Step.{target}
+use Rattle.machine.specs.Offsets.{distance_between}
+use Rattle.tests.specs.Admission.Rules.{passes_at, high_in, is_ebreak, is_far}
+use Rattle.machine.specs.Operands.{is_auipc}
+use Rattle.tests.specs.Words.{word_in}
 use Rattle.test_admission.specs.declared.rules.CodeRule.{CodeRule}
 use Rattle.test_admission.specs.declared.rules.CodeRule.TheVariants as rule
 use Rattle.test_admission.specs.Stretches.{Part}

@@ -1,6 +1,6 @@
 -- What is listed of a file that was admitted.
 use Rattle.std.specs.Prelude.{◌+◌, ◌^◌, ◌<◌, List, All}
-use Rattle.code_ranges.specs.declared.range.CodeRange.{CodeRange}
+use Rattle.tests.specs.declared.code_range.CodeRange.{CodeRange}
 use Rattle.test_admission.specs.declared.spans.Span.{Span}
 
 -- no range ends at 2^64 or past it

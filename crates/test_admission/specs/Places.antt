@@ -1,7 +1,6 @@
 -- Where the image of a file stands.
 use Rattle.std.specs.Prelude.{◌≡◌, ℕ, min, List, [], ◌∷◌, Option, Some, None}
-use Rattle.qed_model.specs.Weave.OutputParts.{low_of, high_of, base_of, distance_of}
-use Rattle.qed_model.specs.Weave.Places.{image_of, Segment, ElfFile}
+use Rattle.tests.specs.Admission.Places.{low_of, high_of, base_of, distance_of, image_of, Segment, ElfFile}
 use Rattle.test_admission.specs.declared.places.ImagePlaces.{ImagePlaces}
 
 -- the lesser of an address and one that may be there

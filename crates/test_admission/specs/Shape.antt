@@ -1,9 +1,9 @@
 -- Code of the right shape: whole words at multiples of 4, no section cut by a segment.
 use Rattle.std.specs.Prelude.{◌≡◌, ℕ, Bool, ◌&&◌, true, false, slice_get}
-use Rattle.qed_model.specs.Admission.Terms.{is_in_image, is_ragged, Segment, ElfFile}
-use Rattle.qed_model.specs.Admission.DataRanges.{is_executed}
-use Rattle.qed_model.specs.Admission.CodeWords.{loads_of, is_code}
-use Rattle.qed_model.specs.Admission.Rules.{passes_at, is_misshapen_section, is_misshapen_segment, segment_range}
+use Rattle.tests.specs.Admission.Terms.{is_in_image, is_ragged, Segment, ElfFile}
+use Rattle.tests.specs.Admission.DataRanges.{is_executed}
+use Rattle.tests.specs.Admission.CodeWords.{loads_of, is_code}
+use Rattle.tests.specs.Admission.Rules.{passes_at, is_misshapen_section, is_misshapen_segment, segment_range}
 
 -- the entry is code, and neither a section nor a segment is misshapen
 pub record IsShaped (f : ElfFile) : Type 0 where

@@ -1,12 +1,12 @@
 -- The code of a file in stretches, each in one segment.
 use Rattle.std.specs.Prelude.{◌≡◌, ℕ, ◌+◌, ◌-◌, ◌%◌, ◌^◌, ◌<◌, ◌≤◌, nat_lt, ◌==◌, ◌&&◌, Bool, cond, min, max, List, [], ◌∷◌, map, drop, length, slice_index, All}
 use Rattle.elf_types.specs.declared.file.Section.{Section}
-use Rattle.qed_model.specs.Machine.Memory.{flags_of}
-use Rattle.qed_model.specs.Machine.Loading.{is_code_section, lies_in_any, Segment, ElfFile}
-use Rattle.qed_model.specs.Machine.Program.{LoadSegment}
-use Rattle.qed_model.specs.Machine.Cells.{byte_among}
-use Rattle.qed_model.specs.Admission.DataRanges.{is_in_any}
-use Rattle.qed_model.specs.Admission.CodeWords.{loads_of, ranges_of}
+use Rattle.machine.specs.Memory.{flags_of}
+use Rattle.machine.specs.Loading.{is_code_section, lies_in_any, Segment, ElfFile}
+use Rattle.machine.specs.Program.{LoadSegment}
+use Rattle.machine.specs.Cells.{byte_among}
+use Rattle.tests.specs.Admission.DataRanges.{is_in_any}
+use Rattle.tests.specs.Admission.CodeWords.{loads_of, ranges_of}
 use Rattle.test_admission.specs.declared.stretches.Stretch.{Stretch}
 
 -- a stretch as plain data

@@ -1,7 +1,7 @@
 -- The words of parts of code, each with its address.
 use Rattle.std.specs.Prelude.{◌≡◌, ℕ, zero, suc, ◌+◌, ◌/◌, Some, List, [], ◌∷◌, ◌++◌, map}
-use Rattle.qed_model.specs.declared.test.CodeWord.{CodeWord}
-use Rattle.qed_model.specs.Machine.Table.{decode_of}
+use Rattle.tests.specs.declared.test.CodeWord.{CodeWord}
+use Rattle.machine.specs.Table.{decode_of}
 use Rattle.test_admission.specs.Stretches.{Part}
 use Rattle.test_admission.specs.Faults.{placed_word}
 

@@ -1,9 +1,9 @@
 //! Which tests are admitted, and what is told of them.
 ghost use Rattle.std.specs.Prelude.{IfErr, MatchResult};
-ghost use Rattle.qed_model.specs.Admission.CodeWords.{loads_of};
-ghost use Rattle.qed_model.specs.Admission.Ends.{HasEnds};
-ghost use Rattle.qed_model.specs.Machine.Apart.{AllFitMemory, AreApart};
-ghost use Rattle.qed_model.specs.Weave.Places.{AreSoundOptions};
+ghost use Rattle.tests.specs.Admission.CodeWords.{loads_of};
+ghost use Rattle.tests.specs.Admission.Ends.{HasEnds};
+ghost use Rattle.machine.specs.Apart.{AllFitMemory, AreApart};
+ghost use Rattle.qed_model.specs.Weave.SoundOptions.{AreSoundOptions};
 ghost use Rattle.test_admission.specs.Admit.{IsAdmittedAs};
 ghost use Rattle.test_admission.specs.Order.{IsCauseOf};
 

@@ -1,7 +1,7 @@
 //! All rules and limits in their order.
 ghost use Rattle.std.specs.Prelude.{MatchResult};
-ghost use Rattle.qed_model.specs.Admission.CodeWords.{loads_of};
-ghost use Rattle.qed_model.specs.Weave.Places.{AreSoundOptions};
+ghost use Rattle.tests.specs.Admission.CodeWords.{loads_of};
+ghost use Rattle.qed_model.specs.Weave.SoundOptions.{AreSoundOptions};
 ghost use Rattle.test_admission.specs.Checked.{IsChecked};
 ghost use Rattle.test_admission.specs.Order.{IsCauseOf};
 ghost use Rattle.test_admission.specs.Read.{AreRead};
@@ -13,10 +13,10 @@ use crate::places::{ImagePlaces, check_half, check_span, check_top, image_places
 use crate::shape::check_shape;
 use crate::stretches::{Stretch, code_stretches};
 use crate::words::check_words;
-use code_ranges::{CodeRange, code_ranges};
 use elf_types::ElfFile;
 use qed_model::{AdmitError, Options};
 use std::alloc::Global;
+use tests::{CodeRange, code_ranges};
 
 /// The parts of a file that was admitted.
 #[derive(Drop)]

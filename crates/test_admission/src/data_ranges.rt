@@ -1,12 +1,12 @@
 //! The data ranges, and the rule on segments that share a word with them.
 ghost use Rattle.std.specs.Prelude.{◌≡◌, ◌<◌, ◌++◌, map, filter, position, IfOk, List, MatchResult};
 ghost use Rattle.elf_types.specs.declared.file.Segment.{Segment as ElfSegment};
-ghost use Rattle.qed_model.specs.declared.options.Options.{Options};
-ghost use Rattle.qed_model.specs.Admission.Terms.{image_segments};
-ghost use Rattle.qed_model.specs.Admission.DataRanges.{rounded, meets_code, is_data, data_parts};
-ghost use Rattle.qed_model.specs.Admission.Rules.{is_mixed, segment_range};
-ghost use Rattle.qed_model.specs.Admission.Refusals.{IsRefusedBy};
-ghost use Rattle.qed_model.specs.Weave.Places.{image_of};
+ghost use Rattle.tests.specs.declared.options.Options.{Options};
+ghost use Rattle.tests.specs.Admission.Terms.{image_segments};
+ghost use Rattle.tests.specs.Admission.DataRanges.{rounded, meets_code, is_data, data_parts};
+ghost use Rattle.tests.specs.Admission.Rules.{is_mixed, segment_range};
+ghost use Rattle.tests.specs.Admission.Refusals.{IsRefusedBy};
+ghost use Rattle.tests.specs.Admission.Places.{image_of};
 ghost use Rattle.test_admission.specs.Spans.{bounds_of, all_bounds, HaveSome, AreSpaced};
 ghost use Rattle.test_admission.specs.DataSpans.{code_parts, AreCode, IsDataOf};
 ghost use Rattle.test_admission.specs.Order.{PassesBelow};

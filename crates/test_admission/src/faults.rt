@@ -1,12 +1,11 @@
 //! The rules on code words, sought only where the file has a byte of the word: every other word is the zero word, which is at
 //! fault by none of them.
 ghost use Rattle.std.specs.Prelude.{◌≡◌, ◌+◌, ◌^◌, ◌≤◌, None, All, IfSome, MatchOption, MatchResult, OnOk};
-ghost use Rattle.qed_model.specs.declared.options.Options.{Options};
-ghost use Rattle.qed_model.specs.Machine.Table.{decode_of};
-ghost use Rattle.qed_model.specs.Admission.Rules.{high_in};
-ghost use Rattle.qed_model.specs.Admission.Refusals.{IsRefusedBy};
-ghost use Rattle.qed_model.specs.Weave.OutputParts.{base_of};
-ghost use Rattle.qed_model.specs.Weave.Places.{image_of};
+ghost use Rattle.tests.specs.declared.options.Options.{Options};
+ghost use Rattle.machine.specs.Table.{decode_of};
+ghost use Rattle.tests.specs.Admission.Rules.{high_in};
+ghost use Rattle.tests.specs.Admission.Refusals.{IsRefusedBy};
+ghost use Rattle.tests.specs.Admission.Places.{base_of, image_of};
 ghost use Rattle.test_admission.specs.declared.rules.CodeRule.TheVariants as rule;
 ghost use Rattle.test_admission.specs.Faults.{filled, first_in, first_among, HasHigh};
 ghost use Rattle.test_admission.specs.Order.{PassesBelow};
@@ -14,9 +13,9 @@ ghost use Rattle.test_admission.specs.Stretches.{part_of, parts_of, AllFit, AreC
 
 use crate::rules::{CodeRule, high_in, is_at_fault};
 use crate::stretches::Stretch;
-use code_ranges::word_in;
 use elf_types::ElfFile;
 use qed_model::AdmitError;
+use tests::word_in;
 
 /// How many words of a stretch have a byte in the file.
 fn filled(stretch: &Stretch<'_>) -> u64

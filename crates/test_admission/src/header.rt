@@ -1,10 +1,10 @@
 //! The rules on compressed code, dynamic linking and segments that are both written and executed.
 ghost use Rattle.std.specs.Prelude.{◌≡◌, position, MatchResult};
 ghost use Rattle.std.specs.List.{list_any};
-ghost use Rattle.qed_model.specs.declared.options.Options.{Options};
-ghost use Rattle.qed_model.specs.Admission.Terms.{is_dynamic};
-ghost use Rattle.qed_model.specs.Admission.Rules.{is_writable_code};
-ghost use Rattle.qed_model.specs.Admission.Refusals.{IsRefusedBy};
+ghost use Rattle.tests.specs.declared.options.Options.{Options};
+ghost use Rattle.tests.specs.Admission.Terms.{is_dynamic};
+ghost use Rattle.tests.specs.Admission.Rules.{is_writable_code};
+ghost use Rattle.tests.specs.Admission.Refusals.{IsRefusedBy};
 ghost use Rattle.test_admission.specs.Order.{PassesBelow};
 
 use elf_types::{ElfFile, Segment};

@@ -1,10 +1,10 @@
 //! A test that was admitted, as it is told.
 ghost use Rattle.std.specs.Prelude.{◌≡◌, ◌++◌, None, map, IfOk};
-ghost use Rattle.qed_model.specs.Admission.Terms.{image_segments};
-ghost use Rattle.qed_model.specs.Admission.DataRanges.{range_of};
-ghost use Rattle.qed_model.specs.Admission.Test.{AreCodeWords, IsTestOf};
-ghost use Rattle.qed_model.specs.Weave.Places.{AreSoundOptions};
-ghost use Rattle.code_ranges.specs.Ranges.{spans};
+ghost use Rattle.tests.specs.Admission.Terms.{image_segments};
+ghost use Rattle.tests.specs.Admission.DataRanges.{range_of};
+ghost use Rattle.tests.specs.Admission.Test.{AreCodeWords, IsTestOf};
+ghost use Rattle.qed_model.specs.Weave.SoundOptions.{AreSoundOptions};
+ghost use Rattle.tests.specs.Ranges.{spans};
 ghost use Rattle.test_admission.specs.Checked.{IsChecked};
 ghost use Rattle.test_admission.specs.Made.{RangesEnd, SpansEnd};
 ghost use Rattle.test_admission.specs.declared.rules.CodeRule.TheVariants as rule;
@@ -17,10 +17,10 @@ use crate::places::distance;
 use crate::spans::Span;
 use crate::stretches::Stretch;
 use crate::words::code_words;
-use code_ranges::CodeRange;
 use elf_types::{ElfFile, Listed, Segment, Segments};
 use qed_model::{CodeWords, Options, Range, Ranges, Test};
 use std::alloc::{AllocError, Global};
+use tests::CodeRange;
 
 /// Code ranges by their ends.
 fn code_list(alloc: Global, ranges: &[CodeRange]) -> Result<Ranges, AllocError>

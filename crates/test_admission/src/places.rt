@@ -1,19 +1,17 @@
 //! Where the image of a file stands, and the rules and limits on its place and its size.
 ghost use Rattle.std.specs.Prelude.{◌≡◌, ◌+◌, ◌*◌, ◌^◌, ◌<◌, ◌≤◌, max, MatchResult, OnOk};
 ghost use Rattle.elf_types.specs.declared.file.ElfFile.{ElfFile as File};
-ghost use Rattle.qed_model.specs.Admission.Terms.{image_segments};
-ghost use Rattle.qed_model.specs.Admission.Refusals.{IsRefusedBy};
-ghost use Rattle.qed_model.specs.Weave.OutputParts.{low_of, high_of, base_of, distance_of};
-ghost use Rattle.qed_model.specs.Weave.Places.{image_of, half_of, code_place, AreSoundOptions};
+ghost use Rattle.tests.specs.Admission.Terms.{image_segments};
+ghost use Rattle.tests.specs.Admission.Refusals.{IsRefusedBy};
+ghost use Rattle.tests.specs.Admission.Places.{low_of, high_of, base_of, distance_of, image_of, half_of, code_place};
+ghost use Rattle.qed_model.specs.Weave.SoundOptions.{AreSoundOptions};
 ghost use Rattle.test_admission.specs.Order.{PassesBelow};
 ghost use Rattle.test_admission.specs.Places.{lower, least, ArePlacesOf};
 
 use elf_types::{ElfFile, Segment};
 use qed_model::limits::{CODE_ROOM, MAX_HALF, MAX_IMAGE_SPAN, MAX_TOP_ADDRESS};
 use qed_model::{AdmitError, Options};
-
-/// The base of a test, and the unit of distances.
-const PAGE: u64 = 4096;
+use rv_isa::profile::PAGE;
 
 /// Where the image of a file stands. Addresses and sizes are in bytes.
 #[derive(Clone, Copy, PartialEq, Eq)]

@@ -1,18 +1,16 @@
 //! The rules on a code word: an instruction, registers up to x13, no breakpoint, no constant out of reach.
 ghost use Rattle.std.specs.Prelude.{◌≡◌, ◌&&◌};
-ghost use Rattle.qed_model.specs.Machine.Table.{decode_of};
-ghost use Rattle.qed_model.specs.Machine.Step.{target};
-ghost use Rattle.qed_model.specs.Weave.Placed.{distance_between};
-ghost use Rattle.qed_model.specs.Admission.Terms.{if_high, high_register};
-ghost use Rattle.qed_model.specs.Admission.Rules.{high_in, is_ebreak, is_far};
-ghost use Rattle.qed_model.specs.Weave.Sequences.{is_auipc};
+ghost use Rattle.machine.specs.Table.{decode_of};
+ghost use Rattle.machine.specs.Step.{target};
+ghost use Rattle.machine.specs.Offsets.{distance_between};
+ghost use Rattle.tests.specs.Admission.Terms.{if_high, high_register};
+ghost use Rattle.tests.specs.Admission.Rules.{high_in, is_ebreak, is_far};
+ghost use Rattle.machine.specs.Operands.{is_auipc};
 ghost use Rattle.test_admission.specs.Faults.{faults, is_at_fault};
 
 use rv_decode::decode;
+use rv_isa::profile::LAST_ORIGINAL;
 use rv_isa::{Ins, Kind, Reg};
-
-/// The last register of the original half.
-const LAST_ORIGINAL: u8 = 13;
 
 /// Distances from here up to the same below 2^64 are out of reach.
 const REACH: u64 = 1 << 28;

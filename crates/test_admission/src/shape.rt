@@ -1,18 +1,18 @@
 //! The rules on the entry and on the shape of code.
 ghost use Rattle.std.specs.Prelude.{◌≡◌, position, ◌&&◌, ◌||◌, not, ◌==◌, ◌+◌, MatchResult, OnOk};
-ghost use Rattle.qed_model.specs.declared.options.Options.{Options};
-ghost use Rattle.qed_model.specs.Machine.Loading.{load_segments, section_ranges};
-ghost use Rattle.qed_model.specs.Admission.Terms.{is_cut, is_ragged};
-ghost use Rattle.qed_model.specs.Admission.CodeWords.{ranges_of, loads_of};
-ghost use Rattle.qed_model.specs.Admission.Rules.{is_misshapen_section, is_misshapen_segment, is_empty};
-ghost use Rattle.qed_model.specs.Admission.Refusals.{IsRefusedBy};
-ghost use Rattle.code_ranges.specs.Ranges.{spans};
+ghost use Rattle.tests.specs.declared.options.Options.{Options};
+ghost use Rattle.machine.specs.Loading.{load_segments, section_ranges};
+ghost use Rattle.tests.specs.Admission.Terms.{is_cut, is_ragged};
+ghost use Rattle.tests.specs.Admission.CodeWords.{ranges_of, loads_of};
+ghost use Rattle.tests.specs.Admission.Rules.{is_misshapen_section, is_misshapen_segment, is_empty};
+ghost use Rattle.tests.specs.Admission.Refusals.{IsRefusedBy};
+ghost use Rattle.tests.specs.Ranges.{spans};
 ghost use Rattle.test_admission.specs.Order.{PassesBelow};
 ghost use Rattle.test_admission.specs.Shape.{IsShaped, is_ragged_code};
 
-use code_ranges::{CodeRange, is_code_address, is_cut_by_any, lies_in_any};
 use elf_types::{ElfFile, Section, Segment};
 use qed_model::AdmitError;
+use tests::{CodeRange, is_code_address, is_cut_by_any, lies_in_any};
 
 /// Whether the start or the size of a range is not a multiple of 4.
 fn is_ragged(start: u64, size: u64) -> bool

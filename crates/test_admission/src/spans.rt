@@ -1,7 +1,7 @@
 //! Ranges of addresses: joined where they touch or overlap, and sought among joined ones.
 ghost use Rattle.std.specs.Prelude.{◌≡◌, ◌++◌, IfOk};
 ghost use Rattle.std.specs.List.{list_any};
-ghost use Rattle.qed_model.specs.Admission.DataRanges.{do_meet, joined};
+ghost use Rattle.tests.specs.Admission.DataRanges.{do_meet, joined};
 ghost use Rattle.test_admission.specs.Spans.{bounds_of, all_bounds, glue, glued, HaveSome, AreSpaced};
 
 use std::alloc::{AllocError, Global};

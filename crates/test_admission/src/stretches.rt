@@ -1,15 +1,15 @@
 //! The code of a file in stretches: each in one segment, in ascending order, none with an address of another.
 ghost use Rattle.std.specs.Prelude.{◌≡◌, ◌+◌, ◌-◌, ◌^◌, ◌<◌, ◌≤◌, ◌++◌, true, false, Contains, map, IfOk, MatchOption, All};
-ghost use Rattle.qed_model.specs.Admission.Rules.{section_range};
-ghost use Rattle.qed_model.specs.Machine.Loading.{load_segment, load_segments, lies_in_code, lies_in_any, section_ranges, segment_ranges};
-ghost use Rattle.qed_model.specs.Admission.CodeWords.{loads_of, ranges_of};
+ghost use Rattle.tests.specs.Admission.Rules.{section_range};
+ghost use Rattle.machine.specs.Loading.{load_segment, load_segments, lies_in_code, lies_in_any, section_ranges, segment_ranges};
+ghost use Rattle.tests.specs.Admission.CodeWords.{loads_of, ranges_of};
 ghost use Rattle.test_admission.specs.Read.{AreRead};
 ghost use Rattle.test_admission.specs.Shape.{IsShaped};
 ghost use Rattle.test_admission.specs.Stretches.{part_of, parts_of, span_of, rest_of, Reads, IsRange, has_code, whole_part, whole_parts, trimmed, cut, AreCodeOf};
 
-use code_ranges::code_segment;
 use elf_types::{ElfFile, Section, Segment};
 use std::alloc::{AllocError, Global};
+use tests::code_segment;
 
 /// Code in one segment.
 #[derive(Clone, Copy)]

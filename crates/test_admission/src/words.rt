@@ -1,6 +1,6 @@
 //! How many code words there are, and the list of them.
 ghost use Rattle.std.specs.Prelude.{◌≡◌, ◌+◌, ◌++◌, ◌^◌, ◌<◌, ◌≤◌, None, All, IfOk, OnOk, MatchResult};
-ghost use Rattle.qed_model.specs.Admission.Refusals.{IsRefusedBy};
+ghost use Rattle.tests.specs.Admission.Refusals.{IsRefusedBy};
 ghost use Rattle.test_admission.specs.declared.rules.CodeRule.TheVariants as rule;
 ghost use Rattle.test_admission.specs.Faults.{first_in, first_among};
 ghost use Rattle.test_admission.specs.Order.{PassesBelow};
@@ -8,12 +8,12 @@ ghost use Rattle.test_admission.specs.Stretches.{part_of, parts_of, AllFit, AreC
 ghost use Rattle.test_admission.specs.Words.{part_words, words_among, word_total, pairs_of, IsDecoded};
 
 use crate::stretches::Stretch;
-use code_ranges::word_in;
 use elf_types::ElfFile;
 use qed_model::limits::MAX_CODE_WORDS;
 use qed_model::{AdmitError, CodeWord, Options};
 use rv_decode::decode;
 use std::alloc::{AllocError, Global};
+use tests::word_in;
 
 /// How many code words there are.
 fn word_count(code: &[Stretch<'_>]) -> u64

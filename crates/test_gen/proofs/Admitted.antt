@@ -1,16 +1,15 @@
 -- A generated test is admitted.
 use Rattle.std.proofs.Common.{◌≡◌, ℕ, ◌+◌, ◌*◌, ◌≤◌, true, List, ◌∷◌, length, refl, subst, arith}
 use Rattle.std.proofs.lemmas.Bool.{or_from}
-use Rattle.elf_types.specs.declared.file.ElfFile.{ElfFile}
-use Rattle.qed_model.specs.Options.{default_options}
-use Rattle.elf_files.specs.File.{IsReadAs}
-use Rattle.qed_model.specs.Elf.FileRead.{file_read}
-use Rattle.qed_model.specs.Elf.Layout.{string_table, symbol_names, section_names, null_symbol}
-use Rattle.qed_model.specs.Admission.CodeWords.{is_code}
-use Rattle.qed_model.specs.Admission.Refusals.{IsAdmitted}
+use Rattle.tests.specs.Options.{default_options}
+use Rattle.tests.specs.Files.File.{IsReadAs}
+use Rattle.tests.specs.Elf.FileRead.{file_read}
+use Rattle.tests.specs.Elf.Layout.{string_table, symbol_names, section_names, null_symbol}
+use Rattle.tests.specs.Admission.CodeWords.{is_code, ElfFile}
+use Rattle.tests.specs.Admission.Refusals.{IsAdmitted}
 use Rattle.qed_model.proofs.ExampleCode as made
-use Rattle.qed_model.proofs.ExampleCode.{IsCodeOf}
-use Rattle.elf_files.proofs.ReadFacts.{one_file}
+use Rattle.qed_model.proofs.Lemmas.{IsCodeOf}
+use Rattle.tests.proofs.Lemmas.{one_file}
 use Rattle.test_gen.specs.Code.{function_count, code}
 use Rattle.test_gen.specs.Generated.{code_bytes, table_bytes, data_bytes, symbols, file_with, generated}
 use Rattle.test_gen.proofs.Functions.{length-code}

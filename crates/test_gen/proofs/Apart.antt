@@ -1,18 +1,15 @@
 -- The segments of a generated file are bytes, and share none.
 use Rattle.std.proofs.Common.{inl, ℕ, zero, suc, ◌+◌, ◌^◌, ◌<◌, ◌≤◌, List, length, map, arith}
 use Rattle.std.specs.Prelude.{slice_index}
-use Rattle.elf_types.specs.declared.file.ElfFile.{ElfFile}
 use Rattle.elf_types.specs.declared.file.Symbol.{Symbol}
-use Rattle.qed_model.specs.Below.{gather}
-use Rattle.qed_model.specs.Numbers.{number_bytes}
-use Rattle.qed_model.specs.Machine.Program.{LoadSegment}
-use Rattle.qed_model.specs.Admission.CodeWords.{loads_of}
-use Rattle.qed_model.specs.Members.{Every, Pairs}
-use Rattle.qed_model.proofs.Fields.{bytes_of_fit, number_bytes_fit, append_fit}
-use Rattle.qed_model.proofs.Pairs.{every_among}
-use Rattle.qed_model.specs.Elf.Sound.{AreLoads, ApartLoads}
-use Rattle.qed_model.proofs.ApartLaws.{alone}
-use Rattle.elf_files.proofs.LoadsApart.{apart}
+use Rattle.machine.specs.Below.{gather}
+use Rattle.machine.specs.Numbers.{number_bytes}
+use Rattle.machine.specs.Program.{LoadSegment}
+use Rattle.tests.specs.Admission.CodeWords.{loads_of, ElfFile}
+use Rattle.machine.specs.Members.{Every, Pairs}
+use Rattle.tests.proofs.Lemmas.{bytes_of_fit, number_bytes_fit, append_fit, apart}
+use Rattle.machine.proofs.Lemmas.{every_among, alone}
+use Rattle.tests.specs.Elf.Sound.{AreLoads, ApartLoads}
 use Rattle.test_gen.specs.Code.{code}
 use Rattle.test_gen.specs.Generated.{generated_word, code_bytes, table_bytes, data_bytes, function_at}
 use Rattle.test_gen.proofs.Shape.{file_of, AreSized}

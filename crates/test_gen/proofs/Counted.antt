@@ -1,19 +1,18 @@
 -- Runs whose steps are counted: a run that ends after n steps has made n steps, however long it may go on.
 use Rattle.std.proofs.Common.{◌≡◌, ℕ, zero, suc, ◌+◌, ◌-◌, ◌^◌, ◌<◌, ◌≤◌, refl, ap, ◌∙◌, arith}
-use Rattle.elf_types.specs.declared.file.ElfFile.{ElfFile}
 use Rattle.elf_types.specs.declared.output.OutFile.{OutFile}
-use Rattle.qed_model.specs.declared.machine.Outcome.TheVariants.{Going, Ended}
-use Rattle.qed_model.specs.Machine.Step.{State, step_at, step, run}
-use Rattle.qed_model.specs.Machine.Progress.{Progress, counted, steps_after, advanced, progress, begun}
-use Rattle.elf_files.specs.File.{IsReadAs}
-use Rattle.qed_model.specs.Elf.FileRead.{file_read}
-use Rattle.qed_model.specs.Elf.Layout.{written}
-use Rattle.qed_model.specs.Machine.Loading.{loaded_file}
-use Rattle.qed_model.specs.Machine.Program.{start, zeros}
-use Rattle.qed_model.specs.Options.{default_options}
-use Rattle.elf_files.specs.Output.{WovenFile}
-use Rattle.qed_model.proofs.Fields.{zeros_start}
-use Rattle.qed_model.proofs.Walk.{run-more}
+use Rattle.machine.specs.declared.outcome.Outcome.TheVariants.{Going, Ended}
+use Rattle.machine.specs.Step.{State, step_at, step, run}
+use Rattle.machine.specs.Progress.{Progress, counted, steps_after, advanced, progress, begun}
+use Rattle.tests.specs.Files.File.{IsReadAs}
+use Rattle.tests.specs.Elf.FileRead.{file_read}
+use Rattle.tests.specs.Elf.Layout.{written}
+use Rattle.machine.specs.Loading.{loaded_file, ElfFile}
+use Rattle.machine.specs.Program.{start, zeros}
+use Rattle.tests.specs.Options.{default_options}
+use Rattle.qed_model.specs.Weave.Output.{WovenFile}
+use Rattle.tests.proofs.Lemmas.{zeros_start}
+use Rattle.machine.proofs.Lemmas.{run-more}
 use Rattle.test_gen.specs.Ends.{EndsAfter, EndsWithin, HasEnded, test_steps}
 use Rattle.test_gen.specs.Generated.{generated}
 use Rattle.test_gen.specs.Outputs.{HasSmallCode, most_output_steps}
@@ -21,7 +20,7 @@ use Rattle.test_gen.proofs.Admitted.{few_functions}
 use Rattle.test_gen.proofs.Ending.{test_ends}
 use Rattle.test_gen.proofs.Readable.{test_read}
 use Rattle.test_gen.proofs.Within.{test_weavable}
-use Rattle.weave_core.proofs.Trace.{run-ended}
+use Rattle.weave_core.proofs.Lemmas.{run-ended}
 
 -- ---- ends
 -- a state and a number of steps, as far as a run has come

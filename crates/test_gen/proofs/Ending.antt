@@ -1,14 +1,13 @@
 -- The run of a generated test ends.
 use Rattle.std.proofs.Common.{◌≡◌, ℕ, ◌+◌, ◌*◌, ◌≤◌, List, ◌∷◌, length, refl, ◌∙◌, subst, get_or-set_same, arith}
 use Rattle.std.proofs.lemmas.List.{length-set}
-use Rattle.elf_types.specs.declared.file.ElfFile.{ElfFile}
-use Rattle.elf_files.specs.File.{IsReadAs}
-use Rattle.qed_model.specs.Elf.FileRead.{file_read}
-use Rattle.qed_model.specs.Elf.Layout.{string_table, symbol_names, section_names, null_symbol}
-use Rattle.qed_model.specs.Machine.Loading.{loaded_file}
-use Rattle.qed_model.specs.Machine.Program.{AreStartRegs, start, memory_of}
-use Rattle.qed_model.specs.Admission.CodeWords.{loads_of, ranges_of}
-use Rattle.elf_files.proofs.ReadFacts.{one_file}
+use Rattle.tests.specs.Files.File.{IsReadAs}
+use Rattle.tests.specs.Elf.FileRead.{file_read}
+use Rattle.tests.specs.Elf.Layout.{string_table, symbol_names, section_names, null_symbol}
+use Rattle.machine.specs.Loading.{loaded_file, ElfFile}
+use Rattle.machine.specs.Program.{AreStartRegs, start, memory_of}
+use Rattle.tests.specs.Admission.CodeWords.{loads_of, ranges_of}
+use Rattle.tests.proofs.Lemmas.{one_file}
 use Rattle.test_gen.specs.Code.{function_count}
 use Rattle.test_gen.specs.Ends.{EndsAfter, run_steps, test_steps}
 use Rattle.test_gen.specs.Generated.{code_bytes, table_bytes, data_bytes, symbols, file_with, generated}

@@ -3,11 +3,11 @@ use Rattle.std.proofs.Common.{◌≡◌, ℕ, zero, suc, ◌+◌, ◌*◌, List,
 use Rattle.std.proofs.lemmas.List.{append-nil}
 use Rattle.rand_pcg.specs.Lcg.{Lcg}
 use Rattle.rv_isa.specs.declared.ins.Ins.{Ins}
-use Rattle.qed_model.specs.Below.{each, gather}
-use Rattle.qed_model.proofs.BelowLaws.{gather_none, gather_more, length-each}
-use Rattle.random_words.specs.Random.{seeded, drawn, after, random_word}
+use Rattle.machine.specs.Below.{each, gather}
+use Rattle.machine.proofs.Lemmas.{gather_none, gather_more, length-each}
+use Rattle.test_gen.specs.Random.{seeded, drawn, after, random_word}
 use Rattle.test_gen.specs.Code.{body_instruction, return, function, main, code}
-use Rattle.random_words.proofs.Words.{after-more}
+use Rattle.test_gen.proofs.RandomWords.{after-more}
 
 -- the function that is made of the next words behind those of i functions
 pub function_from : (seed i : ℕ) (g : Lcg) → g ≡ after (32 * i) (seeded seed) → each 32 (λ k. body_instruction (drawn (after k g))) ++ return ∷ [] ≡ function seed i

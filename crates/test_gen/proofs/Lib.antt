@@ -16,3 +16,4 @@ pub mod Readable
 pub mod Counted
 pub mod OutputSize
 pub mod Within
+pub mod RandomWords

@@ -1,28 +1,22 @@
 -- What a generated test has in memory: its code, the table of its functions, and its data.
 use Rattle.std.proofs.Common.{◌≡◌, inr, ⊎_elim, ℕ, zero, suc, ◌+◌, ◌*◌, ◌<◌, ◌≤◌, true, false, cond, List, [], ◌∷◌, ◌++◌, length, Some, refl, sym, ap, ◌∙◌, subst, append_assoc, arith}
-use Rattle.std.specs.FinMap.{get}
 use Rattle.std.proofs.lemmas.Bool.{cases_lt}
 use Rattle.std.proofs.lemmas.List.{append-nil}
-use Rattle.elf_types.specs.declared.file.ElfFile.{ElfFile}
 use Rattle.elf_types.specs.declared.file.Symbol.{Symbol}
-use Rattle.rv_isa.specs.declared.ins.Ins.{Ins}
-use Rattle.qed_model.specs.Below.{gather}
-use Rattle.qed_model.specs.Options.{default_options}
-use Rattle.qed_model.specs.Numbers.{number_bytes, field}
-use Rattle.qed_model.specs.Machine.Memory.{Memory, allows, wrap, number, grants, byte_in}
-use Rattle.qed_model.specs.Machine.Program.{LoadSegment, memory_of}
-use Rattle.qed_model.specs.Machine.Loading.{load_segment}
-use Rattle.qed_model.specs.Machine.Cells.{has, cell_at, cell_among, byte_among, number_among}
-use Rattle.qed_model.specs.Machine.Step.{Fetched, HasAt, fetched_at}
-use Rattle.qed_model.specs.Admission.CodeWords.{loads_of, ranges_of}
-use Rattle.qed_model.specs.Admission.Refusals.{IsAdmitted}
-use Rattle.qed_model.proofs.CellsAmong.{has_from, has_not, get_among, number-among}
-use Rattle.qed_model.proofs.ExampleCode.{StandFrom, IsCodeOf}
-use Rattle.qed_model.proofs.Fetches.{IsShapely, known_instruction}
-use Rattle.qed_model.proofs.Fields.{field-number_bytes}
-use Rattle.qed_model.proofs.ImageLaws.{all_sized_among}
-use Rattle.qed_model.proofs.MemoryLaws.{grants_from}
-use Rattle.qed_model.specs.Elf.Sound.{AreLoads}
+use Rattle.machine.specs.Below.{gather}
+use Rattle.tests.specs.Options.{default_options}
+use Rattle.machine.specs.Numbers.{number_bytes, field}
+use Rattle.machine.specs.Memory.{Memory, allows, wrap, number, grants, byte_in, get}
+use Rattle.machine.specs.Program.{LoadSegment, memory_of}
+use Rattle.machine.specs.Loading.{load_segment, ElfFile}
+use Rattle.machine.specs.Cells.{has, cell_at, cell_among, byte_among, number_among}
+use Rattle.machine.specs.Step.{Fetched, HasAt, fetched_at, Ins}
+use Rattle.tests.specs.Admission.CodeWords.{loads_of, ranges_of}
+use Rattle.tests.specs.Admission.Refusals.{IsAdmitted}
+use Rattle.machine.proofs.Lemmas.{has_from, has_not, get_among, number-among, grants_from}
+use Rattle.qed_model.proofs.Lemmas.{StandFrom, IsCodeOf}
+use Rattle.tests.proofs.Lemmas.{IsShapely, known_instruction, field-number_bytes, all_sized_among}
+use Rattle.tests.specs.Elf.Sound.{AreLoads}
 use Rattle.test_gen.specs.Code.{function, main, code}
 use Rattle.elf_write.specs.Plain.{segment}
 use Rattle.test_gen.specs.Generated.{function_at, table_bytes}
@@ -32,7 +26,7 @@ use Rattle.test_gen.proofs.Runs.{HasData}
 use Rattle.test_gen.proofs.MainRun.{IsMade, has_right}
 use Rattle.test_gen.proofs.Shape.{file_of, AreSized}
 use Rattle.test_gen.proofs.Stands.{field_first}
-use Rattle.weave_core.proofs.Source.{has_front}
+use Rattle.weave_core.proofs.Lemmas.{has_front}
 
 -- ---- lists that are gathered
 -- number i among numbers of 8 bytes

@@ -1,15 +1,12 @@
 -- The run of `main` of a generated test ends after three rounds.
 use Rattle.std.proofs.Common.{◌≡◌, ℕ, ◌+◌, ◌-◌, ◌*◌, ◌≤◌, List, refl, ap, ◌∙◌, subst, arith}
 use Rattle.std.specs.Prelude.{pos, negsuc}
-use Rattle.rv_isa.specs.declared.kind.Kind.TheVariants.{Lui, Bne, Addi, Ecall}
 use Rattle.rv_isa.specs.declared.class.Class.TheVariants as class
-use Rattle.qed_model.specs.declared.machine.Outcome.TheVariants.{Ended}
-use Rattle.qed_model.specs.Machine.Memory.{Memory}
-use Rattle.qed_model.specs.Machine.Table.{ins}
-use Rattle.qed_model.specs.Machine.Values.{value}
-use Rattle.qed_model.specs.Machine.Step.{State, reg, stopped, computed_value, next_pc, step, execute}
-use Rattle.qed_model.proofs.Steps.{step-class}
-use Rattle.qed_model.proofs.Walked.{Walk, walk_one, walk_on}
+use Rattle.machine.specs.declared.outcome.Outcome.TheVariants.{Ended}
+use Rattle.machine.specs.Memory.{Memory}
+use Rattle.machine.specs.Values.{value}
+use Rattle.machine.specs.Step.{State, reg, stopped, computed_value, next_pc, step, execute, ins, Lui, Bne, Addi, Ecall}
+use Rattle.machine.proofs.Lemmas.{step-class, Walk, walk_one, walk_on}
 use Rattle.test_gen.specs.Code.{main}
 use Rattle.test_gen.specs.Ends.{EndsAfter, run_steps}
 use Rattle.test_gen.proofs.Runs.{IsGood, Goes}

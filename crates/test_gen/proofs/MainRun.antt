@@ -3,31 +3,24 @@ use Rattle.std.proofs.Common.{◌≡◌, ℕ, zero, suc, ◌+◌, ◌*◌, ◌/�
 use Rattle.std.specs.Prelude.{◌==◌, slice_index, pos, negsuc}
 use Rattle.std.specs.List.{list_all}
 use Rattle.std.proofs.lemmas.Bool.{and_parts, eq-eqb, eqb-true, eqb-false, not-true}
-use Rattle.rv_isa.specs.declared.ins.Ins.{Ins}
-use Rattle.rv_isa.specs.declared.kind.Kind.TheVariants.{Jalr, Bne, Ld, Sd, Addi}
 use Rattle.rv_isa.specs.declared.class.Class.TheVariants as class
-use Rattle.rv_isa.specs.Kind.{class_of}
 use Rattle.rv_isa.specs.Ins.{nop}
-use Rattle.rv_isa.specs.Regs.{set_reg}
 use Rattle.rv_isa.proofs.RegsLaws.{slice_index-set_reg_same, slice_index-set_reg_other}
-use Rattle.qed_model.specs.declared.machine.Cause.TheVariants as cause
-use Rattle.qed_model.specs.declared.machine.Outcome.TheVariants.{Going}
-use Rattle.qed_model.specs.Below.{each}
-use Rattle.qed_model.specs.Machine.Memory.{Memory, wrap, number, grants, byte_at, byte_in}
-use Rattle.qed_model.specs.Machine.Table.{ins}
-use Rattle.qed_model.specs.Machine.Values.{value, holds, loaded}
-use Rattle.qed_model.specs.Machine.Step.{State, reg, moved, trapped, imm, target, place, result, computed_value, next, next_pc, step, execute, jumped, Fetched, Known, HasAt, fetched_at}
-use Rattle.qed_model.proofs.BelowLaws.{length-each}
-use Rattle.qed_model.proofs.MemoryLaws.{same_number}
-use Rattle.qed_model.specs.Members.{Every}
-use Rattle.qed_model.proofs.Steps.{grants-flags, step-class, step-compute, step-load}
-use Rattle.qed_model.proofs.Walked.{Walk, walk_one, walk_on}
-use Rattle.random_words.specs.Random.{random_word}
+use Rattle.machine.specs.declared.outcome.Cause.TheVariants as cause
+use Rattle.machine.specs.declared.outcome.Outcome.TheVariants.{Going}
+use Rattle.machine.specs.Below.{each}
+use Rattle.machine.specs.Memory.{Memory, wrap, number, grants, byte_at, byte_in}
+use Rattle.machine.specs.Table.{ins, Ins, Jalr, Bne, Ld, Sd, Addi}
+use Rattle.machine.specs.Values.{value, holds, loaded}
+use Rattle.machine.specs.Step.{State, reg, moved, trapped, imm, target, place, result, computed_value, next, next_pc, step, execute, jumped, Fetched, Known, HasAt, fetched_at, class_of, set_reg}
+use Rattle.machine.proofs.Lemmas.{length-each, same_number, grants-flags, step-class, step-compute, step-load, Walk, walk_one, walk_on}
+use Rattle.machine.specs.Members.{Every}
+use Rattle.test_gen.specs.Random.{random_word}
 use Rattle.test_gen.specs.Code.{body_registers, register_from, body_forms, body_instruction, return, function, main}
 use Rattle.test_gen.specs.Generated.{function_at}
 use Rattle.test_gen.proofs.Plain.{every_at, every_each}
 use Rattle.test_gen.proofs.Runs.{is_main, IsAccess, IsBody, Computes, Loads, Stores, HasData, IsGood, Goes, Reaches, good_set, good_jump, next_is, body_walk}
-use Rattle.weave_core.proofs.Source.{has_front}
+use Rattle.weave_core.proofs.Lemmas.{has_front}
 
 -- ---- what bodies are
 own_index : (xs : List ℕ) (k : ℕ) → k < length xs → list_all (λ x. not (is_main x)) xs ≡ true → is_main (slice_index xs k) ≡ false

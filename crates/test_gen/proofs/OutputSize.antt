@@ -4,18 +4,16 @@ use Rattle.std.specs.Prelude.{All, filter, nat_le, if◌then◌else◌}
 use Rattle.std.proofs.lemmas.List.{length-map}
 use Rattle.std.proofs.lemmas.List.Sums.{length-filter, count_by-le-length}
 use Rattle.std.proofs.lemmas.List.Elements.{All-append, All-map, All-filter}
-use Rattle.elf_types.specs.declared.file.ElfFile.{ElfFile}
-use Rattle.elf_types.specs.declared.file.Segment.{Segment}
 use Rattle.elf_types.specs.declared.file.Symbol.{Symbol}
 use Rattle.elf_types.specs.declared.output.OutFile.{OutFile}
 use Rattle.qed_model.specs.declared.plan.EntryRow.{EntryRow}
-use Rattle.qed_model.specs.Elf.Written.{offset_from, end_from}
-use Rattle.qed_model.specs.Elf.Layout.{written, own_bytes, own_place, string_table, section_names}
-use Rattle.qed_model.specs.Weave.OutputFile.{insert_segment, in_order, original_half, shifted, halves, table_bytes, table_segment, file_sections, file_of}
+use Rattle.tests.specs.Elf.Written.{offset_from, end_from}
+use Rattle.tests.specs.Elf.Layout.{written, own_bytes, own_place, string_table, section_names}
+use Rattle.tests.specs.Admission.Places.{insert_segment, in_order, image_of, half_of, code_place, ElfFile, Segment}
+use Rattle.qed_model.specs.Weave.OutputFile.{original_half, shifted, halves, table_bytes, table_segment, file_sections, file_of}
 use Rattle.qed_model.specs.Weave.OutputParts.{code_segment, map_bytes, is_kept, is_local, may_name_code, at_entry, out_symbol, symbol_group, out_symbols}
 use Rattle.qed_model.specs.Weave.Placed.{entry_at}
-use Rattle.qed_model.specs.Weave.Places.{image_of, half_of, code_place}
-use Rattle.qed_model.proofs.OutputFits.{length-map_bytes}
+use Rattle.qed_model.proofs.Lemmas.{length-map_bytes}
 use Rattle.elf_write.proofs.PlainFits.{offset_room, upper}
 use Rattle.test_gen.proofs.Writable.{names_size}
 

@@ -5,20 +5,18 @@ use Rattle.std.specs.List.{list_all}
 use Rattle.std.specs.Option.{option_or}
 use Rattle.std.proofs.lemmas.Bool.{and_parts, and_from, leb-true, lt-ltb, le-ltb}
 use Rattle.std.proofs.lemmas.Int.{ints}
-use Rattle.rv_isa.specs.declared.ins.Ins.{Ins}
-use Rattle.rv_isa.specs.declared.kind.Kind.{Kind}
-use Rattle.rv_isa.specs.declared.kind.Kind.TheVariants.{Add, Sub, Xor, Mul, Divu, Addi, Ld, Sd}
+use Rattle.rv_isa.specs.declared.profile.TheConstants.{LAST_ORIGINAL}
 use Rattle.rv_isa.specs.Kind.{class_of, writes_rd, reads_rs1, reads_rs2}
 use Rattle.rv_isa.specs.Ins.{nop, named}
-use Rattle.qed_model.specs.Below.{each, gather}
-use Rattle.qed_model.specs.Machine.Table.{R, ins, word_of, encode_of}
-use Rattle.qed_model.specs.Admission.Terms.{if_high, high_register}
-use Rattle.qed_model.specs.Admission.Rules.{is_ebreak}
-use Rattle.qed_model.specs.Weave.Sequences.{is_auipc}
-use Rattle.qed_model.proofs.Pairs.{every-append}
-use Rattle.qed_model.specs.Members.{Every}
-use Rattle.qed_model.proofs.Reach.{has_word, is_some-some_if, addi_word, fits_12}
-use Rattle.random_words.specs.Random.{random_word}
+use Rattle.machine.specs.Below.{each, gather}
+use Rattle.machine.specs.Table.{R, ins, word_of, encode_of, Ins, Kind, Add, Sub, Xor, Mul, Divu, Addi, Ld, Sd}
+use Rattle.tests.specs.Admission.Terms.{if_high, high_register}
+use Rattle.tests.specs.Admission.Rules.{is_ebreak}
+use Rattle.machine.specs.Operands.{is_auipc}
+use Rattle.machine.proofs.Lemmas.{every-append}
+use Rattle.machine.specs.Members.{Every}
+use Rattle.qed_model.proofs.Lemmas.{has_word, is_some-some_if, addi_word, fits_12}
+use Rattle.test_gen.specs.Random.{random_word}
 use Rattle.test_gen.specs.Code.{body_registers, register_from, body_forms, body_instruction, return, function, main, code}
 
 -- what each instruction is
@@ -31,12 +29,12 @@ plain : (i : Ins) → has_word i ≡ true → is_none (high_register i) ≡ true
 plain i w l k = record { word = w; low = l; kind = k }
 
 -- ---- registers
-low_named : (b : Bool) (r : ℕ) → r ≤ 13 → if_high (named b r) ≡ None
+low_named : (b : Bool) (r : ℕ) → r ≤ LAST_ORIGINAL → if_high (named b r) ≡ None
 low_named true zero h = refl
-low_named true (suc r) h = ap (λ t. if t then Some (suc r) else None) (le-ltb 13 (suc r) h)
+low_named true (suc r) h = ap (λ t. if t then Some (suc r) else None) (le-ltb LAST_ORIGINAL (suc r) h)
 low_named false r h = refl
 
-low_registers : (i : Ins) → i.rd ≤ 13 → i.rs1 ≤ 13 → i.rs2 ≤ 13 → is_none (high_register i) ≡ true
+low_registers : (i : Ins) → i.rd ≤ LAST_ORIGINAL → i.rs1 ≤ LAST_ORIGINAL → i.rs2 ≤ LAST_ORIGINAL → is_none (high_register i) ≡ true
 low_registers i d a b =
     let write = low_named (writes_rd (class_of i.kind)) i.rd d in
     let first = low_named (reads_rs1 (class_of i.kind) i.kind) i.rs1 a in
@@ -44,29 +42,29 @@ low_registers i d a b =
     λ n. is_none (option_or (write n) (option_or (first n) (second n)))
 
 -- those of a list
-low_index : (xs : List ℕ) (k : ℕ) → list_all (λ x. nat_le x 13) xs ≡ true → slice_index xs k ≤ 13
+low_index : (xs : List ℕ) (k : ℕ) → list_all (λ x. nat_le x LAST_ORIGINAL) xs ≡ true → slice_index xs k ≤ LAST_ORIGINAL
 low_index [] k e = omega arith
-low_index (x ∷ xs) zero e = leb-true x 13 (and_parts (nat_le x 13) (list_all (λ y. nat_le y 13) xs) e).0
-low_index (x ∷ xs) (suc k) e = low_index xs k (and_parts (nat_le x 13) (list_all (λ y. nat_le y 13) xs) e).1
+low_index (x ∷ xs) zero e = leb-true x LAST_ORIGINAL (and_parts (nat_le x LAST_ORIGINAL) (list_all (λ y. nat_le y LAST_ORIGINAL) xs) e).0
+low_index (x ∷ xs) (suc k) e = low_index xs k (and_parts (nat_le x LAST_ORIGINAL) (list_all (λ y. nat_le y LAST_ORIGINAL) xs) e).1
 
-low_body : (place word : ℕ) → register_from place word ≤ 13
+low_body : (place word : ℕ) → register_from place word ≤ LAST_ORIGINAL
 low_body place word = low_index body_registers (word / 2 ^ place % 7) refl
 
 -- ---- the forms of body instructions
 -- three registers
-word_three : (k : Kind) (m d a b : ℕ) → d ≤ 13 → a ≤ 13 → b ≤ 13 → is_some (word_of R m (ins k d a b (pos 0))) ≡ true
+word_three : (k : Kind) (m d a b : ℕ) → d ≤ LAST_ORIGINAL → a ≤ LAST_ORIGINAL → b ≤ LAST_ORIGINAL → is_some (word_of R m (ins k d a b (pos 0))) ≡ true
 unfolding word_of
 word_three k m d a b x y z = is_some-some_if _ _ ∙ and_from _ _ (lt-ltb d 32 (omega (arith, x))) (and_from _ _ (lt-ltb a 32 (omega (arith, y))) (and_from _ _ (lt-ltb b 32 (omega (arith, z))) refl))
 
-load_word : (d m : ℕ) → d ≤ 13 → m < 256 → has_word (ins Ld d 2 0 (pos (8 * m))) ≡ true
+load_word : (d m : ℕ) → d ≤ LAST_ORIGINAL → m < 256 → has_word (ins Ld d 2 0 (pos (8 * m))) ≡ true
 unfolding encode_of word_of
 load_word d m x h = is_some-some_if _ _ ∙ and_from _ _ (lt-ltb d 32 (omega (arith, x))) (lt-ltb (8 * m) 2048 (omega (arith, h)))
 
-store_word : (b m : ℕ) → b ≤ 13 → m < 256 → has_word (ins Sd 0 2 b (pos (8 * m))) ≡ true
+store_word : (b m : ℕ) → b ≤ LAST_ORIGINAL → m < 256 → has_word (ins Sd 0 2 b (pos (8 * m))) ≡ true
 unfolding encode_of word_of
 store_word b m x h = is_some-some_if _ _ ∙ and_from _ _ (lt-ltb b 32 (omega (arith, x))) (lt-ltb (8 * m) 2048 (omega (arith, h)))
 
-forms_plain : (d a b m : ℕ) → d ≤ 13 → a ≤ 13 → b ≤ 13 → m < 256 → Every IsPlain (body_forms d a b m)
+forms_plain : (d a b m : ℕ) → d ≤ LAST_ORIGINAL → a ≤ LAST_ORIGINAL → b ≤ LAST_ORIGINAL → m < 256 → Every IsPlain (body_forms d a b m)
 unfolding encode_of
 forms_plain d a b m x y z h =
     let three = λ (k : Kind). low_registers (ins k d a b (pos 0)) x y z in

@@ -3,16 +3,15 @@ use Rattle.std.proofs.Common.{ℕ, ◌^◌, ◌<◌, ◌≤◌, List, [], ◌∷
 use Rattle.std.specs.Prelude.{All, codes}
 use Rattle.elf_types.specs.declared.error.ElfError.{ElfError}
 use Rattle.elf_types.specs.declared.file.ElfFile.{ElfFile}
-use Rattle.qed_model.specs.declared.admit.AdmitError.{AdmitError}
-use Rattle.qed_model.specs.Options.{default_options}
-use Rattle.qed_model.specs.Admission.Refusals.{IsAdmitted, IsRefusedBy}
-use Rattle.elf_files.specs.File.{IsReadAs}
-use Rattle.qed_model.specs.Elf.FileRead.{file_read}
-use Rattle.qed_model.specs.Elf.Layout.{written}
-use Rattle.elf_files.specs.Refusals.{IsRefused}
-use Rattle.elf_files.proofs.AcceptanceLaws.{read_or_refused}
-use Rattle.qed_model.proofs.AdmissionLaws.{no_fault}
-use Rattle.qed_model.proofs.Pairs.{every_all}
+use Rattle.tests.specs.declared.admit.AdmitError.{AdmitError}
+use Rattle.tests.specs.Options.{default_options}
+use Rattle.tests.specs.Admission.Refusals.{IsAdmitted, IsRefusedBy}
+use Rattle.tests.specs.Files.File.{IsReadAs}
+use Rattle.tests.specs.Elf.FileRead.{file_read}
+use Rattle.tests.specs.Elf.Layout.{written}
+use Rattle.tests.specs.Files.Refusals.{IsRefused}
+use Rattle.tests.proofs.Lemmas.{read_or_refused, no_fault}
+use Rattle.machine.proofs.Lemmas.{every_all}
 use Rattle.elf_write.specs.Widths.{SegmentFits, SectionFits, SymbolFits}
 use Rattle.elf_write.proofs.WholeRead.{reads_back}
 use Rattle.elf_write.specs.Plain.{segment, section}

@@ -2,22 +2,16 @@
 use Rattle.std.proofs.Common.{◌≡◌, ℕ, suc, ◌+◌, ◌*◌, ◌%◌, ◌^◌, ◌<◌, ◌≤◌, Bool, true, false, cond, ◌&&◌, List, [], ◌∷◌, length, refl, sym, ap, ◌∙◌, subst, arith}
 use Rattle.std.specs.Prelude.{◌==◌, slice_index}
 use Rattle.std.specs.List.{list_any}
-use Rattle.std.specs.FinMap.{get}
 use Rattle.std.proofs.lemmas.Bool.{false≢true}
-use Rattle.rv_isa.specs.declared.ins.Ins.{Ins}
 use Rattle.rv_isa.specs.declared.class.Class.TheVariants as class
-use Rattle.rv_isa.specs.Kind.{class_of}
-use Rattle.rv_isa.specs.Regs.{set_reg}
 use Rattle.rv_isa.proofs.RegsLaws.{slice_index-set_reg_other, length-set_reg}
-use Rattle.qed_model.specs.declared.machine.Outcome.TheVariants.{Going}
-use Rattle.qed_model.specs.Machine.Memory.{Flags, Memory, flags_at, allows, wrap, put, number, grants, byte_at, byte_in}
-use Rattle.qed_model.specs.Machine.Table.{decode_of}
-use Rattle.qed_model.specs.Machine.Values.{width_of, loaded}
-use Rattle.qed_model.specs.Machine.Step.{State, reg, moved, stored, imm, place, result, next, next_pc, in_range, Known, Refused, known_or, HasAt, fetched_at}
-use Rattle.qed_model.proofs.MemoryLaws.{same_number, get-put_outside, grants_from}
-use Rattle.qed_model.specs.Members.{Every}
-use Rattle.qed_model.proofs.Steps.{grants-flags, flags-put, step-compute, step-load, step-store}
-use Rattle.qed_model.proofs.Walked.{Walk, walk_none, walk_one, walk_on}
+use Rattle.machine.specs.declared.outcome.Outcome.TheVariants.{Going}
+use Rattle.machine.specs.Memory.{Flags, Memory, flags_at, allows, wrap, put, number, grants, byte_at, byte_in, get}
+use Rattle.machine.specs.Table.{decode_of, Ins}
+use Rattle.machine.specs.Values.{width_of, loaded}
+use Rattle.machine.specs.Step.{State, reg, moved, stored, imm, place, result, next, next_pc, in_range, Known, Refused, known_or, HasAt, fetched_at, class_of, set_reg}
+use Rattle.machine.proofs.Lemmas.{same_number, get-put_outside, grants_from, grants-flags, flags-put, step-compute, step-load, step-store, Walk, walk_none, walk_one, walk_on}
+use Rattle.machine.specs.Members.{Every}
 
 -- ---- registers
 -- those that `main` names and bodies do not

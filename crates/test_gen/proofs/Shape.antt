@@ -3,18 +3,15 @@ use Rattle.std.proofs.Common.{◌≡◌, ℕ, ◌+◌, ◌-◌, ◌*◌, ◌/◌
 use Rattle.std.specs.Prelude.{nat_lt, nat_le, ◌==◌}
 use Rattle.std.specs.List.{list_any}
 use Rattle.std.proofs.lemmas.Bool.{lt-ltb, le-ltb, le-leb, eq-eqb}
-use Rattle.elf_types.specs.declared.file.ElfFile.{ElfFile}
-use Rattle.elf_types.specs.declared.file.Segment.{Segment}
 use Rattle.elf_types.specs.declared.file.Symbol.{Symbol}
 use Rattle.elf_types.specs.declared.abi.TheConstants.{SHT_SYMTAB, SHT_STRTAB}
-use Rattle.qed_model.specs.Elf.Layout.{symtab_name, strtab_name, shstrtab_name}
-use Rattle.qed_model.specs.Elf.FileRead.{null_section, section_read, table_read}
-use Rattle.qed_model.specs.Machine.Loading.{load_segment, load_segments}
-use Rattle.qed_model.specs.Admission.DataRanges.{is_data, data_ranges}
-use Rattle.qed_model.specs.Admission.CodeWords.{loads_of, ranges_of}
-use Rattle.qed_model.specs.Admission.Rules.{is_writable_code, is_misshapen_section, is_misshapen_segment, is_mixed}
-use Rattle.qed_model.specs.Weave.OutputParts.{base_of, high_of, distance_of}
-use Rattle.qed_model.specs.Weave.Places.{image_of}
+use Rattle.tests.specs.Elf.Layout.{symtab_name, strtab_name, shstrtab_name}
+use Rattle.tests.specs.Elf.FileRead.{null_section, section_read, table_read}
+use Rattle.machine.specs.Loading.{load_segment, load_segments, ElfFile, Segment}
+use Rattle.tests.specs.Admission.DataRanges.{is_data, data_ranges}
+use Rattle.tests.specs.Admission.CodeWords.{loads_of, ranges_of}
+use Rattle.tests.specs.Admission.Rules.{is_writable_code, is_misshapen_section, is_misshapen_segment, is_mixed}
+use Rattle.tests.specs.Admission.Places.{base_of, high_of, distance_of, image_of}
 use Rattle.elf_write.specs.Plain.{segment}
 use Rattle.test_gen.specs.Generated.{sections}
 use Rattle.test_gen.proofs.Stands.{IsImage, field_first}

@@ -1,9 +1,9 @@
 -- How long the parts of a generated file are.
 use Rattle.std.proofs.Common.{◌≡◌, ℕ, zero, suc, ◌+◌, ◌*◌, length, map, refl, arith, length-append}
 use Rattle.std.proofs.lemmas.List.{length-map}
-use Rattle.qed_model.specs.Below.{gather}
-use Rattle.qed_model.specs.Numbers.{number_bytes}
-use Rattle.qed_model.proofs.Fields.{length-number_bytes, length-bytes_of}
+use Rattle.machine.specs.Below.{gather}
+use Rattle.machine.specs.Numbers.{number_bytes}
+use Rattle.tests.proofs.Lemmas.{length-number_bytes, length-bytes_of}
 use Rattle.test_gen.specs.Code.{code}
 use Rattle.test_gen.specs.Generated.{generated_word, code_bytes, function_at, table_bytes, data_bytes}
 use Rattle.test_gen.proofs.Functions.{length-code}

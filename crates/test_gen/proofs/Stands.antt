@@ -4,23 +4,19 @@ use Rattle.std.specs.Prelude.{is_none, is_some, nat_lt, nat_le, ◌==◌, slice_
 use Rattle.std.proofs.lemmas.Bool.{and_from, or_left, eq-eqb, lt-ltb, le-leb, false≢true}
 use Rattle.std.proofs.lemmas.List.{get_or-drop, length-map}
 use Rattle.byteorder.specs.Endian.{little_from}
-use Rattle.elf_types.specs.declared.file.ElfFile.{ElfFile}
-use Rattle.rv_isa.specs.declared.ins.Ins.{Ins}
-use Rattle.qed_model.specs.Numbers.{field, number_bytes, bytes_of}
-use Rattle.qed_model.specs.Machine.Table.{decode_of, encode_of}
-use Rattle.qed_model.specs.Machine.Memory.{byte_in}
-use Rattle.qed_model.specs.Machine.Program.{LoadSegment}
-use Rattle.qed_model.specs.Machine.Cells.{has, cell_at, cell_among, byte_among, number_among}
-use Rattle.qed_model.specs.Admission.Terms.{is_code_address, high_register}
-use Rattle.qed_model.specs.Admission.CodeWords.{ranges_of, is_code, word_at}
-use Rattle.qed_model.specs.Admission.Rules.{is_ebreak}
-use Rattle.qed_model.specs.Weave.Sequences.{is_auipc}
-use Rattle.qed_model.proofs.CellsAmong.{has_from}
-use Rattle.qed_model.proofs.ExampleCode.{StandFrom, IsCodeOf, each_at, is_fine}
-use Rattle.qed_model.proofs.Fields.{length-number_bytes, length-bytes_of, field-number_bytes}
-use Rattle.qed_model.specs.Members.{Every}
-use Rattle.qed_model.proofs.Reach.{has_word}
-use Rattle.qed_model.proofs.Tables.{decode_encode}
+use Rattle.machine.specs.Numbers.{field, number_bytes, bytes_of}
+use Rattle.machine.specs.Table.{decode_of, encode_of, Ins}
+use Rattle.machine.specs.Memory.{byte_in}
+use Rattle.machine.specs.Program.{LoadSegment}
+use Rattle.machine.specs.Cells.{has, cell_at, cell_among, byte_among, number_among}
+use Rattle.tests.specs.Admission.Terms.{is_code_address, high_register, ElfFile}
+use Rattle.tests.specs.Admission.CodeWords.{ranges_of, is_code, word_at}
+use Rattle.tests.specs.Admission.Rules.{is_ebreak}
+use Rattle.machine.specs.Operands.{is_auipc}
+use Rattle.machine.proofs.Lemmas.{has_from, decode_encode}
+use Rattle.qed_model.proofs.Lemmas.{StandFrom, IsCodeOf, each_at, is_fine, has_word}
+use Rattle.tests.proofs.Lemmas.{length-number_bytes, length-bytes_of, field-number_bytes}
+use Rattle.machine.specs.Members.{Every}
 use Rattle.test_gen.specs.Generated.{generated_word}
 use Rattle.test_gen.proofs.Plain.{IsPlain}
 

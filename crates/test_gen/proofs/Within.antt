@@ -4,51 +4,42 @@ use Rattle.std.specs.Prelude.{AllPairs, nat_lt, nat_le}
 use Rattle.std.proofs.lemmas.Bool.{and_parts, or_cases, eqb-true, leb-true, ltb-true, false≢true}
 use Rattle.std.proofs.lemmas.List.{length-map}
 use Rattle.std.proofs.lemmas.List.Elements.{All-cons}
-use Rattle.elf_types.specs.declared.file.ElfFile.{ElfFile}
-use Rattle.elf_types.specs.declared.file.Segment.{Segment}
 use Rattle.elf_types.specs.declared.file.Symbol.{Symbol}
 use Rattle.elf_types.specs.declared.output.OutFile.{OutFile}
 use Rattle.qed_model.specs.declared.plan.EntryRow.{EntryRow}
-use Rattle.qed_model.specs.Options.{default_options}
-use Rattle.qed_model.specs.Numbers.{bytes_of}
+use Rattle.tests.specs.Options.{default_options}
+use Rattle.machine.specs.Numbers.{bytes_of}
 use Rattle.qed_model.specs.declared.bounds.Shape.{Shape}
-use Rattle.qed_model.specs.Machine.Loading.{load_segments, loaded_file}
-use Rattle.qed_model.specs.Machine.Program.{Program, AreStartRegs, start, zeros}
+use Rattle.machine.specs.Loading.{load_segments, loaded_file, ElfFile, Segment}
+use Rattle.machine.specs.Program.{Program, AreStartRegs, start, zeros}
 use Rattle.qed_model.specs.Promise.Kept.{any_address, Kept, is_trapped}
 use Rattle.qed_model.specs.Weave.Bounds.{start_bound, start_steps, piece_bound, piece_steps}
 use Rattle.test_gen.specs.Ends.{EndsAfter, EndsWithin, run_steps}
 use Rattle.test_gen.specs.Outputs.{HasSmallCode, IsWeavable, most_output_steps}
 use Rattle.test_gen.proofs.Ending.{file_ends}
-use Rattle.qed_model.specs.Admission.CodeWords.{is_code, loads_of}
-use Rattle.qed_model.specs.Admission.DataRanges.{is_in, is_data, data_segments, data_ranges, word_count}
-use Rattle.qed_model.specs.Admission.Refusals.{IsAdmitted}
-use Rattle.qed_model.specs.Admission.Terms.{is_code_address}
-use Rattle.qed_model.specs.Machine.Cells.{byte_among}
-use Rattle.elf_files.specs.File.{File}
-use Rattle.qed_model.specs.Elf.FileRead.{file_read}
-use Rattle.qed_model.specs.Elf.Layout.{written, string_table, symbol_names, section_names, null_symbol}
+use Rattle.tests.specs.Admission.CodeWords.{is_code, loads_of}
+use Rattle.tests.specs.Admission.DataRanges.{is_in, is_data, data_segments, data_ranges, word_count}
+use Rattle.tests.specs.Admission.Refusals.{IsAdmitted}
+use Rattle.tests.specs.Admission.Terms.{is_code_address}
+use Rattle.machine.specs.Cells.{byte_among}
+use Rattle.tests.specs.Files.File.{File}
+use Rattle.tests.specs.Elf.FileRead.{file_read}
+use Rattle.tests.specs.Elf.Layout.{written, string_table, symbol_names, section_names, null_symbol}
 use Rattle.qed_model.specs.Weave.Blocks.{IsLeaderBlock, IsOtherBlock, AreBlocks}
-use Rattle.qed_model.specs.Weave.OutputFile.{has_table, last_input, data_in, file_end, range_bytes, range_segment, other_segments, in_order, original_half}
+use Rattle.qed_model.specs.Weave.OutputFile.{has_table, last_input, data_in, file_end, range_bytes, range_segment, other_segments, original_half}
+use Rattle.tests.specs.Admission.Places.{in_order, image_of, half_of, code_place}
 use Rattle.qed_model.specs.Weave.OutputParts.{copied, copies}
-use Rattle.qed_model.specs.Weave.Places.{AreSoundOptions, image_of, half_of, code_place}
+use Rattle.qed_model.specs.Weave.SoundOptions.{AreSoundOptions}
 use Rattle.qed_model.specs.Weave.Sequences.{Block}
 use Rattle.qed_model.specs.Weave.Woven.{is_far_code, new_items, code_size, new_entries, compared, IsNewCode, woven_file, IsWithin}
 use Rattle.qed_model.specs.Weave.Forms.{shape_of}
-use Rattle.elf_files.specs.Output.{WovenFile}
-use Rattle.qed_model.proofs.BelowLaws.{length-each}
-use Rattle.qed_model.proofs.Fetches.{IsShapely, instruction_code}
-use Rattle.qed_model.proofs.OneTest.{any_reached}
-use Rattle.qed_model.proofs.Fields.{length-bytes_of}
-use Rattle.qed_model.specs.Members.{Among, Every}
-use Rattle.qed_model.proofs.Among.{all_among}
-use Rattle.qed_model.proofs.RangeSegments.{file_end_step}
-use Rattle.qed_model.proofs.PlacedWords.{size-decoded}
-use Rattle.qed_model.specs.Elf.Sound.{AreLoads}
-use Rattle.elf_files.proofs.ReadFacts.{one_file}
-use Rattle.qed_model.proofs.Steady.{steady_any}
-use Rattle.qed_model.proofs.Pairs.{among_every, every-filter, every-map}
-use Rattle.weave_core.proofs.FilesFit.{length-table}
-use Rattle.weave_core.proofs.Visit.{visit_some}
+use Rattle.qed_model.specs.Weave.Output.{WovenFile}
+use Rattle.machine.proofs.Lemmas.{length-each, all_among, among_every, every-filter, every-map}
+use Rattle.tests.proofs.Lemmas.{IsShapely, instruction_code, length-bytes_of, one_file}
+use Rattle.qed_model.proofs.Lemmas.{any_reached, file_end_step, size-decoded, steady_any}
+use Rattle.machine.specs.Members.{Among, Every}
+use Rattle.tests.specs.Elf.Sound.{AreLoads}
+use Rattle.weave_core.proofs.Lemmas.{length-table, visit_some}
 use Rattle.weave_core.proofs.TestKept as kept
 use Rattle.elf_write.specs.Plain.{segment}
 use Rattle.test_gen.specs.Code.{function_count}

@@ -6,12 +6,11 @@ use Rattle.std.proofs.lemmas.Fmt.{decimal_by_steps, length-decimal-le}
 use Rattle.std.proofs.lemmas.List.Elements.{All-nil, All-cons, All-append}
 use Rattle.elf_types.specs.declared.file.Segment.{Segment}
 use Rattle.elf_types.specs.declared.file.Symbol.{Symbol}
-use Rattle.qed_model.specs.Below.{each}
-use Rattle.qed_model.specs.Elf.Written.{offset_from, end_from}
-use Rattle.qed_model.specs.Elf.Layout.{written, names_bytes, symbol_names, own_place, do_share, IsName, IsLoadable, IsPlaced, IsSymbol, null_symbol, IsWritable}
-use Rattle.qed_model.proofs.BelowLaws.{length-each, All-each}
-use Rattle.qed_model.proofs.OutputFits.{name_test, not_shared}
-use Rattle.qed_model.proofs.Pairs.{pairs_all, every_all}
+use Rattle.machine.specs.Below.{each}
+use Rattle.tests.specs.Elf.Written.{offset_from, end_from}
+use Rattle.tests.specs.Elf.Layout.{written, names_bytes, symbol_names, own_place, do_share, IsName, IsLoadable, IsPlaced, IsSymbol, null_symbol, IsWritable}
+use Rattle.machine.proofs.Lemmas.{length-each, All-each, pairs_all, every_all}
+use Rattle.tests.proofs.Lemmas.{name_test, not_shared}
 use Rattle.elf_write.proofs.PlainFits.{loadable, offset_room, inside_itself, placed, upper}
 use Rattle.test_gen.specs.Generated.{code_bytes, table_bytes, data_bytes, code_segment, table_segment, data_segment, sections, symbol, function_symbol, symbols, file_with}
 use Rattle.test_gen.proofs.Sizes.{length-code_bytes, length-table_bytes, length-data_bytes}

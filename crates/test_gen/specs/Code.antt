@@ -1,16 +1,15 @@
 -- The code of a generated test: `main`, which calls each function three times, and the functions, which are made of random words.
 use Rattle.std.specs.Prelude.{ℕ, ◌+◌, ◌*◌, ◌/◌, ◌%◌, ◌^◌, pos, negsuc, ◌-ℤ◌, List, [], ◌∷◌, ◌++◌, slice_index, slice_index_or}
-use Rattle.rv_isa.specs.declared.ins.Ins.{Ins}
-use Rattle.rv_isa.specs.declared.kind.Kind.TheVariants.{Lui, Jalr, Bne, Ld, Sd, Addi, Add, Sub, Xor, Ecall, Mul, Divu}
+use Rattle.rv_isa.specs.declared.profile.TheConstants.{LAST_ORIGINAL}
 use Rattle.rv_isa.specs.Ins.{nop}
-use Rattle.qed_model.specs.Machine.Table.{ins}
-use Rattle.qed_model.specs.Below.{each, gather}
-use Rattle.random_words.specs.Random.{random_word}
+use Rattle.machine.specs.Table.{ins, Ins, Lui, Jalr, Bne, Ld, Sd, Addi, Add, Sub, Xor, Ecall, Mul, Divu}
+use Rattle.machine.specs.Below.{each, gather}
+use Rattle.test_gen.specs.Random.{random_word}
 
 -- ---- bodies of functions
 -- the registers that bodies name
 abbrev pub body_registers : List ℕ
-body_registers = 5 ∷ 6 ∷ 7 ∷ 10 ∷ 11 ∷ 12 ∷ 13 ∷ []
+body_registers = 5 ∷ 6 ∷ 7 ∷ 10 ∷ 11 ∷ 12 ∷ LAST_ORIGINAL ∷ []
 
 -- the one that a word chooses by its bits from a place on
 abbrev pub register_from : ℕ → ℕ → ℕ

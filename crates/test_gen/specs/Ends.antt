@@ -1,8 +1,8 @@
 -- When the run of a generated test ends.
 use Rattle.std.specs.Prelude.{◌≡◌, ℕ, ◌+◌, ◌*◌, ◌<◌, ◌≤◌}
-use Rattle.qed_model.specs.declared.machine.Outcome.TheVariants.{Going, Ended}
-use Rattle.qed_model.specs.Machine.Step.{State, run}
-use Rattle.qed_model.specs.Machine.Progress.{Progress}
+use Rattle.machine.specs.declared.outcome.Outcome.TheVariants.{Going, Ended}
+use Rattle.machine.specs.Step.{State, run}
+use Rattle.machine.specs.Progress.{Progress}
 use Rattle.test_gen.specs.Code.{function_count}
 
 -- step n of a run is its ECALL

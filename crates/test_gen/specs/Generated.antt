@@ -6,10 +6,9 @@ use Rattle.elf_types.specs.declared.file.Symbol.{Symbol}
 use Rattle.elf_types.specs.declared.output.OutFile.{OutFile}
 use Rattle.elf_types.specs.declared.output.OutSection.{OutSection}
 use Rattle.elf_types.specs.declared.abi.TheConstants.{PF_R, PF_W, PF_X, SHF_WRITE, SHF_ALLOC, SHF_EXECINSTR, STT_FUNC, STB_GLOBAL, SHN_ABS}
-use Rattle.rv_isa.specs.declared.ins.Ins.{Ins}
-use Rattle.qed_model.specs.Machine.Table.{encode_of}
-use Rattle.qed_model.specs.Below.{each, gather}
-use Rattle.qed_model.specs.Numbers.{number_bytes, bytes_of}
+use Rattle.machine.specs.Table.{encode_of, Ins}
+use Rattle.machine.specs.Below.{each, gather}
+use Rattle.machine.specs.Numbers.{number_bytes, bytes_of}
 use Rattle.elf_write.specs.Plain.{segment, section}
 use Rattle.test_gen.specs.Code.{function_count, code}
 

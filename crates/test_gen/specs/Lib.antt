@@ -2,3 +2,4 @@ pub mod Code
 pub mod Generated
 pub mod Ends
 pub mod Outputs
+pub mod Random

@@ -1,14 +1,14 @@
 -- What is woven from a generated test, where no option is given.
 use Rattle.std.specs.Prelude.{ℕ, ◌≤◌, List}
 use Rattle.elf_types.specs.declared.output.OutFile.{OutFile}
-use Rattle.qed_model.specs.declared.limits.Limit.TheVariants as limit
-use Rattle.qed_model.specs.Limits.{limit_of}
-use Rattle.qed_model.specs.Options.{default_options}
-use Rattle.qed_model.specs.Elf.FileRead.{file_read}
-use Rattle.qed_model.specs.Machine.Loading.{loaded_file}
-use Rattle.qed_model.specs.Machine.Program.{AreStartRegs, start}
+use Rattle.machine.specs.declared.limits.Limit.TheVariants as limit
+use Rattle.machine.specs.Limits.{limit_of}
+use Rattle.tests.specs.Options.{default_options}
+use Rattle.tests.specs.Elf.FileRead.{file_read}
+use Rattle.machine.specs.Loading.{loaded_file}
+use Rattle.machine.specs.Program.{AreStartRegs, start}
 use Rattle.qed_model.specs.Weave.Woven.{code_size, compared, IsWithin}
-use Rattle.elf_files.specs.Output.{WovenFile}
+use Rattle.qed_model.specs.Weave.Output.{WovenFile}
 use Rattle.test_gen.specs.Ends.{EndsWithin}
 
 -- the most steps of an output: 33 of what runs first, and 123 of a piece for each of the 213,765 steps of the largest test and for one more

@@ -3,10 +3,11 @@ ghost use Rattle.std.specs.Prelude.{◌≡◌, ◌*◌, ◌<◌, pos, ◌-ℤ◌
 ghost use Rattle.test_gen.specs.Code.{register_from as register_from_of, body_instruction as body_instruction_of};
 
 use crate::instruction::instruction;
+use rv_isa::profile::LAST_ORIGINAL;
 use rv_isa::{Ins, Kind};
 
 /// The registers that bodies name. The others hold where `main` is, and the data.
-const BODY_REGISTERS: [u8; 7] = [5, 6, 7, 10, 11, 12, 13];
+const BODY_REGISTERS: [u8; 7] = [5, 6, 7, 10, 11, 12, LAST_ORIGINAL];
 
 /// The register that a random word chooses by its bits from a place on.
 fn register_from(place: u32, word: u64) -> u8

@@ -1,15 +1,15 @@
 //! The code.
 ghost use Rattle.std.specs.Prelude.{◌≡◌, ℕ, ◌≤◌, ◌<◌, ◌++◌, ◌∷◌, [], IfOk, OnOk, length, map};
-ghost use Rattle.qed_model.specs.Below.{each};
-ghost use Rattle.qed_model.specs.Numbers.{bytes_of};
-ghost use Rattle.random_words.specs.Random.{drawn as drawn_of, after};
+ghost use Rattle.machine.specs.Below.{each};
+ghost use Rattle.machine.specs.Numbers.{bytes_of};
+ghost use Rattle.test_gen.specs.Random.{drawn as drawn_of, after};
 ghost use Rattle.test_gen.specs.Code.{body_instruction as body_instruction_of, function_count as function_count_of, return, main as main_of, code as code_of};
 ghost use Rattle.test_gen.specs.Generated.{generated_word as word_of_instruction};
 
 use crate::body::body_instruction;
 use crate::instruction::instruction;
+use crate::{drawn, seeded};
 use rand_pcg::Pcg64;
-use random_words::{drawn, seeded};
 use rv_encode::encode;
 use rv_isa::{Ins, Kind};
 use std::alloc::{AllocError, Global};
@@ -83,7 +83,7 @@ fn word_of(ins: &Ins) -> u32
 }
 
 /// The bytes of the words of instructions, each the lowest first.
-#[tactic(auto, unfolding(qed_model::specs::Numbers::number_bytes))]
+#[tactic(auto, unfolding(machine::specs::Numbers::number_bytes))]
 pub fn words_bytes(alloc: Global, code: &[Ins]) -> Result<Vec<u8>, AllocError>
     ensures { IfOk result (λ bytes. bytes.items ≡ bytes_of (map word_of_instruction code.now)) }
 {

@@ -1,13 +1,13 @@
 //! The file of a generated test.
 ghost use Rattle.std.specs.Prelude.{◌≡◌, ◌<◌, ◌≤◌, IfOk, ℕ, List};
 ghost use Rattle.elf_types.specs.declared.file.ElfFile.{ElfFile};
-ghost use Rattle.qed_model.specs.Admission.Refusals.{IsAdmitted};
-ghost use Rattle.elf_files.specs.File.{IsReadAs};
-ghost use Rattle.qed_model.specs.Elf.FileRead.{file_read};
-ghost use Rattle.qed_model.specs.Elf.Layout.{written};
-ghost use Rattle.qed_model.specs.Machine.Loading.{loaded_file};
-ghost use Rattle.qed_model.specs.Machine.Program.{AreStartRegs, start};
-ghost use Rattle.qed_model.specs.Options.{default_options};
+ghost use Rattle.tests.specs.Admission.Refusals.{IsAdmitted};
+ghost use Rattle.tests.specs.Files.File.{IsReadAs};
+ghost use Rattle.tests.specs.Elf.FileRead.{file_read};
+ghost use Rattle.tests.specs.Elf.Layout.{written};
+ghost use Rattle.machine.specs.Loading.{loaded_file};
+ghost use Rattle.machine.specs.Program.{AreStartRegs, start};
+ghost use Rattle.tests.specs.Options.{default_options};
 ghost use Rattle.test_gen.specs.Ends.{EndsAfter, test_steps};
 ghost use Rattle.test_gen.specs.Outputs.{IsWeavable};
 ghost use Rattle.test_gen.specs.Generated.{sections as sections_of, symbol as symbol_of, function_symbol as function_symbol_of, symbols as symbols_of, file_with as file_with_of, generated};

@@ -1,6 +1,6 @@
 //! Instructions.
 ghost use Rattle.std.specs.Prelude.{◌≡◌, ◌<◌};
-ghost use Rattle.qed_model.specs.Machine.Table.{ins as ins_of};
+ghost use Rattle.machine.specs.Table.{ins as ins_of};
 
 use rv_isa::{Ins, Kind, register};
 

@@ -7,7 +7,9 @@ mod body;
 mod code;
 mod file;
 mod instruction;
+mod random;
 mod tables;
 
 pub use code::code_words;
 pub use file::generate;
+pub use random::{drawn, seeded};

@@ -1,6 +1,6 @@
 //! The table of functions, and the data.
 ghost use Rattle.std.specs.Prelude.{◌≡◌, ◌<◌, ◌≤◌, ◌++◌, IfOk, OnOk};
-ghost use Rattle.qed_model.specs.Numbers.{number_bytes};
+ghost use Rattle.machine.specs.Numbers.{number_bytes};
 ghost use Rattle.test_gen.specs.Generated.{function_at as function_at_of, table_bytes as table_bytes_of, data_bytes as data_bytes_of};
 
 use std::alloc::{AllocError, Global};
@@ -26,7 +26,7 @@ pub fn function_at(number: u64) -> u64
 }
 
 /// Appends a number, in 8 bytes.
-#[tactic(auto, unfolding(qed_model::specs::Numbers::number_bytes))]
+#[tactic(auto, unfolding(machine::specs::Numbers::number_bytes))]
 fn push_number(bytes: &mut Vec<u8>, number: u64) -> Result<(), AllocError>
     ensures { OnOk result (bytes.new.items ≡ bytes.old.items ++ number_bytes 8 number) }
 {

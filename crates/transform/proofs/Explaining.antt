@@ -1,19 +1,19 @@
 -- What is told of the new code of a test.
 use Rattle.std.proofs.Common.{◌≡◌, ℕ, ◌*◌, ◌≤◌, Option, Some, None, List, length, map, arith, ◌∙◌, sym, ap, subst}
 use Rattle.elf_types.specs.declared.file.ElfFile.{ElfFile}
-use Rattle.qed_model.specs.declared.options.Options.{Options}
+use Rattle.tests.specs.declared.options.Options.{Options}
 use Rattle.qed_model.specs.declared.plan.Plan.{Plan}
-use Rattle.qed_model.specs.declared.test.Test.{Test}
-use Rattle.qed_model.specs.Limits.{limit_of}
+use Rattle.tests.specs.declared.test.Test.{Test}
+use Rattle.machine.specs.Limits.{limit_of}
 use Rattle.qed_model.specs.Weave.LeanRoles.{new_roles}
 use Rattle.qed_model.specs.Weave.Sequences.{Block}
 use Rattle.qed_model.specs.Weave.Woven.{code_as, size_of_code}
-use Rattle.elf_files.specs.File.{File}
-use Rattle.elf_files.specs.Output.{HasNewCode}
-use Rattle.block_list.specs.declared.block.CodeBlock.{CodeBlock}
-use Rattle.block_list.specs.Listed.{block_of}
-use Rattle.woven_code.specs.declared.code.WovenCode.{WovenCode}
-use Rattle.woven_code.specs.Code.{code_begin, IsCut}
+use Rattle.tests.specs.Files.File.{File}
+use Rattle.qed_model.specs.Weave.Output.{HasNewCode}
+use Rattle.block_split.specs.declared.block.CodeBlock.{CodeBlock}
+use Rattle.block_split.specs.Listed.{block_of}
+use Rattle.weave.specs.declared.code.WovenCode.{WovenCode}
+use Rattle.weave.specs.Code.{code_begin, IsCut}
 use Rattle.transform.specs.declared.explained.Explained.{Explained}
 use Rattle.transform.specs.Explained.{IsExplained}
 use Rattle.transform.specs.Transform.{Transforms}

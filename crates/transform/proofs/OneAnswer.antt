@@ -2,27 +2,21 @@
 use Rattle.std.proofs.Common.{◌≡◌, ℕ, List, length, inl, inr, refl, sym, ap, ◌∙◌, subst, arith}
 use Rattle.std.specs.Prelude.{◌≢◌, Result, Ok, Err, IfOk, IfErr}
 use Rattle.elf_types.specs.declared.error.ElfError.{ElfError}
-use Rattle.elf_types.specs.declared.file.ElfFile.{ElfFile}
 use Rattle.elf_types.specs.declared.output.OutFile.{OutFile}
-use Rattle.qed_model.specs.declared.admit.AdmitError.{AdmitError}
-use Rattle.qed_model.specs.declared.limits.Limit.{Limit}
-use Rattle.qed_model.specs.declared.options.Options.{Options}
+use Rattle.tests.specs.declared.admit.AdmitError.{AdmitError}
+use Rattle.machine.specs.declared.limits.Limit.{Limit}
 use Rattle.qed_model.specs.declared.plan.Plan.{Plan}
-use Rattle.qed_model.specs.Limits.{limit_of}
-use Rattle.qed_model.specs.Admission.Refusals.{IsAdmitted, IsRefusedBy}
-use Rattle.elf_files.specs.File.{IsReadAs}
-use Rattle.qed_model.specs.Elf.Layout.{written}
-use Rattle.elf_files.specs.Refusals.{IsRefused}
-use Rattle.qed_model.specs.Weave.Blocks.{AreBlocks}
+use Rattle.machine.specs.Limits.{limit_of}
+use Rattle.tests.specs.Admission.Refusals.{IsAdmitted, IsRefusedBy}
+use Rattle.tests.specs.Files.File.{IsReadAs}
+use Rattle.tests.specs.Elf.Layout.{written}
+use Rattle.tests.specs.Files.Refusals.{IsRefused}
+use Rattle.qed_model.specs.Weave.Blocks.{AreBlocks, ElfFile, Options}
 use Rattle.qed_model.specs.Weave.Sequences.{Block}
 use Rattle.qed_model.specs.Weave.Woven.{new_code, size_of_code}
-use Rattle.elf_files.specs.Output.{WovenFile}
-use Rattle.elf_files.proofs.AcceptanceLaws.{read_or_refused}
-use Rattle.qed_model.proofs.AdmissionLaws.{no_fault}
-use Rattle.qed_model.proofs.BlocksOnly.{blocks_only}
-use Rattle.qed_model.proofs.OneRefusal.{one_refusal}
-use Rattle.elf_files.proofs.OneOutput.{one_woven_test}
-use Rattle.elf_files.proofs.ReadFacts.{one_file}
+use Rattle.qed_model.specs.Weave.Output.{WovenFile}
+use Rattle.tests.proofs.Lemmas.{read_or_refused, no_fault, one_refusal, one_file}
+use Rattle.qed_model.proofs.Lemmas.{blocks_only, one_woven_test}
 use Rattle.transform.specs.declared.error.TransformError.{TransformError}
 use Rattle.transform.specs.declared.error.TransformError.TheVariants as error
 use Rattle.transform.specs.Transform.{HasCause, IsNotAdmitted, HasTooMuchCode, IsFew, Transforms, IsTransformable, IsErrorOr, IsDoneOr}

@@ -2,7 +2,7 @@
 use Rattle.std.proofs.Common.{◌≡◌, ℕ, ◌+◌, ◌*◌, ◌/◌, ◌%◌, List, [], length, map, ap, arith}
 use Rattle.elf_types.specs.declared.file.Symbol.{Symbol}
 use Rattle.elf_types.specs.declared.output.OutFile.{OutFile}
-use Rattle.qed_model.specs.Elf.Layout.{names_bytes, symbol_names, own_place, symbols_place, strings_place, names_place, headers_place, written}
+use Rattle.tests.specs.Elf.Layout.{names_bytes, symbol_names, own_place, symbols_place, strings_place, names_place, headers_place, written}
 use Rattle.elf_write.proofs.Sizes.{length-section_names, length-written}
 use Rattle.output_file.specs.Sizes.{symbols_room}
 

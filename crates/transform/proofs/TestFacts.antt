@@ -1,33 +1,28 @@
 -- What is known of a test with its blocks.
 use Rattle.std.proofs.Common.{◌≡◌, ℕ, ◌+◌, ◌^◌, ◌<◌, ◌≤◌, Bool, true, false, List, length, map, All, get_or, ap, ◌∙◌, arith}
-use Rattle.elf_types.specs.declared.file.ElfFile.{ElfFile}
-use Rattle.elf_types.specs.declared.file.Segment.{Segment}
-use Rattle.qed_model.specs.declared.options.Options.{Options}
+use Rattle.tests.specs.declared.options.Options.{Options}
 use Rattle.qed_model.specs.declared.plan.EntryRow.{EntryRow}
-use Rattle.qed_model.specs.declared.test.Test.{Test}
-use Rattle.qed_model.specs.Admission.CodeWords.{is_code}
-use Rattle.qed_model.specs.Admission.DataRanges.{data_ranges, word_count}
-use Rattle.qed_model.specs.Machine.Loading.{load_segments}
+use Rattle.tests.specs.declared.test.Test.{Test}
+use Rattle.tests.specs.Admission.CodeWords.{is_code, ElfFile}
+use Rattle.tests.specs.Admission.DataRanges.{data_ranges, word_count, Segment}
+use Rattle.machine.specs.Loading.{load_segments}
 use Rattle.qed_model.specs.Weave.Bounds.{bounds_of}
-use Rattle.qed_model.specs.Weave.OutputParts.{base_of}
-use Rattle.qed_model.specs.Weave.Places.{image_of, half_of}
+use Rattle.tests.specs.Admission.Places.{base_of, image_of, half_of}
 use Rattle.qed_model.specs.Weave.Sequences.{Block}
 use Rattle.qed_model.specs.Weave.LeanBounds.{lean_bounds}
 use Rattle.qed_model.specs.Weave.Forms.{shape_of}
-use Rattle.qed_model.proofs.Fetches.{code_grain}
-use Rattle.qed_model.specs.Elf.Sound.{AreLoads}
+use Rattle.tests.proofs.Lemmas.{code_grain}
+use Rattle.tests.specs.Elf.Sound.{AreLoads}
 use Rattle.bound_calc.specs.Fitting.{AreSmall}
-use Rattle.block_list.specs.declared.block.CodeBlock.{CodeBlock}
-use Rattle.block_list.specs.Listed.{block_of}
+use Rattle.block_split.specs.declared.block.CodeBlock.{CodeBlock}
+use Rattle.block_split.specs.Listed.{block_of}
 use Rattle.output_file.specs.Entries.{AreEntries}
 use Rattle.output_file.specs.Told.{IsWhole}
 use Rattle.output_file.proofs.BlockEntries.{entries_are}
-use Rattle.test_weave.proofs.AdmittedFit.{words_below}
-use Rattle.weave_core.proofs.FilesFit.{admitted_image}
-use Rattle.weave_core.proofs.ImageHalves.{IsImage}
-use Rattle.weave_core.proofs.FileOfItems.{block_code, code_bounds}
-use Rattle.woven_code.specs.Code.{IsCut}
-use Rattle.woven_code.proofs.DataWords.{few_data}
+use Rattle.weave.proofs.AdmittedFit.{words_below}
+use Rattle.weave_core.proofs.Lemmas.{admitted_image, IsImage, block_code, code_bounds}
+use Rattle.weave.specs.Code.{IsCut}
+use Rattle.weave.proofs.DataWords.{few_data}
 use Rattle.transform.proofs.BoundsSmall.{shape_small, lean_shape_small}
 
 module _ (f : ElfFile) (o : Options) (t : Test) (blocks : List CodeBlock) (cut : IsCut f o t blocks) where

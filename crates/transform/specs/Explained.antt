@@ -1,12 +1,12 @@
 -- The new code of a test, and what each of its words is for.
 use Rattle.std.specs.Prelude.{◌≡◌, ℕ, ◌+◌, ◌*◌, ◌^◌, ◌<◌, List, length}
-use Rattle.qed_model.specs.declared.options.Options.{Options}
+use Rattle.tests.specs.declared.options.Options.{Options}
 use Rattle.qed_model.specs.declared.plan.Plan.{Plan}
-use Rattle.qed_model.specs.Weave.Places.{image_of, code_place}
+use Rattle.tests.specs.Admission.Places.{image_of, code_place}
 use Rattle.qed_model.specs.Weave.LeanRoles.{new_roles}
 use Rattle.qed_model.specs.Weave.Sequences.{Block}
 use Rattle.qed_model.specs.Weave.Woven.{new_code, size_of_code}
-use Rattle.elf_files.specs.Output.{HasNewCode}
+use Rattle.qed_model.specs.Weave.Output.{HasNewCode}
 use Rattle.transform.specs.declared.explained.Explained.{Explained}
 use Rattle.transform.specs.Transform.{Transforms}
 

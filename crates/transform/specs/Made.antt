@@ -2,16 +2,16 @@
 use Rattle.std.specs.Prelude.{◌≡◌, ℕ, ◌<◌, ◌≤◌, List, length, map}
 use Rattle.elf_types.specs.declared.file.ElfFile.{ElfFile}
 use Rattle.elf_types.specs.declared.output.OutFile.{OutFile}
-use Rattle.qed_model.specs.declared.limits.Limit.TheVariants as limit
-use Rattle.qed_model.specs.declared.options.Options.{Options}
+use Rattle.machine.specs.declared.limits.Limit.TheVariants as limit
+use Rattle.tests.specs.declared.options.Options.{Options}
 use Rattle.qed_model.specs.declared.plan.Plan.{Plan}
-use Rattle.qed_model.specs.Limits.{limit_of}
-use Rattle.qed_model.specs.Elf.Layout.{written}
+use Rattle.machine.specs.Limits.{limit_of}
+use Rattle.tests.specs.Elf.Layout.{written}
 use Rattle.qed_model.specs.Weave.Woven.{NewCode, new_code, size_of_code, entries_in, IsCodeFor, file_with, IsToldOf}
-use Rattle.block_list.specs.declared.block.CodeBlock.{CodeBlock}
-use Rattle.block_list.specs.Listed.{block_of}
+use Rattle.block_split.specs.declared.block.CodeBlock.{CodeBlock}
+use Rattle.block_split.specs.Listed.{block_of}
 use Rattle.weave_core.specs.Tests.{IsTest}
-use Rattle.woven_code.specs.declared.code.WovenCode.{WovenCode}
+use Rattle.weave.specs.declared.code.WovenCode.{WovenCode}
 use Rattle.transform.specs.declared.error.TransformError.{TransformError}
 use Rattle.transform.specs.declared.error.TransformError.TheVariants as error
 

@@ -1,17 +1,17 @@
 //! A file as a test, with its blocks.
 ghost use Rattle.std.specs.Prelude.{ℕ, List, IfOk, IfErr};
-ghost use Rattle.qed_model.specs.declared.options.Options.{Options as TestOptions};
-ghost use Rattle.elf_files.specs.File.{IsReadAs};
-ghost use Rattle.qed_model.specs.Elf.Sound.{IsSound};
-ghost use Rattle.qed_model.specs.Machine.Apart.{AllFitMemory, AreApart};
-ghost use Rattle.qed_model.specs.Machine.Loading.{load_segments};
-ghost use Rattle.qed_model.specs.Weave.Places.{AreSoundOptions};
+ghost use Rattle.tests.specs.declared.options.Options.{Options as TestOptions};
+ghost use Rattle.tests.specs.Files.File.{IsReadAs};
+ghost use Rattle.tests.specs.Elf.Sound.{IsSound};
+ghost use Rattle.machine.specs.Apart.{AllFitMemory, AreApart};
+ghost use Rattle.machine.specs.Loading.{load_segments};
+ghost use Rattle.qed_model.specs.Weave.SoundOptions.{AreSoundOptions};
 ghost use Rattle.test_admission.specs.Admit.{IsAdmittedAs};
 ghost use Rattle.transform.specs.Transform.{HasCause, IsNotAdmitted};
-ghost use Rattle.woven_code.specs.Code.{IsCut};
+ghost use Rattle.weave.specs.Code.{IsCut};
 
 use crate::error::TransformError;
-use block_list::{Blocks, blocks};
+use block_split::{Blocks, blocks};
 use elf_read::read_elf;
 use elf_types::{ElfError, ElfFile};
 use qed_model::{AdmitError, Options, Test};

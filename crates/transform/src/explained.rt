@@ -1,11 +1,11 @@
 //! The new code of a test, and what each of its words is for.
 ghost use Rattle.std.specs.Prelude.{◌≡◌, ◌≢◌, IfOk, IfErr, map};
-ghost use Rattle.block_list.specs.Listed.{block_of};
+ghost use Rattle.block_split.specs.Listed.{block_of};
 ghost use Rattle.transform.specs.declared.error.TransformError.{TransformError as Refusal};
 ghost use Rattle.transform.specs.declared.whole.Transformed.{Transformed as Output};
-ghost use Rattle.qed_model.specs.Weave.Places.{AreSoundOptions};
+ghost use Rattle.qed_model.specs.Weave.SoundOptions.{AreSoundOptions};
 ghost use Rattle.qed_model.specs.Weave.LeanRoles.{new_roles};
-ghost use Rattle.woven_code.specs.Code.{IsCut};
+ghost use Rattle.weave.specs.Code.{IsCut};
 ghost use Rattle.transform.specs.Explained.{IsExplained};
 ghost use Rattle.transform.specs.Transform.{Transforms, HasCause, IsTransformable, IsErrorOr, IsDoneOr};
 
@@ -14,10 +14,10 @@ use crate::error::TransformError;
 use crate::made::code_of;
 use crate::whole::{Transformed, transform};
 use elf_types::ElfFile;
-use lean_code::lean_roles;
+use lean::lean_roles;
 use qed_model::{Options, RoleRow};
 use std::alloc::{AllocError, Global};
-use woven_code::code_roles;
+use weave::code_roles;
 
 /// The new code of a test, and what its words are for.
 #[derive(Debug, Drop)]

@@ -2,16 +2,16 @@
 ghost use Rattle.std.specs.Prelude.{◌≡◌, ◌≤◌, ◌*◌, ℕ, List, [], length, Some, None, IfSome, IfOk, IfErr};
 ghost use Rattle.elf_types.specs.declared.file.ElfFile.{ElfFile as TestFile};
 ghost use Rattle.elf_types.specs.declared.file.Symbol.{Symbol};
-ghost use Rattle.block_list.specs.Listed.{block_of};
+ghost use Rattle.block_split.specs.Listed.{block_of};
 ghost use Rattle.output_file.specs.Sizes.{symbols_room};
-ghost use Rattle.qed_model.specs.Elf.Layout.{written};
-ghost use Rattle.elf_files.specs.File.{IsReadAs};
-ghost use Rattle.qed_model.specs.Machine.Apart.{AllFitMemory, AreApart};
-ghost use Rattle.qed_model.specs.Machine.Loading.{load_segments};
+ghost use Rattle.tests.specs.Elf.Layout.{written};
+ghost use Rattle.tests.specs.Files.File.{IsReadAs};
+ghost use Rattle.machine.specs.Apart.{AllFitMemory, AreApart};
+ghost use Rattle.machine.specs.Loading.{load_segments};
 ghost use Rattle.qed_model.specs.Weave.Bounds.{bounds_of};
 ghost use Rattle.qed_model.specs.Weave.LeanBounds.{lean_bounds as lean_bounds_of};
 ghost use Rattle.qed_model.specs.Weave.Forms.{shape_of as shape_of_test};
-ghost use Rattle.woven_code.specs.Code.{IsCut};
+ghost use Rattle.weave.specs.Code.{IsCut};
 ghost use Rattle.transform.specs.Made.{code_for, IsCoded, IsMade, Exceeds};
 ghost use Rattle.transform.specs.Transform.{HasCause};
 
@@ -20,13 +20,13 @@ use crate::error::TransformError;
 use bound_calc::{bounds, lean_bounds};
 use elf_types::OutFile;
 use elf_write::{file_size, names_size};
-use lean_code::lean_code;
+use lean::lean_code;
 use output_file::{bare_file, has_table, plan, symbols_size, with_symbols, word_count};
 use qed_model::limits::{MAX_OUTPUT_BYTES, MAX_OUTPUT_SEGMENTS};
 use qed_model::{Bounds, Limit, Options, Plan, Shape};
 use relinker::LinkError;
 use std::alloc::{AllocError, Global};
-use woven_code::{WovenCode, woven_code};
+use weave::{WovenCode, woven_code};
 
 /// An output before it is written, and what is told of it.
 #[derive(Debug, Drop)]

@@ -1,6 +1,6 @@
 -- An instruction of a body, by its class.
 use Rattle.std.proofs.Common.{◌≡◌, refl}
-use Rattle.qed_model.specs.Machine.Step.{Ins, Class, class_of}
+use Rattle.machine.specs.Step.{Ins, Class, class_of}
 use Rattle.rv_isa.specs.declared.class.Class.TheVariants as class
 use Rattle.weave_core.specs.Blocks.{IsBody, FitsPiece}
 

@@ -2,7 +2,7 @@
 use Rattle.std.proofs.Common.{◌≡◌, ℕ, ◌+◌, ◌⊎◌, inl, inr, ⊎_elim, Bool, List, [], ◌∷◌, ◌++◌, length, refl, sym, ap, ◌∙◌, subst, arith, append_assoc}
 use Rattle.qed_model.specs.Weave.Sequences.{guard, guards, Ins}
 use Rattle.qed_model.specs.Weave.Costs.{cost_each}
-use Rattle.qed_model.proofs.Walked.{walk_none, walk_on}
+use Rattle.machine.proofs.Lemmas.{walk_none, walk_on}
 use Rattle.weave_core.specs.World.{Item, World, Quiet as Calm, State}
 use Rattle.weave_core.specs.KindItems.{LockItems}
 use Rattle.weave_core.specs.Pass.{Views, Stands, Chain, NeedsBoth, Does, same, Leads, Quiet, Lockstep, AllLow, AllSame}

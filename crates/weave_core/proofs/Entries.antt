@@ -11,7 +11,7 @@ use Rattle.weave_core.specs.Rows.{Sourced}
 use Rattle.weave_core.specs.Describes.{Describes}
 use Rattle.weave_core.specs.Weave.{Weave}
 use Rattle.qed_model.specs.Weave.Code.{entries_of, block_items}
-use Rattle.qed_model.proofs.PlacedWords.{go_length}
+use Rattle.qed_model.proofs.Lemmas.{go_length}
 use Rattle.weave_core.specs.WeaveLaws.{EntryAt, EntriesAt}
 use Rattle.weave_core.specs.WeavePromise.{AllBlocksOf, PlanOf}
 use Rattle.weave_core.proofs.Prologue.{start_zero}

@@ -1,37 +1,33 @@
 -- A file whose new code has the instructions of some items, with a mark for each block: it fits the input, reads as the items, and its table
 -- leads to the marks.
-use Rattle.std.proofs.Common.{◌≡◌, ℕ, ◌+◌, ◌%◌, ◌^◌, ◌≤◌, ⊎_elim, Bool, true, false, cond, List, [], ◌∷◌, refl, arith, ◌⊎◌, inr, ◌-◌, ◌*◌, ◌<◌, ◌++◌, length, map, Option, Some, None, sym, ap, ◌∙◌, subst}
+use Rattle.std.proofs.Common.{◌≡◌, ℕ, ◌+◌, ◌%◌, ◌^◌, ◌≤◌, ⊎_elim, Bool, true, false, cond, List, [], ◌∷◌, refl, arith, inr, ◌-◌, ◌*◌, ◌<◌, ◌++◌, length, map, Option, Some, None, sym, ap, ◌∙◌, subst}
 use Rattle.std.proofs.lemmas.Bool.{false≢true, and_parts, or_cases, leb-true, eqb-true}
 use Rattle.std.specs.Prelude.{◌==◌, ◌&&◌, nat_le, All, slice_index, unwrap_or, IfSome}
 use Rattle.std.proofs.lemmas.List.{length-map}
 use Rattle.std.proofs.lemmas.List.Elements.{All-head, All-tail}
-use Rattle.qed_model.specs.Machine.Table.{Lw, Ins, decode_of}
-use Rattle.qed_model.specs.declared.options.Options.{Options}
+use Rattle.machine.specs.Table.{Lw, Ins, decode_of}
 use Rattle.qed_model.specs.Weave.Sequences.{Form, Reads, Block}
-use Rattle.qed_model.proofs.PieceLaws.{sound_most}
-use Rattle.qed_model.proofs.Steps.{fetched_aligned}
+use Rattle.qed_model.proofs.Lemmas.{sound_most, ascend_of, any_first, Ascend}
+use Rattle.machine.proofs.Lemmas.{fetched_aligned, source_of, has_from, has_not, get_among, skip_front, moved_by}
 use Rattle.qed_model.specs.declared.plan.EntryRow.{EntryRow}
-use Rattle.qed_model.specs.Numbers.{number_bytes, words_of, bytes_of}
-use Rattle.qed_model.specs.Admission.Reached.{AreReached}
-use Rattle.qed_model.specs.Machine.Loading.{load_segment, load_segments, loaded_file}
-use Rattle.qed_model.specs.Elf.FileRead.{file_read}
-use Rattle.qed_model.specs.Machine.Cells.{has, cell_at, cell_among}
-use Rattle.qed_model.specs.Admission.DataRanges.{data_ranges}
-use Rattle.qed_model.specs.Weave.OutputParts.{base_of, distance_of, code_segment}
-use Rattle.qed_model.specs.Weave.Places.{Segment, AreSoundOptions, image_of, half_of, code_place}
-use Rattle.qed_model.specs.Admission.CodeWords.{is_code}
-use Rattle.qed_model.specs.Admission.Refusals.{IsAdmitted}
-use Rattle.qed_model.specs.Admission.Leaders.{Entry}
-use Rattle.qed_model.specs.Weave.Blocks.{ElfFile, begins_at, AreBlocks, IsBlockOf}
+use Rattle.machine.specs.Numbers.{number_bytes, words_of, bytes_of}
+use Rattle.tests.specs.Admission.Reached.{AreReached}
+use Rattle.machine.specs.Loading.{load_segment, load_segments, loaded_file}
+use Rattle.tests.specs.Elf.FileRead.{file_read}
+use Rattle.machine.specs.Cells.{has, cell_at, cell_among}
+use Rattle.tests.specs.Admission.DataRanges.{data_ranges}
+use Rattle.tests.specs.Admission.Places.{base_of, distance_of, Segment, image_of, half_of, code_place}
+use Rattle.qed_model.specs.Weave.OutputParts.{code_segment}
+use Rattle.qed_model.specs.Weave.SoundOptions.{AreSoundOptions}
+use Rattle.tests.specs.Admission.CodeWords.{is_code}
+use Rattle.tests.specs.Admission.Refusals.{IsAdmitted}
+use Rattle.tests.specs.Admission.Leaders.{Entry}
+use Rattle.qed_model.specs.Weave.Blocks.{ElfFile, begins_at, AreBlocks, IsBlockOf, Options}
 use Rattle.qed_model.specs.Weave.Placed.{Decode, sum_of_sizes, entry_at, rows_from, entry_of, placed}
 use Rattle.qed_model.specs.Weave.OutputFile.{original_half, first_input, last_input, distance_to, table_word, table_bytes, table_segment, has_table, file_of}
 use Rattle.qed_model.specs.Weave.Forms.{form_of}
-use Rattle.qed_model.proofs.Fields.{words_of-bytes_of, length-bytes_of, bytes_of_fit}
-use Rattle.qed_model.proofs.Among.{source_of}
-use Rattle.qed_model.proofs.CellsAmong.{has_from, has_not, get_among, skip_front, moved_by}
-use Rattle.qed_model.specs.Elf.Sound.{AreLoads}
-use Rattle.qed_model.proofs.Fetches.{IsShapely, code_at, code_range, instruction_code}
-use Rattle.qed_model.proofs.BlocksOnly.{ascend_of, any_first, Ascend}
+use Rattle.tests.proofs.Lemmas.{words_of-bytes_of, length-bytes_of, bytes_of_fit, IsShapely, code_at, code_range, instruction_code}
+use Rattle.tests.specs.Elf.Sound.{AreLoads}
 use Rattle.weave_core.specs.World.{Item, World, AllBelow, get, Memory, grants, number, allows, byte_in, byte_at, wrap, in_range, Fetched, Refused, Known, known_or, fetched_at, HasAt, Program, memory_of, LoadSegment, loaded}
 use Rattle.weave_core.specs.Describes.{Describes}
 use Rattle.weave_core.specs.Plan.{FilesFit}

@@ -8,11 +8,11 @@ use Rattle.rv_isa.specs.declared.class.Class.TheVariants as class
 use Rattle.qed_model.specs.Promise.Kept.{NotTrapped, LeadsToReached, IsSteady, Kept}
 use Rattle.qed_model.specs.Weave.Pieces.{is_run}
 use Rattle.qed_model.specs.Weave.Blocks.{begins_at}
-use Rattle.qed_model.specs.Weave.Sequences.{Form, Reads, End, Falls, Stops, Block, original, each_part, guards, sweep, compare, visit, leave, leave_as, Ins, class_of, Class}
-use Rattle.qed_model.specs.Weave.Placed.{distance_between, upper_part}
+use Rattle.qed_model.specs.Weave.Sequences.{Form, Reads, End, Falls, Stops, Block, original, each_part, guards, sweep, compare, visit, leave, leave_as, Ins, class_of, Class, ORIGINALS, CURSOR, SIGNATURE, TEMPORARY}
+use Rattle.machine.specs.Offsets.{distance_between, upper_part}
 use Rattle.qed_model.specs.Weave.Bounds.{end_bound, visit_bound}
-use Rattle.qed_model.proofs.Walk.{known_at, run-more, constant_walk, set_reg-pos, run-none, Over}
-use Rattle.qed_model.proofs.BlocksOnly.{run_prefix}
+use Rattle.machine.proofs.Lemmas.{known_at, run-more, constant_walk, set_reg-pos, run-none, Over}
+use Rattle.qed_model.proofs.Lemmas.{run_prefix}
 use Rattle.weave_core.specs.World.{Item, Plain, Ended, World, Twice, IsCursor, holds, Beq, Auipc, ins, set_reg, State, reg, moved, stopped, Known, HasAt, step, run, jumped, imm, next_pc, Program}
 use Rattle.weave_core.specs.Blocks.{IsEntryOf, FitsPiece, AllFit, Leaves, EndStands}
 use Rattle.weave_core.specs.Rows.{At, Sourced, Mirrors}
@@ -23,7 +23,7 @@ use Rattle.weave_core.specs.Pass.{Views, Leads, Quiet, Lockstep, Does, same}
 use Rattle.weave_core.specs.Leaving.{swept_end, Signs}
 use Rattle.weave_core.proofs.Visit.{checked_behind, words_within, cursor_decided, cursor_is}
 use Rattle.weave_core.proofs.Source.{fit_front, has_front}
-use Rattle.qed_model.specs.Admission.DataRanges.{word_count}
+use Rattle.tests.specs.Admission.DataRanges.{word_count}
 use Rattle.weave_core.proofs.Leaves.{step-end, step-branch, step-break}
 use Rattle.weave_core.specs.Each.{items_each, NeedsEach, GivesEach, LeavesEach}
 use Rattle.weave_core.specs.Parts.{any, bare, Runs, NeedsOriginal, GivesOriginal, LeavesOriginal, GivesMirror, LeavesMirror, ForOriginal, NeedsPiece, GivesPiece, LeavesPiece, piece_items, piece_cost, Checks}
@@ -82,7 +82,7 @@ module _ (form : Form) where
 
   -- the checks need that both halves are equal and the cursor is at a word
   abbrev Alike : World → Views → Type 0
-  Alike w v = (v.original ≡ v.shadow) × (w.form ≡ form) × IsCursor w.form.spans (reg v.now 15)
+  Alike w v = (v.original ≡ v.shadow) × (w.form ≡ form) × IsCursor w.form.spans (reg v.now CURSOR)
 
   -- all of it
   quiet_piece :
@@ -93,7 +93,7 @@ module _ (form : Form) where
       (quiet_then any any _ _ _ _ _ _ _ _ _ _ (quiet_each plus any (λ i at. FitsPiece i) (λ i. []) form.mirror NeedsOther GivesMirror LeavesMirror other_cost quiet_other is at (for_mirrors plus is at f)) laws.quiet)
 
 -- ---- the checks of a form
-pub form_checks : (form : Form) → ChecksLaws form (compare ++ visit form.round form.spans) 0 (13 + visit_bound (word_count form.spans) (length form.spans) * form.round)
+pub form_checks : (form : Form) → ChecksLaws form (compare ++ visit form.round form.spans) 0 (ORIGINALS + visit_bound (word_count form.spans) (length form.spans) * form.round)
 form_checks form = record {
   quiet = record {
     leads = λ w v rest s st need.
@@ -155,11 +155,11 @@ front_row w is n u s tail l fit clean has a so calm =
     g.ends
 
 -- ---- what holds from the entry of a block to its leave
-pub held_parts : (w : World) (u : State) (a : ℕ) → is_signed_at w u a ≡ true → (reg u 16 ≡ a) × IsCursor w.form.spans (reg u 15)
-held_parts w u a e = let p = and_parts _ _ e in (eqb-true (reg u 16) a p.0, cursor_decided w.form.spans (reg u 15) p.1)
+pub held_parts : (w : World) (u : State) (a : ℕ) → is_signed_at w u a ≡ true → (reg u SIGNATURE ≡ a) × IsCursor w.form.spans (reg u CURSOR)
+held_parts w u a e = let p = and_parts _ _ e in (eqb-true (reg u SIGNATURE) a p.0, cursor_decided w.form.spans (reg u CURSOR) p.1)
 
-pub held_is : (w : World) (u : State) (a : ℕ) → reg u 16 ≡ a → IsCursor w.form.spans (reg u 15) → is_signed_at w u a ≡ true
-held_is w u a sign c = and_from _ _ (eq-eqb (reg u 16) a sign) (cursor_is w.form.spans (reg u 15) c)
+pub held_is : (w : World) (u : State) (a : ℕ) → reg u SIGNATURE ≡ a → IsCursor w.form.spans (reg u CURSOR) → is_signed_at w u a ≡ true
+held_is w u a sign c = and_from _ _ (eq-eqb (reg u SIGNATURE) a sign) (cursor_is w.form.spans (reg u CURSOR) c)
 
 -- where a walk leads, without what is said of the way there
 abbrev pub goes_is : {w : World} {u : State} {least most : ℕ} {P Q : ℕ → State → Type 0} → GoesTo w u least most (λ n x. P n x × Q n x) → GoesTo w u least most P
@@ -180,7 +180,7 @@ module _ (w : World) (most : ℕ) (checks : List Item) (first steps : ℕ) (laws
   -- ---- the entry
   pub enter_law :
       (u s : State) (rest : List Item) → Stands w leader u s → v.held w u s.pc ≡ true → s.pc < 2 ^ 64 → Reads w.form.far w.code w.entry u.pc (v.code.enter s.pc ++ rest)
-      → GoesTo w u 0 3 (λ n x. (At w x rest s s × (v.held w x s.pc ≡ true)) × (reg x 15 ≡ reg u 15))
+      → GoesTo w u 0 3 (λ n x. (At w x rest s s × (v.held w x s.pc ≡ true)) × (reg x CURSOR ≡ reg u CURSOR))
   enter_law u s rest st held low r =
       let own = held_parts w u s.pc held in
       let g = (quiet_enter s.pc).leads w (views u s) rest tt (record { over = st.over; reads = (sym st.pc, r); halved = st.halved }) (record { same = refl; sign = own.0; here = refl; low = low }) in
@@ -221,7 +221,7 @@ module _ (w : World) (most : ℕ) (checks : List Item) (first steps : ℕ) (laws
           at_least = e.1.slow;
           within = omega (arith, g.within, m);
           walk = g.walk;
-          is = ((at_views g.to (run s (length is)) rest e.0 e.1.original e.1.shadow, held_is w g.to.now b (e.1.sign ∙ own.0) (subst (IsCursor w.form.spans) (sym c.cursor) (words_within w.form.spans w.base w.form.round (reg u 15) w.spans_good own.1))), record { compare = c.compare; soon = omega (arith, c.soon, m); inside = c.inside; compares = c.compares; cursor = c.cursor; visits = c.visits });
+          is = ((at_views g.to (run s (length is)) rest e.0 e.1.original e.1.shadow, held_is w g.to.now b (e.1.sign ∙ own.0) (subst (IsCursor w.form.spans) (sym c.cursor) (words_within w.form.spans w.base w.form.round (reg u CURSOR) w.spans_good own.1))), record { compare = c.compare; soon = omega (arith, c.soon, m); inside = c.inside; compares = c.compares; cursor = c.cursor; visits = c.visits });
         })
         (λ e. absurd e)
         g.ends
@@ -233,14 +233,14 @@ module _ (w : World) (most : ℕ) (checks : List Item) (first steps : ℕ) (laws
       Seen u t least = (l : Left w v leader u t least) × Keeps w v leader u t least l
 
       -- the cursor is at a word
-      onward_held : (t x : State) → IsCursor w.form.spans (reg x 15) → Onward w leader Signs t x → Onward w leader (λ y a. v.held w y a ≡ true) t x
+      onward_held : (t x : State) → IsCursor w.form.spans (reg x CURSOR) → Onward w leader Signs t x → Onward w leader (λ y a. v.held w y a ≡ true) t x
       onward_held t x cur (lands st sign so) = lands st (held_is w x t.pc sign cur) so
       onward_held t x cur (is_lost going t' so lacks) = is_lost going t' so lacks
 
       -- from the law of the pass
       left_of :
-          (u s t : State) (least : ℕ) {Is : ℕ → Views → Type 0} → IsCursor w.form.spans (reg u 15) → Leads w (views u s) 14 [] (λ n z. ⊥) Is
-          → ((n : ℕ) (z : Views) → Is n z → Onward w leader Signs t z.now × (least ≤ n) × (reg z.now 15 ≡ reg u 15)) → Seen u t least
+          (u s t : State) (least : ℕ) {Is : ℕ → Views → Type 0} → IsCursor w.form.spans (reg u CURSOR) → Leads w (views u s) 14 [] (λ n z. ⊥) Is
+          → ((n : ℕ) (z : Views) → Is n z → Onward w leader Signs t z.now × (least ≤ n) × (reg z.now CURSOR ≡ reg u CURSOR)) → Seen u t least
       left_of u s t least cur g f =
           ⊎_elim
           (λ e. absurd e.1)
@@ -248,7 +248,7 @@ module _ (w : World) (most : ℕ) (checks : List Item) (first steps : ℕ) (laws
           g.ends
 
       stop_law :
-          (c : Class) (u s : State) (i : Ins) → IsCursor w.form.spans (reg u 15) → class_of i.kind ≡ c → At w u (leave_as w.form c i s.pc) s s → Sourced w s → w.source s.pc ≡ Known i
+          (c : Class) (u s : State) (i : Ins) → IsCursor w.form.spans (reg u CURSOR) → class_of i.kind ≡ c → At w u (leave_as w.form c i s.pc) s s → Sourced w s → w.source s.pc ≡ Known i
           → Leaves c w leader i s.pc → NotTrapped (step s) → LeadsToReached w.reached s → Seen u (step s) 1
       stop_law class.End u s i cur c a so h g calm leads = by w.form.sweep refl a where
         by : (b : Bool) → w.form.sweep ≡ b → At w u (cond b (sweep w.form.spans ++ compare) [] ++ (Plain i ∷ [])) s s → Seen u (step s) 1
@@ -296,7 +296,7 @@ module _ (w : World) (most : ℕ) (checks : List Item) (first steps : ℕ) (laws
 
     entry_known : (a : ℕ) → EntryAt w v leader a → IsEntryOf w a
     entry_known a b =
-        let i = ins Auipc 30 0 0 (upper_part (distance_between (w.entry a) a)) in
+        let i = ins Auipc TEMPORARY 0 0 (upper_part (distance_between (w.entry a) a)) in
         record { low = b.good.low; entry_low = omega (arith, w.low (w.entry a) i b.reads.1.0); grain = w.grain (w.entry a) i b.reads.1.0 }
 
     -- ---- all of them
@@ -333,7 +333,7 @@ module _ (w : World) (most : ℕ) where
   both = compare ++ visit w.form.round w.form.spans
 
   abbrev pub both_steps : ℕ
-  both_steps = 13 + visit_bound (word_count w.form.spans) (length w.form.spans) * w.form.round
+  both_steps = ORIGINALS + visit_bound (word_count w.form.spans) (length w.form.spans) * w.form.round
 
   pub form_rows : (leader : ℕ → Bool) → Mirrors w → CheckedRows w wv leader
   form_rows leader law = rows_with w most both 0 both_steps (form_checks w.form) leader law
@@ -412,16 +412,16 @@ pub form_guarded : (w : World) (most : ℕ) (checks : List Item) (first steps : 
 form_guarded w most checks first steps = record {
   signed = λ u a rest low h o q. q.signed a low (o.code u.pc ∙ h.0, o.code (u.pc + 4) ∙ h.1, o.code (u.pc + 8) ∙ h.2.0);
   fires = λ v c rest low h o long ne.
-      let i = ins Beq 0 16 30 (pos 8) in
+      let i = ins Beq 0 SIGNATURE TEMPORARY (pos 8) in
       let near = w.low (v.pc + 8) i h.2.0 in
-      let l = set_reg 30 c v.regs in
+      let l = set_reg TEMPORARY c v.regs in
       let x = moved l (v.pc + 8) v in
-      let same : slice_set v.regs 30 c ≡ set_reg 30 c v.regs = sym (set_reg-pos v.regs 30 c (omega arith)) in
+      let same : slice_set v.regs 30 c ≡ set_reg TEMPORARY c v.regs = sym (set_reg-pos v.regs 30 c (omega arith)) in
       let two : run v 2 ≡ x = (constant_walk w.code v 30 c o (h.0, (h.1, tt)) (omega (arith, near)) low (omega arith) (omega (arith, long))).ends ∙ ap (λ l. moved l (v.pc + 8) v) same in
       let over_x : Over w.code x = record { going = o.going; code = o.code } in
-      let left : reg x 16 ≡ reg v 16 = slice_index-set_reg_other v.regs 30 c 16 (λ e. absurd (omega arith)) in
-      let right : reg x 30 ≡ c = slice_index-set_reg_same v.regs 30 c (omega arith) (omega (arith, long)) in
-      let test : holds Beq (reg x 16) (reg x 30) ≡ false = differ_fails (reg x 16) (reg x 30) (λ q. ne (sym left ∙ q ∙ right)) in
+      let left : reg x SIGNATURE ≡ reg v SIGNATURE = slice_index-set_reg_other v.regs 30 c 16 (λ e. absurd (omega arith)) in
+      let right : reg x TEMPORARY ≡ c = slice_index-set_reg_same v.regs 30 c (omega arith) (omega (arith, long)) in
+      let test : holds Beq (reg x SIGNATURE) (reg x TEMPORARY) ≡ false = differ_fails (reg x SIGNATURE) (reg x TEMPORARY) (λ q. ne (sym left ∙ q ∙ right)) in
       let y = moved l (v.pc + 8 + 4) v in
       let four : (v.pc + 8 + 4) % 2 ^ 64 ≡ v.pc + 8 + 4 = omega (arith, near) in
       let three : step x ≡ y = step-branch x i over_x.going (known_at w.code x i over_x h.2.0) refl ∙ ap (λ t. cond t (jumped x.regs ((x.pc + imm i) % 2 ^ 64) x) (moved x.regs (next_pc x) x)) test ∙ ap (λ p. moved l p v) four in

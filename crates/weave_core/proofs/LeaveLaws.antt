@@ -2,11 +2,10 @@
 use Rattle.std.proofs.Common.{◌≡◌, ℕ, ◌+◌, ◌%◌, ◌^◌, ◌<◌, ◌≤◌, inr, ⊎_elim, Bool, true, false, List, [], ◌∷◌, ◌++◌, length, refl, sym, ap, ◌∙◌, subst, arith, append_assoc}
 use Rattle.rv_isa.specs.declared.class.Class.TheVariants as class
 use Rattle.rv_isa.proofs.RegsLaws.{slice_index-set_reg_other}
-use Rattle.qed_model.specs.Admission.DataRanges.{word_count}
+use Rattle.tests.specs.Admission.DataRanges.{word_count}
 use Rattle.qed_model.specs.Weave.Bounds.{end_bound}
-use Rattle.qed_model.specs.Weave.Sequences.{enter, go_on, sweep, compare, class_of, Class, Ins}
-use Rattle.qed_model.proofs.Walk.{over_moved, known_at}
-use Rattle.qed_model.proofs.Walked.{Walk, walk_none, walk_on}
+use Rattle.qed_model.specs.Weave.Sequences.{enter, go_on, sweep, compare, class_of, Class, Ins, ORIGINALS, CURSOR, SIGNATURE}
+use Rattle.machine.proofs.Lemmas.{over_moved, known_at, Walk, walk_none, walk_on}
 use Rattle.weave_core.specs.World.{Item, Plain, Go, Ended, World, Quiet as Calm, Twice, set_reg, State, reg, moved, stopped, Known, step, target, holds}
 use Rattle.weave_core.specs.Blocks.{IsEntryOf, Goes}
 use Rattle.weave_core.specs.Rows.{At, Sourced, Led}
@@ -44,16 +43,16 @@ module _ (w : World) (rest : List Item) (v : Views) (entries : (a : ℕ) → v.l
 
   -- from u, where the input is in t, to an entry or to no code
   abbrev Went : State → ℕ → Type 0
-  Went t least = GoesTo w u least 14 (λ n x. Onward w v.leads Signs t x × (reg x 15 ≡ reg u 15))
+  Went t least = GoesTo w u least 14 (λ n x. Onward w v.leads Signs t x × (reg x CURSOR ≡ reg u CURSOR))
 
   -- behind a walk of m steps to x
-  to_entry : (t x : State) (m l k least : ℕ) → Walk (Calm w) u m x → reg x 15 ≡ reg u 15 → Lands w v.leads x l k t → least ≤ m + l → m + k ≤ 14 → Sourced w t → Went t least
+  to_entry : (t x : State) (m l k least : ℕ) → Walk (Calm w) u m x → reg x CURSOR ≡ reg u CURSOR → Lands w v.leads x l k t → least ≤ m + l → m + k ≤ 14 → Sourced w t → Went t least
   to_entry t x m l k least a c b low high so =
       let y = lands_behind w v.leads u x t m l k least 14 a c b low high in
       record { steps = y.steps; to = y.to; at_least = y.at_least; within = y.within; walk = y.walk; is = (lands y.is.0 y.is.1 so, y.is.2) }
 
   to_none :
-      (t x : State) (m least : ℕ) (xs : List Item) → Walk (Calm w) u m x → reg x 15 ≡ reg u 15 → least ≤ m → m ≤ 14 → At w x xs t t → Sourced w t
+      (t x : State) (m least : ℕ) (xs : List Item) → Walk (Calm w) u m x → reg x CURSOR ≡ reg u CURSOR → least ≤ m → m ≤ 14 → At w x xs t t → Sourced w t
       → (p : ℕ) → t.pc ≡ p → ((k : Ins) → w.source p ≡ Known k → ⊥) → Went t least
   to_none t x m least xs a c low high at so p e lacks =
       record { steps = m; to = x; at_least = low; within = high; walk = a; is = (is_lost at.over.going at.halved so (λ k h. lacks k (ap w.source (sym e) ∙ h)), c) }
@@ -114,10 +113,10 @@ module _ (w : World) (rest : List Item) (v : Views) (entries : (a : ℕ) → v.l
       (λ l. stepped 1 (omega arith) (to_entry (step s) r.to r.steps 3 (2 + go_most w.form.far) 1 r.walk r.cursor (go_row w v.leads r.to (step s) t [] (entries t l) l j.pc r.at) (omega arith) (let h = go_most_le w.form.far in omega (arith, r.within, h)) j.sourced))
       (λ lacks.
       let x = r.to in
-      let y = moved (set_reg 16 t x.regs) (x.pc + 8) x in
+      let y = moved (set_reg SIGNATURE t x.regs) (x.pc + 8) x in
       let two : Walk (Calm w) x 2 y = const_walk w x 16 t (Go t ∷ []) r.at.over r.at.reads (omega arith) (omega (arith, r.at.halved.output.regs)) (const_signed w x 16 t (Go t ∷ []) r.at.over r.at.reads (λ e. absurd (omega arith))) in
-      let there : At w y (Go t ∷ []) (step s) (step s) = record { over = over_moved w.code x (set_reg 16 t x.regs) (x.pc + 8) r.at.over; reads = r.at.reads.2; halved = halved_free w x (step s) (step s) 16 t (x.pc + 8) free_16 r.at.halved } in
-      let kept : reg y 15 ≡ reg u 15 = slice_index-set_reg_other x.regs 16 t 15 (λ e. absurd (omega arith)) ∙ r.cursor in
+      let there : At w y (Go t ∷ []) (step s) (step s) = record { over = over_moved w.code x (set_reg SIGNATURE t x.regs) (x.pc + 8) r.at.over; reads = r.at.reads.2; halved = halved_free w x (step s) (step s) 16 t (x.pc + 8) free_16 r.at.halved } in
+      let kept : reg y CURSOR ≡ reg u CURSOR = slice_index-set_reg_other x.regs 16 t 15 (λ e. absurd (omega arith)) ∙ r.cursor in
       stepped 1 (omega arith) (to_none (step s) y (r.steps + 2) 1 (Go t ∷ []) (walk_on (Calm w) u x y r.steps 2 r.walk two) kept (omega arith) (omega (arith, r.within)) there j.sourced t j.pc lacks))
       g.2.1
   leave_law class.Branch next i c f a so g =
@@ -185,10 +184,10 @@ quiet_sweep spans i k = record { leads = λ w v rest s st need. subst (λ l. Lea
       let x = sweep_row w v.now v.original (Plain i ∷ rest) a in
       let u = moved x.regs x.sets.pc v.now in
       record {
-        steps = sweep_cost w.form.spans + 13 + 1;
+        steps = sweep_cost w.form.spans + ORIGINALS + 1;
         to = record { now = stopped Ended u; original = v.original; shadow = v.original; leads = v.leads };
         within = omega arith;
-        walk = walk_on (Calm w) v.now u (stopped Ended u) (sweep_cost w.form.spans + 13) 1 x.sets.walk (end_walk w u i (over_moved w.code v.now x.regs x.sets.pc a.over) x.sets.reads.0 k);
+        walk = walk_on (Calm w) v.now u (stopped Ended u) (sweep_cost w.form.spans + ORIGINALS) 1 x.sets.walk (end_walk w u i (over_moved w.code v.now x.regs x.sets.pc a.over) x.sets.reads.0 k);
         ends = inr (record {
           ended = refl;
           original = refl;

@@ -2,11 +2,12 @@
 use Rattle.std.proofs.Common.{◌≡◌, ℕ, ◌*◌, inl, ⊎_elim, Bool, true, false, cond, List, [], ◌∷◌, ◌++◌, length, refl, sym, subst, arith}
 use Rattle.rv_isa.specs.declared.class.Class.TheVariants as class
 use Rattle.qed_model.specs.Promise.Kept.{NotTrapped}
-use Rattle.qed_model.specs.Admission.DataRanges.{word_count}
+use Rattle.tests.specs.Admission.DataRanges.{word_count}
 use Rattle.qed_model.specs.Weave.Bounds.{visit_bound}
-use Rattle.qed_model.specs.Weave.Sequences.{is_auipc, mirrored, compare, visit, class_of, Class, Ins}
+use Rattle.machine.specs.Operands.{is_auipc}
+use Rattle.qed_model.specs.Weave.Sequences.{mirrored, compare, visit, class_of, Class, Ins, ORIGINALS, CURSOR}
 use Rattle.qed_model.specs.Weave.Costs.{used, bare_cost}
-use Rattle.qed_model.proofs.Walk.{known_at}
+use Rattle.machine.proofs.Lemmas.{known_at}
 use Rattle.weave_core.specs.World.{Item, Plain, Constant, World, IsCursor, State, reg, Known, step, target}
 use Rattle.weave_core.specs.Blocks.{IsBody, IsLowAs, FitsPiece}
 use Rattle.weave_core.specs.Rows.{At, Led, Sourced}
@@ -55,26 +56,26 @@ quiet_mirrored i at f = record {
 }
 
 -- ---- the comparison
-pub quiet_compare : Quiet any compare (λ w v. v.original ≡ v.shadow) Compares (λ w v n z. ⊥) 13
+pub quiet_compare : Quiet any compare (λ w v. v.original ≡ v.shadow) Compares (λ w v n z. ⊥) ORIGINALS
 quiet_compare = record {
   leads = λ w v rest s st e.
       let a = subst (λ t. At w v.now (compare ++ rest) v.original t) (sym e) st in
-      let x = leads_led w v 13 13 rest same same (subst (λ t. Led w v.now 13 13 rest v.original t) e (compare_row w v.now rest v.original a)) in
+      let x = leads_led w v ORIGINALS ORIGINALS rest same same (subst (λ t. Led w v.now ORIGINALS ORIGINALS rest v.original t) e (compare_row w v.now rest v.original a)) in
       record { steps = x.steps; to = x.to; within = x.within; walk = x.walk; ends = ⊎_elim (λ g. inl (g.0, (g.1, compare_stands w v.now.pc rest st.reads))) (λ l. absurd l) x.ends };
 }
 
 -- ---- the visits
 pub quiet_visit :
     (round : ℕ) (spans : List (ℕ × ℕ))
-    → Quiet any (visit round spans) (λ w v. (v.original ≡ v.shadow) × (w.form.spans ≡ spans) × IsCursor spans (reg v.now 15)) (λ w. Rounds w round spans) (λ w v n z. ⊥) (visit_bound (word_count spans) (length spans) * round)
+    → Quiet any (visit round spans) (λ w v. (v.original ≡ v.shadow) × (w.form.spans ≡ spans) × IsCursor spans (reg v.now CURSOR)) (λ w. Rounds w round spans) (λ w v n z. ⊥) (visit_bound (word_count spans) (length spans) * round)
 quiet_visit round spans = record { leads = λ w v rest s st need. row w v rest need.0 need.1 need.2 st } where
   row :
-      (w : World) (v : Views) (rest : List Item) → v.original ≡ v.shadow → w.form.spans ≡ spans → IsCursor spans (reg v.now 15)
+      (w : World) (v : Views) (rest : List Item) → v.original ≡ v.shadow → w.form.spans ≡ spans → IsCursor spans (reg v.now CURSOR)
       → At w v.now (visit round spans ++ rest) v.original v.shadow
       → Leads w v (visit_bound (word_count spans) (length spans) * round) rest (Rounds w round spans v) (λ n z. ⊥)
   row w v rest e f c st =
       let a : At w v.now (visit round w.form.spans ++ rest) v.original v.original = subst (λ l. At w v.now (visit round l ++ rest) v.original v.original) (sym f) (subst (λ t. At w v.now (visit round spans ++ rest) v.original t) (sym e) st) in
-      let x : Visited w spans v.now v.original round (visit_bound (word_count spans) (length spans) * round) rest = subst (λ l. Visited w l v.now v.original round (visit_bound (word_count l) (length l) * round) rest) f (visit_row w round v.now v.original rest a (subst (λ l. IsCursor l (reg v.now 15)) (sym f) c)) in
+      let x : Visited w spans v.now v.original round (visit_bound (word_count spans) (length spans) * round) rest = subst (λ l. Visited w l v.now v.original round (visit_bound (word_count l) (length l) * round) rest) f (visit_row w round v.now v.original rest a (subst (λ l. IsCursor l (reg v.now CURSOR)) (sym f) c)) in
       record {
         steps = x.steps;
         to = record { now = x.to; original = v.original; shadow = v.original; leads = v.leads };

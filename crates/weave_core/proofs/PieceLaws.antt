@@ -7,9 +7,10 @@ use Rattle.std.proofs.lemmas.List.{append-nil}
 use Rattle.rv_isa.specs.declared.class.Class.TheVariants as class
 use Rattle.qed_model.specs.Promise.Kept.{NotTrapped}
 use Rattle.qed_model.specs.Weave.Pieces.{is_clean, and_written, is_run, is_run_after}
-use Rattle.qed_model.specs.Weave.Sequences.{guard, guards, is_auipc, original, original_as, each_part, class_of, Class, Ins}
+use Rattle.qed_model.specs.Weave.Sequences.{guard, guards, original, original_as, each_part, class_of, Class, Ins, CURSOR, SIGNATURE}
+use Rattle.machine.specs.Operands.{is_auipc}
 use Rattle.qed_model.specs.Weave.Costs.{spent, spent_as, cost_each, used, used_as, original_cost}
-use Rattle.qed_model.proofs.Walk.{run-more, run-none}
+use Rattle.machine.proofs.Lemmas.{run-more, run-none}
 use Rattle.weave_core.specs.World.{Item, Plain, Constant, World, IsCursor, words_on, State, reg, Known, step, run, HasAt, target}
 use Rattle.weave_core.specs.Blocks.{IsLowAs, FitsPiece, AllFit}
 use Rattle.weave_core.specs.Kinds.{originals}
@@ -41,14 +42,14 @@ never_mirrors next cost is at w v z n l = never_each next cost GivesMirror Leave
 -- ---- the checks of a piece
 -- what a pass behind the parts needs, gives and leaves: it needs no more than that both halves are equal and the cursor is at a word, and does not leave
 pub record AreChecks (w : World) (needs : World → Views → Type 0) (gives leaves : World → Views → ℕ → Views → Type 0) (first round : ℕ) : Type 0 where
-  pub ready : (v : Views) → v.original ≡ v.shadow → IsCursor w.form.spans (reg v.now 15) → needs w v
+  pub ready : (v : Views) → v.original ≡ v.shadow → IsCursor w.form.spans (reg v.now CURSOR) → needs w v
   pub checks : (v z : Views) (n : ℕ) → gives w v n z → Checks w first round v n z
   pub never : (v z : Views) (n : ℕ) → leaves w v n z → ⊥
 
 -- the comparison, and the visits behind it
 pub both_checks : (w : World) (round : ℕ) (spans : List (ℕ × ℕ)) → w.form.spans ≡ spans → AreChecks w (NeedsChecks spans) (GivesChecks round spans) LeavesChecks 0 round
 both_checks w round spans e = record {
-  ready = λ v h c. (h, λ n y d. (d.0.original ∙ h ∙ sym d.0.shadow, e, subst (IsCursor spans) (sym d.0.cursor) (subst (λ l. IsCursor l (reg v.now 15)) e c)));
+  ready = λ v h c. (h, λ n y d. (d.0.original ∙ h ∙ sym d.0.shadow, e, subst (IsCursor spans) (sym d.0.cursor) (subst (λ l. IsCursor l (reg v.now CURSOR)) e c)));
   checks = λ v z n c.
       let d = c.first.0 in
       let l = c.last in
@@ -62,10 +63,10 @@ both_checks w round spans e = record {
           soon = omega arith;
           inside = omega (arith, c.sum, d.at_least);
           compares = subst (λ x. ComparesFrom w.code x.pc originals) (sym (run-none v.now)) c.first.1;
-          cursor = l.cursor ∙ ap (words_on spans round) d.cursor ∙ ap (λ l. words_on l round (reg v.now 15)) (sym e);
+          cursor = l.cursor ∙ ap (words_on spans round) d.cursor ∙ ap (λ l. words_on l round (reg v.now CURSOR)) (sym e);
           visits = λ j h one.
-              let y = visit_later w v.now c.some c.middle.now c.more (words_on spans j (reg c.middle.now 15)) c.runs (l.visits j h (omega (arith, one, same))) in
-              subst (λ l. Visits w v.now n (words_on l j (reg v.now 15))) (sym e) (subst (λ k. Visits w v.now n (words_on spans j k)) d.cursor (subst (λ k. Visits w v.now k (words_on spans j (reg c.middle.now 15))) (sym c.sum) y));
+              let y = visit_later w v.now c.some c.middle.now c.more (words_on spans j (reg c.middle.now CURSOR)) c.runs (l.visits j h (omega (arith, one, same))) in
+              subst (λ l. Visits w v.now n (words_on l j (reg v.now CURSOR))) (sym e) (subst (λ k. Visits w v.now n (words_on spans j k)) d.cursor (subst (λ k. Visits w v.now k (words_on spans j (reg c.middle.now CURSOR))) (sym c.sum) y));
         };
       };
   never = λ v z n l. ⊎_elim (λ f. f) (λ c. c.last) l;
@@ -135,14 +136,14 @@ module _ (next : ℕ → ℕ) (plus : (a : ℕ) → a + 8 ≤ 2 ^ 63 → next a 
     pub original : z.original ≡ s
     pub shadow : z.shadow ≡ s'
     pub slow : k ≤ n
-    pub cursor : reg z.now 15 ≡ reg v.now 15
-    pub sign : reg z.now 16 ≡ reg v.now 16
+    pub cursor : reg z.now CURSOR ≡ reg v.now CURSOR
+    pub sign : reg z.now SIGNATURE ≡ reg v.now SIGNATURE
 
   pub gives_originals :
       (is : List Ins) (at : ℕ) (v z : Views) (n : ℕ) → GivesEach next original_cost GivesOriginal is at w v n z
       → Moved v n (length is) z (run v.original (length is)) v.shadow
   unfolding run
-  gives_originals [] at v z n g = record { original = ap (λ x. x.original) g.1; shadow = ap (λ x. x.shadow) g.1; slow = omega arith; cursor = ap (λ (x : Views). reg x.now 15) g.1; sign = ap (λ (x : Views). reg x.now 16) g.1 }
+  gives_originals [] at v z n g = record { original = ap (λ x. x.original) g.1; shadow = ap (λ x. x.shadow) g.1; slow = omega arith; cursor = ap (λ (x : Views). reg x.now CURSOR) g.1; sign = ap (λ (x : Views). reg x.now SIGNATURE) g.1 }
   gives_originals (i ∷ is) at v z n g =
       let d = g.first in
       let r = gives_originals is (next at) g.middle z g.more g.last in
@@ -178,7 +179,7 @@ module _ (next : ℕ → ℕ) (plus : (a : ℕ) → a + 8 ≤ 2 ^ 63 → next a 
       (cost : Ins → ℕ) (is : List Ins) (at : ℕ) (v z : Views) (n : ℕ) → GivesEach next cost GivesMirror is at w v n z
       → Moved v n 0 z v.original (run v.shadow (length is))
   unfolding run
-  gives_mirrors cost [] at v z n g = record { original = ap (λ x. x.original) g.1; shadow = ap (λ x. x.shadow) g.1; slow = omega arith; cursor = ap (λ (x : Views). reg x.now 15) g.1; sign = ap (λ (x : Views). reg x.now 16) g.1 }
+  gives_mirrors cost [] at v z n g = record { original = ap (λ x. x.original) g.1; shadow = ap (λ x. x.shadow) g.1; slow = omega arith; cursor = ap (λ (x : Views). reg x.now CURSOR) g.1; sign = ap (λ (x : Views). reg x.now SIGNATURE) g.1 }
   gives_mirrors cost (i ∷ is) at v z n g =
       let d = g.first in
       let r = gives_mirrors cost is (next at) g.middle z g.more g.last in
@@ -194,7 +195,7 @@ module _ (next : ℕ → ℕ) (plus : (a : ℕ) → a + 8 ≤ 2 ^ 63 → next a 
   module _ (needs : Ins → ℕ → World → Views → Type 0) (have : (i : Ins) (at : ℕ) (v : Views) → Runs w i at v.shadow → needs i at w v) (cost : Ins → ℕ) where
     module _ (nc : World → Views → Type 0) (gc lc : World → Views → ℕ → Views → Type 0) (first round : ℕ) (are : AreChecks w nc gc lc first round) (is : List Ins) (at : ℕ) where
       needs_piece :
-          (v : Views) → IsCursor w.form.spans (reg v.now 15) → v.original ≡ v.shadow → v.original.pc ≡ at → HasAt w.source at is → AllFit is → is_run is ≡ true → Sourced w v.original
+          (v : Views) → IsCursor w.form.spans (reg v.now CURSOR) → v.original ≡ v.shadow → v.original.pc ≡ at → HasAt w.source at is → AllFit is → is_run is ≡ true → Sourced w v.original
           → NotTrapped (run v.original (length is)) → NeedsPiece next needs cost nc is at w v
       needs_piece v cur e here p fit clean so calm =
           let has : HasAt w.source v.original.pc is = subst (λ a. HasAt w.source a is) (sym here) p in (
@@ -237,7 +238,7 @@ module _ (next : ℕ → ℕ) (plus : (a : ℕ) → a + 8 ≤ 2 ^ 63 → next a 
       pub piece_leads :
           (suits : Bool → Type 0) → suits w.form.far → (most steps : ℕ) (items : List Item) → cost_each original_cost is + cost_each cost is ≤ most
           → Quiet suits items (NeedsPiece next needs cost nc is at) (GivesPiece next cost gc is at) (LeavesPiece next cost lc is at) (piece_cost cost steps is)
-          → (v : Views) (rest : List Item) → IsCursor w.form.spans (reg v.now 15) → v.original ≡ v.shadow → v.original.pc ≡ at → HasAt w.source at is → AllFit is → is_run is ≡ true
+          → (v : Views) (rest : List Item) → IsCursor w.form.spans (reg v.now CURSOR) → v.original ≡ v.shadow → v.original.pc ≡ at → HasAt w.source at is → AllFit is → is_run is ≡ true
           → Sourced w v.original → NotTrapped (run v.original (length is)) → Stands w v (items ++ rest)
           → Leads w v (most + steps) rest (Pieced w (most + first) round is v.original v) none
       piece_leads suits here most steps items few q v rest cur e pc has fit clean so calm st =

@@ -2,8 +2,9 @@
 use Rattle.std.proofs.Common.{◌≡◌, ℕ, zero, suc, ◌≤◌, inr, Bool, true, false, cond, List, [], ◌∷◌, refl, subst, arith}
 use Rattle.std.proofs.lemmas.Bool.{and_right, ne_eqb}
 use Rattle.rv_isa.specs.declared.class.Class.TheVariants as class
-use Rattle.weave_core.specs.World.{Item, Mark, Plain, Constant, Go, class_of, Ins, target}
-use Rattle.qed_model.specs.Weave.Sequences.{pair, is_auipc, mirrored, mirror_as}
+use Rattle.weave_core.specs.World.{Item, Mark, Plain, Constant, Go, class_of, Ins, target, LAST_ORIGINAL, TEMPORARY}
+use Rattle.qed_model.specs.Weave.Sequences.{pair, mirrored, mirror_as}
+use Rattle.machine.specs.Operands.{is_auipc}
 use Rattle.weave_core.specs.Lock.{Scratch}
 use Rattle.weave_core.specs.Blocks.{IsLowAs, FitsPiece}
 use Rattle.weave_core.specs.Kinds.{is_ld, Lockstep}
@@ -16,7 +17,7 @@ use Rattle.weave_core.proofs.Landing.{straight_none, straight_compute, straight_
 -- such a word, which does not jump: it computes, loads with a base from x16 on, or stores
 pub data ScratchWord (i : Ins) : Type 0 where
   word_computes : class_of i.kind ≡ class.Compute → Scratch i.rs1 → Scratch i.rs2 → ScratchWord i
-  word_loads : class_of i.kind ≡ class.Load → 16 ≤ i.rs1 → (i.rd ≡ 30 → ⊥) → ScratchWord i
+  word_loads : class_of i.kind ≡ class.Load → 16 ≤ i.rs1 → (i.rd ≡ TEMPORARY → ⊥) → ScratchWord i
   word_stores : class_of i.kind ≡ class.Store → Scratch i.rs1 → Scratch i.rs2 → ScratchWord i
 
 -- each item is such a word, or a constant
@@ -59,7 +60,7 @@ scratch_mirrors_fit far mirror h = record { fit = λ i at f. scratch_items far (
 
 -- ---- the mirror parts of a form that has no others
 -- no pair of an original register is x30
-pair_other : (r : ℕ) → r ≤ 13 → pair r ≡ 30 → ⊥
+pair_other : (r : ℕ) → r ≤ LAST_ORIGINAL → pair r ≡ TEMPORARY → ⊥
 pair_other zero h e = absurd (omega arith)
 pair_other (suc r) h e = absurd (omega arith)
 

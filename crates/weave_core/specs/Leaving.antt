@@ -1,10 +1,11 @@
 -- The entry and the leave of a block, as passes: what a leave is for, what it needs, and where it leads, a case for each kind of end.
 use Rattle.std.specs.Prelude.{◌≡◌, ℕ, ◌+◌, ◌*◌, ◌%◌, ◌^◌, ◌<◌, ◌≤◌, Bool, true, false, List, [], ◌∷◌, ◌++◌, length}
+use Rattle.qed_model.specs.declared.steps.TheConstants.{INSTRUCTION_STEPS}
 use Rattle.rv_isa.specs.Ins.{nop}
 use Rattle.rv_isa.specs.declared.class.Class.TheVariants as class
 use Rattle.qed_model.specs.Promise.Kept.{NotTrapped, LeadsToReached}
-use Rattle.qed_model.specs.Admission.DataRanges.{word_count}
-use Rattle.qed_model.specs.Weave.Sequences.{Form, leave_as, go_on, mirrored, sweep, compare, class_of, Class, Ins}
+use Rattle.tests.specs.Admission.DataRanges.{word_count}
+use Rattle.qed_model.specs.Weave.Sequences.{Form, leave_as, go_on, mirrored, sweep, compare, class_of, Class, Ins, LAST_ORIGINAL, CURSOR, SIGNATURE}
 use Rattle.weave_core.specs.World.{Item, Plain, Ended, World, Twice, State, reg, Known, step}
 use Rattle.weave_core.specs.Rows.{Sourced}
 use Rattle.weave_core.specs.Blocks.{IsEntryOf, Goes, Leaves}
@@ -15,14 +16,14 @@ use Rattle.weave_core.specs.WeaveLaws.{Holds, Swept, Ends, Onward}
 -- both halves are those of one state of the input, whose pc has its entry here, and the signature is that pc
 pub record Enters (w : World) (at : ℕ) (v : Views) : Type 0 where
   pub same : v.original ≡ v.shadow
-  pub sign : reg v.now 16 ≡ v.original.pc
+  pub sign : reg v.now SIGNATURE ≡ v.original.pc
   pub here : v.original.pc ≡ at
   pub low : at < 2 ^ 64
 
 -- ---- the items of a leave
 -- the form of the code with jumps of one or of two words, of which the leave looks at no more
 abbrev pub leave_form : Bool → Form
-leave_form far = record { spans = []; round = 0; far = far; sweep = false; mirror = mirrored; cost = 5 }
+leave_form far = record { spans = []; round = 0; far = far; sweep = false; mirror = mirrored; cost = INSTRUCTION_STEPS }
 
 -- the items by the class of the end; what computes is no end, and the block falls to `next`
 abbrev pub left_as : Class → ℕ → Bool → Ins → ℕ → List Item
@@ -35,9 +36,9 @@ left next far i at = left_as (class_of i.kind) next far i at
 -- the ends that it is for; of a branch `next` is the address behind it
 abbrev pub IsLeft : Class → ℕ → Ins → ℕ → Type 0
 IsLeft class.Compute next i at = i ≡ nop
-IsLeft class.Branch next i at = (i.rs1 ≤ 13) × (i.rs2 ≤ 13) × (next ≡ (at + 4) % 2 ^ 64)
-IsLeft class.Jump next i at = i.rd ≤ 13
-IsLeft class.JumpReg next i at = (i.rd ≤ 13) × (i.rs1 ≤ 13)
+IsLeft class.Branch next i at = (i.rs1 ≤ LAST_ORIGINAL) × (i.rs2 ≤ LAST_ORIGINAL) × (next ≡ (at + 4) % 2 ^ 64)
+IsLeft class.Jump next i at = i.rd ≤ LAST_ORIGINAL
+IsLeft class.JumpReg next i at = (i.rd ≤ LAST_ORIGINAL) × (i.rs1 ≤ LAST_ORIGINAL)
 IsLeft class.End next i at = Unit {0}
 IsLeft class.Illegal next i at = Unit {0}
 IsLeft _ next i at = ⊥
@@ -63,7 +64,7 @@ ended_as _ s = step s
 
 -- with the signature
 abbrev pub Signs : State → ℕ → Type 0
-Signs u a = reg u 16 ≡ a
+Signs u a = reg u SIGNATURE ≡ a
 
 -- an ECALL ends; a fall leads to the entry where the input is, if there is code; so does any other end, in at least one step, to where
 -- the input is behind it
@@ -76,7 +77,7 @@ LeftAs _ w v n z = Onward w v.leads Signs (step v.original) z.now × (1 ≤ n)
 pub record LeadsOn (t : State) (v z : Views) (Is : Type 0) : Type 0 where
   pub original : z.original ≡ t
   pub shadow : z.shadow ≡ t
-  pub cursor : reg z.now 15 ≡ reg v.now 15
+  pub cursor : reg z.now CURSOR ≡ reg v.now CURSOR
   pub left : Is
 
 abbrev pub LeavesOn : Class → World → Views → ℕ → Views → Type 0
@@ -103,6 +104,6 @@ pub record SweptTo (w : World) (spans : List (ℕ × ℕ)) (v : Views) (n : ℕ)
   pub original : z.original ≡ v.original
   pub shadow : z.shadow ≡ v.original
   pub memory : z.now.memory ≡ v.now.memory
-  pub originals : (q : ℕ) → q ≤ 13 → reg z.now q ≡ reg v.now q
+  pub originals : (q : ℕ) → q ≤ LAST_ORIGINAL → reg z.now q ≡ reg v.now q
   pub holds : Holds w z.now v.original
   pub swept : Swept w (sweep_cost spans) v.now n

@@ -1,11 +1,12 @@
 -- The parts of a piece, as passes: what each needs and gives.
 use Rattle.std.specs.Prelude.{◌≡◌, ℕ, ◌+◌, ◌*◌, ◌<◌, ◌≤◌, ◌⊎◌, cond, Bool, true, List, [], ◌∷◌, ◌++◌, length}
 use Rattle.qed_model.specs.Promise.Kept.{NotTrapped}
-use Rattle.qed_model.specs.Admission.DataRanges.{word_count}
+use Rattle.tests.specs.Admission.DataRanges.{word_count}
 use Rattle.qed_model.specs.Weave.Bounds.{visit_bound}
 use Rattle.qed_model.specs.Weave.Costs.{used, original_cost, cost_each}
 use Rattle.qed_model.specs.Weave.Pieces.{is_run}
-use Rattle.qed_model.specs.Weave.Sequences.{guards, is_auipc, Ins}
+use Rattle.qed_model.specs.Weave.Sequences.{guards, Ins, ORIGINALS, CURSOR, SIGNATURE}
+use Rattle.machine.specs.Operands.{is_auipc}
 use Rattle.weave_core.specs.World.{Item, Plain, Constant, World, IsCursor, words_on, State, reg, Known, HasAt, step, run, target}
 use Rattle.weave_core.specs.Blocks.{FitsPiece, AllFit}
 use Rattle.weave_core.specs.Rows.{Sourced}
@@ -58,25 +59,25 @@ LeavesMirror i at w v = none
 -- ---- the checks behind all parts
 -- both halves stay, and the comparison of all registers stands here
 abbrev pub Compares : World → Views → ℕ → Views → Type 0
-Compares w v n z = Does same same 13 v n z × ComparesFrom w.code v.now.pc originals
+Compares w v n z = Does same same ORIGINALS v n z × ComparesFrom w.code v.now.pc originals
 
 -- both halves and the signature stay, so many words were visited, each at its place, and the cursor is at the word behind them
 pub record Rounds (w : World) (round : ℕ) (spans : List (ℕ × ℕ)) (v : Views) (n : ℕ) (z : Views) : Type 0 where
   pub original : z.original ≡ v.original
   pub shadow : z.shadow ≡ v.shadow
-  pub cursor : reg z.now 15 ≡ words_on spans round (reg v.now 15)
-  pub sign : reg z.now 16 ≡ reg v.now 16
+  pub cursor : reg z.now CURSOR ≡ words_on spans round (reg v.now CURSOR)
+  pub sign : reg z.now SIGNATURE ≡ reg v.now SIGNATURE
   pub leads : z.leads ≡ v.leads
-  pub visits : (j : ℕ) → j < round → 1 ≤ length spans → Visits w v.now n (words_on spans j (reg v.now 15))
+  pub visits : (j : ℕ) → j < round → 1 ≤ length spans → Visits w v.now n (words_on spans j (reg v.now CURSOR))
 
 abbrev pub NeedsChecks : List (ℕ × ℕ) → World → Views → Type 0
-NeedsChecks spans w = NeedsBoth (λ v. v.original ≡ v.shadow) (Compares w) (λ v. (v.original ≡ v.shadow) × (w.form.spans ≡ spans) × IsCursor spans (reg v.now 15))
+NeedsChecks spans w = NeedsBoth (λ v. v.original ≡ v.shadow) (Compares w) (λ v. (v.original ≡ v.shadow) × (w.form.spans ≡ spans) × IsCursor spans (reg v.now CURSOR))
 
 abbrev pub GivesChecks : ℕ → List (ℕ × ℕ) → World → Views → ℕ → Views → Type 0
-GivesChecks round spans w v = Chain v 13 (Compares w v) (Rounds w round spans)
+GivesChecks round spans w v = Chain v ORIGINALS (Compares w v) (Rounds w round spans)
 
 abbrev pub LeavesChecks : World → Views → ℕ → Views → Type 0
-LeavesChecks w v n z = ⊥ ⊎ Chain v 13 (Compares w v) (λ y. none) n z
+LeavesChecks w v n z = ⊥ ⊎ Chain v ORIGINALS (Compares w v) (λ y. none) n z
 
 -- ---- a whole piece, with any mirror parts and any checks
 -- what the parts are for
@@ -114,7 +115,7 @@ piece_cost cost checks is = cost_each original_cost is + (cost_each cost is + ch
 pub record Checks (w : World) (first round : ℕ) (v : Views) (n : ℕ) (z : Views) : Type 0 where
   pub original : z.original ≡ v.original
   pub shadow : z.shadow ≡ v.shadow
-  pub sign : reg z.now 16 ≡ reg v.now 16
+  pub sign : reg z.now SIGNATURE ≡ reg v.now SIGNATURE
   pub checked : Checked w first round v.now n z.now
 
 -- behind a piece both halves are those of the input behind its instructions, in no fewer steps, the signature stays, and the checks
@@ -123,13 +124,13 @@ pub record Pieced (w : World) (first round : ℕ) (is : List Ins) (s : State) (v
   pub original : z.original ≡ run s (length is)
   pub shadow : z.shadow ≡ run s (length is)
   pub slow : length is ≤ n
-  pub sign : reg z.now 16 ≡ reg v.now 16
+  pub sign : reg z.now SIGNATURE ≡ reg v.now SIGNATURE
   pub checked : Checked w first round v.now n z.now
 
 -- from a state of the output that has one state of the input in both halves, before a piece of the input that does not trap, in so
 -- many steps an instruction, 13, and those of the visits
 pub record PieceLeads (part round : ℕ) (spans : List (ℕ × ℕ)) (items : List Item) (is : List Ins) (at : ℕ) : Type 0 where
   pub leads :
-      (w : World) (v : Views) (rest : List Item) → w.form.spans ≡ spans → IsCursor spans (reg v.now 15) → v.original ≡ v.shadow → v.original.pc ≡ at → HasAt w.source at is
+      (w : World) (v : Views) (rest : List Item) → w.form.spans ≡ spans → IsCursor spans (reg v.now CURSOR) → v.original ≡ v.shadow → v.original.pc ≡ at → HasAt w.source at is
       → AllFit is → is_run is ≡ true → Sourced w v.original → NotTrapped (run v.original (length is)) → Stands w v (items ++ rest)
-      → Leads w v (part * length is + (13 + visit_bound (word_count spans) (length spans) * round)) rest (Pieced w (part * length is) round is v.original v) none
+      → Leads w v (part * length is + (ORIGINALS + visit_bound (word_count spans) (length spans) * round)) rest (Pieced w (part * length is) round is v.original v) none

@@ -1,7 +1,7 @@
 -- The laws of a pass: over its items, what it needs, and where it leads.
 use Rattle.std.specs.Prelude.{◌≡◌, ℕ, ◌+◌, ◌≤◌, ◌⊎◌, Bool, List, [], ◌∷◌, ◌++◌}
-use Rattle.qed_model.specs.Machine.Walks.{Walk}
-use Rattle.qed_model.specs.Weave.Sequences.{guards}
+use Rattle.machine.specs.Walks.{Walk}
+use Rattle.qed_model.specs.Weave.Sequences.{guards, LAST_ORIGINAL, CURSOR, SIGNATURE}
 use Rattle.weave_core.specs.World.{Item, World, Quiet as Calm, State, reg, run}
 use Rattle.weave_core.specs.Rows.{At}
 use Rattle.weave_core.specs.KindItems.{LockItems, LandItems}
@@ -40,8 +40,8 @@ pub record Does (f g : State → State) (least : ℕ) (v : Views) (n : ℕ) (z :
   pub original : z.original ≡ f v.original
   pub shadow : z.shadow ≡ g v.shadow
   pub at_least : least ≤ n
-  pub cursor : reg z.now 15 ≡ reg v.now 15
-  pub sign : reg z.now 16 ≡ reg v.now 16
+  pub cursor : reg z.now CURSOR ≡ reg v.now CURSOR
+  pub sign : reg z.now SIGNATURE ≡ reg v.now SIGNATURE
   pub leads : z.leads ≡ v.leads
 
 -- the same state
@@ -72,7 +72,7 @@ pub record Lockstep (suits : Bool → Type 0) (uses : List ℕ) (items : List It
 -- x0 to x13
 abbrev pub AllLow : List ℕ → Type 0
 AllLow [] = Unit {0}
-AllLow (q ∷ qs) = (q ≤ 13) × AllLow qs
+AllLow (q ∷ qs) = (q ≤ LAST_ORIGINAL) × AllLow qs
 
 -- each is equal in two states
 abbrev pub AllSame : List ℕ → State → State → Type 0

@@ -1,11 +1,11 @@
 -- The laws of a weave: all that the inductions over the run of the output use of its sequences.
 use Rattle.std.specs.Prelude.{◌≡◌, ℕ, ◌+◌, ◌*◌, ◌^◌, ◌<◌, ◌≤◌, ◌⊎◌, Bool, true, List, [], ◌∷◌, ◌++◌, length, is_some}
 use Rattle.std.proofs.Common.{inl, inr}
-use Rattle.qed_model.specs.Machine.Walks.{Over, Walk}
+use Rattle.machine.specs.Walks.{Over, Walk}
 use Rattle.qed_model.specs.Promise.Kept.{NotTrapped, IsSteady}
 use Rattle.qed_model.specs.Promise.Changed.{IsDataWord}
 use Rattle.qed_model.specs.Weave.Halves.{Flagged}
-use Rattle.qed_model.specs.Weave.Sequences.{Reads, End, Falls, Stops, Block, body_length, Ins}
+use Rattle.qed_model.specs.Weave.Sequences.{Reads, End, Falls, Stops, Block, body_length, Ins, ORIGINALS, LAST_ORIGINAL, CURSOR, SIGNATURE}
 use Rattle.weave_core.specs.World.{Item, Going, Ended, Fired, World, Quiet, Twice, IsCursor, words_on, get, byte_at, State, reg, Known, HasAt, run, Program, start, zeros, AreStartRegs}
 use Rattle.weave_core.specs.Blocks.{AllFit, Full, EndStands, IsEntryOf}
 use Rattle.weave_core.specs.Rows.{At, Sourced}
@@ -52,7 +52,7 @@ EntriesAt w v leader = (a : ℕ) → leader a ≡ true → EntryAt w v leader a
 -- the output has the input's values in the original half
 pub record Holds (w : World) (u s : State) : Type 0 where
   pub output : Flagged w.output u
-  pub originals : (r : ℕ) → r ≤ 13 → reg u r ≡ reg s r
+  pub originals : (r : ℕ) → r ≤ LAST_ORIGINAL → reg u r ≡ reg s r
   pub bytes : (q : ℕ) → is_some (get w.input q) ≡ true → byte_at u.memory q ≡ byte_at s.memory q
 
 -- at the entry of the input's pc
@@ -82,16 +82,16 @@ pub record Visits (w : World) (u : State) (steps x : ℕ) : Type 0 where
   pub at : ℕ
   pub before : at < steps
   pub first : w.code (run u at).pc ≡ Known first_load
-  pub cursor : reg (run u at) 15 ≡ x
+  pub cursor : reg (run u at) CURSOR ≡ x
 
 -- of n steps from u on: after at most `first` of them stands the comparison of all registers, and the words of a round are visited
 pub record Checked (w : World) (first round : ℕ) (u : State) (n : ℕ) (to : State) : Type 0 where
   pub compare : ℕ
   pub soon : compare ≤ first
-  pub inside : compare + 13 ≤ n
+  pub inside : compare + ORIGINALS ≤ n
   pub compares : ComparesFrom w.code (run u compare).pc originals
-  pub cursor : reg to 15 ≡ words_on w.form.spans round (reg u 15)
-  pub visits : (j : ℕ) → j < round → 1 ≤ length w.form.spans → Visits w u n (words_on w.form.spans j (reg u 15))
+  pub cursor : reg to CURSOR ≡ words_on w.form.spans round (reg u CURSOR)
+  pub visits : (j : ℕ) → j < round → 1 ≤ length w.form.spans → Visits w u n (words_on w.form.spans j (reg u CURSOR))
 
 -- the test ends n steps from u on: each data word is visited in the first of them, then all registers are compared, and then it ends
 pub record Swept (w : World) (first : ℕ) (u : State) (n : ℕ) : Type 0 where
@@ -144,16 +144,16 @@ pub record Rows (w : World) (v : Weave) (leader : ℕ → Bool) : Type 0 where
 -- where the test ends, all data words and registers, if it sweeps; else the cursor stays
 abbrev pub Keeps : (w : World) (v : Weave) (leader : ℕ → Bool) (u t : State) (least : ℕ) → Left w v leader u t least → Type 0
 Keeps w v leader u t least (inl x) = v.sweeps ≡ true → Swept w v.sweep_steps u x.steps
-Keeps w v leader u t least (inr x) = reg x.to 15 ≡ reg u 15
+Keeps w v leader u t least (inr x) = reg x.to CURSOR ≡ reg u CURSOR
 
 pub record CheckedRows (w : World) (v : Weave) (leader : ℕ → Bool) : Type 0 where
   pub rows : Rows w v leader
   -- the cursor is at a word
-  pub word : (u : State) (b : ℕ) → v.held w u b ≡ true → IsCursor w.form.spans (reg u 15)
+  pub word : (u : State) (b : ℕ) → v.held w u b ≡ true → IsCursor w.form.spans (reg u CURSOR)
   -- the entry leaves it where it is
   pub enter :
       (u s : State) (rest : List Item) (st : Stands w leader u s) (held : v.held w u s.pc ≡ true) (low : s.pc < 2 ^ 64)
-      (reads : Reads w.form.far w.code w.entry u.pc (v.code.enter s.pc ++ rest)) → reg (rows.enter u s rest st held low reads).to 15 ≡ reg u 15
+      (reads : Reads w.form.far w.code w.entry u.pc (v.code.enter s.pc ++ rest)) → reg (rows.enter u s rest st held low reads).to CURSOR ≡ reg u CURSOR
   -- in a piece all registers are compared, and a round of words is visited
   pub piece :
       (is : List Ins) (b : ℕ) (u s : State) (rest : List Item) (held : v.held w u b ≡ true) (p : PieceAt w v s.pc is)
@@ -175,11 +175,11 @@ pub record Guarded (w : World) (v : Weave) (most : ℕ) : Type 0 where
   -- a quiet state at an entry has its signature
   pub signed :
       (u : State) (a : ℕ) (rest : List Item) → a < 2 ^ 64 → Reads w.form.far w.code w.entry u.pc (v.code.enter a ++ rest) → Over w.code u → Quiet w u
-      → reg u 16 ≡ a
+      → reg u SIGNATURE ≡ a
   -- with another signature it fires
   pub fires :
       (u : State) (a : ℕ) (rest : List Item) → a < 2 ^ 64 → Reads w.form.far w.code w.entry u.pc (v.code.enter a ++ rest) → Over w.code u
-      → length u.regs ≡ 32 → (reg u 16 ≡ a → ⊥) → (run u most).outcome ≡ Fired
+      → length u.regs ≡ 32 → (reg u SIGNATURE ≡ a → ⊥) → (run u most).outcome ≡ Fired
 
 -- ---- the laws of the words: each is of a kind that is woven, and each branch and jump leads to no register that is closed
 pub record Words (far : Bool) (v : Weave) : Type 0 where

@@ -10,7 +10,7 @@ use Rattle.qed_model.specs.Weave.Bounds.{register_bound, word_bound}
 use Rattle.qed_model.specs.Weave.Blocks.{begins_at}
 use Rattle.qed_model.specs.Weave.Placed.{instructions_from}
 use Rattle.qed_model.specs.Weave.Sequences.{Reads, Block, Ins}
-use Rattle.qed_model.specs.Admission.DataRanges.{word_count}
+use Rattle.tests.specs.Admission.DataRanges.{word_count}
 use Rattle.weave_core.specs.World.{World, Illegal, ins, Known, Program}
 use Rattle.weave_core.specs.Describes.{Describes}
 use Rattle.weave_core.specs.Weave.{Weave, start_steps, stage_steps}

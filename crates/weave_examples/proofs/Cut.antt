@@ -1,10 +1,10 @@
 -- The cut keeps the instructions, and all its parts are runs: each list of at most so many instructions is one piece of the leaner weave.
 use Rattle.std.proofs.Common.{◌≡◌, Bool, true, false, cond, List, [], ◌∷◌, ◌++◌, refl, ap, ◌∙◌}
 use Rattle.std.proofs.lemmas.Bool.{and_from, and_parts}
-use Rattle.qed_model.specs.Machine.Step.{Ins, class_of}
+use Rattle.machine.specs.Step.{Ins, class_of}
 use Rattle.qed_model.specs.Weave.Pieces.{is_run, whole}
 use Rattle.weave_examples.specs.Joined.{all_runs, put_first, cut_runs}
-use Rattle.weave_core.proofs.FileBlocks.{clean_alone}
+use Rattle.weave_core.proofs.Lemmas.{clean_alone}
 
 -- one instruction alone is a run
 one_is_run : (i : Ins) → is_run (i ∷ []) ≡ true

@@ -1,35 +1,31 @@
 -- All premises of the promises are met by a known test, and its numbers.
 use Rattle.std.proofs.Common.{◌≡◌, ℕ, zero, suc, ◌+◌, ◌*◌, Bool, List, [], ◌∷◌, ◌++◌, length, take, drop, arith, ◌<◌, inl, inr, true, false, refl, ap, ◌∙◌, sym}
 use Rattle.std.specs.Prelude.{nat_lt, slice_index}
-use Rattle.qed_model.specs.Admission.DataRanges.{data_ranges}
-use Rattle.qed_model.specs.Weave.Places.{image_of, half_of, AreSoundOptions}
+use Rattle.tests.specs.Admission.DataRanges.{data_ranges}
+use Rattle.tests.specs.Admission.Places.{image_of, half_of}
+use Rattle.qed_model.specs.Weave.SoundOptions.{AreSoundOptions}
 use Rattle.qed_model.specs.Weave.Placed.{sum_of_sizes}
-use Rattle.qed_model.specs.declared.options.Options.{Options}
 use Rattle.qed_model.specs.declared.item.Item.{Item}
 use Rattle.qed_model.specs.Weave.Sequences.{Form, Block, original, each_part, compare, visit, visit_word, times, piece, enter, leave, body_length, prologue, stub}
 use Rattle.qed_model.specs.Weave.Code.{block_items, entries_of, pieces_of, sequences}
 use Rattle.qed_model.specs.Weave.Woven.{items_in, is_far_code, code_size, compared, IsToldOf}
 use Rattle.qed_model.specs.Weave.Forms.{form_of, shape_of}
-use Rattle.qed_model.proofs.PlacedWords.{size-append}
-use Rattle.qed_model.specs.declared.limits.TheConstants.{MAX_NEAR_CODE_BYTES}
-use Rattle.qed_model.specs.Machine.Cells.{number_among}
-use Rattle.qed_model.specs.Machine.Table.{Ins, ins_of, decode_of}
-use Rattle.qed_model.specs.Admission.Refusals.{IsAdmitted}
-use Rattle.qed_model.specs.Weave.Blocks.{ElfFile, AreBlocks}
+use Rattle.qed_model.proofs.Lemmas.{size-append, IsCodeOf, any_reached}
+use Rattle.machine.specs.declared.limits.TheConstants.{MAX_NEAR_CODE_BYTES}
+use Rattle.machine.specs.Cells.{number_among}
+use Rattle.machine.specs.Table.{Ins, ins_of, decode_of}
+use Rattle.tests.specs.Admission.Refusals.{IsAdmitted}
+use Rattle.qed_model.specs.Weave.Blocks.{ElfFile, AreBlocks, Options}
 use Rattle.qed_model.specs.Weave.Bounds.{bounds_of}
 use Rattle.qed_model.proofs.ExampleBlocks as made
 use Rattle.qed_model.proofs.ExampleCode as code
-use Rattle.qed_model.proofs.ExampleCode.{IsCodeOf}
-use Rattle.qed_model.specs.Numbers.{number_bytes}
-use Rattle.qed_model.proofs.Fields.{are_bytes}
+use Rattle.machine.specs.Numbers.{number_bytes}
+use Rattle.tests.proofs.Lemmas.{are_bytes, read_sound, opened_verdict, read_of, is_file}
 use Rattle.qed_model.specs.Promise.Kept.{any_address}
-use Rattle.qed_model.proofs.OneTest.{any_reached}
-use Rattle.elf_files.specs.File.{File}
-use Rattle.elf_files.proofs.ReadLoads.{read_sound}
-use Rattle.elf_files.proofs.ExampleFile.{opened_verdict, read_of, is_file}
+use Rattle.tests.specs.Files.File.{File}
 use Rattle.weave_core.specs.Tests.{IsWovenTest}
-use Rattle.weave_core.proofs.Tests.{tests_have_words, tests_kept, tests_landed}
-use Rattle.lockstep.proofs.Tests.{tests_caught, tests_clean}
+use Rattle.weave_core.proofs.Lemmas.{tests_have_words, tests_kept, tests_landed}
+use Rattle.lockstep.proofs.Lemmas.{tests_caught, tests_clean}
 use Rattle.weave_examples.specs.FarTest.{far_bytes, far_test, far_options, far_code, far_blocks, far_plan, FarPromised, next, lui_8, ld_5, lui_9, sd_5, ld_6, mul, sub, call, ecall, add, jalr}
 
 -- ---- how many bytes new code has whose pieces have many visits: the visits are counted, and not written out

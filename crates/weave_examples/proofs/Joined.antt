@@ -5,11 +5,10 @@ use Rattle.std.proofs.Math.Nat.{mul-le-mul, mul-le-mul_left}
 use Rattle.qed_model.specs.Promise.Kept.{NotTrapped}
 use Rattle.qed_model.specs.Weave.Blocks.{begins_at}
 use Rattle.qed_model.specs.Weave.Pieces.{is_run, whole}
-use Rattle.qed_model.specs.Weave.Placed.{distance_between, upper_part}
+use Rattle.machine.specs.Offsets.{distance_between, upper_part}
 use Rattle.qed_model.specs.Weave.Sequences.{Form, guards, original, each_part, compare, visit, Ins}
 use Rattle.qed_model.specs.Weave.Costs.{used}
-use Rattle.qed_model.proofs.Walk.{run-more}
-use Rattle.qed_model.proofs.Walked.{walk_on}
+use Rattle.machine.proofs.Lemmas.{run-more, walk_on}
 use Rattle.weave_core.specs.World.{Item, World, Quiet as Calm, IsCursor, Auipc, ins, State, reg, HasAt, run, Program}
 use Rattle.weave_core.specs.Blocks.{FitsPiece, AllFit}
 use Rattle.weave_core.specs.Rows.{At, Sourced, Led, Mirrors}
@@ -19,17 +18,8 @@ use Rattle.weave_core.specs.Each.{items_each}
 use Rattle.weave_core.specs.Parts.{any, bare, GivesMirror, LeavesMirror}
 use Rattle.weave_core.specs.Weave.{Weave}
 use Rattle.weave_core.specs.WeaveLaws.{PieceAt, Holds, GoesTo, Inside, Checked, Words, CheckedRows, Starts}
-use Rattle.weave_core.proofs.Rows.{led_on, led_none, led_more}
-use Rattle.weave_core.proofs.Source.{source_run, not_trapped_front, has_front}
-use Rattle.weave_core.proofs.Visit.{checked_behind, words_within}
-use Rattle.weave_core.proofs.Landing.{has_rest}
-use Rattle.weave_core.proofs.Compose.{quiet_then, quiet_each, each_same}
-use Rattle.weave_core.proofs.PieceLaws.{never_originals, never_mirrors, for_mirrors, needs_originals, needs_mirrors, gives_originals, gives_mirrors, cost_parts, guarded_original}
-use Rattle.weave_core.proofs.FormRows.{held_parts, held_is, goes_is, plus, each_plus, NeedsOther, other_cost, quiet_other, quiet_front, lockstep_piece, front_row, both, both_steps, form_checks, rows_with, starts_with, form_guarded}
-use Rattle.weave_core.proofs.Values.{weave_kept}
-use Rattle.weave_core.proofs.Landings.{weave_landed}
-use Rattle.lockstep.proofs.FormWords.{form_words, visits_ten}
-use Rattle.lockstep.proofs.Weaves.{weave_caught, weave_clean}
+use Rattle.weave_core.proofs.Lemmas.{led_on, led_none, led_more, source_run, not_trapped_front, has_front, checked_behind, words_within, has_rest, quiet_then, quiet_each, each_same, never_originals, never_mirrors, for_mirrors, needs_originals, needs_mirrors, gives_originals, gives_mirrors, cost_parts, guarded_original, held_parts, held_is, goes_is, plus, each_plus, NeedsOther, other_cost, quiet_other, quiet_front, lockstep_piece, front_row, both, both_steps, form_checks, rows_with, starts_with, form_guarded, weave_kept, weave_landed}
+use Rattle.lockstep.proofs.Lemmas.{form_words, visits_ten, weave_caught, weave_clean}
 use Rattle.weave_examples.specs.Joined.{all_runs, runs_items, joined, JoinedKept, JoinedLanded, JoinedCaught, JoinedClean}
 
 -- ---- lists in two parts

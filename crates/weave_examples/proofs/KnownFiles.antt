@@ -1,17 +1,15 @@
 -- Two known ELF files, as they are written and read: a test with a loop, and one with a data word.
 use Rattle.std.proofs.Common.{ℕ, List, [], ◌∷◌, refl}
 use Rattle.std.specs.Prelude.{codes}
-use Rattle.qed_model.specs.Admission.DataRanges.{ElfFile, Segment}
+use Rattle.tests.specs.Admission.DataRanges.{ElfFile, Segment}
 use Rattle.elf_types.specs.declared.file.Section.{Section}
 use Rattle.elf_types.specs.declared.output.OutFile.{OutFile}
 use Rattle.elf_types.specs.declared.output.OutSection.{OutSection}
-use Rattle.qed_model.specs.Numbers.{number_bytes}
-use Rattle.qed_model.specs.Elf.FileRead.{null_section}
-use Rattle.qed_model.specs.Elf.Layout.{null_symbol, symbol_bytes, header_bytes, table_headers, headers_of, own_place, symbols_place, strings_place, names_place, headers_place, tables_bytes, written}
-use Rattle.qed_model.specs.Elf.Sound.{IsSound}
-use Rattle.elf_files.proofs.ReadLoads.{read_sound}
-use Rattle.elf_files.proofs.ExampleFile.{opened_verdict, read_of, is_file}
-use Rattle.qed_model.proofs.Fields.{are_bytes}
+use Rattle.machine.specs.Numbers.{number_bytes}
+use Rattle.tests.specs.Elf.FileRead.{null_section}
+use Rattle.tests.specs.Elf.Layout.{null_symbol, symbol_bytes, header_bytes, table_headers, headers_of, own_place, symbols_place, strings_place, names_place, headers_place, tables_bytes, written}
+use Rattle.tests.specs.Elf.Sound.{IsSound}
+use Rattle.tests.proofs.Lemmas.{read_sound, opened_verdict, read_of, is_file, are_bytes}
 
 -- a file that is written, and what is read: tables are added behind its sections
 abbrev out : List Segment → List OutSection → OutFile

@@ -3,12 +3,12 @@ use Rattle.std.proofs.Common.{◌≡◌, ℕ, zero, suc, ◌+◌, ◌<◌, true,
 use Rattle.std.specs.Prelude.{◌%◌, ◌^◌, ◌||◌, ◌&&◌, not, Bool, nat_le}
 use Rattle.std.proofs.lemmas.Bool.{eq-eqb, ne_eqb}
 use Rattle.qed_model.specs.declared.change.Change.{Change}
-use Rattle.weave_core.specs.World.{Program, memory_of, start, zeros, Going, Ins, State, Known, HasAt, fetched_at, step, run}
+use Rattle.weave_core.specs.World.{Program, memory_of, start, zeros, Going, Ins, State, Known, HasAt, fetched_at, step, run, LAST_ORIGINAL}
 use Rattle.qed_model.specs.Promise.Changed.{changed, with_changes, changed_run}
 use Rattle.qed_model.specs.Promise.Closed.{is_closed, uses, guards_other, guard_bytes, is_checked}
-use Rattle.qed_model.proofs.Walk.{run-last}
+use Rattle.machine.proofs.Lemmas.{run-last}
 use Rattle.weave_examples.proofs.ListedRuns.{instruction_at, is_simple_run, go, found, run_is, state_of}
-use Rattle.lockstep.proofs.Made.{changed_later}
+use Rattle.lockstep.proofs.Lemmas.{changed_later}
 
 -- before its step the changed run is the run without it
 unchanged : (s : State) (c : Change) (n : ℕ) → n < c.step → changed_run s (c ∷ []) n ≡ run s n
@@ -32,7 +32,7 @@ changed_there s c n e =
 
 -- a register is closed where an instruction is next, another stands behind it, and a third where it ends as a guard
 abbrev pub closed_by : ℕ → Ins → Ins → Ins → Bool
-closed_by r i m j = (nat_le 1 r && nat_le r 13) && ((uses r (Known i) && not (is_checked (Known i) (Known m))) || (guards_other r (Known i) && uses r (Known j)))
+closed_by r i m j = (nat_le 1 r && nat_le r LAST_ORIGINAL) && ((uses r (Known i) && not (is_checked (Known i) (Known m))) || (guards_other r (Known i) && uses r (Known j)))
 
 module _ (g : Program) (base : ℕ) (is : List Ins) (stand : HasAt (fetched_at (memory_of g.segments) g.ranges) base is) where
   -- the changed run, from registers 0, from a known state on
@@ -52,6 +52,6 @@ module _ (g : Program) (base : ℕ) (is : List Ins) (stand : HasAt (fetched_at (
   closed_there r regs pc i m j here next behind =
       let code = fetched_at (memory_of g.segments) g.ranges in
       let known = λ (a : ℕ) (k : Ins) (e : instruction_at base is a ≡ Some k). found code base is a k stand e in
-      ap (λ x. (nat_le 1 r && nat_le r 13) && ((uses r x && not (is_checked x (code ((pc + 4) % 2 ^ 64)))) || (guards_other r x && uses r (code ((pc + guard_bytes x) % 2 ^ 64))))) (known pc i here)
-      ∙ ap (λ x. (nat_le 1 r && nat_le r 13) && ((uses r (Known i) && not (is_checked (Known i) x)) || (guards_other r (Known i) && uses r (code ((pc + guard_bytes (Known i)) % 2 ^ 64))))) (known ((pc + 4) % 2 ^ 64) m next)
-      ∙ ap (λ x. (nat_le 1 r && nat_le r 13) && ((uses r (Known i) && not (is_checked (Known i) (Known m))) || (guards_other r (Known i) && uses r x))) (known ((pc + guard_bytes (Known i)) % 2 ^ 64) j behind)
+      ap (λ x. (nat_le 1 r && nat_le r LAST_ORIGINAL) && ((uses r x && not (is_checked x (code ((pc + 4) % 2 ^ 64)))) || (guards_other r x && uses r (code ((pc + guard_bytes x) % 2 ^ 64))))) (known pc i here)
+      ∙ ap (λ x. (nat_le 1 r && nat_le r LAST_ORIGINAL) && ((uses r (Known i) && not (is_checked (Known i) x)) || (guards_other r (Known i) && uses r (code ((pc + guard_bytes (Known i)) % 2 ^ 64))))) (known ((pc + 4) % 2 ^ 64) m next)
+      ∙ ap (λ x. (nat_le 1 r && nat_le r LAST_ORIGINAL) && ((uses r (Known i) && not (is_checked (Known i) (Known m))) || (guards_other r (Known i) && uses r x))) (known ((pc + guard_bytes (Known i)) % 2 ^ 64) j behind)

@@ -3,12 +3,12 @@ use Rattle.std.proofs.Common.{◌≡◌, ℕ, zero, suc, ◌+◌, ◌%◌, ◌^�
 use Rattle.std.specs.Prelude.{◌==◌}
 use Rattle.std.proofs.lemmas.Bool.{eqb-true, and_parts}
 use Rattle.rv_isa.specs.declared.class.Class.TheVariants as class
-use Rattle.qed_model.specs.declared.machine.Cause.TheVariants as cause
+use Rattle.machine.specs.declared.outcome.Cause.TheVariants as cause
 use Rattle.weave_core.specs.World.{Outcome, Going, Memory, holds, set_reg, class_of, Class, Ins, State, reg, moved, imm, next_pc, Fetched, Known, HasAt, fetched_at, next, jumped, execute, trapped, step, run, Program, memory_of}
-use Rattle.qed_model.specs.Machine.Loading.{ElfFile, loaded_file}
-use Rattle.qed_model.proofs.ExampleCode.{StandFrom}
-use Rattle.qed_model.proofs.Fetches.{IsShapely, known_instruction}
-use Rattle.qed_model.proofs.Steps.{step-known}
+use Rattle.machine.specs.Loading.{ElfFile, loaded_file}
+use Rattle.qed_model.proofs.Lemmas.{StandFrom}
+use Rattle.tests.proofs.Lemmas.{IsShapely, known_instruction}
+use Rattle.machine.proofs.Lemmas.{step-known}
 
 -- the instruction at an address, of some that stand one after the other
 abbrev pub instruction_at : ℕ → List Ins → ℕ → Option Ins

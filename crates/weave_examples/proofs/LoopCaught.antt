@@ -2,23 +2,21 @@
 use Rattle.std.proofs.Common.{◌≡◌, ℕ, ◌+◌, true, false, List, [], ◌∷◌, refl, ap, ◌∙◌, arith}
 use Rattle.std.specs.Prelude.{pos}
 use Rattle.qed_model.specs.declared.change.Change.{Change}
-use Rattle.qed_model.specs.declared.change.Place.TheVariants.{Reg}
+use Rattle.machine.specs.declared.place.Place.TheVariants.{Reg}
 use Rattle.weave_core.specs.World.{start, zeros, Going, Fired, Beq, Bne, Ebreak, Jal, ins, execute, jumped, computed_value, value, holds}
-use Rattle.qed_model.specs.Machine.Struck.{struck}
+use Rattle.machine.specs.Struck.{struck}
 use Rattle.qed_model.specs.Promise.Caught.{Caught, Settles}
 use Rattle.qed_model.specs.Promise.Changed.{changed_run}
 use Rattle.qed_model.specs.Promise.Closed.{is_closed, uses, guards_other, is_checked}
 use Rattle.qed_model.specs.Promise.Kept.{after_output, any_address}
-use Rattle.qed_model.proofs.ExampleCode.{defaults}
+use Rattle.qed_model.proofs.Lemmas.{defaults, steady_any, any_reached}
 use Rattle.weave_examples.proofs.KnownFiles.{loop}
 use Rattle.weave_examples.proofs.LoopExample.{loop_plan, loop_told, loop_blocks}
-use Rattle.qed_model.proofs.Steady.{steady_any}
-use Rattle.qed_model.proofs.OneTest.{any_reached}
-use Rattle.qed_model.proofs.Fields.{zeros_start}
+use Rattle.tests.proofs.Lemmas.{zeros_start}
 use Rattle.weave_examples.proofs.ListedRuns.{state_of}
 use Rattle.weave_examples.proofs.LoopKept.{loop_words, loop_input, loop_output, loop_new_code, loop_stand, output_run, input_ended}
 use Rattle.weave_examples.proofs.ListedChanges.{changed_go, closed_there}
-use Rattle.lockstep.proofs.Tests.{tests_caught}
+use Rattle.lockstep.proofs.Lemmas.{tests_caught}
 
 loop_caught : Caught loop_input loop_output any_address [] loop_plan.bounds
 loop_caught = tests_caught loop defaults loop_blocks loop_words.0 loop_plan loop_words.1 loop_told any_address (any_reached loop defaults refl)

@@ -2,8 +2,8 @@
 -- not silent at the end.
 use Rattle.std.proofs.Common.{◌≡◌, ◌≢◌, ◌⊎◌, ℕ, ◌+◌, ◌-◌, ◌<◌, true, false, List, [], ◌∷◌, refl, sym, ap, ◌∙◌, arith}
 use Rattle.std.specs.Prelude.{pos}
-use Rattle.qed_model.specs.Elf.FileRead.{file_read}
-use Rattle.qed_model.specs.Machine.Loading.{loaded_file}
+use Rattle.tests.specs.Elf.FileRead.{file_read}
+use Rattle.machine.specs.Loading.{loaded_file}
 use Rattle.weave_core.specs.World.{Program, memory_of, start, zeros, Going, Ended, Fired, Beq, Bne, Ebreak, Ins, ins, HasAt, fetched_at, execute, jumped, computed_value, value, holds}
 use Rattle.qed_model.specs.Promise.Caught.{Same}
 use Rattle.qed_model.specs.Promise.Changed.{changed_run}
@@ -12,22 +12,19 @@ use Rattle.qed_model.specs.Promise.Closed.{is_closed, uses, guards_other, is_che
 use Rattle.qed_model.specs.Promise.Kept.{after_output, any_address}
 use Rattle.qed_model.specs.Weave.Placed.{placed}
 use Rattle.qed_model.specs.Weave.Woven.{woven_file, new_items}
-use Rattle.qed_model.proofs.ExampleCode.{swept, sound}
+use Rattle.qed_model.proofs.Lemmas.{swept, sound, steady_any, any_reached}
 use Rattle.weave_examples.proofs.KnownFiles.{loop, loop_sound}
 use Rattle.weave_examples.proofs.LoopExample.{loop_swept_admitted, loop_blocks, loop_are}
-use Rattle.qed_model.proofs.Walk.{run-more}
-use Rattle.qed_model.proofs.Steady.{steady_any}
-use Rattle.qed_model.proofs.OneTest.{any_reached}
+use Rattle.machine.proofs.Lemmas.{run-more}
 use Rattle.weave_core.specs.Tests.{IsWovenTest}
-use Rattle.qed_model.proofs.Fields.{zeros_start}
+use Rattle.tests.proofs.Lemmas.{zeros_start}
 use Rattle.weave_examples.proofs.ListedRuns.{is_simple_run, go, run_is}
 use Rattle.weave_examples.proofs.LoopKept.{loop_loads, loop_input, input_ended}
 use Rattle.weave_core.proofs.TestKept as kept
-use Rattle.weave_core.proofs.Tests.{tests_have_words}
-use Rattle.weave_core.proofs.Trace.{run-ended}
+use Rattle.weave_core.proofs.Lemmas.{tests_have_words, run-ended}
 use Rattle.weave_examples.proofs.ListedChanges.{closed_there}
 use Rattle.weave_examples.proofs.LoopCaught.{seven, turn}
-use Rattle.lockstep.proofs.Tests.{tests_clean}
+use Rattle.lockstep.proofs.Lemmas.{tests_clean}
 
 words : (words : List ℕ) × IsWovenTest loop swept loop_blocks words
 words = tests_have_words loop swept loop_blocks loop_sound (sound true) loop_swept_admitted (loop_are true) (omega arith)

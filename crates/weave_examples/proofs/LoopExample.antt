@@ -3,15 +3,15 @@
 use Rattle.std.proofs.Common.{inl, Bool, List, [], ◌∷◌, None, refl, arith, false}
 use Rattle.std.specs.Prelude.{pos, neg_ℤ}
 use Rattle.qed_model.specs.declared.plan.Plan.{Plan}
-use Rattle.qed_model.specs.Machine.Table.{Addi, Bne, Ecall, Ins, ins, ins_of, decode_of}
-use Rattle.qed_model.specs.Machine.Cells.{number_among}
-use Rattle.qed_model.specs.Admission.Refusals.{IsAdmitted}
+use Rattle.machine.specs.Table.{Addi, Bne, Ecall, Ins, ins, ins_of, decode_of}
+use Rattle.machine.specs.Cells.{number_among}
+use Rattle.tests.specs.Admission.Refusals.{IsAdmitted}
 use Rattle.qed_model.specs.Weave.Sequences.{Block, Falls, Stops}
 use Rattle.qed_model.specs.Weave.Blocks.{AreBlocks}
 use Rattle.qed_model.specs.Weave.Woven.{compared, IsToldOf}
 use Rattle.qed_model.proofs.ExampleCode as code
 use Rattle.qed_model.proofs.ExampleBlocks as made
-use Rattle.qed_model.proofs.ExampleCode.{IsCodeOf, options, defaults, swept}
+use Rattle.qed_model.proofs.Lemmas.{IsCodeOf, options, defaults, swept}
 use Rattle.weave_examples.proofs.KnownFiles.{loop}
 
 -- ---- its instructions

@@ -1,26 +1,22 @@
 -- A known file, a test with a loop: the promise holds of it, and its run and that of its output are worked out on the definitions.
 use Rattle.std.proofs.Common.{◌≡◌, inl, inr, ℕ, ◌+◌, ◌-◌, ◌≤◌, true, false, List, [], ◌∷◌, refl, sym, ap, ◌∙◌, arith}
-use Rattle.qed_model.specs.Elf.FileRead.{file_read}
-use Rattle.qed_model.specs.Machine.Loading.{load_segments, loaded_file}
+use Rattle.tests.specs.Elf.FileRead.{file_read}
+use Rattle.machine.specs.Loading.{load_segments, loaded_file}
 use Rattle.weave_core.specs.World.{Program, memory_of, start, zeros, Going, Ended, Ins, HasAt, fetched_at, execute, jumped, computed_value, value, holds}
 use Rattle.qed_model.specs.Promise.Kept.{Halves, Kept, after_input, after_output, is_trapped, NotTrapped, any_address}
 use Rattle.qed_model.specs.Promise.Landed.{Landed, Fires, placed_at}
 use Rattle.qed_model.specs.Weave.Placed.{placed}
 use Rattle.qed_model.specs.Weave.Woven.{woven_file, new_items}
-use Rattle.qed_model.proofs.ExampleCode.{defaults, sound}
-use Rattle.qed_model.proofs.Fetches.{IsShapely}
+use Rattle.qed_model.proofs.Lemmas.{defaults, sound, steady_any, any_reached}
+use Rattle.tests.proofs.Lemmas.{IsShapely, zeros_start}
 use Rattle.weave_examples.proofs.KnownFiles.{loop, loop_sound}
 use Rattle.weave_examples.proofs.LoopExample.{loop_plan, loop_told, loop_code, loop_known, loop_admitted, loop_blocks, loop_are}
-use Rattle.qed_model.specs.Elf.Sound.{AreLoads}
-use Rattle.qed_model.proofs.Walk.{run-more}
-use Rattle.qed_model.proofs.Steady.{steady_any}
-use Rattle.qed_model.proofs.OneTest.{any_reached}
+use Rattle.tests.specs.Elf.Sound.{AreLoads}
+use Rattle.machine.proofs.Lemmas.{run-more}
 use Rattle.weave_core.specs.Tests.{IsWovenTest}
-use Rattle.qed_model.proofs.Fields.{zeros_start}
 use Rattle.weave_examples.proofs.ListedRuns.{has_code, is_simple_run, go, run_is, state_of}
 use Rattle.weave_core.proofs.TestKept as kept
-use Rattle.weave_core.proofs.Tests.{tests_have_words, tests_kept, tests_landed}
-use Rattle.weave_core.proofs.Trace.{run-ended}
+use Rattle.weave_core.proofs.Lemmas.{tests_have_words, tests_kept, tests_landed, run-ended}
 
 -- ---- the promise
 pub loop_words : (words : List ℕ) × IsWovenTest loop defaults loop_blocks words

@@ -1,32 +1,25 @@
 -- The promises on changes hold of a known file, a test with a data word: all of their premises are met.
 use Rattle.std.proofs.Common.{◌≡◌, ℕ, zero, suc, ◌+◌, ◌-◌, ◌%◌, ◌≤◌, Bool, true, cond, ◌&&◌, [], ◌∷◌, Option, refl, sym, ap, ◌∙◌, arith, inl, List, Some}
 use Rattle.std.specs.Prelude.{◌==◌}
-use Rattle.qed_model.specs.declared.machine.Cause.TheVariants as cause
-use Rattle.qed_model.specs.Machine.Cells.{cell_among, number_among}
-use Rattle.qed_model.specs.Machine.Loading.{load_segments}
+use Rattle.machine.specs.declared.outcome.Cause.TheVariants as cause
+use Rattle.machine.specs.Cells.{cell_among, number_among}
+use Rattle.machine.specs.Loading.{load_segments}
 use Rattle.weave_core.specs.World.{Outcome, Going, Ended, Flags, Cell, Memory, wrap, allows, number, grants, put, memory_of, start, zeros, State, Refused, HasAt, known_or, in_range, fetched_at, trapped, execute, computed_value, step, run, value, loaded}
-use Rattle.qed_model.specs.Machine.Table.{decode_of}
+use Rattle.machine.specs.Table.{decode_of}
 use Rattle.qed_model.specs.Promise.Kept.{after_input, NotTrapped, is_trapped, after_output, any_address}
-use Rattle.qed_model.proofs.CellsAmong.{get_among, number-among}
-use Rattle.qed_model.proofs.ImageLaws.{all_sized_among}
-use Rattle.qed_model.proofs.MemoryLaws.{grants-put, number-put_apart, apart_before}
-use Rattle.qed_model.specs.Elf.Sound.{AreLoads}
-use Rattle.qed_model.proofs.SegmentCells.{AllSized}
-use Rattle.qed_model.proofs.Steps.{step-known}
-use Rattle.qed_model.proofs.Walk.{run-more}
+use Rattle.machine.proofs.Lemmas.{get_among, number-among, grants-put, number-put_apart, apart_before, AllSized, step-known, run-more}
+use Rattle.tests.proofs.Lemmas.{all_sized_among, zeros_start}
+use Rattle.tests.specs.Elf.Sound.{AreLoads}
 use Rattle.qed_model.specs.declared.change.Change.{Change}
-use Rattle.qed_model.specs.declared.change.Place.TheVariants.{Word}
+use Rattle.machine.specs.declared.place.Place.TheVariants.{Word}
 use Rattle.qed_model.specs.Promise.Changed.{changed_run}
 use Rattle.qed_model.specs.Promise.Caught.{Caught, Settles}
 use Rattle.qed_model.specs.Promise.Clean.{Clean}
-use Rattle.qed_model.proofs.ExampleCode.{defaults, swept}
-use Rattle.qed_model.proofs.Steady.{steady_any}
-use Rattle.qed_model.proofs.OneTest.{any_reached}
-use Rattle.weave_core.proofs.Trace.{run-ended}
-use Rattle.lockstep.proofs.Tests.{tests_caught, tests_clean}
+use Rattle.qed_model.proofs.Lemmas.{defaults, swept, steady_any, any_reached}
+use Rattle.weave_core.proofs.Lemmas.{run-ended}
+use Rattle.lockstep.proofs.Lemmas.{tests_caught, tests_clean}
 use Rattle.weave_examples.proofs.KnownFiles.{store, store_sound}
 use Rattle.weave_examples.proofs.StoreExample.{store_code, store_known, store_admitted, lui, ld, add, sd, ecall, store_plan, store_told, store_blocks}
-use Rattle.qed_model.proofs.Fields.{zeros_start}
 use Rattle.weave_examples.proofs.ListedRuns.{has_code}
 use Rattle.weave_examples.proofs.StoreKept.{store_input, store_words, swept_words, store_output, swept_output}
 

@@ -1,17 +1,16 @@
 -- The promises hold of a known file, a test with a data word: all of their premises are met.
 use Rattle.std.proofs.Common.{ℕ, true, false, List, refl, arith}
-use Rattle.qed_model.specs.Elf.FileRead.{file_read}
-use Rattle.qed_model.specs.Machine.Loading.{loaded_file}
-use Rattle.qed_model.specs.Machine.Program.{Program}
+use Rattle.tests.specs.Elf.FileRead.{file_read}
+use Rattle.machine.specs.Loading.{loaded_file}
+use Rattle.machine.specs.Program.{Program}
 use Rattle.qed_model.specs.Promise.Kept.{Kept, any_address}
 use Rattle.qed_model.specs.Promise.Landed.{Landed}
 use Rattle.qed_model.specs.Weave.Woven.{woven_file}
-use Rattle.qed_model.proofs.ExampleCode.{defaults, swept, sound}
-use Rattle.qed_model.proofs.OneTest.{any_reached}
+use Rattle.qed_model.proofs.Lemmas.{defaults, swept, sound, any_reached}
 use Rattle.weave_examples.proofs.KnownFiles.{store, store_sound}
 use Rattle.weave_examples.proofs.StoreExample.{store_plan, store_told, store_admitted, store_swept_admitted, store_blocks, store_are}
 use Rattle.weave_core.specs.Tests.{IsWovenTest}
-use Rattle.weave_core.proofs.Tests.{tests_have_words, tests_kept, tests_landed}
+use Rattle.weave_core.proofs.Lemmas.{tests_have_words, tests_kept, tests_landed}
 
 -- there are words of its new code, plainly and with the sweep
 pub store_words : (words : List ℕ) × IsWovenTest store defaults store_blocks words

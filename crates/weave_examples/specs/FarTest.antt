@@ -1,15 +1,15 @@
 -- A known test with a JALR and its table, and two data ranges, of which one is read only. It is woven in the far form, with the sweep
 -- and with mirror parts of other kinds. All promises hold of it, with the numbers that `reference/qed plan` gives.
 use Rattle.std.specs.Prelude.{◌≡◌, ℕ, ◌++◌, true, false, List, [], ◌∷◌, None, Some, pos}
-use Rattle.qed_model.specs.declared.options.Options.{Options}
-use Rattle.qed_model.specs.declared.options.Entries.TheVariants as entries
+use Rattle.tests.specs.declared.options.Options.{Options}
+use Rattle.tests.specs.declared.options.Entries.TheVariants as entries
 use Rattle.qed_model.specs.declared.plan.Plan.{Plan}
-use Rattle.elf_files.specs.File.{File}
-use Rattle.qed_model.specs.Elf.FileRead.{file_read}
-use Rattle.qed_model.specs.Elf.Written.{fields_bytes, program_fields}
-use Rattle.qed_model.specs.Machine.Loading.{Segment, ElfFile, loaded_file}
-use Rattle.qed_model.specs.Machine.Program.{Program}
-use Rattle.qed_model.specs.Machine.Table.{Lui, Jal, Ld, Sd, Mul, Sub, Ecall, Add, Jalr, Ins, ins}
+use Rattle.tests.specs.Files.File.{File}
+use Rattle.tests.specs.Elf.FileRead.{file_read}
+use Rattle.tests.specs.Elf.Written.{fields_bytes, program_fields}
+use Rattle.machine.specs.Loading.{Segment, ElfFile, loaded_file}
+use Rattle.machine.specs.Program.{Program}
+use Rattle.machine.specs.Table.{Lui, Jal, Ld, Sd, Mul, Sub, Ecall, Add, Jalr, Ins, ins}
 use Rattle.qed_model.specs.Promise.Caught.{Caught}
 use Rattle.qed_model.specs.Promise.Clean.{Clean}
 use Rattle.qed_model.specs.Promise.Kept.{any_address, Kept}

@@ -1,10 +1,8 @@
 -- The three laws of the comparison of x10.
 use Rattle.std.proofs.Common.{◌≡◌, [], ◌∷◌, ap, arith}
-use Rattle.qed_model.specs.Machine.Step.{reg}
+use Rattle.machine.specs.Step.{reg}
 use Rattle.qed_model.specs.Weave.Sequences.{guard}
-use Rattle.weave_core.proofs.Compose.{quiet_guards}
-use Rattle.weave_core.proofs.KindWords.{compare_lockstep}
-use Rattle.weave_core.proofs.Landing.{straight_lands, straight_guard}
+use Rattle.weave_core.proofs.Lemmas.{quiet_guards, compare_lockstep, straight_lands, straight_guard}
 use Rattle.passes.specs.Pass.{Does, same, Quiet, Honest, Lockstep}
 use Rattle.passes.proofs.Guards.{honest_guards}
 pub use Rattle.weave_core.specs.Parts.{any}

@@ -3,9 +3,9 @@ use Rattle.std.specs.Prelude.{ℕ, ◌+◌, ◌*◌, ◌≤◌, List, ◌++◌, 
 use Rattle.qed_model.specs.declared.bounds.Bounds.{Bounds}
 use Rattle.qed_model.specs.Promise.Caught.{Caught}
 use Rattle.qed_model.specs.Promise.Kept.{Kept}
-use Rattle.qed_model.specs.Admission.DataRanges.{word_count}
+use Rattle.tests.specs.Admission.DataRanges.{word_count}
 use Rattle.qed_model.specs.Weave.Bounds.{visit_bound}
-use Rattle.qed_model.specs.Weave.Sequences.{Form, Block, guard, compare, visit}
+use Rattle.qed_model.specs.Weave.Sequences.{Form, Block, guard, compare, visit, ORIGINALS}
 use Rattle.weave_core.specs.World.{Item, World, Program}
 use Rattle.weave_core.specs.Rows.{Mirrors}
 use Rattle.weave_core.specs.KindItems.{MirrorsFit}
@@ -19,7 +19,7 @@ checks_of form = guard 10 ++ (compare ++ visit form.round form.spans)
 
 -- one step more
 abbrev pub steps_of : Form → ℕ
-steps_of form = 1 + (13 + visit_bound (word_count form.spans) (length form.spans) * form.round)
+steps_of form = 1 + (ORIGINALS + visit_bound (word_count form.spans) (length form.spans) * form.round)
 
 abbrev pub with_one : Form → ℕ → Weave
 with_one form most = weave_with form most (checks_of form) 1 (steps_of form)

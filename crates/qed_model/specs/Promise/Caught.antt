@@ -2,9 +2,10 @@
 use Rattle.std.specs.Prelude.{◌≡◌, ℕ, ◌+◌, ◌≤◌, ◌⊎◌, Bool, cond, List, [], ◌∷◌, Option, Some}
 use Rattle.qed_model.specs.declared.change.Change.{Change}
 use Rattle.qed_model.specs.declared.bounds.Bounds.{Bounds}
-use Rattle.qed_model.specs.Machine.Step.{Going, Ended, Fired, State}
+use Rattle.machine.specs.declared.outcome.Outcome.TheVariants.{Going, Ended, Fired}
+use Rattle.machine.specs.Step.{State}
 use Rattle.qed_model.specs.Promise.Kept.{after_output, Steady}
-use Rattle.qed_model.specs.Machine.Program.{Program, start, AreStartRegs}
+use Rattle.machine.specs.Program.{Program, start, AreStartRegs}
 use Rattle.qed_model.specs.Promise.Closed.{IsOpen}
 use Rattle.qed_model.specs.Promise.Changed.{changed_run, Ordered, last_step, has_word, IsOriginal, SameOriginal}
 

@@ -1,11 +1,14 @@
 -- Runs with changes.
 use Rattle.std.specs.Prelude.{◌≡◌, ℕ, zero, suc, ◌+◌, ◌%◌, ◌≤◌, ◌⊎◌, Bool, true, false, cond, ◌||◌, ◌==◌, List, [], ◌∷◌, nat_le, if◌then◌else◌, fold}
-use Rattle.qed_model.specs.declared.change.Place.{Place}
-use Rattle.qed_model.specs.declared.change.Place.TheVariants.{Reg, Word}
+use Rattle.rv_isa.specs.declared.profile.TheConstants.{LAST_ORIGINAL}
+use Rattle.machine.specs.declared.place.Place.{Place}
+use Rattle.machine.specs.declared.place.Place.TheVariants.{Reg, Word}
 use Rattle.qed_model.specs.declared.change.Change.{Change}
-use Rattle.qed_model.specs.Machine.Step.{Going, Ended, Fired, Trapped, Outcome, State, reg, step}
-use Rattle.qed_model.specs.Machine.Memory.{number}
-use Rattle.qed_model.specs.Machine.Struck.{struck}
+use Rattle.machine.specs.declared.outcome.Outcome.TheVariants.{Going, Ended, Fired, Trapped}
+use Rattle.machine.specs.declared.outcome.Outcome.{Outcome}
+use Rattle.machine.specs.Step.{State, reg, step}
+use Rattle.machine.specs.Memory.{number}
+use Rattle.machine.specs.Struck.{struck}
 
 -- ---- the changed run
 -- a state with an outcome after a change: one that does not go on is not changed
@@ -69,10 +72,10 @@ IsDataWord (r ∷ rs) a = ((a % 8 ≡ 0) × (r.0 ≤ a) × (a + 8 ≤ r.1)) ⊎ 
 
 -- x1 to x13, and the data words
 abbrev pub IsOriginal : List (ℕ × ℕ) → Place → Type 0
-IsOriginal spans (Reg r) = (1 ≤ r) × (r ≤ 13)
+IsOriginal spans (Reg r) = (1 ≤ r) × (r ≤ LAST_ORIGINAL)
 IsOriginal spans (Word a) = IsDataWord spans a
 
 -- two states of the output have the same values in the original half
 pub record SameOriginal (spans : List (ℕ × ℕ)) (u v : State) : Type 0 where
-  pub regs : (r : ℕ) → 1 ≤ r → r ≤ 13 → reg u r ≡ reg v r
+  pub regs : (r : ℕ) → 1 ≤ r → r ≤ LAST_ORIGINAL → reg u r ≡ reg v r
   pub words : (a : ℕ) → IsDataWord spans a → number u.memory a 8 ≡ number v.memory a 8

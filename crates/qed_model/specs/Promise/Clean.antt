@@ -1,9 +1,9 @@
 -- What is promised of a test with the sweep: no change, made before the sweep, is silent at its end.
 use Rattle.std.specs.Prelude.{◌≡◌, ◌≢◌, ℕ, ◌+◌, ◌<◌, ◌≤◌, ◌⊎◌, Bool, List}
 use Rattle.qed_model.specs.declared.change.Change.{Change}
-use Rattle.qed_model.specs.declared.machine.Outcome.TheVariants.{Ended, Fired}
+use Rattle.machine.specs.declared.outcome.Outcome.TheVariants.{Ended, Fired}
 use Rattle.qed_model.specs.Promise.Kept.{after_output, Steady}
-use Rattle.qed_model.specs.Machine.Program.{Program, start, AreStartRegs}
+use Rattle.machine.specs.Program.{Program, start, AreStartRegs}
 use Rattle.qed_model.specs.Promise.Changed.{changed_run, Ordered, last_step}
 use Rattle.qed_model.specs.Promise.Caught.{AllOpen, Same}
 

@@ -1,13 +1,14 @@
 -- Where a register is closed: between its guard and the use that the guard checks (this project's profile). There a wrong value may
 -- reach memory or a branch before any check; everywhere else a register is open.
 use Rattle.std.specs.Prelude.{◌≡◌, ℕ, ◌+◌, ◌%◌, ◌^◌, Bool, true, false, not, cond, ◌&&◌, ◌||◌, nat_le, ◌==◌, ℤ, pos, negsuc}
+use Rattle.rv_isa.specs.declared.profile.TheConstants.{LAST_ORIGINAL, PAIR_DISTANCE, TEMPORARY}
 use Rattle.rv_isa.specs.declared.kind.Kind.{Kind}
 use Rattle.rv_isa.specs.declared.kind.Kind.TheVariants.{Addi, Beq, Bne}
 use Rattle.rv_isa.specs.declared.class.Class.TheVariants as class
 use Rattle.rv_isa.specs.Operation.{pair}
-use Rattle.qed_model.specs.declared.change.Place.{Place}
-use Rattle.qed_model.specs.declared.change.Place.TheVariants.{Reg, Word}
-use Rattle.qed_model.specs.Machine.Step.{class_of, Class, Ins, State, Fetched, Known, fetched_at}
+use Rattle.machine.specs.declared.place.Place.{Place}
+use Rattle.machine.specs.declared.place.Place.TheVariants.{Reg, Word}
+use Rattle.machine.specs.Step.{class_of, Class, Ins, State, Fetched, Known, fetched_at}
 
 -- the kind is ADDI
 abbrev pub is_addi : Kind → Bool
@@ -29,8 +30,8 @@ is_bne _ = false
 abbrev pub uses_as : Class → ℕ → Ins → Bool
 uses_as class.Load r i = i.rs1 == r
 uses_as class.Store r i = (i.rs1 == r) || (i.rs2 == r)
-uses_as class.Branch r i = nat_le i.rs1 13 && (nat_le i.rs2 13 && ((i.rs1 == r) || (i.rs2 == r)))
-uses_as class.Compute r i = is_addi i.kind && ((i.rd == 30) && (i.rs1 == r))
+uses_as class.Branch r i = nat_le i.rs1 LAST_ORIGINAL && (nat_le i.rs2 LAST_ORIGINAL && ((i.rs1 == r) || (i.rs2 == r)))
+uses_as class.Compute r i = is_addi i.kind && ((i.rd == TEMPORARY) && (i.rs1 == r))
 uses_as _ r i = false
 
 -- what was fetched is a use of the register
@@ -50,7 +51,7 @@ is_guard_kind i = (is_beq i.kind && is_eight i.imm) || is_bne i.kind
 -- what was fetched compares another of x1 to x13 with its pair: BEQ skips the next word where they are equal, BNE goes elsewhere where
 -- they differ
 unfoldable pub guards_other : ℕ → Fetched → Bool
-guards_other r (Known i) = is_guard_kind i && ((i.rs2 == i.rs1 + 16) && (not (i.rs1 == r) && (nat_le 1 i.rs1 && nat_le i.rs1 13)))
+guards_other r (Known i) = is_guard_kind i && ((i.rs2 == i.rs1 + PAIR_DISTANCE) && (not (i.rs1 == r) && (nat_le 1 i.rs1 && nat_le i.rs1 LAST_ORIGINAL)))
 guards_other r _ = false
 
 -- how many bytes behind its begin a guard ends that finds no difference
@@ -77,7 +78,7 @@ is_checked _ behind = false
 -- used behind the guard of another that stands there
 abbrev pub closed_at : (ℕ → Fetched) → ℕ → ℕ → Bool
 closed_at code a r =
-    (nat_le 1 r && nat_le r 13)
+    (nat_le 1 r && nat_le r LAST_ORIGINAL)
     && ((uses r (code a) && not (is_checked (code a) (code ((a + 4) % 2 ^ 64)))) || (guards_other r (code a) && uses r (code ((a + guard_bytes (code a)) % 2 ^ 64))))
 
 -- a register is closed in a state

@@ -1,9 +1,12 @@
 -- What is promised of the input's run and the output's run: the input's values are kept, and no check fires.
 use Rattle.std.specs.Prelude.{◌≡◌, ◌≢◌, ℕ, ◌+◌, ◌*◌, ◌<◌, ◌≤◌, ◌↔◌, Bool, true, false, List, is_some}
+use Rattle.rv_isa.specs.declared.profile.TheConstants.{LAST_ORIGINAL}
 use Rattle.rv_isa.specs.declared.class.Class.TheVariants as class
-use Rattle.qed_model.specs.Machine.Step.{Going, Ended, Fired, Trapped, Outcome, class_of, Ins, State, reg, Known, next, step, run}
-use Rattle.qed_model.specs.Machine.Memory.{get, byte_at}
-use Rattle.qed_model.specs.Machine.Program.{Program, memory_of, start, zeros, AreStartRegs}
+use Rattle.machine.specs.declared.outcome.Outcome.TheVariants.{Going, Ended, Fired, Trapped}
+use Rattle.machine.specs.declared.outcome.Outcome.{Outcome}
+use Rattle.machine.specs.Step.{class_of, Ins, State, reg, Known, next, step, run}
+use Rattle.machine.specs.Memory.{get, byte_at}
+use Rattle.machine.specs.Program.{Program, memory_of, start, zeros, AreStartRegs}
 
 -- the input starts with all registers 0
 abbrev pub after_input : Program → ℕ → State
@@ -47,7 +50,7 @@ is_mapped f q = is_some (get (memory_of f.segments) q)
 
 -- the output's state has the input's values in x1 to x13 and at each byte that the input maps
 pub record Halves (f : Program) (s u : State) : Type 0 where
-  pub regs : (r : ℕ) → 1 ≤ r → r ≤ 13 → reg u r ≡ reg s r
+  pub regs : (r : ℕ) → 1 ≤ r → r ≤ LAST_ORIGINAL → reg u r ≡ reg s r
   pub mapped : (q : ℕ) → is_mapped f q ≡ true → is_some (get u.memory q) ≡ true
   pub bytes : (q : ℕ) → is_mapped f q ≡ true → byte_at u.memory q ≡ byte_at s.memory q
 

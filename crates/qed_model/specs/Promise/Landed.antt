@@ -1,9 +1,10 @@
 -- What is promised of jumps that land wrong: an entry that is reached with the signature of another one fires.
 use Rattle.std.specs.Prelude.{◌≡◌, ◌≢◌, ℕ, ◌≤◌, ◌⊎◌, Bool, List, [], ◌∷◌}
 use Rattle.qed_model.specs.declared.plan.EntryRow.{EntryRow}
-use Rattle.qed_model.specs.Machine.Step.{Going, Fired, State, moved, run}
+use Rattle.machine.specs.declared.outcome.Outcome.TheVariants.{Going, Fired}
+use Rattle.machine.specs.Step.{State, moved, run}
 use Rattle.qed_model.specs.Promise.Kept.{after_output, Steady}
-use Rattle.qed_model.specs.Machine.Program.{Program, AreStartRegs}
+use Rattle.machine.specs.Program.{Program, AreStartRegs}
 
 -- the input address a has its entry at e
 abbrev pub IsEntry : List EntryRow → ℕ → ℕ → Type 0

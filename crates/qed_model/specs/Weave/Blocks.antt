@@ -2,12 +2,12 @@
 use Rattle.std.specs.Prelude.{◌≡◌, ◌⊎◌, ◌↔◌, ℕ, ◌+◌, ◌*◌, ◌<◌, ◌≤◌, ◌==◌, Bool, true, false, Some, List, [], ◌∷◌, length, All, AllPairs}
 use Rattle.std.specs.List.{list_any}
 pub use Rattle.elf_types.specs.declared.file.ElfFile.{ElfFile}
-pub use Rattle.qed_model.specs.declared.options.Options.{Options}
-use Rattle.qed_model.specs.declared.options.Entries.TheVariants as entries
+pub use Rattle.tests.specs.declared.options.Options.{Options}
+use Rattle.tests.specs.declared.options.Entries.TheVariants as entries
 use Rattle.qed_model.specs.Weave.Sequences.{class_of, Ins, Block, End, Falls, Stops}
-use Rattle.qed_model.specs.Admission.CodeWords.{is_code, instruction_at}
-use Rattle.qed_model.specs.Admission.Leaders.{IsLeader, HasIndirect, is_end}
-use Rattle.qed_model.specs.Admission.Reached.{IsReached}
+use Rattle.tests.specs.Admission.CodeWords.{is_code, instruction_at}
+use Rattle.tests.specs.Admission.Leaders.{IsLeader, HasIndirect, is_end}
+use Rattle.tests.specs.Admission.Reached.{IsReached}
 use Rattle.qed_model.specs.Weave.Pieces.{ArePieces}
 
 -- ---- the block of a leader

@@ -1,7 +1,8 @@
 -- The most steps of the two parts of an instruction in a piece (this project's profile).
 use Rattle.std.specs.Prelude.{ℕ, ◌+◌, ◌==◌, cond, List, [], ◌∷◌, length}
 use Rattle.rv_isa.specs.declared.class.Class.TheVariants as class
-use Rattle.qed_model.specs.Weave.Sequences.{class_of, Class, Ins, is_auipc}
+use Rattle.qed_model.specs.Weave.Sequences.{class_of, Class, Ins}
+use Rattle.machine.specs.Operands.{is_auipc}
 
 -- ---- of the original part
 -- registers that are used unseen by any comparison behind: the base of an access, and a stored register

@@ -2,8 +2,8 @@
 -- in the same way twice gives two different results.
 use Rattle.std.specs.Prelude.{◌≡◌, ℕ, ◌/◌, ◌%◌, ◌^◌, Bool, false, true, List, [], ◌∷◌, ◌++◌, ℤ, pos, negsuc}
 use Rattle.rv_isa.specs.declared.class.Class.TheVariants as class
-use Rattle.qed_model.specs.Machine.Table.{Ins, Lui, Auipc, Addi, Slti, Sltiu, Xori, Ori, Andi, Slli, Srli, Srai, Add, Sub, Sll, Slt, Sltu, Xor, Srl, Sra, Or, And, Addiw, Slliw, Srliw, Sraiw, Addw, Subw, Sllw, Srlw, Sraw, Mul, Mulh, Mulhsu, Mulhu, Div, Divu, Rem, Remu, Mulw, Divw, Divuw, Remw, Remuw, Kind, ins}
-use Rattle.qed_model.specs.Machine.Values.{wrapped, floor_shift}
+use Rattle.machine.specs.Table.{Ins, Lui, Auipc, Addi, Slti, Sltiu, Xori, Ori, Andi, Slli, Srli, Srai, Add, Sub, Sll, Slt, Sltu, Xor, Srl, Sra, Or, And, Addiw, Slliw, Srliw, Sraiw, Addw, Subw, Sllw, Srlw, Sraw, Mul, Mulh, Mulhsu, Mulhu, Div, Divu, Rem, Remu, Mulw, Divw, Divuw, Remw, Remuw, Kind, ins}
+use Rattle.machine.specs.Values.{wrapped, floor_shift}
 use Rattle.qed_model.specs.Weave.Sequences.{pair, Mark, Plain, Constant, Go, Item, class_of, mirrored}
 
 -- ---- words of a mirror part

@@ -1,10 +1,11 @@
 -- What the new code of a file depends on besides its blocks, and what its bounds depend on (this project's profile).
 use Rattle.std.specs.Prelude.{ℕ, Bool, cond, List, length}
 use Rattle.qed_model.specs.declared.bounds.Shape.{Shape}
-use Rattle.qed_model.specs.Admission.DataRanges.{data_ranges, word_count}
+use Rattle.tests.specs.Admission.DataRanges.{data_ranges, word_count}
 use Rattle.qed_model.specs.Weave.Sequences.{Item, Ins, Form, mirrored}
 use Rattle.qed_model.specs.Weave.Diverse.{diverse}
-use Rattle.qed_model.specs.Weave.Places.{Options, ElfFile, image_of}
+use Rattle.tests.specs.declared.options.Options.{Options}
+use Rattle.tests.specs.Admission.Places.{ElfFile, image_of}
 use Rattle.qed_model.specs.Weave.Bounds.{cost_of}
 
 -- the mirror part of an instruction: the same on the pairs, or where it is asked for of other kinds

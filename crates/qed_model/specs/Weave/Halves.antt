@@ -1,11 +1,12 @@
 -- The two halves of the output's state against the input's states (this project's profile): x1 to x13 and the bytes of the input
 -- in place are the original half, x17 to x29 and the bytes at the distance d are the duplicate half.
 use Rattle.std.specs.Prelude.{◌≡◌, ℕ, ◌+◌, ◌*◌, ◌^◌, ◌<◌, ◌≤◌, true, length, is_some}
-use Rattle.qed_model.specs.declared.limits.Limit.TheVariants as limit
-use Rattle.qed_model.specs.declared.limits.TheConstants.{CODE_ROOM}
-use Rattle.qed_model.specs.Limits.{limit_of}
-use Rattle.qed_model.specs.Machine.Step.{State, reg}
-use Rattle.qed_model.specs.Machine.Memory.{get, flags_at, Memory, allows, byte_at}
+use Rattle.rv_isa.specs.declared.profile.TheConstants.{LAST_ORIGINAL, PAIR_DISTANCE, DISTANCE}
+use Rattle.machine.specs.declared.limits.Limit.TheVariants as limit
+use Rattle.machine.specs.declared.limits.TheConstants.{CODE_ROOM}
+use Rattle.machine.specs.Limits.{limit_of}
+use Rattle.machine.specs.Step.{State, reg}
+use Rattle.machine.specs.Memory.{get, flags_at, Memory, allows, byte_at}
 
 -- where the halves stand, and what the two files say of permissions; f is the input's memory, g the output's
 pub record Layout (base d : ℕ) (f g : Memory) : Type 0 where
@@ -32,9 +33,9 @@ pub record HalvesHold (base d : ℕ) (f g : Memory) (u s s' : State) : Type 0 wh
   pub output : Flagged g u
   pub input : Flagged f s
   pub shadow : Flagged f s'
-  pub originals : (r : ℕ) → r ≤ 13 → reg u r ≡ reg s r
-  pub pairs : (r : ℕ) → 1 ≤ r → r ≤ 13 → reg u (r + 16) ≡ reg s' r
-  pub distance : reg u 14 ≡ d
+  pub originals : (r : ℕ) → r ≤ LAST_ORIGINAL → reg u r ≡ reg s r
+  pub pairs : (r : ℕ) → 1 ≤ r → r ≤ LAST_ORIGINAL → reg u (r + PAIR_DISTANCE) ≡ reg s' r
+  pub distance : reg u DISTANCE ≡ d
   pub bytes : (q : ℕ) → is_some (get f q) ≡ true → byte_at u.memory q ≡ byte_at s.memory q
   pub mirror_bytes : (q : ℕ) → is_some (get f q) ≡ true → byte_at u.memory (q + d) ≡ byte_at s'.memory q
   -- the table and the new code

@@ -4,16 +4,17 @@
 -- called from with the entry of that address, compares all registers, visits a round of data words, and goes back to the entry by the table.
 use Rattle.std.specs.Prelude.{ℕ, ◌+◌, ◌%◌, ◌^◌, Bool, true, false, cond, ◌==◌, nat_lt, max, List, [], ◌∷◌, ◌++◌, ℤ, pos, neg_ℤ}
 use Rattle.rv_isa.specs.declared.class.Class.TheVariants as class
-use Rattle.qed_model.specs.Machine.Values.{wrapped}
-use Rattle.qed_model.specs.Machine.Step.{Ins, Lui, Addi, Andi, Slli, Srli, Add, Sub, Beq, Bne, Blt, Bge, Bltu, Bgeu, Jal, Jalr, Lw, Ebreak, Kind, ins, class_of, Class, target}
-use Rattle.qed_model.specs.Weave.Placed.{distance_between, upper_part, lower_part, sum_of_sizes}
-use Rattle.qed_model.specs.Weave.Sequences.{Mark, Plain, Constant, Go, Item, pair, End, Falls, Stops, fired_check, guard, guards_of, compare, visit, links, zero_from}
+use Rattle.machine.specs.Values.{wrapped}
+use Rattle.machine.specs.Step.{Ins, Lui, Addi, Andi, Slli, Srli, Add, Sub, Beq, Bne, Blt, Bge, Bltu, Bgeu, Jal, Jalr, Lw, Ebreak, Kind, ins, class_of, Class, target}
+use Rattle.machine.specs.Offsets.{distance_between, upper_part, lower_part}
+use Rattle.qed_model.specs.Weave.Placed.{sum_of_sizes}
+use Rattle.qed_model.specs.Weave.Sequences.{Mark, Plain, Constant, Go, Item, pair, End, Falls, Stops, fired_check, guard, guards_of, compare, visit, links, zero_from, ORIGINALS, DISTANCE, CURSOR, SIGNATURE, TEMPORARY, SPARE}
 
 -- ---- the tick
 -- counts `most` steps, and calls the check at a distance where not so many are left; behind the call stands an EBREAK, to which nothing
 -- returns
 abbrev pub tick : ℕ → ℤ → List Item
-tick most d = Plain (ins Addi 15 15 0 (pos most)) ∷ Plain (ins Blt 0 15 0 (pos 12)) ∷ Plain (ins Jal 31 0 0 d) ∷ fired_check ∷ []
+tick most d = Plain (ins Addi CURSOR CURSOR 0 (pos most)) ∷ Plain (ins Blt 0 CURSOR 0 (pos 12)) ∷ Plain (ins Jal SPARE 0 0 d) ∷ fired_check ∷ []
 
 -- ---- the signature
 -- a distance that one immediate has, from -2048 to 2047
@@ -22,7 +23,7 @@ is_short d = nat_lt ((wrapped d + 2048) % 2 ^ 64) 4096
 
 -- adds a distance to the signature
 abbrev pub turn_by : ℤ → List Item
-turn_by d = cond (is_short d) (Plain (ins Addi 16 16 0 d) ∷ []) (Plain (ins Lui 30 0 0 (upper_part d)) ∷ Plain (ins Addi 30 30 0 (lower_part d)) ∷ Plain (ins Add 16 16 30 (pos 0)) ∷ [])
+turn_by d = cond (is_short d) (Plain (ins Addi SIGNATURE SIGNATURE 0 d) ∷ []) (Plain (ins Lui TEMPORARY 0 0 (upper_part d)) ∷ Plain (ins Addi TEMPORARY TEMPORARY 0 (lower_part d)) ∷ Plain (ins Add SIGNATURE SIGNATURE TEMPORARY (pos 0)) ∷ [])
 
 -- turns the signature from one input address to another
 abbrev pub turn : ℕ → ℕ → List Item
@@ -30,7 +31,7 @@ turn a t = cond (a == t) [] (turn_by (distance_between a t))
 
 -- fires where the signature is not that of an input address
 abbrev pub check_sign : ℕ → List Item
-check_sign a = Constant 30 a ∷ Plain (ins Sub 31 16 30 (pos 0)) ∷ Plain (ins Slli 31 31 0 (pos 32)) ∷ Plain (ins Beq 0 31 0 (pos 8)) ∷ fired_check ∷ []
+check_sign a = Constant TEMPORARY a ∷ Plain (ins Sub SPARE SIGNATURE TEMPORARY (pos 0)) ∷ Plain (ins Slli SPARE SPARE 0 (pos 32)) ∷ Plain (ins Beq 0 SPARE 0 (pos 8)) ∷ fired_check ∷ []
 
 -- ---- the entry
 -- of the block that begins at a: its tick, where it has one, and with the option `land` a test of the signature before it
@@ -44,7 +45,7 @@ call_at land = cond land 32 8
 -- ---- the table
 -- looks the entry of the input address in x30 up in the table and jumps to it
 abbrev pub look_up : List Item
-look_up = Plain (ins Add 31 30 14 (pos 0)) ∷ Plain (ins Add 31 31 14 (pos 0)) ∷ Plain (ins Lw 30 31 0 (pos 0)) ∷ Plain (ins Add 30 30 31 (pos 0)) ∷ Plain (ins Jalr 0 30 0 (pos 0)) ∷ []
+look_up = Plain (ins Add SPARE TEMPORARY DISTANCE (pos 0)) ∷ Plain (ins Add SPARE SPARE DISTANCE (pos 0)) ∷ Plain (ins Lw TEMPORARY SPARE 0 (pos 0)) ∷ Plain (ins Add TEMPORARY TEMPORARY SPARE (pos 0)) ∷ Plain (ins Jalr 0 TEMPORARY 0 (pos 0)) ∷ []
 
 -- ---- the check
 -- the address of the first data word, or where there is none the begin of the input
@@ -55,24 +56,24 @@ first_word base (r ∷ rs) = r.0
 -- x15 gets the input address from the signature, for an input that begins at `base`, and x16 the offset
 abbrev pub parted : ℕ → List Item
 parted base =
-    Constant 30 base ∷ Plain (ins Sub 15 16 30 (pos 0)) ∷ Plain (ins Slli 15 15 0 (pos 32)) ∷ Plain (ins Srli 15 15 0 (pos 32)) ∷ Plain (ins Add 15 15 30 (pos 0)) ∷
-    Plain (ins Sub 16 16 15 (pos 0)) ∷ Plain (ins Srli 16 16 0 (pos 32)) ∷ []
+    Constant TEMPORARY base ∷ Plain (ins Sub CURSOR SIGNATURE TEMPORARY (pos 0)) ∷ Plain (ins Slli CURSOR CURSOR 0 (pos 32)) ∷ Plain (ins Srli CURSOR CURSOR 0 (pos 32)) ∷ Plain (ins Add CURSOR CURSOR TEMPORARY (pos 0)) ∷
+    Plain (ins Sub SIGNATURE SIGNATURE CURSOR (pos 0)) ∷ Plain (ins Srli SIGNATURE SIGNATURE 0 (pos 32)) ∷ []
 
 -- fires where the call did not stand so many bytes behind the entry of the input address in x15, by the link in x31
 abbrev pub called : ℕ → List Item
 called call =
-    Plain (ins Add 30 15 14 (pos 0)) ∷ Plain (ins Add 30 30 14 (pos 0)) ∷ Plain (ins Sub 31 31 30 (pos 0)) ∷ Plain (ins Lw 30 30 0 (pos 0)) ∷ Plain (ins Addi 30 30 0 (pos (call + 4))) ∷
-    Plain (ins Beq 0 30 31 (pos 8)) ∷ fired_check ∷ []
+    Plain (ins Add TEMPORARY CURSOR DISTANCE (pos 0)) ∷ Plain (ins Add TEMPORARY TEMPORARY DISTANCE (pos 0)) ∷ Plain (ins Sub SPARE SPARE TEMPORARY (pos 0)) ∷ Plain (ins Lw TEMPORARY TEMPORARY 0 (pos 0)) ∷ Plain (ins Addi TEMPORARY TEMPORARY 0 (pos (call + 4))) ∷
+    Plain (ins Beq 0 TEMPORARY SPARE (pos 8)) ∷ fired_check ∷ []
 
 -- x15 gets the address of the next data word, x16 the input address
 abbrev pub begun : ℕ → List Item
-begun first = Plain (ins Addi 30 15 0 (pos 0)) ∷ Constant 15 first ∷ Plain (ins Add 15 15 16 (pos 0)) ∷ Plain (ins Addi 16 30 0 (pos 0)) ∷ []
+begun first = Plain (ins Addi TEMPORARY CURSOR 0 (pos 0)) ∷ Constant CURSOR first ∷ Plain (ins Add CURSOR CURSOR SIGNATURE (pos 0)) ∷ Plain (ins Addi SIGNATURE TEMPORARY 0 (pos 0)) ∷ []
 
 -- x16 gets the signature again, x30 the input address, and the counter is set
 abbrev pub done : ℕ → ℕ → List Item
 done first every =
-    Constant 30 first ∷ Plain (ins Sub 15 15 30 (pos 0)) ∷ Plain (ins Slli 15 15 0 (pos 32)) ∷ Plain (ins Addi 30 16 0 (pos 0)) ∷ Plain (ins Add 16 16 15 (pos 0)) ∷
-    Plain (ins Addi 15 0 0 (neg_ℤ (pos every))) ∷ []
+    Constant TEMPORARY first ∷ Plain (ins Sub CURSOR CURSOR TEMPORARY (pos 0)) ∷ Plain (ins Slli CURSOR CURSOR 0 (pos 32)) ∷ Plain (ins Addi TEMPORARY SIGNATURE 0 (pos 0)) ∷ Plain (ins Add SIGNATURE SIGNATURE CURSOR (pos 0)) ∷
+    Plain (ins Addi CURSOR 0 0 (neg_ℤ (pos every))) ∷ []
 
 -- all of it, where ticks call it so many bytes behind the entries
 abbrev pub check : ℕ → ℕ → ℕ → ℕ → List (ℕ × ℕ) → List Item
@@ -102,8 +103,8 @@ leave_as before fall class.Jump i a at = links i at ++ goes a (target i at)
 leave_as before fall class.Branch i a at =
     guards_of i ++ (Plain (ins (opposite i.kind) 0 i.rs1 i.rs2 (pos (4 + sum_of_sizes false (goes a (target i at))))) ∷ (goes a (target i at) ++ (turn a ((at + 4) % 2 ^ 64) ++ fall ((at + 4) % 2 ^ 64))))
 leave_as before fall class.JumpReg i a at =
-    Plain (ins Add 16 16 (pair i.rs1) (pos 0)) ∷ Plain (ins Addi 16 16 0 i.imm) ∷ Plain (ins Andi 16 16 0 (neg_ℤ (pos 2))) ∷ Constant 30 a ∷ Plain (ins Sub 16 16 30 (pos 0)) ∷
-    (guard i.rs1 ++ (Plain (ins Addi 30 i.rs1 0 i.imm) ∷ Plain (ins Andi 30 30 0 (neg_ℤ (pos 2))) ∷ (links i at ++ look_up)))
+    Plain (ins Add SIGNATURE SIGNATURE (pair i.rs1) (pos 0)) ∷ Plain (ins Addi SIGNATURE SIGNATURE 0 i.imm) ∷ Plain (ins Andi SIGNATURE SIGNATURE 0 (neg_ℤ (pos 2))) ∷ Constant TEMPORARY a ∷ Plain (ins Sub SIGNATURE SIGNATURE TEMPORARY (pos 0)) ∷
+    (guard i.rs1 ++ (Plain (ins Addi TEMPORARY i.rs1 0 i.imm) ∷ Plain (ins Andi TEMPORARY TEMPORARY 0 (neg_ℤ (pos 2))) ∷ (links i at ++ look_up)))
 leave_as before fall _ i a at = Plain i ∷ []
 
 -- of a block that begins at a and has its end at `at`
@@ -115,7 +116,7 @@ leave before fall (Stops i) a at = leave_as before fall (class_of i.kind) i a at
 -- all originals and pairs are 0, x14 is the distance of the halves, and the test begins at its entry, with the first data word and one step left, so
 -- that its first tick calls the check
 abbrev pub begin : ℕ → ℕ → List Item
-begin d a = zero_from 1 13 ++ (zero_from 17 13 ++ (Plain (ins Lui 14 0 0 (pos d)) ∷ Constant 16 a ∷ Plain (ins Addi 15 0 0 (neg_ℤ (pos 1))) ∷ Go a ∷ []))
+begin d a = zero_from 1 ORIGINALS ++ (zero_from 17 ORIGINALS ++ (Plain (ins Lui DISTANCE 0 0 (pos d)) ∷ Constant SIGNATURE a ∷ Plain (ins Addi CURSOR 0 0 (neg_ℤ (pos 1))) ∷ Go a ∷ []))
 
 -- ---- the steps
 -- of straight words, where no check fires

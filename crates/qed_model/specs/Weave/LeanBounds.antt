@@ -3,7 +3,7 @@ use Rattle.std.specs.Prelude.{ℕ, zero, suc, ◌+◌, ◌*◌, Bool, Option, So
 use Rattle.elf_types.specs.declared.file.ElfFile.{ElfFile}
 use Rattle.qed_model.specs.declared.bounds.Bounds.{Bounds}
 use Rattle.qed_model.specs.declared.bounds.Shape.{Shape}
-use Rattle.qed_model.specs.declared.options.Options.{Options}
+use Rattle.tests.specs.declared.options.Options.{Options}
 use Rattle.qed_model.specs.Weave.Bounds.{visit_bound, end_bound, cost_of, entry_steps}
 use Rattle.qed_model.specs.Weave.Forms.{shape_of}
 use Rattle.qed_model.specs.Weave.Pieces.{piece_count}

@@ -1,19 +1,18 @@
 -- The new code of a test in the lean form: its sequences, the steps that its ticks count, and its items (this project's profile).
 use Rattle.std.specs.Prelude.{ℕ, ◌+◌, ◌-◌, ◌*◌, ◌%◌, ◌^◌, Bool, true, false, cond, ◌==◌, ◌&&◌, ◌||◌, nat_lt, min, max, List, [], ◌∷◌, ◌++◌}
 use Rattle.std.specs.List.{list_any}
-use Rattle.rv_isa.specs.declared.class.Class.{Class}
+use Rattle.qed_model.specs.declared.steps.TheConstants.{LEAN_LEAVE_STEPS, MOST_OWED}
 use Rattle.rv_isa.specs.declared.class.Class.TheVariants as class
-use Rattle.rv_isa.specs.Kind.{class_of}
-use Rattle.qed_model.specs.Machine.Step.{target}
+use Rattle.machine.specs.Step.{target, Class, class_of}
 use Rattle.qed_model.specs.Weave.Blocks.{Options, ElfFile, begins_at}
 use Rattle.qed_model.specs.Weave.Bounds.{cost_of, entry_steps}
 use Rattle.qed_model.specs.Weave.Code.{Sequences, code_of}
 use Rattle.qed_model.specs.Weave.Costs.{cost_each, original_cost, spent, mirror_steps}
 use Rattle.qed_model.specs.Weave.Forms.{mirror_of, form_of}
 use Rattle.qed_model.specs.Weave.Lean.{enter, call_at, check, leave, begin, leave_cost}
-use Rattle.qed_model.specs.Weave.OutputParts.{base_of}
-use Rattle.qed_model.specs.Weave.Placed.{distance_between, sum_of_sizes, entry_of}
-use Rattle.qed_model.specs.Weave.Places.{image_of, half_of, code_place}
+use Rattle.tests.specs.Admission.Places.{base_of, image_of, half_of, code_place}
+use Rattle.machine.specs.Offsets.{distance_between}
+use Rattle.qed_model.specs.Weave.Placed.{sum_of_sizes, entry_of}
 use Rattle.qed_model.specs.Weave.Sequences.{Mark, Go, Item, Ins, Form, Block, End, Falls, Stops, body_length, original, each_part, before_end}
 
 -- what it depends on besides its blocks and the form: what x15 counts from, the most instructions of a piece, whether its mirror parts are of other
@@ -146,7 +145,7 @@ counting_of o entry every blocks = record {
   land = o.land;
   leader = begins_at blocks;
   entry = entry;
-  room = min (every - (entry_steps o.land + 20 + cost_of o.diverse * o.inst_max)) 48;
+  room = min (every - (entry_steps o.land + (LEAN_LEAVE_STEPS + 1) + cost_of o.diverse * o.inst_max)) MOST_OWED;
 }
 
 -- two ends fall, or neither does

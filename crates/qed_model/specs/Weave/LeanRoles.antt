@@ -9,9 +9,9 @@ use Rattle.qed_model.specs.Weave.Blocks.{Options, ElfFile, begins_at}
 use Rattle.qed_model.specs.Weave.Forms.{mirror_of, form_of}
 use Rattle.qed_model.specs.Weave.Lean.{tick, call_at, first_word, parted, called, begun, done, look_up, check_sign, leave_as, leave, begin}
 use Rattle.qed_model.specs.Weave.LeanCode.{Lean, fall_words, lean_of, lean_items, items_with}
-use Rattle.qed_model.specs.Weave.OutputParts.{base_of}
-use Rattle.qed_model.specs.Weave.Placed.{distance_between, entry_of}
-use Rattle.qed_model.specs.Weave.Places.{image_of, half_of, code_place}
+use Rattle.tests.specs.Admission.Places.{base_of, image_of, half_of, code_place}
+use Rattle.machine.specs.Offsets.{distance_between}
+use Rattle.qed_model.specs.Weave.Placed.{entry_of}
 use Rattle.qed_model.specs.Weave.Roles.{joined, guard_parts, compare_parts, originals, original_parts, mirror_parts, each_parts, end_parts, way_parts, row_of, compared_roles}
 use Rattle.qed_model.specs.Weave.Sequences.{Mark, Plain, Item, class_of, Class, Ins, Form, Block, End, Falls, Stops, guard, visit, before_end, body_length, stub}
 

@@ -1,23 +1,23 @@
 -- What the output file of any test holds: segments, sections and symbols, made of those of the input. Names and numbers are those of
 -- the ELF gABI.
-use Rattle.std.specs.Prelude.{ℕ, ◌+◌, ◌-◌, ◌*◌, ◌/◌, max, Bool, false, nat_lt, nat_le, not, if◌then◌else◌, Option, Some, None, List, [], ◌∷◌, ◌++◌, length, map, filter, flat_map, codes}
+use Rattle.std.specs.Prelude.{ℕ, ◌+◌, ◌-◌, ◌*◌, ◌/◌, max, Bool, false, nat_lt, not, if◌then◌else◌, Option, Some, None, List, [], ◌∷◌, ◌++◌, length, map, filter, flat_map, codes}
 use Rattle.std.specs.List.{list_any}
 use Rattle.elf_types.specs.declared.output.OutFile.{OutFile}
 use Rattle.elf_types.specs.declared.output.OutSection.{OutSection}
 use Rattle.elf_types.specs.declared.abi.TheConstants.{PT_LOAD, PF_R, PF_W, SHF_ALLOC}
 use Rattle.qed_model.specs.declared.plan.EntryRow.{EntryRow}
 use Rattle.qed_model.specs.declared.plan.PieceRow.{PieceRow}
-use Rattle.qed_model.specs.Numbers.{number_bytes}
-use Rattle.qed_model.specs.Below.{each, gather}
-use Rattle.qed_model.specs.Machine.Loading.{load_segments}
-use Rattle.qed_model.specs.Machine.Cells.{byte_among}
-use Rattle.qed_model.specs.Admission.DataRanges.{is_written, is_data, data_segments, data_ranges, is_in}
-use Rattle.qed_model.specs.Weave.Places.{Segment, ElfFile, image_of, half_of, code_place}
+use Rattle.machine.specs.Numbers.{number_bytes}
+use Rattle.machine.specs.Below.{each, gather}
+use Rattle.machine.specs.Loading.{load_segments}
+use Rattle.machine.specs.Cells.{byte_among}
+use Rattle.tests.specs.Admission.DataRanges.{is_written, is_data, data_segments, data_ranges, is_in}
+use Rattle.tests.specs.Admission.Places.{Segment, ElfFile, image_of, half_of, code_place, in_order}
 pub use Rattle.qed_model.specs.Weave.OutputParts.{shifted}
 use Rattle.qed_model.specs.Weave.OutputParts.{copies, code_segment, text_section, map_section, out_symbols}
 use Rattle.qed_model.specs.Weave.Placed.{entry_at}
 use Rattle.qed_model.specs.Weave.Sequences.{class_of, Ins, Block, End, Falls, Stops}
-use Rattle.qed_model.specs.Admission.Leaders.{is_indirect}
+use Rattle.tests.specs.Admission.Leaders.{is_indirect}
 
 -- ---- data ranges
 -- the data segments in a range
@@ -45,16 +45,6 @@ range_segment image r = record { kind = PT_LOAD; flags = range_flags (data_in im
 -- the segments that are no data segments
 abbrev pub other_segments : List Segment → List Segment
 other_segments image = filter (λ s. not (is_data image s)) image
-
--- a segment among others that ascend by their addresses
-abbrev pub insert_segment : Segment → List Segment → List Segment
-insert_segment s [] = s ∷ []
-insert_segment s (t ∷ ts) = if nat_le s.address t.address then s ∷ t ∷ ts else t ∷ insert_segment s ts
-
--- segments in ascending order of their addresses
-abbrev pub in_order : List Segment → List Segment
-in_order [] = []
-in_order (s ∷ ss) = insert_segment s (in_order ss)
 
 -- the original half: the others without PF_X, and the data ranges
 abbrev pub original_half : List Segment → List Segment

@@ -1,5 +1,5 @@
 -- What the output file holds: segments, sections and symbols, made of those of the input. Names and numbers are those of the ELF gABI.
-use Rattle.std.specs.Prelude.{ℕ, ◌+◌, ◌-◌, ◌*◌, ◌/◌, min, max, Bool, true, false, nat_lt, nat_le, ◌&&◌, not, if◌then◌else◌, Option, Some, None, List, [], ◌∷◌, ◌++◌, length, map, codes}
+use Rattle.std.specs.Prelude.{ℕ, ◌+◌, ◌*◌, ◌/◌, Bool, true, false, nat_lt, nat_le, ◌&&◌, not, if◌then◌else◌, Option, Some, None, List, [], ◌++◌, length, map, codes}
 use Rattle.std.specs.List.{filter, flat_map}
 use Rattle.elf_types.specs.declared.file.Segment.{Segment}
 use Rattle.elf_types.specs.declared.file.Symbol.{Symbol}
@@ -7,28 +7,8 @@ use Rattle.elf_types.specs.declared.output.OutSection.{OutSection}
 use Rattle.elf_types.specs.declared.abi.TheConstants.{PT_LOAD, PF_R, PF_X, SHF_ALLOC, SHF_EXECINSTR, STT_FUNC, SHN_ABS}
 pub use Rattle.elf_types.specs.Symbol.{is_defined, may_name_code, is_local}
 use Rattle.qed_model.specs.declared.plan.EntryRow.{EntryRow}
-use Rattle.qed_model.specs.Numbers.{number_bytes}
+use Rattle.machine.specs.Numbers.{number_bytes}
 use Rattle.qed_model.specs.Weave.Placed.{entry_at}
-
--- ---- places
--- the least address of segments
-abbrev pub low_of : List Segment → ℕ
-low_of [] = 0
-low_of (s ∷ []) = s.address
-low_of (s ∷ t ∷ segments) = min s.address (low_of (t ∷ segments))
-
--- the greatest end of segments
-abbrev pub high_of : List Segment → ℕ
-high_of [] = 0
-high_of (s ∷ segments) = max (s.address + s.memory) (high_of segments)
-
--- where an image begins, rounded down to a multiple of 4096
-abbrev pub base_of : List Segment → ℕ
-base_of image = low_of image / 4096 * 4096
-
--- the distance of the halves: the least multiple of 4096 that leads from there to the end of the image, or behind it
-abbrev pub distance_of : List Segment → ℕ
-distance_of image = (high_of image - base_of image + 4095) / 4096 * 4096
 
 -- ---- segments
 -- a segment at a distance from its place

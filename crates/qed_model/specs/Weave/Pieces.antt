@@ -5,7 +5,7 @@ use Rattle.rv_isa.specs.declared.class.Class.{Class}
 use Rattle.rv_isa.specs.Kind.{class_of}
 use Rattle.rv_isa.specs.Ins.{writes}
 use Rattle.rv_isa.specs.declared.class.Class.TheVariants as class
-use Rattle.qed_model.specs.Numbers.{is_at}
+use Rattle.machine.specs.Numbers.{is_at}
 
 -- ---- runs
 -- the base of a load or store and a stored register are not among the registers that were written

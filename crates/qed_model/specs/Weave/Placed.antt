@@ -1,10 +1,12 @@
 -- Items that have their places: each is one or two instructions, which know where they stand. In the far form of the code a jump to
 -- an entry is two.
-use Rattle.std.specs.Prelude.{◌≡◌, ℕ, ◌+◌, ◌-◌, ◌/◌, ◌%◌, ◌^◌, Bool, true, false, ◌==◌, ◌<◌, if◌then◌else◌, AllPairs, List, [], ◌∷◌, ◌++◌, map, Option, Some, None, unwrap_or, ℤ, pos, negsuc, ◌+ℤ◌, ◌-ℤ◌, ◌*ℤ◌}
+use Rattle.std.specs.Prelude.{◌≡◌, ℕ, ◌+◌, ◌-◌, Bool, true, false, ◌==◌, ◌<◌, if◌then◌else◌, AllPairs, List, [], ◌∷◌, ◌++◌, map, Option, Some, None, unwrap_or}
+use Rattle.rv_isa.specs.declared.profile.TheConstants.{TEMPORARY}
 pub use Rattle.qed_model.specs.declared.item.Item.{Item}
 pub use Rattle.qed_model.specs.declared.item.Item.TheVariants.{Mark, Plain, Constant, Go}
 use Rattle.qed_model.specs.declared.plan.EntryRow.{EntryRow}
-use Rattle.qed_model.specs.Machine.Table.{Ins, Addi, Auipc, Jal, Jalr, ins, signed, decode_of}
+use Rattle.machine.specs.Table.{Ins, Addi, Auipc, Jal, Jalr, ins, decode_of}
+use Rattle.machine.specs.Offsets.{distance_between, upper_part, lower_part}
 
 -- ---- sizes and places
 -- the bytes of a jump to an entry: one word in the near form, two in the far form
@@ -50,26 +52,10 @@ abbrev pub entry_of : Bool → ℕ → List Item → ℕ → ℕ
 entry_of far base items = leads_to (rows_from far base items) (base + sum_of_sizes far items - 4)
 
 -- ---- words
--- the distance from one address to another, modulo 2^64 and read as signed
-abbrev pub distance_between : ℕ → ℕ → ℤ
-distance_between from to = signed 64 ((to + (2 ^ 64 - from)) % 2 ^ 64)
-
--- z divided by 4096, rounded down
-abbrev pub pages_below : ℤ → ℤ
-pages_below (pos x) = pos (x / 4096)
-pages_below (negsuc x) = negsuc (x / 4096)
-
--- the part of a distance that AUIPC adds, a multiple of 4096, and the part that ADDI adds, from -2048 to 2047
-abbrev pub upper_part : ℤ → ℤ
-upper_part d = pages_below (d +ℤ pos 2048) *ℤ pos 4096
-
-abbrev pub lower_part : ℤ → ℤ
-lower_part d = d -ℤ upper_part d
-
 -- the words of a jump from one address to another; those of the far form change x30
 abbrev pub go_words : Bool → ℕ → ℕ → List Ins
 go_words false at to = ins Jal 0 0 0 (distance_between at to) ∷ []
-go_words true at to = ins Auipc 30 0 0 (upper_part (distance_between at to)) ∷ ins Jalr 0 30 0 (lower_part (distance_between at to)) ∷ []
+go_words true at to = ins Auipc TEMPORARY 0 0 (upper_part (distance_between at to)) ∷ ins Jalr 0 TEMPORARY 0 (lower_part (distance_between at to)) ∷ []
 
 -- the instructions of the items, from an address on, where an input address has its entry
 abbrev pub instructions_from : Bool → (ℕ → ℕ) → ℕ → List Item → List Ins

@@ -5,10 +5,12 @@ use Rattle.rv_isa.specs.declared.class.Class.TheVariants as class
 use Rattle.qed_model.specs.declared.role.Role.{Role}
 use Rattle.qed_model.specs.declared.role.Role.TheVariants as role
 use Rattle.qed_model.specs.declared.role.RoleRow.{RoleRow}
-use Rattle.qed_model.specs.Weave.Places.{Options, ElfFile, image_of, half_of}
+use Rattle.tests.specs.declared.options.Options.{Options}
+use Rattle.tests.specs.Admission.Places.{ElfFile, image_of, half_of}
 use Rattle.qed_model.specs.Weave.Placed.{sum_of_sizes}
 pub use Rattle.qed_model.specs.Weave.Sequences.{originals}
-use Rattle.qed_model.specs.Weave.Sequences.{Plain, Item, class_of, Class, Ins, Form, Block, End, Falls, Stops, guard, enter, visit, sweep, is_auipc, original, leave_as, leave, body_length, prologue, stub}
+use Rattle.qed_model.specs.Weave.Sequences.{Plain, Item, class_of, Class, Ins, Form, Block, End, Falls, Stops, guard, enter, visit, sweep, original, leave_as, leave, body_length, prologue, stub}
+use Rattle.machine.specs.Operands.{is_auipc}
 use Rattle.qed_model.specs.Weave.Woven.{is_far_code, new_items}
 use Rattle.qed_model.specs.Weave.Forms.{form_of}
 

@@ -1,7 +1,8 @@
 -- The code sequences of the new code (this project's profile), as lists of items, and what it means that words stand for them.
 -- x17 to x29 hold the duplicates of x1 to x13, x14 the distance of the halves, x15 the address of the next visited data word, x16
 -- the signature, and x30 and x31 are temporaries.
-use Rattle.std.specs.Prelude.{◌≡◌, ℕ, zero, suc, ◌+◌, ◌%◌, ◌^◌, Bool, true, false, cond, ◌==◌, List, [], ◌∷◌, ◌++◌, length, pos, neg_ℤ}
+use Rattle.std.specs.Prelude.{◌≡◌, ℕ, zero, suc, ◌+◌, ◌%◌, ◌^◌, Bool, cond, ◌==◌, List, [], ◌∷◌, ◌++◌, length, pos, neg_ℤ}
+pub use Rattle.rv_isa.specs.declared.profile.TheConstants.{ORIGINALS, LAST_ORIGINAL, PAIR_DISTANCE, DISTANCE, CURSOR, SIGNATURE, TEMPORARY, SPARE}
 pub use Rattle.rv_isa.specs.declared.ins.Ins.{Ins}
 pub use Rattle.rv_isa.specs.declared.class.Class.{Class}
 pub use Rattle.rv_isa.specs.Kind.{class_of}
@@ -9,8 +10,10 @@ pub use Rattle.rv_isa.specs.Operation.{pair, renamed}
 use Rattle.rv_isa.specs.declared.class.Class.TheVariants as class
 pub use Rattle.qed_model.specs.declared.item.Item.{Item}
 pub use Rattle.qed_model.specs.declared.item.Item.TheVariants.{Mark, Plain, Constant, Go}
-use Rattle.qed_model.specs.Machine.Step.{Illegal, Lui, Auipc, Addi, Andi, Add, Beq, Bne, Ebreak, Jal, Jalr, Ld, Lw, Kind, ins, Fetched, Known, HasAt, target}
-use Rattle.qed_model.specs.Weave.Placed.{distance_between, upper_part, lower_part, go_words, go_size}
+use Rattle.machine.specs.Step.{Illegal, Lui, Auipc, Addi, Andi, Add, Beq, Bne, Ebreak, Jal, Jalr, Ld, Lw, ins, Fetched, Known, HasAt, target}
+use Rattle.machine.specs.Offsets.{distance_between, upper_part, lower_part}
+use Rattle.machine.specs.Operands.{is_auipc}
+use Rattle.qed_model.specs.Weave.Placed.{go_words, go_size}
 
 -- the words from an address on stand for the items, in the near or in the far form, where `entry` gives the entry of an input
 -- address
@@ -43,7 +46,7 @@ fired_check = Plain (ins Ebreak 0 0 0 (pos 0))
 
 -- fires where a register and its pair differ; nothing for x0
 abbrev pub guard : ℕ → List Item
-guard r = cond (r == 0) [] (Plain (ins Beq 0 r (r + 16) (pos 8)) ∷ fired_check ∷ [])
+guard r = cond (r == 0) [] (Plain (ins Beq 0 r (r + PAIR_DISTANCE) (pos 8)) ∷ fired_check ∷ [])
 
 -- the guards of some registers
 abbrev pub guards : List ℕ → List Item
@@ -52,7 +55,7 @@ guards (q ∷ qs) = guard q ++ guards qs
 
 -- x1 to x13
 abbrev pub originals : List ℕ
-originals = 1 ∷ 2 ∷ 3 ∷ 4 ∷ 5 ∷ 6 ∷ 7 ∷ 8 ∷ 9 ∷ 10 ∷ 11 ∷ 12 ∷ 13 ∷ []
+originals = 1 ∷ 2 ∷ 3 ∷ 4 ∷ 5 ∷ 6 ∷ 7 ∷ 8 ∷ 9 ∷ 10 ∷ 11 ∷ 12 ∷ LAST_ORIGINAL ∷ []
 
 -- the guard of each
 abbrev pub compare : List Item
@@ -60,7 +63,7 @@ compare = guards originals
 
 -- fires where the signature in x16 is not that of an input address
 abbrev pub check_sign : ℕ → List Item
-check_sign a = Constant 30 a ∷ Plain (ins Beq 0 16 30 (pos 8)) ∷ fired_check ∷ []
+check_sign a = Constant TEMPORARY a ∷ Plain (ins Beq 0 SIGNATURE TEMPORARY (pos 8)) ∷ fired_check ∷ []
 
 -- begins the entry of an input address
 abbrev pub enter : ℕ → List Item
@@ -70,16 +73,16 @@ enter a = Mark a ∷ check_sign a
 -- behind the last word of a range the cursor in x15 goes on at the next range, behind that of the last range at `first`
 abbrev pub wraps : List (ℕ × ℕ) → ℕ → List Item
 wraps [] first = []
-wraps (r ∷ []) first = Constant 30 r.1 ∷ Plain (ins Bne 0 15 30 (pos 12)) ∷ Constant 15 first ∷ []
-wraps (r ∷ n ∷ rs) first = Constant 30 r.1 ∷ Plain (ins Bne 0 15 30 (pos 12)) ∷ Constant 15 n.0 ∷ wraps (n ∷ rs) first
+wraps (r ∷ []) first = Constant TEMPORARY r.1 ∷ Plain (ins Bne 0 CURSOR TEMPORARY (pos 12)) ∷ Constant CURSOR first ∷ []
+wraps (r ∷ n ∷ rs) first = Constant TEMPORARY r.1 ∷ Plain (ins Bne 0 CURSOR TEMPORARY (pos 12)) ∷ Constant CURSOR n.0 ∷ wraps (n ∷ rs) first
 
 -- one visited data word: fires where the word and its duplicate differ, and moves the cursor to the next word, behind the last one
 -- to the first; nothing where there is no data range
 abbrev pub visit_word : List (ℕ × ℕ) → List Item
 visit_word [] = []
 visit_word (r ∷ rs) =
-    Plain (ins Ld 30 15 0 (pos 0)) ∷ Plain (ins Add 31 15 14 (pos 0)) ∷ Plain (ins Ld 31 31 0 (pos 0)) ∷ Plain (ins Beq 0 30 31 (pos 8)) ∷ fired_check ∷
-    Plain (ins Addi 15 15 0 (pos 8)) ∷ wraps (r ∷ rs) r.0
+    Plain (ins Ld TEMPORARY CURSOR 0 (pos 0)) ∷ Plain (ins Add SPARE CURSOR DISTANCE (pos 0)) ∷ Plain (ins Ld SPARE SPARE 0 (pos 0)) ∷ Plain (ins Beq 0 TEMPORARY SPARE (pos 8)) ∷ fired_check ∷
+    Plain (ins Addi CURSOR CURSOR 0 (pos 8)) ∷ wraps (r ∷ rs) r.0
 
 -- the items several times
 abbrev pub times : ℕ → List Item → List Item
@@ -93,8 +96,8 @@ visit round spans = times round (visit_word spans)
 -- each word of a range in turn: fires where it and its duplicate differ
 abbrev pub sweep_range : ℕ × ℕ → List Item
 sweep_range r =
-    Constant 15 r.0 ∷ Plain (ins Ld 30 15 0 (pos 0)) ∷ Plain (ins Add 31 15 14 (pos 0)) ∷ Plain (ins Ld 31 31 0 (pos 0)) ∷ Plain (ins Beq 0 30 31 (pos 8)) ∷ fired_check ∷
-    Plain (ins Addi 15 15 0 (pos 8)) ∷ Constant 30 r.1 ∷ Plain (ins Bne 0 15 30 (neg_ℤ (pos 32))) ∷ []
+    Constant CURSOR r.0 ∷ Plain (ins Ld TEMPORARY CURSOR 0 (pos 0)) ∷ Plain (ins Add SPARE CURSOR DISTANCE (pos 0)) ∷ Plain (ins Ld SPARE SPARE 0 (pos 0)) ∷ Plain (ins Beq 0 TEMPORARY SPARE (pos 8)) ∷ fired_check ∷
+    Plain (ins Addi CURSOR CURSOR 0 (pos 8)) ∷ Constant TEMPORARY r.1 ∷ Plain (ins Bne 0 CURSOR TEMPORARY (neg_ℤ (pos 32))) ∷ []
 
 -- each range
 abbrev pub sweep : List (ℕ × ℕ) → List Item
@@ -113,19 +116,14 @@ original_as class.Load i at = guard i.rs1 ++ (Plain i ∷ [])
 original_as class.Store i at = guards_of i ++ (Plain i ∷ [])
 original_as _ i at = Plain i ∷ []
 
--- AUIPC, whose value is a constant
-abbrev pub is_auipc : Kind → Bool
-is_auipc Auipc = true
-is_auipc _ = false
-
 -- the original part of an instruction
 abbrev pub original : Ins → ℕ → List Item
 original i at = cond (is_auipc i.kind) (Constant i.rd (target i at) ∷ []) (original_as (class_of i.kind) i at)
 
 -- the mirror part: the same on the pairs, where an access goes to the duplicate half
 abbrev pub mirror_as : Class → Ins → ℕ → List Item
-mirror_as class.Load i at = Plain (ins Add 30 (pair i.rs1) 14 (pos 0)) ∷ Plain (ins i.kind (pair i.rd) 30 0 i.imm) ∷ []
-mirror_as class.Store i at = Plain (ins Add 30 (pair i.rs1) 14 (pos 0)) ∷ Plain (ins i.kind 0 30 (pair i.rs2) i.imm) ∷ []
+mirror_as class.Load i at = Plain (ins Add TEMPORARY (pair i.rs1) DISTANCE (pos 0)) ∷ Plain (ins i.kind (pair i.rd) TEMPORARY 0 i.imm) ∷ []
+mirror_as class.Store i at = Plain (ins Add TEMPORARY (pair i.rs1) DISTANCE (pos 0)) ∷ Plain (ins i.kind 0 TEMPORARY (pair i.rs2) i.imm) ∷ []
 mirror_as class.Fence i at = []
 mirror_as _ i at = Plain (renamed i) ∷ []
 
@@ -154,7 +152,7 @@ links i at = cond (i.rd == 0) [] (Constant i.rd ((at + 4) % 2 ^ 64) ∷ Constant
 
 -- goes on to the entry of an input address, with its signature
 abbrev pub go_on : ℕ → List Item
-go_on n = Constant 16 n ∷ Go n ∷ []
+go_on n = Constant SIGNATURE n ∷ Go n ∷ []
 
 -- what stands before an ECALL: with the sweep the comparison of all data words and of all registers
 abbrev pub before_end : Form → List Item
@@ -166,12 +164,12 @@ abbrev pub leave_as : Form → Class → Ins → ℕ → List Item
 leave_as form class.End i at = before_end form ++ (Plain i ∷ [])
 leave_as form class.Jump i at = links i at ++ go_on (target i at)
 leave_as form class.Branch i at =
-    Plain (ins i.kind 0 (pair i.rs1) (pair i.rs2) (pos 16)) ∷ Constant 16 ((at + 4) % 2 ^ 64) ∷ Plain (ins Jal 0 0 0 (pos 12)) ∷ Constant 16 (target i at) ∷
+    Plain (ins i.kind 0 (pair i.rs1) (pair i.rs2) (pos 16)) ∷ Constant SIGNATURE ((at + 4) % 2 ^ 64) ∷ Plain (ins Jal 0 0 0 (pos 12)) ∷ Constant SIGNATURE (target i at) ∷
     (guards_of i ++ (Plain (ins i.kind 0 i.rs1 i.rs2 (pos (4 + go_size form.far))) ∷ Go ((at + 4) % 2 ^ 64) ∷ Go (target i at) ∷ []))
 leave_as form class.JumpReg i at =
-    Plain (ins Addi 16 (pair i.rs1) 0 i.imm) ∷ Plain (ins Andi 16 16 0 (neg_ℤ (pos 2))) ∷
-    (guard i.rs1 ++ (Plain (ins Addi 30 i.rs1 0 i.imm) ∷ Plain (ins Andi 30 30 0 (neg_ℤ (pos 2))) ∷
-    (links i at ++ (Plain (ins Add 31 30 14 (pos 0)) ∷ Plain (ins Add 31 31 14 (pos 0)) ∷ Plain (ins Lw 30 31 0 (pos 0)) ∷ Plain (ins Add 30 30 31 (pos 0)) ∷ Plain (ins Jalr 0 30 0 (pos 0)) ∷ []))))
+    Plain (ins Addi SIGNATURE (pair i.rs1) 0 i.imm) ∷ Plain (ins Andi SIGNATURE SIGNATURE 0 (neg_ℤ (pos 2))) ∷
+    (guard i.rs1 ++ (Plain (ins Addi TEMPORARY i.rs1 0 i.imm) ∷ Plain (ins Andi TEMPORARY TEMPORARY 0 (neg_ℤ (pos 2))) ∷
+    (links i at ++ (Plain (ins Add SPARE TEMPORARY DISTANCE (pos 0)) ∷ Plain (ins Add SPARE SPARE DISTANCE (pos 0)) ∷ Plain (ins Lw TEMPORARY SPARE 0 (pos 0)) ∷ Plain (ins Add TEMPORARY TEMPORARY SPARE (pos 0)) ∷ Plain (ins Jalr 0 TEMPORARY 0 (pos 0)) ∷ []))))
 leave_as form _ i at = Plain i ∷ []
 
 -- the leave of a block whose end stands at an input address
@@ -201,11 +199,11 @@ zero_from a (suc n) = Plain (ins Addi a 0 0 (pos 0)) ∷ zero_from (a + 1) n
 -- the cursor begins at the first data word
 abbrev pub cursor : List (ℕ × ℕ) → List Item
 cursor [] = []
-cursor (r ∷ rs) = Constant 15 r.0 ∷ []
+cursor (r ∷ rs) = Constant CURSOR r.0 ∷ []
 
 -- what runs first: all originals and pairs are 0, x14 is the distance of the halves, and the test begins at its entry
 abbrev pub prologue : ℕ → List (ℕ × ℕ) → ℕ → List Item
-prologue d spans a = zero_from 1 13 ++ (zero_from 17 13 ++ (Plain (ins Lui 14 0 0 (pos d)) ∷ (cursor spans ++ go_on a)))
+prologue d spans a = zero_from 1 ORIGINALS ++ (zero_from 17 ORIGINALS ++ (Plain (ins Lui DISTANCE 0 0 (pos d)) ∷ (cursor spans ++ go_on a)))
 
 -- the zero word, where a jump to an address that is not code goes
 abbrev pub stub : List Item

@@ -2,22 +2,22 @@
 -- told of it.
 use Rattle.std.specs.Prelude.{◌≡◌, ℕ, ◌^◌, ◌<◌, ◌≤◌, nat_lt, Bool, true, false, cond, Option, Some, None, List, length, map, slice_index}
 use Rattle.elf_types.specs.declared.output.OutFile.{OutFile}
-use Rattle.qed_model.specs.declared.limits.Limit.{Limit}
-use Rattle.qed_model.specs.declared.limits.Limit.TheVariants as limit
-use Rattle.qed_model.specs.declared.limits.TheConstants.{MAX_NEAR_CODE_BYTES}
-use Rattle.qed_model.specs.Limits.{limit_of}
+use Rattle.machine.specs.declared.limits.Limit.{Limit}
+use Rattle.machine.specs.declared.limits.Limit.TheVariants as limit
+use Rattle.machine.specs.declared.limits.TheConstants.{MAX_NEAR_CODE_BYTES}
+use Rattle.machine.specs.Limits.{limit_of}
 use Rattle.qed_model.specs.declared.bounds.Bounds.{Bounds}
 use Rattle.qed_model.specs.declared.plan.EntryRow.{EntryRow}
 use Rattle.qed_model.specs.declared.plan.Plan.{Plan}
-use Rattle.qed_model.specs.Numbers.{bytes_of}
+use Rattle.machine.specs.Numbers.{bytes_of}
 use Rattle.qed_model.specs.Weave.Sequences.{Item, Block}
 use Rattle.qed_model.specs.Weave.Code.{sequences, code_of}
 use Rattle.qed_model.specs.Weave.Forms.{form_of, shape_of}
 use Rattle.qed_model.specs.Weave.Placed.{Decode, sum_of_sizes, rows_from, placed}
-use Rattle.qed_model.specs.Elf.Layout.{written}
-use Rattle.qed_model.specs.Weave.OutputParts.{base_of}
-use Rattle.qed_model.specs.Admission.DataRanges.{range_of, data_ranges, word_count}
-use Rattle.qed_model.specs.Weave.Places.{Options, ElfFile, image_of, half_of, code_place}
+use Rattle.tests.specs.Elf.Layout.{written}
+use Rattle.tests.specs.Admission.Places.{base_of, ElfFile, image_of, half_of, code_place}
+use Rattle.tests.specs.declared.options.Options.{Options}
+use Rattle.tests.specs.Admission.DataRanges.{range_of, data_ranges, word_count}
 use Rattle.qed_model.specs.Weave.OutputFile.{has_table, file_of, piece_rows}
 use Rattle.qed_model.specs.Weave.Bounds.{bounds_of}
 use Rattle.qed_model.specs.Weave.LeanBounds.{lean_bounds}

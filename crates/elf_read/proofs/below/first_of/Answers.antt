@@ -1,5 +1,5 @@
 use Rattle.std.proofs.Common.{arith}
-use Rattle.qed_model.proofs.BelowLaws.{some_is, none_is}
+use Rattle.machine.proofs.Lemmas.{some_is, none_is}
 use Rattle.elf_read.proofs.below.first_of.Goals as goal
 
 pub returns-then-test-clause-first : goal.returns-then-test-clause-first

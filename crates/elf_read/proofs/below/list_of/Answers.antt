@@ -1,4 +1,4 @@
-use Rattle.qed_model.proofs.BelowLaws.{each_none, push_each}
+use Rattle.machine.proofs.Lemmas.{each_none, push_each}
 use Rattle.std.proofs.Common.{◌∙◌}
 use Rattle.elf_read.proofs.below.list_of.Goals as goal
 

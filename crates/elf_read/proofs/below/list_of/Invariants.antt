@@ -1,6 +1,6 @@
 use Rattle.std.proofs.Common.{◌≡◌, ◌<◌, ℕ}
 use Rattle.std.specs.Prelude.{IfOk}
-use Rattle.qed_model.specs.Below.{each}
+use Rattle.machine.specs.Below.{each}
 use Rattle.elf_read.proofs.below.list_of.Given as goal
 
 abbrev pub invariant-loop-i : goal.invariant-loop-i

@@ -1,5 +1,5 @@
 use Rattle.std.proofs.Common.{◌≡◌, ◌<◌, ◌≤◌, ◌*◌, ◌^◌, ℕ}
-use Rattle.qed_model.specs.Below.{sum_below}
+use Rattle.machine.specs.Below.{sum_below}
 use Rattle.elf_read.proofs.below.sum_of.Given as goal
 
 abbrev pub invariant-loop-i : goal.invariant-loop-i

@@ -1,8 +1,6 @@
 use Rattle.std.proofs.Common.{List, ℕ, subst}
-use Rattle.elf_files.specs.File.{File}
-use Rattle.elf_files.proofs.AcceptanceLaws.{read_as}
-use Rattle.elf_files.proofs.LoadsApart.{file_apart}
-use Rattle.elf_files.proofs.ReadLoads.{read_sound}
+use Rattle.tests.specs.Files.File.{File}
+use Rattle.tests.proofs.Lemmas.{read_as, file_apart, read_sound}
 use Rattle.elf_read.proofs.read.read_elf.Goals as goal
 
 pub returns-clause-read : goal.returns-clause-read

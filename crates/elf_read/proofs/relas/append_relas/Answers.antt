@@ -1,4 +1,4 @@
-use Rattle.qed_model.proofs.BelowLaws.{each_front, push_after}
+use Rattle.machine.proofs.Lemmas.{each_front, push_after}
 use Rattle.elf_read.proofs.relas.append_relas.Goals as goal
 
 pub loop-k-init : goal.loop-k-init

@@ -1,6 +1,6 @@
 use Rattle.std.proofs.Common.{◌≡◌, ◌++◌}
-use Rattle.qed_model.specs.Below.{each}
-use Rattle.elf_files.specs.Fields.{rela_entry}
+use Rattle.machine.specs.Below.{each}
+use Rattle.tests.specs.Files.Fields.{rela_entry}
 use Rattle.elf_read.proofs.relas.append_relas.Given as goal
 
 abbrev pub invariant-loop-k : goal.invariant-loop-k

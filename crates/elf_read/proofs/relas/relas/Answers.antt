@@ -1,5 +1,5 @@
 use Rattle.std.proofs.Common.{◌∙◌}
-use Rattle.qed_model.proofs.BelowLaws.{gather_none, gather_more}
+use Rattle.machine.proofs.Lemmas.{gather_none, gather_more}
 use Rattle.elf_read.proofs.relas.relas.Goals as goal
 
 pub loop-i-init : goal.loop-i-init

@@ -1,7 +1,7 @@
 use Rattle.std.proofs.Common.{◌≡◌}
-use Rattle.qed_model.specs.Below.{gather}
-use Rattle.elf_files.specs.Fields.{section_header}
-use Rattle.elf_files.specs.File.{relas_of}
+use Rattle.machine.specs.Below.{gather}
+use Rattle.tests.specs.Files.Fields.{section_header}
+use Rattle.tests.specs.Files.File.{relas_of}
 use Rattle.elf_read.proofs.relas.relas.Given as goal
 
 abbrev pub invariant-loop-i : goal.invariant-loop-i

@@ -2,8 +2,8 @@ use Rattle.std.proofs.Common.{◌≡◌, ◌+◌, ◌*◌, ◌∙◌, List, ap, 
 use Rattle.elf_types.specs.declared.file.Segment.{Segment}
 use Rattle.elf_types.specs.declared.file.Symbol.{Symbol}
 use Rattle.elf_types.specs.declared.output.OutSection.{OutSection}
-use Rattle.qed_model.specs.Elf.Written.{end_from}
-use Rattle.qed_model.specs.Elf.Layout.{own_place, symbols_place, strings_place, names_place, headers_place, aligned, own_bytes, names_bytes, symbol_names, string_table, section_names}
+use Rattle.tests.specs.Elf.Written.{end_from}
+use Rattle.tests.specs.Elf.Layout.{own_place, symbols_place, strings_place, names_place, headers_place, aligned, own_bytes, names_bytes, symbol_names, string_table, section_names}
 use Rattle.elf_write.proofs.Sizes.{length-section_names}
 use Rattle.elf_write.proofs.layout.places_of.Goals as goal
 

@@ -1,5 +1,5 @@
 use Rattle.std.proofs.Common.{◌≡◌, ◌++◌, drop, map}
-use Rattle.qed_model.specs.Elf.Written.{fields_bytes}
+use Rattle.tests.specs.Elf.Written.{fields_bytes}
 use Rattle.elf_write.specs.Numbers.{size_and_value}
 use Rattle.elf_write.proofs.numbers.push_numbers.Given as goal
 

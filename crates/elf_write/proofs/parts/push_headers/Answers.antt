@@ -1,5 +1,5 @@
 use Rattle.std.proofs.Common.{◌≡◌, ◌++◌, ◌∙◌, ℕ, List, ap, sym}
-use Rattle.qed_model.specs.Elf.Layout.{headers_of, headers_from, header_bytes, headers_bytes, null_header, table_headers, start_of, own_place}
+use Rattle.tests.specs.Elf.Layout.{headers_of, headers_from, header_bytes, headers_bytes, null_header, table_headers, start_of, own_place}
 use Rattle.elf_write.proofs.Sizes.{headers_bytes-append}
 use Rattle.elf_write.proofs.Joined.{joined_three}
 use Rattle.elf_write.proofs.parts.push_headers.Goals as goal

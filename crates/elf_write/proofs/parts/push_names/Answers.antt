@@ -1,5 +1,5 @@
 use Rattle.std.proofs.Common.{map, arith}
-use Rattle.qed_model.specs.Elf.Layout.{table_names}
+use Rattle.tests.specs.Elf.Layout.{table_names}
 use Rattle.std.proofs.lemmas.Grind.{common_steps}
 use Rattle.elf_write.proofs.Sizes.{names_bytes-append}
 use Rattle.elf_write.proofs.parts.push_names.Goals as goal

@@ -1,6 +1,6 @@
 use Rattle.std.proofs.Common.{◌≡◌, ◌+◌, ◌*◌, ◌-◌, ◌∙◌, ℕ, refl, ap, length, map, arith}
 use Rattle.elf_types.specs.declared.records.SectionHeader.{SectionHeader}
-use Rattle.qed_model.specs.Elf.Layout.{table_headers, string_table, symbol_names, section_names}
+use Rattle.tests.specs.Elf.Layout.{table_headers, string_table, symbol_names, section_names}
 use Rattle.elf_write.proofs.Sizes.{laid_out, length-section_names}
 use Rattle.elf_write.proofs.Joined.{joined_headers, same_table}
 use Rattle.elf_write.proofs.parts.push_table_headers.Goals as goal

@@ -1,5 +1,5 @@
 use Rattle.std.proofs.Common.{◌≡◌, ◌++◌, ◌-◌, ◌+◌, ◌∙◌, ℕ, List, length, replicate, append_assoc}
-use Rattle.qed_model.specs.Elf.Layout.{tables_bytes, own_bytes, symbols_bytes, entries_of, string_table, symbol_names, section_names, headers_bytes, headers_of, own_place, symbols_place, names_place, headers_place}
+use Rattle.tests.specs.Elf.Layout.{tables_bytes, own_bytes, symbols_bytes, entries_of, string_table, symbol_names, section_names, headers_bytes, headers_of, own_place, symbols_place, names_place, headers_place}
 use Rattle.elf_write.proofs.Joined.{joined_four}
 use Rattle.elf_write.proofs.parts.push_tables.Goals as goal
 

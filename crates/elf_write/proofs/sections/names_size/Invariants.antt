@@ -1,5 +1,5 @@
 use Rattle.std.proofs.Common.{◌≡◌, ◌+◌, ◌*◌, ◌^◌, ◌≤◌, length, drop, map}
-use Rattle.qed_model.specs.Elf.Layout.{names_bytes}
+use Rattle.tests.specs.Elf.Layout.{names_bytes}
 use Rattle.elf_write.proofs.sections.names_size.Given as goal
 
 -- the size so far and that of the rest make the whole

@@ -1,6 +1,6 @@
 use Rattle.std.proofs.Common.{◌≡◌, drop}
-use Rattle.qed_model.specs.Elf.Written.{end_from}
-use Rattle.qed_model.specs.Elf.Layout.{offset_in}
+use Rattle.tests.specs.Elf.Written.{end_from}
+use Rattle.tests.specs.Elf.Layout.{offset_in}
 use Rattle.elf_write.proofs.sections.offset_in.Given as goal
 
 -- no segment so far has the section

@@ -1,5 +1,5 @@
 use Rattle.std.proofs.Common.{◌≡◌, ◌+◌, ◌*◌, ◌^◌, ◌≤◌, length, drop}
-use Rattle.qed_model.specs.Elf.Layout.{own_bytes}
+use Rattle.tests.specs.Elf.Layout.{own_bytes}
 use Rattle.elf_write.proofs.sections.own_size.Given as goal
 
 -- the size so far and that of the rest make the whole

@@ -1,6 +1,6 @@
 use Rattle.std.proofs.Common.{◌≡◌, ℕ, ◌+◌, ◌++◌, ◌<◌, length, drop, map, slice_index_or}
 use Rattle.elf_types.specs.declared.output.OutSection.{OutSection}
-use Rattle.qed_model.specs.Elf.Layout.{names_bytes, own_bytes, headers_bytes, headers_from}
+use Rattle.tests.specs.Elf.Layout.{names_bytes, own_bytes, headers_bytes, headers_from}
 use Rattle.elf_write.specs.Widths.{SectionFits}
 use Rattle.elf_write.proofs.sections.push_given_headers.Given as goal
 

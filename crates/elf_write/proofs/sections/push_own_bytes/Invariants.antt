@@ -1,5 +1,5 @@
 use Rattle.std.proofs.Common.{◌≡◌, ◌++◌, drop}
-use Rattle.qed_model.specs.Elf.Layout.{own_bytes}
+use Rattle.tests.specs.Elf.Layout.{own_bytes}
 use Rattle.elf_write.proofs.sections.push_own_bytes.Given as goal
 
 -- the file so far and what is left make the whole

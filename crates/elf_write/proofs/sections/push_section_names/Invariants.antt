@@ -1,5 +1,5 @@
 use Rattle.std.proofs.Common.{◌≡◌, ◌++◌, drop, map}
-use Rattle.qed_model.specs.Elf.Layout.{names_bytes}
+use Rattle.tests.specs.Elf.Layout.{names_bytes}
 use Rattle.elf_write.proofs.sections.push_section_names.Given as goal
 
 -- the file so far and the names that are left make the whole

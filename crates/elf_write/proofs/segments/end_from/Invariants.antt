@@ -1,5 +1,5 @@
 use Rattle.std.proofs.Common.{◌≡◌, ◌+◌, ◌*◌, ◌^◌, ◌≤◌, drop}
-use Rattle.qed_model.specs.Elf.Written.{end_from}
+use Rattle.tests.specs.Elf.Written.{end_from}
 use Rattle.elf_write.proofs.segments.end_from.Given as goal
 
 -- the end of the rest is that of all

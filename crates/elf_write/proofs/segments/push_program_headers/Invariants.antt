@@ -1,6 +1,6 @@
 use Rattle.std.proofs.Common.{◌≡◌, ◌++◌, ℕ, ◌<◌, drop, slice_index_or}
 use Rattle.elf_types.specs.declared.file.Segment.{Segment}
-use Rattle.qed_model.specs.Elf.Written.{program_headers, end_from}
+use Rattle.tests.specs.Elf.Written.{program_headers, end_from}
 use Rattle.elf_write.specs.Widths.{SegmentFits}
 use Rattle.elf_write.proofs.segments.push_program_headers.Given as goal
 

@@ -1,5 +1,5 @@
 use Rattle.std.proofs.Common.{◌≡◌, ◌++◌, drop}
-use Rattle.qed_model.specs.Elf.Written.{segments_bytes, end_from}
+use Rattle.tests.specs.Elf.Written.{segments_bytes, end_from}
 use Rattle.elf_write.proofs.segments.push_segments.Given as goal
 
 -- the file so far and what is left make the whole

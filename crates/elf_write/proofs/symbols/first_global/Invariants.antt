@@ -1,5 +1,5 @@
 use Rattle.std.proofs.Common.{◌≡◌, ◌+◌, drop}
-use Rattle.qed_model.specs.Elf.Layout.{first_global}
+use Rattle.tests.specs.Elf.Layout.{first_global}
 use Rattle.elf_write.proofs.symbols.first_global.Given as goal
 
 -- each symbol so far is STB_LOCAL

@@ -1,5 +1,5 @@
 use Rattle.std.proofs.Common.{◌≡◌, ◌++◌, drop}
-use Rattle.qed_model.specs.Elf.Layout.{names_bytes, symbol_names}
+use Rattle.tests.specs.Elf.Layout.{names_bytes, symbol_names}
 use Rattle.elf_write.proofs.symbols.push_symbol_names.Given as goal
 
 -- the file so far and the names that are left make the whole

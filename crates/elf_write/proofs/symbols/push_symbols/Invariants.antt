@@ -1,6 +1,6 @@
 use Rattle.std.proofs.Common.{◌≡◌, ℕ, ◌+◌, ◌++◌, ◌<◌, length, drop, slice_index_or}
 use Rattle.elf_types.specs.declared.file.Symbol.{Symbol}
-use Rattle.qed_model.specs.Elf.Layout.{names_bytes, symbol_names, symbols_bytes, entries_from}
+use Rattle.tests.specs.Elf.Layout.{names_bytes, symbol_names, symbols_bytes, entries_from}
 use Rattle.elf_write.specs.Widths.{SymbolFits}
 use Rattle.elf_write.proofs.symbols.push_symbols.Given as goal
 

@@ -1,8 +1,8 @@
 use Rattle.std.proofs.Common.{◌≡◌, ◌++◌, ◌∙◌, ℕ, List, [], length, append_assoc, subst, sym}
-use Rattle.elf_files.specs.File.{IsReadAs}
-use Rattle.qed_model.specs.Elf.FileRead.{file_read}
-use Rattle.qed_model.specs.Elf.Written.{fields_bytes, program_headers, segments_bytes}
-use Rattle.qed_model.specs.Elf.Layout.{written, file_fields, start_of, headers_place, tables_bytes}
+use Rattle.tests.specs.Files.File.{IsReadAs}
+use Rattle.tests.specs.Elf.FileRead.{file_read}
+use Rattle.tests.specs.Elf.Written.{fields_bytes, program_headers, segments_bytes}
+use Rattle.tests.specs.Elf.Layout.{written, file_fields, start_of, headers_place, tables_bytes}
 use Rattle.elf_write.proofs.Sizes.{ends_within}
 use Rattle.elf_write.proofs.Joined.{joined_two}
 use Rattle.elf_write.proofs.WholeRead.{reads_back}

@@ -1,5 +1,5 @@
 use Rattle.std.proofs.Common.{◌+◌, ◌%◌, ◌^◌, false, refl, sym, ap, ◌∙◌, arith}
-use Rattle.qed_model.specs.Machine.Step.{fetched_at}
+use Rattle.machine.specs.Step.{fetched_at}
 use Rattle.qed_model.specs.Promise.Closed.{guards_other, guard_bytes, is_checked}
 use Rattle.fault_inject.proofs.Closing.{used, unused, unguarded, known, closes_by}
 use Rattle.rv_step.specs.Known.{instruction_of}

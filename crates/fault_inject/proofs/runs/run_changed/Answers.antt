@@ -5,14 +5,19 @@ use Rattle.fault_inject.proofs.runs.run_changed.Goals as goal
 use Rattle.fault_inject.proofs.runs.run_changed.Goals.{else-loop-change-test, then-loop-change-test+then-change-n}
 
 pub loop-change-init : goal.loop-change-init
-loop-change-init g c = record { reached = started c.args.machine.now c.args.changes.now; within = omega arith }
+loop-change-init g c = record {
+  reached = started c.args.machine.now c.args.changes.now;
+  within = omega arith;
+  told = c.begin.ensures.0;
+  all = c.begin.ensures.1;
+}
 
-pub run_on-requires : goal.run_on-requires
-run_on-requires g c =
+pub run_on-requires-clause-order : goal.run_on-requires-clause-order
+run_on-requires-clause-order g c =
     next_later c.args.machine.now c.args.changes.now c.loop-change.change-index c.loop-change.steps c.loop-change.machine c.change-item.result c.loop-change-test.true c.change-item.is c.loop-change.invariant.reached
 
-pub run_on-requires-2 : goal.run_on-requires-2
-run_on-requires-2 g c = c.loop-change.invariant.within
+pub run_on-requires-2-clause-order : goal.run_on-requires-2-clause-order
+run_on-requires-2-clause-order g c = c.loop-change.invariant.within
 
 pub loop-change-preserved : goal.loop-change-preserved
 loop-change-preserved g c =
@@ -22,6 +27,8 @@ loop-change-preserved g c =
     record {
       reached = reached_next c.args.machine.now c.args.changes.now c.loop-change.change-index c.loop-change.steps c.loop-change.machine c.make_change.new.machine change c.requires c.loop-change-test.true c.change-item.is c.loop-change.invariant.reached state steps;
       within = c.if-change-n.false;
+      told = c.in_ok-run_on.ensures.told;
+      all = c.in_ok-run_on.ensures.all ∙ c.loop-change.invariant.all;
     }
 
 pub returns : goal.returns
@@ -33,7 +40,13 @@ returns g c =
       | then-loop-change-test+then-change-n w ↦ left_before cs k (c.args.n + 1) w.change-item.result c.requires w.loop-change-test.true w.change-item.is (let late = w.if-change-n.true in omega (arith, late))
     ] in
     let there = c.in_ok-outcome.ensures.run ∙ ends c.args.machine.now cs k c.loop-change.steps c.args.n c.loop-change.machine c.loop-change.invariant.reached c.loop-change.invariant.within left in
-    record { state = ap (λ p. p.state) there; steps = ap (λ p. p.steps) there; outcome = c.in_ok-outcome.ensures.outcome; part = tt }
+    record {
+      state = ap (λ p. p.state) there;
+      steps = ap (λ p. p.steps) there;
+      outcome = c.in_ok-outcome.ensures.outcome;
+      part = tt;
+      told = (c.in_ok-outcome.ensures.told, c.in_ok-outcome.ensures.all ∙ c.loop-change.invariant.all);
+    }
 
 pub returns-in_err-outcome-clause-part : goal.returns-in_err-outcome-clause-part
 returns-in_err-outcome-clause-part g c =

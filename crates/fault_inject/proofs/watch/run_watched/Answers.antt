@@ -1,6 +1,6 @@
 use Rattle.std.proofs.Common.{◌+◌, drop, ap, ◌∙◌, sym, arith}
 use Rattle.qed_model.specs.Promise.Changed.{changed, changed_run}
-use Rattle.qed_model.specs.Sets.{has_address}
+use Rattle.machine.specs.Sets.{has_address}
 use Rattle.fault_inject.proofs.Changing.{AllFrom, from_less, started, left_before, left_none, next_later, reached_next, ends}
 use Rattle.fault_inject.proofs.Straying.{in_none, astray_on}
 use Rattle.fault_inject.proofs.watch.run_watched.Goals as goal
@@ -10,15 +10,17 @@ pub loop-change-init : goal.loop-change-init
 loop-change-init g c = record {
   made = started c.args.machine.now c.args.changes.now;
   within = omega arith;
+  told = c.begin.ensures.0;
+  all = c.begin.ensures.1;
   astray = sym (in_none (has_address c.args.reached.now) (changed_run c.args.machine.now.state c.args.changes.now));
 }
 
-pub watch_on-requires : goal.watch_on-requires
-watch_on-requires g c =
+pub watch_on-requires-clause-order : goal.watch_on-requires-clause-order
+watch_on-requires-clause-order g c =
     next_later c.args.machine.now c.args.changes.now c.loop-change.change-index c.loop-change.steps c.loop-change.machine c.change-item.result c.loop-change-test.true c.change-item.is c.loop-change.invariant.made
 
-pub watch_on-requires-2 : goal.watch_on-requires-2
-watch_on-requires-2 g c = c.loop-change.invariant.within
+pub watch_on-requires-2-clause-order : goal.watch_on-requires-2-clause-order
+watch_on-requires-2-clause-order g c = c.loop-change.invariant.within
 
 pub loop-change-preserved : goal.loop-change-preserved
 loop-change-preserved g c =
@@ -33,6 +35,8 @@ loop-change-preserved g c =
     record {
       made = reached_next m cs c.loop-change.change-index c.loop-change.steps c.loop-change.machine c.make_change.new.machine change c.requires c.loop-change-test.true c.change-item.is h.made state steps;
       within = c.if-change-n.false;
+      told = c.in_ok-more.ensures.told;
+      all = c.in_ok-more.ensures.all ∙ h.all;
       astray = c.or-found.ensures ∙ astray_on (has_address c.args.reached.now) m cs c.loop-change.change-index c.loop-change.steps change.step c.loop-change.machine c.loop-change.found c.in_ok-more.more h.made later left h.astray c.in_ok-more.ensures.astray;
     }
 
@@ -50,5 +54,6 @@ returns g c =
     record {
       state = ap (λ p. p.state) there;
       steps = ap (λ p. p.steps) there;
+      told = (c.in_ok-more-2.ensures.told, c.in_ok-more-2.ensures.all ∙ h.all);
       astray = c.or.ensures ∙ astray_on (has_address c.args.reached.now) m cs k c.loop-change.steps c.args.n c.loop-change.machine c.loop-change.found c.in_ok-more-2.more h.made h.within (from_less (c.args.n + 1) c.args.n (drop k cs) (omega arith) left) h.astray c.in_ok-more-2.ensures.astray;
     }

@@ -1,6 +1,6 @@
 use Rattle.std.proofs.Common.{◌==◌}
 use Rattle.std.specs.List.{list_any}
-use Rattle.qed_model.specs.Admission.Reached.{is_by_table, leads}
+use Rattle.tests.specs.Admission.Reached.{is_by_table, leads}
 use Rattle.flow_recovery.proofs.SetLaws.{adds_then}
 use Rattle.flow_recovery.proofs.constants.add_constant.Goals as goal
 

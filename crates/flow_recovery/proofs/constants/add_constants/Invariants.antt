@@ -1,6 +1,6 @@
 use Rattle.std.proofs.Common.{length}
 use Rattle.flow_recovery.specs.Sets.{AddsBut}
-use Rattle.qed_model.specs.Admission.Reached.{is_made}
+use Rattle.tests.specs.Admission.Reached.{is_made}
 use Rattle.flow_recovery.proofs.constants.add_constants.Given as goal
 
 -- those of the rest are to come

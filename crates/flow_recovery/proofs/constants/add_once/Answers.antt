@@ -1,4 +1,4 @@
-use Rattle.qed_model.specs.Admission.Reached.{leads, sum_leads, once}
+use Rattle.tests.specs.Admission.Reached.{leads, sum_leads, once}
 use Rattle.flow_recovery.proofs.SetLaws.{adds_more, adds_all}
 use Rattle.flow_recovery.proofs.constants.add_once.Goals as goal
 

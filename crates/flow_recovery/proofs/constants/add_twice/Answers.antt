@@ -1,4 +1,4 @@
-use Rattle.qed_model.specs.Admission.Reached.{leads, sums_lead, twice}
+use Rattle.tests.specs.Admission.Reached.{leads, sums_lead, twice}
 use Rattle.flow_recovery.proofs.SetLaws.{adds_more, adds_all}
 use Rattle.flow_recovery.proofs.constants.add_twice.Goals as goal
 

@@ -1,7 +1,7 @@
 use Rattle.std.proofs.Common.{take}
 use Rattle.std.specs.List.{list_any}
 use Rattle.flow_recovery.specs.Sets.{Adds}
-use Rattle.qed_model.specs.Admission.Reached.{sums_lead}
+use Rattle.tests.specs.Admission.Reached.{sums_lead}
 use Rattle.flow_recovery.proofs.constants.add_twice.Given as goal
 
 -- those so far were added

@@ -1,5 +1,5 @@
 use Rattle.std.proofs.Common.{take}
-use Rattle.qed_model.specs.Admission.Terms.{is_relocated}
+use Rattle.tests.specs.Admission.Terms.{is_relocated}
 use Rattle.flow_recovery.specs.Sets.{Adds}
 use Rattle.flow_recovery.proofs.named.add_relocations.Given as goal
 

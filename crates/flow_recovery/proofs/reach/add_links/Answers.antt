@@ -1,4 +1,4 @@
-use Rattle.qed_model.specs.Admission.Reached.{links_to}
+use Rattle.tests.specs.Admission.Reached.{links_to}
 use Rattle.flow_recovery.proofs.SetLaws.{adds_more}
 use Rattle.flow_recovery.proofs.reach.add_links.Goals as goal
 

@@ -1,7 +1,7 @@
 use Rattle.std.proofs.Common.{take}
 use Rattle.std.specs.List.{list_any}
 use Rattle.flow_recovery.specs.Sets.{Adds}
-use Rattle.qed_model.specs.Admission.Reached.{links_to}
+use Rattle.tests.specs.Admission.Reached.{links_to}
 use Rattle.flow_recovery.proofs.reach.add_links.Given as goal
 
 -- those so far were added

@@ -1,4 +1,4 @@
-use Rattle.qed_model.specs.Admission.Reached.{is_reached}
+use Rattle.tests.specs.Admission.Reached.{is_reached}
 use Rattle.flow_recovery.proofs.SetLaws.{adds_first}
 use Rattle.flow_recovery.proofs.reach.listed.Goals as goal
 

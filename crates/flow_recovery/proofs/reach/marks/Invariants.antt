@@ -1,5 +1,5 @@
 use Rattle.std.proofs.Common.{take, map, ◌≡◌}
-use Rattle.qed_model.specs.Sets.{has_address}
+use Rattle.machine.specs.Sets.{has_address}
 use Rattle.flow_recovery.proofs.reach.marks.Given as goal
 
 -- those so far

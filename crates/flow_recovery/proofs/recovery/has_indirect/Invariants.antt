@@ -1,7 +1,7 @@
 use Rattle.std.proofs.Common.{drop, ◌≡◌}
 use Rattle.std.specs.List.{list_any}
 use Rattle.rv_isa.specs.Kind.{class_of}
-use Rattle.qed_model.specs.Admission.Leaders.{is_indirect}
+use Rattle.tests.specs.Admission.Leaders.{is_indirect}
 use Rattle.flow_recovery.proofs.recovery.has_indirect.Given as goal
 
 -- the rest decides

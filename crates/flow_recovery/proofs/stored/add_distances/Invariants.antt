@@ -1,8 +1,8 @@
 use Rattle.std.proofs.Common.{length, map}
-use Rattle.qed_model.specs.Admission.DataRanges.{range_of}
+use Rattle.tests.specs.Admission.DataRanges.{range_of}
 use Rattle.flow_recovery.specs.Sets.{AddsBut}
-use Rattle.qed_model.specs.Numbers.{words_of}
-use Rattle.qed_model.specs.Admission.Reached.{is_in_table}
+use Rattle.machine.specs.Numbers.{words_of}
+use Rattle.tests.specs.Admission.Reached.{is_in_table}
 use Rattle.flow_recovery.proofs.stored.add_distances.Given as goal
 
 -- those of the rest are to come

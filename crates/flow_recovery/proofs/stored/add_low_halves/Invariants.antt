@@ -1,8 +1,8 @@
 use Rattle.std.proofs.Common.{length}
 use Rattle.std.specs.List.{list_any}
 use Rattle.flow_recovery.specs.Sets.{AddsBut}
-use Rattle.qed_model.specs.Numbers.{words_of}
-use Rattle.qed_model.specs.Admission.Reached.{is_low_half}
+use Rattle.machine.specs.Numbers.{words_of}
+use Rattle.tests.specs.Admission.Reached.{is_low_half}
 use Rattle.flow_recovery.proofs.stored.add_low_halves.Given as goal
 
 -- those of the rest are to come

@@ -1,5 +1,5 @@
 use Rattle.std.proofs.Common.{◌≡◌, drop, map}
-use Rattle.qed_model.specs.Admission.DataRanges.{is_in_any, range_of}
+use Rattle.tests.specs.Admission.DataRanges.{is_in_any, range_of}
 use Rattle.flow_recovery.proofs.stored.is_in_any.Given as goal
 
 -- the rest decides

@@ -1,7 +1,7 @@
 use Rattle.std.proofs.Common.{sym, subst, ◌<◌, ◌^◌}
 use Rattle.std.proofs.lemmas.List.{take_all}
 use Rattle.std.proofs.lemmas.List.Elements.{All-more, All-same}
-use Rattle.qed_model.specs.declared.test.CodeWord.{CodeWord}
+use Rattle.tests.specs.declared.test.CodeWord.{CodeWord}
 use Rattle.flow_recovery.specs.Words.{begins_by}
 use Rattle.flow_recovery.proofs.SetLaws.{adds_more}
 use Rattle.flow_recovery.proofs.words.add_words.Goals as goal

@@ -1,6 +1,6 @@
 use Rattle.std.proofs.Common.{◌≡◌, drop}
-use Rattle.qed_model.specs.Machine.Loading.{load_segments}
-use Rattle.code_ranges.specs.Ranges.{span}
+use Rattle.machine.specs.Loading.{load_segments}
+use Rattle.tests.specs.Ranges.{span}
 use Rattle.listing.specs.Homes.{is_held}
 use Rattle.listing.proofs.home.first_home.Given as goal
 

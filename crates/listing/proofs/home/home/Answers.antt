@@ -1,4 +1,4 @@
-use Rattle.code_ranges.specs.Ranges.{span}
+use Rattle.tests.specs.Ranges.{span}
 use Rattle.listing.proofs.Words.{is_home}
 use Rattle.listing.proofs.home.home.Goals as goal
 

@@ -1,5 +1,5 @@
 use Rattle.std.proofs.Common.{max, ap, ◌∙◌}
-use Rattle.qed_model.specs.Machine.Loading.{load_segments}
+use Rattle.machine.specs.Loading.{load_segments}
 use Rattle.listing.specs.Homes.{image_word}
 use Rattle.listing.proofs.Lines.{range_step}
 use Rattle.listing.proofs.listing.lines_of.Goals as goal

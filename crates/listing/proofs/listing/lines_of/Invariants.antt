@@ -1,6 +1,6 @@
 use Rattle.std.proofs.Common.{◌≡◌, ◌++◌, drop}
-use Rattle.qed_model.specs.Machine.Loading.{load_segments}
-use Rattle.code_ranges.specs.Ranges.{spans}
+use Rattle.machine.specs.Loading.{load_segments}
+use Rattle.tests.specs.Ranges.{spans}
 use Rattle.listing.specs.Homes.{image_word}
 use Rattle.listing.specs.Listing.{lines}
 use Rattle.listing.specs.Addresses.{addresses}

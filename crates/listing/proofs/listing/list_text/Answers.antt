@@ -1,9 +1,9 @@
 use Rattle.std.proofs.Common.{◌∙◌, ap, rules, sym, subst}
 use Rattle.std.specs.Prelude.{All}
 use Rattle.std.proofs.lemmas.List.Sorted.{IsNonDecreasingBy-from_sort_by_key}
-use Rattle.qed_model.specs.Machine.Apart.{AreApart}
-use Rattle.qed_model.specs.Machine.Loading.{load_segments}
-use Rattle.code_ranges.specs.Ranges.{span, spans}
+use Rattle.machine.specs.Apart.{AreApart}
+use Rattle.machine.specs.Loading.{load_segments}
+use Rattle.tests.specs.Ranges.{span, spans}
 use Rattle.listing.specs.Homes.{IsHeld, image_word}
 use Rattle.listing.specs.Listing.{lines}
 use Rattle.listing.specs.Addresses.{addresses}

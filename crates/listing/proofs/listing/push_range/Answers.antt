@@ -1,4 +1,4 @@
-use Rattle.code_ranges.specs.Ranges.{span}
+use Rattle.tests.specs.Ranges.{span}
 use Rattle.listing.proofs.Words.{range_lines}
 use Rattle.listing.proofs.listing.push_range.Goals as goal
 

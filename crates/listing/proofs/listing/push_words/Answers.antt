@@ -1,5 +1,5 @@
 use Rattle.std.proofs.Common.{◌+◌, ◌*◌, ◌++◌, ap, ◌∙◌}
-use Rattle.qed_model.specs.Machine.Loading.{load_segment}
+use Rattle.machine.specs.Loading.{load_segment}
 use Rattle.listing.specs.Homes.{segment_word}
 use Rattle.listing.specs.Listing.{line}
 use Rattle.listing.proofs.Lines.{line_step}

@@ -1,5 +1,5 @@
 use Rattle.std.proofs.Common.{◌≡◌, ◌+◌, ◌<◌, true, sym, subst, arith}
-use Rattle.qed_model.specs.Machine.Memory.{wrap}
+use Rattle.machine.specs.Memory.{wrap}
 use Rattle.mem_image.specs.Overlap.{AreSound}
 use Rattle.mem_image.specs.Segments.{has_all}
 use Rattle.mem_image.proofs.SegmentLaws.{first_is}

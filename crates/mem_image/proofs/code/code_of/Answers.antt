@@ -1,5 +1,5 @@
 use Rattle.std.proofs.Common.{◌≡◌, Some, sym, ap, ◌∙◌, subst}
-use Rattle.qed_model.specs.Machine.Program.{memory_of}
+use Rattle.machine.specs.Program.{memory_of}
 use Rattle.mem_image.specs.Fixed.{IsFixed}
 use Rattle.mem_image.proofs.SegmentLaws.{stands_at}
 use Rattle.mem_image.proofs.WholeLaws.{among_stands}

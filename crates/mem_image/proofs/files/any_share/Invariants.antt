@@ -1,5 +1,5 @@
 use Rattle.std.proofs.Common.{◌≡◌, drop}
-use Rattle.qed_model.specs.Machine.Loading.{load_segments}
+use Rattle.machine.specs.Loading.{load_segments}
 use Rattle.mem_image.specs.Overlap.{any_share}
 use Rattle.mem_image.proofs.files.any_share.Given as goal
 

@@ -1,7 +1,7 @@
 use Rattle.std.proofs.Common.{◌≡◌, drop}
 use Rattle.std.specs.List.{list_any}
-use Rattle.qed_model.specs.Machine.Loading.{load_segment, load_segments}
-use Rattle.qed_model.specs.Machine.Apart.{share}
+use Rattle.machine.specs.Loading.{load_segment, load_segments}
+use Rattle.machine.specs.Apart.{share}
 use Rattle.mem_image.proofs.files.shares_any.Given as goal
 
 -- the rest decides

@@ -1,5 +1,5 @@
 use Rattle.std.proofs.Common.{◌-◌, ◌≡◌, ℕ, ◌<◌, ◌≤◌, length, Some, slice_get}
-use Rattle.qed_model.specs.Machine.Program.{LoadSegment}
+use Rattle.machine.specs.Program.{LoadSegment}
 use Rattle.mem_image.proofs.places.begun.Given as goal
 
 abbrev pub invariant-loop-low : goal.invariant-loop-low

@@ -1,5 +1,5 @@
 use Rattle.std.proofs.Common.{◌∙◌, arith}
-use Rattle.qed_model.specs.Machine.Program.{memory_of}
+use Rattle.machine.specs.Program.{memory_of}
 use Rattle.mem_image.specs.Access.{needs}
 use Rattle.mem_image.proofs.SegmentLaws.{stands_at}
 use Rattle.mem_image.proofs.WholeLaws.{has_fewer, whole_granted, whole_number, granted_number}

@@ -1,5 +1,5 @@
 use Rattle.std.proofs.Common.{refl, sym, ◌∙◌}
-use Rattle.qed_model.specs.Machine.Program.{memory_of}
+use Rattle.machine.specs.Program.{memory_of}
 use Rattle.mem_image.specs.Access.{needs}
 use Rattle.mem_image.proofs.WholeLaws.{here_whole, whole_granted, whole_refused, whole_number, refused_number, granted_number}
 use Rattle.mem_image.proofs.within.number_within.Goals as goal

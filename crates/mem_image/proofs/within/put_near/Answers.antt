@@ -1,7 +1,7 @@
 use Rattle.std.proofs.Common.{◌≡◌, true, ap, ◌∙◌, subst, set, get_or, arith}
 use Rattle.std.proofs.lemmas.List.{get_or_default}
 use Rattle.std.proofs.lemmas.Option.{slice_get-get_or}
-use Rattle.qed_model.specs.Machine.Program.{LoadSegment, memory_of}
+use Rattle.machine.specs.Program.{LoadSegment, memory_of}
 use Rattle.mem_image.specs.Segments.{has_all}
 use Rattle.mem_image.proofs.WholeLaws.{has_fewer, whole_granted, whole_put, sound_like}
 use Rattle.mem_image.proofs.within.put_near.Goals as goal

@@ -1,5 +1,5 @@
 use Rattle.std.proofs.Common.{sym, ap, ◌∙◌, set}
-use Rattle.qed_model.specs.Machine.Program.{memory_of}
+use Rattle.machine.specs.Program.{memory_of}
 use Rattle.mem_image.proofs.WholeLaws.{here_at, whole_granted, whole_refused, whole_put, sound_like, set_none, any_err}
 use Rattle.mem_image.proofs.within.put_within.Goals as goal
 

@@ -1,5 +1,5 @@
 use Rattle.std.proofs.Common.{◌++◌, List, ℕ, ap, ◌∙◌}
-use Rattle.qed_model.specs.Numbers.{bytes_of}
+use Rattle.machine.specs.Numbers.{bytes_of}
 use Rattle.output_file.proofs.WordBytes.{next_batch}
 use Rattle.output_file.proofs.bytes.bytes_of.Goals as goal
 

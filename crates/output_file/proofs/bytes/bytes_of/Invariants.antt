@@ -1,5 +1,5 @@
 use Rattle.std.proofs.Common.{◌≡◌, ◌++◌, length}
-use Rattle.qed_model.specs.Numbers.{bytes_of}
+use Rattle.machine.specs.Numbers.{bytes_of}
 use Rattle.output_file.proofs.bytes.bytes_of.Given as goal
 
 -- the bytes so far and those of the rest are those of all

@@ -1,7 +1,7 @@
 use Rattle.std.proofs.Common.{◌++◌, ◌∙◌, subst, rules, map}
 use Rattle.std.specs.List.Sorted.{IsPermutation}
 use Rattle.std.proofs.lemmas.List.Sorted.{IsNonDecreasingBy-from_sort_by_key}
-use Rattle.qed_model.specs.Admission.DataRanges.{range_of}
+use Rattle.tests.specs.Admission.DataRanges.{range_of}
 use Rattle.output_file.specs.Runs.{run_segment}
 use Rattle.output_file.proofs.Images.{are_spaced}
 use Rattle.output_file.proofs.Orders.{non_decreasing-map}

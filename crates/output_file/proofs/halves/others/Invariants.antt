@@ -1,6 +1,6 @@
 use Rattle.std.proofs.Common.{◌≡◌, ◌++◌, not, drop, map}
 use Rattle.std.specs.Prelude.{filter}
-use Rattle.qed_model.specs.Admission.DataRanges.{range_of, is_in_any}
+use Rattle.tests.specs.Admission.DataRanges.{range_of, is_in_any}
 use Rattle.qed_model.specs.Weave.OutputParts.{copies}
 use Rattle.output_file.specs.Images.{AreSpaced}
 use Rattle.output_file.proofs.halves.others.Given as goal

@@ -1,5 +1,5 @@
 use Rattle.std.proofs.Common.{◌≡◌, [], ◌+◌, ◌*◌, ◌∙◌, ap, arith}
-use Rattle.qed_model.specs.Numbers.{bytes_of}
+use Rattle.machine.specs.Numbers.{bytes_of}
 use Rattle.qed_model.specs.Weave.OutputFile.{halves}
 use Rattle.output_file.proofs.Entered.{image_at, ends_at, top, table_room, file_made}
 use Rattle.output_file.proofs.output.bare_file.Goals as goal

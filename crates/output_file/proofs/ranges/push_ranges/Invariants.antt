@@ -1,5 +1,5 @@
 use Rattle.std.proofs.Common.{◌≡◌, ◌++◌, drop, map}
-use Rattle.qed_model.specs.Admission.DataRanges.{range_of}
+use Rattle.tests.specs.Admission.DataRanges.{range_of}
 use Rattle.output_file.specs.Runs.{run_segment}
 use Rattle.output_file.proofs.ranges.push_ranges.Given as goal
 

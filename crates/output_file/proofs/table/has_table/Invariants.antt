@@ -1,6 +1,6 @@
 use Rattle.std.proofs.Common.{◌≡◌, drop, map}
 use Rattle.qed_model.specs.Weave.OutputFile.{has_table}
-use Rattle.block_list.specs.Listed.{block_of}
+use Rattle.block_split.specs.Listed.{block_of}
 use Rattle.output_file.proofs.table.has_table.Given as goal
 
 -- the rest decides

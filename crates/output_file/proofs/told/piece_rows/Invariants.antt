@@ -1,7 +1,7 @@
 use Rattle.std.proofs.Common.{◌≡◌, ◌++◌, drop, map}
 use Rattle.std.specs.Prelude.{All}
 use Rattle.qed_model.specs.Weave.OutputFile.{piece_rows}
-use Rattle.block_list.specs.Listed.{block_of}
+use Rattle.block_split.specs.Listed.{block_of}
 use Rattle.output_file.specs.Told.{IsWhole}
 use Rattle.output_file.proofs.told.piece_rows.Given as goal
 

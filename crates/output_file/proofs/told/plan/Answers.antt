@@ -1,5 +1,5 @@
 use Rattle.std.proofs.Common.{◌∙◌, ap, map}
-use Rattle.qed_model.specs.Admission.DataRanges.{range_of, word_count}
+use Rattle.tests.specs.Admission.DataRanges.{range_of, word_count}
 use Rattle.output_file.proofs.Counting.{test_spaced}
 use Rattle.output_file.proofs.told.plan.Goals as goal
 

@@ -1,5 +1,5 @@
 use Rattle.qed_io.specs.Counts.{RoseAt}
-use Rattle.command_line.specs.Words.{texts}
+use Rattle.qed_words.specs.Words.{texts}
 use Rattle.qed_top.proofs.Meanings.{over_order, over_usage}
 use Rattle.qed_top.proofs.decide.decide.Goals as goal
 

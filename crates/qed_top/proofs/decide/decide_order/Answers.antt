@@ -1,8 +1,7 @@
 use Rattle.std.proofs.Common.{rules, ◌≡◌, false, sym, subst}
 use Rattle.qed_io.specs.Counts.{RoseAt}
-use Rattle.command_line.specs.declared.order.Order.{Order}
 use Rattle.qed_top.specs.Loads.{OverLoads}
-use Rattle.qed_top.specs.Orders.{OrderCallsFor, reads_several}
+use Rattle.qed_top.specs.Orders.{OrderCallsFor, reads_several, Order}
 use Rattle.qed_top.proofs.Meanings.{over_one}
 use Rattle.qed_top.proofs.decide.decide_order.Goals as goal
 

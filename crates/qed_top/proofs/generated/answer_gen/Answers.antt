@@ -1,5 +1,5 @@
 use Rattle.std.proofs.Common.{◌∙◌, subst}
-use Rattle.qed_model.specs.Options.{default_options}
+use Rattle.tests.specs.Options.{default_options}
 use Rattle.transform.specs.Transform.{HasCause, Transforms}
 use Rattle.qed_top.specs.Gen as gens
 use Rattle.qed_top.proofs.Gens.{large_of}

@@ -1,5 +1,5 @@
 use Rattle.std.proofs.Common.{ap, ◌∙◌}
-use Rattle.command_line.specs.Words.{texts}
+use Rattle.qed_words.specs.Words.{texts}
 use Rattle.qed_top.specs.Program.{words_after}
 use Rattle.qed_top.proofs.Exits.{ended_exits, soon_exits}
 use Rattle.qed_top.proofs.program.exit_code.Goals as goal

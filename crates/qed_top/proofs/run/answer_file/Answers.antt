@@ -1,7 +1,6 @@
 use Rattle.std.proofs.Common.{rules, ◌≡◌, ◌≤◌, ap, ◌∙◌}
 use Rattle.std.specs.Option.{option_copied}
-use Rattle.command_line.specs.Text.Run.{run_text}
-use Rattle.qed_top.specs.Run.{jumps_of, memory_bytes, memory_limit}
+use Rattle.qed_top.specs.Run.{jumps_of, memory_bytes, memory_limit, run_text}
 use Rattle.qed_top.proofs.Meanings.{was_run}
 use Rattle.qed_top.proofs.run.answer_file.Goals as goal
 

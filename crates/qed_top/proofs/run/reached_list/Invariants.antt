@@ -2,7 +2,7 @@ use Rattle.std.proofs.Common.{take, ◌≡◌, ℕ}
 use Rattle.std.specs.Prelude.{◌==◌, ◌&&◌}
 use Rattle.std.specs.List.{list_any}
 use Rattle.flow_recovery.specs.Sets.{lists}
-use Rattle.qed_model.specs.Admission.Reached.{is_reached}
+use Rattle.tests.specs.Admission.Reached.{is_reached}
 use Rattle.qed_top.proofs.run.reached_list.Given as goal
 
 -- those so far

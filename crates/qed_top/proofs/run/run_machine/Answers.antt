@@ -1,9 +1,7 @@
 use Rattle.std.proofs.Common.{Option, sym, ap, ◌∙◌, Bor}
 use Rattle.std.specs.Option.{option_copied}
-use Rattle.command_line.specs.Text.Run.{jumps_line}
-use Rattle.qed_model.specs.Sets.{has_address}
-use Rattle.qed_model.specs.declared.test.Test.{Test}
-use Rattle.qed_top.specs.Run.{jumps_of}
+use Rattle.machine.specs.Sets.{has_address}
+use Rattle.qed_top.specs.Run.{jumps_of, jumps_line, Test}
 use Rattle.qed_top.proofs.Meanings.{was_told}
 use Rattle.qed_top.proofs.run.run_machine.Goals as goal
 

@@ -1,5 +1,5 @@
 use Rattle.std.proofs.Common.{ap, refl, Err}
-use Rattle.command_line.specs.Words.{texts}
+use Rattle.qed_words.specs.Words.{texts}
 use Rattle.qed_top.proofs.Endings.{done_ended, print_ended, store_ended, memory_ended, soon_ended}
 use Rattle.qed_top.proofs.top.qed.Goals as goal
 

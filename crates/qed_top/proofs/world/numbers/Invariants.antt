@@ -1,5 +1,5 @@
 use Rattle.std.proofs.Common.{◌≡◌}
-use Rattle.qed_model.specs.Below.{each}
+use Rattle.machine.specs.Below.{each}
 use Rattle.qed_top.proofs.world.numbers.Given as goal
 
 -- the numbers so far

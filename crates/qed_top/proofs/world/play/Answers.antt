@@ -1,10 +1,8 @@
 use Rattle.std.proofs.Common.{◌≡◌, ◌≤◌, length, ◌∙◌, subst, arith}
 use Rattle.qed_top.specs.Run.{memory_limit}
-use Rattle.harts.specs.HartSteps.{counted_start}
-use Rattle.harts.specs.Played.{programs}
 use Rattle.harts.proofs.Keeping.{turns_keep}
 use Rattle.qed_top.specs.Turns.{TellsTurns}
-use Rattle.qed_top.specs.World.{all_bytes, takers, turns_of}
+use Rattle.qed_top.specs.World.{all_bytes, takers, turns_of, programs, counted_start}
 use Rattle.qed_top.specs.World as world
 use Rattle.qed_top.proofs.Turning.{takers_below, takers_some}
 use Rattle.qed_top.proofs.world.play.Goals as goal

@@ -1,16 +1,10 @@
 use Rattle.std.proofs.Common.{rules, ◌≡◌, ◌+◌, ℕ, List, [], ◌∷◌, ◌++◌, drop, length, refl, sym, ap, ◌∙◌, subst, arith}
 use Rattle.std.proofs.lemmas.List.{drop_all, length-append}
-use Rattle.elf_types.specs.declared.file.ElfFile.{ElfFile}
-use Rattle.harts.specs.Played.{programs}
-use Rattle.harts.specs.Shared.{AreSound}
-use Rattle.qed_io.specs.Counts.{RoseAt}
-use Rattle.qed_io.specs.Files.{file_bytes}
-use Rattle.qed_model.specs.declared.limits.Limit.TheVariants.{RunFileBytes}
-use Rattle.qed_top.specs.Answer.{CallsFor}
-use Rattle.qed_top.specs.Loads.{OverFiles, OverLoads}
-use Rattle.qed_top.specs.Refused.{IsUnread}
-use Rattle.qed_top.specs.Turns.{IsTaken}
-use Rattle.qed_top.specs.World.{FilesCallFor, Plays}
+use Rattle.qed_top.specs.Answer.{CallsFor, RoseAt}
+use Rattle.qed_top.specs.Loads.{OverFiles, OverLoads, file_bytes}
+use Rattle.qed_top.specs.Refused.{IsUnread, ElfFile}
+use Rattle.qed_top.specs.Turns.{IsTaken, RunFileBytes}
+use Rattle.qed_top.specs.World.{FilesCallFor, Plays, programs, AreSound}
 use Rattle.qed_top.proofs.Calls.{steady_both, steady_since}
 use Rattle.qed_top.proofs.Meanings.{always_loads}
 use Rattle.qed_top.proofs.Turning.{read_next, read_stops, sound_more, split_at}

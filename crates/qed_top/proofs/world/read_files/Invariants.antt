@@ -1,10 +1,7 @@
 use Rattle.std.proofs.Common.{◌≡◌, ℕ, List, [], drop, length, Option}
-use Rattle.harts.specs.Played.{programs}
-use Rattle.harts.specs.Shared.{AreSound}
-use Rattle.qed_io.specs.Counts.{RoseAt}
-use Rattle.qed_top.specs.Answer.{ShelfSteady}
+use Rattle.qed_top.specs.Answer.{ShelfSteady, RoseAt}
 use Rattle.qed_top.specs.Loads.{OverLoads}
-use Rattle.qed_top.specs.World.{FilesCallFor}
+use Rattle.qed_top.specs.World.{FilesCallFor, programs, AreSound}
 use Rattle.qed_top.specs.declared.answer.Answer.{Answer}
 use Rattle.qed_top.proofs.world.read_files.Given as goal
 

@@ -1,10 +1,8 @@
 use Rattle.std.proofs.Common.{List, ℕ}
 use Rattle.elf_types.specs.declared.error.ElfError.TheVariants.{Memory}
-use Rattle.qed_io.specs.Counts.{RoseAt}
-use Rattle.qed_model.specs.declared.limits.Limit.TheVariants.{RunFileBytes}
-use Rattle.qed_top.specs.Answer.{CallsFor, within}
+use Rattle.qed_top.specs.Answer.{CallsFor, within, RoseAt}
 use Rattle.qed_top.specs.Refused.{IsUnread}
-use Rattle.qed_top.specs.Turns.{IsTaken}
+use Rattle.qed_top.specs.Turns.{IsTaken, RunFileBytes}
 use Rattle.qed_top.proofs.Meanings.{over_have, over_other}
 use Rattle.qed_top.proofs.Turning.{known_cause}
 use Rattle.qed_top.proofs.world.read_one.Goals as goal

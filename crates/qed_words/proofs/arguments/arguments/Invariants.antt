@@ -1,5 +1,5 @@
 use Rattle.std.proofs.Common.{◌≡◌, ◌≤◌, ◌+◌, ◌-◌, ◌++◌, map, length, false}
-use Rattle.command_line.specs.Words.{texts, arguments}
+use Rattle.qed_words.specs.Words.{texts, arguments}
 use Rattle.qed_words.specs.Seen.{seen}
 use Rattle.qed_words.proofs.arguments.arguments.Given as goal
 

@@ -1,7 +1,7 @@
 use Rattle.std.proofs.Common.{◌≡◌, map, drop}
 use Rattle.std.specs.Prelude.{fold, filter_map}
-use Rattle.command_line.specs.declared.order.Key.TheVariants.{Fault}
-use Rattle.command_line.specs.Words.{fault, values, changes_given}
+use Rattle.qed_words.specs.declared.orders.Key.TheVariants.{Fault}
+use Rattle.qed_words.specs.Words.{fault, values, changes_given}
 use Rattle.qed_model.specs.Promise.Changed.{with_change}
 use Rattle.qed_words.specs.Seen.{seen}
 use Rattle.qed_words.proofs.changes.changes.Given as goal

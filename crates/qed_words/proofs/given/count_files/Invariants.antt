@@ -1,5 +1,5 @@
 use Rattle.std.proofs.Common.{◌≡◌, ◌≤◌, ◌+◌, map, drop, length}
-use Rattle.command_line.specs.Words.{files}
+use Rattle.qed_words.specs.Words.{files}
 use Rattle.qed_words.specs.Seen.{seen}
 use Rattle.qed_words.proofs.given.count_files.Given as goal
 

@@ -1,5 +1,5 @@
 use Rattle.std.proofs.Common.{◌≡◌, map, drop}
-use Rattle.command_line.specs.Words.{file}
+use Rattle.qed_words.specs.Words.{file}
 use Rattle.qed_words.specs.Seen.{seen}
 use Rattle.qed_words.proofs.given.file.Given as goal
 

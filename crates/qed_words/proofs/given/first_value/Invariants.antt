@@ -1,5 +1,5 @@
 use Rattle.std.proofs.Common.{◌≡◌, map, drop}
-use Rattle.command_line.specs.Words.{value_of}
+use Rattle.qed_words.specs.Words.{value_of}
 use Rattle.qed_words.specs.Seen.{seen}
 use Rattle.qed_words.proofs.given.first_value.Given as goal
 

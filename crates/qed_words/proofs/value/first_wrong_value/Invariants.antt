@@ -1,6 +1,6 @@
 use Rattle.std.proofs.Common.{◌≡◌, map, drop}
-use Rattle.command_line.specs.Tables.{row_of}
-use Rattle.command_line.specs.Words.{first_reason, wrong_values}
+use Rattle.qed_words.specs.Tables.{row_of}
+use Rattle.qed_words.specs.Words.{first_reason, wrong_values}
 use Rattle.qed_words.specs.Seen.{seen}
 use Rattle.qed_words.proofs.value.first_wrong_value.Given as goal
 

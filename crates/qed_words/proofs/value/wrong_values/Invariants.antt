@@ -1,5 +1,5 @@
 use Rattle.std.proofs.Common.{◌≡◌, map, drop}
-use Rattle.command_line.specs.Words.{first_reason, values, wrong_value, wrong_values}
+use Rattle.qed_words.specs.Words.{first_reason, values, wrong_value, wrong_values}
 use Rattle.qed_words.specs.Seen.{seen}
 use Rattle.qed_words.proofs.value.wrong_values.Given as goal
 

@@ -1,5 +1,5 @@
 use Rattle.std.proofs.Common.{◌≡◌, ◌++◌, drop, map}
-use Rattle.command_line.specs.Words.{files}
+use Rattle.qed_words.specs.Words.{files}
 use Rattle.qed_words.specs.Seen.{seen}
 use Rattle.qed_words.proofs.words.names.Given as goal
 

@@ -1,7 +1,7 @@
 use Rattle.std.proofs.Common.{◌≡◌, arith}
 use Rattle.std.proofs.lemmas.Grind.{common_steps}
 use Rattle.std.specs.Prelude.{Ok}
-use Rattle.command_line.specs.Words.{texts, asked}
+use Rattle.qed_words.specs.Words.{texts, asked}
 use Rattle.qed_words.proofs.SoundOrders.{asked_sound}
 use Rattle.qed_words.proofs.words.order.Goals as goal
 

@@ -1,5 +1,5 @@
 use Rattle.std.proofs.Common.{◌≡◌, [], map, take, drop}
-use Rattle.command_line.specs.Words.{first_wrong}
+use Rattle.qed_words.specs.Words.{first_wrong}
 use Rattle.qed_words.specs.Seen.{seen}
 use Rattle.qed_words.proofs.wrong.first_wrong.Given as goal
 

@@ -1,7 +1,7 @@
 use Rattle.std.proofs.Common.{◌≡◌, ◌+◌, ◌*◌, ◌≤◌, ◌++◌, drop, map, true, Some}
 use Rattle.std.specs.Prelude.{vec_len, vec_capacity}
 use Rattle.std.specs.List.{list_all}
-use Rattle.qed_model.specs.Machine.Table.{decode_of}
+use Rattle.machine.specs.Table.{decode_of}
 use Rattle.qed_model.specs.Weave.Placed.{sum_of_sizes, instructions_from, leads_to}
 use Rattle.relinker.specs.Link.{is_encoded, AreWords}
 use Rattle.relinker.proofs.write.put_items.Given as goal

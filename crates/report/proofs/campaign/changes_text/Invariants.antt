@@ -1,5 +1,5 @@
 use Rattle.std.proofs.Common.{◌≡◌, ◌++◌, drop}
-use Rattle.command_line.specs.Text.Campaign.{changes_text}
+use Rattle.qed_words.specs.Text.Campaign.{changes_text}
 use Rattle.report.proofs.campaign.changes_text.Given as goal
 
 -- the text so far and that of the rest are all

@@ -1,6 +1,6 @@
 use Rattle.std.proofs.Common.{◌≡◌, ◌++◌, drop}
 use Rattle.std.specs.Option.{option_copied}
-use Rattle.command_line.specs.Text.Campaign.{strike_lines}
+use Rattle.qed_words.specs.Text.Campaign.{strike_lines}
 use Rattle.report.proofs.campaign.strike_lines.Given as goal
 
 -- the lines so far and those of the rest are all

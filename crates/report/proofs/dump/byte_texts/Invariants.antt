@@ -1,5 +1,5 @@
 use Rattle.std.proofs.Common.{◌≡◌}
-use Rattle.command_line.specs.Text.Run.{byte_texts}
+use Rattle.qed_words.specs.Text.Run.{byte_texts}
 use Rattle.report.proofs.dump.byte_texts.Given as goal
 
 -- the bytes so far

@@ -1,5 +1,5 @@
 use Rattle.std.proofs.Common.{◌≡◌}
-use Rattle.command_line.specs.Text.Run.{dump_lines}
+use Rattle.qed_words.specs.Text.Run.{dump_lines}
 use Rattle.report.proofs.dump.dump_text.Given as goal
 
 -- the lines so far

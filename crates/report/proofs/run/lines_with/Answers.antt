@@ -1,5 +1,5 @@
 use Rattle.std.proofs.Common.{ap, ◌∙◌, ◌++◌}
-use Rattle.command_line.specs.Text.Run.{outcome_line}
+use Rattle.qed_words.specs.Text.Run.{outcome_line}
 use Rattle.rv_step.specs.Harts.{with_memory}
 use Rattle.report.proofs.run.lines_with.Goals as goal
 

@@ -1,5 +1,5 @@
 use Rattle.std.proofs.Common.{sym, ap, ◌∙◌, ◌-◌, ◌++◌}
-use Rattle.command_line.specs.Text.Run.{register_lines}
+use Rattle.qed_words.specs.Text.Run.{register_lines}
 use Rattle.rv_step.specs.Harts.{with_memory}
 use Rattle.report.proofs.RegisterLines.{no_lines, more_lines}
 use Rattle.report.proofs.run.registers_text.Goals as goal

@@ -1,6 +1,6 @@
 use Rattle.std.proofs.Common.{◌≡◌, ◌-◌}
-use Rattle.qed_model.specs.Machine.Memory.{Memory}
-use Rattle.command_line.specs.Text.Run.{register_lines}
+use Rattle.machine.specs.Memory.{Memory}
+use Rattle.qed_words.specs.Text.Run.{register_lines}
 use Rattle.rv_step.specs.Harts.{with_memory}
 use Rattle.report.proofs.run.registers_text.Given as goal
 

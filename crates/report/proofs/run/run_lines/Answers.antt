@@ -1,6 +1,6 @@
 use Rattle.std.proofs.Common.{ap, ◌∙◌, ◌++◌}
 use Rattle.std.proofs.lemmas.List.{append-nil}
-use Rattle.command_line.specs.Text.Run.{outcome_line, register_lines}
+use Rattle.qed_words.specs.Text.Run.{outcome_line, register_lines}
 use Rattle.rv_step.specs.Harts.{with_memory}
 use Rattle.report.proofs.run.run_lines.Goals as goal
 

@@ -1,5 +1,5 @@
 use Rattle.std.proofs.Common.{◌≡◌, ◌+◌, ◌≤◌, drop}
-use Rattle.command_line.specs.Text.Campaign.{how_many_right}
+use Rattle.qed_words.specs.Text.Campaign.{how_many_right}
 use Rattle.report.proofs.tally.how_many_right.Given as goal
 
 -- those so far and those of the rest are all

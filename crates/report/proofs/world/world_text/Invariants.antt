@@ -1,5 +1,5 @@
 use Rattle.std.proofs.Common.{◌≡◌}
-use Rattle.qed_model.specs.Below.{gather}
+use Rattle.machine.specs.Below.{gather}
 use Rattle.report.specs.World.{hart_text}
 use Rattle.report.proofs.world.world_text.Given as goal
 

@@ -3,7 +3,7 @@ use Rattle.std.specs.Int.RustNames.{unsigned_abs}
 use Rattle.std.specs.Int.Signed.{mag, shr_z}
 use Rattle.std.proofs.lemmas.Int.{ints, unsigned_abs-mul}
 use mir.Syntax.{w128}
-use Rattle.qed_model.specs.Machine.Values.{wrapped, floor_shift, s64}
+use Rattle.machine.specs.Values.{wrapped, floor_shift, s64}
 use Rattle.rv_alu.proofs.multiply.mulh.Goals as goal
 
 abs-le : (x : ℤ) → mag x < 2 ^ 63 → unsigned_abs x ≤ 2 ^ 63

@@ -1,5 +1,5 @@
 use Rattle.std.proofs.Common.{◌∙◌, sym, ap, subst, arith, length}
-use Rattle.qed_model.specs.Elf.Layout.{written, IsWritable}
+use Rattle.tests.specs.Elf.Layout.{written, IsWritable}
 use Rattle.rv_asm.proofs.Done.{assembled_writable, file_same, none_left, some_left}
 use Rattle.rv_asm.proofs.assembly.assembled.Goals as goal
 

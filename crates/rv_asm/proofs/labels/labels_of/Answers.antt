@@ -1,4 +1,4 @@
-use Rattle.std.proofs.Common.{lit<, ◌≡◌, ◌+◌, ◌∷◌, [], ◌++◌, length, take, cond, Some, None, refl, sym, ap, ◌∙◌, arith, rules, tests}
+use Rattle.std.proofs.Common.{lit<, ◌≡◌, ◌+◌, ◌∷◌, [], ◌++◌, length, take, cond, Some, None, refl, sym, ap, ◌∙◌, rules, tests}
 use Rattle.std.proofs.lemmas.List.{length_push}
 use Rattle.std.specs.List.{position_from}
 use Rattle.std.specs.Option.{option_map, option_or}

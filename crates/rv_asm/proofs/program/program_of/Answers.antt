@@ -1,6 +1,6 @@
 use Rattle.std.proofs.Common.{lit<, ◌≡◌, ◌+◌, ◌∷◌, [], ◌++◌, length, Ok, refl, sym, ap, ◌∙◌, subst, arith, rules, tests}
 use Rattle.std.proofs.lemmas.List.{length_push}
-use Rattle.qed_model.specs.Below.{gather}
+use Rattle.machine.specs.Below.{gather}
 use Rattle.rv_asm.specs.Lines.{lines_of}
 use Rattle.rv_asm.specs.Named.{named}
 use Rattle.rv_asm.specs.Program.{IsSoFar}

@@ -2,7 +2,7 @@ use Rattle.std.proofs.Common.{◌≡◌, ◌≤◌, ◌^◌, ◌/◌, ◌-◌, a
 use Rattle.std.specs.Prelude.{bit_and}
 use Rattle.std.proofs.lemmas.Int.{to_z-of_z}
 use Rattle.std.proofs.Math.Pow.{pow_mono}
-use Rattle.qed_model.specs.Machine.Table.{to_bits}
+use Rattle.machine.specs.Table.{to_bits}
 use Rattle.rv_encode.proofs.LowBits.{low_bits, bits_lt}
 use Rattle.rv_encode.proofs.immediate.to_bits.Goals as goal
 use Rattle.rv_encode.proofs.immediate.to_bits.Goals.{After-cast_unsigned}

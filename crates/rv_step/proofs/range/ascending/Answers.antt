@@ -1,7 +1,7 @@
 use Rattle.std.proofs.Common.{ap, ◌∙◌, rules}
 use Rattle.std.proofs.lemmas.List.Sorted.{IsNonDecreasingBy-from_sort_by_key}
-use Rattle.qed_model.specs.Machine.Step.{in_range}
-use Rattle.code_ranges.specs.Ranges.{spans}
+use Rattle.machine.specs.Step.{in_range}
+use Rattle.tests.specs.Ranges.{spans}
 use Rattle.rv_step.proofs.RangeLaws.{permuted}
 use Rattle.rv_step.proofs.range.ascending.Goals as goal
 

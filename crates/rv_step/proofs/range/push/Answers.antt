@@ -1,5 +1,5 @@
 use Rattle.std.proofs.Common.{◌+◌, ap, ◌∙◌, subst}
-use Rattle.qed_model.specs.Machine.Step.{in_range}
+use Rattle.machine.specs.Step.{in_range}
 use Rattle.rv_step.specs.Reached.{IsFarthest}
 use Rattle.rv_step.proofs.RangeLaws.{pushed}
 use Rattle.rv_step.proofs.range.push.Goals as goal

@@ -1,7 +1,7 @@
 use Rattle.std.proofs.Common.{ap, sym, ◌∙◌, arith, get_or}
 use Rattle.std.specs.Prelude.{◌||◌}
-use Rattle.code_ranges.specs.declared.range.CodeRange.{CodeRange}
-use Rattle.code_ranges.specs.Ranges.{span}
+use Rattle.tests.specs.declared.code_range.CodeRange.{CodeRange}
+use Rattle.tests.specs.Ranges.{span}
 use Rattle.rv_step.specs.Reached.{spans_word}
 use Rattle.rv_step.proofs.RangeLaws.{one_more, begin_on}
 use Rattle.rv_step.proofs.range.reached.Goals as goal

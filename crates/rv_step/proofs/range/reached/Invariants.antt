@@ -1,7 +1,7 @@
 use Rattle.std.proofs.Common.{◌≡◌, ℕ, ◌<◌, ◌≤◌, length, take, get_or}
-use Rattle.qed_model.specs.Machine.Step.{in_range}
-use Rattle.code_ranges.specs.declared.range.CodeRange.{CodeRange}
-use Rattle.code_ranges.specs.Ranges.{spans}
+use Rattle.machine.specs.Step.{in_range}
+use Rattle.tests.specs.declared.code_range.CodeRange.{CodeRange}
+use Rattle.tests.specs.Ranges.{spans}
 use Rattle.rv_step.specs.Reached.{AreRising, BeginBy}
 use Rattle.rv_step.proofs.range.reached.Given as goal
 

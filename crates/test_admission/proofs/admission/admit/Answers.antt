@@ -1,5 +1,5 @@
 use Rattle.std.proofs.Common.{rules}
-use Rattle.qed_model.specs.Admission.Ends.{HasEnds}
+use Rattle.tests.specs.Admission.Ends.{HasEnds}
 use Rattle.test_admission.proofs.RefusedEnds.{cause_ends}
 use Rattle.test_admission.proofs.admission.admit.Goals as goal
 

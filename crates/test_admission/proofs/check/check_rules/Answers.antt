@@ -1,5 +1,5 @@
 use Rattle.std.proofs.Common.{◌∙◌, ap, sym, rules}
-use Rattle.qed_model.specs.Admission.Refusals.{IsRefusedBy}
+use Rattle.tests.specs.Admission.Refusals.{IsRefusedBy}
 use Rattle.test_admission.specs.declared.rules.CodeRule.TheVariants as rule
 use Rattle.test_admission.specs.Faults.{first_among}
 use Rattle.test_admission.specs.Stretches.{parts_of}

@@ -1,5 +1,5 @@
 use Rattle.std.proofs.Common.{◌≡◌, ◌++◌, drop}
-use Rattle.qed_model.specs.Admission.Terms.{image_segments}
+use Rattle.tests.specs.Admission.Terms.{image_segments}
 use Rattle.test_admission.specs.Spans.{all_bounds, HaveSome}
 use Rattle.test_admission.specs.DataSpans.{code_parts}
 use Rattle.test_admission.proofs.data_ranges.code_parts.Given as goal

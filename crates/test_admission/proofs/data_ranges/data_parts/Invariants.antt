@@ -1,7 +1,7 @@
 use Rattle.std.proofs.Common.{◌≡◌, ◌++◌, drop}
 use Rattle.std.specs.Prelude.{map, filter}
-use Rattle.qed_model.specs.Admission.Terms.{image_segments}
-use Rattle.qed_model.specs.Admission.DataRanges.{rounded, is_data, data_parts}
+use Rattle.tests.specs.Admission.Terms.{image_segments}
+use Rattle.tests.specs.Admission.DataRanges.{rounded, is_data, data_parts}
 use Rattle.test_admission.specs.Spans.{all_bounds, HaveSome}
 use Rattle.test_admission.proofs.data_ranges.data_parts.Given as goal
 

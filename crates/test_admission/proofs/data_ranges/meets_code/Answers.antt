@@ -1,6 +1,6 @@
 use Rattle.std.proofs.Common.{ap, ◌∙◌}
 use Rattle.std.specs.List.{list_any}
-use Rattle.qed_model.specs.Admission.DataRanges.{do_meet}
+use Rattle.tests.specs.Admission.DataRanges.{do_meet}
 use Rattle.test_admission.specs.Spans.{all_bounds}
 use Rattle.test_admission.proofs.DataLaws.{meets_joined}
 use Rattle.test_admission.proofs.data_ranges.meets_code.Goals as goal

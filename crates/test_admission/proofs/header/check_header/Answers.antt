@@ -1,6 +1,6 @@
 use Rattle.std.proofs.Common.{position, ap, ◌∙◌, rules}
-use Rattle.qed_model.specs.Admission.Rules.{is_writable_code}
-use Rattle.qed_model.specs.Admission.Refusals.{IsFirstOf}
+use Rattle.tests.specs.Admission.Rules.{is_writable_code}
+use Rattle.tests.specs.Admission.Refusals.{IsFirstOf}
 use Rattle.test_admission.proofs.Firsts.{found}
 use Rattle.test_admission.proofs.header.check_header.Goals as goal
 

@@ -1,7 +1,7 @@
 use Rattle.std.proofs.Common.{◌≡◌, ◌++◌, drop}
 use Rattle.std.specs.Prelude.{map}
-use Rattle.qed_model.specs.Admission.DataRanges.{range_of}
-use Rattle.code_ranges.specs.Ranges.{spans}
+use Rattle.tests.specs.Admission.DataRanges.{range_of}
+use Rattle.tests.specs.Ranges.{spans}
 use Rattle.test_admission.proofs.made.code_list.Given as goal
 
 -- the ranges so far and the rest are all

@@ -1,6 +1,6 @@
 use Rattle.std.proofs.Common.{◌≡◌, ◌++◌, drop}
 use Rattle.std.specs.Prelude.{map}
-use Rattle.qed_model.specs.Admission.DataRanges.{range_of}
+use Rattle.tests.specs.Admission.DataRanges.{range_of}
 use Rattle.test_admission.specs.Spans.{all_bounds}
 use Rattle.test_admission.proofs.made.data_list.Given as goal
 

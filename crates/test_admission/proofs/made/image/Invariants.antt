@@ -1,5 +1,5 @@
 use Rattle.std.proofs.Common.{◌≡◌, ◌++◌, drop}
-use Rattle.qed_model.specs.Admission.Terms.{image_segments}
+use Rattle.tests.specs.Admission.Terms.{image_segments}
 use Rattle.test_admission.proofs.made.image.Given as goal
 
 -- the segments so far and those of the rest are all

@@ -1,5 +1,5 @@
 use Rattle.std.proofs.Common.{subst, sym}
-use Rattle.qed_model.specs.Admission.Test.{AreCodeWords}
+use Rattle.tests.specs.Admission.Test.{AreCodeWords}
 use Rattle.test_admission.specs.Stretches.{parts_of}
 use Rattle.test_admission.proofs.Faulting.{follow_fit}
 use Rattle.test_admission.proofs.Listing.{are_words}

@@ -1,6 +1,6 @@
 use Rattle.std.proofs.Common.{◌≡◌, ◌<◌, ◌^◌, max, drop}
-use Rattle.qed_model.specs.Admission.Terms.{image_segments}
-use Rattle.qed_model.specs.Weave.OutputParts.{high_of}
+use Rattle.tests.specs.Admission.Terms.{image_segments}
+use Rattle.tests.specs.Admission.Places.{high_of}
 use Rattle.test_admission.proofs.places.high.Given as goal
 
 -- the greatest so far and the rest give the greatest of all

@@ -1,6 +1,6 @@
 use Rattle.std.proofs.Common.{◌≡◌, drop}
-use Rattle.qed_model.specs.Admission.Terms.{image_segments}
-use Rattle.qed_model.specs.Weave.OutputParts.{low_of}
+use Rattle.tests.specs.Admission.Terms.{image_segments}
+use Rattle.tests.specs.Admission.Places.{low_of}
 use Rattle.test_admission.specs.Places.{least}
 use Rattle.test_admission.proofs.places.low.Given as goal
 

@@ -1,9 +1,9 @@
 use Rattle.std.proofs.Common.{◌≡◌, false, true, sym, ◌∙◌, ap}
-use Rattle.code_ranges.specs.declared.range.CodeRange.{CodeRange}
+use Rattle.tests.specs.declared.code_range.CodeRange.{CodeRange}
 use Rattle.std.specs.Prelude.{List, Bool}
-use Rattle.code_ranges.specs.Ranges.{spans}
-use Rattle.qed_model.specs.Admission.Terms.{is_code_address, ElfFile}
-use Rattle.qed_model.specs.Admission.CodeWords.{ranges_of, is_code}
+use Rattle.tests.specs.Ranges.{spans}
+use Rattle.tests.specs.Admission.Terms.{is_code_address, ElfFile}
+use Rattle.tests.specs.Admission.CodeWords.{ranges_of, is_code}
 use Rattle.test_admission.proofs.ShapeLaws.{refused_entry, refused_section, refused_segment, passes_shape, shaped}
 use Rattle.test_admission.proofs.shape.check_shape.Goals as goal
 

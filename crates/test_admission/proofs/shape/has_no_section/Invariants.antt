@@ -1,6 +1,6 @@
 use Rattle.std.proofs.Common.{◌≡◌, drop}
-use Rattle.qed_model.specs.Machine.Loading.{load_segments, section_ranges}
-use Rattle.qed_model.specs.Admission.Rules.{is_empty}
+use Rattle.machine.specs.Loading.{load_segments, section_ranges}
+use Rattle.tests.specs.Admission.Rules.{is_empty}
 use Rattle.test_admission.proofs.shape.has_no_section.Given as goal
 
 -- the rest decides

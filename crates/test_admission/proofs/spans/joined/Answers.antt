@@ -1,6 +1,6 @@
 use Rattle.std.proofs.Common.{◌∙◌, ap, rules, sym, subst}
 use Rattle.std.proofs.lemmas.List.Sorted.{IsNonDecreasingBy-from_sort_by_key}
-use Rattle.qed_model.proofs.DataRangesLaws.{Spaced}
+use Rattle.tests.proofs.Lemmas.{Spaced}
 use Rattle.test_admission.specs.Spans.{all_bounds, glued}
 use Rattle.test_admission.proofs.Joining.{glued_joined, glued_spaced, are_spaced}
 use Rattle.test_admission.proofs.spans.joined.Goals as goal

@@ -1,6 +1,6 @@
 use Rattle.std.proofs.Common.{◌∙◌, sym, ap, subst}
 use Rattle.std.proofs.lemmas.Bool.{and_from}
-use Rattle.qed_model.specs.Machine.Loading.{load_segments}
+use Rattle.machine.specs.Loading.{load_segments}
 use Rattle.test_admission.specs.Stretches.{span_of, Reads}
 use Rattle.test_admission.proofs.Reading.{reads_section}
 use Rattle.test_admission.proofs.stretches.stretch_of_section.Goals as goal

@@ -1,6 +1,6 @@
 use Rattle.std.proofs.Common.{◌≡◌, ◌++◌, drop}
 use Rattle.std.specs.Prelude.{map, All}
-use Rattle.qed_model.specs.Machine.Loading.{load_segments, section_ranges}
+use Rattle.machine.specs.Loading.{load_segments, section_ranges}
 use Rattle.test_admission.specs.Stretches.{parts_of, span_of, Reads}
 use Rattle.test_admission.proofs.stretches.stretches_of_sections.Given as goal
 

@@ -1,6 +1,6 @@
 use Rattle.std.proofs.Common.{◌∙◌, sym, ap, subst}
 use Rattle.std.specs.Prelude.{map, All}
-use Rattle.qed_model.specs.Machine.Loading.{load_segments}
+use Rattle.machine.specs.Loading.{load_segments}
 use Rattle.test_admission.specs.Stretches.{span_of, Reads}
 use Rattle.test_admission.proofs.Cutting.{spans-whole, reads-whole}
 use Rattle.test_admission.proofs.stretches.stretches_of_segments.Goals as goal

@@ -1,7 +1,6 @@
 use Rattle.std.proofs.Common.{◌≡◌, ◌*◌, w64, pos, ◌-ℤ◌, to_z, of_z, ◌/◌, ◌%◌, ◌^◌, ◌∙◌, refl, ap, arith}
 use Rattle.std.proofs.lemmas.Int.{to_z-of_z, ints}
-use Rattle.rv_isa.specs.declared.kind.Kind.TheVariants.{Addi, Ld, Sd}
-use Rattle.qed_model.specs.Machine.Table.{ins}
+use Rattle.machine.specs.Table.{ins, Addi, Ld, Sd}
 use Rattle.test_gen.proofs.Bodies.{by_form}
 use Rattle.test_gen.proofs.body.body_instruction.Goals as goal
 

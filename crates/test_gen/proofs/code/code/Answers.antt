@@ -1,8 +1,8 @@
 use Rattle.std.proofs.Common.{◌≡◌, ◌+◌, ◌*◌, ◌++◌, ◌∙◌, sym, ap, arith}
-use Rattle.qed_model.specs.Below.{gather}
-use Rattle.random_words.specs.Random.{seeded, after}
+use Rattle.machine.specs.Below.{gather}
+use Rattle.test_gen.specs.Random.{seeded, after}
 use Rattle.test_gen.specs.Code.{main, function, code}
-use Rattle.random_words.proofs.Words.{after-more}
+use Rattle.test_gen.proofs.RandomWords.{after-more}
 use Rattle.test_gen.proofs.Functions.{function_from, none_yet, one_more}
 use Rattle.test_gen.proofs.code.code.Goals as goal
 

@@ -1,6 +1,6 @@
 use Rattle.std.proofs.Common.{◌≡◌, ◌*◌, ◌++◌}
-use Rattle.qed_model.specs.Below.{gather}
-use Rattle.random_words.specs.Random.{seeded, after}
+use Rattle.machine.specs.Below.{gather}
+use Rattle.test_gen.specs.Random.{seeded, after}
 use Rattle.test_gen.specs.Code.{main, function}
 use Rattle.test_gen.proofs.code.code.Given as goal
 

@@ -1,8 +1,8 @@
 use Rattle.std.proofs.Common.{◌∙◌, refl, sym, ap}
-use Rattle.qed_model.proofs.BelowLaws.{each_front, push_after}
-use Rattle.random_words.specs.Random.{drawn, next, after}
+use Rattle.machine.proofs.Lemmas.{each_front, push_after}
+use Rattle.test_gen.specs.Random.{drawn, next, after}
 use Rattle.test_gen.specs.Code.{body_instruction}
-use Rattle.random_words.proofs.Words.{after-one}
+use Rattle.test_gen.proofs.RandomWords.{after-one}
 use Rattle.test_gen.proofs.code.push_function.Goals as goal
 
 pub loop-init : goal.loop-init

@@ -1,6 +1,6 @@
 use Rattle.std.proofs.Common.{◌≡◌, ◌++◌}
-use Rattle.qed_model.specs.Below.{each}
-use Rattle.random_words.specs.Random.{drawn, after}
+use Rattle.machine.specs.Below.{each}
+use Rattle.test_gen.specs.Random.{drawn, after}
 use Rattle.test_gen.specs.Code.{body_instruction}
 use Rattle.test_gen.proofs.code.push_function.Given as goal
 

@@ -1,5 +1,5 @@
 use Rattle.std.proofs.Common.{◌≡◌, ◌++◌, drop, map}
-use Rattle.qed_model.specs.Numbers.{bytes_of}
+use Rattle.machine.specs.Numbers.{bytes_of}
 use Rattle.test_gen.specs.Generated.{generated_word}
 use Rattle.test_gen.proofs.code.words_bytes.Given as goal
 

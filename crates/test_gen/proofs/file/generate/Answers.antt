@@ -1,7 +1,7 @@
 use Rattle.std.proofs.Common.{◌≡◌, ◌∙◌, ap, sym, subst}
-use Rattle.elf_files.specs.File.{IsReadAs}
-use Rattle.qed_model.specs.Elf.FileRead.{file_read}
-use Rattle.qed_model.specs.Elf.Layout.{written, IsWritable}
+use Rattle.tests.specs.Files.File.{IsReadAs}
+use Rattle.tests.specs.Elf.FileRead.{file_read}
+use Rattle.tests.specs.Elf.Layout.{written, IsWritable}
 use Rattle.test_gen.specs.Generated.{file_with, generated}
 use Rattle.test_gen.specs.Outputs.{IsWeavable}
 use Rattle.test_gen.proofs.Within.{test_weavable}

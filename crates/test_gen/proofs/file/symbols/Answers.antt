@@ -1,6 +1,6 @@
 use Rattle.std.proofs.Common.{[], ◌∷◌, ◌++◌, ◌∙◌, ap}
 use Rattle.std.specs.Prelude.{codes}
-use Rattle.qed_model.proofs.BelowLaws.{each_none, push_after}
+use Rattle.machine.proofs.Lemmas.{each_none, push_after}
 use Rattle.test_gen.specs.Generated.{symbol, function_symbol}
 use Rattle.test_gen.proofs.file.symbols.Goals as goal
 

@@ -1,6 +1,6 @@
 use Rattle.std.proofs.Common.{◌≡◌, ◌∷◌}
 use Rattle.std.specs.Prelude.{codes}
-use Rattle.qed_model.specs.Below.{each}
+use Rattle.machine.specs.Below.{each}
 use Rattle.test_gen.specs.Generated.{symbol, function_symbol}
 use Rattle.test_gen.proofs.file.symbols.Given as goal
 

@@ -1,6 +1,6 @@
 use Rattle.std.proofs.Common.{◌≡◌}
-use Rattle.qed_model.specs.Below.{gather}
-use Rattle.qed_model.specs.Numbers.{number_bytes}
+use Rattle.machine.specs.Below.{gather}
+use Rattle.machine.specs.Numbers.{number_bytes}
 use Rattle.test_gen.proofs.tables.data_bytes.Given as goal
 
 abbrev pub invariant-loop-number : goal.invariant-loop-number

@@ -1,7 +1,7 @@
 use Rattle.std.proofs.Common.{◌≡◌, ◌++◌, ◌∙◌, ap, arith}
-use Rattle.qed_model.specs.Below.{gather}
-use Rattle.qed_model.specs.Numbers.{number_bytes}
-use Rattle.qed_model.proofs.BelowLaws.{gather_none, gather_more}
+use Rattle.machine.specs.Below.{gather}
+use Rattle.machine.specs.Numbers.{number_bytes}
+use Rattle.machine.proofs.Lemmas.{gather_none, gather_more}
 use Rattle.test_gen.specs.Generated.{function_at, table_bytes}
 use Rattle.test_gen.proofs.tables.table_bytes.Goals as goal
 

@@ -1,8 +1,8 @@
 use Rattle.std.proofs.Common.{Some, map, sym, ap, ◌∙◌, subst}
 use Rattle.std.proofs.lemmas.Result.{IfOk-weaker}
 use Rattle.qed_model.specs.Weave.LeanRoles.{roles_as}
-use Rattle.block_list.specs.Listed.{block_of}
-use Rattle.lean_code.specs.Code.{IsLeanCut}
+use Rattle.block_split.specs.Listed.{block_of}
+use Rattle.lean.specs.Code.{IsLeanCut}
 use Rattle.transform.proofs.Making.{lean_cut}
 use Rattle.transform.proofs.explained.roles_of.Goals as goal
 

@@ -1,6 +1,6 @@
 use Rattle.std.proofs.Common.{◌≡◌, None, sym, subst}
 use Rattle.relinker.specs.declared.error.LinkError.TheVariants as link
-use Rattle.woven_code.specs.Code.{IsCut, IsCodeOf, HasCause}
+use Rattle.weave.specs.Code.{IsCut, IsCodeOf, HasCause}
 use Rattle.transform.proofs.Making.{compared_is, too_much}
 use Rattle.transform.proofs.made.compared_code.Goals as goal
 

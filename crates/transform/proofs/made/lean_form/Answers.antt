@@ -1,6 +1,6 @@
 use Rattle.std.proofs.Common.{◌≡◌, false, Some, refl, sym, subst}
 use Rattle.relinker.specs.declared.error.LinkError.TheVariants as link
-use Rattle.lean_code.specs.Code.{IsLeanCut, IsLeanCodeOf, HasCause}
+use Rattle.lean.specs.Code.{IsLeanCut, IsLeanCodeOf, HasCause}
 use Rattle.transform.proofs.Making.{lean_cut, lean_is, too_much}
 use Rattle.transform.proofs.made.lean_form.Goals as goal
 

@@ -1,7 +1,7 @@
 use Rattle.std.proofs.Common.{◌≡◌, ℕ, ◌*◌, List, ap, ◌∙◌}
 use Rattle.elf_types.specs.declared.output.OutFile.{OutFile}
-use Rattle.elf_files.specs.File.{IsReadAs}
-use Rattle.woven_code.specs.Code.{IsCut}
+use Rattle.tests.specs.Files.File.{IsReadAs}
+use Rattle.weave.specs.Code.{IsCut}
 use Rattle.qed_model.specs.Weave.OutputParts.{out_symbols}
 use Rattle.output_file.specs.Sizes.{symbols_room}
 use Rattle.transform.specs.declared.error.TransformError.{TransformError}

@@ -1,7 +1,7 @@
 use Rattle.std.proofs.Common.{◌≡◌, length, map, sym, ap, ◌∙◌}
 use Rattle.std.proofs.Math.ListN.{length-map}
-use Rattle.qed_model.specs.Admission.DataRanges.{range_of, data_ranges, word_count}
-use Rattle.qed_model.specs.Weave.Places.{image_of}
+use Rattle.tests.specs.Admission.DataRanges.{range_of, data_ranges, word_count}
+use Rattle.tests.specs.Admission.Places.{image_of}
 use Rattle.output_file.proofs.Counting.{test_spaced}
 use Rattle.transform.proofs.TestFacts.{same_shape}
 use Rattle.transform.proofs.made.shape_of.Goals as goal

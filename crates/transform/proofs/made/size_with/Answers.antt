@@ -1,5 +1,5 @@
 use Rattle.std.proofs.Common.{ap, ◌∙◌, length, map, arith}
-use Rattle.qed_model.specs.Elf.Layout.{names_bytes}
+use Rattle.tests.specs.Elf.Layout.{names_bytes}
 use Rattle.transform.proofs.Sizes.{length_with}
 use Rattle.transform.proofs.made.size_with.Goals as goal
 

@@ -1,8 +1,8 @@
 use Rattle.std.proofs.Common.{◌≡◌, sym, rules}
-use Rattle.qed_model.specs.declared.machine.Outcome.TheVariants.{Going}
+use Rattle.machine.specs.declared.outcome.Outcome.TheVariants.{Going}
 use Rattle.fault_inject.proofs.Tracing.{longer, steps_on, trace_more}
 use Rattle.fault_inject.proofs.trace.Trace.of.Goals as goal
-use Rattle.qed_model.proofs.Walk.{run-none}
+use Rattle.machine.proofs.Lemmas.{run-none}
 
 pub loop-made-init : goal.loop-made-init
 loop-made-init c = record { there = sym (run-none c.args.machine.now.state); trace = c.none-trace.ensures.trace c.args.machine.now.state; count = c.none-trace.ensures.count }

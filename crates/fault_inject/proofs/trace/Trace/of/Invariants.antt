@@ -1,6 +1,5 @@
 use Rattle.std.proofs.Common.{◌≡◌, length}
-use Rattle.qed_model.specs.Machine.Step.{run}
-use Rattle.fault_inject.specs.Touched.{IsTrace}
+use Rattle.fault_inject.specs.Touched.{IsTrace, run}
 use Rattle.fault_inject.proofs.trace.Trace.of.Given as goal
 
 -- so many steps were made, and are traced

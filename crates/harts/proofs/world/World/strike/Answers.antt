@@ -1,5 +1,5 @@
 use Rattle.std.proofs.Common.{length, ap, ◌∙◌, sym}
-use Rattle.qed_model.specs.declared.change.Place.TheVariants.{Reg}
+use Rattle.machine.specs.declared.place.Place.TheVariants.{Reg}
 use Rattle.harts.specs.HartSteps.{counted_strike}
 use Rattle.harts.proofs.Worlds.{strike_counted, strike_word}
 use Rattle.harts.proofs.Steps.{length_struck}

@@ -1,5 +1,5 @@
 use Rattle.std.proofs.Common.{◌≡◌, ◌-◌, List, ℕ, refl, ap, ◌∙◌, take}
-use Rattle.qed_model.specs.Machine.Program.{LoadSegment}
+use Rattle.machine.specs.Program.{LoadSegment}
 use Rattle.mem_image.specs.Segments.{bytes_put}
 use Rattle.mem_image.proofs.WholeLaws.{spans}
 use Rattle.mem_image.proofs.PageLaws.{put-take, put_with, put_in}

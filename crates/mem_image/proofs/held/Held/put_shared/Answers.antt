@@ -1,6 +1,6 @@
 use Rattle.std.proofs.Common.{◌≡◌, ◌-◌, List, ℕ, sym, ap, ◌∙◌, arith, length, take, is_ok, ⊎_elim}
 use Rattle.std.proofs.lemmas.List.{length-take-le}
-use Rattle.qed_model.specs.Machine.Program.{LoadSegment}
+use Rattle.machine.specs.Program.{LoadSegment}
 use Rattle.mem_image.specs.Segments.{bytes_put}
 use Rattle.mem_image.proofs.WholeLaws.{spans}
 use Rattle.mem_image.proofs.PageLaws.{put-take, put_with, put_in}

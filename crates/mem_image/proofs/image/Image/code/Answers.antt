@@ -1,7 +1,7 @@
 use Rattle.std.proofs.Common.{◌≡◌, List, None, Some, false, sym, ap, ◌∙◌, subst}
 use Rattle.std.specs.Prelude.{slice_get}
-use Rattle.qed_model.specs.Machine.Program.{LoadSegment}
-use Rattle.qed_model.specs.Machine.Cells.{cell_among}
+use Rattle.machine.specs.Program.{LoadSegment}
+use Rattle.machine.specs.Cells.{cell_among}
 use Rattle.mem_image.specs.Fixed.{is_code_flags, has_code}
 use Rattle.mem_image.specs.Overlap.{AreSound}
 use Rattle.mem_image.specs.Segments.{IsFirst}

@@ -1,8 +1,8 @@
 use Rattle.std.proofs.Common.{◌≡◌, ℕ, subst, ap, ◌∙◌, sym}
 use Rattle.std.specs.Prelude.{IfSome}
-use Rattle.qed_model.proofs.MemoryLaws.{same_memory}
-use Rattle.qed_model.specs.Machine.Program.{memory_of}
-use Rattle.qed_model.specs.Machine.Cells.{cell_among}
+use Rattle.machine.proofs.Lemmas.{same_memory}
+use Rattle.machine.specs.Program.{memory_of}
+use Rattle.machine.specs.Cells.{cell_among}
 use Rattle.mem_image.specs.Overlap.{segments_of, AreSound}
 use Rattle.mem_image.proofs.SegmentLaws.{get-memory_of}
 use Rattle.mem_image.proofs.image.Image.make.Goals as goal

@@ -1,6 +1,6 @@
 use Rattle.std.proofs.Common.{◌+◌, sym, ap, ◌∙◌}
 use Rattle.std.specs.Prelude.{slice_set}
-use Rattle.qed_model.specs.Machine.Memory.{byte_of}
+use Rattle.machine.specs.Memory.{byte_of}
 use Rattle.mem_image.proofs.NumberLaws.{low_byte}
 use Rattle.mem_image.proofs.PageLaws.{bytes_put-none, bytes_put-more}
 use Rattle.mem_image.proofs.page.Page.scatter.Goals as goal

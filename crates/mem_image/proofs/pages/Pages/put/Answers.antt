@@ -1,8 +1,8 @@
 use Rattle.std.proofs.Common.{List, sym, ap, ◌∙◌}
 use Rattle.std.proofs.lemmas.List.{with_items_is}
-use Rattle.qed_model.specs.Machine.Memory.{put}
-use Rattle.qed_model.specs.Machine.Program.{LoadSegment, memory_of}
-use Rattle.qed_model.proofs.MemoryLaws.{put_none}
+use Rattle.machine.specs.Memory.{put}
+use Rattle.machine.specs.Program.{LoadSegment, memory_of}
+use Rattle.machine.proofs.Lemmas.{put_none}
 use Rattle.mem_image.proofs.SegmentLaws.{none_past}
 use Rattle.mem_image.proofs.pages.Pages.put.Goals as goal
 

@@ -1,6 +1,6 @@
 use Rattle.std.proofs.Common.{◌++◌, map, Some, ap, ◌∙◌}
 use Rattle.std.specs.List.{list_all}
-use Rattle.qed_model.specs.Machine.Table.{decode_of}
+use Rattle.machine.specs.Table.{decode_of}
 use Rattle.qed_model.specs.Weave.Placed.{instructions_from, leads_to}
 use Rattle.relinker.specs.Link.{is_encoded}
 use Rattle.relinker.proofs.Laying.{asks, laid_more}

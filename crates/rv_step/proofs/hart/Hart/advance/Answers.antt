@@ -1,6 +1,6 @@
 use Rattle.std.proofs.Common.{◌≡◌, Some, None, sym, ap, ◌∙◌}
-use Rattle.qed_model.specs.Machine.Step.{act, known_or}
-use Rattle.qed_model.specs.Machine.Progress.{Progress}
+use Rattle.machine.specs.Step.{act, known_or}
+use Rattle.machine.specs.Progress.{Progress}
 use Rattle.rv_step.specs.Known.{state_word, at_state}
 use Rattle.rv_step.specs.Harts.{with_memory}
 use Rattle.rv_step.proofs.Fetching.{fetched_none, fetched_some}

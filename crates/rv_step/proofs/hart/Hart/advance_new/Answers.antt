@@ -1,9 +1,8 @@
 use Rattle.std.proofs.Common.{◌≡◌, Some, None, sym, ap, ◌∙◌}
-use Rattle.qed_model.specs.Machine.Table.{decode_of}
-use Rattle.qed_model.specs.Machine.Step.{act, known_or, trapped, execute}
-use Rattle.qed_model.specs.declared.machine.Cause.TheVariants.{Word}
-use Rattle.qed_model.specs.Machine.Progress.{Progress}
-use Rattle.rv_isa.specs.Kind.{class_of}
+use Rattle.machine.specs.Table.{decode_of}
+use Rattle.machine.specs.Step.{act, known_or, trapped, execute, class_of}
+use Rattle.machine.specs.declared.outcome.Cause.TheVariants.{Word}
+use Rattle.machine.specs.Progress.{Progress}
 use Rattle.rv_step.specs.Known.{at_state}
 use Rattle.rv_step.specs.Harts.{HartState, with_memory}
 use Rattle.rv_step.proofs.Fetching.{fetched_some}

@@ -3,7 +3,7 @@ use Rattle.rv_isa.specs.declared.class.Class.TheVariants as class
 use Rattle.rv_isa.specs.Kind.{class_of}
 use Rattle.rv_alu.specs.Steps.{branched}
 use Rattle.rv_alu.proofs.Executed.{branching_step}
-use Rattle.qed_model.specs.Machine.Progress.{Progress}
+use Rattle.machine.specs.Progress.{Progress}
 use Rattle.rv_step.specs.Harts.{HartState, with_memory}
 use Rattle.rv_step.proofs.Jumps.{lands, traps}
 use Rattle.rv_step.proofs.hart.Hart.branch.Goals as goal

@@ -1,9 +1,8 @@
 use Rattle.std.proofs.Common.{ap}
-use Rattle.rv_isa.specs.Kind.{class_of}
 use Rattle.rv_isa.specs.declared.class.Class.TheVariants.{End, Break, Illegal}
-use Rattle.qed_model.specs.Machine.Step.{stopped, trapped}
-use Rattle.qed_model.specs.declared.machine.Cause.TheVariants.{Word}
-use Rattle.qed_model.specs.declared.machine.Outcome.TheVariants.{Ended, Fired}
+use Rattle.machine.specs.Step.{stopped, trapped, class_of}
+use Rattle.machine.specs.declared.outcome.Cause.TheVariants.{Word}
+use Rattle.machine.specs.declared.outcome.Outcome.TheVariants.{Ended, Fired}
 use Rattle.rv_step.proofs.Accesses.{by_class, at_end, at_break, at_illegal}
 use Rattle.rv_step.proofs.hart.Hart.execute.Goals as goal
 

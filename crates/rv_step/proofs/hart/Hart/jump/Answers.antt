@@ -2,7 +2,7 @@ use Rattle.std.proofs.Common.{◌≡◌, ◌+◌, ◌%◌, ◌^◌, refl, sym, a
 use Rattle.std.specs.Prelude.{slice_index}
 use Rattle.rv_isa.specs.Kind.{class_of}
 use Rattle.rv_isa.specs.Regs.{set_reg}
-use Rattle.qed_model.specs.Machine.Progress.{Progress}
+use Rattle.machine.specs.Progress.{Progress}
 use Rattle.rv_step.specs.Harts.{HartState, with_memory}
 use Rattle.rv_step.proofs.Jumps.{lands, traps, set_back}
 use Rattle.rv_step.proofs.hart.Hart.jump.Goals as goal

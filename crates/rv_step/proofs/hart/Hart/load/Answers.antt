@@ -1,5 +1,5 @@
 use Rattle.std.proofs.Common.{sym, ap, ◌∙◌}
-use Rattle.qed_model.specs.Machine.Values.{loaded, width_of}
+use Rattle.machine.specs.Values.{loaded, width_of}
 use Rattle.mem_image.specs.Access.{allowed_number}
 use Rattle.rv_step.proofs.Accesses.{load_reads, load_traps}
 use Rattle.rv_step.proofs.hart.Hart.load.Goals as goal

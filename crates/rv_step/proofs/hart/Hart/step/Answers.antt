@@ -1,7 +1,7 @@
 use Rattle.std.proofs.Common.{◌≡◌, true, sym, ap, ◌∙◌, subst, arith}
-use Rattle.qed_model.specs.Machine.Memory.{Memory}
-use Rattle.qed_model.specs.Machine.Progress.{Progress}
-use Rattle.qed_model.specs.Machine.Step.{step}
+use Rattle.machine.specs.Memory.{Memory}
+use Rattle.machine.specs.Progress.{Progress}
+use Rattle.machine.specs.Step.{step}
 use Rattle.rv_step.specs.Harts.{HartState, with_memory}
 use Rattle.rv_step.specs.Known.{at_state, goes_on, IsMade}
 use Rattle.rv_step.proofs.Running.{stays, made_none, step_made, made_counted, one_run}

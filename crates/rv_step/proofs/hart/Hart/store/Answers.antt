@@ -1,8 +1,7 @@
 use Rattle.std.proofs.Common.{◌≡◌, refl, sym, ap, ◌∙◌}
-use Rattle.rv_isa.specs.Kind.{class_of}
 use Rattle.rv_isa.specs.declared.class.Class.TheVariants.{Store}
-use Rattle.qed_model.specs.Machine.Step.{execute}
-use Rattle.qed_model.specs.Machine.Values.{width_of}
+use Rattle.machine.specs.Step.{execute, class_of}
+use Rattle.machine.specs.Values.{width_of}
 use Rattle.rv_step.specs.Known.{at_state}
 use Rattle.rv_step.specs.Harts.{with_memory}
 use Rattle.rv_step.proofs.Accesses.{store_writes, store_traps}

@@ -1,6 +1,6 @@
 use Rattle.std.proofs.Common.{ap, ◌∙◌}
-use Rattle.qed_model.specs.Machine.Step.{stopped}
-use Rattle.qed_model.specs.declared.machine.Outcome.TheVariants.{Trapped}
+use Rattle.machine.specs.Step.{stopped}
+use Rattle.machine.specs.declared.outcome.Outcome.TheVariants.{Trapped}
 use Rattle.rv_step.specs.Known.{at_state}
 use Rattle.rv_step.specs.Harts.{HartState, with_memory}
 use Rattle.rv_step.proofs.hart.Hart.trap.Goals as goal

@@ -1,6 +1,6 @@
 use Rattle.std.proofs.Common.{ap, ◌∙◌}
 use Rattle.rv_isa.specs.Regs.{set_reg}
-use Rattle.qed_model.specs.Machine.Progress.{Progress}
+use Rattle.machine.specs.Progress.{Progress}
 use Rattle.rv_step.specs.Harts.{HartState, with_memory}
 use Rattle.rv_step.proofs.hart.Hart.write_back.Goals as goal
 

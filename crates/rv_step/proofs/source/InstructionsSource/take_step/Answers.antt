@@ -1,6 +1,6 @@
 use Rattle.std.proofs.Common.{◌≡◌, sym, ap, ◌∙◌, subst}
-use Rattle.qed_model.specs.Machine.Progress.{Progress}
-use Rattle.qed_model.specs.Machine.Step.{Known, next}
+use Rattle.machine.specs.Progress.{Progress}
+use Rattle.machine.specs.Step.{Known, next}
 use Rattle.rv_step.specs.Harts.{with_memory}
 use Rattle.rv_step.specs.Known.{at_state}
 use Rattle.rv_step.specs.Windows.{IsKnown}

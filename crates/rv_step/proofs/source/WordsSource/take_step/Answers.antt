@@ -1,5 +1,5 @@
 use Rattle.std.proofs.Common.{sym, subst}
-use Rattle.qed_model.specs.Machine.Progress.{Progress}
+use Rattle.machine.specs.Progress.{Progress}
 use Rattle.rv_step.specs.Harts.{with_memory}
 use Rattle.rv_step.specs.Windows.{IsWindow}
 use Rattle.rv_step.proofs.WindowLaws.{window_acted}

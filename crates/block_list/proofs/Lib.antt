@@ -1,4 +1,0 @@
-pub mod BuiltLaws
-pub mod BodyLaws
-pub mod BlockLaws
-pub mod ExtentLaws

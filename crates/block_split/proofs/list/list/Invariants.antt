@@ -1,0 +1,8 @@
+use Rattle.machine.specs.Sets.{has_address}
+use Rattle.flow_recovery.specs.Sets.{lists}
+use Rattle.block_split.proofs.BuiltLaws.{Done}
+use Rattle.block_split.proofs.list.list.Given as goal
+
+-- the blocks so far, and the leaders that are left
+abbrev pub invariant-loop-at : goal.invariant-loop-at
+invariant-loop-at l = Done (lists l.leaders) l.every (has_address l.reached) l.options.inst_max l.words l.at l.left l.blocks.items

@@ -1,0 +1,80 @@
+//! How far the body of a block goes.
+ghost use Rattle.std.specs.Prelude.{◌≡◌, ◌≤◌, length};
+ghost use Rattle.machine.specs.Numbers.{is_at};
+ghost use Rattle.block_split.specs.Bodies.{is_behind, ends, size_behind, end_behind, body_size, body_end};
+
+use flow_recovery::is_end;
+use qed_model::CodeWord;
+use rv_isa::Ins;
+
+/// How many words a body has, and the instruction behind them that ends the block.
+#[derive(Clone, Copy)]
+pub struct Extent {
+    pub size: usize,
+    pub end: Option<Ins>,
+}
+
+/// Whether an end stands there.
+pub fn ends(word: &CodeWord) -> bool
+    ensures { result ≡ ends word.now }
+{
+    is_end(word.ins.class())
+}
+
+/// Whether there is an address, and it is this one.
+pub fn is_at(found: Option<u64>, address: u64) -> bool
+    ensures { result ≡ is_at found address }
+{
+    match found {
+        Some(it) => it == address,
+        None => false,
+    }
+}
+
+/// Whether the word stands right behind the one at `previous`, and is not at the next leader.
+fn is_behind(previous: u64, word: &CodeWord, next: Option<u64>) -> bool
+    ensures { result ≡ is_behind (is_at next) previous word.now }
+{
+    u128::from(word.at) == u128::from(previous) + 4 && !is_at(next, word.at)
+}
+
+/// What belongs to a body behind its word at `start`, of the words that follow there, before the next leader.
+fn extent_behind(start: u64, words: &[CodeWord], next: Option<u64>) -> Extent
+    ensures size { result.size ≡ size_behind (is_at next) start words.now }
+    ensures within { result.size ≤ length words.now }
+    ensures end { result.end ≡ end_behind (is_at next) start words.now }
+{
+    let mut previous = start;
+    let mut size = 0;
+    for word in words {
+        if !is_behind(previous, word, next) {
+            return Extent { size, end: None };
+        }
+        if ends(word) {
+            let end = Some(word.ins);
+            return Extent { size, end };
+        }
+        previous = word.at;
+        size += 1;
+    }
+    Extent { size, end: None }
+}
+
+/// The body of the block that begins with the first of these words, where `next` is the first leader behind it.
+pub fn body_extent(words: &[CodeWord], next: Option<u64>) -> Extent
+    requires { 1 ≤ length words.now }
+    ensures size { result.size ≡ body_size (is_at next) words.now }
+    ensures within { result.size ≤ length words.now }
+    ensures end { result.end ≡ body_end (is_at next) words.now }
+{
+    let first = words[0];
+    if ends(&first) {
+        let end = Some(first.ins);
+        return Extent { size: 0, end };
+    }
+    let more = extent_behind(first.at, &words[1..], next);
+    Extent {
+        size: more.size + 1,
+        end: more.end,
+    }
+}

@@ -1,0 +1,153 @@
+//! Copies of a machine on its way.
+ghost use Rattle.std.specs.Prelude.{◌≡◌, ◌↔◌, ◌+◌, ◌-◌, ◌*◌, ◌≤◌, IfOk, IfSome, IsNone};
+ghost use Rattle.machine.specs.Step.{run};
+ghost use Rattle.campaign.specs.Kept.{AreCopies, IsReach, copies_up_to};
+
+use rv_step::Machine;
+use std::alloc::{AllocError, Global};
+use std::marker::Model;
+
+/// How many steps are between two copies.
+pub const SPACING: u64 = 4096;
+
+/// The greatest number of steps after which an output is struck, and one more.
+const MAX_REACH: u64 = 1_000_000;
+
+/// How many copies there may be behind the first.
+const MOST: u64 = MAX_REACH / SPACING;
+
+/// A machine, copies of it after every 4,096 steps, and after how many steps it first does not go on; 1,000,000 where that is greater
+/// or there is none.
+#[derive(Drop)]
+pub struct Snapshots {
+    first: Machine,
+    later: Vec<Machine>,
+    reach: u64,
+}
+
+impl Model for Snapshots {
+    ghost use Rattle.campaign.specs.Kept.{Copied, copied_code, AreCopies};
+
+    ghost Value = { Copied };
+
+    ghost coded = { copied_code };
+
+    ghost view = { λ s. record { start = s.first.state; reach = s.reach } };
+
+    ghost invariant = { λ s. AreCopies s.first s.reach s.later.items };
+}
+
+/// The copies of a machine behind its start, and how far its run goes on. One run makes both.
+fn copies(alloc: Global, machine: &mut Machine) -> Result<(Vec<Machine>, u64), AllocError>
+    ensures { IfOk result (λ made. AreCopies machine.old made.1 made.0.items) }
+{
+    let mut later = Vec::new(alloc);
+    for number in 0..MOST {
+        let made = machine.run_made(SPACING)?;
+        if made < SPACING {
+            return Ok((later, SPACING * number + made));
+        }
+        let copied = machine.copy(alloc)?;
+        later.push(copied)?;
+    }
+    let made = machine.run_made(MAX_REACH - SPACING * MOST)?;
+    Ok((later, SPACING * MOST + made))
+}
+
+/// Has copies know what the machine that made them has decoded.
+fn learn(copies: &mut Vec<Machine>, machine: &Machine) -> Result<(), AllocError>
+    ensures { copies.new.items ≡ copies.old.items }
+{
+    for i in 0..copies.len() {
+        copies[i].learn(machine)?;
+    }
+    Ok(())
+}
+
+impl Snapshots {
+    /// A machine at its start, and its copies.
+    pub fn take(alloc: Global, first: Machine) -> Result<Snapshots, AllocError>
+        ensures { IfOk result (λ snapshots. snapshots.start ≡ first.state) }
+    {
+        let mut first = first;
+        let mut machine = first.copy(alloc)?;
+        let (mut later, reach) = copies(alloc, &mut machine)?;
+        first.learn(&machine)?;
+        learn(&mut later, &machine)?;
+        Ok(Snapshots {
+            first,
+            later,
+            reach,
+        })
+    }
+
+    /// After how many steps the machine first does not go on; 1,000,000 where that is greater or there is none.
+    pub fn reach(&self) -> u64
+        ensures value { result ≡ self.now.reach }
+        ensures reach { IsReach self.now.start result }
+    {
+        self.reach
+    }
+
+    /// The machine after 4,096 steps as often as the number says; None where there is no such copy.
+    pub fn at(&self, number: u64) -> Option<&Machine>
+        ensures none { IsNone result ↔ (copies_up_to self.now.reach ≤ number) }
+        ensures there { IfSome result (λ machine. machine.now.state ≡ run self.now.start (4096 * number)) }
+    {
+        if number == 0 {
+            return Some(&self.first);
+        }
+        self.later.get(number as usize - 1)
+    }
+
+    /// The machine after so many steps.
+    pub fn machine_at(&self, alloc: Global, steps: u64) -> Result<Machine, AllocError>
+        ensures { IfOk result (λ machine. machine.state ≡ run self.now.start steps) }
+    {
+        let number = steps.min(self.reach) / SPACING;
+        let mut machine = self.at(number).unwrap().copy(alloc)?;
+        machine.run(steps - SPACING * number)?;
+        Ok(machine)
+    }
+
+    /// Brings a machine of this run, which has made `made` steps, to where it has made `steps`: from there, or from the last copy before
+    /// that, where this takes fewer.
+    pub fn go_to(
+        &self,
+        alloc: Global,
+        machine: &mut Machine,
+        made: u64,
+        steps: u64,
+    ) -> Result<(), AllocError>
+        requires { machine.old.state ≡ run self.now.start made }
+        ensures { IfOk result (λ _. machine.new.state ≡ run self.now.start steps) }
+    {
+        if made <= steps && steps - made <= steps % SPACING {
+            machine.run(steps - made)?;
+            return Ok(());
+        }
+        *machine = self.machine_at(alloc, steps)?;
+        Ok(())
+    }
+
+    /// Brings a machine of this run on: it has made `from` steps behind the first `start`, and then has made `to`.
+    pub fn bring(
+        &self,
+        alloc: Global,
+        start: u64,
+        machine: &mut Machine,
+        from: u64,
+        to: u64,
+    ) -> Result<(), AllocError>
+        requires there { machine.old.state ≡ run self.now.start (start + from) }
+        requires order { from ≤ to }
+        ensures { IfOk result (λ _. machine.new.state ≡ run machine.old.state (to - from)) }
+    {
+        if to - from > SPACING && start <= u64::MAX - to {
+            *machine = self.machine_at(alloc, start + to)?;
+            return Ok(());
+        }
+        machine.run(to - from)?;
+        Ok(())
+    }
+}

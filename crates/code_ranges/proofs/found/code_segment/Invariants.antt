@@ -1,7 +1,0 @@
-use Rattle.std.proofs.Common.{◌≡◌, drop}
-use Rattle.qed_model.specs.Machine.Loading.{load_segments, lies_in_any}
-use Rattle.code_ranges.proofs.found.code_segment.Given as goal
-
--- the rest decides
-abbrev pub invariant-loop-segment : goal.invariant-loop-segment
-invariant-loop-segment l = lies_in_any l.section (load_segments (drop l.segment-index l.segments)) ≡ lies_in_any l.section (load_segments l.segments)

@@ -1,0 +1,90 @@
+//! What the program tells on standard error.
+
+use crate::Heard;
+use crate::answers::{advice, path, push_reason};
+use qed_io::{DirShelf, MemoryShelf, StdSink};
+use qed_words::{Name, Order, order};
+use std::alloc::{AllocError, Global};
+use std::fs;
+use std::io::{Eprint, Error, IsTerminal};
+use std::process::ExitCode;
+use std::rt::Files;
+
+/// The file that an order stores.
+fn stored(order: &Order) -> Option<&Name> {
+    match order {
+        Order::Transform(_, name, _) | Order::Gen(name, _, _) | Order::Asm(_, name) => Some(name),
+        _ => None,
+    }
+}
+
+/// That a file or a text could not be written, and the machine's reason.
+fn unwritten(
+    alloc: Global,
+    words: &[String],
+    store: Option<Error>,
+    print: Option<Error>,
+) -> Result<String, AllocError> {
+    let Ok(asked) = order(alloc, words) else {
+        return Ok(String::new(alloc));
+    };
+    let (what, reason) = match stored(&asked) {
+        Some(name) if store.is_some() => (path(alloc, name.as_str())?, store),
+        _ => (String::from_str(alloc, "standard output")?, print),
+    };
+    let mut text = format!(in alloc; "qed: {what} could not be written")?;
+    push_reason(alloc, &mut text, reason)?;
+    Ok(text)
+}
+
+/// Whether a word is the name of a pipe or a device, which may not be read once more.
+fn has_pipe<R: Files>(rt: &R, words: &[String]) -> bool {
+    for word in words {
+        if let Ok(found) = fs::metadata(rt, word.as_str()) {
+            if !found.is_file() && !found.is_dir() {
+                return true;
+            }
+        }
+    }
+    false
+}
+
+/// What is told of a call that printed this.
+fn told<R: Files + Alloc<A = Global>>(
+    rt: &R,
+    words: &[String],
+    printed: &str,
+    reason: Option<Error>,
+    on_terminal: bool,
+) -> Result<String, AllocError> {
+    let alloc = rt.alloc();
+    if has_pipe(rt, words) {
+        let mut none = MemoryShelf::new(alloc);
+        return advice(alloc, words, printed, reason, on_terminal, &mut none);
+    }
+    let mut files = DirShelf::new(alloc, rt);
+    advice(alloc, words, printed, reason, on_terminal, &mut files)
+}
+
+/// Tells on standard error why a call with these words, which ended with this code, did not do what it is for, by what it
+/// printed and by the machine's reasons, of files and of standard output. That nothing can be told changes nothing.
+pub fn complain<R: Files + Print + Alloc<A = Global>, E: Eprint + IsTerminal>(
+    rt: &R,
+    err: &E,
+    words: &[String],
+    code: &ExitCode,
+    reason: Option<Error>,
+    out: &Heard<StdSink<'_, R>>,
+) {
+    let alloc = rt.alloc();
+    let text = if *code == ExitCode::from(6) {
+        unwritten(alloc, words, reason, out.sink.last_error)
+    } else if *code == ExitCode::from(7) {
+        String::from_str(alloc, "qed: there was no memory\n")
+    } else {
+        told(rt, words, out.text(), reason, err.is_terminal())
+    };
+    if let Ok(text) = text {
+        let _ = err.eprint(text);
+    }
+}

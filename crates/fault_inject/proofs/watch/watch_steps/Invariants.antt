@@ -1,0 +1,13 @@
+use Rattle.std.proofs.Common.{◌≡◌}
+use Rattle.machine.specs.Progress.{progress}
+use Rattle.machine.specs.Sets.{has_address}
+use Rattle.fault_inject.specs.Astray.{first_jump}
+use Rattle.fault_inject.proofs.Straying.{states}
+use Rattle.fault_inject.proofs.watch.watch_steps.Given as goal
+
+-- so many steps were made, and what was found is the first of them
+abbrev pub invariant-loop-made : goal.invariant-loop-made
+invariant-loop-made l = record {
+  made : l.machine ≡ progress l.initial.machine l.made;
+  astray : l.found ≡ first_jump (has_address l.reached) (states l.initial.machine) l.made;
+}

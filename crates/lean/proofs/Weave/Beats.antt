@@ -1,0 +1,213 @@
+-- The trace of the lean form: its boundaries are the calls of the check.
+use Rattle.std.proofs.Common.{◌≡◌, ℕ, ◌+◌, ◌<◌, ◌≤◌, ◌⊎◌, inl, inr, ⊎_elim, Bool, true, List, sym, ap, ◌∙◌, subst, arith, cond}
+use Rattle.tests.specs.Admission.DataRanges.{word_count, word_address}
+use Rattle.qed_model.specs.Promise.Kept.{after_input, after_output, IsSteady, Steady}
+use Rattle.qed_model.specs.Weave.Bounds.{entry_steps}
+use Rattle.qed_model.specs.Weave.Sequences.{Reads}
+use Rattle.qed_model.specs.Weave.Lean.{first_word, begin}
+use Rattle.qed_model.specs.Weave.LeanCode.{Lean}
+use Rattle.machine.proofs.Lemmas.{run-more, walk_on}
+use Rattle.weave_core.specs.World.{World, Quiet, IsCursor, Going, Ended, Program, start, zeros, AreStartRegs, State, run}
+use Rattle.weave_core.specs.Describes.{Describes}
+use Rattle.weave_core.specs.Blocks.{IsEntryOf}
+use Rattle.weave_core.specs.Rows.{Sourced}
+use Rattle.weave_core.specs.Kinds.{originals}
+use Rattle.weave_core.specs.Lock.{ComparesFrom}
+use Rattle.weave_core.specs.Leaving.{sweep_cost}
+use Rattle.weave_core.specs.WeaveLaws.{EntriesAt, Swept}
+use Rattle.weave_core.proofs.Lemmas.{first_sourced, steady_le, steady_rest, words_within}
+use Rattle.lockstep.proofs.Lemmas.{AtNumber, placed, round_of, round_on, Sizes, NextSteps, PieceSteps, EndsSoon, Trace, SweptEnd, ToEnd, LastBoundary, to_end, Numbered, next_numbered, visits_in, swept_is}
+use Rattle.lean.specs.Woven.{weave_of, LeanIn, check_steps, swept_steps, owed}
+use Rattle.lean.proofs.Weave.Begin.{begin_law, first_is}
+use Rattle.lean.proofs.Weave.Cells.{Counts, Called, Finished, Begins, called, ahead, to_check}
+use Rattle.lean.proofs.Weave.Check.{Back}
+use Rattle.lean.proofs.Weave.Costs.{entry_some}
+use Rattle.lean.proofs.Weave.End.{Sweeps, swept_on}
+use Rattle.lean.proofs.Weave.Left.{lean_rows}
+use Rattle.lean.proofs.Weave.Rows.{AtCheck, checks}
+
+module _ (f g : Program) (w : World) (l : Lean) (leader : ℕ → Bool) (x : LeanIn w l leader) (of : Describes f g w) (entries : EntriesAt w (weave_of w l leader) leader) (counts : Counts w l leader entries) (leads : leader f.entry ≡ true) (ticked : l.ticks f.entry ≡ true) (begins : Reads w.form.far w.code w.entry g.entry (begin w.distance f.entry)) where
+  -- from a call of the check to the next, to behind its comparison with four steps left, and what runs before the end besides
+  abbrev pub sizes : Sizes
+  sizes = record { piece = check_steps w + (l.every + entry_steps l.land); check = 31; last = 2 + swept_steps w; words = word_count w.form.spans; round = round_of (word_count w.form.spans) w.form.round }
+
+  abbrev nth : ℕ → ℕ
+  nth i = word_address w.form.spans i
+
+  -- each leader has an entry on the grain
+  blocks : (a : ℕ) → leader a ≡ true → IsEntryOf w a
+  blocks a h = (lean_rows w l leader x).known a (entries a h)
+
+  module _ (regs : List ℕ) (are : AreStartRegs regs) where
+    -- the check is called, with the number of the next word
+    pub record Bound (p i : ℕ) : Type 0 where
+      pub moves : ℕ
+      pub slow : moves ≤ p
+      pub offset : ℕ
+      pub here : AtCheck w l leader x (after_output g regs p) (after_input f moves) offset
+      pub sourced : Sourced w (after_input f moves)
+      pub at : AtNumber w.form.spans i (first_word w.base w.form.spans + offset)
+
+    -- ---- from a boundary
+    module _ (p i : ℕ) (b : Bound p i) where
+      abbrev u : State
+      u = after_output g regs p
+
+      abbrev s : State
+      s = after_input f b.moves
+
+      -- back at the entry
+      back : Back w leader (after_output g regs p) (after_input f b.moves) (after_input f b.moves).pc b.offset l.every w.form.round
+      back = checks w l leader x u s b.offset b.here
+
+      there : (n : ℕ) → run (start g regs) (p + n) ≡ run (after_output g regs p) n
+      there n = run-more (start g regs) p n
+
+      -- to the next call
+      next_at : Called w l leader x blocks back.to (after_input f b.moves) back.next (l.every + entry_steps l.land) → NextSteps w.code (start g regs) sizes (λ i. word_address w.form.spans i) Bound p i
+      next_at c =
+          let n = back.steps + c.steps in
+          let to : run (after_output g regs p) (back.steps + c.steps) ≡ c.to = (walk_on (Quiet w) u back.to c.to back.steps c.steps back.walk c.walk).ends in
+          record {
+            length = back.steps + c.steps;
+            some = omega (arith, back.some);
+            short = omega (arith, back.within, c.within);
+            visits = λ j h. visits_in g w regs p back.steps (back.steps + c.steps) w.form.round i j (first_word w.base w.form.spans + b.offset) (omega arith) (λ k l. ap (λ s. s.outcome) (there k) ∙ (back.walk.each k l).going) back.visits b.at h;
+            next = record {
+              moves = b.moves + c.moves;
+              slow = omega (arith, b.slow, c.slow);
+              offset = back.next;
+              here = subst (λ y. AtCheck w l leader x y (after_input f (b.moves + c.moves)) back.next) (sym (there (back.steps + c.steps) ∙ to)) (subst (λ t. AtCheck w l leader x c.to t back.next) (sym (run-more (start f zeros) b.moves c.moves)) c.is);
+              sourced = subst (Sourced w) (sym (run-more (start f zeros) b.moves c.moves)) c.sourced;
+              at = round_on w w.form.round i (first_word w.base w.form.spans + b.offset) (first_word w.base w.form.spans + back.next) back.word b.at;
+            };
+          }
+
+      -- or to the end
+      ends_at : Finished w l leader x blocks back.to l.every → EndsSoon (start g regs) p (check_steps w + (l.every + entry_steps l.land) + (2 + swept_steps w))
+      ends_at e =
+          let to = (walk_on (Quiet w) u back.to e.to back.steps e.steps back.walk e.walk).ends in
+          record { at = back.steps + e.steps; room = omega (arith, back.within, e.within, entry_some l.land); ended = ap (λ s. s.outcome) (there (back.steps + e.steps) ∙ to) ∙ e.ended }
+
+      -- to the one or the other, where the input is steady
+      onward_at : (h : ℕ) → p + (l.every + 3) ≤ h → Steady f w.reached h → Called w l leader x blocks back.to s back.next (l.every + entry_steps l.land) ⊎ Finished w l leader x blocks back.to l.every
+      onward_at h le steady =
+          let c : IsSteady w.reached (after_input f b.moves) (l.every + 3) = steady_rest w.reached (start f zeros) b.moves (l.every + 3) (steady_le w.reached (start f zeros) (b.moves + (l.every + 3)) h (omega (arith, b.slow, le)) steady) in
+          subst (λ n. Called w l leader x blocks back.to s back.next (n + entry_steps l.land) ⊎ Finished w l leader x blocks back.to n) none (to_check w l leader x blocks entries counts (ahead w l leader x blocks entries counts s l.every) back.to s l.every back.next (omega arith) (record {
+            stands = back.stands;
+            sourced = b.sourced;
+            some = x.some;
+            most = omega arith;
+            fifteen = back.counter;
+            few = back.few;
+            sign = back.sign;
+            cursor = subst (IsCursor w.form.spans) (sym back.word) (words_within w.form.spans w.base w.form.round (first_word w.base w.form.spans + b.offset) w.spans_good b.here.cursor);
+          }) (subst (λ n. IsSteady w.reached s (n + 3)) (sym none) c)) where
+            none : l.every + owed l s.pc ≡ l.every
+            none = ap (λ t. l.every + cond {A = ℕ} t 0 (l.most s.pc)) b.here.ticked ∙ zero_behind l.every where
+              zero_behind : (n : ℕ) → n + 0 ≡ n
+              zero_behind n = omega arith
+
+      -- with one comparison
+      piece_at : (h : ℕ) → Steady f w.reached h → PieceSteps w.code (start g regs) sizes (λ i. word_address w.form.spans i) h Bound p i
+      piece_at h steady =
+          let e = run-more (start g regs) p 14 in
+          record {
+            compare = 14;
+            room = omega arith;
+            at = record { going = ap (λ s. s.outcome) e ∙ (back.walk.each 14 (omega (arith, back.some))).going; words = subst (λ s. ComparesFrom w.code s.pc originals) (sym e) back.compares };
+            on = λ le. ⊎_elim (λ d. inl (next_at d)) (λ d. inr (ends_at d)) (onward_at h (omega (arith, le)) steady);
+          }
+
+      -- the end, with its sweep
+      closing_at : Finished w l leader x blocks back.to l.every → ToEnd (start g regs) (λ q n. Sweeps w (after_output g regs q) n) p
+      closing_at d =
+          let walk = walk_on (Quiet w) u back.to d.to back.steps d.steps back.walk d.walk in
+          record {
+            steps = back.steps + d.steps;
+            going = λ k h. ap (λ y. y.outcome) (there k) ∙ (walk.each k h).going;
+            ended = ap (λ y. y.outcome) (there (back.steps + d.steps) ∙ walk.ends) ∙ d.ended;
+            last = swept_on w u back.to back.steps d.steps back.walk d.swept;
+          }
+
+    -- ---- from the first word
+    -- a tick counts a step
+    tick_some : (a : ℕ) → leader a ≡ true → 1 ≤ l.most a
+    tick_some a h = let c = (counts.each a h).0 in omega (arith, c, entry_some l.land)
+
+    record First : Type 0 where
+      steps : ℕ
+      within : steps ≤ 32 + entry_steps l.land
+      index : ℕ
+      bound : Bound steps index
+
+    -- the first tick calls the check
+    first_call : First
+    first_call =
+        let entry = blocks f.entry leads in
+        let y = begin_law f g w l leader x of entry leads begins regs are in
+        let s0 = start f zeros in
+        let b : Begins w l leader x blocks y.to s0 1 0 = record {
+          stands = y.is.0;
+          sourced = first_sourced f g w of;
+          some = omega arith;
+          most = x.some;
+          fifteen = y.is.1;
+          few = omega arith;
+          sign = y.is.2;
+          cursor = first_is w.base w.form.spans w.spans_good;
+        } in
+        let c = called w l leader x blocks entries counts y.to s0 1 0 b ticked (fewer (l.most f.entry) l.every (x.ticks f.entry leads) x.few) (tick_some f.entry leads) (1 + entry_steps l.land) (omega arith) in
+        let walk = walk_on (Quiet w) (start g regs) y.to c.to y.steps c.steps y.walk c.walk in
+        let n = placed w (first_word w.base w.form.spans + 0) (first_is w.base w.form.spans w.spans_good) in
+        record {
+          steps = y.steps + c.steps;
+          within = omega (arith, y.within, c.within);
+          index = n.index;
+          bound = record {
+            moves = c.moves;
+            slow = omega (arith, c.slow);
+            offset = 0;
+            here = subst (λ z. AtCheck w l leader x z (after_input f c.moves) 0) (sym walk.ends) c.is;
+            sourced = c.sourced;
+            at = n.at;
+          };
+        } where
+          fewer : (m n : ℕ) → m < n → n ≤ 2048 → m ≤ 2048
+          fewer m n h k = omega (arith, h, k)
+
+    -- the trace up to a number of steps in which the input is steady
+    pub traced : (h : ℕ) → Steady f w.reached h → Trace w.code (start g regs) sizes (λ i. word_address w.form.spans i) (32 + entry_steps l.land) h Bound
+    traced h steady =
+        let first = first_call in
+        record {
+          first = first.steps;
+          soon = first.within;
+          cursor = first.index;
+          start = first.bound;
+          inside = λ p i b. ⊎_elim (λ y. inl y.0) (λ z. inr z) b.at;
+          goes_on = λ p i b le. inl (piece_at p i b h steady);
+        }
+
+    -- ---- the end of a test with the sweep
+    pub swept_end :
+        (e : ℕ) → ((h : ℕ) → Steady f w.reached h) → w.form.sweep ≡ true → (after_output g regs e).outcome ≡ Ended → ((k : ℕ) → k < e → (after_output g regs k).outcome ≡ Going)
+        → SweptEnd w g regs (sweep_cost w.form.spans) e
+    swept_end e steady sw end before = swept reached where
+      reached : LastBoundary (λ q n. Sweeps w (after_output g regs q) n) e
+      reached =
+          let first = first_call in
+          to_end (start g regs) e end before (Numbered Bound) (λ q n. Sweeps w (after_output g regs q) n)
+          (λ p b. b.bound.here.over.going)
+          (λ p b.
+          ⊎_elim
+          (λ c. inl (next_numbered w.code (start g regs) sizes nth Bound p b.index (next_at p b.index b.bound c)))
+          (λ d. inr (closing_at p b.index b.bound d))
+          (onward_at p b.index b.bound (p + (l.every + 3)) (omega arith) (steady (p + (l.every + 3)))))
+          e first.steps (omega arith) (record { index = first.index; bound = first.bound })
+
+      swept : LastBoundary (λ q n. Sweeps w (after_output g regs q) n) e → SweptEnd w g regs (sweep_cost w.form.spans) e
+      swept r =
+          let y = r.last sw in
+          let there : after_output g regs (r.from + y.from) ≡ run (after_output g regs r.from) y.from = run-more (start g regs) r.from y.from in
+          swept_is g w regs (sweep_cost w.form.spans) (r.from + y.from) y.rest e (subst (λ z. Swept w (sweep_cost w.form.spans) z y.rest) (sym there) y.swept) (omega (arith, y.sum, r.is)) before

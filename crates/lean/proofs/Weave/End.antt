@@ -1,0 +1,114 @@
+-- The leave of an ECALL: all registers and the signature are compared, with the sweep all data words and once more all registers, and the test ends.
+use Rattle.std.proofs.Common.{◌≡◌, ℕ, ◌+◌, ◌*◌, ◌%◌, ◌^◌, ◌<◌, ◌≤◌, ⊎_elim, Bool, true, false, cond, List, [], ◌∷◌, ◌++◌, length, refl, sym, ap, ◌∙◌, subst, arith}
+use Rattle.std.proofs.lemmas.Bool.{false≢true, cases_Bool}
+use Rattle.std.proofs.lemmas.List.{append-nil}
+use Rattle.rv_isa.specs.declared.kind.Kind.{Kind}
+use Rattle.rv_isa.specs.declared.kind.Kind.TheVariants.{Ebreak}
+use Rattle.rv_isa.specs.declared.class.Class.TheVariants as class
+use Rattle.tests.specs.Admission.DataRanges.{word_count}
+use Rattle.qed_model.specs.Weave.Bounds.{end_bound}
+use Rattle.qed_model.specs.Weave.Sequences.{compare, sweep, before_end, ORIGINALS, SIGNATURE}
+use Rattle.qed_model.specs.Weave.Lean.{check_sign, leave_as, is_break, cost}
+use Rattle.machine.proofs.Lemmas.{over_moved, known_at, run-more, Walk, walk_on}
+use Rattle.weave_core.specs.World.{World, Quiet, Twice, Item, Plain, Ended, State, reg, moved, stopped, Known, step, run, Ins, class_of}
+use Rattle.weave_core.specs.Kinds.{originals}
+use Rattle.weave_core.specs.Rows.{At, Sourced}
+use Rattle.weave_core.specs.Leaving.{swept_end, sweep_cost}
+use Rattle.weave_core.specs.WeaveLaws.{Holds, GoesTo, Ends, Swept}
+use Rattle.weave_core.proofs.Lemmas.{own_pair, guards_pass, quiet_sweep, step-end, end_walk, writes, halved_writes, none_run, all_small}
+use Rattle.lean.specs.Woven.{swept_steps}
+use Rattle.lean.proofs.Weave.Chain.{all_temps}
+use Rattle.lean.proofs.Weave.Sign.{rest_of, tested, passes, same_bits}
+
+-- an ECALL is no EBREAK
+break_is : (k : Kind) → is_break k ≡ true → class_of k ≡ class.Break
+break_is Ebreak e = refl
+break_is k e = absurd (false≢true e)
+
+no_break : (k : Kind) → class_of k ≡ class.End → is_break k ≡ false
+no_break k c = ⊎_elim (λ e. let x : class.Break ≡ class.End = sym (break_is k e) ∙ c in absurd (cc)) (λ e. e) (cases_Bool (is_break k))
+
+-- states that ended have the values
+ended_holds : (w : World) (u s : State) → Twice w u s s → Holds w (stopped Ended u) (stopped Ended s)
+ended_holds w u s t = record { output = record { flags = t.output.flags; regs = t.output.regs; zero_reg = t.output.zero_reg }; originals = t.originals; bytes = t.bytes }
+
+-- ---- the sweep
+-- with some steps before it the end with the sweep is what is left of n steps
+pub record SweptAfter (w : World) (u : State) (n : ℕ) : Type 0 where
+  pub from : ℕ
+  pub rest : ℕ
+  pub sum : from + rest ≡ n
+  pub swept : Swept w (sweep_cost w.form.spans) (run u from) rest
+
+-- where there is a sweep
+abbrev pub Sweeps : World → State → ℕ → Type 0
+Sweeps w u n = w.form.sweep ≡ true → SweptAfter w u n
+
+-- behind a walk
+pub swept_on : (w : World) (u y : State) (m n : ℕ) → Walk (Quiet w) u m y → Sweeps w y n → Sweeps w u (m + n)
+swept_on w u y m n a s h =
+    let x = s h in
+    let same : run u (m + x.from) ≡ run y x.from = run-more u m x.from ∙ ap (λ z. run z x.from) a.ends in
+    record { from = m + x.from; rest = x.rest; sum = omega (arith, x.sum); swept = subst (λ z. Swept w (sweep_cost w.form.spans) z x.rest) (sym same) x.swept }
+
+-- from behind the signature to the end
+end_rest :
+    (w : World) (u s : State) (i : Ins) → At w u (before_end w.form ++ (Plain i ∷ [])) s s → Sourced w s → w.source s.pc ≡ Known i → class_of i.kind ≡ class.End
+    → GoesTo w u 1 (1 + swept_steps w) (λ n x. Ends w (step s) x × Sweeps w u n)
+end_rest w u s i at so h c = by w.form.sweep refl at where
+  e : step s ≡ stopped Ended s
+  e = step-end s i so.over.going (known_at w.source s i so.over h) c
+
+  input : (step s).outcome ≡ Ended
+  input = ap (λ x. x.outcome) e
+
+  by : (b : Bool) → w.form.sweep ≡ b → At w u (cond b (sweep w.form.spans ++ compare) [] ++ (Plain i ∷ [])) s s → GoesTo w u 1 (1 + swept_steps w) (λ n x. Ends w (step s) x × Sweeps w u n)
+  by true is a =
+      let a1 : At w u (swept_end w.form.spans i ++ []) s s = subst (λ l. At w u l s s) (sym (append-nil (swept_end w.form.spans i))) a in
+      let x = (quiet_sweep w.form.spans i c).leads w (record { now = u; original = s; shadow = s; leads = λ t. false }) [] tt a1 (record { same = refl; spans_are = refl }) in
+      let high : x.steps ≤ end_bound w.form.sweep (length w.form.spans) (word_count w.form.spans) = subst (λ b. x.steps ≤ end_bound b (length w.form.spans) (word_count w.form.spans)) (sym is) x.within in
+      ⊎_elim
+      (λ f. absurd f.1)
+      (λ l.
+      let has : Holds w x.to.now (stopped Ended s) = record { output = l.holds.output; originals = l.holds.originals; bytes = l.holds.bytes } in
+      record {
+        steps = x.steps;
+        to = x.to.now;
+        at_least = omega (arith, l.swept.exact);
+        within = omega (arith, high);
+        walk = x.walk;
+        is = (record { ended = l.ended; holds = subst (Holds w x.to.now) (sym e) has; input = input }, λ sw. record { from = 0; rest = x.steps; sum = omega arith; swept = subst (λ z. Swept w (sweep_cost w.form.spans) z x.steps) (sym (none_run u)) l.swept });
+      })
+      x.ends
+  by false is a = record {
+    steps = 1;
+    to = stopped Ended u;
+    at_least = omega arith;
+    within = omega arith;
+    walk = end_walk w u i a.over a.reads.0 c;
+    is = (record { ended = refl; holds = subst (Holds w (stopped Ended u)) (sym e) (ended_holds w u s a.halved); input = input }, λ sw. absurd (false≢true (sym is ∙ sw)));
+  }
+
+module _ (w : World) (u s : State) (i : Ins) (fall : ℕ → List Item) (a off : ℕ) (at : At w u (leave_as (before_end w.form) fall class.End i a s.pc) s s) (so : Sourced w s) (low : a < 2 ^ 64) (few : off < 2 ^ 32) (sign : reg u SIGNATURE ≡ (a + off * 2 ^ 32) % 2 ^ 64) where
+  pub end_leave : w.source s.pc ≡ Known i → class_of i.kind ≡ class.End → GoesTo w u 1 (cost (leave_as [] fall class.End i a s.pc) + swept_steps w) (λ n x. Ends w (step s) x × Sweeps w u n)
+  end_leave h c =
+      let t = at.halved in
+      let last = before_end w.form ++ (Plain i ∷ []) in
+      let s1 = guards_pass w originals u (check_sign a ++ last) at.over (λ q one m. own_pair w u s q t m one) (all_small w) at.reads in
+      let x1 = moved u.regs s1.pc u in
+      let o1 = over_moved w.code u u.regs s1.pc at.over in
+      let same : rest_of a (reg x1 SIGNATURE) ≡ 0 = ap (rest_of a) sign ∙ same_bits a off low few in
+      let s2 = passes w x1 a last low o1 t.output.regs t.output.zero_reg s1.reads same in
+      let ws = tested a (reg u SIGNATURE) in
+      let x2 = moved (writes ws u.regs) (s1.pc + 24) u in
+      let r = end_rest w x2 s i (record { over = over_moved w.code u (writes ws u.regs) (s1.pc + 24) at.over; reads = s2.reads; halved = halved_writes w u s s ws (s1.pc + 24) (all_temps ws refl) t }) so h c in
+      let walk : Walk (Quiet w) u 18 x2 = walk_on (Quiet w) u x1 x2 ORIGINALS 5 s1.walk s2.walk in
+      let one : cond {A = ℕ} (is_break i.kind) 0 1 ≡ 1 = ap (λ b. cond {A = ℕ} b 0 1) (no_break i.kind c) in
+      record {
+        steps = 18 + r.steps;
+        to = r.to;
+        at_least = omega arith;
+        within = omega (arith, one, r.within);
+        walk = walk_on (Quiet w) u x2 r.to 18 r.steps walk r.walk;
+        is = (r.is.0, swept_on w u x2 18 r.steps walk r.is.1);
+      }

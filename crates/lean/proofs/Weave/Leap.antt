@@ -1,0 +1,213 @@
+-- The leave of a JALR: the pair turns the signature, the guarded original is looked up in the table.
+use Rattle.std.proofs.Common.{◌≡◌, ℕ, zero, suc, ◌+◌, ◌-◌, ◌*◌, ◌/◌, ◌%◌, ◌^◌, ◌<◌, ◌≤◌, inl, inr, ⊎_elim, Bool, true, List, [], ◌∷◌, ◌++◌, length, refl, sym, ap, ◌∙◌, subst, arith}
+use Rattle.std.specs.Prelude.{pos, neg_ℤ}
+use Rattle.rv_isa.specs.declared.class.Class.TheVariants as class
+use Rattle.machine.specs.Table.{ins, Ins, Add, Addi, Andi, Sub}
+use Rattle.qed_model.specs.Promise.Kept.{NotTrapped}
+use Rattle.qed_model.specs.Weave.Sequences.{Reads, guard, links, LAST_ORIGINAL, CURSOR, SIGNATURE, TEMPORARY, pair}
+use Rattle.qed_model.specs.Weave.Lean.{look_up, leave_as, cost}
+use Rattle.qed_model.specs.Weave.LeanCode.{fall_to}
+use Rattle.machine.proofs.Lemmas.{Over, over_moved, Walk, walk_none, walk_on}
+use Rattle.weave_core.specs.World.{World, Quiet, Twice, Item, Plain, State, reg, moved, imm, next_pc, Known, step, class_of, set_reg}
+use Rattle.weave_core.specs.Blocks.{IsEntryOf, Goes, TableAt}
+use Rattle.weave_core.specs.Rows.{At, Sourced}
+use Rattle.weave_core.specs.WeaveLaws.{lands, is_lost}
+use Rattle.weave_core.proofs.Lemmas.{own_pair, aim, Leaps, leap_step, addi_value, andi_value, linked, linked_out, links_sets, leap_there, halved_original, halved_pair, halved_moved, pair_value, Sets, writes, halved_writes, add_result}
+use Rattle.lean.proofs.Weave.Chain.{Op, plain, constant, effects, Gives, read_back, all_temps, chain, cost_append}
+use Rattle.lean.proofs.Weave.Check.{sub_value}
+use Rattle.lean.proofs.Weave.Leave.{Went, guard_cost, linking, link_words}
+
+-- taking the block's address away leaves the target and the offset
+leaves_target : (a k x y : ℕ) → a % 2 ≡ 0 → k % 2 ≡ 0 → a < 2 ^ 64 → ((((a + k) % 2 ^ 64 + x) % 2 ^ 64 + y) % 2 ^ 64 / 2 * 2 + (2 ^ 64 - a)) % 2 ^ 64 ≡ ((x + y) % 2 ^ 64 / 2 * 2 + k) % 2 ^ 64
+leaves_target a k x y ea ek low = omega (arith, ea, ek, low)
+
+-- ---- the words of the leave, in the block at a, for an offset of the signature and a value of the register
+module _ (i : Ins) (a k value : ℕ) where
+  abbrev pub sum : ℕ
+  sum = (value + imm i) % 2 ^ 64
+
+  -- the signature on the way
+  abbrev v1 : ℕ
+  v1 = ((a + k) % 2 ^ 64 + value) % 2 ^ 64
+
+  abbrev v2 : ℕ
+  v2 = (v1 + imm i) % 2 ^ 64
+
+  abbrev pub signed : ℕ
+  signed = (sum / 2 * 2 + k) % 2 ^ 64
+
+  abbrev pub turn_ops : List Op
+  turn_ops =
+      plain (ins Add SIGNATURE SIGNATURE (pair i.rs1) (pos 0)) v1 ∷ plain (ins Addi SIGNATURE SIGNATURE 0 i.imm) v2 ∷ plain (ins Andi SIGNATURE SIGNATURE 0 (neg_ℤ (pos 2))) (v2 / 2 * 2) ∷ constant 30 a ∷
+      plain (ins Sub SIGNATURE SIGNATURE TEMPORARY (pos 0)) signed ∷ []
+
+  pub turn_gives : (u : State) → length u.regs ≡ 32 → reg u SIGNATURE ≡ (a + k) % 2 ^ 64 → reg u (pair i.rs1) ≡ value → a < 2 ^ 64 → a % 2 ≡ 0 → k % 2 ≡ 0 → Gives u u.regs turn_ops
+  turn_gives u long sign is low even offset =
+      let l = u.regs in
+      let e1 : List (ℕ × ℕ) = (16, v1) ∷ [] in
+      let e2 : List (ℕ × ℕ) = (16, v1) ∷ (16, v2) ∷ [] in
+      let e4 : List (ℕ × ℕ) = (16, v1) ∷ (16, v2) ∷ (16, v2 / 2 * 2) ∷ (30, a) ∷ [] in (
+        refl,
+        λ e. absurd (cc),
+        λ p. add_result (moved l p u) 16 16 (pair i.rs1) ((a + k) % 2 ^ 64) value v1 sign is refl,
+        (
+          refl,
+          λ e. absurd (cc),
+          λ p. addi_value (moved (writes e1 l) p u) 16 16 v1 v2 i.imm (read_back e1 l 16 long refl) refl,
+          (
+            refl,
+            λ e. absurd (cc),
+            λ p. andi_value (moved (writes e2 l) p u) 16 v2 (read_back e2 l 16 long refl) (omega arith),
+            (
+              low,
+              omega arith,
+              refl,
+              (
+                refl,
+                λ e. absurd (cc),
+                λ p. sub_value (moved (writes e4 l) p u) 16 16 30 (v2 / 2 * 2) a signed (read_back e4 l 16 long refl) (read_back e4 l 30 long refl) (leaves_target a k value (imm i) even offset low),
+                tt,
+              ),
+            ),
+          ),
+        ),
+      )
+
+  -- ---- the target
+  abbrev pub aim_ops : List Op
+  aim_ops = plain (ins Addi TEMPORARY i.rs1 0 i.imm) sum ∷ plain (ins Andi TEMPORARY TEMPORARY 0 (neg_ℤ (pos 2))) (sum / 2 * 2) ∷ []
+
+  pub aim_gives : (y : State) → length y.regs ≡ 32 → reg y i.rs1 ≡ value → Gives y y.regs aim_ops
+  aim_gives y long at1 =
+      let l = y.regs in
+      let e1 : List (ℕ × ℕ) = (30, sum) ∷ [] in (
+        refl,
+        λ e. absurd (cc),
+        λ p. addi_value (moved l p y) 30 i.rs1 value sum i.imm at1 refl,
+        (
+          refl,
+          λ e. absurd (cc),
+          λ p. andi_value (moved (writes e1 l) p y) 30 sum (read_back e1 l 30 long refl) (omega arith),
+          tt,
+        ),
+      )
+
+module _ (w : World) (leader : ℕ → Bool) (entries : (a : ℕ) → leader a ≡ true → IsEntryOf w a) where
+  -- what is asked of a JALR of the input
+  pub record Leaping (u s : State) (i : Ins) (a k : ℕ) : Type 0 where
+    pub at : At w u (leave_as [] (fall_to leader) class.JumpReg i a s.pc) s s
+    pub sourced : Sourced w s
+    pub first : i.rs1 ≤ LAST_ORIGINAL
+    pub link : i.rd ≤ LAST_ORIGINAL
+    pub there : Goes w leader (aim s i)
+    pub table : leader (aim s i) ≡ true → TableAt w (aim s i)
+    pub low : a < 2 ^ 64
+    pub even : a % 2 ≡ 0
+    pub offset : k % 2 ≡ 0
+    pub sign : reg u SIGNATURE ≡ (a + k) % 2 ^ 64
+
+  module _ (u s : State) (i : Ins) (a k : ℕ) (x : Leaping u s i a k) where
+    -- the register
+    abbrev value : ℕ
+    value = reg s i.rs1
+
+    -- before the look-up
+    record Aimed : Type 0 where
+      steps : ℕ
+      to : State
+      some : 1 ≤ steps
+      within : steps ≤ 6 + (cost (guard i.rs1) + (2 + cost (links i s.pc)))
+      walk : Walk (Quiet w) u steps to
+      at : At w to look_up (step s) (step s)
+      target : reg to TEMPORARY ≡ aim s i
+      sign : reg to SIGNATURE ≡ signed i a k value
+      keeps : reg to CURSOR ≡ reg u CURSOR
+
+    -- the words of a return address, with their exact steps
+    links_cost :
+        (r v : ℕ) (y : State) (rest : List Item) → Over w.code y → Reads w.form.far w.code w.entry y.pc (linking w r v ++ rest) → v < 2 ^ 64 → r ≤ LAST_ORIGINAL → length y.regs ≡ 32
+        → (n : ℕ) × (n ≤ cost (linking w r v)) × Sets w y n rest (linked r v y.regs)
+    links_cost zero v y rest o h hv hr long = (0, omega arith, record { pc = y.pc; walk = walk_none (Quiet w) y; reads = h })
+    links_cost (suc r) v y rest o h hv hr long =
+        let l = links_sets w (suc r) v y rest o h hv hr long in
+        let few = link_words w r v in
+        (l.steps, omega (arith, l.within, few), l.sets)
+
+    aimed : Leaps w s i → Aimed
+    aimed lp =
+        let h = x.at.halved in
+        let long = h.output.regs in
+        let v = next_pc s in
+        let tail3 = links i s.pc ++ look_up in
+        let tail2 = Plain (ins Addi TEMPORARY i.rs1 0 i.imm) ∷ Plain (ins Andi TEMPORARY TEMPORARY 0 (neg_ℤ (pos 2))) ∷ tail3 in
+        let turns = turn_ops i a k value in
+        let aims = aim_ops i a k value in
+        let pairs = pair_value w u s s i.rs1 x.at.halved x.first in
+        let s1 = chain w u (guard i.rs1 ++ tail2) x.at.over turns long (turn_gives i a k value u long x.sign pairs x.low x.even x.offset) x.at.reads in
+        let w1 = effects turns in
+        let l1 = writes w1 u.regs in
+        let x1 = moved l1 s1.pc u in
+        let o1 = over_moved w.code u l1 s1.pc x.at.over in
+        let h1 = halved_writes w u s s w1 s1.pc (all_temps w1 refl) h in
+        let g = guard_cost w x1 i.rs1 tail2 o1 s1.reads (own_pair w x1 s i.rs1 h1 x.first) in
+        let x2 = moved l1 g.pc u in
+        let o2 = over_moved w.code u l1 g.pc x.at.over in
+        let h2 = halved_moved w x1 s s g.pc h1 in
+        let s3 = chain w x2 tail3 o2 aims h2.output.regs (aim_gives i a k value x2 h2.output.regs (h2.originals i.rs1 x.first)) g.reads in
+        let w3 = effects aims in
+        let l3 = writes w3 l1 in
+        let x3 = moved l3 s3.pc u in
+        let o3 = over_moved w.code u l3 s3.pc x.at.over in
+        let h3 = halved_writes w x2 s s w3 s3.pc (all_temps w3 refl) h2 in
+        let l4 = links_cost i.rd v x3 look_up o3 s3.reads (omega arith) x.link h3.output.regs in
+        let regs = linked i.rd v l3 in
+        let z = moved regs l4.2.pc u in
+        let h4 : Twice w (moved (set_reg i.rd v l3) s3.pc u) (moved (set_reg i.rd v s.regs) (aim s i) s) s = halved_original w x3 s s i.rd v s3.pc (aim s i) x.link h3 in
+        let h5 : Twice w z (moved (set_reg i.rd v s.regs) (aim s i) s) (moved (set_reg i.rd v s.regs) (aim s i) s) = halved_pair w (moved (set_reg i.rd v l3) s3.pc u) (moved (set_reg i.rd v s.regs) (aim s i) s) s i.rd v l4.2.pc (aim s i) x.link h4 in
+        let long1 = h1.output.regs in
+        record {
+          steps = 6 + (g.steps + (2 + l4.0));
+          to = z;
+          some = omega arith;
+          within = add_up g.steps (cost (guard i.rs1)) l4.0 (cost (links i s.pc)) g.within l4.1;
+          walk = walk_on (Quiet w) u x1 z 6 (g.steps + (2 + l4.0)) s1.walk (walk_on (Quiet w) x1 x2 z g.steps (2 + l4.0) g.walk (walk_on (Quiet w) x2 x3 z 2 l4.0 s3.walk l4.2.walk));
+          at = record { over = over_moved w.code u regs l4.2.pc x.at.over; reads = l4.2.reads; halved = subst (λ y. Twice w z y y) (sym lp.is) h5 };
+          target = linked_out i.rd v 30 l3 x.link (omega arith) (inr (omega arith)) ∙ read_back w3 l1 30 long1 refl;
+          sign = linked_out i.rd v 16 l3 x.link (omega arith) (inl (omega arith)) ∙ read_back w3 l1 16 long1 refl ∙ read_back w1 u.regs 16 long refl;
+          keeps = linked_out i.rd v 15 l3 x.link (omega arith) (inl (omega arith)) ∙ read_back w3 l1 15 long1 refl ∙ read_back w1 u.regs 15 long refl;
+        } where
+          add_up : (m c n d : ℕ) → m ≤ c → n ≤ d → 6 + (m + (2 + n)) ≤ 6 + (c + (2 + d))
+          add_up m c n d h e = omega (arith, h, e)
+
+    -- ---- all of it
+    leap_cost : cost (leave_as [] (fall_to leader) class.JumpReg i a s.pc) ≡ 6 + (cost (guard i.rs1) + (2 + cost (links i s.pc))) + 5
+    leap_cost =
+        let e = cost_append (guard i.rs1) (Plain (ins Addi TEMPORARY i.rs1 0 i.imm) ∷ Plain (ins Andi TEMPORARY TEMPORARY 0 (neg_ℤ (pos 2))) ∷ (links i s.pc ++ look_up)) in
+        let f = cost_append (links i s.pc) look_up in
+        omega (arith, e, f)
+
+    pub leap_leave : w.source s.pc ≡ Known i → class_of i.kind ≡ class.JumpReg → NotTrapped (step s) → Went w leader u (step s) 1 (cost (leave_as [] (fall_to leader) class.JumpReg i a s.pc)) k
+    leap_leave h c calm =
+        let lp = leap_step w s i x.sourced h c calm in
+        let y = aimed lp in
+        subst (λ n. Went w leader u (step s) 1 n k) (sym leap_cost)
+        (⊎_elim
+        (λ l.
+        let g = leap_there w y.to (step s) (aim s i) (x.table l) y.at.over y.at.halved y.target leader (entries (aim s i) l) l lp.pc y.at.reads in
+        record {
+          steps = y.steps + g.steps;
+          to = g.to;
+          at_least = omega (arith, y.some);
+          within = omega (arith, y.within, g.within);
+          walk = walk_on (Quiet w) u y.to g.to y.steps g.steps y.walk g.walk;
+          is = lands g.is.0 (g.is.1 ∙ y.sign ∙ ap (λ q. (q + k) % 2 ^ 64) (sym lp.pc), g.is.2 ∙ y.keeps) lp.sourced;
+        })
+        (λ lacks. record {
+          steps = y.steps;
+          to = y.to;
+          at_least = y.some;
+          within = omega (arith, y.within);
+          walk = y.walk;
+          is = is_lost y.at.over.going y.at.halved lp.sourced (λ j m. lacks j (ap w.source (sym lp.pc) ∙ m));
+        })
+        x.there)

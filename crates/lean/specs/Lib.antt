@@ -1,0 +1,10 @@
+pub mod Ticked
+pub mod Strayed
+pub mod Woven
+pub mod Tests
+pub mod Steps
+pub mod Leaves
+pub mod Counts
+pub mod Form
+pub mod Code
+pub mod Roles

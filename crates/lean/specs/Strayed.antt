@@ -1,0 +1,75 @@
+-- What the lean form promises of a jump that goes astray: where the code of a block runs under the signature of another one, the run is over soon.
+use Rattle.std.specs.Prelude.{◌≡◌, ℕ, ◌+◌, ◌*◌, ◌/◌, ◌%◌, ◌^◌, ◌≤◌, ◌⊎◌, Bool, true, false, List}
+use Rattle.tests.specs.Admission.Leaders.{is_indirect}
+use Rattle.machine.specs.Members.{Among}
+use Rattle.machine.specs.declared.outcome.Outcome.{Outcome}
+use Rattle.machine.specs.declared.outcome.Outcome.TheVariants.{Going, Fired}
+use Rattle.machine.specs.Program.{Program, AreStartRegs}
+use Rattle.machine.specs.Step.{State, reg, fetched_at, run, class_of}
+use Rattle.qed_model.specs.Promise.Kept.{is_trapped, after_output}
+use Rattle.qed_model.specs.Promise.Landed.{placed_at}
+use Rattle.qed_model.specs.Weave.Blocks.{begins_at, ElfFile, Options}
+use Rattle.qed_model.specs.Weave.Code.{Sequences, pieces_of}
+use Rattle.qed_model.specs.Weave.Forms.{form_of}
+use Rattle.qed_model.specs.Weave.Lean.{look_up}
+use Rattle.qed_model.specs.Weave.LeanCode.{lean_items, lean_of, worded}
+use Rattle.tests.specs.Admission.Places.{base_of, image_of, code_place}
+use Rattle.qed_model.specs.Weave.Placed.{sum_of_sizes, entry_of}
+use Rattle.qed_model.specs.Weave.Sequences.{Reads, End, Falls, Stops, Block, SIGNATURE, TEMPORARY}
+
+-- ---- where a jump leads
+-- a word of the pieces of a block, or the first one behind them
+pub record IsInside (s : Sequences) (entry : ℕ → ℕ) (b : Block) (q : ℕ) : Type 0 where
+  pub words : ℕ
+  pub within : 4 * words ≤ sum_of_sizes false (pieces_of s b.body b.start)
+  pub there : q ≡ entry b.start + sum_of_sizes false (s.enter b.start) + 4 * words
+
+-- a block that goes on where a register leads
+abbrev pub by_register : End → Bool
+by_register Falls = false
+by_register (Stops i) = is_indirect (class_of i.kind)
+
+-- ---- what follows
+abbrev pub IsOver : Outcome → Type 0
+IsOver o = (o ≡ Fired) ⊎ (is_trapped o ≡ true)
+
+-- within so many steps a check has fired, or a step has trapped
+pub record Stopped (most : ℕ) (s : State) : Type 0 where
+  pub steps : ℕ
+  pub within : steps ≤ most
+  pub over : IsOver (run s steps).outcome
+
+-- an address is looked up next that has no entry
+pub record IsLost (blocks : List Block) (s : State) : Type 0 where
+  pub looks : Reads false (fetched_at s.memory s.ranges) (λ a. 0) s.pc look_up
+  pub nowhere : begins_at blocks (reg s TEMPORARY) ≡ false
+
+-- within so many steps one is
+pub record Lost (blocks : List Block) (most : ℕ) (s : State) : Type 0 where
+  pub steps : ℕ
+  pub within : steps ≤ most
+  pub lost : IsLost blocks (run s steps)
+
+-- as many steps as the pieces of a block have words, and 32
+abbrev pub steps_in : Sequences → Block → ℕ
+steps_in s b = sum_of_sizes false (pieces_of s b.body b.start) / 4 + 32
+
+-- for any registers of the output's start: from any state of the run, the same state inside of a block, where the last 32 bits of the signature are
+-- not those of the block's address, is over within so many steps; inside of a block that goes on where a register leads this holds behind what runs
+-- first and of an even signature, or an address is looked up that has no entry
+pub record Strayed (g : Program) (s : Sequences) (entry : ℕ → ℕ) (blocks : List Block) : Type 0 where
+  pub stops :
+      (regs : List ℕ) (t q : ℕ) (b : Block) → AreStartRegs regs → (after_output g regs t).outcome ≡ Going → Among b blocks → by_register b.end ≡ false → IsInside s entry b q
+      → (reg (after_output g regs t) SIGNATURE % 2 ^ 32 ≡ b.start % 2 ^ 32 → ⊥) → Stopped (steps_in s b) (placed_at q (after_output g regs t))
+  pub leads :
+      (regs : List ℕ) (t q : ℕ) (b : Block) → AreStartRegs regs → 31 ≤ t → (after_output g regs t).outcome ≡ Going → Among b blocks → by_register b.end ≡ true → IsInside s entry b q
+      → reg (after_output g regs t) SIGNATURE % 2 ≡ 0 → (reg (after_output g regs t) SIGNATURE % 2 ^ 32 ≡ b.start % 2 ^ 32 → ⊥)
+      → Stopped (steps_in s b) (placed_at q (after_output g regs t)) ⊎ Lost blocks (steps_in s b) (placed_at q (after_output g regs t))
+
+-- ---- of a file in the lean form
+-- where its entries are, and the sequences of its code
+abbrev pub entry_in : ElfFile → Options → ℕ → List Block → ℕ → ℕ
+entry_in f o every blocks = entry_of false (code_place o.half (image_of f)) (lean_items f o every blocks)
+
+abbrev pub code_in : ElfFile → Options → ℕ → List Block → Sequences
+code_in f o every blocks = worded (form_of f o false) (base_of (image_of f)) (entry_in f o every blocks) (lean_of f o every blocks) (begins_at blocks)

@@ -1,0 +1,144 @@
+-- The lean form as a weave, and what is asked of the words and the table that it is woven in.
+use Rattle.std.specs.Prelude.{◌≡◌, ℕ, ◌+◌, ◌*◌, ◌%◌, ◌^◌, ◌<◌, ◌≤◌, Bool, true, false, cond, ◌==◌, ◌&&◌, nat_le, List, [], ◌∷◌, length}
+use Rattle.rv_isa.specs.declared.class.Class.TheVariants as class
+use Rattle.tests.specs.Admission.DataRanges.{word_count}
+use Rattle.qed_model.specs.Weave.Bounds.{end_bound, cost_of, entry_steps}
+use Rattle.qed_model.specs.Weave.Pieces.{is_run}
+use Rattle.qed_model.specs.Weave.Placed.{sum_of_sizes}
+use Rattle.qed_model.specs.Weave.Sequences.{Reads, End, Falls, Stops, Block}
+use Rattle.qed_model.specs.Promise.Kept.{Kept}
+use Rattle.qed_model.specs.Promise.Landed.{IsEntry, Landed}
+use Rattle.qed_model.specs.declared.plan.EntryRow.{EntryRow}
+use Rattle.qed_model.specs.Weave.Blocks.{begins_at}
+use Rattle.qed_model.specs.Weave.Code.{code_of}
+use Rattle.qed_model.specs.Promise.Caught.{Caught}
+use Rattle.qed_model.specs.Promise.Clean.{Clean}
+use Rattle.qed_model.specs.Promise.Closed.{is_branch}
+use Rattle.qed_model.specs.declared.bounds.Bounds.{Bounds}
+use Rattle.qed_model.specs.Weave.Lean.{call_at, check, begin}
+use Rattle.qed_model.specs.Weave.LeanCode.{Lean, fall_to, sequences, worded, block_steps, end_at, leads_on}
+use Rattle.qed_model.specs.Weave.LeanBounds.{check_bound, period, register_bound, word_bound}
+use Rattle.weave_core.specs.Describes.{Describes}
+use Rattle.weave_core.specs.WeavePromise.{AllBlocksOf, OnlyCode}
+use Rattle.weave_core.specs.Leaving.{sweep_cost}
+use Rattle.weave_core.specs.World.{World, Known, Ins, class_of, Program}
+use Rattle.weave_core.specs.Blocks.{IsEntryOf, TableAt}
+use Rattle.weave_core.specs.Weave.{Weave}
+use Rattle.lean.specs.Strayed.{Strayed}
+use Rattle.lean.specs.Ticked.{is_ticked_at}
+
+-- the most steps of the check, with the look-up behind it
+abbrev pub check_steps : World → ℕ
+check_steps w = check_bound (word_count w.form.spans) (length w.form.spans) w.form.round
+
+-- what stands before the end besides, with the sweep
+abbrev pub swept_steps : World → ℕ
+swept_steps w = end_bound w.form.sweep (length w.form.spans) (word_count w.form.spans)
+
+-- the weave: a tick may call the check, and then the entry is made once more
+abbrev pub weave_of : World → Lean → (ℕ → Bool) → Weave
+weave_of w l leader = record {
+  code = sequences w.form w.entry l (fall_to leader) begin;
+  fits = λ is. is_run is && nat_le (length is) l.inst_max;
+  first_steps = 31;
+  enter_steps = 1 + 2 * entry_steps l.land + check_steps w;
+  piece_steps = cost_of l.diverse * l.inst_max;
+  compare_steps = 0;
+  leave_steps = 19;
+  end_steps = swept_steps w;
+  sweeps = w.form.sweep;
+  sweep_steps = sweep_cost w.form.spans;
+  round = w.form.round;
+  ends_at = λ e b at. (l.start_of e at == b) && leader b;
+  held = is_ticked_at l.every;
+}
+
+-- the code is near, the halves are not too far from each other, the check stands in its place, from each entry there are fewer steps to the next tick than from
+-- check to check, where a jump by register leads stands a tick, and each leader has code, on its grain, its entry, and its place in the table
+pub record LeanIn (w : World) (l : Lean) (leader : ℕ → Bool) : Type 0 where
+  pub near : w.form.far ≡ false
+  pub small : w.distance ≤ 2 ^ 32
+  pub some : 1 ≤ l.every
+  pub few : l.every ≤ 2048
+  pub check : Reads w.form.far w.code w.entry l.check (check w.base (call_at l.land) l.every w.form.round w.form.spans)
+  pub ticks : (a : ℕ) → leader a ≡ true → l.most a < l.every
+  pub entered : (at : ℕ) (i : Ins) → w.source at ≡ Known i → class_of i.kind ≡ class.JumpReg → (a : ℕ) → leader a ≡ true → w.reached a ≡ true → l.ticks a ≡ true
+  pub known : (a : ℕ) → leader a ≡ true → IsEntryOf w a
+  pub codes : (a : ℕ) → leader a ≡ true → (i : Ins) × (w.source a ≡ Known i)
+  pub grain : (a : ℕ) → leader a ≡ true → a % 2 ≡ 0
+  pub table : (a : ℕ) → leader a ≡ true → TableAt w a
+  pub within : (a : ℕ) → leader a ≡ true → a < w.base + 2 ^ 32
+
+-- ---- which blocks fall to the next
+-- a block that falls, or ends in a branch, goes on behind its end
+abbrev pub goes_on : End → ℕ → ℕ → Bool
+goes_on Falls at t = at == t
+goes_on (Stops i) at t = is_branch (class_of i.kind) && ((at + 4) % 2 ^ 64 == t)
+
+abbrev pub begins_with : List Block → ℕ → Type 0
+begins_with [] t = ⊥
+begins_with (b ∷ bs) t = b.start ≡ t
+
+-- where a block goes on at a leader, the next block begins there
+abbrev pub InOrder : (ℕ → Bool) → List Block → Type 0
+InOrder leader [] = Unit {0}
+InOrder leader (b ∷ bs) = ((t : ℕ) → goes_on b.end (end_at b) t ≡ true → leader t ≡ true → begins_with bs t) × InOrder leader bs
+
+-- ---- what ticks count
+-- what the tick before an entry has counted of the steps behind it: none, where it has its own
+abbrev pub owed : Lean → ℕ → ℕ
+owed l t = cond (l.ticks t) 0 (l.most t)
+
+-- the steps of a block are counted, with those to the next tick
+abbrev pub IsCounted : Lean → (ℕ → Bool) → Block → Type 0
+IsCounted l leader b =
+    (block_steps l.diverse l.land leader b ≤ l.most b.start)
+    × ((t : ℕ) → leads_on b.end (end_at b) t ≡ true → block_steps l.diverse l.land leader b + owed l t ≤ l.most b.start)
+
+abbrev pub AreCounted : Lean → (ℕ → Bool) → List Block → Type 0
+AreCounted l leader [] = Unit {0}
+AreCounted l leader (b ∷ bs) = IsCounted l leader b × AreCounted l leader bs
+
+-- the new code of g reads as the code of the blocks, and nothing else is code
+pub record LeanPlan (f g : Program) (w : World) (l : Lean) (blocks : List Block) : Type 0 where
+  pub world : Describes f g w
+  pub sound : LeanIn w l (begins_at blocks)
+  pub words : Reads false w.code w.entry g.entry (code_of (worded w.form w.base w.entry l (begins_at blocks)) w.distance f.entry blocks)
+  pub check : l.check ≡ g.entry + sum_of_sizes false (begin w.distance f.entry)
+  pub good : AllBlocksOf w (weave_of w l (begins_at blocks)) (begins_at blocks) blocks
+  pub begins : begins_at blocks f.entry ≡ true
+  pub ticked : l.ticks f.entry ≡ true
+  pub order : InOrder (begins_at blocks) blocks
+  pub only : OnlyCode f g w (worded w.form w.base w.entry l (begins_at blocks)) blocks
+  pub counts : AreCounted l (begins_at blocks) blocks
+
+-- ---- the laws
+-- a plan keeps the values
+abbrev pub LeanKept : Type 0
+LeanKept = (f g : Program) (w : World) (l : Lean) (blocks : List Block) → LeanPlan f g w l blocks → Kept f g w.reached (31 + swept_steps w) (20 + 2 * entry_steps l.land + check_steps w + cost_of l.diverse * l.inst_max)
+
+pub record IsBoundsOf (w : World) (l : Lean) (bounds : Bounds) : Type 0 where
+  pub register : bounds.register ≡ register_bound l.land (swept_steps w) (period l.land (check_steps w) l.every)
+  pub word : bounds.word ≡ word_bound l.land (word_count w.form.spans) w.form.round (swept_steps w) (period l.land (check_steps w) l.every)
+
+-- in a plan changes are caught
+abbrev pub LeanCaught : Type 0
+LeanCaught = (f g : Program) (w : World) (l : Lean) (blocks : List Block) (bounds : Bounds) → LeanPlan f g w l blocks → 1 ≤ w.form.round → IsBoundsOf w l bounds → Caught f g w.reached w.form.spans bounds
+
+-- where entries test the signature, jumps land
+abbrev pub LeanLanded : Type 0
+LeanLanded =
+    (f g : Program) (w : World) (l : Lean) (blocks : List Block) (entries : List EntryRow) → LeanPlan f g w l blocks → l.land ≡ true
+    → ((a e : ℕ) → IsEntry entries a e → (begins_at blocks a ≡ true) × (e ≡ w.entry a)) → Landed 6 f g w.reached entries
+
+-- and where the code of a block runs under the signature of another one, the run is over soon
+abbrev pub LeanStrayed : Type 0
+LeanStrayed =
+    (f g : Program) (w : World) (l : Lean) (blocks : List Block) → LeanPlan f g w l blocks → l.land ≡ true
+    → Strayed g (worded w.form w.base w.entry l (begins_at blocks)) w.entry blocks
+
+-- and with the sweep no change before it is silent at the end
+abbrev pub LeanClean : Type 0
+LeanClean =
+    (f g : Program) (w : World) (l : Lean) (blocks : List Block) → LeanPlan f g w l blocks → w.form.sweep ≡ true
+    → Clean f g w.reached w.form.spans (sweep_cost w.form.spans + 14)

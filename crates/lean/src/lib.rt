@@ -1,0 +1,24 @@
+//! The lean form of the new code: one check for all of it, called by a counter, in place of comparisons behind pieces. Its parts
+//! are made one after the other, counted, and laid out; as a weave it has the promises.
+#![tactic(auto)]
+
+mod begin;
+mod blocks;
+mod check;
+mod code;
+mod counts;
+mod leave;
+mod promises;
+mod roles;
+mod steps;
+mod tick;
+mod turn;
+mod weaver;
+
+pub use code::lean_code;
+pub use promises::{
+    lean_caught, lean_clean, lean_kept, lean_landed, lean_strayed, lean_tests_caught,
+    lean_tests_clean, lean_tests_faults, lean_tests_have_words, lean_tests_kept, lean_tests_landed,
+    lean_tests_strayed, lean_tests_writable,
+};
+pub use roles::lean_roles;

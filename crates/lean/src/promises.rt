@@ -1,0 +1,70 @@
+//! What is promised of the lean form.
+ghost use Rattle.lean.specs.Tests.{LeanTestsHaveWords, LeanTestsWritable, LeanTestsKept, LeanTestsCaught, LeanTestsFaults, LeanTestsLanded, LeanTestsStrayed, LeanTestsClean};
+ghost use Rattle.lean.specs.Woven.{LeanKept, LeanCaught, LeanLanded, LeanStrayed, LeanClean};
+
+/// A plan of the form keeps the input's values, with a bound on the steps of the output for each step of the input, and no check
+/// fires without changes.
+pub fn lean_kept()
+    ensures { LeanKept }
+{}
+
+/// In a plan of the form changes of original registers and data words at open places are caught within the bounds.
+pub fn lean_caught()
+    ensures { LeanCaught }
+{}
+
+/// In a plan of the form whose entries test the signature a jump from one entry to another fires.
+pub fn lean_landed()
+    ensures { LeanLanded }
+{}
+
+/// In a plan of the form whose entries test the signature, a run that strays into a block under the signature of another one is over
+/// soon, where the block goes on by no register.
+pub fn lean_strayed()
+    ensures { LeanStrayed }
+{}
+
+/// In a plan of the form with the sweep no change before it is silent at the end.
+pub fn lean_clean()
+    ensures { LeanClean }
+{}
+
+/// The lean form of an admitted test has words, where it has no more bytes than a JAL spans.
+pub fn lean_tests_have_words()
+    ensures { LeanTestsHaveWords }
+{}
+
+/// Within the limits its file can be written.
+pub fn lean_tests_writable()
+    ensures { LeanTestsWritable }
+{}
+
+/// Then it keeps the test's values.
+pub fn lean_tests_kept()
+    ensures { LeanTestsKept }
+{}
+
+/// Changes are caught in it.
+pub fn lean_tests_caught()
+    ensures { LeanTestsCaught }
+{}
+
+/// So is a wrong result of an instruction of the test, as changes behind it.
+pub fn lean_tests_faults()
+    ensures { LeanTestsFaults }
+{}
+
+/// Where entries test the signature, a jump from one to another fires.
+pub fn lean_tests_landed()
+    ensures { LeanTestsLanded }
+{}
+
+/// And a run that strays into a block under the signature of another one is over soon.
+pub fn lean_tests_strayed()
+    ensures { LeanTestsStrayed }
+{}
+
+/// With the sweep no change before it is silent at the end.
+pub fn lean_tests_clean()
+    ensures { LeanTestsClean }
+{}

@@ -1,7 +1,0 @@
-mod BodySteps
-mod Counting
-mod Finding
-mod Forms
-mod Owned
-mod Parts
-mod RoleRows

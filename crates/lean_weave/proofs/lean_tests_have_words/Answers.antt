@@ -1,5 +1,0 @@
-use Rattle.lean_weave.proofs.Tests as tests
-use Rattle.lean_weave.proofs.lean_tests_have_words.Goals as goal
-
-pub returns : goal.returns
-returns c = tests.tests_have_words

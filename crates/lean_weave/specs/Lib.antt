@@ -1,4 +1,0 @@
-pub mod Ticked
-pub mod Strayed
-pub mod Woven
-pub mod Tests

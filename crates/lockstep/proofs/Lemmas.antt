@@ -1,0 +1,15 @@
+-- The laws that proofs of other crates cite.
+pub use Rattle.lockstep.proofs.Sets.{word_below}
+pub use Rattle.lockstep.proofs.Made.{changed_later}
+pub use Rattle.lockstep.proofs.Trace.{EndsSoon, NextSteps, PieceSteps, Sizes, SweptEnd, Trace}
+pub use Rattle.lockstep.proofs.Numbered.{AtNumber, placed, round_of, round_on, round_some}
+pub use Rattle.lockstep.proofs.Ending.{LastBoundary, Numbered, ToEnd, next_numbered, swept_is, to_end, visits_in}
+pub use Rattle.lockstep.proofs.Calm.{CalmCode}
+pub use Rattle.lockstep.proofs.Closing.{only_inside}
+pub use Rattle.lockstep.proofs.Cleaned.{cleaned}
+pub use Rattle.lockstep.proofs.Weaves.{all_blocks, weave_caught, weave_clean}
+pub use Rattle.lockstep.proofs.Tests.{tests_caught, tests_clean}
+pub use Rattle.lockstep.proofs.Coded.{WordAt, reads_rest, stub_open, stub_words, word_of}
+pub use Rattle.lockstep.proofs.Promise.{BoundsBy, Times, settles}
+pub use Rattle.lockstep.proofs.FormWords.{caught_with, form_words, visits_ten}
+pub use Rattle.lockstep.proofs.InstructionFaults.{faults_found, instruction_faults_are_caught}

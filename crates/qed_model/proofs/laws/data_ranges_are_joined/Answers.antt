@@ -1,5 +1,0 @@
-use Rattle.qed_model.proofs.ImageLaws.{joined_data}
-use Rattle.qed_model.proofs.laws.data_ranges_are_joined.Goals as goal
-
-pub returns : goal.returns
-returns c = joined_data

@@ -1,0 +1,41 @@
+//! Steps of code sequences that several bounds are made of (docs/PROFILE.md).
+ghost use Rattle.std.specs.Prelude.{◌≡◌, ◌≤◌};
+ghost use Rattle.qed_model.specs.Weave.Bounds.{cost_of, entry_steps as entry_steps_of};
+
+/// The most steps of an instruction in both its parts.
+pub const INSTRUCTION_STEPS: u64 = 5;
+
+/// The most steps of an instruction whose mirror part is of other kinds.
+pub const DIVERSE_STEPS: u64 = 8;
+
+/// A tick of the lean form that passes.
+pub const TICK_STEPS: u64 = 2;
+
+/// An entry that tests the signature, and its tick.
+pub const LANDING_STEPS: u64 = 7;
+
+/// The most steps of a leave of the lean form.
+pub const LEAN_LEAVE_STEPS: u64 = 19;
+
+/// The most steps that a block without a tick may leave to the tick before it.
+pub const MOST_OWED: u64 = 48;
+
+/// The most steps of an instruction in both its parts.
+pub fn instruction_steps(diverse: bool) -> u64
+    ensures value { result ≡ cost_of diverse }
+    ensures bound { result ≤ 8 }
+{
+    if diverse {
+        DIVERSE_STEPS
+    } else {
+        INSTRUCTION_STEPS
+    }
+}
+
+/// The steps of an entry of the lean form whose tick passes, and which may test the signature first.
+pub fn entry_steps(land: bool) -> u64
+    ensures value { result ≡ entry_steps_of land }
+    ensures bound { result ≤ 7 }
+{
+    if land { LANDING_STEPS } else { TICK_STEPS }
+}

@@ -1,0 +1,395 @@
+-- What the words of the command line ask for: an order, or the first reason why they ask for none. A text is its bytes.
+use Rattle.std.specs.Prelude.{ℕ, ◌+◌, ◌*◌, ◌/◌, ◌%◌, ◌^◌, ◌==◌, nat_lt, nat_le, min, Bool, true, false, not, ◌&&◌, ◌||◌, if◌then◌else◌, Option, Some, None, is_some, unwrap_or, option_map, option_and_then, Result, Ok, Err, List, [], ◌∷◌, ◌++◌, map, length, filter_map, find, slice_get, slice_index_or, String, string_bytes}
+use Rattle.std.specs.Option.{option_or}
+use Rattle.std.specs.Str.{bytes_eq}
+use Rattle.std.specs.List.{list_all}
+use Rattle.std.specs.Char.{digit_value}
+use Rattle.tests.specs.declared.options.TheConstants.{LEAN_INST_MAX, LEAN_ROUND, LEAN_EVERY}
+use Rattle.qed_model.specs.declared.steps.TheConstants.{LEAN_LEAVE_STEPS}
+use Rattle.rv_isa.specs.declared.profile.TheConstants.{PAGE}
+use Rattle.qed_model.specs.declared.aim.Draws.{Draws}
+use Rattle.qed_model.specs.declared.aim.Places.{Places}
+use Rattle.qed_model.specs.declared.aim.Places.TheVariants as aim
+use Rattle.machine.specs.declared.place.Place.{Place}
+use Rattle.machine.specs.declared.place.Place.TheVariants as change
+use Rattle.qed_model.specs.declared.change.Change.{Change}
+use Rattle.tests.specs.declared.options.Options.{Options}
+use Rattle.tests.specs.declared.options.Entries as weave
+use Rattle.tests.specs.declared.options.Entries.TheVariants as entry
+use Rattle.qed_words.specs.declared.orders.Command.{Command}
+use Rattle.qed_words.specs.declared.orders.Command.TheVariants.{Transform, Plan, Explain, Run, Campaign, Gen, Asm, Harts, Help, Version}
+use Rattle.qed_words.specs.declared.orders.Command.TheVariants as command
+use Rattle.qed_words.specs.declared.orders.Order.{Order}
+use Rattle.qed_words.specs.declared.orders.Order.TheVariants as order
+use Rattle.qed_words.specs.declared.orders.Topic.{Topic}
+use Rattle.qed_words.specs.declared.orders.Topic.TheVariants as topic
+use Rattle.qed_words.specs.declared.orders.Key.{Key}
+use Rattle.qed_words.specs.declared.orders.Key.TheVariants.{InstMin, InstMax, Round, Half, Entries, Steps, Fault, Dump, Seed, Count, Size, Changes, Only, From, To, Turns, At, Sweep, Diverse, Results, Reached, Lean, Every, Land}
+use Rattle.qed_words.specs.declared.keys.Value.{Value}
+use Rattle.qed_words.specs.declared.keys.Value.TheVariants.{Flag, Number, Pages, Word}
+use Rattle.qed_words.specs.declared.keys.Value.TheVariants as value
+use Rattle.qed_words.specs.declared.orders.Reason.{Reason}
+use Rattle.qed_words.specs.declared.orders.Reason.TheVariants.{NoCommand, UnknownCommand, EmptyWord, UnknownOption, Repeated, MissingValue, ExtraWord, MissingFile, MissingOption, BadNumber, BadShape, OutOfRange, Split, AllEntries, FewSteps}
+use Rattle.tests.specs.Options.{default_options}
+use Rattle.qed_model.specs.Weave.Bounds.{cost_of, entry_steps}
+use Rattle.qed_words.specs.Tables.{place_among, option_of, row_of, command_of, key_named}
+use Rattle.texts.specs.Read.{dash, colon, equals, letter_x, number, parted, register}
+use Rattle.qed_model.specs.Promise.Changed.{in_order}
+
+-- ---- words and bytes
+
+-- the bytes of each word
+abbrev pub texts : {A : Type 0} → List (String A) → List (List ℕ)
+texts words = map string_bytes words
+
+-- ---- faults and dumps
+
+abbrev pub word_place : ℕ → Option Place
+word_place address = if address % 8 == 0 then Some (change.Word address) else None
+
+-- a place: `x` and a register, or the address of an aligned word
+unfoldable pub place : List ℕ → Option Place
+place [] = None
+place (c ∷ cs) = if c == letter_x then option_map change.Reg (register cs) else option_and_then word_place (number (c ∷ cs))
+
+abbrev pub change_of : Option ℕ → Option Place → Option ℕ → Option Change
+change_of (Some step) (Some place) (Some value) = Some (record { step = step; place = place; value = value })
+change_of _ _ _ = None
+
+-- `PLACE=V` behind a step
+abbrev pub change_from : Option ℕ → Option (List ℕ × List ℕ) → Option Change
+change_from step None = None
+change_from step (Some parts) = change_of step (place parts.0) (number parts.1)
+
+abbrev pub change_in : Option (List ℕ × List ℕ) → Option Change
+change_in None = None
+change_in (Some parts) = change_from (number parts.0) (parted equals parts.1)
+
+-- a fault: `STEP:PLACE=V`
+unfoldable pub fault : List ℕ → Option Change
+fault text = change_in (parted colon text)
+
+-- an address and a length from 1 to 65,536 that end at 2^64 at most
+abbrev pub span_of : Option ℕ → Option ℕ → Option (ℕ × ℕ)
+span_of (Some address) (Some size) =
+    if (nat_le 1 size && nat_le size 65536) && nat_le (address + size) (2 ^ 64) then Some (address, size) else None
+span_of _ _ = None
+
+abbrev pub span_in : Option (List ℕ × List ℕ) → Option (ℕ × ℕ)
+span_in None = None
+span_in (Some parts) = span_of (number parts.0) (number parts.1)
+
+-- a dump: `ADDR:LEN`
+unfoldable pub dump : List ℕ → Option (ℕ × ℕ)
+dump text = span_in (parted colon text)
+
+-- ---- turns
+
+abbrev pub is_digit : ℕ → Bool
+is_digit c = nat_lt (digit_value c) 10
+
+-- the harts that make the turns, by their numbers: 1 to 64 decimal digits
+unfoldable pub turns : List ℕ → Option (List ℕ)
+turns text = if (nat_le 1 (length text) && nat_le (length text) 64) && list_all is_digit text then Some (map digit_value text) else None
+
+-- ---- what the words are
+
+-- an argument, with the number of its word
+pub data Argument : Type 0 where
+  Empty : ℕ → Argument
+  -- it begins with `-` and is no option of the command
+  Unknown : ℕ → Argument
+  -- an option and its value, which is empty where there is none, and of a flag is not looked at
+  Given : ℕ → Key → List ℕ → Argument
+  File : ℕ → List ℕ → Argument
+
+-- what stands behind `--`
+unfoldable pub behind_dashes : List ℕ → Option (List ℕ)
+behind_dashes (a ∷ b ∷ rest) = if a == dash && b == dash then Some rest else None
+behind_dashes _ = None
+
+abbrev pub is_flag : Value → Bool
+is_flag Flag = true
+is_flag _ = false
+
+-- an option, where it is no flag
+abbrev pub valued : Option Key → Option Key
+valued None = None
+valued (Some key) = if is_flag (option_of key).value then None else Some key
+
+-- whether the next word is this word's value: it is `--name`, and the option has a value
+unfoldable pub takes_next : Command → List ℕ → Bool
+takes_next command word = is_some (valued (option_and_then (key_named command) (behind_dashes word)))
+
+-- what an option is, where it is one of the command
+abbrev pub key_argument : ℕ → Option Key → List ℕ → Argument
+key_argument i None value = Unknown i
+key_argument i (Some key) value = Given i key value
+
+-- `name` with the next word, or `name=value`
+abbrev pub named : Command → ℕ → List ℕ → List ℕ → Option (List ℕ × List ℕ) → Argument
+named command i text next None = key_argument i (key_named command text) next
+named command i text next (Some parts) = key_argument i (valued (key_named command parts.0)) parts.1
+
+abbrev pub option_argument : Command → ℕ → List ℕ → Option (List ℕ) → Argument
+option_argument command i next None = Unknown i
+option_argument command i next (Some text) = named command i text next (parted equals text)
+
+-- what word i is, with the word behind it
+unfoldable pub argument : Command → ℕ → List ℕ → List ℕ → Argument
+argument command i [] next = Empty i
+argument command i (c ∷ cs) next = if c == dash then option_argument command i next (behind_dashes (c ∷ cs)) else File i (c ∷ cs)
+
+-- the first of some words, empty where there is none
+abbrev pub first_text : List (List ℕ) → List ℕ
+first_text [] = []
+first_text (word ∷ words) = word
+
+-- what the words from number i on are; the first, where it is the value of the word before it, is not looked at by itself
+abbrev pub arguments : Command → Bool → ℕ → List (List ℕ) → List Argument
+arguments command follows i [] = []
+arguments command true i (word ∷ words) = arguments command false (i + 1) words
+arguments command false i (word ∷ words) = argument command i word (first_text words) ∷ arguments command (takes_next command word) (i + 1) words
+
+-- ---- what was given
+
+abbrev pub name_in : Argument → Option (List ℕ)
+name_in (File i name) = Some name
+name_in _ = None
+
+-- the files, in the order of the words
+unfoldable pub files : List Argument → List (List ℕ)
+files given = filter_map name_in given
+
+abbrev pub value_in : Key → Argument → Option (List ℕ)
+value_in key (Given i other value) = if bytes_eq (option_of other).name (option_of key).name then Some value else None
+value_in key _ = None
+
+-- the values that an option was given, in the order of the words
+unfoldable pub values : Key → List Argument → List (List ℕ)
+values key given = filter_map (value_in key) given
+
+-- whether an option was not given
+unfoldable pub lacks : List Argument → Key → Bool
+lacks given key = length (values key given) == 0
+
+-- ---- what is wrong with a word
+
+-- a value is not empty, and does not begin with `-`
+abbrev pub is_value : List ℕ → Bool
+is_value [] = false
+is_value (c ∷ cs) = not (c == dash)
+
+-- what is wrong with an argument, where those before it are known
+unfoldable pub wrong : Command → List Argument → Argument → Option Reason
+wrong command before (Empty i) = Some (EmptyWord i)
+wrong command before (Unknown i) = Some (UnknownOption i)
+wrong command before (Given i key value) =
+    if nat_le (option_of key).most (length (values key before)) then Some (Repeated i)
+    else if is_flag (option_of key).value || is_value value then None
+    else Some (MissingValue i)
+wrong command before (File i name) = if nat_le (row_of command).most_files (length (files before)) then Some (ExtraWord i) else None
+
+-- the first reason of some
+abbrev pub first_reason : List (Option Reason) → Option Reason
+first_reason [] = None
+first_reason (reason ∷ reasons) = option_or reason (first_reason reasons)
+
+-- what is wrong with the first argument of which something is
+abbrev pub first_wrong : Command → List Argument → List Argument → Option Reason
+first_wrong command before [] = None
+first_wrong command before (a ∷ rest) = option_or (wrong command before a) (first_wrong command (before ++ a ∷ []) rest)
+
+-- ---- what is missing
+
+unfoldable pub missing : Command → List Argument → Option Reason
+missing command given =
+    if nat_lt (length (files given)) (row_of command).least_files then Some MissingFile
+    else option_map MissingOption (find (lacks given) (row_of command).required)
+
+-- ---- what is wrong with a value
+
+abbrev pub is_in_range : Value → ℕ → Bool
+is_in_range (Number least most) n = nat_le least n && nat_le n most
+is_in_range (Pages most) n = n % PAGE == 0 && (nat_le PAGE n && nat_le n most)
+is_in_range _ n = true
+
+abbrev pub wrong_number : Key → Option ℕ → Option Reason
+wrong_number key None = Some (BadNumber key)
+wrong_number key (Some n) = if is_in_range (option_of key).value n then None else Some (OutOfRange key)
+
+-- each hart has a file
+abbrev pub wrong_turns : ℕ → Option (List ℕ) → Option Reason
+wrong_turns count None = Some (BadShape Turns)
+wrong_turns count (Some harts) = if list_all (λ hart. nat_lt hart count) harts then None else Some (OutOfRange Turns)
+
+abbrev pub wrong_shape : Key → Bool → Option Reason
+wrong_shape key is_shaped = if is_shaped then None else Some (BadShape key)
+
+abbrev pub wrong_text : ℕ → Key → Value → List ℕ → Option Reason
+wrong_text count key Flag text = None
+wrong_text count key value.Fault text = wrong_shape key (is_some (fault text))
+wrong_text count key value.Dump text = wrong_shape key (is_some (dump text))
+wrong_text count key value.Turns text = wrong_turns count (turns text)
+wrong_text count key Word text = wrong_shape key (is_some (place_among (option_of key).words text))
+wrong_text count key _ text = wrong_number key (number text)
+
+-- what is wrong with a value, where there are `count` files
+unfoldable pub wrong_value : ℕ → Key → List ℕ → Option Reason
+wrong_value count key text = wrong_text count key (option_of key).value text
+
+-- what is wrong with the first value of an option of which something is
+unfoldable pub wrong_values : List Argument → Key → Option Reason
+wrong_values given key = first_reason (map (wrong_value (length (files given)) key) (values key given))
+
+-- the same, of the first option of which something is
+unfoldable pub first_wrong_value : Command → List Argument → Option Reason
+first_wrong_value command given = first_reason (map (wrong_values given) (row_of command).keys)
+
+-- ---- the options of a transformation
+
+-- the first value that an option was given
+unfoldable pub value_of : Key → List Argument → Option (List ℕ)
+value_of key given = slice_get (values key given) 0
+
+unfoldable pub number_given : Key → List Argument → Option ℕ
+number_given key given = option_and_then number (value_of key given)
+
+-- the place of the word that an option was given among its words
+unfoldable pub word_given : Key → List Argument → Option ℕ
+word_given key given = option_and_then (place_among (option_of key).words) (value_of key given)
+
+-- the entries that the words of `--entries` name, by their place
+abbrev pub entries : ℕ → weave.Entries
+entries n = if n == 0 then entry.All else entry.Reached
+
+-- the options of the lean form where no option says otherwise: longer pieces and more visits, since one check is for many blocks
+abbrev pub lean_options : Options
+lean_options = record { inst_min = 4; inst_max = LEAN_INST_MAX; round = LEAN_ROUND; half = None; sweep = false; diverse = false; entries = entry.Reached; lean = Some LEAN_EVERY; land = false }
+
+unfoldable pub usual_options : List Argument → Options
+usual_options given = if lacks given Lean then default_options else lean_options
+
+abbrev pub greatest_piece : List Argument → ℕ
+greatest_piece given = unwrap_or (number_given InstMax given) (usual_options given).inst_max
+
+-- the floor, where none is given, is no greater than the greatest piece leaves room for
+unfoldable pub options : List Argument → Options
+options given = record {
+  inst_min = unwrap_or (number_given InstMin given) (min (usual_options given).inst_min ((greatest_piece given + 1) / 2));
+  inst_max = greatest_piece given;
+  round = unwrap_or (number_given Round given) (usual_options given).round;
+  half = number_given Half given;
+  sweep = not (lacks given Sweep);
+  diverse = not (lacks given Diverse);
+  entries = unwrap_or (option_map entries (word_given Entries given)) (usual_options given).entries;
+  lean = option_map (unwrap_or (number_given Every given)) (usual_options given).lean;
+  land = not (lacks given Land);
+}
+
+-- the floor leaves no room
+abbrev pub is_split : Options → Bool
+is_split o = nat_lt (o.inst_max + 1) (2 * o.inst_min)
+
+-- ---- the order
+
+-- the changes that faults ask for
+unfoldable pub changes_given : List Argument → List Change
+changes_given given = in_order (filter_map fault (values Fault given))
+
+-- file number i
+unfoldable pub file : List Argument → ℕ → List ℕ
+file given i = slice_index_or (files given) i []
+
+-- what `help` tells of: a command, or all
+abbrev pub topic_of : Option Command → Topic
+topic_of None = topic.All
+topic_of (Some command) = topic.One command
+
+-- the places that the words of `--only` name, by their place
+abbrev pub places : ℕ → Places
+places n = if n == 0 then aim.Registers else aim.Words
+
+-- without `--steps` a run has 1,000,000 steps
+unfoldable pub steps_given : List Argument → ℕ
+steps_given given = unwrap_or (number_given Steps given) 1000000
+
+-- without `--changes` a strike is one change, and without the options behind it the output is struck in all places and steps
+unfoldable pub draws : List Argument → Draws
+draws given = record {
+  seed = unwrap_or (number_given Seed given) 0;
+  count = unwrap_or (number_given Count given) 0;
+  changes = unwrap_or (number_given Changes given) 1;
+  aim = record { only = option_map places (word_given Only given); from = unwrap_or (number_given From given) 0; to = number_given To given };
+}
+
+unfoldable pub order_of : Command → List Argument → Order
+order_of Transform given = order.Transform (file given 0) (file given 1) (options given)
+order_of Plan given = order.Plan (file given 0) (options given)
+order_of Explain given = order.Explain (file given 0) (options given) (number_given At given)
+order_of Run given =
+    order.Run (file given 0) (steps_given given) (changes_given given) (option_and_then dump (value_of Dump given)) (not (lacks given Reached))
+order_of Campaign given = order.Campaign (file given 0) (options given) (draws given) (not (lacks given Results))
+order_of Gen given = order.Gen (file given 0) (unwrap_or (number_given Seed given) 0) (unwrap_or (number_given Size given) 0)
+order_of command.List given = order.List (file given 0)
+order_of Asm given = order.Asm (file given 0) (file given 1)
+order_of Harts given = order.Harts (files given) (option_and_then turns (value_of Turns given)) (steps_given given)
+order_of Help given = order.Tell (topic_of (command_of (file given 0)))
+order_of Version given = order.Tell topic.Version
+
+-- ---- what is asked
+
+-- a floor that is not given leaves room, so this comes only of commands that have the option
+unfoldable pub split_reason : List Argument → Option Reason
+split_reason given = if is_split (options given) then Some Split else None
+
+-- only the lean form has steps from check to check, and entries that test the signature or do not
+unfoldable pub missing_lean : List Argument → Option Reason
+missing_lean given = if lacks given Lean && not (lacks given Every && lacks given Land) then Some (MissingOption Lean) else None
+
+-- the most steps of a block of the lean form: those of its entry, of one piece, which has 1024 instructions at most, and 19 of its leave
+abbrev pub block_steps : Options → ℕ
+block_steps o = entry_steps o.land + LEAN_LEAVE_STEPS + cost_of o.diverse * min o.inst_max 1024
+
+-- the lean form has only entries that are reached, and more steps from check to check than a block has
+abbrev pub misfit : weave.Entries → ℕ → ℕ → Option Reason
+misfit entry.All most every = Some AllEntries
+misfit entry.Reached most every = if nat_le every most then Some (FewSteps most) else None
+
+unfoldable pub lean_reason : List Argument → Option Reason
+lean_reason given = option_and_then (misfit (options given).entries (block_steps (options given))) (options given).lean
+
+-- the least step is below the end of the steps, where both are given
+abbrev pub is_empty : Option ℕ → Option ℕ → Bool
+is_empty (Some from) (Some to) = nat_le to from
+is_empty _ _ = false
+
+unfoldable pub window_reason : List Argument → Option Reason
+window_reason given = if is_empty (number_given From given) (number_given To given) then Some (OutOfRange To) else None
+
+-- the word behind `help`, where there is one, names a command
+unfoldable pub topic_reason : Command → List Argument → Option Reason
+topic_reason Help given = if length (files given) == 0 || is_some (command_of (file given 0)) then None else Some UnknownCommand
+topic_reason _ given = None
+
+-- the first reason why arguments are no order
+unfoldable pub reason_of : Command → List Argument → Option Reason
+reason_of command given =
+    first_reason
+    (first_wrong command [] given ∷ missing command given ∷ first_wrong_value command given ∷ split_reason given ∷ missing_lean given ∷ lean_reason given ∷ window_reason given ∷ topic_reason command given ∷ [])
+
+abbrev pub answer : Order → Option Reason → Result Order Reason
+answer o None = Ok o
+answer o (Some reason) = Err reason
+
+-- what the words behind a command ask for
+abbrev pub asked_of : Option Command → List (List ℕ) → Result Order Reason
+asked_of None words = Err UnknownCommand
+asked_of (Some command) words =
+    let given = arguments command false 1 words in
+    answer (order_of command given) (reason_of command given)
+
+-- the order that words ask for, or the first reason why they ask for none
+unfoldable pub asked : List (List ℕ) → Result Order Reason
+asked [] = Err NoCommand
+asked (word ∷ words) = asked_of (command_of word) words

@@ -1,8 +1,0 @@
-use Rattle.std.proofs.Common.{◌≡◌, ◌-◌}
-use Rattle.qed_model.specs.Machine.Step.{reg}
-use Rattle.strikes.specs.Right.{same_from}
-use Rattle.strikes.proofs.right.same_regs.Given as goal
-
--- those of the rest are the same where all are
-abbrev pub invariant-loop-number : goal.invariant-loop-number
-invariant-loop-number l = same_from (reg l.a.state) (reg l.b.state) l.number (14 - l.number) ≡ same_from (reg l.a.state) (reg l.b.state) 1 13

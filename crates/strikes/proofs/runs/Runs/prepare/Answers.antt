@@ -1,9 +1,0 @@
-use Rattle.std.proofs.Common.{subst}
-use Rattle.strikes.specs.Kept.{IsReach}
-use Rattle.strikes.proofs.Copying.{reach_positive}
-use Rattle.strikes.proofs.runs.Runs.prepare.Goals as goal
-
-pub invariant_of-result : goal.invariant_of-result
-invariant_of-result c =
-    reach_positive c.args.output.state c.in_ok-output.output.reach c.requires
-    (subst (λ s. IsReach s c.in_ok-output.output.reach) c.in_ok-output.ensures (subst (IsReach c.in_ok-output.output.start) c.reach.ensures.value c.reach.ensures.reach))

@@ -1,7 +1,0 @@
-use Rattle.std.proofs.Common.{◌≡◌, ◌*◌, subst}
-use Rattle.std.specs.Prelude.{IfSome}
-use Rattle.qed_model.specs.Machine.Step.{run}
-use Rattle.strikes.proofs.runs.Runs.snapshot.Goals as goal
-
-pub returns-clause-there : goal.returns-clause-there
-returns-clause-there c = subst (λ p. IfSome c.at.result (λ m. m.now.state ≡ run p.output (4096 * c.args.number))) c.self.view_is c.at.ensures.there

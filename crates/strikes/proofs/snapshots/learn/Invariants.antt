@@ -1,6 +1,0 @@
-use Rattle.std.proofs.Common.{◌≡◌}
-use Rattle.strikes.proofs.snapshots.learn.Given as goal
-
--- the copies are what they were
-abbrev pub invariant-loop-i : goal.invariant-loop-i
-invariant-loop-i l = l.copies.items ≡ l.initial.copies.items

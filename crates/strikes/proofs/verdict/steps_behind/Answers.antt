@@ -1,5 +1,0 @@
-use Rattle.strikes.proofs.Leaping.{on_none}
-use Rattle.strikes.proofs.verdict.steps_behind.Goals as goal
-
-pub returns-in-None : goal.returns-in-None
-returns-in-None c = c.steps_beside.ensures c.args.machine.now.state (on_none c.args.machine.now.state)

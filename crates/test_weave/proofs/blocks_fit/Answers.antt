@@ -1,5 +1,0 @@
-use Rattle.test_weave.proofs.AdmittedFit as fit
-use Rattle.test_weave.proofs.blocks_fit.Goals as goal
-
-pub returns : goal.returns
-returns c = fit.blocks_fit

@@ -1,5 +1,0 @@
-use Rattle.test_weave.proofs.WholeCode as whole
-use Rattle.test_weave.proofs.items_are_whole.Goals as goal
-
-pub returns : goal.returns
-returns c = whole.items_are_whole

@@ -1,4 +1,0 @@
-pub mod Form
-pub mod Fits
-pub mod Admitted
-pub mod WholeCode

@@ -1,0 +1,136 @@
+//! The new code, in the near form where that fits, else in the far form.
+ghost use Rattle.std.specs.Prelude.{◌≡◌, ◌+◌, ◌*◌, ◌^◌, ◌<◌, ◌≤◌, ℕ, [], List, All, IfOk, IfErr, length, map};
+ghost use Rattle.elf_types.specs.declared.file.ElfFile.{ElfFile};
+ghost use Rattle.block_split.specs.declared.block.CodeBlock.{CodeBlock};
+ghost use Rattle.block_split.specs.Listed.{block_of};
+ghost use Rattle.machine.specs.declared.limits.TheConstants.{CODE_ROOM};
+ghost use Rattle.qed_model.specs.Weave.Woven.{is_far_code};
+ghost use Rattle.relinker.specs.Laid.{IsLaid, IsLinked, HasLinkCause};
+ghost use Rattle.relinker.specs.Link.{IsWithinForm, LinksWithin};
+ghost use Rattle.weave.specs.Fits.{FitsBlock};
+ghost use Rattle.weave.specs.Form.{parts_to_stub};
+ghost use Rattle.weave.specs.Code.{items_of, handed_on, code_begin, IsCut, IsCodeOf, HasCause};
+
+use crate::count::counted;
+use crate::size::code_size;
+use crate::{Weaver, Weaving, weave};
+use block_split::CodeBlock;
+use qed_model::limits::MAX_NEAR_CODE_BYTES;
+use qed_model::{Options, Test};
+use relinker::{Layout, LinkError, Linked, lay};
+use std::alloc::{AllocError, Global};
+
+/// The passes of the code in one form.
+fn weaver(alloc: Global, test: &Test, options: &Options, far: bool) -> Result<Weaver, AllocError>
+    ensures { IfOk result (λ weaver. (blocks : List CodeBlock) → handed_on weaver test.now blocks ≡ items_of test.now options.now far blocks) }
+{
+    Weaver::new(alloc, &test.span, options, far)
+}
+
+/// Takes the memory for the code, which is counted.
+fn laid_out(
+    alloc: Global,
+    test: &Test,
+    options: &Options,
+    far: bool,
+    blocks: &[CodeBlock],
+) -> Result<Layout, LinkError>
+    requires room { code_begin test.now + CODE_ROOM ≤ 2 ^ 63 }
+    requires visits { options.now.round ≤ 1024 }
+    requires ranges { length test.now.span ≤ 67_108_864 }
+    requires fit { All FitsBlock blocks.now }
+    requires links { LinksWithin far (code_begin test.now) (items_of test.now options.now far blocks.now) }
+    ensures form { IfOk result (λ layout. layout.far ≡ far) }
+    ensures base { IfOk result (λ layout. layout.base ≡ code_begin test.now) }
+    ensures laid { IfOk result (λ layout. IsLaid layout [] (items_of test.now options.now far blocks.now)) }
+    ensures fits { IfOk result (λ _. IsWithinForm far (items_of test.now options.now far blocks.now)) }
+    ensures cause { IfErr result (HasLinkCause far (items_of test.now options.now far blocks.now)) }
+{
+    let count = counted(alloc, test, options, far, blocks)?;
+    lay(alloc, count, test.base + 3 * test.distance)
+}
+
+/// Writes the words of the items of a test, which are laid out.
+///
+/// Errors: want of memory.
+pub fn written<W: Weaving>(
+    alloc: Global,
+    weaver: &W,
+    layout: Layout,
+    test: &Test,
+    blocks: &[CodeBlock],
+) -> Result<Linked, AllocError>
+    requires half { test.now.distance < 2 ^ 63 }
+    requires fit { All FitsBlock blocks.now }
+    requires own { All (W.is_for weaver.now) blocks.now }
+    requires laid { IsLaid layout [] (parts_to_stub (W.code weaver.now) test.now.distance test.now.entry (map block_of blocks.now)) }
+    ensures { IfOk result (IsLinked layout.far layout.base (parts_to_stub (W.code weaver.now) test.now.distance test.now.entry (map block_of blocks.now))) }
+{
+    let mut layout = layout;
+    weave(
+        alloc,
+        weaver,
+        test.distance,
+        test.entry,
+        blocks,
+        &mut layout,
+    )?;
+    Ok(layout.finish())
+}
+
+/// The new code of a test: its words and entries, and whether it has the far form.
+#[derive(Debug, Drop)]
+pub struct WovenCode {
+    pub linked: Linked,
+    pub far: bool,
+}
+
+/// The code in one form.
+fn code_in(
+    alloc: Global,
+    test: &Test,
+    options: &Options,
+    blocks: &[CodeBlock],
+    far: bool,
+) -> Result<WovenCode, LinkError>
+    requires room { code_begin test.now + CODE_ROOM ≤ 2 ^ 63 }
+    requires visits { options.now.round ≤ 1024 }
+    requires ranges { length test.now.span ≤ 67_108_864 }
+    requires fit { All FitsBlock blocks.now }
+    requires links { LinksWithin far (code_begin test.now) (items_of test.now options.now far blocks.now) }
+    ensures form { IfOk result (λ made. made.far ≡ far) }
+    ensures linked { IfOk result (λ made. IsLinked far (code_begin test.now) (items_of test.now options.now far blocks.now) made.linked) }
+    ensures fits { IfOk result (λ _. IsWithinForm far (items_of test.now options.now far blocks.now)) }
+    ensures cause { IfErr result (HasLinkCause far (items_of test.now options.now far blocks.now)) }
+{
+    let layout = laid_out(alloc, test, options, far, blocks)?;
+    let weaver = weaver(alloc, test, options, far)?;
+    let linked = written(alloc, &weaver, layout, test, blocks)?;
+    Ok(WovenCode { linked, far })
+}
+
+/// Whether the near form has more bytes than it may have.
+pub(crate) fn is_far(test: &Test, options: &Options, blocks: &[CodeBlock]) -> bool
+    requires { (f : ElfFile) × IsCut f options.now test.now blocks.now }
+    ensures { (f : ElfFile) → IsCut f options.now test.now blocks.now → is_far_code f options.now (map block_of blocks.now) ≡ result }
+{
+    code_size(test, options, false, blocks) > MAX_NEAR_CODE_BYTES
+}
+
+/// The new code of a test that was admitted, in the near form where that has at most 1,048,576 bytes, else in the far form. The
+/// bytes are counted before any item is made.
+///
+/// Errors: `TooLarge` where the far form is taken and has more than 67,108,864 bytes: how many; want of memory.
+pub fn woven_code(
+    alloc: Global,
+    test: &Test,
+    options: &Options,
+    blocks: &[CodeBlock],
+) -> Result<WovenCode, LinkError>
+    requires { (f : ElfFile) × IsCut f options.now test.now blocks.now }
+    ensures code { IfOk result (λ code. (f : ElfFile) → IsCut f options.now test.now blocks.now → IsCodeOf f options.now blocks.now code) }
+    ensures cause { IfErr result (λ e. (f : ElfFile) → IsCut f options.now test.now blocks.now → HasCause f options.now blocks.now e) }
+{
+    let far = is_far(test, options, blocks);
+    code_in(alloc, test, options, blocks, far)
+}

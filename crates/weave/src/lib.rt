@@ -1,0 +1,38 @@
+//! The new code of a test, part by part: the prologue, and of each block its entry, its pieces and its leave, each made by the
+//! passes and handed on before the next. Its bytes and marks are counted by its blocks, and then its words are written.
+#![tactic(auto)]
+
+ghost use Rattle.weave.specs.Admitted.{BlocksFit};
+ghost use Rattle.weave.specs.WholeCode.{ItemsAreWhole};
+
+mod code;
+mod count;
+mod leave;
+mod make;
+mod pieces;
+mod prologue;
+mod roles;
+mod size;
+mod walk;
+mod weaver;
+mod weaving;
+
+pub use code::{WovenCode, woven_code, written};
+pub use make::copied;
+pub use pieces::{Piece, piece, woven_piece};
+pub use prologue::put_zeros;
+pub use roles::{Compared, code_roles, compare_rows, guard_rows, push_end, push_pieces, row};
+pub use size::{Sizes, guard_size, links_size, sizes_of};
+pub use walk::weave;
+pub use weaver::Weaver;
+pub use weaving::Weaving;
+
+/// The blocks of an admitted test can be woven.
+pub fn blocks_fit()
+    ensures { BlocksFit }
+{}
+
+/// With the data ranges, the distance and the entry of a file, what is handed on is its new code, but for the stub.
+pub fn items_are_whole()
+    ensures { ItemsAreWhole }
+{}
