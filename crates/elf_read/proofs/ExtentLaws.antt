@@ -1,15 +1,14 @@
 -- Segments in the order of their addresses: which of them share no byte with another.
-use Rattle.std.proofs.Common.{◌≡◌, ℕ, ◌+◌, ◌<◌, ◌≤◌, ◌&&◌, ltb, true, None, List, length, get_or, sym, ap, ◌∙◌, inl, inr, arith}
+use Rattle.std.proofs.Common.{◌≡◌, ℕ, ◌+◌, ◌<◌, ◌&&◌, ltb, true, None, List, length, get_or, sym, ap, ◌∙◌, inl, inr, arith}
 use Rattle.std.specs.List.{Contains}
 use Rattle.std.specs.List.Sorted.{IsNonDecreasingBy}
-use Rattle.std.proofs.lemmas.Bool.{and_parts, and_from, ltb-true, false_from_ne_true, cases_order}
+use Rattle.std.proofs.lemmas.Bool.{and_parts, ltb-true, false_from_ne_true, cases_order}
+use Rattle.std.proofs.lemmas.Bool.Decides.{nat_tests}
 use Rattle.std.proofs.lemmas.List.{get_or_default}
 use Rattle.tests.specs.Files.Header.{e_phnum}
 use Rattle.tests.specs.Files.Fields.{program_header}
 use Rattle.tests.specs.Files.Rules.{do_overlap, overlapped}
 use Rattle.machine.proofs.Lemmas.{first_none}
-use Rattle.elf_types.specs.Abi.{is_load}
-use Rattle.elf_types.specs.Overlap.{share_byte}
 use Rattle.elf_types.specs.declared.records.ProgramHeader.{ProgramHeader}
 use Rattle.elf_read.specs.declared.extents.Extent.{Extent}
 use Rattle.elf_read.specs.Extents.{HasExtents, IsClearInFront, IsClearBehind, extent_of, has_memory}
@@ -26,21 +25,14 @@ in_front_or_behind xs a b x y up front behind at_x at_y lt_a lt_b differ x_first
     let y_in : l < length xs = at_y.1 in
     let x_is : get_or xs k x ≡ x = at_x.2 in
     let y_is : get_or xs l x ≡ y = get_or_default xs l x y y_in ∙ at_y.2 in
-    let x_start : (get_or xs k x).start ≡ x.start = ap (λ (e : Extent). e.start) x_is in
-    let x_end : (get_or xs k x).end ≡ x.end = ap (λ (e : Extent). e.end) x_is in
-    let x_number : (get_or xs k x).number ≡ x.number = ap (λ (e : Extent). e.number) x_is in
-    let y_start : (get_or xs l x).start ≡ y.start = ap (λ (e : Extent). e.start) y_is in
-    let y_end : (get_or xs l x).end ≡ y.end = ap (λ (e : Extent). e.end) y_is in
     elim (cases_order k l) [
       | inl same ↦ differ (ap (λ (e : Extent). e.number) (sym x_is ∙ ap (λ (i : ℕ). get_or xs i x) same ∙ y_is))
       | inr apart ↦ elim apart [
         | inl before ↦
-            let next : (get_or xs (k + 1) x).start ≤ (get_or xs l x).start = up (k + 1) l x (omega arith) y_in in
-            let least : b ≤ (get_or xs k x).number = behind.clear k x (omega arith) (omega arith) in
-            omega arith
-        | inr after ↦
-            let least : a ≤ (get_or xs k x).number = front.clear l k x after x_in (omega arith) in
-            omega arith
+            let next = rw y_is at (up (k + 1) l x (omega arith) y_in) in
+            let least = rw x_is at (behind.clear k x (omega arith) (rw x_is (omega (arith, next)))) in
+            omega (arith, least)
+        | inr after ↦ let least = rw x_is at (front.clear l k x after x_in (rw (x_is, y_is) x_first)) in omega (arith, least)
       ]
     ]
 
@@ -52,18 +44,7 @@ record Overlap (p q : ProgramHeader) : Type 0 where
 
 overlap_says : (p q : ProgramHeader) → do_overlap p q ≡ true → Overlap p q
 unfolding do_overlap
-overlap_says p q t =
-    let all = and_parts (is_load p.kind && is_load q.kind) (share_byte p.vaddr p.memsz q.vaddr q.memsz) t in
-    let loads = and_parts (is_load p.kind) (is_load q.kind) all.0 in
-    let shared = and_parts (ltb 0 p.memsz && ltb 0 q.memsz && ltb p.vaddr (q.vaddr + q.memsz)) (ltb q.vaddr (p.vaddr + p.memsz)) all.1 in
-    let more = and_parts (ltb 0 p.memsz && ltb 0 q.memsz) (ltb p.vaddr (q.vaddr + q.memsz)) shared.0 in
-    let some = and_parts (ltb 0 p.memsz) (ltb 0 q.memsz) more.0 in
-    record {
-      first = and_from (is_load p.kind) (ltb 0 p.memsz) loads.0 some.0;
-      second = and_from (is_load q.kind) (ltb 0 q.memsz) loads.1 some.1;
-      low = ltb-true p.vaddr (q.vaddr + q.memsz) more.1;
-      high = ltb-true q.vaddr (p.vaddr + p.memsz) shared.1;
-    }
+overlap_says p q t = record { first = grind (arith, nat_tests); second = grind (arith, nat_tests); low = grind (arith, nat_tests); high = grind (arith, nat_tests) }
 
 -- a segment of a number below both bounds shares no byte with a later one
 pub none_overlaps :

@@ -1,23 +1,30 @@
--- The length of a name, by the next zero byte of its string table.
-use Rattle.std.proofs.Common.{◌≡◌, ℕ, ◌+◌, ◌-◌, ◌<◌, ◌≤◌, eqb, List, length, get_or, Some, None, sym, ap, ◌∙◌, arith, eq-eqb}
-use Rattle.tests.specs.Files.Rules.{name_length}
+-- A name, by the next zero byte of its string table.
+use Rattle.std.proofs.Common.{◌≡◌, ◌≢◌, ℕ, ◌+◌, ◌-◌, ◌<◌, ◌≤◌, eqb, List, [], length, take, drop, get_or, refl, ap, ◌∙◌, arith, eq-eqb}
+use Rattle.std.proofs.lemmas.Bool.{ne_eqb}
+use Rattle.tests.specs.Files.Rules.{name_length, name_at}
 use Rattle.machine.proofs.Lemmas.{first_found, first_none}
 use Rattle.elf_read.specs.Strings.{IsNextZero}
-use Rattle.elf_read.proofs.LastZero.{eqb_differs}
 
-pub length_found : (strings : List ℕ) (place end : ℕ) → IsNextZero strings place (length strings) end → end < length strings → Some (end - place) ≡ name_length strings place
-unfolding name_length
-length_found strings place end z lt =
+pub name_zero : (strings : List ℕ) (place : ℕ) → place ≡ 0 → [] ≡ name_at strings place
+unfolding name_at
+name_zero strings place e = rw e refl
+
+pub name_found : (strings : List ℕ) (place end : ℕ) → place ≢ 0 → IsNextZero strings place (length strings) end → end < length strings → take (end - place) (drop place strings) ≡ name_at strings place
+unfolding name_length name_at
+name_found strings place end some z lt =
     let same : place + (end - place) ≡ end = omega (arith, z.behind) in
-    sym (first_found (length strings - place) (λ k. eqb (get_or strings (place + k) 0) 0) (end - place) (omega (arith, z.behind))
-    (eq-eqb _ 0 (ap (λ (k : ℕ). get_or strings k 0) same ∙ z.zero lt))
-    (λ k below. eqb_differs _ (z.before (place + k) (omega arith) (omega arith))))
+    let found = first_found (length strings - place) (λ k. eqb (get_or strings (place + k) 0) 0) (end - place) (omega (arith, z.behind))
+    (eq-eqb _ 0 (ap (λ (k : ℕ). get_or strings k 0) same ∙ z.zero lt)) (λ k below. ne_eqb _ 0 (z.before (place + k) (omega arith) (omega arith))) in
+    rw (ne_eqb place 0 some, found) refl
 
-pub length_none : (strings : List ℕ) (place end : ℕ) → IsNextZero strings place (length strings) end → end ≡ length strings → None ≡ name_length strings place
-unfolding name_length
-length_none strings place end z at_end =
-    sym (first_none (length strings - place) (λ k. eqb (get_or strings (place + k) 0) 0) (λ k below. eqb_differs _ (z.before (place + k) (omega arith) (omega arith))))
+pub name_none : (strings : List ℕ) (place end : ℕ) → place ≢ 0 → IsNextZero strings place (length strings) end → end ≡ length strings → [] ≡ name_at strings place
+unfolding name_length name_at
+name_none strings place end some z at_end =
+    let none = first_none (length strings - place) (λ k. eqb (get_or strings (place + k) 0) 0) (λ k below. ne_eqb _ 0 (z.before (place + k) (omega arith) (omega arith))) in
+    rw (ne_eqb place 0 some, none) refl
 
-pub length_past : (strings : List ℕ) (place : ℕ) → length strings ≤ place → None ≡ name_length strings place
-unfolding name_length
-length_past strings place past = sym (first_none (length strings - place) (λ k. eqb (get_or strings (place + k) 0) 0) (λ k below. absurd (omega arith)))
+pub name_past : (strings : List ℕ) (place : ℕ) → place ≢ 0 → length strings ≤ place → [] ≡ name_at strings place
+unfolding name_length name_at
+name_past strings place some past =
+    let none = first_none (length strings - place) (λ k. eqb (get_or strings (place + k) 0) 0) (λ k below. absurd (omega arith)) in
+    rw (ne_eqb place 0 some, none) refl

@@ -33,6 +33,7 @@ pub fn sum_of<F: Fn(u64) -> u64>(n: u64, f: &F) -> u128
 }
 
 /// What is made at each number below n, in order.
+#[tactic(auto, using(machine::proofs::BelowLaws::each_none, machine::proofs::BelowLaws::push_each))]
 pub fn list_of<T: Drop, F: Fn(u64) -> Result<T, AllocError>>(
     alloc: Global,
     n: u64,

@@ -3,10 +3,9 @@ ghost use Rattle.std.specs.Prelude.{◌≡◌, ◌<◌, ℕ, None, IfOk};
 ghost use Rattle.std.specs.List.Sorted.{IsNonDecreasingBy};
 ghost use Rattle.tests.specs.Files.Header.{e_phnum};
 ghost use Rattle.tests.specs.Files.Rules.{overlapped};
-ghost use Rattle.elf_read.specs.Extents.{HasExtents, IsClearInFront, IsClearBehind, has_memory};
+ghost use Rattle.elf_read.specs.Extents.{HasExtents, IsClearInFront, IsClearBehind};
 
 use crate::parts::Parts;
-use elf_types::ProgramHeader;
 use std::alloc::{AllocError, Global};
 
 /// The addresses of a segment in memory, from `start` to below `end`.
@@ -18,20 +17,15 @@ pub struct Extent {
     pub end: u128,
 }
 
-fn has_memory(p: ProgramHeader) -> bool
-    ensures { result ≡ has_memory p }
-{
-    p.is_load() && p.memsz > 0
-}
-
-// The extents of the segments that have memory, in the order of their numbers.
-fn extents(file: &Parts, alloc: Global) -> Result<Vec<Extent>, AllocError>
-    ensures { IfOk result (λ v. HasExtents file.now (e_phnum file.now) v.items) }
+// The extents of the segments that have memory, in the order of their addresses.
+fn ascending(file: &Parts, alloc: Global) -> Result<Vec<Extent>, AllocError>
+    ensures has { IfOk result (λ v. HasExtents file.now (e_phnum file.now) v.items) }
+    ensures ascend { IfOk result (λ v. IsNonDecreasingBy (λ x. x.start) v.items) }
 {
     let mut extents = Vec::new(alloc);
     for number in 0..file.tables().phnum() {
         let p = file.program(number);
-        if has_memory(p) {
+        if p.is_load() && p.memsz > 0 {
             extents.push(Extent {
                 number,
                 start: p.vaddr,
@@ -39,15 +33,6 @@ fn extents(file: &Parts, alloc: Global) -> Result<Vec<Extent>, AllocError>
             })?;
         }
     }
-    Ok(extents)
-}
-
-// The same in the order of their addresses.
-fn ascending(file: &Parts, alloc: Global) -> Result<Vec<Extent>, AllocError>
-    ensures has { IfOk result (λ v. HasExtents file.now (e_phnum file.now) v.items) }
-    ensures ascend { IfOk result (λ v. IsNonDecreasingBy (λ x. x.start) v.items) }
-{
-    let mut extents = extents(file, alloc)?;
     extents.sort_by_key(|x| x.start)?;
     Ok(extents)
 }
@@ -82,6 +67,7 @@ fn least_behind(extents: &[Extent], limit: u64) -> u64
 
 /// A number below which no segment shares a byte of memory with another. Where there is memory for the extents it is
 /// the least number of one that does, or that of all segments, and else 0.
+#[tactic(auto, using(crate::proofs::ExtentLaws::none_overlaps))]
 pub fn clear_below(file: &Parts, alloc: Global) -> u64
     ensures { (i : ℕ) → i < result → i < e_phnum file.now → overlapped file.now i ≡ None }
 {

@@ -2,9 +2,10 @@
 ghost use Rattle.std.specs.Prelude.{◌≡◌, ◌<◌, ◌^◌, IfSome};
 ghost use Rattle.tests.specs.Files.Header.{e_shnum};
 ghost use Rattle.tests.specs.Files.Fields.{section_header};
-ghost use Rattle.tests.specs.Files.Rules.{symbol_table, section_count_rule, symbol_name_bytes, counted_bytes, byte_count_rule};
+ghost use Rattle.tests.specs.Files.Rules.{symbol_table, section_count_rule, symbol_name_bytes, byte_count_rule};
 
 use crate::below::sum_of;
+use crate::header::refuse;
 use crate::parts::Parts;
 use crate::sections::{section_name, section_strings};
 use crate::segments::file_size;
@@ -20,10 +21,7 @@ pub fn check_section_count(file: &Parts) -> Result<(), ElfError>
     ensures { result ≡ section_count_rule file.now }
 {
     let count = file.tables().shnum();
-    if count > MAX_SECTIONS {
-        return Err(ElfError::TooManySections(count));
-    }
-    Ok(())
+    refuse(ElfError::TooManySections(count), count > MAX_SECTIONS)
 }
 
 // The bytes of the symbols' names.
@@ -45,11 +43,11 @@ fn symbol_name_bytes(file: &Parts, alloc: Global) -> u128
     }
 }
 
-// The bytes of segments and names.
-#[tactic(auto, unfolding(tests::specs::Files::Rules::counted_bytes))]
-fn counted_bytes(file: &Parts, alloc: Global) -> u128
+/// Whether there are few enough bytes of segments and names.
+#[tactic(auto, unfolding(tests::specs::Files::Rules::byte_count_rule, tests::specs::Files::Rules::counted_bytes))]
+pub fn check_byte_count(file: &Parts, alloc: Global) -> Result<(), ElfError>
     requires { IfSome (symbol_table file.now) (λ i. (section_header file.now i).link < e_shnum file.now) }
-    ensures { result ≡ counted_bytes file.now }
+    ensures { result ≡ byte_count_rule file.now }
 {
     let strings = section_strings(file, alloc);
     let segments = sum_of(file.tables().phnum(), &|i| file_size(file.program(i)));
@@ -57,20 +55,10 @@ fn counted_bytes(file: &Parts, alloc: Global) -> u128
         file.tables().shnum(),
         &|i| section_name(file, &strings, i).len() as u64,
     );
-    let symbols = symbol_name_bytes(file, alloc);
-    segments + sections + symbols
-}
-
-/// Whether there are few enough bytes of segments and names.
-#[tactic(auto, unfolding(tests::specs::Files::Rules::byte_count_rule))]
-pub fn check_byte_count(file: &Parts, alloc: Global) -> Result<(), ElfError>
-    requires { IfSome (symbol_table file.now) (λ i. (section_header file.now i).link < e_shnum file.now) }
-    ensures { result ≡ byte_count_rule file.now }
-{
-    let count = counted_bytes(file, alloc);
-    if count > u128::from(MAX_COUNTED_BYTES) {
-        let most = u128::from(u64::MAX);
-        return Err(ElfError::TooManyBytes(count.min(most) as u64));
-    }
-    Ok(())
+    let count = segments + sections + symbol_name_bytes(file, alloc);
+    let told = count.min(u128::from(u64::MAX)) as u64;
+    refuse(
+        ElfError::TooManyBytes(told),
+        count > u128::from(MAX_COUNTED_BYTES),
+    )
 }

@@ -1,11 +1,10 @@
 //! The file that bytes are.
-ghost use Rattle.std.specs.Prelude.{◌≡◌, false, ◌<◌, ◌/◌, ◌⊎◌, length, slice_index, List, ℕ, Ok, Err, Some, IfOk, IfErr, IfSome, OnOk};
+ghost use Rattle.std.specs.Prelude.{◌≡◌, false, ◌<◌, ◌/◌, ◌⊎◌, slice_index, ℕ, Ok, Err, Some, IfOk, IfErr, OnOk};
 ghost use Rattle.elf_types.specs.declared.error.ElfError.TheVariants as error;
-ghost use Rattle.machine.specs.Below.{each, gather};
+ghost use Rattle.machine.specs.Below.{each};
 ghost use Rattle.tests.specs.Files.Header.{e_phnum, e_shnum};
-ghost use Rattle.tests.specs.Files.Fields.{section_header};
 ghost use Rattle.tests.specs.Files.Rules.{is_section_outside, is_segment_outside, section_strings, strings_of, symbol_table, part_rules, verdict, read_verdict};
-ghost use Rattle.tests.specs.Files.File.{File, load_bytes, segment_of, section_of, symbol_of, symbols_at, relas_of, WithinReadLimits, IsReadAs};
+ghost use Rattle.tests.specs.Files.File.{File, load_bytes, segment_of, section_of, symbol_of, symbols_at, IsReadAs};
 ghost use Rattle.tests.specs.Files.Refusals.{IsAccepted, IsRefused};
 ghost use Rattle.tests.specs.Elf.Sound.{IsSound};
 ghost use Rattle.machine.specs.Loading.{load_segments};
@@ -19,28 +18,13 @@ use crate::relas::{check_rela_shape, relas};
 use crate::sections::{check_section_shape, section_strings};
 use crate::segments::{check_segment_overlap, check_segment_shape};
 use crate::strings::Names;
-use crate::symbols::{check_symbol_shape, symbol_entry, symbol_strings, symbol_table};
+use crate::symbols::{check_symbol_shape, entry_at, symbol_strings, symbol_table};
 use elf_types::abi::{SHT_SYMTAB, SYM_SIZE};
 use elf_types::{
     Bytes, ElfError, ElfFile, Listed, ProgramHeader, Section, SectionHeader, Segment, Shared,
     Symbol,
 };
 use std::alloc::{AllocError, Global};
-use std::marker::Model;
-
-/// The bytes of a file that no rule refuses.
-#[derive(Drop)]
-struct Sound<'a> {
-    parts: Parts<'a>,
-}
-
-impl<'a> Model for Sound<'a> {
-    ghost Value = { List ℕ };
-
-    ghost view = { λ s. s.parts };
-
-    ghost invariant = { λ s. HasLinks s.parts };
-}
 
 #[tactic(auto, unfolding(tests::specs::Files::File::section_of, tests::specs::Files::Rules::section_name))]
 fn section(file: &Parts, names: &Names, i: u64) -> Result<Section, AllocError>
@@ -104,7 +88,7 @@ fn symbol(file: &Parts, names: &Names, s: SectionHeader, j: u64) -> Result<Symbo
     requires entry { j < s.size / 24 }
     ensures { IfOk result (λ x. x ≡ symbol_of file.now s j) }
 {
-    let e = symbol_entry(file, s, j);
+    let e = entry_at(file.section_bytes(s), j);
     Ok(Symbol {
         name: names.name(if j == 0 { 0 } else { e.name })?,
         value: e.value,
@@ -116,70 +100,57 @@ fn symbol(file: &Parts, names: &Names, s: SectionHeader, j: u64) -> Result<Symbo
     })
 }
 
-impl<'a> Sound<'a> {
-    /// The file, where no rule refuses it and it is within the limits.
-    #[tactic(auto, unfolding(tests::specs::Files::Rules::verdict, tests::specs::Files::Rules::read_verdict))]
-    fn new(alloc: Global, bytes: &'a [u8]) -> Result<Sound<'a>, ElfError>
-        ensures same { IfOk result (λ s. s ≡ bytes.now) }
-        ensures rules { OnOk result (verdict bytes.now ≡ Ok tt) }
-        ensures limits { OnOk result (read_verdict bytes.now ≡ Ok tt) }
-        ensures small { OnOk result ((k : ℕ) → slice_index bytes.now k < 256) }
-        ensures refused { IfErr result (λ e. read_verdict bytes.now ≡ Err e) }
-    {
-        let parts = Parts::new(bytes)?;
-        check_segment_shape(&parts)?;
-        check_segment_overlap(&parts, alloc)?;
-        check_section_shape(&parts, alloc)?;
-        check_symbol_shape(&parts, alloc)?;
-        check_rela_shape(&parts)?;
-        check_section_count(&parts)?;
-        check_byte_count(&parts, alloc)?;
-        Ok(Sound { parts })
-    }
+/// The parts of the file, where no rule refuses it and it is within the limits.
+#[tactic(auto, unfolding(tests::specs::Files::Rules::verdict, tests::specs::Files::Rules::read_verdict))]
+fn sound<'a>(alloc: Global, bytes: &'a [u8]) -> Result<Parts<'a>, ElfError>
+    ensures same { IfOk result (λ s. s ≡ bytes.now) }
+    ensures links { IfOk result HasLinks }
+    ensures rules { OnOk result (verdict bytes.now ≡ Ok tt) }
+    ensures limits { OnOk result (read_verdict bytes.now ≡ Ok tt) }
+    ensures small { OnOk result ((k : ℕ) → slice_index bytes.now k < 256) }
+    ensures refused { IfErr result (λ e. read_verdict bytes.now ≡ Err e) }
+{
+    let parts = Parts::new(bytes)?;
+    check_segment_shape(&parts)?;
+    check_segment_overlap(&parts, alloc)?;
+    check_section_shape(&parts, alloc)?;
+    check_symbol_shape(&parts, alloc)?;
+    check_rela_shape(&parts)?;
+    check_section_count(&parts)?;
+    check_byte_count(&parts, alloc)?;
+    Ok(parts)
+}
 
-    /// The segments, of bytes that are parts of those of the file.
-    fn segments(&self, alloc: Global, shared: &Shared) -> Result<Vec<Segment>, AllocError>
-        requires { shared.now ≡ self.now }
-        ensures { IfOk result (λ v. v.items ≡ each (e_phnum self.now) (segment_of self.now)) }
-    {
-        list_of(
-            alloc,
-            self.parts.tables().phnum(),
-            &|i| segment(&self.parts, shared, i),
-        )
-    }
-
-    fn symbols(&self, alloc: Global) -> Result<Vec<Symbol>, AllocError>
-        ensures { IfOk result (λ v. v.items ≡ symbols_at self.now (symbol_table self.now)) }
-    {
-        match symbol_table(&self.parts) {
-            None => Ok(Vec::new(alloc)),
-            Some(i) => {
-                let names = Names::new(alloc, symbol_strings(&self.parts, alloc, i))?;
-                let s = self.parts.section(i);
-                list_of(
-                    alloc,
-                    s.size / SYM_SIZE,
-                    &|j| symbol(&self.parts, &names, s, j),
-                )
-            }
+fn symbols(file: &Parts, alloc: Global) -> Result<Vec<Symbol>, AllocError>
+    requires { HasLinks file.now }
+    ensures { IfOk result (λ v. v.items ≡ symbols_at file.now (symbol_table file.now)) }
+{
+    match symbol_table(file) {
+        None => Ok(Vec::new(alloc)),
+        Some(i) => {
+            let names = Names::new(alloc, symbol_strings(file, alloc, i))?;
+            let s = file.section(i);
+            list_of(alloc, s.size / SYM_SIZE, &|j| symbol(file, &names, s, j))
         }
     }
+}
 
-    fn file(&self, alloc: Global, segments: Vec<Segment>) -> Result<ElfFile, AllocError>
-        requires sound { verdict self.now ≡ Ok tt }
-        requires all { segments.items ≡ each (e_phnum self.now) (segment_of self.now) }
-        ensures { IfOk result (λ f. File self.now f) }
-    {
-        Ok(ElfFile {
-            entry: self.parts.tables().entry(),
-            flags: self.parts.tables().flags(),
-            segments: Listed::of(segments),
-            sections: Listed::of(sections(&self.parts, alloc)?),
-            symbols: Listed::of(self.symbols(alloc)?),
-            relas: Listed::of(relas(&self.parts, alloc)?),
-        })
-    }
+/// The file, with segments whose bytes are parts of those of the file.
+fn elf_file(file: &Parts, alloc: Global, shared: &Shared) -> Result<ElfFile, AllocError>
+    requires sound { verdict file.now ≡ Ok tt }
+    requires links { HasLinks file.now }
+    requires same { shared.now ≡ file.now }
+    ensures { IfOk result (λ f. File file.now f) }
+{
+    let segments = list_of(alloc, file.tables().phnum(), &|i| segment(file, shared, i))?;
+    Ok(ElfFile {
+        entry: file.tables().entry(),
+        flags: file.tables().flags(),
+        segments: Listed::of(segments),
+        sections: Listed::of(sections(file, alloc)?),
+        symbols: Listed::of(symbols(file, alloc)?),
+        relas: Listed::of(relas(file, alloc)?),
+    })
 }
 
 /// The file that bytes are (ELF gABI, RISC-V ELF psABI), where it is within the limits of the reader; or the first rule
@@ -199,10 +170,9 @@ pub fn read_elf(alloc: Global, bytes: &[u8]) -> Result<ElfFile, ElfError>
     ensures apart { IfOk result (λ f. AreApart (load_segments f.segments)) }
     ensures refused { IfErr result (λ e. IsRefused bytes.now e ⊎ ((e ≡ error.Memory) × (read_verdict bytes.now ≡ Ok tt))) }
 {
-    let sound = Sound::new(alloc, bytes)?;
+    let sound = sound(alloc, bytes)?;
     let shared = Shared::copied(alloc, bytes)?;
-    let segments = sound.segments(alloc, &shared)?;
-    Ok(sound.file(alloc, segments)?)
+    Ok(elf_file(&sound, alloc, &shared)?)
 }
 
 /// As `read_elf`, where the bytes of the segments are parts of those of the file and not copies.
@@ -219,9 +189,8 @@ pub fn read_shared(alloc: Global, file: &Shared) -> Result<ElfFile, ElfError>
     ensures apart { IfOk result (λ f. AreApart (load_segments f.segments)) }
     ensures refused { IfErr result (λ e. IsRefused file.now e ⊎ ((e ≡ error.Memory) × (read_verdict file.now ≡ Ok tt))) }
 {
-    let sound = Sound::new(alloc, file.as_slice())?;
-    let segments = sound.segments(alloc, file)?;
-    Ok(sound.file(alloc, segments)?)
+    let sound = sound(alloc, file.as_slice())?;
+    Ok(elf_file(&sound, alloc, file)?)
 }
 
 /// The sections of the file that bytes are, where its parts lie in it: as in `read_elf`, but the other rules and the limits are not

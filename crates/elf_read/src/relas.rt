@@ -46,16 +46,6 @@ fn is_counted(file: &Parts, table: Option<u64>, s: SectionHeader) -> bool
     }
 }
 
-#[tactic(auto, unfolding(tests::specs::Files::Rules::symbol_count))]
-fn symbol_count(file: &Parts) -> u64
-    ensures { result ≡ symbol_count file.now }
-{
-    match symbol_table(file) {
-        Some(i) => file.section(i).size / SYM_SIZE,
-        None => 0,
-    }
-}
-
 #[tactic(auto, unfolding(tests::specs::Files::Rules::rela_fault))]
 fn rela_fault(file: &Parts, table: Option<u64>, count: u64, i: u64) -> Option<u64>
     requires below { i < e_shnum file.now }
@@ -78,12 +68,15 @@ fn rela_fault(file: &Parts, table: Option<u64>, count: u64, i: u64) -> Option<u6
 }
 
 /// Whether each counted section of relocations has entries, and each of these a symbol.
-#[tactic(auto, unfolding(tests::specs::Files::Rules::rela_shape_rule))]
+#[tactic(auto, unfolding(tests::specs::Files::Rules::rela_shape_rule, tests::specs::Files::Rules::symbol_count))]
 pub fn check_rela_shape(file: &Parts) -> Result<(), ElfError>
     ensures { result ≡ rela_shape_rule file.now }
 {
     let table = symbol_table(file);
-    let count = symbol_count(file);
+    let count = match table {
+        Some(i) => file.section(i).size / SYM_SIZE,
+        None => 0,
+    };
     match first_of(
         file.tables().shnum(),
         &|i| rela_fault(file, table, count, i).is_some(),
@@ -96,7 +89,7 @@ pub fn check_rela_shape(file: &Parts) -> Result<(), ElfError>
     }
 }
 
-#[tactic(auto, unfolding(tests::specs::Files::File::relas_of))]
+#[tactic(auto, unfolding(tests::specs::Files::File::relas_of), using(machine::proofs::BelowLaws::each_front, machine::proofs::BelowLaws::push_after))]
 fn append_relas(
     file: &Parts,
     table: Option<u64>,
@@ -118,6 +111,7 @@ fn append_relas(
 }
 
 /// The relocations of the counted sections, in order.
+#[tactic(auto, using(machine::proofs::BelowLaws::gather_none, machine::proofs::BelowLaws::gather_more))]
 pub fn relas(file: &Parts, alloc: Global) -> Result<Vec<Rela>, AllocError>
     ensures { IfOk result (λ v. v.items ≡ gather (e_shnum file.now) (λ i. relas_of file.now (section_header file.now i))) }
 {

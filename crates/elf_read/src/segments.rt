@@ -1,7 +1,7 @@
 //! The rules on segments.
 ghost use Rattle.std.specs.Prelude.{◌≡◌, ◌<◌};
 ghost use Rattle.tests.specs.Files.Header.{e_phnum};
-ghost use Rattle.tests.specs.Files.Rules.{is_misshapen, segment_shape_rule, do_overlap, overlapped, segment_overlap_rule, file_size};
+ghost use Rattle.tests.specs.Files.Rules.{is_misshapen, segment_shape_rule, overlapped, segment_overlap_rule, file_size};
 
 use crate::below::first_of;
 use crate::extents::clear_below;
@@ -27,14 +27,7 @@ pub fn check_segment_shape(file: &Parts) -> Result<(), ElfError>
     }
 }
 
-#[tactic(auto, unfolding(tests::specs::Files::Rules::do_overlap))]
-fn do_overlap(p: ProgramHeader, q: ProgramHeader) -> bool
-    ensures { result ≡ do_overlap p q }
-{
-    p.is_load() && q.is_load() && share_byte(p.vaddr, p.memsz, q.vaddr, q.memsz)
-}
-
-#[tactic(auto, unfolding(tests::specs::Files::Rules::overlapped))]
+#[tactic(auto, unfolding(tests::specs::Files::Rules::overlapped, tests::specs::Files::Rules::do_overlap))]
 fn overlapped(file: &Parts, i: u64) -> Option<u64>
     requires { i < e_phnum file.now }
     ensures { result ≡ overlapped file.now i }
@@ -42,7 +35,10 @@ fn overlapped(file: &Parts, i: u64) -> Option<u64>
     let p = file.program(i);
     first_of(
         file.tables().phnum(),
-        &|j| i < j && do_overlap(p, file.program(j)),
+        &|j| {
+            let q = file.program(j);
+            i < j && p.is_load() && q.is_load() && share_byte(p.vaddr, p.memsz, q.vaddr, q.memsz)
+        },
     )
 }
 

@@ -1,6 +1,6 @@
 //! String tables.
-ghost use Rattle.std.specs.Prelude.{◌≡◌, ◌+◌, ◌<◌, ◌≤◌, List, ℕ, drop, take, length, IfOk, IfSome};
-ghost use Rattle.tests.specs.Files.Rules.{name_length, name_at, is_unended};
+ghost use Rattle.std.specs.Prelude.{◌≡◌, ◌+◌, ◌<◌, ◌≤◌, List, ℕ, drop, take, length, IfOk};
+ghost use Rattle.tests.specs.Files.Rules.{name_at, is_unended};
 ghost use Rattle.elf_read.specs.Strings.{IsLastZero, IsNextZero, AreNextZeros};
 
 use elf_types::{Bytes, Shared};
@@ -90,37 +90,25 @@ fn name_end(bytes: &[u8], zeros: &[usize], place: usize) -> usize
     zeros[block]
 }
 
-// How many bytes a name has, where it has an end.
-fn name_length(bytes: &[u8], zeros: &[usize], place: u32) -> Option<u64>
-    requires { AreNextZeros bytes.now zeros.now }
-    ensures gives { result ≡ name_length bytes.now place }
-    ensures below { IfSome result (λ n. place + n < length bytes.now) }
-{
-    let start = place as usize;
-    if start >= bytes.len() {
-        return None;
-    }
-    let end = name_end(bytes, zeros, start);
-    if end == bytes.len() {
-        return None;
-    }
-    Some((end - start) as u64)
-}
-
-// Where a name begins, and how many bytes it has. One that is empty begins at the first byte.
-#[tactic(auto, unfolding(tests::specs::Files::Rules::name_at))]
+// Where a name begins, and how many bytes it has. One that is empty, or has no end, begins at the first byte.
+#[tactic(auto, using(crate::proofs::NextZero::name_zero, crate::proofs::NextZero::name_past, crate::proofs::NextZero::name_none, crate::proofs::NextZero::name_found))]
 fn span(bytes: &[u8], zeros: &[usize], place: u32) -> (usize, usize)
     requires { AreNextZeros bytes.now zeros.now }
     ensures within { result.0 + result.1 ≤ length bytes.now }
     ensures name { take result.1 (drop result.0 bytes.now) ≡ name_at bytes.now place }
 {
-    if place == 0 {
+    let start = place as usize;
+    if start == 0 {
         return (0, 0);
     }
-    match name_length(bytes, zeros, place) {
-        Some(length) => (place as usize, length as usize),
-        None => (0, 0),
+    if start >= bytes.len() {
+        return (0, 0);
     }
+    let end = name_end(bytes, zeros, start);
+    if end == bytes.len() {
+        return (0, 0);
+    }
+    (start, end - start)
 }
 
 impl<'a> Strings<'a> {

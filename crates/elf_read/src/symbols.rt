@@ -12,8 +12,9 @@ use elf_types::abi::{SHT_SYMTAB, SYM_SIZE};
 use elf_types::{ElfError, SectionHeader, SymbolEntry};
 use std::alloc::Global;
 
+/// An entry of a symbol table.
 #[tactic(auto, unfolding(tests::specs::Files::Fields::symbol_entry))]
-fn entry_at(table: &[u8], j: u64) -> SymbolEntry
+pub fn entry_at(table: &[u8], j: u64) -> SymbolEntry
     requires { 24 * j + 24 ≤ length table.now }
     ensures { result ≡ symbol_entry table.now j }
 {
@@ -50,13 +51,16 @@ pub fn symbol_table(file: &Parts) -> Option<u64>
     )
 }
 
-#[tactic(auto, unfolding(tests::specs::Files::Rules::symbols_rule, tests::specs::Files::Rules::is_misnamed, tests::specs::Files::Rules::strings_of))]
-fn check_symbols(file: &Parts, alloc: Global, i: u64) -> Result<(), ElfError>
-    requires below { i < e_shnum file.now }
-    requires kind { (section_header file.now i).kind ≡ SHT_SYMTAB }
-    ensures gives { result ≡ symbols_rule file.now (section_header file.now i) }
-    ensures links { OnOk result ((section_header file.now i).link < e_shnum file.now) }
+/// Whether the first symbol table has entries and a string table, and each symbol a name.
+#[tactic(auto, unfolding(tests::specs::Files::Rules::symbol_shape_rule, tests::specs::Files::Rules::symbols_rule, tests::specs::Files::Rules::is_misnamed, tests::specs::Files::Rules::strings_of))]
+pub fn check_symbol_shape(file: &Parts, alloc: Global) -> Result<(), ElfError>
+    ensures gives { result ≡ symbol_shape_rule file.now }
+    ensures links { OnOk result (IfSome (symbol_table file.now) (λ i. (section_header file.now i).link < e_shnum file.now)) }
 {
+    let i = match symbol_table(file) {
+        Some(i) => i,
+        None => return Ok(()),
+    };
     let s = file.section(i);
     if s.entsize != SYM_SIZE
         || s.size % SYM_SIZE != 0
@@ -77,31 +81,6 @@ fn check_symbols(file: &Parts, alloc: Global, i: u64) -> Result<(), ElfError>
         Some(j) => Err(ElfError::SymbolShape(j)),
         None => Ok(()),
     }
-}
-
-/// Whether the first symbol table has entries and a string table, and each symbol a name.
-#[tactic(auto, unfolding(tests::specs::Files::Rules::symbol_shape_rule))]
-pub fn check_symbol_shape(file: &Parts, alloc: Global) -> Result<(), ElfError>
-    ensures gives { result ≡ symbol_shape_rule file.now }
-    ensures links { OnOk result (IfSome (symbol_table file.now) (λ i. (section_header file.now i).link < e_shnum file.now)) }
-{
-    match symbol_table(file) {
-        Some(i) => {
-            check_symbols(file, alloc, i)?;
-            Ok(())
-        }
-        None => Ok(()),
-    }
-}
-
-/// An entry of a symbol table.
-pub fn symbol_entry(file: &Parts, s: SectionHeader, j: u64) -> SymbolEntry
-    requires inside { is_section_outside file.now s ≡ false }
-    requires kind { s.kind ≡ SHT_SYMTAB }
-    requires entry { j < s.size / 24 }
-    ensures { result ≡ symbol_entry (section_bytes file.now s) j }
-{
-    entry_at(file.section_bytes(s), j)
 }
 
 /// The string table of the symbol table at a number.

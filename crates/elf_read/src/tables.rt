@@ -131,37 +131,35 @@ impl<'a> Tables<'a> {
         u128::from(place) + u128::from(size) > self.bytes.len() as u128
     }
 
-    #[tactic(auto, unfolding(tests::specs::Files::Rules::is_segment_outside))]
-    fn is_segment_outside(&self, p: ProgramHeader) -> bool
-        ensures { result ≡ is_segment_outside self.now p }
-    {
-        p.is_load() && p.filesz > 0 && self.is_past(p.offset, p.filesz)
-    }
-
     /// Whether the segments lie in the file.
-    #[tactic(auto, unfolding(tests::specs::Files::Rules::segment_place_rule))]
+    #[tactic(auto, unfolding(tests::specs::Files::Rules::segment_place_rule, tests::specs::Files::Rules::is_segment_outside))]
     pub fn check_segments(&self) -> Result<(), ElfError>
         ensures { result ≡ segment_place_rule self.now }
     {
-        match first_of(self.phnum(), &|i| self.is_segment_outside(self.program(i))) {
+        match first_of(
+            self.phnum(),
+            &|i| {
+                let p = self.program(i);
+                p.is_load() && p.filesz > 0 && self.is_past(p.offset, p.filesz)
+            },
+        ) {
             Some(i) => Err(ElfError::OutOfFile(Part::Segment(i))),
             None => Ok(()),
         }
     }
 
-    #[tactic(auto, unfolding(tests::specs::Files::Rules::is_section_outside))]
-    fn is_section_outside(&self, s: SectionHeader) -> bool
-        ensures { result ≡ is_section_outside self.now s }
-    {
-        s.has_bytes() && self.is_past(s.offset, s.size)
-    }
-
     /// Whether the sections lie in the file.
-    #[tactic(auto, unfolding(tests::specs::Files::Rules::section_place_rule))]
+    #[tactic(auto, unfolding(tests::specs::Files::Rules::section_place_rule, tests::specs::Files::Rules::is_section_outside))]
     pub fn check_sections(&self) -> Result<(), ElfError>
         ensures { result ≡ section_place_rule self.now }
     {
-        match first_of(self.shnum(), &|i| self.is_section_outside(self.section(i))) {
+        match first_of(
+            self.shnum(),
+            &|i| {
+                let s = self.section(i);
+                s.has_bytes() && self.is_past(s.offset, s.size)
+            },
+        ) {
             Some(i) => Err(ElfError::OutOfFile(Part::Section(i))),
             None => Ok(()),
         }

@@ -31,6 +31,21 @@ stands_right {at = at} next xs ys e s = record {
   before = omega (arith, length-append s.front xs, s.before, e);
 }
 
+-- the bytes xs are the end of the file, from an offset on
+pub record Ends (file : List ℕ) (at : ℕ) (xs : List ℕ) : Type 0 where
+  pub front : List ℕ
+  pub parts : file ≡ front ++ xs
+  pub before : length front ≡ at
+
+pub ends_left : {file : List ℕ} {at : ℕ} (xs ys : List ℕ) → Ends file at (xs ++ ys) → Stands file at xs
+ends_left xs ys s = record { front = s.front; back = ys; parts = s.parts; before = s.before }
+
+pub ends_right : {file : List ℕ} {at : ℕ} (next : ℕ) (xs ys : List ℕ) → at + length xs ≡ next → Ends file at (xs ++ ys) → Ends file next ys
+ends_right next xs ys e s = record { front = s.front ++ xs; parts = s.parts ∙ sym (append_assoc s.front xs ys); before = omega (arith, length-append s.front xs, s.before, e) }
+
+pub ends_whole : {file : List ℕ} {at : ℕ} (xs : List ℕ) → Ends file at xs → Stands file at xs
+ends_whole xs s = record { front = s.front; back = []; parts = rw append-nil s.parts; before = s.before }
+
 pub stands_at : {file : List ℕ} {at : ℕ} (next : ℕ) (xs : List ℕ) → at ≡ next → Stands file at xs → Stands file next xs
 stands_at {file} next xs e s = subst (λ (place : ℕ). Stands file place xs) e s
 

@@ -1,5 +1,4 @@
 pub mod Numbers
 pub mod Widths
 pub mod Places
-pub mod Parts
 pub mod Plain

@@ -21,13 +21,9 @@ pub record SymbolFits (s : Symbol) : Type 0 where
   pub other : s.other < 2 ^ 8
   pub index : s.index < 2 ^ 16
 
--- of the header and the program headers
-pub record FrontFits (f : OutFile) : Type 0 where
+pub record FileFits (f : OutFile) : Type 0 where
   pub entry : f.entry < 2 ^ 64
   pub flags : f.flags < 2 ^ 32
   pub segments : All SegmentFits f.segments
-
--- of the tables behind the segments
-pub record TablesFit (f : OutFile) : Type 0 where
   pub sections : All SectionFits f.sections
   pub symbols : All SymbolFits f.symbols

@@ -3,9 +3,8 @@ ghost use Rattle.std.specs.Prelude.{◌≡◌, ◌-◌, ◌^◌, ◌<◌, ◌≤
 ghost use Rattle.machine.specs.declared.limits.TheConstants.{MAX_OUTPUT_SECTIONS};
 ghost use Rattle.machine.specs.declared.limits.Limit.TheVariants as limit;
 ghost use Rattle.machine.specs.Limits.{limit_of};
-ghost use Rattle.tests.specs.Elf.Layout.{IsSymbol, names_bytes, table_names, headers_bytes, headers_of, table_headers, table_header as header_of_table, tables_bytes};
-ghost use Rattle.elf_write.specs.Parts.{front_bytes, own_and_symbols, names_of};
-ghost use Rattle.elf_write.specs.Widths.{FrontFits, SectionFits, SymbolFits, TablesFit};
+ghost use Rattle.tests.specs.Elf.Layout.{IsSymbol, names_bytes, table_names, headers_bytes, table_headers, table_header as header_of_table, written};
+ghost use Rattle.elf_write.specs.Widths.{FileFits};
 ghost use Rattle.elf_write.specs.Places.{ArePlaces, EndsWithin};
 
 use crate::layout::{Places, TABLE_NAMES_SIZE};
@@ -13,65 +12,10 @@ use crate::numbers::push_zeros;
 use crate::records::{NULL, push_header, push_section_header};
 use crate::sections::{push_given_headers, push_own_bytes, push_section_names};
 use crate::segments::{push_program_headers, push_segments};
-use crate::symbols::{first_global, push_name, push_symbol_names, push_symbol_table};
+use crate::symbols::{first_global, push_name, push_symbol_names, push_symbols};
 use elf_types::abi::{SHT_STRTAB, SHT_SYMTAB, SYM_SIZE};
 use elf_types::{OutFile, SectionHeader};
 use std::alloc::AllocError;
-
-/// Appends the header, the program headers and the bytes of the segments.
-pub fn push_front(out: &mut Vec<u8>, file: &OutFile, places: &Places) -> Result<(), AllocError>
-    requires places { ArePlaces file.now places.now }
-    requires size { EndsWithin (limit_of limit.CountedBytes) file.now }
-    requires few_segments { length file.now.segments ≤ limit_of limit.OutputSegments }
-    requires few_sections { length file.now.sections ≤ MAX_OUTPUT_SECTIONS }
-    ensures bytes { OnOk result (out.new.items ≡ out.old.items ++ front_bytes file.now) }
-    ensures fits { OnOk result (FrontFits file.now) }
-{
-    let segments = file.segments.as_slice();
-    let sections = file.sections.as_slice();
-    let start = places.start as u64;
-    let (entry, flags) = (file.entry, file.flags);
-    push_header(
-        out,
-        entry,
-        flags,
-        segments.len() as u16,
-        places.headers as u64,
-        sections.len() as u16,
-    )?;
-    push_program_headers(out, segments, start)?;
-    push_segments(out, segments, start)?;
-    Ok(())
-}
-
-/// Appends the sections' own bytes, and behind them the symbol table.
-fn push_own_and_symbols(
-    out: &mut Vec<u8>,
-    file: &OutFile,
-    places: &Places,
-) -> Result<(), AllocError>
-    requires places { ArePlaces file.now places.now }
-    requires size { EndsWithin (limit_of limit.CountedBytes) file.now }
-    requires symbols { All IsSymbol file.now.symbols }
-    ensures bytes { OnOk result (out.new.items ≡ out.old.items ++ own_and_symbols file.now) }
-    ensures fits { OnOk result (All SymbolFits file.now.symbols) }
-{
-    push_own_bytes(out, file.sections.as_slice())?;
-    push_zeros(out, (places.symbols - places.own_end) as u64)?;
-    push_symbol_table(out, file.symbols.as_slice())
-}
-
-/// Appends both string tables: the names of the symbols, and those of the sections.
-fn push_names(out: &mut Vec<u8>, file: &OutFile) -> Result<(), AllocError>
-    ensures { OnOk result (out.new.items ≡ out.old.items ++ names_of file.now) }
-{
-    out.push(0)?;
-    push_symbol_names(out, file.symbols.as_slice())?;
-    out.push(0)?;
-    push_section_names(out, file.sections.as_slice())?;
-    push_table_names(out)?;
-    Ok(())
-}
 
 /// Appends the names of the tables that are added.
 fn push_table_names(out: &mut Vec<u8>) -> Result<(), AllocError>
@@ -82,27 +26,8 @@ fn push_table_names(out: &mut Vec<u8>) -> Result<(), AllocError>
     push_name(out, b".shstrtab")
 }
 
-/// Appends the section headers: the null section, the given ones, and the tables that are added.
-fn push_headers(out: &mut Vec<u8>, file: &OutFile, places: &Places) -> Result<(), AllocError>
-    requires places { ArePlaces file.now places.now }
-    requires size { EndsWithin (limit_of limit.CountedBytes) file.now }
-    requires few_sections { length file.now.sections ≤ MAX_OUTPUT_SECTIONS }
-    ensures bytes { OnOk result (out.new.items ≡ out.old.items ++ headers_bytes (headers_of file.now)) }
-    ensures fits { OnOk result (All SectionFits file.now.sections) }
-{
-    push_section_header(out, NULL)?;
-    push_given_headers(
-        out,
-        file.sections.as_slice(),
-        file.segments.as_slice(),
-        places.start as u64,
-        places.own as u64,
-    )?;
-    push_table_headers(out, file, places)?;
-    Ok(())
-}
-
 /// Appends the headers of the tables that are added.
+#[tactic(auto, using(crate::proofs::Sizes::laid_out))]
 fn push_table_headers(out: &mut Vec<u8>, file: &OutFile, places: &Places) -> Result<(), AllocError>
     requires places { ArePlaces file.now places.now }
     requires size { EndsWithin (limit_of limit.CountedBytes) file.now }
@@ -147,18 +72,34 @@ fn table_header(name: u32, kind: u32, from: u128, to: u128) -> SectionHeader
     }
 }
 
-/// Appends what stands behind the segments.
-pub fn push_tables(out: &mut Vec<u8>, file: &OutFile, places: &Places) -> Result<(), AllocError>
+/// Appends the parts of a file, one behind the other.
+pub fn push_parts(out: &mut Vec<u8>, file: &OutFile, places: &Places) -> Result<(), AllocError>
     requires places { ArePlaces file.now places.now }
     requires size { EndsWithin (limit_of limit.CountedBytes) file.now }
+    requires few_segments { length file.now.segments ≤ limit_of limit.OutputSegments }
     requires few_sections { length file.now.sections ≤ MAX_OUTPUT_SECTIONS }
     requires symbols { All IsSymbol file.now.symbols }
-    ensures bytes { OnOk result (out.new.items ≡ out.old.items ++ tables_bytes file.now) }
-    ensures fits { OnOk result (TablesFit file.now) }
+    ensures bytes { OnOk result (out.new.items ≡ out.old.items ++ written file.now) }
+    ensures fits { OnOk result (FileFits file.now) }
 {
-    push_own_and_symbols(out, file, places)?;
-    push_names(out, file)?;
+    let segments = file.segments.as_slice();
+    let sections = file.sections.as_slice();
+    let symbols = file.symbols.as_slice();
+    let start = places.start as u64;
+    push_header(out, file, places.headers as u64)?;
+    push_program_headers(out, segments, start)?;
+    push_segments(out, segments, start)?;
+    push_own_bytes(out, sections)?;
+    push_zeros(out, (places.symbols - places.own_end) as u64)?;
+    push_symbols(out, symbols)?;
+    out.push(0)?;
+    push_symbol_names(out, symbols)?;
+    out.push(0)?;
+    push_section_names(out, sections)?;
+    push_table_names(out)?;
     push_zeros(out, (places.headers - places.names_end) as u64)?;
-    push_headers(out, file, places)?;
+    push_section_header(out, NULL)?;
+    push_given_headers(out, sections, segments, start, places.own as u64)?;
+    push_table_headers(out, file, places)?;
     Ok(())
 }

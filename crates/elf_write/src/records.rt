@@ -1,6 +1,8 @@
 //! The records of the file's tables (ELF gABI): header, program header, symbol, section header.
 ghost use Rattle.std.specs.Prelude.{◌≡◌, ◌+◌, ◌^◌, ◌<◌, ◌≤◌, ◌++◌, OnOk, length};
 ghost use Rattle.machine.specs.declared.limits.TheConstants.{MAX_OUTPUT_SECTIONS};
+ghost use Rattle.machine.specs.declared.limits.Limit.TheVariants as limit;
+ghost use Rattle.machine.specs.Limits.{limit_of};
 ghost use Rattle.tests.specs.Elf.Written.{fields_bytes, program_fields};
 ghost use Rattle.elf_write.specs.Widths.{SegmentFits};
 ghost use Rattle.tests.specs.Elf.Layout.{file_fields, symbol_bytes, header_bytes, alignment as alignment_of};
@@ -11,7 +13,7 @@ use elf_types::abi::{
     EHDR_SIZE, ELFCLASS64, ELFDATA2LSB, ELFMAG, EM_RISCV, ET_EXEC, EV_CURRENT, PHDR_SIZE,
     SHDR_SIZE, SHT_NULL, SHT_SYMTAB,
 };
-use elf_types::{SectionHeader, Segment, SymbolEntry};
+use elf_types::{OutFile, SectionHeader, Segment, SymbolEntry};
 use rv_isa::profile::PAGE;
 use std::alloc::AllocError;
 
@@ -28,20 +30,16 @@ pub const NULL: SectionHeader = SectionHeader {
     entsize: 0,
 };
 
-/// Appends the header of a file with so many program headers and given sections, whose section headers stand at an
-/// offset.
-pub fn push_header(
-    out: &mut Vec<u8>,
-    entry: u64,
-    flags: u32,
-    segments: u16,
-    headers: u64,
-    sections: u16,
-) -> Result<(), AllocError>
-    requires { sections ≤ MAX_OUTPUT_SECTIONS }
-    ensures bytes { OnOk result (out.new.items ≡ out.old.items ++ fields_bytes (file_fields entry flags segments headers sections)) }
-    ensures fits { (entry < 2 ^ 64) × (flags < 2 ^ 32) }
+/// Appends the header of a file whose section headers stand at an offset.
+pub fn push_header(out: &mut Vec<u8>, file: &OutFile, headers: u64) -> Result<(), AllocError>
+    requires few_segments { length file.now.segments ≤ limit_of limit.OutputSegments }
+    requires few_sections { length file.now.sections ≤ MAX_OUTPUT_SECTIONS }
+    ensures bytes { OnOk result (out.new.items ≡ out.old.items ++ fields_bytes (file_fields file.now.entry file.now.flags (length file.now.segments) headers (length file.now.sections))) }
+    ensures fits { (file.now.entry < 2 ^ 64) × (file.now.flags < 2 ^ 32) }
 {
+    let (entry, flags) = (file.entry, file.flags);
+    let segments = file.segments.as_slice().len() as u16;
+    let sections = file.sections.as_slice().len() as u16;
     push_numbers(
         out,
         &[
@@ -95,7 +93,7 @@ pub fn push_program_header(
 
 /// The bytes of an entry of the symbol table.
 #[tactic(auto, unfolding(tests::specs::Elf::Layout::symbol_bytes, machine::specs::Numbers::number_bytes))]
-fn symbol_bytes(entry: SymbolEntry) -> [u8; 24]
+pub fn symbol_bytes(entry: SymbolEntry) -> [u8; 24]
     ensures { result ≡ symbol_bytes entry }
 {
     let mut bytes = [0; 24];
@@ -106,13 +104,6 @@ fn symbol_bytes(entry: SymbolEntry) -> [u8; 24]
     LittleEndian::write_u64(&mut bytes[8..], entry.value);
     LittleEndian::write_u64(&mut bytes[16..], entry.size);
     bytes
-}
-
-/// Appends an entry of the symbol table.
-pub fn push_symbol_entry(out: &mut Vec<u8>, entry: SymbolEntry) -> Result<(), AllocError>
-    ensures { OnOk result (out.new.items ≡ out.old.items ++ symbol_bytes entry) }
-{
-    out.extend_from_slice(&symbol_bytes(entry))
 }
 
 /// The alignment that the header of a section of this type tells, in bytes.

@@ -1,11 +1,10 @@
 //! The sections' own bytes, their headers and their names.
-ghost use Rattle.std.specs.Prelude.{◌≡◌, ℕ, ◌+◌, ◌^◌, ◌<◌, ◌≤◌, ◌++◌, OnOk, All, length, map, if◌then◌else◌};
+ghost use Rattle.std.specs.Prelude.{◌≡◌, ◌+◌, ◌^◌, ◌<◌, ◌≤◌, ◌++◌, OnOk, All, length, map};
 ghost use Rattle.std.specs.Bool.{OnTrue};
 ghost use Rattle.machine.specs.declared.limits.Limit.TheVariants as limit;
 ghost use Rattle.machine.specs.Limits.{limit_of};
-ghost use Rattle.elf_types.specs.Abi.{has_alloc};
 ghost use Rattle.tests.specs.Elf.Written.{end_from};
-ghost use Rattle.tests.specs.Elf.Layout.{names_bytes, own_bytes, is_inside as lies_inside, offset_in as offset_inside, header_bytes, header_with, headers_bytes, headers_from};
+ghost use Rattle.tests.specs.Elf.Layout.{names_bytes, own_bytes, is_inside as lies_inside, offset_in as offset_inside, headers_bytes, headers_from};
 ghost use Rattle.elf_write.specs.Widths.{SectionFits};
 
 use crate::records::{NULL, push_section_header};
@@ -89,44 +88,6 @@ pub fn push_section_names(out: &mut Vec<u8>, sections: &[OutSection]) -> Result<
     Ok(())
 }
 
-/// Appends the header of a section whose name begins at the offset `name` of the names and whose bytes stand at an
-/// offset of the file.
-fn push_given_header(
-    out: &mut Vec<u8>,
-    section: &OutSection,
-    name: u32,
-    offset: u64,
-) -> Result<(), AllocError>
-    ensures bytes { OnOk result (out.new.items ≡ out.old.items ++ header_bytes (header_with name offset section.now)) }
-    ensures fits { OnOk result (SectionFits section.now) }
-{
-    let (flags, addr, size) = (section.flags, section.address, section.size);
-    push_section_header(
-        out,
-        SectionHeader {
-            name,
-            kind: SHT_PROGBITS,
-            flags,
-            addr,
-            offset,
-            size,
-            ..NULL
-        },
-    )
-}
-
-/// Where the bytes of a section stand: in a segment, or at the offset `own`.
-fn offset_of(section: &OutSection, segments: &[Segment], start: u64, own: u64) -> u64
-    requires { end_from start segments.now ≤ limit_of limit.CountedBytes }
-    ensures { result ≡ (if has_alloc section.now.flags then offset_inside start segments.now section.now else own) }
-{
-    if section.is_allocated() {
-        offset_in(section, segments, start)
-    } else {
-        own
-    }
-}
-
 /// Appends the headers of the given sections, whose own bytes stand from the offset `first` on. The bytes of the
 /// segments are sought from the offset `start` on.
 pub fn push_given_headers(
@@ -145,8 +106,24 @@ pub fn push_given_headers(
     let mut name: u32 = 1;
     let mut own = first;
     for section in sections {
-        let offset = offset_of(section, segments, start, own);
-        push_given_header(out, section, name, offset)?;
+        let offset = if section.is_allocated() {
+            offset_in(section, segments, start)
+        } else {
+            own
+        };
+        let (flags, addr, size) = (section.flags, section.address, section.size);
+        push_section_header(
+            out,
+            SectionHeader {
+                name,
+                kind: SHT_PROGBITS,
+                flags,
+                addr,
+                offset,
+                size,
+                ..NULL
+            },
+        )?;
         name += section.name.as_slice().len() as u32 + 1;
         own += section.bytes.as_slice().len() as u64;
     }

@@ -1,11 +1,11 @@
 //! The symbol table and its string table.
-ghost use Rattle.std.specs.Prelude.{◌≡◌, ℕ, ◌+◌, ◌^◌, ◌<◌, ◌≤◌, ◌++◌, OnOk, All, length, [], ◌∷◌};
+ghost use Rattle.std.specs.Prelude.{◌≡◌, ◌+◌, ◌^◌, ◌<◌, ◌≤◌, ◌++◌, OnOk, All, length, [], ◌∷◌};
 ghost use Rattle.machine.specs.declared.limits.Limit.TheVariants as limit;
 ghost use Rattle.machine.specs.Limits.{limit_of};
-ghost use Rattle.tests.specs.Elf.Layout.{names_bytes, symbol_names, symbols_bytes, entry_with, entries_from, entries_of, first_global as first_global_from, IsSymbol};
+ghost use Rattle.tests.specs.Elf.Layout.{names_bytes, symbol_names, symbols_bytes, entries_of, first_global as first_global_from, IsSymbol};
 ghost use Rattle.elf_write.specs.Widths.{SymbolFits};
 
-use crate::records::push_symbol_entry;
+use crate::records::symbol_bytes;
 use elf_types::{Symbol, SymbolEntry};
 use std::alloc::AllocError;
 
@@ -31,51 +31,30 @@ pub fn names_size(symbols: &[Symbol]) -> u128
     size
 }
 
-/// Appends the entry of a symbol whose name begins at the offset `name` of the string table.
-fn push_symbol(out: &mut Vec<u8>, symbol: &Symbol, name: u32) -> Result<(), AllocError>
-    requires { IsSymbol symbol.now }
-    ensures bytes { OnOk result (out.new.items ≡ out.old.items ++ symbols_bytes (entry_with name symbol.now ∷ [])) }
-    ensures fits { OnOk result (SymbolFits symbol.now) }
+/// Appends the entries of the null symbol and of the given ones, whose names stand from the offset 1 of the string
+/// table on.
+pub fn push_symbols(out: &mut Vec<u8>, symbols: &[Symbol]) -> Result<(), AllocError>
+    requires symbols { All IsSymbol symbols.now }
+    requires size { length (names_bytes (symbol_names symbols.now)) ≤ limit_of limit.CountedBytes }
+    ensures bytes { OnOk result (out.new.items ≡ out.old.items ++ symbols_bytes (entries_of symbols.now)) }
+    ensures fits { OnOk result (All SymbolFits symbols.now) }
 {
-    let (value, size, other, index) = (symbol.value, symbol.size, symbol.other, symbol.index);
-    let info = 16 * symbol.binding + symbol.kind;
-    push_symbol_entry(
-        out,
-        SymbolEntry {
+    out.extend_from_slice(&symbol_bytes(NULL))?;
+    let mut name: u32 = 1;
+    for symbol in symbols {
+        let (value, size, other, index) = (symbol.value, symbol.size, symbol.other, symbol.index);
+        let info = 16 * symbol.binding + symbol.kind;
+        out.extend_from_slice(&symbol_bytes(SymbolEntry {
             name,
             info,
             other,
             index,
             value,
             size,
-        },
-    )
-}
-
-/// Appends the entries of symbols, of which the first has its name at the offset 1 of the string table.
-fn push_symbols(out: &mut Vec<u8>, symbols: &[Symbol]) -> Result<(), AllocError>
-    requires symbols { All IsSymbol symbols.now }
-    requires size { length (names_bytes (symbol_names symbols.now)) ≤ limit_of limit.CountedBytes }
-    ensures bytes { OnOk result (out.new.items ≡ out.old.items ++ symbols_bytes (entries_from 1 symbols.now)) }
-    ensures fits { OnOk result (All SymbolFits symbols.now) }
-{
-    let mut name: u32 = 1;
-    for symbol in symbols {
-        push_symbol(out, symbol, name)?;
+        }))?;
         name += symbol.name.as_slice().len() as u32 + 1;
     }
     Ok(())
-}
-
-/// Appends the null symbol and the given ones.
-pub fn push_symbol_table(out: &mut Vec<u8>, symbols: &[Symbol]) -> Result<(), AllocError>
-    requires symbols { All IsSymbol symbols.now }
-    requires size { length (names_bytes (symbol_names symbols.now)) ≤ limit_of limit.CountedBytes }
-    ensures bytes { OnOk result (out.new.items ≡ out.old.items ++ symbols_bytes (entries_of symbols.now)) }
-    ensures fits { OnOk result (All SymbolFits symbols.now) }
-{
-    push_symbol_entry(out, NULL)?;
-    push_symbols(out, symbols)
 }
 
 /// Appends the names of the symbols, each with a zero byte.

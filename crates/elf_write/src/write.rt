@@ -5,7 +5,7 @@ ghost use Rattle.tests.specs.Elf.FileRead.{file_read};
 ghost use Rattle.tests.specs.Elf.Layout.{IsWritable, written};
 
 use crate::layout::places_of;
-use crate::parts::{push_front, push_tables};
+use crate::parts::push_parts;
 use elf_types::abi::SHDR_SIZE;
 use elf_types::{Bytes, OutFile};
 use std::alloc::{AllocError, Global};
@@ -35,7 +35,6 @@ pub fn write_elf(alloc: Global, file: &OutFile) -> Result<Bytes, AllocError>
 {
     let places = places_of(file);
     let mut out = Vec::new(alloc);
-    push_front(&mut out, file, &places)?;
-    push_tables(&mut out, file, &places)?;
+    push_parts(&mut out, file, &places)?;
     Ok(Bytes::of(out))
 }

@@ -7,8 +7,8 @@ use Rattle.elf_types.specs.declared.error.ElfError.TheVariants as error
 use Rattle.elf_types.specs.declared.records.SectionHeader.{SectionHeader}
 use Rattle.machine.specs.Below.{first}
 use Rattle.machine.specs.Numbers.{field}
-use Rattle.tests.specs.Files.Header.{e_type, e_machine, e_version, e_ehsize, e_phentsize, e_shoff, e_phnum, e_shnum}
-use Rattle.tests.specs.Files.Fields.{e_class, e_encoding, e_ident_version, e_shentsize, e_shstrndx, program_header, section_header, rela_entry}
+use Rattle.tests.specs.Files.Header.{e_type, e_machine, e_version, e_phnum, e_shnum}
+use Rattle.tests.specs.Files.Fields.{e_class, e_encoding, e_ident_version, program_header, section_header, rela_entry}
 use Rattle.tests.specs.Files.Rules.{Check, refuse, refuse_found, refuse_found_at, first_refusal, is_segment_outside, is_section_outside, segment_place_rule, section_place_rule, magic_rule, header_rule, class_rule, encoding_rule, version_rule, file_type_rule, machine_rule, has_header_shape, header_shape_rule, header_rules, program_table_rule, section_table_rule, is_misshapen, segment_shape_rule, do_overlap, overlapped, segment_overlap_rule, is_section_misshapen, section_shape_rule, has_entries, has_strings, is_misnamed, symbol_table, symbols_rule, rule_at, symbol_shape_rule, is_counted, symbol_count, section_bytes, rela_fault, rela_shape_rule, counted_bytes, section_count_rule, byte_count_rule, table_rules, part_rules, verdict, read_verdict}
 use Rattle.tests.specs.Files.Refusals.{HasHeaderShape, AreSymbols, AreRelas, IsAccepted, IsRefused}
 use Rattle.tests.specs.Files.File.{File, WithinReadLimits, IsReadAs}
@@ -44,22 +44,15 @@ is_equal a b t = grind (arith, nat_tests)
 has_magic : (size number : ℕ) → (ltb size 4 || not (eqb number 0x464c_457f)) ≡ false → (4 ≤ size) × (number ≡ 0x464c_457f)
 has_magic size number t = grind (arith, nat_tests)
 
-has_header_shape_is : (ehsize phnum phentsize shnum shentsize shoff shstrndx : ℕ)
-    → not (eqb ehsize 64 && (eqb phnum 0 || eqb phentsize 56) && (eqb shnum 0 || eqb shentsize 64) && not (eqb phnum 0xffff) && (ltb 0 shnum || eqb shoff 0) && (eqb shnum 0 || ltb shstrndx shnum)) ≡ false
-    → (ehsize ≡ 64) × (0 < phnum → phentsize ≡ 56) × (0 < shnum → shentsize ≡ 64) × (phnum ≡ 0xffff → ⊥) × (shnum ≡ 0 → shoff ≡ 0) × (0 < shnum → shstrndx < shnum)
-has_header_shape_is ehsize phnum phentsize shnum shentsize shoff shstrndx t = (
-  grind (arith, nat_tests),
-  λ h. grind (arith, nat_tests),
-  λ h. grind (arith, nat_tests),
-  λ h. grind (arith, nat_tests),
-  λ h. grind (arith, nat_tests),
-  λ h. grind (arith, nat_tests),
-)
-
 header_shape_is : (file : List ℕ) → not (has_header_shape file) ≡ false → HasHeaderShape file
-header_shape_is file t =
-    let h = has_header_shape_is (e_ehsize file) (e_phnum file) (e_phentsize file) (e_shnum file) (e_shentsize file) (e_shoff file) (e_shstrndx file) t in
-    record { size = h.0; program_size = h.1; section_size = h.2; few_programs = h.3; no_sections = h.4; names = h.5 }
+header_shape_is file t = record {
+  size = grind (arith, nat_tests);
+  program_size = λ h. grind (arith, nat_tests);
+  section_size = λ h. grind (arith, nat_tests);
+  few_programs = λ h. grind (arith, nat_tests);
+  no_sections = λ h. grind (arith, nat_tests);
+  names = λ h. grind (arith, nat_tests);
+}
 
 version_is :
     (ident version : ℕ) (b : Bool) → eqb ident 1 ≡ b

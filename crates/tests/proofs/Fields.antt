@@ -1,8 +1,8 @@
 -- Numbers that were written as bytes read back.
-use Rattle.std.proofs.Common.{◌≡◌, ℕ, zero, suc, ◌+◌, ◌*◌, ◌^◌, ◌<◌, Bool, true, ◌&&◌, List, [], ◌∷◌, ◌++◌, length, drop, refl, ap, sym, ◌∙◌, arith, length-append}
+use Rattle.std.proofs.Common.{◌≡◌, ℕ, zero, suc, ◌+◌, ◌*◌, ◌^◌, ◌<◌, Bool, true, ◌&&◌, List, [], ◌∷◌, ◌++◌, length, drop, refl, ap, ◌∙◌, arith, length-append}
 use Rattle.std.specs.Prelude.{slice_index, nat_lt}
 use Rattle.std.proofs.lemmas.Bool.{and_parts, ltb-true}
-use Rattle.std.proofs.lemmas.List.{append_assoc, drop_at, get_or-drop}
+use Rattle.std.proofs.lemmas.List.{drop_at, get_or-drop}
 use Rattle.byteorder.specs.Numbers.{little_number-reads_back, length-bytes_low_first}
 use Rattle.byteorder.specs.Endian.{little_number}
 use Rattle.std.specs.Int.{byte_at, bytes_low_first}
@@ -66,24 +66,6 @@ words_of-bytes_of (w ∷ words) h =
     cc
 
 -- ---- fields
--- the bytes before field j
-abbrev pub size_before : ℕ → List (ℕ × ℕ) → ℕ
-size_before j [] = 0
-size_before zero (f ∷ fs) = 0
-size_before (suc j) (f ∷ fs) = f.0 + size_before j fs
-
--- the size of field j in bytes
-abbrev pub size_at : ℕ → List (ℕ × ℕ) → ℕ
-size_at j [] = 0
-size_at zero (f ∷ fs) = f.0
-size_at (suc j) (f ∷ fs) = size_at j fs
-
--- the value of field j
-abbrev pub value_at : ℕ → List (ℕ × ℕ) → ℕ
-value_at j [] = 0
-value_at zero (f ∷ fs) = f.1
-value_at (suc j) (f ∷ fs) = value_at j fs
-
 -- the bytes of all fields
 abbrev pub size_of : List (ℕ × ℕ) → ℕ
 size_of [] = 0
@@ -93,25 +75,6 @@ size_of (f ∷ fs) = f.0 + size_of fs
 pub length-fields_bytes : (fs : List (ℕ × ℕ)) → length (fields_bytes fs) ≡ size_of fs
 length-fields_bytes [] = refl
 length-fields_bytes (f ∷ fs) = length-append (number_bytes f.0 f.1) (fields_bytes fs) ∙ rw (length-number_bytes f.0 f.1, length-fields_bytes fs) refl
-
--- field j of fields that stand behind a front
-fields_read : (j at : ℕ) (front : List ℕ) (fs : List (ℕ × ℕ)) (rest : List ℕ) → j < length fs → length front + size_before j fs ≡ at
-    → value_at j fs < 256 ^ size_at j fs → field at (size_at j fs) (front ++ (fields_bytes fs ++ rest)) ≡ value_at j fs
-fields_read j at front [] rest lt e h = absurd (omega arith)
-fields_read zero at front (f ∷ fs) rest lt e h =
-    ap (λ bytes. field at f.0 (front ++ bytes)) (append_assoc (number_bytes f.0 f.1) (fields_bytes fs) rest)
-    ∙ field-number_bytes f.0 f.1 at front (fields_bytes fs ++ rest) (omega arith) h
-fields_read (suc j) at front (f ∷ fs) rest lt e h =
-    let bytes = number_bytes f.0 f.1 in
-    let len : length (front ++ bytes) ≡ length front + f.0 = length-append front bytes ∙ ap (λ n. length front + n) (length-number_bytes f.0 f.1) in
-    let moved : front ++ ((bytes ++ fields_bytes fs) ++ rest) ≡ (front ++ bytes) ++ (fields_bytes fs ++ rest) =
-    ap (λ xs. front ++ xs) (append_assoc bytes (fields_bytes fs) rest) ∙ sym (append_assoc front bytes (fields_bytes fs ++ rest)) in
-    ap (field at (size_at j fs)) moved ∙ fields_read j at (front ++ bytes) fs rest (omega arith) (omega (arith, len, e)) h
-
--- the same of a file that has these parts
-pub field-fields_bytes : (j at : ℕ) (file front : List ℕ) (fs : List (ℕ × ℕ)) (rest : List ℕ) → file ≡ front ++ (fields_bytes fs ++ rest) → j < length fs
-    → length front + size_before j fs ≡ at → value_at j fs < 256 ^ size_at j fs → field at (size_at j fs) file ≡ value_at j fs
-field-fields_bytes j at file front fs rest is lt e h = ap (field at (size_at j fs)) is ∙ fields_read j at front fs rest lt e h
 
 -- ---- lists that are known
 -- all of the numbers are bytes

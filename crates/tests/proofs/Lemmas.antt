@@ -1,5 +1,5 @@
 -- The laws that proofs of other crates cite.
-pub use Rattle.tests.proofs.Fields.{append_fit, are_bytes, bytes_of_fit, field-fields_bytes, field-number_bytes, length-bytes_of, length-fields_bytes, length-number_bytes, number_bytes_fit, size_at, size_before, slice_index-field, value_at, words_of-bytes_of, zeros_start}
+pub use Rattle.tests.proofs.Fields.{append_fit, are_bytes, bytes_of_fit, field-number_bytes, length-bytes_of, length-fields_bytes, length-number_bytes, number_bytes_fit, slice_index-field, words_of-bytes_of, zeros_start}
 pub use Rattle.tests.proofs.ProgramHeaders.{length-program_headers, length-segments_bytes}
 pub use Rattle.tests.proofs.DataRangesLaws.{AllAligned, AllRoom, AllSome, Inside, Spaced, aligned_data, in_any-joined, in_data, in_from, in_parts, inside-joined, one_range, same_ranges, spaced-joined, spaced_data, spaced_from}
 pub use Rattle.tests.proofs.ImageLaws.{all_sized_among, among-ordered, among_load, base_low, flags-unexecuted, high_most, image_parts, image_room, image_source, in_image, insert_among, load_source, ordered_among, unexecuted}

@@ -93,11 +93,4 @@ read_facts file f bytes r = record {
 
 -- the bytes determine what is read
 pub one_file : (file : List ℕ) (f g : ElfFile) → File file f → File file g → f ≡ g
-one_file file f g a b =
-    let entry : f.entry ≡ g.entry = a.entry ∙ sym b.entry in
-    let flags : f.flags ≡ g.flags = a.flags ∙ sym b.flags in
-    let segments : f.segments ≡ g.segments = a.segments ∙ sym b.segments in
-    let sections : f.sections ≡ g.sections = a.sections ∙ sym b.sections in
-    let symbols : f.symbols ≡ g.symbols = a.symbols ∙ sym b.symbols in
-    let relas : f.relas ≡ g.relas = a.relas ∙ sym b.relas in
-    λ i. record { entry = entry i; flags = flags i; segments = segments i; sections = sections i; symbols = symbols i; relas = relas i }
+one_file file f g a b = λ i. record { entry = (a.entry ∙ sym b.entry) i; flags = (a.flags ∙ sym b.flags) i; segments = (a.segments ∙ sym b.segments) i; sections = (a.sections ∙ sym b.sections) i; symbols = (a.symbols ∙ sym b.symbols) i; relas = (a.relas ∙ sym b.relas) i }

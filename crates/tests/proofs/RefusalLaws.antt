@@ -1,16 +1,16 @@
 -- What a refusal says of a file: the fault that it names is there.
-use Rattle.std.proofs.Common.{◌≡◌, ◌≢◌, ◌⊎◌, ℕ, ◌-◌, ◌/◌, ◌^◌, ◌<◌, ◌&&◌, ◌||◌, not, min, Bool, true, false, cond, ltb, leb, eqb, List, [], ◌∷◌, Option, Some, None, Ok, Err, refl, sym, ◌∙◌, subst, inl, inr, arith}
+use Rattle.std.proofs.Common.{◌≡◌, ◌≢◌, ◌⊎◌, ℕ, ◌-◌, ◌/◌, ◌^◌, ◌&&◌, not, min, Bool, true, false, cond, ltb, leb, eqb, List, [], ◌∷◌, Option, Some, None, Ok, Err, refl, sym, subst, inl, inr, arith}
 use Rattle.std.specs.Option.{is_some}
 use Rattle.std.proofs.lemmas.Bool.Decides.{nat_tests}
-use Rattle.std.proofs.lemmas.Bool.{eqb-true, eqb-false, not-true, false≢true, ltb-true, and_parts}
+use Rattle.std.proofs.lemmas.Bool.{eqb-true, eqb-false, ltb-true, and_parts}
 use Rattle.std.proofs.lemmas.Option.{same_Some}
 use Rattle.elf_types.specs.declared.error.ElfError.{ElfError}
 use Rattle.elf_types.specs.declared.error.ElfError.TheVariants as error
 use Rattle.elf_types.specs.declared.error.Part.TheVariants as part
 use Rattle.elf_types.specs.declared.records.SectionHeader.{SectionHeader}
 use Rattle.machine.specs.Below.{first, IsFirstBelow}
-use Rattle.tests.specs.Files.Header.{e_type, e_machine, e_version, e_ehsize, e_phentsize, e_shoff, e_phnum, e_shnum}
-use Rattle.tests.specs.Files.Fields.{HasTables, e_class, e_encoding, e_ident_version, e_shentsize, e_shstrndx, program_header, section_header, rela_entry}
+use Rattle.tests.specs.Files.Header.{e_type, e_machine, e_version, e_phnum, e_shnum}
+use Rattle.tests.specs.Files.Fields.{HasTables, e_class, e_encoding, e_ident_version, program_header, section_header, rela_entry}
 use Rattle.tests.specs.Files.Rules.{Check, refuse, refuse_found, refuse_found_at, first_refusal, HasParts, is_segment_outside, is_section_outside, segment_place_rule, section_place_rule, magic_rule, header_rule, class_rule, encoding_rule, version_rule, file_type_rule, machine_rule, header_shape_rule, header_rules, program_table_rule, section_table_rule, is_misshapen, segment_shape_rule, do_overlap, overlapped, segment_overlap_rule, is_section_misshapen, section_shape_rule, has_entries, has_strings, is_misnamed, symbol_table, symbols_rule, rule_at, symbol_shape_rule, is_counted, symbol_count, section_bytes, rela_fault, rela_shape_rule, counted_bytes, section_count_rule, byte_count_rule, table_rules, part_rules, verdict, read_verdict}
 use Rattle.tests.specs.Files.Refusals.{HasFault, IsRefused}
 use Rattle.machine.proofs.Lemmas.{each_fails, first_least}
@@ -74,11 +74,6 @@ version_cases file true ident =
     refuse_says file (error.Version (e_version file)) _ (λ t. inr (eqb-true (e_ident_version file) 1 ident, differs (e_version file) 1 t, refl))
 version_cases file false ident = error_says file (error.Version (e_ident_version file)) (inl (eqb-false (e_ident_version file) 1 ident, refl))
 
-has_shape : (ehsize phnum phentsize shnum shentsize shoff shstrndx : ℕ) → ehsize ≡ 64 → (0 < phnum → phentsize ≡ 56) → (0 < shnum → shentsize ≡ 64) → (phnum ≡ 0xffff → ⊥)
-    → (shnum ≡ 0 → shoff ≡ 0) → (0 < shnum → shstrndx < shnum)
-    → (eqb ehsize 64 && (eqb phnum 0 || eqb phentsize 56) && (eqb shnum 0 || eqb shentsize 64) && not (eqb phnum 0xffff) && (ltb 0 shnum || eqb shoff 0) && (eqb shnum 0 || ltb shstrndx shnum)) ≡ true
-has_shape ehsize phnum phentsize shnum shentsize shoff shstrndx a b c d e f = grind (arith, nat_tests)
-
 symbols_cases : (file : List ℕ) (i : ℕ) (b : Bool) → symbol_table file ≡ Some i → has_entries (section_header file i) && has_strings file (section_header file i) ≡ b
     → Says file (cond b (refuse_found error.SymbolShape (first ((section_header file i).size / 24) (is_misnamed file (section_header file i)))) (Err (error.SymbolShape 0)))
 symbols_cases file i true found shape =
@@ -125,7 +120,7 @@ header_rules_say file =
     let encoding : Says file (encoding_rule file) = refuse_says file (error.Encoding (e_encoding file)) _ (λ t. (refl, differs (e_encoding file) 1 t)) in
     let type : Says file (file_type_rule file) = refuse_says file (error.FileType (e_type file)) _ (λ t. (refl, differs (e_type file) 2 t)) in
     let machine : Says file (machine_rule file) = refuse_says file (error.Machine (e_machine file)) _ (λ t. (refl, differs (e_machine file) 243 t)) in
-    let shape : Says file (header_shape_rule file) = refuse_says file error.HeaderShape _ (λ t h. false≢true (sym (not-true _ t) ∙ has_shape (e_ehsize file) (e_phnum file) (e_phentsize file) (e_shnum file) (e_shentsize file) (e_shoff file) (e_shstrndx file) h.size h.program_size h.section_size h.few_programs h.no_sections h.names)) in
+    let shape : Says file (header_shape_rule file) = refuse_says file error.HeaderShape _ (λ t h. absurd grind (arith, nat_tests, h.size, h.program_size, h.section_size, h.few_programs, h.no_sections, h.names)) in
     first_says file (magic_rule file ∷ header_rule file ∷ class_rule file ∷ encoding_rule file ∷ version_rule file ∷ file_type_rule file ∷ machine_rule file ∷ header_shape_rule file ∷ []) (magic, (room, (class, (encoding, (version_cases file _ refl, (type, (machine, (shape, tt))))))))
 
 table_rules_say : (file : List ℕ) → Says file (table_rules file)

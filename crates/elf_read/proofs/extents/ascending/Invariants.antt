@@ -1,5 +1,5 @@
 use Rattle.elf_read.specs.Extents.{HasExtents}
-use Rattle.elf_read.proofs.extents.extents.Given as goal
+use Rattle.elf_read.proofs.extents.ascending.Given as goal
 
 -- each segment so far that has memory has its extent
 abbrev pub invariant-loop-number : goal.invariant-loop-number
